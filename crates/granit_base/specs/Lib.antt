@@ -1,0 +1,4 @@
+pub mod Classes
+pub mod Place
+pub mod Texts
+pub mod Written

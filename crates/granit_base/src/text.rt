@@ -1,0 +1,183 @@
+//! Texts, borrowed or owned, and lists of them.
+ghost use Rattle.std.specs.Prelude.{◌≡◌, ◌==◌, [], ◌∷◌, ◌++◌, true, false, length, slice_get, string_bytes, IfOk, OnOk, OnErr};
+ghost use Rattle.std.specs.Str.{chars};
+ghost use Rattle.std.specs.Option.{option_copied};
+
+use std::alloc::{AllocError, AllocFailed, Global};
+use std::marker::Model;
+
+/// No memory was found.
+#[derive(Clone, Copy, Debug, PartialEq, Eq, Hash)]
+pub struct NoMemory;
+
+impl From<AllocError> for NoMemory {
+    fn from(_: AllocError) -> NoMemory {
+        NoMemory
+    }
+}
+
+impl<T: Drop> From<AllocFailed<T>> for NoMemory {
+    fn from(_: AllocFailed<T>) -> NoMemory {
+        NoMemory
+    }
+}
+
+#[derive(Debug, Drop)]
+enum TextParts<'a> {
+    Borrowed(&'a str),
+    Owned(String),
+}
+
+/// A text, borrowed from its source or owned. Contracts see its characters and whether it is
+/// borrowed; equality goes by the characters alone.
+#[derive(Debug, Drop)]
+pub struct Text<'a> {
+    parts: TextParts<'a>,
+}
+
+impl<'a> Model for Text<'a> {
+    ghost use Rattle.granit_base.specs.Written.{Written};
+
+    ghost Value = { Written };
+
+    ghost use Rattle.granit_base.specs.Texts.{text_chars, text_is_borrowed};
+
+    ghost view = { λ t. record { characters = text_chars t.parts; is_borrowed = text_is_borrowed t.parts } };
+}
+
+impl<'a> Text<'a> {
+    /// A text that is lent.
+    pub fn borrowed(s: &'a str) -> Text<'a>
+        ensures { result ≡ record { characters = chars s.now; is_borrowed = true } }
+    {
+        Text {
+            parts: TextParts::Borrowed(s),
+        }
+    }
+
+    /// A text of its own.
+    pub fn owned(s: String) -> Text<'a>
+        ensures { result ≡ record { characters = chars (string_bytes s); is_borrowed = false } }
+    {
+        Text {
+            parts: TextParts::Owned(s),
+        }
+    }
+
+    /// The text in UTF-8.
+    pub fn as_str(&self) -> &str
+        ensures { chars result.now ≡ self.now.characters }
+    {
+        match &self.parts {
+            TextParts::Borrowed(s) => s,
+            TextParts::Owned(s) => s.as_str(),
+        }
+    }
+
+    /// Whether it is lent by its source.
+    pub fn is_borrowed(&self) -> bool
+        ensures { result ≡ self.now.is_borrowed }
+    {
+        matches!(self.parts, TextParts::Borrowed(_))
+    }
+
+    /// An equal text, borrowed exactly where this one is.
+    ///
+    /// # Errors
+    ///
+    /// `NoMemory` alone.
+    pub fn try_clone(&self, alloc: Global) -> Result<Text<'a>, NoMemory>
+        ensures { IfOk result (λ t. t ≡ self.now) }
+    {
+        match &self.parts {
+            TextParts::Borrowed(s) => Ok(Text {
+                parts: TextParts::Borrowed(s),
+            }),
+            TextParts::Owned(s) => Ok(Text {
+                parts: TextParts::Owned(String::from_str(alloc, s.as_str())?),
+            }),
+        }
+    }
+}
+
+impl<'a> PartialEq for Text<'a> {
+    ghost use Rattle.std.specs.Str.{encode_utf8_all};
+    ghost use Rattle.std.specs.Cmp.{on_per, partial_equiv_from_equiv};
+    ghost use Rattle.std.proofs.lemmas.Cmp.{nat_list_eq_equiv};
+    ghost use Rattle.granit_base.specs.Written.{same_characters};
+
+    ghost eq = { same_characters };
+
+    ghost laws = { on_per (λ t. encode_utf8_all t.characters) (partial_equiv_from_equiv nat_list_eq_equiv) };
+
+    fn eq(&self, other: &Text<'a>) -> bool {
+        self.as_str() == other.as_str()
+    }
+}
+
+/// A list of texts of its own.
+#[derive(Debug, Drop)]
+pub struct TextList {
+    texts: Vec<Text<'static>>,
+}
+
+impl Model for TextList {
+    ghost use Rattle.std.specs.Prelude.{List};
+    ghost use Rattle.granit_base.specs.Written.{Written};
+
+    ghost Value = { List Written };
+
+    ghost view = { λ l. l.texts.items };
+}
+
+impl TextList {
+    /// No texts.
+    pub fn new(alloc: Global) -> TextList
+        ensures { result ≡ [] }
+    {
+        TextList {
+            texts: Vec::new(alloc),
+        }
+    }
+
+    /// Adds a text at the end.
+    ///
+    /// # Errors
+    ///
+    /// `NoMemory` alone; the list is then as before.
+    pub fn push(&mut self, text: Text<'static>) -> Result<(), NoMemory>
+        ensures ok { OnOk result (self.new ≡ self.old ++ text.entry ∷ []) }
+        ensures err { OnErr result (self.new ≡ self.old) }
+    {
+        self.texts.push(text)?;
+        Ok(())
+    }
+
+    /// How many texts it holds.
+    pub fn len(&self) -> usize
+        ensures { result ≡ length self.now }
+    {
+        self.texts.len()
+    }
+
+    /// Whether it holds none.
+    pub fn is_empty(&self) -> bool
+        ensures { result ≡ (length self.now == 0) }
+    {
+        self.texts.is_empty()
+    }
+
+    /// The text behind `i` others.
+    pub fn get(&self, i: usize) -> Option<&Text<'static>>
+        ensures { option_copied result ≡ slice_get self.now i }
+    {
+        self.texts.get(i)
+    }
+
+    /// The texts in order.
+    pub fn as_slice(&self) -> &[Text<'static>]
+        ensures { result.now ≡ self.now }
+    {
+        self.texts.as_slice()
+    }
+}

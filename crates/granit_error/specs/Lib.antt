@@ -1,0 +1,5 @@
+pub mod FaultKind
+pub mod Kinds
+pub mod OptionsData
+pub mod OptionsView
+pub mod Refused
