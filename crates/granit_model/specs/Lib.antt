@@ -1,0 +1,11 @@
+pub mod Here
+pub mod Lexeme
+pub mod Line
+pub mod Machine
+pub mod Outcome
+pub mod Path
+pub mod Pieces
+pub mod PlainEvent
+pub mod ReaderState
+pub mod Start
+pub mod Words

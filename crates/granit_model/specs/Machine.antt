@@ -1,0 +1,49 @@
+-- The plain machine: the events of a finished text, or its first fault.
+use Rattle.std.specs.Prelude.{ℕ, List, [], ◌∷◌, ◌++◌, Option, Some, None, false, Result, Ok}
+use Rattle.granit_error.specs.FaultKind.{NotBuilt}
+use Rattle.granit_error.specs.OptionsData.{OptionsData}
+use Rattle.granit_model.specs.Here.{Here, text_len, mark_of, start_of}
+use Rattle.granit_model.specs.Outcome.{Fault, ◌>>=◌}
+use Rattle.granit_model.specs.Pieces.{pieces}
+use Rattle.granit_model.specs.Lexeme.{Lexeme}
+use Rattle.granit_model.specs.ReaderState.{ReaderState, next_lexeme, refuse}
+use Rattle.granit_model.specs.Path.{Path, step_on}
+use Rattle.granit_model.specs.PlainEvent.{PlainEvent, event_on, StreamStart, StreamEnd}
+
+pub record MachineState : Type 0 where
+  pub reader : ReaderState
+  pub path : Path
+
+abbrev pub Turn : Type 0
+Turn = Result (Option (List PlainEvent) × MachineState) Fault
+
+-- the end of the text, which only comes between documents
+abbrev pub stream_end : Path → ReaderState → Turn
+stream_end [] s = Ok (None, record { reader = s; path = [] })
+stream_end (f ∷ fs) s = refuse NotBuilt s.here
+
+-- what was read, at a path
+abbrev pub on_read : Option Lexeme → ReaderState → Path → Turn
+on_read None s fs = stream_end fs s
+on_read (Some l) s fs = step_on fs l >>= λ x. Ok (Some x.0, record { reader = s; path = x.1 })
+
+-- one lexeme or the end
+unfoldable pub turn : OptionsData → MachineState → Turn
+turn o s = next_lexeme o s.reader >>= λ x. on_read x.0 x.1 s.path
+
+abbrev pub size : MachineState → ℕ
+size s = text_len s.reader.here
+
+abbrev pub machine_start : Here → MachineState
+machine_start h = record { reader = record { here = h; openers = []; owes_gap = false }; path = [] }
+
+-- the events of all turns, between those of the stream
+abbrev pub stream_events : Here → List PlainEvent → MachineState → List PlainEvent
+stream_events h events s = event_on StreamStart (mark_of h) ∷ (events ++ event_on StreamEnd (mark_of s.reader.here) ∷ [])
+
+abbrev pub events_from : OptionsData → Here → Result (List PlainEvent) Fault
+events_from o h = pieces size (turn o) (machine_start h) >>= λ x. Ok (stream_events h x.0 x.1)
+
+-- the events of a string, or its first fault
+abbrev pub events_of : OptionsData → List ℕ → Result (List PlainEvent) Fault
+events_of o text = events_from o (start_of text)

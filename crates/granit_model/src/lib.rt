@@ -1,0 +1,2 @@
+//! The definitions that every other crate's contracts cite.
+#![tactic(auto)]
