@@ -1,0 +1,35 @@
+-- Which lexeme stands at an index, how far it goes, and its value.
+use Rattle.std.specs.Prelude.{◌≡◌, ℕ, ◌+◌, true, List, [], ◌∷◌, ◌++◌, length}
+use Rattle.granit_base.specs.declared.style.ScalarStyle.TheVariants.{DoubleQuoted}
+use Rattle.granit_model.specs.Lexeme.{Lexeme, LexemeKind, DocumentStart, SequenceOpen, SequenceClose, MappingOpen, MappingClose, Comma, Question, Colon, Scalar}
+use Rattle.granit_model.specs.Place.{place_of, mark_at}
+use Rattle.granit_model.specs.Start.{is_inner}
+use Rattle.granit_model.specs.Gap.{Each, StandsAt}
+
+-- the characters that spell a lexeme of a kind, with its value
+pub data Spells : LexemeKind → List ℕ → Type 0 where
+  -- `---` (9.1.2)
+  dashes : Spells DocumentStart (0x2D ∷ 0x2D ∷ 0x2D ∷ [])
+  -- the flow indicators and `?` and `:` (7.4)
+  left_square : Spells SequenceOpen (0x5B ∷ [])
+  right_square : Spells SequenceClose (0x5D ∷ [])
+  left_curly : Spells MappingOpen (0x7B ∷ [])
+  right_curly : Spells MappingClose (0x7D ∷ [])
+  comma : Spells Comma (0x2C ∷ [])
+  question : Spells Question (0x3F ∷ [])
+  colon : Spells Colon (0x3A ∷ [])
+  -- a double-quoted scalar on one line: its value is what stands between its quotes, lent from the text (7.3.1)
+  quoted : {content : List ℕ} → Each is_inner content
+      → Spells (Scalar DoubleQuoted (record { characters = content; is_borrowed = true })) (0x22 ∷ (content ++ 0x22 ∷ []))
+
+-- where a kind may begin: a document mark in column 0 alone
+abbrev pub MayBegin : List ℕ → ℕ → LexemeKind → Type 0
+MayBegin x i DocumentStart = (place_of x i).column ≡ 0
+MayBegin x i _ = Unit {0}
+
+-- a lexeme from an index on, of these characters, with that behind it
+pub record IsLexeme (x : List ℕ) (i : ℕ) (l : Lexeme) (cs : List ℕ) (behind : List ℕ) : Type 0 where
+  pub stands : StandsAt x i cs behind
+  pub spells : Spells l.kind cs
+  pub begins : MayBegin x i l.kind
+  pub source : l.source ≡ record { start = mark_at x i; end = mark_at x (i + length cs) }
