@@ -1,10 +1,11 @@
 -- The events of documents: a recursion on their nodes.
-use Rattle.std.specs.Prelude.{ℕ, true, List, [], ◌∷◌, length}
+use Rattle.std.specs.Prelude.{◌≡◌, ◌≤◌, ℕ, true, List, [], ◌∷◌, length}
 use Rattle.granit_base.specs.Place.{Mark}
+use Rattle.granit_base.specs.declared.place.Span.{Span}
 use Rattle.granit_base.specs.declared.style.StructureStyle.TheVariants.{Flow}
 use Rattle.granit_model.specs.Place.{mark_at}
 use Rattle.granit_model.specs.Node.{Node, ScalarNode, EmptySequence, Sequence, EmptyMapping, Mapping, Entries, Entry, EntryLead, FirstEntry, NextEntry, Pairs, Pair, PairLead, FirstPair, NextPair, Documents, NoDocument, Document}
-use Rattle.granit_model.specs.PlainEvent.{PlainEvent, event_at, event_on, StreamStart, StreamEnd, DocumentStart, DocumentEnd, Scalar, SequenceStart, SequenceEnd, MappingStart, MappingEnd}
+use Rattle.granit_model.specs.PlainEvent.{PlainEvent, plain_span, event_at, event_on, StreamStart, StreamEnd, DocumentStart, DocumentEnd, Scalar, SequenceStart, SequenceEnd, MappingStart, MappingEnd}
 
 -- the place behind a node
 abbrev pub node_end : Node → Mark
@@ -46,3 +47,16 @@ document_events (Document ds m n) more = document_events ds (event_at (DocumentS
 -- all events of a text that is read as these documents: the stream starts and ends, with no width, where the text does
 abbrev pub events : List ℕ → Documents → List PlainEvent
 events x ds = event_on StreamStart (mark_at x 0) ∷ document_events ds (event_on StreamEnd (mark_at x (length x)) ∷ [])
+
+-- a span of a text: it begins no later than it ends, both in the text, at counted places, and has no indent and no tag
+pub record StandsIn (x : List ℕ) (span : Span) : Type 0 where
+  pub from : ℕ
+  pub to : ℕ
+  pub in_order : from ≤ to
+  pub inside : to ≤ length x
+  pub counted : span ≡ plain_span (mark_at x from) (mark_at x to)
+
+-- the span of each event is one of the text
+abbrev pub SpansIn : List ℕ → List PlainEvent → Type 0
+SpansIn x [] = Unit {0}
+SpansIn x (e ∷ es) = StandsIn x e.span × SpansIn x es

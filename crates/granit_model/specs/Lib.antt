@@ -7,6 +7,7 @@ pub mod Lexeme
 pub mod Line
 pub mod Machine
 pub mod Node
+pub mod OpenPlace
 pub mod Outcome
 pub mod Path
 pub mod Pieces

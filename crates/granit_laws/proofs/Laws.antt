@@ -1,0 +1,84 @@
+-- The laws, as the functions of this crate state them.
+use Rattle.std.proofs.Common.{◌≡◌, ℕ, List, refl, sym, ap, ◌∙◌, subst, Result, Ok, Err, ◌⊎◌, inl, inr}
+use Rattle.granit_base.specs.Place.{Mark}
+use Rattle.granit_error.specs.FaultKind.{FaultKind, UnclosedFlowCollection, RecursionLimitExceeded, NotBuilt}
+use Rattle.granit_error.specs.OptionsData.{OptionsData}
+use Rattle.granit_model.specs.Cause.{Cause}
+use Rattle.granit_model.specs.Events.{events}
+use Rattle.granit_model.specs.Lexeme.{Lexeme}
+use Rattle.granit_model.specs.Machine.{events_of}
+use Rattle.granit_model.specs.Node.{Documents}
+use Rattle.granit_model.specs.Outcome.{Fault}
+use Rattle.granit_model.specs.PlainEvent.{PlainEvent}
+use Rattle.granit_model.specs.Reading.{Reading}
+use Rattle.granit_laws.proofs.GrammarComplete.{one_tree}
+use Rattle.granit_laws.proofs.Answered.{Why, Answered, answered}
+use Rattle.granit_laws.proofs.LexingOnce.{reached_once}
+use Rattle.granit_laws.proofs.Unread.{not_unclosed, not_too_deep, not_refused}
+
+-- an answer is the event list of a reading
+pub is_reading : (o : OptionsData) (x : List ℕ) (es : List PlainEvent) → events_of o x ≡ Ok es → (ls : List Lexeme) × (ds : Documents) × Reading o x ls ds × (es ≡ events x ds)
+is_reading o x es e = subst (Answered o x) e (answered o x)
+
+-- a text has one reading
+pub same_reading : (o p : OptionsData) (x : List ℕ) (ls ms : List Lexeme) (ds es : Documents) → Reading o x ls ds → Reading p x ms es → (ls ≡ ms) × (ds ≡ es)
+same_reading o p x ls ms ds es a b =
+    let same = reached_once a.reached b.reached in
+    (same, one_tree ds es (a.spelled ∙ same ∙ sym b.spelled))
+
+-- what a text with a reading under some options is answered
+abbrev pub AnsweredOr : OptionsData → OptionsData → List ℕ → Documents → Result (List PlainEvent) Fault → Type 0
+AnsweredOr o p x ds (Ok es) = es ≡ events x ds
+AnsweredOr o p x ds (Err f) = (f.kind ≡ RecursionLimitExceeded)
+
+read_fault : (o p : OptionsData) (x : List ℕ) (ls : List Lexeme) (ds : Documents) (kind : FaultKind) (m : Mark) → Reading p x ls ds → Why o x kind m → kind ≡ RecursionLimitExceeded
+read_fault o p x ls ds (UnclosedFlowCollection opener) m r w = absurd (not_unclosed x opener m w p ls ds r)
+read_fault o p x ls ds RecursionLimitExceeded m r w = refl
+read_fault o p x ls ds NotBuilt m r w = absurd (not_refused x w.before w.at w.reached w.refused p ls ds r)
+read_fault o p x ls ds kind m r w = absurd w
+
+read_answer : (o p : OptionsData) (x : List ℕ) (ls : List Lexeme) (ds : Documents) (given : Result (List PlainEvent) Fault) → Reading p x ls ds → Answered o x given → AnsweredOr o p x ds given
+read_answer o p x ls ds (Ok es) r a = a.3 ∙ ap (events x) ((same_reading o p x a.0 ls a.1 ds a.2 r).1)
+read_answer o p x ls ds (Err f) r w = read_fault o p x ls ds f.kind f.mark r w
+
+as_answered : (o p : OptionsData) (x : List ℕ) (ds : Documents) (given : Result (List PlainEvent) Fault) → AnsweredOr o p x ds given → (given ≡ Ok (events x ds)) ⊎ ((f : Fault) × (given ≡ Err f) × (f.kind ≡ RecursionLimitExceeded))
+as_answered o p x ds (Ok es) a = inl (ap Ok a)
+as_answered o p x ds (Err f) k = inr (f, refl, k)
+
+-- a text with a reading under some options is answered with its events, or is too deep
+pub answered_or_deep : (o p : OptionsData) (x : List ℕ) (ls : List Lexeme) (ds : Documents) → Reading p x ls ds → (events_of o x ≡ Ok (events x ds)) ⊎ ((f : Fault) × (events_of o x ≡ Err f) × (f.kind ≡ RecursionLimitExceeded))
+answered_or_deep o p x ls ds r = as_answered o p x ds (events_of o x) (read_answer o p x ls ds (events_of o x) r (answered o x))
+
+-- too deep is what has no reading under these options
+not_deep : (o : OptionsData) (x : List ℕ) (ls : List Lexeme) (ds : Documents) (kind : FaultKind) (m : Mark) → Reading o x ls ds → Why o x kind m → ⊥
+not_deep o x ls ds (UnclosedFlowCollection opener) m r w = not_unclosed x opener m w o ls ds r
+not_deep o x ls ds RecursionLimitExceeded m r w = not_too_deep o x m w ls ds r
+not_deep o x ls ds NotBuilt m r w = not_refused x w.before w.at w.reached w.refused o ls ds r
+not_deep o x ls ds kind m r w = w
+
+is_events : (o : OptionsData) (x : List ℕ) (ls : List Lexeme) (ds : Documents) (given : Result (List PlainEvent) Fault) → Reading o x ls ds → Answered o x given → given ≡ Ok (events x ds)
+is_events o x ls ds (Ok es) r a = ap Ok (read_answer o o x ls ds (Ok es) r a)
+is_events o x ls ds (Err f) r w = absurd (not_deep o x ls ds f.kind f.mark r w)
+
+-- a text with a reading is answered with its events
+pub is_answered : (o : OptionsData) (x : List ℕ) (ls : List Lexeme) (ds : Documents) → Reading o x ls ds → events_of o x ≡ Ok (events x ds)
+is_answered o x ls ds r = is_events o x ls ds (events_of o x) r (answered o x)
+
+cause_of : (o : OptionsData) (x : List ℕ) (kind : FaultKind) (m : Mark) → Why o x kind m → Cause o x kind m
+cause_of o x (UnclosedFlowCollection opener) m w = w
+cause_of o x RecursionLimitExceeded m w = w
+cause_of o x NotBuilt m w = record {
+  before = w.before;
+  at = w.at;
+  unread = λ p ls ds r. not_refused x w.before w.at w.reached w.refused p ls ds r;
+  reached = w.reached;
+  begins = w.begins;
+  refused = w.refused;
+  closed = w.closed;
+  marks = w.marks;
+}
+cause_of o x kind m w = absurd w
+
+-- the cause of a fault stands at its mark
+pub has_cause : (o : OptionsData) (x : List ℕ) (f : Fault) → events_of o x ≡ Err f → Cause o x f.kind f.mark
+has_cause o x f e = cause_of o x f.kind f.mark (subst (Answered o x) e (answered o x))

@@ -1,0 +1,408 @@
+-- What the reader finds stands in the text.
+use Rattle.std.proofs.Common.{◌≡◌, ◌≢◌, ℕ, suc, ◌+◌, ◌≤◌, ◌<◌, Bool, true, false, ◌&&◌, ◌==◌, List, [], ◌∷◌, ◌++◌, length, drop, refl, sym, ap, ap₂, ◌∙◌, subst, arith, append_assoc, append-nil, add-one, add-zero, length-drop, length-append, Some, None, Ok, Err, inl, inr}
+use Rattle.std.specs.Prelude.{if◌then◌else◌, nat_le, slice_index}
+use Rattle.std.proofs.lemmas.Bool.Decides.{nat_tests}
+use Rattle.granit_base.specs.Classes.{is_gap, is_blank_or_breakz}
+use Rattle.granit_base.specs.Place.{Mark, first}
+use Rattle.granit_base.specs.declared.style.ScalarStyle.TheVariants.{DoubleQuoted}
+use Rattle.granit_error.specs.FaultKind.{FaultKind, NoMemory, UnclosedFlowCollection, RecursionLimitExceeded, NotBuilt}
+use Rattle.granit_error.specs.OptionsData.{OptionsData}
+use Rattle.granit_model.specs.Here.{Here, next_char, mark_of, step, chunk, past_chunk}
+use Rattle.granit_model.specs.Place.{place_of, mark_at}
+use Rattle.granit_model.specs.Lexeme.{Lexeme, LexemeKind, DocumentStart, SequenceClose, MappingClose, Comma, Question, Colon, Scalar, wants_gap, Bracket, Square, Curly, Opener, opener_char}
+use Rattle.granit_model.specs.Start.{Glyph, Dash, DoubleQuote, LeftSquare, RightSquare, LeftCurly, RightCurly, CommaSign, QuestionSign, ColonSign, Foreign, glyph, is_inner, at_document_start, is_separated}
+use Rattle.granit_model.specs.Gap.{Each, StandsAt, IsGap, Parts}
+use Rattle.granit_model.specs.Extent.{Spells, dashes, left_square, right_square, left_curly, right_curly, comma, question, colon, quoted, MayBegin, IsLexeme}
+use Rattle.granit_model.specs.ReaderState.{ReaderState, Read, refuse, lexed, text_end, mark_in, dash, double_quoted, open_kind, open_bracket, close_square, close_curly, close_bracket, lexeme_at, behind_gap, next_lexeme}
+use Rattle.granit_model.specs.Reading.{Before, openers_behind}
+use Rattle.granit_model.specs.Cause.{IsDocumentMark}
+use Rattle.granit_laws.specs.Standing.{here_at, state_at}
+use Rattle.granit_laws.specs.Finding.{Fits, Misfits, Strange, no_gap, misfit, foreign, FindsFault, Reads}
+use Rattle.granit_laws.proofs.Places.{not_empty, rest_behind, step_is}
+use Rattle.granit_laws.proofs.LexingRuns.{Ends, run_of, rest_of, past_is, chunk_is, past_chunk_is}
+use Rattle.granit_laws.proofs.LexingGlyphs.{dash_is, quote_is, left_square_is, right_square_is, left_curly_is, right_curly_is, comma_is, question_is, colon_is, starts, not_foreign, apart, closing_quote}
+
+-- no lexeme stands at an index
+abbrev pub NoLexeme : List ℕ → ℕ → Type 0
+NoLexeme x j = (l : Lexeme) (spelling behind : List ℕ) → IsLexeme x j l spelling behind → ⊥
+
+-- what is found at an index, behind the gap
+pub record FoundAt (o : OptionsData) (x : List ℕ) (j : ℕ) (os : List Opener) (l : Lexeme) (s : ReaderState) : Type 0 where
+  pub spelling : List ℕ
+  pub behind : List ℕ
+  pub lexeme : IsLexeme x j l spelling behind
+  pub fits : Fits l.kind os behind
+  pub after : s ≡ record { here = here_at x (j + length spelling); openers = openers_behind l.kind l.source.start os; owes_gap = wants_gap l.kind }
+  pub nests : length os ≤ o.flow_nesting_limit → length (openers_behind l.kind l.source.start os) ≤ o.flow_nesting_limit
+
+pub record UnclosedAt (x : List ℕ) (j : ℕ) (os : List Opener) (opener : ℕ) (m : Mark) : Type 0 where
+  pub innermost : Opener
+  pub around : List Opener
+  pub opens : os ≡ innermost ∷ around
+  pub names : opener ≡ opener_char innermost.bracket
+  pub marks : m ≡ innermost.mark
+  pub meets : IsDocumentMark x j
+
+pub record TooDeepAt (o : OptionsData) (x : List ℕ) (j : ℕ) (os : List Opener) (m : Mark) : Type 0 where
+  pub bracket : Bracket
+  pub behind : List ℕ
+  pub opener : StandsAt x j (opener_char bracket ∷ []) behind
+  pub full : o.flow_nesting_limit ≤ length os
+  pub marks : m ≡ mark_at x j
+
+pub data WhyAt (x : List ℕ) (j : ℕ) (os : List Opener) : Type 0 where
+  misfit_at : (l : Lexeme) (spelling behind : List ℕ) → IsLexeme x j l spelling behind → Misfits l.kind os → WhyAt x j os
+  foreign_at : NoLexeme x j → WhyAt x j os
+
+pub record StrangeAt (x : List ℕ) (j : ℕ) (os : List Opener) (m : Mark) : Type 0 where
+  pub why : WhyAt x j os
+  pub unmarked : IsDocumentMark x j → ⊥
+  pub marks : m ≡ mark_at x j
+
+abbrev pub FaultAt : OptionsData → List ℕ → ℕ → List Opener → FaultKind → Mark → Type 0
+FaultAt o x j os NoMemory m = ⊥
+FaultAt o x j os (UnclosedFlowCollection opener) m = UnclosedAt x j os opener m
+FaultAt o x j os RecursionLimitExceeded m = TooDeepAt o x j os m
+FaultAt o x j os NotBuilt m = StrangeAt x j os m
+
+abbrev pub ReadsAt : OptionsData → List ℕ → ℕ → List Opener → Read → Type 0
+ReadsAt o x j os (Ok (Some l, s)) = FoundAt o x j os l s
+ReadsAt o x j os (Ok (None, s)) = ⊥
+ReadsAt o x j os (Err f) = FaultAt o x j os f.kind f.mark
+
+-- a lexeme that is read to where its characters end
+lexed_is : (o : OptionsData) (x : List ℕ) (j : ℕ) (os : List Opener) (k : LexemeKind) (cs t : List ℕ) (after : Here)
+    → after ≡ here_at x (j + length cs) → drop j x ≡ cs ++ t → Spells k cs → MayBegin x j k → Fits k os t
+    → (length os ≤ o.flow_nesting_limit → length (openers_behind k (mark_at x j) os) ≤ o.flow_nesting_limit)
+    → ReadsAt o x j os (lexed k (here_at x j) after (openers_behind k (mark_at x j) os))
+lexed_is o x j os k cs t after h e s m f n = record {
+  spelling = cs;
+  behind = t;
+  lexeme = record { stands = record { inside = e }; spells = s; begins = m; source = ap (λ a. record { start = mark_at x j; end = mark_of a }) h };
+  fits = f;
+  after = ap (λ a. record { here = a; openers = openers_behind k (mark_at x j) os; owes_gap = wants_gap k }) h;
+  nests = n;
+}
+
+-- one character on
+pub on_one : (x : List ℕ) (j c : ℕ) (t : List ℕ) → drop j x ≡ c ∷ t → step (here_at x j) ≡ here_at x (j + 1)
+on_one x j c t e = step_is x j c t e ∙ ap (here_at x) (sym (add-one j))
+
+-- where a character stands
+stands_as : (x : List ℕ) (j c d : ℕ) (t : List ℕ) → drop j x ≡ c ∷ t → c ≡ d → drop j x ≡ d ∷ t
+stands_as x j c d t e h = e ∙ ap (λ k. k ∷ t) h
+
+-- a character that begins another lexeme than a document mark is none
+unmarked_by : (x : List ℕ) (j c : ℕ) (t : List ℕ) → drop j x ≡ c ∷ t → c ≢ 0x2D → IsDocumentMark x j → ⊥
+unmarked_by x j c t e n m = n (ap first (sym e ∙ m.stands.inside))
+
+opens_is : (o : OptionsData) (x : List ℕ) (j : ℕ) (t : List ℕ) (os : List Opener) (k : Bracket) (v : Bool)
+    → drop j x ≡ opener_char k ∷ t → Spells (open_kind k) (opener_char k ∷ []) → MayBegin x j (open_kind k) → Fits (open_kind k) os t
+    → openers_behind (open_kind k) (mark_at x j) os ≡ record { bracket = k; mark = mark_at x j } ∷ os
+    → nat_le o.flow_nesting_limit (length os) ≡ v
+    → ReadsAt o x j os (if v then refuse RecursionLimitExceeded (here_at x j) else lexed (open_kind k) (here_at x j) (step (here_at x j)) (record { bracket = k; mark = mark_at x j } ∷ os))
+opens_is o x j t os k true e s m f q h = record { bracket = k; behind = t; opener = record { inside = e }; full = grind (arith, nat_tests); marks = refl }
+opens_is o x j t os k false e s m f q h =
+    subst (λ (ks : List Opener). ReadsAt o x j os (lexed (open_kind k) (here_at x j) (step (here_at x j)) ks)) q
+    (lexed_is o x j os (open_kind k) (opener_char k ∷ []) t (step (here_at x j)) (on_one x j (opener_char k) t e) e s m f
+    (λ n. subst (λ (ks : List Opener). length ks ≤ o.flow_nesting_limit) (sym q) (grind (arith, nat_tests))))
+
+-- the lexeme of a kind, from an index on, that some characters spell
+abbrev pub lexeme_of : List ℕ → ℕ → LexemeKind → List ℕ → Lexeme
+lexeme_of x j k cs = record { kind = k; source = record { start = mark_at x j; end = mark_at x (j + length cs) } }
+
+is_lexeme : (x : List ℕ) (j : ℕ) (k : LexemeKind) (cs t : List ℕ) → drop j x ≡ cs ++ t → Spells k cs → MayBegin x j k → IsLexeme x j (lexeme_of x j k cs) cs t
+is_lexeme x j k cs t e s m = record { stands = record { inside = e }; spells = s; begins = m; source = refl }
+
+closes_square : (o : OptionsData) (x : List ℕ) (j : ℕ) (t : List ℕ) (p : Opener) (os : List Opener) (v : Bracket) → drop j x ≡ 0x5D ∷ t → p.bracket ≡ v → ReadsAt o x j (p ∷ os) (close_square v os (here_at x j))
+closes_square o x j t p os Square e h = lexed_is o x j (p ∷ os) SequenceClose (0x5D ∷ []) t (step (here_at x j)) (on_one x j 0x5D t e) e right_square tt h (λ n. omega arith)
+closes_square o x j t p os Curly e h = record { why = misfit_at (lexeme_of x j SequenceClose (0x5D ∷ [])) (0x5D ∷ []) t (is_lexeme x j SequenceClose (0x5D ∷ []) t e right_square tt) h; unmarked = unmarked_by x j 0x5D t e (λ q. omega arith); marks = refl }
+
+square_closes : (o : OptionsData) (x : List ℕ) (j : ℕ) (t : List ℕ) (os : List Opener) → drop j x ≡ 0x5D ∷ t → ReadsAt o x j os (close_bracket Square os (here_at x j))
+square_closes o x j t [] e = record { why = misfit_at (lexeme_of x j SequenceClose (0x5D ∷ [])) (0x5D ∷ []) t (is_lexeme x j SequenceClose (0x5D ∷ []) t e right_square tt) tt; unmarked = unmarked_by x j 0x5D t e (λ q. omega arith); marks = refl }
+square_closes o x j t (p ∷ os) e = closes_square o x j t p os p.bracket e refl
+
+closes_curly : (o : OptionsData) (x : List ℕ) (j : ℕ) (t : List ℕ) (p : Opener) (os : List Opener) (v : Bracket) → drop j x ≡ 0x7D ∷ t → p.bracket ≡ v → ReadsAt o x j (p ∷ os) (close_curly v os (here_at x j))
+closes_curly o x j t p os Curly e h = lexed_is o x j (p ∷ os) MappingClose (0x7D ∷ []) t (step (here_at x j)) (on_one x j 0x7D t e) e right_curly tt h (λ n. omega arith)
+closes_curly o x j t p os Square e h = record { why = misfit_at (lexeme_of x j MappingClose (0x7D ∷ [])) (0x7D ∷ []) t (is_lexeme x j MappingClose (0x7D ∷ []) t e right_curly tt) h; unmarked = unmarked_by x j 0x7D t e (λ q. omega arith); marks = refl }
+
+curly_closes : (o : OptionsData) (x : List ℕ) (j : ℕ) (t : List ℕ) (os : List Opener) → drop j x ≡ 0x7D ∷ t → ReadsAt o x j os (close_bracket Curly os (here_at x j))
+curly_closes o x j t [] e = record { why = misfit_at (lexeme_of x j MappingClose (0x7D ∷ [])) (0x7D ∷ []) t (is_lexeme x j MappingClose (0x7D ∷ []) t e right_curly tt) tt; unmarked = unmarked_by x j 0x7D t e (λ q. omega arith); marks = refl }
+curly_closes o x j t (p ∷ os) e = closes_curly o x j t p os p.bracket e refl
+
+-- the test for `---` in column 0, said of the text and the column
+abbrev pub three_dashes : List ℕ → ℕ → Bool
+three_dashes l n = ((n == 0 && slice_index l 0 == 0x2D) && slice_index l 1 == 0x2D) && slice_index l 2 == 0x2D
+
+dashes_stand : (l : List ℕ) (n : ℕ) → three_dashes l n ≡ true → (t : List ℕ) × (n ≡ 0) × (l ≡ 0x2D ∷ 0x2D ∷ 0x2D ∷ t)
+dashes_stand [] n e = absurd (grind (arith, nat_tests))
+dashes_stand (a ∷ []) n e = absurd (grind (arith, nat_tests))
+dashes_stand (a ∷ b ∷ []) n e = absurd (grind (arith, nat_tests))
+dashes_stand (a ∷ b ∷ c ∷ t) n e =
+    let z : n ≡ 0 = grind (arith, nat_tests) in
+    let p : a ≡ 0x2D = grind (arith, nat_tests) in
+    let q : b ≡ 0x2D = grind (arith, nat_tests) in
+    let r : c ≡ 0x2D = grind (arith, nat_tests) in
+    (t, z, cc)
+
+-- a document mark passes the test
+pub dashes_pass : (x : List ℕ) (j : ℕ) (t : List ℕ) → drop j x ≡ 0x2D ∷ 0x2D ∷ 0x2D ∷ t → (place_of x j).column ≡ 0 → at_document_start (here_at x j) ≡ true
+dashes_pass x j t e z = ap₂ three_dashes e z
+
+pub on_three : (x : List ℕ) (j a b c : ℕ) (t : List ℕ) → drop j x ≡ a ∷ b ∷ c ∷ t → step (step (step (here_at x j))) ≡ here_at x (j + 3)
+on_three x j a b c t e =
+    let p : drop (suc j) x ≡ b ∷ c ∷ t = rest_behind x j a (b ∷ c ∷ t) e in
+    let q : drop (suc (suc j)) x ≡ c ∷ t = rest_behind x (suc j) b (c ∷ t) p in
+    ap (λ h. step (step h)) (step_is x j a (b ∷ c ∷ t) e) ∙ ap step (step_is x (suc j) b (c ∷ t) p) ∙ step_is x (suc (suc j)) c t q ∙ ap (here_at x) (omega arith)
+
+mark_reads : (o : OptionsData) (x : List ℕ) (j : ℕ) (t : List ℕ) (os : List Opener) (v : Bool) → drop j x ≡ 0x2D ∷ 0x2D ∷ 0x2D ∷ t → (place_of x j).column ≡ 0 → is_blank_or_breakz (first t) ≡ v → ReadsAt o x j os (mark_in v os (here_at x j))
+mark_reads o x j t (p ∷ os) true e z h = record { innermost = p; around = os; opens = refl; names = refl; marks = refl; meets = record { behind = t; stands = record { inside = e }; column = z; separated = h } }
+mark_reads o x j t [] true e z h = lexed_is o x j [] DocumentStart (0x2D ∷ 0x2D ∷ 0x2D ∷ []) t (step (step (step (here_at x j)))) (on_three x j 0x2D 0x2D 0x2D t e) e dashes z (λ _. refl) (λ n. n)
+mark_reads o x j t os false e z h = lexed_is o x j os DocumentStart (0x2D ∷ 0x2D ∷ 0x2D ∷ []) t (step (step (step (here_at x j)))) (on_three x j 0x2D 0x2D 0x2D t e) e dashes z (λ q. cc) (λ n. n)
+
+-- a lexeme that begins with a dash passes the test
+dash_begins : (x : List ℕ) (j : ℕ) (t : List ℕ) {k : LexemeKind} {cs : List ℕ} (behind : List ℕ) → drop j x ≡ 0x2D ∷ t → drop j x ≡ cs ++ behind → Spells k cs → MayBegin x j k → at_document_start (here_at x j) ≡ true
+dash_begins x j t behind e f dashes m = dashes_pass x j behind f m
+dash_begins x j t behind e f left_square m = absurd (apart 0x2D 0x5B _ _ refl (sym e ∙ f))
+dash_begins x j t behind e f right_square m = absurd (apart 0x2D 0x5D _ _ refl (sym e ∙ f))
+dash_begins x j t behind e f left_curly m = absurd (apart 0x2D 0x7B _ _ refl (sym e ∙ f))
+dash_begins x j t behind e f right_curly m = absurd (apart 0x2D 0x7D _ _ refl (sym e ∙ f))
+dash_begins x j t behind e f comma m = absurd (apart 0x2D 0x2C _ _ refl (sym e ∙ f))
+dash_begins x j t behind e f question m = absurd (apart 0x2D 0x3F _ _ refl (sym e ∙ f))
+dash_begins x j t behind e f colon m = absurd (apart 0x2D 0x3A _ _ refl (sym e ∙ f))
+dash_begins x j t behind e f (quoted each) m = absurd (apart 0x2D 0x22 _ _ refl (sym e ∙ f))
+
+dash_on : (o : OptionsData) (x : List ℕ) (j : ℕ) (t : List ℕ) (os : List Opener) (v : Bool) → drop j x ≡ 0x2D ∷ t → at_document_start (here_at x j) ≡ v → ReadsAt o x j os (if v then mark_in (is_separated (here_at x j)) os (here_at x j) else refuse NotBuilt (here_at x j))
+dash_on o x j t os true e h =
+    let d = dashes_stand (drop j x) (place_of x j).column h in
+    mark_reads o x j d.0 os (is_separated (here_at x j)) d.2 d.1 (sym (ap (λ (l : List ℕ). is_blank_or_breakz (slice_index l 3)) d.2))
+dash_on o x j t os false e h = record {
+  why = foreign_at (λ l cs behind is. let b = dash_begins x j t behind e is.stands.inside is.spells is.begins in cc);
+  unmarked = λ m. let b = dashes_pass x j m.behind m.stands.inside m.column in cc;
+  marks = refl;
+}
+
+dash_reads : (o : OptionsData) (x : List ℕ) (j : ℕ) (t : List ℕ) (os : List Opener) → drop j x ≡ 0x2D ∷ t → ReadsAt o x j os (dash os (here_at x j))
+unfolding dash
+dash_reads o x j t os e = dash_on o x j t os (at_document_start (here_at x j)) e refl
+
+-- a double-quoted scalar whose inner characters, all of them, are known
+pub quoted_as : (x : List ℕ) (j : ℕ) (f rest : List ℕ) (os : List Opener) → drop j x ≡ 0x22 ∷ (f ++ rest) → Each is_inner f → Ends is_inner rest
+    → double_quoted os (here_at x j) ≡ (if first rest == 0x22 then lexed (Scalar DoubleQuoted (record { characters = f; is_borrowed = true })) (here_at x j) (step (here_at x (suc j + length f))) os else refuse NotBuilt (here_at x j))
+unfolding double_quoted
+quoted_as x j f rest os e p n =
+    let r : drop (suc j) x ≡ f ++ rest = rest_behind x j 0x22 (f ++ rest) e in
+    ap (λ h. if next_char (past_chunk is_inner h) == 0x22 then lexed (Scalar DoubleQuoted (record { characters = chunk is_inner h; is_borrowed = true })) (here_at x j) (step (past_chunk is_inner h)) os else refuse NotBuilt (here_at x j)) (step_is x j 0x22 (f ++ rest) e)
+    ∙ ap₂ (λ h (cs : List ℕ). if next_char h == 0x22 then lexed (Scalar DoubleQuoted (record { characters = cs; is_borrowed = true })) (here_at x j) (step h) os else refuse NotBuilt (here_at x j)) (past_chunk_is f rest x (suc j) r p n) (chunk_is f rest x (suc j) r p n)
+    ∙ ap (λ c. if c == 0x22 then lexed (Scalar DoubleQuoted (record { characters = f; is_borrowed = true })) (here_at x j) (step (here_at x (suc j + length f))) os else refuse NotBuilt (here_at x j)) (ap first (rest_of x (suc j) f rest r))
+
+-- the characters of a scalar
+abbrev pub quotes : List ℕ → List ℕ
+quotes f = 0x22 ∷ (f ++ 0x22 ∷ [])
+
+pub in_quotes : (f t : List ℕ) → 0x22 ∷ (f ++ 0x22 ∷ t) ≡ quotes f ++ t
+in_quotes f t = ap (λ (l : List ℕ). 0x22 ∷ l) (sym (append_assoc f (0x22 ∷ []) t))
+
+-- past the closing quote
+pub past_quote : (x : List ℕ) (j : ℕ) (f t : List ℕ) → drop j x ≡ 0x22 ∷ (f ++ 0x22 ∷ t) → step (here_at x (suc j + length f)) ≡ here_at x (j + length (quotes f))
+past_quote x j f t e =
+    let r : drop (suc j) x ≡ f ++ 0x22 ∷ t = rest_behind x j 0x22 (f ++ 0x22 ∷ t) e in
+    step_is x (suc j + length f) 0x22 t (rest_of x (suc j) f (0x22 ∷ t) r) ∙ ap (here_at x) (omega (arith, length-append f (0x22 ∷ [])))
+
+quote_on : (o : OptionsData) (x : List ℕ) (j : ℕ) (f rest : List ℕ) (os : List Opener) (v : Bool) → drop j x ≡ 0x22 ∷ (f ++ rest) → Each is_inner f → Ends is_inner rest → (first rest == 0x22) ≡ v
+    → ReadsAt o x j os (if v then lexed (Scalar DoubleQuoted (record { characters = f; is_borrowed = true })) (here_at x j) (step (here_at x (suc j + length f))) os else refuse NotBuilt (here_at x j))
+quote_on o x j f [] os true e p n h = cc
+quote_on o x j f (d ∷ t) os true e p n h =
+    let k : d ≡ 0x22 = grind (arith, nat_tests) in
+    let s : drop j x ≡ 0x22 ∷ (f ++ 0x22 ∷ t) = e ∙ ap (λ c. 0x22 ∷ (f ++ c ∷ t)) k in
+    lexed_is o x j os (Scalar DoubleQuoted (record { characters = f; is_borrowed = true })) (quotes f) t (step (here_at x (suc j + length f))) (past_quote x j f t s) (s ∙ in_quotes f t) (quoted p) tt tt (λ m. m)
+quote_on o x j f rest os false e p n h = record {
+  why = foreign_at (λ l cs behind is. let q = closing_quote behind f rest is.spells (sym is.stands.inside ∙ e) p n in grind (arith, nat_tests));
+  unmarked = unmarked_by x j 0x22 (f ++ rest) e (λ q. omega arith);
+  marks = refl;
+}
+
+quote_reads : (o : OptionsData) (x : List ℕ) (j : ℕ) (t : List ℕ) (os : List Opener) → drop j x ≡ 0x22 ∷ t → ReadsAt o x j os (double_quoted os (here_at x j))
+quote_reads o x j t os e =
+    let r = run_of is_inner t in
+    let s : drop j x ≡ 0x22 ∷ (r.front ++ r.behind) = e ∙ ap (λ (l : List ℕ). 0x22 ∷ l) r.whole in
+    subst (ReadsAt o x j os) (sym (quoted_as x j r.front r.behind os s r.each r.ends)) (quote_on o x j r.front r.behind os (first r.behind == 0x22) s r.each r.ends refl)
+
+square_opens : (o : OptionsData) (x : List ℕ) (j : ℕ) (t : List ℕ) (os : List Opener) → drop j x ≡ 0x5B ∷ t → ReadsAt o x j os (open_bracket o Square os (here_at x j))
+unfolding open_bracket
+square_opens o x j t os e = opens_is o x j t os Square (nat_le o.flow_nesting_limit (length os)) e left_square tt tt refl refl
+
+curly_opens : (o : OptionsData) (x : List ℕ) (j : ℕ) (t : List ℕ) (os : List Opener) → drop j x ≡ 0x7B ∷ t → ReadsAt o x j os (open_bracket o Curly os (here_at x j))
+unfolding open_bracket
+curly_opens o x j t os e = opens_is o x j t os Curly (nat_le o.flow_nesting_limit (length os)) e left_curly tt tt refl refl
+
+not_dash : (c : ℕ) → glyph c ≡ Foreign → c ≢ 0x2D
+unfolding glyph
+not_dash c e = λ h. cc (ap glyph h)
+
+glyph_reads : (o : OptionsData) (x : List ℕ) (j c : ℕ) (t : List ℕ) (os : List Opener) (g : Glyph) → drop j x ≡ c ∷ t → glyph c ≡ g → ReadsAt o x j os (lexeme_at o g os (here_at x j))
+unfolding lexeme_at
+glyph_reads o x j c t os Dash e h = dash_reads o x j t os (stands_as x j c 0x2D t e (dash_is c h))
+glyph_reads o x j c t os DoubleQuote e h = quote_reads o x j t os (stands_as x j c 0x22 t e (quote_is c h))
+glyph_reads o x j c t os LeftSquare e h = square_opens o x j t os (stands_as x j c 0x5B t e (left_square_is c h))
+glyph_reads o x j c t os LeftCurly e h = curly_opens o x j t os (stands_as x j c 0x7B t e (left_curly_is c h))
+glyph_reads o x j c t os RightSquare e h = square_closes o x j t os (stands_as x j c 0x5D t e (right_square_is c h))
+glyph_reads o x j c t os RightCurly e h = curly_closes o x j t os (stands_as x j c 0x7D t e (right_curly_is c h))
+glyph_reads o x j c t os CommaSign e h =
+    let s = stands_as x j c 0x2C t e (comma_is c h) in
+    lexed_is o x j os Comma (0x2C ∷ []) t (step (here_at x j)) (on_one x j 0x2C t s) s comma tt tt (λ m. m)
+glyph_reads o x j c t os QuestionSign e h =
+    let s = stands_as x j c 0x3F t e (question_is c h) in
+    lexed_is o x j os Question (0x3F ∷ []) t (step (here_at x j)) (on_one x j 0x3F t s) s question tt tt (λ m. m)
+glyph_reads o x j c t os ColonSign e h =
+    let s = stands_as x j c 0x3A t e (colon_is c h) in
+    lexed_is o x j os Colon (0x3A ∷ []) t (step (here_at x j)) (on_one x j 0x3A t s) s colon tt tt (λ m. m)
+glyph_reads o x j c t os Foreign e h = record {
+  why = foreign_at (λ l cs behind is. not_foreign l.kind (sym (starts behind is.spells) ∙ ap (λ (l : List ℕ). glyph (first l)) (sym is.stands.inside ∙ e) ∙ h));
+  unmarked = unmarked_by x j c t e (not_dash c h);
+  marks = refl;
+}
+
+-- behind a text's last index stands nothing more
+pub ends_at : (x : List ℕ) (i : ℕ) (g : List ℕ) → i ≤ length x → drop i x ≡ g ++ [] → i + length g ≡ length x
+ends_at x i g h e = omega (arith, length-drop i x, ap (length {A = ℕ}) (e ∙ append-nil g))
+
+-- and before its last character stands something
+pub within_at : (x : List ℕ) (j c : ℕ) (t : List ℕ) → drop j x ≡ c ∷ t → j < length x
+within_at x j c t e = omega (arith, length-drop j x, ap (length {A = ℕ}) e)
+
+-- the characters that stand from behind a gap on, counted from its start
+pub behind_gap_stands : (x : List ℕ) (i : ℕ) (g rest cs behind : List ℕ) → drop i x ≡ g ++ rest → StandsAt x (i + length g) cs behind → drop i x ≡ g ++ (cs ++ behind)
+behind_gap_stands x i g rest cs behind e s = e ∙ ap (λ (l : List ℕ). g ++ l) (sym (rest_of x i g rest e) ∙ s.inside)
+
+module _ (o : OptionsData) (x : List ℕ) (i : ℕ) (b : Before) (g : List ℕ) (c : ℕ) (t : List ℕ) (e : drop i x ≡ g ++ c ∷ t) (p : IsGap g) (n : is_gap c ≡ false) where
+  why_at : WhyAt x (i + length g) b.openers → Strange x b g (i + length g)
+  why_at (misfit_at l cs behind is m) = misfit l cs behind is m
+  why_at (foreign_at f) = foreign f
+
+  fault_reads : (k : FaultKind) (m : Mark) → FaultAt o x (i + length g) b.openers k m → FindsFault o x i b k m
+  fault_reads NoMemory m r = r
+  fault_reads (UnclosedFlowCollection opener) m r = record {
+    gap = g;
+    behind = c ∷ t;
+    stands = record { inside = e };
+    only_gap = p;
+    innermost = r.innermost;
+    around = r.around;
+    opens = r.opens;
+    names = r.names;
+    marks = r.marks;
+    meets = inr r.meets;
+  }
+  fault_reads RecursionLimitExceeded m r = record {
+    gap = g;
+    bracket = r.bracket;
+    behind = r.behind;
+    stands = record { inside = behind_gap_stands x i g (c ∷ t) (opener_char r.bracket ∷ []) r.behind e r.opener };
+    only_gap = p;
+    opener = r.opener;
+    full = r.full;
+    marks = r.marks;
+  }
+  fault_reads NotBuilt m r = record {
+    gap = g;
+    behind = c ∷ t;
+    stands = record { inside = e };
+    only_gap = p;
+    within = within_at x (i + length g) c t (rest_of x i g (c ∷ t) e);
+    no_more_gap = ap (λ (l : List ℕ). is_gap (first l)) (rest_of x i g (c ∷ t) e) ∙ n;
+    why = why_at r.why;
+    unmarked = λ q. r.unmarked;
+    marks = r.marks;
+  }
+
+  from_there : (r : Read) → Parts b.owes_gap g → ReadsAt o x (i + length g) b.openers r → Reads o x i b r
+  from_there (Ok (Some l, s)) q r = record {
+    gap = g;
+    spelling = r.spelling;
+    behind = r.behind;
+    stands = record { inside = behind_gap_stands x i g (c ∷ t) r.spelling r.behind e r.lexeme.stands };
+    only_gap = p;
+    parts = q;
+    lexeme = r.lexeme;
+    fits = r.fits;
+    after = r.after;
+    nests = r.nests;
+  }
+  from_there (Ok (None, s)) q r = absurd r
+  from_there (Err f) q r = fault_reads f.kind f.mark r
+
+  -- the gap that is wanted, or none
+  owed : (owes : Bool) (g : List ℕ) → (owes && (i + length g == i)) ≡ true → (owes ≡ true) × (g ≡ [])
+  owed true [] h = (refl, refl)
+  owed true (d ∷ ds) h = absurd (grind (arith, nat_tests))
+  owed false ds h = cc
+
+  not_owed : (owes : Bool) (g : List ℕ) → (owes && (i + length g == i)) ≡ false → Parts owes g
+  not_owed true [] h = absurd (grind (arith, nat_tests))
+  not_owed true (d ∷ ds) h = λ q r. cc
+  not_owed false ds h = λ q r. cc
+
+  at_character : (v : Bool) → (b.owes_gap && (i + length g == i)) ≡ v → Reads o x i b (if v then refuse NotBuilt (here_at x (i + length g)) else lexeme_at o (glyph c) b.openers (here_at x (i + length g)))
+  at_character true h =
+      let w = owed b.owes_gap g h in
+      record {
+        gap = g;
+        behind = c ∷ t;
+        stands = record { inside = e };
+        only_gap = p;
+        within = within_at x (i + length g) c t (rest_of x i g (c ∷ t) e);
+        no_more_gap = ap (λ (l : List ℕ). is_gap (first l)) (rest_of x i g (c ∷ t) e) ∙ n;
+        why = no_gap w.0 w.1;
+        unmarked = λ q m. q w.0 (ap (λ (k : ℕ). (place_of x k).column) (sym (add-zero i) ∙ ap (λ (l : List ℕ). i + length l) (sym w.1)) ∙ m.column);
+        marks = refl;
+      }
+  at_character false h =
+      from_there (lexeme_at o (glyph c) b.openers (here_at x (i + length g))) (not_owed b.owes_gap g h)
+      (glyph_reads o x (i + length g) c t b.openers (glyph c) (rest_of x i g (c ∷ t) e) refl)
+
+-- what is behind the gap, where the text ends and where it goes on
+pub at_end_gives : (o : OptionsData) (x : List ℕ) (i : ℕ) (b : Before) (j : ℕ) → drop j x ≡ [] → behind_gap o (state_at x i b) (here_at x j) ≡ text_end b.openers (record { here = here_at x j; openers = b.openers; owes_gap = b.owes_gap })
+unfolding behind_gap
+at_end_gives o x i b j e =
+    ap (λ (l : List ℕ). if length l == 0 then text_end b.openers (record { here = here_at x j; openers = b.openers; owes_gap = b.owes_gap }) else if b.owes_gap && (j == i) then refuse NotBuilt (here_at x j) else lexeme_at o (glyph (first l)) b.openers (here_at x j)) e
+
+pub at_character_gives : (o : OptionsData) (x : List ℕ) (i : ℕ) (b : Before) (j c : ℕ) (t : List ℕ) → drop j x ≡ c ∷ t → behind_gap o (state_at x i b) (here_at x j) ≡ (if b.owes_gap && (j == i) then refuse NotBuilt (here_at x j) else lexeme_at o (glyph c) b.openers (here_at x j))
+unfolding behind_gap
+at_character_gives o x i b j c t e =
+    ap (λ (l : List ℕ). if length l == 0 then text_end b.openers (record { here = here_at x j; openers = b.openers; owes_gap = b.owes_gap }) else if b.owes_gap && (j == i) then refuse NotBuilt (here_at x j) else lexeme_at o (glyph (first l)) b.openers (here_at x j)) e
+    ∙ ap (λ v. if v then text_end b.openers (record { here = here_at x j; openers = b.openers; owes_gap = b.owes_gap }) else if b.owes_gap && (j == i) then refuse NotBuilt (here_at x j) else lexeme_at o (glyph c) b.openers (here_at x j)) (not_empty c t)
+
+pub behind_gap_is : (o : OptionsData) (x : List ℕ) (i : ℕ) (b : Before) (g rest : List ℕ) → drop i x ≡ g ++ rest → IsGap g → Ends is_gap rest → next_lexeme o (state_at x i b) ≡ behind_gap o (state_at x i b) (here_at x (i + length g))
+unfolding next_lexeme
+behind_gap_is o x i b g rest e p n = ap (behind_gap o (state_at x i b)) (past_is is_gap g rest x i e p n)
+
+end_reads : (o : OptionsData) (x : List ℕ) (i : ℕ) (b : Before) (g : List ℕ) (os : List Opener) → b.openers ≡ os → i ≤ length x → drop i x ≡ g ++ [] → IsGap g → Reads o x i b (text_end os (record { here = here_at x (i + length g); openers = b.openers; owes_gap = b.owes_gap }))
+end_reads o x i b g [] q h e p =
+    let r = ends_at x i g h e in
+    record { gap = g; stands = record { inside = e }; only_gap = p; reaches = r; closed = q; after = ap (λ j. state_at x j b) r }
+end_reads o x i b g (k ∷ os) q h e p = record {
+  gap = g;
+  behind = [];
+  stands = record { inside = e };
+  only_gap = p;
+  innermost = k;
+  around = os;
+  opens = q;
+  names = refl;
+  marks = refl;
+  meets = inl (ends_at x i g h e);
+}
+
+gap_reads : (o : OptionsData) (x : List ℕ) (i : ℕ) (b : Before) (g rest : List ℕ) → i ≤ length x → drop i x ≡ g ++ rest → IsGap g → Ends is_gap rest → Reads o x i b (behind_gap o (state_at x i b) (here_at x (i + length g)))
+gap_reads o x i b g [] h e p n =
+    subst (Reads o x i b) (sym (at_end_gives o x i b (i + length g) (rest_of x i g [] e))) (end_reads o x i b g b.openers refl h e p)
+gap_reads o x i b g (c ∷ t) h e p n =
+    subst (Reads o x i b) (sym (at_character_gives o x i b (i + length g) c t (rest_of x i g (c ∷ t) e)))
+    (at_character o x i b g c t e p n (b.owes_gap && (i + length g == i)) refl)
+
+-- what the reader finds from an index on stands in the text
+pub next_lexeme_reads : (o : OptionsData) (x : List ℕ) (i : ℕ) (b : Before) → i ≤ length x → Reads o x i b (next_lexeme o (state_at x i b))
+next_lexeme_reads o x i b h =
+    let r = run_of is_gap (drop i x) in
+    subst (Reads o x i b) (sym (behind_gap_is o x i b r.front r.behind r.whole r.each r.ends)) (gap_reads o x i b r.front r.behind h r.whole r.each r.ends)

@@ -1,0 +1,110 @@
+-- Where a fault's cause stands, the text has no reading.
+use Rattle.std.proofs.Common.{◌≡◌, ◌≢◌, ℕ, suc, ◌+◌, ◌≤◌, ◌<◌, false, List, [], ◌∷◌, ◌++◌, length, drop, refl, sym, ap, ◌∙◌, subst, arith, ◌⊎◌, inl, inr}
+use Rattle.granit_base.specs.Classes.{is_gap, is_blank, is_break}
+use Rattle.granit_base.specs.Place.{Mark, first}
+use Rattle.granit_error.specs.OptionsData.{OptionsData}
+use Rattle.granit_model.specs.Cause.{ReachedTo, open_brackets, IsDocumentMark, Unclosed, TooDeep, NotTaken, at_end, at_no_gap, at_lexeme, at_foreign}
+use Rattle.granit_model.specs.Extent.{IsLexeme, MayBegin, Spells, dashes, left_square, right_square, left_curly, right_curly, comma, question, colon, quoted}
+use Rattle.granit_model.specs.Gap.{StandsAt}
+use Rattle.granit_model.specs.Lexeme.{Lexeme, LexemeKind, DocumentStart, Bracket, Square, Curly, Opener, opener_char}
+use Rattle.granit_model.specs.Node.{Documents}
+use Rattle.granit_model.specs.Place.{mark_at}
+use Rattle.granit_model.specs.ReaderState.{open_kind}
+use Rattle.granit_model.specs.Reading.{Before, nothing_before, openers_behind, behind_lexeme, behind_all, NestsWithin, Reading}
+use Rattle.granit_model.specs.Yield.{spell_documents}
+use Rattle.granit_laws.proofs.GrammarBrackets.{documents_close}
+use Rattle.granit_laws.proofs.GrammarGoesOn.{WantsOpen, documents_want}
+use Rattle.granit_laws.proofs.LexingOnce.{all_reached, GoesOn, goes_on_there, lexeme_follows, no_lexeme_follows, gap_is_missing_behind}
+use Rattle.granit_laws.proofs.LexingReads.{within_at}
+use Rattle.granit_laws.proofs.Places.{a_character, same_first}
+
+dash_no_gap : is_gap 0x2D ≡ false
+unfolding is_gap is_blank is_break
+dash_no_gap = refl
+
+opener_spells : (b : Bracket) → Spells (open_kind b) (opener_char b ∷ [])
+opener_spells Square = left_square
+opener_spells Curly = left_curly
+
+opener_begins : (x : List ℕ) (i : ℕ) (b : Bracket) → MayBegin x i (open_kind b)
+opener_begins x i Square = tt
+opener_begins x i Curly = tt
+
+opener_behind : (b : Bracket) (m : Mark) (os : List Opener) → length (openers_behind (open_kind b) m os) ≡ suc (length os)
+opener_behind Square m os = refl
+opener_behind Curly m os = refl
+
+-- what nests does so behind each front
+nested_front : (limit : ℕ) (b : Before) (ls : List Lexeme) (l : Lexeme) (more : List Lexeme) → NestsWithin limit b (ls ++ (l ∷ more)) → length (behind_lexeme (behind_all b ls) l).openers ≤ limit
+nested_front limit b [] l more n = n.0
+nested_front limit b (m ∷ ls) l more n = nested_front limit (behind_lexeme b m) ls l more n.1
+
+module _ (x : List ℕ) (ls : List Lexeme) (i : ℕ) (reached : ReachedTo x ls i) (o : OptionsData) (all : List Lexeme) (ds : Documents) (r : Reading o x all ds) where
+  -- what a reading has behind these lexemes, where a character stands that is no gap
+  goes_on_at : (w : i < length x) → is_gap (first (drop i x)) ≡ false → GoesOn x nothing_before 0 ls i all
+  goes_on_at w n =
+      let c = a_character x i w in
+      goes_on_there c.0 c.1 reached r.reached c.2 (sym (ap (λ (t : List ℕ). is_gap (first t)) c.2) ∙ n)
+
+  at_the_end : i ≡ length x → spell_documents ds [] ≡ ls
+  at_the_end e = r.spelled ∙ all_reached reached r.reached e refl
+
+  spelled_on : (g : GoesOn x nothing_before 0 ls i all) → spell_documents ds [] ≡ ls ++ (g.lexeme ∷ g.rest)
+  spelled_on g = r.spelled ∙ g.splits
+
+  follows : (l : Lexeme) (cs behind : List ℕ) → IsLexeme x i l cs behind → (rest : List Lexeme) × (spell_documents ds [] ≡ ls ++ (l ∷ rest))
+  follows l cs behind is = let f = lexeme_follows reached is r.reached in (f.0, r.spelled ∙ f.1)
+
+  not_taken : NotTaken x ls i → ⊥
+  not_taken (at_end e n) = n ds (at_the_end e)
+  not_taken (at_no_gap front l whole wants ends w n) = gap_is_missing_behind front l reached whole wants ends w n r.reached
+  not_taken (at_lexeme l cs behind is n) = let f = follows l cs behind is in n ds f.0 f.1
+  not_taken (at_foreign w g n) = no_lexeme_follows reached w g n r.reached
+
+  -- no bracket is open behind whole documents
+  end_closed : i ≡ length x → open_brackets ls ≡ []
+  end_closed e = ap open_brackets (sym (at_the_end e)) ∙ documents_close ds
+
+  -- nor before a document mark
+  mark_kind : (k : LexemeKind) (cs behind mine : List ℕ) → Spells k cs → drop i x ≡ cs ++ behind → drop i x ≡ 0x2D ∷ 0x2D ∷ 0x2D ∷ mine → k ≡ DocumentStart
+  mark_kind k cs behind mine dashes e d = refl
+  mark_kind k cs behind mine left_square e d = absurd (omega (arith, same_first 0x5B 0x2D _ _ _ e d))
+  mark_kind k cs behind mine right_square e d = absurd (omega (arith, same_first 0x5D 0x2D _ _ _ e d))
+  mark_kind k cs behind mine left_curly e d = absurd (omega (arith, same_first 0x7B 0x2D _ _ _ e d))
+  mark_kind k cs behind mine right_curly e d = absurd (omega (arith, same_first 0x7D 0x2D _ _ _ e d))
+  mark_kind k cs behind mine comma e d = absurd (omega (arith, same_first 0x2C 0x2D _ _ _ e d))
+  mark_kind k cs behind mine question e d = absurd (omega (arith, same_first 0x3F 0x2D _ _ _ e d))
+  mark_kind k cs behind mine colon e d = absurd (omega (arith, same_first 0x3A 0x2D _ _ _ e d))
+  mark_kind k cs behind mine (quoted q) e d = absurd (omega (arith, same_first 0x22 0x2D _ _ _ e d))
+
+  mark_closed : IsDocumentMark x i → open_brackets ls ≡ []
+  mark_closed d =
+      let here = within_at x i 0x2D (0x2D ∷ 0x2D ∷ d.behind) d.stands.inside in
+      let g = goes_on_at here (ap (λ (t : List ℕ). is_gap (first t)) d.stands.inside ∙ dash_no_gap) in
+      let kind = mark_kind g.lexeme.kind g.spelling g.behind d.behind g.stands.spells g.stands.stands.inside d.stands.inside in
+      subst (λ (k : LexemeKind). WantsOpen k (open_brackets ls)) kind (documents_want ls g.lexeme g.rest ds (spelled_on g))
+
+  closed_there : (i ≡ length x) ⊎ IsDocumentMark x i → open_brackets ls ≡ []
+  closed_there (inl e) = end_closed e
+  closed_there (inr d) = mark_closed d
+
+  -- an opener is the next lexeme, and one more bracket is open behind it
+  opener_nests : (b : Bracket) (behind : List ℕ) → StandsAt x i (opener_char b ∷ []) behind → length (open_brackets ls) ≢ o.flow_nesting_limit
+  opener_nests b behind s e =
+      let l : Lexeme = record { kind = open_kind b; source = record { start = mark_at x i; end = mark_at x (i + 1) } } in
+      let is : IsLexeme x i l (opener_char b ∷ []) behind = record { stands = s; spells = opener_spells b; begins = opener_begins x i b; source = refl } in
+      let f = lexeme_follows reached is r.reached in
+      let n = nested_front o.flow_nesting_limit nothing_before ls l f.0 (subst (NestsWithin o.flow_nesting_limit nothing_before) f.1 r.nests) in
+      let more = opener_behind b (mark_at x i) (open_brackets ls) in
+      absurd (omega (arith, n, more, e))
+
+-- ---- a cause and a reading don't stand together
+
+pub not_unclosed : (x : List ℕ) (opener : ℕ) (m : Mark) → Unclosed x opener m → (o : OptionsData) (all : List Lexeme) (ds : Documents) → Reading o x all ds → ⊥
+not_unclosed x opener m c o all ds r = let e = closed_there x c.before c.at c.reached o all ds r c.meets in let f = c.opens in cc
+
+pub not_too_deep : (o : OptionsData) (x : List ℕ) (m : Mark) → TooDeep o x m → (all : List Lexeme) (ds : Documents) → Reading o x all ds → ⊥
+not_too_deep o x m c all ds r = opener_nests x c.before c.at c.reached o all ds r c.bracket c.behind c.opener c.full
+
+pub not_refused : (x : List ℕ) (ls : List Lexeme) (i : ℕ) → ReachedTo x ls i → NotTaken x ls i → (o : OptionsData) (all : List Lexeme) (ds : Documents) → Reading o x all ds → ⊥
+not_refused x ls i reached n o all ds r = not_taken x ls i reached o all ds r n

@@ -1,0 +1,11 @@
+use Rattle.granit_laws.proofs.Places.{mark_is, start_is, step_counts}
+use Rattle.granit_laws.proofs.readings.the_kept_place_is_counted.Goals as goal
+
+pub returns-clause-start : goal.returns-clause-start
+returns-clause-start c = start_is
+
+pub returns-clause-step : goal.returns-clause-step
+returns-clause-step c = step_counts
+
+pub returns-clause-mark : goal.returns-clause-mark
+returns-clause-mark c = mark_is
