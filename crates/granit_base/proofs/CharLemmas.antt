@@ -1,5 +1,5 @@
 -- The bytes of a text and its characters.
-use Rattle.std.proofs.Common.{◌≡◌, ℕ, zero, suc, ◌+◌, ◌-◌, ◌*◌, ◌≤◌, ◌==◌, List, [], ◌∷◌, ◌++◌, length, refl, sym, ap, ◌∙◌, arith, Option, Some, None}
+use Rattle.std.proofs.Common.{◌≡◌, ℕ, zero, suc, ◌+◌, ◌-◌, ◌*◌, ◌≤◌, ◌==◌, nat_eq, List, [], ◌∷◌, ◌++◌, length, refl, sym, ap, ◌∙◌, arith, Option, Some, None}
 use Rattle.std.specs.Str.{chars, chars_after, continuation_len, lead_bits, IsUtf8, encode_utf8_all}
 use Rattle.std.specs.List.{slice_get, slice_index}
 use Rattle.std.specs.Option.{unwrap_or, option_map}
@@ -8,6 +8,8 @@ use Rattle.std.proofs.lemmas.Str.{length-le-encodes, encodes-chars, chars-append
 use Rattle.std.proofs.lemmas.List.{append-nil}
 use Rattle.std.proofs.lemmas.Bool.Decides.{nat_tests}
 use Rattle.std.proofs.lemmas.Option.{unwrap_or-slice_get}
+use Rattle.std.proofs.lemmas.Bool.Decides.{same_from_decides}
+use Rattle.std.specs.Cmp.Lexicographic.{pointwise, bytes_decides}
 
 after_len : (n c : ℕ) (bs : List ℕ) → length (chars_after n c bs) ≤ suc (length bs)
 after_len zero c [] = omega arith
@@ -43,3 +45,10 @@ one_char c s = chars_past_char (encode_utf8 c) [] c (IsUtf8-encode c s) (sym (ap
 -- one more character
 pub chars_push : (bs : List ℕ) (c : ℕ) → IsUtf8 bs → IsScalar c → chars (bs ++ encode_utf8 c) ≡ chars bs ++ c ∷ []
 chars_push bs c u s = chars-append bs (encode_utf8 c) u ∙ ap (λ (cs : List ℕ). chars bs ++ cs) (one_char c s)
+
+-- two texts have the same bytes exactly where they have the same characters
+pub same_spelling : (xs ys : List ℕ) → IsUtf8 xs → IsUtf8 ys → pointwise nat_eq xs ys ≡ pointwise nat_eq (chars xs) (chars ys)
+same_spelling xs ys u v =
+    let one = bytes_decides xs ys in
+    let two = bytes_decides (chars xs) (chars ys) in
+    same_from_decides _ _ one (λ e. sym (encodes-chars xs u) ∙ ap encode_utf8_all (two.0 e) ∙ encodes-chars ys v, λ e. two.1 (ap chars e))

@@ -1,5 +1,5 @@
 -- The classes of characters, as tests on code points (YAML 1.2.2, chapter 5).
-use Rattle.std.specs.Prelude.{ℕ, Bool, ◌==◌, ◌||◌, ◌&&◌, not, nat_le}
+use Rattle.std.specs.Prelude.{ℕ, Bool, ◌==◌, ◌||◌, ◌&&◌, ◌-◌, ◌+◌, not, if◌then◌else◌, nat_le}
 
 abbrev pub is_within : ℕ → ℕ → ℕ → Bool
 is_within low high c = nat_le low c && nat_le c high
@@ -29,6 +29,10 @@ is_digit c = is_within 0x30 0x39 c
 -- a hexadecimal digit (5.6)
 unfoldable pub is_hex : ℕ → Bool
 is_hex c = (is_digit c || is_within 0x41 0x46 c) || is_within 0x61 0x66 c
+
+-- the value of a hexadecimal digit, whose letters `A` and `a` are ten
+unfoldable pub hex_value : ℕ → ℕ
+hex_value c = if is_digit c then c - 0x30 else if is_within 0x41 0x46 c then 10 + (c - 0x41) else 10 + (c - 0x61)
 
 -- a letter, a digit or `-` (5.6)
 unfoldable pub is_word_char : ℕ → Bool

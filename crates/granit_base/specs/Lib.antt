@@ -1,4 +1,5 @@
 pub mod Classes
 pub mod Place
+pub mod Spans
 pub mod Texts
 pub mod Written

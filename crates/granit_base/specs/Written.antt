@@ -1,7 +1,10 @@
 -- What contracts see of a text.
 use Rattle.std.specs.Prelude.{ℕ, Bool, List, nat_eq, String}
 use Rattle.std.specs.declared.alloc.Global.{Global}
-use Rattle.std.specs.Str.{chars, encode_utf8_all}
+use Rattle.std.specs.Str.{chars}
+use Rattle.std.specs.Ordering.{nat_cmp}
+use Rattle.std.specs.Cmp.Lexicographic.{slice_cmp}
+use Rattle.std.specs.declared.cmp.Ordering.{Ordering}
 use Rattle.std.specs.String.{string_bytes}
 use lib.Pointwise.{pointwise}
 
@@ -10,9 +13,17 @@ pub record Written : Type 0 where
   pub characters : List ℕ
   pub is_borrowed : Bool
 
--- Two texts are equal where their characters are: each character has one spelling in UTF-8.
+-- two texts are equal where their characters are
 abbrev pub same_characters : Written → Written → Bool
-same_characters a b = pointwise nat_eq (encode_utf8_all a.characters) (encode_utf8_all b.characters)
+same_characters a b = pointwise nat_eq a.characters b.characters
+
+-- lists of texts are equal where their texts are, one by one
+abbrev pub same_texts : List Written → List Written → Bool
+same_texts = pointwise same_characters
+
+-- the order of the first characters that differ
+abbrev pub order_of_characters : Written → Written → Ordering
+order_of_characters a b = slice_cmp nat_cmp a.characters b.characters
 
 -- the characters of a `String`
 abbrev pub string_chars : String Global → List ℕ

@@ -1,5 +1,7 @@
 //! The classes of characters.
-ghost use Rattle.std.specs.Prelude.{◌≡◌};
+ghost use Rattle.std.specs.Prelude.{◌≡◌, IsTrue, not};
+ghost use Rattle.std.specs.List.{find};
+ghost use Rattle.std.specs.Str.{chars};
 ghost use Rattle.granit_base.specs.Classes as class;
 
 /// NUL.
@@ -160,4 +162,25 @@ pub fn is_tag_char(c: char) -> bool
     ensures { result ≡ class.is_tag_char c }
 {
     is_uri_char(c) && !(is_flow(c) || c == '!')
+}
+
+/// The value of a hexadecimal digit, 0 to 15.
+#[tactic(auto, unfolding(crate::specs::Classes::is_hex, crate::specs::Classes::is_digit, crate::specs::Classes::hex_value))]
+pub fn as_hex(c: char) -> u32
+    requires { IsTrue (class.is_hex c) }
+    ensures { result ≡ class.hex_value c }
+{
+    let code = c as u32;
+    match c {
+        '0'..='9' => code - 0x30,
+        'A'..='F' => code - 0x37,
+        _ => code - 0x57,
+    }
+}
+
+/// The first character of a text that isn't printable (YAML 1.2.2, 5.1).
+pub fn find_non_printable(s: &str) -> Option<char>
+    ensures { result ≡ find (λ c. not (class.is_printable c)) (chars s.now) }
+{
+    s.chars().find(|c| !is_printable(*c))
 }

@@ -9,10 +9,13 @@ mod text;
 
 pub use chars::{is_at_end, nth_char, push_char, split_first_char};
 pub use classes::{
-    is_alpha, is_anchor_char, is_blank, is_blank_or_breakz, is_bom, is_break, is_breakz, is_digit,
-    is_flow, is_hex, is_printable, is_tag_char, is_uri_char, is_word_char, is_yaml_non_break,
-    is_yaml_non_space, is_z,
+    as_hex, find_non_printable, is_alpha, is_anchor_char, is_blank, is_blank_or_breakz, is_bom,
+    is_break, is_breakz, is_digit, is_flow, is_hex, is_printable, is_tag_char, is_uri_char,
+    is_word_char, is_yaml_non_break, is_yaml_non_space, is_z,
 };
 pub use place::{Marker, Span};
 pub use style::{Placement, ScalarStyle, StructureStyle};
 pub use text::{NoMemory, Text, TextList};
+
+#[cfg(test)]
+mod tests;

@@ -4,6 +4,8 @@ ghost use Rattle.std.specs.Str.{chars};
 ghost use Rattle.std.specs.Option.{option_copied};
 
 use std::alloc::{AllocError, AllocFailed, Global};
+use std::cmp::Ordering;
+use std::hash::{Hash, Hasher};
 use std::marker::Model;
 
 /// No memory was found.
@@ -101,17 +103,71 @@ impl<'a> Text<'a> {
 }
 
 impl<'a> PartialEq for Text<'a> {
-    ghost use Rattle.std.specs.Str.{encode_utf8_all};
     ghost use Rattle.std.specs.Cmp.{on_per, partial_equiv_from_equiv};
     ghost use Rattle.std.proofs.lemmas.Cmp.{nat_list_eq_equiv};
     ghost use Rattle.granit_base.specs.Written.{same_characters};
 
     ghost eq = { same_characters };
 
-    ghost laws = { on_per (λ t. encode_utf8_all t.characters) (partial_equiv_from_equiv nat_list_eq_equiv) };
+    ghost laws = { on_per (λ t. t.characters) (partial_equiv_from_equiv nat_list_eq_equiv) };
 
     fn eq(&self, other: &Text<'a>) -> bool {
         self.as_str() == other.as_str()
+    }
+}
+
+impl<'a> Eq for Text<'a> {
+    ghost use Rattle.std.proofs.lemmas.Cmp.{on_equiv, nat_list_eq_equiv};
+
+    ghost laws = { on_equiv (λ t. t.characters) nat_list_eq_equiv };
+}
+
+impl<'a> PartialOrd for Text<'a> {
+    ghost use Rattle.std.specs.Prelude.{Some};
+    ghost use Rattle.std.specs.Cmp.{on_po};
+    ghost use Rattle.std.specs.Cmp.Lexicographic.{texts_po};
+    ghost use Rattle.granit_base.specs.Written.{order_of_characters};
+
+    ghost partial_cmp = { λ x y. Some (order_of_characters x y) };
+
+    ghost laws = { on_po (λ t. t.characters) texts_po };
+
+    fn partial_cmp(&self, other: &Text<'a>) -> Option<Ordering> {
+        Some(self.cmp(other))
+    }
+}
+
+impl<'a> Ord for Text<'a> {
+    ghost use Rattle.std.specs.Prelude.{refl};
+    ghost use Rattle.std.specs.Cmp.Lexicographic.{texts_ties};
+    ghost use Rattle.std.proofs.lemmas.Cmp.{on_total, nat_list_cmp_total};
+    ghost use Rattle.granit_base.specs.Written.{order_of_characters};
+
+    ghost cmp = { order_of_characters };
+
+    ghost total = { on_total (λ t. t.characters) nat_list_cmp_total };
+
+    ghost matches_partial_cmp = { λ x y. refl };
+
+    ghost matches_eq = { λ x y. texts_ties x.characters y.characters };
+
+    fn cmp(&self, other: &Text<'a>) -> Ordering {
+        self.as_str().chars().cmp(other.as_str().chars())
+    }
+}
+
+impl<'a> Hash for Text<'a> {
+    ghost use Rattle.std.proofs.Common.{rules};
+    ghost use Rattle.std.specs.Str.{encode_utf8_all};
+    ghost use Rattle.std.specs.Hash as fed;
+    ghost use Rattle.std.specs.Cmp.Rules.{hashing};
+
+    ghost hash_input = { λ t. fed.str (encode_utf8_all t.characters) };
+
+    ghost respects_eq = { Prim.search (hashing, rules) };
+
+    fn hash<H: Hasher>(&self, state: &mut H) {
+        self.as_str().hash(state);
     }
 }
 
@@ -174,10 +230,45 @@ impl TextList {
         self.texts.get(i)
     }
 
+    /// An equal list.
+    ///
+    /// # Errors
+    ///
+    /// `NoMemory` alone.
+    pub fn try_clone(&self, alloc: Global) -> Result<TextList, NoMemory>
+        ensures { IfOk result (λ l. l ≡ self.now) }
+    {
+        let mut list = TextList::new(alloc);
+        for text in self.as_slice() {
+            list.push(text.try_clone(alloc)?)?;
+        }
+        Ok(list)
+    }
+
     /// The texts in order.
     pub fn as_slice(&self) -> &[Text<'static>]
         ensures { result.now ≡ self.now }
     {
         self.texts.as_slice()
     }
+}
+
+impl PartialEq for TextList {
+    ghost use Rattle.std.specs.Cmp.{on_per, partial_equiv_from_equiv};
+    ghost use Rattle.std.proofs.lemmas.Cmp.{on_equiv, lists_equiv, nat_list_eq_equiv};
+    ghost use Rattle.granit_base.specs.Written.{same_texts};
+
+    ghost eq = { same_texts };
+
+    ghost laws = { partial_equiv_from_equiv (lists_equiv (on_equiv (λ t. t.characters) nat_list_eq_equiv)) };
+
+    fn eq(&self, other: &TextList) -> bool {
+        self.texts == other.texts
+    }
+}
+
+impl Eq for TextList {
+    ghost use Rattle.std.proofs.lemmas.Cmp.{on_equiv, lists_equiv, nat_list_eq_equiv};
+
+    ghost laws = { lists_equiv (on_equiv (λ t. t.characters) nat_list_eq_equiv) };
 }

@@ -3,3 +3,4 @@ pub mod Kinds
 pub mod OptionsData
 pub mod OptionsView
 pub mod Refused
+pub mod SameFault

@@ -2,9 +2,17 @@
 #![tactic(auto)]
 
 mod error;
+mod info;
+mod io;
 mod kind;
 mod options;
+mod parts;
+mod words;
 
 pub use error::ScanError;
+pub use io::InputIoError;
 pub use kind::ErrorKind;
 pub use options::Options;
+
+#[cfg(test)]
+mod tests;

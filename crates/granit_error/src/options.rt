@@ -1,4 +1,17 @@
 //! How a text is read.
+
+/// The default options with the fields set that are listed, as
+/// `options!(flow_nesting_limit: 7, emit_comments: false)`.
+#[macro_export]
+macro_rules! options {
+    ($($field:ident: $value:expr),* $(,)?) => {
+        $crate::Options {
+            $($field: $value,)*
+            ..<$crate::Options as Default>::default()
+        }
+    };
+}
+
 /// What may be said of how a text is read, and the limits of reading. Its default is what the
 /// `options!` macro begins with.
 #[derive(Clone, Copy, Debug, PartialEq, Eq)]

@@ -235,10 +235,10 @@ module _ (o : OptionsData) (x : List ℕ) where
   }
 
   why_fault : (ls : List Lexeme) (i : ℕ) (b : Before) (es : List PlainEvent) (fs : Path) (kind : FaultKind) (m : Mark) → Kept o x ls i b es fs → FindsFault o x i b kind m → Why o x kind m
-  why_fault ls i b es fs NoMemory m k f = absurd f
   why_fault ls i b es fs (UnclosedFlowCollection opener) m k f = why_unclosed ls i b es fs opener m k f
   why_fault ls i b es fs RecursionLimitExceeded m k f = why_deep ls i b es fs m k f
   why_fault ls i b es fs NotBuilt m k f = why_refused ls i b es fs m k f
+  why_fault ls i b es fs kind m k f = absurd f
 
   -- ---- the end of the text
 

@@ -60,10 +60,10 @@ pub record StrangeAt (x : List ℕ) (j : ℕ) (os : List Opener) (m : Mark) : Ty
   pub marks : m ≡ mark_at x j
 
 abbrev pub FaultAt : OptionsData → List ℕ → ℕ → List Opener → FaultKind → Mark → Type 0
-FaultAt o x j os NoMemory m = ⊥
 FaultAt o x j os (UnclosedFlowCollection opener) m = UnclosedAt x j os opener m
 FaultAt o x j os RecursionLimitExceeded m = TooDeepAt o x j os m
 FaultAt o x j os NotBuilt m = StrangeAt x j os m
+FaultAt o x j os _ m = ⊥
 
 abbrev pub ReadsAt : OptionsData → List ℕ → ℕ → List Opener → Read → Type 0
 ReadsAt o x j os (Ok (Some l, s)) = FoundAt o x j os l s
@@ -281,7 +281,6 @@ module _ (o : OptionsData) (x : List ℕ) (i : ℕ) (b : Before) (g : List ℕ) 
   why_at (foreign_at f) = foreign f
 
   fault_reads : (k : FaultKind) (m : Mark) → FaultAt o x (i + length g) b.openers k m → FindsFault o x i b k m
-  fault_reads NoMemory m r = r
   fault_reads (UnclosedFlowCollection opener) m r = record {
     gap = g;
     behind = c ∷ t;
@@ -315,6 +314,7 @@ module _ (o : OptionsData) (x : List ℕ) (i : ℕ) (b : Before) (g : List ℕ) 
     unmarked = λ q. r.unmarked;
     marks = r.marks;
   }
+  fault_reads kind m r = absurd r
 
   from_there : (r : Read) → Parts b.owes_gap g → ReadsAt o x (i + length g) b.openers r → Reads o x i b r
   from_there (Ok (Some l, s)) q r = record {

@@ -101,10 +101,10 @@ pub record FindsStrange (x : List ℕ) (i : ℕ) (b : Before) (m : Mark) : Type 
 
 -- what is found where a fault of a kind is at a mark
 abbrev pub FindsFault : OptionsData → List ℕ → ℕ → Before → FaultKind → Mark → Type 0
-FindsFault o x i b NoMemory m = ⊥
 FindsFault o x i b (UnclosedFlowCollection opener) m = FindsUnclosed x i b opener m
 FindsFault o x i b RecursionLimitExceeded m = FindsTooDeep o x i b m
 FindsFault o x i b NotBuilt m = FindsStrange x i b m
+FindsFault o x i b _ m = ⊥
 
 -- what is found where the reader gives this
 abbrev pub Reads : OptionsData → List ℕ → ℕ → Before → Read → Type 0

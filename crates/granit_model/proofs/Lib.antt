@@ -1,0 +1,3 @@
+pub mod HereLemmas
+pub mod PieceLemmas
+pub mod SizeLemmas

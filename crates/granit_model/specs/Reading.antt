@@ -5,7 +5,9 @@ use Rattle.granit_error.specs.OptionsData.{OptionsData}
 use Rattle.granit_model.specs.Lexeme.{Lexeme, LexemeKind, SequenceOpen, SequenceClose, MappingOpen, MappingClose, wants_gap, Square, Curly, Opener}
 use Rattle.granit_model.specs.Gap.{StandsAt, IsGap, Parts}
 use Rattle.granit_model.specs.Extent.{IsLexeme}
+use Rattle.granit_model.specs.Events.{events}
 use Rattle.granit_model.specs.Node.{Documents}
+use Rattle.granit_model.specs.PlainEvent.{PlainEvent}
 use Rattle.granit_model.specs.Yield.{spell_documents}
 
 -- what the lexemes before a place say of it: the openers of the brackets that are open there, the innermost first, and
@@ -50,3 +52,7 @@ pub record Reading (o : OptionsData) (x : List ℕ) (lexemes : List Lexeme) (doc
   pub reached : Reached x nothing_before 0 lexemes (length x)
   pub spelled : spell_documents documents [] ≡ lexemes
   pub nests : NestsWithin o.flow_nesting_limit nothing_before lexemes
+
+-- these are the events of documents as which the text is read
+abbrev pub IsReading : OptionsData → List ℕ → List PlainEvent → Type 0
+IsReading o x es = (lexemes : List Lexeme) × (documents : Documents) × Reading o x lexemes documents × (es ≡ events x documents)

@@ -1,0 +1,14 @@
+use Rattle.std.proofs.Common.{◌≡◌, ◌∙◌, ap, refl}
+use Rattle.std.specs.Ordering.{nat_cmp}
+use Rattle.std.specs.Cmp.Lexicographic.{slice_cmp}
+use Rattle.std.proofs.lemmas.Iterator.{YieldsList-from_chars}
+use Rattle.std.proofs.lemmas.Iterator.Search.{cmp_from_yields_List}
+use Rattle.granit_base.proofs.text.TextOrd.cmp.Goals as goal
+
+pub returns : goal.returns
+returns c =
+    let compared = cmp_from_yields_List (λ x y. y ≡ x) _ nat_cmp _ c.cmp.ensures.ran
+    (YieldsList-from_chars c.as_str.result.now c.as_str.utf8 c.chars.ensures.rest)
+    (λ it e. YieldsList-from_chars c.as_str-2.result.now c.as_str-2.utf8 (ap (λ k. k.rest.now) e ∙ c.chars-2.ensures.rest))
+    (λ x y. refl) in
+    rw (← c.as_str.ensures, ← c.as_str-2.ensures) compared

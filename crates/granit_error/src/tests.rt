@@ -1,0 +1,202 @@
+//! What no clause says: printed texts at concrete values, and each call once.
+use crate::{ErrorKind, InputIoError, Options, ScanError};
+use granit_base::{Marker, NoMemory, Text, TextList};
+use std::alloc::{AllocError, AllocFailed, Global};
+use std::hash::{DefaultHasher, Hash, Hasher};
+use std::io;
+use std::test::Fail;
+
+#[test]
+fn kinds_print_their_words(rt: HostRuntime) -> Result<(), Fail> {
+    let kinds = [
+        (ErrorKind::NoMemory, 1, "out of memory"),
+        (
+            ErrorKind::UnclosedFlowCollection { opener: '{' },
+            2,
+            "unclosed bracket '{'",
+        ),
+        (
+            ErrorKind::FlowMappingValueAdjacentCollection,
+            8,
+            "':' may not precede any of `[{` in flow mapping",
+        ),
+        (
+            ErrorKind::DirectiveByteLimitExceeded { limit: 1024 },
+            17,
+            "directive exceeds the configured limit of 1024 bytes",
+        ),
+        (
+            ErrorKind::UnexpectedCharacter { character: '\t' },
+            76,
+            "unexpected character: `\\t'",
+        ),
+        (
+            ErrorKind::UnexpectedCharacter { character: 'é' },
+            76,
+            "unexpected character: `\\u{e9}'",
+        ),
+        (
+            ErrorKind::InputDecoding {
+                message: Text::borrowed("é"),
+            },
+            79,
+            "input decoding error: é",
+        ),
+        (ErrorKind::Custom(Text::borrowed("mine")), 81, "mine"),
+        (
+            ErrorKind::MissingIncludeResolver,
+            84,
+            "No include resolver set for parser stack.",
+        ),
+        (ErrorKind::NotBuilt, 96, "not built yet"),
+    ];
+    for (kind, number, words) in &kinds {
+        assert_eq!(rt; kind.number(), *number);
+        assert_eq!(rt; kind.to_string(rt.alloc())?.as_str(), *words);
+        assert_eq!(rt; kind.try_clone(rt.alloc())? == *kind, true);
+    }
+    Ok(())
+}
+
+fn hash_of(kind: &ErrorKind) -> u64 {
+    let mut state = DefaultHasher::new();
+    kind.hash(&mut state);
+    state.finish()
+}
+
+#[test]
+fn kinds_are_equal_by_their_parts(rt: HostRuntime) -> Result<(), Fail> {
+    let own = Text::owned(String::from_str(rt.alloc(), "a")?);
+    let message = Text::borrowed("a");
+    let kinds = [
+        (ErrorKind::Custom(Text::borrowed("a")), true),
+        (ErrorKind::Custom(own), true),
+        (ErrorKind::Custom(Text::borrowed("b")), false),
+        (ErrorKind::InputDecoding { message }, false),
+        (ErrorKind::UnexpectedEof, false),
+    ];
+    for (kind, is_same) in &kinds {
+        assert_eq!(rt; *kind == kinds[0].0, *is_same);
+        assert_eq!(rt; hash_of(kind) == hash_of(&kinds[0].0), *is_same);
+    }
+    Ok(())
+}
+
+fn mismatched() -> ScanError {
+    let kind = ErrorKind::MismatchedFlowCollectionEnd {
+        opener: '[',
+        closer: '}',
+    };
+    ScanError::from_kind(Marker::new(3, 2, 1), kind)
+}
+
+/// Whether `info` gives those words, and Display the same and that place behind them, both for
+/// the error and for a clone of it.
+fn prints(alloc: Global, error: &ScanError, words: &str, place: &str) -> Result<bool, NoMemory> {
+    let info = error.info(alloc)?;
+    let printed = error.to_string(alloc)?;
+    let copy = error.try_clone(alloc)?;
+    Ok(
+        info.as_str() == words
+            && printed.as_str().strip_prefix(words) == Some(place)
+            && copy == *error,
+    )
+}
+
+fn prints_below(alloc: Global, names: &[&'static str], words: &str) -> Result<bool, NoMemory> {
+    let mut stack = TextList::new(alloc);
+    for name in names {
+        stack.push(Text::borrowed(name))?;
+    }
+    let error = mismatched().with_source_stack(stack);
+    if error.source_stack().len() != names.len() {
+        return Ok(false);
+    }
+    prints(alloc, &error, words, " at char 3 line 2 column 2")
+}
+
+#[test]
+fn errors_print_words_sources_and_place(rt: HostRuntime) -> Result<(), Fail> {
+    let words = "mismatched bracket '[' closed by '}'";
+    assert_eq!(rt; prints_below(rt.alloc(), &[], words)?, true);
+    assert_eq!(rt; prints_below(rt.alloc(), &["a.yaml"], words)?, true);
+    let below = "mismatched bracket '[' closed by '}'\nwhile parsing a -> b -> c";
+    assert_eq!(rt; prints_below(rt.alloc(), &["a", "b", "c"], below)?, true);
+    Ok(())
+}
+
+fn silent(alloc: Global) -> Result<bool, NoMemory> {
+    let mut names = TextList::new(alloc);
+    names.push(Text::borrowed("a.yaml"))?;
+    names.push(Text::borrowed("b.yaml"))?;
+    let loc = Marker::new(0, 1, usize::MAX);
+    let error = ScanError::new(loc, Text::borrowed("")).with_source_stack(names);
+    if *error.marker() != loc || error.kind().number() != 81 {
+        return Ok(false);
+    }
+    prints(
+        alloc,
+        &error,
+        "",
+        " at char 0 line 1 column 18446744073709551615",
+    )
+}
+
+#[test]
+fn an_error_without_words_names_no_sources(rt: HostRuntime) -> Result<(), Fail> {
+    assert_eq!(rt; silent(rt.alloc())?, true);
+    Ok(())
+}
+
+fn is_failed_input(error: ScanError, message: &str) -> bool {
+    match error.try_into_input_io_error() {
+        Ok(error) => error.message() == message,
+        Err(_) => false,
+    }
+}
+
+#[test]
+fn failed_inputs_keep_their_message(rt: HostRuntime) -> Result<(), Fail> {
+    let words = "No such file or directory (os error 2)";
+    let missing = io::Error::from_raw_os_error(2);
+    let error = InputIoError::from_io(rt.alloc(), &missing)?;
+    assert_eq!(rt; error.message(), words);
+    assert_eq!(rt;
+        error == InputIoError::from_message(Text::borrowed(words)),
+        true
+    );
+    let copy = error.try_clone(rt.alloc())?;
+    assert_eq!(rt; copy.to_string(rt.alloc())?.as_str(), words);
+    let error = ScanError::from_kind(Marker::new(0, 1, 0), ErrorKind::InputIo { error });
+    assert_eq!(rt; is_failed_input(error, words), true);
+    assert_eq!(rt; is_failed_input(mismatched(), words), false);
+    Ok(())
+}
+
+fn number_of(error: ScanError) -> u8 {
+    error.kind().number()
+}
+
+#[test]
+fn want_of_memory_is_an_error(rt: HostRuntime) {
+    assert_eq!(rt; number_of(ScanError::from(NoMemory)), 1);
+    assert_eq!(rt; number_of(ScanError::from(AllocError)), 1);
+    let refused = AllocFailed { value: 7u8 };
+    assert_eq!(rt; number_of(ScanError::from(refused)), 1);
+}
+
+#[test]
+fn options_begin_with_the_defaults(rt: HostRuntime) {
+    let mut set = crate::options!(flow_nesting_limit: 7, emit_comments: false);
+    assert_eq!(rt; set.flow_nesting_limit, 7);
+    assert_eq!(rt; set.emit_comments, false);
+    assert_eq!(rt; set.max_buffered_comment_events, 96);
+    assert_eq!(rt; set.simple_key_max_lookahead, 1024);
+    assert_eq!(rt; set.block_nesting_limit, 255);
+    assert_eq!(rt; set.max_directive_bytes, 1024);
+    assert_eq!(rt; set.max_reserved_directive_params, 16);
+    set.set_emit_comments(true);
+    assert_eq!(rt; set == crate::options!(flow_nesting_limit: 7), true);
+    assert_eq!(rt; crate::options!() == Options::default(), true);
+    assert_eq!(rt; Options::default().strict_indentation, false);
+}

@@ -1,0 +1,4 @@
+pub mod ChunkLemmas
+pub mod GapLemmas
+pub mod PushedLemmas
+pub mod LoadLemmas

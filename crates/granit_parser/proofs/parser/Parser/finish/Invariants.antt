@@ -1,0 +1,15 @@
+use Rattle.std.proofs.Common.{◌≡◌}
+use Rattle.granit_error.specs.OptionsView.{options_of}
+use Rattle.granit_model.specs.Machine.{size, turn}
+use Rattle.granit_model.specs.Pieces.{with_front, pieces}
+use Rattle.granit_parser.specs.Events.{plain_events}
+use Rattle.granit_parser.proofs.parser.Parser.finish.Given as goal
+
+-- what is left to be read belongs behind what was gathered
+abbrev pub invariant-turns : goal.invariant-turns
+invariant-turns l =
+    with_front (plain_events l.events.items) (pieces size (turn (options_of l.options)) l.self)
+    ≡ with_front (plain_events l.initial.events.items) (pieces size (turn (options_of l.options)) l.initial.self)
+
+abbrev pub decreases-turns : goal.decreases-turns
+decreases-turns l = size l.self

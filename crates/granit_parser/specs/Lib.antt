@@ -1,0 +1,5 @@
+pub mod Chunks
+pub mod Events
+pub mod Lexemes
+pub mod Paths
+pub mod Pushed

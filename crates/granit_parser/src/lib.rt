@@ -1,0 +1,17 @@
+//! A parser of YAML 1.2 that gives the events of a text.
+#![tactic(auto)]
+
+mod chunk;
+mod cursor;
+mod event;
+mod glyph;
+mod lexeme;
+mod load;
+mod parser;
+mod path;
+mod scanner;
+#[cfg(test)]
+mod tests;
+
+pub use event::Event;
+pub use load::{Events, load_str};

@@ -1,0 +1,90 @@
+//! The parser: the events of one lexeme after another.
+ghost use Rattle.std.specs.Prelude.{◌≡◌, [], false};
+ghost use Rattle.std.specs.Str.{chars};
+ghost use Rattle.granit_error.specs.OptionsView.{options_of};
+ghost use Rattle.granit_model.specs.Here as here;
+ghost use Rattle.granit_model.specs.Machine as spec;
+ghost use Rattle.granit_model.specs.Pieces.{pieces};
+ghost use Rattle.granit_parser.specs.Events.{plain_events};
+ghost use Rattle.granit_parser.specs.Pushed.{Pushed, Turned};
+
+use crate::event::Event;
+use crate::path::{Frame, step_on};
+use crate::scanner::Scanner;
+use granit_base::{Marker, Span};
+use granit_error::{Options, ScanError};
+use std::alloc::Global;
+use std::marker::Model;
+
+/// A reader, and the path of the nodes that are unfinished where it stands, the innermost last.
+#[derive(Drop)]
+pub(crate) struct Parser<'a> {
+    scanner: Scanner<'a>,
+    path: Vec<Frame>,
+}
+
+impl<'a> Model for Parser<'a> {
+    ghost use Rattle.granit_model.specs.Machine.{MachineState};
+
+    ghost Value = { MachineState };
+
+    ghost use Rattle.granit_parser.specs.Paths.{path_view};
+
+    ghost view = { λ p. record { reader = p.scanner; path = path_view p.path.items } };
+}
+
+impl<'a> Parser<'a> {
+    /// At the start of a string.
+    pub(crate) fn new(alloc: Global, text: &'a str) -> Parser<'a>
+        ensures { result ≡ spec.machine_start (here.start_of (chars text.now)) }
+    {
+        Parser {
+            scanner: Scanner::new(alloc, text),
+            path: Vec::new(alloc),
+        }
+    }
+
+    /// The place up to which was read.
+    pub(crate) fn mark(&self) -> Marker
+        ensures { result ≡ here.mark_of self.now.reader.here }
+    {
+        self.scanner.mark()
+    }
+
+    /// One lexeme, whose events are appended, or the end: whether there may be more.
+    #[tactic(auto, unfolding(granit_model::specs::Machine::turn))]
+    pub(crate) fn turn(
+        &mut self,
+        options: &Options,
+        events: &mut Vec<(Event<'a>, Span)>,
+    ) -> Result<bool, ScanError>
+        ensures { Turned result self.new (plain_events events.old.items) (plain_events events.new.items) (spec.turn (options_of options.now) self.old) }
+    {
+        match self.scanner.next_lexeme(options) {
+            Err(e) => Err(e),
+            Ok(None) => {
+                if self.path.is_empty() {
+                    Ok(false)
+                } else {
+                    Err(self.scanner.not_built())
+                }
+            }
+            Ok(Some(lexeme)) => {
+                step_on(&mut self.path, lexeme, events)?;
+                Ok(true)
+            }
+        }
+    }
+
+    /// All lexemes to the end, whose events are appended.
+    pub(crate) fn finish(
+        &mut self,
+        options: &Options,
+        events: &mut Vec<(Event<'a>, Span)>,
+    ) -> Result<(), ScanError>
+        ensures { Pushed result self.new (plain_events events.old.items) (plain_events events.new.items) (pieces spec.size (spec.turn (options_of options.now)) self.old) }
+    {
+        'turns: while self.turn(options, events)? {}
+        Ok(())
+    }
+}

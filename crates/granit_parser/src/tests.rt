@@ -1,0 +1,167 @@
+use super::*;
+use granit_base::{ScalarStyle, StructureStyle};
+use granit_error::{Options, ScanError};
+use std::test::*;
+
+fn read<'a>(rt: &HostRuntime, text: &'a str) -> Result<Events<'a>, ScanError> {
+    load_str(rt.alloc(), text, Options::default())
+}
+
+/// The number of the fault, and how many characters stand before it.
+fn fault(rt: &HostRuntime, text: &str) -> Option<(u8, usize)> {
+    let refused = read(rt, text).err()?;
+    Some((refused.kind().number(), refused.marker().index()))
+}
+
+/// The places before and behind the event behind `i` others: characters, line, column, bytes.
+type Places = ((usize, usize, usize, usize), (usize, usize, usize, usize));
+
+fn places(rt: &HostRuntime, text: &str, i: usize) -> Option<Places> {
+    let events = read(rt, text).ok()?;
+    let (_, span) = events.get(i)?;
+    let (a, b) = (span.start, span.end);
+    Some((
+        (a.index(), a.line(), a.col(), a.byte_offset()?),
+        (b.index(), b.line(), b.col(), b.byte_offset()?),
+    ))
+}
+
+/// The letter of an event.
+fn letter(event: &Event<'_>) -> char {
+    match event {
+        Event::StreamStart => 'S',
+        Event::StreamEnd => 's',
+        Event::DocumentStart(true) => 'D',
+        Event::DocumentStart(false) => 'I',
+        Event::DocumentEnd => 'd',
+        Event::Scalar(_, ScalarStyle::DoubleQuoted) => '"',
+        Event::Scalar(_, _) => '?',
+        Event::SequenceStart(StructureStyle::Flow) => '[',
+        Event::SequenceStart(StructureStyle::Block) => '?',
+        Event::SequenceEnd => ']',
+        Event::MappingStart(StructureStyle::Flow) => '{',
+        Event::MappingStart(StructureStyle::Block) => '?',
+        Event::MappingEnd => '}',
+    }
+}
+
+fn letter_at(rt: &HostRuntime, text: &str, i: usize) -> Option<char> {
+    let events = read(rt, text).ok()?;
+    let (event, _) = events.get(i)?;
+    Some(letter(event))
+}
+
+/// Whether the event behind `i` others is a borrowed scalar of that value.
+fn lends(rt: &HostRuntime, text: &str, i: usize, value: &str) -> Option<bool> {
+    let events = read(rt, text).ok()?;
+    match events.get(i)? {
+        (Event::Scalar(scalar, _), _) => Some(scalar.is_borrowed() && scalar.as_str() == value),
+        _ => None,
+    }
+}
+
+#[test]
+fn events_of_a_pair(rt: HostRuntime) {
+    let pair = "--- {? \"a\" : \"b\"}\n";
+    let events = [
+        ('S', 0, 0),
+        ('D', 0, 3),
+        ('{', 4, 5),
+        ('"', 7, 10),
+        ('"', 13, 16),
+        ('}', 16, 17),
+        ('d', 17, 17),
+    ];
+    for i in 0..7 {
+        let (letter, start, end) = events[i];
+        assert_eq!(rt; letter_at(&rt, pair, i), Some(letter));
+        assert_eq!(rt;
+            places(&rt, pair, i),
+            Some(((start, 1, start, start), (end, 1, end, end)))
+        );
+    }
+    assert_eq!(rt; letter_at(&rt, pair, 7), Some('s'));
+    assert_eq!(rt;
+        places(&rt, pair, 7),
+        Some(((18, 2, 0, 18), (18, 2, 0, 18)))
+    );
+    assert_eq!(rt; lends(&rt, pair, 3, "a"), Some(true));
+    assert_eq!(rt; lends(&rt, pair, 4, "b"), Some(true));
+    // between the two events of an empty stream there is none
+    assert_eq!(rt; letter_at(&rt, "", 1), Some('s'));
+}
+
+#[test]
+fn places_behind_wide_characters_and_breaks(rt: HostRuntime) {
+    // characters of two, three and four bytes
+    let wide = "--- [\"\u{e4}\" , \"\u{20ac}\" , \"\u{1f600}\"]";
+    // LF, CR and CR LF each end one line
+    let breaks = "---\n\"a\"\r--- \r\n\"b\"\r\r\n";
+    let cases = [
+        (wide, 3, (5, 1, 5, 5), (8, 1, 8, 9)),
+        (wide, 4, (11, 1, 11, 12), (14, 1, 14, 17)),
+        (wide, 5, (17, 1, 17, 20), (20, 1, 20, 26)),
+        (breaks, 2, (4, 2, 0, 4), (7, 2, 3, 7)),
+        (breaks, 4, (8, 3, 0, 8), (11, 3, 3, 11)),
+        (breaks, 5, (14, 4, 0, 14), (17, 4, 3, 17)),
+        (breaks, 7, (20, 6, 0, 20), (20, 6, 0, 20)),
+    ];
+    for i in 0..7 {
+        let (text, event, start, end) = cases[i];
+        assert_eq!(rt; places(&rt, text, event), Some((start, end)));
+    }
+    assert_eq!(rt; lends(&rt, wide, 5, "\u{1f600}"), Some(true));
+}
+
+/// So many openers, then so many closers.
+fn nested(rt: &HostRuntime, openers: usize, closers: usize) -> Option<String> {
+    let mut text = String::from_str(rt.alloc(), "--- ").ok()?;
+    for i in 0..openers.checked_add(closers)? {
+        text.push(if i < openers { '[' } else { ']' }).ok()?;
+    }
+    Some(text)
+}
+
+fn nested_fault(rt: &HostRuntime, openers: usize, closers: usize) -> Option<(u8, usize)> {
+    let text = nested(rt, openers, closers)?;
+    fault(rt, text.as_str())
+}
+
+fn nested_events(rt: &HostRuntime, depth: usize) -> Option<usize> {
+    let text = nested(rt, depth, depth)?;
+    let events = read(rt, text.as_str()).ok()?;
+    let all = events.as_slice().len();
+    if events.is_empty() || events.len() != all {
+        return None;
+    }
+    Some(events.into_vec().len())
+}
+
+#[test]
+fn faults(rt: HostRuntime) {
+    let refused = [
+        ("--- [\n", 2, 4),
+        ("--- [a]\n", 96, 5),
+        ("--- [\n---\n", 2, 4),
+        ("--- [\"a\"\n", 2, 4),
+        ("--- [[\n", 2, 5),
+        ("--- {? \"a\"}", 96, 10),
+        ("--- \"a", 96, 4),
+        ("---", 96, 3),
+        ("---x", 96, 3),
+        ("--- [}", 96, 5),
+        ("--- {?\"a\" : \"b\"}", 96, 6),
+        ("--- {? \"a\":\"b\"}", 96, 11),
+        ("--- \"a\"\"b\"", 96, 7),
+        ("--- [\"a\",]", 96, 9),
+        ("--- [\n...", 96, 6),
+        ("--- \"a\\n\"", 96, 4),
+        ("--- \"a\nb\"", 96, 4),
+    ];
+    for i in 0..17 {
+        let (text, kind, index) = refused[i];
+        assert_eq!(rt; fault(&rt, text), Some((kind, index)));
+    }
+    assert_eq!(rt; nested_fault(&rt, 256, 0), Some((5, 259)));
+    assert_eq!(rt; nested_events(&rt, 255), Some(514));
+}
