@@ -1,0 +1,41 @@
+-- What bytes call for, and how much of it was written.
+use Rattle.std.proofs.Common.{◌≡◌, ℕ, true, false, List, refl, ap}
+use Rattle.std.specs.Prelude.{Option, Result, Ok, Err}
+use Rattle.std.specs.Str.{IsUtf8}
+use Rattle.std.specs.Str.Lossy.{utf8_valid_len}
+use Rattle.std.specs.Io.KnownBytes.{Appends, Keeps}
+use Rattle.granit_error.specs.FaultKind.{FaultKind, NoMemory}
+use Rattle.granit_model.specs.Line.{event_lines, fault_line}
+use Rattle.granit_model.specs.Outcome.{Fault}
+use Rattle.granit_model.specs.PlainEvent.{PlainEvent}
+use Rattle.granit_events.specs.Ended.{Answers, machine_answer, not_utf8_line, is_no_memory}
+use Rattle.granit_events.specs.Output.{CutOutput, WholeOutput}
+use Rattle.granit_events.specs.Wrote.{WroteFront}
+use Rattle.granit_events.specs.declared.status.Status.TheVariants as status
+use Rattle.granit_events.proofs.Known.{nothing_is_front}
+
+pub cut_done : (text : List ℕ) (a b : Option (List ℕ)) (events : List PlainEvent) → IsUtf8 text → machine_answer text ≡ Ok events → WroteFront a b (event_lines events) → CutOutput (Answers text) a b
+cut_done text a b events u e w = record { wanted = status.Done; output = event_lines events; called = (u, (events, e, refl)); wrote = w }
+
+pub cut_fault : (text : List ℕ) (a b : Option (List ℕ)) (f : Fault) → IsUtf8 text → machine_answer text ≡ Err f → WroteFront a b (fault_line f) → CutOutput (Answers text) a b
+cut_fault text a b f u e w = record { wanted = status.Fault; output = fault_line f; called = (u, (f, e, refl)); wrote = w }
+
+pub whole_fault : (text : List ℕ) (a b : Option (List ℕ)) (f : Fault) → IsUtf8 text → machine_answer text ≡ Err f → Appends a b (fault_line f) → WholeOutput (Answers text) a b status.Fault
+whole_fault text a b f u e w = record { output = fault_line f; called = (u, (f, e, refl)); wrote = w }
+
+pub cut_not_utf8 : (bytes : List ℕ) (a b : Option (List ℕ)) (n : ℕ) → (IsUtf8 bytes → ⊥) → n ≡ utf8_valid_len bytes → WroteFront a b (not_utf8_line n) → CutOutput (Answers bytes) a b
+cut_not_utf8 bytes a b n u e w = record { wanted = status.NotUtf8; output = not_utf8_line n; called = (u, ap not_utf8_line e); wrote = w }
+
+pub whole_not_utf8 : (bytes : List ℕ) (a b : Option (List ℕ)) (n : ℕ) → (IsUtf8 bytes → ⊥) → n ≡ utf8_valid_len bytes → Appends a b (not_utf8_line n) → WholeOutput (Answers bytes) a b status.NotUtf8
+whole_not_utf8 bytes a b n u e w = record { output = not_utf8_line n; called = (u, ap not_utf8_line e); wrote = w }
+
+cut_some : (text : List ℕ) (a b : Option (List ℕ)) → IsUtf8 text → Keeps a b → (r : Result (List PlainEvent) Fault) → machine_answer text ≡ r → CutOutput (Answers text) a b
+cut_some text a b u k (Ok events) e = cut_done text a b events u e (nothing_is_front a b (event_lines events) k)
+cut_some text a b u k (Err f) e = cut_fault text a b f u e (nothing_is_front a b (fault_line f) k)
+
+-- nothing is written of what a text calls for
+pub cut_nothing : (text : List ℕ) (a b : Option (List ℕ)) → IsUtf8 text → Keeps a b → CutOutput (Answers text) a b
+cut_nothing text a b u k = cut_some text a b u k (machine_answer text) refl
+
+pub is_other : (k : FaultKind) → is_no_memory k ≡ false → k ≡ NoMemory → ⊥
+is_other k h e = let t : is_no_memory k ≡ true = ap is_no_memory e in cc

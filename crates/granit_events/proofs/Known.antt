@@ -1,0 +1,67 @@
+-- Known bytes, a piece at a time.
+use Rattle.std.proofs.Common.{◌≡◌, ℕ, zero, suc, ◌+◌, List, [], ◌∷◌, ◌++◌, take, drop, sym, ap, ◌∙◌, append_assoc, refl, arith}
+use Rattle.std.proofs.lemmas.List.{append-nil, take_all, take-append-drop}
+use Rattle.std.specs.Prelude.{Option, None, Some}
+use Rattle.std.specs.Io.KnownBytes.{Appends, Keeps}
+use Rattle.granit_events.specs.Wrote.{WroteFront}
+
+pub take-sum : (m n : ℕ) (xs : List ℕ) → take (m + n) xs ≡ take m xs ++ take n (drop m xs)
+take-sum zero n xs = let e : zero + n ≡ n = omega arith in rw e refl
+take-sum (suc m) n [] = take_all (suc m + n) [] (omega arith) ∙ sym (take_all n [] (omega arith))
+take-sum (suc m) n (x ∷ xs) =
+    let e : suc m + n ≡ suc (m + n) = omega arith in
+    rw e (ap (λ (ys : List ℕ). x ∷ ys) (take-sum m n xs))
+
+-- nothing is added where bytes are kept
+pub appends_nothing : (a b : Option (List ℕ)) → Keeps a b → Appends a b []
+appends_nothing None b k = tt
+appends_nothing (Some xs) None k = absurd k
+appends_nothing (Some xs) (Some ys) k = k ∙ sym (append-nil xs)
+
+pub keeps_itself : (a : Option (List ℕ)) → Keeps a a
+keeps_itself None = tt
+keeps_itself (Some xs) = refl
+
+pub appends_both : (a b c : Option (List ℕ)) (xs ys : List ℕ) → Appends a b xs → Appends b c ys → Appends a c (xs ++ ys)
+appends_both None b c xs ys p q = tt
+appends_both (Some xa) None c xs ys p q = absurd p
+appends_both (Some xa) (Some xb) None xs ys p q = absurd q
+appends_both (Some xa) (Some xb) (Some xc) xs ys p q = rw (q, p) (append_assoc xa xs ys)
+
+pub appends_then_keeps : (a b c : Option (List ℕ)) (xs : List ℕ) → Appends a b xs → Keeps b c → Appends a c xs
+appends_then_keeps a b c xs p k = rw append-nil at (appends_both a b c xs [] p (appends_nothing b c k))
+
+-- some bytes of an output were written, and then a write failed
+pub wrote_part : (a b c : Option (List ℕ)) (n : ℕ) (output : List ℕ) → Appends a b (take n output) → Keeps b c → WroteFront a c output
+wrote_part a b c n output p k = record {
+  front = take n output;
+  rest = drop n output;
+  parts = sym (take-append-drop n output);
+  wrote = appends_then_keeps a b c (take n output) p k;
+}
+
+-- some bytes of an output are written, and a front of the rest
+pub front_behind : (a b c : Option (List ℕ)) (xs ys : List ℕ) → Appends a b xs → WroteFront b c ys → WroteFront a c (xs ++ ys)
+front_behind a b c xs ys p w = record {
+  front = xs ++ w.front;
+  rest = w.rest;
+  parts = ap (λ (zs : List ℕ). xs ++ zs) w.parts ∙ sym (append_assoc xs w.front w.rest);
+  wrote = appends_both a b c xs w.front p w.wrote;
+}
+
+-- a front of a front is a front
+pub front_of_front : (a b : Option (List ℕ)) (xs ys : List ℕ) → WroteFront a b xs → WroteFront a b (xs ++ ys)
+front_of_front a b xs ys w = record {
+  front = w.front;
+  rest = w.rest ++ ys;
+  parts = ap (λ (zs : List ℕ). zs ++ ys) w.parts ∙ append_assoc w.front w.rest ys;
+  wrote = w.wrote;
+}
+
+-- all that was written is a front of more
+pub whole_is_front : (a b : Option (List ℕ)) (xs ys : List ℕ) → Appends a b xs → WroteFront a b (xs ++ ys)
+whole_is_front a b xs ys p = record { front = xs; rest = ys; parts = refl; wrote = p }
+
+-- nothing is a front of any output
+pub nothing_is_front : (a b : Option (List ℕ)) (output : List ℕ) → Keeps a b → WroteFront a b output
+nothing_is_front a b output k = record { front = []; rest = output; parts = refl; wrote = appends_nothing a b k }

@@ -1,0 +1,11 @@
+use Rattle.std.proofs.Common.{◌≡◌, drop, map, string_bytes}
+use Rattle.granit_model.specs.Line.{event_lines}
+use Rattle.granit_parser.specs.Events.{plain_event}
+use Rattle.granit_events.proofs.Reaching.{Reaches}
+use Rattle.granit_events.proofs.lines.write_events.Given as goal
+
+abbrev pub invariant-events : goal.invariant-events
+invariant-events g l = record {
+  reaches : Reaches (g.W.Sink.written l.fn.sink) (g.W.Sink.written l.sink) (string_bytes l.out) (event_lines (map plain_event (drop l.event-index l.events))) (event_lines (map plain_event l.events));
+  same : g.W.Sink.faults l.sink ≡ g.W.Sink.faults l.fn.sink;
+}

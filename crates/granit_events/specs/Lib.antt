@@ -1,0 +1,9 @@
+pub mod Came
+pub mod Codes
+pub mod Counts
+pub mod Ended
+pub mod Inputs
+pub mod Memory
+pub mod Output
+pub mod Wrote
+pub mod Understood

@@ -1,0 +1,46 @@
+-- What the statuses Done and Fault say of the text itself.
+use Rattle.std.specs.Prelude.{◌≡◌, ℕ, ◌≤◌, List, length, Option, Some}
+use Rattle.std.specs.Io.KnownBytes.{Appends}
+use Rattle.std.specs.Str.{chars, IsUtf8}
+use Rattle.granit_base.specs.Written.{Written}
+use Rattle.granit_error.specs.OptionsData.{default_options}
+use Rattle.granit_model.specs.Cause.{Cause}
+use Rattle.granit_model.specs.Lexeme.{Lexeme}
+use Rattle.granit_model.specs.Line.{event_lines, fault_line}
+use Rattle.granit_model.specs.Node.{Documents}
+use Rattle.granit_model.specs.Outcome.{Fault}
+use Rattle.granit_model.specs.PlainEvent.{PlainEvent}
+use Rattle.granit_model.specs.Reading.{IsReading, Reading}
+use Rattle.granit_events.specs.Came.{most_bytes, CameWhole}
+use Rattle.granit_events.specs.Ended.{AreRight}
+
+-- All bytes came, they are UTF-8, and what was written are the lines of the events of documents as which the text is read.
+pub record PrintsReading (words : List Written) (left now : Option (List ℕ)) (written after : Option (List ℕ)) : Type 0 where
+  pub right : AreRight words
+  pub bytes : List ℕ
+  pub came : CameWhole left now bytes
+  pub utf8 : IsUtf8 bytes
+  pub events : List PlainEvent
+  pub reading : IsReading default_options (chars bytes) events
+  pub wrote : Appends written after (event_lines events)
+
+-- All bytes came, they are UTF-8, and what was written is the line of a fault whose cause stands at its mark.
+pub record PrintsFault (words : List Written) (left now : Option (List ℕ)) (written after : Option (List ℕ)) : Type 0 where
+  pub right : AreRight words
+  pub bytes : List ℕ
+  pub came : CameWhole left now bytes
+  pub utf8 : IsUtf8 bytes
+  pub fault : Fault
+  pub cause : Cause default_options (chars bytes) fault.kind fault.mark
+  pub wrote : Appends written after (fault_line fault)
+
+-- the words are right, and a source has the UTF-8 of a text left that has a reading, within the limit of an input
+pub record CanRead (words : List Written) (left : Option (List ℕ)) : Type 0 where
+  pub right : AreRight words
+  pub bytes : List ℕ
+  pub told : left ≡ Some bytes
+  pub fits : length bytes ≤ most_bytes
+  pub utf8 : IsUtf8 bytes
+  pub lexemes : List Lexeme
+  pub documents : Documents
+  pub reading : Reading default_options (chars bytes) lexemes documents

@@ -1,0 +1,10 @@
+-- The part of an output that was written.
+use Rattle.std.specs.Prelude.{◌≡◌, ℕ, List, ◌++◌, Option}
+use Rattle.std.specs.Io.KnownBytes.{Appends}
+
+-- a front of an output was written, and nothing else
+pub record WroteFront (before now : Option (List ℕ)) (output : List ℕ) : Type 0 where
+  pub front : List ℕ
+  pub rest : List ℕ
+  pub parts : output ≡ front ++ rest
+  pub wrote : Appends before now front

@@ -1,0 +1,54 @@
+//! What comes in: the words, and the bytes of a source where the words are right.
+ghost use Rattle.std.specs.Prelude.{◌≡◌, ℕ, Err, IfOk, OnOk, OnErr};
+ghost use Rattle.granit_events.specs.Counts.{Rose};
+ghost use Rattle.granit_events.specs.Ended.{AreRight, AreWrongAt};
+ghost use Rattle.granit_events.specs.Inputs.{Took};
+ghost use Rattle.granit_events.specs.declared.input.InputEnd.TheVariants as ends;
+
+use crate::ends::Source;
+use crate::reading::{ReadEnd, read_all};
+use crate::words::first_wrong;
+use granit_base::TextList;
+use std::alloc::Global;
+
+/// What came in.
+#[derive(Debug, Drop)]
+pub enum Input {
+    /// The number of the first wrong or missing word; nothing was read.
+    WrongWord(usize),
+    /// One byte too many.
+    TooLong,
+    /// All bytes of the source.
+    Whole(Vec<u8>),
+}
+
+/// Why nothing came in.
+#[derive(Clone, Copy, Debug, PartialEq, Eq)]
+pub enum InputEnd {
+    Failed,
+    NoMemory,
+}
+
+/// What words and a source give.
+pub fn take_input<S: Source>(
+    alloc: Global,
+    words: &TextList,
+    source: &mut S,
+) -> Result<Input, InputEnd>
+    ensures took { IfOk result (λ input. Took words.now (S.left source.old) (S.left source.new) input) }
+    ensures same { OnOk result (S.faults source.new ≡ S.faults source.old) }
+    ensures failed { result ≡ Err ends.Failed → Rose (S.faults source.old) (S.faults source.new) }
+    ensures no_memory { result ≡ Err ends.NoMemory → S.faults source.new ≡ S.faults source.old }
+    ensures words { OnErr result (AreRight words.now) }
+    ensures unread { (k : ℕ) → AreWrongAt words.now k → source.new ≡ source.old }
+{
+    if let Some(number) = first_wrong(words) {
+        return Ok(Input::WrongWord(number));
+    }
+    match read_all(alloc, source) {
+        Ok(bytes) => Ok(Input::Whole(bytes)),
+        Err(ReadEnd::TooLong) => Ok(Input::TooLong),
+        Err(ReadEnd::Failed) => Err(InputEnd::Failed),
+        Err(ReadEnd::NoMemory) => Err(InputEnd::NoMemory),
+    }
+}

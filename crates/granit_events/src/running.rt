@@ -1,0 +1,92 @@
+//! All that the program does.
+ghost use Rattle.std.specs.Prelude.{◌≡◌, ℕ, ◌⊎◌, List, Some};
+ghost use Rattle.std.specs.Io.KnownBytes.{IsAtEnd, Keeps};
+ghost use Rattle.granit_events.specs.Counts.{Rose};
+ghost use Rattle.granit_events.specs.Ended.{AreRight, AreWrongAt, CallsFor, Ended, Fixes, IsOrYields, ReadsAll};
+ghost use Rattle.granit_events.specs.Output.{CutOutput, WholeOutput};
+ghost use Rattle.granit_events.specs.Understood.{CanRead, PrintsFault, PrintsReading};
+ghost use Rattle.granit_events.specs.declared.status.Status.{Status};
+ghost use Rattle.granit_events.specs.declared.status.Status.TheVariants as status;
+
+use crate::answering::respond;
+use crate::ends::{Sink, Source};
+use crate::input::{InputEnd, take_input};
+use crate::lines::WriteEnd;
+use crate::plain::{PlainSink, PlainSource};
+use crate::status::Status;
+use granit_base::TextList;
+use std::alloc::Global;
+
+/// All that `run` does. Its contract speaks of the plain machine; that of `run` also of the text.
+pub(crate) fn run_once<S: Source, W: Sink>(
+    alloc: Global,
+    words: &TextList,
+    source: &mut S,
+    sink: &mut W,
+) -> Status
+    ensures ended { Fixes result → WholeOutput (Ended words.now (S.left source.old) (S.left source.new)) (W.written sink.old) (W.written sink.new) result }
+    ensures read_fault { result ≡ status.ReadFault → AreRight words.now × Keeps (W.written sink.old) (W.written sink.new) × Rose (S.faults source.old) (S.faults source.new) }
+    ensures write_fault { result ≡ status.WriteFault → CutOutput (Ended words.now (S.left source.old) (S.left source.new)) (W.written sink.old) (W.written sink.new) × Rose (W.faults sink.old) (W.faults sink.new) }
+    ensures no_memory { result ≡ status.NoMemory → Keeps (W.written sink.old) (W.written sink.new) ⊎ CutOutput (Ended words.now (S.left source.old) (S.left source.new)) (W.written sink.old) (W.written sink.new) }
+    ensures source_count { (result ≡ status.ReadFault → ⊥) → S.faults source.new ≡ S.faults source.old }
+    ensures sink_count { (result ≡ status.WriteFault → ⊥) → W.faults sink.new ≡ W.faults sink.old }
+    ensures none_left { ReadsAll result → IsAtEnd (S.left source.new) }
+    ensures unread { (k : ℕ) → AreWrongAt words.now k → source.new ≡ source.old }
+    ensures usage { (k : ℕ) → AreWrongAt words.now k → IsOrYields status.Usage result }
+    ensures exactly { (bytes : List ℕ) (wanted : Status) → S.left source.old ≡ Some bytes → CallsFor words.now bytes wanted → IsOrYields wanted result }
+{
+    let input = match take_input(alloc, words, source) {
+        Ok(input) => input,
+        Err(InputEnd::Failed) => return Status::ReadFault,
+        Err(InputEnd::NoMemory) => return Status::NoMemory,
+    };
+    match respond(alloc, &input, sink) {
+        Ok(status) => status,
+        Err(WriteEnd::Failed) => Status::WriteFault,
+        Err(WriteEnd::NoMemory) => Status::NoMemory,
+    }
+}
+
+/// Reads the words and then the source, and writes the lines of the events, of the fault, or of
+/// what is wrong with the words or the bytes.
+///
+/// The contract: each status names its cause and fixes the output (`ended` and the clauses behind
+/// it), and which status the words and bytes call for (`usage`, `exactly`). Events that were
+/// printed are those of the documents as which the text is read (`read`), a fault has its cause at
+/// its mark (`caused`), and a text with a reading is answered (`answered`).
+pub fn run<S: Source, W: Sink>(
+    alloc: Global,
+    words: &TextList,
+    source: &mut S,
+    sink: &mut W,
+) -> Status
+    ensures ended { Fixes result → WholeOutput (Ended words.now (S.left source.old) (S.left source.new)) (W.written sink.old) (W.written sink.new) result }
+    ensures read_fault { result ≡ status.ReadFault → AreRight words.now × Keeps (W.written sink.old) (W.written sink.new) × Rose (S.faults source.old) (S.faults source.new) }
+    ensures write_fault { result ≡ status.WriteFault → CutOutput (Ended words.now (S.left source.old) (S.left source.new)) (W.written sink.old) (W.written sink.new) × Rose (W.faults sink.old) (W.faults sink.new) }
+    ensures no_memory { result ≡ status.NoMemory → Keeps (W.written sink.old) (W.written sink.new) ⊎ CutOutput (Ended words.now (S.left source.old) (S.left source.new)) (W.written sink.old) (W.written sink.new) }
+    ensures source_count { (result ≡ status.ReadFault → ⊥) → S.faults source.new ≡ S.faults source.old }
+    ensures sink_count { (result ≡ status.WriteFault → ⊥) → W.faults sink.new ≡ W.faults sink.old }
+    ensures none_left { ReadsAll result → IsAtEnd (S.left source.new) }
+    ensures unread { (k : ℕ) → AreWrongAt words.now k → source.new ≡ source.old }
+    ensures usage { (k : ℕ) → AreWrongAt words.now k → IsOrYields status.Usage result }
+    ensures exactly { (bytes : List ℕ) (wanted : Status) → S.left source.old ≡ Some bytes → CallsFor words.now bytes wanted → IsOrYields wanted result }
+    ensures read { result ≡ status.Done → PrintsReading words.now (S.left source.old) (S.left source.new) (W.written sink.old) (W.written sink.new) }
+    ensures caused { result ≡ status.Fault → PrintsFault words.now (S.left source.old) (S.left source.new) (W.written sink.old) (W.written sink.new) }
+    ensures answered { CanRead words.now (S.left source.old) → (Rose (S.faults source.old) (S.faults source.new) → ⊥) → (Rose (W.faults sink.old) (W.faults sink.new) → ⊥) → (result ≡ status.Done) ⊎ (result ≡ status.NoMemory) }
+{
+    run_once(alloc, words, source, sink)
+}
+
+/// The same over a source and a sink that never fail.
+pub fn run_plain(
+    alloc: Global,
+    words: &TextList,
+    source: &mut PlainSource,
+    sink: &mut PlainSink,
+) -> Status
+    ensures never_read_fault { result ≡ status.ReadFault → ⊥ }
+    ensures never_write_fault { result ≡ status.WriteFault → ⊥ }
+    ensures exactly { (bytes : List ℕ) (wanted : Status) → ⟦<PlainSource as Source>⟧.left source.old ≡ Some bytes → CallsFor words.now bytes wanted → IsOrYields wanted result }
+{
+    run(alloc, words, source, sink)
+}

@@ -1,0 +1,179 @@
+use super::*;
+use granit_base::{NoMemory, Text, TextList};
+use std::alloc::Global;
+use std::test::*;
+
+fn words(alloc: Global, list: &[&str]) -> Result<TextList, NoMemory> {
+    let mut words = TextList::new(alloc);
+    for word in list {
+        words.push(Text::owned(String::from_str(alloc, word)?))?;
+    }
+    Ok(words)
+}
+
+/// How a run over memory ends, and what it writes; `failing_read` and `failing_write` are the
+/// numbers of the calls that fail, where there are such.
+#[derive(Clone, Copy)]
+struct Case {
+    words: &'static [&'static str],
+    bytes: &'static [u8],
+    most: usize,
+    failing_read: usize,
+    failing_write: usize,
+}
+
+fn over(words: &'static [&'static str], bytes: &'static [u8]) -> Case {
+    Case {
+        words,
+        bytes,
+        most: usize::MAX,
+        failing_read: 0,
+        failing_write: 0,
+    }
+}
+
+fn outcome(alloc: Global, case: Case) -> Result<(Status, Vec<u8>), NoMemory> {
+    let most = case.most.max(1);
+    let bytes = Vec::from_slice(alloc, case.bytes)?;
+    let mut source = MemorySource::new(bytes, most, vec![in alloc; case.failing_read]?);
+    let mut sink = MemorySink::new(alloc, 4096, most, vec![in alloc; case.failing_write]?)?;
+    let status = run(alloc, &words(alloc, case.words)?, &mut source, &mut sink);
+    Ok((status, Vec::from_slice(alloc, sink.bytes())?))
+}
+
+fn ends(rt: &HostRuntime, case: Case, status: Status, output: &str) -> Option<bool> {
+    let (ended, written) = outcome(rt.alloc(), case).ok()?;
+    Some(ended == status && written.as_slice() == output.as_bytes())
+}
+
+const EVENTS: &[&str] = &["events"];
+
+const EMPTY: &str = "StreamStart 0:1:1-0:1:1\nStreamEnd 0:1:1-0:1:1\n";
+
+const PAIR: &[u8] = b"--- {? \"a\" : \"b\"}\n";
+
+const PAIR_LINES: &str =
+    "StreamStart 0:1:1-0:1:1\nDocumentStart explicit 0:1:1-3:1:4\nMappingStart flow 4:1:5-5:1:6\nScalar double \"a\" 7:1:8-10:1:11\nScalar double \"b\" 13:1:14-16:1:17\nMappingEnd 16:1:17-17:1:18\nDocumentEnd 17:1:18-17:1:18\nStreamEnd 18:2:1-18:2:1\n";
+
+#[test]
+fn prints_what_came(rt: HostRuntime) {
+    let holds = Some(true);
+    assert_eq!(rt; ends(&rt, over(EVENTS, b""), Status::Done, EMPTY), holds);
+    assert_eq!(rt;
+        ends(&rt, over(EVENTS, PAIR), Status::Done, PAIR_LINES),
+        holds
+    );
+    let unclosed = "fault 2: unclosed bracket '[' at char 4 line 1 column 5\n";
+    assert_eq!(rt;
+        ends(&rt, over(EVENTS, b"--- [\n"), Status::Fault, unclosed),
+        holds
+    );
+    let invalid = "not UTF-8 after 1 bytes\n";
+    assert_eq!(rt;
+        ends(&rt, over(EVENTS, b"a\xff"), Status::NotUtf8, invalid),
+        holds
+    );
+    assert_eq!(rt;
+        ends(&rt, over(&[], b"a"), Status::Usage, "usage: word 1\n"),
+        holds
+    );
+    assert_eq!(rt;
+        ends(
+            &rt,
+            over(&["event"], b"a"),
+            Status::Usage,
+            "usage: word 1\n"
+        ),
+        holds
+    );
+    assert_eq!(rt;
+        ends(
+            &rt,
+            over(&["events", "x"], b"a"),
+            Status::Usage,
+            "usage: word 2\n"
+        ),
+        holds
+    );
+    let escaped =
+        "StreamStart 0:1:1-0:1:1\nDocumentStart explicit 0:1:1-3:1:4\nScalar double \"~\\t\\u{e9}\\u{1f600}\" 4:1:5-10:1:11\nDocumentEnd 10:1:11-10:1:11\nStreamEnd 10:1:11-10:1:11\n";
+    assert_eq!(rt;
+        ends(
+            &rt,
+            over(EVENTS, b"--- \"~\t\xc3\xa9\xf0\x9f\x98\x80\""),
+            Status::Done,
+            escaped
+        ),
+        holds
+    );
+}
+
+#[test]
+fn fails_where_the_outside_does(rt: HostRuntime) {
+    let holds = Some(true);
+    let slow = Case {
+        most: 1,
+        ..over(EVENTS, PAIR)
+    };
+    assert_eq!(rt; ends(&rt, slow, Status::Done, PAIR_LINES), holds);
+    let read = Case {
+        most: 1,
+        failing_read: 2,
+        ..over(EVENTS, b"aa")
+    };
+    assert_eq!(rt; ends(&rt, read, Status::ReadFault, ""), holds);
+    let write = Case {
+        failing_write: 1,
+        ..over(EVENTS, PAIR)
+    };
+    assert_eq!(rt; ends(&rt, write, Status::WriteFault, ""), holds);
+    let later = Case {
+        most: 5,
+        failing_write: 3,
+        ..over(EVENTS, PAIR)
+    };
+    assert_eq!(rt; ends(&rt, later, Status::WriteFault, "StreamStar"), holds);
+}
+
+fn plain_status(alloc: Global, bytes: Vec<u8>) -> Result<Status, NoMemory> {
+    let list = words(alloc, EVENTS)?;
+    Ok(run_plain(
+        alloc,
+        &list,
+        &mut PlainSource::new(bytes),
+        &mut PlainSink::new(),
+    ))
+}
+
+fn status_of_spaces(alloc: Global, count: usize) -> Result<Status, NoMemory> {
+    plain_status(alloc, vec![in alloc; b' '; count]?)
+}
+
+#[test]
+fn stops_at_the_limit(rt: HostRuntime) {
+    assert_eq!(rt;
+        status_of_spaces(rt.alloc(), 67_108_865),
+        Ok(Status::TooLong)
+    );
+    assert_eq!(rt; status_of_spaces(rt.alloc(), 3), Ok(Status::Done));
+}
+
+fn through_std(alloc: Global, bytes: &[u8]) -> Result<(u8, Vec<u8>), NoMemory> {
+    let list = words(alloc, EVENTS)?;
+    let mut written = Vec::new(alloc);
+    let status = run(
+        alloc,
+        &list,
+        &mut ReadSource::new(bytes),
+        &mut WriteSink::new(&mut written),
+    );
+    Ok((status.code(), written))
+}
+
+#[test]
+fn reads_and_writes_through_std(rt: HostRuntime) -> Result<(), Fail> {
+    let (code, written) = through_std(rt.alloc(), PAIR)?;
+    assert_eq!(rt; code, 0);
+    assert_eq!(rt; written.as_slice(), PAIR_LINES.as_bytes());
+    Ok(())
+}
