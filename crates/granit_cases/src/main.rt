@@ -20,7 +20,10 @@ fn case_text(alloc: Global, line: &str) -> Result<Vec<u8>> {
 fn main(rt: HostRuntime) -> Result<()> {
     let alloc = rt.alloc();
     let mut words = TextList::new(alloc);
-    words.push(Text::borrowed("events")).ok().context("no memory for the word")?;
+    words
+        .push(Text::borrowed("events"))
+        .ok()
+        .context("no memory for the word")?;
     for line in BufReader::new(alloc, rt.reader())?.lines(alloc) {
         let mut source = PlainSource::new(case_text(alloc, line?.as_str())?);
         let mut sink = WriteSink::new(rt.stdout());
