@@ -2,4 +2,5 @@ pub mod AnswerLemmas
 pub mod Known
 pub mod Reaching
 pub mod RunLemmas
+pub mod PushLemmas
 pub mod UnderstoodLemmas

@@ -10,6 +10,8 @@ mod memory;
 mod outside;
 mod plain;
 mod printing;
+#[cfg(test)]
+mod printing_tests;
 mod reading;
 mod running;
 mod saying;

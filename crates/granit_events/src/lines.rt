@@ -2,7 +2,7 @@
 ghost use Rattle.std.specs.Prelude.{◌≡◌, List, ℕ, ◌++◌, Err, string_bytes, OnOk, OnErr};
 ghost use Rattle.std.specs.Io.KnownBytes.{Appends};
 ghost use Rattle.granit_model.specs.Line.{event_lines};
-ghost use Rattle.granit_parser.specs.Events.{plain_events};
+ghost use Rattle.granit_event.specs.Events.{plain_events};
 ghost use Rattle.granit_events.specs.Counts.{Rose};
 ghost use Rattle.granit_events.specs.Wrote.{WroteFront};
 ghost use Rattle.granit_events.specs.declared.lines.WriteEnd.TheVariants as ends;
@@ -11,7 +11,7 @@ use crate::ends::{Failed, Sink};
 use crate::printing::push_line;
 use crate::writing::write_all;
 use granit_base::{NoMemory, Span};
-use granit_parser::Event;
+use granit_event::Event;
 use std::alloc::Global;
 
 /// Why an output was not written to its end.

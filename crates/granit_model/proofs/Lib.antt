@@ -1,3 +1,7 @@
+pub mod FittingLemmas
 pub mod HereLemmas
+pub mod MentionLemmas
 pub mod PieceLemmas
 pub mod SizeLemmas
+pub mod TextLemmas
+pub mod TreeLemmas

@@ -1,5 +1,5 @@
 -- The events of documents: a recursion on their nodes.
-use Rattle.std.specs.Prelude.{◌≡◌, ◌≤◌, ℕ, true, List, [], ◌∷◌, length}
+use Rattle.std.specs.Prelude.{◌≡◌, ◌≤◌, ℕ, true, List, [], ◌∷◌, length, None}
 use Rattle.granit_base.specs.Place.{Mark}
 use Rattle.granit_base.specs.declared.place.Span.{Span}
 use Rattle.granit_base.specs.declared.style.StructureStyle.TheVariants.{Flow}
@@ -18,11 +18,11 @@ node_end (Mapping s pairs e) = e.end
 -- the events of a node, and then more: a scalar and a bracket bear their source
 abbrev mutual
   pub node_events : Node → List PlainEvent → List PlainEvent
-  node_events (ScalarNode s style text) more = event_at (Scalar text style) s ∷ more
-  node_events (EmptySequence s e) more = event_at (SequenceStart Flow) s ∷ event_at SequenceEnd e ∷ more
-  node_events (Sequence s entries e) more = event_at (SequenceStart Flow) s ∷ entry_events entries (event_at SequenceEnd e ∷ more)
-  node_events (EmptyMapping s e) more = event_at (MappingStart Flow) s ∷ event_at MappingEnd e ∷ more
-  node_events (Mapping s pairs e) more = event_at (MappingStart Flow) s ∷ pair_events pairs (event_at MappingEnd e ∷ more)
+  node_events (ScalarNode s style text) more = event_at (Scalar text style 0 None) s ∷ more
+  node_events (EmptySequence s e) more = event_at (SequenceStart Flow 0 None) s ∷ event_at SequenceEnd e ∷ more
+  node_events (Sequence s entries e) more = event_at (SequenceStart Flow 0 None) s ∷ entry_events entries (event_at SequenceEnd e ∷ more)
+  node_events (EmptyMapping s e) more = event_at (MappingStart Flow 0 None) s ∷ event_at MappingEnd e ∷ more
+  node_events (Mapping s pairs e) more = event_at (MappingStart Flow 0 None) s ∷ pair_events pairs (event_at MappingEnd e ∷ more)
 
   pub entry_events : Entries → List PlainEvent → List PlainEvent
   entry_events (Entry lead n) more = entry_lead_events lead (node_events n more)
@@ -42,7 +42,7 @@ abbrev mutual
 -- the events of documents, and then more: a document starts at its `---` and ends, with no width, where its root ends
 abbrev pub document_events : Documents → List PlainEvent → List PlainEvent
 document_events NoDocument more = more
-document_events (Document ds m n) more = document_events ds (event_at (DocumentStart true) m ∷ node_events n (event_on DocumentEnd (node_end n) ∷ more))
+document_events (Document ds m n) more = document_events ds (event_at (DocumentStart true None) m ∷ node_events n (event_on DocumentEnd (node_end n) ∷ more))
 
 -- all events of a text that is read as these documents: the stream starts and ends, with no width, where the text does
 abbrev pub events : List ℕ → Documents → List PlainEvent

@@ -1,6 +1,8 @@
 pub mod Cause
 pub mod Events
 pub mod Extent
+pub mod FirstMention
+pub mod FlowText
 pub mod Gap
 pub mod Here
 pub mod Lexeme
@@ -16,5 +18,9 @@ pub mod PlainEvent
 pub mod ReaderState
 pub mod Reading
 pub mod Start
+pub mod Tree
+pub mod TreeCode
+pub mod TreeFalls
+pub mod TreeView
 pub mod Words
 pub mod Yield

@@ -1,8 +1,10 @@
 -- The printed lines, in UTF-8.
-use Rattle.std.specs.Prelude.{ℕ, Bool, true, false, ◌==◌, ◌&&◌, ◌||◌, nat_le, if◌then◌else◌, List, [], ◌∷◌, ◌++◌, codes, Result, Ok, Err}
+use Rattle.std.specs.Prelude.{ℕ, Bool, true, false, ◌==◌, ◌&&◌, ◌||◌, nat_le, if◌then◌else◌, List, [], ◌∷◌, ◌++◌, codes, Option, Some, None, Result, Ok, Err}
 use Rattle.std.specs.Fmt.{decimal, radix_digits}
 use Rattle.std.specs.List.{flat_map}
 use Rattle.granit_base.specs.Place.{Place}
+use Rattle.granit_base.specs.declared.style.Placement.{Placement}
+use Rattle.granit_base.specs.declared.style.Placement.TheVariants.{Above, Right, Free, Last}
 use Rattle.granit_base.specs.declared.style.ScalarStyle.{ScalarStyle}
 use Rattle.granit_base.specs.declared.style.ScalarStyle.TheVariants.{Plain, SingleQuoted, DoubleQuoted, Literal, Folded}
 use Rattle.granit_base.specs.declared.style.StructureStyle.{StructureStyle}
@@ -10,7 +12,7 @@ use Rattle.granit_base.specs.declared.style.StructureStyle.TheVariants.{Block, F
 use Rattle.granit_error.specs.FaultKind.{fault_number, fault_words}
 use Rattle.granit_error.specs.Refused.{printed_column, place_words}
 use Rattle.granit_model.specs.Outcome.{Fault}
-use Rattle.granit_model.specs.PlainEvent.{PlainEvent, EventKind, StreamStart, StreamEnd, DocumentStart, DocumentEnd, Scalar, SequenceStart, SequenceEnd, MappingStart, MappingEnd}
+use Rattle.granit_model.specs.PlainEvent.{PlainEvent, PlainVersion, PlainTag, EventKind, StreamStart, StreamEnd, DocumentStart, DocumentEnd, Alias, Anchor, UnresolvedAlias, Comment, Scalar, SequenceStart, SequenceEnd, MappingStart, MappingEnd}
 
 -- a character between quotes
 unfoldable pub quoted_char : ℕ → List ℕ
@@ -24,6 +26,9 @@ quoted_char c =
 
 abbrev pub quoted_text : List ℕ → List ℕ
 quoted_text text = flat_map quoted_char text
+
+abbrev pub in_quotes : List ℕ → List ℕ
+in_quotes text = (codes "\"" ++ quoted_text text) ++ codes "\""
 
 abbrev pub style_word : ScalarStyle → List ℕ
 style_word Plain = codes "plain"
@@ -40,15 +45,40 @@ abbrev pub explicit_word : Bool → List ℕ
 explicit_word true = codes "explicit"
 explicit_word false = codes "implicit"
 
+abbrev pub placement_word : Placement → List ℕ
+placement_word Above = codes "above"
+placement_word Right = codes "right"
+placement_word Free = codes "free"
+placement_word Last = codes "last"
+
+abbrev pub version_words : Option PlainVersion → List ℕ
+version_words None = []
+version_words (Some v) = ((codes " " ++ decimal v.major) ++ codes ".") ++ decimal v.minor
+
+abbrev pub anchor_words : ℕ → List ℕ
+anchor_words n = if n == 0 then [] else codes " &" ++ decimal n
+
+abbrev pub tag_words : Option PlainTag → List ℕ
+tag_words None = []
+tag_words (Some t) = ((codes " !" ++ in_quotes t.handle) ++ codes " ") ++ in_quotes t.suffix
+
+-- the anchor and the tag of a node, where it has them
+abbrev pub property_words : ℕ → Option PlainTag → List ℕ
+property_words anchor tag = anchor_words anchor ++ tag_words tag
+
 abbrev pub event_words : EventKind → List ℕ
 event_words StreamStart = codes "StreamStart"
 event_words StreamEnd = codes "StreamEnd"
-event_words (DocumentStart explicit) = codes "DocumentStart " ++ explicit_word explicit
+event_words (DocumentStart explicit version) = (codes "DocumentStart " ++ explicit_word explicit) ++ version_words version
 event_words DocumentEnd = codes "DocumentEnd"
-event_words (Scalar text style) = (((codes "Scalar " ++ style_word style) ++ codes " \"") ++ quoted_text text.characters) ++ codes "\""
-event_words (SequenceStart style) = codes "SequenceStart " ++ structure_word style
+event_words (Alias anchor) = codes "Alias " ++ decimal anchor
+event_words (Anchor anchor name) = ((codes "Anchor " ++ decimal anchor) ++ codes " ") ++ in_quotes name.characters
+event_words (UnresolvedAlias name) = codes "UnresolvedAlias " ++ in_quotes name.characters
+event_words (Comment text placement) = ((codes "Comment " ++ placement_word placement) ++ codes " ") ++ in_quotes text.characters
+event_words (Scalar text style anchor tag) = (((codes "Scalar " ++ style_word style) ++ codes " ") ++ in_quotes text.characters) ++ property_words anchor tag
+event_words (SequenceStart style anchor tag) = (codes "SequenceStart " ++ structure_word style) ++ property_words anchor tag
 event_words SequenceEnd = codes "SequenceEnd"
-event_words (MappingStart style) = codes "MappingStart " ++ structure_word style
+event_words (MappingStart style anchor tag) = (codes "MappingStart " ++ structure_word style) ++ property_words anchor tag
 event_words MappingEnd = codes "MappingEnd"
 
 -- `index:line:column`, the column from 1

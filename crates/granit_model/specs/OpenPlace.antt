@@ -1,5 +1,5 @@
 -- Open places: how far a list of lexemes has come in the grammar, with the finished pieces to the left.
-use Rattle.std.specs.Prelude.{true, List, [], ◌∷◌}
+use Rattle.std.specs.Prelude.{true, List, [], ◌∷◌, None}
 use Rattle.granit_base.specs.declared.style.StructureStyle.TheVariants.{Flow}
 use Rattle.granit_model.specs.Lexeme.{Lexeme, LexemeKind, DocumentStart, SequenceOpen, MappingOpen, Comma, Question, Colon, Source}
 use Rattle.granit_model.specs.Node.{Node, Entries, EntryLead, NextEntry, Pairs, PairLead, Documents}
@@ -71,18 +71,18 @@ path_of (AfterPair h s pairs) = FlowMapping BehindPair ∷ hole_path h
 
 -- the events before a hole, and then more
 abbrev pub hole_events : Hole → List PlainEvent → List PlainEvent
-hole_events (RootHole ds m) more = document_events ds (event_at (DocumentStarts true) m ∷ more)
-hole_events (FirstEntryHole h s) more = hole_events h (event_at (SequenceStart Flow) s ∷ more)
-hole_events (NextEntryHole h s entries c) more = hole_events h (event_at (SequenceStart Flow) s ∷ entry_events entries more)
-hole_events (KeyHole h s lead q) more = hole_events h (event_at (MappingStart Flow) s ∷ pair_lead_events lead more)
-hole_events (ValueHole h s lead q k c) more = hole_events h (event_at (MappingStart Flow) s ∷ pair_lead_events lead (node_events k more))
+hole_events (RootHole ds m) more = document_events ds (event_at (DocumentStarts true None) m ∷ more)
+hole_events (FirstEntryHole h s) more = hole_events h (event_at (SequenceStart Flow 0 None) s ∷ more)
+hole_events (NextEntryHole h s entries c) more = hole_events h (event_at (SequenceStart Flow 0 None) s ∷ entry_events entries more)
+hole_events (KeyHole h s lead q) more = hole_events h (event_at (MappingStart Flow 0 None) s ∷ pair_lead_events lead more)
+hole_events (ValueHole h s lead q k c) more = hole_events h (event_at (MappingStart Flow 0 None) s ∷ pair_lead_events lead (node_events k more))
 
 -- the events before an open place, and then more
 abbrev pub open_events : OpenPlace → List PlainEvent → List PlainEvent
 open_events (BetweenDocuments ds) more = document_events ds more
 open_events (AtHole h) more = hole_events h more
-open_events (AfterEntry h s entries) more = hole_events h (event_at (SequenceStart Flow) s ∷ entry_events entries more)
-open_events (AfterMappingOpen h s) more = hole_events h (event_at (MappingStart Flow) s ∷ more)
-open_events (AfterPairComma h s pairs c) more = hole_events h (event_at (MappingStart Flow) s ∷ pair_events pairs more)
-open_events (AfterKey h s lead q k) more = hole_events h (event_at (MappingStart Flow) s ∷ pair_lead_events lead (node_events k more))
-open_events (AfterPair h s pairs) more = hole_events h (event_at (MappingStart Flow) s ∷ pair_events pairs more)
+open_events (AfterEntry h s entries) more = hole_events h (event_at (SequenceStart Flow 0 None) s ∷ entry_events entries more)
+open_events (AfterMappingOpen h s) more = hole_events h (event_at (MappingStart Flow 0 None) s ∷ more)
+open_events (AfterPairComma h s pairs c) more = hole_events h (event_at (MappingStart Flow 0 None) s ∷ pair_events pairs more)
+open_events (AfterKey h s lead q k) more = hole_events h (event_at (MappingStart Flow 0 None) s ∷ pair_lead_events lead (node_events k more))
+open_events (AfterPair h s pairs) more = hole_events h (event_at (MappingStart Flow 0 None) s ∷ pair_events pairs more)

@@ -1,5 +1,5 @@
 -- The plain machine's parser: the path of unfinished nodes, and one step for each lexeme.
-use Rattle.std.specs.Prelude.{true, List, [], ◌∷◌, Result, Ok, Err}
+use Rattle.std.specs.Prelude.{true, List, [], ◌∷◌, Result, Ok, Err, None}
 use Rattle.granit_base.specs.Place.{Mark}
 use Rattle.granit_base.specs.declared.style.StructureStyle.TheVariants.{Flow}
 use Rattle.granit_error.specs.FaultKind.{NotBuilt}
@@ -57,9 +57,9 @@ opened kind source frame fs = Ok (event_at kind source ∷ [], frame ∷ fs)
 
 -- a lexeme where a node must stand
 abbrev pub node : Path → LexemeKind → Lexeme → Stepped
-node fs (Scalar style text) l = finished (ScalarIs text style) l.source fs
-node fs SequenceOpen l = opened (SequenceStart Flow) l.source (FlowSequence SequenceOpened) fs
-node fs MappingOpen l = opened (MappingStart Flow) l.source (FlowMapping MappingOpened) fs
+node fs (Scalar style text) l = finished (ScalarIs text style 0 None) l.source fs
+node fs SequenceOpen l = opened (SequenceStart Flow 0 None) l.source (FlowSequence SequenceOpened) fs
+node fs MappingOpen l = opened (MappingStart Flow 0 None) l.source (FlowMapping MappingOpened) fs
 node fs kind l = misplaced l
 
 -- the innermost collection goes on
@@ -67,7 +67,7 @@ abbrev pub goes_on : Frame → Path → Stepped
 goes_on frame fs = Ok ([], frame ∷ fs)
 
 abbrev pub step_in : Path → LexemeKind → Lexeme → Stepped
-step_in [] DocumentStart l = Ok (event_at (DocumentStarts true) l.source ∷ [], Root ∷ [])
+step_in [] DocumentStart l = Ok (event_at (DocumentStarts true None) l.source ∷ [], Root ∷ [])
 step_in (Root ∷ fs) kind l = node (Root ∷ fs) kind l
 step_in (FlowSequence SequenceOpened ∷ fs) SequenceClose l = finished SequenceEnd l.source fs
 step_in (FlowSequence SequenceOpened ∷ fs) kind l = node (FlowSequence SequenceOpened ∷ fs) kind l

@@ -3,7 +3,6 @@
 
 mod chunk;
 mod cursor;
-mod event;
 mod glyph;
 mod lexeme;
 mod load;
@@ -13,5 +12,4 @@ mod scanner;
 #[cfg(test)]
 mod tests;
 
-pub use event::Event;
 pub use load::{Events, load_str};

@@ -12,12 +12,12 @@ ghost use Rattle.granit_model.specs.Machine.{events_of};
 ghost use Rattle.granit_model.specs.Node.{Documents};
 ghost use Rattle.granit_model.specs.Reading.{IsReading, Reading};
 ghost use Rattle.granit_model.specs.Outcome.{GivesValue};
-ghost use Rattle.granit_parser.specs.Events.{plain_events};
+ghost use Rattle.granit_event.specs.Events.{plain_events};
 
-use crate::event::Event;
 use crate::parser::Parser;
 use granit_base::Span;
 use granit_error::{Options, ScanError};
+use granit_event::Event;
 use std::alloc::Global;
 use std::marker::Model;
 
@@ -30,7 +30,7 @@ pub struct Events<'a> {
 impl<'a> Model for Events<'a> {
     ghost use Rattle.std.specs.Prelude.{List};
     ghost use Rattle.granit_base.specs.declared.place.Span.{Span};
-    ghost use Rattle.granit_parser.specs.declared.event.Event.{Event};
+    ghost use Rattle.granit_event.specs.declared.event.Event.{Event};
 
     ghost Value = { List (Event × Span) };
 

@@ -5,14 +5,14 @@ ghost use Rattle.granit_error.specs.OptionsView.{options_of};
 ghost use Rattle.granit_model.specs.Here as here;
 ghost use Rattle.granit_model.specs.Machine as spec;
 ghost use Rattle.granit_model.specs.Pieces.{pieces};
-ghost use Rattle.granit_parser.specs.Events.{plain_events};
+ghost use Rattle.granit_event.specs.Events.{plain_events};
 ghost use Rattle.granit_parser.specs.Pushed.{Pushed, Turned};
 
-use crate::event::Event;
 use crate::path::{Frame, step_on};
 use crate::scanner::Scanner;
 use granit_base::{Marker, Span};
 use granit_error::{Options, ScanError};
+use granit_event::Event;
 use std::alloc::Global;
 use std::marker::Model;
 

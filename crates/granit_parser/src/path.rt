@@ -2,15 +2,15 @@
 ghost use Rattle.std.specs.Prelude.{◌≡◌, [], ◌∷◌, ◌++◌, IfErr, OnOk};
 ghost use Rattle.granit_error.specs.FaultKind as faults;
 ghost use Rattle.granit_model.specs.Path as spec;
-ghost use Rattle.granit_parser.specs.Events.{event_kind, plain_events};
+ghost use Rattle.granit_event.specs.Events.{event_kind, plain_events};
 ghost use Rattle.granit_parser.specs.Lexemes.{lexeme_view};
 ghost use Rattle.granit_parser.specs.Paths.{sequence_stage, mapping_stage, frame_view, path_view};
 ghost use Rattle.granit_parser.specs.Pushed.{Pushed};
 
-use crate::event::Event;
 use crate::lexeme::{Lexeme, LexemeKind};
 use granit_base::{Marker, Span, StructureStyle};
 use granit_error::{ErrorKind, ScanError};
+use granit_event::Event;
 
 /// Where an unfinished flow sequence stands (YAML 1.2.2, 7.4.1).
 #[derive(Clone, Copy)]
@@ -76,7 +76,7 @@ fn between_documents<'a>(
 {
     match lexeme.kind {
         LexemeKind::DocumentStart => opened(
-            Event::DocumentStart(true),
+            Event::DocumentStart(true, None),
             Frame::Root,
             Span::new(lexeme.start, lexeme.end),
             path,
@@ -160,17 +160,23 @@ fn node_in<'a>(
     let span = Span::new(start, end);
     match kind {
         LexemeKind::Scalar(style, text) => {
-            finished(Event::Scalar(text, style), start, end, path, events)
+            finished(
+                Event::Scalar(text, style, 0, None),
+                start,
+                end,
+                path,
+                events,
+            )
         }
         LexemeKind::SequenceOpen => opened(
-            Event::SequenceStart(StructureStyle::Flow),
+            Event::SequenceStart(StructureStyle::Flow, 0, None),
             Frame::FlowSequence(SequenceStage::Opened),
             span,
             path,
             events,
         ),
         LexemeKind::MappingOpen => opened(
-            Event::MappingStart(StructureStyle::Flow),
+            Event::MappingStart(StructureStyle::Flow, 0, None),
             Frame::FlowMapping(MappingStage::Opened),
             span,
             path,

@@ -1,6 +1,7 @@
 use super::*;
 use granit_base::{ScalarStyle, StructureStyle};
 use granit_error::{Options, ScanError};
+use granit_event::Event;
 use std::test::*;
 
 fn read<'a>(rt: &HostRuntime, text: &'a str) -> Result<Events<'a>, ScanError> {
@@ -31,17 +32,14 @@ fn letter(event: &Event<'_>) -> char {
     match event {
         Event::StreamStart => 'S',
         Event::StreamEnd => 's',
-        Event::DocumentStart(true) => 'D',
-        Event::DocumentStart(false) => 'I',
+        Event::DocumentStart(true, None) => 'D',
         Event::DocumentEnd => 'd',
-        Event::Scalar(_, ScalarStyle::DoubleQuoted) => '"',
-        Event::Scalar(_, _) => '?',
-        Event::SequenceStart(StructureStyle::Flow) => '[',
-        Event::SequenceStart(StructureStyle::Block) => '?',
+        Event::Scalar(_, ScalarStyle::DoubleQuoted, 0, None) => '"',
+        Event::SequenceStart(StructureStyle::Flow, 0, None) => '[',
         Event::SequenceEnd => ']',
-        Event::MappingStart(StructureStyle::Flow) => '{',
-        Event::MappingStart(StructureStyle::Block) => '?',
+        Event::MappingStart(StructureStyle::Flow, 0, None) => '{',
         Event::MappingEnd => '}',
+        _ => '?',
     }
 }
 
@@ -55,7 +53,9 @@ fn letter_at(rt: &HostRuntime, text: &str, i: usize) -> Option<char> {
 fn lends(rt: &HostRuntime, text: &str, i: usize, value: &str) -> Option<bool> {
     let events = read(rt, text).ok()?;
     match events.get(i)? {
-        (Event::Scalar(scalar, _), _) => Some(scalar.is_borrowed() && scalar.as_str() == value),
+        (Event::Scalar(scalar, _, 0, None), _) => Some(
+            scalar.is_borrowed() && scalar.as_str() == value,
+        ),
         _ => None,
     }
 }

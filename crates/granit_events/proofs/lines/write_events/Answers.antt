@@ -2,8 +2,8 @@ use Rattle.std.proofs.Common.{◌≡◌, ◌∙◌, ◌++◌, ◌+◌, ◌<◌, 
 use Rattle.std.proofs.lemmas.List.{at_drop_more}
 use Rattle.granit_model.specs.Line.{event_line, event_lines}
 use Rattle.granit_base.specs.declared.place.Span.{Span}
-use Rattle.granit_parser.specs.declared.event.Event.{Event}
-use Rattle.granit_parser.specs.Events.{plain_event}
+use Rattle.granit_event.specs.declared.event.Event.{Event}
+use Rattle.granit_event.specs.Events.{plain_event}
 use Rattle.granit_events.proofs.Reaching.{reaches_push, reaches_pass, reaches_front, reaches_stop}
 use Rattle.granit_events.proofs.lines.write_events.Goals as goal
 

@@ -1,6 +1,6 @@
 use Rattle.std.specs.Str.{chars}
 use Rattle.granit_error.specs.OptionsView.{options_of}
-use Rattle.granit_parser.specs.Events.{plain_events}
+use Rattle.granit_event.specs.Events.{plain_events}
 use Rattle.granit_parser.proofs.LoadLemmas.{reading_of, spans_of, answered_of, deeper_of, cause_of}
 use Rattle.granit_parser.proofs.load.load_str.Goals as goal
 

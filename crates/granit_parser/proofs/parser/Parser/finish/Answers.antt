@@ -3,7 +3,7 @@ use Rattle.granit_error.specs.OptionsView.{options_of}
 use Rattle.granit_model.specs.Machine.{size, turn}
 use Rattle.granit_model.proofs.PieceLemmas.{loop_more, loop_done, loop_fails}
 use Rattle.granit_model.proofs.SizeLemmas.{turn_shortens}
-use Rattle.granit_parser.specs.Events.{plain_events}
+use Rattle.granit_event.specs.Events.{plain_events}
 use Rattle.granit_parser.proofs.PushedLemmas.{turned_more, turned_done, push_done, push_fails}
 use Rattle.granit_parser.proofs.parser.Parser.finish.Goals as goal
 

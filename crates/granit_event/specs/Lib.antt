@@ -1,0 +1,4 @@
+pub mod Events
+pub mod Helpers
+pub mod Names
+pub mod Order

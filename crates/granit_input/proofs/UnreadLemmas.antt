@@ -1,0 +1,66 @@
+-- How what is left goes on.
+use Rattle.std.proofs.Common.{◌≡◌, ℕ, zero, suc, ◌+◌, ◌<◌, ◌≤◌, ◌==◌, Bool, true, false, List, [], ◌∷◌, ◌++◌, length, take, drop, Option, Some, None, refl, sym, ap, ◌∙◌, add-zero, zero-add, arith}
+use Rattle.std.specs.Option.{option_map}
+use Rattle.std.specs.Char.{encode_utf8}
+use Rattle.std.proofs.lemmas.List.{length-append, append-nil, drop-drop, take_all, length-drop}
+use Rattle.std.proofs.lemmas.Bool.Decides.{nat_tests}
+use Rattle.std.proofs.lemmas.Str.{encodes-append}
+use Rattle.granit_base.specs.Place.{Unread, past_first}
+use Rattle.granit_input.specs.Unread.{past, utf8_length}
+
+pub past_text : (n : ℕ) (u : Unread) → (past n u).text ≡ drop n u.text
+unfolding past
+past_text n u = refl
+
+pub past_offset : (n : ℕ) (u : Unread) → (past n u).offset ≡ option_map (λ bytes. bytes + utf8_length (take n u.text)) u.offset
+unfolding past
+past_offset n u = refl
+
+plus_none : (o : Option ℕ) → option_map (λ bytes. bytes + 0) o ≡ o
+plus_none None = refl
+plus_none (Some n) = ap (λ (k : ℕ). Some k) (add-zero n)
+
+pub past_none : (u : Unread) → past 0 u ≡ u
+unfolding past
+past_none u = ap (λ (o : Option ℕ). record u { offset = o }) (plus_none u.offset)
+
+plus_twice : (a b : ℕ) (o : Option ℕ) → option_map (λ bytes. bytes + b) (option_map (λ bytes. bytes + a) o) ≡ option_map (λ bytes. bytes + (a + b)) o
+plus_twice a b None = refl
+plus_twice a b (Some n) = ap (λ (k : ℕ). Some k) (omega arith)
+
+pub take_plus : (m n : ℕ) (xs : List ℕ) → take (m + n) xs ≡ take m xs ++ take n (drop m xs)
+take_plus zero n xs = rw (zero-add n) refl
+take_plus (suc m) n [] = take_all (suc m + n) [] (omega arith) ∙ sym (take_all n [] (omega arith))
+take_plus (suc m) n (x ∷ xs) =
+    let e : suc m + n ≡ suc (m + n) = omega arith in
+    rw e (ap (λ (ys : List ℕ). x ∷ ys) (take_plus m n xs))
+
+utf8_length_take : (m n : ℕ) (xs : List ℕ) → utf8_length (take (m + n) xs) ≡ utf8_length (take m xs) + utf8_length (take n (drop m xs))
+utf8_length_take m n xs = ap utf8_length (take_plus m n xs) ∙ ap length (encodes-append (take m xs) (take n (drop m xs))) ∙ length-append _ _
+
+pub past_twice : (m n : ℕ) (u : Unread) → past n (past m u) ≡ past (m + n) u
+unfolding past
+past_twice m n u =
+    let more = plus_twice (utf8_length (take m u.text)) (utf8_length (take n (drop m u.text))) u.offset in
+    rw (drop-drop n m u.text, utf8_length_take m n u.text) (ap (λ (o : Option ℕ). record { text = drop (m + n) u.text; offset = o; lends = u.lends }) more)
+
+-- past a character that is there
+pub past_one : (u : Unread) → 0 < length u.text → past 1 u ≡ past_first u
+unfolding past
+past_one u some = one_of u.text u.offset u.lends some
+  where
+    one_of : (text : List ℕ) (offset : Option ℕ) (lends : Bool) → 0 < length text
+        → (record { text = drop 1 text; offset = option_map (λ bytes. bytes + utf8_length (take 1 text)) offset; lends = lends })
+        ≡ past_first (record { text = text; offset = offset; lends = lends })
+    one_of [] offset lends some = absurd (omega arith)
+    one_of (c ∷ cs) offset lends some = rw (append-nil (encode_utf8 c)) refl
+
+-- nothing is left behind as many characters as there are
+pub end_reached : (n : ℕ) (text : List ℕ) → n ≤ length text → (length (drop n text) == 0) ≡ true → n ≡ length text
+end_reached n text within e = grind (arith, nat_tests, length-drop, within, e)
+
+pub end_ahead : (n : ℕ) (text : List ℕ) → (length (drop n text) == 0) ≡ false → n + 1 ≤ length text
+end_ahead n text e = grind (arith, nat_tests, length-drop, e)
+
+pub not_none : (n : ℕ) → (n == 0) ≡ false → 0 < n
+not_none n e = grind (arith, nat_tests, e)

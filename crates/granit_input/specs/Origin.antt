@@ -1,0 +1,67 @@
+-- Where the characters of an input come from.
+use Rattle.std.specs.Prelude.{◌≡◌, ◌≤◌, ◌&&◌, ◌||◌, ℕ, length, Bool, true, false, if◌then◌else◌, List, Option, None, Some, IsNone, IsSome, is_some}
+use Rattle.std.specs.Borrow.{Bor}
+use Rattle.granit_base.specs.Place.{Unread}
+use Rattle.granit_base.specs.Spans.{Slices}
+use Rattle.granit_error.specs.FaultKind.{FaultKind}
+use Rattle.granit_input.specs.Unread.{SpelledBy}
+
+pub record Origin : Type 0 where
+  -- the bytes that `slice_bytes` reads, where it reads any
+  pub sliced : Option (List ℕ)
+  -- the bytes that `slice_borrowed` reads, where it reads any
+  pub lent : Option (List ℕ)
+  -- whether byte offsets are told
+  pub tells_offset : Bool
+  -- whether it is known where the characters end
+  pub knows_end : Bool
+  -- the first error that the source gave
+  pub error : Option FaultKind
+  -- whether an error was handed out
+  pub handed_out : Bool
+
+-- what a call leaves as it was, unless it hands out the error: the sources and what is told never change, a known end stays known and nothing comes behind it, and
+-- the first error stays the first
+pub record Goes (old : Origin) (new : Origin) : Type 0 where
+  pub sliced : new.sliced ≡ old.sliced
+  pub lent : new.lent ≡ old.lent
+  pub tells_offset : new.tells_offset ≡ old.tells_offset
+  pub handed_out : new.handed_out ≡ old.handed_out
+  pub knows_end : old.knows_end ≡ true → new ≡ old
+  pub error : IsSome old.error → new.error ≡ old.error
+
+-- the error that is handed out, and what is left of it
+abbrev pub error_given : Origin → Option FaultKind
+error_given o = if o.handed_out then None else o.error
+
+abbrev pub after_giving : Origin → Origin
+after_giving o = record o { handed_out = o.handed_out || is_some o.error }
+
+-- what is left can be lent where its offsets are told and there is a source to lend from
+abbrev pub can_lend : Origin → Bool
+can_lend o = o.tells_offset && is_some o.lent
+
+-- What is known to be left is within the bound, which is 0 only at the end. Its offset is known where offsets are told, it can be lent as said
+-- above, and from its offset on the sources are its UTF-8.
+pub record Agrees (left : ℕ) (o : Origin) (u : Unread) : Type 0 where
+  pub bounded : length u.text ≤ left
+  pub exact : length u.text ≡ 0 → left ≡ 0
+  pub offset : is_some u.offset ≡ o.tells_offset
+  pub lends : u.lends ≡ can_lend o
+  pub sliced : SpelledBy o.sliced u
+  pub lent : SpelledBy o.lent u
+
+-- the part of the source between two offsets, which is answered exactly where there is a source and both offsets lie between its characters
+abbrev pub PartOf : Option (List ℕ) → ℕ → ℕ → Option (Bor (List ℕ)) → Type 0
+PartOf None start end answer = IsNone answer
+PartOf (Some bytes) start end answer = Slices bytes (Some (record { start = start; end = end })) answer
+
+-- the same between two offsets that may be told
+abbrev pub LentBetween : Option (List ℕ) → Option ℕ → Option ℕ → Option (Bor (List ℕ)) → Type 0
+LentBetween source None end answer = IsNone answer
+LentBetween source (Some start) None answer = IsNone answer
+LentBetween source (Some start) (Some end) answer = PartOf source start end answer
+
+-- the origin of a string's characters: both slices come from it, offsets are told, the end is known and there is no error
+abbrev pub of_string : List ℕ → Origin
+of_string source = record { sliced = Some source; lent = Some source; tells_offset = true; knows_end = true; error = None; handed_out = false }

@@ -1,0 +1,54 @@
+//! The classes of characters that runs are made of.
+ghost use Rattle.std.specs.Prelude.{◌≡◌};
+ghost use Rattle.granit_input.specs.Runs.{class_test, plain_goes_on};
+
+use granit_base::{
+    is_alpha, is_blank, is_blank_or_breakz, is_breakz, is_flow, is_printable, is_yaml_non_space,
+};
+
+/// A class of characters (YAML 1.2.2, chapter 5). NUL is in none.
+#[derive(Clone, Copy, Debug, PartialEq, Eq)]
+pub enum Class {
+    /// Letters and digits of ASCII, `-` and `_`.
+    Alpha,
+    /// What a line holds but blanks and the byte-order mark.
+    NonSpace,
+    /// A space or a tab.
+    Blank,
+    /// What may be printed but breaks.
+    Printable,
+    /// Anything but breaks and NUL.
+    NonBreakz,
+}
+
+/// The characters that a run takes.
+#[derive(Clone, Copy, Debug, PartialEq, Eq)]
+pub enum Run {
+    /// Those of a class.
+    Of(Class),
+    /// Those of a plain scalar without blanks, with whether it stands in flow (YAML 1.2.2, 7.3.3).
+    Plain(bool),
+}
+
+impl Class {
+    /// Whether a character is in the class.
+    pub fn contains(self, c: char) -> bool
+        ensures { result ≡ class_test self c }
+    {
+        match self {
+            Class::Alpha => is_alpha(c),
+            Class::NonSpace => is_yaml_non_space(c),
+            Class::Blank => is_blank(c),
+            Class::Printable => !is_breakz(c) && is_printable(c),
+            Class::NonBreakz => !is_breakz(c),
+        }
+    }
+}
+
+/// Whether a character with `next` behind it doesn't end a plain scalar as an indicator.
+pub(crate) fn goes_on(c: char, next: char, in_flow: bool) -> bool
+    ensures { result ≡ plain_goes_on in_flow c next }
+{
+    !(c == ':' && (is_blank_or_breakz(next) || (in_flow && is_flow(next))))
+        && !(in_flow && is_flow(c))
+}

@@ -1,0 +1,489 @@
+//! What a scanner asks of its input.
+ghost use Rattle.std.specs.Prelude.{◌≡◌, ℕ, ◌+◌, ◌-◌, ◌<◌, ◌≤◌, ◌^◌, ◌==◌, ◌&&◌, ◌||◌, Option, Bool, false, true, length, slice_index, is_some, min, max, string_bytes, IfOk, OnErr, MatchOption, IfSome};
+ghost use Rattle.std.specs.Borrow.{sem};
+ghost use Rattle.std.specs.Io.BufRead.{Rests};
+ghost use Rattle.std.specs.Option.{option_map};
+ghost use Rattle.std.specs.Str.{chars};
+ghost use Rattle.granit_base.specs.Classes as is;
+ghost use Rattle.granit_base.specs.Place.{Unread, first};
+ghost use Rattle.granit_base.specs.Written.{string_chars};
+ghost use Rattle.granit_error.specs.Kinds.{kind_of};
+ghost use Rattle.granit_input.specs.Unread.{past};
+ghost use Rattle.granit_input.specs.Origin.{Origin, Goes, PartOf, error_given, after_giving, Agrees};
+ghost use Rattle.granit_input.specs.Runs.{starts, run_test, is_line_char, is_non_breakz, is_plain_at, is_quoted_ascii, is_quoted_char, can_be_plain};
+ghost use Rattle.granit_input.specs.Chunks.{SkipsRun, FetchesRun, SkipsFront, FetchesFront, TakesText, count_of, front_count_of};
+ghost use Rattle.granit_input.specs.Looks.{begins_with_2, begins_with_3, is_document_start, is_document_end, is_document_indicator, ReadsNonBreakz};
+ghost use Rattle.granit_input.specs.White.{holds, SkipsBlanks, SkipsWhite};
+
+use crate::appending::push_or_cut;
+use crate::class::{Class, Run, goes_on};
+use crate::whitespace::{SkipTabs, WhitespaceResult};
+use granit_base::{
+    NoMemory, is_alpha, is_blank, is_blank_or_breakz, is_break, is_breakz, is_digit, is_flow,
+};
+use granit_error::ErrorKind;
+
+/// Characters to be read. At most a window of them may be looked at, and a look past the end gives
+/// NUL. Clauses on what is read speak of whatever is known to be left.
+#[tactic(auto, using(crate::proofs::RunLemmas::not_nul))]
+pub trait Input {
+    /// This is known to be what is left.
+    ghost unread: { Self → Unread → Type 0 };
+
+    /// No more characters than this are left, and none exactly where it is 0.
+    ghost left: { Self → ℕ };
+
+    /// How many characters may be looked at.
+    ghost window: { Self → ℕ };
+
+    /// Where the characters come from.
+    ghost origin: { Self → Origin };
+
+    /// Makes the window at least `count` characters where that is at most 8, and consumes nothing.
+    fn lookahead(&mut self, count: usize)
+        ensures unread { (u : Unread) → unread self.old u → unread self.new u }
+        ensures moves { (left self.new ≤ left self.old) × (max (min count 8) (window self.old) ≤ window self.new) × Goes (origin self.old) (origin self.new) };
+
+    /// How many characters may be looked at.
+    fn buflen(&self) -> usize
+        ensures { result ≡ window self.now };
+
+    /// How far `lookahead` reaches at least, in characters.
+    fn bufmaxlen(&self) -> usize
+        ensures { 8 ≤ result };
+
+    /// Consumes and gives the next character; NUL at the end.
+    fn raw_read_ch(&mut self) -> char
+        ensures read { (u : Unread) → unread self.old u → unread self.new (past 1 u) × (result ≡ first u.text) }
+        ensures moves { (left self.new ≤ left self.old - 1) × (window self.old ≤ window self.new + min 1 (left self.old)) × Goes (origin self.old) (origin self.new) };
+
+    /// The same; None before a break, a NUL or the end, and then nothing is consumed.
+    fn raw_read_non_breakz_ch(&mut self) -> Option<char>
+        ensures read { (u : Unread) → unread self.old u → ReadsNonBreakz u result (unread self.new) }
+        ensures moves { (MatchOption result (left self.new ≤ left self.old) (λ c. left self.new < left self.old)) × (MatchOption result (window self.old ≤ window self.new) (λ c. window self.old ≤ window self.new + 1)) × Goes (origin self.old) (origin self.new) };
+
+    /// Consumes a character, if there is one.
+    fn skip(&mut self)
+        ensures unread { (u : Unread) → unread self.old u → unread self.new (past 1 u) }
+        ensures moves { (left self.new ≤ left self.old - 1) × (window self.old ≤ window self.new + min 1 (left self.old)) × Goes (origin self.old) (origin self.new) };
+
+    /// Consumes `count` characters, or all where fewer are left.
+    fn skip_n(&mut self, count: usize)
+        ensures unread { (u : Unread) → unread self.old u → unread self.new (past count u) }
+        ensures moves { (left self.new ≤ left self.old - count) × (window self.old ≤ window self.new + min count (left self.old)) × Goes (origin self.old) (origin self.new) };
+
+    /// The next character.
+    fn peek(&self) -> char
+        requires { 1 ≤ window self.now }
+        ensures value { (u : Unread) → unread self.now u → result ≡ first u.text }
+        ensures some { 0 < result → 0 < left self.now };
+
+    /// The character behind `n` others.
+    fn peek_nth(&self, n: usize) -> char
+        requires { n < window self.now }
+        ensures value { (u : Unread) → unread self.now u → result ≡ slice_index u.text n }
+        ensures some { 0 < result → n < left self.now };
+
+    /// Whether the end is here; a NUL in the text isn't the end.
+    fn next_is_z(&self) -> bool
+        requires { 1 ≤ window self.now }
+        ensures value { (u : Unread) → unread self.now u → result ≡ (length u.text == 0) }
+        ensures some { result ≡ (left self.now == 0) }
+        ensures known { result ≡ true → (origin self.now).knows_end ≡ true };
+
+    /// How many bytes were consumed, where that is told.
+    fn byte_offset(&self) -> Option<usize>
+        ensures value { (u : Unread) → unread self.now u → result ≡ u.offset }
+        ensures told { is_some result ≡ (origin self.now).tells_offset };
+
+    /// The part of the source from byte `start` to byte `end`; None where there is no source, or where
+    /// these are no range between its characters.
+    fn slice_bytes(&self, start: usize, end: usize) -> Option<&str>
+        ensures { PartOf (origin self.now).sliced start end result };
+
+    /// The first error that the source gave, once.
+    fn take_source_error(&mut self) -> Option<ErrorKind>
+        ensures given { option_map kind_of result ≡ error_given (origin self.old) }
+        ensures unread { (u : Unread) → unread self.old u → unread self.new u }
+        ensures moves { (left self.new ≤ left self.old) × (window self.old ≤ window self.new) × (origin self.new ≡ after_giving (origin self.old)) };
+
+    /// False only where the whole source has no `#`.
+    fn may_contain_comments(&self) -> bool
+        ensures rest { result ≡ false → (u : Unread) → unread self.now u → holds 0x23 u.text ≡ false }
+        ensures source { result ≡ false → IfSome (origin self.now).sliced (λ bytes. holds 0x23 bytes ≡ false) }
+    {
+        true
+    }
+
+    /// Whether no character may be looked at.
+    fn buf_is_empty(&self) -> bool
+        ensures { result ≡ (window self.now == 0) }
+    {
+        self.buflen() == 0
+    }
+
+    /// Looks at the next character, whatever the window was.
+    fn look_ch(&mut self) -> char
+        ensures look { (u : Unread) → unread self.old u → unread self.new u × (result ≡ first u.text) }
+        ensures some { 0 < result → 0 < left self.new }
+        ensures moves { (left self.new ≤ left self.old) × (max 1 (window self.old) ≤ window self.new) × Goes (origin self.old) (origin self.new) }
+    {
+        self.lookahead(1);
+        self.peek()
+    }
+
+    /// Whether the next character is `c`.
+    fn next_char_is(&self, c: char) -> bool
+        requires { 1 ≤ window self.now }
+        ensures value { (u : Unread) → unread self.now u → result ≡ (first u.text == c) }
+        ensures some { result ≡ true → 0 < c → 0 < left self.now }
+    {
+        self.peek() == c
+    }
+
+    /// Whether the character behind `n` others is `c`.
+    fn nth_char_is(&self, n: usize, c: char) -> bool
+        requires { n < window self.now }
+        ensures value { (u : Unread) → unread self.now u → result ≡ (slice_index u.text n == c) }
+        ensures some { result ≡ true → 0 < c → n < left self.now }
+    {
+        self.peek_nth(n) == c
+    }
+
+    /// Whether these characters, none of them NUL, are next.
+    fn next_2_are(&self, c1: char, c2: char) -> bool
+        requires window { 2 ≤ window self.now }
+        requires some { (0 < c1) × (0 < c2) }
+        ensures value { (u : Unread) → unread self.now u → result ≡ begins_with_2 c1 c2 u.text }
+        ensures some { result ≡ true → 2 ≤ left self.now }
+    {
+        self.peek() == c1 && self.peek_nth(1) == c2
+    }
+
+    /// Whether these characters, none of them NUL, are next.
+    fn next_3_are(&self, c1: char, c2: char, c3: char) -> bool
+        requires window { 3 ≤ window self.now }
+        requires some { (0 < c1) × (0 < c2) × (0 < c3) }
+        ensures value { (u : Unread) → unread self.now u → result ≡ begins_with_3 c1 c2 c3 u.text }
+        ensures some { result ≡ true → 3 ≤ left self.now }
+    {
+        self.peek() == c1 && self.peek_nth(1) == c2 && self.peek_nth(2) == c3
+    }
+
+    /// Whether `---` is next, with a blank, a break, NUL or the end behind it (YAML 1.2.2, 9.1.2).
+    fn next_is_document_start(&self) -> bool
+        requires { 4 ≤ window self.now }
+        ensures value { (u : Unread) → unread self.now u → result ≡ is_document_start u.text }
+        ensures some { result ≡ true → 3 ≤ left self.now }
+    {
+        self.next_3_are('-', '-', '-') && is_blank_or_breakz(self.peek_nth(3))
+    }
+
+    /// Whether `...` is next, with a blank, a break, NUL or the end behind it (YAML 1.2.2, 9.1.2).
+    fn next_is_document_end(&self) -> bool
+        requires { 4 ≤ window self.now }
+        ensures value { (u : Unread) → unread self.now u → result ≡ is_document_end u.text }
+        ensures some { result ≡ true → 3 ≤ left self.now }
+    {
+        self.next_3_are('.', '.', '.') && is_blank_or_breakz(self.peek_nth(3))
+    }
+
+    /// Whether either of them is next.
+    fn next_is_document_indicator(&self) -> bool
+        requires { 4 ≤ window self.now }
+        ensures value { (u : Unread) → unread self.now u → result ≡ is_document_indicator u.text }
+        ensures some { result ≡ true → 3 ≤ left self.now }
+    {
+        self.next_is_document_start() || self.next_is_document_end()
+    }
+
+    /// Whether the next character doesn't end a plain scalar as an indicator: false for `:` before a blank, a
+    /// break, NUL or the end, and in flow also before a flow indicator and for one (YAML 1.2.2, 7.3.3).
+    fn next_can_be_plain_scalar(&self, in_flow: bool) -> bool
+        requires { 2 ≤ window self.now }
+        ensures { (u : Unread) → unread self.now u → result ≡ can_be_plain in_flow u.text }
+    {
+        goes_on(self.peek(), self.peek_nth(1), in_flow)
+    }
+
+    /// Whether the next character is a blank or a break.
+    fn next_is_blank_or_break(&self) -> bool
+        requires { 1 ≤ window self.now }
+        ensures value { (u : Unread) → unread self.now u → result ≡ (is.is_blank (first u.text) || is.is_break (first u.text)) }
+        ensures some { result ≡ true → 0 < left self.now }
+    {
+        let c = self.peek();
+        is_blank(c) || is_break(c)
+    }
+
+    /// Whether the next character is a blank, a break or NUL.
+    fn next_is_blank_or_breakz(&self) -> bool
+        requires { 1 ≤ window self.now }
+        ensures value { (u : Unread) → unread self.now u → result ≡ is.is_blank_or_breakz (first u.text) }
+        ensures some { result ≡ false → 0 < left self.now }
+    {
+        is_blank_or_breakz(self.peek())
+    }
+
+    /// Whether the next character is a blank.
+    fn next_is_blank(&self) -> bool
+        requires { 1 ≤ window self.now }
+        ensures value { (u : Unread) → unread self.now u → result ≡ is.is_blank (first u.text) }
+        ensures some { result ≡ true → 0 < left self.now }
+    {
+        is_blank(self.peek())
+    }
+
+    /// Whether the next character is a break.
+    fn next_is_break(&self) -> bool
+        requires { 1 ≤ window self.now }
+        ensures value { (u : Unread) → unread self.now u → result ≡ is.is_break (first u.text) }
+        ensures some { result ≡ true → 0 < left self.now }
+    {
+        is_break(self.peek())
+    }
+
+    /// Whether the next character is a break or NUL.
+    fn next_is_breakz(&self) -> bool
+        requires { 1 ≤ window self.now }
+        ensures value { (u : Unread) → unread self.now u → result ≡ is.is_breakz (first u.text) }
+        ensures some { result ≡ false → 0 < left self.now }
+    {
+        is_breakz(self.peek())
+    }
+
+    /// Whether the next character is a flow indicator.
+    fn next_is_flow(&self) -> bool
+        requires { 1 ≤ window self.now }
+        ensures value { (u : Unread) → unread self.now u → result ≡ is.is_flow (first u.text) }
+        ensures some { result ≡ true → 0 < left self.now }
+    {
+        is_flow(self.peek())
+    }
+
+    /// Whether the next character is a decimal digit.
+    fn next_is_digit(&self) -> bool
+        requires { 1 ≤ window self.now }
+        ensures value { (u : Unread) → unread self.now u → result ≡ is.is_digit (first u.text) }
+        ensures some { result ≡ true → 0 < left self.now }
+    {
+        is_digit(self.peek())
+    }
+
+    /// Whether the next character is a word character or `_`.
+    fn next_is_alpha(&self) -> bool
+        requires { 1 ≤ window self.now }
+        ensures value { (u : Unread) → unread self.now u → result ≡ is.is_alpha (first u.text) }
+        ensures some { result ≡ true → 0 < left self.now }
+    {
+        is_alpha(self.peek())
+    }
+
+    /// Whether a run takes the next character, whatever the window was.
+    fn next_in(&mut self, run: Run) -> bool
+        ensures look { (u : Unread) → unread self.old u → unread self.new u × (result ≡ run_test run u.text) }
+        ensures some { result ≡ true → 0 < left self.new }
+        ensures moves { (left self.new ≤ left self.old) × (max 1 (window self.old) ≤ window self.new) × Goes (origin self.old) (origin self.new) }
+    {
+        match run {
+            Run::Of(class) => {
+                let c = self.look_ch();
+                class.contains(c)
+            }
+            Run::Plain(in_flow) => {
+                self.lookahead(2);
+                let c = self.peek();
+                !is_blank_or_breakz(c) && goes_on(c, self.peek_nth(1), in_flow)
+            }
+        }
+    }
+
+    /// Consumes characters of a run, at most `limit`; whether the run ended, and how many.
+    fn skip_run(&mut self, run: Run, limit: usize) -> (bool, usize)
+        ensures skips { (u : Unread) → unread self.old u → SkipsFront (run_test run) u limit result (unread self.new) }
+        ensures few { result.0 ≡ false → limit ≤ result.1 }
+        ensures moves { (left self.new + result.1 ≤ left self.old) × (window self.old ≤ window self.new + result.1) × Goes (origin self.old) (origin self.new) }
+    {
+        let mut count = 0;
+        'run: while count < limit {
+            if !self.next_in(run) {
+                return (true, count);
+            }
+            self.skip();
+            count += 1;
+        }
+        (false, count)
+    }
+
+    /// The same, and appends them. Its error is `NoMemory` alone, and the text is then as before.
+    fn fetch_run(
+        &mut self,
+        out: &mut String,
+        run: Run,
+        limit: usize,
+    ) -> Result<(bool, usize), NoMemory>
+        ensures fetches { (u : Unread) → unread self.old u → FetchesFront (run_test run) u limit result (unread self.new) (string_chars out.old) (string_chars out.new) }
+        ensures kept { OnErr result (string_bytes out.new ≡ string_bytes out.old) }
+        ensures few { IfOk result (λ r. r.0 ≡ false → limit ≤ r.1) }
+        ensures moves { (left self.new + front_count_of result ≤ left self.old) × (IfOk result (λ r. window self.old ≤ window self.new + r.1)) × Goes (origin self.old) (origin self.new) }
+    {
+        let start = out.len();
+        let mut count = 0;
+        'run: while count < limit {
+            if !self.next_in(run) {
+                return Ok((true, count));
+            }
+            push_or_cut(out, self.peek(), start)?;
+            self.skip();
+            count += 1;
+        }
+        Ok((false, count))
+    }
+
+    /// Consumes spaces, and tabs where `skip_tabs` says so; how many characters, and what was among them.
+    fn skip_ws_to_eol_blanks(&mut self, skip_tabs: SkipTabs) -> (usize, WhitespaceResult)
+        ensures skips { (u : Unread) → unread self.old u → SkipsBlanks skip_tabs u result (unread self.new) }
+        ensures moves { (left self.new + result.0 ≤ left self.old) × (window self.old ≤ window self.new + result.0) × Goes (origin self.old) (origin self.new) }
+    {
+        let mut found = WhitespaceResult::new(false, false);
+        let mut count = 0;
+        'blanks: loop {
+            let c = self.look_ch();
+            if !skip_tabs.skips(c) {
+                return (count, found);
+            }
+            found = found.with(c);
+            self.skip();
+            count += 1;
+        }
+    }
+
+    /// The same, and then a comment up to a break, NUL or the end (YAML 1.2.2, 6.6).
+    /// Its error is `CommentNotSeparated`, exactly where a `#` follows no skipped blank; nothing is consumed then.
+    fn skip_ws_to_eol(
+        &mut self,
+        skip_tabs: SkipTabs,
+    ) -> (usize, Result<WhitespaceResult, ErrorKind>)
+        ensures skips { (u : Unread) → unread self.old u → SkipsWhite skip_tabs u result (unread self.new) }
+        ensures moves { (left self.new + result.0 ≤ left self.old) × (window self.old ≤ window self.new + result.0) × Goes (origin self.old) (origin self.new) }
+    {
+        let (blanks, found) = self.skip_ws_to_eol_blanks(skip_tabs);
+        let c = self.look_ch();
+        if c != '#' {
+            return (blanks, Ok(found));
+        }
+        if blanks == 0 {
+            return (0, Err(ErrorKind::CommentNotSeparated));
+        }
+        let (_, comment) = self.skip_run(Run::Of(Class::NonBreakz), usize::MAX);
+        (blanks + comment, Ok(found))
+    }
+
+    /// Consumes printable characters up to a break, NUL or the end; how many.
+    fn skip_while_non_breakz(&mut self) -> usize
+        ensures skips { (u : Unread) → unread self.old u → SkipsRun (starts is_line_char) u result (unread self.new) }
+        ensures moves { (left self.new + result ≤ left self.old) × (window self.old ≤ window self.new + result) × Goes (origin self.old) (origin self.new) }
+    {
+        let (_, count) = self.skip_run(Run::Of(Class::Printable), usize::MAX);
+        count
+    }
+
+    /// Consumes blanks; how many characters.
+    fn skip_while_blank(&mut self) -> usize
+        ensures skips { (u : Unread) → unread self.old u → SkipsRun (starts is.is_blank) u result (unread self.new) }
+        ensures moves { (left self.new + result ≤ left self.old) × (window self.old ≤ window self.new + result) × Goes (origin self.old) (origin self.new) }
+    {
+        let (_, count) = self.skip_run(Run::Of(Class::Blank), usize::MAX);
+        count
+    }
+
+    /// Consumes and appends word characters and `_`; how many.
+    /// Its error is `NoMemory` alone, and the text is then as before.
+    fn fetch_while_is_alpha(&mut self, out: &mut String) -> Result<usize, NoMemory>
+        ensures fetches { (u : Unread) → unread self.old u → FetchesRun (starts is.is_alpha) u result (unread self.new) (string_chars out.old) (string_chars out.new) }
+        ensures kept { OnErr result (string_bytes out.new ≡ string_bytes out.old) }
+        ensures moves { (left self.new + count_of result ≤ left self.old) × (IfOk result (λ count. window self.old ≤ window self.new + count)) × Goes (origin self.old) (origin self.new) }
+    {
+        let (_, count) = self.fetch_run(out, Run::Of(Class::Alpha), usize::MAX)?;
+        Ok(count)
+    }
+
+    /// Consumes and appends what a line holds but blanks and the byte-order mark; how many characters.
+    /// Its error is `NoMemory` alone, and the text is then as before.
+    fn fetch_while_is_yaml_non_space(&mut self, out: &mut String) -> Result<usize, NoMemory>
+        ensures fetches { (u : Unread) → unread self.old u → FetchesRun (starts is.is_yaml_non_space) u result (unread self.new) (string_chars out.old) (string_chars out.new) }
+        ensures kept { OnErr result (string_bytes out.new ≡ string_bytes out.old) }
+        ensures moves { (left self.new + count_of result ≤ left self.old) × (IfOk result (λ count. window self.old ≤ window self.new + count)) × Goes (origin self.old) (origin self.new) }
+    {
+        let (_, count) = self.fetch_run(out, Run::Of(Class::NonSpace), usize::MAX)?;
+        Ok(count)
+    }
+
+    /// Consumes and appends up to a break, NUL or the end; how many characters.
+    /// Its error is `NoMemory` alone, and the text is then as before.
+    fn fetch_block_scalar_line(&mut self, out: &mut String) -> Result<usize, NoMemory>
+        ensures fetches { (u : Unread) → unread self.old u → FetchesRun (starts is_non_breakz) u result (unread self.new) (string_chars out.old) (string_chars out.new) }
+        ensures kept { OnErr result (string_bytes out.new ≡ string_bytes out.old) }
+        ensures moves { (left self.new + count_of result ≤ left self.old) × (IfOk result (λ count. window self.old ≤ window self.new + count)) × Goes (origin self.old) (origin self.new) }
+    {
+        let (_, count) = self.fetch_run(out, Run::Of(Class::NonBreakz), usize::MAX)?;
+        Ok(count)
+    }
+
+    /// Takes characters from `!` to `~` but the quote and, in double quotes, the backslash, as many of
+    /// the run as it likes.
+    fn take_quoted_scalar_ascii_chunk(&mut self, single: bool) -> (&str, usize)
+        ensures* rests { sem 𝓛 (Rests Self.row self.entry (λ new.
+            ((u : Unread) → unread self.old u → TakesText (starts (is_quoted_ascii single)) u (chars result.0.now) (unread new))
+            × (left new + length (chars result.0.now) ≤ left self.old)
+            × (window self.old ≤ window new + length (chars result.0.now))
+            × Goes (origin self.old) (origin new))) }
+        ensures count { result.1 ≡ length (chars result.0.now) }
+    {
+        ("", 0)
+    }
+
+    /// The same with printable characters past ASCII, and how many characters.
+    fn take_quoted_scalar_chunk(&mut self, single: bool) -> (&str, usize)
+        ensures* rests { sem 𝓛 (Rests Self.row self.entry (λ new.
+            ((u : Unread) → unread self.old u → TakesText (starts (is_quoted_char single)) u (chars result.0.now) (unread new))
+            × (left new + length (chars result.0.now) ≤ left self.old)
+            × (window self.old ≤ window new + length (chars result.0.now))
+            × Goes (origin self.old) (origin new))) }
+        ensures count { result.1 ≡ length (chars result.0.now) }
+    {
+        self.take_quoted_scalar_ascii_chunk(single)
+    }
+
+    /// Consumes and appends what a plain scalar takes without blanks: true where the run ended, false
+    /// where `count` characters or more were taken; and how many (YAML 1.2.2, 7.3.3).
+    /// Its error is `NoMemory` alone, and the text is then as before.
+    fn fetch_plain_scalar_chunk(
+        &mut self,
+        out: &mut String,
+        count: usize,
+        flow_level_gt_0: bool,
+    ) -> Result<(bool, usize), NoMemory>
+        ensures fetches { (u : Unread) → unread self.old u → FetchesFront (is_plain_at flow_level_gt_0) u count result (unread self.new) (string_chars out.old) (string_chars out.new) }
+        ensures kept { OnErr result (string_bytes out.new ≡ string_bytes out.old) }
+        ensures few { IfOk result (λ r. r.0 ≡ false → count ≤ r.1) }
+        ensures moves { (left self.new + front_count_of result ≤ left self.old) × (IfOk result (λ r. window self.old ≤ window self.new + r.1)) × Goes (origin self.old) (origin self.new) }
+    {
+        self.fetch_run(out, Run::Plain(flow_level_gt_0), count)
+    }
+
+    /// The same without appending.
+    fn skip_plain_scalar_chunk(&mut self, count: usize, flow_level_gt_0: bool) -> (bool, usize)
+        ensures skips { (u : Unread) → unread self.old u → SkipsFront (is_plain_at flow_level_gt_0) u count result (unread self.new) }
+        ensures few { result.0 ≡ false → count ≤ result.1 }
+        ensures moves { (left self.new + result.1 ≤ left self.old) × (window self.old ≤ window self.new + result.1) × Goes (origin self.old) (origin self.new) }
+    {
+        self.skip_run(Run::Plain(flow_level_gt_0), count)
+    }
+
+    /// No text is longer than memory.
+    ghost short: { (input : Self) → left input < 2 ^ 63 };
+
+    /// What is known to be left agrees with the bound, with what is told and with the sources.
+    ghost agrees: { (input : Self) (u : Unread) → unread input u → Agrees (left input) (origin input) u };
+}

@@ -1,0 +1,19 @@
+//! What a scanner asks of its input, and the characters of a string.
+#![tactic(auto)]
+
+mod appending;
+mod borrowed;
+mod class;
+mod cuts;
+mod input;
+mod str_input;
+mod whitespace;
+
+pub use borrowed::BorrowedInput;
+pub use class::{Class, Run};
+pub use input::Input;
+pub use str_input::StrInput;
+pub use whitespace::{SkipTabs, WhitespaceResult};
+
+#[cfg(test)]
+mod tests;

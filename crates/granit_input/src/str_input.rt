@@ -1,0 +1,156 @@
+//! The characters of a string.
+ghost use Rattle.std.specs.Prelude.{◌≡◌, ◌+◌, ◌-◌, ◌<◌, ◌≤◌, ◌^◌, true, Some, length, drop, max, min, MatchOption};
+ghost use Rattle.std.specs.Str.{chars, encode_utf8_all, is_utf8};
+ghost use Rattle.granit_base.specs.Place.{Unread, first};
+ghost use Rattle.granit_input.specs.Looks.{ReadsNonBreakz};
+ghost use Rattle.granit_input.specs.Unread.{past};
+
+use crate::borrowed::BorrowedInput;
+use crate::cuts::{behind, part};
+use crate::input::Input;
+use granit_base::{is_at_end, is_breakz, nth_char, split_first_char};
+use granit_error::ErrorKind;
+
+/// The characters of a string. Its window is the greatest count that was asked for.
+#[derive(Drop)]
+pub struct StrInput<'a> {
+    source: &'a str,
+    rest: &'a str,
+    window: usize,
+    ghost suffix: { drop (length source.now - length rest.now) source.now ≡ rest.now },
+    ghost short: { length source.now < 2 ^ 63 },
+    ghost within: { length rest.now ≤ length source.now },
+    ghost utf8: { is_utf8 rest.now ≡ true },
+}
+
+impl<'a> StrInput<'a> {
+    /// All characters of a string.
+    pub fn new(input: &'a str) -> StrInput<'a>
+        ensures unread { ⟦<StrInput<'a> as Input>⟧.unread result (record { text = chars input.now; offset = Some 0; lends = true }) }
+        ensures source { result.source.now ≡ input.now }
+        ensures window { result.window ≡ 0 }
+    {
+        StrInput {
+            source: input,
+            rest: input,
+            window: 0,
+        }
+    }
+}
+
+impl<'a> Input for StrInput<'a> {
+    ghost use Rattle.std.specs.Str.{chars};
+    ghost use Rattle.granit_input.specs.Unread.{left_of};
+    ghost use Rattle.granit_input.specs.Origin.{Goes, of_string};
+    ghost use Rattle.granit_input.specs.Laws.{string_short, string_agrees};
+
+    ghost unread = { λ s u. u ≡ left_of s.source.now s.rest.now };
+
+    ghost left = { λ s. length (chars s.rest.now) };
+
+    ghost window = { λ s. s.window };
+
+    ghost origin = { λ s. of_string s.source.now };
+
+    ghost short = { λ s. string_short s.source.now s.rest.now s.within s.short };
+
+    ghost agrees = { λ s u is. string_agrees s.source.now s.rest.now u s.suffix s.utf8 is };
+
+    fn lookahead(&mut self, count: usize)
+        ensures unread { (u : Unread) → u ≡ left_of self.old.source.now self.old.rest.now → u ≡ left_of self.new.source.now self.new.rest.now }
+        ensures moves { (length (chars self.new.rest.now) ≤ length (chars self.old.rest.now)) × (max (min count 8) self.old.window ≤ self.new.window) × Goes (of_string self.old.source.now) (of_string self.new.source.now) }
+        ensures window { self.new.window ≡ max self.old.window count }
+    {
+        self.window = self.window.max(count);
+    }
+
+    fn buflen(&self) -> usize {
+        self.window
+    }
+
+    fn bufmaxlen(&self) -> usize
+        ensures reach { 8 ≤ result }
+        ensures value { result ≡ 128 }
+    {
+        128
+    }
+
+    fn raw_read_ch(&mut self) -> char
+        ensures read { (u : Unread) → u ≡ left_of self.old.source.now self.old.rest.now → (past 1 u ≡ left_of self.new.source.now self.new.rest.now) × (result ≡ first u.text) }
+        ensures moves { (length (chars self.new.rest.now) ≤ length (chars self.old.rest.now) - 1) × (self.old.window ≤ self.new.window + min 1 (length (chars self.old.rest.now))) × Goes (of_string self.old.source.now) (of_string self.new.source.now) }
+        ensures window { self.new.window ≡ self.old.window }
+    {
+        match split_first_char(self.rest) {
+            Some((c, rest)) => {
+                self.rest = rest;
+                c
+            }
+            None => '\0',
+        }
+    }
+
+    fn raw_read_non_breakz_ch(&mut self) -> Option<char>
+        ensures read { (u : Unread) → u ≡ left_of self.old.source.now self.old.rest.now → ReadsNonBreakz u result (λ v. v ≡ left_of self.new.source.now self.new.rest.now) }
+        ensures moves { (MatchOption result (length (chars self.new.rest.now) ≤ length (chars self.old.rest.now)) (λ c. length (chars self.new.rest.now) < length (chars self.old.rest.now))) × (MatchOption result (self.old.window ≤ self.new.window) (λ c. self.old.window ≤ self.new.window + 1)) × Goes (of_string self.old.source.now) (of_string self.new.source.now) }
+        ensures window { self.new.window ≡ self.old.window }
+    {
+        match split_first_char(self.rest) {
+            Some((c, rest)) => {
+                if is_breakz(c) {
+                    return None;
+                }
+                self.rest = rest;
+                Some(c)
+            }
+            None => None,
+        }
+    }
+
+    fn skip(&mut self)
+        ensures unread { (u : Unread) → u ≡ left_of self.old.source.now self.old.rest.now → past 1 u ≡ left_of self.new.source.now self.new.rest.now }
+        ensures moves { (length (chars self.new.rest.now) ≤ length (chars self.old.rest.now) - 1) × (self.old.window ≤ self.new.window + min 1 (length (chars self.old.rest.now))) × Goes (of_string self.old.source.now) (of_string self.new.source.now) }
+        ensures window { self.new.window ≡ self.old.window }
+    {
+        if let Some((_, rest)) = split_first_char(self.rest) {
+            self.rest = rest;
+        }
+    }
+
+    fn skip_n(&mut self, count: usize)
+        ensures unread { (u : Unread) → u ≡ left_of self.old.source.now self.old.rest.now → past count u ≡ left_of self.new.source.now self.new.rest.now }
+        ensures moves { (length (chars self.new.rest.now) ≤ length (chars self.old.rest.now) - count) × (self.old.window ≤ self.new.window + min count (length (chars self.old.rest.now))) × Goes (of_string self.old.source.now) (of_string self.new.source.now) }
+        ensures window { self.new.window ≡ self.old.window }
+    {
+        self.rest = behind(self.rest, count);
+    }
+
+    fn peek(&self) -> char {
+        nth_char(self.rest, 0)
+    }
+
+    fn peek_nth(&self, n: usize) -> char {
+        nth_char(self.rest, n)
+    }
+
+    fn next_is_z(&self) -> bool {
+        is_at_end(self.rest)
+    }
+
+    fn byte_offset(&self) -> Option<usize> {
+        Some(self.source.len() - self.rest.len())
+    }
+
+    fn slice_bytes(&self, start: usize, end: usize) -> Option<&str> {
+        part(self.source, start, end)
+    }
+
+    fn take_source_error(&mut self) -> Option<ErrorKind> {
+        None
+    }
+}
+
+impl<'a> BorrowedInput<'a> for StrInput<'a> {
+    fn slice_borrowed(&self, start: usize, end: usize) -> Option<&'a str> {
+        part(self.source, start, end)
+    }
+}
