@@ -19,9 +19,9 @@ string_spells source rest u suffix utf8 is = λ bytes at from told.
     let text : u.text ≡ chars rest = ap (λ (v : Unread). v.text) is in
     rw (same, place, text) (record { within = omega arith; utf8 = rw suffix utf8; spelled = ap chars suffix })
 
-pub string_agrees : (source rest : List ℕ) (u : Unread) → drop (length source - length rest) source ≡ rest → is_utf8 rest ≡ true → u ≡ left_of source rest
-    → Agrees (length (chars rest)) (of_string source) u
-string_agrees source rest u suffix utf8 is =
+pub string_agrees : (source rest : List ℕ) (window : ℕ) (u : Unread) → drop (length source - length rest) source ≡ rest → is_utf8 rest ≡ true → u ≡ left_of source rest
+    → Agrees (length (chars rest)) (of_string source window) u
+string_agrees source rest window u suffix utf8 is =
     let text : u.text ≡ chars rest = ap (λ (v : Unread). v.text) is in
     record {
       bounded = le_of_eq (ap length text);
@@ -31,3 +31,7 @@ string_agrees source rest u suffix utf8 is =
       sliced = string_spells source rest u suffix utf8 is;
       lent = string_spells source rest u suffix utf8 is;
     }
+
+-- the window of a string is its own floor
+pub string_floor : (window : ℕ) → window ≤ window
+string_floor window = omega arith

@@ -19,16 +19,19 @@ pub record Origin : Type 0 where
   pub error : Option FaultKind
   -- whether an error was handed out
   pub handed_out : Bool
+  -- the window is never smaller than this, whatever is consumed: the window itself where it never shrinks, else 0
+  pub floor : ℕ
 
--- what a call leaves as it was, unless it hands out the error: the sources and what is told never change, a known end stays known and nothing comes behind it, and
--- the first error stays the first
+-- What a call leaves as it was, unless it hands out the error: the sources and what is told never change, a known end stays known and nothing comes behind it,
+-- the first error stays the first, and the floor of the window never falls.
 pub record Goes (old : Origin) (new : Origin) : Type 0 where
   pub sliced : new.sliced ≡ old.sliced
   pub lent : new.lent ≡ old.lent
   pub tells_offset : new.tells_offset ≡ old.tells_offset
   pub handed_out : new.handed_out ≡ old.handed_out
-  pub knows_end : old.knows_end ≡ true → new ≡ old
+  pub knows_end : old.knows_end ≡ true → new ≡ record old { floor = new.floor }
   pub error : IsSome old.error → new.error ≡ old.error
+  pub floor : old.floor ≤ new.floor
 
 -- the error that is handed out, and what is left of it
 abbrev pub error_given : Origin → Option FaultKind
@@ -62,6 +65,6 @@ LentBetween source None end answer = IsNone answer
 LentBetween source (Some start) None answer = IsNone answer
 LentBetween source (Some start) (Some end) answer = PartOf source start end answer
 
--- the origin of a string's characters: both slices come from it, offsets are told, the end is known and there is no error
-abbrev pub of_string : List ℕ → Origin
-of_string source = record { sliced = Some source; lent = Some source; tells_offset = true; knows_end = true; error = None; handed_out = false }
+-- the origin of a string's characters: both slices come from it, offsets are told, the end is known, there is no error, and the window never shrinks
+abbrev pub of_string : List ℕ → (window : ℕ) → Origin
+of_string source window = record { sliced = Some source; lent = Some source; tells_offset = true; knows_end = true; error = None; handed_out = false; floor = window }

@@ -484,6 +484,9 @@ pub trait Input {
     /// No text is longer than memory.
     ghost short: { (input : Self) → left input < 2 ^ 63 };
 
+    /// The window is never smaller than its floor.
+    ghost floored: { (input : Self) → (origin input).floor ≤ window input };
+
     /// What is known to be left agrees with the bound, with what is told and with the sources.
     ghost agrees: { (input : Self) (u : Unread) → unread input u → Agrees (left input) (origin input) u };
 }

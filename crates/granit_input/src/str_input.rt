@@ -42,7 +42,7 @@ impl<'a> Input for StrInput<'a> {
     ghost use Rattle.std.specs.Str.{chars};
     ghost use Rattle.granit_input.specs.Unread.{left_of};
     ghost use Rattle.granit_input.specs.Origin.{Goes, of_string};
-    ghost use Rattle.granit_input.specs.Laws.{string_short, string_agrees};
+    ghost use Rattle.granit_input.specs.Laws.{string_short, string_agrees, string_floor};
 
     ghost unread = { λ s u. u ≡ left_of s.source.now s.rest.now };
 
@@ -50,15 +50,17 @@ impl<'a> Input for StrInput<'a> {
 
     ghost window = { λ s. s.window };
 
-    ghost origin = { λ s. of_string s.source.now };
+    ghost origin = { λ s. of_string s.source.now s.window };
 
     ghost short = { λ s. string_short s.source.now s.rest.now s.within s.short };
 
-    ghost agrees = { λ s u is. string_agrees s.source.now s.rest.now u s.suffix s.utf8 is };
+    ghost floored = { λ s. string_floor s.window };
+
+    ghost agrees = { λ s u is. string_agrees s.source.now s.rest.now s.window u s.suffix s.utf8 is };
 
     fn lookahead(&mut self, count: usize)
         ensures unread { (u : Unread) → u ≡ left_of self.old.source.now self.old.rest.now → u ≡ left_of self.new.source.now self.new.rest.now }
-        ensures moves { (length (chars self.new.rest.now) ≤ length (chars self.old.rest.now)) × (max (min count 8) self.old.window ≤ self.new.window) × Goes (of_string self.old.source.now) (of_string self.new.source.now) }
+        ensures moves { (length (chars self.new.rest.now) ≤ length (chars self.old.rest.now)) × (max (min count 8) self.old.window ≤ self.new.window) × Goes (of_string self.old.source.now self.old.window) (of_string self.new.source.now self.new.window) }
         ensures window { self.new.window ≡ max self.old.window count }
     {
         self.window = self.window.max(count);
@@ -77,7 +79,7 @@ impl<'a> Input for StrInput<'a> {
 
     fn raw_read_ch(&mut self) -> char
         ensures read { (u : Unread) → u ≡ left_of self.old.source.now self.old.rest.now → (past 1 u ≡ left_of self.new.source.now self.new.rest.now) × (result ≡ first u.text) }
-        ensures moves { (length (chars self.new.rest.now) ≤ length (chars self.old.rest.now) - 1) × (self.old.window ≤ self.new.window + min 1 (length (chars self.old.rest.now))) × Goes (of_string self.old.source.now) (of_string self.new.source.now) }
+        ensures moves { (length (chars self.new.rest.now) ≤ length (chars self.old.rest.now) - 1) × (self.old.window ≤ self.new.window + min 1 (length (chars self.old.rest.now))) × Goes (of_string self.old.source.now self.old.window) (of_string self.new.source.now self.new.window) }
         ensures window { self.new.window ≡ self.old.window }
     {
         match split_first_char(self.rest) {
@@ -91,7 +93,7 @@ impl<'a> Input for StrInput<'a> {
 
     fn raw_read_non_breakz_ch(&mut self) -> Option<char>
         ensures read { (u : Unread) → u ≡ left_of self.old.source.now self.old.rest.now → ReadsNonBreakz u result (λ v. v ≡ left_of self.new.source.now self.new.rest.now) }
-        ensures moves { (MatchOption result (length (chars self.new.rest.now) ≤ length (chars self.old.rest.now)) (λ c. length (chars self.new.rest.now) < length (chars self.old.rest.now))) × (MatchOption result (self.old.window ≤ self.new.window) (λ c. self.old.window ≤ self.new.window + 1)) × Goes (of_string self.old.source.now) (of_string self.new.source.now) }
+        ensures moves { (MatchOption result (length (chars self.new.rest.now) ≤ length (chars self.old.rest.now)) (λ c. length (chars self.new.rest.now) < length (chars self.old.rest.now))) × (MatchOption result (self.old.window ≤ self.new.window) (λ c. self.old.window ≤ self.new.window + 1)) × Goes (of_string self.old.source.now self.old.window) (of_string self.new.source.now self.new.window) }
         ensures window { self.new.window ≡ self.old.window }
     {
         match split_first_char(self.rest) {
@@ -108,7 +110,7 @@ impl<'a> Input for StrInput<'a> {
 
     fn skip(&mut self)
         ensures unread { (u : Unread) → u ≡ left_of self.old.source.now self.old.rest.now → past 1 u ≡ left_of self.new.source.now self.new.rest.now }
-        ensures moves { (length (chars self.new.rest.now) ≤ length (chars self.old.rest.now) - 1) × (self.old.window ≤ self.new.window + min 1 (length (chars self.old.rest.now))) × Goes (of_string self.old.source.now) (of_string self.new.source.now) }
+        ensures moves { (length (chars self.new.rest.now) ≤ length (chars self.old.rest.now) - 1) × (self.old.window ≤ self.new.window + min 1 (length (chars self.old.rest.now))) × Goes (of_string self.old.source.now self.old.window) (of_string self.new.source.now self.new.window) }
         ensures window { self.new.window ≡ self.old.window }
     {
         if let Some((_, rest)) = split_first_char(self.rest) {
@@ -118,7 +120,7 @@ impl<'a> Input for StrInput<'a> {
 
     fn skip_n(&mut self, count: usize)
         ensures unread { (u : Unread) → u ≡ left_of self.old.source.now self.old.rest.now → past count u ≡ left_of self.new.source.now self.new.rest.now }
-        ensures moves { (length (chars self.new.rest.now) ≤ length (chars self.old.rest.now) - count) × (self.old.window ≤ self.new.window + min count (length (chars self.old.rest.now))) × Goes (of_string self.old.source.now) (of_string self.new.source.now) }
+        ensures moves { (length (chars self.new.rest.now) ≤ length (chars self.old.rest.now) - count) × (self.old.window ≤ self.new.window + min count (length (chars self.old.rest.now))) × Goes (of_string self.old.source.now self.old.window) (of_string self.new.source.now self.new.window) }
         ensures window { self.new.window ≡ self.old.window }
     {
         self.rest = behind(self.rest, count);

@@ -54,6 +54,13 @@ fn lent<'a, T: BorrowedInput<'a>>(
     input.slice_borrowed(start?, end?)
 }
 
+/// A string looks as far behind a run as before it.
+fn third_behind_blanks(input: &mut StrInput<'_>) -> char {
+    input.lookahead(3);
+    input.skip_while_blank();
+    input.peek_nth(2)
+}
+
 #[test]
 fn words_are_lent_by_a_string(rt: HostRuntime) -> Result<(), Fail> {
     let mut input = StrInput::new("né e");
@@ -120,6 +127,8 @@ fn skipping_calls_count_characters(rt: HostRuntime) {
     let mut input = StrInput::new(" \té\u{7f}");
     assert_eq!(rt; input.skip_while_blank(), 2);
     assert_eq!(rt; input.skip_while_non_breakz(), 1);
+    let mut input = StrInput::new("    abc");
+    assert_eq!(rt; third_behind_blanks(&mut input), 'c');
     let mut input = StrInput::new("a:b: c");
     assert_eq!(rt; input.skip_plain_scalar_chunk(2, false), (false, 2));
     assert_eq!(rt; input.skip_plain_scalar_chunk(8, false), (true, 1));
