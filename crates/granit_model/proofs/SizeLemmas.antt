@@ -1,19 +1,21 @@
 -- Each lexeme takes some of the text.
-use Rattle.std.proofs.Common.{◌≡◌, ℕ, ◌<◌, ◌==◌, Bool, true, false, cond, List, [], ◌∷◌, length, Option, Some, None, Ok, Err, refl, sym, ap, ◌∙◌, arith}
+use Rattle.std.proofs.Common.{◌≡◌, ℕ, ◌<◌, ◌≤◌, ◌==◌, Bool, true, false, cond, List, [], ◌∷◌, length, Option, Some, None, Result, Ok, Err, refl, sym, ap, ◌∙◌, arith}
 use Rattle.std.proofs.lemmas.Bool.Decides.{nat_tests}
 use Rattle.std.specs.Prelude.{◌&&◌, nat_le}
 use Rattle.granit_base.specs.Classes.{is_gap}
 use Rattle.granit_error.specs.OptionsData.{OptionsData}
-use Rattle.granit_model.specs.Here.{Here, text_len, next_char, step, past, past_chunk}
+use Rattle.granit_model.specs.Here.{Here, text_len, next_char, mark_of, step, past, past_chunk}
 use Rattle.granit_model.specs.Lexeme.{Lexeme, LexemeKind, Bracket, Square, Curly, Opener}
 use Rattle.granit_model.specs.Machine.{MachineState, Turn, turn, on_read, stream_end, size}
 use Rattle.granit_model.specs.Outcome.{Fault, ◌>>=◌}
 use Rattle.granit_model.specs.Path.{Path, Stepped, step_on}
 use Rattle.granit_model.specs.Pieces.{Shortens}
 use Rattle.granit_model.specs.PlainEvent.{PlainEvent}
-use Rattle.granit_model.specs.ReaderState.{ReaderState, Read, lexed, text_end, mark_in, dash, double_quoted, open_bracket, close_square, close_curly, close_bracket, lexeme_at, behind_gap, next_lexeme}
+use Rattle.granit_model.specs.ReaderState.{ReaderState, Read, lexed, text_end, mark_in, dash, closed_quote, double_quoted, open_bracket, close_square, close_curly, close_bracket, lexeme_at, behind_gap, next_lexeme}
 use Rattle.granit_model.specs.Start.{Glyph, Dash, DoubleQuote, LeftSquare, RightSquare, LeftCurly, RightCurly, CommaSign, QuestionSign, ColonSign, Foreign, glyph, is_inner, at_document_start, is_separated}
+use Rattle.granit_model.specs.Quoted.{escaped_pieces}
 use Rattle.granit_model.proofs.HereLemmas.{step_len, past_len, past_chunk_len}
+use Rattle.granit_model.proofs.QuotedLemmas.{Within, within_then, pieces_within}
 
 -- where a lexeme is read, what is left is below n
 pub record Takes (n : ℕ) (read : Read) : Type 0 where
@@ -57,10 +59,21 @@ dash_takes : (os : List Opener) (h : Here) → 0 < text_len h → Takes (text_le
 unfolding dash
 dash_takes os h some = if_takes (at_document_start h) (λ _. mark_takes (is_separated h) os h some) (λ _. err_takes _ _)
 
+escaped_takes : (os : List Opener) (h : Here) (r : Result (List ℕ × Here) Fault) → text_len (step h) < text_len h → Within (text_len (step h)) r → Takes (text_len h) (r >>= λ x. closed_quote os h false x.0 x.1)
+escaped_takes os h (Ok x) lt w = lexed_takes (text_len h) _ h (step x.1) os (omega (arith, step_len x.1))
+escaped_takes os h (Err f) lt w = err_takes _ _
+
+less_within : {n m : ℕ} {r : Result (List ℕ × Here) Fault} → n ≤ m → Within n r → Within m r
+less_within {r = Ok x} le w = omega arith
+less_within {r = Err f} le w = tt
+
 quoted_takes : (os : List Opener) (h : Here) → 0 < text_len h → Takes (text_len h) (double_quoted os h)
 unfolding double_quoted
 quoted_takes os h some =
-    if_takes (next_char (past_chunk is_inner (step h)) == 0x22) (λ _. lexed_takes (text_len h) _ h _ os (omega (arith, step_len h, past_chunk_len is_inner (step h), step_len (past_chunk is_inner (step h))))) (λ _. err_takes _ _)
+    if_takes (next_char (past_chunk is_inner (step h)) == 0x22)
+    (λ _. lexed_takes (text_len h) _ h _ os (omega (arith, step_len h, past_chunk_len is_inner (step h), step_len (past_chunk is_inner (step h)))))
+    (λ _. escaped_takes os h _ (omega (arith, step_len h))
+    (within_then (text_len (step h)) (escaped_pieces (mark_of h) (past_chunk is_inner (step h))) _ (less_within (past_chunk_len is_inner (step h)) (pieces_within (mark_of h) (past_chunk is_inner (step h)))) (λ x p. p)))
 
 open_takes : (o : OptionsData) (bracket : Bracket) (os : List Opener) (h : Here) → 0 < text_len h → Takes (text_len h) (open_bracket o bracket os h)
 unfolding open_bracket

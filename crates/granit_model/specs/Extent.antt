@@ -1,10 +1,10 @@
 -- Which lexeme stands at an index, how far it goes, and its value.
-use Rattle.std.specs.Prelude.{◌≡◌, ℕ, ◌+◌, true, List, [], ◌∷◌, ◌++◌, length}
+use Rattle.std.specs.Prelude.{◌≡◌, ℕ, ◌+◌, not, List, [], ◌∷◌, ◌++◌, length}
 use Rattle.granit_base.specs.declared.style.ScalarStyle.TheVariants.{DoubleQuoted}
 use Rattle.granit_model.specs.Lexeme.{Lexeme, LexemeKind, DocumentStart, SequenceOpen, SequenceClose, MappingOpen, MappingClose, Comma, Question, Colon, Scalar}
 use Rattle.granit_model.specs.Place.{place_of, mark_at}
-use Rattle.granit_model.specs.Start.{is_inner}
-use Rattle.granit_model.specs.Gap.{Each, StandsAt}
+use Rattle.granit_model.specs.Decoding.{Content, has_backslash}
+use Rattle.granit_model.specs.Gap.{StandsAt}
 
 -- the characters that spell a lexeme of a kind, with its value
 pub data Spells : LexemeKind → List ℕ → Type 0 where
@@ -18,9 +18,9 @@ pub data Spells : LexemeKind → List ℕ → Type 0 where
   comma : Spells Comma (0x2C ∷ [])
   question : Spells Question (0x3F ∷ [])
   colon : Spells Colon (0x3A ∷ [])
-  -- a double-quoted scalar on one line: its value is what stands between its quotes, lent from the text (7.3.1)
-  quoted : {content : List ℕ} → Each is_inner content
-      → Spells (Scalar DoubleQuoted (record { characters = content; is_borrowed = true })) (0x22 ∷ (content ++ 0x22 ∷ []))
+  -- a double-quoted scalar on one line, lent from the text where it holds no escape (7.3.1)
+  quoted : {content value : List ℕ} → Content content value
+      → Spells (Scalar DoubleQuoted (record { characters = value; is_borrowed = not (has_backslash content) })) (0x22 ∷ (content ++ 0x22 ∷ []))
 
 -- where a kind may begin: a document mark in column 0 alone
 abbrev pub MayBegin : List ℕ → ℕ → LexemeKind → Type 0

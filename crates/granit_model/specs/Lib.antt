@@ -1,4 +1,5 @@
 pub mod Cause
+pub mod Decoding
 pub mod Events
 pub mod Extent
 pub mod FirstMention
@@ -15,6 +16,7 @@ pub mod Path
 pub mod Pieces
 pub mod Place
 pub mod PlainEvent
+pub mod Quoted
 pub mod ReaderState
 pub mod Reading
 pub mod Start

@@ -1,11 +1,13 @@
 -- The plain machine's reader: the next lexeme, from the state that the lexemes before it left.
-use Rattle.std.specs.Prelude.{Bool, true, ◌==◌, ◌&&◌, nat_le, if◌then◌else◌, List, [], ◌∷◌, length, Option, Some, None, Result, Ok, Err}
+use Rattle.std.specs.Prelude.{ℕ, Bool, true, false, ◌==◌, ◌&&◌, nat_le, if◌then◌else◌, List, [], ◌∷◌, length, Option, Some, None, Result, Ok, Err}
 use Rattle.granit_base.specs.Classes.{is_gap}
 use Rattle.granit_base.specs.declared.style.ScalarStyle.TheVariants.{DoubleQuoted}
 use Rattle.granit_error.specs.FaultKind.{FaultKind, UnclosedFlowCollection, RecursionLimitExceeded, NotBuilt}
 use Rattle.granit_error.specs.OptionsData.{OptionsData}
 use Rattle.granit_model.specs.Here.{Here, text_len, next_char, mark_of, step, past, chunk, past_chunk}
-use Rattle.granit_model.specs.Outcome.{Fault}
+use Rattle.granit_model.specs.Outcome.{Fault, ◌>>=◌}
+use Rattle.granit_model.specs.Pieces.{with_front}
+use Rattle.granit_model.specs.Quoted.{escaped_pieces}
 use Rattle.granit_model.specs.Lexeme.{Lexeme, LexemeKind, DocumentStart, SequenceOpen, SequenceClose, MappingOpen, MappingClose, Comma, Question, Colon, Scalar, wants_gap, Bracket, Square, Curly, Opener, opener_char}
 use Rattle.granit_model.specs.Start.{Glyph, Dash, DoubleQuote, LeftSquare, RightSquare, LeftCurly, RightCurly, CommaSign, QuestionSign, ColonSign, Foreign, glyph, is_inner, at_document_start, is_separated}
 
@@ -46,12 +48,15 @@ mark_in separated openers h = lexed DocumentStart h (step (step (step h))) opene
 unfoldable pub dash : List Opener → Here → Read
 dash openers h = if at_document_start h then mark_in (is_separated h) openers h else refuse NotBuilt h
 
+-- a double-quoted scalar, from its quote up to where it closes
+abbrev pub closed_quote : List Opener → Here → Bool → List ℕ → Here → Read
+closed_quote openers h lends value closing = lexed (Scalar DoubleQuoted (record { characters = value; is_borrowed = lends })) h (step closing) openers
+
 -- a double-quoted scalar on one line
 unfoldable pub double_quoted : List Opener → Here → Read
 double_quoted openers h =
-    if next_char (past_chunk is_inner (step h)) == 0x22 then
-    lexed (Scalar DoubleQuoted (record { characters = chunk is_inner (step h); is_borrowed = h.unread.lends })) h (step (past_chunk is_inner (step h))) openers
-    else refuse NotBuilt h
+    if next_char (past_chunk is_inner (step h)) == 0x22 then closed_quote openers h h.unread.lends (chunk is_inner (step h)) (past_chunk is_inner (step h))
+    else (with_front (chunk is_inner (step h)) (escaped_pieces (mark_of h) (past_chunk is_inner (step h))) >>= λ x. closed_quote openers h false x.0 x.1)
 
 abbrev pub open_kind : Bracket → LexemeKind
 open_kind Square = SequenceOpen
