@@ -63,9 +63,9 @@ escaped_takes : (os : List Opener) (h : Here) (r : Result (List ℕ × Here) Fau
 escaped_takes os h (Ok x) lt w = lexed_takes (text_len h) _ h (step x.1) os (omega (arith, step_len x.1))
 escaped_takes os h (Err f) lt w = err_takes _ _
 
-less_within : {n m : ℕ} {r : Result (List ℕ × Here) Fault} → n ≤ m → Within n r → Within m r
-less_within {r = Ok x} le w = omega arith
-less_within {r = Err f} le w = tt
+less_within : {n m : ℕ} (r : Result (List ℕ × Here) Fault) → n ≤ m → Within n r → Within m r
+less_within (Ok x) le w = omega arith
+less_within (Err f) le w = tt
 
 quoted_takes : (os : List Opener) (h : Here) → 0 < text_len h → Takes (text_len h) (double_quoted os h)
 unfolding double_quoted
@@ -73,7 +73,7 @@ quoted_takes os h some =
     if_takes (next_char (past_chunk is_inner (step h)) == 0x22)
     (λ _. lexed_takes (text_len h) _ h _ os (omega (arith, step_len h, past_chunk_len is_inner (step h), step_len (past_chunk is_inner (step h)))))
     (λ _. escaped_takes os h _ (omega (arith, step_len h))
-    (within_then (text_len (step h)) (escaped_pieces (mark_of h) (past_chunk is_inner (step h))) _ (less_within (past_chunk_len is_inner (step h)) (pieces_within (mark_of h) (past_chunk is_inner (step h)))) (λ x p. p)))
+    (within_then (text_len (step h)) (escaped_pieces (mark_of h) (past_chunk is_inner (step h))) _ (less_within _ (past_chunk_len is_inner (step h)) (pieces_within (mark_of h) (past_chunk is_inner (step h)))) (λ x p. p)))
 
 open_takes : (o : OptionsData) (bracket : Bracket) (os : List Opener) (h : Here) → 0 < text_len h → Takes (text_len h) (open_bracket o bracket os h)
 unfolding open_bracket
