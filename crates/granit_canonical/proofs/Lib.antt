@@ -1,1 +1,5 @@
-
+pub mod Covers
+pub mod Fronts
+pub mod Laws
+pub mod Nesting
+pub mod Quoting

@@ -37,11 +37,11 @@ classes_text = 0x61 ∷ 0x22 ∷ 0x5C ∷ 0x07 ∷ 0x7F ∷ 0xE9 ∷ 0x20AC ∷ 
 abbrev keys_tree : PlainTree
 keys_tree =
     sequence (
-      AfterTrees (
-        AfterTrees (AfterTrees (one (scalar classes_text)) (sequence NoTrees))
-        (mapping (pair (sequence (AfterTrees (one (scalar (codes "k"))) (scalar (0x0A ∷ [])))) (mapping (pair (mapping NoPairs) (scalar [])))))
-      )
-      (mapping NoPairs)
+    AfterTrees (
+    AfterTrees (AfterTrees (one (scalar classes_text)) (sequence NoTrees))
+    (mapping (pair (sequence (AfterTrees (one (scalar (codes "k"))) (scalar (0x0A ∷ [])))) (mapping (pair (mapping NoPairs) (scalar [])))))
+    )
+    (mapping NoPairs)
     )
 
 -- two documents

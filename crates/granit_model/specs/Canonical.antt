@@ -1,12 +1,12 @@
 -- What canonical flow text is read as: the nodes of its trees, at the places where the text puts them.
-use Rattle.std.specs.Prelude.{◌≡◌, ℕ, ◌+◌, true, not, List, [], ◌∷◌, length, Option, None, IfSome}
+use Rattle.std.specs.Prelude.{◌≡◌, ℕ, ◌+◌, true, not, List, [], length, None, IfSome}
 use lib.Utf8.{scalars}
 use Rattle.granit_base.specs.Written.{Written}
 use Rattle.granit_base.specs.declared.style.ScalarStyle.TheVariants.{DoubleQuoted}
 use Rattle.granit_model.specs.Decoding.{has_backslash}
 use Rattle.granit_model.specs.FlowText.{quoted_characters, properties_text, tree_text, comma_unless, entries_text, pairs_text, documents_text}
 use Rattle.granit_model.specs.Lexeme.{Source}
-use Rattle.granit_model.specs.Node.{Node, ScalarNode, EmptySequence, Sequence, EmptyMapping, Mapping, Entries, Entry, EntryLead, FirstEntry, NextEntry, Pairs, Pair, PairLead, FirstPair, NextPair, Documents, NoDocument, Document}
+use Rattle.granit_model.specs.Node.{Node, ScalarNode, EmptySequence, Sequence, EmptyMapping, Mapping, Entry, EntryLead, FirstEntry, NextEntry, Pair, PairLead, FirstPair, NextPair, Documents, NoDocument, Document}
 use Rattle.granit_model.specs.Place.{mark_at}
 use Rattle.granit_model.specs.Tree.{Properties, PlainTree, AliasOf, ScalarOf, SequenceOf, MappingOf, PlainTrees, NoTrees, AfterTrees, PlainPairs, NoPairs, AfterPairs, no_trees, no_pairs}
 
