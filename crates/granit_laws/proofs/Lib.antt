@@ -11,8 +11,10 @@ pub mod GrammarRefused
 pub mod GrammarSound
 pub mod GrammarSteps
 pub mod Laws
+pub mod LexingEscapes
 pub mod LexingGlyphs
 pub mod LexingOnce
+pub mod LexingQuoted
 pub mod LexingReads
 pub mod LexingRuns
 pub mod Places
