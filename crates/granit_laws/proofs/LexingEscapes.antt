@@ -1,5 +1,5 @@
 -- What is read behind a backslash: the escape that stands there, or a refusal where none does.
-use Rattle.std.proofs.Common.{◌≡◌, ℕ, zero, suc, ◌+◌, ◌*◌, ◌<◌, Bool, true, false, cond, ◌==◌, ◌&&◌, List, [], ◌∷◌, ◌++◌, length, drop, refl, sym, ap, ap₂, ◌∙◌, subst, arith, append_assoc, add-zero, length-append, Option, Some, None, Result, Ok, Err, ◌⊎◌, inl, inr}
+use Rattle.std.proofs.Common.{◌≡◌, ℕ, zero, suc, ◌+◌, ◌*◌, Bool, true, false, cond, ◌==◌, ◌&&◌, List, [], ◌∷◌, ◌++◌, length, drop, refl, sym, ap, ap₂, ◌∙◌, subst, arith, append_assoc, add-zero, length-append, Option, Some, None, Ok, ◌⊎◌, inl, inr}
 use Rattle.std.specs.Prelude.{slice_index}
 use Rattle.std.proofs.lemmas.Bool.Decides.{nat_tests}
 use lib.Utf8.{scalar}
@@ -8,7 +8,7 @@ use Rattle.granit_base.specs.Place.{Mark, first}
 use Rattle.granit_model.specs.Decoding.{letter_value, digit_count, number_behind, number_of, is_high, is_low, joined, AreDigits, Escape, letter, number, halves}
 use Rattle.granit_model.specs.Gap.{Each}
 use Rattle.granit_model.specs.Here.{Here, next_char, step}
-use Rattle.granit_model.specs.Outcome.{Fault, ◌>>=◌}
+use Rattle.granit_model.specs.Outcome.{◌>>=◌}
 use Rattle.granit_model.specs.Quoted.{refuse_at, digits, joined_at, second_half, numbered, escape_by, escape}
 use Rattle.granit_laws.specs.Standing.{here_at}
 use Rattle.granit_laws.proofs.LexingRuns.{next_is, rest_of, along}
@@ -241,7 +241,7 @@ module _ (start : Mark) (x : List ℕ) where
         let half : is_high (number_of ds) ≡ true = grind (arith, nat_tests) in
         let is_u : l ≡ 0x75 = four_digits l count h four in
         let w : drop i x ≡ 0x5C ∷ 0x75 ∷ (ds ++ 0x5C ∷ 0x75 ∷ (low ++ r)) =
-          past_digits ds u f ∙ ap₂ (λ k (v : List ℕ). 0x5C ∷ k ∷ (ds ++ v)) is_u (sym (rest_of x (suc (suc i)) ds u f) ∙ g) in
+        past_digits ds u f ∙ ap₂ (λ k (v : List ℕ). 0x5C ∷ k ∷ (ds ++ v)) is_u (sym (rest_of x (suc (suc i)) ds u f) ∙ g) in
         inl (
           0x5C ∷ 0x75 ∷ (ds ++ 0x5C ∷ 0x75 ∷ low),
           joined (number_of ds) (number_of low),

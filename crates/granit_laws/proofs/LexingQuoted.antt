@@ -1,5 +1,5 @@
 -- What is read between double quotes: the content that stands there, or a refusal where none does.
-use Rattle.std.proofs.Common.{◌≡◌, ℕ, zero, suc, ◌+◌, ◌<◌, Bool, true, false, not, ◌==◌, ◌&&◌, ◌||◌, List, [], ◌∷◌, ◌++◌, length, take, drop, refl, sym, ap, ap₂, ◌∙◌, arith, append_assoc, add-zero, length-append, Option, Some, None, Result, Ok, Err, ◌⊎◌, inl, inr}
+use Rattle.std.proofs.Common.{◌≡◌, ℕ, zero, suc, ◌+◌, ◌<◌, Bool, true, false, not, ◌==◌, ◌||◌, List, [], ◌∷◌, ◌++◌, length, take, drop, refl, sym, ap, ap₂, ◌∙◌, arith, append_assoc, add-zero, length-append, Some, None, Result, Ok, Err, ◌⊎◌, inl, inr}
 use Rattle.std.specs.Prelude.{if◌then◌else◌}
 use Rattle.std.proofs.lemmas.Bool.Decides.{nat_tests}
 use Rattle.std.proofs.Math.Seq.{drop-append_seam}
@@ -8,7 +8,7 @@ use Rattle.granit_base.specs.Place.{Mark, first}
 use Rattle.granit_error.specs.FaultKind.{NotBuilt}
 use Rattle.granit_model.specs.Decoding.{Escape, letter, number, halves, Content, nothing, itself, escaped, has_backslash}
 use Rattle.granit_model.specs.Gap.{Each}
-use Rattle.granit_model.specs.Here.{Here, text_len, next_char, mark_of, step, chunk, past_chunk}
+use Rattle.granit_model.specs.Here.{Here, text_len, next_char, step, chunk, past_chunk}
 use Rattle.granit_model.specs.Lexeme.{Opener}
 use Rattle.granit_model.specs.Place.{mark_at}
 use Rattle.granit_model.specs.Outcome.{Fault, ◌>>=◌}
@@ -20,7 +20,7 @@ use Rattle.granit_model.proofs.PieceLemmas.{with_front-nil, with_front-with_fron
 use Rattle.granit_model.proofs.QuotedLemmas.{piece_shortens}
 use Rattle.granit_laws.specs.Standing.{here_at}
 use Rattle.granit_laws.proofs.LexingEscapes.{if_yes, if_no, EscapeAt, escape_is, escape_or}
-use Rattle.granit_laws.proofs.LexingRuns.{Ends, run_of, same_run, rest_of, along, next_is, take_front, chunk_is, past_chunk_is}
+use Rattle.granit_laws.proofs.LexingRuns.{Ends, run_of, same_run, rest_of, along, take_front, chunk_is, past_chunk_is}
 use Rattle.granit_laws.proofs.Places.{step_is, rest_behind}
 
 quote_not_inner : is_inner 0x22 ≡ false
@@ -93,9 +93,9 @@ module _ (start : Mark) (x : List ℕ) where
   scan_escape : (i c k : ℕ) (t : List ℕ) → drop i x ≡ 0x5C ∷ t → escape start (here_at x (suc i)) ≡ Ok (c, here_at x k) → scan start (here_at x i) ≡ with_front (c ∷ []) (scan start (here_at x k))
   scan_escape i c k t e is =
       let piece : escaped_piece start (here_at x i) ≡ Ok (Some (c ∷ chunk is_inner (here_at x k)), past_chunk is_inner (here_at x k)) =
-        turn_escapes i (ap first e)
-        ∙ ap (λ h. escape start h >>= λ y. Ok (Some (y.0 ∷ chunk is_inner y.1), past_chunk is_inner y.1)) (step_is x i 0x5C t e)
-        ∙ ap (λ r. r >>= λ y. Ok (Some (y.0 ∷ chunk is_inner y.1), past_chunk is_inner y.1)) is in
+      turn_escapes i (ap first e)
+      ∙ ap (λ h. escape start h >>= λ y. Ok (Some (y.0 ∷ chunk is_inner y.1), past_chunk is_inner y.1)) (step_is x i 0x5C t e)
+      ∙ ap (λ r. r >>= λ y. Ok (Some (y.0 ∷ chunk is_inner y.1), past_chunk is_inner y.1)) is in
       scan_here i (ap (λ (l : List ℕ). is_inner (first l)) e ∙ backslash_not_inner)
       ∙ pieces_more text_len (escaped_piece start) (piece_shortens start) (here_at x i) (past_chunk is_inner (here_at x k)) (c ∷ chunk is_inner (here_at x k)) piece
       ∙ sym (with_front-with_front (c ∷ []) (chunk is_inner (here_at x k)) (escaped_pieces start (past_chunk is_inner (here_at x k))))
@@ -149,9 +149,9 @@ module _ (start : Mark) (x : List ℕ) where
         (more (i + length s) (omega (arith, escape_some s d esc, length-append s u, ap (length {A = ℕ}) f, ap (length {A = ℕ}) (rest_of x i s u f))))
     escape_then q p (inr bad) more =
         let refused : escaped_piece start (here_at x i) ≡ refuse_at start =
-          turn_escapes i (ap first e ∙ q)
-          ∙ ap (λ h. escape start h >>= λ y. Ok (Some (y.0 ∷ chunk is_inner y.1), past_chunk is_inner y.1)) (step_is x i c t e)
-          ∙ ap (λ r. r >>= λ y. Ok (Some (y.0 ∷ chunk is_inner y.1), past_chunk is_inner y.1)) bad in
+        turn_escapes i (ap first e ∙ q)
+        ∙ ap (λ h. escape start h >>= λ y. Ok (Some (y.0 ∷ chunk is_inner y.1), past_chunk is_inner y.1)) (step_is x i c t e)
+        ∙ ap (λ r. r >>= λ y. Ok (Some (y.0 ∷ chunk is_inner y.1), past_chunk is_inner y.1)) bad in
         inr (scan_stops i (there is_inner false p) refused)
 
     character_or : (inner quote backslash : Bool) → is_inner c ≡ inner → (c == 0x22) ≡ quote → (c == 0x5C) ≡ backslash
@@ -198,6 +198,9 @@ abbrev index_of : Result (List ℕ × Here) Fault → ℕ
 index_of (Ok y) = y.1.place.index
 index_of (Err f) = 0
 
+same_length : (m n : ℕ) → 0 + m ≡ 0 + n → m ≡ n
+same_length m n e = omega arith
+
 any_mark : Mark
 any_mark = record { place = record { index = 0; line = 1; column = 0 }; byte_offset = None }
 
@@ -207,7 +210,7 @@ one_content cs ds value other t u a b e =
     let q = scan_is any_mark (cs ++ 0x22 ∷ t) ds other u 0 b e in
     let both : Ok (value, here_at (cs ++ 0x22 ∷ t) (0 + length cs)) ≡ Ok (other, here_at (cs ++ 0x22 ∷ t) (0 + length ds)) = sym p ∙ q in
     let n : 0 + length cs ≡ 0 + length ds = ap index_of both in
-    let len : length cs ≡ length ds = omega arith in
+    let len = same_length (length cs) (length ds) n in
     let same : cs ≡ ds = sym (take_front cs (0x22 ∷ t)) ∙ ap₂ take len e ∙ take_front ds (0x22 ∷ u) in
     let rest : 0x22 ∷ t ≡ 0x22 ∷ u = sym (drop-append_seam cs (0x22 ∷ t)) ∙ ap₂ drop len e ∙ drop-append_seam ds (0x22 ∷ u) in
     record { contents = same; values = ap value_of both; behind = ap (drop 1) rest }
