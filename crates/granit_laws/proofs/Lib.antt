@@ -11,12 +11,5 @@ pub mod GrammarRefused
 pub mod GrammarSound
 pub mod GrammarSteps
 pub mod Laws
-pub mod LexingEscapes
-pub mod LexingGlyphs
-pub mod LexingOnce
-pub mod LexingQuoted
-pub mod LexingReads
-pub mod LexingRuns
-pub mod Places
 pub mod Unread
 pub mod Spans

@@ -1,8 +1,7 @@
 //! Worked examples of the plain machine, by computation. Their lines come from the original and from an
 //! independent judge of the grammar.
-ghost use Rattle.std.specs.Prelude.{◌≡◌, [], ◌∷◌, codes, map, replicate, ◌++◌, length};
-ghost use Rattle.granit_laws.specs.Examples.{prints, mark, lines_text};
-ghost use Rattle.granit_model.specs.Place.{mark_at};
+ghost use Rattle.std.specs.Prelude.{◌≡◌, [], codes};
+ghost use Rattle.granit_laws.specs.Examples.{prints};
 
 /// Texts that are read.
 pub fn lines_of_the_examples()
@@ -39,9 +38,4 @@ pub fn faults_of_the_examples()
     ensures digits_of_x { prints (codes "--- \"\\x4g\"") ≡ codes "fault 96: not built yet at char 4 line 1 column 5\n" }
     ensures upper_x { prints (codes "--- \"\\X41\"") ≡ codes "fault 96: not built yet at char 4 line 1 column 5\n" }
     ensures escaped_break { prints (codes "--- \"a\\\nb\"") ≡ codes "fault 96: not built yet at char 4 line 1 column 5\n" }
-{}
-
-/// Places behind LF, CR and CR LF, behind characters of two, three and four bytes, and at the end.
-pub fn places_of_the_examples()
-    ensures { map (mark_at lines_text) (0 ∷ 1 ∷ 2 ∷ 3 ∷ 4 ∷ 5 ∷ 6 ∷ 7 ∷ 8 ∷ 9 ∷ 10 ∷ []) ≡ mark 0 1 0 0 ∷ mark 1 1 1 1 ∷ mark 2 2 0 2 ∷ mark 3 2 1 3 ∷ mark 4 3 0 4 ∷ mark 5 3 1 5 ∷ mark 6 3 2 6 ∷ mark 7 4 0 7 ∷ mark 8 4 1 9 ∷ mark 9 4 2 12 ∷ mark 10 4 3 16 ∷ [] }
 {}

@@ -9,7 +9,7 @@ use Rattle.granit_base.specs.Place.{Place, ends_line, past_first, place_after}
 use Rattle.granit_model.specs.Here.{Here, step, mark_of, start_of}
 use Rattle.granit_model.specs.Place.{one_more_if, line_ends, if_none, if_ends, since_line_end, place_of, mark_at}
 use Rattle.granit_model.proofs.HereLemmas.{not_empty}
-use Rattle.granit_laws.specs.Standing.{here_with, here_at}
+use Rattle.granit_lexing.specs.Standing.{here_with, here_at}
 
 -- the marks of a reader at an index are those that are counted
 pub mark_is : (x : List ℕ) (i : ℕ) → mark_of (here_at x i) ≡ mark_at x i

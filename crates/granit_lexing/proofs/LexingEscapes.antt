@@ -10,9 +10,9 @@ use Rattle.granit_model.specs.Gap.{Each}
 use Rattle.granit_model.specs.Here.{Here, next_char, step}
 use Rattle.granit_model.specs.Outcome.{◌>>=◌}
 use Rattle.granit_model.specs.Quoted.{refuse_at, digits, joined_at, second_half, numbered, escape_by, escape}
-use Rattle.granit_laws.specs.Standing.{here_at}
-use Rattle.granit_laws.proofs.LexingRuns.{next_is, rest_of, along}
-use Rattle.granit_laws.proofs.Places.{step_is, rest_behind}
+use Rattle.granit_lexing.specs.Standing.{here_at}
+use Rattle.granit_lexing.proofs.LexingRuns.{next_is, rest_of, along}
+use Rattle.granit_lexing.proofs.Places.{step_is, rest_behind}
 
 pub if_yes : {A : Type 0} (b : Bool) (p q : A) → b ≡ true → cond b p q ≡ p
 if_yes true p q e = refl

@@ -11,7 +11,7 @@ use Rattle.granit_model.specs.Extent.{IsLexeme}
 use Rattle.granit_model.specs.ReaderState.{ReaderState, Read}
 use Rattle.granit_model.specs.Reading.{Before, behind_lexeme}
 use Rattle.granit_model.specs.Cause.{IsDocumentMark}
-use Rattle.granit_laws.specs.Standing.{state_at}
+use Rattle.granit_lexing.specs.Standing.{state_at}
 
 -- whether a lexeme of a kind may come where these brackets are open and that stands behind it: a closer closes the
 -- innermost one, and a document mark that is separated meets none

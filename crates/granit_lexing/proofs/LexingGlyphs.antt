@@ -7,7 +7,7 @@ use Rattle.granit_model.specs.Decoding.{Content}
 use Rattle.granit_model.specs.Lexeme.{LexemeKind, DocumentStart, SequenceOpen, SequenceClose, MappingOpen, MappingClose, Comma, Question, Colon, Scalar}
 use Rattle.granit_model.specs.Start.{Glyph, Dash, DoubleQuote, LeftSquare, RightSquare, LeftCurly, RightCurly, CommaSign, QuestionSign, ColonSign, Foreign, glyph}
 use Rattle.granit_model.specs.Extent.{Spells, dashes, left_square, right_square, left_curly, right_curly, comma, question, colon, quoted}
-use Rattle.granit_laws.proofs.LexingRuns.{Ends}
+use Rattle.granit_lexing.proofs.LexingRuns.{Ends}
 
 pub dash_is : (c : ℕ) → glyph c ≡ Dash → c ≡ 0x2D
 unfolding glyph

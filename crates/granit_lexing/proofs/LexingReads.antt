@@ -18,13 +18,13 @@ use Rattle.granit_model.specs.Extent.{Spells, dashes, left_square, right_square,
 use Rattle.granit_model.specs.ReaderState.{ReaderState, Read, refuse, lexed, text_end, mark_in, dash, double_quoted, open_kind, open_bracket, close_square, close_curly, close_bracket, lexeme_at, behind_gap, next_lexeme}
 use Rattle.granit_model.specs.Reading.{Before, openers_behind}
 use Rattle.granit_model.specs.Cause.{IsDocumentMark}
-use Rattle.granit_laws.specs.Standing.{here_at, state_at}
-use Rattle.granit_laws.specs.Finding.{Fits, Misfits, Strange, no_gap, misfit, foreign, FindsFault, Reads}
+use Rattle.granit_lexing.specs.Standing.{here_at, state_at}
+use Rattle.granit_lexing.specs.Finding.{Fits, Misfits, Strange, no_gap, misfit, foreign, FindsFault, Reads}
 use Rattle.granit_model.proofs.HereLemmas.{not_empty}
-use Rattle.granit_laws.proofs.Places.{rest_behind, step_is}
-use Rattle.granit_laws.proofs.LexingRuns.{Ends, run_of, rest_of, past_is}
-use Rattle.granit_laws.proofs.LexingQuoted.{scan, ContentAt, scan_or, quoted_is, no_content, quoted_refused}
-use Rattle.granit_laws.proofs.LexingGlyphs.{dash_is, quote_is, left_square_is, right_square_is, left_curly_is, right_curly_is, comma_is, question_is, colon_is, starts, not_foreign, apart, content_in}
+use Rattle.granit_lexing.proofs.Places.{rest_behind, step_is}
+use Rattle.granit_lexing.proofs.LexingRuns.{Ends, run_of, rest_of, past_is}
+use Rattle.granit_lexing.proofs.LexingQuoted.{scan, ContentAt, scan_or, quoted_is, no_content, quoted_refused}
+use Rattle.granit_lexing.proofs.LexingGlyphs.{dash_is, quote_is, left_square_is, right_square_is, left_curly_is, right_curly_is, comma_is, question_is, colon_is, starts, not_foreign, apart, content_in}
 
 -- no lexeme stands at an index
 abbrev pub NoLexeme : List ℕ → ℕ → Type 0

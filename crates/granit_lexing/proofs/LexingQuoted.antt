@@ -18,10 +18,10 @@ use Rattle.granit_model.specs.ReaderState.{Read, refuse, closed_quote, double_qu
 use Rattle.granit_model.specs.Start.{is_inner}
 use Rattle.granit_model.proofs.PieceLemmas.{with_front-nil, with_front-with_front, pieces_done, pieces_more, pieces_fails}
 use Rattle.granit_model.proofs.QuotedLemmas.{piece_shortens}
-use Rattle.granit_laws.specs.Standing.{here_at}
-use Rattle.granit_laws.proofs.LexingEscapes.{if_yes, if_no, EscapeAt, escape_is, escape_or}
-use Rattle.granit_laws.proofs.LexingRuns.{Ends, run_of, same_run, rest_of, along, take_front, chunk_is, past_chunk_is}
-use Rattle.granit_laws.proofs.Places.{step_is, rest_behind}
+use Rattle.granit_lexing.specs.Standing.{here_at}
+use Rattle.granit_lexing.proofs.LexingEscapes.{if_yes, if_no, EscapeAt, escape_is, escape_or}
+use Rattle.granit_lexing.proofs.LexingRuns.{Ends, run_of, same_run, rest_of, along, take_front, chunk_is, past_chunk_is}
+use Rattle.granit_lexing.proofs.Places.{step_is, rest_behind}
 
 quote_not_inner : is_inner 0x22 ≡ false
 unfolding is_inner is_printable is_break

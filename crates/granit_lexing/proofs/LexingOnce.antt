@@ -13,12 +13,12 @@ use Rattle.granit_model.specs.Start.{Glyph, Dash, DoubleQuote, LeftSquare, Right
 use Rattle.granit_model.specs.Gap.{StandsAt, IsGap, Parts}
 use Rattle.granit_model.specs.Extent.{Spells, dashes, left_square, right_square, left_curly, right_curly, comma, question, colon, quoted, IsLexeme}
 use Rattle.granit_model.specs.Reading.{Before, behind_lexeme, behind_all, Reached, stops, goes_on}
-use Rattle.granit_laws.specs.Standing.{here_at}
-use Rattle.granit_laws.proofs.Places.{a_character}
-use Rattle.granit_laws.proofs.LexingRuns.{Ends, same_run, rest_of, take_front}
-use Rattle.granit_laws.proofs.LexingGlyphs.{glyph_of, starts, no_gap_first, not_nothing}
-use Rattle.granit_laws.proofs.LexingQuoted.{scan, scan_is}
-use Rattle.granit_laws.proofs.LexingReads.{NoLexeme, in_quotes}
+use Rattle.granit_lexing.specs.Standing.{here_at}
+use Rattle.granit_lexing.proofs.Places.{a_character}
+use Rattle.granit_lexing.proofs.LexingRuns.{Ends, same_run, rest_of, take_front}
+use Rattle.granit_lexing.proofs.LexingGlyphs.{glyph_of, starts, no_gap_first, not_nothing}
+use Rattle.granit_lexing.proofs.LexingQuoted.{scan, scan_is}
+use Rattle.granit_lexing.proofs.LexingReads.{NoLexeme, in_quotes}
 
 -- the kind and the characters of a lexeme that begins so
 abbrev scalar_in : List ℕ → Result (List ℕ × Here) Fault → Option (LexemeKind × List ℕ)
