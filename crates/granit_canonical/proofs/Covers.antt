@@ -12,7 +12,8 @@ use Rattle.granit_model.specs.Place.{since_line_end}
 use Rattle.granit_model.specs.Reading.{Before, behind_lexeme, nothing_before, Reached, goes_on}
 use Rattle.granit_model.specs.Tree.{Properties, PlainTree, AliasOf, ScalarOf, SequenceOf, MappingOf, PlainTrees, NoTrees, AfterTrees, PlainPairs, NoPairs, AfterPairs, no_trees, no_pairs}
 use Rattle.granit_model.specs.Yield.{lexeme, spell, spell_entry_lead, spell_pair_lead, spell_documents}
-use Rattle.granit_model.proofs.PlaceLemmas.{rest_of, line_begins}
+use Rattle.granit_lexing.proofs.LexingRuns.{rest_of}
+use Rattle.granit_lexing.proofs.Places.{column_behind}
 use Rattle.granit_canonical.proofs.Fronts.{Fronts, both_long, quoted_front, tree_front, entries_front, pairs_front, documents_front, entry_offset_front, pair_offset_front}
 use Rattle.granit_canonical.proofs.Nesting.{settled, spell_pair_at}
 use Rattle.granit_canonical.proofs.Quoting.{content_of}
@@ -221,6 +222,10 @@ module _ (x : List ℕ) where
         (comma_leads b m j (i + pair_offset (AfterPairs ps k v)) rest ls (behind (pairs_text (AfterPairs ps k v)) i (0x2C ∷ 0x20 ∷ rest) (pairs_front (AfterPairs ps k v)) e)
         (omega (arith, both_long (pairs_text (AfterPairs ps k v)) (λ l. 0x2C ∷ 0x20 ∷ l) (pairs_front (AfterPairs ps k v)))) f)
 
+  -- behind a line feed a line begins
+  line_begins : (i : ℕ) (rest : List ℕ) → drop i x ≡ 0x0A ∷ rest → since_line_end x (suc i) ≡ 0
+  line_begins i rest e = column_behind x i 0x0A rest e
+
   -- over documents from the start of the text on: behind them a line begins
   pub documents_lead : (ts : PlainTrees) (j : ℕ) (rest : List ℕ) (ls : List Lexeme) → Bare ts → HasCharacters ts → x ≡ documents_text ts rest
       → ((k : ℕ) (g : List ℕ) → IsGap g → drop k x ≡ g ++ rest → k + length g ≡ documents_width ts → since_line_end x (documents_width ts) ≡ 0 → Reached x nothing_before k ls j)
@@ -240,4 +245,4 @@ module _ (x : List ℕ) where
       omega (arith, both_long (documents_text ts) (λ l. 0x2D ∷ 0x2D ∷ 0x2D ∷ 0x20 ∷ tree_text t (0x0A ∷ l)) (documents_front ts), both_long (tree_text t) (λ l. 0x0A ∷ l) (tree_front t)) in
       taken DocumentStart (0x2D ∷ 0x2D ∷ 0x2D ∷ []) g (0x20 ∷ root) nothing_before k i 3 j (spell (node_at x (i + 4) t) ls) dashes refl z p (not_owed g) d q
       (tree_leads t (i + 4) h.1 c.1 owing (i + 3) j (0x20 ∷ []) (0x0A ∷ rest) ls space_gap a_space (rest_of x i (0x2D ∷ 0x2D ∷ 0x2D ∷ []) (0x20 ∷ root) at_dashes) (omega arith)
-      (f m (0x0A ∷ []) feed_gap at_feed (omega arith) (subst (λ a. since_line_end x a ≡ 0) long (line_begins x m rest at_feed)))))
+      (f m (0x0A ∷ []) feed_gap at_feed (omega arith) (subst (λ a. since_line_end x a ≡ 0) long (line_begins m rest at_feed)))))

@@ -3,7 +3,7 @@ use Rattle.std.proofs.Common.{◌≡◌, ◌≢◌, ℕ, zero, suc, ◌+◌, ◌
 use Rattle.std.proofs.lemmas.List.{append-nil}
 use Rattle.granit_base.specs.Classes.{is_gap, is_break, is_blank_or_breakz}
 use Rattle.granit_base.specs.Place.{Mark, first, ends_line}
-use Rattle.granit_error.specs.FaultKind.{FaultKind, NoMemory, UnclosedFlowCollection, RecursionLimitExceeded, NotBuilt}
+use Rattle.granit_error.specs.FaultKind.{FaultKind, UnclosedFlowCollection, RecursionLimitExceeded, NotBuilt}
 use Rattle.granit_error.specs.OptionsData.{OptionsData}
 use Rattle.granit_model.specs.Cause.{ReachedTo, open_brackets, IsDocumentMark, Unclosed, TooDeep, Begins, NotTaken, at_end, at_no_gap, at_lexeme, at_foreign}
 use Rattle.granit_model.specs.Events.{document_events, events}
@@ -21,9 +21,9 @@ use Rattle.granit_model.specs.PlainEvent.{PlainEvent, event_on, StreamStart, Str
 use Rattle.granit_model.specs.ReaderState.{ReaderState, Read, next_lexeme}
 use Rattle.granit_model.specs.Reading.{Before, nothing_before, behind_lexeme, behind_all, Reached, stops, goes_on, NestsWithin, Reading}
 use Rattle.granit_model.specs.Yield.{spell_documents}
-use Rattle.granit_laws.specs.Finding.{Fits, Misfits, Finds, FindsEnd, FindsUnclosed, FindsTooDeep, Strange, no_gap, misfit, foreign, FindsStrange, FindsFault, Reads}
+use Rattle.granit_lexing.specs.Finding.{Fits, Misfits, Finds, FindsEnd, FindsUnclosed, FindsTooDeep, Strange, no_gap, misfit, foreign, FindsStrange, FindsFault, Reads}
 use Rattle.granit_laws.specs.Parsed.{parse}
-use Rattle.granit_laws.specs.Standing.{here_at, state_at}
+use Rattle.granit_lexing.specs.Standing.{here_at, state_at}
 use Rattle.granit_laws.proofs.GrammarAppend.{parse_next}
 use Rattle.granit_laws.proofs.GrammarBegins.{begins}
 use Rattle.granit_laws.proofs.GrammarBrackets.{behind_append}
@@ -31,9 +31,9 @@ use Rattle.granit_laws.proofs.GrammarGoesOn.{WantsOpen, documents_want}
 use Rattle.granit_laws.proofs.GrammarOpen.{document_events_front}
 use Rattle.granit_laws.proofs.GrammarRefused.{fault_is, refused, short}
 use Rattle.granit_laws.proofs.GrammarSound.{sound}
-use Rattle.granit_laws.proofs.LexingReads.{next_lexeme_reads}
-use Rattle.granit_laws.proofs.LexingRuns.{no_line_end}
-use Rattle.granit_laws.proofs.Places.{same_first, mark_is, start_is, rest_behind, column_behind, next_column}
+use Rattle.granit_lexing.proofs.LexingReads.{next_lexeme_reads}
+use Rattle.granit_lexing.proofs.LexingRuns.{no_line_end}
+use Rattle.granit_lexing.proofs.Places.{same_first, mark_is, start_is, rest_behind, column_behind, next_column}
 
 -- the last of some lexemes, which wants a gap, and its end
 pub record LastWants (x : List ℕ) (ls : List Lexeme) (i : ℕ) : Type 0 where

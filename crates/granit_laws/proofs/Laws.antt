@@ -13,7 +13,7 @@ use Rattle.granit_model.specs.PlainEvent.{PlainEvent}
 use Rattle.granit_model.specs.Reading.{Reading}
 use Rattle.granit_laws.proofs.GrammarComplete.{one_tree}
 use Rattle.granit_laws.proofs.Answered.{Why, Answered, answered}
-use Rattle.granit_laws.proofs.LexingOnce.{reached_once}
+use Rattle.granit_lexing.proofs.LexingOnce.{reached_once}
 use Rattle.granit_laws.proofs.Unread.{not_unclosed, not_too_deep, not_refused}
 
 -- an answer is the event list of a reading

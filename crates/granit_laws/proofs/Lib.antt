@@ -11,10 +11,5 @@ pub mod GrammarRefused
 pub mod GrammarSound
 pub mod GrammarSteps
 pub mod Laws
-pub mod LexingGlyphs
-pub mod LexingOnce
-pub mod LexingReads
-pub mod LexingRuns
-pub mod Places
 pub mod Unread
 pub mod Spans

@@ -14,9 +14,9 @@ use Rattle.granit_model.specs.Reading.{Before, nothing_before, openers_behind, b
 use Rattle.granit_model.specs.Yield.{spell_documents}
 use Rattle.granit_laws.proofs.GrammarBrackets.{documents_close}
 use Rattle.granit_laws.proofs.GrammarGoesOn.{WantsOpen, documents_want}
-use Rattle.granit_laws.proofs.LexingOnce.{all_reached, GoesOn, goes_on_there, lexeme_follows, no_lexeme_follows, gap_is_missing_behind}
-use Rattle.granit_laws.proofs.LexingReads.{within_at}
-use Rattle.granit_laws.proofs.Places.{a_character, same_first}
+use Rattle.granit_lexing.proofs.LexingOnce.{all_reached, GoesOn, goes_on_there, lexeme_follows, no_lexeme_follows, gap_is_missing_behind}
+use Rattle.granit_lexing.proofs.LexingReads.{within_at}
+use Rattle.granit_lexing.proofs.Places.{a_character, same_first}
 
 dash_no_gap : is_gap 0x2D ≡ false
 unfolding is_gap is_blank is_break

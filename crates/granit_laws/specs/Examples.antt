@@ -1,6 +1,5 @@
 -- Words of the worked examples.
-use Rattle.std.specs.Prelude.{ℕ, List, [], ◌∷◌, Some}
-use Rattle.granit_base.specs.Place.{Mark}
+use Rattle.std.specs.Prelude.{ℕ, List}
 use Rattle.granit_error.specs.OptionsData.{default_options}
 use Rattle.granit_model.specs.Line.{answer_lines}
 use Rattle.granit_model.specs.Machine.{events_of}
@@ -8,10 +7,3 @@ use Rattle.granit_model.specs.Machine.{events_of}
 -- what is printed for a text under the default options
 abbrev pub prints : List ℕ → List ℕ
 prints text = answer_lines (events_of default_options text)
-
-abbrev pub mark : ℕ → ℕ → ℕ → ℕ → Mark
-mark index line column bytes = record { place = record { index = index; line = line; column = column }; byte_offset = Some bytes }
-
--- `a` LF `b` CR `c` CR LF and characters of two, three and four bytes
-abbrev pub lines_text : List ℕ
-lines_text = 0x61 ∷ 0x0A ∷ 0x62 ∷ 0x0D ∷ 0x63 ∷ 0x0D ∷ 0x0A ∷ 0xE9 ∷ 0x20AC ∷ 0x1F600 ∷ []

@@ -1,4 +1,2 @@
 pub mod Examples
-pub mod Finding
 pub mod Parsed
-pub mod Standing

@@ -1,10 +1,7 @@
 //! What the plain machine answers is what a text is read as.
-ghost use Rattle.std.specs.Prelude.{◌≡◌, ℕ, suc, ◌<◌, List, Ok, length};
+ghost use Rattle.std.specs.Prelude.{◌≡◌, ℕ, List, Ok};
 ghost use Rattle.granit_error.specs.OptionsData.{OptionsData};
 ghost use Rattle.granit_model.specs.Events.{SpansIn, events};
-ghost use Rattle.granit_laws.specs.Standing.{here_at};
-ghost use Rattle.granit_model.specs.Here.{mark_of, start_of, step};
-ghost use Rattle.granit_model.specs.Place.{mark_at};
 ghost use Rattle.granit_model.specs.Lexeme.{Lexeme};
 ghost use Rattle.granit_model.specs.Machine.{events_of};
 ghost use Rattle.granit_model.specs.Node.{Documents};
@@ -29,12 +26,4 @@ pub fn one_reading()
 /// The span of each event of a reading is one of the text, at counted places.
 pub fn every_span_is_in_the_text()
     ensures { (o : OptionsData) (x : List ℕ) (ls : List Lexeme) (ds : Documents) → Reading o x ls ds → SpansIn x (events x ds) }
-{}
-
-/// The place that is kept while reading is the counted one, and so is the byte offset: a character on
-/// from the place of an index is the place of the next.
-pub fn the_kept_place_is_counted()
-    ensures start { (x : List ℕ) → start_of x ≡ here_at x 0 }
-    ensures step { (x : List ℕ) (i : ℕ) → i < length x → step (here_at x i) ≡ here_at x (suc i) }
-    ensures mark { (x : List ℕ) (i : ℕ) → mark_of (here_at x i) ≡ mark_at x i }
 {}

@@ -2,7 +2,6 @@ pub mod FittingLemmas
 pub mod HereLemmas
 pub mod MentionLemmas
 pub mod PieceLemmas
-pub mod PlaceLemmas
 pub mod QuotedLemmas
 pub mod SizeLemmas
 pub mod TextLemmas

@@ -1,5 +1,5 @@
 -- What appended items say of the definition.
-use Rattle.std.proofs.Common.{◌≡◌, Bool, true, false, List, ◌++◌, Option, Some, None, Result, Ok, Err, refl, sym, ap}
+use Rattle.std.proofs.Common.{◌≡◌, Bool, true, false, List, ◌++◌, Option, Some, None, Result, Ok, Err, refl, sym, ap, ap₂}
 use Rattle.granit_error.specs.Refused.{Refused}
 use Rattle.granit_model.specs.Outcome.{Fault, Fails}
 use Rattle.granit_model.specs.Pieces.{with_front}
@@ -39,3 +39,8 @@ push_done after old new (Err f) is = cc
 pub push_fails : {S A : Type 0} (e : Refused) (old : List A) (total : Result (List A × S) Fault) → Fails e (with_front old total) → Fails e total
 push_fails e old (Ok x) fails other = absurd (let is = fails other in cc)
 push_fails e old (Err f) fails other = let is = fails other in cc
+
+-- what a function says that appended its items behind others
+pub pushed_behind : {S A : Type 0} (after : S) (old new : List A) (total : Result (List A × S) Fault) → PushedOk after old new total → with_front old total ≡ Ok (new, after)
+pushed_behind {S = S} {A = A} after old new (Ok x) p = ap₂ (λ (xs : List A) (s : S). Ok (xs, s)) (sym p.0) (sym p.1)
+pushed_behind after old new (Err f) p = absurd p

@@ -3,6 +3,7 @@
 
 mod chunk;
 mod cursor;
+mod escape;
 mod glyph;
 mod lexeme;
 mod load;

@@ -7,6 +7,7 @@ ghost use Rattle.granit_model.specs.Outcome.{Gives};
 ghost use Rattle.granit_error.specs.FaultKind as faults;
 ghost use Rattle.granit_model.specs.Lexeme as spelled;
 ghost use Rattle.granit_model.specs.Start as letters;
+ghost use Rattle.granit_base.specs.declared.style.ScalarStyle.TheVariants.{DoubleQuoted};
 ghost use Rattle.granit_model.specs.ReaderState as spec;
 ghost use Rattle.granit_parser.specs.Lexemes.{lexeme_view, kind_view, bracket_view};
 
@@ -22,6 +23,7 @@ use std::marker::Model;
 /// last lexeme wants a gap.
 #[derive(Drop)]
 pub(crate) struct Scanner<'a> {
+    alloc: Global,
     cursor: Cursor<'a>,
     openers: Vec<Opener>,
     owes_gap: bool,
@@ -43,6 +45,7 @@ impl<'a> Scanner<'a> {
         ensures { result ≡ record { here = here.start_of (chars text.now); openers = []; owes_gap = false } }
     {
         Scanner {
+            alloc,
             cursor: Cursor::new(text),
             openers: Vec::new(alloc),
             owes_gap: false,
@@ -169,15 +172,24 @@ impl<'a> Scanner<'a> {
     {
         let start = self.cursor.mark();
         self.cursor.step();
-        let text = self.cursor.take_chunk();
-        if self.cursor.peek() != '"' {
-            return Err(ScanError::from_kind(start, ErrorKind::NotBuilt));
+        let front = self.cursor.take_chunk();
+        if self.cursor.peek() == '"' {
+            return self.close_quote(Text::borrowed(front), start);
         }
+        let value = self.cursor.escaped_text(self.alloc, start, front)?;
+        self.close_quote(Text::owned(value), start)
+    }
+
+    /// The end of a double-quoted scalar, at its closing quote.
+    fn close_quote(
+        &mut self,
+        text: Text<'a>,
+        start: Marker,
+    ) -> Result<Option<Lexeme<'a>>, ScanError>
+        ensures { Gives (option_map lexeme_view) result self.new (Ok (Some (record { kind = spelled.Scalar DoubleQuoted text.entry; source = record { start = start; end = here.mark_of (here.step self.old.here) } }), record self.old { here = here.step self.old.here; owes_gap = false })) }
+    {
         self.cursor.step();
-        self.lexed(
-            LexemeKind::Scalar(ScalarStyle::DoubleQuoted, Text::borrowed(text)),
-            start,
-        )
+        self.lexed(LexemeKind::Scalar(ScalarStyle::DoubleQuoted, text), start)
     }
 
     /// An opener, where one more bracket may be open (YAML 1.2.2, 7.4).

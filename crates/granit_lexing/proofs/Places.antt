@@ -1,18 +1,15 @@
 -- The place that is kept while reading is the place that is counted on the whole text.
-use Rattle.std.proofs.Common.{◌≡◌, ℕ, zero, suc, ◌+◌, ◌<◌, Bool, true, false, ◌==◌, List, [], ◌∷◌, ◌++◌, length, take, drop, refl, sym, ap, ap₂, ◌∙◌, arith, add-one, length-append, Some}
+use Rattle.std.proofs.Common.{◌≡◌, ℕ, zero, suc, ◌+◌, ◌<◌, Bool, true, false, List, [], ◌∷◌, ◌++◌, length, take, drop, refl, sym, ap, ap₂, ◌∙◌, arith, add-one, length-append, Some}
 use Rattle.std.specs.Prelude.{if◌then◌else◌}
 use Rattle.std.specs.Str.{encode_utf8_all}
 use Rattle.std.specs.Char.{encode_utf8}
 use Rattle.std.proofs.lemmas.Str.{encodes-append}
 use Rattle.std.proofs.lemmas.List.{append-nil}
-use Rattle.std.proofs.lemmas.Bool.Decides.{nat_tests}
 use Rattle.granit_base.specs.Place.{Place, ends_line, past_first, place_after}
 use Rattle.granit_model.specs.Here.{Here, step, mark_of, start_of}
 use Rattle.granit_model.specs.Place.{one_more_if, line_ends, if_none, if_ends, since_line_end, place_of, mark_at}
-use Rattle.granit_laws.specs.Standing.{here_with, here_at}
-
-pub not_empty : (c : ℕ) (t : List ℕ) → (length (c ∷ t) == 0) ≡ false
-not_empty c t = grind (arith, nat_tests)
+use Rattle.granit_model.proofs.HereLemmas.{not_empty}
+use Rattle.granit_lexing.specs.Standing.{here_with, here_at}
 
 -- the marks of a reader at an index are those that are counted
 pub mark_is : (x : List ℕ) (i : ℕ) → mark_of (here_at x i) ≡ mark_at x i

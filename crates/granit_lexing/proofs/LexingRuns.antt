@@ -11,8 +11,8 @@ use Rattle.granit_model.specs.Here.{Here, step, next_char, chosen, skip, past, c
 use Rattle.granit_model.specs.Place.{one_more_if, line_ends, since_line_end}
 use Rattle.granit_model.specs.Gap.{Each}
 use Rattle.granit_model.specs.Start.{is_inner}
-use Rattle.granit_laws.specs.Standing.{here_at}
-use Rattle.granit_laws.proofs.Places.{step_is, rest_behind, line_ends_behind, column_behind, next_column, same_here, same_place}
+use Rattle.granit_lexing.specs.Standing.{here_at}
+use Rattle.granit_lexing.proofs.Places.{step_is, rest_behind, line_ends_behind, column_behind, next_column, same_here, same_place}
 
 -- no character that passes stands in front
 abbrev pub Ends : (ℕ → Bool) → List ℕ → Type 0

@@ -1,5 +1,5 @@
-use Rattle.granit_laws.proofs.Places.{mark_is, start_is, step_counts}
-use Rattle.granit_laws.proofs.readings.the_kept_place_is_counted.Goals as goal
+use Rattle.granit_lexing.proofs.Places.{mark_is, start_is, step_counts}
+use Rattle.granit_lexing.proofs.placing.the_kept_place_is_counted.Goals as goal
 
 pub returns-clause-start : goal.returns-clause-start
 returns-clause-start c = start_is

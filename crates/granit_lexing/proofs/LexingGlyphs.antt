@@ -1,14 +1,13 @@
 -- What a character may begin, and how each lexeme begins.
-use Rattle.std.proofs.Common.{◌≡◌, ℕ, Bool, true, false, ◌&&◌, ◌==◌, List, [], ◌∷◌, ◌++◌, length, drop, refl, sym, ap, ◌∙◌, arith, append_assoc}
+use Rattle.std.proofs.Common.{◌≡◌, ℕ, false, ◌==◌, List, [], ◌∷◌, ◌++◌, refl, sym, ap, ◌∙◌, arith, append_assoc}
 use Rattle.std.proofs.lemmas.Bool.Decides.{nat_tests}
-use Rattle.std.proofs.Math.Seq.{drop-append_seam}
 use Rattle.granit_base.specs.Classes.{is_break, is_gap, is_blank}
 use Rattle.granit_base.specs.Place.{first}
+use Rattle.granit_model.specs.Decoding.{Content}
 use Rattle.granit_model.specs.Lexeme.{LexemeKind, DocumentStart, SequenceOpen, SequenceClose, MappingOpen, MappingClose, Comma, Question, Colon, Scalar}
-use Rattle.granit_model.specs.Start.{Glyph, Dash, DoubleQuote, LeftSquare, RightSquare, LeftCurly, RightCurly, CommaSign, QuestionSign, ColonSign, Foreign, glyph, is_inner}
-use Rattle.granit_model.specs.Gap.{Each}
+use Rattle.granit_model.specs.Start.{Glyph, Dash, DoubleQuote, LeftSquare, RightSquare, LeftCurly, RightCurly, CommaSign, QuestionSign, ColonSign, Foreign, glyph}
 use Rattle.granit_model.specs.Extent.{Spells, dashes, left_square, right_square, left_curly, right_curly, comma, question, colon, quoted}
-use Rattle.granit_laws.proofs.LexingRuns.{Ends, same_run}
+use Rattle.granit_lexing.proofs.LexingRuns.{Ends}
 
 pub dash_is : (c : ℕ) → glyph c ≡ Dash → c ≡ 0x2D
 unfolding glyph
@@ -68,7 +67,7 @@ starts behind right_curly = refl
 starts behind comma = refl
 starts behind question = refl
 starts behind colon = refl
-starts behind (quoted each) = refl
+starts behind (quoted q) = refl
 
 -- no lexeme begins with a gap character
 pub no_gap_first : {k : LexemeKind} {cs : List ℕ} (behind : List ℕ) → Spells k cs → Ends is_gap (cs ++ behind)
@@ -81,7 +80,7 @@ no_gap_first behind right_curly = refl
 no_gap_first behind comma = refl
 no_gap_first behind question = refl
 no_gap_first behind colon = refl
-no_gap_first behind (quoted each) = refl
+no_gap_first behind (quoted q) = refl
 
 -- some lexeme begins with each glyph but the foreign ones
 pub not_foreign : (k : LexemeKind) → glyph_of k ≡ Foreign → ⊥
@@ -99,30 +98,19 @@ not_foreign (Scalar style text) e = cc
 pub apart : (c d : ℕ) (s t : List ℕ) → (c == d) ≡ false → c ∷ s ≡ d ∷ t → ⊥
 apart c d s t n e = let h : c ≡ d = ap first e in grind (arith, nat_tests)
 
-neither : (b : Bool) → (b && false) ≡ false
-neither true = refl
-neither false = refl
-
-pub quote_not_inner : is_inner 0x22 ≡ false
-unfolding is_inner
-quote_not_inner = neither _
-
--- what stands behind the inner characters of a scalar
-pub closing_quote : {k : LexemeKind} {cs : List ℕ} (behind f rest : List ℕ) → Spells k cs → cs ++ behind ≡ 0x22 ∷ (f ++ rest) → Each is_inner f → Ends is_inner rest → first rest ≡ 0x22
-closing_quote behind f rest dashes e p n = absurd (apart 0x2D 0x22 _ _ refl e)
-closing_quote behind f rest left_square e p n = absurd (apart 0x5B 0x22 _ _ refl e)
-closing_quote behind f rest right_square e p n = absurd (apart 0x5D 0x22 _ _ refl e)
-closing_quote behind f rest left_curly e p n = absurd (apart 0x7B 0x22 _ _ refl e)
-closing_quote behind f rest right_curly e p n = absurd (apart 0x7D 0x22 _ _ refl e)
-closing_quote behind f rest comma e p n = absurd (apart 0x2C 0x22 _ _ refl e)
-closing_quote behind f rest question e p n = absurd (apart 0x3F 0x22 _ _ refl e)
-closing_quote behind f rest colon e p n = absurd (apart 0x3A 0x22 _ _ refl e)
-closing_quote behind f rest (quoted {content = content} each) e p n =
-    let h : (content ++ 0x22 ∷ []) ++ behind ≡ f ++ rest = cc in
-    let t : content ++ (0x22 ∷ behind) ≡ f ++ rest = sym (append_assoc content (0x22 ∷ []) behind) ∙ h in
-    let s : content ≡ f = same_run is_inner content f (0x22 ∷ behind) rest t each p quote_not_inner n in
-    let d : drop (length f) (f ++ (0x22 ∷ behind)) ≡ drop (length f) (f ++ rest) = ap (drop (length f)) (ap (λ (l : List ℕ). l ++ (0x22 ∷ behind)) (sym s) ∙ t) in
-    sym (ap first (sym (drop-append_seam f (0x22 ∷ behind)) ∙ d ∙ drop-append_seam f rest))
+-- what stands behind the opening quote of a scalar
+pub content_in : {k : LexemeKind} {cs : List ℕ} (behind t : List ℕ) → Spells k cs → cs ++ behind ≡ 0x22 ∷ t → (content : List ℕ) × (value : List ℕ) × Content content value × (t ≡ content ++ 0x22 ∷ behind)
+content_in behind t dashes e = absurd (apart 0x2D 0x22 _ _ refl e)
+content_in behind t left_square e = absurd (apart 0x5B 0x22 _ _ refl e)
+content_in behind t right_square e = absurd (apart 0x5D 0x22 _ _ refl e)
+content_in behind t left_curly e = absurd (apart 0x7B 0x22 _ _ refl e)
+content_in behind t right_curly e = absurd (apart 0x7D 0x22 _ _ refl e)
+content_in behind t comma e = absurd (apart 0x2C 0x22 _ _ refl e)
+content_in behind t question e = absurd (apart 0x3F 0x22 _ _ refl e)
+content_in behind t colon e = absurd (apart 0x3A 0x22 _ _ refl e)
+content_in behind t (quoted {content = content} {value = value} q) e =
+    let h : (content ++ 0x22 ∷ []) ++ behind ≡ t = cc in
+    (content, value, q, sym h ∙ append_assoc content (0x22 ∷ []) behind)
 
 -- a lexeme has a character
 pub not_nothing : {k : LexemeKind} {cs : List ℕ} (behind : List ℕ) → Spells k cs → (c : ℕ) × (t : List ℕ) × (cs ++ behind ≡ c ∷ t)
@@ -134,4 +122,4 @@ not_nothing behind right_curly = (_, _, refl)
 not_nothing behind comma = (_, _, refl)
 not_nothing behind question = (_, _, refl)
 not_nothing behind colon = (_, _, refl)
-not_nothing behind (quoted {content = content} each) = (_, _, refl)
+not_nothing behind (quoted q) = (_, _, refl)

@@ -1,26 +1,30 @@
 -- What the reader finds stands in the text.
-use Rattle.std.proofs.Common.{◌≡◌, ◌≢◌, ℕ, suc, ◌+◌, ◌≤◌, ◌<◌, Bool, true, false, ◌&&◌, ◌==◌, List, [], ◌∷◌, ◌++◌, length, drop, refl, sym, ap, ap₂, ◌∙◌, subst, arith, append_assoc, append-nil, add-one, add-zero, length-drop, length-append, Some, None, Ok, Err, inl, inr}
+use Rattle.std.proofs.Common.{◌≡◌, ◌≢◌, ℕ, suc, ◌+◌, ◌≤◌, ◌<◌, Bool, true, false, not, ◌&&◌, ◌==◌, List, [], ◌∷◌, ◌++◌, length, drop, refl, sym, ap, ap₂, ◌∙◌, subst, arith, append_assoc, append-nil, add-one, add-zero, length-drop, length-append, Some, None, Ok, Err, ◌⊎◌, inl, inr}
 use Rattle.std.specs.Prelude.{if◌then◌else◌, nat_le, slice_index}
 use Rattle.std.proofs.lemmas.Bool.Decides.{nat_tests}
 use Rattle.granit_base.specs.Classes.{is_gap, is_blank_or_breakz}
 use Rattle.granit_base.specs.Place.{Mark, first}
 use Rattle.granit_base.specs.declared.style.ScalarStyle.TheVariants.{DoubleQuoted}
-use Rattle.granit_error.specs.FaultKind.{FaultKind, NoMemory, UnclosedFlowCollection, RecursionLimitExceeded, NotBuilt}
+use Rattle.granit_error.specs.FaultKind.{FaultKind, UnclosedFlowCollection, RecursionLimitExceeded, NotBuilt}
 use Rattle.granit_error.specs.OptionsData.{OptionsData}
-use Rattle.granit_model.specs.Here.{Here, next_char, mark_of, step, chunk, past_chunk}
+use Rattle.granit_model.specs.Decoding.{has_backslash}
+use Rattle.granit_model.specs.Here.{Here, mark_of, step}
+use Rattle.granit_model.specs.Quoted.{refuse_at}
 use Rattle.granit_model.specs.Place.{place_of, mark_at}
 use Rattle.granit_model.specs.Lexeme.{Lexeme, LexemeKind, DocumentStart, SequenceClose, MappingClose, Comma, Question, Colon, Scalar, wants_gap, Bracket, Square, Curly, Opener, opener_char}
-use Rattle.granit_model.specs.Start.{Glyph, Dash, DoubleQuote, LeftSquare, RightSquare, LeftCurly, RightCurly, CommaSign, QuestionSign, ColonSign, Foreign, glyph, is_inner, at_document_start, is_separated}
-use Rattle.granit_model.specs.Gap.{Each, StandsAt, IsGap, Parts}
+use Rattle.granit_model.specs.Start.{Glyph, Dash, DoubleQuote, LeftSquare, RightSquare, LeftCurly, RightCurly, CommaSign, QuestionSign, ColonSign, Foreign, glyph, at_document_start, is_separated}
+use Rattle.granit_model.specs.Gap.{StandsAt, IsGap, Parts}
 use Rattle.granit_model.specs.Extent.{Spells, dashes, left_square, right_square, left_curly, right_curly, comma, question, colon, quoted, MayBegin, IsLexeme}
 use Rattle.granit_model.specs.ReaderState.{ReaderState, Read, refuse, lexed, text_end, mark_in, dash, double_quoted, open_kind, open_bracket, close_square, close_curly, close_bracket, lexeme_at, behind_gap, next_lexeme}
 use Rattle.granit_model.specs.Reading.{Before, openers_behind}
 use Rattle.granit_model.specs.Cause.{IsDocumentMark}
-use Rattle.granit_laws.specs.Standing.{here_at, state_at}
-use Rattle.granit_laws.specs.Finding.{Fits, Misfits, Strange, no_gap, misfit, foreign, FindsFault, Reads}
-use Rattle.granit_laws.proofs.Places.{not_empty, rest_behind, step_is}
-use Rattle.granit_laws.proofs.LexingRuns.{Ends, run_of, rest_of, past_is, chunk_is, past_chunk_is}
-use Rattle.granit_laws.proofs.LexingGlyphs.{dash_is, quote_is, left_square_is, right_square_is, left_curly_is, right_curly_is, comma_is, question_is, colon_is, starts, not_foreign, apart, closing_quote}
+use Rattle.granit_lexing.specs.Standing.{here_at, state_at}
+use Rattle.granit_lexing.specs.Finding.{Fits, Misfits, Strange, no_gap, misfit, foreign, FindsFault, Reads}
+use Rattle.granit_model.proofs.HereLemmas.{not_empty}
+use Rattle.granit_lexing.proofs.Places.{rest_behind, step_is}
+use Rattle.granit_lexing.proofs.LexingRuns.{Ends, run_of, rest_of, past_is}
+use Rattle.granit_lexing.proofs.LexingQuoted.{scan, ContentAt, scan_or, quoted_is, no_content, quoted_refused}
+use Rattle.granit_lexing.proofs.LexingGlyphs.{dash_is, quote_is, left_square_is, right_square_is, left_curly_is, right_curly_is, comma_is, question_is, colon_is, starts, not_foreign, apart, content_in}
 
 -- no lexeme stands at an index
 abbrev pub NoLexeme : List ℕ → ℕ → Type 0
@@ -170,7 +174,7 @@ dash_begins x j t behind e f right_curly m = absurd (apart 0x2D 0x7D _ _ refl (s
 dash_begins x j t behind e f comma m = absurd (apart 0x2D 0x2C _ _ refl (sym e ∙ f))
 dash_begins x j t behind e f question m = absurd (apart 0x2D 0x3F _ _ refl (sym e ∙ f))
 dash_begins x j t behind e f colon m = absurd (apart 0x2D 0x3A _ _ refl (sym e ∙ f))
-dash_begins x j t behind e f (quoted each) m = absurd (apart 0x2D 0x22 _ _ refl (sym e ∙ f))
+dash_begins x j t behind e f (quoted q) m = absurd (apart 0x2D 0x22 _ _ refl (sym e ∙ f))
 
 dash_on : (o : OptionsData) (x : List ℕ) (j : ℕ) (t : List ℕ) (os : List Opener) (v : Bool) → drop j x ≡ 0x2D ∷ t → at_document_start (here_at x j) ≡ v → ReadsAt o x j os (if v then mark_in (is_separated (here_at x j)) os (here_at x j) else refuse NotBuilt (here_at x j))
 dash_on o x j t os true e h =
@@ -186,16 +190,6 @@ dash_reads : (o : OptionsData) (x : List ℕ) (j : ℕ) (t : List ℕ) (os : Lis
 unfolding dash
 dash_reads o x j t os e = dash_on o x j t os (at_document_start (here_at x j)) e refl
 
--- a double-quoted scalar whose inner characters, all of them, are known
-pub quoted_as : (x : List ℕ) (j : ℕ) (f rest : List ℕ) (os : List Opener) → drop j x ≡ 0x22 ∷ (f ++ rest) → Each is_inner f → Ends is_inner rest
-    → double_quoted os (here_at x j) ≡ (if first rest == 0x22 then lexed (Scalar DoubleQuoted (record { characters = f; is_borrowed = true })) (here_at x j) (step (here_at x (suc j + length f))) os else refuse NotBuilt (here_at x j))
-unfolding double_quoted
-quoted_as x j f rest os e p n =
-    let r : drop (suc j) x ≡ f ++ rest = rest_behind x j 0x22 (f ++ rest) e in
-    ap (λ h. if next_char (past_chunk is_inner h) == 0x22 then lexed (Scalar DoubleQuoted (record { characters = chunk is_inner h; is_borrowed = true })) (here_at x j) (step (past_chunk is_inner h)) os else refuse NotBuilt (here_at x j)) (step_is x j 0x22 (f ++ rest) e)
-    ∙ ap₂ (λ h (cs : List ℕ). if next_char h == 0x22 then lexed (Scalar DoubleQuoted (record { characters = cs; is_borrowed = true })) (here_at x j) (step h) os else refuse NotBuilt (here_at x j)) (past_chunk_is f rest x (suc j) r p n) (chunk_is f rest x (suc j) r p n)
-    ∙ ap (λ c. if c == 0x22 then lexed (Scalar DoubleQuoted (record { characters = f; is_borrowed = true })) (here_at x j) (step (here_at x (suc j + length f))) os else refuse NotBuilt (here_at x j)) (ap first (rest_of x (suc j) f rest r))
-
 -- the characters of a scalar
 abbrev pub quotes : List ℕ → List ℕ
 quotes f = 0x22 ∷ (f ++ 0x22 ∷ [])
@@ -209,24 +203,23 @@ past_quote x j f t e =
     let r : drop (suc j) x ≡ f ++ 0x22 ∷ t = rest_behind x j 0x22 (f ++ 0x22 ∷ t) e in
     step_is x (suc j + length f) 0x22 t (rest_of x (suc j) f (0x22 ∷ t) r) ∙ ap (here_at x) (omega (arith, length-append f (0x22 ∷ [])))
 
-quote_on : (o : OptionsData) (x : List ℕ) (j : ℕ) (f rest : List ℕ) (os : List Opener) (v : Bool) → drop j x ≡ 0x22 ∷ (f ++ rest) → Each is_inner f → Ends is_inner rest → (first rest == 0x22) ≡ v
-    → ReadsAt o x j os (if v then lexed (Scalar DoubleQuoted (record { characters = f; is_borrowed = true })) (here_at x j) (step (here_at x (suc j + length f))) os else refuse NotBuilt (here_at x j))
-quote_on o x j f [] os true e p n h = cc
-quote_on o x j f (d ∷ t) os true e p n h =
-    let k : d ≡ 0x22 = grind (arith, nat_tests) in
-    let s : drop j x ≡ 0x22 ∷ (f ++ 0x22 ∷ t) = e ∙ ap (λ c. 0x22 ∷ (f ++ c ∷ t)) k in
-    lexed_is o x j os (Scalar DoubleQuoted (record { characters = f; is_borrowed = true })) (quotes f) t (step (here_at x (suc j + length f))) (past_quote x j f t s) (s ∙ in_quotes f t) (quoted p) tt tt (λ m. m)
-quote_on o x j f rest os false e p n h = record {
-  why = foreign_at (λ l cs behind is. let q = closing_quote behind f rest is.spells (sym is.stands.inside ∙ e) p n in grind (arith, nat_tests));
-  unmarked = unmarked_by x j 0x22 (f ++ rest) e (λ q. omega arith);
-  marks = refl;
-}
+quote_on : (o : OptionsData) (x : List ℕ) (j : ℕ) (t : List ℕ) (os : List Opener) → drop j x ≡ 0x22 ∷ t → ContentAt x (suc j) ⊎ (scan (mark_at x j) (here_at x (suc j)) ≡ refuse_at (mark_at x j)) → ReadsAt o x j os (double_quoted os (here_at x j))
+quote_on o x j t os e (inl (cs, value, u, f, content)) =
+    let w : t ≡ cs ++ 0x22 ∷ u = sym (rest_behind x j 0x22 t e) ∙ f in
+    let s : drop j x ≡ 0x22 ∷ (cs ++ 0x22 ∷ u) = e ∙ ap (λ (l : List ℕ). 0x22 ∷ l) w in
+    subst (ReadsAt o x j os) (sym (quoted_is x j os t e cs value u w content))
+    (lexed_is o x j os (Scalar DoubleQuoted (record { characters = value; is_borrowed = not (has_backslash cs) })) (quotes cs) u (step (here_at x (suc j + length cs)))
+    (past_quote x j cs u s) (s ∙ in_quotes cs u) (quoted content) tt tt (λ m. m))
+quote_on o x j t os e (inr bad) =
+    subst (ReadsAt o x j os) (sym (quoted_refused x j os t e bad))
+    (record {
+      why = foreign_at (λ l cs behind is. let q = content_in behind t is.spells (sym is.stands.inside ∙ e) in no_content x j os t e q.0 q.1 behind bad q.2 q.3);
+      unmarked = unmarked_by x j 0x22 t e (λ q. omega arith);
+      marks = refl;
+    })
 
 quote_reads : (o : OptionsData) (x : List ℕ) (j : ℕ) (t : List ℕ) (os : List Opener) → drop j x ≡ 0x22 ∷ t → ReadsAt o x j os (double_quoted os (here_at x j))
-quote_reads o x j t os e =
-    let r = run_of is_inner t in
-    let s : drop j x ≡ 0x22 ∷ (r.front ++ r.behind) = e ∙ ap (λ (l : List ℕ). 0x22 ∷ l) r.whole in
-    subst (ReadsAt o x j os) (sym (quoted_as x j r.front r.behind os s r.each r.ends)) (quote_on o x j r.front r.behind os (first r.behind == 0x22) s r.each r.ends refl)
+quote_reads o x j t os e = quote_on o x j t os e (scan_or (mark_at x j) x (suc j))
 
 square_opens : (o : OptionsData) (x : List ℕ) (j : ℕ) (t : List ℕ) (os : List Opener) → drop j x ≡ 0x5B ∷ t → ReadsAt o x j os (open_bracket o Square os (here_at x j))
 unfolding open_bracket

@@ -1,29 +1,33 @@
 -- One lexeme at most stands at an index, and a text has one list of lexemes.
-use Rattle.std.proofs.Common.{◌≡◌, ◌≢◌, ℕ, ◌+◌, ◌<◌, true, false, List, [], ◌∷◌, ◌++◌, length, take, drop, refl, sym, ap, ap₂, ◌∙◌, subst, arith, append_assoc, append-nil, length-drop, length-append, Option, Some, None}
-use Rattle.std.specs.List.{prefix_len}
+use Rattle.std.proofs.Common.{◌≡◌, ◌≢◌, ℕ, ◌+◌, ◌-◌, ◌<◌, true, false, not, List, [], ◌∷◌, ◌++◌, length, take, drop, refl, sym, ap, ap₂, ◌∙◌, subst, arith, append-nil, length-drop, length-append, Option, Some, None, Result, Ok, Err}
 use Rattle.std.proofs.Math.Seq.{drop-append_seam}
 use Rattle.granit_base.specs.Classes.{is_gap}
 use Rattle.granit_base.specs.Place.{Mark, first}
 use Rattle.granit_base.specs.declared.style.ScalarStyle.TheVariants.{DoubleQuoted}
+use Rattle.granit_model.specs.Decoding.{Content, has_backslash}
+use Rattle.granit_model.specs.Here.{Here}
+use Rattle.granit_model.specs.Outcome.{Fault}
 use Rattle.granit_model.specs.Place.{mark_at}
 use Rattle.granit_model.specs.Lexeme.{Lexeme, LexemeKind, DocumentStart, SequenceOpen, SequenceClose, MappingOpen, MappingClose, Comma, Question, Colon, Scalar, wants_gap, Source}
-use Rattle.granit_model.specs.Start.{Glyph, Dash, DoubleQuote, LeftSquare, RightSquare, LeftCurly, RightCurly, CommaSign, QuestionSign, ColonSign, Foreign, glyph, is_inner}
-use Rattle.granit_model.specs.Gap.{Each, StandsAt, IsGap, Parts}
+use Rattle.granit_model.specs.Start.{Glyph, Dash, DoubleQuote, LeftSquare, RightSquare, LeftCurly, RightCurly, CommaSign, QuestionSign, ColonSign, Foreign, glyph}
+use Rattle.granit_model.specs.Gap.{StandsAt, IsGap, Parts}
 use Rattle.granit_model.specs.Extent.{Spells, dashes, left_square, right_square, left_curly, right_curly, comma, question, colon, quoted, IsLexeme}
 use Rattle.granit_model.specs.Reading.{Before, behind_lexeme, behind_all, Reached, stops, goes_on}
-use Rattle.granit_laws.proofs.Places.{a_character}
-use Rattle.granit_laws.proofs.LexingRuns.{Ends, same_run, rest_of, run_len, take_front}
-use Rattle.granit_laws.proofs.LexingGlyphs.{glyph_of, starts, no_gap_first, quote_not_inner}
-use Rattle.granit_laws.proofs.LexingReads.{NoLexeme}
-use Rattle.granit_laws.proofs.LexingGlyphs.{not_nothing}
+use Rattle.granit_lexing.specs.Standing.{here_at}
+use Rattle.granit_lexing.proofs.Places.{a_character}
+use Rattle.granit_lexing.proofs.LexingRuns.{Ends, same_run, rest_of, take_front}
+use Rattle.granit_lexing.proofs.LexingGlyphs.{glyph_of, starts, no_gap_first, not_nothing}
+use Rattle.granit_lexing.proofs.LexingQuoted.{scan, scan_is}
+use Rattle.granit_lexing.proofs.LexingReads.{NoLexeme, in_quotes}
 
 -- the kind and the characters of a lexeme that begins so
-abbrev scalar_in : List ℕ → Option (LexemeKind × List ℕ)
-scalar_in f = Some (Scalar DoubleQuoted (record { characters = f; is_borrowed = true }), 0x22 ∷ (f ++ 0x22 ∷ []))
+abbrev scalar_in : List ℕ → Result (List ℕ × Here) Fault → Option (LexemeKind × List ℕ)
+scalar_in l (Ok (value, h)) = Some (Scalar DoubleQuoted (record { characters = value; is_borrowed = not (has_backslash (take (h.place.index - 1) (drop 1 l))) }), take (h.place.index + 1) l)
+scalar_in l (Err f) = None
 
 abbrev spelled_as : Glyph → List ℕ → Option (LexemeKind × List ℕ)
 spelled_as Dash l = Some (DocumentStart, 0x2D ∷ 0x2D ∷ 0x2D ∷ [])
-spelled_as DoubleQuote l = scalar_in (take (prefix_len is_inner (drop 1 l)) (drop 1 l))
+spelled_as DoubleQuote l = scalar_in l (scan (mark_at l 0) (here_at l 1))
 spelled_as LeftSquare l = Some (SequenceOpen, 0x5B ∷ [])
 spelled_as RightSquare l = Some (SequenceClose, 0x5D ∷ [])
 spelled_as LeftCurly l = Some (MappingOpen, 0x7B ∷ [])
@@ -33,11 +37,21 @@ spelled_as QuestionSign l = Some (Question, 0x3F ∷ [])
 spelled_as ColonSign l = Some (Colon, 0x3A ∷ [])
 spelled_as Foreign l = None
 
-inside_is : (f t : List ℕ) → Each is_inner f → take (prefix_len is_inner ((f ++ 0x22 ∷ []) ++ t)) ((f ++ 0x22 ∷ []) ++ t) ≡ f
-inside_is f t p =
-    ap (λ (l : List ℕ). take (prefix_len is_inner l) l) (append_assoc f (0x22 ∷ []) t)
-    ∙ ap (λ n. take n (f ++ 0x22 ∷ t)) (run_len is_inner f (0x22 ∷ t) p quote_not_inner)
-    ∙ take_front f (0x22 ∷ t)
+-- a scalar whose content ends before an index
+scalar_is : (cs value t : List ℕ) (l : List ℕ) (k : ℕ) → l ≡ 0x22 ∷ (cs ++ 0x22 ∷ t) → k ≡ 1 + length cs
+    → ◌≡◌ {A = Option (LexemeKind × List ℕ)} (scalar_in l (Ok (value, here_at l k))) (Some (Scalar DoubleQuoted (record { characters = value; is_borrowed = not (has_backslash cs) }), 0x22 ∷ (cs ++ 0x22 ∷ [])))
+scalar_is cs value t l k e h =
+    let m : k - 1 ≡ length cs = omega arith in
+    let n : k + 1 ≡ length (0x22 ∷ (cs ++ 0x22 ∷ [])) = omega (arith, length-append cs (0x22 ∷ [])) in
+    let content : take (k - 1) (drop 1 l) ≡ cs = ap₂ take m (ap (drop 1) e) ∙ take_front cs (0x22 ∷ t) in
+    let whole : l ≡ (0x22 ∷ (cs ++ 0x22 ∷ [])) ++ t = e ∙ in_quotes cs t in
+    let spelling : take (k + 1) l ≡ 0x22 ∷ (cs ++ 0x22 ∷ []) = ap₂ take n whole ∙ take_front (0x22 ∷ (cs ++ 0x22 ∷ [])) t in
+    ap₂ (λ (a b : List ℕ). Some (Scalar DoubleQuoted (record { characters = value; is_borrowed = not (has_backslash a) }), b)) content spelling
+
+scalar_spelled : (cs value t : List ℕ) (l : List ℕ) → l ≡ 0x22 ∷ (cs ++ 0x22 ∷ t) → Content cs value
+    → ◌≡◌ {A = Option (LexemeKind × List ℕ)} (spelled_as DoubleQuote l) (Some (Scalar DoubleQuoted (record { characters = value; is_borrowed = not (has_backslash cs) }), 0x22 ∷ (cs ++ 0x22 ∷ [])))
+scalar_spelled cs value t l e content =
+    ap (scalar_in l) (scan_is (mark_at l 0) l cs value t 1 content (ap (drop 1) e)) ∙ scalar_is cs value t l (1 + length cs) e refl
 
 spelled_is : {k : LexemeKind} {cs : List ℕ} (t : List ℕ) → Spells k cs → spelled_as (glyph_of k) (cs ++ t) ≡ Some (k, cs)
 spelled_is t dashes = refl
@@ -48,7 +62,7 @@ spelled_is t right_curly = refl
 spelled_is t comma = refl
 spelled_is t question = refl
 spelled_is t colon = refl
-spelled_is t (quoted {content = content} each) = ap scalar_in (inside_is content t each)
+spelled_is t (quoted {content = cs} {value = value} content) = scalar_spelled cs value t _ (sym (in_quotes cs t)) content
 
 found_as : {k : LexemeKind} {cs : List ℕ} (t : List ℕ) → Spells k cs → spelled_as (glyph (first (cs ++ t))) (cs ++ t) ≡ Some (k, cs)
 found_as {cs = cs} t s = ap (λ g. spelled_as g (cs ++ t)) (starts t s) ∙ spelled_is t s

@@ -1,0 +1,7 @@
+pub mod LexingEscapes
+pub mod LexingGlyphs
+pub mod LexingOnce
+pub mod LexingQuoted
+pub mod LexingReads
+pub mod LexingRuns
+pub mod Places
