@@ -33,7 +33,7 @@ not_owed : (g : List ℕ) → Parts false g
 not_owed g e = absurd cc
 
 -- bare nodes have no text before their own
-bare_text : (p : Properties) → NoProperties p → (rest : List ℕ) → properties_text p rest ≡ rest
+pub bare_text : (p : Properties) → NoProperties p → (rest : List ℕ) → properties_text p rest ≡ rest
 bare_text p h rest = ap₂ (λ tag anchor. tag_text tag (anchor_text anchor rest)) h.0 h.1
 
 bare_place : (p : Properties) (n : ℕ) → NoProperties p → n ≡ n + properties_width p

@@ -1,3 +1,4 @@
+pub mod Characters
 pub mod Covers
 pub mod Fronts
 pub mod Laws

@@ -60,7 +60,7 @@ by_number : (l count c : ℕ) (digits rest value : List ℕ) → digit_count l �
 by_number l count c digits rest value d a e s r =
     escaped (subst (Escape (0x5C ∷ l ∷ digits)) e (number d a (ap scalar e ∙ s))) r
 
-below : (c : ℕ) → scalar c ≡ true → c < 0x100000000
+pub below : (c : ℕ) → scalar c ≡ true → c < 0x100000000
 below c s = omega (arith, scalar_fits c s)
 
 -- a character by the tests of its class
@@ -82,11 +82,11 @@ quoted_piece : (c : ℕ) (rest value : List ℕ) → scalar c ≡ true → Conte
 unfolding quoted_character
 quoted_piece c rest value s r = piece (c == 0x22 || c == 0x5C) (is_within 0x20 0x7E c) (nat_le c 0xFF) (nat_le c 0xFFFF) c rest value refl refl refl refl s r
 
-first_true : (a b : Bool) → (a && b) ≡ true → a ≡ true
+pub first_true : (a b : Bool) → (a && b) ≡ true → a ≡ true
 first_true true b e = refl
 first_true false b e = e
 
-second_true : (a b : Bool) → (a && b) ≡ true → b ≡ true
+pub second_true : (a b : Bool) → (a && b) ≡ true → b ≡ true
 second_true true b e = e
 second_true false b e = absurd cc
 

@@ -1,14 +1,12 @@
 -- The trees of the worked examples.
 use Rattle.std.specs.Prelude.{ℕ, List, [], ◌∷◌, None, codes}
-use Rattle.granit_model.specs.Canonical.{documents_in}
-use Rattle.granit_model.specs.Events.{events}
-use Rattle.granit_model.specs.FlowText.{flow_characters}
+use Rattle.granit_model.specs.Canonical.{canonical_events}
 use Rattle.granit_model.specs.Line.{event_lines}
 use Rattle.granit_model.specs.Tree.{PlainTree, ScalarOf, SequenceOf, MappingOf, PlainTrees, NoTrees, AfterTrees, PlainPairs, NoPairs, AfterPairs}
 
 -- what is printed for documents that are read from their own canonical text
 abbrev pub lines_of : PlainTrees → List ℕ
-lines_of ts = event_lines (events (flow_characters ts) (documents_in (flow_characters ts) ts))
+lines_of ts = event_lines (canonical_events ts)
 
 abbrev scalar : List ℕ → PlainTree
 scalar text = ScalarOf (record { tag = None; anchor = None }) text

@@ -4,10 +4,12 @@ use lib.Utf8.{scalars}
 use Rattle.granit_base.specs.Written.{Written}
 use Rattle.granit_base.specs.declared.style.ScalarStyle.TheVariants.{DoubleQuoted}
 use Rattle.granit_model.specs.Decoding.{has_backslash}
-use Rattle.granit_model.specs.FlowText.{quoted_characters, properties_text, tree_text, comma_unless, entries_text, pairs_text, documents_text}
+use Rattle.granit_model.specs.Events.{events}
+use Rattle.granit_model.specs.FlowText.{quoted_characters, properties_text, tree_text, comma_unless, entries_text, pairs_text, documents_text, flow_characters}
 use Rattle.granit_model.specs.Lexeme.{Source}
 use Rattle.granit_model.specs.Node.{Node, ScalarNode, EmptySequence, Sequence, EmptyMapping, Mapping, Entry, EntryLead, FirstEntry, NextEntry, Pair, PairLead, FirstPair, NextPair, Documents, NoDocument, Document}
 use Rattle.granit_model.specs.Place.{mark_at}
+use Rattle.granit_model.specs.PlainEvent.{PlainEvent}
 use Rattle.granit_model.specs.Tree.{Properties, PlainTree, AliasOf, ScalarOf, SequenceOf, MappingOf, PlainTrees, NoTrees, AfterTrees, PlainPairs, NoPairs, AfterPairs, no_trees, no_pairs}
 
 -- neither a tag nor an anchor
@@ -129,3 +131,7 @@ abbrev mutual
 abbrev pub documents_in : (x : List ℕ) → PlainTrees → Documents
 documents_in x NoTrees = NoDocument
 documents_in x (AfterTrees ts t) = let i = documents_width ts in Document (documents_in x ts) (source_at x i 3) (node_at x (i + 4) t)
+
+-- the events of documents that are read from their own canonical text
+abbrev pub canonical_events : PlainTrees → List PlainEvent
+canonical_events ts = events (flow_characters ts) (documents_in (flow_characters ts) ts)
