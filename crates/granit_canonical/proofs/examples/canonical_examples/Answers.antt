@@ -25,3 +25,10 @@ returns-clause-documents_text c = refl
 pub returns-clause-documents : goal.returns-clause-documents
 unfolding upper_digit quoted_character event_line quoted_char digits encode
 returns-clause-documents c = refl
+
+pub returns-clause-can_be_met : goal.returns-clause-can_be_met
+returns-clause-can_be_met c = (
+  ((tt, ((refl, refl), ((((tt, (refl, refl)), ((refl, refl), tt)), ((refl, refl), (tt, ((refl, refl), ((tt, (refl, refl)), (refl, refl))), ((refl, refl), (tt, ((refl, refl), tt), (refl, refl)))))), ((refl, refl), tt)))), (refl, refl)),
+  ((tt, ((tt, tt), ((((tt, ((tt, tt), refl)), ((tt, tt), tt)), ((tt, tt), (tt, ((tt, tt), ((tt, ((tt, tt), refl)), ((tt, tt), refl))), ((tt, tt), (tt, ((tt, tt), tt), ((tt, tt), refl)))))), ((tt, tt), tt)))), ((tt, tt), refl)),
+  refl,
+)
