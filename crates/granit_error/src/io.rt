@@ -31,17 +31,14 @@ impl InputIoError {
         InputIoError { message }
     }
 
-    /// The failure whose message is the error's printed text.
+    /// The failure whose message is the error's printed text. It takes an `io::Error`, and any other
+    /// error: its clause speaks of what the argument's own impl prints.
     ///
     /// # Errors
     ///
     /// `NoMemory` alone.
-    pub fn from_io(alloc: Global, error: &std::io::Error) -> Result<InputIoError, NoMemory> {
-        InputIoError::from_printed(alloc, error)
-    }
-
-    fn from_printed<D: fmt::Display>(alloc: Global, error: &D) -> Result<InputIoError, NoMemory>
-        ensures { IfOk result (λ e. IfSome (D.output error.now) (λ printed. e ≡ chars printed)) }
+    pub fn from_io<E: fmt::Display>(alloc: Global, error: &E) -> Result<InputIoError, NoMemory>
+        ensures { IfOk result (λ e. IfSome (E.output error.now) (λ printed. e ≡ chars printed)) }
     {
         let printed = error.to_string(alloc)?;
         Ok(InputIoError::from_message(Text::owned(printed)))
