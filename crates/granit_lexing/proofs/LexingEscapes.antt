@@ -1,6 +1,7 @@
 -- What is read behind a backslash: the escape that stands there, or a refusal where none does.
-use Rattle.std.proofs.Common.{◌≡◌, ℕ, zero, suc, ◌+◌, ◌*◌, Bool, true, false, cond, ◌==◌, ◌&&◌, List, [], ◌∷◌, ◌++◌, length, drop, refl, sym, ap, ap₂, ◌∙◌, subst, arith, append_assoc, add-zero, length-append, Option, Some, None, Ok, ◌⊎◌, inl, inr}
+use Rattle.std.proofs.Common.{◌≡◌, ℕ, zero, suc, ◌+◌, ◌*◌, Bool, true, false, ◌==◌, ◌&&◌, List, [], ◌∷◌, ◌++◌, length, drop, refl, sym, ap, ap₂, ◌∙◌, subst, arith, append_assoc, add-zero, length-append, Option, Some, None, Ok, ◌⊎◌, inl, inr}
 use Rattle.std.specs.Prelude.{slice_index}
+use Rattle.std.proofs.lemmas.Bool.{cond-true, cond-false}
 use Rattle.std.proofs.lemmas.Bool.Decides.{nat_tests}
 use lib.Utf8.{scalar}
 use Rattle.granit_base.specs.Classes.{is_digit, is_hex, hex_value}
@@ -13,14 +14,6 @@ use Rattle.granit_model.specs.Quoted.{refuse_at, digits, joined_at, second_half,
 use Rattle.granit_lexing.specs.Standing.{here_at}
 use Rattle.granit_lexing.proofs.LexingRuns.{next_is, rest_of, along}
 use Rattle.granit_lexing.proofs.Places.{step_is, rest_behind}
-
-pub if_yes : {A : Type 0} (b : Bool) (p q : A) → b ≡ true → cond b p q ≡ p
-if_yes true p q e = refl
-if_yes false p q e = cc
-
-pub if_no : {A : Type 0} (b : Bool) (p q : A) → b ≡ false → cond b p q ≡ q
-if_no true p q e = cc
-if_no false p q e = refl
 
 no_hex_at_end : is_hex 0 ≡ false
 unfolding is_hex is_digit
@@ -71,12 +64,12 @@ module _ (start : Mark) (x : List ℕ) where
   digit_goes : (count n i d : ℕ) (t : List ℕ) → drop i x ≡ d ∷ t → is_hex d ≡ true → digits start (suc count) n (here_at x i) ≡ digits start count (n * 16 + hex_value d) (here_at x (suc i))
   unfolding digits
   digit_goes count n i d t e p =
-      if_yes (is_hex (next_char (here_at x i))) _ _ (ap is_hex (next_is x i d t e) ∙ p)
+      cond-true (is_hex (next_char (here_at x i))) _ _ (ap is_hex (next_is x i d t e) ∙ p)
       ∙ ap₂ (λ c h. digits start count (n * 16 + hex_value c) h) (next_is x i d t e) (step_is x i d t e)
 
   digit_stops : (count n i : ℕ) → is_hex (first (drop i x)) ≡ false → digits start (suc count) n (here_at x i) ≡ refuse_at start
   unfolding digits
-  digit_stops count n i p = if_no (is_hex (first (drop i x))) _ _ p
+  digit_stops count n i p = cond-false (is_hex (first (drop i x))) _ _ p
 
   digits_are : (ds t : List ℕ) (n i : ℕ) → drop i x ≡ ds ++ t → Each is_hex ds → digits start (length ds) n (here_at x i) ≡ Ok (number_behind n ds, here_at x (i + length ds))
   unfolding digits
@@ -120,7 +113,7 @@ module _ (start : Mark) (x : List ℕ) where
   second_goes : (high i : ℕ) (t : List ℕ) → drop i x ≡ 0x5C ∷ 0x75 ∷ t → second_half start high (here_at x i) ≡ (digits start 4 0 (here_at x (suc (suc i))) >>= λ y. joined_at start high y.0 y.1)
   unfolding second_half
   second_goes high i t e =
-      if_yes (first (drop i x) == 0x5C && slice_index (drop i x) 1 == 0x75) _ _ (ap (λ (l : List ℕ). first l == 0x5C && slice_index l 1 == 0x75) e)
+      cond-true (first (drop i x) == 0x5C && slice_index (drop i x) 1 == 0x75) _ _ (ap (λ (l : List ℕ). first l == 0x5C && slice_index l 1 == 0x75) e)
       ∙ ap (λ h. digits start 4 0 h >>= λ y. joined_at start high y.0 y.1) (two_on i 0x5C 0x75 t e)
 
   second_joins : (high i : ℕ) (low t : List ℕ) → drop i x ≡ 0x5C ∷ 0x75 ∷ (low ++ t) → AreDigits 4 low → second_half start high (here_at x i) ≡ joined_at start high (number_of low) (here_at x (suc (suc i) + length low))
@@ -129,7 +122,7 @@ module _ (start : Mark) (x : List ℕ) where
       ∙ ap (λ r. r >>= λ y. joined_at start high y.0 y.1) (counted_digits 4 low t (suc (suc i)) (two_behind i 0x5C 0x75 (low ++ t) e) a)
 
   second_is : (high i : ℕ) (low t : List ℕ) → drop i x ≡ 0x5C ∷ 0x75 ∷ (low ++ t) → AreDigits 4 low → is_low (number_of low) ≡ true → second_half start high (here_at x i) ≡ Ok (joined high (number_of low), here_at x (suc (suc i) + length low))
-  second_is high i low t e a p = second_joins high i low t e a ∙ if_yes (is_low (number_of low)) _ _ p
+  second_is high i low t e a p = second_joins high i low t e a ∙ cond-true (is_low (number_of low)) _ _ p
 
   begins_second : (l : List ℕ) → (first l == 0x5C && slice_index l 1 == 0x75) ≡ true → (t : List ℕ) × (l ≡ 0x5C ∷ 0x75 ∷ t)
   begins_second [] e = absurd (grind (arith, nat_tests))
@@ -141,12 +134,12 @@ module _ (start : Mark) (x : List ℕ) where
 
   second_on : (high i : ℕ) (v : Bool) → (first (drop i x) == 0x5C && slice_index (drop i x) 1 == 0x75) ≡ v → SecondAt x i ⊎ (second_half start high (here_at x i) ≡ refuse_at start)
   unfolding second_half
-  second_on high i false p = inr (if_no (first (drop i x) == 0x5C && slice_index (drop i x) 1 == 0x75) _ _ p)
+  second_on high i false p = inr (cond-false (first (drop i x) == 0x5C && slice_index (drop i x) 1 == 0x75) _ _ p)
   second_on high i true p = let s = begins_second (drop i x) p in with_digits s.0 s.1 (digits_or 4 0 (suc (suc i)))
     where
       with_low : (low t : List ℕ) (v : Bool) → drop i x ≡ 0x5C ∷ 0x75 ∷ (low ++ t) → AreDigits 4 low → is_low (number_of low) ≡ v → SecondAt x i ⊎ (second_half start high (here_at x i) ≡ refuse_at start)
       with_low low t true e a q = inl (low, t, e, a, q)
-      with_low low t false e a q = inr (second_joins high i low t e a ∙ if_no (is_low (number_of low)) _ _ q)
+      with_low low t false e a q = inr (second_joins high i low t e a ∙ cond-false (is_low (number_of low)) _ _ q)
 
       with_digits : (t : List ℕ) → drop i x ≡ 0x5C ∷ 0x75 ∷ t → DigitsAt x (suc (suc i)) 4 ⊎ (digits start 4 0 (here_at x (suc (suc i))) ≡ refuse_at start) → SecondAt x i ⊎ (second_half start high (here_at x i) ≡ refuse_at start)
       with_digits t e (inl (low, u, f, a)) = with_low low u (is_low (number_of low)) (e ∙ ap (λ (l : List ℕ). 0x5C ∷ 0x75 ∷ l) (sym (two_behind i 0x5C 0x75 t e) ∙ f)) a refl
@@ -159,15 +152,15 @@ module _ (start : Mark) (x : List ℕ) where
 
   numbered_is : (count n : ℕ) (h : Here) → scalar n ≡ true → numbered start count n h ≡ Ok (n, h)
   unfolding numbered
-  numbered_is count n h s = if_yes (scalar n) _ _ s
+  numbered_is count n h s = cond-true (scalar n) _ _ s
 
   numbered_half : (count n : ℕ) (h : Here) → scalar n ≡ false → (count == 4 && is_high n) ≡ true → numbered start count n h ≡ second_half start n h
   unfolding numbered
-  numbered_half count n h s p = if_no (scalar n) _ _ s ∙ if_yes (count == 4 && is_high n) _ _ p
+  numbered_half count n h s p = cond-false (scalar n) _ _ s ∙ cond-true (count == 4 && is_high n) _ _ p
 
   numbered_none : (count n : ℕ) (h : Here) → scalar n ≡ false → (count == 4 && is_high n) ≡ false → numbered start count n h ≡ refuse_at start
   unfolding numbered
-  numbered_none count n h s p = if_no (scalar n) _ _ s ∙ if_no (count == 4 && is_high n) _ _ p
+  numbered_none count n h s p = cond-false (scalar n) _ _ s ∙ cond-false (count == 4 && is_high n) _ _ p
 
   -- ---- escapes, from their letter on
 

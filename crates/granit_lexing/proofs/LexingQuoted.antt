@@ -1,6 +1,7 @@
 -- What is read between double quotes: the content that stands there, or a refusal where none does.
 use Rattle.std.proofs.Common.{◌≡◌, ℕ, zero, suc, ◌+◌, ◌<◌, Bool, true, false, not, ◌==◌, ◌||◌, List, [], ◌∷◌, ◌++◌, length, take, drop, refl, sym, ap, ap₂, ◌∙◌, arith, append_assoc, add-zero, length-append, Some, None, Result, Ok, Err, ◌⊎◌, inl, inr}
 use Rattle.std.specs.Prelude.{if◌then◌else◌}
+use Rattle.std.proofs.lemmas.Bool.{cond-true, cond-false}
 use Rattle.std.proofs.lemmas.Bool.Decides.{nat_tests}
 use Rattle.std.proofs.Math.Seq.{drop-append_seam}
 use Rattle.granit_base.specs.Classes.{is_printable, is_break}
@@ -19,7 +20,7 @@ use Rattle.granit_model.specs.Start.{is_inner}
 use Rattle.granit_model.proofs.PieceLemmas.{with_front-nil, with_front-with_front, pieces_done, pieces_more, pieces_fails}
 use Rattle.granit_model.proofs.QuotedLemmas.{piece_shortens}
 use Rattle.granit_lexing.specs.Standing.{here_at}
-use Rattle.granit_lexing.proofs.LexingEscapes.{if_yes, if_no, EscapeAt, escape_is, escape_or}
+use Rattle.granit_lexing.proofs.LexingEscapes.{EscapeAt, escape_is, escape_or}
 use Rattle.granit_lexing.proofs.LexingRuns.{Ends, run_of, same_run, rest_of, along, take_front, chunk_is, past_chunk_is}
 use Rattle.granit_lexing.proofs.Places.{step_is, rest_behind}
 
@@ -63,15 +64,15 @@ module _ (start : Mark) (x : List ℕ) where
 
   turn_closes : (i : ℕ) → first (drop i x) ≡ 0x22 → escaped_piece start (here_at x i) ≡ Ok (None, here_at x i)
   unfolding escaped_piece
-  turn_closes i e = if_yes (first (drop i x) == 0x22) _ _ (ap (λ c. c == 0x22) e)
+  turn_closes i e = cond-true (first (drop i x) == 0x22) _ _ (ap (λ c. c == 0x22) e)
 
   turn_escapes : (i : ℕ) → first (drop i x) ≡ 0x5C → escaped_piece start (here_at x i) ≡ (escape start (step (here_at x i)) >>= λ y. Ok (Some (y.0 ∷ chunk is_inner y.1), past_chunk is_inner y.1))
   unfolding escaped_piece
-  turn_escapes i e = if_no (first (drop i x) == 0x22) _ _ (ap (λ c. c == 0x22) e) ∙ if_yes (first (drop i x) == 0x5C) _ _ (ap (λ c. c == 0x5C) e)
+  turn_escapes i e = cond-false (first (drop i x) == 0x22) _ _ (ap (λ c. c == 0x22) e) ∙ cond-true (first (drop i x) == 0x5C) _ _ (ap (λ c. c == 0x5C) e)
 
   turn_refuses : (i : ℕ) → (first (drop i x) == 0x22) ≡ false → (first (drop i x) == 0x5C) ≡ false → escaped_piece start (here_at x i) ≡ refuse_at start
   unfolding escaped_piece
-  turn_refuses i p q = if_no (first (drop i x) == 0x22) _ _ p ∙ if_no (first (drop i x) == 0x5C) _ _ q
+  turn_refuses i p q = cond-false (first (drop i x) == 0x22) _ _ p ∙ cond-false (first (drop i x) == 0x5C) _ _ q
 
   -- ---- a character that stands for itself, an escape, the closing quote, and what is refused
 
@@ -286,13 +287,13 @@ module _ (x : List ℕ) (j : ℕ) (os : List Opener) (t : List ℕ) (e : drop j 
       let same = one_content cs f value f u closes.0 content (each_content f p) (sym w ∙ closes.1) in
       let plain : has_backslash cs ≡ false = ap has_backslash same.contents ∙ each_unescaped f p in
       run_reads f b s p n
-      ∙ if_yes (first b == 0x22) _ _ h
+      ∙ cond-true (first b == 0x22) _ _ h
       ∙ ap₂ (λ (cs : List ℕ) (k : List ℕ). closed_quote os (here_at x j) true cs (here_at x (suc j + length k))) (sym same.values) (sym same.contents)
       ∙ ap (λ v. closed_quote os (here_at x j) (not v) value (here_at x (suc j + length cs))) (sym plain)
   content_reads cs value u f b false w content s p n h =
       let escapes : has_backslash cs ≡ true = not_closed cs value u f b (has_backslash cs) w content s p n h refl in
       run_reads f b s p n
-      ∙ if_no (first b == 0x22) _ _ h
+      ∙ cond-false (first b == 0x22) _ _ h
       ∙ ap (λ r. r >>= λ y. closed_quote os (here_at x j) false y.0 y.1) (scan_is (mark_at x j) x cs value u (suc j) content (behind_quote ∙ w))
       ∙ ap (λ v. closed_quote os (here_at x j) (not v) value (here_at x (suc j + length cs))) (sym escapes)
 
@@ -310,7 +311,7 @@ module _ (x : List ℕ) (j : ℕ) (os : List Opener) (t : List ℕ) (e : drop j 
   run_refused f b true bad s p n h = let closes = plain_closes f b h s in absurd (no_content f f closes.0 bad (each_content f p) closes.1)
   run_refused f b false bad s p n h =
       run_reads f b s p n
-      ∙ if_no (first b == 0x22) _ _ h
+      ∙ cond-false (first b == 0x22) _ _ h
       ∙ ap (λ r. r >>= λ y. closed_quote os (here_at x j) false y.0 y.1) bad
 
   pub quoted_refused : scan (mark_at x j) (here_at x (suc j)) ≡ refuse_at (mark_at x j) → double_quoted os (here_at x j) ≡ refuse NotBuilt (here_at x j)
