@@ -1,12 +1,12 @@
 -- What the laws of the plain machine say of a run.
-use Rattle.std.proofs.Common.{◌≡◌, ℕ, List, [], refl, sym, ap, ◌∙◌, subst, Option, Some, Result, Ok, Err, ◌⊎◌, inl, inr}
+use Rattle.std.proofs.Common.{◌≡◌, ℕ, List, [], refl, sym, ap, ◌∙◌, subst, Option, Some, Result, Ok, ◌⊎◌, inl, inr}
 use Rattle.std.specs.Str.{chars, encode_utf8_all}
 use Rattle.granit_base.specs.Written.{Written}
 use Rattle.granit_error.specs.OptionsData.{default_options}
 use Rattle.granit_model.specs.Canonical.{documents_in, canonical_events}
 use Rattle.granit_model.specs.Events.{events}
 use Rattle.granit_model.specs.FlowText.{flow_characters}
-use Rattle.granit_model.specs.Line.{event_lines, fault_line}
+use Rattle.granit_model.specs.Line.{event_lines}
 use Rattle.granit_model.specs.Outcome.{Fault}
 use Rattle.granit_model.specs.PlainEvent.{PlainEvent}
 use Rattle.granit_model.specs.Reading.{Reading}
@@ -16,7 +16,6 @@ use Rattle.granit_canonical.proofs.Characters.{is_utf8, is_of_it}
 use Rattle.granit_canonical.proofs.Laws.{is_read}
 use Rattle.granit_laws.proofs.Laws.{is_reading, is_answered, has_cause}
 use Rattle.granit_events.specs.Came.{CameWhole}
-use Rattle.granit_events.specs.Counts.{Rose}
 use Rattle.granit_events.specs.Ended.{Ended, Fixes, CallsFor, IsOrYields, machine_answer}
 use Rattle.granit_events.specs.Output.{WholeOutput}
 use Rattle.granit_events.specs.Understood.{PrintsReading, PrintsFault, CanRead, HasCanonical}

@@ -1,5 +1,5 @@
 //! Worked examples of the plain machine, by computation. Their lines come from the original and from an
-//! independent judge of the grammar.
+//! independent judge of the grammar. What begins no escape has other kinds in the original: those rows are stated.
 ghost use Rattle.std.specs.Prelude.{◌≡◌, [], codes};
 ghost use Rattle.granit_laws.specs.Examples.{prints};
 

@@ -1,6 +1,7 @@
 -- What is read behind a backslash: the escape that stands there, or a refusal where none does.
-use Rattle.std.proofs.Common.{◌≡◌, ℕ, zero, suc, ◌+◌, ◌*◌, Bool, true, false, cond, ◌==◌, ◌&&◌, List, [], ◌∷◌, ◌++◌, length, drop, refl, sym, ap, ap₂, ◌∙◌, subst, arith, append_assoc, add-zero, length-append, Option, Some, None, Ok, ◌⊎◌, inl, inr}
+use Rattle.std.proofs.Common.{◌≡◌, ℕ, zero, suc, ◌+◌, ◌*◌, Bool, true, false, ◌==◌, ◌&&◌, List, [], ◌∷◌, ◌++◌, length, drop, refl, sym, ap, ap₂, ◌∙◌, subst, arith, append_assoc, add-zero, length-append, Option, Some, None, Ok, ◌⊎◌, inl, inr}
 use Rattle.std.specs.Prelude.{slice_index}
+use Rattle.std.proofs.lemmas.Bool.{cond-true, cond-false}
 use Rattle.std.proofs.lemmas.Bool.Decides.{nat_tests}
 use lib.Utf8.{scalar}
 use Rattle.granit_base.specs.Classes.{is_digit, is_hex, hex_value}
@@ -13,14 +14,6 @@ use Rattle.granit_model.specs.Quoted.{refuse_at, digits, joined_at, second_half,
 use Rattle.granit_lexing.specs.Standing.{here_at}
 use Rattle.granit_lexing.proofs.LexingRuns.{next_is, rest_of, along}
 use Rattle.granit_lexing.proofs.Places.{step_is, rest_behind}
-
-pub if_yes : {A : Type 0} (b : Bool) (p q : A) → b ≡ true → cond b p q ≡ p
-if_yes true p q e = refl
-if_yes false p q e = cc
-
-pub if_no : {A : Type 0} (b : Bool) (p q : A) → b ≡ false → cond b p q ≡ q
-if_no true p q e = cc
-if_no false p q e = refl
 
 no_hex_at_end : is_hex 0 ≡ false
 unfolding is_hex is_digit
@@ -65,18 +58,28 @@ SecondAt x i = (low : List ℕ) × (t : List ℕ) × (drop i x ≡ 0x5C ∷ 0x75
 abbrev pub EscapeAt : List ℕ → ℕ → Type 0
 EscapeAt x i = (e : List ℕ) × (c : ℕ) × (t : List ℕ) × (drop i x ≡ e ++ t) × Escape e c
 
+-- these stand there, or what is there is refused
+abbrev DigitsOr : Mark → List ℕ → (i count value : ℕ) → Type 0
+DigitsOr start x i count value = DigitsAt x i count ⊎ (digits start count value (here_at x i) ≡ refuse_at start)
+
+abbrev SecondOr : Mark → List ℕ → (i high : ℕ) → Type 0
+SecondOr start x i high = SecondAt x i ⊎ (second_half start high (here_at x i) ≡ refuse_at start)
+
+abbrev pub EscapeOr : Mark → List ℕ → ℕ → Type 0
+EscapeOr start x i = EscapeAt x i ⊎ (escape start (here_at x (suc i)) ≡ refuse_at start)
+
 module _ (start : Mark) (x : List ℕ) where
   -- ---- digits
 
   digit_goes : (count n i d : ℕ) (t : List ℕ) → drop i x ≡ d ∷ t → is_hex d ≡ true → digits start (suc count) n (here_at x i) ≡ digits start count (n * 16 + hex_value d) (here_at x (suc i))
   unfolding digits
   digit_goes count n i d t e p =
-      if_yes (is_hex (next_char (here_at x i))) _ _ (ap is_hex (next_is x i d t e) ∙ p)
+      cond-true (is_hex (next_char (here_at x i))) _ _ (ap is_hex (next_is x i d t e) ∙ p)
       ∙ ap₂ (λ c h. digits start count (n * 16 + hex_value c) h) (next_is x i d t e) (step_is x i d t e)
 
   digit_stops : (count n i : ℕ) → is_hex (first (drop i x)) ≡ false → digits start (suc count) n (here_at x i) ≡ refuse_at start
   unfolding digits
-  digit_stops count n i p = if_no (is_hex (first (drop i x))) _ _ p
+  digit_stops count n i p = cond-false (is_hex (first (drop i x))) _ _ p
 
   digits_are : (ds t : List ℕ) (n i : ℕ) → drop i x ≡ ds ++ t → Each is_hex ds → digits start (length ds) n (here_at x i) ≡ Ok (number_behind n ds, here_at x (i + length ds))
   unfolding digits
@@ -90,22 +93,22 @@ module _ (start : Mark) (x : List ℕ) where
   counted_digits count ds t i e a = ap (λ m. digits start m 0 (here_at x i)) (sym a.counted) ∙ digits_are ds t 0 i e a.each
 
   one_digit : (count n i d : ℕ) (t : List ℕ) (v : Bool) → drop i x ≡ d ∷ t → is_hex d ≡ v
-      → ((m : ℕ) → DigitsAt x (suc i) count ⊎ (digits start count m (here_at x (suc i)) ≡ refuse_at start))
-      → DigitsAt x i (suc count) ⊎ (digits start (suc count) n (here_at x i) ≡ refuse_at start)
+      → ((m : ℕ) → DigitsOr start x (suc i) count m)
+      → DigitsOr start x i (suc count) n
   one_digit count n i d t false e p more = inr (digit_stops count n i (ap (λ (l : List ℕ). is_hex (first l)) e ∙ p))
   one_digit count n i d t true e p more = on (more (n * 16 + hex_value d))
     where
-      on : DigitsAt x (suc i) count ⊎ (digits start count (n * 16 + hex_value d) (here_at x (suc i)) ≡ refuse_at start) → DigitsAt x i (suc count) ⊎ (digits start (suc count) n (here_at x i) ≡ refuse_at start)
+      on : DigitsOr start x (suc i) count (n * 16 + hex_value d) → DigitsOr start x i (suc count) n
       on (inl (ds, u, f, a)) = inl (d ∷ ds, u, e ∙ ap (λ (l : List ℕ). d ∷ l) (sym (rest_behind x i d t e) ∙ f), record { counted = ap suc a.counted; each = (p, a.each) })
       on (inr bad) = inr (digit_goes count n i d t e p ∙ bad)
 
   some_digit : (count n i : ℕ) (l : List ℕ) → drop i x ≡ l
-      → ((m : ℕ) → DigitsAt x (suc i) count ⊎ (digits start count m (here_at x (suc i)) ≡ refuse_at start))
-      → DigitsAt x i (suc count) ⊎ (digits start (suc count) n (here_at x i) ≡ refuse_at start)
+      → ((m : ℕ) → DigitsOr start x (suc i) count m)
+      → DigitsOr start x i (suc count) n
   some_digit count n i [] e more = inr (digit_stops count n i (ap (λ (l : List ℕ). is_hex (first l)) e ∙ no_hex_at_end))
   some_digit count n i (d ∷ t) e more = one_digit count n i d t (is_hex d) e refl more
 
-  digits_or : (count n i : ℕ) → DigitsAt x i count ⊎ (digits start count n (here_at x i) ≡ refuse_at start)
+  digits_or : (count n i : ℕ) → DigitsOr start x i count n
   digits_or zero n i = inl ([], drop i x, refl, record { counted = refl; each = tt })
   digits_or (suc count) n i = some_digit count n i (drop i x) refl (λ m. digits_or count m (suc i))
 
@@ -120,7 +123,7 @@ module _ (start : Mark) (x : List ℕ) where
   second_goes : (high i : ℕ) (t : List ℕ) → drop i x ≡ 0x5C ∷ 0x75 ∷ t → second_half start high (here_at x i) ≡ (digits start 4 0 (here_at x (suc (suc i))) >>= λ y. joined_at start high y.0 y.1)
   unfolding second_half
   second_goes high i t e =
-      if_yes (first (drop i x) == 0x5C && slice_index (drop i x) 1 == 0x75) _ _ (ap (λ (l : List ℕ). first l == 0x5C && slice_index l 1 == 0x75) e)
+      cond-true (first (drop i x) == 0x5C && slice_index (drop i x) 1 == 0x75) _ _ (ap (λ (l : List ℕ). first l == 0x5C && slice_index l 1 == 0x75) e)
       ∙ ap (λ h. digits start 4 0 h >>= λ y. joined_at start high y.0 y.1) (two_on i 0x5C 0x75 t e)
 
   second_joins : (high i : ℕ) (low t : List ℕ) → drop i x ≡ 0x5C ∷ 0x75 ∷ (low ++ t) → AreDigits 4 low → second_half start high (here_at x i) ≡ joined_at start high (number_of low) (here_at x (suc (suc i) + length low))
@@ -129,7 +132,7 @@ module _ (start : Mark) (x : List ℕ) where
       ∙ ap (λ r. r >>= λ y. joined_at start high y.0 y.1) (counted_digits 4 low t (suc (suc i)) (two_behind i 0x5C 0x75 (low ++ t) e) a)
 
   second_is : (high i : ℕ) (low t : List ℕ) → drop i x ≡ 0x5C ∷ 0x75 ∷ (low ++ t) → AreDigits 4 low → is_low (number_of low) ≡ true → second_half start high (here_at x i) ≡ Ok (joined high (number_of low), here_at x (suc (suc i) + length low))
-  second_is high i low t e a p = second_joins high i low t e a ∙ if_yes (is_low (number_of low)) _ _ p
+  second_is high i low t e a p = second_joins high i low t e a ∙ cond-true (is_low (number_of low)) _ _ p
 
   begins_second : (l : List ℕ) → (first l == 0x5C && slice_index l 1 == 0x75) ≡ true → (t : List ℕ) × (l ≡ 0x5C ∷ 0x75 ∷ t)
   begins_second [] e = absurd (grind (arith, nat_tests))
@@ -139,35 +142,35 @@ module _ (start : Mark) (x : List ℕ) where
       let q : b ≡ 0x75 = grind (arith, nat_tests) in
       (t, cc)
 
-  second_on : (high i : ℕ) (v : Bool) → (first (drop i x) == 0x5C && slice_index (drop i x) 1 == 0x75) ≡ v → SecondAt x i ⊎ (second_half start high (here_at x i) ≡ refuse_at start)
+  second_on : (high i : ℕ) (v : Bool) → (first (drop i x) == 0x5C && slice_index (drop i x) 1 == 0x75) ≡ v → SecondOr start x i high
   unfolding second_half
-  second_on high i false p = inr (if_no (first (drop i x) == 0x5C && slice_index (drop i x) 1 == 0x75) _ _ p)
+  second_on high i false p = inr (cond-false (first (drop i x) == 0x5C && slice_index (drop i x) 1 == 0x75) _ _ p)
   second_on high i true p = let s = begins_second (drop i x) p in with_digits s.0 s.1 (digits_or 4 0 (suc (suc i)))
     where
-      with_low : (low t : List ℕ) (v : Bool) → drop i x ≡ 0x5C ∷ 0x75 ∷ (low ++ t) → AreDigits 4 low → is_low (number_of low) ≡ v → SecondAt x i ⊎ (second_half start high (here_at x i) ≡ refuse_at start)
+      with_low : (low t : List ℕ) (v : Bool) → drop i x ≡ 0x5C ∷ 0x75 ∷ (low ++ t) → AreDigits 4 low → is_low (number_of low) ≡ v → SecondOr start x i high
       with_low low t true e a q = inl (low, t, e, a, q)
-      with_low low t false e a q = inr (second_joins high i low t e a ∙ if_no (is_low (number_of low)) _ _ q)
+      with_low low t false e a q = inr (second_joins high i low t e a ∙ cond-false (is_low (number_of low)) _ _ q)
 
-      with_digits : (t : List ℕ) → drop i x ≡ 0x5C ∷ 0x75 ∷ t → DigitsAt x (suc (suc i)) 4 ⊎ (digits start 4 0 (here_at x (suc (suc i))) ≡ refuse_at start) → SecondAt x i ⊎ (second_half start high (here_at x i) ≡ refuse_at start)
+      with_digits : (t : List ℕ) → drop i x ≡ 0x5C ∷ 0x75 ∷ t → DigitsOr start x (suc (suc i)) 4 0 → SecondOr start x i high
       with_digits t e (inl (low, u, f, a)) = with_low low u (is_low (number_of low)) (e ∙ ap (λ (l : List ℕ). 0x5C ∷ 0x75 ∷ l) (sym (two_behind i 0x5C 0x75 t e) ∙ f)) a refl
       with_digits t e (inr bad) = inr (second_goes high i t e ∙ ap (λ r. r >>= λ y. joined_at start high y.0 y.1) bad)
 
-  second_or : (high i : ℕ) → SecondAt x i ⊎ (second_half start high (here_at x i) ≡ refuse_at start)
+  second_or : (high i : ℕ) → SecondOr start x i high
   second_or high i = second_on high i (first (drop i x) == 0x5C && slice_index (drop i x) 1 == 0x75) refl
 
   -- ---- what a number of so many digits stands for
 
   numbered_is : (count n : ℕ) (h : Here) → scalar n ≡ true → numbered start count n h ≡ Ok (n, h)
   unfolding numbered
-  numbered_is count n h s = if_yes (scalar n) _ _ s
+  numbered_is count n h s = cond-true (scalar n) _ _ s
 
   numbered_half : (count n : ℕ) (h : Here) → scalar n ≡ false → (count == 4 && is_high n) ≡ true → numbered start count n h ≡ second_half start n h
   unfolding numbered
-  numbered_half count n h s p = if_no (scalar n) _ _ s ∙ if_yes (count == 4 && is_high n) _ _ p
+  numbered_half count n h s p = cond-false (scalar n) _ _ s ∙ cond-true (count == 4 && is_high n) _ _ p
 
   numbered_none : (count n : ℕ) (h : Here) → scalar n ≡ false → (count == 4 && is_high n) ≡ false → numbered start count n h ≡ refuse_at start
   unfolding numbered
-  numbered_none count n h s p = if_no (scalar n) _ _ s ∙ if_no (count == 4 && is_high n) _ _ p
+  numbered_none count n h s p = cond-false (scalar n) _ _ s ∙ cond-false (count == 4 && is_high n) _ _ p
 
   -- ---- escapes, from their letter on
 
@@ -232,8 +235,8 @@ module _ (start : Mark) (x : List ℕ) where
     from_letter ds u f = rest_behind x i 0x5C (l ∷ (ds ++ u)) (past_digits ds u f)
 
     with_second : (count : ℕ) (ds u : List ℕ) → digit_count l ≡ Some count → drop (suc (suc i)) x ≡ ds ++ u → AreDigits count ds → scalar (number_of ds) ≡ false → (count == 4 && is_high (number_of ds)) ≡ true
-        → SecondAt x (suc (suc i) + length ds) ⊎ (second_half start (number_of ds) (here_at x (suc (suc i) + length ds)) ≡ refuse_at start)
-        → EscapeAt x i ⊎ (escape start (here_at x (suc i)) ≡ refuse_at start)
+        → SecondOr start x (suc (suc i) + length ds) (number_of ds)
+        → EscapeOr start x i
     with_second count ds u h f a s p (inr bad) =
         inr (by_digits (suc i) l count ds u (from_letter ds u f) h a ∙ numbered_half count (number_of ds) _ s p ∙ bad)
     with_second count ds u h f a s p (inl (low, r, g, b, q)) =
@@ -251,22 +254,22 @@ module _ (start : Mark) (x : List ℕ) where
         )
 
     with_number : (count : ℕ) (ds u : List ℕ) (v w : Bool) → digit_count l ≡ Some count → drop (suc (suc i)) x ≡ ds ++ u → AreDigits count ds → scalar (number_of ds) ≡ v → (count == 4 && is_high (number_of ds)) ≡ w
-        → EscapeAt x i ⊎ (escape start (here_at x (suc i)) ≡ refuse_at start)
+        → EscapeOr start x i
     with_number count ds u true w h f a s p = inl (0x5C ∷ l ∷ ds, number_of ds, u, past_digits ds u f, number h a s)
     with_number count ds u false true h f a s p = with_second count ds u h f a s p (second_or (number_of ds) (suc (suc i) + length ds))
     with_number count ds u false false h f a s p = inr (by_digits (suc i) l count ds u (from_letter ds u f) h a ∙ numbered_none count (number_of ds) _ s p)
 
-    with_count : (count : ℕ) → digit_count l ≡ Some count → DigitsAt x (suc (suc i)) count ⊎ (digits start count 0 (here_at x (suc (suc i))) ≡ refuse_at start) → EscapeAt x i ⊎ (escape start (here_at x (suc i)) ≡ refuse_at start)
+    with_count : (count : ℕ) → digit_count l ≡ Some count → DigitsOr start x (suc (suc i)) count 0 → EscapeOr start x i
     with_count count h (inl (ds, u, f, a)) = with_number count ds u (scalar (number_of ds)) (count == 4 && is_high (number_of ds)) h f a refl refl
     with_count count h (inr bad) = inr (by_number (suc i) l count t behind h ∙ ap (λ r. r >>= λ y. numbered start count y.0 y.1) bad)
 
-    with_letter : (c count : Option ℕ) → letter_value l ≡ c → digit_count l ≡ count → EscapeAt x i ⊎ (escape start (here_at x (suc i)) ≡ refuse_at start)
+    with_letter : (c count : Option ℕ) → letter_value l ≡ c → digit_count l ≡ count → EscapeOr start x i
     with_letter (Some c) count p q = inl (0x5C ∷ l ∷ [], c, t, e, letter p)
     with_letter None (Some count) p q = with_count count q (digits_or count 0 (suc (suc i)))
     with_letter None None p q =
         inr (by_nothing (suc i) (ap (λ (r : List ℕ). letter_value (first r)) behind ∙ p) (ap (λ (r : List ℕ). digit_count (first r)) behind ∙ q))
 
-  pub escape_or : (i : ℕ) (t : List ℕ) → drop i x ≡ 0x5C ∷ t → EscapeAt x i ⊎ (escape start (here_at x (suc i)) ≡ refuse_at start)
+  pub escape_or : (i : ℕ) (t : List ℕ) → drop i x ≡ 0x5C ∷ t → EscapeOr start x i
   escape_or i [] e =
       let r : drop (suc i) x ≡ [] = rest_behind x i 0x5C [] e in
       inr (by_nothing (suc i) (ap (λ (v : List ℕ). letter_value (first v)) r ∙ no_letter_at_end) (ap (λ (v : List ℕ). digit_count (first v)) r ∙ no_count_at_end))

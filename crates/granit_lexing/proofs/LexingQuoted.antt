@@ -1,6 +1,7 @@
 -- What is read between double quotes: the content that stands there, or a refusal where none does.
-use Rattle.std.proofs.Common.{◌≡◌, ℕ, zero, suc, ◌+◌, ◌<◌, Bool, true, false, not, ◌==◌, ◌||◌, List, [], ◌∷◌, ◌++◌, length, take, drop, refl, sym, ap, ap₂, ◌∙◌, arith, append_assoc, add-zero, length-append, Some, None, Result, Ok, Err, ◌⊎◌, inl, inr}
+use Rattle.std.proofs.Common.{◌≡◌, ℕ, zero, suc, ◌+◌, ◌<◌, Bool, true, false, not, ◌==◌, ◌||◌, List, [], ◌∷◌, ◌++◌, length, take, drop, refl, sym, ap, ap₂, ◌∙◌, arith, append_assoc, add-zero, length-append, Option, Some, None, Result, Ok, Err, ◌⊎◌, inl, inr}
 use Rattle.std.specs.Prelude.{if◌then◌else◌}
+use Rattle.std.proofs.lemmas.Bool.{cond-true, cond-false}
 use Rattle.std.proofs.lemmas.Bool.Decides.{nat_tests}
 use Rattle.std.proofs.Math.Seq.{drop-append_seam}
 use Rattle.granit_base.specs.Classes.{is_printable, is_break}
@@ -19,7 +20,7 @@ use Rattle.granit_model.specs.Start.{is_inner}
 use Rattle.granit_model.proofs.PieceLemmas.{with_front-nil, with_front-with_front, pieces_done, pieces_more, pieces_fails}
 use Rattle.granit_model.proofs.QuotedLemmas.{piece_shortens}
 use Rattle.granit_lexing.specs.Standing.{here_at}
-use Rattle.granit_lexing.proofs.LexingEscapes.{if_yes, if_no, EscapeAt, escape_is, escape_or}
+use Rattle.granit_lexing.proofs.LexingEscapes.{EscapeOr, escape_is, escape_or}
 use Rattle.granit_lexing.proofs.LexingRuns.{Ends, run_of, same_run, rest_of, along, take_front, chunk_is, past_chunk_is}
 use Rattle.granit_lexing.proofs.Places.{step_is, rest_behind}
 
@@ -43,6 +44,14 @@ scan start h = with_front (chunk is_inner h) (escaped_pieces start (past_chunk i
 abbrev pub ContentAt : List ℕ → ℕ → Type 0
 ContentAt x i = (cs : List ℕ) × (value : List ℕ) × (t : List ℕ) × (drop i x ≡ cs ++ 0x22 ∷ t) × Content cs value
 
+-- these stand there, or what is there is refused
+abbrev pub ContentOr : Mark → List ℕ → ℕ → Type 0
+ContentOr start x i = ContentAt x i ⊎ (scan start (here_at x i) ≡ refuse_at start)
+
+-- an escape, and the characters behind it that stand for themselves
+abbrev escape_piece : ℕ × Here → Result (Option (List ℕ) × Here) Fault
+escape_piece y = Ok (Some (y.0 ∷ chunk is_inner y.1), past_chunk is_inner y.1)
+
 ends_first : (l : List ℕ) → is_inner (first l) ≡ false → Ends is_inner l
 ends_first [] e = tt
 ends_first (c ∷ t) e = e
@@ -63,15 +72,15 @@ module _ (start : Mark) (x : List ℕ) where
 
   turn_closes : (i : ℕ) → first (drop i x) ≡ 0x22 → escaped_piece start (here_at x i) ≡ Ok (None, here_at x i)
   unfolding escaped_piece
-  turn_closes i e = if_yes (first (drop i x) == 0x22) _ _ (ap (λ c. c == 0x22) e)
+  turn_closes i e = cond-true (first (drop i x) == 0x22) _ _ (ap (λ c. c == 0x22) e)
 
-  turn_escapes : (i : ℕ) → first (drop i x) ≡ 0x5C → escaped_piece start (here_at x i) ≡ (escape start (step (here_at x i)) >>= λ y. Ok (Some (y.0 ∷ chunk is_inner y.1), past_chunk is_inner y.1))
+  turn_escapes : (i : ℕ) → first (drop i x) ≡ 0x5C → escaped_piece start (here_at x i) ≡ (escape start (step (here_at x i)) >>= escape_piece)
   unfolding escaped_piece
-  turn_escapes i e = if_no (first (drop i x) == 0x22) _ _ (ap (λ c. c == 0x22) e) ∙ if_yes (first (drop i x) == 0x5C) _ _ (ap (λ c. c == 0x5C) e)
+  turn_escapes i e = cond-false (first (drop i x) == 0x22) _ _ (ap (λ c. c == 0x22) e) ∙ cond-true (first (drop i x) == 0x5C) _ _ (ap (λ c. c == 0x5C) e)
 
   turn_refuses : (i : ℕ) → (first (drop i x) == 0x22) ≡ false → (first (drop i x) == 0x5C) ≡ false → escaped_piece start (here_at x i) ≡ refuse_at start
   unfolding escaped_piece
-  turn_refuses i p q = if_no (first (drop i x) == 0x22) _ _ p ∙ if_no (first (drop i x) == 0x5C) _ _ q
+  turn_refuses i p q = cond-false (first (drop i x) == 0x22) _ _ p ∙ cond-false (first (drop i x) == 0x5C) _ _ q
 
   -- ---- a character that stands for itself, an escape, the closing quote, and what is refused
 
@@ -94,8 +103,8 @@ module _ (start : Mark) (x : List ℕ) where
   scan_escape i c k t e is =
       let piece : escaped_piece start (here_at x i) ≡ Ok (Some (c ∷ chunk is_inner (here_at x k)), past_chunk is_inner (here_at x k)) =
       turn_escapes i (ap first e)
-      ∙ ap (λ h. escape start h >>= λ y. Ok (Some (y.0 ∷ chunk is_inner y.1), past_chunk is_inner y.1)) (step_is x i 0x5C t e)
-      ∙ ap (λ r. r >>= λ y. Ok (Some (y.0 ∷ chunk is_inner y.1), past_chunk is_inner y.1)) is in
+      ∙ ap (λ h. escape start h >>= escape_piece) (step_is x i 0x5C t e)
+      ∙ ap (λ r. r >>= escape_piece) is in
       scan_here i (ap (λ (l : List ℕ). is_inner (first l)) e ∙ backslash_not_inner)
       ∙ pieces_more text_len (escaped_piece start) (piece_shortens start) (here_at x i) (past_chunk is_inner (here_at x k)) (c ∷ chunk is_inner (here_at x k)) piece
       ∙ sym (with_front-with_front (c ∷ []) (chunk is_inner (here_at x k)) (escaped_pieces start (past_chunk is_inner (here_at x k))))
@@ -130,33 +139,33 @@ module _ (start : Mark) (x : List ℕ) where
     there : (test : ℕ → Bool) (v : Bool) → test c ≡ v → test (first (drop i x)) ≡ v
     there test v p = ap (λ (l : List ℕ). test (first l)) e ∙ p
 
-    inner_or : is_inner c ≡ true → ContentAt x (suc i) ⊎ (scan start (here_at x (suc i)) ≡ refuse_at start) → ContentAt x i ⊎ (scan start (here_at x i) ≡ refuse_at start)
+    inner_or : is_inner c ≡ true → ContentOr start x (suc i) → ContentOr start x i
     inner_or p (inl (cs, value, u, f, content)) = inl (c ∷ cs, c ∷ value, u, e ∙ ap (λ (l : List ℕ). c ∷ l) (sym (rest_behind x i c t e) ∙ f), itself p content)
     inner_or p (inr bad) = inr (scan_inner i c t e p ∙ ap (with_front (c ∷ [])) bad)
 
-    behind_escape : (s : List ℕ) (d : ℕ) (u : List ℕ) → c ≡ 0x5C → drop i x ≡ s ++ u → Escape s d → ContentAt x (i + length s) ⊎ (scan start (here_at x (i + length s)) ≡ refuse_at start)
-        → ContentAt x i ⊎ (scan start (here_at x i) ≡ refuse_at start)
+    behind_escape : (s : List ℕ) (d : ℕ) (u : List ℕ) → c ≡ 0x5C → drop i x ≡ s ++ u → Escape s d → ContentOr start x (i + length s)
+        → ContentOr start x i
     behind_escape s d u q f esc (inl (cs, value, v, g, content)) =
         inl (s ++ cs, d ∷ value, v, f ∙ ap (λ (l : List ℕ). s ++ l) (sym (rest_of x i s u f) ∙ g) ∙ sym (append_assoc s cs (0x22 ∷ v)), escaped esc content)
     behind_escape s d u q f esc (inr bad) =
         inr (scan_escape i d (i + length s) t (e ∙ ap (λ k. k ∷ t) q) (escape_is start x s d u i esc f) ∙ ap (with_front (d ∷ [])) bad)
 
-    escape_then : c ≡ 0x5C → is_inner c ≡ false → EscapeAt x i ⊎ (escape start (here_at x (suc i)) ≡ refuse_at start)
-        → ((k : ℕ) → length (drop k x) < length (drop i x) → ContentAt x k ⊎ (scan start (here_at x k) ≡ refuse_at start))
-        → ContentAt x i ⊎ (scan start (here_at x i) ≡ refuse_at start)
+    escape_then : c ≡ 0x5C → is_inner c ≡ false → EscapeOr start x i
+        → ((k : ℕ) → length (drop k x) < length (drop i x) → ContentOr start x k)
+        → ContentOr start x i
     escape_then q p (inl (s, d, u, f, esc)) more =
         behind_escape s d u q f esc
         (more (i + length s) (omega (arith, escape_some s d esc, length-append s u, ap (length {A = ℕ}) f, ap (length {A = ℕ}) (rest_of x i s u f))))
     escape_then q p (inr bad) more =
         let refused : escaped_piece start (here_at x i) ≡ refuse_at start =
         turn_escapes i (ap first e ∙ q)
-        ∙ ap (λ h. escape start h >>= λ y. Ok (Some (y.0 ∷ chunk is_inner y.1), past_chunk is_inner y.1)) (step_is x i c t e)
-        ∙ ap (λ r. r >>= λ y. Ok (Some (y.0 ∷ chunk is_inner y.1), past_chunk is_inner y.1)) bad in
+        ∙ ap (λ h. escape start h >>= escape_piece) (step_is x i c t e)
+        ∙ ap (λ r. r >>= escape_piece) bad in
         inr (scan_stops i (there is_inner false p) refused)
 
     character_or : (inner quote backslash : Bool) → is_inner c ≡ inner → (c == 0x22) ≡ quote → (c == 0x5C) ≡ backslash
-        → ((k : ℕ) → length (drop k x) < length (drop i x) → ContentAt x k ⊎ (scan start (here_at x k) ≡ refuse_at start))
-        → ContentAt x i ⊎ (scan start (here_at x i) ≡ refuse_at start)
+        → ((k : ℕ) → length (drop k x) < length (drop i x) → ContentOr start x k)
+        → ContentOr start x i
     character_or true quote backslash p q r more =
         inner_or p (more (suc i) (omega (arith, ap (length {A = ℕ}) e, ap (length {A = ℕ}) (rest_behind x i c t e))))
     character_or false true backslash p q r more =
@@ -169,18 +178,18 @@ module _ (start : Mark) (x : List ℕ) where
         inr (scan_stops i (there is_inner false p) (turn_refuses i (there (λ k. k == 0x22) false q) (there (λ k. k == 0x5C) false r)))
 
   text_or : (i : ℕ) (l : List ℕ) → drop i x ≡ l
-      → ((k : ℕ) → length (drop k x) < length (drop i x) → ContentAt x k ⊎ (scan start (here_at x k) ≡ refuse_at start))
-      → ContentAt x i ⊎ (scan start (here_at x i) ≡ refuse_at start)
+      → ((k : ℕ) → length (drop k x) < length (drop i x) → ContentOr start x k)
+      → ContentOr start x i
   text_or i [] e more =
       let refused = turn_refuses i (ap (λ (l : List ℕ). first l == 0x22) e) (ap (λ (l : List ℕ). first l == 0x5C) e) in
       inr (scan_stops i (ap (λ (l : List ℕ). is_inner (first l)) e ∙ end_not_inner) refused)
   text_or i (c ∷ t) e more = character_or i c t e (is_inner c) (c == 0x22) (c == 0x5C) refl refl refl more
 
-  shorter_or : (n i : ℕ) → length (drop i x) < n → ContentAt x i ⊎ (scan start (here_at x i) ≡ refuse_at start)
+  shorter_or : (n i : ℕ) → length (drop i x) < n → ContentOr start x i
   shorter_or zero i h = absurd (omega arith)
   shorter_or (suc n) i h = text_or i (drop i x) refl (λ k g. shorter_or n k (omega arith))
 
-  pub scan_or : (i : ℕ) → ContentAt x i ⊎ (scan start (here_at x i) ≡ refuse_at start)
+  pub scan_or : (i : ℕ) → ContentOr start x i
   scan_or i = shorter_or (suc (length (drop i x))) i (omega arith)
 
 -- ---- one content at most stands at an index
@@ -286,13 +295,13 @@ module _ (x : List ℕ) (j : ℕ) (os : List Opener) (t : List ℕ) (e : drop j 
       let same = one_content cs f value f u closes.0 content (each_content f p) (sym w ∙ closes.1) in
       let plain : has_backslash cs ≡ false = ap has_backslash same.contents ∙ each_unescaped f p in
       run_reads f b s p n
-      ∙ if_yes (first b == 0x22) _ _ h
+      ∙ cond-true (first b == 0x22) _ _ h
       ∙ ap₂ (λ (cs : List ℕ) (k : List ℕ). closed_quote os (here_at x j) true cs (here_at x (suc j + length k))) (sym same.values) (sym same.contents)
       ∙ ap (λ v. closed_quote os (here_at x j) (not v) value (here_at x (suc j + length cs))) (sym plain)
   content_reads cs value u f b false w content s p n h =
       let escapes : has_backslash cs ≡ true = not_closed cs value u f b (has_backslash cs) w content s p n h refl in
       run_reads f b s p n
-      ∙ if_no (first b == 0x22) _ _ h
+      ∙ cond-false (first b == 0x22) _ _ h
       ∙ ap (λ r. r >>= λ y. closed_quote os (here_at x j) false y.0 y.1) (scan_is (mark_at x j) x cs value u (suc j) content (behind_quote ∙ w))
       ∙ ap (λ v. closed_quote os (here_at x j) (not v) value (here_at x (suc j + length cs))) (sym escapes)
 
@@ -310,7 +319,7 @@ module _ (x : List ℕ) (j : ℕ) (os : List Opener) (t : List ℕ) (e : drop j 
   run_refused f b true bad s p n h = let closes = plain_closes f b h s in absurd (no_content f f closes.0 bad (each_content f p) closes.1)
   run_refused f b false bad s p n h =
       run_reads f b s p n
-      ∙ if_no (first b == 0x22) _ _ h
+      ∙ cond-false (first b == 0x22) _ _ h
       ∙ ap (λ r. r >>= λ y. closed_quote os (here_at x j) false y.0 y.1) bad
 
   pub quoted_refused : scan (mark_at x j) (here_at x (suc j)) ≡ refuse_at (mark_at x j) → double_quoted os (here_at x j) ≡ refuse NotBuilt (here_at x j)

@@ -1,5 +1,5 @@
 -- What the reader finds stands in the text.
-use Rattle.std.proofs.Common.{◌≡◌, ◌≢◌, ℕ, suc, ◌+◌, ◌≤◌, ◌<◌, Bool, true, false, not, ◌&&◌, ◌==◌, List, [], ◌∷◌, ◌++◌, length, drop, refl, sym, ap, ap₂, ◌∙◌, subst, arith, append_assoc, append-nil, add-one, add-zero, length-drop, length-append, Some, None, Ok, Err, ◌⊎◌, inl, inr}
+use Rattle.std.proofs.Common.{◌≡◌, ◌≢◌, ℕ, suc, ◌+◌, ◌≤◌, ◌<◌, Bool, true, false, not, ◌&&◌, ◌==◌, List, [], ◌∷◌, ◌++◌, length, drop, refl, sym, ap, ap₂, ◌∙◌, subst, arith, append_assoc, append-nil, add-one, add-zero, length-drop, length-append, Some, None, Ok, Err, inl, inr}
 use Rattle.std.specs.Prelude.{if◌then◌else◌, nat_le, slice_index}
 use Rattle.std.proofs.lemmas.Bool.Decides.{nat_tests}
 use Rattle.granit_base.specs.Classes.{is_gap, is_blank_or_breakz}
@@ -9,7 +9,6 @@ use Rattle.granit_error.specs.FaultKind.{FaultKind, UnclosedFlowCollection, Recu
 use Rattle.granit_error.specs.OptionsData.{OptionsData}
 use Rattle.granit_model.specs.Decoding.{has_backslash}
 use Rattle.granit_model.specs.Here.{Here, mark_of, step}
-use Rattle.granit_model.specs.Quoted.{refuse_at}
 use Rattle.granit_model.specs.Place.{place_of, mark_at}
 use Rattle.granit_model.specs.Lexeme.{Lexeme, LexemeKind, DocumentStart, SequenceClose, MappingClose, Comma, Question, Colon, Scalar, wants_gap, Bracket, Square, Curly, Opener, opener_char}
 use Rattle.granit_model.specs.Start.{Glyph, Dash, DoubleQuote, LeftSquare, RightSquare, LeftCurly, RightCurly, CommaSign, QuestionSign, ColonSign, Foreign, glyph, at_document_start, is_separated}
@@ -23,7 +22,7 @@ use Rattle.granit_lexing.specs.Finding.{Fits, Misfits, Strange, no_gap, misfit, 
 use Rattle.granit_model.proofs.HereLemmas.{not_empty}
 use Rattle.granit_lexing.proofs.Places.{rest_behind, step_is}
 use Rattle.granit_lexing.proofs.LexingRuns.{Ends, run_of, rest_of, past_is}
-use Rattle.granit_lexing.proofs.LexingQuoted.{scan, ContentAt, scan_or, quoted_is, no_content, quoted_refused}
+use Rattle.granit_lexing.proofs.LexingQuoted.{ContentOr, scan_or, quoted_is, no_content, quoted_refused}
 use Rattle.granit_lexing.proofs.LexingGlyphs.{dash_is, quote_is, left_square_is, right_square_is, left_curly_is, right_curly_is, comma_is, question_is, colon_is, starts, not_foreign, apart, content_in}
 
 -- no lexeme stands at an index
@@ -203,7 +202,7 @@ past_quote x j f t e =
     let r : drop (suc j) x ≡ f ++ 0x22 ∷ t = rest_behind x j 0x22 (f ++ 0x22 ∷ t) e in
     step_is x (suc j + length f) 0x22 t (rest_of x (suc j) f (0x22 ∷ t) r) ∙ ap (here_at x) (omega (arith, length-append f (0x22 ∷ [])))
 
-quote_on : (o : OptionsData) (x : List ℕ) (j : ℕ) (t : List ℕ) (os : List Opener) → drop j x ≡ 0x22 ∷ t → ContentAt x (suc j) ⊎ (scan (mark_at x j) (here_at x (suc j)) ≡ refuse_at (mark_at x j)) → ReadsAt o x j os (double_quoted os (here_at x j))
+quote_on : (o : OptionsData) (x : List ℕ) (j : ℕ) (t : List ℕ) (os : List Opener) → drop j x ≡ 0x22 ∷ t → ContentOr (mark_at x j) x (suc j) → ReadsAt o x j os (double_quoted os (here_at x j))
 quote_on o x j t os e (inl (cs, value, u, f, content)) =
     let w : t ≡ cs ++ 0x22 ∷ u = sym (rest_behind x j 0x22 t e) ∙ f in
     let s : drop j x ≡ 0x22 ∷ (cs ++ 0x22 ∷ u) = e ∙ ap (λ (l : List ℕ). 0x22 ∷ l) w in

@@ -76,8 +76,7 @@ module _ {V : Type 0} (view : V → List PlainEvent) (o : OptionsData) (x : List
       → IfErr r (λ e. e.kind ≡ NoMemory) × IfOk r (λ v. view v ≡ canonical_events ts)
   canonical_of r g ts bare written depth e =
       let reading : Reading o x (spell_documents (documents_in x ts) []) (documents_in x ts) =
-          subst (λ (y : List ℕ). Reading o y (spell_documents (documents_in y ts) []) (documents_in y ts)) (sym e) (is_read o ts bare written depth) in
-      (
+      subst (λ (y : List ℕ). Reading o y (spell_documents (documents_in y ts) []) (documents_in y ts)) (sym e) (is_read o ts bare written depth) in (
         answered_of r g (spell_documents (documents_in x ts) []) (documents_in x ts) reading,
         answer_of r g (canonical_events ts) (is_answered o x (spell_documents (documents_in x ts) []) (documents_in x ts) reading ∙ ap (λ (y : List ℕ). Ok (events y (documents_in y ts))) e),
       )
