@@ -1,5 +1,6 @@
 #!/usr/bin/env bash
-# Speed and memory on 5 MB of plain flow documents, beside another program that reads the same words.
+# Speed and memory on 5 MB of plain flow documents, beside another program that reads the same words: first with no escapes,
+# then with many.
 # usage: bench/compare.sh OTHER_PROGRAM [MEGABYTES]
 set -eu
 other="${1:?usage: bench/compare.sh OTHER_PROGRAM [MEGABYTES]}"
@@ -7,20 +8,24 @@ megabytes="${2:-5}"
 top="$(cd "$(dirname "${BASH_SOURCE[0]}")/.." && pwd)"
 work="$(mktemp -d)"
 trap 'rm -rf "$work"' EXIT
-python3 - "$megabytes" >"$work/text" <<'PYTHON'
+write_text() {
+    python3 - "$megabytes" "$1" >"$work/text" <<'PYTHON'
 import sys
 size = int(float(sys.argv[1]) * 1_000_000)
+forms = {
+    'plain': '--- {? "name" : "service number %d", ? "ports" : ["80:%d", "443:%d"],\n  ? "labels" : {? "tier" : "backend — of the shop", ? "owner" : "team %d"}}\n',
+    'escaped': '--- {? "na\\u006de" : "line\\n%d\\t\\"quoted\\"", ? "\\x70orts\\\\" : ["80\\/%d", "\\\\\\\\%d\\_\\N"],\n  ? "\\ud83d\\ude00" : ["\\0\\a\\b\\e\\f\\v\\r\\L\\P", "\\U0001F600 team %d"]}\n',
+}
 out, length, number = [], 0, 0
 while length < size:
     number += 1
-    text = '--- {? "name" : "service number %d", ? "ports" : ["80:%d", "443:%d"],\n  ? "labels" : {? "tier" : "backend — of the shop", ? "owner" : "team %d"}}\n' % (
-        number, number, number, number % 7)
+    text = forms[sys.argv[2]] % (number, number, number, number % 7)
     out.append(text)
     length += len(text.encode())
 sys.stdout.write(''.join(out))
 PYTHON
+}
 "$top/granit" events </dev/null >/dev/null
-echo "input: $(stat -c %s "$work/text") bytes"
 measure() {
     local name="$1" best="" peak=0 seconds kilobytes
     shift
@@ -44,6 +49,10 @@ PYTHON
     awk -v name="$name" -v best="$best" -v peak="$peak" -v size="$(stat -c %s "$work/text")" \
         'BEGIN { printf "%s: %.3f s (best of 5), peak %.1f MB, %.1f bytes an input byte\n", name, best, peak / 1024, peak * 1024 / size }'
 }
-measure ours "$top/granit" events
-measure other "$other" events
-if cmp -s "$work/ours.out" "$work/other.out"; then echo "the outputs are the same"; else echo "the outputs differ"; exit 1; fi
+for form in plain escaped; do
+    write_text "$form"
+    echo "$form: $(stat -c %s "$work/text") bytes"
+    measure ours "$top/granit" events
+    measure other "$other" events
+    if cmp -s "$work/ours.out" "$work/other.out"; then echo "the outputs are the same"; else echo "the outputs differ"; exit 1; fi
+done

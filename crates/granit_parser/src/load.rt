@@ -89,8 +89,8 @@ fn load<'a>(alloc: Global, text: &'a str, options: &Options) -> Result<Events<'a
     Ok(Events { items })
 }
 
-/// All events of a text, in order, with the scalars borrowed from it. Columns count characters from
-/// 0, lines from 1, and each marker tells its byte offset.
+/// All events of a text, in order, each scalar borrowed from it where it holds no escape. Columns
+/// count characters from 0, lines from 1, and each marker tells its byte offset.
 ///
 /// The contract: an answer is the event list of the documents as which the text is read, each span
 /// one of the text (`reading`, `spans`); a text with a reading is answered (`answered`); a text

@@ -49,13 +49,13 @@ fn letter_at(rt: &HostRuntime, text: &str, i: usize) -> Option<char> {
     Some(letter(event))
 }
 
-/// Whether the event behind `i` others is a borrowed scalar of that value.
+/// Whether the event behind `i` others is a scalar of that value, and whether it is borrowed.
 fn lends(rt: &HostRuntime, text: &str, i: usize, value: &str) -> Option<bool> {
     let events = read(rt, text).ok()?;
     match events.get(i)? {
-        (Event::Scalar(scalar, _, 0, None), _) => Some(
-            scalar.is_borrowed() && scalar.as_str() == value,
-        ),
+        (Event::Scalar(scalar, _, 0, None), _) if scalar.as_str() == value => {
+            Some(scalar.is_borrowed())
+        }
         _ => None,
     }
 }
@@ -155,13 +155,75 @@ fn faults(rt: HostRuntime) {
         ("--- \"a\"\"b\"", 96, 7),
         ("--- [\"a\",]", 96, 9),
         ("--- [\n...", 96, 6),
-        ("--- \"a\\n\"", 96, 4),
         ("--- \"a\nb\"", 96, 4),
     ];
-    for i in 0..17 {
+    for i in 0..16 {
         let (text, kind, index) = refused[i];
         assert_eq!(rt; fault(&rt, text), Some((kind, index)));
     }
     assert_eq!(rt; nested_fault(&rt, 256, 0), Some((5, 259)));
     assert_eq!(rt; nested_events(&rt, 255), Some(514));
+}
+
+#[test]
+fn values_of_escapes(rt: HostRuntime) {
+    // the value, and how many characters stand between the quotes
+    let cases = [
+        ("--- \"\\0\"", "\0", 2),
+        ("--- \"\\a\"", "\u{7}", 2),
+        ("--- \"\\b\"", "\u{8}", 2),
+        ("--- \"\\t\"", "\t", 2),
+        ("--- \"\\\t\"", "\t", 2),
+        ("--- \"\\n\"", "\n", 2),
+        ("--- \"\\v\"", "\u{B}", 2),
+        ("--- \"\\f\"", "\u{C}", 2),
+        ("--- \"\\r\"", "\r", 2),
+        ("--- \"\\e\"", "\u{1B}", 2),
+        ("--- \"\\ \"", " ", 2),
+        ("--- \"\\\"\"", "\"", 2),
+        ("--- \"\\/\"", "/", 2),
+        ("--- \"\\\\\"", "\\", 2),
+        ("--- \"\\N\"", "\u{85}", 2),
+        ("--- \"\\_\"", "\u{A0}", 2),
+        ("--- \"\\L\"", "\u{2028}", 2),
+        ("--- \"\\P\"", "\u{2029}", 2),
+        ("--- \"\\x4a\"", "J", 4),
+        ("--- \"\\u20AC\"", "\u{20AC}", 6),
+        ("--- \"\\U0010ffff\"", "\u{10FFFF}", 10),
+        ("--- \"\\ud83d\\ude00\"", "\u{1F600}", 12),
+        ("--- \"\\uDBFF\\uDFFF\"", "\u{10FFFF}", 12),
+        ("--- \"a\\x410\u{e9}\\\\\\\"b\"", "aA0\u{e9}\\\"b", 12),
+    ];
+    for i in 0..24 {
+        let (text, value, count) = cases[i];
+        assert_eq!(rt; lends(&rt, text, 2, value), Some(false));
+        assert_eq!(rt; places(&rt, text, 4).map(|(end, _)| end.0), Some(count + 6));
+    }
+}
+
+#[test]
+fn faults_of_escapes(rt: HostRuntime) {
+    let refused = [
+        "--- \"\\ud83d\"",
+        "--- \"\\x4\"",
+        "--- \"\\q\"",
+        "--- \"\\U00110000\"",
+        "--- \"\\ude00\"",
+        "--- \"a\\",
+        "--- \"\\\"",
+        "--- \"\\\n\"",
+        "--- \"a\\n\nb\"",
+        "--- \"\\X41\"",
+        "--- \"\\u004g\"",
+        "--- \"\\U0000d83d\\ude00\"",
+        "--- \"\\ud83d\\ud83d\"",
+        "--- \"\\ud83d \\ude00\"",
+        "--- \"\\ud83d\\U0000de00\"",
+        "--- \"\\ud83d\\ude0\"",
+    ];
+    for i in 0..16 {
+        assert_eq!(rt; fault(&rt, refused[i]), Some((96, 4)));
+    }
+    // at the quote of its own scalar, not of the first
+    assert_eq!(rt; fault(&rt, "--- [\"\\n\", \"\\q\""), Some((96, 11)));
 }
