@@ -7,18 +7,36 @@ use std::io;
 use std::test::Fail;
 
 #[test]
-fn kinds_print_their_words(rt: HostRuntime) -> Result<(), Fail> {
+fn kinds_without_parts_print_their_words(rt: HostRuntime) -> Result<(), Fail> {
     let kinds = [
         (ErrorKind::NoMemory, 1, "out of memory"),
-        (
-            ErrorKind::UnclosedFlowCollection { opener: '{' },
-            2,
-            "unclosed bracket '{'",
-        ),
         (
             ErrorKind::FlowMappingValueAdjacentCollection,
             8,
             "':' may not precede any of `[{` in flow mapping",
+        ),
+        (
+            ErrorKind::MissingIncludeResolver,
+            84,
+            "No include resolver set for parser stack.",
+        ),
+        (ErrorKind::NotBuilt, 96, "not built yet"),
+    ];
+    for (kind, number, words) in &kinds {
+        assert_eq!(rt; kind.number(), *number);
+        assert_eq!(rt; kind.to_string(rt.alloc())?.as_str(), *words);
+        assert_eq!(rt; kind.try_clone(rt.alloc())? == *kind, true);
+    }
+    Ok(())
+}
+
+#[test]
+fn kinds_with_parts_print_their_words(rt: HostRuntime) -> Result<(), Fail> {
+    let kinds = [
+        (
+            ErrorKind::UnclosedFlowCollection { opener: '{' },
+            2,
+            "unclosed bracket '{'",
         ),
         (
             ErrorKind::DirectiveByteLimitExceeded { limit: 1024 },
@@ -43,12 +61,6 @@ fn kinds_print_their_words(rt: HostRuntime) -> Result<(), Fail> {
             "input decoding error: é",
         ),
         (ErrorKind::Custom(Text::borrowed("mine")), 81, "mine"),
-        (
-            ErrorKind::MissingIncludeResolver,
-            84,
-            "No include resolver set for parser stack.",
-        ),
-        (ErrorKind::NotBuilt, 96, "not built yet"),
     ];
     for (kind, number, words) in &kinds {
         assert_eq!(rt; kind.number(), *number);
