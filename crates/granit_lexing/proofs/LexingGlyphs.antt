@@ -1,5 +1,5 @@
 -- What a character may begin, and how each lexeme begins.
-use Rattle.std.proofs.Common.{◌≡◌, ◌≢◌, ℕ, true, false, ◌==◌, List, [], ◌∷◌, ◌++◌, refl, sym, ap, ◌∙◌, subst, arith}
+use Rattle.std.proofs.Common.{◌≡◌, ◌≢◌, ℕ, true, List, [], ◌∷◌, ◌++◌, refl, sym, ap, ◌∙◌, subst, arith}
 use Rattle.std.specs.Str.{encode_utf8_all}
 use Rattle.std.proofs.lemmas.Bool.Decides.{nat_tests}
 use lib.Utf8.{scalars}
@@ -107,25 +107,6 @@ no_gap_first behind (anchor p n) = refl
 no_gap_first behind (alias p n) = refl
 no_gap_first behind (quoted q) = refl
 
--- some lexeme begins with each glyph but the foreign ones
-pub not_foreign : (k : LexemeKind) → glyph_of k ≡ Foreign → ⊥
-not_foreign DocumentStart e = cc
-not_foreign SequenceOpen e = cc
-not_foreign SequenceClose e = cc
-not_foreign MappingOpen e = cc
-not_foreign MappingClose e = cc
-not_foreign Comma e = cc
-not_foreign Question e = cc
-not_foreign Colon e = cc
-not_foreign (Tag suffix) e = cc
-not_foreign (Anchor name) e = cc
-not_foreign (Alias name) e = cc
-not_foreign (Scalar style text) e = cc
-
--- two texts that begin with other characters are two
-pub apart : (c d : ℕ) (s t : List ℕ) → (c == d) ≡ false → c ∷ s ≡ d ∷ t → ⊥
-apart c d s t n e = let h : c ≡ d = ap first e in grind (arith, nat_tests)
-
 -- the characters of a tag
 abbrev pub verbatim_of : List ℕ → List ℕ
 verbatim_of uri = 0x21 ∷ 0x3C ∷ (uri ++ 0x3E ∷ [])
@@ -150,13 +131,18 @@ pub record IsName (name : List ℕ) : Type 0 where
 abbrev pub lent : List ℕ → Written
 lent name = record { characters = name; is_borrowed = true }
 
+-- a sign and a name
+abbrev pub Named : (Written → LexemeKind) → ℕ → LexemeKind → List ℕ → Type 0
+Named kind sign k cs = (name : List ℕ) × IsName name × (k ≡ kind (lent name)) × (cs ≡ sign ∷ name)
+
 -- what a lexeme is, and its characters, by what the first of them is taken for
 abbrev pub Shape : LexemeKind → List ℕ → Glyph → Type 0
 Shape k cs Dash = (k ≡ DocumentStart) × (cs ≡ 0x2D ∷ 0x2D ∷ 0x2D ∷ [])
 Shape k cs DoubleQuote = (content : List ℕ) × (value : List ℕ) × Content content value × (cs ≡ quotes content)
 Shape k cs Exclamation = (uri : List ℕ) × (bytes : List ℕ) × (suffix : List ℕ) × Spelling uri bytes suffix × (cs ≡ verbatim_of uri)
-Shape k cs Ampersand = (name : List ℕ) × IsName name × (k ≡ Anchor (lent name)) × (cs ≡ 0x26 ∷ name)
-Shape k cs Asterisk = (name : List ℕ) × IsName name × (k ≡ Alias (lent name)) × (cs ≡ 0x2A ∷ name)
+Shape k cs Ampersand = Named Anchor 0x26 k cs
+Shape k cs Asterisk = Named Alias 0x2A k cs
+Shape k cs Foreign = ⊥
 Shape k cs _ = Unit {0}
 
 shaped : {k : LexemeKind} {cs : List ℕ} → Spells k cs → Shape k cs (glyph_of k)

@@ -2,7 +2,8 @@
 use Rattle.std.proofs.Common.{◌≡◌, ◌≢◌, ℕ, suc, ◌+◌, ◌≤◌, ◌<◌, Bool, true, false, not, ◌&&◌, ◌==◌, List, [], ◌∷◌, ◌++◌, length, drop, refl, sym, ap, ap₂, ◌∙◌, subst, arith, append_assoc, append-nil, add-zero, length-drop, length-append, Some, None, Ok, Err, ◌⊎◌, inl, inr}
 use Rattle.std.specs.Prelude.{if◌then◌else◌, nat_le, slice_index}
 use Rattle.std.proofs.lemmas.Bool.Decides.{nat_tests}
-use Rattle.granit_base.specs.Classes.{is_gap, is_blank_or_breakz}
+use Rattle.granit_base.specs.Classes.{is_gap, is_blank_or_breakz, is_anchor_char}
+use Rattle.granit_base.specs.Written.{Written}
 use Rattle.granit_base.specs.Place.{Mark, first}
 use Rattle.granit_base.specs.declared.style.ScalarStyle.TheVariants.{DoubleQuoted}
 use Rattle.granit_error.specs.FaultKind.{FaultKind, UnclosedFlowCollection, RecursionLimitExceeded, NotBuilt}
@@ -23,7 +24,7 @@ use Rattle.granit_model.proofs.HereLemmas.{not_empty}
 use Rattle.granit_lexing.proofs.Places.{rest_behind, step_is, on_one, on_three}
 use Rattle.granit_lexing.proofs.LexingRuns.{Ends, run_of, rest_of, past_is}
 use Rattle.granit_lexing.proofs.LexingQuoted.{ContentOr, scan_or, quoted_is, no_content, quoted_refused}
-use Rattle.granit_lexing.proofs.LexingGlyphs.{dash_is, quote_is, left_square_is, right_square_is, left_curly_is, right_curly_is, comma_is, question_is, colon_is, exclamation_is, ampersand_is, asterisk_is, starts, not_foreign, verbatim_of, quotes, lent, Shape, shape_of}
+use Rattle.granit_lexing.proofs.LexingGlyphs.{dash_is, quote_is, left_square_is, right_square_is, left_curly_is, right_curly_is, comma_is, question_is, colon_is, exclamation_is, ampersand_is, asterisk_is, verbatim_of, quotes, lent, Named, Shape, shape_of}
 use Rattle.granit_lexing.proofs.LexingNames.{NameAt, named_is, named_or}
 use Rattle.granit_lexing.proofs.LexingTags.{TagAt, tag_is, tag_or}
 
@@ -97,6 +98,7 @@ stands_as x j c d t e h = e ∙ ap (λ k. k ∷ t) h
 unmarked_by : (x : List ℕ) (j c : ℕ) (t : List ℕ) → drop j x ≡ c ∷ t → c ≢ 0x2D → IsDocumentMark x j → ⊥
 unmarked_by x j c t e n m = n (ap first (sym e ∙ m.stands.inside))
 
+-- what each sign is taken for
 glyph_of_dash : glyph 0x2D ≡ Dash
 unfolding glyph
 glyph_of_dash = refl
@@ -120,6 +122,10 @@ glyph_of_asterisk = refl
 -- the shape of a lexeme by the character at its index
 shape_at : (x : List ℕ) (j c : ℕ) (t : List ℕ) (g : Glyph) {l : Lexeme} {cs behind : List ℕ} → drop j x ≡ c ∷ t → IsLexeme x j l cs behind → glyph c ≡ g → Shape l.kind cs g
 shape_at x j c t g {behind = behind} e is h = shape_of behind c t g is.spells (sym is.stands.inside ∙ e) h
+
+-- where no lexeme stands, what is there is refused
+refused_reads : (o : OptionsData) (x : List ℕ) (j c : ℕ) (t : List ℕ) (os : List Opener) (r : Read) → drop j x ≡ c ∷ t → c ≢ 0x2D → r ≡ refuse NotBuilt (here_at x j) → NoLexeme x j → ReadsAt o x j os r
+refused_reads o x j c t os r e n bad none = subst (ReadsAt o x j os) (sym bad) (record { why = foreign_at none; unmarked = unmarked_by x j c t e n; marks = refl })
 
 opens_is : (o : OptionsData) (x : List ℕ) (j : ℕ) (t : List ℕ) (os : List Opener) (k : Bracket) (v : Bool)
     → drop j x ≡ opener_char k ∷ t → Spells (open_kind k) (opener_char k ∷ []) → MayBegin x j (open_kind k) → MayFollow (open_kind k) t → Fits (open_kind k) os t
@@ -222,12 +228,8 @@ quote_on o x j t os e (inl (cs, value, u, f, content)) =
     (lexed_is o x j os (Scalar DoubleQuoted (record { characters = value; is_borrowed = not (has_backslash cs) })) (quotes cs) u (step (here_at x (suc j + length cs)))
     (past_quote x j cs u s) (s ∙ in_quotes cs u) (quoted content) tt tt tt (λ m. m))
 quote_on o x j t os e (inr bad) =
-    subst (ReadsAt o x j os) (sym (quoted_refused x j os t e bad))
-    (record {
-      why = foreign_at (λ l cs behind is. let q = shape_at x j 0x22 t DoubleQuote e is glyph_of_quote in no_content x j os t e q.0 q.1 behind bad q.2 (content_stands x j t q.0 cs behind e is.stands.inside q.3));
-      unmarked = unmarked_by x j 0x22 t e (λ q. omega arith);
-      marks = refl;
-    })
+    refused_reads o x j 0x22 t os (double_quoted os (here_at x j)) e (λ q. omega arith) (quoted_refused x j os t e bad)
+    (λ l cs behind is. let q = shape_at x j 0x22 t DoubleQuote e is glyph_of_quote in no_content x j os t e q.0 q.1 behind bad q.2 (content_stands x j t q.0 cs behind e is.stands.inside q.3))
 
 quote_reads : (o : OptionsData) (x : List ℕ) (j : ℕ) (t : List ℕ) (os : List Opener) → drop j x ≡ 0x22 ∷ t → ReadsAt o x j os (double_quoted os (here_at x j))
 quote_reads o x j t os e = quote_on o x j t os e (scan_or (mark_at x j) x (suc j))
@@ -235,7 +237,7 @@ quote_reads o x j t os e = quote_on o x j t os e (scan_or (mark_at x j) x (suc j
 -- ---- tags
 
 -- a tag that is a lexeme stands there
-pub tag_at : (x : List ℕ) (j : ℕ) {l : Lexeme} {cs behind : List ℕ} → IsLexeme x j l cs behind → Shape l.kind cs Exclamation → TagAt x j
+tag_at : (x : List ℕ) (j : ℕ) {l : Lexeme} {cs behind : List ℕ} → IsLexeme x j l cs behind → Shape l.kind cs Exclamation → TagAt x j
 tag_at x j {behind = behind} is q = record { uri = q.0; bytes = q.1; suffix = q.2; behind = behind; stands = is.stands.inside ∙ ap (λ (f : List ℕ). f ++ behind) q.4; spelling = q.3 }
 
 tag_on : (o : OptionsData) (x : List ℕ) (j : ℕ) (t : List ℕ) (os : List Opener) → drop j x ≡ 0x21 ∷ t → TagAt x j ⊎ (verbatim_tag os (here_at x j) ≡ refuse NotBuilt (here_at x j)) → ReadsAt o x j os (verbatim_tag os (here_at x j))
@@ -244,12 +246,8 @@ tag_on o x j t os e (inl r) =
     subst (ReadsAt o x j os) (sym (tag_is x j os r))
     (lexed_is o x j os (Tag r.suffix) (verbatim_of r.uri) r.behind (here_at x (j + length (verbatim_of r.uri))) refl r.stands (verbatim s.uri_bytes s.some s.scalar s.encodes) tt tt tt (λ m. m))
 tag_on o x j t os e (inr bad) =
-    subst (ReadsAt o x j os) (sym bad)
-    (record {
-      why = foreign_at (λ l cs behind is. let read = tag_is x j os (tag_at x j is (shape_at x j 0x21 t Exclamation e is glyph_of_exclamation)) in cc);
-      unmarked = unmarked_by x j 0x21 t e (λ q. omega arith);
-      marks = refl;
-    })
+    refused_reads o x j 0x21 t os (verbatim_tag os (here_at x j)) e (λ q. omega arith) bad
+    (λ l cs behind is. let read = tag_is x j os (tag_at x j is (shape_at x j 0x21 t Exclamation e is glyph_of_exclamation)) in cc)
 
 tag_reads : (o : OptionsData) (x : List ℕ) (j : ℕ) (t : List ℕ) (os : List Opener) → drop j x ≡ 0x21 ∷ t → ReadsAt o x j os (verbatim_tag os (here_at x j))
 tag_reads o x j t os e = tag_on o x j t os e (tag_or x j os t e)
@@ -257,23 +255,23 @@ tag_reads o x j t os e = tag_on o x j t os e (tag_or x j os t e)
 -- ---- anchors and aliases
 
 -- an anchor or an alias that is a lexeme stands there
-pub anchor_at : (x : List ℕ) (j : ℕ) {l : Lexeme} {cs behind : List ℕ} → IsLexeme x j l cs behind → Shape l.kind cs Ampersand → NameAt x j 0x26
-anchor_at x j {behind = behind} is q = record { name = q.0; behind = behind; stands = is.stands.inside ∙ ap (λ (f : List ℕ). f ++ behind) q.3; is_name = q.1; ends = subst (λ k. MayFollow k behind) q.2 is.ends }
-
-pub alias_at : (x : List ℕ) (j : ℕ) {l : Lexeme} {cs behind : List ℕ} → IsLexeme x j l cs behind → Shape l.kind cs Asterisk → NameAt x j 0x2A
-alias_at x j {behind = behind} is q = record { name = q.0; behind = behind; stands = is.stands.inside ∙ ap (λ (f : List ℕ). f ++ behind) q.3; is_name = q.1; ends = subst (λ k. MayFollow k behind) q.2 is.ends }
+name_at : (kind : Written → LexemeKind) (sign : ℕ) (x : List ℕ) (j : ℕ) {l : Lexeme} {cs behind : List ℕ} → ((w : Written) → MayFollow (kind w) behind → is_anchor_char (first behind) ≡ false)
+    → IsLexeme x j l cs behind → Named kind sign l.kind cs → NameAt x j sign
+name_at kind sign x j {behind = behind} ends is q = record {
+  name = q.0;
+  behind = behind;
+  stands = is.stands.inside ∙ ap (λ (f : List ℕ). f ++ behind) q.3;
+  is_name = q.1;
+  ends = ends (lent q.0) (subst (λ k. MayFollow k behind) q.2 is.ends);
+}
 
 anchor_on : (o : OptionsData) (x : List ℕ) (j : ℕ) (t : List ℕ) (os : List Opener) → drop j x ≡ 0x26 ∷ t → NameAt x j 0x26 ⊎ (named Anchor os (here_at x j) ≡ refuse NotBuilt (here_at x j)) → ReadsAt o x j os (named Anchor os (here_at x j))
 anchor_on o x j t os e (inl r) =
     subst (ReadsAt o x j os) (sym (named_is Anchor x j 0x26 os r))
     (lexed_is o x j os (Anchor (lent r.name)) (0x26 ∷ r.name) r.behind (here_at x (j + length (0x26 ∷ r.name))) refl r.stands (anchor r.is_name.each r.is_name.some) tt r.ends tt (λ m. m))
 anchor_on o x j t os e (inr bad) =
-    subst (ReadsAt o x j os) (sym bad)
-    (record {
-      why = foreign_at (λ l cs behind is. let read = named_is Anchor x j 0x26 os (anchor_at x j is (shape_at x j 0x26 t Ampersand e is glyph_of_ampersand)) in cc);
-      unmarked = unmarked_by x j 0x26 t e (λ q. omega arith);
-      marks = refl;
-    })
+    refused_reads o x j 0x26 t os (named Anchor os (here_at x j)) e (λ q. omega arith) bad
+    (λ l cs behind is. let read = named_is Anchor x j 0x26 os (name_at Anchor 0x26 x j (λ w n. n) is (shape_at x j 0x26 t Ampersand e is glyph_of_ampersand)) in cc)
 
 anchor_reads : (o : OptionsData) (x : List ℕ) (j : ℕ) (t : List ℕ) (os : List Opener) → drop j x ≡ 0x26 ∷ t → ReadsAt o x j os (named Anchor os (here_at x j))
 anchor_reads o x j t os e = anchor_on o x j t os e (named_or Anchor x j os 0x26 t e)
@@ -283,12 +281,8 @@ alias_on o x j t os e (inl r) =
     subst (ReadsAt o x j os) (sym (named_is Alias x j 0x2A os r))
     (lexed_is o x j os (Alias (lent r.name)) (0x2A ∷ r.name) r.behind (here_at x (j + length (0x2A ∷ r.name))) refl r.stands (alias r.is_name.each r.is_name.some) tt r.ends tt (λ m. m))
 alias_on o x j t os e (inr bad) =
-    subst (ReadsAt o x j os) (sym bad)
-    (record {
-      why = foreign_at (λ l cs behind is. let read = named_is Alias x j 0x2A os (alias_at x j is (shape_at x j 0x2A t Asterisk e is glyph_of_asterisk)) in cc);
-      unmarked = unmarked_by x j 0x2A t e (λ q. omega arith);
-      marks = refl;
-    })
+    refused_reads o x j 0x2A t os (named Alias os (here_at x j)) e (λ q. omega arith) bad
+    (λ l cs behind is. let read = named_is Alias x j 0x2A os (name_at Alias 0x2A x j (λ w n. n) is (shape_at x j 0x2A t Asterisk e is glyph_of_asterisk)) in cc)
 
 alias_reads : (o : OptionsData) (x : List ℕ) (j : ℕ) (t : List ℕ) (os : List Opener) → drop j x ≡ 0x2A ∷ t → ReadsAt o x j os (named Alias os (here_at x j))
 alias_reads o x j t os e = alias_on o x j t os e (named_or Alias x j os 0x2A t e)
@@ -325,11 +319,7 @@ glyph_reads o x j c t os ColonSign e h =
 glyph_reads o x j c t os Exclamation e h = tag_reads o x j t os (stands_as x j c 0x21 t e (exclamation_is c h))
 glyph_reads o x j c t os Ampersand e h = anchor_reads o x j t os (stands_as x j c 0x26 t e (ampersand_is c h))
 glyph_reads o x j c t os Asterisk e h = alias_reads o x j t os (stands_as x j c 0x2A t e (asterisk_is c h))
-glyph_reads o x j c t os Foreign e h = record {
-  why = foreign_at (λ l cs behind is. not_foreign l.kind (sym (starts behind is.spells) ∙ ap (λ (l : List ℕ). glyph (first l)) (sym is.stands.inside ∙ e) ∙ h));
-  unmarked = unmarked_by x j c t e (not_dash c h);
-  marks = refl;
-}
+glyph_reads o x j c t os Foreign e h = record { why = foreign_at (λ l cs behind is. shape_at x j c t Foreign e is h); unmarked = unmarked_by x j c t e (not_dash c h); marks = refl }
 
 -- behind a text's last index stands nothing more
 pub ends_at : (x : List ℕ) (i : ℕ) (g : List ℕ) → i ≤ length x → drop i x ≡ g ++ [] → i + length g ≡ length x
