@@ -10,6 +10,7 @@ pub mod GrammarRefused
 pub mod GrammarSound
 pub mod GrammarSteps
 pub mod Laws
+pub mod ScopeLemmas
 pub mod Spans
 pub mod Spelled
 pub mod Unread

@@ -5,6 +5,7 @@
 mod causes;
 mod examples;
 mod readings;
+mod scopes;
 
 pub use causes::{every_fault_has_its_cause, readings_are_answered_or_refused};
 pub use examples::{
@@ -13,3 +14,4 @@ pub use examples::{
 pub use readings::{
     every_answer_is_a_reading, every_reading_is_answered, every_span_is_in_the_text, one_reading,
 };
+pub use scopes::{names_of_anchors_have_numbers, scope_is_told_by_the_lexemes_before};
