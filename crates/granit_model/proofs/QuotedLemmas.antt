@@ -1,14 +1,15 @@
--- Escapes take some of the text, and leave what follows them.
-use Rattle.std.proofs.Common.{◌≡◌, ℕ, zero, suc, ◌<◌, ◌≤◌, ◌==◌, Bool, true, false, cond, ◌&&◌, List, [], ◌∷◌, Option, Some, None, Result, Ok, Err, refl, sym, ap, ◌∙◌, subst, arith}
+-- Escapes and URIs take some of the text, and leave what follows them.
+use Rattle.std.proofs.Common.{◌≡◌, ℕ, zero, suc, ◌<◌, ◌≤◌, ◌==◌, Bool, true, false, cond, ◌&&◌, List, [], ◌∷◌, length, Option, Some, None, Result, Ok, Err, refl, sym, ap, ◌∙◌, subst, arith}
 use Rattle.std.specs.Prelude.{slice_index}
 use lib.Utf8.{scalar}
-use Rattle.granit_base.specs.Classes.{is_hex}
-use Rattle.granit_base.specs.Place.{Mark}
+use Rattle.granit_base.specs.Classes.{is_hex, is_uri_char, is_uri_sign, is_word_char, is_digit}
+use Rattle.granit_base.specs.Place.{Mark, first}
 use Rattle.granit_model.specs.Decoding.{letter_value, digit_count, is_high, is_low}
 use Rattle.granit_model.specs.Here.{Here, text_len, next_char, step, chunk, past_chunk}
 use Rattle.granit_model.specs.Outcome.{Fault, ◌>>=◌}
 use Rattle.granit_model.specs.Pieces.{with_front, then_more, turns, pieces, Shortens}
 use Rattle.granit_model.specs.Quoted.{digits, joined_at, second_half, numbered, escape_by, escape, escaped_piece, escaped_pieces}
+use Rattle.granit_model.specs.Property.{percent_byte, uri_byte, uri_bytes}
 use Rattle.granit_model.specs.Start.{is_inner}
 use Rattle.granit_model.proofs.HereLemmas.{seen, step_len, past_chunk_len}
 
@@ -89,12 +90,41 @@ more_within n m (Ok (Some piece, h)) more le t w = within_then n (more h) _ (w h
 more_within n m (Ok (None, h)) more le t w = omega arith
 more_within n m (Err f) more le t w = tt
 
-turns_within : (n : ℕ) (start : Mark) (fuel : ℕ) (h : Here) → text_len h ≤ n → Within n (turns (escaped_piece start) fuel h)
+turns_within : (n : ℕ) (turn : Here → Result (Option (List ℕ) × Here) Fault) → ((h : Here) → Takes (text_len h) (turn h)) → (fuel : ℕ) (h : Here) → text_len h ≤ n → Within n (turns turn fuel h)
 unfolding turns
-turns_within n start zero h le = le
-turns_within n start (suc fuel) h le = more_within n (text_len h) (escaped_piece start h) (turns (escaped_piece start) fuel) le (piece_takes start h) (λ after p. turns_within n start fuel after p)
+turns_within n turn takes zero h le = le
+turns_within n turn takes (suc fuel) h le = more_within n (text_len h) (turn h) (turns turn fuel) le (takes h) (λ after p. turns_within n turn takes fuel after p)
+
+all_within : (turn : Here → Result (Option (List ℕ) × Here) Fault) → ((h : Here) → Takes (text_len h) (turn h)) → (h : Here) → Within (text_len h) (pieces text_len turn h)
+unfolding pieces
+all_within turn takes h = turns_within (text_len h) turn takes (suc (text_len h)) h (omega arith)
 
 -- what is left behind all pieces is no more than before
 pub pieces_within : (start : Mark) (h : Here) → Within (text_len h) (escaped_pieces start h)
-unfolding pieces
-pieces_within start h = turns_within (text_len h) start (suc (text_len h)) h (omega arith)
+pieces_within start h = all_within (escaped_piece start) (piece_takes start) h
+
+three_less : (h : Here) → 0 < text_len h → text_len (step (step (step h))) < text_len h
+three_less h some = omega (arith, step_len h, step_len (step h), step_len (step (step h)))
+
+percent_takes : (start : Mark) (h : Here) → 0 < text_len h → Takes (text_len h) (percent_byte start h)
+unfolding percent_byte
+percent_takes start h some = if_takes (text_len h) (is_hex (slice_index h.unread.text 1) && is_hex (slice_index h.unread.text 2)) _ _ (λ _. three_less h some) tt
+
+uri_character_left : (text : List ℕ) → is_uri_char (first text) ≡ true → 0 < length text
+unfolding is_uri_char is_uri_sign is_word_char is_digit
+uri_character_left [] e = absurd cc
+uri_character_left (c ∷ cs) e = omega arith
+
+uri_takes : (start : Mark) (h : Here) → Takes (text_len h) (uri_byte start h)
+unfolding uri_byte
+uri_takes start h =
+    if_takes (text_len h) (next_char h == 0x3E) _ _ (λ _. omega arith)
+    (if_takes (text_len h) (next_char h == 0x25) _ _ (λ e. percent_takes start h (seen 0x25 h.unread.text (omega arith) e))
+    (if_takes (text_len h) (is_uri_char (next_char h)) _ _ (λ e. let some = uri_character_left h.unread.text e in omega (arith, step_len h)) tt))
+
+-- each byte of a URI takes some of the text
+pub uri_shortens : (start : Mark) → Shortens text_len (uri_byte start)
+uri_shortens start h after piece is = subst (Takes (text_len h)) is (uri_takes start h)
+
+pub uri_within : (start : Mark) (h : Here) → Within (text_len h) (uri_bytes start h)
+uri_within start h = all_within (uri_byte start) (uri_takes start) h

@@ -1,21 +1,23 @@
 -- Each lexeme takes some of the text.
 use Rattle.std.proofs.Common.{◌≡◌, ℕ, ◌<◌, ◌≤◌, ◌==◌, Bool, true, false, cond, List, [], ◌∷◌, length, Option, Some, None, Result, Ok, Err, refl, sym, ap, ◌∙◌, arith}
 use Rattle.std.proofs.lemmas.Bool.Decides.{nat_tests}
-use Rattle.std.specs.Prelude.{◌&&◌, nat_le}
-use Rattle.granit_base.specs.Classes.{is_gap}
+use Rattle.std.specs.Prelude.{◌&&◌, nat_le, slice_index}
+use Rattle.granit_base.specs.Classes.{is_gap, is_anchor_char}
+use Rattle.granit_base.specs.Written.{Written}
+use Rattle.granit_model.specs.Property.{is_suffix}
 use Rattle.granit_error.specs.OptionsData.{OptionsData}
-use Rattle.granit_model.specs.Here.{Here, text_len, next_char, mark_of, step, past, past_chunk}
-use Rattle.granit_model.specs.Lexeme.{Lexeme, LexemeKind, Bracket, Square, Curly, Opener}
+use Rattle.granit_model.specs.Here.{Here, text_len, next_char, mark_of, step, past, chunk_len, past_chunk}
+use Rattle.granit_model.specs.Lexeme.{Lexeme, LexemeKind, Anchor, Alias, Bracket, Square, Curly, Opener}
 use Rattle.granit_model.specs.Machine.{MachineState, Turn, turn, on_read, stream_end, size}
 use Rattle.granit_model.specs.Outcome.{Fault, ◌>>=◌}
-use Rattle.granit_model.specs.Path.{Path, Stepped, step_on}
+use Rattle.granit_model.specs.Path.{Path, Anchors, ParserState, Stepped, step_on}
 use Rattle.granit_model.specs.Pieces.{Shortens}
 use Rattle.granit_model.specs.PlainEvent.{PlainEvent}
-use Rattle.granit_model.specs.ReaderState.{ReaderState, Read, lexed, text_end, mark_in, dash, closed_quote, double_quoted, open_bracket, close_square, close_curly, close_bracket, lexeme_at, behind_gap, next_lexeme}
-use Rattle.granit_model.specs.Start.{Glyph, Dash, DoubleQuote, LeftSquare, RightSquare, LeftCurly, RightCurly, CommaSign, QuestionSign, ColonSign, Foreign, glyph, is_inner, at_document_start, is_separated}
+use Rattle.granit_model.specs.ReaderState.{ReaderState, Read, lexed, text_end, mark_in, dash, closed_quote, double_quoted, closed_tag, verbatim_tag, named, open_bracket, close_square, close_curly, close_bracket, lexeme_at, behind_gap, next_lexeme}
+use Rattle.granit_model.specs.Start.{Glyph, Dash, DoubleQuote, LeftSquare, RightSquare, LeftCurly, RightCurly, CommaSign, QuestionSign, ColonSign, Exclamation, Ampersand, Asterisk, Foreign, glyph, is_inner, at_document_start, is_separated}
 use Rattle.granit_model.specs.Quoted.{escaped_pieces}
 use Rattle.granit_model.proofs.HereLemmas.{step_len, past_len, past_chunk_len}
-use Rattle.granit_model.proofs.QuotedLemmas.{Within, within_then, pieces_within}
+use Rattle.granit_model.proofs.QuotedLemmas.{Within, within_then, pieces_within, uri_within}
 
 -- where a lexeme is read, what is left is below n
 pub record Takes (n : ℕ) (read : Read) : Type 0 where
@@ -75,6 +77,23 @@ quoted_takes os h some =
     (λ _. escaped_takes os h _ (omega (arith, step_len h))
     (within_then (text_len (step h)) (escaped_pieces (mark_of h) (past_chunk is_inner (step h))) _ (less_within _ (past_chunk_len is_inner (step h)) (pieces_within (mark_of h) (past_chunk is_inner (step h)))) (λ x p. p)))
 
+tag_closes : (os : List Opener) (h : Here) (r : Result (List ℕ × Here) Fault) → text_len (step (step h)) < text_len h → Within (text_len (step (step h))) r → Takes (text_len h) (r >>= λ x. closed_tag os h x.0 x.1)
+tag_closes os h (Ok x) lt w = if_takes (is_suffix x.0) (λ _. lexed_takes (text_len h) _ h (step x.1) os (omega (arith, step_len x.1))) (λ _. err_takes _ _)
+tag_closes os h (Err f) lt w = err_takes _ _
+
+tag_takes : (os : List Opener) (h : Here) → 0 < text_len h → Takes (text_len h) (verbatim_tag os h)
+unfolding verbatim_tag
+tag_takes os h some =
+    if_takes (slice_index h.unread.text 1 == 0x3C)
+    (λ _. tag_closes os h _ (omega (arith, step_len h, step_len (step h))) (uri_within (mark_of h) (step (step h))))
+    (λ _. err_takes _ _)
+
+named_takes : (kind : Written → LexemeKind) (os : List Opener) (h : Here) → 0 < text_len h → Takes (text_len h) (named kind os h)
+unfolding named
+named_takes kind os h some =
+    if_takes (chunk_len is_anchor_char (step h) == 0) (λ _. err_takes _ _)
+    (λ _. lexed_takes (text_len h) _ h _ os (omega (arith, step_len h, past_chunk_len is_anchor_char (step h))))
+
 open_takes : (o : OptionsData) (bracket : Bracket) (os : List Opener) (h : Here) → 0 < text_len h → Takes (text_len h) (open_bracket o bracket os h)
 unfolding open_bracket
 open_takes o bracket os h some = if_takes (nat_le o.flow_nesting_limit (length os)) (λ _. err_takes _ _) (λ _. step_takes _ h _ some)
@@ -104,6 +123,9 @@ at_takes o RightCurly os h some = close_takes Curly os h some
 at_takes o CommaSign os h some = step_takes _ h os some
 at_takes o QuestionSign os h some = step_takes _ h os some
 at_takes o ColonSign os h some = step_takes _ h os some
+at_takes o Exclamation os h some = tag_takes os h some
+at_takes o Ampersand os h some = named_takes Anchor os h some
+at_takes o Asterisk os h some = named_takes Alias os h some
 at_takes o Foreign os h some = err_takes _ _
 
 end_takes : (n : ℕ) (os : List Opener) (s : ReaderState) → Takes n (text_end os s)
@@ -129,8 +151,8 @@ stepped_state : MachineState → Turn → MachineState
 stepped_state s (Ok x) = x.1
 stepped_state s (Err f) = s
 
-bears : ReaderState → List PlainEvent × Path → Turn
-bears s x = Ok (Some x.0, record { reader = s; path = x.1 })
+bears : ReaderState → List PlainEvent × ParserState → Turn
+bears s x = Ok (Some x.0, record { reader = s; parser = x.1 })
 
 stepped : (s : ReaderState) (r : Stepped) (after : MachineState) (piece : List PlainEvent) → (r >>= bears s) ≡ Ok (Some piece, after) → after.reader ≡ s
 unfolding stepped_state bears
@@ -141,17 +163,17 @@ the_piece : Turn → Option (List PlainEvent)
 the_piece (Ok x) = x.0
 the_piece (Err f) = None
 
-none_stepped : (fs : Path) (s : ReaderState) (after : MachineState) (piece : List PlainEvent) → stream_end fs s ≡ Ok (Some piece, after) → ⊥
+none_stepped : (fs : Path) (a : Anchors) (s : ReaderState) (after : MachineState) (piece : List PlainEvent) → stream_end fs a s ≡ Ok (Some piece, after) → ⊥
 unfolding the_piece
-none_stepped [] s after piece is = let e : None ≡ Some piece = ap the_piece is in cc
-none_stepped (f ∷ fs) s after piece is = cc
+none_stepped [] a s after piece is = let e : None ≡ Some piece = ap the_piece is in cc
+none_stepped (f ∷ fs) a s after piece is = cc
 
-turn_reads : (o : OptionsData) (s after : MachineState) (piece : List PlainEvent) (r : Read) → next_lexeme o s.reader ≡ r → (r >>= λ x. on_read x.0 x.1 s.path) ≡ Ok (Some piece, after) → size after < size s
+turn_reads : (o : OptionsData) (s after : MachineState) (piece : List PlainEvent) (r : Read) → next_lexeme o s.reader ≡ r → (r >>= λ x. on_read o x.0 x.1 s.parser) ≡ Ok (Some piece, after) → size after < size s
 unfolding bears
-turn_reads o s after piece (Ok (None, reader)) read is = absurd (none_stepped s.path reader after piece is)
+turn_reads o s after piece (Ok (None, reader)) read is = absurd (none_stepped s.parser.path s.parser.anchors reader after piece is)
 turn_reads o s after piece (Ok (Some l, reader)) read is =
     let lt = lexeme_shortens o s.reader reader l read in
-    let same = stepped reader (step_on s.path l) after piece is in
+    let same = stepped reader (step_on o s.parser l) after piece is in
     rw same lt
 turn_reads o s after piece (Err f) read is = absurd cc
 

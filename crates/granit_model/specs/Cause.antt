@@ -1,14 +1,16 @@
 -- Why a text is refused: what stands at the mark of each kind of fault.
-use Rattle.std.specs.Prelude.{◌≡◌, ℕ, ◌<◌, ◌≢◌, true, false, List, [], ◌∷◌, ◌++◌, length, drop, ◌⊎◌}
+use Rattle.std.specs.Prelude.{◌≡◌, ℕ, ◌<◌, ◌≢◌, true, false, List, [], ◌∷◌, ◌++◌, length, drop, ◌⊎◌, Contains}
 use Rattle.granit_base.specs.Place.{Mark, first}
+use Rattle.granit_base.specs.Written.{Written}
 use Rattle.granit_base.specs.Classes.{is_gap, is_blank_or_breakz}
 use Rattle.granit_error.specs.OptionsData.{OptionsData}
-use Rattle.granit_error.specs.FaultKind.{FaultKind, UnclosedFlowCollection, RecursionLimitExceeded, NotBuilt}
-use Rattle.granit_model.specs.Lexeme.{Lexeme, wants_gap, Bracket, Opener, opener_char}
+use Rattle.granit_error.specs.FaultKind.{FaultKind, UnclosedFlowCollection, RecursionLimitExceeded, UnknownAnchor, NotBuilt}
+use Rattle.granit_model.specs.Lexeme.{Lexeme, Alias, wants_gap, Bracket, Opener, opener_char}
 use Rattle.granit_model.specs.Place.{place_of, mark_at}
 use Rattle.granit_model.specs.Gap.{StandsAt}
 use Rattle.granit_model.specs.Extent.{IsLexeme}
 use Rattle.granit_model.specs.Node.{Documents}
+use Rattle.granit_model.specs.Scope.{names_behind_all}
 use Rattle.granit_model.specs.Yield.{spell_documents}
 use Rattle.granit_model.specs.Reading.{nothing_before, behind_all, Reached, Reading}
 
@@ -54,6 +56,23 @@ pub record TooDeep (o : OptionsData) (x : List ℕ) (m : Mark) : Type 0 where
 abbrev pub Begins : List Lexeme → Type 0
 Begins ls = (ds : Documents) × (more : List Lexeme) × (spell_documents ds [] ≡ ls ++ more)
 
+-- lexemes spell the text before a mark, an alias stands there that some documents go on with, no anchor before it in its
+-- document has its name, and it may not be left unresolved
+pub record Unknown (o : OptionsData) (x : List ℕ) (m : Mark) : Type 0 where
+  pub before : List Lexeme
+  pub at : ℕ
+  pub alias : Lexeme
+  pub name : Written
+  pub spelling : List ℕ
+  pub behind : List ℕ
+  pub reached : ReachedTo x before at
+  pub stands : IsLexeme x at alias spelling behind
+  pub is_alias : alias.kind ≡ Alias name
+  pub begins : Begins (before ++ (alias ∷ []))
+  pub unknown : Contains (names_behind_all before []) name.characters → ⊥
+  pub must_be_known : o.emit_unresolved_aliases ≡ false
+  pub marks : m ≡ mark_at x at
+
 -- What stands at an index behind some lexemes, so that no documents go on with it.
 pub data NotTaken (x : List ℕ) (ls : List Lexeme) (i : ℕ) : Type 0 where
   -- the end, where the lexemes spell no documents
@@ -85,4 +104,5 @@ abbrev pub Cause : OptionsData → List ℕ → FaultKind → Mark → Type 0
 Cause o x (UnclosedFlowCollection opener) m = Unclosed x opener m
 Cause o x RecursionLimitExceeded m = TooDeep o x m
 Cause o x NotBuilt m = NotPlainFlow x m
+Cause o x UnknownAnchor m = Unknown o x m
 Cause o x _ m = ⊥

@@ -1,7 +1,7 @@
--- Decoded values: what the characters between double quotes stand for (YAML 1.2.2, 5.7 and 7.3.1).
-use Rattle.std.specs.Prelude.{◌≡◌, ℕ, ◌+◌, ◌-◌, ◌*◌, Bool, true, false, ◌==◌, ◌||◌, if◌then◌else◌, List, [], ◌∷◌, ◌++◌, length, Option, Some, None}
+-- Decoded values: what the characters between double quotes stand for (YAML 1.2.2, 5.7 and 7.3.1), and what a URI spells (5.6).
+use Rattle.std.specs.Prelude.{◌≡◌, ◌≢◌, ℕ, ◌+◌, ◌-◌, ◌*◌, Bool, true, false, ◌==◌, ◌||◌, if◌then◌else◌, List, [], ◌∷◌, ◌++◌, length, Option, Some, None}
 use lib.Utf8.{scalar}
-use Rattle.granit_base.specs.Classes.{is_within, is_hex, hex_value}
+use Rattle.granit_base.specs.Classes.{is_within, is_hex, hex_value, is_uri_char}
 use Rattle.granit_model.specs.Gap.{Each}
 use Rattle.granit_model.specs.Start.{is_inner}
 
@@ -76,3 +76,10 @@ pub data Content : List ℕ → List ℕ → Type 0 where
 abbrev pub has_backslash : List ℕ → Bool
 has_backslash [] = false
 has_backslash (c ∷ cs) = c == 0x5C || has_backslash cs
+
+-- the characters of a URI, and the bytes that they spell: `%` and two hexadecimal digits a byte, another character itself
+pub data UriBytes : List ℕ → List ℕ → Type 0 where
+  nothing : UriBytes [] []
+  itself : {c : ℕ} {uri bytes : List ℕ} → is_uri_char c ≡ true → c ≢ 0x25 → UriBytes uri bytes → UriBytes (c ∷ uri) (c ∷ bytes)
+  percent : {high low : ℕ} {uri bytes : List ℕ} → is_hex high ≡ true → is_hex low ≡ true → UriBytes uri bytes
+      → UriBytes (0x25 ∷ high ∷ low ∷ uri) ((hex_value high * 16 + hex_value low) ∷ bytes)

@@ -1,5 +1,5 @@
 -- Lexemes: the parts of a text that spell its nodes.
-use Rattle.std.specs.Prelude.{ℕ, Bool, true, false}
+use Rattle.std.specs.Prelude.{ℕ, Bool, true, false, List}
 use Rattle.granit_base.specs.Place.{Mark}
 use Rattle.granit_base.specs.Written.{Written}
 use Rattle.granit_base.specs.declared.style.ScalarStyle.{ScalarStyle}
@@ -19,6 +19,10 @@ pub data LexemeKind : Type 0 where
   Comma : LexemeKind
   -- `?` before a key and `:` before a value (7.4.2)
   Question Colon : LexemeKind
+  -- a verbatim tag, by what it spells (6.9.1)
+  Tag : (suffix : List ℕ) → LexemeKind
+  -- `&` and the name of an anchor (6.9.2), `*` and the name of an alias (7.1)
+  Anchor Alias : (name : Written) → LexemeKind
   -- a scalar, by its style (7.3)
   Scalar : (style : ScalarStyle) (text : Written) → LexemeKind
 
@@ -31,6 +35,8 @@ abbrev pub wants_gap : LexemeKind → Bool
 wants_gap DocumentStart = true
 wants_gap Question = true
 wants_gap Colon = true
+wants_gap (Tag suffix) = true
+wants_gap (Anchor name) = true
 wants_gap _ = false
 
 -- the two kinds of brackets

@@ -17,9 +17,11 @@ pub mod Path
 pub mod Pieces
 pub mod Place
 pub mod PlainEvent
+pub mod Property
 pub mod Quoted
 pub mod ReaderState
 pub mod Reading
+pub mod Scope
 pub mod Start
 pub mod Tree
 pub mod TreeCode

@@ -7,35 +7,35 @@ use Rattle.granit_model.specs.Outcome.{Fault, ◌>>=◌}
 use Rattle.granit_model.specs.Pieces.{pieces}
 use Rattle.granit_model.specs.Lexeme.{Lexeme}
 use Rattle.granit_model.specs.ReaderState.{ReaderState, next_lexeme, refuse}
-use Rattle.granit_model.specs.Path.{Path, step_on}
+use Rattle.granit_model.specs.Path.{Path, Anchors, no_anchors, ParserState, step_on}
 use Rattle.granit_model.specs.PlainEvent.{PlainEvent, event_on, StreamStart, StreamEnd}
 
 pub record MachineState : Type 0 where
   pub reader : ReaderState
-  pub path : Path
+  pub parser : ParserState
 
 abbrev pub Turn : Type 0
 Turn = Result (Option (List PlainEvent) × MachineState) Fault
 
 -- the end of the text, which only comes between documents
-abbrev pub stream_end : Path → ReaderState → Turn
-stream_end [] s = Ok (None, record { reader = s; path = [] })
-stream_end (f ∷ fs) s = refuse NotBuilt s.here
+abbrev pub stream_end : Path → Anchors → ReaderState → Turn
+stream_end [] a s = Ok (None, record { reader = s; parser = record { path = []; anchors = a } })
+stream_end (f ∷ fs) a s = refuse NotBuilt s.here
 
--- what was read, at a path
-abbrev pub on_read : Option Lexeme → ReaderState → Path → Turn
-on_read None s fs = stream_end fs s
-on_read (Some l) s fs = step_on fs l >>= λ x. Ok (Some x.0, record { reader = s; path = x.1 })
+-- what was read, in a parser's state
+abbrev pub on_read : OptionsData → Option Lexeme → ReaderState → ParserState → Turn
+on_read o None s p = stream_end p.path p.anchors s
+on_read o (Some l) s p = step_on o p l >>= λ x. Ok (Some x.0, record { reader = s; parser = x.1 })
 
 -- one lexeme or the end
 unfoldable pub turn : OptionsData → MachineState → Turn
-turn o s = next_lexeme o s.reader >>= λ x. on_read x.0 x.1 s.path
+turn o s = next_lexeme o s.reader >>= λ x. on_read o x.0 x.1 s.parser
 
 abbrev pub size : MachineState → ℕ
 size s = text_len s.reader.here
 
 abbrev pub machine_start : Here → MachineState
-machine_start h = record { reader = record { here = h; openers = []; owes_gap = false }; path = [] }
+machine_start h = record { reader = record { here = h; openers = []; owes_gap = false }; parser = record { path = []; anchors = no_anchors } }
 
 -- the events of all turns, between those of the stream
 abbrev pub stream_events : Here → List PlainEvent → MachineState → List PlainEvent

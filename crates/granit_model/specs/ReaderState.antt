@@ -1,15 +1,18 @@
 -- The plain machine's reader: the next lexeme, from the state that the lexemes before it left.
-use Rattle.std.specs.Prelude.{ℕ, Bool, true, false, ◌==◌, ◌&&◌, nat_le, if◌then◌else◌, List, [], ◌∷◌, length, Option, Some, None, Result, Ok, Err}
-use Rattle.granit_base.specs.Classes.{is_gap}
+use Rattle.std.specs.Prelude.{ℕ, Bool, true, false, ◌==◌, ◌&&◌, nat_le, if◌then◌else◌, List, [], ◌∷◌, length, slice_index, Option, Some, None, Result, Ok, Err}
+use Rattle.granit_base.specs.Classes.{is_gap, is_anchor_char}
+use Rattle.granit_base.specs.Written.{Written}
+use Rattle.granit_model.specs.Property.{uri_bytes, is_suffix}
+use Rattle.std.specs.Str.{chars}
 use Rattle.granit_base.specs.declared.style.ScalarStyle.TheVariants.{DoubleQuoted}
 use Rattle.granit_error.specs.FaultKind.{FaultKind, UnclosedFlowCollection, RecursionLimitExceeded, NotBuilt}
 use Rattle.granit_error.specs.OptionsData.{OptionsData}
-use Rattle.granit_model.specs.Here.{Here, text_len, next_char, mark_of, step, past, chunk, past_chunk}
+use Rattle.granit_model.specs.Here.{Here, text_len, next_char, mark_of, step, past, chunk_len, chunk, past_chunk}
 use Rattle.granit_model.specs.Outcome.{Fault, ◌>>=◌}
 use Rattle.granit_model.specs.Pieces.{with_front}
 use Rattle.granit_model.specs.Quoted.{escaped_pieces}
-use Rattle.granit_model.specs.Lexeme.{Lexeme, LexemeKind, DocumentStart, SequenceOpen, SequenceClose, MappingOpen, MappingClose, Comma, Question, Colon, Scalar, wants_gap, Bracket, Square, Curly, Opener, opener_char}
-use Rattle.granit_model.specs.Start.{Glyph, Dash, DoubleQuote, LeftSquare, RightSquare, LeftCurly, RightCurly, CommaSign, QuestionSign, ColonSign, Foreign, glyph, is_inner, at_document_start, is_separated}
+use Rattle.granit_model.specs.Lexeme.{Lexeme, LexemeKind, DocumentStart, SequenceOpen, SequenceClose, MappingOpen, MappingClose, Comma, Question, Colon, Tag, Anchor, Alias, Scalar, wants_gap, Bracket, Square, Curly, Opener, opener_char}
+use Rattle.granit_model.specs.Start.{Glyph, Dash, DoubleQuote, LeftSquare, RightSquare, LeftCurly, RightCurly, CommaSign, QuestionSign, ColonSign, Exclamation, Ampersand, Asterisk, Foreign, glyph, is_inner, at_document_start, is_separated}
 
 -- where reading stands, the brackets that are open there, the innermost first, and whether the last lexeme wants a gap
 pub record ReaderState : Type 0 where
@@ -58,6 +61,21 @@ double_quoted openers h =
     if next_char (past_chunk is_inner (step h)) == 0x22 then closed_quote openers h h.unread.lends (chunk is_inner (step h)) (past_chunk is_inner (step h))
     else (with_front (chunk is_inner (step h)) (escaped_pieces (mark_of h) (past_chunk is_inner (step h))) >>= λ x. closed_quote openers h false x.0 x.1)
 
+-- a verbatim tag, from its `!` up to its `>`
+abbrev pub closed_tag : List Opener → Here → List ℕ → Here → Read
+closed_tag openers h bytes closing = if is_suffix bytes then lexed (Tag (chars bytes)) h (step closing) openers else refuse NotBuilt h
+
+unfoldable pub verbatim_tag : List Opener → Here → Read
+verbatim_tag openers h =
+    if slice_index h.unread.text 1 == 0x3C then (uri_bytes (mark_of h) (step (step h)) >>= λ x. closed_tag openers h x.0 x.1)
+    else refuse NotBuilt h
+
+-- an anchor or an alias: the name behind its first character
+unfoldable pub named : (Written → LexemeKind) → List Opener → Here → Read
+named kind openers h =
+    if chunk_len is_anchor_char (step h) == 0 then refuse NotBuilt h
+    else lexed (kind (record { characters = chunk is_anchor_char (step h); is_borrowed = h.unread.lends })) h (past_chunk is_anchor_char (step h)) openers
+
 abbrev pub open_kind : Bracket → LexemeKind
 open_kind Square = SequenceOpen
 open_kind Curly = MappingOpen
@@ -97,6 +115,9 @@ lexeme_at o RightCurly openers h = close_bracket Curly openers h
 lexeme_at o CommaSign openers h = lexed Comma h (step h) openers
 lexeme_at o QuestionSign openers h = lexed Question h (step h) openers
 lexeme_at o ColonSign openers h = lexed Colon h (step h) openers
+lexeme_at o Exclamation openers h = verbatim_tag openers h
+lexeme_at o Ampersand openers h = named Anchor openers h
+lexeme_at o Asterisk openers h = named Alias openers h
 lexeme_at o Foreign openers h = refuse NotBuilt h
 
 -- behind the gap, which may be missing

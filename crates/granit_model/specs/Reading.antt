@@ -8,6 +8,7 @@ use Rattle.granit_model.specs.Extent.{IsLexeme}
 use Rattle.granit_model.specs.Events.{events}
 use Rattle.granit_model.specs.Node.{Documents}
 use Rattle.granit_model.specs.PlainEvent.{PlainEvent}
+use Rattle.granit_model.specs.Scope.{Resolves}
 use Rattle.granit_model.specs.Yield.{spell_documents}
 
 -- what the lexemes before a place say of it: the openers of the brackets that are open there, the innermost first, and
@@ -53,6 +54,6 @@ pub record Reading (o : OptionsData) (x : List ℕ) (lexemes : List Lexeme) (doc
   pub spelled : spell_documents documents [] ≡ lexemes
   pub nests : NestsWithin o.flow_nesting_limit nothing_before lexemes
 
--- these are the events of documents as which the text is read
+-- these are the events of documents as which the text is read, each alias of an anchor before it or left unresolved
 abbrev pub IsReading : OptionsData → List ℕ → List PlainEvent → Type 0
-IsReading o x es = (lexemes : List Lexeme) × (documents : Documents) × Reading o x lexemes documents × (es ≡ events x documents)
+IsReading o x es = (lexemes : List Lexeme) × (documents : Documents) × Reading o x lexemes documents × Resolves o [] lexemes × (es ≡ events o x documents)

@@ -5,7 +5,7 @@ use Rattle.granit_model.specs.Here.{Here}
 
 -- a character by the lexeme that it may begin
 pub data Glyph : Type 0 where
-  Dash DoubleQuote LeftSquare RightSquare LeftCurly RightCurly CommaSign QuestionSign ColonSign Foreign : Glyph
+  Dash DoubleQuote LeftSquare RightSquare LeftCurly RightCurly CommaSign QuestionSign ColonSign Exclamation Ampersand Asterisk Foreign : Glyph
 
 unfoldable pub glyph : ℕ → Glyph
 glyph c =
@@ -18,6 +18,9 @@ glyph c =
     else if c == 0x2C then CommaSign
     else if c == 0x3F then QuestionSign
     else if c == 0x3A then ColonSign
+    else if c == 0x21 then Exclamation
+    else if c == 0x26 then Ampersand
+    else if c == 0x2A then Asterisk
     else Foreign
 
 -- a character that stands for itself in a double-quoted scalar on one line (7.3.1)
