@@ -39,7 +39,7 @@ yields status.NoMemory wanted e = tt
 yields _ wanted e = e
 
 -- bytes that came whole are all that was left, where those are told
-whole_bytes : (bytes came : List ℕ) (now : Option (List ℕ)) → CameWhole (Some bytes) now came → bytes ≡ came
+pub whole_bytes : (bytes came : List ℕ) (now : Option (List ℕ)) → CameWhole (Some bytes) now came → bytes ≡ came
 whole_bytes bytes came None w = absurd w.came
 whole_bytes bytes came (Some rest) w = w.came ∙ (ap (λ (xs : List ℕ). came ++ xs) w.none_left ∙ append-nil came)
 

@@ -1,3 +1,4 @@
+pub mod Canonical
 pub mod Cause
 pub mod Decoding
 pub mod Events

@@ -1,17 +1,22 @@
 -- What the laws of the plain machine say of an answer of the code.
-use Rattle.std.proofs.Common.{◌≡◌, ◌≢◌, ℕ, List, refl, sym, ◌∙◌, subst, Result, Ok, Err, ◌⊎◌, inl, inr}
+use Rattle.std.proofs.Common.{◌≡◌, ◌≢◌, ◌≤◌, ℕ, List, [], refl, sym, ap, ◌∙◌, subst, Result, Ok, Err, ◌⊎◌, inl, inr}
 use Rattle.std.specs.Prelude.{IfOk, IfErr}
 use Rattle.granit_error.specs.FaultKind.{FaultKind, NoMemory, RecursionLimitExceeded}
 use Rattle.granit_error.specs.OptionsData.{OptionsData}
 use Rattle.granit_error.specs.Refused.{Refused}
+use Rattle.granit_model.specs.Canonical.{Bare, HasCharacters, documents_in, canonical_events}
 use Rattle.granit_model.specs.Cause.{Cause}
 use Rattle.granit_model.specs.Events.{SpansIn, events}
+use Rattle.granit_model.specs.FlowText.{flow_characters}
 use Rattle.granit_model.specs.Lexeme.{Lexeme}
 use Rattle.granit_model.specs.Machine.{events_of}
 use Rattle.granit_model.specs.Node.{Documents}
 use Rattle.granit_model.specs.Outcome.{Fault, Fails, GivesValue, fault_of}
 use Rattle.granit_model.specs.PlainEvent.{PlainEvent}
 use Rattle.granit_model.specs.Reading.{IsReading, Reading}
+use Rattle.granit_model.specs.Tree.{PlainTrees, trees_depth}
+use Rattle.granit_model.specs.Yield.{spell_documents}
+use Rattle.granit_canonical.proofs.Laws.{is_read}
 use Rattle.granit_laws.proofs.Laws.{is_reading, is_answered, answered_or_deep, has_cause}
 use Rattle.granit_laws.proofs.Spans.{spans_in}
 
@@ -59,3 +64,19 @@ module _ {V : Type 0} (view : V → List PlainEvent) (o : OptionsData) (x : List
   pub cause_of : (r : Result V Refused) → GivesValue view r (events_of o x) → IfErr r (λ e. (e.kind ≡ NoMemory) ⊎ Cause o x e.kind e.mark)
   cause_of (Ok v) g = tt
   cause_of (Err e) g = caused e (memory_or_not e.kind) g
+
+  -- with the events of the reading
+  answer_of : (r : Result V Refused) → GivesValue view r (events_of o x) → (es : List PlainEvent) → events_of o x ≡ Ok es → IfOk r (λ v. view v ≡ es)
+  answer_of (Ok v) g es e = let h : ◌≡◌ {A = Result (List PlainEvent) Fault} (Ok (view v)) (Ok es) = sym g ∙ e in cc
+  answer_of (Err f) g es e = tt
+
+  -- canonical text is answered with its trees' events
+  pub canonical_of :
+      (r : Result V Refused) → GivesValue view r (events_of o x) → (ts : PlainTrees) → Bare ts → HasCharacters ts → trees_depth ts ≤ o.flow_nesting_limit → x ≡ flow_characters ts
+      → IfErr r (λ e. e.kind ≡ NoMemory) × IfOk r (λ v. view v ≡ canonical_events ts)
+  canonical_of r g ts bare written depth e =
+      let reading : Reading o x (spell_documents (documents_in x ts) []) (documents_in x ts) =
+      subst (λ (y : List ℕ). Reading o y (spell_documents (documents_in y ts) []) (documents_in y ts)) (sym e) (is_read o ts bare written depth) in (
+        answered_of r g (spell_documents (documents_in x ts) []) (documents_in x ts) reading,
+        answer_of r g (canonical_events ts) (is_answered o x (spell_documents (documents_in x ts) []) (documents_in x ts) reading ∙ ap (λ (y : List ℕ). Ok (events y (documents_in y ts))) e),
+      )

@@ -1,0 +1,84 @@
+-- Canonical flow text is one of characters, so that it can stand in UTF-8.
+use Rattle.std.proofs.Common.{◌≡◌, ℕ, ◌/◌, ◌%◌, ◌<◌, ◌==◌, Bool, true, false, nat_le, ◌||◌, ◌&&◌, List, [], ◌∷◌, refl, sym, ap₂, subst, arith}
+use Rattle.std.proofs.lemmas.Bool.Decides.{nat_tests}
+use Rattle.std.proofs.lemmas.Str.{chars-encodes}
+use Rattle.std.specs.Str.{chars, IsUtf8, encode_utf8_all}
+use lib.Utf8.{scalar, scalars, low_scalar}
+use Rattle.granit_base.specs.Classes.{is_within}
+use Rattle.granit_model.specs.Canonical.{BareTree, Bare, BarePairs, TreeHasCharacters, HasCharacters, PairsHaveCharacters}
+use Rattle.granit_model.specs.FlowText.{upper_digit, two_digits, four_digits, eight_digits, quoted_character, quoted_characters, comma_unless, tree_text, entries_text, pairs_text, documents_text, flow_characters}
+use Rattle.granit_model.specs.Tree.{PlainTree, AliasOf, ScalarOf, SequenceOf, MappingOf, PlainTrees, NoTrees, AfterTrees, PlainPairs, NoPairs, AfterPairs, no_trees, no_pairs}
+use Rattle.granit_canonical.proofs.Covers.{bare_text}
+use Rattle.granit_canonical.proofs.Fronts.{character_by}
+use Rattle.granit_canonical.proofs.Quoting.{first_true, second_true, below}
+
+-- characters, where what follows is of characters
+abbrev Keeps : (List ℕ → List ℕ) → Type 0
+Keeps write = (rest : List ℕ) → scalars rest ≡ true → scalars (write rest) ≡ true
+
+one : (c : ℕ) (rest : List ℕ) → scalar c ≡ true → scalars rest ≡ true → scalars (c ∷ rest) ≡ true
+one c rest s r = ap₂ (λ a b. a && b) s r
+
+digit_below : (d : ℕ) → d < 16 → upper_digit d < 55296
+unfolding upper_digit
+digit_below d h = grind (arith, nat_tests)
+
+digit_keeps : (d : ℕ) → d < 16 → Keeps (λ rest. upper_digit d ∷ rest)
+digit_keeps d h rest r = one (upper_digit d) rest (low_scalar (upper_digit d) (digit_below d h)) r
+
+two_keep : (n : ℕ) → n < 0x100 → Keeps (two_digits n)
+two_keep n h rest r = digit_keeps (n / 16) (omega arith) (upper_digit (n % 16) ∷ rest) (digit_keeps (n % 16) (omega arith) rest r)
+
+four_keep : (n : ℕ) → n < 0x10000 → Keeps (four_digits n)
+four_keep n h rest r = two_keep (n / 0x100) (omega arith) (two_digits (n % 0x100) rest) (two_keep (n % 0x100) (omega arith) rest r)
+
+eight_keep : (n : ℕ) → n < 0x100000000 → Keeps (eight_digits n)
+eight_keep n h rest r = four_keep (n / 0x10000) (omega arith) (four_digits (n % 0x10000) rest) (four_keep (n % 0x10000) (omega arith) rest r)
+
+character_keeps : (quote plain byte short : Bool) (c : ℕ) → nat_le c 0xFF ≡ byte → nat_le c 0xFFFF ≡ short → scalar c ≡ true → Keeps (character_by quote plain byte short c)
+character_keeps true plain byte short c b t s rest r = one c rest s r
+character_keeps false true byte short c b t s rest r = one c rest s r
+character_keeps false false true short c b t s rest r = two_keep c (grind (arith, nat_tests)) rest r
+character_keeps false false false true c b t s rest r = four_keep c (grind (arith, nat_tests)) rest r
+character_keeps false false false false c b t s rest r = eight_keep c (below c s) rest r
+
+quoted_character_keeps : (c : ℕ) → scalar c ≡ true → Keeps (quoted_character c)
+unfolding quoted_character
+quoted_character_keeps c s = character_keeps (c == 0x22 || c == 0x5C) (is_within 0x20 0x7E c) (nat_le c 0xFF) (nat_le c 0xFFFF) c refl refl s
+
+quoted_keep : (text : List ℕ) → scalars text ≡ true → Keeps (quoted_characters text)
+quoted_keep [] s rest r = r
+quoted_keep (c ∷ cs) s rest r = quoted_character_keeps c (first_true (scalar c) (scalars cs) s) (quoted_characters cs rest) (quoted_keep cs (second_true (scalar c) (scalars cs) s) rest r)
+
+comma_keeps : (first : Bool) → Keeps (comma_unless first)
+comma_keeps true rest r = r
+comma_keeps false rest r = r
+
+mutual
+  tree_keeps : (t : PlainTree) → BareTree t → TreeHasCharacters t → Keeps (tree_text t)
+  tree_keeps (AliasOf name) h c = absurd h
+  tree_keeps (ScalarOf p text) h c = λ rest r. subst (λ (l : List ℕ). scalars l ≡ true) (sym (bare_text p h _)) (quoted_keep text c.1 (0x22 ∷ rest) r)
+  tree_keeps (SequenceOf p entries) h c = λ rest r. subst (λ (l : List ℕ). scalars l ≡ true) (sym (bare_text p h.0 _)) (entries_keep entries h.1 c.1 (0x5D ∷ rest) r)
+  tree_keeps (MappingOf p pairs) h c = λ rest r. subst (λ (l : List ℕ). scalars l ≡ true) (sym (bare_text p h.0 _)) (pairs_keep pairs h.1 c.1 (0x7D ∷ rest) r)
+
+  entries_keep : (ts : PlainTrees) → Bare ts → HasCharacters ts → Keeps (entries_text ts)
+  entries_keep NoTrees h c = λ rest r. r
+  entries_keep (AfterTrees ts t) h c = λ rest r.
+      entries_keep ts h.0 c.0 (comma_unless (no_trees ts) (tree_text t rest)) (comma_keeps (no_trees ts) (tree_text t rest) (tree_keeps t h.1 c.1 rest r))
+
+  pairs_keep : (ps : PlainPairs) → BarePairs ps → PairsHaveCharacters ps → Keeps (pairs_text ps)
+  pairs_keep NoPairs h c = λ rest r. r
+  pairs_keep (AfterPairs ps k v) h c = λ rest r.
+      let behind = 0x20 ∷ 0x3A ∷ 0x20 ∷ tree_text v rest in
+      pairs_keep ps h.0 c.0 (comma_unless (no_pairs ps) (0x3F ∷ 0x20 ∷ tree_text k behind)) (comma_keeps (no_pairs ps) (0x3F ∷ 0x20 ∷ tree_text k behind) (tree_keeps k h.1 c.1 behind (tree_keeps v h.2 c.2 rest r)))
+
+documents_keep : (ts : PlainTrees) → Bare ts → HasCharacters ts → Keeps (documents_text ts)
+documents_keep NoTrees h c = λ rest r. r
+documents_keep (AfterTrees ts t) h c = λ rest r. documents_keep ts h.0 c.0 (0x2D ∷ 0x2D ∷ 0x2D ∷ 0x20 ∷ tree_text t (0x0A ∷ rest)) (tree_keeps t h.1 c.1 (0x0A ∷ rest) r)
+
+-- the UTF-8 of canonical text is UTF-8, of that text
+pub is_utf8 : (ts : PlainTrees) → Bare ts → HasCharacters ts → IsUtf8 (encode_utf8_all (flow_characters ts))
+is_utf8 ts h c = (flow_characters ts, (documents_keep ts h c [] refl, refl))
+
+pub is_of_it : (ts : PlainTrees) → Bare ts → HasCharacters ts → chars (encode_utf8_all (flow_characters ts)) ≡ flow_characters ts
+is_of_it ts h c = chars-encodes (flow_characters ts) (documents_keep ts h c [] refl)
