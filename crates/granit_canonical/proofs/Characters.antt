@@ -1,15 +1,17 @@
 -- Canonical flow text is one of characters, so that it can stand in UTF-8.
-use Rattle.std.proofs.Common.{◌≡◌, ℕ, ◌/◌, ◌%◌, ◌<◌, ◌==◌, Bool, true, false, nat_le, ◌||◌, ◌&&◌, List, [], ◌∷◌, refl, sym, ap₂, subst, arith}
+use Rattle.std.proofs.Common.{◌≡◌, ℕ, ◌/◌, ◌%◌, ◌<◌, ◌==◌, Bool, true, false, nat_le, ◌||◌, ◌&&◌, List, [], ◌∷◌, ◌++◌, Option, Some, None, refl, sym, ap₂, subst, arith}
+use Rattle.std.proofs.lemmas.List.{append_assoc}
+use Rattle.std.specs.Prelude.{IfSome}
 use Rattle.std.proofs.lemmas.Bool.Decides.{nat_tests}
 use Rattle.std.proofs.lemmas.Str.{chars-encodes}
 use Rattle.std.specs.Str.{chars, IsUtf8, encode_utf8_all}
 use lib.Utf8.{scalar, scalars, low_scalar}
 use Rattle.granit_base.specs.Classes.{is_within}
-use Rattle.granit_model.specs.Canonical.{BareTree, Bare, BarePairs, TreeHasCharacters, HasCharacters, PairsHaveCharacters}
-use Rattle.granit_model.specs.FlowText.{upper_digit, two_digits, four_digits, eight_digits, quoted_character, quoted_characters, comma_unless, tree_text, entries_text, pairs_text, documents_text, flow_characters}
-use Rattle.granit_model.specs.Tree.{PlainTree, AliasOf, ScalarOf, SequenceOf, MappingOf, PlainTrees, NoTrees, AfterTrees, PlainPairs, NoPairs, AfterPairs, no_trees, no_pairs}
-use Rattle.granit_canonical.proofs.Covers.{bare_text}
-use Rattle.granit_canonical.proofs.Fronts.{character_by}
+use Rattle.granit_model.specs.Canonical.{AreCharacters, PropertiesHaveCharacters, TreeHasCharacters, HasCharacters, PairsHaveCharacters}
+use Rattle.granit_model.specs.FlowText.{upper_digit, two_digits, four_digits, eight_digits, tag_byte, tag_bytes, quoted_character, quoted_characters, tag_text, anchor_text, properties_text, comma_unless, tree_text, entries_text, pairs_text, documents_text, flow_characters}
+use Rattle.granit_model.specs.Tree.{Properties, PlainTree, AliasOf, ScalarOf, SequenceOf, MappingOf, PlainTrees, NoTrees, AfterTrees, PlainPairs, NoPairs, AfterPairs, no_trees, no_pairs}
+use Rattle.granit_canonical.proofs.Fronts.{byte_by, character_by}
+use Rattle.granit_canonical.proofs.Naming.{AreBytes, utf8_bytes, stands_itself}
 use Rattle.granit_canonical.proofs.Quoting.{first_true, second_true, below}
 
 -- characters, where what follows is of characters
@@ -54,31 +56,58 @@ comma_keeps : (first : Bool) → Keeps (comma_unless first)
 comma_keeps true rest r = r
 comma_keeps false rest r = r
 
+byte_keeps : (itself_so : Bool) (b : ℕ) → b < 0x100 → Keeps (byte_by itself_so b)
+byte_keeps true b h rest r = one b rest (low_scalar b (omega arith)) r
+byte_keeps false b h rest r = two_keep b h rest r
+
+tag_byte_keeps : (b : ℕ) → b < 0x100 → Keeps (tag_byte b)
+unfolding tag_byte
+tag_byte_keeps b h = byte_keeps (stands_itself b) b h
+
+tag_bytes_keep : (bs : List ℕ) → AreBytes bs → Keeps (tag_bytes bs)
+tag_bytes_keep [] h rest r = r
+tag_bytes_keep (b ∷ bs) h rest r = tag_byte_keeps b h.0 (tag_bytes bs rest) (tag_bytes_keep bs h.1 rest r)
+
+text_keeps : (text : List ℕ) → scalars text ≡ true → Keeps (λ rest. text ++ rest)
+text_keeps [] s rest r = r
+text_keeps (c ∷ cs) s rest r = one c (cs ++ rest) (first_true (scalar c) (scalars cs) s) (text_keeps cs (second_true (scalar c) (scalars cs) s) rest r)
+
+tag_keeps : (tag : Option (List ℕ)) → IfSome tag AreCharacters → Keeps (tag_text tag)
+tag_keeps None c rest r = r
+tag_keeps (Some tag) c rest r = tag_bytes_keep (encode_utf8_all tag) (utf8_bytes tag c) (0x3E ∷ 0x20 ∷ rest) r
+
+anchor_keeps : (anchor : Option (List ℕ)) → IfSome anchor AreCharacters → Keeps (anchor_text anchor)
+anchor_keeps None c rest r = r
+anchor_keeps (Some name) c rest r = subst (λ (l : List ℕ). scalars l ≡ true) (sym (append_assoc name (0x20 ∷ []) rest)) (text_keeps name c (0x20 ∷ rest) r)
+
+properties_keep : (p : Properties) → PropertiesHaveCharacters p → Keeps (properties_text p)
+properties_keep p c rest r = tag_keeps p.tag c.0 (anchor_text p.anchor rest) (anchor_keeps p.anchor c.1 rest r)
+
 mutual
-  tree_keeps : (t : PlainTree) → BareTree t → TreeHasCharacters t → Keeps (tree_text t)
-  tree_keeps (AliasOf name) h c = absurd h
-  tree_keeps (ScalarOf p text) h c = λ rest r. subst (λ (l : List ℕ). scalars l ≡ true) (sym (bare_text p h _)) (quoted_keep text c.1 (0x22 ∷ rest) r)
-  tree_keeps (SequenceOf p entries) h c = λ rest r. subst (λ (l : List ℕ). scalars l ≡ true) (sym (bare_text p h.0 _)) (entries_keep entries h.1 c.1 (0x5D ∷ rest) r)
-  tree_keeps (MappingOf p pairs) h c = λ rest r. subst (λ (l : List ℕ). scalars l ≡ true) (sym (bare_text p h.0 _)) (pairs_keep pairs h.1 c.1 (0x7D ∷ rest) r)
+  tree_keeps : (t : PlainTree) → TreeHasCharacters t → Keeps (tree_text t)
+  tree_keeps (AliasOf name) c = λ rest r. text_keeps name c rest r
+  tree_keeps (ScalarOf p text) c = λ rest r. properties_keep p c.0 (0x22 ∷ quoted_characters text (0x22 ∷ rest)) (quoted_keep text c.1 (0x22 ∷ rest) r)
+  tree_keeps (SequenceOf p entries) c = λ rest r. properties_keep p c.0 (0x5B ∷ entries_text entries (0x5D ∷ rest)) (entries_keep entries c.1 (0x5D ∷ rest) r)
+  tree_keeps (MappingOf p pairs) c = λ rest r. properties_keep p c.0 (0x7B ∷ pairs_text pairs (0x7D ∷ rest)) (pairs_keep pairs c.1 (0x7D ∷ rest) r)
 
-  entries_keep : (ts : PlainTrees) → Bare ts → HasCharacters ts → Keeps (entries_text ts)
-  entries_keep NoTrees h c = λ rest r. r
-  entries_keep (AfterTrees ts t) h c = λ rest r.
-      entries_keep ts h.0 c.0 (comma_unless (no_trees ts) (tree_text t rest)) (comma_keeps (no_trees ts) (tree_text t rest) (tree_keeps t h.1 c.1 rest r))
+  entries_keep : (ts : PlainTrees) → HasCharacters ts → Keeps (entries_text ts)
+  entries_keep NoTrees c = λ rest r. r
+  entries_keep (AfterTrees ts t) c = λ rest r.
+      entries_keep ts c.0 (comma_unless (no_trees ts) (tree_text t rest)) (comma_keeps (no_trees ts) (tree_text t rest) (tree_keeps t c.1 rest r))
 
-  pairs_keep : (ps : PlainPairs) → BarePairs ps → PairsHaveCharacters ps → Keeps (pairs_text ps)
-  pairs_keep NoPairs h c = λ rest r. r
-  pairs_keep (AfterPairs ps k v) h c = λ rest r.
+  pairs_keep : (ps : PlainPairs) → PairsHaveCharacters ps → Keeps (pairs_text ps)
+  pairs_keep NoPairs c = λ rest r. r
+  pairs_keep (AfterPairs ps k v) c = λ rest r.
       let behind = 0x20 ∷ 0x3A ∷ 0x20 ∷ tree_text v rest in
-      pairs_keep ps h.0 c.0 (comma_unless (no_pairs ps) (0x3F ∷ 0x20 ∷ tree_text k behind)) (comma_keeps (no_pairs ps) (0x3F ∷ 0x20 ∷ tree_text k behind) (tree_keeps k h.1 c.1 behind (tree_keeps v h.2 c.2 rest r)))
+      pairs_keep ps c.0 (comma_unless (no_pairs ps) (0x3F ∷ 0x20 ∷ tree_text k behind)) (comma_keeps (no_pairs ps) (0x3F ∷ 0x20 ∷ tree_text k behind) (tree_keeps k c.1 behind (tree_keeps v c.2 rest r)))
 
-documents_keep : (ts : PlainTrees) → Bare ts → HasCharacters ts → Keeps (documents_text ts)
-documents_keep NoTrees h c = λ rest r. r
-documents_keep (AfterTrees ts t) h c = λ rest r. documents_keep ts h.0 c.0 (0x2D ∷ 0x2D ∷ 0x2D ∷ 0x20 ∷ tree_text t (0x0A ∷ rest)) (tree_keeps t h.1 c.1 (0x0A ∷ rest) r)
+documents_keep : (ts : PlainTrees) → HasCharacters ts → Keeps (documents_text ts)
+documents_keep NoTrees c = λ rest r. r
+documents_keep (AfterTrees ts t) c = λ rest r. documents_keep ts c.0 (0x2D ∷ 0x2D ∷ 0x2D ∷ 0x20 ∷ tree_text t (0x0A ∷ rest)) (tree_keeps t c.1 (0x0A ∷ rest) r)
 
 -- the UTF-8 of canonical text is UTF-8, of that text
-pub is_utf8 : (ts : PlainTrees) → Bare ts → HasCharacters ts → IsUtf8 (encode_utf8_all (flow_characters ts))
-is_utf8 ts h c = (flow_characters ts, (documents_keep ts h c [] refl, refl))
+pub is_utf8 : (ts : PlainTrees) → HasCharacters ts → IsUtf8 (encode_utf8_all (flow_characters ts))
+is_utf8 ts c = (flow_characters ts, (documents_keep ts c [] refl, refl))
 
-pub is_of_it : (ts : PlainTrees) → Bare ts → HasCharacters ts → chars (encode_utf8_all (flow_characters ts)) ≡ flow_characters ts
-is_of_it ts h c = chars-encodes (flow_characters ts) (documents_keep ts h c [] refl)
+pub is_of_it : (ts : PlainTrees) → HasCharacters ts → chars (encode_utf8_all (flow_characters ts)) ≡ flow_characters ts
+is_of_it ts c = chars-encodes (flow_characters ts) (documents_keep ts c [] refl)

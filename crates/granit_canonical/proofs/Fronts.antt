@@ -23,7 +23,8 @@ both_long f g p = ap (length {A = ℕ}) (p (g [])) ∙ length-append (f []) (g [
 pub characters_front : (cs : List ℕ) → Fronts (λ rest. cs ++ rest)
 characters_front cs rest = ap (λ (l : List ℕ). l ++ rest) (sym (append-nil cs))
 
-abbrev byte_by : Bool → ℕ → List ℕ → List ℕ
+-- a byte of a tag, by whether it stands for itself
+abbrev pub byte_by : Bool → ℕ → List ℕ → List ℕ
 byte_by word b rest = if word then b ∷ rest else 0x25 ∷ two_digits b rest
 
 byte_by_front : (word : Bool) (b : ℕ) → Fronts (byte_by word b)
@@ -34,7 +35,7 @@ tag_byte_front : (b : ℕ) → Fronts (tag_byte b)
 unfolding tag_byte
 tag_byte_front b = byte_by_front (is_word_char b || ((b == 0x3A || b == 0x2C) || (b == 0x2E || b == 0x2F))) b
 
-tag_bytes_front : (bs : List ℕ) → Fronts (tag_bytes bs)
+pub tag_bytes_front : (bs : List ℕ) → Fronts (tag_bytes bs)
 tag_bytes_front [] = λ rest. refl
 tag_bytes_front (b ∷ bs) = both (tag_byte b) (tag_bytes bs) (tag_byte_front b) (tag_bytes_front bs)
 
@@ -62,11 +63,11 @@ pub quoted_front : (cs : List ℕ) → Fronts (quoted_characters cs)
 quoted_front [] = λ rest. refl
 quoted_front (c ∷ cs) = both (quoted_character c) (quoted_characters cs) (quoted_character_front c) (quoted_front cs)
 
-tag_front : (tag : Option (List ℕ)) → Fronts (tag_text tag)
+pub tag_front : (tag : Option (List ℕ)) → Fronts (tag_text tag)
 tag_front None = λ rest. refl
 tag_front (Some tag) = both (λ rest. 0x21 ∷ 0x3C ∷ tag_bytes (encode_utf8_all tag) rest) (λ rest. 0x3E ∷ 0x20 ∷ rest) (λ rest. ap (λ (l : List ℕ). 0x21 ∷ 0x3C ∷ l) (tag_bytes_front (encode_utf8_all tag) rest)) (λ rest. refl)
 
-anchor_front : (anchor : Option (List ℕ)) → Fronts (anchor_text anchor)
+pub anchor_front : (anchor : Option (List ℕ)) → Fronts (anchor_text anchor)
 anchor_front None = λ rest. refl
 anchor_front (Some name) = λ rest. ap (λ (l : List ℕ). 0x26 ∷ l) (characters_front (name ++ 0x20 ∷ []) rest)
 

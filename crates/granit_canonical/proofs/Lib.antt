@@ -2,5 +2,8 @@ pub mod Characters
 pub mod Covers
 pub mod Fronts
 pub mod Laws
+pub mod Naming
 pub mod Nesting
 pub mod Quoting
+pub mod Resolving
+pub mod Spelling

@@ -10,11 +10,11 @@ use Rattle.granit_model.specs.Start.{is_inner}
 use Rattle.granit_canonical.proofs.Fronts.{character_by}
 
 -- the digit of a number below 16 is hexadecimal, and writes it
-digit_is_hex : (d : ℕ) → d < 16 → is_hex (upper_digit d) ≡ true
+pub digit_is_hex : (d : ℕ) → d < 16 → is_hex (upper_digit d) ≡ true
 unfolding is_hex is_digit upper_digit
 digit_is_hex d h = grind (arith, nat_tests)
 
-digit_writes : (d : ℕ) → d < 16 → hex_value (upper_digit d) ≡ d
+pub digit_writes : (d : ℕ) → d < 16 → hex_value (upper_digit d) ≡ d
 unfolding hex_value is_digit upper_digit
 digit_writes d h = grind (arith, nat_tests)
 

@@ -1,36 +1,18 @@
 -- What canonical flow text is read as: the nodes of its trees, at the places where the text puts them.
-use Rattle.std.specs.Prelude.{◌≡◌, ℕ, ◌+◌, true, not, List, [], length, None, IfSome}
+use Rattle.std.specs.Prelude.{◌≡◌, ℕ, ◌+◌, true, not, List, [], length, Option, Some, None, IfSome}
+use Rattle.std.specs.Str.{encode_utf8_all}
 use lib.Utf8.{scalars}
 use Rattle.granit_base.specs.Written.{Written}
 use Rattle.granit_base.specs.declared.style.ScalarStyle.TheVariants.{DoubleQuoted}
+use Rattle.granit_error.specs.OptionsData.{OptionsData}
 use Rattle.granit_model.specs.Decoding.{has_backslash}
 use Rattle.granit_model.specs.Events.{events}
-use Rattle.granit_model.specs.FlowText.{quoted_characters, properties_text, tree_text, comma_unless, entries_text, pairs_text, documents_text, flow_characters}
+use Rattle.granit_model.specs.FlowText.{tag_bytes, quoted_characters, tag_text, properties_text, tree_text, comma_unless, entries_text, pairs_text, documents_text, flow_characters}
 use Rattle.granit_model.specs.Lexeme.{Source}
-use Rattle.granit_model.specs.Node.{Node, ScalarNode, EmptySequence, Sequence, EmptyMapping, Mapping, Entry, EntryLead, FirstEntry, NextEntry, Pair, PairLead, FirstPair, NextPair, Documents, NoDocument, Document}
+use Rattle.granit_model.specs.Node.{TagAt, AnchorAt, NodeProperties, Node, AliasNode, ScalarNode, EmptySequence, Sequence, EmptyMapping, Mapping, Entry, EntryLead, FirstEntry, NextEntry, Pair, PairLead, FirstPair, NextPair, Documents, NoDocument, Document}
 use Rattle.granit_model.specs.Place.{mark_at}
 use Rattle.granit_model.specs.PlainEvent.{PlainEvent}
 use Rattle.granit_model.specs.Tree.{Properties, PlainTree, AliasOf, ScalarOf, SequenceOf, MappingOf, PlainTrees, NoTrees, AfterTrees, PlainPairs, NoPairs, AfterPairs, no_trees, no_pairs}
-
--- neither a tag nor an anchor
-abbrev pub NoProperties : Properties → Type 0
-NoProperties p = (p.tag ≡ None) × (p.anchor ≡ None)
-
--- no alias, no tag and no anchor is in a tree, in trees, in pairs
-abbrev mutual
-  pub BareTree : PlainTree → Type 0
-  BareTree (AliasOf name) = ⊥
-  BareTree (ScalarOf p text) = NoProperties p
-  BareTree (SequenceOf p entries) = NoProperties p × Bare entries
-  BareTree (MappingOf p pairs) = NoProperties p × BarePairs pairs
-
-  pub Bare : PlainTrees → Type 0
-  Bare NoTrees = Unit {0}
-  Bare (AfterTrees ts t) = Bare ts × BareTree t
-
-  pub BarePairs : PlainPairs → Type 0
-  BarePairs NoPairs = Unit {0}
-  BarePairs (AfterPairs ps k v) = BarePairs ps × BareTree k × BareTree v
 
 -- characters: each code point is a Unicode scalar value
 abbrev pub AreCharacters : List ℕ → Type 0
@@ -56,6 +38,9 @@ abbrev mutual
   PairsHaveCharacters (AfterPairs ps k v) = PairsHaveCharacters ps × TreeHasCharacters k × TreeHasCharacters v
 
 -- how many characters their canonical text has
+abbrev pub tag_width : Option (List ℕ) → ℕ
+tag_width tag = length (tag_text tag [])
+
 abbrev pub properties_width : Properties → ℕ
 properties_width p = length (properties_text p [])
 
@@ -82,34 +67,52 @@ pair_offset ps = length (pairs_text ps (comma_unless (no_pairs ps) []))
 abbrev pub source_at : (x : List ℕ) (i width : ℕ) → Source
 source_at x i width = record { start = mark_at x i; end = mark_at x (i + width) }
 
+-- a tag from its `!` to behind its `>`
+abbrev pub tag_at : (x : List ℕ) (i : ℕ) → Option (List ℕ) → Option TagAt
+tag_at x i None = None
+tag_at x i (Some tag) = Some (record { source = source_at x i (length (tag_bytes (encode_utf8_all tag) []) + 3); suffix = tag })
+
+-- a name, lent from the text, where an anchor or an alias stands
+abbrev pub lent : List ℕ → Written
+lent name = record { characters = name; is_borrowed = true }
+
+abbrev pub name_at : (x : List ℕ) (i : ℕ) → List ℕ → Source
+name_at x i name = source_at x i (length name + 1)
+
+abbrev pub anchor_at : (x : List ℕ) (i : ℕ) → Option (List ℕ) → Option AnchorAt
+anchor_at x i None = None
+anchor_at x i (Some name) = Some (record { source = name_at x i name; name = lent name })
+
+abbrev pub properties_at : (x : List ℕ) (i : ℕ) → Properties → NodeProperties
+properties_at x i p = record { tag = tag_at x i p.tag; anchor = anchor_at x (i + tag_width p.tag) p.anchor }
+
 -- a text as a double-quoted scalar: borrowed, where no backslash stands in what is written for it
 abbrev pub quoted_value : List ℕ → Written
 quoted_value text = record { characters = text; is_borrowed = not (has_backslash (quoted_characters text [])) }
 
-abbrev pub scalar_at : (x : List ℕ) (i : ℕ) → List ℕ → Node
-scalar_at x i text = ScalarNode (source_at x i (length (quoted_characters text []) + 2)) DoubleQuoted (quoted_value text)
+abbrev pub scalar_at : (x : List ℕ) → NodeProperties → (i : ℕ) → List ℕ → Node
+scalar_at x own i text = ScalarNode own (source_at x i (length (quoted_characters text []) + 2)) DoubleQuoted (quoted_value text)
 
 -- The nodes of trees whose canonical text stands from an index of a text on. Behind properties the node's own text begins.
--- An alias has no node yet: `Bare` leaves it out, and what stands here for one is never read.
 abbrev mutual
   pub node_at : (x : List ℕ) (i : ℕ) → PlainTree → Node
-  node_at x i (AliasOf name) = scalar_at x i name
-  node_at x i (ScalarOf p text) = scalar_at x (i + properties_width p) text
-  node_at x i (SequenceOf p entries) = sequence_at x (i + properties_width p) entries
-  node_at x i (MappingOf p pairs) = mapping_at x (i + properties_width p) pairs
+  node_at x i (AliasOf name) = AliasNode (name_at x i name) (lent name)
+  node_at x i (ScalarOf p text) = scalar_at x (properties_at x i p) (i + properties_width p) text
+  node_at x i (SequenceOf p entries) = sequence_at x (properties_at x i p) (i + properties_width p) entries
+  node_at x i (MappingOf p pairs) = mapping_at x (properties_at x i p) (i + properties_width p) pairs
 
   -- from its `[` on
-  pub sequence_at : (x : List ℕ) (i : ℕ) → PlainTrees → Node
-  sequence_at x i NoTrees = EmptySequence (source_at x i 1) (source_at x (i + 1) 1)
-  sequence_at x i (AfterTrees ts t) =
-      Sequence (source_at x i 1) (Entry (entry_lead_at x (i + 1) ts) (node_at x (i + 1 + entry_offset ts) t)) (source_at x (i + 1 + entries_width (AfterTrees ts t)) 1)
+  pub sequence_at : (x : List ℕ) → NodeProperties → (i : ℕ) → PlainTrees → Node
+  sequence_at x own i NoTrees = EmptySequence own (source_at x i 1) (source_at x (i + 1) 1)
+  sequence_at x own i (AfterTrees ts t) =
+      Sequence own (source_at x i 1) (Entry (entry_lead_at x (i + 1) ts) (node_at x (i + 1 + entry_offset ts) t)) (source_at x (i + 1 + entries_width (AfterTrees ts t)) 1)
 
   -- from its `{` on
-  pub mapping_at : (x : List ℕ) (i : ℕ) → PlainPairs → Node
-  mapping_at x i NoPairs = EmptyMapping (source_at x i 1) (source_at x (i + 1) 1)
-  mapping_at x i (AfterPairs ps k v) =
+  pub mapping_at : (x : List ℕ) → NodeProperties → (i : ℕ) → PlainPairs → Node
+  mapping_at x own i NoPairs = EmptyMapping own (source_at x i 1) (source_at x (i + 1) 1)
+  mapping_at x own i (AfterPairs ps k v) =
       let q = i + 1 + pair_offset ps in
-      Mapping (source_at x i 1)
+      Mapping own (source_at x i 1)
       (Pair (pair_lead_at x (i + 1) ps) (source_at x q 1) (node_at x (q + 2) k) (source_at x (q + 3 + tree_width k) 1) (node_at x (q + 5 + tree_width k) v))
       (source_at x (i + 1 + pairs_width (AfterPairs ps k v)) 1)
 
@@ -133,5 +136,5 @@ documents_in x NoTrees = NoDocument
 documents_in x (AfterTrees ts t) = let i = documents_width ts in Document (documents_in x ts) (source_at x i 3) (node_at x (i + 4) t)
 
 -- the events of documents that are read from their own canonical text
-abbrev pub canonical_events : PlainTrees → List PlainEvent
-canonical_events ts = events (flow_characters ts) (documents_in (flow_characters ts) ts)
+abbrev pub canonical_events : OptionsData → PlainTrees → List PlainEvent
+canonical_events o ts = events o (flow_characters ts) (documents_in (flow_characters ts) ts)

@@ -1,5 +1,5 @@
 -- The events of documents: a recursion on their nodes.
-use Rattle.std.specs.Prelude.{◌≡◌, ◌≤◌, ℕ, suc, ◌+◌, ◌-◌, true, if◌then◌else◌, List, [], ◌∷◌, length, Option, Some, None}
+use Rattle.std.specs.Prelude.{◌≡◌, ◌<◌, ◌≤◌, ℕ, suc, ◌-◌, ◌^◌, nat_lt, true, if◌then◌else◌, List, [], ◌∷◌, length, Option, Some, None}
 use Rattle.granit_base.specs.Place.{Mark}
 use Rattle.granit_base.specs.Written.{Written}
 use Rattle.granit_base.specs.declared.place.Span.{Span}
@@ -25,10 +25,14 @@ abbrev pub plain_tag : Option TagAt → Option PlainTag
 plain_tag None = None
 plain_tag (Some t) = Some (record { handle = []; suffix = t.suffix; original_handle = [] })
 
+-- how many characters a span says that a tag has: 0 where 32 bits are too few
+abbrev pub told_length : ℕ → ℕ
+told_length n = if nat_lt n (2 ^ 32) then n else 0
+
 -- a span that tells where the tag before it stands, and how many characters it has
 abbrev pub tagged_span : Option TagAt → Source → Span
 tagged_span None s = plain_span s.start s.end
-tagged_span (Some t) s = record { start = s.start; end = s.end; indent = None; tag_start = Some t.source.start; tag_length = t.source.end.place.index - t.source.start.place.index }
+tagged_span (Some t) s = record { start = s.start; end = s.end; indent = None; tag_start = Some t.source.start; tag_length = told_length (t.source.end.place.index - t.source.start.place.index) }
 
 -- the number of a node's anchor, and 0 where it has none
 abbrev pub anchor_number : Option AnchorAt → Scope → ℕ
@@ -85,12 +89,14 @@ document_events o (Document ds m n) more =
 abbrev pub events : OptionsData → List ℕ → Documents → List PlainEvent
 events o x ds = event_on StreamStart (mark_at x 0) ∷ document_events o ds (event_on StreamEnd (mark_at x (length x)) ∷ [])
 
--- where a tag stands in a text: it has a character, and begins at a counted place
+-- where a tag stands in a text: it has a character, begins at a counted place, and its length is told
 pub record TagStands (x : List ℕ) (start : Mark) (count : ℕ) : Type 0 where
   pub from : ℕ
-  pub some : 1 ≤ count
-  pub inside : from + count ≤ length x
+  pub to : ℕ
+  pub some : from < to
+  pub inside : to ≤ length x
   pub counted : start ≡ mark_at x from
+  pub told : count ≡ told_length (to - from)
 
 abbrev pub TagIn : List ℕ → Option Mark → ℕ → Type 0
 TagIn x None count = count ≡ 0
