@@ -1,4 +1,5 @@
 pub mod Cause
+pub mod Decoding
 pub mod Events
 pub mod Extent
 pub mod FirstMention
@@ -16,6 +17,7 @@ pub mod Path
 pub mod Pieces
 pub mod Place
 pub mod PlainEvent
+pub mod PlainExtent
 pub mod PlainScalar
 pub mod ReaderState
 pub mod Reading
