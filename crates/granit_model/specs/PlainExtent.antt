@@ -75,10 +75,10 @@ pub data EndsPlain (at : LayoutData) : Separation → List ℕ → Type 0 where
   tab_line : {breaks indent rest : List ℕ} → left_tab at.block_column 0 indent ≡ true → EndsPlain at (Folded breaks indent) rest
   document_mark : {breaks indent rest : List ℕ} → (length indent == 0 && is_document_mark rest) ≡ true → EndsPlain at (Folded breaks indent) rest
 
--- so many characters on
-abbrev pub steps : ℕ → Here → Here
-steps zero h = h
-steps (suc n) h = steps n (step h)
+-- on over as many characters as a list has
+abbrev pub over : List ℕ → Here → Here
+over [] h = h
+over (c ∷ cs) h = over cs (step h)
 
 -- a plain scalar that stands here, and what stands behind it
 pub record PlainStands (at : LayoutData) (h : Here) (source : List ℕ) (tail : Separation) (rest : List ℕ) : Type 0 where
@@ -101,12 +101,13 @@ abbrev pub is_folded : Separation → Bool
 is_folded (OnLine blanks) = false
 is_folded (Folded breaks indent) = true
 
+-- the place behind it
 abbrev pub end_of : Here → List ℕ → Here
-end_of h source = steps (length source) h
+end_of h source = over source h
 
 -- where the next lexeme or comment stands
 abbrev pub behind_of : Here → List ℕ → Separation → Here
-behind_of h source tail = steps (length (separation_text tail)) (end_of h source)
+behind_of h source tail = over (separation_text tail) (over source h)
 
 -- what is answered for it
 abbrev pub plain_answer : LayoutData → Here → List ℕ → Separation → List ℕ → PlainRead
