@@ -41,7 +41,7 @@ any_or : (a b : Bool) → b ≡ true → (a || b) ≡ true
 any_or true b e = refl
 any_or false b e = e
 
-break_gap : (c : ℕ) → is_break c ≡ true → is_gap c ≡ true
+pub break_gap : (c : ℕ) → is_break c ≡ true → is_gap c ≡ true
 unfolding is_gap
 break_gap c y = any_or (is_blank c) (is_break c) y
 
