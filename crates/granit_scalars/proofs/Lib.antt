@@ -3,3 +3,5 @@ pub mod PlainSpelling
 pub mod Stepping
 pub mod PlainTurns
 pub mod Turning
+pub mod PlainKept
+pub mod PlainReads
