@@ -1,7 +1,9 @@
 pub mod Folding
-pub mod PlainSpelling
-pub mod Stepping
-pub mod PlainTurns
-pub mod Turning
 pub mod PlainKept
+pub mod PlainLaw
 pub mod PlainReads
+pub mod PlainSpelling
+pub mod PlainTurns
+pub mod Printing
+pub mod Stepping
+pub mod Turning

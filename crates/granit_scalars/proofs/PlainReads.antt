@@ -1,19 +1,21 @@
 -- What is read from a state on: the rest of a plain scalar, and what ends it.
 use Rattle.std.proofs.Common.{◌≡◌, ℕ, zero, suc, ◌==◌, Bool, true, false, cond, not, ◌&&◌, ◌||◌, List, [], ◌∷◌, ◌++◌, length, replicate, Option, Some, None, Result, Ok, Err, refl, sym, ap, ap₂, ◌∙◌, subst, arith, append_assoc, ◌⊎◌, inl, inr}
 use Rattle.std.proofs.lemmas.Bool.Decides.{nat_tests}
-use Rattle.granit_base.specs.Classes.{is_blank, is_break, is_z, is_gap}
+use Rattle.granit_base.specs.Classes.{is_blank, is_break, is_z, is_gap, is_printable}
 use Rattle.granit_base.specs.Place.{Mark, first}
 use Rattle.granit_error.specs.FaultKind.{TabInPlainScalar}
 use Rattle.granit_model.specs.Decoding.{folded, break_text}
+use Rattle.granit_model.specs.Gap.{Each}
 use Rattle.granit_model.specs.Here.{Here, next_char, mark_of, step}
 use Rattle.granit_model.specs.LayoutData.{LayoutData, is_left, is_outside}
 use Rattle.granit_model.specs.Outcome.{Fault}
 use Rattle.granit_model.specs.Pieces.{with_front, pieces}
 use Rattle.granit_model.specs.PlainExtent.{Separation, OnLine, Folded, separation_text, IsSeparation, left_tab, starts_comment, MayFollow, GoesOn, ends, goes_on, EndsPlain, no_content, comment, comment_line, outside_line, tab_line, document_mark, tab_refused, over}
-use Rattle.granit_model.specs.PlainScalar.{PlainState, is_content, is_document_mark, between, on_content, on_blank, on_break, meets_comment, ends_before_line, plain_turn, plain_len}
+use Rattle.granit_model.specs.PlainScalar.{PlainState, is_content, is_document_mark, between, on_content, on_blank, on_break, meets_comment, ends_before_line, plain_turn, plain_len, unprintable}
 use Rattle.granit_model.proofs.HereLemmas.{not_empty}
 use Rattle.granit_scalars.proofs.Folding.{folds_blanks, folds_behind_content}
-use Rattle.granit_scalars.proofs.PlainSpelling.{Solid, solid}
+use Rattle.granit_scalars.proofs.PlainSpelling.{Solid, solid, blanks_gap, separation_gap}
+use Rattle.granit_scalars.proofs.Printing.{unprintable_behind, break_text_gap}
 use Rattle.granit_scalars.proofs.PlainKept.{KeptOnLine, KeptFolded, Kept, Stays, separation_kept, content_stays, blank_stays, break_stays, Goes}
 use Rattle.granit_scalars.proofs.PlainTurns.{tab_found, line_found, Turned, past_a_blank, past_a_break, at_a_comment, at_a_tab, at_a_line, past_content, at_no_content, turned, seen_content, plain_shortens}
 use Rattle.granit_scalars.proofs.Stepping.{over-append, Seen}
@@ -35,6 +37,7 @@ pub record FindsText (at : LayoutData) (behind : Here) (text : List ℕ) (after 
   pub stays : Stays at tail (over source behind) after
   pub untabbed : tab_refused at tail after.here.unread.text ≡ false
   pub value : text ≡ folded source
+  pub characters : unprintable text ≡ unprintable source
 
 -- where a tab is refused
 pub record FindsTab (at : LayoutData) (start : Mark) (behind : Here) (f : Fault) : Type 0 where
@@ -69,6 +72,10 @@ between_empty (suc k) = ap (λ b. cond {A = List ℕ} b (0x20 ∷ []) (replicate
 between_folded : (at : LayoutData) (s : PlainState) (breaks indent : List ℕ) (k : KeptFolded at breaks indent s) → between s ≡ break_text k.empty
 between_folded at s breaks indent k =
     ap₂ (λ b (t : List ℕ). cond (b && length t == 0) (0x20 ∷ []) t) k.line k.pending ∙ between_empty k.empty
+
+between_gap : (at : LayoutData) (g : Separation) (s : PlainState) → Kept at g s → Each is_gap (between s)
+between_gap at (OnLine blanks) s k = subst (Each is_gap) (sym (between_line s blanks k)) (blanks_gap blanks k.only_blanks)
+between_gap at (Folded breaks indent) s k = subst (Each is_gap) (sym (between_folded at s breaks indent k)) (break_text_gap k.empty)
 
 -- the value of a source that goes on behind a separation
 value_on : (at : LayoutData) (g : Separation) (s : PlainState) (more : List ℕ) → Kept at g s → Solid (next_char s.here) → folded (separation_text g ++ next_char s.here ∷ more) ≡ between s ++ (next_char s.here ∷ folded more)
@@ -172,13 +179,16 @@ takes : (at : LayoutData) (start : Mark) (s : PlainState) → meets_comment s �
 takes at start s m t l y (Ok (value, last)) reads = λ g behind h.
     let r = reads (OnLine []) (step s.here) (content_stays at s) in
     let c = next_char s.here in
+    let joined : (between s ++ c ∷ []) ++ value ≡ between s ++ (c ∷ value) = append_assoc (between s) (c ∷ []) value in
     record {
       source = separation_text g ++ c ∷ r.source;
       tail = r.tail;
       finds = further at start s m t l y g behind h r.source r.tail last.here.unread.text r.finds;
       stays = subst (λ (k : Here). Stays at r.tail k last) (over_on (separation_text g) r.source behind s.here h.here) r.stays;
       untabbed = r.untabbed;
-      value = append_assoc (between s) (c ∷ []) value ∙ ap (λ (u : List ℕ). between s ++ (c ∷ u)) r.value ∙ sym (value_on at g s r.source h.kept (solid at.in_flow s.here.unread.text y));
+      characters = ap unprintable joined ∙ unprintable_behind (between s) (c ∷ value) (between_gap at g s h.kept)
+        ∙ ap (λ (u : Option ℕ). cond (not (is_printable c)) (Some c) u) r.characters ∙ sym (unprintable_behind (separation_text g) (c ∷ r.source) (separation_gap g (separation_kept at g s h.kept)));
+      value = joined ∙ ap (λ (u : List ℕ). between s ++ (c ∷ u)) r.value ∙ sym (value_on at g s r.source h.kept (solid at.in_flow s.here.unread.text y));
     }
 takes at start s m t l y (Err f) reads = λ g behind h.
     let r = reads (OnLine []) (step s.here) (content_stays at s) in
@@ -197,7 +207,7 @@ found : (at : LayoutData) (s : PlainState) (g : Separation) (behind : Here) → 
 found at s g behind h n over_is = record { whole = h.text; goes = ends; separation = separation_kept at g s h.kept; no_gap = n; ends = over_is }
 
 stopped : (at : LayoutData) (s : PlainState) (g : Separation) (behind : Here) → Stays at g behind s → is_gap (next_char s.here) ≡ false → EndsPlain at g s.here.unread.text → tab_refused at g s.here.unread.text ≡ false → FindsText at behind [] s
-stopped at s g behind h n over_is u = record { source = []; tail = g; finds = found at s g behind h n over_is; stays = h; untabbed = u; value = refl }
+stopped at s g behind h n over_is u = record { source = []; tail = g; finds = found at s g behind h n over_is; stays = h; untabbed = u; value = refl; characters = refl }
 
 comment_ends : (at : LayoutData) (g : Separation) (s : PlainState) → Kept at g s → meets_comment s ≡ true → EndsPlain at g s.here.unread.text
 comment_ends at (OnLine []) s k y =
