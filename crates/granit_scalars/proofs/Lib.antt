@@ -1,6 +1,7 @@
 pub mod Folding
 pub mod PlainKept
 pub mod PlainLaw
+pub mod PlainOnce
 pub mod PlainReads
 pub mod PlainSpelling
 pub mod PlainTurns
