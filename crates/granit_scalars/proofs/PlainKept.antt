@@ -1,5 +1,5 @@
 -- What is kept while a plain scalar is read: the separation that was read since its last content.
-use Rattle.std.proofs.Common.{◌≡◌, ℕ, zero, suc, ◌+◌, ◌==◌, Bool, true, false, not, ◌&&◌, ◌||◌, List, [], ◌∷◌, ◌++◌, length, replicate, Option, refl, sym, ap, ap₂, ◌∙◌, subst, arith, append_assoc, append-nil, add-zero, length-append}
+use Rattle.std.proofs.Common.{◌≡◌, ℕ, zero, suc, ◌+◌, ◌==◌, Bool, true, false, ◌&&◌, ◌||◌, List, [], ◌∷◌, ◌++◌, length, replicate, Option, refl, sym, ap, ap₂, ◌∙◌, subst, arith, append_assoc, append-nil, add-zero, length-append}
 use Rattle.std.proofs.Math.Bool.{or_assoc}
 use Rattle.granit_base.specs.Classes.{is_blank, is_break, is_gap}
 use Rattle.granit_base.specs.Place.{first}
@@ -7,7 +7,7 @@ use Rattle.granit_model.specs.Decoding.{folded}
 use Rattle.granit_model.specs.Gap.{Each}
 use Rattle.granit_model.specs.Here.{Here, next_char, mark_of, step}
 use Rattle.granit_model.specs.LayoutData.{LayoutData, is_left}
-use Rattle.granit_model.specs.PlainExtent.{Separation, OnLine, Folded, separation_text, UpToBreak, at_break, before_break, IsSeparation, left_tab, over}
+use Rattle.granit_model.specs.PlainExtent.{Separation, OnLine, Folded, separation_text, UpToBreak, before_break, IsSeparation, left_tab, over}
 use Rattle.granit_model.specs.PlainScalar.{PlainState, past_break, on_content, on_blank, on_break}
 use Rattle.granit_scalars.proofs.Folding.{folded_behind, blank_apart_from_break, folds_behind_blank, folds_behind_break, folds_break}
 use Rattle.granit_scalars.proofs.PlainSpelling.{blanks_gap, separation_gap}

@@ -1,25 +1,24 @@
 -- The plain function answers the plain scalar that stands there, or refuses it with its cause.
 use Rattle.std.proofs.Common.{◌≡◌, ℕ, ◌==◌, Bool, true, false, cond, not, ◌&&◌, ◌||◌, List, [], ◌∷◌, ◌++◌, length, Option, Some, None, Result, Ok, Err, refl, sym, ap, ap₂, ◌∙◌, subst}
-use Rattle.std.specs.Prelude.{if◌then◌else◌, slice_index}
-use Rattle.granit_base.specs.Classes.{is_flow, is_printable}
-use Rattle.granit_base.specs.Place.{Mark, first}
+use Rattle.std.specs.Prelude.{if◌then◌else◌}
+use Rattle.granit_base.specs.Classes.{is_printable}
+use Rattle.granit_base.specs.Place.{Mark}
 use Rattle.granit_base.specs.declared.style.ScalarStyle.TheVariants.{Plain}
-use Rattle.granit_error.specs.FaultKind.{PlainScalarStartsWithDashFlowIndicator, TabInPlainScalar, UnexpectedCharacter}
+use Rattle.granit_error.specs.FaultKind.{PlainScalarStartsWithDashFlowIndicator, UnexpectedCharacter}
 use Rattle.granit_model.specs.Decoding.{folded}
-use Rattle.granit_model.specs.Here.{Here, next_char, mark_of, step, text_len}
+use Rattle.granit_model.specs.Here.{Here, next_char, mark_of, step}
 use Rattle.granit_model.specs.LayoutData.{LayoutData}
-use Rattle.granit_model.specs.Lexeme.{Lexeme, Scalar}
+use Rattle.granit_model.specs.Lexeme.{Scalar}
 use Rattle.granit_model.specs.Outcome.{Fault, ◌>>=◌}
-use Rattle.granit_model.specs.Pieces.{with_front, pieces, Shortens}
-use Rattle.granit_model.specs.PlainExtent.{Separation, OnLine, Folded, separation_text, left_tab, starts_comment, SpellsPlain, PlainExtent, PlainStands, tab_refused, is_cut, is_folded, over, behind_of, plain_answer, is_flow_dash, is_unprintable_at, AnswersPlain, RefusesDash, RefusesTab, RefusesCharacter, is_inside, is_behind, RefusesPlain}
-use Rattle.granit_model.specs.PlainScalar.{PlainState, PlainRead, fails_at, is_content, between, on_content, meets_comment, plain_turn, plain_len, plain_start, cut_mark, plain_read, behind_plain, unprintable, only_printable, plain_scalar}
+use Rattle.granit_model.specs.Pieces.{with_front, pieces}
+use Rattle.granit_model.specs.PlainExtent.{Separation, OnLine, Folded, separation_text, left_tab, PlainStands, tab_refused, is_cut, is_folded, over, behind_of, plain_answer, is_flow_dash, is_unprintable_at, AnswersPlain, is_inside, is_behind, RefusesPlain}
+use Rattle.granit_model.specs.PlainScalar.{PlainState, PlainRead, fails_at, is_content, on_content, meets_comment, plain_turn, plain_len, plain_start, cut_mark, plain_read, behind_plain, unprintable, only_printable, plain_scalar}
 use Rattle.granit_model.proofs.PieceLemmas.{pieces_more}
 use Rattle.granit_scalars.proofs.Folding.{folds_content}
 use Rattle.granit_scalars.proofs.PlainKept.{Kept, Stays, content_stays}
-use Rattle.granit_scalars.proofs.PlainReads.{Finds, FindsText, FindsTab, Reads, reads}
-use Rattle.granit_scalars.proofs.PlainSpelling.{Solid, solid, no_longer}
-use Rattle.granit_scalars.proofs.PlainTurns.{tab_found, line_found, seen_content, plain_shortens}
-use Rattle.granit_scalars.proofs.Stepping.{Seen}
+use Rattle.granit_scalars.proofs.PlainReads.{Finds, Reads, reads}
+use Rattle.granit_scalars.proofs.PlainSpelling.{solid, no_longer}
+use Rattle.granit_scalars.proofs.PlainTurns.{seen_content, plain_shortens}
 
 -- ---- the first character
 

@@ -1,13 +1,12 @@
 -- What is read from a state on: the rest of a plain scalar, and what ends it.
-use Rattle.std.proofs.Common.{◌≡◌, ℕ, zero, suc, ◌==◌, Bool, true, false, cond, not, ◌&&◌, ◌||◌, List, [], ◌∷◌, ◌++◌, length, replicate, Option, Some, None, Result, Ok, Err, refl, sym, ap, ap₂, ◌∙◌, subst, arith, append_assoc, ◌⊎◌, inl, inr}
-use Rattle.std.proofs.lemmas.Bool.Decides.{nat_tests}
-use Rattle.granit_base.specs.Classes.{is_blank, is_break, is_z, is_gap, is_printable}
+use Rattle.std.proofs.Common.{◌≡◌, ℕ, zero, suc, ◌==◌, Bool, true, false, cond, not, ◌&&◌, ◌||◌, List, [], ◌∷◌, ◌++◌, length, replicate, Option, Some, Result, Ok, Err, refl, sym, ap, ap₂, ◌∙◌, subst, append_assoc, ◌⊎◌, inl, inr}
+use Rattle.granit_base.specs.Classes.{is_z, is_gap, is_printable}
 use Rattle.granit_base.specs.Place.{Mark, first}
 use Rattle.granit_error.specs.FaultKind.{TabInPlainScalar}
 use Rattle.granit_model.specs.Decoding.{folded, break_text}
 use Rattle.granit_model.specs.Gap.{Each}
-use Rattle.granit_model.specs.Here.{Here, next_char, mark_of, step}
-use Rattle.granit_model.specs.LayoutData.{LayoutData, is_left, is_outside}
+use Rattle.granit_model.specs.Here.{Here, next_char, step}
+use Rattle.granit_model.specs.LayoutData.{LayoutData, is_outside}
 use Rattle.granit_model.specs.Outcome.{Fault}
 use Rattle.granit_model.specs.Pieces.{with_front, pieces}
 use Rattle.granit_model.specs.PlainExtent.{Separation, OnLine, Folded, separation_text, IsSeparation, left_tab, starts_comment, MayFollow, GoesOn, ends, goes_on, EndsPlain, no_content, comment, comment_line, outside_line, tab_line, document_mark, tab_refused, over}
@@ -18,7 +17,7 @@ use Rattle.granit_scalars.proofs.PlainSpelling.{Solid, solid, blanks_gap, separa
 use Rattle.granit_scalars.proofs.Printing.{unprintable_behind, break_text_gap}
 use Rattle.granit_scalars.proofs.PlainKept.{KeptOnLine, KeptFolded, Kept, Stays, separation_kept, content_stays, blank_stays, break_stays, Goes}
 use Rattle.granit_scalars.proofs.PlainTurns.{tab_found, line_found, Turned, past_a_blank, past_a_break, at_a_comment, at_a_tab, at_a_line, past_content, at_no_content, turned, seen_content, plain_shortens}
-use Rattle.granit_scalars.proofs.Stepping.{over-append, Seen}
+use Rattle.granit_scalars.proofs.Stepping.{over-append}
 use Rattle.granit_scalars.proofs.Turning.{Carries, pieces_hold}
 
 -- the rest of a scalar, behind content that ends here, and what ends it
@@ -146,8 +145,7 @@ follows at (Folded breaks indent) s k m t l c =
     let hash = starts_comment s.here.unread.text in
     let before : ((hash || outside) || mark) ≡ false = not_right s.on_new_line ((hash || outside) || mark) l k.line in
     let parts = neither (hash || outside) mark before in
-    let more = neither hash outside parts.0 in
-    (
+    let more = neither hash outside parts.0 in (
       more.0,
       ap (is_outside at) (sym k.column) ∙ more.1,
       sym k.tab ∙ not_left s.left_tab (not (is_z (next_char s.here))) t (ap not c.no_z),
@@ -163,9 +161,9 @@ further at start s m t l y g behind h source tail rest found =
     record {
       whole = h.text ∙ ap (λ (u : List ℕ). separation_text g ++ u) there ∙ sym (append_assoc (separation_text g) (c ∷ source) (separation_text tail ++ rest));
       goes = goes_on g c refl (separation_kept at g s h.kept)
-        (subst (λ (u : List ℕ). is_content at.in_flow u ≡ true) there y)
-        (subst (λ (u : List ℕ). MayFollow at g u) there (follows at g s h.kept m t l (solid at.in_flow s.here.unread.text y)))
-        found.goes;
+          (subst (λ (u : List ℕ). is_content at.in_flow u ≡ true) there y)
+          (subst (λ (u : List ℕ). MayFollow at g u) there (follows at g s h.kept m t l (solid at.in_flow s.here.unread.text y)))
+          found.goes;
       separation = found.separation;
       no_gap = found.no_gap;
       ends = found.ends;
@@ -187,7 +185,7 @@ takes at start s m t l y (Ok (value, last)) reads = λ g behind h.
       stays = subst (λ (k : Here). Stays at r.tail k last) (over_on (separation_text g) r.source behind s.here h.here) r.stays;
       untabbed = r.untabbed;
       characters = ap unprintable joined ∙ unprintable_behind (between s) (c ∷ value) (between_gap at g s h.kept)
-        ∙ ap (λ (u : Option ℕ). cond (not (is_printable c)) (Some c) u) r.characters ∙ sym (unprintable_behind (separation_text g) (c ∷ r.source) (separation_gap g (separation_kept at g s h.kept)));
+          ∙ ap (λ (u : Option ℕ). cond (not (is_printable c)) (Some c) u) r.characters ∙ sym (unprintable_behind (separation_text g) (c ∷ r.source) (separation_gap g (separation_kept at g s h.kept)));
       value = joined ∙ ap (λ (u : List ℕ). between s ++ (c ∷ u)) r.value ∙ sym (value_on at g s r.source h.kept (solid at.in_flow s.here.unread.text y));
     }
 takes at start s m t l y (Err f) reads = λ g behind h.
