@@ -38,8 +38,9 @@ left_tab block column (c ∷ cs) = (c == 0x09 && is_left block column) || left_t
 abbrev pub starts_comment : List ℕ → Bool
 starts_comment text = first text == 0x23
 
--- Whether content that begins here may stand behind a separation: `#` directly behind content alone, and on a further line nothing that is left of
--- its block, that a tab left of it indents, or that is a document mark.
+-- Whether content that begins here may stand behind a separation: `#` directly behind content alone (6.6), and on a further line nothing that is
+-- left of its block, that a tab left of it indents (6.1), or that is a document mark (9.1.2). The blanks that begin a line are as many as its
+-- content's column.
 abbrev pub MayFollow : LayoutData → Separation → List ℕ → Type 0
 MayFollow at (OnLine []) text = Unit {0}
 MayFollow at (OnLine (b ∷ bs)) text = starts_comment text ≡ false
@@ -52,7 +53,7 @@ pub data GoesOn (at : LayoutData) : (source behind : List ℕ) → Type 0 where
   goes_on : {source behind cs : List ℕ} (g : Separation) (c : ℕ) → source ≡ separation_text g ++ c ∷ cs → IsSeparation g
       → is_content at.in_flow (c ∷ (cs ++ behind)) ≡ true → MayFollow at g (c ∷ (cs ++ behind)) → GoesOn at cs behind → GoesOn at source behind
 
--- the characters that spell a plain scalar, in front of what stands behind it
+-- the characters that spell a plain scalar, in front of what stands behind it; which lexeme a character may begin is said elsewhere
 pub record SpellsPlain (at : LayoutData) (source behind : List ℕ) : Type 0 where
   pub start : ℕ
   pub more : List ℕ

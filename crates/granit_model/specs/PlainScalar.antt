@@ -20,7 +20,7 @@ pub record PlainState : Type 0 where
   pub pending : List ℕ
   -- whether a break was read since then
   pub on_new_line : Bool
-  -- whether a tab left of the margin is among the blanks that begin this line
+  -- whether a tab left of where a node may stand is among the blanks that begin this line
   pub left_tab : Bool
 
 -- a plain scalar, as the call that reads it gives it
@@ -74,7 +74,7 @@ on_break s =
     if s.on_new_line then record s { here = past_break s.here; pending = s.pending ++ 0x0A ∷ []; left_tab = false }
     else record s { here = past_break s.here; pending = []; on_new_line = true }
 
--- whether a comment cuts the scalar short: its `#` stands behind blanks on a line of content, or on a later line behind a tab left of the margin
+-- whether a comment cuts the scalar short: its `#` stands behind blanks on a line of content, or on a later line behind such a tab
 abbrev pub meets_comment : PlainState → Bool
 meets_comment s = next_char s.here == 0x23 && (s.left_tab || (not s.on_new_line && not (length s.pending == 0)))
 
@@ -82,7 +82,7 @@ meets_comment s = next_char s.here == 0x23 && (s.left_tab || (not s.on_new_line 
 abbrev pub ends_before_line : LayoutData → Here → Bool
 ends_before_line at h = (next_char h == 0x23 || is_outside at h.place.column) || (h.place.column == 0 && is_document_mark h.unread.text)
 
--- the next character, which the scalar takes or ends before; a tab left of the margin is refused where content follows
+-- the next character, which the scalar takes or ends before; such a tab is refused where content follows
 unfoldable pub plain_turn : LayoutData → Mark → PlainState → Result (Option (List ℕ) × PlainState) Fault
 plain_turn at start s =
     if is_blank (next_char s.here) then Ok (Some [], on_blank at s)

@@ -2,6 +2,7 @@
 //! or its fault; what is behind a scalar comes from the plain machine of the whole language.
 ghost use Rattle.std.specs.Prelude.{◌≡◌, ℕ, [], ◌∷◌, ◌++◌, codes, Some, None, true, false};
 ghost use Rattle.granit_scalars.specs.Examples.{layout, plain_line, behind, behind_line};
+ghost use Rattle.granit_model.specs.Decoding.{folded};
 
 /// Where a plain scalar ends, and where not.
 pub fn ends_of_the_examples()
@@ -108,4 +109,16 @@ pub fn places_behind_the_examples()
     ensures colon { behind_line (layout (Some 0) false false) (codes "k: a: b") 3 ≡ behind 4 1 4 None false }
     ensures nothing { behind_line (layout (Some 0) false false) (codes "k: a") 3 ≡ behind 4 1 4 None false }
     ensures left_line_in_strict_flow { behind_line (layout (Some 0) true true) (codes "k: [a\nb]") 4 ≡ behind 6 2 0 None true }
+{}
+
+/// Lines of quoted scalars, whose first and last line are content even where they are empty.
+pub fn folds_of_quoted_lines()
+    ensures one_break { folded (codes "\n") ≡ (codes " ") }
+    ensures two_breaks { folded (codes "\n\n") ≡ (codes "\n") }
+    ensures empty_last { folded (codes "a\n\n") ≡ (codes "a\n") }
+    ensures empty_first { folded (codes "\n\na") ≡ (codes "\na") }
+    ensures outer_blanks { folded (codes " a \n b ") ≡ (codes " a b ") }
+    ensures blanks_alone { folded (codes " \n ") ≡ (codes " ") }
+    ensures mixed { folded (codes "a\n\n\n b\r\n\tc") ≡ (codes "a\n\nb c") }
+    ensures one_line { folded (codes " a b ") ≡ (codes " a b ") }
 {}

@@ -6,7 +6,7 @@ mod examples;
 mod plain;
 
 pub use examples::{
-    comments_of_the_examples, ends_of_the_examples, folds_of_the_examples,
+    comments_of_the_examples, ends_of_the_examples, folds_of_quoted_lines, folds_of_the_examples,
     places_behind_the_examples, refusals_of_the_examples, stops_of_the_examples,
     tabs_of_the_examples,
 };
