@@ -1,6 +1,6 @@
 -- How far a plain scalar goes (YAML 1.2.2, 7.3.3), and what stands behind it.
 use Rattle.std.specs.Prelude.{◌≡◌, ℕ, suc, ◌==◌, Bool, true, false, ◌&&◌, ◌||◌, not, if◌then◌else◌, List, [], ◌∷◌, ◌++◌, length, slice_index, Option, Some, None}
-use Rattle.granit_base.specs.Classes.{is_blank, is_break, is_z, is_gap, is_flow, is_printable}
+use Rattle.granit_base.specs.Classes.{is_blank, is_break, is_z, is_blank_or_breakz, is_gap, is_flow, is_printable}
 use Rattle.granit_base.specs.Place.{Mark, first}
 use Rattle.granit_base.specs.declared.style.ScalarStyle.TheVariants.{Plain}
 use Rattle.granit_error.specs.FaultKind.{FaultKind, PlainScalarStartsWithDashFlowIndicator, TabInPlainScalar, UnexpectedCharacter}
@@ -67,14 +67,22 @@ pub record PlainExtent (at : LayoutData) (text source behind : List ℕ) : Type 
   pub spelled : SpellsPlain at source behind
   pub longest : (more rest : List ℕ) → behind ≡ more ++ rest → SpellsPlain at (source ++ more) rest → more ≡ []
 
--- What ends a plain scalar, behind a separation: nothing that can be content (the end, NUL, `:` before a blank, a break, NUL or the end, in flow also
--- before a flow indicator, and in flow a flow indicator), a comment, or a further line that is left of its block, that such a tab indents or that begins with a document mark.
+-- what ends a plain scalar, behind a separation
 pub data EndsPlain (at : LayoutData) : Separation → List ℕ → Type 0 where
-  no_content : {g : Separation} {rest : List ℕ} → is_content at.in_flow rest ≡ false → EndsPlain at g rest
+  -- the end of the text, or a NUL
+  nothing_more : {g : Separation} {rest : List ℕ} → is_z (first rest) ≡ true → EndsPlain at g rest
+  -- `:` with a blank, a break, NUL or the end behind it, in flow also with a flow indicator (7.3.3)
+  colon : {g : Separation} {rest : List ℕ} → (first rest == 0x3A && (is_blank_or_breakz (slice_index rest 1) || (at.in_flow && is_flow (slice_index rest 1)))) ≡ true → EndsPlain at g rest
+  -- in flow a flow indicator (7.3.3)
+  flow_indicator : {g : Separation} {rest : List ℕ} → (at.in_flow && is_flow (first rest)) ≡ true → EndsPlain at g rest
+  -- a comment, behind blanks on the scalar's line or on a further one (6.6)
   comment : {b : ℕ} {bs rest : List ℕ} → starts_comment rest ≡ true → EndsPlain at (OnLine (b ∷ bs)) rest
   comment_line : {breaks indent rest : List ℕ} → starts_comment rest ≡ true → EndsPlain at (Folded breaks indent) rest
+  -- a further line that is left of its block
   outside_line : {breaks indent rest : List ℕ} → is_outside at (length indent) ≡ true → EndsPlain at (Folded breaks indent) rest
+  -- a further line that a tab left of its block indents
   tab_line : {breaks indent rest : List ℕ} → left_tab at.block_column 0 indent ≡ true → EndsPlain at (Folded breaks indent) rest
+  -- `---` or `...` in column 0 (9.1.2)
   document_mark : {breaks indent rest : List ℕ} → (length indent == 0 && is_document_mark rest) ≡ true → EndsPlain at (Folded breaks indent) rest
 
 -- on over as many characters as a list has

@@ -1,6 +1,6 @@
 -- What is read from a state on: the rest of a plain scalar, and what ends it.
 use Rattle.std.proofs.Common.{◌≡◌, ℕ, zero, suc, ◌==◌, Bool, true, false, cond, not, ◌&&◌, ◌||◌, List, [], ◌∷◌, ◌++◌, length, replicate, Option, Some, Result, Ok, Err, refl, sym, ap, ap₂, ◌∙◌, subst, append_assoc, ◌⊎◌, inl, inr}
-use Rattle.granit_base.specs.Classes.{is_z, is_gap, is_printable}
+use Rattle.granit_base.specs.Classes.{is_blank, is_break, is_z, is_gap, is_printable}
 use Rattle.granit_base.specs.Place.{Mark, first}
 use Rattle.granit_error.specs.FaultKind.{TabInPlainScalar}
 use Rattle.granit_model.specs.Decoding.{folded, break_text}
@@ -9,11 +9,11 @@ use Rattle.granit_model.specs.Here.{Here, next_char, step}
 use Rattle.granit_model.specs.LayoutData.{LayoutData, is_outside}
 use Rattle.granit_model.specs.Outcome.{Fault}
 use Rattle.granit_model.specs.Pieces.{with_front, pieces}
-use Rattle.granit_model.specs.PlainExtent.{Separation, OnLine, Folded, separation_text, IsSeparation, left_tab, starts_comment, MayFollow, GoesOn, ends, goes_on, EndsPlain, no_content, comment, comment_line, outside_line, tab_line, document_mark, tab_refused, over}
+use Rattle.granit_model.specs.PlainExtent.{Separation, OnLine, Folded, separation_text, IsSeparation, left_tab, starts_comment, MayFollow, GoesOn, ends, goes_on, EndsPlain, nothing_more, colon, flow_indicator, comment, comment_line, outside_line, tab_line, document_mark, tab_refused, over}
 use Rattle.granit_model.specs.PlainScalar.{PlainState, is_content, is_document_mark, between, on_content, on_blank, on_break, meets_comment, ends_before_line, plain_turn, plain_len, unprintable}
 use Rattle.granit_model.proofs.HereLemmas.{not_empty}
 use Rattle.granit_scalars.proofs.Folding.{folds_blanks, folds_behind_content}
-use Rattle.granit_scalars.proofs.PlainSpelling.{Solid, solid, blanks_gap, separation_gap}
+use Rattle.granit_scalars.proofs.PlainSpelling.{Solid, solid, colon_found, indicator_found, no_content_is, blanks_gap, separation_gap}
 use Rattle.granit_scalars.proofs.Printing.{unprintable_behind, break_text_gap}
 use Rattle.granit_scalars.proofs.PlainKept.{KeptOnLine, KeptFolded, Kept, Stays, separation_kept, content_stays, blank_stays, break_stays, Goes}
 use Rattle.granit_scalars.proofs.PlainTurns.{tab_found, line_found, Turned, past_a_blank, past_a_break, at_a_comment, at_a_tab, at_a_line, past_content, at_no_content, turned, seen_content, plain_shortens}
@@ -112,6 +112,10 @@ neither : (a b : Bool) → (a || b) ≡ false → (a ≡ false) × (b ≡ false)
 neither true b e = cc
 neither false b e = (refl, e)
 
+neither_gap : (c : ℕ) → is_gap c ≡ false → (is_blank c ≡ false) × (is_break c ≡ false)
+unfolding is_gap
+neither_gap c e = neither (is_blank c) (is_break c) e
+
 either : (a b : Bool) → (a || b) ≡ true → (a ≡ true) ⊎ (b ≡ true)
 either true b e = inl refl
 either false b e = inr e
@@ -207,6 +211,11 @@ found at s g behind h n over_is = record { whole = h.text; goes = ends; separati
 stopped : (at : LayoutData) (s : PlainState) (g : Separation) (behind : Here) → Stays at g behind s → is_gap (next_char s.here) ≡ false → EndsPlain at g s.here.unread.text → tab_refused at g s.here.unread.text ≡ false → FindsText at behind [] s
 stopped at s g behind h n over_is u = record { source = []; tail = g; finds = found at s g behind h n over_is; stays = h; untabbed = u; value = refl; characters = refl }
 
+no_content_ends : (at : LayoutData) (g : Separation) (rest : List ℕ) → (is_z (first rest) ≡ true) ⊎ ((colon_found at.in_flow rest ≡ true) ⊎ (indicator_found at.in_flow rest ≡ true)) → EndsPlain at g rest
+no_content_ends at g rest (inl y) = nothing_more y
+no_content_ends at g rest (inr (inl y)) = colon y
+no_content_ends at g rest (inr (inr y)) = flow_indicator y
+
 comment_ends : (at : LayoutData) (g : Separation) (s : PlainState) → Kept at g s → meets_comment s ≡ true → EndsPlain at g s.here.unread.text
 comment_ends at (OnLine []) s k y =
     absurd (behind_nothing s.left_tab s.on_new_line (length s.pending == 0) k.tab (ap (λ (p : List ℕ). length p == 0) k.pending) (and_right (starts_comment s.here.unread.text) (s.left_tab || (not s.on_new_line && not (length s.pending == 0))) y))
@@ -266,7 +275,7 @@ reads_turn at start s r (at_a_comment n y) = λ g behind h. stopped at s g behin
 reads_turn at start s r (at_a_tab n m t) = λ g behind h. tab_ends at start g s behind h n m t
 reads_turn at start s r (at_a_line n t y) = λ g behind h. stopped at s g behind h n (line_ends at g s h.kept y) (untabbed at g s h.kept t)
 reads_turn at start s r (past_content m t l y) = takes at start s m t l y
-reads_turn at start s r (at_no_content n t c) = λ g behind h. stopped at s g behind h n (no_content c) (untabbed at g s h.kept t)
+reads_turn at start s r (at_no_content n t c) = λ g behind h. stopped at s g behind h n (no_content_ends at g s.here.unread.text (no_content_is at.in_flow s.here.unread.text c (neither_gap (next_char s.here) n).0 (neither_gap (next_char s.here) n).1)) (untabbed at g s h.kept t)
 
 pub reads : (at : LayoutData) (start : Mark) (s : PlainState) → Reads at start s (pieces plain_len (plain_turn at start) s)
 reads at start s = pieces_hold (Reads at start) plain_len (plain_turn at start) (plain_shortens at start) (λ t. reads_turn at start t (plain_turn at start t) (turned at start t)) s

@@ -1,11 +1,12 @@
 -- A plain scalar's spelling goes one way, so what ends one leaves no longer one.
-use Rattle.std.proofs.Common.{◌≡◌, ℕ, Bool, true, false, not, ◌&&◌, ◌||◌, List, [], ◌∷◌, ◌++◌, refl, sym, ap, ap₂, ◌∙◌, subst, append_assoc, append-nil, ◌⊎◌, inl, inr}
-use Rattle.granit_base.specs.Classes.{is_blank, is_break, is_breakz, is_blank_or_breakz, is_gap, is_z}
+use Rattle.std.proofs.Common.{◌≡◌, ℕ, ◌==◌, Bool, true, false, not, ◌&&◌, ◌||◌, List, [], ◌∷◌, ◌++◌, refl, sym, ap, ap₂, ◌∙◌, subst, append_assoc, append-nil, ◌⊎◌, inl, inr}
+use Rattle.std.specs.Prelude.{slice_index}
+use Rattle.granit_base.specs.Classes.{is_blank, is_break, is_breakz, is_blank_or_breakz, is_flow, is_gap, is_z}
 use Rattle.granit_base.specs.Place.{first}
 use Rattle.granit_model.specs.Gap.{Each}
 use Rattle.granit_model.specs.LayoutData.{LayoutData}
 use Rattle.granit_model.specs.PlainScalar.{is_content}
-use Rattle.granit_model.specs.PlainExtent.{Separation, OnLine, Folded, separation_text, UpToBreak, at_break, before_break, IsSeparation, MayFollow, GoesOn, ends, goes_on, SpellsPlain, PlainExtent, EndsPlain, no_content, comment, comment_line, outside_line, tab_line, document_mark}
+use Rattle.granit_model.specs.PlainExtent.{Separation, OnLine, Folded, separation_text, UpToBreak, at_break, before_break, IsSeparation, MayFollow, GoesOn, ends, goes_on, SpellsPlain, PlainExtent, EndsPlain, nothing_more, colon, flow_indicator, comment, comment_line, outside_line, tab_line, document_mark}
 use Rattle.granit_scalars.proofs.Folding.{blank_apart_from_break}
 
 -- what content is not
@@ -20,6 +21,36 @@ solid_parts true b z p e = cc
 solid_parts false true z p e = cc
 solid_parts false false true p e = cc
 solid_parts false false false p e = (refl, refl, refl)
+
+rest_parts : (a k i : Bool) → (a && (not k && not i)) ≡ true → (k ≡ false) × (i ≡ false)
+rest_parts false k i e = cc
+rest_parts true true i e = cc
+rest_parts true false true e = cc
+rest_parts true false false e = (refl, refl)
+
+-- the tests that content passes
+abbrev pub colon_found : Bool → List ℕ → Bool
+colon_found in_flow text = first text == 0x3A && (is_blank_or_breakz (slice_index text 1) || (in_flow && is_flow (slice_index text 1)))
+
+abbrev pub indicator_found : Bool → List ℕ → Bool
+indicator_found in_flow text = in_flow && is_flow (first text)
+
+no_indicator : (in_flow : Bool) (text : List ℕ) → is_content in_flow text ≡ true → (colon_found in_flow text ≡ false) × (indicator_found in_flow text ≡ false)
+no_indicator in_flow text e = rest_parts (not (is_blank_or_breakz (first text))) (colon_found in_flow text) (indicator_found in_flow text) e
+
+no_content_parts : (a b z k i : Bool) → (not (a || (b || z)) && (not k && not i)) ≡ false → a ≡ false → b ≡ false → (z ≡ true) ⊎ ((k ≡ true) ⊎ (i ≡ true))
+no_content_parts true b z k i e p q = cc
+no_content_parts false true z k i e p q = cc
+no_content_parts false false true k i e p q = inl refl
+no_content_parts false false false true i e p q = inr (inl refl)
+no_content_parts false false false false true e p q = inr (inr refl)
+no_content_parts false false false false false e p q = cc
+
+-- what stands there where neither content nor a blank nor a break does
+pub no_content_is : (in_flow : Bool) (text : List ℕ) → is_content in_flow text ≡ false → is_blank (first text) ≡ false → is_break (first text) ≡ false
+    → (is_z (first text) ≡ true) ⊎ ((colon_found in_flow text ≡ true) ⊎ (indicator_found in_flow text ≡ true))
+unfolding is_blank_or_breakz is_breakz
+no_content_is in_flow text e p q = no_content_parts (is_blank (first text)) (is_break (first text)) (is_z (first text)) (colon_found in_flow text) (indicator_found in_flow text) e p q
 
 pub no_gap_of : (c : ℕ) → is_blank c ≡ false → is_break c ≡ false → is_gap c ≡ false
 unfolding is_gap
@@ -101,7 +132,9 @@ same_separation (Folded breaks indent) (Folded others blanks) p q e = same_fold 
 
 -- what ends a scalar may not follow
 pub ended : {at : LayoutData} {g : Separation} {rest : List ℕ} → EndsPlain at g rest → is_content at.in_flow rest ≡ true → MayFollow at g rest → ⊥
-ended (no_content h) c f = cc
+ended {at} {rest = rest} (nothing_more h) c f = let n = (solid at.in_flow rest c).no_z in cc
+ended {at} {rest = rest} (colon h) c f = let n = (no_indicator at.in_flow rest c).0 in cc
+ended {at} {rest = rest} (flow_indicator h) c f = let n = (no_indicator at.in_flow rest c).1 in cc
 ended (comment h) c f = cc
 ended (comment_line h) c f = let n = f.0 in cc
 ended (outside_line h) c f = let n = f.1 in cc
