@@ -1,6 +1,6 @@
 -- What is kept while a plain scalar is read: the separation that was read since its last content.
-use Rattle.std.proofs.Common.{◌≡◌, ℕ, zero, suc, ◌+◌, ◌==◌, Bool, true, false, ◌&&◌, ◌||◌, List, [], ◌∷◌, ◌++◌, length, replicate, Option, refl, sym, ap, ap₂, ◌∙◌, subst, arith, append_assoc, append-nil, add-zero, length-append}
-use Rattle.std.proofs.Math.Bool.{or_assoc}
+use Rattle.std.proofs.Common.{◌≡◌, ℕ, zero, suc, ◌+◌, ◌==◌, true, false, ◌&&◌, ◌||◌, List, [], ◌∷◌, ◌++◌, length, replicate, Option, refl, sym, ap, ap₂, ◌∙◌, subst, arith, append_assoc, append-nil, add-zero, length-append}
+use Rattle.std.proofs.Math.Bool.{or_assoc, or-false}
 use Rattle.granit_base.specs.Classes.{is_blank, is_break, is_gap}
 use Rattle.granit_base.specs.Place.{first}
 use Rattle.granit_model.specs.Decoding.{folded}
@@ -84,13 +84,9 @@ is_indent_blank : (at : LayoutData) (s : PlainState) → s.on_new_line ≡ true 
 unfolding on_blank
 is_indent_blank at s e = rw e refl
 
-or_false : (a : Bool) → (a || false) ≡ a
-or_false true = refl
-or_false false = refl
-
 -- a tab at the end of some blanks
 left_tab-append : (block : Option ℕ) (column : ℕ) (bs : List ℕ) (b : ℕ) → left_tab block column (bs ++ b ∷ []) ≡ (left_tab block column bs || (b == 0x09 && is_left block (column + length bs)))
-left_tab-append block column [] b = or_false (b == 0x09 && is_left block column) ∙ ap (λ n. b == 0x09 && is_left block n) (sym (add-zero column))
+left_tab-append block column [] b = or-false (b == 0x09 && is_left block column) ∙ ap (λ n. b == 0x09 && is_left block n) (sym (add-zero column))
 left_tab-append block column (c ∷ bs) b =
     let first_is = c == 0x09 && is_left block column in
     ap (λ v. first_is || v) (left_tab-append block (suc column) bs b) ∙ sym (or_assoc first_is (left_tab block (suc column) bs) (b == 0x09 && is_left block (suc column + length bs)))

@@ -1,6 +1,7 @@
 -- The plain function answers the plain scalar that stands there, or refuses it with its cause.
 use Rattle.std.proofs.Common.{◌≡◌, ℕ, ◌==◌, Bool, true, false, cond, not, ◌&&◌, ◌||◌, List, [], ◌∷◌, ◌++◌, length, Option, Some, None, Result, Ok, Err, refl, sym, ap, ap₂, ◌∙◌, subst}
 use Rattle.std.specs.Prelude.{if◌then◌else◌}
+use Rattle.std.proofs.Math.Bool.{and-false, or-false}
 use Rattle.granit_base.specs.Classes.{is_printable}
 use Rattle.granit_base.specs.Place.{Mark}
 use Rattle.granit_base.specs.declared.style.ScalarStyle.TheVariants.{Plain}
@@ -22,17 +23,13 @@ use Rattle.granit_scalars.proofs.PlainTurns.{seen_content, plain_shortens}
 
 -- ---- the first character
 
-and_false : (a : Bool) → (a && false) ≡ false
-and_false true = refl
-and_false false = refl
-
 first_turn : (at : LayoutData) (h : Here) → is_content at.in_flow h.unread.text ≡ true → plain_turn at (mark_of h) (plain_start h) ≡ Ok (Some (next_char h ∷ []), on_content (plain_start h))
 unfolding plain_turn
 first_turn at h y =
     let s = solid at.in_flow h.unread.text y in
     let b = s.no_blank in
     let k = s.no_break in
-    let none : meets_comment (plain_start h) ≡ false = and_false (next_char h == 0x23) in
+    let none : meets_comment (plain_start h) ≡ false = and-false (next_char h == 0x23) in
     rw (b, k, none, y) refl
 
 first_piece : (at : LayoutData) (h : Here) → is_content at.in_flow h.unread.text ≡ true
@@ -62,15 +59,11 @@ abbrev pub Answered : LayoutData → Here → Result (PlainRead × Here) Fault �
 Answered at h (Ok (read, after)) = AnswersPlain at h read after
 Answered at h (Err f) = RefusesPlain at h f.kind f.mark
 
-or_false : (a : Bool) → (a || false) ≡ a
-or_false true = refl
-or_false false = refl
-
 cut_is : (at : LayoutData) (tail : Separation) (s : PlainState) → Kept at tail s → meets_comment s ≡ is_cut at tail s.here.unread.text
 cut_is at (OnLine blanks) s k =
     ap₂ (λ (t l : Bool). next_char s.here == 0x23 && (t || (not l && not (length s.pending == 0)))) k.tab k.line ∙ ap (λ (p : List ℕ). next_char s.here == 0x23 && not (length p == 0)) k.pending
 cut_is at (Folded breaks indent) s k =
-    ap₂ (λ (t l : Bool). next_char s.here == 0x23 && (t || (not l && not (length s.pending == 0)))) k.tab k.line ∙ ap (λ v. next_char s.here == 0x23 && v) (or_false (left_tab at.block_column 0 indent))
+    ap₂ (λ (t l : Bool). next_char s.here == 0x23 && (t || (not l && not (length s.pending == 0)))) k.tab k.line ∙ ap (λ v. next_char s.here == 0x23 && v) (or-false (left_tab at.block_column 0 indent))
 
 line_is : (at : LayoutData) (tail : Separation) (s : PlainState) → Kept at tail s → s.on_new_line ≡ is_folded tail
 line_is at (OnLine blanks) s k = k.line

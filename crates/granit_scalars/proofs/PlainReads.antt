@@ -1,5 +1,6 @@
 -- What is read from a state on: the rest of a plain scalar, and what ends it.
 use Rattle.std.proofs.Common.{◌≡◌, ℕ, zero, suc, ◌==◌, Bool, true, false, cond, not, ◌&&◌, ◌||◌, List, [], ◌∷◌, ◌++◌, length, replicate, Option, Some, Result, Ok, Err, refl, sym, ap, ap₂, ◌∙◌, subst, append_assoc, ◌⊎◌, inl, inr}
+use Rattle.std.proofs.lemmas.Bool.{and_parts, and_left, or_parts, or_left, or_cases}
 use Rattle.granit_base.specs.Classes.{is_blank, is_break, is_z, is_gap, is_printable}
 use Rattle.granit_base.specs.Place.{Mark, first}
 use Rattle.granit_error.specs.FaultKind.{TabInPlainScalar}
@@ -85,14 +86,6 @@ value_on at (Folded breaks indent) s more k c =
 
 -- ---- tests
 
-and_left : (a b : Bool) → (a && b) ≡ true → a ≡ true
-and_left true b e = refl
-and_left false b e = e
-
-and_right : (a b : Bool) → (a && b) ≡ true → b ≡ true
-and_right true b e = e
-and_right false b e = cc
-
 not_left : (a b : Bool) → (a && b) ≡ false → b ≡ true → a ≡ false
 not_left true b e f = cc
 not_left false b e f = refl
@@ -101,27 +94,13 @@ not_right : (a b : Bool) → (a && b) ≡ false → a ≡ true → b ≡ false
 not_right true b e f = e
 not_right false b e f = cc
 
-and_none : (a b : Bool) → a ≡ false → (a && b) ≡ false
-and_none a b e = ap (λ v. v && b) e
-
 and_not : (a b : Bool) → b ≡ true → (a && not b) ≡ false
 and_not true b e = ap not e
 and_not false b e = refl
 
-neither : (a b : Bool) → (a || b) ≡ false → (a ≡ false) × (b ≡ false)
-neither true b e = cc
-neither false b e = (refl, e)
-
 neither_gap : (c : ℕ) → is_gap c ≡ false → (is_blank c ≡ false) × (is_break c ≡ false)
 unfolding is_gap
-neither_gap c e = neither (is_blank c) (is_break c) e
-
-either : (a b : Bool) → (a || b) ≡ true → (a ≡ true) ⊎ (b ≡ true)
-either true b e = inl refl
-either false b e = inr e
-
-or_first : (a b : Bool) → a ≡ true → (a || b) ≡ true
-or_first a b e = ap (λ v. v || b) e
+neither_gap c e = or_parts (is_blank c) (is_break c) e
 
 -- a comment behind blanks, and behind none
 behind_blanks : (tab line none : Bool) → tab ≡ false → line ≡ false → none ≡ false → (tab || (not line && not none)) ≡ true
@@ -148,8 +127,8 @@ follows at (Folded breaks indent) s k m t l c =
     let outside = is_outside at s.here.place.column in
     let hash = starts_comment s.here.unread.text in
     let before : ((hash || outside) || mark) ≡ false = not_right s.on_new_line ((hash || outside) || mark) l k.line in
-    let parts = neither (hash || outside) mark before in
-    let more = neither hash outside parts.0 in (
+    let parts = or_parts (hash || outside) mark before in
+    let more = or_parts hash outside parts.0 in (
       more.0,
       ap (is_outside at) (sym k.column) ∙ more.1,
       sym k.tab ∙ not_left s.left_tab (not (is_z (next_char s.here))) t (ap not c.no_z),
@@ -211,6 +190,9 @@ found at s g behind h n over_is = record { whole = h.text; goes = ends; separati
 stopped : (at : LayoutData) (s : PlainState) (g : Separation) (behind : Here) → Stays at g behind s → is_gap (next_char s.here) ≡ false → EndsPlain at g s.here.unread.text → tab_refused at g s.here.unread.text ≡ false → FindsText at behind [] s
 stopped at s g behind h n over_is u = record { source = []; tail = g; finds = found at s g behind h n over_is; stays = h; untabbed = u; value = refl; characters = refl }
 
+comment_parts : (s : PlainState) → meets_comment s ≡ true → (starts_comment s.here.unread.text ≡ true) × ((s.left_tab || (not s.on_new_line && not (length s.pending == 0))) ≡ true)
+comment_parts s y = and_parts (starts_comment s.here.unread.text) (s.left_tab || (not s.on_new_line && not (length s.pending == 0))) y
+
 no_content_ends : (at : LayoutData) (g : Separation) (rest : List ℕ) → (is_z (first rest) ≡ true) ⊎ ((colon_found at.in_flow rest ≡ true) ⊎ (indicator_found at.in_flow rest ≡ true)) → EndsPlain at g rest
 no_content_ends at g rest (inl y) = nothing_more y
 no_content_ends at g rest (inr (inl y)) = colon y
@@ -218,25 +200,25 @@ no_content_ends at g rest (inr (inr y)) = flow_indicator y
 
 comment_ends : (at : LayoutData) (g : Separation) (s : PlainState) → Kept at g s → meets_comment s ≡ true → EndsPlain at g s.here.unread.text
 comment_ends at (OnLine []) s k y =
-    absurd (behind_nothing s.left_tab s.on_new_line (length s.pending == 0) k.tab (ap (λ (p : List ℕ). length p == 0) k.pending) (and_right (starts_comment s.here.unread.text) (s.left_tab || (not s.on_new_line && not (length s.pending == 0))) y))
-comment_ends at (OnLine (b ∷ bs)) s k y = comment (and_left (starts_comment s.here.unread.text) (s.left_tab || (not s.on_new_line && not (length s.pending == 0))) y)
-comment_ends at (Folded breaks indent) s k y = comment_line (and_left (starts_comment s.here.unread.text) (s.left_tab || (not s.on_new_line && not (length s.pending == 0))) y)
+    absurd (behind_nothing s.left_tab s.on_new_line (length s.pending == 0) k.tab (ap (λ (p : List ℕ). length p == 0) k.pending) (comment_parts s y).1)
+comment_ends at (OnLine (b ∷ bs)) s k y = comment (comment_parts s y).0
+comment_ends at (Folded breaks indent) s k y = comment_line (comment_parts s y).0
 
 comment_untabbed : (at : LayoutData) (g : Separation) (s : PlainState) → meets_comment s ≡ true → tab_refused at g s.here.unread.text ≡ false
 comment_untabbed at (OnLine blanks) s y = refl
 comment_untabbed at (Folded breaks indent) s y =
     and_not (left_tab at.block_column 0 indent && not (is_z (next_char s.here))) (starts_comment s.here.unread.text)
-    (and_left (starts_comment s.here.unread.text) (s.left_tab || (not s.on_new_line && not (length s.pending == 0))) y)
+    (comment_parts s y).0
 
 untabbed : (at : LayoutData) (g : Separation) (s : PlainState) → Kept at g s → tab_found s ≡ false → tab_refused at g s.here.unread.text ≡ false
 untabbed at (OnLine blanks) s k t = refl
 untabbed at (Folded breaks indent) s k t =
-    and_none (left_tab at.block_column 0 indent && not (is_z (next_char s.here))) (not (starts_comment s.here.unread.text)) (ap (λ v. v && not (is_z (next_char s.here))) (sym k.tab) ∙ t)
+    and_left (left_tab at.block_column 0 indent && not (is_z (next_char s.here))) (not (starts_comment s.here.unread.text)) (ap (λ v. v && not (is_z (next_char s.here))) (sym k.tab) ∙ t)
 
 line_parts : (at : LayoutData) (breaks indent : List ℕ) (s : PlainState) → s.here.place.column ≡ length indent
     → (((starts_comment s.here.unread.text || is_outside at s.here.place.column) ≡ true) ⊎ ((s.here.place.column == 0 && is_document_mark s.here.unread.text) ≡ true)) → EndsPlain at (Folded breaks indent) s.here.unread.text
 line_parts at breaks indent s e (inr y) = document_mark (ap (λ n. n == 0 && is_document_mark s.here.unread.text) (sym e) ∙ y)
-line_parts at breaks indent s e (inl y) = line_or at breaks indent s e (either (starts_comment s.here.unread.text) (is_outside at s.here.place.column) y)
+line_parts at breaks indent s e (inl y) = line_or at breaks indent s e (or_cases (starts_comment s.here.unread.text) (is_outside at s.here.place.column) y)
   where
     line_or : (at : LayoutData) (breaks indent : List ℕ) (s : PlainState) → s.here.place.column ≡ length indent
         → (starts_comment s.here.unread.text ≡ true) ⊎ (is_outside at s.here.place.column ≡ true) → EndsPlain at (Folded breaks indent) s.here.unread.text
@@ -244,19 +226,19 @@ line_parts at breaks indent s e (inl y) = line_or at breaks indent s e (either (
     line_or at breaks indent s e (inr y) = outside_line (ap (is_outside at) (sym e) ∙ y)
 
 line_ends : (at : LayoutData) (g : Separation) (s : PlainState) → Kept at g s → line_found at s ≡ true → EndsPlain at g s.here.unread.text
-line_ends at (OnLine blanks) s k y = absurd (let n : s.on_new_line ≡ true = and_left s.on_new_line (ends_before_line at s.here) y in let m = k.line in cc)
+line_ends at (OnLine blanks) s k y = absurd (let n : s.on_new_line ≡ true = (and_parts s.on_new_line (ends_before_line at s.here) y).0 in let m = k.line in cc)
 line_ends at (Folded breaks indent) s k y =
     line_parts at breaks indent s k.column
-    (either (starts_comment s.here.unread.text || is_outside at s.here.place.column) (s.here.place.column == 0 && is_document_mark s.here.unread.text)
-    (and_right s.on_new_line (ends_before_line at s.here) y))
+    (or_cases (starts_comment s.here.unread.text || is_outside at s.here.place.column) (s.here.place.column == 0 && is_document_mark s.here.unread.text)
+    (and_parts s.on_new_line (ends_before_line at s.here) y).1)
 
 tab_ends : (at : LayoutData) (start : Mark) (g : Separation) (s : PlainState) (behind : Here) → Stays at g behind s → is_gap (next_char s.here) ≡ false → meets_comment s ≡ false → tab_found s ≡ true
     → FindsTab at start behind (record { kind = TabInPlainScalar; mark = start })
-tab_ends at start (OnLine blanks) s behind h n m t = absurd (let y : s.left_tab ≡ true = and_left s.left_tab (not (is_z (next_char s.here))) t in let k = h.kept in let no = k.tab in cc)
+tab_ends at start (OnLine blanks) s behind h n m t = absurd (let y : s.left_tab ≡ true = (and_parts s.left_tab (not (is_z (next_char s.here))) t).0 in let k = h.kept in let no = k.tab in cc)
 tab_ends at start (Folded breaks indent) s behind h n m t =
     let k = h.kept in
-    let tab : s.left_tab ≡ true = and_left s.left_tab (not (is_z (next_char s.here))) t in
-    let hash : starts_comment s.here.unread.text ≡ false = comment_none s m (or_first s.left_tab (not s.on_new_line && not (length s.pending == 0)) tab) in
+    let tab : s.left_tab ≡ true = (and_parts s.left_tab (not (is_z (next_char s.here))) t).0 in
+    let hash : starts_comment s.here.unread.text ≡ false = comment_none s m (or_left s.left_tab (not s.on_new_line && not (length s.pending == 0)) tab) in
     record {
       source = [];
       tail = Folded breaks indent;

@@ -1,6 +1,7 @@
 -- A plain scalar's spelling goes one way, so what ends one leaves no longer one.
 use Rattle.std.proofs.Common.{◌≡◌, ℕ, ◌==◌, Bool, true, false, not, ◌&&◌, ◌||◌, List, [], ◌∷◌, ◌++◌, refl, sym, ap, ap₂, ◌∙◌, subst, append_assoc, append-nil, ◌⊎◌, inl, inr}
 use Rattle.std.specs.Prelude.{slice_index}
+use Rattle.std.proofs.lemmas.Bool.{or_from, or_right}
 use Rattle.granit_base.specs.Classes.{is_blank, is_break, is_breakz, is_blank_or_breakz, is_flow, is_gap, is_z}
 use Rattle.granit_base.specs.Place.{first}
 use Rattle.granit_model.specs.Gap.{Each}
@@ -54,7 +55,7 @@ no_content_is in_flow text e p q = no_content_parts (is_blank (first text)) (is_
 
 pub no_gap_of : (c : ℕ) → is_blank c ≡ false → is_break c ≡ false → is_gap c ≡ false
 unfolding is_gap
-no_gap_of c n m = ap₂ (λ (a b : Bool). a || b) n m
+no_gap_of c n m = or_from (is_blank c) (is_break c) n m
 
 pub solid : (flow : Bool) (text : List ℕ) → is_content flow text ≡ true → Solid (first text)
 unfolding is_blank_or_breakz is_breakz
@@ -68,13 +69,9 @@ blank_gap : (c : ℕ) → is_blank c ≡ true → is_gap c ≡ true
 unfolding is_gap
 blank_gap c y = ap (λ (b : Bool). b || is_break c) y
 
-any_or : (a b : Bool) → b ≡ true → (a || b) ≡ true
-any_or true b e = refl
-any_or false b e = e
-
 pub break_gap : (c : ℕ) → is_break c ≡ true → is_gap c ≡ true
 unfolding is_gap
-break_gap c y = any_or (is_blank c) (is_break c) y
+break_gap c y = or_right (is_blank c) (is_break c) y
 
 pub blanks_gap : (bs : List ℕ) → Each is_blank bs → Each is_gap bs
 blanks_gap [] y = tt
