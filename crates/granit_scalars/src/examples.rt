@@ -97,6 +97,18 @@ pub fn refusals_of_the_examples()
     ensures dash_letter { plain_line (layout None true false) (codes "[-a]") 1 ≡ codes "Scalar plain \"-a\" 1:1:2-3:1:4\n" }
 {}
 
+/// From examples 7.10 and 7.12 of YAML 1.2.2.
+pub fn examples_of_the_specification()
+    ensures vector { plain_line (layout (Some 0) false false) (codes "- ::vector\n") 2 ≡ codes "Scalar plain \"::vector\" 2:1:3-10:1:11\n" }
+    ensures words { plain_line (layout (Some 0) false false) (codes "- Up, up, and away!\n") 2 ≡ codes "Scalar plain \"Up, up, and away!\" 2:1:3-19:1:20\n" }
+    ensures number { plain_line (layout (Some 0) false false) (codes "- -123\n") 2 ≡ codes "Scalar plain \"-123\" 2:1:3-6:1:7\n" }
+    ensures address { plain_line (layout (Some 0) false false) (codes "- http://example.com/foo#bar\n") 2 ≡ codes "Scalar plain \"http://example.com/foo#bar\" 2:1:3-28:1:29\n" }
+    ensures vector_in_flow { plain_line (layout (Some 0) true false) (codes "- [ ::vector,\n  -123,\n  http://example.com/foo#bar ]\n") 4 ≡ codes "Scalar plain \"::vector\" 4:1:5-12:1:13\n" }
+    ensures number_in_flow { plain_line (layout (Some 0) true false) (codes "- [ ::vector,\n  -123,\n  http://example.com/foo#bar ]\n") 16 ≡ codes "Scalar plain \"-123\" 16:2:3-20:2:7\n" }
+    ensures address_in_flow { plain_line (layout (Some 0) true false) (codes "- [ ::vector,\n  -123,\n  http://example.com/foo#bar ]\n") 24 ≡ codes "Scalar plain \"http://example.com/foo#bar\" 24:3:3-50:3:29\n" }
+    ensures lines { plain_line (layout None false false) (codes "1st non-empty\n\n 2nd non-empty \n\t3rd non-empty\n") 0 ≡ codes "Scalar plain \"1st non-empty\\n2nd non-empty 3rd non-empty\" 0:1:1-45:4:15\n" }
+{}
+
 /// Where reading stands behind a scalar, whether a break was read, and the `#` that cut it short.
 pub fn places_behind_the_examples()
     ensures blanks { behind_line (layout (Some 0) false false) (codes "k: a  ") 3 ≡ behind 6 1 6 None false }

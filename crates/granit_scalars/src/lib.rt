@@ -6,9 +6,9 @@ mod examples;
 mod plain;
 
 pub use examples::{
-    comments_of_the_examples, ends_of_the_examples, folds_of_quoted_lines, folds_of_the_examples,
-    places_behind_the_examples, refusals_of_the_examples, stops_of_the_examples,
-    tabs_of_the_examples,
+    comments_of_the_examples, ends_of_the_examples, examples_of_the_specification,
+    folds_of_quoted_lines, folds_of_the_examples, places_behind_the_examples,
+    refusals_of_the_examples, stops_of_the_examples, tabs_of_the_examples,
 };
 pub use plain::{
     every_plain_answer_stands, every_plain_refusal_has_its_cause, every_plain_scalar_is_answered,
