@@ -5,8 +5,10 @@ pub mod Events
 pub mod Extent
 pub mod FirstMention
 pub mod FlowText
+pub mod Folding
 pub mod Gap
 pub mod Here
+pub mod LayoutData
 pub mod Lexeme
 pub mod Line
 pub mod Machine
@@ -17,6 +19,8 @@ pub mod Path
 pub mod Pieces
 pub mod Place
 pub mod PlainEvent
+pub mod PlainExtent
+pub mod PlainScalar
 pub mod Property
 pub mod Quoted
 pub mod ReaderState
