@@ -5,6 +5,7 @@ pub mod FirstMention
 pub mod FlowText
 pub mod Gap
 pub mod Here
+pub mod LayoutData
 pub mod Lexeme
 pub mod Line
 pub mod Machine
@@ -15,6 +16,7 @@ pub mod Path
 pub mod Pieces
 pub mod Place
 pub mod PlainEvent
+pub mod PlainScalar
 pub mod ReaderState
 pub mod Reading
 pub mod Start
