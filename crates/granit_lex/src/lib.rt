@@ -2,7 +2,9 @@
 #![tactic(auto)]
 
 mod comment;
+mod cursor;
 mod token;
 
 pub use comment::Comment;
+pub use cursor::Cursor;
 pub use token::{Layout, Lexed, Token, TokenType};

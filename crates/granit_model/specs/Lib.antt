@@ -1,4 +1,5 @@
 pub mod Cause
+pub mod Comment
 pub mod Events
 pub mod Extent
 pub mod FirstMention
@@ -9,6 +10,7 @@ pub mod LayoutData
 pub mod Lexeme
 pub mod Line
 pub mod Machine
+pub mod Moves
 pub mod Node
 pub mod OpenPlace
 pub mod Outcome
