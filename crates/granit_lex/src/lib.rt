@@ -2,9 +2,11 @@
 #![tactic(auto)]
 
 mod comment;
+mod comments;
 mod cursor;
 mod token;
 
 pub use comment::Comment;
+pub use comments::{scan_comment, skip_comment};
 pub use cursor::Cursor;
 pub use token::{Layout, Lexed, Token, TokenType};

@@ -51,15 +51,16 @@ behind_comment h =
 unfoldable pub skipped_comment : Here → Result (Unit {0} × Here) Fault
 skipped_comment h = behind_comment (past_comment h)
 
-abbrev pub comment_read : Here → CommentRead
-comment_read h = record {
+-- the comment that begins here and ends there
+abbrev pub comment_read : Here → Here → CommentRead
+comment_read h after = record {
   text = record { characters = chunk is_comment_char (step h); is_borrowed = false };
-  source = record { start = mark_of h; end = mark_of (past_comment h) };
+  source = record { start = mark_of h; end = mark_of after };
 }
 
 -- the comment that begins here with its `#`
 unfoldable pub comment : Here → Result (CommentRead × Here) Fault
-comment h = skipped_comment h >>= λ x. Ok (comment_read h, x.1)
+comment h = skipped_comment h >>= λ x. Ok (comment_read h x.1, x.1)
 
 -- ---- what is true of what is read
 
