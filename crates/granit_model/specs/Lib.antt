@@ -1,5 +1,6 @@
 pub mod Cause
 pub mod Comment
+pub mod Decoding
 pub mod Events
 pub mod Extent
 pub mod FirstMention
@@ -18,6 +19,7 @@ pub mod Path
 pub mod Pieces
 pub mod Place
 pub mod PlainEvent
+pub mod PlainExtent
 pub mod PlainScalar
 pub mod ReaderState
 pub mod Reading

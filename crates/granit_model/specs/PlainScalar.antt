@@ -2,7 +2,7 @@
 use Rattle.std.specs.Prelude.{ℕ, ◌==◌, Bool, true, false, ◌&&◌, ◌||◌, not, if◌then◌else◌, List, [], ◌∷◌, ◌++◌, length, slice_index, Option, Some, None, Result, Ok, Err}
 use Rattle.std.specs.List.{find}
 use Rattle.granit_base.specs.Classes.{is_blank, is_break, is_z, is_blank_or_breakz, is_flow, is_printable}
-use Rattle.granit_base.specs.Place.{Mark}
+use Rattle.granit_base.specs.Place.{Mark, first}
 use Rattle.granit_base.specs.declared.style.ScalarStyle.TheVariants.{Plain}
 use Rattle.granit_error.specs.FaultKind.{FaultKind, PlainScalarStartsWithDashFlowIndicator, TabInPlainScalar, UnexpectedCharacter}
 use Rattle.granit_model.specs.Here.{Here, text_len, next_char, mark_of, step}
@@ -40,20 +40,19 @@ past_break h =
     if next_char h == 0x0D && slice_index h.unread.text 1 == 0x0A then step (step h)
     else step h
 
--- `---` or `...` in column 0, with a blank, a break, NUL or the end behind it (9.1.2)
-abbrev pub at_document_mark : Here → Bool
-at_document_mark h =
-    h.place.column == 0
-    && ((((slice_index h.unread.text 0 == 0x2D && slice_index h.unread.text 1 == 0x2D) && slice_index h.unread.text 2 == 0x2D) && is_blank_or_breakz (slice_index h.unread.text 3))
-    || (((slice_index h.unread.text 0 == 0x2E && slice_index h.unread.text 1 == 0x2E) && slice_index h.unread.text 2 == 0x2E) && is_blank_or_breakz (slice_index h.unread.text 3)))
+-- whether a text begins with `---` or `...`, with a blank, a break, NUL or the end behind it (9.1.2)
+abbrev pub is_document_mark : List ℕ → Bool
+is_document_mark text =
+    (((slice_index text 0 == 0x2D && slice_index text 1 == 0x2D) && slice_index text 2 == 0x2D) && is_blank_or_breakz (slice_index text 3))
+    || (((slice_index text 0 == 0x2E && slice_index text 1 == 0x2E) && slice_index text 2 == 0x2E) && is_blank_or_breakz (slice_index text 3))
 
 -- whether a character, with the next one behind it, doesn't end a plain scalar as an indicator
 abbrev pub can_be_plain : Bool → ℕ → ℕ → Bool
 can_be_plain in_flow c next = not (c == 0x3A && (is_blank_or_breakz next || (in_flow && is_flow next))) && not (in_flow && is_flow c)
 
--- whether a plain scalar takes the next character as content
-abbrev pub is_content : Bool → Here → Bool
-is_content in_flow h = not (is_blank_or_breakz (next_char h)) && can_be_plain in_flow (next_char h) (slice_index h.unread.text 1)
+-- whether a plain scalar takes the first character of a text as content
+abbrev pub is_content : Bool → List ℕ → Bool
+is_content in_flow text = not (is_blank_or_breakz (first text)) && can_be_plain in_flow (first text) (slice_index text 1)
 
 -- what stands for the blanks and breaks between two characters of content: one break gives a space
 abbrev pub between : PlainState → List ℕ
@@ -81,7 +80,7 @@ meets_comment s = next_char s.here == 0x23 && (s.left_tab || (not s.on_new_line 
 
 -- whether a line that begins here is no part of the scalar
 abbrev pub ends_before_line : LayoutData → Here → Bool
-ends_before_line at h = (next_char h == 0x23 || is_outside at h.place.column) || at_document_mark h
+ends_before_line at h = (next_char h == 0x23 || is_outside at h.place.column) || (h.place.column == 0 && is_document_mark h.unread.text)
 
 -- the next character, which the scalar takes or ends before; a tab left of the margin is refused where content follows
 unfoldable pub plain_turn : LayoutData → Mark → PlainState → Result (Option (List ℕ) × PlainState) Fault
@@ -91,7 +90,7 @@ plain_turn at start s =
     else if meets_comment s then Ok (None, s)
     else if s.left_tab && not (is_z (next_char s.here)) then fails_at TabInPlainScalar start
     else if s.on_new_line && ends_before_line at s.here then Ok (None, s)
-    else if is_content at.in_flow s.here then Ok (Some (between s ++ next_char s.here ∷ []), on_content s)
+    else if is_content at.in_flow s.here.unread.text then Ok (Some (between s ++ next_char s.here ∷ []), on_content s)
     else Ok (None, s)
 
 abbrev pub plain_len : PlainState → ℕ

@@ -1,0 +1,118 @@
+-- How far a plain scalar goes (YAML 1.2.2, 7.3.3), and what stands behind it.
+use Rattle.std.specs.Prelude.{◌≡◌, ℕ, zero, suc, ◌==◌, Bool, true, false, ◌&&◌, ◌||◌, not, if◌then◌else◌, List, [], ◌∷◌, ◌++◌, length, Option, Some, None}
+use Rattle.granit_base.specs.Classes.{is_blank, is_break, is_z, is_gap}
+use Rattle.granit_base.specs.Place.{first}
+use Rattle.granit_base.specs.declared.style.ScalarStyle.TheVariants.{Plain}
+use Rattle.granit_model.specs.Decoding.{folded}
+use Rattle.granit_model.specs.Gap.{Each}
+use Rattle.granit_model.specs.Here.{Here, mark_of, step}
+use Rattle.granit_model.specs.LayoutData.{LayoutData, is_left, is_outside}
+use Rattle.granit_model.specs.Lexeme.{Scalar}
+use Rattle.granit_model.specs.PlainScalar.{PlainRead, is_content, is_document_mark}
+
+-- What stands between two characters of content, or behind the last one: blanks (s-separate-in-line), or breaks with the blanks before and between
+-- them, and the blanks that begin the line behind them (s-flow-folded).
+pub data Separation : Type 0 where
+  OnLine : (blanks : List ℕ) → Separation
+  Folded : (breaks indent : List ℕ) → Separation
+
+abbrev pub separation_text : Separation → List ℕ
+separation_text (OnLine blanks) = blanks
+separation_text (Folded breaks indent) = breaks ++ indent
+
+-- blanks and breaks up to a break
+pub data UpToBreak : List ℕ → Type 0 where
+  at_break : {c : ℕ} → is_break c ≡ true → UpToBreak (c ∷ [])
+  before_break : {c : ℕ} {cs : List ℕ} → is_gap c ≡ true → UpToBreak cs → UpToBreak (c ∷ cs)
+
+abbrev pub IsSeparation : Separation → Type 0
+IsSeparation (OnLine blanks) = Each is_blank blanks
+IsSeparation (Folded breaks indent) = UpToBreak breaks × Each is_blank indent
+
+-- whether a tab left of where a node may stand is among the blanks from a column on
+abbrev pub left_tab : Option ℕ → ℕ → List ℕ → Bool
+left_tab block column [] = false
+left_tab block column (c ∷ cs) = (c == 0x09 && is_left block column) || left_tab block (suc column) cs
+
+abbrev pub starts_comment : List ℕ → Bool
+starts_comment text = first text == 0x23
+
+-- Whether content that begins here may stand behind a separation: `#` directly behind content alone, and on a further line nothing that is left of
+-- its block, that a tab left of it indents, or that is a document mark.
+abbrev pub MayFollow : LayoutData → Separation → List ℕ → Type 0
+MayFollow at (OnLine []) text = Unit {0}
+MayFollow at (OnLine (b ∷ bs)) text = starts_comment text ≡ false
+MayFollow at (Folded breaks indent) text =
+    (starts_comment text ≡ false) × (is_outside at (length indent) ≡ false) × (left_tab at.block_column 0 indent ≡ false) × ((length indent == 0 && is_document_mark text) ≡ false)
+
+-- how a plain scalar goes on behind a character of content, in front of what stands behind it: by characters of content, with separations between
+pub data GoesOn (at : LayoutData) : (source behind : List ℕ) → Type 0 where
+  ends : {behind : List ℕ} → GoesOn at [] behind
+  goes_on : {source behind cs : List ℕ} (g : Separation) (c : ℕ) → source ≡ separation_text g ++ c ∷ cs → IsSeparation g
+      → is_content at.in_flow (c ∷ (cs ++ behind)) ≡ true → MayFollow at g (c ∷ (cs ++ behind)) → GoesOn at cs behind → GoesOn at source behind
+
+-- the characters that spell a plain scalar, in front of what stands behind it
+pub record SpellsPlain (at : LayoutData) (source behind : List ℕ) : Type 0 where
+  pub start : ℕ
+  pub more : List ℕ
+  pub begins : source ≡ start ∷ more
+  pub content : is_content at.in_flow (start ∷ (more ++ behind)) ≡ true
+  pub goes : GoesOn at more behind
+
+-- a plain scalar that begins a text: as far as its spelling goes
+pub record PlainExtent (at : LayoutData) (text source behind : List ℕ) : Type 0 where
+  pub whole : text ≡ source ++ behind
+  pub spelled : SpellsPlain at source behind
+  pub longest : (more rest : List ℕ) → behind ≡ more ++ rest → SpellsPlain at (source ++ more) rest → more ≡ []
+
+-- What ends a plain scalar, behind a separation: nothing that can be content (the end, NUL, `:` before a blank, a break, NUL or the end, in flow also
+-- before a flow indicator, and in flow a flow indicator), a comment, or a further line that is left of its block, that such a tab indents or that begins with a document mark.
+pub data EndsPlain (at : LayoutData) : Separation → List ℕ → Type 0 where
+  no_content : {g : Separation} {rest : List ℕ} → is_content at.in_flow rest ≡ false → EndsPlain at g rest
+  comment : {b : ℕ} {bs rest : List ℕ} → starts_comment rest ≡ true → EndsPlain at (OnLine (b ∷ bs)) rest
+  comment_line : {breaks indent rest : List ℕ} → starts_comment rest ≡ true → EndsPlain at (Folded breaks indent) rest
+  outside_line : {breaks indent rest : List ℕ} → is_outside at (length indent) ≡ true → EndsPlain at (Folded breaks indent) rest
+  tab_line : {breaks indent rest : List ℕ} → left_tab at.block_column 0 indent ≡ true → EndsPlain at (Folded breaks indent) rest
+  document_mark : {breaks indent rest : List ℕ} → (length indent == 0 && is_document_mark rest) ≡ true → EndsPlain at (Folded breaks indent) rest
+
+-- on over as many characters as a list has
+abbrev pub over : List ℕ → Here → Here
+over [] h = h
+over (c ∷ cs) h = over cs (step h)
+
+-- a plain scalar that stands here, and what stands behind it
+pub record PlainStands (at : LayoutData) (h : Here) (source : List ℕ) (tail : Separation) (rest : List ℕ) : Type 0 where
+  pub extent : PlainExtent at h.unread.text source (separation_text tail ++ rest)
+  pub separation : IsSeparation tail
+  pub behind : is_gap (first rest) ≡ false
+  pub ends : EndsPlain at tail rest
+
+-- whether a line behind the scalar holds more than a comment, and a tab left of its block indents it
+abbrev pub tab_refused : LayoutData → Separation → List ℕ → Bool
+tab_refused at (OnLine blanks) rest = false
+tab_refused at (Folded breaks indent) rest = (left_tab at.block_column 0 indent && not (is_z (first rest))) && not (starts_comment rest)
+
+-- whether a comment behind the scalar may stand before more of its text
+abbrev pub is_cut : LayoutData → Separation → List ℕ → Bool
+is_cut at (OnLine blanks) rest = starts_comment rest && not (length blanks == 0)
+is_cut at (Folded breaks indent) rest = starts_comment rest && left_tab at.block_column 0 indent
+
+abbrev pub is_folded : Separation → Bool
+is_folded (OnLine blanks) = false
+is_folded (Folded breaks indent) = true
+
+-- the place behind it
+abbrev pub end_of : Here → List ℕ → Here
+end_of h source = over source h
+
+-- where the next lexeme or comment stands
+abbrev pub behind_of : Here → List ℕ → Separation → Here
+behind_of h source tail = over (separation_text tail) (over source h)
+
+-- what is answered for it
+abbrev pub plain_answer : LayoutData → Here → List ℕ → Separation → List ℕ → PlainRead
+plain_answer at h source tail rest = record {
+  lexeme = record { kind = Scalar Plain (record { characters = folded source; is_borrowed = false }); source = record { start = mark_of h; end = mark_of (end_of h source) } };
+  cut_by_comment = if not at.in_flow && is_cut at tail rest then Some (mark_of (behind_of h source tail)) else None;
+  on_new_line = is_folded tail;
+}

@@ -1,0 +1,5 @@
+pub mod Folding
+pub mod PlainSpelling
+pub mod Stepping
+pub mod PlainTurns
+pub mod Turning

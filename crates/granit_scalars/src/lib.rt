@@ -1,0 +1,2 @@
+//! The laws of scalars: each is the contract of a function without a body.
+#![tactic(auto)]
