@@ -1,3 +1,4 @@
 pub mod CommentLemmas
 pub mod MoveLemmas
+pub mod PlainLemmas
 pub mod TrimLemmas

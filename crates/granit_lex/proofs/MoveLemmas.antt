@@ -41,12 +41,12 @@ step_along h some line =
     rw (left, line, past_one h.unread some) refl
 
 -- a run that is there begins with a character that passes
-record Begins (test : List ℕ → Bool) (n : ℕ) (text : List ℕ) : Type 0 where
-  some : 0 < length text
-  passes : test text ≡ true
-  more : n ≤ run_length test (drop 1 text)
+pub record Begins (test : List ℕ → Bool) (n : ℕ) (text : List ℕ) : Type 0 where
+  pub some : 0 < length text
+  pub passes : test text ≡ true
+  pub more : n ≤ run_length test (drop 1 text)
 
-run_begins : (test : List ℕ → Bool) (n : ℕ) (text : List ℕ) → suc n ≤ run_length test text → Begins test n text
+pub run_begins : (test : List ℕ → Bool) (n : ℕ) (text : List ℕ) → suc n ≤ run_length test text → Begins test n text
 unfolding run_length
 run_begins test n [] fits = absurd (omega arith)
 run_begins test n (c ∷ cs) fits =

@@ -4,9 +4,11 @@
 mod comment;
 mod comments;
 mod cursor;
+mod plain;
 mod token;
 
 pub use comment::Comment;
 pub use comments::{scan_comment, skip_comment};
 pub use cursor::Cursor;
+pub use plain::scan_plain_scalar;
 pub use token::{Layout, Lexed, Token, TokenType};
