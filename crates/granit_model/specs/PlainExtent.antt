@@ -1,14 +1,15 @@
 -- How far a plain scalar goes (YAML 1.2.2, 7.3.3), and what stands behind it.
-use Rattle.std.specs.Prelude.{◌≡◌, ℕ, zero, suc, ◌==◌, Bool, true, false, ◌&&◌, ◌||◌, not, if◌then◌else◌, List, [], ◌∷◌, ◌++◌, length, Option, Some, None}
-use Rattle.granit_base.specs.Classes.{is_blank, is_break, is_z, is_gap}
-use Rattle.granit_base.specs.Place.{first}
+use Rattle.std.specs.Prelude.{◌≡◌, ℕ, suc, ◌==◌, Bool, true, false, ◌&&◌, ◌||◌, not, if◌then◌else◌, List, [], ◌∷◌, ◌++◌, length, slice_index, Option, Some, None}
+use Rattle.granit_base.specs.Classes.{is_blank, is_break, is_z, is_gap, is_flow, is_printable}
+use Rattle.granit_base.specs.Place.{Mark, first}
 use Rattle.granit_base.specs.declared.style.ScalarStyle.TheVariants.{Plain}
+use Rattle.granit_error.specs.FaultKind.{FaultKind, PlainScalarStartsWithDashFlowIndicator, TabInPlainScalar, UnexpectedCharacter}
 use Rattle.granit_model.specs.Decoding.{folded}
 use Rattle.granit_model.specs.Gap.{Each}
 use Rattle.granit_model.specs.Here.{Here, mark_of, step}
 use Rattle.granit_model.specs.LayoutData.{LayoutData, is_left, is_outside}
-use Rattle.granit_model.specs.Lexeme.{Scalar}
-use Rattle.granit_model.specs.PlainScalar.{PlainRead, is_content, is_document_mark}
+use Rattle.granit_model.specs.Lexeme.{Lexeme, Scalar}
+use Rattle.granit_model.specs.PlainScalar.{PlainRead, is_content, is_document_mark, unprintable}
 
 -- What stands between two characters of content, or behind the last one: blanks (s-separate-in-line), or breaks with the blanks before and between
 -- them, and the blanks that begin the line behind them (s-flow-folded).
@@ -101,18 +102,61 @@ abbrev pub is_folded : Separation → Bool
 is_folded (OnLine blanks) = false
 is_folded (Folded breaks indent) = true
 
--- the place behind it
-abbrev pub end_of : Here → List ℕ → Here
-end_of h source = over source h
-
 -- where the next lexeme or comment stands
-abbrev pub behind_of : Here → List ℕ → Separation → Here
+abbrev pub behind_of : Here → (source : List ℕ) → Separation → Here
 behind_of h source tail = over (separation_text tail) (over source h)
 
 -- what is answered for it
-abbrev pub plain_answer : LayoutData → Here → List ℕ → Separation → List ℕ → PlainRead
+abbrev pub plain_answer : LayoutData → Here → (source : List ℕ) → (tail : Separation) → (rest : List ℕ) → PlainRead
 plain_answer at h source tail rest = record {
-  lexeme = record { kind = Scalar Plain (record { characters = folded source; is_borrowed = false }); source = record { start = mark_of h; end = mark_of (end_of h source) } };
+  lexeme = record { kind = Scalar Plain (record { characters = folded source; is_borrowed = false }); source = record { start = mark_of h; end = mark_of (over source h) } };
   cut_by_comment = if not at.in_flow && is_cut at tail rest then Some (mark_of (behind_of h source tail)) else None;
   on_new_line = is_folded tail;
 }
+
+-- in flow, a `-` directly before a flow indicator
+abbrev pub is_flow_dash : LayoutData → List ℕ → Bool
+is_flow_dash at text = at.in_flow && (first text == 0x2D && is_flow (slice_index text 1))
+
+-- whether an unprintable character stands at the front of a text
+abbrev pub is_unprintable_at : List ℕ → Bool
+is_unprintable_at text = not (length text == 0) && not (is_printable (first text))
+
+-- A plain scalar is answered where it stands, with its value, and nothing at it is refused.
+pub record AnswersPlain (at : LayoutData) (h : Here) (read : PlainRead) (after : Here) : Type 0 where
+  pub source : List ℕ
+  pub tail : Separation
+  pub rest : List ℕ
+  pub stands : PlainStands at h source tail rest
+  pub answer : read ≡ plain_answer at h source tail rest
+  pub reached : after ≡ behind_of h source tail
+  pub no_dash : is_flow_dash at h.unread.text ≡ false
+  pub no_tab : tab_refused at tail rest ≡ false
+  pub inside : unprintable source ≡ None
+  pub printable : is_unprintable_at rest ≡ false
+
+-- In flow a `-` before a flow indicator begins no plain scalar.
+pub record RefusesDash (at : LayoutData) (h : Here) (m : Mark) : Type 0 where
+  pub dash : is_flow_dash at h.unread.text ≡ true
+  pub marks : m ≡ mark_of h
+
+-- A plain scalar, and behind it a line that a tab left of its block indents.
+pub record RefusesTab (at : LayoutData) (h : Here) (m : Mark) : Type 0 where
+  pub source : List ℕ
+  pub tail : Separation
+  pub rest : List ℕ
+  pub stands : PlainStands at h source tail rest
+  pub tab : tab_refused at tail rest ≡ true
+  pub marks : m ≡ mark_of h
+
+-- A plain scalar with an unprintable character inside, or behind it and its blanks and breaks.
+pub data RefusesCharacter (at : LayoutData) (h : Here) (c : ℕ) (m : Mark) : Type 0 where
+  is_inside : (source : List ℕ) (tail : Separation) (rest : List ℕ) → PlainStands at h source tail rest → unprintable source ≡ Some c → m ≡ mark_of h → RefusesCharacter at h c m
+  is_behind : (source : List ℕ) (tail : Separation) (rest : List ℕ) → PlainStands at h source tail rest → is_unprintable_at rest ≡ true → c ≡ first rest → m ≡ mark_of (behind_of h source tail) → RefusesCharacter at h c m
+
+-- why a plain scalar is refused
+abbrev pub RefusesPlain : LayoutData → Here → FaultKind → Mark → Type 0
+RefusesPlain at h PlainScalarStartsWithDashFlowIndicator m = RefusesDash at h m
+RefusesPlain at h TabInPlainScalar m = RefusesTab at h m
+RefusesPlain at h (UnexpectedCharacter c) m = RefusesCharacter at h c m
+RefusesPlain at h kind m = ⊥

@@ -1,5 +1,10 @@
 pub mod Folding
+pub mod PlainKept
+pub mod PlainLaw
+pub mod PlainOnce
+pub mod PlainReads
 pub mod PlainSpelling
-pub mod Stepping
 pub mod PlainTurns
+pub mod Printing
+pub mod Stepping
 pub mod Turning

@@ -4,7 +4,7 @@ use Rattle.granit_base.specs.Classes.{is_blank, is_break, is_breakz, is_blank_or
 use Rattle.granit_base.specs.Place.{first}
 use Rattle.granit_model.specs.Gap.{Each}
 use Rattle.granit_model.specs.LayoutData.{LayoutData}
-use Rattle.granit_model.specs.PlainScalar.{is_content, can_be_plain}
+use Rattle.granit_model.specs.PlainScalar.{is_content}
 use Rattle.granit_model.specs.PlainExtent.{Separation, OnLine, Folded, separation_text, UpToBreak, at_break, before_break, IsSeparation, MayFollow, GoesOn, ends, goes_on, SpellsPlain, PlainExtent, EndsPlain, no_content, comment, comment_line, outside_line, tab_line, document_mark}
 use Rattle.granit_scalars.proofs.Folding.{blank_apart_from_break}
 

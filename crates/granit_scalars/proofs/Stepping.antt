@@ -1,10 +1,10 @@
 -- How a reader moves on over characters, blanks and breaks.
-use Rattle.std.proofs.Common.{◌≡◌, ℕ, suc, ◌+◌, ◌<◌, ◌==◌, Bool, true, false, cond, not, ◌&&◌, ◌||◌, List, [], ◌∷◌, ◌++◌, length, drop, refl, sym, ap, ap₂, ◌∙◌, arith}
+use Rattle.std.proofs.Common.{◌≡◌, ℕ, ◌+◌, ◌<◌, ◌==◌, Bool, true, false, cond, not, ◌&&◌, ◌||◌, List, [], ◌∷◌, ◌++◌, length, drop, refl, sym, ap, ap₂, ◌∙◌, arith}
 use Rattle.std.specs.Prelude.{slice_index, if◌then◌else◌}
 use Rattle.std.specs.Option.{option_map}
 use Rattle.std.specs.Char.{encode_utf8}
 use Rattle.std.proofs.lemmas.Bool.Decides.{nat_tests}
-use Rattle.granit_base.specs.Classes.{is_blank, is_break}
+use Rattle.granit_base.specs.Classes.{is_break}
 use Rattle.granit_base.specs.Place.{Place, first, ends_line, place_after}
 use Rattle.granit_model.specs.Decoding.{before_lines, lines_of}
 use Rattle.granit_model.specs.Here.{Here, text_len, next_char, step}

@@ -1,0 +1,52 @@
+-- Words of the worked examples.
+use Rattle.std.specs.Prelude.{ℕ, Bool, true, List, take, Option, Some, None, Result, Ok, Err}
+use Rattle.granit_base.specs.Place.{Place, Mark}
+use Rattle.granit_model.specs.Here.{Here, start_of}
+use Rattle.granit_model.specs.LayoutData.{LayoutData}
+use Rattle.granit_model.specs.Lexeme.{LexemeKind, Scalar as ScalarLexeme}
+use Rattle.granit_model.specs.Line.{event_line, fault_line}
+use Rattle.granit_model.specs.Outcome.{Fault}
+use Rattle.granit_model.specs.PlainEvent.{EventKind, StreamEnd, Scalar, event_at}
+use Rattle.granit_model.specs.PlainExtent.{over}
+use Rattle.granit_model.specs.PlainScalar.{PlainRead, plain_scalar}
+
+-- block column, in flow, strict
+abbrev pub layout : Option ℕ → Bool → Bool → LayoutData
+layout block_column in_flow strict = record { block_column = block_column; tab_column = 0; in_flow = in_flow; strict = strict; comments = true }
+
+-- the plain scalar that begins at an index of a text
+abbrev pub plain_in : LayoutData → List ℕ → ℕ → Result (PlainRead × Here) Fault
+plain_in at text index = plain_scalar at (over (take index text) (start_of text))
+
+-- a token's line is an event's
+abbrev pub event_of : LexemeKind → EventKind
+event_of (ScalarLexeme style text) = Scalar text style 0 None
+event_of kind = StreamEnd
+
+abbrev pub token_line : Result (PlainRead × Here) Fault → List ℕ
+token_line (Ok (read, after)) = event_line (event_at (event_of read.lexeme.kind) read.lexeme.source)
+token_line (Err f) = fault_line f
+
+-- its token, or its fault
+abbrev pub plain_line : LayoutData → List ℕ → ℕ → List ℕ
+plain_line at text index = token_line (plain_in at text index)
+
+-- where reading stands, the index of the `#` that cut the scalar short, and whether a break was read
+pub record Behind : Type 0 where
+  pub place : Place
+  pub cut : Option ℕ
+  pub on_new_line : Bool
+
+abbrev pub index_of : Option Mark → Option ℕ
+index_of None = None
+index_of (Some m) = Some m.place.index
+
+abbrev pub behind : ℕ → ℕ → ℕ → Option ℕ → Bool → Option Behind
+behind index line column cut on_new_line = Some (record { place = record { index = index; line = line; column = column }; cut = cut; on_new_line = on_new_line })
+
+abbrev pub behind_of : Result (PlainRead × Here) Fault → Option Behind
+behind_of (Ok (read, after)) = Some (record { place = after.place; cut = index_of read.cut_by_comment; on_new_line = read.on_new_line })
+behind_of (Err f) = None
+
+abbrev pub behind_line : LayoutData → List ℕ → ℕ → Option Behind
+behind_line at text index = behind_of (plain_in at text index)

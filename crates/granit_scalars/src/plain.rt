@@ -1,0 +1,29 @@
+//! The plain function on characters answers the plain scalar that its definitions say.
+ghost use Rattle.std.specs.Prelude.{◌≡◌, ℕ, true, List, Ok, Err};
+ghost use Rattle.granit_model.specs.Here.{Here};
+ghost use Rattle.granit_model.specs.LayoutData.{LayoutData};
+ghost use Rattle.granit_model.specs.Outcome.{Fault};
+ghost use Rattle.granit_model.specs.PlainExtent.{AnswersPlain, PlainExtent, PlainStands, RefusesPlain, Separation};
+ghost use Rattle.granit_model.specs.PlainScalar.{PlainRead, is_content, plain_scalar};
+
+/// Where content begins, an answer is the plain scalar that stands there, as far as its spelling goes,
+/// with its value, what ends it, and where reading then stands; and nothing at it is refused.
+pub fn every_plain_answer_stands()
+    ensures { (at : LayoutData) (h : Here) (read : PlainRead) (after : Here) → is_content at.in_flow h.unread.text ≡ true → plain_scalar at h ≡ Ok (read, after) → AnswersPlain at h read after }
+{}
+
+/// A plain scalar that stands there, and at which nothing is refused, is answered.
+pub fn every_plain_scalar_is_answered()
+    ensures { (at : LayoutData) (h : Here) (read : PlainRead) (after : Here) → AnswersPlain at h read after → plain_scalar at h ≡ Ok (read, after) }
+{}
+
+/// Where content begins, the cause of a refusal stands at its mark.
+pub fn every_plain_refusal_has_its_cause()
+    ensures { (at : LayoutData) (h : Here) (f : Fault) → is_content at.in_flow h.unread.text ≡ true → plain_scalar at h ≡ Err f → RefusesPlain at h f.kind f.mark }
+{}
+
+/// A text begins with at most one plain scalar, and what stands behind one is known by where it stands.
+pub fn one_plain_scalar()
+    ensures extent { (at : LayoutData) (text source behind other rest : List ℕ) → PlainExtent at text source behind → PlainExtent at text other rest → source ≡ other }
+    ensures standing { (at : LayoutData) (h : Here) (source other : List ℕ) (tail gap : Separation) (behind rest : List ℕ) → PlainStands at h source tail behind → PlainStands at h other gap rest → (source ≡ other) × (tail ≡ gap) × (behind ≡ rest) }
+{}
