@@ -19,6 +19,7 @@ use Rattle.granit_model.proofs.HereLemmas.{step_text, not_empty}
 use Rattle.granit_lex.specs.Reading.{GivesTo, coded}
 use Rattle.granit_lex.specs.Tokens.{comment_token}
 use Rattle.granit_lex.specs.declared.token.Token.{Token}
+use Rattle.granit_lex.proofs.GivenLemmas.{same_ok, given_stands, given_cause}
 
 -- the run of a class, by the first characters alone
 pub run_prefix : (test : ℕ → Bool) (text : List ℕ) → run_length (starts test) text ≡ prefix_len test text
@@ -153,44 +154,17 @@ comment_is h is = reads_on h (past_comment h) (parts h is) (text_len (past_comme
 
 -- ---- from what a call gives to what is true of it
 
-ok_or : {A : Type 0} → A → Result A Fault → A
-ok_or d (Ok x) = x
-ok_or d (Err f) = d
-
-same_ok : {A : Type 0} (x y : A) → ◌≡◌ {A = Result A Fault} (Ok x) (Ok y) → x ≡ y
-unfolding ok_or
-same_ok x y e = ap (ok_or x) e
-
-memory_or_not : (k : FaultKind) → (k ≡ NoMemory) ⊎ (k ≡ NoMemory → ⊥)
-memory_or_not NoMemory = inl refl
-memory_or_not k = inr (λ e. cc)
+pub comment_reads : (h : Here) → next_char h ≡ 0x23 → ReadsComment h (comment h)
+unfolding comment
+comment_reads h is = comment_is h is
 
 module _ (h : Here) (Lands : Here → Type 0) where
-  token_on : (r : Result (CommentRead × Here) Fault) (t : Token) (after : Here) → ReadsComment h r → Lands after → coded comment_token r ≡ Ok (t, after)
-      → (c : CommentRead) × (at : Here) × StandsComment h c at × (t ≡ comment_token c) × Lands at
-  token_on (Ok x) t after reads lands e =
-      let same = same_ok (comment_token x.0, x.1) (t, after) e in
-      (x.0, x.1, reads, sym (ap (λ (p : Token × Here). p.0) same), subst Lands (sym (ap (λ (p : Token × Here). p.1) same)) lands)
-  token_on (Err f) t after reads lands e = absurd cc
-
-  cause_on : (r : Result (CommentRead × Here) Fault) (e : Refused) → ReadsComment h r → coded comment_token r ≡ Err (fault_of e) → Spoils h e.kind e.mark
-  cause_on (Ok x) e reads is = absurd cc
-  cause_on (Err f) e reads is = let same : f ≡ fault_of e = cc in subst (λ (d : Fault). Spoils h d.kind d.mark) same reads
-
   pub token_stands : (result : Result Token Refused) → next_char h ≡ 0x23 → GivesTo (λ t. t) result Lands (coded comment_token (comment h))
       → IfOk result (λ t. (c : CommentRead) × (at : Here) × StandsComment h c at × (t ≡ comment_token c) × Lands at)
-  unfolding comment
-  token_stands (Ok t) is given = token_on (with_text h (skipped_comment h)) t given.0 (comment_is h is) given.1 given.2
-  token_stands (Err e) is given = tt
-
-  cause_or : (e : Refused) → (e.kind ≡ NoMemory) ⊎ (e.kind ≡ NoMemory → ⊥) → next_char h ≡ 0x23 → Fails e (coded comment_token (comment h)) → (e.kind ≡ NoMemory) ⊎ Spoils h e.kind e.mark
-  unfolding comment
-  cause_or e (inl m) is given = inl m
-  cause_or e (inr n) is given = inr (cause_on (with_text h (skipped_comment h)) e (comment_is h is) (given n))
+  token_stands result is given = given_stands comment_token Lands (StandsComment h) (comment h) result (λ c at e. subst (ReadsComment h) e (comment_reads h is)) given
 
   pub token_cause : (result : Result Token Refused) → next_char h ≡ 0x23 → GivesTo (λ t. t) result Lands (coded comment_token (comment h)) → IfErr result (λ e. (e.kind ≡ NoMemory) ⊎ Spoils h e.kind e.mark)
-  token_cause (Ok t) is given = tt
-  token_cause (Err e) is given = cause_or e (memory_or_not e.kind) is given
+  token_cause result is given = given_cause comment_token Lands (Spoils h) (comment h) result (λ f e. subst (ReadsComment h) e (comment_reads h is)) given
 
   skip_on : (s : Result (Unit {0} × Here) Fault) (u : Unit {0}) (after : Here) → ReadsComment h (with_text h s) → Lands after → s ≡ Ok (u, after) → (c : CommentRead) × (at : Here) × StandsComment h c at × Lands at
   skip_on (Ok x) u after reads lands e =

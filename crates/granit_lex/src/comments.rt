@@ -70,10 +70,7 @@ fn read_comment<'input, T: Input>(
     cursor.fetch_while_non_breakz(&mut text)?;
     behind_comment(cursor)?;
     let span = Span::new(start, cursor.mark());
-    Ok(Token::new(
-        span,
-        TokenType::Comment(Comment::new(Text::owned(text))),
-    ))
+    Ok(Token::new(span, TokenType::Comment(Comment::new(Text::owned(text)))))
 }
 
 #[tactic(auto, unfolding(granit_model::specs::Comment::skipped_comment))]
@@ -99,8 +96,5 @@ fn behind_comment<T: Input>(cursor: &mut Cursor<T>) -> Result<(), ScanError>
     if cursor.input().next_is_z() || is_printable(character) {
         return Ok(());
     }
-    Err(ScanError::from_kind(
-        cursor.mark(),
-        ErrorKind::UnexpectedCharacter { character },
-    ))
+    Err(ScanError::from_kind(cursor.mark(), ErrorKind::UnexpectedCharacter { character }))
 }

@@ -145,7 +145,9 @@ impl<T: Input> Cursor<T> {
         ensures few { IfOk result (λ r. r.0 ≡ false → count ≤ r.1) }
         ensures moves { Moves T.left T.origin self.old self.new }
     {
-        let (ended, taken) = self.input.fetch_plain_scalar_chunk(out, count, flow_level_gt_0)?;
+        let (ended, taken) = self
+            .input
+            .fetch_plain_scalar_chunk(out, count, flow_level_gt_0)?;
         self.index += taken;
         self.col += taken;
         Ok((ended, taken))

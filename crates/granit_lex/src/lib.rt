@@ -12,3 +12,6 @@ pub use comments::{scan_comment, skip_comment};
 pub use cursor::Cursor;
 pub use plain::scan_plain_scalar;
 pub use token::{Layout, Lexed, Token, TokenType};
+
+#[cfg(test)]
+mod tests;

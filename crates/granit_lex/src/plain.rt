@@ -1,5 +1,5 @@
 //! Plain scalars are read (YAML 1.2.2, 7.3.3).
-ghost use Rattle.std.specs.Prelude.{◌≡◌, ◌<◌, ◌≤◌, ◌-◌, ◌⊎◌, ◌==◌, ◌&&◌, ◌||◌, not, ℕ, [], ◌∷◌, ◌++◌, true, length, take, suc, IfErr, OnOk};
+ghost use Rattle.std.specs.Prelude.{◌≡◌, ◌<◌, ◌≤◌, ◌-◌, ◌⊎◌, ◌==◌, ◌&&◌, ◌||◌, not, ℕ, [], ◌∷◌, ◌++◌, true, length, take, IfOk, IfErr, OnOk};
 ghost use Rattle.std.specs.Str.{chars};
 ghost use Rattle.granit_base.specs.Written.{string_chars};
 ghost use Rattle.granit_error.specs.FaultKind.{NoMemory as OutOfMemory, PlainScalarStartsWithDashFlowIndicator, TabInPlainScalar, UnexpectedCharacter};
@@ -7,6 +7,7 @@ ghost use Rattle.granit_input.specs.Runs.{run_length, is_plain_at};
 ghost use Rattle.granit_model.specs.Here.{Here, next_char, mark_of, step};
 ghost use Rattle.granit_model.specs.LayoutData as layout;
 ghost use Rattle.granit_model.specs.Moves.{steps};
+ghost use Rattle.granit_model.specs.PlainExtent as extent;
 ghost use Rattle.granit_model.specs.PlainScalar as spec;
 ghost use Rattle.granit_lex.specs.PlainCode.{plain_state, inside, plain_rest, plain_whole, ahead_of, TakesSome, TurnTakes, TurnsTo, PartsTo, ended_plain, IsPlainKind};
 ghost use Rattle.granit_lex.specs.Reading.{Stands, Moves, GivesTo, coded};
@@ -36,7 +37,11 @@ pub fn scan_plain_scalar<'input, T: BorrowedInput<'input>>(
     cursor: &mut Cursor<T>,
     at: &Layout,
 ) -> Result<Lexed<'input>, ScanError>
+    requires { (h : Here) → Stands T.unread cursor.old h → spec.is_content at.now.in_flow h.unread.text ≡ true }
     ensures here { (h : Here) → Stands T.unread cursor.old h → GivesTo (λ l. l) result (Stands T.unread cursor.new) (coded plain_lexed (spec.plain_scalar (layout_data at.now) h)) }
+    ensures scalar { (h : Here) → Stands T.unread cursor.old h → IfOk result (λ l. (read : spec.PlainRead) × (after : Here) × extent.AnswersPlain (layout_data at.now) h read after × (l ≡ plain_lexed read) × Stands T.unread cursor.new after) }
+    ensures cause { (h : Here) → Stands T.unread cursor.old h → IfErr result (λ e. (e.kind ≡ OutOfMemory) ⊎ extent.RefusesPlain (layout_data at.now) h e.kind e.mark) }
+    ensures answered { (h : Here) (read : spec.PlainRead) (after : Here) → Stands T.unread cursor.old h → extent.AnswersPlain (layout_data at.now) h read after → IfErr result (λ e. e.kind ≡ OutOfMemory) }
     ensures kinds { IfErr result (λ e. IsPlainKind e.kind) }
     ensures moves { Moves T.left T.origin cursor.old cursor.new }
 {
@@ -154,7 +159,7 @@ fn take_blank<T: Input>(
 }
 
 /// A break on: blanks before the first are dropped, and each further one is an empty line.
-#[tactic(auto, unfolding(granit_model::specs::PlainScalar::on_break), using(crate::proofs::PlainLemmas::cleared))]
+#[tactic(auto, unfolding(granit_model::specs::PlainScalar::on_break))]
 fn take_break<T: Input>(cursor: &mut Cursor<T>, parts: &mut PlainParts) -> Result<(), NoMemory>
     ensures here { (h : Here) → Stands T.unread cursor.old h → OnOk result (Stands T.unread cursor.new (spec.past_break h) × (plain_state parts.new (spec.past_break h) ≡ spec.on_break (plain_state parts.old h))) }
     ensures value { string_chars parts.new.value ≡ string_chars parts.old.value }
@@ -167,10 +172,18 @@ fn take_break<T: Input>(cursor: &mut Cursor<T>, parts: &mut PlainParts) -> Resul
         past_break(cursor);
         return Ok(());
     }
-    parts.pending.clear();
+    drop_blanks(&mut parts.pending);
     parts.on_new_line = true;
     past_break(cursor);
     Ok(())
+}
+
+/// Blanks before a break are no part of the value (YAML 1.2.2, 6.5).
+#[tactic(auto, using(crate::proofs::PlainLemmas::cleared))]
+fn drop_blanks(blanks: &mut String)
+    ensures { string_chars blanks.new ≡ [] }
+{
+    blanks.clear();
 }
 
 /// Behind a break, which CR LF is too (YAML 1.2.2, 5.4).
@@ -295,10 +308,7 @@ fn finish_plain<'input, T: Input>(
     ensures moves { Moves T.left T.origin cursor.old cursor.new }
 {
     if let Some(character) = find_non_printable(parts.value.as_str()) {
-        return Err(ScanError::from_kind(
-            start,
-            ErrorKind::UnexpectedCharacter { character },
-        ));
+        return Err(ScanError::from_kind(start, ErrorKind::UnexpectedCharacter { character }));
     }
     cursor.look(1);
     let character = cursor.input().peek();
@@ -334,10 +344,7 @@ fn read_plain<'input, T: Input>(
     let start = cursor.mark();
     cursor.look(2);
     if at.in_flow && cursor.input().peek() == '-' && is_flow(cursor.input().peek_nth(1)) {
-        return Err(ScanError::from_kind(
-            start,
-            ErrorKind::PlainScalarStartsWithDashFlowIndicator,
-        ));
+        return Err(ScanError::from_kind(start, ErrorKind::PlainScalarStartsWithDashFlowIndicator));
     }
     let parts = plain_parts(alloc, cursor, at, start)?;
     finish_plain(cursor, at, start, parts)

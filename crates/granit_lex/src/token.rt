@@ -68,7 +68,9 @@ impl<'input> TokenType<'input> {
         Ok(match self {
             TokenType::StreamStart => TokenType::StreamStart,
             TokenType::StreamEnd => TokenType::StreamEnd,
-            TokenType::VersionDirective(major, minor) => TokenType::VersionDirective(*major, *minor),
+            TokenType::VersionDirective(major, minor) => TokenType::VersionDirective(
+                *major, *minor,
+            ),
             TokenType::TagDirective(handle, prefix) => {
                 TokenType::TagDirective(handle.try_clone(alloc)?, prefix.try_clone(alloc)?)
             }

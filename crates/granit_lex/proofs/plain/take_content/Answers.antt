@@ -19,8 +19,7 @@ returns-clause-here g c = λ h k.
     let within = run_within (is_plain_at c.args.in_flow) (step h).unread.text in
     let few : n < 2 ^ 64 - 1 = omega (arith, taken.0.0.fits, within, agrees.bounded, short) in
     let end = c.mark-parts.ensures.here (steps n (step h)) taken.0.1 in
-    let none = cleared c.clear.new.self c.clear.ensures.bytes in
-    (
+    let none = cleared c.clear.new.self c.clear.ensures.bytes in (
       n,
       front_all (is_plain_at c.args.in_flow) (step h).unread.text _ _ n taken.0.0 few,
       taken.0.1,
