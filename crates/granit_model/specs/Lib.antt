@@ -1,5 +1,6 @@
 pub mod Canonical
 pub mod Cause
+pub mod Comment
 pub mod Decoding
 pub mod Events
 pub mod Extent
@@ -12,6 +13,7 @@ pub mod LayoutData
 pub mod Lexeme
 pub mod Line
 pub mod Machine
+pub mod Moves
 pub mod Node
 pub mod OpenPlace
 pub mod Outcome

@@ -1,0 +1,165 @@
+-- A plain scalar, a stretch of content a turn.
+use Rattle.std.proofs.Common.{◌≡◌, ℕ, zero, suc, ◌+◌, ◌<◌, ◌≤◌, ◌==◌, Bool, true, false, not, ◌&&◌, ◌||◌, if◌then◌else◌, List, [], ◌∷◌, ◌++◌, length, take, drop, Option, Some, None, Result, Ok, Err, refl, sym, ap, ap₂, ◌∙◌, append_assoc, subst, arith}
+use Rattle.std.specs.Prelude.{String, string_bytes}
+use Rattle.std.specs.Str.{chars}
+use Rattle.std.specs.declared.alloc.Global.{Global}
+use Rattle.std.proofs.lemmas.List.{append-nil}
+use Rattle.std.proofs.lemmas.Str.{chars-nil}
+use Rattle.granit_base.specs.Classes.{is_blank, is_break, is_z, is_breakz, is_blank_or_breakz}
+use Rattle.granit_base.specs.Place.{Mark, first}
+use Rattle.granit_base.specs.Written.{string_chars}
+use Rattle.granit_error.specs.FaultKind.{TabInPlainScalar}
+use Rattle.granit_error.specs.Refused.{Refused}
+use Rattle.granit_input.specs.Runs.{run_length, is_plain_at}
+use Rattle.granit_model.specs.Here.{Here, next_char, step}
+use Rattle.granit_model.specs.LayoutData.{LayoutData}
+use Rattle.granit_model.specs.Moves.{steps}
+use Rattle.granit_model.specs.Outcome.{Fault, Fails, fault_of}
+use Rattle.granit_model.specs.Pieces.{with_front, pieces}
+use Rattle.granit_model.specs.PlainScalar.{PlainState, fails_at, is_content, between, on_content, on_blank, on_break, meets_comment, ends_before_line, plain_turn, plain_len}
+use Rattle.granit_model.proofs.HereLemmas.{step_text}
+use Rattle.granit_model.proofs.PieceLemmas.{with_front-nil, with_front-with_front, pieces_more, pieces_done, pieces_fails}
+use Rattle.granit_scalars.proofs.PlainTurns.{plain_shortens}
+use Rattle.granit_lex.specs.PlainCode.{plain_state, inside, plain_rest, plain_whole, ahead_of, turn_of}
+use Rattle.granit_lex.specs.declared.plain.PlainParts.{PlainParts}
+use Rattle.granit_lex.specs.declared.plain.Ahead.{Ahead}
+use Rattle.granit_lex.specs.declared.plain.Ahead.TheVariants.{Blank, Break, Tab, Content, End}
+use Rattle.granit_lex.proofs.MoveLemmas.{run_begins}
+
+-- ---- one turn, by what is next
+
+abbrev tested : LayoutData → Mark → PlainState → (a b c d e f : Bool) → Result (Option (List ℕ) × PlainState) Fault
+tested at start s a b c d e f =
+    if a then Ok (Some [], on_blank at s)
+    else if b then Ok (Some [], on_break s)
+    else if c then Ok (None, s)
+    else if d then fails_at TabInPlainScalar start
+    else if e then Ok (None, s)
+    else if f then Ok (Some (between s ++ next_char s.here ∷ []), on_content s)
+    else Ok (None, s)
+
+abbrev next_by : (a b c d e f : Bool) → Ahead
+next_by a b c d e f = if a then Blank else if b then Break else if c then End else if d then Tab else if e then End else if f then Content else End
+
+turn_by : (at : LayoutData) (start : Mark) (s : PlainState) (a b c d e f : Bool) → tested at start s a b c d e f ≡ turn_of at start s (next_by a b c d e f)
+turn_by at start s true b c d e f = refl
+turn_by at start s false true c d e f = refl
+turn_by at start s false false true d e f = refl
+turn_by at start s false false false true e f = refl
+turn_by at start s false false false false true f = refl
+turn_by at start s false false false false false true = refl
+turn_by at start s false false false false false false = refl
+
+turn_is : (at : LayoutData) (start : Mark) (s : PlainState) (k : Ahead) → ahead_of at s ≡ k → plain_turn at start s ≡ turn_of at start s k
+unfolding plain_turn
+turn_is at start s k is =
+    turn_by at start s (is_blank (next_char s.here)) (is_break (next_char s.here)) (meets_comment s) (s.left_tab && not (is_z (next_char s.here))) (s.on_new_line && ends_before_line at s.here) (is_content at.in_flow s.here.unread.text)
+    ∙ ap (turn_of at start s) is
+
+-- ---- on over a stretch of content
+
+and_none : (b : Bool) → (b && false) ≡ false
+and_none true = refl
+and_none false = refl
+
+and_left : (a b : Bool) → (a && b) ≡ true → a ≡ true
+and_left true b held = refl
+and_left false b held = absurd cc
+
+or_left : (a b : Bool) → (a || b) ≡ false → a ≡ false
+or_left true b failed = absurd cc
+or_left false b failed = refl
+
+or_right : (a b : Bool) → (a || b) ≡ false → b ≡ false
+or_right true b failed = absurd cc
+or_right false b failed = failed
+
+not_true : (b : Bool) → not b ≡ true → b ≡ false
+not_true true held = absurd cc
+not_true false held = refl
+
+content_next : (a b c f : Bool) → a ≡ false → b ≡ false → c ≡ false → f ≡ true → next_by a b c false false f ≡ Content
+content_next a b c f p q r t = rw (p, q, r, t) refl
+
+-- a character of content is neither a blank nor a break
+apart : (in_flow : Bool) (text : List ℕ) → is_plain_at in_flow text ≡ true → (is_blank (first text) ≡ false) × (is_break (first text) ≡ false)
+unfolding is_blank_or_breakz is_breakz
+apart in_flow text held =
+    let solid = not_true (is_blank_or_breakz (first text)) (and_left _ _ held) in
+    (or_left _ _ solid, or_left _ _ (or_right (is_blank (first text)) _ solid))
+
+inside_next : (at : LayoutData) (g : Here) → is_plain_at at.in_flow g.unread.text ≡ true → ahead_of at (inside g) ≡ Content
+inside_next at g held =
+    let not_gap = apart at.in_flow g.unread.text held in
+    content_next (is_blank (next_char g)) (is_break (next_char g)) (meets_comment (inside g)) (is_content at.in_flow g.unread.text) not_gap.0 not_gap.1 (and_none (next_char g == 0x23)) held
+
+inside_turn : (at : LayoutData) (start : Mark) (g : Here) → is_plain_at at.in_flow g.unread.text ≡ true → plain_turn at start (inside g) ≡ Ok (Some (next_char g ∷ []), inside (step g))
+unfolding on_content
+inside_turn at start g held = turn_is at start (inside g) Content (inside_next at g held)
+
+none_taken : (xs : List ℕ) → take 0 xs ≡ []
+none_taken [] = refl
+none_taken (x ∷ xs) = refl
+
+take_suc : (n : ℕ) (text : List ℕ) → 0 < length text → first text ∷ take n (drop 1 text) ≡ take (suc n) text
+take_suc n [] some = absurd (omega arith)
+take_suc n (c ∷ cs) some = refl
+
+content_run : (at : LayoutData) (start : Mark) (n : ℕ) (g : Here) → n ≤ run_length (is_plain_at at.in_flow) g.unread.text
+    → plain_rest at start (inside g) ≡ with_front (take n g.unread.text) (plain_rest at start (inside (steps n g)))
+unfolding steps
+content_run at start zero g fits =
+    sym (with_front-nil (plain_rest at start (inside g))) ∙ ap (λ (cs : List ℕ). with_front cs (plain_rest at start (inside g))) (sym (none_taken g.unread.text))
+content_run at start (suc n) g fits =
+    let b = run_begins (is_plain_at at.in_flow) n g.unread.text fits in
+    let more : n ≤ run_length (is_plain_at at.in_flow) (step g).unread.text = rw (step_text g) b.more in
+    pieces_more plain_len (plain_turn at start) (plain_shortens at start) (inside g) (inside (step g)) (next_char g ∷ []) (inside_turn at start g b.passes)
+    ∙ ap (with_front (next_char g ∷ [])) (content_run at start n (step g) more)
+    ∙ with_front-with_front (next_char g ∷ []) (take n (step g).unread.text) (plain_rest at start (inside (steps n (step g))))
+    ∙ ap (λ (cs : List ℕ). with_front cs (plain_rest at start (inside (steps n (step g))))) (ap (λ (t : List ℕ). next_char g ∷ take n t) (step_text g) ∙ take_suc n g.unread.text b.some)
+
+-- ---- what a turn of the code leaves of the whole
+
+pub gap_goes : (at : LayoutData) (start : Mark) (p q : PlainParts) (h now : Here) (k : Ahead) → ahead_of at (plain_state p h) ≡ k → turn_of at start (plain_state p h) k ≡ Ok (Some [], plain_state q now)
+    → string_chars q.value ≡ string_chars p.value → plain_whole at start q now ≡ plain_whole at start p h
+gap_goes at start p q h now k is given value =
+    let more = pieces_more plain_len (plain_turn at start) (plain_shortens at start) (plain_state p h) (plain_state q now) [] (turn_is at start (plain_state p h) k is ∙ given) in
+    ap₂ (λ (v : List ℕ) (r : Result (List ℕ × PlainState) Fault). with_front v r) value (sym (more ∙ with_front-nil (plain_rest at start (plain_state q now))))
+
+pub content_goes : (at : LayoutData) (start : Mark) (p q : PlainParts) (h : Here) (n : ℕ) → ahead_of at (plain_state p h) ≡ Content → n ≡ run_length (is_plain_at at.in_flow) (step h).unread.text
+    → string_chars q.value ≡ ((string_chars p.value ++ between (plain_state p h)) ++ next_char h ∷ []) ++ take n (step h).unread.text
+    → plain_state q (steps n (step h)) ≡ inside (steps n (step h)) → plain_whole at start q (steps n (step h)) ≡ plain_whole at start p h
+unfolding on_content
+content_goes at start p q h n is count value state =
+    let s = plain_state p h in
+    let v = string_chars p.value in
+    let front = between s ++ next_char h ∷ [] in
+    let run = take n (step h).unread.text in
+    let rest = plain_rest at start (inside (steps n (step h))) in
+    let fits : n ≤ run_length (is_plain_at at.in_flow) (step h).unread.text = omega (arith, count) in
+    let more = pieces_more plain_len (plain_turn at start) (plain_shortens at start) s (inside (step h)) front (turn_is at start s Content is) in
+    let whole : plain_whole at start p h ≡ with_front ((v ++ front) ++ run) rest =
+    ap (with_front v) (more ∙ ap (with_front front) (content_run at start n (step h) fits))
+    ∙ with_front-with_front v front (with_front run rest)
+    ∙ with_front-with_front (v ++ front) run rest in
+    let grouped : string_chars q.value ≡ (v ++ front) ++ run = value ∙ ap (λ (cs : List ℕ). cs ++ run) (append_assoc v (between s) (next_char h ∷ [])) in
+    ap₂ (λ (w : List ℕ) (r : Result (List ℕ × PlainState) Fault). with_front w r) grouped (ap (plain_rest at start) state) ∙ sym whole
+
+pub turn_ends : (at : LayoutData) (start : Mark) (p : PlainParts) (h : Here) → ahead_of at (plain_state p h) ≡ End → plain_whole at start p h ≡ Ok (string_chars p.value, plain_state p h)
+turn_ends at start p h is =
+    let done = pieces_done plain_len (plain_turn at start) (plain_state p h) (plain_state p h) (turn_is at start (plain_state p h) End is) in
+    ap (with_front (string_chars p.value)) done ∙ ap (λ (v : List ℕ). Ok (v, plain_state p h)) (append-nil (string_chars p.value))
+
+pub turn_refused : (at : LayoutData) (start : Mark) (p : PlainParts) (h : Here) → ahead_of at (plain_state p h) ≡ Tab → plain_whole at start p h ≡ fails_at TabInPlainScalar start
+turn_refused at start p h is =
+    ap (with_front (string_chars p.value)) (pieces_fails plain_len (plain_turn at start) (plain_state p h) (record { kind = TabInPlainScalar; mark = start }) (turn_is at start (plain_state p h) Tab is))
+
+-- ---- strings
+
+pub cleared : (s : String Global) → string_bytes s ≡ [] → string_chars s ≡ []
+cleared s none = ap chars none ∙ chars-nil
+
+-- nothing was read yet
+pub plain_begins : (at : LayoutData) (start : Mark) (p : PlainParts) (h : Here) → string_bytes p.value ≡ [] → plain_state p h ≡ inside h → plain_whole at start p h ≡ plain_rest at start (inside h)
+plain_begins at start p h none state =
+    ap₂ (λ (v : List ℕ) (r : Result (List ℕ × PlainState) Fault). with_front v r) (cleared p.value none) (ap (plain_rest at start) state) ∙ with_front-nil (plain_rest at start (inside h))

@@ -1,0 +1,18 @@
+use Rattle.std.proofs.Common.{◌≡◌, ◌≤◌}
+use Rattle.granit_input.specs.Origin.{Goes}
+use Rattle.granit_model.specs.Here.{Here, mark_of}
+use Rattle.granit_model.specs.PlainScalar.{plain_start}
+use Rattle.granit_lex.specs.PlainCode.{plain_rest, plain_whole}
+use Rattle.granit_lex.specs.Reading.{Stands, Moves}
+use Rattle.granit_lex.specs.Tokens.{layout_data}
+use Rattle.granit_lex.proofs.plain.plain_parts.Given as goal
+
+abbrev pub invariant-turns : goal.invariant-turns
+invariant-turns g l = record {
+  told : (h : Here) → Stands g.T.Input.unread l.fn.cursor h → l.start ≡ mark_of h
+      → (now : Here) × Stands g.T.Input.unread l.cursor now × (plain_whole (layout_data l.at) l.start l.parts now ≡ plain_rest (layout_data l.at) l.start (plain_start h));
+  moves : Moves g.T.Input.left g.T.Input.origin l.fn.cursor l.cursor;
+}
+
+abbrev pub decreases-turns : goal.decreases-turns
+decreases-turns g l = g.T.Input.left l.cursor.input

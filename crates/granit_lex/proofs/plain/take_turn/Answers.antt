@@ -1,0 +1,42 @@
+use Rattle.std.proofs.Common.{◌≡◌, [], Some, Ok, sym, ap, ◌∙◌}
+use Rattle.granit_model.specs.Here.{step}
+use Rattle.granit_model.specs.Moves.{steps}
+use Rattle.granit_model.specs.PlainScalar.{PlainState, past_break}
+use Rattle.granit_lex.specs.PlainCode.{plain_state, ahead_of}
+use Rattle.granit_lex.specs.Tokens.{layout_data}
+use Rattle.granit_lex.specs.declared.plain.Ahead.TheVariants.{Blank, Break, Tab, Content, End}
+use Rattle.granit_lex.proofs.PlainLemmas.{gap_goes, content_goes, turn_ends, turn_refused}
+use Rattle.granit_lex.proofs.plain.take_turn.Goals as goal
+
+pub returns-in_ok-take_blank-in-Blank-clause-here : goal.returns-in_ok-take_blank-in-Blank-clause-here
+returns-in_ok-take_blank-in-Blank-clause-here g c = λ h k.
+    let looked = c.look_ahead.ensures.here h k in
+    let is : ahead_of (layout_data c.args.at.now) (plain_state c.args.parts.now h) ≡ Blank = sym looked.1 ∙ c.in-Blank.is in
+    let taken = c.in_ok-take_blank-in-Blank.ensures.here h looked.0 in
+    (step h, taken.0, gap_goes (layout_data c.args.at.now) c.args.start c.args.parts.now c.take_blank.new.parts h (step h) Blank is (ap (λ (s : PlainState). Ok (Some [], s)) (sym taken.1)) c.in_ok-take_blank-in-Blank.ensures.value)
+
+pub returns-in_ok-take_break-in-Break-clause-here : goal.returns-in_ok-take_break-in-Break-clause-here
+returns-in_ok-take_break-in-Break-clause-here g c = λ h k.
+    let looked = c.look_ahead.ensures.here h k in
+    let is : ahead_of (layout_data c.args.at.now) (plain_state c.args.parts.now h) ≡ Break = sym looked.1 ∙ c.in-Break.is in
+    let taken = c.in_ok-take_break-in-Break.ensures.here h looked.0 in
+    (past_break h, taken.0, gap_goes (layout_data c.args.at.now) c.args.start c.args.parts.now c.take_break.new.parts h (past_break h) Break is (ap (λ (s : PlainState). Ok (Some [], s)) (sym taken.1)) c.in_ok-take_break-in-Break.ensures.value)
+
+pub returns-in_ok-take_content-in-Content-clause-here : goal.returns-in_ok-take_content-in-Content-clause-here
+returns-in_ok-take_content-in-Content-clause-here g c = λ h k.
+    let looked = c.look_ahead.ensures.here h k in
+    let is : ahead_of (layout_data c.args.at.now) (plain_state c.args.parts.now h) ≡ Content = sym looked.1 ∙ c.in-Content.is in
+    let taken = c.in_ok-take_content-in-Content.ensures.here h looked.0 in
+    (steps taken.0 (step h), taken.2, content_goes (layout_data c.args.at.now) c.args.start c.args.parts.now c.take_content.new.parts h taken.0 is taken.1 taken.3 taken.4)
+
+pub returns-in-Tab-clause-here : goal.returns-in-Tab-clause-here
+returns-in-Tab-clause-here g c = λ h k.
+    let looked = c.look_ahead.ensures.here h k in
+    let is : ahead_of (layout_data c.args.at.now) (plain_state c.args.parts.now h) ≡ Tab = sym looked.1 ∙ c.in-Tab.is in
+    λ other. rw c.from_kind.ensures (turn_refused (layout_data c.args.at.now) c.args.start c.args.parts.now h is)
+
+pub returns-in-End-clause-here : goal.returns-in-End-clause-here
+returns-in-End-clause-here g c = λ h k.
+    let looked = c.look_ahead.ensures.here h k in
+    let is : ahead_of (layout_data c.args.at.now) (plain_state c.args.parts.now h) ≡ End = sym looked.1 ∙ c.in-End.is in
+    (h, looked.0, turn_ends (layout_data c.args.at.now) c.args.start c.args.parts.now h is)

@@ -1,0 +1,4 @@
+pub mod PlainCode
+pub mod Reading
+pub mod Tokens
+pub mod Trimmed

@@ -1,0 +1,85 @@
+-- How the code reads a plain scalar: a stretch of content a turn.
+use Rattle.std.specs.Prelude.{◌≡◌, ℕ, ◌<◌, ◌≤◌, ◌==◌, Bool, true, false, ◌&&◌, not, if◌then◌else◌, List, [], ◌∷◌, ◌++◌, Option, Some, None, Result, Ok, Err}
+use Rattle.granit_base.specs.Classes.{is_blank, is_break, is_z}
+use Rattle.granit_base.specs.Place.{Mark}
+use Rattle.granit_base.specs.Written.{string_chars}
+use Rattle.granit_error.specs.FaultKind.{FaultKind, NoMemory, PlainScalarStartsWithDashFlowIndicator, TabInPlainScalar, UnexpectedCharacter}
+use Rattle.granit_error.specs.Refused.{Refused}
+use Rattle.granit_model.specs.Here.{Here, next_char, mark_of}
+use Rattle.granit_model.specs.LayoutData.{LayoutData}
+use Rattle.granit_model.specs.Outcome.{Fault, Fails}
+use Rattle.granit_model.specs.Pieces.{with_front, pieces}
+use Rattle.granit_model.specs.PlainScalar.{PlainState, PlainRead, fails_at, is_content, between, on_content, on_blank, on_break, meets_comment, ends_before_line, plain_turn, plain_len, only_printable, unprintable, behind_plain}
+use Rattle.granit_lex.specs.declared.plain.PlainParts.{PlainParts}
+use Rattle.granit_lex.specs.declared.plain.Ahead.{Ahead}
+use Rattle.granit_lex.specs.declared.plain.Ahead.TheVariants.{Blank, Break, Tab, Content, End}
+
+-- where reading stands, by what the code holds
+abbrev pub plain_state : PlainParts → Here → PlainState
+plain_state p h = record { here = h; end = p.end; pending = string_chars p.pending; on_new_line = p.on_new_line; left_tab = p.left_tab }
+
+-- directly behind a character of content
+abbrev pub inside : Here → PlainState
+inside h = record { here = h; end = mark_of h; pending = []; on_new_line = false; left_tab = false }
+
+-- what is read from a state on
+abbrev pub plain_rest : LayoutData → Mark → PlainState → Result (List ℕ × PlainState) Fault
+plain_rest at start s = pieces plain_len (plain_turn at start) s
+
+-- the same behind what was read
+abbrev pub plain_whole : LayoutData → Mark → PlainParts → Here → Result (List ℕ × PlainState) Fault
+plain_whole at start p h = with_front (string_chars p.value) (plain_rest at start (plain_state p h))
+
+-- what stands next
+abbrev pub ahead_of : LayoutData → PlainState → Ahead
+ahead_of at s =
+    if is_blank (next_char s.here) then Blank
+    else if is_break (next_char s.here) then Break
+    else if meets_comment s then End
+    else if s.left_tab && not (is_z (next_char s.here)) then Tab
+    else if s.on_new_line && ends_before_line at s.here then End
+    else if is_content at.in_flow s.here.unread.text then Content
+    else End
+
+-- what a turn gives where that is next
+abbrev pub turn_of : LayoutData → Mark → PlainState → Ahead → Result (Option (List ℕ) × PlainState) Fault
+turn_of at start s Blank = Ok (Some [], on_blank at s)
+turn_of at start s Break = Ok (Some [], on_break s)
+turn_of at start s Tab = fails_at TabInPlainScalar start
+turn_of at start s Content = Ok (Some (between s ++ next_char s.here ∷ []), on_content s)
+turn_of at start s End = Ok (None, s)
+
+-- what a turn takes is there
+abbrev pub TakesSome : Ahead → Type 0 → Type 0
+TakesSome Tab some = Unit {0}
+TakesSome End some = Unit {0}
+TakesSome _ some = some
+
+-- a turn that goes on took a character
+abbrev pub TurnTakes : {E : Type 0} → Result Bool E → ℕ → ℕ → Type 0
+TurnTakes (Ok true) old new = new < old
+TurnTakes (Ok false) old new = new ≤ old
+TurnTakes (Err e) old new = new ≤ old
+
+-- a turn goes on with the same whole, or that is all of it
+abbrev pub TurnsTo : LayoutData → Mark → Result Bool Refused → (Here → Type 0) → PlainParts → Result (List ℕ × PlainState) Fault → Type 0
+TurnsTo at start (Ok true) Lands p before = (now : Here) × Lands now × (plain_whole at start p now ≡ before)
+TurnsTo at start (Ok false) Lands p before = (now : Here) × Lands now × (before ≡ Ok (string_chars p.value, plain_state p now))
+TurnsTo at start (Err e) Lands p before = Fails e before
+
+-- what was read is all of it
+abbrev pub PartsTo : Result PlainParts Refused → (Here → Type 0) → Result (List ℕ × PlainState) Fault → Type 0
+PartsTo (Ok p) Lands given = (now : Here) × Lands now × (given ≡ Ok (string_chars p.value, plain_state p now))
+PartsTo (Err e) Lands given = Fails e given
+
+-- a plain scalar that was read up to its end
+abbrev pub ended_plain : LayoutData → Mark → List ℕ → PlainState → Result (PlainRead × Here) Fault
+ended_plain at start value s = only_printable (unprintable value) start (behind_plain at start value s)
+
+-- the kinds that a plain scalar is refused by
+abbrev pub IsPlainKind : FaultKind → Type 0
+IsPlainKind NoMemory = Unit {0}
+IsPlainKind PlainScalarStartsWithDashFlowIndicator = Unit {0}
+IsPlainKind TabInPlainScalar = Unit {0}
+IsPlainKind (UnexpectedCharacter c) = Unit {0}
+IsPlainKind _ = ⊥

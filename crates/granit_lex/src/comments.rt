@@ -1,0 +1,100 @@
+//! Comments are read.
+ghost use Rattle.std.specs.Prelude.{◌≡◌, ◌≤◌, ◌⊎◌, ℕ, suc, length, IfOk, IfErr};
+ghost use Rattle.granit_base.specs.Written.{string_chars};
+ghost use Rattle.granit_error.specs.FaultKind.{NoMemory, UnexpectedCharacter};
+ghost use Rattle.granit_model.specs.Comment as spec;
+ghost use Rattle.granit_model.specs.Here.{Here, next_char};
+ghost use Rattle.granit_lex.specs.Reading.{Stands, Moves, GivesTo, coded};
+ghost use Rattle.granit_lex.specs.Tokens.{comment_token};
+
+use crate::comment::Comment;
+use crate::cursor::Cursor;
+use crate::token::{Token, TokenType};
+use granit_base::{Span, Text, is_printable};
+use granit_error::{ErrorKind, ScanError};
+use granit_input::{BorrowedInput, Input};
+use std::alloc::Global;
+
+/// The comment that begins here with its `#`, up to the break, the end or what isn't printable
+/// (YAML 1.2.2, 6.6); the cursor then stands there. Its text is what follows the `#`, and owned; its
+/// placement is `Free`.
+///
+/// # Errors
+///
+/// `NoMemory`, and `UnexpectedCharacter` at the first character on the line that isn't printable. A NUL
+/// in the text is one.
+pub fn scan_comment<'input, T: BorrowedInput<'input>>(
+    alloc: Global,
+    cursor: &mut Cursor<T>,
+) -> Result<Token<'input>, ScanError>
+    requires { (h : Here) → Stands T.unread cursor.old h → next_char h ≡ 0x23 }
+    ensures here { (h : Here) → Stands T.unread cursor.old h → GivesTo (λ t. t) result (Stands T.unread cursor.new) (coded comment_token (spec.comment h)) }
+    ensures comment { (h : Here) → Stands T.unread cursor.old h → IfOk result (λ t. (c : spec.CommentRead) × (after : Here) × spec.StandsComment h c after × (t ≡ comment_token c) × Stands T.unread cursor.new after) }
+    ensures cause { (h : Here) → Stands T.unread cursor.old h → IfErr result (λ e. (e.kind ≡ NoMemory) ⊎ spec.Spoils h e.kind e.mark) }
+    ensures kinds { IfErr result (λ e. (e.kind ≡ NoMemory) ⊎ ((c : ℕ) × (e.kind ≡ UnexpectedCharacter c))) }
+    ensures moves { Moves T.left T.origin cursor.old cursor.new }
+{
+    read_comment(alloc, cursor)
+}
+
+/// The same without the token.
+///
+/// # Errors
+///
+/// `UnexpectedCharacter`, as above.
+pub fn skip_comment<'input, T: BorrowedInput<'input>>(
+    cursor: &mut Cursor<T>,
+) -> Result<(), ScanError>
+    requires { (h : Here) → Stands T.unread cursor.old h → next_char h ≡ 0x23 }
+    ensures here { (h : Here) → Stands T.unread cursor.old h → GivesTo (λ u. u) result (Stands T.unread cursor.new) (spec.skipped_comment h) }
+    ensures comment { (h : Here) → Stands T.unread cursor.old h → IfOk result (λ u. (c : spec.CommentRead) × (after : Here) × spec.StandsComment h c after × Stands T.unread cursor.new after) }
+    ensures cause { (h : Here) → Stands T.unread cursor.old h → IfErr result (λ e. spec.Spoils h e.kind e.mark) }
+    ensures kinds { IfErr result (λ e. (c : ℕ) × (e.kind ≡ UnexpectedCharacter c)) }
+    ensures moves { Moves T.left T.origin cursor.old cursor.new }
+{
+    pass_comment(cursor)
+}
+
+#[tactic(auto, unfolding(granit_model::specs::Comment::comment, granit_model::specs::Comment::skipped_comment))]
+fn read_comment<'input, T: Input>(
+    alloc: Global,
+    cursor: &mut Cursor<T>,
+) -> Result<Token<'input>, ScanError>
+    ensures here { (h : Here) → Stands T.unread cursor.old h → GivesTo (λ t. t) result (Stands T.unread cursor.new) (coded comment_token (spec.comment h)) }
+    ensures kinds { IfErr result (λ e. (e.kind ≡ NoMemory) ⊎ ((c : ℕ) × (e.kind ≡ UnexpectedCharacter c))) }
+    ensures moves { Moves T.left T.origin cursor.old cursor.new }
+{
+    let start = cursor.mark();
+    cursor.step();
+    let mut text = String::new(alloc);
+    cursor.fetch_while_non_breakz(&mut text)?;
+    behind_comment(cursor)?;
+    let span = Span::new(start, cursor.mark());
+    Ok(Token::new(span, TokenType::Comment(Comment::new(Text::owned(text)))))
+}
+
+#[tactic(auto, unfolding(granit_model::specs::Comment::skipped_comment))]
+fn pass_comment<T: Input>(cursor: &mut Cursor<T>) -> Result<(), ScanError>
+    ensures here { (h : Here) → Stands T.unread cursor.old h → GivesTo (λ u. u) result (Stands T.unread cursor.new) (spec.skipped_comment h) }
+    ensures kinds { IfErr result (λ e. (c : ℕ) × (e.kind ≡ UnexpectedCharacter c)) }
+    ensures moves { Moves T.left T.origin cursor.old cursor.new }
+{
+    cursor.step();
+    cursor.skip_while_non_breakz();
+    behind_comment(cursor)
+}
+
+/// Behind the characters of a comment, where no unprintable character may stand.
+#[tactic(auto, unfolding(granit_model::specs::Comment::behind_comment))]
+fn behind_comment<T: Input>(cursor: &mut Cursor<T>) -> Result<(), ScanError>
+    ensures here { (h : Here) → Stands T.unread cursor.old h → GivesTo (λ u. u) result (Stands T.unread cursor.new) (spec.behind_comment h) }
+    ensures kinds { IfErr result (λ e. (c : ℕ) × (e.kind ≡ UnexpectedCharacter c)) }
+    ensures moves { Moves T.left T.origin cursor.old cursor.new }
+{
+    cursor.look(1);
+    let character = cursor.input().peek();
+    if cursor.input().next_is_z() || is_printable(character) {
+        return Ok(());
+    }
+    Err(ScanError::from_kind(cursor.mark(), ErrorKind::UnexpectedCharacter { character }))
+}

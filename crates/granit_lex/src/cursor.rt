@@ -1,0 +1,225 @@
+//! An input, and the place up to which it was read.
+ghost use Rattle.std.specs.Prelude.{◌≡◌, ◌<◌, ◌≤◌, ◌+◌, ◌-◌, ◌^◌, ◌++◌, min, max, length, is_some, string_bytes, false, IfOk, OnErr};
+ghost use Rattle.std.specs.Borrow.{sem};
+ghost use Rattle.std.specs.Io.BufRead.{Rests};
+ghost use Rattle.std.specs.Option.{option_map};
+ghost use Rattle.std.specs.Str.{chars};
+ghost use Rattle.granit_base.specs.Classes.{is_blank};
+ghost use Rattle.granit_base.specs.Place as place;
+ghost use Rattle.granit_base.specs.Written.{string_chars};
+ghost use Rattle.granit_error.specs.Kinds.{kind_of};
+ghost use Rattle.granit_input.specs.Origin.{error_given, after_giving, Goes};
+ghost use Rattle.granit_input.specs.Runs.{starts, is_line_char, is_non_breakz, is_plain_at, is_quoted_char};
+ghost use Rattle.granit_model.specs.Here.{Here, first_place, mark_of, next_char, step};
+ghost use Rattle.granit_model.specs.Moves.{past_prefix_mark};
+ghost use Rattle.granit_lex.specs.Reading.{Stands, Moves, StepsRun, StepsFront, StepsText, FetchesSteps, FetchesFrontSteps};
+
+use granit_base::{Marker, NoMemory};
+use granit_error::ErrorKind;
+use granit_input::{Class, Input, Run};
+use std::marker::Model;
+
+/// An input, and the place up to which it was read. Clauses on what is read speak of whatever is known
+/// to be left; `Here` is that with its place.
+#[derive(Drop)]
+pub struct Cursor<T: Input> {
+    input: T,
+    index: usize,
+    line: usize,
+    col: usize,
+}
+
+impl<T: Input> Model for Cursor<T> {
+    ghost use Rattle.std.specs.Prelude.{◌+◌, ◌<◌, ◌≤◌, ◌^◌};
+    ghost use Rattle.granit_lex.specs.Reading.{Reading};
+
+    ghost Value = { Reading T };
+
+    ghost view = { λ c. record { input = c.input; place = record { index = c.index; line = c.line; column = c.col } } };
+
+    // no text is longer than memory, so no place passes `usize`
+    ghost invariant = { λ c. (c.index + T.left c.input < 2 ^ 63) × (c.line ≤ c.index + 1) × (c.col ≤ c.index) };
+}
+
+impl<T: Input> Cursor<T> {
+    /// At the start of an input.
+    pub fn new(input: T) -> Cursor<T>
+        ensures { result ≡ record { input = input; place = first_place } }
+    {
+        Cursor {
+            input,
+            index: 0,
+            line: 1,
+            col: 0,
+        }
+    }
+
+    /// The place up to which was read, with its byte offset where the input tells one.
+    pub fn mark(&self) -> Marker
+        ensures here { (h : Here) → Stands T.unread self.now h → result ≡ mark_of h }
+        ensures place { result.place ≡ self.now.place }
+        ensures told { is_some result.byte_offset ≡ (T.origin self.now.input).tells_offset }
+    {
+        Marker::new(self.index, self.line, self.col).with_byte_offset(self.input.byte_offset())
+    }
+
+    /// The input, for looking.
+    pub fn input(&self) -> &T
+        ensures { result.now ≡ self.now.input }
+    {
+        &self.input
+    }
+
+    /// Makes the window at least `count` characters where that is at most 8, and consumes nothing.
+    pub fn look(&mut self, count: usize)
+        ensures here { (h : Here) → Stands T.unread self.old h → Stands T.unread self.new h }
+        ensures place { self.new.place ≡ self.old.place }
+        ensures window { max (min count 8) (T.window self.old.input) ≤ T.window self.new.input }
+        ensures moves { Moves T.left T.origin self.old self.new }
+    {
+        self.input.lookahead(count);
+    }
+
+    /// Consumes the next character, if there is one, and moves the place: a line ends with LF, and with
+    /// CR that no LF follows (YAML 1.2.2, 5.4).
+    #[tactic(auto, unfolding(granit_model::specs::Here::step), using(granit_input::proofs::UnreadLemmas::past_one))]
+    pub fn step(&mut self)
+        ensures here { (h : Here) → Stands T.unread self.old h → Stands T.unread self.new (step h) }
+        ensures left { T.left self.new.input ≤ T.left self.old.input - 1 }
+        ensures moves { Moves T.left T.origin self.old self.new }
+    {
+        self.input.lookahead(2);
+        if self.input.next_is_z() {
+            return;
+        }
+        let breaks = ends_line(&self.input);
+        self.input.skip();
+        self.index += 1;
+        if breaks {
+            self.line += 1;
+            self.col = 0;
+        } else {
+            self.col += 1;
+        }
+    }
+
+    /// Consumes the byte-order mark that stands next in column 0, and counts no column
+    /// (YAML 1.2.2, 5.2).
+    #[tactic(auto, unfolding(granit_model::specs::Moves::past_prefix_mark))]
+    pub fn step_prefix_mark(&mut self)
+        requires mark { (h : Here) → Stands T.unread self.old h → next_char h ≡ 0xFEFF }
+        requires column { self.old.place.column ≡ 0 }
+        ensures here { (h : Here) → Stands T.unread self.old h → Stands T.unread self.new (past_prefix_mark h) }
+        ensures moves { Moves T.left T.origin self.old self.new }
+    {
+        self.input.lookahead(1);
+        if self.input.next_is_z() {
+            return;
+        }
+        self.input.skip();
+        self.index += 1;
+    }
+
+    /// The first error that the input's source gave, once.
+    pub fn take_source_error(&mut self) -> Option<ErrorKind>
+        ensures given { option_map kind_of result ≡ error_given (T.origin self.old.input) }
+        ensures here { (h : Here) → Stands T.unread self.old h → Stands T.unread self.new h }
+        ensures place { self.new.place ≡ self.old.place }
+        ensures left { T.left self.new.input ≤ T.left self.old.input }
+        ensures origin { T.origin self.new.input ≡ after_giving (T.origin self.old.input) }
+    {
+        self.input.take_source_error()
+    }
+
+    /// Consumes and appends what a plain scalar takes without blanks: true where the run ended, false
+    /// where `count` characters or more were taken; and how many (YAML 1.2.2, 7.3.3).
+    /// Its error is `NoMemory` alone, and the text is then as before.
+    pub fn fetch_plain_scalar_chunk(
+        &mut self,
+        out: &mut String,
+        count: usize,
+        flow_level_gt_0: bool,
+    ) -> Result<(bool, usize), NoMemory>
+        ensures here { (h : Here) → Stands T.unread self.old h → FetchesFrontSteps (is_plain_at flow_level_gt_0) h count result (Stands T.unread self.new) (string_chars out.old) (string_chars out.new) }
+        ensures kept { OnErr result (string_bytes out.new ≡ string_bytes out.old) }
+        ensures few { IfOk result (λ r. r.0 ≡ false → count ≤ r.1) }
+        ensures moves { Moves T.left T.origin self.old self.new }
+    {
+        let (ended, taken) = self
+            .input
+            .fetch_plain_scalar_chunk(out, count, flow_level_gt_0)?;
+        self.index += taken;
+        self.col += taken;
+        Ok((ended, taken))
+    }
+
+    /// The same without appending.
+    pub fn skip_plain_scalar_chunk(&mut self, count: usize, flow_level_gt_0: bool) -> (bool, usize)
+        ensures here { (h : Here) → Stands T.unread self.old h → StepsFront (is_plain_at flow_level_gt_0) h count result (Stands T.unread self.new) }
+        ensures few { result.0 ≡ false → count ≤ result.1 }
+        ensures moves { Moves T.left T.origin self.old self.new }
+    {
+        let (ended, taken) = self.input.skip_plain_scalar_chunk(count, flow_level_gt_0);
+        self.index += taken;
+        self.col += taken;
+        (ended, taken)
+    }
+
+    /// Consumes and appends up to a break, NUL or the end; how many characters.
+    /// Its error is `NoMemory` alone, and the text is then as before.
+    pub fn fetch_block_scalar_line(&mut self, out: &mut String) -> Result<usize, NoMemory>
+        ensures here { (h : Here) → Stands T.unread self.old h → FetchesSteps (starts is_non_breakz) h result (Stands T.unread self.new) (string_chars out.old) (string_chars out.new) }
+        ensures kept { OnErr result (string_bytes out.new ≡ string_bytes out.old) }
+        ensures moves { Moves T.left T.origin self.old self.new }
+    {
+        let taken = self.input.fetch_block_scalar_line(out)?;
+        self.index += taken;
+        self.col += taken;
+        Ok(taken)
+    }
+
+    /// Consumes printable characters up to a break, NUL or the end; how many.
+    pub fn skip_while_non_breakz(&mut self) -> usize
+        ensures here { (h : Here) → Stands T.unread self.old h → StepsRun (starts is_line_char) h result (Stands T.unread self.new) }
+        ensures moves { Moves T.left T.origin self.old self.new }
+    {
+        let taken = self.input.skip_while_non_breakz();
+        self.index += taken;
+        self.col += taken;
+        taken
+    }
+
+    /// Consumes blanks; how many characters.
+    pub fn skip_while_blank(&mut self) -> usize
+        ensures here { (h : Here) → Stands T.unread self.old h → StepsRun (starts is_blank) h result (Stands T.unread self.new) }
+        ensures moves { Moves T.left T.origin self.old self.new }
+    {
+        let taken = self.input.skip_while_blank();
+        self.index += taken;
+        self.col += taken;
+        taken
+    }
+
+    /// Consumes and appends printable characters up to a break, NUL or the end.
+    /// Its error is `NoMemory` alone.
+    pub(crate) fn fetch_while_non_breakz(&mut self, out: &mut String) -> Result<usize, NoMemory>
+        ensures here { (h : Here) → Stands T.unread self.old h → FetchesSteps (starts is_line_char) h result (Stands T.unread self.new) (string_chars out.old) (string_chars out.new) }
+        ensures moves { Moves T.left T.origin self.old self.new }
+    {
+        let (_, taken) = self
+            .input
+            .fetch_run(out, Run::Of(Class::Printable), usize::MAX)?;
+        self.index += taken;
+        self.col += taken;
+        Ok(taken)
+    }
+}
+
+/// Whether the next character ends a line.
+fn ends_line<T: Input>(input: &T) -> bool
+    requires { 2 ≤ T.window input.now }
+    ensures { (u : place.Unread) → T.unread input.now u → result ≡ place.ends_line u.text }
+{
+    let c = input.peek();
+    c == '\n' || c == '\r' && input.peek_nth(1) != '\n'
+}

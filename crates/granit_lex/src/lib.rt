@@ -1,0 +1,17 @@
+//! Lexemes: tokens, and a cursor that reads them from an input.
+#![tactic(auto)]
+
+mod comment;
+mod comments;
+mod cursor;
+mod plain;
+mod token;
+
+pub use comment::Comment;
+pub use comments::{scan_comment, skip_comment};
+pub use cursor::Cursor;
+pub use plain::scan_plain_scalar;
+pub use token::{Layout, Lexed, Token, TokenType};
+
+#[cfg(test)]
+mod tests;

@@ -1,0 +1,351 @@
+//! Plain scalars are read (YAML 1.2.2, 7.3.3).
+ghost use Rattle.std.specs.Prelude.{◌≡◌, ◌<◌, ◌≤◌, ◌-◌, ◌⊎◌, ◌==◌, ◌&&◌, ◌||◌, not, ℕ, [], ◌∷◌, ◌++◌, true, length, take, IfOk, IfErr, OnOk};
+ghost use Rattle.std.specs.Str.{chars};
+ghost use Rattle.granit_base.specs.Written.{string_chars};
+ghost use Rattle.granit_error.specs.FaultKind.{NoMemory as OutOfMemory, PlainScalarStartsWithDashFlowIndicator, TabInPlainScalar, UnexpectedCharacter};
+ghost use Rattle.granit_input.specs.Runs.{run_length, is_plain_at};
+ghost use Rattle.granit_model.specs.Here.{Here, next_char, mark_of, step};
+ghost use Rattle.granit_model.specs.LayoutData as layout;
+ghost use Rattle.granit_model.specs.Moves.{steps};
+ghost use Rattle.granit_model.specs.PlainExtent as extent;
+ghost use Rattle.granit_model.specs.PlainScalar as spec;
+ghost use Rattle.granit_lex.specs.PlainCode.{plain_state, inside, plain_rest, plain_whole, ahead_of, TakesSome, TurnTakes, TurnsTo, PartsTo, ended_plain, IsPlainKind};
+ghost use Rattle.granit_lex.specs.Reading.{Stands, Moves, GivesTo, coded};
+ghost use Rattle.granit_lex.specs.Tokens.{layout_data, plain_lexed};
+
+use crate::cursor::Cursor;
+use crate::token::{Layout, Lexed, Token, TokenType};
+use granit_base::{
+    Marker, NoMemory, ScalarStyle, Span, Text, find_non_printable, is_at_end, is_blank,
+    is_blank_or_breakz, is_break, is_flow, is_printable, is_z, push_char,
+};
+use granit_error::{ErrorKind, ScanError};
+use granit_input::{BorrowedInput, Input};
+use std::alloc::Global;
+
+/// The plain scalar that begins here (YAML 1.2.2, 7.3.3); the cursor then stands behind the blanks and
+/// breaks that follow it. Its value is folded (6.5) and owned. No comment is read.
+///
+/// # Errors
+///
+/// `NoMemory`. At the scalar's start: `PlainScalarStartsWithDashFlowIndicator` where it begins with a `-`
+/// directly before a flow indicator, in flow; `TabInPlainScalar` where a tab that indents a further line
+/// with content stands left of where a node may stand; `UnexpectedCharacter` where it holds a character
+/// that isn't printable. `UnexpectedCharacter` where such a character stands behind it; a NUL is one.
+pub fn scan_plain_scalar<'input, T: BorrowedInput<'input>>(
+    alloc: Global,
+    cursor: &mut Cursor<T>,
+    at: &Layout,
+) -> Result<Lexed<'input>, ScanError>
+    requires { (h : Here) → Stands T.unread cursor.old h → spec.is_content at.now.in_flow h.unread.text ≡ true }
+    ensures here { (h : Here) → Stands T.unread cursor.old h → GivesTo (λ l. l) result (Stands T.unread cursor.new) (coded plain_lexed (spec.plain_scalar (layout_data at.now) h)) }
+    ensures scalar { (h : Here) → Stands T.unread cursor.old h → IfOk result (λ l. (read : spec.PlainRead) × (after : Here) × extent.AnswersPlain (layout_data at.now) h read after × (l ≡ plain_lexed read) × Stands T.unread cursor.new after) }
+    ensures cause { (h : Here) → Stands T.unread cursor.old h → IfErr result (λ e. (e.kind ≡ OutOfMemory) ⊎ extent.RefusesPlain (layout_data at.now) h e.kind e.mark) }
+    ensures answered { (h : Here) (read : spec.PlainRead) (after : Here) → Stands T.unread cursor.old h → extent.AnswersPlain (layout_data at.now) h read after → IfErr result (λ e. e.kind ≡ OutOfMemory) }
+    ensures kinds { IfErr result (λ e. IsPlainKind e.kind) }
+    ensures moves { Moves T.left T.origin cursor.old cursor.new }
+{
+    read_plain(alloc, cursor, at)
+}
+
+/// What was read of a plain scalar.
+#[derive(Drop)]
+struct PlainParts {
+    /// Its value up to the last character of content.
+    value: String,
+    /// What was read since then: blanks, or behind a break a line feed for each empty line.
+    pending: String,
+    /// The place behind the last character of content.
+    end: Marker,
+    /// Whether a break was read since then.
+    on_new_line: bool,
+    /// Whether a tab left of where a node may stand is among the blanks that begin this line.
+    left_tab: bool,
+}
+
+/// What stands next in a plain scalar.
+#[derive(Clone, Copy)]
+enum Ahead {
+    Blank,
+    Break,
+    /// Content behind a tab left of where a node may stand.
+    Tab,
+    Content,
+    /// The scalar ends here.
+    End,
+}
+
+/// Whether a column is left of where a node may stand.
+fn is_left(block_column: Option<usize>, column: usize) -> bool
+    ensures { result ≡ layout.is_left block_column column }
+{
+    match block_column {
+        None => false,
+        Some(n) => column <= n,
+    }
+}
+
+/// Whether the next character is a `#` that cuts the scalar short.
+fn meets_comment(c: char, parts: &PlainParts) -> bool
+    ensures { result ≡ (c == 0x23 && (parts.now.left_tab || (not parts.now.on_new_line && not (length (string_chars parts.now.pending) == 0)))) }
+{
+    c == '#' && (parts.left_tab || (!parts.on_new_line && !is_at_end(parts.pending.as_str())))
+}
+
+/// Whether a line that begins here is no part of the scalar.
+fn ends_before_line<T: Input>(cursor: &Cursor<T>, at: &Layout) -> bool
+    requires { 4 ≤ T.window cursor.now.input }
+    ensures { (h : Here) → Stands T.unread cursor.now h → result ≡ spec.ends_before_line (layout_data at.now) h }
+{
+    let column = cursor.mark().col();
+    cursor.input().peek() == '#'
+        || ((!at.in_flow || at.strict) && is_left(at.block_column, column))
+        || (column == 0 && cursor.input().next_is_document_indicator())
+}
+
+/// What stands next.
+#[tactic(auto, using(granit_input::proofs::RunLemmas::blank_some, granit_input::proofs::RunLemmas::break_some, granit_input::proofs::RunLemmas::blank_or_breakz_some))]
+fn look_ahead<T: Input>(cursor: &mut Cursor<T>, at: &Layout, parts: &PlainParts) -> Ahead
+    ensures here { (h : Here) → Stands T.unread cursor.old h → Stands T.unread cursor.new h × (result ≡ ahead_of (layout_data at.now) (plain_state parts.now h)) }
+    ensures some { TakesSome result (0 < T.left cursor.new.input) }
+    ensures moves { Moves T.left T.origin cursor.old cursor.new }
+{
+    cursor.look(4);
+    let c = cursor.input().peek();
+    if is_blank(c) {
+        return Ahead::Blank;
+    }
+    if is_break(c) {
+        return Ahead::Break;
+    }
+    if meets_comment(c, parts) {
+        return Ahead::End;
+    }
+    if parts.left_tab && !is_z(c) {
+        return Ahead::Tab;
+    }
+    if parts.on_new_line && ends_before_line(cursor, at) {
+        return Ahead::End;
+    }
+    if !is_blank_or_breakz(c) && cursor.input().next_can_be_plain_scalar(at.in_flow) {
+        return Ahead::Content;
+    }
+    Ahead::End
+}
+
+/// A blank on, which is dropped where it begins a line.
+#[tactic(auto, unfolding(granit_model::specs::PlainScalar::on_blank))]
+fn take_blank<T: Input>(
+    cursor: &mut Cursor<T>,
+    at: &Layout,
+    parts: &mut PlainParts,
+) -> Result<(), NoMemory>
+    ensures here { (h : Here) → Stands T.unread cursor.old h → OnOk result (Stands T.unread cursor.new (step h) × (plain_state parts.new (step h) ≡ spec.on_blank (layout_data at.now) (plain_state parts.old h))) }
+    ensures value { string_chars parts.new.value ≡ string_chars parts.old.value }
+    ensures left { OnOk result (T.left cursor.new.input ≤ T.left cursor.old.input - 1) }
+    ensures moves { Moves T.left T.origin cursor.old cursor.new }
+{
+    cursor.look(1);
+    let c = cursor.input().peek();
+    if parts.on_new_line {
+        let left = is_left(at.block_column, cursor.mark().col());
+        parts.left_tab = parts.left_tab || c == '\t' && left;
+        cursor.step();
+        return Ok(());
+    }
+    push_char(&mut parts.pending, c)?;
+    cursor.step();
+    Ok(())
+}
+
+/// A break on: blanks before the first are dropped, and each further one is an empty line.
+#[tactic(auto, unfolding(granit_model::specs::PlainScalar::on_break))]
+fn take_break<T: Input>(cursor: &mut Cursor<T>, parts: &mut PlainParts) -> Result<(), NoMemory>
+    ensures here { (h : Here) → Stands T.unread cursor.old h → OnOk result (Stands T.unread cursor.new (spec.past_break h) × (plain_state parts.new (spec.past_break h) ≡ spec.on_break (plain_state parts.old h))) }
+    ensures value { string_chars parts.new.value ≡ string_chars parts.old.value }
+    ensures left { OnOk result (T.left cursor.new.input ≤ T.left cursor.old.input - 1) }
+    ensures moves { Moves T.left T.origin cursor.old cursor.new }
+{
+    if parts.on_new_line {
+        push_char(&mut parts.pending, '\n')?;
+        parts.left_tab = false;
+        past_break(cursor);
+        return Ok(());
+    }
+    drop_blanks(&mut parts.pending);
+    parts.on_new_line = true;
+    past_break(cursor);
+    Ok(())
+}
+
+/// Blanks before a break are no part of the value (YAML 1.2.2, 6.5).
+#[tactic(auto, using(crate::proofs::PlainLemmas::cleared))]
+fn drop_blanks(blanks: &mut String)
+    ensures { string_chars blanks.new ≡ [] }
+{
+    blanks.clear();
+}
+
+/// Behind a break, which CR LF is too (YAML 1.2.2, 5.4).
+#[tactic(auto, unfolding(granit_model::specs::PlainScalar::past_break))]
+fn past_break<T: Input>(cursor: &mut Cursor<T>)
+    ensures here { (h : Here) → Stands T.unread cursor.old h → Stands T.unread cursor.new (spec.past_break h) }
+    ensures left { T.left cursor.new.input ≤ T.left cursor.old.input - 1 }
+    ensures moves { Moves T.left T.origin cursor.old cursor.new }
+{
+    cursor.look(2);
+    if cursor.input().next_2_are('\r', '\n') {
+        cursor.step();
+        cursor.step();
+        return;
+    }
+    cursor.step();
+}
+
+/// Appends what stands for the blanks and breaks between two characters of content (YAML 1.2.2, 6.5).
+fn push_between(parts: &mut PlainParts) -> Result<(), NoMemory>
+    ensures value { (h : Here) → OnOk result (string_chars parts.new.value ≡ string_chars parts.old.value ++ spec.between (plain_state parts.old h)) }
+{
+    if parts.on_new_line && is_at_end(parts.pending.as_str()) {
+        return push_char(&mut parts.value, ' ');
+    }
+    push_text(&mut parts.value, parts.pending.as_str())
+}
+
+fn push_text(out: &mut String, text: &str) -> Result<(), NoMemory>
+    ensures { OnOk result (string_chars out.new ≡ string_chars out.old ++ chars text.now) }
+{
+    out.push_str(text)?;
+    Ok(())
+}
+
+/// A stretch of content on, behind what stands for the blanks and breaks before it.
+fn take_content<T: Input>(
+    cursor: &mut Cursor<T>,
+    in_flow: bool,
+    parts: &mut PlainParts,
+) -> Result<(), NoMemory>
+    ensures here { (h : Here) → Stands T.unread cursor.old h → OnOk result ((n : ℕ) × (n ≡ run_length (is_plain_at in_flow) (step h).unread.text) × Stands T.unread cursor.new (steps n (step h))
+        × (string_chars parts.new.value ≡ ((string_chars parts.old.value ++ spec.between (plain_state parts.old h)) ++ next_char h ∷ []) ++ take n (step h).unread.text)
+        × (plain_state parts.new (steps n (step h)) ≡ inside (steps n (step h)))) }
+    ensures left { OnOk result (T.left cursor.new.input ≤ T.left cursor.old.input - 1) }
+    ensures moves { Moves T.left T.origin cursor.old cursor.new }
+{
+    push_between(parts)?;
+    cursor.look(1);
+    push_char(&mut parts.value, cursor.input().peek())?;
+    cursor.step();
+    cursor.fetch_plain_scalar_chunk(&mut parts.value, usize::MAX, in_flow)?;
+    parts.end = cursor.mark();
+    parts.pending.clear();
+    parts.on_new_line = false;
+    parts.left_tab = false;
+    Ok(())
+}
+
+/// On over a blank, a break or a stretch of content; false where the scalar ends.
+fn take_turn<T: Input>(
+    cursor: &mut Cursor<T>,
+    at: &Layout,
+    start: Marker,
+    parts: &mut PlainParts,
+) -> Result<bool, ScanError>
+    ensures here { (h : Here) → Stands T.unread cursor.old h → TurnsTo (layout_data at.now) start result (Stands T.unread cursor.new) parts.new (plain_whole (layout_data at.now) start parts.old h) }
+    ensures left { TurnTakes result (T.left cursor.old.input) (T.left cursor.new.input) }
+    ensures kinds { IfErr result (λ e. (e.kind ≡ OutOfMemory) ⊎ (e.kind ≡ TabInPlainScalar)) }
+    ensures moves { Moves T.left T.origin cursor.old cursor.new }
+{
+    match look_ahead(cursor, at, parts) {
+        Ahead::Blank => {
+            take_blank(cursor, at, parts)?;
+            Ok(true)
+        }
+        Ahead::Break => {
+            take_break(cursor, parts)?;
+            Ok(true)
+        }
+        Ahead::Tab => Err(ScanError::from_kind(start, ErrorKind::TabInPlainScalar)),
+        Ahead::Content => {
+            take_content(cursor, at.in_flow, parts)?;
+            Ok(true)
+        }
+        Ahead::End => Ok(false),
+    }
+}
+
+/// All of a plain scalar, from its first character on.
+fn plain_parts<T: Input>(
+    alloc: Global,
+    cursor: &mut Cursor<T>,
+    at: &Layout,
+    start: Marker,
+) -> Result<PlainParts, ScanError>
+    ensures here { (h : Here) → Stands T.unread cursor.old h → start ≡ mark_of h → PartsTo result (Stands T.unread cursor.new) (plain_rest (layout_data at.now) start (spec.plain_start h)) }
+    ensures kinds { IfErr result (λ e. (e.kind ≡ OutOfMemory) ⊎ (e.kind ≡ TabInPlainScalar)) }
+    ensures moves { Moves T.left T.origin cursor.old cursor.new }
+{
+    let mut parts = PlainParts {
+        value: String::new(alloc),
+        pending: String::new(alloc),
+        end: start,
+        on_new_line: false,
+        left_tab: false,
+    };
+    'turns: while take_turn(cursor, at, start, &mut parts)? {}
+    Ok(parts)
+}
+
+/// A plain scalar that was read up to its end, where it and what stands behind it are printable.
+#[tactic(auto, unfolding(granit_model::specs::PlainScalar::behind_plain))]
+fn finish_plain<'input, T: Input>(
+    cursor: &mut Cursor<T>,
+    at: &Layout,
+    start: Marker,
+    parts: PlainParts,
+) -> Result<Lexed<'input>, ScanError>
+    ensures here { (h : Here) → Stands T.unread cursor.old h → GivesTo (λ l. l) result (Stands T.unread cursor.new) (coded plain_lexed (ended_plain (layout_data at.now) start (string_chars parts.value) (plain_state parts h))) }
+    ensures kinds { IfErr result (λ e. (c : ℕ) × (e.kind ≡ UnexpectedCharacter c)) }
+    ensures moves { Moves T.left T.origin cursor.old cursor.new }
+{
+    if let Some(character) = find_non_printable(parts.value.as_str()) {
+        return Err(ScanError::from_kind(start, ErrorKind::UnexpectedCharacter { character }));
+    }
+    cursor.look(1);
+    let character = cursor.input().peek();
+    if !cursor.input().next_is_z() && !is_printable(character) {
+        return Err(ScanError::from_kind(
+            cursor.mark(),
+            ErrorKind::UnexpectedCharacter { character },
+        ));
+    }
+    let cut = !at.in_flow && meets_comment(character, &parts);
+    let cut_by_comment = if cut { Some(cursor.mark()) } else { None };
+    let span = Span::new(start, parts.end);
+    let on_new_line = parts.on_new_line;
+    let token_type = TokenType::Scalar(ScalarStyle::Plain, Text::owned(parts.value));
+    Ok(Lexed {
+        token: Token::new(span, token_type),
+        comment: None,
+        cut_by_comment,
+        on_new_line,
+    })
+}
+
+#[tactic(auto, unfolding(granit_model::specs::PlainScalar::plain_scalar))]
+fn read_plain<'input, T: Input>(
+    alloc: Global,
+    cursor: &mut Cursor<T>,
+    at: &Layout,
+) -> Result<Lexed<'input>, ScanError>
+    ensures here { (h : Here) → Stands T.unread cursor.old h → GivesTo (λ l. l) result (Stands T.unread cursor.new) (coded plain_lexed (spec.plain_scalar (layout_data at.now) h)) }
+    ensures kinds { IfErr result (λ e. IsPlainKind e.kind) }
+    ensures moves { Moves T.left T.origin cursor.old cursor.new }
+{
+    let start = cursor.mark();
+    cursor.look(2);
+    if at.in_flow && cursor.input().peek() == '-' && is_flow(cursor.input().peek_nth(1)) {
+        return Err(ScanError::from_kind(start, ErrorKind::PlainScalarStartsWithDashFlowIndicator));
+    }
+    let parts = plain_parts(alloc, cursor, at, start)?;
+    finish_plain(cursor, at, start, parts)
+}

@@ -1,0 +1,328 @@
+//! The worked rows, and each call once. The rows are the original's tokens and faults.
+use crate::{
+    Comment, Cursor, Layout, Lexed, Token, TokenType, scan_comment, scan_plain_scalar, skip_comment,
+};
+use granit_base::{Marker, Placement, ScalarStyle, Span, Text, TextList, is_blank_or_breakz};
+use granit_error::ScanError;
+use granit_input::{BorrowedInput, Input, StrInput};
+use std::alloc::Global;
+use std::convert::AsStr;
+use std::test::Fail;
+
+/// Outside flow, inside a block collection in that column.
+fn block(block_column: Option<usize>) -> Layout {
+    Layout {
+        block_column,
+        tab_column: 0,
+        in_flow: false,
+        strict: false,
+        comments: true,
+    }
+}
+
+/// In flow, inside a block collection in that column.
+fn flow(block_column: Option<usize>, strict: bool) -> Layout {
+    Layout {
+        block_column,
+        tab_column: 0,
+        in_flow: true,
+        strict,
+        comments: true,
+    }
+}
+
+/// The plain scalar that begins here, where one does.
+fn scalar_at<'a, T: BorrowedInput<'a>>(
+    alloc: Global,
+    cursor: &mut Cursor<T>,
+    at: &Layout,
+) -> Option<Result<Lexed<'a>, ScanError>> {
+    cursor.look(2);
+    if is_blank_or_breakz(cursor.input().peek())
+        || !cursor.input().next_can_be_plain_scalar(at.in_flow)
+    {
+        return None;
+    }
+    Some(scan_plain_scalar(alloc, cursor, at))
+}
+
+/// The comment that begins here, where one does.
+fn comment_at<'a, T: BorrowedInput<'a>>(
+    alloc: Global,
+    cursor: &mut Cursor<T>,
+) -> Option<Result<Token<'a>, ScanError>> {
+    cursor.look(1);
+    if cursor.input().peek() != '#' {
+        return None;
+    }
+    Some(scan_comment(alloc, cursor))
+}
+
+/// Over the comment that begins here, where one does.
+fn skipped_at<'a, T: BorrowedInput<'a>>(cursor: &mut Cursor<T>) -> Option<Result<(), ScanError>> {
+    cursor.look(1);
+    if cursor.input().peek() != '#' {
+        return None;
+    }
+    Some(skip_comment(cursor))
+}
+
+/// Over the byte-order mark that stands here, where one does.
+fn skip_mark<T: Input>(cursor: &mut Cursor<T>) -> bool {
+    cursor.look(1);
+    if cursor.input().peek() != '\u{feff}' || cursor.mark().col() != 0 {
+        return false;
+    }
+    cursor.step_prefix_mark();
+    true
+}
+
+/// What a plain scalar at the start of a text gives: its value, where it ends, where the cursor then stands,
+/// the place of the `#` that cut it short, and whether a break was read behind it.
+fn told(
+    alloc: Global,
+    text: &str,
+    at: &Layout,
+) -> Option<(Text<'static>, [Option<usize>; 3], bool)> {
+    let mut cursor = Cursor::new(StrInput::new(text));
+    let lexed = scalar_at(alloc, &mut cursor, at)?.ok()?;
+    let (span, token_type) = lexed.token.into_parts();
+    let TokenType::Scalar(ScalarStyle::Plain, value) = token_type else {
+        return None;
+    };
+    let value = String::from_str(alloc, value.as_str()).ok()?;
+    let cut = lexed.cut_by_comment.map(|mark| mark.index());
+    let places = [Some(span.end.index()), Some(cursor.mark().index()), cut];
+    Some((Text::owned(value), places, lexed.on_new_line))
+}
+
+fn tells(
+    told: Option<(Text<'static>, [Option<usize>; 3], bool)>,
+    value: &str,
+    places: [Option<usize>; 3],
+    on_new_line: bool,
+) -> bool {
+    match told {
+        None => false,
+        Some((text, found, line)) => {
+            text.as_str() == value && found == places && line == on_new_line
+        }
+    }
+}
+
+/// The number of the kind by which a plain scalar at the start of a text is refused, and the index of its mark.
+fn refused(alloc: Global, text: &str, at: &Layout) -> Option<(u8, usize)> {
+    let mut cursor = Cursor::new(StrInput::new(text));
+    let error = scalar_at(alloc, &mut cursor, at)?.err()?;
+    Some((error.kind().number(), error.marker().index()))
+}
+
+#[test]
+fn ends_of_plain_scalars(rt: HostRuntime) {
+    let rows = [
+        ("a: b", block(Some(0)), "a", 1, 1, false),
+        ("a:b::c", block(Some(0)), "a:b::c", 6, 6, false),
+        ("a:[", block(Some(0)), "a:[", 3, 3, false),
+        ("a#b", block(Some(0)), "a#b", 3, 3, false),
+        ("a,[]{}b", block(Some(0)), "a,[]{}b", 7, 7, false),
+        ("a:,b]", flow(None, false), "a", 1, 1, false),
+        ("a,b]", flow(None, false), "a", 1, 1, false),
+        ("a{b: c}]", flow(None, false), "a", 1, 1, false),
+        ("a \n---", block(None), "a", 1, 3, true),
+        ("a\n---b", block(None), "a ---b", 6, 6, false),
+        ("a\n--- b", block(None), "a", 1, 2, true),
+        ("a\nb: c", block(Some(0)), "a", 1, 2, true),
+        ("a\nb]", flow(Some(0), false), "a b", 3, 3, false),
+        ("a\nb]", flow(Some(0), true), "a", 1, 2, true),
+        ("a \t", block(Some(0)), "a", 1, 3, false),
+    ];
+    for (text, at, value, end, stands, line) in rows {
+        let told = told(rt.alloc(), text, &at);
+        assert_eq!(rt;
+            tells(told, value, [Some(end), Some(stands), None], line),
+            true,
+            "at {text}"
+        );
+    }
+}
+
+#[test]
+fn lines_of_plain_scalars_fold(rt: HostRuntime) {
+    let rows = [
+        ("a\n b", "a b", 4),
+        ("a\n\n b", "a\nb", 5),
+        ("a\n\n\n b", "a\n\nb", 6),
+        ("a\r b", "a b", 4),
+        ("a\r\n b", "a b", 5),
+        ("a\r\n\r\n b", "a\nb", 7),
+        ("a \t\n \t \n  \tb c", "a\nb c", 14),
+        ("a\n \tb", "a b", 5),
+        ("a\n\t\n b", "a\nb", 6),
+    ];
+    for (text, value, end) in rows {
+        let told = told(rt.alloc(), text, &block(Some(0)));
+        assert_eq!(rt;
+            tells(told, value, [Some(end), Some(end), None], false),
+            true,
+            "at {text}"
+        );
+    }
+}
+
+#[test]
+fn comments_cut_plain_scalars(rt: HostRuntime) {
+    let rows = [
+        ("a #c\n b", block(Some(0)), 2, Some(2), false),
+        ("a\t#c", block(Some(0)), 2, Some(2), false),
+        ("a\n #c", block(Some(0)), 3, None, true),
+        ("a\n\t#c\n b", block(Some(0)), 3, Some(3), true),
+        ("a\n \t#c", block(Some(0)), 4, None, true),
+        ("a #c\n]", flow(None, false), 2, None, false),
+    ];
+    for (text, at, stands, cut, line) in rows {
+        let told = told(rt.alloc(), text, &at);
+        assert_eq!(rt;
+            tells(told, "a", [Some(1), Some(stands), cut], line),
+            true,
+            "at {text}"
+        );
+    }
+}
+
+#[test]
+fn refusals_of_plain_scalars(rt: HostRuntime) {
+    let rows = [
+        ("a\n\tb", block(Some(0)), 72, 0),
+        ("a\n  \tb", block(Some(2)), 72, 0),
+        ("a\n\t]", flow(Some(0), false), 72, 0),
+        ("-,a", flow(None, false), 7, 0),
+        ("-]", flow(None, false), 7, 0),
+        ("a\0b", block(Some(0)), 76, 1),
+        ("a \0", block(Some(0)), 76, 2),
+        ("a\u{1}b", block(Some(0)), 76, 0),
+        ("a \u{7f}", block(Some(0)), 76, 0),
+    ];
+    for (text, at, number, mark) in rows {
+        assert_eq!(rt;
+            refused(rt.alloc(), text, &at),
+            Some((number, mark)),
+            "at {text}"
+        );
+    }
+    assert_eq!(rt; refused(rt.alloc(), "-a", &flow(None, false)), None);
+}
+
+#[test]
+fn comments_go_to_the_break(rt: HostRuntime) {
+    let alloc = rt.alloc();
+    let rows = [
+        ("# a#b\r\n", " a#b", 5),
+        ("#", "", 1),
+        ("#\té\n# c", "\té", 3),
+    ];
+    for (text, want, end) in rows {
+        let mut cursor = Cursor::new(StrInput::new(text));
+        let token = comment_at(alloc, &mut cursor).and_then(|read| read.ok());
+        let wanted = Token::new(
+            Span::new(Marker::new(0, 1, 0), cursor.mark()),
+            TokenType::Comment(Comment::new(Text::borrowed(want))),
+        );
+        assert_eq!(rt; token == Some(wanted), true);
+        assert_eq!(rt; cursor.mark().index(), end);
+        let mut cursor = Cursor::new(StrInput::new(text));
+        assert_eq!(rt;
+            skipped_at(&mut cursor).map(|read| read.is_ok()),
+            Some(true)
+        );
+        assert_eq!(rt; cursor.mark().index(), end);
+    }
+    for (text, mark) in [("#a\0", 2), ("# \u{1}", 2), ("#\u{7f}b\n", 1)] {
+        let mut cursor = Cursor::new(StrInput::new(text));
+        let error = comment_at(alloc, &mut cursor).and_then(|read| read.err());
+        assert_eq!(rt;
+            error.map(|e| (e.kind().number(), e.marker().index())),
+            Some((76, mark))
+        );
+        let mut cursor = Cursor::new(StrInput::new(text));
+        let error = skipped_at(&mut cursor).and_then(|read| read.err());
+        assert_eq!(rt;
+            error.map(|e| (e.kind().number(), e.marker().index())),
+            Some((76, mark))
+        );
+    }
+}
+
+/// The line and the column of a cursor.
+fn line_and_column<T: Input>(cursor: &Cursor<T>) -> (usize, usize) {
+    (cursor.mark().line(), cursor.mark().col())
+}
+
+#[test]
+fn cursors_move_by_the_place_rule(rt: HostRuntime) {
+    let mut cursor = Cursor::new(StrInput::new("\u{feff}é\r\nb\rc\n"));
+    assert_eq!(rt; skip_mark(&mut cursor), true);
+    assert_eq!(rt; line_and_column(&cursor), (1, 0));
+    let places = [
+        (1, 1),
+        (1, 2),
+        (2, 0),
+        (2, 1),
+        (3, 0),
+        (3, 1),
+        (4, 0),
+        (4, 0),
+    ];
+    for place in places {
+        cursor.step();
+        assert_eq!(rt; line_and_column(&cursor), place);
+    }
+    assert_eq!(rt; cursor.mark().index(), 8);
+    assert_eq!(rt; cursor.mark().byte_offset(), Some(11));
+    assert_eq!(rt; cursor.take_source_error().is_none(), true);
+}
+
+#[test]
+fn cursors_take_runs(rt: HostRuntime) {
+    let mut out = String::new(rt.alloc());
+    let mut cursor = Cursor::new(StrInput::new(" \tab: c\u{7f}d\n"));
+    assert_eq!(rt; cursor.skip_while_blank(), 2);
+    let fetched = cursor.fetch_plain_scalar_chunk(&mut out, 16, false);
+    assert_eq!(rt; fetched.ok(), Some((true, 2)));
+    cursor.step();
+    assert_eq!(rt; cursor.skip_while_non_breakz(), 2);
+    assert_eq!(rt; cursor.fetch_block_scalar_line(&mut out).ok(), Some(2));
+    assert_eq!(rt; out.as_str(), "ab\u{7f}d");
+    assert_eq!(rt; line_and_column(&cursor), (1, 9));
+    let mut cursor = Cursor::new(StrInput::new("abc,"));
+    assert_eq!(rt; cursor.skip_plain_scalar_chunk(2, true), (false, 2));
+    assert_eq!(rt; cursor.skip_plain_scalar_chunk(2, true), (true, 1));
+    assert_eq!(rt; cursor.mark().index(), 3);
+}
+
+#[test]
+fn comments_and_tokens_are_cloned(rt: HostRuntime) -> Result<(), Fail> {
+    let alloc = rt.alloc();
+    let comment = Comment::new(Text::borrowed(" \u{a0}é c\t")).with_placement(Placement::Right);
+    assert_eq!(rt; comment.placement(), Placement::Right);
+    assert_eq!(rt; comment.text(), " \u{a0}é c\t");
+    assert_eq!(rt; comment.trimmed_text(), "é c");
+    assert_eq!(rt; comment.as_str(), " \u{a0}é c\t");
+    let copy = comment.try_clone(alloc)?;
+    assert_eq!(rt; copy == comment, true);
+    assert_eq!(rt; copy.into_text().is_borrowed(), true);
+    let mut parameters = TextList::new(alloc);
+    parameters.push(Text::borrowed("b"))?;
+    let directive = TokenType::ReservedDirective(Text::borrowed("a"), parameters);
+    assert_eq!(rt; directive.try_clone(alloc)? == directive, true);
+    let said = TokenType::Comment(comment);
+    assert_eq!(rt; said.try_clone(alloc)? == said, true);
+    assert_eq!(rt; said.try_clone(alloc)? == directive, false);
+    let token = Token::new(Span::empty(Marker::new(3, 1, 3)), said);
+    let copy = token.try_clone(alloc)?;
+    assert_eq!(rt; copy == token, true);
+    assert_eq!(rt; copy.token_type() == token.token_type(), true);
+    assert_eq!(rt; copy.span().start.index(), 3);
+    let (span, token_type) = copy.into_parts();
+    assert_eq!(rt; Token::new(span, token_type) == token, true);
+    Ok(())
+}
