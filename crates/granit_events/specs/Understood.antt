@@ -38,8 +38,8 @@ pub record PrintsFault (words : List Written) (left now : Option (List ℕ)) (wr
   pub cause : Cause default_options (chars bytes) fault.kind fault.mark
   pub wrote : Appends written after (fault_line fault)
 
--- the words are right, and a source has the UTF-8 of a text left, within the limit of an input: it has a reading, whose
--- aliases name anchors before them
+-- The words are right, and a source has the UTF-8 of a text left that has a reading, each alias of which names an anchor
+-- before it in its document, within the limit of an input.
 pub record CanRead (words : List Written) (left : Option (List ℕ)) : Type 0 where
   pub right : AreRight words
   pub bytes : List ℕ
@@ -49,7 +49,7 @@ pub record CanRead (words : List Written) (left : Option (List ℕ)) : Type 0 wh
   pub lexemes : List Lexeme
   pub documents : Documents
   pub reading : Reading default_options (chars bytes) lexemes documents
-  pub scope : Resolves default_options [] lexemes
+  pub resolves : Resolves default_options [] lexemes
 
 -- the words are right, and a source has the UTF-8 of the canonical flow text of trees left, within the limit of an input: the
 -- trees fit to be documents, are of characters, and no deeper than allowed

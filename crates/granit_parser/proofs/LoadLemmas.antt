@@ -1,7 +1,7 @@
 -- What the laws of the plain machine say of an answer of the code.
 use Rattle.std.proofs.Common.{◌≡◌, ◌≢◌, ◌≤◌, ℕ, List, [], refl, sym, ap, ◌∙◌, subst, Result, Ok, Err, ◌⊎◌, inl, inr}
 use Rattle.std.specs.Prelude.{IfOk, IfErr}
-use Rattle.granit_error.specs.FaultKind.{FaultKind, NoMemory}
+use Rattle.granit_error.specs.FaultKind.{FaultKind, NoMemory, RecursionLimitExceeded, UnknownAnchor}
 use Rattle.granit_error.specs.OptionsData.{OptionsData}
 use Rattle.granit_error.specs.Refused.{Refused}
 use Rattle.granit_model.specs.Canonical.{HasCharacters, documents_in, canonical_events}
@@ -18,7 +18,7 @@ use Rattle.granit_model.specs.Scope.{Resolves}
 use Rattle.granit_model.specs.Tree.{PlainTrees, trees_depth, DocumentsFit}
 use Rattle.granit_model.specs.Yield.{spell_documents}
 use Rattle.granit_canonical.proofs.Laws.{is_read, names_anchors}
-use Rattle.granit_laws.proofs.Laws.{IsLimit, is_reading, is_answered, answered_or_refused, has_cause}
+use Rattle.granit_laws.proofs.Laws.{is_reading, is_answered, answered_or_refused, has_cause, IsLimit}
 use Rattle.granit_laws.proofs.Spans.{spans_in}
 
 memory_or_not : (k : FaultKind) → (k ≡ NoMemory) ⊎ (k ≢ NoMemory)
@@ -45,17 +45,17 @@ module _ {V : Type 0} (view : V → List PlainEvent) (o : OptionsData) (x : List
   answered_of (Ok v) g ls ds a s = tt
   answered_of (Err e) g ls ds a s = memory_alone e (events o x ds) (memory_or_not e.kind) g (is_answered o x ls ds a s)
 
-  -- a fault that a limit makes is that of the answer
+  same_fault : (f h : Fault) → ◌≡◌ {A = Result (List PlainEvent) Fault} (Err f) (Err h) → f ≡ h
+  same_fault f h e = cc
+
   limit_or_memory : (e : Refused) (es : List PlainEvent) → (e.kind ≡ NoMemory) ⊎ (e.kind ≢ NoMemory) → Fails e (events_of o x)
       → (events_of o x ≡ Ok es) ⊎ ((f : Fault) × (events_of o x ≡ Err f) × IsLimit f.kind) → (e.kind ≡ NoMemory) ⊎ IsLimit e.kind
   limit_or_memory e es (inl m) g a = inl m
   limit_or_memory e es (inr n) g (inl a) = let b = g n in cc
-  limit_or_memory e es (inr n) g (inr a) = inr (same_limit a.0 (fault_of e) (sym a.1 ∙ g n) a.2)
-    where
-      same_limit : (f h : Fault) → ◌≡◌ {A = Result (List PlainEvent) Fault} (Err f) (Err h) → IsLimit f.kind → IsLimit h.kind
-      same_limit f h e = let s : f ≡ h = cc in subst (λ (k : Fault). IsLimit k.kind) s
+  limit_or_memory e es (inr n) g (inr a) = inr (subst (λ (f : Fault). IsLimit f.kind) (same_fault a.0 (fault_of e) (sym a.1 ∙ g n)) a.2)
 
-  pub deeper_of : (r : Result V Refused) → GivesValue view r (events_of o x) → (p : OptionsData) (ls : List Lexeme) (ds : Documents) → Reading p x ls ds → IfErr r (λ e. (e.kind ≡ NoMemory) ⊎ IsLimit e.kind)
+  pub deeper_of : (r : Result V Refused) → GivesValue view r (events_of o x) → (p : OptionsData) (ls : List Lexeme) (ds : Documents) → Reading p x ls ds
+      → IfErr r (λ e. (e.kind ≡ NoMemory) ⊎ (e.kind ≡ RecursionLimitExceeded) ⊎ (e.kind ≡ UnknownAnchor))
   deeper_of (Ok v) g p ls ds a = tt
   deeper_of (Err e) g p ls ds a = limit_or_memory e (events o x ds) (memory_or_not e.kind) g (answered_or_refused o p x ls ds a)
 

@@ -13,8 +13,8 @@ ghost use Rattle.granit_model.specs.Lexeme.{Lexeme};
 ghost use Rattle.granit_model.specs.Machine.{events_of};
 ghost use Rattle.granit_model.specs.Node.{Documents};
 ghost use Rattle.granit_model.specs.Reading.{IsReading, Reading};
-ghost use Rattle.granit_model.specs.Outcome.{GivesValue};
 ghost use Rattle.granit_model.specs.Scope.{Resolves};
+ghost use Rattle.granit_model.specs.Outcome.{GivesValue};
 ghost use Rattle.granit_model.specs.Tree.{DocumentsFit, PlainTrees, trees_depth};
 ghost use Rattle.granit_event.specs.Events.{plain_events};
 
@@ -94,11 +94,11 @@ fn load<'a>(alloc: Global, text: &'a str, options: &Options) -> Result<Events<'a
 /// 0, lines from 1, and each marker tells its byte offset.
 ///
 /// The contract: an answer is the event list of the documents as which the text is read, each span
-/// one of the text (`reading`, `spans`); a text with a reading whose aliases name anchors before them
-/// is answered (`answered`); a text that has one under other options alone is too deep or has an
-/// unknown anchor (`deeper`); a fault has its cause at its mark (`cause`); the canonical flow text of
-/// trees that fit, no deeper than allowed, is answered with those trees' events (`canonical`). `value`
-/// says the same as a plain function.
+/// one of the text (`reading`, `spans`); a text with a reading, each alias of which names an anchor
+/// before it in its document or may stay, is answered (`answered`); a text with a reading under
+/// whichever options is refused for its depth or an unknown anchor alone (`deeper`); a fault has its
+/// cause at its mark (`cause`); the canonical flow text of documents that fit, no deeper than allowed,
+/// is answered with their events (`canonical`). `value` says the same as a plain function.
 ///
 /// # Errors
 ///
@@ -108,7 +108,7 @@ pub fn load_str<'a>(alloc: Global, text: &'a str, options: Options) -> Result<Ev
     ensures reading { IfOk result (λ v. IsReading (options_of options) (chars text.now) (plain_events v)) }
     ensures spans { IfOk result (λ v. SpansIn (chars text.now) (plain_events v)) }
     ensures answered { (ls : List Lexeme) (ds : Documents) → Reading (options_of options) (chars text.now) ls ds → Resolves (options_of options) [] ls → IfErr result (λ e. e.kind ≡ OutOfMemory) }
-    ensures deeper { (p : OptionsData) (ls : List Lexeme) (ds : Documents) → Reading p (chars text.now) ls ds → IfErr result (λ e. (e.kind ≡ OutOfMemory) ⊎ ((e.kind ≡ RecursionLimitExceeded) ⊎ (e.kind ≡ UnknownAnchor))) }
+    ensures deeper { (p : OptionsData) (ls : List Lexeme) (ds : Documents) → Reading p (chars text.now) ls ds → IfErr result (λ e. (e.kind ≡ OutOfMemory) ⊎ (e.kind ≡ RecursionLimitExceeded) ⊎ (e.kind ≡ UnknownAnchor)) }
     ensures cause { IfErr result (λ e. (e.kind ≡ OutOfMemory) ⊎ Cause (options_of options) (chars text.now) e.kind e.mark) }
     ensures canonical { (ts : PlainTrees) → DocumentsFit ts → HasCharacters ts → trees_depth ts ≤ (options_of options).flow_nesting_limit → chars text.now ≡ flow_characters ts → IfErr result (λ e. e.kind ≡ OutOfMemory) × IfOk result (λ v. plain_events v ≡ canonical_events (options_of options) ts) }
 {
