@@ -1,91 +1,99 @@
--- What documents spell is parsed, as these documents and no others.
-use Rattle.std.proofs.Common.{◌≡◌, List, [], ◌∷◌, Option, Some, Ok, Err, refl, ap, ◌∙◌, subst}
-use Rattle.std.proofs.lemmas.List.{append-nil}
-use Rattle.granit_base.specs.Written.{Written}
-use Rattle.granit_base.specs.declared.style.ScalarStyle.{ScalarStyle}
-use Rattle.granit_model.specs.Lexeme.{Lexeme, DocumentStart, SequenceOpen, SequenceClose, MappingOpen, MappingClose, Comma, Question, Colon, Scalar, Source}
-use Rattle.granit_model.specs.Node.{Node, ScalarNode, EmptySequence, Sequence, EmptyMapping, Mapping, Entries, Entry, FirstEntry, NextEntry, Pairs, Pair, PairLead, FirstPair, NextPair, Documents, NoDocument, Document}
-use Rattle.granit_model.specs.Yield.{lexeme, spell, spell_entries, spell_pairs, spell_pair_lead, spell_documents}
-use Rattle.granit_model.specs.Events.{document_events}
-use Rattle.granit_model.specs.Path.{Stepped}
+-- What documents spell leads to the place behind these documents and no others.
+use Rattle.std.proofs.Common.{◌≡◌, ◌≢◌, List, [], ◌∷◌, Option, Some, None, refl, sym, ap, ◌∙◌}
+use Rattle.granit_model.specs.Lexeme.{Lexeme, LexemeKind, DocumentStart, SequenceOpen, SequenceClose, MappingOpen, MappingClose, Comma, Question, Colon, Tag, Anchor, Alias, Scalar, Source}
+use Rattle.granit_model.specs.Node.{TagAt, AnchorAt, NodeProperties, no_properties, Node, AliasNode, ScalarNode, EmptySequence, Sequence, EmptyMapping, Mapping, Entries, Entry, FirstEntry, NextEntry, Pairs, Pair, PairLead, FirstPair, NextPair, Documents, NoDocument, Document}
+use Rattle.granit_model.specs.Yield.{lexeme, spell_tag, spell_anchor, spell_properties, spell, spell_entries, spell_pairs, spell_pair_lead, spell_documents}
+use Rattle.granit_model.specs.Path.{tag_alone, anchor_behind}
 use Rattle.granit_model.specs.OpenPlace.{Hole, RootHole, FirstEntryHole, NextEntryHole, KeyHole, ValueHole, OpenPlace, BetweenDocuments, AtHole, AfterEntry, AfterMappingOpen, AfterPair}
-use Rattle.granit_laws.specs.Parsed.{parse}
-use Rattle.granit_laws.proofs.GrammarPlaces.{fill, place_node, place_step, place_then, place_behind}
-use Rattle.granit_laws.proofs.GrammarSound.{AgreeOn, agrees}
-
--- what may begin a node is taken at a hole as that, but for the bracket that closes
-scalar_step : (h : Hole) (s : Source) (style : ScalarStyle) (text : Written) → place_step (AtHole h) (Scalar style text) s ≡ place_node h (Scalar style text) s
-scalar_step (RootHole ds m) s style text = refl
-scalar_step (FirstEntryHole h o) s style text = refl
-scalar_step (NextEntryHole h o entries c) s style text = refl
-scalar_step (KeyHole h o lead q) s style text = refl
-scalar_step (ValueHole h o lead q k c) s style text = refl
-
-pub sequence_step : (h : Hole) (s : Source) → place_step (AtHole h) SequenceOpen s ≡ place_node h SequenceOpen s
-sequence_step (RootHole ds m) s = refl
-sequence_step (FirstEntryHole h o) s = refl
-sequence_step (NextEntryHole h o entries c) s = refl
-sequence_step (KeyHole h o lead q) s = refl
-sequence_step (ValueHole h o lead q k c) s = refl
-
-pub mapping_step : (h : Hole) (s : Source) → place_step (AtHole h) MappingOpen s ≡ place_node h MappingOpen s
-mapping_step (RootHole ds m) s = refl
-mapping_step (FirstEntryHole h o) s = refl
-mapping_step (NextEntryHole h o entries c) s = refl
-mapping_step (KeyHole h o lead q) s = refl
-mapping_step (ValueHole h o lead q k c) s = refl
+use Rattle.granit_laws.proofs.GrammarPlaces.{fill, place_body, place_node, place_behind_properties, place_step, place_then, place_behind, first_of_all}
 
 -- the same, with lexemes behind
-pub onward : (a b : Option OpenPlace) (more : List Lexeme) → a ≡ b → place_then a (place_behind more) ≡ place_then b (place_behind more)
+onward : (a b : Option OpenPlace) (more : List Lexeme) → a ≡ b → place_then a (place_behind more) ≡ place_then b (place_behind more)
 onward a b more e = ap (λ (r : Option OpenPlace). place_then r (place_behind more)) e
+
+-- ---- what begins a node
+
+-- what stands at a hole begins its node, but for the bracket that closes
+hole_step : (h : Hole) (kind : LexemeKind) (s : Source) → kind ≢ SequenceClose → place_step (AtHole h) kind s ≡ place_node h kind s
+hole_step (FirstEntryHole h p o) SequenceClose s n = absurd (n refl)
+hole_step h kind s n = refl
+
+-- a lexeme that begins a node behind its properties
+abbrev Starts : LexemeKind → Type 0
+Starts (Scalar style text) = Unit {0}
+Starts SequenceOpen = Unit {0}
+Starts MappingOpen = Unit {0}
+Starts kind = ⊥
+
+bare_step : (h : Hole) (kind : LexemeKind) (s : Source) → Starts kind → place_step (AtHole h) kind s ≡ place_body h no_properties kind s
+bare_step h (Scalar style text) s b = hole_step h (Scalar style text) s (λ e. cc)
+bare_step h SequenceOpen s b = hole_step h SequenceOpen s (λ e. cc)
+bare_step h MappingOpen s b = hole_step h MappingOpen s (λ e. cc)
+bare_step h kind s b = absurd b
+
+behind_step : (h : Hole) (p : NodeProperties) (a : Option AnchorAt) (kind : LexemeKind) (s : Source) → Starts kind → place_behind_properties h p a kind s ≡ place_body h p kind s
+behind_step h p None (Anchor name) s b = absurd b
+behind_step h p a kind s b = refl
+
+-- properties, and what begins their node behind them, lead from a hole to where that leads behind them
+takes_properties : (t : Option TagAt) (a : Option AnchorAt) (h : Hole) (kind : LexemeKind) (s : Source) (more : List Lexeme) → Starts kind
+    → place_behind (spell_tag t (spell_anchor a (lexeme kind s ∷ more))) (AtHole h) ≡ place_then (place_body h (record { tag = t; anchor = a }) kind s) (place_behind more)
+takes_properties None None h kind s more b = onward _ _ more (bare_step h kind s b)
+takes_properties (Some t) None h kind s more b =
+    onward _ _ (lexeme kind s ∷ more) (hole_step h (Tag t.suffix) t.source (λ e. cc))
+    ∙ onward _ _ more (behind_step h (tag_alone t.suffix t.source) None kind s b)
+takes_properties None (Some a) h kind s more b =
+    onward _ _ (lexeme kind s ∷ more) (hole_step h (Anchor a.name) a.source (λ e. cc))
+    ∙ onward _ _ more (behind_step h (anchor_behind None a.name a.source) (Some a) kind s b)
+takes_properties (Some t) (Some a) h kind s more b =
+    onward _ _ (lexeme (Anchor a.name) a.source ∷ lexeme kind s ∷ more) (hole_step h (Tag t.suffix) t.source (λ e. cc))
+    ∙ onward _ _ more (behind_step h (anchor_behind (Some t) a.name a.source) (Some a) kind s b)
+
+takes_start : (p : NodeProperties) (h : Hole) (kind : LexemeKind) (s : Source) (more : List Lexeme) → Starts kind
+    → place_behind (spell_properties p (lexeme kind s ∷ more)) (AtHole h) ≡ place_then (place_body h p kind s) (place_behind more)
+takes_start p h kind s more b = takes_properties p.tag p.anchor h kind s more b
+
+-- ---- whole nodes
 
 mutual
   -- the lexemes of a node lead from a hole to the place where the node fills it
-  pub takes : (n : Node) (h : Hole) (more : List Lexeme) → place_behind (spell n more) (AtHole h) ≡ place_behind more (fill h n)
-  takes (ScalarNode s style text) h more = onward _ _ more (scalar_step h s style text)
-  takes (EmptySequence s e) h more = onward _ _ (lexeme SequenceClose e ∷ more) (sequence_step h s)
-  takes (Sequence s entries e) h more = onward _ _ (spell_entries entries (lexeme SequenceClose e ∷ more)) (sequence_step h s) ∙ takes_entries entries h s (lexeme SequenceClose e ∷ more)
-  takes (EmptyMapping s e) h more = onward _ _ (lexeme MappingClose e ∷ more) (mapping_step h s)
-  takes (Mapping s pairs e) h more = onward _ _ (spell_pairs pairs (lexeme MappingClose e ∷ more)) (mapping_step h s) ∙ takes_pairs pairs h s (lexeme MappingClose e ∷ more)
+  takes : (n : Node) (h : Hole) (more : List Lexeme) → place_behind (spell n more) (AtHole h) ≡ place_behind more (fill h n)
+  takes (AliasNode s name) h more = onward _ _ more (hole_step h (Alias name) s (λ e. cc))
+  takes (ScalarNode p s style text) h more = takes_start p h (Scalar style text) s more tt
+  takes (EmptySequence p s e) h more = takes_start p h SequenceOpen s (lexeme SequenceClose e ∷ more) tt
+  takes (Sequence p s entries e) h more = takes_start p h SequenceOpen s (spell_entries entries (lexeme SequenceClose e ∷ more)) tt ∙ takes_entries entries h p s (lexeme SequenceClose e ∷ more)
+  takes (EmptyMapping p s e) h more = takes_start p h MappingOpen s (lexeme MappingClose e ∷ more) tt
+  takes (Mapping p s pairs e) h more = takes_start p h MappingOpen s (spell_pairs pairs (lexeme MappingClose e ∷ more)) tt ∙ takes_pairs pairs h p s (lexeme MappingClose e ∷ more)
 
-  pub takes_entries : (entries : Entries) (h : Hole) (s : Source) (more : List Lexeme) → place_behind (spell_entries entries more) (AtHole (FirstEntryHole h s)) ≡ place_behind more (AfterEntry h s entries)
-  takes_entries (Entry FirstEntry n) h s more = takes n (FirstEntryHole h s) more
-  takes_entries (Entry (NextEntry entries c) n) h s more = takes_entries entries h s (lexeme Comma c ∷ spell n more) ∙ takes n (NextEntryHole h s entries c) more
+  takes_entries : (entries : Entries) (h : Hole) (p : NodeProperties) (s : Source) (more : List Lexeme) → place_behind (spell_entries entries more) (AtHole (FirstEntryHole h p s)) ≡ place_behind more (AfterEntry h p s entries)
+  takes_entries (Entry FirstEntry n) h p s more = takes n (FirstEntryHole h p s) more
+  takes_entries (Entry (NextEntry entries c) n) h p s more = takes_entries entries h p s (lexeme Comma c ∷ spell n more) ∙ takes n (NextEntryHole h p s entries c) more
 
-  pub takes_pairs : (pairs : Pairs) (h : Hole) (s : Source) (more : List Lexeme) → place_behind (spell_pairs pairs more) (AfterMappingOpen h s) ≡ place_behind more (AfterPair h s pairs)
-  takes_pairs (Pair lead q k c v) h s more =
-      takes_pair_lead lead h s q (spell k (lexeme Colon c ∷ spell v more))
-      ∙ takes k (KeyHole h s lead q) (lexeme Colon c ∷ spell v more)
-      ∙ takes v (ValueHole h s lead q k c) more
+  takes_pairs : (pairs : Pairs) (h : Hole) (p : NodeProperties) (s : Source) (more : List Lexeme) → place_behind (spell_pairs pairs more) (AfterMappingOpen h p s) ≡ place_behind more (AfterPair h p s pairs)
+  takes_pairs (Pair lead q k c v) h p s more =
+      takes_pair_lead lead h p s q (spell k (lexeme Colon c ∷ spell v more))
+      ∙ takes k (KeyHole h p s lead q) (lexeme Colon c ∷ spell v more)
+      ∙ takes v (ValueHole h p s lead q k c) more
 
-  pub takes_pair_lead : (lead : PairLead) (h : Hole) (s q : Source) (more : List Lexeme) → place_behind (spell_pair_lead lead (lexeme Question q ∷ more)) (AfterMappingOpen h s) ≡ place_behind more (AtHole (KeyHole h s lead q))
-  takes_pair_lead FirstPair h s q more = refl
-  takes_pair_lead (NextPair pairs c) h s q more = takes_pairs pairs h s (lexeme Comma c ∷ lexeme Question q ∷ more)
+  takes_pair_lead : (lead : PairLead) (h : Hole) (p : NodeProperties) (s q : Source) (more : List Lexeme) → place_behind (spell_pair_lead lead (lexeme Question q ∷ more)) (AfterMappingOpen h p s) ≡ place_behind more (AtHole (KeyHole h p s lead q))
+  takes_pair_lead FirstPair h p s q more = refl
+  takes_pair_lead (NextPair pairs c) h p s q more = takes_pairs pairs h p s (lexeme Comma c ∷ lexeme Question q ∷ more)
 
--- The lexemes of documents lead to the place behind them.
-pub takes_documents : (ds : Documents) (more : List Lexeme) → place_behind (spell_documents ds more) (BetweenDocuments NoDocument) ≡ place_behind more (BetweenDocuments ds)
+takes_documents : (ds : Documents) (more : List Lexeme) → place_behind (spell_documents ds more) first_of_all ≡ place_behind more (BetweenDocuments ds)
 takes_documents NoDocument more = refl
 takes_documents (Document ds m n) more = takes_documents ds (lexeme DocumentStart m ∷ spell n more) ∙ takes n (RootHole ds m) more
+
+-- The lexemes of documents lead to the place behind them.
+pub complete : (ds : Documents) → place_behind (spell_documents ds []) first_of_all ≡ Some (BetweenDocuments ds)
+complete ds = takes_documents ds []
+
+-- The same of any list that they spell.
+pub complete_at : (ls : List Lexeme) (ds : Documents) → spell_documents ds [] ≡ ls → place_behind ls first_of_all ≡ Some (BetweenDocuments ds)
+complete_at ls ds e = ap (λ (ms : List Lexeme). place_behind ms first_of_all) (sym e) ∙ complete ds
 
 -- One list of lexemes is spelled by at most one list of documents.
 pub one_tree : (a b : Documents) → spell_documents a [] ≡ spell_documents b [] → a ≡ b
 one_tree a b e =
-    let p = takes_documents a [] in
-    let q = takes_documents b [] in
-    cc (p, q, ap (λ (ls : List Lexeme). place_behind ls (BetweenDocuments NoDocument)) e)
-
--- a result that agrees with a place between documents
-agreed : (ds : Documents) (r : Stepped) (ls : List Lexeme) → AgreeOn (Some (BetweenDocuments ds)) r (BetweenDocuments NoDocument) ls → r ≡ Ok (document_events ds [], [])
-agreed ds (Ok (es, fs)) ls h =
-    let g : document_events ds [] ≡ es = h.gives [] ∙ append-nil es in
-    cc (g, h.path_is)
-agreed ds (Err f) ls h = absurd h
-
--- What documents spell is parsed, with their events, and no node is left unfinished.
-pub complete : (ds : Documents) → parse (spell_documents ds []) [] ≡ Ok (document_events ds [], [])
-complete ds = agreed ds (parse (spell_documents ds []) []) (spell_documents ds [])
-    (subst (λ (a : Option OpenPlace). AgreeOn a (parse (spell_documents ds []) []) (BetweenDocuments NoDocument) (spell_documents ds [])) (takes_documents ds []) (agrees (spell_documents ds []) (BetweenDocuments NoDocument)))
-
--- The same of any list that they spell.
-pub complete_at : (ls : List Lexeme) (ds : Documents) → spell_documents ds [] ≡ ls → parse ls [] ≡ Ok (document_events ds [], [])
-complete_at ls ds e = subst (λ (x : List Lexeme). parse x [] ≡ Ok (document_events ds [], [])) e (complete ds)
+    let p = complete_at (spell_documents b []) a e in
+    let q = complete b in
+    cc

@@ -1,95 +1,111 @@
--- What holds of each lexeme's source holds of each event's span: it is a source, or empty at the end of one.
-use Rattle.std.proofs.Common.{◌≡◌, List, [], ◌∷◌, ◌++◌, Ok, Err, refl, subst}
-use Rattle.granit_model.specs.Lexeme.{Lexeme, LexemeKind, DocumentStart, SequenceOpen, SequenceClose, MappingOpen, MappingClose, Comma, Question, Colon, Scalar, Source}
-use Rattle.granit_model.specs.PlainEvent.{PlainEvent, EventKind, plain_span, event_at, event_on, DocumentEnd}
-use Rattle.granit_model.specs.Node.{Documents}
-use Rattle.granit_model.specs.Yield.{spell_documents}
-use Rattle.granit_model.specs.Events.{document_events}
-use Rattle.granit_model.specs.Path.{Path, Stepped, Root, FlowSequence, SequenceOpened, AtEntry, BehindEntry, FlowMapping, MappingOpened, AtPair, AtKey, BehindKey, AtValue, BehindPair, root_end, node, step_in, step_on}
-use Rattle.granit_laws.specs.Parsed.{with_events, and_then, parse}
-use Rattle.granit_laws.proofs.GrammarComplete.{complete}
+-- What holds of lexemes holds of the events' spans: each is a lexeme's source, or empty at the end of one, and its tag is a lexeme.
+use Rattle.std.proofs.Common.{ℕ, Bool, true, false, List, [], ◌∷◌, Option, Some, None, if◌then◌else◌}
+use Rattle.granit_base.specs.declared.style.StructureStyle.TheVariants.{Flow}
+use Rattle.granit_error.specs.OptionsData.{OptionsData}
+use Rattle.granit_model.specs.Lexeme.{Lexeme, LexemeKind, DocumentStart, SequenceOpen, SequenceClose, MappingOpen, MappingClose, Comma, Question, Colon, Tag, Anchor, Alias, Scalar, Source}
+use Rattle.granit_model.specs.Node.{TagAt, AnchorAt, NodeProperties, Node, AliasNode, ScalarNode, EmptySequence, Sequence, EmptyMapping, Mapping, Entries, Entry, EntryLead, FirstEntry, NextEntry, Pairs, Pair, PairLead, FirstPair, NextPair, Documents, NoDocument, Document}
+use Rattle.granit_model.specs.PlainEvent.{PlainEvent, PlainTag, EventKind, event_at, event_on, DocumentStart as DocumentStarts, DocumentEnd, Scalar as ScalarIs, SequenceStart, SequenceEnd, MappingStart, MappingEnd}
+use Rattle.granit_model.specs.Scope.{Scope, in_new_document, anchored, behind_node, behind_entry_lead, behind_pair_lead, behind_documents}
+use Rattle.granit_model.specs.Yield.{lexeme, spell_tag, spell_anchor, spell_properties, spell, spell_entries, spell_entry_lead, spell_pairs, spell_pair_lead, spell_documents}
+use Rattle.granit_model.specs.Events.{node_end, plain_tag, tagged_span, anchor_number, anchor_events, start_events, node_events, entry_events, entry_lead_events, pair_events, pair_lead_events, document_events}
 
--- each lexeme's source
-abbrev pub EachLexeme : (Source → Type 0) → List Lexeme → Type 0
+-- each lexeme
+abbrev pub EachLexeme : (Lexeme → Type 0) → List Lexeme → Type 0
 EachLexeme Q [] = Unit {0}
-EachLexeme Q (l ∷ ls) = Q l.source × EachLexeme Q ls
+EachLexeme Q (l ∷ ls) = Q l × EachLexeme Q ls
 
 -- each event
 abbrev pub EachEvent : (PlainEvent → Type 0) → List PlainEvent → Type 0
 EachEvent E [] = Unit {0}
 EachEvent E (e ∷ es) = E e × EachEvent E es
 
--- Of two lists, one behind the other, each event is of one of them.
-pub each_event_append : (E : PlainEvent → Type 0) (a b : List PlainEvent) → EachEvent E a → EachEvent E b → EachEvent E (a ++ b)
-each_event_append E [] b f g = g
-each_event_append E (e ∷ a) b f g = (f.0, each_event_append E a b f.1 g)
+-- a tag that is a lexeme
+abbrev pub TagHolds : (Lexeme → Type 0) → Option TagAt → Type 0
+TagHolds Q None = Unit {0}
+TagHolds Q (Some t) = Q (lexeme (Tag t.suffix) t.source)
 
--- each event of a result
-abbrev EventsOf : (PlainEvent → Type 0) → Stepped → Type 0
-EventsOf E (Ok x) = EachEvent E x.0
-EventsOf E (Err f) = Unit {0}
+-- what is to be shown of an event that bears a source, with the tag of its node, and of a document's end
+pub record Borne (Q : Lexeme → Type 0) (E : PlainEvent → Type 0) : Type 0 where
+  pub bears : (kind : EventKind) (k : LexemeKind) (s : Source) → Q (lexeme k s) → E (event_at kind s)
+  pub tagged : (kind : EventKind) (t : Option TagAt) (k : LexemeKind) (s : Source) → TagHolds Q t → Q (lexeme k s) → E (record { kind = kind; span = tagged_span t s })
+  pub ends : (k : LexemeKind) (s : Source) → Q (lexeme k s) → E (event_on DocumentEnd s.end)
 
-module _ (Q : Source → Type 0) (E : PlainEvent → Type 0) (bears : (kind : EventKind) (s : Source) → Q s → E (event_at kind s)) (ends : (s : Source) → Q s → E (event_on DocumentEnd s.end)) where
-  root_each : (fs : Path) (s : Source) → Q s → EachEvent E (root_end fs s.end)
-  root_each [] s q = tt
-  root_each (Root ∷ fs) s q = (ends s q, tt)
-  root_each (FlowSequence stage ∷ fs) s q = tt
-  root_each (FlowMapping stage ∷ fs) s q = tt
+module _ (Q : Lexeme → Type 0) (E : PlainEvent → Type 0) (b : Borne Q E) (o : OptionsData) where
+  -- ---- properties
 
-  node_each : (fs : Path) (kind : LexemeKind) (l : Lexeme) → Q l.source → EventsOf E (node fs kind l)
-  node_each fs (Scalar style text) l q = (bears _ l.source q, root_each fs l.source q)
-  node_each fs SequenceOpen l q = (bears _ l.source q, tt)
-  node_each fs MappingOpen l q = (bears _ l.source q, tt)
-  node_each fs kind l q = tt
+  told_each : (told : Bool) (e : PlainEvent) (es : List PlainEvent) → E e → EachEvent E es → EachEvent E (if told then e ∷ es else es)
+  told_each true e es h m = (h, m)
+  told_each false e es h m = m
 
-  -- the events of a step
-  step_each : (fs : Path) (kind : LexemeKind) (l : Lexeme) → Q l.source → EventsOf E (step_in fs kind l)
-  step_each [] DocumentStart l q = (bears _ l.source q, tt)
-  step_each (Root ∷ fs) kind l q = node_each (Root ∷ fs) kind l q
-  step_each (FlowSequence SequenceOpened ∷ fs) SequenceClose l q = (bears _ l.source q, root_each fs l.source q)
-  step_each (FlowSequence SequenceOpened ∷ fs) kind l q = node_each (FlowSequence SequenceOpened ∷ fs) kind l q
-  step_each (FlowSequence AtEntry ∷ fs) kind l q = node_each (FlowSequence AtEntry ∷ fs) kind l q
-  step_each (FlowSequence BehindEntry ∷ fs) Comma l q = tt
-  step_each (FlowSequence BehindEntry ∷ fs) SequenceClose l q = (bears _ l.source q, root_each fs l.source q)
-  step_each (FlowMapping MappingOpened ∷ fs) Question l q = tt
-  step_each (FlowMapping MappingOpened ∷ fs) MappingClose l q = (bears _ l.source q, root_each fs l.source q)
-  step_each (FlowMapping AtPair ∷ fs) Question l q = tt
-  step_each (FlowMapping AtKey ∷ fs) kind l q = node_each (FlowMapping AtKey ∷ fs) kind l q
-  step_each (FlowMapping BehindKey ∷ fs) Colon l q = tt
-  step_each (FlowMapping AtValue ∷ fs) kind l q = node_each (FlowMapping AtValue ∷ fs) kind l q
-  step_each (FlowMapping BehindPair ∷ fs) Comma l q = tt
-  step_each (FlowMapping BehindPair ∷ fs) MappingClose l q = (bears _ l.source q, root_each fs l.source q)
-  step_each fs kind l q = tt
+  -- of the lexemes of properties: what holds of the tag, and of those behind them, and the events behind a node's first
+  record Properties (p : NodeProperties) (ls : List Lexeme) : Type 0 where
+    tag : TagHolds Q p.tag
+    anchor : (c : Scope) (es : List PlainEvent) → EachEvent E es → EachEvent E (anchor_events o p.anchor c es)
+    behind : EachLexeme Q ls
 
-  with_each : (es : List PlainEvent) (r : Stepped) → EachEvent E es → EventsOf E r → EventsOf E (with_events es r)
-  with_each es (Ok x) f g = each_event_append E es x.0 f g
-  with_each es (Err e) f g = tt
+  properties_each : (t : Option TagAt) (a : Option AnchorAt) (ls : List Lexeme) → EachLexeme Q (spell_tag t (spell_anchor a ls)) → Properties (record { tag = t; anchor = a }) ls
+  properties_each None None ls h = record { tag = tt; anchor = λ c es m. m; behind = h }
+  properties_each (Some t) None ls h = record { tag = h.0; anchor = λ c es m. m; behind = h.1 }
+  properties_each None (Some a) ls h = record { tag = tt; anchor = λ c es m. told_each o.emit_anchor_events _ es (b.bears _ (Anchor a.name) a.source h.0) m; behind = h.1 }
+  properties_each (Some t) (Some a) ls h = record { tag = h.0; anchor = λ c es m. told_each o.emit_anchor_events _ es (b.bears _ (Anchor a.name) a.source h.1.0) m; behind = h.1.1 }
 
-  each_step : (r : Stepped) (ls : List Lexeme) → EventsOf E r → ((fs : Path) → EventsOf E (parse ls fs)) → EventsOf E (and_then r (parse ls))
-  each_step (Ok x) ls f rest = with_each x.0 (parse ls x.1) f (rest x.1)
-  each_step (Err e) ls f rest = tt
+  -- the events with which a node begins, before others
+  start_each : (c : Scope) (p : NodeProperties) (kind : ℕ → Option PlainTag → EventKind) (k : LexemeKind) (s : Source) (ls : List Lexeme) (es : List PlainEvent) → EachLexeme Q (spell_properties p (lexeme k s ∷ ls))
+      → (EachLexeme Q ls → E (event_on DocumentEnd s.end) → EachEvent E es) → EachEvent E (start_events o c p kind s es)
+  start_each c p kind k s ls es h more =
+      let f = properties_each p.tag p.anchor (lexeme k s ∷ ls) h in
+      (b.tagged (kind (anchor_number p.anchor c) (plain_tag p.tag)) p.tag k s f.tag f.behind.0, f.anchor c es (more f.behind.1 (b.ends k s f.behind.0)))
 
-  each_of : (ls : List Lexeme) (fs : Path) → EachLexeme Q ls → EventsOf E (parse ls fs)
-  each_of [] fs q = tt
-  each_of (l ∷ ls) fs q = each_step (step_on fs l) ls (step_each fs l.kind l q.0) (λ fs. each_of ls fs q.1)
+  -- an event that closes a collection, before others
+  close_each : (kind : EventKind) (k : LexemeKind) (s : Source) (ls : List Lexeme) (es : List PlainEvent) → EachLexeme Q (lexeme k s ∷ ls)
+      → (EachLexeme Q ls → E (event_on DocumentEnd s.end) → EachEvent E es) → EachEvent E (event_at kind s ∷ es)
+  close_each kind k s ls es h more = (b.bears kind k s h.0, more h.1 (b.ends k s h.0))
 
-  -- What holds of each source, and so of an event that bears it and of a document's end there, holds of each event that is parsed.
-  pub parsed_each : (ls : List Lexeme) (fs : Path) (es : List PlainEvent) (gs : Path) → parse ls fs ≡ Ok (es, gs) → EachLexeme Q ls → EachEvent E es
-  parsed_each ls fs es gs e q = subst (EventsOf E) e (each_of ls fs q)
+  -- ---- nodes
 
-  -- The same of the events of documents.
-  pub documents_each : (ds : Documents) → EachLexeme Q (spell_documents ds []) → EachEvent E (document_events ds [])
-  documents_each ds q = parsed_each (spell_documents ds []) [] (document_events ds []) [] (complete ds) q
+  mutual
+    -- of a node's events, before others that are shown from the lexemes behind it and from its end
+    node_each : (n : Node) (c : Scope) (ls : List Lexeme) (es : List PlainEvent) → EachLexeme Q (spell n ls)
+        → (EachLexeme Q ls → E (event_on DocumentEnd (node_end n)) → EachEvent E es) → EachEvent E (node_events o c n es)
+    node_each (AliasNode s name) c ls es h more = (b.bears _ (Alias name) s h.0, more h.1 (b.ends (Alias name) s h.0))
+    node_each (ScalarNode p s style text) c ls es h more = start_each c p (ScalarIs text style) (Scalar style text) s ls es h more
+    node_each (EmptySequence p s e) c ls es h more =
+        start_each c p (SequenceStart Flow) SequenceOpen s (lexeme SequenceClose e ∷ ls) (event_at SequenceEnd e ∷ es) h
+        (λ r d. close_each SequenceEnd SequenceClose e ls es r more)
+    node_each (Sequence p s entries e) c ls es h more =
+        start_each c p (SequenceStart Flow) SequenceOpen s (spell_entries entries (lexeme SequenceClose e ∷ ls)) (entry_events o (anchored p.anchor c) entries (event_at SequenceEnd e ∷ es)) h
+        (λ r d. entries_each entries (anchored p.anchor c) (lexeme SequenceClose e ∷ ls) (event_at SequenceEnd e ∷ es) r (λ q. close_each SequenceEnd SequenceClose e ls es q more))
+    node_each (EmptyMapping p s e) c ls es h more =
+        start_each c p (MappingStart Flow) MappingOpen s (lexeme MappingClose e ∷ ls) (event_at MappingEnd e ∷ es) h
+        (λ r d. close_each MappingEnd MappingClose e ls es r more)
+    node_each (Mapping p s pairs e) c ls es h more =
+        start_each c p (MappingStart Flow) MappingOpen s (spell_pairs pairs (lexeme MappingClose e ∷ ls)) (pair_events o (anchored p.anchor c) pairs (event_at MappingEnd e ∷ es)) h
+        (λ r d. pairs_each pairs (anchored p.anchor c) (lexeme MappingClose e ∷ ls) (event_at MappingEnd e ∷ es) r (λ q. close_each MappingEnd MappingClose e ls es q more))
 
--- from an event's start to its end
-abbrev pub event_source : PlainEvent → Source
-event_source e = record { start = e.span.start; end = e.span.end }
+    entries_each : (entries : Entries) (c : Scope) (ls : List Lexeme) (es : List PlainEvent) → EachLexeme Q (spell_entries entries ls) → (EachLexeme Q ls → EachEvent E es) → EachEvent E (entry_events o c entries es)
+    entries_each (Entry lead n) c ls es h more =
+        entry_lead_each lead c (spell n ls) (node_events o (behind_entry_lead lead c) n es) h (λ r. node_each n (behind_entry_lead lead c) ls es r (λ q d. more q))
 
--- an event's span has two marks alone, and what holds of sources holds of them
-pub record Carries (Q : Source → Type 0) (e : PlainEvent) : Type 0 where
-  pub plain : e.span ≡ plain_span e.span.start e.span.end
-  pub carries : Q (event_source e)
+    entry_lead_each : (lead : EntryLead) (c : Scope) (ls : List Lexeme) (es : List PlainEvent) → EachLexeme Q (spell_entry_lead lead ls) → (EachLexeme Q ls → EachEvent E es) → EachEvent E (entry_lead_events o c lead es)
+    entry_lead_each FirstEntry c ls es h more = more h
+    entry_lead_each (NextEntry entries s) c ls es h more = entries_each entries c (lexeme Comma s ∷ ls) es h (λ r. more r.1)
 
--- What holds of each lexeme's source, and where it holds of a source also of the empty one at its end, holds of each event's span.
-pub spans_carry : (Q : Source → Type 0) → ((s : Source) → Q s → Q (record { start = s.end; end = s.end })) → (ds : Documents) → EachLexeme Q (spell_documents ds []) → EachEvent (Carries Q) (document_events ds [])
-spans_carry Q empty ds q = documents_each Q (Carries Q) (λ kind s h. record { plain = refl; carries = h }) (λ s h. record { plain = refl; carries = empty s h }) ds q
+    pairs_each : (pairs : Pairs) (c : Scope) (ls : List Lexeme) (es : List PlainEvent) → EachLexeme Q (spell_pairs pairs ls) → (EachLexeme Q ls → EachEvent E es) → EachEvent E (pair_events o c pairs es)
+    pairs_each (Pair lead q k s v) c ls es h more =
+        pair_lead_each lead c (lexeme Question q ∷ spell k (lexeme Colon s ∷ spell v ls)) (node_events o (behind_pair_lead lead c) k (node_events o (behind_node k (behind_pair_lead lead c)) v es)) h
+        (λ r. node_each k (behind_pair_lead lead c) (lexeme Colon s ∷ spell v ls) (node_events o (behind_node k (behind_pair_lead lead c)) v es) r.1
+        (λ w d. node_each v (behind_node k (behind_pair_lead lead c)) ls es w.1 (λ u e. more u)))
+
+    pair_lead_each : (lead : PairLead) (c : Scope) (ls : List Lexeme) (es : List PlainEvent) → EachLexeme Q (spell_pair_lead lead ls) → (EachLexeme Q ls → EachEvent E es) → EachEvent E (pair_lead_events o c lead es)
+    pair_lead_each FirstPair c ls es h more = more h
+    pair_lead_each (NextPair pairs s) c ls es h more = pairs_each pairs c (lexeme Comma s ∷ ls) es h (λ r. more r.1)
+
+  documents_each : (ds : Documents) (ls : List Lexeme) (es : List PlainEvent) → EachLexeme Q (spell_documents ds ls) → (EachLexeme Q ls → EachEvent E es) → EachEvent E (document_events o ds es)
+  documents_each NoDocument ls es h more = more h
+  documents_each (Document ds m n) ls es h more =
+      documents_each ds (lexeme DocumentStart m ∷ spell n ls) (event_at (DocumentStarts true None) m ∷ node_events o (in_new_document (behind_documents ds)) n (event_on DocumentEnd (node_end n) ∷ es)) h
+      (λ r. (b.bears _ DocumentStart m r.0, node_each n (in_new_document (behind_documents ds)) ls (event_on DocumentEnd (node_end n) ∷ es) r.1 (λ q d. (d, more q))))
+
+-- What holds of each lexeme of documents, and so of each event that bears one, holds of each of their events and of those behind them.
+pub events_hold : (Q : Lexeme → Type 0) (E : PlainEvent → Type 0) → Borne Q E → (o : OptionsData) (ds : Documents) (more : List PlainEvent) → EachLexeme Q (spell_documents ds []) → EachEvent E more → EachEvent E (document_events o ds more)
+events_hold Q E b o ds more h m = documents_each Q E b o ds [] more h (λ _. m)

@@ -1,75 +1,68 @@
--- Where a lexeme isn't taken, no documents go on with it; where a node is unfinished, none end.
-use Rattle.std.proofs.Common.{◌≡◌, ◌≢◌, List, [], ◌∷◌, ◌++◌, Ok, Err, refl, ap, ◌∙◌, subst}
-use Rattle.granit_error.specs.FaultKind.{NotBuilt}
+-- Where a lexeme isn't taken, no documents go on with it, or it is an alias of no anchor; where a node is unfinished, none end.
+use Rattle.std.proofs.Common.{◌≡◌, ◌≢◌, ℕ, false, List, [], ◌∷◌, ◌++◌, Option, Some, None, Err, ◌⊎◌, inl, inr, refl, sym, ap, ◌∙◌, subst, append_assoc}
+use Rattle.std.specs.Prelude.{Contains}
+use Rattle.granit_base.specs.Written.{Written}
+use Rattle.granit_error.specs.FaultKind.{NotBuilt, UnknownAnchor}
+use Rattle.granit_error.specs.OptionsData.{OptionsData}
 use Rattle.granit_model.specs.Outcome.{Fault}
-use Rattle.granit_model.specs.Lexeme.{Lexeme, LexemeKind, DocumentStart, SequenceOpen, SequenceClose, MappingOpen, MappingClose, Comma, Question, Colon, Scalar}
+use Rattle.granit_model.specs.Lexeme.{Lexeme, Alias}
 use Rattle.granit_model.specs.PlainEvent.{PlainEvent}
 use Rattle.granit_model.specs.Node.{Documents}
+use Rattle.granit_model.specs.Scope.{names_behind_all}
 use Rattle.granit_model.specs.Yield.{spell_documents}
-use Rattle.granit_model.specs.Events.{document_events}
-use Rattle.granit_model.specs.Path.{Path, Stepped, Frame, Root, FlowSequence, SequenceOpened, AtEntry, BehindEntry, FlowMapping, MappingOpened, AtPair, AtKey, BehindKey, AtValue, BehindPair, node, step_in, step_on}
-use Rattle.granit_laws.specs.Parsed.{with_events, and_then, parse}
-use Rattle.granit_laws.proofs.GrammarAppend.{parse_append}
-use Rattle.granit_laws.proofs.GrammarComplete.{complete, complete_at}
+use Rattle.granit_model.specs.Path.{Path, Frame, ParserState, Stepped, step_on}
+use Rattle.granit_model.specs.OpenPlace.{OpenPlace, BetweenDocuments, path_of}
+use Rattle.granit_model.specs.Cause.{Begins}
+use Rattle.granit_laws.proofs.GrammarPlaces.{place_step, place_then, place_behind, first_of_all, place_append}
+use Rattle.granit_laws.proofs.GrammarSteps.{Agree}
+use Rattle.granit_laws.proofs.GrammarComplete.{complete_at}
+use Rattle.granit_laws.proofs.GrammarSound.{Opened, next_agrees}
+use Rattle.granit_laws.proofs.GrammarBegins.{begins}
 
--- what a step's fault is
-abbrev pub Faults : Stepped → Lexeme → Type 0
-Faults (Ok x) l = Unit {0}
-Faults (Err f) l = f ≡ record { kind = NotBuilt; mark = l.source.start }
+-- a lexeme with which no documents go on
+pub record Misplaced (ls : List Lexeme) (l : Lexeme) (f : Fault) : Type 0 where
+  pub fault_is : f ≡ record { kind = NotBuilt; mark = l.source.start }
+  pub none : (ds : Documents) (more : List Lexeme) → spell_documents ds [] ≢ ls ++ (l ∷ more)
 
-node_faults : (fs : Path) (kind : LexemeKind) (l : Lexeme) → Faults (node fs kind l) l
-node_faults fs (Scalar style text) l = tt
-node_faults fs SequenceOpen l = tt
-node_faults fs MappingOpen l = tt
-node_faults fs kind l = refl
+-- an alias with which documents go on, of a name that no anchor before it has, where such may not stay
+pub record NamesNone (o : OptionsData) (ls : List Lexeme) (l : Lexeme) (f : Fault) : Type 0 where
+  pub name : Written
+  pub is_alias : l.kind ≡ Alias name
+  pub goes_on : Begins (ls ++ (l ∷ []))
+  pub unknown : Contains (names_behind_all ls []) name.characters → ⊥
+  pub must_be_known : o.emit_unresolved_aliases ≡ false
+  pub fault_is : f ≡ record { kind = UnknownAnchor; mark = l.source.start }
 
-step_faults : (fs : Path) (kind : LexemeKind) (l : Lexeme) → Faults (step_in fs kind l) l
-step_faults [] DocumentStart l = tt
-step_faults (Root ∷ fs) kind l = node_faults (Root ∷ fs) kind l
-step_faults (FlowSequence SequenceOpened ∷ fs) SequenceClose l = tt
-step_faults (FlowSequence SequenceOpened ∷ fs) kind l = node_faults (FlowSequence SequenceOpened ∷ fs) kind l
-step_faults (FlowSequence AtEntry ∷ fs) kind l = node_faults (FlowSequence AtEntry ∷ fs) kind l
-step_faults (FlowSequence BehindEntry ∷ fs) Comma l = tt
-step_faults (FlowSequence BehindEntry ∷ fs) SequenceClose l = tt
-step_faults (FlowMapping MappingOpened ∷ fs) Question l = tt
-step_faults (FlowMapping MappingOpened ∷ fs) MappingClose l = tt
-step_faults (FlowMapping AtPair ∷ fs) Question l = tt
-step_faults (FlowMapping AtKey ∷ fs) kind l = node_faults (FlowMapping AtKey ∷ fs) kind l
-step_faults (FlowMapping BehindKey ∷ fs) Colon l = tt
-step_faults (FlowMapping AtValue ∷ fs) kind l = node_faults (FlowMapping AtValue ∷ fs) kind l
-step_faults (FlowMapping BehindPair ∷ fs) Comma l = tt
-step_faults (FlowMapping BehindPair ∷ fs) MappingClose l = tt
-step_faults fs kind l = refl
-
--- A lexeme that isn't taken is a fault at its start, at any path.
-pub fault_is : (fs : Path) (l : Lexeme) (f : Fault) → step_on fs l ≡ Err f → f ≡ record { kind = NotBuilt; mark = l.source.start }
-fault_is fs l f e = subst (λ (r : Stepped). Faults r l) e (step_faults fs l.kind l)
-
--- the parser on lexemes and one more that isn't taken behind them
-parse_refused : (ls : List Lexeme) (es : List PlainEvent) (fs : Path) (l : Lexeme) (f : Fault) (more : List Lexeme) → parse ls [] ≡ Ok (es, fs) → step_on fs l ≡ Err f → parse (ls ++ (l ∷ more)) [] ≡ Err f
-parse_refused ls es fs l f more e r =
-    parse_append ls (l ∷ more) []
-    ∙ ap (λ (a : Stepped). and_then a (parse (l ∷ more))) e
-    ∙ ap (λ (a : Stepped). with_events es (and_then a (parse more))) r
-
--- No documents go on with a lexeme that isn't taken, whatever follows.
-pub refused : (ls : List Lexeme) (es : List PlainEvent) (fs : Path) (l : Lexeme) (f : Fault) → parse ls [] ≡ Ok (es, fs) → step_on fs l ≡ Err f → (ds : Documents) (more : List Lexeme) → spell_documents ds [] ≢ ls ++ (l ∷ more)
-refused ls es fs l f e r ds more s =
-    let a = parse_refused ls es fs l f more e r in
-    let b = complete ds in
-    cc (a, b, ap (λ (x : List Lexeme). parse x []) s)
-
--- the path that a result leaves
-abbrev end_path : Stepped → Path
-end_path (Ok x) = x.1
-end_path (Err f) = []
-
-not_both : (r : Stepped) (a b : List PlainEvent) (f : Frame) (fs : Path) → r ≡ Ok (a, []) → r ≡ Ok (b, f ∷ fs) → ⊥
-not_both r a b f fs e g =
-    let p : end_path r ≡ [] = ap end_path e in
-    let q : end_path r ≡ f ∷ fs = ap end_path g in
+-- no documents go on with a lexeme that leads to no place
+stops_there : (ls more : List Lexeme) (l : Lexeme) (p : OpenPlace) → place_behind ls first_of_all ≡ Some p → place_step p l.kind l.source ≡ None → (ds : Documents) → spell_documents ds [] ≢ ls ++ (l ∷ more)
+stops_there ls more l p e n ds s =
+    let whole = complete_at (ls ++ (l ∷ more)) ds s in
+    let front = place_append ls (l ∷ more) first_of_all ∙ ap (λ (r : Option OpenPlace). place_then r (place_behind (l ∷ more))) e ∙ ap (λ (r : Option OpenPlace). place_then r (place_behind more)) n in
     cc
 
+refused_by : (o : OptionsData) (ls : List Lexeme) (es : List PlainEvent) (s : ParserState) (l : Lexeme) (f : Fault) (k : Opened o ls es s) (a : Option OpenPlace) → place_step k.place l.kind l.source ≡ a → Agree o a (Err f) k.place l
+    → Misplaced ls l f ⊎ NamesNone o ls l f
+refused_by o ls es s l f k (Some q) e u = inr (record {
+  name = u.name;
+  is_alias = u.is_alias;
+  goes_on = begins q (ls ++ (l ∷ [])) (λ more. u.spells more ∙ k.spells (l ∷ more) ∙ sym (append_assoc ls (l ∷ []) more));
+  unknown = subst (λ (names : List (List ℕ)). Contains names u.name.characters → ⊥) k.names u.unknown;
+  must_be_known = u.must_be_known;
+  fault_is = u.fault_is;
+})
+refused_by o ls es s l f k None e u = inl (record { fault_is = u; none = λ ds more. stops_there ls more l k.place k.reached e ds })
+
+-- A lexeme that the machine doesn't take is misplaced, or is an alias that names no anchor.
+pub refused : (o : OptionsData) (ls : List Lexeme) (es : List PlainEvent) (s : ParserState) (l : Lexeme) (f : Fault) → Opened o ls es s → step_on o s l ≡ Err f → Misplaced ls l f ⊎ NamesNone o ls l f
+refused o ls es s l f k e =
+    refused_by o ls es s l f k (place_step k.place l.kind l.source) refl
+    (subst (λ (r : Stepped). Agree o (place_step k.place l.kind l.source) r k.place l) e (next_agrees o ls es s l k))
+
 -- Lexemes behind which a node is unfinished are those of no documents.
-pub short : (ls : List Lexeme) (es : List PlainEvent) (f : Frame) (fs : Path) → parse ls [] ≡ Ok (es, f ∷ fs) → (ds : Documents) → spell_documents ds [] ≢ ls
-short ls es f fs e ds s = not_both (parse ls []) (document_events ds []) es f fs (complete_at ls ds s) e
+pub short : (o : OptionsData) (ls : List Lexeme) (es : List PlainEvent) (s : ParserState) (f : Frame) (fs : Path) → Opened o ls es s → s.path ≡ f ∷ fs → (ds : Documents) → spell_documents ds [] ≢ ls
+short o ls es s f fs k e ds w =
+    let there : Some k.place ≡ Some (BetweenDocuments ds) = sym k.reached ∙ complete_at ls ds w in
+    let same : k.place ≡ BetweenDocuments ds = cc in
+    let none : path_of k.place ≡ [] = ap path_of same in
+    let some : path_of k.place ≡ f ∷ fs = k.path_is ∙ e in
+    cc

@@ -1,98 +1,101 @@
--- What is parsed are the lexemes and the events of an open place; where no node is unfinished, of documents.
-use Rattle.std.proofs.Common.{◌≡◌, List, [], ◌∷◌, ◌++◌, Option, Some, None, Ok, Err, refl, sym, ap, ◌∙◌, subst, append_assoc}
+-- The machine stands at an open place: the lexemes before it lead there, and it has given that place's events.
+use Rattle.std.proofs.Common.{◌≡◌, ℕ, List, [], ◌∷◌, ◌++◌, Option, Some, None, Ok, refl, sym, ap, ◌∙◌, subst, append_assoc}
 use Rattle.std.proofs.lemmas.List.{append-nil}
+use Rattle.granit_error.specs.OptionsData.{OptionsData}
 use Rattle.granit_model.specs.Lexeme.{Lexeme}
 use Rattle.granit_model.specs.PlainEvent.{PlainEvent}
-use Rattle.granit_model.specs.Node.{Documents, NoDocument}
+use Rattle.granit_model.specs.Node.{Documents}
+use Rattle.granit_model.specs.Scope.{names_behind, names_behind_all, Names, Resolves}
 use Rattle.granit_model.specs.Yield.{spell_documents}
 use Rattle.granit_model.specs.Events.{document_events}
-use Rattle.granit_model.specs.Path.{Path, Stepped, step_on}
-use Rattle.granit_model.specs.OpenPlace.{Hole, RootHole, FirstEntryHole, NextEntryHole, KeyHole, ValueHole, OpenPlace, BetweenDocuments, AtHole, AfterEntry, AfterMappingOpen, AfterPairComma, AfterKey, AfterPair, hole_path, spell_open, path_of, open_events}
-use Rattle.granit_laws.specs.Parsed.{with_events, and_then, parse}
-use Rattle.granit_laws.proofs.GrammarPlaces.{place_step, place_then, place_behind}
-use Rattle.granit_laws.proofs.GrammarSteps.{Agree, step_agrees}
+use Rattle.granit_model.specs.Path.{Path, no_anchors, ParserState, Stepped, step_in, step_on}
+use Rattle.granit_model.specs.OpenPlace.{Hole, RootHole, FirstEntryHole, NextEntryHole, KeyHole, ValueHole, OpenPlace, BetweenDocuments, AtHole, AfterProperties, AfterEntry, AfterMappingOpen, AfterPairComma, AfterKey, AfterPair, hole_path, spell_open, path_of, open_scope, open_events}
+use Rattle.granit_laws.proofs.Anchors.{Knows}
+use Rattle.granit_laws.proofs.GrammarPlaces.{place_step, place_then, place_behind, first_of_all, place_append}
+use Rattle.granit_laws.proofs.GrammarSteps.{names_of, Agree, step_agrees}
 
--- lexemes lead from a place to another, with events
-pub record Leads (p : OpenPlace) (ls : List Lexeme) (es : List PlainEvent) (fs : Path) (q : OpenPlace) : Type 0 where
-  pub path_is : path_of q ≡ fs
-  pub spells : (more : List Lexeme) → spell_open q more ≡ spell_open p (ls ++ more)
-  pub gives : (more : List PlainEvent) → open_events q more ≡ open_events p (es ++ more)
-
--- the two parsers' results on a list
-abbrev pub AgreeOn : Option OpenPlace → Stepped → OpenPlace → List Lexeme → Type 0
-AgreeOn (Some q) (Ok x) p ls = Leads p ls x.0 x.1 q
-AgreeOn None (Err f) p ls = Unit {0}
-AgreeOn a b p ls = ⊥
-
--- a step, and then a list
-after_step : (a : Option OpenPlace) (b : Stepped) (p q : OpenPlace) (l : Lexeme) (ls : List Lexeme) (es : List PlainEvent)
-    → ((more : List Lexeme) → spell_open q more ≡ spell_open p (l ∷ more))
-    → ((more : List PlainEvent) → open_events q more ≡ open_events p (es ++ more))
-    → AgreeOn a b q ls → AgreeOn a (with_events es b) p (l ∷ ls)
-after_step (Some r) (Ok x) p q l ls es spelled given h = record {
-  path_is = h.path_is;
-  spells = λ more. h.spells more ∙ spelled (ls ++ more);
-  gives = λ more. h.gives more ∙ given (x.0 ++ more) ∙ ap (open_events p) (sym (append_assoc es x.0 more));
-}
-after_step (Some r) (Err f) p q l ls es spelled given h = absurd h
-after_step None (Ok x) p q l ls es spelled given h = absurd h
-after_step None (Err f) p q l ls es spelled given h = tt
-
-goes_on : (a : Option OpenPlace) (b : Stepped) (p : OpenPlace) (l : Lexeme) (ls : List Lexeme) → Agree a b p l
-    → ((q : OpenPlace) → AgreeOn (place_behind ls q) (parse ls (path_of q)) q ls)
-    → AgreeOn (place_then a (place_behind ls)) (and_then b (parse ls)) p (l ∷ ls)
-goes_on (Some q) (Ok x) p l ls h rest =
-    after_step (place_behind ls q) (parse ls x.1) p q l ls x.0 h.spells h.gives
-    (subst (λ (fs : Path). AgreeOn (place_behind ls q) (parse ls fs) q ls) h.path_is (rest q))
-goes_on (Some q) (Err f) p l ls h rest = absurd h
-goes_on None (Ok x) p l ls h rest = absurd h
-goes_on None (Err f) p l ls h rest = tt
-
--- The parser that keeps its pieces and the one that keeps frames agree on every list.
-pub agrees : (ls : List Lexeme) (p : OpenPlace) → AgreeOn (place_behind ls p) (parse ls (path_of p)) p ls
-agrees [] p = record { path_is = refl; spells = λ more. refl; gives = λ more. refl }
-agrees (l ∷ ls) p = goes_on (place_step p l.kind l.source) (step_on (path_of p) l) p l ls (step_agrees p l.kind l.source) (agrees ls)
-
--- an open place that lexemes spell, with its path and the events before it
-pub record Opened (ls : List Lexeme) (es : List PlainEvent) (fs : Path) : Type 0 where
+-- an open place that lexemes lead to, with its state and the events before it, and each alias before it resolved
+pub record Opened (o : OptionsData) (ls : List Lexeme) (es : List PlainEvent) (s : ParserState) : Type 0 where
   pub place : OpenPlace
-  pub path_is : path_of place ≡ fs
-  pub whole : spell_open place [] ≡ ls
+  pub reached : place_behind ls first_of_all ≡ Some place
+  pub path_is : path_of place ≡ s.path
+  pub knows : Knows (open_scope place) s.anchors
   pub spells : (more : List Lexeme) → spell_open place more ≡ ls ++ more
-  pub gives : (more : List PlainEvent) → open_events place more ≡ es ++ more
+  pub gives : (more : List PlainEvent) → open_events o place more ≡ es ++ more
+  pub names : names_of place ≡ names_behind_all ls []
+  pub resolves : Resolves o [] ls
 
-opened_by : (a : Option OpenPlace) (ls : List Lexeme) (es : List PlainEvent) (fs : Path) → AgreeOn a (Ok (es, fs)) (BetweenDocuments NoDocument) ls → Opened ls es fs
-opened_by (Some q) ls es fs h = record { place = q; path_is = h.path_is; whole = h.spells [] ∙ append-nil ls; spells = h.spells; gives = h.gives }
-opened_by None ls es fs h = absurd h
+-- Nothing was read.
+pub opened_first : (o : OptionsData) → Opened o [] [] (record { path = []; anchors = no_anchors })
+opened_first o = record {
+  place = first_of_all;
+  reached = refl;
+  path_is = refl;
+  knows = record { count_is = refl; known_are = λ name. refl };
+  spells = λ more. refl;
+  gives = λ more. refl;
+  names = refl;
+  resolves = tt;
+}
 
--- What is parsed stands before an open place: its lexemes, its path and its events.
-pub sound_open : (ls : List Lexeme) (es : List PlainEvent) (fs : Path) → parse ls [] ≡ Ok (es, fs) → Opened ls es fs
-sound_open ls es fs e = opened_by (place_behind ls (BetweenDocuments NoDocument)) ls es fs
-    (subst (λ (r : Stepped). AgreeOn (place_behind ls (BetweenDocuments NoDocument)) r (BetweenDocuments NoDocument) ls) e (agrees ls (BetweenDocuments NoDocument)))
+-- The machine's step from there agrees with that of the place.
+pub next_agrees : (o : OptionsData) (ls : List Lexeme) (es : List PlainEvent) (s : ParserState) (l : Lexeme) (k : Opened o ls es s) → Agree o (place_step k.place l.kind l.source) (step_on o s l) k.place l
+next_agrees o ls es s l k =
+    subst (λ (fs : Path). Agree o (place_step k.place l.kind l.source) (step_in o s.anchors fs l.kind l) k.place l) k.path_is
+    (step_agrees o k.place s.anchors l.kind l.source k.knows)
+
+names_append : (ls : List Lexeme) (l : Lexeme) (names : List (List ℕ)) → names_behind_all (ls ++ (l ∷ [])) names ≡ names_behind l.kind (names_behind_all ls names)
+names_append [] l names = refl
+names_append (m ∷ ls) l names = names_append ls l (names_behind m.kind names)
+
+resolves_append : (o : OptionsData) (ls : List Lexeme) (l : Lexeme) (names : List (List ℕ)) → Resolves o names ls → Names o (names_behind_all ls names) l.kind → Resolves o names (ls ++ (l ∷ []))
+resolves_append o [] l names r n = (n, tt)
+resolves_append o (m ∷ ls) l names r n = (r.0, resolves_append o ls l (names_behind m.kind names) r.1 n)
+
+opened_by : (o : OptionsData) (ls : List Lexeme) (es more : List PlainEvent) (s t : ParserState) (l : Lexeme) (k : Opened o ls es s) (a : Option OpenPlace) → place_step k.place l.kind l.source ≡ a → Agree o a (Ok (more, t)) k.place l
+    → Opened o (ls ++ (l ∷ [])) (es ++ more) t
+opened_by o ls es more s t l k (Some q) e m = record {
+  place = q;
+  reached = place_append ls (l ∷ []) first_of_all ∙ ap (λ (r : Option OpenPlace). place_then r (place_behind (l ∷ []))) k.reached ∙ ap (λ (r : Option OpenPlace). place_then r (place_behind [])) e;
+  path_is = m.path_is;
+  knows = m.knows;
+  spells = λ rest. m.spells rest ∙ k.spells (l ∷ rest) ∙ sym (append_assoc ls (l ∷ []) rest);
+  gives = λ rest. m.gives rest ∙ k.gives (more ++ rest) ∙ sym (append_assoc es more rest);
+  names = m.names ∙ ap (names_behind l.kind) k.names ∙ sym (names_append ls l []);
+  resolves = resolves_append o ls l [] k.resolves (subst (λ (names : List (List ℕ)). Names o names l.kind) k.names m.resolves);
+}
+opened_by o ls es more s t l k None e m = absurd m
+
+-- A lexeme that the machine takes leads to the next open place.
+pub opened_next : (o : OptionsData) (ls : List Lexeme) (es more : List PlainEvent) (s t : ParserState) (l : Lexeme) → Opened o ls es s → step_on o s l ≡ Ok (more, t) → Opened o (ls ++ (l ∷ [])) (es ++ more) t
+opened_next o ls es more s t l k e =
+    opened_by o ls es more s t l k (place_step k.place l.kind l.source) refl
+    (subst (λ (r : Stepped). Agree o (place_step k.place l.kind l.source) r k.place l) e (next_agrees o ls es s l k))
 
 -- documents that lexemes spell, with their events
-pub record Documented (ls : List Lexeme) (es : List PlainEvent) : Type 0 where
+pub record Documented (o : OptionsData) (ls : List Lexeme) (es : List PlainEvent) : Type 0 where
   pub documents : Documents
   pub spells : spell_documents documents [] ≡ ls
-  pub gives : es ≡ document_events documents []
+  pub gives : (more : List PlainEvent) → document_events o documents more ≡ es ++ more
 
 -- a path that unfinished nodes have
 hole_unfinished : (h : Hole) → hole_path h ≡ [] → ⊥
 hole_unfinished (RootHole ds m) e = cc
-hole_unfinished (FirstEntryHole h s) e = cc
-hole_unfinished (NextEntryHole h s entries c) e = cc
-hole_unfinished (KeyHole h s lead q) e = cc
-hole_unfinished (ValueHole h s lead q k c) e = cc
+hole_unfinished (FirstEntryHole h p s) e = cc
+hole_unfinished (NextEntryHole h p s entries c) e = cc
+hole_unfinished (KeyHole h p s lead q) e = cc
+hole_unfinished (ValueHole h p s lead q k c) e = cc
 
-finished : (p : OpenPlace) (ls : List Lexeme) (es : List PlainEvent) → path_of p ≡ [] → spell_open p [] ≡ ls ++ [] → open_events p [] ≡ es ++ [] → Documented ls es
-finished (BetweenDocuments ds) ls es e spelled given = record { documents = ds; spells = spelled ∙ append-nil ls; gives = sym (given ∙ append-nil es) }
-finished (AtHole h) ls es e spelled given = absurd (hole_unfinished h e)
-finished (AfterEntry h s entries) ls es e spelled given = cc
-finished (AfterMappingOpen h s) ls es e spelled given = cc
-finished (AfterPairComma h s pairs c) ls es e spelled given = cc
-finished (AfterKey h s lead q k) ls es e spelled given = cc
-finished (AfterPair h s pairs) ls es e spelled given = cc
+documented_by : (o : OptionsData) (p : OpenPlace) (ls : List Lexeme) (es : List PlainEvent) → path_of p ≡ [] → spell_open p [] ≡ ls ++ [] → ((more : List PlainEvent) → open_events o p more ≡ es ++ more) → Documented o ls es
+documented_by o (BetweenDocuments ds) ls es e spelled given = record { documents = ds; spells = spelled ∙ append-nil ls; gives = given }
+documented_by o (AtHole h) ls es e spelled given = absurd (hole_unfinished h e)
+documented_by o (AfterProperties h p) ls es e spelled given = cc
+documented_by o (AfterEntry h p s entries) ls es e spelled given = cc
+documented_by o (AfterMappingOpen h p s) ls es e spelled given = cc
+documented_by o (AfterPairComma h p s pairs c) ls es e spelled given = cc
+documented_by o (AfterKey h p s lead q k) ls es e spelled given = cc
+documented_by o (AfterPair h p s pairs) ls es e spelled given = cc
 
--- What is parsed with no node left unfinished is what documents spell, and their events.
-pub sound : (ls : List Lexeme) (es : List PlainEvent) → parse ls [] ≡ Ok (es, []) → Documented ls es
-sound ls es e = let o = sound_open ls es [] e in finished o.place ls es o.path_is (o.spells []) (o.gives [])
+-- What was read with no node left unfinished is what documents spell, and their events were given.
+pub sound : (o : OptionsData) (ls : List Lexeme) (es : List PlainEvent) (s : ParserState) → Opened o ls es s → s.path ≡ [] → Documented o ls es
+sound o ls es s k e = documented_by o k.place ls es (k.path_is ∙ e) (k.spells []) k.gives

@@ -1,7 +1,7 @@
 -- The laws, as the functions of this crate state them.
-use Rattle.std.proofs.Common.{◌≡◌, ℕ, List, refl, sym, ap, ◌∙◌, subst, Result, Ok, Err, ◌⊎◌, inl, inr}
+use Rattle.std.proofs.Common.{◌≡◌, ℕ, List, [], refl, sym, ap, ◌∙◌, subst, Result, Ok, Err, ◌⊎◌, inl, inr}
 use Rattle.granit_base.specs.Place.{Mark}
-use Rattle.granit_error.specs.FaultKind.{FaultKind, UnclosedFlowCollection, RecursionLimitExceeded, NotBuilt}
+use Rattle.granit_error.specs.FaultKind.{FaultKind, UnclosedFlowCollection, RecursionLimitExceeded, NotBuilt, UnknownAnchor}
 use Rattle.granit_error.specs.OptionsData.{OptionsData}
 use Rattle.granit_model.specs.Cause.{Cause}
 use Rattle.granit_model.specs.Events.{events}
@@ -11,13 +11,14 @@ use Rattle.granit_model.specs.Node.{Documents}
 use Rattle.granit_model.specs.Outcome.{Fault}
 use Rattle.granit_model.specs.PlainEvent.{PlainEvent}
 use Rattle.granit_model.specs.Reading.{Reading}
+use Rattle.granit_model.specs.Scope.{Resolves}
 use Rattle.granit_laws.proofs.GrammarComplete.{one_tree}
 use Rattle.granit_laws.proofs.Answered.{Why, Answered, answered}
 use Rattle.granit_lexing.proofs.LexingOnce.{reached_once}
-use Rattle.granit_laws.proofs.Unread.{not_unclosed, not_too_deep, not_refused}
+use Rattle.granit_laws.proofs.Unread.{not_unclosed, not_too_deep, not_refused, not_unknown}
 
 -- an answer is the event list of a reading
-pub is_reading : (o : OptionsData) (x : List ℕ) (es : List PlainEvent) → events_of o x ≡ Ok es → (ls : List Lexeme) × (ds : Documents) × Reading o x ls ds × (es ≡ events x ds)
+pub is_reading : (o : OptionsData) (x : List ℕ) (es : List PlainEvent) → events_of o x ≡ Ok es → (ls : List Lexeme) × (ds : Documents) × Reading o x ls ds × Resolves o [] ls × (es ≡ events o x ds)
 is_reading o x es e = subst (Answered o x) e (answered o x)
 
 -- a text has one reading
@@ -26,47 +27,54 @@ same_reading o p x ls ms ds es a b =
     let same = reached_once a.reached b.reached in
     (same, one_tree ds es (a.spelled ∙ same ∙ sym b.spelled))
 
--- what a text with a reading under some options is answered
-abbrev pub AnsweredOr : OptionsData → OptionsData → List ℕ → Documents → Result (List PlainEvent) Fault → Type 0
-AnsweredOr o p x ds (Ok es) = es ≡ events x ds
-AnsweredOr o p x ds (Err f) = (f.kind ≡ RecursionLimitExceeded)
+-- the kinds of faults of a text that has a reading under some options
+abbrev pub IsLimit : FaultKind → Type 0
+IsLimit kind = (kind ≡ RecursionLimitExceeded) ⊎ (kind ≡ UnknownAnchor)
 
-read_fault : (o p : OptionsData) (x : List ℕ) (ls : List Lexeme) (ds : Documents) (kind : FaultKind) (m : Mark) → Reading p x ls ds → Why o x kind m → kind ≡ RecursionLimitExceeded
+-- what a text with a reading under some options is answered
+abbrev AnsweredOr : OptionsData → List ℕ → Documents → Result (List PlainEvent) Fault → Type 0
+AnsweredOr o x ds (Ok es) = es ≡ events o x ds
+AnsweredOr o x ds (Err f) = IsLimit f.kind
+
+read_fault : (o p : OptionsData) (x : List ℕ) (ls : List Lexeme) (ds : Documents) (kind : FaultKind) (m : Mark) → Reading p x ls ds → Why o x kind m → IsLimit kind
 read_fault o p x ls ds (UnclosedFlowCollection opener) m r w = absurd (not_unclosed x opener m w p ls ds r)
-read_fault o p x ls ds RecursionLimitExceeded m r w = refl
+read_fault o p x ls ds RecursionLimitExceeded m r w = inl refl
+read_fault o p x ls ds UnknownAnchor m r w = inr refl
 read_fault o p x ls ds NotBuilt m r w = absurd (not_refused x w.before w.at w.reached w.refused p ls ds r)
 read_fault o p x ls ds kind m r w = absurd w
 
-read_answer : (o p : OptionsData) (x : List ℕ) (ls : List Lexeme) (ds : Documents) (given : Result (List PlainEvent) Fault) → Reading p x ls ds → Answered o x given → AnsweredOr o p x ds given
-read_answer o p x ls ds (Ok es) r a = a.3 ∙ ap (events x) ((same_reading o p x a.0 ls a.1 ds a.2 r).1)
+read_answer : (o p : OptionsData) (x : List ℕ) (ls : List Lexeme) (ds : Documents) (given : Result (List PlainEvent) Fault) → Reading p x ls ds → Answered o x given → AnsweredOr o x ds given
+read_answer o p x ls ds (Ok es) r a = a.4 ∙ ap (events o x) ((same_reading o p x a.0 ls a.1 ds a.2 r).1)
 read_answer o p x ls ds (Err f) r w = read_fault o p x ls ds f.kind f.mark r w
 
-as_answered : (o p : OptionsData) (x : List ℕ) (ds : Documents) (given : Result (List PlainEvent) Fault) → AnsweredOr o p x ds given → (given ≡ Ok (events x ds)) ⊎ ((f : Fault) × (given ≡ Err f) × (f.kind ≡ RecursionLimitExceeded))
-as_answered o p x ds (Ok es) a = inl (ap Ok a)
-as_answered o p x ds (Err f) k = inr (f, refl, k)
+as_answered : (o : OptionsData) (x : List ℕ) (ds : Documents) (given : Result (List PlainEvent) Fault) → AnsweredOr o x ds given → (given ≡ Ok (events o x ds)) ⊎ ((f : Fault) × (given ≡ Err f) × IsLimit f.kind)
+as_answered o x ds (Ok es) a = inl (ap Ok a)
+as_answered o x ds (Err f) k = inr (f, refl, k)
 
--- a text with a reading under some options is answered with its events, or is too deep
-pub answered_or_deep : (o p : OptionsData) (x : List ℕ) (ls : List Lexeme) (ds : Documents) → Reading p x ls ds → (events_of o x ≡ Ok (events x ds)) ⊎ ((f : Fault) × (events_of o x ≡ Err f) × (f.kind ≡ RecursionLimitExceeded))
-answered_or_deep o p x ls ds r = as_answered o p x ds (events_of o x) (read_answer o p x ls ds (events_of o x) r (answered o x))
+-- a text with a reading under some options is answered with its events, or is too deep or has an alias of no anchor
+pub answered_or_refused : (o p : OptionsData) (x : List ℕ) (ls : List Lexeme) (ds : Documents) → Reading p x ls ds → (events_of o x ≡ Ok (events o x ds)) ⊎ ((f : Fault) × (events_of o x ≡ Err f) × IsLimit f.kind)
+answered_or_refused o p x ls ds r = as_answered o x ds (events_of o x) (read_answer o p x ls ds (events_of o x) r (answered o x))
 
--- too deep is what has no reading under these options
-not_deep : (o : OptionsData) (x : List ℕ) (ls : List Lexeme) (ds : Documents) (kind : FaultKind) (m : Mark) → Reading o x ls ds → Why o x kind m → ⊥
-not_deep o x ls ds (UnclosedFlowCollection opener) m r w = not_unclosed x opener m w o ls ds r
-not_deep o x ls ds RecursionLimitExceeded m r w = not_too_deep o x m w ls ds r
-not_deep o x ls ds NotBuilt m r w = not_refused x w.before w.at w.reached w.refused o ls ds r
-not_deep o x ls ds kind m r w = w
+-- no fault has a cause in a text that has a reading under these options whose aliases are known or may stay
+no_fault : (o : OptionsData) (x : List ℕ) (ls : List Lexeme) (ds : Documents) (kind : FaultKind) (m : Mark) → Reading o x ls ds → Resolves o [] ls → Why o x kind m → ⊥
+no_fault o x ls ds (UnclosedFlowCollection opener) m r v w = not_unclosed x opener m w o ls ds r
+no_fault o x ls ds RecursionLimitExceeded m r v w = not_too_deep o x m w ls ds r
+no_fault o x ls ds UnknownAnchor m r v w = not_unknown o x m w o ls ds r v
+no_fault o x ls ds NotBuilt m r v w = not_refused x w.before w.at w.reached w.refused o ls ds r
+no_fault o x ls ds kind m r v w = w
 
-is_events : (o : OptionsData) (x : List ℕ) (ls : List Lexeme) (ds : Documents) (given : Result (List PlainEvent) Fault) → Reading o x ls ds → Answered o x given → given ≡ Ok (events x ds)
-is_events o x ls ds (Ok es) r a = ap Ok (read_answer o o x ls ds (Ok es) r a)
-is_events o x ls ds (Err f) r w = absurd (not_deep o x ls ds f.kind f.mark r w)
+is_events : (o : OptionsData) (x : List ℕ) (ls : List Lexeme) (ds : Documents) (given : Result (List PlainEvent) Fault) → Reading o x ls ds → Resolves o [] ls → Answered o x given → given ≡ Ok (events o x ds)
+is_events o x ls ds (Ok es) r v a = ap Ok (read_answer o o x ls ds (Ok es) r a)
+is_events o x ls ds (Err f) r v w = absurd (no_fault o x ls ds f.kind f.mark r v w)
 
--- a text with a reading is answered with its events
-pub is_answered : (o : OptionsData) (x : List ℕ) (ls : List Lexeme) (ds : Documents) → Reading o x ls ds → events_of o x ≡ Ok (events x ds)
-is_answered o x ls ds r = is_events o x ls ds (events_of o x) r (answered o x)
+-- a text with a reading whose aliases are known or may stay is answered with its events
+pub is_answered : (o : OptionsData) (x : List ℕ) (ls : List Lexeme) (ds : Documents) → Reading o x ls ds → Resolves o [] ls → events_of o x ≡ Ok (events o x ds)
+is_answered o x ls ds r v = is_events o x ls ds (events_of o x) r v (answered o x)
 
 cause_of : (o : OptionsData) (x : List ℕ) (kind : FaultKind) (m : Mark) → Why o x kind m → Cause o x kind m
 cause_of o x (UnclosedFlowCollection opener) m w = w
 cause_of o x RecursionLimitExceeded m w = w
+cause_of o x UnknownAnchor m w = w
 cause_of o x NotBuilt m w = record {
   before = w.before;
   at = w.at;

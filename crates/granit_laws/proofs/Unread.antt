@@ -3,20 +3,22 @@ use Rattle.std.proofs.Common.{◌≡◌, ◌≢◌, ℕ, suc, ◌+◌, ◌≤◌
 use Rattle.granit_base.specs.Classes.{is_gap, is_blank, is_break}
 use Rattle.granit_base.specs.Place.{Mark, first}
 use Rattle.granit_error.specs.OptionsData.{OptionsData}
-use Rattle.granit_model.specs.Cause.{ReachedTo, open_brackets, IsDocumentMark, Unclosed, TooDeep, NotTaken, at_end, at_no_gap, at_lexeme, at_foreign}
-use Rattle.granit_model.specs.Extent.{IsLexeme, MayBegin, Spells, dashes, left_square, right_square, left_curly, right_curly, comma, question, colon, quoted}
+use Rattle.granit_model.specs.Cause.{ReachedTo, open_brackets, IsDocumentMark, Unclosed, TooDeep, Unknown, NotTaken, at_end, at_no_gap, at_lexeme, at_foreign}
+use Rattle.granit_model.specs.Extent.{IsLexeme, MayBegin, MayFollow, Spells, left_square, left_curly}
 use Rattle.granit_model.specs.Gap.{StandsAt}
-use Rattle.granit_model.specs.Lexeme.{Lexeme, LexemeKind, DocumentStart, Bracket, Square, Curly, Opener, opener_char}
+use Rattle.granit_model.specs.Lexeme.{Lexeme, LexemeKind, Alias, Bracket, Square, Curly, Opener, opener_char}
 use Rattle.granit_model.specs.Node.{Documents}
 use Rattle.granit_model.specs.Place.{mark_at}
 use Rattle.granit_model.specs.ReaderState.{open_kind}
 use Rattle.granit_model.specs.Reading.{Before, nothing_before, openers_behind, behind_lexeme, behind_all, NestsWithin, Reading}
+use Rattle.granit_model.specs.Scope.{names_behind, names_behind_all, Names, Resolves}
 use Rattle.granit_model.specs.Yield.{spell_documents}
 use Rattle.granit_laws.proofs.GrammarBrackets.{documents_close}
 use Rattle.granit_laws.proofs.GrammarGoesOn.{WantsOpen, documents_want}
 use Rattle.granit_lexing.proofs.LexingOnce.{all_reached, GoesOn, goes_on_there, lexeme_follows, no_lexeme_follows, gap_is_missing_behind}
 use Rattle.granit_lexing.proofs.LexingReads.{within_at}
-use Rattle.granit_lexing.proofs.Places.{a_character, same_first}
+use Rattle.granit_lexing.proofs.Places.{a_character}
+use Rattle.granit_laws.proofs.Spelled.{mark_kind}
 
 dash_no_gap : is_gap 0x2D ≡ false
 unfolding is_gap is_blank is_break
@@ -30,6 +32,10 @@ opener_begins : (x : List ℕ) (i : ℕ) (b : Bracket) → MayBegin x i (open_ki
 opener_begins x i Square = tt
 opener_begins x i Curly = tt
 
+opener_ends : (b : Bracket) (behind : List ℕ) → MayFollow (open_kind b) behind
+opener_ends Square behind = tt
+opener_ends Curly behind = tt
+
 opener_behind : (b : Bracket) (m : Mark) (os : List Opener) → length (openers_behind (open_kind b) m os) ≡ suc (length os)
 opener_behind Square m os = refl
 opener_behind Curly m os = refl
@@ -38,6 +44,11 @@ opener_behind Curly m os = refl
 nested_front : (limit : ℕ) (b : Before) (ls : List Lexeme) (l : Lexeme) (more : List Lexeme) → NestsWithin limit b (ls ++ (l ∷ more)) → length (behind_lexeme (behind_all b ls) l).openers ≤ limit
 nested_front limit b [] l more n = n.0
 nested_front limit b (m ∷ ls) l more n = nested_front limit (behind_lexeme b m) ls l more n.1
+
+-- what resolves does so behind each front
+names_there : (o : OptionsData) (names : List (List ℕ)) (ls : List Lexeme) (l : Lexeme) (more : List Lexeme) → Resolves o names (ls ++ (l ∷ more)) → Names o (names_behind_all ls names) l.kind
+names_there o names [] l more r = r.0
+names_there o names (m ∷ ls) l more r = names_there o (names_behind m.kind names) ls l more r.1
 
 module _ (x : List ℕ) (ls : List Lexeme) (i : ℕ) (reached : ReachedTo x ls i) (o : OptionsData) (all : List Lexeme) (ds : Documents) (r : Reading o x all ds) where
   -- what a reading has behind these lexemes, where a character stands that is no gap
@@ -66,22 +77,11 @@ module _ (x : List ℕ) (ls : List Lexeme) (i : ℕ) (reached : ReachedTo x ls i
   end_closed e = ap open_brackets (sym (at_the_end e)) ∙ documents_close ds
 
   -- nor before a document mark
-  mark_kind : (k : LexemeKind) (cs behind mine : List ℕ) → Spells k cs → drop i x ≡ cs ++ behind → drop i x ≡ 0x2D ∷ 0x2D ∷ 0x2D ∷ mine → k ≡ DocumentStart
-  mark_kind k cs behind mine dashes e d = refl
-  mark_kind k cs behind mine left_square e d = absurd (omega (arith, same_first 0x5B 0x2D _ _ _ e d))
-  mark_kind k cs behind mine right_square e d = absurd (omega (arith, same_first 0x5D 0x2D _ _ _ e d))
-  mark_kind k cs behind mine left_curly e d = absurd (omega (arith, same_first 0x7B 0x2D _ _ _ e d))
-  mark_kind k cs behind mine right_curly e d = absurd (omega (arith, same_first 0x7D 0x2D _ _ _ e d))
-  mark_kind k cs behind mine comma e d = absurd (omega (arith, same_first 0x2C 0x2D _ _ _ e d))
-  mark_kind k cs behind mine question e d = absurd (omega (arith, same_first 0x3F 0x2D _ _ _ e d))
-  mark_kind k cs behind mine colon e d = absurd (omega (arith, same_first 0x3A 0x2D _ _ _ e d))
-  mark_kind k cs behind mine (quoted q) e d = absurd (omega (arith, same_first 0x22 0x2D _ _ _ e d))
-
   mark_closed : IsDocumentMark x i → open_brackets ls ≡ []
   mark_closed d =
       let here = within_at x i 0x2D (0x2D ∷ 0x2D ∷ d.behind) d.stands.inside in
       let g = goes_on_at here (ap (λ (t : List ℕ). is_gap (first t)) d.stands.inside ∙ dash_no_gap) in
-      let kind = mark_kind g.lexeme.kind g.spelling g.behind d.behind g.stands.spells g.stands.stands.inside d.stands.inside in
+      let kind = mark_kind x i g.lexeme.kind g.spelling g.behind d.behind g.stands.spells g.stands.stands.inside d.stands.inside in
       subst (λ (k : LexemeKind). WantsOpen k (open_brackets ls)) kind (documents_want ls g.lexeme g.rest ds (spelled_on g))
 
   closed_there : (i ≡ length x) ⊎ IsDocumentMark x i → open_brackets ls ≡ []
@@ -92,7 +92,7 @@ module _ (x : List ℕ) (ls : List Lexeme) (i : ℕ) (reached : ReachedTo x ls i
   opener_nests : (b : Bracket) (behind : List ℕ) → StandsAt x i (opener_char b ∷ []) behind → length (open_brackets ls) ≢ o.flow_nesting_limit
   opener_nests b behind s e =
       let l : Lexeme = record { kind = open_kind b; source = record { start = mark_at x i; end = mark_at x (i + 1) } } in
-      let is : IsLexeme x i l (opener_char b ∷ []) behind = record { stands = s; spells = opener_spells b; begins = opener_begins x i b; source = refl } in
+      let is : IsLexeme x i l (opener_char b ∷ []) behind = record { stands = s; spells = opener_spells b; begins = opener_begins x i b; ends = opener_ends b behind; source = refl } in
       let f = lexeme_follows reached is r.reached in
       let n = nested_front o.flow_nesting_limit nothing_before ls l f.0 (subst (NestsWithin o.flow_nesting_limit nothing_before) f.1 r.nests) in
       let more = opener_behind b (mark_at x i) (open_brackets ls) in
@@ -108,3 +108,12 @@ not_too_deep o x m c all ds r = opener_nests x c.before c.at c.reached o all ds 
 
 pub not_refused : (x : List ℕ) (ls : List Lexeme) (i : ℕ) → ReachedTo x ls i → NotTaken x ls i → (o : OptionsData) (all : List Lexeme) (ds : Documents) → Reading o x all ds → ⊥
 not_refused x ls i reached n o all ds r = not_taken x ls i reached o all ds r n
+
+not_named : (o : OptionsData) (x : List ℕ) (m : Mark) (c : Unknown o x m) → Names o (names_behind_all c.before []) (Alias c.name) → ⊥
+not_named o x m c (inl stays) = let must = c.must_be_known in cc
+not_named o x m c (inr known) = c.unknown known
+
+pub not_unknown : (o : OptionsData) (x : List ℕ) (m : Mark) → Unknown o x m → (p : OptionsData) (all : List Lexeme) (ds : Documents) → Reading p x all ds → Resolves o [] all → ⊥
+not_unknown o x m c p all ds r resolved =
+    let f = lexeme_follows c.reached c.stands r.reached in
+    not_named o x m c (subst (Names o (names_behind_all c.before [])) c.is_alias (names_there o [] c.before c.alias f.0 (subst (Resolves o []) f.1 resolved)))

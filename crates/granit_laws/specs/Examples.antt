@@ -1,9 +1,21 @@
 -- Words of the worked examples.
-use Rattle.std.specs.Prelude.{ℕ, List}
-use Rattle.granit_error.specs.OptionsData.{default_options}
+use Rattle.std.specs.Prelude.{ℕ, List, true}
+use Rattle.granit_error.specs.OptionsData.{OptionsData, default_options}
 use Rattle.granit_model.specs.Line.{answer_lines}
 use Rattle.granit_model.specs.Machine.{events_of}
 
+-- what is printed for a text under some options
+abbrev pub prints_under : OptionsData → List ℕ → List ℕ
+prints_under o text = answer_lines (events_of o text)
+
 -- what is printed for a text under the default options
 abbrev pub prints : List ℕ → List ℕ
-prints text = answer_lines (events_of default_options text)
+prints text = prints_under default_options text
+
+-- Anchor events are asked for
+abbrev pub telling_anchors : OptionsData
+telling_anchors = record default_options { emit_anchor_events = true }
+
+-- aliases of no anchor may stay
+abbrev pub leaving_aliases : OptionsData
+leaving_aliases = record default_options { emit_unresolved_aliases = true }

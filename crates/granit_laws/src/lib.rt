@@ -5,9 +5,13 @@
 mod causes;
 mod examples;
 mod readings;
+mod scopes;
 
-pub use causes::{deeper_readings_are_too_deep, every_fault_has_its_cause};
-pub use examples::{faults_of_the_examples, lines_of_the_examples};
+pub use causes::{every_fault_has_its_cause, readings_are_answered_or_refused};
+pub use examples::{
+    faults_of_properties, faults_of_the_examples, lines_of_properties, lines_of_the_examples,
+};
 pub use readings::{
     every_answer_is_a_reading, every_reading_is_answered, every_span_is_in_the_text, one_reading,
 };
+pub use scopes::{names_of_anchors_have_numbers, scope_is_told_by_the_lexemes_before};

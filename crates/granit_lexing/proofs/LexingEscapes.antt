@@ -8,12 +8,12 @@ use Rattle.granit_base.specs.Classes.{is_digit, is_hex, hex_value}
 use Rattle.granit_base.specs.Place.{Mark, first}
 use Rattle.granit_model.specs.Decoding.{letter_value, digit_count, number_behind, number_of, is_high, is_low, joined, AreDigits, Escape, letter, number, halves}
 use Rattle.granit_model.specs.Gap.{Each}
-use Rattle.granit_model.specs.Here.{Here, next_char, step}
+use Rattle.granit_model.specs.Here.{Here, next_char}
 use Rattle.granit_model.specs.Outcome.{◌>>=◌}
 use Rattle.granit_model.specs.Quoted.{refuse_at, digits, joined_at, second_half, numbered, escape_by, escape}
 use Rattle.granit_lexing.specs.Standing.{here_at}
 use Rattle.granit_lexing.proofs.LexingRuns.{next_is, rest_of, along}
-use Rattle.granit_lexing.proofs.Places.{step_is, rest_behind}
+use Rattle.granit_lexing.proofs.Places.{step_is, rest_behind, on_two, two_behind}
 
 no_hex_at_end : is_hex 0 ≡ false
 unfolding is_hex is_digit
@@ -114,22 +114,16 @@ module _ (start : Mark) (x : List ℕ) where
 
   -- ---- the second half of a character
 
-  two_on : (i a b : ℕ) (t : List ℕ) → drop i x ≡ a ∷ b ∷ t → step (step (here_at x i)) ≡ here_at x (suc (suc i))
-  two_on i a b t e = ap step (step_is x i a (b ∷ t) e) ∙ step_is x (suc i) b t (rest_behind x i a (b ∷ t) e)
-
-  two_behind : (i a b : ℕ) (t : List ℕ) → drop i x ≡ a ∷ b ∷ t → drop (suc (suc i)) x ≡ t
-  two_behind i a b t e = rest_behind x (suc i) b t (rest_behind x i a (b ∷ t) e)
-
   second_goes : (high i : ℕ) (t : List ℕ) → drop i x ≡ 0x5C ∷ 0x75 ∷ t → second_half start high (here_at x i) ≡ (digits start 4 0 (here_at x (suc (suc i))) >>= λ y. joined_at start high y.0 y.1)
   unfolding second_half
   second_goes high i t e =
       cond-true (first (drop i x) == 0x5C && slice_index (drop i x) 1 == 0x75) _ _ (ap (λ (l : List ℕ). first l == 0x5C && slice_index l 1 == 0x75) e)
-      ∙ ap (λ h. digits start 4 0 h >>= λ y. joined_at start high y.0 y.1) (two_on i 0x5C 0x75 t e)
+      ∙ ap (λ h. digits start 4 0 h >>= λ y. joined_at start high y.0 y.1) (on_two x i 0x5C 0x75 t e)
 
   second_joins : (high i : ℕ) (low t : List ℕ) → drop i x ≡ 0x5C ∷ 0x75 ∷ (low ++ t) → AreDigits 4 low → second_half start high (here_at x i) ≡ joined_at start high (number_of low) (here_at x (suc (suc i) + length low))
   second_joins high i low t e a =
       second_goes high i (low ++ t) e
-      ∙ ap (λ r. r >>= λ y. joined_at start high y.0 y.1) (counted_digits 4 low t (suc (suc i)) (two_behind i 0x5C 0x75 (low ++ t) e) a)
+      ∙ ap (λ r. r >>= λ y. joined_at start high y.0 y.1) (counted_digits 4 low t (suc (suc i)) (two_behind x i 0x5C 0x75 (low ++ t) e) a)
 
   second_is : (high i : ℕ) (low t : List ℕ) → drop i x ≡ 0x5C ∷ 0x75 ∷ (low ++ t) → AreDigits 4 low → is_low (number_of low) ≡ true → second_half start high (here_at x i) ≡ Ok (joined high (number_of low), here_at x (suc (suc i) + length low))
   second_is high i low t e a p = second_joins high i low t e a ∙ cond-true (is_low (number_of low)) _ _ p
@@ -152,7 +146,7 @@ module _ (start : Mark) (x : List ℕ) where
       with_low low t false e a q = inr (second_joins high i low t e a ∙ cond-false (is_low (number_of low)) _ _ q)
 
       with_digits : (t : List ℕ) → drop i x ≡ 0x5C ∷ 0x75 ∷ t → DigitsOr start x (suc (suc i)) 4 0 → SecondOr start x i high
-      with_digits t e (inl (low, u, f, a)) = with_low low u (is_low (number_of low)) (e ∙ ap (λ (l : List ℕ). 0x5C ∷ 0x75 ∷ l) (sym (two_behind i 0x5C 0x75 t e) ∙ f)) a refl
+      with_digits t e (inl (low, u, f, a)) = with_low low u (is_low (number_of low)) (e ∙ ap (λ (l : List ℕ). 0x5C ∷ 0x75 ∷ l) (sym (two_behind x i 0x5C 0x75 t e) ∙ f)) a refl
       with_digits t e (inr bad) = inr (second_goes high i t e ∙ ap (λ r. r >>= λ y. joined_at start high y.0 y.1) bad)
 
   second_or : (high i : ℕ) → SecondOr start x i high
@@ -229,7 +223,7 @@ module _ (start : Mark) (x : List ℕ) where
     behind = rest_behind x i 0x5C (l ∷ t) e
 
     past_digits : (ds u : List ℕ) → drop (suc (suc i)) x ≡ ds ++ u → drop i x ≡ 0x5C ∷ l ∷ (ds ++ u)
-    past_digits ds u f = e ∙ ap (λ (r : List ℕ). 0x5C ∷ l ∷ r) (sym (two_behind i 0x5C l t e) ∙ f)
+    past_digits ds u f = e ∙ ap (λ (r : List ℕ). 0x5C ∷ l ∷ r) (sym (two_behind x i 0x5C l t e) ∙ f)
 
     from_letter : (ds u : List ℕ) → drop (suc (suc i)) x ≡ ds ++ u → drop (suc i) x ≡ l ∷ (ds ++ u)
     from_letter ds u f = rest_behind x i 0x5C (l ∷ (ds ++ u)) (past_digits ds u f)

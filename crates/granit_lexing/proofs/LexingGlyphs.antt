@@ -1,12 +1,16 @@
 -- What a character may begin, and how each lexeme begins.
-use Rattle.std.proofs.Common.{◌≡◌, ℕ, false, ◌==◌, List, [], ◌∷◌, ◌++◌, refl, sym, ap, ◌∙◌, arith, append_assoc}
+use Rattle.std.proofs.Common.{◌≡◌, ◌≢◌, ℕ, true, List, [], ◌∷◌, ◌++◌, refl, sym, ap, ◌∙◌, subst, arith}
+use Rattle.std.specs.Str.{encode_utf8_all}
 use Rattle.std.proofs.lemmas.Bool.Decides.{nat_tests}
-use Rattle.granit_base.specs.Classes.{is_break, is_gap, is_blank}
+use lib.Utf8.{scalars}
+use Rattle.granit_base.specs.Classes.{is_break, is_gap, is_blank, is_anchor_char}
 use Rattle.granit_base.specs.Place.{first}
-use Rattle.granit_model.specs.Decoding.{Content}
-use Rattle.granit_model.specs.Lexeme.{LexemeKind, DocumentStart, SequenceOpen, SequenceClose, MappingOpen, MappingClose, Comma, Question, Colon, Scalar}
-use Rattle.granit_model.specs.Start.{Glyph, Dash, DoubleQuote, LeftSquare, RightSquare, LeftCurly, RightCurly, CommaSign, QuestionSign, ColonSign, Foreign, glyph}
-use Rattle.granit_model.specs.Extent.{Spells, dashes, left_square, right_square, left_curly, right_curly, comma, question, colon, quoted}
+use Rattle.granit_base.specs.Written.{Written}
+use Rattle.granit_model.specs.Decoding.{Content, UriBytes}
+use Rattle.granit_model.specs.Gap.{Each}
+use Rattle.granit_model.specs.Lexeme.{LexemeKind, DocumentStart, SequenceOpen, SequenceClose, MappingOpen, MappingClose, Comma, Question, Colon, Tag, Anchor, Alias, Scalar}
+use Rattle.granit_model.specs.Start.{Glyph, Dash, DoubleQuote, LeftSquare, RightSquare, LeftCurly, RightCurly, CommaSign, QuestionSign, ColonSign, Exclamation, Ampersand, Asterisk, Foreign, glyph}
+use Rattle.granit_model.specs.Extent.{Spells, dashes, left_square, right_square, left_curly, right_curly, comma, question, colon, verbatim, anchor, alias, quoted}
 use Rattle.granit_lexing.proofs.LexingRuns.{Ends}
 
 pub dash_is : (c : ℕ) → glyph c ≡ Dash → c ≡ 0x2D
@@ -45,6 +49,18 @@ pub colon_is : (c : ℕ) → glyph c ≡ ColonSign → c ≡ 0x3A
 unfolding glyph
 colon_is c e = grind (arith, nat_tests)
 
+pub exclamation_is : (c : ℕ) → glyph c ≡ Exclamation → c ≡ 0x21
+unfolding glyph
+exclamation_is c e = grind (arith, nat_tests)
+
+pub ampersand_is : (c : ℕ) → glyph c ≡ Ampersand → c ≡ 0x26
+unfolding glyph
+ampersand_is c e = grind (arith, nat_tests)
+
+pub asterisk_is : (c : ℕ) → glyph c ≡ Asterisk → c ≡ 0x2A
+unfolding glyph
+asterisk_is c e = grind (arith, nat_tests)
+
 -- what the first character of a lexeme is taken for
 abbrev pub glyph_of : LexemeKind → Glyph
 glyph_of DocumentStart = Dash
@@ -55,6 +71,9 @@ glyph_of MappingClose = RightCurly
 glyph_of Comma = CommaSign
 glyph_of Question = QuestionSign
 glyph_of Colon = ColonSign
+glyph_of (Tag suffix) = Exclamation
+glyph_of (Anchor name) = Ampersand
+glyph_of (Alias name) = Asterisk
 glyph_of (Scalar style text) = DoubleQuote
 
 pub starts : {k : LexemeKind} {cs : List ℕ} (behind : List ℕ) → Spells k cs → glyph (first (cs ++ behind)) ≡ glyph_of k
@@ -67,6 +86,9 @@ starts behind right_curly = refl
 starts behind comma = refl
 starts behind question = refl
 starts behind colon = refl
+starts behind (verbatim p n s e) = refl
+starts behind (anchor p n) = refl
+starts behind (alias p n) = refl
 starts behind (quoted q) = refl
 
 -- no lexeme begins with a gap character
@@ -80,37 +102,66 @@ no_gap_first behind right_curly = refl
 no_gap_first behind comma = refl
 no_gap_first behind question = refl
 no_gap_first behind colon = refl
+no_gap_first behind (verbatim p n s e) = refl
+no_gap_first behind (anchor p n) = refl
+no_gap_first behind (alias p n) = refl
 no_gap_first behind (quoted q) = refl
 
--- some lexeme begins with each glyph but the foreign ones
-pub not_foreign : (k : LexemeKind) → glyph_of k ≡ Foreign → ⊥
-not_foreign DocumentStart e = cc
-not_foreign SequenceOpen e = cc
-not_foreign SequenceClose e = cc
-not_foreign MappingOpen e = cc
-not_foreign MappingClose e = cc
-not_foreign Comma e = cc
-not_foreign Question e = cc
-not_foreign Colon e = cc
-not_foreign (Scalar style text) e = cc
+-- the characters of a tag
+abbrev pub verbatim_of : List ℕ → List ℕ
+verbatim_of uri = 0x21 ∷ 0x3C ∷ (uri ++ 0x3E ∷ [])
 
--- two texts that begin with other characters are two
-pub apart : (c d : ℕ) (s t : List ℕ) → (c == d) ≡ false → c ∷ s ≡ d ∷ t → ⊥
-apart c d s t n e = let h : c ≡ d = ap first e in grind (arith, nat_tests)
+-- those of a scalar
+abbrev pub quotes : List ℕ → List ℕ
+quotes f = 0x22 ∷ (f ++ 0x22 ∷ [])
 
--- what stands behind the opening quote of a scalar
-pub content_in : {k : LexemeKind} {cs : List ℕ} (behind t : List ℕ) → Spells k cs → cs ++ behind ≡ 0x22 ∷ t → (content : List ℕ) × (value : List ℕ) × Content content value × (t ≡ content ++ 0x22 ∷ behind)
-content_in behind t dashes e = absurd (apart 0x2D 0x22 _ _ refl e)
-content_in behind t left_square e = absurd (apart 0x5B 0x22 _ _ refl e)
-content_in behind t right_square e = absurd (apart 0x5D 0x22 _ _ refl e)
-content_in behind t left_curly e = absurd (apart 0x7B 0x22 _ _ refl e)
-content_in behind t right_curly e = absurd (apart 0x7D 0x22 _ _ refl e)
-content_in behind t comma e = absurd (apart 0x2C 0x22 _ _ refl e)
-content_in behind t question e = absurd (apart 0x3F 0x22 _ _ refl e)
-content_in behind t colon e = absurd (apart 0x3A 0x22 _ _ refl e)
-content_in behind t (quoted {content = content} {value = value} q) e =
-    let h : (content ++ 0x22 ∷ []) ++ behind ≡ t = cc in
-    (content, value, q, sym h ∙ append_assoc content (0x22 ∷ []) behind)
+-- a URI that spells a suffix
+pub record Spelling (uri bytes suffix : List ℕ) : Type 0 where
+  pub uri_bytes : UriBytes uri bytes
+  pub some : uri ≢ []
+  pub scalar : scalars suffix ≡ true
+  pub encodes : encode_utf8_all suffix ≡ bytes
+
+-- a name of one or more characters
+pub record IsName (name : List ℕ) : Type 0 where
+  pub each : Each is_anchor_char name
+  pub some : name ≢ []
+
+-- lent from the text
+abbrev pub lent : List ℕ → Written
+lent name = record { characters = name; is_borrowed = true }
+
+-- a sign and a name
+abbrev pub Named : (Written → LexemeKind) → ℕ → LexemeKind → List ℕ → Type 0
+Named kind sign k cs = (name : List ℕ) × IsName name × (k ≡ kind (lent name)) × (cs ≡ sign ∷ name)
+
+-- what a lexeme is, and its characters, by what the first of them is taken for
+abbrev pub Shape : LexemeKind → List ℕ → Glyph → Type 0
+Shape k cs Dash = (k ≡ DocumentStart) × (cs ≡ 0x2D ∷ 0x2D ∷ 0x2D ∷ [])
+Shape k cs DoubleQuote = (content : List ℕ) × (value : List ℕ) × Content content value × (cs ≡ quotes content)
+Shape k cs Exclamation = (uri : List ℕ) × (bytes : List ℕ) × (suffix : List ℕ) × Spelling uri bytes suffix × (cs ≡ verbatim_of uri)
+Shape k cs Ampersand = Named Anchor 0x26 k cs
+Shape k cs Asterisk = Named Alias 0x2A k cs
+Shape k cs Foreign = ⊥
+Shape k cs _ = Unit {0}
+
+shaped : {k : LexemeKind} {cs : List ℕ} → Spells k cs → Shape k cs (glyph_of k)
+shaped dashes = (refl, refl)
+shaped left_square = tt
+shaped right_square = tt
+shaped left_curly = tt
+shaped right_curly = tt
+shaped comma = tt
+shaped question = tt
+shaped colon = tt
+shaped (verbatim {uri = uri} {bytes = bytes} {suffix = suffix} p n s e) = (uri, bytes, suffix, record { uri_bytes = p; some = n; scalar = s; encodes = e }, refl)
+shaped (anchor {name = name} p n) = (name, record { each = p; some = n }, refl, refl)
+shaped (alias {name = name} p n) = (name, record { each = p; some = n }, refl, refl)
+shaped (quoted {content = content} {value = value} q) = (content, value, q, refl)
+
+-- what begins with a character that is taken for something has its shape
+pub shape_of : {k : LexemeKind} {cs : List ℕ} (behind : List ℕ) (c : ℕ) (t : List ℕ) (g : Glyph) → Spells k cs → cs ++ behind ≡ c ∷ t → glyph c ≡ g → Shape k cs g
+shape_of {k = k} {cs = cs} behind c t g s e h = subst (Shape k cs) (sym (starts behind s) ∙ ap (λ (l : List ℕ). glyph (first l)) e ∙ h) (shaped s)
 
 -- a lexeme has a character
 pub not_nothing : {k : LexemeKind} {cs : List ℕ} (behind : List ℕ) → Spells k cs → (c : ℕ) × (t : List ℕ) × (cs ++ behind ≡ c ∷ t)
@@ -122,4 +173,7 @@ not_nothing behind right_curly = (_, _, refl)
 not_nothing behind comma = (_, _, refl)
 not_nothing behind question = (_, _, refl)
 not_nothing behind colon = (_, _, refl)
+not_nothing behind (verbatim p n s e) = (_, _, refl)
+not_nothing behind (anchor p n) = (_, _, refl)
+not_nothing behind (alias p n) = (_, _, refl)
 not_nothing behind (quoted q) = (_, _, refl)

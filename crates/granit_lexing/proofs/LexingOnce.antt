@@ -1,33 +1,38 @@
 -- One lexeme at most stands at an index, and a text has one list of lexemes.
-use Rattle.std.proofs.Common.{◌≡◌, ◌≢◌, ℕ, ◌+◌, ◌-◌, ◌<◌, true, false, not, List, [], ◌∷◌, ◌++◌, length, take, drop, refl, sym, ap, ap₂, ◌∙◌, subst, arith, append-nil, length-drop, length-append, Option, Some, None, Result, Ok, Err}
+use Rattle.std.proofs.Common.{◌≡◌, ◌≢◌, ℕ, ◌+◌, ◌<◌, true, false, not, List, [], ◌∷◌, ◌++◌, length, take, drop, refl, sym, ap, ap₂, ◌∙◌, subst, arith, append_assoc, append-nil, length-drop, length-append, Option, Some, None, Ok, Err}
 use Rattle.std.proofs.Math.Seq.{drop-append_seam}
-use Rattle.granit_base.specs.Classes.{is_gap}
+use Rattle.granit_base.specs.Classes.{is_gap, is_anchor_char}
 use Rattle.granit_base.specs.Place.{Mark, first}
+use Rattle.granit_base.specs.Written.{Written}
 use Rattle.granit_base.specs.declared.style.ScalarStyle.TheVariants.{DoubleQuoted}
 use Rattle.granit_model.specs.Decoding.{Content, has_backslash}
-use Rattle.granit_model.specs.Here.{Here}
-use Rattle.granit_model.specs.Outcome.{Fault}
+use Rattle.granit_model.specs.Here.{Here, step}
 use Rattle.granit_model.specs.Place.{mark_at}
-use Rattle.granit_model.specs.Lexeme.{Lexeme, LexemeKind, DocumentStart, SequenceOpen, SequenceClose, MappingOpen, MappingClose, Comma, Question, Colon, Scalar, wants_gap, Source}
-use Rattle.granit_model.specs.Start.{Glyph, Dash, DoubleQuote, LeftSquare, RightSquare, LeftCurly, RightCurly, CommaSign, QuestionSign, ColonSign, Foreign, glyph}
+use Rattle.granit_model.specs.Lexeme.{Lexeme, LexemeKind, DocumentStart, SequenceOpen, SequenceClose, MappingOpen, MappingClose, Comma, Question, Colon, Tag, Anchor, Alias, Scalar, wants_gap, Source}
+use Rattle.granit_model.specs.Start.{Glyph, Dash, DoubleQuote, LeftSquare, RightSquare, LeftCurly, RightCurly, CommaSign, QuestionSign, ColonSign, Exclamation, Ampersand, Asterisk, Foreign, glyph}
 use Rattle.granit_model.specs.Gap.{StandsAt, IsGap, Parts}
-use Rattle.granit_model.specs.Extent.{Spells, dashes, left_square, right_square, left_curly, right_curly, comma, question, colon, quoted, IsLexeme}
+use Rattle.granit_model.specs.Extent.{Spells, dashes, left_square, right_square, left_curly, right_curly, comma, question, colon, verbatim, anchor, alias, quoted, MayFollow, IsLexeme}
+use Rattle.granit_model.specs.ReaderState.{Read, lexed, double_quoted, verbatim_tag, named}
 use Rattle.granit_model.specs.Reading.{Before, behind_lexeme, behind_all, Reached, stops, goes_on}
 use Rattle.granit_lexing.specs.Standing.{here_at}
 use Rattle.granit_lexing.proofs.Places.{a_character}
 use Rattle.granit_lexing.proofs.LexingRuns.{Ends, same_run, rest_of, take_front}
-use Rattle.granit_lexing.proofs.LexingGlyphs.{glyph_of, starts, no_gap_first, not_nothing}
-use Rattle.granit_lexing.proofs.LexingQuoted.{scan, scan_is}
-use Rattle.granit_lexing.proofs.LexingReads.{NoLexeme, in_quotes}
+use Rattle.granit_lexing.proofs.LexingGlyphs.{glyph_of, starts, no_gap_first, not_nothing, verbatim_of, quotes, lent, Spelling, IsName}
+use Rattle.granit_lexing.proofs.LexingNames.{named_is}
+use Rattle.granit_lexing.proofs.LexingQuoted.{quoted_is}
+use Rattle.granit_lexing.proofs.LexingTags.{tag_is}
+use Rattle.granit_lexing.proofs.LexingReads.{NoLexeme, past_quote}
+
+-- the kind and the characters of the lexeme that is read from the start of a text
+abbrev read_in : List ℕ → Read → Option (LexemeKind × List ℕ)
+read_in l (Ok (Some m, s)) = Some (m.kind, take s.here.place.index l)
+read_in l (Ok (None, s)) = None
+read_in l (Err f) = None
 
 -- the kind and the characters of a lexeme that begins so
-abbrev scalar_in : List ℕ → Result (List ℕ × Here) Fault → Option (LexemeKind × List ℕ)
-scalar_in l (Ok (value, h)) = Some (Scalar DoubleQuoted (record { characters = value; is_borrowed = not (has_backslash (take (h.place.index - 1) (drop 1 l))) }), take (h.place.index + 1) l)
-scalar_in l (Err f) = None
-
 abbrev spelled_as : Glyph → List ℕ → Option (LexemeKind × List ℕ)
 spelled_as Dash l = Some (DocumentStart, 0x2D ∷ 0x2D ∷ 0x2D ∷ [])
-spelled_as DoubleQuote l = scalar_in l (scan (mark_at l 0) (here_at l 1))
+spelled_as DoubleQuote l = read_in l (double_quoted [] (here_at l 0))
 spelled_as LeftSquare l = Some (SequenceOpen, 0x5B ∷ [])
 spelled_as RightSquare l = Some (SequenceClose, 0x5D ∷ [])
 spelled_as LeftCurly l = Some (MappingOpen, 0x7B ∷ [])
@@ -35,37 +40,54 @@ spelled_as RightCurly l = Some (MappingClose, 0x7D ∷ [])
 spelled_as CommaSign l = Some (Comma, 0x2C ∷ [])
 spelled_as QuestionSign l = Some (Question, 0x3F ∷ [])
 spelled_as ColonSign l = Some (Colon, 0x3A ∷ [])
+spelled_as Exclamation l = read_in l (verbatim_tag [] (here_at l 0))
+spelled_as Ampersand l = read_in l (named Anchor [] (here_at l 0))
+spelled_as Asterisk l = read_in l (named Alias [] (here_at l 0))
 spelled_as Foreign l = None
 
--- a scalar whose content ends before an index
-scalar_is : (cs value t : List ℕ) (l : List ℕ) (k : ℕ) → l ≡ 0x22 ∷ (cs ++ 0x22 ∷ t) → k ≡ 1 + length cs
-    → ◌≡◌ {A = Option (LexemeKind × List ℕ)} (scalar_in l (Ok (value, here_at l k))) (Some (Scalar DoubleQuoted (record { characters = value; is_borrowed = not (has_backslash cs) }), 0x22 ∷ (cs ++ 0x22 ∷ [])))
-scalar_is cs value t l k e h =
-    let m : k - 1 ≡ length cs = omega arith in
-    let n : k + 1 ≡ length (0x22 ∷ (cs ++ 0x22 ∷ [])) = omega (arith, length-append cs (0x22 ∷ [])) in
-    let content : take (k - 1) (drop 1 l) ≡ cs = ap₂ take m (ap (drop 1) e) ∙ take_front cs (0x22 ∷ t) in
-    let whole : l ≡ (0x22 ∷ (cs ++ 0x22 ∷ [])) ++ t = e ∙ in_quotes cs t in
-    let spelling : take (k + 1) l ≡ 0x22 ∷ (cs ++ 0x22 ∷ []) = ap₂ take n whole ∙ take_front (0x22 ∷ (cs ++ 0x22 ∷ [])) t in
-    ap₂ (λ (a b : List ℕ). Some (Scalar DoubleQuoted (record { characters = value; is_borrowed = not (has_backslash a) }), b)) content spelling
+-- a lexeme that is read to where its characters end
+read_is : (k : LexemeKind) (cs t : List ℕ) (r : Read) (after : Here) → r ≡ lexed k (here_at (cs ++ t) 0) after [] → after ≡ here_at (cs ++ t) (0 + length cs) → read_in (cs ++ t) r ≡ Some (k, cs)
+read_is k cs t r after e h =
+    let n : 0 + length cs ≡ length cs = omega arith in
+    ap (read_in (cs ++ t)) (e ∙ ap (λ g. lexed k (here_at (cs ++ t) 0) g []) h)
+    ∙ ap (λ (f : List ℕ). Some (k, f)) (ap (λ m. take m (cs ++ t)) n ∙ take_front cs t)
 
-scalar_spelled : (cs value t : List ℕ) (l : List ℕ) → l ≡ 0x22 ∷ (cs ++ 0x22 ∷ t) → Content cs value
-    → ◌≡◌ {A = Option (LexemeKind × List ℕ)} (spelled_as DoubleQuote l) (Some (Scalar DoubleQuoted (record { characters = value; is_borrowed = not (has_backslash cs) }), 0x22 ∷ (cs ++ 0x22 ∷ [])))
-scalar_spelled cs value t l e content =
-    ap (scalar_in l) (scan_is (mark_at l 0) l cs value t 1 content (ap (drop 1) e)) ∙ scalar_is cs value t l (1 + length cs) e refl
+scalar_spelled : (cs value t : List ℕ) → Content cs value
+    → ◌≡◌ {A = Option (LexemeKind × List ℕ)} (spelled_as DoubleQuote (quotes cs ++ t)) (Some (Scalar DoubleQuoted (record { characters = value; is_borrowed = not (has_backslash cs) }), quotes cs))
+scalar_spelled cs value t content =
+    let x : List ℕ = quotes cs ++ t in
+    let w : (cs ++ 0x22 ∷ []) ++ t ≡ cs ++ 0x22 ∷ t = append_assoc cs (0x22 ∷ []) t in
+    read_is _ (quotes cs) t (double_quoted [] (here_at x 0)) (step (here_at x (1 + length cs)))
+    (quoted_is x 0 [] ((cs ++ 0x22 ∷ []) ++ t) refl cs value t w content)
+    (past_quote x 0 cs t (ap (λ (l : List ℕ). 0x22 ∷ l) w))
 
-spelled_is : {k : LexemeKind} {cs : List ℕ} (t : List ℕ) → Spells k cs → spelled_as (glyph_of k) (cs ++ t) ≡ Some (k, cs)
-spelled_is t dashes = refl
-spelled_is t left_square = refl
-spelled_is t right_square = refl
-spelled_is t left_curly = refl
-spelled_is t right_curly = refl
-spelled_is t comma = refl
-spelled_is t question = refl
-spelled_is t colon = refl
-spelled_is t (quoted {content = cs} {value = value} content) = scalar_spelled cs value t _ (sym (in_quotes cs t)) content
+tag_spelled : (uri bytes suffix t : List ℕ) → Spelling uri bytes suffix → ◌≡◌ {A = Option (LexemeKind × List ℕ)} (spelled_as Exclamation (verbatim_of uri ++ t)) (Some (Tag suffix, verbatim_of uri))
+tag_spelled uri bytes suffix t s =
+    read_is (Tag suffix) (verbatim_of uri) t (verbatim_tag [] (here_at (verbatim_of uri ++ t) 0)) _
+    (tag_is (verbatim_of uri ++ t) 0 [] (record { uri = uri; bytes = bytes; suffix = suffix; behind = t; stands = refl; spelling = s })) refl
 
-found_as : {k : LexemeKind} {cs : List ℕ} (t : List ℕ) → Spells k cs → spelled_as (glyph (first (cs ++ t))) (cs ++ t) ≡ Some (k, cs)
-found_as {cs = cs} t s = ap (λ g. spelled_as g (cs ++ t)) (starts t s) ∙ spelled_is t s
+name_spelled : (kind : Written → LexemeKind) (sign : ℕ) (name t : List ℕ) → IsName name → is_anchor_char (first t) ≡ false
+    → ◌≡◌ {A = Option (LexemeKind × List ℕ)} (read_in ((sign ∷ name) ++ t) (named kind [] (here_at ((sign ∷ name) ++ t) 0))) (Some (kind (lent name), sign ∷ name))
+name_spelled kind sign name t p n =
+    read_is (kind (lent name)) (sign ∷ name) t (named kind [] (here_at ((sign ∷ name) ++ t) 0)) _
+    (named_is kind ((sign ∷ name) ++ t) 0 sign [] (record { name = name; behind = t; stands = refl; is_name = p; ends = n })) refl
+
+spelled_is : {k : LexemeKind} {cs : List ℕ} (t : List ℕ) → Spells k cs → MayFollow k t → spelled_as (glyph_of k) (cs ++ t) ≡ Some (k, cs)
+spelled_is t dashes n = refl
+spelled_is t left_square n = refl
+spelled_is t right_square n = refl
+spelled_is t left_curly n = refl
+spelled_is t right_curly n = refl
+spelled_is t comma n = refl
+spelled_is t question n = refl
+spelled_is t colon n = refl
+spelled_is t (verbatim {uri = uri} {bytes = bytes} {suffix = suffix} p some s e) n = tag_spelled uri bytes suffix t (record { uri_bytes = p; some = some; scalar = s; encodes = e })
+spelled_is t (anchor {name = name} p some) n = name_spelled Anchor 0x26 name t (record { each = p; some = some }) n
+spelled_is t (alias {name = name} p some) n = name_spelled Alias 0x2A name t (record { each = p; some = some }) n
+spelled_is t (quoted {content = cs} {value = value} content) n = scalar_spelled cs value t content
+
+found_as : {k : LexemeKind} {cs : List ℕ} (t : List ℕ) → Spells k cs → MayFollow k t → spelled_as (glyph (first (cs ++ t))) (cs ++ t) ≡ Some (k, cs)
+found_as {cs = cs} t s n = ap (λ g. spelled_as g (cs ++ t)) (starts t s) ∙ spelled_is t s n
 
 -- what lexemes of one text are
 pub record Same (l m : Lexeme) (cs ds t u : List ℕ) : Type 0 where
@@ -80,8 +102,8 @@ same_lexeme l m s t k p q r = ap₂ (λ a b. record { kind = a; source = b }) k 
 pub one_lexeme : {x : List ℕ} {i : ℕ} {l m : Lexeme} {cs ds t u : List ℕ} → IsLexeme x i l cs t → IsLexeme x i m ds u → Same l m cs ds t u
 one_lexeme {x = x} {i = i} {l = l} {m = m} {cs = cs} {ds = ds} {t = t} {u = u} p q =
     let e : cs ++ t ≡ ds ++ u = sym p.stands.inside ∙ q.stands.inside in
-    let a = found_as t p.spells in
-    let b = found_as u q.spells in
+    let a = found_as t p.spells p.ends in
+    let b = found_as u q.spells q.ends in
     let c : ◌≡◌ {A = Option (LexemeKind × List ℕ)} (Some (l.kind, cs)) (Some (m.kind, ds)) = sym a ∙ ap (λ (r : List ℕ). spelled_as (glyph (first r)) r) e ∙ b in
     let pair : ◌≡◌ {A = LexemeKind × List ℕ} (l.kind, cs) (m.kind, ds) = cc in
     let k : l.kind ≡ m.kind = ap (λ (r : LexemeKind × List ℕ). r.0) pair in

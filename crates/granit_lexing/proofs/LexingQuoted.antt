@@ -21,7 +21,7 @@ use Rattle.granit_model.proofs.PieceLemmas.{with_front-nil, with_front-with_fron
 use Rattle.granit_model.proofs.QuotedLemmas.{piece_shortens}
 use Rattle.granit_lexing.specs.Standing.{here_at}
 use Rattle.granit_lexing.proofs.LexingEscapes.{EscapeOr, escape_is, escape_or}
-use Rattle.granit_lexing.proofs.LexingRuns.{Ends, run_of, same_run, rest_of, along, take_front, chunk_is, past_chunk_is}
+use Rattle.granit_lexing.proofs.LexingRuns.{Ends, run_of, same_run, rest_of, along, take_front, chunk_is, past_chunk_is, inner_no_break}
 use Rattle.granit_lexing.proofs.Places.{step_is, rest_behind}
 
 quote_not_inner : is_inner 0x22 ≡ false
@@ -87,7 +87,7 @@ module _ (start : Mark) (x : List ℕ) where
   scan_here : (i : ℕ) → is_inner (first (drop i x)) ≡ false → scan start (here_at x i) ≡ escaped_pieces start (here_at x i)
   scan_here i p =
       let n = ends_first (drop i x) p in
-      ap₂ (λ (f : List ℕ) h. with_front f (escaped_pieces start h)) (chunk_is [] (drop i x) x i refl tt n) (past_chunk_is [] (drop i x) x i refl tt n ∙ ap (here_at x) (add-zero i))
+      ap₂ (λ (f : List ℕ) h. with_front f (escaped_pieces start h)) (chunk_is is_inner [] (drop i x) x i refl tt n) (past_chunk_is is_inner inner_no_break [] (drop i x) x i refl tt n ∙ ap (here_at x) (add-zero i))
       ∙ with_front-nil (escaped_pieces start (here_at x i))
 
   scan_inner : (i c : ℕ) (t : List ℕ) → drop i x ≡ c ∷ t → is_inner c ≡ true → scan start (here_at x i) ≡ with_front (c ∷ []) (scan start (here_at x (suc i)))
@@ -95,9 +95,9 @@ module _ (start : Mark) (x : List ℕ) where
       let r = run_of is_inner t in
       let a : drop i x ≡ (c ∷ r.front) ++ r.behind = e ∙ ap (λ (l : List ℕ). c ∷ l) r.whole in
       let b : drop (suc i) x ≡ r.front ++ r.behind = rest_behind x i c t e ∙ r.whole in
-      ap₂ (λ (f : List ℕ) h. with_front f (escaped_pieces start h)) (chunk_is (c ∷ r.front) r.behind x i a (p, r.each) r.ends) (past_chunk_is (c ∷ r.front) r.behind x i a (p, r.each) r.ends ∙ ap (here_at x) (sym (along i (length r.front))))
+      ap₂ (λ (f : List ℕ) h. with_front f (escaped_pieces start h)) (chunk_is is_inner (c ∷ r.front) r.behind x i a (p, r.each) r.ends) (past_chunk_is is_inner inner_no_break (c ∷ r.front) r.behind x i a (p, r.each) r.ends ∙ ap (here_at x) (sym (along i (length r.front))))
       ∙ sym (with_front-with_front (c ∷ []) r.front (escaped_pieces start (here_at x (suc i + length r.front))))
-      ∙ ap (with_front (c ∷ [])) (ap₂ (λ (f : List ℕ) h. with_front f (escaped_pieces start h)) (sym (chunk_is r.front r.behind x (suc i) b r.each r.ends)) (sym (past_chunk_is r.front r.behind x (suc i) b r.each r.ends)))
+      ∙ ap (with_front (c ∷ [])) (ap₂ (λ (f : List ℕ) h. with_front f (escaped_pieces start h)) (sym (chunk_is is_inner r.front r.behind x (suc i) b r.each r.ends)) (sym (past_chunk_is is_inner inner_no_break r.front r.behind x (suc i) b r.each r.ends)))
 
   scan_escape : (i c k : ℕ) (t : List ℕ) → drop i x ≡ 0x5C ∷ t → escape start (here_at x (suc i)) ≡ Ok (c, here_at x k) → scan start (here_at x i) ≡ with_front (c ∷ []) (scan start (here_at x k))
   scan_escape i c k t e is =
@@ -273,7 +273,7 @@ module _ (x : List ℕ) (j : ℕ) (os : List Opener) (t : List ℕ) (e : drop j 
   run_reads f b w p n =
       let r : drop (suc j) x ≡ f ++ b = behind_quote ∙ w in
       reads_from
-      ∙ ap₂ (λ (cs : List ℕ) h. if next_char h == 0x22 then closed_quote os (here_at x j) true cs h else (scan (mark_at x j) (here_at x (suc j)) >>= λ y. closed_quote os (here_at x j) false y.0 y.1)) (chunk_is f b x (suc j) r p n) (past_chunk_is f b x (suc j) r p n)
+      ∙ ap₂ (λ (cs : List ℕ) h. if next_char h == 0x22 then closed_quote os (here_at x j) true cs h else (scan (mark_at x j) (here_at x (suc j)) >>= λ y. closed_quote os (here_at x j) false y.0 y.1)) (chunk_is is_inner f b x (suc j) r p n) (past_chunk_is is_inner inner_no_break f b x (suc j) r p n)
       ∙ ap (λ c. if c == 0x22 then closed_quote os (here_at x j) true f (here_at x (suc j + length f)) else (scan (mark_at x j) (here_at x (suc j)) >>= λ y. closed_quote os (here_at x j) false y.0 y.1)) (ap first (rest_of x (suc j) f b r))
 
   plain_closes : (f b : List ℕ) → (first b == 0x22) ≡ true → t ≡ f ++ b → (u : List ℕ) × (t ≡ f ++ 0x22 ∷ u)

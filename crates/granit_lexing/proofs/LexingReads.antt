@@ -1,8 +1,9 @@
 -- What the reader finds stands in the text.
-use Rattle.std.proofs.Common.{◌≡◌, ◌≢◌, ℕ, suc, ◌+◌, ◌≤◌, ◌<◌, Bool, true, false, not, ◌&&◌, ◌==◌, List, [], ◌∷◌, ◌++◌, length, drop, refl, sym, ap, ap₂, ◌∙◌, subst, arith, append_assoc, append-nil, add-one, add-zero, length-drop, length-append, Some, None, Ok, Err, inl, inr}
+use Rattle.std.proofs.Common.{◌≡◌, ◌≢◌, ℕ, suc, ◌+◌, ◌≤◌, ◌<◌, Bool, true, false, not, ◌&&◌, ◌==◌, List, [], ◌∷◌, ◌++◌, length, drop, refl, sym, ap, ap₂, ◌∙◌, subst, arith, append_assoc, append-nil, add-zero, length-drop, length-append, Some, None, Ok, Err, ◌⊎◌, inl, inr}
 use Rattle.std.specs.Prelude.{if◌then◌else◌, nat_le, slice_index}
 use Rattle.std.proofs.lemmas.Bool.Decides.{nat_tests}
-use Rattle.granit_base.specs.Classes.{is_gap, is_blank_or_breakz}
+use Rattle.granit_base.specs.Classes.{is_gap, is_blank_or_breakz, is_anchor_char}
+use Rattle.granit_base.specs.Written.{Written}
 use Rattle.granit_base.specs.Place.{Mark, first}
 use Rattle.granit_base.specs.declared.style.ScalarStyle.TheVariants.{DoubleQuoted}
 use Rattle.granit_error.specs.FaultKind.{FaultKind, UnclosedFlowCollection, RecursionLimitExceeded, NotBuilt}
@@ -10,20 +11,22 @@ use Rattle.granit_error.specs.OptionsData.{OptionsData}
 use Rattle.granit_model.specs.Decoding.{has_backslash}
 use Rattle.granit_model.specs.Here.{Here, mark_of, step}
 use Rattle.granit_model.specs.Place.{place_of, mark_at}
-use Rattle.granit_model.specs.Lexeme.{Lexeme, LexemeKind, DocumentStart, SequenceClose, MappingClose, Comma, Question, Colon, Scalar, wants_gap, Bracket, Square, Curly, Opener, opener_char}
-use Rattle.granit_model.specs.Start.{Glyph, Dash, DoubleQuote, LeftSquare, RightSquare, LeftCurly, RightCurly, CommaSign, QuestionSign, ColonSign, Foreign, glyph, at_document_start, is_separated}
+use Rattle.granit_model.specs.Lexeme.{Lexeme, LexemeKind, DocumentStart, SequenceClose, MappingClose, Comma, Question, Colon, Tag, Anchor, Alias, Scalar, wants_gap, Bracket, Square, Curly, Opener, opener_char}
+use Rattle.granit_model.specs.Start.{Glyph, Dash, DoubleQuote, LeftSquare, RightSquare, LeftCurly, RightCurly, CommaSign, QuestionSign, ColonSign, Exclamation, Ampersand, Asterisk, Foreign, glyph, at_document_start, is_separated}
 use Rattle.granit_model.specs.Gap.{StandsAt, IsGap, Parts}
-use Rattle.granit_model.specs.Extent.{Spells, dashes, left_square, right_square, left_curly, right_curly, comma, question, colon, quoted, MayBegin, IsLexeme}
-use Rattle.granit_model.specs.ReaderState.{ReaderState, Read, refuse, lexed, text_end, mark_in, dash, double_quoted, open_kind, open_bracket, close_square, close_curly, close_bracket, lexeme_at, behind_gap, next_lexeme}
+use Rattle.granit_model.specs.Extent.{Spells, dashes, left_square, right_square, left_curly, right_curly, comma, question, colon, verbatim, anchor, alias, quoted, MayBegin, MayFollow, IsLexeme}
+use Rattle.granit_model.specs.ReaderState.{ReaderState, Read, refuse, lexed, text_end, mark_in, dash, double_quoted, verbatim_tag, named, open_kind, open_bracket, close_square, close_curly, close_bracket, lexeme_at, behind_gap, next_lexeme}
 use Rattle.granit_model.specs.Reading.{Before, openers_behind}
 use Rattle.granit_model.specs.Cause.{IsDocumentMark}
 use Rattle.granit_lexing.specs.Standing.{here_at, state_at}
 use Rattle.granit_lexing.specs.Finding.{Fits, Misfits, Strange, no_gap, misfit, foreign, FindsFault, Reads}
 use Rattle.granit_model.proofs.HereLemmas.{not_empty}
-use Rattle.granit_lexing.proofs.Places.{rest_behind, step_is}
+use Rattle.granit_lexing.proofs.Places.{rest_behind, step_is, on_one, on_three}
 use Rattle.granit_lexing.proofs.LexingRuns.{Ends, run_of, rest_of, past_is}
 use Rattle.granit_lexing.proofs.LexingQuoted.{ContentOr, scan_or, quoted_is, no_content, quoted_refused}
-use Rattle.granit_lexing.proofs.LexingGlyphs.{dash_is, quote_is, left_square_is, right_square_is, left_curly_is, right_curly_is, comma_is, question_is, colon_is, starts, not_foreign, apart, content_in}
+use Rattle.granit_lexing.proofs.LexingGlyphs.{dash_is, quote_is, left_square_is, right_square_is, left_curly_is, right_curly_is, comma_is, question_is, colon_is, exclamation_is, ampersand_is, asterisk_is, verbatim_of, quotes, lent, Named, Shape, shape_of}
+use Rattle.granit_lexing.proofs.LexingNames.{NameAt, named_is, named_or}
+use Rattle.granit_lexing.proofs.LexingTags.{TagAt, tag_is, tag_or}
 
 -- no lexeme stands at an index
 abbrev pub NoLexeme : List ℕ → ℕ → Type 0
@@ -75,21 +78,17 @@ ReadsAt o x j os (Err f) = FaultAt o x j os f.kind f.mark
 
 -- a lexeme that is read to where its characters end
 lexed_is : (o : OptionsData) (x : List ℕ) (j : ℕ) (os : List Opener) (k : LexemeKind) (cs t : List ℕ) (after : Here)
-    → after ≡ here_at x (j + length cs) → drop j x ≡ cs ++ t → Spells k cs → MayBegin x j k → Fits k os t
+    → after ≡ here_at x (j + length cs) → drop j x ≡ cs ++ t → Spells k cs → MayBegin x j k → MayFollow k t → Fits k os t
     → (length os ≤ o.flow_nesting_limit → length (openers_behind k (mark_at x j) os) ≤ o.flow_nesting_limit)
     → ReadsAt o x j os (lexed k (here_at x j) after (openers_behind k (mark_at x j) os))
-lexed_is o x j os k cs t after h e s m f n = record {
+lexed_is o x j os k cs t after h e s m w f n = record {
   spelling = cs;
   behind = t;
-  lexeme = record { stands = record { inside = e }; spells = s; begins = m; source = ap (λ a. record { start = mark_at x j; end = mark_of a }) h };
+  lexeme = record { stands = record { inside = e }; spells = s; begins = m; ends = w; source = ap (λ a. record { start = mark_at x j; end = mark_of a }) h };
   fits = f;
   after = ap (λ a. record { here = a; openers = openers_behind k (mark_at x j) os; owes_gap = wants_gap k }) h;
   nests = n;
 }
-
--- one character on
-pub on_one : (x : List ℕ) (j c : ℕ) (t : List ℕ) → drop j x ≡ c ∷ t → step (here_at x j) ≡ here_at x (j + 1)
-on_one x j c t e = step_is x j c t e ∙ ap (here_at x) (sym (add-one j))
 
 -- where a character stands
 stands_as : (x : List ℕ) (j c d : ℕ) (t : List ℕ) → drop j x ≡ c ∷ t → c ≡ d → drop j x ≡ d ∷ t
@@ -99,38 +98,67 @@ stands_as x j c d t e h = e ∙ ap (λ k. k ∷ t) h
 unmarked_by : (x : List ℕ) (j c : ℕ) (t : List ℕ) → drop j x ≡ c ∷ t → c ≢ 0x2D → IsDocumentMark x j → ⊥
 unmarked_by x j c t e n m = n (ap first (sym e ∙ m.stands.inside))
 
+-- what each sign is taken for
+glyph_of_dash : glyph 0x2D ≡ Dash
+unfolding glyph
+glyph_of_dash = refl
+
+glyph_of_quote : glyph 0x22 ≡ DoubleQuote
+unfolding glyph
+glyph_of_quote = refl
+
+glyph_of_exclamation : glyph 0x21 ≡ Exclamation
+unfolding glyph
+glyph_of_exclamation = refl
+
+glyph_of_ampersand : glyph 0x26 ≡ Ampersand
+unfolding glyph
+glyph_of_ampersand = refl
+
+glyph_of_asterisk : glyph 0x2A ≡ Asterisk
+unfolding glyph
+glyph_of_asterisk = refl
+
+-- the shape of a lexeme by the character at its index
+shape_at : (x : List ℕ) (j c : ℕ) (t : List ℕ) (g : Glyph) {l : Lexeme} {cs behind : List ℕ} → drop j x ≡ c ∷ t → IsLexeme x j l cs behind → glyph c ≡ g → Shape l.kind cs g
+shape_at x j c t g {behind = behind} e is h = shape_of behind c t g is.spells (sym is.stands.inside ∙ e) h
+
+-- where no lexeme stands, what is there is refused
+refused_reads : (o : OptionsData) (x : List ℕ) (j c : ℕ) (t : List ℕ) (os : List Opener) (r : Read) → drop j x ≡ c ∷ t → c ≢ 0x2D → r ≡ refuse NotBuilt (here_at x j) → NoLexeme x j → ReadsAt o x j os r
+refused_reads o x j c t os r e n bad none = subst (ReadsAt o x j os) (sym bad) (record { why = foreign_at none; unmarked = unmarked_by x j c t e n; marks = refl })
+
 opens_is : (o : OptionsData) (x : List ℕ) (j : ℕ) (t : List ℕ) (os : List Opener) (k : Bracket) (v : Bool)
-    → drop j x ≡ opener_char k ∷ t → Spells (open_kind k) (opener_char k ∷ []) → MayBegin x j (open_kind k) → Fits (open_kind k) os t
+    → drop j x ≡ opener_char k ∷ t → Spells (open_kind k) (opener_char k ∷ []) → MayBegin x j (open_kind k) → MayFollow (open_kind k) t → Fits (open_kind k) os t
     → openers_behind (open_kind k) (mark_at x j) os ≡ record { bracket = k; mark = mark_at x j } ∷ os
     → nat_le o.flow_nesting_limit (length os) ≡ v
     → ReadsAt o x j os (if v then refuse RecursionLimitExceeded (here_at x j) else lexed (open_kind k) (here_at x j) (step (here_at x j)) (record { bracket = k; mark = mark_at x j } ∷ os))
-opens_is o x j t os k true e s m f q h = record { bracket = k; behind = t; opener = record { inside = e }; full = grind (arith, nat_tests); marks = refl }
-opens_is o x j t os k false e s m f q h =
+opens_is o x j t os k true e s m w f q h = record { bracket = k; behind = t; opener = record { inside = e }; full = grind (arith, nat_tests); marks = refl }
+opens_is o x j t os k false e s m w f q h =
     subst (λ (ks : List Opener). ReadsAt o x j os (lexed (open_kind k) (here_at x j) (step (here_at x j)) ks)) q
-    (lexed_is o x j os (open_kind k) (opener_char k ∷ []) t (step (here_at x j)) (on_one x j (opener_char k) t e) e s m f
+    (lexed_is o x j os (open_kind k) (opener_char k ∷ []) t (step (here_at x j)) (on_one x j (opener_char k) t e) e s m w f
     (λ n. subst (λ (ks : List Opener). length ks ≤ o.flow_nesting_limit) (sym q) (grind (arith, nat_tests))))
 
 -- the lexeme of a kind, from an index on, that some characters spell
 abbrev pub lexeme_of : List ℕ → ℕ → LexemeKind → List ℕ → Lexeme
 lexeme_of x j k cs = record { kind = k; source = record { start = mark_at x j; end = mark_at x (j + length cs) } }
 
-is_lexeme : (x : List ℕ) (j : ℕ) (k : LexemeKind) (cs t : List ℕ) → drop j x ≡ cs ++ t → Spells k cs → MayBegin x j k → IsLexeme x j (lexeme_of x j k cs) cs t
-is_lexeme x j k cs t e s m = record { stands = record { inside = e }; spells = s; begins = m; source = refl }
+is_lexeme : (x : List ℕ) (j : ℕ) (k : LexemeKind) (cs t : List ℕ) → drop j x ≡ cs ++ t → Spells k cs → MayBegin x j k → MayFollow k t → IsLexeme x j (lexeme_of x j k cs) cs t
+is_lexeme x j k cs t e s m w = record { stands = record { inside = e }; spells = s; begins = m; ends = w; source = refl }
 
 closes_square : (o : OptionsData) (x : List ℕ) (j : ℕ) (t : List ℕ) (p : Opener) (os : List Opener) (v : Bracket) → drop j x ≡ 0x5D ∷ t → p.bracket ≡ v → ReadsAt o x j (p ∷ os) (close_square v os (here_at x j))
-closes_square o x j t p os Square e h = lexed_is o x j (p ∷ os) SequenceClose (0x5D ∷ []) t (step (here_at x j)) (on_one x j 0x5D t e) e right_square tt h (λ n. omega arith)
-closes_square o x j t p os Curly e h = record { why = misfit_at (lexeme_of x j SequenceClose (0x5D ∷ [])) (0x5D ∷ []) t (is_lexeme x j SequenceClose (0x5D ∷ []) t e right_square tt) h; unmarked = unmarked_by x j 0x5D t e (λ q. omega arith); marks = refl }
+closes_square o x j t p os Square e h = lexed_is o x j (p ∷ os) SequenceClose (0x5D ∷ []) t (step (here_at x j)) (on_one x j 0x5D t e) e right_square tt tt h (λ n. omega arith)
+closes_square o x j t p os Curly e h = record { why = misfit_at (lexeme_of x j SequenceClose (0x5D ∷ [])) (0x5D ∷ []) t (is_lexeme x j SequenceClose (0x5D ∷ []) t e right_square tt tt) h; unmarked = unmarked_by x j 0x5D t e (λ q. omega arith); marks = refl }
 
 square_closes : (o : OptionsData) (x : List ℕ) (j : ℕ) (t : List ℕ) (os : List Opener) → drop j x ≡ 0x5D ∷ t → ReadsAt o x j os (close_bracket Square os (here_at x j))
-square_closes o x j t [] e = record { why = misfit_at (lexeme_of x j SequenceClose (0x5D ∷ [])) (0x5D ∷ []) t (is_lexeme x j SequenceClose (0x5D ∷ []) t e right_square tt) tt; unmarked = unmarked_by x j 0x5D t e (λ q. omega arith); marks = refl }
+square_closes o x j t [] e = record { why = misfit_at (lexeme_of x j SequenceClose (0x5D ∷ [])) (0x5D ∷ []) t (is_lexeme x j SequenceClose (0x5D ∷ []) t e right_square tt tt) tt; unmarked = unmarked_by x j 0x5D t e (λ q. omega arith); marks = refl }
 square_closes o x j t (p ∷ os) e = closes_square o x j t p os p.bracket e refl
 
 closes_curly : (o : OptionsData) (x : List ℕ) (j : ℕ) (t : List ℕ) (p : Opener) (os : List Opener) (v : Bracket) → drop j x ≡ 0x7D ∷ t → p.bracket ≡ v → ReadsAt o x j (p ∷ os) (close_curly v os (here_at x j))
-closes_curly o x j t p os Curly e h = lexed_is o x j (p ∷ os) MappingClose (0x7D ∷ []) t (step (here_at x j)) (on_one x j 0x7D t e) e right_curly tt h (λ n. omega arith)
-closes_curly o x j t p os Square e h = record { why = misfit_at (lexeme_of x j MappingClose (0x7D ∷ [])) (0x7D ∷ []) t (is_lexeme x j MappingClose (0x7D ∷ []) t e right_curly tt) h; unmarked = unmarked_by x j 0x7D t e (λ q. omega arith); marks = refl }
+closes_curly o x j t p os Curly e h = lexed_is o x j (p ∷ os) MappingClose (0x7D ∷ []) t (step (here_at x j)) (on_one x j 0x7D t e) e right_curly tt tt h (λ n. omega arith)
+closes_curly o x j t p os Square e h = record { why = misfit_at (lexeme_of x j MappingClose (0x7D ∷ [])) (0x7D ∷ []) t (is_lexeme x j MappingClose (0x7D ∷ []) t e right_curly tt tt) h; unmarked = unmarked_by x j 0x7D t e (λ q. omega arith); marks = refl }
 
 curly_closes : (o : OptionsData) (x : List ℕ) (j : ℕ) (t : List ℕ) (os : List Opener) → drop j x ≡ 0x7D ∷ t → ReadsAt o x j os (close_bracket Curly os (here_at x j))
-curly_closes o x j t [] e = record { why = misfit_at (lexeme_of x j MappingClose (0x7D ∷ [])) (0x7D ∷ []) t (is_lexeme x j MappingClose (0x7D ∷ []) t e right_curly tt) tt; unmarked = unmarked_by x j 0x7D t e (λ q. omega arith); marks = refl }
+curly_closes o x j t [] e = record { why = misfit_at (lexeme_of x j MappingClose (0x7D ∷ [])) (0x7D ∷ []) t (is_lexeme x j MappingClose (0x7D ∷ []) t e right_curly tt tt) tt; unmarked = unmarked_by x j 0x7D t e (λ q. omega arith); marks = refl }
 curly_closes o x j t (p ∷ os) e = closes_curly o x j t p os p.bracket e refl
 
 -- the test for `---` in column 0, said of the text and the column
@@ -152,35 +180,26 @@ dashes_stand (a ∷ b ∷ c ∷ t) n e =
 pub dashes_pass : (x : List ℕ) (j : ℕ) (t : List ℕ) → drop j x ≡ 0x2D ∷ 0x2D ∷ 0x2D ∷ t → (place_of x j).column ≡ 0 → at_document_start (here_at x j) ≡ true
 dashes_pass x j t e z = ap₂ three_dashes e z
 
-pub on_three : (x : List ℕ) (j a b c : ℕ) (t : List ℕ) → drop j x ≡ a ∷ b ∷ c ∷ t → step (step (step (here_at x j))) ≡ here_at x (j + 3)
-on_three x j a b c t e =
-    let p : drop (suc j) x ≡ b ∷ c ∷ t = rest_behind x j a (b ∷ c ∷ t) e in
-    let q : drop (suc (suc j)) x ≡ c ∷ t = rest_behind x (suc j) b (c ∷ t) p in
-    ap (λ h. step (step h)) (step_is x j a (b ∷ c ∷ t) e) ∙ ap step (step_is x (suc j) b (c ∷ t) p) ∙ step_is x (suc (suc j)) c t q ∙ ap (here_at x) (omega arith)
+past_dashes : (x : List ℕ) (j : ℕ) (t : List ℕ) → drop j x ≡ 0x2D ∷ 0x2D ∷ 0x2D ∷ t → step (step (step (here_at x j))) ≡ here_at x (j + 3)
+past_dashes x j t e = let n : suc (suc (suc j)) ≡ j + 3 = omega arith in on_three x j 0x2D 0x2D 0x2D t e ∙ ap (here_at x) n
 
 mark_reads : (o : OptionsData) (x : List ℕ) (j : ℕ) (t : List ℕ) (os : List Opener) (v : Bool) → drop j x ≡ 0x2D ∷ 0x2D ∷ 0x2D ∷ t → (place_of x j).column ≡ 0 → is_blank_or_breakz (first t) ≡ v → ReadsAt o x j os (mark_in v os (here_at x j))
 mark_reads o x j t (p ∷ os) true e z h = record { innermost = p; around = os; opens = refl; names = refl; marks = refl; meets = record { behind = t; stands = record { inside = e }; column = z; separated = h } }
-mark_reads o x j t [] true e z h = lexed_is o x j [] DocumentStart (0x2D ∷ 0x2D ∷ 0x2D ∷ []) t (step (step (step (here_at x j)))) (on_three x j 0x2D 0x2D 0x2D t e) e dashes z (λ _. refl) (λ n. n)
-mark_reads o x j t os false e z h = lexed_is o x j os DocumentStart (0x2D ∷ 0x2D ∷ 0x2D ∷ []) t (step (step (step (here_at x j)))) (on_three x j 0x2D 0x2D 0x2D t e) e dashes z (λ q. cc) (λ n. n)
+mark_reads o x j t [] true e z h = lexed_is o x j [] DocumentStart (0x2D ∷ 0x2D ∷ 0x2D ∷ []) t (step (step (step (here_at x j)))) (past_dashes x j t e) e dashes z tt (λ _. refl) (λ n. n)
+mark_reads o x j t os false e z h = lexed_is o x j os DocumentStart (0x2D ∷ 0x2D ∷ 0x2D ∷ []) t (step (step (step (here_at x j)))) (past_dashes x j t e) e dashes z tt (λ q. cc) (λ n. n)
 
 -- a lexeme that begins with a dash passes the test
-dash_begins : (x : List ℕ) (j : ℕ) (t : List ℕ) {k : LexemeKind} {cs : List ℕ} (behind : List ℕ) → drop j x ≡ 0x2D ∷ t → drop j x ≡ cs ++ behind → Spells k cs → MayBegin x j k → at_document_start (here_at x j) ≡ true
-dash_begins x j t behind e f dashes m = dashes_pass x j behind f m
-dash_begins x j t behind e f left_square m = absurd (apart 0x2D 0x5B _ _ refl (sym e ∙ f))
-dash_begins x j t behind e f right_square m = absurd (apart 0x2D 0x5D _ _ refl (sym e ∙ f))
-dash_begins x j t behind e f left_curly m = absurd (apart 0x2D 0x7B _ _ refl (sym e ∙ f))
-dash_begins x j t behind e f right_curly m = absurd (apart 0x2D 0x7D _ _ refl (sym e ∙ f))
-dash_begins x j t behind e f comma m = absurd (apart 0x2D 0x2C _ _ refl (sym e ∙ f))
-dash_begins x j t behind e f question m = absurd (apart 0x2D 0x3F _ _ refl (sym e ∙ f))
-dash_begins x j t behind e f colon m = absurd (apart 0x2D 0x3A _ _ refl (sym e ∙ f))
-dash_begins x j t behind e f (quoted q) m = absurd (apart 0x2D 0x22 _ _ refl (sym e ∙ f))
+dash_begins : (x : List ℕ) (j : ℕ) (t : List ℕ) {l : Lexeme} {cs behind : List ℕ} → drop j x ≡ 0x2D ∷ t → IsLexeme x j l cs behind → at_document_start (here_at x j) ≡ true
+dash_begins x j t {behind = behind} e is =
+    let d = shape_at x j 0x2D t Dash e is glyph_of_dash in
+    dashes_pass x j behind (is.stands.inside ∙ ap (λ (f : List ℕ). f ++ behind) d.1) (subst (MayBegin x j) d.0 is.begins)
 
 dash_on : (o : OptionsData) (x : List ℕ) (j : ℕ) (t : List ℕ) (os : List Opener) (v : Bool) → drop j x ≡ 0x2D ∷ t → at_document_start (here_at x j) ≡ v → ReadsAt o x j os (if v then mark_in (is_separated (here_at x j)) os (here_at x j) else refuse NotBuilt (here_at x j))
 dash_on o x j t os true e h =
     let d = dashes_stand (drop j x) (place_of x j).column h in
     mark_reads o x j d.0 os (is_separated (here_at x j)) d.2 d.1 (sym (ap (λ (l : List ℕ). is_blank_or_breakz (slice_index l 3)) d.2))
 dash_on o x j t os false e h = record {
-  why = foreign_at (λ l cs behind is. let b = dash_begins x j t behind e is.stands.inside is.spells is.begins in cc);
+  why = foreign_at (λ l cs behind is. let b = dash_begins x j t e is in cc);
   unmarked = λ m. let b = dashes_pass x j m.behind m.stands.inside m.column in cc;
   marks = refl;
 }
@@ -188,10 +207,6 @@ dash_on o x j t os false e h = record {
 dash_reads : (o : OptionsData) (x : List ℕ) (j : ℕ) (t : List ℕ) (os : List Opener) → drop j x ≡ 0x2D ∷ t → ReadsAt o x j os (dash os (here_at x j))
 unfolding dash
 dash_reads o x j t os e = dash_on o x j t os (at_document_start (here_at x j)) e refl
-
--- the characters of a scalar
-abbrev pub quotes : List ℕ → List ℕ
-quotes f = 0x22 ∷ (f ++ 0x22 ∷ [])
 
 pub in_quotes : (f t : List ℕ) → 0x22 ∷ (f ++ 0x22 ∷ t) ≡ quotes f ++ t
 in_quotes f t = ap (λ (l : List ℕ). 0x22 ∷ l) (sym (append_assoc f (0x22 ∷ []) t))
@@ -202,31 +217,83 @@ past_quote x j f t e =
     let r : drop (suc j) x ≡ f ++ 0x22 ∷ t = rest_behind x j 0x22 (f ++ 0x22 ∷ t) e in
     step_is x (suc j + length f) 0x22 t (rest_of x (suc j) f (0x22 ∷ t) r) ∙ ap (here_at x) (omega (arith, length-append f (0x22 ∷ [])))
 
+content_stands : (x : List ℕ) (j : ℕ) (t content cs behind : List ℕ) → drop j x ≡ 0x22 ∷ t → drop j x ≡ cs ++ behind → cs ≡ quotes content → t ≡ content ++ 0x22 ∷ behind
+content_stands x j t content cs behind e s q = ap (drop 1) (sym e ∙ s ∙ ap (λ (l : List ℕ). l ++ behind) q ∙ sym (in_quotes content behind))
+
 quote_on : (o : OptionsData) (x : List ℕ) (j : ℕ) (t : List ℕ) (os : List Opener) → drop j x ≡ 0x22 ∷ t → ContentOr (mark_at x j) x (suc j) → ReadsAt o x j os (double_quoted os (here_at x j))
 quote_on o x j t os e (inl (cs, value, u, f, content)) =
     let w : t ≡ cs ++ 0x22 ∷ u = sym (rest_behind x j 0x22 t e) ∙ f in
     let s : drop j x ≡ 0x22 ∷ (cs ++ 0x22 ∷ u) = e ∙ ap (λ (l : List ℕ). 0x22 ∷ l) w in
     subst (ReadsAt o x j os) (sym (quoted_is x j os t e cs value u w content))
     (lexed_is o x j os (Scalar DoubleQuoted (record { characters = value; is_borrowed = not (has_backslash cs) })) (quotes cs) u (step (here_at x (suc j + length cs)))
-    (past_quote x j cs u s) (s ∙ in_quotes cs u) (quoted content) tt tt (λ m. m))
+    (past_quote x j cs u s) (s ∙ in_quotes cs u) (quoted content) tt tt tt (λ m. m))
 quote_on o x j t os e (inr bad) =
-    subst (ReadsAt o x j os) (sym (quoted_refused x j os t e bad))
-    (record {
-      why = foreign_at (λ l cs behind is. let q = content_in behind t is.spells (sym is.stands.inside ∙ e) in no_content x j os t e q.0 q.1 behind bad q.2 q.3);
-      unmarked = unmarked_by x j 0x22 t e (λ q. omega arith);
-      marks = refl;
-    })
+    refused_reads o x j 0x22 t os (double_quoted os (here_at x j)) e (λ q. omega arith) (quoted_refused x j os t e bad)
+    (λ l cs behind is. let q = shape_at x j 0x22 t DoubleQuote e is glyph_of_quote in no_content x j os t e q.0 q.1 behind bad q.2 (content_stands x j t q.0 cs behind e is.stands.inside q.3))
 
 quote_reads : (o : OptionsData) (x : List ℕ) (j : ℕ) (t : List ℕ) (os : List Opener) → drop j x ≡ 0x22 ∷ t → ReadsAt o x j os (double_quoted os (here_at x j))
 quote_reads o x j t os e = quote_on o x j t os e (scan_or (mark_at x j) x (suc j))
 
+-- ---- tags
+
+-- a tag that is a lexeme stands there
+tag_at : (x : List ℕ) (j : ℕ) {l : Lexeme} {cs behind : List ℕ} → IsLexeme x j l cs behind → Shape l.kind cs Exclamation → TagAt x j
+tag_at x j {behind = behind} is q = record { uri = q.0; bytes = q.1; suffix = q.2; behind = behind; stands = is.stands.inside ∙ ap (λ (f : List ℕ). f ++ behind) q.4; spelling = q.3 }
+
+tag_on : (o : OptionsData) (x : List ℕ) (j : ℕ) (t : List ℕ) (os : List Opener) → drop j x ≡ 0x21 ∷ t → TagAt x j ⊎ (verbatim_tag os (here_at x j) ≡ refuse NotBuilt (here_at x j)) → ReadsAt o x j os (verbatim_tag os (here_at x j))
+tag_on o x j t os e (inl r) =
+    let s = r.spelling in
+    subst (ReadsAt o x j os) (sym (tag_is x j os r))
+    (lexed_is o x j os (Tag r.suffix) (verbatim_of r.uri) r.behind (here_at x (j + length (verbatim_of r.uri))) refl r.stands (verbatim s.uri_bytes s.some s.scalar s.encodes) tt tt tt (λ m. m))
+tag_on o x j t os e (inr bad) =
+    refused_reads o x j 0x21 t os (verbatim_tag os (here_at x j)) e (λ q. omega arith) bad
+    (λ l cs behind is. let read = tag_is x j os (tag_at x j is (shape_at x j 0x21 t Exclamation e is glyph_of_exclamation)) in cc)
+
+tag_reads : (o : OptionsData) (x : List ℕ) (j : ℕ) (t : List ℕ) (os : List Opener) → drop j x ≡ 0x21 ∷ t → ReadsAt o x j os (verbatim_tag os (here_at x j))
+tag_reads o x j t os e = tag_on o x j t os e (tag_or x j os t e)
+
+-- ---- anchors and aliases
+
+-- an anchor or an alias that is a lexeme stands there
+name_at : (kind : Written → LexemeKind) (sign : ℕ) (x : List ℕ) (j : ℕ) {l : Lexeme} {cs behind : List ℕ} → ((w : Written) → MayFollow (kind w) behind → is_anchor_char (first behind) ≡ false)
+    → IsLexeme x j l cs behind → Named kind sign l.kind cs → NameAt x j sign
+name_at kind sign x j {behind = behind} ends is q = record {
+  name = q.0;
+  behind = behind;
+  stands = is.stands.inside ∙ ap (λ (f : List ℕ). f ++ behind) q.3;
+  is_name = q.1;
+  ends = ends (lent q.0) (subst (λ k. MayFollow k behind) q.2 is.ends);
+}
+
+anchor_on : (o : OptionsData) (x : List ℕ) (j : ℕ) (t : List ℕ) (os : List Opener) → drop j x ≡ 0x26 ∷ t → NameAt x j 0x26 ⊎ (named Anchor os (here_at x j) ≡ refuse NotBuilt (here_at x j)) → ReadsAt o x j os (named Anchor os (here_at x j))
+anchor_on o x j t os e (inl r) =
+    subst (ReadsAt o x j os) (sym (named_is Anchor x j 0x26 os r))
+    (lexed_is o x j os (Anchor (lent r.name)) (0x26 ∷ r.name) r.behind (here_at x (j + length (0x26 ∷ r.name))) refl r.stands (anchor r.is_name.each r.is_name.some) tt r.ends tt (λ m. m))
+anchor_on o x j t os e (inr bad) =
+    refused_reads o x j 0x26 t os (named Anchor os (here_at x j)) e (λ q. omega arith) bad
+    (λ l cs behind is. let read = named_is Anchor x j 0x26 os (name_at Anchor 0x26 x j (λ w n. n) is (shape_at x j 0x26 t Ampersand e is glyph_of_ampersand)) in cc)
+
+anchor_reads : (o : OptionsData) (x : List ℕ) (j : ℕ) (t : List ℕ) (os : List Opener) → drop j x ≡ 0x26 ∷ t → ReadsAt o x j os (named Anchor os (here_at x j))
+anchor_reads o x j t os e = anchor_on o x j t os e (named_or Anchor x j os 0x26 t e)
+
+alias_on : (o : OptionsData) (x : List ℕ) (j : ℕ) (t : List ℕ) (os : List Opener) → drop j x ≡ 0x2A ∷ t → NameAt x j 0x2A ⊎ (named Alias os (here_at x j) ≡ refuse NotBuilt (here_at x j)) → ReadsAt o x j os (named Alias os (here_at x j))
+alias_on o x j t os e (inl r) =
+    subst (ReadsAt o x j os) (sym (named_is Alias x j 0x2A os r))
+    (lexed_is o x j os (Alias (lent r.name)) (0x2A ∷ r.name) r.behind (here_at x (j + length (0x2A ∷ r.name))) refl r.stands (alias r.is_name.each r.is_name.some) tt r.ends tt (λ m. m))
+alias_on o x j t os e (inr bad) =
+    refused_reads o x j 0x2A t os (named Alias os (here_at x j)) e (λ q. omega arith) bad
+    (λ l cs behind is. let read = named_is Alias x j 0x2A os (name_at Alias 0x2A x j (λ w n. n) is (shape_at x j 0x2A t Asterisk e is glyph_of_asterisk)) in cc)
+
+alias_reads : (o : OptionsData) (x : List ℕ) (j : ℕ) (t : List ℕ) (os : List Opener) → drop j x ≡ 0x2A ∷ t → ReadsAt o x j os (named Alias os (here_at x j))
+alias_reads o x j t os e = alias_on o x j t os e (named_or Alias x j os 0x2A t e)
+
 square_opens : (o : OptionsData) (x : List ℕ) (j : ℕ) (t : List ℕ) (os : List Opener) → drop j x ≡ 0x5B ∷ t → ReadsAt o x j os (open_bracket o Square os (here_at x j))
 unfolding open_bracket
-square_opens o x j t os e = opens_is o x j t os Square (nat_le o.flow_nesting_limit (length os)) e left_square tt tt refl refl
+square_opens o x j t os e = opens_is o x j t os Square (nat_le o.flow_nesting_limit (length os)) e left_square tt tt tt refl refl
 
 curly_opens : (o : OptionsData) (x : List ℕ) (j : ℕ) (t : List ℕ) (os : List Opener) → drop j x ≡ 0x7B ∷ t → ReadsAt o x j os (open_bracket o Curly os (here_at x j))
 unfolding open_bracket
-curly_opens o x j t os e = opens_is o x j t os Curly (nat_le o.flow_nesting_limit (length os)) e left_curly tt tt refl refl
+curly_opens o x j t os e = opens_is o x j t os Curly (nat_le o.flow_nesting_limit (length os)) e left_curly tt tt tt refl refl
 
 not_dash : (c : ℕ) → glyph c ≡ Foreign → c ≢ 0x2D
 unfolding glyph
@@ -242,18 +309,17 @@ glyph_reads o x j c t os RightSquare e h = square_closes o x j t os (stands_as x
 glyph_reads o x j c t os RightCurly e h = curly_closes o x j t os (stands_as x j c 0x7D t e (right_curly_is c h))
 glyph_reads o x j c t os CommaSign e h =
     let s = stands_as x j c 0x2C t e (comma_is c h) in
-    lexed_is o x j os Comma (0x2C ∷ []) t (step (here_at x j)) (on_one x j 0x2C t s) s comma tt tt (λ m. m)
+    lexed_is o x j os Comma (0x2C ∷ []) t (step (here_at x j)) (on_one x j 0x2C t s) s comma tt tt tt (λ m. m)
 glyph_reads o x j c t os QuestionSign e h =
     let s = stands_as x j c 0x3F t e (question_is c h) in
-    lexed_is o x j os Question (0x3F ∷ []) t (step (here_at x j)) (on_one x j 0x3F t s) s question tt tt (λ m. m)
+    lexed_is o x j os Question (0x3F ∷ []) t (step (here_at x j)) (on_one x j 0x3F t s) s question tt tt tt (λ m. m)
 glyph_reads o x j c t os ColonSign e h =
     let s = stands_as x j c 0x3A t e (colon_is c h) in
-    lexed_is o x j os Colon (0x3A ∷ []) t (step (here_at x j)) (on_one x j 0x3A t s) s colon tt tt (λ m. m)
-glyph_reads o x j c t os Foreign e h = record {
-  why = foreign_at (λ l cs behind is. not_foreign l.kind (sym (starts behind is.spells) ∙ ap (λ (l : List ℕ). glyph (first l)) (sym is.stands.inside ∙ e) ∙ h));
-  unmarked = unmarked_by x j c t e (not_dash c h);
-  marks = refl;
-}
+    lexed_is o x j os Colon (0x3A ∷ []) t (step (here_at x j)) (on_one x j 0x3A t s) s colon tt tt tt (λ m. m)
+glyph_reads o x j c t os Exclamation e h = tag_reads o x j t os (stands_as x j c 0x21 t e (exclamation_is c h))
+glyph_reads o x j c t os Ampersand e h = anchor_reads o x j t os (stands_as x j c 0x26 t e (ampersand_is c h))
+glyph_reads o x j c t os Asterisk e h = alias_reads o x j t os (stands_as x j c 0x2A t e (asterisk_is c h))
+glyph_reads o x j c t os Foreign e h = record { why = foreign_at (λ l cs behind is. shape_at x j c t Foreign e is h); unmarked = unmarked_by x j c t e (not_dash c h); marks = refl }
 
 -- behind a text's last index stands nothing more
 pub ends_at : (x : List ℕ) (i : ℕ) (g : List ℕ) → i ≤ length x → drop i x ≡ g ++ [] → i + length g ≡ length x

@@ -5,7 +5,7 @@ use Rattle.std.specs.List.{prefix_len}
 use Rattle.std.proofs.Math.Seq.{take-add, drop-append_seam}
 use Rattle.std.proofs.lemmas.List.{drop-drop}
 use Rattle.std.proofs.lemmas.Str.{encodes-append}
-use Rattle.granit_base.specs.Classes.{is_break}
+use Rattle.granit_base.specs.Classes.{is_break, is_yaml_non_break, is_yaml_non_space, is_anchor_char}
 use Rattle.granit_base.specs.Place.{first, ends_line}
 use Rattle.granit_model.specs.Here.{Here, step, next_char, chosen, skip, past, chunk_len, chunk, past_chunk}
 use Rattle.granit_model.specs.Place.{one_more_if, line_ends, since_line_end}
@@ -102,6 +102,18 @@ pub no_line_end : (c : ℕ) (t : List ℕ) → is_break c ≡ false → ends_lin
 unfolding is_break
 no_line_end c t e = either_not (c == 0x0A) (c == 0x0D) (not (first t == 0x0A)) e
 
+bytes_over : (f b x : List ℕ) (i : ℕ) → drop i x ≡ f ++ b → length (encode_utf8_all (take i x)) + length (encode_utf8_all f) ≡ length (encode_utf8_all (take (i + length f) x))
+bytes_over f b x i e =
+    let h : take (i + length f) x ≡ take i x ++ f = take-add i (length f) x ∙ ap (λ (l : List ℕ). take i x ++ l) (ap (take (length f)) e ∙ take_front f b) in
+    sym (ap (λ (l : List ℕ). length (encode_utf8_all l)) h ∙ ap (length {A = ℕ}) (encodes-append (take i x) f) ∙ length-append (encode_utf8_all (take i x)) (encode_utf8_all f))
+
+-- the length of a run in front, and the run itself
+pub chunk_len_is : (test : ℕ → Bool) (f b x : List ℕ) (i : ℕ) → drop i x ≡ f ++ b → Each test f → Ends test b → chunk_len test (here_at x i) ≡ length f
+chunk_len_is test f b x i e p n = ap (prefix_len test) e ∙ run_len test f b p n
+
+pub chunk_is : (test : ℕ → Bool) (f b x : List ℕ) (i : ℕ) → drop i x ≡ f ++ b → Each test f → Ends test b → chunk test (here_at x i) ≡ f
+chunk_is test f b x i e p n = ap₂ take (chunk_len_is test f b x i e p n) e ∙ take_front f b
+
 module _ (test : ℕ → Bool) (no_break : (c : ℕ) → test c ≡ true → is_break c ≡ false) where
   line_over : (f b x : List ℕ) (i : ℕ) → drop i x ≡ f ++ b → Each test f → line_ends x (i + length f) ≡ line_ends x i
   line_over [] b x i e p = ap (line_ends x) (add-zero i)
@@ -119,11 +131,19 @@ module _ (test : ℕ → Bool) (no_break : (c : ℕ) → test c ≡ true → is_
       ∙ ap (λ n. n + length f) (column_behind x i c (f ++ b) e ∙ ap (λ v. next_column v (since_line_end x i)) (no_line_end c (f ++ b) (no_break c p.0)))
       ∙ along (since_line_end x i) (length f)
 
-bytes_over : (f b x : List ℕ) (i : ℕ) → drop i x ≡ f ++ b → length (encode_utf8_all (take i x)) + length (encode_utf8_all f) ≡ length (encode_utf8_all (take (i + length f) x))
-bytes_over f b x i e =
-    let h : take (i + length f) x ≡ take i x ++ f = take-add i (length f) x ∙ ap (λ (l : List ℕ). take i x ++ l) (ap (take (length f)) e ∙ take_front f b) in
-    sym (ap (λ (l : List ℕ). length (encode_utf8_all l)) h ∙ ap (length {A = ℕ}) (encodes-append (take i x) f) ∙ length-append (encode_utf8_all (take i x)) (encode_utf8_all f))
+  -- past a run of characters that are no breaks, a reader stands behind it
+  pub past_chunk_is : (f b x : List ℕ) (i : ℕ) → drop i x ≡ f ++ b → Each test f → Ends test b → past_chunk test (here_at x i) ≡ here_at x (i + length f)
+  unfolding past_chunk
+  past_chunk_is f b x i e p n =
+      let k = chunk_len_is test f b x i e p n in
+      same_here _ _ _ _ _ _
+      (ap (λ m. drop m (drop i x)) k ∙ drop-drop (length f) i x)
+      (ap (λ (l : List ℕ). length (encode_utf8_all (take i x)) + length (encode_utf8_all l)) (chunk_is test f b x i e p n) ∙ bytes_over f b x i e)
+      (same_place _ _ _ _ _ _ (ap (λ m. i + m) k)
+      (ap suc (sym (line_over f b x i e p)))
+      (ap (λ m. since_line_end x i + m) k ∙ sym (column_over f b x i e p)))
 
+-- no inner character is a break, and no character of a name
 inner_is_no_break : (a b d : Bool) → ((a && not b) && d) ≡ true → b ≡ false
 inner_is_no_break true true d e = sym e
 inner_is_no_break true false d e = refl
@@ -133,21 +153,10 @@ pub inner_no_break : (c : ℕ) → is_inner c ≡ true → is_break c ≡ false
 unfolding is_inner
 inner_no_break c e = inner_is_no_break _ _ _ e
 
--- the length of a run of inner characters, and the run itself
-pub chunk_len_is : (f b x : List ℕ) (i : ℕ) → drop i x ≡ f ++ b → Each is_inner f → Ends is_inner b → chunk_len is_inner (here_at x i) ≡ length f
-chunk_len_is f b x i e p n = ap (prefix_len is_inner) e ∙ run_len is_inner f b p n
+both_left : (a b : Bool) → (a && b) ≡ true → a ≡ true
+both_left true b e = refl
+both_left false b e = e
 
-pub chunk_is : (f b x : List ℕ) (i : ℕ) → drop i x ≡ f ++ b → Each is_inner f → Ends is_inner b → chunk is_inner (here_at x i) ≡ f
-chunk_is f b x i e p n = ap₂ take (chunk_len_is f b x i e p n) e ∙ take_front f b
-
--- past a chunk of inner characters, a reader stands behind it
-pub past_chunk_is : (f b x : List ℕ) (i : ℕ) → drop i x ≡ f ++ b → Each is_inner f → Ends is_inner b → past_chunk is_inner (here_at x i) ≡ here_at x (i + length f)
-unfolding past_chunk
-past_chunk_is f b x i e p n =
-    let k = chunk_len_is f b x i e p n in
-    same_here _ _ _ _ _ _
-    (ap (λ m. drop m (drop i x)) k ∙ drop-drop (length f) i x)
-    (ap (λ (l : List ℕ). length (encode_utf8_all (take i x)) + length (encode_utf8_all l)) (chunk_is f b x i e p n) ∙ bytes_over f b x i e)
-    (same_place _ _ _ _ _ _ (ap (λ m. i + m) k)
-    (ap suc (sym (line_over is_inner inner_no_break f b x i e p)))
-    (ap (λ m. since_line_end x i + m) k ∙ sym (column_over is_inner inner_no_break f b x i e p)))
+pub name_no_break : (c : ℕ) → is_anchor_char c ≡ true → is_break c ≡ false
+unfolding is_anchor_char is_yaml_non_space is_yaml_non_break
+name_no_break c e = inner_is_no_break _ _ _ (both_left _ _ (both_left _ _ e))

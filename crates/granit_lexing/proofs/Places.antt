@@ -96,6 +96,19 @@ step_is x i c t e =
     ap (λ (l : List ℕ). step (here_with l x i)) e ∙ stepped c t x i
     ∙ same_here _ _ _ _ _ _ (sym (rest_behind x i c t e)) (bytes_behind x i c t e) (place_behind x i c t e)
 
+-- and more steps
+pub on_one : (x : List ℕ) (j c : ℕ) (t : List ℕ) → drop j x ≡ c ∷ t → step (here_at x j) ≡ here_at x (j + 1)
+on_one x j c t e = step_is x j c t e ∙ ap (here_at x) (sym (add-one j))
+
+pub on_two : (x : List ℕ) (j a b : ℕ) (t : List ℕ) → drop j x ≡ a ∷ b ∷ t → step (step (here_at x j)) ≡ here_at x (suc (suc j))
+on_two x j a b t e = ap step (step_is x j a (b ∷ t) e) ∙ step_is x (suc j) b t (rest_behind x j a (b ∷ t) e)
+
+pub two_behind : (x : List ℕ) (j a b : ℕ) (t : List ℕ) → drop j x ≡ a ∷ b ∷ t → drop (suc (suc j)) x ≡ t
+two_behind x j a b t e = rest_behind x (suc j) b t (rest_behind x j a (b ∷ t) e)
+
+pub on_three : (x : List ℕ) (j a b c : ℕ) (t : List ℕ) → drop j x ≡ a ∷ b ∷ c ∷ t → step (step (step (here_at x j))) ≡ here_at x (suc (suc (suc j)))
+on_three x j a b c t e = ap step (on_two x j a b (c ∷ t) e) ∙ step_is x (suc (suc j)) c t (two_behind x j a b (c ∷ t) e)
+
 no_rest : (x : List ℕ) (i : ℕ) → i < length x → drop i x ≡ [] → ⊥
 no_rest [] i h e = omega arith
 no_rest (d ∷ ds) zero h e = cc
