@@ -51,7 +51,7 @@ module _ (words : List Written) (left now written after : Option (List ℕ)) whe
 
 -- a text with a reading calls for its events
 pub calls_for_done : (words : List Written) (left : Option (List ℕ)) → (r : CanRead words left) → CallsFor words r.bytes status.Done
-calls_for_done words left r = (r.right, r.fits, r.utf8, (events (chars r.bytes) r.documents, is_answered default_options (chars r.bytes) r.lexemes r.documents r.reading))
+calls_for_done words left r = (r.right, r.fits, r.utf8, (events default_options (chars r.bytes) r.documents, is_answered default_options (chars r.bytes) r.lexemes r.documents r.reading r.resolves))
 
 -- and is answered so, where no count rose
 pub done_or_memory : (s : Status) (source sink : Type 0) → IsOrYields status.Done s → (s ≡ status.ReadFault → source) → (s ≡ status.WriteFault → sink) → (source → ⊥) → (sink → ⊥) → (s ≡ status.Done) ⊎ (s ≡ status.NoMemory)

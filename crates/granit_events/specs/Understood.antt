@@ -1,5 +1,5 @@
 -- What the statuses Done and Fault say of the text itself.
-use Rattle.std.specs.Prelude.{◌≡◌, ℕ, ◌≤◌, List, length, Option, Some}
+use Rattle.std.specs.Prelude.{◌≡◌, ℕ, ◌≤◌, List, [], length, Option, Some}
 use Rattle.std.specs.Io.KnownBytes.{Appends}
 use Rattle.std.specs.Str.{chars, IsUtf8}
 use Rattle.granit_base.specs.Written.{Written}
@@ -11,6 +11,7 @@ use Rattle.granit_model.specs.Node.{Documents}
 use Rattle.granit_model.specs.Outcome.{Fault}
 use Rattle.granit_model.specs.PlainEvent.{PlainEvent}
 use Rattle.granit_model.specs.Reading.{IsReading, Reading}
+use Rattle.granit_model.specs.Scope.{Resolves}
 use Rattle.granit_events.specs.Came.{most_bytes, CameWhole}
 use Rattle.granit_events.specs.Ended.{AreRight}
 
@@ -34,7 +35,8 @@ pub record PrintsFault (words : List Written) (left now : Option (List ℕ)) (wr
   pub cause : Cause default_options (chars bytes) fault.kind fault.mark
   pub wrote : Appends written after (fault_line fault)
 
--- the words are right, and a source has the UTF-8 of a text left that has a reading, within the limit of an input
+-- The words are right, and a source has the UTF-8 of a text left that has a reading, each alias of which names an anchor
+-- before it in its document, within the limit of an input.
 pub record CanRead (words : List Written) (left : Option (List ℕ)) : Type 0 where
   pub right : AreRight words
   pub bytes : List ℕ
@@ -44,3 +46,4 @@ pub record CanRead (words : List Written) (left : Option (List ℕ)) : Type 0 wh
   pub lexemes : List Lexeme
   pub documents : Documents
   pub reading : Reading default_options (chars bytes) lexemes documents
+  pub resolves : Resolves default_options [] lexemes
