@@ -1,6 +1,6 @@
 -- The bytes that a URI spells, and the text that they are.
-use Rattle.std.proofs.Common.{◌≡◌, ℕ, ◌+◌, ◌*◌, ◌<◌, ◌==◌, Bool, true, false, ◌&&◌, not, List, length, refl, sym, ap, ◌∙◌, arith}
-use Rattle.std.specs.Str.{chars, IsUtf8, is_utf8}
+use Rattle.std.proofs.Common.{◌≡◌, ℕ, ◌+◌, ◌*◌, ◌<◌, ◌==◌, Bool, true, false, ◌&&◌, not, List, length, refl, ◌∙◌, arith}
+use Rattle.std.specs.Str.{IsUtf8, is_utf8}
 use Rattle.std.proofs.lemmas.Bool.Decides.{nat_tests}
 use Rattle.std.proofs.lemmas.Str.{IsUtf8-from_is_utf8, is_utf8-from_IsUtf8}
 use Rattle.granit_base.specs.Classes.{is_hex, hex_value, is_uri_char, is_uri_sign, is_word_char, is_digit}
