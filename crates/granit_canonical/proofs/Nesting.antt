@@ -11,7 +11,7 @@ use Rattle.granit_model.specs.Yield.{lexeme, spell_tag, spell_anchor, spell_prop
 abbrev pub settled : Before → Before
 settled b = record { openers = b.openers; owes_gap = false }
 
--- and whether one is, told
+-- the same brackets are open, and a gap is wanted or not
 abbrev pub owing : Bool → Before → Before
 owing owes b = record { openers = b.openers; owes_gap = owes }
 

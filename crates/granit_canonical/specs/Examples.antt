@@ -1,6 +1,6 @@
 -- The trees of the worked examples.
-use Rattle.std.specs.Prelude.{ℕ, true, false, List, [], ◌∷◌, Some, None, codes}
-use Rattle.granit_error.specs.OptionsData.{OptionsData}
+use Rattle.std.specs.Prelude.{ℕ, true, List, [], ◌∷◌, Some, None, codes}
+use Rattle.granit_error.specs.OptionsData.{OptionsData, default_options}
 use Rattle.granit_model.specs.Canonical.{canonical_events}
 use Rattle.granit_model.specs.Line.{event_lines}
 use Rattle.granit_model.specs.Tree.{PlainTree, AliasOf, ScalarOf, SequenceOf, MappingOf, PlainTrees, NoTrees, AfterTrees, PlainPairs, NoPairs, AfterPairs}
@@ -9,21 +9,9 @@ use Rattle.granit_model.specs.Tree.{PlainTree, AliasOf, ScalarOf, SequenceOf, Ma
 abbrev pub lines_of : OptionsData → PlainTrees → List ℕ
 lines_of o ts = event_lines (canonical_events o ts)
 
--- the default options, and Anchor events too
-abbrev pub with_anchor_events : OptionsData
-with_anchor_events = record {
-  strict_indentation = false;
-  disallow_directives = false;
-  emit_unresolved_aliases = false;
-  emit_anchor_events = true;
-  emit_comments = true;
-  max_buffered_comment_events = 96;
-  simple_key_max_lookahead = 1024;
-  flow_nesting_limit = 255;
-  block_nesting_limit = 255;
-  max_directive_bytes = 1024;
-  max_reserved_directive_params = 16;
-}
+-- Anchor events are asked for
+abbrev pub telling_anchors : OptionsData
+telling_anchors = record default_options { emit_anchor_events = true }
 
 abbrev scalar : List ℕ → PlainTree
 scalar text = ScalarOf (record { tag = None; anchor = None }) text
