@@ -53,7 +53,8 @@ pub(crate) fn run_once<S: Source, W: Sink>(
 /// The contract: each status names its cause and fixes the output (`ended` and the clauses behind
 /// it), and which status the words and bytes call for (`usage`, `exactly`). Events that were
 /// printed are those of the documents as which the text is read (`read`), a fault has its cause at
-/// its mark (`caused`), and a text with a reading is answered (`answered`).
+/// its mark (`caused`), and a text with a reading, each alias of which names an anchor before it in
+/// its document, is answered (`answered`).
 pub fn run<S: Source, W: Sink>(
     alloc: Global,
     words: &TextList,
