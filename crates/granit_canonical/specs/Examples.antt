@@ -1,6 +1,6 @@
 -- The trees of the worked examples.
 use Rattle.std.specs.Prelude.{ℕ, true, List, [], ◌∷◌, Some, None, codes}
-use Rattle.granit_error.specs.OptionsData.{OptionsData, default_options}
+use Rattle.granit_error.specs.OptionsData.{OptionsData}
 use Rattle.granit_model.specs.Canonical.{canonical_events}
 use Rattle.granit_model.specs.Line.{event_lines}
 use Rattle.granit_model.specs.Tree.{PlainTree, AliasOf, ScalarOf, SequenceOf, MappingOf, PlainTrees, NoTrees, AfterTrees, PlainPairs, NoPairs, AfterPairs}
@@ -8,10 +8,6 @@ use Rattle.granit_model.specs.Tree.{PlainTree, AliasOf, ScalarOf, SequenceOf, Ma
 -- what is printed for documents that are read from their own canonical text
 abbrev pub lines_of : OptionsData → PlainTrees → List ℕ
 lines_of o ts = event_lines (canonical_events o ts)
-
--- Anchor events are asked for
-abbrev pub telling_anchors : OptionsData
-telling_anchors = record default_options { emit_anchor_events = true }
 
 abbrev scalar : List ℕ → PlainTree
 scalar text = ScalarOf (record { tag = None; anchor = None }) text
