@@ -1,5 +1,5 @@
 -- The trees of the worked examples.
-use Rattle.std.specs.Prelude.{ℕ, true, List, [], ◌∷◌, Some, None, codes}
+use Rattle.std.specs.Prelude.{ℕ, List, [], ◌∷◌, Some, None, codes}
 use Rattle.granit_error.specs.OptionsData.{OptionsData}
 use Rattle.granit_model.specs.Canonical.{canonical_events}
 use Rattle.granit_model.specs.Line.{event_lines}
