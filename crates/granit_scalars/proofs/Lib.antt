@@ -6,5 +6,6 @@ pub mod PlainReads
 pub mod PlainSpelling
 pub mod PlainTurns
 pub mod Printing
+pub mod QuotedEscapes
 pub mod Stepping
 pub mod Turning
