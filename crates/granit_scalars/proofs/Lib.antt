@@ -7,5 +7,6 @@ pub mod PlainSpelling
 pub mod PlainTurns
 pub mod Printing
 pub mod QuotedEscapes
+pub mod QuotedTurns
 pub mod Stepping
 pub mod Turning
