@@ -7,6 +7,7 @@ pub mod PlainSpelling
 pub mod PlainTurns
 pub mod Printing
 pub mod QuotedEscapes
+pub mod QuotedKept
 pub mod QuotedTurns
 pub mod Stepping
 pub mod Turning
