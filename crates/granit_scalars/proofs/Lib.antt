@@ -8,6 +8,7 @@ pub mod PlainTurns
 pub mod Printing
 pub mod QuotedEscapes
 pub mod QuotedKept
+pub mod QuotedReads
 pub mod QuotedTurns
 pub mod Stepping
 pub mod Turning
