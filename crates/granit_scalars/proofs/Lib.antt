@@ -1,3 +1,4 @@
+pub mod Comments
 pub mod Folding
 pub mod PlainKept
 pub mod PlainLaw
@@ -9,6 +10,7 @@ pub mod Printing
 pub mod QuotedEscapes
 pub mod QuotedKept
 pub mod QuotedReads
+pub mod QuotedTail
 pub mod QuotedTurns
 pub mod Stepping
 pub mod Turning
