@@ -9,6 +9,7 @@ pub mod PlainTurns
 pub mod Printing
 pub mod QuotedEscapes
 pub mod QuotedKept
+pub mod QuotedLaw
 pub mod QuotedReads
 pub mod QuotedTail
 pub mod QuotedTurns
