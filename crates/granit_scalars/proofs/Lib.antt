@@ -11,6 +11,7 @@ pub mod QuotedEscapes
 pub mod QuotedKept
 pub mod QuotedLaw
 pub mod QuotedReads
+pub mod QuotedRuns
 pub mod QuotedTail
 pub mod QuotedTurns
 pub mod Stepping
