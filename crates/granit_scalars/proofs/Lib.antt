@@ -10,6 +10,7 @@ pub mod Printing
 pub mod QuotedEscapes
 pub mod QuotedKept
 pub mod QuotedLaw
+pub mod QuotedOnce
 pub mod QuotedReads
 pub mod QuotedRuns
 pub mod QuotedTail

@@ -137,23 +137,34 @@ line_runs single at start (b ∷ blanks) behind s y n e =
       escaped = r.escaped;
     }
 
+gap_text : (blanks brk text behind : List ℕ) (h mid : Here) → mid ≡ over blanks h → h.unread.text ≡ (blanks ++ (brk ++ text)) ++ behind → mid.unread.text ≡ brk ++ (text ++ behind)
+gap_text blanks brk text behind h mid e f =
+    ap (λ (g : Here). g.unread.text) e ∙ over_text blanks ((brk ++ text) ++ behind) h (f ∙ append_assoc blanks (brk ++ text) behind) ∙ append_assoc brk text behind
+
+text_on : (brk rest : List ℕ) (h mid : Here) → mid ≡ over brk h → h.unread.text ≡ brk ++ rest → mid.unread.text ≡ rest
+text_on brk rest h mid e f = ap (λ (g : Here). g.unread.text) e ∙ over_text brk rest h f
+
+gap_place : (blanks brk text : List ℕ) (h mid next last : Here) → mid ≡ over blanks h → next ≡ over brk mid → last ≡ over text next → last ≡ over (blanks ++ (brk ++ text)) h
+gap_place blanks brk text h mid next last e f g =
+    g ∙ ap (over text) (f ∙ ap (over brk) e) ∙ sym (over-append brk text (over blanks h)) ∙ sym (over-append blanks (brk ++ text) h)
+
 gap_runs : (single : Bool) (at : LayoutData) (start : Mark) (escaped : Bool) (h : Here) {gap behind : List ℕ} {x : Between} → Separates at gap behind x → h.unread.text ≡ gap ++ behind → RunsTo single at start (quoted_at escaped h) gap x
 gap_runs single at start escaped h {behind = behind} (on_line {blanks = blanks} each) e =
     let r = line_runs single at start blanks behind (quoted_at escaped h) each refl e in
     record { after = r.after; same = r.same; here = r.here; state = (r.pending, r.line); escaped = r.escaped }
 gap_runs single at start escaped h {behind = behind} (folded {text = text} {empty = empty} {column = column} blanks brk each one more) e =
-    let apart : h.unread.text ≡ blanks ++ ((brk ++ text) ++ behind) = e ∙ append_assoc blanks (brk ++ text) behind in
-    let r = line_runs single at start blanks ((brk ++ text) ++ behind) (quoted_at escaped h) each refl apart in
+    let r = line_runs single at start blanks ((brk ++ text) ++ behind) (quoted_at escaped h) each refl (e ∙ append_assoc blanks (brk ++ text) behind) in
     let s = r.after in
-    let there : s.here.unread.text ≡ brk ++ (text ++ behind) = ap (λ (g : Here). g.unread.text) r.here ∙ over_text blanks ((brk ++ text) ++ behind) h apart ∙ append_assoc brk text behind in
+    let there : s.here.unread.text ≡ brk ++ (text ++ behind) = gap_text blanks brk text behind h s.here r.here e in
     let is_one : is_break (next_char s.here) ≡ true = ap (λ (t : List ℕ). is_break (first t)) there ∙ break_first one in
-    let after = record s { here = past_break s.here; pending = []; on_new_line = true } in
+    let after : QuotedState = record s { here = past_break s.here; pending = []; on_new_line = true } in
     let lands = past_one one s.here there in
-    let q = newline_runs single at start more after 0 (refl, refl, (broken s.here is_one).column) (ap (λ (g : Here). g.unread.text) lands ∙ over_text brk (text ++ behind) s.here there) in
+    let q = newline_runs single at start more after 0 (refl, refl, (broken s.here is_one).column) (text_on brk (text ++ behind) s.here (past_break s.here) lands there) in
+    let turned : run single at start s ≡ run single at start after = onward single at start s (over_break s) after (break_turn single at start s is_one) (is_first_break s r.line) in
     record {
       after = q.after;
-      same = r.same ∙ onward single at start s (over_break s) after (break_turn single at start s is_one) (is_first_break s r.line) ∙ q.same;
-      here = q.here ∙ ap (over text) (lands ∙ ap (over brk) r.here) ∙ sym (over-append brk text (over blanks h)) ∙ sym (over-append blanks (brk ++ text) h);
+      same = r.same ∙ turned ∙ q.same;
+      here = gap_place blanks brk text h s.here (past_break s.here) q.after.here r.here lands q.here;
       state = subst (λ m. StateIs (Lines m column) q.after) (omega arith) q.state;
       escaped = q.escaped ∙ r.escaped;
     }
