@@ -163,8 +163,8 @@ pub data WrongEscape : FaultKind → List ℕ → Type 0 where
   no_half : (high low rest : List ℕ) → AreDigits 4 high → is_high (number_of high) ≡ true → AreDigits 4 low → is_low (number_of low) ≡ false → WrongEscape InvalidLowSurrogate (0x75 ∷ (high ++ 0x5C ∷ 0x75 ∷ (low ++ rest)))
   -- a second half without a first
   alone : (low rest : List ℕ) → AreDigits 4 low → is_low (number_of low) ≡ true → WrongEscape UnpairedLowSurrogate (0x75 ∷ (low ++ rest))
-  -- no character's number
-  no_character : {l count : ℕ} (digits rest : List ℕ) → digit_count l ≡ Some count → AreDigits count digits → scalar (number_of digits) ≡ false → WrongEscape InvalidUnicodeEscape (l ∷ (digits ++ rest))
+  -- `U` with the number of no character
+  no_character : (digits rest : List ℕ) → AreDigits 8 digits → scalar (number_of digits) ≡ false → WrongEscape InvalidUnicodeEscape (0x55 ∷ (digits ++ rest))
 
 -- what is refused behind an opening quote, content, blanks and breaks, and where
 pub data WrongInside (single : Bool) (at : LayoutData) (start : Mark) (left : Bool) : Between → (rest : List ℕ) → (place : Here) → FaultKind → Mark → Type 0 where

@@ -1,5 +1,5 @@
 -- What is read behind a backslash: an escape, or what is wrong there.
-use Rattle.std.proofs.Common.{◌≡◌, ℕ, zero, suc, ◌+◌, ◌*◌, ◌<◌, Bool, true, false, ◌==◌, ◌&&◌, cond, List, [], ◌∷◌, ◌++◌, length, drop, refl, sym, ap, ap₂, ◌∙◌, subst, arith, append_assoc, Option, Some, None, Result, Ok, Err}
+use Rattle.std.proofs.Common.{◌≡◌, ℕ, zero, suc, ◌+◌, ◌*◌, ◌<◌, Bool, true, false, ◌==◌, ◌&&◌, cond, List, [], ◌∷◌, ◌++◌, length, drop, refl, sym, ap, ap₂, ◌∙◌, subst, arith, append_assoc, Option, Some, None, Result, Ok, Err, ◌⊎◌, inl, inr}
 use Rattle.std.specs.Prelude.{slice_index, if◌then◌else◌}
 use Rattle.std.proofs.lemmas.Bool.{cond-true, cond-false, and_parts}
 use Rattle.std.proofs.lemmas.Bool.Decides.{nat_tests}
@@ -55,6 +55,55 @@ text_behind h c t e = step_text h ∙ ap (drop 1) e ∙ none_dropped t
     none_dropped : (xs : List ℕ) → drop 0 xs ≡ xs
     none_dropped [] = refl
     none_dropped (x ∷ xs) = refl
+
+-- ---- which numbers stand for no character
+
+hex_small : (c : ℕ) → is_hex c ≡ true → hex_value c < 16
+unfolding is_hex is_digit hex_value
+hex_small c y = grind (arith, nat_tests)
+
+two_small : (ds : List ℕ) → AreDigits 2 ds → number_of ds < 0x100
+two_small [] a = absurd (let k = a.counted in omega arith)
+two_small (b ∷ []) a = absurd (let k = a.counted in omega arith)
+two_small (b ∷ c ∷ []) a = let p = hex_small b a.each.0 in let q = hex_small c a.each.1.0 in omega arith
+two_small (b ∷ c ∷ d ∷ ds) a = absurd (let k = a.counted in omega arith)
+
+four_small : (ds : List ℕ) → AreDigits 4 ds → number_of ds < 0x10000
+four_small [] a = absurd (let k = a.counted in omega arith)
+four_small (b ∷ []) a = absurd (let k = a.counted in omega arith)
+four_small (b ∷ c ∷ []) a = absurd (let k = a.counted in omega arith)
+four_small (b ∷ c ∷ d ∷ []) a = absurd (let k = a.counted in omega arith)
+four_small (b ∷ c ∷ d ∷ e ∷ []) a = let p = hex_small b a.each.0 in let q = hex_small c a.each.1.0 in let r = hex_small d a.each.1.1.0 in let s = hex_small e a.each.1.1.1.0 in omega arith
+four_small (b ∷ c ∷ d ∷ e ∷ f ∷ ds) a = absurd (let k = a.counted in omega arith)
+
+small_scalar : (n : ℕ) → n < 0x100 → scalar n ≡ true
+small_scalar n l = grind (arith, nat_tests)
+
+half_or_scalar : (n : ℕ) → n < 0x10000 → scalar n ≡ false → is_high n ≡ false → is_low n ≡ false → ⊥
+unfolding is_high is_low
+half_or_scalar n l s p q = grind (arith, nat_tests)
+
+count_cases : (l count : ℕ) → digit_count l ≡ Some count → (count ≡ 2) ⊎ ((count ≡ 4) ⊎ ((count ≡ 8) × (l ≡ 0x55)))
+unfolding digit_count
+count_cases l count e = cases (l == 0x78) (l == 0x75) (l == 0x55) refl refl refl
+  where
+    cases : (a b c : Bool) → (l == 0x78) ≡ a → (l == 0x75) ≡ b → (l == 0x55) ≡ c → (count ≡ 2) ⊎ ((count ≡ 4) ⊎ ((count ≡ 8) × (l ≡ 0x55)))
+    cases true b c p q r = inl (grind (arith, nat_tests))
+    cases false true c p q r = inr (inl (grind (arith, nat_tests)))
+    cases false false true p q r = inr (inr (grind (arith, nat_tests), grind (arith, nat_tests)))
+    cases false false false p q r = absurd (grind (arith, nat_tests))
+
+-- only eight digits write the number of no character that is no half of one
+wants_eight : (l count : ℕ) (ds : List ℕ) → digit_count l ≡ Some count → AreDigits count ds → scalar (number_of ds) ≡ false → (count == 4 && is_high (number_of ds)) ≡ false → (count == 4 && is_low (number_of ds)) ≡ false → (l ≡ 0x55) × (count ≡ 8)
+wants_eight l count ds e a s p q = by (count_cases l count e)
+  where
+    by : (count ≡ 2) ⊎ ((count ≡ 4) ⊎ ((count ≡ 8) × (l ≡ 0x55))) → (l ≡ 0x55) × (count ≡ 8)
+    by (inl two) = absurd (let t = small_scalar (number_of ds) (two_small ds (subst (λ m. AreDigits m ds) two a)) in cc)
+    by (inr (inl four)) =
+        let high : is_high (number_of ds) ≡ false = ap (λ m. m == 4 && is_high (number_of ds)) (sym four) ∙ p in
+        let low : is_low (number_of ds) ≡ false = ap (λ m. m == 4 && is_low (number_of ds)) (sym four) ∙ q in
+        absurd (half_or_scalar (number_of ds) (four_small ds (subst (λ m. AreDigits m ds) four a)) s high low)
+    by (inr (inr eight)) = (eight.1, eight.0)
 
 -- ---- what is read is there
 
@@ -195,22 +244,24 @@ with_second start l count n h mid p y (Err f) s =
     let is_u : l ≡ 0x75 = four_digits l count p.wants four in
     (s.0, subst (WrongEscape f.kind) (sym (whole_text p ∙ ap (λ m. m ∷ (d.digits ++ mid.unread.text)) is_u)) (s.1 d.digits (subst (λ m. AreDigits m d.digits) four d.are) (ap is_high (sym d.writes) ∙ half)))
 
-with_low : (start : Mark) (l count n : ℕ) (h mid : Here) → Numbered l count n h mid → scalar n ≡ false → (b : Bool) → (count == 4 && is_low n) ≡ b
+with_low : (start : Mark) (l count n : ℕ) (h mid : Here) → Numbered l count n h mid → scalar n ≡ false → (count == 4 && is_high n) ≡ false → (b : Bool) → (count == 4 && is_low n) ≡ b
     → ReadsEscape start h (if b then fails_at UnpairedLowSurrogate start else fails_at InvalidUnicodeEscape start)
-with_low start l count n h mid p none true y =
+with_low start l count n h mid p none high true y =
     let d = p.read in
     let four : count ≡ 4 = grind (arith, nat_tests) in
     let half : is_low n ≡ true = (and_parts (count == 4) (is_low n) y).1 in
     let is_u : l ≡ 0x75 = four_digits l count p.wants four in
     (refl, subst (WrongEscape UnpairedLowSurrogate) (sym (whole_text p ∙ ap (λ m. m ∷ (d.digits ++ mid.unread.text)) is_u)) (alone d.digits mid.unread.text (subst (λ m. AreDigits m d.digits) four d.are) (ap is_low (sym d.writes) ∙ half)))
-with_low start l count n h mid p none false y =
+with_low start l count n h mid p none high false y =
     let d = p.read in
-    (refl, subst (WrongEscape InvalidUnicodeEscape) (sym (whole_text p)) (no_character d.digits mid.unread.text p.wants d.are (ap scalar (sym d.writes) ∙ none)))
+    let no_scalar : scalar (number_of d.digits) ≡ false = ap scalar (sym d.writes) ∙ none in
+    let eight = wants_eight l count d.digits p.wants d.are no_scalar (ap (λ m. count == 4 && is_high m) (sym d.writes) ∙ high) (ap (λ m. count == 4 && is_low m) (sym d.writes) ∙ y) in
+    (refl, subst (WrongEscape InvalidUnicodeEscape) (sym (whole_text p ∙ ap (λ m. m ∷ (d.digits ++ mid.unread.text)) eight.0)) (no_character d.digits mid.unread.text (subst (λ m. AreDigits m d.digits) eight.1 d.are) no_scalar))
 
 with_high : (start : Mark) (l count n : ℕ) (h mid : Here) → Numbered l count n h mid → scalar n ≡ false → (b : Bool) → (count == 4 && is_high n) ≡ b
     → ReadsEscape start h (if b then second_half_or start n mid else if count == 4 && is_low n then fails_at UnpairedLowSurrogate start else fails_at InvalidUnicodeEscape start)
 with_high start l count n h mid p none true y = with_second start l count n h mid p y (second_half_or start n mid) (reads_second start n mid)
-with_high start l count n h mid p none false y = with_low start l count n h mid p none (count == 4 && is_low n) refl
+with_high start l count n h mid p none false y = with_low start l count n h mid p none y (count == 4 && is_low n) refl
 
 with_number : (start : Mark) (l count n : ℕ) (h mid : Here) → Numbered l count n h mid → (b : Bool) → scalar n ≡ b
     → ReadsEscape start h (if b then Ok (n, mid) else if count == 4 && is_high n then second_half_or start n mid else if count == 4 && is_low n then fails_at UnpairedLowSurrogate start else fails_at InvalidUnicodeEscape start)
