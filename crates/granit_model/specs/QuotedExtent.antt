@@ -54,9 +54,13 @@ between_text escaped (Lines empty column) = lines_text escaped empty
 
 -- ---- content
 
+-- neither the quote, nor between double quotes a backslash
+abbrev pub is_simple : Bool → ℕ → Bool
+is_simple single c = not (c == quote_char single) && (single || not (c == 0x5C))
+
 -- a character that stands for itself: neither a blank nor a break, nor the quote, nor between double quotes a backslash
 unfoldable pub is_literal : Bool → ℕ → Bool
-is_literal single c = (not (is_gap c) && is_printable c) && (not (c == quote_char single) && (single || not (c == 0x5C)))
+is_literal single c = (not (is_gap c) && is_printable c) && is_simple single c
 
 -- One piece of content, in front of what stands behind it, what it stands for, and whether it escapes a break. A backslash before a break
 -- is content that stands for nothing.

@@ -8,6 +8,7 @@ pub mod PlainSpelling
 pub mod PlainTurns
 pub mod Printing
 pub mod QuotedEscapes
+pub mod QuotedFolding
 pub mod QuotedKept
 pub mod QuotedLaw
 pub mod QuotedOnce

@@ -18,7 +18,7 @@ pub use plain::{
 };
 pub use quoted::{
     every_quoted_answer_stands, every_quoted_refusal_has_its_cause, every_quoted_scalar_is_answered,
-    one_quoted_scalar,
+    one_quoted_scalar, simple_quoted_scalars_fold,
 };
 pub use quoted_examples::{
     ends_of_quoted_examples, escapes_of_quoted_examples, places_behind_quoted_examples,

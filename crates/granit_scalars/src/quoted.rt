@@ -1,9 +1,11 @@
 //! The plain function on characters answers the quoted scalar that its definitions say.
 ghost use Rattle.std.specs.Prelude.{◌≡◌, ℕ, Bool, List, ◌++◌, Ok, Err};
+ghost use Rattle.granit_model.specs.Folding.{folded};
+ghost use Rattle.granit_model.specs.Gap.{Each};
 ghost use Rattle.granit_model.specs.Here.{Here, next_char};
 ghost use Rattle.granit_model.specs.LayoutData.{LayoutData};
 ghost use Rattle.granit_model.specs.Outcome.{Fault};
-ghost use Rattle.granit_model.specs.QuotedExtent.{AnswersQuoted, Between, QuotedStands, RefusesQuoted, quoted_value};
+ghost use Rattle.granit_model.specs.QuotedExtent.{AnswersQuoted, Between, QuotedStands, RefusesQuoted, is_simple, quoted_value};
 ghost use Rattle.granit_model.specs.QuotedScalar.{QuotedRead, quote_char, quoted_scalar};
 
 /// Where its quote stands, an answer is the quoted scalar that stands there up to its closing quote, with
@@ -26,4 +28,10 @@ pub fn every_quoted_refusal_has_its_cause()
 /// stands behind it are known.
 pub fn one_quoted_scalar()
     ensures { (single : Bool) (at : LayoutData) (h : Here) (source value gap : List ℕ) (left : Bool) (x : Between) (rest : List ℕ) (other spelled further : List ℕ) (right : Bool) (y : Between) (behind : List ℕ) → QuotedStands single at h source value gap left x rest → QuotedStands single at h other spelled further right y behind → (source ++ gap ≡ other ++ further) × (quoted_value value left x ≡ quoted_value spelled right y) × (rest ≡ behind) }
+{}
+
+/// Where neither the quote nor, between double quotes, a backslash is among them, what stands between the
+/// quotes spells the fold of its lines.
+pub fn simple_quoted_scalars_fold()
+    ensures { (single : Bool) (at : LayoutData) (h : Here) (source value gap : List ℕ) (left : Bool) (x : Between) (rest : List ℕ) → QuotedStands single at h source value gap left x rest → Each (is_simple single) (source ++ gap) → quoted_value value left x ≡ folded (source ++ gap) }
 {}
