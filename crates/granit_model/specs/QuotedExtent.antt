@@ -1,5 +1,5 @@
 -- How far a quoted scalar goes, what it spells, and what is refused at it (YAML 1.2.2, 7.3.1, 7.3.2 and 6.5).
-use Rattle.std.specs.Prelude.{◌≡◌, ℕ, zero, suc, ◌<◌, ◌==◌, Bool, true, false, ◌&&◌, ◌||◌, not, List, [], ◌∷◌, ◌++◌, length, slice_index, replicate, Option, Some, None}
+use Rattle.std.specs.Prelude.{◌≡◌, ℕ, suc, ◌<◌, ◌==◌, Bool, true, false, ◌&&◌, ◌||◌, not, List, [], ◌∷◌, ◌++◌, length, slice_index, replicate, Option, Some, None}
 use lib.Utf8.{scalar}
 use Rattle.granit_base.specs.Classes.{is_blank, is_break, is_gap, is_hex, is_printable}
 use Rattle.granit_base.specs.Place.{Mark, first}

@@ -1,7 +1,7 @@
 -- A quoted scalar over any number of lines, read character by character (YAML 1.2.2, 7.3.1, 7.3.2, 6.5 and 5.7).
-use Rattle.std.specs.Prelude.{ℕ, zero, suc, ◌+◌, ◌*◌, ◌==◌, Bool, true, false, ◌&&◌, ◌||◌, not, if◌then◌else◌, nat_le, List, [], ◌∷◌, ◌++◌, length, slice_index, Option, Some, None, Result, Ok, Err}
+use Rattle.std.specs.Prelude.{ℕ, zero, suc, ◌+◌, ◌*◌, ◌==◌, Bool, true, false, ◌&&◌, ◌||◌, not, if◌then◌else◌, nat_le, List, [], ◌∷◌, ◌++◌, length, slice_index, Option, Some, None, Result, Ok}
 use lib.Utf8.{scalar}
-use Rattle.granit_base.specs.Classes.{is_blank, is_break, is_hex, hex_value, is_flow, is_printable}
+use Rattle.granit_base.specs.Classes.{is_blank, is_break, is_hex, hex_value, is_printable}
 use Rattle.granit_base.specs.Place.{Mark, first}
 use Rattle.granit_base.specs.declared.style.ScalarStyle.{ScalarStyle}
 use Rattle.granit_base.specs.declared.style.ScalarStyle.TheVariants.{SingleQuoted, DoubleQuoted}

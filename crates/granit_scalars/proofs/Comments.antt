@@ -8,9 +8,9 @@ use Rattle.std.proofs.lemmas.Bool.Decides.{nat_tests}
 use Rattle.granit_base.specs.Classes.{is_break, is_breakz, is_printable, is_z}
 use Rattle.granit_base.specs.Place.{first}
 use Rattle.granit_error.specs.FaultKind.{UnexpectedCharacter}
-use Rattle.granit_model.specs.Comment.{is_comment_char, behind_comment, skipped_comment, comment, comment_of, comment_read, past_comment, CommentRead, IsComment, IsSpoiled, StandsComment, Spoils, ReadsComment}
+use Rattle.granit_model.specs.Comment.{is_comment_char, behind_comment, skipped_comment, comment, comment_of, comment_read, past_comment, CommentRead, IsComment, IsSpoiled, StandsComment, ReadsComment}
 use Rattle.granit_model.specs.Gap.{Each}
-use Rattle.granit_model.specs.Here.{Here, text_len, next_char, mark_of, step, chunk_len, chunk}
+use Rattle.granit_model.specs.Here.{Here, text_len, next_char, mark_of, step, chunk}
 use Rattle.granit_model.specs.Moves.{steps}
 use Rattle.granit_model.specs.Outcome.{Fault, ◌>>=◌}
 use Rattle.granit_model.proofs.HereLemmas.{step_text, not_empty}

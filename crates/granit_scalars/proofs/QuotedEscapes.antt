@@ -1,12 +1,12 @@
 -- What is read behind a backslash: an escape, or what is wrong there.
-use Rattle.std.proofs.Common.{◌≡◌, ℕ, zero, suc, ◌+◌, ◌*◌, ◌<◌, Bool, true, false, ◌==◌, ◌&&◌, cond, List, [], ◌∷◌, ◌++◌, length, drop, refl, sym, ap, ap₂, ◌∙◌, subst, arith, append_assoc, Option, Some, None, Result, Ok, Err, ◌⊎◌, inl, inr}
+use Rattle.std.proofs.Common.{◌≡◌, ℕ, zero, suc, ◌+◌, ◌*◌, ◌<◌, Bool, true, false, ◌==◌, ◌&&◌, List, [], ◌∷◌, ◌++◌, length, drop, refl, sym, ap, ap₂, ◌∙◌, subst, arith, append_assoc, Option, Some, None, Result, Ok, Err, ◌⊎◌, inl, inr}
 use Rattle.std.specs.Prelude.{slice_index, if◌then◌else◌}
 use Rattle.std.proofs.lemmas.Bool.{cond-true, cond-false, and_parts}
 use Rattle.std.proofs.lemmas.Bool.Decides.{nat_tests}
 use lib.Utf8.{scalar}
 use Rattle.granit_base.specs.Classes.{is_digit, is_hex, hex_value}
 use Rattle.granit_base.specs.Place.{Mark, first}
-use Rattle.granit_error.specs.FaultKind.{FaultKind, UnknownQuotedScalarEscape, InvalidQuotedScalarHexEscape, MissingLowSurrogate, InvalidLowSurrogateHexEscape, InvalidLowSurrogate, UnpairedLowSurrogate, InvalidUnicodeEscape}
+use Rattle.granit_error.specs.FaultKind.{FaultKind, InvalidQuotedScalarHexEscape, MissingLowSurrogate, InvalidLowSurrogateHexEscape, InvalidLowSurrogate, UnpairedLowSurrogate, InvalidUnicodeEscape}
 use Rattle.granit_model.specs.Decoding.{letter_value, digit_count, number_behind, number_of, is_high, is_low, joined, AreDigits, Escape, letter, number, halves}
 use Rattle.granit_model.specs.Gap.{Each}
 use Rattle.granit_model.specs.Here.{Here, next_char, step}

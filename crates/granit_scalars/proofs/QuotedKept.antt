@@ -1,10 +1,9 @@
 -- What is kept while a quoted scalar is read: the blanks and breaks that were read since its last content.
-use Rattle.std.proofs.Common.{◌≡◌, ℕ, zero, suc, ◌+◌, ◌==◌, Bool, true, false, cond, not, ◌&&◌, ◌||◌, List, [], ◌∷◌, ◌++◌, length, replicate, refl, sym, ap, ap₂, ◌∙◌, subst, arith, append_assoc, append-nil}
+use Rattle.std.proofs.Common.{◌≡◌, ℕ, zero, suc, ◌+◌, ◌==◌, Bool, true, false, cond, not, ◌&&◌, List, [], ◌∷◌, ◌++◌, length, replicate, refl, sym, ap, ap₂, ◌∙◌, subst, arith, append_assoc, append-nil}
 use Rattle.std.specs.Prelude.{slice_index, if◌then◌else◌}
 use Rattle.std.proofs.lemmas.Bool.Decides.{nat_tests}
-use Rattle.granit_base.specs.Classes.{is_blank, is_break, is_gap}
+use Rattle.granit_base.specs.Classes.{is_blank, is_break}
 use Rattle.granit_base.specs.Place.{first}
-use Rattle.granit_model.specs.Gap.{Each}
 use Rattle.granit_model.specs.Here.{Here, next_char, step}
 use Rattle.granit_model.specs.LayoutData.{LayoutData}
 use Rattle.granit_model.specs.PlainExtent.{over}
@@ -15,7 +14,6 @@ use Rattle.granit_model.proofs.HereLemmas.{not_empty}
 use Rattle.granit_scalars.proofs.Folding.{blank_apart_from_break}
 use Rattle.granit_scalars.proofs.PlainKept.{one_more_blank, over_one, text_one, one_more}
 use Rattle.granit_scalars.proofs.PlainTurns.{seen_blank}
-use Rattle.granit_scalars.proofs.QuotedEscapes.{text_behind}
 use Rattle.granit_scalars.proofs.QuotedTurns.{tab_meets}
 use Rattle.granit_scalars.proofs.Stepping.{over-append, Seen, seen, column_on, broken, second_of, is_break_nul}
 

@@ -1,17 +1,15 @@
 -- The plain function answers the quoted scalar that stands there, or refuses it with its cause.
-use Rattle.std.proofs.Common.{◌≡◌, ℕ, ◌==◌, Bool, true, false, List, [], ◌∷◌, ◌++◌, Option, Result, Ok, Err, refl, sym, ap, ap₂, ◌∙◌, subst}
-use Rattle.granit_base.specs.Place.{Mark, first}
-use Rattle.granit_model.specs.Comment.{CommentRead}
+use Rattle.std.proofs.Common.{◌≡◌, ℕ, ◌==◌, Bool, true, false, List, [], ◌∷◌, ◌++◌, Result, Ok, Err, refl, ap, ap₂, ◌∙◌, subst}
 use Rattle.granit_model.specs.Here.{Here, next_char, mark_of, step}
 use Rattle.granit_model.specs.LayoutData.{LayoutData}
 use Rattle.granit_model.specs.Outcome.{Fault, ◌>>=◌}
 use Rattle.granit_model.specs.Pieces.{pieces}
-use Rattle.granit_model.specs.QuotedExtent.{Between, Blanks, QuotedFront, QuotedStands, front_end, quoted_end, quoted_value, Trails, AnswersQuoted, WrongInside, WrongBehind, RefusesQuoted, inside, behind}
+use Rattle.granit_model.specs.QuotedExtent.{Between, Blanks, QuotedFront, QuotedStands, quoted_end, quoted_value, Trails, AnswersQuoted, WrongInside, WrongBehind, RefusesQuoted, inside, behind}
 use Rattle.granit_model.specs.QuotedScalar.{QuotedState, QuotedRead, quote_char, quoted_at, between_quoted, quoted_turn, quoted_len, quoted_read, quoted_tail, quoted_scalar}
 use Rattle.granit_scalars.proofs.QuotedKept.{quoted_fresh}
 use Rattle.granit_scalars.proofs.QuotedReads.{QuotedFinds, QuotedReads, quoted_reads}
 use Rattle.granit_scalars.proofs.QuotedTail.{TailReads, tail_reads}
-use Rattle.granit_scalars.proofs.Stepping.{Seen, seen}
+use Rattle.granit_scalars.proofs.Stepping.{seen}
 
 abbrev pub QuotedAnswered : Bool → LayoutData → Here → Result (QuotedRead × Here) Fault → Type 0
 QuotedAnswered single at h (Ok (read, after)) = AnswersQuoted single at h read after

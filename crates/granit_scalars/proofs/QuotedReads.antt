@@ -1,21 +1,21 @@
 -- What is read from a state on: the rest of a quoted scalar up to its closing quote, or what is wrong in it.
-use Rattle.std.proofs.Common.{◌≡◌, ℕ, suc, ◌==◌, Bool, true, false, cond, not, ◌&&◌, ◌||◌, List, [], ◌∷◌, ◌++◌, length, drop, Option, Some, None, Result, Ok, Err, refl, sym, ap, ap₂, ◌∙◌, subst, arith, append_assoc, append-nil}
+use Rattle.std.proofs.Common.{◌≡◌, ℕ, ◌==◌, Bool, true, false, not, ◌&&◌, ◌||◌, List, [], ◌∷◌, ◌++◌, length, Option, Result, Ok, Err, refl, sym, ap, ap₂, ◌∙◌, subst, arith, append_assoc, append-nil}
 use Rattle.std.specs.Prelude.{slice_index}
 use Rattle.std.proofs.lemmas.Bool.{and_parts}
 use Rattle.std.proofs.lemmas.Bool.Decides.{nat_tests}
-use Rattle.granit_base.specs.Classes.{is_blank, is_break, is_gap, is_printable}
+use Rattle.granit_base.specs.Classes.{is_break, is_gap, is_printable}
 use Rattle.granit_base.specs.Place.{Mark, first}
-use Rattle.granit_error.specs.FaultKind.{FaultKind, InvalidIndentation, UnclosedQuotedScalar, DocumentIndicatorInQuotedScalar, TabInIndentation, InvalidQuotedScalarIndent, UnexpectedCharacter}
+use Rattle.granit_error.specs.FaultKind.{InvalidIndentation, UnclosedQuotedScalar, DocumentIndicatorInQuotedScalar, TabInIndentation, InvalidQuotedScalarIndent, UnexpectedCharacter}
 use Rattle.granit_model.specs.Here.{Here, next_char, mark_of, step, text_len}
 use Rattle.granit_model.specs.LayoutData.{LayoutData}
 use Rattle.granit_model.specs.Outcome.{Fault, ◌>>=◌}
 use Rattle.granit_model.specs.Pieces.{with_front, pieces}
 use Rattle.granit_model.specs.PlainExtent.{over}
 use Rattle.granit_model.specs.PlainScalar.{is_document_mark}
-use Rattle.granit_model.specs.QuotedExtent.{Between, Blanks, Lines, Separates, between_text, is_literal, Piece, itself, doubled, escape as escape_piece, before_break, MayStand, Inside, nothing, content, quoted_value, WrongEscape, WrongInside, tab, strict, loose, mark, end, character, escape}
+use Rattle.granit_model.specs.QuotedExtent.{Between, Blanks, Lines, Separates, between_text, is_literal, Piece, itself, doubled, escape as escape_piece, before_break, MayStand, Inside, nothing, content, quoted_value, WrongInside, tab, strict, loose, mark, end, character, escape}
 use Rattle.granit_model.specs.QuotedScalar.{QuotedState, quote_char, is_closing, is_tab_left, is_strictly_left, is_loosely_left, between_quoted, quoted_at, over_blank, over_break, quoted_piece, quoted_content, quoted_turn, quoted_len, escape_or}
 use Rattle.granit_model.proofs.HereLemmas.{not_empty}
-use Rattle.granit_scalars.proofs.QuotedEscapes.{EscapeRead, ReadsEscape, reads_escape}
+use Rattle.granit_scalars.proofs.QuotedEscapes.{ReadsEscape, reads_escape}
 use Rattle.granit_scalars.proofs.QuotedKept.{StateIs, QuotedStays, quoted_fresh, between_is, QuotedGoes, quoted_blank, quoted_break}
 use Rattle.granit_scalars.proofs.QuotedTurns.{tab_meets, strict_meets, loose_meets, mark_meets, Placed, QuotedTurned, past_a_blank, at_a_tab, past_a_break, at_strict, at_loose, at_a_mark, at_the_end, at_a_character, at_the_quote, in_content, quoted_turned, ContentTurned, at_a_doubled, at_itself, at_escaped_break, at_an_escape, content_turned, seen_there, quoted_shortens}
 use Rattle.granit_scalars.proofs.Stepping.{over-append, Seen, seen_as, second_of}

@@ -1,13 +1,13 @@
 -- A quoted scalar that stands somewhere is read.
-use Rattle.std.proofs.Common.{◌≡◌, ℕ, zero, suc, ◌+◌, ◌==◌, Bool, true, false, cond, not, ◌&&◌, ◌||◌, List, [], ◌∷◌, ◌++◌, length, replicate, Option, Some, None, Result, Ok, Err, refl, sym, ap, ap₂, ◌∙◌, subst, arith, append_assoc, append-nil, add-zero}
+use Rattle.std.proofs.Common.{◌≡◌, ℕ, suc, ◌+◌, ◌==◌, Bool, true, false, cond, not, ◌&&◌, ◌||◌, List, [], ◌∷◌, ◌++◌, length, Some, None, Result, Ok, refl, sym, ap, ap₂, ◌∙◌, subst, arith, append_assoc, append-nil, add-zero}
 use Rattle.std.specs.Prelude.{slice_index, if◌then◌else◌}
-use Rattle.std.proofs.lemmas.Bool.{cond-true, cond-false, and_parts}
+use Rattle.std.proofs.lemmas.Bool.{and_parts}
 use Rattle.std.proofs.lemmas.Bool.Decides.{nat_tests}
 use Rattle.granit_base.specs.Classes.{is_blank, is_break, is_gap, is_printable}
 use Rattle.granit_base.specs.Place.{Mark, first}
 use Rattle.granit_model.specs.Decoding.{letter_value, digit_count, Escape, letter, number, halves}
 use Rattle.granit_model.specs.Gap.{Each}
-use Rattle.granit_model.specs.Here.{Here, next_char, mark_of, step, text_len}
+use Rattle.granit_model.specs.Here.{Here, next_char, step, text_len}
 use Rattle.granit_model.specs.LayoutData.{LayoutData}
 use Rattle.granit_model.specs.Outcome.{Fault, ◌>>=◌}
 use Rattle.granit_model.specs.Pieces.{with_front, pieces}
@@ -23,7 +23,7 @@ use Rattle.granit_scalars.proofs.PlainReads.{neither_gap}
 use Rattle.granit_scalars.proofs.QuotedEscapes.{text_behind, over_text, escape_is}
 use Rattle.granit_scalars.proofs.QuotedKept.{StateIs, between_is, is_line_blank, is_indent_blank, is_first_break, is_further_break}
 use Rattle.granit_scalars.proofs.QuotedTurns.{tab_meets, strict_meets, loose_meets, mark_meets, Placed, turn_chain, turn_is, quoted_shortens}
-use Rattle.granit_scalars.proofs.Stepping.{over-append, Seen, seen_as, column_on, broken, second_of}
+use Rattle.granit_scalars.proofs.Stepping.{over-append, seen_as, column_on, broken}
 
 abbrev run : Bool → LayoutData → Mark → QuotedState → Result (List ℕ × QuotedState) Fault
 run single at start s = pieces quoted_len (quoted_turn single at start) s
