@@ -53,7 +53,7 @@ breaks : (c : ℕ) → is_comment_char c ≡ false → is_printable c ≡ true �
 unfolding is_printable is_break is_breakz is_z
 breaks c stops prints = grind (arith, nat_tests, stops, prints)
 
-abbrev with_text : Here → Result (Unit {0} × Here) Fault → Result (CommentRead × Here) Fault
+abbrev pub with_text : Here → Result (Unit {0} × Here) Fault → Result (CommentRead × Here) Fault
 with_text h s = s >>= λ x. Ok (comment_read h x.1, x.1)
 
 -- ---- what is true of it
