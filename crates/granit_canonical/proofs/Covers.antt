@@ -6,7 +6,7 @@ use Rattle.std.specs.Prelude.{IfSome}
 use Rattle.granit_base.specs.Classes.{is_gap, is_blank, is_break, is_flow, is_printable, is_yaml_non_break, is_yaml_non_space, is_anchor_char, is_bom}
 use Rattle.granit_base.specs.Place.{first}
 use Rattle.granit_base.specs.declared.style.ScalarStyle.TheVariants.{DoubleQuoted}
-use Rattle.granit_model.specs.Canonical.{AreCharacters, tag_width, properties_width, tree_width, entries_width, pairs_width, documents_width, entry_offset, pair_offset, source_at, name_at, lent, tag_at, anchor_at, properties_at, quoted_value, scalar_at, node_at, sequence_at, mapping_at, entry_lead_at, pair_lead_at, documents_in}
+use Rattle.granit_model.specs.Canonical.{AreCharacters, tag_width, properties_width, tree_width, entries_width, pairs_width, documents_width, entry_offset, pair_offset, source_at, lent, tag_at, anchor_at, properties_at, quoted_value, scalar_at, node_at, sequence_at, mapping_at, entry_lead_at, pair_lead_at, documents_in}
 use Rattle.granit_model.specs.Extent.{Spells, dashes, left_square, right_square, left_curly, right_curly, comma, question, colon, verbatim, anchor, alias, quoted, MayBegin, MayFollow}
 use Rattle.granit_model.specs.FlowText.{tag_bytes, quoted_characters, tag_text, anchor_text, properties_text, comma_unless, tree_text, entries_text, pairs_text, documents_text}
 use Rattle.granit_model.specs.Gap.{IsGap, Parts}
@@ -18,7 +18,7 @@ use Rattle.granit_model.specs.Tree.{Properties, PlainTree, AliasOf, ScalarOf, Se
 use Rattle.granit_model.specs.Yield.{lexeme, spell_tag, spell_anchor, spell_properties, spell, spell_entry_lead, spell_pair_lead, spell_documents}
 use Rattle.granit_lexing.proofs.LexingRuns.{rest_of}
 use Rattle.granit_lexing.proofs.Places.{column_behind}
-use Rattle.granit_canonical.proofs.Fronts.{Fronts, both_long, tag_bytes_front, tag_front, anchor_front, properties_front, quoted_front, tree_front, entries_front, pairs_front, documents_front, entry_offset_front, pair_offset_front}
+use Rattle.granit_canonical.proofs.Fronts.{Fronts, both_long, tag_bytes_front, tag_front, properties_front, quoted_front, tree_front, entries_front, pairs_front, documents_front, entry_offset_front, pair_offset_front}
 use Rattle.granit_canonical.proofs.Naming.{utf8_bytes, bytes_spell, uri_some, each_of}
 use Rattle.granit_canonical.proofs.Nesting.{settled, owing, own_sequence, own_mapping, spell_pair_at}
 use Rattle.granit_canonical.proofs.Quoting.{content_of}

@@ -1,5 +1,5 @@
 -- What is written for a tag spells it, and names are of characters that a name may have.
-use Rattle.std.proofs.Common.{◌≡◌, ◌≢◌, ℕ, zero, suc, ◌+◌, ◌*◌, ◌/◌, ◌%◌, ◌<◌, ◌==◌, Bool, true, false, cond, ◌||◌, ◌&&◌, List, [], ◌∷◌, ◌++◌, length, refl, sym, ap, ap₂, ◌∙◌, subst, arith}
+use Rattle.std.proofs.Common.{◌≡◌, ◌≢◌, ℕ, suc, ◌+◌, ◌/◌, ◌%◌, ◌<◌, ◌==◌, Bool, true, false, cond, ◌||◌, List, [], ◌∷◌, ◌++◌, length, refl, sym, ap, ◌∙◌, subst, arith}
 use Rattle.std.proofs.lemmas.Bool.Decides.{nat_tests}
 use Rattle.std.proofs.lemmas.Str.{length-encode, len_utf8_bounds}
 use Rattle.std.specs.List.{AllPass}
@@ -7,7 +7,7 @@ use Rattle.std.specs.Str.{encode_utf8_all}
 use lib.Dec.{ltb}
 use lib.Utf8.{scalar, scalars, scalar_cases, next, encode}
 use mathlib.Core.Logic.{⊎_elim}
-use Rattle.granit_base.specs.Classes.{is_within, is_digit, is_word_char, is_uri_sign, is_uri_char}
+use Rattle.granit_base.specs.Classes.{is_digit, is_word_char, is_uri_sign, is_uri_char}
 use Rattle.granit_model.specs.Decoding.{UriBytes, nothing, itself, percent}
 use Rattle.granit_model.specs.FlowText.{two_digits, tag_byte, tag_bytes}
 use Rattle.granit_model.specs.Gap.{Each}

@@ -1,5 +1,5 @@
 -- Trees that are no deeper than allowed open no more brackets at once than allowed.
-use Rattle.std.proofs.Common.{◌≡◌, ℕ, ◌+◌, ◌≤◌, Bool, false, true, max, List, [], ◌∷◌, length, Option, Some, None, refl, sym, subst, arith}
+use Rattle.std.proofs.Common.{◌≡◌, ℕ, ◌+◌, ◌≤◌, Bool, false, true, max, List, ◌∷◌, length, Option, Some, None, refl, sym, subst, arith}
 use Rattle.granit_model.specs.Canonical.{tag_width, tag_at, anchor_at, properties_at, properties_width, node_at, sequence_at, mapping_at, entry_lead_at, pair_lead_at, documents_in, entry_offset, pair_offset, documents_width, tree_width, entries_width, pairs_width, source_at}
 use Rattle.granit_model.specs.Lexeme.{Lexeme, DocumentStart, SequenceOpen, SequenceClose, MappingOpen, MappingClose, Comma, Question, Colon}
 use Rattle.granit_model.specs.Node.{NodeProperties, no_properties}
@@ -11,7 +11,7 @@ use Rattle.granit_model.specs.Yield.{lexeme, spell_tag, spell_anchor, spell_prop
 abbrev pub settled : Before → Before
 settled b = record { openers = b.openers; owes_gap = false }
 
--- and whether one is, told
+-- the same brackets are open, and a gap is wanted or not
 abbrev pub owing : Bool → Before → Before
 owing owes b = record { openers = b.openers; owes_gap = owes }
 

@@ -1,5 +1,5 @@
 -- Trees that fit and are of characters can be spelled: what each node of theirs asks for, without scope.
-use Rattle.std.proofs.Common.{◌≡◌, ℕ, zero, suc, ◌+◌, ◌<◌, List, [], ◌∷◌, Option, Some, None, subst, arith}
+use Rattle.std.proofs.Common.{ℕ, zero, suc, List, [], ◌∷◌, Option, Some, None, subst, arith}
 use Rattle.std.specs.Prelude.{IfSome}
 use Rattle.std.specs.List.{All}
 use Rattle.granit_model.specs.Canonical.{AreCharacters, PropertiesHaveCharacters, TreeHasCharacters, HasCharacters, PairsHaveCharacters}

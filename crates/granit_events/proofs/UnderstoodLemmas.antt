@@ -13,7 +13,7 @@ use Rattle.granit_model.specs.Reading.{Reading}
 use Rattle.granit_model.specs.Tree.{PlainTrees}
 use Rattle.granit_model.specs.Yield.{spell_documents}
 use Rattle.granit_canonical.proofs.Characters.{is_utf8, is_of_it}
-use Rattle.granit_canonical.proofs.Laws.{is_read}
+use Rattle.granit_canonical.proofs.Laws.{is_read, names_anchors}
 use Rattle.granit_laws.proofs.Laws.{is_reading, is_answered, has_cause}
 use Rattle.granit_events.specs.Came.{CameWhole}
 use Rattle.granit_events.specs.Ended.{Ended, Fixes, CallsFor, IsOrYields, machine_answer}
@@ -61,7 +61,7 @@ module _ (words : List Written) (left now written after : Option (List ℕ)) whe
 
 -- a text with a reading calls for its events
 pub calls_for_done : (words : List Written) (left : Option (List ℕ)) → (r : CanRead words left) → CallsFor words r.bytes status.Done
-calls_for_done words left r = (r.right, r.fits, r.utf8, (events (chars r.bytes) r.documents, is_answered default_options (chars r.bytes) r.lexemes r.documents r.reading))
+calls_for_done words left r = (r.right, r.fits, r.utf8, (events default_options (chars r.bytes) r.documents, is_answered default_options (chars r.bytes) r.lexemes r.documents r.reading r.resolves))
 
 -- and is answered so, where no count rose
 pub done_or_memory : (s : Status) (source sink : Type 0) → IsOrYields status.Done s → (s ≡ status.ReadFault → source) → (s ≡ status.WriteFault → sink) → (source → ⊥) → (sink → ⊥) → (s ≡ status.Done) ⊎ (s ≡ status.NoMemory)
@@ -75,29 +75,29 @@ module _ (words : List Written) (left now written after : Option (List ℕ)) (ts
   canonical_reading : Reading default_options (chars (encode_utf8_all (flow_characters ts))) (spell_documents (documents_in (flow_characters ts) ts) []) (documents_in (flow_characters ts) ts)
   canonical_reading =
       let x = flow_characters ts in
-      subst (λ (y : List ℕ). Reading default_options y (spell_documents (documents_in x ts) []) (documents_in x ts)) (sym (is_of_it ts h.bare h.characters)) (is_read default_options ts h.bare h.characters h.depth)
+      subst (λ (y : List ℕ). Reading default_options y (spell_documents (documents_in x ts) []) (documents_in x ts)) (sym (is_of_it ts h.characters)) (is_read default_options ts h.trees_fit h.characters h.depth)
 
   -- and its events are answered
-  canonical_answer : machine_answer (encode_utf8_all (flow_characters ts)) ≡ Ok (canonical_events ts)
+  canonical_answer : machine_answer (encode_utf8_all (flow_characters ts)) ≡ Ok (canonical_events default_options ts)
   canonical_answer =
       let x = flow_characters ts in
-      is_answered default_options (chars (encode_utf8_all x)) (spell_documents (documents_in x ts) []) (documents_in x ts) canonical_reading
-      ∙ ap (λ (y : List ℕ). Ok (events y (documents_in x ts))) (is_of_it ts h.bare h.characters)
+      is_answered default_options (chars (encode_utf8_all x)) (spell_documents (documents_in x ts) []) (documents_in x ts) canonical_reading (names_anchors default_options ts h.trees_fit)
+      ∙ ap (λ (y : List ℕ). Ok (events default_options y (documents_in x ts))) (is_of_it ts h.characters)
 
   canonical_calls : CallsFor words (encode_utf8_all (flow_characters ts)) status.Done
-  canonical_calls = (h.right, h.fits, is_utf8 ts h.bare h.characters, (canonical_events ts, canonical_answer))
+  canonical_calls = (h.right, h.fits, is_utf8 ts h.characters, (canonical_events default_options ts, canonical_answer))
 
-  canonical_lines : WholeOutput (Ended words left now) written after status.Done → Appends written after (event_lines (canonical_events ts))
+  canonical_lines : WholeOutput (Ended words left now) written after status.Done → Appends written after (event_lines (canonical_events default_options ts))
   canonical_lines w =
       let c = w.called in
       let answer = c.1.2.1 in
       let same = whole_bytes (encode_utf8_all (flow_characters ts)) c.1.0 now (subst (λ (o : Option (List ℕ)). CameWhole o now c.1.0) h.told c.1.1) in
-      let given : machine_answer c.1.0 ≡ Ok (canonical_events ts) = subst (λ (bytes : List ℕ). machine_answer bytes ≡ Ok (canonical_events ts)) same canonical_answer in
-      let both : ◌≡◌ {A = Result (List PlainEvent) Fault} (Ok answer.0) (Ok (canonical_events ts)) = sym answer.1 ∙ given in
-      let those : answer.0 ≡ canonical_events ts = cc in
+      let given : machine_answer c.1.0 ≡ Ok (canonical_events default_options ts) = subst (λ (bytes : List ℕ). machine_answer bytes ≡ Ok (canonical_events default_options ts)) same canonical_answer in
+      let both : ◌≡◌ {A = Result (List PlainEvent) Fault} (Ok answer.0) (Ok (canonical_events default_options ts)) = sym answer.1 ∙ given in
+      let those : answer.0 ≡ canonical_events default_options ts = cc in
       subst (λ (output : List ℕ). Appends written after output) (answer.2 ∙ ap event_lines those) w.wrote
 
-  prints_or_memory : (s : Status) → (Fixes s → WholeOutput (Ended words left now) written after s) → (s ≡ status.Done) ⊎ (s ≡ status.NoMemory) → ((s ≡ status.Done) × Appends written after (event_lines (canonical_events ts))) ⊎ (s ≡ status.NoMemory)
+  prints_or_memory : (s : Status) → (Fixes s → WholeOutput (Ended words left now) written after s) → (s ≡ status.Done) ⊎ (s ≡ status.NoMemory) → ((s ≡ status.Done) × Appends written after (event_lines (canonical_events default_options ts))) ⊎ (s ≡ status.NoMemory)
   prints_or_memory s w (inl e) = inl (e, canonical_lines (subst (λ (t : Status). Fixes t → WholeOutput (Ended words left now) written after t) e w tt))
   prints_or_memory s w (inr e) = inr e
 
@@ -105,7 +105,7 @@ module _ (words : List Written) (left now written after : Option (List ℕ)) (ts
   pub canonical_run :
       (s : Status) (source sink : Type 0) → (Fixes s → WholeOutput (Ended words left now) written after s) → ((bytes : List ℕ) (wanted : Status) → left ≡ Some bytes → CallsFor words bytes wanted → IsOrYields wanted s)
       → (s ≡ status.ReadFault → source) → (s ≡ status.WriteFault → sink) → (source → ⊥) → (sink → ⊥)
-      → ((s ≡ status.Done) × Appends written after (event_lines (canonical_events ts))) ⊎ (s ≡ status.NoMemory)
+      → ((s ≡ status.Done) × Appends written after (event_lines (canonical_events default_options ts))) ⊎ (s ≡ status.NoMemory)
   canonical_run s source sink w y r u a b =
       prints_or_memory s w
       (done_or_memory s source sink (y (encode_utf8_all (flow_characters ts)) status.Done h.told canonical_calls) r u a b)

@@ -1,10 +1,10 @@
 -- What the statuses Done and Fault say of the text itself.
-use Rattle.std.specs.Prelude.{◌≡◌, ℕ, ◌≤◌, List, length, Option, Some}
+use Rattle.std.specs.Prelude.{◌≡◌, ℕ, ◌≤◌, List, [], length, Option, Some}
 use Rattle.std.specs.Io.KnownBytes.{Appends}
 use Rattle.std.specs.Str.{chars, IsUtf8, encode_utf8_all}
 use Rattle.granit_base.specs.Written.{Written}
 use Rattle.granit_error.specs.OptionsData.{default_options}
-use Rattle.granit_model.specs.Canonical.{Bare, HasCharacters}
+use Rattle.granit_model.specs.Canonical.{HasCharacters}
 use Rattle.granit_model.specs.Cause.{Cause}
 use Rattle.granit_model.specs.FlowText.{flow_characters}
 use Rattle.granit_model.specs.Lexeme.{Lexeme}
@@ -13,7 +13,8 @@ use Rattle.granit_model.specs.Node.{Documents}
 use Rattle.granit_model.specs.Outcome.{Fault}
 use Rattle.granit_model.specs.PlainEvent.{PlainEvent}
 use Rattle.granit_model.specs.Reading.{IsReading, Reading}
-use Rattle.granit_model.specs.Tree.{PlainTrees, trees_depth}
+use Rattle.granit_model.specs.Scope.{Resolves}
+use Rattle.granit_model.specs.Tree.{PlainTrees, trees_depth, DocumentsFit}
 use Rattle.granit_events.specs.Came.{most_bytes, CameWhole}
 use Rattle.granit_events.specs.Ended.{AreRight}
 
@@ -37,7 +38,8 @@ pub record PrintsFault (words : List Written) (left now : Option (List ℕ)) (wr
   pub cause : Cause default_options (chars bytes) fault.kind fault.mark
   pub wrote : Appends written after (fault_line fault)
 
--- the words are right, and a source has the UTF-8 of a text left that has a reading, within the limit of an input
+-- The words are right, and a source has the UTF-8 of a text left that has a reading, each alias of which names an anchor
+-- before it in its document, within the limit of an input.
 pub record CanRead (words : List Written) (left : Option (List ℕ)) : Type 0 where
   pub right : AreRight words
   pub bytes : List ℕ
@@ -47,13 +49,14 @@ pub record CanRead (words : List Written) (left : Option (List ℕ)) : Type 0 wh
   pub lexemes : List Lexeme
   pub documents : Documents
   pub reading : Reading default_options (chars bytes) lexemes documents
+  pub resolves : Resolves default_options [] lexemes
 
 -- the words are right, and a source has the UTF-8 of the canonical flow text of trees left, within the limit of an input: the
--- trees have neither properties nor aliases, are of characters, and no deeper than allowed
+-- trees fit to be documents, are of characters, and no deeper than allowed
 pub record HasCanonical (words : List Written) (left : Option (List ℕ)) (ts : PlainTrees) : Type 0 where
   pub right : AreRight words
   pub told : left ≡ Some (encode_utf8_all (flow_characters ts))
   pub fits : length (encode_utf8_all (flow_characters ts)) ≤ most_bytes
-  pub bare : Bare ts
+  pub trees_fit : DocumentsFit ts
   pub characters : HasCharacters ts
   pub depth : trees_depth ts ≤ default_options.flow_nesting_limit

@@ -1,6 +1,7 @@
 //! All that the program does.
 ghost use Rattle.std.specs.Prelude.{◌≡◌, ℕ, ◌⊎◌, List, Some};
 ghost use Rattle.std.specs.Io.KnownBytes.{Appends, IsAtEnd, Keeps};
+ghost use Rattle.granit_error.specs.OptionsData.{default_options};
 ghost use Rattle.granit_model.specs.Canonical.{canonical_events};
 ghost use Rattle.granit_model.specs.Line.{event_lines};
 ghost use Rattle.granit_model.specs.Tree.{PlainTrees};
@@ -56,8 +57,9 @@ pub(crate) fn run_once<S: Source, W: Sink>(
 /// The contract: each status names its cause and fixes the output (`ended` and the clauses behind
 /// it), and which status the words and bytes call for (`usage`, `exactly`). Events that were
 /// printed are those of the documents as which the text is read (`read`), a fault has its cause at
-/// its mark (`caused`), and a text with a reading is answered (`answered`). The canonical flow text
-/// of trees without properties and aliases is printed as those trees' events (`canonical`).
+/// its mark (`caused`), and a text with a reading whose aliases name anchors is answered
+/// (`answered`). The canonical flow text of trees that fit is printed as those trees' events
+/// (`canonical`).
 pub fn run<S: Source, W: Sink>(
     alloc: Global,
     words: &TextList,
@@ -77,7 +79,7 @@ pub fn run<S: Source, W: Sink>(
     ensures read { result ≡ status.Done → PrintsReading words.now (S.left source.old) (S.left source.new) (W.written sink.old) (W.written sink.new) }
     ensures caused { result ≡ status.Fault → PrintsFault words.now (S.left source.old) (S.left source.new) (W.written sink.old) (W.written sink.new) }
     ensures answered { CanRead words.now (S.left source.old) → (Rose (S.faults source.old) (S.faults source.new) → ⊥) → (Rose (W.faults sink.old) (W.faults sink.new) → ⊥) → (result ≡ status.Done) ⊎ (result ≡ status.NoMemory) }
-    ensures canonical { (ts : PlainTrees) → HasCanonical words.now (S.left source.old) ts → (Rose (S.faults source.old) (S.faults source.new) → ⊥) → (Rose (W.faults sink.old) (W.faults sink.new) → ⊥) → ((result ≡ status.Done) × Appends (W.written sink.old) (W.written sink.new) (event_lines (canonical_events ts))) ⊎ (result ≡ status.NoMemory) }
+    ensures canonical { (ts : PlainTrees) → HasCanonical words.now (S.left source.old) ts → (Rose (S.faults source.old) (S.faults source.new) → ⊥) → (Rose (W.faults sink.old) (W.faults sink.new) → ⊥) → ((result ≡ status.Done) × Appends (W.written sink.old) (W.written sink.new) (event_lines (canonical_events default_options ts))) ⊎ (result ≡ status.NoMemory) }
 {
     run_once(alloc, words, source, sink)
 }

@@ -1,8 +1,8 @@
 -- The spans of events are spans of the text.
-use Rattle.std.proofs.Common.{◌≡◌, ℕ, ◌+◌, ◌-◌, ◌≤◌, ◌<◌, List, [], ◌∷◌, ◌++◌, length, drop, length-drop, length-append, Option, Some, None, refl, sym, ap, subst, arith}
+use Rattle.std.proofs.Common.{◌≡◌, ℕ, ◌+◌, ◌-◌, ◌≤◌, ◌<◌, List, [], ◌∷◌, ◌++◌, length, drop, length-drop, length-append, Option, Some, None, refl, sym, ap, ap₂, subst, arith}
 use Rattle.granit_base.specs.Place.{Mark}
 use Rattle.granit_error.specs.OptionsData.{OptionsData}
-use Rattle.granit_model.specs.Events.{TagStands, StandsIn, SpansIn, tagged_span, events}
+use Rattle.granit_model.specs.Events.{TagStands, StandsIn, SpansIn, told_length, tagged_span, events}
 use Rattle.granit_model.specs.Lexeme.{Lexeme, LexemeKind, Tag, Source}
 use Rattle.granit_model.specs.Node.{TagAt, Documents}
 use Rattle.granit_model.specs.Place.{mark_at}
@@ -41,13 +41,11 @@ lexemes_in {x = x} w (goes_on {i = i} {l = l} g cs behind s p q is r) =
     } in
     (here, lexemes_in u r)
 
-tag_stands : (x : List ℕ) (suffix : List ℕ) (s : Source) → LexemeIn x (lexeme (Tag suffix) s) → TagStands x s.start (s.end.place.index - s.start.place.index)
+tag_stands : (x : List ℕ) (suffix : List ℕ) (s : Source) → LexemeIn x (lexeme (Tag suffix) s) → TagStands x s.start (told_length (s.end.place.index - s.start.place.index))
 tag_stands x suffix s h =
     let first : s.start.place.index ≡ h.from = ap (λ (m : Mark). m.place.index) h.starts in
     let last : s.end.place.index ≡ h.to = ap (λ (m : Mark). m.place.index) h.ends in
-    let some = h.some in
-    let inside = h.inside in
-    record { from = h.from; some = omega (arith, first, last, some); inside = omega (arith, first, last, some, inside); counted = h.starts }
+    record { from = h.from; to = h.to; some = h.some; inside = h.inside; counted = h.starts; told = ap₂ (λ (to from : ℕ). told_length (to - from)) last first }
 
 tagged_in : (x : List ℕ) (t : Option TagAt) (k : LexemeKind) (s : Source) → TagHolds (LexemeIn x) t → LexemeIn x (lexeme k s) → StandsIn x (tagged_span t s)
 tagged_in x None k s g h = let some = h.some in record { from = h.from; to = h.to; in_order = omega (arith, some); inside = h.inside; starts = h.starts; ends = h.ends; no_indent = refl; tag = refl }

@@ -12,10 +12,6 @@ prints_under o text = answer_lines (events_of o text)
 abbrev pub prints : List ℕ → List ℕ
 prints text = prints_under default_options text
 
--- Anchor events are asked for
-abbrev pub telling_anchors : OptionsData
-telling_anchors = record default_options { emit_anchor_events = true }
-
 -- aliases of no anchor may stay
 abbrev pub leaving_aliases : OptionsData
 leaving_aliases = record default_options { emit_unresolved_aliases = true }

@@ -1,7 +1,8 @@
 //! Worked examples of the plain machine, by computation. Their lines come from the original and from an
 //! independent judge of the grammar. What begins no escape has other kinds in the original: those rows are stated.
 ghost use Rattle.std.specs.Prelude.{◌≡◌, [], codes};
-ghost use Rattle.granit_laws.specs.Examples.{prints, prints_under, telling_anchors, leaving_aliases};
+ghost use Rattle.granit_laws.specs.Examples.{prints, prints_under, leaving_aliases};
+ghost use Rattle.granit_lexing.specs.Examples.{telling_anchors};
 
 /// Texts that are read.
 pub fn lines_of_the_examples()

@@ -1,3 +1,4 @@
+pub mod BoolLemmas
 pub mod CommentLemmas
 pub mod GivenLemmas
 pub mod MoveLemmas

@@ -1,17 +1,16 @@
 -- Moves over several characters of a line.
-use Rattle.std.proofs.Common.{◌≡◌, ℕ, zero, suc, ◌+◌, ◌<◌, ◌≤◌, ◌==◌, Bool, true, false, not, ◌&&◌, List, [], ◌∷◌, length, drop, inl, inr, refl, sym, ap, ◌∙◌, subst, arith}
-use Rattle.std.proofs.lemmas.List.{drop-drop}
+use Rattle.std.proofs.Common.{◌≡◌, ℕ, zero, suc, ◌+◌, ◌<◌, ◌≤◌, ◌==◌, Bool, true, false, not, List, [], ◌∷◌, length, drop, inl, inr, refl, sym, ap, ◌∙◌, subst, arith}
 use Rattle.std.proofs.lemmas.Bool.{cases_Bool, eqb-true}
 use Rattle.std.proofs.lemmas.Bool.Decides.{nat_tests}
-use Rattle.granit_base.specs.Classes.{is_blank, is_break, is_breakz, is_blank_or_breakz, is_printable}
+use Rattle.granit_base.specs.Classes.{is_blank, is_break, is_breakz, is_blank_or_breakz}
 use Rattle.granit_base.specs.Place.{Place, Unread, first, ends_line}
 use Rattle.granit_input.specs.Unread.{past}
 use Rattle.granit_input.specs.Runs.{run_length, starts, is_line_char, is_non_breakz, is_plain_at, is_quoted_char}
 use Rattle.granit_input.proofs.UnreadLemmas.{past_none, past_one, past_text, past_twice}
 use Rattle.granit_model.specs.Here.{Here, next_char, step}
 use Rattle.granit_model.specs.Moves.{steps, past_prefix_mark}
-use Rattle.granit_model.proofs.HereLemmas.{step_text}
 use Rattle.granit_lex.specs.Reading.{Reading, Stands}
+use Rattle.granit_lex.proofs.BoolLemmas.{and_left}
 
 -- no character that passes a test ends a line
 abbrev pub KeepsLine : (List ℕ → Bool) → Type 0
@@ -99,10 +98,6 @@ non_breakz_line = keeps_line is_non_breakz refl refl
 pub quoted_line : (single : Bool) → KeepsLine (starts (is_quoted_char single))
 quoted_line true = keeps_line (is_quoted_char true) refl refl
 quoted_line false = keeps_line (is_quoted_char false) refl refl
-
-and_left : (a b : Bool) → (a && b) ≡ true → a ≡ true
-and_left true b held = refl
-and_left false b held = absurd cc
 
 abbrev no_separator : ℕ → Bool
 no_separator c = not (is_blank_or_breakz c)

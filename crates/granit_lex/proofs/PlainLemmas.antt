@@ -1,21 +1,21 @@
 -- A plain scalar, a stretch of content a turn.
-use Rattle.std.proofs.Common.{◌≡◌, ℕ, zero, suc, ◌+◌, ◌<◌, ◌≤◌, ◌==◌, Bool, true, false, not, ◌&&◌, ◌||◌, if◌then◌else◌, List, [], ◌∷◌, ◌++◌, length, take, drop, Option, Some, None, Result, Ok, Err, refl, sym, ap, ap₂, ◌∙◌, append_assoc, subst, arith}
+use Rattle.std.proofs.Common.{◌≡◌, ℕ, zero, suc, ◌<◌, ◌≤◌, ◌==◌, Bool, true, false, not, ◌&&◌, if◌then◌else◌, List, [], ◌∷◌, ◌++◌, length, take, drop, Option, Some, None, Result, Ok, refl, sym, ap, ap₂, ◌∙◌, append_assoc, arith}
 use Rattle.std.specs.Prelude.{String, string_bytes}
 use Rattle.std.specs.Str.{chars}
 use Rattle.std.specs.declared.alloc.Global.{Global}
 use Rattle.std.proofs.lemmas.List.{append-nil}
 use Rattle.std.proofs.lemmas.Str.{chars-nil}
+use Rattle.std.proofs.Math.Bool.{and-false}
 use Rattle.granit_base.specs.Classes.{is_blank, is_break, is_z, is_breakz, is_blank_or_breakz}
 use Rattle.granit_base.specs.Place.{Mark, first}
 use Rattle.granit_base.specs.Written.{string_chars}
 use Rattle.granit_error.specs.FaultKind.{TabInPlainScalar}
-use Rattle.granit_error.specs.Refused.{Refused}
 use Rattle.granit_input.specs.Runs.{run_length, is_plain_at}
 use Rattle.granit_model.specs.Here.{Here, next_char, step}
 use Rattle.granit_model.specs.LayoutData.{LayoutData}
 use Rattle.granit_model.specs.Moves.{steps}
-use Rattle.granit_model.specs.Outcome.{Fault, Fails, fault_of}
-use Rattle.granit_model.specs.Pieces.{with_front, pieces}
+use Rattle.granit_model.specs.Outcome.{Fault}
+use Rattle.granit_model.specs.Pieces.{with_front}
 use Rattle.granit_model.specs.PlainScalar.{PlainState, fails_at, is_content, between, on_content, on_blank, on_break, meets_comment, ends_before_line, plain_turn, plain_len}
 use Rattle.granit_model.proofs.HereLemmas.{step_text}
 use Rattle.granit_model.proofs.PieceLemmas.{with_front-nil, with_front-with_front, pieces_more, pieces_done, pieces_fails}
@@ -24,6 +24,7 @@ use Rattle.granit_lex.specs.PlainCode.{plain_state, inside, plain_rest, plain_wh
 use Rattle.granit_lex.specs.declared.plain.PlainParts.{PlainParts}
 use Rattle.granit_lex.specs.declared.plain.Ahead.{Ahead}
 use Rattle.granit_lex.specs.declared.plain.Ahead.TheVariants.{Blank, Break, Tab, Content, End}
+use Rattle.granit_lex.proofs.BoolLemmas.{and_left, or_left, or_right, not_true}
 use Rattle.granit_lex.proofs.MoveLemmas.{run_begins}
 
 -- ---- one turn, by what is next
@@ -58,26 +59,6 @@ turn_is at start s k is =
 
 -- ---- on over a stretch of content
 
-and_none : (b : Bool) → (b && false) ≡ false
-and_none true = refl
-and_none false = refl
-
-and_left : (a b : Bool) → (a && b) ≡ true → a ≡ true
-and_left true b held = refl
-and_left false b held = absurd cc
-
-or_left : (a b : Bool) → (a || b) ≡ false → a ≡ false
-or_left true b failed = absurd cc
-or_left false b failed = refl
-
-or_right : (a b : Bool) → (a || b) ≡ false → b ≡ false
-or_right true b failed = absurd cc
-or_right false b failed = failed
-
-not_true : (b : Bool) → not b ≡ true → b ≡ false
-not_true true held = absurd cc
-not_true false held = refl
-
 content_next : (a b c f : Bool) → a ≡ false → b ≡ false → c ≡ false → f ≡ true → next_by a b c false false f ≡ Content
 content_next a b c f p q r t = rw (p, q, r, t) refl
 
@@ -91,7 +72,7 @@ apart in_flow text held =
 inside_next : (at : LayoutData) (g : Here) → is_plain_at at.in_flow g.unread.text ≡ true → ahead_of at (inside g) ≡ Content
 inside_next at g held =
     let not_gap = apart at.in_flow g.unread.text held in
-    content_next (is_blank (next_char g)) (is_break (next_char g)) (meets_comment (inside g)) (is_content at.in_flow g.unread.text) not_gap.0 not_gap.1 (and_none (next_char g == 0x23)) held
+    content_next (is_blank (next_char g)) (is_break (next_char g)) (meets_comment (inside g)) (is_content at.in_flow g.unread.text) not_gap.0 not_gap.1 (and-false (next_char g == 0x23)) held
 
 inside_turn : (at : LayoutData) (start : Mark) (g : Here) → is_plain_at at.in_flow g.unread.text ≡ true → plain_turn at start (inside g) ≡ Ok (Some (next_char g ∷ []), inside (step g))
 unfolding on_content

@@ -5,14 +5,7 @@ use Rattle.std.specs.Char.{is_whitespace}
 use Rattle.std.proofs.Math.Utf8.{scalars}
 use Rattle.std.proofs.lemmas.Str.{chars_from_encodes, scalars-chars}
 use Rattle.granit_lex.specs.Trimmed.{trimmed}
-
-and_left : (a b : Bool) → (a && b) ≡ true → a ≡ true
-and_left true b held = refl
-and_left false b held = absurd cc
-
-and_right : (a b : Bool) → (a && b) ≡ true → b ≡ true
-and_right true b held = held
-and_right false b held = absurd cc
+use Rattle.granit_lex.proofs.BoolLemmas.{and_left, and_right}
 
 scalars_cond : (t : Bool) (xs ys : List ℕ) → scalars xs ≡ true → scalars ys ≡ true → scalars (cond t xs ys) ≡ true
 scalars_cond true xs ys p q = p

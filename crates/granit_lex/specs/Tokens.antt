@@ -1,9 +1,9 @@
 -- What the definitions give, as the code has it.
-use Rattle.std.specs.Prelude.{None}
+use Rattle.std.specs.Prelude.{[], false, None}
 use Rattle.granit_base.specs.declared.style.Placement.TheVariants.{Free}
 use Rattle.granit_model.specs.Comment.{CommentRead}
 use Rattle.granit_model.specs.LayoutData.{LayoutData}
-use Rattle.granit_model.specs.Lexeme.{Lexeme, LexemeKind, DocumentStart, SequenceOpen, SequenceClose, MappingOpen, MappingClose, Comma, Question, Colon, Scalar}
+use Rattle.granit_model.specs.Lexeme.{Lexeme, LexemeKind, DocumentStart, SequenceOpen, SequenceClose, MappingOpen, MappingClose, Comma, Question, Colon, Tag, Anchor, Alias, Scalar}
 use Rattle.granit_model.specs.PlainEvent.{plain_span}
 use Rattle.granit_model.specs.PlainScalar.{PlainRead}
 use Rattle.granit_lex.specs.declared.token.Layout.{Layout}
@@ -25,6 +25,9 @@ lexeme_type MappingClose = tokens.FlowMappingEnd
 lexeme_type Comma = tokens.FlowEntry
 lexeme_type Question = tokens.Key
 lexeme_type Colon = tokens.Value
+lexeme_type (Tag suffix) = tokens.Tag (record { characters = []; is_borrowed = false }) (record { characters = suffix; is_borrowed = false })
+lexeme_type (Anchor name) = tokens.Anchor name
+lexeme_type (Alias name) = tokens.Alias name
 lexeme_type (Scalar style text) = tokens.Scalar style text
 
 -- a lexeme from its first character to the place behind its last

@@ -4,7 +4,7 @@ use crate::{
 };
 use granit_base::{Marker, Placement, ScalarStyle, Span, Text, TextList, is_blank_or_breakz};
 use granit_error::ScanError;
-use granit_input::{BorrowedInput, Input, StrInput};
+use granit_input::{Input, StrInput};
 use std::alloc::Global;
 use std::convert::AsStr;
 use std::test::Fail;
@@ -32,9 +32,9 @@ fn flow(block_column: Option<usize>, strict: bool) -> Layout {
 }
 
 /// The plain scalar that begins here, where one does.
-fn scalar_at<'a, T: BorrowedInput<'a>>(
+fn scalar_at<'a>(
     alloc: Global,
-    cursor: &mut Cursor<T>,
+    cursor: &mut Cursor<StrInput<'a>>,
     at: &Layout,
 ) -> Option<Result<Lexed<'a>, ScanError>> {
     cursor.look(2);
@@ -47,9 +47,9 @@ fn scalar_at<'a, T: BorrowedInput<'a>>(
 }
 
 /// The comment that begins here, where one does.
-fn comment_at<'a, T: BorrowedInput<'a>>(
+fn comment_at<'a>(
     alloc: Global,
-    cursor: &mut Cursor<T>,
+    cursor: &mut Cursor<StrInput<'a>>,
 ) -> Option<Result<Token<'a>, ScanError>> {
     cursor.look(1);
     if cursor.input().peek() != '#' {
@@ -59,7 +59,7 @@ fn comment_at<'a, T: BorrowedInput<'a>>(
 }
 
 /// Over the comment that begins here, where one does.
-fn skipped_at<'a, T: BorrowedInput<'a>>(cursor: &mut Cursor<T>) -> Option<Result<(), ScanError>> {
+fn skipped_at(cursor: &mut Cursor<StrInput<'_>>) -> Option<Result<(), ScanError>> {
     cursor.look(1);
     if cursor.input().peek() != '#' {
         return None;
@@ -77,37 +77,35 @@ fn skip_mark<T: Input>(cursor: &mut Cursor<T>) -> bool {
     true
 }
 
-/// What a plain scalar at the start of a text gives: its value, where it ends, where the cursor then stands,
-/// the place of the `#` that cut it short, and whether a break was read behind it.
-fn told(
+/// Where a scalar ends, where the cursor then stands, and the place of the `#` that cut it short.
+#[derive(Clone, Copy, PartialEq, Eq)]
+struct Places {
+    end: usize,
+    stands: usize,
+    cut: Option<usize>,
+}
+
+/// Whether a plain scalar at the start of a text has that value and those places, and whether a break is read
+/// behind it.
+fn tells(
     alloc: Global,
     text: &str,
     at: &Layout,
-) -> Option<(Text<'static>, [Option<usize>; 3], bool)> {
-    let mut cursor = Cursor::new(StrInput::new(text));
-    let lexed = scalar_at(alloc, &mut cursor, at)?.ok()?;
-    let (span, token_type) = lexed.token.into_parts();
-    let TokenType::Scalar(ScalarStyle::Plain, value) = token_type else {
-        return None;
-    };
-    let value = String::from_str(alloc, value.as_str()).ok()?;
-    let cut = lexed.cut_by_comment.map(|mark| mark.index());
-    let places = [Some(span.end.index()), Some(cursor.mark().index()), cut];
-    Some((Text::owned(value), places, lexed.on_new_line))
-}
-
-fn tells(
-    told: Option<(Text<'static>, [Option<usize>; 3], bool)>,
     value: &str,
-    places: [Option<usize>; 3],
+    places: Places,
     on_new_line: bool,
 ) -> bool {
-    match told {
-        None => false,
-        Some((text, found, line)) => {
-            text.as_str() == value && found == places && line == on_new_line
-        }
-    }
+    let mut cursor = Cursor::new(StrInput::new(text));
+    let Some(Ok(lexed)) = scalar_at(alloc, &mut cursor, at) else {
+        return false;
+    };
+    let found = Places {
+        end: lexed.token.span().end.index(),
+        stands: cursor.mark().index(),
+        cut: lexed.cut_by_comment.map(|mark| mark.index()),
+    };
+    let wanted = TokenType::Scalar(ScalarStyle::Plain, Text::borrowed(value));
+    *lexed.token.token_type() == wanted && found == places && lexed.on_new_line == on_new_line
 }
 
 /// The number of the kind by which a plain scalar at the start of a text is refused, and the index of its mark.
@@ -137,9 +135,13 @@ fn ends_of_plain_scalars(rt: HostRuntime) {
         ("a \t", block(Some(0)), "a", 1, 3, false),
     ];
     for (text, at, value, end, stands, line) in rows {
-        let told = told(rt.alloc(), text, &at);
+        let places = Places {
+            end,
+            stands,
+            cut: None,
+        };
         assert_eq!(rt;
-            tells(told, value, [Some(end), Some(stands), None], line),
+            tells(rt.alloc(), text, &at, value, places, line),
             true,
             "at {text}"
         );
@@ -160,9 +162,14 @@ fn lines_of_plain_scalars_fold(rt: HostRuntime) {
         ("a\n\t\n b", "a\nb", 6),
     ];
     for (text, value, end) in rows {
-        let told = told(rt.alloc(), text, &block(Some(0)));
+        let places = Places {
+            end,
+            stands: end,
+            cut: None,
+        };
+        let at = block(Some(0));
         assert_eq!(rt;
-            tells(told, value, [Some(end), Some(end), None], false),
+            tells(rt.alloc(), text, &at, value, places, false),
             true,
             "at {text}"
         );
@@ -180,9 +187,13 @@ fn comments_cut_plain_scalars(rt: HostRuntime) {
         ("a #c\n]", flow(None, false), 2, None, false),
     ];
     for (text, at, stands, cut, line) in rows {
-        let told = told(rt.alloc(), text, &at);
+        let places = Places {
+            end: 1,
+            stands,
+            cut,
+        };
         assert_eq!(rt;
-            tells(told, "a", [Some(1), Some(stands), cut], line),
+            tells(rt.alloc(), text, &at, "a", places, line),
             true,
             "at {text}"
         );
@@ -212,43 +223,75 @@ fn refusals_of_plain_scalars(rt: HostRuntime) {
     assert_eq!(rt; refused(rt.alloc(), "-a", &flow(None, false)), None);
 }
 
+/// The comment at the start of a text, and where the cursor then stands.
+fn comment_of(alloc: Global, text: &str) -> Option<(Token<'_>, usize)> {
+    let mut cursor = Cursor::new(StrInput::new(text));
+    match comment_at(alloc, &mut cursor) {
+        Some(Ok(token)) => Some((token, cursor.mark().index())),
+        _ => None,
+    }
+}
+
+/// Where the cursor stands behind the comment at the start of a text, when it was skipped.
+fn skipped_to(text: &str) -> Option<usize> {
+    let mut cursor = Cursor::new(StrInput::new(text));
+    match skipped_at(&mut cursor) {
+        Some(Ok(())) => Some(cursor.mark().index()),
+        _ => None,
+    }
+}
+
+/// The number of the kind by which the comment at the start of a text is refused, and the index of its mark.
+fn comment_refused(alloc: Global, text: &str) -> Option<(u8, usize)> {
+    let mut cursor = Cursor::new(StrInput::new(text));
+    match comment_at(alloc, &mut cursor) {
+        Some(Err(error)) => Some((error.kind().number(), error.marker().index())),
+        _ => None,
+    }
+}
+
+/// The same where it is skipped.
+fn skip_refused(text: &str) -> Option<(u8, usize)> {
+    let mut cursor = Cursor::new(StrInput::new(text));
+    match skipped_at(&mut cursor) {
+        Some(Err(error)) => Some((error.kind().number(), error.marker().index())),
+        _ => None,
+    }
+}
+
+/// The comment of that text from the start of a line on, up to that column.
+fn comment_until(text: &str, end: usize) -> Token<'_> {
+    let span = Span::new(Marker::new(0, 1, 0), Marker::new(end, 1, end));
+    Token::new(span, TokenType::Comment(Comment::new(Text::borrowed(text))))
+}
+
 #[test]
 fn comments_go_to_the_break(rt: HostRuntime) {
-    let alloc = rt.alloc();
     let rows = [
         ("# a#b\r\n", " a#b", 5),
         ("#", "", 1),
         ("#\té\n# c", "\té", 3),
     ];
     for (text, want, end) in rows {
-        let mut cursor = Cursor::new(StrInput::new(text));
-        let token = comment_at(alloc, &mut cursor).and_then(|read| read.ok());
-        let wanted = Token::new(
-            Span::new(Marker::new(0, 1, 0), cursor.mark()),
-            TokenType::Comment(Comment::new(Text::borrowed(want))),
-        );
-        assert_eq!(rt; token == Some(wanted), true);
-        assert_eq!(rt; cursor.mark().index(), end);
-        let mut cursor = Cursor::new(StrInput::new(text));
+        let found = comment_of(rt.alloc(), text);
         assert_eq!(rt;
-            skipped_at(&mut cursor).map(|read| read.is_ok()),
-            Some(true)
+            found == Some((comment_until(want, end), end)),
+            true,
+            "at {text}"
         );
-        assert_eq!(rt; cursor.mark().index(), end);
+        assert_eq!(rt; skipped_to(text), Some(end), "at {text}");
     }
+}
+
+#[test]
+fn unprintable_characters_spoil_comments(rt: HostRuntime) {
     for (text, mark) in [("#a\0", 2), ("# \u{1}", 2), ("#\u{7f}b\n", 1)] {
-        let mut cursor = Cursor::new(StrInput::new(text));
-        let error = comment_at(alloc, &mut cursor).and_then(|read| read.err());
         assert_eq!(rt;
-            error.map(|e| (e.kind().number(), e.marker().index())),
-            Some((76, mark))
+            comment_refused(rt.alloc(), text),
+            Some((76, mark)),
+            "at {text}"
         );
-        let mut cursor = Cursor::new(StrInput::new(text));
-        let error = skipped_at(&mut cursor).and_then(|read| read.err());
-        assert_eq!(rt;
-            error.map(|e| (e.kind().number(), e.marker().index())),
-            Some((76, mark))
-        );
+        assert_eq!(rt; skip_refused(text), Some((76, mark)), "at {text}");
     }
 }
 
@@ -300,25 +343,38 @@ fn cursors_take_runs(rt: HostRuntime) {
 }
 
 #[test]
-fn comments_and_tokens_are_cloned(rt: HostRuntime) -> Result<(), Fail> {
-    let alloc = rt.alloc();
+fn comments_are_cloned(rt: HostRuntime) -> Result<(), Fail> {
     let comment = Comment::new(Text::borrowed(" \u{a0}é c\t")).with_placement(Placement::Right);
     assert_eq!(rt; comment.placement(), Placement::Right);
     assert_eq!(rt; comment.text(), " \u{a0}é c\t");
     assert_eq!(rt; comment.trimmed_text(), "é c");
     assert_eq!(rt; comment.as_str(), " \u{a0}é c\t");
-    let copy = comment.try_clone(alloc)?;
+    let copy = comment.try_clone(rt.alloc())?;
     assert_eq!(rt; copy == comment, true);
     assert_eq!(rt; copy.into_text().is_borrowed(), true);
+    Ok(())
+}
+
+#[test]
+fn token_types_are_cloned(rt: HostRuntime) -> Result<(), Fail> {
+    let alloc = rt.alloc();
     let mut parameters = TextList::new(alloc);
     parameters.push(Text::borrowed("b"))?;
     let directive = TokenType::ReservedDirective(Text::borrowed("a"), parameters);
-    assert_eq!(rt; directive.try_clone(alloc)? == directive, true);
-    let said = TokenType::Comment(comment);
-    assert_eq!(rt; said.try_clone(alloc)? == said, true);
-    assert_eq!(rt; said.try_clone(alloc)? == directive, false);
-    let token = Token::new(Span::empty(Marker::new(3, 1, 3)), said);
-    let copy = token.try_clone(alloc)?;
+    let copy = directive.try_clone(alloc)?;
+    assert_eq!(rt; copy == directive, true);
+    assert_eq!(rt; copy == TokenType::Key, false);
+    Ok(())
+}
+
+#[test]
+fn tokens_are_cloned(rt: HostRuntime) -> Result<(), Fail> {
+    let comment = Comment::new(Text::borrowed("c"));
+    let token = Token::new(
+        Span::empty(Marker::new(3, 1, 3)),
+        TokenType::Comment(comment),
+    );
+    let copy = token.try_clone(rt.alloc())?;
     assert_eq!(rt; copy == token, true);
     assert_eq!(rt; copy.token_type() == token.token_type(), true);
     assert_eq!(rt; copy.span().start.index(), 3);

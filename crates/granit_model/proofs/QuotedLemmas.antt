@@ -1,5 +1,5 @@
 -- Escapes and URIs take some of the text, and leave what follows them.
-use Rattle.std.proofs.Common.{◌≡◌, ℕ, zero, suc, ◌<◌, ◌≤◌, ◌==◌, Bool, true, false, cond, ◌&&◌, List, [], ◌∷◌, length, Option, Some, None, Result, Ok, Err, refl, sym, ap, ◌∙◌, subst, arith}
+use Rattle.std.proofs.Common.{◌≡◌, ℕ, zero, suc, ◌<◌, ◌≤◌, ◌==◌, Bool, true, false, cond, ◌&&◌, List, [], ◌∷◌, length, Option, Some, None, Result, Ok, Err, refl, subst, arith}
 use Rattle.std.specs.Prelude.{slice_index}
 use lib.Utf8.{scalar}
 use Rattle.granit_base.specs.Classes.{is_hex, is_uri_char, is_uri_sign, is_word_char, is_digit}
@@ -7,7 +7,7 @@ use Rattle.granit_base.specs.Place.{Mark, first}
 use Rattle.granit_model.specs.Decoding.{letter_value, digit_count, is_high, is_low}
 use Rattle.granit_model.specs.Here.{Here, text_len, next_char, step, chunk, past_chunk}
 use Rattle.granit_model.specs.Outcome.{Fault, ◌>>=◌}
-use Rattle.granit_model.specs.Pieces.{with_front, then_more, turns, pieces, Shortens}
+use Rattle.granit_model.specs.Pieces.{then_more, turns, pieces, Shortens}
 use Rattle.granit_model.specs.Quoted.{digits, joined_at, second_half, numbered, escape_by, escape, escaped_piece, escaped_pieces}
 use Rattle.granit_model.specs.Property.{percent_byte, uri_byte, uri_bytes}
 use Rattle.granit_model.specs.Start.{is_inner}

@@ -8,7 +8,7 @@ use Rattle.granit_error.specs.OptionsData.{OptionsData}
 use Rattle.granit_model.specs.Lexeme.{Source}
 use Rattle.granit_model.specs.Place.{mark_at}
 use Rattle.granit_model.specs.Node.{TagAt, AnchorAt, NodeProperties, Node, AliasNode, ScalarNode, EmptySequence, Sequence, EmptyMapping, Mapping, Entries, Entry, EntryLead, FirstEntry, NextEntry, Pairs, Pair, PairLead, FirstPair, NextPair, Documents, NoDocument, Document}
-use Rattle.granit_model.specs.Scope.{Scope, no_scope, in_new_document, anchored, number_in, behind_node, behind_entry_lead, behind_pair_lead, behind_documents}
+use Rattle.granit_model.specs.Scope.{Scope, in_new_document, anchored, number_in, behind_node, behind_entry_lead, behind_pair_lead, behind_documents}
 use Rattle.granit_model.specs.PlainEvent.{PlainEvent, PlainTag, EventKind, plain_span, event_at, event_on, StreamStart, StreamEnd, DocumentStart, DocumentEnd, Alias, Anchor, UnresolvedAlias, Scalar, SequenceStart, SequenceEnd, MappingStart, MappingEnd}
 
 -- the place behind a node

@@ -2,8 +2,8 @@
 use Rattle.std.specs.Prelude.{true, List, [], ◌∷◌, None}
 use Rattle.granit_base.specs.declared.style.StructureStyle.TheVariants.{Flow}
 use Rattle.granit_error.specs.OptionsData.{OptionsData}
-use Rattle.granit_model.specs.Lexeme.{Lexeme, LexemeKind, DocumentStart, SequenceOpen, MappingOpen, Comma, Question, Colon, Source}
-use Rattle.granit_model.specs.Node.{NodeProperties, Node, Entries, EntryLead, NextEntry, Pairs, PairLead, Documents}
+use Rattle.granit_model.specs.Lexeme.{Lexeme, DocumentStart, SequenceOpen, MappingOpen, Comma, Question, Colon, Source}
+use Rattle.granit_model.specs.Node.{NodeProperties, Node, Entries, Pairs, PairLead, Documents}
 use Rattle.granit_model.specs.Yield.{lexeme, spell_properties, spell, spell_entries, spell_pairs, spell_pair_lead, spell_documents}
 use Rattle.granit_model.specs.PlainEvent.{PlainEvent, event_at, DocumentStart as DocumentStarts, SequenceStart, MappingStart}
 use Rattle.granit_model.specs.Scope.{Scope, in_new_document, anchored, behind_node, behind_entries, behind_pairs, behind_pair_lead, behind_documents}

@@ -8,7 +8,7 @@ use Rattle.granit_model.specs.Folding.{folded}
 use Rattle.granit_model.specs.Gap.{Each}
 use Rattle.granit_model.specs.Here.{Here, mark_of, step}
 use Rattle.granit_model.specs.LayoutData.{LayoutData, is_left, is_outside}
-use Rattle.granit_model.specs.Lexeme.{Lexeme, Scalar}
+use Rattle.granit_model.specs.Lexeme.{Scalar}
 use Rattle.granit_model.specs.PlainScalar.{PlainRead, is_content, is_document_mark, unprintable}
 
 -- What stands between two characters of content, or behind the last one: blanks (s-separate-in-line), or breaks with the blanks before and between

@@ -1,5 +1,5 @@
 -- The plain machine's reading of a double-quoted scalar that holds escapes. What can't be read is refused at the scalar's start.
-use Rattle.std.specs.Prelude.{ℕ, zero, suc, ◌+◌, ◌*◌, Bool, ◌==◌, ◌&&◌, if◌then◌else◌, List, ◌∷◌, slice_index, Option, Some, None, Result, Ok, Err}
+use Rattle.std.specs.Prelude.{ℕ, zero, suc, ◌+◌, ◌*◌, ◌==◌, ◌&&◌, if◌then◌else◌, List, ◌∷◌, slice_index, Option, Some, None, Result, Ok, Err}
 use lib.Utf8.{scalar}
 use Rattle.granit_base.specs.Classes.{is_hex, hex_value}
 use Rattle.granit_base.specs.Place.{Mark}

@@ -3,7 +3,7 @@ use Rattle.std.specs.Prelude.{◌≡◌, ℕ, suc, true, List, [], ◌∷◌, na
 use lib.Pointwise.{pointwise}
 use Rattle.granit_error.specs.OptionsData.{OptionsData}
 use Rattle.granit_model.specs.Lexeme.{Lexeme, LexemeKind, DocumentStart, Anchor, Alias}
-use Rattle.granit_model.specs.Node.{AnchorAt, NodeProperties, Node, AliasNode, ScalarNode, EmptySequence, Sequence, EmptyMapping, Mapping, Entries, Entry, EntryLead, FirstEntry, NextEntry, Pairs, Pair, PairLead, FirstPair, NextPair, Documents, NoDocument, Document}
+use Rattle.granit_model.specs.Node.{AnchorAt, Node, AliasNode, ScalarNode, EmptySequence, Sequence, EmptyMapping, Mapping, Entries, Entry, EntryLead, FirstEntry, NextEntry, Pairs, Pair, PairLead, FirstPair, NextPair, Documents, NoDocument, Document}
 
 -- how many anchors stand before a place, and the names of those of its document with their numbers, the last first
 pub record Scope : Type 0 where

@@ -4,6 +4,7 @@ use Rattle.std.specs.Char.{encode_utf8}
 use Rattle.std.specs.List.{prefix_len}
 use Rattle.std.specs.Str.{chars, encode_utf8_all, IsUtf8, IsCharBoundary}
 use Rattle.std.proofs.lemmas.List.{append-nil, length-append, take-append-drop}
+use Rattle.std.proofs.lemmas.List.Folds.{length-prefix_len}
 use Rattle.std.proofs.lemmas.Str.{encodes-append, encodes-chars, chars_from_encodes, IsCharBoundary-at_seam, length-encode, len_utf8_bounds, scalars-chars}
 use Rattle.std.proofs.Math.Utf8.{scalars}
 use Rattle.std.proofs.Math.Seq.{take-append_seam, drop-append_seam}
@@ -110,3 +111,6 @@ pub cut_back : (n : ℕ) (bytes back : List ℕ) (at : ℕ) → IsUtf8 bytes →
 cut_back n bytes back at u is dropped =
     let same = dropped ∙ ap (λ (bs : List ℕ). drop at bs) (parts n bytes u) ∙ ap (λ (k : ℕ). drop k (front_of n bytes ++ back_of n bytes)) is ∙ drop-append_seam (front_of n bytes) (back_of n bytes) in
     ap chars same ∙ sym (chars_from_encodes (drop n (chars bytes)) (back_of n bytes) (back_utf8 n bytes u) refl)
+
+pub run_length : (test : ℕ → Bool) (cs : List ℕ) → length (take (prefix_len test cs) cs) ≡ prefix_len test cs
+run_length test cs = length-prefix_len test cs

@@ -1,5 +1,8 @@
+pub mod AnchorLemmas
 pub mod ChunkLemmas
 pub mod EscapeLemmas
 pub mod GapLemmas
+pub mod PathLemmas
 pub mod PushedLemmas
 pub mod LoadLemmas
+pub mod UriLemmas

@@ -1,10 +1,10 @@
 -- What the laws of the plain machine say of an answer of the code.
 use Rattle.std.proofs.Common.{◌≡◌, ◌≢◌, ◌≤◌, ℕ, List, [], refl, sym, ap, ◌∙◌, subst, Result, Ok, Err, ◌⊎◌, inl, inr}
 use Rattle.std.specs.Prelude.{IfOk, IfErr}
-use Rattle.granit_error.specs.FaultKind.{FaultKind, NoMemory, RecursionLimitExceeded}
+use Rattle.granit_error.specs.FaultKind.{FaultKind, NoMemory, RecursionLimitExceeded, UnknownAnchor}
 use Rattle.granit_error.specs.OptionsData.{OptionsData}
 use Rattle.granit_error.specs.Refused.{Refused}
-use Rattle.granit_model.specs.Canonical.{Bare, HasCharacters, documents_in, canonical_events}
+use Rattle.granit_model.specs.Canonical.{HasCharacters, documents_in, canonical_events}
 use Rattle.granit_model.specs.Cause.{Cause}
 use Rattle.granit_model.specs.Events.{SpansIn, events}
 use Rattle.granit_model.specs.FlowText.{flow_characters}
@@ -14,10 +14,11 @@ use Rattle.granit_model.specs.Node.{Documents}
 use Rattle.granit_model.specs.Outcome.{Fault, Fails, GivesValue, fault_of}
 use Rattle.granit_model.specs.PlainEvent.{PlainEvent}
 use Rattle.granit_model.specs.Reading.{IsReading, Reading}
-use Rattle.granit_model.specs.Tree.{PlainTrees, trees_depth}
+use Rattle.granit_model.specs.Scope.{Resolves}
+use Rattle.granit_model.specs.Tree.{PlainTrees, trees_depth, DocumentsFit}
 use Rattle.granit_model.specs.Yield.{spell_documents}
-use Rattle.granit_canonical.proofs.Laws.{is_read}
-use Rattle.granit_laws.proofs.Laws.{is_reading, is_answered, answered_or_deep, has_cause}
+use Rattle.granit_canonical.proofs.Laws.{is_read, names_anchors}
+use Rattle.granit_laws.proofs.Laws.{is_reading, is_answered, answered_or_refused, has_cause, IsLimit}
 use Rattle.granit_laws.proofs.Spans.{spans_in}
 
 memory_or_not : (k : FaultKind) → (k ≡ NoMemory) ⊎ (k ≢ NoMemory)
@@ -32,7 +33,7 @@ module _ {V : Type 0} (view : V → List PlainEvent) (o : OptionsData) (x : List
   pub spans_of : (r : Result V Refused) → GivesValue view r (events_of o x) → IfOk r (λ v. SpansIn x (view v))
   spans_of (Ok v) g =
       let a = is_reading o x (view v) g in
-      subst (SpansIn x) (sym a.3) (spans_in o x a.0 a.1 a.2)
+      subst (SpansIn x) (sym a.4) (spans_in o o x a.0 a.1 a.2)
   spans_of (Err e) g = tt
 
   -- an answer that must be is only refused for want of memory
@@ -40,22 +41,23 @@ module _ {V : Type 0} (view : V → List PlainEvent) (o : OptionsData) (x : List
   memory_alone e es (inl m) g a = m
   memory_alone e es (inr n) g a = let b = g n in cc
 
-  pub answered_of : (r : Result V Refused) → GivesValue view r (events_of o x) → (ls : List Lexeme) (ds : Documents) → Reading o x ls ds → IfErr r (λ e. e.kind ≡ NoMemory)
-  answered_of (Ok v) g ls ds a = tt
-  answered_of (Err e) g ls ds a = memory_alone e (events x ds) (memory_or_not e.kind) g (is_answered o x ls ds a)
+  pub answered_of : (r : Result V Refused) → GivesValue view r (events_of o x) → (ls : List Lexeme) (ds : Documents) → Reading o x ls ds → Resolves o [] ls → IfErr r (λ e. e.kind ≡ NoMemory)
+  answered_of (Ok v) g ls ds a s = tt
+  answered_of (Err e) g ls ds a s = memory_alone e (events o x ds) (memory_or_not e.kind) g (is_answered o x ls ds a s)
 
-  deep_or_memory : (e : Refused) (es : List PlainEvent) → (e.kind ≡ NoMemory) ⊎ (e.kind ≢ NoMemory) → Fails e (events_of o x)
-      → (events_of o x ≡ Ok es) ⊎ ((f : Fault) × (events_of o x ≡ Err f) × (f.kind ≡ RecursionLimitExceeded)) → (e.kind ≡ NoMemory) ⊎ (e.kind ≡ RecursionLimitExceeded)
-  deep_or_memory e es (inl m) g a = inl m
-  deep_or_memory e es (inr n) g (inl a) = let b = g n in cc
-  deep_or_memory e es (inr n) g (inr a) = let b = g n in let c = a.1 in let d = a.2 in inr (same_kind (a.0) (fault_of e) (sym c ∙ b) ∙ d)
-    where
-      same_kind : (f h : Fault) → ◌≡◌ {A = Result (List PlainEvent) Fault} (Err f) (Err h) → h.kind ≡ f.kind
-      same_kind f h e = let s : f ≡ h = cc in subst (λ (k : Fault). k.kind ≡ f.kind) s refl
+  same_fault : (f h : Fault) → ◌≡◌ {A = Result (List PlainEvent) Fault} (Err f) (Err h) → f ≡ h
+  same_fault f h e = cc
 
-  pub deeper_of : (r : Result V Refused) → GivesValue view r (events_of o x) → (p : OptionsData) (ls : List Lexeme) (ds : Documents) → Reading p x ls ds → IfErr r (λ e. (e.kind ≡ NoMemory) ⊎ (e.kind ≡ RecursionLimitExceeded))
+  limit_or_memory : (e : Refused) (es : List PlainEvent) → (e.kind ≡ NoMemory) ⊎ (e.kind ≢ NoMemory) → Fails e (events_of o x)
+      → (events_of o x ≡ Ok es) ⊎ ((f : Fault) × (events_of o x ≡ Err f) × IsLimit f.kind) → (e.kind ≡ NoMemory) ⊎ IsLimit e.kind
+  limit_or_memory e es (inl m) g a = inl m
+  limit_or_memory e es (inr n) g (inl a) = let b = g n in cc
+  limit_or_memory e es (inr n) g (inr a) = inr (subst (λ (f : Fault). IsLimit f.kind) (same_fault a.0 (fault_of e) (sym a.1 ∙ g n)) a.2)
+
+  pub deeper_of : (r : Result V Refused) → GivesValue view r (events_of o x) → (p : OptionsData) (ls : List Lexeme) (ds : Documents) → Reading p x ls ds
+      → IfErr r (λ e. (e.kind ≡ NoMemory) ⊎ (e.kind ≡ RecursionLimitExceeded) ⊎ (e.kind ≡ UnknownAnchor))
   deeper_of (Ok v) g p ls ds a = tt
-  deeper_of (Err e) g p ls ds a = deep_or_memory e (events x ds) (memory_or_not e.kind) g (answered_or_deep o p x ls ds a)
+  deeper_of (Err e) g p ls ds a = limit_or_memory e (events o x ds) (memory_or_not e.kind) g (answered_or_refused o p x ls ds a)
 
   caused : (e : Refused) → (e.kind ≡ NoMemory) ⊎ (e.kind ≢ NoMemory) → Fails e (events_of o x) → (e.kind ≡ NoMemory) ⊎ Cause o x e.kind e.mark
   caused e (inl m) g = inl m
@@ -72,11 +74,13 @@ module _ {V : Type 0} (view : V → List PlainEvent) (o : OptionsData) (x : List
 
   -- canonical text is answered with its trees' events
   pub canonical_of :
-      (r : Result V Refused) → GivesValue view r (events_of o x) → (ts : PlainTrees) → Bare ts → HasCharacters ts → trees_depth ts ≤ o.flow_nesting_limit → x ≡ flow_characters ts
-      → IfErr r (λ e. e.kind ≡ NoMemory) × IfOk r (λ v. view v ≡ canonical_events ts)
-  canonical_of r g ts bare written depth e =
+      (r : Result V Refused) → GivesValue view r (events_of o x) → (ts : PlainTrees) → DocumentsFit ts → HasCharacters ts → trees_depth ts ≤ o.flow_nesting_limit → x ≡ flow_characters ts
+      → IfErr r (λ e. e.kind ≡ NoMemory) × IfOk r (λ v. view v ≡ canonical_events o ts)
+  canonical_of r g ts fit written depth e =
       let reading : Reading o x (spell_documents (documents_in x ts) []) (documents_in x ts) =
-      subst (λ (y : List ℕ). Reading o y (spell_documents (documents_in y ts) []) (documents_in y ts)) (sym e) (is_read o ts bare written depth) in (
-        answered_of r g (spell_documents (documents_in x ts) []) (documents_in x ts) reading,
-        answer_of r g (canonical_events ts) (is_answered o x (spell_documents (documents_in x ts) []) (documents_in x ts) reading ∙ ap (λ (y : List ℕ). Ok (events y (documents_in y ts))) e),
+      subst (λ (y : List ℕ). Reading o y (spell_documents (documents_in y ts) []) (documents_in y ts)) (sym e) (is_read o ts fit written depth) in
+      let scope : Resolves o [] (spell_documents (documents_in x ts) []) =
+      subst (λ (y : List ℕ). Resolves o [] (spell_documents (documents_in y ts) [])) (sym e) (names_anchors o ts fit) in (
+        answered_of r g (spell_documents (documents_in x ts) []) (documents_in x ts) reading scope,
+        answer_of r g (canonical_events o ts) (is_answered o x (spell_documents (documents_in x ts) []) (documents_in x ts) reading scope ∙ ap (λ (y : List ℕ). Ok (events o y (documents_in y ts))) e),
       )

@@ -2,6 +2,15 @@
 use Rattle.std.specs.Prelude.{◌≡◌, ℕ, ◌+◌, Bool, List, ◌++◌, take, drop}
 use Rattle.std.specs.Str.{chars, encode_utf8_all}
 use Rattle.std.specs.List.{prefix_len}
+use Rattle.granit_base.specs.Classes.{is_anchor_char}
+use Rattle.granit_model.specs.Start.{is_inner}
+use Rattle.granit_parser.specs.declared.chunk.Class.{Class}
+use Rattle.granit_parser.specs.declared.chunk.Class.TheVariants.{Inner, Name}
+
+-- which characters are of a class
+abbrev pub class_test : Class → ℕ → Bool
+class_test Inner = is_inner
+class_test Name = is_anchor_char
 
 -- so many characters of a string were passed, and this is what follows them
 pub record IsInRun (test : ℕ → Bool) (bytes rest : List ℕ) (passed : ℕ) : Type 0 where

@@ -3,9 +3,9 @@ ghost use Rattle.std.specs.Prelude.{◌≡◌, ◌==◌, true, length, slice_ind
 ghost use Rattle.std.specs.Str.{chars};
 ghost use Rattle.granit_base.specs.Classes.{is_gap};
 ghost use Rattle.granit_model.specs.Here as spec;
-ghost use Rattle.granit_model.specs.Start.{is_inner};
+ghost use Rattle.granit_parser.specs.Chunks.{class_test};
 
-use crate::chunk::split_chunk;
+use crate::chunk::{Class, split_chunk};
 use crate::glyph::is_gap;
 use granit_base::{Marker, is_at_end, nth_char, split_first_char};
 use std::marker::Model;
@@ -119,14 +119,14 @@ impl<'a> Cursor<'a> {
         }
     }
 
-    /// Consumes and lends the characters that stand for themselves in a double-quoted scalar.
+    /// Consumes and lends the characters of a class in front.
     #[tactic(auto, unfolding(granit_model::specs::Here::past_chunk))]
-    pub(crate) fn take_chunk(&mut self) -> &'a str
-        ensures text { chars result.now ≡ spec.chunk is_inner self.old }
-        ensures after { self.new ≡ spec.past_chunk is_inner self.old }
+    pub(crate) fn take_chunk(&mut self, class: Class) -> &'a str
+        ensures text { chars result.now ≡ spec.chunk (class_test class) self.old }
+        ensures after { self.new ≡ spec.past_chunk (class_test class) self.old }
         ensures lends { self.old.unread.lends ≡ true }
     {
-        let chunk = split_chunk(self.rest);
+        let chunk = split_chunk(class, self.rest);
         self.rest = chunk.rest;
         self.byte_offset += chunk.text.len();
         self.index += chunk.count;

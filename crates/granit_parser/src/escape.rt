@@ -9,6 +9,7 @@ ghost use Rattle.granit_model.specs.Pieces.{with_front};
 ghost use Rattle.granit_model.specs.Quoted as spec;
 ghost use Rattle.granit_parser.specs.Pushed.{Pushed, Turned};
 
+use crate::chunk::Class;
 use crate::cursor::Cursor;
 use granit_base::{Marker, NoMemory, as_hex, is_hex, push_char};
 use granit_error::{ErrorKind, ScanError};
@@ -159,7 +160,7 @@ impl<'a> Cursor<'a> {
                 self.step();
                 let c = self.escape(start)?;
                 push_char(value, c)?;
-                let text = self.take_chunk();
+                let text = self.take_chunk(Class::Inner);
                 push_text(value, text)?;
                 Ok(true)
             }

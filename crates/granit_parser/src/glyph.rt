@@ -18,6 +18,9 @@ pub(crate) enum Glyph {
     CommaSign,
     QuestionSign,
     ColonSign,
+    Exclamation,
+    Ampersand,
+    Asterisk,
     Foreign,
 }
 
@@ -36,6 +39,9 @@ pub(crate) fn glyph_of(c: char) -> Glyph
         ',' => Glyph::CommaSign,
         '?' => Glyph::QuestionSign,
         ':' => Glyph::ColonSign,
+        '!' => Glyph::Exclamation,
+        '&' => Glyph::Ampersand,
+        '*' => Glyph::Asterisk,
         _ => Glyph::Foreign,
     }
 }

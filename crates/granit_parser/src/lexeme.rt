@@ -24,6 +24,12 @@ pub(crate) enum LexemeKind<'a> {
     Question,
     /// `:` before a value.
     Colon,
+    /// A verbatim tag, by what it spells (YAML 1.2.2, 6.9.1).
+    Tag(String),
+    /// `&` and the name of an anchor (YAML 1.2.2, 6.9.2).
+    Anchor(Text<'a>),
+    /// `*` and the name of an anchor (YAML 1.2.2, 7.1).
+    Alias(Text<'a>),
     /// A scalar (YAML 1.2.2, 7.3).
     Scalar(ScalarStyle, Text<'a>),
 }
@@ -42,8 +48,19 @@ pub(crate) fn wants_gap(kind: &LexemeKind<'_>) -> bool
 {
     matches!(
         kind,
-        LexemeKind::DocumentStart | LexemeKind::Question | LexemeKind::Colon
+        LexemeKind::DocumentStart
+            | LexemeKind::Question
+            | LexemeKind::Colon
+            | LexemeKind::Tag(_)
+            | LexemeKind::Anchor(_)
     )
+}
+
+/// What a name is of.
+#[derive(Clone, Copy)]
+pub(crate) enum Naming {
+    Anchor,
+    Alias,
 }
 
 /// The two kinds of brackets.

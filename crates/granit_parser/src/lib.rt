@@ -9,8 +9,10 @@ mod lexeme;
 mod load;
 mod parser;
 mod path;
+mod property;
 mod scanner;
 #[cfg(test)]
 mod tests;
+mod uri;
 
 pub use load::{Events, load_str};

@@ -1,11 +1,11 @@
 //! All events of a text.
-ghost use Rattle.std.specs.Prelude.{◌≡◌, ◌≤◌, ◌==◌, ◌⊎◌, List, length, slice_get, IfOk, IfErr};
+ghost use Rattle.std.specs.Prelude.{◌≡◌, ◌≤◌, ◌==◌, ◌⊎◌, List, [], length, slice_get, IfOk, IfErr};
 ghost use Rattle.std.specs.Option.{option_copied};
 ghost use Rattle.std.specs.Str.{chars};
 ghost use Rattle.granit_error.specs.OptionsView.{options_of};
-ghost use Rattle.granit_error.specs.FaultKind.{RecursionLimitExceeded, NoMemory as OutOfMemory};
+ghost use Rattle.granit_error.specs.FaultKind.{RecursionLimitExceeded, UnknownAnchor, NoMemory as OutOfMemory};
 ghost use Rattle.granit_error.specs.OptionsData.{OptionsData};
-ghost use Rattle.granit_model.specs.Canonical.{Bare, HasCharacters, canonical_events};
+ghost use Rattle.granit_model.specs.Canonical.{HasCharacters, canonical_events};
 ghost use Rattle.granit_model.specs.Cause.{Cause};
 ghost use Rattle.granit_model.specs.Events.{SpansIn};
 ghost use Rattle.granit_model.specs.FlowText.{flow_characters};
@@ -13,8 +13,9 @@ ghost use Rattle.granit_model.specs.Lexeme.{Lexeme};
 ghost use Rattle.granit_model.specs.Machine.{events_of};
 ghost use Rattle.granit_model.specs.Node.{Documents};
 ghost use Rattle.granit_model.specs.Reading.{IsReading, Reading};
+ghost use Rattle.granit_model.specs.Scope.{Resolves};
 ghost use Rattle.granit_model.specs.Outcome.{GivesValue};
-ghost use Rattle.granit_model.specs.Tree.{PlainTrees, trees_depth};
+ghost use Rattle.granit_model.specs.Tree.{DocumentsFit, PlainTrees, trees_depth};
 ghost use Rattle.granit_event.specs.Events.{plain_events};
 
 use crate::parser::Parser;
@@ -93,10 +94,11 @@ fn load<'a>(alloc: Global, text: &'a str, options: &Options) -> Result<Events<'a
 /// count characters from 0, lines from 1, and each marker tells its byte offset.
 ///
 /// The contract: an answer is the event list of the documents as which the text is read, each span
-/// one of the text (`reading`, `spans`); a text with a reading is answered (`answered`); a text
-/// that has one under other limits alone is too deep (`deeper`); a fault has its cause at its mark
-/// (`cause`); the canonical flow text of trees without properties and aliases, no deeper than allowed,
-/// is answered with those trees' events (`canonical`). `value` says the same as a plain function.
+/// one of the text (`reading`, `spans`); a text with a reading, each alias of which names an anchor
+/// before it in its document or may stay, is answered (`answered`); a text with a reading under
+/// whichever options is refused for its depth or an unknown anchor alone (`deeper`); a fault has its
+/// cause at its mark (`cause`); the canonical flow text of documents that fit, no deeper than allowed,
+/// is answered with their events (`canonical`). `value` says the same as a plain function.
 ///
 /// # Errors
 ///
@@ -105,10 +107,10 @@ pub fn load_str<'a>(alloc: Global, text: &'a str, options: Options) -> Result<Ev
     ensures value { GivesValue plain_events result (events_of (options_of options) (chars text.now)) }
     ensures reading { IfOk result (λ v. IsReading (options_of options) (chars text.now) (plain_events v)) }
     ensures spans { IfOk result (λ v. SpansIn (chars text.now) (plain_events v)) }
-    ensures answered { (ls : List Lexeme) (ds : Documents) → Reading (options_of options) (chars text.now) ls ds → IfErr result (λ e. e.kind ≡ OutOfMemory) }
-    ensures deeper { (p : OptionsData) (ls : List Lexeme) (ds : Documents) → Reading p (chars text.now) ls ds → IfErr result (λ e. (e.kind ≡ OutOfMemory) ⊎ (e.kind ≡ RecursionLimitExceeded)) }
+    ensures answered { (ls : List Lexeme) (ds : Documents) → Reading (options_of options) (chars text.now) ls ds → Resolves (options_of options) [] ls → IfErr result (λ e. e.kind ≡ OutOfMemory) }
+    ensures deeper { (p : OptionsData) (ls : List Lexeme) (ds : Documents) → Reading p (chars text.now) ls ds → IfErr result (λ e. (e.kind ≡ OutOfMemory) ⊎ (e.kind ≡ RecursionLimitExceeded) ⊎ (e.kind ≡ UnknownAnchor)) }
     ensures cause { IfErr result (λ e. (e.kind ≡ OutOfMemory) ⊎ Cause (options_of options) (chars text.now) e.kind e.mark) }
-    ensures canonical { (ts : PlainTrees) → Bare ts → HasCharacters ts → trees_depth ts ≤ (options_of options).flow_nesting_limit → chars text.now ≡ flow_characters ts → IfErr result (λ e. e.kind ≡ OutOfMemory) × IfOk result (λ v. plain_events v ≡ canonical_events ts) }
+    ensures canonical { (ts : PlainTrees) → DocumentsFit ts → HasCharacters ts → trees_depth ts ≤ (options_of options).flow_nesting_limit → chars text.now ≡ flow_characters ts → IfErr result (λ e. e.kind ≡ OutOfMemory) × IfOk result (λ v. plain_events v ≡ canonical_events (options_of options) ts) }
 {
     load(alloc, text, &options)
 }

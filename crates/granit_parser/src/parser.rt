@@ -1,5 +1,5 @@
 //! The parser: the events of one lexeme after another.
-ghost use Rattle.std.specs.Prelude.{◌≡◌, [], false};
+ghost use Rattle.std.specs.Prelude.{◌≡◌, ◌+◌, ◌<◌, ◌^◌};
 ghost use Rattle.std.specs.Str.{chars};
 ghost use Rattle.granit_error.specs.OptionsView.{options_of};
 ghost use Rattle.granit_model.specs.Here as here;
@@ -8,7 +8,7 @@ ghost use Rattle.granit_model.specs.Pieces.{pieces};
 ghost use Rattle.granit_event.specs.Events.{plain_events};
 ghost use Rattle.granit_parser.specs.Pushed.{Pushed, Turned};
 
-use crate::path::{Frame, step_on};
+use crate::path::{Path, step_on};
 use crate::scanner::Scanner;
 use granit_base::{Marker, Span};
 use granit_error::{Options, ScanError};
@@ -16,11 +16,11 @@ use granit_event::Event;
 use std::alloc::Global;
 use std::marker::Model;
 
-/// A reader, and the path of the nodes that are unfinished where it stands, the innermost last.
+/// A reader, and the nodes that are unfinished and the anchors that are known where it stands.
 #[derive(Drop)]
 pub(crate) struct Parser<'a> {
     scanner: Scanner<'a>,
-    path: Vec<Frame>,
+    path: Path<'a>,
 }
 
 impl<'a> Model for Parser<'a> {
@@ -28,9 +28,9 @@ impl<'a> Model for Parser<'a> {
 
     ghost Value = { MachineState };
 
-    ghost use Rattle.granit_parser.specs.Paths.{path_view};
+    ghost use Rattle.granit_parser.specs.Paths.{parser_view};
 
-    ghost view = { λ p. record { reader = p.scanner; path = path_view p.path.items } };
+    ghost view = { λ p. record { reader = p.scanner; parser = parser_view p.path } };
 }
 
 impl<'a> Parser<'a> {
@@ -40,7 +40,7 @@ impl<'a> Parser<'a> {
     {
         Parser {
             scanner: Scanner::new(alloc, text),
-            path: Vec::new(alloc),
+            path: Path::new(alloc),
         }
     }
 
@@ -58,19 +58,20 @@ impl<'a> Parser<'a> {
         options: &Options,
         events: &mut Vec<(Event<'a>, Span)>,
     ) -> Result<bool, ScanError>
+        requires { self.old.parser.anchors.count + spec.size self.old < 2 ^ 63 }
         ensures { Turned result self.new (plain_events events.old.items) (plain_events events.new.items) (spec.turn (options_of options.now) self.old) }
     {
         match self.scanner.next_lexeme(options) {
             Err(e) => Err(e),
             Ok(None) => {
-                if self.path.is_empty() {
+                if self.path.is_between_documents() {
                     Ok(false)
                 } else {
                     Err(self.scanner.not_built())
                 }
             }
             Ok(Some(lexeme)) => {
-                step_on(&mut self.path, lexeme, events)?;
+                step_on(&mut self.path, options, lexeme, events)?;
                 Ok(true)
             }
         }
@@ -82,6 +83,7 @@ impl<'a> Parser<'a> {
         options: &Options,
         events: &mut Vec<(Event<'a>, Span)>,
     ) -> Result<(), ScanError>
+        requires { self.old.parser.anchors.count + spec.size self.old < 2 ^ 63 }
         ensures { Pushed result self.new (plain_events events.old.items) (plain_events events.new.items) (pieces spec.size (spec.turn (options_of options.now)) self.old) }
     {
         'turns: while self.turn(options, events)? {}

@@ -9,12 +9,14 @@ ghost use Rattle.granit_model.specs.Lexeme as spelled;
 ghost use Rattle.granit_model.specs.Start as letters;
 ghost use Rattle.granit_base.specs.declared.style.ScalarStyle.TheVariants.{DoubleQuoted};
 ghost use Rattle.granit_model.specs.ReaderState as spec;
-ghost use Rattle.granit_parser.specs.Lexemes.{lexeme_view, kind_view, bracket_view};
+ghost use Rattle.granit_parser.specs.Lexemes.{lexeme_view, kind_view, bracket_view, naming_kind};
 
+use crate::chunk::Class;
 use crate::cursor::Cursor;
 use crate::glyph::{Glyph, glyph_of};
-use crate::lexeme::{Bracket, Lexeme, LexemeKind, Opener, opener_char, wants_gap};
-use granit_base::{Marker, ScalarStyle, Text, is_blank_or_breakz};
+use crate::lexeme::{Bracket, Lexeme, LexemeKind, Naming, Opener, opener_char, wants_gap};
+use crate::uri::suffix_of;
+use granit_base::{Marker, ScalarStyle, Text, is_at_end, is_blank_or_breakz};
 use granit_error::{ErrorKind, Options, ScanError};
 use std::alloc::Global;
 use std::marker::Model;
@@ -107,6 +109,9 @@ impl<'a> Scanner<'a> {
             Glyph::CommaSign => self.sign(LexemeKind::Comma),
             Glyph::QuestionSign => self.sign(LexemeKind::Question),
             Glyph::ColonSign => self.sign(LexemeKind::Colon),
+            Glyph::Exclamation => self.verbatim_tag(),
+            Glyph::Ampersand => self.named(Naming::Anchor),
+            Glyph::Asterisk => self.named(Naming::Alias),
             Glyph::Foreign => Err(self.not_built()),
         }
     }
@@ -172,7 +177,7 @@ impl<'a> Scanner<'a> {
     {
         let start = self.cursor.mark();
         self.cursor.step();
-        let front = self.cursor.take_chunk();
+        let front = self.cursor.take_chunk(Class::Inner);
         if self.cursor.peek() == '"' {
             return self.close_quote(Text::borrowed(front), start);
         }
@@ -190,6 +195,46 @@ impl<'a> Scanner<'a> {
     {
         self.cursor.step();
         self.lexed(LexemeKind::Scalar(ScalarStyle::DoubleQuoted, text), start)
+    }
+
+    /// A verbatim tag, at its `!` (YAML 1.2.2, 6.9.1).
+    #[tactic(auto, unfolding(granit_model::specs::ReaderState::verbatim_tag))]
+    fn verbatim_tag(&mut self) -> Result<Option<Lexeme<'a>>, ScanError>
+        ensures { Gives (option_map lexeme_view) result self.new (spec.verbatim_tag self.old.openers self.old.here) }
+    {
+        let start = self.cursor.mark();
+        if self.cursor.peek_nth(1) != '<' {
+            return Err(ScanError::from_kind(start, ErrorKind::NotBuilt));
+        }
+        self.cursor.step();
+        self.cursor.step();
+        let bytes = self.cursor.uri_bytes(self.alloc, start)?;
+        match suffix_of(bytes) {
+            None => Err(ScanError::from_kind(start, ErrorKind::NotBuilt)),
+            Some(suffix) => {
+                self.cursor.step();
+                self.lexed(LexemeKind::Tag(suffix), start)
+            }
+        }
+    }
+
+    /// An anchor or an alias, at its `&` or `*` (YAML 1.2.2, 6.9.2 and 7.1).
+    #[tactic(auto, unfolding(granit_model::specs::ReaderState::named), using(granit_model::proofs::HereLemmas::step_lends, crate::proofs::ChunkLemmas::run_length))]
+    fn named(&mut self, naming: Naming) -> Result<Option<Lexeme<'a>>, ScanError>
+        ensures { Gives (option_map lexeme_view) result self.new (spec.named (naming_kind naming) self.old.openers self.old.here) }
+    {
+        let start = self.cursor.mark();
+        self.cursor.step();
+        let name = self.cursor.take_chunk(Class::Name);
+        if is_at_end(name) {
+            return Err(ScanError::from_kind(start, ErrorKind::NotBuilt));
+        }
+        let text = Text::borrowed(name);
+        let kind = match naming {
+            Naming::Anchor => LexemeKind::Anchor(text),
+            Naming::Alias => LexemeKind::Alias(text),
+        };
+        self.lexed(kind, start)
     }
 
     /// An opener, where one more bracket may be open (YAML 1.2.2, 7.4).

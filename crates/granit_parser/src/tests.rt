@@ -1,11 +1,20 @@
 use super::*;
 use granit_base::{ScalarStyle, StructureStyle};
-use granit_error::{Options, ScanError};
+use granit_error::{Options, ScanError, options};
 use granit_event::Event;
 use std::test::*;
 
 fn read<'a>(rt: &HostRuntime, text: &'a str) -> Result<Events<'a>, ScanError> {
     load_str(rt.alloc(), text, Options::default())
+}
+
+/// With anchors told, and aliases of unknown anchors left as they are.
+fn read_all<'a>(rt: &HostRuntime, text: &'a str) -> Result<Events<'a>, ScanError> {
+    load_str(
+        rt.alloc(),
+        text,
+        options!(emit_anchor_events: true, emit_unresolved_aliases: true),
+    )
 }
 
 /// The number of the fault, and how many characters stand before it.
@@ -156,8 +165,26 @@ fn faults(rt: HostRuntime) {
         ("--- [\"a\",]", 96, 9),
         ("--- [\n...", 96, 6),
         ("--- \"a\nb\"", 96, 4),
+        // a tag without `>`, without a character, and of bytes that are no text
+        ("--- !<a", 96, 4),
+        ("--- !<> \"x\"", 96, 4),
+        ("--- !<%ff> \"x\"", 96, 4),
+        ("--- !<a%4> \"x\"", 96, 4),
+        ("--- !a \"x\"", 96, 4),
+        // names without a character, properties that touch a node or stand in the other order
+        ("--- & \"x\"", 96, 4),
+        ("--- &a [* ]", 96, 8),
+        ("--- !<a>\"x\"", 96, 8),
+        ("--- &a\"x\"", 96, 9),
+        ("--- &a !<a> \"x\"", 96, 7),
+        ("--- &a &b \"x\"", 96, 7),
+        ("--- &a [&b *a]", 96, 11),
+        // names that no anchor before them in their document has
+        ("--- &a \"x\"\n--- *a\n", 37, 15),
+        ("--- [*a, &a \"x\"]", 37, 5),
+        ("--- [*b", 37, 5),
     ];
-    for i in 0..16 {
+    for i in 0..31 {
         let (text, kind, index) = refused[i];
         assert_eq!(rt; fault(&rt, text), Some((kind, index)));
     }
@@ -167,37 +194,40 @@ fn faults(rt: HostRuntime) {
 
 #[test]
 fn values_of_escapes(rt: HostRuntime) {
-    // the value, and how many characters stand between the quotes
+    // the value, and how many characters the text has
     let cases = [
-        ("--- \"\\0\"", "\0", 2),
-        ("--- \"\\a\"", "\u{7}", 2),
-        ("--- \"\\b\"", "\u{8}", 2),
-        ("--- \"\\t\"", "\t", 2),
-        ("--- \"\\\t\"", "\t", 2),
-        ("--- \"\\n\"", "\n", 2),
-        ("--- \"\\v\"", "\u{B}", 2),
-        ("--- \"\\f\"", "\u{C}", 2),
-        ("--- \"\\r\"", "\r", 2),
-        ("--- \"\\e\"", "\u{1B}", 2),
-        ("--- \"\\ \"", " ", 2),
-        ("--- \"\\\"\"", "\"", 2),
-        ("--- \"\\/\"", "/", 2),
-        ("--- \"\\\\\"", "\\", 2),
-        ("--- \"\\N\"", "\u{85}", 2),
-        ("--- \"\\_\"", "\u{A0}", 2),
-        ("--- \"\\L\"", "\u{2028}", 2),
-        ("--- \"\\P\"", "\u{2029}", 2),
-        ("--- \"\\x4a\"", "J", 4),
-        ("--- \"\\u20AC\"", "\u{20AC}", 6),
-        ("--- \"\\U0010ffff\"", "\u{10FFFF}", 10),
-        ("--- \"\\ud83d\\ude00\"", "\u{1F600}", 12),
-        ("--- \"\\uDBFF\\uDFFF\"", "\u{10FFFF}", 12),
-        ("--- \"a\\x410\u{e9}\\\\\\\"b\"", "aA0\u{e9}\\\"b", 12),
+        ("--- \"\\0\"", "\0", 8),
+        ("--- \"\\a\"", "\u{7}", 8),
+        ("--- \"\\b\"", "\u{8}", 8),
+        ("--- \"\\t\"", "\t", 8),
+        ("--- \"\\\t\"", "\t", 8),
+        ("--- \"\\n\"", "\n", 8),
+        ("--- \"\\v\"", "\u{B}", 8),
+        ("--- \"\\f\"", "\u{C}", 8),
+        ("--- \"\\r\"", "\r", 8),
+        ("--- \"\\e\"", "\u{1B}", 8),
+        ("--- \"\\ \"", " ", 8),
+        ("--- \"\\\"\"", "\"", 8),
+        ("--- \"\\/\"", "/", 8),
+        ("--- \"\\\\\"", "\\", 8),
+        ("--- \"\\N\"", "\u{85}", 8),
+        ("--- \"\\_\"", "\u{A0}", 8),
+        ("--- \"\\L\"", "\u{2028}", 8),
+        ("--- \"\\P\"", "\u{2029}", 8),
+        ("--- \"\\x4a\"", "J", 10),
+        ("--- \"\\u20AC\"", "\u{20AC}", 12),
+        ("--- \"\\U0010ffff\"", "\u{10FFFF}", 16),
+        ("--- \"\\ud83d\\ude00\"", "\u{1F600}", 18),
+        ("--- \"\\uDBFF\\uDFFF\"", "\u{10FFFF}", 18),
+        ("--- \"a\\x410z\\\\\\\"b\"", "aA0z\\\"b", 18),
     ];
     for i in 0..24 {
-        let (text, value, count) = cases[i];
+        let (text, value, end) = cases[i];
         assert_eq!(rt; lends(&rt, text, 2, value), Some(false));
-        assert_eq!(rt; places(&rt, text, 4).map(|(end, _)| end.0), Some(count + 6));
+        assert_eq!(rt;
+            places(&rt, text, 4),
+            Some(((end, 1, end, end), (end, 1, end, end)))
+        );
     }
 }
 
@@ -226,4 +256,74 @@ fn faults_of_escapes(rt: HostRuntime) {
     }
     // at the quote of its own scalar, not of the first
     assert_eq!(rt; fault(&rt, "--- [\"\\n\", \"\\q\""), Some((96, 11)));
+}
+
+/// The letter, the number, the first column and the last of the event behind `i` others, where
+/// anchors are told.
+fn numbered(rt: &HostRuntime, text: &str, i: usize) -> Option<(char, usize, usize, usize)> {
+    let events = read_all(rt, text).ok()?;
+    let (event, span) = events.get(i)?;
+    let (letter, number) = match event {
+        Event::DocumentStart(..) => ('D', 0),
+        Event::DocumentEnd => ('d', 0),
+        Event::Anchor(number, _) => ('&', *number),
+        Event::Alias(number) => ('*', *number),
+        Event::UnresolvedAlias(_) => ('?', 0),
+        Event::Scalar(_, _, number, _) => ('"', *number),
+        Event::SequenceStart(_, number, _) => ('[', *number),
+        Event::SequenceEnd => (']', 0),
+        _ => ('-', 0),
+    };
+    Some((letter, number, span.start.col(), span.end.col()))
+}
+
+#[test]
+fn anchors_and_aliases(rt: HostRuntime) {
+    // numbers go on from document to document, names don't
+    let text = "--- &a [*a, &a \"x\", *a]\n--- [&b \"y\", *a]";
+    let events = [
+        ('-', 0, 0, 0),
+        ('D', 0, 0, 3),
+        ('[', 1, 7, 8),
+        ('&', 1, 4, 6),
+        ('*', 1, 8, 10),
+        ('"', 2, 15, 18),
+        ('&', 2, 12, 14),
+        ('*', 2, 20, 22),
+        (']', 0, 22, 23),
+        ('d', 0, 23, 23),
+        ('D', 0, 0, 3),
+        ('[', 0, 4, 5),
+        ('"', 3, 8, 11),
+        ('&', 3, 5, 7),
+        ('?', 0, 13, 15),
+        (']', 0, 15, 16),
+    ];
+    for i in 0..16 {
+        assert_eq!(rt; numbered(&rt, text, i), Some(events[i]));
+    }
+    // an anchor's event moves no other
+    assert_eq!(rt; numbered(&rt, "--- &a \"x\"", 4), Some(('d', 0, 10, 10)));
+}
+
+/// The suffix of the tag of the event behind `i` others, where it begins and how long it is.
+fn tagged(rt: &HostRuntime, text: &str, i: usize, suffix: &str) -> Option<(bool, usize, usize)> {
+    let events = read(rt, text).ok()?;
+    let (event, span) = events.get(i)?;
+    let tag = event.tag()?;
+    let place = span.tag_span()?;
+    let same = tag.suffix() == suffix && tag.handle() == "" && tag.original_handle() == "";
+    Some((same, place.start.index(), place.end.index()))
+}
+
+#[test]
+fn tags(rt: HostRuntime) {
+    let text = "--- !<tag:x%20y> &a [!<%c3%A9> \"x\", !<!b> &b {}]";
+    assert_eq!(rt; tagged(&rt, text, 2, "tag:x y"), Some((true, 4, 16)));
+    assert_eq!(rt; tagged(&rt, text, 3, "\u{e9}"), Some((true, 21, 30)));
+    assert_eq!(rt; tagged(&rt, text, 4, "!b"), Some((true, 36, 41)));
+    assert_eq!(rt;
+        places(&rt, text, 2),
+        Some(((20, 1, 20, 20), (21, 1, 21, 21)))
+    );
 }

@@ -1,5 +1,4 @@
-use Rattle.std.proofs.Common.{◌≡◌, ◌≤◌}
-use Rattle.granit_input.specs.Origin.{Goes}
+use Rattle.std.proofs.Common.{◌≡◌}
 use Rattle.granit_model.specs.Here.{Here, mark_of}
 use Rattle.granit_model.specs.PlainScalar.{plain_start}
 use Rattle.granit_lex.specs.PlainCode.{plain_rest, plain_whole}

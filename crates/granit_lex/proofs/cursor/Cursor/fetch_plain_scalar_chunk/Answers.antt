@@ -1,4 +1,4 @@
-use Rattle.std.proofs.Common.{◌+◌, refl, le_of_eq}
+use Rattle.std.proofs.Common.{◌+◌, refl}
 use Rattle.granit_input.specs.Runs.{is_plain_at}
 use Rattle.granit_lex.proofs.MoveLemmas.{stands_at, lands, plain_line}
 use Rattle.granit_lex.proofs.cursor.Cursor.fetch_plain_scalar_chunk.Goals as goal
