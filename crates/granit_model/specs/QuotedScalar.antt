@@ -1,5 +1,5 @@
 -- A quoted scalar over any number of lines, read character by character (YAML 1.2.2, 7.3.1, 7.3.2, 6.5 and 5.7).
-use Rattle.std.specs.Prelude.{ℕ, zero, suc, ◌+◌, ◌*◌, ◌==◌, Bool, true, false, ◌&&◌, ◌||◌, not, if◌then◌else◌, nat_le, List, [], ◌∷◌, ◌++◌, length, slice_index, Option, Some, None, Result, Ok}
+use Rattle.std.specs.Prelude.{ℕ, zero, suc, ◌+◌, ◌*◌, ◌==◌, Bool, true, false, ◌&&◌, ◌||◌, not, if◌then◌else◌, nat_lt, List, [], ◌∷◌, ◌++◌, length, slice_index, Option, Some, None, Result, Ok}
 use lib.Utf8.{scalar}
 use Rattle.granit_base.specs.Classes.{is_blank, is_break, is_hex, hex_value, is_printable}
 use Rattle.granit_base.specs.Place.{Mark, first}
@@ -86,7 +86,7 @@ escape_or start h = escape_or_by start (letter_value (next_char h)) (digit_count
 
 -- whether a tab in a column is refused on a further line
 abbrev pub is_tab_left : LayoutData → ℕ → Bool
-is_tab_left at column = nat_le (suc column) at.tab_column
+is_tab_left at column = nat_lt column at.tab_column
 
 -- left of its block where indentation is strict: in flow, and outside flow behind an escaped break
 unfoldable pub is_strictly_left : LayoutData → Bool → ℕ → Bool
