@@ -1,20 +1,13 @@
 -- What a call that reads a comment gives.
-use Rattle.std.proofs.Common.{◌≡◌, ℕ, zero, suc, ◌+◌, ◌==◌, Bool, true, false, ◌||◌, cond, if◌then◌else◌, List, [], ◌∷◌, ◌++◌, length, take, drop, inl, inr, ◌⊎◌, Result, Ok, Err, IfOk, IfErr, refl, sym, ap, ◌∙◌, subst, arith}
+use Rattle.std.proofs.Common.{◌≡◌, ℕ, suc, ◌+◌, Bool, cond, List, [], ◌∷◌, ◌++◌, take, ◌⊎◌, Result, Ok, Err, IfOk, IfErr, refl, sym, ap, ◌∙◌, subst, arith}
 use Rattle.std.specs.List.{prefix_len}
-use Rattle.std.proofs.lemmas.List.{drop-drop, take-append-drop}
-use Rattle.std.proofs.lemmas.List.Folds.{length-prefix_len}
-use Rattle.std.proofs.lemmas.Bool.Decides.{nat_tests}
-use Rattle.granit_base.specs.Classes.{is_break, is_breakz, is_printable, is_z}
-use Rattle.granit_base.specs.Place.{first}
 use Rattle.granit_error.specs.FaultKind.{NoMemory, UnexpectedCharacter}
 use Rattle.granit_error.specs.Refused.{Refused}
 use Rattle.granit_input.specs.Runs.{run_length, starts, is_line_char}
-use Rattle.granit_model.specs.Comment.{is_comment_char, behind_comment, skipped_comment, comment, comment_read, past_comment, CommentRead, StandsComment, Spoils, ReadsComment}
-use Rattle.granit_model.specs.Gap.{Each}
-use Rattle.granit_model.specs.Here.{Here, text_len, next_char, mark_of, step, chunk}
+use Rattle.granit_model.specs.Comment.{is_comment_char, behind_comment, skipped_comment, comment, comment_read, CommentRead, StandsComment, Spoils, ReadsComment}
+use Rattle.granit_model.specs.Here.{Here, next_char, step, chunk}
 use Rattle.granit_model.specs.Moves.{steps}
-use Rattle.granit_model.specs.Outcome.{Fault, Fails, fault_of, ◌>>=◌}
-use Rattle.granit_model.proofs.HereLemmas.{step_text, not_empty}
+use Rattle.granit_model.specs.Outcome.{Fault, Fails, fault_of}
 use Rattle.granit_scalars.proofs.Comments.{with_text, comment_is, comment_reads}
 use Rattle.granit_lex.specs.Reading.{GivesTo, coded}
 use Rattle.granit_lex.specs.Tokens.{comment_token}
