@@ -9,10 +9,10 @@ use Rattle.granit_model.specs.Decoding.{letter_value, digit_count, number_of, is
 use Rattle.granit_model.specs.Folding.{break_text}
 use Rattle.granit_model.specs.Gap.{Each}
 use Rattle.granit_model.specs.Here.{Here, mark_of}
-use Rattle.granit_model.specs.LayoutData.{LayoutData}
+use Rattle.granit_model.specs.LayoutData.{LayoutData, is_left}
 use Rattle.granit_model.specs.PlainExtent.{over, starts_comment}
 use Rattle.granit_model.specs.PlainScalar.{is_document_mark}
-use Rattle.granit_model.specs.QuotedScalar.{QuotedRead, quote_char, is_closing, is_tab_left, is_strictly_left, is_loosely_left, quoted_read, asked_comment, may_trail}
+use Rattle.granit_model.specs.QuotedScalar.{QuotedRead, quote_char, is_closing, is_tab_left, quoted_read, asked_comment, may_trail}
 
 -- ---- blanks and breaks
 
@@ -70,12 +70,15 @@ pub data Piece : (single : Bool) → (piece behind value : List ℕ) → (escape
   escape : {c : ℕ} {e behind : List ℕ} → Escape e c → Piece false e behind (c ∷ []) false
   before_break : {behind : List ℕ} → is_break (first behind) ≡ true → Piece false (0x5C ∷ []) behind [] true
 
--- Whether content, or the closing quote, may stand at the front of a text, behind this. On a further line, where indentation is strict, it is
--- right of its block; outside flow too, unless its first break is escaped or it is the closing quote. No document mark stands in column 0 (9.1.2).
+-- whether content, or the closing quote, may stand left of its block: where indentation isn't strict, in flow, behind an escaped break, or as the closing quote
+abbrev pub may_be_left : Bool → LayoutData → (escaped : Bool) → List ℕ → Bool
+may_be_left single at escaped text = not at.strict && ((at.in_flow || escaped) || is_closing single text)
+
+-- Whether content, or the closing quote, may stand at the front of a text, behind this. No document mark stands in column 0 (9.1.2).
 abbrev pub MayStand : Bool → LayoutData → (escaped : Bool) → Between → List ℕ → Type 0
 MayStand single at escaped (Blanks blanks) text = Unit {0}
 MayStand single at escaped (Lines empty column) text =
-    (is_strictly_left at escaped column ≡ false) × (is_loosely_left at escaped (is_closing single text) column ≡ false) × ((column == 0 && is_document_mark text) ≡ false)
+    ((is_left at.block_column column && not (may_be_left single at escaped text)) ≡ false) × ((column == 0 && is_document_mark text) ≡ false)
 
 -- Pieces of content with blanks and breaks before each, in front of what stands behind the last one, and their value. A backslash at the front,
 -- or at the end, escapes the break that follows.
@@ -174,9 +177,12 @@ pub data WrongEscape : FaultKind → List ℕ → Type 0 where
 pub data WrongInside (single : Bool) (at : LayoutData) (start : Mark) (left : Bool) : Between → (rest : List ℕ) → (place : Here) → FaultKind → Mark → Type 0 where
   -- a tab left of the tab column, at it
   tab : {empty column : ℕ} {rest : List ℕ} {place : Here} → first rest ≡ 0x09 → is_tab_left at column ≡ true → WrongInside single at start left (Lines empty column) rest place TabInIndentation (mark_of place)
-  -- content, the closing quote or the end, left of its block, at it
-  strict : {empty column : ℕ} {rest : List ℕ} {place : Here} → is_gap (first rest) ≡ false → is_strictly_left at left column ≡ true → WrongInside single at start left (Lines empty column) rest place InvalidIndentation (mark_of place)
-  loose : {empty column : ℕ} {rest : List ℕ} {place : Here} → is_gap (first rest) ≡ false → is_loosely_left at left (is_closing single rest) column ≡ true → WrongInside single at start left (Lines empty column) rest place InvalidQuotedScalarIndent (mark_of place)
+  -- content, the closing quote or the end, left of its block, at it: where indentation is strict, in flow and behind an escaped break
+  strict : {empty column : ℕ} {rest : List ℕ} {place : Here} → is_gap (first rest) ≡ false → at.strict ≡ true → (at.in_flow || left) ≡ true → is_left at.block_column column ≡ true
+      → WrongInside single at start left (Lines empty column) rest place InvalidIndentation (mark_of place)
+  -- and otherwise outside flow, but not the closing quote, unless indentation is strict
+  loose : {empty column : ℕ} {rest : List ℕ} {place : Here} → is_gap (first rest) ≡ false → at.in_flow ≡ false → left ≡ false → is_left at.block_column column ≡ true → (at.strict || not (is_closing single rest)) ≡ true
+      → WrongInside single at start left (Lines empty column) rest place InvalidQuotedScalarIndent (mark_of place)
   -- a document mark in column 0, at the scalar's start
   mark : {empty : ℕ} {rest : List ℕ} {place : Here} → is_document_mark rest ≡ true → WrongInside single at start left (Lines empty 0) rest place DocumentIndicatorInQuotedScalar start
   -- the end before the closing quote, at the scalar's start

@@ -7,12 +7,12 @@ use Rattle.granit_base.specs.Classes.{is_break, is_gap, is_printable}
 use Rattle.granit_base.specs.Place.{Mark, first}
 use Rattle.granit_error.specs.FaultKind.{InvalidIndentation, UnclosedQuotedScalar, DocumentIndicatorInQuotedScalar, TabInIndentation, InvalidQuotedScalarIndent, UnexpectedCharacter}
 use Rattle.granit_model.specs.Here.{Here, next_char, mark_of, step, text_len}
-use Rattle.granit_model.specs.LayoutData.{LayoutData}
+use Rattle.granit_model.specs.LayoutData.{LayoutData, is_left}
 use Rattle.granit_model.specs.Outcome.{Fault, ◌>>=◌}
 use Rattle.granit_model.specs.Pieces.{with_front, pieces}
 use Rattle.granit_model.specs.PlainExtent.{over}
 use Rattle.granit_model.specs.PlainScalar.{is_document_mark}
-use Rattle.granit_model.specs.QuotedExtent.{Between, Blanks, Lines, Separates, between_text, is_literal, Piece, itself, doubled, escape as escape_piece, before_break, MayStand, Inside, nothing, content, quoted_value, WrongInside, tab, strict, loose, mark, end, character, escape}
+use Rattle.granit_model.specs.QuotedExtent.{Between, Blanks, Lines, Separates, between_text, is_literal, Piece, itself, doubled, escape as escape_piece, before_break, may_be_left, MayStand, Inside, nothing, content, quoted_value, WrongInside, tab, strict, loose, mark, end, character, escape}
 use Rattle.granit_model.specs.QuotedScalar.{QuotedState, quote_char, is_closing, is_tab_left, is_strictly_left, is_loosely_left, between_quoted, quoted_at, over_blank, over_break, quoted_piece, quoted_content, quoted_turn, quoted_len, escape_or}
 use Rattle.granit_model.proofs.HereLemmas.{not_empty}
 use Rattle.granit_scalars.proofs.QuotedEscapes.{ReadsEscape, reads_escape}
@@ -75,11 +75,24 @@ line_false : (line test : Bool) → (line && test) ≡ false → line ≡ true �
 line_false true test e y = e
 line_false false test e y = cc
 
+both_no : (s f left closing : Bool) → ((s && f) && left) ≡ false → ((not f && (s || not closing)) && left) ≡ false → (left && not (not s && (f || closing))) ≡ false
+both_no s f false closing p q = refl
+both_no true true true closing p q = absurd cc
+both_no true false true closing p q = absurd cc
+both_no false true true closing p q = refl
+both_no false false true true p q = refl
+both_no false false true false p q = absurd cc
+
+not_left : (single : Bool) (at : LayoutData) (escaped : Bool) (column : ℕ) (text : List ℕ) → is_strictly_left at escaped column ≡ false → is_loosely_left at escaped (is_closing single text) column ≡ false → (is_left at.block_column column && not (may_be_left single at escaped text)) ≡ false
+unfolding is_strictly_left is_loosely_left
+not_left single at escaped column text p q = both_no at.strict (at.in_flow || escaped) (is_left at.block_column column) (is_closing single text) p q
+
 pub may_stand : (single : Bool) (at : LayoutData) (x : Between) (s : QuotedState) → StateIs x s → Placed single at s → MayStand single at s.escaped x s.here.unread.text
 may_stand single at (Blanks blanks) s k p = tt
 may_stand single at (Lines empty column) s k p = (
-  ap (is_strictly_left at s.escaped) (sym k.2) ∙ line_false s.on_new_line (is_strictly_left at s.escaped s.here.place.column) p.no_strict k.1,
-  ap (is_loosely_left at s.escaped (is_closing single s.here.unread.text)) (sym k.2) ∙ line_false s.on_new_line (is_loosely_left at s.escaped (is_closing single s.here.unread.text) s.here.place.column) p.no_loose k.1,
+  not_left single at s.escaped column s.here.unread.text
+      (ap (is_strictly_left at s.escaped) (sym k.2) ∙ line_false s.on_new_line (is_strictly_left at s.escaped s.here.place.column) p.no_strict k.1)
+      (ap (is_loosely_left at s.escaped (is_closing single s.here.unread.text)) (sym k.2) ∙ line_false s.on_new_line (is_loosely_left at s.escaped (is_closing single s.here.unread.text) s.here.place.column) p.no_loose k.1),
   ap (λ n. n == 0 && is_document_mark s.here.unread.text) (sym k.2) ∙ line_false s.on_new_line (s.here.place.column == 0 && is_document_mark s.here.unread.text) p.no_mark k.1,
 )
 
@@ -163,14 +176,38 @@ wrong_tab single at start s y (Lines empty column) k =
     let is : next_char s.here ≡ 0x09 = let a = p.0 in grind (arith, nat_tests) in
     tab is (ap (is_tab_left at) (sym k.2) ∙ p.1)
 
+strict_parts : (at : LayoutData) (escaped : Bool) (column : ℕ) → is_strictly_left at escaped column ≡ true → (at.strict ≡ true) × ((at.in_flow || escaped) ≡ true) × (is_left at.block_column column ≡ true)
+unfolding is_strictly_left
+strict_parts at escaped column y =
+    let p = and_parts (at.strict && (at.in_flow || escaped)) (is_left at.block_column column) y in
+    let q = and_parts at.strict (at.in_flow || escaped) p.0 in
+    (q.0, q.1, p.1)
+
+neither : (a b : Bool) → not (a || b) ≡ true → (a ≡ false) × (b ≡ false)
+neither true b e = absurd cc
+neither false true e = absurd cc
+neither false false e = (refl, refl)
+
+loose_parts : (at : LayoutData) (escaped closing : Bool) (column : ℕ) → is_loosely_left at escaped closing column ≡ true → (at.in_flow ≡ false) × (escaped ≡ false) × (is_left at.block_column column ≡ true) × ((at.strict || not closing) ≡ true)
+unfolding is_loosely_left
+loose_parts at escaped closing column y =
+    let p = and_parts (not (at.in_flow || escaped) && (at.strict || not closing)) (is_left at.block_column column) y in
+    let q = and_parts (not (at.in_flow || escaped)) (at.strict || not closing) p.0 in
+    let n = neither at.in_flow escaped q.0 in
+    (n.0, n.1, p.1, q.1)
+
 wrong_strict : (single : Bool) (at : LayoutData) (start : Mark) (s : QuotedState) → is_gap (next_char s.here) ≡ false → strict_meets at s ≡ true → (x : Between) → StateIs x s → WrongInside single at start s.escaped x s.here.unread.text s.here InvalidIndentation (mark_of s.here)
 wrong_strict single at start s n y (Blanks blanks) k = absurd (no_line s.on_new_line (is_strictly_left at s.escaped s.here.place.column) y k.1)
-wrong_strict single at start s n y (Lines empty column) k = strict n (ap (is_strictly_left at s.escaped) (sym k.2) ∙ (and_parts s.on_new_line (is_strictly_left at s.escaped s.here.place.column) y).1)
+wrong_strict single at start s n y (Lines empty column) k =
+    let p = strict_parts at s.escaped column (ap (is_strictly_left at s.escaped) (sym k.2) ∙ (and_parts s.on_new_line (is_strictly_left at s.escaped s.here.place.column) y).1) in
+    strict n p.0 p.1 p.2
 
 wrong_loose : (single : Bool) (at : LayoutData) (start : Mark) (s : QuotedState) → is_gap (next_char s.here) ≡ false → loose_meets single at s ≡ true → (x : Between) → StateIs x s → WrongInside single at start s.escaped x s.here.unread.text s.here InvalidQuotedScalarIndent (mark_of s.here)
 wrong_loose single at start s n y (Blanks blanks) k = absurd (no_line s.on_new_line (is_loosely_left at s.escaped (is_closing single s.here.unread.text) s.here.place.column) y k.1)
 wrong_loose single at start s n y (Lines empty column) k =
-    loose n (ap (is_loosely_left at s.escaped (is_closing single s.here.unread.text)) (sym k.2) ∙ (and_parts s.on_new_line (is_loosely_left at s.escaped (is_closing single s.here.unread.text) s.here.place.column) y).1)
+    let c = is_closing single s.here.unread.text in
+    let p = loose_parts at s.escaped c column (ap (is_loosely_left at s.escaped c) (sym k.2) ∙ (and_parts s.on_new_line (is_loosely_left at s.escaped c s.here.place.column) y).1) in
+    loose n p.0 p.1 p.2 p.3
 
 wrong_mark : (single : Bool) (at : LayoutData) (start : Mark) (s : QuotedState) → mark_meets s ≡ true → (x : Between) → StateIs x s → WrongInside single at start s.escaped x s.here.unread.text s.here DocumentIndicatorInQuotedScalar start
 wrong_mark single at start s y (Blanks blanks) k = absurd (no_line s.on_new_line (s.here.place.column == 0 && is_document_mark s.here.unread.text) y k.1)

@@ -8,12 +8,12 @@ use Rattle.granit_base.specs.Place.{Mark, first}
 use Rattle.granit_model.specs.Decoding.{letter_value, digit_count, Escape, letter, number, halves}
 use Rattle.granit_model.specs.Gap.{Each}
 use Rattle.granit_model.specs.Here.{Here, next_char, step, text_len}
-use Rattle.granit_model.specs.LayoutData.{LayoutData}
+use Rattle.granit_model.specs.LayoutData.{LayoutData, is_left}
 use Rattle.granit_model.specs.Outcome.{Fault, ◌>>=◌}
 use Rattle.granit_model.specs.Pieces.{with_front, pieces}
 use Rattle.granit_model.specs.PlainExtent.{over}
 use Rattle.granit_model.specs.PlainScalar.{past_break, is_document_mark}
-use Rattle.granit_model.specs.QuotedExtent.{OneBreak, line_feed, pair, carriage_return, NewLine, no_more, blank, break, Between, Blanks, Lines, Separates, on_line, folded, between_text, is_literal, Piece, itself, doubled, escape, before_break, MayStand, Inside, nothing, content}
+use Rattle.granit_model.specs.QuotedExtent.{OneBreak, line_feed, pair, carriage_return, NewLine, no_more, blank, break, Between, Blanks, Lines, Separates, on_line, folded, between_text, is_literal, Piece, itself, doubled, escape, before_break, may_be_left, MayStand, Inside, nothing, content}
 use Rattle.granit_model.specs.QuotedScalar.{QuotedState, quote_char, is_closing, is_tab_left, is_strictly_left, is_loosely_left, between_quoted, quoted_at, over_blank, over_break, quoted_piece, quoted_content, quoted_turn, quoted_len, escape_or}
 use Rattle.granit_model.proofs.HereLemmas.{not_empty}
 use Rattle.granit_model.proofs.PieceLemmas.{with_front-nil, with_front-with_front, pieces_more, pieces_done}
@@ -183,6 +183,29 @@ no_true : {A : Type 0} (b : Bool) → b ≡ false → b ≡ true → A
 no_true true e f = absurd cc
 no_true false e f = absurd cc
 
+strict_no : (strict f left closing : Bool) → (left && not (not strict && (f || closing))) ≡ false → ((strict && f) && left) ≡ false
+strict_no true true true closing e = absurd cc
+strict_no true true false closing e = refl
+strict_no true false left closing e = refl
+strict_no false f left closing e = refl
+
+loose_no : (strict f left closing : Bool) → (left && not (not strict && (f || closing))) ≡ false → ((not f && (strict || not closing)) && left) ≡ false
+loose_no strict true left closing e = refl
+loose_no true false true closing e = absurd cc
+loose_no true false false closing e = refl
+loose_no false false left true e = refl
+loose_no false false true false e = absurd cc
+loose_no false false false false e = refl
+
+module _ (single : Bool) (at : LayoutData) (escaped : Bool) (column : ℕ) (text : List ℕ) (e : (is_left at.block_column column && not (may_be_left single at escaped text)) ≡ false) where
+  no_strictly : is_strictly_left at escaped column ≡ false
+  unfolding is_strictly_left
+  no_strictly = strict_no at.strict (at.in_flow || escaped) (is_left at.block_column column) (is_closing single text) e
+
+  no_loosely : is_loosely_left at escaped (is_closing single text) column ≡ false
+  unfolding is_loosely_left
+  no_loosely = loose_no at.strict (at.in_flow || escaped) (is_left at.block_column column) (is_closing single text) e
+
 placed : (single : Bool) (at : LayoutData) (x : Between) (s : QuotedState) → StateIs x s → MayStand single at s.escaped x s.here.unread.text → is_gap (next_char s.here) ≡ false → Placed single at s
 placed single at (Blanks blanks) s i m n = record {
   no_gap = n;
@@ -192,9 +215,9 @@ placed single at (Blanks blanks) s i m n = record {
 }
 placed single at (Lines empty column) s i m n = record {
   no_gap = n;
-  no_strict = line_no s.on_new_line (is_strictly_left at s.escaped s.here.place.column) (λ _. ap (is_strictly_left at s.escaped) i.2 ∙ m.0);
-  no_loose = line_no s.on_new_line (is_loosely_left at s.escaped (is_closing single s.here.unread.text) s.here.place.column) (λ _. ap (is_loosely_left at s.escaped (is_closing single s.here.unread.text)) i.2 ∙ m.1);
-  no_mark = line_no s.on_new_line (s.here.place.column == 0 && is_document_mark s.here.unread.text) (λ _. ap (λ k. k == 0 && is_document_mark s.here.unread.text) i.2 ∙ m.2);
+  no_strict = line_no s.on_new_line (is_strictly_left at s.escaped s.here.place.column) (λ _. ap (is_strictly_left at s.escaped) i.2 ∙ no_strictly single at s.escaped column s.here.unread.text m.0);
+  no_loose = line_no s.on_new_line (is_loosely_left at s.escaped (is_closing single s.here.unread.text) s.here.place.column) (λ _. ap (is_loosely_left at s.escaped (is_closing single s.here.unread.text)) i.2 ∙ no_loosely single at s.escaped column s.here.unread.text m.0);
+  no_mark = line_no s.on_new_line (s.here.place.column == 0 && is_document_mark s.here.unread.text) (λ _. ap (λ k. k == 0 && is_document_mark s.here.unread.text) i.2 ∙ m.1);
 }
 
 -- what content or the closing quote begins with
