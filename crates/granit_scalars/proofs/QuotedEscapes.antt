@@ -131,15 +131,17 @@ one_digit kind start count n h true y (Ok (value, after)) d =
     }
 one_digit kind start count n h true y (Err f) d =
     let s = seen is_hex h no_hex_nul y in
-    let t = d.1 in
-    (d.0, record {
-      digits = next_char h ∷ t.digits;
-      rest = t.rest;
-      are = s.is ∙ ap (λ (l : List ℕ). next_char h ∷ l) t.are;
-      each = (y, t.each);
-      fewer = let k = t.fewer in omega arith;
-      ended = t.ended;
-    })
+    let t = d.1 in (
+      d.0,
+      record {
+        digits = next_char h ∷ t.digits;
+        rest = t.rest;
+        are = s.is ∙ ap (λ (l : List ℕ). next_char h ∷ l) t.are;
+        each = (y, t.each);
+        fewer = let k = t.fewer in omega arith;
+        ended = t.ended;
+      },
+    )
 one_digit kind start count n h false y r d = (refl, record { digits = []; rest = h.unread.text; are = refl; each = tt; fewer = omega arith; ended = y })
 
 reads_digits : (kind : FaultKind) (start : Mark) (count n : ℕ) (h : Here) → ReadsDigits kind start count n h (digits_or kind start count n h)
@@ -186,9 +188,11 @@ joins start high value h after t e f d false y =
 second_digits : (start : Mark) (high : ℕ) (h : Here) (t : List ℕ) → h.unread.text ≡ 0x5C ∷ 0x75 ∷ t → t ≡ (step (step h)).unread.text → (r : Result (ℕ × Here) Fault) → ReadsDigits InvalidLowSurrogateHexEscape start 4 0 (step (step h)) r
     → ReadsSecond start high h (r >>= λ x. joined_or start high x.0 x.1)
 second_digits start high h t e f (Ok (value, after)) d = joins start high value h after t e f d (is_low value) refl
-second_digits start high h t e f (Err g) d =
-    (ap (λ (x : Fault). x.mark) d.0, λ ds a p. subst (λ k. WrongEscape k (0x75 ∷ (ds ++ h.unread.text))) (sym (ap (λ (x : Fault). x.kind) d.0))
-    (subst (λ (l : List ℕ). WrongEscape InvalidLowSurrogateHexEscape (0x75 ∷ (ds ++ l))) (sym e) (second_hex ds t a p (subst (TooFewDigits 4) (sym f) d.1))))
+second_digits start high h t e f (Err g) d = (
+  ap (λ (x : Fault). x.mark) d.0,
+  λ ds a p. subst (λ k. WrongEscape k (0x75 ∷ (ds ++ h.unread.text))) (sym (ap (λ (x : Fault). x.kind) d.0))
+      (subst (λ (l : List ℕ). WrongEscape InvalidLowSurrogateHexEscape (0x75 ∷ (ds ++ l))) (sym e) (second_hex ds t a p (subst (TooFewDigits 4) (sym f) d.1))),
+)
 
 second_if : (start : Mark) (high : ℕ) (h : Here) (b : Bool) → (next_char h == 0x5C && slice_index h.unread.text 1 == 0x75) ≡ b
     → ReadsSecond start high h (if b then (digits_or InvalidLowSurrogateHexEscape start 4 0 (step (step h)) >>= λ x. joined_or start high x.0 x.1) else fails_at MissingLowSurrogate start)

@@ -128,11 +128,10 @@ inside_folds {single} {at} (content {behind = behind} {gap = gap} {piece = piece
     let one = one_piece piece_is cs simple in
     let rest = inside_folds on one.none (each_behind (is_simple single) piece cs simple) further x p in
     let c = one.c in
-    let apart : Separates at gap (c ∷ (cs ++ further)) y = swap q (c ∷ (cs ++ further)) (no_line_feed c (cs ++ further) one.no_gap) in
-    (
+    let apart : Separates at gap (c ∷ (cs ++ further)) y = swap q (c ∷ (cs ++ further)) (no_line_feed c (cs ++ further) one.no_gap) in (
       ap (λ (t : List ℕ). folded (t ++ further)) (is ∙ ap (λ (t : List ℕ). gap ++ (t ++ cs)) one.is) ∙ ap folded (append_assoc gap (c ∷ cs) further)
-      ∙ gap_folds c apart refl one.no_gap ∙ ap (λ (t : List ℕ). between_text false y ++ (c ∷ t)) rest.0
-      ∙ sym (ap (λ (t : List ℕ). t ++ between_text false x) (v ∙ ap₂ (λ b (t : List ℕ). between_text b y ++ (t ++ more)) e one.value) ∙ append_assoc (between_text false y) (c ∷ more) (between_text false x)),
+          ∙ gap_folds c apart refl one.no_gap ∙ ap (λ (t : List ℕ). between_text false y ++ (c ∷ t)) rest.0
+          ∙ sym (ap (λ (t : List ℕ). t ++ between_text false x) (v ∙ ap₂ (λ b (t : List ℕ). between_text b y ++ (t ++ more)) e one.value) ∙ append_assoc (between_text false y) (c ∷ more) (between_text false x)),
       rest.1,
     )
 

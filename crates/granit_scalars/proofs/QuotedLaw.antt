@@ -34,7 +34,13 @@ front_of single at h y f = record { whole = quote_seen single h y ∙ ap (λ (t 
 with_tail : (single : Bool) (at : LayoutData) (h : Here) (source value gap : List ℕ) (left : Bool) (x : Between) (rest text : List ℕ) (end : Here) → QuotedStands single at h source value gap left x rest → text ≡ quoted_value value left x → end ≡ quoted_end single h source gap
     → (given : Result (QuotedRead × Here) Fault) → TailReads single at (mark_of h) text end given → QuotedAnswered single at h given
 with_tail single at h source value gap left x rest text end stands e f (Ok (read, after)) t = record {
-  source = source; value = value; gap = gap; left = left; between = x; rest = rest; noted = t.0;
+  source = source;
+  value = value;
+  gap = gap;
+  left = left;
+  between = x;
+  rest = rest;
+  noted = t.0;
   stands = stands;
   trails = subst (λ (g : Here). Trails at (mark_of h) g t.0 after) f t.1;
   answer = t.2 ∙ ap₂ (λ (v : List ℕ) (g : Here). quoted_read single (mark_of h) v (mark_of g) t.0) e f;

@@ -78,8 +78,7 @@ one_quoted single at h source value gap left x rest other spelled further right 
     let same_rest : rest ≡ behind = sym a.behind ∙ ap (λ (t : QuotedState). t.here.unread.text) s.1 ∙ b.behind in
     let mine : (step h).unread.text ≡ (source ++ gap) ++ rest = text_behind h (quote_char single) (source ++ (gap ++ rest)) p.front.whole ∙ sym (append_assoc source gap rest) in
     let theirs : (step h).unread.text ≡ (other ++ further) ++ behind = text_behind h (quote_char single) (other ++ (further ++ behind)) q.front.whole ∙ sym (append_assoc other further behind) in
-    let joined : (source ++ gap) ++ rest ≡ (other ++ further) ++ rest = sym mine ∙ theirs ∙ ap (λ (t : List ℕ). (other ++ further) ++ t) (sym same_rest) in
-    (
+    let joined : (source ++ gap) ++ rest ≡ (other ++ further) ++ rest = sym mine ∙ theirs ∙ ap (λ (t : List ℕ). (other ++ further) ++ t) (sym same_rest) in (
       append_cancel_right (source ++ gap) (other ++ further) rest joined,
       sym a.spells ∙ ap₂ (λ (t : List ℕ) (l : QuotedState). t ++ between_quoted l) s.0 s.1 ∙ b.spells,
       same_rest,

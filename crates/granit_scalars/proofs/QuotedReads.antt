@@ -159,7 +159,13 @@ found single at s gap x behind h = record { whole = h.text; inside = nothing; se
 
 wrong_at : (single : Bool) (at : LayoutData) (start : Mark) (s : QuotedState) (f : Fault) → ((x : Between) → StateIs x s → WrongInside single at start s.escaped x s.here.unread.text s.here f.kind f.mark) → QuotedReads single at start s (Err f)
 wrong_at single at start s f w = λ gap x behind h. record {
-  source = []; value = []; gap = gap; left = s.escaped; x = x; rest = s.here.unread.text; place = s.here;
+  source = [];
+  value = [];
+  gap = gap;
+  left = s.escaped;
+  x = x;
+  rest = s.here.unread.text;
+  place = s.here;
   finds = found single at s gap x behind h;
   place_is = h.here;
   wrong = w x h.state;
@@ -298,7 +304,10 @@ content_reads single at start s p n pr c r (at_an_escape y e b) = escape_reads s
 
 stopped : (single : Bool) (at : LayoutData) (start : Mark) (s : QuotedState) → Placed single at s → is_closing single s.here.unread.text ≡ true → QuotedReads single at start s (Ok ([], s))
 stopped single at start s p c = λ gap x behind h. record {
-  source = []; value = []; gap = gap; x = x;
+  source = [];
+  value = [];
+  gap = gap;
+  x = x;
   finds = found single at s gap x behind h;
   place = h.here;
   closing = c;

@@ -82,16 +82,16 @@ module _ (single : Bool) (at : LayoutData) (start : Mark) (value : List ℕ) (h 
 
   prints_if : (text_len past_here == 0) ≡ false → (b : Bool) → is_printable (next_char past_here) ≡ b
       → TailReads single at start value h (if not b then fails_at (UnexpectedCharacter (next_char past_here)) (mark_of past_here)
-          else if may_trail at (past_here.place.line == start.place.line) (next_char past_here) then Ok (quoted_read single start value (mark_of h) None, past_here)
-          else fails_at (trailing_kind single) (mark_of past_here))
+      else if may_trail at (past_here.place.line == start.place.line) (next_char past_here) then Ok (quoted_read single start value (mark_of h) None, past_here)
+      else fails_at (trailing_kind single) (mark_of past_here))
   prints_if some true y = may_if some y (may_trail at (past_here.place.line == start.place.line) (next_char past_here)) refl
   prints_if some false y = strange some y
 
   some_if : (b : Bool) → (text_len past_here == 0) ≡ b
       → TailReads single at start value h (if b then Ok (quoted_read single start value (mark_of h) None, past_here)
-          else if not (is_printable (next_char past_here)) then fails_at (UnexpectedCharacter (next_char past_here)) (mark_of past_here)
-          else if may_trail at (past_here.place.line == start.place.line) (next_char past_here) then Ok (quoted_read single start value (mark_of h) None, past_here)
-          else fails_at (trailing_kind single) (mark_of past_here))
+      else if not (is_printable (next_char past_here)) then fails_at (UnexpectedCharacter (next_char past_here)) (mark_of past_here)
+      else if may_trail at (past_here.place.line == start.place.line) (next_char past_here) then Ok (quoted_read single start value (mark_of h) None, past_here)
+      else fails_at (trailing_kind single) (mark_of past_here))
   some_if true y = answered (ap (λ b. b || (is_printable (next_char past_here) && may_trail at (past_here.place.line == start.place.line) (next_char past_here))) y)
   some_if false y = prints_if y (is_printable (next_char past_here)) refl
 
@@ -114,8 +114,8 @@ comment_if single at start value h n blanks rest p false y = behind_reads single
 
 touching_if : (single : Bool) (at : LayoutData) (start : Mark) (value : List ℕ) (h : Here) (blanks rest : List ℕ) → BlanksBehind h blanks rest → (b : Bool) → (next_char h == 0x23) ≡ b
     → TailReads single at start value h (if b then fails_at CommentNotSeparated (mark_of h)
-        else if next_char (over blanks h) == 0x23 then (comment (over blanks h) >>= λ x. Ok (quoted_read single start value (mark_of h) (asked_comment at x.0), x.1))
-        else behind_quoted single at start value (mark_of h) (over blanks h))
+    else if next_char (over blanks h) == 0x23 then (comment (over blanks h) >>= λ x. Ok (quoted_read single start value (mark_of h) (asked_comment at x.0), x.1))
+    else behind_quoted single at start value (mark_of h) (over blanks h))
 touching_if single at start value h blanks rest p true y = touching y
 touching_if single at start value h blanks rest p false y = comment_if single at start value h y blanks rest p (next_char (over blanks h) == 0x23) refl
 
@@ -125,8 +125,8 @@ unfolding quoted_tail
 tail_reads single at start value h =
     let s = split h.unread.text in
     subst (λ (g : Here). TailReads single at start value h (if next_char h == 0x23 then fails_at CommentNotSeparated (mark_of h)
-        else if next_char g == 0x23 then (comment g >>= λ x. Ok (quoted_read single start value (mark_of h) (asked_comment at x.0), x.1))
-        else behind_quoted single at start value (mark_of h) g)) (sym (past_blanks s.blanks s.rest h s.whole s.each s.all))
+    else if next_char g == 0x23 then (comment g >>= λ x. Ok (quoted_read single start value (mark_of h) (asked_comment at x.0), x.1))
+    else behind_quoted single at start value (mark_of h) g)) (sym (past_blanks s.blanks s.rest h s.whole s.each s.all))
     (touching_if single at start value h s.blanks s.rest (record { whole = s.whole; each = s.each; all = s.all }) (next_char h == 0x23) refl)
 
 -- ---- what may stand there is read

@@ -17,8 +17,8 @@ pub use plain::{
     one_plain_scalar,
 };
 pub use quoted::{
-    every_quoted_answer_stands, every_quoted_refusal_has_its_cause, every_quoted_scalar_is_answered,
-    one_quoted_scalar, simple_quoted_scalars_fold,
+    every_quoted_answer_stands, every_quoted_refusal_has_its_cause,
+    every_quoted_scalar_is_answered, one_quoted_scalar, simple_quoted_scalars_fold,
 };
 pub use quoted_examples::{
     ends_of_quoted_examples, escapes_of_quoted_examples, places_behind_quoted_examples,
