@@ -10,9 +10,10 @@ use Rattle.granit_model.specs.Folding.{break_text}
 use Rattle.granit_model.specs.Gap.{Each}
 use Rattle.granit_model.specs.Here.{Here, mark_of}
 use Rattle.granit_model.specs.LayoutData.{LayoutData, is_left}
+use Rattle.granit_model.specs.Lexeme.{Scalar}
 use Rattle.granit_model.specs.PlainExtent.{over, starts_comment}
 use Rattle.granit_model.specs.PlainScalar.{is_document_mark}
-use Rattle.granit_model.specs.QuotedScalar.{QuotedRead, quote_char, is_closing, is_tab_left, quoted_read, asked_comment, may_trail}
+use Rattle.granit_model.specs.QuotedScalar.{QuotedRead, quote_char, is_closing, is_tab_left, quoted_style, asked_comment, may_trail}
 
 -- ---- blanks and breaks
 
@@ -132,6 +133,14 @@ pub data Trails (at : LayoutData) (start : Mark) (end : Here) : Option CommentRe
   nothing : {after : Here} (blanks rest : List ℕ) → BlanksBehind end blanks rest → starts_comment rest ≡ false → after ≡ over blanks end → ends_quoted at start after ≡ true
       → Trails at start end None after
 
+-- what is answered for it; no break behind it is read
+abbrev pub quoted_answer : Bool → Mark → (value : List ℕ) → Mark → Option CommentRead → QuotedRead
+quoted_answer single start value end noted = record {
+  lexeme = record { kind = Scalar (quoted_style single) (record { characters = value; is_borrowed = false }); source = record { start = start; end = end } };
+  comment = noted;
+  on_new_line = false;
+}
+
 -- A quoted scalar is answered where it stands, with its value and what stands behind it.
 pub record AnswersQuoted (single : Bool) (at : LayoutData) (h : Here) (read : QuotedRead) (after : Here) : Type 0 where
   pub source : List ℕ
@@ -143,7 +152,7 @@ pub record AnswersQuoted (single : Bool) (at : LayoutData) (h : Here) (read : Qu
   pub noted : Option CommentRead
   pub stands : QuotedStands single at h source value gap left between rest
   pub trails : Trails at (mark_of h) (quoted_end single h source gap) noted after
-  pub answer : read ≡ quoted_read single (mark_of h) (quoted_value value left between) (mark_of (quoted_end single h source gap)) noted
+  pub answer : read ≡ quoted_answer single (mark_of h) (quoted_value value left between) (mark_of (quoted_end single h source gap)) noted
 
 -- ---- refusals
 
