@@ -1,3 +1,4 @@
+pub mod Comments
 pub mod Folding
 pub mod PlainKept
 pub mod PlainLaw
@@ -6,5 +7,14 @@ pub mod PlainReads
 pub mod PlainSpelling
 pub mod PlainTurns
 pub mod Printing
+pub mod QuotedEscapes
+pub mod QuotedFolding
+pub mod QuotedKept
+pub mod QuotedLaw
+pub mod QuotedOnce
+pub mod QuotedReads
+pub mod QuotedRuns
+pub mod QuotedTail
+pub mod QuotedTurns
 pub mod Stepping
 pub mod Turning

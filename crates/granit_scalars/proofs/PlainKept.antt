@@ -59,15 +59,15 @@ content_stays at s = record { end = refl; here = refl; text = refl; kept = recor
 abbrev pub Goes : LayoutData → Here → PlainState → Type 0
 Goes at behind after = (g : Separation) × Stays at g behind after
 
-one_more_blank : (bs : List ℕ) (b : ℕ) → Each is_blank bs → is_blank b ≡ true → Each is_blank (bs ++ b ∷ [])
+pub one_more_blank : (bs : List ℕ) (b : ℕ) → Each is_blank bs → is_blank b ≡ true → Each is_blank (bs ++ b ∷ [])
 one_more_blank [] b y z = (z, tt)
 one_more_blank (c ∷ bs) b y z = (y.0, one_more_blank bs b y.1 z)
 
 -- on over one more character
-over_one : (front : List ℕ) (behind h : Here) → h ≡ over front behind → step h ≡ over (front ++ next_char h ∷ []) behind
+pub over_one : (front : List ℕ) (behind h : Here) → h ≡ over front behind → step h ≡ over (front ++ next_char h ∷ []) behind
 over_one front behind h e = ap step e ∙ sym (over-append front (next_char h ∷ []) behind)
 
-text_one : (front : List ℕ) (whole : List ℕ) (h : Here) → Seen h → whole ≡ front ++ h.unread.text → whole ≡ (front ++ next_char h ∷ []) ++ (step h).unread.text
+pub text_one : (front : List ℕ) (whole : List ℕ) (h : Here) → Seen h → whole ≡ front ++ h.unread.text → whole ≡ (front ++ next_char h ∷ []) ++ (step h).unread.text
 text_one front whole h s e = e ∙ ap (λ (t : List ℕ). front ++ t) s.is ∙ sym (append_assoc front (next_char h ∷ []) (step h).unread.text)
 
 abbrev on_line_blank : PlainState → PlainState
@@ -156,7 +156,7 @@ text_break front whole h b e =
     e ∙ ap (λ (t : List ℕ). front ++ t) b.text ∙ sym (append_assoc front b.characters (past_break h).unread.text)
     ∙ ap (λ (t : List ℕ). t ++ (past_break h).unread.text) (sym (append-nil (front ++ b.characters)))
 
-one_more : (k c : ℕ) → replicate k c ++ c ∷ [] ≡ replicate (suc k) c
+pub one_more : (k c : ℕ) → replicate k c ++ c ∷ [] ≡ replicate (suc k) c
 one_more zero c = refl
 one_more (suc k) c = ap (λ (t : List ℕ). c ∷ t) (one_more k c)
 

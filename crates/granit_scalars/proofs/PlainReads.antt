@@ -98,7 +98,7 @@ and_not : (a b : Bool) → b ≡ true → (a && not b) ≡ false
 and_not true b e = ap not e
 and_not false b e = refl
 
-neither_gap : (c : ℕ) → is_gap c ≡ false → (is_blank c ≡ false) × (is_break c ≡ false)
+pub neither_gap : (c : ℕ) → is_gap c ≡ false → (is_blank c ≡ false) × (is_break c ≡ false)
 unfolding is_gap
 neither_gap c e = or_parts (is_blank c) (is_break c) e
 

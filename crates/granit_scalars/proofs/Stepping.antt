@@ -100,11 +100,11 @@ is_break_lf : is_break 0x0A ≡ true
 unfolding is_break
 is_break_lf = refl
 
-is_break_nul : is_break 0 ≡ false
+pub is_break_nul : is_break 0 ≡ false
 unfolding is_break
 is_break_nul = refl
 
-second_of : (h : Here) → Seen h → slice_index h.unread.text 1 ≡ next_char (step h)
+pub second_of : (h : Here) → Seen h → slice_index h.unread.text 1 ≡ next_char (step h)
 second_of h s = ap (λ (l : List ℕ). slice_index l 1) s.is
 
 broken_if : (h : Here) → Seen h → is_break (next_char h) ≡ true → (b : Bool) → (next_char h == 0x0D && slice_index h.unread.text 1 == 0x0A) ≡ b → Broken h (if b then step (step h) else step h)

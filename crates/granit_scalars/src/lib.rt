@@ -4,6 +4,8 @@
 
 mod examples;
 mod plain;
+mod quoted;
+mod quoted_examples;
 
 pub use examples::{
     comments_of_the_examples, ends_of_the_examples, examples_of_the_specification,
@@ -13,4 +15,13 @@ pub use examples::{
 pub use plain::{
     every_plain_answer_stands, every_plain_refusal_has_its_cause, every_plain_scalar_is_answered,
     one_plain_scalar,
+};
+pub use quoted::{
+    every_quoted_answer_stands, every_quoted_refusal_has_its_cause,
+    every_quoted_scalar_is_answered, one_quoted_scalar, simple_quoted_scalars_fold,
+};
+pub use quoted_examples::{
+    ends_of_quoted_examples, escapes_of_quoted_examples, places_behind_quoted_examples,
+    places_of_quoted_examples, quoted_examples_of_the_specification, values_of_quoted_examples,
+    wrong_escapes_of_quoted_examples,
 };

@@ -1,0 +1,48 @@
+-- Words of the worked examples of quoted scalars.
+use Rattle.std.specs.Prelude.{ℕ, Bool, true, false, List, take, Option, Some, None, Result, Ok, Err}
+use Rattle.granit_base.specs.Place.{Place}
+use Rattle.granit_model.specs.Comment.{CommentRead}
+use Rattle.granit_model.specs.Here.{Here, start_of}
+use Rattle.granit_model.specs.LayoutData.{LayoutData}
+use Rattle.granit_model.specs.Line.{event_line, fault_line}
+use Rattle.granit_model.specs.Outcome.{Fault}
+use Rattle.granit_model.specs.PlainEvent.{event_at}
+use Rattle.granit_model.specs.PlainExtent.{over}
+use Rattle.granit_model.specs.QuotedScalar.{QuotedRead, quoted_scalar}
+use Rattle.granit_scalars.specs.Examples.{event_of}
+
+-- block column, tab column, in flow, strict
+abbrev pub quoted_layout : Option ℕ → ℕ → Bool → Bool → LayoutData
+quoted_layout block_column tab_column in_flow strict = record { block_column = block_column; tab_column = tab_column; in_flow = in_flow; strict = strict; comments = true }
+
+-- the quoted scalar that begins at an index of a text
+abbrev pub quoted_in : (single : Bool) → LayoutData → List ℕ → ℕ → Result (QuotedRead × Here) Fault
+quoted_in single at text index = quoted_scalar single at (over (take index text) (start_of text))
+
+abbrev pub quoted_token_line : Result (QuotedRead × Here) Fault → List ℕ
+quoted_token_line (Ok (read, after)) = event_line (event_at (event_of read.lexeme.kind) read.lexeme.source)
+quoted_token_line (Err f) = fault_line f
+
+-- its token, or its fault
+abbrev pub quoted_line : (single : Bool) → LayoutData → List ℕ → ℕ → List ℕ
+quoted_line single at text index = quoted_token_line (quoted_in single at text index)
+
+-- where reading stands, the text of the comment that was read, and whether a break was
+pub record QuotedBehind : Type 0 where
+  pub place : Place
+  pub comment : Option (List ℕ)
+  pub on_new_line : Bool
+
+abbrev pub comment_text : Option CommentRead → Option (List ℕ)
+comment_text None = None
+comment_text (Some c) = Some c.text.characters
+
+abbrev pub quoted_behind : ℕ → ℕ → ℕ → Option (List ℕ) → Option QuotedBehind
+quoted_behind index line column comment = Some (record { place = record { index = index; line = line; column = column }; comment = comment; on_new_line = false })
+
+abbrev pub quoted_behind_of : Result (QuotedRead × Here) Fault → Option QuotedBehind
+quoted_behind_of (Ok (read, after)) = Some (record { place = after.place; comment = comment_text read.comment; on_new_line = read.on_new_line })
+quoted_behind_of (Err f) = None
+
+abbrev pub quoted_behind_line : (single : Bool) → LayoutData → List ℕ → ℕ → Option QuotedBehind
+quoted_behind_line single at text index = quoted_behind_of (quoted_in single at text index)

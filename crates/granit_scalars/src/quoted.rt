@@ -1,0 +1,37 @@
+//! The plain function on characters answers the quoted scalar that its definitions say.
+ghost use Rattle.std.specs.Prelude.{◌≡◌, ℕ, Bool, List, ◌++◌, Ok, Err};
+ghost use Rattle.granit_model.specs.Folding.{folded};
+ghost use Rattle.granit_model.specs.Gap.{Each};
+ghost use Rattle.granit_model.specs.Here.{Here, next_char};
+ghost use Rattle.granit_model.specs.LayoutData.{LayoutData};
+ghost use Rattle.granit_model.specs.Outcome.{Fault};
+ghost use Rattle.granit_model.specs.QuotedExtent.{AnswersQuoted, Between, QuotedStands, RefusesQuoted, is_simple, quoted_value};
+ghost use Rattle.granit_model.specs.QuotedScalar.{QuotedRead, quote_char, quoted_scalar};
+
+/// Where its quote stands, an answer is the quoted scalar that stands there up to its closing quote, with
+/// its value, the comment behind it, and where reading then stands.
+pub fn every_quoted_answer_stands()
+    ensures { (single : Bool) (at : LayoutData) (h : Here) (read : QuotedRead) (after : Here) → next_char h ≡ quote_char single → quoted_scalar single at h ≡ Ok (read, after) → AnswersQuoted single at h read after }
+{}
+
+/// A quoted scalar that stands there, with what may follow it, is answered.
+pub fn every_quoted_scalar_is_answered()
+    ensures { (single : Bool) (at : LayoutData) (h : Here) (read : QuotedRead) (after : Here) → AnswersQuoted single at h read after → quoted_scalar single at h ≡ Ok (read, after) }
+{}
+
+/// Where its quote stands, the cause of a refusal stands at its mark.
+pub fn every_quoted_refusal_has_its_cause()
+    ensures { (single : Bool) (at : LayoutData) (h : Here) (f : Fault) → next_char h ≡ quote_char single → quoted_scalar single at h ≡ Err f → RefusesQuoted single at h f.kind f.mark }
+{}
+
+/// At most one quoted scalar stands at a place: what is between its quotes, what that spells, and what
+/// stands behind it are known.
+pub fn one_quoted_scalar()
+    ensures { (single : Bool) (at : LayoutData) (h : Here) (source value gap : List ℕ) (left : Bool) (x : Between) (rest : List ℕ) (other spelled further : List ℕ) (right : Bool) (y : Between) (behind : List ℕ) → QuotedStands single at h source value gap left x rest → QuotedStands single at h other spelled further right y behind → (source ++ gap ≡ other ++ further) × (quoted_value value left x ≡ quoted_value spelled right y) × (rest ≡ behind) }
+{}
+
+/// Where neither the quote nor, between double quotes, a backslash is among them, what stands between the
+/// quotes spells the fold of its lines.
+pub fn simple_quoted_scalars_fold()
+    ensures { (single : Bool) (at : LayoutData) (h : Here) (source value gap : List ℕ) (left : Bool) (x : Between) (rest : List ℕ) → QuotedStands single at h source value gap left x rest → Each (is_simple single) (source ++ gap) → quoted_value value left x ≡ folded (source ++ gap) }
+{}
