@@ -25,8 +25,6 @@ pub mod PlainExtent
 pub mod PlainScalar
 pub mod Property
 pub mod Quoted
-pub mod QuotedExtent
-pub mod QuotedScalar
 pub mod ReaderState
 pub mod Reading
 pub mod Scope

@@ -13,8 +13,8 @@ use Rattle.granit_model.specs.Here.{Here, next_char, step}
 use Rattle.granit_model.specs.Outcome.{Fault, ◌>>=◌}
 use Rattle.granit_model.specs.PlainExtent.{over}
 use Rattle.granit_model.specs.PlainScalar.{fails_at}
-use Rattle.granit_model.specs.QuotedExtent.{TooFewDigits, WrongEscape, unknown, hex, no_second, second_hex, no_half, alone, no_character}
-use Rattle.granit_model.specs.QuotedScalar.{digits_or, joined_or, second_half_or, numbered_or, escape_or_by, escape_or}
+use Rattle.granit_scalars.specs.QuotedExtent.{TooFewDigits, WrongEscape, unknown, hex, no_second, second_hex, no_half, alone, no_character}
+use Rattle.granit_scalars.specs.QuotedScalar.{digits_or, joined_or, second_half_or, numbered_or, escape_or_by, escape_or}
 use Rattle.granit_model.proofs.HereLemmas.{step_text}
 use Rattle.granit_scalars.proofs.Stepping.{over-append, Seen, seen, seen_as}
 

@@ -8,8 +8,8 @@ use Rattle.granit_model.specs.Folding.{before_lines, lines_of, break_text, fold,
 use Rattle.granit_model.specs.Gap.{Each}
 use Rattle.granit_model.specs.Here.{Here}
 use Rattle.granit_model.specs.LayoutData.{LayoutData}
-use Rattle.granit_model.specs.QuotedExtent.{OneBreak, line_feed, pair, carriage_return, NewLine, no_more, blank, break, Between, Blanks, Lines, Separates, on_line, folded as folded_gap, between_text, is_literal, is_simple, Piece, itself, doubled, escape, before_break, Inside, nothing, content, QuotedStands, quoted_value}
-use Rattle.granit_model.specs.QuotedScalar.{quote_char}
+use Rattle.granit_scalars.specs.QuotedExtent.{OneBreak, line_feed, pair, carriage_return, NewLine, no_more, blank, break, Between, Blanks, Lines, Separates, on_line, folded as folded_gap, between_text, is_literal, is_simple, Piece, itself, doubled, escape, before_break, Inside, nothing, content, QuotedStands, quoted_value}
+use Rattle.granit_scalars.specs.QuotedScalar.{quote_char}
 use Rattle.granit_scalars.proofs.Folding.{folded_behind, IsBreak, blank_apart_from_break, in_first_line, folds_blanks, folds_break, folds_behind_blank, folds_behind_break, folds_behind_content}
 use Rattle.granit_scalars.proofs.PlainReads.{neither_gap}
 

@@ -8,8 +8,8 @@ use Rattle.granit_model.specs.Here.{Here, next_char, step}
 use Rattle.granit_model.specs.LayoutData.{LayoutData}
 use Rattle.granit_model.specs.PlainExtent.{over}
 use Rattle.granit_model.specs.PlainScalar.{past_break}
-use Rattle.granit_model.specs.QuotedExtent.{OneBreak, line_feed, pair, carriage_return, NewLine, no_more, blank, break, Between, Blanks, Lines, Separates, on_line, folded, lines_text, between_text}
-use Rattle.granit_model.specs.QuotedScalar.{QuotedState, is_tab_left, between_quoted, quoted_at, over_blank, over_break}
+use Rattle.granit_scalars.specs.QuotedExtent.{OneBreak, line_feed, pair, carriage_return, NewLine, no_more, blank, break, Between, Blanks, Lines, Separates, on_line, folded, lines_text, between_text}
+use Rattle.granit_scalars.specs.QuotedScalar.{QuotedState, is_tab_left, between_quoted, quoted_at, over_blank, over_break}
 use Rattle.granit_model.proofs.HereLemmas.{not_empty}
 use Rattle.granit_scalars.proofs.Folding.{blank_apart_from_break}
 use Rattle.granit_scalars.proofs.PlainKept.{one_more_blank, over_one, text_one, one_more}

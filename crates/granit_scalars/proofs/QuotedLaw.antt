@@ -4,8 +4,8 @@ use Rattle.granit_model.specs.Here.{Here, next_char, mark_of, step}
 use Rattle.granit_model.specs.LayoutData.{LayoutData}
 use Rattle.granit_model.specs.Outcome.{Fault, ◌>>=◌}
 use Rattle.granit_model.specs.Pieces.{pieces}
-use Rattle.granit_model.specs.QuotedExtent.{Between, Blanks, QuotedFront, QuotedStands, quoted_end, quoted_value, Trails, AnswersQuoted, WrongInside, WrongBehind, RefusesQuoted, inside, behind}
-use Rattle.granit_model.specs.QuotedScalar.{QuotedState, QuotedRead, quote_char, quoted_at, between_quoted, quoted_turn, quoted_len, quoted_read, quoted_tail, quoted_scalar}
+use Rattle.granit_scalars.specs.QuotedExtent.{Between, Blanks, QuotedFront, QuotedStands, quoted_end, quoted_value, Trails, AnswersQuoted, WrongInside, WrongBehind, RefusesQuoted, inside, behind}
+use Rattle.granit_scalars.specs.QuotedScalar.{QuotedState, QuotedRead, quote_char, quoted_at, between_quoted, quoted_turn, quoted_len, quoted_read, quoted_tail, quoted_scalar}
 use Rattle.granit_scalars.proofs.QuotedKept.{quoted_fresh}
 use Rattle.granit_scalars.proofs.QuotedReads.{QuotedFinds, QuotedReads, quoted_reads}
 use Rattle.granit_scalars.proofs.QuotedTail.{TailReads, tail_reads}

@@ -6,8 +6,8 @@ use Rattle.granit_model.specs.LayoutData.{LayoutData}
 use Rattle.granit_model.specs.Outcome.{Fault, ◌>>=◌}
 use Rattle.granit_model.specs.Pieces.{with_front, pieces}
 use Rattle.granit_model.specs.PlainExtent.{over}
-use Rattle.granit_model.specs.QuotedExtent.{Between, QuotedStands, quoted_end, quoted_value, AnswersQuoted}
-use Rattle.granit_model.specs.QuotedScalar.{QuotedState, QuotedRead, quote_char, between_quoted, quoted_at, quoted_turn, quoted_len, quoted_tail, quoted_scalar}
+use Rattle.granit_scalars.specs.QuotedExtent.{Between, QuotedStands, quoted_end, quoted_value, AnswersQuoted}
+use Rattle.granit_scalars.specs.QuotedScalar.{QuotedState, QuotedRead, quote_char, between_quoted, quoted_at, quoted_turn, quoted_len, quoted_tail, quoted_scalar}
 use Rattle.granit_scalars.proofs.QuotedEscapes.{text_behind, over_text}
 use Rattle.granit_scalars.proofs.QuotedRuns.{inside_runs, closes}
 use Rattle.granit_scalars.proofs.QuotedTail.{tail_answers}

@@ -12,8 +12,8 @@ use Rattle.granit_model.specs.Outcome.{Fault, ◌>>=◌}
 use Rattle.granit_model.specs.Pieces.{with_front, pieces}
 use Rattle.granit_model.specs.PlainExtent.{over}
 use Rattle.granit_model.specs.PlainScalar.{is_document_mark}
-use Rattle.granit_model.specs.QuotedExtent.{Between, Blanks, Lines, Separates, between_text, is_literal, Piece, itself, doubled, escape as escape_piece, before_break, may_be_left, MayStand, Inside, nothing, content, quoted_value, WrongInside, tab, strict, loose, mark, end, character, escape}
-use Rattle.granit_model.specs.QuotedScalar.{QuotedState, quote_char, is_closing, is_tab_left, is_strictly_left, is_loosely_left, between_quoted, quoted_at, over_blank, over_break, quoted_piece, quoted_content, quoted_turn, quoted_len, escape_or}
+use Rattle.granit_scalars.specs.QuotedExtent.{Between, Blanks, Lines, Separates, between_text, is_literal, Piece, itself, doubled, escape as escape_piece, before_break, may_be_left, MayStand, Inside, nothing, content, quoted_value, WrongInside, tab, strict, loose, mark, end, character, escape}
+use Rattle.granit_scalars.specs.QuotedScalar.{QuotedState, quote_char, is_closing, is_tab_left, is_strictly_left, is_loosely_left, between_quoted, quoted_at, over_blank, over_break, quoted_piece, quoted_content, quoted_turn, quoted_len, escape_or}
 use Rattle.granit_model.proofs.HereLemmas.{not_empty}
 use Rattle.granit_scalars.proofs.QuotedEscapes.{ReadsEscape, reads_escape}
 use Rattle.granit_scalars.proofs.QuotedKept.{StateIs, QuotedStays, quoted_fresh, between_is, QuotedGoes, quoted_blank, quoted_break}

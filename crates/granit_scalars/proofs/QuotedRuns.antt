@@ -13,8 +13,8 @@ use Rattle.granit_model.specs.Outcome.{Fault, ◌>>=◌}
 use Rattle.granit_model.specs.Pieces.{with_front, pieces}
 use Rattle.granit_model.specs.PlainExtent.{over}
 use Rattle.granit_model.specs.PlainScalar.{past_break, is_document_mark}
-use Rattle.granit_model.specs.QuotedExtent.{OneBreak, line_feed, pair, carriage_return, NewLine, no_more, blank, break, Between, Blanks, Lines, Separates, on_line, folded, between_text, is_literal, Piece, itself, doubled, escape, before_break, may_be_left, MayStand, Inside, nothing, content}
-use Rattle.granit_model.specs.QuotedScalar.{QuotedState, quote_char, is_closing, is_tab_left, is_strictly_left, is_loosely_left, between_quoted, quoted_at, over_blank, over_break, quoted_piece, quoted_content, quoted_turn, quoted_len, escape_or}
+use Rattle.granit_scalars.specs.QuotedExtent.{OneBreak, line_feed, pair, carriage_return, NewLine, no_more, blank, break, Between, Blanks, Lines, Separates, on_line, folded, between_text, is_literal, Piece, itself, doubled, escape, before_break, may_be_left, MayStand, Inside, nothing, content}
+use Rattle.granit_scalars.specs.QuotedScalar.{QuotedState, quote_char, is_closing, is_tab_left, is_strictly_left, is_loosely_left, between_quoted, quoted_at, over_blank, over_break, quoted_piece, quoted_content, quoted_turn, quoted_len, escape_or}
 use Rattle.granit_model.proofs.HereLemmas.{not_empty}
 use Rattle.granit_model.proofs.PieceLemmas.{with_front-nil, with_front-with_front, pieces_more, pieces_done}
 use Rattle.granit_scalars.proofs.Folding.{blank_apart_from_break}

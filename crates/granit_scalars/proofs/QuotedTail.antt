@@ -13,8 +13,8 @@ use Rattle.granit_model.specs.LayoutData.{LayoutData}
 use Rattle.granit_model.specs.Outcome.{Fault, ◌>>=◌}
 use Rattle.granit_model.specs.PlainExtent.{over, starts_comment}
 use Rattle.granit_model.specs.PlainScalar.{fails_at}
-use Rattle.granit_model.specs.QuotedExtent.{BlanksBehind, ends_quoted, Trails, comment as trails_comment, nothing as trails_nothing, WrongBehind, touching, comment as wrong_comment, character, trailing_single, trailing_double}
-use Rattle.granit_model.specs.QuotedScalar.{QuotedRead, quoted_read, asked_comment, trailing_kind, may_trail, behind_quoted, quoted_tail}
+use Rattle.granit_scalars.specs.QuotedExtent.{BlanksBehind, ends_quoted, Trails, comment as trails_comment, nothing as trails_nothing, WrongBehind, touching, comment as wrong_comment, character, trailing_single, trailing_double}
+use Rattle.granit_scalars.specs.QuotedScalar.{QuotedRead, quoted_read, asked_comment, trailing_kind, may_trail, behind_quoted, quoted_tail}
 use Rattle.granit_model.proofs.HereLemmas.{past_goes, past_stops}
 use Rattle.granit_scalars.proofs.Comments.{comment_reads, comment_answered}
 use Rattle.granit_scalars.proofs.QuotedEscapes.{text_behind, over_text}

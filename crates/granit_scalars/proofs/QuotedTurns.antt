@@ -10,7 +10,7 @@ use Rattle.granit_model.specs.LayoutData.{LayoutData}
 use Rattle.granit_model.specs.Outcome.{Fault, ◌>>=◌}
 use Rattle.granit_model.specs.Pieces.{Shortens}
 use Rattle.granit_model.specs.PlainScalar.{fails_at, past_break, is_document_mark}
-use Rattle.granit_model.specs.QuotedScalar.{QuotedState, is_closing, is_tab_left, is_strictly_left, is_loosely_left, between_quoted, quoted_at, over_blank, over_break, quoted_piece, quoted_content, quoted_turn, quoted_len, escape_or}
+use Rattle.granit_scalars.specs.QuotedScalar.{QuotedState, is_closing, is_tab_left, is_strictly_left, is_loosely_left, between_quoted, quoted_at, over_blank, over_break, quoted_piece, quoted_content, quoted_turn, quoted_len, escape_or}
 use Rattle.granit_model.proofs.HereLemmas.{step_len}
 use Rattle.granit_scalars.proofs.PlainSpelling.{no_gap_of}
 use Rattle.granit_scalars.proofs.PlainTurns.{seen_blank}

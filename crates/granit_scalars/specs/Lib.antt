@@ -1,2 +1,4 @@
 pub mod Examples
 pub mod QuotedExamples
+pub mod QuotedExtent
+pub mod QuotedScalar

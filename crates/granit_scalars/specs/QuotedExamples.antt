@@ -8,7 +8,7 @@ use Rattle.granit_model.specs.Line.{event_line, fault_line}
 use Rattle.granit_model.specs.Outcome.{Fault}
 use Rattle.granit_model.specs.PlainEvent.{event_at}
 use Rattle.granit_model.specs.PlainExtent.{over}
-use Rattle.granit_model.specs.QuotedScalar.{QuotedRead, quoted_scalar}
+use Rattle.granit_scalars.specs.QuotedScalar.{QuotedRead, quoted_scalar}
 use Rattle.granit_scalars.specs.Examples.{event_of}
 
 -- block column, tab column, in flow, strict

@@ -5,8 +5,8 @@ ghost use Rattle.granit_model.specs.Gap.{Each};
 ghost use Rattle.granit_model.specs.Here.{Here, next_char};
 ghost use Rattle.granit_model.specs.LayoutData.{LayoutData};
 ghost use Rattle.granit_model.specs.Outcome.{Fault};
-ghost use Rattle.granit_model.specs.QuotedExtent.{AnswersQuoted, Between, QuotedStands, RefusesQuoted, is_simple, quoted_value};
-ghost use Rattle.granit_model.specs.QuotedScalar.{QuotedRead, quote_char, quoted_scalar};
+ghost use Rattle.granit_scalars.specs.QuotedExtent.{AnswersQuoted, Between, QuotedStands, RefusesQuoted, is_simple, quoted_value};
+ghost use Rattle.granit_scalars.specs.QuotedScalar.{QuotedRead, quote_char, quoted_scalar};
 
 /// Where its quote stands, an answer is the quoted scalar that stands there up to its closing quote, with
 /// its value, the comment behind it, and where reading then stands.

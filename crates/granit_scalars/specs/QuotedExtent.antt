@@ -13,7 +13,7 @@ use Rattle.granit_model.specs.LayoutData.{LayoutData, is_left}
 use Rattle.granit_model.specs.Lexeme.{Scalar}
 use Rattle.granit_model.specs.PlainExtent.{over, starts_comment}
 use Rattle.granit_model.specs.PlainScalar.{is_document_mark}
-use Rattle.granit_model.specs.QuotedScalar.{QuotedRead, quote_char, is_closing, is_tab_left, quoted_style, asked_comment, may_trail}
+use Rattle.granit_scalars.specs.QuotedScalar.{QuotedRead, quote_char, is_closing, is_tab_left, quoted_style, asked_comment, may_trail}
 
 -- ---- blanks and breaks
 
