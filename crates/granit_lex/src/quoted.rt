@@ -176,11 +176,9 @@ fn take_blank<T: Input>(cursor: &mut Cursor<T>, parts: &mut QuotedParts) -> Resu
 {
     cursor.look(1);
     let c = cursor.input().peek();
-    if parts.on_new_line {
-        cursor.step();
-        return Ok(());
+    if !parts.on_new_line {
+        push_char(&mut parts.pending, c)?;
     }
-    push_char(&mut parts.pending, c)?;
     cursor.step();
     Ok(())
 }
