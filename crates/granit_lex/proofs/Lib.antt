@@ -1,6 +1,8 @@
 pub mod BoolLemmas
 pub mod CommentLemmas
+pub mod EscapeLemmas
 pub mod GivenLemmas
 pub mod MoveLemmas
 pub mod PlainLemmas
+pub mod QuotedLemmas
 pub mod TrimLemmas

@@ -1,4 +1,5 @@
 pub mod PlainCode
+pub mod QuotedCode
 pub mod Reading
 pub mod Tokens
 pub mod Trimmed

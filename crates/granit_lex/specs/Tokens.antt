@@ -1,11 +1,16 @@
 -- What the definitions give, as the code has it.
-use Rattle.std.specs.Prelude.{[], false, None}
+use Rattle.std.specs.Prelude.{ℕ, Bool, false, List, [], Option, None, Result, Ok}
+use Rattle.std.specs.Option.{option_map}
 use Rattle.granit_base.specs.declared.style.Placement.TheVariants.{Free}
-use Rattle.granit_model.specs.Comment.{CommentRead}
+use Rattle.granit_base.specs.Place.{Mark}
+use Rattle.granit_model.specs.Comment.{CommentRead, comment}
+use Rattle.granit_model.specs.Here.{Here}
 use Rattle.granit_model.specs.LayoutData.{LayoutData}
 use Rattle.granit_model.specs.Lexeme.{Lexeme, LexemeKind, DocumentStart, SequenceOpen, SequenceClose, MappingOpen, MappingClose, Comma, Question, Colon, Tag, Anchor, Alias, Scalar}
+use Rattle.granit_model.specs.Outcome.{Fault, ◌>>=◌}
 use Rattle.granit_model.specs.PlainEvent.{plain_span}
 use Rattle.granit_model.specs.PlainScalar.{PlainRead}
+use Rattle.granit_model.specs.QuotedScalar.{QuotedRead, quoted_style, asked_comment}
 use Rattle.granit_lex.specs.declared.token.Layout.{Layout}
 use Rattle.granit_lex.specs.declared.token.Lexed.{Lexed}
 use Rattle.granit_lex.specs.declared.token.Token.{Token}
@@ -41,3 +46,15 @@ plain_lexed r = record { token = lexeme_token r.lexeme; comment = None; cut_by_c
 -- what a scalar is told, as plain data
 abbrev pub layout_data : Layout → LayoutData
 layout_data l = record { block_column = l.block_column; tab_column = l.tab_column; in_flow = l.in_flow; strict = l.strict; comments = l.comments }
+
+-- a quoted scalar, with the comment behind it
+abbrev pub quoted_lexed : QuotedRead → Lexed
+quoted_lexed r = record { token = lexeme_token r.lexeme; comment = option_map comment_token r.comment; cut_by_comment = None; on_new_line = r.on_new_line }
+
+-- the same by its parts
+abbrev pub quoted_with : Bool → Mark → List ℕ → Mark → Option Token → Lexed
+quoted_with single start value end noted = record { token = record { span = plain_span start end; token_type = tokens.Scalar (quoted_style single) (record { characters = value; is_borrowed = false }) }; comment = noted; cut_by_comment = None; on_new_line = false }
+
+-- the comment that begins here, where comments are asked for
+abbrev pub asked : LayoutData → Here → Result (Option Token × Here) Fault
+asked at h = comment h >>= λ x. Ok (option_map comment_token (asked_comment at x.0), x.1)

@@ -56,7 +56,7 @@ pub fn skip_comment<'input, T: BorrowedInput<'input>>(
 }
 
 #[tactic(auto, unfolding(granit_model::specs::Comment::comment, granit_model::specs::Comment::skipped_comment))]
-fn read_comment<'input, T: Input>(
+pub(crate) fn read_comment<'input, T: Input>(
     alloc: Global,
     cursor: &mut Cursor<T>,
 ) -> Result<Token<'input>, ScanError>
@@ -74,7 +74,7 @@ fn read_comment<'input, T: Input>(
 }
 
 #[tactic(auto, unfolding(granit_model::specs::Comment::skipped_comment))]
-fn pass_comment<T: Input>(cursor: &mut Cursor<T>) -> Result<(), ScanError>
+pub(crate) fn pass_comment<T: Input>(cursor: &mut Cursor<T>) -> Result<(), ScanError>
     ensures here { (h : Here) → Stands T.unread cursor.old h → GivesTo (λ u. u) result (Stands T.unread cursor.new) (spec.skipped_comment h) }
     ensures kinds { IfErr result (λ e. (c : ℕ) × (e.kind ≡ UnexpectedCharacter c)) }
     ensures moves { Moves T.left T.origin cursor.old cursor.new }

@@ -76,7 +76,7 @@ enum Ahead {
 }
 
 /// Whether a column is left of where a node may stand.
-fn is_left(block_column: Option<usize>, column: usize) -> bool
+pub(crate) fn is_left(block_column: Option<usize>, column: usize) -> bool
     ensures { result ≡ layout.is_left block_column column }
 {
     match block_column {
@@ -180,7 +180,7 @@ fn take_break<T: Input>(cursor: &mut Cursor<T>, parts: &mut PlainParts) -> Resul
 
 /// Blanks before a break are no part of the value (YAML 1.2.2, 6.5).
 #[tactic(auto, using(crate::proofs::PlainLemmas::cleared))]
-fn drop_blanks(blanks: &mut String)
+pub(crate) fn drop_blanks(blanks: &mut String)
     ensures { string_chars blanks.new ≡ [] }
 {
     blanks.clear();
@@ -188,7 +188,7 @@ fn drop_blanks(blanks: &mut String)
 
 /// Behind a break, which CR LF is too (YAML 1.2.2, 5.4).
 #[tactic(auto, unfolding(granit_model::specs::PlainScalar::past_break))]
-fn past_break<T: Input>(cursor: &mut Cursor<T>)
+pub(crate) fn past_break<T: Input>(cursor: &mut Cursor<T>)
     ensures here { (h : Here) → Stands T.unread cursor.old h → Stands T.unread cursor.new (spec.past_break h) }
     ensures left { T.left cursor.new.input ≤ T.left cursor.old.input - 1 }
     ensures moves { Moves T.left T.origin cursor.old cursor.new }
@@ -212,7 +212,7 @@ fn push_between(parts: &mut PlainParts) -> Result<(), NoMemory>
     push_text(&mut parts.value, parts.pending.as_str())
 }
 
-fn push_text(out: &mut String, text: &str) -> Result<(), NoMemory>
+pub(crate) fn push_text(out: &mut String, text: &str) -> Result<(), NoMemory>
     ensures { OnOk result (string_chars out.new ≡ string_chars out.old ++ chars text.now) }
 {
     out.push_str(text)?;

@@ -1,0 +1,42 @@
+-- One hexadecimal digit after another.
+use Rattle.std.proofs.Common.{◌≡◌, ℕ, suc, ◌+◌, ◌-◌, ◌*◌, ◌<◌, ◌≤◌, ◌^◌, true, false, Ok, refl, ap, ◌∙◌, arith}
+use Rattle.std.proofs.lemmas.Bool.Decides.{nat_tests}
+use Rattle.std.proofs.Math.Nat.{pow-suc, pow-le-pow_right}
+use Rattle.granit_base.specs.Classes.{is_hex, is_digit, hex_value}
+use Rattle.granit_base.specs.Place.{Mark}
+use Rattle.granit_error.specs.FaultKind.{FaultKind}
+use Rattle.granit_model.specs.Here.{Here, next_char, step}
+use Rattle.granit_model.specs.PlainScalar.{fails_at}
+use Rattle.granit_model.specs.QuotedScalar.{digits_or}
+
+pub digits_go : (kind : FaultKind) (start : Mark) (n i v : ℕ) (h : Here) → i < n → is_hex (next_char h) ≡ true → digits_or kind start (n - i) v h ≡ digits_or kind start (n - (i + 1)) (v * 16 + hex_value (next_char h)) (step h)
+unfolding digits_or
+digits_go kind start n i v h lt is =
+    let k : n - i ≡ suc (n - (i + 1)) = omega arith in
+    rw (k, is) refl
+
+pub digits_stop : (kind : FaultKind) (start : Mark) (n i v : ℕ) (h : Here) → i < n → is_hex (next_char h) ≡ false → digits_or kind start (n - i) v h ≡ fails_at kind start
+unfolding digits_or
+digits_stop kind start n i v h lt is =
+    let k : n - i ≡ suc (n - (i + 1)) = omega arith in
+    rw (k, is) refl
+
+pub digits_end : (kind : FaultKind) (start : Mark) (n i v : ℕ) (h : Here) → n ≤ i → digits_or kind start (n - i) v h ≡ Ok (v, h)
+unfolding digits_or
+digits_end kind start n i v h le =
+    let k : n - i ≡ 0 = omega arith in
+    rw k refl
+
+pub digit_below : (c : ℕ) → is_hex c ≡ true → hex_value c < 16
+unfolding is_hex is_digit hex_value
+digit_below c is = grind (arith, nat_tests)
+
+-- as many digits as fit
+pub digits_fit : (i v : ℕ) → i ≤ 8 → v < 16 ^ i → v < 2 ^ 32
+digits_fit i v le fits = let most : 16 ^ i ≤ 16 ^ 8 = pow-le-pow_right (omega arith) le in omega arith
+
+pub digit_space : (i v : ℕ) → v < 16 ^ i → v * 16 < 16 ^ (i + 1)
+digit_space i v fits = let e : 16 ^ (i + 1) ≡ 16 ^ i * 16 = ap (λ (k : ℕ). 16 ^ k) (omega arith) ∙ pow-suc 16 i in omega arith
+
+pub digit_more : (i v d : ℕ) → v < 16 ^ i → d < 16 → v * 16 + d < 16 ^ (i + 1)
+digit_more i v d fits small = let e : 16 ^ (i + 1) ≡ 16 ^ i * 16 = ap (λ (k : ℕ). 16 ^ k) (omega arith) ∙ pow-suc 16 i in omega arith

@@ -1,0 +1,17 @@
+use Rattle.std.proofs.Common.{◌≡◌, false}
+use Rattle.granit_model.specs.Here.{Here}
+use Rattle.granit_model.specs.QuotedScalar.{quoted_at}
+use Rattle.granit_lex.specs.QuotedCode.{quoted_rest, quoted_whole}
+use Rattle.granit_lex.specs.Reading.{Stands, Moves}
+use Rattle.granit_lex.specs.Tokens.{layout_data}
+use Rattle.granit_lex.proofs.quoted.quoted_parts.Given as goal
+
+abbrev pub invariant-turns : goal.invariant-turns
+invariant-turns g l = record {
+  told : (h : Here) → Stands g.T.Input.unread l.fn.cursor h
+      → (now : Here) × Stands g.T.Input.unread l.cursor now × (quoted_whole l.single (layout_data l.at) l.start l.parts now ≡ quoted_rest l.single (layout_data l.at) l.start (quoted_at false h));
+  moves : Moves g.T.Input.left g.T.Input.origin l.fn.cursor l.cursor;
+}
+
+abbrev pub decreases-turns : goal.decreases-turns
+decreases-turns g l = g.T.Input.left l.cursor.input

@@ -1,0 +1,121 @@
+-- How the code reads a quoted scalar: a character of content a turn.
+use Rattle.std.specs.Prelude.{◌≡◌, ℕ, ◌==◌, Bool, true, false, ◌&&◌, ◌||◌, not, if◌then◌else◌, List, [], ◌∷◌, ◌++◌, slice_index, Option, Some, None, Result, Ok, Err}
+use Rattle.granit_base.specs.Classes.{is_blank, is_break, is_printable}
+use Rattle.granit_base.specs.Place.{Mark}
+use Rattle.granit_base.specs.Written.{string_chars}
+use Rattle.granit_error.specs.FaultKind.{FaultKind, NoMemory, InvalidIndentation, UnclosedQuotedScalar, DocumentIndicatorInQuotedScalar, TabInIndentation, InvalidQuotedScalarIndent, InvalidTrailingSingleQuotedScalar, InvalidTrailingDoubleQuotedScalar, UnknownQuotedScalarEscape, InvalidQuotedScalarHexEscape, MissingLowSurrogate, InvalidLowSurrogateHexEscape, InvalidLowSurrogate, UnpairedLowSurrogate, InvalidUnicodeEscape, CommentNotSeparated, UnexpectedCharacter}
+use Rattle.granit_error.specs.Refused.{Refused}
+use Rattle.granit_model.specs.Here.{Here, text_len, next_char, mark_of, step}
+use Rattle.granit_model.specs.LayoutData.{LayoutData}
+use Rattle.granit_model.specs.Outcome.{Fault, Fails, ◌>>=◌}
+use Rattle.granit_model.specs.Pieces.{with_front, pieces}
+use Rattle.granit_model.specs.PlainScalar.{fails_at, is_document_mark}
+use Rattle.granit_model.specs.QuotedScalar.{QuotedState, is_closing, is_tab_left, is_strictly_left, is_loosely_left, escape_or, between_quoted, quoted_at, over_blank, over_break, quoted_content, quoted_turn, quoted_len}
+use Rattle.granit_lex.specs.declared.quoted.QuotedParts.{QuotedParts}
+use Rattle.granit_lex.specs.declared.quoted.Ahead.{Ahead}
+use Rattle.granit_lex.specs.declared.quoted.Ahead.TheVariants.{Blank, Break, Content, End}
+
+-- where reading stands, by what the code holds
+abbrev pub quoted_state : QuotedParts → Here → QuotedState
+quoted_state p h = record { here = h; pending = string_chars p.pending; on_new_line = p.on_new_line; escaped = p.escaped }
+
+-- what is read from a state on
+abbrev pub quoted_rest : Bool → LayoutData → Mark → QuotedState → Result (List ℕ × QuotedState) Fault
+quoted_rest single at start s = pieces quoted_len (quoted_turn single at start) s
+
+-- the same behind what was read
+abbrev pub quoted_whole : Bool → LayoutData → Mark → QuotedParts → Here → Result (List ℕ × QuotedState) Fault
+quoted_whole single at start p h = with_front (string_chars p.value) (quoted_rest single at start (quoted_state p h))
+
+-- what stands next, or why it is refused
+unfoldable pub quoted_ahead : Bool → LayoutData → Mark → QuotedState → Result Ahead Fault
+quoted_ahead single at start s =
+    if is_blank (next_char s.here) then
+    (if s.on_new_line && (next_char s.here == 0x09 && is_tab_left at s.here.place.column) then fails_at TabInIndentation (mark_of s.here)
+    else Ok Blank)
+    else if is_break (next_char s.here) then Ok Break
+    else if s.on_new_line && is_strictly_left at s.escaped s.here.place.column then fails_at InvalidIndentation (mark_of s.here)
+    else if s.on_new_line && is_loosely_left at s.escaped (is_closing single s.here.unread.text) s.here.place.column then fails_at InvalidQuotedScalarIndent (mark_of s.here)
+    else if s.on_new_line && (s.here.place.column == 0 && is_document_mark s.here.unread.text) then fails_at DocumentIndicatorInQuotedScalar start
+    else if text_len s.here == 0 then fails_at UnclosedQuotedScalar start
+    else if not (is_printable (next_char s.here)) then fails_at (UnexpectedCharacter (next_char s.here)) (mark_of s.here)
+    else if is_closing single s.here.unread.text then Ok End
+    else Ok Content
+
+-- what a turn gives where that is next
+abbrev pub quoted_turn_of : Bool → Mark → QuotedState → Ahead → Result (Option (List ℕ) × QuotedState) Fault
+quoted_turn_of single start s Blank = Ok (Some [], over_blank s)
+quoted_turn_of single start s Break = Ok (Some [], over_break s)
+quoted_turn_of single start s Content = quoted_content single start s
+quoted_turn_of single start s End = Ok (None, s)
+
+-- what was seen is what is next
+abbrev pub SeesTo : Result Ahead Refused → Result Ahead Fault → Type 0
+SeesTo (Ok a) given = given ≡ Ok a
+SeesTo (Err e) given = Fails e given
+
+-- what a turn takes is there
+abbrev pub SeesSome : Result Ahead Refused → Type 0 → Type 0
+SeesSome (Ok End) some = Unit {0}
+SeesSome (Ok a) some = some
+SeesSome (Err e) some = Unit {0}
+
+-- what content stands for: a character, or nothing where it is a backslash that escapes a break
+unfoldable pub content_read : Bool → Mark → Here → Result (Option ℕ × Here) Fault
+content_read single start h =
+    if single && next_char h == 0x27 then Ok (Some 0x27, step (step h))
+    else if single || not (next_char h == 0x5C) then Ok (Some (next_char h), step h)
+    else if is_break (slice_index h.unread.text 1) then Ok (None, step h)
+    else escape_or start (step h) >>= λ x. Ok (Some x.0, x.1)
+
+-- that as the characters that it adds, and whether it escapes a break
+abbrev pub added : Option ℕ → List ℕ
+added None = []
+added (Some c) = c ∷ []
+
+abbrev pub escapes : Option ℕ → Bool
+escapes None = true
+escapes (Some c) = false
+
+-- content was taken, behind what stands before it
+abbrev pub TakesContent : Result (Unit {0}) Refused → (Here → Type 0) → (old : List ℕ) → QuotedState → QuotedParts → Result (Option ℕ × Here) Fault → Type 0
+TakesContent (Ok u) Lands old s p given =
+    (now : Here) × (x : Option ℕ) × Lands now × (given ≡ Ok (x, now)) × (string_chars p.value ≡ (old ++ between_quoted s) ++ added x) × (quoted_state p now ≡ quoted_at (escapes x) now)
+TakesContent (Err e) Lands old s p given = Fails e given
+
+-- a turn goes on with the same whole, or that is all of it
+abbrev pub QuotedTurnsTo : Bool → LayoutData → Mark → Result Bool Refused → (Here → Type 0) → QuotedParts → Result (List ℕ × QuotedState) Fault → Type 0
+QuotedTurnsTo single at start (Ok true) Lands p before = (now : Here) × Lands now × (quoted_whole single at start p now ≡ before)
+QuotedTurnsTo single at start (Ok false) Lands p before = (now : Here) × Lands now × (before ≡ Ok (string_chars p.value, quoted_state p now))
+QuotedTurnsTo single at start (Err e) Lands p before = Fails e before
+
+-- what was read is all of it
+abbrev pub QuotedPartsTo : Result QuotedParts Refused → (Here → Type 0) → Result (List ℕ × QuotedState) Fault → Type 0
+QuotedPartsTo (Ok p) Lands given = (now : Here) × Lands now × (given ≡ Ok (string_chars p.value, quoted_state p now))
+QuotedPartsTo (Err e) Lands given = Fails e given
+
+-- the kind by which a missing digit is refused
+abbrev pub hex_refusal : Bool → FaultKind
+hex_refusal true = InvalidLowSurrogateHexEscape
+hex_refusal false = InvalidQuotedScalarHexEscape
+
+-- the kinds that a quoted scalar is refused by
+abbrev pub IsQuotedKind : FaultKind → Type 0
+IsQuotedKind NoMemory = Unit {0}
+IsQuotedKind InvalidIndentation = Unit {0}
+IsQuotedKind UnclosedQuotedScalar = Unit {0}
+IsQuotedKind DocumentIndicatorInQuotedScalar = Unit {0}
+IsQuotedKind TabInIndentation = Unit {0}
+IsQuotedKind InvalidQuotedScalarIndent = Unit {0}
+IsQuotedKind InvalidTrailingSingleQuotedScalar = Unit {0}
+IsQuotedKind InvalidTrailingDoubleQuotedScalar = Unit {0}
+IsQuotedKind UnknownQuotedScalarEscape = Unit {0}
+IsQuotedKind InvalidQuotedScalarHexEscape = Unit {0}
+IsQuotedKind MissingLowSurrogate = Unit {0}
+IsQuotedKind InvalidLowSurrogateHexEscape = Unit {0}
+IsQuotedKind InvalidLowSurrogate = Unit {0}
+IsQuotedKind UnpairedLowSurrogate = Unit {0}
+IsQuotedKind InvalidUnicodeEscape = Unit {0}
+IsQuotedKind CommentNotSeparated = Unit {0}
+IsQuotedKind (UnexpectedCharacter c) = Unit {0}
+IsQuotedKind _ = ⊥

@@ -1,0 +1,481 @@
+//! Quoted scalars are read (YAML 1.2.2, 7.3.1 and 7.3.2).
+ghost use Rattle.std.specs.Prelude.{◌≡◌, ◌<◌, ◌≤◌, ◌-◌, ◌⊎◌, ℕ, false, ◌++◌, IfOk, IfErr, OnOk};
+ghost use Rattle.granit_base.specs.Classes as class;
+ghost use Rattle.granit_base.specs.Written.{string_chars};
+ghost use Rattle.granit_error.specs.FaultKind.{NoMemory as OutOfMemory};
+ghost use Rattle.granit_error.specs.Kinds.{kind_of};
+ghost use Rattle.granit_model.specs.Here.{Here, next_char, past, step};
+ghost use Rattle.granit_model.specs.PlainScalar.{past_break};
+ghost use Rattle.granit_model.specs.QuotedExtent as extent;
+ghost use Rattle.granit_model.specs.QuotedScalar as spec;
+ghost use Rattle.granit_lex.specs.PlainCode.{TurnTakes};
+ghost use Rattle.granit_lex.specs.QuotedCode.{quoted_state, quoted_rest, quoted_whole, quoted_ahead, content_read, SeesTo, SeesSome, TakesContent, added, escapes, QuotedTurnsTo, QuotedPartsTo, IsQuotedKind};
+ghost use Rattle.granit_lex.specs.Reading.{Stands, Moves, GivesTo, coded};
+ghost use Rattle.granit_lex.specs.Tokens.{layout_data, quoted_lexed, quoted_with, asked};
+
+use crate::comments::{pass_comment, read_comment};
+use crate::cursor::Cursor;
+use crate::escape::escape;
+use crate::plain::{drop_blanks, is_left, past_break, push_text};
+use crate::token::{Layout, Lexed, Token, TokenType};
+use granit_base::{
+    Marker, NoMemory, ScalarStyle, Span, Text, is_at_end, is_blank, is_break, is_printable,
+    push_char,
+};
+use granit_error::{ErrorKind, ScanError};
+use granit_input::{BorrowedInput, Input};
+use std::alloc::Global;
+
+/// The quoted scalar that begins here with its quote, single or double (YAML 1.2.2, 7.3.1 and 7.3.2), with
+/// the comment behind it on its last line, where comments are asked for; the cursor then stands behind the
+/// scalar, its blanks and the comment. Its value is folded (6.5), its escapes are read (5.7), and it is
+/// owned. No break is read behind it.
+///
+/// # Errors
+///
+/// `NoMemory`. At the scalar's start: `UnclosedQuotedScalar`, `DocumentIndicatorInQuotedScalar`, and the
+/// kinds of a wrong escape, from `UnknownQuotedScalarEscape` to `InvalidUnicodeEscape`. At the character:
+/// `TabInIndentation` for a tab that indents a further line left of the tab column; `InvalidIndentation`
+/// and `InvalidQuotedScalarIndent` for content, the closing quote or the end on a further line left of
+/// where it may stand; `CommentNotSeparated` for a `#` directly behind the closing quote;
+/// `InvalidTrailingSingleQuotedScalar` and `InvalidTrailingDoubleQuotedScalar` for what may not follow;
+/// `UnexpectedCharacter` for one that isn't printable.
+pub fn scan_quoted_scalar<'input, T: BorrowedInput<'input>>(
+    alloc: Global,
+    cursor: &mut Cursor<T>,
+    single: bool,
+    at: &Layout,
+) -> Result<Lexed<'input>, ScanError>
+    requires { (h : Here) → Stands T.unread cursor.old h → next_char h ≡ spec.quote_char single }
+    ensures here { (h : Here) → Stands T.unread cursor.old h → GivesTo (λ l. l) result (Stands T.unread cursor.new) (coded quoted_lexed (spec.quoted_scalar single (layout_data at.now) h)) }
+    ensures scalar { (h : Here) → Stands T.unread cursor.old h → IfOk result (λ l. (read : spec.QuotedRead) × (after : Here) × extent.AnswersQuoted single (layout_data at.now) h read after × (l ≡ quoted_lexed read) × Stands T.unread cursor.new after) }
+    ensures cause { (h : Here) → Stands T.unread cursor.old h → IfErr result (λ e. (e.kind ≡ OutOfMemory) ⊎ extent.RefusesQuoted single (layout_data at.now) h e.kind e.mark) }
+    ensures answered { (h : Here) (read : spec.QuotedRead) (after : Here) → Stands T.unread cursor.old h → extent.AnswersQuoted single (layout_data at.now) h read after → IfErr result (λ e. e.kind ≡ OutOfMemory) }
+    ensures kinds { IfErr result (λ e. IsQuotedKind e.kind) }
+    ensures moves { Moves T.left T.origin cursor.old cursor.new }
+{
+    read_quoted(alloc, cursor, single, at)
+}
+
+/// What was read of a quoted scalar.
+#[derive(Drop)]
+struct QuotedParts {
+    /// Its value up to the last character of content.
+    value: String,
+    /// What was read since then: blanks, or behind a break a line feed for each empty line.
+    pending: String,
+    /// Whether a break was read since then.
+    on_new_line: bool,
+    /// Whether a backslash escapes the first of these breaks.
+    escaped: bool,
+}
+
+/// What stands next in a quoted scalar.
+#[derive(Clone, Copy)]
+enum Ahead {
+    Blank,
+    Break,
+    Content,
+    /// The closing quote.
+    End,
+}
+
+/// Whether a tab in that column is refused on a further line (YAML 1.2.2, 6.1).
+fn is_tab_left(at: &Layout, column: usize) -> bool
+    ensures { result ≡ spec.is_tab_left (layout_data at.now) column }
+{
+    column < at.tab_column
+}
+
+/// Whether a column is left of its block, where indentation is strict.
+#[tactic(auto, unfolding(granit_model::specs::QuotedScalar::is_strictly_left))]
+fn is_strictly_left(at: &Layout, escaped: bool, column: usize) -> bool
+    ensures { result ≡ spec.is_strictly_left (layout_data at.now) escaped column }
+{
+    at.strict && (at.in_flow || escaped) && is_left(at.block_column, column)
+}
+
+/// Whether a column is left of its block outside flow; the closing quote may stand there, unless
+/// indentation is strict.
+#[tactic(auto, unfolding(granit_model::specs::QuotedScalar::is_loosely_left))]
+fn is_loosely_left(at: &Layout, escaped: bool, closing: bool, column: usize) -> bool
+    ensures { result ≡ spec.is_loosely_left (layout_data at.now) escaped closing column }
+{
+    !(at.in_flow || escaped) && (at.strict || !closing) && is_left(at.block_column, column)
+}
+
+/// The quote.
+fn quote(single: bool) -> char
+    ensures { result ≡ spec.quote_char single }
+{
+    if single { '\'' } else { '"' }
+}
+
+/// Whether the closing quote is next; between single quotes a doubled one is content.
+#[tactic(auto, unfolding(granit_model::specs::QuotedScalar::is_closing))]
+fn is_closing<T: Input>(cursor: &Cursor<T>, single: bool) -> bool
+    requires { 4 ≤ T.window cursor.now.input }
+    ensures { (h : Here) → Stands T.unread cursor.now h → result ≡ spec.is_closing single h.unread.text }
+{
+    cursor.input().peek() == quote(single) && !(single && cursor.input().peek_nth(1) == '\'')
+}
+
+/// What stands next, or why it is refused.
+#[tactic(auto, unfolding(crate::specs::QuotedCode::quoted_ahead), using(granit_input::proofs::RunLemmas::blank_some, granit_input::proofs::RunLemmas::break_some))]
+fn look_ahead<T: Input>(
+    cursor: &mut Cursor<T>,
+    single: bool,
+    at: &Layout,
+    start: Marker,
+    parts: &QuotedParts,
+) -> Result<Ahead, ScanError>
+    ensures here { (h : Here) → Stands T.unread cursor.old h → Stands T.unread cursor.new h × SeesTo result (quoted_ahead single (layout_data at.now) start (quoted_state parts.now h)) }
+    ensures some { SeesSome result (0 < T.left cursor.new.input) }
+    ensures kinds { IfErr result (λ e. IsQuotedKind e.kind) }
+    ensures moves { Moves T.left T.origin cursor.old cursor.new }
+{
+    cursor.look(4);
+    let character = cursor.input().peek();
+    let mark = cursor.mark();
+    let on = parts.on_new_line;
+    if is_blank(character) {
+        if on && character == '\t' && is_tab_left(at, mark.col()) {
+            return Err(ScanError::from_kind(mark, ErrorKind::TabInIndentation));
+        }
+        return Ok(Ahead::Blank);
+    }
+    if is_break(character) {
+        return Ok(Ahead::Break);
+    }
+    if on && is_strictly_left(at, parts.escaped, mark.col()) {
+        return Err(ScanError::from_kind(mark, ErrorKind::InvalidIndentation));
+    }
+    let closing = is_closing(cursor, single);
+    if on && is_loosely_left(at, parts.escaped, closing, mark.col()) {
+        return Err(ScanError::from_kind(mark, ErrorKind::InvalidQuotedScalarIndent));
+    }
+    if on && mark.col() == 0 && cursor.input().next_is_document_indicator() {
+        return Err(ScanError::from_kind(start, ErrorKind::DocumentIndicatorInQuotedScalar));
+    }
+    if cursor.input().next_is_z() {
+        return Err(ScanError::from_kind(start, ErrorKind::UnclosedQuotedScalar));
+    }
+    if !is_printable(character) {
+        return Err(ScanError::from_kind(mark, ErrorKind::UnexpectedCharacter { character }));
+    }
+    Ok(if closing { Ahead::End } else { Ahead::Content })
+}
+
+/// A blank on, which is dropped where it begins a line.
+#[tactic(auto, unfolding(granit_model::specs::QuotedScalar::over_blank))]
+fn take_blank<T: Input>(cursor: &mut Cursor<T>, parts: &mut QuotedParts) -> Result<(), NoMemory>
+    ensures here { (h : Here) → Stands T.unread cursor.old h → OnOk result (Stands T.unread cursor.new (step h) × (quoted_state parts.new (step h) ≡ spec.over_blank (quoted_state parts.old h))) }
+    ensures value { string_chars parts.new.value ≡ string_chars parts.old.value }
+    ensures left { OnOk result (T.left cursor.new.input ≤ T.left cursor.old.input - 1) }
+    ensures moves { Moves T.left T.origin cursor.old cursor.new }
+{
+    cursor.look(1);
+    let c = cursor.input().peek();
+    if !parts.on_new_line {
+        push_char(&mut parts.pending, c)?;
+    }
+    cursor.step();
+    Ok(())
+}
+
+/// A break on: blanks before the first are dropped, and each further one is an empty line.
+#[tactic(auto, unfolding(granit_model::specs::QuotedScalar::over_break))]
+fn take_break<T: Input>(cursor: &mut Cursor<T>, parts: &mut QuotedParts) -> Result<(), NoMemory>
+    ensures here { (h : Here) → Stands T.unread cursor.old h → OnOk result (Stands T.unread cursor.new (past_break h) × (quoted_state parts.new (past_break h) ≡ spec.over_break (quoted_state parts.old h))) }
+    ensures value { string_chars parts.new.value ≡ string_chars parts.old.value }
+    ensures left { OnOk result (T.left cursor.new.input ≤ T.left cursor.old.input - 1) }
+    ensures moves { Moves T.left T.origin cursor.old cursor.new }
+{
+    if parts.on_new_line {
+        push_char(&mut parts.pending, '\n')?;
+        past_break(cursor);
+        return Ok(());
+    }
+    drop_blanks(&mut parts.pending);
+    parts.on_new_line = true;
+    past_break(cursor);
+    Ok(())
+}
+
+/// Appends what stands for the blanks and breaks before content or the closing quote (YAML 1.2.2, 6.5).
+fn push_between(parts: &mut QuotedParts) -> Result<(), NoMemory>
+    ensures value { (h : Here) → OnOk result (string_chars parts.new.value ≡ string_chars parts.old.value ++ spec.between_quoted (quoted_state parts.old h)) }
+{
+    if parts.on_new_line && !parts.escaped && is_at_end(parts.pending.as_str()) {
+        return push_char(&mut parts.value, ' ');
+    }
+    push_text(&mut parts.value, parts.pending.as_str())
+}
+
+/// What content stands for: a character, or nothing where it is a backslash that escapes a break.
+#[tactic(auto, unfolding(crate::specs::QuotedCode::content_read))]
+fn read_content<T: Input>(
+    cursor: &mut Cursor<T>,
+    single: bool,
+    start: Marker,
+) -> Result<Option<char>, ScanError>
+    ensures here { (h : Here) → Stands T.unread cursor.old h → GivesTo (λ x. x) result (Stands T.unread cursor.new) (content_read single start h) }
+    ensures left { OnOk result (T.left cursor.new.input ≤ T.left cursor.old.input - 1) }
+    ensures kinds { IfErr result (λ e. IsQuotedKind e.kind) }
+    ensures moves { Moves T.left T.origin cursor.old cursor.new }
+{
+    cursor.look(2);
+    let c = cursor.input().peek();
+    let next = cursor.input().peek_nth(1);
+    cursor.step();
+    if single && c == '\'' {
+        cursor.step();
+        return Ok(Some(c));
+    }
+    if single || c != '\\' {
+        return Ok(Some(c));
+    }
+    if is_break(next) {
+        return Ok(None);
+    }
+    let escaped = escape(cursor, start)?;
+    Ok(Some(escaped))
+}
+
+/// Appends content behind what stands before it.
+fn push_content(parts: &mut QuotedParts, content: Option<char>) -> Result<(), NoMemory>
+    ensures value { (h : Here) → OnOk result (string_chars parts.new.value ≡ (string_chars parts.old.value ++ spec.between_quoted (quoted_state parts.old h)) ++ added content) }
+    ensures state { (h : Here) → OnOk result (quoted_state parts.new h ≡ spec.quoted_at (escapes content) h) }
+{
+    push_between(parts)?;
+    drop_blanks(&mut parts.pending);
+    parts.on_new_line = false;
+    match content {
+        Some(c) => {
+            parts.escaped = false;
+            push_char(&mut parts.value, c)
+        }
+        None => {
+            parts.escaped = true;
+            Ok(())
+        }
+    }
+}
+
+/// On over content.
+fn take_content<T: Input>(
+    cursor: &mut Cursor<T>,
+    single: bool,
+    start: Marker,
+    parts: &mut QuotedParts,
+) -> Result<(), ScanError>
+    ensures here { (h : Here) → Stands T.unread cursor.old h → TakesContent result (Stands T.unread cursor.new) (string_chars parts.old.value) (quoted_state parts.old h) parts.new (content_read single start h) }
+    ensures left { OnOk result (T.left cursor.new.input ≤ T.left cursor.old.input - 1) }
+    ensures kinds { IfErr result (λ e. IsQuotedKind e.kind) }
+    ensures moves { Moves T.left T.origin cursor.old cursor.new }
+{
+    let content = read_content(cursor, single, start)?;
+    push_content(parts, content)?;
+    Ok(())
+}
+
+/// On over a blank, a break or a character of content; false at the closing quote.
+fn take_turn<T: Input>(
+    cursor: &mut Cursor<T>,
+    single: bool,
+    at: &Layout,
+    start: Marker,
+    parts: &mut QuotedParts,
+) -> Result<bool, ScanError>
+    ensures here { (h : Here) → Stands T.unread cursor.old h → QuotedTurnsTo single (layout_data at.now) start result (Stands T.unread cursor.new) parts.new (quoted_whole single (layout_data at.now) start parts.old h) }
+    ensures left { TurnTakes result (T.left cursor.old.input) (T.left cursor.new.input) }
+    ensures kinds { IfErr result (λ e. IsQuotedKind e.kind) }
+    ensures moves { Moves T.left T.origin cursor.old cursor.new }
+{
+    match look_ahead(cursor, single, at, start, parts)? {
+        Ahead::Blank => {
+            take_blank(cursor, parts)?;
+            Ok(true)
+        }
+        Ahead::Break => {
+            take_break(cursor, parts)?;
+            Ok(true)
+        }
+        Ahead::Content => {
+            take_content(cursor, single, start, parts)?;
+            Ok(true)
+        }
+        Ahead::End => Ok(false),
+    }
+}
+
+/// All of a quoted scalar between its quotes.
+fn quoted_parts<T: Input>(
+    alloc: Global,
+    cursor: &mut Cursor<T>,
+    single: bool,
+    at: &Layout,
+    start: Marker,
+) -> Result<QuotedParts, ScanError>
+    ensures here { (h : Here) → Stands T.unread cursor.old h → QuotedPartsTo result (Stands T.unread cursor.new) (quoted_rest single (layout_data at.now) start (spec.quoted_at false h)) }
+    ensures kinds { IfErr result (λ e. IsQuotedKind e.kind) }
+    ensures moves { Moves T.left T.origin cursor.old cursor.new }
+{
+    let mut parts = QuotedParts {
+        value: String::new(alloc),
+        pending: String::new(alloc),
+        on_new_line: false,
+        escaped: false,
+    };
+    'turns: while take_turn(cursor, single, at, start, &mut parts)? {}
+    Ok(parts)
+}
+
+/// Blanks on.
+fn past_blanks<T: Input>(cursor: &mut Cursor<T>)
+    ensures here { (h : Here) → Stands T.unread cursor.old h → Stands T.unread cursor.new (past class.is_blank h) }
+    ensures moves { Moves T.left T.origin cursor.old cursor.new }
+{
+    cursor.skip_while_blank();
+}
+
+/// Whether a character may follow the scalar and its blanks, where it began on this line or not.
+#[tactic(auto, unfolding(granit_model::specs::QuotedScalar::may_trail))]
+fn may_trail(at: &Layout, on_line: bool, c: char) -> bool
+    ensures { result ≡ spec.may_trail (layout_data at.now) on_line c }
+{
+    is_break(c)
+        || at.in_flow && (c == ',' || c == ':' || (c == ']' || c == '}'))
+        || on_line && c == ':'
+}
+
+/// Why what may not follow is refused.
+fn trailing_kind(single: bool) -> ErrorKind
+    ensures kind { kind_of result ≡ spec.trailing_kind single }
+    ensures known { IsQuotedKind (kind_of result) }
+{
+    if single {
+        return ErrorKind::InvalidTrailingSingleQuotedScalar;
+    }
+    ErrorKind::InvalidTrailingDoubleQuotedScalar
+}
+
+/// The scalar of that value between two places, with the comment behind it.
+fn quoted_token<'input>(
+    single: bool,
+    start: Marker,
+    end: Marker,
+    value: String,
+    comment: Option<Token<'input>>,
+) -> Lexed<'input>
+    ensures { result ≡ quoted_with single start (string_chars value) end comment.entry }
+{
+    let style = if single {
+        ScalarStyle::SingleQuoted
+    } else {
+        ScalarStyle::DoubleQuoted
+    };
+    Lexed {
+        token: Token::new(
+            Span::new(start, end),
+            TokenType::Scalar(style, Text::owned(value)),
+        ),
+        comment,
+        cut_by_comment: None,
+        on_new_line: false,
+    }
+}
+
+/// What stands behind the closing quote and blanks, where no comment begins.
+#[tactic(auto, unfolding(granit_model::specs::QuotedScalar::behind_quoted))]
+fn behind_quoted<'input, T: Input>(
+    cursor: &mut Cursor<T>,
+    single: bool,
+    at: &Layout,
+    start: Marker,
+    value: String,
+    end: Marker,
+) -> Result<Lexed<'input>, ScanError>
+    ensures here { (h : Here) → Stands T.unread cursor.old h → GivesTo (λ l. l) result (Stands T.unread cursor.new) (coded quoted_lexed (spec.behind_quoted single (layout_data at.now) start (string_chars value) end h)) }
+    ensures kinds { IfErr result (λ e. IsQuotedKind e.kind) }
+    ensures moves { Moves T.left T.origin cursor.old cursor.new }
+{
+    cursor.look(1);
+    let character = cursor.input().peek();
+    let mark = cursor.mark();
+    if !cursor.input().next_is_z() {
+        if !is_printable(character) {
+            return Err(ScanError::from_kind(mark, ErrorKind::UnexpectedCharacter { character }));
+        }
+        if !may_trail(at, mark.line() == start.line(), character) {
+            return Err(ScanError::from_kind(mark, trailing_kind(single)));
+        }
+    }
+    Ok(quoted_token(single, start, end, value, None))
+}
+
+/// The comment that begins here, where comments are asked for.
+#[tactic(auto, unfolding(granit_model::specs::Comment::comment))]
+fn comment_behind<'input, T: Input>(
+    alloc: Global,
+    cursor: &mut Cursor<T>,
+    at: &Layout,
+) -> Result<Option<Token<'input>>, ScanError>
+    ensures here { (h : Here) → Stands T.unread cursor.old h → GivesTo (λ t. t) result (Stands T.unread cursor.new) (asked (layout_data at.now) h) }
+    ensures kinds { IfErr result (λ e. IsQuotedKind e.kind) }
+    ensures moves { Moves T.left T.origin cursor.old cursor.new }
+{
+    if at.comments {
+        let comment = read_comment(alloc, cursor)?;
+        return Ok(Some(comment));
+    }
+    pass_comment(cursor)?;
+    Ok(None)
+}
+
+/// What stands behind the closing quote: a comment, which blanks part from it, or what may follow.
+#[tactic(auto, unfolding(granit_model::specs::QuotedScalar::quoted_tail))]
+fn quoted_tail<'input, T: Input>(
+    alloc: Global,
+    cursor: &mut Cursor<T>,
+    single: bool,
+    at: &Layout,
+    start: Marker,
+    value: String,
+) -> Result<Lexed<'input>, ScanError>
+    ensures here { (h : Here) → Stands T.unread cursor.old h → GivesTo (λ l. l) result (Stands T.unread cursor.new) (coded quoted_lexed (spec.quoted_tail single (layout_data at.now) start (string_chars value) h)) }
+    ensures kinds { IfErr result (λ e. IsQuotedKind e.kind) }
+    ensures moves { Moves T.left T.origin cursor.old cursor.new }
+{
+    cursor.look(1);
+    let end = cursor.mark();
+    if cursor.input().peek() == '#' {
+        return Err(ScanError::from_kind(end, ErrorKind::CommentNotSeparated));
+    }
+    past_blanks(cursor);
+    cursor.look(1);
+    if cursor.input().peek() == '#' {
+        let comment = comment_behind(alloc, cursor, at)?;
+        return Ok(quoted_token(single, start, end, value, comment));
+    }
+    behind_quoted(cursor, single, at, start, value, end)
+}
+
+#[tactic(auto, unfolding(granit_model::specs::QuotedScalar::quoted_scalar))]
+fn read_quoted<'input, T: Input>(
+    alloc: Global,
+    cursor: &mut Cursor<T>,
+    single: bool,
+    at: &Layout,
+) -> Result<Lexed<'input>, ScanError>
+    ensures here { (h : Here) → Stands T.unread cursor.old h → GivesTo (λ l. l) result (Stands T.unread cursor.new) (coded quoted_lexed (spec.quoted_scalar single (layout_data at.now) h)) }
+    ensures kinds { IfErr result (λ e. IsQuotedKind e.kind) }
+    ensures moves { Moves T.left T.origin cursor.old cursor.new }
+{
+    let start = cursor.mark();
+    cursor.step();
+    let mut parts = quoted_parts(alloc, cursor, single, at, start)?;
+    cursor.step();
+    push_between(&mut parts)?;
+    quoted_tail(alloc, cursor, single, at, start, parts.value)
+}
