@@ -12,7 +12,7 @@ use Rattle.granit_model.specs.LayoutData.{LayoutData}
 use Rattle.granit_model.specs.Moves.{steps}
 use Rattle.granit_model.specs.Outcome.{Fault, Fails, ◌>>=◌}
 use Rattle.granit_model.specs.PlainScalar.{fails_at}
-use Rattle.granit_model.specs.QuotedScalar.{QuotedState, is_closing, escape_or, between_quoted, quoted_at, quoted_piece, quoted_content, quoted_turn, quoted_len, QuotedRead, quoted_tail, quoted_scalar}
+use Rattle.granit_scalars.specs.QuotedScalar.{QuotedState, is_closing, escape_or, between_quoted, quoted_at, quoted_piece, quoted_content, quoted_turn, quoted_len, QuotedRead, quoted_tail, quoted_scalar}
 use Rattle.granit_model.proofs.HereLemmas.{step_text}
 use Rattle.granit_model.proofs.PieceLemmas.{with_front-nil, loop_more, loop_done, loop_fails}
 use Rattle.granit_scalars.proofs.QuotedTurns.{quoted_shortens, tab_meets, strict_meets, loose_meets, mark_meets, turn_chain}

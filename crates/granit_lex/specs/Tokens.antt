@@ -10,7 +10,7 @@ use Rattle.granit_model.specs.Lexeme.{Lexeme, LexemeKind, DocumentStart, Sequenc
 use Rattle.granit_model.specs.Outcome.{Fault, ◌>>=◌}
 use Rattle.granit_model.specs.PlainEvent.{plain_span}
 use Rattle.granit_model.specs.PlainScalar.{PlainRead}
-use Rattle.granit_model.specs.QuotedScalar.{QuotedRead, quoted_style, asked_comment}
+use Rattle.granit_scalars.specs.QuotedScalar.{QuotedRead, quoted_style, asked_comment}
 use Rattle.granit_lex.specs.declared.token.Layout.{Layout}
 use Rattle.granit_lex.specs.declared.token.Lexed.{Lexed}
 use Rattle.granit_lex.specs.declared.token.Token.{Token}

@@ -3,7 +3,7 @@ ghost use Rattle.std.specs.Prelude.{◌≡◌, ◌≤◌, ℕ, if◌then◌else�
 ghost use Rattle.granit_error.specs.Kinds.{kind_of};
 ghost use Rattle.granit_model.specs.Decoding as decoding;
 ghost use Rattle.granit_model.specs.Here.{Here};
-ghost use Rattle.granit_model.specs.QuotedScalar as spec;
+ghost use Rattle.granit_scalars.specs.QuotedScalar as spec;
 ghost use Rattle.granit_lex.specs.QuotedCode.{hex_refusal, IsQuotedKind};
 ghost use Rattle.granit_lex.specs.Reading.{Stands, Moves, GivesTo};
 
@@ -115,7 +115,7 @@ fn digits<T: Input>(
 }
 
 /// The character of a first half and the second that must follow it.
-#[tactic(auto, unfolding(granit_model::specs::QuotedScalar::second_half_or))]
+#[tactic(auto, unfolding(granit_scalars::specs::QuotedScalar::second_half_or))]
 fn second_half<T: Input>(
     cursor: &mut Cursor<T>,
     start: Marker,
@@ -140,7 +140,7 @@ fn second_half<T: Input>(
 }
 
 /// What a number of so many digits stands for.
-#[tactic(auto, unfolding(granit_model::specs::QuotedScalar::numbered_or))]
+#[tactic(auto, unfolding(granit_scalars::specs::QuotedScalar::numbered_or))]
 fn numbered<T: Input>(
     cursor: &mut Cursor<T>,
     start: Marker,
@@ -162,7 +162,7 @@ fn numbered<T: Input>(
 }
 
 /// The character that an escape stands for, from its letter on (YAML 1.2.2, 5.7).
-#[tactic(auto, unfolding(granit_model::specs::QuotedScalar::escape_or))]
+#[tactic(auto, unfolding(granit_scalars::specs::QuotedScalar::escape_or))]
 pub(crate) fn escape<T: Input>(cursor: &mut Cursor<T>, start: Marker) -> Result<char, ScanError>
     ensures here { (h : Here) → Stands T.unread cursor.old h → GivesTo (λ c. c) result (Stands T.unread cursor.new) (spec.escape_or start h) }
     ensures kinds { IfErr result (λ e. IsQuotedKind e.kind) }

@@ -1,6 +1,6 @@
 use Rattle.std.proofs.Common.{◌≡◌, false}
 use Rattle.granit_model.specs.Here.{Here}
-use Rattle.granit_model.specs.QuotedScalar.{quoted_at}
+use Rattle.granit_scalars.specs.QuotedScalar.{quoted_at}
 use Rattle.granit_lex.specs.QuotedCode.{quoted_rest, quoted_whole}
 use Rattle.granit_lex.specs.Reading.{Stands, Moves}
 use Rattle.granit_lex.specs.Tokens.{layout_data}
