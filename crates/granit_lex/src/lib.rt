@@ -17,4 +17,6 @@ pub use quoted::scan_quoted_scalar;
 pub use token::{Layout, Lexed, Token, TokenType};
 
 #[cfg(test)]
+mod quoted_tests;
+#[cfg(test)]
 mod tests;

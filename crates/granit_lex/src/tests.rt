@@ -10,7 +10,7 @@ use std::convert::AsStr;
 use std::test::Fail;
 
 /// Outside flow, inside a block collection in that column.
-fn block(block_column: Option<usize>) -> Layout {
+pub(crate) fn block(block_column: Option<usize>) -> Layout {
     Layout {
         block_column,
         tab_column: 0,
@@ -21,7 +21,7 @@ fn block(block_column: Option<usize>) -> Layout {
 }
 
 /// In flow, inside a block collection in that column.
-fn flow(block_column: Option<usize>, strict: bool) -> Layout {
+pub(crate) fn flow(block_column: Option<usize>, strict: bool) -> Layout {
     Layout {
         block_column,
         tab_column: 0,

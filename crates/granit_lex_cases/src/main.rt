@@ -1,25 +1,25 @@
 //! Runs the calls that read lexemes on each case of standard input, and prints the token or the fault. A case is a
 //! line: how many characters stand before the lexeme, the column of the block around it or `-`, `block`, `flow`,
-//! `strict` or `comment`, and the text as a JSON string. The stored lines are the original's tokens of the whole
-//! text, never this program's.
+//! `strict`, `strict block` or `comment`, and the text as a JSON string; for a quoted scalar then `single` or
+//! `double` and the tab column. The stored lines are the original's tokens of the whole text, never this program's.
 #![tactic(auto)]
 
 use anyhow::{Context, Result};
 use granit_base::{Marker, ScalarStyle, is_blank_or_breakz};
 use granit_error::ScanError;
 use granit_input::{Input, StrInput};
-use granit_lex::{Cursor, Layout, Token, TokenType, scan_comment, scan_plain_scalar};
+use granit_lex::{Cursor, Layout, Token, TokenType, scan_comment, scan_plain_scalar, scan_quoted_scalar};
 use serde_json::Value;
 use std::alloc::Global;
 use std::io::{BufRead, BufReader};
 
 /// What stands around the lexeme.
-fn layout(column: &str, around: &str) -> Layout {
+fn layout(column: &str, tab_column: usize, around: &str) -> Layout {
     Layout {
         block_column: column.parse::<usize>().ok(),
-        tab_column: 0,
+        tab_column,
         in_flow: around == "flow" || around == "strict",
-        strict: around == "strict",
+        strict: around == "strict" || around == "strict block",
         comments: true,
     }
 }
@@ -58,6 +58,24 @@ fn token_at<'a>(
     }
 }
 
+/// The token of the quoted scalar that begins where the cursor stands, where one does.
+fn quoted_at<'a>(
+    alloc: Global,
+    cursor: &mut Cursor<StrInput<'a>>,
+    at: &Layout,
+) -> Option<Result<Token<'a>, ScanError>> {
+    cursor.look(1);
+    let result = match cursor.input().peek() {
+        '\'' => scan_quoted_scalar(alloc, cursor, true, at),
+        '"' => scan_quoted_scalar(alloc, cursor, false, at),
+        _ => return None,
+    };
+    match result {
+        Ok(lexed) => Some(Ok(lexed.token)),
+        Err(error) => Some(Err(error)),
+    }
+}
+
 /// A place, as `index:line:column`, the column from 1.
 fn place(alloc: Global, mark: Marker) -> Result<String> {
     let column = mark.col().saturating_add(1);
@@ -68,6 +86,8 @@ fn place(alloc: Global, mark: Marker) -> Result<String> {
 fn token_line(alloc: Global, token: &Token<'_>) -> Result<String> {
     let (kind, text) = match token.token_type() {
         TokenType::Scalar(ScalarStyle::Plain, text) => ("Scalar plain", text.as_str()),
+        TokenType::Scalar(ScalarStyle::SingleQuoted, text) => ("Scalar single", text.as_str()),
+        TokenType::Scalar(ScalarStyle::DoubleQuoted, text) => ("Scalar double", text.as_str()),
         TokenType::Comment(comment) => ("Comment", comment.text()),
         _ => ("another token", ""),
     };
@@ -84,8 +104,14 @@ fn case_line(alloc: Global, line: &str) -> Result<String> {
     let around = case.get(2).and_then(Value::as_str).context("a layout")?;
     let text = case.get(3).and_then(Value::as_str).context("a text")?;
     let mut cursor = cursor_at(text, index as usize);
-    let at = layout(column, around);
-    match token_at(alloc, &mut cursor, &at, around == "comment") {
+    let tab_column = case.get(5).and_then(Value::as_u64).unwrap_or(0);
+    let at = layout(column, tab_column as usize, around);
+    let lexeme = if case.get(4).is_some() {
+        quoted_at(alloc, &mut cursor, &at)
+    } else {
+        token_at(alloc, &mut cursor, &at, around == "comment")
+    };
+    match lexeme {
         None => Ok(String::from_str(alloc, "no lexeme")?),
         Some(Ok(token)) => token_line(alloc, &token),
         Some(Err(error)) => Ok(format!(in alloc; "fault {}: {error}", error.kind().number())?),
