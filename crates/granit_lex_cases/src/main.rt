@@ -8,7 +8,9 @@ use anyhow::{Context, Result};
 use granit_base::{Marker, ScalarStyle, is_blank_or_breakz};
 use granit_error::ScanError;
 use granit_input::{Input, StrInput};
-use granit_lex::{Cursor, Layout, Token, TokenType, scan_comment, scan_plain_scalar, scan_quoted_scalar};
+use granit_lex::{
+    Cursor, Layout, Token, TokenType, scan_comment, scan_plain_scalar, scan_quoted_scalar,
+};
 use serde_json::Value;
 use std::alloc::Global;
 use std::io::{BufRead, BufReader};
