@@ -1,8 +1,9 @@
 -- A program that finds no memory for its words.
-use Rattle.std.proofs.Common.{◌≡◌, ℕ, List, [], Option, Some, None, IfSome, refl}
+use Rattle.std.proofs.Common.{◌≡◌, ℕ, List, [], Option, Some, None, IfSome, refl, inl, inr}
+use Rattle.std.specs.Io.KnownBytes.{Keeps}
 use Rattle.granit_base.specs.Written.{Written}
 use Rattle.granit_events.specs.declared.status.Status.TheVariants as status
-use Rattle.granit.specs.Program.{Ran}
+use Rattle.granit.specs.Program.{End, Ran}
 use Rattle.granit.specs.Words.{words_of}
 
 told_words : Option (List (List ℕ)) → List Written
@@ -14,13 +15,26 @@ unfolding told_words
 are_told None = tt
 are_told (Some list) = refl
 
-pub ran_out : (all : Option (List (List ℕ))) (left now written after : Option (List ℕ)) → Ran all left now written after status.NoMemory
-ran_out all left now written after = record {
+keeps_all : (bytes : Option (List ℕ)) → Keeps bytes bytes
+keeps_all None = tt
+keeps_all (Some xs) = refl
+
+pub ran_out : (all : Option (List (List ℕ))) (source sink : End) → Ran all source source sink sink status.NoMemory
+ran_out all source sink = record {
   words = told_words all;
   are_the_words = are_told all;
   ended = λ f. absurd f;
+  read_fault = λ e. absurd cc;
+  write_fault = λ e. absurd cc;
+  no_memory = λ e. inl (keeps_all sink.bytes);
+  source_count = λ e. refl;
+  sink_count = λ e. refl;
+  none_left = λ f. absurd f;
+  unread = λ k w. refl;
   usage = λ k w. tt;
   exactly = λ bytes wanted l c. tt;
   read = λ e. absurd cc;
   caused = λ e. absurd cc;
+  answered = λ can quiet. inr refl;
+  canonical = λ ts has quiet. inr refl;
 }

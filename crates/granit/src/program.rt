@@ -1,5 +1,5 @@
 //! The run on the words of the program.
-ghost use Rattle.granit.specs.Program.{Exits, Ran};
+ghost use Rattle.granit.specs.Program.{Exits, Ran, end_of};
 
 use crate::arguments::{Arguments, words};
 use granit_events::{Sink, Source, Status, run};
@@ -14,7 +14,7 @@ fn run_on_words<A: Arguments, S: Source, W: Sink>(
     source: &mut S,
     sink: &mut W,
 ) -> Status
-    ensures { Ran (A.all arguments.now) (S.left source.old) (S.left source.new) (W.written sink.old) (W.written sink.new) result }
+    ensures { Ran (A.all arguments.now) (end_of S.left S.faults source.old) (end_of S.left S.faults source.new) (end_of W.written W.faults sink.old) (end_of W.written W.faults sink.new) result }
 {
     match words(alloc, arguments) {
         Ok(words) => run(alloc, &words, source, sink),
@@ -29,7 +29,7 @@ pub fn run_on_arguments<A: Arguments, S: Source, W: Sink>(
     source: &mut S,
     sink: &mut W,
 ) -> ExitCode
-    ensures { Exits (A.all arguments.now) (S.left source.old) (S.left source.new) (W.written sink.old) (W.written sink.new) result }
+    ensures { Exits (A.all arguments.now) (end_of S.left S.faults source.old) (end_of S.left S.faults source.new) (end_of W.written W.faults sink.old) (end_of W.written W.faults sink.new) result }
 {
     let status = run_on_words(alloc, arguments, source, sink);
     ExitCode::from(status.code())

@@ -1,6 +1,6 @@
 //! The classes of characters that runs are made of.
 ghost use Rattle.std.specs.Prelude.{◌≡◌};
-ghost use Rattle.granit_input.specs.Runs.{class_test, plain_goes_on};
+ghost use Rattle.granit_input.specs.Runs.{class_test, is_quoted_char, plain_goes_on};
 
 use granit_base::{
     is_alpha, is_blank, is_blank_or_breakz, is_breakz, is_flow, is_printable, is_yaml_non_space,
@@ -28,6 +28,9 @@ pub enum Run {
     Of(Class),
     /// Those of a plain scalar without blanks, with whether it stands in flow (YAML 1.2.2, 7.3.3).
     Plain(bool),
+    /// Those of a quoted scalar that stand for themselves, without blanks, with whether its quotes are
+    /// single (YAML 1.2.2, 7.3.1 and 7.3.2).
+    Quoted(bool),
 }
 
 impl Class {
@@ -51,4 +54,16 @@ pub(crate) fn goes_on(c: char, next: char, in_flow: bool) -> bool
 {
     !(c == ':' && (is_blank_or_breakz(next) || (in_flow && is_flow(next))))
         && !(in_flow && is_flow(c))
+}
+
+/// Whether a character stands for itself in quotes, and is no blank.
+pub(crate) fn is_quoted(c: char, single: bool) -> bool
+    ensures { result ≡ is_quoted_char single c }
+{
+    let stops = if single {
+        c == '\''
+    } else {
+        c == '"' || c == '\\'
+    };
+    (c.is_ascii_graphic() && !stops) || (c >= '\u{80}' && is_printable(c))
 }

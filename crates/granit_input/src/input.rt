@@ -16,7 +16,7 @@ ghost use Rattle.granit_input.specs.Looks.{begins_with_2, begins_with_3, is_docu
 ghost use Rattle.granit_input.specs.White.{holds, SkipsBlanks, SkipsWhite};
 
 use crate::appending::push_or_cut;
-use crate::class::{Class, Run, goes_on};
+use crate::class::{Class, Run, goes_on, is_quoted};
 use crate::whitespace::{SkipTabs, WhitespaceResult};
 use granit_base::{
     NoMemory, is_alpha, is_blank, is_blank_or_breakz, is_break, is_breakz, is_digit, is_flow,
@@ -294,6 +294,10 @@ pub trait Input {
                 self.lookahead(2);
                 let c = self.peek();
                 !is_blank_or_breakz(c) && goes_on(c, self.peek_nth(1), in_flow)
+            }
+            Run::Quoted(single) => {
+                let c = self.look_ch();
+                is_quoted(c, single)
             }
         }
     }

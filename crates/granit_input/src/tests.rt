@@ -133,6 +133,10 @@ fn skipping_calls_count_characters(rt: HostRuntime) {
     assert_eq!(rt; input.skip_plain_scalar_chunk(2, false), (false, 2));
     assert_eq!(rt; input.skip_plain_scalar_chunk(8, false), (true, 1));
     assert_eq!(rt; input.skip_run(Run::Of(Class::Alpha), 8), (true, 0));
+    let mut input = StrInput::new("é'\\\" ");
+    assert_eq!(rt; input.skip_run(Run::Quoted(true), 8), (true, 1));
+    assert_eq!(rt; input.skip_run(Run::Quoted(false), 8), (true, 1));
+    assert_eq!(rt; input.skip_run(Run::Quoted(true), 8), (true, 2));
 }
 
 #[test]

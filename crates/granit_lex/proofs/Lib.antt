@@ -5,4 +5,5 @@ pub mod GivenLemmas
 pub mod MoveLemmas
 pub mod PlainLemmas
 pub mod QuotedLemmas
+pub mod SourceLemmas
 pub mod TrimLemmas

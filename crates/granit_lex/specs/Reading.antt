@@ -1,5 +1,5 @@
 -- What contracts see of a cursor, and what a reader gives for whatever is known to be left.
-use Rattle.std.specs.Prelude.{◌≡◌, ℕ, ◌≤◌, Bool, List, ◌++◌, length, take, Result, Ok, Err, IfOk}
+use Rattle.std.specs.Prelude.{◌≡◌, ℕ, ◌≤◌, Bool, ◌&&◌, if◌then◌else◌, List, ◌++◌, take, is_some, Result, Ok, Err, IfOk}
 use Rattle.granit_base.specs.Place.{Place, Unread}
 use Rattle.granit_error.specs.Refused.{Refused}
 use Rattle.granit_input.specs.Chunks.{TakesFront}
@@ -50,8 +50,12 @@ StepsFront test h asked result Lands = TakesFront test h.unread.text asked resul
 abbrev pub FetchesFrontSteps : {E : Type 0} → (List ℕ → Bool) → Here → ℕ → Result (Bool × ℕ) E → (Here → Type 0) → List ℕ → List ℕ → Type 0
 FetchesFrontSteps test h asked result Lands before after = IfOk result (λ r. StepsFront test h asked r Lands × (after ≡ before ++ take r.1 h.unread.text))
 
--- a text that is a front of the run was taken, and the cursor stands behind it
-pub record StepsText (test : List ℕ → Bool) (h : Here) (taken : List ℕ) (Lands : Here → Type 0) : Type 0 where
-  pub fits : length taken ≤ run_length test h.unread.text
-  pub text : taken ≡ take (length taken) h.unread.text
-  pub lands : Lands (steps (length taken) h)
+-- whether an input has a source, and tells where in it what is left begins
+abbrev pub has_source : Origin → Bool
+has_source o = o.tells_offset && is_some o.sliced
+
+-- Where the input has a source the whole run was taken, and else nothing; what was taken is counted and lent, and the cursor stands behind it.
+pub record LendsSteps (o : Origin) (test : List ℕ → Bool) (h : Here) (lent : List ℕ) (count : ℕ) (Lands : Here → Type 0) : Type 0 where
+  pub counted : count ≡ (if has_source o then run_length test h.unread.text else 0)
+  pub text : lent ≡ take count h.unread.text
+  pub lands : Lands (steps count h)

@@ -1,5 +1,5 @@
 //! An input, and the place up to which it was read.
-ghost use Rattle.std.specs.Prelude.{◌≡◌, ◌<◌, ◌≤◌, ◌+◌, ◌-◌, ◌^◌, ◌++◌, min, max, length, is_some, string_bytes, false, IfOk, OnErr};
+ghost use Rattle.std.specs.Prelude.{◌≡◌, ◌<◌, ◌≤◌, ◌+◌, ◌-◌, ◌^◌, ◌++◌, min, max, length, is_some, string_bytes, false, None, Some, if◌then◌else◌, IfOk, OnErr};
 ghost use Rattle.std.specs.Borrow.{sem};
 ghost use Rattle.std.specs.Io.BufRead.{Rests};
 ghost use Rattle.std.specs.Option.{option_map};
@@ -8,11 +8,12 @@ ghost use Rattle.granit_base.specs.Classes.{is_blank};
 ghost use Rattle.granit_base.specs.Place as place;
 ghost use Rattle.granit_base.specs.Written.{string_chars};
 ghost use Rattle.granit_error.specs.Kinds.{kind_of};
-ghost use Rattle.granit_input.specs.Origin.{error_given, after_giving, Goes};
+ghost use Rattle.granit_input.specs.Origin.{error_given, after_giving, Goes, LentBetween};
 ghost use Rattle.granit_input.specs.Runs.{starts, is_line_char, is_non_breakz, is_plain_at, is_quoted_char};
 ghost use Rattle.granit_model.specs.Here.{Here, first_place, mark_of, next_char, step};
 ghost use Rattle.granit_model.specs.Moves.{past_prefix_mark};
-ghost use Rattle.granit_lex.specs.Reading.{Stands, Moves, StepsRun, StepsFront, StepsText, FetchesSteps, FetchesFrontSteps};
+ghost use Rattle.granit_lex.specs.Reading.{Stands, Moves, StepsRun, StepsFront, FetchesSteps, FetchesFrontSteps, LendsSteps, has_source};
+ghost use Rattle.granit_lex.specs.contracts.cursor.Cursor.{the_row};
 
 use granit_base::{Marker, NoMemory};
 use granit_error::ErrorKind;
@@ -163,6 +164,45 @@ impl<T: Input> Cursor<T> {
         self.index += taken;
         self.col += taken;
         (ended, taken)
+    }
+
+    /// Consumes the characters that stand for themselves in quotes, up to the first other or a blank, and
+    /// lends them with their number (YAML 1.2.2, 7.3.1 and 7.3.2); nothing where the input has no source
+    /// to lend them from.
+    pub fn take_quoted_scalar_chunk(&mut self, single: bool) -> (&str, usize)
+        ensures* rests { sem 𝓛 (Rests (the_row T.row T.Input) self.entry (λ new.
+            ((h : Here) → Stands T.unread self.old h → LendsSteps (T.origin self.old.input) (starts (is_quoted_char single)) h (chars result.0.now) result.1 (Stands T.unread new))
+            × Moves T.left T.origin self.old new)) }
+    {
+        match self.source_offset() {
+            Some(start) => {
+                let (_, taken) = self.input.skip_run(Run::Quoted(single), usize::MAX);
+                self.index += taken;
+                self.col += taken;
+                match self.source_since(start) {
+                    Some(text) => (text, taken),
+                    None => ("", 0),
+                }
+            }
+            None => ("", 0),
+        }
+    }
+
+    /// Where in its source the input stands, where it has one.
+    fn source_offset(&self) -> Option<usize>
+        ensures { (u : place.Unread) → T.unread self.now.input u → result ≡ (if has_source (T.origin self.now.input) then u.offset else None) }
+    {
+        let here = self.input.byte_offset()?;
+        self.input.slice_bytes(here, here)?;
+        Some(here)
+    }
+
+    /// What the source holds from a place on, up to where the input stands.
+    fn source_since(&self, start: usize) -> Option<&str>
+        ensures { (u : place.Unread) → T.unread self.now.input u → LentBetween (T.origin self.now.input).sliced (Some start) u.offset result }
+    {
+        let here = self.input.byte_offset()?;
+        self.input.slice_bytes(start, here)
     }
 
     /// Consumes and appends up to a break, NUL or the end; how many characters.

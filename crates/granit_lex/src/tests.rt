@@ -343,6 +343,20 @@ fn cursors_take_runs(rt: HostRuntime) {
 }
 
 #[test]
+fn cursors_lend_runs_of_quoted_characters(rt: HostRuntime) {
+    let mut cursor = Cursor::new(StrInput::new("éa'b c\\d\"\n"));
+    assert_eq!(rt; cursor.take_quoted_scalar_chunk(true), ("éa", 2));
+    assert_eq!(rt; cursor.mark().byte_offset(), Some(3));
+    assert_eq!(rt; cursor.take_quoted_scalar_chunk(false), ("'b", 2));
+    assert_eq!(rt; cursor.take_quoted_scalar_chunk(false), ("", 0));
+    cursor.step();
+    assert_eq!(rt; cursor.take_quoted_scalar_chunk(false), ("c", 1));
+    assert_eq!(rt; cursor.take_quoted_scalar_chunk(true), ("\\d\"", 3));
+    assert_eq!(rt; line_and_column(&cursor), (1, 9));
+    assert_eq!(rt; cursor.take_quoted_scalar_chunk(true), ("", 0));
+}
+
+#[test]
 fn comments_are_cloned(rt: HostRuntime) -> Result<(), Fail> {
     let comment = Comment::new(Text::borrowed(" \u{a0}é c\t")).with_placement(Placement::Right);
     assert_eq!(rt; comment.placement(), Placement::Right);
