@@ -1,7 +1,7 @@
 -- A program that finds no memory for its words.
 use Rattle.std.proofs.Common.{◌≡◌, ℕ, List, [], Option, Some, None, IfSome, refl, inl, inr}
-use Rattle.std.specs.Io.KnownBytes.{Keeps}
 use Rattle.granit_base.specs.Written.{Written}
+use Rattle.granit_events.proofs.Known.{keeps_itself}
 use Rattle.granit_events.specs.declared.status.Status.TheVariants as status
 use Rattle.granit.specs.Program.{End, Ran}
 use Rattle.granit.specs.Words.{words_of}
@@ -15,10 +15,6 @@ unfolding told_words
 are_told None = tt
 are_told (Some list) = refl
 
-keeps_all : (bytes : Option (List ℕ)) → Keeps bytes bytes
-keeps_all None = tt
-keeps_all (Some xs) = refl
-
 pub ran_out : (all : Option (List (List ℕ))) (source sink : End) → Ran all source source sink sink status.NoMemory
 ran_out all source sink = record {
   words = told_words all;
@@ -26,7 +22,7 @@ ran_out all source sink = record {
   ended = λ f. absurd f;
   read_fault = λ e. absurd cc;
   write_fault = λ e. absurd cc;
-  no_memory = λ e. inl (keeps_all sink.bytes);
+  no_memory = λ e. inl (keeps_itself sink.bytes);
   source_count = λ e. refl;
   sink_count = λ e. refl;
   none_left = λ f. absurd f;

@@ -2,6 +2,7 @@
 use Rattle.std.proofs.Common.{◌≡◌, ℕ, ◌/◌, ◌%◌, ◌<◌, ◌==◌, Bool, true, false, nat_le, ◌||◌, ◌&&◌, List, [], ◌∷◌, ◌++◌, Option, Some, None, refl, sym, ap₂, subst, arith}
 use Rattle.std.proofs.lemmas.List.{append_assoc}
 use Rattle.std.specs.Prelude.{IfSome}
+use Rattle.std.proofs.lemmas.Bool.{and_parts}
 use Rattle.std.proofs.lemmas.Bool.Decides.{nat_tests}
 use Rattle.std.proofs.lemmas.Str.{chars-encodes}
 use Rattle.std.specs.Str.{chars, IsUtf8, encode_utf8_all}
@@ -12,7 +13,7 @@ use Rattle.granit_model.specs.FlowText.{upper_digit, two_digits, four_digits, ei
 use Rattle.granit_model.specs.Tree.{Properties, PlainTree, AliasOf, ScalarOf, SequenceOf, MappingOf, PlainTrees, NoTrees, AfterTrees, PlainPairs, NoPairs, AfterPairs, no_trees, no_pairs}
 use Rattle.granit_canonical.proofs.Fronts.{byte_by, character_by}
 use Rattle.granit_canonical.proofs.Naming.{AreBytes, utf8_bytes, stands_itself}
-use Rattle.granit_canonical.proofs.Quoting.{first_true, second_true, below}
+use Rattle.granit_canonical.proofs.Quoting.{below}
 
 -- characters, where what follows is of characters
 abbrev Keeps : (List ℕ → List ℕ) → Type 0
@@ -50,7 +51,7 @@ quoted_character_keeps c s = character_keeps (c == 0x22 || c == 0x5C) (is_within
 
 quoted_keep : (text : List ℕ) → scalars text ≡ true → Keeps (quoted_characters text)
 quoted_keep [] s rest r = r
-quoted_keep (c ∷ cs) s rest r = quoted_character_keeps c (first_true (scalar c) (scalars cs) s) (quoted_characters cs rest) (quoted_keep cs (second_true (scalar c) (scalars cs) s) rest r)
+quoted_keep (c ∷ cs) s rest r = quoted_character_keeps c (and_parts (scalar c) (scalars cs) s).0 (quoted_characters cs rest) (quoted_keep cs (and_parts (scalar c) (scalars cs) s).1 rest r)
 
 comma_keeps : (first : Bool) → Keeps (comma_unless first)
 comma_keeps true rest r = r
@@ -70,7 +71,7 @@ tag_bytes_keep (b ∷ bs) h rest r = tag_byte_keeps b h.0 (tag_bytes bs rest) (t
 
 text_keeps : (text : List ℕ) → scalars text ≡ true → Keeps (λ rest. text ++ rest)
 text_keeps [] s rest r = r
-text_keeps (c ∷ cs) s rest r = one c (cs ++ rest) (first_true (scalar c) (scalars cs) s) (text_keeps cs (second_true (scalar c) (scalars cs) s) rest r)
+text_keeps (c ∷ cs) s rest r = one c (cs ++ rest) (and_parts (scalar c) (scalars cs) s).0 (text_keeps cs (and_parts (scalar c) (scalars cs) s).1 rest r)
 
 tag_keeps : (tag : Option (List ℕ)) → IfSome tag AreCharacters → Keeps (tag_text tag)
 tag_keeps None c rest r = r

@@ -1,5 +1,6 @@
 -- What is written for a tag spells it, and names are of characters that a name may have.
 use Rattle.std.proofs.Common.{◌≡◌, ◌≢◌, ℕ, suc, ◌+◌, ◌/◌, ◌%◌, ◌<◌, ◌==◌, Bool, true, false, cond, ◌||◌, List, [], ◌∷◌, ◌++◌, length, refl, sym, ap, ◌∙◌, subst, arith}
+use Rattle.std.proofs.lemmas.Bool.{and_parts}
 use Rattle.std.proofs.lemmas.Bool.Decides.{nat_tests}
 use Rattle.std.proofs.lemmas.Str.{length-encode, len_utf8_bounds}
 use Rattle.std.specs.List.{AllPass}
@@ -12,7 +13,7 @@ use Rattle.granit_model.specs.Decoding.{UriBytes, nothing, itself, percent}
 use Rattle.granit_model.specs.FlowText.{two_digits, tag_byte, tag_bytes}
 use Rattle.granit_model.specs.Gap.{Each}
 use Rattle.granit_canonical.proofs.Fronts.{byte_by}
-use Rattle.granit_canonical.proofs.Quoting.{digit_is_hex, digit_writes, first_true, second_true}
+use Rattle.granit_canonical.proofs.Quoting.{digit_is_hex, digit_writes}
 
 -- numbers below 256
 abbrev pub AreBytes : List ℕ → Type 0
@@ -41,7 +42,7 @@ bytes_and (x ∷ xs) ys h k = (h.0, bytes_and xs ys h.1 k)
 -- the UTF-8 of a text is of bytes
 pub utf8_bytes : (text : List ℕ) → scalars text ≡ true → AreBytes (encode_utf8_all text)
 utf8_bytes [] e = tt
-utf8_bytes (c ∷ cs) e = bytes_and (encode c) (encode_utf8_all cs) (are_bytes c (first_true (scalar c) (scalars cs) e)) (utf8_bytes cs (second_true (scalar c) (scalars cs) e))
+utf8_bytes (c ∷ cs) e = bytes_and (encode c) (encode_utf8_all cs) (are_bytes c (and_parts (scalar c) (scalars cs) e).0) (utf8_bytes cs (and_parts (scalar c) (scalars cs) e).1)
 
 append_some : (xs ys : List ℕ) → xs ≢ [] → xs ++ ys ≢ []
 append_some [] ys h e = h refl

@@ -1,5 +1,6 @@
 -- What is written between quotes for a text stands for that text.
-use Rattle.std.proofs.Common.{◌≡◌, ℕ, ◌+◌, ◌*◌, ◌/◌, ◌%◌, ◌<◌, ◌==◌, Bool, true, false, nat_le, ◌||◌, ◌&&◌, List, [], ◌∷◌, ◌++◌, Some, refl, ap, ◌∙◌, subst, arith}
+use Rattle.std.proofs.Common.{◌≡◌, ℕ, ◌+◌, ◌*◌, ◌/◌, ◌%◌, ◌<◌, ◌==◌, Bool, true, false, nat_le, ◌||◌, List, [], ◌∷◌, ◌++◌, Some, refl, ap, ◌∙◌, subst, arith}
+use Rattle.std.proofs.lemmas.Bool.{and_parts}
 use Rattle.std.proofs.lemmas.Bool.Decides.{nat_tests}
 use lib.Utf8.{scalar, scalars, scalar_fits}
 use Rattle.granit_base.specs.Classes.{is_within, is_hex, hex_value, is_digit, is_printable, is_break}
@@ -82,15 +83,7 @@ quoted_piece : (c : ℕ) (rest value : List ℕ) → scalar c ≡ true → Conte
 unfolding quoted_character
 quoted_piece c rest value s r = piece (c == 0x22 || c == 0x5C) (is_within 0x20 0x7E c) (nat_le c 0xFF) (nat_le c 0xFFFF) c rest value refl refl refl refl s r
 
-pub first_true : (a b : Bool) → (a && b) ≡ true → a ≡ true
-first_true true b e = refl
-first_true false b e = e
-
-pub second_true : (a b : Bool) → (a && b) ≡ true → b ≡ true
-second_true true b e = e
-second_true false b e = absurd cc
-
 -- a text of characters is what is written for it
 pub content_of : (text : List ℕ) → scalars text ≡ true → Content (quoted_characters text []) text
 content_of [] e = nothing
-content_of (c ∷ cs) e = quoted_piece c (quoted_characters cs []) cs (first_true (scalar c) (scalars cs) e) (content_of cs (second_true (scalar c) (scalars cs) e))
+content_of (c ∷ cs) e = quoted_piece c (quoted_characters cs []) cs (and_parts (scalar c) (scalars cs) e).0 (content_of cs (and_parts (scalar c) (scalars cs) e).1)

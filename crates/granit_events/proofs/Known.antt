@@ -5,13 +5,6 @@ use Rattle.std.specs.Prelude.{Option, None, Some}
 use Rattle.std.specs.Io.KnownBytes.{Appends, Keeps}
 use Rattle.granit_events.specs.Wrote.{WroteFront}
 
-pub take-sum : (m n : ℕ) (xs : List ℕ) → take (m + n) xs ≡ take m xs ++ take n (drop m xs)
-take-sum zero n xs = let e : zero + n ≡ n = omega arith in rw e refl
-take-sum (suc m) n [] = take_all (suc m + n) [] (omega arith) ∙ sym (take_all n [] (omega arith))
-take-sum (suc m) n (x ∷ xs) =
-    let e : suc m + n ≡ suc (m + n) = omega arith in
-    rw e (ap (λ (ys : List ℕ). x ∷ ys) (take-sum m n xs))
-
 -- nothing is added where bytes are kept
 pub appends_nothing : (a b : Option (List ℕ)) → Keeps a b → Appends a b []
 appends_nothing None b k = tt

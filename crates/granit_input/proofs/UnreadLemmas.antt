@@ -5,6 +5,7 @@ use Rattle.std.specs.Char.{encode_utf8}
 use Rattle.std.proofs.lemmas.List.{length-append, append-nil, drop-drop, take_all, length-drop}
 use Rattle.std.proofs.lemmas.Bool.Decides.{nat_tests}
 use Rattle.std.proofs.lemmas.Str.{encodes-append}
+use Rattle.std.proofs.Math.Seq.{take-add}
 use Rattle.granit_base.specs.Place.{Unread, past_first}
 use Rattle.granit_input.specs.Unread.{past, utf8_length}
 
@@ -28,15 +29,8 @@ plus_twice : (a b : ℕ) (o : Option ℕ) → option_map (λ bytes. bytes + b) (
 plus_twice a b None = refl
 plus_twice a b (Some n) = ap (λ (k : ℕ). Some k) (omega arith)
 
-pub take_plus : (m n : ℕ) (xs : List ℕ) → take (m + n) xs ≡ take m xs ++ take n (drop m xs)
-take_plus zero n xs = rw (zero-add n) refl
-take_plus (suc m) n [] = take_all (suc m + n) [] (omega arith) ∙ sym (take_all n [] (omega arith))
-take_plus (suc m) n (x ∷ xs) =
-    let e : suc m + n ≡ suc (m + n) = omega arith in
-    rw e (ap (λ (ys : List ℕ). x ∷ ys) (take_plus m n xs))
-
 utf8_length_take : (m n : ℕ) (xs : List ℕ) → utf8_length (take (m + n) xs) ≡ utf8_length (take m xs) + utf8_length (take n (drop m xs))
-utf8_length_take m n xs = ap utf8_length (take_plus m n xs) ∙ ap length (encodes-append (take m xs) (take n (drop m xs))) ∙ length-append _ _
+utf8_length_take m n xs = ap utf8_length (take-add m n xs) ∙ ap length (encodes-append (take m xs) (take n (drop m xs))) ∙ length-append _ _
 
 pub past_twice : (m n : ℕ) (u : Unread) → past n (past m u) ≡ past (m + n) u
 unfolding past

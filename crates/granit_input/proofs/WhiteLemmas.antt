@@ -1,12 +1,12 @@
 -- What stands among blanks.
 use Rattle.std.proofs.Common.{◌≡◌, Ok, Err, ℕ, zero, suc, ◌+◌, ◌<◌, ◌==◌, ◌||◌, Bool, true, false, List, [], ◌∷◌, ◌++◌, length, take, drop, refl, ap, ◌∙◌, arith}
 use Rattle.std.proofs.lemmas.Bool.Decides.{nat_tests}
+use Rattle.std.proofs.Math.Seq.{take-add}
 use Rattle.granit_error.specs.declared.kind.ErrorKind.TheVariants.{CommentNotSeparated}
 use Rattle.granit_base.specs.Place.{first}
 use Rattle.granit_input.specs.White.{holds, is_skipped, found_in, found_more, white_skipped, comment_length}
 use Rattle.granit_input.specs.declared.whitespace.SkipTabs.{SkipTabs}
 use Rattle.granit_input.specs.declared.whitespace.SkipTabs.TheVariants.{Yes, No}
-use Rattle.granit_input.proofs.UnreadLemmas.{take_plus}
 
 pub skipped_nul : (tabs : SkipTabs) → is_skipped tabs 0 ≡ false
 skipped_nul Yes = refl
@@ -34,7 +34,7 @@ one_more (c ∷ cs) some = refl
 
 -- one character more of a text that has it
 pub take_more : (n : ℕ) (text : List ℕ) → 0 < length (drop n text) → take (n + 1) text ≡ take n text ++ first (drop n text) ∷ []
-take_more n text some = take_plus n 1 text ∙ ap (λ (xs : List ℕ). take n text ++ xs) (one_more (drop n text) some)
+take_more n text some = take-add n 1 text ∙ ap (λ (xs : List ℕ). take n text ++ xs) (one_more (drop n text) some)
 
 pub holds_next : (c n : ℕ) (text : List ℕ) → 0 < length (drop n text) → holds c (take (n + 1) text) ≡ (holds c (take n text) || (first (drop n text) == c))
 holds_next c n text some = ap (holds c) (take_more n text some) ∙ holds_more c (first (drop n text)) (take n text)

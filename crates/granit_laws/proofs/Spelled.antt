@@ -7,9 +7,10 @@ use Rattle.granit_model.specs.Gap.{Each}
 use Rattle.granit_model.specs.Lexeme.{LexemeKind, DocumentStart, wants_gap, Opener}
 use Rattle.granit_model.specs.Place.{place_of, since_line_end}
 use Rattle.granit_model.specs.Start.{glyph, Dash}
+use Rattle.granit_model.proofs.HereLemmas.{no_line_end}
 use Rattle.granit_lexing.specs.Finding.{Fits}
 use Rattle.granit_lexing.proofs.LexingGlyphs.{Shape, shape_of, not_nothing}
-use Rattle.granit_lexing.proofs.LexingRuns.{rest_of, no_line_end, name_no_break}
+use Rattle.granit_lexing.proofs.LexingRuns.{rest_of, name_no_break}
 use Rattle.granit_lexing.proofs.Places.{rest_behind, column_behind, next_column}
 
 -- ---- characters

@@ -26,17 +26,3 @@ unfolding digits_or
 digits_end kind start n i v h le =
     let k : n - i ≡ 0 = omega arith in
     rw k refl
-
-pub digit_below : (c : ℕ) → is_hex c ≡ true → hex_value c < 16
-unfolding is_hex is_digit hex_value
-digit_below c is = grind (arith, nat_tests)
-
--- as many digits as fit
-pub digits_fit : (i v : ℕ) → i ≤ 8 → v < 16 ^ i → v < 2 ^ 32
-digits_fit i v le fits = let most : 16 ^ i ≤ 16 ^ 8 = pow-le-pow_right (omega arith) le in omega arith
-
-pub digit_space : (i v : ℕ) → v < 16 ^ i → v * 16 < 16 ^ (i + 1)
-digit_space i v fits = let e : 16 ^ (i + 1) ≡ 16 ^ i * 16 = ap (λ (k : ℕ). 16 ^ k) (omega arith) ∙ pow-suc 16 i in omega arith
-
-pub digit_more : (i v d : ℕ) → v < 16 ^ i → d < 16 → v * 16 + d < 16 ^ (i + 1)
-digit_more i v d fits small = let e : 16 ^ (i + 1) ≡ 16 ^ i * 16 = ap (λ (k : ℕ). 16 ^ k) (omega arith) ∙ pow-suc 16 i in omega arith

@@ -1,6 +1,6 @@
 -- Moves over several characters of a line.
 use Rattle.std.proofs.Common.{◌≡◌, ℕ, zero, suc, ◌+◌, ◌<◌, ◌≤◌, ◌==◌, Bool, true, false, not, List, [], ◌∷◌, length, drop, inl, inr, refl, sym, ap, ◌∙◌, subst, arith}
-use Rattle.std.proofs.lemmas.Bool.{cases_Bool, eqb-true}
+use Rattle.std.proofs.lemmas.Bool.{and_parts, cases_Bool, eqb-true}
 use Rattle.std.proofs.lemmas.Bool.Decides.{nat_tests}
 use Rattle.granit_base.specs.Classes.{is_blank, is_break, is_breakz, is_blank_or_breakz}
 use Rattle.granit_base.specs.Place.{Place, Unread, first, ends_line}
@@ -10,7 +10,6 @@ use Rattle.granit_input.proofs.UnreadLemmas.{past_none, past_one, past_text, pas
 use Rattle.granit_model.specs.Here.{Here, next_char, step}
 use Rattle.granit_model.specs.Moves.{steps, past_prefix_mark}
 use Rattle.granit_lex.specs.Reading.{Reading, Stands}
-use Rattle.granit_lex.proofs.BoolLemmas.{and_left}
 
 -- no character that passes a test ends a line
 abbrev pub KeepsLine : (List ℕ → Bool) → Type 0
@@ -104,7 +103,7 @@ no_separator c = not (is_blank_or_breakz c)
 
 pub plain_line : (in_flow : Bool) → KeepsLine (is_plain_at in_flow)
 unfolding is_blank_or_breakz is_breakz is_break is_blank
-plain_line in_flow text passes = keeps_line no_separator refl refl text (and_left (no_separator (first text)) _ passes)
+plain_line in_flow text passes = keeps_line no_separator refl refl text (and_parts (no_separator (first text)) _ passes).0
 
 -- the same cursor, by its parts
 pub stands_at : {I : Type 0} (unread : I → Unread → Type 0) (r s : Reading I) (h : Here) → s ≡ r → Stands unread r h → Stands unread s h

@@ -3,6 +3,7 @@ use Rattle.std.proofs.Common.{◌≡◌, ℕ, zero, suc, ◌<◌, ◌≤◌, ◌
 use Rattle.std.specs.Prelude.{String, string_bytes}
 use Rattle.std.specs.Str.{chars}
 use Rattle.std.specs.declared.alloc.Global.{Global}
+use Rattle.std.proofs.lemmas.Bool.{and_parts, or_parts}
 use Rattle.std.proofs.lemmas.List.{append-nil}
 use Rattle.std.proofs.lemmas.Str.{chars-nil}
 use Rattle.std.proofs.Math.Bool.{and-false}
@@ -19,30 +20,20 @@ use Rattle.granit_model.specs.Pieces.{with_front}
 use Rattle.granit_model.specs.PlainScalar.{PlainState, fails_at, is_content, between, on_content, on_blank, on_break, meets_comment, ends_before_line, plain_turn, plain_len}
 use Rattle.granit_model.proofs.HereLemmas.{step_text}
 use Rattle.granit_model.proofs.PieceLemmas.{with_front-nil, with_front-with_front, pieces_more, pieces_done, pieces_fails}
-use Rattle.granit_scalars.proofs.PlainTurns.{plain_shortens}
+use Rattle.granit_scalars.proofs.PlainTurns.{chain, plain_shortens}
 use Rattle.granit_lex.specs.PlainCode.{plain_state, inside, plain_rest, plain_whole, ahead_of, turn_of}
 use Rattle.granit_lex.specs.declared.plain.PlainParts.{PlainParts}
 use Rattle.granit_lex.specs.declared.plain.Ahead.{Ahead}
 use Rattle.granit_lex.specs.declared.plain.Ahead.TheVariants.{Blank, Break, Tab, Content, End}
-use Rattle.granit_lex.proofs.BoolLemmas.{and_left, or_left, or_right, not_true}
+use Rattle.granit_lex.proofs.BoolLemmas.{not_true}
 use Rattle.granit_lex.proofs.MoveLemmas.{run_begins}
 
 -- ---- one turn, by what is next
 
-abbrev tested : LayoutData → Mark → PlainState → (a b c d e f : Bool) → Result (Option (List ℕ) × PlainState) Fault
-tested at start s a b c d e f =
-    if a then Ok (Some [], on_blank at s)
-    else if b then Ok (Some [], on_break s)
-    else if c then Ok (None, s)
-    else if d then fails_at TabInPlainScalar start
-    else if e then Ok (None, s)
-    else if f then Ok (Some (between s ++ next_char s.here ∷ []), on_content s)
-    else Ok (None, s)
-
 abbrev next_by : (a b c d e f : Bool) → Ahead
 next_by a b c d e f = if a then Blank else if b then Break else if c then End else if d then Tab else if e then End else if f then Content else End
 
-turn_by : (at : LayoutData) (start : Mark) (s : PlainState) (a b c d e f : Bool) → tested at start s a b c d e f ≡ turn_of at start s (next_by a b c d e f)
+turn_by : (at : LayoutData) (start : Mark) (s : PlainState) (a b c d e f : Bool) → chain at start s a b c d e f ≡ turn_of at start s (next_by a b c d e f)
 turn_by at start s true b c d e f = refl
 turn_by at start s false true c d e f = refl
 turn_by at start s false false true d e f = refl
@@ -66,8 +57,8 @@ content_next a b c f p q r t = rw (p, q, r, t) refl
 apart : (in_flow : Bool) (text : List ℕ) → is_plain_at in_flow text ≡ true → (is_blank (first text) ≡ false) × (is_break (first text) ≡ false)
 unfolding is_blank_or_breakz is_breakz
 apart in_flow text held =
-    let solid = not_true (is_blank_or_breakz (first text)) (and_left _ _ held) in
-    (or_left _ _ solid, or_left _ _ (or_right (is_blank (first text)) _ solid))
+    let solid = not_true (is_blank_or_breakz (first text)) (and_parts _ _ held).0 in
+    let parts = or_parts _ _ solid in (parts.0, (or_parts _ _ parts.1).0)
 
 inside_next : (at : LayoutData) (g : Here) → is_plain_at at.in_flow g.unread.text ≡ true → ahead_of at (inside g) ≡ Content
 inside_next at g held =

@@ -3,7 +3,7 @@ use Rattle.std.proofs.Common.{◌≡◌, ℕ, ◌+◌, ◌≤◌, ◌<◌, ◌^�
 use Rattle.std.specs.Borrow.{Bor}
 use Rattle.std.specs.Option.{option_map}
 use Rattle.std.specs.Str.{chars}
-use Rattle.std.proofs.lemmas.Bool.{cases_Bool}
+use Rattle.std.proofs.lemmas.Bool.{and_parts, cases_Bool}
 use Rattle.granit_base.specs.Place.{Unread}
 use Rattle.granit_input.specs.Chunks.{TakesFront}
 use Rattle.granit_input.specs.Origin.{Origin, Goes, Agrees, PartOf, LentBetween}
@@ -12,7 +12,6 @@ use Rattle.granit_input.specs.Unread.{past, utf8_length}
 use Rattle.granit_input.proofs.LendLemmas.{lent_between}
 use Rattle.granit_input.proofs.UnreadLemmas.{past_offset}
 use Rattle.granit_lex.specs.Reading.{has_source}
-use Rattle.granit_lex.proofs.BoolLemmas.{and_left, and_right}
 
 -- asked for the empty text here, the source answers exactly where there is one
 pub empty_slice : (left at : ℕ) (o : Origin) (u : Unread) (answer : Option (Bor (List ℕ))) → Agrees left o u → Some at ≡ u.offset → PartOf o.sliced at at answer
@@ -41,7 +40,7 @@ none_found left o u agrees found =
     elim (cases_Bool (has_source o)) [
       | inl there ↦ absurd (
           let none : None ≡ u.offset = rw there at found in
-          let tells = and_left o.tells_offset (is_some o.sliced) there in
+          let tells = (and_parts o.tells_offset (is_some o.sliced) there).0 in
           let told : false ≡ true = ap is_some none ∙ agrees.offset ∙ tells in cc)
       | inr absent ↦ absent
     ]
@@ -64,7 +63,7 @@ lent_since old now left_old left_now u n at answer goes before after there from 
     (λ bytes place is told. after.sliced bytes place is told)
     (past_offset n u ∙ ap (option_map (λ bytes. bytes + utf8_length (take n u.text))) (sym from))
     h in
-    (answered.0 ∙ ap is_some goes.sliced ∙ and_right old.tells_offset (is_some old.sliced) there, answered.1)
+    (answered.0 ∙ ap is_some goes.sliced ∙ (and_parts old.tells_offset (is_some old.sliced) there).1, answered.1)
 
 -- no run is as long as the greatest number
 pub whole_run : (test : List ℕ → Bool) (text : List ℕ) (left count most : ℕ) (ended : Bool) → count ≤ left → left < 2 ^ 63 → 2 ^ 63 ≤ most → (ended ≡ false → most ≤ count)

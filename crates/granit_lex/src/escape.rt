@@ -1,5 +1,5 @@
 //! Escapes between double quotes are read (YAML 1.2.2, 5.7). What can't be read is refused at the scalar's start.
-ghost use Rattle.std.specs.Prelude.{◌≡◌, ◌≤◌, ℕ, if◌then◌else◌, IsTrue, IfSome, IfErr, Some, None};
+ghost use Rattle.std.specs.Prelude.{◌≡◌, ◌≤◌, ℕ, IsTrue, IfErr};
 ghost use Rattle.granit_error.specs.Kinds.{kind_of};
 ghost use Rattle.granit_model.specs.Decoding as decoding;
 ghost use Rattle.granit_model.specs.Here.{Here};
@@ -11,72 +11,9 @@ use crate::cursor::Cursor;
 use granit_base::{Marker, as_hex, is_hex};
 use granit_error::{ErrorKind, ScanError};
 use granit_input::Input;
-
-/// The character that a letter behind a backslash stands for.
-#[tactic(auto, unfolding(granit_model::specs::Decoding::letter_value))]
-fn letter_value(letter: char) -> Option<char>
-    ensures { result ≡ decoding.letter_value letter }
-{
-    match letter {
-        '0' => Some('\0'),
-        'a' => Some('\u{7}'),
-        'b' => Some('\u{8}'),
-        't' | '\t' => Some('\t'),
-        'n' => Some('\n'),
-        'v' => Some('\u{B}'),
-        'f' => Some('\u{C}'),
-        'r' => Some('\r'),
-        'e' => Some('\u{1B}'),
-        ' ' | '"' | '/' | '\\' => Some(letter),
-        'N' => Some('\u{85}'),
-        '_' => Some('\u{A0}'),
-        'L' => Some('\u{2028}'),
-        'P' => Some('\u{2029}'),
-        _ => None,
-    }
-}
-
-/// How many hexadecimal digits the letters `x`, `u` and `U` want behind them.
-#[tactic(auto, unfolding(granit_model::specs::Decoding::digit_count))]
-fn digit_count(letter: char) -> Option<u32>
-    ensures value { result ≡ decoding.digit_count letter }
-    ensures most { IfSome result (λ n. n ≤ 8) }
-{
-    match letter {
-        'x' => Some(2),
-        'u' => Some(4),
-        'U' => Some(8),
-        _ => None,
-    }
-}
-
-/// Whether a number is the first half of a character in UTF-16.
-#[tactic(auto, unfolding(granit_model::specs::Decoding::is_high))]
-fn is_high(number: u32) -> bool
-    ensures { result ≡ decoding.is_high number }
-{
-    0xD800 <= number && number <= 0xDBFF
-}
-
-/// Whether a number is the second half of a character in UTF-16.
-#[tactic(auto, unfolding(granit_model::specs::Decoding::is_low))]
-fn is_low(number: u32) -> bool
-    ensures { result ≡ decoding.is_low number }
-{
-    0xDC00 <= number && number <= 0xDFFF
-}
-
-/// The character of two halves in UTF-16.
-#[tactic(auto, unfolding(granit_model::specs::Decoding::is_high, granit_model::specs::Decoding::is_low))]
-fn joined(high: u32, low: u32) -> Option<char>
-    requires { IsTrue (decoding.is_high high) }
-    ensures { result ≡ (if decoding.is_low low then Some (decoding.joined high low) else None) }
-{
-    if low < 0xDC00 || 0xDFFF < low {
-        return None;
-    }
-    char::from_u32(0x10000 + (high - 0xD800) * 0x400 + (low - 0xDC00))
-}
+use granit_model::{
+    digit_count, is_high_surrogate, is_low_surrogate, join_surrogates, letter_value,
+};
 
 /// Why a missing digit is refused: one of a second half, or another.
 fn hex_kind(second: bool) -> ErrorKind
@@ -131,7 +68,7 @@ fn second_half<T: Input>(
         cursor.step();
         cursor.step();
         let low = digits(cursor, start, true, 4)?;
-        return match joined(high, low) {
+        return match join_surrogates(high, low) {
             Some(c) => Ok(c),
             None => Err(ScanError::from_kind(start, ErrorKind::InvalidLowSurrogate)),
         };
@@ -153,8 +90,8 @@ fn numbered<T: Input>(
 {
     match char::from_u32(number) {
         Some(c) => Ok(c),
-        None if count == 4 && is_high(number) => second_half(cursor, start, number),
-        None if count == 4 && is_low(number) => {
+        None if count == 4 && is_high_surrogate(number) => second_half(cursor, start, number),
+        None if count == 4 && is_low_surrogate(number) => {
             Err(ScanError::from_kind(start, ErrorKind::UnpairedLowSurrogate))
         }
         None => Err(ScanError::from_kind(start, ErrorKind::InvalidUnicodeEscape)),

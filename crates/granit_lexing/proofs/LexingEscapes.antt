@@ -4,47 +4,17 @@ use Rattle.std.specs.Prelude.{slice_index}
 use Rattle.std.proofs.lemmas.Bool.{cond-true, cond-false}
 use Rattle.std.proofs.lemmas.Bool.Decides.{nat_tests}
 use lib.Utf8.{scalar}
-use Rattle.granit_base.specs.Classes.{is_digit, is_hex, hex_value}
+use Rattle.granit_base.specs.Classes.{is_hex, hex_value}
 use Rattle.granit_base.specs.Place.{Mark, first}
 use Rattle.granit_model.specs.Decoding.{letter_value, digit_count, number_behind, number_of, is_high, is_low, joined, AreDigits, Escape, letter, number, halves}
 use Rattle.granit_model.specs.Gap.{Each}
 use Rattle.granit_model.specs.Here.{Here, next_char}
 use Rattle.granit_model.specs.Outcome.{◌>>=◌}
 use Rattle.granit_model.specs.Quoted.{refuse_at, digits, joined_at, second_half, numbered, escape_by, escape}
+use Rattle.granit_model.proofs.DecodingLemmas.{no_hex_nul, no_letter_nul, no_count_nul, number_letter, u_wants_four, four_digits, half_is_none, begins_second}
 use Rattle.granit_lexing.specs.Standing.{here_at}
 use Rattle.granit_lexing.proofs.LexingRuns.{next_is, rest_of, along}
 use Rattle.granit_lexing.proofs.Places.{step_is, rest_behind, on_two, two_behind}
-
-no_hex_at_end : is_hex 0 ≡ false
-unfolding is_hex is_digit
-no_hex_at_end = refl
-
--- a letter that wants digits stands for no character by itself
-number_letter : (l count : ℕ) → digit_count l ≡ Some count → letter_value l ≡ None
-unfolding digit_count letter_value
-number_letter l count e = grind (arith, nat_tests)
-
--- `u` alone wants four
-four_digits : (l count : ℕ) → digit_count l ≡ Some count → count ≡ 4 → l ≡ 0x75
-unfolding digit_count
-four_digits l count e f = grind (arith, nat_tests)
-
-no_letter_at_end : letter_value 0 ≡ None
-unfolding letter_value
-no_letter_at_end = refl
-
-no_count_at_end : digit_count 0 ≡ None
-unfolding digit_count
-no_count_at_end = refl
-
-u_wants_four : digit_count 0x75 ≡ Some 4
-unfolding digit_count
-u_wants_four = refl
-
--- half a character is none
-half_is_none : (n : ℕ) → is_high n ≡ true → scalar n ≡ false
-unfolding is_high
-half_is_none n e = grind (arith, nat_tests)
 
 -- so many digits stand at an index
 abbrev DigitsAt : List ℕ → ℕ → ℕ → Type 0
@@ -105,7 +75,7 @@ module _ (start : Mark) (x : List ℕ) where
   some_digit : (count n i : ℕ) (l : List ℕ) → drop i x ≡ l
       → ((m : ℕ) → DigitsOr start x (suc i) count m)
       → DigitsOr start x i (suc count) n
-  some_digit count n i [] e more = inr (digit_stops count n i (ap (λ (l : List ℕ). is_hex (first l)) e ∙ no_hex_at_end))
+  some_digit count n i [] e more = inr (digit_stops count n i (ap (λ (l : List ℕ). is_hex (first l)) e ∙ no_hex_nul))
   some_digit count n i (d ∷ t) e more = one_digit count n i d t (is_hex d) e refl more
 
   digits_or : (count n i : ℕ) → DigitsOr start x i count n
@@ -127,14 +97,6 @@ module _ (start : Mark) (x : List ℕ) where
 
   second_is : (high i : ℕ) (low t : List ℕ) → drop i x ≡ 0x5C ∷ 0x75 ∷ (low ++ t) → AreDigits 4 low → is_low (number_of low) ≡ true → second_half start high (here_at x i) ≡ Ok (joined high (number_of low), here_at x (suc (suc i) + length low))
   second_is high i low t e a p = second_joins high i low t e a ∙ cond-true (is_low (number_of low)) _ _ p
-
-  begins_second : (l : List ℕ) → (first l == 0x5C && slice_index l 1 == 0x75) ≡ true → (t : List ℕ) × (l ≡ 0x5C ∷ 0x75 ∷ t)
-  begins_second [] e = absurd (grind (arith, nat_tests))
-  begins_second (a ∷ []) e = absurd (grind (arith, nat_tests))
-  begins_second (a ∷ b ∷ t) e =
-      let p : a ≡ 0x5C = grind (arith, nat_tests) in
-      let q : b ≡ 0x75 = grind (arith, nat_tests) in
-      (t, cc)
 
   second_on : (high i : ℕ) (v : Bool) → (first (drop i x) == 0x5C && slice_index (drop i x) 1 == 0x75) ≡ v → SecondOr start x i high
   unfolding second_half
@@ -266,5 +228,5 @@ module _ (start : Mark) (x : List ℕ) where
   pub escape_or : (i : ℕ) (t : List ℕ) → drop i x ≡ 0x5C ∷ t → EscapeOr start x i
   escape_or i [] e =
       let r : drop (suc i) x ≡ [] = rest_behind x i 0x5C [] e in
-      inr (by_nothing (suc i) (ap (λ (v : List ℕ). letter_value (first v)) r ∙ no_letter_at_end) (ap (λ (v : List ℕ). digit_count (first v)) r ∙ no_count_at_end))
+      inr (by_nothing (suc i) (ap (λ (v : List ℕ). letter_value (first v)) r ∙ no_letter_nul) (ap (λ (v : List ℕ). digit_count (first v)) r ∙ no_count_nul))
   escape_or i (l ∷ t) e = with_letter i l t e (letter_value l) (digit_count l) refl refl

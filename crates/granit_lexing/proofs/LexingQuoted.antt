@@ -1,7 +1,7 @@
 -- What is read between double quotes: the content that stands there, or a refusal where none does.
 use Rattle.std.proofs.Common.{◌≡◌, ℕ, zero, suc, ◌+◌, ◌<◌, Bool, true, false, not, ◌==◌, ◌||◌, List, [], ◌∷◌, ◌++◌, length, take, drop, refl, sym, ap, ap₂, ◌∙◌, arith, append_assoc, add-zero, length-append, Option, Some, None, Result, Ok, Err, ◌⊎◌, inl, inr}
 use Rattle.std.specs.Prelude.{if◌then◌else◌}
-use Rattle.std.proofs.lemmas.Bool.{cond-true, cond-false}
+use Rattle.std.proofs.lemmas.Bool.{cond-true, cond-false, or_parts}
 use Rattle.std.proofs.lemmas.Bool.Decides.{nat_tests}
 use Rattle.std.proofs.Math.Seq.{drop-append_seam}
 use Rattle.granit_base.specs.Classes.{is_printable, is_break}
@@ -242,14 +242,10 @@ each_unescaped : (f : List ℕ) → Each is_inner f → has_backslash f ≡ fals
 each_unescaped [] p = refl
 each_unescaped (c ∷ f) p = ap₂ (λ a b. a || b) (inner_no_backslash c p.0) (each_unescaped f p.1)
 
-either_false : (a b : Bool) → (a || b) ≡ false → b ≡ false
-either_false true b e = cc
-either_false false b e = e
-
 -- and without a backslash, a content is inner characters
 unescaped_each : (cs value : List ℕ) → Content cs value → has_backslash cs ≡ false → Each is_inner cs
 unescaped_each cs value nothing e = tt
-unescaped_each cs value (itself {c = c} {cs = ds} {value = w} p content) e = (p, unescaped_each ds w content (either_false (c == 0x5C) (has_backslash ds) e))
+unescaped_each cs value (itself {c = c} {cs = ds} {value = w} p content) e = (p, unescaped_each ds w content (or_parts (c == 0x5C) (has_backslash ds) e).1)
 unescaped_each cs value (escaped {cs = ds} (letter h) content) e = cc
 unescaped_each cs value (escaped {cs = ds} (number h a s) content) e = cc
 unescaped_each cs value (escaped {cs = ds} (halves a p b q) content) e = cc

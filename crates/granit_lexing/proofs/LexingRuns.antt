@@ -1,16 +1,18 @@
 -- Runs of characters that pass a test: how far they go, and where a reader stands behind them.
-use Rattle.std.proofs.Common.{◌≡◌, ℕ, suc, ◌+◌, Bool, true, false, cond, not, ◌&&◌, ◌||◌, ◌==◌, List, [], ◌∷◌, ◌++◌, length, take, drop, refl, sym, ap, ap₂, ◌∙◌, arith, add-zero, length-append}
+use Rattle.std.proofs.Common.{◌≡◌, ℕ, suc, ◌+◌, Bool, true, false, cond, not, ◌&&◌, List, [], ◌∷◌, ◌++◌, length, take, drop, refl, sym, ap, ap₂, ◌∙◌, arith, add-zero, length-append}
 use Rattle.std.specs.Str.{encode_utf8_all}
 use Rattle.std.specs.List.{prefix_len}
 use Rattle.std.proofs.Math.Seq.{take-add, drop-append_seam}
+use Rattle.std.proofs.lemmas.Bool.{and_parts}
 use Rattle.std.proofs.lemmas.List.{drop-drop}
 use Rattle.std.proofs.lemmas.Str.{encodes-append}
 use Rattle.granit_base.specs.Classes.{is_break, is_yaml_non_break, is_yaml_non_space, is_anchor_char}
-use Rattle.granit_base.specs.Place.{first, ends_line}
+use Rattle.granit_base.specs.Place.{first}
 use Rattle.granit_model.specs.Here.{Here, step, next_char, chosen, skip, past, chunk_len, chunk, past_chunk}
 use Rattle.granit_model.specs.Place.{one_more_if, line_ends, since_line_end}
 use Rattle.granit_model.specs.Gap.{Each}
 use Rattle.granit_model.specs.Start.{is_inner}
+use Rattle.granit_model.proofs.HereLemmas.{no_line_end}
 use Rattle.granit_lexing.specs.Standing.{here_at}
 use Rattle.granit_lexing.proofs.Places.{step_is, rest_behind, line_ends_behind, column_behind, next_column, same_here, same_place}
 
@@ -92,16 +94,6 @@ pub take_front : (f b : List ℕ) → take (length f) (f ++ b) ≡ f
 take_front [] b = refl
 take_front (c ∷ f) b = ap (λ (l : List ℕ). c ∷ l) (take_front f b)
 
--- no line ends with a character that is no break
-either_not : (a b d : Bool) → (a || b) ≡ false → (a || (b && d)) ≡ false
-either_not true b d e = e
-either_not false true d e = cc
-either_not false false d e = refl
-
-pub no_line_end : (c : ℕ) (t : List ℕ) → is_break c ≡ false → ends_line (c ∷ t) ≡ false
-unfolding is_break
-no_line_end c t e = either_not (c == 0x0A) (c == 0x0D) (not (first t == 0x0A)) e
-
 bytes_over : (f b x : List ℕ) (i : ℕ) → drop i x ≡ f ++ b → length (encode_utf8_all (take i x)) + length (encode_utf8_all f) ≡ length (encode_utf8_all (take (i + length f) x))
 bytes_over f b x i e =
     let h : take (i + length f) x ≡ take i x ++ f = take-add i (length f) x ∙ ap (λ (l : List ℕ). take i x ++ l) (ap (take (length f)) e ∙ take_front f b) in
@@ -153,10 +145,6 @@ pub inner_no_break : (c : ℕ) → is_inner c ≡ true → is_break c ≡ false
 unfolding is_inner
 inner_no_break c e = inner_is_no_break _ _ _ e
 
-both_left : (a b : Bool) → (a && b) ≡ true → a ≡ true
-both_left true b e = refl
-both_left false b e = e
-
 pub name_no_break : (c : ℕ) → is_anchor_char c ≡ true → is_break c ≡ false
 unfolding is_anchor_char is_yaml_non_space is_yaml_non_break
-name_no_break c e = inner_is_no_break _ _ _ (both_left _ _ (both_left _ _ e))
+name_no_break c e = inner_is_no_break _ _ _ (and_parts _ _ (and_parts _ _ e).0).0

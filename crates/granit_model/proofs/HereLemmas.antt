@@ -1,8 +1,9 @@
 -- How a reader moves on.
-use Rattle.std.proofs.Common.{◌≡◌, ℕ, ◌-◌, ◌<◌, ◌≤◌, ◌==◌, Bool, true, false, cond, List, [], ◌∷◌, length, drop, refl, sym, ap, ◌∙◌, arith}
+use Rattle.std.proofs.Common.{◌≡◌, ℕ, ◌-◌, ◌<◌, ◌≤◌, ◌==◌, ◌&&◌, ◌||◌, Bool, true, false, not, cond, List, [], ◌∷◌, length, drop, refl, sym, ap, ◌∙◌, arith}
 use Rattle.std.proofs.lemmas.List.{length-drop}
 use Rattle.std.proofs.lemmas.Bool.Decides.{nat_tests}
-use Rattle.granit_base.specs.Place.{first}
+use Rattle.granit_base.specs.Classes.{is_break}
+use Rattle.granit_base.specs.Place.{first, ends_line}
 use Rattle.granit_model.specs.Here.{Here, text_len, next_char, step, chosen, skip, past, chunk_len, past_chunk}
 
 pub not_empty : (c : ℕ) (cs : List ℕ) → (length (c ∷ cs) == 0) ≡ false
@@ -72,3 +73,15 @@ past_len test h = skip_len test h.unread.text h
 pub past_chunk_len : (test : ℕ → Bool) (h : Here) → text_len (past_chunk test h) ≤ text_len h
 unfolding past_chunk
 past_chunk_len test h = omega (arith, length-drop (chunk_len test h) h.unread.text)
+
+-- ---- ends of lines
+
+either_not : (a b d : Bool) → (a || b) ≡ false → (a || (b && d)) ≡ false
+either_not true b d e = e
+either_not false true d e = cc
+either_not false false d e = refl
+
+-- a line doesn't end with a character that is no break
+pub no_line_end : (c : ℕ) (cs : List ℕ) → is_break c ≡ false → ends_line (c ∷ cs) ≡ false
+unfolding is_break
+no_line_end c cs n = either_not (c == 0x0A) (c == 0x0D) (not (first cs == 0x0A)) n

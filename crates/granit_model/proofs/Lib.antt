@@ -1,3 +1,4 @@
+pub mod DecodingLemmas
 pub mod FittingLemmas
 pub mod HereLemmas
 pub mod MentionLemmas

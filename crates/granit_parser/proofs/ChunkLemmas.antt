@@ -3,6 +3,7 @@ use Rattle.std.proofs.Common.{◌≡◌, ℕ, zero, suc, ◌+◌, ◌≤◌, Boo
 use Rattle.std.specs.Char.{encode_utf8}
 use Rattle.std.specs.List.{prefix_len}
 use Rattle.std.specs.Str.{chars, encode_utf8_all, IsUtf8, IsCharBoundary}
+use Rattle.std.proofs.lemmas.Bool.{and_parts}
 use Rattle.std.proofs.lemmas.List.{append-nil, length-append, take-append-drop}
 use Rattle.std.proofs.lemmas.List.Folds.{length-prefix_len}
 use Rattle.std.proofs.lemmas.Str.{encodes-append, encodes-chars, chars_from_encodes, IsCharBoundary-at_seam, length-encode, len_utf8_bounds, scalars-chars}
@@ -61,25 +62,17 @@ char_takes rest after c spelled = omega (arith, ap length spelled ∙ length-app
 
 -- ---- a string, cut behind its run
 
-and_left : (a b : Bool) → (a && b) ≡ true → a ≡ true
-and_left true b held = refl
-and_left false b held = absurd cc
-
-and_right : (a b : Bool) → (a && b) ≡ true → b ≡ true
-and_right true b held = held
-and_right false b held = absurd cc
-
 scalars_take : (n : ℕ) (cs : List ℕ) → scalars cs ≡ true → scalars (take n cs) ≡ true
 scalars_take zero [] held = refl
 scalars_take zero (c ∷ cs) held = refl
 scalars_take (suc n) [] held = refl
-scalars_take (suc n) (c ∷ cs) held = ap (λ (b : Bool). b && scalars (take n cs)) (and_left _ (scalars cs) held) ∙ scalars_take n cs (and_right _ (scalars cs) held)
+scalars_take (suc n) (c ∷ cs) held = ap (λ (b : Bool). b && scalars (take n cs)) (and_parts _ (scalars cs) held).0 ∙ scalars_take n cs (and_parts _ (scalars cs) held).1
 
 scalars_drop : (n : ℕ) (cs : List ℕ) → scalars cs ≡ true → scalars (drop n cs) ≡ true
 scalars_drop zero [] held = held
 scalars_drop zero (c ∷ cs) held = held
 scalars_drop (suc n) [] held = refl
-scalars_drop (suc n) (c ∷ cs) held = scalars_drop n cs (and_right _ (scalars cs) held)
+scalars_drop (suc n) (c ∷ cs) held = scalars_drop n cs (and_parts _ (scalars cs) held).1
 
 utf8_from : (cs : List ℕ) → scalars cs ≡ true → IsUtf8 (encode_utf8_all cs)
 utf8_from cs held = (cs, (held, refl))

@@ -1,5 +1,5 @@
 //! Escapes of a double-quoted scalar (YAML 1.2.2, 5.7). What can't be read is refused at the scalar's start.
-ghost use Rattle.std.specs.Prelude.{◌≡◌, ◌∷◌, ◌++◌, ◌≤◌, if◌then◌else◌, IsTrue, IfSome, OnOk, Some, None};
+ghost use Rattle.std.specs.Prelude.{◌≡◌, ◌++◌, ◌≤◌, IsTrue, OnOk};
 ghost use Rattle.std.specs.Str.{chars};
 ghost use Rattle.granit_base.specs.Written.{string_chars};
 ghost use Rattle.granit_error.specs.FaultKind as faults;
@@ -13,65 +13,8 @@ use crate::chunk::Class;
 use crate::cursor::Cursor;
 use granit_base::{Marker, NoMemory, as_hex, is_hex, push_char};
 use granit_error::{ErrorKind, ScanError};
+use granit_model::{digit_count, is_high_surrogate, join_surrogates, letter_value};
 use std::alloc::Global;
-
-/// The character that a letter behind a backslash stands for.
-#[tactic(auto, unfolding(granit_model::specs::Decoding::letter_value))]
-fn letter_value(letter: char) -> Option<char>
-    ensures { result ≡ decoding.letter_value letter }
-{
-    match letter {
-        '0' => Some('\0'),
-        'a' => Some('\u{7}'),
-        'b' => Some('\u{8}'),
-        't' | '\t' => Some('\t'),
-        'n' => Some('\n'),
-        'v' => Some('\u{B}'),
-        'f' => Some('\u{C}'),
-        'r' => Some('\r'),
-        'e' => Some('\u{1B}'),
-        ' ' | '"' | '/' | '\\' => Some(letter),
-        'N' => Some('\u{85}'),
-        '_' => Some('\u{A0}'),
-        'L' => Some('\u{2028}'),
-        'P' => Some('\u{2029}'),
-        _ => None,
-    }
-}
-
-/// How many hexadecimal digits the letters `x`, `u` and `U` want behind them.
-#[tactic(auto, unfolding(granit_model::specs::Decoding::digit_count))]
-fn digit_count(letter: char) -> Option<u32>
-    ensures value { result ≡ decoding.digit_count letter }
-    ensures most { IfSome result (λ n. n ≤ 8) }
-{
-    match letter {
-        'x' => Some(2),
-        'u' => Some(4),
-        'U' => Some(8),
-        _ => None,
-    }
-}
-
-/// Whether a number is the first half of a character in UTF-16.
-#[tactic(auto, unfolding(granit_model::specs::Decoding::is_high))]
-fn is_high(number: u32) -> bool
-    ensures { result ≡ decoding.is_high number }
-{
-    0xD800 <= number && number <= 0xDBFF
-}
-
-/// The character of two halves in UTF-16.
-#[tactic(auto, unfolding(granit_model::specs::Decoding::is_high, granit_model::specs::Decoding::is_low))]
-fn joined(high: u32, low: u32) -> Option<char>
-    requires { IsTrue (decoding.is_high high) }
-    ensures { result ≡ (if decoding.is_low low then Some (decoding.joined high low) else None) }
-{
-    if low < 0xDC00 || 0xDFFF < low {
-        return None;
-    }
-    char::from_u32(0x10000 + (high - 0xD800) * 0x400 + (low - 0xDC00))
-}
 
 /// Appends a text.
 fn push_text(out: &mut String, text: &str) -> Result<(), NoMemory>
@@ -109,7 +52,7 @@ impl<'a> Cursor<'a> {
             self.step();
             self.step();
             let low = self.digits(start, 4)?;
-            if let Some(c) = joined(high, low) {
+            if let Some(c) = join_surrogates(high, low) {
                 return Ok(c);
             }
         }
@@ -123,7 +66,7 @@ impl<'a> Cursor<'a> {
     {
         match char::from_u32(number) {
             Some(c) => Ok(c),
-            None if count == 4 && is_high(number) => self.second_half(start, number),
+            None if count == 4 && is_high_surrogate(number) => self.second_half(start, number),
             None => Err(ScanError::from_kind(start, ErrorKind::NotBuilt)),
         }
     }

@@ -1,24 +1,15 @@
 -- How the lines of a source fold, character by character.
-use Rattle.std.proofs.Common.{◌≡◌, ℕ, suc, Bool, true, false, not, ◌==◌, ◌&&◌, ◌||◌, drop, arith, List, [], ◌∷◌, ◌++◌, refl, sym, ap, ap₂, ◌∙◌, append_assoc, append-nil}
+use Rattle.std.proofs.Common.{◌≡◌, ℕ, suc, Bool, true, false, arith, List, [], ◌∷◌, ◌++◌, refl, sym, ap, ap₂, ◌∙◌, append_assoc, append-nil}
 use Rattle.std.proofs.lemmas.Bool.Decides.{nat_tests}
 use Rattle.granit_base.specs.Classes.{is_blank, is_break}
-use Rattle.granit_base.specs.Place.{first, ends_line}
+use Rattle.granit_base.specs.Place.{ends_line}
 use Rattle.granit_model.specs.Gap.{Each}
+use Rattle.granit_model.proofs.HereLemmas.{no_line_end}
 use Rattle.granit_model.specs.Folding.{before_lines, lines_of, without_blank, trim_start, before_trimmed, trim_end, trim_behind, trim_lines, break_text, fold_behind, fold, folded}
 
 -- what lines give behind a break and so many empty ones
 abbrev pub folded_behind : ℕ → List ℕ → List ℕ
 folded_behind k text = fold_behind k (trim_behind (lines_of text))
-
-either_not : (a b d : Bool) → (a || b) ≡ false → (a || (b && d)) ≡ false
-either_not true b d e = e
-either_not false true d e = cc
-either_not false false d e = refl
-
--- a line doesn't end with a character that is no break
-pub no_line_end : (c : ℕ) (cs : List ℕ) → is_break c ≡ false → ends_line (c ∷ cs) ≡ false
-unfolding is_break
-no_line_end c cs n = either_not (c == 0x0A) (c == 0x0D) (not (first (drop 1 (c ∷ cs)) == 0x0A)) n
 
 -- no text is without lines
 pub record Lines (text : List ℕ) : Type 0 where

@@ -30,7 +30,8 @@ pub data Turned (at : LayoutData) (start : Mark) (s : PlainState) : Result (Opti
       → Turned at start s (Ok (Some (between s ++ next_char s.here ∷ []), on_content s))
   at_no_content : is_gap (next_char s.here) ≡ false → tab_found s ≡ false → is_content at.in_flow s.here.unread.text ≡ false → Turned at start s (Ok (None, s))
 
-abbrev chain : LayoutData → Mark → PlainState → (a b c d e f : Bool) → Result (Option (List ℕ) × PlainState) Fault
+-- a turn, by its tests in their order
+abbrev pub chain : LayoutData → Mark → PlainState → (a b c d e f : Bool) → Result (Option (List ℕ) × PlainState) Fault
 chain at start s a b c d e f =
     if a then Ok (Some [], on_blank at s)
     else if b then Ok (Some [], on_break s)

@@ -4,7 +4,7 @@ use Rattle.std.specs.Prelude.{slice_index, if◌then◌else◌}
 use Rattle.std.proofs.lemmas.Bool.{cond-true, cond-false, and_parts}
 use Rattle.std.proofs.lemmas.Bool.Decides.{nat_tests}
 use lib.Utf8.{scalar}
-use Rattle.granit_base.specs.Classes.{is_digit, is_hex, hex_value}
+use Rattle.granit_base.specs.Classes.{is_hex, hex_value}
 use Rattle.granit_base.specs.Place.{Mark, first}
 use Rattle.granit_error.specs.FaultKind.{FaultKind, InvalidQuotedScalarHexEscape, MissingLowSurrogate, InvalidLowSurrogateHexEscape, InvalidLowSurrogate, UnpairedLowSurrogate, InvalidUnicodeEscape}
 use Rattle.granit_model.specs.Decoding.{letter_value, digit_count, number_behind, number_of, is_high, is_low, joined, AreDigits, Escape, letter, number, halves}
@@ -15,39 +15,9 @@ use Rattle.granit_model.specs.PlainExtent.{over}
 use Rattle.granit_model.specs.PlainScalar.{fails_at}
 use Rattle.granit_scalars.specs.QuotedExtent.{TooFewDigits, WrongEscape, unknown, hex, no_second, second_hex, no_half, alone, no_character}
 use Rattle.granit_scalars.specs.QuotedScalar.{digits_or, joined_or, second_half_or, numbered_or, escape_or_by, escape_or}
+use Rattle.granit_model.proofs.DecodingLemmas.{no_hex_nul, no_letter_nul, no_count_nul, number_letter, u_wants_four, four_digits, half_is_none, begins_second, digit_below}
 use Rattle.granit_model.proofs.HereLemmas.{step_text}
 use Rattle.granit_scalars.proofs.Stepping.{over-append, Seen, seen, seen_as}
-
-no_hex_nul : is_hex 0 ≡ false
-unfolding is_hex is_digit
-no_hex_nul = refl
-
--- a letter that wants digits stands for no character by itself
-number_letter : (l count : ℕ) → digit_count l ≡ Some count → letter_value l ≡ None
-unfolding digit_count letter_value
-number_letter l count e = grind (arith, nat_tests)
-
--- `u` alone wants four
-four_digits : (l count : ℕ) → digit_count l ≡ Some count → count ≡ 4 → l ≡ 0x75
-unfolding digit_count
-four_digits l count e f = grind (arith, nat_tests)
-
-no_letter_nul : letter_value 0 ≡ None
-unfolding letter_value
-no_letter_nul = refl
-
-no_count_nul : digit_count 0 ≡ None
-unfolding digit_count
-no_count_nul = refl
-
-u_wants_four : digit_count 0x75 ≡ Some 4
-unfolding digit_count
-u_wants_four = refl
-
--- half a character is none
-half_is_none : (n : ℕ) → is_high n ≡ true → scalar n ≡ false
-unfolding is_high
-half_is_none n e = grind (arith, nat_tests)
 
 pub text_behind : (h : Here) (c : ℕ) (t : List ℕ) → h.unread.text ≡ c ∷ t → (step h).unread.text ≡ t
 text_behind h c t e = step_text h ∙ ap (drop 1) e ∙ none_dropped t
@@ -58,14 +28,10 @@ text_behind h c t e = step_text h ∙ ap (drop 1) e ∙ none_dropped t
 
 -- ---- which numbers stand for no character
 
-hex_small : (c : ℕ) → is_hex c ≡ true → hex_value c < 16
-unfolding is_hex is_digit hex_value
-hex_small c y = grind (arith, nat_tests)
-
 two_small : (ds : List ℕ) → AreDigits 2 ds → number_of ds < 0x100
 two_small [] a = absurd (let k = a.counted in omega arith)
 two_small (b ∷ []) a = absurd (let k = a.counted in omega arith)
-two_small (b ∷ c ∷ []) a = let p = hex_small b a.each.0 in let q = hex_small c a.each.1.0 in omega arith
+two_small (b ∷ c ∷ []) a = let p = digit_below b a.each.0 in let q = digit_below c a.each.1.0 in omega arith
 two_small (b ∷ c ∷ d ∷ ds) a = absurd (let k = a.counted in omega arith)
 
 four_small : (ds : List ℕ) → AreDigits 4 ds → number_of ds < 0x10000
@@ -73,7 +39,7 @@ four_small [] a = absurd (let k = a.counted in omega arith)
 four_small (b ∷ []) a = absurd (let k = a.counted in omega arith)
 four_small (b ∷ c ∷ []) a = absurd (let k = a.counted in omega arith)
 four_small (b ∷ c ∷ d ∷ []) a = absurd (let k = a.counted in omega arith)
-four_small (b ∷ c ∷ d ∷ e ∷ []) a = let p = hex_small b a.each.0 in let q = hex_small c a.each.1.0 in let r = hex_small d a.each.1.1.0 in let s = hex_small e a.each.1.1.1.0 in omega arith
+four_small (b ∷ c ∷ d ∷ e ∷ []) a = let p = digit_below b a.each.0 in let q = digit_below c a.each.1.0 in let r = digit_below d a.each.1.1.0 in let s = digit_below e a.each.1.1.1.0 in omega arith
 four_small (b ∷ c ∷ d ∷ e ∷ f ∷ ds) a = absurd (let k = a.counted in omega arith)
 
 small_scalar : (n : ℕ) → n < 0x100 → scalar n ≡ true
@@ -163,14 +129,6 @@ pub record SecondRead (high value : ℕ) (h after : Here) : Type 0 where
 abbrev ReadsSecond : Mark → ℕ → Here → Result (ℕ × Here) Fault → Type 0
 ReadsSecond start high h (Ok (value, after)) = SecondRead high value h after
 ReadsSecond start high h (Err f) = (f.mark ≡ start) × ((ds : List ℕ) → AreDigits 4 ds → is_high (number_of ds) ≡ true → WrongEscape f.kind (0x75 ∷ (ds ++ h.unread.text)))
-
-begins_second : (l : List ℕ) → (first l == 0x5C && slice_index l 1 == 0x75) ≡ true → (t : List ℕ) × (l ≡ 0x5C ∷ 0x75 ∷ t)
-begins_second [] e = absurd (grind (arith, nat_tests))
-begins_second (a ∷ []) e = absurd (grind (arith, nat_tests))
-begins_second (a ∷ b ∷ t) e =
-    let p : a ≡ 0x5C = grind (arith, nat_tests) in
-    let q : b ≡ 0x75 = grind (arith, nat_tests) in
-    (t, cc)
 
 joins : (start : Mark) (high value : ℕ) (h after : Here) (t : List ℕ) → h.unread.text ≡ 0x5C ∷ 0x75 ∷ t → t ≡ (step (step h)).unread.text → DigitsRead 4 0 value (step (step h)) after
     → (b : Bool) → is_low value ≡ b → ReadsSecond start high h (if b then Ok (joined high value, after) else fails_at InvalidLowSurrogate start)

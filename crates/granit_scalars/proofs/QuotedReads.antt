@@ -17,7 +17,7 @@ use Rattle.granit_scalars.specs.QuotedScalar.{QuotedState, quote_char, is_closin
 use Rattle.granit_model.proofs.HereLemmas.{not_empty}
 use Rattle.granit_scalars.proofs.QuotedEscapes.{ReadsEscape, reads_escape}
 use Rattle.granit_scalars.proofs.QuotedKept.{StateIs, QuotedStays, quoted_fresh, between_is, QuotedGoes, quoted_blank, quoted_break}
-use Rattle.granit_scalars.proofs.QuotedTurns.{tab_meets, strict_meets, loose_meets, mark_meets, Placed, QuotedTurned, past_a_blank, at_a_tab, past_a_break, at_strict, at_loose, at_a_mark, at_the_end, at_a_character, at_the_quote, in_content, quoted_turned, ContentTurned, at_a_doubled, at_itself, at_escaped_break, at_an_escape, content_turned, seen_there, quoted_shortens}
+use Rattle.granit_scalars.proofs.QuotedTurns.{closing_is, tab_meets, strict_meets, loose_meets, mark_meets, Placed, QuotedTurned, past_a_blank, at_a_tab, past_a_break, at_strict, at_loose, at_a_mark, at_the_end, at_a_character, at_the_quote, in_content, quoted_turned, ContentTurned, at_a_doubled, at_itself, at_escaped_break, at_an_escape, content_turned, seen_there, quoted_shortens}
 use Rattle.granit_scalars.proofs.Stepping.{over-append, Seen, seen_as, second_of}
 use Rattle.granit_scalars.proofs.Turning.{Carries, pieces_hold}
 
@@ -236,10 +236,6 @@ wrong_character single at start s n y x = subst (λ (t : List ℕ). WrongInside 
 
 second_quote : (c d : ℕ) → c ≡ 0x27 → (c == 0x27 && not (true && d == 0x27)) ≡ false → d ≡ 0x27
 second_quote c d e y = grind (arith, nat_tests)
-
-closing_is : (single : Bool) (text : List ℕ) → is_closing single text ≡ (first text == quote_char single && not (single && slice_index text 1 == 0x27))
-unfolding is_closing
-closing_is single text = refl
 
 two_seen : (h : Here) → Seen h → (d : ℕ) → slice_index h.unread.text 1 ≡ d → (d ≡ 0 → ⊥) → h.unread.text ≡ next_char h ∷ d ∷ (step (step h)).unread.text
 two_seen h s d e n = s.is ∙ ap (λ (t : List ℕ). next_char h ∷ t) (there (step h).unread.text refl)

@@ -22,7 +22,7 @@ use Rattle.granit_scalars.proofs.PlainKept.{one_more}
 use Rattle.granit_scalars.proofs.PlainReads.{neither_gap}
 use Rattle.granit_scalars.proofs.QuotedEscapes.{text_behind, over_text, escape_is}
 use Rattle.granit_scalars.proofs.QuotedKept.{StateIs, between_is, is_line_blank, is_indent_blank, is_first_break, is_further_break}
-use Rattle.granit_scalars.proofs.QuotedTurns.{tab_meets, strict_meets, loose_meets, mark_meets, Placed, turn_chain, turn_is, quoted_shortens}
+use Rattle.granit_scalars.proofs.QuotedTurns.{closing_is, tab_meets, strict_meets, loose_meets, mark_meets, Placed, turn_chain, turn_is, quoted_shortens}
 use Rattle.granit_scalars.proofs.Stepping.{over-append, seen_as, column_on, broken}
 
 abbrev run : Bool → LayoutData → Mark → QuotedState → Result (List ℕ × QuotedState) Fault
@@ -241,10 +241,6 @@ record Takes (single : Bool) (start : Mark) (s : QuotedState) (piece taken : Lis
   open_one : is_closing single s.here.unread.text ≡ false
   taken_is : quoted_content single start s ≡ Ok (Some (between_quoted s ++ taken), quoted_at escapes (over piece s.here))
 
-closing_as : (single : Bool) (text : List ℕ) → is_closing single text ≡ (first text == quote_char single && not (single && slice_index text 1 == 0x27))
-unfolding is_closing
-closing_as single text = refl
-
 record Literal (single : Bool) (c : ℕ) : Type 0 where
   no_gap : is_gap c ≡ false
   prints : is_printable c ≡ true
@@ -326,13 +322,13 @@ takes single start s piece behind taken escapes (itself {c = c} y) e =
     let no_quote : (next_char s.here == quote_char single) ≡ false = ap (λ k. k == quote_char single) next ∙ l.no_quote in
     record {
       begins = begins_with c behind s.here.unread.text e l.no_gap l.prints;
-      open_one = closing_as single s.here.unread.text ∙ and_no (next_char s.here == quote_char single) (not (single && slice_index s.here.unread.text 1 == 0x27)) no_quote;
+      open_one = closing_is single s.here.unread.text ∙ and_no (next_char s.here == quote_char single) (not (single && slice_index s.here.unread.text 1 == 0x27)) no_quote;
       taken_is = content_chain single start s false true (is_break (slice_index s.here.unread.text 1)) (not_doubled single (next_char s.here) no_quote) (ap (λ k. single || not (k == 0x5C)) next ∙ l.no_escape) refl
           ∙ ap (λ k. Ok (Some (between_quoted s ++ k ∷ []), quoted_at false (step s.here))) next;
     }
 takes true start s piece behind taken escapes doubled e = record {
   begins = begins_with 0x27 (0x27 ∷ behind) s.here.unread.text e (quote_no_gap true) (quote_prints true);
-  open_one = closing_as true s.here.unread.text ∙ ap (λ (t : List ℕ). first t == 0x27 && not (true && slice_index t 1 == 0x27)) e;
+  open_one = closing_is true s.here.unread.text ∙ ap (λ (t : List ℕ). first t == 0x27 && not (true && slice_index t 1 == 0x27)) e;
   taken_is = content_chain true start s true true (is_break (slice_index s.here.unread.text 1)) (ap (λ (t : List ℕ). first t == 0x27) e) refl refl;
 }
 takes false start s piece behind taken escapes (escape {c = c} {e = e} y) is =
@@ -341,7 +337,7 @@ takes false start s piece behind taken escapes (escape {c = c} {e = e} y) is =
     let more = some_text s.here.unread.text 0x5C next (λ z. cc) in
     record {
       begins = begins_with 0x5C more.0 s.here.unread.text more.1 backslash_no_gap backslash_prints;
-      open_one = closing_as false s.here.unread.text ∙ ap (λ k. k == 0x22 && not (false && slice_index s.here.unread.text 1 == 0x27)) next;
+      open_one = closing_is false s.here.unread.text ∙ ap (λ k. k == 0x22 && not (false && slice_index s.here.unread.text 1 == 0x27)) next;
       taken_is = content_chain false start s false false false refl (ap (λ k. not (k == 0x5C)) next) (ap (λ (t : List ℕ). is_break (slice_index t 1)) is ∙ n.0)
           ∙ ap (λ r. r >>= quoted_piece s) (escape_is start e c behind s.here y is);
     }
@@ -349,7 +345,7 @@ takes false start s piece behind taken escapes (before_break y) e =
     let next : next_char s.here ≡ 0x5C = ap first e in
     record {
       begins = begins_with 0x5C behind s.here.unread.text e backslash_no_gap backslash_prints;
-      open_one = closing_as false s.here.unread.text ∙ ap (λ k. k == 0x22 && not (false && slice_index s.here.unread.text 1 == 0x27)) next;
+      open_one = closing_is false s.here.unread.text ∙ ap (λ k. k == 0x22 && not (false && slice_index s.here.unread.text 1 == 0x27)) next;
       taken_is = content_chain false start s false false true refl (ap (λ k. not (k == 0x5C)) next) (ap (λ (t : List ℕ). is_break (slice_index t 1)) e ∙ y)
           ∙ ap (λ (t : List ℕ). Ok (Some t, quoted_at true (step s.here))) (sym (append-nil (between_quoted s)));
     }
@@ -395,7 +391,7 @@ pub record RunsUp (single : Bool) (at : LayoutData) (start : Mark) (left : Bool)
 
 closes_with : (single : Bool) (text : List ℕ) → is_closing single text ≡ true → first text ≡ quote_char single
 closes_with single text e =
-    let p = (and_parts (first text == quote_char single) (not (single && slice_index text 1 == 0x27)) (sym (closing_as single text) ∙ e)).0 in
+    let p = (and_parts (first text == quote_char single) (not (single && slice_index text 1 == 0x27)) (sym (closing_is single text) ∙ e)).0 in
     grind (arith, nat_tests)
 
 no_quote_nul : (single : Bool) → quote_char single ≡ 0 → ⊥

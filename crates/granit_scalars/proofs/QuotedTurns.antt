@@ -3,14 +3,14 @@ use Rattle.std.proofs.Common.{◌≡◌, ℕ, suc, ◌<◌, ◌==◌, Bool, true
 use Rattle.std.specs.Prelude.{slice_index, if◌then◌else◌}
 use Rattle.std.proofs.lemmas.Bool.Decides.{nat_tests}
 use Rattle.granit_base.specs.Classes.{is_blank, is_break, is_gap, is_printable}
-use Rattle.granit_base.specs.Place.{Mark}
+use Rattle.granit_base.specs.Place.{Mark, first}
 use Rattle.granit_error.specs.FaultKind.{InvalidIndentation, UnclosedQuotedScalar, DocumentIndicatorInQuotedScalar, TabInIndentation, InvalidQuotedScalarIndent, UnexpectedCharacter}
 use Rattle.granit_model.specs.Here.{Here, next_char, mark_of, step, text_len}
 use Rattle.granit_model.specs.LayoutData.{LayoutData}
 use Rattle.granit_model.specs.Outcome.{Fault, ◌>>=◌}
 use Rattle.granit_model.specs.Pieces.{Shortens}
 use Rattle.granit_model.specs.PlainScalar.{fails_at, past_break, is_document_mark}
-use Rattle.granit_scalars.specs.QuotedScalar.{QuotedState, is_closing, is_tab_left, is_strictly_left, is_loosely_left, between_quoted, quoted_at, over_blank, over_break, quoted_piece, quoted_content, quoted_turn, quoted_len, escape_or}
+use Rattle.granit_scalars.specs.QuotedScalar.{QuotedState, quote_char, is_closing, is_tab_left, is_strictly_left, is_loosely_left, between_quoted, quoted_at, over_blank, over_break, quoted_piece, quoted_content, quoted_turn, quoted_len, escape_or}
 use Rattle.granit_model.proofs.HereLemmas.{step_len}
 use Rattle.granit_scalars.proofs.PlainSpelling.{no_gap_of}
 use Rattle.granit_scalars.proofs.PlainTurns.{seen_blank}
@@ -30,6 +30,10 @@ loose_meets single at s = s.on_new_line && is_loosely_left at s.escaped (is_clos
 
 abbrev pub mark_meets : QuotedState → Bool
 mark_meets s = s.on_new_line && (s.here.place.column == 0 && is_document_mark s.here.unread.text)
+
+pub closing_is : (single : Bool) (text : List ℕ) → is_closing single text ≡ (first text == quote_char single && not (single && slice_index text 1 == 0x27))
+unfolding is_closing
+closing_is single text = refl
 
 -- a character that may stand where it does
 pub record Placed (single : Bool) (at : LayoutData) (s : QuotedState) : Type 0 where

@@ -10,8 +10,8 @@ use Rattle.granit_model.specs.Folding.{before_lines, lines_of}
 use Rattle.granit_model.specs.Here.{Here, text_len, next_char, step}
 use Rattle.granit_model.specs.PlainExtent.{UpToBreak, at_break, before_break, over}
 use Rattle.granit_model.specs.PlainScalar.{past_break}
-use Rattle.granit_model.proofs.HereLemmas.{not_empty, step_text, step_len}
-use Rattle.granit_scalars.proofs.Folding.{IsBreak, no_line_end}
+use Rattle.granit_model.proofs.HereLemmas.{not_empty, step_text, step_len, no_line_end}
+use Rattle.granit_scalars.proofs.Folding.{IsBreak}
 use Rattle.granit_scalars.proofs.PlainSpelling.{break_gap}
 
 pub over-append : (a b : List ℕ) (h : Here) → over (a ++ b) h ≡ over b (over a h)

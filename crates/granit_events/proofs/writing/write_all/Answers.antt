@@ -1,6 +1,7 @@
 use Rattle.std.proofs.Common.{◌∙◌, arith, rules}
 use Rattle.std.proofs.lemmas.List.{take_rest, length-drop}
-use Rattle.granit_events.proofs.Known.{take-sum, appends_both, wrote_part}
+use Rattle.std.proofs.Math.Seq.{take-add}
+use Rattle.granit_events.proofs.Known.{appends_both, wrote_part}
 use Rattle.granit_events.proofs.writing.write_all.Goals as goal
 
 pub pieces-preserved : goal.pieces-preserved
@@ -9,7 +10,7 @@ pieces-preserved g c =
     let bound = rw take_rest at c.in_ok-done.ensures.bound in
     record {
       within = omega (arith, bound, length-drop c.pieces.done bytes);
-      wrote = rw (take-sum c.pieces.done c.in_ok-done.field-0 bytes) (appends_both _ _ _ _ _ c.pieces.invariant.wrote (rw take_rest at c.in_ok-done.ensures.bytes));
+      wrote = rw (take-add c.pieces.done c.in_ok-done.field-0 bytes) (appends_both _ _ _ _ _ c.pieces.invariant.wrote (rw take_rest at c.in_ok-done.ensures.bytes));
       same = c.in_ok-done.ensures.same ∙ c.pieces.invariant.same;
     }
 
