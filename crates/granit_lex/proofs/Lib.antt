@@ -1,4 +1,3 @@
-pub mod BoolLemmas
 pub mod CommentLemmas
 pub mod EscapeLemmas
 pub mod GivenLemmas

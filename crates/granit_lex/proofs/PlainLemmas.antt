@@ -1,9 +1,9 @@
 -- A plain scalar, a stretch of content a turn.
-use Rattle.std.proofs.Common.{◌≡◌, ℕ, zero, suc, ◌<◌, ◌≤◌, ◌==◌, Bool, true, false, not, ◌&&◌, if◌then◌else◌, List, [], ◌∷◌, ◌++◌, length, take, drop, Option, Some, None, Result, Ok, refl, sym, ap, ap₂, ◌∙◌, append_assoc, arith}
+use Rattle.std.proofs.Common.{◌≡◌, ℕ, zero, suc, ◌<◌, ◌≤◌, ◌==◌, Bool, true, false, not, ◌&&◌, if◌then◌else◌, List, [], ◌∷◌, ◌++◌, length, take, drop, Some, Result, Ok, refl, sym, ap, ap₂, ◌∙◌, append_assoc, arith}
 use Rattle.std.specs.Prelude.{String, string_bytes}
 use Rattle.std.specs.Str.{chars}
 use Rattle.std.specs.declared.alloc.Global.{Global}
-use Rattle.std.proofs.lemmas.Bool.{and_parts, or_parts}
+use Rattle.std.proofs.lemmas.Bool.{and_parts, or_parts, not-true}
 use Rattle.std.proofs.lemmas.List.{append-nil}
 use Rattle.std.proofs.lemmas.Str.{chars-nil}
 use Rattle.std.proofs.Math.Bool.{and-false}
@@ -17,7 +17,7 @@ use Rattle.granit_model.specs.LayoutData.{LayoutData}
 use Rattle.granit_model.specs.Moves.{steps}
 use Rattle.granit_model.specs.Outcome.{Fault}
 use Rattle.granit_model.specs.Pieces.{with_front}
-use Rattle.granit_model.specs.PlainScalar.{PlainState, fails_at, is_content, between, on_content, on_blank, on_break, meets_comment, ends_before_line, plain_turn, plain_len}
+use Rattle.granit_model.specs.PlainScalar.{PlainState, fails_at, is_content, between, on_content, meets_comment, ends_before_line, plain_turn, plain_len}
 use Rattle.granit_model.proofs.HereLemmas.{step_text}
 use Rattle.granit_model.proofs.PieceLemmas.{with_front-nil, with_front-with_front, pieces_more, pieces_done, pieces_fails}
 use Rattle.granit_scalars.proofs.PlainTurns.{chain, plain_shortens}
@@ -25,7 +25,6 @@ use Rattle.granit_lex.specs.PlainCode.{plain_state, inside, plain_rest, plain_wh
 use Rattle.granit_lex.specs.declared.plain.PlainParts.{PlainParts}
 use Rattle.granit_lex.specs.declared.plain.Ahead.{Ahead}
 use Rattle.granit_lex.specs.declared.plain.Ahead.TheVariants.{Blank, Break, Tab, Content, End}
-use Rattle.granit_lex.proofs.BoolLemmas.{not_true}
 use Rattle.granit_lex.proofs.MoveLemmas.{run_begins}
 
 -- ---- one turn, by what is next
@@ -57,7 +56,7 @@ content_next a b c f p q r t = rw (p, q, r, t) refl
 apart : (in_flow : Bool) (text : List ℕ) → is_plain_at in_flow text ≡ true → (is_blank (first text) ≡ false) × (is_break (first text) ≡ false)
 unfolding is_blank_or_breakz is_breakz
 apart in_flow text held =
-    let solid = not_true (is_blank_or_breakz (first text)) (and_parts _ _ held).0 in
+    let solid = not-true (is_blank_or_breakz (first text)) (and_parts _ _ held).0 in
     let parts = or_parts _ _ solid in (parts.0, (or_parts _ _ parts.1).0)
 
 inside_next : (at : LayoutData) (g : Here) → is_plain_at at.in_flow g.unread.text ≡ true → ahead_of at (inside g) ≡ Content

@@ -1,4 +1,4 @@
-use Rattle.std.proofs.Common.{◌≡◌, Some, None, is_some, refl, sym, ap, subst, ◌∙◌}
+use Rattle.std.proofs.Common.{is_some, sym, ap, subst, ◌∙◌}
 use Rattle.granit_lex.proofs.SourceLemmas.{empty_slice, no_offset, no_source, some_source}
 use Rattle.granit_lex.proofs.cursor.Cursor.source_offset.Goals as goal
 

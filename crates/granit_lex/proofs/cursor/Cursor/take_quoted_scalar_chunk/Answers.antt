@@ -1,8 +1,8 @@
-use Rattle.std.proofs.Common.{◌≡◌, ◌+◌, ◌-◌, ◌≤◌, ◌^◌, ℕ, true, false, length, take, Some, None, is_some, IfSome, refl, sym, ap, subst, ◌∙◌, le_of_eq, arith}
+use Rattle.std.proofs.Common.{◌≡◌, ◌+◌, ◌-◌, ◌^◌, false, take, is_some, IfSome, refl, sym, ap, subst, ◌∙◌, arith}
 use Rattle.std.specs.Str.{chars}
 use Rattle.std.proofs.lemmas.Str.{chars-nil}
 use Rattle.granit_input.specs.Origin.{Goes}
-use Rattle.granit_input.specs.Runs.{starts, is_quoted_char, run_length}
+use Rattle.granit_input.specs.Runs.{starts, is_quoted_char}
 use Rattle.granit_input.specs.Unread.{past}
 use Rattle.granit_input.proofs.OriginLemmas.{goes_nowhere}
 use Rattle.granit_model.specs.Moves.{steps}
