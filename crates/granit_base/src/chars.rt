@@ -39,3 +39,11 @@ pub fn push_char(out: &mut String, c: char) -> Result<(), NoMemory>
     out.push(c)?;
     Ok(())
 }
+
+/// Appends a text.
+pub fn push_text(out: &mut String, text: &str) -> Result<(), NoMemory>
+    ensures { OnOk result (string_chars out.new ≡ string_chars out.old ++ chars text.now) }
+{
+    out.push_str(text)?;
+    Ok(())
+}

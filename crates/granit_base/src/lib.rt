@@ -7,7 +7,7 @@ mod place;
 mod style;
 mod text;
 
-pub use chars::{is_at_end, nth_char, push_char, split_first_char};
+pub use chars::{is_at_end, nth_char, push_char, push_text, split_first_char};
 pub use classes::{
     as_hex, find_non_printable, is_alpha, is_anchor_char, is_blank, is_blank_or_breakz, is_bom,
     is_break, is_breakz, is_digit, is_flow, is_hex, is_printable, is_tag_char, is_uri_char,

@@ -3,7 +3,7 @@ use crate::{
     Marker, NoMemory, Placement, Span, Text, TextList, as_hex, find_non_printable, is_alpha,
     is_anchor_char, is_at_end, is_blank, is_blank_or_breakz, is_bom, is_break, is_breakz, is_digit,
     is_flow, is_hex, is_printable, is_tag_char, is_uri_char, is_word_char, is_yaml_non_break,
-    is_yaml_non_space, is_z, nth_char, push_char, split_first_char,
+    is_yaml_non_space, is_z, nth_char, push_char, push_text, split_first_char,
 };
 use std::cmp::Ordering;
 use std::hash::{DefaultHasher, Hash, Hasher};
@@ -112,7 +112,9 @@ fn characters_are_found(rt: HostRuntime) -> Result<(), Fail> {
     for _ in 0..80 {
         push_char(&mut text, 'x')?;
     }
+    push_text(&mut text, "é€")?;
     assert_eq!(rt; find_non_printable(text.as_str()), None);
+    assert_eq!(rt; text.len(), 85);
     push_char(&mut text, '\u{80}')?;
     push_char(&mut text, '\u{7f}')?;
     assert_eq!(rt; find_non_printable(text.as_str()), Some('\u{80}'));

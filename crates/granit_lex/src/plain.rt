@@ -17,7 +17,7 @@ use crate::cursor::Cursor;
 use crate::token::{Layout, Lexed, Token, TokenType};
 use granit_base::{
     Marker, NoMemory, ScalarStyle, Span, Text, find_non_printable, is_at_end, is_blank,
-    is_blank_or_breakz, is_break, is_flow, is_printable, is_z, push_char,
+    is_blank_or_breakz, is_break, is_flow, is_printable, is_z, push_char, push_text,
 };
 use granit_error::{ErrorKind, ScanError};
 use granit_input::{BorrowedInput, Input};
@@ -210,13 +210,6 @@ fn push_between(parts: &mut PlainParts) -> Result<(), NoMemory>
         return push_char(&mut parts.value, ' ');
     }
     push_text(&mut parts.value, parts.pending.as_str())
-}
-
-pub(crate) fn push_text(out: &mut String, text: &str) -> Result<(), NoMemory>
-    ensures { OnOk result (string_chars out.new ≡ string_chars out.old ++ chars text.now) }
-{
-    out.push_str(text)?;
-    Ok(())
 }
 
 /// A stretch of content on, behind what stands for the blanks and breaks before it.

@@ -16,11 +16,11 @@ ghost use Rattle.granit_lex.specs.Tokens.{layout_data, quoted_lexed, quoted_with
 use crate::comments::{pass_comment, read_comment};
 use crate::cursor::Cursor;
 use crate::escape::escape;
-use crate::plain::{drop_blanks, is_left, past_break, push_text};
+use crate::plain::{drop_blanks, is_left, past_break};
 use crate::token::{Layout, Lexed, Token, TokenType};
 use granit_base::{
     Marker, NoMemory, ScalarStyle, Span, Text, is_at_end, is_blank, is_break, is_printable,
-    push_char,
+    push_char, push_text,
 };
 use granit_error::{ErrorKind, ScanError};
 use granit_input::{BorrowedInput, Input};

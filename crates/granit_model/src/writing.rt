@@ -8,7 +8,7 @@ ghost use Rattle.granit_model.specs.FlowText.{Appends};
 ghost use Rattle.granit_model.specs.TreeView.{plain_tree, properties_of};
 
 use crate::tree::{PairList, Props, Tree, TreeList};
-use granit_base::{NoMemory, Text, is_word_char, push_char};
+use granit_base::{NoMemory, Text, is_word_char, push_char, push_text};
 use std::alloc::Global;
 
 fn push(out: &mut String, c: char) -> Result<(), NoMemory>
@@ -24,11 +24,10 @@ fn push_two(out: &mut String, first: char, second: char) -> Result<(), NoMemory>
     push(out, second)
 }
 
-fn push_text(out: &mut String, text: &str) -> Result<(), NoMemory>
-    ensures { OnOk result (Appends out.old out.new (λ rest. chars text.now ++ rest)) }
+fn push_name(out: &mut String, name: &str) -> Result<(), NoMemory>
+    ensures { OnOk result (Appends out.old out.new (λ rest. chars name.now ++ rest)) }
 {
-    out.push_str(text)?;
-    Ok(())
+    push_text(out, name)
 }
 
 #[tactic(auto, unfolding(crate::specs::FlowText::upper_digit))]
@@ -134,7 +133,7 @@ fn push_anchor(out: &mut String, anchor: &Option<Text<'static>>) -> Result<(), N
         None => Ok(()),
         Some(name) => {
             push(out, '&')?;
-            push_text(out, name.as_str())?;
+            push_name(out, name.as_str())?;
             push(out, ' ')
         }
     }
@@ -161,7 +160,7 @@ fn push_alias(out: &mut String, name: &Text<'static>) -> Result<(), NoMemory>
     ensures { OnOk result (Appends out.old out.new (flow.tree_text (AliasOf name.now.characters))) }
 {
     push(out, '*')?;
-    push_text(out, name.as_str())
+    push_name(out, name.as_str())
 }
 
 fn push_scalar(out: &mut String, props: &Props, text: &Text<'static>) -> Result<(), NoMemory>

@@ -11,18 +11,10 @@ ghost use Rattle.granit_parser.specs.Pushed.{Pushed, Turned};
 
 use crate::chunk::Class;
 use crate::cursor::Cursor;
-use granit_base::{Marker, NoMemory, as_hex, is_hex, push_char};
+use granit_base::{Marker, as_hex, is_hex, push_char, push_text};
 use granit_error::{ErrorKind, ScanError};
 use granit_model::{digit_count, is_high_surrogate, join_surrogates, letter_value};
 use std::alloc::Global;
-
-/// Appends a text.
-fn push_text(out: &mut String, text: &str) -> Result<(), NoMemory>
-    ensures { OnOk result (string_chars out.new ≡ string_chars out.old ++ chars text.now) }
-{
-    out.push_str(text)?;
-    Ok(())
-}
 
 impl<'a> Cursor<'a> {
     /// The number that so many hexadecimal digits write.

@@ -2,7 +2,7 @@ use Rattle.std.proofs.Common.{ap, ◌∙◌}
 use Rattle.std.specs.String.{string_bytes}
 use Rattle.std.specs.Str.{chars}
 use Rattle.std.proofs.lemmas.Str.{IsUtf8-string_bytes, chars-append}
-use Rattle.granit_parser.proofs.escape.push_text.Goals as goal
+use Rattle.granit_base.proofs.chars.push_text.Goals as goal
 
 pub returns : goal.returns
 returns c =
