@@ -1,9 +1,10 @@
 -- A program that finds no memory for its words.
 use Rattle.std.proofs.Common.{◌≡◌, ℕ, List, [], Option, Some, None, IfSome, refl, inl, inr}
 use Rattle.granit_base.specs.Written.{Written}
+use Rattle.granit_events.specs.Ran.{End, Ran}
 use Rattle.granit_events.proofs.Known.{keeps_itself}
 use Rattle.granit_events.specs.declared.status.Status.TheVariants as status
-use Rattle.granit.specs.Program.{End, Ran}
+use Rattle.granit.specs.Program.{RanOn}
 use Rattle.granit.specs.Words.{words_of}
 
 told_words : Option (List (List ℕ)) → List Written
@@ -15,10 +16,8 @@ unfolding told_words
 are_told None = tt
 are_told (Some list) = refl
 
-pub ran_out : (all : Option (List (List ℕ))) (source sink : End) → Ran all source source sink sink status.NoMemory
-ran_out all source sink = record {
-  words = told_words all;
-  are_the_words = are_told all;
+memory_ran_out : (words : List Written) (source sink : End) → Ran words source source sink sink status.NoMemory
+memory_ran_out words source sink = record {
   ended = λ f. absurd f;
   read_fault = λ e. absurd cc;
   write_fault = λ e. absurd cc;
@@ -32,5 +31,9 @@ ran_out all source sink = record {
   read = λ e. absurd cc;
   caused = λ e. absurd cc;
   answered = λ can quiet. inr refl;
+  refused = λ kind m has quiet. inr refl;
   canonical = λ ts has quiet. inr refl;
 }
+
+pub ran_out : (all : Option (List (List ℕ))) (source sink : End) → RanOn all source source sink sink status.NoMemory
+ran_out all source sink = record { words = told_words all; are_the_words = are_told all; ran = memory_ran_out (told_words all) source sink }

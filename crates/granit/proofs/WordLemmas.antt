@@ -36,10 +36,6 @@ missing (Some list) i buffer fill.TooLong f is = absurd cc
 abbrev pub AreSoFar : Option (List (List ℕ)) → List Written → ℕ → Type 0
 AreSoFar all list i = IfSome all (λ told. list ++ drop i (texts told) ≡ words_of told)
 
-pub none_so_far : (all : Option (List (List ℕ))) → AreSoFar all [] 1
-none_so_far None = tt
-none_so_far (Some told) = refl
-
 next_text : (list : List Written) (i : ℕ) (text : Written) → Some text ≡ slice_get list i → drop i list ≡ text ∷ drop (suc i) list
 next_text [] i text e = absurd cc
 next_text (x ∷ xs) zero text e = let same : text ≡ x = cc in rw same refl

@@ -1,5 +1,6 @@
 //! The run on the words of the program.
-ghost use Rattle.granit.specs.Program.{Exits, Ran, end_of};
+ghost use Rattle.granit_events.specs.Ran.{end_of};
+ghost use Rattle.granit.specs.Program.{Exits, RanOn};
 
 use crate::arguments::{Arguments, words};
 use granit_events::{Sink, Source, Status, run};
@@ -14,7 +15,7 @@ fn run_on_words<A: Arguments, S: Source, W: Sink>(
     source: &mut S,
     sink: &mut W,
 ) -> Status
-    ensures { Ran (A.all arguments.now) (end_of S.left S.faults source.old) (end_of S.left S.faults source.new) (end_of W.written W.faults sink.old) (end_of W.written W.faults sink.new) result }
+    ensures { RanOn (A.all arguments.now) (end_of S.left S.faults source.old) (end_of S.left S.faults source.new) (end_of W.written W.faults sink.old) (end_of W.written W.faults sink.new) result }
 {
     match words(alloc, arguments) {
         Ok(words) => run(alloc, &words, source, sink),

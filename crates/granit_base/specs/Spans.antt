@@ -3,7 +3,7 @@ use Rattle.std.specs.Prelude.{ℕ, ◌≡◌, ◌+◌, ◌^◌, ◌≤◌, ◌==
 use Rattle.std.specs.Str.{IsCharBoundary}
 use Rattle.std.specs.Borrow.{Bor}
 use Rattle.std.specs.declared.ops.Range.{Range}
-use Rattle.granit_base.specs.Place.{Place, Mark}
+use Rattle.granit_base.specs.Place.{Mark}
 use Rattle.granit_base.specs.declared.place.Span.{Span}
 
 abbrev pub with_offset : ℕ → ℕ → ℕ → Option ℕ → Option Mark

@@ -1,8 +1,8 @@
 //! Strings, character by character.
-ghost use Rattle.std.specs.Prelude.{◌≡◌, ◌≤◌, ◌==◌, [], ◌∷◌, ◌++◌, length, slice_index, IfNone, IfSome, OnOk};
+ghost use Rattle.std.specs.Prelude.{◌≡◌, ◌≤◌, ◌==◌, [], ◌∷◌, ◌++◌, length, slice_index, string_bytes, IfNone, IfSome, OnOk, OnErr};
 ghost use Rattle.granit_base.specs.Written.{string_chars};
 ghost use Rattle.std.specs.Str.{chars};
-ghost use Rattle.std.specs.Char.{encode_utf8, IsScalar};
+ghost use Rattle.std.specs.Char.{encode_utf8};
 
 use crate::text::NoMemory;
 
@@ -33,16 +33,26 @@ pub fn is_at_end(s: &str) -> bool
 }
 
 /// Appends a character.
+///
+/// # Errors
+///
+/// `NoMemory` alone, and the text is then as before.
 pub fn push_char(out: &mut String, c: char) -> Result<(), NoMemory>
-    ensures { OnOk result (string_chars out.new ≡ string_chars out.old ++ c ∷ []) }
+    ensures appended { OnOk result (string_chars out.new ≡ string_chars out.old ++ c ∷ []) }
+    ensures kept { OnErr result (string_bytes out.new ≡ string_bytes out.old) }
 {
     out.push(c)?;
     Ok(())
 }
 
 /// Appends a text.
+///
+/// # Errors
+///
+/// `NoMemory` alone, and the text is then as before.
 pub fn push_text(out: &mut String, text: &str) -> Result<(), NoMemory>
-    ensures { OnOk result (string_chars out.new ≡ string_chars out.old ++ chars text.now) }
+    ensures appended { OnOk result (string_chars out.new ≡ string_chars out.old ++ chars text.now) }
+    ensures kept { OnErr result (string_bytes out.new ≡ string_bytes out.old) }
 {
     out.push_str(text)?;
     Ok(())

@@ -38,59 +38,61 @@ fn classes_of(c: char, out: &mut String) -> Result<(), NoMemory> {
     Ok(())
 }
 
+/// Each character with the letters of its classes, as `classes_of` writes them.
+const CLASS_ROWS: &[(char, &str)] = &[
+    ('\0', "zBS"),
+    ('\n', "bBSp"),
+    ('\r', "bBSp"),
+    ('\t', "sSpn"),
+    (' ', "sSpn"),
+    ('\u{1f}', ""),
+    ('0', "dhawpnNAut"),
+    ('9', "dhawpnNAut"),
+    ('/', "pnNAut"),
+    (':', "pnNAut"),
+    ('@', "pnNAut"),
+    ('A', "hawpnNAut"),
+    ('F', "hawpnNAut"),
+    ('G', "awpnNAut"),
+    ('Z', "awpnNAut"),
+    ('f', "hawpnNAut"),
+    ('g', "awpnNAut"),
+    ('z', "awpnNAut"),
+    ('-', "awpnNAut"),
+    ('_', "apnNAut"),
+    ('`', "pnNA"),
+    ('^', "pnNA"),
+    ('"', "pnNA"),
+    ('%', "pnNAut"),
+    ('!', "pnNAu"),
+    (',', "fpnNu"),
+    ('[', "fpnNu"),
+    (']', "fpnNu"),
+    ('{', "fpnN"),
+    ('}', "fpnN"),
+    ('~', "pnNAut"),
+    ('\u{7f}', ""),
+    ('\u{84}', ""),
+    ('\u{85}', "pnNA"),
+    ('\u{86}', ""),
+    ('\u{9f}', ""),
+    ('\u{a0}', "pnNA"),
+    ('\u{d7ff}', "pnNA"),
+    ('\u{e000}', "pnNA"),
+    ('\u{feff}', "mp"),
+    ('\u{fffd}', "pnNA"),
+    ('\u{fffe}', ""),
+    ('\u{ffff}', ""),
+    ('\u{10000}', "pnNA"),
+    ('\u{10ffff}', "pnNA"),
+];
+
 #[test]
 fn classes_are_those_of_the_table(rt: HostRuntime) -> Result<(), Fail> {
-    let rows = [
-        ('\0', "zBS"),
-        ('\n', "bBSp"),
-        ('\r', "bBSp"),
-        ('\t', "sSpn"),
-        (' ', "sSpn"),
-        ('\u{1f}', ""),
-        ('0', "dhawpnNAut"),
-        ('9', "dhawpnNAut"),
-        ('/', "pnNAut"),
-        (':', "pnNAut"),
-        ('@', "pnNAut"),
-        ('A', "hawpnNAut"),
-        ('F', "hawpnNAut"),
-        ('G', "awpnNAut"),
-        ('Z', "awpnNAut"),
-        ('f', "hawpnNAut"),
-        ('g', "awpnNAut"),
-        ('z', "awpnNAut"),
-        ('-', "awpnNAut"),
-        ('_', "apnNAut"),
-        ('`', "pnNA"),
-        ('^', "pnNA"),
-        ('"', "pnNA"),
-        ('%', "pnNAut"),
-        ('!', "pnNAu"),
-        (',', "fpnNu"),
-        ('[', "fpnNu"),
-        (']', "fpnNu"),
-        ('{', "fpnN"),
-        ('}', "fpnN"),
-        ('~', "pnNAut"),
-        ('\u{7f}', ""),
-        ('\u{84}', ""),
-        ('\u{85}', "pnNA"),
-        ('\u{86}', ""),
-        ('\u{9f}', ""),
-        ('\u{a0}', "pnNA"),
-        ('\u{d7ff}', "pnNA"),
-        ('\u{e000}', "pnNA"),
-        ('\u{feff}', "mp"),
-        ('\u{fffd}', "pnNA"),
-        ('\u{fffe}', ""),
-        ('\u{ffff}', ""),
-        ('\u{10000}', "pnNA"),
-        ('\u{10ffff}', "pnNA"),
-    ];
-    for (c, want) in rows {
+    for (c, want) in CLASS_ROWS {
         let mut found = String::new(rt.alloc());
-        classes_of(c, &mut found)?;
-        assert_eq!(rt; found.as_str(), want, "at {c:?}");
+        classes_of(*c, &mut found)?;
+        assert_eq!(rt; found.as_str(), *want, "at {c:?}");
     }
     Ok(())
 }

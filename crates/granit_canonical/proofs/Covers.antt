@@ -63,12 +63,6 @@ comma_ends : is_anchor_char 0x2C ≡ false
 unfolding is_anchor_char is_yaml_non_space is_yaml_non_break is_printable is_break is_blank is_flow is_bom
 comma_ends = refl
 
--- how long a pair is, from its `?` on
-pair_long : (ps : PlainPairs) (k v : PlainTree) → pairs_width (AfterPairs ps k v) ≡ pair_offset ps + (5 + tree_width k + tree_width v)
-pair_long ps k v =
-    both_long (λ rest. pairs_text ps (comma_unless (no_pairs ps) rest)) (λ rest. 0x3F ∷ 0x20 ∷ tree_text k (0x20 ∷ 0x3A ∷ 0x20 ∷ tree_text v rest)) (pair_offset_front ps)
-    ∙ ap (λ n. pair_offset ps + n) (omega (arith, both_long (tree_text k) (λ rest. 0x20 ∷ 0x3A ∷ 0x20 ∷ tree_text v rest) (tree_front k)))
-
 module _ (x : List ℕ) where
   -- what stands behind a write
   behind : (write : List ℕ → List ℕ) (n : ℕ) (rest : List ℕ) → Fronts write → drop n x ≡ write rest → drop (n + length (write [])) x ≡ rest

@@ -1,5 +1,5 @@
 -- Why a text is refused, as plain data, with the number and the printed words of each kind. A text is seen as its characters.
-use Rattle.std.specs.Prelude.{ℕ, Bool, List, [], ◌++◌, codes}
+use Rattle.std.specs.Prelude.{ℕ, List, ◌++◌, codes}
 use Rattle.std.specs.Fmt.{decimal}
 use Rattle.std.specs.Char.{encode_utf8}
 use Rattle.std.specs.Char.Escape.{escape_default}

@@ -1,7 +1,7 @@
 //! A fault, its place, and the sources that were being read.
-ghost use Rattle.std.specs.Prelude.{◌≡◌, [], ◌==◌, not, false, length, IfOk};
+ghost use Rattle.std.specs.Prelude.{◌≡◌, [], ◌==◌, not, false, IfOk};
 ghost use Rattle.std.specs.Str.{chars};
-ghost use Rattle.granit_error.specs.FaultKind.{fault_words, Custom};
+ghost use Rattle.granit_error.specs.FaultKind.{Custom};
 ghost use Rattle.granit_error.specs.Kinds.{kind_of};
 ghost use Rattle.granit_error.specs.Refused.{input_io_of, names_sources, info_words};
 

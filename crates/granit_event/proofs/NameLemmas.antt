@@ -28,9 +28,6 @@ front_both : (a l b : List ℕ) → behind_front (a ++ l) (a ++ b) ≡ behind_fr
 front_both [] l b = refl
 front_both (d ∷ a) l b = ap (λ (v : Bool). if v then behind_front (a ++ l) (a ++ b) else None) (eq-eqb d d refl) ∙ front_both a l b
 
-front_nil : (r : List ℕ) → behind_front [] r ≡ Some r
-front_nil r = refl
-
 front_is : (f r : List ℕ) → behind_front f (f ++ r) ≡ Some r
 front_is [] r = refl
 front_is (c ∷ f) r = ap (λ (v : Bool). if v then behind_front f (f ++ r) else None) (eq-eqb c c refl) ∙ front_is f r

@@ -9,8 +9,8 @@ pub fn core_suffixes_are_named()
     ensures { (x s : List ℕ) → (core_suffix_of x ≡ Some s) ↔ ((x ≡ core_namespace ++ s) × Contains core_names s) }
 {}
 
-/// As texts, the answers on namespaces depend on handle followed by suffix alone.
+/// As texts, the answers on a namespace depend on handle followed by suffix alone. Of the core's the
+/// clause says so itself.
 pub fn parts_of_a_name_are_one()
-    ensures core { (t u : PlainTag) → name_of t ≡ name_of u → core_suffix_of (name_of t) ≡ core_suffix_of (name_of u) }
-    ensures namespace { (p : List ℕ) (t u : PlainTag) → name_of t ≡ name_of u → option_map (λ s. s.characters) (suffix_behind p t) ≡ option_map (λ s. s.characters) (suffix_behind p u) }
+    ensures { (p : List ℕ) (t u : PlainTag) → name_of t ≡ name_of u → option_map (λ s. s.characters) (suffix_behind p t) ≡ option_map (λ s. s.characters) (suffix_behind p u) }
 {}

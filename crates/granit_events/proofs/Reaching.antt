@@ -1,19 +1,15 @@
 -- An output that is written piece by piece, past a buffer.
-use Rattle.std.proofs.Common.{◌≡◌, ℕ, List, [], ◌++◌, refl, sym, ap, ◌∙◌, append_assoc}
-use Rattle.std.proofs.lemmas.List.{append-nil}
+use Rattle.std.proofs.Common.{◌≡◌, ℕ, List, ◌++◌, sym, ap, ◌∙◌, append_assoc}
 use Rattle.std.specs.Prelude.{Option}
 use Rattle.std.specs.Io.KnownBytes.{Appends}
 use Rattle.granit_events.specs.Wrote.{WroteFront}
-use Rattle.granit_events.proofs.Known.{appends_nothing, appends_both, keeps_itself, front_behind, front_of_front, whole_is_front}
+use Rattle.granit_events.proofs.Known.{appends_both, front_behind, front_of_front, whole_is_front}
 
 -- some bytes are written, some are held back, and the rest of the whole is to come
 pub record Reaches (before now : Option (List ℕ)) (held rest whole : List ℕ) : Type 0 where
   pub done : List ℕ
   pub wrote : Appends before now done
   pub parts : whole ≡ (done ++ held) ++ rest
-
-pub reaches_start : (a : Option (List ℕ)) (whole : List ℕ) → Reaches a a [] whole whole
-reaches_start a whole = record { done = []; wrote = appends_nothing a a (keeps_itself a); parts = refl }
 
 -- a piece of the rest is now held back
 pub reaches_push : (a b : Option (List ℕ)) (held ahead whole more rest held2 : List ℕ) → Reaches a b held ahead whole → ahead ≡ more ++ rest → held2 ≡ held ++ more → Reaches a b held2 rest whole
@@ -37,6 +33,3 @@ reaches_front a b c held rest whole r w = rw r.parts (front_of_front a c (r.done
 
 pub reaches_stop : (a b : Option (List ℕ)) (held rest whole : List ℕ) → Reaches a b held rest whole → WroteFront a b whole
 reaches_stop a b held rest whole r = rw (r.parts, append_assoc r.done held rest) (whole_is_front a b r.done (held ++ rest) r.wrote)
-
-pub reaches_end : (a b c : Option (List ℕ)) (held whole : List ℕ) → Reaches a b held [] whole → Appends b c held → Appends a c whole
-reaches_end a b c held whole r p = rw (r.parts, append-nil (r.done ++ held)) (appends_both a b c r.done held r.wrote p)

@@ -1,24 +1,26 @@
 -- What the laws of the plain machine say of a run.
-use Rattle.std.proofs.Common.{◌≡◌, ℕ, List, [], refl, sym, ap, ◌∙◌, subst, Option, Some, Result, Ok, ◌⊎◌, inl, inr}
+use Rattle.std.proofs.Common.{◌≡◌, ℕ, List, [], refl, sym, ap, ◌∙◌, subst, Option, Some, Result, Ok, Err, ◌⊎◌, inl, inr}
 use Rattle.std.specs.Str.{chars, encode_utf8_all}
+use Rattle.granit_base.specs.Place.{Mark}
 use Rattle.granit_base.specs.Written.{Written}
+use Rattle.granit_error.specs.FaultKind.{FaultKind}
 use Rattle.granit_error.specs.OptionsData.{default_options}
 use Rattle.granit_model.specs.Canonical.{documents_in, canonical_events}
 use Rattle.granit_model.specs.Events.{events}
 use Rattle.granit_model.specs.FlowText.{flow_characters}
-use Rattle.granit_model.specs.Line.{event_lines}
-use Rattle.granit_model.specs.Outcome.{Fault}
+use Rattle.granit_model.specs.Line.{event_lines, fault_line}
+use Rattle.granit_model.specs.Outcome.{Fault, fault_at}
 use Rattle.granit_model.specs.PlainEvent.{PlainEvent}
 use Rattle.granit_model.specs.Reading.{Reading}
 use Rattle.granit_model.specs.Tree.{PlainTrees}
 use Rattle.granit_model.specs.Yield.{spell_documents}
 use Rattle.granit_canonical.proofs.Characters.{is_utf8, is_of_it}
 use Rattle.granit_canonical.proofs.Laws.{is_read, names_anchors}
-use Rattle.granit_laws.proofs.Laws.{is_reading, is_answered, has_cause}
+use Rattle.granit_laws.proofs.Laws.{is_reading, is_answered, has_cause, is_refused}
 use Rattle.granit_events.specs.Came.{CameWhole}
 use Rattle.granit_events.specs.Ended.{Ended, Fixes, CallsFor, IsOrYields, machine_answer}
 use Rattle.granit_events.specs.Output.{WholeOutput}
-use Rattle.granit_events.specs.Understood.{PrintsReading, PrintsFault, CanRead, HasCanonical}
+use Rattle.granit_events.specs.Understood.{PrintsReading, PrintsFault, CanRead, HasCause, HasCanonical}
 use Rattle.granit_events.proofs.RunLemmas.{whole_bytes}
 use Rattle.granit_events.specs.declared.status.Status.{Status}
 use Rattle.granit_events.specs.declared.status.Status.TheVariants as status
@@ -48,8 +50,9 @@ module _ (words : List Written) (left now written after : Option (List ℕ)) whe
         bytes = c.1.0;
         came = c.1.1;
         utf8 = c.1.2.0;
-        fault = answer.0;
-        cause = has_cause default_options (chars c.1.0) answer.0 answer.1;
+        kind = answer.0.kind;
+        mark = answer.0.mark;
+        cause = (has_cause default_options (chars c.1.0) answer.0 answer.1).0;
         wrote = subst (λ (output : List ℕ). Appends written after output) answer.2 w.wrote;
       }
 
@@ -63,12 +66,41 @@ module _ (words : List Written) (left now written after : Option (List ℕ)) whe
 pub calls_for_done : (words : List Written) (left : Option (List ℕ)) → (r : CanRead words left) → CallsFor words r.bytes status.Done
 calls_for_done words left r = (r.right, r.fits, r.utf8, (events default_options (chars r.bytes) r.documents, is_answered default_options (chars r.bytes) r.lexemes r.documents r.reading r.resolves))
 
--- and is answered so, where no count rose
-pub done_or_memory : (s : Status) (source sink : Type 0) → IsOrYields status.Done s → (s ≡ status.ReadFault → source) → (s ≡ status.WriteFault → sink) → (source → ⊥) → (sink → ⊥) → (s ≡ status.Done) ⊎ (s ≡ status.NoMemory)
-done_or_memory status.ReadFault source sink y r w a b = absurd (a (r refl))
-done_or_memory status.WriteFault source sink y r w a b = absurd (b (w refl))
-done_or_memory status.NoMemory source sink y r w a b = inr refl
-done_or_memory s source sink y r w a b = inl y
+-- what is called for is answered, where no count rose
+pub wanted_or_memory : (s wanted : Status) (source sink : Type 0) → IsOrYields wanted s → (s ≡ status.ReadFault → source) → (s ≡ status.WriteFault → sink) → (source → ⊥) → (sink → ⊥) → (s ≡ wanted) ⊎ (s ≡ status.NoMemory)
+wanted_or_memory status.ReadFault wanted source sink y r w a b = absurd (a (r refl))
+wanted_or_memory status.WriteFault wanted source sink y r w a b = absurd (b (w refl))
+wanted_or_memory status.NoMemory wanted source sink y r w a b = inr refl
+wanted_or_memory s wanted source sink y r w a b = inl y
+
+module _ (words : List Written) (left now written after : Option (List ℕ)) (kind : FaultKind) (m : Mark) (h : HasCause words left kind m) where
+  -- a text with a cause is refused with it
+  refused_answer : machine_answer h.bytes ≡ Err (fault_at kind m)
+  refused_answer = is_refused default_options (chars h.bytes) kind m h.cause
+
+  refused_calls : CallsFor words h.bytes status.Fault
+  refused_calls = (h.right, h.fits, h.utf8, (fault_at kind m, refused_answer))
+
+  refused_line : WholeOutput (Ended words left now) written after status.Fault → Appends written after (fault_line (fault_at kind m))
+  refused_line w =
+      let c = w.called in
+      let answer = c.1.2.1 in
+      let same = whole_bytes h.bytes c.1.0 now (subst (λ (o : Option (List ℕ)). CameWhole o now c.1.0) h.told c.1.1) in
+      let given : machine_answer c.1.0 ≡ Err (fault_at kind m) = subst (λ (bytes : List ℕ). machine_answer bytes ≡ Err (fault_at kind m)) same refused_answer in
+      let both : ◌≡◌ {A = Result (List PlainEvent) Fault} (Err answer.0) (Err (fault_at kind m)) = sym answer.1 ∙ given in
+      let that : answer.0 ≡ fault_at kind m = cc in
+      subst (λ (output : List ℕ). Appends written after output) (answer.2 ∙ ap fault_line that) w.wrote
+
+  refused_or_memory : (s : Status) → (Fixes s → WholeOutput (Ended words left now) written after s) → (s ≡ status.Fault) ⊎ (s ≡ status.NoMemory) → ((s ≡ status.Fault) × Appends written after (fault_line (fault_at kind m))) ⊎ (s ≡ status.NoMemory)
+  refused_or_memory s w (inl e) = inl (e, refused_line (subst (λ (t : Status). Fixes t → WholeOutput (Ended words left now) written after t) e w tt))
+  refused_or_memory s w (inr e) = inr e
+
+  -- its line is printed, where no count rose
+  pub refused_run :
+      (s : Status) (source sink : Type 0) → (Fixes s → WholeOutput (Ended words left now) written after s) → ((bytes : List ℕ) (wanted : Status) → left ≡ Some bytes → CallsFor words bytes wanted → IsOrYields wanted s)
+      → (s ≡ status.ReadFault → source) → (s ≡ status.WriteFault → sink) → (source → ⊥) → (sink → ⊥)
+      → ((s ≡ status.Fault) × Appends written after (fault_line (fault_at kind m))) ⊎ (s ≡ status.NoMemory)
+  refused_run s source sink w y r u a b = refused_or_memory s w (wanted_or_memory s status.Fault source sink (y h.bytes status.Fault h.told refused_calls) r u a b)
 
 module _ (words : List Written) (left now written after : Option (List ℕ)) (ts : PlainTrees) (h : HasCanonical words left ts) where
   -- canonical text has its trees' reading
@@ -108,4 +140,4 @@ module _ (words : List Written) (left now written after : Option (List ℕ)) (ts
       → ((s ≡ status.Done) × Appends written after (event_lines (canonical_events default_options ts))) ⊎ (s ≡ status.NoMemory)
   canonical_run s source sink w y r u a b =
       prints_or_memory s w
-      (done_or_memory s source sink (y (encode_utf8_all (flow_characters ts)) status.Done h.told canonical_calls) r u a b)
+      (wanted_or_memory s status.Done source sink (y (encode_utf8_all (flow_characters ts)) status.Done h.told canonical_calls) r u a b)

@@ -48,7 +48,8 @@ Answers bytes _ output = ⊥
 abbrev pub EndedWhole : List Written → Option (List ℕ) → Option (List ℕ) → Status → List ℕ → Type 0
 EndedWhole words before now s output = AreRight words × ((bytes : List ℕ) × CameWhole before now bytes × Answers bytes s output)
 
--- a call of `run` ended with that status, for the reason that it names, and the output that this fixes; a fault of the outside and want of memory fix none
+-- A call of `run` ended with that status, for the reason that it names, and the output that this fixes; a fault of the outside and
+-- want of memory fix none.
 abbrev pub Ended : List Written → Option (List ℕ) → Option (List ℕ) → Status → List ℕ → Type 0
 Ended words before now status.Usage output = (now ≡ before) × ((k : ℕ) × AreWrongAt words k × (output ≡ usage_line k))
 Ended words before now status.TooLong output = AreRight words × ((bytes : List ℕ) × CameTooMany before now bytes × (output ≡ too_long_line))

@@ -5,5 +5,6 @@ pub mod Ended
 pub mod Inputs
 pub mod Memory
 pub mod Output
+pub mod Ran
 pub mod Wrote
 pub mod Understood

@@ -2,7 +2,9 @@
 use Rattle.std.specs.Prelude.{◌≡◌, ℕ, ◌≤◌, List, [], length, Option, Some}
 use Rattle.std.specs.Io.KnownBytes.{Appends}
 use Rattle.std.specs.Str.{chars, IsUtf8, encode_utf8_all}
+use Rattle.granit_base.specs.Place.{Mark}
 use Rattle.granit_base.specs.Written.{Written}
+use Rattle.granit_error.specs.FaultKind.{FaultKind}
 use Rattle.granit_error.specs.OptionsData.{default_options}
 use Rattle.granit_model.specs.Canonical.{HasCharacters}
 use Rattle.granit_model.specs.Cause.{Cause}
@@ -10,7 +12,7 @@ use Rattle.granit_model.specs.FlowText.{flow_characters}
 use Rattle.granit_model.specs.Lexeme.{Lexeme}
 use Rattle.granit_model.specs.Line.{event_lines, fault_line}
 use Rattle.granit_model.specs.Node.{Documents}
-use Rattle.granit_model.specs.Outcome.{Fault}
+use Rattle.granit_model.specs.Outcome.{fault_at}
 use Rattle.granit_model.specs.PlainEvent.{PlainEvent}
 use Rattle.granit_model.specs.Reading.{IsReading, Reading}
 use Rattle.granit_model.specs.Scope.{Resolves}
@@ -28,15 +30,16 @@ pub record PrintsReading (words : List Written) (left now : Option (List ℕ)) (
   pub reading : IsReading default_options (chars bytes) events
   pub wrote : Appends written after (event_lines events)
 
--- All bytes came, they are UTF-8, and what was written is the line of a fault whose cause stands at its mark.
+-- All bytes came, they are UTF-8, and what was written is the line of a kind whose cause stands at its mark.
 pub record PrintsFault (words : List Written) (left now : Option (List ℕ)) (written after : Option (List ℕ)) : Type 0 where
   pub right : AreRight words
   pub bytes : List ℕ
   pub came : CameWhole left now bytes
   pub utf8 : IsUtf8 bytes
-  pub fault : Fault
-  pub cause : Cause default_options (chars bytes) fault.kind fault.mark
-  pub wrote : Appends written after (fault_line fault)
+  pub kind : FaultKind
+  pub mark : Mark
+  pub cause : Cause default_options (chars bytes) kind mark
+  pub wrote : Appends written after (fault_line (fault_at kind mark))
 
 -- The words are right, and a source has the UTF-8 of a text left that has a reading, each alias of which names an anchor
 -- before it in its document, within the limit of an input.
@@ -50,6 +53,16 @@ pub record CanRead (words : List Written) (left : Option (List ℕ)) : Type 0 wh
   pub documents : Documents
   pub reading : Reading default_options (chars bytes) lexemes documents
   pub resolves : Resolves default_options [] lexemes
+
+-- the words are right, and a source has the UTF-8 of a text left in which the cause of a kind stands at a mark, within the limit of an
+-- input
+pub record HasCause (words : List Written) (left : Option (List ℕ)) (kind : FaultKind) (m : Mark) : Type 0 where
+  pub right : AreRight words
+  pub bytes : List ℕ
+  pub told : left ≡ Some bytes
+  pub fits : length bytes ≤ most_bytes
+  pub utf8 : IsUtf8 bytes
+  pub cause : Cause default_options (chars bytes) kind m
 
 -- the words are right, and a source has the UTF-8 of the canonical flow text of trees left, within the limit of an input: the
 -- trees fit to be documents, are of characters, and no deeper than allowed

@@ -2,7 +2,6 @@
 ghost use Rattle.std.specs.Prelude.{◌≡◌, Err, IfOk, OnOk, OnErr};
 ghost use Rattle.std.specs.Io.KnownBytes.{Appends};
 ghost use Rattle.granit_model.specs.Line.{fault_line};
-ghost use Rattle.granit_model.specs.Outcome.{fault_of};
 ghost use Rattle.granit_model.specs.Words.{usage_line};
 ghost use Rattle.granit_events.specs.Counts.{Rose};
 ghost use Rattle.granit_events.specs.Ended.{Answers, is_no_memory, not_utf8_line};
@@ -30,9 +29,9 @@ fn ran_out(error: &ScanError) -> bool
 
 /// Prints the line of a fault.
 fn print_fault<W: Sink>(alloc: Global, sink: &mut W, error: &ScanError) -> Result<(), WriteEnd>
-    ensures whole { OnOk result (Appends (W.written sink.old) (W.written sink.new) (fault_line (fault_of error.now))) }
+    ensures whole { OnOk result (Appends (W.written sink.old) (W.written sink.new) (fault_line error.now)) }
     ensures same { OnOk result (W.faults sink.new ≡ W.faults sink.old) }
-    ensures front { OnErr result (WroteFront (W.written sink.old) (W.written sink.new) (fault_line (fault_of error.now))) }
+    ensures front { OnErr result (WroteFront (W.written sink.old) (W.written sink.new) (fault_line error.now)) }
     ensures failed { result ≡ Err ends.Failed → Rose (W.faults sink.old) (W.faults sink.new) }
     ensures no_memory { result ≡ Err ends.NoMemory → W.faults sink.new ≡ W.faults sink.old }
 {

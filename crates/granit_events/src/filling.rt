@@ -1,5 +1,5 @@
 //! Bytes into a buffer.
-ghost use Rattle.std.specs.Prelude.{◌≡◌, ◌≤◌, ◌++◌, length, take, drop, min};
+ghost use Rattle.std.specs.Prelude.{◌≡◌, ◌++◌, length, take, drop, min};
 
 /// Moves the first bytes to the front of a buffer, at most `most`, and answers how many.
 pub fn fill(buf: &mut [u8], bytes: &[u8], most: usize) -> usize

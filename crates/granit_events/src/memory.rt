@@ -1,5 +1,5 @@
 //! A source and a sink in memory, whose calls fail where they are told to.
-ghost use Rattle.std.specs.Prelude.{◌≡◌, ℕ, ◌+◌, ◌-◌, ◌<◌, ◌≤◌, ◌==◌, ◌&&◌, ◌||◌, not, min, Some, List, [], length, take, is_ok, IfOk, OnOk, OnErr};
+ghost use Rattle.std.specs.Prelude.{◌≡◌, ◌+◌, ◌-◌, ◌<◌, ◌≤◌, ◌==◌, ◌&&◌, ◌||◌, not, min, Some, [], length, is_ok, IfOk, OnOk, OnErr, MatchResult};
 ghost use Rattle.std.specs.Io.{ReadsAtMost, WritesAtMost};
 ghost use Rattle.std.specs.Io.KnownBytes.{ReadConsumes, WriteAppends};
 ghost use Rattle.granit_events.specs.Counts.{Rose, next_count, held};
@@ -11,7 +11,8 @@ use granit_base::NoMemory;
 use std::alloc::Global;
 use std::marker::Model;
 
-/// Bytes in memory, a position among them, and the numbers of the calls that fail.
+/// Bytes in memory, a position among them, and the numbers of the calls that fail. A failed call
+/// adds one to the count of faults.
 #[derive(Drop)]
 pub struct MemorySource {
     bytes: Vec<u8>,
@@ -23,7 +24,7 @@ pub struct MemorySource {
 }
 
 impl Model for MemorySource {
-    ghost use Rattle.std.specs.Prelude.{drop, ◌≤◌, ◌<◌, ◌^◌, vec_len};
+    ghost use Rattle.std.specs.Prelude.{drop, ◌≤◌, ◌<◌, vec_len};
     ghost use Rattle.granit_events.specs.Memory.{MemoryIn};
 
     ghost Value = { MemoryIn };
@@ -68,6 +69,7 @@ impl Source for MemorySource {
         ensures same { OnOk result (held self.new.faults ≡ held self.old.faults) }
         ensures failed { OnErr result (Rose (held self.old.faults) (held self.new.faults)) }
         ensures never_falls { held self.old.faults ≤ held self.new.faults }
+        ensures counted { MatchResult result (λ _. self.new.faults ≡ self.old.faults) (λ _. self.new.faults ≡ next_count self.old.faults) }
         ensures calls { self.new.calls ≡ next_count self.old.calls }
         ensures fails { is_ok result ≡ not (is_among self.new.calls self.old.failing) }
         ensures count { IfOk result (λ n. n ≡ min (min (length self.old.left) self.old.most) (length buf.new)) }
@@ -85,7 +87,8 @@ impl Source for MemorySource {
     }
 }
 
-/// What was written, in memory that never grows, and the numbers of the calls that fail.
+/// What was written, in memory that never grows, and the numbers of the calls that fail. A failed
+/// call adds one to the count of faults.
 #[derive(Drop)]
 pub struct MemorySink {
     bytes: Vec<u8>,
@@ -159,6 +162,7 @@ impl Sink for MemorySink {
         ensures same { OnOk result (held self.new.faults ≡ held self.old.faults) }
         ensures failed { OnErr result (Rose (held self.old.faults) (held self.new.faults)) }
         ensures never_falls { held self.old.faults ≤ held self.new.faults }
+        ensures counted { MatchResult result (λ _. self.new.faults ≡ self.old.faults) (λ _. self.new.faults ≡ next_count self.old.faults) }
         ensures calls { self.new.calls ≡ next_count self.old.calls }
         ensures fails { is_ok result ≡ not (is_among self.new.calls self.old.failing || (not (length piece.now == 0) && length self.old.written == self.old.room)) }
         ensures count { IfOk result (λ n. n ≡ min (min (length piece.now) self.old.most) (self.old.room - length self.old.written)) }

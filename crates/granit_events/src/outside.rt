@@ -1,10 +1,14 @@
 //! Readers and writers of std as a source and a sink.
-ghost use Rattle.std.specs.Prelude.{◌≡◌, ◌^◌, ◌<◌};
+ghost use Rattle.std.specs.Prelude.{◌≡◌, ◌^◌, ◌<◌, ◌≤◌, length, IfOk, OnOk, OnErr};
+ghost use Rattle.std.specs.Io.{ReadsAtMost, WritesAtMost};
+ghost use Rattle.std.specs.Io.KnownBytes.{ReadConsumes, WriteAppends};
+ghost use Rattle.granit_events.specs.Counts.{Rose, next_count};
 
 use crate::ends::{Failed, Sink, Source};
 use std::io::{Read, Write};
 
-/// A reader of std. It tells its bytes where the reader does.
+/// A reader of std. It tells its bytes where the reader does. A call that fails adds one to the
+/// count of faults.
 #[derive(Drop)]
 pub struct ReadSource<R> {
     reader: R,
@@ -31,7 +35,14 @@ impl<R: Read> Source for ReadSource<R> {
 
     ghost fits = { λ s. let fits = s.fits in Prim.omega arith };
 
-    fn read(&mut self, buf: &mut [u8]) -> Result<usize, Failed> {
+    fn read(&mut self, buf: &mut [u8]) -> Result<usize, Failed>
+        ensures bound { ReadsAtMost result buf.new }
+        ensures bytes { ReadConsumes (R.remaining self.old.reader) (R.remaining self.new.reader) result buf.new }
+        ensures same { OnOk result (self.new.faults ≡ self.old.faults) }
+        ensures failed { OnErr result (Rose self.old.faults self.new.faults) }
+        ensures never_falls { self.old.faults ≤ self.new.faults }
+        ensures counted { OnErr result (self.new.faults ≡ next_count self.old.faults) }
+    {
         let faults = self.faults;
         match self.reader.read(buf) {
             Ok(count) => Ok(count),
@@ -44,7 +55,7 @@ impl<R: Read> Source for ReadSource<R> {
 }
 
 /// A writer of std. It tells its bytes where the writer does. A write that takes none of a piece is
-/// a fault.
+/// a fault; a call that fails adds one to the count of faults.
 #[derive(Drop)]
 pub struct WriteSink<W> {
     writer: W,
@@ -71,7 +82,15 @@ impl<W: Write> Sink for WriteSink<W> {
 
     ghost fits = { λ s. let fits = s.fits in Prim.omega arith };
 
-    fn write(&mut self, piece: &[u8]) -> Result<usize, Failed> {
+    fn write(&mut self, piece: &[u8]) -> Result<usize, Failed>
+        ensures bound { WritesAtMost result piece.now }
+        ensures some { 0 < length piece.now → IfOk result (λ n. 0 < n) }
+        ensures bytes { WriteAppends (W.contents self.old.writer) (W.contents self.new.writer) result piece.now }
+        ensures same { OnOk result (self.new.faults ≡ self.old.faults) }
+        ensures failed { OnErr result (Rose self.old.faults self.new.faults) }
+        ensures never_falls { self.old.faults ≤ self.new.faults }
+        ensures counted { OnErr result (self.new.faults ≡ next_count self.old.faults) }
+    {
         let faults = self.faults;
         match self.writer.write(piece) {
             Ok(0) if !piece.is_empty() => {

@@ -1,5 +1,5 @@
 //! A source and a sink that never fail.
-ghost use Rattle.std.specs.Prelude.{◌≡◌, ◌≤◌, drop, length, vec_len, Some};
+ghost use Rattle.std.specs.Prelude.{◌≡◌, ◌≤◌, drop, vec_len, Some};
 
 use crate::ends::{Failed, Sink, Source};
 use crate::filling::fill;
@@ -22,7 +22,7 @@ impl PlainSource {
 }
 
 impl Source for PlainSource {
-    ghost use Rattle.std.specs.Prelude.{drop, Some, ℕ};
+    ghost use Rattle.std.specs.Prelude.{drop, Some};
     ghost use Rattle.std.proofs.Common.{arith};
 
     ghost left = { λ s. Some (drop s.position s.bytes.items) };

@@ -26,7 +26,7 @@ fn scalar(text: &'static str, style: ScalarStyle) -> Event<'static> {
 }
 
 #[test]
-fn lines_of_events_without_texts(rt: HostRuntime) -> Result<(), Fail> {
+fn lines_of_streams_and_aliases(rt: HostRuntime) -> Result<(), Fail> {
     let alloc = rt.alloc();
     let rows = [
         (
@@ -41,6 +41,23 @@ fn lines_of_events_without_texts(rt: HostRuntime) -> Result<(), Fail> {
             (18, 2, 0),
             "StreamEnd 18:2:1-18:2:1\n",
         ),
+        (
+            Event::Alias(1),
+            (4, 1, 4),
+            (6, 1, 6),
+            "Alias 1 4:1:5-6:1:7\n",
+        ),
+    ];
+    for (event, start, end, want) in &rows {
+        assert_eq!(rt; line(alloc, event, *start, *end)?.as_str(), *want);
+    }
+    Ok(())
+}
+
+#[test]
+fn lines_of_documents(rt: HostRuntime) -> Result<(), Fail> {
+    let alloc = rt.alloc();
+    let rows = [
         (
             Event::DocumentStart(true, None),
             (0, 1, 0),
@@ -65,12 +82,17 @@ fn lines_of_events_without_texts(rt: HostRuntime) -> Result<(), Fail> {
             (7, 1, 7),
             "DocumentEnd 7:1:8-7:1:8\n",
         ),
-        (
-            Event::Alias(1),
-            (4, 1, 4),
-            (6, 1, 6),
-            "Alias 1 4:1:5-6:1:7\n",
-        ),
+    ];
+    for (event, start, end, want) in &rows {
+        assert_eq!(rt; line(alloc, event, *start, *end)?.as_str(), *want);
+    }
+    Ok(())
+}
+
+#[test]
+fn lines_of_collections(rt: HostRuntime) -> Result<(), Fail> {
+    let alloc = rt.alloc();
+    let rows = [
         (
             Event::SequenceStart(StructureStyle::Flow, 1, None),
             (3, 1, 3),
@@ -109,7 +131,7 @@ fn lines_of_events_without_texts(rt: HostRuntime) -> Result<(), Fail> {
 }
 
 #[test]
-fn lines_of_events_with_texts(rt: HostRuntime) -> Result<(), Fail> {
+fn lines_of_properties(rt: HostRuntime) -> Result<(), Fail> {
     let alloc = rt.alloc();
     let tag = Tag::with_original_handle(alloc, "tag:yaml.org,2002:i", "nt", "!m!")?;
     let both = Tag::new(alloc, "!", "t")?;
@@ -134,6 +156,17 @@ fn lines_of_events_with_texts(rt: HostRuntime) -> Result<(), Fail> {
             Event::UnresolvedAlias(Text::borrowed("x")),
             "UnresolvedAlias \"x\" 0:1:1-2:1:3\n",
         ),
+    ];
+    for (event, want) in &rows {
+        assert_eq!(rt; line(alloc, event, (0, 1, 0), (2, 1, 2))?.as_str(), *want);
+    }
+    Ok(())
+}
+
+#[test]
+fn lines_of_comments(rt: HostRuntime) -> Result<(), Fail> {
+    let alloc = rt.alloc();
+    let rows = [
         (
             Event::Comment(Text::borrowed(" l"), Placement::Above),
             "Comment above \" l\" 0:1:1-2:1:3\n",
@@ -150,6 +183,17 @@ fn lines_of_events_with_texts(rt: HostRuntime) -> Result<(), Fail> {
             Event::Comment(Text::borrowed(" a"), Placement::Last),
             "Comment last \" a\" 0:1:1-2:1:3\n",
         ),
+    ];
+    for (event, want) in &rows {
+        assert_eq!(rt; line(alloc, event, (0, 1, 0), (2, 1, 2))?.as_str(), *want);
+    }
+    Ok(())
+}
+
+#[test]
+fn lines_of_scalars(rt: HostRuntime) -> Result<(), Fail> {
+    let alloc = rt.alloc();
+    let rows = [
         (
             scalar("a'b\nc", ScalarStyle::SingleQuoted),
             "Scalar single \"a'b\\nc\" 0:1:1-2:1:3\n",

@@ -1,14 +1,10 @@
 //! All that the program does.
 ghost use Rattle.std.specs.Prelude.{◌≡◌, ℕ, ◌⊎◌, List, Some};
-ghost use Rattle.std.specs.Io.KnownBytes.{Appends, IsAtEnd, Keeps};
-ghost use Rattle.granit_error.specs.OptionsData.{default_options};
-ghost use Rattle.granit_model.specs.Canonical.{canonical_events};
-ghost use Rattle.granit_model.specs.Line.{event_lines};
-ghost use Rattle.granit_model.specs.Tree.{PlainTrees};
+ghost use Rattle.std.specs.Io.KnownBytes.{IsAtEnd, Keeps};
 ghost use Rattle.granit_events.specs.Counts.{Rose};
 ghost use Rattle.granit_events.specs.Ended.{AreRight, AreWrongAt, CallsFor, Ended, Fixes, IsOrYields, ReadsAll};
 ghost use Rattle.granit_events.specs.Output.{CutOutput, WholeOutput};
-ghost use Rattle.granit_events.specs.Understood.{CanRead, HasCanonical, PrintsFault, PrintsReading};
+ghost use Rattle.granit_events.specs.Ran.{Ran, end_of};
 ghost use Rattle.granit_events.specs.declared.status.Status.{Status};
 ghost use Rattle.granit_events.specs.declared.status.Status.TheVariants as status;
 
@@ -54,32 +50,20 @@ pub(crate) fn run_once<S: Source, W: Sink>(
 /// Reads the words and then the source, and writes the lines of the events, of the fault, or of
 /// what is wrong with the words or the bytes.
 ///
-/// The contract: each status names its cause and fixes the output (`ended` and the clauses behind
-/// it), and which status the words and bytes call for (`usage`, `exactly`). Events that were
+/// The contract, `Ran`: each status names its cause and fixes the output (`ended` and what stands
+/// behind it), and which status the words and bytes call for (`usage`, `exactly`). Events that were
 /// printed are those of the documents as which the text is read (`read`), a fault has its cause at
-/// its mark (`caused`), and a text with a reading whose aliases name anchors is answered
-/// (`answered`). The canonical flow text of trees that fit is printed as those trees' events
-/// (`canonical`).
+/// its mark (`caused`), a text with a reading whose aliases name anchors is answered (`answered`),
+/// and one in which a cause stands is refused with it (`refused`). The canonical flow text of trees
+/// that fit is printed as those trees' events (`canonical`). Wrong words leave the source as it was.
 pub fn run<S: Source, W: Sink>(
     alloc: Global,
     words: &TextList,
     source: &mut S,
     sink: &mut W,
 ) -> Status
-    ensures ended { Fixes result → WholeOutput (Ended words.now (S.left source.old) (S.left source.new)) (W.written sink.old) (W.written sink.new) result }
-    ensures read_fault { result ≡ status.ReadFault → AreRight words.now × Keeps (W.written sink.old) (W.written sink.new) × Rose (S.faults source.old) (S.faults source.new) }
-    ensures write_fault { result ≡ status.WriteFault → CutOutput (Ended words.now (S.left source.old) (S.left source.new)) (W.written sink.old) (W.written sink.new) × Rose (W.faults sink.old) (W.faults sink.new) }
-    ensures no_memory { result ≡ status.NoMemory → Keeps (W.written sink.old) (W.written sink.new) ⊎ CutOutput (Ended words.now (S.left source.old) (S.left source.new)) (W.written sink.old) (W.written sink.new) }
-    ensures source_count { (result ≡ status.ReadFault → ⊥) → S.faults source.new ≡ S.faults source.old }
-    ensures sink_count { (result ≡ status.WriteFault → ⊥) → W.faults sink.new ≡ W.faults sink.old }
-    ensures none_left { ReadsAll result → IsAtEnd (S.left source.new) }
+    ensures ran { Ran words.now (end_of S.left S.faults source.old) (end_of S.left S.faults source.new) (end_of W.written W.faults sink.old) (end_of W.written W.faults sink.new) result }
     ensures unread { (k : ℕ) → AreWrongAt words.now k → source.new ≡ source.old }
-    ensures usage { (k : ℕ) → AreWrongAt words.now k → IsOrYields status.Usage result }
-    ensures exactly { (bytes : List ℕ) (wanted : Status) → S.left source.old ≡ Some bytes → CallsFor words.now bytes wanted → IsOrYields wanted result }
-    ensures read { result ≡ status.Done → PrintsReading words.now (S.left source.old) (S.left source.new) (W.written sink.old) (W.written sink.new) }
-    ensures caused { result ≡ status.Fault → PrintsFault words.now (S.left source.old) (S.left source.new) (W.written sink.old) (W.written sink.new) }
-    ensures answered { CanRead words.now (S.left source.old) → (Rose (S.faults source.old) (S.faults source.new) → ⊥) → (Rose (W.faults sink.old) (W.faults sink.new) → ⊥) → (result ≡ status.Done) ⊎ (result ≡ status.NoMemory) }
-    ensures canonical { (ts : PlainTrees) → HasCanonical words.now (S.left source.old) ts → (Rose (S.faults source.old) (S.faults source.new) → ⊥) → (Rose (W.faults sink.old) (W.faults sink.new) → ⊥) → ((result ≡ status.Done) × Appends (W.written sink.old) (W.written sink.new) (event_lines (canonical_events default_options ts))) ⊎ (result ≡ status.NoMemory) }
 {
     run_once(alloc, words, source, sink)
 }
@@ -93,7 +77,8 @@ pub fn run_plain(
 ) -> Status
     ensures never_read_fault { result ≡ status.ReadFault → ⊥ }
     ensures never_write_fault { result ≡ status.WriteFault → ⊥ }
-    ensures exactly { (bytes : List ℕ) (wanted : Status) → ⟦<PlainSource as Source>⟧.left source.old ≡ Some bytes → CallsFor words.now bytes wanted → IsOrYields wanted result }
+    ensures ran { Ran words.now (end_of ⟦<PlainSource as Source>⟧.left ⟦<PlainSource as Source>⟧.faults source.old) (end_of ⟦<PlainSource as Source>⟧.left ⟦<PlainSource as Source>⟧.faults source.new) (end_of ⟦<PlainSink as Sink>⟧.written ⟦<PlainSink as Sink>⟧.faults sink.old) (end_of ⟦<PlainSink as Sink>⟧.written ⟦<PlainSink as Sink>⟧.faults sink.new) result }
+    ensures unread { (k : ℕ) → AreWrongAt words.now k → source.new ≡ source.old }
 {
     run(alloc, words, source, sink)
 }

@@ -4,7 +4,6 @@ ghost use Rattle.granit_error.specs.FaultKind.{fault_words};
 ghost use Rattle.granit_error.specs.Kinds.{kind_of};
 ghost use Rattle.granit_error.specs.Refused.{place_words};
 ghost use Rattle.granit_model.specs.Line.{fault_line};
-ghost use Rattle.granit_model.specs.Outcome.{fault_of};
 ghost use Rattle.granit_model.specs.Words.{usage_line};
 ghost use Rattle.granit_events.specs.Ended.{not_utf8_line};
 
@@ -45,7 +44,7 @@ fn push_words_and_place(out: &mut String, kind: &ErrorKind, mark: &Marker) -> Re
 
 /// `fault N: `, the words of the kind, and the place.
 pub fn fault(alloc: Global, error: &ScanError) -> Result<String, NoMemory>
-    ensures { IfOk result (λ s. string_bytes s ≡ fault_line (fault_of error.now)) }
+    ensures { IfOk result (λ s. string_bytes s ≡ fault_line error.now) }
 {
     let mut out = String::from_str(alloc, "fault ")?;
     let kind = error.kind();

@@ -68,6 +68,22 @@ fn prints_what_came(rt: HostRuntime) {
         ends(&rt, over(EVENTS, b"--- [\n"), Status::Fault, unclosed),
         holds
     );
+    let escaped =
+        "StreamStart 0:1:1-0:1:1\nDocumentStart explicit 0:1:1-3:1:4\nScalar double \"~\\t\\u{e9}\\u{1f600}\" 4:1:5-10:1:11\nDocumentEnd 10:1:11-10:1:11\nStreamEnd 10:1:11-10:1:11\n";
+    assert_eq!(rt;
+        ends(
+            &rt,
+            over(EVENTS, b"--- \"~\t\xc3\xa9\xf0\x9f\x98\x80\""),
+            Status::Done,
+            escaped
+        ),
+        holds
+    );
+}
+
+#[test]
+fn prints_what_is_wrong(rt: HostRuntime) {
+    let holds = Some(true);
     let invalid = "not UTF-8 after 1 bytes\n";
     assert_eq!(rt;
         ends(&rt, over(EVENTS, b"a\xff"), Status::NotUtf8, invalid),
@@ -92,17 +108,6 @@ fn prints_what_came(rt: HostRuntime) {
             over(&["events", "x"], b"a"),
             Status::Usage,
             "usage: word 2\n"
-        ),
-        holds
-    );
-    let escaped =
-        "StreamStart 0:1:1-0:1:1\nDocumentStart explicit 0:1:1-3:1:4\nScalar double \"~\\t\\u{e9}\\u{1f600}\" 4:1:5-10:1:11\nDocumentEnd 10:1:11-10:1:11\nStreamEnd 10:1:11-10:1:11\n";
-    assert_eq!(rt;
-        ends(
-            &rt,
-            over(EVENTS, b"--- \"~\t\xc3\xa9\xf0\x9f\x98\x80\""),
-            Status::Done,
-            escaped
         ),
         holds
     );

@@ -1,5 +1,5 @@
 //! The whole of a piece of output.
-ghost use Rattle.std.specs.Prelude.{◌≡◌, ℕ, OnOk, OnErr};
+ghost use Rattle.std.specs.Prelude.{◌≡◌, OnOk, OnErr};
 ghost use Rattle.std.specs.Io.KnownBytes.{Appends};
 ghost use Rattle.granit_events.specs.Counts.{Rose};
 ghost use Rattle.granit_events.specs.Wrote.{WroteFront};

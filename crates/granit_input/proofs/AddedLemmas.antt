@@ -29,9 +29,6 @@ added_more before now after c so_far scalar more = record {
   is = more ∙ ap (λ (bytes : List ℕ). bytes ++ encode_utf8 c) so_far.is ∙ append_assoc before so_far.added (encode_utf8 c);
 }
 
-pub added_kept : (before after : List ℕ) (n : ℕ) → IsAdded before after → n ≡ length before → take n after ≡ before
-added_kept before after n a is = rw (is, a.is) (front_kept before a.added)
-
 pub added_split : (before after : List ℕ) (n : ℕ) → IsAdded before after → n ≡ length before → IsSplitPoint after n
 added_split before after n a is =
     let seam = IsCharBoundary-at_seam after before a.added a.is a.utf8 in

@@ -52,7 +52,8 @@ found_is : (bytes : List ℕ) (start : ℕ) (text rest : List ℕ) (n : ℕ) (an
 found_is bytes start text rest n None first last h = tt
 found_is bytes start text rest n (Some part) first last h = part_chars bytes start text rest part.now n first last h
 
--- what is lent of a source between two places of reading: something exactly where there is a source and the offset is told, and then what was read between
+-- what is lent of a source between two places of reading: something exactly where there is a source and the offset is told, and
+-- then what was read between
 pub lent_between : (source : Option (List ℕ)) (start end : Option ℕ) (text rest : List ℕ) (n : ℕ) (answer : Option (Bor (List ℕ)))
     → ((bytes : List ℕ) (at : ℕ) → source ≡ Some bytes → start ≡ Some at → Spells bytes at text)
     → ((bytes : List ℕ) (at : ℕ) → source ≡ Some bytes → end ≡ Some at → Spells bytes at rest)

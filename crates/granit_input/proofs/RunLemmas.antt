@@ -111,9 +111,6 @@ front_ended test text asked count front stop =
     let whole = front_whole test text count front stop in
     record { fits = omega arith; whole = λ _. whole; enough = λ e. absurd cc }
 
-pub front_open : (test : List ℕ → Bool) (text : List ℕ) (asked count : ℕ) → IsFront test text count → asked ≤ count → TakesFront test text asked false count
-front_open test text asked count front enough = record { fits = omega (arith, front.rest); whole = λ e. absurd cc; enough = λ _. enough }
-
 -- a front that is shorter than what was asked for is the whole run
 pub front_all : (test : List ℕ → Bool) (text : List ℕ) (asked : ℕ) (ended : Bool) (count : ℕ) → TakesFront test text asked ended count → count < asked → count ≡ run_length test text
 front_all test text asked true count front short = front.whole refl

@@ -55,6 +55,3 @@ end_reached n text within e = grind (arith, nat_tests, length-drop, within, e)
 
 pub end_ahead : (n : ℕ) (text : List ℕ) → (length (drop n text) == 0) ≡ false → n + 1 ≤ length text
 end_ahead n text e = grind (arith, nat_tests, length-drop, e)
-
-pub not_none : (n : ℕ) → (n == 0) ≡ false → 0 < n
-not_none n e = grind (arith, nat_tests, e)

@@ -22,8 +22,8 @@ pub record Origin : Type 0 where
   -- the window is never smaller than this, whatever is consumed: the window itself where it never shrinks, else 0
   pub floor : ℕ
 
--- What a call leaves as it was, unless it hands out the error: the sources and what is told never change, a known end stays known and nothing comes behind it,
--- the first error stays the first, and the floor of the window never falls.
+-- What a call leaves as it was, unless it hands out the error: the sources and what is told never change, a known end stays known
+-- and nothing comes behind it, the first error stays the first, and the floor of the window never falls.
 pub record Goes (old : Origin) (new : Origin) : Type 0 where
   pub sliced : new.sliced ≡ old.sliced
   pub lent : new.lent ≡ old.lent

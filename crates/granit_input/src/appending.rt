@@ -1,5 +1,5 @@
 //! Characters at the end of a text that may be taken back.
-ghost use Rattle.std.specs.Prelude.{◌≡◌, ◌++◌, [], ◌∷◌, take, string_bytes, OnOk, OnErr};
+ghost use Rattle.std.specs.Prelude.{◌≡◌, ◌++◌, take, string_bytes, OnOk, OnErr};
 ghost use Rattle.std.specs.String.Boundary.{IsSplitPoint};
 ghost use Rattle.std.specs.Char.{encode_utf8, IsScalar};
 

@@ -1,5 +1,5 @@
 //! Parts of a string.
-ghost use Rattle.std.specs.Prelude.{◌≡◌, ◌++◌, Some, take, drop, length};
+ghost use Rattle.std.specs.Prelude.{◌≡◌, ◌++◌, Some, take, drop};
 ghost use Rattle.std.specs.Str.{chars, encode_utf8_all};
 ghost use Rattle.granit_input.specs.Origin.{PartOf};
 

@@ -1,5 +1,5 @@
 //! What a scanner asks of its input.
-ghost use Rattle.std.specs.Prelude.{◌≡◌, ℕ, ◌+◌, ◌-◌, ◌<◌, ◌≤◌, ◌^◌, ◌==◌, ◌&&◌, ◌||◌, Option, Bool, false, true, length, slice_index, is_some, min, max, string_bytes, IfOk, OnErr, MatchOption, IfSome};
+ghost use Rattle.std.specs.Prelude.{◌≡◌, ℕ, ◌+◌, ◌-◌, ◌<◌, ◌≤◌, ◌^◌, ◌==◌, ◌&&◌, ◌||◌, Option, false, true, length, slice_index, is_some, min, max, string_bytes, IfOk, OnErr, MatchOption, IfSome};
 ghost use Rattle.std.specs.Borrow.{sem};
 ghost use Rattle.std.specs.Io.BufRead.{Rests};
 ghost use Rattle.std.specs.Option.{option_map};
@@ -48,7 +48,7 @@ pub trait Input {
     fn buflen(&self) -> usize
         ensures { result ≡ window self.now };
 
-    /// How far `lookahead` reaches at least, in characters.
+    /// A length, at least 8 characters. What `lookahead` reaches is said there.
     fn bufmaxlen(&self) -> usize
         ensures { 8 ≤ result };
 
@@ -107,7 +107,8 @@ pub trait Input {
         ensures unread { (u : Unread) → unread self.old u → unread self.new u }
         ensures moves { (left self.new ≤ left self.old) × (window self.old ≤ window self.new) × (origin self.new ≡ after_giving (origin self.old)) };
 
-    /// False only where the whole source has no `#`.
+    /// False only where what is left, where that is known, has no `#`, and neither has the source, where it
+    /// can be sliced.
     fn may_contain_comments(&self) -> bool
         ensures rest { result ≡ false → (u : Unread) → unread self.now u → holds 0x23 u.text ≡ false }
         ensures source { result ≡ false → IfSome (origin self.now).sliced (λ bytes. holds 0x23 bytes ≡ false) }
@@ -306,6 +307,7 @@ pub trait Input {
     fn skip_run(&mut self, run: Run, limit: usize) -> (bool, usize)
         ensures skips { (u : Unread) → unread self.old u → SkipsFront (run_test run) u limit result (unread self.new) }
         ensures few { result.0 ≡ false → limit ≤ result.1 }
+        ensures limit { result.1 ≤ limit }
         ensures moves { (left self.new + result.1 ≤ left self.old) × (window self.old ≤ window self.new + result.1) × Goes (origin self.old) (origin self.new) }
     {
         let mut count = 0;
@@ -329,6 +331,7 @@ pub trait Input {
         ensures fetches { (u : Unread) → unread self.old u → FetchesFront (run_test run) u limit result (unread self.new) (string_chars out.old) (string_chars out.new) }
         ensures kept { OnErr result (string_bytes out.new ≡ string_bytes out.old) }
         ensures few { IfOk result (λ r. r.0 ≡ false → limit ≤ r.1) }
+        ensures limit { IfOk result (λ r. r.1 ≤ limit) }
         ensures moves { (left self.new + front_count_of result ≤ left self.old) × (IfOk result (λ r. window self.old ≤ window self.new + r.1)) × Goes (origin self.old) (origin self.new) }
     {
         let start = out.len();

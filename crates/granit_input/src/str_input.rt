@@ -1,6 +1,6 @@
 //! The characters of a string.
 ghost use Rattle.std.specs.Prelude.{◌≡◌, ◌+◌, ◌-◌, ◌<◌, ◌≤◌, ◌^◌, true, Some, length, drop, max, min, MatchOption};
-ghost use Rattle.std.specs.Str.{chars, encode_utf8_all, is_utf8};
+ghost use Rattle.std.specs.Str.{chars, is_utf8};
 ghost use Rattle.granit_base.specs.Place.{Unread, first};
 ghost use Rattle.granit_input.specs.Looks.{ReadsNonBreakz};
 ghost use Rattle.granit_input.specs.Unread.{past};

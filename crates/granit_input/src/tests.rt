@@ -1,5 +1,5 @@
 //! The worked rows, each call once, and what the laws alone are enough for.
-ghost use Rattle.std.specs.Prelude.{◌≡◌, ◌≤◌, ◌++◌, IfOk, OnErr, length, take};
+ghost use Rattle.std.specs.Prelude.{◌≡◌, IfOk, length, take};
 ghost use Rattle.granit_base.specs.Classes.{is_alpha};
 ghost use Rattle.granit_base.specs.Place.{Unread};
 ghost use Rattle.granit_input.specs.Origin.{LentBetween};

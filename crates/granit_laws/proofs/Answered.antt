@@ -5,10 +5,10 @@ use Rattle.granit_base.specs.Classes.{is_gap}
 use Rattle.granit_base.specs.Place.{Mark, first}
 use Rattle.granit_error.specs.FaultKind.{FaultKind, UnclosedFlowCollection, RecursionLimitExceeded, NotBuilt, UnknownAnchor}
 use Rattle.granit_error.specs.OptionsData.{OptionsData}
-use Rattle.granit_model.specs.Cause.{ReachedTo, open_brackets, IsDocumentMark, Unclosed, TooDeep, Unknown, Begins, NotTaken, at_end, at_no_gap, at_lexeme, at_foreign}
+use Rattle.granit_model.specs.Cause.{ReachedTo, open_brackets, IsDocumentMark, IsViable, IsNext, Unclosed, TooDeep, Unknown, NotTaken, at_end, at_no_gap, at_lexeme, at_foreign}
 use Rattle.granit_model.specs.Events.{document_events, events}
 use Rattle.granit_model.specs.Extent.{IsLexeme}
-use Rattle.granit_model.specs.Gap.{StandsAt, IsGap}
+use Rattle.granit_model.specs.Gap.{StandsAt, IsGap, Parts}
 use Rattle.granit_model.specs.Here.{Here, mark_of, start_of}
 use Rattle.granit_model.specs.Lexeme.{Lexeme, LexemeKind, SequenceClose, MappingClose, wants_gap, Opener, Source, opener_char}
 use Rattle.granit_model.specs.Machine.{MachineState, Turn, stream_end, on_read, turn, size, machine_start, stream_events, events_of}
@@ -19,7 +19,7 @@ use Rattle.granit_model.specs.Pieces.{with_front, then_more, turns, pieces}
 use Rattle.granit_model.specs.Place.{place_of, mark_at}
 use Rattle.granit_model.specs.PlainEvent.{PlainEvent, event_on, StreamStart, StreamEnd}
 use Rattle.granit_model.specs.ReaderState.{ReaderState, Read, next_lexeme}
-use Rattle.granit_model.specs.Reading.{Before, nothing_before, behind_lexeme, behind_all, Reached, stops, goes_on, NestsWithin, Reading}
+use Rattle.granit_model.specs.Reading.{Before, nothing_before, openers_behind, behind_lexeme, behind_all, Reached, stops, goes_on, NestsWithin, Reading}
 use Rattle.granit_model.specs.Scope.{Resolves}
 use Rattle.granit_model.specs.Yield.{spell_documents}
 use Rattle.granit_lexing.specs.Finding.{Misfits, Finds, FindsEnd, FindsUnclosed, FindsTooDeep, Strange, no_gap, misfit, foreign, FindsStrange, FindsFault, Reads}
@@ -31,6 +31,7 @@ use Rattle.granit_laws.proofs.GrammarBrackets.{behind_append}
 use Rattle.granit_laws.proofs.GrammarGoesOn.{WantsOpen, documents_want}
 use Rattle.granit_laws.proofs.GrammarRefused.{Misplaced, NamesNone, refused, short}
 use Rattle.granit_laws.proofs.GrammarSound.{Opened, opened_first, opened_next, sound}
+use Rattle.granit_laws.proofs.LastLexeme.{open_behind, opener_at, opener_is, one_deeper}
 use Rattle.granit_laws.proofs.Spelled.{mark_fits, wanting_column, lexeme_within, lexeme_some}
 
 -- the last of some lexemes, which wants a gap, and its end
@@ -62,25 +63,25 @@ pub record IsRead (o : OptionsData) (x : List ℕ) (es more : List PlainEvent) (
   pub stands : s.reader.here ≡ here_at x (length x)
 
 -- a refusal of what isn't built: as its cause, but for what follows from it
-pub record IsRefused (x : List ℕ) (m : Mark) : Type 0 where
+pub record IsRefused (o : OptionsData) (x : List ℕ) (m : Mark) : Type 0 where
   pub before : List Lexeme
   pub at : ℕ
+  pub viable : IsViable o before
   pub reached : ReachedTo x before at
-  pub begins : Begins before
-  pub refused : NotTaken x before at
+  pub refused : NotTaken o x before at
   pub closed : (at ≡ length x) ⊎ IsDocumentMark x at → open_brackets before ≡ []
   pub marks : m ≡ mark_at x at
 
 abbrev pub Why : OptionsData → List ℕ → FaultKind → Mark → Type 0
-Why o x (UnclosedFlowCollection opener) m = Unclosed x opener m
+Why o x (UnclosedFlowCollection opener) m = Unclosed o x opener m
 Why o x RecursionLimitExceeded m = TooDeep o x m
-Why o x NotBuilt m = IsRefused x m
+Why o x NotBuilt m = IsRefused o x m
 Why o x UnknownAnchor m = Unknown o x m
 Why o x _ m = ⊥
 
 abbrev pub Answers : OptionsData → List ℕ → List PlainEvent → Result (List PlainEvent × MachineState) Fault → Type 0
 Answers o x es (Ok (more, s)) = IsRead o x es more s
-Answers o x es (Err f) = Why o x f.kind f.mark
+Answers o x es (Err f) = Why o x f.kind f.mark × (f.sources ≡ [])
 
 -- ---- what follows from what the reader finds
 
@@ -97,17 +98,32 @@ module _ (o : OptionsData) (x : List ℕ) where
   reached_behind : (ls : List Lexeme) (i : ℕ) (b : Before) (es : List PlainEvent) (p : ParserState) (g behind : List ℕ) → Kept o x ls i b es p → StandsAt x i g behind → IsGap g → ReachedTo x ls (i + length g)
   reached_behind ls i b es p g behind k s e = subst (λ (ms : List Lexeme). ReachedTo x ms (i + length g)) (append-nil ls) (k.onward [] (i + length g) (stops g behind s e))
 
+  -- a lexeme behind a gap is the next
+  next_behind : (ls : List Lexeme) (i : ℕ) (b : Before) (es : List PlainEvent) (p : ParserState) (l : Lexeme) (g cs behind : List ℕ) → Kept o x ls i b es p
+      → StandsAt x i g (cs ++ behind) → IsGap g → Parts b.owes_gap g → IsLexeme x (i + length g) l cs behind → IsNext x ls l
+  next_behind ls i b es p l g cs behind k s e q is =
+      (i + length g + length cs + 0, k.onward (l ∷ []) (i + length g + length cs + 0) (goes_on g cs behind s e q is (stops [] (drop (i + length g + length cs) x) (record { inside = refl }) tt)))
+
+  -- nothing is wrong with the lexemes so far
+  viable : (ls : List Lexeme) (i : ℕ) (b : Before) (es : List PlainEvent) (p : ParserState) → Kept o x ls i b es p → IsViable o ls
+  viable ls i b es p k = record {
+    begins = begins k.opened.place ls k.opened.spells;
+    nests = subst (λ (ms : List Lexeme). NestsWithin o.flow_nesting_limit nothing_before ms) (append-nil ls) (k.nests [] tt);
+    resolves = k.opened.resolves;
+  }
+
   opens_are : (ls : List Lexeme) (i : ℕ) (b : Before) (es : List PlainEvent) (p : ParserState) → Kept o x ls i b es p → open_brackets ls ≡ b.openers
   opens_are ls i b es p k = ap (λ (c : Before). c.openers) k.said
 
   -- ---- faults of the reader
 
-  why_unclosed : (ls : List Lexeme) (i : ℕ) (b : Before) (es : List PlainEvent) (p : ParserState) (opener : ℕ) (m : Mark) → Kept o x ls i b es p → FindsUnclosed x i b opener m → Unclosed x opener m
+  why_unclosed : (ls : List Lexeme) (i : ℕ) (b : Before) (es : List PlainEvent) (p : ParserState) (opener : ℕ) (m : Mark) → Kept o x ls i b es p → FindsUnclosed x i b opener m → Unclosed o x opener m
   why_unclosed ls i b es p opener m k f = record {
     before = ls;
     at = i + length f.gap;
     innermost = f.innermost;
     around = f.around;
+    viable = viable ls i b es p k;
     reached = reached_behind ls i b es p f.gap f.behind k f.stands f.only_gap;
     meets = f.meets;
     opens = opens_are ls i b es p k ∙ f.opens;
@@ -118,40 +134,52 @@ module _ (o : OptionsData) (x : List ℕ) where
   why_deep : (ls : List Lexeme) (i : ℕ) (b : Before) (es : List PlainEvent) (p : ParserState) (m : Mark) → Kept o x ls i b es p → FindsTooDeep o x i b m → TooDeep o x m
   why_deep ls i b es p m k f =
       let same = ap (λ (os : List Opener). length os) (opens_are ls i b es p k) in
-      let room = k.room in
       let full = f.full in
+      let opener = opener_at x (i + length f.gap) f.bracket in
+      let deeper = one_deeper x (i + length f.gap) f.bracket ls in
       record {
         before = ls;
-        at = i + length f.gap;
-        bracket = f.bracket;
-        behind = f.behind;
-        reached = reached_behind ls i b es p f.gap (opener_char f.bracket ∷ f.behind) k f.stands f.only_gap;
-        opener = f.opener;
-        full = omega (arith, same, room, full);
+        opener = opener;
+        viable = viable ls i b es p k;
+        next = next_behind ls i b es p opener f.gap (opener_char f.bracket ∷ []) f.behind k f.stands f.only_gap f.parts (opener_is x (i + length f.gap) f.bracket f.behind f.opener);
+        deeper = omega (arith, same, full, deeper);
         marks = f.marks;
       }
+
+  -- the brackets that one more lexeme leaves open
+  opens_within : (ls : List Lexeme) (i : ℕ) (b : Before) (es : List PlainEvent) (p : ParserState) (l : Lexeme) → Kept o x ls i b es p → length (behind_lexeme b l).openers ≤ o.flow_nesting_limit
+      → length (open_brackets (ls ++ (l ∷ []))) ≤ o.flow_nesting_limit
+  opens_within ls i b es p l k n =
+      subst (λ (os : List Opener). length os ≤ o.flow_nesting_limit) (sym (open_behind ls l ∙ ap (openers_behind l.kind l.source.start) (opens_are ls i b es p k))) n
+
+  misfit_closes : (kind : LexemeKind) (m : Mark) (os : List Opener) → Misfits kind os → length os ≤ o.flow_nesting_limit → length (openers_behind kind m os) ≤ o.flow_nesting_limit
+  misfit_closes SequenceClose m [] h n = n
+  misfit_closes SequenceClose m (p ∷ os) h n = omega (arith, n)
+  misfit_closes MappingClose m [] h n = n
+  misfit_closes MappingClose m (p ∷ os) h n = omega (arith, n)
+  misfit_closes kind m os h n = absurd h
 
   no_documents : (ls : List Lexeme) (l : Lexeme) (b : Before) → open_brackets ls ≡ b.openers → Misfits l.kind b.openers → (ds : Documents) (more : List Lexeme) → spell_documents ds [] ≢ ls ++ (l ∷ more)
   no_documents ls l b same h ds more e = unfit l.kind b.openers h (subst (WantsOpen l.kind) same (documents_want ls l more ds e))
 
-  why_strange : (ls : List Lexeme) (i : ℕ) (b : Before) (es : List PlainEvent) (p : ParserState) (g : List ℕ) → Kept o x ls i b es p → i + length g < length x → is_gap (first (drop (i + length g) x)) ≡ false → Strange x b g (i + length g) → NotTaken x ls (i + length g)
+  why_strange : (ls : List Lexeme) (i : ℕ) (b : Before) (es : List PlainEvent) (p : ParserState) (g : List ℕ) → Kept o x ls i b es p → i + length g < length x → is_gap (first (drop (i + length g) x)) ≡ false → Strange x b g (i + length g) → NotTaken o x ls (i + length g)
   why_strange ls i b es p g k w n (no_gap owes none) =
       let last = k.last owes in
       let here : i ≡ i + length g = sym (ap (λ (h : List ℕ). i + length h) none ∙ omega arith) in
       at_no_gap last.front last.last last.whole last.wants (last.ends ∙ ap (mark_at x) here) w n
-  why_strange ls i b es p g k w n (misfit l cs behind is h) = at_lexeme l cs behind is (no_documents ls l b (opens_are ls i b es p k) h)
+  why_strange ls i b es p g k w n (misfit l cs behind is h) = at_lexeme l cs behind is (no_documents ls l b (opens_are ls i b es p k) h) (opens_within ls i b es p l k (misfit_closes l.kind l.source.start b.openers h k.room))
   why_strange ls i b es p g k w n (foreign h) = at_foreign w n h
 
   not_the_end : (i : ℕ) (b : Before) (ls : List Lexeme) → i < length x → (IsDocumentMark x i → ⊥) → (i ≡ length x) ⊎ IsDocumentMark x i → open_brackets ls ≡ []
   not_the_end i b ls w n (inl e) = absurd (omega (arith, w, e))
   not_the_end i b ls w n (inr d) = absurd (n d)
 
-  why_refused : (ls : List Lexeme) (i : ℕ) (b : Before) (es : List PlainEvent) (p : ParserState) (m : Mark) → Kept o x ls i b es p → FindsStrange x i b m → IsRefused x m
+  why_refused : (ls : List Lexeme) (i : ℕ) (b : Before) (es : List PlainEvent) (p : ParserState) (m : Mark) → Kept o x ls i b es p → FindsStrange x i b m → IsRefused o x m
   why_refused ls i b es p m k f = record {
     before = ls;
     at = i + length f.gap;
+    viable = viable ls i b es p k;
     reached = reached_behind ls i b es p f.gap f.behind k f.stands f.only_gap;
-    begins = begins k.opened.place ls k.opened.spells;
     refused = why_strange ls i b es p f.gap k f.within f.no_more_gap f.why;
     closed = not_the_end (i + length f.gap) b ls f.within (f.unmarked (λ owes. (k.last owes).column));
     marks = f.marks;
@@ -185,12 +213,12 @@ module _ (o : OptionsData) (x : List ℕ) where
         stands = ap (λ (r : ReaderState). r.here) f.after;
       }
 
-  cut_short : (ls : List Lexeme) (i : ℕ) (b : Before) (es : List PlainEvent) (frame : Frame) (fs : Path) (a : Anchors) (s : ReaderState) → Kept o x ls i b es (record { path = frame ∷ fs; anchors = a }) → FindsEnd x i b s → IsRefused x (mark_of s.here)
+  cut_short : (ls : List Lexeme) (i : ℕ) (b : Before) (es : List PlainEvent) (frame : Frame) (fs : Path) (a : Anchors) (s : ReaderState) → Kept o x ls i b es (record { path = frame ∷ fs; anchors = a }) → FindsEnd x i b s → IsRefused o x (mark_of s.here)
   cut_short ls i b es frame fs a s k f = record {
     before = ls;
     at = length x;
+    viable = viable ls i b es (record { path = frame ∷ fs; anchors = a }) k;
     reached = at_the_end ls i b es (record { path = frame ∷ fs; anchors = a }) s k f;
-    begins = begins k.opened.place ls k.opened.spells;
     refused = at_end refl (short o ls es (record { path = frame ∷ fs; anchors = a }) frame fs k.opened refl);
     closed = λ _. opens_are ls i b es (record { path = frame ∷ fs; anchors = a }) k ∙ f.closed;
     marks = ap (λ (r : ReaderState). mark_of r.here) f.after ∙ mark_is x (length x);
@@ -199,7 +227,7 @@ module _ (o : OptionsData) (x : List ℕ) where
   on_end : (ls : List Lexeme) (i : ℕ) (b : Before) (es : List PlainEvent) (fs : Path) (a : Anchors) (s : ReaderState) (n : ℕ) → Kept o x ls i b es (record { path = fs; anchors = a }) → FindsEnd x i b s
       → Answers o x es (stream_end fs a s >>= λ y. then_more (turns (turn o) n) y.0 y.1)
   on_end ls i b es [] a s n k f = whole_text ls i b es a s k f
-  on_end ls i b es (frame ∷ fs) a s n k f = cut_short ls i b es frame fs a s k f
+  on_end ls i b es (frame ∷ fs) a s n k f = (cut_short ls i b es frame fs a s k f, refl)
 
   -- ---- one more lexeme
 
@@ -237,13 +265,13 @@ module _ (o : OptionsData) (x : List ℕ) where
   closed_at i b ls l s f same (inl e) = absurd (lexeme_within x (i + length f.gap) l.kind f.spelling f.behind f.lexeme.spells f.lexeme.stands.inside e)
   closed_at i b ls l s f same (inr d) = same ∙ mark_fits x (i + length f.gap) l.kind f.spelling f.behind d.behind b.openers f.lexeme.spells f.lexeme.stands.inside d.stands.inside d.separated f.fits
 
-  why_misplaced : (ls : List Lexeme) (i : ℕ) (b : Before) (es : List PlainEvent) (p : ParserState) (l : Lexeme) (s : ReaderState) (e : Fault) → Kept o x ls i b es p → Finds o x i b l s → Misplaced ls l e → IsRefused x l.source.start
+  why_misplaced : (ls : List Lexeme) (i : ℕ) (b : Before) (es : List PlainEvent) (p : ParserState) (l : Lexeme) (s : ReaderState) (e : Fault) → Kept o x ls i b es p → Finds o x i b l s → Misplaced ls l e → IsRefused o x l.source.start
   why_misplaced ls i b es p l s e k f h = record {
     before = ls;
     at = i + length f.gap;
+    viable = viable ls i b es p k;
     reached = reached_behind ls i b es p f.gap (f.spelling ++ f.behind) k f.stands f.only_gap;
-    begins = begins k.opened.place ls k.opened.spells;
-    refused = at_lexeme l f.spelling f.behind f.lexeme h.none;
+    refused = at_lexeme l f.spelling f.behind f.lexeme h.none (opens_within ls i b es p l k (f.nests k.room));
     closed = closed_at i b ls l s f (opens_are ls i b es p k);
     marks = ap (λ (s : Source). s.start) f.lexeme.source;
   }
@@ -251,23 +279,20 @@ module _ (o : OptionsData) (x : List ℕ) where
   why_unknown : (ls : List Lexeme) (i : ℕ) (b : Before) (es : List PlainEvent) (p : ParserState) (l : Lexeme) (s : ReaderState) (e : Fault) → Kept o x ls i b es p → Finds o x i b l s → NamesNone o ls l e → Unknown o x l.source.start
   why_unknown ls i b es p l s e k f h = record {
     before = ls;
-    at = i + length f.gap;
     alias = l;
     name = h.name;
-    spelling = f.spelling;
-    behind = f.behind;
-    reached = reached_behind ls i b es p f.gap (f.spelling ++ f.behind) k f.stands f.only_gap;
-    stands = f.lexeme;
+    viable = viable ls i b es p k;
+    next = next_behind ls i b es p l f.gap f.spelling f.behind k f.stands f.only_gap f.parts f.lexeme;
     is_alias = h.is_alias;
     begins = h.goes_on;
     unknown = h.unknown;
     must_be_known = h.must_be_known;
-    marks = ap (λ (s : Source). s.start) f.lexeme.source;
+    marks = refl;
   }
 
-  why_stopped : (ls : List Lexeme) (i : ℕ) (b : Before) (es : List PlainEvent) (p : ParserState) (l : Lexeme) (s : ReaderState) (e : Fault) → Kept o x ls i b es p → Finds o x i b l s → Misplaced ls l e ⊎ NamesNone o ls l e → Why o x e.kind e.mark
-  why_stopped ls i b es p l s e k f (inl h) = subst (λ (g : Fault). Why o x g.kind g.mark) (sym h.fault_is) (why_misplaced ls i b es p l s e k f h)
-  why_stopped ls i b es p l s e k f (inr h) = subst (λ (g : Fault). Why o x g.kind g.mark) (sym h.fault_is) (why_unknown ls i b es p l s e k f h)
+  why_stopped : (ls : List Lexeme) (i : ℕ) (b : Before) (es : List PlainEvent) (p : ParserState) (l : Lexeme) (s : ReaderState) (e : Fault) → Kept o x ls i b es p → Finds o x i b l s → Misplaced ls l e ⊎ NamesNone o ls l e → Why o x e.kind e.mark × (e.sources ≡ [])
+  why_stopped ls i b es p l s e k f (inl h) = subst (λ (g : Fault). Why o x g.kind g.mark × (g.sources ≡ [])) (sym h.fault_is) (why_misplaced ls i b es p l s e k f h, refl)
+  why_stopped ls i b es p l s e k f (inr h) = subst (λ (g : Fault). Why o x g.kind g.mark × (g.sources ≡ [])) (sym h.fault_is) (why_unknown ls i b es p l s e k f h, refl)
 
   with_more : (es more : List PlainEvent) (r : Result (List PlainEvent × MachineState) Fault) → Answers o x (es ++ more) r → Answers o x es (with_front more r)
   with_more es more (Ok (rest, s)) a = record {
@@ -313,7 +338,7 @@ module _ (o : OptionsData) (x : List ℕ) where
       → Answers o x es (turned r p >>= λ y. then_more (turns (turn o) n) y.0 y.1)
   on_read_of ls i b es p n (Ok (Some l, s)) f k w ih = on_step ls i b es p l s n (step_on o p l) refl k f w ih
   on_read_of ls i b es p n (Ok (None, s)) f k w ih = on_end o x ls i b es p.path p.anchors s n k f
-  on_read_of ls i b es p n (Err f) found k w ih = why_fault o x ls i b es p f.kind f.mark k found
+  on_read_of ls i b es p n (Err f) found k w ih = (why_fault o x ls i b es p f.kind f.mark k found.0, found.1)
 
   answers : (n : ℕ) (ls : List Lexeme) (i : ℕ) (b : Before) (es : List PlainEvent) (p : ParserState)
       → Kept o x ls i b es p → length (drop i x) < n → Answers o x es (turns (turn o) n (record { reader = state_at x i b; parser = p }))
@@ -339,7 +364,7 @@ module _ (o : OptionsData) (x : List ℕ) where
 -- what is known of a whole answer
 abbrev pub Answered : OptionsData → List ℕ → Result (List PlainEvent) Fault → Type 0
 Answered o x (Ok es) = (ls : List Lexeme) × (ds : Documents) × Reading o x ls ds × Resolves o [] ls × (es ≡ events o x ds)
-Answered o x (Err f) = Why o x f.kind f.mark
+Answered o x (Err f) = Why o x f.kind f.mark × (f.sources ≡ [])
 
 stream_of : (o : OptionsData) (x : List ℕ) (more : List PlainEvent) (s : MachineState) → IsRead o x [] more s → Answered o x (Ok (stream_events (start_of x) more s))
 stream_of o x more s a = (

@@ -4,7 +4,7 @@ use Rattle.std.specs.Prelude.{Contains}
 use Rattle.granit_base.specs.Written.{Written}
 use Rattle.granit_error.specs.FaultKind.{NotBuilt, UnknownAnchor}
 use Rattle.granit_error.specs.OptionsData.{OptionsData}
-use Rattle.granit_model.specs.Outcome.{Fault}
+use Rattle.granit_model.specs.Outcome.{Fault, fault_at}
 use Rattle.granit_model.specs.Lexeme.{Lexeme, Alias}
 use Rattle.granit_model.specs.PlainEvent.{PlainEvent}
 use Rattle.granit_model.specs.Node.{Documents}
@@ -21,7 +21,7 @@ use Rattle.granit_laws.proofs.GrammarBegins.{begins}
 
 -- a lexeme with which no documents go on
 pub record Misplaced (ls : List Lexeme) (l : Lexeme) (f : Fault) : Type 0 where
-  pub fault_is : f ≡ record { kind = NotBuilt; mark = l.source.start }
+  pub fault_is : f ≡ fault_at NotBuilt l.source.start
   pub none : (ds : Documents) (more : List Lexeme) → spell_documents ds [] ≢ ls ++ (l ∷ more)
 
 -- an alias with which documents go on, of a name that no anchor before it has, where such may not stay
@@ -31,7 +31,7 @@ pub record NamesNone (o : OptionsData) (ls : List Lexeme) (l : Lexeme) (f : Faul
   pub goes_on : Begins (ls ++ (l ∷ []))
   pub unknown : Contains (names_behind_all ls []) name.characters → ⊥
   pub must_be_known : o.emit_unresolved_aliases ≡ false
-  pub fault_is : f ≡ record { kind = UnknownAnchor; mark = l.source.start }
+  pub fault_is : f ≡ fault_at UnknownAnchor l.source.start
 
 -- no documents go on with a lexeme that leads to no place
 stops_there : (ls more : List Lexeme) (l : Lexeme) (p : OpenPlace) → place_behind ls first_of_all ≡ Some p → place_step p l.kind l.source ≡ None → (ds : Documents) → spell_documents ds [] ≢ ls ++ (l ∷ more)

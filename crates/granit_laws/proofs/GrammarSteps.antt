@@ -7,7 +7,7 @@ use Rattle.granit_error.specs.FaultKind.{NotBuilt, UnknownAnchor}
 use Rattle.granit_error.specs.OptionsData.{OptionsData}
 use Rattle.granit_model.specs.Lexeme.{Lexeme, LexemeKind, DocumentStart, SequenceOpen, SequenceClose, MappingOpen, MappingClose, Comma, Question, Colon, Tag, Anchor, Alias, Scalar, Source}
 use Rattle.granit_model.specs.Node.{AnchorAt, NodeProperties, no_properties, Node, AliasNode, ScalarNode, EmptySequence, Sequence, EmptyMapping, Mapping}
-use Rattle.granit_model.specs.Outcome.{Fault}
+use Rattle.granit_model.specs.Outcome.{Fault, fault_at}
 use Rattle.granit_model.specs.PlainEvent.{PlainEvent, PlainTag, EventKind, event_at, Anchor as AnchorIs, Scalar as ScalarIs, SequenceStart, MappingStart}
 use Rattle.granit_model.specs.Scope.{Scope, anchored, number_in, behind_node, names_behind, Names}
 use Rattle.granit_model.specs.Yield.{lexeme, spell_tag, spell_anchor, spell_properties, spell}
@@ -38,7 +38,7 @@ pub record Unresolved (o : OptionsData) (p : OpenPlace) (l : Lexeme) (f : Fault)
   pub is_alias : l.kind ≡ Alias name
   pub unknown : Contains (names_of p) name.characters → ⊥
   pub must_be_known : o.emit_unresolved_aliases ≡ false
-  pub fault_is : f ≡ record { kind = UnknownAnchor; mark = l.source.start }
+  pub fault_is : f ≡ fault_at UnknownAnchor l.source.start
   pub spells : (more : List Lexeme) → spell_open q more ≡ spell_open p (l ∷ more)
 
 -- the two parsers' results of a step
@@ -46,7 +46,7 @@ abbrev pub Agree : OptionsData → Option OpenPlace → Stepped → OpenPlace �
 Agree o (Some q) (Ok x) p l = Moves o p l x.0 x.1 q
 Agree o (Some q) (Err f) p l = Unresolved o p l f q
 Agree o None (Ok x) p l = ⊥
-Agree o None (Err f) p l = f ≡ record { kind = NotBuilt; mark = l.source.start }
+Agree o None (Err f) p l = f ≡ fault_at NotBuilt l.source.start
 
 -- ---- a node in a hole
 
@@ -162,7 +162,7 @@ alias_moves o h a name s r e k resolved =
     refl resolved
 
 unresolved : (o : OptionsData) (h : Hole) (a : Anchors) (name : Written) (s : Source) (stays : Bool) → o.emit_unresolved_aliases ≡ stays → number_in name.characters (hole_scope h).known ≡ None → Knows (hole_scope h) a
-    → Agree o (Some (fill h (AliasNode s name))) (if stays then finished (alias_kind None name) s (hole_path h) a else Err (record { kind = UnknownAnchor; mark = s.start })) (AtHole h) (lexeme (Alias name) s)
+    → Agree o (Some (fill h (AliasNode s name))) (if stays then finished (alias_kind None name) s (hole_path h) a else Err (fault_at UnknownAnchor s.start)) (AtHole h) (lexeme (Alias name) s)
 unresolved o h a name s true stay e k = alias_moves o h a name s None e k (inl stay)
 unresolved o h a name s false stay e k = record {
   name = name;

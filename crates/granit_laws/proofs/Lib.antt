@@ -9,7 +9,9 @@ pub mod GrammarPlaces
 pub mod GrammarRefused
 pub mod GrammarSound
 pub mod GrammarSteps
+pub mod LastLexeme
 pub mod Laws
+pub mod OneCause
 pub mod ScopeLemmas
 pub mod Spans
 pub mod Spelled

@@ -1,16 +1,13 @@
 -- Where a fault's cause stands, the text has no reading.
-use Rattle.std.proofs.Common.{◌≡◌, ◌≢◌, ℕ, suc, ◌+◌, ◌≤◌, ◌<◌, false, List, [], ◌∷◌, ◌++◌, length, drop, refl, sym, ap, ◌∙◌, subst, arith, ◌⊎◌, inl, inr}
+use Rattle.std.proofs.Common.{◌≡◌, ℕ, ◌≤◌, ◌<◌, false, List, [], ◌∷◌, ◌++◌, length, drop, refl, sym, ap, ◌∙◌, subst, arith, ◌⊎◌, inl, inr}
 use Rattle.granit_base.specs.Classes.{is_gap, is_blank, is_break}
 use Rattle.granit_base.specs.Place.{Mark, first}
 use Rattle.granit_error.specs.OptionsData.{OptionsData}
 use Rattle.granit_model.specs.Cause.{ReachedTo, open_brackets, IsDocumentMark, Unclosed, TooDeep, Unknown, NotTaken, at_end, at_no_gap, at_lexeme, at_foreign}
-use Rattle.granit_model.specs.Extent.{IsLexeme, MayBegin, MayFollow, Spells, left_square, left_curly}
-use Rattle.granit_model.specs.Gap.{StandsAt}
-use Rattle.granit_model.specs.Lexeme.{Lexeme, LexemeKind, Alias, Bracket, Square, Curly, Opener, opener_char}
+use Rattle.granit_model.specs.Extent.{IsLexeme}
+use Rattle.granit_model.specs.Lexeme.{Lexeme, LexemeKind, Alias, Opener}
 use Rattle.granit_model.specs.Node.{Documents}
-use Rattle.granit_model.specs.Place.{mark_at}
-use Rattle.granit_model.specs.ReaderState.{open_kind}
-use Rattle.granit_model.specs.Reading.{Before, nothing_before, openers_behind, behind_lexeme, behind_all, NestsWithin, Reading}
+use Rattle.granit_model.specs.Reading.{Before, nothing_before, behind_lexeme, behind_all, NestsWithin, Reading}
 use Rattle.granit_model.specs.Scope.{names_behind, names_behind_all, Names, Resolves}
 use Rattle.granit_model.specs.Yield.{spell_documents}
 use Rattle.granit_laws.proofs.GrammarBrackets.{documents_close}
@@ -18,35 +15,20 @@ use Rattle.granit_laws.proofs.GrammarGoesOn.{WantsOpen, documents_want}
 use Rattle.granit_lexing.proofs.LexingOnce.{all_reached, GoesOn, goes_on_there, lexeme_follows, no_lexeme_follows, gap_is_missing_behind}
 use Rattle.granit_lexing.proofs.LexingReads.{within_at}
 use Rattle.granit_lexing.proofs.Places.{a_character}
+use Rattle.granit_laws.proofs.LastLexeme.{last_reached, open_behind}
 use Rattle.granit_laws.proofs.Spelled.{mark_kind}
 
-dash_no_gap : is_gap 0x2D ≡ false
+pub dash_no_gap : is_gap 0x2D ≡ false
 unfolding is_gap is_blank is_break
 dash_no_gap = refl
 
-opener_spells : (b : Bracket) → Spells (open_kind b) (opener_char b ∷ [])
-opener_spells Square = left_square
-opener_spells Curly = left_curly
-
-opener_begins : (x : List ℕ) (i : ℕ) (b : Bracket) → MayBegin x i (open_kind b)
-opener_begins x i Square = tt
-opener_begins x i Curly = tt
-
-opener_ends : (b : Bracket) (behind : List ℕ) → MayFollow (open_kind b) behind
-opener_ends Square behind = tt
-opener_ends Curly behind = tt
-
-opener_behind : (b : Bracket) (m : Mark) (os : List Opener) → length (openers_behind (open_kind b) m os) ≡ suc (length os)
-opener_behind Square m os = refl
-opener_behind Curly m os = refl
-
 -- what nests does so behind each front
-nested_front : (limit : ℕ) (b : Before) (ls : List Lexeme) (l : Lexeme) (more : List Lexeme) → NestsWithin limit b (ls ++ (l ∷ more)) → length (behind_lexeme (behind_all b ls) l).openers ≤ limit
+pub nested_front : (limit : ℕ) (b : Before) (ls : List Lexeme) (l : Lexeme) (more : List Lexeme) → NestsWithin limit b (ls ++ (l ∷ more)) → length (behind_lexeme (behind_all b ls) l).openers ≤ limit
 nested_front limit b [] l more n = n.0
 nested_front limit b (m ∷ ls) l more n = nested_front limit (behind_lexeme b m) ls l more n.1
 
 -- what resolves does so behind each front
-names_there : (o : OptionsData) (names : List (List ℕ)) (ls : List Lexeme) (l : Lexeme) (more : List Lexeme) → Resolves o names (ls ++ (l ∷ more)) → Names o (names_behind_all ls names) l.kind
+pub names_there : (o : OptionsData) (names : List (List ℕ)) (ls : List Lexeme) (l : Lexeme) (more : List Lexeme) → Resolves o names (ls ++ (l ∷ more)) → Names o (names_behind_all ls names) l.kind
 names_there o names [] l more r = r.0
 names_there o names (m ∷ ls) l more r = names_there o (names_behind m.kind names) ls l more r.1
 
@@ -66,11 +48,11 @@ module _ (x : List ℕ) (ls : List Lexeme) (i : ℕ) (reached : ReachedTo x ls i
   follows : (l : Lexeme) (cs behind : List ℕ) → IsLexeme x i l cs behind → (rest : List Lexeme) × (spell_documents ds [] ≡ ls ++ (l ∷ rest))
   follows l cs behind is = let f = lexeme_follows reached is r.reached in (f.0, r.spelled ∙ f.1)
 
-  not_taken : NotTaken x ls i → ⊥
-  not_taken (at_end e n) = n ds (at_the_end e)
-  not_taken (at_no_gap front l whole wants ends w n) = gap_is_missing_behind front l reached whole wants ends w n r.reached
-  not_taken (at_lexeme l cs behind is n) = let f = follows l cs behind is in n ds f.0 f.1
-  not_taken (at_foreign w g n) = no_lexeme_follows reached w g n r.reached
+  not_taken : (p : OptionsData) → NotTaken p x ls i → ⊥
+  not_taken p (at_end e n) = n ds (at_the_end e)
+  not_taken p (at_no_gap front l whole wants ends w n) = gap_is_missing_behind front l reached whole wants ends w n r.reached
+  not_taken p (at_lexeme l cs behind is n fits) = let f = follows l cs behind is in n ds f.0 f.1
+  not_taken p (at_foreign w g n) = no_lexeme_follows reached w g n r.reached
 
   -- no bracket is open behind whole documents
   end_closed : i ≡ length x → open_brackets ls ≡ []
@@ -88,32 +70,29 @@ module _ (x : List ℕ) (ls : List Lexeme) (i : ℕ) (reached : ReachedTo x ls i
   closed_there (inl e) = end_closed e
   closed_there (inr d) = mark_closed d
 
-  -- an opener is the next lexeme, and one more bracket is open behind it
-  opener_nests : (b : Bracket) (behind : List ℕ) → StandsAt x i (opener_char b ∷ []) behind → length (open_brackets ls) ≢ o.flow_nesting_limit
-  opener_nests b behind s e =
-      let l : Lexeme = record { kind = open_kind b; source = record { start = mark_at x i; end = mark_at x (i + 1) } } in
-      let is : IsLexeme x i l (opener_char b ∷ []) behind = record { stands = s; spells = opener_spells b; begins = opener_begins x i b; ends = opener_ends b behind; source = refl } in
-      let f = lexeme_follows reached is r.reached in
-      let n = nested_front o.flow_nesting_limit nothing_before ls l f.0 (subst (NestsWithin o.flow_nesting_limit nothing_before) f.1 r.nests) in
-      let more = opener_behind b (mark_at x i) (open_brackets ls) in
-      absurd (omega (arith, n, more, e))
-
 -- ---- a cause and a reading don't stand together
 
-pub not_unclosed : (x : List ℕ) (opener : ℕ) (m : Mark) → Unclosed x opener m → (o : OptionsData) (all : List Lexeme) (ds : Documents) → Reading o x all ds → ⊥
-not_unclosed x opener m c o all ds r = let e = closed_there x c.before c.at c.reached o all ds r c.meets in let f = c.opens in cc
+pub not_unclosed : (p : OptionsData) (x : List ℕ) (opener : ℕ) (m : Mark) → Unclosed p x opener m → (o : OptionsData) (all : List Lexeme) (ds : Documents) → Reading o x all ds → ⊥
+not_unclosed p x opener m c o all ds r = let e = closed_there x c.before c.at c.reached o all ds r c.meets in let f = c.opens in cc
 
 pub not_too_deep : (o : OptionsData) (x : List ℕ) (m : Mark) → TooDeep o x m → (all : List Lexeme) (ds : Documents) → Reading o x all ds → ⊥
-not_too_deep o x m c all ds r = opener_nests x c.before c.at c.reached o all ds r c.bracket c.behind c.opener c.full
+not_too_deep o x m c all ds r =
+    let last = last_reached c.before c.opener c.next.1 in
+    let f = lexeme_follows last.reached last.stands r.reached in
+    let n = nested_front o.flow_nesting_limit nothing_before c.before c.opener f.0 (subst (NestsWithin o.flow_nesting_limit nothing_before) f.1 r.nests) in
+    let more = ap (λ (os : List Opener). length os) (open_behind c.before c.opener) in
+    let deeper = c.deeper in
+    absurd (omega (arith, n, more, deeper))
 
-pub not_refused : (x : List ℕ) (ls : List Lexeme) (i : ℕ) → ReachedTo x ls i → NotTaken x ls i → (o : OptionsData) (all : List Lexeme) (ds : Documents) → Reading o x all ds → ⊥
-not_refused x ls i reached n o all ds r = not_taken x ls i reached o all ds r n
+pub not_refused : (p : OptionsData) (x : List ℕ) (ls : List Lexeme) (i : ℕ) → ReachedTo x ls i → NotTaken p x ls i → (o : OptionsData) (all : List Lexeme) (ds : Documents) → Reading o x all ds → ⊥
+not_refused p x ls i reached n o all ds r = not_taken x ls i reached o all ds r p n
 
-not_named : (o : OptionsData) (x : List ℕ) (m : Mark) (c : Unknown o x m) → Names o (names_behind_all c.before []) (Alias c.name) → ⊥
+pub not_named : (o : OptionsData) (x : List ℕ) (m : Mark) (c : Unknown o x m) → Names o (names_behind_all c.before []) (Alias c.name) → ⊥
 not_named o x m c (inl stays) = let must = c.must_be_known in cc
 not_named o x m c (inr known) = c.unknown known
 
 pub not_unknown : (o : OptionsData) (x : List ℕ) (m : Mark) → Unknown o x m → (p : OptionsData) (all : List Lexeme) (ds : Documents) → Reading p x all ds → Resolves o [] all → ⊥
 not_unknown o x m c p all ds r resolved =
-    let f = lexeme_follows c.reached c.stands r.reached in
+    let last = last_reached c.before c.alias c.next.1 in
+    let f = lexeme_follows last.reached last.stands r.reached in
     not_named o x m c (subst (Names o (names_behind_all c.before [])) c.is_alias (names_there o [] c.before c.alias f.0 (subst (Resolves o []) f.1 resolved)))

@@ -15,3 +15,7 @@ prints text = prints_under default_options text
 -- aliases of no anchor may stay
 abbrev pub leaving_aliases : OptionsData
 leaving_aliases = record default_options { emit_unresolved_aliases = true }
+
+-- as many brackets may be open
+abbrev pub allowing : ℕ → OptionsData
+allowing limit = record default_options { flow_nesting_limit = limit }

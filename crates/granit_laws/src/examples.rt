@@ -1,7 +1,7 @@
 //! Worked examples of the plain machine, by computation. Their lines come from the original and from an
 //! independent judge of the grammar. What begins no escape has other kinds in the original: those rows are stated.
 ghost use Rattle.std.specs.Prelude.{◌≡◌, [], codes};
-ghost use Rattle.granit_laws.specs.Examples.{prints, prints_under, leaving_aliases};
+ghost use Rattle.granit_laws.specs.Examples.{prints, prints_under, leaving_aliases, allowing};
 ghost use Rattle.granit_lexing.specs.Examples.{telling_anchors};
 
 /// Texts that are read.
@@ -74,4 +74,18 @@ pub fn faults_of_properties()
     ensures one_percent_digit { prints (codes "--- !<%4> \"x\"") ≡ codes "fault 96: not built yet at char 4 line 1 column 5\n" }
     ensures no_utf8 { prints (codes "--- !<%ff> \"x\"") ≡ codes "fault 96: not built yet at char 4 line 1 column 5\n" }
     ensures no_node { prints (codes "--- [&a]") ≡ codes "fault 96: not built yet at char 7 line 1 column 8\n" }
+{}
+
+/// Texts with open brackets: as many as are allowed, one more, and none that the end or a mark meets.
+pub fn brackets_of_the_examples()
+    ensures exactly_as_deep { prints_under (allowing 2) (codes "--- [[]]") ≡ codes "StreamStart 0:1:1-0:1:1\nDocumentStart explicit 0:1:1-3:1:4\nSequenceStart flow 4:1:5-5:1:6\nSequenceStart flow 5:1:6-6:1:7\nSequenceEnd 6:1:7-7:1:8\nSequenceEnd 7:1:8-8:1:9\nDocumentEnd 8:1:9-8:1:9\nStreamEnd 8:1:9-8:1:9\n" }
+    ensures none { prints_under (allowing 0) (codes "--- [") ≡ codes "fault 5: recursion limit exceeded at char 4 line 1 column 5\n" }
+    ensures one { prints_under (allowing 1) (codes "--- [{") ≡ codes "fault 5: recursion limit exceeded at char 5 line 1 column 6\n" }
+    ensures beside { prints_under (allowing 2) (codes "--- [[], [[") ≡ codes "fault 5: recursion limit exceeded at char 10 line 1 column 11\n" }
+    ensures in_a_key { prints_under (allowing 2) (codes "--- [{? [") ≡ codes "fault 5: recursion limit exceeded at char 8 line 1 column 9\n" }
+    ensures where_no_node_stands { prints_under (allowing 1) (codes "--- &a [*a [") ≡ codes "fault 5: recursion limit exceeded at char 11 line 1 column 12\n" }
+    ensures without_its_gap { prints_under (allowing 0) (codes "---[") ≡ codes "fault 96: not built yet at char 3 line 1 column 4\n" }
+    ensures inner_wrong_closer { prints (codes "--- [{]") ≡ codes "fault 96: not built yet at char 6 line 1 column 7\n" }
+    ensures mark_on_the_line { prints (codes "--- [---") ≡ codes "fault 96: not built yet at char 5 line 1 column 6\n" }
+    ensures mark_before_nul { prints (codes "--- [\n---\0") ≡ codes "fault 2: unclosed bracket '[' at char 4 line 1 column 5\n" }
 {}

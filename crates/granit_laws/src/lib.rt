@@ -7,9 +7,13 @@ mod examples;
 mod readings;
 mod scopes;
 
-pub use causes::{every_fault_has_its_cause, readings_are_answered_or_refused};
+pub use causes::{
+    every_cause_is_answered, every_fault_has_its_cause, no_cause, one_cause, reading_or_cause,
+    readings_are_answered_or_refused,
+};
 pub use examples::{
-    faults_of_properties, faults_of_the_examples, lines_of_properties, lines_of_the_examples,
+    brackets_of_the_examples, faults_of_properties, faults_of_the_examples, lines_of_properties,
+    lines_of_the_examples,
 };
 pub use readings::{
     every_answer_is_a_reading, every_reading_is_answered, every_span_is_in_the_text, one_reading,

@@ -7,7 +7,8 @@ use Rattle.granit_input.specs.Runs.{run_length, starts, is_line_char}
 use Rattle.granit_model.specs.Comment.{is_comment_char, behind_comment, skipped_comment, comment, comment_read, CommentRead, StandsComment, Spoils, ReadsComment}
 use Rattle.granit_model.specs.Here.{Here, next_char, step, chunk}
 use Rattle.granit_model.specs.Moves.{steps}
-use Rattle.granit_model.specs.Outcome.{Fault, Fails, fault_of}
+use Rattle.granit_model.specs.Outcome.{Fault, Fails}
+use Rattle.granit_scalars.proofs.Nameless.{IsNameless, comment_none, skipped_none}
 use Rattle.granit_scalars.proofs.Comments.{with_text, comment_is, comment_reads}
 use Rattle.granit_lex.specs.Reading.{GivesTo, coded}
 use Rattle.granit_lex.specs.Tokens.{comment_token}
@@ -49,8 +50,8 @@ module _ (h : Here) (Lands : Here → Type 0) where
       → IfOk result (λ t. (c : CommentRead) × (at : Here) × StandsComment h c at × (t ≡ comment_token c) × Lands at)
   token_stands result is given = given_stands comment_token Lands (StandsComment h) (comment h) result (λ c at e. subst (ReadsComment h) e (comment_reads h is)) given
 
-  pub token_cause : (result : Result Token Refused) → next_char h ≡ 0x23 → GivesTo (λ t. t) result Lands (coded comment_token (comment h)) → IfErr result (λ e. (e.kind ≡ NoMemory) ⊎ Spoils h e.kind e.mark)
-  token_cause result is given = given_cause comment_token Lands (Spoils h) (comment h) result (λ f e. subst (ReadsComment h) e (comment_reads h is)) given
+  pub token_cause : (result : Result Token Refused) → next_char h ≡ 0x23 → GivesTo (λ t. t) result Lands (coded comment_token (comment h)) → IfErr result (λ e. (e.kind ≡ NoMemory) ⊎ (Spoils h e.kind e.mark × (e.sources ≡ [])))
+  token_cause result is given = given_cause comment_token Lands (Spoils h) (comment h) result (λ f e. subst (ReadsComment h) e (comment_reads h is)) (comment_none h) given
 
   skip_on : (s : Result (Unit {0} × Here) Fault) (u : Unit {0}) (after : Here) → ReadsComment h (with_text h s) → Lands after → s ≡ Ok (u, after) → (c : CommentRead) × (at : Here) × StandsComment h c at × Lands at
   skip_on (Ok x) u after reads lands e =
@@ -58,14 +59,14 @@ module _ (h : Here) (Lands : Here → Type 0) where
       (comment_read h x.1, x.1, reads, subst Lands (sym (ap (λ (p : Unit {0} × Here). p.1) same)) lands)
   skip_on (Err f) u after reads lands e = absurd cc
 
-  skip_cause_on : (s : Result (Unit {0} × Here) Fault) (e : Refused) → ReadsComment h (with_text h s) → s ≡ Err (fault_of e) → Spoils h e.kind e.mark
-  skip_cause_on (Ok x) e reads is = absurd cc
-  skip_cause_on (Err f) e reads is = let same : f ≡ fault_of e = cc in subst (λ (d : Fault). Spoils h d.kind d.mark) same reads
+  skip_cause_on : (s : Result (Unit {0} × Here) Fault) (e : Refused) → ReadsComment h (with_text h s) → IsNameless s → s ≡ Err e → Spoils h e.kind e.mark × (e.sources ≡ [])
+  skip_cause_on (Ok x) e reads none is = absurd cc
+  skip_cause_on (Err f) e reads none is = let same : f ≡ e = cc in subst (λ (d : Fault). Spoils h d.kind d.mark × (d.sources ≡ [])) same (reads, none.none f refl)
 
   pub skip_stands : (result : Result (Unit {0}) Refused) → next_char h ≡ 0x23 → GivesTo (λ u. u) result Lands (skipped_comment h) → IfOk result (λ u. (c : CommentRead) × (at : Here) × StandsComment h c at × Lands at)
   skip_stands (Ok u) is given = skip_on (skipped_comment h) u given.0 (comment_is h is) given.1 given.2
   skip_stands (Err e) is given = tt
 
-  pub skip_cause : (result : Result (Unit {0}) Refused) → next_char h ≡ 0x23 → IfErr result (λ e. (c : ℕ) × (e.kind ≡ UnexpectedCharacter c)) → GivesTo (λ u. u) result Lands (skipped_comment h) → IfErr result (λ e. Spoils h e.kind e.mark)
+  pub skip_cause : (result : Result (Unit {0}) Refused) → next_char h ≡ 0x23 → IfErr result (λ e. (c : ℕ) × (e.kind ≡ UnexpectedCharacter c)) → GivesTo (λ u. u) result Lands (skipped_comment h) → IfErr result (λ e. Spoils h e.kind e.mark × (e.sources ≡ []))
   skip_cause (Ok u) is kinds given = tt
-  skip_cause (Err e) is kinds given = skip_cause_on (skipped_comment h) e (comment_is h is) (given (λ m. let names = kinds.1 in cc))
+  skip_cause (Err e) is kinds given = skip_cause_on (skipped_comment h) e (comment_is h is) (skipped_none h) (given (λ m. let names = kinds.1 in cc))

@@ -1,10 +1,11 @@
 -- From what a call gives for whatever is known to be left to what is true of it.
-use Rattle.std.proofs.Common.{◌≡◌, ◌⊎◌, inl, inr, Result, Ok, Err, IfOk, IfErr, refl, sym, ap, subst}
+use Rattle.std.proofs.Common.{◌≡◌, [], ◌⊎◌, inl, inr, Result, Ok, Err, IfOk, IfErr, refl, sym, ap, subst}
 use Rattle.granit_base.specs.Place.{Mark}
 use Rattle.granit_error.specs.FaultKind.{FaultKind, NoMemory}
 use Rattle.granit_error.specs.Refused.{Refused}
 use Rattle.granit_model.specs.Here.{Here}
-use Rattle.granit_model.specs.Outcome.{Fault, Fails, fault_of}
+use Rattle.granit_model.specs.Outcome.{Fault, Fails}
+use Rattle.granit_scalars.proofs.Nameless.{IsNameless}
 use Rattle.granit_lex.specs.Reading.{GivesTo, coded}
 
 ok_or : {A : Type 0} → A → Result A Fault → A
@@ -33,20 +34,20 @@ module _ {X Y : Type 0} (code : Y → X) (Lands : Here → Type 0) where
   given_stands P r (Ok x) holds given = stands_on P r x given.0 holds given.1 given.2
   given_stands P r (Err e) holds given = tt
 
-  cause_on : (Q : FaultKind → Mark → Type 0) (r : Result (Y × Here) Fault) (e : Refused) → ((f : Fault) → r ≡ Err f → Q f.kind f.mark) → coded code r ≡ Err (fault_of e) → Q e.kind e.mark
-  cause_on Q (Ok z) e holds is = absurd cc
-  cause_on Q (Err f) e holds is = let same : f ≡ fault_of e = cc in subst (λ (d : Fault). Q d.kind d.mark) same (holds f refl)
+  cause_on : (Q : FaultKind → Mark → Type 0) (r : Result (Y × Here) Fault) (e : Refused) → ((f : Fault) → r ≡ Err f → Q f.kind f.mark) → IsNameless r → coded code r ≡ Err e → Q e.kind e.mark × (e.sources ≡ [])
+  cause_on Q (Ok z) e holds none is = absurd cc
+  cause_on Q (Err f) e holds none is = let same : f ≡ e = cc in subst (λ (d : Fault). Q d.kind d.mark × (d.sources ≡ [])) same (holds f refl, none.none f refl)
 
-  cause_or : (Q : FaultKind → Mark → Type 0) (r : Result (Y × Here) Fault) (e : Refused) → (e.kind ≡ NoMemory) ⊎ (e.kind ≡ NoMemory → ⊥) → ((f : Fault) → r ≡ Err f → Q f.kind f.mark) → Fails e (coded code r)
-      → (e.kind ≡ NoMemory) ⊎ Q e.kind e.mark
-  cause_or Q r e (inl m) holds given = inl m
-  cause_or Q r e (inr n) holds given = inr (cause_on Q r e holds (given n))
+  cause_or : (Q : FaultKind → Mark → Type 0) (r : Result (Y × Here) Fault) (e : Refused) → (e.kind ≡ NoMemory) ⊎ (e.kind ≡ NoMemory → ⊥) → ((f : Fault) → r ≡ Err f → Q f.kind f.mark) → IsNameless r → Fails e (coded code r)
+      → (e.kind ≡ NoMemory) ⊎ (Q e.kind e.mark × (e.sources ≡ []))
+  cause_or Q r e (inl m) holds none given = inl m
+  cause_or Q r e (inr n) holds none given = inr (cause_on Q r e holds none (given n))
 
-  -- a refusal has its cause, unless memory ran out
-  pub given_cause : (Q : FaultKind → Mark → Type 0) (r : Result (Y × Here) Fault) (result : Result X Refused) → ((f : Fault) → r ≡ Err f → Q f.kind f.mark) → GivesTo (λ x. x) result Lands (coded code r)
-      → IfErr result (λ e. (e.kind ≡ NoMemory) ⊎ Q e.kind e.mark)
-  given_cause Q r (Ok x) holds given = tt
-  given_cause Q r (Err e) holds given = cause_or Q r e (memory_or_not e.kind) holds given
+  -- a refusal has its cause and names no source, unless memory ran out
+  pub given_cause : (Q : FaultKind → Mark → Type 0) (r : Result (Y × Here) Fault) (result : Result X Refused) → ((f : Fault) → r ≡ Err f → Q f.kind f.mark) → IsNameless r → GivesTo (λ x. x) result Lands (coded code r)
+      → IfErr result (λ e. (e.kind ≡ NoMemory) ⊎ (Q e.kind e.mark × (e.sources ≡ [])))
+  given_cause Q r (Ok x) holds none given = tt
+  given_cause Q r (Err e) holds none given = cause_or Q r e (memory_or_not e.kind) holds none given
 
   answered_or : (r : Result (Y × Here) Fault) (e : Refused) (z : Y × Here) → (e.kind ≡ NoMemory) ⊎ (e.kind ≡ NoMemory → ⊥) → r ≡ Ok z → Fails e (coded code r) → e.kind ≡ NoMemory
   answered_or r e z (inl m) is given = m

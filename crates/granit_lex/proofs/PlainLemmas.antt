@@ -15,7 +15,7 @@ use Rattle.granit_input.specs.Runs.{run_length, is_plain_at}
 use Rattle.granit_model.specs.Here.{Here, next_char, step}
 use Rattle.granit_model.specs.LayoutData.{LayoutData}
 use Rattle.granit_model.specs.Moves.{steps}
-use Rattle.granit_model.specs.Outcome.{Fault}
+use Rattle.granit_model.specs.Outcome.{Fault, fault_at}
 use Rattle.granit_model.specs.Pieces.{with_front}
 use Rattle.granit_model.specs.PlainScalar.{PlainState, fails_at, is_content, between, on_content, meets_comment, ends_before_line, plain_turn, plain_len}
 use Rattle.granit_model.proofs.HereLemmas.{step_text}
@@ -123,7 +123,7 @@ turn_ends at start p h is =
 
 pub turn_refused : (at : LayoutData) (start : Mark) (p : PlainParts) (h : Here) → ahead_of at (plain_state p h) ≡ Tab → plain_whole at start p h ≡ fails_at TabInPlainScalar start
 turn_refused at start p h is =
-    ap (with_front (string_chars p.value)) (pieces_fails plain_len (plain_turn at start) (plain_state p h) (record { kind = TabInPlainScalar; mark = start }) (turn_is at start (plain_state p h) Tab is))
+    ap (with_front (string_chars p.value)) (pieces_fails plain_len (plain_turn at start) (plain_state p h) (fault_at TabInPlainScalar start) (turn_is at start (plain_state p h) Tab is))
 
 -- ---- strings
 

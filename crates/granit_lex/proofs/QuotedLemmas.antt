@@ -12,11 +12,11 @@ use Rattle.granit_model.specs.LayoutData.{LayoutData}
 use Rattle.granit_model.specs.Moves.{steps}
 use Rattle.granit_model.specs.Outcome.{Fault, Fails, ◌>>=◌}
 use Rattle.granit_model.specs.PlainScalar.{fails_at}
-use Rattle.granit_scalars.specs.QuotedScalar.{QuotedState, is_closing, escape_or, between_quoted, quoted_at, quoted_piece, quoted_content, quoted_turn, quoted_len, QuotedRead, quoted_tail, quoted_scalar}
+use Rattle.granit_scalars.specs.QuotedScalar.{QuotedState, is_closing, escape_or, between_quoted, quoted_at, quoted_piece, quoted_content, quoted_turn, quoted_len, QuotedRead, quoted_tail, quoted_scalar, quoted_rest}
 use Rattle.granit_model.proofs.HereLemmas.{step_text}
 use Rattle.granit_model.proofs.PieceLemmas.{with_front-nil, loop_more, loop_done, loop_fails}
 use Rattle.granit_scalars.proofs.QuotedTurns.{quoted_shortens, tab_meets, strict_meets, loose_meets, mark_meets, turn_chain}
-use Rattle.granit_lex.specs.QuotedCode.{quoted_state, quoted_rest, quoted_whole, quoted_ahead, quoted_turn_of, content_read, added, escapes}
+use Rattle.granit_lex.specs.QuotedCode.{quoted_state, quoted_whole, quoted_ahead, quoted_turn_of, content_read, added, escapes}
 use Rattle.granit_lex.specs.declared.quoted.QuotedParts.{QuotedParts}
 use Rattle.granit_lex.specs.declared.quoted.Ahead.{Ahead}
 use Rattle.granit_lex.specs.declared.quoted.Ahead.TheVariants.{Blank, Break, Content, End}

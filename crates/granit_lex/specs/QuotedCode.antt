@@ -8,9 +8,9 @@ use Rattle.granit_error.specs.Refused.{Refused}
 use Rattle.granit_model.specs.Here.{Here, text_len, next_char, mark_of, step}
 use Rattle.granit_model.specs.LayoutData.{LayoutData}
 use Rattle.granit_model.specs.Outcome.{Fault, Fails, ◌>>=◌}
-use Rattle.granit_model.specs.Pieces.{with_front, pieces}
+use Rattle.granit_model.specs.Pieces.{with_front}
 use Rattle.granit_model.specs.PlainScalar.{fails_at, is_document_mark}
-use Rattle.granit_scalars.specs.QuotedScalar.{QuotedState, is_closing, is_tab_left, is_strictly_left, is_loosely_left, escape_or, between_quoted, quoted_at, over_blank, over_break, quoted_content, quoted_turn, quoted_len}
+use Rattle.granit_scalars.specs.QuotedScalar.{QuotedState, is_closing, is_tab_left, is_strictly_left, is_loosely_left, escape_or, between_quoted, quoted_at, over_blank, over_break, quoted_content, quoted_rest}
 use Rattle.granit_lex.specs.declared.quoted.QuotedParts.{QuotedParts}
 use Rattle.granit_lex.specs.declared.quoted.Ahead.{Ahead}
 use Rattle.granit_lex.specs.declared.quoted.Ahead.TheVariants.{Blank, Break, Content, End}
@@ -18,10 +18,6 @@ use Rattle.granit_lex.specs.declared.quoted.Ahead.TheVariants.{Blank, Break, Con
 -- where reading stands, by what the code holds
 abbrev pub quoted_state : QuotedParts → Here → QuotedState
 quoted_state p h = record { here = h; pending = string_chars p.pending; on_new_line = p.on_new_line; escaped = p.escaped }
-
--- what is read from a state on
-abbrev pub quoted_rest : Bool → LayoutData → Mark → QuotedState → Result (List ℕ × QuotedState) Fault
-quoted_rest single at start s = pieces quoted_len (quoted_turn single at start) s
 
 -- the same behind what was read
 abbrev pub quoted_whole : Bool → LayoutData → Mark → QuotedParts → Here → Result (List ℕ × QuotedState) Fault

@@ -1,6 +1,5 @@
 //! Comments are read.
-ghost use Rattle.std.specs.Prelude.{◌≡◌, ◌≤◌, ◌⊎◌, ℕ, suc, length, IfOk, IfErr};
-ghost use Rattle.granit_base.specs.Written.{string_chars};
+ghost use Rattle.std.specs.Prelude.{◌≡◌, ◌⊎◌, ℕ, IfOk, IfErr, []};
 ghost use Rattle.granit_error.specs.FaultKind.{NoMemory, UnexpectedCharacter};
 ghost use Rattle.granit_model.specs.Comment as spec;
 ghost use Rattle.granit_model.specs.Here.{Here, next_char};
@@ -30,7 +29,7 @@ pub fn scan_comment<'input, T: BorrowedInput<'input>>(
     requires { (h : Here) → Stands T.unread cursor.old h → next_char h ≡ 0x23 }
     ensures here { (h : Here) → Stands T.unread cursor.old h → GivesTo (λ t. t) result (Stands T.unread cursor.new) (coded comment_token (spec.comment h)) }
     ensures comment { (h : Here) → Stands T.unread cursor.old h → IfOk result (λ t. (c : spec.CommentRead) × (after : Here) × spec.StandsComment h c after × (t ≡ comment_token c) × Stands T.unread cursor.new after) }
-    ensures cause { (h : Here) → Stands T.unread cursor.old h → IfErr result (λ e. (e.kind ≡ NoMemory) ⊎ spec.Spoils h e.kind e.mark) }
+    ensures cause { (h : Here) → Stands T.unread cursor.old h → IfErr result (λ e. (e.kind ≡ NoMemory) ⊎ (spec.Spoils h e.kind e.mark × (e.sources ≡ []))) }
     ensures kinds { IfErr result (λ e. (e.kind ≡ NoMemory) ⊎ ((c : ℕ) × (e.kind ≡ UnexpectedCharacter c))) }
     ensures moves { Moves T.left T.origin cursor.old cursor.new }
 {
@@ -48,7 +47,7 @@ pub fn skip_comment<'input, T: BorrowedInput<'input>>(
     requires { (h : Here) → Stands T.unread cursor.old h → next_char h ≡ 0x23 }
     ensures here { (h : Here) → Stands T.unread cursor.old h → GivesTo (λ u. u) result (Stands T.unread cursor.new) (spec.skipped_comment h) }
     ensures comment { (h : Here) → Stands T.unread cursor.old h → IfOk result (λ u. (c : spec.CommentRead) × (after : Here) × spec.StandsComment h c after × Stands T.unread cursor.new after) }
-    ensures cause { (h : Here) → Stands T.unread cursor.old h → IfErr result (λ e. spec.Spoils h e.kind e.mark) }
+    ensures cause { (h : Here) → Stands T.unread cursor.old h → IfErr result (λ e. spec.Spoils h e.kind e.mark × (e.sources ≡ [])) }
     ensures kinds { IfErr result (λ e. (c : ℕ) × (e.kind ≡ UnexpectedCharacter c)) }
     ensures moves { Moves T.left T.origin cursor.old cursor.new }
 {

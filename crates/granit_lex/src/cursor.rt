@@ -1,5 +1,5 @@
 //! An input, and the place up to which it was read.
-ghost use Rattle.std.specs.Prelude.{◌≡◌, ◌<◌, ◌≤◌, ◌+◌, ◌-◌, ◌^◌, ◌++◌, min, max, length, is_some, string_bytes, false, None, Some, if◌then◌else◌, IfOk, OnErr};
+ghost use Rattle.std.specs.Prelude.{◌≡◌, ◌<◌, ◌≤◌, ◌+◌, ◌-◌, ◌^◌, min, max, is_some, string_bytes, false, None, Some, if◌then◌else◌, IfOk, OnErr};
 ghost use Rattle.std.specs.Borrow.{sem};
 ghost use Rattle.std.specs.Io.BufRead.{Rests};
 ghost use Rattle.std.specs.Option.{option_map};
@@ -8,7 +8,7 @@ ghost use Rattle.granit_base.specs.Classes.{is_blank};
 ghost use Rattle.granit_base.specs.Place as place;
 ghost use Rattle.granit_base.specs.Written.{string_chars};
 ghost use Rattle.granit_error.specs.Kinds.{kind_of};
-ghost use Rattle.granit_input.specs.Origin.{error_given, after_giving, Goes, LentBetween};
+ghost use Rattle.granit_input.specs.Origin.{error_given, after_giving, LentBetween};
 ghost use Rattle.granit_input.specs.Runs.{starts, is_line_char, is_non_breakz, is_plain_at, is_quoted_char};
 ghost use Rattle.granit_model.specs.Here.{Here, first_place, mark_of, next_char, step};
 ghost use Rattle.granit_model.specs.Moves.{past_prefix_mark};

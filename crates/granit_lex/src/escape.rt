@@ -1,5 +1,5 @@
 //! Escapes between double quotes are read (YAML 1.2.2, 5.7). What can't be read is refused at the scalar's start.
-ghost use Rattle.std.specs.Prelude.{◌≡◌, ◌≤◌, ℕ, IsTrue, IfErr};
+ghost use Rattle.std.specs.Prelude.{◌≡◌, ◌≤◌, IsTrue, IfErr};
 ghost use Rattle.granit_error.specs.Kinds.{kind_of};
 ghost use Rattle.granit_model.specs.Decoding as decoding;
 ghost use Rattle.granit_model.specs.Here.{Here};

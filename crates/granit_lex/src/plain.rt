@@ -1,6 +1,5 @@
 //! Plain scalars are read (YAML 1.2.2, 7.3.3).
 ghost use Rattle.std.specs.Prelude.{◌≡◌, ◌<◌, ◌≤◌, ◌-◌, ◌⊎◌, ◌==◌, ◌&&◌, ◌||◌, not, ℕ, [], ◌∷◌, ◌++◌, true, length, take, IfOk, IfErr, OnOk};
-ghost use Rattle.std.specs.Str.{chars};
 ghost use Rattle.granit_base.specs.Written.{string_chars};
 ghost use Rattle.granit_error.specs.FaultKind.{NoMemory as OutOfMemory, PlainScalarStartsWithDashFlowIndicator, TabInPlainScalar, UnexpectedCharacter};
 ghost use Rattle.granit_input.specs.Runs.{run_length, is_plain_at};
@@ -40,7 +39,7 @@ pub fn scan_plain_scalar<'input, T: BorrowedInput<'input>>(
     requires { (h : Here) → Stands T.unread cursor.old h → spec.is_content at.now.in_flow h.unread.text ≡ true }
     ensures here { (h : Here) → Stands T.unread cursor.old h → GivesTo (λ l. l) result (Stands T.unread cursor.new) (coded plain_lexed (spec.plain_scalar (layout_data at.now) h)) }
     ensures scalar { (h : Here) → Stands T.unread cursor.old h → IfOk result (λ l. (read : spec.PlainRead) × (after : Here) × extent.AnswersPlain (layout_data at.now) h read after × (l ≡ plain_lexed read) × Stands T.unread cursor.new after) }
-    ensures cause { (h : Here) → Stands T.unread cursor.old h → IfErr result (λ e. (e.kind ≡ OutOfMemory) ⊎ extent.RefusesPlain (layout_data at.now) h e.kind e.mark) }
+    ensures cause { (h : Here) → Stands T.unread cursor.old h → IfErr result (λ e. (e.kind ≡ OutOfMemory) ⊎ (extent.RefusesPlain (layout_data at.now) h e.kind e.mark × (e.sources ≡ []))) }
     ensures answered { (h : Here) (read : spec.PlainRead) (after : Here) → Stands T.unread cursor.old h → extent.AnswersPlain (layout_data at.now) h read after → IfErr result (λ e. e.kind ≡ OutOfMemory) }
     ensures kinds { IfErr result (λ e. IsPlainKind e.kind) }
     ensures moves { Moves T.left T.origin cursor.old cursor.new }

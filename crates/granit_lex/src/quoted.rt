@@ -1,5 +1,5 @@
 //! Quoted scalars are read (YAML 1.2.2, 7.3.1 and 7.3.2).
-ghost use Rattle.std.specs.Prelude.{◌≡◌, ◌<◌, ◌≤◌, ◌-◌, ◌⊎◌, ℕ, false, ◌++◌, IfOk, IfErr, OnOk};
+ghost use Rattle.std.specs.Prelude.{◌≡◌, ◌<◌, ◌≤◌, ◌-◌, ◌⊎◌, false, ◌++◌, IfOk, IfErr, OnOk, []};
 ghost use Rattle.granit_base.specs.Classes as class;
 ghost use Rattle.granit_base.specs.Written.{string_chars};
 ghost use Rattle.granit_error.specs.FaultKind.{NoMemory as OutOfMemory};
@@ -9,7 +9,8 @@ ghost use Rattle.granit_model.specs.PlainScalar.{past_break};
 ghost use Rattle.granit_scalars.specs.QuotedExtent as extent;
 ghost use Rattle.granit_scalars.specs.QuotedScalar as spec;
 ghost use Rattle.granit_lex.specs.PlainCode.{TurnTakes};
-ghost use Rattle.granit_lex.specs.QuotedCode.{quoted_state, quoted_rest, quoted_whole, quoted_ahead, content_read, SeesTo, SeesSome, TakesContent, added, escapes, QuotedTurnsTo, QuotedPartsTo, IsQuotedKind};
+ghost use Rattle.granit_scalars.specs.QuotedScalar.{quoted_rest};
+ghost use Rattle.granit_lex.specs.QuotedCode.{quoted_state, quoted_whole, quoted_ahead, content_read, SeesTo, SeesSome, TakesContent, added, escapes, QuotedTurnsTo, QuotedPartsTo, IsQuotedKind};
 ghost use Rattle.granit_lex.specs.Reading.{Stands, Moves, GivesTo, coded};
 ghost use Rattle.granit_lex.specs.Tokens.{layout_data, quoted_lexed, quoted_with, asked};
 
@@ -49,7 +50,7 @@ pub fn scan_quoted_scalar<'input, T: BorrowedInput<'input>>(
     requires { (h : Here) → Stands T.unread cursor.old h → next_char h ≡ spec.quote_char single }
     ensures here { (h : Here) → Stands T.unread cursor.old h → GivesTo (λ l. l) result (Stands T.unread cursor.new) (coded quoted_lexed (spec.quoted_scalar single (layout_data at.now) h)) }
     ensures scalar { (h : Here) → Stands T.unread cursor.old h → IfOk result (λ l. (read : spec.QuotedRead) × (after : Here) × extent.AnswersQuoted single (layout_data at.now) h read after × (l ≡ quoted_lexed read) × Stands T.unread cursor.new after) }
-    ensures cause { (h : Here) → Stands T.unread cursor.old h → IfErr result (λ e. (e.kind ≡ OutOfMemory) ⊎ extent.RefusesQuoted single (layout_data at.now) h e.kind e.mark) }
+    ensures cause { (h : Here) → Stands T.unread cursor.old h → IfErr result (λ e. (e.kind ≡ OutOfMemory) ⊎ (extent.RefusesQuoted single (layout_data at.now) h e.kind e.mark × (e.sources ≡ []))) }
     ensures answered { (h : Here) (read : spec.QuotedRead) (after : Here) → Stands T.unread cursor.old h → extent.AnswersQuoted single (layout_data at.now) h read after → IfErr result (λ e. e.kind ≡ OutOfMemory) }
     ensures kinds { IfErr result (λ e. IsQuotedKind e.kind) }
     ensures moves { Moves T.left T.origin cursor.old cursor.new }

@@ -235,6 +235,10 @@ pub record GoesOn (x : List ℕ) (b : Before) (i : ℕ) (front : List Lexeme) (j
   pub stands : IsLexeme x j lexeme spelling behind
   pub parts : (behind_all b front).owes_gap ≡ true → end_of i front ≢ j
 
+pub no_width : (g : List ℕ) (at j : ℕ) → at ≡ j → at + length g ≡ j → g ≡ []
+no_width [] at j e h = refl
+no_width (d ∷ g) at j e h = absurd (omega arith)
+
 -- they go on with the lexeme that stands there
 pub goes_on_there : {x : List ℕ} {b : Before} {i : ℕ} {front all : List Lexeme} {j : ℕ} (c : ℕ) (t : List ℕ) → Reached x b i front j → Reached x b i all (length x) → drop j x ≡ c ∷ t → is_gap c ≡ false → GoesOn x b i front j all
 goes_on_there {x = x} {b = b} {i = i} {front = front} {j = j} c t r s d n =
@@ -250,10 +254,6 @@ goes_on_there {x = x} {b = b} {i = i} {front = front} {j = j} c t r s d n =
       stands = subst (λ k. IsLexeme x k one.lexeme one.spelling one.behind) on.reaches one.stands;
       parts = λ owes same. one.parts owes (no_width on.gap on.at j (on.last ∙ same) on.reaches);
     }
-  where
-    no_width : (g : List ℕ) (at j : ℕ) → at ≡ j → at + length g ≡ j → g ≡ []
-    no_width [] at j e h = refl
-    no_width (d ∷ g) at j e h = absurd (omega arith)
 
 -- where a lexeme stands behind some, it is the next
 pub lexeme_follows : {x : List ℕ} {b : Before} {i : ℕ} {front all : List Lexeme} {j : ℕ} {l : Lexeme} {cs behind : List ℕ} → Reached x b i front j → IsLexeme x j l cs behind → Reached x b i all (length x) → (rest : List Lexeme) × (all ≡ front ++ l ∷ rest)

@@ -19,7 +19,7 @@ use Rattle.granit_model.specs.ReaderState.{ReaderState, Read, refuse, lexed, tex
 use Rattle.granit_model.specs.Reading.{Before, openers_behind}
 use Rattle.granit_model.specs.Cause.{IsDocumentMark}
 use Rattle.granit_lexing.specs.Standing.{here_at, state_at}
-use Rattle.granit_lexing.specs.Finding.{Fits, Misfits, Strange, no_gap, misfit, foreign, FindsFault, Reads}
+use Rattle.granit_lexing.specs.Finding.{Fits, Misfits, FindsUnclosed, Strange, no_gap, misfit, foreign, FindsStrange, FindsFault, Reads}
 use Rattle.granit_model.proofs.HereLemmas.{not_empty}
 use Rattle.granit_lexing.proofs.Places.{rest_behind, step_is, on_one, on_three}
 use Rattle.granit_lexing.proofs.LexingRuns.{Ends, run_of, rest_of, past_is}
@@ -74,7 +74,7 @@ FaultAt o x j os _ m = ⊥
 abbrev pub ReadsAt : OptionsData → List ℕ → ℕ → List Opener → Read → Type 0
 ReadsAt o x j os (Ok (Some l, s)) = FoundAt o x j os l s
 ReadsAt o x j os (Ok (None, s)) = ⊥
-ReadsAt o x j os (Err f) = FaultAt o x j os f.kind f.mark
+ReadsAt o x j os (Err f) = FaultAt o x j os f.kind f.mark × (f.sources ≡ [])
 
 -- a lexeme that is read to where its characters end
 lexed_is : (o : OptionsData) (x : List ℕ) (j : ℕ) (os : List Opener) (k : LexemeKind) (cs t : List ℕ) (after : Here)
@@ -125,14 +125,14 @@ shape_at x j c t g {behind = behind} e is h = shape_of behind c t g is.spells (s
 
 -- where no lexeme stands, what is there is refused
 refused_reads : (o : OptionsData) (x : List ℕ) (j c : ℕ) (t : List ℕ) (os : List Opener) (r : Read) → drop j x ≡ c ∷ t → c ≢ 0x2D → r ≡ refuse NotBuilt (here_at x j) → NoLexeme x j → ReadsAt o x j os r
-refused_reads o x j c t os r e n bad none = subst (ReadsAt o x j os) (sym bad) (record { why = foreign_at none; unmarked = unmarked_by x j c t e n; marks = refl })
+refused_reads o x j c t os r e n bad none = subst (ReadsAt o x j os) (sym bad) (record { why = foreign_at none; unmarked = unmarked_by x j c t e n; marks = refl }, refl)
 
 opens_is : (o : OptionsData) (x : List ℕ) (j : ℕ) (t : List ℕ) (os : List Opener) (k : Bracket) (v : Bool)
     → drop j x ≡ opener_char k ∷ t → Spells (open_kind k) (opener_char k ∷ []) → MayBegin x j (open_kind k) → MayFollow (open_kind k) t → Fits (open_kind k) os t
     → openers_behind (open_kind k) (mark_at x j) os ≡ record { bracket = k; mark = mark_at x j } ∷ os
     → nat_le o.flow_nesting_limit (length os) ≡ v
     → ReadsAt o x j os (if v then refuse RecursionLimitExceeded (here_at x j) else lexed (open_kind k) (here_at x j) (step (here_at x j)) (record { bracket = k; mark = mark_at x j } ∷ os))
-opens_is o x j t os k true e s m w f q h = record { bracket = k; behind = t; opener = record { inside = e }; full = grind (arith, nat_tests); marks = refl }
+opens_is o x j t os k true e s m w f q h = (record { bracket = k; behind = t; opener = record { inside = e }; full = grind (arith, nat_tests); marks = refl }, refl)
 opens_is o x j t os k false e s m w f q h =
     subst (λ (ks : List Opener). ReadsAt o x j os (lexed (open_kind k) (here_at x j) (step (here_at x j)) ks)) q
     (lexed_is o x j os (open_kind k) (opener_char k ∷ []) t (step (here_at x j)) (on_one x j (opener_char k) t e) e s m w f
@@ -147,18 +147,18 @@ is_lexeme x j k cs t e s m w = record { stands = record { inside = e }; spells =
 
 closes_square : (o : OptionsData) (x : List ℕ) (j : ℕ) (t : List ℕ) (p : Opener) (os : List Opener) (v : Bracket) → drop j x ≡ 0x5D ∷ t → p.bracket ≡ v → ReadsAt o x j (p ∷ os) (close_square v os (here_at x j))
 closes_square o x j t p os Square e h = lexed_is o x j (p ∷ os) SequenceClose (0x5D ∷ []) t (step (here_at x j)) (on_one x j 0x5D t e) e right_square tt tt h (λ n. omega arith)
-closes_square o x j t p os Curly e h = record { why = misfit_at (lexeme_of x j SequenceClose (0x5D ∷ [])) (0x5D ∷ []) t (is_lexeme x j SequenceClose (0x5D ∷ []) t e right_square tt tt) h; unmarked = unmarked_by x j 0x5D t e (λ q. omega arith); marks = refl }
+closes_square o x j t p os Curly e h = (record { why = misfit_at (lexeme_of x j SequenceClose (0x5D ∷ [])) (0x5D ∷ []) t (is_lexeme x j SequenceClose (0x5D ∷ []) t e right_square tt tt) h; unmarked = unmarked_by x j 0x5D t e (λ q. omega arith); marks = refl }, refl)
 
 square_closes : (o : OptionsData) (x : List ℕ) (j : ℕ) (t : List ℕ) (os : List Opener) → drop j x ≡ 0x5D ∷ t → ReadsAt o x j os (close_bracket Square os (here_at x j))
-square_closes o x j t [] e = record { why = misfit_at (lexeme_of x j SequenceClose (0x5D ∷ [])) (0x5D ∷ []) t (is_lexeme x j SequenceClose (0x5D ∷ []) t e right_square tt tt) tt; unmarked = unmarked_by x j 0x5D t e (λ q. omega arith); marks = refl }
+square_closes o x j t [] e = (record { why = misfit_at (lexeme_of x j SequenceClose (0x5D ∷ [])) (0x5D ∷ []) t (is_lexeme x j SequenceClose (0x5D ∷ []) t e right_square tt tt) tt; unmarked = unmarked_by x j 0x5D t e (λ q. omega arith); marks = refl }, refl)
 square_closes o x j t (p ∷ os) e = closes_square o x j t p os p.bracket e refl
 
 closes_curly : (o : OptionsData) (x : List ℕ) (j : ℕ) (t : List ℕ) (p : Opener) (os : List Opener) (v : Bracket) → drop j x ≡ 0x7D ∷ t → p.bracket ≡ v → ReadsAt o x j (p ∷ os) (close_curly v os (here_at x j))
 closes_curly o x j t p os Curly e h = lexed_is o x j (p ∷ os) MappingClose (0x7D ∷ []) t (step (here_at x j)) (on_one x j 0x7D t e) e right_curly tt tt h (λ n. omega arith)
-closes_curly o x j t p os Square e h = record { why = misfit_at (lexeme_of x j MappingClose (0x7D ∷ [])) (0x7D ∷ []) t (is_lexeme x j MappingClose (0x7D ∷ []) t e right_curly tt tt) h; unmarked = unmarked_by x j 0x7D t e (λ q. omega arith); marks = refl }
+closes_curly o x j t p os Square e h = (record { why = misfit_at (lexeme_of x j MappingClose (0x7D ∷ [])) (0x7D ∷ []) t (is_lexeme x j MappingClose (0x7D ∷ []) t e right_curly tt tt) h; unmarked = unmarked_by x j 0x7D t e (λ q. omega arith); marks = refl }, refl)
 
 curly_closes : (o : OptionsData) (x : List ℕ) (j : ℕ) (t : List ℕ) (os : List Opener) → drop j x ≡ 0x7D ∷ t → ReadsAt o x j os (close_bracket Curly os (here_at x j))
-curly_closes o x j t [] e = record { why = misfit_at (lexeme_of x j MappingClose (0x7D ∷ [])) (0x7D ∷ []) t (is_lexeme x j MappingClose (0x7D ∷ []) t e right_curly tt tt) tt; unmarked = unmarked_by x j 0x7D t e (λ q. omega arith); marks = refl }
+curly_closes o x j t [] e = (record { why = misfit_at (lexeme_of x j MappingClose (0x7D ∷ [])) (0x7D ∷ []) t (is_lexeme x j MappingClose (0x7D ∷ []) t e right_curly tt tt) tt; unmarked = unmarked_by x j 0x7D t e (λ q. omega arith); marks = refl }, refl)
 curly_closes o x j t (p ∷ os) e = closes_curly o x j t p os p.bracket e refl
 
 -- the test for `---` in column 0, said of the text and the column
@@ -184,7 +184,7 @@ past_dashes : (x : List ℕ) (j : ℕ) (t : List ℕ) → drop j x ≡ 0x2D ∷ 
 past_dashes x j t e = let n : suc (suc (suc j)) ≡ j + 3 = omega arith in on_three x j 0x2D 0x2D 0x2D t e ∙ ap (here_at x) n
 
 mark_reads : (o : OptionsData) (x : List ℕ) (j : ℕ) (t : List ℕ) (os : List Opener) (v : Bool) → drop j x ≡ 0x2D ∷ 0x2D ∷ 0x2D ∷ t → (place_of x j).column ≡ 0 → is_blank_or_breakz (first t) ≡ v → ReadsAt o x j os (mark_in v os (here_at x j))
-mark_reads o x j t (p ∷ os) true e z h = record { innermost = p; around = os; opens = refl; names = refl; marks = refl; meets = record { behind = t; stands = record { inside = e }; column = z; separated = h } }
+mark_reads o x j t (p ∷ os) true e z h = (record { innermost = p; around = os; opens = refl; names = refl; marks = refl; meets = record { behind = t; stands = record { inside = e }; column = z; separated = h } }, refl)
 mark_reads o x j t [] true e z h = lexed_is o x j [] DocumentStart (0x2D ∷ 0x2D ∷ 0x2D ∷ []) t (step (step (step (here_at x j)))) (past_dashes x j t e) e dashes z tt (λ _. refl) (λ n. n)
 mark_reads o x j t os false e z h = lexed_is o x j os DocumentStart (0x2D ∷ 0x2D ∷ 0x2D ∷ []) t (step (step (step (here_at x j)))) (past_dashes x j t e) e dashes z tt (λ q. cc) (λ n. n)
 
@@ -198,11 +198,13 @@ dash_on : (o : OptionsData) (x : List ℕ) (j : ℕ) (t : List ℕ) (os : List O
 dash_on o x j t os true e h =
     let d = dashes_stand (drop j x) (place_of x j).column h in
     mark_reads o x j d.0 os (is_separated (here_at x j)) d.2 d.1 (sym (ap (λ (l : List ℕ). is_blank_or_breakz (slice_index l 3)) d.2))
-dash_on o x j t os false e h = record {
-  why = foreign_at (λ l cs behind is. let b = dash_begins x j t e is in cc);
-  unmarked = λ m. let b = dashes_pass x j m.behind m.stands.inside m.column in cc;
-  marks = refl;
-}
+dash_on o x j t os false e h =
+    let strange : StrangeAt x j os (mark_at x j) = record {
+      why = foreign_at (λ l cs behind is. let b = dash_begins x j t e is in cc);
+      unmarked = λ m. let b = dashes_pass x j m.behind m.stands.inside m.column in cc;
+      marks = refl;
+    } in
+    (strange, refl)
 
 dash_reads : (o : OptionsData) (x : List ℕ) (j : ℕ) (t : List ℕ) (os : List Opener) → drop j x ≡ 0x2D ∷ t → ReadsAt o x j os (dash os (here_at x j))
 unfolding dash
@@ -319,7 +321,7 @@ glyph_reads o x j c t os ColonSign e h =
 glyph_reads o x j c t os Exclamation e h = tag_reads o x j t os (stands_as x j c 0x21 t e (exclamation_is c h))
 glyph_reads o x j c t os Ampersand e h = anchor_reads o x j t os (stands_as x j c 0x26 t e (ampersand_is c h))
 glyph_reads o x j c t os Asterisk e h = alias_reads o x j t os (stands_as x j c 0x2A t e (asterisk_is c h))
-glyph_reads o x j c t os Foreign e h = record { why = foreign_at (λ l cs behind is. shape_at x j c t Foreign e is h); unmarked = unmarked_by x j c t e (not_dash c h); marks = refl }
+glyph_reads o x j c t os Foreign e h = (record { why = foreign_at (λ l cs behind is. shape_at x j c t Foreign e is h); unmarked = unmarked_by x j c t e (not_dash c h); marks = refl }, refl)
 
 -- behind a text's last index stands nothing more
 pub ends_at : (x : List ℕ) (i : ℕ) (g : List ℕ) → i ≤ length x → drop i x ≡ g ++ [] → i + length g ≡ length x
@@ -338,8 +340,8 @@ module _ (o : OptionsData) (x : List ℕ) (i : ℕ) (b : Before) (g : List ℕ) 
   why_at (misfit_at l cs behind is m) = misfit l cs behind is m
   why_at (foreign_at f) = foreign f
 
-  fault_reads : (k : FaultKind) (m : Mark) → FaultAt o x (i + length g) b.openers k m → FindsFault o x i b k m
-  fault_reads (UnclosedFlowCollection opener) m r = record {
+  fault_reads : (k : FaultKind) (m : Mark) → Parts b.owes_gap g → FaultAt o x (i + length g) b.openers k m → FindsFault o x i b k m
+  fault_reads (UnclosedFlowCollection opener) m q r = record {
     gap = g;
     behind = c ∷ t;
     stands = record { inside = e };
@@ -351,17 +353,18 @@ module _ (o : OptionsData) (x : List ℕ) (i : ℕ) (b : Before) (g : List ℕ) 
     marks = r.marks;
     meets = inr r.meets;
   }
-  fault_reads RecursionLimitExceeded m r = record {
+  fault_reads RecursionLimitExceeded m q r = record {
     gap = g;
     bracket = r.bracket;
     behind = r.behind;
     stands = record { inside = behind_gap_stands x i g (c ∷ t) (opener_char r.bracket ∷ []) r.behind e r.opener };
     only_gap = p;
+    parts = q;
     opener = r.opener;
     full = r.full;
     marks = r.marks;
   }
-  fault_reads NotBuilt m r = record {
+  fault_reads NotBuilt m q r = record {
     gap = g;
     behind = c ∷ t;
     stands = record { inside = e };
@@ -369,10 +372,10 @@ module _ (o : OptionsData) (x : List ℕ) (i : ℕ) (b : Before) (g : List ℕ) 
     within = within_at x (i + length g) c t (rest_of x i g (c ∷ t) e);
     no_more_gap = ap (λ (l : List ℕ). is_gap (first l)) (rest_of x i g (c ∷ t) e) ∙ n;
     why = why_at r.why;
-    unmarked = λ q. r.unmarked;
+    unmarked = λ owes. r.unmarked;
     marks = r.marks;
   }
-  fault_reads kind m r = absurd r
+  fault_reads kind m q r = absurd r
 
   from_there : (r : Read) → Parts b.owes_gap g → ReadsAt o x (i + length g) b.openers r → Reads o x i b r
   from_there (Ok (Some l, s)) q r = record {
@@ -388,7 +391,7 @@ module _ (o : OptionsData) (x : List ℕ) (i : ℕ) (b : Before) (g : List ℕ) 
     nests = r.nests;
   }
   from_there (Ok (None, s)) q r = absurd r
-  from_there (Err f) q r = fault_reads f.kind f.mark r
+  from_there (Err f) q r = (fault_reads f.kind f.mark q r.0, r.1)
 
   -- the gap that is wanted, or none
   owed : (owes : Bool) (g : List ℕ) → (owes && (i + length g == i)) ≡ true → (owes ≡ true) × (g ≡ [])
@@ -404,7 +407,7 @@ module _ (o : OptionsData) (x : List ℕ) (i : ℕ) (b : Before) (g : List ℕ) 
   at_character : (v : Bool) → (b.owes_gap && (i + length g == i)) ≡ v → Reads o x i b (if v then refuse NotBuilt (here_at x (i + length g)) else lexeme_at o (glyph c) b.openers (here_at x (i + length g)))
   at_character true h =
       let w = owed b.owes_gap g h in
-      record {
+      let strange : FindsStrange x i b (mark_at x (i + length g)) = record {
         gap = g;
         behind = c ∷ t;
         stands = record { inside = e };
@@ -414,7 +417,8 @@ module _ (o : OptionsData) (x : List ℕ) (i : ℕ) (b : Before) (g : List ℕ) 
         why = no_gap w.0 w.1;
         unmarked = λ q m. q w.0 (ap (λ (k : ℕ). (place_of x k).column) (sym (add-zero i) ∙ ap (λ (l : List ℕ). i + length l) (sym w.1)) ∙ m.column);
         marks = refl;
-      }
+      } in
+      (strange, refl)
   at_character false h =
       from_there (lexeme_at o (glyph c) b.openers (here_at x (i + length g))) (not_owed b.owes_gap g h)
       (glyph_reads o x (i + length g) c t b.openers (glyph c) (rest_of x i g (c ∷ t) e) refl)
@@ -439,18 +443,20 @@ end_reads : (o : OptionsData) (x : List ℕ) (i : ℕ) (b : Before) (g : List �
 end_reads o x i b g [] q h e p =
     let r = ends_at x i g h e in
     record { gap = g; stands = record { inside = e }; only_gap = p; reaches = r; closed = q; after = ap (λ j. state_at x j b) r }
-end_reads o x i b g (k ∷ os) q h e p = record {
-  gap = g;
-  behind = [];
-  stands = record { inside = e };
-  only_gap = p;
-  innermost = k;
-  around = os;
-  opens = q;
-  names = refl;
-  marks = refl;
-  meets = inl (ends_at x i g h e);
-}
+end_reads o x i b g (k ∷ os) q h e p =
+    let unclosed : FindsUnclosed x i b (opener_char k.bracket) k.mark = record {
+      gap = g;
+      behind = [];
+      stands = record { inside = e };
+      only_gap = p;
+      innermost = k;
+      around = os;
+      opens = q;
+      names = refl;
+      marks = refl;
+      meets = inl (ends_at x i g h e);
+    } in
+    (unclosed, refl)
 
 gap_reads : (o : OptionsData) (x : List ℕ) (i : ℕ) (b : Before) (g rest : List ℕ) → i ≤ length x → drop i x ≡ g ++ rest → IsGap g → Ends is_gap rest → Reads o x i b (behind_gap o (state_at x i b) (here_at x (i + length g)))
 gap_reads o x i b g [] h e p n =

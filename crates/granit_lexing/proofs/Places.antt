@@ -125,7 +125,3 @@ a_character x i h = on (drop i x) refl
 -- the kept place is the counted one
 pub step_counts : (x : List ℕ) (i : ℕ) → i < length x → step (here_at x i) ≡ here_at x (suc i)
 step_counts x i h = let r = a_character x i h in step_is x i r.0 r.1 r.2
-
--- lists that are equal begin alike
-pub same_first : (c d : ℕ) (r s t : List ℕ) → r ≡ c ∷ s → r ≡ d ∷ t → c ≡ d
-same_first c d r s t e f = cc

@@ -73,6 +73,7 @@ pub record FindsTooDeep (o : OptionsData) (x : List ℕ) (i : ℕ) (b : Before) 
   pub behind : List ℕ
   pub stands : StandsAt x i gap (opener_char bracket ∷ behind)
   pub only_gap : IsGap gap
+  pub parts : Parts b.owes_gap gap
   pub opener : StandsAt x (i + length gap) (opener_char bracket ∷ []) behind
   pub full : o.flow_nesting_limit ≤ length b.openers
   pub marks : m ≡ mark_at x (i + length gap)
@@ -110,4 +111,4 @@ FindsFault o x i b _ m = ⊥
 abbrev pub Reads : OptionsData → List ℕ → ℕ → Before → Read → Type 0
 Reads o x i b (Ok (Some l, s)) = Finds o x i b l s
 Reads o x i b (Ok (None, s)) = FindsEnd x i b s
-Reads o x i b (Err f) = FindsFault o x i b f.kind f.mark
+Reads o x i b (Err f) = FindsFault o x i b f.kind f.mark × (f.sources ≡ [])

@@ -46,9 +46,6 @@ pieces_fails size turn s f is = rw is refl
 
 -- ---- a loop has gathered `front`, and goes on from `now`
 
-pub loop_starts : {S A : Type 0} (size : S → ℕ) (turn : S → Result (Option (List A) × S) Fault) (front : List A) (s : S) → front ≡ [] → with_front front (pieces size turn s) ≡ pieces size turn s
-loop_starts size turn front s e = rw e (with_front-nil (pieces size turn s))
-
 pub loop_more : {S A : Type 0} (size : S → ℕ) (turn : S → Result (Option (List A) × S) Fault) → Shortens size turn → (front more : List A) (now after : S) (piece : List A) (total : Result (List A × S) Fault)
     → with_front front (pieces size turn now) ≡ total → turn now ≡ Ok (Some piece, after) → more ≡ front ++ piece → with_front more (pieces size turn after) ≡ total
 loop_more size turn less front more now after piece total so_far is grown =

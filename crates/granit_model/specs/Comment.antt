@@ -8,7 +8,7 @@ use Rattle.granit_model.specs.Gap.{Each}
 use Rattle.granit_model.specs.Here.{Here, text_len, next_char, mark_of, step, chunk_len, chunk}
 use Rattle.granit_model.specs.Lexeme.{Source}
 use Rattle.granit_model.specs.Moves.{steps}
-use Rattle.granit_model.specs.Outcome.{Fault, ◌>>=◌}
+use Rattle.granit_model.specs.Outcome.{Fault, fault_at, ◌>>=◌}
 
 -- a character of a comment's text: printable, and neither a break nor NUL
 abbrev pub is_comment_char : ℕ → Bool
@@ -45,7 +45,7 @@ past_comment h = steps (chunk_len is_comment_char (step h)) (step h)
 unfoldable pub behind_comment : Here → Result (Unit {0} × Here) Fault
 behind_comment h =
     if text_len h == 0 || is_printable (next_char h) then Ok (tt, h)
-    else Err (record { kind = UnexpectedCharacter (next_char h); mark = mark_of h })
+    else Err (fault_at (UnexpectedCharacter (next_char h)) (mark_of h))
 
 -- over the comment that begins here with its `#`
 unfoldable pub skipped_comment : Here → Result (Unit {0} × Here) Fault

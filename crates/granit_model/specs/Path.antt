@@ -7,7 +7,7 @@ use Rattle.granit_base.specs.Written.{Written, order_of_characters}
 use Rattle.granit_base.specs.declared.style.StructureStyle.TheVariants.{Flow}
 use Rattle.granit_error.specs.FaultKind.{NotBuilt, UnknownAnchor}
 use Rattle.granit_error.specs.OptionsData.{OptionsData}
-use Rattle.granit_model.specs.Outcome.{Fault}
+use Rattle.granit_model.specs.Outcome.{Fault, fault_at}
 use Rattle.granit_model.specs.Lexeme.{Lexeme, LexemeKind, DocumentStart, SequenceOpen, SequenceClose, MappingOpen, MappingClose, Comma, Question, Colon, Tag, Anchor, Alias, Scalar, Source}
 use Rattle.granit_model.specs.Node.{TagAt, AnchorAt, NodeProperties, no_properties}
 use Rattle.granit_model.specs.Events.{plain_tag, tagged_span, alias_kind}
@@ -75,7 +75,7 @@ root_end fs m = []
 
 -- a lexeme that isn't taken
 abbrev pub misplaced : Lexeme → Stepped
-misplaced l = Err (record { kind = NotBuilt; mark = l.source.start })
+misplaced l = Err (fault_at NotBuilt l.source.start)
 
 -- an event that finishes a node without properties
 abbrev pub finished : EventKind → Source → Path → Anchors → Stepped
@@ -109,7 +109,7 @@ goes_on frame fs a = Ok ([], record { path = frame ∷ fs; anchors = a })
 -- an alias of a number, or of a name that no anchor has, where such may stay
 abbrev pub alias : OptionsData → Anchors → Path → Option ℕ → Written → Lexeme → Stepped
 alias o a fs (Some n) name l = finished (alias_kind (Some n) name) l.source fs a
-alias o a fs None name l = if o.emit_unresolved_aliases then finished (alias_kind None name) l.source fs a else Err (record { kind = UnknownAnchor; mark = l.source.start })
+alias o a fs None name l = if o.emit_unresolved_aliases then finished (alias_kind None name) l.source fs a else Err (fault_at UnknownAnchor l.source.start)
 
 abbrev pub tag_alone : List ℕ → Source → NodeProperties
 tag_alone suffix source = record { tag = Some (record { source = source; suffix = suffix }); anchor = None }

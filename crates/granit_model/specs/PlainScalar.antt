@@ -8,7 +8,7 @@ use Rattle.granit_error.specs.FaultKind.{FaultKind, PlainScalarStartsWithDashFlo
 use Rattle.granit_model.specs.Here.{Here, text_len, next_char, mark_of, step}
 use Rattle.granit_model.specs.LayoutData.{LayoutData, is_left, is_outside}
 use Rattle.granit_model.specs.Lexeme.{Lexeme, Scalar}
-use Rattle.granit_model.specs.Outcome.{Fault, ◌>>=◌}
+use Rattle.granit_model.specs.Outcome.{Fault, fault_at, ◌>>=◌}
 use Rattle.granit_model.specs.Pieces.{pieces}
 
 -- where reading stands in a plain scalar
@@ -32,7 +32,7 @@ pub record PlainRead : Type 0 where
   pub on_new_line : Bool
 
 abbrev pub fails_at : {Y : Type 0} → FaultKind → Mark → Result Y Fault
-fails_at kind m = Err (record { kind = kind; mark = m })
+fails_at kind m = Err (fault_at kind m)
 
 -- behind a break, which CR LF is too
 unfoldable pub past_break : Here → Here

@@ -6,12 +6,12 @@ use Rattle.granit_base.specs.Place.{Mark}
 use Rattle.granit_error.specs.FaultKind.{NotBuilt}
 use Rattle.granit_model.specs.Decoding.{letter_value, digit_count, is_high, is_low, joined}
 use Rattle.granit_model.specs.Here.{Here, text_len, next_char, step, chunk, past_chunk}
-use Rattle.granit_model.specs.Outcome.{Fault, ◌>>=◌}
+use Rattle.granit_model.specs.Outcome.{Fault, fault_at, ◌>>=◌}
 use Rattle.granit_model.specs.Pieces.{pieces}
 use Rattle.granit_model.specs.Start.{is_inner}
 
 abbrev pub refuse_at : {Y : Type 0} → Mark → Result Y Fault
-refuse_at start = Err (record { kind = NotBuilt; mark = start })
+refuse_at start = Err (fault_at NotBuilt start)
 
 -- so many more hexadecimal digits of a number
 unfoldable pub digits : Mark → ℕ → ℕ → Here → Result (ℕ × Here) Fault

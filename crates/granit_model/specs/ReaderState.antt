@@ -8,7 +8,7 @@ use Rattle.granit_base.specs.declared.style.ScalarStyle.TheVariants.{DoubleQuote
 use Rattle.granit_error.specs.FaultKind.{FaultKind, UnclosedFlowCollection, RecursionLimitExceeded, NotBuilt}
 use Rattle.granit_error.specs.OptionsData.{OptionsData}
 use Rattle.granit_model.specs.Here.{Here, text_len, next_char, mark_of, step, past, chunk_len, chunk, past_chunk}
-use Rattle.granit_model.specs.Outcome.{Fault, ◌>>=◌}
+use Rattle.granit_model.specs.Outcome.{Fault, fault_at, ◌>>=◌}
 use Rattle.granit_model.specs.Pieces.{with_front}
 use Rattle.granit_model.specs.Quoted.{escaped_pieces}
 use Rattle.granit_model.specs.Lexeme.{Lexeme, LexemeKind, DocumentStart, SequenceOpen, SequenceClose, MappingOpen, MappingClose, Comma, Question, Colon, Tag, Anchor, Alias, Scalar, wants_gap, Bracket, Square, Curly, Opener, opener_char}
@@ -25,11 +25,11 @@ abbrev pub Read : Type 0
 Read = Result (Option Lexeme × ReaderState) Fault
 
 abbrev pub refuse : {Y : Type 0} → FaultKind → Here → Result Y Fault
-refuse kind h = Err (record { kind = kind; mark = mark_of h })
+refuse kind h = Err (fault_at kind (mark_of h))
 
 -- an opener that isn't closed
 abbrev pub unclosed : {Y : Type 0} → Opener → Result Y Fault
-unclosed o = Err (record { kind = UnclosedFlowCollection (opener_char o.bracket); mark = o.mark })
+unclosed o = Err (fault_at (UnclosedFlowCollection (opener_char o.bracket)) o.mark)
 
 -- a lexeme from one place to another, and the brackets that are open behind it
 abbrev pub lexed : LexemeKind → Here → Here → List Opener → Read
@@ -79,10 +79,6 @@ named kind openers h =
 abbrev pub open_kind : Bracket → LexemeKind
 open_kind Square = SequenceOpen
 open_kind Curly = MappingOpen
-
-abbrev pub close_kind : Bracket → LexemeKind
-close_kind Square = SequenceClose
-close_kind Curly = MappingClose
 
 -- an opener, where one more bracket may be open
 unfoldable pub open_bracket : OptionsData → Bracket → List Opener → Here → Read

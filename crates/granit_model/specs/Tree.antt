@@ -88,7 +88,8 @@ IsAnchorName name = (name ≢ []) × AllPass is_anchor_char name
 abbrev pub PropertiesFit : Properties → Type 0
 PropertiesFit p = IfSome p.tag (λ tag. tag ≢ []) × IfSome p.anchor IsAnchorName
 
--- properties fit, and each alias names an anchor that stands before it; those before the tree are `known`, and a collection's own stands before what is in it (7.1)
+-- properties fit, and each alias names an anchor that stands before it; those before the tree are `known`, and a collection's own
+-- stands before what is in it (7.1)
 abbrev mutual
   pub TreeFits : PlainTree → (known : List (List ℕ)) → Type 0
   TreeFits (AliasOf name) known = Contains known name

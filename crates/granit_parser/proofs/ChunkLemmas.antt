@@ -33,9 +33,6 @@ encodes_more xs c after = rw (encodes-append xs (c ∷ []), encodes_one c, appen
 prefix_more : (test : ℕ → Bool) (n passed c : ℕ) (cs : List ℕ) → test c ≡ true → n ≡ passed + prefix_len test (c ∷ cs) → n ≡ suc passed + prefix_len test cs
 prefix_more test n passed c cs held e = let one = rw held at e in omega (arith, one)
 
-pub run_starts : (test : ℕ → Bool) (bytes : List ℕ) → IsInRun test bytes bytes 0
-run_starts test bytes = record { split = refl; left = refl; prefix = omega arith }
-
 pub run_goes : (test : ℕ → Bool) (bytes rest after : List ℕ) (c passed : ℕ) → IsInRun test bytes rest passed → chars rest ≡ c ∷ chars after → rest ≡ encode_utf8 c ++ after → test c ≡ true → IsInRun test bytes after (passed + 1)
 run_goes test bytes rest after c passed run seen spelled held =
     let more = next passed (chars bytes) c (chars after) (sym run.left ∙ seen) in
@@ -50,12 +47,6 @@ prefix_stops test n passed c cs failed e = let none = rw failed at e in omega (a
 
 pub run_stops : (test : ℕ → Bool) (bytes rest after : List ℕ) (c passed : ℕ) → IsInRun test bytes rest passed → chars rest ≡ c ∷ chars after → test c ≡ false → passed ≡ prefix_len test (chars bytes)
 run_stops test bytes rest after c passed run seen failed = prefix_stops test _ passed c (chars after) failed (run.prefix ∙ ap (λ (cs : List ℕ). passed + prefix_len test cs) seen)
-
-pub run_ends : (test : ℕ → Bool) (bytes rest : List ℕ) (passed : ℕ) → IsInRun test bytes rest passed → chars rest ≡ [] → passed ≡ prefix_len test (chars bytes)
-run_ends test bytes rest passed run none = let e = rw none at run.prefix in omega (arith, e)
-
-pub run_bytes : (test : ℕ → Bool) (bytes rest : List ℕ) (passed : ℕ) → IsInRun test bytes rest passed → length bytes ≡ length (encode_utf8_all (take passed (chars bytes))) + length rest
-run_bytes test bytes rest passed run = ap length run.split ∙ length-append (encode_utf8_all (take passed (chars bytes))) rest
 
 pub char_takes : (rest after : List ℕ) (c : ℕ) → rest ≡ encode_utf8 c ++ after → length after + 1 ≤ length rest
 char_takes rest after c spelled = omega (arith, ap length spelled ∙ length-append (encode_utf8 c) after, length-encode c, (len_utf8_bounds c).0)

@@ -1,8 +1,6 @@
 -- One hexadecimal digit after another.
-use Rattle.std.proofs.Common.{◌≡◌, ℕ, suc, ◌+◌, ◌-◌, ◌*◌, ◌<◌, ◌≤◌, ◌^◌, true, false, Ok, refl, ap, ◌∙◌, arith}
-use Rattle.std.proofs.lemmas.Bool.Decides.{nat_tests}
-use Rattle.std.proofs.Math.Nat.{pow-suc, pow-le-pow_right}
-use Rattle.granit_base.specs.Classes.{is_hex, is_digit, hex_value}
+use Rattle.std.proofs.Common.{◌≡◌, ℕ, suc, ◌+◌, ◌-◌, ◌*◌, ◌<◌, ◌≤◌, true, false, Ok, refl, arith}
+use Rattle.granit_base.specs.Classes.{is_hex, hex_value}
 use Rattle.granit_base.specs.Place.{Mark}
 use Rattle.granit_model.specs.Here.{Here, next_char, step}
 use Rattle.granit_model.specs.Quoted.{digits, refuse_at}

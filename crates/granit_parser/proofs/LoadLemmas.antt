@@ -1,6 +1,7 @@
 -- What the laws of the plain machine say of an answer of the code.
 use Rattle.std.proofs.Common.{◌≡◌, ◌≢◌, ◌≤◌, ℕ, List, [], refl, sym, ap, ◌∙◌, subst, Result, Ok, Err, ◌⊎◌, inl, inr}
 use Rattle.std.specs.Prelude.{IfOk, IfErr}
+use Rattle.granit_base.specs.Place.{Mark}
 use Rattle.granit_error.specs.FaultKind.{FaultKind, NoMemory, RecursionLimitExceeded, UnknownAnchor}
 use Rattle.granit_error.specs.OptionsData.{OptionsData}
 use Rattle.granit_error.specs.Refused.{Refused}
@@ -11,14 +12,14 @@ use Rattle.granit_model.specs.FlowText.{flow_characters}
 use Rattle.granit_model.specs.Lexeme.{Lexeme}
 use Rattle.granit_model.specs.Machine.{events_of}
 use Rattle.granit_model.specs.Node.{Documents}
-use Rattle.granit_model.specs.Outcome.{Fault, Fails, GivesValue, fault_of}
+use Rattle.granit_model.specs.Outcome.{Fault, fault_at, Fails, GivesValue}
 use Rattle.granit_model.specs.PlainEvent.{PlainEvent}
 use Rattle.granit_model.specs.Reading.{IsReading, Reading}
 use Rattle.granit_model.specs.Scope.{Resolves}
 use Rattle.granit_model.specs.Tree.{PlainTrees, trees_depth, DocumentsFit}
 use Rattle.granit_model.specs.Yield.{spell_documents}
 use Rattle.granit_canonical.proofs.Laws.{is_read, names_anchors}
-use Rattle.granit_laws.proofs.Laws.{is_reading, is_answered, answered_or_refused, has_cause, IsLimit}
+use Rattle.granit_laws.proofs.Laws.{is_reading, is_answered, answered_or_refused, has_cause, is_refused, IsLimit}
 use Rattle.granit_laws.proofs.Spans.{spans_in}
 
 memory_or_not : (k : FaultKind) → (k ≡ NoMemory) ⊎ (k ≢ NoMemory)
@@ -52,20 +53,30 @@ module _ {V : Type 0} (view : V → List PlainEvent) (o : OptionsData) (x : List
       → (events_of o x ≡ Ok es) ⊎ ((f : Fault) × (events_of o x ≡ Err f) × IsLimit f.kind) → (e.kind ≡ NoMemory) ⊎ IsLimit e.kind
   limit_or_memory e es (inl m) g a = inl m
   limit_or_memory e es (inr n) g (inl a) = let b = g n in cc
-  limit_or_memory e es (inr n) g (inr a) = inr (subst (λ (f : Fault). IsLimit f.kind) (same_fault a.0 (fault_of e) (sym a.1 ∙ g n)) a.2)
+  limit_or_memory e es (inr n) g (inr a) = inr (subst (λ (f : Fault). IsLimit f.kind) (same_fault a.0 e (sym a.1 ∙ g n)) a.2)
 
   pub deeper_of : (r : Result V Refused) → GivesValue view r (events_of o x) → (p : OptionsData) (ls : List Lexeme) (ds : Documents) → Reading p x ls ds
       → IfErr r (λ e. (e.kind ≡ NoMemory) ⊎ (e.kind ≡ RecursionLimitExceeded) ⊎ (e.kind ≡ UnknownAnchor))
   deeper_of (Ok v) g p ls ds a = tt
   deeper_of (Err e) g p ls ds a = limit_or_memory e (events o x ds) (memory_or_not e.kind) g (answered_or_refused o p x ls ds a)
 
-  caused : (e : Refused) → (e.kind ≡ NoMemory) ⊎ (e.kind ≢ NoMemory) → Fails e (events_of o x) → (e.kind ≡ NoMemory) ⊎ Cause o x e.kind e.mark
+  caused : (e : Refused) → (e.kind ≡ NoMemory) ⊎ (e.kind ≢ NoMemory) → Fails e (events_of o x) → (e.kind ≡ NoMemory) ⊎ (Cause o x e.kind e.mark × (e.sources ≡ []))
   caused e (inl m) g = inl m
-  caused e (inr n) g = inr (has_cause o x (fault_of e) (g n))
+  caused e (inr n) g = inr (has_cause o x e (g n))
 
-  pub cause_of : (r : Result V Refused) → GivesValue view r (events_of o x) → IfErr r (λ e. (e.kind ≡ NoMemory) ⊎ Cause o x e.kind e.mark)
+  pub cause_of : (r : Result V Refused) → GivesValue view r (events_of o x) → IfErr r (λ e. (e.kind ≡ NoMemory) ⊎ (Cause o x e.kind e.mark × (e.sources ≡ [])))
   cause_of (Ok v) g = tt
   cause_of (Err e) g = caused e (memory_or_not e.kind) g
+
+  -- with the one cause that the text has
+  caused_so : (kind : FaultKind) (m : Mark) (e : Refused) → (e.kind ≡ NoMemory) ⊎ (e.kind ≢ NoMemory) → Fails e (events_of o x) → Cause o x kind m → (e.kind ≡ NoMemory) ⊎ (e ≡ fault_at kind m)
+  caused_so kind m e (inl h) g c = inl h
+  caused_so kind m e (inr n) g c = inr (same_fault e (fault_at kind m) (sym (g n) ∙ is_refused o x kind m c))
+
+  pub refused_of : (r : Result V Refused) → GivesValue view r (events_of o x) → (kind : FaultKind) (m : Mark) → Cause o x kind m
+      → IfOk r (λ v. ⊥) × IfErr r (λ e. (e.kind ≡ NoMemory) ⊎ (e ≡ fault_at kind m))
+  refused_of (Ok v) g kind m c = let other = is_refused o x kind m c in (cc, tt)
+  refused_of (Err e) g kind m c = (tt, caused_so kind m e (memory_or_not e.kind) g c)
 
   -- with the events of the reading
   answer_of : (r : Result V Refused) → GivesValue view r (events_of o x) → (es : List PlainEvent) → events_of o x ≡ Ok es → IfOk r (λ v. view v ≡ es)

@@ -1,5 +1,5 @@
 -- The bytes that a URI spells, and the text that they are.
-use Rattle.std.proofs.Common.{◌≡◌, ℕ, ◌+◌, ◌*◌, ◌<◌, ◌==◌, Bool, true, false, ◌&&◌, not, List, length, refl, ◌∙◌, arith}
+use Rattle.std.proofs.Common.{◌≡◌, ℕ, ◌+◌, ◌*◌, ◌<◌, ◌==◌, Bool, true, false, ◌&&◌, List, length, refl, arith}
 use Rattle.std.specs.Str.{IsUtf8, is_utf8}
 use Rattle.std.proofs.lemmas.Bool.Decides.{nat_tests}
 use Rattle.std.proofs.lemmas.Str.{IsUtf8-from_is_utf8, is_utf8-from_IsUtf8}
@@ -28,6 +28,3 @@ not_text false bytes is none = refl
 and_false : (a b : Bool) → b ≡ false → (a && b) ≡ false
 and_false true b e = e
 and_false false b e = refl
-
-pub no_suffix : (bytes : List ℕ) → (IsUtf8 bytes → ⊥) → is_suffix bytes ≡ false
-no_suffix bytes none = and_false (not (length bytes == 0)) (is_text bytes) (same_test bytes ∙ not_text (is_utf8 bytes) bytes refl none)

@@ -1,5 +1,5 @@
 //! The stretch of a line that a text may lend.
-ghost use Rattle.std.specs.Prelude.{◌≡◌, ◌+◌, ◌++◌, length, take, drop};
+ghost use Rattle.std.specs.Prelude.{◌≡◌, ◌+◌, length, take, drop};
 ghost use Rattle.std.specs.Str.{chars, encode_utf8_all};
 ghost use Rattle.std.specs.List.{prefix_len};
 ghost use Rattle.granit_parser.specs.Chunks.{class_test};

@@ -1,5 +1,5 @@
 //! Escapes of a double-quoted scalar (YAML 1.2.2, 5.7). What can't be read is refused at the scalar's start.
-ghost use Rattle.std.specs.Prelude.{◌≡◌, ◌++◌, ◌≤◌, IsTrue, OnOk};
+ghost use Rattle.std.specs.Prelude.{◌≤◌, IsTrue};
 ghost use Rattle.std.specs.Str.{chars};
 ghost use Rattle.granit_base.specs.Written.{string_chars};
 ghost use Rattle.granit_error.specs.FaultKind as faults;

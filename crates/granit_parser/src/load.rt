@@ -2,8 +2,9 @@
 ghost use Rattle.std.specs.Prelude.{◌≡◌, ◌≤◌, ◌==◌, ◌⊎◌, List, [], length, slice_get, IfOk, IfErr};
 ghost use Rattle.std.specs.Option.{option_copied};
 ghost use Rattle.std.specs.Str.{chars};
+ghost use Rattle.granit_base.specs.Place.{Mark};
 ghost use Rattle.granit_error.specs.OptionsView.{options_of};
-ghost use Rattle.granit_error.specs.FaultKind.{RecursionLimitExceeded, UnknownAnchor, NoMemory as OutOfMemory};
+ghost use Rattle.granit_error.specs.FaultKind.{FaultKind, RecursionLimitExceeded, UnknownAnchor, NoMemory as OutOfMemory};
 ghost use Rattle.granit_error.specs.OptionsData.{OptionsData};
 ghost use Rattle.granit_model.specs.Canonical.{HasCharacters, canonical_events};
 ghost use Rattle.granit_model.specs.Cause.{Cause};
@@ -14,7 +15,7 @@ ghost use Rattle.granit_model.specs.Machine.{events_of};
 ghost use Rattle.granit_model.specs.Node.{Documents};
 ghost use Rattle.granit_model.specs.Reading.{IsReading, Reading};
 ghost use Rattle.granit_model.specs.Scope.{Resolves};
-ghost use Rattle.granit_model.specs.Outcome.{GivesValue};
+ghost use Rattle.granit_model.specs.Outcome.{GivesValue, fault_at};
 ghost use Rattle.granit_model.specs.Tree.{DocumentsFit, PlainTrees, trees_depth};
 ghost use Rattle.granit_event.specs.Events.{plain_events};
 
@@ -97,8 +98,10 @@ fn load<'a>(alloc: Global, text: &'a str, options: &Options) -> Result<Events<'a
 /// one of the text (`reading`, `spans`); a text with a reading, each alias of which names an anchor
 /// before it in its document or may stay, is answered (`answered`); a text with a reading under
 /// whichever options is refused for its depth or an unknown anchor alone (`deeper`); a fault has its
-/// cause at its mark (`cause`); the canonical flow text of documents that fit, no deeper than allowed,
-/// is answered with their events (`canonical`). `value` says the same as a plain function.
+/// cause at its mark and names no source (`cause`); a text with a cause is refused with it (`refused`);
+/// the canonical flow text of documents that fit, no deeper than allowed, is answered with their events
+/// (`canonical`). Every text has a reading or a cause, one of them, and one alone (laws of granit_laws).
+/// `value` says the same as a plain function.
 ///
 /// # Errors
 ///
@@ -109,7 +112,8 @@ pub fn load_str<'a>(alloc: Global, text: &'a str, options: Options) -> Result<Ev
     ensures spans { IfOk result (λ v. SpansIn (chars text.now) (plain_events v)) }
     ensures answered { (ls : List Lexeme) (ds : Documents) → Reading (options_of options) (chars text.now) ls ds → Resolves (options_of options) [] ls → IfErr result (λ e. e.kind ≡ OutOfMemory) }
     ensures deeper { (p : OptionsData) (ls : List Lexeme) (ds : Documents) → Reading p (chars text.now) ls ds → IfErr result (λ e. (e.kind ≡ OutOfMemory) ⊎ (e.kind ≡ RecursionLimitExceeded) ⊎ (e.kind ≡ UnknownAnchor)) }
-    ensures cause { IfErr result (λ e. (e.kind ≡ OutOfMemory) ⊎ Cause (options_of options) (chars text.now) e.kind e.mark) }
+    ensures cause { IfErr result (λ e. (e.kind ≡ OutOfMemory) ⊎ (Cause (options_of options) (chars text.now) e.kind e.mark × (e.sources ≡ []))) }
+    ensures refused { (kind : FaultKind) (m : Mark) → Cause (options_of options) (chars text.now) kind m → IfOk result (λ v. ⊥) × IfErr result (λ e. (e.kind ≡ OutOfMemory) ⊎ (e ≡ fault_at kind m)) }
     ensures canonical { (ts : PlainTrees) → DocumentsFit ts → HasCharacters ts → trees_depth ts ≤ (options_of options).flow_nesting_limit → chars text.now ≡ flow_characters ts → IfErr result (λ e. e.kind ≡ OutOfMemory) × IfOk result (λ v. plain_events v ≡ canonical_events (options_of options) ts) }
 {
     load(alloc, text, &options)

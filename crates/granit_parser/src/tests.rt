@@ -146,47 +146,48 @@ fn nested_events(rt: &HostRuntime, depth: usize) -> Option<usize> {
     Some(events.into_vec().len())
 }
 
+/// Texts that are refused, with the number of the kind and the index of the mark.
+const REFUSED: &[(&str, u8, usize)] = &[
+    ("--- [\n", 2, 4),
+    ("--- [a]\n", 96, 5),
+    ("--- [\n---\n", 2, 4),
+    ("--- [\"a\"\n", 2, 4),
+    ("--- [[\n", 2, 5),
+    ("--- {? \"a\"}", 96, 10),
+    ("--- \"a", 96, 4),
+    ("---", 96, 3),
+    ("---x", 96, 3),
+    ("--- [}", 96, 5),
+    ("--- {?\"a\" : \"b\"}", 96, 6),
+    ("--- {? \"a\":\"b\"}", 96, 11),
+    ("--- \"a\"\"b\"", 96, 7),
+    ("--- [\"a\",]", 96, 9),
+    ("--- [\n...", 96, 6),
+    ("--- \"a\nb\"", 96, 4),
+    // a tag without `>`, without a character, and of bytes that are no text
+    ("--- !<a", 96, 4),
+    ("--- !<> \"x\"", 96, 4),
+    ("--- !<%ff> \"x\"", 96, 4),
+    ("--- !<a%4> \"x\"", 96, 4),
+    ("--- !a \"x\"", 96, 4),
+    // names without a character, properties that touch a node or stand in the other order
+    ("--- & \"x\"", 96, 4),
+    ("--- &a [* ]", 96, 8),
+    ("--- !<a>\"x\"", 96, 8),
+    ("--- &a\"x\"", 96, 9),
+    ("--- &a !<a> \"x\"", 96, 7),
+    ("--- &a &b \"x\"", 96, 7),
+    ("--- &a [&b *a]", 96, 11),
+    // names that no anchor before them in their document has
+    ("--- &a \"x\"\n--- *a\n", 37, 15),
+    ("--- [*a, &a \"x\"]", 37, 5),
+    ("--- [*b", 37, 5),
+];
+
 #[test]
 fn faults(rt: HostRuntime) {
-    let refused = [
-        ("--- [\n", 2, 4),
-        ("--- [a]\n", 96, 5),
-        ("--- [\n---\n", 2, 4),
-        ("--- [\"a\"\n", 2, 4),
-        ("--- [[\n", 2, 5),
-        ("--- {? \"a\"}", 96, 10),
-        ("--- \"a", 96, 4),
-        ("---", 96, 3),
-        ("---x", 96, 3),
-        ("--- [}", 96, 5),
-        ("--- {?\"a\" : \"b\"}", 96, 6),
-        ("--- {? \"a\":\"b\"}", 96, 11),
-        ("--- \"a\"\"b\"", 96, 7),
-        ("--- [\"a\",]", 96, 9),
-        ("--- [\n...", 96, 6),
-        ("--- \"a\nb\"", 96, 4),
-        // a tag without `>`, without a character, and of bytes that are no text
-        ("--- !<a", 96, 4),
-        ("--- !<> \"x\"", 96, 4),
-        ("--- !<%ff> \"x\"", 96, 4),
-        ("--- !<a%4> \"x\"", 96, 4),
-        ("--- !a \"x\"", 96, 4),
-        // names without a character, properties that touch a node or stand in the other order
-        ("--- & \"x\"", 96, 4),
-        ("--- &a [* ]", 96, 8),
-        ("--- !<a>\"x\"", 96, 8),
-        ("--- &a\"x\"", 96, 9),
-        ("--- &a !<a> \"x\"", 96, 7),
-        ("--- &a &b \"x\"", 96, 7),
-        ("--- &a [&b *a]", 96, 11),
-        // names that no anchor before them in their document has
-        ("--- &a \"x\"\n--- *a\n", 37, 15),
-        ("--- [*a, &a \"x\"]", 37, 5),
-        ("--- [*b", 37, 5),
-    ];
-    for i in 0..31 {
-        let (text, kind, index) = refused[i];
-        assert_eq!(rt; fault(&rt, text), Some((kind, index)));
+    for (text, kind, index) in REFUSED {
+        assert_eq!(rt; fault(&rt, text), Some((*kind, *index)));
     }
     assert_eq!(rt; nested_fault(&rt, 256, 0), Some((5, 259)));
     assert_eq!(rt; nested_events(&rt, 255), Some(514));

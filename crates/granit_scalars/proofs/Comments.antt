@@ -12,10 +12,10 @@ use Rattle.granit_model.specs.Comment.{is_comment_char, behind_comment, skipped_
 use Rattle.granit_model.specs.Gap.{Each}
 use Rattle.granit_model.specs.Here.{Here, text_len, next_char, mark_of, step, chunk}
 use Rattle.granit_model.specs.Moves.{steps}
-use Rattle.granit_model.specs.Outcome.{Fault, ◌>>=◌}
+use Rattle.granit_model.specs.Outcome.{Fault, fault_at, ◌>>=◌}
 use Rattle.granit_model.proofs.HereLemmas.{step_text, not_empty}
 
-none_dropped : (xs : List ℕ) → drop 0 xs ≡ xs
+pub none_dropped : (xs : List ℕ) → drop 0 xs ≡ xs
 none_dropped [] = refl
 none_dropped (x ∷ xs) = refl
 
@@ -91,7 +91,7 @@ strange_of [] held = absurd cc
 strange_of (d ∷ ds) held = (refl, rw (not_empty d ds) at held)
 
 abbrev behind_on : Bool → Here → Result (Unit {0} × Here) Fault
-behind_on b h = if b then Ok (tt, h) else Err (record { kind = UnexpectedCharacter (next_char h); mark = mark_of h })
+behind_on b h = if b then Ok (tt, h) else Err (fault_at (UnexpectedCharacter (next_char h)) (mark_of h))
 
 reads_on : (h after : Here) → Parts h after (chunk is_comment_char (step h)) → (b : Bool) → (text_len after == 0 || is_printable (next_char after)) ≡ b → ReadsComment h (with_text h (behind_on b after))
 reads_on h after p true held = record {

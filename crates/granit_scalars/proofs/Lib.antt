@@ -1,5 +1,6 @@
 pub mod Comments
 pub mod Folding
+pub mod Nameless
 pub mod PlainKept
 pub mod PlainLaw
 pub mod PlainOnce

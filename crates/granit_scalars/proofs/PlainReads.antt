@@ -8,7 +8,7 @@ use Rattle.granit_model.specs.Folding.{folded, break_text}
 use Rattle.granit_model.specs.Gap.{Each}
 use Rattle.granit_model.specs.Here.{Here, next_char, step}
 use Rattle.granit_model.specs.LayoutData.{LayoutData, is_outside}
-use Rattle.granit_model.specs.Outcome.{Fault}
+use Rattle.granit_model.specs.Outcome.{Fault, fault_at}
 use Rattle.granit_model.specs.Pieces.{with_front, pieces}
 use Rattle.granit_model.specs.PlainExtent.{Separation, OnLine, Folded, separation_text, IsSeparation, left_tab, starts_comment, MayFollow, GoesOn, ends, goes_on, EndsPlain, nothing_more, colon, flow_indicator, comment, comment_line, outside_line, tab_line, document_mark, tab_refused, over}
 use Rattle.granit_model.specs.PlainScalar.{PlainState, is_content, is_document_mark, between, on_content, on_blank, on_break, meets_comment, ends_before_line, plain_turn, plain_len, unprintable}
@@ -46,7 +46,7 @@ pub record FindsTab (at : LayoutData) (start : Mark) (behind : Here) (f : Fault)
   pub rest : List ℕ
   pub finds : Finds at behind source tail rest
   pub tabbed : tab_refused at tail rest ≡ true
-  pub fault : f ≡ record { kind = TabInPlainScalar; mark = start }
+  pub fault : f ≡ fault_at TabInPlainScalar start
 
 abbrev pub Reads : LayoutData → Mark → PlainState → Result (List ℕ × PlainState) Fault → Type 0
 Reads at start s (Ok (value, after)) = (g : Separation) (behind : Here) → Stays at g behind s → FindsText at behind value after
@@ -90,7 +90,7 @@ not_left : (a b : Bool) → (a && b) ≡ false → b ≡ true → a ≡ false
 not_left true b e f = cc
 not_left false b e f = refl
 
-not_right : (a b : Bool) → (a && b) ≡ false → a ≡ true → b ≡ false
+pub not_right : (a b : Bool) → (a && b) ≡ false → a ≡ true → b ≡ false
 not_right true b e f = e
 not_right false b e f = cc
 
@@ -233,7 +233,7 @@ line_ends at (Folded breaks indent) s k y =
     (and_parts s.on_new_line (ends_before_line at s.here) y).1)
 
 tab_ends : (at : LayoutData) (start : Mark) (g : Separation) (s : PlainState) (behind : Here) → Stays at g behind s → is_gap (next_char s.here) ≡ false → meets_comment s ≡ false → tab_found s ≡ true
-    → FindsTab at start behind (record { kind = TabInPlainScalar; mark = start })
+    → FindsTab at start behind (fault_at TabInPlainScalar start)
 tab_ends at start (OnLine blanks) s behind h n m t = absurd (let y : s.left_tab ≡ true = (and_parts s.left_tab (not (is_z (next_char s.here))) t).0 in let k = h.kept in let no = k.tab in cc)
 tab_ends at start (Folded breaks indent) s behind h n m t =
     let k = h.kept in

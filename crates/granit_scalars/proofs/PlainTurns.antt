@@ -6,7 +6,7 @@ use Rattle.granit_base.specs.Place.{Mark}
 use Rattle.granit_error.specs.FaultKind.{TabInPlainScalar}
 use Rattle.granit_model.specs.Here.{Here, next_char, step, text_len}
 use Rattle.granit_model.specs.LayoutData.{LayoutData}
-use Rattle.granit_model.specs.Outcome.{Fault}
+use Rattle.granit_model.specs.Outcome.{Fault, fault_at}
 use Rattle.granit_model.specs.Pieces.{Shortens}
 use Rattle.granit_model.specs.PlainScalar.{PlainState, fails_at, past_break, is_content, between, on_content, on_blank, on_break, meets_comment, ends_before_line, plain_turn, plain_len}
 use Rattle.granit_scalars.proofs.PlainSpelling.{no_gap_of}
@@ -24,7 +24,7 @@ pub data Turned (at : LayoutData) (start : Mark) (s : PlainState) : Result (Opti
   past_a_blank : is_blank (next_char s.here) ≡ true → Turned at start s (Ok (Some [], on_blank at s))
   past_a_break : is_break (next_char s.here) ≡ true → Turned at start s (Ok (Some [], on_break s))
   at_a_comment : is_gap (next_char s.here) ≡ false → meets_comment s ≡ true → Turned at start s (Ok (None, s))
-  at_a_tab : is_gap (next_char s.here) ≡ false → meets_comment s ≡ false → tab_found s ≡ true → Turned at start s (Err (record { kind = TabInPlainScalar; mark = start }))
+  at_a_tab : is_gap (next_char s.here) ≡ false → meets_comment s ≡ false → tab_found s ≡ true → Turned at start s (Err (fault_at TabInPlainScalar start))
   at_a_line : is_gap (next_char s.here) ≡ false → tab_found s ≡ false → line_found at s ≡ true → Turned at start s (Ok (None, s))
   past_content : meets_comment s ≡ false → tab_found s ≡ false → line_found at s ≡ false → is_content at.in_flow s.here.unread.text ≡ true
       → Turned at start s (Ok (Some (between s ++ next_char s.here ∷ []), on_content s))

@@ -10,21 +10,18 @@ use Rattle.granit_error.specs.FaultKind.{FaultKind, InvalidQuotedScalarHexEscape
 use Rattle.granit_model.specs.Decoding.{letter_value, digit_count, number_behind, number_of, is_high, is_low, joined, AreDigits, Escape, letter, number, halves}
 use Rattle.granit_model.specs.Gap.{Each}
 use Rattle.granit_model.specs.Here.{Here, next_char, step}
-use Rattle.granit_model.specs.Outcome.{Fault, ◌>>=◌}
+use Rattle.granit_model.specs.Outcome.{Fault, fault_at, ◌>>=◌}
 use Rattle.granit_model.specs.PlainExtent.{over}
 use Rattle.granit_model.specs.PlainScalar.{fails_at}
 use Rattle.granit_scalars.specs.QuotedExtent.{TooFewDigits, WrongEscape, unknown, hex, no_second, second_hex, no_half, alone, no_character}
 use Rattle.granit_scalars.specs.QuotedScalar.{digits_or, joined_or, second_half_or, numbered_or, escape_or_by, escape_or}
 use Rattle.granit_model.proofs.DecodingLemmas.{no_hex_nul, no_letter_nul, no_count_nul, number_letter, u_wants_four, four_digits, half_is_none, begins_second, digit_below}
 use Rattle.granit_model.proofs.HereLemmas.{step_text}
+use Rattle.granit_scalars.proofs.Comments.{none_dropped}
 use Rattle.granit_scalars.proofs.Stepping.{over-append, Seen, seen, seen_as}
 
 pub text_behind : (h : Here) (c : ℕ) (t : List ℕ) → h.unread.text ≡ c ∷ t → (step h).unread.text ≡ t
 text_behind h c t e = step_text h ∙ ap (drop 1) e ∙ none_dropped t
-  where
-    none_dropped : (xs : List ℕ) → drop 0 xs ≡ xs
-    none_dropped [] = refl
-    none_dropped (x ∷ xs) = refl
 
 -- ---- which numbers stand for no character
 
@@ -82,7 +79,7 @@ pub record DigitsRead (count n value : ℕ) (h after : Here) : Type 0 where
 
 abbrev ReadsDigits : FaultKind → Mark → ℕ → ℕ → Here → Result (ℕ × Here) Fault → Type 0
 ReadsDigits kind start count n h (Ok (value, after)) = DigitsRead count n value h after
-ReadsDigits kind start count n h (Err f) = (f ≡ record { kind = kind; mark = start }) × TooFewDigits count h.unread.text
+ReadsDigits kind start count n h (Err f) = (f ≡ fault_at kind start) × TooFewDigits count h.unread.text
 
 one_digit : (kind : FaultKind) (start : Mark) (count n : ℕ) (h : Here) (b : Bool) → is_hex (next_char h) ≡ b → (r : Result (ℕ × Here) Fault) → ReadsDigits kind start count (n * 16 + hex_value (next_char h)) (step h) r
     → ReadsDigits kind start (suc count) n h (if b then r else fails_at kind start)
@@ -283,12 +280,9 @@ digits_are kind start (d ∷ ds) t n h e y =
 counted : (kind : FaultKind) (start : Mark) (count : ℕ) (ds t : List ℕ) (h : Here) → h.unread.text ≡ ds ++ t → AreDigits count ds → digits_or kind start count 0 h ≡ Ok (number_of ds, over ds h)
 counted kind start count ds t h e a = ap (λ m. digits_or kind start m 0 h) (sym a.counted) ∙ digits_are kind start ds t 0 h e a.each
 
-text_past : (cs t : List ℕ) (h : Here) → h.unread.text ≡ cs ++ t → (over cs h).unread.text ≡ t
-text_past [] t h e = e
-text_past (c ∷ cs) t h e = text_past cs t (step h) (text_behind h c (cs ++ t) e)
-
 pub over_text : (cs t : List ℕ) (h : Here) → h.unread.text ≡ cs ++ t → (over cs h).unread.text ≡ t
-over_text = text_past
+over_text [] t h e = e
+over_text (c ∷ cs) t h e = over_text cs t (step h) (text_behind h c (cs ++ t) e)
 
 second_is : (start : Mark) (high : ℕ) (low t : List ℕ) (h : Here) → h.unread.text ≡ 0x5C ∷ 0x75 ∷ (low ++ t) → AreDigits 4 low → is_low (number_of low) ≡ true → second_half_or start high h ≡ Ok (joined high (number_of low), over (0x5C ∷ 0x75 ∷ low) h)
 unfolding second_half_or
@@ -317,18 +311,15 @@ by_digits start h l count ds t e y a =
     ∙ ap (λ r. r >>= λ x. numbered_or start count x.0 x.1) (counted InvalidQuotedScalarHexEscape start count ds t (step h) (text_behind h l (ds ++ t) e) a)
 
 -- an escape that stands there is read
-escape_there : (start : Mark) (e : List ℕ) (c : ℕ) (t : List ℕ) (h : Here) → Escape e c → h.unread.text ≡ e ++ t → escape_or start (step h) ≡ Ok (c, over e h)
-escape_there start e c t h (letter {l = l} y) is =
+pub escape_is : (start : Mark) (e : List ℕ) (c : ℕ) (t : List ℕ) (h : Here) → Escape e c → h.unread.text ≡ e ++ t → escape_or start (step h) ≡ Ok (c, over e h)
+escape_is start e c t h (letter {l = l} y) is =
     by_letter start (step h) c (ap (λ (s : List ℕ). letter_value (first s)) (text_behind h 0x5C (l ∷ t) is) ∙ y)
-escape_there start e c t h (number {l = l} {count = count} {digits = ds} y a v) is =
+escape_is start e c t h (number {l = l} {count = count} {digits = ds} y a v) is =
     by_digits start (step h) l count ds t (text_behind h 0x5C (l ∷ (ds ++ t)) is) y a ∙ numbered_is start count (number_of ds) (over ds (step (step h))) v
-escape_there start e c t h (halves {high = high} {low = low} a p b q) is =
+escape_is start e c t h (halves {high = high} {low = low} a p b q) is =
     let there : h.unread.text ≡ 0x5C ∷ 0x75 ∷ (high ++ (0x5C ∷ 0x75 ∷ (low ++ t))) = is ∙ ap (λ (s : List ℕ). 0x5C ∷ 0x75 ∷ s) (append_assoc high (0x5C ∷ 0x75 ∷ low) t) in
     let letter_on = text_behind h 0x5C (0x75 ∷ (high ++ (0x5C ∷ 0x75 ∷ (low ++ t)))) there in
     by_digits start (step h) 0x75 4 high (0x5C ∷ 0x75 ∷ (low ++ t)) letter_on u_wants_four a
     ∙ numbered_half start (number_of high) (over high (step (step h))) p
-    ∙ second_is start (number_of high) low t (over high (step (step h))) (text_past high (0x5C ∷ 0x75 ∷ (low ++ t)) (step (step h)) (text_behind (step h) 0x75 (high ++ (0x5C ∷ 0x75 ∷ (low ++ t))) letter_on)) b q
+    ∙ second_is start (number_of high) low t (over high (step (step h))) (over_text high (0x5C ∷ 0x75 ∷ (low ++ t)) (step (step h)) (text_behind (step h) 0x75 (high ++ (0x5C ∷ 0x75 ∷ (low ++ t))) letter_on)) b q
     ∙ ap (λ g. Ok (joined (number_of high) (number_of low), g)) (sym (over-append high (0x5C ∷ 0x75 ∷ low) (step (step h))))
-
-pub escape_is : (start : Mark) (e : List ℕ) (c : ℕ) (t : List ℕ) (h : Here) → Escape e c → h.unread.text ≡ e ++ t → escape_or start (step h) ≡ Ok (c, over e h)
-escape_is = escape_there

@@ -9,7 +9,6 @@ use Rattle.granit_model.specs.Gap.{Each}
 use Rattle.granit_model.specs.Here.{Here}
 use Rattle.granit_model.specs.LayoutData.{LayoutData}
 use Rattle.granit_scalars.specs.QuotedExtent.{OneBreak, line_feed, pair, carriage_return, NewLine, no_more, blank, break, Between, Blanks, Lines, Separates, on_line, folded as folded_gap, between_text, is_literal, is_simple, Piece, itself, doubled, escape, before_break, Inside, nothing, content, QuotedStands, quoted_value}
-use Rattle.granit_scalars.specs.QuotedScalar.{quote_char}
 use Rattle.granit_scalars.proofs.Folding.{folded_behind, IsBreak, blank_apart_from_break, in_first_line, folds_blanks, folds_break, folds_behind_blank, folds_behind_break, folds_behind_content}
 use Rattle.granit_scalars.proofs.PlainReads.{neither_gap}
 
@@ -85,10 +84,6 @@ each_behind : (test : ℕ → Bool) (front text : List ℕ) → Each test (front
 each_behind test [] text e = e
 each_behind test (c ∷ front) text e = each_behind test front text e.1
 
-quote_not_simple : (single : Bool) → is_simple single (quote_char single) ≡ false
-quote_not_simple true = refl
-quote_not_simple false = refl
-
 no_backslash : {e : List ℕ} {c : ℕ} → Escape e c → (cs : List ℕ) → Each (is_simple false) (e ++ cs) → ⊥
 no_backslash (letter y) cs s = let k = s.0 in cc
 no_backslash (number y a v) cs s = let k = s.0 in cc
@@ -134,10 +129,6 @@ inside_folds {single} {at} (content {behind = behind} {gap = gap} {piece = piece
           ∙ sym (ap (λ (t : List ℕ). t ++ between_text false x) (v ∙ ap₂ (λ b (t : List ℕ). between_text b y ++ (t ++ more)) e one.value) ∙ append_assoc (between_text false y) (c ∷ more) (between_text false x)),
       rest.1,
     )
-
-no_line_feed_quote : (single : Bool) (text : List ℕ) → first text ≡ quote_char single → (first text == 0x0A) ≡ false
-no_line_feed_quote true text e = ap (λ c. c == 0x0A) e
-no_line_feed_quote false text e = ap (λ c. c == 0x0A) e
 
 each_front : (test : ℕ → Bool) (front text : List ℕ) → Each test (front ++ text) → Each test front
 each_front test [] text e = tt

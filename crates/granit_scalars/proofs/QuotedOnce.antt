@@ -4,17 +4,17 @@ use Rattle.std.proofs.lemmas.List.{append_cancel_right}
 use Rattle.granit_model.specs.Here.{Here, mark_of, step}
 use Rattle.granit_model.specs.LayoutData.{LayoutData}
 use Rattle.granit_model.specs.Outcome.{Fault, ◌>>=◌}
-use Rattle.granit_model.specs.Pieces.{with_front, pieces}
+use Rattle.granit_model.specs.Pieces.{with_front}
 use Rattle.granit_model.specs.PlainExtent.{over}
 use Rattle.granit_scalars.specs.QuotedExtent.{Between, QuotedStands, quoted_end, quoted_value, AnswersQuoted}
-use Rattle.granit_scalars.specs.QuotedScalar.{QuotedState, QuotedRead, quote_char, between_quoted, quoted_at, quoted_turn, quoted_len, quoted_tail, quoted_scalar}
+use Rattle.granit_scalars.specs.QuotedScalar.{QuotedState, QuotedRead, quote_char, between_quoted, quoted_at, quoted_tail, quoted_scalar, quoted_rest}
 use Rattle.granit_scalars.proofs.QuotedEscapes.{text_behind, over_text}
 use Rattle.granit_scalars.proofs.QuotedRuns.{inside_runs, closes}
 use Rattle.granit_scalars.proofs.QuotedTail.{tail_answers}
 use Rattle.granit_scalars.proofs.Stepping.{over-append}
 
 abbrev run : Bool → LayoutData → Here → Result (List ℕ × QuotedState) Fault
-run single at h = pieces quoted_len (quoted_turn single at (mark_of h)) (quoted_at false (step h))
+run single at h = quoted_rest single at (mark_of h) (quoted_at false (step h))
 
 -- what is read between the quotes
 record Body (single : Bool) (at : LayoutData) (h : Here) (source value gap : List ℕ) (left : Bool) (x : Between) (rest : List ℕ) : Type 0 where

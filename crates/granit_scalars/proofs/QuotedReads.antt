@@ -8,13 +8,14 @@ use Rattle.granit_base.specs.Place.{Mark, first}
 use Rattle.granit_error.specs.FaultKind.{InvalidIndentation, UnclosedQuotedScalar, DocumentIndicatorInQuotedScalar, TabInIndentation, InvalidQuotedScalarIndent, UnexpectedCharacter}
 use Rattle.granit_model.specs.Here.{Here, next_char, mark_of, step, text_len}
 use Rattle.granit_model.specs.LayoutData.{LayoutData, is_left}
-use Rattle.granit_model.specs.Outcome.{Fault, ◌>>=◌}
+use Rattle.granit_model.specs.Outcome.{Fault, fault_at, ◌>>=◌}
 use Rattle.granit_model.specs.Pieces.{with_front, pieces}
 use Rattle.granit_model.specs.PlainExtent.{over}
 use Rattle.granit_model.specs.PlainScalar.{is_document_mark}
 use Rattle.granit_scalars.specs.QuotedExtent.{Between, Blanks, Lines, Separates, between_text, is_literal, Piece, itself, doubled, escape as escape_piece, before_break, may_be_left, MayStand, Inside, nothing, content, quoted_value, WrongInside, tab, strict, loose, mark, end, character, escape}
 use Rattle.granit_scalars.specs.QuotedScalar.{QuotedState, quote_char, is_closing, is_tab_left, is_strictly_left, is_loosely_left, between_quoted, quoted_at, over_blank, over_break, quoted_piece, quoted_content, quoted_turn, quoted_len, escape_or}
 use Rattle.granit_model.proofs.HereLemmas.{not_empty}
+use Rattle.granit_scalars.proofs.PlainReads.{not_right}
 use Rattle.granit_scalars.proofs.QuotedEscapes.{ReadsEscape, reads_escape}
 use Rattle.granit_scalars.proofs.QuotedKept.{StateIs, QuotedStays, quoted_fresh, between_is, QuotedGoes, quoted_blank, quoted_break}
 use Rattle.granit_scalars.proofs.QuotedTurns.{closing_is, tab_meets, strict_meets, loose_meets, mark_meets, Placed, QuotedTurned, past_a_blank, at_a_tab, past_a_break, at_strict, at_loose, at_a_mark, at_the_end, at_a_character, at_the_quote, in_content, quoted_turned, ContentTurned, at_a_doubled, at_itself, at_escaped_break, at_an_escape, content_turned, seen_there, quoted_shortens}
@@ -71,10 +72,6 @@ record Taken (single : Bool) (h : Here) (piece taken : List ℕ) (escapes : Bool
   is : Piece single piece after.unread.text taken escapes
   lands : after ≡ over piece h
 
-line_false : (line test : Bool) → (line && test) ≡ false → line ≡ true → test ≡ false
-line_false true test e y = e
-line_false false test e y = cc
-
 both_no : (s f left closing : Bool) → ((s && f) && left) ≡ false → ((not f && (s || not closing)) && left) ≡ false → (left && not (not s && (f || closing))) ≡ false
 both_no s f false closing p q = refl
 both_no true true true closing p q = absurd cc
@@ -91,9 +88,9 @@ pub may_stand : (single : Bool) (at : LayoutData) (x : Between) (s : QuotedState
 may_stand single at (Blanks blanks) s k p = tt
 may_stand single at (Lines empty column) s k p = (
   not_left single at s.escaped column s.here.unread.text
-      (ap (is_strictly_left at s.escaped) (sym k.2) ∙ line_false s.on_new_line (is_strictly_left at s.escaped s.here.place.column) p.no_strict k.1)
-      (ap (is_loosely_left at s.escaped (is_closing single s.here.unread.text)) (sym k.2) ∙ line_false s.on_new_line (is_loosely_left at s.escaped (is_closing single s.here.unread.text) s.here.place.column) p.no_loose k.1),
-  ap (λ n. n == 0 && is_document_mark s.here.unread.text) (sym k.2) ∙ line_false s.on_new_line (s.here.place.column == 0 && is_document_mark s.here.unread.text) p.no_mark k.1,
+      (ap (is_strictly_left at s.escaped) (sym k.2) ∙ not_right s.on_new_line (is_strictly_left at s.escaped s.here.place.column) p.no_strict k.1)
+      (ap (is_loosely_left at s.escaped (is_closing single s.here.unread.text)) (sym k.2) ∙ not_right s.on_new_line (is_loosely_left at s.escaped (is_closing single s.here.unread.text) s.here.place.column) p.no_loose k.1),
+  ap (λ n. n == 0 && is_document_mark s.here.unread.text) (sym k.2) ∙ not_right s.on_new_line (s.here.place.column == 0 && is_document_mark s.here.unread.text) p.no_mark k.1,
 )
 
 inside_on : (single : Bool) (at : LayoutData) (s : QuotedState) (piece taken : List ℕ) (escapes : Bool) (after : Here) → Taken single s.here piece taken escapes after → Placed single at s
@@ -313,13 +310,13 @@ stopped single at start s p c = λ gap x behind h. record {
 
 reads_turn : (single : Bool) (at : LayoutData) (start : Mark) (s : QuotedState) (r : Result (Option (List ℕ) × QuotedState) Fault) → QuotedTurned single at start s r → Carries (QuotedReads single at start) s r
 reads_turn single at start s r (past_a_blank y t) = lengthens single at start s (over_blank s) (λ gap x behind h. quoted_blank at gap x behind s y t h)
-reads_turn single at start s r (at_a_tab y) = wrong_at single at start s (record { kind = TabInIndentation; mark = mark_of s.here }) (wrong_tab single at start s y)
+reads_turn single at start s r (at_a_tab y) = wrong_at single at start s (fault_at TabInIndentation (mark_of s.here)) (wrong_tab single at start s y)
 reads_turn single at start s r (past_a_break y) = lengthens single at start s (over_break s) (λ gap x behind h. quoted_break at gap x behind s y h)
-reads_turn single at start s r (at_strict n y) = wrong_at single at start s (record { kind = InvalidIndentation; mark = mark_of s.here }) (wrong_strict single at start s n y)
-reads_turn single at start s r (at_loose n y) = wrong_at single at start s (record { kind = InvalidQuotedScalarIndent; mark = mark_of s.here }) (wrong_loose single at start s n y)
-reads_turn single at start s r (at_a_mark y) = wrong_at single at start s (record { kind = DocumentIndicatorInQuotedScalar; mark = start }) (wrong_mark single at start s y)
-reads_turn single at start s r (at_the_end y) = wrong_at single at start s (record { kind = UnclosedQuotedScalar; mark = start }) (λ x k. wrong_end single at start s y x)
-reads_turn single at start s r (at_a_character n y) = wrong_at single at start s (record { kind = UnexpectedCharacter (next_char s.here); mark = mark_of s.here }) (λ x k. wrong_character single at start s n y x)
+reads_turn single at start s r (at_strict n y) = wrong_at single at start s (fault_at InvalidIndentation (mark_of s.here)) (wrong_strict single at start s n y)
+reads_turn single at start s r (at_loose n y) = wrong_at single at start s (fault_at InvalidQuotedScalarIndent (mark_of s.here)) (wrong_loose single at start s n y)
+reads_turn single at start s r (at_a_mark y) = wrong_at single at start s (fault_at DocumentIndicatorInQuotedScalar start) (wrong_mark single at start s y)
+reads_turn single at start s r (at_the_end y) = wrong_at single at start s (fault_at UnclosedQuotedScalar start) (λ x k. wrong_end single at start s y x)
+reads_turn single at start s r (at_a_character n y) = wrong_at single at start s (fault_at (UnexpectedCharacter (next_char s.here)) (mark_of s.here)) (λ x k. wrong_character single at start s n y x)
 reads_turn single at start s r (at_the_quote p y) = stopped single at start s p y
 reads_turn single at start s r (in_content p n pr c) = content_reads single at start s p n pr c (quoted_content single start s) (content_turned single start s)
 

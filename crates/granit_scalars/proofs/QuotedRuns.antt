@@ -1,20 +1,21 @@
 -- A quoted scalar that stands somewhere is read.
-use Rattle.std.proofs.Common.{◌≡◌, ℕ, suc, ◌+◌, ◌==◌, Bool, true, false, cond, not, ◌&&◌, ◌||◌, List, [], ◌∷◌, ◌++◌, length, Some, None, Result, Ok, refl, sym, ap, ap₂, ◌∙◌, subst, arith, append_assoc, append-nil, add-zero}
+use Rattle.std.proofs.Common.{◌≡◌, ℕ, suc, ◌+◌, ◌==◌, Bool, true, false, cond, not, ◌&&◌, ◌||◌, List, [], ◌∷◌, ◌++◌, length, Some, None, Ok, refl, sym, ap, ap₂, ◌∙◌, subst, arith, append_assoc, append-nil, add-zero}
 use Rattle.std.specs.Prelude.{slice_index, if◌then◌else◌}
 use Rattle.std.proofs.lemmas.Bool.{and_parts}
 use Rattle.std.proofs.lemmas.Bool.Decides.{nat_tests}
+use Rattle.std.proofs.lemmas.Bool.{and_left}
 use Rattle.granit_base.specs.Classes.{is_blank, is_break, is_gap, is_printable}
 use Rattle.granit_base.specs.Place.{Mark, first}
 use Rattle.granit_model.specs.Decoding.{letter_value, digit_count, Escape, letter, number, halves}
 use Rattle.granit_model.specs.Gap.{Each}
 use Rattle.granit_model.specs.Here.{Here, next_char, step, text_len}
 use Rattle.granit_model.specs.LayoutData.{LayoutData, is_left}
-use Rattle.granit_model.specs.Outcome.{Fault, ◌>>=◌}
-use Rattle.granit_model.specs.Pieces.{with_front, pieces}
+use Rattle.granit_model.specs.Outcome.{◌>>=◌}
+use Rattle.granit_model.specs.Pieces.{with_front}
 use Rattle.granit_model.specs.PlainExtent.{over}
 use Rattle.granit_model.specs.PlainScalar.{past_break, is_document_mark}
 use Rattle.granit_scalars.specs.QuotedExtent.{OneBreak, line_feed, pair, carriage_return, NewLine, no_more, blank, break, Between, Blanks, Lines, Separates, on_line, folded, between_text, is_literal, Piece, itself, doubled, escape, before_break, may_be_left, MayStand, Inside, nothing, content}
-use Rattle.granit_scalars.specs.QuotedScalar.{QuotedState, quote_char, is_closing, is_tab_left, is_strictly_left, is_loosely_left, between_quoted, quoted_at, over_blank, over_break, quoted_piece, quoted_content, quoted_turn, quoted_len, escape_or}
+use Rattle.granit_scalars.specs.QuotedScalar.{QuotedState, quote_char, is_closing, is_tab_left, is_strictly_left, is_loosely_left, between_quoted, quoted_at, over_blank, over_break, quoted_piece, quoted_content, quoted_turn, quoted_len, escape_or, quoted_rest}
 use Rattle.granit_model.proofs.HereLemmas.{not_empty}
 use Rattle.granit_model.proofs.PieceLemmas.{with_front-nil, with_front-with_front, pieces_more, pieces_done}
 use Rattle.granit_scalars.proofs.Folding.{blank_apart_from_break}
@@ -24,9 +25,6 @@ use Rattle.granit_scalars.proofs.QuotedEscapes.{text_behind, over_text, escape_i
 use Rattle.granit_scalars.proofs.QuotedKept.{StateIs, between_is, is_line_blank, is_indent_blank, is_first_break, is_further_break}
 use Rattle.granit_scalars.proofs.QuotedTurns.{closing_is, tab_meets, strict_meets, loose_meets, mark_meets, Placed, turn_chain, turn_is, quoted_shortens}
 use Rattle.granit_scalars.proofs.Stepping.{over-append, seen_as, column_on, broken}
-
-abbrev run : Bool → LayoutData → Mark → QuotedState → Result (List ℕ × QuotedState) Fault
-run single at start s = pieces quoted_len (quoted_turn single at start) s
 
 -- ---- a turn over a blank, and over a break
 
@@ -44,16 +42,16 @@ break_turn single at start s y =
     turn_is single at start s
     ∙ ap₂ (λ a b. turn_chain single start s a (tab_meets at s) b (strict_meets at s) (loose_meets single at s) (mark_meets s) (text_len s.here == 0) (is_printable (next_char s.here)) (is_closing single s.here.unread.text)) (no_blank_break (next_char s.here) y) y
 
-onward : (single : Bool) (at : LayoutData) (start : Mark) (s after last : QuotedState) → quoted_turn single at start s ≡ Ok (Some [], after) → after ≡ last → run single at start s ≡ run single at start last
+onward : (single : Bool) (at : LayoutData) (start : Mark) (s after last : QuotedState) → quoted_turn single at start s ≡ Ok (Some [], after) → after ≡ last → quoted_rest single at start s ≡ quoted_rest single at start last
 onward single at start s after last e f =
-    pieces_more quoted_len (quoted_turn single at start) (quoted_shortens single at start) s after [] e ∙ with_front-nil (run single at start after) ∙ ap (run single at start) f
+    pieces_more quoted_len (quoted_turn single at start) (quoted_shortens single at start) s after [] e ∙ with_front-nil (quoted_rest single at start after) ∙ ap (quoted_rest single at start) f
 
 -- ---- over blanks and breaks
 
 -- where reading stands behind so much
 record RunsTo (single : Bool) (at : LayoutData) (start : Mark) (s : QuotedState) (gap : List ℕ) (x : Between) : Type 0 where
   after : QuotedState
-  same : run single at start s ≡ run single at start after
+  same : quoted_rest single at start s ≡ quoted_rest single at start after
   here : after.here ≡ over gap s.here
   state : StateIs x after
   escaped : after.escaped ≡ s.escaped
@@ -111,15 +109,11 @@ newline_runs single at start {last = last} (break {text = text} {behind = behind
 
 record RunsOver (single : Bool) (at : LayoutData) (start : Mark) (s : QuotedState) (blanks : List ℕ) : Type 0 where
   after : QuotedState
-  same : run single at start s ≡ run single at start after
+  same : quoted_rest single at start s ≡ quoted_rest single at start after
   here : after.here ≡ over blanks s.here
   pending : after.pending ≡ s.pending ++ blanks
   line : after.on_new_line ≡ false
   escaped : after.escaped ≡ s.escaped
-
-no_line_tab : (line test : Bool) → line ≡ false → (line && test) ≡ false
-no_line_tab true test e = cc
-no_line_tab false test e = refl
 
 line_runs : (single : Bool) (at : LayoutData) (start : Mark) (blanks behind : List ℕ) (s : QuotedState) → Each is_blank blanks → s.on_new_line ≡ false → s.here.unread.text ≡ blanks ++ behind → RunsOver single at start s blanks
 line_runs single at start [] behind s y n e = record { after = s; same = refl; here = refl; pending = sym (append-nil s.pending); line = n; escaped = refl }
@@ -130,7 +124,7 @@ line_runs single at start (b ∷ blanks) behind s y n e =
     let r = line_runs single at start blanks behind after y.1 n (text_behind s.here b (blanks ++ behind) e) in
     record {
       after = r.after;
-      same = onward single at start s (over_blank s) after (blank_turn single at start s is_one (no_line_tab s.on_new_line (next_char s.here == 0x09 && is_tab_left at s.here.place.column) n)) (is_line_blank s n) ∙ r.same;
+      same = onward single at start s (over_blank s) after (blank_turn single at start s is_one (and_left s.on_new_line (next_char s.here == 0x09 && is_tab_left at s.here.place.column) n)) (is_line_blank s n) ∙ r.same;
       here = r.here;
       pending = r.pending ∙ append_assoc s.pending (next_char s.here ∷ []) blanks ∙ ap (λ c. s.pending ++ c ∷ blanks) next;
       line = r.line;
@@ -160,7 +154,7 @@ gap_runs single at start escaped h {behind = behind} (folded {text = text} {empt
     let after : QuotedState = record s { here = past_break s.here; pending = []; on_new_line = true } in
     let lands = past_one one s.here there in
     let q = newline_runs single at start more after 0 (refl, refl, (broken s.here is_one).column) (text_on brk (text ++ behind) s.here (past_break s.here) lands there) in
-    let turned : run single at start s ≡ run single at start after = onward single at start s (over_break s) after (break_turn single at start s is_one) (is_first_break s r.line) in
+    let turned : quoted_rest single at start s ≡ quoted_rest single at start after = onward single at start s (over_break s) after (break_turn single at start s is_one) (is_first_break s r.line) in
     record {
       after = q.after;
       same = r.same ∙ turned ∙ q.same;
@@ -264,10 +258,6 @@ not_doubled : (single : Bool) (c : ℕ) → (c == quote_char single) ≡ false �
 not_doubled true c e = e
 not_doubled false c e = refl
 
-and_no : (a b : Bool) → a ≡ false → (a && b) ≡ false
-and_no true b e = cc
-and_no false b e = refl
-
 begins_with : (c : ℕ) (t text : List ℕ) → text ≡ c ∷ t → is_gap c ≡ false → is_printable c ≡ true → Begins text
 begins_with c t text e n p = record { no_gap = ap (λ (l : List ℕ). is_gap (first l)) e ∙ n; some = ap (λ (l : List ℕ). length l == 0) e ∙ not_empty c t; prints = ap (λ (l : List ℕ). is_printable (first l)) e ∙ p }
 
@@ -322,7 +312,7 @@ takes single start s piece behind taken escapes (itself {c = c} y) e =
     let no_quote : (next_char s.here == quote_char single) ≡ false = ap (λ k. k == quote_char single) next ∙ l.no_quote in
     record {
       begins = begins_with c behind s.here.unread.text e l.no_gap l.prints;
-      open_one = closing_is single s.here.unread.text ∙ and_no (next_char s.here == quote_char single) (not (single && slice_index s.here.unread.text 1 == 0x27)) no_quote;
+      open_one = closing_is single s.here.unread.text ∙ and_left (next_char s.here == quote_char single) (not (single && slice_index s.here.unread.text 1 == 0x27)) no_quote;
       taken_is = content_chain single start s false true (is_break (slice_index s.here.unread.text 1)) (not_doubled single (next_char s.here) no_quote) (ap (λ k. single || not (k == 0x5C)) next ∙ l.no_escape) refl
           ∙ ap (λ k. Ok (Some (between_quoted s ++ k ∷ []), quoted_at false (step s.here))) next;
     }
@@ -353,7 +343,7 @@ takes false start s piece behind taken escapes (before_break y) e =
 -- over one piece of content, and what stands before it
 piece_runs : (single : Bool) (at : LayoutData) (start : Mark) (escaped : Bool) (h : Here) {gap piece behind taken : List ℕ} {escapes : Bool} {x : Between} → h.unread.text ≡ gap ++ (piece ++ behind)
     → Separates at gap (piece ++ behind) x → Piece single piece behind taken escapes → MayStand single at escaped x (piece ++ behind)
-    → run single at start (quoted_at escaped h) ≡ with_front (between_text escaped x ++ taken) (run single at start (quoted_at escapes (over (gap ++ piece) h)))
+    → quoted_rest single at start (quoted_at escaped h) ≡ with_front (between_text escaped x ++ taken) (quoted_rest single at start (quoted_at escapes (over (gap ++ piece) h)))
 piece_runs single at start escaped h {gap} {piece} {behind} {taken} {escapes} {x} e p q m =
     let r = gap_runs single at start escaped h p e in
     let s = r.after in
@@ -364,19 +354,19 @@ piece_runs single at start escaped h {gap} {piece} {behind} {taken} {escapes} {x
     turn_at single at start x s r.state stand t.begins ∙ ap (λ c. cond c (Ok (None, s)) (quoted_content single start s)) t.open_one ∙ t.taken_is in
     r.same
     ∙ pieces_more quoted_len (quoted_turn single at start) (quoted_shortens single at start) s (quoted_at escapes (over piece s.here)) (between_quoted s ++ taken) turn
-    ∙ ap₂ (λ (f : List ℕ) (g : Here). with_front (f ++ taken) (run single at start (quoted_at escapes g)))
+    ∙ ap₂ (λ (f : List ℕ) (g : Here). with_front (f ++ taken) (quoted_rest single at start (quoted_at escapes g)))
     (between_is x s r.state ∙ ap (λ b. between_text b x) r.escaped) (ap (over piece) r.here ∙ sym (over-append gap piece h))
 
 pub inside_runs : (single : Bool) (at : LayoutData) (start : Mark) {escaped left : Bool} {source behind value : List ℕ} → Inside single at escaped source behind value left → (h : Here) → h.unread.text ≡ source ++ behind
-    → run single at start (quoted_at escaped h) ≡ with_front value (run single at start (quoted_at left (over source h)))
-inside_runs single at start {escaped} nothing h e = sym (with_front-nil (run single at start (quoted_at escaped h)))
+    → quoted_rest single at start (quoted_at escaped h) ≡ with_front value (quoted_rest single at start (quoted_at left (over source h)))
+inside_runs single at start {escaped} nothing h e = sym (with_front-nil (quoted_rest single at start (quoted_at escaped h)))
 inside_runs single at start {escaped} {left} (content {escapes = escapes} {source = source} {behind = behind} {value = value} {gap = gap} {piece = piece} {cs = cs} {taken = taken} {more = more} x s v p q m on) h e =
     let whole : h.unread.text ≡ gap ++ (piece ++ (cs ++ behind)) = e ∙ ap (λ (t : List ℕ). t ++ behind) s ∙ append_assoc gap (piece ++ cs) behind ∙ ap (λ (t : List ℕ). gap ++ t) (append_assoc piece cs behind) in
     let joined : h.unread.text ≡ (gap ++ piece) ++ (cs ++ behind) = whole ∙ sym (append_assoc gap piece (cs ++ behind)) in
-    let last = run single at start (quoted_at left (over source h)) in
+    let last = quoted_rest single at start (quoted_at left (over source h)) in
     let lands : over cs (over (gap ++ piece) h) ≡ over source h = sym (over-append (gap ++ piece) cs h) ∙ ap (λ (t : List ℕ). over t h) (append_assoc gap piece cs ∙ sym s) in
     piece_runs single at start escaped h whole p q m
-    ∙ ap (with_front (between_text escaped x ++ taken)) (inside_runs single at start on (over (gap ++ piece) h) (over_text (gap ++ piece) (cs ++ behind) h joined) ∙ ap (λ (g : Here). with_front more (run single at start (quoted_at left g))) lands)
+    ∙ ap (with_front (between_text escaped x ++ taken)) (inside_runs single at start on (over (gap ++ piece) h) (over_text (gap ++ piece) (cs ++ behind) h joined) ∙ ap (λ (g : Here). with_front more (quoted_rest single at start (quoted_at left g))) lands)
     ∙ with_front-with_front (between_text escaped x ++ taken) more last
     ∙ ap (λ (t : List ℕ). with_front t last) (append_assoc (between_text escaped x) taken more ∙ sym v)
 
@@ -385,7 +375,7 @@ inside_runs single at start {escaped} {left} (content {escapes = escapes} {sourc
 -- where reading stands at the closing quote
 pub record RunsUp (single : Bool) (at : LayoutData) (start : Mark) (left : Bool) (h : Here) (gap : List ℕ) (x : Between) : Type 0 where
   pub after : QuotedState
-  pub gives : run single at start (quoted_at left h) ≡ Ok ([], after)
+  pub gives : quoted_rest single at start (quoted_at left h) ≡ Ok ([], after)
   pub here : after.here ≡ over gap h
   pub between : between_quoted after ≡ between_text left x
 

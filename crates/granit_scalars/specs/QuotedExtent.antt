@@ -71,7 +71,8 @@ pub data Piece : (single : Bool) → (piece behind value : List ℕ) → (escape
   escape : {c : ℕ} {e behind : List ℕ} → Escape e c → Piece false e behind (c ∷ []) false
   before_break : {behind : List ℕ} → is_break (first behind) ≡ true → Piece false (0x5C ∷ []) behind [] true
 
--- whether content, or the closing quote, may stand left of its block: where indentation isn't strict, in flow, behind an escaped break, or as the closing quote
+-- whether content, or the closing quote, may stand left of its block: where indentation isn't strict, in flow, behind an escaped
+-- break, or as the closing quote
 abbrev pub may_be_left : Bool → LayoutData → (escaped : Bool) → List ℕ → Bool
 may_be_left single at escaped text = not at.strict && ((at.in_flow || escaped) || is_closing single text)
 

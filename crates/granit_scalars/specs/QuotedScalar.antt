@@ -183,8 +183,12 @@ quoted_tail single at start value h =
     (comment (past is_blank h) >>= λ x. Ok (quoted_read single start value (mark_of h) (asked_comment at x.0), x.1))
     else behind_quoted single at start value (mark_of h) (past is_blank h)
 
+-- what is read from a state on
+abbrev pub quoted_rest : Bool → LayoutData → Mark → QuotedState → Result (List ℕ × QuotedState) Fault
+quoted_rest single at start s = pieces quoted_len (quoted_turn single at start) s
+
 -- the quoted scalar that begins here with its quote, and where reading then stands: behind it, its blanks, and a comment on its last line
 unfoldable pub quoted_scalar : (single : Bool) → LayoutData → Here → Result (QuotedRead × Here) Fault
 quoted_scalar single at h =
-    pieces quoted_len (quoted_turn single at (mark_of h)) (quoted_at false (step h)) >>= λ x.
+    quoted_rest single at (mark_of h) (quoted_at false (step h)) >>= λ x.
     quoted_tail single at (mark_of h) (x.0 ++ between_quoted x.1) (step x.1.here)

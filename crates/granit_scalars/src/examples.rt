@@ -1,6 +1,6 @@
 //! Worked examples of the plain scalar, by computation. Each line is the original's token of that text,
 //! or its fault; what is behind a scalar comes from the plain machine of the whole language.
-ghost use Rattle.std.specs.Prelude.{◌≡◌, ℕ, [], ◌∷◌, ◌++◌, codes, Some, None, true, false};
+ghost use Rattle.std.specs.Prelude.{◌≡◌, [], ◌∷◌, ◌++◌, codes, Some, None, true, false};
 ghost use Rattle.granit_scalars.specs.Examples.{layout, plain_line, behind, behind_line};
 ghost use Rattle.granit_model.specs.Folding.{folded};
 

@@ -1,5 +1,5 @@
 //! The plain function on characters answers the plain scalar that its definitions say.
-ghost use Rattle.std.specs.Prelude.{◌≡◌, ℕ, true, List, Ok, Err};
+ghost use Rattle.std.specs.Prelude.{◌≡◌, ℕ, true, List, [], Ok, Err};
 ghost use Rattle.granit_model.specs.Here.{Here};
 ghost use Rattle.granit_model.specs.LayoutData.{LayoutData};
 ghost use Rattle.granit_model.specs.Outcome.{Fault};
@@ -17,9 +17,9 @@ pub fn every_plain_scalar_is_answered()
     ensures { (at : LayoutData) (h : Here) (read : PlainRead) (after : Here) → AnswersPlain at h read after → plain_scalar at h ≡ Ok (read, after) }
 {}
 
-/// Where content begins, the cause of a refusal stands at its mark.
+/// Where content begins, the cause of a refusal stands at its mark, and it names no source.
 pub fn every_plain_refusal_has_its_cause()
-    ensures { (at : LayoutData) (h : Here) (f : Fault) → is_content at.in_flow h.unread.text ≡ true → plain_scalar at h ≡ Err f → RefusesPlain at h f.kind f.mark }
+    ensures { (at : LayoutData) (h : Here) (f : Fault) → is_content at.in_flow h.unread.text ≡ true → plain_scalar at h ≡ Err f → RefusesPlain at h f.kind f.mark × (f.sources ≡ []) }
 {}
 
 /// A text begins with at most one plain scalar, and what stands behind one is known by where it stands.

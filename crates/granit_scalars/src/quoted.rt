@@ -1,5 +1,5 @@
 //! The plain function on characters answers the quoted scalar that its definitions say.
-ghost use Rattle.std.specs.Prelude.{◌≡◌, ℕ, Bool, List, ◌++◌, Ok, Err};
+ghost use Rattle.std.specs.Prelude.{◌≡◌, ℕ, Bool, List, [], ◌++◌, Ok, Err};
 ghost use Rattle.granit_model.specs.Folding.{folded};
 ghost use Rattle.granit_model.specs.Gap.{Each};
 ghost use Rattle.granit_model.specs.Here.{Here, next_char};
@@ -19,9 +19,9 @@ pub fn every_quoted_scalar_is_answered()
     ensures { (single : Bool) (at : LayoutData) (h : Here) (read : QuotedRead) (after : Here) → AnswersQuoted single at h read after → quoted_scalar single at h ≡ Ok (read, after) }
 {}
 
-/// Where its quote stands, the cause of a refusal stands at its mark.
+/// Where its quote stands, the cause of a refusal stands at its mark, and it names no source.
 pub fn every_quoted_refusal_has_its_cause()
-    ensures { (single : Bool) (at : LayoutData) (h : Here) (f : Fault) → next_char h ≡ quote_char single → quoted_scalar single at h ≡ Err f → RefusesQuoted single at h f.kind f.mark }
+    ensures { (single : Bool) (at : LayoutData) (h : Here) (f : Fault) → next_char h ≡ quote_char single → quoted_scalar single at h ≡ Err f → RefusesQuoted single at h f.kind f.mark × (f.sources ≡ []) }
 {}
 
 /// At most one quoted scalar stands at a place: what is between its quotes, what that spells, and what

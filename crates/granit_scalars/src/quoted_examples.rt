@@ -1,6 +1,6 @@
 //! Worked examples of quoted scalars, by computation. Each line is the original's token of that text, or its
 //! fault, as the plain machine of the whole language has it.
-ghost use Rattle.std.specs.Prelude.{◌≡◌, ℕ, [], ◌∷◌, ◌++◌, codes, Some, None, true, false};
+ghost use Rattle.std.specs.Prelude.{◌≡◌, [], ◌∷◌, ◌++◌, codes, Some, None, true, false};
 ghost use Rattle.granit_scalars.specs.QuotedExamples.{quoted_layout, quoted_line, quoted_behind, quoted_behind_line};
 
 /// What they spell.

@@ -1,5 +1,4 @@
 use Rattle.std.proofs.Common.{◌∙◌, sym, rules}
-use Rattle.granit_model.specs.Outcome.{fault_of}
 use Rattle.granit_events.proofs.AnswerLemmas.{cut_done, cut_fault, whole_fault, cut_nothing, is_other}
 use Rattle.granit_events.proofs.Known.{keeps_itself}
 use Rattle.granit_events.proofs.answering.answer_text.Goals as goal
@@ -19,7 +18,7 @@ pub returns-in_err-print_fault-in-Err-clause-cut :
 returns-in_err-print_fault-in-Err-clause-cut g c =
     let other = is_other c.in-Err.error.kind (sym c.ran_out.ensures ∙ c.if-ran_out.false) in
     let given = rw c.default.ensures at c.in-Err.ensures.value in
-    let w = cut_fault _ _ _ (fault_of c.in-Err.error) c.utf8.text (given other) c.in_err-print_fault-in-Err.ensures.front in
+    let w = cut_fault _ _ _ c.in-Err.error c.utf8.text (given other) c.in_err-print_fault-in-Err.ensures.front in
     search rules
 
 pub returns-in_ok-print_fault-in-Err-clause-whole :
@@ -27,4 +26,4 @@ pub returns-in_ok-print_fault-in-Err-clause-whole :
 returns-in_ok-print_fault-in-Err-clause-whole g c =
     let other = is_other c.in-Err.error.kind (sym c.ran_out.ensures ∙ c.if-ran_out.false) in
     let given = rw c.default.ensures at c.in-Err.ensures.value in
-    whole_fault _ _ _ (fault_of c.in-Err.error) c.utf8.text (given other) c.in_ok-print_fault-in-Err.ensures.whole
+    whole_fault _ _ _ c.in-Err.error c.utf8.text (given other) c.in_ok-print_fault-in-Err.ensures.whole

@@ -1,25 +1,37 @@
+use Rattle.std.proofs.Common.{ap}
+use Rattle.granit_events.specs.Ran.{end_of}
 use Rattle.granit_events.specs.declared.status.Status.TheVariants as status
-use Rattle.granit_events.proofs.UnderstoodLemmas.{reading_where, fault_where, calls_for_done, done_or_memory, canonical_run}
+use Rattle.granit_events.proofs.UnderstoodLemmas.{reading_where, fault_where, calls_for_done, wanted_or_memory, refused_run, canonical_run}
 use Rattle.granit_events.proofs.running.run.Goals as goal
 
-pub returns-clause-read : goal.returns-clause-read
-returns-clause-read g c =
-    reading_where c.args.words.now (g.S.Source.left c.args.source.now) (g.S.Source.left c.run_once.new.source) (g.W.Sink.written c.args.sink.now) (g.W.Sink.written c.run_once.new.sink)
-    c.run_once.result c.run_once.ensures.ended
-
-pub returns-clause-caused : goal.returns-clause-caused
-returns-clause-caused g c =
-    fault_where c.args.words.now (g.S.Source.left c.args.source.now) (g.S.Source.left c.run_once.new.source) (g.W.Sink.written c.args.sink.now) (g.W.Sink.written c.run_once.new.sink)
-    c.run_once.result c.run_once.ensures.ended
-
-pub returns-clause-answered : goal.returns-clause-answered
-returns-clause-answered g c =
-    λ r source sink. done_or_memory c.run_once.result _ _
-    (c.run_once.ensures.exactly r.bytes status.Done r.told (calls_for_done c.args.words.now (g.S.Source.left c.args.source.now) r))
-    (λ e. (c.run_once.ensures.read_fault e).2) (λ e. (c.run_once.ensures.write_fault e).1) source sink
-
-pub returns-clause-canonical : goal.returns-clause-canonical
-returns-clause-canonical g c =
-    λ ts h. canonical_run c.args.words.now (g.S.Source.left c.args.source.now) (g.S.Source.left c.run_once.new.source) (g.W.Sink.written c.args.sink.now) (g.W.Sink.written c.run_once.new.sink) ts h
-    c.run_once.result _ _ c.run_once.ensures.ended c.run_once.ensures.exactly
-    (λ e. (c.run_once.ensures.read_fault e).2) (λ e. (c.run_once.ensures.write_fault e).1)
+pub returns-clause-ran : goal.returns-clause-ran
+returns-clause-ran g c =
+    let words = c.args.words.now in
+    let left = g.S.Source.left c.args.source.now in
+    let now = g.S.Source.left c.run_once.new.source in
+    let written = g.W.Sink.written c.args.sink.now in
+    let after = g.W.Sink.written c.run_once.new.sink in
+    let once = c.run_once.ensures in
+    record {
+      ended = once.ended;
+      read_fault = once.read_fault;
+      write_fault = once.write_fault;
+      no_memory = once.no_memory;
+      source_count = once.source_count;
+      sink_count = once.sink_count;
+      none_left = once.none_left;
+      unread = λ k wrong. ap (end_of g.S.Source.left g.S.Source.faults) (once.unread k wrong);
+      usage = once.usage;
+      exactly = once.exactly;
+      read = reading_where words left now written after c.run_once.result once.ended;
+      caused = fault_where words left now written after c.run_once.result once.ended;
+      answered = λ r quiet. wanted_or_memory c.run_once.result status.Done _ _
+          (once.exactly r.bytes status.Done r.told (calls_for_done words left r))
+          (λ e. (once.read_fault e).2) (λ e. (once.write_fault e).1) quiet.0 quiet.1;
+      refused = λ kind m h quiet. refused_run words left now written after kind m h
+          c.run_once.result _ _ once.ended once.exactly
+          (λ e. (once.read_fault e).2) (λ e. (once.write_fault e).1) quiet.0 quiet.1;
+      canonical = λ ts h quiet. canonical_run words left now written after ts h
+          c.run_once.result _ _ once.ended once.exactly
+          (λ e. (once.read_fault e).2) (λ e. (once.write_fault e).1) quiet.0 quiet.1;
+    }

@@ -1,6 +1,7 @@
 use Rattle.std.proofs.Common.{◌≡◌, ◌==◌, true, false, length, drop, subst, sym, ◌∙◌, zero-le, arith}
+use Rattle.std.proofs.lemmas.Bool.Decides.{nat_tests}
 use Rattle.granit_input.specs.Unread.{past}
-use Rattle.granit_input.proofs.UnreadLemmas.{past_none, past_text, past_twice, end_reached, end_ahead, not_none}
+use Rattle.granit_input.proofs.UnreadLemmas.{past_none, past_text, past_twice, end_reached, end_ahead}
 use Rattle.granit_input.proofs.tests.count_rest.Goals as goal
 
 pub rest-init : goal.rest-init
@@ -28,5 +29,5 @@ rest-preserved g c = record {
       let more : (length (drop c.rest.count u.text) == 0) ≡ false = cc in
       let next = c.skip.ensures.unread (past c.rest.count u) look in
       (subst (g.T.Input.unread c.skip.new.self) (past_twice c.rest.count 1 u) next, end_ahead c.rest.count u.text more);
-  left = let some = not_none _ (sym c.next_is_z.ensures.some ∙ c.if-next_is_z.false) in omega arith;
+  left = let ahead = sym c.next_is_z.ensures.some ∙ c.if-next_is_z.false in grind (arith, nat_tests, ahead);
 }

@@ -1,5 +1,6 @@
 use Rattle.granit_model.specs.PlainExtent.{AnswersPlain, RefusesPlain}
 use Rattle.granit_model.specs.PlainScalar.{plain_scalar}
+use Rattle.granit_scalars.proofs.Nameless.{plain_none}
 use Rattle.granit_scalars.proofs.PlainOnce.{is_answered, is_refused, is_standing}
 use Rattle.granit_lex.specs.Reading.{Stands}
 use Rattle.granit_lex.specs.Tokens.{layout_data, plain_lexed}
@@ -14,7 +15,7 @@ returns-clause-scalar g c = λ h k.
 pub returns-clause-cause : goal.returns-clause-cause
 returns-clause-cause g c = λ h k.
     let at = layout_data c.args.at.now in
-    given_cause plain_lexed (Stands g.T.Input.unread c.read_plain.new.cursor) (RefusesPlain at h) (plain_scalar at h) c.read_plain.result (λ f e. is_refused at h f (c.requires h k) e) (c.read_plain.ensures.here h k)
+    given_cause plain_lexed (Stands g.T.Input.unread c.read_plain.new.cursor) (RefusesPlain at h) (plain_scalar at h) c.read_plain.result (λ f e. is_refused at h f (c.requires h k) e) (plain_none at h) (c.read_plain.ensures.here h k)
 
 pub returns-clause-answered : goal.returns-clause-answered
 returns-clause-answered g c = λ h read after k a.

@@ -23,6 +23,6 @@ returns-clause-here g c = λ h k.
       n,
       front_all (is_plain_at c.args.in_flow) (step h).unread.text _ _ n taken.0.0 few,
       taken.0.1,
-      taken.1 ∙ ap (λ (cs : List ℕ). cs ++ take n (step h).unread.text) (c.in_ok-push_char.ensures ∙ ap₂ (λ (v : List ℕ) (x : ℕ). v ++ x ∷ []) between seen),
+      taken.1 ∙ ap (λ (cs : List ℕ). cs ++ take n (step h).unread.text) (c.in_ok-push_char.ensures.appended ∙ ap₂ (λ (v : List ℕ) (x : ℕ). v ++ x ∷ []) between seen),
       rw (end, none) refl,
     )

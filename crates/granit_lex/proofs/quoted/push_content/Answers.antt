@@ -3,7 +3,7 @@ use Rattle.std.proofs.lemmas.List.{append-nil}
 use Rattle.granit_lex.proofs.quoted.push_content.Goals as goal
 
 pub returns-in-Some-clause-value : goal.returns-in-Some-clause-value
-returns-in-Some-clause-value c = λ h. rw (c.in-Some.is, ← c.in_ok-push_between.ensures.value h) c.push_char.ensures
+returns-in-Some-clause-value c = λ h. rw (c.in-Some.is, ← c.in_ok-push_between.ensures.value h) c.push_char.ensures.appended
 
 pub returns-in-None-clause-value : goal.returns-in-None-clause-value
 returns-in-None-clause-value c = λ h. rw c.in-None.is (c.in_ok-push_between.ensures.value h ∙ sym (append-nil _))

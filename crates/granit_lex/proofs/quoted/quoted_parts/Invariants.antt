@@ -1,7 +1,7 @@
 use Rattle.std.proofs.Common.{◌≡◌, false}
 use Rattle.granit_model.specs.Here.{Here}
-use Rattle.granit_scalars.specs.QuotedScalar.{quoted_at}
-use Rattle.granit_lex.specs.QuotedCode.{quoted_rest, quoted_whole}
+use Rattle.granit_scalars.specs.QuotedScalar.{quoted_at, quoted_rest}
+use Rattle.granit_lex.specs.QuotedCode.{quoted_whole}
 use Rattle.granit_lex.specs.Reading.{Stands, Moves}
 use Rattle.granit_lex.specs.Tokens.{layout_data}
 use Rattle.granit_lex.proofs.quoted.quoted_parts.Given as goal

@@ -1,5 +1,6 @@
 use Rattle.granit_scalars.specs.QuotedExtent.{AnswersQuoted, RefusesQuoted}
 use Rattle.granit_scalars.specs.QuotedScalar.{quoted_scalar}
+use Rattle.granit_scalars.proofs.Nameless.{quoted_none}
 use Rattle.granit_scalars.proofs.QuotedLaw.{quoted_standing, quoted_refused}
 use Rattle.granit_scalars.proofs.QuotedOnce.{quoted_is_answered}
 use Rattle.granit_lex.specs.Reading.{Stands}
@@ -15,7 +16,7 @@ returns-clause-scalar g c = λ h k.
 pub returns-clause-cause : goal.returns-clause-cause
 returns-clause-cause g c = λ h k.
     let at = layout_data c.args.at.now in
-    given_cause quoted_lexed (Stands g.T.Input.unread c.read_quoted.new.cursor) (RefusesQuoted c.args.single at h) (quoted_scalar c.args.single at h) c.read_quoted.result (λ f e. quoted_refused c.args.single at h f (c.requires h k) e) (c.read_quoted.ensures.here h k)
+    given_cause quoted_lexed (Stands g.T.Input.unread c.read_quoted.new.cursor) (RefusesQuoted c.args.single at h) (quoted_scalar c.args.single at h) c.read_quoted.result (λ f e. quoted_refused c.args.single at h f (c.requires h k) e) (quoted_none c.args.single at h) (c.read_quoted.ensures.here h k)
 
 pub returns-clause-answered : goal.returns-clause-answered
 returns-clause-answered g c = λ h read after k a.

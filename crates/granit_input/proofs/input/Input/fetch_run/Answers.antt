@@ -21,6 +21,7 @@ run-init g c = record {
   );
   added = added_none _;
   start = search rules;
+  limit = omega arith;
   left = omega arith;
   window = omega arith;
   origin = goes_nowhere _;
@@ -53,6 +54,7 @@ run-preserved g c = record {
       );
   added = added_more _ _ _ c.peek.result c.run.invariant.added c.in_ok-push_or_cut.ensures.scalar c.in_ok-push_or_cut.ensures.ok;
   start = c.run.invariant.start;
+  limit = omega arith;
   left = let some = c.next_in.ensures.some c.if-not-next_in.false in omega arith;
   window = omega arith;
   origin = goes_on _ _ _ c.run.invariant.origin (goes_on _ _ _ c.next_in.ensures.moves.2 c.skip.ensures.moves.2);

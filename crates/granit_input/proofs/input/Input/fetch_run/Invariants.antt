@@ -14,6 +14,7 @@ invariant-run g l = record {
       × (string_chars l.out ≡ string_chars l.fn.out ++ take l.count u.text);
   added : IsAdded (string_bytes l.fn.out) (string_bytes l.out);
   start : l.start ≡ length (string_bytes l.fn.out);
+  limit : l.count ≤ l.limit;
   left : g.Self.Input.left l.self + l.count ≤ g.Self.Input.left l.fn.self;
   window : g.Self.Input.window l.fn.self ≤ g.Self.Input.window l.self + l.count;
   origin : Goes (g.Self.Input.origin l.fn.self) (g.Self.Input.origin l.self);
