@@ -100,7 +100,8 @@ fn load<'a>(alloc: Global, text: &'a str, options: &Options) -> Result<Events<'a
 /// whichever options is refused for its depth or an unknown anchor alone (`deeper`); a fault has its
 /// cause at its mark and names no source (`cause`); a text with a cause is refused with it (`refused`);
 /// the canonical flow text of documents that fit, no deeper than allowed, is answered with their events
-/// (`canonical`). Every text has a reading or a cause, one of them, and one alone (laws of granit_laws).
+/// (`canonical`). Every text has a reading whose aliases are so, or a cause, not both, and one alone
+/// (laws of granit_laws). Want of memory may stand in the place of each answer.
 /// `value` says the same as a plain function.
 ///
 /// # Errors
