@@ -8,7 +8,7 @@ use Rattle.std.proofs.lemmas.Str.{chars-encodes}
 use Rattle.std.specs.Str.{chars, IsUtf8, encode_utf8_all}
 use lib.Utf8.{scalar, scalars, low_scalar}
 use Rattle.granit_base.specs.Classes.{is_within}
-use Rattle.granit_model.specs.Canonical.{AreCharacters, PropertiesHaveCharacters, TreeHasCharacters, HasCharacters, PairsHaveCharacters}
+use Rattle.granit_canonical.specs.Canonical.{AreCharacters, PropertiesHaveCharacters, TreeHasCharacters, HasCharacters, PairsHaveCharacters}
 use Rattle.granit_model.specs.FlowText.{upper_digit, two_digits, four_digits, eight_digits, tag_byte, tag_bytes, quoted_character, quoted_characters, tag_text, anchor_text, properties_text, comma_unless, tree_text, entries_text, pairs_text, documents_text, flow_characters}
 use Rattle.granit_model.specs.Tree.{Properties, PlainTree, AliasOf, ScalarOf, SequenceOf, MappingOf, PlainTrees, NoTrees, AfterTrees, PlainPairs, NoPairs, AfterPairs, no_trees, no_pairs}
 use Rattle.granit_canonical.proofs.Fronts.{byte_by, character_by}

@@ -6,16 +6,16 @@ use Rattle.std.specs.Prelude.{IfSome}
 use Rattle.granit_base.specs.Classes.{is_gap, is_blank, is_break, is_flow, is_printable, is_yaml_non_break, is_yaml_non_space, is_anchor_char, is_bom}
 use Rattle.granit_base.specs.Place.{first}
 use Rattle.granit_base.specs.declared.style.ScalarStyle.TheVariants.{DoubleQuoted}
-use Rattle.granit_model.specs.Canonical.{AreCharacters, tag_width, properties_width, tree_width, entries_width, pairs_width, documents_width, entry_offset, pair_offset, source_at, lent, tag_at, anchor_at, properties_at, quoted_value, scalar_at, node_at, sequence_at, mapping_at, entry_lead_at, pair_lead_at, documents_in}
-use Rattle.granit_model.specs.Extent.{Spells, dashes, left_square, right_square, left_curly, right_curly, comma, question, colon, verbatim, anchor, alias, quoted, MayBegin, MayFollow}
+use Rattle.granit_canonical.specs.Canonical.{AreCharacters, tag_width, properties_width, tree_width, entries_width, pairs_width, documents_width, entry_offset, pair_offset, source_at, lent, tag_at, anchor_at, properties_at, quoted_value, scalar_at, node_at, sequence_at, mapping_at, entry_lead_at, pair_lead_at, documents_in}
+use Rattle.granit_flow.specs.Extent.{Spells, dashes, left_square, right_square, left_curly, right_curly, comma, question, colon, verbatim, anchor, alias, quoted, MayBegin, MayFollow}
 use Rattle.granit_model.specs.FlowText.{tag_bytes, quoted_characters, tag_text, anchor_text, properties_text, comma_unless, tree_text, entries_text, pairs_text, documents_text}
-use Rattle.granit_model.specs.Gap.{IsGap, Parts}
-use Rattle.granit_model.specs.Lexeme.{Lexeme, LexemeKind, DocumentStart, SequenceOpen, SequenceClose, MappingOpen, MappingClose, Comma, Question, Colon, Tag, Anchor, Alias, Scalar}
-use Rattle.granit_model.specs.Node.{no_properties}
-use Rattle.granit_model.specs.Place.{since_line_end}
-use Rattle.granit_model.specs.Reading.{Before, behind_lexeme, nothing_before, Reached, goes_on}
+use Rattle.granit_lexemes.specs.Gap.{IsGap, Parts}
+use Rattle.granit_flow.specs.Lexeme.{Lexeme, LexemeKind, DocumentStart, SequenceOpen, SequenceClose, MappingOpen, MappingClose, Comma, Question, Colon, Tag, Anchor, Alias, Scalar}
+use Rattle.granit_flow.specs.Node.{no_properties}
+use Rattle.granit_lexemes.specs.Place.{since_line_end}
+use Rattle.granit_flow.specs.Reading.{Before, behind_lexeme, nothing_before, Reached, goes_on}
 use Rattle.granit_model.specs.Tree.{Properties, PlainTree, AliasOf, ScalarOf, SequenceOf, MappingOf, PlainTrees, NoTrees, AfterTrees, PlainPairs, NoPairs, AfterPairs, no_trees, no_pairs, IsAnchorName}
-use Rattle.granit_model.specs.Yield.{lexeme, spell_tag, spell_anchor, spell_properties, spell, spell_entry_lead, spell_pair_lead, spell_documents}
+use Rattle.granit_flow.specs.Yield.{lexeme, spell_tag, spell_anchor, spell_properties, spell, spell_entry_lead, spell_pair_lead, spell_documents}
 use Rattle.granit_lexing.proofs.LexingRuns.{rest_of}
 use Rattle.granit_lexing.proofs.Places.{column_behind}
 use Rattle.granit_canonical.proofs.Fronts.{Fronts, both_long, tag_bytes_front, tag_front, properties_front, quoted_front, tree_front, entries_front, pairs_front, documents_front, entry_offset_front, pair_offset_front}

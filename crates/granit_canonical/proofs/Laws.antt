@@ -1,12 +1,12 @@
 -- The laws, as the function of this crate states them.
 use Rattle.std.proofs.Common.{◌≤◌, [], length, refl, subst}
 use Rattle.granit_error.specs.OptionsData.{OptionsData}
-use Rattle.granit_model.specs.Canonical.{HasCharacters, documents_in}
+use Rattle.granit_canonical.specs.Canonical.{HasCharacters, documents_in}
 use Rattle.granit_model.specs.FlowText.{flow_characters}
-use Rattle.granit_model.specs.Reading.{nothing_before, Reached, stops, Reading}
-use Rattle.granit_model.specs.Scope.{Resolves}
+use Rattle.granit_flow.specs.Reading.{nothing_before, Reached, stops, Reading}
+use Rattle.granit_flow.specs.Scope.{Resolves}
 use Rattle.granit_model.specs.Tree.{PlainTrees, trees_depth, DocumentsFit}
-use Rattle.granit_model.specs.Yield.{spell_documents}
+use Rattle.granit_flow.specs.Yield.{spell_documents}
 use Rattle.granit_canonical.proofs.Covers.{documents_lead}
 use Rattle.granit_canonical.proofs.Nesting.{documents_nest}
 use Rattle.granit_canonical.proofs.Resolving.{documents_resolve}

@@ -9,9 +9,9 @@ use lib.Dec.{ltb}
 use lib.Utf8.{scalar, scalars, scalar_cases, next, encode}
 use mathlib.Core.Logic.{⊎_elim}
 use Rattle.granit_base.specs.Classes.{is_digit, is_word_char, is_uri_sign, is_uri_char}
-use Rattle.granit_model.specs.Decoding.{UriBytes, nothing, itself, percent}
+use Rattle.granit_flow.specs.Content.{UriBytes, nothing, itself, percent}
 use Rattle.granit_model.specs.FlowText.{two_digits, tag_byte, tag_bytes}
-use Rattle.granit_model.specs.Gap.{Each}
+use Rattle.granit_lexemes.specs.Gap.{Each}
 use Rattle.granit_canonical.proofs.Fronts.{byte_by}
 use Rattle.granit_canonical.proofs.Quoting.{digit_is_hex, digit_writes}
 

@@ -1,11 +1,11 @@
 -- Trees that are no deeper than allowed open no more brackets at once than allowed.
 use Rattle.std.proofs.Common.{◌≡◌, ℕ, ◌+◌, ◌≤◌, Bool, false, true, max, List, ◌∷◌, length, Option, Some, None, refl, sym, subst, arith}
-use Rattle.granit_model.specs.Canonical.{tag_width, tag_at, anchor_at, properties_at, properties_width, node_at, sequence_at, mapping_at, entry_lead_at, pair_lead_at, documents_in, entry_offset, pair_offset, documents_width, tree_width, entries_width, pairs_width, source_at}
-use Rattle.granit_model.specs.Lexeme.{Lexeme, DocumentStart, SequenceOpen, SequenceClose, MappingOpen, MappingClose, Comma, Question, Colon}
-use Rattle.granit_model.specs.Node.{NodeProperties, no_properties}
-use Rattle.granit_model.specs.Reading.{Before, NestsWithin, nothing_before, behind_lexeme}
+use Rattle.granit_canonical.specs.Canonical.{tag_width, tag_at, anchor_at, properties_at, properties_width, node_at, sequence_at, mapping_at, entry_lead_at, pair_lead_at, documents_in, entry_offset, pair_offset, documents_width, tree_width, entries_width, pairs_width, source_at}
+use Rattle.granit_flow.specs.Lexeme.{Lexeme, DocumentStart, SequenceOpen, SequenceClose, MappingOpen, MappingClose, Comma, Question, Colon}
+use Rattle.granit_flow.specs.Node.{NodeProperties, no_properties}
+use Rattle.granit_flow.specs.Reading.{Before, NestsWithin, nothing_before, behind_lexeme}
 use Rattle.granit_model.specs.Tree.{Properties, PlainTree, AliasOf, ScalarOf, SequenceOf, MappingOf, PlainTrees, NoTrees, AfterTrees, PlainPairs, NoPairs, AfterPairs, tree_depth, trees_depth, pairs_depth}
-use Rattle.granit_model.specs.Yield.{lexeme, spell_tag, spell_anchor, spell_properties, spell, spell_entry_lead, spell_pair_lead, spell_documents}
+use Rattle.granit_flow.specs.Yield.{lexeme, spell_tag, spell_anchor, spell_properties, spell, spell_entry_lead, spell_pair_lead, spell_documents}
 
 -- the same brackets are open, and no gap is wanted
 abbrev pub settled : Before → Before

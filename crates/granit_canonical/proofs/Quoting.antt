@@ -4,10 +4,11 @@ use Rattle.std.proofs.lemmas.Bool.{and_parts}
 use Rattle.std.proofs.lemmas.Bool.Decides.{nat_tests}
 use lib.Utf8.{scalar, scalars, scalar_fits}
 use Rattle.granit_base.specs.Classes.{is_within, is_hex, hex_value, is_digit, is_printable, is_break}
-use Rattle.granit_model.specs.Decoding.{letter_value, digit_count, number_of, number_behind, AreDigits, Escape, letter, number, Content, nothing, itself, escaped}
+use Rattle.granit_lexemes.specs.Decoding.{letter_value, digit_count, number_of, number_behind, AreDigits, Escape, letter, number}
+use Rattle.granit_flow.specs.Content.{Content, nothing, itself, escaped}
 use Rattle.granit_model.specs.FlowText.{upper_digit, two_digits, four_digits, eight_digits, quoted_character, quoted_characters}
-use Rattle.granit_model.specs.Gap.{Each}
-use Rattle.granit_model.specs.Start.{is_inner}
+use Rattle.granit_lexemes.specs.Gap.{Each}
+use Rattle.granit_flow.specs.Start.{is_inner}
 use Rattle.granit_canonical.proofs.Fronts.{character_by}
 
 -- the digit of a number below 16 is hexadecimal, and writes it

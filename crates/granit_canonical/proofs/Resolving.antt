@@ -1,11 +1,11 @@
 -- The aliases of trees that fit name anchors before them, in the lexemes of their canonical text too.
 use Rattle.std.proofs.Common.{ℕ, ◌+◌, List, [], ◌∷◌, Option, Some, None, inr}
 use Rattle.granit_error.specs.OptionsData.{OptionsData}
-use Rattle.granit_model.specs.Canonical.{tag_width, tree_width, entries_width, pairs_width, documents_width, entry_offset, pair_offset, source_at, tag_at, anchor_at, properties_at, node_at, sequence_at, mapping_at, entry_lead_at, pair_lead_at, documents_in}
-use Rattle.granit_model.specs.Lexeme.{Lexeme, DocumentStart, SequenceClose, MappingClose, Comma, Colon}
-use Rattle.granit_model.specs.Scope.{Resolves}
+use Rattle.granit_canonical.specs.Canonical.{tag_width, tree_width, entries_width, pairs_width, documents_width, entry_offset, pair_offset, source_at, tag_at, anchor_at, properties_at, node_at, sequence_at, mapping_at, entry_lead_at, pair_lead_at, documents_in}
+use Rattle.granit_flow.specs.Lexeme.{Lexeme, DocumentStart, SequenceClose, MappingClose, Comma, Colon}
+use Rattle.granit_flow.specs.Scope.{Resolves}
 use Rattle.granit_model.specs.Tree.{Properties, PlainTree, AliasOf, ScalarOf, SequenceOf, MappingOf, PlainTrees, NoTrees, AfterTrees, PlainPairs, NoPairs, AfterPairs, with_anchor, behind_tree, behind_trees, behind_pairs, TreeFits, TreesFit, PairsFit, DocumentsFit}
-use Rattle.granit_model.specs.Yield.{lexeme, spell_tag, spell_anchor, spell_properties, spell, spell_entry_lead, spell_pair_lead, spell_documents}
+use Rattle.granit_flow.specs.Yield.{lexeme, spell_tag, spell_anchor, spell_properties, spell, spell_entry_lead, spell_pair_lead, spell_documents}
 use Rattle.granit_canonical.proofs.Nesting.{spell_pair_at}
 
 module _ (o : OptionsData) (x : List ℕ) where

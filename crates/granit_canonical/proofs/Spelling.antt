@@ -2,7 +2,7 @@
 use Rattle.std.proofs.Common.{ℕ, zero, suc, List, [], ◌∷◌, Option, Some, None, subst, arith}
 use Rattle.std.specs.Prelude.{IfSome}
 use Rattle.std.specs.List.{All}
-use Rattle.granit_model.specs.Canonical.{AreCharacters, PropertiesHaveCharacters, TreeHasCharacters, HasCharacters, PairsHaveCharacters}
+use Rattle.granit_canonical.specs.Canonical.{AreCharacters, PropertiesHaveCharacters, TreeHasCharacters, HasCharacters, PairsHaveCharacters}
 use Rattle.granit_model.specs.Tree.{Properties, PlainTree, AliasOf, ScalarOf, SequenceOf, MappingOf, PlainTrees, NoTrees, AfterTrees, PlainPairs, NoPairs, AfterPairs, with_anchor, behind_tree, behind_trees, behind_pairs, IsAnchorName, PropertiesFit, TreeFits, TreesFit, PairsFit, DocumentsFit}
 
 -- tags and names that can be written

@@ -1,8 +1,8 @@
 -- The trees of the worked examples.
 use Rattle.std.specs.Prelude.{ℕ, List, [], ◌∷◌, Some, None, codes}
 use Rattle.granit_error.specs.OptionsData.{OptionsData}
-use Rattle.granit_model.specs.Canonical.{canonical_events}
-use Rattle.granit_model.specs.Line.{event_lines}
+use Rattle.granit_canonical.specs.Canonical.{canonical_events}
+use Rattle.granit_lexemes.specs.Line.{event_lines}
 use Rattle.granit_model.specs.Tree.{PlainTree, AliasOf, ScalarOf, SequenceOf, MappingOf, PlainTrees, NoTrees, AfterTrees, PlainPairs, NoPairs, AfterPairs}
 
 -- what is printed for documents that are read from their own canonical text

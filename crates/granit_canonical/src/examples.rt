@@ -4,7 +4,7 @@ ghost use Rattle.std.specs.Prelude.{◌≡◌, codes};
 ghost use Rattle.granit_canonical.specs.Examples.{documents_tree, lines_of, names_tree, pairs_tree, worked_tree};
 ghost use Rattle.granit_error.specs.OptionsData.{default_options};
 ghost use Rattle.granit_lexing.specs.Examples.{telling_anchors};
-ghost use Rattle.granit_model.specs.Canonical.{HasCharacters};
+ghost use Rattle.granit_canonical.specs.Canonical.{HasCharacters};
 ghost use Rattle.granit_model.specs.FlowText.{flow_characters};
 ghost use Rattle.granit_model.specs.Tree.{DocumentsFit, NoTrees, trees_depth};
 

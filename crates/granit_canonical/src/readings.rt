@@ -1,12 +1,12 @@
 //! Canonical flow text has the reading that its trees give.
 ghost use Rattle.std.specs.Prelude.{[], ◌≤◌};
 ghost use Rattle.granit_error.specs.OptionsData.{OptionsData};
-ghost use Rattle.granit_model.specs.Canonical.{HasCharacters, documents_in};
+ghost use Rattle.granit_canonical.specs.Canonical.{HasCharacters, documents_in};
 ghost use Rattle.granit_model.specs.FlowText.{flow_characters};
-ghost use Rattle.granit_model.specs.Reading.{Reading};
-ghost use Rattle.granit_model.specs.Scope.{Resolves};
+ghost use Rattle.granit_flow.specs.Reading.{Reading};
+ghost use Rattle.granit_flow.specs.Scope.{Resolves};
 ghost use Rattle.granit_model.specs.Tree.{DocumentsFit, PlainTrees, trees_depth};
-ghost use Rattle.granit_model.specs.Yield.{spell_documents};
+ghost use Rattle.granit_flow.specs.Yield.{spell_documents};
 
 /// The canonical flow text of documents that fit is read as their nodes, each where its text stands,
 /// as long as they are no deeper than allowed (`reading`); and each alias in it names an anchor before

@@ -4,7 +4,7 @@ use Rattle.std.specs.Borrow.{Bor}
 use Rattle.std.specs.Option.{option_map, option_and_then}
 use Rattle.std.specs.Str.{chars}
 use Rattle.granit_base.specs.Written.{Written}
-use Rattle.granit_model.specs.PlainEvent.{PlainTag}
+use Rattle.granit_lexemes.specs.PlainEvent.{PlainTag}
 use lib.Pointwise.{pointwise}
 
 abbrev pub same_text : List ℕ → List ℕ → Bool

@@ -6,7 +6,7 @@ use Rattle.std.specs.Hash.{HashWrites}
 use Rattle.std.specs.Ordering.{nat_cmp, on, then_cmp, eq_of_both}
 use Rattle.std.specs.Str.{encode_utf8_all}
 use Rattle.std.specs.declared.cmp.Ordering.{Ordering}
-use Rattle.granit_model.specs.PlainEvent.{PlainTag}
+use Rattle.granit_lexemes.specs.PlainEvent.{PlainTag}
 
 abbrev pub same_tag : PlainTag → PlainTag → Bool
 same_tag = eq_of_both (on (λ t. t.handle) (pointwise nat_eq)) (eq_of_both (on (λ t. t.suffix) (pointwise nat_eq)) (on (λ t. t.original_handle) (pointwise nat_eq)))

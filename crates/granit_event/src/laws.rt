@@ -1,7 +1,7 @@
 //! What the answers of a tag depend on.
 ghost use Rattle.std.specs.Prelude.{◌≡◌, ◌↔◌, ℕ, List, Some, ◌++◌, Contains};
 ghost use Rattle.std.specs.Option.{option_map};
-ghost use Rattle.granit_model.specs.PlainEvent.{PlainTag};
+ghost use Rattle.granit_lexemes.specs.PlainEvent.{PlainTag};
 ghost use Rattle.granit_event.specs.Names.{name_of, core_namespace, core_names, core_suffix_of, suffix_behind};
 
 /// A core suffix is what follows `tag:yaml.org,2002:`, where it is one of the seven names.

@@ -25,7 +25,7 @@ pub struct Tag {
 }
 
 impl Model for Tag {
-    ghost use Rattle.granit_model.specs.PlainEvent.{PlainTag};
+    ghost use Rattle.granit_lexemes.specs.PlainEvent.{PlainTag};
 
     ghost Value = { PlainTag };
 

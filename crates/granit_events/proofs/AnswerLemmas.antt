@@ -5,9 +5,9 @@ use Rattle.std.specs.Str.{IsUtf8}
 use Rattle.std.specs.Str.Lossy.{utf8_valid_len}
 use Rattle.std.specs.Io.KnownBytes.{Appends, Keeps}
 use Rattle.granit_error.specs.FaultKind.{FaultKind, NoMemory}
-use Rattle.granit_model.specs.Line.{event_lines, fault_line}
-use Rattle.granit_model.specs.Outcome.{Fault}
-use Rattle.granit_model.specs.PlainEvent.{PlainEvent}
+use Rattle.granit_lexemes.specs.Line.{event_lines, fault_line}
+use Rattle.granit_lexemes.specs.Outcome.{Fault}
+use Rattle.granit_lexemes.specs.PlainEvent.{PlainEvent}
 use Rattle.granit_events.specs.Ended.{Answers, machine_answer, not_utf8_line, is_no_memory}
 use Rattle.granit_events.specs.Output.{CutOutput, WholeOutput}
 use Rattle.granit_events.specs.Wrote.{WroteFront}

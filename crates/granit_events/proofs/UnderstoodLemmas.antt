@@ -5,15 +5,15 @@ use Rattle.granit_base.specs.Place.{Mark}
 use Rattle.granit_base.specs.Written.{Written}
 use Rattle.granit_error.specs.FaultKind.{FaultKind}
 use Rattle.granit_error.specs.OptionsData.{default_options}
-use Rattle.granit_model.specs.Canonical.{documents_in, canonical_events}
-use Rattle.granit_model.specs.Events.{events}
+use Rattle.granit_canonical.specs.Canonical.{documents_in, canonical_events}
+use Rattle.granit_flow.specs.Events.{events}
 use Rattle.granit_model.specs.FlowText.{flow_characters}
-use Rattle.granit_model.specs.Line.{event_lines, fault_line}
-use Rattle.granit_model.specs.Outcome.{Fault, fault_at}
-use Rattle.granit_model.specs.PlainEvent.{PlainEvent}
-use Rattle.granit_model.specs.Reading.{Reading}
+use Rattle.granit_lexemes.specs.Line.{event_lines, fault_line}
+use Rattle.granit_lexemes.specs.Outcome.{Fault, fault_at}
+use Rattle.granit_lexemes.specs.PlainEvent.{PlainEvent}
+use Rattle.granit_flow.specs.Reading.{Reading}
 use Rattle.granit_model.specs.Tree.{PlainTrees}
-use Rattle.granit_model.specs.Yield.{spell_documents}
+use Rattle.granit_flow.specs.Yield.{spell_documents}
 use Rattle.granit_canonical.proofs.Characters.{is_utf8, is_of_it}
 use Rattle.granit_canonical.proofs.Laws.{is_read, names_anchors}
 use Rattle.granit_laws.proofs.Laws.{is_reading, is_answered, has_cause, is_refused}

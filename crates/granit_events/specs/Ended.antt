@@ -6,11 +6,11 @@ use Rattle.std.specs.Str.Lossy.{utf8_valid_len}
 use Rattle.granit_base.specs.Written.{Written}
 use Rattle.granit_error.specs.FaultKind.{FaultKind, NoMemory, fault_number}
 use Rattle.granit_error.specs.OptionsData.{default_options}
-use Rattle.granit_model.specs.Line.{event_lines, fault_line}
-use Rattle.granit_model.specs.Machine.{events_of}
-use Rattle.granit_model.specs.Outcome.{Fault}
-use Rattle.granit_model.specs.PlainEvent.{PlainEvent}
-use Rattle.granit_model.specs.Words.{wrong_word, usage_line}
+use Rattle.granit_lexemes.specs.Line.{event_lines, fault_line}
+use Rattle.granit_flow.specs.Machine.{events_of}
+use Rattle.granit_lexemes.specs.Outcome.{Fault}
+use Rattle.granit_lexemes.specs.PlainEvent.{PlainEvent}
+use Rattle.granit_events.specs.Words.{wrong_word, usage_line}
 use Rattle.granit_events.specs.Came.{most_bytes, CameWhole, CameTooMany}
 use Rattle.granit_events.specs.declared.status.Status.{Status}
 use Rattle.granit_events.specs.declared.status.Status.TheVariants as status

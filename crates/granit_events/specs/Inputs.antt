@@ -1,7 +1,7 @@
 -- What came in, and what it calls for.
 use Rattle.std.specs.Prelude.{◌≡◌, ℕ, List, Option}
 use Rattle.granit_base.specs.Written.{Written}
-use Rattle.granit_model.specs.Words.{usage_line}
+use Rattle.granit_events.specs.Words.{usage_line}
 use Rattle.granit_events.specs.Came.{CameWhole, CameTooMany}
 use Rattle.granit_events.specs.Ended.{AreRight, AreWrongAt, Answers, too_long_line}
 use Rattle.granit_events.specs.declared.input.Input.{Input}

@@ -6,5 +6,6 @@ pub mod Inputs
 pub mod Memory
 pub mod Output
 pub mod Ran
-pub mod Wrote
 pub mod Understood
+pub mod Words
+pub mod Wrote

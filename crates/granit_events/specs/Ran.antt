@@ -5,9 +5,9 @@ use Rattle.granit_base.specs.Place.{Mark}
 use Rattle.granit_base.specs.Written.{Written}
 use Rattle.granit_error.specs.FaultKind.{FaultKind}
 use Rattle.granit_error.specs.OptionsData.{default_options}
-use Rattle.granit_model.specs.Canonical.{canonical_events}
-use Rattle.granit_model.specs.Line.{event_lines, fault_line}
-use Rattle.granit_model.specs.Outcome.{fault_at}
+use Rattle.granit_canonical.specs.Canonical.{canonical_events}
+use Rattle.granit_lexemes.specs.Line.{event_lines, fault_line}
+use Rattle.granit_lexemes.specs.Outcome.{fault_at}
 use Rattle.granit_model.specs.Tree.{PlainTrees}
 use Rattle.granit_events.specs.Counts.{Rose}
 use Rattle.granit_events.specs.Ended.{AreRight, AreWrongAt, CallsFor, Ended, Fixes, IsOrYields, ReadsAll}

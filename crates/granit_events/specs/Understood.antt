@@ -6,16 +6,16 @@ use Rattle.granit_base.specs.Place.{Mark}
 use Rattle.granit_base.specs.Written.{Written}
 use Rattle.granit_error.specs.FaultKind.{FaultKind}
 use Rattle.granit_error.specs.OptionsData.{default_options}
-use Rattle.granit_model.specs.Canonical.{HasCharacters}
-use Rattle.granit_model.specs.Cause.{Cause}
+use Rattle.granit_canonical.specs.Canonical.{HasCharacters}
+use Rattle.granit_flow.specs.Cause.{Cause}
 use Rattle.granit_model.specs.FlowText.{flow_characters}
-use Rattle.granit_model.specs.Lexeme.{Lexeme}
-use Rattle.granit_model.specs.Line.{event_lines, fault_line}
-use Rattle.granit_model.specs.Node.{Documents}
-use Rattle.granit_model.specs.Outcome.{fault_at}
-use Rattle.granit_model.specs.PlainEvent.{PlainEvent}
-use Rattle.granit_model.specs.Reading.{IsReading, Reading}
-use Rattle.granit_model.specs.Scope.{Resolves}
+use Rattle.granit_lexemes.specs.Lexeme.{Lexeme}
+use Rattle.granit_lexemes.specs.Line.{event_lines, fault_line}
+use Rattle.granit_flow.specs.Node.{Documents}
+use Rattle.granit_lexemes.specs.Outcome.{fault_at}
+use Rattle.granit_lexemes.specs.PlainEvent.{PlainEvent}
+use Rattle.granit_flow.specs.Reading.{IsReading, Reading}
+use Rattle.granit_flow.specs.Scope.{Resolves}
 use Rattle.granit_model.specs.Tree.{PlainTrees, trees_depth, DocumentsFit}
 use Rattle.granit_events.specs.Came.{most_bytes, CameWhole}
 use Rattle.granit_events.specs.Ended.{AreRight}

@@ -1,8 +1,8 @@
 //! What is printed for the whole bytes of an input.
 ghost use Rattle.std.specs.Prelude.{◌≡◌, Err, IfOk, OnOk, OnErr};
 ghost use Rattle.std.specs.Io.KnownBytes.{Appends};
-ghost use Rattle.granit_model.specs.Line.{fault_line};
-ghost use Rattle.granit_model.specs.Words.{usage_line};
+ghost use Rattle.granit_lexemes.specs.Line.{fault_line};
+ghost use Rattle.granit_events.specs.Words.{usage_line};
 ghost use Rattle.granit_events.specs.Counts.{Rose};
 ghost use Rattle.granit_events.specs.Ended.{Answers, is_no_memory, not_utf8_line};
 ghost use Rattle.granit_events.specs.Inputs.{Responds};

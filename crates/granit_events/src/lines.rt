@@ -1,7 +1,7 @@
 //! The lines of events, written piece by piece.
 ghost use Rattle.std.specs.Prelude.{◌≡◌, List, ℕ, ◌++◌, Err, string_bytes, OnOk, OnErr};
 ghost use Rattle.std.specs.Io.KnownBytes.{Appends};
-ghost use Rattle.granit_model.specs.Line.{event_lines};
+ghost use Rattle.granit_lexemes.specs.Line.{event_lines};
 ghost use Rattle.granit_event.specs.Events.{plain_events};
 ghost use Rattle.granit_events.specs.Counts.{Rose};
 ghost use Rattle.granit_events.specs.Wrote.{WroteFront};

@@ -3,8 +3,8 @@ ghost use Rattle.std.specs.Prelude.{◌≡◌, ◌++◌, string_bytes, OnOk};
 ghost use Rattle.std.specs.Fmt.{decimal};
 ghost use Rattle.std.specs.Option.{option_map};
 ghost use Rattle.std.specs.Str.{chars};
-ghost use Rattle.granit_model.specs.Line as line;
-ghost use Rattle.granit_model.specs.PlainEvent as plain;
+ghost use Rattle.granit_lexemes.specs.Line as line;
+ghost use Rattle.granit_lexemes.specs.PlainEvent as plain;
 ghost use Rattle.granit_event.specs.Events.{event_kind, plain_event, plain_version};
 
 use granit_base::{
@@ -34,7 +34,7 @@ fn push_place(out: &mut String, mark: &Marker) -> Result<(), NoMemory>
 }
 
 /// A character between quotes.
-#[tactic(auto, unfolding(granit_model::specs::Line::quoted_char))]
+#[tactic(auto, unfolding(granit_lexemes::specs::Line::quoted_char))]
 fn push_quoted_char(out: &mut String, c: char) -> Result<(), NoMemory>
     ensures { OnOk result (string_bytes out.new ≡ string_bytes out.old ++ line.quoted_char c) }
 {
@@ -269,7 +269,7 @@ fn push_event(out: &mut String, event: &Event) -> Result<(), NoMemory>
 }
 
 /// The line of an event.
-#[tactic(auto, unfolding(granit_model::specs::Line::event_line))]
+#[tactic(auto, unfolding(granit_lexemes::specs::Line::event_line))]
 pub fn push_line(out: &mut String, event: &Event, span: &Span) -> Result<(), NoMemory>
     ensures { OnOk result (string_bytes out.new ≡ string_bytes out.old ++ line.event_line (plain_event (event.now, span.now))) }
 {

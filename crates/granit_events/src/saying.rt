@@ -3,8 +3,8 @@ ghost use Rattle.std.specs.Prelude.{◌≡◌, ◌++◌, string_bytes, IfOk, OnO
 ghost use Rattle.granit_error.specs.FaultKind.{fault_words};
 ghost use Rattle.granit_error.specs.Kinds.{kind_of};
 ghost use Rattle.granit_error.specs.Refused.{place_words};
-ghost use Rattle.granit_model.specs.Line.{fault_line};
-ghost use Rattle.granit_model.specs.Words.{usage_line};
+ghost use Rattle.granit_lexemes.specs.Line.{fault_line};
+ghost use Rattle.granit_events.specs.Words.{usage_line};
 ghost use Rattle.granit_events.specs.Ended.{not_utf8_line};
 
 use crate::printing::push_number;

@@ -1,7 +1,7 @@
 //! The words of the program.
 ghost use Rattle.std.specs.Prelude.{◌≡◌, codes};
 ghost use Rattle.std.specs.Str.{encode_utf8_all};
-ghost use Rattle.granit_model.specs.Words.{is_word, wrong_word};
+ghost use Rattle.granit_events.specs.Words.{is_word, wrong_word};
 ghost use Rattle.granit_events.specs.Ended.{spelled};
 
 use granit_base::{Text, TextList};

@@ -12,9 +12,9 @@ use Rattle.std.proofs.lemmas.Cmp.{nat_list_eq_equiv}
 use Rattle.std.proofs.lemmas.Map.Views.{list_any-from_Contains, Contains-from_any}
 use lib.Pointwise.{pointwise}
 use Rattle.granit_base.specs.Written.{Written, order_of_characters}
-use Rattle.granit_model.specs.Node.{AnchorAt}
-use Rattle.granit_model.specs.Scope.{Scope, in_new_document, anchored, number_in}
-use Rattle.granit_model.specs.Path.{Anchors, with_anchor, number_of}
+use Rattle.granit_flow.specs.Node.{AnchorAt}
+use Rattle.granit_flow.specs.Scope.{Scope, in_new_document, anchored, number_in}
+use Rattle.granit_flow.specs.Path.{Anchors, with_anchor, number_of}
 
 -- the machine's anchors are those of a scope
 pub record Knows (c : Scope) (a : Anchors) : Type 0 where

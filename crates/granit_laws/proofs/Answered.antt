@@ -5,23 +5,24 @@ use Rattle.granit_base.specs.Classes.{is_gap}
 use Rattle.granit_base.specs.Place.{Mark, first}
 use Rattle.granit_error.specs.FaultKind.{FaultKind, UnclosedFlowCollection, RecursionLimitExceeded, NotBuilt, UnknownAnchor}
 use Rattle.granit_error.specs.OptionsData.{OptionsData}
-use Rattle.granit_model.specs.Cause.{ReachedTo, open_brackets, IsDocumentMark, IsViable, IsNext, Unclosed, TooDeep, Unknown, NotTaken, at_end, at_no_gap, at_lexeme, at_foreign}
-use Rattle.granit_model.specs.Events.{document_events, events}
-use Rattle.granit_model.specs.Extent.{IsLexeme}
-use Rattle.granit_model.specs.Gap.{StandsAt, IsGap, Parts}
-use Rattle.granit_model.specs.Here.{Here, mark_of, start_of}
-use Rattle.granit_model.specs.Lexeme.{Lexeme, LexemeKind, SequenceClose, MappingClose, wants_gap, Opener, Source, opener_char}
-use Rattle.granit_model.specs.Machine.{MachineState, Turn, stream_end, on_read, turn, size, machine_start, stream_events, events_of}
-use Rattle.granit_model.specs.Node.{Documents}
-use Rattle.granit_model.specs.Outcome.{Fault, ◌>>=◌}
-use Rattle.granit_model.specs.Path.{Path, Frame, Anchors, no_anchors, ParserState, Stepped, step_on}
-use Rattle.granit_model.specs.Pieces.{with_front, then_more, turns, pieces}
-use Rattle.granit_model.specs.Place.{place_of, mark_at}
-use Rattle.granit_model.specs.PlainEvent.{PlainEvent, event_on, StreamStart, StreamEnd}
-use Rattle.granit_model.specs.ReaderState.{ReaderState, Read, next_lexeme}
-use Rattle.granit_model.specs.Reading.{Before, nothing_before, openers_behind, behind_lexeme, behind_all, Reached, stops, goes_on, NestsWithin, Reading}
-use Rattle.granit_model.specs.Scope.{Resolves}
-use Rattle.granit_model.specs.Yield.{spell_documents}
+use Rattle.granit_flow.specs.Cause.{ReachedTo, open_brackets, IsDocumentMark, IsViable, IsNext, Unclosed, TooDeep, Unknown, NotTaken, at_end, at_no_gap, at_lexeme, at_foreign}
+use Rattle.granit_flow.specs.Events.{document_events, events}
+use Rattle.granit_flow.specs.Extent.{IsLexeme}
+use Rattle.granit_lexemes.specs.Gap.{StandsAt, IsGap, Parts}
+use Rattle.granit_flow.specs.Here.{Here, mark_of, start_of}
+use Rattle.granit_flow.specs.Lexeme.{Lexeme, LexemeKind, SequenceClose, MappingClose, wants_gap, Opener, opener_char}
+use Rattle.granit_lexemes.specs.Source.{Source}
+use Rattle.granit_flow.specs.Machine.{MachineState, Turn, stream_end, on_read, turn, size, machine_start, stream_events, events_of}
+use Rattle.granit_flow.specs.Node.{Documents}
+use Rattle.granit_lexemes.specs.Outcome.{Fault, ◌>>=◌}
+use Rattle.granit_flow.specs.Path.{Path, Frame, Anchors, no_anchors, ParserState, Stepped, step_on}
+use Rattle.granit_lexemes.specs.Pieces.{with_front, then_more, turns, pieces}
+use Rattle.granit_lexemes.specs.Place.{place_of, mark_at}
+use Rattle.granit_lexemes.specs.PlainEvent.{PlainEvent, event_on, StreamStart, StreamEnd}
+use Rattle.granit_flow.specs.ReaderState.{ReaderState, Read, next_lexeme}
+use Rattle.granit_flow.specs.Reading.{Before, nothing_before, openers_behind, behind_lexeme, behind_all, Reached, stops, goes_on, NestsWithin, Reading}
+use Rattle.granit_flow.specs.Scope.{Resolves}
+use Rattle.granit_flow.specs.Yield.{spell_documents}
 use Rattle.granit_lexing.specs.Finding.{Misfits, Finds, FindsEnd, FindsUnclosed, FindsTooDeep, Strange, no_gap, misfit, foreign, FindsStrange, FindsFault, Reads}
 use Rattle.granit_lexing.specs.Standing.{here_at, state_at}
 use Rattle.granit_lexing.proofs.LexingReads.{next_lexeme_reads}

@@ -2,11 +2,12 @@
 use Rattle.std.proofs.Common.{◌≡◌, List, [], ◌∷◌, ◌++◌, false, refl, ◌∙◌}
 use Rattle.granit_base.specs.Written.{Written}
 use Rattle.granit_base.specs.declared.style.ScalarStyle.TheVariants.{DoubleQuoted}
-use Rattle.granit_model.specs.Lexeme.{Lexeme, SequenceClose, MappingClose, Question, Colon, Scalar, Source}
-use Rattle.granit_model.specs.Node.{NodeProperties, no_properties, Node, ScalarNode, Sequence, EmptyMapping, Mapping, Entry, FirstEntry, NextEntry, Pair, NextPair, Documents, Document}
-use Rattle.granit_model.specs.Yield.{lexeme, spell, spell_documents}
-use Rattle.granit_model.specs.OpenPlace.{Hole, RootHole, FirstEntryHole, NextEntryHole, KeyHole, ValueHole, OpenPlace, BetweenDocuments, AtHole, AfterProperties, AfterEntry, AfterMappingOpen, AfterPairComma, AfterKey, AfterPair, spell_hole, spell_open}
-use Rattle.granit_model.specs.Cause.{Begins}
+use Rattle.granit_flow.specs.Lexeme.{Lexeme, SequenceClose, MappingClose, Question, Colon, Scalar}
+use Rattle.granit_lexemes.specs.Source.{Source}
+use Rattle.granit_flow.specs.Node.{NodeProperties, no_properties, Node, ScalarNode, Sequence, EmptyMapping, Mapping, Entry, FirstEntry, NextEntry, Pair, NextPair, Documents, Document}
+use Rattle.granit_flow.specs.Yield.{lexeme, spell, spell_documents}
+use Rattle.granit_flow.specs.OpenPlace.{Hole, RootHole, FirstEntryHole, NextEntryHole, KeyHole, ValueHole, OpenPlace, BetweenDocuments, AtHole, AfterProperties, AfterEntry, AfterMappingOpen, AfterPairComma, AfterKey, AfterPair, spell_hole, spell_open}
+use Rattle.granit_flow.specs.Cause.{Begins}
 
 -- lexemes that complete what stands before them to documents
 record Completes (before : List Lexeme → List Lexeme) : Type 0 where

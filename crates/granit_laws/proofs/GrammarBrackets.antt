@@ -1,12 +1,13 @@
 -- The brackets that lexemes leave open are those of the unfinished nodes behind them.
 use Rattle.std.proofs.Common.{◌≡◌, List, [], ◌∷◌, ◌++◌, map, drop, Option, Some, None, refl, sym, ap, ◌∙◌, subst}
 use Rattle.granit_base.specs.Place.{Mark}
-use Rattle.granit_model.specs.Lexeme.{Lexeme, LexemeKind, DocumentStart, SequenceOpen, SequenceClose, MappingOpen, MappingClose, Comma, Question, Colon, Tag, Anchor, Alias, Scalar, Bracket, Square, Curly, Opener, Source}
-use Rattle.granit_model.specs.Node.{AnchorAt, NodeProperties, no_properties, Node, Documents}
-use Rattle.granit_model.specs.Yield.{spell_documents}
-use Rattle.granit_model.specs.OpenPlace.{Hole, RootHole, FirstEntryHole, NextEntryHole, KeyHole, ValueHole, OpenPlace, BetweenDocuments, AtHole, AfterProperties, AfterEntry, AfterMappingOpen, AfterPairComma, AfterKey, AfterPair}
-use Rattle.granit_model.specs.Reading.{Before, nothing_before, openers_behind, behind_lexeme, behind_all}
-use Rattle.granit_model.specs.Cause.{open_brackets}
+use Rattle.granit_flow.specs.Lexeme.{Lexeme, LexemeKind, DocumentStart, SequenceOpen, SequenceClose, MappingOpen, MappingClose, Comma, Question, Colon, Tag, Anchor, Alias, Scalar, Bracket, Square, Curly, Opener}
+use Rattle.granit_lexemes.specs.Source.{Source}
+use Rattle.granit_flow.specs.Node.{AnchorAt, NodeProperties, no_properties, Node, Documents}
+use Rattle.granit_flow.specs.Yield.{spell_documents}
+use Rattle.granit_flow.specs.OpenPlace.{Hole, RootHole, FirstEntryHole, NextEntryHole, KeyHole, ValueHole, OpenPlace, BetweenDocuments, AtHole, AfterProperties, AfterEntry, AfterMappingOpen, AfterPairComma, AfterKey, AfterPair}
+use Rattle.granit_flow.specs.Reading.{Before, nothing_before, openers_behind, behind_lexeme, behind_all}
+use Rattle.granit_flow.specs.Cause.{open_brackets}
 use Rattle.granit_laws.proofs.GrammarPlaces.{fill, place_body, place_node, place_behind_properties, place_step, place_then, place_behind, first_of_all}
 use Rattle.granit_laws.proofs.GrammarComplete.{complete}
 

@@ -1,10 +1,11 @@
 -- What documents spell leads to the place behind these documents and no others.
 use Rattle.std.proofs.Common.{◌≡◌, ◌≢◌, List, [], ◌∷◌, Option, Some, None, refl, sym, ap, ◌∙◌}
-use Rattle.granit_model.specs.Lexeme.{Lexeme, LexemeKind, DocumentStart, SequenceOpen, SequenceClose, MappingOpen, MappingClose, Comma, Question, Colon, Tag, Anchor, Alias, Scalar, Source}
-use Rattle.granit_model.specs.Node.{TagAt, AnchorAt, NodeProperties, no_properties, Node, AliasNode, ScalarNode, EmptySequence, Sequence, EmptyMapping, Mapping, Entries, Entry, FirstEntry, NextEntry, Pairs, Pair, PairLead, FirstPair, NextPair, Documents, NoDocument, Document}
-use Rattle.granit_model.specs.Yield.{lexeme, spell_tag, spell_anchor, spell_properties, spell, spell_entries, spell_pairs, spell_pair_lead, spell_documents}
-use Rattle.granit_model.specs.Path.{tag_alone, anchor_behind}
-use Rattle.granit_model.specs.OpenPlace.{Hole, RootHole, FirstEntryHole, NextEntryHole, KeyHole, ValueHole, OpenPlace, BetweenDocuments, AtHole, AfterEntry, AfterMappingOpen, AfterPair}
+use Rattle.granit_flow.specs.Lexeme.{Lexeme, LexemeKind, DocumentStart, SequenceOpen, SequenceClose, MappingOpen, MappingClose, Comma, Question, Colon, Tag, Anchor, Alias, Scalar}
+use Rattle.granit_lexemes.specs.Source.{Source}
+use Rattle.granit_flow.specs.Node.{TagAt, AnchorAt, NodeProperties, no_properties, Node, AliasNode, ScalarNode, EmptySequence, Sequence, EmptyMapping, Mapping, Entries, Entry, FirstEntry, NextEntry, Pairs, Pair, PairLead, FirstPair, NextPair, Documents, NoDocument, Document}
+use Rattle.granit_flow.specs.Yield.{lexeme, spell_tag, spell_anchor, spell_properties, spell, spell_entries, spell_pairs, spell_pair_lead, spell_documents}
+use Rattle.granit_flow.specs.Path.{tag_alone, anchor_behind}
+use Rattle.granit_flow.specs.OpenPlace.{Hole, RootHole, FirstEntryHole, NextEntryHole, KeyHole, ValueHole, OpenPlace, BetweenDocuments, AtHole, AfterEntry, AfterMappingOpen, AfterPair}
 use Rattle.granit_laws.proofs.GrammarPlaces.{fill, place_body, place_node, place_behind_properties, place_step, place_then, place_behind, first_of_all}
 
 -- the same, with lexemes behind

@@ -2,12 +2,13 @@
 use Rattle.std.proofs.Common.{ℕ, Bool, true, false, List, [], ◌∷◌, Option, Some, None, if◌then◌else◌}
 use Rattle.granit_base.specs.declared.style.StructureStyle.TheVariants.{Flow}
 use Rattle.granit_error.specs.OptionsData.{OptionsData}
-use Rattle.granit_model.specs.Lexeme.{Lexeme, LexemeKind, DocumentStart, SequenceOpen, SequenceClose, MappingOpen, MappingClose, Comma, Question, Colon, Tag, Anchor, Alias, Scalar, Source}
-use Rattle.granit_model.specs.Node.{TagAt, AnchorAt, NodeProperties, Node, AliasNode, ScalarNode, EmptySequence, Sequence, EmptyMapping, Mapping, Entries, Entry, EntryLead, FirstEntry, NextEntry, Pairs, Pair, PairLead, FirstPair, NextPair, Documents, NoDocument, Document}
-use Rattle.granit_model.specs.PlainEvent.{PlainEvent, PlainTag, EventKind, event_at, event_on, DocumentStart as DocumentStarts, DocumentEnd, Scalar as ScalarIs, SequenceStart, SequenceEnd, MappingStart, MappingEnd}
-use Rattle.granit_model.specs.Scope.{Scope, in_new_document, anchored, behind_node, behind_entry_lead, behind_pair_lead, behind_documents}
-use Rattle.granit_model.specs.Yield.{lexeme, spell_tag, spell_anchor, spell_properties, spell, spell_entries, spell_entry_lead, spell_pairs, spell_pair_lead, spell_documents}
-use Rattle.granit_model.specs.Events.{node_end, plain_tag, tagged_span, anchor_number, anchor_events, start_events, node_events, entry_events, entry_lead_events, pair_events, pair_lead_events, document_events}
+use Rattle.granit_flow.specs.Lexeme.{Lexeme, LexemeKind, DocumentStart, SequenceOpen, SequenceClose, MappingOpen, MappingClose, Comma, Question, Colon, Tag, Anchor, Alias, Scalar}
+use Rattle.granit_lexemes.specs.Source.{Source}
+use Rattle.granit_flow.specs.Node.{TagAt, AnchorAt, NodeProperties, Node, AliasNode, ScalarNode, EmptySequence, Sequence, EmptyMapping, Mapping, Entries, Entry, EntryLead, FirstEntry, NextEntry, Pairs, Pair, PairLead, FirstPair, NextPair, Documents, NoDocument, Document}
+use Rattle.granit_lexemes.specs.PlainEvent.{PlainEvent, PlainTag, EventKind, event_at, event_on, DocumentStart as DocumentStarts, DocumentEnd, Scalar as ScalarIs, SequenceStart, SequenceEnd, MappingStart, MappingEnd}
+use Rattle.granit_flow.specs.Scope.{Scope, in_new_document, anchored, behind_node, behind_entry_lead, behind_pair_lead, behind_documents}
+use Rattle.granit_flow.specs.Yield.{lexeme, spell_tag, spell_anchor, spell_properties, spell, spell_entries, spell_entry_lead, spell_pairs, spell_pair_lead, spell_documents}
+use Rattle.granit_flow.specs.Events.{node_end, plain_tag, tagged_span, anchor_number, anchor_events, start_events, node_events, entry_events, entry_lead_events, pair_events, pair_lead_events, document_events}
 
 -- each lexeme
 abbrev pub EachLexeme : (Lexeme → Type 0) → List Lexeme → Type 0

@@ -1,10 +1,10 @@
 -- What the next lexeme of documents needs to find behind the lexemes before it.
 use Rattle.std.proofs.Common.{◌≡◌, List, [], ◌∷◌, ◌++◌, Option, Some, None, refl, sym, ◌∙◌, subst}
-use Rattle.granit_model.specs.Lexeme.{Lexeme, LexemeKind, DocumentStart, SequenceClose, MappingClose, Bracket, Square, Curly, Opener}
-use Rattle.granit_model.specs.Node.{Documents}
-use Rattle.granit_model.specs.Yield.{spell_documents}
-use Rattle.granit_model.specs.OpenPlace.{OpenPlace, BetweenDocuments}
-use Rattle.granit_model.specs.Cause.{open_brackets}
+use Rattle.granit_flow.specs.Lexeme.{Lexeme, LexemeKind, DocumentStart, SequenceClose, MappingClose, Bracket, Square, Curly, Opener}
+use Rattle.granit_flow.specs.Node.{Documents}
+use Rattle.granit_flow.specs.Yield.{spell_documents}
+use Rattle.granit_flow.specs.OpenPlace.{OpenPlace, BetweenDocuments}
+use Rattle.granit_flow.specs.Cause.{open_brackets}
 use Rattle.granit_laws.proofs.GrammarPlaces.{place_step, place_then, place_behind, first_of_all, place_append}
 use Rattle.granit_laws.proofs.GrammarComplete.{complete_at}
 use Rattle.granit_laws.proofs.GrammarBrackets.{kinds_of, Wants, step_wants, brackets_are, no_kinds}

@@ -1,9 +1,10 @@
 -- The parser that keeps its pieces: open places in place of paths, one step for each lexeme.
 use Rattle.std.proofs.Common.{◌≡◌, List, [], ◌∷◌, ◌++◌, Option, Some, None, refl}
-use Rattle.granit_model.specs.Lexeme.{Lexeme, LexemeKind, DocumentStart, SequenceOpen, SequenceClose, MappingOpen, MappingClose, Comma, Question, Colon, Tag, Anchor, Alias, Scalar, Source}
-use Rattle.granit_model.specs.Node.{AnchorAt, NodeProperties, no_properties, Node, AliasNode, ScalarNode, EmptySequence, Sequence, EmptyMapping, Mapping, Entry, FirstEntry, NextEntry, Pair, FirstPair, NextPair, NoDocument, Document}
-use Rattle.granit_model.specs.Path.{tag_alone, anchor_behind}
-use Rattle.granit_model.specs.OpenPlace.{Hole, RootHole, FirstEntryHole, NextEntryHole, KeyHole, ValueHole, OpenPlace, BetweenDocuments, AtHole, AfterProperties, AfterEntry, AfterMappingOpen, AfterPairComma, AfterKey, AfterPair}
+use Rattle.granit_flow.specs.Lexeme.{Lexeme, LexemeKind, DocumentStart, SequenceOpen, SequenceClose, MappingOpen, MappingClose, Comma, Question, Colon, Tag, Anchor, Alias, Scalar}
+use Rattle.granit_lexemes.specs.Source.{Source}
+use Rattle.granit_flow.specs.Node.{AnchorAt, NodeProperties, no_properties, Node, AliasNode, ScalarNode, EmptySequence, Sequence, EmptyMapping, Mapping, Entry, FirstEntry, NextEntry, Pair, FirstPair, NextPair, NoDocument, Document}
+use Rattle.granit_flow.specs.Path.{tag_alone, anchor_behind}
+use Rattle.granit_flow.specs.OpenPlace.{Hole, RootHole, FirstEntryHole, NextEntryHole, KeyHole, ValueHole, OpenPlace, BetweenDocuments, AtHole, AfterProperties, AfterEntry, AfterMappingOpen, AfterPairComma, AfterKey, AfterPair}
 
 -- the place behind a node that fills a hole
 abbrev pub fill : Hole → Node → OpenPlace

@@ -4,15 +4,15 @@ use Rattle.std.specs.Prelude.{Contains}
 use Rattle.granit_base.specs.Written.{Written}
 use Rattle.granit_error.specs.FaultKind.{NotBuilt, UnknownAnchor}
 use Rattle.granit_error.specs.OptionsData.{OptionsData}
-use Rattle.granit_model.specs.Outcome.{Fault, fault_at}
-use Rattle.granit_model.specs.Lexeme.{Lexeme, Alias}
-use Rattle.granit_model.specs.PlainEvent.{PlainEvent}
-use Rattle.granit_model.specs.Node.{Documents}
-use Rattle.granit_model.specs.Scope.{names_behind_all}
-use Rattle.granit_model.specs.Yield.{spell_documents}
-use Rattle.granit_model.specs.Path.{Path, Frame, ParserState, Stepped, step_on}
-use Rattle.granit_model.specs.OpenPlace.{OpenPlace, BetweenDocuments, path_of}
-use Rattle.granit_model.specs.Cause.{Begins}
+use Rattle.granit_lexemes.specs.Outcome.{Fault, fault_at}
+use Rattle.granit_flow.specs.Lexeme.{Lexeme, Alias}
+use Rattle.granit_lexemes.specs.PlainEvent.{PlainEvent}
+use Rattle.granit_flow.specs.Node.{Documents}
+use Rattle.granit_flow.specs.Scope.{names_behind_all}
+use Rattle.granit_flow.specs.Yield.{spell_documents}
+use Rattle.granit_flow.specs.Path.{Path, Frame, ParserState, Stepped, step_on}
+use Rattle.granit_flow.specs.OpenPlace.{OpenPlace, BetweenDocuments, path_of}
+use Rattle.granit_flow.specs.Cause.{Begins}
 use Rattle.granit_laws.proofs.GrammarPlaces.{place_step, place_then, place_behind, first_of_all, place_append}
 use Rattle.granit_laws.proofs.GrammarSteps.{Agree}
 use Rattle.granit_laws.proofs.GrammarComplete.{complete_at}

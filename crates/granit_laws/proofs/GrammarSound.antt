@@ -2,14 +2,14 @@
 use Rattle.std.proofs.Common.{◌≡◌, ℕ, List, [], ◌∷◌, ◌++◌, Option, Some, None, Ok, refl, sym, ap, ◌∙◌, subst, append_assoc}
 use Rattle.std.proofs.lemmas.List.{append-nil}
 use Rattle.granit_error.specs.OptionsData.{OptionsData}
-use Rattle.granit_model.specs.Lexeme.{Lexeme}
-use Rattle.granit_model.specs.PlainEvent.{PlainEvent}
-use Rattle.granit_model.specs.Node.{Documents}
-use Rattle.granit_model.specs.Scope.{names_behind, names_behind_all, Names, Resolves}
-use Rattle.granit_model.specs.Yield.{spell_documents}
-use Rattle.granit_model.specs.Events.{document_events}
-use Rattle.granit_model.specs.Path.{Path, no_anchors, ParserState, Stepped, step_in, step_on}
-use Rattle.granit_model.specs.OpenPlace.{Hole, RootHole, FirstEntryHole, NextEntryHole, KeyHole, ValueHole, OpenPlace, BetweenDocuments, AtHole, AfterProperties, AfterEntry, AfterMappingOpen, AfterPairComma, AfterKey, AfterPair, hole_path, spell_open, path_of, open_scope, open_events}
+use Rattle.granit_flow.specs.Lexeme.{Lexeme}
+use Rattle.granit_lexemes.specs.PlainEvent.{PlainEvent}
+use Rattle.granit_flow.specs.Node.{Documents}
+use Rattle.granit_flow.specs.Scope.{names_behind, names_behind_all, Names, Resolves}
+use Rattle.granit_flow.specs.Yield.{spell_documents}
+use Rattle.granit_flow.specs.Events.{document_events}
+use Rattle.granit_flow.specs.Path.{Path, no_anchors, ParserState, Stepped, step_in, step_on}
+use Rattle.granit_flow.specs.OpenPlace.{Hole, RootHole, FirstEntryHole, NextEntryHole, KeyHole, ValueHole, OpenPlace, BetweenDocuments, AtHole, AfterProperties, AfterEntry, AfterMappingOpen, AfterPairComma, AfterKey, AfterPair, hole_path, spell_open, path_of, open_scope, open_events}
 use Rattle.granit_laws.proofs.Anchors.{Knows}
 use Rattle.granit_laws.proofs.GrammarPlaces.{place_step, place_then, place_behind, first_of_all, place_append}
 use Rattle.granit_laws.proofs.GrammarSteps.{names_of, Agree, step_agrees}

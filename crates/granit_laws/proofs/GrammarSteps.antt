@@ -5,15 +5,16 @@ use Rattle.granit_base.specs.Written.{Written}
 use Rattle.granit_base.specs.declared.style.StructureStyle.TheVariants.{Flow}
 use Rattle.granit_error.specs.FaultKind.{NotBuilt, UnknownAnchor}
 use Rattle.granit_error.specs.OptionsData.{OptionsData}
-use Rattle.granit_model.specs.Lexeme.{Lexeme, LexemeKind, DocumentStart, SequenceOpen, SequenceClose, MappingOpen, MappingClose, Comma, Question, Colon, Tag, Anchor, Alias, Scalar, Source}
-use Rattle.granit_model.specs.Node.{AnchorAt, NodeProperties, no_properties, Node, AliasNode, ScalarNode, EmptySequence, Sequence, EmptyMapping, Mapping}
-use Rattle.granit_model.specs.Outcome.{Fault, fault_at}
-use Rattle.granit_model.specs.PlainEvent.{PlainEvent, PlainTag, EventKind, event_at, Anchor as AnchorIs, Scalar as ScalarIs, SequenceStart, MappingStart}
-use Rattle.granit_model.specs.Scope.{Scope, anchored, number_in, behind_node, names_behind, Names}
-use Rattle.granit_model.specs.Yield.{lexeme, spell_tag, spell_anchor, spell_properties, spell}
-use Rattle.granit_model.specs.Events.{plain_tag, tagged_span, alias_kind, node_end, start_events, node_events}
-use Rattle.granit_model.specs.Path.{Anchors, ParserState, Stepped, with_anchor, number_of, behind_node as path_behind, root_end, finished, begun, body, alias, node, behind_properties, step_in}
-use Rattle.granit_model.specs.OpenPlace.{Hole, RootHole, FirstEntryHole, NextEntryHole, KeyHole, ValueHole, OpenPlace, BetweenDocuments, AtHole, AfterProperties, AfterEntry, AfterMappingOpen, AfterPairComma, AfterKey, AfterPair, spell_hole, spell_open, hole_path, path_of, hole_scope, open_scope, hole_events, open_events}
+use Rattle.granit_flow.specs.Lexeme.{Lexeme, LexemeKind, DocumentStart, SequenceOpen, SequenceClose, MappingOpen, MappingClose, Comma, Question, Colon, Tag, Anchor, Alias, Scalar}
+use Rattle.granit_lexemes.specs.Source.{Source}
+use Rattle.granit_flow.specs.Node.{AnchorAt, NodeProperties, no_properties, Node, AliasNode, ScalarNode, EmptySequence, Sequence, EmptyMapping, Mapping}
+use Rattle.granit_lexemes.specs.Outcome.{Fault, fault_at}
+use Rattle.granit_lexemes.specs.PlainEvent.{PlainEvent, PlainTag, EventKind, event_at, Anchor as AnchorIs, Scalar as ScalarIs, SequenceStart, MappingStart}
+use Rattle.granit_flow.specs.Scope.{Scope, anchored, number_in, behind_node, names_behind, Names}
+use Rattle.granit_flow.specs.Yield.{lexeme, spell_tag, spell_anchor, spell_properties, spell}
+use Rattle.granit_flow.specs.Events.{plain_tag, tagged_span, alias_kind, node_end, start_events, node_events}
+use Rattle.granit_flow.specs.Path.{Anchors, ParserState, Stepped, with_anchor, number_of, behind_node as path_behind, root_end, finished, begun, body, alias, node, behind_properties, step_in}
+use Rattle.granit_flow.specs.OpenPlace.{Hole, RootHole, FirstEntryHole, NextEntryHole, KeyHole, ValueHole, OpenPlace, BetweenDocuments, AtHole, AfterProperties, AfterEntry, AfterMappingOpen, AfterPairComma, AfterKey, AfterPair, spell_hole, spell_open, hole_path, path_of, hole_scope, open_scope, hole_events, open_events}
 use Rattle.granit_laws.proofs.Anchors.{Knows, knows_anchored, knows_new, names_in, has_name, has_no_name}
 use Rattle.granit_laws.proofs.GrammarPlaces.{fill, place_body, place_node, place_behind_properties, place_step}
 

@@ -1,13 +1,14 @@
 -- Lexemes that are reached with one more, and openers as lexemes.
 use Rattle.std.proofs.Common.{◌≡◌, ℕ, suc, ◌+◌, List, [], ◌∷◌, ◌++◌, length, refl, ap, ◌∙◌}
 use Rattle.granit_base.specs.Place.{Mark}
-use Rattle.granit_model.specs.Cause.{open_brackets}
-use Rattle.granit_model.specs.Extent.{IsLexeme, MayBegin, MayFollow, Spells, left_square, left_curly}
-use Rattle.granit_model.specs.Gap.{StandsAt, Parts}
-use Rattle.granit_model.specs.Lexeme.{Lexeme, Bracket, Square, Curly, Opener, Source, opener_char}
-use Rattle.granit_model.specs.Place.{mark_at}
-use Rattle.granit_model.specs.ReaderState.{open_kind}
-use Rattle.granit_model.specs.Reading.{Before, nothing_before, openers_behind, behind_all, Reached, stops, goes_on}
+use Rattle.granit_flow.specs.Cause.{open_brackets}
+use Rattle.granit_flow.specs.Extent.{IsLexeme, MayBegin, MayFollow, Spells, left_square, left_curly}
+use Rattle.granit_lexemes.specs.Gap.{StandsAt, Parts}
+use Rattle.granit_flow.specs.Lexeme.{Lexeme, Bracket, Square, Curly, Opener, opener_char}
+use Rattle.granit_lexemes.specs.Source.{Source}
+use Rattle.granit_lexemes.specs.Place.{mark_at}
+use Rattle.granit_flow.specs.ReaderState.{open_kind}
+use Rattle.granit_flow.specs.Reading.{Before, nothing_before, openers_behind, behind_all, Reached, stops, goes_on}
 use Rattle.granit_lexing.proofs.LexingOnce.{end_of}
 use Rattle.granit_laws.proofs.GrammarBrackets.{behind_append}
 

@@ -4,15 +4,15 @@ use Rattle.granit_base.specs.Place.{Mark}
 use Rattle.granit_base.specs.Written.{Written}
 use Rattle.granit_error.specs.FaultKind.{FaultKind, UnclosedFlowCollection, RecursionLimitExceeded, NotBuilt, UnknownAnchor}
 use Rattle.granit_error.specs.OptionsData.{OptionsData}
-use Rattle.granit_model.specs.Cause.{Cause}
-use Rattle.granit_model.specs.Events.{events}
-use Rattle.granit_model.specs.Lexeme.{Lexeme}
-use Rattle.granit_model.specs.Machine.{events_of}
-use Rattle.granit_model.specs.Node.{Documents}
-use Rattle.granit_model.specs.Outcome.{Fault, fault_at}
-use Rattle.granit_model.specs.PlainEvent.{PlainEvent}
-use Rattle.granit_model.specs.Reading.{Reading}
-use Rattle.granit_model.specs.Scope.{Resolves}
+use Rattle.granit_flow.specs.Cause.{Cause}
+use Rattle.granit_flow.specs.Events.{events}
+use Rattle.granit_flow.specs.Lexeme.{Lexeme}
+use Rattle.granit_flow.specs.Machine.{events_of}
+use Rattle.granit_flow.specs.Node.{Documents}
+use Rattle.granit_lexemes.specs.Outcome.{Fault, fault_at}
+use Rattle.granit_lexemes.specs.PlainEvent.{PlainEvent}
+use Rattle.granit_flow.specs.Reading.{Reading}
+use Rattle.granit_flow.specs.Scope.{Resolves}
 use Rattle.granit_laws.proofs.GrammarComplete.{one_tree}
 use Rattle.granit_laws.proofs.Answered.{Why, Answered, answered}
 use Rattle.granit_lexing.proofs.LexingOnce.{reached_once}

@@ -4,15 +4,16 @@ use Rattle.granit_base.specs.Classes.{is_gap}
 use Rattle.granit_base.specs.Place.{Mark, first}
 use Rattle.granit_error.specs.FaultKind.{FaultKind, UnclosedFlowCollection, RecursionLimitExceeded, NotBuilt, UnknownAnchor}
 use Rattle.granit_error.specs.OptionsData.{OptionsData}
-use Rattle.granit_model.specs.Cause.{ReachedTo, open_brackets, IsDocumentMark, Begins, IsViable, IsNext, Unclosed, TooDeep, Unknown, NotTaken, at_end, at_no_gap, at_lexeme, at_foreign, NotPlainFlow, Cause}
-use Rattle.granit_model.specs.Extent.{IsLexeme}
-use Rattle.granit_model.specs.Gap.{StandsAt, IsGap}
-use Rattle.granit_model.specs.Lexeme.{Lexeme, LexemeKind, Alias, DocumentStart, Opener, Source, opener_char}
-use Rattle.granit_model.specs.Node.{Documents}
-use Rattle.granit_model.specs.Place.{mark_at}
-use Rattle.granit_model.specs.Reading.{Before, nothing_before, openers_behind, behind_lexeme, behind_all, Reached, stops, goes_on, NestsWithin}
-use Rattle.granit_model.specs.Scope.{names_behind_all, Names}
-use Rattle.granit_model.specs.Yield.{spell_documents}
+use Rattle.granit_flow.specs.Cause.{ReachedTo, open_brackets, IsDocumentMark, Begins, IsViable, IsNext, Unclosed, TooDeep, Unknown, NotTaken, at_end, at_no_gap, at_lexeme, at_foreign, NotPlainFlow, Cause}
+use Rattle.granit_flow.specs.Extent.{IsLexeme}
+use Rattle.granit_lexemes.specs.Gap.{StandsAt, IsGap}
+use Rattle.granit_flow.specs.Lexeme.{Lexeme, LexemeKind, Alias, DocumentStart, Opener, opener_char}
+use Rattle.granit_lexemes.specs.Source.{Source}
+use Rattle.granit_flow.specs.Node.{Documents}
+use Rattle.granit_lexemes.specs.Place.{mark_at}
+use Rattle.granit_flow.specs.Reading.{Before, nothing_before, openers_behind, behind_lexeme, behind_all, Reached, stops, goes_on, NestsWithin}
+use Rattle.granit_flow.specs.Scope.{names_behind_all, Names}
+use Rattle.granit_flow.specs.Yield.{spell_documents}
 use Rattle.std.proofs.lemmas.List.{append_cancel_left, drop_all}
 use Rattle.granit_lexing.proofs.LexingGlyphs.{no_gap_first}
 use Rattle.granit_lexing.proofs.LexingOnce.{end_of, one_lexeme, no_width, end_of_last, owes_of_last}

@@ -1,11 +1,11 @@
 -- The scope at a place is that of the lexemes before it, and its names have their numbers.
 use Rattle.std.proofs.Common.{◌≡◌, ℕ, List, [], ◌∷◌, Option, Some, None, refl, sym, ap, ◌∙◌, subst}
 use Rattle.std.specs.Prelude.{Contains}
-use Rattle.granit_model.specs.Lexeme.{Lexeme, LexemeKind, DocumentStart, SequenceOpen, SequenceClose, MappingOpen, MappingClose, Comma, Question, Colon, Anchor, Scalar}
-use Rattle.granit_model.specs.Node.{TagAt, AnchorAt, Node, AliasNode, ScalarNode, EmptySequence, Sequence, EmptyMapping, Mapping, Entries, Entry, EntryLead, FirstEntry, NextEntry, Pairs, Pair, PairLead, FirstPair, NextPair, Documents, NoDocument, Document}
-use Rattle.granit_model.specs.Scope.{Scope, no_scope, in_new_document, anchored, number_in, behind_node, behind_entries, behind_entry_lead, behind_pairs, behind_pair_lead, behind_documents, names_behind, names_behind_all}
-use Rattle.granit_model.specs.Yield.{lexeme, spell_tag, spell_anchor, spell, spell_entries, spell_entry_lead, spell_pairs, spell_pair_lead, spell_documents}
-use Rattle.granit_model.specs.OpenPlace.{Hole, RootHole, FirstEntryHole, NextEntryHole, KeyHole, ValueHole, spell_hole, hole_scope}
+use Rattle.granit_flow.specs.Lexeme.{Lexeme, LexemeKind, DocumentStart, SequenceOpen, SequenceClose, MappingOpen, MappingClose, Comma, Question, Colon, Anchor, Scalar}
+use Rattle.granit_flow.specs.Node.{TagAt, AnchorAt, Node, AliasNode, ScalarNode, EmptySequence, Sequence, EmptyMapping, Mapping, Entries, Entry, EntryLead, FirstEntry, NextEntry, Pairs, Pair, PairLead, FirstPair, NextPair, Documents, NoDocument, Document}
+use Rattle.granit_flow.specs.Scope.{Scope, no_scope, in_new_document, anchored, number_in, behind_node, behind_entries, behind_entry_lead, behind_pairs, behind_pair_lead, behind_documents, names_behind, names_behind_all}
+use Rattle.granit_flow.specs.Yield.{lexeme, spell_tag, spell_anchor, spell, spell_entries, spell_entry_lead, spell_pairs, spell_pair_lead, spell_documents}
+use Rattle.granit_flow.specs.OpenPlace.{Hole, RootHole, FirstEntryHole, NextEntryHole, KeyHole, ValueHole, spell_hole, hole_scope}
 use Rattle.granit_laws.specs.LexemeScope.{scope_behind, scope_behind_all, scope_of}
 use Rattle.granit_laws.proofs.Anchors.{names_in, has_name, has_no_name}
 

@@ -2,13 +2,15 @@
 use Rattle.std.proofs.Common.{◌≡◌, ℕ, ◌+◌, ◌-◌, ◌≤◌, ◌<◌, List, [], ◌∷◌, ◌++◌, length, drop, length-drop, length-append, Option, Some, None, refl, sym, ap, ap₂, subst, arith}
 use Rattle.granit_base.specs.Place.{Mark}
 use Rattle.granit_error.specs.OptionsData.{OptionsData}
-use Rattle.granit_model.specs.Events.{TagStands, StandsIn, SpansIn, told_length, tagged_span, events}
-use Rattle.granit_model.specs.Lexeme.{Lexeme, LexemeKind, Tag, Source}
-use Rattle.granit_model.specs.Node.{TagAt, Documents}
-use Rattle.granit_model.specs.Place.{mark_at}
-use Rattle.granit_model.specs.PlainEvent.{PlainEvent, plain_span, event_on, StreamEnd}
-use Rattle.granit_model.specs.Reading.{Before, Reached, stops, goes_on, Reading}
-use Rattle.granit_model.specs.Yield.{lexeme, spell_documents}
+use Rattle.granit_flow.specs.Events.{TagStands, StandsIn, SpansIn, tagged_span, events}
+use Rattle.granit_lexemes.specs.PlainEvent.{told_length}
+use Rattle.granit_flow.specs.Lexeme.{Lexeme, LexemeKind, Tag}
+use Rattle.granit_lexemes.specs.Source.{Source}
+use Rattle.granit_flow.specs.Node.{TagAt, Documents}
+use Rattle.granit_lexemes.specs.Place.{mark_at}
+use Rattle.granit_lexemes.specs.PlainEvent.{PlainEvent, plain_span, event_on, StreamEnd}
+use Rattle.granit_flow.specs.Reading.{Before, Reached, stops, goes_on, Reading}
+use Rattle.granit_flow.specs.Yield.{lexeme, spell_documents}
 use Rattle.granit_laws.proofs.GrammarEnds.{EachLexeme, EachEvent, TagHolds, Borne, events_hold}
 use Rattle.granit_laws.proofs.Spelled.{lexeme_some}
 

@@ -2,12 +2,12 @@
 use Rattle.std.proofs.Common.{◌≡◌, ◌≢◌, ℕ, suc, ◌+◌, ◌<◌, true, false, List, [], ◌∷◌, ◌++◌, length, drop, refl, sym, ap, ◌∙◌, subst, arith, append_assoc, length-drop, length-append}
 use Rattle.granit_base.specs.Classes.{is_break, is_blank_or_breakz, is_anchor_char}
 use Rattle.granit_base.specs.Place.{first, ends_line}
-use Rattle.granit_model.specs.Extent.{Spells, dashes, left_square, right_square, left_curly, right_curly, comma, question, colon, verbatim, anchor, alias, quoted}
-use Rattle.granit_model.specs.Gap.{Each}
-use Rattle.granit_model.specs.Lexeme.{LexemeKind, DocumentStart, wants_gap, Opener}
-use Rattle.granit_model.specs.Place.{place_of, since_line_end}
-use Rattle.granit_model.specs.Start.{glyph, Dash}
-use Rattle.granit_model.proofs.HereLemmas.{no_line_end}
+use Rattle.granit_flow.specs.Extent.{Spells, dashes, left_square, right_square, left_curly, right_curly, comma, question, colon, verbatim, anchor, alias, quoted}
+use Rattle.granit_lexemes.specs.Gap.{Each}
+use Rattle.granit_flow.specs.Lexeme.{LexemeKind, DocumentStart, wants_gap, Opener}
+use Rattle.granit_lexemes.specs.Place.{place_of, since_line_end}
+use Rattle.granit_flow.specs.Start.{glyph, Dash}
+use Rattle.granit_flow.proofs.HereLemmas.{no_line_end}
 use Rattle.granit_lexing.specs.Finding.{Fits}
 use Rattle.granit_lexing.proofs.LexingGlyphs.{Shape, shape_of, not_nothing}
 use Rattle.granit_lexing.proofs.LexingRuns.{rest_of, name_no_break}

@@ -3,13 +3,13 @@ use Rattle.std.proofs.Common.{◌≡◌, ℕ, ◌≤◌, ◌<◌, false, List, [
 use Rattle.granit_base.specs.Classes.{is_gap, is_blank, is_break}
 use Rattle.granit_base.specs.Place.{Mark, first}
 use Rattle.granit_error.specs.OptionsData.{OptionsData}
-use Rattle.granit_model.specs.Cause.{ReachedTo, open_brackets, IsDocumentMark, Unclosed, TooDeep, Unknown, NotTaken, at_end, at_no_gap, at_lexeme, at_foreign}
-use Rattle.granit_model.specs.Extent.{IsLexeme}
-use Rattle.granit_model.specs.Lexeme.{Lexeme, LexemeKind, Alias, Opener}
-use Rattle.granit_model.specs.Node.{Documents}
-use Rattle.granit_model.specs.Reading.{Before, nothing_before, behind_lexeme, behind_all, NestsWithin, Reading}
-use Rattle.granit_model.specs.Scope.{names_behind, names_behind_all, Names, Resolves}
-use Rattle.granit_model.specs.Yield.{spell_documents}
+use Rattle.granit_flow.specs.Cause.{ReachedTo, open_brackets, IsDocumentMark, Unclosed, TooDeep, Unknown, NotTaken, at_end, at_no_gap, at_lexeme, at_foreign}
+use Rattle.granit_flow.specs.Extent.{IsLexeme}
+use Rattle.granit_flow.specs.Lexeme.{Lexeme, LexemeKind, Alias, Opener}
+use Rattle.granit_flow.specs.Node.{Documents}
+use Rattle.granit_flow.specs.Reading.{Before, nothing_before, behind_lexeme, behind_all, NestsWithin, Reading}
+use Rattle.granit_flow.specs.Scope.{names_behind, names_behind_all, Names, Resolves}
+use Rattle.granit_flow.specs.Yield.{spell_documents}
 use Rattle.granit_laws.proofs.GrammarBrackets.{documents_close}
 use Rattle.granit_laws.proofs.GrammarGoesOn.{WantsOpen, documents_want}
 use Rattle.granit_lexing.proofs.LexingOnce.{all_reached, GoesOn, goes_on_there, lexeme_follows, no_lexeme_follows, gap_is_missing_behind}

@@ -1,8 +1,8 @@
 -- Words of the worked examples.
 use Rattle.std.specs.Prelude.{ℕ, List, true}
 use Rattle.granit_error.specs.OptionsData.{OptionsData, default_options}
-use Rattle.granit_model.specs.Line.{answer_lines}
-use Rattle.granit_model.specs.Machine.{events_of}
+use Rattle.granit_lexemes.specs.Line.{answer_lines}
+use Rattle.granit_flow.specs.Machine.{events_of}
 
 -- what is printed for a text under some options
 abbrev pub prints_under : OptionsData → List ℕ → List ℕ

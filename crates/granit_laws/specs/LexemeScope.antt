@@ -1,7 +1,7 @@
 -- Scope told from lexemes alone: one after the other, without their nodes.
 use Rattle.std.specs.Prelude.{suc, List, [], ◌∷◌}
-use Rattle.granit_model.specs.Lexeme.{Lexeme, LexemeKind, DocumentStart, Anchor}
-use Rattle.granit_model.specs.Scope.{Scope, no_scope, in_new_document}
+use Rattle.granit_flow.specs.Lexeme.{Lexeme, LexemeKind, DocumentStart, Anchor}
+use Rattle.granit_flow.specs.Scope.{Scope, no_scope, in_new_document}
 
 -- an anchor's number is how many anchors stand before it, and one; a document knows none of those before it
 abbrev pub scope_behind : LexemeKind → Scope → Scope

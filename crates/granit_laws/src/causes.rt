@@ -3,14 +3,14 @@ ghost use Rattle.std.specs.Prelude.{◌≡◌, ℕ, ◌⊎◌, List, [], Ok, Err
 ghost use Rattle.granit_base.specs.Place.{Mark};
 ghost use Rattle.granit_error.specs.FaultKind.{FaultKind, RecursionLimitExceeded, UnknownAnchor};
 ghost use Rattle.granit_error.specs.OptionsData.{OptionsData};
-ghost use Rattle.granit_model.specs.Cause.{Cause};
-ghost use Rattle.granit_model.specs.Events.{events};
-ghost use Rattle.granit_model.specs.Lexeme.{Lexeme};
-ghost use Rattle.granit_model.specs.Machine.{events_of};
-ghost use Rattle.granit_model.specs.Node.{Documents};
-ghost use Rattle.granit_model.specs.Outcome.{Fault, fault_at};
-ghost use Rattle.granit_model.specs.Reading.{Reading};
-ghost use Rattle.granit_model.specs.Scope.{Resolves};
+ghost use Rattle.granit_flow.specs.Cause.{Cause};
+ghost use Rattle.granit_flow.specs.Events.{events};
+ghost use Rattle.granit_flow.specs.Lexeme.{Lexeme};
+ghost use Rattle.granit_flow.specs.Machine.{events_of};
+ghost use Rattle.granit_flow.specs.Node.{Documents};
+ghost use Rattle.granit_lexemes.specs.Outcome.{Fault, fault_at};
+ghost use Rattle.granit_flow.specs.Reading.{Reading};
+ghost use Rattle.granit_flow.specs.Scope.{Resolves};
 
 /// The cause of a fault's kind stands at its mark, and the fault names no source.
 pub fn every_fault_has_its_cause()

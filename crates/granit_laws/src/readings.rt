@@ -1,13 +1,13 @@
 //! What the plain machine answers is what a text is read as.
 ghost use Rattle.std.specs.Prelude.{◌≡◌, ℕ, List, [], Ok};
 ghost use Rattle.granit_error.specs.OptionsData.{OptionsData};
-ghost use Rattle.granit_model.specs.Events.{SpansIn, events};
-ghost use Rattle.granit_model.specs.Lexeme.{Lexeme};
-ghost use Rattle.granit_model.specs.Machine.{events_of};
-ghost use Rattle.granit_model.specs.Node.{Documents};
-ghost use Rattle.granit_model.specs.PlainEvent.{PlainEvent};
-ghost use Rattle.granit_model.specs.Reading.{Reading};
-ghost use Rattle.granit_model.specs.Scope.{Resolves};
+ghost use Rattle.granit_flow.specs.Events.{SpansIn, events};
+ghost use Rattle.granit_flow.specs.Lexeme.{Lexeme};
+ghost use Rattle.granit_flow.specs.Machine.{events_of};
+ghost use Rattle.granit_flow.specs.Node.{Documents};
+ghost use Rattle.granit_lexemes.specs.PlainEvent.{PlainEvent};
+ghost use Rattle.granit_flow.specs.Reading.{Reading};
+ghost use Rattle.granit_flow.specs.Scope.{Resolves};
 
 /// An answer is the event list of documents as which the text is read. Each alias names an anchor before it
 /// in its document, or the options leave it unresolved.

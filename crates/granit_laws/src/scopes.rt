@@ -1,9 +1,9 @@
 //! Scope: the numbers of anchors, and which names have one.
 ghost use Rattle.std.specs.Prelude.{◌≡◌, ℕ, List, [], Contains, Some};
 ghost use Rattle.granit_laws.specs.LexemeScope.{scope_of};
-ghost use Rattle.granit_model.specs.Lexeme.{Lexeme};
-ghost use Rattle.granit_model.specs.OpenPlace.{Hole, hole_scope, spell_hole};
-ghost use Rattle.granit_model.specs.Scope.{names_behind_all, number_in};
+ghost use Rattle.granit_flow.specs.Lexeme.{Lexeme};
+ghost use Rattle.granit_flow.specs.OpenPlace.{Hole, hole_scope, spell_hole};
+ghost use Rattle.granit_flow.specs.Scope.{names_behind_all, number_in};
 
 /// The scope where a node must stand, which is told along the nodes before it, is that of the lexemes before it.
 pub fn scope_is_told_by_the_lexemes_before()

@@ -4,10 +4,10 @@ use Rattle.std.specs.List.{prefix_len}
 use Rattle.granit_error.specs.FaultKind.{NoMemory, UnexpectedCharacter}
 use Rattle.granit_error.specs.Refused.{Refused}
 use Rattle.granit_input.specs.Runs.{run_length, starts, is_line_char}
-use Rattle.granit_model.specs.Comment.{is_comment_char, behind_comment, skipped_comment, comment, comment_read, CommentRead, StandsComment, Spoils, ReadsComment}
-use Rattle.granit_model.specs.Here.{Here, next_char, step, chunk}
-use Rattle.granit_model.specs.Moves.{steps}
-use Rattle.granit_model.specs.Outcome.{Fault, Fails}
+use Rattle.granit_lexemes.specs.Comment.{is_comment_char, behind_comment, skipped_comment, comment, comment_read, CommentRead, StandsComment, Spoils, ReadsComment}
+use Rattle.granit_lexemes.specs.Here.{Here, next_char, step, chunk}
+use Rattle.granit_lexemes.specs.Moves.{steps}
+use Rattle.granit_lexemes.specs.Outcome.{Fault, Fails}
 use Rattle.granit_scalars.proofs.Nameless.{IsNameless, comment_none, skipped_none}
 use Rattle.granit_scalars.proofs.Comments.{with_text, comment_is, comment_reads}
 use Rattle.granit_lex.specs.Reading.{GivesTo, coded}

@@ -3,8 +3,8 @@ use Rattle.std.proofs.Common.{◌≡◌, [], ◌⊎◌, inl, inr, Result, Ok, Er
 use Rattle.granit_base.specs.Place.{Mark}
 use Rattle.granit_error.specs.FaultKind.{FaultKind, NoMemory}
 use Rattle.granit_error.specs.Refused.{Refused}
-use Rattle.granit_model.specs.Here.{Here}
-use Rattle.granit_model.specs.Outcome.{Fault, Fails}
+use Rattle.granit_lexemes.specs.Here.{Here}
+use Rattle.granit_lexemes.specs.Outcome.{Fault, Fails}
 use Rattle.granit_scalars.proofs.Nameless.{IsNameless}
 use Rattle.granit_lex.specs.Reading.{GivesTo, coded}
 

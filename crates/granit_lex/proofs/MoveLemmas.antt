@@ -7,8 +7,8 @@ use Rattle.granit_base.specs.Place.{Place, Unread, first, ends_line}
 use Rattle.granit_input.specs.Unread.{past}
 use Rattle.granit_input.specs.Runs.{run_length, starts, is_line_char, is_non_breakz, is_plain_at, is_quoted_char}
 use Rattle.granit_input.proofs.UnreadLemmas.{past_none, past_one, past_text, past_twice}
-use Rattle.granit_model.specs.Here.{Here, next_char, step}
-use Rattle.granit_model.specs.Moves.{steps, past_prefix_mark}
+use Rattle.granit_lexemes.specs.Here.{Here, next_char, step}
+use Rattle.granit_lexemes.specs.Moves.{steps, past_prefix_mark}
 use Rattle.granit_lex.specs.Reading.{Reading, Stands}
 
 -- no character that passes a test ends a line

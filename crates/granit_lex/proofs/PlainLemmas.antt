@@ -12,14 +12,14 @@ use Rattle.granit_base.specs.Place.{Mark, first}
 use Rattle.granit_base.specs.Written.{string_chars}
 use Rattle.granit_error.specs.FaultKind.{TabInPlainScalar}
 use Rattle.granit_input.specs.Runs.{run_length, is_plain_at}
-use Rattle.granit_model.specs.Here.{Here, next_char, step}
-use Rattle.granit_model.specs.LayoutData.{LayoutData}
-use Rattle.granit_model.specs.Moves.{steps}
-use Rattle.granit_model.specs.Outcome.{Fault, fault_at}
-use Rattle.granit_model.specs.Pieces.{with_front}
-use Rattle.granit_model.specs.PlainScalar.{PlainState, fails_at, is_content, between, on_content, meets_comment, ends_before_line, plain_turn, plain_len}
-use Rattle.granit_model.proofs.HereLemmas.{step_text}
-use Rattle.granit_model.proofs.PieceLemmas.{with_front-nil, with_front-with_front, pieces_more, pieces_done, pieces_fails}
+use Rattle.granit_lexemes.specs.Here.{Here, next_char, step}
+use Rattle.granit_lexemes.specs.LayoutData.{LayoutData}
+use Rattle.granit_lexemes.specs.Moves.{steps}
+use Rattle.granit_lexemes.specs.Outcome.{Fault, fault_at}
+use Rattle.granit_lexemes.specs.Pieces.{with_front}
+use Rattle.granit_lexemes.specs.PlainScalar.{PlainState, fails_at, is_content, between, on_content, meets_comment, ends_before_line, plain_turn, plain_len}
+use Rattle.granit_lexemes.proofs.HereLemmas.{step_text}
+use Rattle.granit_lexemes.proofs.PieceLemmas.{with_front-nil, with_front-with_front, pieces_more, pieces_done, pieces_fails}
 use Rattle.granit_scalars.proofs.PlainTurns.{chain, plain_shortens}
 use Rattle.granit_lex.specs.PlainCode.{plain_state, inside, plain_rest, plain_whole, ahead_of, turn_of}
 use Rattle.granit_lex.specs.declared.plain.PlainParts.{PlainParts}

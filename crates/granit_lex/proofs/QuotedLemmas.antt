@@ -7,14 +7,14 @@ use Rattle.granit_base.specs.Written.{string_chars}
 use Rattle.granit_error.specs.FaultKind.{InvalidIndentation, UnclosedQuotedScalar, DocumentIndicatorInQuotedScalar, TabInIndentation, InvalidQuotedScalarIndent, UnexpectedCharacter}
 use Rattle.granit_error.specs.Refused.{Refused}
 use Rattle.granit_input.specs.Runs.{run_length, starts}
-use Rattle.granit_model.specs.Here.{Here, text_len, next_char, mark_of, step, chosen, skip, past}
-use Rattle.granit_model.specs.LayoutData.{LayoutData}
-use Rattle.granit_model.specs.Moves.{steps}
-use Rattle.granit_model.specs.Outcome.{Fault, Fails, ◌>>=◌}
-use Rattle.granit_model.specs.PlainScalar.{fails_at}
-use Rattle.granit_scalars.specs.QuotedScalar.{QuotedState, is_closing, escape_or, between_quoted, quoted_at, quoted_piece, quoted_content, quoted_turn, quoted_len, QuotedRead, quoted_tail, quoted_scalar, quoted_rest}
-use Rattle.granit_model.proofs.HereLemmas.{step_text}
-use Rattle.granit_model.proofs.PieceLemmas.{with_front-nil, loop_more, loop_done, loop_fails}
+use Rattle.granit_lexemes.specs.Here.{Here, text_len, next_char, mark_of, step, chosen, skip, past}
+use Rattle.granit_lexemes.specs.LayoutData.{LayoutData}
+use Rattle.granit_lexemes.specs.Moves.{steps}
+use Rattle.granit_lexemes.specs.Outcome.{Fault, Fails, ◌>>=◌}
+use Rattle.granit_lexemes.specs.PlainScalar.{fails_at}
+use Rattle.granit_lexemes.specs.QuotedScalar.{QuotedState, is_closing, escape_or, between_quoted, quoted_at, quoted_piece, quoted_content, quoted_turn, quoted_len, QuotedRead, quoted_tail, quoted_scalar, quoted_rest}
+use Rattle.granit_lexemes.proofs.HereLemmas.{step_text}
+use Rattle.granit_lexemes.proofs.PieceLemmas.{with_front-nil, loop_more, loop_done, loop_fails}
 use Rattle.granit_scalars.proofs.QuotedTurns.{quoted_shortens, tab_meets, strict_meets, loose_meets, mark_meets, turn_chain}
 use Rattle.granit_lex.specs.QuotedCode.{quoted_state, quoted_whole, quoted_ahead, quoted_turn_of, content_read, added, escapes}
 use Rattle.granit_lex.specs.declared.quoted.QuotedParts.{QuotedParts}

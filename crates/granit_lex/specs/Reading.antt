@@ -5,9 +5,9 @@ use Rattle.granit_error.specs.Refused.{Refused}
 use Rattle.granit_input.specs.Chunks.{TakesFront}
 use Rattle.granit_input.specs.Origin.{Origin, Goes}
 use Rattle.granit_input.specs.Runs.{run_length}
-use Rattle.granit_model.specs.Here.{Here}
-use Rattle.granit_model.specs.Moves.{steps}
-use Rattle.granit_model.specs.Outcome.{Fault, Fails, ◌>>=◌}
+use Rattle.granit_lexemes.specs.Here.{Here}
+use Rattle.granit_lexemes.specs.Moves.{steps}
+use Rattle.granit_lexemes.specs.Outcome.{Fault, Fails, ◌>>=◌}
 
 -- an input, and the place up to which it was read
 pub record Reading (I : Type 0) : Type 0 where

@@ -3,14 +3,14 @@ use Rattle.std.specs.Prelude.{ℕ, Bool, false, List, [], Option, None, Result, 
 use Rattle.std.specs.Option.{option_map}
 use Rattle.granit_base.specs.declared.style.Placement.TheVariants.{Free}
 use Rattle.granit_base.specs.Place.{Mark}
-use Rattle.granit_model.specs.Comment.{CommentRead, comment}
-use Rattle.granit_model.specs.Here.{Here}
-use Rattle.granit_model.specs.LayoutData.{LayoutData}
-use Rattle.granit_model.specs.Lexeme.{Lexeme, LexemeKind, DocumentStart, SequenceOpen, SequenceClose, MappingOpen, MappingClose, Comma, Question, Colon, Tag, Anchor, Alias, Scalar}
-use Rattle.granit_model.specs.Outcome.{Fault, ◌>>=◌}
-use Rattle.granit_model.specs.PlainEvent.{plain_span}
-use Rattle.granit_model.specs.PlainScalar.{PlainRead}
-use Rattle.granit_scalars.specs.QuotedScalar.{QuotedRead, quoted_style, asked_comment}
+use Rattle.granit_lexemes.specs.Comment.{CommentRead, comment}
+use Rattle.granit_lexemes.specs.Here.{Here}
+use Rattle.granit_lexemes.specs.LayoutData.{LayoutData}
+use Rattle.granit_lexemes.specs.Lexeme.{Lexeme, LexemeKind, DocumentStart, SequenceOpen, SequenceClose, MappingOpen, MappingClose, Comma, Question, Colon, Tag, Anchor, Alias, Scalar}
+use Rattle.granit_lexemes.specs.Outcome.{Fault, ◌>>=◌}
+use Rattle.granit_lexemes.specs.PlainEvent.{plain_span}
+use Rattle.granit_lexemes.specs.PlainScalar.{PlainRead}
+use Rattle.granit_lexemes.specs.QuotedScalar.{QuotedRead, quoted_style, asked_comment}
 use Rattle.granit_lex.specs.declared.token.Layout.{Layout}
 use Rattle.granit_lex.specs.declared.token.Lexed.{Lexed}
 use Rattle.granit_lex.specs.declared.token.Token.{Token}

@@ -1,8 +1,8 @@
 //! Comments are read.
 ghost use Rattle.std.specs.Prelude.{◌≡◌, ◌⊎◌, ℕ, IfOk, IfErr, []};
 ghost use Rattle.granit_error.specs.FaultKind.{NoMemory, UnexpectedCharacter};
-ghost use Rattle.granit_model.specs.Comment as spec;
-ghost use Rattle.granit_model.specs.Here.{Here, next_char};
+ghost use Rattle.granit_lexemes.specs.Comment as spec;
+ghost use Rattle.granit_lexemes.specs.Here.{Here, next_char};
 ghost use Rattle.granit_lex.specs.Reading.{Stands, Moves, GivesTo, coded};
 ghost use Rattle.granit_lex.specs.Tokens.{comment_token};
 
@@ -54,7 +54,7 @@ pub fn skip_comment<'input, T: BorrowedInput<'input>>(
     pass_comment(cursor)
 }
 
-#[tactic(auto, unfolding(granit_model::specs::Comment::comment, granit_model::specs::Comment::skipped_comment))]
+#[tactic(auto, unfolding(granit_lexemes::specs::Comment::comment, granit_lexemes::specs::Comment::skipped_comment))]
 pub(crate) fn read_comment<'input, T: Input>(
     alloc: Global,
     cursor: &mut Cursor<T>,
@@ -72,7 +72,7 @@ pub(crate) fn read_comment<'input, T: Input>(
     Ok(Token::new(span, TokenType::Comment(Comment::new(Text::owned(text)))))
 }
 
-#[tactic(auto, unfolding(granit_model::specs::Comment::skipped_comment))]
+#[tactic(auto, unfolding(granit_lexemes::specs::Comment::skipped_comment))]
 pub(crate) fn pass_comment<T: Input>(cursor: &mut Cursor<T>) -> Result<(), ScanError>
     ensures here { (h : Here) → Stands T.unread cursor.old h → GivesTo (λ u. u) result (Stands T.unread cursor.new) (spec.skipped_comment h) }
     ensures kinds { IfErr result (λ e. (c : ℕ) × (e.kind ≡ UnexpectedCharacter c)) }
@@ -84,7 +84,7 @@ pub(crate) fn pass_comment<T: Input>(cursor: &mut Cursor<T>) -> Result<(), ScanE
 }
 
 /// Behind the characters of a comment, where no unprintable character may stand.
-#[tactic(auto, unfolding(granit_model::specs::Comment::behind_comment))]
+#[tactic(auto, unfolding(granit_lexemes::specs::Comment::behind_comment))]
 fn behind_comment<T: Input>(cursor: &mut Cursor<T>) -> Result<(), ScanError>
     ensures here { (h : Here) → Stands T.unread cursor.old h → GivesTo (λ u. u) result (Stands T.unread cursor.new) (spec.behind_comment h) }
     ensures kinds { IfErr result (λ e. (c : ℕ) × (e.kind ≡ UnexpectedCharacter c)) }

@@ -10,8 +10,8 @@ ghost use Rattle.granit_base.specs.Written.{string_chars};
 ghost use Rattle.granit_error.specs.Kinds.{kind_of};
 ghost use Rattle.granit_input.specs.Origin.{error_given, after_giving, LentBetween};
 ghost use Rattle.granit_input.specs.Runs.{starts, is_line_char, is_non_breakz, is_plain_at, is_quoted_char};
-ghost use Rattle.granit_model.specs.Here.{Here, first_place, mark_of, next_char, step};
-ghost use Rattle.granit_model.specs.Moves.{past_prefix_mark};
+ghost use Rattle.granit_lexemes.specs.Here.{Here, first_place, mark_of, next_char, step};
+ghost use Rattle.granit_lexemes.specs.Moves.{past_prefix_mark};
 ghost use Rattle.granit_lex.specs.Reading.{Stands, Moves, StepsRun, StepsFront, FetchesSteps, FetchesFrontSteps, LendsSteps, has_source};
 ghost use Rattle.granit_lex.specs.contracts.cursor.Cursor.{the_row};
 
@@ -83,7 +83,7 @@ impl<T: Input> Cursor<T> {
 
     /// Consumes the next character, if there is one, and moves the place: a line ends with LF, and with
     /// CR that no LF follows (YAML 1.2.2, 5.4).
-    #[tactic(auto, unfolding(granit_model::specs::Here::step), using(granit_input::proofs::UnreadLemmas::past_one))]
+    #[tactic(auto, unfolding(granit_lexemes::specs::Here::step), using(granit_input::proofs::UnreadLemmas::past_one))]
     pub fn step(&mut self)
         ensures here { (h : Here) → Stands T.unread self.old h → Stands T.unread self.new (step h) }
         ensures left { T.left self.new.input ≤ T.left self.old.input - 1 }
@@ -106,7 +106,7 @@ impl<T: Input> Cursor<T> {
 
     /// Consumes the byte-order mark that stands next in column 0, and counts no column
     /// (YAML 1.2.2, 5.2).
-    #[tactic(auto, unfolding(granit_model::specs::Moves::past_prefix_mark))]
+    #[tactic(auto, unfolding(granit_lexemes::specs::Moves::past_prefix_mark))]
     pub fn step_prefix_mark(&mut self)
         requires mark { (h : Here) → Stands T.unread self.old h → next_char h ≡ 0xFEFF }
         requires column { self.old.place.column ≡ 0 }

@@ -1,9 +1,9 @@
 //! Escapes between double quotes are read (YAML 1.2.2, 5.7). What can't be read is refused at the scalar's start.
 ghost use Rattle.std.specs.Prelude.{◌≡◌, ◌≤◌, IsTrue, IfErr};
 ghost use Rattle.granit_error.specs.Kinds.{kind_of};
-ghost use Rattle.granit_model.specs.Decoding as decoding;
-ghost use Rattle.granit_model.specs.Here.{Here};
-ghost use Rattle.granit_scalars.specs.QuotedScalar as spec;
+ghost use Rattle.granit_lexemes.specs.Decoding as decoding;
+ghost use Rattle.granit_lexemes.specs.Here.{Here};
+ghost use Rattle.granit_lexemes.specs.QuotedScalar as spec;
 ghost use Rattle.granit_lex.specs.QuotedCode.{hex_refusal, IsQuotedKind};
 ghost use Rattle.granit_lex.specs.Reading.{Stands, Moves, GivesTo};
 
@@ -11,7 +11,7 @@ use crate::cursor::Cursor;
 use granit_base::{Marker, as_hex, is_hex};
 use granit_error::{ErrorKind, ScanError};
 use granit_input::Input;
-use granit_model::{
+use granit_lexemes::{
     digit_count, is_high_surrogate, is_low_surrogate, join_surrogates, letter_value,
 };
 
@@ -52,7 +52,7 @@ fn digits<T: Input>(
 }
 
 /// The character of a first half and the second that must follow it.
-#[tactic(auto, unfolding(granit_scalars::specs::QuotedScalar::second_half_or))]
+#[tactic(auto, unfolding(granit_lexemes::specs::QuotedScalar::second_half_or))]
 fn second_half<T: Input>(
     cursor: &mut Cursor<T>,
     start: Marker,
@@ -77,7 +77,7 @@ fn second_half<T: Input>(
 }
 
 /// What a number of so many digits stands for.
-#[tactic(auto, unfolding(granit_scalars::specs::QuotedScalar::numbered_or))]
+#[tactic(auto, unfolding(granit_lexemes::specs::QuotedScalar::numbered_or))]
 fn numbered<T: Input>(
     cursor: &mut Cursor<T>,
     start: Marker,
@@ -99,7 +99,7 @@ fn numbered<T: Input>(
 }
 
 /// The character that an escape stands for, from its letter on (YAML 1.2.2, 5.7).
-#[tactic(auto, unfolding(granit_scalars::specs::QuotedScalar::escape_or))]
+#[tactic(auto, unfolding(granit_lexemes::specs::QuotedScalar::escape_or))]
 pub(crate) fn escape<T: Input>(cursor: &mut Cursor<T>, start: Marker) -> Result<char, ScanError>
     ensures here { (h : Here) → Stands T.unread cursor.old h → GivesTo (λ c. c) result (Stands T.unread cursor.new) (spec.escape_or start h) }
     ensures kinds { IfErr result (λ e. IsQuotedKind e.kind) }

@@ -3,11 +3,11 @@ ghost use Rattle.std.specs.Prelude.{◌≡◌, ◌<◌, ◌≤◌, ◌-◌, ◌�
 ghost use Rattle.granit_base.specs.Written.{string_chars};
 ghost use Rattle.granit_error.specs.FaultKind.{NoMemory as OutOfMemory, PlainScalarStartsWithDashFlowIndicator, TabInPlainScalar, UnexpectedCharacter};
 ghost use Rattle.granit_input.specs.Runs.{run_length, is_plain_at};
-ghost use Rattle.granit_model.specs.Here.{Here, next_char, mark_of, step};
-ghost use Rattle.granit_model.specs.LayoutData as layout;
-ghost use Rattle.granit_model.specs.Moves.{steps};
-ghost use Rattle.granit_model.specs.PlainExtent as extent;
-ghost use Rattle.granit_model.specs.PlainScalar as spec;
+ghost use Rattle.granit_lexemes.specs.Here.{Here, next_char, mark_of, step};
+ghost use Rattle.granit_lexemes.specs.LayoutData as layout;
+ghost use Rattle.granit_lexemes.specs.Moves.{steps};
+ghost use Rattle.granit_lexemes.specs.PlainExtent as extent;
+ghost use Rattle.granit_lexemes.specs.PlainScalar as spec;
 ghost use Rattle.granit_lex.specs.PlainCode.{plain_state, inside, plain_rest, plain_whole, ahead_of, TakesSome, TurnTakes, TurnsTo, PartsTo, ended_plain, IsPlainKind};
 ghost use Rattle.granit_lex.specs.Reading.{Stands, Moves, GivesTo, coded};
 ghost use Rattle.granit_lex.specs.Tokens.{layout_data, plain_lexed};
@@ -133,7 +133,7 @@ fn look_ahead<T: Input>(cursor: &mut Cursor<T>, at: &Layout, parts: &PlainParts)
 }
 
 /// A blank on, which is dropped where it begins a line.
-#[tactic(auto, unfolding(granit_model::specs::PlainScalar::on_blank))]
+#[tactic(auto, unfolding(granit_lexemes::specs::PlainScalar::on_blank))]
 fn take_blank<T: Input>(
     cursor: &mut Cursor<T>,
     at: &Layout,
@@ -158,7 +158,7 @@ fn take_blank<T: Input>(
 }
 
 /// A break on: blanks before the first are dropped, and each further one is an empty line.
-#[tactic(auto, unfolding(granit_model::specs::PlainScalar::on_break))]
+#[tactic(auto, unfolding(granit_lexemes::specs::PlainScalar::on_break))]
 fn take_break<T: Input>(cursor: &mut Cursor<T>, parts: &mut PlainParts) -> Result<(), NoMemory>
     ensures here { (h : Here) → Stands T.unread cursor.old h → OnOk result (Stands T.unread cursor.new (spec.past_break h) × (plain_state parts.new (spec.past_break h) ≡ spec.on_break (plain_state parts.old h))) }
     ensures value { string_chars parts.new.value ≡ string_chars parts.old.value }
@@ -186,7 +186,7 @@ pub(crate) fn drop_blanks(blanks: &mut String)
 }
 
 /// Behind a break, which CR LF is too (YAML 1.2.2, 5.4).
-#[tactic(auto, unfolding(granit_model::specs::PlainScalar::past_break))]
+#[tactic(auto, unfolding(granit_lexemes::specs::PlainScalar::past_break))]
 pub(crate) fn past_break<T: Input>(cursor: &mut Cursor<T>)
     ensures here { (h : Here) → Stands T.unread cursor.old h → Stands T.unread cursor.new (spec.past_break h) }
     ensures left { T.left cursor.new.input ≤ T.left cursor.old.input - 1 }
@@ -288,7 +288,7 @@ fn plain_parts<T: Input>(
 }
 
 /// A plain scalar that was read up to its end, where it and what stands behind it are printable.
-#[tactic(auto, unfolding(granit_model::specs::PlainScalar::behind_plain))]
+#[tactic(auto, unfolding(granit_lexemes::specs::PlainScalar::behind_plain))]
 fn finish_plain<'input, T: Input>(
     cursor: &mut Cursor<T>,
     at: &Layout,
@@ -323,7 +323,7 @@ fn finish_plain<'input, T: Input>(
     })
 }
 
-#[tactic(auto, unfolding(granit_model::specs::PlainScalar::plain_scalar))]
+#[tactic(auto, unfolding(granit_lexemes::specs::PlainScalar::plain_scalar))]
 fn read_plain<'input, T: Input>(
     alloc: Global,
     cursor: &mut Cursor<T>,

@@ -4,12 +4,12 @@ ghost use Rattle.granit_base.specs.Classes as class;
 ghost use Rattle.granit_base.specs.Written.{string_chars};
 ghost use Rattle.granit_error.specs.FaultKind.{NoMemory as OutOfMemory};
 ghost use Rattle.granit_error.specs.Kinds.{kind_of};
-ghost use Rattle.granit_model.specs.Here.{Here, next_char, past, step};
-ghost use Rattle.granit_model.specs.PlainScalar.{past_break};
-ghost use Rattle.granit_scalars.specs.QuotedExtent as extent;
-ghost use Rattle.granit_scalars.specs.QuotedScalar as spec;
+ghost use Rattle.granit_lexemes.specs.Here.{Here, next_char, past, step};
+ghost use Rattle.granit_lexemes.specs.PlainScalar.{past_break};
+ghost use Rattle.granit_lexemes.specs.QuotedExtent as extent;
+ghost use Rattle.granit_lexemes.specs.QuotedScalar as spec;
 ghost use Rattle.granit_lex.specs.PlainCode.{TurnTakes};
-ghost use Rattle.granit_scalars.specs.QuotedScalar.{quoted_rest};
+ghost use Rattle.granit_lexemes.specs.QuotedScalar.{quoted_rest};
 ghost use Rattle.granit_lex.specs.QuotedCode.{quoted_state, quoted_whole, quoted_ahead, content_read, SeesTo, SeesSome, TakesContent, added, escapes, QuotedTurnsTo, QuotedPartsTo, IsQuotedKind};
 ghost use Rattle.granit_lex.specs.Reading.{Stands, Moves, GivesTo, coded};
 ghost use Rattle.granit_lex.specs.Tokens.{layout_data, quoted_lexed, quoted_with, asked};
@@ -89,7 +89,7 @@ fn is_tab_left(at: &Layout, column: usize) -> bool
 }
 
 /// Whether a column is left of its block, where indentation is strict.
-#[tactic(auto, unfolding(granit_scalars::specs::QuotedScalar::is_strictly_left))]
+#[tactic(auto, unfolding(granit_lexemes::specs::QuotedScalar::is_strictly_left))]
 fn is_strictly_left(at: &Layout, escaped: bool, column: usize) -> bool
     ensures { result ≡ spec.is_strictly_left (layout_data at.now) escaped column }
 {
@@ -98,7 +98,7 @@ fn is_strictly_left(at: &Layout, escaped: bool, column: usize) -> bool
 
 /// Whether a column is left of its block outside flow; the closing quote may stand there, unless
 /// indentation is strict.
-#[tactic(auto, unfolding(granit_scalars::specs::QuotedScalar::is_loosely_left))]
+#[tactic(auto, unfolding(granit_lexemes::specs::QuotedScalar::is_loosely_left))]
 fn is_loosely_left(at: &Layout, escaped: bool, closing: bool, column: usize) -> bool
     ensures { result ≡ spec.is_loosely_left (layout_data at.now) escaped closing column }
 {
@@ -113,7 +113,7 @@ fn quote(single: bool) -> char
 }
 
 /// Whether the closing quote is next; between single quotes a doubled one is content.
-#[tactic(auto, unfolding(granit_scalars::specs::QuotedScalar::is_closing))]
+#[tactic(auto, unfolding(granit_lexemes::specs::QuotedScalar::is_closing))]
 fn is_closing<T: Input>(cursor: &Cursor<T>, single: bool) -> bool
     requires { 4 ≤ T.window cursor.now.input }
     ensures { (h : Here) → Stands T.unread cursor.now h → result ≡ spec.is_closing single h.unread.text }
@@ -168,7 +168,7 @@ fn look_ahead<T: Input>(
 }
 
 /// A blank on, which is dropped where it begins a line.
-#[tactic(auto, unfolding(granit_scalars::specs::QuotedScalar::over_blank))]
+#[tactic(auto, unfolding(granit_lexemes::specs::QuotedScalar::over_blank))]
 fn take_blank<T: Input>(cursor: &mut Cursor<T>, parts: &mut QuotedParts) -> Result<(), NoMemory>
     ensures here { (h : Here) → Stands T.unread cursor.old h → OnOk result (Stands T.unread cursor.new (step h) × (quoted_state parts.new (step h) ≡ spec.over_blank (quoted_state parts.old h))) }
     ensures value { string_chars parts.new.value ≡ string_chars parts.old.value }
@@ -185,7 +185,7 @@ fn take_blank<T: Input>(cursor: &mut Cursor<T>, parts: &mut QuotedParts) -> Resu
 }
 
 /// A break on: blanks before the first are dropped, and each further one is an empty line.
-#[tactic(auto, unfolding(granit_scalars::specs::QuotedScalar::over_break))]
+#[tactic(auto, unfolding(granit_lexemes::specs::QuotedScalar::over_break))]
 fn take_break<T: Input>(cursor: &mut Cursor<T>, parts: &mut QuotedParts) -> Result<(), NoMemory>
     ensures here { (h : Here) → Stands T.unread cursor.old h → OnOk result (Stands T.unread cursor.new (past_break h) × (quoted_state parts.new (past_break h) ≡ spec.over_break (quoted_state parts.old h))) }
     ensures value { string_chars parts.new.value ≡ string_chars parts.old.value }
@@ -341,7 +341,7 @@ fn past_blanks<T: Input>(cursor: &mut Cursor<T>)
 }
 
 /// Whether a character may follow the scalar and its blanks, where it began on this line or not.
-#[tactic(auto, unfolding(granit_scalars::specs::QuotedScalar::may_trail))]
+#[tactic(auto, unfolding(granit_lexemes::specs::QuotedScalar::may_trail))]
 fn may_trail(at: &Layout, on_line: bool, c: char) -> bool
     ensures { result ≡ spec.may_trail (layout_data at.now) on_line c }
 {
@@ -388,7 +388,7 @@ fn quoted_token<'input>(
 }
 
 /// What stands behind the closing quote and blanks, where no comment begins.
-#[tactic(auto, unfolding(granit_scalars::specs::QuotedScalar::behind_quoted))]
+#[tactic(auto, unfolding(granit_lexemes::specs::QuotedScalar::behind_quoted))]
 fn behind_quoted<'input, T: Input>(
     cursor: &mut Cursor<T>,
     single: bool,
@@ -416,7 +416,7 @@ fn behind_quoted<'input, T: Input>(
 }
 
 /// The comment that begins here, where comments are asked for.
-#[tactic(auto, unfolding(granit_model::specs::Comment::comment))]
+#[tactic(auto, unfolding(granit_lexemes::specs::Comment::comment))]
 fn comment_behind<'input, T: Input>(
     alloc: Global,
     cursor: &mut Cursor<T>,
@@ -435,7 +435,7 @@ fn comment_behind<'input, T: Input>(
 }
 
 /// What stands behind the closing quote: a comment, which blanks part from it, or what may follow.
-#[tactic(auto, unfolding(granit_scalars::specs::QuotedScalar::quoted_tail))]
+#[tactic(auto, unfolding(granit_lexemes::specs::QuotedScalar::quoted_tail))]
 fn quoted_tail<'input, T: Input>(
     alloc: Global,
     cursor: &mut Cursor<T>,
@@ -462,7 +462,7 @@ fn quoted_tail<'input, T: Input>(
     behind_quoted(cursor, single, at, start, value, end)
 }
 
-#[tactic(auto, unfolding(granit_scalars::specs::QuotedScalar::quoted_scalar))]
+#[tactic(auto, unfolding(granit_lexemes::specs::QuotedScalar::quoted_scalar))]
 fn read_quoted<'input, T: Input>(
     alloc: Global,
     cursor: &mut Cursor<T>,

@@ -6,12 +6,12 @@ use Rattle.std.proofs.lemmas.Bool.Decides.{nat_tests}
 use lib.Utf8.{scalar}
 use Rattle.granit_base.specs.Classes.{is_hex, hex_value}
 use Rattle.granit_base.specs.Place.{Mark, first}
-use Rattle.granit_model.specs.Decoding.{letter_value, digit_count, number_behind, number_of, is_high, is_low, joined, AreDigits, Escape, letter, number, halves}
-use Rattle.granit_model.specs.Gap.{Each}
-use Rattle.granit_model.specs.Here.{Here, next_char}
-use Rattle.granit_model.specs.Outcome.{◌>>=◌}
-use Rattle.granit_model.specs.Quoted.{refuse_at, digits, joined_at, second_half, numbered, escape_by, escape}
-use Rattle.granit_model.proofs.DecodingLemmas.{no_hex_nul, no_letter_nul, no_count_nul, number_letter, u_wants_four, four_digits, half_is_none, begins_second}
+use Rattle.granit_lexemes.specs.Decoding.{letter_value, digit_count, number_behind, number_of, is_high, is_low, joined, AreDigits, Escape, letter, number, halves}
+use Rattle.granit_lexemes.specs.Gap.{Each}
+use Rattle.granit_flow.specs.Here.{Here, next_char}
+use Rattle.granit_lexemes.specs.Outcome.{◌>>=◌}
+use Rattle.granit_flow.specs.Quoted.{refuse_at, digits, joined_at, second_half, numbered, escape_by, escape}
+use Rattle.granit_lexemes.proofs.DecodingLemmas.{no_hex_nul, no_letter_nul, no_count_nul, number_letter, u_wants_four, four_digits, half_is_none, begins_second}
 use Rattle.granit_lexing.specs.Standing.{here_at}
 use Rattle.granit_lexing.proofs.LexingRuns.{next_is, rest_of, along}
 use Rattle.granit_lexing.proofs.Places.{step_is, rest_behind, on_two, two_behind}

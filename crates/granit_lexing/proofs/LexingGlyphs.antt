@@ -6,11 +6,11 @@ use lib.Utf8.{scalars}
 use Rattle.granit_base.specs.Classes.{is_break, is_gap, is_blank, is_anchor_char}
 use Rattle.granit_base.specs.Place.{first}
 use Rattle.granit_base.specs.Written.{Written}
-use Rattle.granit_model.specs.Decoding.{Content, UriBytes}
-use Rattle.granit_model.specs.Gap.{Each}
-use Rattle.granit_model.specs.Lexeme.{LexemeKind, DocumentStart, SequenceOpen, SequenceClose, MappingOpen, MappingClose, Comma, Question, Colon, Tag, Anchor, Alias, Scalar}
-use Rattle.granit_model.specs.Start.{Glyph, Dash, DoubleQuote, LeftSquare, RightSquare, LeftCurly, RightCurly, CommaSign, QuestionSign, ColonSign, Exclamation, Ampersand, Asterisk, Foreign, glyph}
-use Rattle.granit_model.specs.Extent.{Spells, dashes, left_square, right_square, left_curly, right_curly, comma, question, colon, verbatim, anchor, alias, quoted}
+use Rattle.granit_flow.specs.Content.{Content, UriBytes}
+use Rattle.granit_lexemes.specs.Gap.{Each}
+use Rattle.granit_flow.specs.Lexeme.{LexemeKind, DocumentStart, SequenceOpen, SequenceClose, MappingOpen, MappingClose, Comma, Question, Colon, Tag, Anchor, Alias, Scalar}
+use Rattle.granit_flow.specs.Start.{Glyph, Dash, DoubleQuote, LeftSquare, RightSquare, LeftCurly, RightCurly, CommaSign, QuestionSign, ColonSign, Exclamation, Ampersand, Asterisk, Foreign, glyph}
+use Rattle.granit_flow.specs.Extent.{Spells, dashes, left_square, right_square, left_curly, right_curly, comma, question, colon, verbatim, anchor, alias, quoted}
 use Rattle.granit_lexing.proofs.LexingRuns.{Ends}
 
 pub dash_is : (c : ℕ) → glyph c ≡ Dash → c ≡ 0x2D

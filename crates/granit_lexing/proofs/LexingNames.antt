@@ -6,11 +6,11 @@ use Rattle.granit_base.specs.Classes.{is_anchor_char, is_yaml_non_space, is_yaml
 use Rattle.granit_base.specs.Place.{first}
 use Rattle.granit_base.specs.Written.{Written}
 use Rattle.granit_error.specs.FaultKind.{NotBuilt}
-use Rattle.granit_model.specs.Gap.{Each}
-use Rattle.granit_model.specs.Here.{Here, chunk_len, chunk, past_chunk}
-use Rattle.granit_model.specs.Lexeme.{LexemeKind, Opener}
-use Rattle.granit_model.specs.ReaderState.{Read, refuse, lexed, named}
-use Rattle.granit_model.proofs.HereLemmas.{not_empty}
+use Rattle.granit_lexemes.specs.Gap.{Each}
+use Rattle.granit_flow.specs.Here.{Here, chunk_len, chunk, past_chunk}
+use Rattle.granit_flow.specs.Lexeme.{LexemeKind, Opener}
+use Rattle.granit_flow.specs.ReaderState.{Read, refuse, lexed, named}
+use Rattle.granit_flow.proofs.HereLemmas.{not_empty}
 use Rattle.granit_lexing.specs.Standing.{here_at}
 use Rattle.granit_lexing.proofs.LexingGlyphs.{IsName, lent}
 use Rattle.granit_lexing.proofs.LexingRuns.{Ends, run_of, along, chunk_len_is, chunk_is, past_chunk_is, name_no_break}

@@ -5,15 +5,16 @@ use Rattle.granit_base.specs.Classes.{is_gap, is_anchor_char}
 use Rattle.granit_base.specs.Place.{Mark, first}
 use Rattle.granit_base.specs.Written.{Written}
 use Rattle.granit_base.specs.declared.style.ScalarStyle.TheVariants.{DoubleQuoted}
-use Rattle.granit_model.specs.Decoding.{Content, has_backslash}
-use Rattle.granit_model.specs.Here.{Here, step}
-use Rattle.granit_model.specs.Place.{mark_at}
-use Rattle.granit_model.specs.Lexeme.{Lexeme, LexemeKind, DocumentStart, SequenceOpen, SequenceClose, MappingOpen, MappingClose, Comma, Question, Colon, Tag, Anchor, Alias, Scalar, wants_gap, Source}
-use Rattle.granit_model.specs.Start.{Glyph, Dash, DoubleQuote, LeftSquare, RightSquare, LeftCurly, RightCurly, CommaSign, QuestionSign, ColonSign, Exclamation, Ampersand, Asterisk, Foreign, glyph}
-use Rattle.granit_model.specs.Gap.{StandsAt, IsGap, Parts}
-use Rattle.granit_model.specs.Extent.{Spells, dashes, left_square, right_square, left_curly, right_curly, comma, question, colon, verbatim, anchor, alias, quoted, MayFollow, IsLexeme}
-use Rattle.granit_model.specs.ReaderState.{Read, lexed, double_quoted, verbatim_tag, named}
-use Rattle.granit_model.specs.Reading.{Before, behind_lexeme, behind_all, Reached, stops, goes_on}
+use Rattle.granit_flow.specs.Content.{Content, has_backslash}
+use Rattle.granit_flow.specs.Here.{Here, step}
+use Rattle.granit_lexemes.specs.Place.{mark_at}
+use Rattle.granit_flow.specs.Lexeme.{Lexeme, LexemeKind, DocumentStart, SequenceOpen, SequenceClose, MappingOpen, MappingClose, Comma, Question, Colon, Tag, Anchor, Alias, Scalar, wants_gap}
+use Rattle.granit_lexemes.specs.Source.{Source}
+use Rattle.granit_flow.specs.Start.{Glyph, Dash, DoubleQuote, LeftSquare, RightSquare, LeftCurly, RightCurly, CommaSign, QuestionSign, ColonSign, Exclamation, Ampersand, Asterisk, Foreign, glyph}
+use Rattle.granit_lexemes.specs.Gap.{StandsAt, IsGap, Parts}
+use Rattle.granit_flow.specs.Extent.{Spells, dashes, left_square, right_square, left_curly, right_curly, comma, question, colon, verbatim, anchor, alias, quoted, MayFollow, IsLexeme}
+use Rattle.granit_flow.specs.ReaderState.{Read, lexed, double_quoted, verbatim_tag, named}
+use Rattle.granit_flow.specs.Reading.{Before, behind_lexeme, behind_all, Reached, stops, goes_on}
 use Rattle.granit_lexing.specs.Standing.{here_at}
 use Rattle.granit_lexing.proofs.Places.{a_character}
 use Rattle.granit_lexing.proofs.LexingRuns.{Ends, same_run, rest_of, take_front}

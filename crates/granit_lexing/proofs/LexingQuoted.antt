@@ -7,18 +7,19 @@ use Rattle.std.proofs.Math.Seq.{drop-append_seam}
 use Rattle.granit_base.specs.Classes.{is_printable, is_break}
 use Rattle.granit_base.specs.Place.{Mark, first}
 use Rattle.granit_error.specs.FaultKind.{NotBuilt}
-use Rattle.granit_model.specs.Decoding.{Escape, letter, number, halves, Content, nothing, itself, escaped, has_backslash}
-use Rattle.granit_model.specs.Gap.{Each}
-use Rattle.granit_model.specs.Here.{Here, text_len, next_char, step, chunk, past_chunk}
-use Rattle.granit_model.specs.Lexeme.{Opener}
-use Rattle.granit_model.specs.Place.{mark_at}
-use Rattle.granit_model.specs.Outcome.{Fault, ◌>>=◌}
-use Rattle.granit_model.specs.Pieces.{with_front}
-use Rattle.granit_model.specs.Quoted.{refuse_at, escape, escaped_piece, escaped_pieces}
-use Rattle.granit_model.specs.ReaderState.{Read, refuse, closed_quote, double_quoted}
-use Rattle.granit_model.specs.Start.{is_inner}
-use Rattle.granit_model.proofs.PieceLemmas.{with_front-nil, with_front-with_front, pieces_done, pieces_more, pieces_fails}
-use Rattle.granit_model.proofs.QuotedLemmas.{piece_shortens}
+use Rattle.granit_lexemes.specs.Decoding.{Escape, letter, number, halves}
+use Rattle.granit_flow.specs.Content.{Content, nothing, itself, escaped, has_backslash}
+use Rattle.granit_lexemes.specs.Gap.{Each}
+use Rattle.granit_flow.specs.Here.{Here, text_len, next_char, step, chunk, past_chunk}
+use Rattle.granit_flow.specs.Lexeme.{Opener}
+use Rattle.granit_lexemes.specs.Place.{mark_at}
+use Rattle.granit_lexemes.specs.Outcome.{Fault, ◌>>=◌}
+use Rattle.granit_lexemes.specs.Pieces.{with_front}
+use Rattle.granit_flow.specs.Quoted.{refuse_at, escape, escaped_piece, escaped_pieces}
+use Rattle.granit_flow.specs.ReaderState.{Read, refuse, closed_quote, double_quoted}
+use Rattle.granit_flow.specs.Start.{is_inner}
+use Rattle.granit_lexemes.proofs.PieceLemmas.{with_front-nil, with_front-with_front, pieces_done, pieces_more, pieces_fails}
+use Rattle.granit_flow.proofs.QuotedLemmas.{piece_shortens}
 use Rattle.granit_lexing.specs.Standing.{here_at}
 use Rattle.granit_lexing.proofs.LexingEscapes.{EscapeOr, escape_is, escape_or}
 use Rattle.granit_lexing.proofs.LexingRuns.{Ends, run_of, same_run, rest_of, along, take_front, chunk_is, past_chunk_is, inner_no_break}

@@ -8,19 +8,19 @@ use Rattle.granit_base.specs.Place.{Mark, first}
 use Rattle.granit_base.specs.declared.style.ScalarStyle.TheVariants.{DoubleQuoted}
 use Rattle.granit_error.specs.FaultKind.{FaultKind, UnclosedFlowCollection, RecursionLimitExceeded, NotBuilt}
 use Rattle.granit_error.specs.OptionsData.{OptionsData}
-use Rattle.granit_model.specs.Decoding.{has_backslash}
-use Rattle.granit_model.specs.Here.{Here, mark_of, step}
-use Rattle.granit_model.specs.Place.{place_of, mark_at}
-use Rattle.granit_model.specs.Lexeme.{Lexeme, LexemeKind, DocumentStart, SequenceClose, MappingClose, Comma, Question, Colon, Tag, Anchor, Alias, Scalar, wants_gap, Bracket, Square, Curly, Opener, opener_char}
-use Rattle.granit_model.specs.Start.{Glyph, Dash, DoubleQuote, LeftSquare, RightSquare, LeftCurly, RightCurly, CommaSign, QuestionSign, ColonSign, Exclamation, Ampersand, Asterisk, Foreign, glyph, at_document_start, is_separated}
-use Rattle.granit_model.specs.Gap.{StandsAt, IsGap, Parts}
-use Rattle.granit_model.specs.Extent.{Spells, dashes, left_square, right_square, left_curly, right_curly, comma, question, colon, verbatim, anchor, alias, quoted, MayBegin, MayFollow, IsLexeme}
-use Rattle.granit_model.specs.ReaderState.{ReaderState, Read, refuse, lexed, text_end, mark_in, dash, double_quoted, verbatim_tag, named, open_kind, open_bracket, close_square, close_curly, close_bracket, lexeme_at, behind_gap, next_lexeme}
-use Rattle.granit_model.specs.Reading.{Before, openers_behind}
-use Rattle.granit_model.specs.Cause.{IsDocumentMark}
+use Rattle.granit_flow.specs.Content.{has_backslash}
+use Rattle.granit_flow.specs.Here.{Here, mark_of, step}
+use Rattle.granit_lexemes.specs.Place.{place_of, mark_at}
+use Rattle.granit_flow.specs.Lexeme.{Lexeme, LexemeKind, DocumentStart, SequenceClose, MappingClose, Comma, Question, Colon, Tag, Anchor, Alias, Scalar, wants_gap, Bracket, Square, Curly, Opener, opener_char}
+use Rattle.granit_flow.specs.Start.{Glyph, Dash, DoubleQuote, LeftSquare, RightSquare, LeftCurly, RightCurly, CommaSign, QuestionSign, ColonSign, Exclamation, Ampersand, Asterisk, Foreign, glyph, at_document_start, is_separated}
+use Rattle.granit_lexemes.specs.Gap.{StandsAt, IsGap, Parts}
+use Rattle.granit_flow.specs.Extent.{Spells, dashes, left_square, right_square, left_curly, right_curly, comma, question, colon, verbatim, anchor, alias, quoted, MayBegin, MayFollow, IsLexeme}
+use Rattle.granit_flow.specs.ReaderState.{ReaderState, Read, refuse, lexed, text_end, mark_in, dash, double_quoted, verbatim_tag, named, open_kind, open_bracket, close_square, close_curly, close_bracket, lexeme_at, behind_gap, next_lexeme}
+use Rattle.granit_flow.specs.Reading.{Before, openers_behind}
+use Rattle.granit_flow.specs.Cause.{IsDocumentMark}
 use Rattle.granit_lexing.specs.Standing.{here_at, state_at}
 use Rattle.granit_lexing.specs.Finding.{Fits, Misfits, FindsUnclosed, Strange, no_gap, misfit, foreign, FindsStrange, FindsFault, Reads}
-use Rattle.granit_model.proofs.HereLemmas.{not_empty}
+use Rattle.granit_flow.proofs.HereLemmas.{not_empty}
 use Rattle.granit_lexing.proofs.Places.{rest_behind, step_is, on_one, on_three}
 use Rattle.granit_lexing.proofs.LexingRuns.{Ends, run_of, rest_of, past_is}
 use Rattle.granit_lexing.proofs.LexingQuoted.{ContentOr, scan_or, quoted_is, no_content, quoted_refused}

@@ -8,11 +8,11 @@ use Rattle.std.proofs.lemmas.List.{drop-drop}
 use Rattle.std.proofs.lemmas.Str.{encodes-append}
 use Rattle.granit_base.specs.Classes.{is_break, is_yaml_non_break, is_yaml_non_space, is_anchor_char}
 use Rattle.granit_base.specs.Place.{first}
-use Rattle.granit_model.specs.Here.{Here, step, next_char, chosen, skip, past, chunk_len, chunk, past_chunk}
-use Rattle.granit_model.specs.Place.{one_more_if, line_ends, since_line_end}
-use Rattle.granit_model.specs.Gap.{Each}
-use Rattle.granit_model.specs.Start.{is_inner}
-use Rattle.granit_model.proofs.HereLemmas.{no_line_end}
+use Rattle.granit_flow.specs.Here.{Here, step, next_char, chosen, skip, past, chunk_len, chunk, past_chunk}
+use Rattle.granit_lexemes.specs.Place.{one_more_if, line_ends, since_line_end}
+use Rattle.granit_lexemes.specs.Gap.{Each}
+use Rattle.granit_flow.specs.Start.{is_inner}
+use Rattle.granit_flow.proofs.HereLemmas.{no_line_end}
 use Rattle.granit_lexing.specs.Standing.{here_at}
 use Rattle.granit_lexing.proofs.Places.{step_is, rest_behind, line_ends_behind, column_behind, next_column, same_here, same_place}
 

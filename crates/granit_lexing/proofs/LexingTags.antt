@@ -10,17 +10,17 @@ use lib.Utf8.{scalars}
 use Rattle.granit_base.specs.Classes.{is_digit, is_hex, hex_value, is_word_char, is_uri_sign, is_uri_char}
 use Rattle.granit_base.specs.Place.{Mark, first}
 use Rattle.granit_error.specs.FaultKind.{NotBuilt}
-use Rattle.granit_model.specs.Decoding.{UriBytes, nothing, itself, percent}
-use Rattle.granit_model.specs.Here.{text_len, step}
-use Rattle.granit_model.specs.Lexeme.{Tag, Opener}
-use Rattle.granit_model.specs.Outcome.{◌>>=◌}
-use Rattle.granit_model.specs.Pieces.{with_front}
-use Rattle.granit_model.specs.Place.{mark_at}
-use Rattle.granit_model.specs.Property.{percent_byte, uri_byte, uri_bytes, is_utf8, is_suffix}
-use Rattle.granit_model.specs.Quoted.{refuse_at}
-use Rattle.granit_model.specs.ReaderState.{refuse, lexed, closed_tag, verbatim_tag}
-use Rattle.granit_model.proofs.PieceLemmas.{pieces_done, pieces_more, pieces_fails}
-use Rattle.granit_model.proofs.QuotedLemmas.{uri_shortens}
+use Rattle.granit_flow.specs.Content.{UriBytes, nothing, itself, percent}
+use Rattle.granit_flow.specs.Here.{text_len, step}
+use Rattle.granit_flow.specs.Lexeme.{Tag, Opener}
+use Rattle.granit_lexemes.specs.Outcome.{◌>>=◌}
+use Rattle.granit_lexemes.specs.Pieces.{with_front}
+use Rattle.granit_lexemes.specs.Place.{mark_at}
+use Rattle.granit_flow.specs.Property.{percent_byte, uri_byte, uri_bytes, is_utf8, is_suffix}
+use Rattle.granit_flow.specs.Quoted.{refuse_at}
+use Rattle.granit_flow.specs.ReaderState.{refuse, lexed, closed_tag, verbatim_tag}
+use Rattle.granit_lexemes.proofs.PieceLemmas.{pieces_done, pieces_more, pieces_fails}
+use Rattle.granit_flow.proofs.QuotedLemmas.{uri_shortens}
 use Rattle.granit_lexing.specs.Standing.{here_at}
 use Rattle.granit_lexing.proofs.LexingGlyphs.{verbatim_of, Spelling}
 use Rattle.granit_lexing.proofs.LexingRuns.{rest_of, along}

@@ -6,9 +6,9 @@ use Rattle.std.specs.Char.{encode_utf8}
 use Rattle.std.proofs.lemmas.Str.{encodes-append}
 use Rattle.std.proofs.lemmas.List.{append-nil}
 use Rattle.granit_base.specs.Place.{Place, ends_line, past_first, place_after}
-use Rattle.granit_model.specs.Here.{Here, step, mark_of, start_of}
-use Rattle.granit_model.specs.Place.{one_more_if, line_ends, if_none, if_ends, since_line_end, place_of, mark_at}
-use Rattle.granit_model.proofs.HereLemmas.{not_empty}
+use Rattle.granit_flow.specs.Here.{Here, step, mark_of, start_of}
+use Rattle.granit_lexemes.specs.Place.{one_more_if, line_ends, if_none, if_ends, since_line_end, place_of, mark_at}
+use Rattle.granit_flow.proofs.HereLemmas.{not_empty}
 use Rattle.granit_lexing.specs.Standing.{here_with, here_at}
 
 -- the marks of a reader at an index are those that are counted

@@ -4,13 +4,13 @@ use Rattle.granit_base.specs.Place.{Mark, first}
 use Rattle.granit_base.specs.Classes.{is_gap, is_blank_or_breakz}
 use Rattle.granit_error.specs.FaultKind.{FaultKind, UnclosedFlowCollection, RecursionLimitExceeded, NotBuilt}
 use Rattle.granit_error.specs.OptionsData.{OptionsData}
-use Rattle.granit_model.specs.Lexeme.{Lexeme, LexemeKind, DocumentStart, SequenceClose, MappingClose, Bracket, Square, Curly, Opener, opener_char}
-use Rattle.granit_model.specs.Place.{place_of, mark_at}
-use Rattle.granit_model.specs.Gap.{StandsAt, IsGap, Parts}
-use Rattle.granit_model.specs.Extent.{IsLexeme}
-use Rattle.granit_model.specs.ReaderState.{ReaderState, Read}
-use Rattle.granit_model.specs.Reading.{Before, behind_lexeme}
-use Rattle.granit_model.specs.Cause.{IsDocumentMark}
+use Rattle.granit_flow.specs.Lexeme.{Lexeme, LexemeKind, DocumentStart, SequenceClose, MappingClose, Bracket, Square, Curly, Opener, opener_char}
+use Rattle.granit_lexemes.specs.Place.{place_of, mark_at}
+use Rattle.granit_lexemes.specs.Gap.{StandsAt, IsGap, Parts}
+use Rattle.granit_flow.specs.Extent.{IsLexeme}
+use Rattle.granit_flow.specs.ReaderState.{ReaderState, Read}
+use Rattle.granit_flow.specs.Reading.{Before, behind_lexeme}
+use Rattle.granit_flow.specs.Cause.{IsDocumentMark}
 use Rattle.granit_lexing.specs.Standing.{state_at}
 
 -- whether a lexeme of a kind may come where these brackets are open and that stands behind it: a closer closes the

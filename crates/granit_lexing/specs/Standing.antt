@@ -1,10 +1,10 @@
 -- A reader that stands at an index of a text.
 use Rattle.std.specs.Prelude.{ℕ, true, List, length, take, drop, Some}
 use Rattle.std.specs.Str.{encode_utf8_all}
-use Rattle.granit_model.specs.Here.{Here}
-use Rattle.granit_model.specs.Place.{place_of}
-use Rattle.granit_model.specs.ReaderState.{ReaderState}
-use Rattle.granit_model.specs.Reading.{Before}
+use Rattle.granit_flow.specs.Here.{Here}
+use Rattle.granit_lexemes.specs.Place.{place_of}
+use Rattle.granit_flow.specs.ReaderState.{ReaderState}
+use Rattle.granit_flow.specs.Reading.{Before}
 
 -- this rest of a text, which stands there from an index on
 abbrev pub here_with : List ℕ → List ℕ → ℕ → Here

@@ -2,8 +2,8 @@
 ghost use Rattle.std.specs.Prelude.{◌≡◌, ℕ, suc, ◌<◌, List, [], ◌∷◌, length, map};
 ghost use Rattle.granit_lexing.specs.Examples.{mark, lines_text};
 ghost use Rattle.granit_lexing.specs.Standing.{here_at};
-ghost use Rattle.granit_model.specs.Here.{mark_of, start_of, step};
-ghost use Rattle.granit_model.specs.Place.{mark_at};
+ghost use Rattle.granit_flow.specs.Here.{mark_of, start_of, step};
+ghost use Rattle.granit_lexemes.specs.Place.{mark_at};
 
 /// The place that is kept while reading is the counted one, and so is the byte offset: a character on
 /// from the place of an index is the place of the next.

@@ -2,15 +2,15 @@
 use Rattle.std.proofs.Common.{◌≡◌, ℕ, ◌+◌, ◌≤◌, Bool, true, false, cond, List, [], ◌∷◌, Option, Some, None, Ok, Err, refl, subst, arith}
 use Rattle.granit_base.specs.Written.{Written}
 use Rattle.granit_error.specs.OptionsData.{OptionsData}
-use Rattle.granit_model.specs.Lexeme.{Lexeme, LexemeKind, DocumentStart, SequenceOpen, SequenceClose, MappingOpen, MappingClose, Comma, Question, Colon, Tag, Anchor, Alias, Scalar}
-use Rattle.granit_model.specs.Here.{text_len}
-use Rattle.granit_model.specs.Machine.{MachineState, Turn, turn, on_read, stream_end, size}
-use Rattle.granit_model.specs.Node.{AnchorAt, NodeProperties, no_properties}
-use Rattle.granit_model.specs.Outcome.{◌>>=◌}
-use Rattle.granit_model.specs.Path.{Path, Anchors, Stepped, SequenceOpened, AtEntry, BehindEntry, MappingOpened, AtPair, AtKey, BehindKey, AtValue, BehindPair, Root, FlowSequence, FlowMapping, WithProperties, with_anchor, number_of, alias, body, node, behind_properties, step_in, step_on}
-use Rattle.granit_model.specs.PlainEvent.{PlainEvent}
-use Rattle.granit_model.specs.ReaderState.{ReaderState, Read, next_lexeme}
-use Rattle.granit_model.proofs.SizeLemmas.{lexeme_shortens}
+use Rattle.granit_flow.specs.Lexeme.{Lexeme, LexemeKind, DocumentStart, SequenceOpen, SequenceClose, MappingOpen, MappingClose, Comma, Question, Colon, Tag, Anchor, Alias, Scalar}
+use Rattle.granit_flow.specs.Here.{text_len}
+use Rattle.granit_flow.specs.Machine.{MachineState, Turn, turn, on_read, stream_end, size}
+use Rattle.granit_flow.specs.Node.{AnchorAt, NodeProperties, no_properties}
+use Rattle.granit_lexemes.specs.Outcome.{◌>>=◌}
+use Rattle.granit_flow.specs.Path.{Path, Anchors, Stepped, SequenceOpened, AtEntry, BehindEntry, MappingOpened, AtPair, AtKey, BehindKey, AtValue, BehindPair, Root, FlowSequence, FlowMapping, WithProperties, with_anchor, number_of, alias, body, node, behind_properties, step_in, step_on}
+use Rattle.granit_lexemes.specs.PlainEvent.{PlainEvent}
+use Rattle.granit_flow.specs.ReaderState.{ReaderState, Read, next_lexeme}
+use Rattle.granit_flow.proofs.SizeLemmas.{lexeme_shortens}
 
 -- at most so many anchors are counted behind a step
 abbrev CountsTo : ℕ → Stepped → Type 0

@@ -2,8 +2,8 @@
 use Rattle.std.proofs.Common.{◌≡◌, ℕ, suc, ◌+◌, ◌-◌, ◌*◌, ◌<◌, ◌≤◌, true, false, Ok, refl, arith}
 use Rattle.granit_base.specs.Classes.{is_hex, hex_value}
 use Rattle.granit_base.specs.Place.{Mark}
-use Rattle.granit_model.specs.Here.{Here, next_char, step}
-use Rattle.granit_model.specs.Quoted.{digits, refuse_at}
+use Rattle.granit_flow.specs.Here.{Here, next_char, step}
+use Rattle.granit_flow.specs.Quoted.{digits, refuse_at}
 
 pub digits_go : (start : Mark) (n i v : ℕ) (h : Here) → i < n → is_hex (next_char h) ≡ true → digits start (n - i) v h ≡ digits start (n - (i + 1)) (v * 16 + hex_value (next_char h)) (step h)
 unfolding digits

@@ -1,8 +1,8 @@
 -- On over blanks and breaks.
 use Rattle.std.proofs.Common.{◌≡◌, ◌<◌, true, false, refl}
 use Rattle.granit_base.specs.Classes.{is_gap, is_blank, is_break}
-use Rattle.granit_model.specs.Here.{Here, text_len, next_char, step, past}
-use Rattle.granit_model.proofs.HereLemmas.{past_goes, past_stops, step_shortens}
+use Rattle.granit_flow.specs.Here.{Here, text_len, next_char, step, past}
+use Rattle.granit_flow.proofs.HereLemmas.{past_goes, past_stops, step_shortens}
 
 nul_is_no_gap : is_gap 0 ≡ false
 unfolding is_gap is_blank is_break

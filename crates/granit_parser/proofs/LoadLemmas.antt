@@ -5,19 +5,19 @@ use Rattle.granit_base.specs.Place.{Mark}
 use Rattle.granit_error.specs.FaultKind.{FaultKind, NoMemory, RecursionLimitExceeded, UnknownAnchor}
 use Rattle.granit_error.specs.OptionsData.{OptionsData}
 use Rattle.granit_error.specs.Refused.{Refused}
-use Rattle.granit_model.specs.Canonical.{HasCharacters, documents_in, canonical_events}
-use Rattle.granit_model.specs.Cause.{Cause}
-use Rattle.granit_model.specs.Events.{SpansIn, events}
+use Rattle.granit_canonical.specs.Canonical.{HasCharacters, documents_in, canonical_events}
+use Rattle.granit_flow.specs.Cause.{Cause}
+use Rattle.granit_flow.specs.Events.{SpansIn, events}
 use Rattle.granit_model.specs.FlowText.{flow_characters}
-use Rattle.granit_model.specs.Lexeme.{Lexeme}
-use Rattle.granit_model.specs.Machine.{events_of}
-use Rattle.granit_model.specs.Node.{Documents}
-use Rattle.granit_model.specs.Outcome.{Fault, fault_at, Fails, GivesValue}
-use Rattle.granit_model.specs.PlainEvent.{PlainEvent}
-use Rattle.granit_model.specs.Reading.{IsReading, Reading}
-use Rattle.granit_model.specs.Scope.{Resolves}
+use Rattle.granit_flow.specs.Lexeme.{Lexeme}
+use Rattle.granit_flow.specs.Machine.{events_of}
+use Rattle.granit_flow.specs.Node.{Documents}
+use Rattle.granit_lexemes.specs.Outcome.{Fault, fault_at, Fails, GivesValue}
+use Rattle.granit_lexemes.specs.PlainEvent.{PlainEvent}
+use Rattle.granit_flow.specs.Reading.{IsReading, Reading}
+use Rattle.granit_flow.specs.Scope.{Resolves}
 use Rattle.granit_model.specs.Tree.{PlainTrees, trees_depth, DocumentsFit}
-use Rattle.granit_model.specs.Yield.{spell_documents}
+use Rattle.granit_flow.specs.Yield.{spell_documents}
 use Rattle.granit_canonical.proofs.Laws.{is_read, names_anchors}
 use Rattle.granit_laws.proofs.Laws.{is_reading, is_answered, answered_or_refused, has_cause, is_refused, IsLimit}
 use Rattle.granit_laws.proofs.Spans.{spans_in}

@@ -7,10 +7,10 @@ use Rattle.std.specs.declared.alloc.Global.{Global}
 use Rattle.granit_base.specs.Written.{Written}
 use Rattle.granit_error.specs.OptionsData.{OptionsData}
 use Rattle.granit_error.specs.Refused.{Refused}
-use Rattle.granit_model.specs.Lexeme.{Lexeme}
-use Rattle.granit_model.specs.Node.{NodeProperties, no_properties}
-use Rattle.granit_model.specs.Outcome.{Fault, Fails, ◌>>=◌}
-use Rattle.granit_model.specs.Path.{Path, Anchors, FlowSequence, body, node, behind_properties, step_in}
+use Rattle.granit_flow.specs.Lexeme.{Lexeme}
+use Rattle.granit_flow.specs.Node.{NodeProperties, no_properties}
+use Rattle.granit_lexemes.specs.Outcome.{Fault, Fails, ◌>>=◌}
+use Rattle.granit_flow.specs.Path.{Path, Anchors, FlowSequence, body, node, behind_properties, step_in}
 use Rattle.granit_parser.specs.declared.lexeme.LexemeKind.{LexemeKind as CodeKind}
 use Rattle.granit_parser.specs.declared.lexeme.LexemeKind.TheVariants as kinds
 use Rattle.granit_parser.specs.declared.path.Frame.{Frame as CodeFrame}

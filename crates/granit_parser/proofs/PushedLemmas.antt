@@ -1,8 +1,8 @@
 -- What appended items say of the definition.
 use Rattle.std.proofs.Common.{◌≡◌, Bool, true, false, List, ◌++◌, Option, Some, None, Result, Ok, Err, refl, sym, ap, ap₂}
 use Rattle.granit_error.specs.Refused.{Refused}
-use Rattle.granit_model.specs.Outcome.{Fault, Fails}
-use Rattle.granit_model.specs.Pieces.{with_front}
+use Rattle.granit_lexemes.specs.Outcome.{Fault, Fails}
+use Rattle.granit_lexemes.specs.Pieces.{with_front}
 use Rattle.granit_parser.specs.Pushed.{PushedOk, TurnedOk}
 
 -- a turn that says that there is more

@@ -4,8 +4,8 @@ use Rattle.std.specs.Str.{IsUtf8, is_utf8}
 use Rattle.std.proofs.lemmas.Bool.Decides.{nat_tests}
 use Rattle.std.proofs.lemmas.Str.{IsUtf8-from_is_utf8, is_utf8-from_IsUtf8}
 use Rattle.granit_base.specs.Classes.{is_hex, hex_value, is_uri_char, is_uri_sign, is_word_char, is_digit}
-use Rattle.granit_model.specs.Property.{is_utf8 as is_text, is_suffix}
-use Rattle.granit_model.proofs.DecodingLemmas.{digit_below}
+use Rattle.granit_flow.specs.Property.{is_utf8 as is_text, is_suffix}
+use Rattle.granit_lexemes.proofs.DecodingLemmas.{digit_below}
 
 pub uri_character_is_byte : (c : ℕ) → is_uri_char c ≡ true → c < 256
 unfolding is_uri_char is_uri_sign is_word_char is_digit

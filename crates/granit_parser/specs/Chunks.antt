@@ -3,7 +3,7 @@ use Rattle.std.specs.Prelude.{◌≡◌, ℕ, ◌+◌, Bool, List, ◌++◌, tak
 use Rattle.std.specs.Str.{chars, encode_utf8_all}
 use Rattle.std.specs.List.{prefix_len}
 use Rattle.granit_base.specs.Classes.{is_anchor_char}
-use Rattle.granit_model.specs.Start.{is_inner}
+use Rattle.granit_flow.specs.Start.{is_inner}
 use Rattle.granit_parser.specs.declared.chunk.Class.{Class}
 use Rattle.granit_parser.specs.declared.chunk.Class.TheVariants.{Inner, Name}
 

@@ -1,7 +1,7 @@
 -- What the code's properties say.
 use Rattle.std.specs.Option.{option_map}
 use Rattle.granit_base.specs.Written.{string_chars}
-use Rattle.granit_model.specs.Node.{TagAt, AnchorAt, NodeProperties}
+use Rattle.granit_flow.specs.Node.{TagAt, AnchorAt, NodeProperties}
 use Rattle.granit_parser.specs.declared.property.TagAt.{TagAt as CodeTag}
 use Rattle.granit_parser.specs.declared.property.AnchorAt.{AnchorAt as CodeAnchor}
 use Rattle.granit_parser.specs.declared.property.Properties.{Properties as CodeProperties}

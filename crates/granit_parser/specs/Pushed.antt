@@ -1,7 +1,7 @@
 -- What a function does that appends its items to a list: the items and the state that it leaves are those that the definition gives.
 use Rattle.std.specs.Prelude.{◌≡◌, Bool, true, false, List, ◌++◌, Option, Some, None, Result, Ok, Err}
 use Rattle.granit_error.specs.Refused.{Refused}
-use Rattle.granit_model.specs.Outcome.{Fault, Fails}
+use Rattle.granit_lexemes.specs.Outcome.{Fault, Fails}
 
 abbrev pub PushedOk : {S A : Type 0} → S → List A → List A → Result (List A × S) Fault → Type 0
 PushedOk after old new (Ok x) = (new ≡ old ++ x.0) × (after ≡ x.1)

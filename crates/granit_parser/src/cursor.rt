@@ -2,7 +2,7 @@
 ghost use Rattle.std.specs.Prelude.{◌≡◌, ◌==◌, true, length, slice_index, Some};
 ghost use Rattle.std.specs.Str.{chars};
 ghost use Rattle.granit_base.specs.Classes.{is_gap};
-ghost use Rattle.granit_model.specs.Here as spec;
+ghost use Rattle.granit_flow.specs.Here as spec;
 ghost use Rattle.granit_parser.specs.Chunks.{class_test};
 
 use crate::chunk::{Class, split_chunk};
@@ -23,7 +23,7 @@ pub(crate) struct Cursor<'a> {
 impl<'a> Model for Cursor<'a> {
     ghost use Rattle.std.specs.Prelude.{◌+◌, ◌<◌, ◌≤◌, ◌^◌, length, true, Some};
     ghost use Rattle.std.specs.Str.{chars};
-    ghost use Rattle.granit_model.specs.Here.{Here};
+    ghost use Rattle.granit_flow.specs.Here.{Here};
 
     ghost Value = { Here };
 
@@ -90,7 +90,7 @@ impl<'a> Cursor<'a> {
     }
 
     /// Consumes the next character, if there is one.
-    #[tactic(auto, unfolding(granit_model::specs::Here::step))]
+    #[tactic(auto, unfolding(granit_flow::specs::Here::step))]
     pub(crate) fn step(&mut self)
         ensures { self.new ≡ spec.step self.old }
     {
@@ -120,7 +120,7 @@ impl<'a> Cursor<'a> {
     }
 
     /// Consumes and lends the characters of a class in front.
-    #[tactic(auto, unfolding(granit_model::specs::Here::past_chunk))]
+    #[tactic(auto, unfolding(granit_flow::specs::Here::past_chunk))]
     pub(crate) fn take_chunk(&mut self, class: Class) -> &'a str
         ensures text { chars result.now ≡ spec.chunk (class_test class) self.old }
         ensures after { self.new ≡ spec.past_chunk (class_test class) self.old }

@@ -3,17 +3,17 @@ ghost use Rattle.std.specs.Prelude.{◌≤◌, IsTrue};
 ghost use Rattle.std.specs.Str.{chars};
 ghost use Rattle.granit_base.specs.Written.{string_chars};
 ghost use Rattle.granit_error.specs.FaultKind as faults;
-ghost use Rattle.granit_model.specs.Decoding as decoding;
-ghost use Rattle.granit_model.specs.Outcome.{Gives};
-ghost use Rattle.granit_model.specs.Pieces.{with_front};
-ghost use Rattle.granit_model.specs.Quoted as spec;
+ghost use Rattle.granit_lexemes.specs.Decoding as decoding;
+ghost use Rattle.granit_lexemes.specs.Outcome.{Gives};
+ghost use Rattle.granit_lexemes.specs.Pieces.{with_front};
+ghost use Rattle.granit_flow.specs.Quoted as spec;
 ghost use Rattle.granit_parser.specs.Pushed.{Pushed, Turned};
 
 use crate::chunk::Class;
 use crate::cursor::Cursor;
 use granit_base::{Marker, as_hex, is_hex, push_char, push_text};
 use granit_error::{ErrorKind, ScanError};
-use granit_model::{digit_count, is_high_surrogate, join_surrogates, letter_value};
+use granit_lexemes::{digit_count, is_high_surrogate, join_surrogates, letter_value};
 use std::alloc::Global;
 
 impl<'a> Cursor<'a> {
@@ -35,7 +35,7 @@ impl<'a> Cursor<'a> {
     }
 
     /// The character of a first half and the second that must follow it.
-    #[tactic(auto, unfolding(granit_model::specs::Quoted::second_half))]
+    #[tactic(auto, unfolding(granit_flow::specs::Quoted::second_half))]
     fn second_half(&mut self, start: Marker, high: u32) -> Result<char, ScanError>
         requires { IsTrue (decoding.is_high high) }
         ensures { Gives (λ c. c) result self.new (spec.second_half start high self.old) }
@@ -52,7 +52,7 @@ impl<'a> Cursor<'a> {
     }
 
     /// What a number of so many digits stands for.
-    #[tactic(auto, unfolding(granit_model::specs::Quoted::numbered))]
+    #[tactic(auto, unfolding(granit_flow::specs::Quoted::numbered))]
     fn numbered(&mut self, start: Marker, count: u32, number: u32) -> Result<char, ScanError>
         ensures { Gives (λ c. c) result self.new (spec.numbered start count number self.old) }
     {
@@ -64,7 +64,7 @@ impl<'a> Cursor<'a> {
     }
 
     /// An escape, from its letter on.
-    #[tactic(auto, unfolding(granit_model::specs::Quoted::escape))]
+    #[tactic(auto, unfolding(granit_flow::specs::Quoted::escape))]
     fn escape(&mut self, start: Marker) -> Result<char, ScanError>
         ensures { Gives (λ c. c) result self.new (spec.escape start self.old) }
     {
@@ -85,7 +85,7 @@ impl<'a> Cursor<'a> {
 
     /// An escape and the characters behind it that stand for themselves, which are appended, or the
     /// closing quote, which is left: whether there may be more.
-    #[tactic(auto, unfolding(granit_model::specs::Quoted::escaped_piece))]
+    #[tactic(auto, unfolding(granit_flow::specs::Quoted::escaped_piece))]
     fn escaped_piece(&mut self, start: Marker, value: &mut String) -> Result<bool, ScanError>
         ensures { Turned result self.new (string_chars value.old) (string_chars value.new) (spec.escaped_piece start self.old) }
     {

@@ -1,7 +1,7 @@
 //! Which lexeme a character may begin.
 ghost use Rattle.std.specs.Prelude.{◌≡◌};
 ghost use Rattle.granit_base.specs.Classes as class;
-ghost use Rattle.granit_model.specs.Start as spec;
+ghost use Rattle.granit_flow.specs.Start as spec;
 ghost use Rattle.granit_parser.specs.Lexemes.{glyph_view};
 
 use granit_base::{is_blank, is_break, is_printable};
@@ -25,7 +25,7 @@ pub(crate) enum Glyph {
 }
 
 /// The glyph of a character.
-#[tactic(auto, unfolding(granit_model::specs::Start::glyph))]
+#[tactic(auto, unfolding(granit_flow::specs::Start::glyph))]
 pub(crate) fn glyph_of(c: char) -> Glyph
     ensures { glyph_view result ≡ spec.glyph c }
 {
@@ -55,7 +55,7 @@ pub(crate) fn is_gap(c: char) -> bool
 }
 
 /// A character that stands for itself in a double-quoted scalar on one line (YAML 1.2.2, 7.3.1).
-#[tactic(auto, unfolding(granit_model::specs::Start::is_inner, granit_base::specs::Classes::is_printable, granit_base::specs::Classes::is_break))]
+#[tactic(auto, unfolding(granit_flow::specs::Start::is_inner, granit_base::specs::Classes::is_printable, granit_base::specs::Classes::is_break))]
 pub(crate) fn is_inner(c: char) -> bool
     ensures { result ≡ spec.is_inner c }
 {

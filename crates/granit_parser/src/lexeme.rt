@@ -1,6 +1,6 @@
 //! Lexemes: the parts of a text that spell its nodes.
 ghost use Rattle.std.specs.Prelude.{◌≡◌};
-ghost use Rattle.granit_model.specs.Lexeme as spec;
+ghost use Rattle.granit_flow.specs.Lexeme as spec;
 ghost use Rattle.granit_parser.specs.Lexemes.{kind_view, bracket_view};
 
 use granit_base::{Marker, ScalarStyle, Text};

@@ -2,9 +2,9 @@
 ghost use Rattle.std.specs.Prelude.{◌≡◌, ◌+◌, ◌<◌, ◌^◌};
 ghost use Rattle.std.specs.Str.{chars};
 ghost use Rattle.granit_error.specs.OptionsView.{options_of};
-ghost use Rattle.granit_model.specs.Here as here;
-ghost use Rattle.granit_model.specs.Machine as spec;
-ghost use Rattle.granit_model.specs.Pieces.{pieces};
+ghost use Rattle.granit_flow.specs.Here as here;
+ghost use Rattle.granit_flow.specs.Machine as spec;
+ghost use Rattle.granit_lexemes.specs.Pieces.{pieces};
 ghost use Rattle.granit_event.specs.Events.{plain_events};
 ghost use Rattle.granit_parser.specs.Pushed.{Pushed, Turned};
 
@@ -24,7 +24,7 @@ pub(crate) struct Parser<'a> {
 }
 
 impl<'a> Model for Parser<'a> {
-    ghost use Rattle.granit_model.specs.Machine.{MachineState};
+    ghost use Rattle.granit_flow.specs.Machine.{MachineState};
 
     ghost Value = { MachineState };
 
@@ -52,7 +52,7 @@ impl<'a> Parser<'a> {
     }
 
     /// One lexeme, whose events are appended, or the end: whether there may be more.
-    #[tactic(auto, unfolding(granit_model::specs::Machine::turn))]
+    #[tactic(auto, unfolding(granit_flow::specs::Machine::turn))]
     pub(crate) fn turn(
         &mut self,
         options: &Options,

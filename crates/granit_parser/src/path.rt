@@ -3,10 +3,10 @@ ghost use Rattle.std.specs.Prelude.{◌≡◌, ◌==◌, ◌<◌, ◌^◌, true,
 ghost use Rattle.std.specs.Option.{option_map};
 ghost use Rattle.granit_error.specs.FaultKind as faults;
 ghost use Rattle.granit_error.specs.OptionsView.{options_of};
-ghost use Rattle.granit_model.specs.Lexeme as lexemes;
-ghost use Rattle.granit_model.specs.Path as spec;
-ghost use Rattle.granit_model.specs.PlainEvent as kinds;
-ghost use Rattle.granit_model.specs.PlainEvent.{event_at};
+ghost use Rattle.granit_flow.specs.Lexeme as lexemes;
+ghost use Rattle.granit_flow.specs.Path as spec;
+ghost use Rattle.granit_lexemes.specs.PlainEvent as kinds;
+ghost use Rattle.granit_lexemes.specs.PlainEvent.{event_at};
 ghost use Rattle.granit_event.specs.Events.{event_kind, plain_events};
 ghost use Rattle.granit_parser.specs.Lexemes.{lexeme_view};
 ghost use Rattle.granit_parser.specs.Paths.{sequence_stage, mapping_stage, frame_view, path_view, parser_view};

@@ -3,8 +3,8 @@ ghost use Rattle.std.specs.Prelude.{◌≡◌, ◌+◌, ◌-◌, ◌<◌, ◌^�
 ghost use Rattle.std.specs.BTreeMap.{insert_entry};
 ghost use Rattle.std.specs.Option.{option_map};
 ghost use Rattle.granit_base.specs.Written.{order_of_characters};
-ghost use Rattle.granit_model.specs.Events as events;
-ghost use Rattle.granit_model.specs.Path as spec;
+ghost use Rattle.granit_flow.specs.Events as events;
+ghost use Rattle.granit_flow.specs.Path as spec;
 ghost use Rattle.granit_parser.specs.Properties.{tag_view, anchor_view};
 
 use granit_base::{Marker, NoMemory, Span, Text};
@@ -77,7 +77,7 @@ pub(crate) struct Anchors<'a> {
 }
 
 impl<'a> Model for Anchors<'a> {
-    ghost use Rattle.granit_model.specs.Path.{Anchors};
+    ghost use Rattle.granit_flow.specs.Path.{Anchors};
 
     ghost Value = { Anchors };
 

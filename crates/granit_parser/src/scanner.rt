@@ -2,13 +2,13 @@
 ghost use Rattle.std.specs.Prelude.{◌≡◌, [], false, Ok, Some, option_map};
 ghost use Rattle.std.specs.Str.{chars};
 ghost use Rattle.granit_error.specs.OptionsView.{options_of};
-ghost use Rattle.granit_model.specs.Here as here;
-ghost use Rattle.granit_model.specs.Outcome.{Gives};
+ghost use Rattle.granit_flow.specs.Here as here;
+ghost use Rattle.granit_lexemes.specs.Outcome.{Gives};
 ghost use Rattle.granit_error.specs.FaultKind as faults;
-ghost use Rattle.granit_model.specs.Lexeme as spelled;
-ghost use Rattle.granit_model.specs.Start as letters;
+ghost use Rattle.granit_flow.specs.Lexeme as spelled;
+ghost use Rattle.granit_flow.specs.Start as letters;
 ghost use Rattle.granit_base.specs.declared.style.ScalarStyle.TheVariants.{DoubleQuoted};
-ghost use Rattle.granit_model.specs.ReaderState as spec;
+ghost use Rattle.granit_flow.specs.ReaderState as spec;
 ghost use Rattle.granit_parser.specs.Lexemes.{lexeme_view, kind_view, bracket_view, naming_kind};
 
 use crate::chunk::Class;
@@ -32,7 +32,7 @@ pub(crate) struct Scanner<'a> {
 }
 
 impl<'a> Model for Scanner<'a> {
-    ghost use Rattle.granit_model.specs.ReaderState.{ReaderState};
+    ghost use Rattle.granit_flow.specs.ReaderState.{ReaderState};
 
     ghost Value = { ReaderState };
 
@@ -69,7 +69,7 @@ impl<'a> Scanner<'a> {
     }
 
     /// The next lexeme, and `None` at the end of the text.
-    #[tactic(auto, unfolding(granit_model::specs::ReaderState::next_lexeme, granit_model::specs::ReaderState::behind_gap))]
+    #[tactic(auto, unfolding(granit_flow::specs::ReaderState::next_lexeme, granit_flow::specs::ReaderState::behind_gap))]
     pub(crate) fn next_lexeme(&mut self, options: &Options) -> Result<Option<Lexeme<'a>>, ScanError>
         ensures { Gives (option_map lexeme_view) result self.new (spec.next_lexeme (options_of options.now) self.old) }
     {
@@ -95,7 +95,7 @@ impl<'a> Scanner<'a> {
     }
 
     /// The lexeme that the next character begins.
-    #[tactic(auto, unfolding(granit_model::specs::ReaderState::lexeme_at))]
+    #[tactic(auto, unfolding(granit_flow::specs::ReaderState::lexeme_at))]
     fn lexeme(&mut self, options: &Options) -> Result<Option<Lexeme<'a>>, ScanError>
         ensures { Gives (option_map lexeme_view) result self.new (spec.lexeme_at (options_of options.now) (letters.glyph (here.next_char self.old.here)) self.old.openers self.old.here) }
     {
@@ -139,7 +139,7 @@ impl<'a> Scanner<'a> {
     }
 
     /// A document mark, at its first `-` (YAML 1.2.2, 9.1.2).
-    #[tactic(auto, unfolding(granit_model::specs::ReaderState::dash))]
+    #[tactic(auto, unfolding(granit_flow::specs::ReaderState::dash))]
     fn dash(&mut self) -> Result<Option<Lexeme<'a>>, ScanError>
         ensures { Gives (option_map lexeme_view) result self.new (spec.dash self.old.openers self.old.here) }
     {
@@ -171,7 +171,7 @@ impl<'a> Scanner<'a> {
     }
 
     /// A double-quoted scalar on one line, at its quote (YAML 1.2.2, 7.3.1).
-    #[tactic(auto, unfolding(granit_model::specs::ReaderState::double_quoted), using(granit_model::proofs::HereLemmas::step_lends))]
+    #[tactic(auto, unfolding(granit_flow::specs::ReaderState::double_quoted), using(granit_flow::proofs::HereLemmas::step_lends))]
     fn double_quoted(&mut self) -> Result<Option<Lexeme<'a>>, ScanError>
         ensures { Gives (option_map lexeme_view) result self.new (spec.double_quoted self.old.openers self.old.here) }
     {
@@ -198,7 +198,7 @@ impl<'a> Scanner<'a> {
     }
 
     /// A verbatim tag, at its `!` (YAML 1.2.2, 6.9.1).
-    #[tactic(auto, unfolding(granit_model::specs::ReaderState::verbatim_tag))]
+    #[tactic(auto, unfolding(granit_flow::specs::ReaderState::verbatim_tag))]
     fn verbatim_tag(&mut self) -> Result<Option<Lexeme<'a>>, ScanError>
         ensures { Gives (option_map lexeme_view) result self.new (spec.verbatim_tag self.old.openers self.old.here) }
     {
@@ -219,7 +219,7 @@ impl<'a> Scanner<'a> {
     }
 
     /// An anchor or an alias, at its `&` or `*` (YAML 1.2.2, 6.9.2 and 7.1).
-    #[tactic(auto, unfolding(granit_model::specs::ReaderState::named), using(granit_model::proofs::HereLemmas::step_lends, crate::proofs::ChunkLemmas::run_length))]
+    #[tactic(auto, unfolding(granit_flow::specs::ReaderState::named), using(granit_flow::proofs::HereLemmas::step_lends, crate::proofs::ChunkLemmas::run_length))]
     fn named(&mut self, naming: Naming) -> Result<Option<Lexeme<'a>>, ScanError>
         ensures { Gives (option_map lexeme_view) result self.new (spec.named (naming_kind naming) self.old.openers self.old.here) }
     {
@@ -238,7 +238,7 @@ impl<'a> Scanner<'a> {
     }
 
     /// An opener, where one more bracket may be open (YAML 1.2.2, 7.4).
-    #[tactic(auto, unfolding(granit_model::specs::ReaderState::open_bracket))]
+    #[tactic(auto, unfolding(granit_flow::specs::ReaderState::open_bracket))]
     fn open_bracket(
         &mut self,
         options: &Options,

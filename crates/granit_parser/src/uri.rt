@@ -2,8 +2,8 @@
 ghost use Rattle.std.specs.Prelude.{◌≡◌, true, false, MatchOption};
 ghost use Rattle.std.specs.Str.{chars};
 ghost use Rattle.granit_base.specs.Written.{string_chars};
-ghost use Rattle.granit_model.specs.Outcome.{Gives};
-ghost use Rattle.granit_model.specs.Property as spec;
+ghost use Rattle.granit_lexemes.specs.Outcome.{Gives};
+ghost use Rattle.granit_flow.specs.Property as spec;
 ghost use Rattle.granit_parser.specs.Pushed.{Pushed, Turned};
 
 use crate::cursor::Cursor;
@@ -13,7 +13,7 @@ use std::alloc::Global;
 
 impl<'a> Cursor<'a> {
     /// The byte that `%` and two hexadecimal digits spell, which is appended.
-    #[tactic(auto, unfolding(granit_model::specs::Property::percent_byte), using(crate::proofs::UriLemmas::byte_of_digits))]
+    #[tactic(auto, unfolding(granit_flow::specs::Property::percent_byte), using(crate::proofs::UriLemmas::byte_of_digits))]
     fn percent_byte(&mut self, start: Marker, bytes: &mut Vec<u8>) -> Result<bool, ScanError>
         ensures { Turned result self.new bytes.old.items bytes.new.items (spec.percent_byte start self.old) }
     {
@@ -31,7 +31,7 @@ impl<'a> Cursor<'a> {
 
     /// The next byte that a URI spells, which is appended, or the closing `>`, which is left:
     /// whether there may be more.
-    #[tactic(auto, unfolding(granit_model::specs::Property::uri_byte), using(crate::proofs::UriLemmas::uri_character_is_byte))]
+    #[tactic(auto, unfolding(granit_flow::specs::Property::uri_byte), using(crate::proofs::UriLemmas::uri_character_is_byte))]
     fn uri_byte(&mut self, start: Marker, bytes: &mut Vec<u8>) -> Result<bool, ScanError>
         ensures { Turned result self.new bytes.old.items bytes.new.items (spec.uri_byte start self.old) }
     {

@@ -8,12 +8,12 @@ use Rattle.std.proofs.lemmas.Bool.Decides.{nat_tests}
 use Rattle.granit_base.specs.Classes.{is_break, is_breakz, is_printable, is_z}
 use Rattle.granit_base.specs.Place.{first}
 use Rattle.granit_error.specs.FaultKind.{UnexpectedCharacter}
-use Rattle.granit_model.specs.Comment.{is_comment_char, behind_comment, skipped_comment, comment, comment_of, comment_read, past_comment, CommentRead, IsComment, IsSpoiled, StandsComment, ReadsComment}
-use Rattle.granit_model.specs.Gap.{Each}
-use Rattle.granit_model.specs.Here.{Here, text_len, next_char, mark_of, step, chunk}
-use Rattle.granit_model.specs.Moves.{steps}
-use Rattle.granit_model.specs.Outcome.{Fault, fault_at, ◌>>=◌}
-use Rattle.granit_model.proofs.HereLemmas.{step_text, not_empty}
+use Rattle.granit_lexemes.specs.Comment.{is_comment_char, behind_comment, skipped_comment, comment, comment_of, comment_read, past_comment, CommentRead, IsComment, IsSpoiled, StandsComment, ReadsComment}
+use Rattle.granit_lexemes.specs.Gap.{Each}
+use Rattle.granit_lexemes.specs.Here.{Here, text_len, next_char, mark_of, step, chunk}
+use Rattle.granit_lexemes.specs.Moves.{steps}
+use Rattle.granit_lexemes.specs.Outcome.{Fault, fault_at, ◌>>=◌}
+use Rattle.granit_lexemes.proofs.HereLemmas.{step_text, not_empty}
 
 pub none_dropped : (xs : List ℕ) → drop 0 xs ≡ xs
 none_dropped [] = refl

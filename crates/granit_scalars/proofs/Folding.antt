@@ -3,9 +3,9 @@ use Rattle.std.proofs.Common.{◌≡◌, ℕ, suc, Bool, true, false, arith, Lis
 use Rattle.std.proofs.lemmas.Bool.Decides.{nat_tests}
 use Rattle.granit_base.specs.Classes.{is_blank, is_break}
 use Rattle.granit_base.specs.Place.{ends_line}
-use Rattle.granit_model.specs.Gap.{Each}
-use Rattle.granit_model.proofs.HereLemmas.{no_line_end}
-use Rattle.granit_model.specs.Folding.{before_lines, lines_of, without_blank, trim_start, before_trimmed, trim_end, trim_behind, trim_lines, break_text, fold_behind, fold, folded}
+use Rattle.granit_lexemes.specs.Gap.{Each}
+use Rattle.granit_lexemes.proofs.HereLemmas.{no_line_end}
+use Rattle.granit_lexemes.specs.Folding.{before_lines, lines_of, without_blank, trim_start, before_trimmed, trim_end, trim_behind, trim_lines, break_text, fold_behind, fold, folded}
 
 -- what lines give behind a break and so many empty ones
 abbrev pub folded_behind : ℕ → List ℕ → List ℕ

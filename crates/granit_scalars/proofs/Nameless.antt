@@ -5,14 +5,14 @@ use lib.Utf8.{scalar}
 use Rattle.granit_base.specs.Classes.{is_blank, is_break, hex_value, is_printable, is_z}
 use Rattle.granit_base.specs.Place.{Mark}
 use Rattle.granit_error.specs.FaultKind.{FaultKind}
-use Rattle.granit_model.specs.Comment.{behind_comment, skipped_comment, comment, past_comment}
-use Rattle.granit_model.specs.Decoding.{letter_value, digit_count, is_high, is_low}
-use Rattle.granit_model.specs.Here.{Here, text_len, next_char, step, past, mark_of}
-use Rattle.granit_model.specs.LayoutData.{LayoutData}
-use Rattle.granit_model.specs.Outcome.{Fault, fault_at, ◌>>=◌}
-use Rattle.granit_model.specs.Pieces.{pieces, Shortens}
-use Rattle.granit_model.specs.PlainScalar.{PlainState, is_content, is_document_mark, meets_comment, ends_before_line, plain_turn, plain_len, fails_at, behind_plain, only_printable, plain_scalar}
-use Rattle.granit_scalars.specs.QuotedScalar.{QuotedState, is_closing, is_tab_left, is_strictly_left, is_loosely_left, may_trail, digits_or, second_half_or, numbered_or, escape_or_by, escape_or, quoted_content, quoted_turn, quoted_len, behind_quoted, quoted_tail, quoted_scalar}
+use Rattle.granit_lexemes.specs.Comment.{behind_comment, skipped_comment, comment, past_comment}
+use Rattle.granit_lexemes.specs.Decoding.{letter_value, digit_count, is_high, is_low}
+use Rattle.granit_lexemes.specs.Here.{Here, text_len, next_char, step, past, mark_of}
+use Rattle.granit_lexemes.specs.LayoutData.{LayoutData}
+use Rattle.granit_lexemes.specs.Outcome.{Fault, fault_at, ◌>>=◌}
+use Rattle.granit_lexemes.specs.Pieces.{pieces, Shortens}
+use Rattle.granit_lexemes.specs.PlainScalar.{PlainState, is_content, is_document_mark, meets_comment, ends_before_line, plain_turn, plain_len, fails_at, behind_plain, only_printable, plain_scalar}
+use Rattle.granit_lexemes.specs.QuotedScalar.{QuotedState, is_closing, is_tab_left, is_strictly_left, is_loosely_left, may_trail, digits_or, second_half_or, numbered_or, escape_or_by, escape_or, quoted_content, quoted_turn, quoted_len, behind_quoted, quoted_tail, quoted_scalar}
 use Rattle.granit_scalars.proofs.PlainTurns.{plain_shortens}
 use Rattle.granit_scalars.proofs.QuotedTurns.{quoted_shortens}
 use Rattle.granit_scalars.proofs.Turning.{Carries, pieces_hold}

@@ -3,12 +3,12 @@ use Rattle.std.proofs.Common.{◌≡◌, ℕ, zero, suc, ◌+◌, ◌==◌, true
 use Rattle.std.proofs.Math.Bool.{or_assoc, or-false}
 use Rattle.granit_base.specs.Classes.{is_blank, is_break, is_gap}
 use Rattle.granit_base.specs.Place.{first}
-use Rattle.granit_model.specs.Folding.{folded}
-use Rattle.granit_model.specs.Gap.{Each}
-use Rattle.granit_model.specs.Here.{Here, next_char, mark_of, step}
-use Rattle.granit_model.specs.LayoutData.{LayoutData, is_left}
-use Rattle.granit_model.specs.PlainExtent.{Separation, OnLine, Folded, separation_text, UpToBreak, before_break, IsSeparation, left_tab, over}
-use Rattle.granit_model.specs.PlainScalar.{PlainState, past_break, on_content, on_blank, on_break}
+use Rattle.granit_lexemes.specs.Folding.{folded}
+use Rattle.granit_lexemes.specs.Gap.{Each}
+use Rattle.granit_lexemes.specs.Here.{Here, next_char, mark_of, step}
+use Rattle.granit_lexemes.specs.LayoutData.{LayoutData, is_left}
+use Rattle.granit_lexemes.specs.PlainExtent.{Separation, OnLine, Folded, separation_text, UpToBreak, before_break, IsSeparation, left_tab, over}
+use Rattle.granit_lexemes.specs.PlainScalar.{PlainState, past_break, on_content, on_blank, on_break}
 use Rattle.granit_scalars.proofs.Folding.{folded_behind, blank_apart_from_break, folds_behind_blank, folds_behind_break, folds_break}
 use Rattle.granit_scalars.proofs.PlainSpelling.{blanks_gap, separation_gap}
 use Rattle.granit_scalars.proofs.Stepping.{over-append, Seen, column_on, Broken, broken}

@@ -6,15 +6,15 @@ use Rattle.granit_base.specs.Classes.{is_printable}
 use Rattle.granit_base.specs.Place.{Mark}
 use Rattle.granit_base.specs.declared.style.ScalarStyle.TheVariants.{Plain}
 use Rattle.granit_error.specs.FaultKind.{PlainScalarStartsWithDashFlowIndicator, UnexpectedCharacter}
-use Rattle.granit_model.specs.Folding.{folded}
-use Rattle.granit_model.specs.Here.{Here, next_char, mark_of, step}
-use Rattle.granit_model.specs.LayoutData.{LayoutData}
-use Rattle.granit_model.specs.Lexeme.{Scalar}
-use Rattle.granit_model.specs.Outcome.{Fault, ◌>>=◌}
-use Rattle.granit_model.specs.Pieces.{with_front, pieces}
-use Rattle.granit_model.specs.PlainExtent.{Separation, OnLine, Folded, separation_text, left_tab, PlainStands, tab_refused, is_cut, is_folded, over, behind_of, plain_answer, is_flow_dash, is_unprintable_at, AnswersPlain, is_inside, is_behind, RefusesPlain}
-use Rattle.granit_model.specs.PlainScalar.{PlainState, PlainRead, fails_at, is_content, on_content, meets_comment, plain_turn, plain_len, plain_start, cut_mark, plain_read, behind_plain, unprintable, only_printable, plain_scalar}
-use Rattle.granit_model.proofs.PieceLemmas.{pieces_more}
+use Rattle.granit_lexemes.specs.Folding.{folded}
+use Rattle.granit_lexemes.specs.Here.{Here, next_char, mark_of, step}
+use Rattle.granit_lexemes.specs.LayoutData.{LayoutData}
+use Rattle.granit_lexemes.specs.Lexeme.{Scalar}
+use Rattle.granit_lexemes.specs.Outcome.{Fault, ◌>>=◌}
+use Rattle.granit_lexemes.specs.Pieces.{with_front, pieces}
+use Rattle.granit_lexemes.specs.PlainExtent.{Separation, OnLine, Folded, separation_text, left_tab, PlainStands, tab_refused, is_cut, is_folded, over, behind_of, plain_answer, is_flow_dash, is_unprintable_at, AnswersPlain, is_inside, is_behind, RefusesPlain}
+use Rattle.granit_lexemes.specs.PlainScalar.{PlainState, PlainRead, fails_at, is_content, on_content, meets_comment, plain_turn, plain_len, plain_start, cut_mark, plain_read, behind_plain, unprintable, only_printable, plain_scalar}
+use Rattle.granit_lexemes.proofs.PieceLemmas.{pieces_more}
 use Rattle.granit_scalars.proofs.Folding.{folds_content}
 use Rattle.granit_scalars.proofs.PlainKept.{Kept, Stays, content_stays}
 use Rattle.granit_scalars.proofs.PlainReads.{Finds, Reads, reads}

@@ -4,15 +4,15 @@ use Rattle.std.proofs.lemmas.Bool.{and_parts, and_left, or_parts, or_left, or_ca
 use Rattle.granit_base.specs.Classes.{is_blank, is_break, is_z, is_gap, is_printable}
 use Rattle.granit_base.specs.Place.{Mark, first}
 use Rattle.granit_error.specs.FaultKind.{TabInPlainScalar}
-use Rattle.granit_model.specs.Folding.{folded, break_text}
-use Rattle.granit_model.specs.Gap.{Each}
-use Rattle.granit_model.specs.Here.{Here, next_char, step}
-use Rattle.granit_model.specs.LayoutData.{LayoutData, is_outside}
-use Rattle.granit_model.specs.Outcome.{Fault, fault_at}
-use Rattle.granit_model.specs.Pieces.{with_front, pieces}
-use Rattle.granit_model.specs.PlainExtent.{Separation, OnLine, Folded, separation_text, IsSeparation, left_tab, starts_comment, MayFollow, GoesOn, ends, goes_on, EndsPlain, nothing_more, colon, flow_indicator, comment, comment_line, outside_line, tab_line, document_mark, tab_refused, over}
-use Rattle.granit_model.specs.PlainScalar.{PlainState, is_content, is_document_mark, between, on_content, on_blank, on_break, meets_comment, ends_before_line, plain_turn, plain_len, unprintable}
-use Rattle.granit_model.proofs.HereLemmas.{not_empty}
+use Rattle.granit_lexemes.specs.Folding.{folded, break_text}
+use Rattle.granit_lexemes.specs.Gap.{Each}
+use Rattle.granit_lexemes.specs.Here.{Here, next_char, step}
+use Rattle.granit_lexemes.specs.LayoutData.{LayoutData, is_outside}
+use Rattle.granit_lexemes.specs.Outcome.{Fault, fault_at}
+use Rattle.granit_lexemes.specs.Pieces.{with_front, pieces}
+use Rattle.granit_lexemes.specs.PlainExtent.{Separation, OnLine, Folded, separation_text, IsSeparation, left_tab, starts_comment, MayFollow, GoesOn, ends, goes_on, EndsPlain, nothing_more, colon, flow_indicator, comment, comment_line, outside_line, tab_line, document_mark, tab_refused, over}
+use Rattle.granit_lexemes.specs.PlainScalar.{PlainState, is_content, is_document_mark, between, on_content, on_blank, on_break, meets_comment, ends_before_line, plain_turn, plain_len, unprintable}
+use Rattle.granit_lexemes.proofs.HereLemmas.{not_empty}
 use Rattle.granit_scalars.proofs.Folding.{folds_blanks, folds_behind_content}
 use Rattle.granit_scalars.proofs.PlainSpelling.{Solid, solid, colon_found, indicator_found, no_content_is, blanks_gap, separation_gap}
 use Rattle.granit_scalars.proofs.Printing.{unprintable_behind, break_text_gap}

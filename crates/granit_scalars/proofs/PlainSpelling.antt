@@ -4,10 +4,10 @@ use Rattle.std.specs.Prelude.{slice_index}
 use Rattle.std.proofs.lemmas.Bool.{or_from, or_right}
 use Rattle.granit_base.specs.Classes.{is_blank, is_break, is_breakz, is_blank_or_breakz, is_flow, is_gap, is_z}
 use Rattle.granit_base.specs.Place.{first}
-use Rattle.granit_model.specs.Gap.{Each}
-use Rattle.granit_model.specs.LayoutData.{LayoutData}
-use Rattle.granit_model.specs.PlainScalar.{is_content}
-use Rattle.granit_model.specs.PlainExtent.{Separation, OnLine, Folded, separation_text, UpToBreak, at_break, before_break, IsSeparation, MayFollow, GoesOn, ends, goes_on, SpellsPlain, PlainExtent, EndsPlain, nothing_more, colon, flow_indicator, comment, comment_line, outside_line, tab_line, document_mark}
+use Rattle.granit_lexemes.specs.Gap.{Each}
+use Rattle.granit_lexemes.specs.LayoutData.{LayoutData}
+use Rattle.granit_lexemes.specs.PlainScalar.{is_content}
+use Rattle.granit_lexemes.specs.PlainExtent.{Separation, OnLine, Folded, separation_text, UpToBreak, at_break, before_break, IsSeparation, MayFollow, GoesOn, ends, goes_on, SpellsPlain, PlainExtent, EndsPlain, nothing_more, colon, flow_indicator, comment, comment_line, outside_line, tab_line, document_mark}
 use Rattle.granit_scalars.proofs.Folding.{blank_apart_from_break}
 
 -- what content is not

@@ -4,11 +4,11 @@ use Rattle.std.specs.Prelude.{if◌then◌else◌}
 use Rattle.granit_base.specs.Classes.{is_blank, is_break, is_z, is_blank_or_breakz, is_breakz, is_gap}
 use Rattle.granit_base.specs.Place.{Mark}
 use Rattle.granit_error.specs.FaultKind.{TabInPlainScalar}
-use Rattle.granit_model.specs.Here.{Here, next_char, step, text_len}
-use Rattle.granit_model.specs.LayoutData.{LayoutData}
-use Rattle.granit_model.specs.Outcome.{Fault, fault_at}
-use Rattle.granit_model.specs.Pieces.{Shortens}
-use Rattle.granit_model.specs.PlainScalar.{PlainState, fails_at, past_break, is_content, between, on_content, on_blank, on_break, meets_comment, ends_before_line, plain_turn, plain_len}
+use Rattle.granit_lexemes.specs.Here.{Here, next_char, step, text_len}
+use Rattle.granit_lexemes.specs.LayoutData.{LayoutData}
+use Rattle.granit_lexemes.specs.Outcome.{Fault, fault_at}
+use Rattle.granit_lexemes.specs.Pieces.{Shortens}
+use Rattle.granit_lexemes.specs.PlainScalar.{PlainState, fails_at, past_break, is_content, between, on_content, on_blank, on_break, meets_comment, ends_before_line, plain_turn, plain_len}
 use Rattle.granit_scalars.proofs.PlainSpelling.{no_gap_of}
 use Rattle.granit_scalars.proofs.Stepping.{Seen, seen, seen_as, shorter, broken}
 

@@ -7,16 +7,16 @@ use lib.Utf8.{scalar}
 use Rattle.granit_base.specs.Classes.{is_hex, hex_value}
 use Rattle.granit_base.specs.Place.{Mark, first}
 use Rattle.granit_error.specs.FaultKind.{FaultKind, InvalidQuotedScalarHexEscape, MissingLowSurrogate, InvalidLowSurrogateHexEscape, InvalidLowSurrogate, UnpairedLowSurrogate, InvalidUnicodeEscape}
-use Rattle.granit_model.specs.Decoding.{letter_value, digit_count, number_behind, number_of, is_high, is_low, joined, AreDigits, Escape, letter, number, halves}
-use Rattle.granit_model.specs.Gap.{Each}
-use Rattle.granit_model.specs.Here.{Here, next_char, step}
-use Rattle.granit_model.specs.Outcome.{Fault, fault_at, ◌>>=◌}
-use Rattle.granit_model.specs.PlainExtent.{over}
-use Rattle.granit_model.specs.PlainScalar.{fails_at}
-use Rattle.granit_scalars.specs.QuotedExtent.{TooFewDigits, WrongEscape, unknown, hex, no_second, second_hex, no_half, alone, no_character}
-use Rattle.granit_scalars.specs.QuotedScalar.{digits_or, joined_or, second_half_or, numbered_or, escape_or_by, escape_or}
-use Rattle.granit_model.proofs.DecodingLemmas.{no_hex_nul, no_letter_nul, no_count_nul, number_letter, u_wants_four, four_digits, half_is_none, begins_second, digit_below}
-use Rattle.granit_model.proofs.HereLemmas.{step_text}
+use Rattle.granit_lexemes.specs.Decoding.{letter_value, digit_count, number_behind, number_of, is_high, is_low, joined, AreDigits, Escape, letter, number, halves}
+use Rattle.granit_lexemes.specs.Gap.{Each}
+use Rattle.granit_lexemes.specs.Here.{Here, next_char, step}
+use Rattle.granit_lexemes.specs.Outcome.{Fault, fault_at, ◌>>=◌}
+use Rattle.granit_lexemes.specs.PlainExtent.{over}
+use Rattle.granit_lexemes.specs.PlainScalar.{fails_at}
+use Rattle.granit_lexemes.specs.QuotedExtent.{TooFewDigits, WrongEscape, unknown, hex, no_second, second_hex, no_half, alone, no_character}
+use Rattle.granit_lexemes.specs.QuotedScalar.{digits_or, joined_or, second_half_or, numbered_or, escape_or_by, escape_or}
+use Rattle.granit_lexemes.proofs.DecodingLemmas.{no_hex_nul, no_letter_nul, no_count_nul, number_letter, u_wants_four, four_digits, half_is_none, begins_second, digit_below}
+use Rattle.granit_lexemes.proofs.HereLemmas.{step_text}
 use Rattle.granit_scalars.proofs.Comments.{none_dropped}
 use Rattle.granit_scalars.proofs.Stepping.{over-append, Seen, seen, seen_as}
 

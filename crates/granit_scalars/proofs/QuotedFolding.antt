@@ -3,12 +3,12 @@ use Rattle.std.proofs.Common.{◌≡◌, ℕ, suc, ◌+◌, ◌==◌, Bool, true
 use Rattle.std.proofs.lemmas.Bool.Decides.{nat_tests}
 use Rattle.granit_base.specs.Classes.{is_blank, is_break, is_gap, is_printable}
 use Rattle.granit_base.specs.Place.{first}
-use Rattle.granit_model.specs.Decoding.{Escape, letter, number, halves}
-use Rattle.granit_model.specs.Folding.{before_lines, lines_of, break_text, fold, trim_lines, folded}
-use Rattle.granit_model.specs.Gap.{Each}
-use Rattle.granit_model.specs.Here.{Here}
-use Rattle.granit_model.specs.LayoutData.{LayoutData}
-use Rattle.granit_scalars.specs.QuotedExtent.{OneBreak, line_feed, pair, carriage_return, NewLine, no_more, blank, break, Between, Blanks, Lines, Separates, on_line, folded as folded_gap, between_text, is_literal, is_simple, Piece, itself, doubled, escape, before_break, Inside, nothing, content, QuotedStands, quoted_value}
+use Rattle.granit_lexemes.specs.Decoding.{Escape, letter, number, halves}
+use Rattle.granit_lexemes.specs.Folding.{before_lines, lines_of, break_text, fold, trim_lines, folded}
+use Rattle.granit_lexemes.specs.Gap.{Each}
+use Rattle.granit_lexemes.specs.Here.{Here}
+use Rattle.granit_lexemes.specs.LayoutData.{LayoutData}
+use Rattle.granit_lexemes.specs.QuotedExtent.{OneBreak, line_feed, pair, carriage_return, NewLine, no_more, blank, break, Between, Blanks, Lines, Separates, on_line, folded as folded_gap, between_text, is_literal, is_simple, Piece, itself, doubled, escape, before_break, Inside, nothing, content, QuotedStands, quoted_value}
 use Rattle.granit_scalars.proofs.Folding.{folded_behind, IsBreak, blank_apart_from_break, in_first_line, folds_blanks, folds_break, folds_behind_blank, folds_behind_break, folds_behind_content}
 use Rattle.granit_scalars.proofs.PlainReads.{neither_gap}
 

@@ -4,13 +4,13 @@ use Rattle.std.specs.Prelude.{slice_index, if◌then◌else◌}
 use Rattle.std.proofs.lemmas.Bool.Decides.{nat_tests}
 use Rattle.granit_base.specs.Classes.{is_blank, is_break}
 use Rattle.granit_base.specs.Place.{first}
-use Rattle.granit_model.specs.Here.{Here, next_char, step}
-use Rattle.granit_model.specs.LayoutData.{LayoutData}
-use Rattle.granit_model.specs.PlainExtent.{over}
-use Rattle.granit_model.specs.PlainScalar.{past_break}
-use Rattle.granit_scalars.specs.QuotedExtent.{OneBreak, line_feed, pair, carriage_return, NewLine, no_more, blank, break, Between, Blanks, Lines, Separates, on_line, folded, lines_text, between_text}
-use Rattle.granit_scalars.specs.QuotedScalar.{QuotedState, is_tab_left, between_quoted, quoted_at, over_blank, over_break}
-use Rattle.granit_model.proofs.HereLemmas.{not_empty}
+use Rattle.granit_lexemes.specs.Here.{Here, next_char, step}
+use Rattle.granit_lexemes.specs.LayoutData.{LayoutData}
+use Rattle.granit_lexemes.specs.PlainExtent.{over}
+use Rattle.granit_lexemes.specs.PlainScalar.{past_break}
+use Rattle.granit_lexemes.specs.QuotedExtent.{OneBreak, line_feed, pair, carriage_return, NewLine, no_more, blank, break, Between, Blanks, Lines, Separates, on_line, folded, lines_text, between_text}
+use Rattle.granit_lexemes.specs.QuotedScalar.{QuotedState, is_tab_left, between_quoted, quoted_at, over_blank, over_break}
+use Rattle.granit_lexemes.proofs.HereLemmas.{not_empty}
 use Rattle.granit_scalars.proofs.Folding.{blank_apart_from_break}
 use Rattle.granit_scalars.proofs.PlainKept.{one_more_blank, over_one, text_one, one_more}
 use Rattle.granit_scalars.proofs.PlainTurns.{seen_blank}

@@ -1,11 +1,11 @@
 -- The plain function answers the quoted scalar that stands there, or refuses it with its cause.
 use Rattle.std.proofs.Common.{◌≡◌, ℕ, ◌==◌, Bool, true, false, List, [], ◌∷◌, ◌++◌, Result, Ok, Err, refl, ap, ap₂, ◌∙◌, subst}
-use Rattle.granit_model.specs.Here.{Here, next_char, mark_of, step}
-use Rattle.granit_model.specs.LayoutData.{LayoutData}
-use Rattle.granit_model.specs.Outcome.{Fault, ◌>>=◌}
-use Rattle.granit_model.specs.Pieces.{pieces}
-use Rattle.granit_scalars.specs.QuotedExtent.{Between, Blanks, QuotedFront, QuotedStands, quoted_end, quoted_value, Trails, AnswersQuoted, WrongInside, WrongBehind, RefusesQuoted, inside, behind}
-use Rattle.granit_scalars.specs.QuotedScalar.{QuotedState, QuotedRead, quote_char, quoted_at, between_quoted, quoted_turn, quoted_len, quoted_read, quoted_tail, quoted_scalar}
+use Rattle.granit_lexemes.specs.Here.{Here, next_char, mark_of, step}
+use Rattle.granit_lexemes.specs.LayoutData.{LayoutData}
+use Rattle.granit_lexemes.specs.Outcome.{Fault, ◌>>=◌}
+use Rattle.granit_lexemes.specs.Pieces.{pieces}
+use Rattle.granit_lexemes.specs.QuotedExtent.{Between, Blanks, QuotedFront, QuotedStands, quoted_end, quoted_value, Trails, AnswersQuoted, WrongInside, WrongBehind, RefusesQuoted, inside, behind}
+use Rattle.granit_lexemes.specs.QuotedScalar.{QuotedState, QuotedRead, quote_char, quoted_at, between_quoted, quoted_turn, quoted_len, quoted_read, quoted_tail, quoted_scalar}
 use Rattle.granit_scalars.proofs.QuotedKept.{quoted_fresh}
 use Rattle.granit_scalars.proofs.QuotedReads.{QuotedFinds, QuotedReads, quoted_reads}
 use Rattle.granit_scalars.proofs.QuotedTail.{TailReads, tail_reads}

@@ -1,13 +1,13 @@
 -- A quoted scalar that stands somewhere is the only one there, and is answered.
 use Rattle.std.proofs.Common.{◌≡◌, ℕ, Bool, false, List, [], ◌++◌, Result, Ok, refl, sym, ap, ap₂, ◌∙◌, append_assoc, append-nil}
 use Rattle.std.proofs.lemmas.List.{append_cancel_right}
-use Rattle.granit_model.specs.Here.{Here, mark_of, step}
-use Rattle.granit_model.specs.LayoutData.{LayoutData}
-use Rattle.granit_model.specs.Outcome.{Fault, ◌>>=◌}
-use Rattle.granit_model.specs.Pieces.{with_front}
-use Rattle.granit_model.specs.PlainExtent.{over}
-use Rattle.granit_scalars.specs.QuotedExtent.{Between, QuotedStands, quoted_end, quoted_value, AnswersQuoted}
-use Rattle.granit_scalars.specs.QuotedScalar.{QuotedState, QuotedRead, quote_char, between_quoted, quoted_at, quoted_tail, quoted_scalar, quoted_rest}
+use Rattle.granit_lexemes.specs.Here.{Here, mark_of, step}
+use Rattle.granit_lexemes.specs.LayoutData.{LayoutData}
+use Rattle.granit_lexemes.specs.Outcome.{Fault, ◌>>=◌}
+use Rattle.granit_lexemes.specs.Pieces.{with_front}
+use Rattle.granit_lexemes.specs.PlainExtent.{over}
+use Rattle.granit_lexemes.specs.QuotedExtent.{Between, QuotedStands, quoted_end, quoted_value, AnswersQuoted}
+use Rattle.granit_lexemes.specs.QuotedScalar.{QuotedState, QuotedRead, quote_char, between_quoted, quoted_at, quoted_tail, quoted_scalar, quoted_rest}
 use Rattle.granit_scalars.proofs.QuotedEscapes.{text_behind, over_text}
 use Rattle.granit_scalars.proofs.QuotedRuns.{inside_runs, closes}
 use Rattle.granit_scalars.proofs.QuotedTail.{tail_answers}

@@ -6,15 +6,15 @@ use Rattle.std.proofs.lemmas.Bool.Decides.{nat_tests}
 use Rattle.granit_base.specs.Classes.{is_break, is_gap, is_printable}
 use Rattle.granit_base.specs.Place.{Mark, first}
 use Rattle.granit_error.specs.FaultKind.{InvalidIndentation, UnclosedQuotedScalar, DocumentIndicatorInQuotedScalar, TabInIndentation, InvalidQuotedScalarIndent, UnexpectedCharacter}
-use Rattle.granit_model.specs.Here.{Here, next_char, mark_of, step, text_len}
-use Rattle.granit_model.specs.LayoutData.{LayoutData, is_left}
-use Rattle.granit_model.specs.Outcome.{Fault, fault_at, ◌>>=◌}
-use Rattle.granit_model.specs.Pieces.{with_front, pieces}
-use Rattle.granit_model.specs.PlainExtent.{over}
-use Rattle.granit_model.specs.PlainScalar.{is_document_mark}
-use Rattle.granit_scalars.specs.QuotedExtent.{Between, Blanks, Lines, Separates, between_text, is_literal, Piece, itself, doubled, escape as escape_piece, before_break, may_be_left, MayStand, Inside, nothing, content, quoted_value, WrongInside, tab, strict, loose, mark, end, character, escape}
-use Rattle.granit_scalars.specs.QuotedScalar.{QuotedState, quote_char, is_closing, is_tab_left, is_strictly_left, is_loosely_left, between_quoted, quoted_at, over_blank, over_break, quoted_piece, quoted_content, quoted_turn, quoted_len, escape_or}
-use Rattle.granit_model.proofs.HereLemmas.{not_empty}
+use Rattle.granit_lexemes.specs.Here.{Here, next_char, mark_of, step, text_len}
+use Rattle.granit_lexemes.specs.LayoutData.{LayoutData, is_left}
+use Rattle.granit_lexemes.specs.Outcome.{Fault, fault_at, ◌>>=◌}
+use Rattle.granit_lexemes.specs.Pieces.{with_front, pieces}
+use Rattle.granit_lexemes.specs.PlainExtent.{over}
+use Rattle.granit_lexemes.specs.PlainScalar.{is_document_mark}
+use Rattle.granit_lexemes.specs.QuotedExtent.{Between, Blanks, Lines, Separates, between_text, is_literal, Piece, itself, doubled, escape as escape_piece, before_break, may_be_left, MayStand, Inside, nothing, content, quoted_value, WrongInside, tab, strict, loose, mark, end, character, escape}
+use Rattle.granit_lexemes.specs.QuotedScalar.{QuotedState, quote_char, is_closing, is_tab_left, is_strictly_left, is_loosely_left, between_quoted, quoted_at, over_blank, over_break, quoted_piece, quoted_content, quoted_turn, quoted_len, escape_or}
+use Rattle.granit_lexemes.proofs.HereLemmas.{not_empty}
 use Rattle.granit_scalars.proofs.PlainReads.{not_right}
 use Rattle.granit_scalars.proofs.QuotedEscapes.{ReadsEscape, reads_escape}
 use Rattle.granit_scalars.proofs.QuotedKept.{StateIs, QuotedStays, quoted_fresh, between_is, QuotedGoes, quoted_blank, quoted_break}

@@ -6,18 +6,18 @@ use Rattle.std.proofs.lemmas.Bool.Decides.{nat_tests}
 use Rattle.std.proofs.lemmas.Bool.{and_left}
 use Rattle.granit_base.specs.Classes.{is_blank, is_break, is_gap, is_printable}
 use Rattle.granit_base.specs.Place.{Mark, first}
-use Rattle.granit_model.specs.Decoding.{letter_value, digit_count, Escape, letter, number, halves}
-use Rattle.granit_model.specs.Gap.{Each}
-use Rattle.granit_model.specs.Here.{Here, next_char, step, text_len}
-use Rattle.granit_model.specs.LayoutData.{LayoutData, is_left}
-use Rattle.granit_model.specs.Outcome.{◌>>=◌}
-use Rattle.granit_model.specs.Pieces.{with_front}
-use Rattle.granit_model.specs.PlainExtent.{over}
-use Rattle.granit_model.specs.PlainScalar.{past_break, is_document_mark}
-use Rattle.granit_scalars.specs.QuotedExtent.{OneBreak, line_feed, pair, carriage_return, NewLine, no_more, blank, break, Between, Blanks, Lines, Separates, on_line, folded, between_text, is_literal, Piece, itself, doubled, escape, before_break, may_be_left, MayStand, Inside, nothing, content}
-use Rattle.granit_scalars.specs.QuotedScalar.{QuotedState, quote_char, is_closing, is_tab_left, is_strictly_left, is_loosely_left, between_quoted, quoted_at, over_blank, over_break, quoted_piece, quoted_content, quoted_turn, quoted_len, escape_or, quoted_rest}
-use Rattle.granit_model.proofs.HereLemmas.{not_empty}
-use Rattle.granit_model.proofs.PieceLemmas.{with_front-nil, with_front-with_front, pieces_more, pieces_done}
+use Rattle.granit_lexemes.specs.Decoding.{letter_value, digit_count, Escape, letter, number, halves}
+use Rattle.granit_lexemes.specs.Gap.{Each}
+use Rattle.granit_lexemes.specs.Here.{Here, next_char, step, text_len}
+use Rattle.granit_lexemes.specs.LayoutData.{LayoutData, is_left}
+use Rattle.granit_lexemes.specs.Outcome.{◌>>=◌}
+use Rattle.granit_lexemes.specs.Pieces.{with_front}
+use Rattle.granit_lexemes.specs.PlainExtent.{over}
+use Rattle.granit_lexemes.specs.PlainScalar.{past_break, is_document_mark}
+use Rattle.granit_lexemes.specs.QuotedExtent.{OneBreak, line_feed, pair, carriage_return, NewLine, no_more, blank, break, Between, Blanks, Lines, Separates, on_line, folded, between_text, is_literal, Piece, itself, doubled, escape, before_break, may_be_left, MayStand, Inside, nothing, content}
+use Rattle.granit_lexemes.specs.QuotedScalar.{QuotedState, quote_char, is_closing, is_tab_left, is_strictly_left, is_loosely_left, between_quoted, quoted_at, over_blank, over_break, quoted_piece, quoted_content, quoted_turn, quoted_len, escape_or, quoted_rest}
+use Rattle.granit_lexemes.proofs.HereLemmas.{not_empty}
+use Rattle.granit_lexemes.proofs.PieceLemmas.{with_front-nil, with_front-with_front, pieces_more, pieces_done}
 use Rattle.granit_scalars.proofs.Folding.{blank_apart_from_break}
 use Rattle.granit_scalars.proofs.PlainKept.{one_more}
 use Rattle.granit_scalars.proofs.PlainReads.{neither_gap}

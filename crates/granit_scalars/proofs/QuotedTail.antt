@@ -6,16 +6,16 @@ use Rattle.std.proofs.lemmas.Bool.Decides.{nat_tests}
 use Rattle.granit_base.specs.Classes.{is_blank, is_printable}
 use Rattle.granit_base.specs.Place.{Mark, first}
 use Rattle.granit_error.specs.FaultKind.{CommentNotSeparated, UnexpectedCharacter}
-use Rattle.granit_model.specs.Comment.{CommentRead, comment, ReadsComment}
-use Rattle.granit_model.specs.Gap.{Each}
-use Rattle.granit_model.specs.Here.{Here, next_char, mark_of, step, text_len, past}
-use Rattle.granit_model.specs.LayoutData.{LayoutData}
-use Rattle.granit_model.specs.Outcome.{Fault, ◌>>=◌}
-use Rattle.granit_model.specs.PlainExtent.{over, starts_comment}
-use Rattle.granit_model.specs.PlainScalar.{fails_at}
-use Rattle.granit_scalars.specs.QuotedExtent.{BlanksBehind, ends_quoted, Trails, comment as trails_comment, nothing as trails_nothing, WrongBehind, touching, comment as wrong_comment, character, trailing_single, trailing_double}
-use Rattle.granit_scalars.specs.QuotedScalar.{QuotedRead, quoted_read, asked_comment, trailing_kind, may_trail, behind_quoted, quoted_tail}
-use Rattle.granit_model.proofs.HereLemmas.{past_goes, past_stops}
+use Rattle.granit_lexemes.specs.Comment.{CommentRead, comment, ReadsComment}
+use Rattle.granit_lexemes.specs.Gap.{Each}
+use Rattle.granit_lexemes.specs.Here.{Here, next_char, mark_of, step, text_len, past}
+use Rattle.granit_lexemes.specs.LayoutData.{LayoutData}
+use Rattle.granit_lexemes.specs.Outcome.{Fault, ◌>>=◌}
+use Rattle.granit_lexemes.specs.PlainExtent.{over, starts_comment}
+use Rattle.granit_lexemes.specs.PlainScalar.{fails_at}
+use Rattle.granit_lexemes.specs.QuotedExtent.{BlanksBehind, ends_quoted, Trails, comment as trails_comment, nothing as trails_nothing, WrongBehind, touching, comment as wrong_comment, character, trailing_single, trailing_double}
+use Rattle.granit_lexemes.specs.QuotedScalar.{QuotedRead, quoted_read, asked_comment, trailing_kind, may_trail, behind_quoted, quoted_tail}
+use Rattle.granit_lexemes.proofs.HereLemmas.{past_goes, past_stops}
 use Rattle.granit_scalars.proofs.Comments.{comment_reads, comment_answered}
 use Rattle.granit_scalars.proofs.QuotedEscapes.{text_behind, over_text}
 use Rattle.granit_scalars.proofs.QuotedTurns.{seen_there}

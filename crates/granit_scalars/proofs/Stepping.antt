@@ -6,11 +6,11 @@ use Rattle.std.specs.Char.{encode_utf8}
 use Rattle.std.proofs.lemmas.Bool.Decides.{nat_tests}
 use Rattle.granit_base.specs.Classes.{is_break}
 use Rattle.granit_base.specs.Place.{Place, first, ends_line, place_after}
-use Rattle.granit_model.specs.Folding.{before_lines, lines_of}
-use Rattle.granit_model.specs.Here.{Here, text_len, next_char, step}
-use Rattle.granit_model.specs.PlainExtent.{UpToBreak, at_break, before_break, over}
-use Rattle.granit_model.specs.PlainScalar.{past_break}
-use Rattle.granit_model.proofs.HereLemmas.{not_empty, step_text, step_len, no_line_end}
+use Rattle.granit_lexemes.specs.Folding.{before_lines, lines_of}
+use Rattle.granit_lexemes.specs.Here.{Here, text_len, next_char, step}
+use Rattle.granit_lexemes.specs.PlainExtent.{UpToBreak, at_break, before_break, over}
+use Rattle.granit_lexemes.specs.PlainScalar.{past_break}
+use Rattle.granit_lexemes.proofs.HereLemmas.{not_empty, step_text, step_len, no_line_end}
 use Rattle.granit_scalars.proofs.Folding.{IsBreak}
 use Rattle.granit_scalars.proofs.PlainSpelling.{break_gap}
 

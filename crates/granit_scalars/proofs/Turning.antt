@@ -1,7 +1,7 @@
 -- What holds of each run of a loop of turns.
 use Rattle.std.proofs.Common.{◌≡◌, ℕ, zero, suc, ◌<◌, List, [], Option, Some, None, Result, Ok, Err, refl, arith}
-use Rattle.granit_model.specs.Outcome.{Fault, ◌>>=◌}
-use Rattle.granit_model.specs.Pieces.{with_front, then_more, turns, pieces, Shortens}
+use Rattle.granit_lexemes.specs.Outcome.{Fault, ◌>>=◌}
+use Rattle.granit_lexemes.specs.Pieces.{with_front, then_more, turns, pieces, Shortens}
 
 -- what a turn has to carry, for something to hold of what the run from a state gives
 abbrev pub Carries : {S A : Type 0} → (S → Result (List A × S) Fault → Type 0) → S → Result (Option (List A) × S) Fault → Type 0

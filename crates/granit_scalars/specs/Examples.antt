@@ -1,14 +1,14 @@
 -- Words of the worked examples.
 use Rattle.std.specs.Prelude.{ℕ, Bool, true, List, take, Option, Some, None, Result, Ok, Err}
 use Rattle.granit_base.specs.Place.{Place, Mark}
-use Rattle.granit_model.specs.Here.{Here, start_of}
-use Rattle.granit_model.specs.LayoutData.{LayoutData}
-use Rattle.granit_model.specs.Lexeme.{LexemeKind, Scalar as ScalarLexeme}
-use Rattle.granit_model.specs.Line.{event_line, fault_line}
-use Rattle.granit_model.specs.Outcome.{Fault}
-use Rattle.granit_model.specs.PlainEvent.{EventKind, StreamEnd, Scalar, event_at}
-use Rattle.granit_model.specs.PlainExtent.{over}
-use Rattle.granit_model.specs.PlainScalar.{PlainRead, plain_scalar}
+use Rattle.granit_lexemes.specs.Here.{Here, start_of}
+use Rattle.granit_lexemes.specs.LayoutData.{LayoutData}
+use Rattle.granit_lexemes.specs.Lexeme.{LexemeKind, Scalar as ScalarLexeme}
+use Rattle.granit_lexemes.specs.Line.{event_line, fault_line}
+use Rattle.granit_lexemes.specs.Outcome.{Fault}
+use Rattle.granit_lexemes.specs.PlainEvent.{EventKind, StreamEnd, Scalar, event_at}
+use Rattle.granit_lexemes.specs.PlainExtent.{over}
+use Rattle.granit_lexemes.specs.PlainScalar.{PlainRead, plain_scalar}
 
 -- block column, in flow, strict
 abbrev pub layout : Option ℕ → Bool → Bool → LayoutData

@@ -1,4 +1,2 @@
 pub mod Examples
 pub mod QuotedExamples
-pub mod QuotedExtent
-pub mod QuotedScalar

@@ -1,14 +1,14 @@
 -- Words of the worked examples of quoted scalars.
 use Rattle.std.specs.Prelude.{ℕ, Bool, true, false, List, take, Option, Some, None, Result, Ok, Err}
 use Rattle.granit_base.specs.Place.{Place}
-use Rattle.granit_model.specs.Comment.{CommentRead}
-use Rattle.granit_model.specs.Here.{Here, start_of}
-use Rattle.granit_model.specs.LayoutData.{LayoutData}
-use Rattle.granit_model.specs.Line.{event_line, fault_line}
-use Rattle.granit_model.specs.Outcome.{Fault}
-use Rattle.granit_model.specs.PlainEvent.{event_at}
-use Rattle.granit_model.specs.PlainExtent.{over}
-use Rattle.granit_scalars.specs.QuotedScalar.{QuotedRead, quoted_scalar}
+use Rattle.granit_lexemes.specs.Comment.{CommentRead}
+use Rattle.granit_lexemes.specs.Here.{Here, start_of}
+use Rattle.granit_lexemes.specs.LayoutData.{LayoutData}
+use Rattle.granit_lexemes.specs.Line.{event_line, fault_line}
+use Rattle.granit_lexemes.specs.Outcome.{Fault}
+use Rattle.granit_lexemes.specs.PlainEvent.{event_at}
+use Rattle.granit_lexemes.specs.PlainExtent.{over}
+use Rattle.granit_lexemes.specs.QuotedScalar.{QuotedRead, quoted_scalar}
 use Rattle.granit_scalars.specs.Examples.{event_of}
 
 -- block column, tab column, in flow, strict

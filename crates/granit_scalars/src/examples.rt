@@ -2,7 +2,7 @@
 //! or its fault; what is behind a scalar comes from the plain machine of the whole language.
 ghost use Rattle.std.specs.Prelude.{◌≡◌, [], ◌∷◌, ◌++◌, codes, Some, None, true, false};
 ghost use Rattle.granit_scalars.specs.Examples.{layout, plain_line, behind, behind_line};
-ghost use Rattle.granit_model.specs.Folding.{folded};
+ghost use Rattle.granit_lexemes.specs.Folding.{folded};
 
 /// Where a plain scalar ends, and where not.
 pub fn ends_of_the_examples()

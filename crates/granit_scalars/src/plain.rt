@@ -1,10 +1,10 @@
 //! The plain function on characters answers the plain scalar that its definitions say.
 ghost use Rattle.std.specs.Prelude.{◌≡◌, ℕ, true, List, [], Ok, Err};
-ghost use Rattle.granit_model.specs.Here.{Here};
-ghost use Rattle.granit_model.specs.LayoutData.{LayoutData};
-ghost use Rattle.granit_model.specs.Outcome.{Fault};
-ghost use Rattle.granit_model.specs.PlainExtent.{AnswersPlain, PlainExtent, PlainStands, RefusesPlain, Separation};
-ghost use Rattle.granit_model.specs.PlainScalar.{PlainRead, is_content, plain_scalar};
+ghost use Rattle.granit_lexemes.specs.Here.{Here};
+ghost use Rattle.granit_lexemes.specs.LayoutData.{LayoutData};
+ghost use Rattle.granit_lexemes.specs.Outcome.{Fault};
+ghost use Rattle.granit_lexemes.specs.PlainExtent.{AnswersPlain, PlainExtent, PlainStands, RefusesPlain, Separation};
+ghost use Rattle.granit_lexemes.specs.PlainScalar.{PlainRead, is_content, plain_scalar};
 
 /// Where content begins, an answer is the plain scalar that stands there, as far as its spelling goes,
 /// with its value, what ends it, and where reading then stands; and nothing at it is refused.

@@ -1,12 +1,12 @@
 //! The plain function on characters answers the quoted scalar that its definitions say.
 ghost use Rattle.std.specs.Prelude.{◌≡◌, ℕ, Bool, List, [], ◌++◌, Ok, Err};
-ghost use Rattle.granit_model.specs.Folding.{folded};
-ghost use Rattle.granit_model.specs.Gap.{Each};
-ghost use Rattle.granit_model.specs.Here.{Here, next_char};
-ghost use Rattle.granit_model.specs.LayoutData.{LayoutData};
-ghost use Rattle.granit_model.specs.Outcome.{Fault};
-ghost use Rattle.granit_scalars.specs.QuotedExtent.{AnswersQuoted, Between, QuotedStands, RefusesQuoted, is_simple, quoted_value};
-ghost use Rattle.granit_scalars.specs.QuotedScalar.{QuotedRead, quote_char, quoted_scalar};
+ghost use Rattle.granit_lexemes.specs.Folding.{folded};
+ghost use Rattle.granit_lexemes.specs.Gap.{Each};
+ghost use Rattle.granit_lexemes.specs.Here.{Here, next_char};
+ghost use Rattle.granit_lexemes.specs.LayoutData.{LayoutData};
+ghost use Rattle.granit_lexemes.specs.Outcome.{Fault};
+ghost use Rattle.granit_lexemes.specs.QuotedExtent.{AnswersQuoted, Between, QuotedStands, RefusesQuoted, is_simple, quoted_value};
+ghost use Rattle.granit_lexemes.specs.QuotedScalar.{QuotedRead, quote_char, quoted_scalar};
 
 /// Where its quote stands, an answer is the quoted scalar that stands there up to its closing quote, with
 /// its value, the comment behind it, and where reading then stands.

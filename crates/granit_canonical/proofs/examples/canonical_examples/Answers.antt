@@ -4,7 +4,7 @@ use lib.Utf8.{encode}
 use Rattle.std.specs.Fmt.{digits}
 use Rattle.granit_base.specs.Classes.{is_word_char, is_digit, is_anchor_char, is_yaml_non_space, is_yaml_non_break, is_printable, is_break, is_blank, is_flow, is_bom}
 use Rattle.granit_model.specs.FlowText.{upper_digit, tag_byte, quoted_character}
-use Rattle.granit_model.specs.Line.{event_line, quoted_char}
+use Rattle.granit_lexemes.specs.Line.{event_line, quoted_char}
 use Rattle.granit_model.proofs.FittingLemmas.{told_documents}
 use Rattle.granit_canonical.specs.Examples.{names_tree}
 use Rattle.granit_canonical.proofs.examples.canonical_examples.Goals as goal

@@ -1,6 +1,6 @@
 use Rattle.std.proofs.Common.{◌≡◌, ◌∙◌, ◌++◌, ◌+◌, ◌<◌, ℕ, List, length, get_or, drop, map, sym, ap, rules}
 use Rattle.std.proofs.lemmas.List.{at_drop_more}
-use Rattle.granit_model.specs.Line.{event_line, event_lines}
+use Rattle.granit_lexemes.specs.Line.{event_line, event_lines}
 use Rattle.granit_base.specs.declared.place.Span.{Span}
 use Rattle.granit_event.specs.declared.event.Event.{Event}
 use Rattle.granit_event.specs.Events.{plain_event}

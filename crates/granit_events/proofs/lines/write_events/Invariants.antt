@@ -1,5 +1,5 @@
 use Rattle.std.proofs.Common.{◌≡◌, drop, map, string_bytes}
-use Rattle.granit_model.specs.Line.{event_lines}
+use Rattle.granit_lexemes.specs.Line.{event_lines}
 use Rattle.granit_event.specs.Events.{plain_event}
 use Rattle.granit_events.proofs.Reaching.{Reaches}
 use Rattle.granit_events.proofs.lines.write_events.Given as goal

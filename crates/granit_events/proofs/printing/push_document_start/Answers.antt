@@ -1,6 +1,6 @@
 use Rattle.std.proofs.Common.{codes, string_bytes}
 use Rattle.std.specs.Option.{option_map}
-use Rattle.granit_model.specs.Line.{explicit_word, version_words}
+use Rattle.granit_lexemes.specs.Line.{explicit_word, version_words}
 use Rattle.granit_event.specs.Events.{plain_version}
 use Rattle.granit_events.proofs.PushLemmas.{after_two}
 use Rattle.granit_events.proofs.printing.push_document_start.Goals as goal

@@ -2,7 +2,7 @@ use Rattle.std.proofs.Common.{◌≡◌, ◌++◌, length, string_bytes}
 use Rattle.std.specs.Str.{chars}
 use denote.Text.{Utf8}
 use denote.Shadow.{shadow}
-use Rattle.granit_model.specs.Line.{quoted_text}
+use Rattle.granit_lexemes.specs.Line.{quoted_text}
 use Rattle.granit_events.proofs.printing.push_quoted.Given as goal
 
 abbrev pub invariant-characters : goal.invariant-characters

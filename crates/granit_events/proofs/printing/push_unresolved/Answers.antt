@@ -1,5 +1,5 @@
 use Rattle.std.proofs.Common.{codes, string_bytes}
-use Rattle.granit_model.specs.Line.{in_quotes}
+use Rattle.granit_lexemes.specs.Line.{in_quotes}
 use Rattle.granit_events.proofs.PushLemmas.{after_one}
 use Rattle.granit_events.proofs.printing.push_unresolved.Goals as goal
 

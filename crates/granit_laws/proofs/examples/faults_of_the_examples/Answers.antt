@@ -3,15 +3,15 @@ use Rattle.std.proofs.Common.{refl}
 use lib.Utf8.{encode}
 use Rattle.std.specs.Fmt.{digits}
 use Rattle.granit_base.specs.Classes.{is_printable, is_break, is_blank, is_gap, is_blank_or_breakz, is_breakz, is_z, is_digit, is_hex, hex_value}
-use Rattle.granit_model.specs.Decoding.{letter_value, digit_count, is_high, is_low}
-use Rattle.granit_model.specs.Here.{step, past, past_chunk}
-use Rattle.granit_model.specs.Start.{glyph, is_inner}
-use Rattle.granit_model.specs.Pieces.{pieces, turns}
-use Rattle.granit_model.specs.Quoted as quoted
-use Rattle.granit_model.specs.Quoted.{second_half, numbered, escape, escaped_piece}
-use Rattle.granit_model.specs.ReaderState.{next_lexeme, behind_gap, lexeme_at, dash, double_quoted, open_bracket}
-use Rattle.granit_model.specs.Machine.{turn}
-use Rattle.granit_model.specs.Line.{event_line, quoted_char}
+use Rattle.granit_lexemes.specs.Decoding.{letter_value, digit_count, is_high, is_low}
+use Rattle.granit_flow.specs.Here.{step, past, past_chunk}
+use Rattle.granit_flow.specs.Start.{glyph, is_inner}
+use Rattle.granit_lexemes.specs.Pieces.{pieces, turns}
+use Rattle.granit_flow.specs.Quoted as quoted
+use Rattle.granit_flow.specs.Quoted.{second_half, numbered, escape, escaped_piece}
+use Rattle.granit_flow.specs.ReaderState.{next_lexeme, behind_gap, lexeme_at, dash, double_quoted, open_bracket}
+use Rattle.granit_flow.specs.Machine.{turn}
+use Rattle.granit_lexemes.specs.Line.{event_line, quoted_char}
 use Rattle.granit_laws.proofs.examples.faults_of_the_examples.Goals as goal
 
 pub returns-clause-unclosed : goal.returns-clause-unclosed

@@ -4,16 +4,16 @@ use lib.Utf8.{encode}
 use Rattle.std.specs.Fmt.{digits}
 use Rattle.std.specs.Str.{chars}
 use Rattle.granit_base.specs.Classes.{is_printable, is_break, is_blank, is_gap, is_blank_or_breakz, is_breakz, is_z, is_digit, is_hex, hex_value, is_word_char, is_alpha, is_flow, is_bom, is_yaml_non_break, is_yaml_non_space, is_anchor_char, is_uri_sign, is_uri_char}
-use Rattle.granit_model.specs.Decoding.{letter_value, digit_count, is_high, is_low}
-use Rattle.granit_model.specs.Here.{step, past, past_chunk}
-use Rattle.granit_model.specs.Start.{glyph, is_inner}
-use Rattle.granit_model.specs.Pieces.{pieces, turns}
-use Rattle.granit_model.specs.Property.{percent_byte, uri_byte}
-use Rattle.granit_model.specs.Quoted as quoted
-use Rattle.granit_model.specs.Quoted.{second_half, numbered, escape, escaped_piece}
-use Rattle.granit_model.specs.ReaderState.{next_lexeme, behind_gap, lexeme_at, dash, double_quoted, verbatim_tag, named, open_bracket}
-use Rattle.granit_model.specs.Machine.{turn}
-use Rattle.granit_model.specs.Line.{event_line, quoted_char}
+use Rattle.granit_lexemes.specs.Decoding.{letter_value, digit_count, is_high, is_low}
+use Rattle.granit_flow.specs.Here.{step, past, past_chunk}
+use Rattle.granit_flow.specs.Start.{glyph, is_inner}
+use Rattle.granit_lexemes.specs.Pieces.{pieces, turns}
+use Rattle.granit_flow.specs.Property.{percent_byte, uri_byte}
+use Rattle.granit_flow.specs.Quoted as quoted
+use Rattle.granit_flow.specs.Quoted.{second_half, numbered, escape, escaped_piece}
+use Rattle.granit_flow.specs.ReaderState.{next_lexeme, behind_gap, lexeme_at, dash, double_quoted, verbatim_tag, named, open_bracket}
+use Rattle.granit_flow.specs.Machine.{turn}
+use Rattle.granit_lexemes.specs.Line.{event_line, quoted_char}
 use Rattle.granit_laws.proofs.examples.lines_of_properties.Goals as goal
 
 pub returns-clause-own_sequence : goal.returns-clause-own_sequence

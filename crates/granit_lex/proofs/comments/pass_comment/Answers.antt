@@ -1,4 +1,4 @@
-use Rattle.granit_model.specs.Here.{step}
+use Rattle.granit_lexemes.specs.Here.{step}
 use Rattle.granit_lex.proofs.CommentLemmas.{comment_behind}
 use Rattle.granit_lex.proofs.comments.pass_comment.Goals as goal
 

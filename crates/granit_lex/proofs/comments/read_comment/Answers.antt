@@ -3,8 +3,8 @@ use Rattle.std.specs.Str.{chars}
 use Rattle.std.proofs.lemmas.Str.{chars-nil}
 use Rattle.std.proofs.lemmas.Result.{err_from_is_err_and}
 use Rattle.granit_base.specs.Written.{string_chars}
-use Rattle.granit_model.specs.Here.{step}
-use Rattle.granit_model.specs.Moves.{steps}
+use Rattle.granit_lexemes.specs.Here.{step}
+use Rattle.granit_lexemes.specs.Moves.{steps}
 use Rattle.granit_lex.proofs.CommentLemmas.{comment_fails, comment_given, text_of}
 use Rattle.granit_lex.proofs.comments.read_comment.Goals as goal
 

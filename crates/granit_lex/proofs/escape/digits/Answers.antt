@@ -1,10 +1,10 @@
 use Rattle.std.proofs.Common.{◌≡◌, ◌+◌, ◌-◌, ◌*◌, ◌<◌, ℕ, true, false, ap, sym, ◌∙◌, arith}
 use Rattle.granit_base.specs.Classes.{is_hex, hex_value}
 use Rattle.granit_input.proofs.OriginLemmas.{goes_on}
-use Rattle.granit_model.specs.Here.{next_char, step}
-use Rattle.granit_scalars.specs.QuotedScalar.{digits_or}
+use Rattle.granit_lexemes.specs.Here.{next_char, step}
+use Rattle.granit_lexemes.specs.QuotedScalar.{digits_or}
 use Rattle.granit_lex.specs.QuotedCode.{hex_refusal}
-use Rattle.granit_model.proofs.DecodingLemmas.{digit_below, digits_fit, digit_space, digit_more}
+use Rattle.granit_lexemes.proofs.DecodingLemmas.{digit_below, digits_fit, digit_space, digit_more}
 use Rattle.granit_lex.proofs.EscapeLemmas.{digits_go, digits_stop, digits_end}
 use Rattle.granit_lex.proofs.escape.digits.Goals as goal
 

@@ -1,6 +1,6 @@
 use Rattle.std.proofs.Common.{◌≡◌}
-use Rattle.granit_model.specs.Here.{Here, mark_of}
-use Rattle.granit_model.specs.PlainScalar.{plain_start}
+use Rattle.granit_lexemes.specs.Here.{Here, mark_of}
+use Rattle.granit_lexemes.specs.PlainScalar.{plain_start}
 use Rattle.granit_lex.specs.PlainCode.{plain_rest, plain_whole}
 use Rattle.granit_lex.specs.Reading.{Stands, Moves}
 use Rattle.granit_lex.specs.Tokens.{layout_data}

@@ -1,5 +1,5 @@
-use Rattle.granit_model.specs.PlainExtent.{AnswersPlain, RefusesPlain}
-use Rattle.granit_model.specs.PlainScalar.{plain_scalar}
+use Rattle.granit_lexemes.specs.PlainExtent.{AnswersPlain, RefusesPlain}
+use Rattle.granit_lexemes.specs.PlainScalar.{plain_scalar}
 use Rattle.granit_scalars.proofs.Nameless.{plain_none}
 use Rattle.granit_scalars.proofs.PlainOnce.{is_answered, is_refused, is_standing}
 use Rattle.granit_lex.specs.Reading.{Stands}

@@ -1,8 +1,8 @@
 use Rattle.std.proofs.Common.{◌≡◌, ◌<◌, ◌-◌, ◌^◌, ℕ, List, [], ◌∷◌, ◌++◌, take, refl, ap, ap₂, ◌∙◌, arith}
 use Rattle.granit_input.specs.Runs.{is_plain_at}
 use Rattle.granit_input.proofs.RunLemmas.{front_all, run_within}
-use Rattle.granit_model.specs.Here.{next_char, step}
-use Rattle.granit_model.specs.Moves.{steps}
+use Rattle.granit_lexemes.specs.Here.{next_char, step}
+use Rattle.granit_lexemes.specs.Moves.{steps}
 use Rattle.granit_lex.proofs.PlainLemmas.{cleared}
 use Rattle.granit_lex.proofs.plain.take_content.Goals as goal
 

@@ -1,7 +1,7 @@
 use Rattle.std.proofs.Common.{ℕ, ap, ◌∙◌, subst}
 use Rattle.granit_base.specs.Classes.{is_blank}
-use Rattle.granit_model.specs.Here.{Here}
-use Rattle.granit_model.specs.Moves.{steps}
+use Rattle.granit_lexemes.specs.Here.{Here}
+use Rattle.granit_lexemes.specs.Moves.{steps}
 use Rattle.granit_lex.specs.Reading.{Stands}
 use Rattle.granit_lex.proofs.QuotedLemmas.{steps_past}
 use Rattle.granit_lex.proofs.quoted.past_blanks.Goals as goal

@@ -1,6 +1,6 @@
 use Rattle.std.proofs.Common.{◌≡◌, false}
-use Rattle.granit_model.specs.Here.{Here}
-use Rattle.granit_scalars.specs.QuotedScalar.{quoted_at, quoted_rest}
+use Rattle.granit_lexemes.specs.Here.{Here}
+use Rattle.granit_lexemes.specs.QuotedScalar.{quoted_at, quoted_rest}
 use Rattle.granit_lex.specs.QuotedCode.{quoted_whole}
 use Rattle.granit_lex.specs.Reading.{Stands, Moves}
 use Rattle.granit_lex.specs.Tokens.{layout_data}

@@ -1,5 +1,5 @@
 use Rattle.granit_base.specs.Written.{string_chars}
-use Rattle.granit_model.specs.Here.{step}
+use Rattle.granit_lexemes.specs.Here.{step}
 use Rattle.granit_lex.specs.QuotedCode.{quoted_state}
 use Rattle.granit_lex.specs.Tokens.{layout_data}
 use Rattle.granit_lex.proofs.QuotedLemmas.{scalar_is}

@@ -1,5 +1,5 @@
-use Rattle.granit_scalars.specs.QuotedExtent.{AnswersQuoted, RefusesQuoted}
-use Rattle.granit_scalars.specs.QuotedScalar.{quoted_scalar}
+use Rattle.granit_lexemes.specs.QuotedExtent.{AnswersQuoted, RefusesQuoted}
+use Rattle.granit_lexemes.specs.QuotedScalar.{quoted_scalar}
 use Rattle.granit_scalars.proofs.Nameless.{quoted_none}
 use Rattle.granit_scalars.proofs.QuotedLaw.{quoted_standing, quoted_refused}
 use Rattle.granit_scalars.proofs.QuotedOnce.{quoted_is_answered}

@@ -1,8 +1,8 @@
 use Rattle.std.proofs.Common.{◌≡◌, [], Some, Ok, sym, ap, ◌∙◌}
 use Rattle.std.proofs.lemmas.Result.{err_from_is_err_and}
-use Rattle.granit_model.specs.Here.{step}
-use Rattle.granit_model.specs.PlainScalar.{past_break}
-use Rattle.granit_scalars.specs.QuotedScalar.{QuotedState}
+use Rattle.granit_lexemes.specs.Here.{step}
+use Rattle.granit_lexemes.specs.PlainScalar.{past_break}
+use Rattle.granit_lexemes.specs.QuotedScalar.{QuotedState}
 use Rattle.granit_lex.specs.QuotedCode.{quoted_state, quoted_ahead}
 use Rattle.granit_lex.specs.Tokens.{layout_data}
 use Rattle.granit_lex.specs.declared.quoted.Ahead.{Ahead}

@@ -2,10 +2,10 @@ use Rattle.std.proofs.Common.{subst}
 use Rattle.std.specs.Str.{chars}
 use Rattle.std.proofs.lemmas.Result.{err_from_is_err_and}
 use Rattle.granit_error.specs.OptionsView.{options_of}
-use Rattle.granit_model.specs.Here.{start_of}
-use Rattle.granit_model.specs.Machine.{MachineState, size, turn, machine_start}
-use Rattle.granit_model.specs.Outcome.{Fails}
-use Rattle.granit_model.specs.Pieces.{pieces}
+use Rattle.granit_flow.specs.Here.{start_of}
+use Rattle.granit_flow.specs.Machine.{MachineState, size, turn, machine_start}
+use Rattle.granit_lexemes.specs.Outcome.{Fails}
+use Rattle.granit_lexemes.specs.Pieces.{pieces}
 use Rattle.granit_parser.proofs.PathLemmas.{fails_then}
 use Rattle.granit_parser.proofs.load.load.Goals as goal
 

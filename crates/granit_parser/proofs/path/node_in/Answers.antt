@@ -1,5 +1,5 @@
 use Rattle.granit_error.specs.OptionsView.{options_of}
-use Rattle.granit_model.specs.Path.{Path, node}
+use Rattle.granit_flow.specs.Path.{Path, node}
 use Rattle.granit_event.specs.Events.{plain_events}
 use Rattle.granit_parser.specs.Lexemes.{kind_view, lexeme_view}
 use Rattle.granit_parser.specs.Paths.{parser_view}

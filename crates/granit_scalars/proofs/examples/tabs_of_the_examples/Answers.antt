@@ -3,10 +3,10 @@ use Rattle.std.proofs.Common.{refl}
 use lib.Utf8.{encode}
 use Rattle.std.specs.Fmt.{digits}
 use Rattle.granit_base.specs.Classes.{is_printable, is_break, is_blank, is_breakz, is_blank_or_breakz, is_flow, is_z}
-use Rattle.granit_model.specs.Here.{step}
-use Rattle.granit_model.specs.Line.{event_line, quoted_char}
-use Rattle.granit_model.specs.Pieces.{pieces, turns}
-use Rattle.granit_model.specs.PlainScalar.{past_break, on_content, on_blank, on_break, plain_turn, behind_plain, plain_scalar}
+use Rattle.granit_lexemes.specs.Here.{step}
+use Rattle.granit_lexemes.specs.Line.{event_line, quoted_char}
+use Rattle.granit_lexemes.specs.Pieces.{pieces, turns}
+use Rattle.granit_lexemes.specs.PlainScalar.{past_break, on_content, on_blank, on_break, plain_turn, behind_plain, plain_scalar}
 use Rattle.granit_scalars.proofs.examples.tabs_of_the_examples.Goals as goal
 
 pub returns-clause-left : goal.returns-clause-left

@@ -3,14 +3,14 @@ use Rattle.std.proofs.Common.{refl}
 use lib.Utf8.{encode}
 use Rattle.std.specs.Fmt.{digits}
 use Rattle.granit_base.specs.Classes.{is_printable, is_break, is_blank, is_breakz, is_blank_or_breakz, is_flow, is_z, is_hex, is_digit, hex_value}
-use Rattle.granit_model.specs.Comment.{behind_comment, skipped_comment, comment}
-use Rattle.granit_model.specs.Decoding.{letter_value, digit_count, is_high, is_low}
-use Rattle.granit_model.specs.Here.{step, past}
-use Rattle.granit_model.specs.Line.{event_line, quoted_char}
-use Rattle.granit_model.specs.Moves.{steps}
-use Rattle.granit_model.specs.Pieces.{pieces, turns}
-use Rattle.granit_model.specs.PlainScalar.{past_break}
-use Rattle.granit_scalars.specs.QuotedScalar.{is_closing, digits_or, second_half_or, numbered_or, escape_or, is_strictly_left, is_loosely_left, over_blank, over_break, quoted_content, quoted_turn, may_trail, behind_quoted, quoted_tail, quoted_scalar}
+use Rattle.granit_lexemes.specs.Comment.{behind_comment, skipped_comment, comment}
+use Rattle.granit_lexemes.specs.Decoding.{letter_value, digit_count, is_high, is_low}
+use Rattle.granit_lexemes.specs.Here.{step, past}
+use Rattle.granit_lexemes.specs.Line.{event_line, quoted_char}
+use Rattle.granit_lexemes.specs.Moves.{steps}
+use Rattle.granit_lexemes.specs.Pieces.{pieces, turns}
+use Rattle.granit_lexemes.specs.PlainScalar.{past_break}
+use Rattle.granit_lexemes.specs.QuotedScalar.{is_closing, digits_or, second_half_or, numbered_or, escape_or, is_strictly_left, is_loosely_left, over_blank, over_break, quoted_content, quoted_turn, may_trail, behind_quoted, quoted_tail, quoted_scalar}
 use Rattle.granit_scalars.proofs.quoted_examples.places_of_quoted_examples.Goals as goal
 
 pub returns-clause-strict_in_flow : goal.returns-clause-strict_in_flow

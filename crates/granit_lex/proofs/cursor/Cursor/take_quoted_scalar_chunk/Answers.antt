@@ -5,7 +5,7 @@ use Rattle.granit_input.specs.Origin.{Goes}
 use Rattle.granit_input.specs.Runs.{starts, is_quoted_char}
 use Rattle.granit_input.specs.Unread.{past}
 use Rattle.granit_input.proofs.OriginLemmas.{goes_nowhere}
-use Rattle.granit_model.specs.Moves.{steps}
+use Rattle.granit_lexemes.specs.Moves.{steps}
 use Rattle.granit_lex.proofs.MoveLemmas.{stands_at, lands, quoted_line}
 use Rattle.granit_lex.proofs.SourceLemmas.{none_found, some_found, lent_since, whole_run}
 use Rattle.granit_lex.proofs.cursor.Cursor.take_quoted_scalar_chunk.Goals as goal

@@ -1,7 +1,7 @@
 use Rattle.std.proofs.Common.{◌≡◌, ◌+◌, ◌*◌, ◌<◌, true, false, ap, sym, ◌∙◌, arith}
 use Rattle.granit_base.specs.Classes.{is_hex, hex_value}
-use Rattle.granit_model.specs.Here.{next_char}
-use Rattle.granit_model.proofs.DecodingLemmas.{digit_below, digits_fit, digit_space, digit_more}
+use Rattle.granit_flow.specs.Here.{next_char}
+use Rattle.granit_lexemes.proofs.DecodingLemmas.{digit_below, digits_fit, digit_space, digit_more}
 use Rattle.granit_parser.proofs.EscapeLemmas.{digits_go, digits_stop, digits_end}
 use Rattle.granit_parser.proofs.cursor.Cursor.digits.Goals as goal
 

@@ -1,5 +1,5 @@
 use Rattle.std.proofs.Common.{◌≡◌, ◌-◌, ◌<◌, ◌^◌}
-use Rattle.granit_model.specs.Quoted.{digits}
+use Rattle.granit_flow.specs.Quoted.{digits}
 use Rattle.granit_parser.proofs.cursor.Cursor.digits.Given as goal
 
 abbrev pub invariant-digits : goal.invariant-digits

@@ -1,9 +1,9 @@
 use Rattle.std.proofs.lemmas.Result.{err_from_is_err_and}
 use Rattle.granit_base.specs.Written.{string_chars}
-use Rattle.granit_model.specs.Here.{text_len}
-use Rattle.granit_model.specs.Quoted.{escaped_piece}
-use Rattle.granit_model.proofs.PieceLemmas.{loop_more, loop_done, loop_fails}
-use Rattle.granit_model.proofs.QuotedLemmas.{piece_shortens}
+use Rattle.granit_flow.specs.Here.{text_len}
+use Rattle.granit_flow.specs.Quoted.{escaped_piece}
+use Rattle.granit_lexemes.proofs.PieceLemmas.{loop_more, loop_done, loop_fails}
+use Rattle.granit_flow.proofs.QuotedLemmas.{piece_shortens}
 use Rattle.granit_parser.proofs.PushedLemmas.{turned_more, turned_done, push_done, push_fails}
 use Rattle.granit_parser.proofs.cursor.Cursor.escaped_pieces.Goals as goal
 

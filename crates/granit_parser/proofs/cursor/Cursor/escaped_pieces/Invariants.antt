@@ -1,8 +1,8 @@
 use Rattle.std.proofs.Common.{◌≡◌}
 use Rattle.granit_base.specs.Written.{string_chars}
-use Rattle.granit_model.specs.Here.{text_len}
-use Rattle.granit_model.specs.Pieces.{with_front}
-use Rattle.granit_model.specs.Quoted.{escaped_pieces}
+use Rattle.granit_flow.specs.Here.{text_len}
+use Rattle.granit_lexemes.specs.Pieces.{with_front}
+use Rattle.granit_flow.specs.Quoted.{escaped_pieces}
 use Rattle.granit_parser.proofs.cursor.Cursor.escaped_pieces.Given as goal
 
 -- what is left to be read belongs behind what was gathered

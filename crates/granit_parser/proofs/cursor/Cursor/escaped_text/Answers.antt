@@ -2,8 +2,8 @@ use Rattle.std.proofs.Common.{◌≡◌, ◌++◌, ap, sym, ◌∙◌, List, ℕ
 use Rattle.std.specs.Str.{chars}
 use Rattle.std.proofs.lemmas.Str.{chars-nil}
 use Rattle.granit_base.specs.Written.{string_chars}
-use Rattle.granit_model.specs.Pieces.{with_front}
-use Rattle.granit_model.specs.Quoted.{escaped_pieces}
+use Rattle.granit_lexemes.specs.Pieces.{with_front}
+use Rattle.granit_flow.specs.Quoted.{escaped_pieces}
 use Rattle.granit_parser.proofs.PushedLemmas.{pushed_behind}
 use Rattle.granit_parser.proofs.cursor.Cursor.escaped_text.Goals as goal
 

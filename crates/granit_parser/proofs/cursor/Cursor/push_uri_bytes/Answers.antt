@@ -1,8 +1,8 @@
 use Rattle.std.proofs.lemmas.Result.{err_from_is_err_and}
-use Rattle.granit_model.specs.Here.{text_len}
-use Rattle.granit_model.specs.Property.{uri_byte}
-use Rattle.granit_model.proofs.PieceLemmas.{loop_more, loop_done, loop_fails}
-use Rattle.granit_model.proofs.QuotedLemmas.{uri_shortens}
+use Rattle.granit_flow.specs.Here.{text_len}
+use Rattle.granit_flow.specs.Property.{uri_byte}
+use Rattle.granit_lexemes.proofs.PieceLemmas.{loop_more, loop_done, loop_fails}
+use Rattle.granit_flow.proofs.QuotedLemmas.{uri_shortens}
 use Rattle.granit_parser.proofs.PushedLemmas.{turned_more, turned_done, push_done, push_fails}
 use Rattle.granit_parser.proofs.cursor.Cursor.push_uri_bytes.Goals as goal
 

@@ -1,7 +1,7 @@
 use Rattle.std.proofs.Common.{◌≡◌}
-use Rattle.granit_model.specs.Here.{text_len}
-use Rattle.granit_model.specs.Pieces.{with_front}
-use Rattle.granit_model.specs.Property.{uri_bytes}
+use Rattle.granit_flow.specs.Here.{text_len}
+use Rattle.granit_lexemes.specs.Pieces.{with_front}
+use Rattle.granit_flow.specs.Property.{uri_bytes}
 use Rattle.granit_parser.proofs.cursor.Cursor.push_uri_bytes.Given as goal
 
 -- what is left to be read belongs behind what was gathered

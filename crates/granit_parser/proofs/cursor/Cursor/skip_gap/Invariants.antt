@@ -1,6 +1,6 @@
 use Rattle.std.proofs.Common.{◌≡◌}
 use Rattle.granit_base.specs.Classes.{is_gap}
-use Rattle.granit_model.specs.Here.{past, text_len}
+use Rattle.granit_flow.specs.Here.{past, text_len}
 use Rattle.granit_parser.proofs.cursor.Cursor.skip_gap.Given as goal
 
 abbrev pub invariant-gap : goal.invariant-gap

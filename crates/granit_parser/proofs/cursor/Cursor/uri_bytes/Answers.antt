@@ -1,7 +1,7 @@
 use Rattle.std.proofs.Common.{List, ℕ, sym, ap, ◌∙◌}
-use Rattle.granit_model.specs.Pieces.{with_front}
-use Rattle.granit_model.specs.Property.{uri_bytes}
-use Rattle.granit_model.proofs.PieceLemmas.{with_front-nil}
+use Rattle.granit_lexemes.specs.Pieces.{with_front}
+use Rattle.granit_flow.specs.Property.{uri_bytes}
+use Rattle.granit_lexemes.proofs.PieceLemmas.{with_front-nil}
 use Rattle.granit_parser.proofs.PushedLemmas.{pushed_behind}
 use Rattle.granit_parser.proofs.cursor.Cursor.uri_bytes.Goals as goal
 

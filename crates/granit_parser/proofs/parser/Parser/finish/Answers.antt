@@ -1,9 +1,9 @@
 use Rattle.std.proofs.Common.{arith}
 use Rattle.std.proofs.lemmas.Result.{err_from_is_err_and}
 use Rattle.granit_error.specs.OptionsView.{options_of}
-use Rattle.granit_model.specs.Machine.{size, turn}
-use Rattle.granit_model.proofs.PieceLemmas.{loop_more, loop_done, loop_fails}
-use Rattle.granit_model.proofs.SizeLemmas.{turn_shortens}
+use Rattle.granit_flow.specs.Machine.{size, turn}
+use Rattle.granit_lexemes.proofs.PieceLemmas.{loop_more, loop_done, loop_fails}
+use Rattle.granit_flow.proofs.SizeLemmas.{turn_shortens}
 use Rattle.granit_event.specs.Events.{plain_events}
 use Rattle.granit_parser.proofs.AnchorLemmas.{turn_counts}
 use Rattle.granit_parser.proofs.PushedLemmas.{turned_more, turned_done, push_done, push_fails}

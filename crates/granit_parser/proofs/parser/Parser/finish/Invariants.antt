@@ -1,7 +1,7 @@
 use Rattle.std.proofs.Common.{◌≡◌, ◌+◌, ◌<◌, ◌^◌}
 use Rattle.granit_error.specs.OptionsView.{options_of}
-use Rattle.granit_model.specs.Machine.{size, turn}
-use Rattle.granit_model.specs.Pieces.{with_front, pieces}
+use Rattle.granit_flow.specs.Machine.{size, turn}
+use Rattle.granit_lexemes.specs.Pieces.{with_front, pieces}
 use Rattle.granit_event.specs.Events.{plain_events}
 use Rattle.granit_parser.proofs.parser.Parser.finish.Given as goal
 

@@ -1,0 +1,3 @@
+pub mod HereLemmas
+pub mod QuotedLemmas
+pub mod SizeLemmas

@@ -1,0 +1,17 @@
+pub mod Cause
+pub mod Content
+pub mod Events
+pub mod Extent
+pub mod Here
+pub mod Lexeme
+pub mod Machine
+pub mod Node
+pub mod OpenPlace
+pub mod Path
+pub mod Property
+pub mod Quoted
+pub mod ReaderState
+pub mod Reading
+pub mod Scope
+pub mod Start
+pub mod Yield

@@ -1,0 +1,90 @@
+-- Comments: how far one goes, its text, and what may not stand in it (YAML 1.2.2, 6.6).
+use Rattle.std.specs.Prelude.{◌≡◌, ℕ, suc, ◌==◌, Bool, true, false, ◌&&◌, ◌||◌, not, if◌then◌else◌, List, [], ◌∷◌, ◌++◌, length, ◌⊎◌, Result, Ok, Err}
+use Rattle.granit_base.specs.Classes.{is_break, is_breakz, is_printable}
+use Rattle.granit_base.specs.Place.{Mark, first}
+use Rattle.granit_base.specs.Written.{Written}
+use Rattle.granit_error.specs.FaultKind.{FaultKind, UnexpectedCharacter}
+use Rattle.granit_lexemes.specs.Gap.{Each}
+use Rattle.granit_lexemes.specs.Here.{Here, text_len, next_char, mark_of, step, chunk_len, chunk}
+use Rattle.granit_lexemes.specs.Source.{Source}
+use Rattle.granit_lexemes.specs.Moves.{steps}
+use Rattle.granit_lexemes.specs.Outcome.{Fault, fault_at, ◌>>=◌}
+
+-- a character of a comment's text: printable, and neither a break nor NUL
+abbrev pub is_comment_char : ℕ → Bool
+is_comment_char c = not (is_breakz c) && is_printable c
+
+-- ---- what a comment is
+
+-- A text begins with `#` and these characters, and then the line or the text ends.
+pub record IsComment (x : List ℕ) (cs : List ℕ) : Type 0 where
+  pub behind : List ℕ
+  pub spelled : x ≡ 0x23 ∷ (cs ++ behind)
+  pub text : Each is_comment_char cs
+  pub ends : (behind ≡ []) ⊎ (is_break (first behind) ≡ true)
+
+-- A text begins with `#` and these characters, and on the same line an unprintable character follows.
+pub record IsSpoiled (x : List ℕ) (cs : List ℕ) (c : ℕ) : Type 0 where
+  pub behind : List ℕ
+  pub spelled : x ≡ 0x23 ∷ (cs ++ c ∷ behind)
+  pub text : Each is_comment_char cs
+  pub unprintable : is_printable c ≡ false
+
+-- ---- how one is read
+
+-- a comment, as the call that reads it gives it
+pub record CommentRead : Type 0 where
+  pub text : Written
+  pub source : Source
+
+-- behind the characters of a comment that begins here
+abbrev pub past_comment : Here → Here
+past_comment h = steps (chunk_len is_comment_char (step h)) (step h)
+
+-- behind a comment, where no unprintable character may stand; a NUL in the text is one
+unfoldable pub behind_comment : Here → Result (Unit {0} × Here) Fault
+behind_comment h =
+    if text_len h == 0 || is_printable (next_char h) then Ok (tt, h)
+    else Err (fault_at (UnexpectedCharacter (next_char h)) (mark_of h))
+
+-- over the comment that begins here with its `#`
+unfoldable pub skipped_comment : Here → Result (Unit {0} × Here) Fault
+skipped_comment h = behind_comment (past_comment h)
+
+-- the comment that begins here and ends there
+abbrev pub comment_read : Here → Here → CommentRead
+comment_read h after = record {
+  text = record { characters = chunk is_comment_char (step h); is_borrowed = false };
+  source = record { start = mark_of h; end = mark_of after };
+}
+
+-- the comment that begins here with its `#`
+unfoldable pub comment : Here → Result (CommentRead × Here) Fault
+comment h = skipped_comment h >>= λ x. Ok (comment_read h x.1, x.1)
+
+-- ---- what is true of what is read
+
+-- the comment of these characters that begins here
+abbrev pub comment_of : List ℕ → Here → CommentRead
+comment_of cs h = record {
+  text = record { characters = cs; is_borrowed = false };
+  source = record { start = mark_of h; end = mark_of (steps (suc (length cs)) h) };
+}
+
+-- a comment begins here, it is this one, and there it ends
+pub record StandsComment (h : Here) (c : CommentRead) (after : Here) : Type 0 where
+  pub spelled : IsComment h.unread.text c.text.characters
+  pub is : c ≡ comment_of c.text.characters h
+  pub lands : after ≡ steps (suc (length c.text.characters)) h
+
+-- a comment begins here that isn't printable, and its first such character stands at the mark
+pub record Spoils (h : Here) (kind : FaultKind) (mark : Mark) : Type 0 where
+  pub front : List ℕ
+  pub character : ℕ
+  pub spelled : IsSpoiled h.unread.text front character
+  pub names : kind ≡ UnexpectedCharacter character
+  pub marks : mark ≡ mark_of (steps (suc (length front)) h)
+
+abbrev pub ReadsComment : Here → Result (CommentRead × Here) Fault → Type 0
+ReadsComment h (Ok (c, after)) = StandsComment h c after
+ReadsComment h (Err f) = Spoils h f.kind f.mark
