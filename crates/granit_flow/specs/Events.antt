@@ -9,7 +9,7 @@ use Rattle.granit_lexemes.specs.Source.{Source}
 use Rattle.granit_lexemes.specs.Place.{mark_at}
 use Rattle.granit_flow.specs.Node.{TagAt, AnchorAt, NodeProperties, Node, AliasNode, ScalarNode, EmptySequence, Sequence, EmptyMapping, Mapping, Entries, Entry, EntryLead, FirstEntry, NextEntry, Pairs, Pair, PairLead, FirstPair, NextPair, Documents, NoDocument, Document}
 use Rattle.granit_flow.specs.Scope.{Scope, in_new_document, anchored, number_in, behind_node, behind_entry_lead, behind_pair_lead, behind_documents}
-use Rattle.granit_lexemes.specs.PlainEvent.{PlainEvent, PlainTag, EventKind, plain_span, event_at, event_on, StreamStart, StreamEnd, DocumentStart, DocumentEnd, Alias, Anchor, UnresolvedAlias, Scalar, SequenceStart, SequenceEnd, MappingStart, MappingEnd}
+use Rattle.granit_lexemes.specs.PlainEvent.{PlainEvent, PlainTag, EventKind, told_length, plain_span, event_at, event_on, StreamStart, StreamEnd, DocumentStart, DocumentEnd, Alias, Anchor, UnresolvedAlias, Scalar, SequenceStart, SequenceEnd, MappingStart, MappingEnd}
 
 -- the place behind a node
 abbrev pub node_end : Node → Mark

@@ -4,7 +4,7 @@ use Rattle.granit_base.specs.Classes.{is_hex, hex_value}
 use Rattle.granit_base.specs.Place.{Mark}
 use Rattle.granit_error.specs.FaultKind.{FaultKind}
 use Rattle.granit_lexemes.specs.Here.{Here, next_char, step}
-use Rattle.granit_lexemes.specs.PlainScalar.{fails_at}
+use Rattle.granit_lexemes.specs.Basics.{fails_at}
 use Rattle.granit_lexemes.specs.QuotedScalar.{digits_or}
 
 pub digits_go : (kind : FaultKind) (start : Mark) (n i v : ℕ) (h : Here) → i < n → is_hex (next_char h) ≡ true → digits_or kind start (n - i) v h ≡ digits_or kind start (n - (i + 1)) (v * 16 + hex_value (next_char h)) (step h)

@@ -17,7 +17,8 @@ use Rattle.granit_lexemes.specs.LayoutData.{LayoutData}
 use Rattle.granit_lexemes.specs.Moves.{steps}
 use Rattle.granit_lexemes.specs.Outcome.{Fault, fault_at}
 use Rattle.granit_lexemes.specs.Pieces.{with_front}
-use Rattle.granit_lexemes.specs.PlainScalar.{PlainState, fails_at, is_content, between, on_content, meets_comment, ends_before_line, plain_turn, plain_len}
+use Rattle.granit_lexemes.specs.Basics.{fails_at}
+use Rattle.granit_lexemes.specs.PlainScalar.{PlainState, is_content, between, on_content, meets_comment, ends_before_line, plain_turn, plain_len}
 use Rattle.granit_lexemes.proofs.HereLemmas.{step_text}
 use Rattle.granit_lexemes.proofs.PieceLemmas.{with_front-nil, with_front-with_front, pieces_more, pieces_done, pieces_fails}
 use Rattle.granit_scalars.proofs.PlainTurns.{chain, plain_shortens}

@@ -11,7 +11,7 @@ use Rattle.granit_lexemes.specs.Here.{Here, text_len, next_char, mark_of, step, 
 use Rattle.granit_lexemes.specs.LayoutData.{LayoutData}
 use Rattle.granit_lexemes.specs.Moves.{steps}
 use Rattle.granit_lexemes.specs.Outcome.{Fault, Fails, ◌>>=◌}
-use Rattle.granit_lexemes.specs.PlainScalar.{fails_at}
+use Rattle.granit_lexemes.specs.Basics.{fails_at}
 use Rattle.granit_lexemes.specs.QuotedScalar.{QuotedState, is_closing, escape_or, between_quoted, quoted_at, quoted_piece, quoted_content, quoted_turn, quoted_len, QuotedRead, quoted_tail, quoted_scalar, quoted_rest}
 use Rattle.granit_lexemes.proofs.HereLemmas.{step_text}
 use Rattle.granit_lexemes.proofs.PieceLemmas.{with_front-nil, loop_more, loop_done, loop_fails}

@@ -9,7 +9,8 @@ use Rattle.granit_lexemes.specs.Here.{Here, next_char, mark_of}
 use Rattle.granit_lexemes.specs.LayoutData.{LayoutData}
 use Rattle.granit_lexemes.specs.Outcome.{Fault, Fails}
 use Rattle.granit_lexemes.specs.Pieces.{with_front, pieces}
-use Rattle.granit_lexemes.specs.PlainScalar.{PlainState, PlainRead, fails_at, is_content, between, on_content, on_blank, on_break, meets_comment, ends_before_line, plain_turn, plain_len, only_printable, unprintable, behind_plain}
+use Rattle.granit_lexemes.specs.Basics.{fails_at, only_printable, unprintable}
+use Rattle.granit_lexemes.specs.PlainScalar.{PlainState, PlainRead, is_content, between, on_content, on_blank, on_break, meets_comment, ends_before_line, plain_turn, plain_len, behind_plain}
 use Rattle.granit_lex.specs.declared.plain.PlainParts.{PlainParts}
 use Rattle.granit_lex.specs.declared.plain.Ahead.{Ahead}
 use Rattle.granit_lex.specs.declared.plain.Ahead.TheVariants.{Blank, Break, Tab, Content, End}

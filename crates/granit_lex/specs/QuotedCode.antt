@@ -9,7 +9,7 @@ use Rattle.granit_lexemes.specs.Here.{Here, text_len, next_char, mark_of, step}
 use Rattle.granit_lexemes.specs.LayoutData.{LayoutData}
 use Rattle.granit_lexemes.specs.Outcome.{Fault, Fails, ◌>>=◌}
 use Rattle.granit_lexemes.specs.Pieces.{with_front}
-use Rattle.granit_lexemes.specs.PlainScalar.{fails_at, is_document_mark}
+use Rattle.granit_lexemes.specs.Basics.{fails_at, is_document_mark}
 use Rattle.granit_lexemes.specs.QuotedScalar.{QuotedState, is_closing, is_tab_left, is_strictly_left, is_loosely_left, escape_or, between_quoted, quoted_at, over_blank, over_break, quoted_content, quoted_rest}
 use Rattle.granit_lex.specs.declared.quoted.QuotedParts.{QuotedParts}
 use Rattle.granit_lex.specs.declared.quoted.Ahead.{Ahead}

@@ -186,7 +186,7 @@ pub(crate) fn drop_blanks(blanks: &mut String)
 }
 
 /// Behind a break, which CR LF is too (YAML 1.2.2, 5.4).
-#[tactic(auto, unfolding(granit_lexemes::specs::PlainScalar::past_break))]
+#[tactic(auto, unfolding(granit_lexemes::specs::Basics::past_break))]
 pub(crate) fn past_break<T: Input>(cursor: &mut Cursor<T>)
     ensures here { (h : Here) → Stands T.unread cursor.old h → Stands T.unread cursor.new (spec.past_break h) }
     ensures left { T.left cursor.new.input ≤ T.left cursor.old.input - 1 }

@@ -5,7 +5,7 @@ ghost use Rattle.granit_base.specs.Written.{string_chars};
 ghost use Rattle.granit_error.specs.FaultKind.{NoMemory as OutOfMemory};
 ghost use Rattle.granit_error.specs.Kinds.{kind_of};
 ghost use Rattle.granit_lexemes.specs.Here.{Here, next_char, past, step};
-ghost use Rattle.granit_lexemes.specs.PlainScalar.{past_break};
+ghost use Rattle.granit_lexemes.specs.Basics.{past_break};
 ghost use Rattle.granit_lexemes.specs.QuotedExtent as extent;
 ghost use Rattle.granit_lexemes.specs.QuotedScalar as spec;
 ghost use Rattle.granit_lex.specs.PlainCode.{TurnTakes};

@@ -4,7 +4,7 @@ use Rattle.std.proofs.lemmas.List.{length-drop}
 use Rattle.std.proofs.lemmas.Bool.Decides.{nat_tests}
 use Rattle.granit_base.specs.Classes.{is_break}
 use Rattle.granit_base.specs.Place.{first, ends_line}
-use Rattle.granit_lexemes.specs.Here.{Here, text_len, next_char, step, chosen, skip, past, chunk_len, past_chunk}
+use Rattle.granit_lexemes.specs.Here.{Here, text_len, next_char, step, chosen, skip, past}
 
 pub not_empty : (c : ℕ) (cs : List ℕ) → (length (c ∷ cs) == 0) ≡ false
 not_empty c cs = grind (arith, nat_tests)
@@ -69,10 +69,6 @@ skip_len test (c ∷ cs) h = chosen_len (test (next_char h)) (text_len h) (skip 
 pub past_len : (test : ℕ → Bool) (h : Here) → text_len (past test h) ≤ text_len h
 unfolding past
 past_len test h = skip_len test h.unread.text h
-
-pub past_chunk_len : (test : ℕ → Bool) (h : Here) → text_len (past_chunk test h) ≤ text_len h
-unfolding past_chunk
-past_chunk_len test h = omega (arith, length-drop (chunk_len test h) h.unread.text)
 
 -- ---- ends of lines
 

@@ -5,10 +5,11 @@ use Rattle.granit_base.specs.Place.{Mark, first}
 use Rattle.granit_base.specs.Written.{Written}
 use Rattle.granit_error.specs.FaultKind.{FaultKind, UnexpectedCharacter}
 use Rattle.granit_lexemes.specs.Gap.{Each}
-use Rattle.granit_lexemes.specs.Here.{Here, text_len, next_char, mark_of, step, chunk_len, chunk}
+use Rattle.granit_lexemes.specs.Basics.{fails_at, owned}
+use Rattle.granit_lexemes.specs.Here.{Here, text_len, next_char, mark_of, step, chunk_len, chunk, mid_line}
 use Rattle.granit_lexemes.specs.Source.{Source}
 use Rattle.granit_lexemes.specs.Moves.{steps}
-use Rattle.granit_lexemes.specs.Outcome.{Fault, fault_at, ◌>>=◌}
+use Rattle.granit_lexemes.specs.Outcome.{Fault, ◌>>=◌}
 
 -- a character of a comment's text: printable, and neither a break nor NUL
 abbrev pub is_comment_char : ℕ → Bool
@@ -36,16 +37,18 @@ pub record IsSpoiled (x : List ℕ) (cs : List ℕ) (c : ℕ) : Type 0 where
 pub record CommentRead : Type 0 where
   pub text : Written
   pub source : Source
+  -- whether something else than blanks and prefix marks stands before it on its line
+  pub is_right : Bool
 
--- behind the characters of a comment that begins here
+-- behind the characters of a comment that begins here; its blanks are no indentation
 abbrev pub past_comment : Here → Here
-past_comment h = steps (chunk_len is_comment_char (step h)) (step h)
+past_comment h = mid_line (steps (chunk_len is_comment_char (step h)) (step h))
 
 -- behind a comment, where no unprintable character may stand; a NUL in the text is one
 unfoldable pub behind_comment : Here → Result (Unit {0} × Here) Fault
 behind_comment h =
     if text_len h == 0 || is_printable (next_char h) then Ok (tt, h)
-    else Err (fault_at (UnexpectedCharacter (next_char h)) (mark_of h))
+    else fails_at (UnexpectedCharacter (next_char h)) (mark_of h)
 
 -- over the comment that begins here with its `#`
 unfoldable pub skipped_comment : Here → Result (Unit {0} × Here) Fault
@@ -54,8 +57,9 @@ skipped_comment h = behind_comment (past_comment h)
 -- the comment that begins here and ends there
 abbrev pub comment_read : Here → Here → CommentRead
 comment_read h after = record {
-  text = record { characters = chunk is_comment_char (step h); is_borrowed = false };
+  text = owned (chunk is_comment_char (step h));
   source = record { start = mark_of h; end = mark_of after };
+  is_right = not h.begins_line;
 }
 
 -- the comment that begins here with its `#`
@@ -67,15 +71,16 @@ comment h = skipped_comment h >>= λ x. Ok (comment_read h x.1, x.1)
 -- the comment of these characters that begins here
 abbrev pub comment_of : List ℕ → Here → CommentRead
 comment_of cs h = record {
-  text = record { characters = cs; is_borrowed = false };
+  text = owned cs;
   source = record { start = mark_of h; end = mark_of (steps (suc (length cs)) h) };
+  is_right = not h.begins_line;
 }
 
 -- a comment begins here, it is this one, and there it ends
 pub record StandsComment (h : Here) (c : CommentRead) (after : Here) : Type 0 where
   pub spelled : IsComment h.unread.text c.text.characters
   pub is : c ≡ comment_of c.text.characters h
-  pub lands : after ≡ steps (suc (length c.text.characters)) h
+  pub lands : after ≡ mid_line (steps (suc (length c.text.characters)) h)
 
 -- a comment begins here that isn't printable, and its first such character stands at the mark
 pub record Spoils (h : Here) (kind : FaultKind) (mark : Mark) : Type 0 where

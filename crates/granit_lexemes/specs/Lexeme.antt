@@ -1,50 +1,73 @@
--- Lexemes: the parts of a text that spell its nodes.
-use Rattle.std.specs.Prelude.{ℕ, Bool, true, false, List}
+-- The lexemes of the whole language, and what a reader gives: lexemes and comments.
+use Rattle.std.specs.Prelude.{ℕ, Bool, List, Option}
 use Rattle.granit_base.specs.Place.{Mark}
 use Rattle.granit_base.specs.Written.{Written}
 use Rattle.granit_base.specs.declared.style.ScalarStyle.{ScalarStyle}
+use Rattle.granit_lexemes.specs.Comment.{CommentRead}
 use Rattle.granit_lexemes.specs.Source.{Source}
-
--- what a lexeme is, with its value
-pub data LexemeKind : Type 0 where
-  -- `---` (9.1.2)
-  DocumentStart : LexemeKind
-  -- `[` `]` `{` `}` (7.4)
-  SequenceOpen SequenceClose MappingOpen MappingClose : LexemeKind
-  -- `,` between entries (7.4)
-  Comma : LexemeKind
-  -- `?` before a key and `:` before a value (7.4.2)
-  Question Colon : LexemeKind
-  -- a verbatim tag, by what it spells (6.9.1)
-  Tag : (suffix : List ℕ) → LexemeKind
-  -- `&` and the name of an anchor (6.9.2), `*` and the name of an alias (7.1)
-  Anchor Alias : (name : Written) → LexemeKind
-  -- a scalar, by its style (7.3)
-  Scalar : (style : ScalarStyle) (text : Written) → LexemeKind
-
-pub record Lexeme : Type 0 where
-  pub kind : LexemeKind
-  pub source : Source
-
--- whether at least one blank or break must follow, where the text goes on
-abbrev pub wants_gap : LexemeKind → Bool
-wants_gap DocumentStart = true
-wants_gap Question = true
-wants_gap Colon = true
-wants_gap (Tag suffix) = true
-wants_gap (Anchor name) = true
-wants_gap _ = false
 
 -- the two kinds of brackets
 pub data Bracket : Type 0 where
   Square Curly : Bracket
 
--- an open bracket, and the place of its opener
-pub record Opener : Type 0 where
-  pub bracket : Bracket
-  pub mark : Mark
-
--- the character that opens
+-- the characters that open and close
 abbrev pub opener_char : Bracket → ℕ
 opener_char Square = 0x5B
 opener_char Curly = 0x7B
+
+abbrev pub closer_char : Bracket → ℕ
+closer_char Square = 0x5D
+closer_char Curly = 0x7D
+
+-- a directive: a version, a tag handle and its prefix, a reserved name and its parameters (6.8)
+pub data DirectiveKind : Type 0 where
+  Version : (major minor : ℕ) → DirectiveKind
+  TagPrefix : (handle prefix : List ℕ) → DirectiveKind
+  Reserved : (name : List ℕ) (parameters : List (List ℕ)) → DirectiveKind
+
+-- what a lexeme is, with its value
+pub data LexemeKind : Type 0 where
+  Directive : DirectiveKind → LexemeKind
+  -- `---`, `...` and the end of the text (9.1)
+  DocumentStart DocumentEnd StreamEnd : LexemeKind
+  -- brackets and `,` (7.4)
+  Open Close : (bracket : Bracket) → LexemeKind
+  Comma : LexemeKind
+  -- `-`, `?` and `:` (7.4.2, 8.2)
+  Dash Question Colon : LexemeKind
+  -- `*` and a name (7.1), `&` and a name (6.9.2), a tag by its handle and what follows it (6.9.1)
+  Alias Anchor : (name : Written) → LexemeKind
+  Tag : (handle suffix : List ℕ) → LexemeKind
+  Scalar : (style : ScalarStyle) (text : Written) → LexemeKind
+
+-- where the simple key of a `:` begins, and the number of its first lexeme
+pub record KeyStart : Type 0 where
+  pub number : ℕ
+  pub start : Mark
+
+pub record Lexeme : Type 0 where
+  -- how many lexemes stand before it
+  pub number : ℕ
+  pub kind : LexemeKind
+  -- the place of its first character
+  pub start : Mark
+  -- the span that its token bears, and the place behind its tail
+  pub shown : Source
+  pub end : Mark
+  -- the column of a block scalar's content
+  pub indent : Option ℕ
+  pub in_flow : Bool
+  -- whether only blanks and prefix marks stand before it on its line
+  pub begins_line : Bool
+  -- whether it directly follows a `-`, `?` or keyless `:` outside flow
+  pub follows_indicator : Bool
+  -- whether it ends an open column
+  pub ends_column : Bool
+  -- of a `:`, the simple key before it
+  pub key : Option KeyStart
+  -- the comment behind it on its line
+  pub tail : Option CommentRead
+
+pub data Item : Type 0 where
+  OfLexeme : Lexeme → Item
+  OfComment : CommentRead → Item

@@ -1,3 +1,4 @@
+pub mod Basics
 pub mod Comment
 pub mod Decoding
 pub mod Folding

@@ -13,4 +13,6 @@ unfoldable pub past_prefix_mark : Here → Here
 past_prefix_mark h = record {
   unread = past_first h.unread;
   place = record { index = h.place.index + 1; line = h.place.line; column = h.place.column };
+  begins_line = h.begins_line;
+  tab = h.tab;
 }

@@ -2,14 +2,13 @@
 use Rattle.std.specs.Prelude.{◌≡◌, ℕ, suc, ◌==◌, Bool, true, false, ◌&&◌, ◌||◌, not, if◌then◌else◌, List, [], ◌∷◌, ◌++◌, length, slice_index, Option, Some, None}
 use Rattle.granit_base.specs.Classes.{is_blank, is_break, is_z, is_blank_or_breakz, is_gap, is_flow, is_printable}
 use Rattle.granit_base.specs.Place.{Mark, first}
-use Rattle.granit_base.specs.declared.style.ScalarStyle.TheVariants.{Plain}
 use Rattle.granit_error.specs.FaultKind.{FaultKind, PlainScalarStartsWithDashFlowIndicator, TabInPlainScalar, UnexpectedCharacter}
 use Rattle.granit_lexemes.specs.Folding.{folded}
 use Rattle.granit_lexemes.specs.Gap.{Each}
 use Rattle.granit_lexemes.specs.Here.{Here, mark_of, step}
 use Rattle.granit_lexemes.specs.LayoutData.{LayoutData, is_left, is_outside}
-use Rattle.granit_lexemes.specs.Lexeme.{Scalar}
-use Rattle.granit_lexemes.specs.PlainScalar.{PlainRead, is_content, is_document_mark, unprintable}
+use Rattle.granit_lexemes.specs.Basics.{is_document_mark, unprintable, owned}
+use Rattle.granit_lexemes.specs.PlainScalar.{PlainRead, is_content}
 
 -- What stands between two characters of content, or behind the last one: blanks (s-separate-in-line), or breaks with the blanks before and between
 -- them, and the blanks that begin the line behind them (s-flow-folded).
@@ -118,7 +117,8 @@ behind_of h source tail = over (separation_text tail) (over source h)
 -- what is answered for it
 abbrev pub plain_answer : LayoutData → Here → (source : List ℕ) → (tail : Separation) → (rest : List ℕ) → PlainRead
 plain_answer at h source tail rest = record {
-  lexeme = record { kind = Scalar Plain (record { characters = folded source; is_borrowed = false }); source = record { start = mark_of h; end = mark_of (over source h) } };
+  text = owned (folded source);
+  source = record { start = mark_of h; end = mark_of (over source h) };
   cut_by_comment = if not at.in_flow && is_cut at tail rest then Some (mark_of (behind_of h source tail)) else None;
   on_new_line = is_folded tail;
 }

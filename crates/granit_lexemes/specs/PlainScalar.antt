@@ -1,14 +1,14 @@
 -- A plain scalar, read character by character (YAML 1.2.2, 7.3.3 and 6.5).
 use Rattle.std.specs.Prelude.{ℕ, ◌==◌, Bool, true, false, ◌&&◌, ◌||◌, not, if◌then◌else◌, List, [], ◌∷◌, ◌++◌, length, slice_index, Option, Some, None, Result, Ok, Err}
-use Rattle.std.specs.List.{find}
 use Rattle.granit_base.specs.Classes.{is_blank, is_break, is_z, is_blank_or_breakz, is_flow, is_printable}
 use Rattle.granit_base.specs.Place.{Mark, first}
-use Rattle.granit_base.specs.declared.style.ScalarStyle.TheVariants.{Plain}
-use Rattle.granit_error.specs.FaultKind.{FaultKind, PlainScalarStartsWithDashFlowIndicator, TabInPlainScalar, UnexpectedCharacter}
+use Rattle.granit_base.specs.Written.{Written}
+use Rattle.granit_error.specs.FaultKind.{PlainScalarStartsWithDashFlowIndicator, TabInPlainScalar, UnexpectedCharacter}
+use Rattle.granit_lexemes.specs.Basics.{fails_at, past_break, is_document_mark, unprintable, only_printable, owned}
 use Rattle.granit_lexemes.specs.Here.{Here, text_len, next_char, mark_of, step}
 use Rattle.granit_lexemes.specs.LayoutData.{LayoutData, is_left, is_outside}
-use Rattle.granit_lexemes.specs.Lexeme.{Lexeme, Scalar}
-use Rattle.granit_lexemes.specs.Outcome.{Fault, fault_at, ◌>>=◌}
+use Rattle.granit_lexemes.specs.Source.{Source}
+use Rattle.granit_lexemes.specs.Outcome.{Fault, ◌>>=◌}
 use Rattle.granit_lexemes.specs.Pieces.{pieces}
 
 -- where reading stands in a plain scalar
@@ -25,26 +25,12 @@ pub record PlainState : Type 0 where
 
 -- a plain scalar, as the call that reads it gives it
 pub record PlainRead : Type 0 where
-  pub lexeme : Lexeme
+  pub text : Written
+  pub source : Source
   -- the `#` that ended the scalar, where its text might go on behind the comment
   pub cut_by_comment : Option Mark
   -- whether a break was read behind the scalar
   pub on_new_line : Bool
-
-abbrev pub fails_at : {Y : Type 0} → FaultKind → Mark → Result Y Fault
-fails_at kind m = Err (fault_at kind m)
-
--- behind a break, which CR LF is too
-unfoldable pub past_break : Here → Here
-past_break h =
-    if next_char h == 0x0D && slice_index h.unread.text 1 == 0x0A then step (step h)
-    else step h
-
--- whether a text begins with `---` or `...`, with a blank, a break, NUL or the end behind it (9.1.2)
-abbrev pub is_document_mark : List ℕ → Bool
-is_document_mark text =
-    (((slice_index text 0 == 0x2D && slice_index text 1 == 0x2D) && slice_index text 2 == 0x2D) && is_blank_or_breakz (slice_index text 3))
-    || (((slice_index text 0 == 0x2E && slice_index text 1 == 0x2E) && slice_index text 2 == 0x2E) && is_blank_or_breakz (slice_index text 3))
 
 -- whether a character, with the next one behind it, doesn't end a plain scalar as an indicator
 abbrev pub can_be_plain : Bool → ℕ → ℕ → Bool
@@ -105,7 +91,8 @@ cut_mark at s = if not at.in_flow && meets_comment s then Some (mark_of s.here) 
 
 abbrev pub plain_read : LayoutData → Mark → List ℕ → PlainState → PlainRead
 plain_read at start value s = record {
-  lexeme = record { kind = Scalar Plain (record { characters = value; is_borrowed = false }); source = record { start = start; end = s.end } };
+  text = owned value;
+  source = record { start = start; end = s.end };
   cut_by_comment = cut_mark at s;
   on_new_line = s.on_new_line;
 }
@@ -115,15 +102,6 @@ unfoldable pub behind_plain : LayoutData → Mark → List ℕ → PlainState �
 behind_plain at start value s =
     if not (text_len s.here == 0) && not (is_printable (next_char s.here)) then fails_at (UnexpectedCharacter (next_char s.here)) (mark_of s.here)
     else Ok (plain_read at start value s, s.here)
-
--- the first character that isn't printable
-abbrev pub unprintable : List ℕ → Option ℕ
-unprintable text = find (λ c. not (is_printable c)) text
-
--- a value that may not hold an unprintable character
-abbrev pub only_printable : {Y : Type 0} → Option ℕ → Mark → Result Y Fault → Result Y Fault
-only_printable None start given = given
-only_printable (Some c) start given = fails_at (UnexpectedCharacter c) start
 
 -- the plain scalar that begins here, and where reading then stands: behind it, its blanks and its breaks
 unfoldable pub plain_scalar : LayoutData → Here → Result (PlainRead × Here) Fault

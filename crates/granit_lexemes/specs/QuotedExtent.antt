@@ -10,9 +10,8 @@ use Rattle.granit_lexemes.specs.Folding.{break_text}
 use Rattle.granit_lexemes.specs.Gap.{Each}
 use Rattle.granit_lexemes.specs.Here.{Here, mark_of}
 use Rattle.granit_lexemes.specs.LayoutData.{LayoutData, is_left}
-use Rattle.granit_lexemes.specs.Lexeme.{Scalar}
 use Rattle.granit_lexemes.specs.PlainExtent.{over, starts_comment}
-use Rattle.granit_lexemes.specs.PlainScalar.{is_document_mark}
+use Rattle.granit_lexemes.specs.Basics.{is_document_mark, owned}
 use Rattle.granit_lexemes.specs.QuotedScalar.{QuotedRead, quote_char, is_closing, is_tab_left, quoted_style, asked_comment, may_trail}
 
 -- ---- blanks and breaks
@@ -137,7 +136,8 @@ pub data Trails (at : LayoutData) (start : Mark) (end : Here) : Option CommentRe
 -- what is answered for it; no break behind it is read
 abbrev pub quoted_answer : Bool → Mark → (value : List ℕ) → Mark → Option CommentRead → QuotedRead
 quoted_answer single start value end noted = record {
-  lexeme = record { kind = Scalar (quoted_style single) (record { characters = value; is_borrowed = false }); source = record { start = start; end = end } };
+  text = owned value;
+  source = record { start = start; end = end };
   comment = noted;
   on_new_line = false;
 }

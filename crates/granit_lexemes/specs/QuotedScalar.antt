@@ -3,6 +3,7 @@ use Rattle.std.specs.Prelude.{ℕ, zero, suc, ◌+◌, ◌*◌, ◌==◌, Bool, 
 use lib.Utf8.{scalar}
 use Rattle.granit_base.specs.Classes.{is_blank, is_break, is_hex, hex_value, is_printable}
 use Rattle.granit_base.specs.Place.{Mark, first}
+use Rattle.granit_base.specs.Written.{Written}
 use Rattle.granit_base.specs.declared.style.ScalarStyle.{ScalarStyle}
 use Rattle.granit_base.specs.declared.style.ScalarStyle.TheVariants.{SingleQuoted, DoubleQuoted}
 use Rattle.granit_error.specs.FaultKind.{FaultKind, InvalidIndentation, UnclosedQuotedScalar, DocumentIndicatorInQuotedScalar, TabInIndentation, InvalidQuotedScalarIndent, InvalidTrailingSingleQuotedScalar, InvalidTrailingDoubleQuotedScalar, UnknownQuotedScalarEscape, InvalidQuotedScalarHexEscape, MissingLowSurrogate, InvalidLowSurrogateHexEscape, InvalidLowSurrogate, UnpairedLowSurrogate, InvalidUnicodeEscape, CommentNotSeparated, UnexpectedCharacter}
@@ -10,10 +11,10 @@ use Rattle.granit_lexemes.specs.Comment.{CommentRead, comment}
 use Rattle.granit_lexemes.specs.Decoding.{letter_value, digit_count, is_high, is_low, joined}
 use Rattle.granit_lexemes.specs.Here.{Here, text_len, next_char, mark_of, step, past}
 use Rattle.granit_lexemes.specs.LayoutData.{LayoutData, is_left}
-use Rattle.granit_lexemes.specs.Lexeme.{Lexeme, Scalar}
+use Rattle.granit_lexemes.specs.Source.{Source}
 use Rattle.granit_lexemes.specs.Outcome.{Fault, ◌>>=◌}
 use Rattle.granit_lexemes.specs.Pieces.{pieces}
-use Rattle.granit_lexemes.specs.PlainScalar.{fails_at, past_break, is_document_mark}
+use Rattle.granit_lexemes.specs.Basics.{fails_at, past_break, is_document_mark, owned}
 
 -- where reading stands in a quoted scalar
 pub record QuotedState : Type 0 where
@@ -27,7 +28,8 @@ pub record QuotedState : Type 0 where
 
 -- a quoted scalar, as the call that reads it gives it
 pub record QuotedRead : Type 0 where
-  pub lexeme : Lexeme
+  pub text : Written
+  pub source : Source
   -- the comment behind it on its last line, where comments are asked for
   pub comment : Option CommentRead
   -- whether a break was read behind the scalar, which is never so
@@ -151,7 +153,8 @@ quoted_len s = text_len s.here
 
 abbrev pub quoted_read : Bool → Mark → List ℕ → Mark → Option CommentRead → QuotedRead
 quoted_read single start value end noted = record {
-  lexeme = record { kind = Scalar (quoted_style single) (record { characters = value; is_borrowed = false }); source = record { start = start; end = end } };
+  text = owned value;
+  source = record { start = start; end = end };
   comment = noted;
   on_new_line = false;
 }

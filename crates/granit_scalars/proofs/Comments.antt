@@ -10,7 +10,7 @@ use Rattle.granit_base.specs.Place.{first}
 use Rattle.granit_error.specs.FaultKind.{UnexpectedCharacter}
 use Rattle.granit_lexemes.specs.Comment.{is_comment_char, behind_comment, skipped_comment, comment, comment_of, comment_read, past_comment, CommentRead, IsComment, IsSpoiled, StandsComment, ReadsComment}
 use Rattle.granit_lexemes.specs.Gap.{Each}
-use Rattle.granit_lexemes.specs.Here.{Here, text_len, next_char, mark_of, step, chunk}
+use Rattle.granit_lexemes.specs.Here.{Here, text_len, next_char, mark_of, step, mid_line, chunk}
 use Rattle.granit_lexemes.specs.Moves.{steps}
 use Rattle.granit_lexemes.specs.Outcome.{Fault, fault_at, ◌>>=◌}
 use Rattle.granit_lexemes.proofs.HereLemmas.{step_text, not_empty}
@@ -62,7 +62,7 @@ with_text h s = s >>= λ x. Ok (comment_read h x.1, x.1)
 record Parts (h after : Here) (cs : List ℕ) : Type 0 where
   spelled : h.unread.text ≡ 0x23 ∷ (cs ++ after.unread.text)
   text : Each is_comment_char cs
-  lands : after ≡ steps (suc (length cs)) h
+  lands : after ≡ mid_line (steps (suc (length cs)) h)
   stops : (d : ℕ) (ds : List ℕ) → after.unread.text ≡ d ∷ ds → is_comment_char d ≡ false
 
 begins : (text : List ℕ) → first text ≡ 0x23 → text ≡ 0x23 ∷ drop 1 text
@@ -78,7 +78,7 @@ parts h is =
     record {
       spelled = begins h.unread.text is ∙ ap (λ (cs : List ℕ). 0x23 ∷ cs) (sym (step_text h) ∙ sym (take-append-drop n rest) ∙ ap (λ (cs : List ℕ). take n rest ++ cs) (sym behind));
       text = each_prefix is_comment_char rest;
-      lands = ap (λ (m : ℕ). steps m (step h)) (sym (length-prefix_len is_comment_char rest));
+      lands = ap (λ (m : ℕ). mid_line (steps m (step h))) (sym (length-prefix_len is_comment_char rest));
       stops = λ d ds e. stops_prefix is_comment_char rest d ds (sym behind ∙ e);
     }
 
@@ -177,7 +177,7 @@ is_given : (h : Here) (c : CommentRead) (after : Here) → StandsComment h c aft
 is_given h c after p (Ok (d, at)) q =
     let same = one_comment h.unread.text d.text.characters c.text.characters q.spelled p.spelled in
     let is : d ≡ c = q.is ∙ ap (λ (cs : List ℕ). comment_of cs h) same ∙ sym p.is in
-    let lands : at ≡ after = q.lands ∙ ap (λ (cs : List ℕ). steps (suc (length cs)) h) same ∙ sym p.lands in
+    let lands : at ≡ after = q.lands ∙ ap (λ (cs : List ℕ). mid_line (steps (suc (length cs)) h)) same ∙ sym p.lands in
     ap₂ (λ (x : CommentRead) (y : Here). Ok (x, y)) is lands
 is_given h c after p (Err f) q = absurd (not_both h.unread.text c.text.characters q.front q.character p.spelled q.spelled)
 

@@ -11,7 +11,8 @@ use Rattle.granit_lexemes.specs.Here.{Here, text_len, next_char, step, past, mar
 use Rattle.granit_lexemes.specs.LayoutData.{LayoutData}
 use Rattle.granit_lexemes.specs.Outcome.{Fault, fault_at, ◌>>=◌}
 use Rattle.granit_lexemes.specs.Pieces.{pieces, Shortens}
-use Rattle.granit_lexemes.specs.PlainScalar.{PlainState, is_content, is_document_mark, meets_comment, ends_before_line, plain_turn, plain_len, fails_at, behind_plain, only_printable, plain_scalar}
+use Rattle.granit_lexemes.specs.Basics.{is_document_mark, fails_at, only_printable}
+use Rattle.granit_lexemes.specs.PlainScalar.{PlainState, is_content, meets_comment, ends_before_line, plain_turn, plain_len, behind_plain, plain_scalar}
 use Rattle.granit_lexemes.specs.QuotedScalar.{QuotedState, is_closing, is_tab_left, is_strictly_left, is_loosely_left, may_trail, digits_or, second_half_or, numbered_or, escape_or_by, escape_or, quoted_content, quoted_turn, quoted_len, behind_quoted, quoted_tail, quoted_scalar}
 use Rattle.granit_scalars.proofs.PlainTurns.{plain_shortens}
 use Rattle.granit_scalars.proofs.QuotedTurns.{quoted_shortens}

@@ -8,7 +8,8 @@ use Rattle.granit_lexemes.specs.Gap.{Each}
 use Rattle.granit_lexemes.specs.Here.{Here, next_char, mark_of, step}
 use Rattle.granit_lexemes.specs.LayoutData.{LayoutData, is_left}
 use Rattle.granit_lexemes.specs.PlainExtent.{Separation, OnLine, Folded, separation_text, UpToBreak, before_break, IsSeparation, left_tab, over}
-use Rattle.granit_lexemes.specs.PlainScalar.{PlainState, past_break, on_content, on_blank, on_break}
+use Rattle.granit_lexemes.specs.Basics.{past_break}
+use Rattle.granit_lexemes.specs.PlainScalar.{PlainState, on_content, on_blank, on_break}
 use Rattle.granit_scalars.proofs.Folding.{folded_behind, blank_apart_from_break, folds_behind_blank, folds_behind_break, folds_break}
 use Rattle.granit_scalars.proofs.PlainSpelling.{blanks_gap, separation_gap}
 use Rattle.granit_scalars.proofs.Stepping.{over-append, Seen, column_on, Broken, broken}

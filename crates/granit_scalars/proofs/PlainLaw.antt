@@ -4,16 +4,15 @@ use Rattle.std.specs.Prelude.{if◌then◌else◌}
 use Rattle.std.proofs.Math.Bool.{and-false, or-false}
 use Rattle.granit_base.specs.Classes.{is_printable}
 use Rattle.granit_base.specs.Place.{Mark}
-use Rattle.granit_base.specs.declared.style.ScalarStyle.TheVariants.{Plain}
 use Rattle.granit_error.specs.FaultKind.{PlainScalarStartsWithDashFlowIndicator, UnexpectedCharacter}
 use Rattle.granit_lexemes.specs.Folding.{folded}
 use Rattle.granit_lexemes.specs.Here.{Here, next_char, mark_of, step}
 use Rattle.granit_lexemes.specs.LayoutData.{LayoutData}
-use Rattle.granit_lexemes.specs.Lexeme.{Scalar}
 use Rattle.granit_lexemes.specs.Outcome.{Fault, ◌>>=◌}
 use Rattle.granit_lexemes.specs.Pieces.{with_front, pieces}
 use Rattle.granit_lexemes.specs.PlainExtent.{Separation, OnLine, Folded, separation_text, left_tab, PlainStands, tab_refused, is_cut, is_folded, over, behind_of, plain_answer, is_flow_dash, is_unprintable_at, AnswersPlain, is_inside, is_behind, RefusesPlain}
-use Rattle.granit_lexemes.specs.PlainScalar.{PlainState, PlainRead, fails_at, is_content, on_content, meets_comment, plain_turn, plain_len, plain_start, cut_mark, plain_read, behind_plain, unprintable, only_printable, plain_scalar}
+use Rattle.granit_lexemes.specs.Basics.{fails_at, unprintable, only_printable, owned}
+use Rattle.granit_lexemes.specs.PlainScalar.{PlainState, PlainRead, is_content, on_content, meets_comment, plain_turn, plain_len, plain_start, cut_mark, plain_read, behind_plain, plain_scalar}
 use Rattle.granit_lexemes.proofs.PieceLemmas.{pieces_more}
 use Rattle.granit_scalars.proofs.Folding.{folds_content}
 use Rattle.granit_scalars.proofs.PlainKept.{Kept, Stays, content_stays}
@@ -71,7 +70,8 @@ line_is at (Folded breaks indent) s k = k.line
 
 abbrev read_of : Mark → List ℕ → Mark → Option Mark → Bool → PlainRead
 read_of start value end cut line = record {
-  lexeme = record { kind = Scalar Plain (record { characters = value; is_borrowed = false }); source = record { start = start; end = end } };
+  text = owned value;
+  source = record { start = start; end = end };
   cut_by_comment = cut;
   on_new_line = line;
 }

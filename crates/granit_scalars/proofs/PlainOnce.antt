@@ -7,7 +7,8 @@ use Rattle.granit_lexemes.specs.Here.{Here}
 use Rattle.granit_lexemes.specs.LayoutData.{LayoutData}
 use Rattle.granit_lexemes.specs.Outcome.{Fault}
 use Rattle.granit_lexemes.specs.PlainExtent.{Separation, separation_text, PlainStands, tab_refused, behind_of, plain_answer, is_unprintable_at, AnswersPlain, RefusesPlain, RefusesCharacter, is_inside, is_behind}
-use Rattle.granit_lexemes.specs.PlainScalar.{PlainRead, is_content, unprintable, plain_scalar}
+use Rattle.granit_lexemes.specs.Basics.{unprintable}
+use Rattle.granit_lexemes.specs.PlainScalar.{PlainRead, is_content, plain_scalar}
 use Rattle.granit_scalars.proofs.PlainLaw.{Answered, answered}
 use Rattle.granit_scalars.proofs.PlainSpelling.{one_extent, separation_gap, same_front, same_separation}
 

@@ -11,7 +11,8 @@ use Rattle.granit_lexemes.specs.LayoutData.{LayoutData, is_outside}
 use Rattle.granit_lexemes.specs.Outcome.{Fault, fault_at}
 use Rattle.granit_lexemes.specs.Pieces.{with_front, pieces}
 use Rattle.granit_lexemes.specs.PlainExtent.{Separation, OnLine, Folded, separation_text, IsSeparation, left_tab, starts_comment, MayFollow, GoesOn, ends, goes_on, EndsPlain, nothing_more, colon, flow_indicator, comment, comment_line, outside_line, tab_line, document_mark, tab_refused, over}
-use Rattle.granit_lexemes.specs.PlainScalar.{PlainState, is_content, is_document_mark, between, on_content, on_blank, on_break, meets_comment, ends_before_line, plain_turn, plain_len, unprintable}
+use Rattle.granit_lexemes.specs.Basics.{is_document_mark, unprintable}
+use Rattle.granit_lexemes.specs.PlainScalar.{PlainState, is_content, between, on_content, on_blank, on_break, meets_comment, ends_before_line, plain_turn, plain_len}
 use Rattle.granit_lexemes.proofs.HereLemmas.{not_empty}
 use Rattle.granit_scalars.proofs.Folding.{folds_blanks, folds_behind_content}
 use Rattle.granit_scalars.proofs.PlainSpelling.{Solid, solid, colon_found, indicator_found, no_content_is, blanks_gap, separation_gap}

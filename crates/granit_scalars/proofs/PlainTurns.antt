@@ -8,7 +8,8 @@ use Rattle.granit_lexemes.specs.Here.{Here, next_char, step, text_len}
 use Rattle.granit_lexemes.specs.LayoutData.{LayoutData}
 use Rattle.granit_lexemes.specs.Outcome.{Fault, fault_at}
 use Rattle.granit_lexemes.specs.Pieces.{Shortens}
-use Rattle.granit_lexemes.specs.PlainScalar.{PlainState, fails_at, past_break, is_content, between, on_content, on_blank, on_break, meets_comment, ends_before_line, plain_turn, plain_len}
+use Rattle.granit_lexemes.specs.Basics.{fails_at, past_break}
+use Rattle.granit_lexemes.specs.PlainScalar.{PlainState, is_content, between, on_content, on_blank, on_break, meets_comment, ends_before_line, plain_turn, plain_len}
 use Rattle.granit_scalars.proofs.PlainSpelling.{no_gap_of}
 use Rattle.granit_scalars.proofs.Stepping.{Seen, seen, seen_as, shorter, broken}
 

@@ -4,7 +4,7 @@ use Rattle.std.proofs.lemmas.Bool.Decides.{nat_tests}
 use Rattle.granit_base.specs.Classes.{is_blank, is_break, is_gap, is_printable}
 use Rattle.granit_lexemes.specs.Folding.{break_text}
 use Rattle.granit_lexemes.specs.Gap.{Each}
-use Rattle.granit_lexemes.specs.PlainScalar.{unprintable}
+use Rattle.granit_lexemes.specs.Basics.{unprintable}
 
 gap_printable : (c : ℕ) → is_gap c ≡ true → is_printable c ≡ true
 unfolding is_gap is_blank is_break is_printable

@@ -12,7 +12,7 @@ use Rattle.granit_lexemes.specs.Gap.{Each}
 use Rattle.granit_lexemes.specs.Here.{Here, next_char, step}
 use Rattle.granit_lexemes.specs.Outcome.{Fault, fault_at, ◌>>=◌}
 use Rattle.granit_lexemes.specs.PlainExtent.{over}
-use Rattle.granit_lexemes.specs.PlainScalar.{fails_at}
+use Rattle.granit_lexemes.specs.Basics.{fails_at}
 use Rattle.granit_lexemes.specs.QuotedExtent.{TooFewDigits, WrongEscape, unknown, hex, no_second, second_hex, no_half, alone, no_character}
 use Rattle.granit_lexemes.specs.QuotedScalar.{digits_or, joined_or, second_half_or, numbered_or, escape_or_by, escape_or}
 use Rattle.granit_lexemes.proofs.DecodingLemmas.{no_hex_nul, no_letter_nul, no_count_nul, number_letter, u_wants_four, four_digits, half_is_none, begins_second, digit_below}

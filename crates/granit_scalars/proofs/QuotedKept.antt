@@ -7,7 +7,7 @@ use Rattle.granit_base.specs.Place.{first}
 use Rattle.granit_lexemes.specs.Here.{Here, next_char, step}
 use Rattle.granit_lexemes.specs.LayoutData.{LayoutData}
 use Rattle.granit_lexemes.specs.PlainExtent.{over}
-use Rattle.granit_lexemes.specs.PlainScalar.{past_break}
+use Rattle.granit_lexemes.specs.Basics.{past_break}
 use Rattle.granit_lexemes.specs.QuotedExtent.{OneBreak, line_feed, pair, carriage_return, NewLine, no_more, blank, break, Between, Blanks, Lines, Separates, on_line, folded, lines_text, between_text}
 use Rattle.granit_lexemes.specs.QuotedScalar.{QuotedState, is_tab_left, between_quoted, quoted_at, over_blank, over_break}
 use Rattle.granit_lexemes.proofs.HereLemmas.{not_empty}

@@ -11,7 +11,7 @@ use Rattle.granit_lexemes.specs.LayoutData.{LayoutData, is_left}
 use Rattle.granit_lexemes.specs.Outcome.{Fault, fault_at, ◌>>=◌}
 use Rattle.granit_lexemes.specs.Pieces.{with_front, pieces}
 use Rattle.granit_lexemes.specs.PlainExtent.{over}
-use Rattle.granit_lexemes.specs.PlainScalar.{is_document_mark}
+use Rattle.granit_lexemes.specs.Basics.{is_document_mark}
 use Rattle.granit_lexemes.specs.QuotedExtent.{Between, Blanks, Lines, Separates, between_text, is_literal, Piece, itself, doubled, escape as escape_piece, before_break, may_be_left, MayStand, Inside, nothing, content, quoted_value, WrongInside, tab, strict, loose, mark, end, character, escape}
 use Rattle.granit_lexemes.specs.QuotedScalar.{QuotedState, quote_char, is_closing, is_tab_left, is_strictly_left, is_loosely_left, between_quoted, quoted_at, over_blank, over_break, quoted_piece, quoted_content, quoted_turn, quoted_len, escape_or}
 use Rattle.granit_lexemes.proofs.HereLemmas.{not_empty}

@@ -12,7 +12,7 @@ use Rattle.granit_lexemes.specs.Here.{Here, next_char, mark_of, step, text_len, 
 use Rattle.granit_lexemes.specs.LayoutData.{LayoutData}
 use Rattle.granit_lexemes.specs.Outcome.{Fault, ◌>>=◌}
 use Rattle.granit_lexemes.specs.PlainExtent.{over, starts_comment}
-use Rattle.granit_lexemes.specs.PlainScalar.{fails_at}
+use Rattle.granit_lexemes.specs.Basics.{fails_at}
 use Rattle.granit_lexemes.specs.QuotedExtent.{BlanksBehind, ends_quoted, Trails, comment as trails_comment, nothing as trails_nothing, WrongBehind, touching, comment as wrong_comment, character, trailing_single, trailing_double}
 use Rattle.granit_lexemes.specs.QuotedScalar.{QuotedRead, quoted_read, asked_comment, trailing_kind, may_trail, behind_quoted, quoted_tail}
 use Rattle.granit_lexemes.proofs.HereLemmas.{past_goes, past_stops}

@@ -9,7 +9,7 @@ use Rattle.granit_lexemes.specs.Here.{Here, next_char, mark_of, step, text_len}
 use Rattle.granit_lexemes.specs.LayoutData.{LayoutData}
 use Rattle.granit_lexemes.specs.Outcome.{Fault, ◌>>=◌}
 use Rattle.granit_lexemes.specs.Pieces.{Shortens}
-use Rattle.granit_lexemes.specs.PlainScalar.{fails_at, past_break, is_document_mark}
+use Rattle.granit_lexemes.specs.Basics.{fails_at, past_break, is_document_mark}
 use Rattle.granit_lexemes.specs.QuotedScalar.{QuotedState, quote_char, is_closing, is_tab_left, is_strictly_left, is_loosely_left, between_quoted, quoted_at, over_blank, over_break, quoted_piece, quoted_content, quoted_turn, quoted_len, escape_or}
 use Rattle.granit_lexemes.proofs.HereLemmas.{step_len}
 use Rattle.granit_scalars.proofs.PlainSpelling.{no_gap_of}

@@ -1,15 +1,13 @@
 -- How a reader moves on over characters, blanks and breaks.
 use Rattle.std.proofs.Common.{◌≡◌, ℕ, ◌+◌, ◌<◌, ◌==◌, Bool, true, false, cond, not, ◌&&◌, ◌||◌, List, [], ◌∷◌, ◌++◌, length, drop, refl, sym, ap, ap₂, ◌∙◌, arith}
 use Rattle.std.specs.Prelude.{slice_index, if◌then◌else◌}
-use Rattle.std.specs.Option.{option_map}
-use Rattle.std.specs.Char.{encode_utf8}
 use Rattle.std.proofs.lemmas.Bool.Decides.{nat_tests}
 use Rattle.granit_base.specs.Classes.{is_break}
-use Rattle.granit_base.specs.Place.{Place, first, ends_line, place_after}
+use Rattle.granit_base.specs.Place.{Place, first, past_first, ends_line, place_after}
 use Rattle.granit_lexemes.specs.Folding.{before_lines, lines_of}
-use Rattle.granit_lexemes.specs.Here.{Here, text_len, next_char, step}
+use Rattle.granit_lexemes.specs.Here.{Here, text_len, next_char, begins_behind, tab_behind, step}
 use Rattle.granit_lexemes.specs.PlainExtent.{UpToBreak, at_break, before_break, over}
-use Rattle.granit_lexemes.specs.PlainScalar.{past_break}
+use Rattle.granit_lexemes.specs.Basics.{past_break}
 use Rattle.granit_lexemes.proofs.HereLemmas.{not_empty, step_text, step_len, no_line_end}
 use Rattle.granit_scalars.proofs.Folding.{IsBreak}
 use Rattle.granit_scalars.proofs.PlainSpelling.{break_gap}
@@ -42,7 +40,7 @@ shorter h s = let n = there h s in grind (arith, nat_tests, step_len h)
 
 placed : (h : Here) → Seen h → (step h).place ≡ place_after h.unread.text h.place
 unfolding step
-placed h s = ap (λ b. (cond b h record { unread = record { text = drop 1 h.unread.text; offset = option_map (λ n. n + length (encode_utf8 (first h.unread.text))) h.unread.offset; lends = h.unread.lends }; place = place_after h.unread.text h.place }).place) (there h s)
+placed h s = ap (λ b. (cond b h record { unread = past_first h.unread; place = place_after h.unread.text h.place; begins_line = begins_behind h; tab = tab_behind h }).place) (there h s)
 
 column_of : (p : Place) (text : List ℕ) (b : Bool) → ends_line text ≡ b → (place_after text p).column ≡ cond b 0 (p.column + 1)
 column_of p text true e = ap (λ b. (cond {A = Place} b record { index = p.index + 1; line = p.line + 1; column = 0 } record { index = p.index + 1; line = p.line; column = p.column + 1 }).column) e

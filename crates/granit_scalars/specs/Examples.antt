@@ -1,14 +1,17 @@
 -- Words of the worked examples.
 use Rattle.std.specs.Prelude.{ℕ, Bool, true, List, take, Option, Some, None, Result, Ok, Err}
 use Rattle.granit_base.specs.Place.{Place, Mark}
+use Rattle.granit_base.specs.Written.{Written}
+use Rattle.granit_base.specs.declared.style.ScalarStyle.{ScalarStyle}
+use Rattle.granit_base.specs.declared.style.ScalarStyle.TheVariants.{Plain}
 use Rattle.granit_lexemes.specs.Here.{Here, start_of}
 use Rattle.granit_lexemes.specs.LayoutData.{LayoutData}
-use Rattle.granit_lexemes.specs.Lexeme.{LexemeKind, Scalar as ScalarLexeme}
 use Rattle.granit_lexemes.specs.Line.{event_line, fault_line}
 use Rattle.granit_lexemes.specs.Outcome.{Fault}
-use Rattle.granit_lexemes.specs.PlainEvent.{EventKind, StreamEnd, Scalar, event_at}
+use Rattle.granit_lexemes.specs.PlainEvent.{Scalar, event_at}
 use Rattle.granit_lexemes.specs.PlainExtent.{over}
 use Rattle.granit_lexemes.specs.PlainScalar.{PlainRead, plain_scalar}
+use Rattle.granit_lexemes.specs.Source.{Source}
 
 -- block column, in flow, strict
 abbrev pub layout : Option ℕ → Bool → Bool → LayoutData
@@ -18,13 +21,12 @@ layout block_column in_flow strict = record { block_column = block_column; tab_c
 abbrev pub plain_in : LayoutData → List ℕ → ℕ → Result (PlainRead × Here) Fault
 plain_in at text index = plain_scalar at (over (take index text) (start_of text))
 
--- a token's line is an event's
-abbrev pub event_of : LexemeKind → EventKind
-event_of (ScalarLexeme style text) = Scalar text style 0 None
-event_of kind = StreamEnd
+-- the line of a scalar's token, which is an event's
+abbrev pub scalar_line : ScalarStyle → Written → Source → List ℕ
+scalar_line style text source = event_line (event_at (Scalar text style 0 None) source)
 
 abbrev pub token_line : Result (PlainRead × Here) Fault → List ℕ
-token_line (Ok (read, after)) = event_line (event_at (event_of read.lexeme.kind) read.lexeme.source)
+token_line (Ok (read, after)) = scalar_line Plain read.text read.source
 token_line (Err f) = fault_line f
 
 -- its token, or its fault

@@ -4,12 +4,11 @@ use Rattle.granit_base.specs.Place.{Place}
 use Rattle.granit_lexemes.specs.Comment.{CommentRead}
 use Rattle.granit_lexemes.specs.Here.{Here, start_of}
 use Rattle.granit_lexemes.specs.LayoutData.{LayoutData}
-use Rattle.granit_lexemes.specs.Line.{event_line, fault_line}
+use Rattle.granit_lexemes.specs.Line.{fault_line}
 use Rattle.granit_lexemes.specs.Outcome.{Fault}
-use Rattle.granit_lexemes.specs.PlainEvent.{event_at}
 use Rattle.granit_lexemes.specs.PlainExtent.{over}
-use Rattle.granit_lexemes.specs.QuotedScalar.{QuotedRead, quoted_scalar}
-use Rattle.granit_scalars.specs.Examples.{event_of}
+use Rattle.granit_lexemes.specs.QuotedScalar.{QuotedRead, quoted_style, quoted_scalar}
+use Rattle.granit_scalars.specs.Examples.{scalar_line}
 
 -- block column, tab column, in flow, strict
 abbrev pub quoted_layout : Option ℕ → ℕ → Bool → Bool → LayoutData
@@ -19,13 +18,13 @@ quoted_layout block_column tab_column in_flow strict = record { block_column = b
 abbrev pub quoted_in : (single : Bool) → LayoutData → List ℕ → ℕ → Result (QuotedRead × Here) Fault
 quoted_in single at text index = quoted_scalar single at (over (take index text) (start_of text))
 
-abbrev pub quoted_token_line : Result (QuotedRead × Here) Fault → List ℕ
-quoted_token_line (Ok (read, after)) = event_line (event_at (event_of read.lexeme.kind) read.lexeme.source)
-quoted_token_line (Err f) = fault_line f
+abbrev pub quoted_token_line : (single : Bool) → Result (QuotedRead × Here) Fault → List ℕ
+quoted_token_line single (Ok (read, after)) = scalar_line (quoted_style single) read.text read.source
+quoted_token_line single (Err f) = fault_line f
 
 -- its token, or its fault
 abbrev pub quoted_line : (single : Bool) → LayoutData → List ℕ → ℕ → List ℕ
-quoted_line single at text index = quoted_token_line (quoted_in single at text index)
+quoted_line single at text index = quoted_token_line single (quoted_in single at text index)
 
 -- where reading stands, the text of the comment that was read, and whether a break was
 pub record QuotedBehind : Type 0 where

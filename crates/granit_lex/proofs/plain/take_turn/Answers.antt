@@ -1,7 +1,8 @@
 use Rattle.std.proofs.Common.{◌≡◌, [], Some, Ok, sym, ap, ◌∙◌}
 use Rattle.granit_lexemes.specs.Here.{step}
 use Rattle.granit_lexemes.specs.Moves.{steps}
-use Rattle.granit_lexemes.specs.PlainScalar.{PlainState, past_break}
+use Rattle.granit_lexemes.specs.Basics.{past_break}
+use Rattle.granit_lexemes.specs.PlainScalar.{PlainState}
 use Rattle.granit_lex.specs.PlainCode.{plain_state, ahead_of}
 use Rattle.granit_lex.specs.Tokens.{layout_data}
 use Rattle.granit_lex.specs.declared.plain.Ahead.TheVariants.{Blank, Break, Tab, Content, End}

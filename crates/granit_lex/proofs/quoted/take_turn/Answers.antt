@@ -1,7 +1,7 @@
 use Rattle.std.proofs.Common.{◌≡◌, [], Some, Ok, sym, ap, ◌∙◌}
 use Rattle.std.proofs.lemmas.Result.{err_from_is_err_and}
 use Rattle.granit_lexemes.specs.Here.{step}
-use Rattle.granit_lexemes.specs.PlainScalar.{past_break}
+use Rattle.granit_lexemes.specs.Basics.{past_break}
 use Rattle.granit_lexemes.specs.QuotedScalar.{QuotedState}
 use Rattle.granit_lex.specs.QuotedCode.{quoted_state, quoted_ahead}
 use Rattle.granit_lex.specs.Tokens.{layout_data}

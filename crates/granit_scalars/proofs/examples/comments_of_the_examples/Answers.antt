@@ -6,7 +6,8 @@ use Rattle.granit_base.specs.Classes.{is_printable, is_break, is_blank, is_break
 use Rattle.granit_lexemes.specs.Here.{step}
 use Rattle.granit_lexemes.specs.Line.{event_line, quoted_char}
 use Rattle.granit_lexemes.specs.Pieces.{pieces, turns}
-use Rattle.granit_lexemes.specs.PlainScalar.{past_break, on_content, on_blank, on_break, plain_turn, behind_plain, plain_scalar}
+use Rattle.granit_lexemes.specs.Basics.{past_break}
+use Rattle.granit_lexemes.specs.PlainScalar.{on_content, on_blank, on_break, plain_turn, behind_plain, plain_scalar}
 use Rattle.granit_scalars.proofs.examples.comments_of_the_examples.Goals as goal
 
 pub returns-clause-after_a_blank : goal.returns-clause-after_a_blank

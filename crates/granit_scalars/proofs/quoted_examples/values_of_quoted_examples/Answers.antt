@@ -9,7 +9,7 @@ use Rattle.granit_lexemes.specs.Here.{step, past}
 use Rattle.granit_lexemes.specs.Line.{event_line, quoted_char}
 use Rattle.granit_lexemes.specs.Moves.{steps}
 use Rattle.granit_lexemes.specs.Pieces.{pieces, turns}
-use Rattle.granit_lexemes.specs.PlainScalar.{past_break}
+use Rattle.granit_lexemes.specs.Basics.{past_break}
 use Rattle.granit_lexemes.specs.QuotedScalar.{is_closing, digits_or, second_half_or, numbered_or, escape_or, is_strictly_left, is_loosely_left, over_blank, over_break, quoted_content, quoted_turn, may_trail, behind_quoted, quoted_tail, quoted_scalar}
 use Rattle.granit_scalars.proofs.quoted_examples.values_of_quoted_examples.Goals as goal
 
