@@ -1,6 +1,9 @@
 pub mod Basics
+pub mod BlockHeader
+pub mod BlockScalar
 pub mod Comment
 pub mod Decoding
+pub mod Directive
 pub mod Folding
 pub mod Gap
 pub mod Here
@@ -17,3 +20,5 @@ pub mod PlainScalar
 pub mod QuotedExtent
 pub mod QuotedScalar
 pub mod Source
+pub mod Tags
+pub mod Tail
