@@ -4,6 +4,7 @@ ghost use Rattle.std.specs.BTreeMap.{insert_entry};
 ghost use Rattle.std.specs.Option.{option_map};
 ghost use Rattle.granit_base.specs.Written.{order_of_characters};
 ghost use Rattle.granit_flow.specs.Events as events;
+ghost use Rattle.granit_lexemes.specs.PlainEvent as plain;
 ghost use Rattle.granit_flow.specs.Path as spec;
 ghost use Rattle.granit_parser.specs.Properties.{tag_view, anchor_view};
 
@@ -48,7 +49,7 @@ pub(crate) fn event_tag(alloc: Global, tag: Option<TagAt>) -> Result<Option<Tag>
 
 /// How many characters a span says that a tag has: 0 where 32 bits are too few.
 fn told_length(start: Marker, end: Marker) -> u32
-    ensures { result ≡ events.told_length (end.place.index - start.place.index) }
+    ensures { result ≡ plain.told_length (end.place.index - start.place.index) }
 {
     let length = end.index().saturating_sub(start.index());
     if length <= u32::MAX as usize {
