@@ -1,7 +1,7 @@
 -- Known bytes, a piece at a time.
-use Rattle.std.proofs.Common.{ℕ, List, [], ◌++◌, take, drop, sym, ap, ◌∙◌, append_assoc, refl}
-use Rattle.std.proofs.lemmas.List.{append-nil, take-append-drop}
-use Rattle.std.specs.Prelude.{Option, None, Some}
+use Rattle.std.proofs.Common.{ℕ, ◌<◌, List, [], ◌++◌, length, take, drop, sym, ap, ◌∙◌, append_assoc, length-append, refl, arith}
+use Rattle.std.proofs.lemmas.List.{append-nil, take-append-drop, length-drop}
+use Rattle.std.specs.Prelude.{codes, Option, None, Some}
 use Rattle.std.specs.Io.KnownBytes.{Appends, Keeps}
 use Rattle.granit_events.specs.Wrote.{WroteFront}
 
@@ -25,11 +25,12 @@ pub appends_then_keeps : (a b c : Option (List ℕ)) (xs : List ℕ) → Appends
 appends_then_keeps a b c xs p k = rw append-nil at (appends_both a b c xs [] p (appends_nothing b c k))
 
 -- some bytes of an output were written, and then a write failed
-pub wrote_part : (a b c : Option (List ℕ)) (n : ℕ) (output : List ℕ) → Appends a b (take n output) → Keeps b c → WroteFront a c output
-wrote_part a b c n output p k = record {
+pub wrote_part : (a b c : Option (List ℕ)) (n : ℕ) (output : List ℕ) → n < length output → Appends a b (take n output) → Keeps b c → WroteFront a c output
+wrote_part a b c n output some p k = record {
   front = take n output;
   rest = drop n output;
   parts = sym (take-append-drop n output);
+  unwritten = omega (arith, length-drop n output, some);
   wrote = appends_then_keeps a b c (take n output) p k;
 }
 
@@ -39,6 +40,7 @@ front_behind a b c xs ys p w = record {
   front = xs ++ w.front;
   rest = w.rest;
   parts = ap (λ (zs : List ℕ). xs ++ zs) w.parts ∙ sym (append_assoc xs w.front w.rest);
+  unwritten = w.unwritten;
   wrote = appends_both a b c xs w.front p w.wrote;
 }
 
@@ -48,13 +50,18 @@ front_of_front a b xs ys w = record {
   front = w.front;
   rest = w.rest ++ ys;
   parts = ap (λ (zs : List ℕ). zs ++ ys) w.parts ∙ append_assoc w.front w.rest ys;
+  unwritten = omega (arith, length-append w.rest ys, w.unwritten);
   wrote = w.wrote;
 }
 
 -- all that was written is a front of more
-pub whole_is_front : (a b : Option (List ℕ)) (xs ys : List ℕ) → Appends a b xs → WroteFront a b (xs ++ ys)
-whole_is_front a b xs ys p = record { front = xs; rest = ys; parts = refl; wrote = p }
+pub whole_is_front : (a b : Option (List ℕ)) (xs ys : List ℕ) → 0 < length ys → Appends a b xs → WroteFront a b (xs ++ ys)
+whole_is_front a b xs ys some p = record { front = xs; rest = ys; parts = refl; unwritten = some; wrote = p }
 
--- nothing is a front of any output
-pub nothing_is_front : (a b : Option (List ℕ)) (output : List ℕ) → Keeps a b → WroteFront a b output
-nothing_is_front a b output k = record { front = []; rest = output; parts = refl; wrote = appends_nothing a b k }
+-- nothing is a front of an output that has a byte
+pub nothing_is_front : (a b : Option (List ℕ)) (output : List ℕ) → 0 < length output → Keeps a b → WroteFront a b output
+nothing_is_front a b output some k = record { front = []; rest = output; parts = refl; unwritten = some; wrote = appends_nothing a b k }
+
+-- a line has a byte, its line feed
+pub line_has_some : (words : List ℕ) → 0 < length (words ++ codes "\n")
+line_has_some words = omega (arith, length-append words (codes "\n"))

@@ -1,5 +1,5 @@
 -- An output that is written piece by piece, past a buffer.
-use Rattle.std.proofs.Common.{◌≡◌, ℕ, List, ◌++◌, sym, ap, ◌∙◌, append_assoc}
+use Rattle.std.proofs.Common.{◌≡◌, ℕ, ◌<◌, List, ◌++◌, length, sym, ap, ◌∙◌, append_assoc, length-append, arith}
 use Rattle.std.specs.Prelude.{Option}
 use Rattle.std.specs.Io.KnownBytes.{Appends}
 use Rattle.granit_events.specs.Wrote.{WroteFront}
@@ -31,5 +31,7 @@ reaches_pass a b c held piece left rest whole r e p = record {
 pub reaches_front : (a b c : Option (List ℕ)) (held rest whole : List ℕ) → Reaches a b held rest whole → WroteFront b c held → WroteFront a c whole
 reaches_front a b c held rest whole r w = rw r.parts (front_of_front a c (r.done ++ held) rest (front_behind a b c r.done held r.wrote w))
 
-pub reaches_stop : (a b : Option (List ℕ)) (held rest whole : List ℕ) → Reaches a b held rest whole → WroteFront a b whole
-reaches_stop a b held rest whole r = rw (r.parts, append_assoc r.done held rest) (whole_is_front a b r.done (held ++ rest) r.wrote)
+-- where something is still to come, a front of the whole was written
+pub reaches_stop : (a b : Option (List ℕ)) (held rest whole : List ℕ) → Reaches a b held rest whole → 0 < length rest → WroteFront a b whole
+reaches_stop a b held rest whole r some =
+    rw (r.parts, append_assoc r.done held rest) (whole_is_front a b r.done (held ++ rest) (omega (arith, length-append held rest, some)) r.wrote)

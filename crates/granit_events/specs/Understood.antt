@@ -9,7 +9,7 @@ use Rattle.granit_error.specs.OptionsData.{default_options}
 use Rattle.granit_canonical.specs.Canonical.{HasCharacters}
 use Rattle.granit_flow.specs.Cause.{Cause}
 use Rattle.granit_model.specs.FlowText.{flow_characters}
-use Rattle.granit_lexemes.specs.Lexeme.{Lexeme}
+use Rattle.granit_flow.specs.Lexeme.{Lexeme}
 use Rattle.granit_lexemes.specs.Line.{event_lines, fault_line}
 use Rattle.granit_flow.specs.Node.{Documents}
 use Rattle.granit_lexemes.specs.Outcome.{fault_at}

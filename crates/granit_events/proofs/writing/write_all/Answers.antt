@@ -16,5 +16,5 @@ pieces-preserved g c =
 
 pub returns-in_err-done-clause-front : goal.returns-in_err-done-clause-front
 returns-in_err-done-clause-front g c =
-    let w = wrote_part _ _ _ c.pieces.done c.args.bytes.now c.pieces.invariant.wrote c.in_err-done.ensures.bytes in
+    let w = wrote_part _ _ _ c.pieces.done c.args.bytes.now c.pieces-test.true c.pieces.invariant.wrote c.in_err-done.ensures.bytes in
     search rules
