@@ -4,6 +4,7 @@ pub mod BlockScalar
 pub mod Comment
 pub mod Decoding
 pub mod Directive
+pub mod DirectiveExtent
 pub mod Folding
 pub mod Gap
 pub mod Here
@@ -11,6 +12,7 @@ pub mod LayoutData
 pub mod Lexeme
 pub mod Line
 pub mod Moves
+pub mod NameExtent
 pub mod Outcome
 pub mod Pieces
 pub mod Place
@@ -20,5 +22,6 @@ pub mod PlainScalar
 pub mod QuotedExtent
 pub mod QuotedScalar
 pub mod Source
+pub mod TagExtent
 pub mod Tags
 pub mod Tail
