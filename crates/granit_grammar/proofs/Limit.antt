@@ -1,0 +1,149 @@
+-- The limit of block collections: what passes is a stream that keeps it.
+use Rattle.std.proofs.Common.{◌≡◌, ℕ, suc, Bool, true, false, List, [], ◌∷◌, refl, sym, ap, ◌∙◌, subst, None}
+use Rattle.std.specs.Prelude.{nat_le}
+use Rattle.granit_grammar.specs.EventMachine.{EventState, Ending, ending, ended_by, EventStep, take_frames}
+use Rattle.granit_grammar.specs.Guarded.{PassesStep, PassesClosed, Passes, limit_guard, limit_fault, fault_unless, is_loose, state_count}
+use Rattle.granit_grammar.specs.OpenWithin.{open_within, open_blocks}
+use Rattle.granit_grammar.specs.PlaceFrames.{state_at}
+use Rattle.granit_grammar.specs.TreeMachine.{Next, Go, NotTaken, take, Answer, ReadAs, at_end, tree_goes, parse}
+use Rattle.granit_language.specs.FaultKinds.{fault_kind_at}
+use Rattle.granit_language.specs.GrammarFault.{GrammarFault, TooManyBlocks}
+use Rattle.granit_language.specs.Node.{Stream}
+use Rattle.granit_language.specs.OpenEvents.{open_events}
+use Rattle.granit_language.specs.OpenPlace.{OpenPlace, Ended, IsOpen}
+use Rattle.granit_language.specs.Settling.{settle}
+use Rattle.granit_language.specs.Terminal.{Terminal}
+use Rattle.granit_language.specs.TreeEvents.{TreeEvent}
+use Rattle.granit_language.specs.Within.{stream_within}
+use Rattle.granit_grammar.proofs.AgreeClose.{ending_state, close_agrees}
+use Rattle.granit_grammar.proofs.AgreeStep.{StepsTo, goes_to, stops_at, take_agrees}
+use Rattle.granit_grammar.proofs.Withins.{close_keeps, StepKeeps, begins, stays, NextKeeps, take_keeps, close_most, count_same}
+
+no_read :
+    (p : OpenPlace) (s : Stream) (n : ℕ) (b : Bool) → at_end p ≡ ReadAs s → open_within n p ≡ b → stream_within n s ≡ b
+no_read (Ended t) s n b e h = let same : t ≡ s = cc (e) in subst (λ s. stream_within n s ≡ b) same h
+no_read p s n b e h = absurd cc
+
+passed_fault : (b : Bool) (k : GrammarFault) → fault_unless b k ≡ None → b ≡ true
+passed_fault true k e = refl
+passed_fault false k e = cc (e)
+
+passed_count : (n : ℕ) (p : OpenPlace) → limit_fault n (state_at p) ≡ None → nat_le (open_blocks p) n ≡ true
+passed_count n p e =
+    subst (λ d. nat_le d n ≡ true) (count_same p)
+    (passed_fault (nat_le (state_count (state_at p)) n) (TooManyBlocks (is_loose (state_at p))) e)
+
+count_passes : (n : ℕ) (p : OpenPlace) → nat_le (open_blocks p) n ≡ true → limit_fault n (state_at p) ≡ None
+count_passes n p e =
+    ap (λ b. fault_unless b (TooManyBlocks (is_loose (state_at p)))) (ap (λ d. nat_le d n) (count_same p) ∙ e)
+
+kept_within :
+    (n d : ℕ) (q : OpenPlace) → StepKeeps n true d q → nat_le (open_blocks q) n ≡ true → open_within n q ≡ true
+kept_within n d q (begins e c) h = e ∙ (ap (λ k. nat_le k n) (sym c) ∙ h)
+kept_within n d q (stays e c) h = e
+
+kept_next : (n d : ℕ) (b : Bool) (m : Next) → b ≡ true → NextKeeps n b d m → NextKeeps n true d m
+kept_next n d b m e h = subst (λ b. NextKeeps n b d m) e h
+
+closed_state :
+    (n : ℕ) (y : Ending) (x : Terminal) (st : EventState) (P : EventState → Type 0) → ending_state y ≡ st →
+    PassesClosed (limit_guard n) y x P → PassesStep (limit_guard n) (take_frames st x.kind x.at) x P
+closed_state n (ending st1 es) x st P e h =
+    subst (λ st. PassesStep (limit_guard n) (take_frames st x.kind x.at) x P) e h
+
+state_closed :
+    (n : ℕ) (y : Ending) (x : Terminal) (st : EventState) (P : EventState → Type 0) → ending_state y ≡ st →
+    PassesStep (limit_guard n) (take_frames st x.kind x.at) x P → PassesClosed (limit_guard n) y x P
+state_closed n (ending st1 es) x st P e h =
+    subst (λ st. PassesStep (limit_guard n) (take_frames st x.kind x.at) x P) (sym e) h
+
+-- ---- what passes keeps the limit
+
+abbrev Onto : ℕ → Stream → (EventState → Type 0) → (OpenPlace → Answer) → Type 0
+Onto n s P on =
+    (q : OpenPlace) → IsOpen q → open_within n q ≡ true → on q ≡ ReadAs s → P (state_at q) → stream_within n s ≡ true
+
+passes_step :
+    (n d : ℕ) (s : Stream) (P : EventState → Type 0) (on : OpenPlace → Answer) → Onto n s P on →
+    (f : List TreeEvent → List TreeEvent) (k : GrammarFault) (p : OpenPlace) (x : Terminal) (t : EventStep) (m : Next) →
+    StepsTo f k t m → NextKeeps n true d m → tree_goes m p x on ≡ ReadAs s → PassesStep (limit_guard n) t x P →
+    stream_within n s ≡ true
+passes_step n d s P on h f k p x t m (goes_to {st = st} {es = es} {q = q} i e g) keeps r passes =
+    h q i (kept_within n d q keeps (passed_count n q (subst (λ st. limit_fault n st ≡ None) e passes.0))) r
+    (subst P e passes.1)
+passes_step n d s P on h f k p x t m (stops_at j) keeps r passes = absurd cc
+
+pub passes_within : (n : ℕ) (s : Stream) (xs : List Terminal) → Onto n s (Passes (limit_guard n) xs) (parse xs)
+passes_within n s [] p i w r h = no_read p s n true r w
+passes_within n s (x ∷ xs) p i w r h =
+    let a = close_agrees x p i in
+    passes_step n (open_blocks (settle x p)) s (Passes (limit_guard n) xs) (parse xs) (passes_within n s xs)
+    (open_events x.at.start (settle x p)) (fault_kind_at (settle x p) x.kind) (settle x p) x
+    (take_frames (state_at (settle x p)) x.kind x.at) (take (settle x p) x.kind x.at)
+    (take_agrees (settle x p) x.kind x.at a.is_open)
+    (kept_next n (open_blocks (settle x p)) (open_within n (settle x p)) (take (settle x p) x.kind x.at)
+    (close_keeps n x p ∙ w) (take_keeps n (settle x p) x.kind x.at))
+    r (closed_state n (ended_by x (state_at p)) x (state_at (settle x p)) (Passes (limit_guard n) xs) a.state_is h)
+
+-- ---- what keeps the limit passes
+
+-- a limit that is passed stays so
+broken_step :
+    (n d : ℕ) (s : Stream) (on : OpenPlace → Answer) (p : OpenPlace) (x : Terminal) →
+    ((q : OpenPlace) → open_within n q ≡ false → on q ≡ ReadAs s → stream_within n s ≡ false) → (m : Next) →
+    NextKeeps n false d m → tree_goes m p x on ≡ ReadAs s → stream_within n s ≡ false
+broken_step n d s on p x h (Go q) (begins e c) r = h q e r
+broken_step n d s on p x h (Go q) (stays e c) r = h q e r
+broken_step n d s on p x h NotTaken k r = absurd cc
+
+broken :
+    (n : ℕ) (s : Stream) (xs : List Terminal) (p : OpenPlace) → open_within n p ≡ false → parse xs p ≡ ReadAs s →
+    stream_within n s ≡ false
+broken n s [] p w r = no_read p s n false r w
+broken n s (x ∷ xs) p w r =
+    broken_step n (open_blocks (settle x p)) s (parse xs) (settle x p) x (broken n s xs) (take (settle x p) x.kind x.at)
+    (subst (λ b. NextKeeps n b (open_blocks (settle x p)) (take (settle x p) x.kind x.at)) (close_keeps n x p ∙ w)
+    (take_keeps n (settle x p) x.kind x.at))
+    r
+
+abbrev Back : ℕ → Stream → (EventState → Type 0) → (OpenPlace → Answer) → Type 0
+Back n s P on =
+    (q : OpenPlace) → IsOpen q → open_within n q ≡ true → nat_le (open_blocks q) n ≡ true → on q ≡ ReadAs s →
+    P (state_at q)
+
+-- a place behind a step keeps the limit, or the stream doesn't
+kept_count :
+    (n d : ℕ) (q : OpenPlace) → StepKeeps n true d q → nat_le d n ≡ true → (b : Bool) → nat_le (suc d) n ≡ b →
+    (open_within n q ≡ false → ⊥) → nat_le (open_blocks q) n ≡ true
+kept_count n d q (begins e c) h true t g = ap (λ k. nat_le k n) c ∙ t
+kept_count n d q (begins e c) h false t g = absurd (g (e ∙ t))
+kept_count n d q (stays e c) h b t g = ap (λ k. nat_le k n) c ∙ h
+
+within_step :
+    (n d : ℕ) (s : Stream) (xs : List Terminal) (P : EventState → Type 0) → stream_within n s ≡ true →
+    Back n s P (parse xs) →
+    (f : List TreeEvent → List TreeEvent) (k : GrammarFault) (p : OpenPlace) (x : Terminal) (t : EventStep) (m : Next) →
+    nat_le d n ≡ true → StepsTo f k t m → NextKeeps n true d m → tree_goes m p x (parse xs) ≡ ReadAs s →
+    PassesStep (limit_guard n) t x P
+within_step n d s xs P w h f k p x t m le (goes_to {st = st} {es = es} {q = q} i e g) keeps r =
+    let c = kept_count n d q keeps le (nat_le (suc d) n) refl (λ o. let b = broken n s xs q o r in cc (b, w)) in (
+      subst (λ st. limit_fault n st ≡ None) (sym e) (count_passes n q c),
+      subst P (sym e) (h q i (kept_within n d q keeps c) c r),
+    )
+within_step n d s xs P w h f k p x t m le (stops_at j) keeps r = tt
+
+pub within_passes :
+    (n : ℕ) (s : Stream) → stream_within n s ≡ true → (xs : List Terminal) →
+    Back n s (Passes (limit_guard n) xs) (parse xs)
+within_passes n s w [] p i o le r = tt
+within_passes n s w (x ∷ xs) p i o le r =
+    let a = close_agrees x p i in
+    state_closed n (ended_by x (state_at p)) x (state_at (settle x p)) (Passes (limit_guard n) xs) a.state_is
+    (within_step n (open_blocks (settle x p)) s xs (Passes (limit_guard n) xs) w (within_passes n s w xs)
+    (open_events x.at.start (settle x p)) (fault_kind_at (settle x p) x.kind) (settle x p) x
+    (take_frames (state_at (settle x p)) x.kind x.at) (take (settle x p) x.kind x.at)
+    (close_most n x p le)
+    (take_agrees (settle x p) x.kind x.at a.is_open)
+    (kept_next n (open_blocks (settle x p)) (open_within n (settle x p)) (take (settle x p) x.kind x.at)
+    (close_keeps n x p ∙ o) (take_keeps n (settle x p) x.kind x.at))
+    r)

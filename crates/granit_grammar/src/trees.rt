@@ -1,0 +1,28 @@
+//! The machine that builds trees, and the place where a list of lexemes goes on.
+ghost use Rattle.std.specs.Prelude.{◌≡◌, List, [], ◌∷◌};
+ghost use Rattle.granit_grammar.specs.TreeMachine.{parse, tree_start, tree_step, ReadAs, NotTaken};
+ghost use Rattle.granit_language.specs.Node.{Stream};
+ghost use Rattle.granit_language.specs.OpenPlace.{OpenPlace, OpenPlaced, IsOpen, spell_open};
+ghost use Rattle.granit_language.specs.Placed.{StreamPlaced};
+ghost use Rattle.granit_language.specs.Settling.{settle};
+ghost use Rattle.granit_language.specs.Terminal.{Terminal};
+ghost use Rattle.granit_language.specs.Yield.{spell_stream};
+
+/// What is parsed is a placed stream that spells the lexemes; each placed stream is parsed from what it spells; and
+/// lexemes are spelled by at most one.
+pub fn parsing_gives_the_one_stream()
+    ensures stands { (xs : List Terminal) (s : Stream) → parse xs tree_start ≡ ReadAs s → (spell_stream s [] ≡ xs) × StreamPlaced s }
+    ensures answered { (s : Stream) → StreamPlaced s → parse (spell_stream s []) tree_start ≡ ReadAs s }
+    ensures one { (a b : Stream) → StreamPlaced a → StreamPlaced b → spell_stream a [] ≡ spell_stream b [] → a ≡ b }
+{}
+
+/// The lexemes before an open place lead to it. Where the next one isn't admitted, the open place is one, and no list
+/// of lexemes that begins so is spelled by a placed stream.
+pub fn no_stream_goes_on()
+    ensures leads { (p : OpenPlace) (x : Terminal) (rest : List Terminal) → IsOpen p → OpenPlaced x p →
+        parse (spell_open p (x ∷ rest)) tree_start ≡ parse (x ∷ rest) p }
+    ensures one_place { (p q : OpenPlace) (x : Terminal) → IsOpen p → IsOpen q → OpenPlaced x p → OpenPlaced x q →
+        spell_open p (x ∷ []) ≡ spell_open q (x ∷ []) → tree_step p x ≡ NotTaken → settle x p ≡ settle x q }
+    ensures none { (p : OpenPlace) (x : Terminal) (rest : List Terminal) (s : Stream) → IsOpen p → OpenPlaced x p →
+        tree_step p x ≡ NotTaken → StreamPlaced s → spell_stream s [] ≡ spell_open p (x ∷ rest) → ⊥ }
+{}

@@ -1,0 +1,26 @@
+//! The same with what stands declared and with the limit of open block collections.
+ghost use Rattle.std.specs.Prelude.{◌≡◌, List};
+ghost use Rattle.granit_error.specs.OptionsData.{OptionsData};
+ghost use Rattle.granit_grammar.specs.EventMachine.{Events, Faulty};
+ghost use Rattle.granit_grammar.specs.Guarded.{whole_run};
+ghost use Rattle.granit_language.specs.GrammarFault.{GrammarFault};
+ghost use Rattle.granit_language.specs.Terminal.{Terminal};
+ghost use Rattle.granit_language.specs.TreeEvents.{TreeEvent};
+ghost use Rattle.granit_language.specs.Whole.{WholeReading, WholeFault};
+
+/// Events are those of the one placed stream of the lexemes, which keeps the limit and in which all means something.
+pub fn every_answer_is_a_reading()
+    ensures { (o : OptionsData) (xs : List Terminal) (es : List TreeEvent) → whole_run o xs ≡ Events es → WholeReading o xs es }
+{}
+
+/// The events of such a stream are the answer.
+pub fn every_reading_is_answered()
+    ensures { (o : OptionsData) (xs : List Terminal) (es : List TreeEvent) → WholeReading o xs es → whole_run o xs ≡ Events es }
+{}
+
+/// A fault has its cause: the grammar's, or a lexeme that the grammar takes and that the limit or what stands declared
+/// refuses.
+pub fn every_fault_has_its_cause()
+    ensures { (o : OptionsData) (xs : List Terminal) (k : GrammarFault) (x : Terminal) → whole_run o xs ≡ Faulty k x →
+        WholeFault o xs k x }
+{}

@@ -1,0 +1,63 @@
+-- Readings and causes with what stands declared and the limit of open block collections.
+use Rattle.std.specs.Prelude.{◌≡◌, ℕ, Bool, true, false, ◌==◌, nat_lt, List, [], ◌∷◌, ◌++◌, length, ◌⊎◌}
+use Rattle.granit_base.specs.Written.{Written}
+use Rattle.granit_error.specs.OptionsData.{OptionsData}
+use Rattle.granit_language.specs.Declared.{is_anchor_of, is_version, no_kind, Without, LastSince, NoneSince, DeclaredBy, NotInForce}
+use Rattle.granit_language.specs.Faults.{FaultAt}
+use Rattle.granit_language.specs.GrammarFault.{GrammarFault, TooManyBlocks, DuplicateVersionDirective, UnsupportedYamlMajorVersion, DuplicateTagDirective, UnknownAnchor, UndeclaredTagHandle}
+use Rattle.granit_language.specs.Node.{Stream}
+use Rattle.granit_language.specs.Placed.{StreamPlaced}
+use Rattle.granit_language.specs.Scope.{no_scope}
+use Rattle.granit_language.specs.Scoping.{scope_behind, in_scope, scoped, Means}
+use Rattle.granit_language.specs.Terminal.{Tag, Alias, Property, TerminalKind, Directive, Part, Terminal}
+use Rattle.granit_language.specs.TreeEvents.{TreeEvent, stream_events}
+use Rattle.granit_language.specs.Within.{stream_within}
+use Rattle.granit_language.specs.Yield.{spell_stream}
+use Rattle.granit_lexemes.specs.Lexeme.{Version, TagPrefix}
+
+-- These events are those of the one stream of the lexemes, each with what stands before it; it keeps the limit, and all
+-- means something.
+pub record WholeReading (o : OptionsData) (xs : List Terminal) (es : List TreeEvent) : Type 0 where
+  pub stream : Stream
+  pub spelled : spell_stream stream [] ≡ scoped no_scope xs
+  pub placed : StreamPlaced stream
+  pub within : stream_within o.block_nesting_limit stream ≡ true
+  pub means : Means o.emit_unresolved_aliases (scoped no_scope xs)
+  pub events_are : es ≡ stream_events stream []
+
+-- Why a lexeme behind these means nothing.
+pub data ScopeCause (unresolved : Bool) (front : List Terminal) : TerminalKind → GrammarFault → Type 0 where
+  no_anchor :
+      {name : Written} → unresolved ≡ false → NoneSince (is_anchor_of name.characters) front →
+      ScopeCause unresolved front (Part (Alias name)) UnknownAnchor
+  no_handle :
+      {handle suffix : List ℕ} → nat_lt 2 (length handle) ≡ true → NotInForce handle front ⊎ Without no_kind front →
+      ScopeCause unresolved front (Part (Property (Tag handle suffix))) UndeclaredTagHandle
+  second_version :
+      {major minor : ℕ} → (first : Terminal) → LastSince is_version front first →
+      ScopeCause unresolved front (Directive (Version major minor)) DuplicateVersionDirective
+  other_version :
+      {major minor : ℕ} → (major == 1) ≡ false → NoneSince is_version front →
+      ScopeCause unresolved front (Directive (Version major minor)) UnsupportedYamlMajorVersion
+  second_handle :
+      {handle prefix : List ℕ} → (first : List ℕ) → DeclaredBy handle front first →
+      ScopeCause unresolved front (Directive (TagPrefix handle prefix)) DuplicateTagDirective
+
+-- a stream that keeps the limit begins so
+abbrev pub IsWithin : ℕ → List Terminal → Type 0
+IsWithin n xs = (s : Stream) × (spell_stream s [] ≡ xs) × StreamPlaced s × (stream_within n s ≡ true)
+
+-- A lexeme that the grammar takes: streams go on with it, but none that keeps the limit; or it means nothing.
+pub record GuardCause (o : OptionsData) (xs : List Terminal) (k : GrammarFault) (x : Terminal) : Type 0 where
+  pub front : List Terminal
+  pub here : Terminal
+  pub rest : List Terminal
+  pub is : xs ≡ front ++ (here ∷ rest)
+  pub x_is : x ≡ in_scope (scope_behind front no_scope) here
+  pub cause :
+      ((loose : Bool) × (k ≡ TooManyBlocks loose)
+      × ((more : List Terminal) → IsWithin o.block_nesting_limit (scoped no_scope front ++ (x ∷ more)) → ⊥))
+      ⊎ ScopeCause o.emit_unresolved_aliases front here.kind k
+
+abbrev pub WholeFault : OptionsData → List Terminal → GrammarFault → Terminal → Type 0
+WholeFault o xs k x = FaultAt (scoped no_scope xs) k x ⊎ GuardCause o xs k x
