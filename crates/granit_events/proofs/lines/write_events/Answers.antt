@@ -4,8 +4,7 @@ use Rattle.granit_lexemes.specs.Line.{event_line, event_lines}
 use Rattle.granit_base.specs.declared.place.Span.{Span}
 use Rattle.granit_event.specs.declared.event.Event.{Event}
 use Rattle.granit_event.specs.Events.{plain_event}
-use Rattle.granit_lexemes.specs.PlainEvent.{PlainEvent}
-use Rattle.granit_events.proofs.Known.{line_has_some}
+use Rattle.granit_events.proofs.AnswerLemmas.{event_has_some}
 use Rattle.granit_events.proofs.Reaching.{reaches_push, reaches_pass, reaches_front, reaches_stop}
 use Rattle.granit_events.proofs.lines.write_events.Goals as goal
 
@@ -17,13 +16,9 @@ next_line events i item h e =
     at_drop_more (λ (es : List (Event × Span)). event_lines (map plain_event es)) events i item h
     ∙ ap (λ (x : Event × Span). event_line (plain_event x) ++ lines_from events (i + 1)) (sym e)
 
-line_some : (e : PlainEvent) → 0 < length (event_line e)
-unfolding event_line
-line_some e = line_has_some _
-
 line_to_come : (events : List (Event × Span)) (i : ℕ) (item : Event × Span) → i < length events → item ≡ get_or events i item → 0 < length (lines_from events i)
 line_to_come events i item h e =
-    omega (arith, ap length (next_line events i item h e), length-append (event_line (plain_event item)) (lines_from events (i + 1)), line_some (plain_event item))
+    omega (arith, ap length (next_line events i item h e), length-append (event_line (plain_event item)) (lines_from events (i + 1)), event_has_some (plain_event item))
 
 pub returns-in_err-push_line-clause-front : goal.returns-in_err-push_line-clause-front
 returns-in_err-push_line-clause-front g c =
