@@ -3,7 +3,7 @@ ghost use Rattle.std.specs.Prelude.{◌≡◌, ℕ, List, slice_get, Option, IfO
 ghost use Rattle.std.specs.Io.{WritesAtMost};
 ghost use Rattle.granit.specs.Words.{Fills, owned_word, texts, words_of};
 
-use granit_base::{NoMemory, Text, TextList};
+use granit_base::{NoMemory, OwnedText, TextList};
 use std::alloc::Global;
 use std::env::FillError;
 use std::rt::Env;
@@ -47,12 +47,12 @@ impl<'a, E: Env> Arguments for ProcessArguments<'a, E> {
 }
 
 /// The word of those bytes, which is empty where they aren't UTF-8.
-fn word(alloc: Global, bytes: &[u8]) -> Result<Text<'static>, NoMemory>
+fn word(alloc: Global, bytes: &[u8]) -> Result<OwnedText, NoMemory>
     ensures { IfOk result (λ text. text ≡ owned_word bytes.now) }
 {
     match str::from_utf8(bytes) {
-        Ok(text) => Ok(Text::owned(String::from_str(alloc, text)?)),
-        Err(_) => Ok(Text::owned(String::new(alloc))),
+        Ok(text) => Ok(OwnedText::new(String::from_str(alloc, text)?)),
+        Err(_) => Ok(OwnedText::new(String::new(alloc))),
     }
 }
 
@@ -61,7 +61,7 @@ fn argument<A: Arguments>(
     alloc: Global,
     arguments: &A,
     i: usize,
-) -> Result<Option<Text<'static>>, NoMemory>
+) -> Result<Option<OwnedText>, NoMemory>
     ensures { IfOk result (λ text. IfSome (A.all arguments.now) (λ list. text ≡ slice_get (texts list) i)) }
 {
     let mut capacity = 256usize;

@@ -5,7 +5,7 @@ ghost use Rattle.granit.specs.Words.{Fills};
 
 use crate::arguments::{Arguments, words};
 use crate::program::run_on_arguments;
-use granit_base::{NoMemory, Text, TextList};
+use granit_base::{NoMemory, OwnedText, TextList};
 use granit_events::{PlainSink, PlainSource};
 use std::alloc::Global;
 use std::env::FillError;
@@ -52,7 +52,7 @@ fn list_of(alloc: Global, list: &[&[u8]]) -> Result<Told, NoMemory> {
 fn texts(alloc: Global, list: &[&str]) -> Result<TextList, NoMemory> {
     let mut texts = TextList::new(alloc);
     for text in list {
-        texts.push(Text::owned(String::from_str(alloc, text)?))?;
+        texts.push(OwnedText::from_str(alloc, text)?)?;
     }
     Ok(texts)
 }

@@ -3,6 +3,7 @@
 
 mod chars;
 mod classes;
+mod owned;
 mod place;
 mod style;
 mod text;
@@ -13,6 +14,7 @@ pub use classes::{
     is_break, is_breakz, is_digit, is_flow, is_hex, is_printable, is_tag_char, is_uri_char,
     is_word_char, is_yaml_non_break, is_yaml_non_space, is_z,
 };
+pub use owned::OwnedText;
 pub use place::{Marker, Span};
 pub use style::{Placement, ScalarStyle, StructureStyle};
 pub use text::{NoMemory, Text, TextList};

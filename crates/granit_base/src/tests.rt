@@ -1,9 +1,9 @@
 //! Values from the language's tables and worked rows, and each call once.
 use crate::{
-    Marker, NoMemory, Placement, Span, Text, TextList, as_hex, find_non_printable, is_alpha,
-    is_anchor_char, is_at_end, is_blank, is_blank_or_breakz, is_bom, is_break, is_breakz, is_digit,
-    is_flow, is_hex, is_printable, is_tag_char, is_uri_char, is_word_char, is_yaml_non_break,
-    is_yaml_non_space, is_z, nth_char, push_char, push_text, split_first_char,
+    Marker, NoMemory, OwnedText, Placement, Span, Text, TextList, as_hex, find_non_printable,
+    is_alpha, is_anchor_char, is_at_end, is_blank, is_blank_or_breakz, is_bom, is_break, is_breakz,
+    is_digit, is_flow, is_hex, is_printable, is_tag_char, is_uri_char, is_word_char,
+    is_yaml_non_break, is_yaml_non_space, is_z, nth_char, push_char, push_text, split_first_char,
 };
 use std::cmp::Ordering;
 use std::hash::{DefaultHasher, Hash, Hasher};
@@ -195,17 +195,18 @@ fn texts_go_by_their_characters(rt: HostRuntime) -> Result<(), Fail> {
 
 #[test]
 fn lists_hold_texts_in_order(rt: HostRuntime) -> Result<(), Fail> {
-    let mut list = TextList::new(rt.alloc());
+    let alloc = rt.alloc();
+    let mut list = TextList::new(alloc);
     assert_eq!(rt; list.is_empty(), true);
-    list.push(Text::borrowed("a"))?;
-    list.push(Text::borrowed("b"))?;
+    list.push(OwnedText::from_str(alloc, "a")?)?;
+    list.push(OwnedText::from_str(alloc, "b")?)?;
     assert_eq!(rt; list.len(), 2);
     assert_eq!(rt; list.get(1).map(|text| text.as_str()), Some("b"));
     assert_eq!(rt; list.get(2).is_none(), true);
     let copy = list.try_clone(rt.alloc())?;
     assert_eq!(rt; copy == list, true);
     assert_eq!(rt; copy.as_slice().len(), 2);
-    list.push(Text::borrowed("a"))?;
+    list.push(OwnedText::from_str(alloc, "a")?)?;
     assert_eq!(rt; copy == list, false);
     Ok(())
 }

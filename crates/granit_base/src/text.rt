@@ -3,6 +3,7 @@ ghost use Rattle.std.specs.Prelude.{◌≡◌, ◌==◌, [], ◌∷◌, ◌++◌
 ghost use Rattle.std.specs.Str.{chars};
 ghost use Rattle.std.specs.Option.{option_copied};
 
+use crate::owned::OwnedText;
 use std::alloc::{AllocError, AllocFailed, Global};
 use std::cmp::Ordering;
 use std::hash::{Hash, Hasher};
@@ -174,7 +175,7 @@ impl<'a> Hash for Text<'a> {
 /// A list of texts of its own.
 #[derive(Debug, Drop)]
 pub struct TextList {
-    texts: Vec<Text<'static>>,
+    texts: Vec<OwnedText>,
 }
 
 impl Model for TextList {
@@ -201,8 +202,8 @@ impl TextList {
     /// # Errors
     ///
     /// `NoMemory` alone; the list is then as before.
-    pub fn push(&mut self, text: Text<'static>) -> Result<(), NoMemory>
-        ensures ok { OnOk result (self.new ≡ self.old ++ text.entry ∷ []) }
+    pub fn push(&mut self, text: OwnedText) -> Result<(), NoMemory>
+        ensures ok { OnOk result (self.new ≡ self.old ++ text ∷ []) }
         ensures err { OnErr result (self.new ≡ self.old) }
     {
         self.texts.push(text)?;
@@ -224,7 +225,7 @@ impl TextList {
     }
 
     /// The text behind `i` others.
-    pub fn get(&self, i: usize) -> Option<&Text<'static>>
+    pub fn get(&self, i: usize) -> Option<&OwnedText>
         ensures { option_copied result ≡ slice_get self.now i }
     {
         self.texts.get(i)
@@ -246,7 +247,7 @@ impl TextList {
     }
 
     /// The texts in order.
-    pub fn as_slice(&self) -> &[Text<'static>]
+    pub fn as_slice(&self) -> &[OwnedText]
         ensures { result.now ≡ self.now }
     {
         self.texts.as_slice()

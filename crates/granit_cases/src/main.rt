@@ -4,7 +4,7 @@
 #![tactic(auto)]
 
 use anyhow::{Context, Result};
-use granit_base::{Text, TextList};
+use granit_base::{OwnedText, TextList};
 use granit_events::{PlainSource, WriteSink, run};
 use serde_json::Value;
 use std::alloc::Global;
@@ -20,8 +20,8 @@ fn case_text(alloc: Global, line: &str) -> Result<Vec<u8>> {
 fn main(rt: HostRuntime) -> Result<()> {
     let alloc = rt.alloc();
     let mut words = TextList::new(alloc);
-    words
-        .push(Text::borrowed("events"))
+    OwnedText::from_str(alloc, "events")
+        .and_then(|word| words.push(word))
         .ok()
         .context("no memory for the word")?;
     for line in BufReader::new(alloc, rt.reader())?.lines(alloc) {

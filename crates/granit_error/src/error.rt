@@ -8,7 +8,7 @@ ghost use Rattle.granit_error.specs.Refused.{input_io_of, names_sources, info_wo
 use crate::info::Info;
 use crate::io::InputIoError;
 use crate::kind::ErrorKind;
-use granit_base::{Marker, NoMemory, Text, TextList};
+use granit_base::{Marker, NoMemory, OwnedText, TextList};
 use std::alloc::{AllocError, AllocFailed, Global};
 use std::fmt;
 use std::marker::Model;
@@ -34,8 +34,8 @@ impl Model for ScanError {
 
 impl ScanError {
     /// A fault of the caller's own at that place, in those words, outside any named source.
-    pub fn new(loc: Marker, message: Text<'static>) -> ScanError
-        ensures { result ≡ record { kind = Custom message.entry.characters; mark = loc; sources = [] } }
+    pub fn new(loc: Marker, message: OwnedText) -> ScanError
+        ensures { result ≡ record { kind = Custom message.characters; mark = loc; sources = [] } }
     {
         ScanError::from_kind(loc, ErrorKind::Custom(message))
     }
@@ -77,7 +77,7 @@ impl ScanError {
     }
 
     /// The names of the sources that were being read, the outermost first.
-    pub fn source_stack(&self) -> &[Text<'static>]
+    pub fn source_stack(&self) -> &[OwnedText]
         ensures { result.now ≡ self.now.sources }
     {
         match &self.sources {
@@ -115,11 +115,11 @@ impl ScanError {
     /// # Errors
     ///
     /// `NoMemory` alone.
-    pub fn info(&self, alloc: Global) -> Result<Text<'static>, NoMemory>
+    pub fn info(&self, alloc: Global) -> Result<OwnedText, NoMemory>
         ensures { IfOk result (λ t. t ≡ record { characters = chars (info_words self.now); is_borrowed = false }) }
     {
         let words = Info(self).to_string(alloc)?;
-        Ok(Text::owned(words))
+        Ok(OwnedText::new(words))
     }
 
     /// Whether `info` names its sources.

@@ -9,7 +9,7 @@ ghost use Rattle.std.specs.List.{flat_map};
 use crate::error::ScanError;
 use crate::kind::ErrorKind;
 use crate::words::utf8;
-use granit_base::Text;
+use granit_base::OwnedText;
 use std::fmt;
 
 impl ErrorKind {
@@ -26,7 +26,7 @@ impl ErrorKind {
 
 /// Names of sources, printed with ` -> ` between them.
 #[derive(Drop)]
-struct Joined<'a>(&'a [Text<'static>]);
+struct Joined<'a>(&'a [OwnedText]);
 
 impl<'a> fmt::Display for Joined<'a> {
     ghost use Rattle.granit_error.specs.Refused.{joined};
@@ -44,7 +44,7 @@ impl<'a> fmt::Display for Joined<'a> {
     }
 }
 
-fn write_behind<W: fmt::Write>(names: &[Text<'static>], f: &mut fmt::Formatter<W>) -> fmt::Result
+fn write_behind<W: fmt::Write>(names: &[OwnedText], f: &mut fmt::Formatter<W>) -> fmt::Result
     ensures { WritesOnOk W.write_str_gives f.old result (flat_map name_behind names.now) f.new }
 {
     for name in names {

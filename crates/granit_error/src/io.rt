@@ -3,7 +3,7 @@ ghost use Rattle.std.specs.Prelude.{◌≡◌, Some, IfOk, IfSome};
 ghost use Rattle.std.specs.Str.{chars, encode_utf8_all};
 
 use crate::words::utf8;
-use granit_base::{NoMemory, Text};
+use granit_base::{NoMemory, OwnedText};
 use std::alloc::Global;
 use std::fmt;
 use std::hash::{Hash, Hasher};
@@ -12,7 +12,7 @@ use std::marker::Model;
 /// What the reader of an input said of its failure. Contracts see the characters of its message.
 #[derive(Debug, Drop)]
 pub struct InputIoError {
-    message: Text<'static>,
+    message: OwnedText,
 }
 
 impl Model for InputIoError {
@@ -25,8 +25,8 @@ impl Model for InputIoError {
 
 impl InputIoError {
     /// The failure that has that message.
-    pub fn from_message(message: Text<'static>) -> InputIoError
-        ensures { result ≡ message.entry.characters }
+    pub fn from_message(message: OwnedText) -> InputIoError
+        ensures { result ≡ message.characters }
     {
         InputIoError { message }
     }
@@ -41,7 +41,7 @@ impl InputIoError {
         ensures { IfOk result (λ e. IfSome (E.output error.now) (λ printed. e ≡ chars printed)) }
     {
         let printed = error.to_string(alloc)?;
-        Ok(InputIoError::from_message(Text::owned(printed)))
+        Ok(InputIoError::from_message(OwnedText::new(printed)))
     }
 
     /// The message.

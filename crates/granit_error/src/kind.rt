@@ -3,7 +3,7 @@ ghost use Rattle.std.specs.Prelude.{◌≡◌, IfOk};
 ghost use Rattle.granit_error.specs.FaultKind.{fault_number};
 
 use crate::io::InputIoError;
-use granit_base::{NoMemory, Text};
+use granit_base::{NoMemory, OwnedText};
 use std::alloc::Global;
 
 /// What is wrong with a text, or with reading it. Display prints the words of the kind.
@@ -188,7 +188,7 @@ pub enum ErrorKind {
     /// The input was no text.
     InputDecoding {
         /// What is wrong with it.
-        message: Text<'static>,
+        message: OwnedText,
     },
     /// The input was longer than its reader allows.
     InputByteLimitExceeded {
@@ -196,7 +196,7 @@ pub enum ErrorKind {
         limit: usize,
     },
     /// A fault of the caller's own, in its words.
-    Custom(Text<'static>),
+    Custom(OwnedText),
     /// An input told byte offsets and refused the part between them.
     InputOffsetsWithoutSlice,
     /// An input said that it can be sliced and refused a part.

@@ -1,10 +1,14 @@
 //! What no clause says: printed texts at concrete values, and each call once.
 use crate::{ErrorKind, InputIoError, Options, ScanError};
-use granit_base::{Marker, NoMemory, Text, TextList};
+use granit_base::{Marker, NoMemory, OwnedText, TextList};
 use std::alloc::{AllocError, AllocFailed, Global};
 use std::hash::{DefaultHasher, Hash, Hasher};
 use std::io;
 use std::test::Fail;
+
+fn own(alloc: Global, text: &str) -> Result<OwnedText, NoMemory> {
+    OwnedText::from_str(alloc, text)
+}
 
 #[test]
 fn kinds_without_parts_print_their_words(rt: HostRuntime) -> Result<(), Fail> {
@@ -55,12 +59,12 @@ fn kinds_with_parts_print_their_words(rt: HostRuntime) -> Result<(), Fail> {
         ),
         (
             ErrorKind::InputDecoding {
-                message: Text::borrowed("é"),
+                message: own(rt.alloc(), "é")?,
             },
             79,
             "input decoding error: é",
         ),
-        (ErrorKind::Custom(Text::borrowed("mine")), 81, "mine"),
+        (ErrorKind::Custom(own(rt.alloc(), "mine")?), 81, "mine"),
     ];
     for (kind, number, words) in &kinds {
         assert_eq!(rt; kind.number(), *number);
@@ -78,12 +82,12 @@ fn hash_of(kind: &ErrorKind) -> u64 {
 
 #[test]
 fn kinds_are_equal_by_their_parts(rt: HostRuntime) -> Result<(), Fail> {
-    let own = Text::owned(String::from_str(rt.alloc(), "a")?);
-    let message = Text::borrowed("a");
+    let alloc = rt.alloc();
+    let message = own(alloc, "a")?;
     let kinds = [
-        (ErrorKind::Custom(Text::borrowed("a")), true),
-        (ErrorKind::Custom(own), true),
-        (ErrorKind::Custom(Text::borrowed("b")), false),
+        (ErrorKind::Custom(own(alloc, "a")?), true),
+        (ErrorKind::Custom(own(alloc, "a")?), true),
+        (ErrorKind::Custom(own(alloc, "b")?), false),
         (ErrorKind::InputDecoding { message }, false),
         (ErrorKind::UnexpectedEof, false),
     ];
@@ -115,10 +119,10 @@ fn prints(alloc: Global, error: &ScanError, words: &str, place: &str) -> Result<
     )
 }
 
-fn prints_below(alloc: Global, names: &[&'static str], words: &str) -> Result<bool, NoMemory> {
+fn prints_below(alloc: Global, names: &[&str], words: &str) -> Result<bool, NoMemory> {
     let mut stack = TextList::new(alloc);
     for name in names {
-        stack.push(Text::borrowed(name))?;
+        stack.push(own(alloc, name)?)?;
     }
     let error = mismatched().with_source_stack(stack);
     if error.source_stack().len() != names.len() {
@@ -139,10 +143,10 @@ fn errors_print_words_sources_and_place(rt: HostRuntime) -> Result<(), Fail> {
 
 fn silent(alloc: Global) -> Result<bool, NoMemory> {
     let mut names = TextList::new(alloc);
-    names.push(Text::borrowed("a.yaml"))?;
-    names.push(Text::borrowed("b.yaml"))?;
+    names.push(own(alloc, "a.yaml")?)?;
+    names.push(own(alloc, "b.yaml")?)?;
     let loc = Marker::new(0, 1, usize::MAX);
-    let error = ScanError::new(loc, Text::borrowed("")).with_source_stack(names);
+    let error = ScanError::new(loc, own(alloc, "")?).with_source_stack(names);
     if *error.marker() != loc || error.kind().number() != 81 {
         return Ok(false);
     }
@@ -174,7 +178,7 @@ fn failed_inputs_keep_their_message(rt: HostRuntime) -> Result<(), Fail> {
     let error = InputIoError::from_io(rt.alloc(), &missing)?;
     assert_eq!(rt; error.message(), words);
     assert_eq!(rt;
-        error == InputIoError::from_message(Text::borrowed(words)),
+        error == InputIoError::from_message(own(rt.alloc(), words)?),
         true
     );
     let copy = error.try_clone(rt.alloc())?;

@@ -3,11 +3,11 @@ ghost use Rattle.std.specs.Prelude.{◌≡◌};
 ghost use Rattle.std.specs.Str.{encode_utf8_all};
 
 use crate::kind::ErrorKind;
-use granit_base::Text;
+use granit_base::OwnedText;
 use std::fmt;
 
 /// A text in UTF-8.
-pub(crate) fn utf8<'a>(text: &'a Text<'static>) -> &'a str
+pub(crate) fn utf8(text: &OwnedText) -> &str
     ensures { result.now ≡ encode_utf8_all text.now.characters }
 {
     text.as_str()

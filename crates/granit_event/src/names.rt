@@ -3,7 +3,7 @@ ghost use Rattle.std.specs.Prelude.{◌≡◌, ◌&&◌, not, false, [], ◌++�
 ghost use Rattle.std.specs.Str.{chars};
 ghost use Rattle.granit_event.specs.Names as spec;
 
-use granit_base::{NoMemory, Text, is_at_end};
+use granit_base::{NoMemory, OwnedText, Text, is_at_end};
 use std::alloc::Global;
 
 /// Whether two texts have the same characters.
@@ -90,12 +90,12 @@ pub(crate) fn core_suffix(first: &str, second: &str) -> Option<&'static str>
 }
 
 /// Two texts, one after the other.
-pub(crate) fn joined<'a>(alloc: Global, first: &str, second: &str) -> Result<Text<'a>, NoMemory>
+pub(crate) fn joined(alloc: Global, first: &str, second: &str) -> Result<OwnedText, NoMemory>
     ensures { IfOk result (λ t. t ≡ record { characters = chars first.now ++ chars second.now; is_borrowed = false }) }
 {
     let mut text = String::from_str(alloc, first)?;
     text.push_str(second)?;
-    Ok(Text::owned(text))
+    Ok(OwnedText::new(text))
 }
 
 /// One text followed by another, lent where the first is empty.
@@ -110,18 +110,18 @@ pub(crate) fn lent_or_joined<'a>(
     if is_at_end(first) {
         Ok(Text::borrowed(second))
     } else {
-        joined(alloc, first, second)
+        Ok(joined(alloc, first, second)?.into_text())
     }
 }
 
 /// A suffix between `!<` and `>` (YAML 1.2.2, 6.9.1).
-pub(crate) fn verbatim<'a>(alloc: Global, suffix: &str) -> Result<Text<'a>, NoMemory>
+pub(crate) fn verbatim(alloc: Global, suffix: &str) -> Result<OwnedText, NoMemory>
     ensures { IfOk result (λ t. t ≡ record { characters = spec.verbatim (chars suffix.now); is_borrowed = false }) }
 {
     let mut text = String::from_str(alloc, "!<")?;
     text.push_str(suffix)?;
     text.push_str(">")?;
-    Ok(Text::owned(text))
+    Ok(OwnedText::new(text))
 }
 
 /// Whether a handle is that of a verbatim tag: it is empty, and the suffix isn't `!` (YAML 1.2.2,

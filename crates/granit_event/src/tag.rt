@@ -5,15 +5,15 @@ ghost use Rattle.std.specs.Option.{is_some};
 ghost use Rattle.granit_event.specs.Names.{told, name_of, core_suffix_of, is_text_in, suffix_behind, original_of};
 
 use crate::names::{behind, core_suffix, is_verbatim, joined, lent_or_joined, same_text, verbatim};
-use granit_base::{NoMemory, Text};
+use granit_base::{NoMemory, OwnedText, Text};
 use std::alloc::Global;
 use std::marker::Model;
 
 #[derive(Debug, Drop)]
 struct TagParts {
-    handle: Text<'static>,
-    suffix: Text<'static>,
-    original_handle: Text<'static>,
+    handle: OwnedText,
+    suffix: OwnedText,
+    original_handle: OwnedText,
 }
 
 /// The tag of a node (YAML 1.2.2, 6.9.1): what its handle stands for, what follows it, and the handle
@@ -30,13 +30,6 @@ impl Model for Tag {
     ghost Value = { PlainTag };
 
     ghost view = { λ t. record { handle = t.parts.value.handle.characters; suffix = t.parts.value.suffix.characters; original_handle = t.parts.value.original_handle.characters } };
-}
-
-/// A text of its own.
-fn owned(alloc: Global, s: &str) -> Result<Text<'static>, NoMemory>
-    ensures { IfOk result (λ t. t ≡ record { characters = chars s.now; is_borrowed = false }) }
-{
-    Ok(Text::owned(String::from_str(alloc, s)?))
 }
 
 impl Tag {
@@ -65,9 +58,9 @@ impl Tag {
         ensures { IfOk result (λ t. t ≡ record { handle = chars handle.now; suffix = chars suffix.now; original_handle = chars original_handle.now }) }
     {
         let parts = TagParts {
-            handle: owned(alloc, handle)?,
-            suffix: owned(alloc, suffix)?,
-            original_handle: owned(alloc, original_handle)?,
+            handle: OwnedText::from_str(alloc, handle)?,
+            suffix: OwnedText::from_str(alloc, suffix)?,
+            original_handle: OwnedText::from_str(alloc, original_handle)?,
         };
         Ok(Tag {
             parts: Box::new(alloc, parts)?,
@@ -168,7 +161,7 @@ impl Tag {
     /// # Errors
     ///
     /// `NoMemory` alone.
-    pub fn original(&self, alloc: Global) -> Result<Text<'static>, NoMemory>
+    pub fn original(&self, alloc: Global) -> Result<OwnedText, NoMemory>
         ensures { IfOk result (λ t. t ≡ record { characters = original_of self.now; is_borrowed = false }) }
     {
         if is_verbatim(self.original_handle(), self.suffix()) {

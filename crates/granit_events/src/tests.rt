@@ -1,12 +1,12 @@
 use super::*;
-use granit_base::{NoMemory, Text, TextList};
+use granit_base::{NoMemory, OwnedText, TextList};
 use std::alloc::Global;
 use std::test::*;
 
 fn words(alloc: Global, list: &[&str]) -> Result<TextList, NoMemory> {
     let mut words = TextList::new(alloc);
     for word in list {
-        words.push(Text::owned(String::from_str(alloc, word)?))?;
+        words.push(OwnedText::from_str(alloc, word)?)?;
     }
     Ok(words)
 }

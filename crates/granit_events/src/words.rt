@@ -4,9 +4,9 @@ ghost use Rattle.std.specs.Str.{encode_utf8_all};
 ghost use Rattle.granit_events.specs.Words.{is_word, wrong_word};
 ghost use Rattle.granit_events.specs.Ended.{spelled};
 
-use granit_base::{Text, TextList};
+use granit_base::{OwnedText, TextList};
 
-fn is_events(word: &Text) -> bool
+fn is_events(word: &OwnedText) -> bool
     ensures { result ≡ is_word (encode_utf8_all word.now.characters) (codes "events") }
 {
     word.as_str() == "events"

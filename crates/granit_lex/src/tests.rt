@@ -2,7 +2,9 @@
 use crate::{
     Comment, Cursor, Layout, Lexed, Token, TokenType, scan_comment, scan_plain_scalar, skip_comment,
 };
-use granit_base::{Marker, Placement, ScalarStyle, Span, Text, TextList, is_blank_or_breakz};
+use granit_base::{
+    Marker, OwnedText, Placement, ScalarStyle, Span, Text, TextList, is_blank_or_breakz,
+};
 use granit_error::ScanError;
 use granit_input::{Input, StrInput};
 use std::alloc::Global;
@@ -373,7 +375,7 @@ fn comments_are_cloned(rt: HostRuntime) -> Result<(), Fail> {
 fn token_types_are_cloned(rt: HostRuntime) -> Result<(), Fail> {
     let alloc = rt.alloc();
     let mut parameters = TextList::new(alloc);
-    parameters.push(Text::borrowed("b"))?;
+    parameters.push(OwnedText::from_str(alloc, "b")?)?;
     let directive = TokenType::ReservedDirective(Text::borrowed("a"), parameters);
     let copy = directive.try_clone(alloc)?;
     assert_eq!(rt; copy == directive, true);

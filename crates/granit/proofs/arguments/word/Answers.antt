@@ -10,10 +10,10 @@ text_of bytes = record { characters = chars bytes; is_borrowed = false }
 
 pub returns-in_ok-from_str-in-Ok : goal.returns-in_ok-from_str-in-Ok
 returns-in_ok-from_str-in-Ok c =
-    c.owned.ensures
+    c.new.ensures
     ∙ ap text_of (c.in_ok-from_str-in-Ok.ensures.ok ∙ c.in-Ok.ensures.cases.0)
     ∙ sym (word_of_utf8 _ c.in-Ok.ensures.cases.1)
 
 pub returns-in-Err : goal.returns-in-Err
 unfolding chars
-returns-in-Err c = c.owned-in-Err.ensures ∙ ap text_of c.new.ensures.bytes ∙ sym (word_of_other_bytes _ c.in-Err.ensures.cases.0)
+returns-in-Err c = c.new-in-Err-2.ensures ∙ ap text_of c.new-in-Err.ensures.bytes ∙ sym (word_of_other_bytes _ c.in-Err.ensures.cases.0)

@@ -9,4 +9,4 @@ unfolding chars encode
 returns c =
     three_pieces _ _ (codes "!<") c.args.suffix.now (codes ">") (codes "!<", (refl, refl)) c.utf8.suffix
     (c.in_ok-push_str-2.ensures.bytes ∙ ap (λ (bs : List ℕ). bs ++ codes ">") (c.in_ok-push_str.ensures.bytes ∙ ap (λ (bs : List ℕ). bs ++ c.args.suffix.now) c.in_ok-text.ensures.ok))
-    c.owned.ensures
+    c.new.ensures
