@@ -56,8 +56,13 @@ pub fn skip_comment<'input, T: BorrowedInput<'input>>(
     pass_comment(cursor)
 }
 
+/// What `scan_comment` reads, over any input.
+///
+/// # Errors
+///
+/// `NoMemory`, and `UnexpectedCharacter`, as there.
 #[tactic(auto, unfolding(granit_lexemes::specs::Comment::comment, granit_lexemes::specs::Comment::skipped_comment))]
-fn read_comment<'input, T: Input>(
+pub fn read_comment<'input, T: Input>(
     alloc: Global,
     cursor: &mut Cursor<T>,
 ) -> Result<Token<'input>, ScanError>
@@ -87,8 +92,13 @@ fn placement(is_right: bool) -> Placement
     }
 }
 
+/// What `skip_comment` reads, over any input.
+///
+/// # Errors
+///
+/// `UnexpectedCharacter`, as there.
 #[tactic(auto, unfolding(granit_lexemes::specs::Comment::skipped_comment))]
-fn pass_comment<T: Input>(cursor: &mut Cursor<T>) -> Result<(), ScanError>
+pub fn pass_comment<T: Input>(cursor: &mut Cursor<T>) -> Result<(), ScanError>
     ensures here { ReadsAs T.unread cursor.old cursor.new result spec.skipped_comment }
     ensures kinds { IfErr result (λ e. (c : ℕ) × (e.kind ≡ UnexpectedCharacter c)) }
     ensures moves { Moves T.left T.origin cursor.old cursor.new }

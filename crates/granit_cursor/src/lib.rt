@@ -9,7 +9,7 @@ mod moves;
 mod token;
 
 pub use comment::Comment;
-pub use comments::{scan_comment, skip_comment};
+pub use comments::{pass_comment, read_comment, scan_comment, skip_comment};
 pub use cursor::Cursor;
 pub use layout::Layout;
 pub use moves::{drop_blanks, past_blanks, past_break};
