@@ -26,8 +26,17 @@ comment_token c = record {
 
 -- a scalar of that style, text and source
 abbrev pub scalar_token : ScalarStyle → Written → Source → Token
-scalar_token style text source = record { span = plain_span source.start source.end; token_type = tokens.Scalar style text }
+scalar_token style text source = record {
+  span = plain_span source.start source.end;
+  token_type = tokens.Scalar style text;
+}
 
 -- what a scalar is told, as plain data
 abbrev pub layout_data : Layout → LayoutData
-layout_data l = record { block_column = l.block_column; tab_column = l.tab_column; in_flow = l.in_flow; strict = l.strict; comments = l.comments }
+layout_data l = record {
+  block_column = l.block_column;
+  tab_column = l.tab_column;
+  in_flow = l.in_flow;
+  strict = l.strict;
+  comments = l.comments;
+}

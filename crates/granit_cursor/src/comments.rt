@@ -3,7 +3,7 @@ ghost use Rattle.std.specs.Prelude.{◌≡◌, ◌⊎◌, ℕ, IfOk, IfErr, []};
 ghost use Rattle.granit_error.specs.FaultKind.{NoMemory, UnexpectedCharacter};
 ghost use Rattle.granit_lexemes.specs.Comment as spec;
 ghost use Rattle.granit_lexemes.specs.Here.{Here, next_char};
-ghost use Rattle.granit_cursor.specs.Reading.{Stands, Moves, ReadsAs, AnswersAs, RefusedFor, coded};
+ghost use Rattle.granit_cursor.specs.Reading.{Stands, Moves, Wherever, ReadsAs, AnswersAs, RefusedFor, coded};
 ghost use Rattle.granit_cursor.specs.Tokens.{placed, comment_token};
 
 use crate::comment::Comment;
@@ -47,9 +47,10 @@ pub fn skip_comment<'input, T: BorrowedInput<'input>>(
 ) -> Result<(), ScanError>
     requires { (h : Here) → Stands T.unread cursor.old h → next_char h ≡ 0x23 }
     ensures here { ReadsAs T.unread cursor.old cursor.new result spec.skipped_comment }
-    ensures comment { (h : Here) → Stands T.unread cursor.old h → IfOk result (λ u. (c : spec.CommentRead) × (after : Here)
-        × spec.StandsComment h c after × Stands T.unread cursor.new after) }
-    ensures cause { (h : Here) → Stands T.unread cursor.old h → IfErr result (λ e. spec.Spoils h e.kind e.mark × (e.sources ≡ [])) }
+    ensures comment { Wherever T.unread cursor.old cursor.new (λ h Lands.
+        IfOk result (λ u. (c : spec.CommentRead) × (after : Here) × spec.StandsComment h c after × Lands after)) }
+    ensures cause { (h : Here) → Stands T.unread cursor.old h
+        → IfErr result (λ e. spec.Spoils h e.kind e.mark × (e.sources ≡ [])) }
     ensures kinds { IfErr result (λ e. (c : ℕ) × (e.kind ≡ UnexpectedCharacter c)) }
     ensures moves { Moves T.left T.origin cursor.old cursor.new }
 {

@@ -43,7 +43,12 @@ impl<T: Input> Model for Cursor<T> {
 
     ghost Value = { Reading T };
 
-    ghost view = { λ c. record { input = c.input; place = record { index = c.index; line = c.line; column = c.col }; begins_line = c.begins_line; tab = c.tab } };
+    ghost view = { λ c. record {
+      input = c.input;
+      place = record { index = c.index; line = c.line; column = c.col };
+      begins_line = c.begins_line;
+      tab = c.tab;
+    } };
 
     // no text is longer than memory, so no place passes `usize`
     ghost invariant = { λ c. (c.index + T.left c.input < 2 ^ 63) × (c.line ≤ c.index + 1) × (c.col ≤ c.index) };
@@ -135,7 +140,8 @@ impl<T: Input> Cursor<T> {
     /// The first tab of the blanks before the next place, by the character between.
     #[tactic(auto, unfolding(granit_lexemes::specs::Here::tab_behind))]
     fn tab_behind(&self, c: char, breaks: bool) -> Option<Marker>
-        ensures { (h : Here) → Stands T.unread self.now h → c ≡ next_char h → breaks ≡ place.ends_line h.unread.text → result ≡ spec.tab_behind h }
+        ensures { (h : Here) → Stands T.unread self.now h → c ≡ next_char h
+            → breaks ≡ place.ends_line h.unread.text → result ≡ spec.tab_behind h }
     {
         if breaks || !is_quiet(c) {
             return None;
@@ -197,7 +203,8 @@ impl<T: Input> Cursor<T> {
         flow_level_gt_0: bool,
     ) -> Result<(bool, usize), NoMemory>
         ensures here { Wherever T.unread self.old self.new (λ h Lands.
-            FetchesFrontSteps (is_plain_at flow_level_gt_0) h count result Lands (string_chars out.old) (string_chars out.new)) }
+            FetchesFrontSteps (is_plain_at flow_level_gt_0) h count result Lands
+            (string_chars out.old) (string_chars out.new)) }
         ensures kept { OnErr result (string_bytes out.new ≡ string_bytes out.old) }
         ensures few { IfOk result (λ r. r.0 ≡ false → count ≤ r.1) }
         ensures takes { IfOk result (λ r. Takes T.left T.window self.old self.new r.1) }
@@ -215,7 +222,8 @@ impl<T: Input> Cursor<T> {
 
     /// The same without appending.
     pub fn skip_plain_scalar_chunk(&mut self, count: usize, flow_level_gt_0: bool) -> (bool, usize)
-        ensures here { Wherever T.unread self.old self.new (λ h Lands. StepsFront (is_plain_at flow_level_gt_0) h count result Lands) }
+        ensures here { Wherever T.unread self.old self.new (λ h Lands.
+            StepsFront (is_plain_at flow_level_gt_0) h count result Lands) }
         ensures few { result.0 ≡ false → count ≤ result.1 }
         ensures takes { Takes T.left T.window self.old self.new result.1 }
         ensures moves { Moves T.left T.origin self.old self.new }
@@ -234,7 +242,8 @@ impl<T: Input> Cursor<T> {
     pub fn take_quoted_scalar_chunk(&mut self, single: bool) -> (&str, usize)
         ensures* rests { sem 𝓛 (Rests (the_row T.row T.Input) self.entry (λ new.
             (Wherever T.unread self.old new (λ h Lands.
-            LendsSteps (T.origin self.old.input) (starts (is_quoted_char single)) h (chars result.0.now) result.1 Lands))
+            LendsSteps (T.origin self.old.input) (starts (is_quoted_char single)) h
+            (chars result.0.now) result.1 Lands))
             × Takes T.left T.window self.old new result.1
             × Moves T.left T.origin self.old new)) }
     {
@@ -256,7 +265,8 @@ impl<T: Input> Cursor<T> {
 
     /// Where in its source the input stands, where it has one.
     fn source_offset(&self) -> Option<usize>
-        ensures { (u : place.Unread) → T.unread self.now.input u → result ≡ (if has_source (T.origin self.now.input) then u.offset else None) }
+        ensures { (u : place.Unread) → T.unread self.now.input u
+            → result ≡ (if has_source (T.origin self.now.input) then u.offset else None) }
     {
         let here = self.input.byte_offset()?;
         self.input.slice_bytes(here, here)?;
@@ -265,7 +275,8 @@ impl<T: Input> Cursor<T> {
 
     /// What the source holds from a place on, up to where the input stands.
     fn source_since(&self, start: usize) -> Option<&str>
-        ensures { (u : place.Unread) → T.unread self.now.input u → LentBetween (T.origin self.now.input).sliced (Some start) u.offset result }
+        ensures { (u : place.Unread) → T.unread self.now.input u
+            → LentBetween (T.origin self.now.input).sliced (Some start) u.offset result }
     {
         let here = self.input.byte_offset()?;
         self.input.slice_bytes(start, here)
@@ -324,7 +335,8 @@ impl<T: Input> Cursor<T> {
 
     /// Consumes printable characters up to a break, NUL or the end; how many. The line is then begun.
     pub fn skip_while_non_breakz(&mut self) -> usize
-        ensures here { Wherever T.unread self.old self.new (λ h Lands. StepsRun (starts is_line_char) h result (Inside Lands)) }
+        ensures here { Wherever T.unread self.old self.new (λ h Lands.
+            StepsRun (starts is_line_char) h result (Inside Lands)) }
         ensures takes { Takes T.left T.window self.old self.new result }
         ensures moves { Moves T.left T.origin self.old self.new }
     {
@@ -371,7 +383,8 @@ impl<T: Input> Cursor<T> {
 
     /// Consumes spaces; how many.
     fn skip_spaces(&mut self) -> usize
-        ensures here { Wherever T.unread self.old self.new (λ h Lands. StepsRun (starts (is_skipped No)) h result Lands) }
+        ensures here { Wherever T.unread self.old self.new (λ h Lands.
+            StepsRun (starts (is_skipped No)) h result Lands) }
         ensures takes { Takes T.left T.window self.old self.new result }
         ensures moves { Moves T.left T.origin self.old self.new }
     {

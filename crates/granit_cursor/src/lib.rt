@@ -14,3 +14,6 @@ pub use cursor::Cursor;
 pub use layout::Layout;
 pub use moves::{drop_blanks, past_blanks, past_break};
 pub use token::{Lexed, Token, TokenType};
+
+#[cfg(test)]
+mod tests;

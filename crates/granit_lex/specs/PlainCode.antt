@@ -29,7 +29,13 @@ plain_lexed r = record {
 
 -- where reading stands, by what the code holds
 abbrev pub plain_state : PlainParts → Here → PlainState
-plain_state p h = record { here = h; end = p.end; pending = string_chars p.pending; on_new_line = p.on_new_line; left_tab = p.left_tab }
+plain_state p h = record {
+  here = h;
+  end = p.end;
+  pending = string_chars p.pending;
+  on_new_line = p.on_new_line;
+  left_tab = p.left_tab;
+}
 
 -- directly behind a character of content
 abbrev pub inside : Here → PlainState
@@ -75,9 +81,11 @@ TurnTakes (Ok false) old new = new ≤ old
 TurnTakes (Err e) old new = new ≤ old
 
 -- a turn goes on with the same whole, or that is all of it
-abbrev pub TurnsTo : LayoutData → Mark → Result Bool Refused → (Here → Type 0) → PlainParts → Result (List ℕ × PlainState) Fault → Type 0
+abbrev pub TurnsTo : LayoutData → Mark → Result Bool Refused → (Here → Type 0) → PlainParts
+    → Result (List ℕ × PlainState) Fault → Type 0
 TurnsTo at start (Ok true) Lands p before = (now : Here) × Lands now × (plain_whole at start p now ≡ before)
-TurnsTo at start (Ok false) Lands p before = (now : Here) × Lands now × (before ≡ Ok (string_chars p.value, plain_state p now))
+TurnsTo at start (Ok false) Lands p before =
+    (now : Here) × Lands now × (before ≡ Ok (string_chars p.value, plain_state p now))
 TurnsTo at start (Err e) Lands p before = Fails e before
 
 -- what was read is all of it

@@ -44,7 +44,12 @@ asked at h = comment h >>= λ x. Ok (option_map comment_token (asked_comment at 
 
 -- where reading stands, by what the code holds
 abbrev pub quoted_state : QuotedParts → Here → QuotedState
-quoted_state p h = record { here = h; pending = string_chars p.pending; on_new_line = p.on_new_line; escaped = p.escaped }
+quoted_state p h = record {
+  here = h;
+  pending = string_chars p.pending;
+  on_new_line = p.on_new_line;
+  escaped = p.escaped;
+}
 
 -- the same behind what was read
 abbrev pub quoted_whole : Bool → LayoutData → Mark → QuotedParts → Here → Result (List ℕ × QuotedState) Fault
@@ -54,14 +59,19 @@ quoted_whole single at start p h = with_front (string_chars p.value) (quoted_res
 unfoldable pub quoted_ahead : Bool → LayoutData → Mark → QuotedState → Result Ahead Fault
 quoted_ahead single at start s =
     if is_blank (next_char s.here) then
-    (if s.on_new_line && (next_char s.here == 0x09 && is_tab_left at s.here.place.column) then fails_at TabInIndentation (mark_of s.here)
+    (if s.on_new_line && (next_char s.here == 0x09 && is_tab_left at s.here.place.column)
+        then fails_at TabInIndentation (mark_of s.here)
     else Ok Blank)
     else if is_break (next_char s.here) then Ok Break
-    else if s.on_new_line && is_strictly_left at s.escaped s.here.place.column then fails_at InvalidIndentation (mark_of s.here)
-    else if s.on_new_line && is_loosely_left at s.escaped (is_closing single s.here.unread.text) s.here.place.column then fails_at InvalidQuotedScalarIndent (mark_of s.here)
-    else if s.on_new_line && (s.here.place.column == 0 && is_document_mark s.here.unread.text) then fails_at DocumentIndicatorInQuotedScalar start
+    else if s.on_new_line && is_strictly_left at s.escaped s.here.place.column
+        then fails_at InvalidIndentation (mark_of s.here)
+    else if s.on_new_line && is_loosely_left at s.escaped (is_closing single s.here.unread.text) s.here.place.column
+        then fails_at InvalidQuotedScalarIndent (mark_of s.here)
+    else if s.on_new_line && (s.here.place.column == 0 && is_document_mark s.here.unread.text)
+        then fails_at DocumentIndicatorInQuotedScalar start
     else if text_len s.here == 0 then fails_at UnclosedQuotedScalar start
-    else if not (is_printable (next_char s.here)) then fails_at (UnexpectedCharacter (next_char s.here)) (mark_of s.here)
+    else if not (is_printable (next_char s.here))
+        then fails_at (UnexpectedCharacter (next_char s.here)) (mark_of s.here)
     else if is_closing single s.here.unread.text then Ok End
     else Ok Content
 
@@ -101,15 +111,20 @@ escapes None = true
 escapes (Some c) = false
 
 -- content was taken, behind what stands before it
-abbrev pub TakesContent : Result (Unit {0}) Refused → (Here → Type 0) → (old : List ℕ) → QuotedState → QuotedParts → Result (Option ℕ × Here) Fault → Type 0
+abbrev pub TakesContent : Result (Unit {0}) Refused → (Here → Type 0) → (old : List ℕ) → QuotedState → QuotedParts
+    → Result (Option ℕ × Here) Fault → Type 0
 TakesContent (Ok u) Lands old s p given =
-    (now : Here) × (x : Option ℕ) × Lands now × (given ≡ Ok (x, now)) × (string_chars p.value ≡ (old ++ between_quoted s) ++ added x) × (quoted_state p now ≡ quoted_at (escapes x) now)
+    (now : Here) × (x : Option ℕ) × Lands now × (given ≡ Ok (x, now))
+    × (string_chars p.value ≡ (old ++ between_quoted s) ++ added x) × (quoted_state p now ≡ quoted_at (escapes x) now)
 TakesContent (Err e) Lands old s p given = Fails e given
 
 -- a turn goes on with the same whole, or that is all of it
-abbrev pub QuotedTurnsTo : Bool → LayoutData → Mark → Result Bool Refused → (Here → Type 0) → QuotedParts → Result (List ℕ × QuotedState) Fault → Type 0
-QuotedTurnsTo single at start (Ok true) Lands p before = (now : Here) × Lands now × (quoted_whole single at start p now ≡ before)
-QuotedTurnsTo single at start (Ok false) Lands p before = (now : Here) × Lands now × (before ≡ Ok (string_chars p.value, quoted_state p now))
+abbrev pub QuotedTurnsTo : Bool → LayoutData → Mark → Result Bool Refused → (Here → Type 0) → QuotedParts
+    → Result (List ℕ × QuotedState) Fault → Type 0
+QuotedTurnsTo single at start (Ok true) Lands p before =
+    (now : Here) × Lands now × (quoted_whole single at start p now ≡ before)
+QuotedTurnsTo single at start (Ok false) Lands p before =
+    (now : Here) × Lands now × (before ≡ Ok (string_chars p.value, quoted_state p now))
 QuotedTurnsTo single at start (Err e) Lands p before = Fails e before
 
 -- what was read is all of it
