@@ -56,13 +56,13 @@ abbrev pub side_word : Bool → List ℕ
 side_word true = codes " right "
 side_word false = codes " free "
 
-abbrev pub comment_line : CommentRead → List ℕ
-comment_line c =
+abbrev pub note_line : CommentRead → List ℕ
+note_line c =
     ((side_word c.is_right ++ in_quotes c.text.characters) ++ (codes " " ++ span_words c.source)) ++ codes "\n"
 
 abbrev pub tail_line : Option CommentRead → List ℕ
 tail_line None = []
-tail_line (Some c) = codes "tail" ++ comment_line c
+tail_line (Some c) = codes "tail" ++ note_line c
 
 abbrev pub is_elsewhere : Mark → Mark → Bool
 is_elsewhere a b = not (a.place.index == b.place.index)
@@ -85,7 +85,7 @@ lexeme_line l begins_key =
 
 abbrev pub line_of : Item → Bool → List ℕ
 line_of (OfLexeme l) begins_key = lexeme_line l begins_key
-line_of (OfComment c) begins_key = codes "comment" ++ comment_line c
+line_of (OfComment c) begins_key = codes "comment" ++ note_line c
 
 abbrev pub item_line : FlaggedItem → List ℕ
 item_line i = line_of i.item i.begins_key

@@ -9,6 +9,7 @@ pub mod Frames
 pub mod Gaps
 pub mod Giving
 pub mod IndicatorLexemes
+pub mod ItemFlags
 pub mod Items
 pub mod Laid
 pub mod LexemeSort

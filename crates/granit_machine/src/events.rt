@@ -1,4 +1,4 @@
-//! Worked rows of the plain machine, by computation. The lines of texts that are read whole or refused are the original's.
+//! Worked rows of the plain machine, by computation. Each is what the original says, but for the mark of kind 33 at a `-`.
 ghost use Rattle.std.specs.Prelude.{◌≡◌, [], ◌∷◌, ◌++◌, codes};
 ghost use Rattle.granit_machine.specs.Events.{tells, tells_under};
 ghost use Rattle.granit_machine.specs.ExampleOptions.{other_events, small_limits, strict_lines};

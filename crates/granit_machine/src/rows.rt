@@ -1,4 +1,4 @@
-//! Worked rows of the plain machine, by computation. The lines of texts that are read whole or refused are the original's.
+//! Worked rows of the plain machine's reader, by computation. The faults are the original's.
 ghost use Rattle.std.specs.Prelude.{◌≡◌, [], ◌∷◌, ◌++◌, codes};
 ghost use Rattle.granit_machine.specs.Items.{reads, reads_under};
 ghost use Rattle.granit_machine.specs.ExampleOptions.{no_directives, small_limits, strict_lines};

@@ -12,7 +12,7 @@ use Rattle.granit_machine.specs.Machine.{is_settled, settled, front_if}
 use Rattle.granit_machine.specs.Parser.{next_line, feed}
 use Rattle.granit_machine.specs.Reader.{read, LexState, lex_turn, lex_len, behind_read, is_end}
 use Rattle.granit_machine.specs.ReaderState.{Read, ReaderState}
-use Rattle.granit_steps.specs.Steps.{StepState, asked, marked_by, unflagged, pushed, asks_next, is_next_settled, is_over, may_go, free_items, line_behind, Turn, with_read, read_unless, read_more, with_fed, feed_front, front_turn, turn_by, step_turn, reading_size, step_size}
+use Rattle.granit_steps.specs.Steps.{StepState, incoming, marked_by, unflagged, pushed, asks_next, is_next_settled, is_over, may_go, free_items, line_behind, Turn, with_read, read_unless, read_more, with_fed, feed_front, front_turn, turn_by, step_turn, reading_size, step_size}
 use Rattle.granit_steps.specs.Told.{Told, before_told, told_behind, fed, parsers_items}
 use Rattle.granit_lexemes.proofs.PieceLemmas.{pieces_done, pieces_more}
 use Rattle.granit_machine.proofs.LexLengths.{ReadFits, read-fits, lex_turn-Shortens}
@@ -38,7 +38,7 @@ rest_of o l = rest_by (is_over l) o l
 
 -- the items that the parser will get
 abbrev pub coming : OptionsData → List FlaggedItem → List Item × LexState → List FlaggedItem
-coming o q x = parsers_items x.1.reader.laid x.1.fault (pushed q (asked o.emit_comments x.0))
+coming o q x = parsers_items x.1.reader.laid x.1.fault (pushed q (incoming o.emit_comments x.0))
 
 abbrev pub future_of : OptionsData → List FlaggedItem → ParserState → List Item × LexState → Told
 future_of o q p x = fed o x.1.fault (coming o q x) p
@@ -62,11 +62,11 @@ IsReady s = Ready s.reading s.queue
 
 -- ---- the front may go
 
-asked_nil : (b : Bool) → asked b [] ≡ []
+asked_nil : (b : Bool) → incoming b [] ≡ []
 asked_nil true = refl
 asked_nil false = refl
 
-pub pushed_nil : (b : Bool) (q : List FlaggedItem) → pushed q (asked b []) ≡ q
+pub pushed_nil : (b : Bool) (q : List FlaggedItem) → pushed q (incoming b []) ≡ q
 pushed_nil b q = ap (pushed q) (asked_nil b)
 
 pub and_left : (a b : Bool) → (a && b) ≡ true → a ≡ true
@@ -92,7 +92,7 @@ feeds_by o i n m e p = ap (λ k. feed o i k p) e
 line_next : (o : OptionsData) (s : Laid) (is : List FlaggedItem) (x : List Item × LexState) → Chain s x.0 x.1.reader.laid → AllOld s.number is → is_next_settled s is ≡ true → next_line (settled s is) ≡ next_line (coming o is x)
 line_next o s [] x ch old e = absurd (cc)
 line_next o s (j ∷ js) x ch old e =
-    let items = asked o.emit_comments x.0 in
+    let items = incoming o.emit_comments x.0 in
     ap (λ b. next_line (front_if b j (settled s js))) e
     ∙ sym (ap next_line (ap (parsers_items x.1.reader.laid x.1.fault) (pushed_front j js items (not_begun s x.1.reader.laid o.emit_comments j.item x.0 ch old.0 e))
     ∙ parsers_front x.1.reader.laid x.1.fault j (pushed js items) (goes_for_ever s x.1.reader.laid j.item x.0 ch old.0 e)))
@@ -106,7 +106,7 @@ unread_goes : (o : OptionsData) (s : ReaderState) (i : FlaggedItem) (is : List F
     → (is_settled s.laid i.item && (not (asks_next i.item) || is_next_settled s.laid is)) ≡ true → Goes o (record { reader = s; ended = false; fault = None }) i is (read_out r l)
 unread_goes o s i is (Err f) l ch old olds e = absurd ch
 unread_goes o s i is (Ok x) l ch old olds e =
-    let items = asked o.emit_comments x.0 in
+    let items = incoming o.emit_comments x.0 in
     let now = and_left (is_settled s.laid i.item) (not (asks_next i.item) || is_next_settled s.laid is) e in
     let next = and_right (is_settled s.laid i.item) (not (asks_next i.item) || is_next_settled s.laid is) e in
     record {
@@ -120,7 +120,7 @@ over_goes : (o : OptionsData) (s : ReaderState) (ended : Bool) (end : Option Fau
     → Goes o (record { reader = s; ended = ended; fault = end }) i is ([], record { reader = s; ended = ended; fault = end })
 over_goes o s ended end i is free first = record {
   first = ap (parsers_items s.laid end) (pushed_nil o.emit_comments (i ∷ is)) ∙ first ∙ ap (λ q. i ∷ parsers_items s.laid end q) (sym (pushed_nil o.emit_comments is));
-  alike = feeds_by o i (next_line (free_items ended s.laid is)) (next_line (parsers_items s.laid end (pushed is (asked o.emit_comments [])))) (ap next_line (free ∙ ap (parsers_items s.laid end) (sym (pushed_nil o.emit_comments is))));
+  alike = feeds_by o i (next_line (free_items ended s.laid is)) (next_line (parsers_items s.laid end (pushed is (incoming o.emit_comments [])))) (ap next_line (free ∙ ap (parsers_items s.laid end) (sym (pushed_nil o.emit_comments is))));
 }
 
 front_goes : (o : OptionsData) (s : ReaderState) (ended : Bool) (end : Option Fault) (i : FlaggedItem) (is : List FlaggedItem) → Ready (record { reader = s; ended = ended; fault = end }) (i ∷ is) → may_go (record { reader = s; ended = ended; fault = end }) i is ≡ true
@@ -169,11 +169,11 @@ rest_unread o s true =
     let l : LexState = record { reader = s; ended = true; fault = None } in
     ap (λ r. read_out r l) (sym (pieces_done lex_len (lex_turn o) l l refl))
 
-front_out : (o : OptionsData) (s : Laid) (q : List FlaggedItem) (p : ParserState) (front : List Item) (r : Result (List Item × LexState) Fault) (l m : LexState) → LexChain s r → future_of o q p (read_out (with_front front r) l) ≡ future_of o (pushed q (asked o.emit_comments front)) p (read_out r m)
+front_out : (o : OptionsData) (s : Laid) (q : List FlaggedItem) (p : ParserState) (front : List Item) (r : Result (List Item × LexState) Fault) (l m : LexState) → LexChain s r → future_of o q p (read_out (with_front front r) l) ≡ future_of o (pushed q (incoming o.emit_comments front)) p (read_out r m)
 front_out o s q p front (Err f) l m ch = absurd ch
 front_out o s q p front (Ok x) l m ch =
     ap (λ items. fed o x.1.fault (parsers_items x.1.reader.laid x.1.fault items) p)
-    (ap (pushed q) (asked_append o.emit_comments front x.0) ∙ pushed_append q (asked o.emit_comments front) (asked o.emit_comments x.0))
+    (ap (pushed q) (asked_append o.emit_comments front x.0) ∙ pushed_append q (incoming o.emit_comments front) (incoming o.emit_comments x.0))
 
 -- ---- how long the queue gets, and what is in it
 
@@ -189,7 +189,7 @@ length_pushed q (i ∷ is) =
     let c = length_map (marked_by i) q in
     omega (arith, a, b, c)
 
-pub length_asked : (b : Bool) (items : List Item) → length (asked b items) ≤ length items
+pub length_asked : (b : Bool) (items : List Item) → length (incoming b items) ≤ length items
 length_asked true items = omega arith
 length_asked false [] = omega arith
 length_asked false (OfLexeme l ∷ is) = let h = length_asked false is in omega (arith, h)
@@ -227,7 +227,7 @@ old_pushed : (n : ℕ) (q : List FlaggedItem) (items : List Item) → AllOld n q
 old_pushed n q [] p h = p
 old_pushed n q (i ∷ is) p h = old_pushed n (map (marked_by i) q ++ unflagged i ∷ []) is (old_last n i i q p h.0) h.1
 
-old_asked : (n : ℕ) (b : Bool) (items : List Item) → OldItems n items → OldItems n (asked b items)
+old_asked : (n : ℕ) (b : Bool) (items : List Item) → OldItems n items → OldItems n (incoming b items)
 old_asked n true items p = p
 old_asked n false [] p = tt
 old_asked n false (OfLexeme l ∷ is) p = (p.0, old_asked n false is p.1)
@@ -268,18 +268,18 @@ read_keeps o s q p (Ok x) is ch fits ready =
     let m : LexState = record { reader = x.1; ended = is_end x.0; fault = None } in
     let below = items_below s.laid x.1.laid x.0 ch ready.below in
     let olds = old_items s.laid.number (possibles s.laid) x.0 x.1.laid ch in
-    let a = length_pushed q (asked o.emit_comments x.0) in
+    let a = length_pushed q (incoming o.emit_comments x.0) in
     let b = length_asked o.emit_comments x.0 in
     let c = items_length s.laid.number (possibles s.laid) x.0 x.1.laid ch in
     let d = size_behind (is_end x.0) s x.1 fits in (
       record {
         below = below;
-        old = old_pushed x.1.laid.number q (asked o.emit_comments x.0) (all_old_more s.laid.number x.1.laid.number q olds.0 ready.old) (old_asked x.1.laid.number o.emit_comments x.0 olds.1);
+        old = old_pushed x.1.laid.number q (incoming o.emit_comments x.0) (all_old_more s.laid.number x.1.laid.number q olds.0 ready.old) (old_asked x.1.laid.number o.emit_comments x.0 olds.1);
         one_end = λ e. refl;
       },
       ap (λ r. future_of o q p (read_out r l)) (pieces_more lex_len (lex_turn o) (lex_turn-Shortens o) l m x.0 (ap (λ r. behind_read r s) is))
           ∙ front_out o x.1.laid q p x.0 (pieces lex_len (lex_turn o) m) l m (pieces_chain o m below)
-          ∙ ap (future_of o (pushed q (asked o.emit_comments x.0)) p) (sym (rest_unread o x.1 (is_end x.0))),
+          ∙ ap (future_of o (pushed q (incoming o.emit_comments x.0)) p) (sym (rest_unread o x.1 (is_end x.0))),
       omega (arith, a, b, c, d),
     )
 

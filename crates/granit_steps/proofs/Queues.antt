@@ -8,7 +8,7 @@ use Rattle.granit_machine.specs.Lexing.{FlaggedItem, and_key}
 use Rattle.granit_machine.specs.Machine.{without_tail, asked_items, is_settled}
 use Rattle.granit_machine.specs.PossibleKeys.{is_of, is_possible}
 use Rattle.granit_steps.specs.Flags.{is_wanted, is_keyed, is_begun, with_flag, flags}
-use Rattle.granit_steps.specs.Steps.{asked, is_key_at, key_of_item, marked_by, unflagged, pushed}
+use Rattle.granit_steps.specs.Steps.{incoming, is_key_at, key_of_item, marked_by, unflagged, pushed}
 use Rattle.granit_steps.proofs.Chains.{Chain}
 use Rattle.granit_steps.proofs.KeyReads.{key_start, in_brackets, possibles}
 use Rattle.granit_steps.proofs.Subs.{is_in, left_false, right_false, sub_in}
@@ -95,30 +95,30 @@ pushed_is q (j ∷ js) =
 
 -- ---- comments that aren't asked for
 
-pub asked_append : (b : Bool) (xs ys : List Item) → asked b (xs ++ ys) ≡ asked b xs ++ asked b ys
+pub asked_append : (b : Bool) (xs ys : List Item) → incoming b (xs ++ ys) ≡ incoming b xs ++ incoming b ys
 asked_append true xs ys = refl
 asked_append false [] ys = refl
 asked_append false (OfLexeme l ∷ xs) ys = ap (λ r. without_tail (OfLexeme l) ∷ r) (asked_append false xs ys)
 asked_append false (OfComment c ∷ xs) ys = asked_append false xs ys
 
-pub keyed_asked : (b : Bool) (n : ℕ) (items : List Item) → is_keyed n (asked b items) ≡ is_keyed n items
+pub keyed_asked : (b : Bool) (n : ℕ) (items : List Item) → is_keyed n (incoming b items) ≡ is_keyed n items
 keyed_asked true n items = refl
 keyed_asked false n [] = refl
 keyed_asked false n (OfLexeme l ∷ is) = ap (λ c. is_wanted n l.key || c) (keyed_asked false n is)
 keyed_asked false n (OfComment c ∷ is) = keyed_asked false n is
 
-begun_asked : (b : Bool) (i : Item) (items : List Item) → is_begun i (asked b items) ≡ is_begun i items
+begun_asked : (b : Bool) (i : Item) (items : List Item) → is_begun i (incoming b items) ≡ is_begun i items
 begun_asked b (OfLexeme l) items = keyed_asked b l.number items
 begun_asked b (OfComment c) items = refl
 
-pub asked_flags : (b : Bool) (items : List Item) → asked_items b (flags items) ≡ flags (asked b items)
+pub asked_flags : (b : Bool) (items : List Item) → asked_items b (flags items) ≡ flags (incoming b items)
 asked_flags true items = refl
 asked_flags false [] = refl
 asked_flags false (OfLexeme l ∷ is) = ap₂ (λ c fs. with_flag c (without_tail (OfLexeme l)) ∷ fs) (sym (keyed_asked false l.number is)) (asked_flags false is)
 asked_flags false (OfComment c ∷ is) = asked_flags false is
 
-pub pushed_asked : (b : Bool) (items : List Item) → pushed [] (asked b items) ≡ asked_items b (flags items)
-pushed_asked b items = pushed_is [] (asked b items) ∙ sym (asked_flags b items)
+pub pushed_asked : (b : Bool) (items : List Item) → pushed [] (incoming b items) ≡ asked_items b (flags items)
+pushed_asked b items = pushed_is [] (incoming b items) ∙ sym (asked_flags b items)
 
 -- ---- possible keys by their numbers
 
@@ -153,7 +153,7 @@ goes_for_ever s t (OfLexeme l) items ch old e =
     ap not (possible_is l.number t ∙ ch.never_again l.number old none)
 goes_for_ever s t (OfComment c) items ch old e = refl
 
-pub not_begun : (s t : Laid) (b : Bool) (i : Item) (items : List Item) → Chain s items t → IsOld s.number i → is_settled s i ≡ true → is_begun i (asked b items) ≡ false
+pub not_begun : (s t : Laid) (b : Bool) (i : Item) (items : List Item) → Chain s items t → IsOld s.number i → is_settled s i ≡ true → is_begun i (incoming b items) ≡ false
 not_begun s t b (OfLexeme l) items ch old e =
     let none : is_in l.number (possibles s) ≡ false = sym (possible_is l.number s) ∙ not_true (is_possible l.number s) e in
     keyed_asked b l.number items ∙ ch.keyed l.number old ∙ sub_in l.number _ (possibles s) ch.stacked none

@@ -16,8 +16,8 @@ use Rattle.granit_machine.specs.Parser.{next_line, feed}
 use Rattle.granit_machine.specs.PossibleKeys.{is_possible}
 use Rattle.granit_machine.specs.Reader.{read, behind_read, is_end, lex_turn, LexState}
 use Rattle.granit_machine.specs.ReaderState.{Read, ReaderState}
-use Rattle.granit_steps.specs.Steps.{StepState, asked, may_go, line_behind, with_read, read_more, with_fed, front_turn, turn_by, Turn, step_turn, step_size, first_pending, settle, next_event, start_from, steps_start}
-use Rattle.granit_steps.specs.Told.{Told, before_told, told_behind, fed, parsers_items, told_read, told_from, told, answer, Gives, gives_end, gives_fault, gives_event, FlagsOf}
+use Rattle.granit_steps.specs.Steps.{StepState, incoming, may_go, line_behind, with_read, read_more, with_fed, front_turn, turn_by, Turn, step_turn, step_size, first_pending, settle, next_event, start_from, steps_start}
+use Rattle.granit_steps.specs.Told.{Told, before_told, told_behind, fed, parsers_items, told_read, told_from, told_of, answer, GivesEvents, gives_end, gives_fault, gives_event, FlagsOf}
 use Rattle.granit_machine.proofs.LexLengths.{ReadFits, read-fits}
 use Rattle.granit_machine.proofs.ReadLengths.{reader_len}
 use Rattle.granit_steps.proofs.Chains.{LexChain, pieces_chain, not_behind}
@@ -77,20 +77,20 @@ next_keeps o s ready = next_by o s (settle o s) (settle_keeps o s ready)
 
 -- ---- all events
 
-gives_future : (o : OptionsData) (s : StepState) (es : List PlainEvent) (f : Option Fault) → Gives o s es f → IsReady s → future o s ≡ (es, f)
+gives_future : (o : OptionsData) (s : StepState) (es : List PlainEvent) (f : Option Fault) → GivesEvents o s es f → IsReady s → future o s ≡ (es, f)
 gives_future o s [] None (gives_end e) ready = (subst (NextKeeps o s) e (next_keeps o s ready)).1
 gives_future o s [] (Some f) (gives_fault e) ready = subst (NextKeeps o s) e (next_keeps o s ready)
 gives_future o s (x ∷ es) f (gives_event {after = t} e more) ready =
     let p = subst (NextKeeps o s) e (next_keeps o s ready) in
     p.1 ∙ ap (before_told (x ∷ [])) (gives_future o t es f more p.0)
 
-gives_nothing : (o : OptionsData) (s : StepState) (f : Option Fault) (r : Result (Option PlainEvent × StepState) Fault) → next_event o s ≡ r → NextKeeps o s r → future o s ≡ ([], f) → Gives o s [] f
+gives_nothing : (o : OptionsData) (s : StepState) (f : Option Fault) (r : Result (Option PlainEvent × StepState) Fault) → next_event o s ≡ r → NextKeeps o s r → future o s ≡ ([], f) → GivesEvents o s [] f
 gives_nothing o s f (Ok (Some e, t)) is p eq = absurd (let h : e ∷ (future o t).0 ≡ [] = ap (λ (x : Told). x.0) (sym p.1 ∙ eq) in cc)
-gives_nothing o s f (Ok (None, t)) is p eq = subst (λ f. Gives o s [] f) (ap (λ (x : Told). x.1) (sym p.1 ∙ eq)) (gives_end is)
-gives_nothing o s f (Err g) is p eq = subst (λ f. Gives o s [] f) (ap (λ (x : Told). x.1) (sym p ∙ eq)) (gives_fault is)
+gives_nothing o s f (Ok (None, t)) is p eq = subst (λ f. GivesEvents o s [] f) (ap (λ (x : Told). x.1) (sym p.1 ∙ eq)) (gives_end is)
+gives_nothing o s f (Err g) is p eq = subst (λ f. GivesEvents o s [] f) (ap (λ (x : Told). x.1) (sym p ∙ eq)) (gives_fault is)
 
 abbrev GivesAll : OptionsData → List PlainEvent → Option Fault → Type 0
-GivesAll o es f = (s : StepState) → IsReady s → future o s ≡ (es, f) → Gives o s es f
+GivesAll o es f = (s : StepState) → IsReady s → future o s ≡ (es, f) → GivesEvents o s es f
 
 same_event : (e x : PlainEvent) (es xs : List PlainEvent) → e ∷ es ≡ x ∷ xs → e ≡ x
 same_event e x es xs h = cc
@@ -98,12 +98,12 @@ same_event e x es xs h = cc
 same_events : (e x : PlainEvent) (es xs : List PlainEvent) → e ∷ es ≡ x ∷ xs → es ≡ xs
 same_events e x es xs h = cc
 
-gives_some : (o : OptionsData) (s : StepState) (x : PlainEvent) (es : List PlainEvent) (f : Option Fault) (r : Result (Option PlainEvent × StepState) Fault) → GivesAll o es f → next_event o s ≡ r → NextKeeps o s r → future o s ≡ (x ∷ es, f) → Gives o s (x ∷ es) f
+gives_some : (o : OptionsData) (s : StepState) (x : PlainEvent) (es : List PlainEvent) (f : Option Fault) (r : Result (Option PlainEvent × StepState) Fault) → GivesAll o es f → next_event o s ≡ r → NextKeeps o s r → future o s ≡ (x ∷ es, f) → GivesEvents o s (x ∷ es) f
 gives_some o s x es f (Ok (Some e, t)) more is p eq =
     let both : e ∷ (future o t).0 ≡ x ∷ es = ap (λ (y : Told). y.0) (sym p.1 ∙ eq) in
     let end : (future o t).1 ≡ f = ap (λ (y : Told). y.1) (sym p.1 ∙ eq) in
     let rest : future o t ≡ (es, f) = ap₂ (λ xs g. (xs, g)) (same_events e x (future o t).0 es both) end in
-    subst (λ e. Gives o s (e ∷ es) f) (same_event e x (future o t).0 es both) (gives_event is (more t p.0 rest))
+    subst (λ e. GivesEvents o s (e ∷ es) f) (same_event e x (future o t).0 es both) (gives_event is (more t p.0 rest))
 gives_some o s x es f (Ok (None, t)) more is p eq = absurd (let h : [] ≡ x ∷ es = ap (λ (y : Told). y.0) (sym p.1 ∙ eq) in cc)
 gives_some o s x es f (Err g) more is p eq = absurd (let h : [] ≡ x ∷ es = ap (λ (y : Told). y.0) (sym p ∙ eq) in cc)
 
@@ -125,11 +125,11 @@ start_told : (o : OptionsData) (h : Here) → future o (start_from h) ≡ told_f
 start_told o h = ap (before_told (event_on StreamStart (mark_of h) ∷ [])) (start_by o h (parser_start (mark_of h)) (lex o h) (pieces_chain o (lex_start h) tt))
 
 -- the calls give all that is told
-pub steps_tell : (o : OptionsData) (text : List ℕ) → Gives o (steps_start text) (told o text).0 (told o text).1
-steps_tell o text = gives_all o (told o text).0 (told o text).1 (steps_start text) (start_ready (start_of text)) (start_told o (start_of text))
+pub steps_tell : (o : OptionsData) (text : List ℕ) → GivesEvents o (steps_start text) (told_of o text).0 (told_of o text).1
+steps_tell o text = gives_all o (told_of o text).0 (told_of o text).1 (steps_start text) (start_ready (start_of text)) (start_told o (start_of text))
 
 -- and nothing else
-pub only_told : (o : OptionsData) (text : List ℕ) (es : List PlainEvent) (f : Option Fault) → Gives o (steps_start text) es f → told o text ≡ (es, f)
+pub only_told : (o : OptionsData) (text : List ℕ) (es : List PlainEvent) (f : Option Fault) → GivesEvents o (steps_start text) es f → told_of o text ≡ (es, f)
 only_told o text es f given = sym (start_told o (start_of text)) ∙ gives_future o (steps_start text) es f given (start_ready (start_of text))
 
 -- ---- what is told is the run's answer
@@ -172,11 +172,11 @@ run_by o m (Ok x) = answered_is o m (asked_items o.emit_comments (flagged x.0)) 
 run_by o m (Err f) = refl
 
 -- the run's answer is what is told
-pub run_told : (o : OptionsData) (text : List ℕ) → run o text ≡ answer (told o text) (told o text).1
+pub run_told : (o : OptionsData) (text : List ℕ) → run o text ≡ answer (told_of o text) (told_of o text).1
 run_told o text = run_by o (mark_of (start_of text)) (lex o (start_of text))
 
 -- the calls give the run's answer
-pub steps_give : (o : OptionsData) (text : List ℕ) (es : List PlainEvent) (f : Option Fault) → Gives o (steps_start text) es f → run o text ≡ answer (es, f) f
+pub steps_give : (o : OptionsData) (text : List ℕ) (es : List PlainEvent) (f : Option Fault) → GivesEvents o (steps_start text) es f → run o text ≡ answer (es, f) f
 steps_give o text es f given = run_told o text ∙ ap (λ (t : Told). answer t t.1) (only_told o text es f given)
 
 -- ---- keys
@@ -251,7 +251,7 @@ read_shorter : (o : OptionsData) (s : ReaderState) (q : List FlaggedItem) (p : P
     (behind_read r s >>= λ x. Ok (Some [], with_read o (record { reading = record { reader = s; ended = false; fault = None }; queue = q; parser = p; pending = [] }) x))
 read_shorter o s q p (Err f) ch fits = let n = ap length (pushed_nil o.emit_comments q) in omega (arith, n)
 read_shorter o s q p (Ok x) ch fits =
-    let a = length_pushed q (asked o.emit_comments x.0) in
+    let a = length_pushed q (incoming o.emit_comments x.0) in
     let b = length_asked o.emit_comments x.0 in
     let c = items_length s.laid.number (possibles s.laid) x.0 x.1.laid ch in
     let d = size_behind (is_end x.0) s x.1 fits in

@@ -18,8 +18,8 @@ use Rattle.granit_machine.specs.Reader.{read, LexState, behind_read, is_end, is_
 use Rattle.granit_machine.specs.ReaderState.{Read}
 use Rattle.granit_steps.specs.Flags.{flags}
 use Rattle.granit_steps.specs.Levels.{Level, InStream, and_then, behind_events, IsStream, BeginsStream}
-use Rattle.granit_steps.specs.Steps.{asked}
-use Rattle.granit_steps.specs.Told.{Told, before_told, told_behind, fed, parsers_items, told_read, told, answer}
+use Rattle.granit_steps.specs.Steps.{incoming}
+use Rattle.granit_steps.specs.Told.{Told, before_told, told_behind, fed, parsers_items, told_read, told_of, answer}
 use Rattle.granit_machine.proofs.LexLengths.{lex_turn-Shortens}
 use Rattle.granit_steps.proofs.Chains.{LexChain, pieces_chain}
 use Rattle.granit_steps.proofs.KeyReads.{possibles, Items, IsComment, Lexed, read_keys}
@@ -171,19 +171,19 @@ flags_items : (is : List Item) → in_items (flags is) ≡ is
 flags_items [] = refl
 flags_items (i ∷ is) = ap (λ xs. i ∷ xs) (flags_items is)
 
-only_asked : (b : Bool) (is : List Item) → OnlyComments is → OnlyComments (asked b is)
+only_asked : (b : Bool) (is : List Item) → OnlyComments is → OnlyComments (incoming b is)
 only_asked true is p = p
 only_asked false [] p = tt
 only_asked false (OfLexeme l ∷ is) p = absurd p
 only_asked false (OfComment c ∷ is) p = only_asked false is p
 
-fit_asked : (b : Bool) (is : List Item) → Fit is → Fit (asked b is)
+fit_asked : (b : Bool) (is : List Item) → Fit is → Fit (incoming b is)
 fit_asked true is p = p
 fit_asked false [] p = tt
 fit_asked false (OfLexeme l ∷ is) p = (λ e. only_asked false is (p.0 e), fit_asked false is p.1)
 fit_asked false (OfComment c ∷ is) p = fit_asked false is p.1
 
-end_asked : (b : Bool) (is : List Item) → has_end (asked b is) ≡ has_end is
+end_asked : (b : Bool) (is : List Item) → has_end (incoming b is) ≡ has_end is
 end_asked true is = refl
 end_asked false [] = refl
 end_asked false (OfLexeme l ∷ is) = ap (λ c. is_end_kind l.kind || c) (end_asked false is)
@@ -295,18 +295,18 @@ well_by o m h (Err f) ch x = absurd ch
 well_by o m h (Ok y) ch x =
     let b = o.emit_comments in
     let items = asked_items b (flagged y.0) in
-    let is : in_items items ≡ asked b y.0 = ap in_items (ap (asked_items b) ch.same_flags ∙ asked_flags b y.0) ∙ flags_items (asked b y.0) in
+    let is : in_items items ≡ incoming b y.0 = ap in_items (ap (asked_items b) ch.same_flags ∙ asked_flags b y.0) ∙ flags_items (incoming b y.0) in
     let fit : Fit (in_items items) = subst Fit (sym is) (fit_asked b y.0 x.fit) in
     let all : y.1.fault ≡ None → has_end (in_items items) ≡ true = λ e. ap has_end is ∙ end_asked b y.0 ∙ x.ends e refl in
     told_well m (fed o y.1.fault (parsers_items y.1.reader.laid y.1.fault items) (parser_start m)) (has_end (in_items (parsers_items y.1.reader.laid y.1.fault items)))
     (λ e. let f = fault_told o y.1.fault (parsers_items y.1.reader.laid y.1.fault items) (parser_start m) e in ap (λ end. has_end (in_items (parsers_items y.1.reader.laid end items))) f ∙ all f)
     (fed_ends m o y.1.fault (parsers_items y.1.reader.laid y.1.fault items) (parser_start m) (fit_parsers y.1.reader.laid y.1.fault items fit) (parser_rests m))
 
-text_well : (o : OptionsData) (text : List ℕ) → Told_well (told o text)
+text_well : (o : OptionsData) (text : List ℕ) → Told_well (told_of o text)
 text_well o text = well_by o (mark_of (start_of text)) (start_of text) (lex o (start_of text)) (pieces_chain o (lex_start (start_of text)) tt) (lex_fit o (start_of text))
 
 -- the events told before a fault begin a stream
-pub told_begins : (o : OptionsData) (text : List ℕ) → BeginsStream (told o text).0
+pub told_begins : (o : OptionsData) (text : List ℕ) → BeginsStream (told_of o text).0
 told_begins o text = (text_well o text).begins
 
 answer_ok : (t : Told) (end : Option Fault) (es : List PlainEvent) → t.1 ≡ end → answer t end ≡ Ok es → (t.1 ≡ None) × (t.0 ≡ es)
@@ -316,5 +316,5 @@ answer_ok t (Some f) es e h = absurd (cc)
 -- a run's events are a whole stream
 pub run_is_stream : (o : OptionsData) (text : List ℕ) (es : List PlainEvent) → run o text ≡ Ok es → IsStream es
 run_is_stream o text es e =
-    let t = answer_ok (told o text) (told o text).1 es refl (sym (run_told o text) ∙ e) in
+    let t = answer_ok (told_of o text) (told_of o text).1 es refl (sym (run_told o text) ∙ e) in
     subst IsStream t.1 ((text_well o text).whole t.0)

@@ -26,9 +26,9 @@ pub record StepState : Type 0 where
 -- ---- the queue
 
 -- comments that aren't asked for never come into the queue
-abbrev pub asked : Bool → List Item → List Item
-asked true items = items
-asked false items = map without_tail (filter is_lexeme items)
+abbrev pub incoming : Bool → List Item → List Item
+incoming true items = items
+incoming false items = map without_tail (filter is_lexeme items)
 
 -- whether a `:` with a key's number finds that key's first lexeme in an item
 abbrev pub is_key_at : Option KeyStart → Item → Bool
@@ -96,7 +96,7 @@ items_of None = []
 items_of (Some items) = items
 
 abbrev pub with_read : OptionsData → StepState → Option (List Item) × LexState → StepState
-with_read o s x = record s { reading = x.1; queue = pushed s.queue (asked o.emit_comments (items_of x.0)) }
+with_read o s x = record s { reading = x.1; queue = pushed s.queue (incoming o.emit_comments (items_of x.0)) }
 
 abbrev pub read_unless : OptionsData → Option Fault → StepState → Turn
 read_unless o (Some f) s = Err f

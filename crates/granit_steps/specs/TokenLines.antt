@@ -42,13 +42,13 @@ kind_name (Anchor name) = codes "Anchor"
 kind_name (Tag handle suffix) = codes "Tag"
 kind_name (Scalar style text) = codes "Scalar"
 
-abbrev pub named : List ℕ → Source → List ℕ
-named name span = ((name ++ codes " ") ++ span_words span) ++ codes "\n"
+abbrev pub with_span : List ℕ → Source → List ℕ
+with_span name span = ((name ++ codes " ") ++ span_words span) ++ codes "\n"
 
 abbrev pub scan_line : ScanToken → List ℕ
-scan_line (Inserted what m) = named (insertion_name what) (empty_span m)
-scan_line (Own l) = named (kind_name l.kind) (own_span l.kind l)
-scan_line (Noted c) = named (codes "Comment") c.source
+scan_line (Inserted what m) = with_span (insertion_name what) (empty_span m)
+scan_line (Own l) = with_span (kind_name l.kind) (own_span l.kind l)
+scan_line (Noted c) = with_span (codes "Comment") c.source
 
 abbrev pub scan_lines : Result (List ScanToken × LexState) Fault → List ℕ
 scan_lines (Ok x) = flat_map scan_line x.0

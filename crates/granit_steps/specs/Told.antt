@@ -44,8 +44,8 @@ told_read o p (Err f) = ([], Some f)
 abbrev pub told_from : OptionsData → Here → Told
 told_from o h = before_told (event_on StreamStart (mark_of h) ∷ []) (told_read o (parser_start (mark_of h)) (lex o h))
 
-abbrev pub told : OptionsData → List ℕ → Told
-told o text = told_from o (start_of text)
+abbrev pub told_of : OptionsData → List ℕ → Told
+told_of o text = told_from o (start_of text)
 
 -- the answer of a whole run
 abbrev pub answer : Told → Option Fault → Result (List PlainEvent) Fault
@@ -53,11 +53,11 @@ answer x None = Ok x.0
 answer x (Some f) = Err f
 
 -- what calls give one by one from a state on: some events, and then nothing more or a fault
-pub data Gives (o : OptionsData) : StepState → List PlainEvent → Option Fault → Type 0 where
-  gives_end : {s after : StepState} → next_event o s ≡ Ok (None, after) → Gives o s [] None
-  gives_fault : {s : StepState} {f : Fault} → next_event o s ≡ Err f → Gives o s [] (Some f)
+pub data GivesEvents (o : OptionsData) : StepState → List PlainEvent → Option Fault → Type 0 where
+  gives_end : {s after : StepState} → next_event o s ≡ Ok (None, after) → GivesEvents o s [] None
+  gives_fault : {s : StepState} {f : Fault} → next_event o s ≡ Err f → GivesEvents o s [] (Some f)
   gives_event : {s after : StepState} {e : PlainEvent} {es : List PlainEvent} {f : Option Fault}
-      → next_event o s ≡ Ok (Some e, after) → Gives o after es f → Gives o s (e ∷ es) f
+      → next_event o s ≡ Ok (Some e, after) → GivesEvents o after es f → GivesEvents o s (e ∷ es) f
 
 -- the flags that the stack gives are those that the numbers give
 abbrev pub FlagsOf : Result (List Item × LexState) Fault → Type 0
