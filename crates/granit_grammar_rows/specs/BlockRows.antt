@@ -17,16 +17,16 @@ at_most_one_lexeme =
     (at BareDocument 0 1 ∷ at (bare Text) 0 1 ∷ at DocumentEnd 1 1 ∷ at StreamEnd 1 1 ∷ [])
     -- "- "
     ∷ reads (dash 0 2 0 ∷ the_end 2 2 ∷ [])
-    (at BareDocument 0 0 ∷ at (bare BlockSequence) 0 0 ∷ at (bare Null) 2 2 ∷ at SequenceEnd 2 2 ∷ at DocumentEnd 2 2
-    ∷ at StreamEnd 2 2 ∷ [])
+    (at BareDocument 0 0 ∷ at (bare BlockSequence) 0 0 ∷ at (bare Null) 2 2 ∷ at SequenceEnd 2 2
+    ∷ at DocumentEnd 2 2 ∷ at StreamEnd 2 2 ∷ [])
     -- "? "
     ∷ reads (question 0 0 ∷ the_end 2 2 ∷ [])
     (at BareDocument 0 0 ∷ at (bare BlockMapping) 0 0 ∷ inner 1 (bare Null) 2 2 ∷ at (bare Null) 2 2
     ∷ at MappingEnd 2 2 ∷ at DocumentEnd 2 2 ∷ at StreamEnd 2 2 ∷ [])
     -- ": "
     ∷ reads (colon 0 0 ∷ the_end 2 2 ∷ [])
-    (at BareDocument 0 0 ∷ at (bare BlockMapping) 0 0 ∷ at (bare Null) 0 0 ∷ at (bare Null) 0 0 ∷ at MappingEnd 2 2
-    ∷ at DocumentEnd 2 2 ∷ at StreamEnd 2 2 ∷ [])
+    (at BareDocument 0 0 ∷ at (bare BlockMapping) 0 0 ∷ at (bare Null) 0 0 ∷ at (bare Null) 0 0
+    ∷ at MappingEnd 2 2 ∷ at DocumentEnd 2 2 ∷ at StreamEnd 2 2 ∷ [])
     -- "--- "
     ∷ reads (start_mark 0 ∷ the_end 4 4 ∷ [])
     (at MarkedDocument 0 3 ∷ at (bare Null) 3 3 ∷ at DocumentEnd 3 3 ∷ at StreamEnd 4 4 ∷ [])
@@ -53,7 +53,8 @@ simple_keys =
     -- "a: \n? "
     ∷ reads (key (text 0 1 0) ∷ colon_of 0 1 1 ∷ question 4 0 ∷ the_end 6 2 ∷ [])
     (at BareDocument 0 0 ∷ at (bare BlockMapping) 0 0 ∷ inner 1 (bare Text) 0 1 ∷ at (bare Null) 1 1
-    ∷ inner 1 (bare Null) 6 6 ∷ at (bare Null) 6 6 ∷ at MappingEnd 6 6 ∷ at DocumentEnd 6 6 ∷ at StreamEnd 6 6 ∷ [])
+    ∷ inner 1 (bare Null) 6 6 ∷ at (bare Null) 6 6 ∷ at MappingEnd 6 6 ∷ at DocumentEnd 6 6 ∷ at StreamEnd 6 6
+    ∷ [])
     -- "a: \n: "
     ∷ reads (key (text 0 1 0) ∷ colon_of 0 1 1 ∷ colon 4 0 ∷ the_end 6 2 ∷ [])
     (at BareDocument 0 0 ∷ at (bare BlockMapping) 0 0 ∷ inner 1 (bare Text) 0 1 ∷ at (bare Null) 1 1
@@ -65,8 +66,8 @@ simple_keys =
     -- "a: \n&x : "
     ∷ reads (key (text 0 1 0) ∷ colon_of 0 1 1 ∷ key (anchor 4 0) ∷ colon_of 0 7 3 ∷ the_end 9 5 ∷ [])
     (at BareDocument 0 0 ∷ at (bare BlockMapping) 0 0 ∷ inner 1 (bare Text) 0 1 ∷ at (bare Null) 1 1
-    ∷ inner 1 (anchored Null) 6 6 ∷ at (bare Null) 7 7 ∷ at MappingEnd 9 9 ∷ at DocumentEnd 9 9 ∷ at StreamEnd 9 9
-    ∷ [])
+    ∷ inner 1 (anchored Null) 6 6 ∷ at (bare Null) 7 7 ∷ at MappingEnd 9 9 ∷ at DocumentEnd 9 9
+    ∷ at StreamEnd 9 9 ∷ [])
     -- "a: \n!t a: "
     ∷ reads (key (text 0 1 0) ∷ colon_of 0 1 1 ∷ key (tag 4 0) ∷ text 7 8 3 ∷ colon_of 0 8 4 ∷ the_end 10 6 ∷ [])
     (at BareDocument 0 0 ∷ at (bare BlockMapping) 0 0 ∷ inner 1 (bare Text) 0 1 ∷ at (bare Null) 1 1
@@ -132,8 +133,8 @@ properties_in_front =
     ∷ at MappingEnd 6 6 ∷ at DocumentEnd 6 6 ∷ at StreamEnd 6 6 ∷ [])
     -- "!t \n: "
     ∷ reads (tag 0 0 ∷ colon 4 0 ∷ the_end 6 2 ∷ [])
-    (at BareDocument 0 2 ∷ at (tagged BlockMapping) 4 4 ∷ at (bare Null) 4 4 ∷ at (bare Null) 4 4 ∷ at MappingEnd 6 6
-    ∷ at DocumentEnd 6 6 ∷ at StreamEnd 6 6 ∷ [])
+    (at BareDocument 0 2 ∷ at (tagged BlockMapping) 4 4 ∷ at (bare Null) 4 4 ∷ at (bare Null) 4 4
+    ∷ at MappingEnd 6 6 ∷ at DocumentEnd 6 6 ∷ at StreamEnd 6 6 ∷ [])
     -- "!t a: ...\n"
     ∷ reads (key (tag 0 0) ∷ text 3 4 3 ∷ colon_of 0 4 4 ∷ text 6 9 6 ∷ the_end 10 0 ∷ [])
     (at BareDocument 0 0 ∷ at (bare BlockMapping) 0 0 ∷ inner 1 (tagged Text) 3 4 ∷ at (bare Text) 6 9
@@ -202,46 +203,49 @@ properties_in_front =
     ∷ at SequenceEnd 8 8 ∷ at SequenceEnd 8 8 ∷ at DocumentEnd 8 8 ∷ at StreamEnd 8 8 ∷ [])
     -- "&x \n? - "
     ∷ reads (anchor 0 0 ∷ question 4 0 ∷ dash 6 8 2 ∷ the_end 8 4 ∷ [])
-    (at BareDocument 0 2 ∷ at (anchored BlockMapping) 4 4 ∷ inner 1 (bare BlockSequence) 6 6 ∷ at (bare Null) 8 8
-    ∷ at SequenceEnd 8 8 ∷ at (bare Null) 8 8 ∷ at MappingEnd 8 8 ∷ at DocumentEnd 8 8 ∷ at StreamEnd 8 8 ∷ [])
+    (at BareDocument 0 2 ∷ at (anchored BlockMapping) 4 4 ∷ inner 1 (bare BlockSequence) 6 6
+    ∷ at (bare Null) 8 8 ∷ at SequenceEnd 8 8 ∷ at (bare Null) 8 8 ∷ at MappingEnd 8 8 ∷ at DocumentEnd 8 8
+    ∷ at StreamEnd 8 8 ∷ [])
     -- "!t \n? - "
     ∷ reads (tag 0 0 ∷ question 4 0 ∷ dash 6 8 2 ∷ the_end 8 4 ∷ [])
     (at BareDocument 0 2 ∷ at (tagged BlockMapping) 4 4 ∷ inner 1 (bare BlockSequence) 6 6 ∷ at (bare Null) 8 8
     ∷ at SequenceEnd 8 8 ∷ at (bare Null) 8 8 ∷ at MappingEnd 8 8 ∷ at DocumentEnd 8 8 ∷ at StreamEnd 8 8 ∷ [])
     -- "!t &x \n- "
     ∷ reads (tag 0 0 ∷ anchor 3 3 ∷ dash 7 9 0 ∷ the_end 9 2 ∷ [])
-    (at BareDocument 0 2 ∷ at (full BlockSequence) 7 7 ∷ at (bare Null) 9 9 ∷ at SequenceEnd 9 9 ∷ at DocumentEnd 9 9
-    ∷ at StreamEnd 9 9 ∷ [])
+    (at BareDocument 0 2 ∷ at (full BlockSequence) 7 7 ∷ at (bare Null) 9 9 ∷ at SequenceEnd 9 9
+    ∷ at DocumentEnd 9 9 ∷ at StreamEnd 9 9 ∷ [])
     -- " !t \n- "
     ∷ reads (tag 1 1 ∷ dash 5 7 0 ∷ the_end 7 2 ∷ [])
     (at BareDocument 1 3 ∷ at (tagged BlockSequence) 5 5 ∷ at (bare Null) 7 7 ∷ at SequenceEnd 7 7
     ∷ at DocumentEnd 7 7 ∷ at StreamEnd 7 7 ∷ [])
     -- "&x : \n- "
     ∷ reads (key (anchor 0 0) ∷ colon_of 0 3 3 ∷ dash 6 8 0 ∷ the_end 8 2 ∷ [])
-    (at BareDocument 0 0 ∷ at (bare BlockMapping) 0 0 ∷ inner 1 (anchored Null) 2 2 ∷ at (bare BlockSequence) 8 8
-    ∷ at (bare Null) 8 8 ∷ at SequenceEnd 8 8 ∷ at MappingEnd 8 8 ∷ at DocumentEnd 8 8 ∷ at StreamEnd 8 8 ∷ [])
+    (at BareDocument 0 0 ∷ at (bare BlockMapping) 0 0 ∷ inner 1 (anchored Null) 2 2
+    ∷ at (bare BlockSequence) 8 8 ∷ at (bare Null) 8 8 ∷ at SequenceEnd 8 8 ∷ at MappingEnd 8 8
+    ∷ at DocumentEnd 8 8 ∷ at StreamEnd 8 8 ∷ [])
     -- "!t : \n- "
     ∷ reads (key (tag 0 0) ∷ colon_of 0 3 3 ∷ dash 6 8 0 ∷ the_end 8 2 ∷ [])
     (at BareDocument 0 0 ∷ at (bare BlockMapping) 0 0 ∷ inner 1 (tagged Empty) 2 2 ∷ at (bare BlockSequence) 8 8
     ∷ at (bare Null) 8 8 ∷ at SequenceEnd 8 8 ∷ at MappingEnd 8 8 ∷ at DocumentEnd 8 8 ∷ at StreamEnd 8 8 ∷ [])
     -- "&x \n- ? "
     ∷ reads (anchor 0 0 ∷ dash 4 6 0 ∷ question 6 2 ∷ the_end 8 4 ∷ [])
-    (at BareDocument 0 2 ∷ at (anchored BlockSequence) 4 4 ∷ at (bare BlockMapping) 6 6 ∷ inner 3 (bare Null) 8 8
-    ∷ at (bare Null) 8 8 ∷ at MappingEnd 8 8 ∷ at SequenceEnd 8 8 ∷ at DocumentEnd 8 8 ∷ at StreamEnd 8 8 ∷ [])
+    (at BareDocument 0 2 ∷ at (anchored BlockSequence) 4 4 ∷ at (bare BlockMapping) 6 6
+    ∷ inner 3 (bare Null) 8 8 ∷ at (bare Null) 8 8 ∷ at MappingEnd 8 8 ∷ at SequenceEnd 8 8
+    ∷ at DocumentEnd 8 8 ∷ at StreamEnd 8 8 ∷ [])
     -- "!t \n- ? "
     ∷ reads (tag 0 0 ∷ dash 4 6 0 ∷ question 6 2 ∷ the_end 8 4 ∷ [])
     (at BareDocument 0 2 ∷ at (tagged BlockSequence) 4 4 ∷ at (bare BlockMapping) 6 6 ∷ inner 3 (bare Null) 8 8
     ∷ at (bare Null) 8 8 ∷ at MappingEnd 8 8 ∷ at SequenceEnd 8 8 ∷ at DocumentEnd 8 8 ∷ at StreamEnd 8 8 ∷ [])
     -- "&x \n? ? "
     ∷ reads (anchor 0 0 ∷ question 4 0 ∷ question 6 2 ∷ the_end 8 4 ∷ [])
-    (at BareDocument 0 2 ∷ at (anchored BlockMapping) 4 4 ∷ inner 1 (bare BlockMapping) 6 6 ∷ inner 3 (bare Null) 8 8
-    ∷ at (bare Null) 8 8 ∷ at MappingEnd 8 8 ∷ at (bare Null) 8 8 ∷ at MappingEnd 8 8 ∷ at DocumentEnd 8 8
-    ∷ at StreamEnd 8 8 ∷ [])
+    (at BareDocument 0 2 ∷ at (anchored BlockMapping) 4 4 ∷ inner 1 (bare BlockMapping) 6 6
+    ∷ inner 3 (bare Null) 8 8 ∷ at (bare Null) 8 8 ∷ at MappingEnd 8 8 ∷ at (bare Null) 8 8
+    ∷ at MappingEnd 8 8 ∷ at DocumentEnd 8 8 ∷ at StreamEnd 8 8 ∷ [])
     -- "!t \n? ? "
     ∷ reads (tag 0 0 ∷ question 4 0 ∷ question 6 2 ∷ the_end 8 4 ∷ [])
-    (at BareDocument 0 2 ∷ at (tagged BlockMapping) 4 4 ∷ inner 1 (bare BlockMapping) 6 6 ∷ inner 3 (bare Null) 8 8
-    ∷ at (bare Null) 8 8 ∷ at MappingEnd 8 8 ∷ at (bare Null) 8 8 ∷ at MappingEnd 8 8 ∷ at DocumentEnd 8 8
-    ∷ at StreamEnd 8 8 ∷ [])
+    (at BareDocument 0 2 ∷ at (tagged BlockMapping) 4 4 ∷ inner 1 (bare BlockMapping) 6 6
+    ∷ inner 3 (bare Null) 8 8 ∷ at (bare Null) 8 8 ∷ at MappingEnd 8 8 ∷ at (bare Null) 8 8
+    ∷ at MappingEnd 8 8 ∷ at DocumentEnd 8 8 ∷ at StreamEnd 8 8 ∷ [])
     -- "!t &x \n? "
     ∷ reads (tag 0 0 ∷ anchor 3 3 ∷ question 7 0 ∷ the_end 9 2 ∷ [])
     (at BareDocument 0 2 ∷ at (full BlockMapping) 7 7 ∷ inner 1 (bare Null) 9 9 ∷ at (bare Null) 9 9
@@ -275,8 +279,8 @@ sequences =
     ∷ at DocumentEnd 5 5 ∷ at StreamEnd 5 5 ∷ [])
     -- "- a"
     ∷ reads (dash 0 2 0 ∷ text 2 3 2 ∷ the_end 3 3 ∷ [])
-    (at BareDocument 0 0 ∷ at (bare BlockSequence) 0 0 ∷ at (bare Text) 2 3 ∷ at SequenceEnd 3 3 ∷ at DocumentEnd 3 3
-    ∷ at StreamEnd 3 3 ∷ [])
+    (at BareDocument 0 0 ∷ at (bare BlockSequence) 0 0 ∷ at (bare Text) 2 3 ∷ at SequenceEnd 3 3
+    ∷ at DocumentEnd 3 3 ∷ at StreamEnd 3 3 ∷ [])
     -- "- - "
     ∷ reads (dash 0 2 0 ∷ dash 2 4 2 ∷ the_end 4 4 ∷ [])
     (at BareDocument 0 0 ∷ at (bare BlockSequence) 0 0 ∷ at (bare BlockSequence) 2 2 ∷ at (bare Null) 4 4
@@ -291,8 +295,8 @@ sequences =
     ∷ at (bare Null) 2 2 ∷ at MappingEnd 4 4 ∷ at SequenceEnd 4 4 ∷ at DocumentEnd 4 4 ∷ at StreamEnd 4 4 ∷ [])
     -- "- !t &x "
     ∷ reads (dash 0 2 0 ∷ tag 2 2 ∷ anchor 5 5 ∷ the_end 8 8 ∷ [])
-    (at BareDocument 0 0 ∷ at (bare BlockSequence) 0 0 ∷ at (full Empty) 7 7 ∷ at SequenceEnd 8 8 ∷ at DocumentEnd 8 8
-    ∷ at StreamEnd 8 8 ∷ [])
+    (at BareDocument 0 0 ∷ at (bare BlockSequence) 0 0 ∷ at (full Empty) 7 7 ∷ at SequenceEnd 8 8
+    ∷ at DocumentEnd 8 8 ∷ at StreamEnd 8 8 ∷ [])
     -- "- &x a"
     ∷ reads (dash 0 2 0 ∷ anchor 2 2 ∷ text 5 6 5 ∷ the_end 6 6 ∷ [])
     (at BareDocument 0 0 ∷ at (bare BlockSequence) 0 0 ∷ at (anchored Text) 5 6 ∷ at SequenceEnd 6 6
@@ -308,18 +312,18 @@ sequences =
     ∷ at StreamEnd 11 11 ∷ [])
     -- "- &x a: !t "
     ∷ reads (dash 0 2 0 ∷ key (anchor 2 2) ∷ text 5 6 5 ∷ colon_of 0 6 6 ∷ tag 8 8 ∷ the_end 11 11 ∷ [])
-    (at BareDocument 0 0 ∷ at (bare BlockSequence) 0 0 ∷ at (bare BlockMapping) 2 2 ∷ inner 3 (anchored Text) 5 6
-    ∷ at (tagged Empty) 10 10 ∷ at MappingEnd 11 11 ∷ at SequenceEnd 11 11 ∷ at DocumentEnd 11 11
-    ∷ at StreamEnd 11 11 ∷ [])
+    (at BareDocument 0 0 ∷ at (bare BlockSequence) 0 0 ∷ at (bare BlockMapping) 2 2
+    ∷ inner 3 (anchored Text) 5 6 ∷ at (tagged Empty) 10 10 ∷ at MappingEnd 11 11 ∷ at SequenceEnd 11 11
+    ∷ at DocumentEnd 11 11 ∷ at StreamEnd 11 11 ∷ [])
     -- "- !t &x a"
     ∷ reads (dash 0 2 0 ∷ tag 2 2 ∷ anchor 5 5 ∷ text 8 9 8 ∷ the_end 9 9 ∷ [])
-    (at BareDocument 0 0 ∷ at (bare BlockSequence) 0 0 ∷ at (full Text) 8 9 ∷ at SequenceEnd 9 9 ∷ at DocumentEnd 9 9
-    ∷ at StreamEnd 9 9 ∷ [])
+    (at BareDocument 0 0 ∷ at (bare BlockSequence) 0 0 ∷ at (full Text) 8 9 ∷ at SequenceEnd 9 9
+    ∷ at DocumentEnd 9 9 ∷ at StreamEnd 9 9 ∷ [])
     -- "- a: ...\n- "
     ∷ reads (dash 0 2 0 ∷ key (text 2 3 2) ∷ colon_of 0 3 3 ∷ text 5 8 5 ∷ dash 9 11 0 ∷ the_end 11 2 ∷ [])
     (at BareDocument 0 0 ∷ at (bare BlockSequence) 0 0 ∷ at (bare BlockMapping) 2 2 ∷ inner 3 (bare Text) 2 3
-    ∷ at (bare Text) 5 8 ∷ at MappingEnd 9 9 ∷ at (bare Null) 11 11 ∷ at SequenceEnd 11 11 ∷ at DocumentEnd 11 11
-    ∷ at StreamEnd 11 11 ∷ [])
+    ∷ at (bare Text) 5 8 ∷ at MappingEnd 9 9 ∷ at (bare Null) 11 11 ∷ at SequenceEnd 11 11
+    ∷ at DocumentEnd 11 11 ∷ at StreamEnd 11 11 ∷ [])
     ∷ []
 
 abbrev pub asked_keys : List Row
@@ -342,9 +346,9 @@ asked_keys =
     ∷ at SequenceEnd 4 4 ∷ at (bare Null) 4 4 ∷ at MappingEnd 4 4 ∷ at DocumentEnd 4 4 ∷ at StreamEnd 4 4 ∷ [])
     -- "? ? "
     ∷ reads (question 0 0 ∷ question 2 2 ∷ the_end 4 4 ∷ [])
-    (at BareDocument 0 0 ∷ at (bare BlockMapping) 0 0 ∷ inner 1 (bare BlockMapping) 2 2 ∷ inner 3 (bare Null) 4 4
-    ∷ at (bare Null) 4 4 ∷ at MappingEnd 4 4 ∷ at (bare Null) 4 4 ∷ at MappingEnd 4 4 ∷ at DocumentEnd 4 4
-    ∷ at StreamEnd 4 4 ∷ [])
+    (at BareDocument 0 0 ∷ at (bare BlockMapping) 0 0 ∷ inner 1 (bare BlockMapping) 2 2
+    ∷ inner 3 (bare Null) 4 4 ∷ at (bare Null) 4 4 ∷ at MappingEnd 4 4 ∷ at (bare Null) 4 4
+    ∷ at MappingEnd 4 4 ∷ at DocumentEnd 4 4 ∷ at StreamEnd 4 4 ∷ [])
     -- "? : "
     ∷ reads (question 0 0 ∷ colon 2 2 ∷ the_end 4 4 ∷ [])
     (at BareDocument 0 0 ∷ at (bare BlockMapping) 0 0 ∷ inner 1 (bare BlockMapping) 2 2 ∷ at (bare Null) 2 2
@@ -352,9 +356,9 @@ asked_keys =
     ∷ at StreamEnd 4 4 ∷ [])
     -- "? !t : &x "
     ∷ reads (question 0 0 ∷ key (tag 2 2) ∷ colon_of 0 5 5 ∷ anchor 7 7 ∷ the_end 10 10 ∷ [])
-    (at BareDocument 0 0 ∷ at (bare BlockMapping) 0 0 ∷ inner 1 (bare BlockMapping) 2 2 ∷ inner 3 (tagged Empty) 4 4
-    ∷ at (anchored Null) 9 9 ∷ at MappingEnd 10 10 ∷ at (bare Null) 10 10 ∷ at MappingEnd 10 10
-    ∷ at DocumentEnd 10 10 ∷ at StreamEnd 10 10 ∷ [])
+    (at BareDocument 0 0 ∷ at (bare BlockMapping) 0 0 ∷ inner 1 (bare BlockMapping) 2 2
+    ∷ inner 3 (tagged Empty) 4 4 ∷ at (anchored Null) 9 9 ∷ at MappingEnd 10 10 ∷ at (bare Null) 10 10
+    ∷ at MappingEnd 10 10 ∷ at DocumentEnd 10 10 ∷ at StreamEnd 10 10 ∷ [])
     -- "? \n: !t "
     ∷ reads (question 0 0 ∷ colon 3 0 ∷ tag 5 2 ∷ the_end 8 5 ∷ [])
     (at BareDocument 0 0 ∷ at (bare BlockMapping) 0 0 ∷ inner 1 (bare Null) 3 3 ∷ at (tagged Empty) 7 7
@@ -365,8 +369,9 @@ asked_keys =
     ∷ at SequenceEnd 6 6 ∷ at (bare Null) 6 6 ∷ at MappingEnd 6 6 ∷ at DocumentEnd 6 6 ∷ at StreamEnd 6 6 ∷ [])
     -- "? &x \n- "
     ∷ reads (question 0 0 ∷ anchor 2 2 ∷ dash 6 8 0 ∷ the_end 8 2 ∷ [])
-    (at BareDocument 0 0 ∷ at (bare BlockMapping) 0 0 ∷ inner 1 (anchored BlockSequence) 8 8 ∷ at (bare Null) 8 8
-    ∷ at SequenceEnd 8 8 ∷ at (bare Null) 8 8 ∷ at MappingEnd 8 8 ∷ at DocumentEnd 8 8 ∷ at StreamEnd 8 8 ∷ [])
+    (at BareDocument 0 0 ∷ at (bare BlockMapping) 0 0 ∷ inner 1 (anchored BlockSequence) 8 8
+    ∷ at (bare Null) 8 8 ∷ at SequenceEnd 8 8 ∷ at (bare Null) 8 8 ∷ at MappingEnd 8 8 ∷ at DocumentEnd 8 8
+    ∷ at StreamEnd 8 8 ∷ [])
     -- "? !t \n- "
     ∷ reads (question 0 0 ∷ tag 2 2 ∷ dash 6 8 0 ∷ the_end 8 2 ∷ [])
     (at BareDocument 0 0 ∷ at (bare BlockMapping) 0 0 ∷ inner 1 (tagged BlockSequence) 8 8 ∷ at (bare Null) 8 8
@@ -378,9 +383,9 @@ asked_keys =
     ∷ at DocumentEnd 10 10 ∷ at StreamEnd 10 10 ∷ [])
     -- "? &x !t a: "
     ∷ reads (question 0 0 ∷ key (anchor 2 2) ∷ tag 5 5 ∷ text 8 9 8 ∷ colon_of 0 9 9 ∷ the_end 11 11 ∷ [])
-    (at BareDocument 0 0 ∷ at (bare BlockMapping) 0 0 ∷ inner 1 (bare BlockMapping) 2 2 ∷ inner 3 (full Text) 8 9
-    ∷ at (bare Null) 9 9 ∷ at MappingEnd 11 11 ∷ at (bare Null) 11 11 ∷ at MappingEnd 11 11 ∷ at DocumentEnd 11 11
-    ∷ at StreamEnd 11 11 ∷ [])
+    (at BareDocument 0 0 ∷ at (bare BlockMapping) 0 0 ∷ inner 1 (bare BlockMapping) 2 2
+    ∷ inner 3 (full Text) 8 9 ∷ at (bare Null) 9 9 ∷ at MappingEnd 11 11 ∷ at (bare Null) 11 11
+    ∷ at MappingEnd 11 11 ∷ at DocumentEnd 11 11 ∷ at StreamEnd 11 11 ∷ [])
     ∷ []
 
 abbrev pub empty_keys : List Row
@@ -391,12 +396,12 @@ empty_keys =
     ∷ at MappingEnd 5 5 ∷ at DocumentEnd 5 5 ∷ at StreamEnd 5 5 ∷ [])
     -- ": !t "
     ∷ reads (colon 0 0 ∷ tag 2 2 ∷ the_end 5 5 ∷ [])
-    (at BareDocument 0 0 ∷ at (bare BlockMapping) 0 0 ∷ at (bare Null) 0 0 ∷ at (tagged Empty) 4 4 ∷ at MappingEnd 5 5
-    ∷ at DocumentEnd 5 5 ∷ at StreamEnd 5 5 ∷ [])
+    (at BareDocument 0 0 ∷ at (bare BlockMapping) 0 0 ∷ at (bare Null) 0 0 ∷ at (tagged Empty) 4 4
+    ∷ at MappingEnd 5 5 ∷ at DocumentEnd 5 5 ∷ at StreamEnd 5 5 ∷ [])
     -- ": a"
     ∷ reads (colon 0 0 ∷ text 2 3 2 ∷ the_end 3 3 ∷ [])
-    (at BareDocument 0 0 ∷ at (bare BlockMapping) 0 0 ∷ at (bare Null) 0 0 ∷ at (bare Text) 2 3 ∷ at MappingEnd 3 3
-    ∷ at DocumentEnd 3 3 ∷ at StreamEnd 3 3 ∷ [])
+    (at BareDocument 0 0 ∷ at (bare BlockMapping) 0 0 ∷ at (bare Null) 0 0 ∷ at (bare Text) 2 3
+    ∷ at MappingEnd 3 3 ∷ at DocumentEnd 3 3 ∷ at StreamEnd 3 3 ∷ [])
     -- ": - "
     ∷ reads (colon 0 0 ∷ dash 2 4 2 ∷ the_end 4 4 ∷ [])
     (at BareDocument 0 0 ∷ at (bare BlockMapping) 0 0 ∷ at (bare Null) 0 0 ∷ at (bare BlockSequence) 2 2
@@ -404,8 +409,8 @@ empty_keys =
     -- ": ? "
     ∷ reads (colon 0 0 ∷ question 2 2 ∷ the_end 4 4 ∷ [])
     (at BareDocument 0 0 ∷ at (bare BlockMapping) 0 0 ∷ at (bare Null) 0 0 ∷ at (bare BlockMapping) 2 2
-    ∷ inner 3 (bare Null) 4 4 ∷ at (bare Null) 4 4 ∷ at MappingEnd 4 4 ∷ at MappingEnd 4 4 ∷ at DocumentEnd 4 4
-    ∷ at StreamEnd 4 4 ∷ [])
+    ∷ inner 3 (bare Null) 4 4 ∷ at (bare Null) 4 4 ∷ at MappingEnd 4 4 ∷ at MappingEnd 4 4
+    ∷ at DocumentEnd 4 4 ∷ at StreamEnd 4 4 ∷ [])
     -- ": : "
     ∷ reads (colon 0 0 ∷ colon 2 2 ∷ the_end 4 4 ∷ [])
     (at BareDocument 0 0 ∷ at (bare BlockMapping) 0 0 ∷ at (bare Null) 0 0 ∷ at (bare BlockMapping) 2 2
@@ -417,12 +422,14 @@ empty_keys =
     ∷ at (bare Null) 4 4 ∷ at SequenceEnd 5 5 ∷ at MappingEnd 5 5 ∷ at DocumentEnd 5 5 ∷ at StreamEnd 5 5 ∷ [])
     -- ": \n: &x "
     ∷ reads (colon 0 0 ∷ colon 3 0 ∷ anchor 5 2 ∷ the_end 8 5 ∷ [])
-    (at BareDocument 0 0 ∷ at (bare BlockMapping) 0 0 ∷ at (bare Null) 0 0 ∷ at (bare Null) 0 0 ∷ at (bare Null) 3 3
-    ∷ at (anchored Null) 7 7 ∷ at MappingEnd 8 8 ∷ at DocumentEnd 8 8 ∷ at StreamEnd 8 8 ∷ [])
+    (at BareDocument 0 0 ∷ at (bare BlockMapping) 0 0 ∷ at (bare Null) 0 0 ∷ at (bare Null) 0 0
+    ∷ at (bare Null) 3 3 ∷ at (anchored Null) 7 7 ∷ at MappingEnd 8 8 ∷ at DocumentEnd 8 8 ∷ at StreamEnd 8 8
+    ∷ [])
     -- ": \n- !t "
     ∷ reads (colon 0 0 ∷ dash 3 5 0 ∷ tag 5 2 ∷ the_end 8 5 ∷ [])
     (at BareDocument 0 0 ∷ at (bare BlockMapping) 0 0 ∷ at (bare Null) 0 0 ∷ at (bare BlockSequence) 5 5
-    ∷ at (tagged Empty) 7 7 ∷ at SequenceEnd 8 8 ∷ at MappingEnd 8 8 ∷ at DocumentEnd 8 8 ∷ at StreamEnd 8 8 ∷ [])
+    ∷ at (tagged Empty) 7 7 ∷ at SequenceEnd 8 8 ∷ at MappingEnd 8 8 ∷ at DocumentEnd 8 8 ∷ at StreamEnd 8 8
+    ∷ [])
     -- ": ...\n? !t "
     ∷ reads (colon 0 0 ∷ text 2 5 2 ∷ question 6 0 ∷ tag 8 2 ∷ the_end 11 5 ∷ [])
     (at BareDocument 0 0 ∷ at (bare BlockMapping) 0 0 ∷ at (bare Null) 0 0 ∷ at (bare Text) 2 5
@@ -435,12 +442,13 @@ empty_keys =
     ∷ at DocumentEnd 10 10 ∷ at StreamEnd 10 10 ∷ [])
     -- ": !t &x a"
     ∷ reads (colon 0 0 ∷ tag 2 2 ∷ anchor 5 5 ∷ text 8 9 8 ∷ the_end 9 9 ∷ [])
-    (at BareDocument 0 0 ∷ at (bare BlockMapping) 0 0 ∷ at (bare Null) 0 0 ∷ at (full Text) 8 9 ∷ at MappingEnd 9 9
-    ∷ at DocumentEnd 9 9 ∷ at StreamEnd 9 9 ∷ [])
+    (at BareDocument 0 0 ∷ at (bare BlockMapping) 0 0 ∷ at (bare Null) 0 0 ∷ at (full Text) 8 9
+    ∷ at MappingEnd 9 9 ∷ at DocumentEnd 9 9 ∷ at StreamEnd 9 9 ∷ [])
     -- ": \n? a"
     ∷ reads (colon 0 0 ∷ question 3 0 ∷ text 5 6 2 ∷ the_end 6 3 ∷ [])
     (at BareDocument 0 0 ∷ at (bare BlockMapping) 0 0 ∷ at (bare Null) 0 0 ∷ at (bare Null) 0 0
-    ∷ inner 1 (bare Text) 5 6 ∷ at (bare Null) 6 6 ∷ at MappingEnd 6 6 ∷ at DocumentEnd 6 6 ∷ at StreamEnd 6 6 ∷ [])
+    ∷ inner 1 (bare Text) 5 6 ∷ at (bare Null) 6 6 ∷ at MappingEnd 6 6 ∷ at DocumentEnd 6 6 ∷ at StreamEnd 6 6
+    ∷ [])
     -- ": &x \n- "
     ∷ reads (colon 0 0 ∷ anchor 2 2 ∷ dash 6 8 0 ∷ the_end 8 2 ∷ [])
     (at BareDocument 0 0 ∷ at (bare BlockMapping) 0 0 ∷ at (bare Null) 0 0 ∷ at (anchored BlockSequence) 8 8
@@ -452,8 +460,8 @@ empty_keys =
     -- ": - \n? "
     ∷ reads (colon 0 0 ∷ dash 2 4 2 ∷ question 5 0 ∷ the_end 7 2 ∷ [])
     (at BareDocument 0 0 ∷ at (bare BlockMapping) 0 0 ∷ at (bare Null) 0 0 ∷ at (bare BlockSequence) 2 2
-    ∷ at (bare Null) 4 4 ∷ at SequenceEnd 5 5 ∷ inner 1 (bare Null) 7 7 ∷ at (bare Null) 7 7 ∷ at MappingEnd 7 7
-    ∷ at DocumentEnd 7 7 ∷ at StreamEnd 7 7 ∷ [])
+    ∷ at (bare Null) 4 4 ∷ at SequenceEnd 5 5 ∷ inner 1 (bare Null) 7 7 ∷ at (bare Null) 7 7
+    ∷ at MappingEnd 7 7 ∷ at DocumentEnd 7 7 ∷ at StreamEnd 7 7 ∷ [])
     -- ": &x !t : "
     ∷ reads (colon 0 0 ∷ key (anchor 2 2) ∷ tag 5 5 ∷ colon_of 0 8 8 ∷ the_end 10 10 ∷ [])
     (at BareDocument 0 0 ∷ at (bare BlockMapping) 0 0 ∷ at (bare Null) 0 0 ∷ at (bare BlockMapping) 2 2
@@ -461,13 +469,13 @@ empty_keys =
     ∷ at DocumentEnd 10 10 ∷ at StreamEnd 10 10 ∷ [])
     -- ": &x !t \n"
     ∷ reads (colon 0 0 ∷ anchor 2 2 ∷ tag 5 5 ∷ the_end 9 0 ∷ [])
-    (at BareDocument 0 0 ∷ at (bare BlockMapping) 0 0 ∷ at (bare Null) 0 0 ∷ at (full Empty) 7 7 ∷ at MappingEnd 9 9
-    ∷ at DocumentEnd 9 9 ∷ at StreamEnd 9 9 ∷ [])
+    (at BareDocument 0 0 ∷ at (bare BlockMapping) 0 0 ∷ at (bare Null) 0 0 ∷ at (full Empty) 7 7
+    ∷ at MappingEnd 9 9 ∷ at DocumentEnd 9 9 ∷ at StreamEnd 9 9 ∷ [])
     -- " : ? \n"
     ∷ reads (colon 1 1 ∷ question 3 3 ∷ the_end 6 0 ∷ [])
     (at BareDocument 1 1 ∷ at (bare BlockMapping) 1 1 ∷ at (bare Null) 1 1 ∷ at (bare BlockMapping) 3 3
-    ∷ inner 4 (bare Null) 6 6 ∷ at (bare Null) 6 6 ∷ at MappingEnd 6 6 ∷ at MappingEnd 6 6 ∷ at DocumentEnd 6 6
-    ∷ at StreamEnd 6 6 ∷ [])
+    ∷ inner 4 (bare Null) 6 6 ∷ at (bare Null) 6 6 ∷ at MappingEnd 6 6 ∷ at MappingEnd 6 6
+    ∷ at DocumentEnd 6 6 ∷ at StreamEnd 6 6 ∷ [])
     -- ": ...\n&x a: "
     ∷ reads (colon 0 0 ∷ text 2 5 2 ∷ key (anchor 6 0) ∷ text 9 10 3 ∷ colon_of 0 10 4 ∷ the_end 12 6 ∷ [])
     (at BareDocument 0 0 ∷ at (bare BlockMapping) 0 0 ∷ at (bare Null) 0 0 ∷ at (bare Text) 2 5

@@ -226,8 +226,8 @@ no_entry_of_a_mapping =
     -- ": - \n, "
     ∷ refuses (colon 0 0 ∷ dash 2 4 2 ∷ comma 5 0 ∷ the_end 7 2 ∷ []) ExpectedBlockMappingKey 2
     -- "- []a: "
-    ∷ refuses (dash 0 2 0 ∷ key (opener Square 2 2) ∷ closer Square 3 3 ∷ text 4 5 4 ∷ colon_of 0 5 5 ∷ the_end 7 7 ∷ [])
-    ExpectedBlockMappingKey 3
+    ∷ refuses (dash 0 2 0 ∷ key (opener Square 2 2) ∷ closer Square 3 3 ∷ text 4 5 4 ∷ colon_of 0 5 5 ∷ the_end 7 7
+    ∷ []) ExpectedBlockMappingKey 3
     ∷ []
 
 abbrev pub no_node_in_flow : List Row
@@ -244,8 +244,8 @@ no_node_in_flow =
     ∷ refuses (opener Square 0 0 ∷ colon 1 1 ∷ question 3 3 ∷ closer Square 5 5 ∷ the_end 6 6 ∷ [])
     UnexpectedEofImplicitFlowMapping 2
     -- "[a: ? ]"
-    ∷ refuses (opener Square 0 0 ∷ key (text 1 2 1) ∷ colon_of 0 2 2 ∷ question 4 4 ∷ closer Square 6 6 ∷ the_end 7 7 ∷ [])
-    UnexpectedEofImplicitFlowMapping 3
+    ∷ refuses (opener Square 0 0 ∷ key (text 1 2 1) ∷ colon_of 0 2 2 ∷ question 4 4 ∷ closer Square 6 6 ∷ the_end 7 7
+    ∷ []) UnexpectedEofImplicitFlowMapping 3
     -- "[? : ]"
     ∷ refuses (opener Square 0 0 ∷ question 1 1 ∷ colon 3 3 ∷ closer Square 5 5 ∷ the_end 6 6 ∷ [])
     UnexpectedEofImplicitFlowMapping 2
