@@ -1,307 +1,321 @@
 -- Lists of lexemes with flow collections, and their events. Above each stands a text that has these lexemes.
 use Rattle.std.specs.Prelude.{List, [], ◌∷◌}
 use Rattle.granit_lexemes.specs.Lexeme.{Square, Curly}
-use Rattle.granit_grammar_rows.specs.Row.{Row, reads, anchor, tag, text, dash, question, colon, colon_of, comma, opener, closer, the_end, key, at, inner, bare, anchored, tagged, full, StreamEnd, BareDocument, DocumentEnd, SequenceEnd, MappingEnd, Text, Null, Empty, BlockSequence, FlowSequence, BlockMapping, FlowMapping}
+use Rattle.granit_grammar_rows.specs.Row.{Row, is_read, anchor_at, tag_from, text_at, dash_at, question_at, colon_at, colon_of, comma_at, opener_at, closer_at, end_at, begins, on, inner, only, and_anchor, and_tag, and_both, StreamEnd, BareDocument, DocumentEnd, SequenceEnd, MappingEnd, Text, Null, Empty, BlockSequence, FlowSequence, BlockMapping, FlowMapping}
 
 abbrev pub square_brackets : List Row
 square_brackets =
     -- "[]"
-    reads (opener Square 0 0 ∷ closer Square 1 1 ∷ the_end 2 2 ∷ [])
-    (at BareDocument 0 1 ∷ at (bare FlowSequence) 0 1 ∷ at SequenceEnd 1 2 ∷ at DocumentEnd 2 2
-    ∷ at StreamEnd 2 2 ∷ [])
+    is_read (opener_at Square 0 0 ∷ closer_at Square 1 1 ∷ end_at 2 2 ∷ [])
+    (on BareDocument 0 1 ∷ on (only FlowSequence) 0 1 ∷ on SequenceEnd 1 2 ∷ on DocumentEnd 2 2
+    ∷ on StreamEnd 2 2 ∷ [])
     -- "[\n]"
-    ∷ reads (opener Square 0 0 ∷ closer Square 2 0 ∷ the_end 3 1 ∷ [])
-    (at BareDocument 0 1 ∷ at (bare FlowSequence) 0 1 ∷ at SequenceEnd 2 3 ∷ at DocumentEnd 3 3
-    ∷ at StreamEnd 3 3 ∷ [])
+    ∷ is_read (opener_at Square 0 0 ∷ closer_at Square 2 0 ∷ end_at 3 1 ∷ [])
+    (on BareDocument 0 1 ∷ on (only FlowSequence) 0 1 ∷ on SequenceEnd 2 3 ∷ on DocumentEnd 3 3
+    ∷ on StreamEnd 3 3 ∷ [])
     -- "? []"
-    ∷ reads (question 0 0 ∷ opener Square 2 2 ∷ closer Square 3 3 ∷ the_end 4 4 ∷ [])
-    (at BareDocument 0 0 ∷ at (bare BlockMapping) 0 0 ∷ inner 1 (bare FlowSequence) 2 3 ∷ at SequenceEnd 3 4
-    ∷ at (bare Null) 4 4 ∷ at MappingEnd 4 4 ∷ at DocumentEnd 4 4 ∷ at StreamEnd 4 4 ∷ [])
+    ∷ is_read (question_at 0 0 ∷ opener_at Square 2 2 ∷ closer_at Square 3 3 ∷ end_at 4 4 ∷ [])
+    (on BareDocument 0 0 ∷ on (only BlockMapping) 0 0 ∷ inner 1 (only FlowSequence) 2 3 ∷ on SequenceEnd 3 4
+    ∷ on (only Null) 4 4 ∷ on MappingEnd 4 4 ∷ on DocumentEnd 4 4 ∷ on StreamEnd 4 4 ∷ [])
     -- "[&x ]: "
-    ∷ reads (key (opener Square 0 0) ∷ anchor 1 1 ∷ closer Square 4 4 ∷ colon_of 0 5 5 ∷ the_end 7 7 ∷ [])
-    (at BareDocument 0 0 ∷ at (bare BlockMapping) 0 0 ∷ inner 1 (bare FlowSequence) 0 1 ∷ at (anchored Null) 3 3
-    ∷ at SequenceEnd 4 5 ∷ at (bare Null) 5 5 ∷ at MappingEnd 7 7 ∷ at DocumentEnd 7 7 ∷ at StreamEnd 7 7 ∷ [])
+    ∷ is_read (begins (opener_at Square 0 0) ∷ anchor_at 1 1 ∷ closer_at Square 4 4 ∷ colon_of 0 5 5 ∷ end_at 7 7 ∷ [])
+    (on BareDocument 0 0 ∷ on (only BlockMapping) 0 0 ∷ inner 1 (only FlowSequence) 0 1
+    ∷ on (and_anchor Null) 3 3 ∷ on SequenceEnd 4 5 ∷ on (only Null) 5 5 ∷ on MappingEnd 7 7
+    ∷ on DocumentEnd 7 7 ∷ on StreamEnd 7 7 ∷ [])
     -- "[!t ]: "
-    ∷ reads (key (opener Square 0 0) ∷ tag 1 1 ∷ closer Square 4 4 ∷ colon_of 0 5 5 ∷ the_end 7 7 ∷ [])
-    (at BareDocument 0 0 ∷ at (bare BlockMapping) 0 0 ∷ inner 1 (bare FlowSequence) 0 1 ∷ at (tagged Empty) 3 3
-    ∷ at SequenceEnd 4 5 ∷ at (bare Null) 5 5 ∷ at MappingEnd 7 7 ∷ at DocumentEnd 7 7 ∷ at StreamEnd 7 7 ∷ [])
+    ∷ is_read (begins (opener_at Square 0 0) ∷ tag_from 1 1 ∷ closer_at Square 4 4 ∷ colon_of 0 5 5 ∷ end_at 7 7 ∷ [])
+    (on BareDocument 0 0 ∷ on (only BlockMapping) 0 0 ∷ inner 1 (only FlowSequence) 0 1 ∷ on (and_tag Empty) 3 3
+    ∷ on SequenceEnd 4 5 ∷ on (only Null) 5 5 ∷ on MappingEnd 7 7 ∷ on DocumentEnd 7 7 ∷ on StreamEnd 7 7 ∷ [])
     -- "[a]: "
-    ∷ reads (key (opener Square 0 0) ∷ text 1 2 1 ∷ closer Square 2 2 ∷ colon_of 0 3 3 ∷ the_end 5 5 ∷ [])
-    (at BareDocument 0 0 ∷ at (bare BlockMapping) 0 0 ∷ inner 1 (bare FlowSequence) 0 1 ∷ at (bare Text) 1 2
-    ∷ at SequenceEnd 2 3 ∷ at (bare Null) 3 3 ∷ at MappingEnd 5 5 ∷ at DocumentEnd 5 5 ∷ at StreamEnd 5 5 ∷ [])
+    ∷ is_read (begins (opener_at Square 0 0) ∷ text_at 1 2 1 ∷ closer_at Square 2 2 ∷ colon_of 0 3 3 ∷ end_at 5 5 ∷ [])
+    (on BareDocument 0 0 ∷ on (only BlockMapping) 0 0 ∷ inner 1 (only FlowSequence) 0 1 ∷ on (only Text) 1 2
+    ∷ on SequenceEnd 2 3 ∷ on (only Null) 3 3 ∷ on MappingEnd 5 5 ∷ on DocumentEnd 5 5 ∷ on StreamEnd 5 5 ∷ [])
     -- "[? ]: "
-    ∷ reads (key (opener Square 0 0) ∷ question 1 1 ∷ closer Square 3 3 ∷ colon_of 0 4 4 ∷ the_end 6 6 ∷ [])
-    (at BareDocument 0 0 ∷ at (bare BlockMapping) 0 0 ∷ inner 1 (bare FlowSequence) 0 1
-    ∷ at (bare FlowMapping) 1 2 ∷ at (bare Null) 3 3 ∷ at (bare Null) 3 3 ∷ at MappingEnd 3 3
-    ∷ at SequenceEnd 3 4 ∷ at (bare Null) 4 4 ∷ at MappingEnd 6 6 ∷ at DocumentEnd 6 6 ∷ at StreamEnd 6 6 ∷ [])
-    -- "[: ]: "
-    ∷ reads (key (opener Square 0 0) ∷ colon 1 1 ∷ closer Square 3 3 ∷ colon_of 0 4 4 ∷ the_end 6 6 ∷ [])
-    (at BareDocument 0 0 ∷ at (bare BlockMapping) 0 0 ∷ inner 1 (bare FlowSequence) 0 1
-    ∷ at (bare FlowMapping) 1 1 ∷ at (bare Null) 1 1 ∷ at (bare Null) 1 1 ∷ at MappingEnd 3 3
-    ∷ at SequenceEnd 3 4 ∷ at (bare Null) 4 4 ∷ at MappingEnd 6 6 ∷ at DocumentEnd 6 6 ∷ at StreamEnd 6 6 ∷ [])
-    -- "&x []: "
-    ∷ reads (key (anchor 0 0) ∷ opener Square 3 3 ∷ closer Square 4 4 ∷ colon_of 0 5 5 ∷ the_end 7 7 ∷ [])
-    (at BareDocument 0 0 ∷ at (bare BlockMapping) 0 0 ∷ inner 1 (anchored FlowSequence) 3 4 ∷ at SequenceEnd 4 5
-    ∷ at (bare Null) 5 5 ∷ at MappingEnd 7 7 ∷ at DocumentEnd 7 7 ∷ at StreamEnd 7 7 ∷ [])
-    -- "!t []: "
-    ∷ reads (key (tag 0 0) ∷ opener Square 3 3 ∷ closer Square 4 4 ∷ colon_of 0 5 5 ∷ the_end 7 7 ∷ [])
-    (at BareDocument 0 0 ∷ at (bare BlockMapping) 0 0 ∷ inner 1 (tagged FlowSequence) 3 4 ∷ at SequenceEnd 4 5
-    ∷ at (bare Null) 5 5 ∷ at MappingEnd 7 7 ∷ at DocumentEnd 7 7 ∷ at StreamEnd 7 7 ∷ [])
-    -- "? []: "
-    ∷ reads (question 0 0 ∷ key (opener Square 2 2) ∷ closer Square 3 3 ∷ colon_of 0 4 4 ∷ the_end 6 6 ∷ [])
-    (at BareDocument 0 0 ∷ at (bare BlockMapping) 0 0 ∷ inner 1 (bare BlockMapping) 2 2
-    ∷ inner 3 (bare FlowSequence) 2 3 ∷ at SequenceEnd 3 4 ∷ at (bare Null) 4 4 ∷ at MappingEnd 6 6
-    ∷ at (bare Null) 6 6 ∷ at MappingEnd 6 6 ∷ at DocumentEnd 6 6 ∷ at StreamEnd 6 6 ∷ [])
-    -- ": []: "
-    ∷ reads (colon 0 0 ∷ key (opener Square 2 2) ∷ closer Square 3 3 ∷ colon_of 0 4 4 ∷ the_end 6 6 ∷ [])
-    (at BareDocument 0 0 ∷ at (bare BlockMapping) 0 0 ∷ at (bare Null) 0 0 ∷ at (bare BlockMapping) 2 2
-    ∷ inner 3 (bare FlowSequence) 2 3 ∷ at SequenceEnd 3 4 ∷ at (bare Null) 4 4 ∷ at MappingEnd 6 6
-    ∷ at MappingEnd 6 6 ∷ at DocumentEnd 6 6 ∷ at StreamEnd 6 6 ∷ [])
-    -- "[a: ]: "
-    ∷ reads (key (opener Square 0 0) ∷ key (text 1 2 1) ∷ colon_of 0 2 2 ∷ closer Square 4 4 ∷ colon_of 0 5 5
-    ∷ the_end 7 7 ∷ [])
-    (at BareDocument 0 0 ∷ at (bare BlockMapping) 0 0 ∷ inner 1 (bare FlowSequence) 0 1
-    ∷ at (bare FlowMapping) 1 1 ∷ at (bare Text) 1 2 ∷ at (bare Null) 2 2 ∷ at MappingEnd 4 4
-    ∷ at SequenceEnd 4 5 ∷ at (bare Null) 5 5 ∷ at MappingEnd 7 7 ∷ at DocumentEnd 7 7 ∷ at StreamEnd 7 7 ∷ [])
-    -- "[...\n]\n"
-    ∷ reads (opener Square 0 0 ∷ text 1 4 1 ∷ closer Square 5 0 ∷ the_end 7 0 ∷ [])
-    (at BareDocument 0 1 ∷ at (bare FlowSequence) 0 1 ∷ at (bare Text) 1 4 ∷ at SequenceEnd 5 6
-    ∷ at DocumentEnd 6 6 ∷ at StreamEnd 7 7 ∷ [])
-    -- "[!t &x ]"
-    ∷ reads (opener Square 0 0 ∷ tag 1 1 ∷ anchor 4 4 ∷ closer Square 7 7 ∷ the_end 8 8 ∷ [])
-    (at BareDocument 0 1 ∷ at (bare FlowSequence) 0 1 ∷ at (full Empty) 6 6 ∷ at SequenceEnd 7 8
-    ∷ at DocumentEnd 8 8 ∷ at StreamEnd 8 8 ∷ [])
-    -- "[? &x ]"
-    ∷ reads (opener Square 0 0 ∷ question 1 1 ∷ anchor 3 3 ∷ closer Square 6 6 ∷ the_end 7 7 ∷ [])
-    (at BareDocument 0 1 ∷ at (bare FlowSequence) 0 1 ∷ at (bare FlowMapping) 1 2 ∷ at (anchored Null) 5 5
-    ∷ at (bare Null) 6 6 ∷ at MappingEnd 6 6 ∷ at SequenceEnd 6 7 ∷ at DocumentEnd 7 7 ∷ at StreamEnd 7 7 ∷ [])
-    -- "[: &x ]"
-    ∷ reads (opener Square 0 0 ∷ colon 1 1 ∷ anchor 3 3 ∷ closer Square 6 6 ∷ the_end 7 7 ∷ [])
-    (at BareDocument 0 1 ∷ at (bare FlowSequence) 0 1 ∷ at (bare FlowMapping) 1 1 ∷ at (bare Null) 1 1
-    ∷ at (anchored Null) 5 5 ∷ at MappingEnd 6 6 ∷ at SequenceEnd 6 7 ∷ at DocumentEnd 7 7 ∷ at StreamEnd 7 7
+    ∷ is_read (begins (opener_at Square 0 0) ∷ question_at 1 1 ∷ closer_at Square 3 3 ∷ colon_of 0 4 4 ∷ end_at 6 6
     ∷ [])
+    (on BareDocument 0 0 ∷ on (only BlockMapping) 0 0 ∷ inner 1 (only FlowSequence) 0 1
+    ∷ on (only FlowMapping) 1 2 ∷ on (only Null) 3 3 ∷ on (only Null) 3 3 ∷ on MappingEnd 3 3
+    ∷ on SequenceEnd 3 4 ∷ on (only Null) 4 4 ∷ on MappingEnd 6 6 ∷ on DocumentEnd 6 6 ∷ on StreamEnd 6 6 ∷ [])
+    -- "[: ]: "
+    ∷ is_read (begins (opener_at Square 0 0) ∷ colon_at 1 1 ∷ closer_at Square 3 3 ∷ colon_of 0 4 4 ∷ end_at 6 6 ∷ [])
+    (on BareDocument 0 0 ∷ on (only BlockMapping) 0 0 ∷ inner 1 (only FlowSequence) 0 1
+    ∷ on (only FlowMapping) 1 1 ∷ on (only Null) 1 1 ∷ on (only Null) 1 1 ∷ on MappingEnd 3 3
+    ∷ on SequenceEnd 3 4 ∷ on (only Null) 4 4 ∷ on MappingEnd 6 6 ∷ on DocumentEnd 6 6 ∷ on StreamEnd 6 6 ∷ [])
+    -- "&x []: "
+    ∷ is_read (begins (anchor_at 0 0) ∷ opener_at Square 3 3 ∷ closer_at Square 4 4 ∷ colon_of 0 5 5 ∷ end_at 7 7 ∷ [])
+    (on BareDocument 0 0 ∷ on (only BlockMapping) 0 0 ∷ inner 1 (and_anchor FlowSequence) 3 4
+    ∷ on SequenceEnd 4 5 ∷ on (only Null) 5 5 ∷ on MappingEnd 7 7 ∷ on DocumentEnd 7 7 ∷ on StreamEnd 7 7 ∷ [])
+    -- "!t []: "
+    ∷ is_read (begins (tag_from 0 0) ∷ opener_at Square 3 3 ∷ closer_at Square 4 4 ∷ colon_of 0 5 5 ∷ end_at 7 7 ∷ [])
+    (on BareDocument 0 0 ∷ on (only BlockMapping) 0 0 ∷ inner 1 (and_tag FlowSequence) 3 4 ∷ on SequenceEnd 4 5
+    ∷ on (only Null) 5 5 ∷ on MappingEnd 7 7 ∷ on DocumentEnd 7 7 ∷ on StreamEnd 7 7 ∷ [])
+    -- "? []: "
+    ∷ is_read (question_at 0 0 ∷ begins (opener_at Square 2 2) ∷ closer_at Square 3 3 ∷ colon_of 0 4 4 ∷ end_at 6 6
+    ∷ [])
+    (on BareDocument 0 0 ∷ on (only BlockMapping) 0 0 ∷ inner 1 (only BlockMapping) 2 2
+    ∷ inner 3 (only FlowSequence) 2 3 ∷ on SequenceEnd 3 4 ∷ on (only Null) 4 4 ∷ on MappingEnd 6 6
+    ∷ on (only Null) 6 6 ∷ on MappingEnd 6 6 ∷ on DocumentEnd 6 6 ∷ on StreamEnd 6 6 ∷ [])
+    -- ": []: "
+    ∷ is_read (colon_at 0 0 ∷ begins (opener_at Square 2 2) ∷ closer_at Square 3 3 ∷ colon_of 0 4 4 ∷ end_at 6 6 ∷ [])
+    (on BareDocument 0 0 ∷ on (only BlockMapping) 0 0 ∷ on (only Null) 0 0 ∷ on (only BlockMapping) 2 2
+    ∷ inner 3 (only FlowSequence) 2 3 ∷ on SequenceEnd 3 4 ∷ on (only Null) 4 4 ∷ on MappingEnd 6 6
+    ∷ on MappingEnd 6 6 ∷ on DocumentEnd 6 6 ∷ on StreamEnd 6 6 ∷ [])
+    -- "[a: ]: "
+    ∷ is_read (begins (opener_at Square 0 0) ∷ begins (text_at 1 2 1) ∷ colon_of 0 2 2 ∷ closer_at Square 4 4
+    ∷ colon_of 0 5 5 ∷ end_at 7 7 ∷ [])
+    (on BareDocument 0 0 ∷ on (only BlockMapping) 0 0 ∷ inner 1 (only FlowSequence) 0 1
+    ∷ on (only FlowMapping) 1 1 ∷ on (only Text) 1 2 ∷ on (only Null) 2 2 ∷ on MappingEnd 4 4
+    ∷ on SequenceEnd 4 5 ∷ on (only Null) 5 5 ∷ on MappingEnd 7 7 ∷ on DocumentEnd 7 7 ∷ on StreamEnd 7 7 ∷ [])
+    -- "[...\n]\n"
+    ∷ is_read (opener_at Square 0 0 ∷ text_at 1 4 1 ∷ closer_at Square 5 0 ∷ end_at 7 0 ∷ [])
+    (on BareDocument 0 1 ∷ on (only FlowSequence) 0 1 ∷ on (only Text) 1 4 ∷ on SequenceEnd 5 6
+    ∷ on DocumentEnd 6 6 ∷ on StreamEnd 7 7 ∷ [])
+    -- "[!t &x ]"
+    ∷ is_read (opener_at Square 0 0 ∷ tag_from 1 1 ∷ anchor_at 4 4 ∷ closer_at Square 7 7 ∷ end_at 8 8 ∷ [])
+    (on BareDocument 0 1 ∷ on (only FlowSequence) 0 1 ∷ on (and_both Empty) 6 6 ∷ on SequenceEnd 7 8
+    ∷ on DocumentEnd 8 8 ∷ on StreamEnd 8 8 ∷ [])
+    -- "[? &x ]"
+    ∷ is_read (opener_at Square 0 0 ∷ question_at 1 1 ∷ anchor_at 3 3 ∷ closer_at Square 6 6 ∷ end_at 7 7 ∷ [])
+    (on BareDocument 0 1 ∷ on (only FlowSequence) 0 1 ∷ on (only FlowMapping) 1 2 ∷ on (and_anchor Null) 5 5
+    ∷ on (only Null) 6 6 ∷ on MappingEnd 6 6 ∷ on SequenceEnd 6 7 ∷ on DocumentEnd 7 7 ∷ on StreamEnd 7 7 ∷ [])
+    -- "[: &x ]"
+    ∷ is_read (opener_at Square 0 0 ∷ colon_at 1 1 ∷ anchor_at 3 3 ∷ closer_at Square 6 6 ∷ end_at 7 7 ∷ [])
+    (on BareDocument 0 1 ∷ on (only FlowSequence) 0 1 ∷ on (only FlowMapping) 1 1 ∷ on (only Null) 1 1
+    ∷ on (and_anchor Null) 5 5 ∷ on MappingEnd 6 6 ∷ on SequenceEnd 6 7 ∷ on DocumentEnd 7 7
+    ∷ on StreamEnd 7 7 ∷ [])
     -- "!t [&x ]"
-    ∷ reads (tag 0 0 ∷ opener Square 3 3 ∷ anchor 4 4 ∷ closer Square 7 7 ∷ the_end 8 8 ∷ [])
-    (at BareDocument 0 2 ∷ at (tagged FlowSequence) 3 4 ∷ at (anchored Null) 6 6 ∷ at SequenceEnd 7 8
-    ∷ at DocumentEnd 8 8 ∷ at StreamEnd 8 8 ∷ [])
+    ∷ is_read (tag_from 0 0 ∷ opener_at Square 3 3 ∷ anchor_at 4 4 ∷ closer_at Square 7 7 ∷ end_at 8 8 ∷ [])
+    (on BareDocument 0 2 ∷ on (and_tag FlowSequence) 3 4 ∷ on (and_anchor Null) 6 6 ∷ on SequenceEnd 7 8
+    ∷ on DocumentEnd 8 8 ∷ on StreamEnd 8 8 ∷ [])
     -- "[? !t ]"
-    ∷ reads (opener Square 0 0 ∷ question 1 1 ∷ tag 3 3 ∷ closer Square 6 6 ∷ the_end 7 7 ∷ [])
-    (at BareDocument 0 1 ∷ at (bare FlowSequence) 0 1 ∷ at (bare FlowMapping) 1 2 ∷ at (tagged Empty) 5 5
-    ∷ at (bare Null) 6 6 ∷ at MappingEnd 6 6 ∷ at SequenceEnd 6 7 ∷ at DocumentEnd 7 7 ∷ at StreamEnd 7 7 ∷ [])
+    ∷ is_read (opener_at Square 0 0 ∷ question_at 1 1 ∷ tag_from 3 3 ∷ closer_at Square 6 6 ∷ end_at 7 7 ∷ [])
+    (on BareDocument 0 1 ∷ on (only FlowSequence) 0 1 ∷ on (only FlowMapping) 1 2 ∷ on (and_tag Empty) 5 5
+    ∷ on (only Null) 6 6 ∷ on MappingEnd 6 6 ∷ on SequenceEnd 6 7 ∷ on DocumentEnd 7 7 ∷ on StreamEnd 7 7 ∷ [])
     -- "[: !t ]"
-    ∷ reads (opener Square 0 0 ∷ colon 1 1 ∷ tag 3 3 ∷ closer Square 6 6 ∷ the_end 7 7 ∷ [])
-    (at BareDocument 0 1 ∷ at (bare FlowSequence) 0 1 ∷ at (bare FlowMapping) 1 1 ∷ at (bare Null) 1 1
-    ∷ at (tagged Empty) 5 5 ∷ at MappingEnd 6 6 ∷ at SequenceEnd 6 7 ∷ at DocumentEnd 7 7 ∷ at StreamEnd 7 7
+    ∷ is_read (opener_at Square 0 0 ∷ colon_at 1 1 ∷ tag_from 3 3 ∷ closer_at Square 6 6 ∷ end_at 7 7 ∷ [])
+    (on BareDocument 0 1 ∷ on (only FlowSequence) 0 1 ∷ on (only FlowMapping) 1 1 ∷ on (only Null) 1 1
+    ∷ on (and_tag Empty) 5 5 ∷ on MappingEnd 6 6 ∷ on SequenceEnd 6 7 ∷ on DocumentEnd 7 7 ∷ on StreamEnd 7 7
     ∷ [])
     -- "- [!t ]"
-    ∷ reads (dash 0 2 0 ∷ opener Square 2 2 ∷ tag 3 3 ∷ closer Square 6 6 ∷ the_end 7 7 ∷ [])
-    (at BareDocument 0 0 ∷ at (bare BlockSequence) 0 0 ∷ at (bare FlowSequence) 2 3 ∷ at (tagged Empty) 5 5
-    ∷ at SequenceEnd 6 7 ∷ at SequenceEnd 7 7 ∷ at DocumentEnd 7 7 ∷ at StreamEnd 7 7 ∷ [])
+    ∷ is_read (dash_at 0 2 0 ∷ opener_at Square 2 2 ∷ tag_from 3 3 ∷ closer_at Square 6 6 ∷ end_at 7 7 ∷ [])
+    (on BareDocument 0 0 ∷ on (only BlockSequence) 0 0 ∷ on (only FlowSequence) 2 3 ∷ on (and_tag Empty) 5 5
+    ∷ on SequenceEnd 6 7 ∷ on SequenceEnd 7 7 ∷ on DocumentEnd 7 7 ∷ on StreamEnd 7 7 ∷ [])
     -- "[a: !t ]"
-    ∷ reads (opener Square 0 0 ∷ key (text 1 2 1) ∷ colon_of 0 2 2 ∷ tag 4 4 ∷ closer Square 7 7 ∷ the_end 8 8 ∷ [])
-    (at BareDocument 0 1 ∷ at (bare FlowSequence) 0 1 ∷ at (bare FlowMapping) 1 1 ∷ at (bare Text) 1 2
-    ∷ at (tagged Empty) 6 6 ∷ at MappingEnd 7 7 ∷ at SequenceEnd 7 8 ∷ at DocumentEnd 8 8 ∷ at StreamEnd 8 8
+    ∷ is_read (opener_at Square 0 0 ∷ begins (text_at 1 2 1) ∷ colon_of 0 2 2 ∷ tag_from 4 4 ∷ closer_at Square 7 7
+    ∷ end_at 8 8 ∷ [])
+    (on BareDocument 0 1 ∷ on (only FlowSequence) 0 1 ∷ on (only FlowMapping) 1 1 ∷ on (only Text) 1 2
+    ∷ on (and_tag Empty) 6 6 ∷ on MappingEnd 7 7 ∷ on SequenceEnd 7 8 ∷ on DocumentEnd 8 8 ∷ on StreamEnd 8 8
     ∷ [])
     -- "[&x a]"
-    ∷ reads (opener Square 0 0 ∷ anchor 1 1 ∷ text 4 5 4 ∷ closer Square 5 5 ∷ the_end 6 6 ∷ [])
-    (at BareDocument 0 1 ∷ at (bare FlowSequence) 0 1 ∷ at (anchored Text) 4 5 ∷ at SequenceEnd 5 6
-    ∷ at DocumentEnd 6 6 ∷ at StreamEnd 6 6 ∷ [])
+    ∷ is_read (opener_at Square 0 0 ∷ anchor_at 1 1 ∷ text_at 4 5 4 ∷ closer_at Square 5 5 ∷ end_at 6 6 ∷ [])
+    (on BareDocument 0 1 ∷ on (only FlowSequence) 0 1 ∷ on (and_anchor Text) 4 5 ∷ on SequenceEnd 5 6
+    ∷ on DocumentEnd 6 6 ∷ on StreamEnd 6 6 ∷ [])
     -- "[!t a]"
-    ∷ reads (opener Square 0 0 ∷ tag 1 1 ∷ text 4 5 4 ∷ closer Square 5 5 ∷ the_end 6 6 ∷ [])
-    (at BareDocument 0 1 ∷ at (bare FlowSequence) 0 1 ∷ at (tagged Text) 4 5 ∷ at SequenceEnd 5 6
-    ∷ at DocumentEnd 6 6 ∷ at StreamEnd 6 6 ∷ [])
+    ∷ is_read (opener_at Square 0 0 ∷ tag_from 1 1 ∷ text_at 4 5 4 ∷ closer_at Square 5 5 ∷ end_at 6 6 ∷ [])
+    (on BareDocument 0 1 ∷ on (only FlowSequence) 0 1 ∷ on (and_tag Text) 4 5 ∷ on SequenceEnd 5 6
+    ∷ on DocumentEnd 6 6 ∷ on StreamEnd 6 6 ∷ [])
     -- ": [a]"
-    ∷ reads (colon 0 0 ∷ opener Square 2 2 ∷ text 3 4 3 ∷ closer Square 4 4 ∷ the_end 5 5 ∷ [])
-    (at BareDocument 0 0 ∷ at (bare BlockMapping) 0 0 ∷ at (bare Null) 0 0 ∷ at (bare FlowSequence) 2 3
-    ∷ at (bare Text) 3 4 ∷ at SequenceEnd 4 5 ∷ at MappingEnd 5 5 ∷ at DocumentEnd 5 5 ∷ at StreamEnd 5 5 ∷ [])
+    ∷ is_read (colon_at 0 0 ∷ opener_at Square 2 2 ∷ text_at 3 4 3 ∷ closer_at Square 4 4 ∷ end_at 5 5 ∷ [])
+    (on BareDocument 0 0 ∷ on (only BlockMapping) 0 0 ∷ on (only Null) 0 0 ∷ on (only FlowSequence) 2 3
+    ∷ on (only Text) 3 4 ∷ on SequenceEnd 4 5 ∷ on MappingEnd 5 5 ∷ on DocumentEnd 5 5 ∷ on StreamEnd 5 5 ∷ [])
     -- "[a: a]"
-    ∷ reads (opener Square 0 0 ∷ key (text 1 2 1) ∷ colon_of 0 2 2 ∷ text 4 5 4 ∷ closer Square 5 5 ∷ the_end 6 6 ∷ [])
-    (at BareDocument 0 1 ∷ at (bare FlowSequence) 0 1 ∷ at (bare FlowMapping) 1 1 ∷ at (bare Text) 1 2
-    ∷ at (bare Text) 4 5 ∷ at MappingEnd 5 5 ∷ at SequenceEnd 5 6 ∷ at DocumentEnd 6 6 ∷ at StreamEnd 6 6 ∷ [])
+    ∷ is_read (opener_at Square 0 0 ∷ begins (text_at 1 2 1) ∷ colon_of 0 2 2 ∷ text_at 4 5 4 ∷ closer_at Square 5 5
+    ∷ end_at 6 6 ∷ [])
+    (on BareDocument 0 1 ∷ on (only FlowSequence) 0 1 ∷ on (only FlowMapping) 1 1 ∷ on (only Text) 1 2
+    ∷ on (only Text) 4 5 ∷ on MappingEnd 5 5 ∷ on SequenceEnd 5 6 ∷ on DocumentEnd 6 6 ∷ on StreamEnd 6 6 ∷ [])
     -- "[&x : ]"
-    ∷ reads (opener Square 0 0 ∷ key (anchor 1 1) ∷ colon_of 0 4 4 ∷ closer Square 6 6 ∷ the_end 7 7 ∷ [])
-    (at BareDocument 0 1 ∷ at (bare FlowSequence) 0 1 ∷ at (bare FlowMapping) 1 1 ∷ at (anchored Null) 3 3
-    ∷ at (bare Null) 4 4 ∷ at MappingEnd 6 6 ∷ at SequenceEnd 6 7 ∷ at DocumentEnd 7 7 ∷ at StreamEnd 7 7 ∷ [])
+    ∷ is_read (opener_at Square 0 0 ∷ begins (anchor_at 1 1) ∷ colon_of 0 4 4 ∷ closer_at Square 6 6 ∷ end_at 7 7 ∷ [])
+    (on BareDocument 0 1 ∷ on (only FlowSequence) 0 1 ∷ on (only FlowMapping) 1 1 ∷ on (and_anchor Null) 3 3
+    ∷ on (only Null) 4 4 ∷ on MappingEnd 6 6 ∷ on SequenceEnd 6 7 ∷ on DocumentEnd 7 7 ∷ on StreamEnd 7 7 ∷ [])
     -- "&x [: ]"
-    ∷ reads (anchor 0 0 ∷ opener Square 3 3 ∷ colon 4 4 ∷ closer Square 6 6 ∷ the_end 7 7 ∷ [])
-    (at BareDocument 0 2 ∷ at (anchored FlowSequence) 3 4 ∷ at (bare FlowMapping) 4 4 ∷ at (bare Null) 4 4
-    ∷ at (bare Null) 4 4 ∷ at MappingEnd 6 6 ∷ at SequenceEnd 6 7 ∷ at DocumentEnd 7 7 ∷ at StreamEnd 7 7 ∷ [])
+    ∷ is_read (anchor_at 0 0 ∷ opener_at Square 3 3 ∷ colon_at 4 4 ∷ closer_at Square 6 6 ∷ end_at 7 7 ∷ [])
+    (on BareDocument 0 2 ∷ on (and_anchor FlowSequence) 3 4 ∷ on (only FlowMapping) 4 4 ∷ on (only Null) 4 4
+    ∷ on (only Null) 4 4 ∷ on MappingEnd 6 6 ∷ on SequenceEnd 6 7 ∷ on DocumentEnd 7 7 ∷ on StreamEnd 7 7 ∷ [])
     -- "!t &x []"
-    ∷ reads (tag 0 0 ∷ anchor 3 3 ∷ opener Square 6 6 ∷ closer Square 7 7 ∷ the_end 8 8 ∷ [])
-    (at BareDocument 0 2 ∷ at (full FlowSequence) 6 7 ∷ at SequenceEnd 7 8 ∷ at DocumentEnd 8 8
-    ∷ at StreamEnd 8 8 ∷ [])
+    ∷ is_read (tag_from 0 0 ∷ anchor_at 3 3 ∷ opener_at Square 6 6 ∷ closer_at Square 7 7 ∷ end_at 8 8 ∷ [])
+    (on BareDocument 0 2 ∷ on (and_both FlowSequence) 6 7 ∷ on SequenceEnd 7 8 ∷ on DocumentEnd 8 8
+    ∷ on StreamEnd 8 8 ∷ [])
     -- "? a: []"
-    ∷ reads (question 0 0 ∷ key (text 2 3 2) ∷ colon_of 0 3 3 ∷ opener Square 5 5 ∷ closer Square 6 6 ∷ the_end 7 7
-    ∷ [])
-    (at BareDocument 0 0 ∷ at (bare BlockMapping) 0 0 ∷ inner 1 (bare BlockMapping) 2 2
-    ∷ inner 3 (bare Text) 2 3 ∷ at (bare FlowSequence) 5 6 ∷ at SequenceEnd 6 7 ∷ at MappingEnd 7 7
-    ∷ at (bare Null) 7 7 ∷ at MappingEnd 7 7 ∷ at DocumentEnd 7 7 ∷ at StreamEnd 7 7 ∷ [])
+    ∷ is_read (question_at 0 0 ∷ begins (text_at 2 3 2) ∷ colon_of 0 3 3 ∷ opener_at Square 5 5 ∷ closer_at Square 6 6
+    ∷ end_at 7 7 ∷ [])
+    (on BareDocument 0 0 ∷ on (only BlockMapping) 0 0 ∷ inner 1 (only BlockMapping) 2 2
+    ∷ inner 3 (only Text) 2 3 ∷ on (only FlowSequence) 5 6 ∷ on SequenceEnd 6 7 ∷ on MappingEnd 7 7
+    ∷ on (only Null) 7 7 ∷ on MappingEnd 7 7 ∷ on DocumentEnd 7 7 ∷ on StreamEnd 7 7 ∷ [])
     -- "[[]]"
-    ∷ reads (opener Square 0 0 ∷ opener Square 1 1 ∷ closer Square 2 2 ∷ closer Square 3 3 ∷ the_end 4 4 ∷ [])
-    (at BareDocument 0 1 ∷ at (bare FlowSequence) 0 1 ∷ at (bare FlowSequence) 1 2 ∷ at SequenceEnd 2 3
-    ∷ at SequenceEnd 3 4 ∷ at DocumentEnd 4 4 ∷ at StreamEnd 4 4 ∷ [])
+    ∷ is_read (opener_at Square 0 0 ∷ opener_at Square 1 1 ∷ closer_at Square 2 2 ∷ closer_at Square 3 3 ∷ end_at 4 4
+    ∷ [])
+    (on BareDocument 0 1 ∷ on (only FlowSequence) 0 1 ∷ on (only FlowSequence) 1 2 ∷ on SequenceEnd 2 3
+    ∷ on SequenceEnd 3 4 ∷ on DocumentEnd 4 4 ∷ on StreamEnd 4 4 ∷ [])
     -- "[&x , ]"
-    ∷ reads (opener Square 0 0 ∷ anchor 1 1 ∷ comma 4 4 ∷ closer Square 6 6 ∷ the_end 7 7 ∷ [])
-    (at BareDocument 0 1 ∷ at (bare FlowSequence) 0 1 ∷ at (anchored Null) 3 3 ∷ at SequenceEnd 6 7
-    ∷ at DocumentEnd 7 7 ∷ at StreamEnd 7 7 ∷ [])
+    ∷ is_read (opener_at Square 0 0 ∷ anchor_at 1 1 ∷ comma_at 4 4 ∷ closer_at Square 6 6 ∷ end_at 7 7 ∷ [])
+    (on BareDocument 0 1 ∷ on (only FlowSequence) 0 1 ∷ on (and_anchor Null) 3 3 ∷ on SequenceEnd 6 7
+    ∷ on DocumentEnd 7 7 ∷ on StreamEnd 7 7 ∷ [])
     -- "[!t , ]"
-    ∷ reads (opener Square 0 0 ∷ tag 1 1 ∷ comma 4 4 ∷ closer Square 6 6 ∷ the_end 7 7 ∷ [])
-    (at BareDocument 0 1 ∷ at (bare FlowSequence) 0 1 ∷ at (tagged Empty) 3 3 ∷ at SequenceEnd 6 7
-    ∷ at DocumentEnd 7 7 ∷ at StreamEnd 7 7 ∷ [])
+    ∷ is_read (opener_at Square 0 0 ∷ tag_from 1 1 ∷ comma_at 4 4 ∷ closer_at Square 6 6 ∷ end_at 7 7 ∷ [])
+    (on BareDocument 0 1 ∷ on (only FlowSequence) 0 1 ∷ on (and_tag Empty) 3 3 ∷ on SequenceEnd 6 7
+    ∷ on DocumentEnd 7 7 ∷ on StreamEnd 7 7 ∷ [])
     -- "[a, ]"
-    ∷ reads (opener Square 0 0 ∷ text 1 2 1 ∷ comma 2 2 ∷ closer Square 4 4 ∷ the_end 5 5 ∷ [])
-    (at BareDocument 0 1 ∷ at (bare FlowSequence) 0 1 ∷ at (bare Text) 1 2 ∷ at SequenceEnd 4 5
-    ∷ at DocumentEnd 5 5 ∷ at StreamEnd 5 5 ∷ [])
+    ∷ is_read (opener_at Square 0 0 ∷ text_at 1 2 1 ∷ comma_at 2 2 ∷ closer_at Square 4 4 ∷ end_at 5 5 ∷ [])
+    (on BareDocument 0 1 ∷ on (only FlowSequence) 0 1 ∷ on (only Text) 1 2 ∷ on SequenceEnd 4 5
+    ∷ on DocumentEnd 5 5 ∷ on StreamEnd 5 5 ∷ [])
     -- "[? , ]"
-    ∷ reads (opener Square 0 0 ∷ question 1 1 ∷ comma 3 3 ∷ closer Square 5 5 ∷ the_end 6 6 ∷ [])
-    (at BareDocument 0 1 ∷ at (bare FlowSequence) 0 1 ∷ at (bare FlowMapping) 1 2 ∷ at (bare Null) 3 3
-    ∷ at (bare Null) 3 3 ∷ at MappingEnd 3 3 ∷ at SequenceEnd 5 6 ∷ at DocumentEnd 6 6 ∷ at StreamEnd 6 6 ∷ [])
+    ∷ is_read (opener_at Square 0 0 ∷ question_at 1 1 ∷ comma_at 3 3 ∷ closer_at Square 5 5 ∷ end_at 6 6 ∷ [])
+    (on BareDocument 0 1 ∷ on (only FlowSequence) 0 1 ∷ on (only FlowMapping) 1 2 ∷ on (only Null) 3 3
+    ∷ on (only Null) 3 3 ∷ on MappingEnd 3 3 ∷ on SequenceEnd 5 6 ∷ on DocumentEnd 6 6 ∷ on StreamEnd 6 6 ∷ [])
     -- "[a: , ]"
-    ∷ reads (opener Square 0 0 ∷ key (text 1 2 1) ∷ colon_of 0 2 2 ∷ comma 4 4 ∷ closer Square 6 6 ∷ the_end 7 7 ∷ [])
-    (at BareDocument 0 1 ∷ at (bare FlowSequence) 0 1 ∷ at (bare FlowMapping) 1 1 ∷ at (bare Text) 1 2
-    ∷ at (bare Null) 2 2 ∷ at MappingEnd 4 4 ∷ at SequenceEnd 6 7 ∷ at DocumentEnd 7 7 ∷ at StreamEnd 7 7 ∷ [])
+    ∷ is_read (opener_at Square 0 0 ∷ begins (text_at 1 2 1) ∷ colon_of 0 2 2 ∷ comma_at 4 4 ∷ closer_at Square 6 6
+    ∷ end_at 7 7 ∷ [])
+    (on BareDocument 0 1 ∷ on (only FlowSequence) 0 1 ∷ on (only FlowMapping) 1 1 ∷ on (only Text) 1 2
+    ∷ on (only Null) 2 2 ∷ on MappingEnd 4 4 ∷ on SequenceEnd 6 7 ∷ on DocumentEnd 7 7 ∷ on StreamEnd 7 7 ∷ [])
     -- "[!t a: ]"
-    ∷ reads (opener Square 0 0 ∷ key (tag 1 1) ∷ text 4 5 4 ∷ colon_of 0 5 5 ∷ closer Square 7 7 ∷ the_end 8 8 ∷ [])
-    (at BareDocument 0 1 ∷ at (bare FlowSequence) 0 1 ∷ at (bare FlowMapping) 1 1 ∷ at (tagged Text) 4 5
-    ∷ at (bare Null) 5 5 ∷ at MappingEnd 7 7 ∷ at SequenceEnd 7 8 ∷ at DocumentEnd 8 8 ∷ at StreamEnd 8 8 ∷ [])
+    ∷ is_read (opener_at Square 0 0 ∷ begins (tag_from 1 1) ∷ text_at 4 5 4 ∷ colon_of 0 5 5 ∷ closer_at Square 7 7
+    ∷ end_at 8 8 ∷ [])
+    (on BareDocument 0 1 ∷ on (only FlowSequence) 0 1 ∷ on (only FlowMapping) 1 1 ∷ on (and_tag Text) 4 5
+    ∷ on (only Null) 5 5 ∷ on MappingEnd 7 7 ∷ on SequenceEnd 7 8 ∷ on DocumentEnd 8 8 ∷ on StreamEnd 8 8 ∷ [])
     ∷ []
 
 abbrev pub curly_brackets : List Row
 curly_brackets =
     -- "{}"
-    reads (opener Curly 0 0 ∷ closer Curly 1 1 ∷ the_end 2 2 ∷ [])
-    (at BareDocument 0 1 ∷ at (bare FlowMapping) 0 1 ∷ at MappingEnd 1 2 ∷ at DocumentEnd 2 2 ∷ at StreamEnd 2 2
+    is_read (opener_at Curly 0 0 ∷ closer_at Curly 1 1 ∷ end_at 2 2 ∷ [])
+    (on BareDocument 0 1 ∷ on (only FlowMapping) 0 1 ∷ on MappingEnd 1 2 ∷ on DocumentEnd 2 2 ∷ on StreamEnd 2 2
     ∷ [])
     -- "{}: &x "
-    ∷ reads (key (opener Curly 0 0) ∷ closer Curly 1 1 ∷ colon_of 0 2 2 ∷ anchor 4 4 ∷ the_end 7 7 ∷ [])
-    (at BareDocument 0 0 ∷ at (bare BlockMapping) 0 0 ∷ inner 1 (bare FlowMapping) 0 1 ∷ at MappingEnd 1 2
-    ∷ at (anchored Null) 6 6 ∷ at MappingEnd 7 7 ∷ at DocumentEnd 7 7 ∷ at StreamEnd 7 7 ∷ [])
+    ∷ is_read (begins (opener_at Curly 0 0) ∷ closer_at Curly 1 1 ∷ colon_of 0 2 2 ∷ anchor_at 4 4 ∷ end_at 7 7 ∷ [])
+    (on BareDocument 0 0 ∷ on (only BlockMapping) 0 0 ∷ inner 1 (only FlowMapping) 0 1 ∷ on MappingEnd 1 2
+    ∷ on (and_anchor Null) 6 6 ∷ on MappingEnd 7 7 ∷ on DocumentEnd 7 7 ∷ on StreamEnd 7 7 ∷ [])
     -- "{&x }: "
-    ∷ reads (key (opener Curly 0 0) ∷ anchor 1 1 ∷ closer Curly 4 4 ∷ colon_of 0 5 5 ∷ the_end 7 7 ∷ [])
-    (at BareDocument 0 0 ∷ at (bare BlockMapping) 0 0 ∷ inner 1 (bare FlowMapping) 0 1 ∷ at (anchored Null) 3 3
-    ∷ at (bare Null) 4 4 ∷ at MappingEnd 4 5 ∷ at (bare Null) 5 5 ∷ at MappingEnd 7 7 ∷ at DocumentEnd 7 7
-    ∷ at StreamEnd 7 7 ∷ [])
+    ∷ is_read (begins (opener_at Curly 0 0) ∷ anchor_at 1 1 ∷ closer_at Curly 4 4 ∷ colon_of 0 5 5 ∷ end_at 7 7 ∷ [])
+    (on BareDocument 0 0 ∷ on (only BlockMapping) 0 0 ∷ inner 1 (only FlowMapping) 0 1
+    ∷ on (and_anchor Null) 3 3 ∷ on (only Null) 4 4 ∷ on MappingEnd 4 5 ∷ on (only Null) 5 5
+    ∷ on MappingEnd 7 7 ∷ on DocumentEnd 7 7 ∷ on StreamEnd 7 7 ∷ [])
     -- "{!t }: "
-    ∷ reads (key (opener Curly 0 0) ∷ tag 1 1 ∷ closer Curly 4 4 ∷ colon_of 0 5 5 ∷ the_end 7 7 ∷ [])
-    (at BareDocument 0 0 ∷ at (bare BlockMapping) 0 0 ∷ inner 1 (bare FlowMapping) 0 1 ∷ at (tagged Empty) 3 3
-    ∷ at (bare Null) 4 4 ∷ at MappingEnd 4 5 ∷ at (bare Null) 5 5 ∷ at MappingEnd 7 7 ∷ at DocumentEnd 7 7
-    ∷ at StreamEnd 7 7 ∷ [])
+    ∷ is_read (begins (opener_at Curly 0 0) ∷ tag_from 1 1 ∷ closer_at Curly 4 4 ∷ colon_of 0 5 5 ∷ end_at 7 7 ∷ [])
+    (on BareDocument 0 0 ∷ on (only BlockMapping) 0 0 ∷ inner 1 (only FlowMapping) 0 1 ∷ on (and_tag Empty) 3 3
+    ∷ on (only Null) 4 4 ∷ on MappingEnd 4 5 ∷ on (only Null) 5 5 ∷ on MappingEnd 7 7 ∷ on DocumentEnd 7 7
+    ∷ on StreamEnd 7 7 ∷ [])
     -- "{a}: "
-    ∷ reads (key (opener Curly 0 0) ∷ text 1 2 1 ∷ closer Curly 2 2 ∷ colon_of 0 3 3 ∷ the_end 5 5 ∷ [])
-    (at BareDocument 0 0 ∷ at (bare BlockMapping) 0 0 ∷ inner 1 (bare FlowMapping) 0 1 ∷ at (bare Text) 1 2
-    ∷ at (bare Null) 2 2 ∷ at MappingEnd 2 3 ∷ at (bare Null) 3 3 ∷ at MappingEnd 5 5 ∷ at DocumentEnd 5 5
-    ∷ at StreamEnd 5 5 ∷ [])
+    ∷ is_read (begins (opener_at Curly 0 0) ∷ text_at 1 2 1 ∷ closer_at Curly 2 2 ∷ colon_of 0 3 3 ∷ end_at 5 5 ∷ [])
+    (on BareDocument 0 0 ∷ on (only BlockMapping) 0 0 ∷ inner 1 (only FlowMapping) 0 1 ∷ on (only Text) 1 2
+    ∷ on (only Null) 2 2 ∷ on MappingEnd 2 3 ∷ on (only Null) 3 3 ∷ on MappingEnd 5 5 ∷ on DocumentEnd 5 5
+    ∷ on StreamEnd 5 5 ∷ [])
     -- "{? }: "
-    ∷ reads (key (opener Curly 0 0) ∷ question 1 1 ∷ closer Curly 3 3 ∷ colon_of 0 4 4 ∷ the_end 6 6 ∷ [])
-    (at BareDocument 0 0 ∷ at (bare BlockMapping) 0 0 ∷ inner 1 (bare FlowMapping) 0 1 ∷ at (bare Null) 3 3
-    ∷ at (bare Null) 3 3 ∷ at MappingEnd 3 4 ∷ at (bare Null) 4 4 ∷ at MappingEnd 6 6 ∷ at DocumentEnd 6 6
-    ∷ at StreamEnd 6 6 ∷ [])
+    ∷ is_read (begins (opener_at Curly 0 0) ∷ question_at 1 1 ∷ closer_at Curly 3 3 ∷ colon_of 0 4 4 ∷ end_at 6 6 ∷ [])
+    (on BareDocument 0 0 ∷ on (only BlockMapping) 0 0 ∷ inner 1 (only FlowMapping) 0 1 ∷ on (only Null) 3 3
+    ∷ on (only Null) 3 3 ∷ on MappingEnd 3 4 ∷ on (only Null) 4 4 ∷ on MappingEnd 6 6 ∷ on DocumentEnd 6 6
+    ∷ on StreamEnd 6 6 ∷ [])
     -- "{: }: "
-    ∷ reads (key (opener Curly 0 0) ∷ colon 1 1 ∷ closer Curly 3 3 ∷ colon_of 0 4 4 ∷ the_end 6 6 ∷ [])
-    (at BareDocument 0 0 ∷ at (bare BlockMapping) 0 0 ∷ inner 1 (bare FlowMapping) 0 1 ∷ at (bare Null) 1 1
-    ∷ at (bare Null) 1 1 ∷ at MappingEnd 3 4 ∷ at (bare Null) 4 4 ∷ at MappingEnd 6 6 ∷ at DocumentEnd 6 6
-    ∷ at StreamEnd 6 6 ∷ [])
+    ∷ is_read (begins (opener_at Curly 0 0) ∷ colon_at 1 1 ∷ closer_at Curly 3 3 ∷ colon_of 0 4 4 ∷ end_at 6 6 ∷ [])
+    (on BareDocument 0 0 ∷ on (only BlockMapping) 0 0 ∷ inner 1 (only FlowMapping) 0 1 ∷ on (only Null) 1 1
+    ∷ on (only Null) 1 1 ∷ on MappingEnd 3 4 ∷ on (only Null) 4 4 ∷ on MappingEnd 6 6 ∷ on DocumentEnd 6 6
+    ∷ on StreamEnd 6 6 ∷ [])
     -- "&x {}: "
-    ∷ reads (key (anchor 0 0) ∷ opener Curly 3 3 ∷ closer Curly 4 4 ∷ colon_of 0 5 5 ∷ the_end 7 7 ∷ [])
-    (at BareDocument 0 0 ∷ at (bare BlockMapping) 0 0 ∷ inner 1 (anchored FlowMapping) 3 4 ∷ at MappingEnd 4 5
-    ∷ at (bare Null) 5 5 ∷ at MappingEnd 7 7 ∷ at DocumentEnd 7 7 ∷ at StreamEnd 7 7 ∷ [])
+    ∷ is_read (begins (anchor_at 0 0) ∷ opener_at Curly 3 3 ∷ closer_at Curly 4 4 ∷ colon_of 0 5 5 ∷ end_at 7 7 ∷ [])
+    (on BareDocument 0 0 ∷ on (only BlockMapping) 0 0 ∷ inner 1 (and_anchor FlowMapping) 3 4 ∷ on MappingEnd 4 5
+    ∷ on (only Null) 5 5 ∷ on MappingEnd 7 7 ∷ on DocumentEnd 7 7 ∷ on StreamEnd 7 7 ∷ [])
     -- "!t {}: "
-    ∷ reads (key (tag 0 0) ∷ opener Curly 3 3 ∷ closer Curly 4 4 ∷ colon_of 0 5 5 ∷ the_end 7 7 ∷ [])
-    (at BareDocument 0 0 ∷ at (bare BlockMapping) 0 0 ∷ inner 1 (tagged FlowMapping) 3 4 ∷ at MappingEnd 4 5
-    ∷ at (bare Null) 5 5 ∷ at MappingEnd 7 7 ∷ at DocumentEnd 7 7 ∷ at StreamEnd 7 7 ∷ [])
+    ∷ is_read (begins (tag_from 0 0) ∷ opener_at Curly 3 3 ∷ closer_at Curly 4 4 ∷ colon_of 0 5 5 ∷ end_at 7 7 ∷ [])
+    (on BareDocument 0 0 ∷ on (only BlockMapping) 0 0 ∷ inner 1 (and_tag FlowMapping) 3 4 ∷ on MappingEnd 4 5
+    ∷ on (only Null) 5 5 ∷ on MappingEnd 7 7 ∷ on DocumentEnd 7 7 ∷ on StreamEnd 7 7 ∷ [])
     -- "- {}: "
-    ∷ reads (dash 0 2 0 ∷ key (opener Curly 2 2) ∷ closer Curly 3 3 ∷ colon_of 0 4 4 ∷ the_end 6 6 ∷ [])
-    (at BareDocument 0 0 ∷ at (bare BlockSequence) 0 0 ∷ at (bare BlockMapping) 2 2
-    ∷ inner 3 (bare FlowMapping) 2 3 ∷ at MappingEnd 3 4 ∷ at (bare Null) 4 4 ∷ at MappingEnd 6 6
-    ∷ at SequenceEnd 6 6 ∷ at DocumentEnd 6 6 ∷ at StreamEnd 6 6 ∷ [])
+    ∷ is_read (dash_at 0 2 0 ∷ begins (opener_at Curly 2 2) ∷ closer_at Curly 3 3 ∷ colon_of 0 4 4 ∷ end_at 6 6 ∷ [])
+    (on BareDocument 0 0 ∷ on (only BlockSequence) 0 0 ∷ on (only BlockMapping) 2 2
+    ∷ inner 3 (only FlowMapping) 2 3 ∷ on MappingEnd 3 4 ∷ on (only Null) 4 4 ∷ on MappingEnd 6 6
+    ∷ on SequenceEnd 6 6 ∷ on DocumentEnd 6 6 ∷ on StreamEnd 6 6 ∷ [])
     -- "? {}: "
-    ∷ reads (question 0 0 ∷ key (opener Curly 2 2) ∷ closer Curly 3 3 ∷ colon_of 0 4 4 ∷ the_end 6 6 ∷ [])
-    (at BareDocument 0 0 ∷ at (bare BlockMapping) 0 0 ∷ inner 1 (bare BlockMapping) 2 2
-    ∷ inner 3 (bare FlowMapping) 2 3 ∷ at MappingEnd 3 4 ∷ at (bare Null) 4 4 ∷ at MappingEnd 6 6
-    ∷ at (bare Null) 6 6 ∷ at MappingEnd 6 6 ∷ at DocumentEnd 6 6 ∷ at StreamEnd 6 6 ∷ [])
+    ∷ is_read (question_at 0 0 ∷ begins (opener_at Curly 2 2) ∷ closer_at Curly 3 3 ∷ colon_of 0 4 4 ∷ end_at 6 6 ∷ [])
+    (on BareDocument 0 0 ∷ on (only BlockMapping) 0 0 ∷ inner 1 (only BlockMapping) 2 2
+    ∷ inner 3 (only FlowMapping) 2 3 ∷ on MappingEnd 3 4 ∷ on (only Null) 4 4 ∷ on MappingEnd 6 6
+    ∷ on (only Null) 6 6 ∷ on MappingEnd 6 6 ∷ on DocumentEnd 6 6 ∷ on StreamEnd 6 6 ∷ [])
     -- ": {}: "
-    ∷ reads (colon 0 0 ∷ key (opener Curly 2 2) ∷ closer Curly 3 3 ∷ colon_of 0 4 4 ∷ the_end 6 6 ∷ [])
-    (at BareDocument 0 0 ∷ at (bare BlockMapping) 0 0 ∷ at (bare Null) 0 0 ∷ at (bare BlockMapping) 2 2
-    ∷ inner 3 (bare FlowMapping) 2 3 ∷ at MappingEnd 3 4 ∷ at (bare Null) 4 4 ∷ at MappingEnd 6 6
-    ∷ at MappingEnd 6 6 ∷ at DocumentEnd 6 6 ∷ at StreamEnd 6 6 ∷ [])
+    ∷ is_read (colon_at 0 0 ∷ begins (opener_at Curly 2 2) ∷ closer_at Curly 3 3 ∷ colon_of 0 4 4 ∷ end_at 6 6 ∷ [])
+    (on BareDocument 0 0 ∷ on (only BlockMapping) 0 0 ∷ on (only Null) 0 0 ∷ on (only BlockMapping) 2 2
+    ∷ inner 3 (only FlowMapping) 2 3 ∷ on MappingEnd 3 4 ∷ on (only Null) 4 4 ∷ on MappingEnd 6 6
+    ∷ on MappingEnd 6 6 ∷ on DocumentEnd 6 6 ∷ on StreamEnd 6 6 ∷ [])
     -- "{a: }: "
-    ∷ reads (key (opener Curly 0 0) ∷ key (text 1 2 1) ∷ colon_of 0 2 2 ∷ closer Curly 4 4 ∷ colon_of 0 5 5
-    ∷ the_end 7 7 ∷ [])
-    (at BareDocument 0 0 ∷ at (bare BlockMapping) 0 0 ∷ inner 1 (bare FlowMapping) 0 1 ∷ at (bare Text) 1 2
-    ∷ at (bare Null) 2 2 ∷ at MappingEnd 4 5 ∷ at (bare Null) 5 5 ∷ at MappingEnd 7 7 ∷ at DocumentEnd 7 7
-    ∷ at StreamEnd 7 7 ∷ [])
+    ∷ is_read (begins (opener_at Curly 0 0) ∷ begins (text_at 1 2 1) ∷ colon_of 0 2 2 ∷ closer_at Curly 4 4
+    ∷ colon_of 0 5 5 ∷ end_at 7 7 ∷ [])
+    (on BareDocument 0 0 ∷ on (only BlockMapping) 0 0 ∷ inner 1 (only FlowMapping) 0 1 ∷ on (only Text) 1 2
+    ∷ on (only Null) 2 2 ∷ on MappingEnd 4 5 ∷ on (only Null) 5 5 ∷ on MappingEnd 7 7 ∷ on DocumentEnd 7 7
+    ∷ on StreamEnd 7 7 ∷ [])
     -- "{\n}\n"
-    ∷ reads (opener Curly 0 0 ∷ closer Curly 2 0 ∷ the_end 4 0 ∷ [])
-    (at BareDocument 0 1 ∷ at (bare FlowMapping) 0 1 ∷ at MappingEnd 2 3 ∷ at DocumentEnd 3 3 ∷ at StreamEnd 4 4
+    ∷ is_read (opener_at Curly 0 0 ∷ closer_at Curly 2 0 ∷ end_at 4 0 ∷ [])
+    (on BareDocument 0 1 ∷ on (only FlowMapping) 0 1 ∷ on MappingEnd 2 3 ∷ on DocumentEnd 3 3 ∷ on StreamEnd 4 4
     ∷ [])
     -- "? {}\n"
-    ∷ reads (question 0 0 ∷ opener Curly 2 2 ∷ closer Curly 3 3 ∷ the_end 5 0 ∷ [])
-    (at BareDocument 0 0 ∷ at (bare BlockMapping) 0 0 ∷ inner 1 (bare FlowMapping) 2 3 ∷ at MappingEnd 3 4
-    ∷ at (bare Null) 5 5 ∷ at MappingEnd 5 5 ∷ at DocumentEnd 5 5 ∷ at StreamEnd 5 5 ∷ [])
+    ∷ is_read (question_at 0 0 ∷ opener_at Curly 2 2 ∷ closer_at Curly 3 3 ∷ end_at 5 0 ∷ [])
+    (on BareDocument 0 0 ∷ on (only BlockMapping) 0 0 ∷ inner 1 (only FlowMapping) 2 3 ∷ on MappingEnd 3 4
+    ∷ on (only Null) 5 5 ∷ on MappingEnd 5 5 ∷ on DocumentEnd 5 5 ∷ on StreamEnd 5 5 ∷ [])
     -- "[{}]"
-    ∷ reads (opener Square 0 0 ∷ opener Curly 1 1 ∷ closer Curly 2 2 ∷ closer Square 3 3 ∷ the_end 4 4 ∷ [])
-    (at BareDocument 0 1 ∷ at (bare FlowSequence) 0 1 ∷ at (bare FlowMapping) 1 2 ∷ at MappingEnd 2 3
-    ∷ at SequenceEnd 3 4 ∷ at DocumentEnd 4 4 ∷ at StreamEnd 4 4 ∷ [])
-    -- "&x {&x }"
-    ∷ reads (anchor 0 0 ∷ opener Curly 3 3 ∷ anchor 4 4 ∷ closer Curly 7 7 ∷ the_end 8 8 ∷ [])
-    (at BareDocument 0 2 ∷ at (anchored FlowMapping) 3 4 ∷ at (anchored Null) 6 6 ∷ at (bare Null) 7 7
-    ∷ at MappingEnd 7 8 ∷ at DocumentEnd 8 8 ∷ at StreamEnd 8 8 ∷ [])
-    -- "{a: &x }"
-    ∷ reads (opener Curly 0 0 ∷ key (text 1 2 1) ∷ colon_of 0 2 2 ∷ anchor 4 4 ∷ closer Curly 7 7 ∷ the_end 8 8 ∷ [])
-    (at BareDocument 0 1 ∷ at (bare FlowMapping) 0 1 ∷ at (bare Text) 1 2 ∷ at (anchored Null) 6 6
-    ∷ at MappingEnd 7 8 ∷ at DocumentEnd 8 8 ∷ at StreamEnd 8 8 ∷ [])
-    -- "{&x !t }"
-    ∷ reads (opener Curly 0 0 ∷ anchor 1 1 ∷ tag 4 4 ∷ closer Curly 7 7 ∷ the_end 8 8 ∷ [])
-    (at BareDocument 0 1 ∷ at (bare FlowMapping) 0 1 ∷ at (full Empty) 6 6 ∷ at (bare Null) 7 7
-    ∷ at MappingEnd 7 8 ∷ at DocumentEnd 8 8 ∷ at StreamEnd 8 8 ∷ [])
-    -- "!t {!t }"
-    ∷ reads (tag 0 0 ∷ opener Curly 3 3 ∷ tag 4 4 ∷ closer Curly 7 7 ∷ the_end 8 8 ∷ [])
-    (at BareDocument 0 2 ∷ at (tagged FlowMapping) 3 4 ∷ at (tagged Empty) 6 6 ∷ at (bare Null) 7 7
-    ∷ at MappingEnd 7 8 ∷ at DocumentEnd 8 8 ∷ at StreamEnd 8 8 ∷ [])
-    -- "- {a}"
-    ∷ reads (dash 0 2 0 ∷ opener Curly 2 2 ∷ text 3 4 3 ∷ closer Curly 4 4 ∷ the_end 5 5 ∷ [])
-    (at BareDocument 0 0 ∷ at (bare BlockSequence) 0 0 ∷ at (bare FlowMapping) 2 3 ∷ at (bare Text) 3 4
-    ∷ at (bare Null) 4 4 ∷ at MappingEnd 4 5 ∷ at SequenceEnd 5 5 ∷ at DocumentEnd 5 5 ∷ at StreamEnd 5 5 ∷ [])
-    -- ": {? }"
-    ∷ reads (colon 0 0 ∷ opener Curly 2 2 ∷ question 3 3 ∷ closer Curly 5 5 ∷ the_end 6 6 ∷ [])
-    (at BareDocument 0 0 ∷ at (bare BlockMapping) 0 0 ∷ at (bare Null) 0 0 ∷ at (bare FlowMapping) 2 3
-    ∷ at (bare Null) 5 5 ∷ at (bare Null) 5 5 ∷ at MappingEnd 5 6 ∷ at MappingEnd 6 6 ∷ at DocumentEnd 6 6
-    ∷ at StreamEnd 6 6 ∷ [])
-    -- "{!t : }"
-    ∷ reads (opener Curly 0 0 ∷ key (tag 1 1) ∷ colon_of 0 4 4 ∷ closer Curly 6 6 ∷ the_end 7 7 ∷ [])
-    (at BareDocument 0 1 ∷ at (bare FlowMapping) 0 1 ∷ at (tagged Empty) 3 3 ∷ at (bare Null) 4 4
-    ∷ at MappingEnd 6 7 ∷ at DocumentEnd 7 7 ∷ at StreamEnd 7 7 ∷ [])
-    -- "{? : }"
-    ∷ reads (opener Curly 0 0 ∷ question 1 1 ∷ colon 3 3 ∷ closer Curly 5 5 ∷ the_end 6 6 ∷ [])
-    (at BareDocument 0 1 ∷ at (bare FlowMapping) 0 1 ∷ at (bare Null) 3 3 ∷ at (bare Null) 3 3
-    ∷ at MappingEnd 5 6 ∷ at DocumentEnd 6 6 ∷ at StreamEnd 6 6 ∷ [])
-    -- "{[]}"
-    ∷ reads (opener Curly 0 0 ∷ opener Square 1 1 ∷ closer Square 2 2 ∷ closer Curly 3 3 ∷ the_end 4 4 ∷ [])
-    (at BareDocument 0 1 ∷ at (bare FlowMapping) 0 1 ∷ at (bare FlowSequence) 1 2 ∷ at SequenceEnd 2 3
-    ∷ at (bare Null) 3 3 ∷ at MappingEnd 3 4 ∷ at DocumentEnd 4 4 ∷ at StreamEnd 4 4 ∷ [])
-    -- "{: , }"
-    ∷ reads (opener Curly 0 0 ∷ colon 1 1 ∷ comma 3 3 ∷ closer Curly 5 5 ∷ the_end 6 6 ∷ [])
-    (at BareDocument 0 1 ∷ at (bare FlowMapping) 0 1 ∷ at (bare Null) 1 1 ∷ at (bare Null) 1 1
-    ∷ at MappingEnd 5 6 ∷ at DocumentEnd 6 6 ∷ at StreamEnd 6 6 ∷ [])
-    -- "!t &x {}"
-    ∷ reads (tag 0 0 ∷ anchor 3 3 ∷ opener Curly 6 6 ∷ closer Curly 7 7 ∷ the_end 8 8 ∷ [])
-    (at BareDocument 0 2 ∷ at (full FlowMapping) 6 7 ∷ at MappingEnd 7 8 ∷ at DocumentEnd 8 8 ∷ at StreamEnd 8 8
+    ∷ is_read (opener_at Square 0 0 ∷ opener_at Curly 1 1 ∷ closer_at Curly 2 2 ∷ closer_at Square 3 3 ∷ end_at 4 4
     ∷ [])
+    (on BareDocument 0 1 ∷ on (only FlowSequence) 0 1 ∷ on (only FlowMapping) 1 2 ∷ on MappingEnd 2 3
+    ∷ on SequenceEnd 3 4 ∷ on DocumentEnd 4 4 ∷ on StreamEnd 4 4 ∷ [])
+    -- "&x {&x }"
+    ∷ is_read (anchor_at 0 0 ∷ opener_at Curly 3 3 ∷ anchor_at 4 4 ∷ closer_at Curly 7 7 ∷ end_at 8 8 ∷ [])
+    (on BareDocument 0 2 ∷ on (and_anchor FlowMapping) 3 4 ∷ on (and_anchor Null) 6 6 ∷ on (only Null) 7 7
+    ∷ on MappingEnd 7 8 ∷ on DocumentEnd 8 8 ∷ on StreamEnd 8 8 ∷ [])
+    -- "{a: &x }"
+    ∷ is_read (opener_at Curly 0 0 ∷ begins (text_at 1 2 1) ∷ colon_of 0 2 2 ∷ anchor_at 4 4 ∷ closer_at Curly 7 7
+    ∷ end_at 8 8 ∷ [])
+    (on BareDocument 0 1 ∷ on (only FlowMapping) 0 1 ∷ on (only Text) 1 2 ∷ on (and_anchor Null) 6 6
+    ∷ on MappingEnd 7 8 ∷ on DocumentEnd 8 8 ∷ on StreamEnd 8 8 ∷ [])
+    -- "{&x !t }"
+    ∷ is_read (opener_at Curly 0 0 ∷ anchor_at 1 1 ∷ tag_from 4 4 ∷ closer_at Curly 7 7 ∷ end_at 8 8 ∷ [])
+    (on BareDocument 0 1 ∷ on (only FlowMapping) 0 1 ∷ on (and_both Empty) 6 6 ∷ on (only Null) 7 7
+    ∷ on MappingEnd 7 8 ∷ on DocumentEnd 8 8 ∷ on StreamEnd 8 8 ∷ [])
+    -- "!t {!t }"
+    ∷ is_read (tag_from 0 0 ∷ opener_at Curly 3 3 ∷ tag_from 4 4 ∷ closer_at Curly 7 7 ∷ end_at 8 8 ∷ [])
+    (on BareDocument 0 2 ∷ on (and_tag FlowMapping) 3 4 ∷ on (and_tag Empty) 6 6 ∷ on (only Null) 7 7
+    ∷ on MappingEnd 7 8 ∷ on DocumentEnd 8 8 ∷ on StreamEnd 8 8 ∷ [])
+    -- "- {a}"
+    ∷ is_read (dash_at 0 2 0 ∷ opener_at Curly 2 2 ∷ text_at 3 4 3 ∷ closer_at Curly 4 4 ∷ end_at 5 5 ∷ [])
+    (on BareDocument 0 0 ∷ on (only BlockSequence) 0 0 ∷ on (only FlowMapping) 2 3 ∷ on (only Text) 3 4
+    ∷ on (only Null) 4 4 ∷ on MappingEnd 4 5 ∷ on SequenceEnd 5 5 ∷ on DocumentEnd 5 5 ∷ on StreamEnd 5 5 ∷ [])
+    -- ": {? }"
+    ∷ is_read (colon_at 0 0 ∷ opener_at Curly 2 2 ∷ question_at 3 3 ∷ closer_at Curly 5 5 ∷ end_at 6 6 ∷ [])
+    (on BareDocument 0 0 ∷ on (only BlockMapping) 0 0 ∷ on (only Null) 0 0 ∷ on (only FlowMapping) 2 3
+    ∷ on (only Null) 5 5 ∷ on (only Null) 5 5 ∷ on MappingEnd 5 6 ∷ on MappingEnd 6 6 ∷ on DocumentEnd 6 6
+    ∷ on StreamEnd 6 6 ∷ [])
+    -- "{!t : }"
+    ∷ is_read (opener_at Curly 0 0 ∷ begins (tag_from 1 1) ∷ colon_of 0 4 4 ∷ closer_at Curly 6 6 ∷ end_at 7 7 ∷ [])
+    (on BareDocument 0 1 ∷ on (only FlowMapping) 0 1 ∷ on (and_tag Empty) 3 3 ∷ on (only Null) 4 4
+    ∷ on MappingEnd 6 7 ∷ on DocumentEnd 7 7 ∷ on StreamEnd 7 7 ∷ [])
+    -- "{? : }"
+    ∷ is_read (opener_at Curly 0 0 ∷ question_at 1 1 ∷ colon_at 3 3 ∷ closer_at Curly 5 5 ∷ end_at 6 6 ∷ [])
+    (on BareDocument 0 1 ∷ on (only FlowMapping) 0 1 ∷ on (only Null) 3 3 ∷ on (only Null) 3 3
+    ∷ on MappingEnd 5 6 ∷ on DocumentEnd 6 6 ∷ on StreamEnd 6 6 ∷ [])
+    -- "{[]}"
+    ∷ is_read (opener_at Curly 0 0 ∷ opener_at Square 1 1 ∷ closer_at Square 2 2 ∷ closer_at Curly 3 3 ∷ end_at 4 4
+    ∷ [])
+    (on BareDocument 0 1 ∷ on (only FlowMapping) 0 1 ∷ on (only FlowSequence) 1 2 ∷ on SequenceEnd 2 3
+    ∷ on (only Null) 3 3 ∷ on MappingEnd 3 4 ∷ on DocumentEnd 4 4 ∷ on StreamEnd 4 4 ∷ [])
+    -- "{: , }"
+    ∷ is_read (opener_at Curly 0 0 ∷ colon_at 1 1 ∷ comma_at 3 3 ∷ closer_at Curly 5 5 ∷ end_at 6 6 ∷ [])
+    (on BareDocument 0 1 ∷ on (only FlowMapping) 0 1 ∷ on (only Null) 1 1 ∷ on (only Null) 1 1
+    ∷ on MappingEnd 5 6 ∷ on DocumentEnd 6 6 ∷ on StreamEnd 6 6 ∷ [])
+    -- "!t &x {}"
+    ∷ is_read (tag_from 0 0 ∷ anchor_at 3 3 ∷ opener_at Curly 6 6 ∷ closer_at Curly 7 7 ∷ end_at 8 8 ∷ [])
+    (on BareDocument 0 2 ∷ on (and_both FlowMapping) 6 7 ∷ on MappingEnd 7 8 ∷ on DocumentEnd 8 8
+    ∷ on StreamEnd 8 8 ∷ [])
     -- ": a: {}"
-    ∷ reads (colon 0 0 ∷ key (text 2 3 2) ∷ colon_of 0 3 3 ∷ opener Curly 5 5 ∷ closer Curly 6 6 ∷ the_end 7 7 ∷ [])
-    (at BareDocument 0 0 ∷ at (bare BlockMapping) 0 0 ∷ at (bare Null) 0 0 ∷ at (bare BlockMapping) 2 2
-    ∷ inner 3 (bare Text) 2 3 ∷ at (bare FlowMapping) 5 6 ∷ at MappingEnd 6 7 ∷ at MappingEnd 7 7
-    ∷ at MappingEnd 7 7 ∷ at DocumentEnd 7 7 ∷ at StreamEnd 7 7 ∷ [])
+    ∷ is_read (colon_at 0 0 ∷ begins (text_at 2 3 2) ∷ colon_of 0 3 3 ∷ opener_at Curly 5 5 ∷ closer_at Curly 6 6
+    ∷ end_at 7 7 ∷ [])
+    (on BareDocument 0 0 ∷ on (only BlockMapping) 0 0 ∷ on (only Null) 0 0 ∷ on (only BlockMapping) 2 2
+    ∷ inner 3 (only Text) 2 3 ∷ on (only FlowMapping) 5 6 ∷ on MappingEnd 6 7 ∷ on MappingEnd 7 7
+    ∷ on MappingEnd 7 7 ∷ on DocumentEnd 7 7 ∷ on StreamEnd 7 7 ∷ [])
     -- "{{}}"
-    ∷ reads (opener Curly 0 0 ∷ opener Curly 1 1 ∷ closer Curly 2 2 ∷ closer Curly 3 3 ∷ the_end 4 4 ∷ [])
-    (at BareDocument 0 1 ∷ at (bare FlowMapping) 0 1 ∷ at (bare FlowMapping) 1 2 ∷ at MappingEnd 2 3
-    ∷ at (bare Null) 3 3 ∷ at MappingEnd 3 4 ∷ at DocumentEnd 4 4 ∷ at StreamEnd 4 4 ∷ [])
+    ∷ is_read (opener_at Curly 0 0 ∷ opener_at Curly 1 1 ∷ closer_at Curly 2 2 ∷ closer_at Curly 3 3 ∷ end_at 4 4 ∷ [])
+    (on BareDocument 0 1 ∷ on (only FlowMapping) 0 1 ∷ on (only FlowMapping) 1 2 ∷ on MappingEnd 2 3
+    ∷ on (only Null) 3 3 ∷ on MappingEnd 3 4 ∷ on DocumentEnd 4 4 ∷ on StreamEnd 4 4 ∷ [])
     -- "{&x a: }"
-    ∷ reads (opener Curly 0 0 ∷ key (anchor 1 1) ∷ text 4 5 4 ∷ colon_of 0 5 5 ∷ closer Curly 7 7 ∷ the_end 8 8 ∷ [])
-    (at BareDocument 0 1 ∷ at (bare FlowMapping) 0 1 ∷ at (anchored Text) 4 5 ∷ at (bare Null) 5 5
-    ∷ at MappingEnd 7 8 ∷ at DocumentEnd 8 8 ∷ at StreamEnd 8 8 ∷ [])
+    ∷ is_read (opener_at Curly 0 0 ∷ begins (anchor_at 1 1) ∷ text_at 4 5 4 ∷ colon_of 0 5 5 ∷ closer_at Curly 7 7
+    ∷ end_at 8 8 ∷ [])
+    (on BareDocument 0 1 ∷ on (only FlowMapping) 0 1 ∷ on (and_anchor Text) 4 5 ∷ on (only Null) 5 5
+    ∷ on MappingEnd 7 8 ∷ on DocumentEnd 8 8 ∷ on StreamEnd 8 8 ∷ [])
     -- "{? a: }"
-    ∷ reads (opener Curly 0 0 ∷ question 1 1 ∷ text 3 4 3 ∷ colon 4 4 ∷ closer Curly 6 6 ∷ the_end 7 7 ∷ [])
-    (at BareDocument 0 1 ∷ at (bare FlowMapping) 0 1 ∷ at (bare Text) 3 4 ∷ at (bare Null) 4 4
-    ∷ at MappingEnd 6 7 ∷ at DocumentEnd 7 7 ∷ at StreamEnd 7 7 ∷ [])
+    ∷ is_read (opener_at Curly 0 0 ∷ question_at 1 1 ∷ text_at 3 4 3 ∷ colon_at 4 4 ∷ closer_at Curly 6 6 ∷ end_at 7 7
+    ∷ [])
+    (on BareDocument 0 1 ∷ on (only FlowMapping) 0 1 ∷ on (only Text) 3 4 ∷ on (only Null) 4 4
+    ∷ on MappingEnd 6 7 ∷ on DocumentEnd 7 7 ∷ on StreamEnd 7 7 ∷ [])
     ∷ []

@@ -6,7 +6,7 @@ use Rattle.granit_lexemes.specs.Basics.{owned}
 use Rattle.granit_lexemes.specs.Lexeme.{Bracket, Reserved}
 use Rattle.granit_language.specs.Choice.{choose}
 use Rattle.granit_language.specs.GrammarFault.{GrammarFault}
-use Rattle.granit_language.specs.Node.{NodeProperties, NoProperties, One, Two}
+use Rattle.granit_language.specs.Node.{TreeProperties, NoProperties, One, Two}
 use Rattle.granit_language.specs.Scope.{no_scope}
 use Rattle.granit_language.specs.Terminal as grammar
 use Rattle.granit_language.specs.Terminal.{PropertyKind, TerminalKind, Terminal, terminal}
@@ -25,8 +25,8 @@ pub record Sketch : Type 0 where
   pub column : ℕ
   pub begins_key : Bool
 
-abbrev pub sketch : TerminalKind → ℕ → ℕ → ℕ → Sketch
-sketch kind start end column = record {
+abbrev pub sketched : TerminalKind → ℕ → ℕ → ℕ → Sketch
+sketched kind start end column = record {
   kind = kind;
   start = start;
   shown_end = end;
@@ -35,61 +35,61 @@ sketch kind start end column = record {
   begins_key = false;
 }
 
-abbrev pub key : Sketch → Sketch
-key s = record s { begins_key = true }
+abbrev pub begins : Sketch → Sketch
+begins s = record s { begins_key = true }
 
-abbrev pub anchor : ℕ → ℕ → Sketch
-anchor start column = sketch (grammar.Part (grammar.Property (grammar.Anchor (owned [])))) start (start + 2) column
+abbrev pub anchor_at : ℕ → ℕ → Sketch
+anchor_at start column = sketched (grammar.Part (grammar.Property (grammar.Anchor (owned [])))) start (start + 2) column
 
-abbrev pub tag : ℕ → ℕ → Sketch
-tag start column = sketch (grammar.Part (grammar.Property (grammar.Tag [] []))) start (start + 2) column
+abbrev pub tag_from : ℕ → ℕ → Sketch
+tag_from start column = sketched (grammar.Part (grammar.Property (grammar.Tag [] []))) start (start + 2) column
 
-abbrev pub text : ℕ → ℕ → ℕ → Sketch
-text start end column = sketch (grammar.Part (grammar.Scalar Plain (owned (1 ∷ [])))) start end column
+abbrev pub text_at : ℕ → ℕ → ℕ → Sketch
+text_at start end column = sketched (grammar.Part (grammar.Scalar Plain (owned (1 ∷ [])))) start end column
 
 -- with the end of its tail
-abbrev pub dash : ℕ → ℕ → ℕ → Sketch
-dash start end column = record (sketch grammar.Dash start end column) { shown_end = start + 1 }
+abbrev pub dash_at : ℕ → ℕ → ℕ → Sketch
+dash_at start end column = record (sketched grammar.Dash start end column) { shown_end = start + 1 }
 
-abbrev pub question : ℕ → ℕ → Sketch
-question start column = sketch grammar.Question start (start + 1) column
+abbrev pub question_at : ℕ → ℕ → Sketch
+question_at start column = sketched grammar.Question start (start + 1) column
 
-abbrev pub colon : ℕ → ℕ → Sketch
-colon start column = sketch (grammar.Colon None) start (start + 1) column
+abbrev pub colon_at : ℕ → ℕ → Sketch
+colon_at start column = sketched (grammar.Colon None) start (start + 1) column
 
 -- a `:` behind the simple key that begins with a lexeme of that number
 abbrev pub colon_of : ℕ → ℕ → ℕ → Sketch
-colon_of number start column = sketch (grammar.Colon (Some number)) start (start + 1) column
+colon_of number start column = sketched (grammar.Colon (Some number)) start (start + 1) column
 
-abbrev pub comma : ℕ → ℕ → Sketch
-comma start column = sketch grammar.Comma start (start + 1) column
+abbrev pub comma_at : ℕ → ℕ → Sketch
+comma_at start column = sketched grammar.Comma start (start + 1) column
 
-abbrev pub opener : Bracket → ℕ → ℕ → Sketch
-opener bracket start column = sketch (grammar.Part (grammar.Open bracket)) start (start + 1) column
+abbrev pub opener_at : Bracket → ℕ → ℕ → Sketch
+opener_at bracket start column = sketched (grammar.Part (grammar.Open bracket)) start (start + 1) column
 
-abbrev pub closer : Bracket → ℕ → ℕ → Sketch
-closer bracket start column = sketch (grammar.Close bracket) start (start + 1) column
+abbrev pub closer_at : Bracket → ℕ → ℕ → Sketch
+closer_at bracket start column = sketched (grammar.Close bracket) start (start + 1) column
 
-abbrev pub start_mark : ℕ → Sketch
-start_mark start = sketch grammar.DocumentStart start (start + 3) 0
+abbrev pub start_mark_at : ℕ → Sketch
+start_mark_at start = sketched grammar.DocumentStart start (start + 3) 0
 
-abbrev pub end_mark : ℕ → Sketch
-end_mark start = sketch grammar.DocumentEnd start (start + 3) 0
+abbrev pub end_mark_at : ℕ → Sketch
+end_mark_at start = sketched grammar.DocumentEnd start (start + 3) 0
 
-abbrev pub directive : ℕ → Sketch
-directive start = sketch (grammar.Directive (Reserved [] [])) start (start + 2) 0
+abbrev pub directive_from : ℕ → Sketch
+directive_from start = sketched (grammar.Directive (Reserved [] [])) start (start + 2) 0
 
-abbrev pub the_end : ℕ → ℕ → Sketch
-the_end start column = sketch grammar.TheEnd start start column
+abbrev pub end_at : ℕ → ℕ → Sketch
+end_at start column = sketched grammar.TheEnd start start column
 
-abbrev pub mark : ℕ → Mark
-mark index = record { place = record { index = index; line = 1; column = 0 }; byte_offset = Some 0 }
+abbrev pub mark_on : ℕ → Mark
+mark_on index = record { place = record { index = index; line = 1; column = 0 }; byte_offset = Some 0 }
 
 abbrev pub drawn : ℕ → Sketch → Terminal
 drawn number s = terminal s.kind (record {
-  start = mark s.start;
-  shown = record { start = mark s.start; end = mark s.shown_end };
-  end = mark s.end;
+  start = mark_on s.start;
+  shown = record { start = mark_on s.start; end = mark_on s.shown_end };
+  end = mark_on s.end;
   column = s.column;
   in_flow = false;
   begins_line = false;
@@ -116,17 +116,17 @@ pub data EventWord : Type 0 where
   -- with how many anchors and tags
   NodeOf : (anchors tags : ℕ) → NodeWord → EventWord
 
-abbrev pub bare : NodeWord → EventWord
-bare word = NodeOf 0 0 word
+abbrev pub only : NodeWord → EventWord
+only word = NodeOf 0 0 word
 
-abbrev pub anchored : NodeWord → EventWord
-anchored word = NodeOf 1 0 word
+abbrev pub and_anchor : NodeWord → EventWord
+and_anchor word = NodeOf 1 0 word
 
-abbrev pub tagged : NodeWord → EventWord
-tagged word = NodeOf 0 1 word
+abbrev pub and_tag : NodeWord → EventWord
+and_tag word = NodeOf 0 1 word
 
-abbrev pub full : NodeWord → EventWord
-full word = NodeOf 1 1 word
+abbrev pub and_both : NodeWord → EventWord
+and_both word = NodeOf 1 1 word
 
 -- its span, and the indent that it imposes, counted from 1
 pub record EventBrief : Type 0 where
@@ -135,8 +135,8 @@ pub record EventBrief : Type 0 where
   pub end : ℕ
   pub indent : Option ℕ
 
-abbrev pub at : EventWord → ℕ → ℕ → EventBrief
-at word start end = record { word = word; start = start; end = end; indent = None }
+abbrev pub on : EventWord → ℕ → ℕ → EventBrief
+on word start end = record { word = word; start = start; end = end; indent = None }
 
 abbrev pub inner : ℕ → EventWord → ℕ → ℕ → EventBrief
 inner indent word start end = record { word = word; start = start; end = end; indent = Some indent }
@@ -149,10 +149,10 @@ abbrev pub tag_count : PropertyKind → ℕ
 tag_count (grammar.Anchor name) = 0
 tag_count (grammar.Tag handle suffix) = 1
 
-abbrev pub with_properties : NodeProperties → NodeWord → EventWord
-with_properties NoProperties word = bare word
-with_properties (One k i) word = NodeOf (anchor_count k) (tag_count k) word
-with_properties (Two k i m j) word = NodeOf (anchor_count k + anchor_count m) (tag_count k + tag_count m) word
+abbrev pub and_properties : TreeProperties → NodeWord → EventWord
+and_properties NoProperties word = only word
+and_properties (One k i) word = NodeOf (anchor_count k) (tag_count k) word
+and_properties (Two k i m j) word = NodeOf (anchor_count k + anchor_count m) (tag_count k + tag_count m) word
 
 -- by the first character: the rows' scalars, what stands for nothing, and no text
 abbrev pub text_word : List ℕ → NodeWord
@@ -179,9 +179,9 @@ event_word DocumentEnds = DocumentEnd
 event_word (AliasIs name s) = AliasWord
 event_word SequenceEnds = SequenceEnd
 event_word MappingEnds = MappingEnd
-event_word (ScalarIs p style written) = with_properties p (text_word written.characters)
-event_word (SequenceStarts flow p) = with_properties p (sequence_word flow)
-event_word (MappingStarts flow p) = with_properties p (mapping_word flow)
+event_word (ScalarIs p style written) = and_properties p (text_word written.characters)
+event_word (SequenceStarts flow p) = and_properties p (sequence_word flow)
+event_word (MappingStarts flow p) = and_properties p (mapping_word flow)
 
 abbrev pub brief : TreeEvent → EventBrief
 brief e = record {
@@ -217,11 +217,11 @@ pub record Row : Type 0 where
   pub lexemes : List Sketch
   pub tells : Telling
 
-abbrev pub reads : List Sketch → List EventBrief → Row
-reads ss es = record { lexemes = ss; tells = EventsAre es }
+abbrev pub is_read : List Sketch → List EventBrief → Row
+is_read ss es = record { lexemes = ss; tells = EventsAre es }
 
-abbrev pub refuses : List Sketch → GrammarFault → ℕ → Row
-refuses ss k number = record { lexemes = ss; tells = RefusedAs k number }
+abbrev pub is_refused : List Sketch → GrammarFault → ℕ → Row
+is_refused ss k number = record { lexemes = ss; tells = RefusedAs k number }
 
 -- what the lists are answered, and what is told of them
 abbrev pub answers : List Row → List Telling
