@@ -4,7 +4,7 @@ use Rattle.granit_base.specs.Place.{Mark}
 use Rattle.granit_grammar.specs.EventMachine.{FlowSequenceFrame, EventState, Ending, ending, with_event, past_sequence, past_mapping, past_asked, past_curly, past_curly_asked, past_made, past_square_asked, finish_frames, frames_room, frames_indent, close_frames, ended_by}
 use Rattle.granit_grammar.specs.PlaceFrames.{hole_frames, state_at}
 use Rattle.granit_language.specs.Choice.{choose}
-use Rattle.granit_language.specs.Node.{NodeProperties, NoProperties, One, Two, Node, Alone, Sequence, Mapping, Content, Nothing, Just, Entries, Entry, Through, PairLead, Pair, WithColon, AskOnly, SimpleKey, Asked, NoKey, FlowLead, Single, Paired, BareRoot, ExplicitRoot}
+use Rattle.granit_language.specs.Node.{TreeProperties, NoProperties, One, Two, Node, Alone, Sequence, Mapping, Content, Nothing, Just, Entries, Entry, Through, PairLead, Pair, WithColon, AskOnly, SimpleKey, Asked, NoKey, FlowLead, Single, Paired, BareRoot, ExplicitRoot}
 use Rattle.granit_language.specs.OpenEvents.{hole_indent, around_first, around_events, hole_events, open_events}
 use Rattle.granit_language.specs.OpenPlace.{Bare, Explicit, Around, BlockPairs, FlowPairs, Hole, AtRoot, AtEntry, AtItem, AtKey, AtAsk, AtColon, OpenPlace, Fresh, InDirectives, BehindRoot, Ended, Want, PastEntry, PastKey, PastAsk, PastPair, PastItem, holder, room_of, IsHole, IsOpen}
 use Rattle.granit_language.specs.Placed.{pair_front}
@@ -62,7 +62,7 @@ AskEvents x r a q v more =
     AroundEvents r a (terminal Question q) (content_events v x.at.start (indent_of_key (holder a)) more)
 
 entries_agree :
-    (x : Terminal) (on : Content → OpenPlace) (r : Hole) (p : NodeProperties) (loose : Bool) (c : ℕ) (es : Entries) →
+    (x : Terminal) (on : Content → OpenPlace) (r : Hole) (p : TreeProperties) (loose : Bool) (c : ℕ) (es : Entries) →
     Finishes x r on →
     Agree (λ more. hole_events r (first_with p (entries_first es)) (entries_events es p loose (hole_indent r) more))
     x.at.start (past_sequence x loose c (hole_frames r) (finish_frames x x.at.start (hole_frames r)))
@@ -74,7 +74,7 @@ entries_agree x on r p loose c es h =
 
 -- pairs
 block_agrees :
-    (x : Terminal) (on : Content → OpenPlace) (r : Hole) (p : NodeProperties) (c : ℕ) (lead : PairLead) (pair : Pair) →
+    (x : Terminal) (on : Content → OpenPlace) (r : Hole) (p : TreeProperties) (c : ℕ) (lead : PairLead) (pair : Pair) →
     Finishes x r on →
     Agree (PairEvents x r (BlockPairs p c lead) pair) x.at.start
     (past_mapping x c (hole_frames r) (finish_frames x x.at.start (hole_frames r)))
@@ -89,7 +89,7 @@ block_agrees x on r p c lead (AskOnly q v e) h =
     (same _ _ (PastPair r (BlockPairs p c lead) (AskOnly q v e)) tt (λ more. refl))
 
 curly_agrees :
-    (x : Terminal) (on : Content → OpenPlace) (r : Hole) (p : NodeProperties) (o : At) (lead : FlowLead) (pair : Pair) →
+    (x : Terminal) (on : Content → OpenPlace) (r : Hole) (p : TreeProperties) (o : At) (lead : FlowLead) (pair : Pair) →
     Agree (PairEvents x r (FlowPairs p Curly o lead) pair) x.at.start (past_curly (hole_frames r))
     (end_pair x on r (FlowPairs p Curly o lead) pair)
 curly_agrees x on r p o lead pair = same _ _ (PastItem r p Curly o lead (Paired pair)) tt (λ more. refl)
@@ -99,7 +99,7 @@ SquareOver x r = finish_frames x x.at.start (FlowSequenceFrame false ∷ hole_fr
 
 -- the end of a pair that a `?` makes
 asked_agrees :
-    (x : Terminal) (on : Content → OpenPlace) (r : Hole) (p : NodeProperties) (o : At) (lead : FlowLead) (q : At)
+    (x : Terminal) (on : Content → OpenPlace) (r : Hole) (p : TreeProperties) (o : At) (lead : FlowLead) (q : At)
     (v : Content) (m : At) (w : Content) →
     Agree (PairEvents x r (FlowPairs p Square o lead) (WithColon (Asked q v) m w)) x.at.start
     (with_event (pointed MappingEnds x.at.start) (SquareOver x r))
@@ -109,7 +109,7 @@ asked_agrees x on r p o lead q v m w =
     (same _ _ (PastItem r p Square o lead (Paired (WithColon (Asked q v) m w))) tt (λ more. refl))
 
 alone_agrees :
-    (x : Terminal) (on : Content → OpenPlace) (r : Hole) (p : NodeProperties) (o : At) (lead : FlowLead) (q : At)
+    (x : Terminal) (on : Content → OpenPlace) (r : Hole) (p : TreeProperties) (o : At) (lead : FlowLead) (q : At)
     (v : Content) (e : Mark) →
     Agree (PairEvents x r (FlowPairs p Square o lead) (AskOnly q v e)) x.at.start
     (with_event (pointed MappingEnds x.at.start) (SquareOver x r))
@@ -120,7 +120,7 @@ alone_agrees x on r p o lead q v e =
 
 -- of one that a `:` makes
 key_made_agrees :
-    (x : Terminal) (on : Content → OpenPlace) (r : Hole) (p : NodeProperties) (o : At) (lead : FlowLead) (f : Terminal)
+    (x : Terminal) (on : Content → OpenPlace) (r : Hole) (p : TreeProperties) (o : At) (lead : FlowLead) (f : Terminal)
     (k : Node) (n : ℕ) (m : At) (w : Content) →
     Agree (PairEvents x r (FlowPairs p Square o lead) (WithColon (SimpleKey f k n) m w)) x.at.start
     (past_made x (FlowSequenceFrame false ∷ hole_frames r) (SquareOver x r))
@@ -132,7 +132,7 @@ key_made_agrees x on r p o lead f k n m w =
     (same _ _ (PastPair r (FlowPairs p Square o lead) (WithColon (SimpleKey f k n) m w)) tt (λ more. refl))
 
 bare_made_agrees :
-    (x : Terminal) (on : Content → OpenPlace) (r : Hole) (p : NodeProperties) (o : At) (lead : FlowLead) (m : At)
+    (x : Terminal) (on : Content → OpenPlace) (r : Hole) (p : TreeProperties) (o : At) (lead : FlowLead) (m : At)
     (w : Content) →
     Agree (PairEvents x r (FlowPairs p Square o lead) (WithColon NoKey m w)) x.at.start
     (past_made x (FlowSequenceFrame false ∷ hole_frames r) (SquareOver x r))
@@ -145,7 +145,7 @@ bare_made_agrees x on r p o lead m w =
 
 -- `?` keys
 block_ask_agrees :
-    (x : Terminal) (on : Content → OpenPlace) (r : Hole) (p : NodeProperties) (c : ℕ) (lead : PairLead) (q : At)
+    (x : Terminal) (on : Content → OpenPlace) (r : Hole) (p : TreeProperties) (c : ℕ) (lead : PairLead) (q : At)
     (v : Content) →
     Finishes x r on →
     Agree (AskEvents x r (BlockPairs p c lead) q v) x.at.start
@@ -157,7 +157,7 @@ block_ask_agrees x on r p c lead q v h =
     (same _ _ (PastAsk r (BlockPairs p c lead) q v) tt (λ more. refl))
 
 curly_ask_agrees :
-    (x : Terminal) (on : Content → OpenPlace) (r : Hole) (p : NodeProperties) (o : At) (lead : FlowLead) (q : At)
+    (x : Terminal) (on : Content → OpenPlace) (r : Hole) (p : TreeProperties) (o : At) (lead : FlowLead) (q : At)
     (v : Content) →
     Agree (AskEvents x r (FlowPairs p Curly o lead) q v) x.at.start (past_curly_asked x (hole_frames r))
     (end_ask x on r (FlowPairs p Curly o lead) q v)
@@ -167,7 +167,7 @@ curly_ask_agrees x on r p o lead q v =
     (same _ _ (PastAsk r (FlowPairs p Curly o lead) q v) tt (λ more. refl))
 
 square_ask_agrees :
-    (x : Terminal) (on : Content → OpenPlace) (r : Hole) (p : NodeProperties) (o : At) (lead : FlowLead) (q : At)
+    (x : Terminal) (on : Content → OpenPlace) (r : Hole) (p : TreeProperties) (o : At) (lead : FlowLead) (q : At)
     (v : Content) →
     Agree (AskEvents x r (FlowPairs p Square o lead) q v) x.at.start
     (past_square_asked x (FlowSequenceFrame false ∷ hole_frames r) (SquareOver x r))
@@ -319,7 +319,7 @@ both_if :
 both_if f x b c e y z p q a d = subst (λ b. Agree f x (choose b y z) (choose c p q)) (sym e) (both f x c y z p q a d)
 
 properties_end_agree :
-    (x : Terminal) (r : Hole) (p : NodeProperties) → first_with p no_terminal ≡ first_terminal (Alone p) →
+    (x : Terminal) (r : Hole) (p : TreeProperties) → first_with p no_terminal ≡ first_terminal (Alone p) →
     Agree (hole_events r (first_with p no_terminal)) x.at.start
     (with_event (alone_event p (frames_indent (hole_frames r))) (finish_frames x (properties_end p) (hole_frames r)))
     (finish_at x r (Just (Alone p)))

@@ -7,7 +7,7 @@ use Rattle.granit_grammar.specs.TreeMachine.{Next, Go, NotTaken, if_go, part_tak
 use Rattle.granit_language.specs.Choice.{choose}
 use Rattle.granit_language.specs.FaultKinds.{fault_kind_at}
 use Rattle.granit_language.specs.GrammarFault.{GrammarFault, ExpectedBlockMappingKey}
-use Rattle.granit_language.specs.Node.{NodeProperties, NoProperties, One, Two, Node, AliasNode, ScalarNode, Flow, Just, NoEntry, Through, PairLead, NoPair, AfterPair, Pair, WithColon, AskOnly, SimpleKey, Asked, NoKey, NoItem, NoLast, LastItem, Single, Paired}
+use Rattle.granit_language.specs.Node.{TreeProperties, NoProperties, One, Two, Node, AliasNode, ScalarNode, Flow, Just, NoEntry, Through, PairLead, NoPair, AfterPair, Pair, WithColon, AskOnly, SimpleKey, Asked, NoKey, NoItem, NoLast, LastItem, Single, Paired}
 use Rattle.granit_language.specs.OpenEvents.{hole_indent, around_first, around_before, hole_events, open_events}
 use Rattle.granit_language.specs.OpenPlace.{Bare, Explicit, Around, BlockPairs, FlowPairs, Hole, AtRoot, AtEntry, AtItem, AtKey, AtAsk, AtColon, OpenPlace, Fresh, InDirectives, BehindRoot, Want, PastEntry, PastKey, PastAsk, PastPair, PastItem, room_of, IsHole, IsOpen}
 use Rattle.granit_language.specs.Room.{BlockIn, FlowIn, Room, RightOf, ValueIn, KeyIn, BehindKey, ItemIn, Inside, behind_property, room_behind, right_fits, loose_fits, indicates, opens, part_fits, differ}
@@ -91,11 +91,11 @@ put_events (AtAsk r a q) t y more = refl
 put_events (AtColon r a left m) t y more = refl
 
 -- before a hole, behind properties, where a lexeme stands
-abbrev Into : Hole → NodeProperties → TerminalKind → At → List TreeEvent → List TreeEvent
+abbrev Into : Hole → TreeProperties → TerminalKind → At → List TreeEvent → List TreeEvent
 Into r p kind i more = hole_events r (first_with p (terminal kind i)) more
 
 part_steps :
-    (k : GrammarFault) (r : Hole) (p : NodeProperties) (m : PartKind) (i : At) →
+    (k : GrammarFault) (r : Hole) (p : TreeProperties) (m : PartKind) (i : At) →
     StepsTo (Into r p (Part m) i) k (part_frames k (hole_frames r) p m i) (part_take r p m i)
 part_steps k r NoProperties (Alias name) i =
     subst
@@ -192,7 +192,7 @@ entry_steps k r a (Close bracket) i = stops_at refl
 
 -- a new block mapping
 block_steps :
-    (k : GrammarFault) (r : Hole) (p : NodeProperties) (kind : TerminalKind) (i : At) →
+    (k : GrammarFault) (r : Hole) (p : TreeProperties) (kind : TerminalKind) (i : At) →
     StepsTo (Into r p kind i) k
     (after_events (mapping_start p (terminal kind i) (frames_indent (hole_frames r)) ∷ [])
     (entry_frames k (BlockSite (edge i) (hole_frames r)) kind i))
@@ -240,7 +240,7 @@ plain_steps k (AtColon r (FlowPairs p Square o lead) NoKey m) kind i =
     block_steps k (AtColon r (FlowPairs p Square o lead) NoKey m) NoProperties kind i
 
 pair_steps :
-    (k : GrammarFault) (r : Hole) (p : NodeProperties) (kind : TerminalKind) (i : At) →
+    (k : GrammarFault) (r : Hole) (p : TreeProperties) (kind : TerminalKind) (i : At) →
     StepsTo (Into r p kind i) k (begin_pair_frames k (hole_frames r) p kind i) (entry_at (pair_site r p i) kind i)
 pair_steps k r NoProperties kind i = plain_steps k r kind i
 pair_steps k r (One n j) kind i = block_steps k r (One n j) kind i
@@ -272,7 +272,7 @@ same_tests a b e = (
 )
 
 room_tests :
-    (r : Hole) (p : NodeProperties) →
+    (r : Hole) (p : TreeProperties) →
     SameTests (room_behind p (frames_room (hole_frames r))) (room_behind p (room_of r))
 room_tests r NoProperties = subst (λ room. SameTests room (room_of r)) (sym (room_same r)) (forget_tests (room_of r))
 room_tests r (One k i) =
@@ -281,7 +281,7 @@ room_tests r (Two k i m j) =
     same_tests (behind_property (frames_room (hole_frames r))) (behind_property (room_of r)) (behind_same r)
 
 close_steps :
-    (r : Hole) (p : NodeProperties) (bracket : Bracket) (i : At) →
+    (r : Hole) (p : TreeProperties) (bracket : Bracket) (i : At) →
     StepsTo (Into r p (Close bracket) i) (stop_kind (hole_frames r)) (want_frames (hole_frames r) p (Close bracket) i)
     (want_take r p (Close bracket) i)
 close_steps (AtItem r q Square o lead) NoProperties Square i =
@@ -308,7 +308,7 @@ close_steps (AtColon r (FlowPairs q Square o lead) (Asked j v) m) p bracket i = 
 close_steps (AtColon r (FlowPairs q Square o lead) NoKey m) p bracket i = stops_at refl
 
 want_steps :
-    (r : Hole) (p : NodeProperties) (kind : TerminalKind) (i : At) →
+    (r : Hole) (p : TreeProperties) (kind : TerminalKind) (i : At) →
     StepsTo (Into r p kind i) (stop_kind (hole_frames r)) (want_frames (hole_frames r) p kind i) (want_take r p kind i)
 want_steps r p (Part m) i =
     let t = room_tests r p
@@ -375,7 +375,7 @@ hole_steps (AtColon r (FlowPairs q Square o lead) NoKey m) kind i g =
 
 -- the kinds
 kinds_same :
-    (r : Hole) (p : NodeProperties) (kind : TerminalKind) → stop_kind (hole_frames r) ≡ fault_kind_at (Want r p) kind
+    (r : Hole) (p : TreeProperties) (kind : TerminalKind) → stop_kind (hole_frames r) ≡ fault_kind_at (Want r p) kind
 kinds_same (AtRoot (Bare b)) p kind = refl
 kinds_same (AtRoot (Explicit s j)) p kind = refl
 kinds_same (AtEntry r q loose c lead j) p kind = refl
@@ -394,7 +394,7 @@ kinds_same (AtColon r (FlowPairs q Square o lead) (Asked j v) m) p kind = refl
 kinds_same (AtColon r (FlowPairs q Square o lead) NoKey m) p kind = refl
 
 properties_steps :
-    (r : Hole) (p : NodeProperties) (kind : TerminalKind) (i : At) →
+    (r : Hole) (p : TreeProperties) (kind : TerminalKind) (i : At) →
     StepsTo (Into r p kind i) (fault_kind_at (Want r p) kind) (want_frames (hole_frames r) p kind i)
     (want_take r p kind i)
 properties_steps r p kind i =
@@ -403,7 +403,7 @@ properties_steps r p kind i =
 
 -- the next entry of a block mapping
 next_steps :
-    (r : Hole) (p : NodeProperties) (c : ℕ) (lead : PairLead) (pair : Pair) (kind : TerminalKind) (i : At) →
+    (r : Hole) (p : TreeProperties) (c : ℕ) (lead : PairLead) (pair : Pair) (kind : TerminalKind) (i : At) →
     StepsTo (open_events i.start (PastPair r (BlockPairs p c lead) pair)) ExpectedBlockMappingKey
     (if_gives (entry_in (terminal kind i) c) ExpectedBlockMappingKey
     (entry_frames ExpectedBlockMappingKey (BlockSite c (hole_frames r)) kind i))

@@ -4,7 +4,7 @@ use Rattle.granit_base.specs.Written.{Written}
 use Rattle.granit_base.specs.declared.style.ScalarStyle.{ScalarStyle}
 use Rattle.granit_grammar.specs.TreeMachine.{Go, if_go, part_take, ReadAs, parse, tree_start}
 use Rattle.granit_language.specs.Choice.{choose}
-use Rattle.granit_language.specs.Node.{NodeProperties, NoProperties, One, Two, Node, AliasNode, ScalarNode, Alone, Flow, Sequence, Mapping, Content, Nothing, Just, Entries, Entry, EntryLead, NoEntry, AfterEntry, Pairs, Through, PairLead, NoPair, AfterPair, Pair, WithColon, AskOnly, Left, SimpleKey, Asked, NoKey, FlowLead, NoItem, AfterItem, FlowLast, NoLast, LastItem, FlowItem, Single, Paired, Before, Beginning, ExtraEnd, Closed, Directives, FirstDirective, NextDirective, Start, AtFresh, AfterDirectives, AfterRoot, Rooted, BareRoot, ExplicitRoot, Stream, EndFresh, EndRooted}
+use Rattle.granit_language.specs.Node.{TreeProperties, NoProperties, One, Two, Node, AliasNode, ScalarNode, Alone, Flow, Sequence, Mapping, Content, Nothing, Just, Entries, Entry, EntryLead, NoEntry, AfterEntry, Pairs, Through, PairLead, NoPair, AfterPair, Pair, WithColon, AskOnly, Left, SimpleKey, Asked, NoKey, FlowLead, NoItem, AfterItem, FlowLast, NoLast, LastItem, FlowItem, Single, Paired, Before, Beginning, ExtraEnd, Closed, Directives, FirstDirective, NextDirective, Start, AtFresh, AfterDirectives, AfterRoot, Rooted, BareRoot, ExplicitRoot, Stream, EndFresh, EndRooted}
 use Rattle.granit_language.specs.OpenPlace.{Bare, Explicit, Around, BlockPairs, FlowPairs, Hole, AtRoot, AtEntry, AtItem, AtKey, AtAsk, AtColon, Fresh, InDirectives, BehindRoot, Ended, Want, PastEntry, PastAsk, PastPair, PastItem, holder, room_of, AroundPlaced, HolePlaced, ItemOver}
 use Rattle.granit_language.specs.Placed.{PropertiesPlaced, SomeProperties, left_front, pair_front, Placed, ContentPlaced, EntriesPlaced, EntryLeadPlaced, PairsPlaced, PairLeadPlaced, PairPlaced, LeftPlaced, FlowPlaced, LastPlaced, ItemPlaced, BeforePlaced, DirectivesPlaced, StartPlaced, RootedPlaced, StreamPlaced}
 use Rattle.granit_language.specs.Room.{Holder, BlockIn, FlowIn, KeyIn, room_behind, right_fits, sequence_fits, PartFits, joins, continues_node, sequence_ends, ask_over, place_fits, is_made, pair_over}
@@ -18,7 +18,7 @@ use Rattle.granit_grammar.proofs.Entering.{to_same, steps, alike, close_put, gat
 
 -- properties
 pub takes_properties :
-    (p : NodeProperties) (r : Hole) (rest : List Terminal) → HolePlaced r → PropertiesPlaced p (room_of r) →
+    (p : TreeProperties) (r : Hole) (rest : List Terminal) → HolePlaced r → PropertiesPlaced p (room_of r) →
     parse (spell_properties p rest) (door r) ≡ parse rest (door_with r p)
 takes_properties NoProperties r rest f g = refl
 takes_properties (One k i) r rest f g =
@@ -30,32 +30,32 @@ takes_properties (Two k i m j) r rest f g =
     (to_same (Want r (One k i)) (Part (Property m)) j _ _ (ap (λ b. if_go b (Go (Want r (Two k i m j)))) g.2)
     (enters_part r (One k i) (Property m) j f g.1 g.2))
 
-joins_scalar : (p : NodeProperties) (style : ScalarStyle) (text : Written) → joins p (Scalar style text) ≡ true
+joins_scalar : (p : TreeProperties) (style : ScalarStyle) (text : Written) → joins p (Scalar style text) ≡ true
 joins_scalar NoProperties style text = refl
 joins_scalar (One k i) style text = refl
 joins_scalar (Two k i m j) style text = refl
 
-joins_open : (p : NodeProperties) (bracket : Bracket) → joins p (Open bracket) ≡ true
+joins_open : (p : TreeProperties) (bracket : Bracket) → joins p (Open bracket) ≡ true
 joins_open NoProperties bracket = refl
 joins_open (One k i) bracket = refl
 joins_open (Two k i m j) bracket = refl
 
 scalar_take :
-    (r : Hole) (p : NodeProperties) (style : ScalarStyle) (text : Written) (i : At) →
+    (r : Hole) (p : TreeProperties) (style : ScalarStyle) (text : Written) (i : At) →
     part_take r p (Scalar style text) i ≡ Go (put_in r (Just (ScalarNode p style text i)))
 scalar_take r NoProperties style text i = refl
 scalar_take r (One k h) style text i = refl
 scalar_take r (Two k h m j) style text i = refl
 
 open_take :
-    (r : Hole) (p : NodeProperties) (bracket : Bracket) (i : At) →
+    (r : Hole) (p : TreeProperties) (bracket : Bracket) (i : At) →
     part_take r p (Open bracket) i ≡ Go (Want (AtItem r p bracket i NoItem) NoProperties)
 open_take r NoProperties bracket i = refl
 open_take r (One k h) bracket i = refl
 open_take r (Two k h m j) bracket i = refl
 
 pub takes_opener :
-    (r : Hole) (p : NodeProperties) (bracket : Bracket) (o : At) (rest : List Terminal) → HolePlaced r →
+    (r : Hole) (p : TreeProperties) (bracket : Bracket) (o : At) (rest : List Terminal) → HolePlaced r →
     PropertiesPlaced p (room_of r) → PartFits (room_behind p (room_of r)) (Open bracket) o →
     parse (spell_properties p (terminal (Part (Open bracket)) o ∷ rest)) (door r)
     ≡ parse rest (Want (AtItem r p bracket o NoItem) NoProperties)
@@ -67,7 +67,7 @@ takes_opener r p bracket o rest f g h =
 
 -- properties alone end in front of what doesn't go on with them
 pub alone_ends :
-    (x : Terminal) (r : Hole) (p : NodeProperties) → SomeProperties p →
+    (x : Terminal) (r : Hole) (p : TreeProperties) → SomeProperties p →
     continues_node (room_behind p (room_of r)) p x.kind x.at ≡ false →
     settle x (door_with r p) ≡ settle x (put_in r (Just (Alone p)))
 alone_ends x r NoProperties s e = absurd s
@@ -97,7 +97,7 @@ nothing_ends x (AtColon r a left m) e =
 
 -- a sequence and a mapping end
 entries_end :
-    (x : Terminal) (rest : List Terminal) (r : Hole) (p : NodeProperties) (loose : Bool) (c : ℕ) (es : Entries) →
+    (x : Terminal) (rest : List Terminal) (r : Hole) (p : TreeProperties) (loose : Bool) (c : ℕ) (es : Entries) →
     sequence_ends loose c x ≡ true →
     parse (x ∷ rest) (PastEntry r p loose c es) ≡ parse (x ∷ rest) (put_in r (Just (Sequence p loose c es x.at.start)))
 entries_end x rest r p loose c es e =
@@ -106,7 +106,7 @@ entries_end x rest r p loose c es e =
     ∙ sym (close_put x r (Just (Sequence p loose c es x.at.start))))
 
 pairs_end :
-    (x : Terminal) (rest : List Terminal) (r : Hole) (p : NodeProperties) (c : ℕ) (ps : Pairs) →
+    (x : Terminal) (rest : List Terminal) (r : Hole) (p : TreeProperties) (c : ℕ) (ps : Pairs) →
     stands_left x c ≡ true →
     parse (x ∷ rest) (past_pairs r p c ps) ≡ parse (x ∷ rest) (put_in r (Just (Mapping p c ps x.at.start)))
 pairs_end x rest r p c (Through lead pair) e =
@@ -124,7 +124,7 @@ dash_stays true c i e = ap not e
 dash_stays false c i e = same_left (edge i) c e
 
 next_dash :
-    (r : Hole) (p : NodeProperties) (loose : Bool) (c : ℕ) (es : Entries) (i : At) (rest : List Terminal) →
+    (r : Hole) (p : TreeProperties) (loose : Bool) (c : ℕ) (es : Entries) (i : At) (rest : List Terminal) →
     (edge i == c) ≡ true →
     parse (terminal Dash i ∷ rest) (PastEntry r p loose c es)
     ≡ parse rest (Want (AtEntry r p loose c (AfterEntry es) i) NoProperties)
@@ -194,7 +194,7 @@ closer_ends bracket (Single t) i = tt
 closer_ends bracket (Paired pair) i = closer_over bracket pair i
 
 item_ends :
-    (x : Terminal) (rest : List Terminal) (r : Hole) (p : NodeProperties) (bracket : Bracket) (o : At) (lead : FlowLead)
+    (x : Terminal) (rest : List Terminal) (r : Hole) (p : TreeProperties) (bracket : Bracket) (o : At) (lead : FlowLead)
     (pair : Pair) →
     pair_over bracket pair x ≡ true →
     parse (x ∷ rest) (PastPair r (FlowPairs p bracket o lead) pair)
@@ -205,14 +205,14 @@ item_ends x rest r p bracket o lead pair e =
 
 -- closers
 pub closes_empty :
-    (r : Hole) (p : NodeProperties) (bracket : Bracket) (o : At) (lead : FlowLead) (e : At) (rest : List Terminal) →
+    (r : Hole) (p : TreeProperties) (bracket : Bracket) (o : At) (lead : FlowLead) (e : At) (rest : List Terminal) →
     parse (terminal (Close bracket) e ∷ rest) (Want (AtItem r p bracket o lead) NoProperties)
     ≡ parse rest (put_in r (Just (Flow p bracket o lead NoLast e)))
 closes_empty r p Square o lead e rest = refl
 closes_empty r p Curly o lead e rest = refl
 
 pub closes_item :
-    (r : Hole) (p : NodeProperties) (bracket : Bracket) (o : At) (lead : FlowLead) (item : FlowItem) (e : At)
+    (r : Hole) (p : TreeProperties) (bracket : Bracket) (o : At) (lead : FlowLead) (item : FlowItem) (e : At)
     (rest : List Terminal) →
     parse (terminal (Close bracket) e ∷ rest) (PastItem r p bracket o lead item)
     ≡ parse rest (put_in r (Just (Flow p bracket o lead (LastItem item) e)))
@@ -225,7 +225,7 @@ pub record FirstOf (ls : List Terminal) (first : Terminal) : Type 0 where
   pub is : ls ≡ first ∷ rest
 
 properties_first :
-    (p : NodeProperties) (h : Holder) (f : Terminal) (ls : List Terminal) → PropertiesPlaced p (KeyIn h f) →
+    (p : TreeProperties) (h : Holder) (f : Terminal) (ls : List Terminal) → PropertiesPlaced p (KeyIn h f) →
     (p ≡ NoProperties → FirstOf ls f) → FirstOf (spell_properties p ls) f
 properties_first NoProperties h f ls g n = n refl
 properties_first (One k i) h f ls g n = record { rest = ls; is = ap (λ f. f ∷ ls) g }
@@ -235,7 +235,7 @@ properties_first (Two k i m j) h f ls g n = record {
 }
 
 pub part_first :
-    (p : NodeProperties) (h : Holder) (f : Terminal) (k : PartKind) (i : At) (ls : List Terminal) →
+    (p : TreeProperties) (h : Holder) (f : Terminal) (k : PartKind) (i : At) (ls : List Terminal) →
     PropertiesPlaced p (KeyIn h f) → PartFits (room_behind p (KeyIn h f)) k i →
     FirstOf (spell_properties p (terminal (Part k) i ∷ ls)) f
 part_first NoProperties h f k i ls g e = record { rest = ls; is = ap (λ f. f ∷ ls) e }
@@ -249,7 +249,7 @@ part_first (Two m j n b) h f k i ls g e = record {
 }
 
 pub alone_first :
-    (p : NodeProperties) (h : Holder) (f : Terminal) (ls : List Terminal) → PropertiesPlaced p (KeyIn h f) →
+    (p : TreeProperties) (h : Holder) (f : Terminal) (ls : List Terminal) → PropertiesPlaced p (KeyIn h f) →
     SomeProperties p → FirstOf (spell_properties p ls) f
 alone_first NoProperties h f ls g s = absurd s
 alone_first (One m j) h f ls g s = record { rest = ls; is = ap (λ f. f ∷ ls) g }
@@ -260,7 +260,7 @@ alone_first (Two m j n b) h f ls g s = record {
 
 -- no block collection is a simple key
 pub no_right :
-    (p : NodeProperties) (h : Holder) (f : Terminal) (c : ℕ) → right_fits (room_behind p (KeyIn h f)) c ≡ true → ⊥
+    (p : TreeProperties) (h : Holder) (f : Terminal) (c : ℕ) → right_fits (room_behind p (KeyIn h f)) c ≡ true → ⊥
 no_right NoProperties h f c e = cc (e)
 no_right (One k i) (BlockIn d) f c e = cc (e)
 no_right (One k i) (FlowIn bracket) f c e = cc (e)
@@ -268,7 +268,7 @@ no_right (Two k i m j) (BlockIn d) f c e = cc (e)
 no_right (Two k i m j) (FlowIn bracket) f c e = cc (e)
 
 pub no_sequence :
-    (p : NodeProperties) (h : Holder) (f : Terminal) (loose : Bool) (c : ℕ) →
+    (p : TreeProperties) (h : Holder) (f : Terminal) (loose : Bool) (c : ℕ) →
     sequence_fits (room_behind p (KeyIn h f)) loose c ≡ true → ⊥
 no_sequence p h f false c e = no_right p h f c e
 no_sequence NoProperties h f true c e = cc (e)
@@ -303,7 +303,7 @@ pair_first (AskOnly q v e) h x ls g = record { rest = spell_content v ls; is = r
 
 -- outside simple keys the door is the gate
 door_gate :
-    (r : Hole) (p : NodeProperties) (c : ℕ) → right_fits (room_behind p (room_of r)) c ≡ true →
+    (r : Hole) (p : TreeProperties) (c : ℕ) → right_fits (room_behind p (room_of r)) c ≡ true →
     door_with r p ≡ gate_with r p
 door_gate (AtRoot root) NoProperties c e = refl
 door_gate (AtEntry r q loose d lead i) NoProperties c e = refl
@@ -352,7 +352,7 @@ mutual
   takes_content (Just t) r x rest f g = takes t r x rest f g
 
   pub takes_entries :
-      (es : Entries) (r : Hole) (p : NodeProperties) (loose : Bool) (c : ℕ) (x : Terminal) (rest : List Terminal) →
+      (es : Entries) (r : Hole) (p : TreeProperties) (loose : Bool) (c : ℕ) (x : Terminal) (rest : List Terminal) →
       HolePlaced r → PropertiesPlaced p (room_of r) → sequence_fits (room_behind p (room_of r)) loose c ≡ true →
       EntriesPlaced es loose c x →
       parse (spell_entries es (x ∷ rest)) (door_with r p) ≡ parse (x ∷ rest) (PastEntry r p loose c es)
@@ -361,7 +361,7 @@ mutual
       ∙ takes_content v (AtEntry r p loose c lead i) x rest (f, g, h, e.0, e.1) e.2
 
   pub takes_entry_lead :
-      (lead : EntryLead) (r : Hole) (p : NodeProperties) (loose : Bool) (c : ℕ) (i : At) (rest : List Terminal) →
+      (lead : EntryLead) (r : Hole) (p : TreeProperties) (loose : Bool) (c : ℕ) (i : At) (rest : List Terminal) →
       HolePlaced r → PropertiesPlaced p (room_of r) → sequence_fits (room_behind p (room_of r)) loose c ≡ true →
       EntryLeadPlaced lead loose c i → (edge i == c) ≡ true →
       parse (spell_entry_lead lead (terminal Dash i ∷ rest)) (door_with r p)
@@ -380,7 +380,7 @@ mutual
       takes_entries es r p loose c (terminal Dash i) rest f g h e ∙ next_dash r p loose c es i rest q
 
   pub takes_pairs :
-      (ps : Pairs) (r : Hole) (p : NodeProperties) (c : ℕ) (x : Terminal) (rest : List Terminal) → HolePlaced r →
+      (ps : Pairs) (r : Hole) (p : TreeProperties) (c : ℕ) (x : Terminal) (rest : List Terminal) → HolePlaced r →
       PropertiesPlaced p (room_of r) → right_fits (room_behind p (room_of r)) c ≡ true → PairsPlaced ps c x →
       parse (spell_pairs ps (x ∷ rest)) (door_with r p) ≡ parse (x ∷ rest) (past_pairs r p c ps)
   takes_pairs (Through lead pair) r p c x rest f g h e =
@@ -391,7 +391,7 @@ mutual
       ∙ takes_pair pair r (BlockPairs p c lead) x rest f (g, h, e.0) e.1
 
   pub takes_pair_lead :
-      (lead : PairLead) (r : Hole) (p : NodeProperties) (c : ℕ) (x : Terminal) (rest : List Terminal) → HolePlaced r →
+      (lead : PairLead) (r : Hole) (p : TreeProperties) (c : ℕ) (x : Terminal) (rest : List Terminal) → HolePlaced r →
       PropertiesPlaced p (room_of r) → right_fits (room_behind p (room_of r)) c ≡ true → PairLeadPlaced lead c x →
       parse (spell_pair_lead lead (x ∷ rest)) (door_with r p) ≡ parse (x ∷ rest) (site_door r (BlockPairs p c lead))
   takes_pair_lead NoPair r p c x rest f g h e = ap (λ q. parse (x ∷ rest) q) (door_gate r p c h)
@@ -428,7 +428,7 @@ mutual
       (enters_entry r a (Colon None) m (terminal (Colon None) m) g e)
 
   pub takes_flow :
-      (lead : FlowLead) (r : Hole) (p : NodeProperties) (bracket : Bracket) (o : At) (rest : List Terminal) →
+      (lead : FlowLead) (r : Hole) (p : TreeProperties) (bracket : Bracket) (o : At) (rest : List Terminal) →
       HolePlaced r → PropertiesPlaced p (room_of r) → PartFits (room_behind p (room_of r)) (Open bracket) o →
       FlowPlaced lead bracket →
       parse (spell_flow lead rest) (Want (AtItem r p bracket o NoItem) NoProperties)
@@ -439,7 +439,7 @@ mutual
       ∙ takes_item item r p bracket o lead (terminal Comma m) rest (f, g, h, e.0) e.1 (comma_ends bracket item m)
 
   pub takes_last :
-      (last : FlowLast) (r : Hole) (p : NodeProperties) (bracket : Bracket) (o : At) (lead : FlowLead) (e : At)
+      (last : FlowLast) (r : Hole) (p : TreeProperties) (bracket : Bracket) (o : At) (lead : FlowLead) (e : At)
       (rest : List Terminal) →
       HolePlaced (AtItem r p bracket o lead) → LastPlaced last bracket (terminal (Close bracket) e) →
       parse (spell_last last (terminal (Close bracket) e ∷ rest)) (Want (AtItem r p bracket o lead) NoProperties)
@@ -450,7 +450,7 @@ mutual
       ∙ closes_item r p bracket o lead item e rest
 
   pub takes_item :
-      (item : FlowItem) (r : Hole) (p : NodeProperties) (bracket : Bracket) (o : At) (lead : FlowLead) (x : Terminal)
+      (item : FlowItem) (r : Hole) (p : TreeProperties) (bracket : Bracket) (o : At) (lead : FlowLead) (x : Terminal)
       (rest : List Terminal) →
       HolePlaced (AtItem r p bracket o lead) → ItemPlaced item bracket x → ItemOver item bracket x →
       parse (spell_item item (x ∷ rest)) (Want (AtItem r p bracket o lead) NoProperties)

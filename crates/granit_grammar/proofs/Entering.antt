@@ -2,7 +2,7 @@
 use Rattle.std.proofs.Common.{◌≡◌, ℕ, Bool, true, false, List, ◌∷◌, refl, sym, ap, ◌∙◌, subst, ◌==◌, nat_lt, None}
 use Rattle.granit_grammar.specs.TreeMachine.{Next, Go, if_go, part_take, entry_take, entry_at, site, plain_site, pair_site, want_take, take, tree_goes, parse}
 use Rattle.granit_language.specs.Choice.{choose}
-use Rattle.granit_language.specs.Node.{NodeProperties, NoProperties, One, Two, Alone, Mapping, Content, Nothing, Just, NoEntry, Pairs, Through, NoPair, AfterPair, FlowLead}
+use Rattle.granit_language.specs.Node.{TreeProperties, NoProperties, One, Two, Alone, Mapping, Content, Nothing, Just, NoEntry, Pairs, Through, NoPair, AfterPair, FlowLead}
 use Rattle.granit_language.specs.OpenPlace.{Bare, Explicit, Around, BlockPairs, FlowPairs, Hole, AtRoot, AtEntry, AtItem, AtKey, AtAsk, AtColon, OpenPlace, Fresh, Want, PastPair, holder, room_of, AroundPlaced, HolePlaced}
 use Rattle.granit_language.specs.Room.{Holder, BlockIn, FlowIn, Room, RightOf, ValueIn, KeyIn, BehindKey, ItemIn, Inside, behind_property, room_behind, right_fits, loose_fits, sequence_fits, indicates, opens, part_fits, PartFits, joins, continues_node, entry_empty, room_value, value_empty, KeyBegins}
 use Rattle.granit_language.specs.Settling.{put_in, empty_fits, finish_at, settle}
@@ -51,11 +51,11 @@ abbrev pub gate : Hole → OpenPlace
 gate (AtRoot (Bare b)) = Fresh b
 gate r = Want r NoProperties
 
-abbrev pub gate_with : Hole → NodeProperties → OpenPlace
+abbrev pub gate_with : Hole → TreeProperties → OpenPlace
 gate_with r NoProperties = gate r
 gate_with r p = Want r p
 
-abbrev pub past_pairs : Hole → NodeProperties → ℕ → Pairs → OpenPlace
+abbrev pub past_pairs : Hole → TreeProperties → ℕ → Pairs → OpenPlace
 past_pairs r p c (Through lead pair) = PastPair r (BlockPairs p c lead) pair
 
 abbrev pub site_door : Hole → Around → OpenPlace
@@ -67,7 +67,7 @@ abbrev pub door : Hole → OpenPlace
 door (AtKey r a f) = site_door r a
 door r = gate r
 
-abbrev pub door_with : Hole → NodeProperties → OpenPlace
+abbrev pub door_with : Hole → TreeProperties → OpenPlace
 door_with r NoProperties = door r
 door_with r p = Want r p
 
@@ -137,7 +137,7 @@ no_loose Inside e h = refl
 
 -- what a lexeme does at a hole
 want_part :
-    (r : Hole) (p : NodeProperties) (k : PartKind) (i : At) → part_fits (room_behind p (room_of r)) i ≡ true →
+    (r : Hole) (p : TreeProperties) (k : PartKind) (i : At) → part_fits (room_behind p (room_of r)) i ≡ true →
     want_take r p (Part k) i ≡ part_take r p k i
 want_part r p k i e =
     let room = room_behind p (room_of r) in
@@ -146,7 +146,7 @@ want_part r p k i e =
     ∙ ap (λ b. if_go b (part_take r p k i)) e
 
 want_entry :
-    (r : Hole) (p : NodeProperties) (kind : TerminalKind) (i : At) → begins_entry_kind kind i.begins_key ≡ true →
+    (r : Hole) (p : TreeProperties) (kind : TerminalKind) (i : At) → begins_entry_kind kind i.begins_key ≡ true →
     indicates (room_behind p (room_of r)) i ≡ true → want_take r p kind i ≡ entry_at (pair_site r p i) kind i
 want_entry r p (Part k) i b e =
     let room = room_behind p (room_of r)
@@ -209,7 +209,7 @@ right_indicates ItemIn i e = refl
 right_indicates Inside i e = e
 
 goes_on_entry :
-    (room : Room) (p : NodeProperties) (kind : TerminalKind) (i : At) → begins_entry_kind kind i.begins_key ≡ true →
+    (room : Room) (p : TreeProperties) (kind : TerminalKind) (i : At) → begins_entry_kind kind i.begins_key ≡ true →
     indicates room i ≡ true → continues_node room p kind i ≡ true
 goes_on_entry room p (Part k) i b e = or_left _ _ (and_both _ _ b e)
 goes_on_entry room p Question i b e = e
@@ -243,7 +243,7 @@ entry_no_stream (Colon None) i b = refl
 entry_no_stream kind i b = cc (b)
 
 enters_block :
-    (r : Hole) (p : NodeProperties) (kind : TerminalKind) (i : At) →
+    (r : Hole) (p : TreeProperties) (kind : TerminalKind) (i : At) →
     right_fits (room_behind p (room_of r)) (edge i) ≡ true → begins_entry_kind kind i.begins_key ≡ true →
     Enters (gate_with r p) kind i (entry_take r (BlockPairs p (edge i) NoPair) kind i)
 enters_block r NoProperties kind i e b =
@@ -281,7 +281,7 @@ in_column_left (Colon None) i c b e = same_left (edge i) c e
 in_column_left kind i c b e = cc (b)
 
 enters_next :
-    (r : Hole) (p : NodeProperties) (c : ℕ) (ps : Pairs) (kind : TerminalKind) (i : At) →
+    (r : Hole) (p : TreeProperties) (c : ℕ) (ps : Pairs) (kind : TerminalKind) (i : At) →
     begins_entry_kind kind i.begins_key ≡ true → (edge i == c) ≡ true →
     Enters (past_pairs r p c ps) kind i (entry_take r (BlockPairs p c (AfterPair ps)) kind i)
 enters_next r p c (Through lead pair) kind i b e = record {
@@ -296,7 +296,7 @@ enters_next r p c (Through lead pair) kind i b e = record {
 }
 
 enters_item :
-    (r : Hole) (p : NodeProperties) (bracket : Bracket) (o : At) (lead : FlowLead) (kind : TerminalKind) (i : At) →
+    (r : Hole) (p : TreeProperties) (bracket : Bracket) (o : At) (lead : FlowLead) (kind : TerminalKind) (i : At) →
     begins_entry_kind kind i.begins_key ≡ true →
     Enters (Want (AtItem r p bracket o lead) NoProperties) kind i (entry_take r (FlowPairs p bracket o lead) kind i)
 enters_item r p bracket o lead kind i b = record {
@@ -343,7 +343,7 @@ plain_enters (AtAsk r a q) k i f g = part_at_gate (AtAsk r a q) k i (value_part 
 plain_enters (AtColon r a left m) k i f g = part_at_gate (AtColon r a left m) k i (value_part (holder a) k i g)
 
 pub enters_part :
-    (r : Hole) (p : NodeProperties) (k : PartKind) (i : At) → HolePlaced r → PartFits (room_behind p (room_of r)) k i →
+    (r : Hole) (p : TreeProperties) (k : PartKind) (i : At) → HolePlaced r → PartFits (room_behind p (room_of r)) k i →
     joins p k ≡ true → Enters (door_with r p) (Part k) i (part_take r p k i)
 enters_part r NoProperties k i f g j = plain_enters r k i f g
 enters_part r (One m h) k i f g j =
@@ -357,7 +357,7 @@ enters_part r (Two m h n b) k i f g j =
 
 -- a `-` that begins a sequence
 want_dash :
-    (r : Hole) (p : NodeProperties) (loose : Bool) (i : At) →
+    (r : Hole) (p : TreeProperties) (loose : Bool) (i : At) →
     sequence_fits (room_behind p (room_of r)) loose (edge i) ≡ true →
     want_take r p Dash i ≡ Go (Want (AtEntry r p loose (edge i) NoEntry i) NoProperties)
 want_dash r p true i e =
@@ -383,7 +383,7 @@ dash_empty r true i e = stays_loose r i e
 dash_empty r false i e = stays_right r Dash i e refl
 
 goes_on_dash :
-    (room : Room) (p : NodeProperties) (loose : Bool) (i : At) → sequence_fits room loose (edge i) ≡ true →
+    (room : Room) (p : TreeProperties) (loose : Bool) (i : At) → sequence_fits room loose (edge i) ≡ true →
     continues_node room p Dash i ≡ true
 goes_on_dash room p true i e = or_left _ _ e
 goes_on_dash room p false i e = or_right (loose_fits room (edge i)) _ e
@@ -398,7 +398,7 @@ no_key_dash (AtAsk r a q) loose i e = refl
 no_key_dash (AtColon r a left m) loose i e = refl
 
 pub enters_dash :
-    (r : Hole) (p : NodeProperties) (loose : Bool) (i : At) →
+    (r : Hole) (p : TreeProperties) (loose : Bool) (i : At) →
     sequence_fits (room_behind p (room_of r)) loose (edge i) ≡ true →
     Enters (door_with r p) Dash i (Go (Want (AtEntry r p loose (edge i) NoEntry i) NoProperties))
 enters_dash r NoProperties loose i e =

@@ -1,7 +1,7 @@
 -- The lexemes before an open place lead the machine there, so it is one, and what it refuses has no reading.
 use Rattle.std.proofs.Common.{◌≡◌, ℕ, Bool, true, List, [], ◌∷◌, sym, ap, ◌∙◌}
 use Rattle.granit_grammar.specs.TreeMachine.{Next, Go, NotTaken, tree_step, RefusedAt, at_end, tree_goes, parse, tree_start}
-use Rattle.granit_language.specs.Node.{NodeProperties, NoProperties, One, Two, Stream}
+use Rattle.granit_language.specs.Node.{TreeProperties, NoProperties, One, Two, Stream}
 use Rattle.granit_language.specs.OpenPlace.{Bare, Explicit, Around, BlockPairs, FlowPairs, Hole, AtRoot, AtEntry, AtItem, AtKey, AtAsk, AtColon, OpenPlace, Fresh, InDirectives, BehindRoot, Ended, Want, PastEntry, PastKey, PastAsk, PastPair, PastItem, spell_around, spell_hole, spell_open, holder, room_of, AroundPlaced, HolePlaced, OpenPlaced, IsHole, IsOpen}
 use Rattle.granit_language.specs.Placed.{PropertiesPlaced, SomeProperties, left_front, pair_front, StreamPlaced}
 use Rattle.granit_language.specs.Room.{room_behind, right_fits, sequence_fits, PartFits}
@@ -18,26 +18,26 @@ Heads (AtKey r a f) ls = FirstOf ls f
 Heads r ls = Unit {0}
 
 heads_block :
-    (r : Hole) (p : NodeProperties) (c : ℕ) (ls : List Terminal) → right_fits (room_behind p (room_of r)) c ≡ true →
+    (r : Hole) (p : TreeProperties) (c : ℕ) (ls : List Terminal) → right_fits (room_behind p (room_of r)) c ≡ true →
     Heads r ls
 heads_block (AtKey r a k) p c ls e = absurd (no_right p (holder a) k c e)
 heads_block r p c ls e = tt
 
 heads_sequence :
-    (r : Hole) (p : NodeProperties) (loose : Bool) (c : ℕ) (ls : List Terminal) →
+    (r : Hole) (p : TreeProperties) (loose : Bool) (c : ℕ) (ls : List Terminal) →
     sequence_fits (room_behind p (room_of r)) loose c ≡ true → Heads r ls
 heads_sequence (AtKey r a k) p loose c ls e = absurd (no_sequence p (holder a) k loose c e)
 heads_sequence r p loose c ls e = tt
 
 heads_opener :
-    (r : Hole) (p : NodeProperties) (bracket : Bracket) (o : At) (ls : List Terminal) → PropertiesPlaced p (room_of r) →
+    (r : Hole) (p : TreeProperties) (bracket : Bracket) (o : At) (ls : List Terminal) → PropertiesPlaced p (room_of r) →
     PartFits (room_behind p (room_of r)) (Open bracket) o →
     Heads r (spell_properties p (terminal (Part (Open bracket)) o ∷ ls))
 heads_opener (AtKey r a k) p bracket o ls f g = part_first p (holder a) k (Open bracket) o ls f g
 heads_opener r p bracket o ls f g = tt
 
 heads_properties :
-    (r : Hole) (p : NodeProperties) (ls : List Terminal) → PropertiesPlaced p (room_of r) → SomeProperties p →
+    (r : Hole) (p : TreeProperties) (ls : List Terminal) → PropertiesPlaced p (room_of r) → SomeProperties p →
     Heads r (spell_properties p ls)
 heads_properties (AtKey r a k) p ls f s = alone_first p (holder a) k ls f s
 heads_properties r p ls f s = tt
@@ -101,7 +101,7 @@ leads_want (AtAsk r a q) ls i f = leads (AtAsk r a q) f ls tt
 leads_want (AtColon r a left m) ls i f = leads (AtColon r a left m) f ls tt
 
 leads_properties :
-    (r : Hole) (p : NodeProperties) (ls : List Terminal) → HolePlaced r → PropertiesPlaced p (room_of r) →
+    (r : Hole) (p : TreeProperties) (ls : List Terminal) → HolePlaced r → PropertiesPlaced p (room_of r) →
     SomeProperties p → parse (spell_hole r (spell_properties p ls)) tree_start ≡ parse ls (door_with r p)
 leads_properties r p ls f g s =
     leads r f (spell_properties p ls) (heads_properties r p ls g s) ∙ takes_properties p r ls f g

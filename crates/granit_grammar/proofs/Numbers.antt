@@ -2,7 +2,7 @@
 use Rattle.std.proofs.Common.{◌≡◌, ℕ, Bool, true, false, List, [], ◌∷◌, refl, subst, ◌&&◌, not, Option, Some, None}
 use Rattle.granit_base.specs.Written.{Written}
 use Rattle.granit_base.specs.declared.style.ScalarStyle.{ScalarStyle}
-use Rattle.granit_language.specs.Node.{NodeProperties, NoProperties, One, Two, Node, AliasNode, ScalarNode, Alone, Flow, Sequence, Mapping, Content, Nothing, Just, Entries, Entry, EntryLead, NoEntry, AfterEntry, Pairs, Through, PairLead, NoPair, AfterPair, Pair, WithColon, AskOnly, Left, SimpleKey, Asked, NoKey, FlowLead, NoItem, AfterItem, FlowLast, NoLast, LastItem, FlowItem, Single, Paired, Before, Beginning, ExtraEnd, Closed, Directives, FirstDirective, NextDirective, Start, AtFresh, AfterDirectives, AfterRoot, Rooted, BareRoot, ExplicitRoot, Stream, EndFresh, EndRooted}
+use Rattle.granit_language.specs.Node.{TreeProperties, NoProperties, One, Two, Node, AliasNode, ScalarNode, Alone, Flow, Sequence, Mapping, Content, Nothing, Just, Entries, Entry, EntryLead, NoEntry, AfterEntry, Pairs, Through, PairLead, NoPair, AfterPair, Pair, WithColon, AskOnly, Left, SimpleKey, Asked, NoKey, FlowLead, NoItem, AfterItem, FlowLast, NoLast, LastItem, FlowItem, Single, Paired, Before, Beginning, ExtraEnd, Closed, Directives, FirstDirective, NextDirective, Start, AtFresh, AfterDirectives, AfterRoot, Rooted, BareRoot, ExplicitRoot, Stream, EndFresh, EndRooted}
 use Rattle.granit_language.specs.Placed.{PropertiesPlaced, SomeProperties, pair_front, Placed, ContentPlaced, EntriesPlaced, EntryLeadPlaced, PairsPlaced, PairLeadPlaced, PairPlaced, LeftPlaced, FlowPlaced, LastPlaced, ItemPlaced, BeforePlaced, DirectivesPlaced, StartPlaced, RootedPlaced, StreamPlaced}
 use Rattle.granit_language.specs.Reading.{set_key, KeysFit, NodeNamed, ContentNamed, EntriesNamed, EntryLeadNamed, PairsNamed, PairLeadNamed, PairNamed, LeftNamed, FlowNamed, LastNamed, ItemNamed, BeforeNamed, DirectivesNamed, StartNamed, RootedNamed, StreamNamed}
 use Rattle.granit_language.specs.Room.{Holder, BlockIn, FlowIn, Room, RightOf, ValueIn, KeyIn, BehindKey, ItemIn, Inside, behind_property, room_behind, right_fits, sequence_fits, part_fits, PartFits, entry_empty, room_value, value_empty, ask_empty}
@@ -49,7 +49,7 @@ behind_no_key (BehindKey c) = tt
 behind_no_key ItemIn = tt
 behind_no_key Inside = tt
 
-no_key_behind : (p : NodeProperties) (room : Room) → NoKeyRoom room → NoKeyRoom (room_behind p room)
+no_key_behind : (p : TreeProperties) (room : Room) → NoKeyRoom room → NoKeyRoom (room_behind p room)
 no_key_behind NoProperties room r = r
 no_key_behind (One k i) room r = behind_no_key room
 no_key_behind (Two k i m j) room r = behind_no_key room
@@ -71,7 +71,7 @@ keep_flag b n k ks rest e g = subst (λ b. KeysFit (set_key b n (k ∷ ks)) rest
 
 -- properties
 properties_pass :
-    (p : NodeProperties) (room : Room) (k : Option ℕ) (ks : List (Option ℕ)) (rest : List Terminal) → NoKeyRoom room →
+    (p : TreeProperties) (room : Room) (k : Option ℕ) (ks : List (Option ℕ)) (rest : List Terminal) → NoKeyRoom room →
     PropertiesPlaced p room → KeysFit (k ∷ ks) (spell_properties p rest) → KeysFit (k ∷ ks) rest
 properties_pass NoProperties room k ks rest r f g = g
 properties_pass (One m i) room k ks rest r f g =
@@ -84,7 +84,7 @@ properties_pass (Two m i n j) room k ks rest r f g =
 
 -- those of a simple key, whose first lexeme is given: behind them
 key_properties :
-    (p : NodeProperties) (h : Holder) (f : Terminal) (k : Option ℕ) (ks : List (Option ℕ)) (rest : List Terminal) →
+    (p : TreeProperties) (h : Holder) (f : Terminal) (k : Option ℕ) (ks : List (Option ℕ)) (rest : List Terminal) →
     f.at.begins_key ≡ true → SomeProperties p → PropertiesPlaced p (KeyIn h f) →
     KeysFit (k ∷ ks) (spell_properties p rest) → KeysFit (Some f.at.number ∷ ks) rest
 key_properties NoProperties h f k ks rest b s e g = absurd s
@@ -99,13 +99,13 @@ key_properties (Two m i n j) h f k ks rest b s e g =
 
 -- a scalar and an opener behind properties
 body_pass :
-    (p : NodeProperties) (room : Room) (k : PartKind) (i : At) → NoKeyRoom room → PartFits (room_behind p room) k i →
+    (p : TreeProperties) (room : Room) (k : PartKind) (i : At) → NoKeyRoom room → PartFits (room_behind p room) k i →
     i.begins_key ≡ false
 body_pass p room k i r f = fits_no_flag (room_behind p room) k i (no_key_behind p room r) f
 
 -- the first lexeme of a simple key, or one behind its properties
 key_scalar :
-    (p : NodeProperties) (h : Holder) (f : Terminal) (style : ScalarStyle) (text : Written) (i : At) (k : Option ℕ)
+    (p : TreeProperties) (h : Holder) (f : Terminal) (style : ScalarStyle) (text : Written) (i : At) (k : Option ℕ)
     (ks : List (Option ℕ)) (rest : List Terminal) →
     f.at.begins_key ≡ true → PropertiesPlaced p (KeyIn h f) →
     PartFits (room_behind p (KeyIn h f)) (Scalar style text) i →
@@ -124,7 +124,7 @@ key_scalar (Two m j n d) h f style text i k ks rest b q e g =
     (key_properties (Two m j n d) h f k ks (terminal (Part (Scalar style text)) i ∷ rest) b tt q g).1
 
 key_opener :
-    (p : NodeProperties) (h : Holder) (f : Terminal) (bracket : Bracket) (i : At) (k : Option ℕ) (ks : List (Option ℕ))
+    (p : TreeProperties) (h : Holder) (f : Terminal) (bracket : Bracket) (i : At) (k : Option ℕ) (ks : List (Option ℕ))
     (rest : List Terminal) →
     f.at.begins_key ≡ true → PropertiesPlaced p (KeyIn h f) → PartFits (room_behind p (KeyIn h f)) (Open bracket) i →
     KeysFit (k ∷ ks) (spell_properties p (terminal (Part (Open bracket)) i ∷ rest)) →
@@ -142,7 +142,7 @@ key_opener (Two m j n d) h f bracket i k ks rest b q e g =
     (key_properties (Two m j n d) h f k ks (terminal (Part (Open bracket)) i ∷ rest) b tt q g).1
 
 opener_pass :
-    (p : NodeProperties) (room : Room) (bracket : Bracket) (i : At) (k : Option ℕ) (ks : List (Option ℕ))
+    (p : TreeProperties) (room : Room) (bracket : Bracket) (i : At) (k : Option ℕ) (ks : List (Option ℕ))
     (rest : List Terminal) →
     NoKeyRoom room → PropertiesPlaced p room → PartFits (room_behind p room) (Open bracket) i →
     KeysFit (k ∷ ks) (spell_properties p (terminal (Part (Open bracket)) i ∷ rest)) → KeysFit (None ∷ k ∷ ks) rest
@@ -157,7 +157,7 @@ record Named (N : Type 0) (ks : List (Option ℕ)) (rest : List Terminal) : Type
   fit : KeysFit (top ∷ ks) rest
 
 no_right :
-    (p : NodeProperties) (h : Holder) (f : Terminal) (c : ℕ) → right_fits (room_behind p (KeyIn h f)) c ≡ true → ⊥
+    (p : TreeProperties) (h : Holder) (f : Terminal) (c : ℕ) → right_fits (room_behind p (KeyIn h f)) c ≡ true → ⊥
 no_right NoProperties h f c e = cc (e)
 no_right (One k i) (BlockIn d) f c e = cc (e)
 no_right (One k i) (FlowIn bracket) f c e = cc (e)
@@ -165,7 +165,7 @@ no_right (Two k i m j) (BlockIn d) f c e = cc (e)
 no_right (Two k i m j) (FlowIn bracket) f c e = cc (e)
 
 no_sequence :
-    (p : NodeProperties) (h : Holder) (f : Terminal) (loose : Bool) (c : ℕ) →
+    (p : TreeProperties) (h : Holder) (f : Terminal) (loose : Bool) (c : ℕ) →
     sequence_fits (room_behind p (KeyIn h f)) loose c ≡ true → ⊥
 no_sequence p h f false c e = no_right p h f c e
 no_sequence NoProperties h f true c e = cc (e)

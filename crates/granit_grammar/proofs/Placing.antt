@@ -2,7 +2,7 @@
 use Rattle.std.proofs.Common.{◌≡◌, ℕ, Bool, true, false, List, [], ◌∷◌, refl, subst, ◌==◌, ◌&&◌, Some, None}
 use Rattle.granit_grammar.specs.TreeMachine.{Next, Go, NotTaken, if_go, part_take, entry_take, entry_at, plain_site, pair_site, want_take, take, tree_step, Answer, ReadAs, RefusedAt, Short, at_end, tree_goes, parse, tree_start}
 use Rattle.granit_language.specs.Choice.{choose}
-use Rattle.granit_language.specs.Node.{NodeProperties, NoProperties, One, Two, AliasNode, ScalarNode, Alone, Flow, Sequence, Mapping, Content, Nothing, Just, Entries, Entry, Through, NoPair, AfterPair, Pair, WithColon, AskOnly, NoLast, LastItem, Paired}
+use Rattle.granit_language.specs.Node.{TreeProperties, NoProperties, One, Two, AliasNode, ScalarNode, Alone, Flow, Sequence, Mapping, Content, Nothing, Just, Entries, Entry, Through, NoPair, AfterPair, Pair, WithColon, AskOnly, NoLast, LastItem, Paired}
 use Rattle.granit_language.specs.OpenPlace.{Bare, Explicit, Around, BlockPairs, FlowPairs, Hole, AtRoot, AtEntry, AtItem, AtKey, AtAsk, AtColon, OpenPlace, Fresh, InDirectives, BehindRoot, Ended, Want, PastEntry, PastKey, PastAsk, PastPair, PastItem, spell_open, holder, room_of, AroundPlaced, HolePlaced, OpenPlaced}
 use Rattle.granit_language.specs.Placed.{PropertiesPlaced, ContentPlaced, StreamPlaced}
 use Rattle.granit_language.specs.Room.{Holder, BlockIn, FlowIn, Room, RightOf, ValueIn, KeyIn, BehindKey, ItemIn, Inside, behind_property, room_behind, right_fits, loose_fits, indicates, opens, part_fits, PartFits, differ, continues_node, sequence_ends, ask_over, place_fits, pair_over}
@@ -35,7 +35,7 @@ put_placed x (AtAsk r a q) v f g = (f.0, f.1, f.2, g)
 put_placed x (AtColon r a left m) v f g = (f.0, f.1, (f.2, g))
 
 entries_then :
-    (x : Terminal) (on : Content → OpenPlace) (r : Hole) (p : NodeProperties) (loose : Bool) (c : ℕ) (es : Entries) →
+    (x : Terminal) (on : Content → OpenPlace) (r : Hole) (p : TreeProperties) (loose : Bool) (c : ℕ) (es : Entries) →
     OpenPlaced x (PastEntry r p loose c es) → ((v : Content) → FilledPlaced x r v → OpenPlaced x (on v)) →
     OpenPlaced x (end_entries x on r p loose c es)
 entries_then x on r p loose c es f g =
@@ -75,7 +75,7 @@ finish_placed x (AtColon r a left m) v f g =
     pair_then x (finish_at x r) r a (WithColon left m v) (f.0, f.1, (f.2, g)) (λ v h. finish_placed x r v f.0 h)
 
 want_closes :
-    (x : Terminal) (r : Hole) (p : NodeProperties) → OpenPlaced x (Want r p) → OpenPlaced x (settle_want x r p)
+    (x : Terminal) (r : Hole) (p : TreeProperties) → OpenPlaced x (Want r p) → OpenPlaced x (settle_want x r p)
 want_closes x r NoProperties f =
     either_is (OpenPlaced x) (empty_fits r x) (finish_at x r Nothing) (Want r NoProperties)
     (λ e. finish_placed x r Nothing f.0 e) (λ e. f)
@@ -115,7 +115,7 @@ choose_placed true n m x y = x refl
 choose_placed false n m x y = y
 
 part_placed :
-    (r : Hole) (p : NodeProperties) (k : PartKind) (i : At) → HolePlaced r → PropertiesPlaced p (room_of r) →
+    (r : Hole) (p : TreeProperties) (k : PartKind) (i : At) → HolePlaced r → PropertiesPlaced p (room_of r) →
     PartFits (room_behind p (room_of r)) k i → NextPlaced (part_take r p k i)
 part_placed r NoProperties (Alias name) i f g h = λ x. put_placed x r (Just (AliasNode name i)) f h
 part_placed r NoProperties (Property k) i f g h = λ x. (f, h)
@@ -137,7 +137,7 @@ entry_placed r a (Colon None) i f g e = λ x. ((f, g, e), tt)
 entry_placed r a kind i f g e = tt
 
 block_placed :
-    (r : Hole) (p : NodeProperties) (kind : TerminalKind) (i : At) → HolePlaced r → PropertiesPlaced p (room_of r) →
+    (r : Hole) (p : TreeProperties) (kind : TerminalKind) (i : At) → HolePlaced r → PropertiesPlaced p (room_of r) →
     right_fits (room_behind p (room_of r)) (edge i) ≡ true → begins_entry_kind kind i.begins_key ≡ true →
     NextPlaced (entry_take r (BlockPairs p (edge i) NoPair) kind i)
 block_placed r p kind i f g e b =
@@ -174,7 +174,7 @@ plain_placed (AtColon r (FlowPairs q bracket o lead) left j) kind i f e b =
     block_placed (AtColon r (FlowPairs q bracket o lead) left j) NoProperties kind i f tt e b
 
 site_placed :
-    (r : Hole) (p : NodeProperties) (kind : TerminalKind) (i : At) → HolePlaced r → PropertiesPlaced p (room_of r) →
+    (r : Hole) (p : TreeProperties) (kind : TerminalKind) (i : At) → HolePlaced r → PropertiesPlaced p (room_of r) →
     indicates (room_behind p (room_of r)) i ≡ true → begins_entry_kind kind i.begins_key ≡ true →
     NextPlaced (entry_at (pair_site r p i) kind i)
 site_placed r NoProperties kind i f g e b = plain_placed r kind i f e b
@@ -190,7 +190,7 @@ fits_is ItemIn k i e = e
 fits_is Inside k i e = e
 
 want_placed :
-    (r : Hole) (p : NodeProperties) (kind : TerminalKind) (i : At) → HolePlaced r → PropertiesPlaced p (room_of r) →
+    (r : Hole) (p : TreeProperties) (kind : TerminalKind) (i : At) → HolePlaced r → PropertiesPlaced p (room_of r) →
     NextPlaced (want_take r p kind i)
 want_placed r p (Part k) i f g =
     choose_placed (opens (room_behind p (room_of r)) i) _ _

@@ -1,7 +1,7 @@
 -- What a lexeme ends, it ends at once.
 use Rattle.std.proofs.Common.{◌≡◌, ℕ, Bool, true, false, refl, ap}
 use Rattle.granit_language.specs.Choice.{choose}
-use Rattle.granit_language.specs.Node.{NodeProperties, NoProperties, One, Two, Alone, Sequence, Mapping, Content, Nothing, Just, Entries, Entry, Through, Pair, WithColon, AskOnly, Paired}
+use Rattle.granit_language.specs.Node.{TreeProperties, NoProperties, One, Two, Alone, Sequence, Mapping, Content, Nothing, Just, Entries, Entry, Through, Pair, WithColon, AskOnly, Paired}
 use Rattle.granit_language.specs.OpenPlace.{Bare, Explicit, Around, BlockPairs, FlowPairs, Hole, AtRoot, AtEntry, AtItem, AtKey, AtAsk, AtColon, OpenPlace, Fresh, InDirectives, BehindRoot, Ended, Want, PastEntry, PastKey, PastAsk, PastPair, PastItem, holder, room_of}
 use Rattle.granit_language.specs.Room.{behind_property, continues_node, sequence_ends, ask_over, pair_over}
 use Rattle.granit_language.specs.Settling.{empty_fits, end_entries, end_pair, end_ask, finish_at, settle}
@@ -16,7 +16,7 @@ either_is P true p q x y = x refl
 either_is P false p q x y = y refl
 
 entries_settled :
-    (x : Terminal) (on : Content → OpenPlace) (r : Hole) (p : NodeProperties) (loose : Bool) (c : ℕ) (es : Entries) →
+    (x : Terminal) (on : Content → OpenPlace) (r : Hole) (p : TreeProperties) (loose : Bool) (c : ℕ) (es : Entries) →
     ((v : Content) → Settled x (on v)) → Settled x (end_entries x on r p loose c es)
 entries_settled x on r p loose c es h =
     either_is (Settled x) (sequence_ends loose c x) (on (Just (Sequence p loose c es x.at.start)))

@@ -2,7 +2,7 @@
 use Rattle.std.proofs.Common.{◌≡◌, ℕ, Bool, true, false, List, ◌∷◌, refl, ◌∙◌, ◌==◌, Some, None}
 use Rattle.granit_grammar.specs.TreeMachine.{Next, Go, NotTaken, if_go, part_take, entry_take, entry_at, plain_site, pair_site, want_take, take, tree_step}
 use Rattle.granit_language.specs.Choice.{choose}
-use Rattle.granit_language.specs.Node.{NodeProperties, NoProperties, One, Two, AliasNode, ScalarNode, Alone, Flow, Sequence, Mapping, Content, Nothing, Just, Entries, Entry, Through, NoPair, AfterPair, Pair, WithColon, AskOnly, NoLast, LastItem, Paired}
+use Rattle.granit_language.specs.Node.{TreeProperties, NoProperties, One, Two, AliasNode, ScalarNode, Alone, Flow, Sequence, Mapping, Content, Nothing, Just, Entries, Entry, Through, NoPair, AfterPair, Pair, WithColon, AskOnly, NoLast, LastItem, Paired}
 use Rattle.granit_language.specs.OpenPlace.{Bare, Explicit, Around, BlockPairs, FlowPairs, Hole, AtRoot, AtEntry, AtItem, AtKey, AtAsk, AtColon, OpenPlace, Fresh, InDirectives, BehindRoot, Want, PastEntry, PastKey, PastAsk, PastPair, PastItem, spell_around, spell_hole, spell_open, holder, room_of}
 use Rattle.granit_language.specs.Room.{room_behind, right_fits, loose_fits, indicates, opens, part_fits, differ, continues_node, sequence_ends, ask_over, place_fits, pair_over}
 use Rattle.granit_language.specs.Settling.{put_in, empty_fits, end_entries, end_pair, end_ask, finish_at, settle_want, settle}
@@ -35,7 +35,7 @@ put_spells (AtAsk r a q) v = λ rest. refl
 put_spells (AtColon r a left m) v = λ rest. refl
 
 entries_spell :
-    (x : Terminal) (on : Content → OpenPlace) (r : Hole) (p : NodeProperties) (loose : Bool) (c : ℕ) (es : Entries) →
+    (x : Terminal) (on : Content → OpenPlace) (r : Hole) (p : TreeProperties) (loose : Bool) (c : ℕ) (es : Entries) →
     ((v : Content) → Spells (Filled r v) (on v)) →
     Spells (λ rest. spell_hole r (spell_properties p (spell_entries es rest))) (end_entries x on r p loose c es)
 entries_spell x on r p loose c es h =
@@ -66,7 +66,7 @@ finish_spells x (AtKey r a f) v = put_spells (AtKey r a f) v
 finish_spells x (AtAsk r a q) v = ask_spells x (finish_at x r) r a q v (finish_spells x r)
 finish_spells x (AtColon r a left m) v = pair_spells x (finish_at x r) r a (WithColon left m v) (finish_spells x r)
 
-want_spells : (x : Terminal) (r : Hole) (p : NodeProperties) → Spells (spell_open (Want r p)) (settle_want x r p)
+want_spells : (x : Terminal) (r : Hole) (p : TreeProperties) → Spells (spell_open (Want r p)) (settle_want x r p)
 want_spells x r NoProperties = either (Spells _) (empty_fits r x) _ _ (finish_spells x r Nothing) (λ rest. refl)
 want_spells x r (One k i) =
     either (Spells _) (continues_node (room_behind (One k i) (room_of r)) (One k i) x.kind x.at) _ _ (λ rest. refl)
@@ -102,7 +102,7 @@ abbrev pub Then : OpenPlace → TerminalKind → At → List Terminal → List T
 Then p kind i rest = spell_open p (terminal kind i ∷ rest)
 
 part_leads :
-    (r : Hole) (p : NodeProperties) (k : PartKind) (i : At) → Leads (part_take r p k i) (Then (Want r p) (Part k) i)
+    (r : Hole) (p : TreeProperties) (k : PartKind) (i : At) → Leads (part_take r p k i) (Then (Want r p) (Part k) i)
 part_leads r NoProperties (Alias name) i = put_spells r (Just (AliasNode name i))
 part_leads r NoProperties (Property k) i = λ rest. refl
 part_leads r (One m j) (Property k) i = if_leads (differ m k) _ _ (λ rest. refl)
@@ -125,13 +125,13 @@ plain_leads (AtItem r q bracket o lead) kind i = entry_leads r (FlowPairs q brac
 plain_leads r kind i = entry_leads r (BlockPairs NoProperties (edge i) NoPair) kind i
 
 site_leads :
-    (r : Hole) (p : NodeProperties) (kind : TerminalKind) (i : At) →
+    (r : Hole) (p : TreeProperties) (kind : TerminalKind) (i : At) →
     Leads (entry_at (pair_site r p i) kind i) (Then (Want r p) kind i)
 site_leads r NoProperties kind i = plain_leads r kind i
 site_leads r p kind i = entry_leads r (BlockPairs p (edge i) NoPair) kind i
 
 want_leads :
-    (r : Hole) (p : NodeProperties) (kind : TerminalKind) (i : At) →
+    (r : Hole) (p : TreeProperties) (kind : TerminalKind) (i : At) →
     Leads (want_take r p kind i) (Then (Want r p) kind i)
 want_leads r p (Part k) i =
     choose_leads (opens (room_behind p (room_of r)) i) _ _ _ (site_leads r p (Part k) i)

@@ -2,7 +2,7 @@
 use Rattle.std.proofs.Common.{◌≡◌, ℕ, Bool, true, false, List, [], ◌∷◌, refl, sym, ap, ◌∙◌, arith, ◌==◌, nat_lt, Some}
 use Rattle.granit_grammar.specs.TreeMachine.{take, ReadAs, tree_goes, parse}
 use Rattle.granit_language.specs.Choice.{choose}
-use Rattle.granit_language.specs.Node.{NodeProperties, NoProperties, One, Two, Node, Alone, Flow, Sequence, Mapping, Content, Nothing, Just, Entries, Entry, Through, PairLead, Pair, WithColon, AskOnly, Left, SimpleKey, FlowLead, NoLast, LastItem, Single, Paired, AfterDirectives, Rooted, BareRoot, ExplicitRoot, Stream, EndFresh, EndRooted}
+use Rattle.granit_language.specs.Node.{TreeProperties, NoProperties, One, Two, Node, Alone, Flow, Sequence, Mapping, Content, Nothing, Just, Entries, Entry, Through, PairLead, Pair, WithColon, AskOnly, Left, SimpleKey, FlowLead, NoLast, LastItem, Single, Paired, AfterDirectives, Rooted, BareRoot, ExplicitRoot, Stream, EndFresh, EndRooted}
 use Rattle.granit_language.specs.OpenPlace.{Bare, Explicit, Around, BlockPairs, FlowPairs, Hole, AtRoot, AtEntry, AtItem, AtKey, AtAsk, AtColon, OpenPlace, Fresh, InDirectives, BehindRoot, Ended, Want, PastEntry, PastKey, PastAsk, PastPair, PastItem, room_of, AroundPlaced, HolePlaced, OpenPlaced, IsHole, IsOpen}
 use Rattle.granit_language.specs.Placed.{SomeProperties, left_front, pair_front, EntriesPlaced}
 use Rattle.granit_language.specs.Room.{BlockIn, FlowIn, Room, RightOf, ValueIn, KeyIn, BehindKey, ItemIn, Inside, behind_property, room_behind, right_fits, loose_fits, sequence_fits, continues_node, entry_empty, sequence_ends, value_empty, ask_empty}
@@ -68,7 +68,7 @@ IsBlock (RightOf n) = Unit {0}
 IsBlock (ValueIn c) = Unit {0}
 IsBlock room = ⊥
 
-block_right : (p : NodeProperties) (room : Room) (c : ℕ) → right_fits (room_behind p room) c ≡ true → IsBlock room
+block_right : (p : TreeProperties) (room : Room) (c : ℕ) → right_fits (room_behind p room) c ≡ true → IsBlock room
 block_right p (RightOf n) c e = tt
 block_right p (ValueIn d) c e = tt
 block_right NoProperties (KeyIn h f) c e = cc (e)
@@ -86,7 +86,7 @@ block_right NoProperties Inside c e = cc (e)
 block_right (One k i) Inside c e = cc (e)
 block_right (Two k i m j) Inside c e = cc (e)
 
-block_loose : (p : NodeProperties) (room : Room) (c : ℕ) → loose_fits (room_behind p room) c ≡ true → IsBlock room
+block_loose : (p : TreeProperties) (room : Room) (c : ℕ) → loose_fits (room_behind p room) c ≡ true → IsBlock room
 block_loose p (RightOf n) c e = tt
 block_loose p (ValueIn d) c e = tt
 block_loose NoProperties (KeyIn h f) c e = cc (e)
@@ -105,7 +105,7 @@ block_loose (One k i) Inside c e = cc (e)
 block_loose (Two k i m j) Inside c e = cc (e)
 
 block_sequence :
-    (p : NodeProperties) (room : Room) (loose : Bool) (c : ℕ) → sequence_fits (room_behind p room) loose c ≡ true →
+    (p : TreeProperties) (room : Room) (loose : Bool) (c : ℕ) → sequence_fits (room_behind p room) loose c ≡ true →
     IsBlock room
 block_sequence p room true c e = block_loose p room c e
 block_sequence p room false c e = block_right p room c e
@@ -116,7 +116,7 @@ sequence_over true c e = refl
 sequence_over false c e = e
 
 entries_over :
-    (on : Content → OpenPlace) (r : Hole) (p : NodeProperties) (loose : Bool) (c : ℕ) (es : Entries) →
+    (on : Content → OpenPlace) (r : Hole) (p : TreeProperties) (loose : Bool) (c : ℕ) (es : Entries) →
     nat_lt 0 c ≡ true → ((t : Node) → Rooting (on (Just t))) → Rooting (end_entries the_end on r p loose c es)
 entries_over on r p loose c es e h =
     let g = h (Sequence p loose c es text_start)
@@ -128,7 +128,7 @@ entries_over on r p loose c es e h =
     )
 
 pair_over_end :
-    (on : Content → OpenPlace) (r : Hole) (p : NodeProperties) (c : ℕ) (lead : PairLead) (pair : Pair) →
+    (on : Content → OpenPlace) (r : Hole) (p : TreeProperties) (c : ℕ) (lead : PairLead) (pair : Pair) →
     nat_lt 0 c ≡ true → ((t : Node) → Rooting (on (Just t))) →
     Rooting (end_pair the_end on r (BlockPairs p c lead) pair)
 pair_over_end on r p c lead pair e h =
@@ -161,7 +161,7 @@ roots (AtColon r (FlowPairs p bracket o lead) left m) f g t = absurd g
 
 -- a pair of a block mapping
 block_pair_over :
-    (r : Hole) (p : NodeProperties) (c : ℕ) (lead : PairLead) (pair : Pair) → HolePlaced r →
+    (r : Hole) (p : TreeProperties) (c : ℕ) (lead : PairLead) (pair : Pair) → HolePlaced r →
     right_fits (room_behind p (room_of r)) c ≡ true →
     Rooting (end_pair the_end (finish_at the_end r) r (BlockPairs p c lead) pair)
 block_pair_over r p c lead pair f e =
@@ -178,7 +178,7 @@ end_here p b q e h g = end_reads p (g.0, e ∙ ap (λ b. choose b q p) h ∙ g.1
 
 -- a pair of a flow collection
 closes_pair :
-    (r : Hole) (p : NodeProperties) (bracket : Bracket) (o : At) (lead : FlowLead) (pair : Pair)
+    (r : Hole) (p : TreeProperties) (bracket : Bracket) (o : At) (lead : FlowLead) (pair : Pair)
     (more : List Terminal) →
     parse (closer bracket ∷ more) (PastPair r (FlowPairs p bracket o lead) pair)
     ≡ parse more (put_in r (Just (Flow p bracket o lead (LastItem (Paired pair)) nowhere)))
@@ -283,7 +283,7 @@ put_reads (AtColon r a left m) f t =
 
 -- properties alone
 alone_step :
-    (x : Terminal) (more : List Terminal) (r : Hole) (p : NodeProperties) → SomeProperties p →
+    (x : Terminal) (more : List Terminal) (r : Hole) (p : TreeProperties) → SomeProperties p →
     ((room : Room) → continues_node room p x.kind x.at ≡ false) →
     parse (x ∷ more) (Want r p) ≡ parse (x ∷ more) (put_in r (Just (Alone p)))
 alone_step x more r NoProperties s e = absurd s
@@ -298,7 +298,7 @@ alone_step x more r (Two k j m h) s e =
     ∙ sym (close_put x r (Just (Alone (Two k j m h)))))
 
 alone_same :
-    (r : Hole) (p : NodeProperties) → SomeProperties p →
+    (r : Hole) (p : TreeProperties) → SomeProperties p →
     parse (after_put r) (Want r p) ≡ parse (after_put r) (put_in r (Just (Alone p)))
 alone_same (AtRoot root) p s = alone_step the_end [] (AtRoot root) p s (λ room. refl)
 alone_same (AtEntry r q loose c lead i) p s = alone_step the_end [] (AtEntry r q loose c lead i) p s (λ room. refl)
@@ -314,7 +314,7 @@ alone_same (AtColon r (BlockPairs q c lead) left m) p s =
 alone_same (AtColon r (FlowPairs q bracket o lead) left m) p s =
     alone_step (closer bracket) (after_put r) (AtColon r (FlowPairs q bracket o lead) left m) p s (λ room. refl)
 
-alone_reads : (r : Hole) (p : NodeProperties) → SomeProperties p → HolePlaced r → Reads (after_put r) (Want r p)
+alone_reads : (r : Hole) (p : TreeProperties) → SomeProperties p → HolePlaced r → Reads (after_put r) (Want r p)
 alone_reads r p s f = let g = put_reads r f (Alone p) in (g.0, alone_same r p s ∙ g.1)
 
 -- nothing in a hole

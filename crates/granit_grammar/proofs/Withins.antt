@@ -7,7 +7,7 @@ use Rattle.granit_grammar.specs.OpenWithin.{around_blocks, hole_blocks, around_w
 use Rattle.granit_grammar.specs.PlaceFrames.{site_in, hole_frames, pair_made, state_at}
 use Rattle.granit_grammar.specs.TreeMachine.{Next, Go, NotTaken, if_go, part_take, entry_take, entry_at, plain_site, pair_site, want_take, take}
 use Rattle.granit_language.specs.Choice.{choose}
-use Rattle.granit_language.specs.Node.{NodeProperties, NoProperties, One, Two, Node, AliasNode, ScalarNode, Alone, Flow, Sequence, Mapping, Content, Nothing, Just, Entries, Entry, Through, NoPair, AfterPair, Pair, WithColon, AskOnly, SimpleKey, Asked, NoKey, NoLast, LastItem, Single, Paired}
+use Rattle.granit_language.specs.Node.{TreeProperties, NoProperties, One, Two, Node, AliasNode, ScalarNode, Alone, Flow, Sequence, Mapping, Content, Nothing, Just, Entries, Entry, Through, NoPair, AfterPair, Pair, WithColon, AskOnly, SimpleKey, Asked, NoKey, NoLast, LastItem, Single, Paired}
 use Rattle.granit_language.specs.OpenPlace.{Bare, Explicit, Around, BlockPairs, FlowPairs, Hole, AtRoot, AtEntry, AtItem, AtKey, AtAsk, AtColon, OpenPlace, Fresh, InDirectives, BehindRoot, Want, PastEntry, PastKey, PastAsk, PastPair, PastItem, Ended, holder, room_of}
 use Rattle.granit_language.specs.Room.{room_behind, right_fits, loose_fits, indicates, opens, part_fits, differ, continues_node, sequence_ends, ask_over, place_fits, pair_over}
 use Rattle.granit_language.specs.Settling.{put_in, empty_fits, end_entries, end_pair, end_ask, finish_at, settle_want, settle}
@@ -37,7 +37,7 @@ put_keeps n (AtAsk r a q) v = refl
 put_keeps n (AtColon r a left m) v = refl
 
 entries_keep :
-    (n : ℕ) (x : Terminal) (on : Content → OpenPlace) (r : Hole) (p : NodeProperties) (loose : Bool) (c : ℕ)
+    (n : ℕ) (x : Terminal) (on : Content → OpenPlace) (r : Hole) (p : TreeProperties) (loose : Bool) (c : ℕ)
     (es : Entries) →
     ((v : Content) → Keeps n (Filled n r v) (on v)) →
     Keeps n (entries_within n es (suc (hole_blocks r)) (hole_within n r && nat_le (suc (hole_blocks r)) n))
@@ -71,7 +71,7 @@ finish_keeps n x (AtKey r a f) v = put_keeps n (AtKey r a f) v
 finish_keeps n x (AtAsk r a q) v = ask_keeps n x (finish_at x r) r a q v (finish_keeps n x r)
 finish_keeps n x (AtColon r a left m) v = pair_keeps n x (finish_at x r) r a (WithColon left m v) (finish_keeps n x r)
 
-want_keeps : (n : ℕ) (x : Terminal) (r : Hole) (p : NodeProperties) → Keeps n (hole_within n r) (settle_want x r p)
+want_keeps : (n : ℕ) (x : Terminal) (r : Hole) (p : TreeProperties) → Keeps n (hole_within n r) (settle_want x r p)
 want_keeps n x r NoProperties = either (Keeps n _) (empty_fits r x) _ _ (finish_keeps n x r Nothing) refl
 want_keeps n x r (One k i) =
     either (Keeps n _) (continues_node (room_behind (One k i) (room_of r)) (One k i) x.kind x.at) _ _ refl
@@ -141,7 +141,7 @@ filled_keeps : (n : ℕ) (r : Hole) (t : Node) → StepKeeps n (Filled n r (Just
 filled_keeps n r t = stays (put_keeps n r (Just t)) (put_blocks r t)
 
 part_stays :
-    (n : ℕ) (r : Hole) (p : NodeProperties) (k : PartKind) (i : At) →
+    (n : ℕ) (r : Hole) (p : TreeProperties) (k : PartKind) (i : At) →
     NextStays n (hole_within n r) (hole_blocks r) (part_take r p k i)
 part_stays n r NoProperties (Alias name) i = node_stays n r (AliasNode name i) refl
 part_stays n r NoProperties (Property k) i = (refl, refl)
@@ -161,7 +161,7 @@ entry_stays n r a kind i = tt
 
 -- a new block mapping
 block_begins :
-    (n : ℕ) (r : Hole) (p : NodeProperties) (kind : TerminalKind) (i : At) →
+    (n : ℕ) (r : Hole) (p : TreeProperties) (kind : TerminalKind) (i : At) →
     NextKeeps n (hole_within n r) (hole_blocks r) (entry_take r (BlockPairs p (edge i) NoPair) kind i)
 block_begins n r p kind i = as_begun n _ _ _ (entry_stays n r (BlockPairs p (edge i) NoPair) kind i)
 
@@ -176,14 +176,14 @@ plain_keeps n (AtAsk r a q) kind i = block_begins n (AtAsk r a q) NoProperties k
 plain_keeps n (AtColon r a left m) kind i = block_begins n (AtColon r a left m) NoProperties kind i
 
 site_keeps :
-    (n : ℕ) (r : Hole) (p : NodeProperties) (kind : TerminalKind) (i : At) →
+    (n : ℕ) (r : Hole) (p : TreeProperties) (kind : TerminalKind) (i : At) →
     NextKeeps n (hole_within n r) (hole_blocks r) (entry_at (pair_site r p i) kind i)
 site_keeps n r NoProperties kind i = plain_keeps n r kind i
 site_keeps n r (One k j) kind i = block_begins n r (One k j) kind i
 site_keeps n r (Two k j m h) kind i = block_begins n r (Two k j m h) kind i
 
 want_next :
-    (n : ℕ) (r : Hole) (p : NodeProperties) (kind : TerminalKind) (i : At) →
+    (n : ℕ) (r : Hole) (p : TreeProperties) (kind : TerminalKind) (i : At) →
     NextKeeps n (hole_within n r) (hole_blocks r) (want_take r p kind i)
 want_next n r p (Part k) i =
     choose_keep n _ _ (opens (room_behind p (room_of r)) i) _ _ (site_keeps n r p (Part k) i)
@@ -255,7 +255,7 @@ put_most d (AtAsk r a q) v e = e
 put_most d (AtColon r a left m) v e = e
 
 entries_most :
-    (d : ℕ) (x : Terminal) (on : Content → OpenPlace) (r : Hole) (p : NodeProperties) (loose : Bool) (c : ℕ)
+    (d : ℕ) (x : Terminal) (on : Content → OpenPlace) (r : Hole) (p : TreeProperties) (loose : Bool) (c : ℕ)
     (es : Entries) →
     ((v : Content) → AtMost d (on v)) → nat_le (suc (hole_blocks r)) d ≡ true →
     AtMost d (end_entries x on r p loose c es)
@@ -292,7 +292,7 @@ finish_most d x (AtColon r a left m) v e =
     (λ v. finish_most d x r v (around_less a (hole_blocks r) d e)) e
 
 want_most :
-    (d : ℕ) (x : Terminal) (r : Hole) (p : NodeProperties) → nat_le (hole_blocks r) d ≡ true →
+    (d : ℕ) (x : Terminal) (r : Hole) (p : TreeProperties) → nat_le (hole_blocks r) d ≡ true →
     AtMost d (settle_want x r p)
 want_most d x r NoProperties e = either (AtMost d) (empty_fits r x) _ _ (finish_most d x r Nothing e) e
 want_most d x r (One k i) e =

@@ -3,7 +3,7 @@ use Rattle.std.specs.Prelude.{ℕ, Bool, true, false, ◌||◌, ◌==◌, List, 
 use Rattle.granit_base.specs.Place.{Mark}
 use Rattle.granit_language.specs.Choice.{choose}
 use Rattle.granit_language.specs.GrammarFault.{GrammarFault, ExpectedDocumentStart, MissingDocumentEndBeforeDirective, UnexpectedEofBlockSequence, UnexpectedEofBlockMapping, UnexpectedEofImplicitFlowMapping, ExpectedBlockMappingKey, ExpectedBlockSequenceEntry, ExpectedFlowMappingSeparator, ExpectedFlowSequenceSeparator, NoFault}
-use Rattle.granit_language.specs.Node.{NodeProperties, NoProperties, One, Two}
+use Rattle.granit_language.specs.Node.{TreeProperties, NoProperties, One, Two}
 use Rattle.granit_language.specs.Room.{BlockIn, FlowIn, Room, RightOf, ValueIn, KeyIn, ItemIn, Inside, behind_property, room_behind, right_fits, loose_fits, indicates, opens, part_fits, differ, continues_node, entry_empty, sequence_ends, value_empty, ask_empty, ask_over}
 use Rattle.granit_language.specs.Terminal.{PartKind, Alias, Property, Scalar, Open, TerminalKind, Directive, DocumentStart, DocumentEnd, TheEnd, Dash, Question, Comma, Colon, Close, Part, At, Terminal, terminal, edge, is_stream_kind, is_comma_kind, closes_kind, stands_left, entry_in, text_start, no_terminal, is_directive_kind}
 use Rattle.granit_language.specs.TreeEvents.{StreamStarts, StreamEnds, DocumentEnds, SequenceEnds, MappingEnds, DocumentStarts, TreeEvent, pointed, shown_event, null, properties_end, alone_event, scalar_event, alias_event, flow_start, flow_end, sequence_start, mapping_start, pair_start, version_of, bare_document_start}
@@ -20,7 +20,7 @@ pub data PairAt : Type 0 where
 pub data OpenFrame : Type 0 where
   -- with the place behind a `---`
   DocumentFrame : Option Mark → OpenFrame
-  PropertiesFrame : NodeProperties → OpenFrame
+  PropertiesFrame : TreeProperties → OpenFrame
   -- indentless or not, in a column; with the place where nothing would stand, directly behind a `-`
   SequenceFrame : Bool → ℕ → Option Mark → OpenFrame
   MappingFrame : ℕ → PairAt → OpenFrame
@@ -194,7 +194,7 @@ flow_frame Square = FlowSequenceFrame false
 flow_frame Curly = FlowMappingFrame false Opened
 
 -- a lexeme of a node, behind properties
-abbrev pub part_frames : GrammarFault → List OpenFrame → NodeProperties → PartKind → At → EventStep
+abbrev pub part_frames : GrammarFault → List OpenFrame → TreeProperties → PartKind → At → EventStep
 part_frames stop fs NoProperties (Alias name) i =
     GoesTo (put_frames i.shown.end fs) (alias_event name i (frames_indent fs) ∷ [])
 part_frames stop fs NoProperties (Property k) i = GoesTo (InFrames (PropertiesFrame (One k i) ∷ fs)) []
@@ -240,7 +240,7 @@ plain_pair stop fs kind i =
     after_events (mapping_start NoProperties (terminal kind i) (frames_indent fs) ∷ [])
     (entry_frames stop (BlockSite (edge i) fs) kind i)
 
-abbrev pub begin_pair_frames : GrammarFault → List OpenFrame → NodeProperties → TerminalKind → At → EventStep
+abbrev pub begin_pair_frames : GrammarFault → List OpenFrame → TreeProperties → TerminalKind → At → EventStep
 begin_pair_frames stop fs NoProperties kind i = plain_pair stop fs kind i
 begin_pair_frames stop fs p kind i =
     after_events (mapping_start p (terminal kind i) (frames_indent fs) ∷ [])
@@ -256,7 +256,7 @@ stop_kind (FlowPairFrame at ∷ fs) = UnexpectedEofImplicitFlowMapping
 stop_kind fs = UnexpectedEofBlockSequence
 
 -- a lexeme where a node must stand, behind properties
-abbrev pub want_frames : List OpenFrame → NodeProperties → TerminalKind → At → EventStep
+abbrev pub want_frames : List OpenFrame → TreeProperties → TerminalKind → At → EventStep
 want_frames fs p (Part k) i =
     choose (opens (room_behind p (frames_room fs)) i) (begin_pair_frames (stop_kind fs) fs p (Part k) i)
     (if_gives (part_fits (room_behind p (frames_room fs)) i) (stop_kind fs) (part_frames (stop_kind fs) fs p k i))

@@ -1,7 +1,7 @@
 -- The machine that builds trees: one step for each lexeme.
 use Rattle.std.specs.Prelude.{Bool, true, false, ◌==◌, List, [], ◌∷◌, Some, None}
 use Rattle.granit_language.specs.Choice.{choose}
-use Rattle.granit_language.specs.Node.{NodeProperties, NoProperties, One, Two, AliasNode, ScalarNode, Flow, Just, NoEntry, AfterEntry, Through, NoPair, AfterPair, SimpleKey, Asked, NoKey, NoItem, AfterItem, NoLast, LastItem, Paired, Beginning, ExtraEnd, Closed, FirstDirective, NextDirective, AtFresh, AfterDirectives, AfterRoot, Stream, EndFresh, EndRooted}
+use Rattle.granit_language.specs.Node.{TreeProperties, NoProperties, One, Two, AliasNode, ScalarNode, Flow, Just, NoEntry, AfterEntry, Through, NoPair, AfterPair, SimpleKey, Asked, NoKey, NoItem, AfterItem, NoLast, LastItem, Paired, Beginning, ExtraEnd, Closed, FirstDirective, NextDirective, AtFresh, AfterDirectives, AfterRoot, Stream, EndFresh, EndRooted}
 use Rattle.granit_language.specs.OpenPlace.{Bare, Explicit, Around, BlockPairs, FlowPairs, Hole, AtRoot, AtEntry, AtItem, AtKey, AtAsk, AtColon, OpenPlace, Fresh, InDirectives, BehindRoot, Ended, Want, PastEntry, PastKey, PastAsk, PastPair, PastItem, holder, room_of}
 use Rattle.granit_language.specs.Room.{room_behind, right_fits, loose_fits, indicates, opens, part_fits, differ, place_fits}
 use Rattle.granit_language.specs.Settling.{put_in, settle}
@@ -17,7 +17,7 @@ if_go true n = n
 if_go false n = NotTaken
 
 -- a lexeme of a node, behind properties
-abbrev pub part_take : Hole → NodeProperties → PartKind → At → Next
+abbrev pub part_take : Hole → TreeProperties → PartKind → At → Next
 part_take r NoProperties (Alias name) i = Go (put_in r (Just (AliasNode name i)))
 part_take r NoProperties (Property k) i = Go (Want r (One k i))
 part_take r (One m j) (Property k) i = if_go (differ m k) (Go (Want r (Two m j k i)))
@@ -44,12 +44,12 @@ plain_site (AtItem r q bracket o lead) i = site r (FlowPairs q bracket o lead)
 plain_site r i = site r (BlockPairs NoProperties (edge i) NoPair)
 
 -- the same behind properties
-abbrev pub pair_site : Hole → NodeProperties → At → Site
+abbrev pub pair_site : Hole → TreeProperties → At → Site
 pair_site r NoProperties i = plain_site r i
 pair_site r p i = site r (BlockPairs p (edge i) NoPair)
 
 -- a lexeme at a hole, behind properties
-abbrev pub want_take : Hole → NodeProperties → TerminalKind → At → Next
+abbrev pub want_take : Hole → TreeProperties → TerminalKind → At → Next
 want_take r p (Part k) i =
     choose (opens (room_behind p (room_of r)) i) (entry_at (pair_site r p i) (Part k) i)
     (if_go (part_fits (room_behind p (room_of r)) i) (part_take r p k i))

@@ -8,26 +8,26 @@ use Rattle.granit_language.specs.Terminal.{PropertyKind, At, Terminal}
 use Rattle.granit_lexemes.specs.Lexeme.{Bracket, DirectiveKind}
 
 -- what stands before a node: a tag, an anchor, or both in either order ([96] c-ns-properties, 6.9)
-pub data NodeProperties : Type 0 where
-  NoProperties : NodeProperties
-  One : PropertyKind → At → NodeProperties
-  Two : PropertyKind → At → PropertyKind → At → NodeProperties
+pub data TreeProperties : Type 0 where
+  NoProperties : TreeProperties
+  One : PropertyKind → At → TreeProperties
+  Two : PropertyKind → At → PropertyKind → At → TreeProperties
 
 mutual
   pub data Node : Type 0 where
     -- [104] c-ns-alias-node (7.1)
     AliasNode : (name : Written) → At → Node
     -- [109] c-double-quoted, [120] c-single-quoted, [131] ns-plain, [170] c-l+literal, [174] c-l+folded (7.3, 8.1)
-    ScalarNode : NodeProperties → (style : ScalarStyle) (text : Written) → At → Node
+    ScalarNode : TreeProperties → (style : ScalarStyle) (text : Written) → At → Node
     -- properties alone, before [105] e-scalar (7.2)
-    Alone : NodeProperties → Node
+    Alone : TreeProperties → Node
     -- [137] c-flow-sequence (7.4.1), [140] c-flow-mapping (7.4.2)
-    Flow : NodeProperties → Bracket → (opener : At) → FlowLead → FlowLast → (closer : At) → Node
+    Flow : TreeProperties → Bracket → (opener : At) → FlowLead → FlowLast → (closer : At) → Node
     -- [183] l+block-sequence, in a column (from 1), with the place of the lexeme behind it; one that is a value may
     -- stand in the column of its mapping, and then is indentless ([201] seq-space, 8.2.3)
-    Sequence : NodeProperties → (indentless : Bool) → (column : ℕ) → Entries → (end : Mark) → Node
+    Sequence : TreeProperties → (indentless : Bool) → (column : ℕ) → Entries → (end : Mark) → Node
     -- [187] l+block-mapping (8.2.2)
-    Mapping : NodeProperties → (column : ℕ) → Pairs → (end : Mark) → Node
+    Mapping : TreeProperties → (column : ℕ) → Pairs → (end : Mark) → Node
 
   -- a node or nothing ([106] e-node, 7.2)
   pub data Content : Type 0 where

@@ -1,6 +1,6 @@
 -- How far a list of lexemes has come in the grammar: the place where it goes on, with the finished pieces to its left.
 use Rattle.std.specs.Prelude.{◌≡◌, ℕ, Bool, true, List, ◌∷◌, ◌==◌}
-use Rattle.granit_language.specs.Node.{NodeProperties, NoProperties, Node, Content, Entries, EntryLead, PairLead, Pair, Left, FlowLead, FlowItem, Single, Paired, Before, Directives, Start, Rooted, Stream}
+use Rattle.granit_language.specs.Node.{TreeProperties, NoProperties, Node, Content, Entries, EntryLead, PairLead, Pair, Left, FlowLead, FlowItem, Single, Paired, Before, Directives, Start, Rooted, Stream}
 use Rattle.granit_language.specs.Placed.{PropertiesPlaced, left_front, pair_front, Placed, ContentPlaced, EntriesPlaced, EntryLeadPlaced, PairLeadPlaced, PairPlaced, LeftPlaced, FlowPlaced, ItemPlaced, BeforePlaced, DirectivesPlaced, StartPlaced, RootedPlaced, StreamPlaced}
 use Rattle.granit_language.specs.Room.{Holder, BlockIn, FlowIn, Room, RightOf, KeyIn, ItemIn, room_behind, right_fits, sequence_fits, PartFits, room_value, ask_empty, place_fits, KeyBegins, pair_over}
 use Rattle.granit_language.specs.Terminal.{Open, DocumentStart, Dash, Question, Part, At, Terminal, terminal, edge}
@@ -16,16 +16,16 @@ pub data Root : Type 0 where
 -- before it;
 -- a flow collection, with its properties, its opener and the items before it
 pub data Around : Type 0 where
-  BlockPairs : NodeProperties → (column : ℕ) → PairLead → Around
-  FlowPairs : NodeProperties → Bracket → (opener : At) → FlowLead → Around
+  BlockPairs : TreeProperties → (column : ℕ) → PairLead → Around
+  FlowPairs : TreeProperties → Bracket → (opener : At) → FlowLead → Around
 
 -- a place where a node must stand
 pub data Hole : Type 0 where
   AtRoot : Root → Hole
   -- behind a `-`
-  AtEntry : Hole → NodeProperties → (indentless : Bool) → (column : ℕ) → EntryLead → (dash : At) → Hole
+  AtEntry : Hole → TreeProperties → (indentless : Bool) → (column : ℕ) → EntryLead → (dash : At) → Hole
   -- where an item of a flow collection may begin
-  AtItem : Hole → NodeProperties → Bracket → (opener : At) → FlowLead → Hole
+  AtItem : Hole → TreeProperties → Bracket → (opener : At) → FlowLead → Hole
   -- a simple key that begins with a lexeme
   AtKey : Hole → Around → (first : Terminal) → Hole
   -- behind a `?`
@@ -39,13 +39,13 @@ pub data OpenPlace : Type 0 where
   BehindRoot : Rooted → OpenPlace
   Ended : Stream → OpenPlace
   -- at a hole, behind properties
-  Want : Hole → NodeProperties → OpenPlace
-  PastEntry : Hole → NodeProperties → (indentless : Bool) → (column : ℕ) → Entries → OpenPlace
+  Want : Hole → TreeProperties → OpenPlace
+  PastEntry : Hole → TreeProperties → (indentless : Bool) → (column : ℕ) → Entries → OpenPlace
   PastKey : Hole → Around → (first : Terminal) → Node → OpenPlace
   -- behind a `?` and its key, where a `:` may follow
   PastAsk : Hole → Around → (question : At) → Content → OpenPlace
   PastPair : Hole → Around → Pair → OpenPlace
-  PastItem : Hole → NodeProperties → Bracket → (opener : At) → FlowLead → FlowItem → OpenPlace
+  PastItem : Hole → TreeProperties → Bracket → (opener : At) → FlowLead → FlowItem → OpenPlace
 
 abbrev pub spell_root : Root → List Terminal → List Terminal
 spell_root (Bare b) rest = spell_before b rest

@@ -1,17 +1,17 @@
 -- Trees whose parts stand where they may, each in front of the lexeme that follows it (YAML 1.2.2, 6.1, 7.4, 8.2, 9.2).
 use Rattle.std.specs.Prelude.{◌≡◌, ℕ, Bool, true, false, ◌==◌, Some, None}
-use Rattle.granit_language.specs.Node.{NodeProperties, NoProperties, One, Two, Node, AliasNode, ScalarNode, Alone, Flow, Sequence, Mapping, Content, Nothing, Just, Entries, Entry, EntryLead, NoEntry, AfterEntry, Pairs, Through, PairLead, NoPair, AfterPair, Pair, WithColon, AskOnly, Left, SimpleKey, Asked, NoKey, FlowLead, NoItem, AfterItem, FlowLast, NoLast, LastItem, FlowItem, Single, Paired, Before, Beginning, ExtraEnd, Closed, Directives, FirstDirective, NextDirective, Start, AtFresh, AfterDirectives, AfterRoot, Rooted, BareRoot, ExplicitRoot, Stream, EndFresh, EndRooted}
+use Rattle.granit_language.specs.Node.{TreeProperties, NoProperties, One, Two, Node, AliasNode, ScalarNode, Alone, Flow, Sequence, Mapping, Content, Nothing, Just, Entries, Entry, EntryLead, NoEntry, AfterEntry, Pairs, Through, PairLead, NoPair, AfterPair, Pair, WithColon, AskOnly, Left, SimpleKey, Asked, NoKey, FlowLead, NoItem, AfterItem, FlowLast, NoLast, LastItem, FlowItem, Single, Paired, Before, Beginning, ExtraEnd, Closed, Directives, FirstDirective, NextDirective, Start, AtFresh, AfterDirectives, AfterRoot, Rooted, BareRoot, ExplicitRoot, Stream, EndFresh, EndRooted}
 use Rattle.granit_language.specs.Room.{Holder, BlockIn, FlowIn, Room, RightOf, KeyIn, ItemIn, behind_property, room_behind, right_fits, sequence_fits, PartFits, differ, continues_node, entry_empty, sequence_ends, room_value, value_empty, ask_empty, ask_over, place_fits, KeyBegins}
 use Rattle.granit_language.specs.Terminal.{Alias, Property, Scalar, Open, DocumentStart, DocumentEnd, TheEnd, Dash, Question, Comma, Colon, Close, At, Terminal, terminal, edge, is_stream_kind, stands_left}
 use Rattle.granit_lexemes.specs.Lexeme.{Bracket}
 
-abbrev pub PropertiesPlaced : NodeProperties → Room → Type 0
+abbrev pub PropertiesPlaced : TreeProperties → Room → Type 0
 PropertiesPlaced NoProperties room = Unit {0}
 PropertiesPlaced (One k i) room = PartFits room (Property k) i
 PropertiesPlaced (Two k i m j) room =
     PartFits room (Property k) i × PartFits (behind_property room) (Property m) j × (differ k m ≡ true)
 
-abbrev pub SomeProperties : NodeProperties → Type 0
+abbrev pub SomeProperties : TreeProperties → Type 0
 SomeProperties NoProperties = ⊥
 SomeProperties (One k i) = Unit {0}
 SomeProperties (Two k i m j) = Unit {0}

@@ -1,7 +1,7 @@
 -- What a place demands of the node there, and what may follow (YAML 1.2.2, 6.1, 7.4 and 8.2). Each test is one for the
 -- machines and for the trees.
 use Rattle.std.specs.Prelude.{◌≡◌, ℕ, Bool, true, false, ◌&&◌, ◌||◌, not, ◌==◌, nat_lt, None}
-use Rattle.granit_language.specs.Node.{NodeProperties, NoProperties, One, Two, Pair, WithColon, AskOnly, Left, Asked}
+use Rattle.granit_language.specs.Node.{TreeProperties, NoProperties, One, Two, Pair, WithColon, AskOnly, Left, Asked}
 use Rattle.granit_language.specs.Terminal.{PropertyKind, Anchor, Tag, PartKind, Alias, Property, TerminalKind, Dash, Question, Colon, Part, At, Terminal, terminal, edge, stands_left, dash_in, entry_in, bare_in, is_comma_kind, closes_kind, is_bare_kind}
 use Rattle.granit_lexemes.specs.Lexeme.{Bracket, Square, Curly}
 
@@ -33,7 +33,7 @@ behind_property (BehindKey c) = BehindKey c
 behind_property ItemIn = Inside
 behind_property Inside = Inside
 
-abbrev pub room_behind : NodeProperties → Room → Room
+abbrev pub room_behind : TreeProperties → Room → Room
 room_behind NoProperties room = room
 room_behind (One k i) room = behind_property room
 room_behind (Two k i m j) room = behind_property room
@@ -82,7 +82,7 @@ differ (Tag h s) (Anchor a) = true
 differ k m = false
 
 -- a lexeme of a node may stand behind these properties
-abbrev pub joins : NodeProperties → PartKind → Bool
+abbrev pub joins : TreeProperties → PartKind → Bool
 joins NoProperties k = true
 joins (One k i) (Property m) = differ k m
 joins (Two k i m j) (Property n) = false
@@ -90,7 +90,7 @@ joins p (Alias name) = false
 joins p k = true
 
 -- a lexeme goes on with the node whose properties stand before it
-abbrev pub continues_node : Room → NodeProperties → TerminalKind → At → Bool
+abbrev pub continues_node : Room → TreeProperties → TerminalKind → At → Bool
 continues_node room p (Part k) i = opens room i || (part_fits room i && joins p k)
 continues_node room p Dash i = loose_fits room (edge i) || right_fits room (edge i)
 continues_node room p Question i = indicates room i

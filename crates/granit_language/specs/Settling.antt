@@ -2,7 +2,7 @@
 -- empty.
 use Rattle.std.specs.Prelude.{ℕ, Bool, false}
 use Rattle.granit_language.specs.Choice.{choose}
-use Rattle.granit_language.specs.Node.{NodeProperties, NoProperties, Alone, Sequence, Mapping, Content, Nothing, Just, Entries, Entry, Through, Pair, WithColon, AskOnly, Single, Paired, BareRoot, ExplicitRoot}
+use Rattle.granit_language.specs.Node.{TreeProperties, NoProperties, Alone, Sequence, Mapping, Content, Nothing, Just, Entries, Entry, Through, Pair, WithColon, AskOnly, Single, Paired, BareRoot, ExplicitRoot}
 use Rattle.granit_language.specs.OpenPlace.{Bare, Explicit, Around, BlockPairs, FlowPairs, Hole, AtRoot, AtEntry, AtItem, AtKey, AtAsk, AtColon, OpenPlace, BehindRoot, Want, PastEntry, PastKey, PastAsk, PastPair, PastItem, holder, room_of}
 use Rattle.granit_language.specs.Room.{room_behind, continues_node, entry_empty, sequence_ends, value_empty, ask_empty, ask_over, pair_over}
 use Rattle.granit_language.specs.Terminal.{At, Terminal, is_stream_kind, stands_left}
@@ -29,7 +29,7 @@ empty_fits (AtAsk r a q) x = ask_empty (holder a) x
 empty_fits (AtColon r a left m) x = value_empty (holder a) x
 
 -- The function finishes a node in the hole.
-abbrev pub end_entries : Terminal → (Content → OpenPlace) → Hole → NodeProperties → Bool → ℕ → Entries → OpenPlace
+abbrev pub end_entries : Terminal → (Content → OpenPlace) → Hole → TreeProperties → Bool → ℕ → Entries → OpenPlace
 end_entries x on r p loose c es =
     choose (sequence_ends loose c x) (on (Just (Sequence p loose c es x.at.start))) (PastEntry r p loose c es)
 
@@ -53,7 +53,7 @@ finish_at x (AtKey r a f) v = put_in (AtKey r a f) v
 finish_at x (AtAsk r a q) v = end_ask x (finish_at x r) r a q v
 finish_at x (AtColon r a left m) v = end_pair x (finish_at x r) r a (WithColon left m v)
 
-abbrev pub settle_want : Terminal → Hole → NodeProperties → OpenPlace
+abbrev pub settle_want : Terminal → Hole → TreeProperties → OpenPlace
 settle_want x r NoProperties = choose (empty_fits r x) (finish_at x r Nothing) (Want r NoProperties)
 settle_want x r p =
     choose (continues_node (room_behind p (room_of r)) p x.kind x.at) (Want r p) (finish_at x r (Just (Alone p)))

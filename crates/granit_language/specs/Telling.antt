@@ -11,7 +11,7 @@ use Rattle.granit_lexemes.specs.Source.{Source}
 use Rattle.granit_lexemes.specs.PlainEvent as plain
 use Rattle.granit_lexemes.specs.PlainEvent.{PlainEvent, PlainTag, PlainVersion, event_at}
 use Rattle.granit_base.specs.Place.{Mark}
-use Rattle.granit_language.specs.Node.{NodeProperties, NoProperties, One, Two}
+use Rattle.granit_language.specs.Node.{TreeProperties, NoProperties, One, Two}
 use Rattle.granit_language.specs.Scoping.{prefix_of, number_of_anchor}
 use Rattle.granit_language.specs.Terminal.{PropertyKind, Anchor, Tag, At}
 use Rattle.granit_language.specs.TreeEvents.{TreeEventKind, StreamStarts, StreamEnds, DocumentEnds, SequenceEnds, MappingEnds, DocumentStarts, AliasIs, ScalarIs, SequenceStarts, MappingStarts, TreeEvent}
@@ -41,12 +41,12 @@ tag_in (Tag handle suffix) i other =
       i.shown,
     )
 
-abbrev pub properties_anchor : NodeProperties → AnchorTold
+abbrev pub properties_anchor : TreeProperties → AnchorTold
 properties_anchor NoProperties = None
 properties_anchor (One k i) = anchor_in k i None
 properties_anchor (Two k i m j) = anchor_in m j (anchor_in k i None)
 
-abbrev pub properties_tag : NodeProperties → TagTold
+abbrev pub properties_tag : TreeProperties → TagTold
 properties_tag NoProperties = None
 properties_tag (One k i) = tag_in k i None
 properties_tag (Two k i m j) = tag_in m j (tag_in k i None)
@@ -87,7 +87,7 @@ anchor_told o None more = more
 anchor_told o (Some a) more = if o.emit_anchor_events then event_at (plain.Anchor a.0 a.1) a.2 ∷ more else more
 
 abbrev pub node_told :
-    OptionsData → NodeProperties → (ℕ → Option PlainTag → plain.EventKind) → Mark → Mark → Option ℕ → List PlainEvent
+    OptionsData → TreeProperties → (ℕ → Option PlainTag → plain.EventKind) → Mark → Mark → Option ℕ → List PlainEvent
 node_told o p kind from to indent =
     record {
       kind = kind (number_told (properties_anchor p)) (tag_told (properties_tag p));

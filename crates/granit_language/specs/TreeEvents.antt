@@ -7,7 +7,7 @@ use Rattle.granit_base.specs.declared.style.ScalarStyle.{ScalarStyle}
 use Rattle.granit_base.specs.Place.{Mark}
 use Rattle.granit_lexemes.specs.Basics.{owned}
 use Rattle.granit_language.specs.Choice.{choose}
-use Rattle.granit_language.specs.Node.{NodeProperties, NoProperties, One, Two, Node, AliasNode, ScalarNode, Alone, Flow, Sequence, Mapping, Content, Nothing, Just, Entries, Entry, EntryLead, NoEntry, AfterEntry, Pairs, Through, PairLead, NoPair, AfterPair, Pair, WithColon, AskOnly, Left, SimpleKey, Asked, NoKey, FlowLead, NoItem, AfterItem, FlowLast, NoLast, LastItem, FlowItem, Single, Paired, Before, Beginning, ExtraEnd, Closed, Directives, FirstDirective, NextDirective, Start, AtFresh, AfterDirectives, AfterRoot, Rooted, BareRoot, ExplicitRoot, Stream, EndFresh, EndRooted}
+use Rattle.granit_language.specs.Node.{TreeProperties, NoProperties, One, Two, Node, AliasNode, ScalarNode, Alone, Flow, Sequence, Mapping, Content, Nothing, Just, Entries, Entry, EntryLead, NoEntry, AfterEntry, Pairs, Through, PairLead, NoPair, AfterPair, Pair, WithColon, AskOnly, Left, SimpleKey, Asked, NoKey, FlowLead, NoItem, AfterItem, FlowLast, NoLast, LastItem, FlowItem, Single, Paired, Before, Beginning, ExtraEnd, Closed, Directives, FirstDirective, NextDirective, Start, AtFresh, AfterDirectives, AfterRoot, Rooted, BareRoot, ExplicitRoot, Stream, EndFresh, EndRooted}
 use Rattle.granit_language.specs.Placed.{pair_front}
 use Rattle.granit_language.specs.Room.{Holder, BlockIn, FlowIn}
 use Rattle.granit_language.specs.Scope.{Scope}
@@ -19,8 +19,8 @@ pub data TreeEventKind : Type 0 where
   DocumentStarts : (explicit : Bool) → (version : Option (ℕ × ℕ)) → TreeEventKind
   -- with what stands before it
   AliasIs : (name : Written) → Scope → TreeEventKind
-  ScalarIs : NodeProperties → (style : ScalarStyle) (text : Written) → TreeEventKind
-  SequenceStarts MappingStarts : (flow : Bool) → NodeProperties → TreeEventKind
+  ScalarIs : TreeProperties → (style : ScalarStyle) (text : Written) → TreeEventKind
+  SequenceStarts MappingStarts : (flow : Bool) → TreeProperties → TreeEventKind
 
 pub record TreeEvent : Type 0 where
   pub kind : TreeEventKind
@@ -51,7 +51,7 @@ abbrev pub indent_of_key : Holder → Option ℕ
 indent_of_key (BlockIn c) = Some c
 indent_of_key (FlowIn bracket) = None
 
-abbrev pub properties_end : NodeProperties → Mark
+abbrev pub properties_end : TreeProperties → Mark
 properties_end NoProperties = text_start
 properties_end (One k i) = i.shown.end
 properties_end (Two k i m j) = j.shown.end
@@ -61,22 +61,22 @@ is_tag (Anchor name) = false
 is_tag (Tag handle suffix) = true
 
 -- properties alone: the empty text where there is a tag
-abbrev pub alone_text : NodeProperties → List ℕ
+abbrev pub alone_text : TreeProperties → List ℕ
 alone_text NoProperties = codes "~"
 alone_text (One k i) = choose (is_tag k) [] (codes "~")
 alone_text (Two k i m j) = []
 
-abbrev pub alone_event : NodeProperties → Option ℕ → TreeEvent
+abbrev pub alone_event : TreeProperties → Option ℕ → TreeEvent
 alone_event p indent = tree_event (ScalarIs p Plain (owned (alone_text p))) (properties_end p) (properties_end p) indent
 
-abbrev pub scalar_event : NodeProperties → ScalarStyle → Written → At → Option ℕ → TreeEvent
+abbrev pub scalar_event : TreeProperties → ScalarStyle → Written → At → Option ℕ → TreeEvent
 scalar_event p style text i indent =
     tree_event (ScalarIs p style text) i.shown.start i.shown.end (imposed indent i.own_indent)
 
 abbrev pub alias_event : Written → At → Option ℕ → TreeEvent
 alias_event name i indent = tree_event (AliasIs name i.scope) i.shown.start i.shown.end indent
 
-abbrev pub flow_start : NodeProperties → Bracket → At → Option ℕ → TreeEvent
+abbrev pub flow_start : TreeProperties → Bracket → At → Option ℕ → TreeEvent
 flow_start p Square o indent = tree_event (SequenceStarts true p) o.shown.start o.shown.end indent
 flow_start p Curly o indent = tree_event (MappingStarts true p) o.shown.start o.shown.end indent
 
@@ -85,11 +85,11 @@ flow_end Square e = tree_event SequenceEnds e.start e.shown.end None
 flow_end Curly e = tree_event MappingEnds e.start e.shown.end None
 
 -- an indentless sequence starts behind its first `-`
-abbrev pub sequence_start : NodeProperties → Bool → At → Option ℕ → TreeEvent
+abbrev pub sequence_start : TreeProperties → Bool → At → Option ℕ → TreeEvent
 sequence_start p true i indent = tree_event (SequenceStarts false p) i.end i.end indent
 sequence_start p false i indent = tree_event (SequenceStarts false p) i.start i.start indent
 
-abbrev pub mapping_start : NodeProperties → Terminal → Option ℕ → TreeEvent
+abbrev pub mapping_start : TreeProperties → Terminal → Option ℕ → TreeEvent
 mapping_start p x indent = tree_event (MappingStarts false p) x.at.start x.at.start indent
 
 -- the mapping that a pair of a flow sequence is
@@ -132,19 +132,19 @@ abbrev mutual
   content_events Nothing x indent more = null x indent ∷ more
   content_events (Just t) x indent more = node_events t indent more
 
-  pub entries_events : Entries → NodeProperties → Bool → Option ℕ → List TreeEvent → List TreeEvent
+  pub entries_events : Entries → TreeProperties → Bool → Option ℕ → List TreeEvent → List TreeEvent
   entries_events (Entry lead i v) p loose indent more =
       entry_lead_events lead i p loose indent (content_events v i.end None more)
 
-  pub entry_lead_events : EntryLead → At → NodeProperties → Bool → Option ℕ → List TreeEvent → List TreeEvent
+  pub entry_lead_events : EntryLead → At → TreeProperties → Bool → Option ℕ → List TreeEvent → List TreeEvent
   entry_lead_events NoEntry i p loose indent more = sequence_start p loose i indent ∷ more
   entry_lead_events (AfterEntry es) i p loose indent more = entries_events es p loose indent more
 
-  pub pairs_events : Pairs → ℕ → NodeProperties → Option ℕ → List TreeEvent → List TreeEvent
+  pub pairs_events : Pairs → ℕ → TreeProperties → Option ℕ → List TreeEvent → List TreeEvent
   pairs_events (Through lead pair) c p indent more =
       pair_lead_events lead (pair_front pair) c p indent (pair_events pair (BlockIn c) text_start more)
 
-  pub pair_lead_events : PairLead → Terminal → ℕ → NodeProperties → Option ℕ → List TreeEvent → List TreeEvent
+  pub pair_lead_events : PairLead → Terminal → ℕ → TreeProperties → Option ℕ → List TreeEvent → List TreeEvent
   pair_lead_events NoPair x c p indent more = mapping_start p x indent ∷ more
   pair_lead_events (AfterPair ps) x c p indent more = pairs_events ps c p indent more
 
@@ -172,7 +172,7 @@ abbrev mutual
       pair_opens bracket (pair_front pair) (pair_events pair (FlowIn bracket) x (pair_closes bracket x more))
 
 -- the first lexeme
-abbrev pub first_with : NodeProperties → Terminal → Terminal
+abbrev pub first_with : TreeProperties → Terminal → Terminal
 first_with NoProperties x = x
 first_with (One k i) x = terminal (Part (Property k)) i
 first_with (Two k i m j) x = terminal (Part (Property k)) i

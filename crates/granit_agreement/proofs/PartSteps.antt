@@ -1,0 +1,515 @@
+-- A lexeme of a node, at a place for one or behind properties.
+use Rattle.granit_agreement.specs.Good.{Holes, at_root, at_entry, at_key, at_asked, at_value, at_item, at_curly, curly_key, curly_asked, curly_value, made_key, made_value, pair_asked, pair_value}
+use Rattle.granit_agreement.specs.Stepping.{MeansView, StepView, at_kind, knowing}
+use Rattle.granit_agreement.specs.Steps.{PartsAgree, topped}
+use Rattle.granit_agreement.specs.View.{last_of, with_given, terminal_of, at_of, indent_of, frames_of, Beside, state_of}
+use Rattle.granit_grammar.specs.EventMachine.{OpenFrame, InFrames, frames_indent, put_frames, flow_frame, part_frames}
+use Rattle.granit_language.specs.GrammarFault.{GrammarFault, UnknownAnchor, UndeclaredTagHandle}
+use Rattle.granit_language.specs.Node.{TreeProperties, NoProperties, One, Two}
+use Rattle.granit_language.specs.Room.{joins}
+use Rattle.granit_language.specs.Scope.{Scope, entry_of}
+use Rattle.granit_language.specs.Scoping.{number_of_anchor, prefix_of, prefix_by, fault_if_none, alias_fault, scope_fault}
+use Rattle.granit_language.specs.Telling.{alias_told, or_handle, properties_anchor, properties_tag, indent_told, anchor_told}
+use Rattle.granit_language.specs.Terminal.{Anchor, Tag, Part, Alias, Property, Scalar, Open}
+use Rattle.granit_language.specs.TreeEvents.{imposed}
+use Rattle.granit_lexemes.specs.Lexeme.{Square, Curly}
+use Rattle.granit_machine.specs.Frames.{ParserState}
+use Rattle.granit_machine.specs.Giving.{put, flush, key_indent, node_event}
+use Rattle.granit_machine.specs.NodeEnds.{finish, begin}
+use Rattle.granit_machine.specs.NodeSteps.{bare}
+use Rattle.granit_machine.specs.TokenSort.{token_of}
+use Rattle.std.proofs.Common.{◌≡◌, ℕ, Bool, true, false, List, [], ◌∷◌, ◌++◌, length, codes, refl, sym, ap, ap₂, ◌∙◌, subst, ◌==◌, nat_lt, Option, Some, None, Result, Ok, Err}
+use Rattle.std.specs.Prelude.{if◌then◌else◌, nat_eq}
+use lib.Pointwise.{pointwise}
+use Rattle.granit_base.specs.Place.{Mark}
+use Rattle.granit_base.specs.Written.{Written}
+use Rattle.granit_base.specs.declared.style.ScalarStyle.{ScalarStyle}
+use Rattle.granit_base.specs.declared.style.StructureStyle.TheVariants.{Flow}
+use Rattle.granit_error.specs.FaultKind as refused
+use Rattle.granit_error.specs.OptionsData.{OptionsData}
+use Rattle.granit_lexemes.specs.Lexeme as lexemes
+use Rattle.granit_lexemes.specs.Source.{Source}
+use Rattle.granit_lexemes.specs.Outcome.{Fault, fault_at, ◌>>=◌}
+use Rattle.granit_lexemes.specs.PlainEvent as plain
+use Rattle.granit_lexemes.specs.PlainEvent.{PlainEvent, PlainTag, event_at}
+use Rattle.granit_machine.specs.Frames as machine
+use Rattle.granit_machine.specs.NodeSteps as steps
+use Rattle.granit_agreement.proofs.Pops.{indent_none, node_head, node_event_view, flushed, indent_or, indent_view}
+use Rattle.granit_agreement.proofs.Standing.{popped, finish_view}
+
+-- the first event of a node
+abbrev pub HeadGiven :
+    OptionsData → TreeProperties → (ℕ → Option PlainTag → plain.EventKind) → Source → Option ℕ → List PlainEvent →
+    List PlainEvent
+HeadGiven o p kind source indent given =
+    given ++ node_head (properties_anchor p) (properties_tag p) kind source indent
+    ∷ anchor_told o (properties_anchor p) []
+
+hole_event :
+    (o : OptionsData) (kind : ℕ → Option PlainTag → plain.EventKind) (source : Source) (own : Option ℕ)
+    (fs : List OpenFrame) (d : Beside) →
+    Holes fs →
+    node_event o kind source own (state_of o (InFrames fs) d)
+    ≡ popped fs source.end (HeadGiven o NoProperties kind source (key_indent (frames_of fs) own) d.given) d
+unfolding node_event node_head
+hole_event o kind source own fs d (at_root {m = None}) = refl
+hole_event o kind source own fs d (at_root {m = Some m}) = refl
+hole_event o kind source own fs d (at_entry {w = w} q h) =
+    ap (put (node_head None None kind source (key_indent (frames_of fs) own)))
+    (flushed o w o.max_buffered_comment_events (state_of o (InFrames fs) d))
+hole_event o kind source own fs d (at_key q h) = refl
+hole_event o kind source own fs d (at_asked q h) = refl
+hole_event o kind source own fs d (at_value {w = w} q h) =
+    ap (put (node_head None None kind source (key_indent (frames_of fs) own)))
+    (flushed o w o.max_buffered_comment_events (state_of o (InFrames fs) d))
+hole_event o kind source own fs d (at_item h) = refl
+hole_event o kind source own fs d (at_curly h) = refl
+hole_event o kind source own fs d (curly_key h) = refl
+hole_event o kind source own fs d (curly_asked h) = refl
+hole_event o kind source own fs d (curly_value {w = w} h) =
+    ap (put (node_head None None kind source (key_indent (frames_of fs) own)))
+    (flushed o w o.max_buffered_comment_events (state_of o (InFrames fs) d))
+hole_event o kind source own fs d (made_key h) = refl
+hole_event o kind source own fs d (made_value {w = w} h) =
+    ap (put (node_head None None kind source (key_indent (frames_of fs) own)))
+    (flushed o w o.max_buffered_comment_events (state_of o (InFrames fs) d))
+hole_event o kind source own fs d (pair_asked h) = refl
+hole_event o kind source own fs d (pair_value h) = refl
+
+pub node_begins :
+    (o : OptionsData) (p : TreeProperties) (kind : ℕ → Option PlainTag → plain.EventKind) (source : Source)
+    (own : Option ℕ) (fs : List OpenFrame) (d : Beside) →
+    Holes fs →
+    node_event o kind source own (state_of o (InFrames (topped p fs)) d)
+    ≡ popped fs source.end (HeadGiven o p kind source (key_indent (frames_of fs) own) d.given) d
+unfolding node_event
+node_begins o NoProperties kind source own fs d h = hole_event o kind source own fs d h
+node_begins o (One k i) kind source own fs d h =
+    node_event_view o (properties_anchor (One k i)) (properties_tag (One k i)) i.shown.end kind source own fs d.last
+    d.given d
+node_begins o (Two k i m j) kind source own fs d h =
+    node_event_view o (properties_anchor (Two k i m j)) (properties_tag (Two k i m j)) j.shown.end kind source own fs
+    d.last d.given d
+
+-- its indent
+indent_imposed : (i own : Option ℕ) → indent_or i own ≡ indent_told (imposed i (indent_of own))
+indent_imposed None None = refl
+indent_imposed None (Some n) = refl
+indent_imposed (Some c) own = refl
+
+abbrev pub framed : machine.Frame → ParserState → ParserState
+framed f q = record q { frames = f ∷ q.frames }
+
+scalar_given :
+    (o : OptionsData) (p : TreeProperties) (style : ScalarStyle) (text : Written) (l : lexemes.Lexeme)
+    (fs : List OpenFrame) (d : Beside) →
+    Holes fs →
+    finish
+    (node_event o (λ number tag. plain.Scalar text style number tag) l.shown l.indent
+    (state_of o (InFrames (topped p fs)) d))
+    ≡ state_of o (put_frames l.shown.end fs)
+    (with_given l.shown.end
+    (HeadGiven o p (λ number tag. plain.Scalar text style number tag) l.shown
+    (indent_told (imposed (frames_indent fs) (indent_of l.indent))) d.given)
+    d)
+scalar_given o p style text l fs d h =
+    ap finish (node_begins o p (λ number tag. plain.Scalar text style number tag) l.shown l.indent fs d h)
+    ∙
+    (ap
+    (λ i.
+    finish
+    (popped fs l.shown.end
+    (HeadGiven o p (λ number tag. plain.Scalar text style number tag) l.shown i d.given) d))
+    (indent_view fs l.indent h ∙ indent_imposed (frames_indent fs) l.indent)
+    ∙ finish_view o fs l.shown.end
+    (HeadGiven o p (λ number tag. plain.Scalar text style number tag) l.shown
+    (indent_told (imposed (frames_indent fs) (indent_of l.indent))) d.given)
+    d h)
+
+pub scalar_parts :
+    (b : Bool) (style : ScalarStyle) (text : Written) (s : Scope) (l : lexemes.Lexeme) (o : OptionsData) (last : Mark)
+    (given : List PlainEvent) (p : TreeProperties) (fs : List OpenFrame) (stop : GrammarFault) →
+    Holes fs → PartsAgree b (Scalar style text) (lexemes.Scalar style text) s l o last given p fs stop
+unfolding node_head
+scalar_parts b style text s l o last given NoProperties fs stop h =
+    ((l.shown.end, scalar_given o NoProperties style text l fs (knowing s last given) h), refl)
+scalar_parts b style text s l o last given (One k i) fs stop h =
+    ((l.shown.end, scalar_given o (One k i) style text l fs (knowing s last given) h), refl)
+scalar_parts b style text s l o last given (Two k i m j) fs stop h =
+    ((l.shown.end, scalar_given o (Two k i m j) style text l fs (knowing s last given) h), refl)
+
+square_given :
+    (o : OptionsData) (p : TreeProperties) (l : lexemes.Lexeme) (fs : List OpenFrame) (d : Beside) → Holes fs →
+    begin o (λ number tag. plain.SequenceStart Flow number tag) l.shown (machine.FlowSequence false)
+    (state_of o (InFrames (topped p fs)) d)
+    ≡ state_of o (InFrames (flow_frame Square ∷ fs))
+    (with_given l.shown.end
+    (HeadGiven o p (λ number tag. plain.SequenceStart Flow number tag) l.shown (indent_told (frames_indent fs))
+    d.given)
+    d)
+square_given o p l fs d h =
+    ap (framed (machine.FlowSequence false))
+    (node_begins o p (λ number tag. plain.SequenceStart Flow number tag) l.shown None fs d h)
+    ∙ ap
+    (λ i.
+    state_of o (InFrames (flow_frame Square ∷ fs))
+    (with_given l.shown.end (HeadGiven o p (λ number tag. plain.SequenceStart Flow number tag) l.shown i d.given)
+    d))
+    (indent_view fs None h ∙ indent_none (frames_indent fs))
+
+pub square_parts :
+    (b : Bool) (s : Scope) (l : lexemes.Lexeme) (o : OptionsData) (last : Mark) (given : List PlainEvent)
+    (p : TreeProperties) (fs : List OpenFrame) (stop : GrammarFault) →
+    Holes fs → PartsAgree b (Open Square) (lexemes.Open lexemes.Square) s l o last given p fs stop
+unfolding node_head
+square_parts b s l o last given NoProperties fs stop h =
+    ((l.shown.end, square_given o NoProperties l fs (knowing s last given) h), refl)
+square_parts b s l o last given (One k i) fs stop h =
+    ((l.shown.end, square_given o (One k i) l fs (knowing s last given) h), refl)
+square_parts b s l o last given (Two k i m j) fs stop h =
+    ((l.shown.end, square_given o (Two k i m j) l fs (knowing s last given) h), refl)
+
+curly_given :
+    (o : OptionsData) (p : TreeProperties) (l : lexemes.Lexeme) (fs : List OpenFrame) (d : Beside) → Holes fs →
+    begin o (λ number tag. plain.MappingStart Flow number tag) l.shown (machine.FlowMapping false machine.BeforePair)
+    (state_of o (InFrames (topped p fs)) d)
+    ≡ state_of o (InFrames (flow_frame Curly ∷ fs))
+    (with_given l.shown.end
+    (HeadGiven o p (λ number tag. plain.MappingStart Flow number tag) l.shown (indent_told (frames_indent fs))
+    d.given)
+    d)
+curly_given o p l fs d h =
+    ap (framed (machine.FlowMapping false machine.BeforePair))
+    (node_begins o p (λ number tag. plain.MappingStart Flow number tag) l.shown None fs d h)
+    ∙ ap
+    (λ i.
+    state_of o (InFrames (flow_frame Curly ∷ fs))
+    (with_given l.shown.end (HeadGiven o p (λ number tag. plain.MappingStart Flow number tag) l.shown i d.given)
+    d))
+    (indent_view fs None h ∙ indent_none (frames_indent fs))
+
+pub curly_parts :
+    (b : Bool) (s : Scope) (l : lexemes.Lexeme) (o : OptionsData) (last : Mark) (given : List PlainEvent)
+    (p : TreeProperties) (fs : List OpenFrame) (stop : GrammarFault) →
+    Holes fs → PartsAgree b (Open Curly) (lexemes.Open lexemes.Curly) s l o last given p fs stop
+unfolding node_head
+curly_parts b s l o last given NoProperties fs stop h =
+    ((l.shown.end, curly_given o NoProperties l fs (knowing s last given) h), refl)
+curly_parts b s l o last given (One k i) fs stop h =
+    ((l.shown.end, curly_given o (One k i) l fs (knowing s last given) h), refl)
+curly_parts b s l o last given (Two k i m j) fs stop h =
+    ((l.shown.end, curly_given o (Two k i m j) l fs (knowing s last given) h), refl)
+
+-- ---- properties
+
+pub anchor_parts :
+    (b : Bool) (name : Written) (s : Scope) (l : lexemes.Lexeme) (o : OptionsData) (last : Mark)
+    (given : List PlainEvent) (p : TreeProperties) (fs : List OpenFrame) (stop : GrammarFault) →
+    Holes fs → joins p (Property (Anchor name)) ≡ true →
+    PartsAgree b (Property (Anchor name)) (lexemes.Anchor name) s l o last given p fs stop
+anchor_parts b name s l o last given (One (Anchor a) i) fs stop h e = cc (e)
+anchor_parts b name s l o last given (One (Tag u v) i) fs stop h e = ((last, refl), refl)
+anchor_parts b name s l o last given (Two k i m j) fs stop h e = cc (e)
+anchor_parts b name s l o last given NoProperties fs stop (at_root {m = None}) e = ((last_of fs last, refl), refl)
+anchor_parts b name s l o last given NoProperties fs stop (at_root {m = Some m}) e = ((last_of fs last, refl), refl)
+anchor_parts b name s l o last given NoProperties fs stop (at_entry {w = w} q h) e = (
+  (
+    last,
+    ap (steps.anchored (token_of b (at_kind l (lexemes.Anchor name) None)) name)
+        (flushed o w o.max_buffered_comment_events (state_of o (InFrames fs) (knowing s last given))),
+  ),
+  refl,
+)
+anchor_parts b name s l o last given NoProperties fs stop (at_key q h) e = ((last_of fs last, refl), refl)
+anchor_parts b name s l o last given NoProperties fs stop (at_asked q h) e = ((last_of fs last, refl), refl)
+anchor_parts b name s l o last given NoProperties fs stop (at_value {w = w} q h) e = (
+  (
+    last,
+    ap (steps.anchored (token_of b (at_kind l (lexemes.Anchor name) None)) name)
+        (flushed o w o.max_buffered_comment_events (state_of o (InFrames fs) (knowing s last given))),
+  ),
+  refl,
+)
+anchor_parts b name s l o last given NoProperties fs stop (at_item h) e = ((last_of fs last, refl), refl)
+anchor_parts b name s l o last given NoProperties fs stop (at_curly h) e = ((last_of fs last, refl), refl)
+anchor_parts b name s l o last given NoProperties fs stop (curly_key h) e = ((last_of fs last, refl), refl)
+anchor_parts b name s l o last given NoProperties fs stop (curly_asked h) e = ((last_of fs last, refl), refl)
+anchor_parts b name s l o last given NoProperties fs stop (curly_value {w = w} h) e = (
+  (
+    last,
+    ap (steps.anchored (token_of b (at_kind l (lexemes.Anchor name) None)) name)
+        (flushed o w o.max_buffered_comment_events (state_of o (InFrames fs) (knowing s last given))),
+  ),
+  refl,
+)
+anchor_parts b name s l o last given NoProperties fs stop (made_key h) e = ((last_of fs last, refl), refl)
+anchor_parts b name s l o last given NoProperties fs stop (made_value {w = w} h) e = (
+  (
+    last,
+    ap (steps.anchored (token_of b (at_kind l (lexemes.Anchor name) None)) name)
+        (flushed o w o.max_buffered_comment_events (state_of o (InFrames fs) (knowing s last given))),
+  ),
+  refl,
+)
+anchor_parts b name s l o last given NoProperties fs stop (pair_asked h) e = ((last_of fs last, refl), refl)
+anchor_parts b name s l o last given NoProperties fs stop (pair_value h) e = ((last_of fs last, refl), refl)
+
+-- what lists say is one
+lookup_numbers : (name : List ℕ) (xs : List (List ℕ × ℕ)) → steps.lookup_text name xs ≡ entry_of name xs
+lookup_numbers name [] = refl
+lookup_numbers name (x ∷ xs) = ap (λ r. if pointwise nat_eq name x.0 then Some x.1 else r) (lookup_numbers name xs)
+
+lookup_texts : (name : List ℕ) (xs : List (List ℕ × List ℕ)) → steps.lookup_text name xs ≡ entry_of name xs
+lookup_texts name [] = refl
+lookup_texts name (x ∷ xs) = ap (λ r. if pointwise nat_eq name x.0 then Some x.1 else r) (lookup_texts name xs)
+
+-- ---- tags
+
+abbrev of_prefix : lexemes.Lexeme → Option (List ℕ) → Result (List ℕ) Fault
+of_prefix l (Some prefix) = Ok prefix
+of_prefix l None = Err (fault_at refused.UndeclaredTagHandle l.shown.start)
+
+prefix_tests :
+    (l : lexemes.Lexeme) (handle : List ℕ) (a b : Bool) →
+    (if a then Ok (codes "tag:yaml.org,2002:") else if b then Err (fault_at refused.UndeclaredTagHandle l.shown.start)
+    else Ok handle)
+    ≡ of_prefix l (if a then Some (codes "tag:yaml.org,2002:") else if b then None else Some handle)
+prefix_tests l handle true b = refl
+prefix_tests l handle false true = refl
+prefix_tests l handle false false = refl
+
+prefix_same :
+    (b : Bool) (l : lexemes.Lexeme) (handle : List ℕ) (q : Option (List ℕ)) →
+    steps.tag_prefix (token_of b l) handle q ≡ of_prefix l (prefix_by handle q)
+prefix_same b l handle (Some prefix) = refl
+prefix_same b l handle None = prefix_tests l handle (length handle == 2) (nat_lt 2 (length handle))
+
+abbrev TagLexeme : lexemes.Lexeme → List ℕ → List ℕ → lexemes.Lexeme
+TagLexeme l handle suffix = at_kind l (lexemes.Tag handle suffix) None
+
+-- behind properties, with a prefix
+tag_goes :
+    (b : Bool) (handle suffix : List ℕ) (s : Scope) (l : lexemes.Lexeme) (o : OptionsData) (last : Mark)
+    (given : List PlainEvent) (p : TreeProperties) (fs : List OpenFrame) (stop : GrammarFault) (r : List ℕ) →
+    Holes fs → joins p (Property (Tag handle suffix)) ≡ true → prefix_of handle s ≡ Some r →
+    StepView o (terminal_of b s (TagLexeme l handle suffix)) (knowing s last given)
+    (Ok
+    (steps.tagged (token_of b (TagLexeme l handle suffix)) handle suffix (or_handle handle (prefix_of handle s))
+    (flush (state_of o (InFrames (topped p fs)) (knowing s last given)))))
+    (part_frames stop fs p (Property (Tag handle suffix)) (at_of b s (TagLexeme l handle suffix)))
+tag_goes b handle suffix s l o last given (One (Tag u v) i) fs stop r h e t = cc (e)
+tag_goes b handle suffix s l o last given (One (Anchor a) i) fs stop r h e t = (last, refl)
+tag_goes b handle suffix s l o last given (Two k i m j) fs stop r h e t = cc (e)
+tag_goes b handle suffix s l o last given NoProperties fs stop r (at_root {m = None}) e t = (last_of fs last, refl)
+tag_goes b handle suffix s l o last given NoProperties fs stop r (at_root {m = Some m}) e t = (last_of fs last, refl)
+tag_goes b handle suffix s l o last given NoProperties fs stop r (at_entry {w = w} q h) e t = (
+  last,
+  ap (steps.tagged (token_of b (TagLexeme l handle suffix)) handle suffix (or_handle handle (prefix_of handle s)))
+      (flushed o w o.max_buffered_comment_events (state_of o (InFrames fs) (knowing s last given))),
+)
+tag_goes b handle suffix s l o last given NoProperties fs stop r (at_key q h) e t = (last_of fs last, refl)
+tag_goes b handle suffix s l o last given NoProperties fs stop r (at_asked q h) e t = (last_of fs last, refl)
+tag_goes b handle suffix s l o last given NoProperties fs stop r (at_value {w = w} q h) e t = (
+  last,
+  ap (steps.tagged (token_of b (TagLexeme l handle suffix)) handle suffix (or_handle handle (prefix_of handle s)))
+      (flushed o w o.max_buffered_comment_events (state_of o (InFrames fs) (knowing s last given))),
+)
+tag_goes b handle suffix s l o last given NoProperties fs stop r (at_item h) e t = (last_of fs last, refl)
+tag_goes b handle suffix s l o last given NoProperties fs stop r (at_curly h) e t = (last_of fs last, refl)
+tag_goes b handle suffix s l o last given NoProperties fs stop r (curly_key h) e t = (last_of fs last, refl)
+tag_goes b handle suffix s l o last given NoProperties fs stop r (curly_asked h) e t = (last_of fs last, refl)
+tag_goes b handle suffix s l o last given NoProperties fs stop r (curly_value {w = w} h) e t = (
+  last,
+  ap (steps.tagged (token_of b (TagLexeme l handle suffix)) handle suffix (or_handle handle (prefix_of handle s)))
+      (flushed o w o.max_buffered_comment_events (state_of o (InFrames fs) (knowing s last given))),
+)
+tag_goes b handle suffix s l o last given NoProperties fs stop r (made_key h) e t = (last_of fs last, refl)
+tag_goes b handle suffix s l o last given NoProperties fs stop r (made_value {w = w} h) e t = (
+  last,
+  ap (steps.tagged (token_of b (TagLexeme l handle suffix)) handle suffix (or_handle handle (prefix_of handle s)))
+      (flushed o w o.max_buffered_comment_events (state_of o (InFrames fs) (knowing s last given))),
+)
+tag_goes b handle suffix s l o last given NoProperties fs stop r (pair_asked h) e t = (last_of fs last, refl)
+tag_goes b handle suffix s l o last given NoProperties fs stop r (pair_value h) e t = (last_of fs last, refl)
+
+abbrev TagMeans :
+    Bool → List ℕ → List ℕ → Scope → lexemes.Lexeme → OptionsData → Mark → List PlainEvent → TreeProperties →
+    List OpenFrame → GrammarFault → Result (List ℕ) Fault → Type 0
+TagMeans b handle suffix s l o last given p fs stop r =
+    MeansView o (terminal_of b s (TagLexeme l handle suffix)) (knowing s last given)
+    (r
+    >>= λ prefix.
+    Ok
+    (steps.tagged (token_of b (TagLexeme l handle suffix)) handle suffix prefix
+    (flush (state_of o (InFrames (topped p fs)) (knowing s last given)))))
+    (part_frames stop fs p (Property (Tag handle suffix)) (at_of b s (TagLexeme l handle suffix)))
+
+tag_means :
+    (b : Bool) (handle suffix : List ℕ) (s : Scope) (l : lexemes.Lexeme) (o : OptionsData) (last : Mark)
+    (given : List PlainEvent) (p : TreeProperties) (fs : List OpenFrame) (stop : GrammarFault) (r : Option (List ℕ)) →
+    Holes fs → joins p (Property (Tag handle suffix)) ≡ true → prefix_of handle s ≡ r →
+    TagMeans b handle suffix s l o last given p fs stop (of_prefix l r)
+tag_means b handle suffix s l o last given (One (Tag u v) i) fs stop r h e t = cc (e)
+tag_means b handle suffix s l o last given (Two k i m j) fs stop r h e t = cc (e)
+tag_means b handle suffix s l o last given (One (Anchor a) i) fs stop None h e t =
+    (UndeclaredTagHandle, ap (λ r. fault_if_none r UndeclaredTagHandle) t, refl)
+tag_means b handle suffix s l o last given NoProperties fs stop None h e t =
+    (UndeclaredTagHandle, ap (λ r. fault_if_none r UndeclaredTagHandle) t, refl)
+tag_means b handle suffix s l o last given (One (Anchor a) i) fs stop (Some r) h e t = (
+  subst
+      (λ prefix.
+      StepView o (terminal_of b s (TagLexeme l handle suffix)) (knowing s last given)
+      (Ok
+      (steps.tagged (token_of b (TagLexeme l handle suffix)) handle suffix prefix
+      (flush (state_of o (InFrames (topped (One (Anchor a) i) fs)) (knowing s last given)))))
+      (part_frames stop fs (One (Anchor a) i) (Property (Tag handle suffix))
+      (at_of b s (TagLexeme l handle suffix))))
+      (ap (or_handle handle) t) (tag_goes b handle suffix s l o last given (One (Anchor a) i) fs stop r h e t),
+  ap (λ r. fault_if_none r UndeclaredTagHandle) t,
+)
+tag_means b handle suffix s l o last given NoProperties fs stop (Some r) h e t = (
+  subst
+      (λ prefix.
+      StepView o (terminal_of b s (TagLexeme l handle suffix)) (knowing s last given)
+      (Ok
+      (steps.tagged (token_of b (TagLexeme l handle suffix)) handle suffix prefix
+      (flush (state_of o (InFrames fs) (knowing s last given)))))
+      (part_frames stop fs NoProperties (Property (Tag handle suffix)) (at_of b s (TagLexeme l handle suffix))))
+      (ap (or_handle handle) t) (tag_goes b handle suffix s l o last given NoProperties fs stop r h e t),
+  ap (λ r. fault_if_none r UndeclaredTagHandle) t,
+)
+
+pub tag_parts :
+    (b : Bool) (handle suffix : List ℕ) (s : Scope) (l : lexemes.Lexeme) (o : OptionsData) (last : Mark)
+    (given : List PlainEvent) (p : TreeProperties) (fs : List OpenFrame) (stop : GrammarFault) →
+    Holes fs → joins p (Property (Tag handle suffix)) ≡ true →
+    PartsAgree b (Property (Tag handle suffix)) (lexemes.Tag handle suffix) s l o last given p fs stop
+tag_parts b handle suffix s l o last given NoProperties fs stop h e =
+    subst (TagMeans b handle suffix s l o last given NoProperties fs stop)
+    (sym
+    (prefix_same b (TagLexeme l handle suffix) handle (steps.lookup_text handle s.handles)
+    ∙ ap (λ q. of_prefix l (prefix_by handle q)) (lookup_texts handle s.handles)))
+    (tag_means b handle suffix s l o last given NoProperties fs stop (prefix_of handle s) h e refl)
+tag_parts b handle suffix s l o last given (One k i) fs stop h e =
+    subst (TagMeans b handle suffix s l o last given (One k i) fs stop)
+    (sym
+    (prefix_same b (TagLexeme l handle suffix) handle (steps.lookup_text handle s.handles)
+    ∙ ap (λ q. of_prefix l (prefix_by handle q)) (lookup_texts handle s.handles)))
+    (tag_means b handle suffix s l o last given (One k i) fs stop (prefix_of handle s) h e refl)
+tag_parts b handle suffix s l o last given (Two k i m j) fs stop h e =
+    subst (TagMeans b handle suffix s l o last given (Two k i m j) fs stop)
+    (sym
+    (prefix_same b (TagLexeme l handle suffix) handle (steps.lookup_text handle s.handles)
+    ∙ ap (λ q. of_prefix l (prefix_by handle q)) (lookup_texts handle s.handles)))
+    (tag_means b handle suffix s l o last given (Two k i m j) fs stop (prefix_of handle s) h e refl)
+
+-- ---- aliases
+
+abbrev AliasLexeme : lexemes.Lexeme → Written → lexemes.Lexeme
+AliasLexeme l name = at_kind l (lexemes.Alias name) None
+
+alias_given :
+    (o : OptionsData) (kind : plain.EventKind) (l : lexemes.Lexeme) (fs : List OpenFrame) (d : Beside) → Holes fs →
+    finish (node_event o (λ number tag. kind) l.shown None (state_of o (InFrames fs) d))
+    ≡ state_of o (put_frames l.shown.end fs)
+    (with_given l.shown.end
+    (HeadGiven o NoProperties (λ number tag. kind) l.shown (indent_told (frames_indent fs)) d.given) d)
+alias_given o kind l fs d h =
+    ap finish (node_begins o NoProperties (λ number tag. kind) l.shown None fs d h)
+    ∙
+    (ap (λ i. finish (popped fs l.shown.end (HeadGiven o NoProperties (λ number tag. kind) l.shown i d.given) d))
+    (indent_view fs None h ∙ indent_none (frames_indent fs))
+    ∙ finish_view o fs l.shown.end
+    (HeadGiven o NoProperties (λ number tag. kind) l.shown (indent_told (frames_indent fs)) d.given) d h)
+
+alias_told_as :
+    (o : OptionsData) (name : Written) (s : Scope) (r : Option ℕ) (l : lexemes.Lexeme) (fs : List OpenFrame)
+    (last : Mark) (given : List PlainEvent) →
+    number_of_anchor name.characters s ≡ r →
+    state_of o (put_frames l.shown.end fs)
+    (with_given l.shown.end
+    (HeadGiven o NoProperties (λ number tag. alias_told name r) l.shown (indent_told (frames_indent fs)) given)
+    (knowing s last given))
+    ≡ state_of o (put_frames l.shown.end fs)
+    (with_given l.shown.end
+    (HeadGiven o NoProperties (λ number tag. alias_told name (number_of_anchor name.characters s)) l.shown
+    (indent_told (frames_indent fs)) given)
+    (knowing s last given))
+alias_told_as o name s r l fs last given e =
+    ap
+    (λ r.
+    state_of o (put_frames l.shown.end fs)
+    (with_given l.shown.end
+    (HeadGiven o NoProperties (λ number tag. alias_told name r) l.shown (indent_told (frames_indent fs))
+    given)
+    (knowing s last given)))
+    (sym e)
+
+abbrev AliasMeans :
+    Bool → Written → Scope → lexemes.Lexeme → OptionsData → Mark → List PlainEvent → List OpenFrame → GrammarFault →
+    Result ParserState Fault → Type 0
+AliasMeans b name s l o last given fs stop r =
+    MeansView o (terminal_of b s (AliasLexeme l name)) (knowing s last given) r
+    (part_frames stop fs NoProperties (Alias name) (at_of b s (AliasLexeme l name)))
+
+alias_goes :
+    (b : Bool) (name : Written) (s : Scope) (l : lexemes.Lexeme) (o : OptionsData) (last : Mark)
+    (given : List PlainEvent) (fs : List OpenFrame) (stop : GrammarFault) (r : Option ℕ) →
+    Holes fs → number_of_anchor name.characters s ≡ r →
+    scope_fault o.emit_unresolved_aliases (Part (Alias name)) s ≡ None →
+    AliasMeans b name s l o last given fs stop
+    (Ok
+    (finish
+    (node_event o (λ number tag. alias_told name r) l.shown None
+    (state_of o (InFrames fs) (knowing s last given)))))
+unfolding node_head
+alias_goes b name s l o last given fs stop r h e f = (
+  (
+    l.shown.end,
+    alias_given o (alias_told name r) l fs (knowing s last given) h ∙ alias_told_as o name s r l fs last given e,
+  ),
+  f,
+)
+
+alias_unknown :
+    (b : Bool) (name : Written) (s : Scope) (l : lexemes.Lexeme) (o : OptionsData) (last : Mark)
+    (given : List PlainEvent) (fs : List OpenFrame) (stop : GrammarFault) (u : Bool) →
+    o.emit_unresolved_aliases ≡ u → Holes fs → number_of_anchor name.characters s ≡ None →
+    AliasMeans b name s l o last given fs stop
+    (if u then Ok
+    (finish
+    (node_event o (λ number tag. plain.UnresolvedAlias name) l.shown None
+    (state_of o (InFrames fs) (knowing s last given))))
+    else Err (fault_at refused.UnknownAnchor l.shown.start))
+alias_unknown b name s l o last given fs stop true u h e =
+    alias_goes b name s l o last given fs stop None h e (ap₂ (λ u r. alias_fault u r) u e)
+alias_unknown b name s l o last given fs stop false u h e = (UnknownAnchor, ap₂ (λ u r. alias_fault u r) u e, refl)
+
+known_alias : (u : Bool) (n : ℕ) → alias_fault u (Some n) ≡ None
+known_alias true n = refl
+known_alias false n = refl
+
+alias_means :
+    (b : Bool) (name : Written) (s : Scope) (l : lexemes.Lexeme) (o : OptionsData) (last : Mark)
+    (given : List PlainEvent) (fs : List OpenFrame) (stop : GrammarFault) (r : Option ℕ) →
+    Holes fs → number_of_anchor name.characters s ≡ r →
+    AliasMeans b name s l o last given fs stop
+    (steps.alias_by o (token_of b (AliasLexeme l name)) name r (state_of o (InFrames fs) (knowing s last given)))
+alias_means b name s l o last given fs stop (Some n) h e =
+    alias_goes b name s l o last given fs stop (Some n) h e
+    (ap (alias_fault o.emit_unresolved_aliases) e ∙ known_alias o.emit_unresolved_aliases n)
+alias_means b name s l o last given fs stop None h e =
+    alias_unknown b name s l o last given fs stop o.emit_unresolved_aliases refl h e
+
+pub alias_parts :
+    (b : Bool) (name : Written) (s : Scope) (l : lexemes.Lexeme) (o : OptionsData) (last : Mark)
+    (given : List PlainEvent) (fs : List OpenFrame) (stop : GrammarFault) →
+    Holes fs → PartsAgree b (Alias name) (lexemes.Alias name) s l o last given NoProperties fs stop
+alias_parts b name s l o last given fs stop h =
+    subst
+    (λ r.
+    AliasMeans b name s l o last given fs stop
+    (steps.alias_by o (token_of b (AliasLexeme l name)) name r
+    (state_of o (InFrames fs) (knowing s last given))))
+    (sym (lookup_numbers name.characters s.names))
+    (alias_means b name s l o last given fs stop (number_of_anchor name.characters s) h refl)

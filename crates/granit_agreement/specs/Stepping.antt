@@ -1,0 +1,57 @@
+-- How a step of the parser agrees with a step of the grammar's machine, behind closing.
+use Rattle.std.specs.Prelude.{◌≡◌, suc, List, ◌∷◌, Option, Some, None, Result, Ok, Err}
+use Rattle.granit_base.specs.Place.{Mark}
+use Rattle.granit_error.specs.OptionsData.{OptionsData}
+use Rattle.granit_lexemes.specs.Outcome.{Fault}
+use Rattle.granit_lexemes.specs.PlainEvent.{PlainEvent}
+use Rattle.granit_lexemes.specs.Lexeme as lexemes
+use Rattle.granit_agreement.specs.View.{Beside, state_of, give_all}
+use Rattle.granit_grammar.specs.EventMachine.{Ending, ending, EventStep, GoesTo, StopsWith, after_events, take_frames}
+use Rattle.granit_grammar.specs.Guarded.{whole_guard}
+use Rattle.granit_language.specs.GrammarFault.{GrammarFault, fault_of}
+use Rattle.granit_language.specs.Scope.{Scope}
+use Rattle.granit_language.specs.Scoping.{scope_fault}
+use Rattle.granit_language.specs.Terminal.{Anchor, Property, TerminalKind, Part, Terminal}
+use Rattle.granit_lexemes.specs.Lexeme.{KeyStart}
+use Rattle.granit_machine.specs.Frames.{ParserState}
+
+-- what the grammar's machine takes behind its closing
+abbrev pub taken : Ending → Terminal → EventStep
+taken (ending st es) x = after_events es (take_frames st x.kind x.at)
+
+-- an anchor is counted and named
+abbrev pub known_behind : TerminalKind → Beside → Beside
+known_behind (Part (Property (Anchor name))) d =
+    record d { count = suc d.count; names = (name.characters, suc d.count) ∷ d.names }
+known_behind kind d = d
+
+abbrev pub moved_on : OptionsData → Terminal → Mark → List PlainEvent → Beside → Beside
+moved_on o x last given d = record (known_behind x.kind d) { last = last; given = given }
+
+-- what stands before a lexeme is known to the parser
+abbrev pub knowing : Scope → Mark → List PlainEvent → Beside
+knowing s last given = record { last = last; count = s.count; names = s.names; handles = s.handles; given = given }
+
+-- both go on alike, or both stop with one fault
+abbrev pub StepView : OptionsData → Terminal → Beside → Result ParserState Fault → EventStep → Type 0
+StepView o x d (Ok p) (GoesTo st es) = (last : Mark) × (p ≡ state_of o st (moved_on o x last (give_all o es d.given) d))
+StepView o x d (Err f) (StopsWith k) = f ≡ fault_of k x
+StepView o x d (Ok p) (StopsWith k) = ⊥
+StepView o x d (Err f) (GoesTo st es) = ⊥
+
+abbrev pub at_kind : lexemes.Lexeme → lexemes.LexemeKind → Option KeyStart → lexemes.Lexeme
+at_kind l k key = record l { kind = k; key = key; tail = None }
+
+-- the same, where the parser also stops at what means nothing
+abbrev pub MeansView : OptionsData → Terminal → Beside → Result ParserState Fault → EventStep → Type 0
+MeansView o x d (Ok p) (GoesTo st es) =
+    StepView o x d (Ok p) (GoesTo st es) × (scope_fault o.emit_unresolved_aliases x.kind x.at.scope ≡ None)
+MeansView o x d (Err f) (GoesTo st es) =
+    (k : GrammarFault) × (scope_fault o.emit_unresolved_aliases x.kind x.at.scope ≡ Some k) × (f ≡ fault_of k x)
+MeansView o x d r s = StepView o x d r s
+
+-- the same, with the limit of block collections
+abbrev pub LimitView : OptionsData → Terminal → Beside → Result ParserState Fault → EventStep → Type 0
+LimitView o x d (Ok p) (GoesTo st es) = StepView o x d (Ok p) (GoesTo st es) × (whole_guard o st x ≡ None)
+LimitView o x d (Err f) (GoesTo st es) = (k : GrammarFault) × (whole_guard o st x ≡ Some k) × (f ≡ fault_of k x)
+LimitView o x d r s = StepView o x d r s

@@ -1,0 +1,164 @@
+-- The lexemes and states of the plain machine's parser as those of the grammar's machine.
+use Rattle.std.specs.Prelude.{ℕ, suc, Bool, true, false, List, [], ◌∷◌, ◌++◌, Option, Some, None}
+use Rattle.granit_base.specs.Place.{Mark}
+use Rattle.granit_error.specs.OptionsData.{OptionsData}
+use Rattle.granit_lexemes.specs.Lexeme as lexemes
+use Rattle.granit_lexemes.specs.PlainEvent.{PlainEvent}
+use Rattle.granit_grammar.specs.EventMachine.{PairAt, Opened, Key, KeyDone, Asking, AskDone, Solo, Done, Value, OpenFrame, DocumentFrame, PropertiesFrame, SequenceFrame, MappingFrame, FlowSequenceFrame, FlowMappingFrame, FlowPairFrame, EventState, IsFresh, HasDirectives, IsRooted, InFrames, IsEnded}
+use Rattle.granit_language.specs.Node.{TreeProperties}
+use Rattle.granit_language.specs.Scope.{Scope, no_scope}
+use Rattle.granit_language.specs.Telling.{properties_anchor, properties_tag, one_less, version_told, event_told}
+use Rattle.granit_language.specs.Terminal.{Anchor, Tag, Alias, Property, Scalar, Open, TerminalKind, Directive, DocumentStart, DocumentEnd, TheEnd, Dash, Question, Comma, Colon, Close, Part, At, Terminal, terminal}
+use Rattle.granit_language.specs.TreeEvents.{TreeEvent, properties_end}
+use Rattle.granit_lexemes.specs.Lexeme.{Bracket, Square, Curly, Version, TagPrefix, Reserved, KeyStart}
+use Rattle.granit_machine.specs.Frames.{ParserState, Waiting}
+use Rattle.granit_machine.specs.Lexing.{FlaggedItem}
+use Rattle.granit_machine.specs.Frames as machine
+
+-- ---- lexemes
+
+abbrev pub key_number : Option KeyStart → Option ℕ
+key_number None = None
+key_number (Some k) = Some k.number
+
+abbrev pub terminal_kind : lexemes.LexemeKind → Option KeyStart → TerminalKind
+terminal_kind (lexemes.Directive directive) key = Directive directive
+terminal_kind lexemes.DocumentStart key = DocumentStart
+terminal_kind lexemes.DocumentEnd key = DocumentEnd
+terminal_kind lexemes.StreamEnd key = TheEnd
+terminal_kind (lexemes.Open bracket) key = Part (Open bracket)
+terminal_kind (lexemes.Close bracket) key = Close bracket
+terminal_kind lexemes.Comma key = Comma
+terminal_kind lexemes.Dash key = Dash
+terminal_kind lexemes.Question key = Question
+terminal_kind lexemes.Colon key = Colon (key_number key)
+terminal_kind (lexemes.Alias name) key = Part (Alias name)
+terminal_kind (lexemes.Anchor name) key = Part (Property (Anchor name))
+terminal_kind (lexemes.Tag handle suffix) key = Part (Property (Tag handle suffix))
+terminal_kind (lexemes.Scalar style text) key = Part (Scalar style text)
+
+-- columns count from 1
+abbrev pub indent_of : Option ℕ → Option ℕ
+indent_of None = None
+indent_of (Some n) = Some (suc n)
+
+abbrev pub at_of : Bool → Scope → lexemes.Lexeme → At
+at_of begins_key s l = record {
+  start = l.start;
+  shown = l.shown;
+  end = l.end;
+  column = l.start.place.column;
+  in_flow = l.in_flow;
+  begins_line = l.begins_line;
+  follows_indicator = l.follows_indicator;
+  number = l.number;
+  own_indent = indent_of l.indent;
+  begins_key = begins_key;
+  scope = s;
+}
+
+abbrev pub terminal_of : Bool → Scope → lexemes.Lexeme → Terminal
+terminal_of begins_key s l = terminal (terminal_kind l.kind l.key) (at_of begins_key s l)
+
+-- a lexeme and whether a simple key begins with it
+abbrev pub Flagged : Type 0
+Flagged = lexemes.Lexeme × Bool
+
+abbrev pub item_of : Flagged → FlaggedItem
+item_of f = record { item = lexemes.OfLexeme f.0; begins_key = f.1 }
+
+abbrev pub seen : Flagged → Terminal
+seen f = terminal_of f.1 no_scope f.0
+
+-- ---- frames
+
+abbrev pub stage_of : PairAt → machine.PairStage
+stage_of Opened = machine.BeforePair
+stage_of Key = machine.AtKey
+stage_of KeyDone = machine.BehindKey
+stage_of Asking = machine.AtQuestion
+stage_of AskDone = machine.BehindQuestion
+stage_of Solo = machine.BehindAlone
+stage_of Done = machine.BehindPair
+stage_of (Value w) = machine.AtValue
+
+abbrev pub parser_properties : TreeProperties → machine.NodeProperties
+parser_properties p = record { anchor = properties_anchor p; tag = properties_tag p; end = properties_end p }
+
+abbrev pub is_explicit : Option Mark → Bool
+is_explicit None = false
+is_explicit (Some m) = true
+
+abbrev pub frame_of : OpenFrame → machine.Frame
+frame_of (DocumentFrame m) = machine.Root (is_explicit m)
+frame_of (PropertiesFrame p) = machine.WithProperties (parser_properties p)
+frame_of (SequenceFrame loose c w) = machine.BlockSequence (one_less c) loose
+frame_of (MappingFrame c at) = machine.BlockMapping (one_less c) (stage_of at)
+frame_of (FlowSequenceFrame d) = machine.FlowSequence d
+frame_of (FlowMappingFrame single at) = machine.FlowMapping single (stage_of at)
+frame_of (FlowPairFrame at) = machine.FlowPair (stage_of at)
+
+abbrev pub frames_of : List OpenFrame → List machine.Frame
+frames_of [] = []
+frames_of (f ∷ fs) = frame_of f ∷ frames_of fs
+
+-- what waits is the place kept in the innermost frame
+abbrev pub waits_at : ℕ → Mark → Option Waiting
+waits_at room w = Some (record { at = w; room = room; held = [] })
+
+abbrev pub waiting_of : ℕ → List OpenFrame → Option Waiting
+waiting_of room (SequenceFrame loose c (Some w) ∷ fs) = waits_at room w
+waiting_of room (MappingFrame c (Value w) ∷ fs) = waits_at room w
+waiting_of room (FlowMappingFrame single (Value w) ∷ fs) = waits_at room w
+waiting_of room fs = None
+
+-- behind a `---` with nothing, the place behind it is the last event's end
+abbrev pub last_of : List OpenFrame → Mark → Mark
+last_of (DocumentFrame (Some m) ∷ fs) last = m
+last_of fs last = last
+
+-- ---- states
+
+-- what a state of the parser holds beside its frames and its stage
+pub record Beside : Type 0 where
+  pub last : Mark
+  pub count : ℕ
+  pub names : List (List ℕ × ℕ)
+  pub handles : List (List ℕ × List ℕ)
+  pub given : List PlainEvent
+
+abbrev pub outside_of : machine.DocumentStage → Mark → Beside → ParserState
+outside_of stage last b = record {
+  frames = [];
+  stage = stage;
+  last_end = last;
+  count = b.count;
+  names = b.names;
+  handles = b.handles;
+  waiting = None;
+  given = b.given;
+}
+
+abbrev pub state_of : OptionsData → EventState → Beside → ParserState
+state_of o IsFresh b = outside_of machine.Fresh b.last b
+state_of o (HasDirectives v) b = outside_of (machine.Directives (version_told v)) b.last b
+state_of o (IsRooted e) b = outside_of machine.BehindRoot e b
+state_of o IsEnded b = outside_of machine.Between b.last b
+state_of o (InFrames fs) b = record {
+  frames = frames_of fs;
+  stage = machine.Inside;
+  last_end = last_of fs b.last;
+  count = b.count;
+  names = b.names;
+  handles = b.handles;
+  waiting = waiting_of o.max_buffered_comment_events fs;
+  given = b.given;
+}
+
+-- events are given one by one
+abbrev pub give_all : OptionsData → List TreeEvent → List PlainEvent → List PlainEvent
+give_all o [] given = given
+give_all o (e ∷ es) given = give_all o es (given ++ event_told o e)
+
+abbrev pub with_given : Mark → List PlainEvent → Beside → Beside
+with_given last given b = record b { last = last; given = given }
