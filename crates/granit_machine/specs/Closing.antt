@@ -30,7 +30,8 @@ unfoldable pub goes_on_with : Token → NodeProperties → List Frame → Bool
 goes_on_with t q below =
     let right = t.lexeme.in_flow || is_right_of (token_column t) (under_column below) in
     if is_key_in_block t then right
-    else goes_on_by_kind right t.lexeme.in_flow (may_be_indentless t.lexeme.start.place.column below) q t.sort t.lexeme.kind
+    else goes_on_by_kind right t.lexeme.in_flow
+    (may_be_indentless t.lexeme.start.place.column below) q t.sort t.lexeme.kind
 
 abbrev pub is_at_value_or_behind : PairStage → Bool
 is_at_value_or_behind AtValue = true
@@ -57,7 +58,8 @@ ends_top t p (BlockSequence column indentless ∷ fs) =
 ends_top t p (BlockMapping column stage ∷ fs) = ends_frame (token_column t) column
 ends_top t p (FlowSequence behind_entry ∷ fs) = false
 ends_top t p (FlowMapping single stage ∷ fs) = (single && is_at_value_or_behind stage) && ends_entry t.sort
-ends_top t p (FlowPair stage ∷ fs) = (ends_entry t.sort || is_behind_pair stage) || (is_behind_question stage && not (is_bare_colon t.sort))
+ends_top t p (FlowPair stage ∷ fs) =
+    (ends_entry t.sort || is_behind_pair stage) || (is_behind_question stage && not (is_bare_colon t.sort))
 
 abbrev pub token_start : Token → Source
 token_start t = empty_span t.lexeme.start

@@ -26,7 +26,8 @@ refuse_column o column mark columns =
 -- the columns with an entry in one, which is new where no entry stands in it
 unfoldable pub entered_columns : ℕ → List OpenColumn → List OpenColumn
 entered_columns column columns =
-    record { column = column; is_wide = false } ∷ (if is_column (innermost_column columns) column then drop 1 columns else columns)
+    record { column = column; is_wide = false }
+    ∷ (if is_column (innermost_column columns) column then drop 1 columns else columns)
 
 abbrev pub entered : ℕ → Laid → Laid
 entered column l = record l { columns = entered_columns column l.columns }

@@ -14,7 +14,9 @@ moved n p = record { index = p.index + n; line = p.line; column = p.column + n }
 
 abbrev pub tag_span_words : Option Mark → ℕ → List ℕ
 tag_span_words None n = []
-tag_span_words (Some m) n = (codes " tagstart=" ++ place_line m.place) ++ ((codes " tag=" ++ place_line m.place) ++ (codes "-" ++ place_line (moved n m.place)))
+tag_span_words (Some m) n =
+    (codes " tagstart=" ++ place_line m.place)
+    ++ ((codes " tag=" ++ place_line m.place) ++ (codes "-" ++ place_line (moved n m.place)))
 
 abbrev pub tag_of_kind : EventKind → Option PlainTag
 tag_of_kind (Scalar text style anchor tag) = tag
@@ -29,7 +31,8 @@ original_words (Some t) = codes " original=" ++ in_quotes t.original_handle
 unfoldable pub wide_line : PlainEvent → List ℕ
 wide_line e =
     (((event_words e.kind ++ codes " ") ++ (place_line e.span.start.place ++ codes "-")) ++ place_line e.span.end.place)
-    ++ ((indent_words e.span.indent ++ tag_span_words e.span.tag_start e.span.tag_length) ++ (original_words (tag_of_kind e.kind) ++ codes "\n"))
+    ++ ((indent_words e.span.indent ++ tag_span_words e.span.tag_start e.span.tag_length)
+    ++ (original_words (tag_of_kind e.kind) ++ codes "\n"))
 
 abbrev pub run_lines : Result (List PlainEvent) Fault → List ℕ
 run_lines (Ok events) = flat_map wide_line events

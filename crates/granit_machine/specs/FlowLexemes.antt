@@ -29,7 +29,8 @@ closed_bracket bs l = record l { brackets = bs }
 
 unfoldable pub closes : Bracket → OpenBracket → List OpenBracket → Bool → Here → Laid → Read
 closes bracket b bs ends h l =
-    if not (same_bracket b.bracket bracket) then fails_at (MismatchedFlowCollectionEnd (opener_char b.bracket) (closer_char bracket)) b.mark
+    if not (same_bracket b.bracket bracket) then
+    fails_at (MismatchedFlowCollectionEnd (opener_char b.bracket) (closer_char bracket)) b.mark
     else tailed (sign_lexeme ends (Close bracket) h l) Adjacent (step h) (closed_bracket bs l)
 
 abbrev pub closer_by : Bracket → List OpenBracket → Bool → Here → Laid → Read

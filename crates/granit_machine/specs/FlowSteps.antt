@@ -23,12 +23,16 @@ flow_colon o t single p = waits t.lexeme.start o.max_buffered_comment_events (fl
 
 -- a single pair of a flow sequence begins
 abbrev pub begin_pair : Token → Mark → Frame → ParserState → ParserState
-begin_pair t end frame p = let q = give (event_at (MappingStart Flow 0 None) (record { start = t.lexeme.start; end = end })) p in record q { frames = frame ∷ q.frames }
+begin_pair t end frame p =
+    let q = give (event_at (MappingStart Flow 0 None) (record { start = t.lexeme.start; end = end })) p in
+    record q { frames = frame ∷ q.frames }
 
 abbrev pub at_entry : OptionsData → Token → TokenSort → ParserState → Stepped
 at_entry o t SequenceCloser p = Ok (close_flow t p)
 at_entry o t QuestionToken p = Ok (begin_pair t t.lexeme.shown.end (FlowPair AtQuestion) p)
-at_entry o t BareColon p = Ok (flow_colon o t true (give (null_at t.lexeme.start) (begin_pair t t.lexeme.start (FlowMapping true BeforePair) p)))
+at_entry o t BareColon p =
+    Ok (flow_colon o t true
+    (give (null_at t.lexeme.start) (begin_pair t t.lexeme.start (FlowMapping true BeforePair) p)))
 at_entry o t BeginsKey p = bare o t (begin_pair t t.lexeme.start (FlowMapping true AtKey) p)
 at_entry o t BeginsNode p = bare o t p
 at_entry o t sort p = misplaced UnexpectedEofImplicitFlowMapping t

@@ -41,7 +41,8 @@ pub data DocumentStage : Type 0 where
   Directives : (version : Option PlainVersion) → DocumentStage
   Inside BehindRoot Between : DocumentStage
 
--- a `-` or a `:` whose node hasn't begun: where it stands if it stays empty, how many comments may still come, and those that came
+-- a `-` or a `:` whose node hasn't begun: where it stands if it stays empty, how many comments may still come, and
+-- those that came
 pub record Waiting : Type 0 where
   pub at : Mark
   pub room : ℕ
@@ -63,4 +64,5 @@ pub record ParserState : Type 0 where
   pub given : List PlainEvent
 
 abbrev pub parser_start : Mark → ParserState
-parser_start m = record { frames = []; stage = Fresh; last_end = m; count = 0; names = []; handles = []; waiting = None; given = [] }
+parser_start m =
+    record { frames = []; stage = Fresh; last_end = m; count = 0; names = []; handles = []; waiting = None; given = [] }

@@ -24,7 +24,9 @@ leading_tab h = if h.begins_line && not (is_breakz (next_char h)) then h.tab els
 unfoldable pub refuse_tab_at : OptionsData → Laid → Mark → (tab : Mark) → Result (Unit {0}) Fault
 refuse_tab_at o l m tab =
     if is_question l.last && is_left (block_column l) tab.place.column then fails_at TabNotAllowed tab
-    else if nat_lt tab.place.column (tab_column_of (l.rolled || (is_in_flow l && o.strict_indentation)) (block_column l)) then fails_at TabInBlockIndentation m
+    else if nat_lt tab.place.column
+    (tab_column_of (l.rolled || (is_in_flow l && o.strict_indentation)) (block_column l)) then
+    fails_at TabInBlockIndentation m
     else Ok tt
 
 abbrev pub refuse_tab : OptionsData → Laid → Mark → (tab : Option Mark) → Result (Unit {0}) Fault
@@ -47,7 +49,8 @@ over_gap_char may_prefix h = if at_prefix_mark may_prefix h then past_prefix_mar
 -- over blanks, breaks and byte-order marks in front of a document, at most as many as a list has
 abbrev pub skip_gap : Bool → List ℕ → Here → Here
 skip_gap may_prefix [] h = h
-skip_gap may_prefix (c ∷ cs) h = let on = skip_gap may_prefix cs (over_gap_char may_prefix h) in chosen (begins_gap may_prefix h) on h
+skip_gap may_prefix (c ∷ cs) h =
+    let on = skip_gap may_prefix cs (over_gap_char may_prefix h) in chosen (begins_gap may_prefix h) on h
 
 unfoldable pub past_gap : Bool → Here → Here
 past_gap may_prefix h = skip_gap may_prefix h.unread.text h
@@ -71,7 +74,8 @@ last_behind moved last = if moved then no_more_adjacent last else last
 -- whether what stands here would go on with a plain scalar that a comment cut short
 unfoldable pub goes_on_behind : Laid → Here → Mark → Bool
 goes_on_behind l h cut =
-    ((not (is_in_flow l) && h.place.line == suc cut.place.line) && (not (is_left (block_column l) h.place.column) && not (text_len h == 0)))
+    ((not (is_in_flow l) && h.place.line == suc cut.place.line)
+    && (not (is_left (block_column l) h.place.column) && not (text_len h == 0)))
     && not (is_document_mark h.unread.text || (next_char h == 0x3A && is_blank_or_breakz (slice_index h.unread.text 1)))
 
 abbrev pub refuse_cut_by : Laid → Here → Option Mark → Result (Unit {0}) Fault
@@ -93,7 +97,9 @@ behind_gap moved l = record l { last = last_behind moved l.last; cut = None }
 
 -- what a lexeme may begin at
 unfoldable pub ready_gap : OptionsData → (moved : Bool) → Here → Laid → GapRead
-ready_gap o moved h l = refuse_tab o l (mark_of h) (leading_tab h) >>= λ t. refuse_cut l h >>= λ u. Ok (None, record { here = h; laid = behind_gap moved l })
+ready_gap o moved h l =
+    refuse_tab o l (mark_of h) (leading_tab h) >>= λ t. refuse_cut l h >>= λ u.
+    Ok (None, record { here = h; laid = behind_gap moved l })
 
 -- behind the blanks and breaks: a comment with its break, or what a lexeme may begin at
 unfoldable pub gap_ends : OptionsData → (moved : Bool) → Here → Laid → GapRead

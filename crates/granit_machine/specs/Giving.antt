@@ -73,17 +73,33 @@ tag_value (Some t) = Some t.0
 
 abbrev pub span_with_tag : Option (PlainTag × Source) → Source → Option ℕ → Span
 span_with_tag None s indent = record { start = s.start; end = s.end; indent = indent; tag_start = None; tag_length = 0 }
-span_with_tag (Some t) s indent = record { start = s.start; end = s.end; indent = indent; tag_start = Some t.1.start; tag_length = told_length (t.1.end.place.index - t.1.start.place.index) }
+span_with_tag (Some t) s indent =
+    record {
+      start = s.start;
+      end = s.end;
+      indent = indent;
+      tag_start = Some t.1.start;
+      tag_length = told_length (t.1.end.place.index - t.1.start.place.index);
+    }
 
 -- the event of an anchor, where such are asked for
 abbrev pub tell_anchor : OptionsData → Option (ℕ × Written × Source) → ParserState → ParserState
 tell_anchor o None p = p
-tell_anchor o (Some a) p = if o.emit_anchor_events then record p { given = p.given ++ event_at (Anchor a.0 a.1) a.2 ∷ [] } else p
+tell_anchor o (Some a) p =
+    if o.emit_anchor_events then record p { given = p.given ++ event_at (Anchor a.0 a.1) a.2 ∷ [] } else p
 
-abbrev pub node_event_by : OptionsData → NodeProperties → (ℕ → Option PlainTag → EventKind) → Source → Option ℕ → ParserState → ParserState
+abbrev pub node_event_by : OptionsData → NodeProperties → (ℕ → Option PlainTag → EventKind) → Source → Option ℕ
+    → ParserState → ParserState
 node_event_by o q kind source indent p =
-    tell_anchor o q.anchor (give (record { kind = kind (anchor_number q.anchor) (tag_value q.tag); span = span_with_tag q.tag source (key_indent p.frames indent) }) p)
+    tell_anchor o q.anchor
+    (give (record {
+      kind = kind (anchor_number q.anchor) (tag_value q.tag);
+      span = span_with_tag q.tag source (key_indent p.frames indent);
+    }) p)
 
 -- a node's first event with its properties, and its anchor's event
-unfoldable pub node_event : OptionsData → (ℕ → Option PlainTag → EventKind) → Source → Option ℕ → ParserState → ParserState
-node_event o kind source indent p = node_event_by o (properties_on p.frames source.end) kind source indent (record p { frames = below_properties p.frames })
+unfoldable pub node_event : OptionsData → (ℕ → Option PlainTag → EventKind) → Source → Option ℕ → ParserState
+    → ParserState
+node_event o kind source indent p =
+    node_event_by o (properties_on p.frames source.end) kind source indent
+    (record p { frames = below_properties p.frames })

@@ -89,7 +89,8 @@ unfoldable pub keyed_colon : OptionsData → Bool → PossibleKey → Option Com
 keyed_colon o ends k tail after h l =
     if is_far_below h.place l k then fails_at InvalidColonPlacement (mark_of h)
     else if is_in_flow l then keyed_given (colon_lexeme ends (Some (start_of_key k)) tail h l) after l
-    else with_pair o k.start.place.column k.start l >>= keyed_given (colon_lexeme ends (Some (start_of_key k)) tail h l) after
+    else with_pair o k.start.place.column k.start l >>=
+    keyed_given (colon_lexeme ends (Some (start_of_key k)) tail h l) after
 
 abbrev pub bare_given : Lexeme → Here → Laid → Read
 bare_given x after l = given x BehindBareColon after l
@@ -113,5 +114,6 @@ opens_flow c = c == 0x5B || c == 0x7B
 
 unfoldable pub colon : OptionsData → Bool → Here → Laid → Read
 colon o ends h l =
-    if not (is_adjacent l.last) && opens_flow (slice_index h.unread.text 1) then fails_at FlowMappingValueAdjacentCollection (mark_of h)
+    if not (is_adjacent l.last) && opens_flow (slice_index h.unread.text 1) then
+    fails_at FlowMappingValueAdjacentCollection (mark_of h)
     else colon_tail (step h) >>= λ x. colon_by_key o ends (top_key l) x.0 x.1 h l

@@ -18,8 +18,10 @@ use Rattle.granit_machine.specs.Reader.{LexState}
 
 abbrev pub directive_words : DirectiveKind → List ℕ
 directive_words (Version major minor) = ((codes "Version " ++ decimal major) ++ codes ".") ++ decimal minor
-directive_words (TagPrefix handle prefix) = ((codes "TagDirective " ++ in_quotes handle) ++ codes " ") ++ in_quotes prefix
-directive_words (Reserved name parameters) = (codes "Reserved " ++ in_quotes name) ++ flat_map (λ p. codes " " ++ in_quotes p) parameters
+directive_words (TagPrefix handle prefix) =
+    ((codes "TagDirective " ++ in_quotes handle) ++ codes " ") ++ in_quotes prefix
+directive_words (Reserved name parameters) =
+    (codes "Reserved " ++ in_quotes name) ++ flat_map (λ p. codes " " ++ in_quotes p) parameters
 
 abbrev pub kind_words : LexemeKind → List ℕ
 kind_words (Directive d) = directive_words d
@@ -55,7 +57,8 @@ side_word true = codes " right "
 side_word false = codes " free "
 
 abbrev pub comment_line : CommentRead → List ℕ
-comment_line c = ((side_word c.is_right ++ in_quotes c.text.characters) ++ (codes " " ++ span_words c.source)) ++ codes "\n"
+comment_line c =
+    ((side_word c.is_right ++ in_quotes c.text.characters) ++ (codes " " ++ span_words c.source)) ++ codes "\n"
 
 abbrev pub tail_line : Option CommentRead → List ℕ
 tail_line None = []
@@ -69,12 +72,15 @@ has_key None = false
 has_key (Some k) = true
 
 abbrev pub flag_words : Lexeme → Bool → List ℕ
-flag_words l begins_key = (word_if l.in_flow (codes " flow") ++ word_if l.ends_column (codes " ends")) ++ (word_if begins_key (codes " key") ++ word_if (has_key l.key) (codes " key"))
+flag_words l begins_key =
+    (word_if l.in_flow (codes " flow") ++ word_if l.ends_column (codes " ends"))
+    ++ (word_if begins_key (codes " key") ++ word_if (has_key l.key) (codes " key"))
 
 unfoldable pub lexeme_line : Lexeme → Bool → List ℕ
 lexeme_line l begins_key =
     (((decimal l.number ++ codes " ") ++ (kind_words l.kind ++ codes " ")) ++ span_words l.shown)
-    ++ ((word_if (is_elsewhere l.start l.shown.start) (codes " from " ++ place_line l.start.place) ++ word_if (is_elsewhere l.end l.shown.end) (codes " to " ++ place_line l.end.place))
+    ++ ((word_if (is_elsewhere l.start l.shown.start) (codes " from " ++ place_line l.start.place)
+    ++ word_if (is_elsewhere l.end l.shown.end) (codes " to " ++ place_line l.end.place))
     ++ ((indent_words l.indent ++ flag_words l begins_key) ++ (codes "\n" ++ tail_line l.tail)))
 
 abbrev pub line_of : Item → Bool → List ℕ
@@ -86,7 +92,8 @@ item_line i = line_of i.item i.begins_key
 
 abbrev pub fault_end : Option Fault → List ℕ
 fault_end None = []
-fault_end (Some f) = (codes "fault " ++ decimal (fault_number f.kind)) ++ (codes ":" ++ (place_words f.mark.place ++ codes "\n"))
+fault_end (Some f) =
+    (codes "fault " ++ decimal (fault_number f.kind)) ++ (codes ":" ++ (place_words f.mark.place ++ codes "\n"))
 
 abbrev pub lex_lines : Result (List Item × LexState) Fault → List ℕ
 lex_lines (Ok (items, s)) = flat_map item_line (flagged items) ++ fault_end s.fault

@@ -33,7 +33,8 @@ pub record OpenBracket : Type 0 where
   pub mark : Mark
   pub key : Option PossibleKey
 
--- the column of an open block collection, and whether its current entry holds a `:` of a block mapping, a `-` before a break or a flow indicator, or an opener
+-- the column of an open block collection, and whether its current entry holds a `:` of a block mapping, a `-` before a
+-- break or a flow indicator, or an opener
 pub record OpenColumn : Type 0 where
   pub column : ℕ
   pub is_wide : Bool
@@ -55,7 +56,17 @@ pub record Laid : Type 0 where
   pub may_prefix : Bool
 
 abbrev pub laid_start : Laid
-laid_start = record { number = 0; key = None; brackets = []; columns = []; rolled = false; last = Another; cut = None; may_prefix = true }
+laid_start =
+    record {
+      number = 0;
+      key = None;
+      brackets = [];
+      columns = [];
+      rolled = false;
+      last = Another;
+      cut = None;
+      may_prefix = true;
+    }
 
 -- a lexeme was read that tells this of the next one
 abbrev pub behind_lexeme : LastLexeme → Laid → Laid

@@ -19,7 +19,8 @@ pub data LexemeSort : Type 0 where
   TextEnd StartMark EndMark Unprintable DirectiveSign : LexemeSort
   Placed : PlacedSort → LexemeSort
 
--- by the first character and the next one; a `:` needs no blank in flow before a flow indicator or behind a quoted scalar or a closer (7.3.3, 7.4.2)
+-- by the first character and the next one; a `:` needs no blank in flow before a flow indicator or behind a quoted
+-- scalar or a closer (7.3.3, 7.4.2)
 unfoldable pub sort_of : (in_flow adjacent : Bool) → (c next : ℕ) → PlacedSort
 sort_of in_flow adjacent c next =
     if c == 0x5B then OpenSign Square
@@ -43,7 +44,8 @@ sort_of in_flow adjacent c next =
 unfoldable pub sort_at : (in_flow adjacent : Bool) → Here → LexemeSort
 sort_at in_flow adjacent h =
     if text_len h == 0 then TextEnd
-    else if h.place.column == 0 && is_document_mark h.unread.text then (if next_char h == 0x2D then StartMark else EndMark)
+    else if h.place.column == 0 && is_document_mark h.unread.text then
+    (if next_char h == 0x2D then StartMark else EndMark)
     else if not (is_printable (next_char h)) then Unprintable
     else if h.place.column == 0 && next_char h == 0x25 then DirectiveSign
     else Placed (sort_of in_flow adjacent (next_char h) (slice_index h.unread.text 1))

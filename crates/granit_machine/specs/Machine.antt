@@ -59,7 +59,8 @@ answered o m items l None = feed_all o items (parser_start m) >>= λ x. Ok (even
 answered o m items l (Some f) = feed_all o (settled l items) (parser_start m) >>= λ x. Err f
 
 abbrev pub run_from : OptionsData → Here → Result (List PlainEvent) Fault
-run_from o h = lex o h >>= λ x. answered o (mark_of h) (asked_items o.emit_comments (flagged x.0)) x.1.reader.laid x.1.fault
+run_from o h =
+    lex o h >>= λ x. answered o (mark_of h) (asked_items o.emit_comments (flagged x.0)) x.1.reader.laid x.1.fault
 
 -- the events of a string, or its first fault
 abbrev pub run : OptionsData → List ℕ → Result (List PlainEvent) Fault

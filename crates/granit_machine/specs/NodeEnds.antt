@@ -106,7 +106,8 @@ abbrev pub begin : OptionsData → (ℕ → Option PlainTag → EventKind) → S
 begin o kind source frame p = let q = node_event o kind source None p in record q { frames = frame ∷ q.frames }
 
 -- a block collection begins at a mark, where one more may
-unfoldable pub begin_block : OptionsData → (ℕ → Option PlainTag → EventKind) → Mark → Frame → ParserState → Result ParserState Fault
+unfoldable pub begin_block : OptionsData → (ℕ → Option PlainTag → EventKind) → Mark → Frame → ParserState
+    → Result ParserState Fault
 begin_block o kind m frame p =
     if nat_le o.block_nesting_limit (block_count p.frames) then fails_at RecursionLimitExceeded m
     else Ok (begin o kind (empty_span m) frame p)

@@ -29,13 +29,15 @@ abbrev pub last_of_property : OptionsData → Laid → LastLexeme
 last_of_property o l = if o.strict_indentation && is_question l.last then BehindProperty else Another
 
 abbrev pub anchor_given : OptionsData → Bool → Here → Laid → (name : List ℕ) → Here → Read
-anchor_given o ends h l name after = given (lexeme_to ends (Anchor (owned name)) (mark_of after) h l) (last_of_property o l) after l
+anchor_given o ends h l name after =
+    given (lexeme_to ends (Anchor (owned name)) (mark_of after) h l) (last_of_property o l) after l
 
 abbrev pub anchor_lexeme : OptionsData → Bool → Here → Laid → Read
 anchor_lexeme o ends h l = name_at h >>= λ x. anchor_given o ends h l x.0 x.1
 
 abbrev pub tag_given : OptionsData → Bool → Here → Laid → TagRead → Here → Read
-tag_given o ends h l tag after = given (lexeme_to ends (Tag tag.handle tag.suffix) (mark_of after) h l) (last_of_property o l) after l
+tag_given o ends h l tag after =
+    given (lexeme_to ends (Tag tag.handle tag.suffix) (mark_of after) h l) (last_of_property o l) after l
 
 abbrev pub tag_lexeme : OptionsData → Bool → Here → Laid → Read
 tag_lexeme o ends h l = tag_at (is_in_flow l) h >>= λ x. tag_given o ends h l x.0 x.1
@@ -47,11 +49,12 @@ abbrev pub unrolled : Laid → Laid
 unrolled l = record l { rolled = false }
 
 abbrev pub block_shown : Bool → Bool → BlockGiven → Here → Here → Laid → Lexeme
-block_shown literal ends b after h l = record (lexeme_to ends (Scalar (block_style literal) b.read.text) (mark_of after) h l) {
-  shown = record { start = b.read.shown; end = mark_of after };
-  indent = b.read.indent;
-  tail = b.noted;
-}
+block_shown literal ends b after h l =
+    record (lexeme_to ends (Scalar (block_style literal) b.read.text) (mark_of after) h l) {
+      shown = record { start = b.read.shown; end = mark_of after };
+      indent = b.read.indent;
+      tail = b.noted;
+    }
 
 abbrev pub block_given : Bool → Bool → Here → Laid → BlockGiven → Here → Read
 block_given literal ends h l b after = given (block_shown literal ends b after h l) Another after (unrolled l)
@@ -63,16 +66,20 @@ abbrev pub behind_plain_scalar : PlainRead → Laid → Laid
 behind_plain_scalar read l = record l { rolled = false; cut = read.cut_by_comment }
 
 abbrev pub plain_given : Bool → Here → Laid → PlainRead → Here → Read
-plain_given ends h l read after = given (lexeme_to ends (Scalar Plain read.text) read.source.end h l) Another after (behind_plain_scalar read l)
+plain_given ends h l read after =
+    given (lexeme_to ends (Scalar Plain read.text) read.source.end h l) Another after (behind_plain_scalar read l)
 
 abbrev pub plain_lexeme : OptionsData → Bool → Here → Laid → Read
 plain_lexeme o ends h l = plain_scalar (layout_of o h.place.column l) h >>= λ x. plain_given ends h l x.0 x.1
 
 abbrev pub quoted_given : Bool → Bool → Here → Laid → QuotedRead → Here → Read
-quoted_given single ends h l read after = given (with_tail (lexeme_to ends (Scalar (quoted_style single) read.text) read.source.end h l) read.comment) Adjacent after l
+quoted_given single ends h l read after =
+    given (with_tail (lexeme_to ends
+    (Scalar (quoted_style single) read.text) read.source.end h l) read.comment) Adjacent after l
 
 abbrev pub quoted_lexeme : OptionsData → Bool → Bool → Here → Laid → Read
-quoted_lexeme o single ends h l = quoted_scalar single (layout_of o h.place.column l) h >>= λ x. quoted_given single ends h l x.0 x.1
+quoted_lexeme o single ends h l =
+    quoted_scalar single (layout_of o h.place.column l) h >>= λ x. quoted_given single ends h l x.0 x.1
 
 -- ---- the gap behind a quoted scalar, which belongs to its read, up to and with a comment
 
@@ -86,7 +93,8 @@ adjacent_unless None = Adjacent
 adjacent_unless (Some c) = Another
 
 abbrev pub with_note : List Item → Option CommentRead → ReaderState → Read
-with_note items note s = Ok (items ++ note_items note, record { here = s.here; laid = record (s.laid) { last = adjacent_unless note } })
+with_note items note s =
+    Ok (items ++ note_items note, record { here = s.here; laid = record (s.laid) { last = adjacent_unless note } })
 
 abbrev pub with_gap : OptionsData → List Item → ReaderState → Read
 with_gap o items s = gap o s.here s.laid >>= λ x. with_note items x.0 x.1

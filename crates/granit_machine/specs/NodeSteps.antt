@@ -32,7 +32,9 @@ lookup_text name (x ∷ xs) = if pointwise nat_eq name x.0 then Some x.1 else lo
 
 abbrev pub alias_by : OptionsData → Token → Written → Option ℕ → ParserState → Stepped
 alias_by o t name (Some n) p = Ok (finish (node_event o (λ number tag. Alias n) t.lexeme.shown None p))
-alias_by o t name None p = if o.emit_unresolved_aliases then Ok (finish (node_event o (λ number tag. UnresolvedAlias name) t.lexeme.shown None p)) else misplaced UnknownAnchor t
+alias_by o t name None p =
+    if o.emit_unresolved_aliases then
+    Ok (finish (node_event o (λ number tag. UnresolvedAlias name) t.lexeme.shown None p)) else misplaced UnknownAnchor t
 
 abbrev pub tag_prefix : Token → List ℕ → Option (List ℕ) → Result (List ℕ) Fault
 tag_prefix t handle (Some prefix) = Ok prefix
@@ -47,12 +49,17 @@ with_properties q p = record p { frames = WithProperties q ∷ below_properties 
 abbrev pub anchored : Token → Written → ParserState → ParserState
 anchored t name p =
     let q = properties_on p.frames t.lexeme.shown.end in
-    with_properties (record q { anchor = Some (suc p.count, name, t.lexeme.shown); end = t.lexeme.shown.end }) (record p { count = suc p.count; names = (name.characters, suc p.count) ∷ p.names })
+    with_properties (record q { anchor = Some (suc p.count, name, t.lexeme.shown); end = t.lexeme.shown.end })
+    (record p { count = suc p.count; names = (name.characters, suc p.count) ∷ p.names })
 
 abbrev pub tagged : Token → List ℕ → List ℕ → List ℕ → ParserState → ParserState
 tagged t handle suffix prefix p =
     let q = properties_on p.frames t.lexeme.shown.end in
-    with_properties (record q { tag = Some (record { handle = prefix; suffix = suffix; original_handle = handle }, t.lexeme.shown); end = t.lexeme.shown.end }) p
+    with_properties (record q {
+      tag = Some
+          (record { handle = prefix; suffix = suffix; original_handle = handle }, t.lexeme.shown);
+      end = t.lexeme.shown.end;
+    }) p
 
 abbrev pub block_sequence : ℕ → Option PlainTag → EventKind
 block_sequence number tag = SequenceStart Block number tag
@@ -64,7 +71,9 @@ pub data DashRole : Type 0 where
 -- the room for comments behind a `-`, of which its tail takes one
 abbrev pub dash_room : OptionsData → Option CommentRead → Result ℕ Fault
 dash_room o None = Ok o.max_buffered_comment_events
-dash_room o (Some c) = if o.max_buffered_comment_events == 0 then fails_at TooManyComments c.source.start else Ok (o.max_buffered_comment_events - 1)
+dash_room o (Some c) =
+    if o.max_buffered_comment_events == 0 then fails_at TooManyComments c.source.start
+    else Ok (o.max_buffered_comment_events - 1)
 
 abbrev pub give_tail : Option CommentRead → ParserState → ParserState
 give_tail None p = p
@@ -77,12 +86,15 @@ token_number t = t.lexeme.start.place.column
 unfoldable pub take_dash : OptionsData → Token → DashRole → Bool → ParserState → Stepped
 take_dash o t NextEntry indentless p = dash_room o t.lexeme.tail >>= λ room.
     Ok (waits t.lexeme.end room (with_top (BlockSequence (token_number t) indentless) (give_tail t.lexeme.tail p)))
-take_dash o t NewSequence indentless p = begin_block o block_sequence t.lexeme.start (BlockSequence (token_number t) false) p >>= λ q.
+take_dash o t NewSequence indentless p =
+    begin_block o block_sequence t.lexeme.start (BlockSequence (token_number t) false) p >>= λ q.
     dash_room o t.lexeme.tail >>= λ room. Ok (waits t.lexeme.end room (give_tail t.lexeme.tail q))
 take_dash o t IndentlessSequence indentless p =
     if nat_le o.block_nesting_limit (block_count p.frames) then fails_at RecursionLimitExceeded t.lexeme.end
     else dash_room o t.lexeme.tail >>= λ room.
-    Ok (waits t.lexeme.end room (begin o block_sequence (empty_span t.lexeme.end) (BlockSequence (token_number t) true) (give_tail t.lexeme.tail p)))
+    Ok (waits t.lexeme.end room
+    (begin o block_sequence (empty_span t.lexeme.end) (BlockSequence (token_number t) true)
+    (give_tail t.lexeme.tail p)))
 
 abbrev pub first_dash : Bool → DashRole
 first_dash true = IndentlessSequence
@@ -90,15 +102,19 @@ first_dash false = NewSequence
 
 abbrev pub open_flow : OptionsData → Bracket → Token → ParserState → ParserState
 open_flow o Square t p = begin o (λ number tag. SequenceStart Flow number tag) t.lexeme.shown (FlowSequence false) p
-open_flow o Curly t p = begin o (λ number tag. MappingStart Flow number tag) t.lexeme.shown (FlowMapping false BeforePair) p
+open_flow o Curly t p =
+    begin o (λ number tag. MappingStart Flow number tag) t.lexeme.shown (FlowMapping false BeforePair) p
 
 abbrev pub bare_by : OptionsData → LexemeKind → Token → ParserState → Stepped
 bare_by o (lexemes.Alias name) t p = alias_by o t name (lookup_text name.characters p.names) p
-bare_by o (lexemes.Scalar style text) t p = Ok (finish (node_event o (λ number tag. Scalar text style number tag) t.lexeme.shown t.lexeme.indent p))
+bare_by o (lexemes.Scalar style text) t p =
+    Ok (finish (node_event o (λ number tag. Scalar text style number tag) t.lexeme.shown t.lexeme.indent p))
 bare_by o (lexemes.Open bracket) t p = Ok (open_flow o bracket t p)
 bare_by o (lexemes.Anchor name) t p = Ok (anchored t name (flush p))
-bare_by o (lexemes.Tag handle suffix) t p = tag_prefix t handle (lookup_text handle p.handles) >>= λ prefix. Ok (tagged t handle suffix prefix (flush p))
-bare_by o lexemes.Dash t p = take_dash o t (first_dash (may_be_indentless (token_number t) (below_properties p.frames))) false p
+bare_by o (lexemes.Tag handle suffix) t p =
+    tag_prefix t handle (lookup_text handle p.handles) >>= λ prefix. Ok (tagged t handle suffix prefix (flush p))
+bare_by o lexemes.Dash t p =
+    take_dash o t (first_dash (may_be_indentless (token_number t) (below_properties p.frames))) false p
 bare_by o lexemes.Question t p = begin_block o block_mapping t.lexeme.start (BlockMapping (token_number t) AtQuestion) p
 bare_by o kind t p = begin_block o block_mapping t.lexeme.start (BlockMapping (token_number t) AtValue) p >>= λ q.
     Ok (waits t.lexeme.start o.max_buffered_comment_events (give (null_at t.lexeme.start) q))
@@ -109,7 +125,8 @@ bare o t p = bare_by o t.lexeme.kind t p
 
 -- a lexeme where a node must stand
 abbrev pub node_by : OptionsData → TokenSort → Token → ParserState → Stepped
-node_by o BeginsKey t p = begin_block o block_mapping t.lexeme.start (BlockMapping (token_number t) AtKey) p >>= bare o t
+node_by o BeginsKey t p =
+    begin_block o block_mapping t.lexeme.start (BlockMapping (token_number t) AtKey) p >>= bare o t
 node_by o sort t p = bare o t p
 
 abbrev pub node : OptionsData → Token → ParserState → Stepped

@@ -38,7 +38,8 @@ take_token o t p = take_in o p.frames t p
 -- the line of the next token, None before an end that ends no column
 abbrev pub line_of_lexeme : LexemeKind → Lexeme → Bool → Option ℕ
 line_of_lexeme lexemes.StreamEnd l begins_key = if l.ends_column then Some l.start.place.line else None
-line_of_lexeme kind l begins_key = if l.ends_column || begins_key then Some l.start.place.line else Some l.shown.start.place.line
+line_of_lexeme kind l begins_key =
+    if l.ends_column || begins_key then Some l.start.place.line else Some l.shown.start.place.line
 
 abbrev pub line_of_item : Item → Bool → Option ℕ
 line_of_item (OfComment c) begins_key = Some c.source.start.place.line

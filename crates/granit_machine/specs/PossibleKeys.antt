@@ -52,7 +52,8 @@ drop_key l = refuse_required (top_key l) >>= λ u. Ok (forgets_key l)
 -- whether a key began too far before a place, or outside flow on an earlier line (7.4.2)
 unfoldable pub is_stale : OptionsData → (in_flow : Bool) → Mark → PossibleKey → Bool
 is_stale o in_flow m k =
-    nat_lt (k.start.place.index + o.simple_key_max_lookahead) m.place.index || (not in_flow && nat_lt k.start.place.line m.place.line)
+    nat_lt (k.start.place.index + o.simple_key_max_lookahead) m.place.index
+    || (not in_flow && nat_lt k.start.place.line m.place.line)
 
 abbrev pub fresh_key : OptionsData → Bool → Mark → Option PossibleKey → Option PossibleKey
 fresh_key o in_flow m None = None
@@ -92,7 +93,8 @@ new_key property m l = record {
 -- a key goes on with a property, or with the first lexeme behind its properties
 abbrev pub key_goes_on : Bool → Bool → Option PossibleKey → Option PossibleKey
 key_goes_on property low None = None
-key_goes_on property low (Some k) = if k.is_head then Some (record k { is_low = k.is_low || low; is_head = property }) else Some k
+key_goes_on property low (Some k) =
+    if k.is_head then Some (record k { is_low = k.is_low || low; is_head = property }) else Some k
 
 unfoldable pub node_key : (property allowed : Bool) → Mark → Laid → Option PossibleKey
 node_key property allowed m l =
@@ -128,7 +130,8 @@ tab_column_of further (Some n) = if further then n + 1 else n
 abbrev pub layout_of : OptionsData → ℕ → Laid → LayoutData
 layout_of o column l = record {
   block_column = block_column l;
-  tab_column = tab_column_of (is_wide_at (is_in_flow l) column l.columns || (is_in_flow l && o.strict_indentation)) (block_column l);
+  tab_column = tab_column_of (is_wide_at (is_in_flow l) column l.columns || (is_in_flow l && o.strict_indentation))
+      (block_column l);
   in_flow = is_in_flow l;
   strict = o.strict_indentation;
   comments = true;

@@ -23,7 +23,9 @@ abbrev pub behind_end : Laid → Laid
 behind_end l = record l { number = suc l.number; columns = [] }
 
 abbrev pub text_end : Here → Laid → Read
-text_end h l = refuse_open l.brackets >>= λ u. drop_key l >>= λ t. read_to (lexeme_to (ends_all l) StreamEnd (mark_of h) h l) h (behind_end t)
+text_end h l =
+    refuse_open l.brackets >>= λ u. drop_key l >>= λ t.
+    read_to (lexeme_to (ends_all l) StreamEnd (mark_of h) h l) h (behind_end t)
 
 abbrev pub start_mark : Bool → Here → Laid → Read
 start_mark ends h l = given (lexeme_to ends DocumentStart (mark_of (steps 3 h)) h l) Another (steps 3 h) (forgets_key l)
@@ -38,14 +40,17 @@ end_mark_up_to x l tail h =
     else fails_at InvalidDocumentEnd (mark_of h)
 
 abbrev pub end_mark : Bool → Here → Laid → Read
-end_mark ends h l = tail_at (steps 3 h) >>= λ x. end_mark_up_to (lexeme_to ends DocumentEnd (mark_of (steps 3 h)) h l) l x.0 x.1
+end_mark ends h l =
+    tail_at (steps 3 h) >>= λ x. end_mark_up_to (lexeme_to ends DocumentEnd (mark_of (steps 3 h)) h l) l x.0 x.1
 
 -- behind it a byte-order mark in front of a document may still follow
 abbrev pub behind_directive : Laid → Laid
 behind_directive l = record (behind_lexeme Another (forgets_key l)) { may_prefix = l.may_prefix }
 
 abbrev pub directive_given : Bool → Here → Laid → DirectiveRead → Here → Read
-directive_given ends h l read after = read_to (with_tail (lexeme_to ends (lexemes.Directive read.kind) read.source.end h l) read.noted) (over_break_if after) (behind_directive l)
+directive_given ends h l read after =
+    read_to (with_tail (lexeme_to ends (lexemes.Directive read.kind) read.source.end h l) read.noted)
+    (over_break_if after) (behind_directive l)
 
 -- a directive with its tail and its break
 abbrev pub directive_lexeme : OptionsData → Bool → Here → Laid → Read

@@ -24,7 +24,8 @@ with_version t None major minor p =
 
 abbrev pub with_handle : Token → Option PlainVersion → List ℕ → List ℕ → Option (List ℕ) → ParserState → Stepped
 with_handle t version handle prefix (Some known) p = misplaced DuplicateTagDirective t
-with_handle t version handle prefix None p = Ok (record p { handles = (handle, prefix) ∷ p.handles; stage = Directives version })
+with_handle t version handle prefix None p =
+    Ok (record p { handles = (handle, prefix) ∷ p.handles; stage = Directives version })
 
 abbrev pub open_document : Token → Option PlainVersion → ParserState → Stepped
 open_document t version p =
@@ -33,7 +34,8 @@ open_document t version p =
 
 abbrev pub with_directive : Token → DirectiveKind → Option PlainVersion → ParserState → Stepped
 with_directive t (Version major minor) version p = with_version t version major minor p
-with_directive t (TagPrefix handle prefix) version p = with_handle t version handle prefix (lookup_text handle p.handles) p
+with_directive t (TagPrefix handle prefix) version p =
+    with_handle t version handle prefix (lookup_text handle p.handles) p
 with_directive t (Reserved name parameters) version p = Ok (record p { stage = Directives version })
 
 -- behind directives: another, or `---`
