@@ -31,7 +31,9 @@ chomping_of (Some c) = c
 
 -- no unprintable character may stand here
 abbrev pub refuse_unprintable : {Y : Type 0} → Here → Result Y Fault → Result Y Fault
-refuse_unprintable h given = if text_len h == 0 || is_printable (next_char h) then given else fails_at (UnexpectedCharacter (next_char h)) (mark_of h)
+refuse_unprintable h given =
+    if text_len h == 0 || is_printable (next_char h) then given
+    else fails_at (UnexpectedCharacter (next_char h)) (mark_of h)
 
 -- one more indicator of the header, of a sort that hasn't come yet (8.1.1)
 unfoldable pub header_sign : Mark → BlockHeader → Here → Result (BlockHeader × Here) Fault
@@ -39,7 +41,8 @@ header_sign start b h =
     if next_char h == 0x2B && is_none b.chomping then Ok (record b { chomping = Some Keep }, step h)
     else if next_char h == 0x2D && is_none b.chomping then Ok (record b { chomping = Some Strip }, step h)
     else if is_digit (next_char h) && is_none b.digit then
-    (if next_char h == 0x30 then fails_at ZeroBlockScalarIndent start else Ok (record b { digit = Some (next_char h - 0x30) }, step h))
+    (if next_char h == 0x30 then fails_at ZeroBlockScalarIndent start
+    else Ok (record b { digit = Some (next_char h - 0x30) }, step h))
     else Ok (b, h)
 
 -- the header of the block scalar that begins here
@@ -56,7 +59,8 @@ is_space c = c == 0x20
 -- one line of the leading ones: the column of its first other character
 unfoldable pub leading_turn : Here → Result (Option (List ℕ) × Here) Fault
 leading_turn h =
-    if is_break (next_char (past is_space h)) then Ok (Some ((past is_space h).place.column ∷ []), past_break (past is_space h))
+    if is_break (next_char (past is_space h)) then
+    Ok (Some ((past is_space h).place.column ∷ []), past_break (past is_space h))
     else Ok (None, past is_space h)
 
 abbrev pub greatest : List ℕ → ℕ → ℕ
@@ -75,4 +79,6 @@ outer_of (Some n) = n
 -- the content's column
 unfoldable pub content_column : Option ℕ → Option ℕ → Here → Result ℕ Fault
 content_column block (Some d) h = Ok (outer_of block + d)
-content_column block None h = pieces text_len leading_turn h >>= λ x. Ok (max (margin_of block) (greatest x.0 x.1.place.column))
+content_column block None h =
+    pieces text_len leading_turn h >>= λ x.
+    Ok (max (margin_of block) (greatest x.0 x.1.place.column))

@@ -44,21 +44,24 @@ pub record BlockState : Type 0 where
   -- whether a break ended it
   pub broken : Bool
 
--- what stands for the breaks before a line: between two lines of a folded scalar that begin with no blank one break is a space (8.1.3)
+-- what stands for the breaks before a line: between two lines of a folded scalar that begin with no blank one break is a
+-- space (8.1.3)
 abbrev pub between_lines : Bool → Option Bool → Bool → List ℕ → List ℕ
 between_lines literal None blank empty = empty
 between_lines literal (Some before) blank empty =
     if not literal && not (before || blank) then (if length empty == 0 then 0x20 ∷ [] else empty)
     else 0x0A ∷ empty
 
-abbrev pub is_line_char : ℕ → Bool
-is_line_char c = not (is_breakz c)
+-- a character of a line of content
+abbrev pub is_block_char : ℕ → Bool
+is_block_char c = not (is_breakz c)
 
 -- a line of content that goes up to a place, and the empty lines behind it
 unfoldable pub line_up_to : Bool → ℕ → BlockState → Here → Result (Option (List ℕ) × BlockState) Fault
 line_up_to literal column s after =
     let piece = between_lines literal s.before (is_blank (next_char s.here)) s.empty ++ text_up_to s.here after in
-    if text_len after == 0 then Ok (Some piece, record { here = after; empty = []; before = Some (is_blank (next_char s.here)); broken = false })
+    if text_len after == 0 then
+    Ok (Some piece, record { here = after; empty = []; before = Some (is_blank (next_char s.here)); broken = false })
     else refuse_unprintable after (empty_lines column (past_break after) >>= λ x.
     Ok (Some piece, record { here = x.1; empty = x.0; before = Some (is_blank (next_char s.here)); broken = true }))
 
@@ -67,7 +70,7 @@ block_turn literal column s =
     if text_len s.here == 0 || not (s.here.place.column == column) then Ok (None, s)
     else refuse_unprintable s.here (
     if column == 0 && is_document_mark s.here.unread.text then Ok (None, s)
-    else line_up_to literal column s (mid_line (past is_line_char s.here)))
+    else line_up_to literal column s (mid_line (past is_block_char s.here)))
 
 abbrev pub block_len : BlockState → ℕ
 block_len s = text_len s.here
@@ -91,10 +94,16 @@ kept chomping empty = if is_keep chomping then empty else []
 
 -- the last break, unless it is stripped or there is none
 abbrev pub last_break : Chomping → BlockState → List ℕ
-last_break chomping s = if not (is_strip chomping) && (s.broken || (is_some s.before && text_len s.here == 0)) then 0x0A ∷ [] else []
+last_break chomping s =
+    if not (is_strip chomping) && (s.broken || (is_some s.before && text_len s.here == 0)) then 0x0A ∷ []
+    else []
 
 abbrev pub block_read : ℕ → Mark → List ℕ → BlockRead
-block_read column shown text = record { text = owned text; shown = shown; indent = if list_all is_white text then None else Some column }
+block_read column shown text = record {
+  text = owned text;
+  shown = shown;
+  indent = if list_all is_white text then None else Some column;
+}
 
 -- behind the last line
 unfoldable pub behind_block : Chomping → ℕ → Mark → List ℕ → BlockState → Result (BlockRead × Here) Fault
@@ -116,12 +125,15 @@ is_between block column h =
     && not ((is_none block && h.place.column == 0) && (is_document_mark h.unread.text || next_char h == 0x23))
 
 -- the lines behind the first empty ones
-unfoldable pub content_lines : Bool → Chomping → Bool → Option ℕ → ℕ → Mark → List ℕ → Here → Result (BlockRead × Here) Fault
+unfoldable pub content_lines : Bool → Chomping → Bool → Option ℕ → ℕ → Mark → List ℕ → Here
+    → Result (BlockRead × Here) Fault
 content_lines literal chomping broken block column start empty h =
     refuse_unprintable h (
-    if text_len h == 0 then Ok (record { text = owned (no_content chomping broken empty h); shown = start; indent = None }, h)
+    if text_len h == 0 then
+    Ok (record { text = owned (no_content chomping broken empty h); shown = start; indent = None }, h)
     else if is_between block column h then fails_at InvalidBlockScalarIndent (mark_of h)
-    else pieces block_len (block_turn literal column) (record { here = h; empty = empty; before = None; broken = false }) >>= λ x.
+    else pieces block_len (block_turn literal column)
+    (record { here = h; empty = empty; before = None; broken = false }) >>= λ x.
     behind_block chomping column (mark_of h) x.0 x.1)
 
 -- the lines behind the header's break
@@ -151,7 +163,9 @@ pub record BlockGiven : Type 0 where
   pub read : BlockRead
   pub noted : Option CommentRead
 
--- the block scalar that begins here with its `|` or `>`, and where reading then stands: behind its last line and the spaces left of its content
+-- The block scalar that begins here with its `|` or `>`, and where reading then stands: behind its last line and the
+-- spaces left of its content.
 unfoldable pub block_scalar : (literal : Bool) → (block : Option ℕ) → Here → Result (BlockGiven × Here) Fault
-block_scalar literal block h = block_header h >>= λ x. tail_at x.1 >>= λ y. block_body literal x.0 block (mark_of h) y.1 >>= λ z.
+block_scalar literal block h =
+    block_header h >>= λ x. tail_at x.1 >>= λ y. block_body literal x.0 block (mark_of h) y.1 >>= λ z.
     Ok (record { read = z.0; noted = y.0 }, z.1)

@@ -12,7 +12,7 @@ use Rattle.granit_lexemes.specs.Here.{Here, mark_of}
 use Rattle.granit_lexemes.specs.LayoutData.{LayoutData, is_left}
 use Rattle.granit_lexemes.specs.PlainExtent.{over, starts_comment}
 use Rattle.granit_lexemes.specs.Basics.{is_document_mark, owned}
-use Rattle.granit_lexemes.specs.QuotedScalar.{QuotedRead, quote_char, is_closing, is_tab_left, quoted_style, asked_comment, may_trail}
+use Rattle.granit_lexemes.specs.QuotedScalar.{QuotedRead, quote_char, is_closing, is_tab_left, asked_comment, may_trail}
 
 -- ---- blanks and breaks
 

@@ -1,5 +1,5 @@
 -- What may stand behind a lexeme on its line: blanks, and a comment that they part from it (YAML 1.2.2, 6.6).
-use Rattle.std.specs.Prelude.{ℕ, ◌==◌, not, if◌then◌else◌, Option, Some, None, Result, Ok}
+use Rattle.std.specs.Prelude.{◌==◌, not, if◌then◌else◌, Option, Some, None, Result, Ok}
 use Rattle.granit_base.specs.Classes.{is_blank}
 use Rattle.granit_error.specs.FaultKind.{CommentNotSeparated}
 use Rattle.granit_lexemes.specs.Basics.{fails_at, count_up_to}

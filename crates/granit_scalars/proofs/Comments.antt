@@ -143,7 +143,7 @@ no_comment_break : (c : ℕ) → is_break c ≡ true → is_comment_char c ≡ f
 unfolding is_breakz
 no_comment_break c y = ap (λ b. not (b || is_z c) && is_printable c) y
 
-no_comment_strange : (c : ℕ) → is_printable c ≡ false → is_comment_char c ≡ false
+pub no_comment_strange : (c : ℕ) → is_printable c ≡ false → is_comment_char c ≡ false
 no_comment_strange c n = ap (λ b. not (is_breakz c) && b) n ∙ and_none (not (is_breakz c))
   where
     and_none : (b : Bool) → (b && false) ≡ false
@@ -154,11 +154,11 @@ ended : (behind : List ℕ) → (behind ≡ []) ⊎ (is_break (first behind) ≡
 ended behind (inl e) = ap (λ (t : List ℕ). is_comment_char (first t)) e ∙ no_comment_nul
 ended behind (inr y) = no_comment_break (first behind) y
 
-break_prints : (c : ℕ) → is_break c ≡ true → is_printable c ≡ true
+pub break_prints : (c : ℕ) → is_break c ≡ true → is_printable c ≡ true
 unfolding is_break is_printable
 break_prints c y = grind (arith, nat_tests)
 
-not_both : (x cs ds : List ℕ) (c : ℕ) → IsComment x cs → IsSpoiled x ds c → ⊥
+pub not_both : (x cs ds : List ℕ) (c : ℕ) → IsComment x cs → IsSpoiled x ds c → ⊥
 not_both x cs ds c p q =
     let joined : cs ++ p.behind ≡ ds ++ c ∷ q.behind = let e = sym p.spelled ∙ q.spelled in cc in
     let s = same_run is_comment_char cs ds p.behind (c ∷ q.behind) joined p.text q.text (ended p.behind p.ends) (no_comment_strange c q.unprintable) in

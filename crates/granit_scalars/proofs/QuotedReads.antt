@@ -219,7 +219,7 @@ wrong_mark single at start s y (Lines empty column) k =
     let none : s.here.place.column ≡ 0 = let a = p.0 in grind (arith, nat_tests) in
     subst (λ n. WrongInside single at start s.escaped (Lines empty n) s.here.unread.text s.here DocumentIndicatorInQuotedScalar start) (sym none ∙ k.2) (mark p.1)
 
-no_text : (t : List ℕ) → (length t == 0) ≡ true → t ≡ []
+pub no_text : (t : List ℕ) → (length t == 0) ≡ true → t ≡ []
 no_text [] y = refl
 no_text (c ∷ t) y = absurd (let n = not_empty c t in cc)
 

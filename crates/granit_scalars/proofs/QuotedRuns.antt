@@ -56,7 +56,7 @@ record RunsTo (single : Bool) (at : LayoutData) (start : Mark) (s : QuotedState)
   state : StateIs x after
   escaped : after.escaped ≡ s.escaped
 
-break_first : {brk behind : List ℕ} → OneBreak brk behind → is_break (first (brk ++ behind)) ≡ true
+pub break_first : {brk behind : List ℕ} → OneBreak brk behind → is_break (first (brk ++ behind)) ≡ true
 unfolding is_break
 break_first line_feed = refl
 break_first pair = refl
@@ -67,7 +67,7 @@ unfolding past_break
 past_cr_if h true e = rw e refl
 past_cr_if h false e = rw e refl
 
-past_one : {brk behind : List ℕ} → OneBreak brk behind → (h : Here) → h.unread.text ≡ brk ++ behind → past_break h ≡ over brk h
+pub past_one : {brk behind : List ℕ} → OneBreak brk behind → (h : Here) → h.unread.text ≡ brk ++ behind → past_break h ≡ over brk h
 past_one line_feed h e = past_cr_if h false (ap (λ (t : List ℕ). first t == 0x0D && slice_index t 1 == 0x0A) e)
 past_one pair h e = past_cr_if h true (ap (λ (t : List ℕ). first t == 0x0D && slice_index t 1 == 0x0A) e)
 past_one (carriage_return n) h e = past_cr_if h false (ap (λ (t : List ℕ). first t == 0x0D && slice_index t 1 == 0x0A) e ∙ n)

@@ -22,7 +22,7 @@ use Rattle.granit_scalars.proofs.QuotedTurns.{seen_there}
 
 -- ---- blanks
 
-is_blank_nul : is_blank 0 ≡ false
+pub is_blank_nul : is_blank 0 ≡ false
 unfolding is_blank
 is_blank_nul = refl
 
@@ -131,7 +131,7 @@ tail_reads single at start value h =
 
 -- ---- what may stand there is read
 
-blank_no_hash : (b : ℕ) → is_blank b ≡ true → (b == 0x23) ≡ false
+pub blank_no_hash : (b : ℕ) → is_blank b ≡ true → (b == 0x23) ≡ false
 unfolding is_blank
 blank_no_hash b y = grind (arith, nat_tests)
 
