@@ -1,0 +1,9 @@
+pub mod Before
+pub mod Begins
+pub mod Counting
+pub mod Fitting
+pub mod OpenColumns
+pub mod Reached
+pub mod Refusing
+pub mod Standing
+pub mod Stretch

@@ -1,0 +1,2 @@
+//! What a text holds: which lexemes and comments stand where in it, and why no lexeme stands where reading is refused.
+#![tactic(auto)]

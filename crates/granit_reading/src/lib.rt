@@ -1,0 +1,2 @@
+//! What the plain machine's reader reads of a text: exactly its lexemes and comments.
+#![tactic(auto)]
