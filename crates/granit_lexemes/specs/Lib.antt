@@ -7,6 +7,7 @@ pub mod BlockValue
 pub mod Comment
 pub mod Decoding
 pub mod Directive
+pub mod DirectiveExtent
 pub mod Folding
 pub mod Gap
 pub mod HeaderExtent
@@ -16,6 +17,7 @@ pub mod Lexeme
 pub mod Line
 pub mod LinesExtent
 pub mod Moves
+pub mod NameExtent
 pub mod Outcome
 pub mod Pieces
 pub mod Place
@@ -25,5 +27,6 @@ pub mod PlainScalar
 pub mod QuotedExtent
 pub mod QuotedScalar
 pub mod Source
+pub mod TagExtent
 pub mod Tags
 pub mod Tail

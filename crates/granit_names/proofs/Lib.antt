@@ -1,0 +1,14 @@
+pub mod Decoded
+pub mod DirectiveLaw
+pub mod Escaped
+pub mod HandleLaw
+pub mod HandleOnce
+pub mod Kept
+pub mod LineLaw
+pub mod NameLaw
+pub mod ReservedLaw
+pub mod Runs
+pub mod Spelling
+pub mod TagLaw
+pub mod TagOnce
+pub mod VersionLaw
