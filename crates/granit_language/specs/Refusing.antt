@@ -1,22 +1,22 @@
 -- Why what stands at a place is refused, kind by kind.
-use Rattle.std.specs.Prelude.{◌≡◌, ℕ, ◌≤◌, Bool, true, false, nat_lt, nat_le, List, [], ◌∷◌, length, slice_index, ◌⊎◌, Option, Some, None, Err}
+use Rattle.std.specs.Prelude.{◌≡◌, ℕ, ◌≤◌, Bool, true, false, nat_lt, nat_le, List, [], ◌∷◌, length, slice_index, Option, Some, None}
 use Rattle.granit_base.specs.Classes.{is_breakz}
 use Rattle.granit_base.specs.Place.{Mark}
 use Rattle.granit_error.specs.FaultKind.{FaultKind, UnclosedFlowCollection, MismatchedFlowCollectionEnd, MisplacedFlowCollectionEnd, RecursionLimitExceeded, BlockEntryInFlowCollection, FlowMappingValueAdjacentCollection, InvalidColonPlacement, InvalidDocumentEnd, SimpleKeyExpected, BlockSequenceEntryNotAllowed, MappingKeyNotAllowed, MappingValueNotAllowed, InvalidBlockEntryWhitespace, ExpectedWhitespace, TabInBlockIndentation, TabNotAllowed, CommentInterceptedScalar, UnexpectedCharacter, BomInsideDocument, InvalidIndentation}
 use Rattle.granit_error.specs.OptionsData.{OptionsData}
 use Rattle.granit_lexemes.specs.BlockExtent.{RefusesBlock}
 use Rattle.granit_lexemes.specs.Comment.{CommentRead, Spoils}
-use Rattle.granit_lexemes.specs.Directive.{directive}
+use Rattle.granit_lexemes.specs.DirectiveExtent.{RefusesDirective}
 use Rattle.granit_lexemes.specs.HeaderExtent.{HeaderTail}
 use Rattle.granit_lexemes.specs.Here.{Here, next_char, mark_of, step}
 use Rattle.granit_lexemes.specs.LayoutData.{is_left}
 use Rattle.granit_lexemes.specs.Lexeme.{Bracket, opener_char, closer_char}
 use Rattle.granit_lexemes.specs.Moves.{steps}
-use Rattle.granit_lexemes.specs.Outcome.{Fault}
+use Rattle.granit_lexemes.specs.NameExtent.{RefusesName}
 use Rattle.granit_lexemes.specs.PlainExtent.{RefusesPlain}
 use Rattle.granit_lexemes.specs.QuotedExtent.{AnswersQuoted, RefusesQuoted}
 use Rattle.granit_lexemes.specs.QuotedScalar.{QuotedRead}
-use Rattle.granit_lexemes.specs.Tags.{name_at, tag_at}
+use Rattle.granit_lexemes.specs.TagExtent.{RefusesTag}
 use Rattle.granit_machine.specs.Columns.{entered}
 use Rattle.granit_machine.specs.Gaps.{leading_tab, goes_on_behind, takes_prefix}
 use Rattle.granit_machine.specs.IndicatorLexemes.{is_tabbed_dash, nul_behind, behind_question, opens_flow}
@@ -116,9 +116,9 @@ pub data Refuses (o : OptionsData) (h : Here) (l : Laid) : PlacedSort → FaultK
   colon_here : top_key l ≡ None → is_in_flow l ≡ false → is_allowed h.begins_line h.tab l ≡ false
       → Refuses o h l ColonSign MappingValueNotAllowed (mark_of h)
   -- names, tags and scalars (6.9, 7.1, 7.3, 8.1)
-  in_name : {sort : PlacedSort} {f : Fault} → (sort ≡ AliasSign) ⊎ (sort ≡ AnchorSign) → name_at h ≡ Err f
-      → Refuses o h l sort f.kind f.mark
-  in_tag : {f : Fault} → tag_at (is_in_flow l) h ≡ Err f → Refuses o h l TagSign f.kind f.mark
+  in_alias : {kind : FaultKind} {m : Mark} → RefusesName h kind m → Refuses o h l AliasSign kind m
+  in_anchor : {kind : FaultKind} {m : Mark} → RefusesName h kind m → Refuses o h l AnchorSign kind m
+  in_tag : {kind : FaultKind} {m : Mark} → RefusesTag (is_in_flow l) h kind m → Refuses o h l TagSign kind m
   in_block : {literal : Bool} {kind : FaultKind} {m : Mark} → RefusesBlock literal (block_column l) h kind m
       → Refuses o h l (BlockSign literal) kind m
   in_plain : {kind : FaultKind} {m : Mark} → RefusesPlain (layout_of o h.place.column l) h kind m
@@ -154,6 +154,6 @@ pub data RefusesSort (o : OptionsData) (h : Here) (l : Laid) : LexemeSort → Fa
   dots_tail : {kind : FaultKind} {m : Mark} → WrongTail (steps 3 h) kind m → RefusesSort o h l EndMark kind m
   behind_dots : (held : Option CommentRead) (after : Here) → HeaderTail (steps 3 h) held after
       → is_breakz (next_char after) ≡ false → RefusesSort o h l EndMark InvalidDocumentEnd (mark_of after)
-  in_directive : {f : Fault} → directive o h ≡ Err f → RefusesSort o h l DirectiveSign f.kind f.mark
+  in_directive : {kind : FaultKind} {m : Mark} → RefusesDirective o h kind m → RefusesSort o h l DirectiveSign kind m
   -- a character that isn't printable (5.1)
   unprintable : RefusesSort o h l Unprintable (UnexpectedCharacter (next_char h)) (mark_of h)

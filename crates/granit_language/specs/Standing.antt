@@ -1,5 +1,5 @@
 -- The lexemes of a text by kind: which one stands at a place, how far it goes, and what is said of it.
-use Rattle.std.specs.Prelude.{◌≡◌, ℕ, ◌<◌, ◌==◌, ◌&&◌, ◌||◌, Bool, true, false, not, nat_lt, nat_le, List, [], ◌∷◌, length, slice_index, ◌⊎◌, Option, Some, None, Ok}
+use Rattle.std.specs.Prelude.{◌≡◌, ℕ, ◌<◌, ◌==◌, ◌&&◌, ◌||◌, Bool, true, false, not, nat_lt, nat_le, List, [], ◌∷◌, length, slice_index, ◌⊎◌, Option, Some, None}
 use Rattle.granit_base.specs.Classes.{is_blank, is_breakz}
 use Rattle.granit_base.specs.Place.{Mark}
 use Rattle.granit_base.specs.declared.style.ScalarStyle.TheVariants.{Plain}
@@ -8,17 +8,20 @@ use Rattle.granit_lexemes.specs.Basics.{owned}
 use Rattle.granit_lexemes.specs.BlockExtent.{AnswersBlock}
 use Rattle.granit_lexemes.specs.BlockScalar.{BlockGiven}
 use Rattle.granit_lexemes.specs.Comment.{CommentRead, StandsComment}
-use Rattle.granit_lexemes.specs.Directive.{DirectiveRead, directive}
+use Rattle.granit_lexemes.specs.Directive.{DirectiveRead}
+use Rattle.granit_lexemes.specs.DirectiveExtent.{AnswersDirective}
 use Rattle.granit_lexemes.specs.HeaderExtent.{HeaderTail}
 use Rattle.granit_lexemes.specs.Here.{Here, next_char, mark_of, step}
 use Rattle.granit_lexemes.specs.LayoutData.{is_left}
 use Rattle.granit_lexemes.specs.Lexeme.{Bracket, LexemeKind, Directive, DocumentStart, DocumentEnd, StreamEnd, Open, Close, Comma, Dash, Question, Colon, Alias, Anchor, Tag, Scalar, KeyStart, Lexeme, Item, OfLexeme}
 use Rattle.granit_lexemes.specs.Moves.{steps}
+use Rattle.granit_lexemes.specs.NameExtent.{AnswersName}
 use Rattle.granit_lexemes.specs.PlainExtent.{AnswersPlain}
 use Rattle.granit_lexemes.specs.PlainScalar.{PlainRead}
 use Rattle.granit_lexemes.specs.QuotedExtent.{AnswersQuoted}
 use Rattle.granit_lexemes.specs.QuotedScalar.{QuotedRead, quoted_style}
-use Rattle.granit_lexemes.specs.Tags.{TagRead, name_at, tag_at}
+use Rattle.granit_lexemes.specs.TagExtent.{AnswersTag}
+use Rattle.granit_lexemes.specs.Tags.{TagRead}
 use Rattle.granit_machine.specs.Gaps.{over_break_if, leading_tab, goes_on_behind, takes_prefix, behind_note, behind_gap}
 use Rattle.granit_machine.specs.IndicatorLexemes.{is_tabbed_dash, nul_behind, behind_question, opens_flow}
 use Rattle.granit_machine.specs.Columns.{entered}
@@ -83,7 +86,7 @@ pub record DirectiveLexeme (o : OptionsData) (ends : Bool) (h : Here) (l : Laid)
     (after : Here) : Type 0 where
   pub read : DirectiveRead
   pub end : Here
-  pub answers : directive o h ≡ Ok (read, end)
+  pub answers : AnswersDirective o h read end
   pub is : x ≡ with_tail (lexeme_to ends (Directive read.kind) read.source.end h l) read.noted
   pub reaches : after ≡ over_break_if end
 
@@ -152,12 +155,12 @@ pub record ColonLexeme (o : OptionsData) (ends : Bool) (h : Here) (l : Laid) (x 
 pub record NameLexeme (ends : Bool) (h : Here) (l : Laid) (kind : List ℕ → LexemeKind) (x : Lexeme)
     (after : Here) : Type 0 where
   pub name : List ℕ
-  pub answers : name_at h ≡ Ok (name, after)
+  pub answers : AnswersName h name after
   pub is : x ≡ lexeme_to ends (kind name) (mark_of after) h l
 
 pub record TagLexeme (ends : Bool) (h : Here) (l : Laid) (x : Lexeme) (after : Here) : Type 0 where
   pub read : TagRead
-  pub answers : tag_at (is_in_flow l) h ≡ Ok (read, after)
+  pub answers : AnswersTag (is_in_flow l) h read after
   pub is : x ≡ lexeme_to ends (Tag read.handle read.suffix) (mark_of after) h l
 
 pub record BlockLexeme (literal ends : Bool) (h : Here) (l : Laid) (x : Lexeme) (after : Here) : Type 0 where

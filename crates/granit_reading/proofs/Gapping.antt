@@ -21,8 +21,8 @@ use Rattle.granit_lexemes.specs.Gap.{Each}
 use Rattle.granit_scalars.proofs.Comments.{comment_reads}
 use Rattle.granit_scalars.proofs.QuotedEscapes.{text_behind}
 use Rattle.granit_blocks.proofs.BlockHeads.{TailWrong, touches, spoils, TailReads, tail_reads}
-use Rattle.granit_blocks.proofs.Moving.{Past, past_reads}
-use Rattle.granit_machine.specs.Gaps.{leading_tab, refuse_tab_at, refuse_tab, at_prefix_mark, begins_gap, over_gap_char, skip_gap, past_gap, goes_on_behind, refuse_cut_by, refuse_cut, noted_gap, ready_gap, gap_ends, takes_prefix, gap}
+use Rattle.granit_blocks.proofs.Moving.{past_reads}
+use Rattle.granit_machine.specs.Gaps.{leading_tab, refuse_tab_at, refuse_tab, at_prefix_mark, begins_gap, skip_gap, past_gap, goes_on_behind, refuse_cut_by, noted_gap, ready_gap, gap_ends, takes_prefix, gap}
 use Rattle.granit_machine.specs.Laid.{Laid, is_nonempty, is_question, block_column}
 use Rattle.granit_machine.specs.ReaderState.{ReaderState}
 use Rattle.granit_language.specs.Refusing.{WrongTab, behind_sign, in_indentation, WrongGap, spoiled as gap_spoiled, tab, cut, GapRefused}

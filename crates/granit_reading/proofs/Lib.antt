@@ -1,3 +1,4 @@
 pub mod Answering
 pub mod Gapping
 pub mod Sorting
+pub mod Lexemes

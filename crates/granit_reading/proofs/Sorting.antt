@@ -8,7 +8,7 @@ use Rattle.granit_lexemes.specs.Here.{Here}
 use Rattle.granit_lexemes.specs.Lexeme.{Square, Curly}
 use Rattle.granit_lexemes.specs.Basics.{is_document_mark}
 use Rattle.granit_lexemes.proofs.HereLemmas.{not_empty}
-use Rattle.granit_machine.specs.LexemeSort.{PlacedSort, LexemeSort, TextEnd, StartMark, EndMark, Unprintable, DirectiveSign, Placed, OpenSign, CloseSign, CommaSign, DashSign, QuestionSign, ColonSign, AliasSign, AnchorSign, TagSign, BlockSign, QuoteSign, StrayMark, NoSign, sort_of, sort_at}
+use Rattle.granit_machine.specs.LexemeSort.{PlacedSort, LexemeSort, TextEnd, StartMark, EndMark, Unprintable, DirectiveSign, Placed, OpenSign, CloseSign, CommaSign, DashSign, QuestionSign, ColonSign, AliasSign, AnchorSign, TagSign, BlockSign, QuoteSign, StrayMark, sort_of, sort_at}
 use Rattle.granit_language.specs.Begins.{block_char, ReservedChar, parts_colon, SignBegins, opens, closes, comma, dash, question, colon, alias, anchor, tag, block, quote, stray, nothing, other, ThreeStand, NoMark, Begins, at_end, dashes, dots, unprintable, directive, sign}
 
 either : {A : Type 0} (P : A → Type 0) (b : Bool) (x y : A) → (b ≡ true → P x) → (b ≡ false → P y) → P (if b then x else y)
