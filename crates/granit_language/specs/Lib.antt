@@ -18,3 +18,12 @@ pub mod TreeEvents
 pub mod Whole
 pub mod Within
 pub mod Yield
+pub mod Before
+pub mod Begins
+pub mod Counting
+pub mod Fitting
+pub mod OpenColumns
+pub mod Reached
+pub mod Refusing
+pub mod Standing
+pub mod Stretch

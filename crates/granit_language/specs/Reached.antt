@@ -1,0 +1,87 @@
+-- What a text holds up to a place: its lexemes and comments, in order.
+use Rattle.std.specs.Prelude.{◌≡◌, Bool, true, false, List, [], ◌∷◌, ◌++◌, Option, Some, None}
+use Rattle.granit_base.specs.Place.{Mark}
+use Rattle.granit_error.specs.FaultKind.{FaultKind, SimpleKeyExpected}
+use Rattle.granit_error.specs.OptionsData.{OptionsData}
+use Rattle.granit_lexemes.specs.Comment.{CommentRead}
+use Rattle.granit_lexemes.specs.Here.{mark_of}
+use Rattle.granit_lexemes.specs.Lexeme.{Item, OfComment}
+use Rattle.granit_lexemes.specs.Outcome.{Fault}
+use Rattle.granit_machine.specs.Columns.{ends_at, ends_all}
+use Rattle.granit_machine.specs.Gaps.{takes_prefix}
+use Rattle.granit_machine.specs.Laid.{PossibleKey, is_adjacent, is_in_flow}
+use Rattle.granit_machine.specs.LexemeSort.{LexemeSort, Placed}
+use Rattle.granit_machine.specs.PossibleKeys.{is_stale}
+use Rattle.granit_machine.specs.Reader.{is_end}
+use Rattle.granit_machine.specs.ReaderState.{ReaderState}
+use Rattle.granit_language.specs.Before.{freshened, in_front}
+use Rattle.granit_language.specs.Begins.{Begins}
+use Rattle.granit_language.specs.Refusing.{GapRefused, RefusesSort}
+use Rattle.granit_language.specs.Standing.{GapStands, Given}
+
+-- no key outside brackets that must have a `:` is left behind a place (7.4.2, 8.2.2)
+abbrev pub NoneOverdue : OptionsData → ReaderState → Type 0
+NoneOverdue o s =
+    (k : PossibleKey) → s.laid.key ≡ Some k → is_stale o (is_in_flow s.laid) (mark_of s.here) k ≡ true
+    → k.is_required ≡ false
+
+-- one is
+pub record Overdue (o : OptionsData) (s : ReaderState) (kind : FaultKind) (m : Mark) : Type 0 where
+  pub key : PossibleKey
+  pub is_outer : s.laid.key ≡ Some key
+  pub stale : is_stale o (is_in_flow s.laid) (mark_of s.here) key ≡ true
+  pub required : key.is_required ≡ true
+  pub names : kind ≡ SimpleKeyExpected
+  pub marks : m ≡ key.start
+
+-- a lexeme of a sort begins where a state stands
+abbrev pub BeginsAt : ReaderState → LexemeSort → Type 0
+BeginsAt s sort = Begins (is_in_flow s.laid) (is_adjacent s.laid.last) s.here.place.column s.here.unread.text sort
+
+-- whether a lexeme of a sort ends an open column (8.1, 9.1)
+abbrev pub ends_column_by : LexemeSort → ReaderState → Bool
+ends_column_by (Placed sort) s = ends_at s.here.place.column s.laid
+ends_column_by sort s = ends_all s.laid
+
+-- what one read of a lexeme gives that begins where a state stands
+abbrev pub GivenAt : OptionsData → LexemeSort → ReaderState → List Item → ReaderState → Type 0
+GivenAt o sort s items after =
+    Given o (ends_column_by sort s) sort s.here (in_front sort s.here s.laid) items after
+
+-- a gap behind a state up to a place where a lexeme of a sort begins, and no key is overdue there
+pub record Comes (o : OptionsData) (s at : ReaderState) (sort : LexemeSort) : Type 0 where
+  pub gap : GapStands o s.here s.laid None at
+  pub keys : NoneOverdue o at
+  pub begins : BeginsAt (freshened o at) sort
+
+-- One read: a comment with the gap before it; or a lexeme with the gap before it, its tail, and, behind a quoted
+-- scalar, the gap behind it.
+pub data Reads (o : OptionsData) (s : ReaderState) : List Item → ReaderState → Type 0 where
+  of_comment : {comment : CommentRead} (at : ReaderState) → GapStands o s.here s.laid (Some comment) at
+      → NoneOverdue o at → Reads o s (OfComment comment ∷ []) (freshened o at)
+  of_lexeme : {items : List Item} (at behind : ReaderState) (sort : LexemeSort) → Comes o s at sort
+      → GivenAt o sort (freshened o at) items behind → NoneOverdue o behind → Reads o s items (freshened o behind)
+
+-- Items from one place of a text to another.
+pub data Reached (o : OptionsData) : ReaderState → List Item → ReaderState → Type 0 where
+  stops : {s : ReaderState} → Reached o s [] s
+  goes_on : {s t : ReaderState} {all : List Item} (next : ReaderState) (items more : List Item)
+      → Reads o s items next → Reached o next more t → all ≡ items ++ more → Reached o s all t
+
+-- The cause of a refusal, behind what reading has reached: in the gap, by a key that is overdue, or at the lexeme
+-- behind the gap.
+pub data ReadRefused (o : OptionsData) (s : ReaderState) : FaultKind → Mark → Type 0 where
+  in_gap : {kind : FaultKind} {m : Mark} → GapRefused o (takes_prefix s.laid) s.here s.laid kind m
+      → ReadRefused o s kind m
+  key_overdue : {kind : FaultKind} {m : Mark} (comment : Option CommentRead) (at : ReaderState)
+      → GapStands o s.here s.laid comment at → Overdue o at kind m → ReadRefused o s kind m
+  at_lexeme : {kind : FaultKind} {m : Mark} (at : ReaderState) (sort : LexemeSort) → Comes o s at sort
+      → RefusesSort o at.here (in_front sort at.here (freshened o at).laid) sort kind m → ReadRefused o s kind m
+  key_overdue_behind : {kind : FaultKind} {m : Mark} (items : List Item) (at behind : ReaderState) (sort : LexemeSort)
+      → Comes o s at sort → GivenAt o sort (freshened o at) items behind → Overdue o behind kind m
+      → ReadRefused o s kind m
+
+-- How reading a whole text ends: behind the end, or at what is refused.
+abbrev pub EndsBy : OptionsData → List Item → ReaderState → Option Fault → Type 0
+EndsBy o items s None = (front last : List Item) × (items ≡ front ++ last) × (is_end last ≡ true)
+EndsBy o items s (Some f) = ReadRefused o s f.kind f.mark

@@ -1,0 +1,199 @@
+-- What stands between lexemes and behind them is what the reader skips.
+use Rattle.std.proofs.Common.{◌≡◌, ℕ, suc, ◌≤◌, ◌==◌, ◌&&◌, ◌||◌, Bool, true, false, List, [], ◌∷◌, ◌++◌, length, drop, Option, Some, None, Result, Ok, Err, refl, sym, ap, ◌∙◌, subst, arith}
+use Rattle.std.specs.Prelude.{if◌then◌else◌, nat_lt}
+use Rattle.std.proofs.lemmas.Bool.Decides.{nat_tests}
+use Rattle.std.proofs.lemmas.List.{length-drop}
+use Rattle.granit_base.specs.Classes.{is_gap, is_blank, is_break, is_bom}
+use Rattle.granit_base.specs.Place.{Mark, first}
+use Rattle.granit_error.specs.FaultKind.{FaultKind, TabNotAllowed, TabInBlockIndentation, CommentInterceptedScalar}
+use Rattle.granit_error.specs.OptionsData.{OptionsData}
+use Rattle.granit_lexemes.specs.Basics.{fails_at}
+use Rattle.granit_lexemes.specs.Comment.{CommentRead, comment, StandsComment, Spoils, ReadsComment}
+use Rattle.granit_lexemes.specs.HeaderExtent.{HeaderTail}
+use Rattle.granit_lexemes.specs.Here.{Here, text_len, next_char, mark_of, step, chosen, past}
+use Rattle.granit_lexemes.specs.LayoutData.{is_left}
+use Rattle.granit_lexemes.specs.Moves.{past_prefix_mark}
+use Rattle.granit_lexemes.specs.Outcome.{Fault, ◌>>=◌}
+use Rattle.granit_lexemes.specs.PlainExtent.{over}
+use Rattle.granit_lexemes.specs.Tail.{tail_at}
+use Rattle.granit_lexemes.proofs.HereLemmas.{step_len}
+use Rattle.granit_lexemes.specs.Gap.{Each}
+use Rattle.granit_scalars.proofs.Comments.{comment_reads}
+use Rattle.granit_scalars.proofs.QuotedEscapes.{text_behind}
+use Rattle.granit_blocks.proofs.BlockHeads.{TailWrong, touches, spoils, TailReads, tail_reads}
+use Rattle.granit_blocks.proofs.Moving.{past_reads}
+use Rattle.granit_machine.specs.Gaps.{leading_tab, refuse_tab_at, refuse_tab, at_prefix_mark, begins_gap, skip_gap, past_gap, goes_on_behind, refuse_cut_by, noted_gap, ready_gap, gap_ends, takes_prefix, gap}
+use Rattle.granit_machine.specs.Laid.{Laid, is_nonempty, is_question, block_column}
+use Rattle.granit_machine.specs.ReaderState.{ReaderState}
+use Rattle.granit_language.specs.Refusing.{WrongTab, behind_sign, in_indentation, WrongGap, spoiled as gap_spoiled, tab, cut, GapRefused}
+use Rattle.granit_language.specs.Standing.{tab_limit, TabFits, CutFits, GapStands, in_front_of_comment, in_front_of_lexeme}
+use Rattle.granit_language.specs.Stretch.{GapTo, ends, white, prefix_mark, GapHere, WrongTail, touching, spoiled}
+use Rattle.granit_reading.proofs.Answering.{Answers, answers_then, answers_if}
+
+-- ---- comments
+
+hash_there : (h : Here) → (next_char h == 0x23) ≡ true → next_char h ≡ 0x23
+hash_there h e = grind (arith, nat_tests)
+
+abbrev pub NotedAt : Here → CommentRead × Here → Type 0
+NotedAt h x = StandsComment h x.0 x.1
+
+pub comment_at_is : (h : Here) → (next_char h == 0x23) ≡ true → Answers (NotedAt h) (Spoils h) (comment h)
+comment_at_is h is = on (comment h) (comment_reads h (hash_there h is))
+  where
+    on : (r : Result (CommentRead × Here) Fault) → ReadsComment h r → Answers (NotedAt h) (Spoils h) r
+    on (Ok x) p = p
+    on (Err f) p = p
+
+-- ---- tails
+
+abbrev pub TailAt : Here → Option CommentRead × Here → Type 0
+TailAt end x = HeaderTail end x.0 x.1
+
+tail_wrong : {end : Here} {kind : FaultKind} {m : Mark} → TailWrong end kind m → WrongTail end kind m
+tail_wrong (touches e) = touching (ap (λ n. n == 0x23) e)
+tail_wrong (spoils b blanks rest p s) = spoiled b blanks rest p s
+
+pub tail_is : (end : Here) → Answers (TailAt end) (WrongTail end) (tail_at end)
+tail_is end = on (tail_at end) (tail_reads end)
+  where
+    on : (r : Result (Option CommentRead × Here) Fault) → TailReads end r → Answers (TailAt end) (WrongTail end) r
+    on (Ok x) p = p
+    on (Err f) p = tail_wrong p.0
+
+-- ---- gaps
+
+record Skips (may : Bool) (h at : Here) : Type 0 where
+  here : GapHere may h at
+  moved : begins_gap may h ≡ is_nonempty here.gap
+
+is_gap_nul : is_gap 0 ≡ false
+unfolding is_gap is_blank is_break
+is_gap_nul = refl
+
+is_bom_nul : is_bom 0 ≡ false
+unfolding is_bom
+is_bom_nul = refl
+
+text_as : (test : ℕ → Bool) (text : List ℕ) → test 0 ≡ false → test (first text) ≡ true → text ≡ first text ∷ drop 1 text
+text_as test [] nul held = absurd cc
+text_as test (c ∷ cs) nul held = refl
+
+three : (a b d : Bool) → ((a && b) && d) ≡ true → (a ≡ true) × (b ≡ true) × (d ≡ true)
+three true true true e = (refl, refl, refl)
+three false b d e = absurd cc
+three true false d e = absurd cc
+three true true false e = absurd cc
+
+bom_is : (c : ℕ) → is_bom c ≡ true → c ≡ 0xFEFF
+unfolding is_bom
+bom_is c e = grind (arith, nat_tests)
+
+zero_is : (n : ℕ) → (n == 0) ≡ true → n ≡ 0
+zero_is n e = grind (arith, nat_tests)
+
+prefix_mark-less : (n : ℕ) (h : Here) → text_len h ≤ suc n → text_len (past_prefix_mark h) ≤ n
+unfolding past_prefix_mark
+prefix_mark-less n h p = let m = length-drop 1 h.unread.text in omega (arith, m, p)
+
+step-less : (n : ℕ) (h : Here) → text_len h ≤ suc n → text_len (step h) ≤ n
+step-less n h p = let m = step_len h in omega (arith, m, p)
+
+any_of : (a b : Bool) → a ≡ true → (a || b) ≡ true
+any_of true b e = refl
+any_of false b e = absurd cc
+
+second_of : (a b : Bool) → b ≡ true → (a || b) ≡ true
+second_of true b e = refl
+second_of false true e = refl
+second_of false false e = absurd cc
+
+marked : (may : Bool) (xs : List ℕ) (h : Here) → ((d : Here) → text_len d ≤ length xs → Skips may d (skip_gap may xs d)) → text_len h ≤ suc (length xs) → at_prefix_mark may h ≡ true → Skips may h (skip_gap may xs (past_prefix_mark h))
+marked may xs h more less f =
+    let p = three may (is_bom (next_char h)) (h.place.column == 0) f in
+    let t : h.unread.text ≡ 0xFEFF ∷ drop 1 h.unread.text = text_as is_bom h.unread.text is_bom_nul p.1 ∙ ap (λ (n : ℕ). n ∷ drop 1 h.unread.text) (bom_is (next_char h) p.1) in
+    let r = (more (past_prefix_mark h) (prefix_mark-less (length xs) h less)).here in
+    record { here = record { gap = 0xFEFF ∷ r.gap; over = prefix_mark p.0 (zero_is h.place.column p.2) t r.over; stops = r.stops }; moved = second_of (is_gap (next_char h)) (at_prefix_mark may h) f }
+
+skip_on : (may : Bool) (xs : List ℕ) (h : Here) → ((d : Here) → text_len d ≤ length xs → Skips may d (skip_gap may xs d)) → text_len h ≤ suc (length xs) → (g p : Bool) → is_gap (next_char h) ≡ g → at_prefix_mark may h ≡ p
+    → Skips may h (chosen (g || p) (skip_gap may xs (if p then past_prefix_mark h else step h)) h)
+skip_on may xs h more less true true e f = marked may xs h more less f
+skip_on may xs h more less false true e f = marked may xs h more less f
+skip_on may xs h more less true false e f =
+    let r = (more (step h) (step-less (length xs) h less)).here in
+    record { here = record { gap = next_char h ∷ r.gap; over = white (text_as is_gap h.unread.text is_gap_nul e) e r.over; stops = r.stops }; moved = any_of (is_gap (next_char h)) (at_prefix_mark may h) e }
+skip_on may xs h more less false false e f = let n : begins_gap may h ≡ false = rw (e, f) refl in record { here = record { gap = []; over = ends; stops = n }; moved = n }
+
+at_nothing : (may : Bool) (h : Here) (text : List ℕ) → text ≡ h.unread.text → length text ≤ 0 → begins_gap may h ≡ false
+at_nothing may h [] e p = ap (λ (t : List ℕ). is_gap (first t) || ((may && is_bom (first t)) && h.place.column == 0)) (sym e) ∙ rw (is_gap_nul, is_bom_nul) (no_more may (h.place.column == 0))
+  where
+    no_more : (a b : Bool) → ((a && false) && b) ≡ false
+    no_more true b = refl
+    no_more false b = refl
+at_nothing may h (x ∷ xs) e p = absurd (omega arith)
+
+skip_is : (may : Bool) (xs : List ℕ) (h : Here) → text_len h ≤ length xs → Skips may h (skip_gap may xs h)
+skip_is may [] h p = let n = at_nothing may h h.unread.text refl p in record { here = record { gap = []; over = ends; stops = n }; moved = n }
+skip_is may (x ∷ xs) h p = skip_on may xs h (skip_is may xs) (omega (arith, p)) (is_gap (next_char h)) (at_prefix_mark may h) refl refl
+
+past_gap_is : (may : Bool) (h : Here) → Skips may h (past_gap may h)
+unfolding past_gap
+past_gap_is may h = skip_is may h.unread.text h (omega arith)
+
+-- blanks and breaks alone
+pub past_white : (h : Here) → GapHere false h (past is_gap h)
+past_white h = let p = past_reads is_gap is_gap_nul h in record { gap = p.characters; over = on p.characters h (past is_gap h) (past is_gap h).unread.text p.spans.text p.spans.lands p.each; stops = rw p.stops refl }
+  where
+    on : (cs : List ℕ) (g at : Here) (rest : List ℕ) → g.unread.text ≡ cs ++ rest → at ≡ over cs g → Each is_gap cs → GapTo false g cs at
+    on [] g at rest t l e = subst (GapTo false g []) (sym l) ends
+    on (c ∷ cs) g at rest t l e = white t e.0 (on cs (step g) at rest (text_behind g c (cs ++ rest) t) l e.1)
+
+-- ---- what the gap in front of a place gives
+
+both : (x y : Bool) → (x && y) ≡ true → (x ≡ true) × (y ≡ true)
+both true true e = (refl, refl)
+both true false e = absurd cc
+both false y e = absurd cc
+
+pub refuse_tab_is : {B : Type 0} (R : B → Type 0) (W : FaultKind → Mark → Type 0) (o : OptionsData) (l : Laid) (h : Here) (f : Unit {0} → Result B Fault)
+    → ((kind : FaultKind) (m : Mark) → WrongTab o l h kind m → W kind m) → (TabFits o l (leading_tab h) → Answers R W (f tt)) → Answers R W (refuse_tab o l (mark_of h) (leading_tab h) >>= f)
+unfolding refuse_tab_at
+refuse_tab_is {B = B} R W o l h f w p = on (leading_tab h) refl p
+  where
+    at_tab : (t : Mark) → leading_tab h ≡ Some t → (TabFits o l (Some t) → Answers R W (f tt)) → (a b : Bool) → (is_question l.last && is_left (block_column l) t.place.column) ≡ a → nat_lt t.place.column (tab_limit o l) ≡ b
+        → Answers R W ((if a then fails_at TabNotAllowed t else if b then fails_at TabInBlockIndentation (mark_of h) else Ok tt) >>= f)
+    at_tab t e q true b y z = let v = both (is_question l.last) (is_left (block_column l) t.place.column) y in w _ _ (behind_sign e v.0 v.1)
+    at_tab t e q false true y z = w _ _ (in_indentation e z)
+    at_tab t e q false false y z = q (y, z)
+
+    on : (t : Option Mark) → leading_tab h ≡ t → (TabFits o l t → Answers R W (f tt)) → Answers R W (refuse_tab o l (mark_of h) t >>= f)
+    on None e q = q tt
+    on (Some t) e q = at_tab t e q (is_question l.last && is_left (block_column l) t.place.column) (nat_lt t.place.column (tab_limit o l)) refl refl
+
+refuse_cut_is : {B : Type 0} (R : B → Type 0) (W : FaultKind → Mark → Type 0) (o : OptionsData) (l : Laid) (h : Here) (f : Unit {0} → Result B Fault)
+    → ((kind : FaultKind) (m : Mark) → WrongGap o l h kind m → W kind m) → (t : Option Mark) → l.cut ≡ t → (CutFits l h t → Answers R W (f tt)) → Answers R W (refuse_cut_by l h t >>= f)
+refuse_cut_is R W o l h f w None e p = p tt
+refuse_cut_is R W o l h f w (Some t) e p = on (goes_on_behind l h t) refl
+  where
+    on : (v : Bool) → goes_on_behind l h t ≡ v → Answers R W ((if v then fails_at CommentInterceptedScalar t else Ok tt) >>= f)
+    on true y = w _ _ (cut e y)
+    on false y = p y
+
+abbrev pub GapAt : OptionsData → Here → Laid → Option CommentRead × ReaderState → Type 0
+GapAt o h l x = GapStands o h l x.0 x.1
+
+abbrev GapWrong : OptionsData → Here → Laid → FaultKind → Mark → Type 0
+GapWrong o h l kind m = GapRefused o (takes_prefix l) h l kind m
+
+gap_ends_is : (o : OptionsData) (h : Here) (l : Laid) (at : Here) (g : GapHere (takes_prefix l) h at) → Answers (GapAt o h l) (GapWrong o h l) (gap_ends o (is_nonempty g.gap) at l)
+unfolding gap_ends noted_gap ready_gap
+gap_ends_is o h l at g =
+    answers_if (GapAt o h l) (GapWrong o h l) (next_char at == 0x23) _ _
+    (λ y. answers_then (NotedAt at) (Spoils at) (GapAt o h l) (GapWrong o h l) (comment at) _ (comment_at_is at y) (λ x p. in_front_of_comment at x.1 g p) (λ kind m p. record { at = at; gap = g; wrong = gap_spoiled p }))
+    (λ n. refuse_tab_is (GapAt o h l) (GapWrong o h l) o l at _ (λ kind m p. record { at = at; gap = g; wrong = tab p })
+    (λ t. refuse_cut_is (GapAt o h l) (GapWrong o h l) o l at _ (λ kind m p. record { at = at; gap = g; wrong = p }) l.cut refl (λ k. in_front_of_lexeme at g n t k)))
+
+pub gap_is : (o : OptionsData) (h : Here) (l : Laid) → Answers (GapAt o h l) (GapRefused o (takes_prefix l) h l) (gap o h l)
+gap_is o h l =
+    let s = past_gap_is (takes_prefix l) h in
+    subst (λ moved. Answers (GapAt o h l) (GapWrong o h l) (gap_ends o moved (past_gap (takes_prefix l) h) l)) (sym s.moved) (gap_ends_is o h l (past_gap (takes_prefix l) h) s.here)

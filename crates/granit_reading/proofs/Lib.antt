@@ -1,0 +1,9 @@
+pub mod Answering
+pub mod Gapping
+pub mod Sorting
+pub mod Lexemes
+pub mod ReadingLaw
+pub mod Choosing
+pub mod Telling
+pub mod Holding
+pub mod Moving
