@@ -13,11 +13,12 @@ use Rattle.granit_language.specs.Node.{TreeProperties, NoProperties, One, Two}
 use Rattle.granit_language.specs.Room.{behind_property, joins, continues_node, part_fits, indicates}
 use Rattle.granit_language.specs.Terminal.{Anchor, Tag, PartKind, Property, Scalar, Open, Part, At, terminal, PropertyKind}
 use Rattle.granit_language.specs.TreeEvents.{alone_event, properties_end}
-use Rattle.granit_lexemes.specs.Lexeme.{Square, Curly}
+use Rattle.granit_lexemes.specs.declared.layout.Bracket.TheVariants.{Square, Curly}
 use Rattle.granit_machine.specs.NodeSteps.{bare}
 use Rattle.granit_machine.specs.TokenSort.{token_of}
 use Rattle.granit_grammar.proofs.Tests.{and_left, and_right}
 use Rattle.granit_agreement.proofs.PartSteps.{scalar_parts, square_parts, curly_parts, anchor_parts, tag_parts}
+use Rattle.granit_lexemes.specs.declared.layout.Bracket.TheVariants as brackets
 
 after_same : (s : EventStep) → after_events [] s ≡ s
 after_same (GoesTo st es) = refl
@@ -99,37 +100,37 @@ scalar_behind style text s l o last given (Two r j n q) fs h g =
     (scalar_parts false style text s l o last given (Two r j n q) fs (stop_kind fs) h)
 scalar_behind style text s l o last given NoProperties fs h g = tt
 
-pub square_behind : BehindAt (Open Square) (lexemes.Open lexemes.Square)
+pub square_behind : BehindAt (Open Square) (lexemes.Open brackets.Square)
 square_behind s l o last given (One r j) fs h g =
     subst
-    (MeansView o (terminal_of false s (at_kind l (lexemes.Open lexemes.Square) None)) (knowing s last given)
-    (bare o (token_of false (at_kind l (lexemes.Open lexemes.Square) None))
+    (MeansView o (terminal_of false s (at_kind l (lexemes.Open brackets.Square) None)) (knowing s last given)
+    (bare o (token_of false (at_kind l (lexemes.Open brackets.Square) None))
     (state_of o (InFrames (PropertiesFrame (One r j) ∷ fs)) (knowing s last given))))
-    (sym (taken_one r j (Open Square) (at_of false s (at_kind l (lexemes.Open lexemes.Square) None)) fs refl g))
+    (sym (taken_one r j (Open Square) (at_of false s (at_kind l (lexemes.Open brackets.Square) None)) fs refl g))
     (square_parts false s l o last given (One r j) fs (stop_kind fs) h)
 square_behind s l o last given (Two r j n q) fs h g =
     subst
-    (MeansView o (terminal_of false s (at_kind l (lexemes.Open lexemes.Square) None)) (knowing s last given)
-    (bare o (token_of false (at_kind l (lexemes.Open lexemes.Square) None))
+    (MeansView o (terminal_of false s (at_kind l (lexemes.Open brackets.Square) None)) (knowing s last given)
+    (bare o (token_of false (at_kind l (lexemes.Open brackets.Square) None))
     (state_of o (InFrames (PropertiesFrame (Two r j n q) ∷ fs)) (knowing s last given))))
-    (sym (taken_two r j n q (Open Square) (at_of false s (at_kind l (lexemes.Open lexemes.Square) None)) fs refl g))
+    (sym (taken_two r j n q (Open Square) (at_of false s (at_kind l (lexemes.Open brackets.Square) None)) fs refl g))
     (square_parts false s l o last given (Two r j n q) fs (stop_kind fs) h)
 square_behind s l o last given NoProperties fs h g = tt
 
-pub curly_behind : BehindAt (Open Curly) (lexemes.Open lexemes.Curly)
+pub curly_behind : BehindAt (Open Curly) (lexemes.Open brackets.Curly)
 curly_behind s l o last given (One r j) fs h g =
     subst
-    (MeansView o (terminal_of false s (at_kind l (lexemes.Open lexemes.Curly) None)) (knowing s last given)
-    (bare o (token_of false (at_kind l (lexemes.Open lexemes.Curly) None))
+    (MeansView o (terminal_of false s (at_kind l (lexemes.Open brackets.Curly) None)) (knowing s last given)
+    (bare o (token_of false (at_kind l (lexemes.Open brackets.Curly) None))
     (state_of o (InFrames (PropertiesFrame (One r j) ∷ fs)) (knowing s last given))))
-    (sym (taken_one r j (Open Curly) (at_of false s (at_kind l (lexemes.Open lexemes.Curly) None)) fs refl g))
+    (sym (taken_one r j (Open Curly) (at_of false s (at_kind l (lexemes.Open brackets.Curly) None)) fs refl g))
     (curly_parts false s l o last given (One r j) fs (stop_kind fs) h)
 curly_behind s l o last given (Two r j n q) fs h g =
     subst
-    (MeansView o (terminal_of false s (at_kind l (lexemes.Open lexemes.Curly) None)) (knowing s last given)
-    (bare o (token_of false (at_kind l (lexemes.Open lexemes.Curly) None))
+    (MeansView o (terminal_of false s (at_kind l (lexemes.Open brackets.Curly) None)) (knowing s last given)
+    (bare o (token_of false (at_kind l (lexemes.Open brackets.Curly) None))
     (state_of o (InFrames (PropertiesFrame (Two r j n q) ∷ fs)) (knowing s last given))))
-    (sym (taken_two r j n q (Open Curly) (at_of false s (at_kind l (lexemes.Open lexemes.Curly) None)) fs refl g))
+    (sym (taken_two r j n q (Open Curly) (at_of false s (at_kind l (lexemes.Open brackets.Curly) None)) fs refl g))
     (curly_parts false s l o last given (Two r j n q) fs (stop_kind fs) h)
 curly_behind s l o last given NoProperties fs h g = tt
 

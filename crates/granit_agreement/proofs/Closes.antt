@@ -11,7 +11,7 @@ use Rattle.granit_language.specs.Scope.{Scope}
 use Rattle.granit_language.specs.Telling.{event_told}
 use Rattle.granit_language.specs.Terminal.{TerminalKind, Comma, Close, Terminal, stands_left, dash_in, entry_in, bare_in, stands_in, reach_of, is_bare_kind, is_comma_kind, closes_kind}
 use Rattle.granit_language.specs.TreeEvents.{SequenceEnds, MappingEnds, TreeEvent, null, pointed, alone_event, properties_end}
-use Rattle.granit_lexemes.specs.Lexeme.{Square}
+use Rattle.granit_lexemes.specs.declared.layout.Bracket.TheVariants.{Square}
 use Rattle.granit_machine.specs.Closing.{Closing, ends_top, end_top, close_turn, depth}
 use Rattle.granit_machine.specs.Frames.{ParserState}
 use Rattle.granit_machine.specs.TokenSort.{Token, token_of}

@@ -13,6 +13,7 @@ use Rattle.granit_lexemes.specs.Lexeme as lexemes
 use Rattle.granit_lexemes.specs.PlainEvent as plain
 use Rattle.granit_lexemes.specs.PlainEvent.{PlainEvent, event_at}
 use Rattle.granit_agreement.proofs.Standing.{finish_view}
+use Rattle.granit_lexemes.specs.declared.layout.Bracket.TheVariants as brackets
 
 pub item_done_steps :
     (b : Bool) (k : lexemes.LexemeKind) (key : Option KeyStart) (s : Scope) (l : lexemes.Lexeme) (o : OptionsData)
@@ -24,20 +25,20 @@ item_done_steps b lexemes.DocumentStart key s l o d fs h = refl
 item_done_steps b lexemes.DocumentEnd key s l o d fs h = refl
 item_done_steps b lexemes.StreamEnd key s l o d fs h = refl
 item_done_steps b lexemes.Comma key s l o d fs h = (d.last, refl)
-item_done_steps b (lexemes.Close lexemes.Square) key s l o d fs h = (
+item_done_steps b (lexemes.Close brackets.Square) key s l o d fs h = (
   l.shown.end,
   finish_view o fs l.shown.end
       (d.given ++ event_at plain.SequenceEnd (record { start = l.start; end = l.shown.end }) ∷ []) d h,
 )
-item_done_steps b (lexemes.Close lexemes.Curly) key s l o d fs h = refl
+item_done_steps b (lexemes.Close brackets.Curly) key s l o d fs h = refl
 item_done_steps b lexemes.Dash key s l o d fs h = refl
 item_done_steps b lexemes.Question key s l o d fs h = refl
 item_done_steps b lexemes.Colon None s l o d fs h = refl
 item_done_steps b lexemes.Colon (Some n) s l o d fs h = refl
-item_done_steps true (lexemes.Open lexemes.Square) key s l o d fs h = refl
-item_done_steps false (lexemes.Open lexemes.Square) key s l o d fs h = refl
-item_done_steps true (lexemes.Open lexemes.Curly) key s l o d fs h = refl
-item_done_steps false (lexemes.Open lexemes.Curly) key s l o d fs h = refl
+item_done_steps true (lexemes.Open brackets.Square) key s l o d fs h = refl
+item_done_steps false (lexemes.Open brackets.Square) key s l o d fs h = refl
+item_done_steps true (lexemes.Open brackets.Curly) key s l o d fs h = refl
+item_done_steps false (lexemes.Open brackets.Curly) key s l o d fs h = refl
 item_done_steps true (lexemes.Alias name) key s l o d fs h = refl
 item_done_steps false (lexemes.Alias name) key s l o d fs h = refl
 item_done_steps true (lexemes.Anchor name) key s l o d fs h = refl
@@ -57,16 +58,16 @@ curly_key_steps b lexemes.DocumentStart key s l o d fs h = refl
 curly_key_steps b lexemes.DocumentEnd key s l o d fs h = refl
 curly_key_steps b lexemes.StreamEnd key s l o d fs h = refl
 curly_key_steps b lexemes.Comma key s l o d fs h = refl
-curly_key_steps b (lexemes.Close lexemes.Square) key s l o d fs h = refl
-curly_key_steps b (lexemes.Close lexemes.Curly) key s l o d fs h = refl
+curly_key_steps b (lexemes.Close brackets.Square) key s l o d fs h = refl
+curly_key_steps b (lexemes.Close brackets.Curly) key s l o d fs h = refl
 curly_key_steps b lexemes.Dash key s l o d fs h = refl
 curly_key_steps b lexemes.Question key s l o d fs h = refl
 curly_key_steps b lexemes.Colon None s l o d fs h = refl
 curly_key_steps b lexemes.Colon (Some n) s l o d fs h = (d.last, refl)
-curly_key_steps true (lexemes.Open lexemes.Square) key s l o d fs h = refl
-curly_key_steps false (lexemes.Open lexemes.Square) key s l o d fs h = refl
-curly_key_steps true (lexemes.Open lexemes.Curly) key s l o d fs h = refl
-curly_key_steps false (lexemes.Open lexemes.Curly) key s l o d fs h = refl
+curly_key_steps true (lexemes.Open brackets.Square) key s l o d fs h = refl
+curly_key_steps false (lexemes.Open brackets.Square) key s l o d fs h = refl
+curly_key_steps true (lexemes.Open brackets.Curly) key s l o d fs h = refl
+curly_key_steps false (lexemes.Open brackets.Curly) key s l o d fs h = refl
 curly_key_steps true (lexemes.Alias name) key s l o d fs h = refl
 curly_key_steps false (lexemes.Alias name) key s l o d fs h = refl
 curly_key_steps true (lexemes.Anchor name) key s l o d fs h = refl
@@ -86,8 +87,8 @@ curly_done_steps b lexemes.DocumentStart key s l o d fs h = refl
 curly_done_steps b lexemes.DocumentEnd key s l o d fs h = refl
 curly_done_steps b lexemes.StreamEnd key s l o d fs h = refl
 curly_done_steps b lexemes.Comma key s l o d fs h = (d.last, refl)
-curly_done_steps b (lexemes.Close lexemes.Square) key s l o d fs h = refl
-curly_done_steps b (lexemes.Close lexemes.Curly) key s l o d fs h = (
+curly_done_steps b (lexemes.Close brackets.Square) key s l o d fs h = refl
+curly_done_steps b (lexemes.Close brackets.Curly) key s l o d fs h = (
   l.shown.end,
   finish_view o fs l.shown.end
       (d.given ++ event_at plain.MappingEnd (record { start = l.start; end = l.shown.end }) ∷ []) d h,
@@ -96,10 +97,10 @@ curly_done_steps b lexemes.Dash key s l o d fs h = refl
 curly_done_steps b lexemes.Question key s l o d fs h = refl
 curly_done_steps b lexemes.Colon None s l o d fs h = refl
 curly_done_steps b lexemes.Colon (Some n) s l o d fs h = refl
-curly_done_steps true (lexemes.Open lexemes.Square) key s l o d fs h = refl
-curly_done_steps false (lexemes.Open lexemes.Square) key s l o d fs h = refl
-curly_done_steps true (lexemes.Open lexemes.Curly) key s l o d fs h = refl
-curly_done_steps false (lexemes.Open lexemes.Curly) key s l o d fs h = refl
+curly_done_steps true (lexemes.Open brackets.Square) key s l o d fs h = refl
+curly_done_steps false (lexemes.Open brackets.Square) key s l o d fs h = refl
+curly_done_steps true (lexemes.Open brackets.Curly) key s l o d fs h = refl
+curly_done_steps false (lexemes.Open brackets.Curly) key s l o d fs h = refl
 curly_done_steps true (lexemes.Alias name) key s l o d fs h = refl
 curly_done_steps false (lexemes.Alias name) key s l o d fs h = refl
 curly_done_steps true (lexemes.Anchor name) key s l o d fs h = refl
@@ -119,8 +120,8 @@ curly_solo_steps b lexemes.DocumentStart key s l o d fs h = refl
 curly_solo_steps b lexemes.DocumentEnd key s l o d fs h = refl
 curly_solo_steps b lexemes.StreamEnd key s l o d fs h = refl
 curly_solo_steps b lexemes.Comma key s l o d fs h = (l.start, refl)
-curly_solo_steps b (lexemes.Close lexemes.Square) key s l o d fs h = refl
-curly_solo_steps b (lexemes.Close lexemes.Curly) key s l o d fs h = (
+curly_solo_steps b (lexemes.Close brackets.Square) key s l o d fs h = refl
+curly_solo_steps b (lexemes.Close brackets.Curly) key s l o d fs h = (
   l.shown.end,
   finish_view o fs l.shown.end
       ((d.given ++ null_at l.start ∷ []) ++ event_at plain.MappingEnd (record { start = l.start; end = l.shown.end })
@@ -131,10 +132,10 @@ curly_solo_steps b lexemes.Dash key s l o d fs h = refl
 curly_solo_steps b lexemes.Question key s l o d fs h = refl
 curly_solo_steps b lexemes.Colon None s l o d fs h = refl
 curly_solo_steps b lexemes.Colon (Some n) s l o d fs h = refl
-curly_solo_steps true (lexemes.Open lexemes.Square) key s l o d fs h = refl
-curly_solo_steps false (lexemes.Open lexemes.Square) key s l o d fs h = refl
-curly_solo_steps true (lexemes.Open lexemes.Curly) key s l o d fs h = refl
-curly_solo_steps false (lexemes.Open lexemes.Curly) key s l o d fs h = refl
+curly_solo_steps true (lexemes.Open brackets.Square) key s l o d fs h = refl
+curly_solo_steps false (lexemes.Open brackets.Square) key s l o d fs h = refl
+curly_solo_steps true (lexemes.Open brackets.Curly) key s l o d fs h = refl
+curly_solo_steps false (lexemes.Open brackets.Curly) key s l o d fs h = refl
 curly_solo_steps true (lexemes.Alias name) key s l o d fs h = refl
 curly_solo_steps false (lexemes.Alias name) key s l o d fs h = refl
 curly_solo_steps true (lexemes.Anchor name) key s l o d fs h = refl
@@ -154,8 +155,8 @@ curly_asked_steps b lexemes.DocumentStart key s l o d fs h = refl
 curly_asked_steps b lexemes.DocumentEnd key s l o d fs h = refl
 curly_asked_steps b lexemes.StreamEnd key s l o d fs h = refl
 curly_asked_steps b lexemes.Comma key s l o d fs h = (l.start, refl)
-curly_asked_steps b (lexemes.Close lexemes.Square) key s l o d fs h = refl
-curly_asked_steps b (lexemes.Close lexemes.Curly) key s l o d fs h = (
+curly_asked_steps b (lexemes.Close brackets.Square) key s l o d fs h = refl
+curly_asked_steps b (lexemes.Close brackets.Curly) key s l o d fs h = (
   l.shown.end,
   finish_view o fs l.shown.end
       ((d.given ++ null_at l.start ∷ []) ++ event_at plain.MappingEnd (record { start = l.start; end = l.shown.end })
@@ -166,10 +167,10 @@ curly_asked_steps b lexemes.Dash key s l o d fs h = refl
 curly_asked_steps b lexemes.Question key s l o d fs h = refl
 curly_asked_steps b lexemes.Colon None s l o d fs h = (d.last, refl)
 curly_asked_steps b lexemes.Colon (Some n) s l o d fs h = refl
-curly_asked_steps true (lexemes.Open lexemes.Square) key s l o d fs h = refl
-curly_asked_steps false (lexemes.Open lexemes.Square) key s l o d fs h = refl
-curly_asked_steps true (lexemes.Open lexemes.Curly) key s l o d fs h = refl
-curly_asked_steps false (lexemes.Open lexemes.Curly) key s l o d fs h = refl
+curly_asked_steps true (lexemes.Open brackets.Square) key s l o d fs h = refl
+curly_asked_steps false (lexemes.Open brackets.Square) key s l o d fs h = refl
+curly_asked_steps true (lexemes.Open brackets.Curly) key s l o d fs h = refl
+curly_asked_steps false (lexemes.Open brackets.Curly) key s l o d fs h = refl
 curly_asked_steps true (lexemes.Alias name) key s l o d fs h = refl
 curly_asked_steps false (lexemes.Alias name) key s l o d fs h = refl
 curly_asked_steps true (lexemes.Anchor name) key s l o d fs h = refl
@@ -189,16 +190,16 @@ made_key_steps b lexemes.DocumentStart key s l o d fs h = refl
 made_key_steps b lexemes.DocumentEnd key s l o d fs h = refl
 made_key_steps b lexemes.StreamEnd key s l o d fs h = refl
 made_key_steps b lexemes.Comma key s l o d fs h = refl
-made_key_steps b (lexemes.Close lexemes.Square) key s l o d fs h = refl
-made_key_steps b (lexemes.Close lexemes.Curly) key s l o d fs h = refl
+made_key_steps b (lexemes.Close brackets.Square) key s l o d fs h = refl
+made_key_steps b (lexemes.Close brackets.Curly) key s l o d fs h = refl
 made_key_steps b lexemes.Dash key s l o d fs h = refl
 made_key_steps b lexemes.Question key s l o d fs h = refl
 made_key_steps b lexemes.Colon None s l o d fs h = refl
 made_key_steps b lexemes.Colon (Some n) s l o d fs h = (d.last, refl)
-made_key_steps true (lexemes.Open lexemes.Square) key s l o d fs h = refl
-made_key_steps false (lexemes.Open lexemes.Square) key s l o d fs h = refl
-made_key_steps true (lexemes.Open lexemes.Curly) key s l o d fs h = refl
-made_key_steps false (lexemes.Open lexemes.Curly) key s l o d fs h = refl
+made_key_steps true (lexemes.Open brackets.Square) key s l o d fs h = refl
+made_key_steps false (lexemes.Open brackets.Square) key s l o d fs h = refl
+made_key_steps true (lexemes.Open brackets.Curly) key s l o d fs h = refl
+made_key_steps false (lexemes.Open brackets.Curly) key s l o d fs h = refl
 made_key_steps true (lexemes.Alias name) key s l o d fs h = refl
 made_key_steps false (lexemes.Alias name) key s l o d fs h = refl
 made_key_steps true (lexemes.Anchor name) key s l o d fs h = refl
@@ -218,16 +219,16 @@ key_done_steps c b lexemes.DocumentStart key s l o d fs h = refl
 key_done_steps c b lexemes.DocumentEnd key s l o d fs h = refl
 key_done_steps c b lexemes.StreamEnd key s l o d fs h = refl
 key_done_steps c b lexemes.Comma key s l o d fs h = refl
-key_done_steps c b (lexemes.Close lexemes.Square) key s l o d fs h = refl
-key_done_steps c b (lexemes.Close lexemes.Curly) key s l o d fs h = refl
+key_done_steps c b (lexemes.Close brackets.Square) key s l o d fs h = refl
+key_done_steps c b (lexemes.Close brackets.Curly) key s l o d fs h = refl
 key_done_steps c b lexemes.Dash key s l o d fs h = refl
 key_done_steps c b lexemes.Question key s l o d fs h = refl
 key_done_steps c b lexemes.Colon None s l o d fs h = refl
 key_done_steps c b lexemes.Colon (Some n) s l o d fs h = (d.last, refl)
-key_done_steps c true (lexemes.Open lexemes.Square) key s l o d fs h = refl
-key_done_steps c false (lexemes.Open lexemes.Square) key s l o d fs h = refl
-key_done_steps c true (lexemes.Open lexemes.Curly) key s l o d fs h = refl
-key_done_steps c false (lexemes.Open lexemes.Curly) key s l o d fs h = refl
+key_done_steps c true (lexemes.Open brackets.Square) key s l o d fs h = refl
+key_done_steps c false (lexemes.Open brackets.Square) key s l o d fs h = refl
+key_done_steps c true (lexemes.Open brackets.Curly) key s l o d fs h = refl
+key_done_steps c false (lexemes.Open brackets.Curly) key s l o d fs h = refl
 key_done_steps c true (lexemes.Alias name) key s l o d fs h = refl
 key_done_steps c false (lexemes.Alias name) key s l o d fs h = refl
 key_done_steps c true (lexemes.Anchor name) key s l o d fs h = refl

@@ -14,13 +14,15 @@ use Rattle.granit_language.specs.Room.{Room, RightOf, ValueIn, BehindKey, Inside
 use Rattle.granit_language.specs.Scope.{Scope}
 use Rattle.granit_language.specs.Telling.{one_less, properties_anchor, properties_tag}
 use Rattle.granit_language.specs.Terminal.{TerminalKind, Dash, Alias, Property, Scalar, Open, Part, Question, Colon, At, Anchor, Tag, Terminal, edge, stands_left, dash_in, entry_in, stands_in, reach_of, is_dash_kind, begins_entry_kind}
-use Rattle.granit_lexemes.specs.Lexeme.{Bracket, KeyStart}
+use Rattle.granit_lexemes.specs.Lexeme.{KeyStart}
+use Rattle.granit_lexemes.specs.declared.layout.Bracket.{Bracket}
 use Rattle.granit_machine.specs.Closing.{goes_on_by_kind, goes_on_with, ends_top}
 use Rattle.granit_machine.specs.NodeEnds.{under_column}
 use Rattle.granit_machine.specs.TokenSort.{TokenSort, BareColon, CommaToken, SequenceCloser, token_of, ends_frame, is_in_column, is_dash_token, begins_pair, is_bare_colon, ends_entry, token_sort, is_key_token, column_of_token, is_right_of}
 use Rattle.granit_base.specs.Written.{Written}
 use Rattle.granit_base.specs.declared.style.ScalarStyle.{ScalarStyle}
 use Rattle.granit_agreement.proofs.Sorts.{Column, sort_is, right_column, left_same, dash_same, entry_same}
+use Rattle.granit_lexemes.specs.declared.layout.Bracket.TheVariants as brackets
 
 -- ---- sequences
 
@@ -175,8 +177,8 @@ grows_block r loose b key p (lexemes.Directive directive) g = refl
 grows_block r loose b key p lexemes.DocumentStart g = refl
 grows_block r loose b key p lexemes.DocumentEnd g = refl
 grows_block r loose b key p lexemes.StreamEnd g = refl
-grows_block r loose b key p (lexemes.Close lexemes.Square) g = refl
-grows_block r loose b key p (lexemes.Close lexemes.Curly) g = refl
+grows_block r loose b key p (lexemes.Close brackets.Square) g = refl
+grows_block r loose b key p (lexemes.Close brackets.Curly) g = refl
 grows_block r loose b key p lexemes.Comma g = refl
 grows_block r loose b key p lexemes.Dash g = or_turn r loose
 grows_block r loose b key p lexemes.Question g = and_true r
@@ -208,8 +210,8 @@ grows_key r loose b key p (lexemes.Directive directive) g f = refl
 grows_key r loose b key p lexemes.DocumentStart g f = refl
 grows_key r loose b key p lexemes.DocumentEnd g f = refl
 grows_key r loose b key p lexemes.StreamEnd g f = refl
-grows_key r loose b key p (lexemes.Close lexemes.Square) g f = refl
-grows_key r loose b key p (lexemes.Close lexemes.Curly) g f = refl
+grows_key r loose b key p (lexemes.Close brackets.Square) g f = refl
+grows_key r loose b key p (lexemes.Close brackets.Curly) g f = refl
 grows_key r loose b key p lexemes.Comma g f = refl
 grows_key r loose b key p lexemes.Dash g f = cc (f)
 grows_key r loose b key p lexemes.Question g f = cc (f)
@@ -242,8 +244,8 @@ grows_flow loose b key p (lexemes.Directive directive) g f d = refl
 grows_flow loose b key p lexemes.DocumentStart g f d = refl
 grows_flow loose b key p lexemes.DocumentEnd g f d = refl
 grows_flow loose b key p lexemes.StreamEnd g f d = refl
-grows_flow loose b key p (lexemes.Close lexemes.Square) g f d = refl
-grows_flow loose b key p (lexemes.Close lexemes.Curly) g f d = refl
+grows_flow loose b key p (lexemes.Close brackets.Square) g f d = refl
+grows_flow loose b key p (lexemes.Close brackets.Curly) g f d = refl
 grows_flow loose b key p lexemes.Comma g f d = refl
 grows_flow loose b key p lexemes.Dash g f d = cc (d)
 grows_flow loose b key p lexemes.Question g f d = refl
@@ -311,8 +313,8 @@ asks_by_column b key p (lexemes.Directive directive) col under f loose = refl
 asks_by_column b key p lexemes.DocumentStart col under f loose = refl
 asks_by_column b key p lexemes.DocumentEnd col under f loose = refl
 asks_by_column b key p lexemes.StreamEnd col under f loose = refl
-asks_by_column b key p (lexemes.Close lexemes.Square) col under f loose = refl
-asks_by_column b key p (lexemes.Close lexemes.Curly) col under f loose = refl
+asks_by_column b key p (lexemes.Close brackets.Square) col under f loose = refl
+asks_by_column b key p (lexemes.Close brackets.Curly) col under f loose = refl
 asks_by_column b key p lexemes.Comma col under f loose = refl
 asks_by_column b key p lexemes.Dash col under f loose = refl
 asks_by_column b key p lexemes.Question col under f loose = refl

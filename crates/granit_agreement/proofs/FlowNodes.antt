@@ -9,7 +9,8 @@ use Rattle.granit_language.specs.Node.{NoProperties, One}
 use Rattle.granit_language.specs.Scope.{Scope}
 use Rattle.granit_language.specs.Terminal.{Terminal, Tag, is_comma_kind, closes_kind}
 use Rattle.granit_language.specs.TreeEvents.{TreeEvent, alias_event, pair_start}
-use Rattle.granit_lexemes.specs.Lexeme.{Square, Curly, KeyStart}
+use Rattle.granit_lexemes.specs.Lexeme.{KeyStart}
+use Rattle.granit_lexemes.specs.declared.layout.Bracket.TheVariants.{Square, Curly}
 use Rattle.granit_machine.specs.FlowSteps.{flow_at}
 use Rattle.granit_machine.specs.Frames.{ParserState}
 use Rattle.granit_machine.specs.Giving.{put, null_at}
@@ -29,6 +30,7 @@ use Rattle.granit_machine.specs.Frames as machine
 use Rattle.granit_agreement.proofs.Pops.{flushed}
 use Rattle.granit_agreement.proofs.PartSteps.{scalar_parts, square_parts, curly_parts, anchor_parts, tag_parts, alias_parts}
 use Rattle.granit_agreement.proofs.Standing.{finish_view}
+use Rattle.granit_lexemes.specs.declared.layout.Bracket.TheVariants as brackets
 
 abbrev Stop : GrammarFault
 Stop = UnexpectedEofImplicitFlowMapping
@@ -77,24 +79,24 @@ item_steps b lexemes.DocumentStart key s l o last given fs h = refl
 item_steps b lexemes.DocumentEnd key s l o last given fs h = refl
 item_steps b lexemes.StreamEnd key s l o last given fs h = refl
 item_steps b lexemes.Comma key s l o last given fs h = refl
-item_steps b (lexemes.Close lexemes.Square) key s l o last given fs h = (
+item_steps b (lexemes.Close brackets.Square) key s l o last given fs h = (
   (l.shown.end, finish_view o fs l.shown.end (given ++ EndEvent plain.SequenceEnd l ∷ []) (knowing s last given) h),
   refl,
 )
-item_steps b (lexemes.Close lexemes.Curly) key s l o last given fs h = refl
+item_steps b (lexemes.Close brackets.Curly) key s l o last given fs h = refl
 item_steps b lexemes.Dash key s l o last given fs h = refl
 item_steps b lexemes.Question key s l o last given fs h = ((l.shown.end, refl), refl)
 item_steps b lexemes.Colon None s l o last given fs h = ((l.start, refl), refl)
 item_steps b lexemes.Colon (Some n) s l o last given fs h = refl
-item_steps true (lexemes.Open lexemes.Square) key s l o last given fs h =
+item_steps true (lexemes.Open brackets.Square) key s l o last given fs h =
     square_parts true s l o l.start (PairGiven l given) NoProperties
     (FlowMappingFrame true Key ∷ FlowSequenceFrame false ∷ fs) Stop (made_key h)
-item_steps false (lexemes.Open lexemes.Square) key s l o last given fs h =
+item_steps false (lexemes.Open brackets.Square) key s l o last given fs h =
     square_parts false s l o last given NoProperties (FlowSequenceFrame false ∷ fs) Stop (at_item h)
-item_steps true (lexemes.Open lexemes.Curly) key s l o last given fs h =
+item_steps true (lexemes.Open brackets.Curly) key s l o last given fs h =
     curly_parts true s l o l.start (PairGiven l given) NoProperties
     (FlowMappingFrame true Key ∷ FlowSequenceFrame false ∷ fs) Stop (made_key h)
-item_steps false (lexemes.Open lexemes.Curly) key s l o last given fs h =
+item_steps false (lexemes.Open brackets.Curly) key s l o last given fs h =
     curly_parts false s l o last given NoProperties (FlowSequenceFrame false ∷ fs) Stop (at_item h)
 item_steps true (lexemes.Alias name) key s l o last given fs h =
     alias_pair o name s l last given (put_frames l.shown.end (FlowMappingFrame true Key ∷ FlowSequenceFrame false ∷ fs))
@@ -138,8 +140,8 @@ curly_steps b lexemes.DocumentStart key s l o last given fs h = refl
 curly_steps b lexemes.DocumentEnd key s l o last given fs h = refl
 curly_steps b lexemes.StreamEnd key s l o last given fs h = refl
 curly_steps b lexemes.Comma key s l o last given fs h = refl
-curly_steps b (lexemes.Close lexemes.Square) key s l o last given fs h = refl
-curly_steps b (lexemes.Close lexemes.Curly) key s l o last given fs h = (
+curly_steps b (lexemes.Close brackets.Square) key s l o last given fs h = refl
+curly_steps b (lexemes.Close brackets.Curly) key s l o last given fs h = (
   (l.shown.end, finish_view o fs l.shown.end (given ++ EndEvent plain.MappingEnd l ∷ []) (knowing s last given) h),
   refl,
 )
@@ -147,13 +149,13 @@ curly_steps b lexemes.Dash key s l o last given fs h = refl
 curly_steps b lexemes.Question key s l o last given fs h = ((last, refl), refl)
 curly_steps b lexemes.Colon None s l o last given fs h = ((l.start, refl), refl)
 curly_steps b lexemes.Colon (Some n) s l o last given fs h = refl
-curly_steps true (lexemes.Open lexemes.Square) key s l o last given fs h =
+curly_steps true (lexemes.Open brackets.Square) key s l o last given fs h =
     square_parts true s l o last given NoProperties (FlowMappingFrame false Key ∷ fs) Stop (curly_key h)
-curly_steps false (lexemes.Open lexemes.Square) key s l o last given fs h =
+curly_steps false (lexemes.Open brackets.Square) key s l o last given fs h =
     square_parts false s l o last given NoProperties (FlowMappingFrame false Opened ∷ fs) Stop (at_curly h)
-curly_steps true (lexemes.Open lexemes.Curly) key s l o last given fs h =
+curly_steps true (lexemes.Open brackets.Curly) key s l o last given fs h =
     curly_parts true s l o last given NoProperties (FlowMappingFrame false Key ∷ fs) Stop (curly_key h)
-curly_steps false (lexemes.Open lexemes.Curly) key s l o last given fs h =
+curly_steps false (lexemes.Open brackets.Curly) key s l o last given fs h =
     curly_parts false s l o last given NoProperties (FlowMappingFrame false Opened ∷ fs) Stop (at_curly h)
 curly_steps true (lexemes.Alias name) key s l o last given fs h =
     alias_parts true name s l o last given (FlowMappingFrame false Key ∷ fs) Stop (curly_key h)
@@ -183,8 +185,8 @@ curly_asked_steps b lexemes.DocumentStart key s l o last given fs h = refl
 curly_asked_steps b lexemes.DocumentEnd key s l o last given fs h = refl
 curly_asked_steps b lexemes.StreamEnd key s l o last given fs h = refl
 curly_asked_steps b lexemes.Comma key s l o last given fs h = ((l.start, refl), refl)
-curly_asked_steps b (lexemes.Close lexemes.Square) key s l o last given fs h = refl
-curly_asked_steps b (lexemes.Close lexemes.Curly) key s l o last given fs h = (
+curly_asked_steps b (lexemes.Close brackets.Square) key s l o last given fs h = refl
+curly_asked_steps b (lexemes.Close brackets.Curly) key s l o last given fs h = (
   (
     l.shown.end,
     finish_view o fs l.shown.end
@@ -197,11 +199,11 @@ curly_asked_steps b lexemes.Dash key s l o last given fs h = refl
 curly_asked_steps b lexemes.Question key s l o last given fs h = refl
 curly_asked_steps b lexemes.Colon None s l o last given fs h = ((l.start, refl), refl)
 curly_asked_steps b lexemes.Colon (Some n) s l o last given fs h = refl
-curly_asked_steps true (lexemes.Open lexemes.Square) key s l o last given fs h = refl
-curly_asked_steps false (lexemes.Open lexemes.Square) key s l o last given fs h =
+curly_asked_steps true (lexemes.Open brackets.Square) key s l o last given fs h = refl
+curly_asked_steps false (lexemes.Open brackets.Square) key s l o last given fs h =
     square_parts false s l o last given NoProperties (FlowMappingFrame false Asking ∷ fs) Stop (curly_asked h)
-curly_asked_steps true (lexemes.Open lexemes.Curly) key s l o last given fs h = refl
-curly_asked_steps false (lexemes.Open lexemes.Curly) key s l o last given fs h =
+curly_asked_steps true (lexemes.Open brackets.Curly) key s l o last given fs h = refl
+curly_asked_steps false (lexemes.Open brackets.Curly) key s l o last given fs h =
     curly_parts false s l o last given NoProperties (FlowMappingFrame false Asking ∷ fs) Stop (curly_asked h)
 curly_asked_steps true (lexemes.Alias name) key s l o last given fs h = refl
 curly_asked_steps false (lexemes.Alias name) key s l o last given fs h =
@@ -236,8 +238,8 @@ curly_value_steps w b lexemes.Comma key s l o last given fs h = (
   ),
   refl,
 )
-curly_value_steps w b (lexemes.Close lexemes.Square) key s l o last given fs h = refl
-curly_value_steps w b (lexemes.Close lexemes.Curly) key s l o last given fs h = (
+curly_value_steps w b (lexemes.Close brackets.Square) key s l o last given fs h = refl
+curly_value_steps w b (lexemes.Close brackets.Curly) key s l o last given fs h = (
   (
     l.shown.end,
     ap (end_by (record { start = l.start; end = l.shown.end }))
@@ -252,11 +254,11 @@ curly_value_steps w b lexemes.Dash key s l o last given fs h = refl
 curly_value_steps w b lexemes.Question key s l o last given fs h = refl
 curly_value_steps w b lexemes.Colon None s l o last given fs h = refl
 curly_value_steps w b lexemes.Colon (Some n) s l o last given fs h = refl
-curly_value_steps w true (lexemes.Open lexemes.Square) key s l o last given fs h = refl
-curly_value_steps w false (lexemes.Open lexemes.Square) key s l o last given fs h =
+curly_value_steps w true (lexemes.Open brackets.Square) key s l o last given fs h = refl
+curly_value_steps w false (lexemes.Open brackets.Square) key s l o last given fs h =
     square_parts false s l o last given NoProperties (FlowMappingFrame false (Value w) ∷ fs) Stop (curly_value h)
-curly_value_steps w true (lexemes.Open lexemes.Curly) key s l o last given fs h = refl
-curly_value_steps w false (lexemes.Open lexemes.Curly) key s l o last given fs h =
+curly_value_steps w true (lexemes.Open brackets.Curly) key s l o last given fs h = refl
+curly_value_steps w false (lexemes.Open brackets.Curly) key s l o last given fs h =
     curly_parts false s l o last given NoProperties (FlowMappingFrame false (Value w) ∷ fs) Stop (curly_value h)
 curly_value_steps w true (lexemes.Alias name) key s l o last given fs h = refl
 curly_value_steps w false (lexemes.Alias name) key s l o last given fs h =
@@ -288,18 +290,18 @@ made_value_steps w b lexemes.DocumentStart key s l o last given fs h e = refl
 made_value_steps w b lexemes.DocumentEnd key s l o last given fs h e = refl
 made_value_steps w b lexemes.StreamEnd key s l o last given fs h e = refl
 made_value_steps w b lexemes.Comma key s l o last given fs h e = cc (e)
-made_value_steps w b (lexemes.Close lexemes.Square) key s l o last given fs h e = cc (e)
-made_value_steps w b (lexemes.Close lexemes.Curly) key s l o last given fs h e = cc (e)
+made_value_steps w b (lexemes.Close brackets.Square) key s l o last given fs h e = cc (e)
+made_value_steps w b (lexemes.Close brackets.Curly) key s l o last given fs h e = cc (e)
 made_value_steps w b lexemes.Dash key s l o last given fs h e = refl
 made_value_steps w b lexemes.Question key s l o last given fs h e = refl
 made_value_steps w b lexemes.Colon None s l o last given fs h e = refl
 made_value_steps w b lexemes.Colon (Some n) s l o last given fs h e = refl
-made_value_steps w true (lexemes.Open lexemes.Square) key s l o last given fs h e = refl
-made_value_steps w false (lexemes.Open lexemes.Square) key s l o last given fs h e =
+made_value_steps w true (lexemes.Open brackets.Square) key s l o last given fs h e = refl
+made_value_steps w false (lexemes.Open brackets.Square) key s l o last given fs h e =
     square_parts false s l o last given NoProperties (FlowMappingFrame true (Value w) ∷ FlowSequenceFrame false ∷ fs)
     Stop (made_value h)
-made_value_steps w true (lexemes.Open lexemes.Curly) key s l o last given fs h e = refl
-made_value_steps w false (lexemes.Open lexemes.Curly) key s l o last given fs h e =
+made_value_steps w true (lexemes.Open brackets.Curly) key s l o last given fs h e = refl
+made_value_steps w false (lexemes.Open brackets.Curly) key s l o last given fs h e =
     curly_parts false s l o last given NoProperties (FlowMappingFrame true (Value w) ∷ FlowSequenceFrame false ∷ fs)
     Stop (made_value h)
 made_value_steps w true (lexemes.Alias name) key s l o last given fs h e = refl
@@ -330,18 +332,18 @@ pair_asked_steps b lexemes.DocumentStart key s l o last given fs h e = refl
 pair_asked_steps b lexemes.DocumentEnd key s l o last given fs h e = refl
 pair_asked_steps b lexemes.StreamEnd key s l o last given fs h e = refl
 pair_asked_steps b lexemes.Comma key s l o last given fs h e = cc (e)
-pair_asked_steps b (lexemes.Close lexemes.Square) key s l o last given fs h e = cc (e)
-pair_asked_steps b (lexemes.Close lexemes.Curly) key s l o last given fs h e = refl
+pair_asked_steps b (lexemes.Close brackets.Square) key s l o last given fs h e = cc (e)
+pair_asked_steps b (lexemes.Close brackets.Curly) key s l o last given fs h e = refl
 pair_asked_steps b lexemes.Dash key s l o last given fs h e = refl
 pair_asked_steps b lexemes.Question key s l o last given fs h e = refl
 pair_asked_steps b lexemes.Colon None s l o last given fs h e = refl
 pair_asked_steps b lexemes.Colon (Some n) s l o last given fs h e = refl
-pair_asked_steps true (lexemes.Open lexemes.Square) key s l o last given fs h e = refl
-pair_asked_steps false (lexemes.Open lexemes.Square) key s l o last given fs h e =
+pair_asked_steps true (lexemes.Open brackets.Square) key s l o last given fs h e = refl
+pair_asked_steps false (lexemes.Open brackets.Square) key s l o last given fs h e =
     square_parts false s l o last given NoProperties (FlowPairFrame Asking ∷ FlowSequenceFrame false ∷ fs) Stop
     (pair_asked h)
-pair_asked_steps true (lexemes.Open lexemes.Curly) key s l o last given fs h e = refl
-pair_asked_steps false (lexemes.Open lexemes.Curly) key s l o last given fs h e =
+pair_asked_steps true (lexemes.Open brackets.Curly) key s l o last given fs h e = refl
+pair_asked_steps false (lexemes.Open brackets.Curly) key s l o last given fs h e =
     curly_parts false s l o last given NoProperties (FlowPairFrame Asking ∷ FlowSequenceFrame false ∷ fs) Stop
     (pair_asked h)
 pair_asked_steps true (lexemes.Alias name) key s l o last given fs h e = refl
@@ -371,18 +373,18 @@ pair_value_steps w b lexemes.DocumentStart key s l o last given fs h e = refl
 pair_value_steps w b lexemes.DocumentEnd key s l o last given fs h e = refl
 pair_value_steps w b lexemes.StreamEnd key s l o last given fs h e = refl
 pair_value_steps w b lexemes.Comma key s l o last given fs h e = cc (e)
-pair_value_steps w b (lexemes.Close lexemes.Square) key s l o last given fs h e = cc (e)
-pair_value_steps w b (lexemes.Close lexemes.Curly) key s l o last given fs h e = refl
+pair_value_steps w b (lexemes.Close brackets.Square) key s l o last given fs h e = cc (e)
+pair_value_steps w b (lexemes.Close brackets.Curly) key s l o last given fs h e = refl
 pair_value_steps w b lexemes.Dash key s l o last given fs h e = refl
 pair_value_steps w b lexemes.Question key s l o last given fs h e = refl
 pair_value_steps w b lexemes.Colon None s l o last given fs h e = refl
 pair_value_steps w b lexemes.Colon (Some n) s l o last given fs h e = refl
-pair_value_steps w true (lexemes.Open lexemes.Square) key s l o last given fs h e = refl
-pair_value_steps w false (lexemes.Open lexemes.Square) key s l o last given fs h e =
+pair_value_steps w true (lexemes.Open brackets.Square) key s l o last given fs h e = refl
+pair_value_steps w false (lexemes.Open brackets.Square) key s l o last given fs h e =
     square_parts false s l o last given NoProperties (FlowPairFrame (Value w) ∷ FlowSequenceFrame false ∷ fs) Stop
     (pair_value h)
-pair_value_steps w true (lexemes.Open lexemes.Curly) key s l o last given fs h e = refl
-pair_value_steps w false (lexemes.Open lexemes.Curly) key s l o last given fs h e =
+pair_value_steps w true (lexemes.Open brackets.Curly) key s l o last given fs h e = refl
+pair_value_steps w false (lexemes.Open brackets.Curly) key s l o last given fs h e =
     curly_parts false s l o last given NoProperties (FlowPairFrame (Value w) ∷ FlowSequenceFrame false ∷ fs) Stop
     (pair_value h)
 pair_value_steps w true (lexemes.Alias name) key s l o last given fs h e = refl

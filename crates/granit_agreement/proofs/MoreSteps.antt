@@ -5,11 +5,13 @@ use Rattle.granit_agreement.specs.View.{terminal_kind, Beside}
 use Rattle.granit_grammar.specs.EventMachine.{AskDone, Done, OpenFrame, FlowSequenceFrame, FlowMappingFrame, FlowPairFrame}
 use Rattle.granit_language.specs.Scope.{Scope}
 use Rattle.granit_language.specs.Terminal.{is_comma_kind, closes_kind, is_bare_kind}
-use Rattle.granit_lexemes.specs.Lexeme.{Square, Curly, KeyStart}
+use Rattle.granit_lexemes.specs.Lexeme.{KeyStart}
+use Rattle.granit_lexemes.specs.declared.layout.Bracket.TheVariants.{Square, Curly}
 use Rattle.granit_machine.specs.NodeEnds.{end_node}
 use Rattle.std.proofs.Common.{◌≡◌, Bool, true, false, List, ◌∷◌, refl, ◌||◌, not, Option, Some, None}
 use Rattle.granit_error.specs.OptionsData.{OptionsData}
 use Rattle.granit_lexemes.specs.Lexeme as lexemes
+use Rattle.granit_lexemes.specs.declared.layout.Bracket.TheVariants as brackets
 
 pub made_done_steps :
     (b : Bool) (k : lexemes.LexemeKind) (key : Option KeyStart) (s : Scope) (l : lexemes.Lexeme) (o : OptionsData)
@@ -25,16 +27,16 @@ made_done_steps b lexemes.DocumentStart key s l o d fs h e = refl
 made_done_steps b lexemes.DocumentEnd key s l o d fs h e = refl
 made_done_steps b lexemes.StreamEnd key s l o d fs h e = refl
 made_done_steps b lexemes.Comma key s l o d fs h e = cc (e)
-made_done_steps b (lexemes.Close lexemes.Square) key s l o d fs h e = cc (e)
-made_done_steps b (lexemes.Close lexemes.Curly) key s l o d fs h e = cc (e)
+made_done_steps b (lexemes.Close brackets.Square) key s l o d fs h e = cc (e)
+made_done_steps b (lexemes.Close brackets.Curly) key s l o d fs h e = cc (e)
 made_done_steps b lexemes.Dash key s l o d fs h e = refl
 made_done_steps b lexemes.Question key s l o d fs h e = refl
 made_done_steps b lexemes.Colon None s l o d fs h e = refl
 made_done_steps b lexemes.Colon (Some n) s l o d fs h e = refl
-made_done_steps true (lexemes.Open lexemes.Square) key s l o d fs h e = refl
-made_done_steps false (lexemes.Open lexemes.Square) key s l o d fs h e = refl
-made_done_steps true (lexemes.Open lexemes.Curly) key s l o d fs h e = refl
-made_done_steps false (lexemes.Open lexemes.Curly) key s l o d fs h e = refl
+made_done_steps true (lexemes.Open brackets.Square) key s l o d fs h e = refl
+made_done_steps false (lexemes.Open brackets.Square) key s l o d fs h e = refl
+made_done_steps true (lexemes.Open brackets.Curly) key s l o d fs h e = refl
+made_done_steps false (lexemes.Open brackets.Curly) key s l o d fs h e = refl
 made_done_steps true (lexemes.Alias name) key s l o d fs h e = refl
 made_done_steps false (lexemes.Alias name) key s l o d fs h e = refl
 made_done_steps true (lexemes.Anchor name) key s l o d fs h e = refl
@@ -55,16 +57,16 @@ square_asked_steps b lexemes.DocumentStart key s l o d fs h e = cc (e)
 square_asked_steps b lexemes.DocumentEnd key s l o d fs h e = cc (e)
 square_asked_steps b lexemes.StreamEnd key s l o d fs h e = cc (e)
 square_asked_steps b lexemes.Comma key s l o d fs h e = cc (e)
-square_asked_steps b (lexemes.Close lexemes.Square) key s l o d fs h e = cc (e)
-square_asked_steps b (lexemes.Close lexemes.Curly) key s l o d fs h e = cc (e)
+square_asked_steps b (lexemes.Close brackets.Square) key s l o d fs h e = cc (e)
+square_asked_steps b (lexemes.Close brackets.Curly) key s l o d fs h e = cc (e)
 square_asked_steps b lexemes.Dash key s l o d fs h e = cc (e)
 square_asked_steps b lexemes.Question key s l o d fs h e = cc (e)
 square_asked_steps b lexemes.Colon None s l o d fs h e = (d.last, refl)
 square_asked_steps b lexemes.Colon (Some n) s l o d fs h e = cc (e)
-square_asked_steps true (lexemes.Open lexemes.Square) key s l o d fs h e = cc (e)
-square_asked_steps false (lexemes.Open lexemes.Square) key s l o d fs h e = cc (e)
-square_asked_steps true (lexemes.Open lexemes.Curly) key s l o d fs h e = cc (e)
-square_asked_steps false (lexemes.Open lexemes.Curly) key s l o d fs h e = cc (e)
+square_asked_steps true (lexemes.Open brackets.Square) key s l o d fs h e = cc (e)
+square_asked_steps false (lexemes.Open brackets.Square) key s l o d fs h e = cc (e)
+square_asked_steps true (lexemes.Open brackets.Curly) key s l o d fs h e = cc (e)
+square_asked_steps false (lexemes.Open brackets.Curly) key s l o d fs h e = cc (e)
 square_asked_steps true (lexemes.Alias name) key s l o d fs h e = cc (e)
 square_asked_steps false (lexemes.Alias name) key s l o d fs h e = cc (e)
 square_asked_steps true (lexemes.Anchor name) key s l o d fs h e = cc (e)

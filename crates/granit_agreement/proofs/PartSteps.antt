@@ -12,7 +12,7 @@ use Rattle.granit_language.specs.Scoping.{number_of_anchor, prefix_of, prefix_by
 use Rattle.granit_language.specs.Telling.{alias_told, or_handle, properties_anchor, properties_tag, indent_told, anchor_told}
 use Rattle.granit_language.specs.Terminal.{Anchor, Tag, Part, Alias, Property, Scalar, Open}
 use Rattle.granit_language.specs.TreeEvents.{imposed}
-use Rattle.granit_lexemes.specs.Lexeme.{Square, Curly}
+use Rattle.granit_lexemes.specs.declared.layout.Bracket.TheVariants.{Square, Curly}
 use Rattle.granit_machine.specs.Frames.{ParserState}
 use Rattle.granit_machine.specs.Giving.{put, flush, key_indent, node_event}
 use Rattle.granit_machine.specs.NodeEnds.{finish, begin}
@@ -36,6 +36,7 @@ use Rattle.granit_machine.specs.Frames as machine
 use Rattle.granit_machine.specs.NodeSteps as steps
 use Rattle.granit_agreement.proofs.Pops.{indent_none, node_head, node_event_view, flushed, indent_or, indent_view}
 use Rattle.granit_agreement.proofs.Standing.{popped, finish_view}
+use Rattle.granit_lexemes.specs.declared.layout.Bracket.TheVariants as brackets
 
 -- the first event of a node
 abbrev pub HeadGiven :
@@ -160,7 +161,7 @@ square_given o p l fs d h =
 pub square_parts :
     (b : Bool) (s : Scope) (l : lexemes.Lexeme) (o : OptionsData) (last : Mark) (given : List PlainEvent)
     (p : TreeProperties) (fs : List OpenFrame) (stop : GrammarFault) →
-    Holes fs → PartsAgree b (Open Square) (lexemes.Open lexemes.Square) s l o last given p fs stop
+    Holes fs → PartsAgree b (Open Square) (lexemes.Open brackets.Square) s l o last given p fs stop
 unfolding node_head
 square_parts b s l o last given NoProperties fs stop h =
     ((l.shown.end, square_given o NoProperties l fs (knowing s last given) h), refl)
@@ -191,7 +192,7 @@ curly_given o p l fs d h =
 pub curly_parts :
     (b : Bool) (s : Scope) (l : lexemes.Lexeme) (o : OptionsData) (last : Mark) (given : List PlainEvent)
     (p : TreeProperties) (fs : List OpenFrame) (stop : GrammarFault) →
-    Holes fs → PartsAgree b (Open Curly) (lexemes.Open lexemes.Curly) s l o last given p fs stop
+    Holes fs → PartsAgree b (Open Curly) (lexemes.Open brackets.Curly) s l o last given p fs stop
 unfolding node_head
 curly_parts b s l o last given NoProperties fs stop h =
     ((l.shown.end, curly_given o NoProperties l fs (knowing s last given) h), refl)

@@ -4,11 +4,13 @@ use Rattle.granit_agreement.specs.View.{terminal_kind, at_of, terminal_of}
 use Rattle.granit_language.specs.Scope.{Scope}
 use Rattle.granit_language.specs.Telling.{one_less}
 use Rattle.granit_language.specs.Terminal.{At, reach_of, is_stream_kind, is_dash_kind, is_bare_kind, is_comma_kind, closes_kind, begins_entry_kind, stands_left, stands_in, dash_in, entry_in}
-use Rattle.granit_lexemes.specs.Lexeme.{Square, KeyStart}
+use Rattle.granit_lexemes.specs.Lexeme.{KeyStart}
+use Rattle.granit_lexemes.specs.declared.layout.Bracket.TheVariants.{Square}
 use Rattle.granit_machine.specs.TokenSort.{token_sort, token_of, begins_pair, is_dash_token, is_bare_colon, is_of_stream, ends_entry, column_of_token, token_column, is_in_column, ends_frame}
 use Rattle.std.proofs.Common.{◌≡◌, ℕ, suc, zero, Bool, true, false, refl, sym, ap, ap₂, ◌∙◌, arith, ◌==◌, ◌&&◌, ◌||◌, nat_lt, Option, Some, None}
 use Rattle.std.proofs.lemmas.Bool.Decides.{nat_tests}
 use Rattle.granit_lexemes.specs.Lexeme as lexemes
+use Rattle.granit_lexemes.specs.declared.layout.Bracket.TheVariants as brackets
 
 -- a column from 1, 0 left of all
 abbrev pub reach : Option ℕ → ℕ
@@ -34,9 +36,9 @@ sort_is b key lexemes.DocumentEnd =
     record { column = λ i. refl; dash = refl; bare = refl; stream = refl; ends = refl; pair = refl }
 sort_is b key lexemes.StreamEnd =
     record { column = λ i. refl; dash = refl; bare = refl; stream = refl; ends = refl; pair = refl }
-sort_is b key (lexemes.Close lexemes.Square) =
+sort_is b key (lexemes.Close brackets.Square) =
     record { column = λ i. refl; dash = refl; bare = refl; stream = refl; ends = refl; pair = refl }
-sort_is b key (lexemes.Close lexemes.Curly) =
+sort_is b key (lexemes.Close brackets.Curly) =
     record { column = λ i. refl; dash = refl; bare = refl; stream = refl; ends = refl; pair = refl }
 sort_is b key lexemes.Comma =
     record { column = λ i. refl; dash = refl; bare = refl; stream = refl; ends = refl; pair = refl }

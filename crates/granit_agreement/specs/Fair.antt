@@ -7,7 +7,7 @@ use Rattle.granit_grammar.specs.EventMachine.{PairAt, Key, KeyDone, AskDone, Don
 use Rattle.granit_language.specs.Reading.{begins_kind}
 use Rattle.granit_language.specs.Room.{Room, BehindKey, Inside, behind_property, continues_node, sequence_ends}
 use Rattle.granit_language.specs.Terminal.{TerminalKind, Part, Terminal, is_stream_kind, is_dash_kind, is_bare_kind, is_comma_kind, closes_kind, stands_left, entry_in, text_start}
-use Rattle.granit_lexemes.specs.Lexeme.{Square, Curly}
+use Rattle.granit_lexemes.specs.declared.layout.Bracket.TheVariants.{Square, Curly}
 
 abbrev pub frames_in_flow : List OpenFrame → Bool
 frames_in_flow [] = false

@@ -10,7 +10,9 @@ use Rattle.granit_language.specs.Scope.{Scope, no_scope}
 use Rattle.granit_language.specs.Telling.{properties_anchor, properties_tag, one_less, version_told, event_told}
 use Rattle.granit_language.specs.Terminal.{Anchor, Tag, Alias, Property, Scalar, Open, TerminalKind, Directive, DocumentStart, DocumentEnd, TheEnd, Dash, Question, Comma, Colon, Close, Part, At, Terminal, terminal}
 use Rattle.granit_language.specs.TreeEvents.{TreeEvent, properties_end}
-use Rattle.granit_lexemes.specs.Lexeme.{Bracket, Square, Curly, Version, TagPrefix, Reserved, KeyStart}
+use Rattle.granit_lexemes.specs.Lexeme.{Version, TagPrefix, Reserved, KeyStart}
+use Rattle.granit_lexemes.specs.declared.layout.Bracket.{Bracket}
+use Rattle.granit_lexemes.specs.declared.layout.Bracket.TheVariants.{Square, Curly}
 use Rattle.granit_machine.specs.Frames.{ParserState, Waiting}
 use Rattle.granit_machine.specs.Lexing.{FlaggedItem}
 use Rattle.granit_machine.specs.Frames as machine

@@ -12,7 +12,7 @@ use Rattle.granit_language.specs.Room.{BlockIn, FlowIn, Room, RightOf, ValueIn, 
 use Rattle.granit_language.specs.Settling.{end_entries, end_pair, end_ask, finish_at, settle_want, settle}
 use Rattle.granit_language.specs.Terminal.{Question, At, Terminal, terminal, is_stream_kind, is_comma_kind, closes_kind, stands_left, no_terminal}
 use Rattle.granit_language.specs.TreeEvents.{SequenceEnds, MappingEnds, TreeEvent, pointed, null, indent_of_key, properties_end, alone_event, node_events, content_events, entries_events, pair_events, first_with, entries_first, first_terminal, node_end}
-use Rattle.granit_lexemes.specs.Lexeme.{Square, Curly}
+use Rattle.granit_lexemes.specs.declared.layout.Bracket.TheVariants.{Square, Curly}
 
 abbrev pub ending_state : Ending → EventState
 ending_state (ending st es) = st

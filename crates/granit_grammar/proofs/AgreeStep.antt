@@ -14,7 +14,8 @@ use Rattle.granit_language.specs.Room.{BlockIn, FlowIn, Room, RightOf, ValueIn, 
 use Rattle.granit_language.specs.Settling.{put_in}
 use Rattle.granit_language.specs.Terminal.{PartKind, Alias, Property, Scalar, Open, TerminalKind, Directive, DocumentStart, DocumentEnd, TheEnd, Dash, Question, Comma, Colon, Close, Part, At, terminal, edge, entry_in, no_terminal}
 use Rattle.granit_language.specs.TreeEvents.{TreeEvent, scalar_event, alias_event, flow_start, sequence_start, mapping_start, pair_start, node_events, first_with, first_terminal, node_end, bare_document_start}
-use Rattle.granit_lexemes.specs.Lexeme.{Bracket, Square, Curly}
+use Rattle.granit_lexemes.specs.declared.layout.Bracket.{Bracket}
+use Rattle.granit_lexemes.specs.declared.layout.Bracket.TheVariants.{Square, Curly}
 use Rattle.granit_grammar.proofs.AgreeClose.{indent_same, forget, room_same, behind_same}
 
 -- A step agrees with a step, where these events were given before and the fault would be of this kind.

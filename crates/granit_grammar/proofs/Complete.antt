@@ -11,7 +11,8 @@ use Rattle.granit_language.specs.Room.{Holder, BlockIn, FlowIn, KeyIn, room_behi
 use Rattle.granit_language.specs.Settling.{put_in, empty_fits, end_pair, finish_at, settle}
 use Rattle.granit_language.specs.Terminal.{PartKind, Alias, Property, Scalar, Open, Directive, DocumentStart, DocumentEnd, TheEnd, Dash, Question, Comma, Colon, Close, Part, At, Terminal, terminal, edge, stands_left}
 use Rattle.granit_language.specs.Yield.{spell_properties, colon_kind, spell, spell_content, spell_entries, spell_entry_lead, spell_pairs, spell_pair_lead, spell_pair, spell_left, spell_flow, spell_last, spell_item, spell_before, spell_directives, spell_start, spell_rooted, spell_stream}
-use Rattle.granit_lexemes.specs.Lexeme.{Bracket, Square, Curly}
+use Rattle.granit_lexemes.specs.declared.layout.Bracket.{Bracket}
+use Rattle.granit_lexemes.specs.declared.layout.Bracket.TheVariants.{Square, Curly}
 use Rattle.std.proofs.Common.{eqb-true}
 use Rattle.granit_grammar.proofs.Tests.{or_right, same_left}
 use Rattle.granit_grammar.proofs.Entering.{to_same, steps, alike, close_put, gate_with, past_pairs, site_door, door, door_with, enters_entry, enters_part, enters_dash}

@@ -7,7 +7,8 @@ use Rattle.granit_language.specs.OpenPlace.{Bare, Explicit, Around, BlockPairs, 
 use Rattle.granit_language.specs.Room.{Holder, BlockIn, FlowIn, Room, RightOf, ValueIn, KeyIn, BehindKey, ItemIn, Inside, behind_property, room_behind, right_fits, loose_fits, sequence_fits, indicates, opens, part_fits, PartFits, joins, continues_node, entry_empty, room_value, value_empty, KeyBegins}
 use Rattle.granit_language.specs.Settling.{put_in, empty_fits, finish_at, settle}
 use Rattle.granit_language.specs.Terminal.{PropertyKind, PartKind, TerminalKind, Directive, DocumentStart, DocumentEnd, TheEnd, Dash, Question, Colon, Part, At, Terminal, terminal, edge, reach_of, is_stream_kind, begins_entry_kind, stands_left, entry_in}
-use Rattle.granit_lexemes.specs.Lexeme.{Bracket, Square, Curly}
+use Rattle.granit_lexemes.specs.declared.layout.Bracket.{Bracket}
+use Rattle.granit_lexemes.specs.declared.layout.Bracket.TheVariants.{Square, Curly}
 use Rattle.std.proofs.Common.{eqb-true}
 use Rattle.granit_grammar.proofs.Tests.{and_left, and_right, and_both, and_false, or_left, or_right, or_false, right_left, right_same, same_left, no_key, no_key_alone}
 use Rattle.granit_grammar.proofs.Placing.{EntryFits}

@@ -8,7 +8,7 @@ use Rattle.granit_language.specs.Room.{room_behind, right_fits, sequence_fits, P
 use Rattle.granit_language.specs.Settling.{settle}
 use Rattle.granit_language.specs.Terminal.{Open, Dash, Question, Part, At, Terminal, terminal}
 use Rattle.granit_language.specs.Yield.{spell_properties, colon_kind, spell, spell_content, spell_entries, spell_entry_lead, spell_pair_lead, spell_pair, spell_left, spell_flow, spell_item, spell_stream}
-use Rattle.granit_lexemes.specs.Lexeme.{Bracket}
+use Rattle.granit_lexemes.specs.declared.layout.Bracket.{Bracket}
 use Rattle.granit_grammar.proofs.Entering.{steps, site_door, door, door_with, enters_entry}
 use Rattle.granit_grammar.proofs.Complete.{takes_properties, takes_opener, FirstOf, part_first, alone_first, no_right, no_sequence, key_first, left_first, pair_first, takes, takes_content, takes_entries, takes_entry_lead, takes_pair_lead, takes_pair, takes_left, takes_flow, takes_item, takes_before, takes_directives, takes_start, takes_rooted, takes_stream, reads}
 

@@ -8,7 +8,7 @@ use Rattle.granit_language.specs.Reading.{set_key, KeysFit, NodeNamed, ContentNa
 use Rattle.granit_language.specs.Room.{Holder, BlockIn, FlowIn, Room, RightOf, ValueIn, KeyIn, BehindKey, ItemIn, Inside, behind_property, room_behind, right_fits, sequence_fits, part_fits, PartFits, entry_empty, room_value, value_empty, ask_empty}
 use Rattle.granit_language.specs.Terminal.{PartKind, Alias, Property, Scalar, Open, Directive, DocumentStart, DocumentEnd, TheEnd, Dash, Comma, Colon, Close, Part, At, Terminal, terminal, is_stream_kind}
 use Rattle.granit_language.specs.Yield.{spell_properties, colon_kind, spell, spell_content, spell_entries, spell_entry_lead, spell_pairs, spell_pair_lead, spell_pair, spell_left, spell_flow, spell_last, spell_item, spell_before, spell_directives, spell_start, spell_rooted, spell_stream}
-use Rattle.granit_lexemes.specs.Lexeme.{Bracket}
+use Rattle.granit_lexemes.specs.declared.layout.Bracket.{Bracket}
 use Rattle.granit_grammar.proofs.Tests.{and_left}
 
 unflagged : (a b : Bool) → (not a && b) ≡ true → a ≡ false

@@ -9,7 +9,7 @@ use Rattle.granit_language.specs.Room.{Holder, BlockIn, FlowIn, Room, RightOf, V
 use Rattle.granit_language.specs.Settling.{put_in, empty_fits, end_entries, end_pair, end_ask, finish_at, settle_want, settle}
 use Rattle.granit_language.specs.Terminal.{PartKind, Alias, Property, Scalar, Open, TerminalKind, Directive, DocumentStart, DocumentEnd, TheEnd, Dash, Question, Comma, Colon, Close, Part, At, Terminal, terminal, edge, begins_entry_kind, stands_left, entry_in, no_terminal}
 use Rattle.granit_language.specs.Yield.{spell_stream}
-use Rattle.granit_lexemes.specs.Lexeme.{Square, Curly}
+use Rattle.granit_lexemes.specs.declared.layout.Bracket.TheVariants.{Square, Curly}
 use Rattle.granit_grammar.proofs.Tests.{and_left, and_right, and_both, same_number}
 use Rattle.granit_grammar.proofs.Sound.{Leads, Then, step_leads, close_spells}
 

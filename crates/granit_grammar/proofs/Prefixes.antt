@@ -12,7 +12,7 @@ use Rattle.granit_language.specs.Settling.{settle}
 use Rattle.granit_language.specs.Terminal.{TheEnd, At, Terminal, terminal, no_terminal}
 use Rattle.granit_language.specs.TreeEvents.{TreeEvent, stream_events}
 use Rattle.granit_language.specs.Yield.{spell_stream}
-use Rattle.granit_lexemes.specs.Lexeme.{Square, Curly}
+use Rattle.granit_lexemes.specs.declared.layout.Bracket.TheVariants.{Square, Curly}
 use Rattle.granit_grammar.proofs.Sound.{close_spells, step_leads, Leads, Then}
 use Rattle.granit_grammar.proofs.Placing.{Tells, one_cut, close_placed, take_placed, NextPlaced}
 use Rattle.granit_grammar.proofs.Complete.{reads}

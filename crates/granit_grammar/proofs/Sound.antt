@@ -8,7 +8,7 @@ use Rattle.granit_language.specs.Room.{room_behind, right_fits, loose_fits, indi
 use Rattle.granit_language.specs.Settling.{put_in, empty_fits, end_entries, end_pair, end_ask, finish_at, settle_want, settle}
 use Rattle.granit_language.specs.Terminal.{PartKind, Alias, Property, Scalar, Open, TerminalKind, Directive, DocumentStart, DocumentEnd, TheEnd, Dash, Question, Comma, Colon, Close, Part, At, Terminal, terminal, edge, stands_left, entry_in}
 use Rattle.granit_language.specs.Yield.{spell_properties, spell_content, spell_entries, spell_pair}
-use Rattle.granit_lexemes.specs.Lexeme.{Square, Curly}
+use Rattle.granit_lexemes.specs.declared.layout.Bracket.TheVariants.{Square, Curly}
 
 pub either : (P : OpenPlace → Type 0) (b : Bool) (p q : OpenPlace) → P p → P q → P (choose b p q)
 either P true p q x y = x

@@ -8,7 +8,8 @@ use Rattle.granit_language.specs.Placed.{SomeProperties, left_front, pair_front,
 use Rattle.granit_language.specs.Room.{BlockIn, FlowIn, Room, RightOf, ValueIn, KeyIn, BehindKey, ItemIn, Inside, behind_property, room_behind, right_fits, loose_fits, sequence_fits, continues_node, entry_empty, sequence_ends, value_empty, ask_empty}
 use Rattle.granit_language.specs.Settling.{put_in, end_entries, end_pair, finish_at, settle}
 use Rattle.granit_language.specs.Terminal.{DocumentStart, TheEnd, Question, Colon, Close, At, Terminal, terminal, edge, closes_kind, text_start, no_terminal}
-use Rattle.granit_lexemes.specs.Lexeme.{Bracket, Square, Curly}
+use Rattle.granit_lexemes.specs.declared.layout.Bracket.{Bracket}
+use Rattle.granit_lexemes.specs.declared.layout.Bracket.TheVariants.{Square, Curly}
 use Rattle.std.proofs.lemmas.Bool.Decides.{nat_tests}
 use Rattle.granit_grammar.proofs.Tests.{or_left}
 use Rattle.granit_grammar.proofs.Entering.{alike, close_put}

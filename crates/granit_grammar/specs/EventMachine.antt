@@ -7,7 +7,8 @@ use Rattle.granit_language.specs.Node.{TreeProperties, NoProperties, One, Two}
 use Rattle.granit_language.specs.Room.{BlockIn, FlowIn, Room, RightOf, ValueIn, KeyIn, ItemIn, Inside, behind_property, room_behind, right_fits, loose_fits, indicates, opens, part_fits, differ, continues_node, entry_empty, sequence_ends, value_empty, ask_empty, ask_over}
 use Rattle.granit_language.specs.Terminal.{PartKind, Alias, Property, Scalar, Open, TerminalKind, Directive, DocumentStart, DocumentEnd, TheEnd, Dash, Question, Comma, Colon, Close, Part, At, Terminal, terminal, edge, is_stream_kind, is_comma_kind, closes_kind, stands_left, entry_in, text_start, no_terminal, is_directive_kind}
 use Rattle.granit_language.specs.TreeEvents.{StreamStarts, StreamEnds, DocumentEnds, SequenceEnds, MappingEnds, DocumentStarts, TreeEvent, pointed, shown_event, null, properties_end, alone_event, scalar_event, alias_event, flow_start, flow_end, sequence_start, mapping_start, pair_start, version_of, bare_document_start}
-use Rattle.granit_lexemes.specs.Lexeme.{Bracket, Square, Curly}
+use Rattle.granit_lexemes.specs.declared.layout.Bracket.{Bracket}
+use Rattle.granit_lexemes.specs.declared.layout.Bracket.TheVariants.{Square, Curly}
 
 -- where a pair stands
 pub data PairAt : Type 0 where

@@ -5,7 +5,8 @@ use Rattle.granit_language.specs.Node.{NoProperties, Pair, WithColon, AskOnly, F
 use Rattle.granit_language.specs.OpenPlace.{Root, Bare, Explicit, Around, BlockPairs, FlowPairs, Hole, AtRoot, AtEntry, AtItem, AtKey, AtAsk, AtColon, OpenPlace, Fresh, InDirectives, BehindRoot, Ended, Want, PastEntry, PastKey, PastAsk, PastPair, PastItem}
 use Rattle.granit_language.specs.Room.{is_made}
 use Rattle.granit_language.specs.TreeEvents.{root_end, directives_version}
-use Rattle.granit_lexemes.specs.Lexeme.{Bracket, Square, Curly}
+use Rattle.granit_lexemes.specs.declared.layout.Bracket.{Bracket}
+use Rattle.granit_lexemes.specs.declared.layout.Bracket.TheVariants.{Square, Curly}
 
 abbrev pub site_in : Around → List OpenFrame → PairSite
 site_in (BlockPairs p c lead) fs = BlockSite c fs

@@ -6,7 +6,7 @@ use Rattle.granit_language.specs.OpenPlace.{Bare, Explicit, Around, BlockPairs, 
 use Rattle.granit_language.specs.Room.{room_behind, right_fits, loose_fits, indicates, opens, part_fits, differ, place_fits}
 use Rattle.granit_language.specs.Settling.{put_in, settle}
 use Rattle.granit_language.specs.Terminal.{PartKind, Alias, Property, Scalar, Open, TerminalKind, Directive, DocumentStart, DocumentEnd, TheEnd, Dash, Question, Comma, Colon, Close, Part, At, Terminal, terminal, edge, entry_in}
-use Rattle.granit_lexemes.specs.Lexeme.{Square, Curly}
+use Rattle.granit_lexemes.specs.declared.layout.Bracket.TheVariants.{Square, Curly}
 
 pub data Next : Type 0 where
   Go : OpenPlace → Next

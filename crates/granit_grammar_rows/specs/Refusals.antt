@@ -1,6 +1,6 @@
 -- Refused lists of lexemes, by kind. Above each stands a text that has these lexemes.
 use Rattle.std.specs.Prelude.{List, [], ◌∷◌}
-use Rattle.granit_lexemes.specs.Lexeme.{Square, Curly}
+use Rattle.granit_lexemes.specs.declared.layout.Bracket.TheVariants.{Square, Curly}
 use Rattle.granit_language.specs.GrammarFault.{ExpectedDocumentStart, MissingDocumentEndBeforeDirective, UnexpectedEofBlockSequence, UnexpectedEofBlockMapping, UnexpectedEofImplicitFlowMapping, ExpectedBlockMappingKey, ExpectedBlockSequenceEntry, ExpectedFlowMappingSeparator, ExpectedFlowSequenceSeparator}
 use Rattle.granit_grammar_rows.specs.Row.{Row, is_refused, anchor_at, tag_from, text_at, dash_at, question_at, colon_at, colon_of, comma_at, start_mark_at, end_mark_at, directive_from, opener_at, closer_at, end_at, begins}
 

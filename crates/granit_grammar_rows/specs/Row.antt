@@ -3,7 +3,8 @@ use Rattle.std.specs.Prelude.{ℕ, suc, ◌+◌, ◌==◌, Bool, true, false, Li
 use Rattle.granit_base.specs.Place.{Mark}
 use Rattle.granit_base.specs.declared.style.ScalarStyle.TheVariants.{Plain}
 use Rattle.granit_lexemes.specs.Basics.{owned}
-use Rattle.granit_lexemes.specs.Lexeme.{Bracket, Reserved}
+use Rattle.granit_lexemes.specs.Lexeme.{Reserved}
+use Rattle.granit_lexemes.specs.declared.layout.Bracket.{Bracket}
 use Rattle.granit_language.specs.Choice.{choose}
 use Rattle.granit_language.specs.GrammarFault.{GrammarFault}
 use Rattle.granit_language.specs.Node.{TreeProperties, NoProperties, One, Two}

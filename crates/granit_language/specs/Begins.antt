@@ -2,7 +2,8 @@
 use Rattle.std.specs.Prelude.{◌≡◌, ◌≢◌, ℕ, ◌||◌, ◌&&◌, Bool, true, false, List, [], ◌∷◌, ◌⊎◌}
 use Rattle.granit_base.specs.Classes.{is_blank_or_breakz, is_flow, is_printable}
 use Rattle.granit_base.specs.Place.{first}
-use Rattle.granit_lexemes.specs.Lexeme.{Bracket, opener_char, closer_char}
+use Rattle.granit_lexemes.specs.Lexeme.{opener_char, closer_char}
+use Rattle.granit_lexemes.specs.declared.layout.Bracket.{Bracket}
 use Rattle.granit_lexemes.specs.QuotedScalar.{quote_char}
 use Rattle.granit_machine.specs.LexemeSort.{PlacedSort, OpenSign, CloseSign, CommaSign, DashSign, QuestionSign, ColonSign, AliasSign, AnchorSign, TagSign, BlockSign, QuoteSign, StrayMark, NoSign, PlainSign, LexemeSort, TextEnd, StartMark, EndMark, Unprintable, DirectiveSign, Placed}
 

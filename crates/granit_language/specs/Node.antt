@@ -5,7 +5,8 @@ use Rattle.granit_base.specs.Written.{Written}
 use Rattle.granit_base.specs.declared.style.ScalarStyle.{ScalarStyle}
 use Rattle.granit_base.specs.Place.{Mark}
 use Rattle.granit_language.specs.Terminal.{PropertyKind, At, Terminal}
-use Rattle.granit_lexemes.specs.Lexeme.{Bracket, DirectiveKind}
+use Rattle.granit_lexemes.specs.Lexeme.{DirectiveKind}
+use Rattle.granit_lexemes.specs.declared.layout.Bracket.{Bracket}
 
 -- what stands before a node: a tag, an anchor, or both in either order ([96] c-ns-properties, 6.9)
 pub data TreeProperties : Type 0 where

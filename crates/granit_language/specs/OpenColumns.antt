@@ -1,7 +1,8 @@
 -- The open columns of block collections, said of the lexemes before a place (YAML 1.2.2, 8.2).
 use Rattle.std.specs.Prelude.{◌≡◌, ℕ, ◌==◌, Bool, true, false, nat_lt, if◌then◌else◌, List, [], ◌∷◌, ◌⊎◌, map, Option, Some, None}
 use Rattle.granit_lexemes.specs.Lexeme.{LexemeKind, Directive, DocumentStart, DocumentEnd, StreamEnd, Dash, Question, Colon, KeyStart, Lexeme, Item, OfLexeme, OfComment}
-use Rattle.granit_machine.specs.Laid.{OpenColumn, Laid}
+use Rattle.granit_machine.specs.Laid.{Laid}
+use Rattle.granit_lexemes.specs.declared.layout.OpenColumn.{OpenColumn}
 
 -- the lexemes of items, the latest first
 abbrev pub latest : List Item → List Lexeme → List Lexeme

@@ -7,7 +7,7 @@ use Rattle.granit_language.specs.Placed.{left_front, pair_front}
 use Rattle.granit_language.specs.Room.{FlowIn}
 use Rattle.granit_language.specs.Terminal.{Open, Question, Part, Terminal, terminal, no_terminal}
 use Rattle.granit_language.specs.TreeEvents.{DocumentStarts, TreeEvent, shown_event, indent_of_key, flow_start, pair_opens, pair_closes, node_events, content_events, entries_events, entry_lead_events, pair_lead_events, pair_events, left_events, flow_events, first_with, entries_first, entry_lead_first, pair_lead_first, start_version, bare_document_start, before_events, directives_events, start_events, rooted_events, stream_events}
-use Rattle.granit_lexemes.specs.Lexeme.{Bracket}
+use Rattle.granit_lexemes.specs.declared.layout.Bracket.{Bracket}
 
 abbrev pub hole_indent : Hole → Option ℕ
 hole_indent (AtRoot root) = None

@@ -5,7 +5,7 @@ use Rattle.granit_language.specs.Placed.{PropertiesPlaced, left_front, pair_fron
 use Rattle.granit_language.specs.Room.{Holder, BlockIn, FlowIn, Room, RightOf, KeyIn, ItemIn, room_behind, right_fits, sequence_fits, PartFits, room_value, ask_empty, place_fits, KeyBegins, pair_over}
 use Rattle.granit_language.specs.Terminal.{Open, DocumentStart, Dash, Question, Part, At, Terminal, terminal, edge}
 use Rattle.granit_language.specs.Yield.{spell_properties, colon_kind, spell, spell_content, spell_entries, spell_entry_lead, spell_pair_lead, spell_pair, spell_left, spell_flow, spell_item, spell_before, spell_directives, spell_start, spell_rooted, spell_stream}
-use Rattle.granit_lexemes.specs.Lexeme.{Bracket}
+use Rattle.granit_lexemes.specs.declared.layout.Bracket.{Bracket}
 
 -- the root of a document that must come
 pub data Root : Type 0 where

@@ -3,7 +3,7 @@ use Rattle.std.specs.Prelude.{◌≡◌, ℕ, Bool, true, false, ◌==◌, Some,
 use Rattle.granit_language.specs.Node.{TreeProperties, NoProperties, One, Two, Node, AliasNode, ScalarNode, Alone, Flow, Sequence, Mapping, Content, Nothing, Just, Entries, Entry, EntryLead, NoEntry, AfterEntry, Pairs, Through, PairLead, NoPair, AfterPair, Pair, WithColon, AskOnly, Left, SimpleKey, Asked, NoKey, FlowLead, NoItem, AfterItem, FlowLast, NoLast, LastItem, FlowItem, Single, Paired, Before, Beginning, ExtraEnd, Closed, Directives, FirstDirective, NextDirective, Start, AtFresh, AfterDirectives, AfterRoot, Rooted, BareRoot, ExplicitRoot, Stream, EndFresh, EndRooted}
 use Rattle.granit_language.specs.Room.{Holder, BlockIn, FlowIn, Room, RightOf, KeyIn, ItemIn, behind_property, room_behind, right_fits, sequence_fits, PartFits, differ, continues_node, entry_empty, sequence_ends, room_value, value_empty, ask_empty, ask_over, place_fits, KeyBegins}
 use Rattle.granit_language.specs.Terminal.{Alias, Property, Scalar, Open, DocumentStart, DocumentEnd, TheEnd, Dash, Question, Comma, Colon, Close, At, Terminal, terminal, edge, is_stream_kind, stands_left}
-use Rattle.granit_lexemes.specs.Lexeme.{Bracket}
+use Rattle.granit_lexemes.specs.declared.layout.Bracket.{Bracket}
 
 abbrev pub PropertiesPlaced : TreeProperties → Room → Type 0
 PropertiesPlaced NoProperties room = Unit {0}

@@ -9,7 +9,8 @@ use Rattle.granit_lexemes.specs.Lexeme.{Item, OfComment}
 use Rattle.granit_lexemes.specs.Outcome.{Fault}
 use Rattle.granit_machine.specs.Columns.{ends_at, ends_all}
 use Rattle.granit_machine.specs.Gaps.{takes_prefix}
-use Rattle.granit_machine.specs.Laid.{PossibleKey, is_adjacent, is_in_flow}
+use Rattle.granit_machine.specs.Laid.{is_adjacent, is_in_flow}
+use Rattle.granit_lexemes.specs.declared.layout.PossibleKey.{PossibleKey}
 use Rattle.granit_machine.specs.LexemeSort.{LexemeSort, Placed}
 use Rattle.granit_machine.specs.PossibleKeys.{is_stale}
 use Rattle.granit_machine.specs.Reader.{is_end}

@@ -10,7 +10,8 @@ use Rattle.granit_lexemes.specs.DirectiveExtent.{RefusesDirective}
 use Rattle.granit_lexemes.specs.HeaderExtent.{HeaderTail}
 use Rattle.granit_lexemes.specs.Here.{Here, next_char, mark_of, step}
 use Rattle.granit_lexemes.specs.LayoutData.{is_left}
-use Rattle.granit_lexemes.specs.Lexeme.{Bracket, opener_char, closer_char}
+use Rattle.granit_lexemes.specs.Lexeme.{opener_char, closer_char}
+use Rattle.granit_lexemes.specs.declared.layout.Bracket.{Bracket}
 use Rattle.granit_lexemes.specs.Moves.{steps}
 use Rattle.granit_lexemes.specs.NameExtent.{RefusesName}
 use Rattle.granit_lexemes.specs.PlainExtent.{RefusesPlain}
@@ -20,7 +21,10 @@ use Rattle.granit_lexemes.specs.TagExtent.{RefusesTag}
 use Rattle.granit_machine.specs.Columns.{entered}
 use Rattle.granit_machine.specs.Gaps.{leading_tab, goes_on_behind, takes_prefix}
 use Rattle.granit_machine.specs.IndicatorLexemes.{is_tabbed_dash, nul_behind, behind_question, opens_flow}
-use Rattle.granit_machine.specs.Laid.{Adjacent, PossibleKey, OpenBracket, Laid, behind_lexeme, is_question, is_adjacent, is_in_flow, same_bracket, block_column, is_column}
+use Rattle.granit_machine.specs.Laid.{Laid, behind_lexeme, is_question, is_adjacent, is_in_flow, same_bracket, block_column, is_column}
+use Rattle.granit_lexemes.specs.declared.layout.LastLexeme.TheVariants.{Adjacent}
+use Rattle.granit_lexemes.specs.declared.layout.PossibleKey.{PossibleKey}
+use Rattle.granit_lexemes.specs.declared.layout.OpenBracket.{OpenBracket}
 use Rattle.granit_machine.specs.LexemeSort.{PlacedSort, OpenSign, CloseSign, CommaSign, DashSign, QuestionSign, ColonSign, AliasSign, AnchorSign, TagSign, BlockSign, QuoteSign, StrayMark, NoSign, PlainSign, LexemeSort, TextEnd, StartMark, EndMark, Unprintable, DirectiveSign, Placed}
 use Rattle.granit_machine.specs.PossibleKeys.{top_key, is_allowed, is_far_below, layout_of}
 use Rattle.granit_language.specs.Standing.{tab_limit}

@@ -3,7 +3,8 @@
 use Rattle.std.specs.Prelude.{◌≡◌, ℕ, Bool, true, false, ◌&&◌, ◌||◌, not, ◌==◌, nat_lt, None}
 use Rattle.granit_language.specs.Node.{TreeProperties, NoProperties, One, Two, Pair, WithColon, AskOnly, Left, Asked}
 use Rattle.granit_language.specs.Terminal.{PropertyKind, Anchor, Tag, PartKind, Alias, Property, TerminalKind, Dash, Question, Colon, Part, At, Terminal, terminal, edge, stands_left, dash_in, entry_in, bare_in, is_comma_kind, closes_kind, is_bare_kind}
-use Rattle.granit_lexemes.specs.Lexeme.{Bracket, Square, Curly}
+use Rattle.granit_lexemes.specs.declared.layout.Bracket.{Bracket}
+use Rattle.granit_lexemes.specs.declared.layout.Bracket.TheVariants.{Square, Curly}
 
 -- the collection around a pair: a block mapping in a column, or a flow collection
 pub data Holder : Type 0 where

@@ -13,7 +13,8 @@ use Rattle.granit_lexemes.specs.DirectiveExtent.{AnswersDirective}
 use Rattle.granit_lexemes.specs.HeaderExtent.{HeaderTail}
 use Rattle.granit_lexemes.specs.Here.{Here, next_char, mark_of, step}
 use Rattle.granit_lexemes.specs.LayoutData.{is_left}
-use Rattle.granit_lexemes.specs.Lexeme.{Bracket, LexemeKind, Directive, DocumentStart, DocumentEnd, StreamEnd, Open, Close, Comma, Dash, Question, Colon, Alias, Anchor, Tag, Scalar, KeyStart, Lexeme, Item, OfLexeme}
+use Rattle.granit_lexemes.specs.Lexeme.{LexemeKind, Directive, DocumentStart, DocumentEnd, StreamEnd, Open, Close, Comma, Dash, Question, Colon, Alias, Anchor, Tag, Scalar, KeyStart, Lexeme, Item, OfLexeme}
+use Rattle.granit_lexemes.specs.declared.layout.Bracket.{Bracket}
 use Rattle.granit_lexemes.specs.Moves.{steps}
 use Rattle.granit_lexemes.specs.NameExtent.{AnswersName}
 use Rattle.granit_lexemes.specs.PlainExtent.{AnswersPlain}
@@ -25,7 +26,10 @@ use Rattle.granit_lexemes.specs.Tags.{TagRead}
 use Rattle.granit_machine.specs.Gaps.{over_break_if, leading_tab, goes_on_behind, takes_prefix, behind_note, behind_gap}
 use Rattle.granit_machine.specs.IndicatorLexemes.{is_tabbed_dash, nul_behind, behind_question, opens_flow}
 use Rattle.granit_machine.specs.Columns.{entered}
-use Rattle.granit_machine.specs.Laid.{Adjacent, PossibleKey, OpenBracket, Laid, behind_lexeme, is_question, is_adjacent, is_nonempty, is_in_flow, same_bracket, block_column, is_column}
+use Rattle.granit_machine.specs.Laid.{Laid, behind_lexeme, is_question, is_adjacent, is_nonempty, is_in_flow, same_bracket, block_column, is_column}
+use Rattle.granit_lexemes.specs.declared.layout.LastLexeme.TheVariants.{Adjacent}
+use Rattle.granit_lexemes.specs.declared.layout.PossibleKey.{PossibleKey}
+use Rattle.granit_lexemes.specs.declared.layout.OpenBracket.{OpenBracket}
 use Rattle.granit_machine.specs.LexemeSort.{PlacedSort, OpenSign, CloseSign, CommaSign, DashSign, QuestionSign, ColonSign, AliasSign, AnchorSign, TagSign, BlockSign, QuoteSign, PlainSign, LexemeSort, TextEnd, StartMark, EndMark, DirectiveSign, Placed}
 use Rattle.granit_machine.specs.NodeLexemes.{block_shown, note_items, adjacent_unless}
 use Rattle.granit_machine.specs.PossibleKeys.{top_key, is_allowed, start_of_key, is_far_below, layout_of, tab_column_of}

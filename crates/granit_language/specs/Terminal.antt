@@ -4,7 +4,9 @@ use Rattle.granit_base.specs.Place.{Mark}
 use Rattle.granit_base.specs.Written.{Written}
 use Rattle.granit_base.specs.declared.style.ScalarStyle.{ScalarStyle}
 use Rattle.granit_lexemes.specs.Here.{first_place}
-use Rattle.granit_lexemes.specs.Lexeme.{Bracket, Square, Curly, DirectiveKind}
+use Rattle.granit_lexemes.specs.Lexeme.{DirectiveKind}
+use Rattle.granit_lexemes.specs.declared.layout.Bracket.{Bracket}
+use Rattle.granit_lexemes.specs.declared.layout.Bracket.TheVariants.{Square, Curly}
 use Rattle.granit_lexemes.specs.Source.{Source}
 use Rattle.granit_language.specs.Scope.{Scope, no_scope}
 

@@ -12,7 +12,9 @@ use Rattle.granit_language.specs.Placed.{pair_front}
 use Rattle.granit_language.specs.Room.{Holder, BlockIn, FlowIn}
 use Rattle.granit_language.specs.Scope.{Scope}
 use Rattle.granit_language.specs.Terminal.{PropertyKind, Anchor, Tag, Alias, Property, Scalar, Open, TerminalKind, Dash, Question, Part, At, Terminal, terminal, text_start, no_terminal}
-use Rattle.granit_lexemes.specs.Lexeme.{Bracket, Square, Curly, DirectiveKind, Version}
+use Rattle.granit_lexemes.specs.Lexeme.{DirectiveKind, Version}
+use Rattle.granit_lexemes.specs.declared.layout.Bracket.{Bracket}
+use Rattle.granit_lexemes.specs.declared.layout.Bracket.TheVariants.{Square, Curly}
 
 pub data TreeEventKind : Type 0 where
   StreamStarts StreamEnds DocumentEnds SequenceEnds MappingEnds : TreeEventKind

@@ -7,8 +7,8 @@ use Rattle.granit_lexemes.specs.Comment.{CommentRead}
 use Rattle.granit_lexemes.specs.Source.{Source}
 
 -- the two kinds of brackets
-pub data Bracket : Type 0 where
-  Square Curly : Bracket
+use Rattle.granit_lexemes.specs.declared.layout.Bracket.{Bracket}
+use Rattle.granit_lexemes.specs.declared.layout.Bracket.TheVariants.{Square, Curly}
 
 -- the characters that open and close
 abbrev pub opener_char : Bracket → ℕ

@@ -12,7 +12,9 @@ use Rattle.granit_lexemes.specs.Pieces.{Shortens}
 use Rattle.granit_lexemes.specs.PlainScalar.{is_content}
 use Rattle.granit_machine.specs.Columns.{closed_at, closed_all, ends_at, ends_all}
 use Rattle.granit_machine.specs.Gaps.{GapRead, gap}
-use Rattle.granit_machine.specs.Laid.{PossibleKey, OpenBracket, Laid, is_nonempty, is_in_flow, is_adjacent}
+use Rattle.granit_machine.specs.Laid.{Laid, is_nonempty, is_in_flow, is_adjacent}
+use Rattle.granit_lexemes.specs.declared.layout.PossibleKey.{PossibleKey}
+use Rattle.granit_lexemes.specs.declared.layout.OpenBracket.{OpenBracket}
 use Rattle.granit_machine.specs.LexemeSort.{PlacedSort, OpenSign, CloseSign, CommaSign, DashSign, QuestionSign, ColonSign, AliasSign, AnchorSign, TagSign, BlockSign, QuoteSign, StrayMark, NoSign, PlainSign, LexemeSort, TextEnd, StartMark, EndMark, Unprintable, DirectiveSign, Placed, sort_at}
 use Rattle.granit_machine.specs.PossibleKeys.{keyed_brackets, node_key, is_allowed, drop_key, without_stale}
 use Rattle.granit_machine.specs.Reader.{noded, lexeme_of, lexeme_in_column, lexeme_by, lexeme, read_behind, read_whole, read, LexState, is_end, LexTurn, behind_read, lex_turn, lex_len}

@@ -10,7 +10,8 @@ use Rattle.granit_lexemes.specs.BlockScalar.{block_scalar}
 use Rattle.granit_lexemes.specs.Comment.{CommentRead, comment}
 use Rattle.granit_lexemes.specs.Directive as directives
 use Rattle.granit_lexemes.specs.Here.{Here, text_len, next_char, step, chosen, past, mark_of}
-use Rattle.granit_lexemes.specs.Lexeme.{Bracket, Open, Close, Comma, Dash, Question, Lexeme, Item, DocumentEnd}
+use Rattle.granit_lexemes.specs.Lexeme.{Open, Close, Comma, Dash, Question, Lexeme, Item, DocumentEnd}
+use Rattle.granit_lexemes.specs.declared.layout.Bracket.{Bracket}
 use Rattle.granit_lexemes.specs.Moves.{steps, past_prefix_mark}
 use Rattle.granit_lexemes.specs.Outcome.{Fault, ◌>>=◌}
 use Rattle.granit_lexemes.specs.PlainScalar.{is_content, plain_scalar}
@@ -22,7 +23,11 @@ use Rattle.granit_machine.specs.Columns.{with_entry, with_pair}
 use Rattle.granit_machine.specs.FlowLexemes.{opened, opener, closed_bracket, closes, closer_by, closer, last_of_comma, comma}
 use Rattle.granit_machine.specs.Gaps.{leading_tab, refuse_tab, refuse_cut, at_prefix_mark, begins_gap, over_gap_char, skip_gap, past_gap, over_break_if, takes_prefix, GapRead, behind_note, noted_gap, ready_gap, gap_ends, gap}
 use Rattle.granit_machine.specs.IndicatorLexemes.{behind_dash, dash_up_to, dash, question_noted, question_up_to, behind_question, question_by, question, keyed_colon, bare_colon, colon_by_key, colon_tail, colon, keyed_given, bare_given, colon_lexeme}
-use Rattle.granit_machine.specs.Laid.{LastLexeme, Opener, Adjacent, PossibleKey, OpenBracket, Laid, is_in_flow, block_column}
+use Rattle.granit_machine.specs.Laid.{Laid, is_in_flow, block_column}
+use Rattle.granit_lexemes.specs.declared.layout.LastLexeme.{LastLexeme}
+use Rattle.granit_lexemes.specs.declared.layout.LastLexeme.TheVariants.{Opener, Adjacent}
+use Rattle.granit_lexemes.specs.declared.layout.PossibleKey.{PossibleKey}
+use Rattle.granit_lexemes.specs.declared.layout.OpenBracket.{OpenBracket}
 use Rattle.granit_machine.specs.NodeLexemes.{alias_lexeme, anchor_lexeme, tag_lexeme, block_lexeme, plain_lexeme, quoted_lexeme, with_note, with_gap, quoted_and_gap}
 use Rattle.granit_machine.specs.PossibleKeys.{top_key, drop_key, layout_of, start_of_key}
 use Rattle.granit_machine.specs.ReaderState.{ReaderState, lexeme_to, sign_lexeme, tailed_by, tailed}

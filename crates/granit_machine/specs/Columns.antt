@@ -6,7 +6,8 @@ use Rattle.granit_error.specs.OptionsData.{OptionsData}
 use Rattle.granit_lexemes.specs.Basics.{fails_at}
 use Rattle.granit_lexemes.specs.LayoutData.{is_left}
 use Rattle.granit_lexemes.specs.Outcome.{Fault, ◌>>=◌}
-use Rattle.granit_machine.specs.Laid.{OpenColumn, Laid, is_nonempty, is_in_flow, innermost_column, block_column, is_column}
+use Rattle.granit_machine.specs.Laid.{Laid, is_nonempty, is_in_flow, innermost_column, block_column, is_column}
+use Rattle.granit_lexemes.specs.declared.layout.OpenColumn.{OpenColumn}
 
 abbrev pub widened : OpenColumn → OpenColumn
 widened c = record c { is_wide = true }

@@ -5,10 +5,14 @@ use Rattle.granit_error.specs.FaultKind.{MismatchedFlowCollectionEnd, MisplacedF
 use Rattle.granit_error.specs.OptionsData.{OptionsData}
 use Rattle.granit_lexemes.specs.Basics.{fails_at}
 use Rattle.granit_lexemes.specs.Here.{Here, mark_of, step}
-use Rattle.granit_lexemes.specs.Lexeme.{Bracket, opener_char, closer_char, Open, Close, Comma}
+use Rattle.granit_lexemes.specs.Lexeme.{opener_char, closer_char, Open, Close, Comma}
+use Rattle.granit_lexemes.specs.declared.layout.Bracket.{Bracket}
 use Rattle.granit_lexemes.specs.Outcome.{◌>>=◌}
 use Rattle.granit_machine.specs.Columns.{all_wide}
-use Rattle.granit_machine.specs.Laid.{LastLexeme, Opener, Adjacent, Another, OpenBracket, Laid, is_nonempty, is_in_flow, same_bracket}
+use Rattle.granit_machine.specs.Laid.{Laid, is_nonempty, is_in_flow, same_bracket}
+use Rattle.granit_lexemes.specs.declared.layout.LastLexeme.{LastLexeme}
+use Rattle.granit_lexemes.specs.declared.layout.LastLexeme.TheVariants.{Opener, Adjacent, Another}
+use Rattle.granit_lexemes.specs.declared.layout.OpenBracket.{OpenBracket}
 use Rattle.granit_machine.specs.PossibleKeys.{drop_key}
 use Rattle.granit_machine.specs.ReaderState.{Read, sign_lexeme, tailed}
 

@@ -10,7 +10,9 @@ use Rattle.granit_lexemes.specs.Here.{Here, text_len, next_char, mark_of, step, 
 use Rattle.granit_lexemes.specs.LayoutData.{is_left}
 use Rattle.granit_lexemes.specs.Moves.{past_prefix_mark}
 use Rattle.granit_lexemes.specs.Outcome.{Fault, ◌>>=◌}
-use Rattle.granit_machine.specs.Laid.{LastLexeme, Adjacent, Another, Laid, is_question, is_in_flow, block_column}
+use Rattle.granit_machine.specs.Laid.{Laid, is_question, is_in_flow, block_column}
+use Rattle.granit_lexemes.specs.declared.layout.LastLexeme.{LastLexeme}
+use Rattle.granit_lexemes.specs.declared.layout.LastLexeme.TheVariants.{Adjacent, Another}
 use Rattle.granit_machine.specs.PossibleKeys.{tab_column_of}
 use Rattle.granit_machine.specs.ReaderState.{ReaderState}
 

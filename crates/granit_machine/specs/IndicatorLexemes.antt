@@ -11,7 +11,9 @@ use Rattle.granit_lexemes.specs.Outcome.{Fault, ◌>>=◌}
 use Rattle.granit_lexemes.specs.Tail.{tail_at}
 use Rattle.granit_machine.specs.Columns.{widened, with_entry, with_pair}
 use Rattle.granit_machine.specs.Gaps.{leading_tab, refuse_tab}
-use Rattle.granit_machine.specs.Laid.{BehindDash, BehindQuestion, BehindBareColon, Another, PossibleKey, Laid, is_adjacent, is_in_flow}
+use Rattle.granit_machine.specs.Laid.{Laid, is_adjacent, is_in_flow}
+use Rattle.granit_lexemes.specs.declared.layout.LastLexeme.TheVariants.{BehindDash, BehindQuestion, BehindBareColon, Another}
+use Rattle.granit_lexemes.specs.declared.layout.PossibleKey.{PossibleKey}
 use Rattle.granit_machine.specs.PossibleKeys.{top_key, forgets_key, is_allowed, start_of_key, is_far_below}
 use Rattle.granit_machine.specs.ReaderState.{Read, sign_lexeme, with_tail, given}
 

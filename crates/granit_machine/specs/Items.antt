@@ -8,7 +8,7 @@ use Rattle.granit_error.specs.OptionsData.{OptionsData, default_options}
 use Rattle.granit_error.specs.Refused.{place_words}
 use Rattle.granit_lexemes.specs.Comment.{CommentRead}
 use Rattle.granit_lexemes.specs.Here.{start_of}
-use Rattle.granit_lexemes.specs.Lexeme.{Square, Curly}
+use Rattle.granit_lexemes.specs.declared.layout.Bracket.TheVariants.{Square, Curly}
 use Rattle.granit_lexemes.specs.Source.{Source}
 use Rattle.granit_lexemes.specs.Line.{in_quotes, style_word, place_line}
 use Rattle.granit_lexemes.specs.Outcome.{Fault}

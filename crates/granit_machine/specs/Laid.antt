@@ -1,43 +1,15 @@
 -- What the lexemes so far left: possible keys, open brackets and columns, and what the last one lets the next be.
 use Rattle.std.specs.Prelude.{ℕ, suc, Bool, true, false, ◌==◌, List, [], ◌∷◌, Option, None, Some}
 use Rattle.granit_base.specs.Place.{Mark}
-use Rattle.granit_lexemes.specs.Lexeme.{Bracket, Square, Curly}
+use Rattle.granit_lexemes.specs.declared.layout.Bracket.{Bracket}
+use Rattle.granit_lexemes.specs.declared.layout.Bracket.TheVariants.{Square, Curly}
 
--- what the last lexeme lets the next one be
-pub data LastLexeme : Type 0 where
-  -- an opener, or a `,` in flow
-  Opener : LastLexeme
-  -- outside flow: `-`, `?`, `:` without a key
-  BehindDash BehindQuestion BehindBareColon : LastLexeme
-  -- where indentation is strict, a property behind `?`
-  BehindProperty : LastLexeme
-  -- a closer with no comment behind it, or a quoted scalar with none in the gap behind it
-  Adjacent : LastLexeme
-  Another : LastLexeme
-
--- a possible simple key (7.4.2, 8.2.2)
-pub record PossibleKey : Type 0 where
-  -- its first lexeme
-  pub number : ℕ
-  pub start : Mark
-  -- whether it stands in an open column outside flow
-  pub is_required : Bool
-  -- whether one of its properties, or the first lexeme behind them, stands left of where a node may stand
-  pub is_low : Bool
-  -- whether it holds properties alone so far
-  pub is_head : Bool
-
--- an open bracket, and the possible key in it
-pub record OpenBracket : Type 0 where
-  pub bracket : Bracket
-  pub mark : Mark
-  pub key : Option PossibleKey
-
--- the column of an open block collection, and whether its current entry holds a `:` of a block mapping, a `-` before a
--- break or a flow indicator, or an opener
-pub record OpenColumn : Type 0 where
-  pub column : ℕ
-  pub is_wide : Bool
+-- what the last lexeme lets the next one be, a possible simple key (7.4.2, 8.2.2), an open bracket, and an open column
+use Rattle.granit_lexemes.specs.declared.layout.LastLexeme.{LastLexeme}
+use Rattle.granit_lexemes.specs.declared.layout.LastLexeme.TheVariants.{Opener, BehindDash, BehindQuestion, BehindBareColon, BehindProperty, Adjacent, Another}
+use Rattle.granit_lexemes.specs.declared.layout.PossibleKey.{PossibleKey}
+use Rattle.granit_lexemes.specs.declared.layout.OpenBracket.{OpenBracket}
+use Rattle.granit_lexemes.specs.declared.layout.OpenColumn.{OpenColumn}
 
 pub record Laid : Type 0 where
   -- how many lexemes were read

@@ -3,7 +3,8 @@ use Rattle.std.specs.Prelude.{ℕ, Bool, ◌==◌, ◌&&◌, ◌||◌, not, if�
 use Rattle.granit_base.specs.Classes.{is_blank_or_breakz, is_flow, is_printable, is_bom}
 use Rattle.granit_lexemes.specs.Basics.{is_document_mark}
 use Rattle.granit_lexemes.specs.Here.{Here, text_len, next_char}
-use Rattle.granit_lexemes.specs.Lexeme.{Bracket, Square, Curly}
+use Rattle.granit_lexemes.specs.declared.layout.Bracket.{Bracket}
+use Rattle.granit_lexemes.specs.declared.layout.Bracket.TheVariants.{Square, Curly}
 
 -- a lexeme that stands in a column
 pub data PlacedSort : Type 0 where

@@ -12,7 +12,9 @@ use Rattle.granit_lexemes.specs.PlainScalar.{PlainRead, plain_scalar}
 use Rattle.granit_lexemes.specs.QuotedScalar.{QuotedRead, quoted_style, quoted_scalar}
 use Rattle.granit_lexemes.specs.Tags.{TagRead, tag_at, name_at}
 use Rattle.granit_machine.specs.Gaps.{gap}
-use Rattle.granit_machine.specs.Laid.{LastLexeme, BehindProperty, Adjacent, Another, Laid, is_question, is_in_flow, block_column}
+use Rattle.granit_machine.specs.Laid.{Laid, is_question, is_in_flow, block_column}
+use Rattle.granit_lexemes.specs.declared.layout.LastLexeme.{LastLexeme}
+use Rattle.granit_lexemes.specs.declared.layout.LastLexeme.TheVariants.{BehindProperty, Adjacent, Another}
 use Rattle.granit_machine.specs.PossibleKeys.{layout_of}
 use Rattle.granit_machine.specs.ReaderState.{ReaderState, Read, lexeme_to, with_tail, given}
 

@@ -6,7 +6,8 @@ use Rattle.granit_base.specs.declared.style.Placement.TheVariants.{Right}
 use Rattle.granit_base.specs.declared.style.StructureStyle.TheVariants.{Block, Flow}
 use Rattle.granit_error.specs.FaultKind.{FaultKind, RecursionLimitExceeded, UnknownAnchor, UndeclaredTagHandle, TooManyComments}
 use Rattle.granit_error.specs.OptionsData.{OptionsData}
-use Rattle.granit_lexemes.specs.Lexeme.{Bracket, Square, Curly}
+use Rattle.granit_lexemes.specs.declared.layout.Bracket.{Bracket}
+use Rattle.granit_lexemes.specs.declared.layout.Bracket.TheVariants.{Square, Curly}
 use Rattle.granit_lexemes.specs.Outcome.{Fault, ◌>>=◌}
 use Rattle.granit_lexemes.specs.PlainEvent.{PlainTag, EventKind, event_at, Alias, UnresolvedAlias, Comment, Scalar, SequenceStart, MappingStart}
 use Rattle.granit_lexemes.specs.Basics.{fails_at}

@@ -8,7 +8,10 @@ use Rattle.granit_lexemes.specs.Basics.{fails_at}
 use Rattle.granit_lexemes.specs.LayoutData.{LayoutData, is_left}
 use Rattle.granit_lexemes.specs.Lexeme.{KeyStart}
 use Rattle.granit_lexemes.specs.Outcome.{Fault, ◌>>=◌}
-use Rattle.granit_machine.specs.Laid.{PossibleKey, OpenBracket, OpenColumn, Laid, is_opener, is_dash, is_indicator, is_in_flow, in_square, block_column, is_column}
+use Rattle.granit_machine.specs.Laid.{Laid, is_opener, is_dash, is_indicator, is_in_flow, in_square, block_column, is_column}
+use Rattle.granit_lexemes.specs.declared.layout.PossibleKey.{PossibleKey}
+use Rattle.granit_lexemes.specs.declared.layout.OpenBracket.{OpenBracket}
+use Rattle.granit_lexemes.specs.declared.layout.OpenColumn.{OpenColumn}
 
 abbrev pub key_in : List OpenBracket → Option PossibleKey → Option PossibleKey
 key_in [] key = key

@@ -8,7 +8,10 @@ use Rattle.granit_lexemes.specs.Here.{Here, next_char, mark_of, step}
 use Rattle.granit_lexemes.specs.Lexeme.{opener_char, LexemeKind, Lexeme, Item, OfLexeme}
 use Rattle.granit_lexemes.specs.Outcome.{Fault, ◌>>=◌}
 use Rattle.granit_lexemes.specs.Tail.{tail_at}
-use Rattle.granit_machine.specs.Laid.{LastLexeme, Adjacent, Another, OpenBracket, Laid, laid_start, behind_lexeme, is_dash, is_indicator, is_in_flow}
+use Rattle.granit_machine.specs.Laid.{Laid, laid_start, behind_lexeme, is_dash, is_indicator, is_in_flow}
+use Rattle.granit_lexemes.specs.declared.layout.LastLexeme.{LastLexeme}
+use Rattle.granit_lexemes.specs.declared.layout.LastLexeme.TheVariants.{Adjacent, Another}
+use Rattle.granit_lexemes.specs.declared.layout.OpenBracket.{OpenBracket}
 
 pub record ReaderState : Type 0 where
   pub here : Here

@@ -15,7 +15,8 @@ use Rattle.granit_lexemes.specs.Outcome.{◌>>=◌}
 use Rattle.granit_lexemes.specs.Tail.{tail_at}
 use Rattle.granit_machine.specs.Columns.{ends_all}
 use Rattle.granit_machine.specs.Gaps.{over_break_if}
-use Rattle.granit_machine.specs.Laid.{Another, Laid, behind_lexeme}
+use Rattle.granit_machine.specs.Laid.{Laid, behind_lexeme}
+use Rattle.granit_lexemes.specs.declared.layout.LastLexeme.TheVariants.{Another}
 use Rattle.granit_machine.specs.PossibleKeys.{drop_key, forgets_key}
 use Rattle.granit_machine.specs.ReaderState.{Read, lexeme_to, with_tail, read_to, given, refuse_open}
 

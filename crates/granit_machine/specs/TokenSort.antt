@@ -1,6 +1,6 @@
 -- What a lexeme is to the parser.
 use Rattle.std.specs.Prelude.{ℕ, Bool, true, false, ◌==◌, ◌&&◌, not, nat_lt, Option, Some, None}
-use Rattle.granit_lexemes.specs.Lexeme.{Square, Curly}
+use Rattle.granit_lexemes.specs.declared.layout.Bracket.TheVariants.{Square, Curly}
 use Rattle.granit_lexemes.specs.Lexeme as lexemes
 use Rattle.granit_lexemes.specs.Lexeme.{LexemeKind, KeyStart, Lexeme}
 

@@ -5,7 +5,9 @@ use Rattle.granit_base.specs.Place.{Mark}
 use Rattle.granit_error.specs.OptionsData.{OptionsData}
 use Rattle.granit_lexemes.specs.Here.{Here, mark_of}
 use Rattle.granit_lexemes.specs.LayoutData.{is_left}
-use Rattle.granit_machine.specs.Laid.{PossibleKey, OpenBracket, Laid, is_in_flow, block_column}
+use Rattle.granit_machine.specs.Laid.{Laid, is_in_flow, block_column}
+use Rattle.granit_lexemes.specs.declared.layout.PossibleKey.{PossibleKey}
+use Rattle.granit_lexemes.specs.declared.layout.OpenBracket.{OpenBracket}
 use Rattle.granit_machine.specs.PossibleKeys.{key_in, top_key, outer_key, keyed_brackets, with_top_key, forgets_key, is_stale, fresh_key, fresh_bracket, fresh, is_allowed, new_key, key_goes_on, node_key}
 use Rattle.granit_machine.specs.Reader.{noded}
 use Rattle.granit_language.specs.Fitting.{outer_keys}

@@ -12,7 +12,8 @@ use Rattle.granit_lexemes.specs.Comment.{CommentRead, comment, Spoils}
 use Rattle.granit_lexemes.specs.Directive as directives
 use Rattle.granit_lexemes.specs.HeaderExtent.{HeaderTail}
 use Rattle.granit_lexemes.specs.Here.{Here, next_char, mark_of, step, past}
-use Rattle.granit_lexemes.specs.Lexeme.{Bracket, Question, Lexeme, Item, OfLexeme}
+use Rattle.granit_lexemes.specs.Lexeme.{Question, Lexeme, Item, OfLexeme}
+use Rattle.granit_lexemes.specs.declared.layout.Bracket.{Bracket}
 use Rattle.granit_lexemes.specs.Moves.{steps}
 use Rattle.granit_lexemes.specs.NameExtent.{is_name_sign}
 use Rattle.granit_lexemes.specs.Outcome.{Fault, ◌>>=◌}
@@ -30,7 +31,10 @@ use Rattle.granit_machine.specs.Columns.{refuse_column, entered, with_entry, pai
 use Rattle.granit_machine.specs.FlowLexemes.{opener, closed_bracket, closes, closer_by, closer, last_of_comma, comma}
 use Rattle.granit_machine.specs.Gaps.{leading_tab, gap}
 use Rattle.granit_machine.specs.IndicatorLexemes.{is_tabbed_dash, behind_dash, dash_up_to, dash, question_up_to, nul_behind, behind_question, question_by, question, colon_lexeme, keyed_given, keyed_colon, bare_given, bare_colon, colon_by_key, colon_tail, opens_flow, colon}
-use Rattle.granit_machine.specs.Laid.{Opener, BehindQuestion, Adjacent, Another, PossibleKey, OpenBracket, Laid, behind_lexeme, is_adjacent, is_in_flow, same_bracket, block_column, is_column}
+use Rattle.granit_machine.specs.Laid.{Laid, behind_lexeme, is_adjacent, is_in_flow, same_bracket, block_column, is_column}
+use Rattle.granit_lexemes.specs.declared.layout.LastLexeme.TheVariants.{Opener, BehindQuestion, Adjacent, Another}
+use Rattle.granit_lexemes.specs.declared.layout.PossibleKey.{PossibleKey}
+use Rattle.granit_lexemes.specs.declared.layout.OpenBracket.{OpenBracket}
 use Rattle.granit_machine.specs.LexemeSort.{PlacedSort, OpenSign, CloseSign, CommaSign, DashSign, QuestionSign, ColonSign, AliasSign, AnchorSign, TagSign, BlockSign, QuoteSign, PlainSign, LexemeSort, TextEnd, StartMark, EndMark, DirectiveSign, Placed}
 use Rattle.granit_machine.specs.NodeLexemes.{alias_lexeme, anchor_lexeme, tag_lexeme, block_lexeme, plain_lexeme, quoted_and_gap}
 use Rattle.granit_machine.specs.PossibleKeys.{top_key, forgets_key, refuse_required, drop_key, is_allowed, start_of_key, is_far_below, layout_of}

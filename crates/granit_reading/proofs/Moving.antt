@@ -4,10 +4,13 @@ use Rattle.std.specs.Prelude.{if◌then◌else◌, is_none}
 use Rattle.granit_base.specs.Place.{Mark}
 use Rattle.granit_error.specs.OptionsData.{OptionsData}
 use Rattle.granit_lexemes.specs.Here.{Here}
-use Rattle.granit_lexemes.specs.Lexeme.{Bracket, LexemeKind, Open, Close, KeyStart, Lexeme}
+use Rattle.granit_lexemes.specs.Lexeme.{LexemeKind, Open, Close, KeyStart, Lexeme}
+use Rattle.granit_lexemes.specs.declared.layout.Bracket.{Bracket}
 use Rattle.granit_machine.specs.Columns.{pair_entered, entered}
 use Rattle.granit_machine.specs.IndicatorLexemes.{is_before_break, widened_if}
-use Rattle.granit_machine.specs.Laid.{PossibleKey, OpenBracket, Laid, is_opener, is_dash, is_indicator, is_in_flow}
+use Rattle.granit_machine.specs.Laid.{Laid, is_opener, is_dash, is_indicator, is_in_flow}
+use Rattle.granit_lexemes.specs.declared.layout.PossibleKey.{PossibleKey}
+use Rattle.granit_lexemes.specs.declared.layout.OpenBracket.{OpenBracket}
 use Rattle.granit_machine.specs.LexemeSort.{OpenSign, CloseSign, CommaSign, DashSign, QuestionSign, ColonSign, AliasSign, AnchorSign, TagSign, BlockSign, QuoteSign, StrayMark, NoSign, PlainSign, LexemeSort, TextEnd, StartMark, EndMark, Unprintable, DirectiveSign, Placed}
 use Rattle.granit_machine.specs.PossibleKeys.{top_key, is_allowed}
 use Rattle.granit_machine.specs.Reader.{noded}

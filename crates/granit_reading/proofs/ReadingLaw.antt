@@ -19,7 +19,8 @@ use Rattle.granit_lexemes.specs.QuotedScalar.{quote_char}
 use Rattle.granit_scalars.proofs.Turning.{Carries, pieces_hold}
 use Rattle.granit_machine.specs.Columns.{closed_at, closed_all, ends_at, ends_all}
 use Rattle.granit_machine.specs.Gaps.{takes_prefix, gap}
-use Rattle.granit_machine.specs.Laid.{PossibleKey, Laid, is_in_flow, is_adjacent, block_column}
+use Rattle.granit_machine.specs.Laid.{Laid, is_in_flow, is_adjacent, block_column}
+use Rattle.granit_lexemes.specs.declared.layout.PossibleKey.{PossibleKey}
 use Rattle.granit_machine.specs.LexemeSort.{PlacedSort, OpenSign, CloseSign, CommaSign, DashSign, QuestionSign, ColonSign, AliasSign, AnchorSign, TagSign, BlockSign, QuoteSign, StrayMark, NoSign, PlainSign, LexemeSort, TextEnd, StartMark, EndMark, Unprintable, DirectiveSign, Placed, sort_at}
 use Rattle.granit_machine.specs.Lexing.{lex, lex_start}
 use Rattle.granit_machine.specs.PossibleKeys.{is_stale, refuse_required, stale_key, fresh, without_stale}
@@ -152,7 +153,7 @@ column-is o sort ends h l p =
     placed_as o ends sort h t _ (answers_if (GivenBy o ends (Placed sort) h t) (Refuses o h t sort) (is_strict_outside o h.place.column l) _ _
     (λ y. let a = both (o.strict_indentation && is_in_flow l) (is_left (block_column l) h.place.column) y in
     let b = both o.strict_indentation (is_in_flow l) a.0 in
-    left_of_block b.0 (run_flow sort h l ∙ b.1) (ap (λ (cs : List Rattle.granit_machine.specs.Laid.OpenColumn). is_left (Rattle.granit_machine.specs.Laid.innermost_column cs) h.place.column) (run_columns sort h l) ∙ a.1))
+    left_of_block b.0 (run_flow sort h l ∙ b.1) (ap (λ (cs : List Rattle.granit_lexemes.specs.declared.layout.OpenColumn.OpenColumn). is_left (Rattle.granit_machine.specs.Laid.innermost_column cs) h.place.column) (run_columns sort h l) ∙ a.1))
     (λ _. lexeme_of-is o sort ends h l p))
 
 lexeme_by-is : (o : OptionsData) (sort : LexemeSort) (s : ReaderState) → Begins (is_in_flow s.laid) (is_adjacent s.laid.last) s.here.place.column s.here.unread.text sort → sort_at (is_in_flow s.laid) (is_adjacent s.laid.last) s.here ≡ sort → is_gap (next_char s.here) ≡ false

@@ -5,7 +5,7 @@ use Rattle.std.proofs.lemmas.Bool.Decides.{nat_tests}
 use Rattle.granit_base.specs.Classes.{is_blank_or_breakz, is_flow, is_printable, is_bom}
 use Rattle.granit_base.specs.Place.{first}
 use Rattle.granit_lexemes.specs.Here.{Here}
-use Rattle.granit_lexemes.specs.Lexeme.{Square, Curly}
+use Rattle.granit_lexemes.specs.declared.layout.Bracket.TheVariants.{Square, Curly}
 use Rattle.granit_lexemes.specs.Basics.{is_document_mark}
 use Rattle.granit_lexemes.proofs.HereLemmas.{not_empty}
 use Rattle.granit_machine.specs.LexemeSort.{PlacedSort, LexemeSort, TextEnd, StartMark, EndMark, Unprintable, DirectiveSign, Placed, OpenSign, CloseSign, CommaSign, DashSign, QuestionSign, ColonSign, AliasSign, AnchorSign, TagSign, BlockSign, QuoteSign, StrayMark, sort_of, sort_at}

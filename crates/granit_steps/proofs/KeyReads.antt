@@ -9,7 +9,8 @@ use Rattle.granit_lexemes.specs.Comment.{CommentRead, comment}
 use Rattle.granit_lexemes.specs.Directive as directives
 use Rattle.granit_lexemes.specs.Here.{Here, mark_of, step, past}
 use Rattle.granit_lexemes.specs.LayoutData.{is_left}
-use Rattle.granit_lexemes.specs.Lexeme.{Bracket, DocumentEnd, StreamEnd, Open, Close, Comma, Dash, Question, KeyStart, Lexeme, Item, OfLexeme, OfComment}
+use Rattle.granit_lexemes.specs.Lexeme.{DocumentEnd, StreamEnd, Open, Close, Comma, Dash, Question, KeyStart, Lexeme, Item, OfLexeme, OfComment}
+use Rattle.granit_lexemes.specs.declared.layout.Bracket.{Bracket}
 use Rattle.granit_lexemes.specs.Moves.{steps}
 use Rattle.granit_lexemes.specs.Outcome.{Fault, ◌>>=◌}
 use Rattle.granit_lexemes.specs.PlainScalar.{plain_scalar}
@@ -20,7 +21,11 @@ use Rattle.granit_machine.specs.Columns.{refuse_column, entered, pair_entered, c
 use Rattle.granit_machine.specs.FlowLexemes.{opened, opener, closed_bracket, closes, closer_by, last_of_comma, comma}
 use Rattle.granit_machine.specs.Gaps.{leading_tab, refuse_tab, refuse_cut, past_gap, begins_gap, takes_prefix, GapRead, noted_gap, ready_gap, gap_ends, gap}
 use Rattle.granit_machine.specs.IndicatorLexemes.{widened_if, is_before_break, dash_lexeme, behind_dash, dash_up_to, dash, question_noted, question_up_to, behind_question, question_by, question, colon_lexeme, keyed_given, keyed_colon, bare_given, bare_colon, colon_by_key, colon_tail, colon}
-use Rattle.granit_machine.specs.Laid.{LastLexeme, Opener, BehindDash, BehindQuestion, Adjacent, Another, PossibleKey, OpenBracket, Laid, is_in_flow, is_adjacent, block_column}
+use Rattle.granit_machine.specs.Laid.{Laid, is_in_flow, is_adjacent, block_column}
+use Rattle.granit_lexemes.specs.declared.layout.LastLexeme.{LastLexeme}
+use Rattle.granit_lexemes.specs.declared.layout.LastLexeme.TheVariants.{Opener, BehindDash, BehindQuestion, Adjacent, Another}
+use Rattle.granit_lexemes.specs.declared.layout.PossibleKey.{PossibleKey}
+use Rattle.granit_lexemes.specs.declared.layout.OpenBracket.{OpenBracket}
 use Rattle.granit_machine.specs.LexemeSort.{PlacedSort, OpenSign, CloseSign, CommaSign, DashSign, QuestionSign, ColonSign, AliasSign, AnchorSign, TagSign, BlockSign, QuoteSign, StrayMark, NoSign, PlainSign, LexemeSort, TextEnd, StartMark, EndMark, Unprintable, DirectiveSign, Placed, sort_at}
 use Rattle.granit_machine.specs.Lexing.{and_key}
 use Rattle.granit_machine.specs.NodeLexemes.{alias_lexeme, anchor_lexeme, tag_lexeme, block_lexeme, plain_lexeme, quoted_lexeme, with_note, with_gap, quoted_and_gap}

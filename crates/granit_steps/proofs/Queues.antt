@@ -3,7 +3,9 @@ use Rattle.std.proofs.Common.{◌≡◌, ℕ, ◌<◌, ◌||◌, not, Bool, true
 use Rattle.std.proofs.lemmas.List.{append-nil, map-append}
 use Rattle.std.specs.List.{list_any}
 use Rattle.granit_lexemes.specs.Lexeme.{KeyStart, Lexeme, Item, OfLexeme, OfComment}
-use Rattle.granit_machine.specs.Laid.{Laid, PossibleKey, OpenBracket}
+use Rattle.granit_machine.specs.Laid.{Laid}
+use Rattle.granit_lexemes.specs.declared.layout.PossibleKey.{PossibleKey}
+use Rattle.granit_lexemes.specs.declared.layout.OpenBracket.{OpenBracket}
 use Rattle.granit_machine.specs.Lexing.{FlaggedItem, and_key}
 use Rattle.granit_machine.specs.Machine.{without_tail, asked_items, is_settled}
 use Rattle.granit_machine.specs.PossibleKeys.{is_of, is_possible}

@@ -6,7 +6,9 @@ use Rattle.granit_base.specs.Written.{Written}
 use Rattle.granit_base.specs.declared.style.Placement.TheVariants.{Right}
 use Rattle.granit_base.specs.declared.style.StructureStyle.TheVariants.{Flow}
 use Rattle.granit_error.specs.OptionsData.{OptionsData}
-use Rattle.granit_lexemes.specs.Lexeme.{Bracket, Square, Curly, LexemeKind}
+use Rattle.granit_lexemes.specs.Lexeme.{LexemeKind}
+use Rattle.granit_lexemes.specs.declared.layout.Bracket.{Bracket}
+use Rattle.granit_lexemes.specs.declared.layout.Bracket.TheVariants.{Square, Curly}
 use Rattle.granit_lexemes.specs.Outcome.{Fault, ◌>>=◌}
 use Rattle.granit_lexemes.specs.PlainEvent.{PlainEvent, PlainVersion, PlainTag, EventKind, event_at}
 use Rattle.granit_machine.specs.BlockSteps.{in_sequence, mapping_at, mapping_colon, bare_colon_in_mapping, next_pair, behind_indicator, at_block_key, behind_block_key, in_mapping}

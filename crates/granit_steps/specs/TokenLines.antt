@@ -3,7 +3,8 @@ use Rattle.std.specs.Prelude.{ℕ, List, [], ◌++◌, codes, Result, Ok, Err}
 use Rattle.std.specs.List.{flat_map}
 use Rattle.granit_error.specs.OptionsData.{default_options}
 use Rattle.granit_lexemes.specs.Here.{start_of}
-use Rattle.granit_lexemes.specs.Lexeme.{Square, Curly, DirectiveKind, Version, TagPrefix, Reserved, LexemeKind, Directive, DocumentStart, DocumentEnd, StreamEnd, Open, Close, Comma, Dash, Question, Colon, Alias, Anchor, Tag, Scalar}
+use Rattle.granit_lexemes.specs.Lexeme.{DirectiveKind, Version, TagPrefix, Reserved, LexemeKind, Directive, DocumentStart, DocumentEnd, StreamEnd, Open, Close, Comma, Dash, Question, Colon, Alias, Anchor, Tag, Scalar}
+use Rattle.granit_lexemes.specs.declared.layout.Bracket.TheVariants.{Square, Curly}
 use Rattle.granit_lexemes.specs.Outcome.{Fault}
 use Rattle.granit_lexemes.specs.Source.{Source}
 use Rattle.granit_machine.specs.Items.{span_words}
