@@ -7,6 +7,7 @@ ghost use Rattle.granit_base.specs.Written.{Written};
 ghost use Rattle.granit_base.specs.declared.style.ScalarStyle.{ScalarStyle};
 ghost use Rattle.granit_error.specs.OptionsData.{OptionsData};
 ghost use Rattle.granit_lexemes.specs.Lexeme as lexemes;
+ghost use Rattle.granit_lexemes.specs.declared.layout.Bracket.TheVariants as brackets;
 ghost use Rattle.granit_lexemes.specs.PlainEvent.{PlainEvent};
 ghost use Rattle.granit_agreement.specs.Closed.{Closed};
 ghost use Rattle.granit_agreement.specs.Fair.{Fair};
@@ -32,8 +33,8 @@ pub fn closing()
 /// A lexeme of a node, in each place for a node and behind properties: both give its event, or take its property, or refuse what means nothing.
 pub fn parts()
     ensures scalar { (style : ScalarStyle) (text : Written) → PartAt (Scalar style text) (lexemes.Scalar style text) (λ (p : TreeProperties). Unit {0}) }
-    ensures square { PartAt (Open Square) (lexemes.Open lexemes.Square) (λ (p : TreeProperties). Unit {0}) }
-    ensures curly { PartAt (Open Curly) (lexemes.Open lexemes.Curly) (λ (p : TreeProperties). Unit {0}) }
+    ensures square { PartAt (Open Square) (lexemes.Open brackets.Square) (λ (p : TreeProperties). Unit {0}) }
+    ensures curly { PartAt (Open Curly) (lexemes.Open brackets.Curly) (λ (p : TreeProperties). Unit {0}) }
     ensures anchor { (name : Written) → PartAt (Property (Anchor name)) (lexemes.Anchor name) (λ (p : TreeProperties). joins p (Property (Anchor name)) ≡ true) }
     ensures tag { (handle suffix : List ℕ) → PartAt (Property (Tag handle suffix)) (lexemes.Tag handle suffix) (λ (p : TreeProperties). joins p (Property (Tag handle suffix)) ≡ true) }
     ensures alias { (name : Written) → PartAt (Alias name) (lexemes.Alias name) (λ (p : TreeProperties). p ≡ NoProperties) }
@@ -74,8 +75,8 @@ pub fn begins()
 /// Behind properties, each lexeme that goes on with them and begins no simple key.
 pub fn behind_steps()
     ensures scalar { (style : ScalarStyle) (text : Written) → BehindAt (Scalar style text) (lexemes.Scalar style text) }
-    ensures square { BehindAt (Open Square) (lexemes.Open lexemes.Square) }
-    ensures curly { BehindAt (Open Curly) (lexemes.Open lexemes.Curly) }
+    ensures square { BehindAt (Open Square) (lexemes.Open brackets.Square) }
+    ensures curly { BehindAt (Open Curly) (lexemes.Open brackets.Curly) }
     ensures anchor { (name : Written) → BehindAt (Property (Anchor name)) (lexemes.Anchor name) }
     ensures tag { (handle suffix : List ℕ) → BehindAt (Property (Tag handle suffix)) (lexemes.Tag handle suffix) }
 {}
