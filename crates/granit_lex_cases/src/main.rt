@@ -1,15 +1,17 @@
-//! Runs the calls that read lexemes on each case of standard input, and prints the token or the fault. A case is a
-//! line: how many characters stand before the lexeme, the column of the block around it or `-`, `block`, `flow`,
+//! Runs the calls that read lexemes on each case of standard input, and prints what they give or the fault. A case is
+//! a line: how many characters stand before the lexeme, the column of the block around it or `-`, `block`, `flow`,
 //! `strict`, `strict block` or `comment`, and the text as a JSON string; for a quoted scalar then `single` or
-//! `double` and the tab column. The stored lines are the original's tokens of the whole text, never this program's.
+//! `double` and the tab column. The stored lines are the original's tokens of the whole text; what stands behind a
+//! token on its line, and the place behind it, were counted on the text from the original's end of the token. None of
+//! it is this program's.
 #![tactic(auto)]
 
 use anyhow::{Context, Result};
-use granit_base::{Marker, ScalarStyle, is_blank_or_breakz};
+use granit_base::{Marker, Placement, ScalarStyle, is_blank_or_breakz};
 use granit_error::ScanError;
 use granit_input::{Input, StrInput};
 use granit_lex::{
-    Cursor, Layout, Token, TokenType, scan_comment, scan_plain_scalar, scan_quoted_scalar,
+    Cursor, Layout, Lexed, Token, TokenType, scan_comment, scan_plain_scalar, scan_quoted_scalar,
 };
 use serde_json::Value;
 use std::alloc::Global;
@@ -35,46 +37,54 @@ fn cursor_at<'a>(text: &'a str, index: usize) -> Cursor<StrInput<'a>> {
     cursor
 }
 
-/// The token of the lexeme that begins where the cursor stands, where one does.
-fn token_at<'a>(
+/// The comment that begins where the cursor stands, where one does.
+fn comment_at<'a>(
+    alloc: Global,
+    cursor: &mut Cursor<StrInput<'a>>,
+) -> Option<Result<Lexed<'a>, ScanError>> {
+    cursor.look(1);
+    if cursor.input().peek() != '#' {
+        return None;
+    }
+    match scan_comment(alloc, cursor) {
+        Ok(token) => {
+            Some(Ok(Lexed {
+                token,
+                comment: None,
+                cut_by_comment: None,
+                on_new_line: false,
+            }))
+        }
+        Err(error) => Some(Err(error)),
+    }
+}
+
+/// The plain scalar that begins where the cursor stands, where one does.
+fn plain_at<'a>(
     alloc: Global,
     cursor: &mut Cursor<StrInput<'a>>,
     at: &Layout,
-    comment: bool,
-) -> Option<Result<Token<'a>, ScanError>> {
+) -> Option<Result<Lexed<'a>, ScanError>> {
     cursor.look(2);
-    if comment {
-        if cursor.input().peek() != '#' {
-            return None;
-        }
-        return Some(scan_comment(alloc, cursor));
-    }
     if is_blank_or_breakz(cursor.input().peek())
         || !cursor.input().next_can_be_plain_scalar(at.in_flow)
     {
         return None;
     }
-    match scan_plain_scalar(alloc, cursor, at) {
-        Ok(lexed) => Some(Ok(lexed.token)),
-        Err(error) => Some(Err(error)),
-    }
+    Some(scan_plain_scalar(alloc, cursor, at))
 }
 
-/// The token of the quoted scalar that begins where the cursor stands, where one does.
+/// The quoted scalar that begins where the cursor stands, where one does.
 fn quoted_at<'a>(
     alloc: Global,
     cursor: &mut Cursor<StrInput<'a>>,
     at: &Layout,
-) -> Option<Result<Token<'a>, ScanError>> {
+) -> Option<Result<Lexed<'a>, ScanError>> {
     cursor.look(1);
-    let result = match cursor.input().peek() {
-        '\'' => scan_quoted_scalar(alloc, cursor, true, at),
-        '"' => scan_quoted_scalar(alloc, cursor, false, at),
-        _ => return None,
-    };
-    match result {
-        Ok(lexed) => Some(Ok(lexed.token)),
-        Err(error) => Some(Err(error)),
+    match cursor.input().peek() {
+        '\'' => Some(scan_quoted_scalar(alloc, cursor, true, at)),
+        '"' => Some(scan_quoted_scalar(alloc, cursor, false, at)),
+        _ => None,
     }
 }
 
@@ -93,9 +103,44 @@ fn token_line(alloc: Global, token: &Token<'_>) -> Result<String> {
         TokenType::Comment(comment) => ("Comment", comment.text()),
         _ => ("another token", ""),
     };
+    let placement = match token.token_type() {
+        TokenType::Comment(comment) => placement_word(comment.placement()),
+        _ => "",
+    };
     let start = place(alloc, token.span().start)?;
     let end = place(alloc, token.span().end)?;
-    Ok(format!(in alloc; "{kind} \"{}\" {start}-{end}", text.escape_default())?)
+    Ok(format!(in alloc;
+        "{kind} \"{}\" {start}-{end}{placement}",
+        text.escape_default()
+    )?)
+}
+
+/// Where a comment stands on its line.
+fn placement_word(placement: Placement) -> &'static str {
+    match placement {
+        Placement::Right => " right",
+        Placement::Free => " free",
+        _ => " elsewhere",
+    }
+}
+
+/// A lexeme, what was read behind it, and where the cursor then stands.
+fn lexeme_line(alloc: Global, lexed: &Lexed<'_>, stands: Marker) -> Result<String> {
+    let mut line = token_line(alloc, &lexed.token)?;
+    if lexed.on_new_line {
+        line.push_str(" on a new line")?;
+    }
+    if let Some(mark) = lexed.cut_by_comment {
+        line.push_str(" cut at ")?;
+        line.push_str(place(alloc, mark)?.as_str())?;
+    }
+    if let Some(comment) = &lexed.comment {
+        line.push_str(" ")?;
+        line.push_str(token_line(alloc, comment)?.as_str())?;
+    }
+    line.push_str(" then ")?;
+    line.push_str(place(alloc, stands)?.as_str())?;
+    Ok(line)
 }
 
 /// What is printed for a case.
@@ -110,12 +155,14 @@ fn case_line(alloc: Global, line: &str) -> Result<String> {
     let at = layout(column, tab_column as usize, around);
     let lexeme = if case.get(4).is_some() {
         quoted_at(alloc, &mut cursor, &at)
+    } else if around == "comment" {
+        comment_at(alloc, &mut cursor)
     } else {
-        token_at(alloc, &mut cursor, &at, around == "comment")
+        plain_at(alloc, &mut cursor, &at)
     };
     match lexeme {
         None => Ok(String::from_str(alloc, "no lexeme")?),
-        Some(Ok(token)) => token_line(alloc, &token),
+        Some(Ok(lexed)) => lexeme_line(alloc, &lexed, cursor.mark()),
         Some(Err(error)) => Ok(format!(in alloc; "fault {}: {error}", error.kind().number())?),
     }
 }
