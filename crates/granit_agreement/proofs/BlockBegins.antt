@@ -35,7 +35,7 @@ use Rattle.granit_agreement.proofs.Pops.{indent_none, node_head, indent_view}
 use Rattle.granit_agreement.proofs.Standing.{popped}
 
 -- the parser counts the same
-count_view : (fs : List OpenFrame) → machine_ends.block_count (frames_of fs) ≡ blocks_open fs
+pub count_view : (fs : List OpenFrame) → machine_ends.block_count (frames_of fs) ≡ blocks_open fs
 count_view [] = refl
 count_view (DocumentFrame m ∷ fs) = count_view fs
 count_view (PropertiesFrame p ∷ fs) = count_view fs
@@ -51,10 +51,10 @@ topped_count NoProperties fs = count_view fs
 topped_count (One k i) fs = count_view fs
 topped_count (Two k i m j) fs = count_view fs
 
-full_limit : (n d : ℕ) → nat_le n d ≡ true → nat_le (suc d) n ≡ false
+pub full_limit : (n d : ℕ) → nat_le n d ≡ true → nat_le (suc d) n ≡ false
 full_limit n d e = grind (arith, nat_tests)
 
-free_limit : (n d : ℕ) → nat_le n d ≡ false → nat_le (suc d) n ≡ true
+pub free_limit : (n d : ℕ) → nat_le n d ≡ false → nat_le (suc d) n ≡ true
 free_limit n d e = grind (arith, nat_tests)
 
 -- a collection begins behind properties
@@ -69,10 +69,10 @@ begun o p kind m f fs d h =
     ∙ ap (λ i. framed f (popped fs m (HeadGiven o p kind (empty_span m) i d.given) d))
     (indent_view fs None h ∙ indent_none (frames_indent fs))
 
-abbrev Limited : Bool → Mark → ParserState → Result ParserState Fault
+abbrev pub Limited : Bool → Mark → ParserState → Result ParserState Fault
 Limited full m q = if full then Err (fault_at refused.RecursionLimitExceeded m) else Ok q
 
-limited_by :
+pub limited_by :
     (o : OptionsData) (kind : ℕ → Option PlainTag → plain.EventKind) (m : Mark) (f : machine.Frame) (p : TreeProperties)
     (fs : List OpenFrame) (d : Beside) (full : Bool) →
     Holes fs → nat_le o.block_nesting_limit (blocks_open fs) ≡ full →

@@ -264,7 +264,7 @@ stay o x st d g f e = record {
   stays = e;
 }
 
-give_append :
+pub give_append :
     (o : OptionsData) (es more : List TreeEvent) (given : List PlainEvent) →
     give_all o (es ++ more) given ≡ give_all o more (give_all o es given)
 give_append o [] more given = refl

@@ -115,3 +115,12 @@ BehindAt m k =
     (fs : List OpenFrame) →
     Holes fs → continues_node (behind_property (frames_room fs)) p (Part m) (at_of false s (at_kind l k None)) ≡ true →
     BehindOn m k s l o last given p fs
+
+-- a step of the parser and of the grammar's machine, with what means nothing and the limit
+abbrev pub StepsLimited :
+    Bool → lexemes.LexemeKind → Option KeyStart → Scope → lexemes.Lexeme → OptionsData → Mark → List PlainEvent →
+    List OpenFrame → Type 0
+StepsLimited b k key s l o last given fs =
+    LimitView o (terminal_of b s (at_kind l k key)) (knowing s last given)
+    (take_token o (token_of b (at_kind l k key)) (state_of o (InFrames fs) (knowing s last given)))
+    (taken (ended_by (terminal_of b s (at_kind l k key)) (InFrames fs)) (terminal_of b s (at_kind l k key)))
