@@ -7,3 +7,6 @@ pub mod Choosing
 pub mod Telling
 pub mod Holding
 pub mod Moving
+pub mod KeysLaw
+pub mod Counting
+pub mod PlacesLaw
