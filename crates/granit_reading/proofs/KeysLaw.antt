@@ -73,15 +73,19 @@ pub given_moved : (o : OptionsData) (s : ReaderState) (items : List Item) (after
 given_moved o s items after sort given =
     let t = telling o (ends_column_by sort s) s.here _ sort items after given in
     let c = closed_held sort s.here s.laid in
-    let m = lexeme_moved o sort s.here (closed_for sort s.here s.laid) t.lexeme t.cut t.reached after.laid t.told t.says t.leaves in
-    (t.lexeme, t.note, t.are, record {
-      number = m.number ∙ c.0;
-      next = m.next ∙ ap Rattle.std.proofs.Common.suc c.0;
-      key = m.key;
-      new = m.new;
-      moves = subst (λ n. Rattle.granit_reading.proofs.Choosing.Moves (role_of t.lexeme.kind t.lexeme.key) m.new n (held s.laid) (held after.laid)) c.0 (subst (λ (hs : Held). Rattle.granit_reading.proofs.Choosing.Moves (role_of t.lexeme.kind t.lexeme.key) m.new (closed_for sort s.here s.laid).number hs (held after.laid)) c.1 m.moves);
-      lines = m.lines;
-    })
+    let m = lexeme_moved o sort s.here (closed_for sort s.here s.laid) t.lexeme t.cut t.reached after.laid t.told t.says t.leaves in (
+      t.lexeme,
+      t.note,
+      t.are,
+      record {
+        number = m.number ∙ c.0;
+        next = m.next ∙ ap Rattle.std.proofs.Common.suc c.0;
+        key = m.key;
+        new = m.new;
+        moves = subst (λ n. Rattle.granit_reading.proofs.Choosing.Moves (role_of t.lexeme.kind t.lexeme.key) m.new n (held s.laid) (held after.laid)) c.0 (subst (λ (hs : Held). Rattle.granit_reading.proofs.Choosing.Moves (role_of t.lexeme.kind t.lexeme.key) m.new (closed_for sort s.here s.laid).number hs (held after.laid)) c.1 m.moves);
+        lines = m.lines;
+      },
+    )
 
 read_fits : (o : OptionsData) (s : ReaderState) {items : List Item} {after : ReaderState} → Reads o s items after → Below s.laid.number (held s.laid) → ReadFits s.laid items after.laid
 read_fits o s (of_comment {comment = c} at g k) p =

@@ -10,3 +10,6 @@ pub mod Moving
 pub mod KeysLaw
 pub mod Counting
 pub mod PlacesLaw
+pub mod ColumnsKept
+pub mod ColumnsLaw
+pub mod ColumnsWhole

@@ -11,6 +11,8 @@ ghost use Rattle.std.specs.Prelude.{List, None, [], ◌∷◌};
 /// Each keyed `:` names the last lexeme at its depth that begins a key, keys nest, and what begins an
 /// entry of a block collection begins its line or follows an indicator.
 pub fn flagged_lexemes_fit()
-    ensures keys { (o : OptionsData) (h : Here) (items : List Item) (t : ReaderState) → Reached o (reader_start h) items t → ItemKeysFit (None ∷ []) (flagged items) }
-    ensures lines { (o : OptionsData) (h : Here) (items : List Item) (t : ReaderState) → Reached o (reader_start h) items t → ItemLinesFit (flagged items) }
+    ensures keys { (o : OptionsData) (h : Here) (items : List Item) (t : ReaderState) →
+        Reached o (reader_start h) items t → ItemKeysFit (None ∷ []) (flagged items) }
+    ensures lines { (o : OptionsData) (h : Here) (items : List Item) (t : ReaderState) →
+        Reached o (reader_start h) items t → ItemLinesFit (flagged items) }
 {}

@@ -10,5 +10,6 @@ ghost use Rattle.std.specs.Prelude.{List, ℕ};
 /// Each lexeme and each comment begins at a place that is counted on the whole text, with one list of
 /// byte-order marks in front of documents, which count no column.
 pub fn every_lexeme_begins_at_a_counted_place()
-    ensures { (o : OptionsData) (x : List ℕ) (items : List Item) (t : ReaderState) → Reached o (reader_start (start_of x)) items t → Counted x items }
+    ensures { (o : OptionsData) (x : List ℕ) (items : List Item) (t : ReaderState) →
+        Reached o (reader_start (start_of x)) items t → Counted x items }
 {}
