@@ -2,7 +2,7 @@
 -- (YAML 1.2.2, 5.2, 5.4).
 use Rattle.std.specs.Prelude.{◌≡◌, ℕ, suc, ◌+◌, ◌-◌, ◌<◌, ◌&&◌, nat_le, nat_lt, List, [], ◌∷◌, length, take, drop, Some}
 use Rattle.std.specs.Str.{encode_utf8_all}
-use Rattle.granit_base.specs.Place.{Mark}
+use Rattle.granit_base.specs.Place.{Mark, first}
 use Rattle.granit_lexemes.specs.Here.{Here, mark_of}
 use Rattle.granit_lexemes.specs.Lexeme.{Item, OfLexeme, OfComment}
 use Rattle.granit_lexemes.specs.Place.{one_more_if, line_ends, since_line_end}
@@ -27,14 +27,27 @@ abbrev pub AllBelow : ℕ → List ℕ → Type 0
 AllBelow i [] = Unit {0}
 AllBelow i (m ∷ ms) = (m < i) × AllBelow i ms
 
--- a reader stands at an index
+-- a reader stands at an index, behind these marks
 pub record CountedHere (x ms : List ℕ) (i : ℕ) (h : Here) : Type 0 where
   pub text : h.unread.text ≡ drop i x
   pub mark : CountedMark x ms i (mark_of h)
   pub below : AllBelow i ms
 
--- each lexeme begins at an index of the text, and marks in front of it are told
-abbrev pub StartsCounted : List ℕ → List Item → Type 0
-StartsCounted x [] = Unit {0}
-StartsCounted x (OfLexeme y ∷ is) = ((ms : List ℕ) × (i : ℕ) × CountedMark x ms i y.start × AllBelow i ms) × StartsCounted x is
-StartsCounted x (OfComment c ∷ is) = StartsCounted x is
+-- a byte-order mark stands at each of these indices, with nothing but such marks before it on its line
+abbrev pub MarksStand : List ℕ → List ℕ → List ℕ → Type 0
+MarksStand x ms [] = Unit {0}
+MarksStand x ms (i ∷ is) =
+    (first (drop i x) ≡ 0xFEFF) × (marks_on_line x ms i ≡ since_line_end x i) × MarksStand x ms is
+
+-- each lexeme begins at an index of the text, counted with the same marks
+abbrev pub StartsCounted : List ℕ → List ℕ → List Item → Type 0
+StartsCounted x ms [] = Unit {0}
+StartsCounted x ms (OfLexeme y ∷ is) = ((i : ℕ) × CountedMark x ms i y.start) × StartsCounted x ms is
+StartsCounted x ms (OfComment c ∷ is) = ((i : ℕ) × CountedMark x ms i c.source.start) × StartsCounted x ms is
+
+-- The lexemes and comments of a text begin at indices of it, and the byte-order marks in front of its documents, one
+-- list for all of them, count no column.
+pub record Counted (x : List ℕ) (items : List Item) : Type 0 where
+  pub marks : List ℕ
+  pub stand : MarksStand x marks marks
+  pub starts : StartsCounted x marks items

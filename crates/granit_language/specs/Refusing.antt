@@ -86,7 +86,8 @@ pub data Refuses (o : OptionsData) (h : Here) (l : Laid) : PlacedSort → FaultK
   -- the other kind of closer, or none to close (7.4)
   mismatched : {bracket : Bracket} {b : OpenBracket} {bs : List OpenBracket} → l.brackets ≡ b ∷ bs
       → same_bracket b.bracket bracket ≡ false
-      → Refuses o h l (CloseSign bracket) (MismatchedFlowCollectionEnd (opener_char b.bracket) (closer_char bracket)) b.mark
+      → Refuses o h l (CloseSign bracket)
+      (MismatchedFlowCollectionEnd (opener_char b.bracket) (closer_char bracket)) b.mark
   misplaced : {bracket : Bracket} → l.brackets ≡ []
       → Refuses o h l (CloseSign bracket) MisplacedFlowCollectionEnd (mark_of h)
   -- as many collections are open as may be
@@ -94,7 +95,8 @@ pub data Refuses (o : OptionsData) (h : Here) (l : Laid) : PlacedSort → FaultK
       → Refuses o h l (OpenSign bracket) RecursionLimitExceeded (mark_of h)
   dash_deep : TooMany o h.place.column l → Refuses o h l DashSign RecursionLimitExceeded (mark_of h)
   question_deep : TooMany o h.place.column l → Refuses o h l QuestionSign RecursionLimitExceeded (mark_of h)
-  colon_deep : top_key l ≡ None → TooMany o h.place.column l → Refuses o h l ColonSign RecursionLimitExceeded (mark_of h)
+  colon_deep : top_key l ≡ None → TooMany o h.place.column l
+      → Refuses o h l ColonSign RecursionLimitExceeded (mark_of h)
   key_deep : {k : PossibleKey} → top_key l ≡ Some k → TooMany o k.start.place.column l
       → Refuses o h l ColonSign RecursionLimitExceeded k.start
   -- a key without its `:` before a `,`
@@ -127,8 +129,8 @@ pub data Refuses (o : OptionsData) (h : Here) (l : Laid) : PlacedSort → FaultK
       → Refuses o h l (BlockSign literal) kind m
   in_plain : {kind : FaultKind} {m : Mark} → RefusesPlain (layout_of o h.place.column l) h kind m
       → Refuses o h l PlainSign kind m
-  in_quoted : {single : Bool} {kind : FaultKind} {m : Mark} → RefusesQuoted single (layout_of o h.place.column l) h kind m
-      → Refuses o h l (QuoteSign single) kind m
+  in_quoted : {single : Bool} {kind : FaultKind} {m : Mark}
+      → RefusesQuoted single (layout_of o h.place.column l) h kind m → Refuses o h l (QuoteSign single) kind m
   -- in the gap that the read of a quoted scalar includes
   quoted_gap : {single : Bool} {kind : FaultKind} {m : Mark} (read : QuotedRead) (end : Here)
       → AnswersQuoted single (layout_of o h.place.column l) h read end

@@ -179,6 +179,10 @@ pub record PlainLexeme (o : OptionsData) (ends : Bool) (h : Here) (l : Laid) (x 
   pub is : x ≡ lexeme_to ends (Scalar Plain read.text) read.source.end h l
   pub cuts : cut ≡ read.cut_by_comment
 
+abbrev pub quoted_lexeme_of : (single ends : Bool) → Here → Laid → QuotedRead → Lexeme
+quoted_lexeme_of single ends h l read =
+    with_tail (lexeme_to ends (Scalar (quoted_style single) read.text) read.source.end h l) read.comment
+
 -- a quoted scalar, and the gap behind it with its comment, which are read together
 pub record QuotedLexeme (o : OptionsData) (single ends : Bool) (h : Here) (l : Laid) (items : List Item)
     (after : ReaderState) : Type 0 where
@@ -188,9 +192,7 @@ pub record QuotedLexeme (o : OptionsData) (single ends : Bool) (h : Here) (l : L
   pub at : ReaderState
   pub answers : AnswersQuoted single (layout_of o h.place.column l) h read end
   pub gap : GapStands o end (behind_lexeme Adjacent l) note at
-  pub gives :
-      items ≡ OfLexeme (with_tail (lexeme_to ends (Scalar (quoted_style single) read.text) read.source.end h l) read.comment)
-      ∷ note_items note
+  pub gives : items ≡ OfLexeme (quoted_lexeme_of single ends h l read) ∷ note_items note
   pub leaves : after ≡ record { here = at.here; laid = record (at.laid) { last = adjacent_unless note } }
 
 -- ---- a lexeme of a sort

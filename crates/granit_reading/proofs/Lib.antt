@@ -7,3 +7,9 @@ pub mod Choosing
 pub mod Telling
 pub mod Holding
 pub mod Moving
+pub mod KeysLaw
+pub mod Counting
+pub mod PlacesLaw
+pub mod ColumnsKept
+pub mod ColumnsLaw
+pub mod ColumnsWhole

@@ -11,12 +11,15 @@ ghost use Rattle.std.specs.Prelude.{◌≡◌, Err, List, Ok};
 
 /// The items that are read stand in the text in this order, and the state behind them is what they say.
 pub fn what_is_read_stands()
-    ensures { (o : OptionsData) (h : Here) (items : List Item) (t : LexState) → lex o h ≡ Ok (items, t) → Reached o (reader_start h) items t.reader }
+    ensures { (o : OptionsData) (h : Here) (items : List Item) (t : LexState) →
+        lex o h ≡ Ok (items, t) →
+        Reached o (reader_start h) items t.reader }
 {}
 
 /// Reading ends behind the end of the text, or where what stands is refused, with its cause.
 pub fn every_reading_goes_to_an_end()
-    ensures { (o : OptionsData) (h : Here) (items : List Item) (t : LexState) → lex o h ≡ Ok (items, t) → EndsBy o items t.reader t.fault }
+    ensures { (o : OptionsData) (h : Here) (items : List Item) (t : LexState) →
+        lex o h ≡ Ok (items, t) → EndsBy o items t.reader t.fault }
 {}
 
 /// Reading gives items and a state for each text.
