@@ -13,7 +13,8 @@ use Rattle.granit_language.specs.Room.{Room, BehindKey, Inside, behind_property,
 use Rattle.granit_language.specs.Scope.{Scope}
 use Rattle.granit_language.specs.Terminal.{Anchor, Tag, Part, PartKind, Alias, Property, Scalar, Open, Question, Colon, Dash, At, Terminal, TerminalKind, edge}
 use Rattle.granit_language.specs.TreeEvents.{alone_event, properties_end}
-use Rattle.granit_lexemes.specs.Lexeme.{KeyStart, Square, Curly}
+use Rattle.granit_lexemes.specs.Lexeme.{KeyStart}
+use Rattle.granit_lexemes.specs.declared.layout.Bracket.TheVariants.{Square, Curly}
 use Rattle.granit_machine.specs.Frames.{ParserState}
 use Rattle.granit_machine.specs.Parser.{take_token}
 use Rattle.granit_machine.specs.TokenSort.{token_of}

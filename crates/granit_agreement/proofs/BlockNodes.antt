@@ -12,7 +12,7 @@ use Rattle.granit_language.specs.Scoping.{scope_fault}
 use Rattle.granit_language.specs.Telling.{indent_told, event_told}
 use Rattle.granit_language.specs.Terminal.{Anchor, Tag, Part, PartKind, Alias, Property, Scalar, Open, At, Terminal}
 use Rattle.granit_language.specs.TreeEvents.{TreeEvent, mapping_start}
-use Rattle.granit_lexemes.specs.Lexeme.{Square, Curly}
+use Rattle.granit_lexemes.specs.declared.layout.Bracket.TheVariants.{Square, Curly}
 use Rattle.granit_machine.specs.Frames.{ParserState}
 use Rattle.granit_machine.specs.NodeEnds.{block_mapping, begin_block, empty_span}
 use Rattle.granit_machine.specs.NodeSteps.{bare, node}

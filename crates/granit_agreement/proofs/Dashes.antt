@@ -1,5 +1,6 @@
 -- A `-`, and every other lexeme.
-use Rattle.granit_lexemes.specs.Lexeme.{KeyStart, Square, Curly}
+use Rattle.granit_lexemes.specs.Lexeme.{KeyStart}
+use Rattle.granit_lexemes.specs.declared.layout.Bracket.TheVariants.{Square, Curly}
 use Rattle.granit_machine.specs.TokenSort.{token_sort, is_dash_token}
 use Rattle.std.proofs.Common.{◌≡◌, Bool, true, false, refl, Option, Some, None}
 use Rattle.granit_lexemes.specs.Lexeme as lexemes

@@ -8,7 +8,8 @@ use Rattle.granit_language.specs.GrammarFault.{GrammarFault, UnexpectedEofImplic
 use Rattle.granit_language.specs.Node.{NoProperties}
 use Rattle.granit_language.specs.Scope.{Scope}
 use Rattle.granit_language.specs.Terminal.{Anchor, Tag, Alias, Property, Scalar, Open, Terminal, is_comma_kind, is_bare_kind, closes_kind}
-use Rattle.granit_lexemes.specs.Lexeme.{KeyStart, Square, Curly}
+use Rattle.granit_lexemes.specs.Lexeme.{KeyStart}
+use Rattle.granit_lexemes.specs.declared.layout.Bracket.TheVariants.{Square, Curly}
 use Rattle.std.proofs.Common.{◌≡◌, ℕ, suc, Bool, true, false, ◌||◌, not, List, ◌∷◌, refl, ap, Option, Some, None}
 use Rattle.std.specs.Prelude.{nat_le}
 use Rattle.granit_base.specs.Place.{Mark}

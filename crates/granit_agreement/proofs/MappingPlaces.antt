@@ -13,7 +13,8 @@ use Rattle.granit_language.specs.Scope.{Scope}
 use Rattle.granit_language.specs.Telling.{one_less}
 use Rattle.granit_language.specs.Terminal.{Anchor, Tag, Part, PartKind, Alias, Property, Scalar, Open, Question, Colon, Terminal, TerminalKind, At, terminal, stands_left, stands_in, entry_in, bare_in, is_bare_kind, begins_entry_kind}
 use Rattle.granit_language.specs.TreeEvents.{TreeEvent, null, pointed, MappingEnds}
-use Rattle.granit_lexemes.specs.Lexeme.{KeyStart, Square, Curly}
+use Rattle.granit_lexemes.specs.Lexeme.{KeyStart}
+use Rattle.granit_lexemes.specs.declared.layout.Bracket.TheVariants.{Square, Curly}
 use Rattle.granit_machine.specs.BlockSteps.{behind_indicator, next_pair, takes_node, mapping_at, mapping_colon, bare_colon_in_mapping}
 use Rattle.granit_machine.specs.Frames.{ParserState}
 use Rattle.granit_machine.specs.Giving.{put, null_at, give_empty}

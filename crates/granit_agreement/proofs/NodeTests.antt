@@ -12,7 +12,8 @@ use Rattle.granit_language.specs.Room.{room_behind, loose_fits, joins}
 use Rattle.granit_language.specs.Scope.{Scope}
 use Rattle.granit_language.specs.Telling.{one_less}
 use Rattle.granit_language.specs.Terminal.{Anchor, Tag, Part, PartKind, Alias, Property, Scalar, Open, Question, Colon, Dash, At, Terminal, TerminalKind, terminal, edge}
-use Rattle.granit_lexemes.specs.Lexeme.{Square, Curly, KeyStart}
+use Rattle.granit_lexemes.specs.Lexeme.{KeyStart}
+use Rattle.granit_lexemes.specs.declared.layout.Bracket.TheVariants.{Square, Curly}
 use Rattle.granit_machine.specs.Frames.{ParserState}
 use Rattle.granit_machine.specs.Giving.{below_properties}
 use Rattle.granit_machine.specs.NodeEnds.{may_be_indentless}

@@ -12,7 +12,8 @@ use Rattle.granit_language.specs.Room.{Room, RightOf, ValueIn, room_behind, righ
 use Rattle.granit_language.specs.Scope.{Scope}
 use Rattle.granit_language.specs.Terminal.{Anchor, Tag, Part, PartKind, Alias, Property, Scalar, Open, Question, Colon, Dash, At, Terminal, TerminalKind, terminal, edge}
 use Rattle.granit_language.specs.TreeEvents.{mapping_start, sequence_start}
-use Rattle.granit_lexemes.specs.Lexeme.{Square, Curly, KeyStart}
+use Rattle.granit_lexemes.specs.Lexeme.{KeyStart}
+use Rattle.granit_lexemes.specs.declared.layout.Bracket.TheVariants.{Square, Curly}
 use Rattle.granit_machine.specs.NodeEnds.{may_be_indentless}
 use Rattle.granit_machine.specs.NodeSteps.{bare, node, take_dash, first_dash}
 use Rattle.granit_machine.specs.TokenSort.{token_of, token_sort, begins_node}

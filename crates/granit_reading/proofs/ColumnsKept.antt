@@ -5,7 +5,9 @@ use Rattle.std.proofs.lemmas.Bool.Decides.{nat_tests}
 use Rattle.granit_base.specs.Place.{Mark}
 use Rattle.granit_lexemes.specs.Lexeme.{LexemeKind, Directive, DocumentStart, DocumentEnd, StreamEnd, Colon, KeyStart, Lexeme}
 use Rattle.granit_machine.specs.Columns.{widened, chosen_columns, up_to_column}
-use Rattle.granit_machine.specs.Laid.{PossibleKey, OpenColumn, Laid, innermost_column, is_column}
+use Rattle.granit_machine.specs.Laid.{Laid, innermost_column, is_column}
+use Rattle.granit_lexemes.specs.declared.layout.PossibleKey.{PossibleKey}
+use Rattle.granit_lexemes.specs.declared.layout.OpenColumn.{OpenColumn}
 use Rattle.granit_machine.specs.PossibleKeys.{start_of_key}
 use Rattle.granit_language.specs.OpenColumns.{start_column, EntryOf, is_outer_kind, Has, AtMost, Falls, columns_of, ColumnsSay}
 

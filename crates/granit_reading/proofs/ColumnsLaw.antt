@@ -5,10 +5,14 @@ use Rattle.granit_base.specs.Place.{Mark}
 use Rattle.granit_error.specs.OptionsData.{OptionsData}
 use Rattle.granit_lexemes.specs.Here.{Here, mark_of}
 use Rattle.granit_lexemes.specs.LayoutData.{is_left}
-use Rattle.granit_lexemes.specs.Lexeme.{Bracket, LexemeKind, Question, Colon, KeyStart, Lexeme}
+use Rattle.granit_lexemes.specs.Lexeme.{LexemeKind, Question, Colon, KeyStart, Lexeme}
+use Rattle.granit_lexemes.specs.declared.layout.Bracket.{Bracket}
 use Rattle.granit_machine.specs.Columns.{entered, pair_entered, up_to_column, closed_at, closed_all}
 use Rattle.granit_machine.specs.IndicatorLexemes.{widened_if, is_before_break}
-use Rattle.granit_machine.specs.Laid.{PossibleKey, OpenBracket, OpenColumn, Laid, is_nonempty, is_in_flow, block_column}
+use Rattle.granit_machine.specs.Laid.{Laid, is_nonempty, is_in_flow, block_column}
+use Rattle.granit_lexemes.specs.declared.layout.PossibleKey.{PossibleKey}
+use Rattle.granit_lexemes.specs.declared.layout.OpenBracket.{OpenBracket}
+use Rattle.granit_lexemes.specs.declared.layout.OpenColumn.{OpenColumn}
 use Rattle.granit_machine.specs.LexemeSort.{PlacedSort, OpenSign, CloseSign, CommaSign, DashSign, QuestionSign, ColonSign, AliasSign, AnchorSign, TagSign, BlockSign, QuoteSign, StrayMark, NoSign, PlainSign, LexemeSort, TextEnd, StartMark, EndMark, Unprintable, DirectiveSign, Placed}
 use Rattle.granit_machine.specs.PossibleKeys.{key_in, top_key, outer_key, is_allowed, new_key, key_goes_on, node_key}
 use Rattle.granit_machine.specs.Reader.{noded}

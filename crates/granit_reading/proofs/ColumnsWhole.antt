@@ -6,7 +6,9 @@ use Rattle.granit_error.specs.OptionsData.{OptionsData}
 use Rattle.granit_lexemes.specs.Comment.{CommentRead}
 use Rattle.granit_lexemes.specs.Here.{Here, mark_of}
 use Rattle.granit_lexemes.specs.Lexeme.{Lexeme, Item, OfLexeme, OfComment}
-use Rattle.granit_machine.specs.Laid.{PossibleKey, OpenColumn, Laid, is_in_flow}
+use Rattle.granit_machine.specs.Laid.{Laid, is_in_flow}
+use Rattle.granit_lexemes.specs.declared.layout.PossibleKey.{PossibleKey}
+use Rattle.granit_lexemes.specs.declared.layout.OpenColumn.{OpenColumn}
 use Rattle.granit_machine.specs.NodeLexemes.{note_items}
 use Rattle.granit_machine.specs.PossibleKeys.{is_stale, fresh_key}
 use Rattle.granit_machine.specs.ReaderState.{ReaderState, reader_start}
