@@ -138,6 +138,11 @@ fn fails_where_the_outside_does(rt: HostRuntime) {
         ..over(EVENTS, PAIR)
     };
     assert_eq!(rt; ends(&rt, later, Status::WriteFault, "StreamStar"), holds);
+    let of_nothing = Case {
+        failing_write: 1,
+        ..over(EVENTS, b"")
+    };
+    assert_eq!(rt; ends(&rt, of_nothing, Status::WriteFault, ""), holds);
 }
 
 fn plain_status(alloc: Global, bytes: Vec<u8>) -> Result<Status, NoMemory> {
@@ -150,17 +155,23 @@ fn plain_status(alloc: Global, bytes: Vec<u8>) -> Result<Status, NoMemory> {
     ))
 }
 
-fn status_of_spaces(alloc: Global, count: usize) -> Result<Status, NoMemory> {
-    plain_status(alloc, vec![in alloc; b' '; count]?)
+/// How a run over so many spaces ends, and what it writes.
+fn over_spaces(alloc: Global, count: usize) -> Result<(Status, Vec<u8>), NoMemory> {
+    let list = words(alloc, EVENTS)?;
+    let mut source = PlainSource::new(vec![in alloc; b' '; count]?);
+    let mut sink = MemorySink::new(alloc, 4096, usize::MAX, vec![in alloc; 0]?)?;
+    let status = run(alloc, &list, &mut source, &mut sink);
+    Ok((status, Vec::from_slice(alloc, sink.bytes())?))
 }
 
 #[test]
-fn stops_at_the_limit(rt: HostRuntime) {
-    assert_eq!(rt;
-        status_of_spaces(rt.alloc(), 67_108_865),
-        Ok(Status::TooLong)
-    );
-    assert_eq!(rt; status_of_spaces(rt.alloc(), 3), Ok(Status::Done));
+fn stops_at_the_limit(rt: HostRuntime) -> Result<(), Fail> {
+    let (ended, written) = over_spaces(rt.alloc(), 67_108_865)?;
+    assert_eq!(rt; ended, Status::TooLong);
+    assert_eq!(rt; written.as_slice(), b"input too long\n".as_slice());
+    let three = vec![in rt.alloc(); b' '; 3]?;
+    assert_eq!(rt; plain_status(rt.alloc(), three), Ok(Status::Done));
+    Ok(())
 }
 
 fn through_std(alloc: Global, bytes: &[u8]) -> Result<(u8, Vec<u8>), NoMemory> {
