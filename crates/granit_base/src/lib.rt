@@ -18,6 +18,3 @@ pub use owned::OwnedText;
 pub use place::{Marker, Span};
 pub use style::{Placement, ScalarStyle, StructureStyle};
 pub use text::{NoMemory, Text, TextList};
-
-#[cfg(test)]
-mod tests;

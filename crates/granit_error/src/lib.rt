@@ -13,6 +13,3 @@ pub use error::ScanError;
 pub use io::InputIoError;
 pub use kind::ErrorKind;
 pub use options::Options;
-
-#[cfg(test)]
-mod tests;

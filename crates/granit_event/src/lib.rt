@@ -6,8 +6,6 @@ mod event;
 mod laws;
 mod names;
 mod tag;
-#[cfg(test)]
-mod tests;
 
 pub use event::{Event, YamlVersion};
 pub use laws::{core_suffixes_are_named, parts_of_a_name_are_one};

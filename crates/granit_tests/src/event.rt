@@ -1,6 +1,6 @@
-//! Printed texts and rows of the tags' table, and each call once.
-use crate::{Event, Tag, YamlVersion};
+//! Events and tags: printed texts and rows of the tags' table.
 use granit_base::{Placement, ScalarStyle, StructureStyle, Text};
+use granit_event::{Event, Tag, YamlVersion};
 use std::cmp::Ordering;
 use std::hash::{DefaultHasher, Hash, Hasher};
 use std::test::Fail;
@@ -9,13 +9,17 @@ use std::test::Fail;
 fn a_core_tag_in_two_pieces_of_its_namespace(rt: HostRuntime) -> Result<(), Fail> {
     let alloc = rt.alloc();
     let tag = Tag::with_original_handle(alloc, "tag:yaml.org,2002:o", "map", "!o!")?;
-    assert_eq!(rt; tag.parts() == ("tag:yaml.org,2002:o", "map"), true);
-    assert_eq!(rt; tag.original_parts() == ("!o!", "map"), true);
+    let (handle, suffix) = tag.parts();
+    let (original_handle, original_suffix) = tag.original_parts();
+    let parts = [handle, suffix, original_handle, original_suffix];
+    assert_eq!(rt; parts, ["tag:yaml.org,2002:o", "map", "!o!", "map"]);
     let found = tag.suffix_in_namespace(alloc, "tag:yaml.org,2002:")?;
     assert_eq!(rt; found == Some(Text::borrowed("omap")), true);
     assert_eq!(rt; found.map(|text| text.is_borrowed()), Some(false));
-    assert_eq!(rt; tag.core_suffix(), None);
-    assert_eq!(rt; tag.is_custom(), true);
+    assert_eq!(rt;
+        [tag.core_suffix().is_none(), tag.is_custom()],
+        [true, true]
+    );
     assert_eq!(rt; tag.original(alloc)?.as_str(), "!o!map");
     assert_eq!(rt; tag.to_string(alloc)?.as_str(), "tag:yaml.org,2002:omap");
     assert_eq!(rt; tag.try_clone(alloc)? == tag, true);
@@ -43,8 +47,11 @@ fn core_suffixes(rt: HostRuntime) -> Result<(), Fail> {
     for (handle, suffix, want) in rows {
         let tag = Tag::new(alloc, handle, suffix)?;
         assert_eq!(rt; tag.core_suffix(), want, "at {handle} {suffix}");
-        assert_eq!(rt; tag.is_yaml_core_schema(), want.is_some());
-        assert_eq!(rt; tag.is_yaml_core_schema_tag("int"), want == Some("int"));
+        let found = [
+            tag.is_yaml_core_schema(),
+            tag.is_yaml_core_schema_tag("int"),
+        ];
+        assert_eq!(rt; found, [want.is_some(), want == Some("int")]);
     }
     Ok(())
 }
@@ -67,8 +74,8 @@ fn originals_and_printed_tags(rt: HostRuntime) -> Result<(), Fail> {
     ];
     for (handle, suffix, written, original, printed) in rows {
         let tag = Tag::with_original_handle(alloc, handle, suffix, written)?;
-        assert_eq!(rt; [tag.handle(), tag.suffix()], [handle, suffix]);
-        assert_eq!(rt; tag.original_handle(), written);
+        let parts = [tag.handle(), tag.suffix(), tag.original_handle()];
+        assert_eq!(rt; parts, [handle, suffix, written]);
         assert_eq!(rt; tag.original(alloc)?.as_str(), original);
         assert_eq!(rt; tag.to_string(alloc)?.as_str(), printed);
     }
@@ -88,17 +95,24 @@ fn tags_go_by_their_parts(rt: HostRuntime) -> Result<(), Fail> {
     let later = Tag::with_original_handle(alloc, "a", "c", "")?;
     let moved = Tag::with_original_handle(alloc, "ab", "", "!")?;
     let other = Tag::new(alloc, "a", "b")?;
-    assert_eq!(rt; one == other, false);
-    assert_eq!(rt; one == moved, false);
-    assert_eq!(rt; hash_of(&one), hash_of(&one.try_clone(alloc)?));
-    assert_eq!(rt; one.cmp(&later), Ordering::Less);
-    assert_eq!(rt; moved.cmp(&later), Ordering::Greater);
-    assert_eq!(rt; other.partial_cmp(&one), Some(Ordering::Greater));
+    let copy = one.try_clone(alloc)?;
+    assert_eq!(rt;
+        [one == other, one == moved, one == copy],
+        [false, false, true]
+    );
+    assert_eq!(rt; hash_of(&one), hash_of(&copy));
+    let orders = [
+        Some(one.cmp(&later)),
+        Some(moved.cmp(&later)),
+        other.partial_cmp(&one),
+    ];
+    let greater = Some(Ordering::Greater);
+    assert_eq!(rt; orders, [Some(Ordering::Less), greater, greater]);
     Ok(())
 }
 
 #[test]
-fn helpers_of_events(rt: HostRuntime) -> Result<(), Fail> {
+fn events_with_tags(rt: HostRuntime) -> Result<(), Fail> {
     let alloc = rt.alloc();
     let tag = Tag::new(alloc, "!", "t")?;
     let scalar = Event::Scalar(
@@ -109,28 +123,26 @@ fn helpers_of_events(rt: HostRuntime) -> Result<(), Fail> {
     );
     assert_eq!(rt; scalar.anchor_id(), Some(7));
     assert_eq!(rt; scalar.scalar() == Some(("é", ScalarStyle::Literal)), true);
-    assert_eq!(rt; scalar.tag() == Some(&tag), true);
-    assert_eq!(rt; scalar.is_node(), true);
-    assert_eq!(rt; scalar.try_clone(alloc)? == scalar, true);
+    let copy = scalar.try_clone(alloc)?;
+    let same = [scalar.tag() == Some(&tag), scalar.is_node(), copy == scalar];
+    assert_eq!(rt; same, [true; 3]);
+    Ok(())
+}
+
+#[test]
+fn events_without_tags(rt: HostRuntime) {
     let alias = Event::Alias(3);
-    assert_eq!(rt; alias.alias_id(), Some(3));
-    assert_eq!(rt; alias.anchor_id(), None);
-    assert_eq!(rt; alias.is_alias(), true);
     let anchor = Event::Anchor(4, Text::borrowed("a"));
-    assert_eq!(rt; anchor.anchor_id(), Some(4));
-    assert_eq!(rt; anchor.alias_id(), None);
-    assert_eq!(rt; anchor.is_node(), false);
     let flow = Event::MappingStart(StructureStyle::Flow, 0, None);
-    assert_eq!(rt; flow.anchor_id(), None);
-    assert_eq!(rt; flow.tag().is_none(), true);
+    let anchors = [alias.anchor_id(), anchor.anchor_id(), flow.anchor_id()];
+    assert_eq!(rt; anchors, [None, Some(4), None]);
+    assert_eq!(rt; [alias.alias_id(), anchor.alias_id()], [Some(3), None]);
     let comment = Event::Comment(Text::borrowed(" c"), Placement::Above);
-    assert_eq!(rt; comment.is_node(), false);
-    assert_eq!(rt; comment == anchor, false);
+    let nodes = [alias.is_alias(), anchor.is_node(), comment.is_node()];
+    assert_eq!(rt; nodes, [true, false, false]);
+    assert_eq!(rt; [flow.tag().is_none(), comment == anchor], [true, false]);
     let version = YamlVersion::new(1, 2);
     assert_eq!(rt; [version.major, version.minor], [1, 2]);
-    assert_eq!(rt;
-        Event::DocumentStart(true, Some(version)) == Event::DocumentStart(true, None),
-        false
-    );
-    Ok(())
+    let named = Event::DocumentStart(true, Some(version));
+    assert!(rt; named != Event::DocumentStart(true, None));
 }

@@ -1,6 +1,6 @@
-//! What no clause says: printed texts at concrete values, and each call once.
-use crate::{ErrorKind, InputIoError, Options, ScanError};
+//! Kinds, errors and options: what is printed at concrete values.
 use granit_base::{Marker, NoMemory, OwnedText, TextList};
+use granit_error::{ErrorKind, InputIoError, Options, ScanError};
 use std::alloc::{AllocError, AllocFailed, Global};
 use std::hash::{DefaultHasher, Hash, Hasher};
 use std::io;
@@ -10,33 +10,28 @@ fn own(alloc: Global, text: &str) -> Result<OwnedText, NoMemory> {
     OwnedText::from_str(alloc, text)
 }
 
+/// Whether a kind and a clone of it have that number and those words.
+fn tells(alloc: Global, kind: ErrorKind, number: u8, words: &str) -> Result<bool, NoMemory> {
+    let copy = kind.try_clone(alloc)?;
+    let printed = kind.to_string(alloc)?;
+    Ok(kind.number() == number && printed.as_str() == words && copy == kind)
+}
+
 #[test]
-fn kinds_without_parts_print_their_words(rt: HostRuntime) -> Result<(), Fail> {
-    let kinds = [
+fn kinds_without_texts_print_their_words(rt: HostRuntime) -> Result<(), Fail> {
+    let colon = "':' may not precede any of `[{` in flow mapping";
+    let bytes = "directive exceeds the configured limit of 1024 bytes";
+    let tab = "unexpected character: `\\t'";
+    let letter = "unexpected character: `\\u{e9}'";
+    let rows = [
         (ErrorKind::NoMemory, 1, "out of memory"),
-        (
-            ErrorKind::FlowMappingValueAdjacentCollection,
-            8,
-            "':' may not precede any of `[{` in flow mapping",
-        ),
+        (ErrorKind::FlowMappingValueAdjacentCollection, 8, colon),
         (
             ErrorKind::MissingIncludeResolver,
             84,
             "No include resolver set for parser stack.",
         ),
         (ErrorKind::NotBuilt, 96, "not built yet"),
-    ];
-    for (kind, number, words) in &kinds {
-        assert_eq!(rt; kind.number(), *number);
-        assert_eq!(rt; kind.to_string(rt.alloc())?.as_str(), *words);
-        assert_eq!(rt; kind.try_clone(rt.alloc())? == *kind, true);
-    }
-    Ok(())
-}
-
-#[test]
-fn kinds_with_parts_print_their_words(rt: HostRuntime) -> Result<(), Fail> {
-    let kinds = [
         (
             ErrorKind::UnclosedFlowCollection { opener: '{' },
             2,
@@ -45,32 +40,29 @@ fn kinds_with_parts_print_their_words(rt: HostRuntime) -> Result<(), Fail> {
         (
             ErrorKind::DirectiveByteLimitExceeded { limit: 1024 },
             17,
-            "directive exceeds the configured limit of 1024 bytes",
+            bytes,
         ),
-        (
-            ErrorKind::UnexpectedCharacter { character: '\t' },
-            76,
-            "unexpected character: `\\t'",
-        ),
+        (ErrorKind::UnexpectedCharacter { character: '\t' }, 76, tab),
         (
             ErrorKind::UnexpectedCharacter { character: 'é' },
             76,
-            "unexpected character: `\\u{e9}'",
+            letter,
         ),
-        (
-            ErrorKind::InputDecoding {
-                message: own(rt.alloc(), "é")?,
-            },
-            79,
-            "input decoding error: é",
-        ),
-        (ErrorKind::Custom(own(rt.alloc(), "mine")?), 81, "mine"),
     ];
-    for (kind, number, words) in &kinds {
-        assert_eq!(rt; kind.number(), *number);
-        assert_eq!(rt; kind.to_string(rt.alloc())?.as_str(), *words);
-        assert_eq!(rt; kind.try_clone(rt.alloc())? == *kind, true);
+    for (kind, number, words) in rows {
+        assert!(rt; tells(rt.alloc(), kind, number, words)?, "at {number}");
     }
+    Ok(())
+}
+
+#[test]
+fn kinds_with_texts_print_their_words(rt: HostRuntime) -> Result<(), Fail> {
+    let alloc = rt.alloc();
+    let message = own(alloc, "é")?;
+    let decoding = ErrorKind::InputDecoding { message };
+    assert!(rt; tells(alloc, decoding, 79, "input decoding error: é")?);
+    let custom = ErrorKind::Custom(own(alloc, "mine")?);
+    assert!(rt; tells(alloc, custom, 81, "mine")?);
     Ok(())
 }
 
@@ -171,21 +163,26 @@ fn is_failed_input(error: ScanError, message: &str) -> bool {
     }
 }
 
+/// Whether a failure is that of this message, and a clone prints it.
+fn is_cloned(alloc: Global, error: &InputIoError, words: &str) -> Result<bool, NoMemory> {
+    let message = own(alloc, words)?;
+    let printed = error.try_clone(alloc)?.to_string(alloc)?;
+    Ok(*error == InputIoError::from_message(message) && printed.as_str() == words)
+}
+
 #[test]
 fn failed_inputs_keep_their_message(rt: HostRuntime) -> Result<(), Fail> {
     let words = "No such file or directory (os error 2)";
     let missing = io::Error::from_raw_os_error(2);
     let error = InputIoError::from_io(rt.alloc(), &missing)?;
     assert_eq!(rt; error.message(), words);
-    assert_eq!(rt;
-        error == InputIoError::from_message(own(rt.alloc(), words)?),
-        true
-    );
-    let copy = error.try_clone(rt.alloc())?;
-    assert_eq!(rt; copy.to_string(rt.alloc())?.as_str(), words);
+    assert!(rt; is_cloned(rt.alloc(), &error, words)?);
     let error = ScanError::from_kind(Marker::new(0, 1, 0), ErrorKind::InputIo { error });
-    assert_eq!(rt; is_failed_input(error, words), true);
-    assert_eq!(rt; is_failed_input(mismatched(), words), false);
+    let failed = [
+        is_failed_input(error, words),
+        is_failed_input(mismatched(), words),
+    ];
+    assert_eq!(rt; failed, [true, false]);
     Ok(())
 }
 
@@ -203,16 +200,22 @@ fn want_of_memory_is_an_error(rt: HostRuntime) {
 
 #[test]
 fn options_begin_with_the_defaults(rt: HostRuntime) {
-    let mut set = crate::options!(flow_nesting_limit: 7, emit_comments: false);
-    assert_eq!(rt; set.flow_nesting_limit, 7);
-    assert_eq!(rt; set.emit_comments, false);
-    assert_eq!(rt; set.max_buffered_comment_events, 96);
-    assert_eq!(rt; set.simple_key_max_lookahead, 1024);
-    assert_eq!(rt; set.block_nesting_limit, 255);
-    assert_eq!(rt; set.max_directive_bytes, 1024);
-    assert_eq!(rt; set.max_reserved_directive_params, 16);
+    let mut set = granit_error::options!(flow_nesting_limit: 7, emit_comments: false);
+    let limits = [
+        set.flow_nesting_limit,
+        set.block_nesting_limit,
+        set.max_buffered_comment_events,
+        set.simple_key_max_lookahead,
+        set.max_directive_bytes,
+        set.max_reserved_directive_params,
+    ];
+    assert_eq!(rt; limits, [7, 255, 96, 1024, 1024, 16]);
+    let default = Options::default();
+    assert_eq!(rt;
+        [set.emit_comments, default.strict_indentation],
+        [false, false]
+    );
     set.set_emit_comments(true);
-    assert_eq!(rt; set == crate::options!(flow_nesting_limit: 7), true);
-    assert_eq!(rt; crate::options!() == Options::default(), true);
-    assert_eq!(rt; Options::default().strict_indentation, false);
+    assert!(rt; set == granit_error::options!(flow_nesting_limit: 7));
+    assert!(rt; granit_error::options!() == default);
 }
