@@ -1,0 +1,5 @@
+pub mod NameLemmas
+pub mod PlacedLemmas
+pub mod TagLemmas
+pub mod UriLemmas
+pub mod WordLemmas

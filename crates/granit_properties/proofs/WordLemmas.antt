@@ -1,0 +1,74 @@
+-- Words, a character at a time.
+use Rattle.std.proofs.Common.{◌≡◌, ℕ, zero, suc, ◌-◌, ◌<◌, ◌≤◌, Bool, true, false, List, [], ◌∷◌, ◌++◌, length, take, drop, refl, sym, ap, ap₂, ◌∙◌, append_assoc, arith}
+use Rattle.std.proofs.lemmas.List.{append-nil, length-take-le}
+use Rattle.granit_base.specs.Classes.{is_anchor_char, is_alpha, is_yaml_non_space, is_yaml_non_break, is_printable, is_break, is_word_char, is_digit}
+use Rattle.granit_base.specs.Place.{first}
+use Rattle.granit_lexemes.specs.Basics.{count_up_to, text_up_to}
+use Rattle.granit_lexemes.specs.Here.{Here, text_len, next_char, step, past}
+use Rattle.granit_lexemes.proofs.HereLemmas.{step_text, step_len, step_shortens, past_goes, past_stops, past_len}
+use Rattle.granit_properties.specs.declared.word.Word.{Word}
+use Rattle.granit_properties.specs.declared.word.Word.TheVariants.{Name, Alpha, NonSpace}
+use Rattle.granit_properties.specs.WordCode.{word_test}
+
+-- NUL, which a look past the end gives, is in no word
+pub no_nul : (w : Word) → word_test w 0 ≡ false
+unfolding is_anchor_char is_alpha is_word_char is_digit is_yaml_non_space is_yaml_non_break is_printable is_break
+no_nul Name = refl
+no_nul Alpha = refl
+no_nul NonSpace = refl
+
+pub some_char : (w : Word) (c : ℕ) → word_test w c ≡ true → 0 < c
+some_char w c e = by c refl
+  where
+    by : (k : ℕ) → c ≡ k → 0 < c
+    by zero z = absurd (let a : word_test w 0 ≡ true = ap (word_test w) (sym z) ∙ e in let b = no_nul w in cc)
+    by (suc k) z = omega (arith, z)
+
+none_taken : (l : List ℕ) (n : ℕ) → n ≡ 0 → take n l ≡ []
+none_taken [] n e = rw e refl
+none_taken (c ∷ l) n e = rw e refl
+
+-- nothing stands between a place and itself
+pub none_between : (h : Here) → text_up_to h h ≡ []
+none_between h = none_taken h.unread.text (count_up_to h h) (omega arith)
+
+-- how many characters stand between two places
+pub up_to_length : (h after : Here) → length (text_up_to h after) ≡ count_up_to h after
+up_to_length h after = length-take-le (count_up_to h after) h.unread.text (omega arith)
+
+take_front : (text : List ℕ) (n : ℕ) → 0 < length text → 0 < n → take n text ≡ first text ∷ take (n - 1) (drop 1 text)
+take_front [] n some more = absurd (omega arith)
+take_front (c ∷ cs) zero some more = absurd (omega arith)
+take_front (c ∷ cs) (suc n) some more = ap (λ k. c ∷ take k cs) (omega arith)
+
+-- behind a character, where a later place is not before the next
+pub up_to_more : (h after : Here) → text_len (step h) < text_len h → text_len after ≤ text_len (step h) → text_up_to h after ≡ next_char h ∷ text_up_to (step h) after
+up_to_more h after less le =
+    let one = step_len h in
+    take_front h.unread.text (count_up_to h after) (omega arith) (omega arith)
+    ∙ ap₂ (λ k (l : List ℕ). next_char h ∷ take k l) (omega (arith, one)) (sym (step_text h))
+
+-- over one character of a run, and behind the last
+pub run_on : (test : ℕ → Bool) (h : Here) → test 0 ≡ false → test (next_char h) ≡ true
+    → (past test (step h) ≡ past test h) × (text_up_to h (past test h) ≡ next_char h ∷ text_up_to (step h) (past test (step h)))
+run_on test h nul held =
+    let same = past_goes test h nul held in
+    (same, up_to_more h (past test h) (step_shortens test h nul held) (let le = past_len test (step h) in omega (arith, le, ap text_len same)) ∙ ap (λ (g : Here). next_char h ∷ text_up_to (step h) g) (sym same))
+
+pub run_ends : (test : ℕ → Bool) (h : Here) → test (next_char h) ≡ false → (past test h ≡ h) × (text_up_to h (past test h) ≡ [])
+run_ends test h failed =
+    let same = past_stops test h failed in
+    (same, ap (text_up_to h) same ∙ none_between h)
+
+-- what was taken and what is still to be taken
+pub word_on : (test : ℕ → Bool) (h now : Here) (old out more : List ℕ) → test 0 ≡ false → test (next_char now) ≡ true → more ≡ out ++ next_char now ∷ []
+    → out ++ text_up_to now (past test now) ≡ old ++ text_up_to h (past test h) → more ++ text_up_to (step now) (past test (step now)) ≡ old ++ text_up_to h (past test h)
+word_on test h now old out more nul held grown so_far =
+    ap (λ (l : List ℕ). l ++ text_up_to (step now) (past test (step now))) grown
+    ∙ append_assoc out (next_char now ∷ []) (text_up_to (step now) (past test (step now)))
+    ∙ ap (λ (l : List ℕ). out ++ l) (sym (run_on test now nul held).1)
+    ∙ so_far
+
+pub word_ends : (test : ℕ → Bool) (h now : Here) (old out : List ℕ) → test (next_char now) ≡ false
+    → out ++ text_up_to now (past test now) ≡ old ++ text_up_to h (past test h) → out ≡ old ++ text_up_to h (past test h)
+word_ends test h now old out failed so_far = sym (append-nil out) ∙ ap (λ (l : List ℕ). out ++ l) (sym (run_ends test now failed).1) ∙ so_far

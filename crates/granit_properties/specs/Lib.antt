@@ -1,0 +1,4 @@
+pub mod PropertyTokens
+pub mod TagCode
+pub mod UriCode
+pub mod WordCode
