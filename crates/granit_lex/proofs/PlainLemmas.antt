@@ -26,7 +26,7 @@ use Rattle.granit_lex.specs.PlainCode.{plain_state, inside, plain_rest, plain_wh
 use Rattle.granit_lex.specs.declared.plain.PlainParts.{PlainParts}
 use Rattle.granit_lex.specs.declared.plain.Ahead.{Ahead}
 use Rattle.granit_lex.specs.declared.plain.Ahead.TheVariants.{Blank, Break, Tab, Content, End}
-use Rattle.granit_lex.proofs.MoveLemmas.{run_begins}
+use Rattle.granit_cursor.proofs.MoveLemmas.{cleared, run_begins}
 
 -- ---- one turn, by what is next
 
@@ -125,11 +125,6 @@ turn_ends at start p h is =
 pub turn_refused : (at : LayoutData) (start : Mark) (p : PlainParts) (h : Here) → ahead_of at (plain_state p h) ≡ Tab → plain_whole at start p h ≡ fails_at TabInPlainScalar start
 turn_refused at start p h is =
     ap (with_front (string_chars p.value)) (pieces_fails plain_len (plain_turn at start) (plain_state p h) (fault_at TabInPlainScalar start) (turn_is at start (plain_state p h) Tab is))
-
--- ---- strings
-
-pub cleared : (s : String Global) → string_bytes s ≡ [] → string_chars s ≡ []
-cleared s none = ap chars none ∙ chars-nil
 
 -- nothing was read yet
 pub plain_begins : (at : LayoutData) (start : Mark) (p : PlainParts) (h : Here) → string_bytes p.value ≡ [] → plain_state p h ≡ inside h → plain_whole at start p h ≡ plain_rest at start (inside h)

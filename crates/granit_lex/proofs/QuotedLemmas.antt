@@ -21,25 +21,6 @@ use Rattle.granit_lex.specs.declared.quoted.QuotedParts.{QuotedParts}
 use Rattle.granit_lex.specs.declared.quoted.Ahead.{Ahead}
 use Rattle.granit_lex.specs.declared.quoted.Ahead.TheVariants.{Blank, Break, Content, End}
 
--- ---- blanks
-
-chosen_steps : (b : Bool) (n : ℕ) (x h : Here) → x ≡ steps n (step h) → chosen b x h ≡ steps (cond b (suc n) 0) h
-unfolding steps
-chosen_steps true n x h e = e
-chosen_steps false n x h e = refl
-
-skip_steps : (test : ℕ → Bool) (text : List ℕ) (h : Here) → text ≡ h.unread.text → skip test text h ≡ steps (run_length (starts test) text) h
-unfolding run_length steps
-skip_steps test [] h e = refl
-skip_steps test (c ∷ cs) h e =
-    let rest : cs ≡ (step h).unread.text = sym (step_text h ∙ ap (λ (text : List ℕ). drop 1 text) (sym e)) in
-    let seen : next_char h ≡ c = ap (λ (text : List ℕ). first text) (sym e) in
-    ap (λ (k : ℕ). chosen (test k) (skip test cs (step h)) h) seen ∙ chosen_steps (test c) (run_length (starts test) cs) (skip test cs (step h)) h (skip_steps test cs (step h) rest)
-
-pub steps_past : (test : ℕ → Bool) (h : Here) → steps (run_length (starts test) h.unread.text) h ≡ past test h
-unfolding past
-steps_past test h = sym (skip_steps test h.unread.text h refl)
-
 -- ---- one turn, by what is next
 
 abbrev ahead_chain : Mark → QuotedState → (a t b d e f g p c : Bool) → Result Ahead Fault

@@ -1,5 +1,2 @@
 pub mod PlainCode
 pub mod QuotedCode
-pub mod Reading
-pub mod Tokens
-pub mod Trimmed

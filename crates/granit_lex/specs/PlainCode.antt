@@ -3,6 +3,7 @@ use Rattle.std.specs.Prelude.{◌≡◌, ℕ, ◌<◌, ◌≤◌, Bool, true, fa
 use Rattle.granit_base.specs.Classes.{is_blank, is_break, is_z}
 use Rattle.granit_base.specs.Place.{Mark}
 use Rattle.granit_base.specs.Written.{string_chars}
+use Rattle.granit_base.specs.declared.style.ScalarStyle.TheVariants.{Plain}
 use Rattle.granit_error.specs.FaultKind.{FaultKind, NoMemory, PlainScalarStartsWithDashFlowIndicator, TabInPlainScalar, UnexpectedCharacter}
 use Rattle.granit_error.specs.Refused.{Refused}
 use Rattle.granit_lexemes.specs.Here.{Here, next_char, mark_of}
@@ -11,13 +12,30 @@ use Rattle.granit_lexemes.specs.Outcome.{Fault, Fails}
 use Rattle.granit_lexemes.specs.Pieces.{with_front, pieces}
 use Rattle.granit_lexemes.specs.Basics.{fails_at, only_printable, unprintable}
 use Rattle.granit_lexemes.specs.PlainScalar.{PlainState, PlainRead, is_content, between, on_content, on_blank, on_break, meets_comment, ends_before_line, plain_turn, plain_len, behind_plain}
+use Rattle.granit_cursor.specs.Tokens.{scalar_token}
+use Rattle.granit_cursor.specs.declared.token.Lexed.{Lexed}
 use Rattle.granit_lex.specs.declared.plain.PlainParts.{PlainParts}
 use Rattle.granit_lex.specs.declared.plain.Ahead.{Ahead}
 use Rattle.granit_lex.specs.declared.plain.Ahead.TheVariants.{Blank, Break, Tab, Content, End}
 
+-- a plain scalar, behind which no comment is read
+abbrev pub plain_lexed : PlainRead → Lexed
+plain_lexed r = record {
+  token = scalar_token Plain r.text r.source;
+  comment = None;
+  cut_by_comment = r.cut_by_comment;
+  on_new_line = r.on_new_line;
+}
+
 -- where reading stands, by what the code holds
 abbrev pub plain_state : PlainParts → Here → PlainState
-plain_state p h = record { here = h; end = p.end; pending = string_chars p.pending; on_new_line = p.on_new_line; left_tab = p.left_tab }
+plain_state p h = record {
+  here = h;
+  end = p.end;
+  pending = string_chars p.pending;
+  on_new_line = p.on_new_line;
+  left_tab = p.left_tab;
+}
 
 -- directly behind a character of content
 abbrev pub inside : Here → PlainState
@@ -63,9 +81,11 @@ TurnTakes (Ok false) old new = new ≤ old
 TurnTakes (Err e) old new = new ≤ old
 
 -- a turn goes on with the same whole, or that is all of it
-abbrev pub TurnsTo : LayoutData → Mark → Result Bool Refused → (Here → Type 0) → PlainParts → Result (List ℕ × PlainState) Fault → Type 0
+abbrev pub TurnsTo : LayoutData → Mark → Result Bool Refused → (Here → Type 0) → PlainParts
+    → Result (List ℕ × PlainState) Fault → Type 0
 TurnsTo at start (Ok true) Lands p before = (now : Here) × Lands now × (plain_whole at start p now ≡ before)
-TurnsTo at start (Ok false) Lands p before = (now : Here) × Lands now × (before ≡ Ok (string_chars p.value, plain_state p now))
+TurnsTo at start (Ok false) Lands p before =
+    (now : Here) × Lands now × (before ≡ Ok (string_chars p.value, plain_state p now))
 TurnsTo at start (Err e) Lands p before = Fails e before
 
 -- what was read is all of it

@@ -1,23 +1,55 @@
 -- How the code reads a quoted scalar: a character of content a turn.
-use Rattle.std.specs.Prelude.{◌≡◌, ℕ, ◌==◌, Bool, true, false, ◌&&◌, ◌||◌, not, if◌then◌else◌, List, [], ◌∷◌, ◌++◌, slice_index, Option, Some, None, Result, Ok, Err}
+use Rattle.std.specs.Prelude.{◌≡◌, ◌⊎◌, ℕ, ◌==◌, Bool, true, false, ◌&&◌, ◌||◌, not, if◌then◌else◌, List, [], ◌∷◌, ◌++◌, slice_index, Option, Some, None, Result, Ok, Err}
+use Rattle.std.specs.Option.{option_map}
 use Rattle.granit_base.specs.Classes.{is_blank, is_break, is_printable}
 use Rattle.granit_base.specs.Place.{Mark}
 use Rattle.granit_base.specs.Written.{string_chars}
 use Rattle.granit_error.specs.FaultKind.{FaultKind, NoMemory, InvalidIndentation, UnclosedQuotedScalar, DocumentIndicatorInQuotedScalar, TabInIndentation, InvalidQuotedScalarIndent, InvalidTrailingSingleQuotedScalar, InvalidTrailingDoubleQuotedScalar, UnknownQuotedScalarEscape, InvalidQuotedScalarHexEscape, MissingLowSurrogate, InvalidLowSurrogateHexEscape, InvalidLowSurrogate, UnpairedLowSurrogate, InvalidUnicodeEscape, CommentNotSeparated, UnexpectedCharacter}
 use Rattle.granit_error.specs.Refused.{Refused}
+use Rattle.granit_lexemes.specs.Comment.{comment}
 use Rattle.granit_lexemes.specs.Here.{Here, text_len, next_char, mark_of, step}
 use Rattle.granit_lexemes.specs.LayoutData.{LayoutData}
 use Rattle.granit_lexemes.specs.Outcome.{Fault, Fails, ◌>>=◌}
 use Rattle.granit_lexemes.specs.Pieces.{with_front}
-use Rattle.granit_lexemes.specs.Basics.{fails_at, is_document_mark}
-use Rattle.granit_lexemes.specs.QuotedScalar.{QuotedState, is_closing, is_tab_left, is_strictly_left, is_loosely_left, escape_or, between_quoted, quoted_at, over_blank, over_break, quoted_content, quoted_rest}
+use Rattle.granit_lexemes.specs.Basics.{fails_at, is_document_mark, owned}
+use Rattle.granit_lexemes.specs.QuotedScalar.{QuotedRead, quoted_style, asked_comment, QuotedState, is_closing, is_tab_left, is_strictly_left, is_loosely_left, escape_or, between_quoted, quoted_at, over_blank, over_break, quoted_content, quoted_rest}
+use Rattle.granit_cursor.specs.Tokens.{comment_token, scalar_token}
+use Rattle.granit_cursor.specs.declared.token.Lexed.{Lexed}
+use Rattle.granit_cursor.specs.declared.token.Token.{Token}
 use Rattle.granit_lex.specs.declared.quoted.QuotedParts.{QuotedParts}
 use Rattle.granit_lex.specs.declared.quoted.Ahead.{Ahead}
 use Rattle.granit_lex.specs.declared.quoted.Ahead.TheVariants.{Blank, Break, Content, End}
 
+-- a quoted scalar, with the comment behind it
+abbrev pub quoted_lexed : Bool → QuotedRead → Lexed
+quoted_lexed single r = record {
+  token = scalar_token (quoted_style single) r.text r.source;
+  comment = option_map comment_token r.comment;
+  cut_by_comment = None;
+  on_new_line = r.on_new_line;
+}
+
+-- the same by its parts
+abbrev pub quoted_with : Bool → Mark → List ℕ → Mark → Option Token → Lexed
+quoted_with single start value end noted = record {
+  token = scalar_token (quoted_style single) (owned value) (record { start = start; end = end });
+  comment = noted;
+  cut_by_comment = None;
+  on_new_line = false;
+}
+
+-- the comment that begins here, where comments are asked for
+abbrev pub asked : LayoutData → Here → Result (Option Token × Here) Fault
+asked at h = comment h >>= λ x. Ok (option_map comment_token (asked_comment at x.0), x.1)
+
 -- where reading stands, by what the code holds
 abbrev pub quoted_state : QuotedParts → Here → QuotedState
-quoted_state p h = record { here = h; pending = string_chars p.pending; on_new_line = p.on_new_line; escaped = p.escaped }
+quoted_state p h = record {
+  here = h;
+  pending = string_chars p.pending;
+  on_new_line = p.on_new_line;
+  escaped = p.escaped;
+}
 
 -- the same behind what was read
 abbrev pub quoted_whole : Bool → LayoutData → Mark → QuotedParts → Here → Result (List ℕ × QuotedState) Fault
@@ -27,14 +59,19 @@ quoted_whole single at start p h = with_front (string_chars p.value) (quoted_res
 unfoldable pub quoted_ahead : Bool → LayoutData → Mark → QuotedState → Result Ahead Fault
 quoted_ahead single at start s =
     if is_blank (next_char s.here) then
-    (if s.on_new_line && (next_char s.here == 0x09 && is_tab_left at s.here.place.column) then fails_at TabInIndentation (mark_of s.here)
+    (if s.on_new_line && (next_char s.here == 0x09 && is_tab_left at s.here.place.column)
+        then fails_at TabInIndentation (mark_of s.here)
     else Ok Blank)
     else if is_break (next_char s.here) then Ok Break
-    else if s.on_new_line && is_strictly_left at s.escaped s.here.place.column then fails_at InvalidIndentation (mark_of s.here)
-    else if s.on_new_line && is_loosely_left at s.escaped (is_closing single s.here.unread.text) s.here.place.column then fails_at InvalidQuotedScalarIndent (mark_of s.here)
-    else if s.on_new_line && (s.here.place.column == 0 && is_document_mark s.here.unread.text) then fails_at DocumentIndicatorInQuotedScalar start
+    else if s.on_new_line && is_strictly_left at s.escaped s.here.place.column
+        then fails_at InvalidIndentation (mark_of s.here)
+    else if s.on_new_line && is_loosely_left at s.escaped (is_closing single s.here.unread.text) s.here.place.column
+        then fails_at InvalidQuotedScalarIndent (mark_of s.here)
+    else if s.on_new_line && (s.here.place.column == 0 && is_document_mark s.here.unread.text)
+        then fails_at DocumentIndicatorInQuotedScalar start
     else if text_len s.here == 0 then fails_at UnclosedQuotedScalar start
-    else if not (is_printable (next_char s.here)) then fails_at (UnexpectedCharacter (next_char s.here)) (mark_of s.here)
+    else if not (is_printable (next_char s.here))
+        then fails_at (UnexpectedCharacter (next_char s.here)) (mark_of s.here)
     else if is_closing single s.here.unread.text then Ok End
     else Ok Content
 
@@ -74,15 +111,20 @@ escapes None = true
 escapes (Some c) = false
 
 -- content was taken, behind what stands before it
-abbrev pub TakesContent : Result (Unit {0}) Refused → (Here → Type 0) → (old : List ℕ) → QuotedState → QuotedParts → Result (Option ℕ × Here) Fault → Type 0
+abbrev pub TakesContent : Result (Unit {0}) Refused → (Here → Type 0) → (old : List ℕ) → QuotedState → QuotedParts
+    → Result (Option ℕ × Here) Fault → Type 0
 TakesContent (Ok u) Lands old s p given =
-    (now : Here) × (x : Option ℕ) × Lands now × (given ≡ Ok (x, now)) × (string_chars p.value ≡ (old ++ between_quoted s) ++ added x) × (quoted_state p now ≡ quoted_at (escapes x) now)
+    (now : Here) × (x : Option ℕ) × Lands now × (given ≡ Ok (x, now))
+    × (string_chars p.value ≡ (old ++ between_quoted s) ++ added x) × (quoted_state p now ≡ quoted_at (escapes x) now)
 TakesContent (Err e) Lands old s p given = Fails e given
 
 -- a turn goes on with the same whole, or that is all of it
-abbrev pub QuotedTurnsTo : Bool → LayoutData → Mark → Result Bool Refused → (Here → Type 0) → QuotedParts → Result (List ℕ × QuotedState) Fault → Type 0
-QuotedTurnsTo single at start (Ok true) Lands p before = (now : Here) × Lands now × (quoted_whole single at start p now ≡ before)
-QuotedTurnsTo single at start (Ok false) Lands p before = (now : Here) × Lands now × (before ≡ Ok (string_chars p.value, quoted_state p now))
+abbrev pub QuotedTurnsTo : Bool → LayoutData → Mark → Result Bool Refused → (Here → Type 0) → QuotedParts
+    → Result (List ℕ × QuotedState) Fault → Type 0
+QuotedTurnsTo single at start (Ok true) Lands p before =
+    (now : Here) × Lands now × (quoted_whole single at start p now ≡ before)
+QuotedTurnsTo single at start (Ok false) Lands p before =
+    (now : Here) × Lands now × (before ≡ Ok (string_chars p.value, quoted_state p now))
 QuotedTurnsTo single at start (Err e) Lands p before = Fails e before
 
 -- what was read is all of it
@@ -95,23 +137,25 @@ abbrev pub hex_refusal : Bool → FaultKind
 hex_refusal true = InvalidLowSurrogateHexEscape
 hex_refusal false = InvalidQuotedScalarHexEscape
 
--- the kinds that a quoted scalar is refused by
+-- the kinds that a quoted scalar is refused by, want of memory apart
+abbrev pub IsQuotedFault : FaultKind → Type 0
+IsQuotedFault InvalidIndentation = Unit {0}
+IsQuotedFault UnclosedQuotedScalar = Unit {0}
+IsQuotedFault DocumentIndicatorInQuotedScalar = Unit {0}
+IsQuotedFault TabInIndentation = Unit {0}
+IsQuotedFault InvalidQuotedScalarIndent = Unit {0}
+IsQuotedFault InvalidTrailingSingleQuotedScalar = Unit {0}
+IsQuotedFault InvalidTrailingDoubleQuotedScalar = Unit {0}
+IsQuotedFault UnknownQuotedScalarEscape = Unit {0}
+IsQuotedFault InvalidQuotedScalarHexEscape = Unit {0}
+IsQuotedFault MissingLowSurrogate = Unit {0}
+IsQuotedFault InvalidLowSurrogateHexEscape = Unit {0}
+IsQuotedFault InvalidLowSurrogate = Unit {0}
+IsQuotedFault UnpairedLowSurrogate = Unit {0}
+IsQuotedFault InvalidUnicodeEscape = Unit {0}
+IsQuotedFault CommentNotSeparated = Unit {0}
+IsQuotedFault (UnexpectedCharacter c) = Unit {0}
+IsQuotedFault _ = ⊥
+
 abbrev pub IsQuotedKind : FaultKind → Type 0
-IsQuotedKind NoMemory = Unit {0}
-IsQuotedKind InvalidIndentation = Unit {0}
-IsQuotedKind UnclosedQuotedScalar = Unit {0}
-IsQuotedKind DocumentIndicatorInQuotedScalar = Unit {0}
-IsQuotedKind TabInIndentation = Unit {0}
-IsQuotedKind InvalidQuotedScalarIndent = Unit {0}
-IsQuotedKind InvalidTrailingSingleQuotedScalar = Unit {0}
-IsQuotedKind InvalidTrailingDoubleQuotedScalar = Unit {0}
-IsQuotedKind UnknownQuotedScalarEscape = Unit {0}
-IsQuotedKind InvalidQuotedScalarHexEscape = Unit {0}
-IsQuotedKind MissingLowSurrogate = Unit {0}
-IsQuotedKind InvalidLowSurrogateHexEscape = Unit {0}
-IsQuotedKind InvalidLowSurrogate = Unit {0}
-IsQuotedKind UnpairedLowSurrogate = Unit {0}
-IsQuotedKind InvalidUnicodeEscape = Unit {0}
-IsQuotedKind CommentNotSeparated = Unit {0}
-IsQuotedKind (UnexpectedCharacter c) = Unit {0}
-IsQuotedKind _ = ⊥
+IsQuotedKind kind = (kind ≡ NoMemory) ⊎ IsQuotedFault kind

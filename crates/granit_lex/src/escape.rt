@@ -2,13 +2,12 @@
 ghost use Rattle.std.specs.Prelude.{◌≡◌, ◌≤◌, IsTrue, IfErr};
 ghost use Rattle.granit_error.specs.Kinds.{kind_of};
 ghost use Rattle.granit_lexemes.specs.Decoding as decoding;
-ghost use Rattle.granit_lexemes.specs.Here.{Here};
 ghost use Rattle.granit_lexemes.specs.QuotedScalar as spec;
-ghost use Rattle.granit_lex.specs.QuotedCode.{hex_refusal, IsQuotedKind};
-ghost use Rattle.granit_lex.specs.Reading.{Stands, Moves, GivesTo};
+ghost use Rattle.granit_cursor.specs.Reading.{Moves, ReadsAs};
+ghost use Rattle.granit_lex.specs.QuotedCode.{hex_refusal, IsQuotedFault};
 
-use crate::cursor::Cursor;
 use granit_base::{Marker, as_hex, is_hex};
+use granit_cursor::Cursor;
 use granit_error::{ErrorKind, ScanError};
 use granit_input::Input;
 use granit_lexemes::{
@@ -18,7 +17,7 @@ use granit_lexemes::{
 /// Why a missing digit is refused: one of a second half, or another.
 fn hex_kind(second: bool) -> ErrorKind
     ensures kind { kind_of result ≡ hex_refusal second }
-    ensures known { IsQuotedKind (kind_of result) }
+    ensures known { IsQuotedFault (kind_of result) }
 {
     if second {
         return ErrorKind::InvalidLowSurrogateHexEscape;
@@ -34,8 +33,8 @@ fn digits<T: Input>(
     count: u32,
 ) -> Result<u32, ScanError>
     requires { count ≤ 8 }
-    ensures here { (h : Here) → Stands T.unread cursor.old h → GivesTo (λ n. n) result (Stands T.unread cursor.new) (spec.digits_or (hex_refusal second) start count 0 h) }
-    ensures kinds { IfErr result (λ e. IsQuotedKind e.kind) }
+    ensures here { ReadsAs T.unread cursor.old cursor.new result (spec.digits_or (hex_refusal second) start count 0) }
+    ensures kinds { IfErr result (λ e. IsQuotedFault e.kind) }
     ensures moves { Moves T.left T.origin cursor.old cursor.new }
 {
     let mut number: u32 = 0;
@@ -59,8 +58,8 @@ fn second_half<T: Input>(
     high: u32,
 ) -> Result<char, ScanError>
     requires { IsTrue (decoding.is_high high) }
-    ensures here { (h : Here) → Stands T.unread cursor.old h → GivesTo (λ c. c) result (Stands T.unread cursor.new) (spec.second_half_or start high h) }
-    ensures kinds { IfErr result (λ e. IsQuotedKind e.kind) }
+    ensures here { ReadsAs T.unread cursor.old cursor.new result (spec.second_half_or start high) }
+    ensures kinds { IfErr result (λ e. IsQuotedFault e.kind) }
     ensures moves { Moves T.left T.origin cursor.old cursor.new }
 {
     cursor.look(2);
@@ -84,8 +83,8 @@ fn numbered<T: Input>(
     count: u32,
     number: u32,
 ) -> Result<char, ScanError>
-    ensures here { (h : Here) → Stands T.unread cursor.old h → GivesTo (λ c. c) result (Stands T.unread cursor.new) (spec.numbered_or start count number h) }
-    ensures kinds { IfErr result (λ e. IsQuotedKind e.kind) }
+    ensures here { ReadsAs T.unread cursor.old cursor.new result (spec.numbered_or start count number) }
+    ensures kinds { IfErr result (λ e. IsQuotedFault e.kind) }
     ensures moves { Moves T.left T.origin cursor.old cursor.new }
 {
     match char::from_u32(number) {
@@ -101,8 +100,8 @@ fn numbered<T: Input>(
 /// The character that an escape stands for, from its letter on (YAML 1.2.2, 5.7).
 #[tactic(auto, unfolding(granit_lexemes::specs::QuotedScalar::escape_or))]
 pub(crate) fn escape<T: Input>(cursor: &mut Cursor<T>, start: Marker) -> Result<char, ScanError>
-    ensures here { (h : Here) → Stands T.unread cursor.old h → GivesTo (λ c. c) result (Stands T.unread cursor.new) (spec.escape_or start h) }
-    ensures kinds { IfErr result (λ e. IsQuotedKind e.kind) }
+    ensures here { ReadsAs T.unread cursor.old cursor.new result (spec.escape_or start) }
+    ensures kinds { IfErr result (λ e. IsQuotedFault e.kind) }
     ensures moves { Moves T.left T.origin cursor.old cursor.new }
 {
     cursor.look(1);

@@ -1,22 +1,15 @@
-//! Lexemes: tokens, and a cursor that reads them from an input.
+//! Scalars on any number of lines, plain and quoted, are read from an input by a cursor.
 #![tactic(auto)]
 
-mod comment;
-mod comments;
-mod cursor;
 mod escape;
 mod plain;
 mod quoted;
-mod token;
 
-pub use comment::Comment;
-pub use comments::{scan_comment, skip_comment};
-pub use cursor::Cursor;
+pub use granit_cursor::{
+    Comment, Cursor, Layout, Lexed, Token, TokenType, scan_comment, skip_comment,
+};
 pub use plain::scan_plain_scalar;
 pub use quoted::scan_quoted_scalar;
-pub use token::{Layout, Lexed, Token, TokenType};
 
-#[cfg(test)]
-mod quoted_tests;
 #[cfg(test)]
 mod tests;

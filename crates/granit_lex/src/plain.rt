@@ -4,20 +4,19 @@ ghost use Rattle.granit_base.specs.Written.{string_chars};
 ghost use Rattle.granit_error.specs.FaultKind.{NoMemory as OutOfMemory, PlainScalarStartsWithDashFlowIndicator, TabInPlainScalar, UnexpectedCharacter};
 ghost use Rattle.granit_input.specs.Runs.{run_length, is_plain_at};
 ghost use Rattle.granit_lexemes.specs.Here.{Here, next_char, mark_of, step};
-ghost use Rattle.granit_lexemes.specs.LayoutData as layout;
+ghost use Rattle.granit_lexemes.specs.Basics as basics;
 ghost use Rattle.granit_lexemes.specs.Moves.{steps};
 ghost use Rattle.granit_lexemes.specs.PlainExtent as extent;
 ghost use Rattle.granit_lexemes.specs.PlainScalar as spec;
-ghost use Rattle.granit_lex.specs.PlainCode.{plain_state, inside, plain_rest, plain_whole, ahead_of, TakesSome, TurnTakes, TurnsTo, PartsTo, ended_plain, IsPlainKind};
-ghost use Rattle.granit_lex.specs.Reading.{Stands, Moves, GivesTo, coded};
-ghost use Rattle.granit_lex.specs.Tokens.{layout_data, plain_lexed};
+ghost use Rattle.granit_cursor.specs.Reading.{Stands, Moves, Wherever, ReadsAs, AnswersAs, RefusedFor, coded};
+ghost use Rattle.granit_cursor.specs.Tokens.{layout_data};
+ghost use Rattle.granit_lex.specs.PlainCode.{plain_lexed, plain_state, inside, plain_rest, plain_whole, ahead_of, TakesSome, TurnTakes, TurnsTo, PartsTo, ended_plain, IsPlainKind};
 
-use crate::cursor::Cursor;
-use crate::token::{Layout, Lexed, Token, TokenType};
 use granit_base::{
     Marker, NoMemory, ScalarStyle, Span, Text, find_non_printable, is_at_end, is_blank,
     is_blank_or_breakz, is_break, is_flow, is_printable, is_z, push_char, push_text,
 };
+use granit_cursor::{Cursor, Layout, Lexed, Token, TokenType, drop_blanks, past_break};
 use granit_error::{ErrorKind, ScanError};
 use granit_input::{BorrowedInput, Input};
 use std::alloc::Global;
@@ -37,10 +36,13 @@ pub fn scan_plain_scalar<'input, T: BorrowedInput<'input>>(
     at: &Layout,
 ) -> Result<Lexed<'input>, ScanError>
     requires { (h : Here) → Stands T.unread cursor.old h → spec.is_content at.now.in_flow h.unread.text ≡ true }
-    ensures here { (h : Here) → Stands T.unread cursor.old h → GivesTo (λ l. l) result (Stands T.unread cursor.new) (coded plain_lexed (spec.plain_scalar (layout_data at.now) h)) }
-    ensures scalar { (h : Here) → Stands T.unread cursor.old h → IfOk result (λ l. (read : spec.PlainRead) × (after : Here) × extent.AnswersPlain (layout_data at.now) h read after × (l ≡ plain_lexed read) × Stands T.unread cursor.new after) }
-    ensures cause { (h : Here) → Stands T.unread cursor.old h → IfErr result (λ e. (e.kind ≡ OutOfMemory) ⊎ (extent.RefusesPlain (layout_data at.now) h e.kind e.mark × (e.sources ≡ []))) }
-    ensures answered { (h : Here) (read : spec.PlainRead) (after : Here) → Stands T.unread cursor.old h → extent.AnswersPlain (layout_data at.now) h read after → IfErr result (λ e. e.kind ≡ OutOfMemory) }
+    ensures here { ReadsAs T.unread cursor.old cursor.new result (λ h.
+        coded plain_lexed (spec.plain_scalar (layout_data at.now) h)) }
+    ensures scalar { AnswersAs T.unread cursor.old cursor.new result plain_lexed
+        (extent.AnswersPlain (layout_data at.now)) }
+    ensures cause { RefusedFor T.unread cursor.old result (extent.RefusesPlain (layout_data at.now)) }
+    ensures answered { (h : Here) (read : spec.PlainRead) (after : Here) → Stands T.unread cursor.old h
+        → extent.AnswersPlain (layout_data at.now) h read after → IfErr result (λ e. e.kind ≡ OutOfMemory) }
     ensures kinds { IfErr result (λ e. IsPlainKind e.kind) }
     ensures moves { Moves T.left T.origin cursor.old cursor.new }
 {
@@ -74,19 +76,10 @@ enum Ahead {
     End,
 }
 
-/// Whether a column is left of where a node may stand.
-pub(crate) fn is_left(block_column: Option<usize>, column: usize) -> bool
-    ensures { result ≡ layout.is_left block_column column }
-{
-    match block_column {
-        None => false,
-        Some(n) => column <= n,
-    }
-}
-
 /// Whether the next character is a `#` that cuts the scalar short.
 fn meets_comment(c: char, parts: &PlainParts) -> bool
-    ensures { result ≡ (c == 0x23 && (parts.now.left_tab || (not parts.now.on_new_line && not (length (string_chars parts.now.pending) == 0)))) }
+    ensures { result ≡ (c == 0x23
+        && (parts.now.left_tab || (not parts.now.on_new_line && not (length (string_chars parts.now.pending) == 0)))) }
 {
     c == '#' && (parts.left_tab || (!parts.on_new_line && !is_at_end(parts.pending.as_str())))
 }
@@ -98,14 +91,15 @@ fn ends_before_line<T: Input>(cursor: &Cursor<T>, at: &Layout) -> bool
 {
     let column = cursor.mark().col();
     cursor.input().peek() == '#'
-        || ((!at.in_flow || at.strict) && is_left(at.block_column, column))
+        || ((!at.in_flow || at.strict) && at.is_left(column))
         || (column == 0 && cursor.input().next_is_document_indicator())
 }
 
 /// What stands next.
 #[tactic(auto, using(granit_input::proofs::RunLemmas::blank_some, granit_input::proofs::RunLemmas::break_some, granit_input::proofs::RunLemmas::blank_or_breakz_some))]
 fn look_ahead<T: Input>(cursor: &mut Cursor<T>, at: &Layout, parts: &PlainParts) -> Ahead
-    ensures here { (h : Here) → Stands T.unread cursor.old h → Stands T.unread cursor.new h × (result ≡ ahead_of (layout_data at.now) (plain_state parts.now h)) }
+    ensures here { Wherever T.unread cursor.old cursor.new (λ h Lands. Lands h
+        × (result ≡ ahead_of (layout_data at.now) (plain_state parts.now h))) }
     ensures some { TakesSome result (0 < T.left cursor.new.input) }
     ensures moves { Moves T.left T.origin cursor.old cursor.new }
 {
@@ -139,7 +133,8 @@ fn take_blank<T: Input>(
     at: &Layout,
     parts: &mut PlainParts,
 ) -> Result<(), NoMemory>
-    ensures here { (h : Here) → Stands T.unread cursor.old h → OnOk result (Stands T.unread cursor.new (step h) × (plain_state parts.new (step h) ≡ spec.on_blank (layout_data at.now) (plain_state parts.old h))) }
+    ensures here { Wherever T.unread cursor.old cursor.new (λ h Lands. OnOk result (Lands (step h)
+        × (plain_state parts.new (step h) ≡ spec.on_blank (layout_data at.now) (plain_state parts.old h)))) }
     ensures value { string_chars parts.new.value ≡ string_chars parts.old.value }
     ensures left { OnOk result (T.left cursor.new.input ≤ T.left cursor.old.input - 1) }
     ensures moves { Moves T.left T.origin cursor.old cursor.new }
@@ -147,7 +142,7 @@ fn take_blank<T: Input>(
     cursor.look(1);
     let c = cursor.input().peek();
     if parts.on_new_line {
-        let left = is_left(at.block_column, cursor.mark().col());
+        let left = at.is_left(cursor.mark().col());
         parts.left_tab = parts.left_tab || c == '\t' && left;
         cursor.step();
         return Ok(());
@@ -160,7 +155,8 @@ fn take_blank<T: Input>(
 /// A break on: blanks before the first are dropped, and each further one is an empty line.
 #[tactic(auto, unfolding(granit_lexemes::specs::PlainScalar::on_break))]
 fn take_break<T: Input>(cursor: &mut Cursor<T>, parts: &mut PlainParts) -> Result<(), NoMemory>
-    ensures here { (h : Here) → Stands T.unread cursor.old h → OnOk result (Stands T.unread cursor.new (spec.past_break h) × (plain_state parts.new (spec.past_break h) ≡ spec.on_break (plain_state parts.old h))) }
+    ensures here { Wherever T.unread cursor.old cursor.new (λ h Lands. OnOk result (Lands (basics.past_break h)
+        × (plain_state parts.new (basics.past_break h) ≡ spec.on_break (plain_state parts.old h)))) }
     ensures value { string_chars parts.new.value ≡ string_chars parts.old.value }
     ensures left { OnOk result (T.left cursor.new.input ≤ T.left cursor.old.input - 1) }
     ensures moves { Moves T.left T.origin cursor.old cursor.new }
@@ -177,33 +173,10 @@ fn take_break<T: Input>(cursor: &mut Cursor<T>, parts: &mut PlainParts) -> Resul
     Ok(())
 }
 
-/// Blanks before a break are no part of the value (YAML 1.2.2, 6.5).
-#[tactic(auto, using(crate::proofs::PlainLemmas::cleared))]
-pub(crate) fn drop_blanks(blanks: &mut String)
-    ensures { string_chars blanks.new ≡ [] }
-{
-    blanks.clear();
-}
-
-/// Behind a break, which CR LF is too (YAML 1.2.2, 5.4).
-#[tactic(auto, unfolding(granit_lexemes::specs::Basics::past_break))]
-pub(crate) fn past_break<T: Input>(cursor: &mut Cursor<T>)
-    ensures here { (h : Here) → Stands T.unread cursor.old h → Stands T.unread cursor.new (spec.past_break h) }
-    ensures left { T.left cursor.new.input ≤ T.left cursor.old.input - 1 }
-    ensures moves { Moves T.left T.origin cursor.old cursor.new }
-{
-    cursor.look(2);
-    if cursor.input().next_2_are('\r', '\n') {
-        cursor.step();
-        cursor.step();
-        return;
-    }
-    cursor.step();
-}
-
 /// Appends what stands for the blanks and breaks between two characters of content (YAML 1.2.2, 6.5).
 fn push_between(parts: &mut PlainParts) -> Result<(), NoMemory>
-    ensures value { (h : Here) → OnOk result (string_chars parts.new.value ≡ string_chars parts.old.value ++ spec.between (plain_state parts.old h)) }
+    ensures value { (h : Here) → OnOk result (string_chars parts.new.value
+        ≡ string_chars parts.old.value ++ spec.between (plain_state parts.old h)) }
 {
     if parts.on_new_line && is_at_end(parts.pending.as_str()) {
         return push_char(&mut parts.value, ' ');
@@ -217,9 +190,11 @@ fn take_content<T: Input>(
     in_flow: bool,
     parts: &mut PlainParts,
 ) -> Result<(), NoMemory>
-    ensures here { (h : Here) → Stands T.unread cursor.old h → OnOk result ((n : ℕ) × (n ≡ run_length (is_plain_at in_flow) (step h).unread.text) × Stands T.unread cursor.new (steps n (step h))
-        × (string_chars parts.new.value ≡ ((string_chars parts.old.value ++ spec.between (plain_state parts.old h)) ++ next_char h ∷ []) ++ take n (step h).unread.text)
-        × (plain_state parts.new (steps n (step h)) ≡ inside (steps n (step h)))) }
+    ensures here { Wherever T.unread cursor.old cursor.new (λ h Lands. OnOk result ((n : ℕ)
+        × (n ≡ run_length (is_plain_at in_flow) (step h).unread.text) × Lands (steps n (step h))
+        × (string_chars parts.new.value ≡ ((string_chars parts.old.value ++ spec.between (plain_state parts.old h))
+        ++ next_char h ∷ []) ++ take n (step h).unread.text)
+        × (plain_state parts.new (steps n (step h)) ≡ inside (steps n (step h))))) }
     ensures left { OnOk result (T.left cursor.new.input ≤ T.left cursor.old.input - 1) }
     ensures moves { Moves T.left T.origin cursor.old cursor.new }
 {
@@ -242,7 +217,9 @@ fn take_turn<T: Input>(
     start: Marker,
     parts: &mut PlainParts,
 ) -> Result<bool, ScanError>
-    ensures here { (h : Here) → Stands T.unread cursor.old h → TurnsTo (layout_data at.now) start result (Stands T.unread cursor.new) parts.new (plain_whole (layout_data at.now) start parts.old h) }
+    ensures here { Wherever T.unread cursor.old cursor.new (λ h Lands.
+        TurnsTo (layout_data at.now) start result Lands parts.new
+        (plain_whole (layout_data at.now) start parts.old h)) }
     ensures left { TurnTakes result (T.left cursor.old.input) (T.left cursor.new.input) }
     ensures kinds { IfErr result (λ e. (e.kind ≡ OutOfMemory) ⊎ (e.kind ≡ TabInPlainScalar)) }
     ensures moves { Moves T.left T.origin cursor.old cursor.new }
@@ -272,7 +249,8 @@ fn plain_parts<T: Input>(
     at: &Layout,
     start: Marker,
 ) -> Result<PlainParts, ScanError>
-    ensures here { (h : Here) → Stands T.unread cursor.old h → start ≡ mark_of h → PartsTo result (Stands T.unread cursor.new) (plain_rest (layout_data at.now) start (spec.plain_start h)) }
+    ensures here { Wherever T.unread cursor.old cursor.new (λ h Lands. start ≡ mark_of h
+        → PartsTo result Lands (plain_rest (layout_data at.now) start (spec.plain_start h))) }
     ensures kinds { IfErr result (λ e. (e.kind ≡ OutOfMemory) ⊎ (e.kind ≡ TabInPlainScalar)) }
     ensures moves { Moves T.left T.origin cursor.old cursor.new }
 {
@@ -295,7 +273,8 @@ fn finish_plain<'input, T: Input>(
     start: Marker,
     parts: PlainParts,
 ) -> Result<Lexed<'input>, ScanError>
-    ensures here { (h : Here) → Stands T.unread cursor.old h → GivesTo (λ l. l) result (Stands T.unread cursor.new) (coded plain_lexed (ended_plain (layout_data at.now) start (string_chars parts.value) (plain_state parts h))) }
+    ensures here { ReadsAs T.unread cursor.old cursor.new result (λ h.
+        coded plain_lexed (ended_plain (layout_data at.now) start (string_chars parts.value) (plain_state parts h))) }
     ensures kinds { IfErr result (λ e. (c : ℕ) × (e.kind ≡ UnexpectedCharacter c)) }
     ensures moves { Moves T.left T.origin cursor.old cursor.new }
 {
@@ -329,7 +308,8 @@ fn read_plain<'input, T: Input>(
     cursor: &mut Cursor<T>,
     at: &Layout,
 ) -> Result<Lexed<'input>, ScanError>
-    ensures here { (h : Here) → Stands T.unread cursor.old h → GivesTo (λ l. l) result (Stands T.unread cursor.new) (coded plain_lexed (spec.plain_scalar (layout_data at.now) h)) }
+    ensures here { ReadsAs T.unread cursor.old cursor.new result (λ h.
+        coded plain_lexed (spec.plain_scalar (layout_data at.now) h)) }
     ensures kinds { IfErr result (λ e. IsPlainKind e.kind) }
     ensures moves { Moves T.left T.origin cursor.old cursor.new }
 {

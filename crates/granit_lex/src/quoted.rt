@@ -5,23 +5,23 @@ ghost use Rattle.granit_base.specs.Written.{string_chars};
 ghost use Rattle.granit_error.specs.FaultKind.{NoMemory as OutOfMemory};
 ghost use Rattle.granit_error.specs.Kinds.{kind_of};
 ghost use Rattle.granit_lexemes.specs.Here.{Here, next_char, past, step};
-ghost use Rattle.granit_lexemes.specs.Basics.{past_break};
+ghost use Rattle.granit_lexemes.specs.Basics as basics;
 ghost use Rattle.granit_lexemes.specs.QuotedExtent as extent;
 ghost use Rattle.granit_lexemes.specs.QuotedScalar as spec;
 ghost use Rattle.granit_lex.specs.PlainCode.{TurnTakes};
 ghost use Rattle.granit_lexemes.specs.QuotedScalar.{quoted_rest};
-ghost use Rattle.granit_lex.specs.QuotedCode.{quoted_state, quoted_whole, quoted_ahead, content_read, SeesTo, SeesSome, TakesContent, added, escapes, QuotedTurnsTo, QuotedPartsTo, IsQuotedKind};
-ghost use Rattle.granit_lex.specs.Reading.{Stands, Moves, GivesTo, coded};
-ghost use Rattle.granit_lex.specs.Tokens.{layout_data, quoted_lexed, quoted_with, asked};
+ghost use Rattle.granit_cursor.specs.Reading.{Stands, Moves, Wherever, ReadsAs, AnswersAs, RefusedFor, coded};
+ghost use Rattle.granit_cursor.specs.Tokens.{layout_data};
+ghost use Rattle.granit_lex.specs.QuotedCode.{quoted_lexed, quoted_with, asked, IsQuotedFault, quoted_state, quoted_whole, quoted_ahead, content_read, SeesTo, SeesSome, TakesContent, added, escapes, QuotedTurnsTo, QuotedPartsTo, IsQuotedKind};
 
-use crate::comments::{pass_comment, read_comment};
-use crate::cursor::Cursor;
 use crate::escape::escape;
-use crate::plain::{drop_blanks, is_left, past_break};
-use crate::token::{Layout, Lexed, Token, TokenType};
 use granit_base::{
     Marker, NoMemory, ScalarStyle, Span, Text, is_at_end, is_blank, is_break, is_printable,
     push_char, push_text,
+};
+use granit_cursor::{
+    Cursor, Layout, Lexed, Token, TokenType, drop_blanks, pass_comment, past_blanks, past_break,
+    read_comment,
 };
 use granit_error::{ErrorKind, ScanError};
 use granit_input::{BorrowedInput, Input};
@@ -48,10 +48,13 @@ pub fn scan_quoted_scalar<'input, T: BorrowedInput<'input>>(
     at: &Layout,
 ) -> Result<Lexed<'input>, ScanError>
     requires { (h : Here) → Stands T.unread cursor.old h → next_char h ≡ spec.quote_char single }
-    ensures here { (h : Here) → Stands T.unread cursor.old h → GivesTo (λ l. l) result (Stands T.unread cursor.new) (coded quoted_lexed (spec.quoted_scalar single (layout_data at.now) h)) }
-    ensures scalar { (h : Here) → Stands T.unread cursor.old h → IfOk result (λ l. (read : spec.QuotedRead) × (after : Here) × extent.AnswersQuoted single (layout_data at.now) h read after × (l ≡ quoted_lexed read) × Stands T.unread cursor.new after) }
-    ensures cause { (h : Here) → Stands T.unread cursor.old h → IfErr result (λ e. (e.kind ≡ OutOfMemory) ⊎ (extent.RefusesQuoted single (layout_data at.now) h e.kind e.mark × (e.sources ≡ []))) }
-    ensures answered { (h : Here) (read : spec.QuotedRead) (after : Here) → Stands T.unread cursor.old h → extent.AnswersQuoted single (layout_data at.now) h read after → IfErr result (λ e. e.kind ≡ OutOfMemory) }
+    ensures here { ReadsAs T.unread cursor.old cursor.new result (λ h.
+        coded (quoted_lexed single) (spec.quoted_scalar single (layout_data at.now) h)) }
+    ensures scalar { AnswersAs T.unread cursor.old cursor.new result (quoted_lexed single)
+        (extent.AnswersQuoted single (layout_data at.now)) }
+    ensures cause { RefusedFor T.unread cursor.old result (extent.RefusesQuoted single (layout_data at.now)) }
+    ensures answered { (h : Here) (read : spec.QuotedRead) (after : Here) → Stands T.unread cursor.old h
+        → extent.AnswersQuoted single (layout_data at.now) h read after → IfErr result (λ e. e.kind ≡ OutOfMemory) }
     ensures kinds { IfErr result (λ e. IsQuotedKind e.kind) }
     ensures moves { Moves T.left T.origin cursor.old cursor.new }
 {
@@ -93,7 +96,7 @@ fn is_tab_left(at: &Layout, column: usize) -> bool
 fn is_strictly_left(at: &Layout, escaped: bool, column: usize) -> bool
     ensures { result ≡ spec.is_strictly_left (layout_data at.now) escaped column }
 {
-    at.strict && (at.in_flow || escaped) && is_left(at.block_column, column)
+    at.strict && (at.in_flow || escaped) && at.is_left(column)
 }
 
 /// Whether a column is left of its block outside flow; the closing quote may stand there, unless
@@ -102,7 +105,7 @@ fn is_strictly_left(at: &Layout, escaped: bool, column: usize) -> bool
 fn is_loosely_left(at: &Layout, escaped: bool, closing: bool, column: usize) -> bool
     ensures { result ≡ spec.is_loosely_left (layout_data at.now) escaped closing column }
 {
-    !(at.in_flow || escaped) && (at.strict || !closing) && is_left(at.block_column, column)
+    !(at.in_flow || escaped) && (at.strict || !closing) && at.is_left(column)
 }
 
 /// The quote.
@@ -130,9 +133,10 @@ fn look_ahead<T: Input>(
     start: Marker,
     parts: &QuotedParts,
 ) -> Result<Ahead, ScanError>
-    ensures here { (h : Here) → Stands T.unread cursor.old h → Stands T.unread cursor.new h × SeesTo result (quoted_ahead single (layout_data at.now) start (quoted_state parts.now h)) }
+    ensures here { Wherever T.unread cursor.old cursor.new (λ h Lands. Lands h
+        × SeesTo result (quoted_ahead single (layout_data at.now) start (quoted_state parts.now h))) }
     ensures some { SeesSome result (0 < T.left cursor.new.input) }
-    ensures kinds { IfErr result (λ e. IsQuotedKind e.kind) }
+    ensures kinds { IfErr result (λ e. IsQuotedFault e.kind) }
     ensures moves { Moves T.left T.origin cursor.old cursor.new }
 {
     cursor.look(4);
@@ -170,7 +174,8 @@ fn look_ahead<T: Input>(
 /// A blank on, which is dropped where it begins a line.
 #[tactic(auto, unfolding(granit_lexemes::specs::QuotedScalar::over_blank))]
 fn take_blank<T: Input>(cursor: &mut Cursor<T>, parts: &mut QuotedParts) -> Result<(), NoMemory>
-    ensures here { (h : Here) → Stands T.unread cursor.old h → OnOk result (Stands T.unread cursor.new (step h) × (quoted_state parts.new (step h) ≡ spec.over_blank (quoted_state parts.old h))) }
+    ensures here { Wherever T.unread cursor.old cursor.new (λ h Lands. OnOk result (Lands (step h)
+        × (quoted_state parts.new (step h) ≡ spec.over_blank (quoted_state parts.old h)))) }
     ensures value { string_chars parts.new.value ≡ string_chars parts.old.value }
     ensures left { OnOk result (T.left cursor.new.input ≤ T.left cursor.old.input - 1) }
     ensures moves { Moves T.left T.origin cursor.old cursor.new }
@@ -187,7 +192,8 @@ fn take_blank<T: Input>(cursor: &mut Cursor<T>, parts: &mut QuotedParts) -> Resu
 /// A break on: blanks before the first are dropped, and each further one is an empty line.
 #[tactic(auto, unfolding(granit_lexemes::specs::QuotedScalar::over_break))]
 fn take_break<T: Input>(cursor: &mut Cursor<T>, parts: &mut QuotedParts) -> Result<(), NoMemory>
-    ensures here { (h : Here) → Stands T.unread cursor.old h → OnOk result (Stands T.unread cursor.new (past_break h) × (quoted_state parts.new (past_break h) ≡ spec.over_break (quoted_state parts.old h))) }
+    ensures here { Wherever T.unread cursor.old cursor.new (λ h Lands. OnOk result (Lands (basics.past_break h)
+        × (quoted_state parts.new (basics.past_break h) ≡ spec.over_break (quoted_state parts.old h)))) }
     ensures value { string_chars parts.new.value ≡ string_chars parts.old.value }
     ensures left { OnOk result (T.left cursor.new.input ≤ T.left cursor.old.input - 1) }
     ensures moves { Moves T.left T.origin cursor.old cursor.new }
@@ -205,7 +211,8 @@ fn take_break<T: Input>(cursor: &mut Cursor<T>, parts: &mut QuotedParts) -> Resu
 
 /// Appends what stands for the blanks and breaks before content or the closing quote (YAML 1.2.2, 6.5).
 fn push_between(parts: &mut QuotedParts) -> Result<(), NoMemory>
-    ensures value { (h : Here) → OnOk result (string_chars parts.new.value ≡ string_chars parts.old.value ++ spec.between_quoted (quoted_state parts.old h)) }
+    ensures value { (h : Here) → OnOk result (string_chars parts.new.value
+        ≡ string_chars parts.old.value ++ spec.between_quoted (quoted_state parts.old h)) }
 {
     if parts.on_new_line && !parts.escaped && is_at_end(parts.pending.as_str()) {
         return push_char(&mut parts.value, ' ');
@@ -220,9 +227,9 @@ fn read_content<T: Input>(
     single: bool,
     start: Marker,
 ) -> Result<Option<char>, ScanError>
-    ensures here { (h : Here) → Stands T.unread cursor.old h → GivesTo (λ x. x) result (Stands T.unread cursor.new) (content_read single start h) }
+    ensures here { ReadsAs T.unread cursor.old cursor.new result (content_read single start) }
     ensures left { OnOk result (T.left cursor.new.input ≤ T.left cursor.old.input - 1) }
-    ensures kinds { IfErr result (λ e. IsQuotedKind e.kind) }
+    ensures kinds { IfErr result (λ e. IsQuotedFault e.kind) }
     ensures moves { Moves T.left T.origin cursor.old cursor.new }
 {
     cursor.look(2);
@@ -245,7 +252,8 @@ fn read_content<T: Input>(
 
 /// Appends content behind what stands before it.
 fn push_content(parts: &mut QuotedParts, content: Option<char>) -> Result<(), NoMemory>
-    ensures value { (h : Here) → OnOk result (string_chars parts.new.value ≡ (string_chars parts.old.value ++ spec.between_quoted (quoted_state parts.old h)) ++ added content) }
+    ensures value { (h : Here) → OnOk result (string_chars parts.new.value
+        ≡ (string_chars parts.old.value ++ spec.between_quoted (quoted_state parts.old h)) ++ added content) }
     ensures state { (h : Here) → OnOk result (quoted_state parts.new h ≡ spec.quoted_at (escapes content) h) }
 {
     push_between(parts)?;
@@ -270,7 +278,8 @@ fn take_content<T: Input>(
     start: Marker,
     parts: &mut QuotedParts,
 ) -> Result<(), ScanError>
-    ensures here { (h : Here) → Stands T.unread cursor.old h → TakesContent result (Stands T.unread cursor.new) (string_chars parts.old.value) (quoted_state parts.old h) parts.new (content_read single start h) }
+    ensures here { Wherever T.unread cursor.old cursor.new (λ h Lands. TakesContent result Lands
+        (string_chars parts.old.value) (quoted_state parts.old h) parts.new (content_read single start h)) }
     ensures left { OnOk result (T.left cursor.new.input ≤ T.left cursor.old.input - 1) }
     ensures kinds { IfErr result (λ e. IsQuotedKind e.kind) }
     ensures moves { Moves T.left T.origin cursor.old cursor.new }
@@ -288,7 +297,8 @@ fn take_turn<T: Input>(
     start: Marker,
     parts: &mut QuotedParts,
 ) -> Result<bool, ScanError>
-    ensures here { (h : Here) → Stands T.unread cursor.old h → QuotedTurnsTo single (layout_data at.now) start result (Stands T.unread cursor.new) parts.new (quoted_whole single (layout_data at.now) start parts.old h) }
+    ensures here { Wherever T.unread cursor.old cursor.new (λ h Lands. QuotedTurnsTo single (layout_data at.now) start
+        result Lands parts.new (quoted_whole single (layout_data at.now) start parts.old h)) }
     ensures left { TurnTakes result (T.left cursor.old.input) (T.left cursor.new.input) }
     ensures kinds { IfErr result (λ e. IsQuotedKind e.kind) }
     ensures moves { Moves T.left T.origin cursor.old cursor.new }
@@ -318,7 +328,8 @@ fn quoted_parts<T: Input>(
     at: &Layout,
     start: Marker,
 ) -> Result<QuotedParts, ScanError>
-    ensures here { (h : Here) → Stands T.unread cursor.old h → QuotedPartsTo result (Stands T.unread cursor.new) (quoted_rest single (layout_data at.now) start (spec.quoted_at false h)) }
+    ensures here { Wherever T.unread cursor.old cursor.new (λ h Lands.
+        QuotedPartsTo result Lands (quoted_rest single (layout_data at.now) start (spec.quoted_at false h))) }
     ensures kinds { IfErr result (λ e. IsQuotedKind e.kind) }
     ensures moves { Moves T.left T.origin cursor.old cursor.new }
 {
@@ -330,14 +341,6 @@ fn quoted_parts<T: Input>(
     };
     'turns: while take_turn(cursor, single, at, start, &mut parts)? {}
     Ok(parts)
-}
-
-/// Blanks on.
-fn past_blanks<T: Input>(cursor: &mut Cursor<T>)
-    ensures here { (h : Here) → Stands T.unread cursor.old h → Stands T.unread cursor.new (past class.is_blank h) }
-    ensures moves { Moves T.left T.origin cursor.old cursor.new }
-{
-    cursor.skip_while_blank();
 }
 
 /// Whether a character may follow the scalar and its blanks, where it began on this line or not.
@@ -353,7 +356,7 @@ fn may_trail(at: &Layout, on_line: bool, c: char) -> bool
 /// Why what may not follow is refused.
 fn trailing_kind(single: bool) -> ErrorKind
     ensures kind { kind_of result ≡ spec.trailing_kind single }
-    ensures known { IsQuotedKind (kind_of result) }
+    ensures known { IsQuotedFault (kind_of result) }
 {
     if single {
         return ErrorKind::InvalidTrailingSingleQuotedScalar;
@@ -397,8 +400,9 @@ fn behind_quoted<'input, T: Input>(
     value: String,
     end: Marker,
 ) -> Result<Lexed<'input>, ScanError>
-    ensures here { (h : Here) → Stands T.unread cursor.old h → GivesTo (λ l. l) result (Stands T.unread cursor.new) (coded quoted_lexed (spec.behind_quoted single (layout_data at.now) start (string_chars value) end h)) }
-    ensures kinds { IfErr result (λ e. IsQuotedKind e.kind) }
+    ensures here { ReadsAs T.unread cursor.old cursor.new result (λ h. coded (quoted_lexed single)
+        (spec.behind_quoted single (layout_data at.now) start (string_chars value) end h)) }
+    ensures kinds { IfErr result (λ e. IsQuotedFault e.kind) }
     ensures moves { Moves T.left T.origin cursor.old cursor.new }
 {
     cursor.look(1);
@@ -422,7 +426,7 @@ fn comment_behind<'input, T: Input>(
     cursor: &mut Cursor<T>,
     at: &Layout,
 ) -> Result<Option<Token<'input>>, ScanError>
-    ensures here { (h : Here) → Stands T.unread cursor.old h → GivesTo (λ t. t) result (Stands T.unread cursor.new) (asked (layout_data at.now) h) }
+    ensures here { ReadsAs T.unread cursor.old cursor.new result (asked (layout_data at.now)) }
     ensures kinds { IfErr result (λ e. IsQuotedKind e.kind) }
     ensures moves { Moves T.left T.origin cursor.old cursor.new }
 {
@@ -444,7 +448,8 @@ fn quoted_tail<'input, T: Input>(
     start: Marker,
     value: String,
 ) -> Result<Lexed<'input>, ScanError>
-    ensures here { (h : Here) → Stands T.unread cursor.old h → GivesTo (λ l. l) result (Stands T.unread cursor.new) (coded quoted_lexed (spec.quoted_tail single (layout_data at.now) start (string_chars value) h)) }
+    ensures here { ReadsAs T.unread cursor.old cursor.new result (λ h. coded (quoted_lexed single)
+        (spec.quoted_tail single (layout_data at.now) start (string_chars value) h)) }
     ensures kinds { IfErr result (λ e. IsQuotedKind e.kind) }
     ensures moves { Moves T.left T.origin cursor.old cursor.new }
 {
@@ -469,7 +474,8 @@ fn read_quoted<'input, T: Input>(
     single: bool,
     at: &Layout,
 ) -> Result<Lexed<'input>, ScanError>
-    ensures here { (h : Here) → Stands T.unread cursor.old h → GivesTo (λ l. l) result (Stands T.unread cursor.new) (coded quoted_lexed (spec.quoted_scalar single (layout_data at.now) h)) }
+    ensures here { ReadsAs T.unread cursor.old cursor.new result (λ h.
+        coded (quoted_lexed single) (spec.quoted_scalar single (layout_data at.now) h)) }
     ensures kinds { IfErr result (λ e. IsQuotedKind e.kind) }
     ensures moves { Moves T.left T.origin cursor.old cursor.new }
 {

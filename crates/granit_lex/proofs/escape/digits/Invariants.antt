@@ -2,7 +2,7 @@ use Rattle.std.proofs.Common.{◌≡◌, ◌-◌, ◌<◌, ◌^◌}
 use Rattle.granit_lexemes.specs.Here.{Here}
 use Rattle.granit_lexemes.specs.QuotedScalar.{digits_or}
 use Rattle.granit_lex.specs.QuotedCode.{hex_refusal}
-use Rattle.granit_lex.specs.Reading.{Stands, Moves}
+use Rattle.granit_cursor.specs.Reading.{Stands, Moves}
 use Rattle.granit_lex.proofs.escape.digits.Given as goal
 
 abbrev pub invariant-digits : goal.invariant-digits

@@ -1,8 +1,9 @@
 use Rattle.std.proofs.Common.{false, refl, arith}
 use Rattle.granit_input.proofs.OriginLemmas.{goes_nowhere}
-use Rattle.granit_lex.specs.Tokens.{layout_data}
+use Rattle.granit_cursor.specs.Tokens.{layout_data}
 use Rattle.granit_lex.specs.declared.plain.PlainParts.{PlainParts}
-use Rattle.granit_lex.proofs.PlainLemmas.{cleared, plain_begins}
+use Rattle.granit_cursor.proofs.MoveLemmas.{cleared}
+use Rattle.granit_lex.proofs.PlainLemmas.{plain_begins}
 use Rattle.granit_lex.proofs.plain.plain_parts.Goals as goal
 
 pub turns-init : goal.turns-init

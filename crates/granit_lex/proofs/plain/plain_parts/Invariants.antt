@@ -2,8 +2,8 @@ use Rattle.std.proofs.Common.{◌≡◌}
 use Rattle.granit_lexemes.specs.Here.{Here, mark_of}
 use Rattle.granit_lexemes.specs.PlainScalar.{plain_start}
 use Rattle.granit_lex.specs.PlainCode.{plain_rest, plain_whole}
-use Rattle.granit_lex.specs.Reading.{Stands, Moves}
-use Rattle.granit_lex.specs.Tokens.{layout_data}
+use Rattle.granit_cursor.specs.Reading.{Stands, Moves}
+use Rattle.granit_cursor.specs.Tokens.{layout_data}
 use Rattle.granit_lex.proofs.plain.plain_parts.Given as goal
 
 abbrev pub invariant-turns : goal.invariant-turns

@@ -2,9 +2,10 @@ use Rattle.granit_lexemes.specs.PlainExtent.{AnswersPlain, RefusesPlain}
 use Rattle.granit_lexemes.specs.PlainScalar.{plain_scalar}
 use Rattle.granit_scalars.proofs.Nameless.{plain_none}
 use Rattle.granit_scalars.proofs.PlainOnce.{is_answered, is_refused, is_standing}
-use Rattle.granit_lex.specs.Reading.{Stands}
-use Rattle.granit_lex.specs.Tokens.{layout_data, plain_lexed}
-use Rattle.granit_lex.proofs.GivenLemmas.{given_stands, given_cause, given_answered}
+use Rattle.granit_cursor.specs.Reading.{Stands}
+use Rattle.granit_cursor.specs.Tokens.{layout_data}
+use Rattle.granit_lex.specs.PlainCode.{plain_lexed}
+use Rattle.granit_cursor.proofs.GivenLemmas.{given_stands, given_cause, given_answered}
 use Rattle.granit_lex.proofs.plain.scan_plain_scalar.Goals as goal
 
 pub returns-clause-scalar : goal.returns-clause-scalar

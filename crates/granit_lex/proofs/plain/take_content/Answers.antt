@@ -3,7 +3,7 @@ use Rattle.granit_input.specs.Runs.{is_plain_at}
 use Rattle.granit_input.proofs.RunLemmas.{front_all, run_within}
 use Rattle.granit_lexemes.specs.Here.{next_char, step}
 use Rattle.granit_lexemes.specs.Moves.{steps}
-use Rattle.granit_lex.proofs.PlainLemmas.{cleared}
+use Rattle.granit_cursor.proofs.MoveLemmas.{cleared}
 use Rattle.granit_lex.proofs.plain.take_content.Goals as goal
 
 pub returns-clause-here : goal.returns-clause-here

@@ -4,7 +4,7 @@ use Rattle.granit_lexemes.specs.Moves.{steps}
 use Rattle.granit_lexemes.specs.Basics.{past_break}
 use Rattle.granit_lexemes.specs.PlainScalar.{PlainState}
 use Rattle.granit_lex.specs.PlainCode.{plain_state, ahead_of}
-use Rattle.granit_lex.specs.Tokens.{layout_data}
+use Rattle.granit_cursor.specs.Tokens.{layout_data}
 use Rattle.granit_lex.specs.declared.plain.Ahead.TheVariants.{Blank, Break, Tab, Content, End}
 use Rattle.granit_lex.proofs.PlainLemmas.{gap_goes, content_goes, turn_ends, turn_refused}
 use Rattle.granit_lex.proofs.plain.take_turn.Goals as goal

@@ -1,8 +1,8 @@
 use Rattle.std.proofs.Common.{false, refl, arith}
 use Rattle.granit_input.proofs.OriginLemmas.{goes_nowhere}
-use Rattle.granit_lex.specs.Tokens.{layout_data}
+use Rattle.granit_cursor.specs.Tokens.{layout_data}
 use Rattle.granit_lex.specs.declared.quoted.QuotedParts.{QuotedParts}
-use Rattle.granit_lex.proofs.PlainLemmas.{cleared}
+use Rattle.granit_cursor.proofs.MoveLemmas.{cleared}
 use Rattle.granit_lex.proofs.QuotedLemmas.{quoted_begins}
 use Rattle.granit_lex.proofs.quoted.quoted_parts.Goals as goal
 

@@ -2,8 +2,8 @@ use Rattle.std.proofs.Common.{◌≡◌, false}
 use Rattle.granit_lexemes.specs.Here.{Here}
 use Rattle.granit_lexemes.specs.QuotedScalar.{quoted_at, quoted_rest}
 use Rattle.granit_lex.specs.QuotedCode.{quoted_whole}
-use Rattle.granit_lex.specs.Reading.{Stands, Moves}
-use Rattle.granit_lex.specs.Tokens.{layout_data}
+use Rattle.granit_cursor.specs.Reading.{Stands, Moves}
+use Rattle.granit_cursor.specs.Tokens.{layout_data}
 use Rattle.granit_lex.proofs.quoted.quoted_parts.Given as goal
 
 abbrev pub invariant-turns : goal.invariant-turns

@@ -1,7 +1,7 @@
 use Rattle.granit_base.specs.Written.{string_chars}
 use Rattle.granit_lexemes.specs.Here.{step}
 use Rattle.granit_lex.specs.QuotedCode.{quoted_state}
-use Rattle.granit_lex.specs.Tokens.{layout_data}
+use Rattle.granit_cursor.specs.Tokens.{layout_data}
 use Rattle.granit_lex.proofs.QuotedLemmas.{scalar_is}
 use Rattle.granit_lex.proofs.quoted.read_quoted.Goals as goal
 

@@ -4,7 +4,7 @@ use Rattle.granit_lexemes.specs.Here.{step}
 use Rattle.granit_lexemes.specs.Basics.{past_break}
 use Rattle.granit_lexemes.specs.QuotedScalar.{QuotedState}
 use Rattle.granit_lex.specs.QuotedCode.{quoted_state, quoted_ahead}
-use Rattle.granit_lex.specs.Tokens.{layout_data}
+use Rattle.granit_cursor.specs.Tokens.{layout_data}
 use Rattle.granit_lex.specs.declared.quoted.Ahead.{Ahead}
 use Rattle.granit_lex.specs.declared.quoted.Ahead.TheVariants.{Blank, Break, Content, End}
 use Rattle.granit_lex.proofs.QuotedLemmas.{over_gap, over_content, content_fails, ahead_fails, at_end}

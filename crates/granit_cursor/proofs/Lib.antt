@@ -1,0 +1,5 @@
+pub mod CommentLemmas
+pub mod GivenLemmas
+pub mod MoveLemmas
+pub mod SourceLemmas
+pub mod TrimLemmas

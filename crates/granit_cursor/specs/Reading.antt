@@ -1,0 +1,109 @@
+-- What contracts see of a cursor, and what a reader gives for whatever is known to be left.
+use Rattle.std.specs.Prelude.{◌≡◌, ◌⊎◌, ℕ, ◌+◌, ◌≤◌, Bool, ◌&&◌, if◌then◌else◌, List, [], ◌++◌, take, Option, is_some, Result, Ok, Err, IfOk, IfErr}
+use Rattle.granit_base.specs.Place.{Place, Mark, Unread}
+use Rattle.granit_error.specs.FaultKind.{FaultKind, NoMemory}
+use Rattle.granit_error.specs.Refused.{Refused}
+use Rattle.granit_input.specs.Chunks.{TakesFront}
+use Rattle.granit_input.specs.Origin.{Origin, Goes}
+use Rattle.granit_input.specs.Runs.{run_length}
+use Rattle.granit_lexemes.specs.Here.{Here, mid_line}
+use Rattle.granit_lexemes.specs.Moves.{steps}
+use Rattle.granit_lexemes.specs.Outcome.{Fault, Fails, ◌>>=◌}
+
+-- an input, the place up to which it was read, and what stands before that on its line
+pub record Reading (I : Type 0) : Type 0 where
+  pub input : I
+  pub place : Place
+  pub begins_line : Bool
+  pub tab : Option Mark
+
+-- a cursor is known to stand there
+abbrev pub Stands : {I : Type 0} → (I → Unread → Type 0) → Reading I → Here → Type 0
+Stands unread r h = unread r.input h.unread × (h.place ≡ r.place) × (h.begins_line ≡ r.begins_line) × (h.tab ≡ r.tab)
+
+-- no more is left than before, and where it comes from is as before
+abbrev pub Moves : {I : Type 0} → (I → ℕ) → (I → Origin) → Reading I → Reading I → Type 0
+Moves left origin old new = (left new.input ≤ left old.input) × Goes (origin old.input) (origin new.input)
+
+-- wherever a cursor is known to stand, this holds of what is there and of where it then stands
+abbrev pub Wherever : {I : Type 0} → (I → Unread → Type 0) → Reading I → Reading I
+    → (Here → (Here → Type 0) → Type 0) → Type 0
+Wherever unread old new Does = (h : Here) → Stands unread old h → Does h (Stands unread new)
+
+-- wherever a cursor is known to stand, it then stands where that leads
+abbrev pub GoesTo : {I : Type 0} → (I → Unread → Type 0) → Reading I → Reading I → (Here → Here) → Type 0
+GoesTo unread old new move = Wherever unread old new (λ h Lands. Lands (move h))
+
+-- ---- what a reader gives
+
+-- What was returned, seen by a view, is what the definition gives, and the cursor is known to stand where that ends;
+-- a refusal is the fault of the definition, unless memory ran out.
+abbrev pub GivesTo : {X Y S : Type 0} → (X → Y) → Result X Refused → (S → Type 0) → Result (Y × S) Fault → Type 0
+GivesTo {S = S} view (Ok x) Lands given = (after : S) × Lands after × (given ≡ Ok (view x, after))
+GivesTo view (Err e) Lands given = Fails e given
+
+-- a definition's value as the code has it
+abbrev pub coded : {X Y S : Type 0} → (Y → X) → Result (Y × S) Fault → Result (X × S) Fault
+coded code given = given >>= λ y. Ok (code y.0, y.1)
+
+-- what is read of wherever a cursor is known to stand is what the definition gives there
+abbrev pub ReadsAs : {I X : Type 0} → (I → Unread → Type 0) → Reading I → Reading I → Result X Refused
+    → (Here → Result (X × Here) Fault) → Type 0
+ReadsAs unread old new result given = Wherever unread old new (λ h Lands. GivesTo (λ x. x) result Lands (given h))
+
+-- what is answered is the code's form of what is true there, and the cursor then stands where that ends
+abbrev pub AnswersAs : {I X Y : Type 0} → (I → Unread → Type 0) → Reading I → Reading I → Result X Refused
+    → (Y → X) → (Here → Y → Here → Type 0) → Type 0
+AnswersAs {Y = Y} unread old new result code Holds =
+    Wherever unread old new (λ h Lands.
+    IfOk result (λ x. (y : Y) × (after : Here) × Holds h y after × (x ≡ code y) × Lands after))
+
+-- a refusal is for want of memory, or has its cause there and names no source
+abbrev pub RefusedFor : {I X : Type 0} → (I → Unread → Type 0) → Reading I → Result X Refused
+    → (Here → FaultKind → Mark → Type 0) → Type 0
+RefusedFor unread old result Holds =
+    (h : Here) → Stands unread old h
+    → IfErr result (λ e. (e.kind ≡ NoMemory) ⊎ (Holds h e.kind e.mark × (e.sources ≡ [])))
+
+-- ---- what the calls over runs take
+
+-- the whole run was taken and counted, and the cursor stands behind it
+abbrev pub StepsRun : (List ℕ → Bool) → Here → ℕ → (Here → Type 0) → Type 0
+StepsRun test h count Lands = (count ≡ run_length test h.unread.text) × Lands (steps count h)
+
+-- the same, and it was appended
+abbrev pub FetchesSteps : {E : Type 0} → (List ℕ → Bool) → Here → Result ℕ E → (Here → Type 0)
+    → (before after : List ℕ) → Type 0
+FetchesSteps test h result Lands before after =
+    IfOk result (λ count. StepsRun test h count Lands × (after ≡ before ++ take count h.unread.text))
+
+-- a cursor is known to stand there with something before it on its line, and no tab directly before it
+abbrev pub Inside : (Here → Type 0) → Here → Type 0
+Inside Lands h = Lands (mid_line h)
+
+-- a front of the run was taken, and the cursor stands behind it
+abbrev pub StepsFront : (List ℕ → Bool) → Here → ℕ → Bool × ℕ → (Here → Type 0) → Type 0
+StepsFront test h asked result Lands = TakesFront test h.unread.text asked result.0 result.1 × Lands (steps result.1 h)
+
+-- the same, and it was appended
+abbrev pub FetchesFrontSteps : {E : Type 0} → (List ℕ → Bool) → Here → ℕ → Result (Bool × ℕ) E → (Here → Type 0)
+    → (before after : List ℕ) → Type 0
+FetchesFrontSteps test h asked result Lands before after =
+    IfOk result (λ r. StepsFront test h asked r Lands × (after ≡ before ++ take r.1 h.unread.text))
+
+-- so many characters were taken: as many fewer are left, and the window is smaller by no more than these
+abbrev pub Takes : {I : Type 0} → (I → ℕ) → (I → ℕ) → Reading I → Reading I → ℕ → Type 0
+Takes left window old new count =
+    (left new.input + count ≤ left old.input) × (window old.input ≤ window new.input + count)
+
+-- whether an input has a source, and tells where in it what is left begins
+abbrev pub has_source : Origin → Bool
+has_source o = o.tells_offset && is_some o.sliced
+
+-- Where the input has a source the whole run was taken, and else nothing; what was taken is counted and lent, and
+-- the cursor stands behind it.
+pub record LendsSteps (o : Origin) (test : List ℕ → Bool) (h : Here) (lent : List ℕ) (count : ℕ)
+    (Lands : Here → Type 0) : Type 0 where
+  pub counted : count ≡ (if has_source o then run_length test h.unread.text else 0)
+  pub text : lent ≡ take count h.unread.text
+  pub lands : Lands (steps count h)

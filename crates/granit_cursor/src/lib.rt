@@ -1,0 +1,19 @@
+//! A cursor over an input, and what all calls that read lexemes share: tokens, comments, and moves over breaks.
+#![tactic(auto)]
+
+mod comment;
+mod comments;
+mod cursor;
+mod layout;
+mod moves;
+mod token;
+
+pub use comment::Comment;
+pub use comments::{pass_comment, read_comment, scan_comment, skip_comment};
+pub use cursor::Cursor;
+pub use layout::Layout;
+pub use moves::{drop_blanks, past_blanks, past_break};
+pub use token::{Lexed, Token, TokenType};
+
+#[cfg(test)]
+mod tests;
