@@ -80,7 +80,7 @@ leading_less : (n : ℕ) (g : Here) → text_len g ≤ n → (b : Bool) → is_b
 leading_less n g le true y = let s = break_shorter g y in omega arith
 leading_less n g le false y = tt
 
-leading_shortens : Shortens text_len leading_turn
+pub leading_shortens : Shortens text_len leading_turn
 leading_shortens = lessens_shortens leading_turn (λ h.
     subst (Lessens (text_len h)) (sym (leading_turn_is h)) (leading_less (text_len h) (past is_space h) (all_spaces_len (all_spaces h)) (is_break (next_char (past is_space h))) refl))
 

@@ -103,7 +103,7 @@ space_no_break : (c : ℕ) → is_space c ≡ true → is_break c ≡ false
 unfolding is_break
 space_no_break c y = grind (arith, nat_tests)
 
-space_moves : (h : Here) → is_space (next_char h) ≡ true → (step h).place.column ≡ h.place.column + 1
+pub space_moves : (h : Here) → is_space (next_char h) ≡ true → (step h).place.column ≡ h.place.column + 1
 space_moves h y = column_on h (seen is_space h refl y) (space_no_break (next_char h) y)
 
 spaces_if : (column n : ℕ) (h : Here) → suc n ≡ column - h.place.column → (n ≡ column - (step h).place.column → Spaces column (step h) (over_spaces n (step h))) → (b : Bool) → is_space (next_char h) ≡ b
