@@ -1,4 +1,4 @@
-pub mod AddedLemmas
+pub mod AppendLemmas
 pub mod LendLemmas
 pub mod OriginLemmas
 pub mod QuotedLemmas

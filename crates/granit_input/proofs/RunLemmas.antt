@@ -106,6 +106,9 @@ front_more test text count nul front go =
 pub front_whole : (test : List ℕ → Bool) (text : List ℕ) (count : ℕ) → IsFront test text count → test (drop count text) ≡ false → count ≡ run_length test text
 front_whole test text count front stop = omega (arith, front.rest, run_stops test (drop count text) stop)
 
+pub front_fits : (test : List ℕ → Bool) (text : List ℕ) (count : ℕ) → IsFront test text count → count ≤ run_length test text
+front_fits test text count front = omega (arith, front.rest)
+
 pub front_ended : (test : List ℕ → Bool) (text : List ℕ) (asked count : ℕ) → IsFront test text count → test (drop count text) ≡ false → TakesFront test text asked true count
 front_ended test text asked count front stop =
     let whole = front_whole test text count front stop in

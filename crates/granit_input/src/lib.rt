@@ -1,7 +1,6 @@
 //! What a scanner asks of its input, and the characters of a string.
 #![tactic(auto)]
 
-mod appending;
 mod borrowed;
 mod class;
 mod cuts;
