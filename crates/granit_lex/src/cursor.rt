@@ -1,5 +1,5 @@
 //! An input, and the place up to which it was read.
-ghost use Rattle.std.specs.Prelude.{◌≡◌, ◌<◌, ◌≤◌, ◌+◌, ◌-◌, ◌^◌, min, max, is_some, string_bytes, false, None, Some, if◌then◌else◌, IfOk, OnErr};
+ghost use Rattle.std.specs.Prelude.{◌≡◌, ◌<◌, ◌≤◌, ◌+◌, ◌-◌, ◌^◌, min, max, is_some, false, None, Some, if◌then◌else◌, IfOk};
 ghost use Rattle.std.specs.Borrow.{sem};
 ghost use Rattle.std.specs.Io.BufRead.{Rests};
 ghost use Rattle.std.specs.Option.{option_map};
@@ -8,6 +8,7 @@ ghost use Rattle.granit_base.specs.Classes.{is_blank};
 ghost use Rattle.granit_base.specs.Place as place;
 ghost use Rattle.granit_base.specs.Written.{string_chars};
 ghost use Rattle.granit_error.specs.Kinds.{kind_of};
+ghost use Rattle.granit_input.specs.Chunks.{Extends};
 ghost use Rattle.granit_input.specs.Origin.{error_given, after_giving, LentBetween};
 ghost use Rattle.granit_input.specs.Runs.{starts, is_line_char, is_non_breakz, is_plain_at, is_quoted_char};
 ghost use Rattle.granit_model.specs.Here.{Here, first_place, mark_of, next_char, step};
@@ -133,8 +134,8 @@ impl<T: Input> Cursor<T> {
     }
 
     /// Consumes and appends what a plain scalar takes without blanks: true where the run ended, false
-    /// where `count` characters or more were taken; and how many (YAML 1.2.2, 7.3.3).
-    /// Its error is `NoMemory` alone, and the text is then as before.
+    /// where `count` characters were taken; and how many (YAML 1.2.2, 7.3.3).
+    /// Its error is `NoMemory` alone, and what the text held stays in front.
     pub fn fetch_plain_scalar_chunk(
         &mut self,
         out: &mut String,
@@ -142,8 +143,9 @@ impl<T: Input> Cursor<T> {
         flow_level_gt_0: bool,
     ) -> Result<(bool, usize), NoMemory>
         ensures here { (h : Here) → Stands T.unread self.old h → FetchesFrontSteps (is_plain_at flow_level_gt_0) h count result (Stands T.unread self.new) (string_chars out.old) (string_chars out.new) }
-        ensures kept { OnErr result (string_bytes out.new ≡ string_bytes out.old) }
+        ensures kept { Extends (string_chars out.old) (string_chars out.new) }
         ensures few { IfOk result (λ r. r.0 ≡ false → count ≤ r.1) }
+        ensures limit { IfOk result (λ r. r.1 ≤ count) }
         ensures moves { Moves T.left T.origin self.old self.new }
     {
         let (ended, taken) = self
@@ -158,6 +160,7 @@ impl<T: Input> Cursor<T> {
     pub fn skip_plain_scalar_chunk(&mut self, count: usize, flow_level_gt_0: bool) -> (bool, usize)
         ensures here { (h : Here) → Stands T.unread self.old h → StepsFront (is_plain_at flow_level_gt_0) h count result (Stands T.unread self.new) }
         ensures few { result.0 ≡ false → count ≤ result.1 }
+        ensures limit { result.1 ≤ count }
         ensures moves { Moves T.left T.origin self.old self.new }
     {
         let (ended, taken) = self.input.skip_plain_scalar_chunk(count, flow_level_gt_0);
@@ -206,10 +209,10 @@ impl<T: Input> Cursor<T> {
     }
 
     /// Consumes and appends up to a break, NUL or the end; how many characters.
-    /// Its error is `NoMemory` alone, and the text is then as before.
+    /// Its error is `NoMemory` alone, and what the text held stays in front.
     pub fn fetch_block_scalar_line(&mut self, out: &mut String) -> Result<usize, NoMemory>
         ensures here { (h : Here) → Stands T.unread self.old h → FetchesSteps (starts is_non_breakz) h result (Stands T.unread self.new) (string_chars out.old) (string_chars out.new) }
-        ensures kept { OnErr result (string_bytes out.new ≡ string_bytes out.old) }
+        ensures kept { Extends (string_chars out.old) (string_chars out.new) }
         ensures moves { Moves T.left T.origin self.old self.new }
     {
         let taken = self.input.fetch_block_scalar_line(out)?;
