@@ -3,6 +3,7 @@ pub mod LendLemmas
 pub mod OriginLemmas
 pub mod QuotedLemmas
 pub mod RunLemmas
+pub mod StreamLemmas
 pub mod StringLemmas
 pub mod UnreadLemmas
 pub mod WhiteLemmas

@@ -3,5 +3,7 @@ pub mod Laws
 pub mod Looks
 pub mod Origin
 pub mod Runs
+pub mod Stream
+pub mod StreamLaws
 pub mod Unread
 pub mod White

@@ -26,7 +26,7 @@ use granit_error::ErrorKind;
 /// Characters to be read. At most a window of them may be looked at, and a look past the end gives
 /// NUL. Clauses on what is read speak of whatever is known to be left.
 #[tactic(auto, using(crate::proofs::RunLemmas::not_nul))]
-pub trait Input {
+pub trait Input: Drop {
     /// This is known to be what is left.
     ghost unread: { Self → Unread → Type 0 };
 

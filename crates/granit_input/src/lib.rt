@@ -15,4 +15,6 @@ pub use str_input::StrInput;
 pub use whitespace::{SkipTabs, WhitespaceResult};
 
 #[cfg(test)]
+mod stream;
+#[cfg(test)]
 mod tests;
