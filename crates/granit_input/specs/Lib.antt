@@ -1,4 +1,5 @@
 pub mod Chunks
+pub mod Cuts
 pub mod Laws
 pub mod Looks
 pub mod Origin
