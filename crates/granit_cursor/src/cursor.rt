@@ -1,5 +1,5 @@
 //! An input, and the place up to which it was read.
-ghost use Rattle.std.specs.Prelude.{◌≡◌, ◌<◌, ◌≤◌, ◌+◌, ◌-◌, ◌^◌, ◌==◌, ◌&&◌, max, min, is_some, string_bytes, true, false, None, Some, if◌then◌else◌, IfOk, OnErr};
+ghost use Rattle.std.specs.Prelude.{◌≡◌, ◌<◌, ◌≤◌, ◌+◌, ◌-◌, ◌^◌, ◌==◌, ◌&&◌, max, min, is_some, true, false, None, Some, if◌then◌else◌, IfOk};
 ghost use Rattle.std.specs.Borrow.{sem};
 ghost use Rattle.std.specs.Io.BufRead.{Rests};
 ghost use Rattle.std.specs.Option.{option_map};
@@ -8,6 +8,7 @@ ghost use Rattle.granit_base.specs.Classes.{is_alpha, is_blank, is_yaml_non_spac
 ghost use Rattle.granit_base.specs.Place as place;
 ghost use Rattle.granit_base.specs.Written.{string_chars};
 ghost use Rattle.granit_error.specs.Kinds.{kind_of};
+ghost use Rattle.granit_input.specs.Chunks.{Extends};
 ghost use Rattle.granit_input.specs.Origin.{error_given, after_giving, LentBetween};
 ghost use Rattle.granit_input.specs.Runs.{starts, is_line_char, is_non_breakz, is_plain_at, is_quoted_char};
 ghost use Rattle.granit_input.specs.White.{is_skipped};
@@ -194,8 +195,8 @@ impl<T: Input> Cursor<T> {
     }
 
     /// Consumes and appends what a plain scalar takes without blanks: true where the run ended, false
-    /// where `count` characters or more were taken; and how many (YAML 1.2.2, 7.3.3).
-    /// Its error is `NoMemory` alone, and the text is then as before.
+    /// where `count` characters were taken; and how many (YAML 1.2.2, 7.3.3).
+    /// Its error is `NoMemory` alone, and what the text held stays in front.
     pub fn fetch_plain_scalar_chunk(
         &mut self,
         out: &mut String,
@@ -205,8 +206,9 @@ impl<T: Input> Cursor<T> {
         ensures here { Wherever T.unread self.old self.new (λ h Lands.
             FetchesFrontSteps (is_plain_at flow_level_gt_0) h count result Lands
             (string_chars out.old) (string_chars out.new)) }
-        ensures kept { OnErr result (string_bytes out.new ≡ string_bytes out.old) }
+        ensures kept { Extends (string_chars out.old) (string_chars out.new) }
         ensures few { IfOk result (λ r. r.0 ≡ false → count ≤ r.1) }
+        ensures limit { IfOk result (λ r. r.1 ≤ count) }
         ensures takes { IfOk result (λ r. Takes T.left T.window self.old self.new r.1) }
         ensures moves { Moves T.left T.origin self.old self.new }
     {
@@ -225,6 +227,7 @@ impl<T: Input> Cursor<T> {
         ensures here { Wherever T.unread self.old self.new (λ h Lands.
             StepsFront (is_plain_at flow_level_gt_0) h count result Lands) }
         ensures few { result.0 ≡ false → count ≤ result.1 }
+        ensures limit { result.1 ≤ count }
         ensures takes { Takes T.left T.window self.old self.new result.1 }
         ensures moves { Moves T.left T.origin self.old self.new }
     {
@@ -283,11 +286,11 @@ impl<T: Input> Cursor<T> {
     }
 
     /// Consumes and appends word characters and `_`; how many characters.
-    /// Its error is `NoMemory` alone, and the text is then as before.
+    /// Its error is `NoMemory` alone, and what the text held stays in front.
     pub fn fetch_while_is_alpha(&mut self, out: &mut String) -> Result<usize, NoMemory>
         ensures here { Wherever T.unread self.old self.new (λ h Lands.
             FetchesSteps (starts is_alpha) h result Lands (string_chars out.old) (string_chars out.new)) }
-        ensures kept { OnErr result (string_bytes out.new ≡ string_bytes out.old) }
+        ensures kept { Extends (string_chars out.old) (string_chars out.new) }
         ensures takes { IfOk result (λ count. Takes T.left T.window self.old self.new count) }
         ensures moves { Moves T.left T.origin self.old self.new }
     {
@@ -300,11 +303,11 @@ impl<T: Input> Cursor<T> {
     }
 
     /// Consumes and appends what a line holds but blanks and the byte-order mark; how many characters.
-    /// Its error is `NoMemory` alone, and the text is then as before.
+    /// Its error is `NoMemory` alone, and what the text held stays in front.
     pub fn fetch_while_is_yaml_non_space(&mut self, out: &mut String) -> Result<usize, NoMemory>
         ensures here { Wherever T.unread self.old self.new (λ h Lands.
             FetchesSteps (starts is_yaml_non_space) h result Lands (string_chars out.old) (string_chars out.new)) }
-        ensures kept { OnErr result (string_bytes out.new ≡ string_bytes out.old) }
+        ensures kept { Extends (string_chars out.old) (string_chars out.new) }
         ensures takes { IfOk result (λ count. Takes T.left T.window self.old self.new count) }
         ensures moves { Moves T.left T.origin self.old self.new }
     {
@@ -317,11 +320,11 @@ impl<T: Input> Cursor<T> {
     }
 
     /// Consumes and appends up to a break, NUL or the end; how many characters. The line is then begun.
-    /// Its error is `NoMemory` alone, and the text is then as before.
+    /// Its error is `NoMemory` alone, and what the text held stays in front.
     pub fn fetch_block_scalar_line(&mut self, out: &mut String) -> Result<usize, NoMemory>
         ensures here { Wherever T.unread self.old self.new (λ h Lands.
             FetchesSteps (starts is_non_breakz) h result (Inside Lands) (string_chars out.old) (string_chars out.new)) }
-        ensures kept { OnErr result (string_bytes out.new ≡ string_bytes out.old) }
+        ensures kept { Extends (string_chars out.old) (string_chars out.new) }
         ensures takes { IfOk result (λ count. Takes T.left T.window self.old self.new count) }
         ensures moves { Moves T.left T.origin self.old self.new }
     {
@@ -349,11 +352,11 @@ impl<T: Input> Cursor<T> {
     }
 
     /// Consumes and appends printable characters up to a break, NUL or the end; how many. The line is then
-    /// begun. Its error is `NoMemory` alone, and the text is then as before.
+    /// begun. Its error is `NoMemory` alone, and what the text held stays in front.
     pub fn fetch_while_non_breakz(&mut self, out: &mut String) -> Result<usize, NoMemory>
         ensures here { Wherever T.unread self.old self.new (λ h Lands.
             FetchesSteps (starts is_line_char) h result (Inside Lands) (string_chars out.old) (string_chars out.new)) }
-        ensures kept { OnErr result (string_bytes out.new ≡ string_bytes out.old) }
+        ensures kept { Extends (string_chars out.old) (string_chars out.new) }
         ensures takes { IfOk result (λ count. Takes T.left T.window self.old self.new count) }
         ensures moves { Moves T.left T.origin self.old self.new }
     {

@@ -2,6 +2,7 @@
 use Rattle.std.proofs.Common.{◌≡◌, ℕ, ◌+◌, ◌-◌, ◌≤◌, Bool, List, ◌++◌, length, take, drop, slice_range, ◌&&◌, Option, Some, None, is_some, IsNone, IfSome, refl, sym, ap, subst, ◌∙◌, arith}
 use Rattle.std.specs.Str.{chars, encode_utf8_all, IsUtf8, IsCharBoundary}
 use Rattle.std.proofs.lemmas.List.{take-append-drop, drop-drop, length-drop}
+use Rattle.std.proofs.Math.Seq.{take-append_seam}
 use Rattle.std.proofs.lemmas.Str.{encodes-append, encodes-chars, encodes_same, IsUtf8-from_is_utf8, IsCharBoundary-from_drop, IsUtf8-take}
 use Rattle.std.specs.Borrow.{Bor}
 use Rattle.std.specs.Option.{option_map}
@@ -9,7 +10,6 @@ use Rattle.granit_base.specs.Spans.{CutsOut}
 use Rattle.granit_base.specs.Place.{Unread}
 use Rattle.granit_input.specs.Origin.{Origin, Goes, Agrees, LentBetween}
 use Rattle.granit_input.specs.Unread.{Spells, utf8_length, past}
-use Rattle.granit_input.proofs.AddedLemmas.{front_kept}
 use Rattle.granit_input.proofs.UnreadLemmas.{past_offset}
 
 pub spells_utf8 : (bytes : List ℕ) (at : ℕ) (text : List ℕ) → Spells bytes at text → IsUtf8 (drop at bytes)
@@ -28,7 +28,7 @@ part_bytes bytes start text n s =
     let all : drop start bytes ≡ encode_utf8_all text = sym (encodes-chars (drop start bytes) (spells_utf8 bytes start text s)) ∙ ap encode_utf8_all s.spelled in
     let parts : encode_utf8_all text ≡ encode_utf8_all (take n text) ++ encode_utf8_all (drop n text) =
     ap encode_utf8_all (sym (take-append-drop n text)) ∙ encodes-append (take n text) (drop n text) in
-    rw (all, parts) (front_kept (encode_utf8_all (take n text)) (encode_utf8_all (drop n text)))
+    rw (all, parts) (take-append_seam (encode_utf8_all (take n text)) (encode_utf8_all (drop n text)))
 
 pub part_chars : (bytes : List ℕ) (start : ℕ) (text rest part : List ℕ) (n : ℕ) → Spells bytes start text → Spells bytes (start + utf8_length (take n text)) rest
     → part ≡ slice_range bytes start (start + utf8_length (take n text)) → chars part ≡ take n text

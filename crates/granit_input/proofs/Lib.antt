@@ -1,8 +1,9 @@
-pub mod AddedLemmas
+pub mod AppendLemmas
 pub mod LendLemmas
 pub mod OriginLemmas
 pub mod QuotedLemmas
 pub mod RunLemmas
+pub mod StreamLemmas
 pub mod StringLemmas
 pub mod UnreadLemmas
 pub mod WhiteLemmas

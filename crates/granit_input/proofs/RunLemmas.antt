@@ -106,10 +106,18 @@ front_more test text count nul front go =
 pub front_whole : (test : List ℕ → Bool) (text : List ℕ) (count : ℕ) → IsFront test text count → test (drop count text) ≡ false → count ≡ run_length test text
 front_whole test text count front stop = omega (arith, front.rest, run_stops test (drop count text) stop)
 
+pub front_fits : (test : List ℕ → Bool) (text : List ℕ) (count : ℕ) → IsFront test text count → count ≤ run_length test text
+front_fits test text count front = omega (arith, front.rest)
+
 pub front_ended : (test : List ℕ → Bool) (text : List ℕ) (asked count : ℕ) → IsFront test text count → test (drop count text) ≡ false → TakesFront test text asked true count
 front_ended test text asked count front stop =
     let whole = front_whole test text count front stop in
     record { fits = omega arith; whole = λ _. whole; enough = λ e. absurd cc }
+
+-- no fewer characters than were asked for, whether or not the run ends there
+pub front_cut : (test : List ℕ → Bool) (text : List ℕ) (asked count : ℕ) → IsFront test text count → asked ≤ count → TakesFront test text asked false count
+front_cut test text asked count front enough =
+    record { fits = front_fits test text count front; whole = λ e. absurd cc; enough = λ _. enough }
 
 -- a front that is shorter than what was asked for is the whole run
 pub front_all : (test : List ℕ → Bool) (text : List ℕ) (asked : ℕ) (ended : Bool) (count : ℕ) → TakesFront test text asked ended count → count < asked → count ≡ run_length test text

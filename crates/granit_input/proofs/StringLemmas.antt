@@ -1,12 +1,16 @@
 -- Steps over a string.
-use Rattle.std.proofs.Common.{◌≡◌, ℕ, ◌+◌, ◌-◌, ◌<◌, ◌≤◌, true, List, [], ◌∷◌, ◌++◌, length, take, drop, refl, sym, ap, ◌∙◌, arith}
+use Rattle.std.proofs.Common.{◌≡◌, ℕ, ◌+◌, ◌-◌, ◌<◌, ◌≤◌, true, List, [], ◌∷◌, ◌++◌, length, take, drop, slice_range, Bool, refl, sym, ap, subst, ◌∙◌, arith}
 use Rattle.std.specs.Char.{encode_utf8}
-use Rattle.std.specs.Str.{chars, encode_utf8_all, is_utf8}
+use Rattle.std.specs.Str.{chars, encode_utf8_all, is_utf8, IsUtf8, IsCharBoundary}
 use Rattle.std.proofs.lemmas.List.{length-append, append-nil, append_assoc, drop-drop, drop_at, length-drop, take_all, drop_all}
-use Rattle.std.proofs.lemmas.Str.{encodes-append, IsUtf8-past_char, IsUtf8-from_is_utf8, is_utf8-from_IsUtf8}
+use Rattle.std.proofs.Math.Seq.{take-append_seam}
+use Rattle.std.proofs.lemmas.Str.{encodes-append, encodes-chars, encodes_same, IsCharBoundary-at_seam, IsUtf8-past_char, IsUtf8-from_is_utf8, is_utf8-from_IsUtf8}
 use Rattle.granit_base.specs.Classes.{is_break, is_breakz, is_z}
 use Rattle.granit_base.specs.Place.{Unread, first}
+use Rattle.granit_input.proofs.RunLemmas.{run_within}
 use Rattle.granit_input.proofs.WhiteLemmas.{take_more}
+use Rattle.granit_input.specs.Chunks.{TakesFront, SkipsFront}
+use Rattle.granit_input.specs.Cuts.{SpellsFront}
 use Rattle.granit_input.specs.Unread.{past, left_of, utf8_length}
 
 -- so many characters on, what is left of a string is what is left behind their bytes
@@ -87,3 +91,32 @@ end_breakz source rest u none is = rw (← nul_left source rest u none is) refl
 
 pub utf8_behind : (rest after : List ℕ) (c : ℕ) → is_utf8 rest ≡ true → rest ≡ encode_utf8 c ++ after → is_utf8 after ≡ true
 utf8_behind rest after c utf8 bytes = is_utf8-from_IsUtf8 after (IsUtf8-past_char rest after c (IsUtf8-from_is_utf8 rest utf8) bytes)
+
+-- ---- what stands in front of the rest of a string
+
+pub seam_before : (text rest : List ℕ) (count : ℕ) → IsUtf8 rest → SpellsFront text count rest → IsCharBoundary text (length text - length rest)
+seam_before text rest count utf8 bytes =
+    let front = encode_utf8_all (take count (chars text)) in
+    let place : length text - length rest ≡ length front = omega (arith, ap length bytes ∙ length-append front rest) in
+    rw place (IsCharBoundary-at_seam text front rest bytes utf8)
+
+pub before_chars : (text rest before : List ℕ) (count : ℕ) → IsUtf8 before → SpellsFront text count rest → before ≡ slice_range text 0 (length text - length rest)
+    → chars before ≡ take count (chars text)
+before_chars text rest before count utf8 bytes is =
+    let front = encode_utf8_all (take count (chars text)) in
+    let place : length text - length rest - 0 ≡ length front = omega (arith, ap length bytes ∙ length-append front rest) in
+    let same : before ≡ front = is ∙ ap (λ (n : ℕ). take n text) place ∙ ap (take (length front)) bytes ∙ take-append_seam front rest in
+    encodes_same (chars before) (take count (chars text)) (encodes-chars before utf8 ∙ same)
+
+-- a run at the front of what is left of a string is behind
+pub run_behind : (test : List ℕ → Bool) (source rest after : List ℕ) (asked count : ℕ) (ended : Bool) (u : Unread) → length rest ≤ length source
+    → TakesFront test (chars rest) asked ended count → chars after ≡ drop count (chars rest) → SpellsFront rest count after → u ≡ left_of source rest
+    → SkipsFront test u asked (ended, count) (λ v. v ≡ left_of source after)
+run_behind test source rest after asked count ended u fits front text bytes is =
+    let here : chars rest ≡ u.text = sym (ap (λ (v : Unread). v.text) is) in
+    (subst (λ (cs : List ℕ). TakesFront test cs asked ended count) here front, ap (past count) is ∙ past_bytes source rest after count fits text bytes)
+
+pub run_left : (test : List ℕ → Bool) (rest after : List ℕ) (asked count : ℕ) (ended : Bool) → TakesFront test (chars rest) asked ended count → chars after ≡ drop count (chars rest)
+    → length (chars after) + count ≤ length (chars rest)
+run_left test rest after asked count ended front text =
+    omega (arith, ap length text ∙ length-drop count (chars rest), front.fits, run_within test (chars rest))

@@ -25,7 +25,7 @@ string_agrees source rest window u suffix utf8 is =
     let text : u.text ≡ chars rest = ap (λ (v : Unread). v.text) is in
     record {
       bounded = le_of_eq (ap length text);
-      exact = λ none. sym (ap length text) ∙ none;
+      exact = λ known none. sym (ap length text) ∙ none;
       offset = ap (λ (v : Unread). is_some v.offset) is;
       lends = ap (λ (v : Unread). v.lends) is;
       sliced = string_spells source rest u suffix utf8 is;

@@ -1,7 +1,10 @@
 pub mod Chunks
+pub mod Cuts
 pub mod Laws
 pub mod Looks
 pub mod Origin
 pub mod Runs
+pub mod Stream
+pub mod StreamLaws
 pub mod Unread
 pub mod White

@@ -44,11 +44,11 @@ after_giving o = record o { handed_out = o.handed_out || is_some o.error }
 abbrev pub can_lend : Origin → Bool
 can_lend o = o.tells_offset && is_some o.lent
 
--- What is known to be left is within the bound, which is 0 only at the end. Its offset is known where offsets are told, it can be lent as said
+-- What is known to be left is within the bound, which is 0 at an end that is known. Its offset is known where offsets are told, it can be lent as said
 -- above, and from its offset on the sources are its UTF-8.
 pub record Agrees (left : ℕ) (o : Origin) (u : Unread) : Type 0 where
   pub bounded : length u.text ≤ left
-  pub exact : length u.text ≡ 0 → left ≡ 0
+  pub exact : o.knows_end ≡ true → length u.text ≡ 0 → left ≡ 0
   pub offset : is_some u.offset ≡ o.tells_offset
   pub lends : u.lends ≡ can_lend o
   pub sliced : SpelledBy o.sliced u

@@ -1,9 +1,10 @@
 //! The classes of characters that runs are made of.
-ghost use Rattle.std.specs.Prelude.{◌≡◌};
-ghost use Rattle.granit_input.specs.Runs.{class_test, is_quoted_char, plain_goes_on};
+ghost use Rattle.std.specs.Prelude.{◌≡◌, ◌∷◌};
+ghost use Rattle.std.specs.Str.{chars};
+ghost use Rattle.granit_input.specs.Runs.{class_test, is_quoted_char, plain_goes_on, run_test};
 
 use granit_base::{
-    is_alpha, is_blank, is_blank_or_breakz, is_breakz, is_flow, is_printable, is_yaml_non_space,
+    is_alpha, is_blank, is_blank_or_breakz, is_breakz, is_flow, is_printable, is_yaml_non_space, nth_char,
 };
 
 /// A class of characters (YAML 1.2.2, chapter 5). NUL is in none.
@@ -44,6 +45,22 @@ impl Class {
             Class::Blank => is_blank(c),
             Class::Printable => !is_breakz(c) && is_printable(c),
             Class::NonBreakz => !is_breakz(c),
+        }
+    }
+}
+
+impl Run {
+    /// Whether a run takes a character that stands in front of a text.
+    pub(crate) fn takes(self, c: char, after: &str) -> bool
+        ensures { result ≡ run_test self (c ∷ chars after.now) }
+    {
+        match self {
+            Run::Of(class) => class.contains(c),
+            Run::Plain(in_flow) => {
+                let next = if c == ':' { nth_char(after, 0) } else { ' ' };
+                !is_blank_or_breakz(c) && goes_on(c, next, in_flow)
+            }
+            Run::Quoted(single) => is_quoted(c, single),
         }
     }
 }

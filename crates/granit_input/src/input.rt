@@ -1,5 +1,5 @@
 //! What a scanner asks of its input.
-ghost use Rattle.std.specs.Prelude.{◌≡◌, ℕ, ◌+◌, ◌-◌, ◌<◌, ◌≤◌, ◌^◌, ◌==◌, ◌&&◌, ◌||◌, Option, false, true, length, slice_index, is_some, min, max, string_bytes, IfOk, OnErr, MatchOption, IfSome};
+ghost use Rattle.std.specs.Prelude.{◌≡◌, ℕ, ◌+◌, ◌-◌, ◌<◌, ◌≤◌, ◌^◌, ◌==◌, ◌&&◌, ◌||◌, Option, false, true, length, slice_index, is_some, min, max, IfOk, MatchOption, IfSome};
 ghost use Rattle.std.specs.Borrow.{sem};
 ghost use Rattle.std.specs.Io.BufRead.{Rests};
 ghost use Rattle.std.specs.Option.{option_map};
@@ -11,26 +11,26 @@ ghost use Rattle.granit_error.specs.Kinds.{kind_of};
 ghost use Rattle.granit_input.specs.Unread.{past};
 ghost use Rattle.granit_input.specs.Origin.{Origin, Goes, PartOf, error_given, after_giving, Agrees};
 ghost use Rattle.granit_input.specs.Runs.{starts, run_test, is_line_char, is_non_breakz, is_plain_at, is_quoted_ascii, is_quoted_char, can_be_plain};
-ghost use Rattle.granit_input.specs.Chunks.{SkipsRun, FetchesRun, SkipsFront, FetchesFront, TakesText, count_of, front_count_of};
+ghost use Rattle.granit_input.specs.Chunks.{SkipsRun, FetchesRun, SkipsFront, FetchesFront, Extends, TakesText, count_of, front_count_of};
 ghost use Rattle.granit_input.specs.Looks.{begins_with_2, begins_with_3, is_document_start, is_document_end, is_document_indicator, ReadsNonBreakz};
 ghost use Rattle.granit_input.specs.White.{holds, SkipsBlanks, SkipsWhite};
 
-use crate::appending::push_or_cut;
 use crate::class::{Class, Run, goes_on, is_quoted};
 use crate::whitespace::{SkipTabs, WhitespaceResult};
 use granit_base::{
     NoMemory, is_alpha, is_blank, is_blank_or_breakz, is_break, is_breakz, is_digit, is_flow,
+    push_char,
 };
 use granit_error::ErrorKind;
 
 /// Characters to be read. At most a window of them may be looked at, and a look past the end gives
 /// NUL. Clauses on what is read speak of whatever is known to be left.
 #[tactic(auto, using(crate::proofs::RunLemmas::not_nul))]
-pub trait Input {
+pub trait Input: Drop {
     /// This is known to be what is left.
     ghost unread: { Self → Unread → Type 0 };
 
-    /// No more characters than this are left, and none exactly where it is 0.
+    /// No more characters than this are left.
     ghost left: { Self → ℕ };
 
     /// How many characters may be looked at.
@@ -321,7 +321,8 @@ pub trait Input {
         (false, count)
     }
 
-    /// The same, and appends them. Its error is `NoMemory` alone, and the text is then as before.
+    /// The same, and appends them. Its error is `NoMemory` alone, and nothing is lost then: what was consumed
+    /// of the run was appended.
     fn fetch_run(
         &mut self,
         out: &mut String,
@@ -329,18 +330,17 @@ pub trait Input {
         limit: usize,
     ) -> Result<(bool, usize), NoMemory>
         ensures fetches { (u : Unread) → unread self.old u → FetchesFront (run_test run) u limit result (unread self.new) (string_chars out.old) (string_chars out.new) }
-        ensures kept { OnErr result (string_bytes out.new ≡ string_bytes out.old) }
+        ensures kept { Extends (string_chars out.old) (string_chars out.new) }
         ensures few { IfOk result (λ r. r.0 ≡ false → limit ≤ r.1) }
         ensures limit { IfOk result (λ r. r.1 ≤ limit) }
         ensures moves { (left self.new + front_count_of result ≤ left self.old) × (IfOk result (λ r. window self.old ≤ window self.new + r.1)) × Goes (origin self.old) (origin self.new) }
     {
-        let start = out.len();
         let mut count = 0;
         'run: while count < limit {
             if !self.next_in(run) {
                 return Ok((true, count));
             }
-            push_or_cut(out, self.peek(), start)?;
+            push_char(out, self.peek())?;
             self.skip();
             count += 1;
         }
@@ -405,10 +405,10 @@ pub trait Input {
     }
 
     /// Consumes and appends word characters and `_`; how many.
-    /// Its error is `NoMemory` alone, and the text is then as before.
+    /// Its error is `NoMemory` alone, and nothing is lost then, as with `fetch_run`.
     fn fetch_while_is_alpha(&mut self, out: &mut String) -> Result<usize, NoMemory>
         ensures fetches { (u : Unread) → unread self.old u → FetchesRun (starts is.is_alpha) u result (unread self.new) (string_chars out.old) (string_chars out.new) }
-        ensures kept { OnErr result (string_bytes out.new ≡ string_bytes out.old) }
+        ensures kept { Extends (string_chars out.old) (string_chars out.new) }
         ensures moves { (left self.new + count_of result ≤ left self.old) × (IfOk result (λ count. window self.old ≤ window self.new + count)) × Goes (origin self.old) (origin self.new) }
     {
         let (_, count) = self.fetch_run(out, Run::Of(Class::Alpha), usize::MAX)?;
@@ -416,10 +416,10 @@ pub trait Input {
     }
 
     /// Consumes and appends what a line holds but blanks and the byte-order mark; how many characters.
-    /// Its error is `NoMemory` alone, and the text is then as before.
+    /// Its error is `NoMemory` alone, and nothing is lost then, as with `fetch_run`.
     fn fetch_while_is_yaml_non_space(&mut self, out: &mut String) -> Result<usize, NoMemory>
         ensures fetches { (u : Unread) → unread self.old u → FetchesRun (starts is.is_yaml_non_space) u result (unread self.new) (string_chars out.old) (string_chars out.new) }
-        ensures kept { OnErr result (string_bytes out.new ≡ string_bytes out.old) }
+        ensures kept { Extends (string_chars out.old) (string_chars out.new) }
         ensures moves { (left self.new + count_of result ≤ left self.old) × (IfOk result (λ count. window self.old ≤ window self.new + count)) × Goes (origin self.old) (origin self.new) }
     {
         let (_, count) = self.fetch_run(out, Run::Of(Class::NonSpace), usize::MAX)?;
@@ -427,10 +427,10 @@ pub trait Input {
     }
 
     /// Consumes and appends up to a break, NUL or the end; how many characters.
-    /// Its error is `NoMemory` alone, and the text is then as before.
+    /// Its error is `NoMemory` alone, and nothing is lost then, as with `fetch_run`.
     fn fetch_block_scalar_line(&mut self, out: &mut String) -> Result<usize, NoMemory>
         ensures fetches { (u : Unread) → unread self.old u → FetchesRun (starts is_non_breakz) u result (unread self.new) (string_chars out.old) (string_chars out.new) }
-        ensures kept { OnErr result (string_bytes out.new ≡ string_bytes out.old) }
+        ensures kept { Extends (string_chars out.old) (string_chars out.new) }
         ensures moves { (left self.new + count_of result ≤ left self.old) × (IfOk result (λ count. window self.old ≤ window self.new + count)) × Goes (origin self.old) (origin self.new) }
     {
         let (_, count) = self.fetch_run(out, Run::Of(Class::NonBreakz), usize::MAX)?;
@@ -463,8 +463,8 @@ pub trait Input {
     }
 
     /// Consumes and appends what a plain scalar takes without blanks: true where the run ended, false
-    /// where `count` characters or more were taken; and how many (YAML 1.2.2, 7.3.3).
-    /// Its error is `NoMemory` alone, and the text is then as before.
+    /// where `count` characters were taken; and how many (YAML 1.2.2, 7.3.3).
+    /// Its error is `NoMemory` alone, and nothing is lost then, as with `fetch_run`.
     fn fetch_plain_scalar_chunk(
         &mut self,
         out: &mut String,
@@ -472,8 +472,9 @@ pub trait Input {
         flow_level_gt_0: bool,
     ) -> Result<(bool, usize), NoMemory>
         ensures fetches { (u : Unread) → unread self.old u → FetchesFront (is_plain_at flow_level_gt_0) u count result (unread self.new) (string_chars out.old) (string_chars out.new) }
-        ensures kept { OnErr result (string_bytes out.new ≡ string_bytes out.old) }
+        ensures kept { Extends (string_chars out.old) (string_chars out.new) }
         ensures few { IfOk result (λ r. r.0 ≡ false → count ≤ r.1) }
+        ensures limit { IfOk result (λ r. r.1 ≤ count) }
         ensures moves { (left self.new + front_count_of result ≤ left self.old) × (IfOk result (λ r. window self.old ≤ window self.new + r.1)) × Goes (origin self.old) (origin self.new) }
     {
         self.fetch_run(out, Run::Plain(flow_level_gt_0), count)
@@ -483,6 +484,7 @@ pub trait Input {
     fn skip_plain_scalar_chunk(&mut self, count: usize, flow_level_gt_0: bool) -> (bool, usize)
         ensures skips { (u : Unread) → unread self.old u → SkipsFront (is_plain_at flow_level_gt_0) u count result (unread self.new) }
         ensures few { result.0 ≡ false → count ≤ result.1 }
+        ensures limit { result.1 ≤ count }
         ensures moves { (left self.new + result.1 ≤ left self.old) × (window self.old ≤ window self.new + result.1) × Goes (origin self.old) (origin self.new) }
     {
         self.skip_run(Run::Plain(flow_level_gt_0), count)

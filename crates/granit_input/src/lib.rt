@@ -1,7 +1,6 @@
 //! What a scanner asks of its input, and the characters of a string.
 #![tactic(auto)]
 
-mod appending;
 mod borrowed;
 mod class;
 mod cuts;
@@ -15,5 +14,7 @@ pub use input::Input;
 pub use str_input::StrInput;
 pub use whitespace::{SkipTabs, WhitespaceResult};
 
+#[cfg(test)]
+mod stream;
 #[cfg(test)]
 mod tests;

@@ -6,9 +6,10 @@ ghost use Rattle.granit_input.specs.Looks.{ReadsNonBreakz};
 ghost use Rattle.granit_input.specs.Unread.{past};
 
 use crate::borrowed::BorrowedInput;
-use crate::cuts::{behind, part};
+use crate::class::Run;
+use crate::cuts::{before, behind, part, past_run};
 use crate::input::Input;
-use granit_base::{is_at_end, is_breakz, nth_char, split_first_char};
+use granit_base::{NoMemory, is_at_end, is_breakz, nth_char, push_text, split_first_char};
 use granit_error::ErrorKind;
 
 /// The characters of a string. Its window is the greatest count that was asked for.
@@ -124,6 +125,24 @@ impl<'a> Input for StrInput<'a> {
         ensures window { self.new.window ≡ self.old.window }
     {
         self.rest = behind(self.rest, count);
+    }
+
+    fn skip_run(&mut self, run: Run, limit: usize) -> (bool, usize) {
+        let (ended, count, rest) = past_run(self.rest, run, limit);
+        self.rest = rest;
+        (ended, count)
+    }
+
+    fn fetch_run(
+        &mut self,
+        out: &mut String,
+        run: Run,
+        limit: usize,
+    ) -> Result<(bool, usize), NoMemory> {
+        let (ended, count, rest) = past_run(self.rest, run, limit);
+        push_text(out, before(self.rest, rest))?;
+        self.rest = rest;
+        Ok((ended, count))
     }
 
     fn peek(&self) -> char {

@@ -6,8 +6,10 @@ ghost use Rattle.granit_input.specs.Origin.{LentBetween};
 ghost use Rattle.granit_input.specs.Runs.{run_length, starts};
 ghost use Rattle.granit_input.specs.Unread.{past};
 
+use crate::stream::Stream;
 use crate::{BorrowedInput, Class, Input, Run, SkipTabs, StrInput, WhitespaceResult};
 use granit_base::{NoMemory, Text};
+use granit_error::ErrorKind;
 use std::alloc::Global;
 use std::test::Fail;
 
@@ -69,6 +71,29 @@ fn words_are_lent_by_a_string(rt: HostRuntime) -> Result<(), Fail> {
     assert_eq!(rt; first.is_borrowed(), true);
     assert_eq!(rt; count_rest(&mut input), 3);
     assert_eq!(rt; input.byte_offset(), Some(5));
+    Ok(())
+}
+
+#[test]
+fn a_stream_ends_with_its_error(rt: HostRuntime) -> Result<(), Fail> {
+    let mut input = Stream::new(rt.alloc(), "né --- é#12".chars(), true)?;
+    let first = word(rt.alloc(), &mut input)?;
+    assert_eq!(rt; first.as_str(), "n");
+    assert_eq!(rt; first.is_borrowed(), false);
+    assert_eq!(rt; input.raw_read_non_breakz_ch(), Some('é'));
+    assert_eq!(rt; input.skip_while_blank(), 1);
+    input.lookahead(4);
+    assert_eq!(rt; input.next_is_document_start(), true);
+    assert_eq!(rt; input.take_source_error().is_none(), true);
+    assert_eq!(rt; input.byte_offset(), None);
+    assert_eq!(rt; count_rest(&mut input), 8);
+    assert_eq!(rt; input.raw_read_ch(), '\0');
+    let error = input.take_source_error();
+    assert_eq!(rt;
+        error.map(|kind| kind == ErrorKind::UnexpectedEof),
+        Some(true)
+    );
+    assert_eq!(rt; input.take_source_error().is_none(), true);
     Ok(())
 }
 

@@ -1,6 +1,5 @@
 -- A plain scalar, a stretch of content a turn.
 use Rattle.std.proofs.Common.{◌≡◌, ℕ, zero, suc, ◌<◌, ◌≤◌, ◌==◌, Bool, true, false, not, ◌&&◌, if◌then◌else◌, List, [], ◌∷◌, ◌++◌, length, take, drop, Some, Result, Ok, refl, sym, ap, ap₂, ◌∙◌, append_assoc, arith}
-use Rattle.std.specs.Prelude.{String, string_bytes}
 use Rattle.std.specs.Str.{chars}
 use Rattle.std.specs.declared.alloc.Global.{Global}
 use Rattle.std.proofs.lemmas.Bool.{and_parts, or_parts, not-true}
@@ -9,7 +8,6 @@ use Rattle.std.proofs.lemmas.Str.{chars-nil}
 use Rattle.std.proofs.Math.Bool.{and-false}
 use Rattle.granit_base.specs.Classes.{is_blank, is_break, is_z, is_breakz, is_blank_or_breakz}
 use Rattle.granit_base.specs.Place.{Mark, first}
-use Rattle.granit_base.specs.Written.{string_chars}
 use Rattle.granit_error.specs.FaultKind.{TabInPlainScalar}
 use Rattle.granit_input.specs.Runs.{run_length, is_plain_at}
 use Rattle.granit_lexemes.specs.Here.{Here, next_char, step}
@@ -23,7 +21,7 @@ use Rattle.granit_lexemes.proofs.HereLemmas.{step_text}
 use Rattle.granit_lexemes.proofs.PieceLemmas.{with_front-nil, with_front-with_front, pieces_more, pieces_done, pieces_fails}
 use Rattle.granit_scalars.proofs.PlainTurns.{chain, plain_shortens}
 use Rattle.granit_lex.specs.PlainCode.{plain_state, inside, plain_rest, plain_whole, ahead_of, turn_of}
-use Rattle.granit_lex.specs.declared.plain.PlainParts.{PlainParts}
+use Rattle.granit_lex.specs.Taken.{PlainTaken}
 use Rattle.granit_lex.specs.declared.plain.Ahead.{Ahead}
 use Rattle.granit_lex.specs.declared.plain.Ahead.TheVariants.{Blank, Break, Tab, Content, End}
 use Rattle.granit_cursor.proofs.MoveLemmas.{cleared, run_begins}
@@ -92,19 +90,19 @@ content_run at start (suc n) g fits =
 
 -- ---- what a turn of the code leaves of the whole
 
-pub gap_goes : (at : LayoutData) (start : Mark) (p q : PlainParts) (h now : Here) (k : Ahead) → ahead_of at (plain_state p h) ≡ k → turn_of at start (plain_state p h) k ≡ Ok (Some [], plain_state q now)
-    → string_chars q.value ≡ string_chars p.value → plain_whole at start q now ≡ plain_whole at start p h
+pub gap_goes : (at : LayoutData) (start : Mark) (p q : PlainTaken) (h now : Here) (k : Ahead) → ahead_of at (plain_state p h) ≡ k → turn_of at start (plain_state p h) k ≡ Ok (Some [], plain_state q now)
+    → q.value ≡ p.value → plain_whole at start q now ≡ plain_whole at start p h
 gap_goes at start p q h now k is given value =
     let more = pieces_more plain_len (plain_turn at start) (plain_shortens at start) (plain_state p h) (plain_state q now) [] (turn_is at start (plain_state p h) k is ∙ given) in
     ap₂ (λ (v : List ℕ) (r : Result (List ℕ × PlainState) Fault). with_front v r) value (sym (more ∙ with_front-nil (plain_rest at start (plain_state q now))))
 
-pub content_goes : (at : LayoutData) (start : Mark) (p q : PlainParts) (h : Here) (n : ℕ) → ahead_of at (plain_state p h) ≡ Content → n ≡ run_length (is_plain_at at.in_flow) (step h).unread.text
-    → string_chars q.value ≡ ((string_chars p.value ++ between (plain_state p h)) ++ next_char h ∷ []) ++ take n (step h).unread.text
+pub content_goes : (at : LayoutData) (start : Mark) (p q : PlainTaken) (h : Here) (n : ℕ) → ahead_of at (plain_state p h) ≡ Content → n ≡ run_length (is_plain_at at.in_flow) (step h).unread.text
+    → q.value ≡ ((p.value ++ between (plain_state p h)) ++ next_char h ∷ []) ++ take n (step h).unread.text
     → plain_state q (steps n (step h)) ≡ inside (steps n (step h)) → plain_whole at start q (steps n (step h)) ≡ plain_whole at start p h
 unfolding on_content
 content_goes at start p q h n is count value state =
     let s = plain_state p h in
-    let v = string_chars p.value in
+    let v = p.value in
     let front = between s ++ next_char h ∷ [] in
     let run = take n (step h).unread.text in
     let rest = plain_rest at start (inside (steps n (step h))) in
@@ -114,19 +112,19 @@ content_goes at start p q h n is count value state =
     ap (with_front v) (more ∙ ap (with_front front) (content_run at start n (step h) fits))
     ∙ with_front-with_front v front (with_front run rest)
     ∙ with_front-with_front (v ++ front) run rest in
-    let grouped : string_chars q.value ≡ (v ++ front) ++ run = value ∙ ap (λ (cs : List ℕ). cs ++ run) (append_assoc v (between s) (next_char h ∷ [])) in
+    let grouped : q.value ≡ (v ++ front) ++ run = value ∙ ap (λ (cs : List ℕ). cs ++ run) (append_assoc v (between s) (next_char h ∷ [])) in
     ap₂ (λ (w : List ℕ) (r : Result (List ℕ × PlainState) Fault). with_front w r) grouped (ap (plain_rest at start) state) ∙ sym whole
 
-pub turn_ends : (at : LayoutData) (start : Mark) (p : PlainParts) (h : Here) → ahead_of at (plain_state p h) ≡ End → plain_whole at start p h ≡ Ok (string_chars p.value, plain_state p h)
+pub turn_ends : (at : LayoutData) (start : Mark) (p : PlainTaken) (h : Here) → ahead_of at (plain_state p h) ≡ End → plain_whole at start p h ≡ Ok (p.value, plain_state p h)
 turn_ends at start p h is =
     let done = pieces_done plain_len (plain_turn at start) (plain_state p h) (plain_state p h) (turn_is at start (plain_state p h) End is) in
-    ap (with_front (string_chars p.value)) done ∙ ap (λ (v : List ℕ). Ok (v, plain_state p h)) (append-nil (string_chars p.value))
+    ap (with_front p.value) done ∙ ap (λ (v : List ℕ). Ok (v, plain_state p h)) (append-nil p.value)
 
-pub turn_refused : (at : LayoutData) (start : Mark) (p : PlainParts) (h : Here) → ahead_of at (plain_state p h) ≡ Tab → plain_whole at start p h ≡ fails_at TabInPlainScalar start
+pub turn_refused : (at : LayoutData) (start : Mark) (p : PlainTaken) (h : Here) → ahead_of at (plain_state p h) ≡ Tab → plain_whole at start p h ≡ fails_at TabInPlainScalar start
 turn_refused at start p h is =
-    ap (with_front (string_chars p.value)) (pieces_fails plain_len (plain_turn at start) (plain_state p h) (fault_at TabInPlainScalar start) (turn_is at start (plain_state p h) Tab is))
+    ap (with_front p.value) (pieces_fails plain_len (plain_turn at start) (plain_state p h) (fault_at TabInPlainScalar start) (turn_is at start (plain_state p h) Tab is))
 
 -- nothing was read yet
-pub plain_begins : (at : LayoutData) (start : Mark) (p : PlainParts) (h : Here) → string_bytes p.value ≡ [] → plain_state p h ≡ inside h → plain_whole at start p h ≡ plain_rest at start (inside h)
+pub plain_begins : (at : LayoutData) (start : Mark) (p : PlainTaken) (h : Here) → p.value ≡ [] → plain_state p h ≡ inside h → plain_whole at start p h ≡ plain_rest at start (inside h)
 plain_begins at start p h none state =
-    ap₂ (λ (v : List ℕ) (r : Result (List ℕ × PlainState) Fault). with_front v r) (cleared p.value none) (ap (plain_rest at start) state) ∙ with_front-nil (plain_rest at start (inside h))
+    ap₂ (λ (v : List ℕ) (r : Result (List ℕ × PlainState) Fault). with_front v r) none (ap (plain_rest at start) state) ∙ with_front-nil (plain_rest at start (inside h))

@@ -3,7 +3,6 @@ use Rattle.std.proofs.Common.{◌≡◌, ℕ, suc, ◌==◌, Bool, true, false, 
 use Rattle.std.proofs.lemmas.List.{append-nil}
 use Rattle.granit_base.specs.Classes.{is_blank, is_break, is_printable}
 use Rattle.granit_base.specs.Place.{Mark, first}
-use Rattle.granit_base.specs.Written.{string_chars}
 use Rattle.granit_error.specs.FaultKind.{InvalidIndentation, UnclosedQuotedScalar, DocumentIndicatorInQuotedScalar, TabInIndentation, InvalidQuotedScalarIndent, UnexpectedCharacter}
 use Rattle.granit_error.specs.Refused.{Refused}
 use Rattle.granit_input.specs.Runs.{run_length, starts}
@@ -17,7 +16,7 @@ use Rattle.granit_lexemes.proofs.HereLemmas.{step_text}
 use Rattle.granit_lexemes.proofs.PieceLemmas.{with_front-nil, loop_more, loop_done, loop_fails}
 use Rattle.granit_scalars.proofs.QuotedTurns.{quoted_shortens, tab_meets, strict_meets, loose_meets, mark_meets, turn_chain}
 use Rattle.granit_lex.specs.QuotedCode.{quoted_state, quoted_whole, quoted_ahead, quoted_turn_of, content_read, added, escapes}
-use Rattle.granit_lex.specs.declared.quoted.QuotedParts.{QuotedParts}
+use Rattle.granit_lex.specs.Taken.{QuotedTaken}
 use Rattle.granit_lex.specs.declared.quoted.Ahead.{Ahead}
 use Rattle.granit_lex.specs.declared.quoted.Ahead.TheVariants.{Blank, Break, Content, End}
 
@@ -84,38 +83,38 @@ content_turn single at start s is = turn_next single at start s Content is ∙ c
 
 -- ---- what a turn of the code leaves of the whole
 
-pub goes_on : (single : Bool) (at : LayoutData) (start : Mark) (p q : QuotedParts) (h now : Here) (piece : List ℕ) → quoted_turn single at start (quoted_state p h) ≡ Ok (Some piece, quoted_state q now)
-    → string_chars q.value ≡ string_chars p.value ++ piece → quoted_whole single at start q now ≡ quoted_whole single at start p h
+pub goes_on : (single : Bool) (at : LayoutData) (start : Mark) (p q : QuotedTaken) (h now : Here) (piece : List ℕ) → quoted_turn single at start (quoted_state p h) ≡ Ok (Some piece, quoted_state q now)
+    → q.value ≡ p.value ++ piece → quoted_whole single at start q now ≡ quoted_whole single at start p h
 goes_on single at start p q h now piece is grown =
-    loop_more quoted_len (quoted_turn single at start) (quoted_shortens single at start) (string_chars p.value) (string_chars q.value) (quoted_state p h) (quoted_state q now) piece (quoted_whole single at start p h) refl is grown
+    loop_more quoted_len (quoted_turn single at start) (quoted_shortens single at start) p.value q.value (quoted_state p h) (quoted_state q now) piece (quoted_whole single at start p h) refl is grown
 
-pub over_gap : (single : Bool) (at : LayoutData) (start : Mark) (p q : QuotedParts) (h now : Here) (k : Ahead) → quoted_ahead single at start (quoted_state p h) ≡ Ok k → quoted_turn_of single start (quoted_state p h) k ≡ Ok (Some [], quoted_state q now)
-    → string_chars q.value ≡ string_chars p.value → quoted_whole single at start q now ≡ quoted_whole single at start p h
+pub over_gap : (single : Bool) (at : LayoutData) (start : Mark) (p q : QuotedTaken) (h now : Here) (k : Ahead) → quoted_ahead single at start (quoted_state p h) ≡ Ok k → quoted_turn_of single start (quoted_state p h) k ≡ Ok (Some [], quoted_state q now)
+    → q.value ≡ p.value → quoted_whole single at start q now ≡ quoted_whole single at start p h
 over_gap single at start p q h now k is given value =
-    goes_on single at start p q h now [] (turn_next single at start (quoted_state p h) k is ∙ given) (value ∙ sym (append-nil (string_chars p.value)))
+    goes_on single at start p q h now [] (turn_next single at start (quoted_state p h) k is ∙ given) (value ∙ sym (append-nil p.value))
 
-pub over_content : (single : Bool) (at : LayoutData) (start : Mark) (p q : QuotedParts) (h now : Here) (x : Option ℕ) → quoted_ahead single at start (quoted_state p h) ≡ Ok Content → content_read single start h ≡ Ok (x, now)
-    → string_chars q.value ≡ (string_chars p.value ++ between_quoted (quoted_state p h)) ++ added x → quoted_state q now ≡ quoted_at (escapes x) now → quoted_whole single at start q now ≡ quoted_whole single at start p h
+pub over_content : (single : Bool) (at : LayoutData) (start : Mark) (p q : QuotedTaken) (h now : Here) (x : Option ℕ) → quoted_ahead single at start (quoted_state p h) ≡ Ok Content → content_read single start h ≡ Ok (x, now)
+    → q.value ≡ (p.value ++ between_quoted (quoted_state p h)) ++ added x → quoted_state q now ≡ quoted_at (escapes x) now → quoted_whole single at start q now ≡ quoted_whole single at start p h
 over_content single at start p q h now x is read value state =
     let s = quoted_state p h in
     let turn : quoted_turn single at start s ≡ Ok (Some (between_quoted s ++ added x), quoted_at (escapes x) now) = content_turn single at start s is ∙ ap (λ (r : Result (Option ℕ × Here) Fault). r >>= with_added s) read in
-    goes_on single at start p q h now (between_quoted s ++ added x) (turn ∙ ap (λ (t : QuotedState). Ok (Some (between_quoted s ++ added x), t)) (sym state)) (value ∙ append_assoc (string_chars p.value) (between_quoted s) (added x))
+    goes_on single at start p q h now (between_quoted s ++ added x) (turn ∙ ap (λ (t : QuotedState). Ok (Some (between_quoted s ++ added x), t)) (sym state)) (value ∙ append_assoc p.value (between_quoted s) (added x))
 
-pub content_fails : (single : Bool) (at : LayoutData) (start : Mark) (p : QuotedParts) (h : Here) (e : Refused) → quoted_ahead single at start (quoted_state p h) ≡ Ok Content → Fails e (content_read single start h) → Fails e (quoted_whole single at start p h)
+pub content_fails : (single : Bool) (at : LayoutData) (start : Mark) (p : QuotedTaken) (h : Here) (e : Refused) → quoted_ahead single at start (quoted_state p h) ≡ Ok Content → Fails e (content_read single start h) → Fails e (quoted_whole single at start p h)
 content_fails single at start p h e is fails =
     let s = quoted_state p h in
-    loop_fails quoted_len (quoted_turn single at start) (string_chars p.value) s e (quoted_whole single at start p h) refl (λ other. content_turn single at start s is ∙ ap (λ (r : Result (Option ℕ × Here) Fault). r >>= with_added s) (fails other))
+    loop_fails quoted_len (quoted_turn single at start) p.value s e (quoted_whole single at start p h) refl (λ other. content_turn single at start s is ∙ ap (λ (r : Result (Option ℕ × Here) Fault). r >>= with_added s) (fails other))
 
-pub ahead_fails : (single : Bool) (at : LayoutData) (start : Mark) (p : QuotedParts) (h : Here) (e : Refused) → Fails e (quoted_ahead single at start (quoted_state p h)) → Fails e (quoted_whole single at start p h)
+pub ahead_fails : (single : Bool) (at : LayoutData) (start : Mark) (p : QuotedTaken) (h : Here) (e : Refused) → Fails e (quoted_ahead single at start (quoted_state p h)) → Fails e (quoted_whole single at start p h)
 ahead_fails single at start p h e fails =
-    loop_fails quoted_len (quoted_turn single at start) (string_chars p.value) (quoted_state p h) e (quoted_whole single at start p h) refl (turn_fails single at start (quoted_state p h) e fails)
+    loop_fails quoted_len (quoted_turn single at start) p.value (quoted_state p h) e (quoted_whole single at start p h) refl (turn_fails single at start (quoted_state p h) e fails)
 
-pub at_end : (single : Bool) (at : LayoutData) (start : Mark) (p : QuotedParts) (h : Here) → quoted_ahead single at start (quoted_state p h) ≡ Ok End → quoted_whole single at start p h ≡ Ok (string_chars p.value, quoted_state p h)
+pub at_end : (single : Bool) (at : LayoutData) (start : Mark) (p : QuotedTaken) (h : Here) → quoted_ahead single at start (quoted_state p h) ≡ Ok End → quoted_whole single at start p h ≡ Ok (p.value, quoted_state p h)
 at_end single at start p h is =
-    loop_done quoted_len (quoted_turn single at start) (string_chars p.value) (quoted_state p h) (quoted_state p h) (quoted_whole single at start p h) refl (turn_next single at start (quoted_state p h) End is)
+    loop_done quoted_len (quoted_turn single at start) p.value (quoted_state p h) (quoted_state p h) (quoted_whole single at start p h) refl (turn_next single at start (quoted_state p h) End is)
 
 -- nothing was read yet
-pub quoted_begins : (single : Bool) (at : LayoutData) (start : Mark) (p : QuotedParts) (h : Here) → string_chars p.value ≡ [] → quoted_state p h ≡ quoted_at false h → quoted_whole single at start p h ≡ quoted_rest single at start (quoted_at false h)
+pub quoted_begins : (single : Bool) (at : LayoutData) (start : Mark) (p : QuotedTaken) (h : Here) → p.value ≡ [] → quoted_state p h ≡ quoted_at false h → quoted_whole single at start p h ≡ quoted_rest single at start (quoted_at false h)
 quoted_begins single at start p h none state = rw (none, state) (with_front-nil (quoted_rest single at start (quoted_at false h)))
 
 -- ---- the whole call

@@ -1,2 +1,3 @@
 pub mod PlainCode
 pub mod QuotedCode
+pub mod Taken

@@ -2,7 +2,6 @@
 use Rattle.std.specs.Prelude.{◌≡◌, ℕ, ◌<◌, ◌≤◌, Bool, true, false, ◌&&◌, not, if◌then◌else◌, List, [], ◌∷◌, ◌++◌, Option, Some, None, Result, Ok, Err}
 use Rattle.granit_base.specs.Classes.{is_blank, is_break, is_z}
 use Rattle.granit_base.specs.Place.{Mark}
-use Rattle.granit_base.specs.Written.{string_chars}
 use Rattle.granit_base.specs.declared.style.ScalarStyle.TheVariants.{Plain}
 use Rattle.granit_error.specs.FaultKind.{FaultKind, NoMemory, PlainScalarStartsWithDashFlowIndicator, TabInPlainScalar, UnexpectedCharacter}
 use Rattle.granit_error.specs.Refused.{Refused}
@@ -14,7 +13,7 @@ use Rattle.granit_lexemes.specs.Basics.{fails_at, only_printable, unprintable}
 use Rattle.granit_lexemes.specs.PlainScalar.{PlainState, PlainRead, is_content, between, on_content, on_blank, on_break, meets_comment, ends_before_line, plain_turn, plain_len, behind_plain}
 use Rattle.granit_cursor.specs.Tokens.{scalar_token}
 use Rattle.granit_cursor.specs.declared.token.Lexed.{Lexed}
-use Rattle.granit_lex.specs.declared.plain.PlainParts.{PlainParts}
+use Rattle.granit_lex.specs.Taken.{PlainTaken}
 use Rattle.granit_lex.specs.declared.plain.Ahead.{Ahead}
 use Rattle.granit_lex.specs.declared.plain.Ahead.TheVariants.{Blank, Break, Tab, Content, End}
 
@@ -28,11 +27,11 @@ plain_lexed r = record {
 }
 
 -- where reading stands, by what the code holds
-abbrev pub plain_state : PlainParts → Here → PlainState
+abbrev pub plain_state : PlainTaken → Here → PlainState
 plain_state p h = record {
   here = h;
   end = p.end;
-  pending = string_chars p.pending;
+  pending = p.pending;
   on_new_line = p.on_new_line;
   left_tab = p.left_tab;
 }
@@ -46,8 +45,8 @@ abbrev pub plain_rest : LayoutData → Mark → PlainState → Result (List ℕ 
 plain_rest at start s = pieces plain_len (plain_turn at start) s
 
 -- the same behind what was read
-abbrev pub plain_whole : LayoutData → Mark → PlainParts → Here → Result (List ℕ × PlainState) Fault
-plain_whole at start p h = with_front (string_chars p.value) (plain_rest at start (plain_state p h))
+abbrev pub plain_whole : LayoutData → Mark → PlainTaken → Here → Result (List ℕ × PlainState) Fault
+plain_whole at start p h = with_front p.value (plain_rest at start (plain_state p h))
 
 -- what stands next
 abbrev pub ahead_of : LayoutData → PlainState → Ahead
@@ -81,16 +80,16 @@ TurnTakes (Ok false) old new = new ≤ old
 TurnTakes (Err e) old new = new ≤ old
 
 -- a turn goes on with the same whole, or that is all of it
-abbrev pub TurnsTo : LayoutData → Mark → Result Bool Refused → (Here → Type 0) → PlainParts
+abbrev pub TurnsTo : LayoutData → Mark → Result Bool Refused → (Here → Type 0) → PlainTaken
     → Result (List ℕ × PlainState) Fault → Type 0
 TurnsTo at start (Ok true) Lands p before = (now : Here) × Lands now × (plain_whole at start p now ≡ before)
 TurnsTo at start (Ok false) Lands p before =
-    (now : Here) × Lands now × (before ≡ Ok (string_chars p.value, plain_state p now))
+    (now : Here) × Lands now × (before ≡ Ok (p.value, plain_state p now))
 TurnsTo at start (Err e) Lands p before = Fails e before
 
 -- what was read is all of it
-abbrev pub PartsTo : Result PlainParts Refused → (Here → Type 0) → Result (List ℕ × PlainState) Fault → Type 0
-PartsTo (Ok p) Lands given = (now : Here) × Lands now × (given ≡ Ok (string_chars p.value, plain_state p now))
+abbrev pub PartsTo : Result PlainTaken Refused → (Here → Type 0) → Result (List ℕ × PlainState) Fault → Type 0
+PartsTo (Ok p) Lands given = (now : Here) × Lands now × (given ≡ Ok (p.value, plain_state p now))
 PartsTo (Err e) Lands given = Fails e given
 
 -- a plain scalar that was read up to its end

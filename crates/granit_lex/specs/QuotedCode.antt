@@ -3,7 +3,6 @@ use Rattle.std.specs.Prelude.{◌≡◌, ◌⊎◌, ℕ, ◌==◌, Bool, true, f
 use Rattle.std.specs.Option.{option_map}
 use Rattle.granit_base.specs.Classes.{is_blank, is_break, is_printable}
 use Rattle.granit_base.specs.Place.{Mark}
-use Rattle.granit_base.specs.Written.{string_chars}
 use Rattle.granit_error.specs.FaultKind.{FaultKind, NoMemory, InvalidIndentation, UnclosedQuotedScalar, DocumentIndicatorInQuotedScalar, TabInIndentation, InvalidQuotedScalarIndent, InvalidTrailingSingleQuotedScalar, InvalidTrailingDoubleQuotedScalar, UnknownQuotedScalarEscape, InvalidQuotedScalarHexEscape, MissingLowSurrogate, InvalidLowSurrogateHexEscape, InvalidLowSurrogate, UnpairedLowSurrogate, InvalidUnicodeEscape, CommentNotSeparated, UnexpectedCharacter}
 use Rattle.granit_error.specs.Refused.{Refused}
 use Rattle.granit_lexemes.specs.Comment.{comment}
@@ -16,7 +15,7 @@ use Rattle.granit_lexemes.specs.QuotedScalar.{QuotedRead, quoted_style, asked_co
 use Rattle.granit_cursor.specs.Tokens.{comment_token, scalar_token}
 use Rattle.granit_cursor.specs.declared.token.Lexed.{Lexed}
 use Rattle.granit_cursor.specs.declared.token.Token.{Token}
-use Rattle.granit_lex.specs.declared.quoted.QuotedParts.{QuotedParts}
+use Rattle.granit_lex.specs.Taken.{QuotedTaken}
 use Rattle.granit_lex.specs.declared.quoted.Ahead.{Ahead}
 use Rattle.granit_lex.specs.declared.quoted.Ahead.TheVariants.{Blank, Break, Content, End}
 
@@ -43,35 +42,35 @@ abbrev pub asked : LayoutData → Here → Result (Option Token × Here) Fault
 asked at h = comment h >>= λ x. Ok (option_map comment_token (asked_comment at x.0), x.1)
 
 -- where reading stands, by what the code holds
-abbrev pub quoted_state : QuotedParts → Here → QuotedState
+abbrev pub quoted_state : QuotedTaken → Here → QuotedState
 quoted_state p h = record {
   here = h;
-  pending = string_chars p.pending;
+  pending = p.pending;
   on_new_line = p.on_new_line;
   escaped = p.escaped;
 }
 
 -- the same behind what was read
-abbrev pub quoted_whole : Bool → LayoutData → Mark → QuotedParts → Here → Result (List ℕ × QuotedState) Fault
-quoted_whole single at start p h = with_front (string_chars p.value) (quoted_rest single at start (quoted_state p h))
+abbrev pub quoted_whole : Bool → LayoutData → Mark → QuotedTaken → Here → Result (List ℕ × QuotedState) Fault
+quoted_whole single at start p h = with_front p.value (quoted_rest single at start (quoted_state p h))
 
 -- what stands next, or why it is refused
 unfoldable pub quoted_ahead : Bool → LayoutData → Mark → QuotedState → Result Ahead Fault
 quoted_ahead single at start s =
     if is_blank (next_char s.here) then
     (if s.on_new_line && (next_char s.here == 0x09 && is_tab_left at s.here.place.column)
-        then fails_at TabInIndentation (mark_of s.here)
+    then fails_at TabInIndentation (mark_of s.here)
     else Ok Blank)
     else if is_break (next_char s.here) then Ok Break
     else if s.on_new_line && is_strictly_left at s.escaped s.here.place.column
-        then fails_at InvalidIndentation (mark_of s.here)
+    then fails_at InvalidIndentation (mark_of s.here)
     else if s.on_new_line && is_loosely_left at s.escaped (is_closing single s.here.unread.text) s.here.place.column
-        then fails_at InvalidQuotedScalarIndent (mark_of s.here)
+    then fails_at InvalidQuotedScalarIndent (mark_of s.here)
     else if s.on_new_line && (s.here.place.column == 0 && is_document_mark s.here.unread.text)
-        then fails_at DocumentIndicatorInQuotedScalar start
+    then fails_at DocumentIndicatorInQuotedScalar start
     else if text_len s.here == 0 then fails_at UnclosedQuotedScalar start
     else if not (is_printable (next_char s.here))
-        then fails_at (UnexpectedCharacter (next_char s.here)) (mark_of s.here)
+    then fails_at (UnexpectedCharacter (next_char s.here)) (mark_of s.here)
     else if is_closing single s.here.unread.text then Ok End
     else Ok Content
 
@@ -111,25 +110,25 @@ escapes None = true
 escapes (Some c) = false
 
 -- content was taken, behind what stands before it
-abbrev pub TakesContent : Result (Unit {0}) Refused → (Here → Type 0) → (old : List ℕ) → QuotedState → QuotedParts
+abbrev pub TakesContent : Result (Unit {0}) Refused → (Here → Type 0) → (old : List ℕ) → QuotedState → QuotedTaken
     → Result (Option ℕ × Here) Fault → Type 0
 TakesContent (Ok u) Lands old s p given =
     (now : Here) × (x : Option ℕ) × Lands now × (given ≡ Ok (x, now))
-    × (string_chars p.value ≡ (old ++ between_quoted s) ++ added x) × (quoted_state p now ≡ quoted_at (escapes x) now)
+    × (p.value ≡ (old ++ between_quoted s) ++ added x) × (quoted_state p now ≡ quoted_at (escapes x) now)
 TakesContent (Err e) Lands old s p given = Fails e given
 
 -- a turn goes on with the same whole, or that is all of it
-abbrev pub QuotedTurnsTo : Bool → LayoutData → Mark → Result Bool Refused → (Here → Type 0) → QuotedParts
+abbrev pub QuotedTurnsTo : Bool → LayoutData → Mark → Result Bool Refused → (Here → Type 0) → QuotedTaken
     → Result (List ℕ × QuotedState) Fault → Type 0
 QuotedTurnsTo single at start (Ok true) Lands p before =
     (now : Here) × Lands now × (quoted_whole single at start p now ≡ before)
 QuotedTurnsTo single at start (Ok false) Lands p before =
-    (now : Here) × Lands now × (before ≡ Ok (string_chars p.value, quoted_state p now))
+    (now : Here) × Lands now × (before ≡ Ok (p.value, quoted_state p now))
 QuotedTurnsTo single at start (Err e) Lands p before = Fails e before
 
 -- what was read is all of it
-abbrev pub QuotedPartsTo : Result QuotedParts Refused → (Here → Type 0) → Result (List ℕ × QuotedState) Fault → Type 0
-QuotedPartsTo (Ok p) Lands given = (now : Here) × Lands now × (given ≡ Ok (string_chars p.value, quoted_state p now))
+abbrev pub QuotedPartsTo : Result QuotedTaken Refused → (Here → Type 0) → Result (List ℕ × QuotedState) Fault → Type 0
+QuotedPartsTo (Ok p) Lands given = (now : Here) × Lands now × (given ≡ Ok (p.value, quoted_state p now))
 QuotedPartsTo (Err e) Lands given = Fails e given
 
 -- the kind by which a missing digit is refused

@@ -1,6 +1,5 @@
 //! Plain scalars are read (YAML 1.2.2, 7.3.3).
 ghost use Rattle.std.specs.Prelude.{◌≡◌, ◌<◌, ◌≤◌, ◌-◌, ◌⊎◌, ◌==◌, ◌&&◌, ◌||◌, not, ℕ, [], ◌∷◌, ◌++◌, true, length, take, IfOk, IfErr, OnOk};
-ghost use Rattle.granit_base.specs.Written.{string_chars};
 ghost use Rattle.granit_error.specs.FaultKind.{NoMemory as OutOfMemory, PlainScalarStartsWithDashFlowIndicator, TabInPlainScalar, UnexpectedCharacter};
 ghost use Rattle.granit_input.specs.Runs.{run_length, is_plain_at};
 ghost use Rattle.granit_lexemes.specs.Here.{Here, next_char, mark_of, step};
@@ -20,6 +19,7 @@ use granit_cursor::{Cursor, Layout, Lexed, Token, TokenType, drop_blanks, past_b
 use granit_error::{ErrorKind, ScanError};
 use granit_input::{BorrowedInput, Input};
 use std::alloc::Global;
+use std::marker::Model;
 
 /// The plain scalar that begins here (YAML 1.2.2, 7.3.3); the cursor then stands behind the blanks and
 /// breaks that follow it. Its value is folded (6.5) and owned. No comment is read.
@@ -64,6 +64,21 @@ struct PlainParts {
     left_tab: bool,
 }
 
+impl Model for PlainParts {
+    ghost use Rattle.granit_base.specs.Written.{string_chars};
+    ghost use Rattle.granit_lex.specs.Taken.{PlainTaken};
+
+    ghost Value = { PlainTaken };
+
+    ghost view = { λ p. record {
+      value = string_chars p.value;
+      pending = string_chars p.pending;
+      end = p.end;
+      on_new_line = p.on_new_line;
+      left_tab = p.left_tab;
+    } };
+}
+
 /// What stands next in a plain scalar.
 #[derive(Clone, Copy)]
 enum Ahead {
@@ -79,7 +94,7 @@ enum Ahead {
 /// Whether the next character is a `#` that cuts the scalar short.
 fn meets_comment(c: char, parts: &PlainParts) -> bool
     ensures { result ≡ (c == 0x23
-        && (parts.now.left_tab || (not parts.now.on_new_line && not (length (string_chars parts.now.pending) == 0)))) }
+        && (parts.now.left_tab || (not parts.now.on_new_line && not (length parts.now.pending == 0)))) }
 {
     c == '#' && (parts.left_tab || (!parts.on_new_line && !is_at_end(parts.pending.as_str())))
 }
@@ -135,7 +150,7 @@ fn take_blank<T: Input>(
 ) -> Result<(), NoMemory>
     ensures here { Wherever T.unread cursor.old cursor.new (λ h Lands. OnOk result (Lands (step h)
         × (plain_state parts.new (step h) ≡ spec.on_blank (layout_data at.now) (plain_state parts.old h)))) }
-    ensures value { string_chars parts.new.value ≡ string_chars parts.old.value }
+    ensures value { parts.new.value ≡ parts.old.value }
     ensures left { OnOk result (T.left cursor.new.input ≤ T.left cursor.old.input - 1) }
     ensures moves { Moves T.left T.origin cursor.old cursor.new }
 {
@@ -157,7 +172,7 @@ fn take_blank<T: Input>(
 fn take_break<T: Input>(cursor: &mut Cursor<T>, parts: &mut PlainParts) -> Result<(), NoMemory>
     ensures here { Wherever T.unread cursor.old cursor.new (λ h Lands. OnOk result (Lands (basics.past_break h)
         × (plain_state parts.new (basics.past_break h) ≡ spec.on_break (plain_state parts.old h)))) }
-    ensures value { string_chars parts.new.value ≡ string_chars parts.old.value }
+    ensures value { parts.new.value ≡ parts.old.value }
     ensures left { OnOk result (T.left cursor.new.input ≤ T.left cursor.old.input - 1) }
     ensures moves { Moves T.left T.origin cursor.old cursor.new }
 {
@@ -175,8 +190,8 @@ fn take_break<T: Input>(cursor: &mut Cursor<T>, parts: &mut PlainParts) -> Resul
 
 /// Appends what stands for the blanks and breaks between two characters of content (YAML 1.2.2, 6.5).
 fn push_between(parts: &mut PlainParts) -> Result<(), NoMemory>
-    ensures value { (h : Here) → OnOk result (string_chars parts.new.value
-        ≡ string_chars parts.old.value ++ spec.between (plain_state parts.old h)) }
+    ensures value { (h : Here) → OnOk result (parts.new.value
+        ≡ parts.old.value ++ spec.between (plain_state parts.old h)) }
 {
     if parts.on_new_line && is_at_end(parts.pending.as_str()) {
         return push_char(&mut parts.value, ' ');
@@ -192,7 +207,7 @@ fn take_content<T: Input>(
 ) -> Result<(), NoMemory>
     ensures here { Wherever T.unread cursor.old cursor.new (λ h Lands. OnOk result ((n : ℕ)
         × (n ≡ run_length (is_plain_at in_flow) (step h).unread.text) × Lands (steps n (step h))
-        × (string_chars parts.new.value ≡ ((string_chars parts.old.value ++ spec.between (plain_state parts.old h))
+        × (parts.new.value ≡ ((parts.old.value ++ spec.between (plain_state parts.old h))
         ++ next_char h ∷ []) ++ take n (step h).unread.text)
         × (plain_state parts.new (steps n (step h)) ≡ inside (steps n (step h))))) }
     ensures left { OnOk result (T.left cursor.new.input ≤ T.left cursor.old.input - 1) }
@@ -274,7 +289,7 @@ fn finish_plain<'input, T: Input>(
     parts: PlainParts,
 ) -> Result<Lexed<'input>, ScanError>
     ensures here { ReadsAs T.unread cursor.old cursor.new result (λ h.
-        coded plain_lexed (ended_plain (layout_data at.now) start (string_chars parts.value) (plain_state parts h))) }
+        coded plain_lexed (ended_plain (layout_data at.now) start parts.value (plain_state parts h))) }
     ensures kinds { IfErr result (λ e. (c : ℕ) × (e.kind ≡ UnexpectedCharacter c)) }
     ensures moves { Moves T.left T.origin cursor.old cursor.new }
 {

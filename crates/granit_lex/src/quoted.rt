@@ -26,6 +26,7 @@ use granit_cursor::{
 use granit_error::{ErrorKind, ScanError};
 use granit_input::{BorrowedInput, Input};
 use std::alloc::Global;
+use std::marker::Model;
 
 /// The quoted scalar that begins here with its quote, single or double (YAML 1.2.2, 7.3.1 and 7.3.2), with
 /// the comment behind it on its last line, where comments are asked for; the cursor then stands behind the
@@ -72,6 +73,20 @@ struct QuotedParts {
     on_new_line: bool,
     /// Whether a backslash escapes the first of these breaks.
     escaped: bool,
+}
+
+impl Model for QuotedParts {
+    ghost use Rattle.granit_base.specs.Written.{string_chars};
+    ghost use Rattle.granit_lex.specs.Taken.{QuotedTaken};
+
+    ghost Value = { QuotedTaken };
+
+    ghost view = { λ p. record {
+      value = string_chars p.value;
+      pending = string_chars p.pending;
+      on_new_line = p.on_new_line;
+      escaped = p.escaped;
+    } };
 }
 
 /// What stands next in a quoted scalar.
@@ -176,7 +191,7 @@ fn look_ahead<T: Input>(
 fn take_blank<T: Input>(cursor: &mut Cursor<T>, parts: &mut QuotedParts) -> Result<(), NoMemory>
     ensures here { Wherever T.unread cursor.old cursor.new (λ h Lands. OnOk result (Lands (step h)
         × (quoted_state parts.new (step h) ≡ spec.over_blank (quoted_state parts.old h)))) }
-    ensures value { string_chars parts.new.value ≡ string_chars parts.old.value }
+    ensures value { parts.new.value ≡ parts.old.value }
     ensures left { OnOk result (T.left cursor.new.input ≤ T.left cursor.old.input - 1) }
     ensures moves { Moves T.left T.origin cursor.old cursor.new }
 {
@@ -194,7 +209,7 @@ fn take_blank<T: Input>(cursor: &mut Cursor<T>, parts: &mut QuotedParts) -> Resu
 fn take_break<T: Input>(cursor: &mut Cursor<T>, parts: &mut QuotedParts) -> Result<(), NoMemory>
     ensures here { Wherever T.unread cursor.old cursor.new (λ h Lands. OnOk result (Lands (basics.past_break h)
         × (quoted_state parts.new (basics.past_break h) ≡ spec.over_break (quoted_state parts.old h)))) }
-    ensures value { string_chars parts.new.value ≡ string_chars parts.old.value }
+    ensures value { parts.new.value ≡ parts.old.value }
     ensures left { OnOk result (T.left cursor.new.input ≤ T.left cursor.old.input - 1) }
     ensures moves { Moves T.left T.origin cursor.old cursor.new }
 {
@@ -211,8 +226,8 @@ fn take_break<T: Input>(cursor: &mut Cursor<T>, parts: &mut QuotedParts) -> Resu
 
 /// Appends what stands for the blanks and breaks before content or the closing quote (YAML 1.2.2, 6.5).
 fn push_between(parts: &mut QuotedParts) -> Result<(), NoMemory>
-    ensures value { (h : Here) → OnOk result (string_chars parts.new.value
-        ≡ string_chars parts.old.value ++ spec.between_quoted (quoted_state parts.old h)) }
+    ensures value { (h : Here) → OnOk result (parts.new.value
+        ≡ parts.old.value ++ spec.between_quoted (quoted_state parts.old h)) }
 {
     if parts.on_new_line && !parts.escaped && is_at_end(parts.pending.as_str()) {
         return push_char(&mut parts.value, ' ');
@@ -252,8 +267,8 @@ fn read_content<T: Input>(
 
 /// Appends content behind what stands before it.
 fn push_content(parts: &mut QuotedParts, content: Option<char>) -> Result<(), NoMemory>
-    ensures value { (h : Here) → OnOk result (string_chars parts.new.value
-        ≡ (string_chars parts.old.value ++ spec.between_quoted (quoted_state parts.old h)) ++ added content) }
+    ensures value { (h : Here) → OnOk result (parts.new.value
+        ≡ (parts.old.value ++ spec.between_quoted (quoted_state parts.old h)) ++ added content) }
     ensures state { (h : Here) → OnOk result (quoted_state parts.new h ≡ spec.quoted_at (escapes content) h) }
 {
     push_between(parts)?;
@@ -279,7 +294,7 @@ fn take_content<T: Input>(
     parts: &mut QuotedParts,
 ) -> Result<(), ScanError>
     ensures here { Wherever T.unread cursor.old cursor.new (λ h Lands. TakesContent result Lands
-        (string_chars parts.old.value) (quoted_state parts.old h) parts.new (content_read single start h)) }
+        parts.old.value (quoted_state parts.old h) parts.new (content_read single start h)) }
     ensures left { OnOk result (T.left cursor.new.input ≤ T.left cursor.old.input - 1) }
     ensures kinds { IfErr result (λ e. IsQuotedKind e.kind) }
     ensures moves { Moves T.left T.origin cursor.old cursor.new }

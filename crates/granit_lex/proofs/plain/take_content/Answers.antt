@@ -4,11 +4,12 @@ use Rattle.granit_input.proofs.RunLemmas.{front_all, run_within}
 use Rattle.granit_lexemes.specs.Here.{next_char, step}
 use Rattle.granit_lexemes.specs.Moves.{steps}
 use Rattle.granit_cursor.proofs.MoveLemmas.{cleared}
+use Rattle.granit_lex.specs.Taken.{PlainTaken}
 use Rattle.granit_lex.proofs.plain.take_content.Goals as goal
 
 pub returns-clause-here : goal.returns-clause-here
 returns-clause-here g c = λ h k.
-    let between = c.in_ok-push_between.ensures.value h in
+    let between = ap (λ (p : PlainTaken). p.value) c.parts.view_is ∙ c.in_ok-push_between.ensures.value h in
     let looked = c.look.ensures.here h k in
     let seen : c.peek.result ≡ next_char h = c.peek.ensures.value h.unread (rw c.input.ensures looked.0) in
     let stepped = c.step.ensures.here h looked in
@@ -18,7 +19,7 @@ returns-clause-here g c = λ h k.
     let short = g.met.T.Input.short c.step.new.self.input in
     let within = run_within (is_plain_at c.args.in_flow) (step h).unread.text in
     let few : n < 2 ^ 64 - 1 = omega (arith, taken.0.0.fits, within, agrees.bounded, short) in
-    let end = c.mark-parts.ensures.here (steps n (step h)) taken.0.1 in
+    let end = c.mark-parts-inside.ensures.here (steps n (step h)) taken.0.1 in
     let none = cleared c.clear.new.self c.clear.ensures.bytes in (
       n,
       front_all (is_plain_at c.args.in_flow) (step h).unread.text _ _ n taken.0.0 few,

@@ -1,10 +1,10 @@
-use Rattle.std.proofs.Common.{◌≡◌, ◌≤◌, ◌+◌, ◌++◌, length, take, string_bytes}
+use Rattle.std.proofs.Common.{◌≡◌, ◌≤◌, ◌+◌, ◌++◌, take}
 use Rattle.granit_base.specs.Place.{Unread}
 use Rattle.granit_base.specs.Written.{string_chars}
 use Rattle.granit_input.specs.Unread.{past}
 use Rattle.granit_input.specs.Origin.{Goes}
 use Rattle.granit_input.specs.Runs.{run_test}
-use Rattle.granit_input.proofs.AddedLemmas.{IsAdded}
+use Rattle.granit_input.specs.Chunks.{Extends}
 use Rattle.granit_input.proofs.RunLemmas.{IsFront}
 use Rattle.granit_input.proofs.input.Input.fetch_run.Given as goal
 
@@ -12,8 +12,7 @@ abbrev pub invariant-run : goal.invariant-run
 invariant-run g l = record {
   told : (u : Unread) → g.Self.Input.unread l.fn.self u → g.Self.Input.unread l.self (past l.count u) × IsFront (run_test l.run) u.text l.count
       × (string_chars l.out ≡ string_chars l.fn.out ++ take l.count u.text);
-  added : IsAdded (string_bytes l.fn.out) (string_bytes l.out);
-  start : l.start ≡ length (string_bytes l.fn.out);
+  kept : Extends (string_chars l.fn.out) (string_chars l.out);
   limit : l.count ≤ l.limit;
   left : g.Self.Input.left l.self + l.count ≤ g.Self.Input.left l.fn.self;
   window : g.Self.Input.window l.fn.self ≤ g.Self.Input.window l.self + l.count;
