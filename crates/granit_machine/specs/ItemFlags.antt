@@ -2,7 +2,6 @@
 use Rattle.std.specs.Prelude.{ℕ, List, [], ◌++◌, codes, Option, Some, None, Result, Ok, Err}
 use Rattle.std.specs.Fmt.{decimal}
 use Rattle.std.specs.List.{flat_map}
-use Rattle.granit_base.specs.Place.{Mark}
 use Rattle.granit_error.specs.OptionsData.{default_options}
 use Rattle.granit_lexemes.specs.Comment.{CommentRead}
 use Rattle.granit_lexemes.specs.Here.{start_of}
@@ -18,11 +17,12 @@ abbrev pub key_words : Option KeyStart → List ℕ
 key_words None = []
 key_words (Some k) = (codes " key=" ++ decimal k.number) ++ (codes ":" ++ decimal k.start.place.index)
 
--- whether it begins its line, whether it follows an indicator, and the key of a `:`
+-- whether it begins its line, whether it follows an indicator, whether it ends a column, and the key of a `:`
 unfoldable pub flag_line : Lexeme → List ℕ
 flag_line x =
     (decimal x.number ++ word_if x.begins_line (codes " line"))
-    ++ ((word_if x.follows_indicator (codes " follows") ++ key_words x.key) ++ codes "\n")
+    ++ ((word_if x.follows_indicator (codes " follows") ++ word_if x.ends_column (codes " ends"))
+    ++ (key_words x.key ++ codes "\n"))
 
 abbrev pub offset_words : Option ℕ → List ℕ
 offset_words None = codes "?"

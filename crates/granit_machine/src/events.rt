@@ -35,6 +35,7 @@ pub fn block_collections()
     ensures root_then_key { tells (codes "[a]\nb: c") ≡ (codes "fault 11: at char 4 line 2 column 1\n") }
     ensures not_a_pair { tells (codes "a: b\n[c]\nd: e") ≡ (codes "fault 64: at char 5 line 2 column 1\n") }
     ensures key_alone { tells (codes "a: b\n&c d\n") ≡ (codes "fault 64: at char 5 line 2 column 1\n") }
+    ensures root_scalar { tells (codes "|\n a") ≡ (codes "StreamStart 0:1:1-0:1:1\nDocumentStart implicit 3:2:2-4:2:3 indent=1\nScalar literal \"a\\n\" 3:2:2-4:2:3 indent=1\nDocumentEnd 4:2:3-4:2:3\nStreamEnd 4:2:3-4:2:3\n") }
 {}
 
 /// Flow collections.

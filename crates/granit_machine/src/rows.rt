@@ -31,6 +31,7 @@ pub fn documents()
     ensures mark_in_brackets { reads (codes "[\n---") ≡ (codes "0 [ 0:1:1-1:1:2\nfault 2: at char 0 line 1 column 1\n") }
     ensures prefix_marks { reads ((0xFEFF ∷ []) ++ ((0xFEFF ∷ []) ++ (codes "a"))) ≡ (codes "0 Scalar plain \"a\" 2:1:1-3:1:2\n1 End 3:1:2-3:1:2\n") }
     ensures stray_mark { reads ((codes "a: ") ++ ((0xFEFF ∷ []) ++ ((codes "b\n- ") ++ (0xFEFF ∷ [])))) ≡ (codes "0 Scalar plain \"a\" 0:1:1-1:1:2 key\n1 : 1:1:2-2:1:3 key\nfault 77: at char 3 line 1 column 4\n") }
+    ensures kept_prefix { reads ((codes "[a]\n%F b\n") ++ (0xFEFF ∷ [])) ≡ (codes "0 [ 0:1:1-1:1:2\n1 Scalar plain \"a\" 1:1:2-2:1:3 flow\n2 ] 2:1:3-3:1:4 flow\n3 Reserved \"F\" \"b\" 4:2:1-8:2:5\nfault 77: at char 9 line 3 column 1\n") }
 {}
 
 /// Flow signs and their keys.
