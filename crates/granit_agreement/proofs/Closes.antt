@@ -1,10 +1,10 @@
 -- What a lexeme ends: the parser's turns are steps of the grammar's closing.
-use Rattle.granit_agreement.specs.Closed.{Closed, ClosedView, with_all}
+use Rattle.granit_agreement.specs.Closed.{Closed, ClosedView, Below, with_all}
 use Rattle.granit_agreement.specs.Fair.{FairAt, FairFinish, Fair, frame_ends_at, frames_below}
 use Rattle.granit_agreement.specs.Good.{Holes, at_root, at_entry, at_key, at_asked, at_value, at_item, at_curly, curly_key, curly_asked, curly_value, made_key, made_value, pair_asked, pair_value, Good, hole, behind_properties, past_entry, key_done, ask_done, pair_done, item_done, curly_key_done, curly_ask_done, curly_solo, curly_done, made_key_done, made_done, square_ask_done, square_done}
 use Rattle.granit_agreement.specs.View.{terminal_of, Beside, state_of, give_all, with_given}
 use Rattle.granit_base.specs.Place.{Mark}
-use Rattle.granit_grammar.specs.EventMachine.{OpenFrame, FlowSequenceFrame, EventState, InFrames, Ending, with_event, past_sequence, past_mapping, past_asked, finish_frames, ended_by, put_frames, frames_room, frames_indent}
+use Rattle.granit_grammar.specs.EventMachine.{OpenFrame, DocumentFrame, PropertiesFrame, SequenceFrame, MappingFrame, FlowSequenceFrame, FlowMappingFrame, FlowPairFrame, EventState, IsFresh, HasDirectives, IsRooted, InFrames, IsEnded, Ending, with_event, past_sequence, past_mapping, past_asked, finish_frames, ended_by, put_frames, frames_room, frames_indent}
 use Rattle.granit_language.specs.Choice.{choose}
 use Rattle.granit_language.specs.Room.{BlockIn, entry_empty, sequence_ends, behind_property, continues_node, ask_over}
 use Rattle.granit_language.specs.Scope.{Scope}
@@ -15,8 +15,10 @@ use Rattle.granit_lexemes.specs.declared.layout.Bracket.TheVariants.{Square}
 use Rattle.granit_machine.specs.Closing.{Closing, ends_top, end_top, close_turn, depth}
 use Rattle.granit_machine.specs.Frames.{ParserState}
 use Rattle.granit_machine.specs.TokenSort.{Token, token_of}
-use Rattle.std.proofs.Common.{◌≡◌, ◌<◌, ℕ, suc, zero, Bool, true, false, List, [], ◌∷◌, ◌++◌, refl, sym, ap, ◌∙◌, arith, ◌||◌, ◌&&◌, not, Some, None, Result, Ok}
-use Rattle.std.specs.Prelude.{if◌then◌else◌}
+use Rattle.std.proofs.Common.{◌≡◌, ◌<◌, ℕ, suc, zero, Bool, true, false, List, [], ◌∷◌, ◌++◌, refl, sym, ap, ◌∙◌, subst, arith, ◌||◌, ◌&&◌, not, Some, None, Result, Ok}
+use Rattle.std.specs.Prelude.{if◌then◌else◌, nat_le}
+use Rattle.std.proofs.lemmas.Bool.Decides.{nat_tests}
+use Rattle.granit_grammar.specs.Guarded.{blocks_open}
 use Rattle.granit_error.specs.OptionsData.{OptionsData}
 use Rattle.granit_lexemes.specs.Outcome.{Fault, ◌>>=◌}
 use Rattle.granit_lexemes.specs.Pieces.{with_front, then_more, turns, pieces}
@@ -250,6 +252,67 @@ fair_below x fs e (square_done h) t f = fair_put x e _ (at_item h) f
 abbrev TurnsView : OptionsData → Terminal → EventState → Beside → Result (List PlainEvent × ParserState) Fault → Type 0
 TurnsView o x st d r = (p : ParserState) × (r ≡ Ok ([], p)) × ClosedView o x st d p
 
+not_more : (n : ℕ) → nat_le n n ≡ true
+not_more n = grind (arith, nat_tests)
+
+one_fewer : (n : ℕ) → nat_le n (suc n) ≡ true
+one_fewer n = grind (arith, nat_tests)
+
+no_more_through : (n m k : ℕ) → nat_le n m ≡ true → nat_le m k ≡ true → nat_le n k ≡ true
+no_more_through n m k e h = grind (arith, nat_tests)
+
+below_same : (st : EventState) → Below st st
+below_same IsFresh = refl
+below_same (HasDirectives v) = refl
+below_same (IsRooted e) = refl
+below_same (InFrames fs) = not_more (blocks_open fs)
+below_same IsEnded = refl
+
+frames_from :
+    (gs fs : List OpenFrame) (st : EventState) → nat_le (blocks_open gs) (blocks_open fs) ≡ true →
+    Below (InFrames gs) st → Below (InFrames fs) st
+frames_from gs fs (InFrames ks) e h = no_more_through (blocks_open ks) (blocks_open gs) (blocks_open fs) h e
+frames_from gs fs (IsRooted m) e h = tt
+frames_from gs fs IsFresh e h = h
+frames_from gs fs (HasDirectives v) e h = h
+frames_from gs fs IsEnded e h = h
+
+abbrev inner_frames : EventState → List OpenFrame
+inner_frames (InFrames fs) = fs
+inner_frames st = []
+
+abbrev put_list : Mark → List OpenFrame → List OpenFrame
+put_list m gs = inner_frames (put_frames m gs)
+
+-- behind a finished node, the frames around it are open
+below_from :
+    (m : Mark) (gs fs : List OpenFrame) (st : EventState) → Holes gs →
+    nat_le (blocks_open gs) (blocks_open fs) ≡ true → Below (put_frames m gs) st → Below (InFrames fs) st
+below_from m gs fs st at_root e h = subst (Below (InFrames fs)) (sym h) tt
+below_from m gs fs st (at_entry p g) e h = frames_from (put_list m gs) fs st e h
+below_from m gs fs st (at_key p g) e h = frames_from (put_list m gs) fs st e h
+below_from m gs fs st (at_asked p g) e h = frames_from (put_list m gs) fs st e h
+below_from m gs fs st (at_value p g) e h = frames_from (put_list m gs) fs st e h
+below_from m gs fs st (at_item g) e h = frames_from (put_list m gs) fs st e h
+below_from m gs fs st (at_curly g) e h = frames_from (put_list m gs) fs st e h
+below_from m gs fs st (curly_key g) e h = frames_from (put_list m gs) fs st e h
+below_from m gs fs st (curly_asked g) e h = frames_from (put_list m gs) fs st e h
+below_from m gs fs st (curly_value g) e h = frames_from (put_list m gs) fs st e h
+below_from m gs fs st (made_key g) e h = frames_from (put_list m gs) fs st e h
+below_from m gs fs st (made_value g) e h = frames_from (put_list m gs) fs st e h
+below_from m gs fs st (pair_asked g) e h = frames_from (put_list m gs) fs st e h
+below_from m gs fs st (pair_value g) e h = frames_from (put_list m gs) fs st e h
+
+top_fewer : (fs : List OpenFrame) → nat_le (blocks_open (top_below fs)) (blocks_open fs) ≡ true
+top_fewer [] = refl
+top_fewer (DocumentFrame m ∷ fs) = not_more (blocks_open fs)
+top_fewer (PropertiesFrame p ∷ fs) = not_more (blocks_open fs)
+top_fewer (SequenceFrame loose c w ∷ fs) = one_fewer (blocks_open fs)
+top_fewer (MappingFrame c at ∷ fs) = one_fewer (blocks_open fs)
+top_fewer (FlowSequenceFrame d ∷ fs) = not_more (blocks_open fs)
+top_fewer (FlowMappingFrame single at ∷ fs) = not_more (blocks_open fs)
+top_fewer (FlowPairFrame at ∷ fs) = not_more (blocks_open fs)
+
 stay :
     (o : OptionsData) (x : Terminal) (st : EventState) (d : Beside) → Good st → FairAt x st → frame_ends_at x st ≡ false →
     ClosedView o x st d (state_of o st d)
@@ -262,6 +325,7 @@ stay o x st d g f e = record {
   is_good = g;
   is_fair = f;
   stays = e;
+  below = below_same st;
 }
 
 pub give_append :
@@ -296,6 +360,9 @@ turned o x fs d p g e v = record {
   is_good = v.is_good;
   is_fair = v.is_fair;
   stays = v.stays;
+  below =
+      below_from (ending_at x.at.start fs) (top_below fs) fs v.closed_state (below_holes x fs g e) (top_fewer fs)
+      v.below;
 }
 
 abbrev TurnBy : Bool → OptionsData → Token → ParserState → Closing
