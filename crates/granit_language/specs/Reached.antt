@@ -1,15 +1,16 @@
 -- What a text holds up to a place: its lexemes and comments, in order.
-use Rattle.std.specs.Prelude.{◌≡◌, Bool, true, false, List, [], ◌∷◌, ◌++◌, Option, Some, None}
+use Rattle.std.specs.Prelude.{◌≡◌, ◌&&◌, Bool, true, false, List, [], ◌∷◌, ◌++◌, Option, Some, None}
 use Rattle.granit_base.specs.Place.{Mark}
 use Rattle.granit_error.specs.FaultKind.{FaultKind, SimpleKeyExpected}
 use Rattle.granit_error.specs.OptionsData.{OptionsData}
 use Rattle.granit_lexemes.specs.Comment.{CommentRead}
-use Rattle.granit_lexemes.specs.Here.{mark_of}
+use Rattle.granit_lexemes.specs.Here.{Here, mark_of}
+use Rattle.granit_lexemes.specs.LayoutData.{is_left}
 use Rattle.granit_lexemes.specs.Lexeme.{Item, OfComment}
 use Rattle.granit_lexemes.specs.Outcome.{Fault}
 use Rattle.granit_machine.specs.Columns.{ends_at, ends_all}
 use Rattle.granit_machine.specs.Gaps.{takes_prefix}
-use Rattle.granit_machine.specs.Laid.{is_adjacent, is_in_flow}
+use Rattle.granit_machine.specs.Laid.{Laid, is_adjacent, is_in_flow, block_column}
 use Rattle.granit_lexemes.specs.declared.layout.PossibleKey.{PossibleKey}
 use Rattle.granit_machine.specs.LexemeSort.{LexemeSort, Placed}
 use Rattle.granit_machine.specs.PossibleKeys.{is_stale}
@@ -44,10 +45,17 @@ abbrev pub ends_column_by : LexemeSort → ReaderState → Bool
 ends_column_by (Placed sort) s = ends_at s.here.place.column s.laid
 ends_column_by sort s = ends_all s.laid
 
+-- in flow, where lines are indented too, a lexeme in a column isn't left of where a node may stand (6.1)
+abbrev pub StandsInside : OptionsData → LexemeSort → Here → Laid → Type 0
+StandsInside o (Placed sort) h l =
+    ((o.strict_indentation && is_in_flow l) && is_left (block_column l) h.place.column) ≡ false
+StandsInside o sort h l = Unit {0}
+
 -- what one read of a lexeme gives that begins where a state stands
 abbrev pub GivenAt : OptionsData → LexemeSort → ReaderState → List Item → ReaderState → Type 0
 GivenAt o sort s items after =
-    Given o (ends_column_by sort s) sort s.here (in_front sort s.here s.laid) items after
+    StandsInside o sort s.here (in_front sort s.here s.laid)
+    × Given o (ends_column_by sort s) sort s.here (in_front sort s.here s.laid) items after
 
 -- a gap behind a state up to a place where a lexeme of a sort begins, and no key is overdue there
 pub record Comes (o : OptionsData) (s at : ReaderState) (sort : LexemeSort) : Type 0 where
@@ -63,11 +71,18 @@ pub data Reads (o : OptionsData) (s : ReaderState) : List Item → ReaderState �
   of_lexeme : {items : List Item} (at behind : ReaderState) (sort : LexemeSort) → Comes o s at sort
       → GivenAt o sort (freshened o at) items behind → NoneOverdue o behind → Reads o s items (freshened o behind)
 
--- Items from one place of a text to another.
+-- Items from one place of a text to another. Behind the end of the text there are none.
 pub data Reached (o : OptionsData) : ReaderState → List Item → ReaderState → Type 0 where
   stops : {s : ReaderState} → Reached o s [] s
   goes_on : {s t : ReaderState} {all : List Item} (next : ReaderState) (items more : List Item)
-      → Reads o s items next → Reached o next more t → all ≡ items ++ more → Reached o s all t
+      → Reads o s items next → (is_end items ≡ true → more ≡ []) → Reached o next more t → all ≡ items ++ more
+      → Reached o s all t
+
+-- items that go on with others
+pub record GoesOnTo (o : OptionsData) (s : ReaderState) (xs ys : List Item) (t : ReaderState) : Type 0 where
+  pub more : List Item
+  pub are : ys ≡ xs ++ more
+  pub rest : Reached o s more t
 
 -- The cause of a refusal, behind what reading has reached: in the gap, by a key that is overdue, or at the lexeme
 -- behind the gap.

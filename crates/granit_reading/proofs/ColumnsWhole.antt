@@ -60,7 +60,7 @@ reads_said o ls {s = s} (of_comment at g k) m = fresh_said o ls at (agrees_said 
 reads_said o ls {s = s} (of_lexeme {items = items} at behind sort comes given keys) m =
     let f = freshened o at in
     let n = fresh_said o ls at (agrees_said ls s.laid at.laid (gap_agrees comes.gap) m) in
-    let t = telling o (ends_column_by sort f) f.here _ sort items behind given in
+    let t = telling o (ends_column_by sort f) f.here _ sort items behind given.1 in
     let c = closed_held sort f.here f.laid in
     let v = lexeme_moved o sort f.here (closed_for sort f.here f.laid) t.lexeme t.cut t.reached behind.laid t.told t.says t.leaves in
     let d = changed ls f.laid t.lexeme behind.laid n (v.number ∙ c.0) (v.next ∙ ap suc c.0) (columns_change o sort f.here f.laid t.lexeme t.cut t.reached behind.laid t.told t.says t.leaves) in
@@ -73,7 +73,7 @@ latest_joined (OfComment c ∷ is) more ls = latest_joined is more ls
 
 reached_said : (o : OptionsData) (ls : List Lexeme) {s t : ReaderState} {items : List Item} → Reached o s items t → OpenSays ls s.laid → OpenSays (latest items ls) t.laid
 reached_said o ls stops m = m
-reached_said o ls {t = t} (goes_on next items more r rest e) m =
+reached_said o ls {t = t} (goes_on next items more r last rest e) m =
     subst (λ (l : List Lexeme). OpenSays l t.laid) (sym (ap (λ (is : List Item). latest is ls) e ∙ latest_joined items more ls)) (reached_said o (latest items ls) rest (reads_said o ls r m))
 
 -- behind the lexemes of a text, the columns that are kept are the open ones

@@ -67,7 +67,7 @@ record Skips (may : Bool) (h at : Here) : Type 0 where
   here : GapHere may h at
   moved : begins_gap may h ≡ is_nonempty here.gap
 
-is_gap_nul : is_gap 0 ≡ false
+pub is_gap_nul : is_gap 0 ≡ false
 unfolding is_gap is_blank is_break
 is_gap_nul = refl
 
@@ -92,18 +92,18 @@ bom_is c e = grind (arith, nat_tests)
 zero_is : (n : ℕ) → (n == 0) ≡ true → n ≡ 0
 zero_is n e = grind (arith, nat_tests)
 
-prefix_mark-less : (n : ℕ) (h : Here) → text_len h ≤ suc n → text_len (past_prefix_mark h) ≤ n
+pub prefix_mark-less : (n : ℕ) (h : Here) → text_len h ≤ suc n → text_len (past_prefix_mark h) ≤ n
 unfolding past_prefix_mark
 prefix_mark-less n h p = let m = length-drop 1 h.unread.text in omega (arith, m, p)
 
-step-less : (n : ℕ) (h : Here) → text_len h ≤ suc n → text_len (step h) ≤ n
+pub step-less : (n : ℕ) (h : Here) → text_len h ≤ suc n → text_len (step h) ≤ n
 step-less n h p = let m = step_len h in omega (arith, m, p)
 
-any_of : (a b : Bool) → a ≡ true → (a || b) ≡ true
+pub any_of : (a b : Bool) → a ≡ true → (a || b) ≡ true
 any_of true b e = refl
 any_of false b e = absurd cc
 
-second_of : (a b : Bool) → b ≡ true → (a || b) ≡ true
+pub second_of : (a b : Bool) → b ≡ true → (a || b) ≡ true
 second_of true b e = refl
 second_of false true e = refl
 second_of false false e = absurd cc

@@ -71,7 +71,7 @@ record ReadFits (l : Laid) (items : List Item) (after : Laid) : Type 0 where
 -- the lexeme of a read moves the keys in front of it
 pub given_moved : (o : OptionsData) (s : ReaderState) (items : List Item) (after : ReaderState) (sort : Rattle.granit_machine.specs.LexemeSort.LexemeSort) → GivenAt o sort s items after → (x : Lexeme) × (note : Option CommentRead) × (items ≡ OfLexeme x ∷ note_items note) × Moved s.laid x after.laid
 given_moved o s items after sort given =
-    let t = telling o (ends_column_by sort s) s.here _ sort items after given in
+    let t = telling o (ends_column_by sort s) s.here _ sort items after given.1 in
     let c = closed_held sort s.here s.laid in
     let m = lexeme_moved o sort s.here (closed_for sort s.here s.laid) t.lexeme t.cut t.reached after.laid t.told t.says t.leaves in (
       t.lexeme,
@@ -110,7 +110,7 @@ read_fits o s (of_lexeme {items = items} at behind sort comes given keys) p =
 
 all_fit : (o : OptionsData) {s t : ReaderState} {items : List Item} → Reached o s items t → Below s.laid.number (held s.laid) → Fits (held s.laid) (flagging items)
 all_fit o {s = s} stops p = record { ks = nones (held s.laid); chosen = chosen_none (held s.laid); keys = tt; lines = tt }
-all_fit o {s = s} (goes_on after items more r rest e) p =
+all_fit o {s = s} (goes_on after items more r last rest e) p =
     let f = read_fits o s r p in
     subst (λ (l : List Item). Fits (held s.laid) (flagging l)) (sym e) (f.fits more (all_fit o rest f.below))
 

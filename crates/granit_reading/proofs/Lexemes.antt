@@ -129,7 +129,7 @@ closer-is o bracket ends h l = on l.brackets refl
     on [] e = misplaced e
     on (b ∷ bs) e = closes-is o bracket b bs ends h l e
 
-comma_last : (l : Laid) (held : Option CommentRead) → behind_tail (last_of_comma l) held ≡ last_of_comma l
+pub comma_last : (l : Laid) (held : Option CommentRead) → behind_tail (last_of_comma l) held ≡ last_of_comma l
 comma_last l held = on (is_in_flow l)
   where
     on : (v : Bool) → behind_tail (if v then Opener else Another) held ≡ (if v then Opener else Another)

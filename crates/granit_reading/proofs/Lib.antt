@@ -13,3 +13,7 @@ pub mod PlacesLaw
 pub mod ColumnsKept
 pub mod ColumnsLaw
 pub mod ColumnsWhole
+pub mod GapAnswers
+pub mod SortAnswers
+pub mod LexemeAnswers
+pub mod ReadAnswers

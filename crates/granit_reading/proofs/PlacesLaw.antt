@@ -192,12 +192,12 @@ module _ (x : List ℕ) where
   reads_pass : (o : OptionsData) {s after : ReaderState} {items : List Item} → Reads o s items after → Passes s.here items after.here
   reads_pass o (of_comment at g k) = gap_passes g
   reads_pass o {s = s} {after = after} (of_lexeme {items = items} at behind sort comes given keys) =
-      let p = given_places o _ sort at.here _ items behind given in
+      let p = given_places o _ sort at.here _ items behind given.1 in
       subst (λ (l : List Item). Passes s.here l behind.here) (sym p.are) (pass_then (gap_passes comes.gap) (starts_lexeme p.lexeme p.start p.passes))
 
   pub reached_passes : (o : OptionsData) {s t : ReaderState} {items : List Item} → Reached o s items t → Passes s.here items t.here
   reached_passes o {s = s} stops = passes_none (stay x s.here)
-  reached_passes o {s = s} {t = t} (goes_on next items more r rest e) = subst (λ (l : List Item). Passes s.here l t.here) (sym e) (pass_then (reads_pass o r) (reached_passes o rest))
+  reached_passes o {s = s} {t = t} (goes_on next items more r last rest e) = subst (λ (l : List Item). Passes s.here l t.here) (sym e) (pass_then (reads_pass o r) (reached_passes o rest))
 
 -- the lexemes and comments of a text begin at counted places
 pub starts_counted : (o : OptionsData) (x : List ℕ) (items : List Item) (t : ReaderState) → Reached o (reader_start (start_of x)) items t → Counted x items

@@ -1,5 +1,5 @@
 -- What the reader reads of a text is what the text holds.
-use Rattle.std.proofs.Common.{◌≡◌, ℕ, ◌&&◌, ◌||◌, Bool, true, false, List, [], ◌∷◌, ◌++◌, Option, Some, None, Result, Ok, Err, refl, sym, ap, ◌∙◌, subst, append_assoc}
+use Rattle.std.proofs.Common.{◌≡◌, ℕ, ◌&&◌, ◌||◌, Bool, true, false, List, [], ◌∷◌, ◌++◌, Option, Some, None, Result, Ok, Err, refl, sym, ap, ap₂, ◌∙◌, subst, append_assoc}
 use Rattle.std.specs.Prelude.{if◌then◌else◌}
 use Rattle.std.proofs.lemmas.List.{append-nil}
 use Rattle.granit_base.specs.Classes.{is_gap}
@@ -13,14 +13,15 @@ use Rattle.granit_lexemes.specs.LayoutData.{is_left}
 use Rattle.granit_lexemes.specs.Lexeme.{Item, OfComment}
 use Rattle.granit_lexemes.specs.NameExtent.{is_name_sign}
 use Rattle.granit_lexemes.specs.Outcome.{Fault, ◌>>=◌}
-use Rattle.granit_lexemes.specs.Pieces.{with_front}
+use Rattle.granit_lexemes.specs.Pieces.{with_front, pieces}
 use Rattle.granit_lexemes.specs.PlainScalar.{is_content}
 use Rattle.granit_lexemes.specs.QuotedScalar.{quote_char}
 use Rattle.granit_scalars.proofs.Turning.{Carries, pieces_hold}
 use Rattle.granit_machine.specs.Columns.{closed_at, closed_all, ends_at, ends_all}
 use Rattle.granit_machine.specs.Gaps.{takes_prefix, gap}
-use Rattle.granit_machine.specs.Laid.{Laid, is_in_flow, is_adjacent, block_column}
+use Rattle.granit_machine.specs.Laid.{Laid, is_in_flow, is_adjacent, innermost_column, block_column}
 use Rattle.granit_lexemes.specs.declared.layout.PossibleKey.{PossibleKey}
+use Rattle.granit_lexemes.specs.declared.layout.OpenColumn.{OpenColumn}
 use Rattle.granit_machine.specs.LexemeSort.{PlacedSort, OpenSign, CloseSign, CommaSign, DashSign, QuestionSign, ColonSign, AliasSign, AnchorSign, TagSign, BlockSign, QuoteSign, StrayMark, NoSign, PlainSign, LexemeSort, TextEnd, StartMark, EndMark, Unprintable, DirectiveSign, Placed, sort_at}
 use Rattle.granit_machine.specs.Lexing.{lex, lex_start}
 use Rattle.granit_machine.specs.PossibleKeys.{is_stale, refuse_required, stale_key, fresh, without_stale}
@@ -30,12 +31,12 @@ use Rattle.granit_machine.proofs.LexLengths.{noded-flow, lex_turn-Shortens}
 use Rattle.granit_machine.proofs.SortLemmas.{plain_sign-content}
 use Rattle.granit_language.specs.Before.{freshened, with_run, in_front}
 use Rattle.granit_language.specs.Begins.{SignBegins, alias, anchor, tag, quote, Begins, directive, sign}
-use Rattle.granit_language.specs.Reached.{NoneOverdue, Overdue, ends_column_by, Comes, Reads, of_comment, of_lexeme, Reached, stops, goes_on, ReadRefused, in_gap, key_overdue, at_lexeme, key_overdue_behind, EndsBy}
-use Rattle.granit_language.specs.Refusing.{GapRefused, Refuses, left_of_block, nothing, stray, RefusesSort, placed, unprintable}
-use Rattle.granit_language.specs.Standing.{GapStands, in_front_of_lexeme}
+use Rattle.granit_language.specs.Reached.{StandsInside, NoneOverdue, Overdue, ends_column_by, Comes, Reads, of_comment, of_lexeme, Reached, stops, goes_on, ReadRefused, in_gap, key_overdue, at_lexeme, key_overdue_behind, EndsBy}
+use Rattle.granit_language.specs.Refusing.{GapRefused, left_of_block, nothing, stray, RefusesSort, placed, unprintable}
+use Rattle.granit_language.specs.Standing.{GapStands, in_front_of_lexeme, Given}
 use Rattle.granit_reading.proofs.Answering.{Answers, answers_then, answers_if}
 use Rattle.granit_reading.proofs.Gapping.{GapAt, gap_is}
-use Rattle.granit_reading.proofs.Lexemes.{GivenBy, PlacedAs, ReadAs, opener-is, closer-is, comma-is, dash-is, question-is, colon-is, alias-is, anchor-is, tag-is, block-is, plain-is, quoted-is, text_end-is, start_mark-is, end_mark-is, directive-is}
+use Rattle.granit_reading.proofs.Lexemes.{PlacedAs, ReadAs, opener-is, closer-is, comma-is, dash-is, question-is, colon-is, alias-is, anchor-is, tag-is, block-is, plain-is, quoted-is, text_end-is, start_mark-is, end_mark-is, directive-is}
 use Rattle.granit_reading.proofs.Sorting.{begins_is}
 
 -- ---- what a lexeme of a node leaves alone
@@ -146,23 +147,31 @@ placed_as : (o : OptionsData) (ends : Bool) (sort : PlacedSort) (h : Here) (l : 
 placed_as o ends sort h l (Ok x) p = p
 placed_as o ends sort h l (Err f) p = placed p
 
-column-is : (o : OptionsData) (sort : PlacedSort) (ends : Bool) (h : Here) (l : Laid) → Starts sort (is_in_flow l) h → ReadAs o ends (Placed sort) h (with_run sort h l) (lexeme_in_column o sort ends h l)
+abbrev pub InsideBy : OptionsData → Bool → LexemeSort → Here → Laid → List Item × ReaderState → Type 0
+InsideBy o ends sort h l x = StandsInside o sort h l × Given o ends sort h l x.0 x.1
+
+inside_as : (o : OptionsData) (ends : Bool) (sort : LexemeSort) (h : Here) (l : Laid) (r : Result (List Item × ReaderState) Fault) → StandsInside o sort h l → ReadAs o ends sort h l r → Answers (InsideBy o ends sort h l) (RefusesSort o h l sort) r
+inside_as o ends sort h l (Ok x) s p = (s, p)
+inside_as o ends sort h l (Err f) s p = p
+
+column-is : (o : OptionsData) (sort : PlacedSort) (ends : Bool) (h : Here) (l : Laid) → Starts sort (is_in_flow l) h → Answers (InsideBy o ends (Placed sort) h (with_run sort h l)) (RefusesSort o h (with_run sort h l) (Placed sort)) (lexeme_in_column o sort ends h l)
 unfolding lexeme_in_column is_strict_outside
 column-is o sort ends h l p =
     let t = with_run sort h l in
-    placed_as o ends sort h t _ (answers_if (GivenBy o ends (Placed sort) h t) (Refuses o h t sort) (is_strict_outside o h.place.column l) _ _
-    (λ y. let a = both (o.strict_indentation && is_in_flow l) (is_left (block_column l) h.place.column) y in
-    let b = both o.strict_indentation (is_in_flow l) a.0 in
-    left_of_block b.0 (run_flow sort h l ∙ b.1) (ap (λ (cs : List Rattle.granit_lexemes.specs.declared.layout.OpenColumn.OpenColumn). is_left (Rattle.granit_machine.specs.Laid.innermost_column cs) h.place.column) (run_columns sort h l) ∙ a.1))
-    (λ _. lexeme_of-is o sort ends h l p))
+    let same : ((o.strict_indentation && is_in_flow t) && is_left (block_column t) h.place.column) ≡ is_strict_outside o h.place.column l =
+    ap₂ (λ (f : Bool) (cs : List OpenColumn). (o.strict_indentation && f) && is_left (innermost_column cs) h.place.column) (run_flow sort h l) (run_columns sort h l) in
+    answers_if (InsideBy o ends (Placed sort) h t) (RefusesSort o h t (Placed sort)) (is_strict_outside o h.place.column l) _ _
+    (λ y. let a = both (o.strict_indentation && is_in_flow t) (is_left (block_column t) h.place.column) (same ∙ y) in
+    let b = both o.strict_indentation (is_in_flow t) a.0 in placed (left_of_block b.0 b.1 a.1))
+    (λ n. inside_as o ends (Placed sort) h t _ (same ∙ n) (placed_as o ends sort h t _ (lexeme_of-is o sort ends h l p)))
 
 lexeme_by-is : (o : OptionsData) (sort : LexemeSort) (s : ReaderState) → Begins (is_in_flow s.laid) (is_adjacent s.laid.last) s.here.place.column s.here.unread.text sort → sort_at (is_in_flow s.laid) (is_adjacent s.laid.last) s.here ≡ sort → is_gap (next_char s.here) ≡ false
-    → ReadAs o (ends_column_by sort s) sort s.here (in_front sort s.here s.laid) (lexeme_by o sort s.here s.laid)
+    → Answers (InsideBy o (ends_column_by sort s) sort s.here (in_front sort s.here s.laid)) (RefusesSort o s.here (in_front sort s.here s.laid) sort) (lexeme_by o sort s.here s.laid)
 unfolding lexeme_by
-lexeme_by-is o TextEnd s b e g = text_end-is o s.here s.laid
-lexeme_by-is o StartMark s b e g = start_mark-is o (ends_all s.laid) s.here (closed_all s.laid) s.laid.brackets refl
-lexeme_by-is o EndMark s b e g = end_mark-is o (ends_all s.laid) s.here (closed_all s.laid) s.laid.brackets refl
-lexeme_by-is o DirectiveSign s b e g = directive-is o (ends_all s.laid) s.here (closed_all s.laid) (percent_there b)
+lexeme_by-is o TextEnd s b e g = inside_as o (ends_all s.laid) TextEnd s.here s.laid _ tt (text_end-is o s.here s.laid)
+lexeme_by-is o StartMark s b e g = inside_as o (ends_all s.laid) StartMark s.here (closed_all s.laid) _ tt (start_mark-is o (ends_all s.laid) s.here (closed_all s.laid) s.laid.brackets refl)
+lexeme_by-is o EndMark s b e g = inside_as o (ends_all s.laid) EndMark s.here (closed_all s.laid) _ tt (end_mark-is o (ends_all s.laid) s.here (closed_all s.laid) s.laid.brackets refl)
+lexeme_by-is o DirectiveSign s b e g = inside_as o (ends_all s.laid) DirectiveSign s.here (closed_all s.laid) _ tt (directive-is o (ends_all s.laid) s.here (closed_all s.laid) (percent_there b))
 lexeme_by-is o Unprintable s b e g = unprintable
 lexeme_by-is o (Placed sort) s b e g =
     column-is o sort (ends_at s.here.place.column s.laid) s.here (closed_at s.here.place.column s.laid)
@@ -212,7 +221,7 @@ read_lexeme o s at g k =
     let sort = sort_at (is_in_flow f.laid) (is_adjacent f.laid.last) f.here in
     let begins = begins_is (is_in_flow f.laid) (is_adjacent f.laid.last) f.here in
     let comes : Comes o s at sort = record { gap = g; keys = k; begins = begins } in
-    answers_then (GivenBy o (ends_column_by sort f) sort f.here (in_front sort f.here f.laid)) (RefusesSort o f.here (in_front sort f.here f.laid) sort) (ReadsBy o s) (ReadRefused o s) (lexeme o f.here f.laid) (finish o)
+    answers_then (InsideBy o (ends_column_by sort f) sort f.here (in_front sort f.here f.laid)) (RefusesSort o f.here (in_front sort f.here f.laid) sort) (ReadsBy o s) (ReadRefused o s) (lexeme o f.here f.laid) (finish o)
     (lexeme_by-is o sort f begins refl (stops_there g))
     (λ y p. answers_then (Freshened o y.1) (Overdue o y.1) (ReadsBy o s) (ReadRefused o s) (without_stale o (mark_of y.1.here) y.1.laid) _ (fresh_is o y.1)
     (λ t q. subst (λ (t : Laid). Reads o s y.0 (record { here = y.1.here; laid = t })) (sym q.0) (of_lexeme at y.1 sort comes p q.1)) (λ kind m q. key_overdue_behind y.0 at y.1 sort comes p q))
@@ -255,10 +264,10 @@ Holds o s (Err f) = ⊥
 more_of : (o : OptionsData) (s : ReaderState) (items : List Item) (after : ReaderState) → Reads o s items after → (v : Bool) → is_end items ≡ v → (more : List Item) (t : LexState) → HoldsBy o v (record { reader = after; ended = v; fault = None }) more t → Lexed o s (items ++ more) t
 more_of o s items after r true e more t h =
     subst (Lexed o s (items ++ more)) (sym h.1) (record {
-      reached = goes_on after items more r (subst (λ l. Reached o after l after) (sym h.0) stops) refl;
+      reached = goes_on after items more r (λ _. h.0) (subst (λ l. Reached o after l after) (sym h.0) stops) refl;
       ends = ([], items, ap (λ (l : List Item). items ++ l) h.0 ∙ append-nil items, e);
     })
-more_of o s items after r false e more t h = record { reached = goes_on after items more r h.reached refl; ends = ends_more t.fault h.ends }
+more_of o s items after r false e more t h = record { reached = goes_on after items more r (λ p. absurd cc) h.reached refl; ends = ends_more t.fault h.ends }
   where
     ends_more : (f : Option Fault) → EndsBy o more t.reader f → EndsBy o (items ++ more) t.reader f
     ends_more None (front, last, p, q) = (items ++ front, last, ap (λ (l : List Item). items ++ l) p ∙ rw append_assoc refl, q)
@@ -280,6 +289,18 @@ turn_by o s (Err f) p false e = subst (λ v. HoldsBy o v s [] (record { reader =
 turn-is : (o : OptionsData) (s : LexState) → Carries (Holds o) s (lex_turn o s)
 unfolding lex_turn
 turn-is o s = turn_by o s (read o s.reader) (read-is o s.reader) s.ended refl
+
+abbrev pub Total : Result (List Item × LexState) Fault → Type 0
+Total (Ok x) = Unit {0}
+Total (Err f) = ⊥
+
+-- from any state reading gives items and a state
+pub total : (o : OptionsData) (s : LexState) → Total (pieces lex_len (lex_turn o) s)
+total o s = on (pieces lex_len (lex_turn o) s) (pieces_hold (Holds o) lex_len (lex_turn o) (lex_turn-Shortens o) (turn-is o) s)
+  where
+    on : (r : Result (List Item × LexState) Fault) → Holds o s r → Total r
+    on (Ok x) p = tt
+    on (Err f) p = p
 
 lex_holds : (o : OptionsData) (h : Here) → Holds o (lex_start h) (lex o h)
 lex_holds o h = pieces_hold (Holds o) lex_len (lex_turn o) (lex_turn-Shortens o) (turn-is o) (lex_start h)

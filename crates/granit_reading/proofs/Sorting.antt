@@ -15,23 +15,23 @@ either : {A : Type 0} (P : A → Type 0) (b : Bool) (x y : A) → (b ≡ true �
 either P true x y p q = p refl
 either P false x y p q = q refl
 
-same : (c d : ℕ) → (c == d) ≡ true → d ≡ c
+pub same : (c d : ℕ) → (c == d) ≡ true → d ≡ c
 same c d e = grind (arith, nat_tests)
 
 differs : (c d : ℕ) → (c == d) ≡ false → c ≢ d
 differs c d e = λ p. grind (arith, nat_tests)
 
-both : (x y : Bool) → (x && y) ≡ true → (x ≡ true) × (y ≡ true)
+pub both : (x y : Bool) → (x && y) ≡ true → (x ≡ true) × (y ≡ true)
 both true true e = (refl, refl)
 both true false e = absurd cc
 both false y e = absurd cc
 
-neither : (x y : Bool) → (x || y) ≡ false → (x ≡ false) × (y ≡ false)
+pub neither : (x y : Bool) → (x || y) ≡ false → (x ≡ false) × (y ≡ false)
 neither false false e = (refl, refl)
 neither false true e = absurd cc
 neither true y e = absurd cc
 
-some_of : (x y : Bool) → (x || y) ≡ true → (x ≡ true) ⊎ (y ≡ true)
+pub some_of : (x y : Bool) → (x || y) ≡ true → (x ≡ true) ⊎ (y ≡ true)
 some_of true y e = inl refl
 some_of false true e = inr refl
 some_of false false e = absurd cc
@@ -40,7 +40,7 @@ unless : (c d : ℕ) (v : Bool) → (c == d && v) ≡ false → c ≡ d → v �
 unless c d true e p = absurd (grind (arith, nat_tests))
 unless c d false e p = refl
 
-not_true : (v : Bool) → not v ≡ true → v ≡ false
+pub not_true : (v : Bool) → not v ≡ true → v ≡ false
 not_true true e = absurd cc
 not_true false e = refl
 
@@ -115,10 +115,10 @@ module _ (in_flow adjacent : Bool) (next : ℕ) where
 
 -- ---- document marks
 
-abbrev three : ℕ → List ℕ → Bool
+abbrev pub three : ℕ → List ℕ → Bool
 three c text = ((slice_index text 0 == c && slice_index text 1 == c) && slice_index text 2 == c) && is_blank_or_breakz (slice_index text 3)
 
-three_stand : (c column : ℕ) (text : List ℕ) → 0 < c → column ≡ 0 → three c text ≡ true → ThreeStand c column text
+pub three_stand : (c column : ℕ) (text : List ℕ) → 0 < c → column ≡ 0 → three c text ≡ true → ThreeStand c column text
 three_stand c column [] some z e = absurd (grind (arith, nat_tests))
 three_stand c column (a ∷ []) some z e = absurd (grind (arith, nat_tests))
 three_stand c column (a ∷ b ∷ []) some z e = absurd (grind (arith, nat_tests))
