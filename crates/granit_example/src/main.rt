@@ -13,7 +13,12 @@ fn main(rt: HostRuntime) -> Result<()> {
         Ok(events) => {
             for (event, span) in events.as_slice() {
                 if let Event::Scalar(text, _, _, _) = event {
-                    println!(rt; "{}:{} {}", span.start.line(), span.start.col(), text.as_str())?;
+                    println!(rt;
+                        "{}:{} {}",
+                        span.start.line(),
+                        span.start.col(),
+                        text.as_str()
+                    )?;
                 }
             }
         }
