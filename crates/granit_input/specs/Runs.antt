@@ -5,7 +5,7 @@ use Rattle.granit_base.specs.Classes.{is_within, is_alpha, is_blank, is_blank_or
 use Rattle.granit_input.specs.declared.class.Class.{Class}
 use Rattle.granit_input.specs.declared.class.Class.TheVariants.{Alpha, NonSpace, Blank, Printable, NonBreakz}
 use Rattle.granit_input.specs.declared.class.Run.{Run}
-use Rattle.granit_input.specs.declared.class.Run.TheVariants.{Of, Plain, Quoted}
+use Rattle.granit_input.specs.declared.class.Run.TheVariants.{Of, Plain, Quoted, QuotedAscii}
 
 -- how many characters the run at the front has
 unfoldable pub run_length : (List ℕ → Bool) → List ℕ → ℕ
@@ -60,3 +60,4 @@ abbrev pub run_test : Run → List ℕ → Bool
 run_test (Of class) text = class_test class (first text)
 run_test (Plain in_flow) text = is_plain_at in_flow text
 run_test (Quoted single) text = is_quoted_char single (first text)
+run_test (QuotedAscii single) text = is_quoted_ascii single (first text)

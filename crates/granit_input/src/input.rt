@@ -15,7 +15,7 @@ ghost use Rattle.granit_input.specs.Chunks.{SkipsRun, FetchesRun, SkipsFront, Fe
 ghost use Rattle.granit_input.specs.Looks.{begins_with_2, begins_with_3, is_document_start, is_document_end, is_document_indicator, ReadsNonBreakz};
 ghost use Rattle.granit_input.specs.White.{holds, SkipsBlanks, SkipsWhite};
 
-use crate::class::{Class, Run, goes_on, is_quoted};
+use crate::class::{Class, Run, goes_on, is_quoted, is_quoted_ascii};
 use crate::whitespace::{SkipTabs, WhitespaceResult};
 use granit_base::{
     NoMemory, is_alpha, is_blank, is_blank_or_breakz, is_break, is_breakz, is_digit, is_flow,
@@ -299,6 +299,10 @@ pub trait Input: Drop {
             Run::Quoted(single) => {
                 let c = self.look_ch();
                 is_quoted(c, single)
+            }
+            Run::QuotedAscii(single) => {
+                let c = self.look_ch();
+                is_quoted_ascii(c, single)
             }
         }
     }

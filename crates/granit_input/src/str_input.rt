@@ -1,8 +1,10 @@
 //! The characters of a string.
-ghost use Rattle.std.specs.Prelude.{◌≡◌, ◌+◌, ◌-◌, ◌<◌, ◌≤◌, ◌^◌, true, Some, length, drop, max, min, MatchOption};
+ghost use Rattle.std.specs.Prelude.{◌≡◌, ℕ, ◌+◌, ◌-◌, ◌<◌, ◌≤◌, ◌^◌, true, Some, length, take, drop, max, min, MatchOption};
 ghost use Rattle.std.specs.Str.{chars, is_utf8};
 ghost use Rattle.granit_base.specs.Place.{Unread, first};
+ghost use Rattle.granit_input.specs.Cuts.{SpellsFront, last_bytes};
 ghost use Rattle.granit_input.specs.Looks.{ReadsNonBreakz};
+ghost use Rattle.granit_input.specs.Runs.{run_length, run_test};
 ghost use Rattle.granit_input.specs.Unread.{past};
 
 use crate::borrowed::BorrowedInput;
@@ -36,6 +38,31 @@ impl<'a> StrInput<'a> {
             rest: input,
             window: 0,
         }
+    }
+}
+
+impl<'a> StrInput<'a> {
+    /// Consumes a run, and says how many characters it has.
+    fn pass_run(&mut self, run: Run) -> usize
+        ensures whole { result ≡ run_length (run_test run) (chars self.old.rest.now) }
+        ensures text { chars self.new.rest.now ≡ drop result (chars self.old.rest.now) }
+        ensures bytes { SpellsFront self.old.rest.now result self.new.rest.now }
+        ensures kept { (self.new.source.now ≡ self.old.source.now) × (self.new.window ≡ self.old.window) }
+    {
+        let (_, count, rest) = past_run(self.rest, run, usize::MAX);
+        self.rest = rest;
+        count
+    }
+
+    /// What was consumed since so many bytes were left.
+    fn since(&self, left: usize) -> &str
+        requires within { left ≤ length self.now.source.now }
+        requires utf8 { is_utf8 (last_bytes left self.now.source.now) ≡ true }
+        requires front { (count : ℕ) × SpellsFront (last_bytes left self.now.source.now) count self.now.rest.now }
+        ensures { (count : ℕ) → SpellsFront (last_bytes left self.now.source.now) count self.now.rest.now
+            → chars result.now ≡ take count (chars (last_bytes left self.now.source.now)) }
+    {
+        before(&self.source[self.source.len() - left..], self.rest)
     }
 }
 
@@ -143,6 +170,18 @@ impl<'a> Input for StrInput<'a> {
         push_text(out, before(self.rest, rest))?;
         self.rest = rest;
         Ok((ended, count))
+    }
+
+    fn take_quoted_scalar_ascii_chunk(&mut self, single: bool) -> (&str, usize) {
+        let left = self.rest.len();
+        let count = self.pass_run(Run::QuotedAscii(single));
+        (self.since(left), count)
+    }
+
+    fn take_quoted_scalar_chunk(&mut self, single: bool) -> (&str, usize) {
+        let left = self.rest.len();
+        let count = self.pass_run(Run::Quoted(single));
+        (self.since(left), count)
     }
 
     fn peek(&self) -> char {
