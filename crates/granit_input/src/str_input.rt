@@ -1,5 +1,5 @@
 //! The characters of a string.
-ghost use Rattle.std.specs.Prelude.{◌≡◌, ℕ, ◌+◌, ◌-◌, ◌<◌, ◌≤◌, ◌^◌, true, Some, length, take, drop, max, min, MatchOption};
+ghost use Rattle.std.specs.Prelude.{◌≡◌, ℕ, ◌-◌, ◌<◌, ◌≤◌, ◌^◌, true, Some, [], length, take, drop, max, min};
 ghost use Rattle.std.specs.Str.{chars, is_utf8};
 ghost use Rattle.granit_base.specs.Place.{Unread, first};
 ghost use Rattle.granit_input.specs.Cuts.{SpellsFront, last_bytes};
@@ -67,18 +67,23 @@ impl<'a> StrInput<'a> {
 }
 
 impl<'a> Input for StrInput<'a> {
+    ghost use Rattle.std.specs.Borrow.{sem};
+    ghost use Rattle.std.specs.Io.BufRead.{Rests};
     ghost use Rattle.std.specs.Str.{chars};
-    ghost use Rattle.granit_input.specs.Unread.{left_of};
-    ghost use Rattle.granit_input.specs.Origin.{Goes, of_string};
+    ghost use mir.Syntax.{named};
     ghost use Rattle.granit_input.specs.Laws.{string_short, string_agrees, string_floor};
+    ghost use Rattle.granit_input.specs.Runs.{starts, is_quoted_ascii, is_quoted_char};
+    ghost use Rattle.granit_input.specs.Strings.{Leaves, Looks, MovesBy, MovesIfSome, TakesRun, IsWhole, count_left, origin_of};
+    ghost use Rattle.granit_input.specs.White.{holds};
+    ghost use Rattle.granit_input.specs.contracts.str_input.StrInput.{the_row};
 
-    ghost unread = { λ s u. u ≡ left_of s.source.now s.rest.now };
+    ghost unread = { λ s u. Leaves s u };
 
-    ghost left = { λ s. length (chars s.rest.now) };
+    ghost left = { λ s. count_left s };
 
     ghost window = { λ s. s.window };
 
-    ghost origin = { λ s. of_string s.source.now s.window };
+    ghost origin = { λ s. origin_of s };
 
     ghost short = { λ s. string_short s.source.now s.rest.now s.within s.short };
 
@@ -87,8 +92,8 @@ impl<'a> Input for StrInput<'a> {
     ghost agrees = { λ s u is. string_agrees s.source.now s.rest.now s.window u s.suffix s.utf8 is };
 
     fn lookahead(&mut self, count: usize)
-        ensures unread { (u : Unread) → u ≡ left_of self.old.source.now self.old.rest.now → u ≡ left_of self.new.source.now self.new.rest.now }
-        ensures moves { (length (chars self.new.rest.now) ≤ length (chars self.old.rest.now)) × (max (min count 8) self.old.window ≤ self.new.window) × Goes (of_string self.old.source.now self.old.window) (of_string self.new.source.now self.new.window) }
+        ensures unread { (u : Unread) → Leaves self.old u → Leaves self.new u }
+        ensures moves { Looks (min count 8) self.old self.new }
         ensures window { self.new.window ≡ max self.old.window count }
     {
         self.window = self.window.max(count);
@@ -106,8 +111,8 @@ impl<'a> Input for StrInput<'a> {
     }
 
     fn raw_read_ch(&mut self) -> char
-        ensures read { (u : Unread) → u ≡ left_of self.old.source.now self.old.rest.now → (past 1 u ≡ left_of self.new.source.now self.new.rest.now) × (result ≡ first u.text) }
-        ensures moves { (length (chars self.new.rest.now) ≤ length (chars self.old.rest.now) - 1) × (self.old.window ≤ self.new.window + min 1 (length (chars self.old.rest.now))) × Goes (of_string self.old.source.now self.old.window) (of_string self.new.source.now self.new.window) }
+        ensures read { (u : Unread) → Leaves self.old u → Leaves self.new (past 1 u) × (result ≡ first u.text) }
+        ensures moves { MovesBy 1 self.old self.new }
         ensures window { self.new.window ≡ self.old.window }
     {
         match split_first_char(self.rest) {
@@ -120,8 +125,8 @@ impl<'a> Input for StrInput<'a> {
     }
 
     fn raw_read_non_breakz_ch(&mut self) -> Option<char>
-        ensures read { (u : Unread) → u ≡ left_of self.old.source.now self.old.rest.now → ReadsNonBreakz u result (λ v. v ≡ left_of self.new.source.now self.new.rest.now) }
-        ensures moves { (MatchOption result (length (chars self.new.rest.now) ≤ length (chars self.old.rest.now)) (λ c. length (chars self.new.rest.now) < length (chars self.old.rest.now))) × (MatchOption result (self.old.window ≤ self.new.window) (λ c. self.old.window ≤ self.new.window + 1)) × Goes (of_string self.old.source.now self.old.window) (of_string self.new.source.now self.new.window) }
+        ensures read { (u : Unread) → Leaves self.old u → ReadsNonBreakz u result (Leaves self.new) }
+        ensures moves { MovesIfSome result self.old self.new }
         ensures window { self.new.window ≡ self.old.window }
     {
         match split_first_char(self.rest) {
@@ -137,8 +142,8 @@ impl<'a> Input for StrInput<'a> {
     }
 
     fn skip(&mut self)
-        ensures unread { (u : Unread) → u ≡ left_of self.old.source.now self.old.rest.now → past 1 u ≡ left_of self.new.source.now self.new.rest.now }
-        ensures moves { (length (chars self.new.rest.now) ≤ length (chars self.old.rest.now) - 1) × (self.old.window ≤ self.new.window + min 1 (length (chars self.old.rest.now))) × Goes (of_string self.old.source.now self.old.window) (of_string self.new.source.now self.new.window) }
+        ensures unread { (u : Unread) → Leaves self.old u → Leaves self.new (past 1 u) }
+        ensures moves { MovesBy 1 self.old self.new }
         ensures window { self.new.window ≡ self.old.window }
     {
         if let Some((_, rest)) = split_first_char(self.rest) {
@@ -147,8 +152,8 @@ impl<'a> Input for StrInput<'a> {
     }
 
     fn skip_n(&mut self, count: usize)
-        ensures unread { (u : Unread) → u ≡ left_of self.old.source.now self.old.rest.now → past count u ≡ left_of self.new.source.now self.new.rest.now }
-        ensures moves { (length (chars self.new.rest.now) ≤ length (chars self.old.rest.now) - count) × (self.old.window ≤ self.new.window + min count (length (chars self.old.rest.now))) × Goes (of_string self.old.source.now self.old.window) (of_string self.new.source.now self.new.window) }
+        ensures unread { (u : Unread) → Leaves self.old u → Leaves self.new (past count u) }
+        ensures moves { MovesBy count self.old self.new }
         ensures window { self.new.window ≡ self.old.window }
     {
         self.rest = behind(self.rest, count);
@@ -172,13 +177,23 @@ impl<'a> Input for StrInput<'a> {
         Ok((ended, count))
     }
 
-    fn take_quoted_scalar_ascii_chunk(&mut self, single: bool) -> (&str, usize) {
+    fn take_quoted_scalar_ascii_chunk(&mut self, single: bool) -> (&str, usize)
+        ensures* rests { sem 𝓛 (Rests (the_row (record { mir = named 1; lft = [] })) self.entry (λ new.
+            TakesRun (starts (is_quoted_ascii single)) result.0 self.old new)) }
+        ensures count { result.1 ≡ length (chars result.0.now) }
+        ensures whole { IsWhole (starts (is_quoted_ascii single)) result.0 self.old }
+    {
         let left = self.rest.len();
         let count = self.pass_run(Run::QuotedAscii(single));
         (self.since(left), count)
     }
 
-    fn take_quoted_scalar_chunk(&mut self, single: bool) -> (&str, usize) {
+    fn take_quoted_scalar_chunk(&mut self, single: bool) -> (&str, usize)
+        ensures* rests { sem 𝓛 (Rests (the_row (record { mir = named 1; lft = [] })) self.entry (λ new.
+            TakesRun (starts (is_quoted_char single)) result.0 self.old new)) }
+        ensures count { result.1 ≡ length (chars result.0.now) }
+        ensures whole { IsWhole (starts (is_quoted_char single)) result.0 self.old }
+    {
         let left = self.rest.len();
         let count = self.pass_run(Run::Quoted(single));
         (self.since(left), count)

@@ -26,5 +26,5 @@ returns c =
           search rules,
         ),
       ),
-      record { rests = tt; count = sym long },
+      record { rests = tt; count = sym long; whole = long ∙ run.ensures.whole },
     )
