@@ -137,7 +137,7 @@ text_behind test source now rest after text count u same fits whole behind bytes
       fits = omega (arith, long, whole ∙ ap (run_length test) here);
       text = taken ∙ ap (take count) here ∙ ap (λ (n : ℕ). take n u.text) (sym long);
       lands = subst (λ (n : ℕ). past n u ≡ left_of now after) (sym long)
-      (ap (past count) is ∙ past_bytes source rest after count fits behind bytes ∙ ap (λ (s : List ℕ). left_of s after) (sym same));
+          (ap (past count) is ∙ past_bytes source rest after count fits behind bytes ∙ ap (λ (s : List ℕ). left_of s after) (sym same));
     }
 
 -- what was read since the rest was left

@@ -4,7 +4,8 @@ ghost use Rattle.std.specs.Str.{chars};
 ghost use Rattle.granit_input.specs.Runs.{class_test, is_quoted_ascii, is_quoted_char, plain_goes_on, run_test};
 
 use granit_base::{
-    is_alpha, is_blank, is_blank_or_breakz, is_breakz, is_flow, is_printable, is_yaml_non_space, nth_char,
+    is_alpha, is_blank, is_blank_or_breakz, is_breakz, is_flow, is_printable, is_yaml_non_space,
+    nth_char,
 };
 
 /// A class of characters (YAML 1.2.2, chapter 5). NUL is in none.

@@ -1,5 +1,5 @@
 //! The characters of a string.
-ghost use Rattle.std.specs.Prelude.{◌≡◌, ℕ, ◌-◌, ◌<◌, ◌≤◌, ◌^◌, true, Some, [], length, take, drop, max, min};
+ghost use Rattle.std.specs.Prelude.{◌≡◌, ℕ, ◌-◌, ◌<◌, ◌≤◌, ◌^◌, true, false, Some, [], length, take, drop, max, min};
 ghost use Rattle.std.specs.Str.{chars, is_utf8};
 ghost use Rattle.granit_base.specs.Place.{Unread, first};
 ghost use Rattle.granit_input.specs.Cuts.{SpellsFront, last_bytes};
@@ -9,7 +9,7 @@ ghost use Rattle.granit_input.specs.Unread.{past};
 
 use crate::borrowed::BorrowedInput;
 use crate::class::Run;
-use crate::cuts::{before, behind, part, past_run};
+use crate::cuts::{before, behind, has_byte, part, past_run};
 use crate::input::Input;
 use granit_base::{NoMemory, is_at_end, is_breakz, nth_char, push_text, split_first_char};
 use granit_error::ErrorKind;
@@ -27,9 +27,11 @@ pub struct StrInput<'a> {
 }
 
 impl<'a> StrInput<'a> {
+    ghost use Rattle.granit_input.specs.Strings.{Leaves};
+
     /// All characters of a string.
     pub fn new(input: &'a str) -> StrInput<'a>
-        ensures unread { ⟦<StrInput<'a> as Input>⟧.unread result (record { text = chars input.now; offset = Some 0; lends = true }) }
+        ensures unread { Leaves result (record { text = chars input.now; offset = Some 0; lends = true }) }
         ensures source { result.source.now ≡ input.now }
         ensures window { result.window ≡ 0 }
     {
@@ -221,6 +223,14 @@ impl<'a> Input for StrInput<'a> {
 
     fn take_source_error(&mut self) -> Option<ErrorKind> {
         None
+    }
+
+    fn may_contain_comments(&self) -> bool
+        ensures rest { result ≡ false → (u : Unread) → Leaves self.now u → holds 0x23 u.text ≡ false }
+        ensures source { result ≡ false → holds 0x23 self.now.source.now ≡ false }
+        ensures exact { result ≡ holds 0x23 self.now.source.now }
+    {
+        has_byte(self.source, b'#')
     }
 }
 

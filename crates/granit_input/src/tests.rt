@@ -207,10 +207,10 @@ fn parts_of_a_string_are_cut_between_characters(rt: HostRuntime) {
     assert_eq!(rt; input.slice_borrowed(0, 4), Some("aé!"));
     assert_eq!(rt; input.slice_borrowed(3, 1), None);
     assert_eq!(rt; input.slice_borrowed(0, 5), None);
-    assert_eq!(rt; input.may_contain_comments(), true);
+    assert_eq!(rt; input.may_contain_comments(), false);
+    assert_eq!(rt; StrInput::new("a #").may_contain_comments(), true);
     assert_eq!(rt; input.take_source_error().is_none(), true);
-    let (text, count) = input.take_quoted_scalar_ascii_chunk(true);
-    assert_eq!(rt; text.chars().count(), count);
-    let (text, count) = input.take_quoted_scalar_chunk(false);
-    assert_eq!(rt; text.chars().count(), count);
+    assert_eq!(rt; input.take_quoted_scalar_ascii_chunk(true), ("a", 1));
+    assert_eq!(rt; input.take_quoted_scalar_chunk(false), ("é!", 2));
+    assert_eq!(rt; input.byte_offset(), Some(4));
 }
