@@ -24,10 +24,12 @@ is_line_char c = not (is_breakz c) && is_printable c
 abbrev pub is_non_breakz : ℕ → Bool
 is_non_breakz c = not (is_breakz c)
 
--- Whether a character, with the next one behind it, doesn't end a plain scalar as an indicator (7.3.3): a `:` with a blank, a break, NUL or the
--- end behind it does, and in flow a `:` with a flow indicator behind it and a flow indicator.
+-- Whether a character, with the next one behind it, doesn't end a plain scalar as an indicator (7.3.3): a `:` with a
+-- blank, a break, NUL or the end behind it does, and in flow a `:` with a flow indicator behind it and a flow
+-- indicator.
 abbrev pub plain_goes_on : Bool → ℕ → ℕ → Bool
-plain_goes_on in_flow c next = not (c == 0x3A && (is_blank_or_breakz next || (in_flow && is_flow next))) && not (in_flow && is_flow c)
+plain_goes_on in_flow c next = not (c == 0x3A && (is_blank_or_breakz next || (in_flow && is_flow next)))
+    && not (in_flow && is_flow c)
 
 abbrev pub can_be_plain : Bool → List ℕ → Bool
 can_be_plain in_flow text = plain_goes_on in_flow (first text) (slice_index text 1)

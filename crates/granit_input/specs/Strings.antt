@@ -22,11 +22,13 @@ origin_of s = of_string s.source.now s.window
 -- n characters were consumed, or all where fewer were left
 abbrev pub MovesBy : ℕ → StrInput → StrInput → Type 0
 MovesBy n old new =
-    (count_left new ≤ count_left old - n) × (old.window ≤ new.window + min n (count_left old)) × Goes (origin_of old) (origin_of new)
+    (count_left new ≤ count_left old - n) × (old.window ≤ new.window + min n (count_left old))
+    × Goes (origin_of old) (origin_of new)
 
 -- nothing was consumed, and n characters at least may be looked at
 abbrev pub Looks : ℕ → StrInput → StrInput → Type 0
-Looks n old new = (count_left new ≤ count_left old) × (max n old.window ≤ new.window) × Goes (origin_of old) (origin_of new)
+Looks n old new = (count_left new ≤ count_left old) × (max n old.window ≤ new.window)
+    × Goes (origin_of old) (origin_of new)
 
 -- a character was consumed where one is answered
 abbrev pub MovesIfSome : Option ℕ → StrInput → StrInput → Type 0
