@@ -1,4 +1,5 @@
 pub mod AppendLemmas
+pub mod HoldsLemmas
 pub mod LendLemmas
 pub mod OriginLemmas
 pub mod QuotedLemmas

@@ -3,12 +3,12 @@ use Rattle.std.proofs.Common.{◌≡◌, ℕ, zero, suc, ◌+◌, ◌<◌, ◌�
 use Rattle.std.proofs.lemmas.List.{drop-drop}
 use Rattle.std.proofs.lemmas.Bool.{cases_Bool}
 use Rattle.granit_base.specs.Classes.{is_alpha, is_word_char, is_digit, is_blank, is_blank_or_breakz, is_break, is_breakz, is_z, is_flow, is_printable, is_yaml_non_space, is_yaml_non_break, is_bom}
-use Rattle.granit_input.specs.Runs.{run_length, run_test, class_test, is_quoted_char}
+use Rattle.granit_input.specs.Runs.{run_length, run_test, class_test, is_quoted_ascii, is_quoted_char}
 use Rattle.granit_input.specs.Chunks.{TakesFront}
 use Rattle.granit_input.specs.declared.class.Class.{Class}
 use Rattle.granit_input.specs.declared.class.Class.TheVariants.{Alpha, NonSpace, Blank, Printable, NonBreakz}
 use Rattle.granit_input.specs.declared.class.Run.{Run}
-use Rattle.granit_input.specs.declared.class.Run.TheVariants.{Of, Plain, Quoted}
+use Rattle.granit_input.specs.declared.class.Run.TheVariants.{Of, Plain, Quoted, QuotedAscii}
 
 -- no run takes NUL
 pub class_nul : (k : Class) → class_test k 0 ≡ false
@@ -50,6 +50,11 @@ quoted_some true zero e = absurd cc
 quoted_some false zero e = absurd cc
 quoted_some single (suc c) e = omega arith
 
+pub quoted_ascii_some : (single : Bool) (c : ℕ) → is_quoted_ascii single c ≡ true → 0 < c
+quoted_ascii_some true zero e = absurd cc
+quoted_ascii_some false zero e = absurd cc
+quoted_ascii_some single (suc c) e = omega arith
+
 pub flow_some : (c : ℕ) → is_flow c ≡ true → 0 < c
 unfolding is_flow
 flow_some zero e = absurd cc
@@ -67,6 +72,8 @@ run_nul (Plain true) = refl
 run_nul (Plain false) = refl
 run_nul (Quoted true) = refl
 run_nul (Quoted false) = refl
+run_nul (QuotedAscii true) = refl
+run_nul (QuotedAscii false) = refl
 
 -- ---- the length of a run
 
@@ -124,4 +131,4 @@ pub front_all : (test : List ℕ → Bool) (text : List ℕ) (asked : ℕ) (ende
 front_all test text asked true count front short = front.whole refl
 front_all test text asked false count front short = absurd (omega (arith, front.enough refl))
 
-pub ruleset not_nul = (class_some, alpha_some, blank_some, break_some, breakz_some, blank_or_breakz_some, flow_some, quoted_some, digit_some)
+pub ruleset not_nul = (class_some, alpha_some, blank_some, break_some, breakz_some, blank_or_breakz_some, flow_some, quoted_some, quoted_ascii_some, digit_some)

@@ -2,15 +2,16 @@
 use Rattle.std.proofs.Common.{◌≡◌, ℕ, ◌+◌, ◌-◌, ◌<◌, ◌≤◌, true, List, [], ◌∷◌, ◌++◌, length, take, drop, slice_range, Bool, refl, sym, ap, subst, ◌∙◌, arith}
 use Rattle.std.specs.Char.{encode_utf8}
 use Rattle.std.specs.Str.{chars, encode_utf8_all, is_utf8, IsUtf8, IsCharBoundary}
-use Rattle.std.proofs.lemmas.List.{length-append, append-nil, append_assoc, drop-drop, drop_at, length-drop, take_all, drop_all}
+use Rattle.std.proofs.lemmas.List.{length-append, length-take-le, append-nil, append_assoc, drop-drop, drop_at, length-drop, take_all, drop_all}
 use Rattle.std.proofs.Math.Seq.{take-append_seam}
 use Rattle.std.proofs.lemmas.Str.{encodes-append, encodes-chars, encodes_same, IsCharBoundary-at_seam, IsUtf8-past_char, IsUtf8-from_is_utf8, is_utf8-from_IsUtf8}
 use Rattle.granit_base.specs.Classes.{is_break, is_breakz, is_z}
 use Rattle.granit_base.specs.Place.{Unread, first}
 use Rattle.granit_input.proofs.RunLemmas.{run_within}
 use Rattle.granit_input.proofs.WhiteLemmas.{take_more}
-use Rattle.granit_input.specs.Chunks.{TakesFront, SkipsFront}
-use Rattle.granit_input.specs.Cuts.{SpellsFront}
+use Rattle.granit_input.specs.Chunks.{TakesFront, SkipsFront, TakesText}
+use Rattle.granit_input.specs.Cuts.{SpellsFront, last_bytes}
+use Rattle.granit_input.specs.Runs.{run_length}
 use Rattle.granit_input.specs.Unread.{past, left_of, utf8_length}
 
 -- so many characters on, what is left of a string is what is left behind their bytes
@@ -120,3 +121,28 @@ pub run_left : (test : List ℕ → Bool) (rest after : List ℕ) (asked count :
     → length (chars after) + count ≤ length (chars rest)
 run_left test rest after asked count ended front text =
     omega (arith, ap length text ∙ length-drop count (chars rest), front.fits, run_within test (chars rest))
+
+pub taken_length : (test : List ℕ → Bool) (rest text : List ℕ) (count : ℕ) → count ≡ run_length test (chars rest) → chars text ≡ take count (chars rest) → length (chars text) ≡ count
+taken_length test rest text count whole taken =
+    ap length taken ∙ length-take-le count (chars rest) (omega (arith, whole, run_within test (chars rest)))
+
+-- the text of the whole run was taken
+pub text_behind : (test : List ℕ → Bool) (source now rest after text : List ℕ) (count : ℕ) (u : Unread) → now ≡ source → length rest ≤ length source → count ≡ run_length test (chars rest)
+    → chars after ≡ drop count (chars rest) → SpellsFront rest count after → chars text ≡ take count (chars rest) → u ≡ left_of source rest
+    → TakesText test u (chars text) (λ v. v ≡ left_of now after)
+text_behind test source now rest after text count u same fits whole behind bytes taken is =
+    let here : chars rest ≡ u.text = sym (ap (λ (v : Unread). v.text) is) in
+    let long : length (chars text) ≡ count = taken_length test rest text count whole taken in
+    record {
+      fits = omega (arith, long, whole ∙ ap (run_length test) here);
+      text = taken ∙ ap (take count) here ∙ ap (λ (n : ℕ). take n u.text) (sym long);
+      lands = subst (λ (n : ℕ). past n u ≡ left_of now after) (sym long)
+          (ap (past count) is ∙ past_bytes source rest after count fits behind bytes ∙ ap (λ (s : List ℕ). left_of s after) (sym same));
+    }
+
+-- what was read since the rest was left
+pub since_text : (source now rest after text : List ℕ) (count : ℕ) → now ≡ source → drop (length source - length rest) source ≡ rest → SpellsFront rest count after
+    → ((n : ℕ) → SpellsFront (last_bytes (length rest) now) n after → chars text ≡ take n (chars (last_bytes (length rest) now))) → chars text ≡ take count (chars rest)
+since_text source now rest after text count same suffix bytes since =
+    let last : last_bytes (length rest) now ≡ rest = ap (last_bytes (length rest)) same ∙ suffix in
+    since count (subst (λ (bs : List ℕ). SpellsFront bs count after) (sym last) bytes) ∙ ap (λ (bs : List ℕ). take count (chars bs)) last

@@ -16,7 +16,7 @@ pub skipped_some : (tabs : SkipTabs) (c : ℕ) → is_skipped tabs c ≡ true �
 skipped_some tabs zero e = absurd (let f = skipped_nul tabs in cc)
 skipped_some tabs (suc c) e = omega arith
 
-or_more : (a b c : Bool) → (a || (b || c)) ≡ ((a || b) || c)
+pub or_more : (a b c : Bool) → (a || (b || c)) ≡ ((a || b) || c)
 or_more true b c = refl
 or_more false b c = refl
 

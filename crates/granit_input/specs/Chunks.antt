@@ -14,18 +14,21 @@ pub record Extends (before : List ℕ) (after : List ℕ) : Type 0 where
   pub is : after ≡ before ++ added
 
 -- the run was broken off, and nothing is lost: what was taken of it was appended
-pub record BreaksOff (test : List ℕ → Bool) (u : Unread) (Lands : Unread → Type 0) (before : List ℕ) (after : List ℕ) : Type 0 where
+pub record BreaksOff (test : List ℕ → Bool) (u : Unread) (Lands : Unread → Type 0) (before after : List ℕ) : Type 0 where
   pub count : ℕ
   pub fits : count ≤ run_length test u.text
   pub lands : Lands (past count u)
   pub appended : after ≡ before ++ take count u.text
 
 -- the whole run was taken and appended, or memory was wanting
-abbrev pub FetchesRun : {E : Type 0} → (List ℕ → Bool) → Unread → Result ℕ E → (Unread → Type 0) → List ℕ → List ℕ → Type 0
-FetchesRun test u (Ok count) Lands before after = (count ≡ run_length test u.text) × Lands (past count u) × (after ≡ before ++ take count u.text)
+abbrev pub FetchesRun : {E : Type 0} → (List ℕ → Bool) → Unread → Result ℕ E → (Unread → Type 0) → List ℕ → List ℕ
+    → Type 0
+FetchesRun test u (Ok count) Lands before after = (count ≡ run_length test u.text) × Lands (past count u)
+    × (after ≡ before ++ take count u.text)
 FetchesRun test u (Err e) Lands before after = BreaksOff test u Lands before after
 
--- a front of the run was taken: all of it where the run is said to have ended, and else no fewer characters than were asked for
+-- a front of the run was taken: all of it where the run is said to have ended, and else no fewer characters than were
+-- asked for
 pub record TakesFront (test : List ℕ → Bool) (text : List ℕ) (asked : ℕ) (ended : Bool) (count : ℕ) : Type 0 where
   pub fits : count ≤ run_length test text
   pub whole : ended ≡ true → count ≡ run_length test text
@@ -34,8 +37,10 @@ pub record TakesFront (test : List ℕ → Bool) (text : List ℕ) (asked : ℕ)
 abbrev pub SkipsFront : (List ℕ → Bool) → Unread → ℕ → Bool × ℕ → (Unread → Type 0) → Type 0
 SkipsFront test u asked result Lands = TakesFront test u.text asked result.0 result.1 × Lands (past result.1 u)
 
-abbrev pub FetchesFront : {E : Type 0} → (List ℕ → Bool) → Unread → ℕ → Result (Bool × ℕ) E → (Unread → Type 0) → List ℕ → List ℕ → Type 0
-FetchesFront test u asked (Ok r) Lands before after = TakesFront test u.text asked r.0 r.1 × Lands (past r.1 u) × (after ≡ before ++ take r.1 u.text)
+abbrev pub FetchesFront : {E : Type 0} → (List ℕ → Bool) → Unread → ℕ → Result (Bool × ℕ) E → (Unread → Type 0)
+    → List ℕ → List ℕ → Type 0
+FetchesFront test u asked (Ok r) Lands before after = TakesFront test u.text asked r.0 r.1 × Lands (past r.1 u)
+    × (after ≡ before ++ take r.1 u.text)
 FetchesFront test u asked (Err e) Lands before after = BreaksOff test u Lands before after
 
 -- a text that is a front of the run was taken

@@ -7,10 +7,12 @@ use Rattle.granit_input.specs.Unread.{left_of, SpelledBy}
 use Rattle.granit_input.specs.Origin.{Agrees, of_string}
 
 -- no more characters than bytes
-pub string_short : (source rest : List ℕ) → length rest ≤ length source → length source < 2 ^ 63 → length (chars rest) < 2 ^ 63
+pub string_short : (source rest : List ℕ) → length rest ≤ length source → length source < 2 ^ 63
+    → length (chars rest) < 2 ^ 63
 string_short source rest within short = omega (arith, chars_len rest)
 
-string_spells : (source rest : List ℕ) (u : Unread) → drop (length source - length rest) source ≡ rest → is_utf8 rest ≡ true → u ≡ left_of source rest
+string_spells : (source rest : List ℕ) (u : Unread) → drop (length source - length rest) source ≡ rest
+    → is_utf8 rest ≡ true → u ≡ left_of source rest
     → SpelledBy (Some source) u
 string_spells source rest u suffix utf8 is = λ bytes at from told.
     let same : bytes ≡ source = cc in
@@ -19,7 +21,8 @@ string_spells source rest u suffix utf8 is = λ bytes at from told.
     let text : u.text ≡ chars rest = ap (λ (v : Unread). v.text) is in
     rw (same, place, text) (record { within = omega arith; utf8 = rw suffix utf8; spelled = ap chars suffix })
 
-pub string_agrees : (source rest : List ℕ) (window : ℕ) (u : Unread) → drop (length source - length rest) source ≡ rest → is_utf8 rest ≡ true → u ≡ left_of source rest
+pub string_agrees : (source rest : List ℕ) (window : ℕ) (u : Unread)
+    → drop (length source - length rest) source ≡ rest → is_utf8 rest ≡ true → u ≡ left_of source rest
     → Agrees (length (chars rest)) (of_string source window) u
 string_agrees source rest window u suffix utf8 is =
     let text : u.text ≡ chars rest = ap (λ (v : Unread). v.text) is in

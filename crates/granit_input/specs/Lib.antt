@@ -6,5 +6,6 @@ pub mod Origin
 pub mod Runs
 pub mod Stream
 pub mod StreamLaws
+pub mod Strings
 pub mod Unread
 pub mod White

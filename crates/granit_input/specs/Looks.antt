@@ -25,4 +25,5 @@ is_document_indicator text = is_document_start text || is_document_end text
 -- the next character is read, unless it is a break or NUL, or the end is here
 abbrev pub ReadsNonBreakz : Unread → Option ℕ → (Unread → Type 0) → Type 0
 ReadsNonBreakz u result Lands =
-    MatchOption result ((is_breakz (first u.text) ≡ true) × Lands u) (λ c. (is_breakz (first u.text) ≡ false) × (c ≡ first u.text) × Lands (past 1 u))
+    MatchOption result ((is_breakz (first u.text) ≡ true) × Lands u)
+    (λ c. (is_breakz (first u.text) ≡ false) × (c ≡ first u.text) × Lands (past 1 u))

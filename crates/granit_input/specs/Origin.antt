@@ -22,8 +22,8 @@ pub record Origin : Type 0 where
   -- the window is never smaller than this, whatever is consumed: the window itself where it never shrinks, else 0
   pub floor : ℕ
 
--- What a call leaves as it was, unless it hands out the error: the sources and what is told never change, a known end stays known
--- and nothing comes behind it, the first error stays the first, and the floor of the window never falls.
+-- What a call leaves as it was, unless it hands out the error: the sources and what is told never change, a known end
+-- stays known and nothing comes behind it, the first error stays the first, and the floor of the window never falls.
 pub record Goes (old : Origin) (new : Origin) : Type 0 where
   pub sliced : new.sliced ≡ old.sliced
   pub lent : new.lent ≡ old.lent
@@ -44,8 +44,8 @@ after_giving o = record o { handed_out = o.handed_out || is_some o.error }
 abbrev pub can_lend : Origin → Bool
 can_lend o = o.tells_offset && is_some o.lent
 
--- What is known to be left is within the bound, which is 0 at an end that is known. Its offset is known where offsets are told, it can be lent as said
--- above, and from its offset on the sources are its UTF-8.
+-- What is known to be left is within the bound, which is 0 at an end that is known. Its offset is known where offsets
+-- are told, it can be lent as said above, and from its offset on the sources are its UTF-8.
 pub record Agrees (left : ℕ) (o : Origin) (u : Unread) : Type 0 where
   pub bounded : length u.text ≤ left
   pub exact : o.knows_end ≡ true → length u.text ≡ 0 → left ≡ 0
@@ -54,7 +54,8 @@ pub record Agrees (left : ℕ) (o : Origin) (u : Unread) : Type 0 where
   pub sliced : SpelledBy o.sliced u
   pub lent : SpelledBy o.lent u
 
--- the part of the source between two offsets, which is answered exactly where there is a source and both offsets lie between its characters
+-- the part of the source between two offsets, which is answered exactly where there is a source and both offsets lie
+-- between its characters
 abbrev pub PartOf : Option (List ℕ) → ℕ → ℕ → Option (Bor (List ℕ)) → Type 0
 PartOf None start end answer = IsNone answer
 PartOf (Some bytes) start end answer = Slices bytes (Some (record { start = start; end = end })) answer
@@ -65,6 +66,15 @@ LentBetween source None end answer = IsNone answer
 LentBetween source (Some start) None answer = IsNone answer
 LentBetween source (Some start) (Some end) answer = PartOf source start end answer
 
--- the origin of a string's characters: both slices come from it, offsets are told, the end is known, there is no error, and the window never shrinks
+-- the origin of a string's characters: both slices come from it, offsets are told, the end is known, there is no
+-- error, and the window never shrinks
 abbrev pub of_string : List ℕ → (window : ℕ) → Origin
-of_string source window = record { sliced = Some source; lent = Some source; tells_offset = true; knows_end = true; error = None; handed_out = false; floor = window }
+of_string source window = record {
+  sliced = Some source;
+  lent = Some source;
+  tells_offset = true;
+  knows_end = true;
+  error = None;
+  handed_out = false;
+  floor = window;
+}

@@ -5,7 +5,7 @@ use Rattle.granit_base.specs.Classes.{is_within, is_alpha, is_blank, is_blank_or
 use Rattle.granit_input.specs.declared.class.Class.{Class}
 use Rattle.granit_input.specs.declared.class.Class.TheVariants.{Alpha, NonSpace, Blank, Printable, NonBreakz}
 use Rattle.granit_input.specs.declared.class.Run.{Run}
-use Rattle.granit_input.specs.declared.class.Run.TheVariants.{Of, Plain, Quoted}
+use Rattle.granit_input.specs.declared.class.Run.TheVariants.{Of, Plain, Quoted, QuotedAscii}
 
 -- how many characters the run at the front has
 unfoldable pub run_length : (List ℕ → Bool) → List ℕ → ℕ
@@ -24,10 +24,12 @@ is_line_char c = not (is_breakz c) && is_printable c
 abbrev pub is_non_breakz : ℕ → Bool
 is_non_breakz c = not (is_breakz c)
 
--- Whether a character, with the next one behind it, doesn't end a plain scalar as an indicator (7.3.3): a `:` with a blank, a break, NUL or the
--- end behind it does, and in flow a `:` with a flow indicator behind it and a flow indicator.
+-- Whether a character, with the next one behind it, doesn't end a plain scalar as an indicator (7.3.3): a `:` with a
+-- blank, a break, NUL or the end behind it does, and in flow a `:` with a flow indicator behind it and a flow
+-- indicator.
 abbrev pub plain_goes_on : Bool → ℕ → ℕ → Bool
-plain_goes_on in_flow c next = not (c == 0x3A && (is_blank_or_breakz next || (in_flow && is_flow next))) && not (in_flow && is_flow c)
+plain_goes_on in_flow c next = not (c == 0x3A && (is_blank_or_breakz next || (in_flow && is_flow next)))
+    && not (in_flow && is_flow c)
 
 abbrev pub can_be_plain : Bool → List ℕ → Bool
 can_be_plain in_flow text = plain_goes_on in_flow (first text) (slice_index text 1)
@@ -60,3 +62,4 @@ abbrev pub run_test : Run → List ℕ → Bool
 run_test (Of class) text = class_test class (first text)
 run_test (Plain in_flow) text = is_plain_at in_flow text
 run_test (Quoted single) text = is_quoted_char single (first text)
+run_test (QuotedAscii single) text = is_quoted_ascii single (first text)

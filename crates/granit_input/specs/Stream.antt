@@ -7,7 +7,8 @@ use Rattle.granit_input.specs.Origin.{Origin}
 -- every run from s gives these items and no others, and no bound falls below what is left
 abbrev pub GivesOnly : {S : Type 0} → (S → Option ℕ → S → Type 0) → (S → Count) → S → List ℕ → Type 0
 GivesOnly steps remaining s [] = (r : _) (t : _) → steps s r t → r ≡ None
-GivesOnly steps remaining s (x ∷ xs) = (length xs < size (remaining s)) × ((r : _) (t : _) → steps s r t → (r ≡ Some x) × GivesOnly steps remaining t xs)
+GivesOnly steps remaining s (x ∷ xs) = (length xs < size (remaining s))
+    × ((r : _) (t : _) → steps s r t → (r ≡ Some x) × GivesOnly steps remaining t xs)
 
 -- the same of an iterator that is asked only until it has ended
 abbrev pub StillGives : {S : Type 0} → (S → Option ℕ → S → Type 0) → (S → Count) → Bool → S → List ℕ → Type 0
@@ -20,9 +21,11 @@ still_left false left = size left
 
 -- the text is what is held, and what the iterator still gives
 abbrev pub Holds : {S : Type 0} → (S → Option ℕ → S → Type 0) → (S → Count) → Bool → S → List ℕ → List ℕ → Type 0
-Holds steps remaining done s front text = (rest : List ℕ) × (text ≡ front ++ rest) × StillGives steps remaining done s rest
+Holds steps remaining done s front text = (rest : List ℕ) × (text ≡ front ++ rest)
+    × StillGives steps remaining done s rest
 
--- where its characters come from: there is nothing to slice, and a source that breaks off has an error, which is met at the end
+-- where its characters come from: there is nothing to slice, and a source that breaks off has an error, which is met
+-- at the end
 abbrev pub of_stream : (done breaks_off handed_out : Bool) → Origin
 of_stream done breaks_off handed_out = record {
   sliced = None;

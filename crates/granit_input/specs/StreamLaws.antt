@@ -6,17 +6,20 @@ use Rattle.granit_base.specs.Place.{Unread}
 use Rattle.granit_input.specs.Origin.{Agrees}
 use Rattle.granit_input.specs.Stream.{StillGives, Holds, still_left, of_stream}
 
-rest_bounded : {S : Type 0} (steps : S → Option ℕ → S → Type 0) (remaining : S → Count) (done : Bool) (s : S) (xs : List ℕ)
+rest_bounded : {S : Type 0} (steps : S → Option ℕ → S → Type 0) (remaining : S → Count) (done : Bool) (s : S)
+    (xs : List ℕ)
     → StillGives steps remaining done s xs → length xs ≤ still_left done (remaining s)
 rest_bounded steps remaining true s xs none = omega (arith, ap length none)
 rest_bounded steps remaining false s [] known = omega arith
 rest_bounded steps remaining false s (x ∷ xs) known = omega (arith, known.0)
 
-rest_exact : (done : Bool) (c : Count) (front rest text : List ℕ) → done ≡ true → text ≡ front ++ rest → length text ≡ 0 → length front + still_left done c ≡ 0
+rest_exact : (done : Bool) (c : Count) (front rest text : List ℕ) → done ≡ true → text ≡ front ++ rest
+    → length text ≡ 0 → length front + still_left done c ≡ 0
 rest_exact true c front rest text e is none = omega (arith, ap length is ∙ length-append front rest)
 rest_exact false c front rest text e is none = absurd cc
 
-pub stream_agrees : {S : Type 0} (steps : S → Option ℕ → S → Type 0) (remaining : S → Count) (done : Bool) (s : S) (front : List ℕ) (breaks_off handed_out : Bool) (u : Unread)
+pub stream_agrees : {S : Type 0} (steps : S → Option ℕ → S → Type 0) (remaining : S → Count) (done : Bool) (s : S)
+    (front : List ℕ) (breaks_off handed_out : Bool) (u : Unread)
     → (u.offset ≡ None) × (u.lends ≡ false) × Holds steps remaining done s front u.text
     → Agrees (length front + still_left done (remaining s)) (of_stream done breaks_off handed_out) u
 stream_agrees steps remaining done s front breaks_off handed_out u k = record {

@@ -29,7 +29,10 @@ found_in blanks = record { found_tabs = holds 0x09 blanks; has_valid_yaml_ws = h
 
 -- the same with one character more
 abbrev pub found_more : WhitespaceResult → ℕ → WhitespaceResult
-found_more found c = record { found_tabs = found.found_tabs || c == 0x09; has_valid_yaml_ws = found.has_valid_yaml_ws || c == 0x20 }
+found_more found c = record {
+  found_tabs = found.found_tabs || c == 0x09;
+  has_valid_yaml_ws = found.has_valid_yaml_ws || c == 0x20;
+}
 
 abbrev pub SkipsBlanks : SkipTabs → Unread → ℕ × WhitespaceResult → (Unread → Type 0) → Type 0
 SkipsBlanks tabs u result Lands =
@@ -43,11 +46,13 @@ comment_behind blanks text = first (drop blanks text) == 0x23
 abbrev pub comment_length : ℕ → List ℕ → ℕ
 comment_length blanks text = run_length (starts is_non_breakz) (drop blanks text)
 
--- Blanks, and a comment behind them, are skipped. A comment that no blank separates is refused, and then nothing is skipped.
+-- Blanks, and a comment behind them, are skipped. A comment that no blank separates is refused, and then nothing is
+-- skipped.
 abbrev pub white_skipped : ℕ → List ℕ → ℕ × Result WhitespaceResult ErrorKind
 white_skipped blanks text =
     if comment_behind blanks text
-    then (if blanks == 0 then (0, Err CommentNotSeparated) else (blanks + comment_length blanks text, Ok (found_in (take blanks text))))
+    then (if blanks == 0 then (0, Err CommentNotSeparated)
+    else (blanks + comment_length blanks text, Ok (found_in (take blanks text))))
     else (blanks, Ok (found_in (take blanks text)))
 
 abbrev pub white_answer : SkipTabs → List ℕ → ℕ × Result WhitespaceResult ErrorKind

@@ -1,10 +1,11 @@
 //! The classes of characters that runs are made of.
 ghost use Rattle.std.specs.Prelude.{◌≡◌, ◌∷◌};
 ghost use Rattle.std.specs.Str.{chars};
-ghost use Rattle.granit_input.specs.Runs.{class_test, is_quoted_char, plain_goes_on, run_test};
+ghost use Rattle.granit_input.specs.Runs.{class_test, is_quoted_ascii, is_quoted_char, plain_goes_on, run_test};
 
 use granit_base::{
-    is_alpha, is_blank, is_blank_or_breakz, is_breakz, is_flow, is_printable, is_yaml_non_space, nth_char,
+    is_alpha, is_blank, is_blank_or_breakz, is_breakz, is_flow, is_printable, is_yaml_non_space,
+    nth_char,
 };
 
 /// A class of characters (YAML 1.2.2, chapter 5). NUL is in none.
@@ -32,6 +33,8 @@ pub enum Run {
     /// Those of a quoted scalar that stand for themselves, without blanks, with whether its quotes are
     /// single (YAML 1.2.2, 7.3.1 and 7.3.2).
     Quoted(bool),
+    /// Those of them from `!` to `~`.
+    QuotedAscii(bool),
 }
 
 impl Class {
@@ -61,6 +64,7 @@ impl Run {
                 !is_blank_or_breakz(c) && goes_on(c, next, in_flow)
             }
             Run::Quoted(single) => is_quoted(c, single),
+            Run::QuotedAscii(single) => is_quoted_ascii(c, single),
         }
     }
 }
@@ -73,14 +77,21 @@ pub(crate) fn goes_on(c: char, next: char, in_flow: bool) -> bool
         && !(in_flow && is_flow(c))
 }
 
-/// Whether a character stands for itself in quotes, and is no blank.
-pub(crate) fn is_quoted(c: char, single: bool) -> bool
-    ensures { result ≡ is_quoted_char single c }
+/// Whether a character from `!` to `~` stands for itself in quotes.
+pub(crate) fn is_quoted_ascii(c: char, single: bool) -> bool
+    ensures { result ≡ is_quoted_ascii single c }
 {
     let stops = if single {
         c == '\''
     } else {
         c == '"' || c == '\\'
     };
-    (c.is_ascii_graphic() && !stops) || (c >= '\u{80}' && is_printable(c))
+    c.is_ascii_graphic() && !stops
+}
+
+/// Whether a character stands for itself in quotes, and is no blank.
+pub(crate) fn is_quoted(c: char, single: bool) -> bool
+    ensures { result ≡ is_quoted_char single c }
+{
+    is_quoted_ascii(c, single) || (c >= '\u{80}' && is_printable(c))
 }

@@ -5,6 +5,7 @@ ghost use Rattle.granit_input.specs.Chunks.{TakesFront};
 ghost use Rattle.granit_input.specs.Cuts.{SpellsFront};
 ghost use Rattle.granit_input.specs.Origin.{PartOf};
 ghost use Rattle.granit_input.specs.Runs.{run_test};
+ghost use Rattle.granit_input.specs.White.{holds};
 
 use crate::class::Run;
 use granit_base::split_first_char;
@@ -66,4 +67,12 @@ pub fn part(s: &str, start: usize, end: usize) -> Option<&str>
     } else {
         None
     }
+}
+
+/// Whether a byte is in a string.
+#[tactic(auto, using(crate::proofs::HoldsLemmas::any_holds))]
+pub fn has_byte(s: &str, byte: u8) -> bool
+    ensures { result ≡ holds byte s.now }
+{
+    s.as_bytes().contains(&byte)
 }

@@ -15,7 +15,7 @@ ghost use Rattle.granit_input.specs.Chunks.{SkipsRun, FetchesRun, SkipsFront, Fe
 ghost use Rattle.granit_input.specs.Looks.{begins_with_2, begins_with_3, is_document_start, is_document_end, is_document_indicator, ReadsNonBreakz};
 ghost use Rattle.granit_input.specs.White.{holds, SkipsBlanks, SkipsWhite};
 
-use crate::class::{Class, Run, goes_on, is_quoted};
+use crate::class::{Class, Run, goes_on, is_quoted, is_quoted_ascii};
 use crate::whitespace::{SkipTabs, WhitespaceResult};
 use granit_base::{
     NoMemory, is_alpha, is_blank, is_blank_or_breakz, is_break, is_breakz, is_digit, is_flow,
@@ -42,7 +42,8 @@ pub trait Input: Drop {
     /// Makes the window at least `count` characters where that is at most 8, and consumes nothing.
     fn lookahead(&mut self, count: usize)
         ensures unread { (u : Unread) → unread self.old u → unread self.new u }
-        ensures moves { (left self.new ≤ left self.old) × (max (min count 8) (window self.old) ≤ window self.new) × Goes (origin self.old) (origin self.new) };
+        ensures moves { (left self.new ≤ left self.old)
+            × (max (min count 8) (window self.old) ≤ window self.new) × Goes (origin self.old) (origin self.new) };
 
     /// How many characters may be looked at.
     fn buflen(&self) -> usize
@@ -55,22 +56,30 @@ pub trait Input: Drop {
     /// Consumes and gives the next character; NUL at the end.
     fn raw_read_ch(&mut self) -> char
         ensures read { (u : Unread) → unread self.old u → unread self.new (past 1 u) × (result ≡ first u.text) }
-        ensures moves { (left self.new ≤ left self.old - 1) × (window self.old ≤ window self.new + min 1 (left self.old)) × Goes (origin self.old) (origin self.new) };
+        ensures moves { (left self.new ≤ left self.old - 1)
+            × (window self.old ≤ window self.new + min 1 (left self.old))
+            × Goes (origin self.old) (origin self.new) };
 
     /// The same; None before a break, a NUL or the end, and then nothing is consumed.
     fn raw_read_non_breakz_ch(&mut self) -> Option<char>
         ensures read { (u : Unread) → unread self.old u → ReadsNonBreakz u result (unread self.new) }
-        ensures moves { (MatchOption result (left self.new ≤ left self.old) (λ c. left self.new < left self.old)) × (MatchOption result (window self.old ≤ window self.new) (λ c. window self.old ≤ window self.new + 1)) × Goes (origin self.old) (origin self.new) };
+        ensures moves { (MatchOption result (left self.new ≤ left self.old) (λ c. left self.new < left self.old))
+            × (MatchOption result (window self.old ≤ window self.new) (λ c. window self.old ≤ window self.new + 1))
+            × Goes (origin self.old) (origin self.new) };
 
     /// Consumes a character, if there is one.
     fn skip(&mut self)
         ensures unread { (u : Unread) → unread self.old u → unread self.new (past 1 u) }
-        ensures moves { (left self.new ≤ left self.old - 1) × (window self.old ≤ window self.new + min 1 (left self.old)) × Goes (origin self.old) (origin self.new) };
+        ensures moves { (left self.new ≤ left self.old - 1)
+            × (window self.old ≤ window self.new + min 1 (left self.old))
+            × Goes (origin self.old) (origin self.new) };
 
     /// Consumes `count` characters, or all where fewer are left.
     fn skip_n(&mut self, count: usize)
         ensures unread { (u : Unread) → unread self.old u → unread self.new (past count u) }
-        ensures moves { (left self.new ≤ left self.old - count) × (window self.old ≤ window self.new + min count (left self.old)) × Goes (origin self.old) (origin self.new) };
+        ensures moves { (left self.new ≤ left self.old - count)
+            × (window self.old ≤ window self.new + min count (left self.old))
+            × Goes (origin self.old) (origin self.new) };
 
     /// The next character.
     fn peek(&self) -> char
@@ -105,7 +114,8 @@ pub trait Input: Drop {
     fn take_source_error(&mut self) -> Option<ErrorKind>
         ensures given { option_map kind_of result ≡ error_given (origin self.old) }
         ensures unread { (u : Unread) → unread self.old u → unread self.new u }
-        ensures moves { (left self.new ≤ left self.old) × (window self.old ≤ window self.new) × (origin self.new ≡ after_giving (origin self.old)) };
+        ensures moves { (left self.new ≤ left self.old) × (window self.old ≤ window self.new)
+            × (origin self.new ≡ after_giving (origin self.old)) };
 
     /// False only where what is left, where that is known, has no `#`, and neither has the source, where it
     /// can be sliced.
@@ -127,7 +137,8 @@ pub trait Input: Drop {
     fn look_ch(&mut self) -> char
         ensures look { (u : Unread) → unread self.old u → unread self.new u × (result ≡ first u.text) }
         ensures some { 0 < result → 0 < left self.new }
-        ensures moves { (left self.new ≤ left self.old) × (max 1 (window self.old) ≤ window self.new) × Goes (origin self.old) (origin self.new) }
+        ensures moves { (left self.new ≤ left self.old) × (max 1 (window self.old) ≤ window self.new)
+            × Goes (origin self.old) (origin self.new) }
     {
         self.lookahead(1);
         self.peek()
@@ -210,7 +221,8 @@ pub trait Input: Drop {
     /// Whether the next character is a blank or a break.
     fn next_is_blank_or_break(&self) -> bool
         requires { 1 ≤ window self.now }
-        ensures value { (u : Unread) → unread self.now u → result ≡ (is.is_blank (first u.text) || is.is_break (first u.text)) }
+        ensures value { (u : Unread) → unread self.now u
+            → result ≡ (is.is_blank (first u.text) || is.is_break (first u.text)) }
         ensures some { result ≡ true → 0 < left self.now }
     {
         let c = self.peek();
@@ -284,7 +296,8 @@ pub trait Input: Drop {
     fn next_in(&mut self, run: Run) -> bool
         ensures look { (u : Unread) → unread self.old u → unread self.new u × (result ≡ run_test run u.text) }
         ensures some { result ≡ true → 0 < left self.new }
-        ensures moves { (left self.new ≤ left self.old) × (max 1 (window self.old) ≤ window self.new) × Goes (origin self.old) (origin self.new) }
+        ensures moves { (left self.new ≤ left self.old) × (max 1 (window self.old) ≤ window self.new)
+            × Goes (origin self.old) (origin self.new) }
     {
         match run {
             Run::Of(class) => {
@@ -300,6 +313,10 @@ pub trait Input: Drop {
                 let c = self.look_ch();
                 is_quoted(c, single)
             }
+            Run::QuotedAscii(single) => {
+                let c = self.look_ch();
+                is_quoted_ascii(c, single)
+            }
         }
     }
 
@@ -308,7 +325,8 @@ pub trait Input: Drop {
         ensures skips { (u : Unread) → unread self.old u → SkipsFront (run_test run) u limit result (unread self.new) }
         ensures few { result.0 ≡ false → limit ≤ result.1 }
         ensures limit { result.1 ≤ limit }
-        ensures moves { (left self.new + result.1 ≤ left self.old) × (window self.old ≤ window self.new + result.1) × Goes (origin self.old) (origin self.new) }
+        ensures moves { (left self.new + result.1 ≤ left self.old)
+            × (window self.old ≤ window self.new + result.1) × Goes (origin self.old) (origin self.new) }
     {
         let mut count = 0;
         'run: while count < limit {
@@ -329,11 +347,15 @@ pub trait Input: Drop {
         run: Run,
         limit: usize,
     ) -> Result<(bool, usize), NoMemory>
-        ensures fetches { (u : Unread) → unread self.old u → FetchesFront (run_test run) u limit result (unread self.new) (string_chars out.old) (string_chars out.new) }
+        ensures fetches { (u : Unread) → unread self.old u
+            → FetchesFront (run_test run) u limit result (unread self.new)
+            (string_chars out.old) (string_chars out.new) }
         ensures kept { Extends (string_chars out.old) (string_chars out.new) }
         ensures few { IfOk result (λ r. r.0 ≡ false → limit ≤ r.1) }
         ensures limit { IfOk result (λ r. r.1 ≤ limit) }
-        ensures moves { (left self.new + front_count_of result ≤ left self.old) × (IfOk result (λ r. window self.old ≤ window self.new + r.1)) × Goes (origin self.old) (origin self.new) }
+        ensures moves { (left self.new + front_count_of result ≤ left self.old)
+            × (IfOk result (λ r. window self.old ≤ window self.new + r.1))
+            × Goes (origin self.old) (origin self.new) }
     {
         let mut count = 0;
         'run: while count < limit {
@@ -350,7 +372,8 @@ pub trait Input: Drop {
     /// Consumes spaces, and tabs where `skip_tabs` says so; how many characters, and what was among them.
     fn skip_ws_to_eol_blanks(&mut self, skip_tabs: SkipTabs) -> (usize, WhitespaceResult)
         ensures skips { (u : Unread) → unread self.old u → SkipsBlanks skip_tabs u result (unread self.new) }
-        ensures moves { (left self.new + result.0 ≤ left self.old) × (window self.old ≤ window self.new + result.0) × Goes (origin self.old) (origin self.new) }
+        ensures moves { (left self.new + result.0 ≤ left self.old)
+            × (window self.old ≤ window self.new + result.0) × Goes (origin self.old) (origin self.new) }
     {
         let mut found = WhitespaceResult::new(false, false);
         let mut count = 0;
@@ -372,7 +395,8 @@ pub trait Input: Drop {
         skip_tabs: SkipTabs,
     ) -> (usize, Result<WhitespaceResult, ErrorKind>)
         ensures skips { (u : Unread) → unread self.old u → SkipsWhite skip_tabs u result (unread self.new) }
-        ensures moves { (left self.new + result.0 ≤ left self.old) × (window self.old ≤ window self.new + result.0) × Goes (origin self.old) (origin self.new) }
+        ensures moves { (left self.new + result.0 ≤ left self.old)
+            × (window self.old ≤ window self.new + result.0) × Goes (origin self.old) (origin self.new) }
     {
         let (blanks, found) = self.skip_ws_to_eol_blanks(skip_tabs);
         let c = self.look_ch();
@@ -389,7 +413,8 @@ pub trait Input: Drop {
     /// Consumes printable characters up to a break, NUL or the end; how many.
     fn skip_while_non_breakz(&mut self) -> usize
         ensures skips { (u : Unread) → unread self.old u → SkipsRun (starts is_line_char) u result (unread self.new) }
-        ensures moves { (left self.new + result ≤ left self.old) × (window self.old ≤ window self.new + result) × Goes (origin self.old) (origin self.new) }
+        ensures moves { (left self.new + result ≤ left self.old) × (window self.old ≤ window self.new + result)
+            × Goes (origin self.old) (origin self.new) }
     {
         let (_, count) = self.skip_run(Run::Of(Class::Printable), usize::MAX);
         count
@@ -398,7 +423,8 @@ pub trait Input: Drop {
     /// Consumes blanks; how many characters.
     fn skip_while_blank(&mut self) -> usize
         ensures skips { (u : Unread) → unread self.old u → SkipsRun (starts is.is_blank) u result (unread self.new) }
-        ensures moves { (left self.new + result ≤ left self.old) × (window self.old ≤ window self.new + result) × Goes (origin self.old) (origin self.new) }
+        ensures moves { (left self.new + result ≤ left self.old) × (window self.old ≤ window self.new + result)
+            × Goes (origin self.old) (origin self.new) }
     {
         let (_, count) = self.skip_run(Run::Of(Class::Blank), usize::MAX);
         count
@@ -407,9 +433,12 @@ pub trait Input: Drop {
     /// Consumes and appends word characters and `_`; how many.
     /// Its error is `NoMemory` alone, and nothing is lost then, as with `fetch_run`.
     fn fetch_while_is_alpha(&mut self, out: &mut String) -> Result<usize, NoMemory>
-        ensures fetches { (u : Unread) → unread self.old u → FetchesRun (starts is.is_alpha) u result (unread self.new) (string_chars out.old) (string_chars out.new) }
+        ensures fetches { (u : Unread) → unread self.old u
+            → FetchesRun (starts is.is_alpha) u result (unread self.new) (string_chars out.old) (string_chars out.new) }
         ensures kept { Extends (string_chars out.old) (string_chars out.new) }
-        ensures moves { (left self.new + count_of result ≤ left self.old) × (IfOk result (λ count. window self.old ≤ window self.new + count)) × Goes (origin self.old) (origin self.new) }
+        ensures moves { (left self.new + count_of result ≤ left self.old)
+            × (IfOk result (λ count. window self.old ≤ window self.new + count))
+            × Goes (origin self.old) (origin self.new) }
     {
         let (_, count) = self.fetch_run(out, Run::Of(Class::Alpha), usize::MAX)?;
         Ok(count)
@@ -418,9 +447,13 @@ pub trait Input: Drop {
     /// Consumes and appends what a line holds but blanks and the byte-order mark; how many characters.
     /// Its error is `NoMemory` alone, and nothing is lost then, as with `fetch_run`.
     fn fetch_while_is_yaml_non_space(&mut self, out: &mut String) -> Result<usize, NoMemory>
-        ensures fetches { (u : Unread) → unread self.old u → FetchesRun (starts is.is_yaml_non_space) u result (unread self.new) (string_chars out.old) (string_chars out.new) }
+        ensures fetches { (u : Unread) → unread self.old u
+            → FetchesRun (starts is.is_yaml_non_space) u result (unread self.new)
+            (string_chars out.old) (string_chars out.new) }
         ensures kept { Extends (string_chars out.old) (string_chars out.new) }
-        ensures moves { (left self.new + count_of result ≤ left self.old) × (IfOk result (λ count. window self.old ≤ window self.new + count)) × Goes (origin self.old) (origin self.new) }
+        ensures moves { (left self.new + count_of result ≤ left self.old)
+            × (IfOk result (λ count. window self.old ≤ window self.new + count))
+            × Goes (origin self.old) (origin self.new) }
     {
         let (_, count) = self.fetch_run(out, Run::Of(Class::NonSpace), usize::MAX)?;
         Ok(count)
@@ -429,9 +462,13 @@ pub trait Input: Drop {
     /// Consumes and appends up to a break, NUL or the end; how many characters.
     /// Its error is `NoMemory` alone, and nothing is lost then, as with `fetch_run`.
     fn fetch_block_scalar_line(&mut self, out: &mut String) -> Result<usize, NoMemory>
-        ensures fetches { (u : Unread) → unread self.old u → FetchesRun (starts is_non_breakz) u result (unread self.new) (string_chars out.old) (string_chars out.new) }
+        ensures fetches { (u : Unread) → unread self.old u
+            → FetchesRun (starts is_non_breakz) u result (unread self.new)
+            (string_chars out.old) (string_chars out.new) }
         ensures kept { Extends (string_chars out.old) (string_chars out.new) }
-        ensures moves { (left self.new + count_of result ≤ left self.old) × (IfOk result (λ count. window self.old ≤ window self.new + count)) × Goes (origin self.old) (origin self.new) }
+        ensures moves { (left self.new + count_of result ≤ left self.old)
+            × (IfOk result (λ count. window self.old ≤ window self.new + count))
+            × Goes (origin self.old) (origin self.new) }
     {
         let (_, count) = self.fetch_run(out, Run::Of(Class::NonBreakz), usize::MAX)?;
         Ok(count)
@@ -441,7 +478,8 @@ pub trait Input: Drop {
     /// the run as it likes.
     fn take_quoted_scalar_ascii_chunk(&mut self, single: bool) -> (&str, usize)
         ensures* rests { sem 𝓛 (Rests Self.row self.entry (λ new.
-            ((u : Unread) → unread self.old u → TakesText (starts (is_quoted_ascii single)) u (chars result.0.now) (unread new))
+            ((u : Unread) → unread self.old u
+            → TakesText (starts (is_quoted_ascii single)) u (chars result.0.now) (unread new))
             × (left new + length (chars result.0.now) ≤ left self.old)
             × (window self.old ≤ window new + length (chars result.0.now))
             × Goes (origin self.old) (origin new))) }
@@ -453,7 +491,8 @@ pub trait Input: Drop {
     /// The same with printable characters past ASCII, and how many characters.
     fn take_quoted_scalar_chunk(&mut self, single: bool) -> (&str, usize)
         ensures* rests { sem 𝓛 (Rests Self.row self.entry (λ new.
-            ((u : Unread) → unread self.old u → TakesText (starts (is_quoted_char single)) u (chars result.0.now) (unread new))
+            ((u : Unread) → unread self.old u
+            → TakesText (starts (is_quoted_char single)) u (chars result.0.now) (unread new))
             × (left new + length (chars result.0.now) ≤ left self.old)
             × (window self.old ≤ window new + length (chars result.0.now))
             × Goes (origin self.old) (origin new))) }
@@ -471,21 +510,27 @@ pub trait Input: Drop {
         count: usize,
         flow_level_gt_0: bool,
     ) -> Result<(bool, usize), NoMemory>
-        ensures fetches { (u : Unread) → unread self.old u → FetchesFront (is_plain_at flow_level_gt_0) u count result (unread self.new) (string_chars out.old) (string_chars out.new) }
+        ensures fetches { (u : Unread) → unread self.old u
+            → FetchesFront (is_plain_at flow_level_gt_0) u count result (unread self.new)
+            (string_chars out.old) (string_chars out.new) }
         ensures kept { Extends (string_chars out.old) (string_chars out.new) }
         ensures few { IfOk result (λ r. r.0 ≡ false → count ≤ r.1) }
         ensures limit { IfOk result (λ r. r.1 ≤ count) }
-        ensures moves { (left self.new + front_count_of result ≤ left self.old) × (IfOk result (λ r. window self.old ≤ window self.new + r.1)) × Goes (origin self.old) (origin self.new) }
+        ensures moves { (left self.new + front_count_of result ≤ left self.old)
+            × (IfOk result (λ r. window self.old ≤ window self.new + r.1))
+            × Goes (origin self.old) (origin self.new) }
     {
         self.fetch_run(out, Run::Plain(flow_level_gt_0), count)
     }
 
     /// The same without appending.
     fn skip_plain_scalar_chunk(&mut self, count: usize, flow_level_gt_0: bool) -> (bool, usize)
-        ensures skips { (u : Unread) → unread self.old u → SkipsFront (is_plain_at flow_level_gt_0) u count result (unread self.new) }
+        ensures skips { (u : Unread) → unread self.old u
+            → SkipsFront (is_plain_at flow_level_gt_0) u count result (unread self.new) }
         ensures few { result.0 ≡ false → count ≤ result.1 }
         ensures limit { result.1 ≤ count }
-        ensures moves { (left self.new + result.1 ≤ left self.old) × (window self.old ≤ window self.new + result.1) × Goes (origin self.old) (origin self.new) }
+        ensures moves { (left self.new + result.1 ≤ left self.old)
+            × (window self.old ≤ window self.new + result.1) × Goes (origin self.old) (origin self.new) }
     {
         self.skip_run(Run::Plain(flow_level_gt_0), count)
     }

@@ -1,13 +1,15 @@
 //! The characters of a string.
-ghost use Rattle.std.specs.Prelude.{◌≡◌, ◌+◌, ◌-◌, ◌<◌, ◌≤◌, ◌^◌, true, Some, length, drop, max, min, MatchOption};
+ghost use Rattle.std.specs.Prelude.{◌≡◌, ℕ, ◌-◌, ◌<◌, ◌≤◌, ◌^◌, true, false, Some, [], length, take, drop, max, min};
 ghost use Rattle.std.specs.Str.{chars, is_utf8};
 ghost use Rattle.granit_base.specs.Place.{Unread, first};
+ghost use Rattle.granit_input.specs.Cuts.{SpellsFront, last_bytes};
 ghost use Rattle.granit_input.specs.Looks.{ReadsNonBreakz};
+ghost use Rattle.granit_input.specs.Runs.{run_length, run_test};
 ghost use Rattle.granit_input.specs.Unread.{past};
 
 use crate::borrowed::BorrowedInput;
 use crate::class::Run;
-use crate::cuts::{before, behind, part, past_run};
+use crate::cuts::{before, behind, has_byte, part, past_run};
 use crate::input::Input;
 use granit_base::{NoMemory, is_at_end, is_breakz, nth_char, push_text, split_first_char};
 use granit_error::ErrorKind;
@@ -25,9 +27,11 @@ pub struct StrInput<'a> {
 }
 
 impl<'a> StrInput<'a> {
+    ghost use Rattle.granit_input.specs.Strings.{Leaves};
+
     /// All characters of a string.
     pub fn new(input: &'a str) -> StrInput<'a>
-        ensures unread { ⟦<StrInput<'a> as Input>⟧.unread result (record { text = chars input.now; offset = Some 0; lends = true }) }
+        ensures unread { Leaves result (record { text = chars input.now; offset = Some 0; lends = true }) }
         ensures source { result.source.now ≡ input.now }
         ensures window { result.window ≡ 0 }
     {
@@ -39,19 +43,49 @@ impl<'a> StrInput<'a> {
     }
 }
 
+impl<'a> StrInput<'a> {
+    /// Consumes a run, and says how many characters it has.
+    fn pass_run(&mut self, run: Run) -> usize
+        ensures whole { result ≡ run_length (run_test run) (chars self.old.rest.now) }
+        ensures text { chars self.new.rest.now ≡ drop result (chars self.old.rest.now) }
+        ensures bytes { SpellsFront self.old.rest.now result self.new.rest.now }
+        ensures kept { (self.new.source.now ≡ self.old.source.now) × (self.new.window ≡ self.old.window) }
+    {
+        let (_, count, rest) = past_run(self.rest, run, usize::MAX);
+        self.rest = rest;
+        count
+    }
+
+    /// What was consumed since so many bytes were left.
+    fn since(&self, left: usize) -> &str
+        requires within { left ≤ length self.now.source.now }
+        requires utf8 { is_utf8 (last_bytes left self.now.source.now) ≡ true }
+        requires front { (count : ℕ) × SpellsFront (last_bytes left self.now.source.now) count self.now.rest.now }
+        ensures { (count : ℕ) → SpellsFront (last_bytes left self.now.source.now) count self.now.rest.now
+            → chars result.now ≡ take count (chars (last_bytes left self.now.source.now)) }
+    {
+        before(&self.source[self.source.len() - left..], self.rest)
+    }
+}
+
 impl<'a> Input for StrInput<'a> {
+    ghost use Rattle.std.specs.Borrow.{sem};
+    ghost use Rattle.std.specs.Io.BufRead.{Rests};
     ghost use Rattle.std.specs.Str.{chars};
-    ghost use Rattle.granit_input.specs.Unread.{left_of};
-    ghost use Rattle.granit_input.specs.Origin.{Goes, of_string};
+    ghost use mir.Syntax.{named};
     ghost use Rattle.granit_input.specs.Laws.{string_short, string_agrees, string_floor};
+    ghost use Rattle.granit_input.specs.Runs.{starts, is_quoted_ascii, is_quoted_char};
+    ghost use Rattle.granit_input.specs.Strings.{Leaves, Looks, MovesBy, MovesIfSome, TakesRun, IsWhole, count_left, origin_of};
+    ghost use Rattle.granit_input.specs.White.{holds};
+    ghost use Rattle.granit_input.specs.contracts.str_input.StrInput.{the_row};
 
-    ghost unread = { λ s u. u ≡ left_of s.source.now s.rest.now };
+    ghost unread = { λ s u. Leaves s u };
 
-    ghost left = { λ s. length (chars s.rest.now) };
+    ghost left = { λ s. count_left s };
 
     ghost window = { λ s. s.window };
 
-    ghost origin = { λ s. of_string s.source.now s.window };
+    ghost origin = { λ s. origin_of s };
 
     ghost short = { λ s. string_short s.source.now s.rest.now s.within s.short };
 
@@ -60,8 +94,8 @@ impl<'a> Input for StrInput<'a> {
     ghost agrees = { λ s u is. string_agrees s.source.now s.rest.now s.window u s.suffix s.utf8 is };
 
     fn lookahead(&mut self, count: usize)
-        ensures unread { (u : Unread) → u ≡ left_of self.old.source.now self.old.rest.now → u ≡ left_of self.new.source.now self.new.rest.now }
-        ensures moves { (length (chars self.new.rest.now) ≤ length (chars self.old.rest.now)) × (max (min count 8) self.old.window ≤ self.new.window) × Goes (of_string self.old.source.now self.old.window) (of_string self.new.source.now self.new.window) }
+        ensures unread { (u : Unread) → Leaves self.old u → Leaves self.new u }
+        ensures moves { Looks (min count 8) self.old self.new }
         ensures window { self.new.window ≡ max self.old.window count }
     {
         self.window = self.window.max(count);
@@ -79,8 +113,8 @@ impl<'a> Input for StrInput<'a> {
     }
 
     fn raw_read_ch(&mut self) -> char
-        ensures read { (u : Unread) → u ≡ left_of self.old.source.now self.old.rest.now → (past 1 u ≡ left_of self.new.source.now self.new.rest.now) × (result ≡ first u.text) }
-        ensures moves { (length (chars self.new.rest.now) ≤ length (chars self.old.rest.now) - 1) × (self.old.window ≤ self.new.window + min 1 (length (chars self.old.rest.now))) × Goes (of_string self.old.source.now self.old.window) (of_string self.new.source.now self.new.window) }
+        ensures read { (u : Unread) → Leaves self.old u → Leaves self.new (past 1 u) × (result ≡ first u.text) }
+        ensures moves { MovesBy 1 self.old self.new }
         ensures window { self.new.window ≡ self.old.window }
     {
         match split_first_char(self.rest) {
@@ -93,8 +127,8 @@ impl<'a> Input for StrInput<'a> {
     }
 
     fn raw_read_non_breakz_ch(&mut self) -> Option<char>
-        ensures read { (u : Unread) → u ≡ left_of self.old.source.now self.old.rest.now → ReadsNonBreakz u result (λ v. v ≡ left_of self.new.source.now self.new.rest.now) }
-        ensures moves { (MatchOption result (length (chars self.new.rest.now) ≤ length (chars self.old.rest.now)) (λ c. length (chars self.new.rest.now) < length (chars self.old.rest.now))) × (MatchOption result (self.old.window ≤ self.new.window) (λ c. self.old.window ≤ self.new.window + 1)) × Goes (of_string self.old.source.now self.old.window) (of_string self.new.source.now self.new.window) }
+        ensures read { (u : Unread) → Leaves self.old u → ReadsNonBreakz u result (Leaves self.new) }
+        ensures moves { MovesIfSome result self.old self.new }
         ensures window { self.new.window ≡ self.old.window }
     {
         match split_first_char(self.rest) {
@@ -110,8 +144,8 @@ impl<'a> Input for StrInput<'a> {
     }
 
     fn skip(&mut self)
-        ensures unread { (u : Unread) → u ≡ left_of self.old.source.now self.old.rest.now → past 1 u ≡ left_of self.new.source.now self.new.rest.now }
-        ensures moves { (length (chars self.new.rest.now) ≤ length (chars self.old.rest.now) - 1) × (self.old.window ≤ self.new.window + min 1 (length (chars self.old.rest.now))) × Goes (of_string self.old.source.now self.old.window) (of_string self.new.source.now self.new.window) }
+        ensures unread { (u : Unread) → Leaves self.old u → Leaves self.new (past 1 u) }
+        ensures moves { MovesBy 1 self.old self.new }
         ensures window { self.new.window ≡ self.old.window }
     {
         if let Some((_, rest)) = split_first_char(self.rest) {
@@ -120,8 +154,8 @@ impl<'a> Input for StrInput<'a> {
     }
 
     fn skip_n(&mut self, count: usize)
-        ensures unread { (u : Unread) → u ≡ left_of self.old.source.now self.old.rest.now → past count u ≡ left_of self.new.source.now self.new.rest.now }
-        ensures moves { (length (chars self.new.rest.now) ≤ length (chars self.old.rest.now) - count) × (self.old.window ≤ self.new.window + min count (length (chars self.old.rest.now))) × Goes (of_string self.old.source.now self.old.window) (of_string self.new.source.now self.new.window) }
+        ensures unread { (u : Unread) → Leaves self.old u → Leaves self.new (past count u) }
+        ensures moves { MovesBy count self.old self.new }
         ensures window { self.new.window ≡ self.old.window }
     {
         self.rest = behind(self.rest, count);
@@ -143,6 +177,28 @@ impl<'a> Input for StrInput<'a> {
         push_text(out, before(self.rest, rest))?;
         self.rest = rest;
         Ok((ended, count))
+    }
+
+    fn take_quoted_scalar_ascii_chunk(&mut self, single: bool) -> (&str, usize)
+        ensures* rests { sem 𝓛 (Rests (the_row (record { mir = named 1; lft = [] })) self.entry (λ new.
+            TakesRun (starts (is_quoted_ascii single)) result.0 self.old new)) }
+        ensures count { result.1 ≡ length (chars result.0.now) }
+        ensures whole { IsWhole (starts (is_quoted_ascii single)) result.0 self.old }
+    {
+        let left = self.rest.len();
+        let count = self.pass_run(Run::QuotedAscii(single));
+        (self.since(left), count)
+    }
+
+    fn take_quoted_scalar_chunk(&mut self, single: bool) -> (&str, usize)
+        ensures* rests { sem 𝓛 (Rests (the_row (record { mir = named 1; lft = [] })) self.entry (λ new.
+            TakesRun (starts (is_quoted_char single)) result.0 self.old new)) }
+        ensures count { result.1 ≡ length (chars result.0.now) }
+        ensures whole { IsWhole (starts (is_quoted_char single)) result.0 self.old }
+    {
+        let left = self.rest.len();
+        let count = self.pass_run(Run::Quoted(single));
+        (self.since(left), count)
     }
 
     fn peek(&self) -> char {
@@ -167,6 +223,14 @@ impl<'a> Input for StrInput<'a> {
 
     fn take_source_error(&mut self) -> Option<ErrorKind> {
         None
+    }
+
+    fn may_contain_comments(&self) -> bool
+        ensures rest { result ≡ false → (u : Unread) → Leaves self.now u → holds 0x23 u.text ≡ false }
+        ensures source { result ≡ false → holds 0x23 self.now.source.now ≡ false }
+        ensures exact { result ≡ holds 0x23 self.now.source.now }
+    {
+        has_byte(self.source, b'#')
     }
 }
 

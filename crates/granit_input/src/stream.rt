@@ -43,7 +43,8 @@ impl<T: Source> Tail<T> {
         ensures told { (xs : List ℕ) → StillGives T.next_gives T.remaining self.old.done self.old.iterator xs
             → MatchOption result (xs ≡ []) (λ c. (ys : List ℕ) × (xs ≡ c ∷ ys)
             × StillGives T.next_gives T.remaining self.new.done self.new.iterator ys) }
-        ensures left { MatchOption result (self.new.done ≡ true) (λ c. still_left self.new.done (T.remaining self.new.iterator)
+        ensures left { MatchOption result (self.new.done ≡ true)
+            (λ c. still_left self.new.done (T.remaining self.new.iterator)
             < still_left self.old.done (T.remaining self.old.iterator)) }
         ensures done { self.old.done ≡ true → self.new ≡ self.old }
     {

@@ -15,7 +15,8 @@ use std::test::Fail;
 
 /// How many characters are left; all are consumed.
 fn count_rest<T: Input>(input: &mut T) -> usize
-    ensures counted { (u : Unread) → T.unread input.old u → (result ≡ length u.text) × T.unread input.new (past result u) }
+    ensures counted { (u : Unread) → T.unread input.old u → (result ≡ length u.text)
+        × T.unread input.new (past result u) }
     ensures end { T.left input.new ≡ 0 }
 {
     let mut count = 0;
@@ -31,9 +32,11 @@ fn count_rest<T: Input>(input: &mut T) -> usize
 
 /// The word at the front, lent where it can be.
 fn word<'a, T: BorrowedInput<'a>>(alloc: Global, input: &mut T) -> Result<Text<'a>, NoMemory>
-    ensures word { (u : Unread) → T.unread input.old u → IfOk result (λ w. w.characters ≡ take (run_length (starts is_alpha) u.text) u.text) }
+    ensures word { (u : Unread) → T.unread input.old u
+        → IfOk result (λ w. w.characters ≡ take (run_length (starts is_alpha) u.text) u.text) }
     ensures lent { (u : Unread) → T.unread input.old u → IfOk result (λ w. w.is_borrowed ≡ u.lends) }
-    ensures rest { (u : Unread) → T.unread input.old u → IfOk result (λ w. T.unread input.new (past (run_length (starts is_alpha) u.text) u)) }
+    ensures rest { (u : Unread) → T.unread input.old u
+        → IfOk result (λ w. T.unread input.new (past (run_length (starts is_alpha) u.text) u)) }
 {
     let start = input.byte_offset();
     let mut copied = String::new(alloc);
@@ -207,10 +210,10 @@ fn parts_of_a_string_are_cut_between_characters(rt: HostRuntime) {
     assert_eq!(rt; input.slice_borrowed(0, 4), Some("aé!"));
     assert_eq!(rt; input.slice_borrowed(3, 1), None);
     assert_eq!(rt; input.slice_borrowed(0, 5), None);
-    assert_eq!(rt; input.may_contain_comments(), true);
+    assert_eq!(rt; input.may_contain_comments(), false);
+    assert_eq!(rt; StrInput::new("a #").may_contain_comments(), true);
     assert_eq!(rt; input.take_source_error().is_none(), true);
-    let (text, count) = input.take_quoted_scalar_ascii_chunk(true);
-    assert_eq!(rt; text.chars().count(), count);
-    let (text, count) = input.take_quoted_scalar_chunk(false);
-    assert_eq!(rt; text.chars().count(), count);
+    assert_eq!(rt; input.take_quoted_scalar_ascii_chunk(true), ("a", 1));
+    assert_eq!(rt; input.take_quoted_scalar_chunk(false), ("é!", 2));
+    assert_eq!(rt; input.byte_offset(), Some(4));
 }
