@@ -258,7 +258,7 @@ not_more n = grind (arith, nat_tests)
 one_fewer : (n : ℕ) → nat_le n (suc n) ≡ true
 one_fewer n = grind (arith, nat_tests)
 
-no_more_through : (n m k : ℕ) → nat_le n m ≡ true → nat_le m k ≡ true → nat_le n k ≡ true
+pub no_more_through : (n m k : ℕ) → nat_le n m ≡ true → nat_le m k ≡ true → nat_le n k ≡ true
 no_more_through n m k e h = grind (arith, nat_tests)
 
 below_same : (st : EventState) → Below st st

@@ -43,7 +43,7 @@ if_step : (b : Bool) (k : GrammarFault) (y : EventStep) → (b ≡ true → Good
 if_step true k y g = g refl
 if_step false k y g = stops_well
 
-after_step : (es : List TreeEvent) (y : EventStep) → GoodStep y → GoodStep (after_events es y)
+pub after_step : (es : List TreeEvent) (y : EventStep) → GoodStep y → GoodStep (after_events es y)
 after_step es y (goes_well g) = goes_well g
 after_step es y stops_well = stops_well
 

@@ -260,7 +260,7 @@ lookup_numbers : (name : List ℕ) (xs : List (List ℕ × ℕ)) → steps.looku
 lookup_numbers name [] = refl
 lookup_numbers name (x ∷ xs) = ap (λ r. if pointwise nat_eq name x.0 then Some x.1 else r) (lookup_numbers name xs)
 
-lookup_texts : (name : List ℕ) (xs : List (List ℕ × List ℕ)) → steps.lookup_text name xs ≡ entry_of name xs
+pub lookup_texts : (name : List ℕ) (xs : List (List ℕ × List ℕ)) → steps.lookup_text name xs ≡ entry_of name xs
 lookup_texts name [] = refl
 lookup_texts name (x ∷ xs) = ap (λ r. if pointwise nat_eq name x.0 then Some x.1 else r) (lookup_texts name xs)
 

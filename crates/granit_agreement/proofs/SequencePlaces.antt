@@ -64,7 +64,7 @@ root_empty :
 root_empty None x e = refl
 root_empty (Some m) x e = e
 
-abbrev RootStep :
+abbrev pub RootStep :
     Bool → lexemes.LexemeKind → Option KeyStart → Scope → lexemes.Lexeme → OptionsData → Mark → List PlainEvent →
     Option Mark → Bool → Type 0
 RootStep b k key s l o last given m r =
@@ -73,7 +73,7 @@ RootStep b k key s l o last given m r =
            (X b k key s l))
       (want_frames (DocumentFrame m ∷ []) NoProperties (terminal_kind k key) (at_of b s (at_kind l k key)))
 
-root_by :
+pub root_by :
     (b : Bool) (k : lexemes.LexemeKind) (key : Option KeyStart) (s : Scope) (l : lexemes.Lexeme) (o : OptionsData)
     (last : Mark) (given : List PlainEvent) (m : Option Mark) → DashOr b key k →
     nat_le 0 o.block_nesting_limit ≡ true → RootStep b k key s l o last given m (begins_node (token_sort b key k))

@@ -66,8 +66,9 @@ terminal_of begins_key s l = terminal (terminal_kind l.kind l.key) (at_of begins
 abbrev pub Flagged : Type 0
 Flagged = lexemes.Lexeme × Bool
 
+-- as an item, without a comment behind it
 abbrev pub item_of : Flagged → FlaggedItem
-item_of f = record { item = lexemes.OfLexeme f.0; begins_key = f.1 }
+item_of f = record { item = lexemes.OfLexeme (record (f.0) { tail = None }); begins_key = f.1 }
 
 abbrev pub seen : Flagged → Terminal
 seen f = terminal_of f.1 no_scope f.0

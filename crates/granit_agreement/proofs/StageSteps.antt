@@ -1,0 +1,417 @@
+-- Steps around documents: directives, marks and the end, and the first lexeme of a document without `---`.
+use Rattle.granit_agreement.specs.Good.{Good, hole, at_root, is_fresh, directed, rooted}
+use Rattle.granit_agreement.specs.Running.{Knows, Comes, NextIs, NextView}
+use Rattle.granit_agreement.specs.Stepping.{taken, LimitView, at_kind, knowing}
+use Rattle.granit_agreement.specs.View.{Beside, terminal_kind, terminal_of, at_of, indent_of, state_of, give_all}
+use Rattle.granit_grammar.specs.EventMachine.{OpenFrame, DocumentFrame, EventState, IsFresh, HasDirectives, IsRooted, InFrames, IsEnded, Ending, ending, ended_by, EventStep, GoesTo, StopsWith, after_events, take_frames, want_frames}
+use Rattle.granit_grammar.specs.Guarded.{blocks_open, first_fault, fault_unless, whole_guard}
+use Rattle.granit_language.specs.Choice.{choose}
+use Rattle.granit_language.specs.GrammarFault.{GrammarFault, fault_of, UnexpectedEofBlockSequence, ExpectedDocumentStart, MissingDocumentEndBeforeDirective, DuplicateVersionDirective, UnsupportedYamlMajorVersion, DuplicateTagDirective}
+use Rattle.granit_language.specs.Node.{NoProperties}
+use Rattle.granit_language.specs.Scope.{Scope, entry_of}
+use Rattle.granit_language.specs.Scoping.{next_scope, version_fault, handle_fault, unless}
+use Rattle.granit_language.specs.Telling.{event_told, version_told, indent_told}
+use Rattle.granit_language.specs.Terminal.{Directive, DocumentStart, DocumentEnd, TheEnd, Terminal, TerminalKind, is_stream_kind}
+use Rattle.granit_language.specs.TreeEvents.{TreeEvent, bare_document_start, pointed, shown_event, DocumentStarts, DocumentEnds, StreamEnds}
+use Rattle.granit_lexemes.specs.Lexeme.{KeyStart, Square, Curly, DirectiveKind, Version, TagPrefix, Reserved}
+use Rattle.granit_machine.specs.Frames.{ParserState}
+use Rattle.granit_machine.specs.NodeSteps.{Stepped}
+use Rattle.granit_machine.specs.Parser.{take_token}
+use Rattle.granit_machine.specs.StreamSteps.{bare_start, begin_document, with_directive, with_version, with_handle}
+use Rattle.granit_machine.specs.TokenSort.{Token, token_of, token_sort, begins_node}
+use Rattle.std.proofs.Common.{◌≡◌, ℕ, Bool, true, false, arith, ◌==◌, List, [], ◌∷◌, ◌++◌, refl, sym, ap, ap₂, ◌∙◌, subst, Option, Some, None, Result, Ok, Err}
+use Rattle.std.proofs.lemmas.Bool.Decides.{nat_tests}
+use Rattle.std.specs.Prelude.{nat_le, if◌then◌else◌}
+use Rattle.granit_base.specs.Place.{Mark}
+use Rattle.granit_error.specs.OptionsData.{OptionsData}
+use Rattle.granit_lexemes.specs.Outcome.{Fault}
+use Rattle.granit_lexemes.specs.PlainEvent.{PlainEvent, PlainVersion, event_at}
+use Rattle.granit_lexemes.specs.PlainEvent as plain
+use Rattle.granit_machine.specs.Giving.{with_indent}
+use Rattle.granit_lexemes.specs.Lexeme as lexemes
+use Rattle.granit_machine.specs.Frames as machine
+use Rattle.granit_machine.specs.NodeSteps as steps
+use Rattle.granit_agreement.proofs.Dashes.{dash_or}
+use Rattle.granit_agreement.proofs.FrameNexts.{limit_next}
+use Rattle.granit_agreement.proofs.GoodSteps.{GoodStep, stops_well, after_step, want_stands}
+use Rattle.granit_agreement.proofs.NodeTests.{Tested, NodeOf}
+use Rattle.granit_agreement.proofs.PartSteps.{lookup_texts}
+use Rattle.granit_agreement.proofs.SequencePlaces.{RootStep, root_by}
+use Rattle.granit_agreement.proofs.Views.{after_nothing, events_before}
+
+abbrev X : Bool → lexemes.LexemeKind → Option KeyStart → Scope → lexemes.Lexeme → Terminal
+X b k key s l = terminal_of b s (at_kind l k key)
+
+pub none_open : (n : ℕ) → nat_le 0 n ≡ true
+none_open n = grind (arith, nat_tests)
+
+-- no block collection is open around documents, so that only what stands declared refuses
+guarded_by :
+    (n : ℕ) (k : GrammarFault) (f : Option GrammarFault) → first_fault (fault_unless (nat_le 0 n) k) f ≡ f
+guarded_by n k f = ap (λ b. first_fault (fault_unless b k) f) (none_open n)
+
+abbrev StageView :
+    Bool → lexemes.LexemeKind → Option KeyStart → Scope → lexemes.Lexeme → OptionsData → Beside → EventState → Type 0
+StageView b k key s l o d st =
+    NextView o (X b k key s l) s d.given (take_token o (token_of b (at_kind l k key)) (state_of o st d))
+      (taken (ended_by (X b k key s l) st) (X b k key s l))
+
+-- ---- directives
+
+abbrev With : OptionsData → Bool → DirectiveKind → Option KeyStart → lexemes.Lexeme → Option (ℕ × ℕ) → Beside → Stepped
+With o b c key l v d =
+    with_directive (token_of b (at_kind l (lexemes.Directive c) key)) c (version_told v) (state_of o (HasDirectives v) d)
+
+abbrev Then : Bool → DirectiveKind → Option KeyStart → Scope → lexemes.Lexeme → OptionsData → Option (ℕ × ℕ) → Beside → Stepped → Type 0
+Then b c key s l o v d r =
+    NextView o (X b (lexemes.Directive c) key s l) s d.given r (take_frames (HasDirectives v) (Directive c) (at_of b s (at_kind l (lexemes.Directive c) key)))
+
+version_by :
+    (b : Bool) (major minor : ℕ) (key : Option KeyStart) (s : Scope) (l : lexemes.Lexeme) (o : OptionsData) (d : Beside)
+    (same : Bool) → (major == 1) ≡ same → d.count ≡ s.count → d.handles ≡ s.pending → s.version ≡ None →
+    Then b (Version major minor) key s l o None d (With o b (Version major minor) key l None d)
+version_by b major minor key s l o d true e c h v =
+    subst (Then b (Version major minor) key s l o None d)
+      (sym (ap (λ q. if q then Ok (state_of o (HasDirectives (Some (major, minor))) d) else Err (fault_of UnsupportedYamlMajorVersion (X b (lexemes.Directive (Version major minor)) key s l))) e))
+      (record {
+         beside = d;
+         is_seen = refl;
+         gives = refl;
+         knows = (c, h, refl);
+         passes =
+             guarded_by o.block_nesting_limit _ _
+             ∙ (ap (version_fault major) v ∙ ap (λ q. unless q (Some UnsupportedYamlMajorVersion)) e);
+         comes = directed;
+       })
+version_by b major minor key s l o d false e c h v =
+    subst (Then b (Version major minor) key s l o None d)
+      (sym (ap (λ q. if q then Ok (state_of o (HasDirectives (Some (major, minor))) d) else Err (fault_of UnsupportedYamlMajorVersion (X b (lexemes.Directive (Version major minor)) key s l))) e))
+      (UnsupportedYamlMajorVersion,
+       guarded_by o.block_nesting_limit _ _
+       ∙ (ap (version_fault major) v ∙ ap (λ q. unless q (Some UnsupportedYamlMajorVersion)) e),
+       refl)
+
+handle_by :
+    (b : Bool) (handle prefix : List ℕ) (key : Option KeyStart) (s : Scope) (l : lexemes.Lexeme) (o : OptionsData)
+    (v : Option (ℕ × ℕ)) (d : Beside) (known : Option (List ℕ)) → entry_of handle s.pending ≡ known →
+    d.count ≡ s.count → d.handles ≡ s.pending → s.version ≡ v →
+    Then b (TagPrefix handle prefix) key s l o v d
+      (with_handle (token_of b (at_kind l (lexemes.Directive (TagPrefix handle prefix)) key)) (version_told v) handle prefix known
+         (state_of o (HasDirectives v) d))
+handle_by b handle prefix key s l o v d (Some known) e c h w =
+    (DuplicateTagDirective, guarded_by o.block_nesting_limit _ _ ∙ ap handle_fault e, refl)
+handle_by b handle prefix key s l o v d None e c h w = record {
+  beside = record d { handles = (handle, prefix) ∷ d.handles };
+  is_seen = refl;
+  gives = refl;
+  knows = (c, ap (λ hs. (handle, prefix) ∷ hs) h, w);
+  passes = guarded_by o.block_nesting_limit _ _ ∙ ap handle_fault e;
+  comes = directed;
+}
+
+directive_next :
+    (b : Bool) (c : DirectiveKind) (key : Option KeyStart) (s : Scope) (l : lexemes.Lexeme) (o : OptionsData)
+    (v : Option (ℕ × ℕ)) (d : Beside) → d.count ≡ s.count → d.handles ≡ s.pending → s.version ≡ v →
+    Then b c key s l o v d (With o b c key l v d)
+directive_next b (Version major minor) key s l o None d c h w =
+    version_by b major minor key s l o d (major == 1) refl c h w
+directive_next b (Version major minor) key s l o (Some v) d c h w =
+    (DuplicateVersionDirective, guarded_by o.block_nesting_limit _ _ ∙ ap (version_fault major) w, refl)
+directive_next b (TagPrefix handle prefix) key s l o v d c h w =
+    subst
+      (λ q.
+         Then b (TagPrefix handle prefix) key s l o v d
+           (with_handle (token_of b (at_kind l (lexemes.Directive (TagPrefix handle prefix)) key)) (version_told v) handle prefix q
+              (state_of o (HasDirectives v) d)))
+      (sym (lookup_texts handle d.handles ∙ ap (entry_of handle) h))
+      (handle_by b handle prefix key s l o v d (entry_of handle s.pending) refl c h w)
+directive_next b (Reserved name parameters) key s l o v d c h w = record {
+  beside = d;
+  is_seen = refl;
+  gives = refl;
+  knows = (c, h, w);
+  passes = guarded_by o.block_nesting_limit _ _;
+  comes = directed;
+}
+
+-- ---- behind directives
+
+abbrev Started : lexemes.Lexeme → Beside → List (List ℕ × List ℕ) → List PlainEvent → Beside
+Started l d handles given = record { last = l.shown.end; count = d.count; names = []; handles = handles; given = given }
+
+pub directed_next :
+    (b : Bool) (k : lexemes.LexemeKind) (key : Option KeyStart) (s : Scope) (l : lexemes.Lexeme) (o : OptionsData)
+    (v : Option (ℕ × ℕ)) (d : Beside) → Knows (HasDirectives v) s d → StageView b k key s l o d (HasDirectives v)
+directed_next b (lexemes.Directive c) key s l o v d w = directive_next b c key s l o v d w.0 w.1 w.2
+directed_next b lexemes.DocumentStart key s l o v d w =
+    let given = give_all o (shown_event (DocumentStarts true v) (at_of b s (at_kind l lexemes.DocumentStart key)) ∷ []) d.given in
+    record {
+      beside = Started l d d.handles given;
+      is_seen = refl;
+      gives = refl;
+      knows =
+          (ap₂ (λ n hs. record { last = l.shown.end; count = n; names = []; handles = hs; given = given }) w.0 w.1, refl, refl);
+      passes = guarded_by o.block_nesting_limit _ _;
+      comes = hole at_root;
+    }
+directed_next b lexemes.DocumentEnd key s l o v d w = refl
+directed_next b lexemes.StreamEnd key s l o v d w = refl
+directed_next b (lexemes.Open bracket) key s l o v d w = refl
+directed_next b (lexemes.Close bracket) key s l o v d w = refl
+directed_next b lexemes.Comma key s l o v d w = refl
+directed_next b lexemes.Dash key s l o v d w = refl
+directed_next b lexemes.Question key s l o v d w = refl
+directed_next b lexemes.Colon key s l o v d w = refl
+directed_next b (lexemes.Alias name) key s l o v d w = refl
+directed_next b (lexemes.Anchor name) key s l o v d w = refl
+directed_next b (lexemes.Tag handle suffix) key s l o v d w = refl
+directed_next b (lexemes.Scalar style text) key s l o v d w = refl
+
+-- ---- behind a root
+
+pub rooted_next :
+    (b : Bool) (k : lexemes.LexemeKind) (key : Option KeyStart) (s : Scope) (l : lexemes.Lexeme) (o : OptionsData)
+    (e : Mark) (d : Beside) → Knows (IsRooted e) s d → StageView b k key s l o d (IsRooted e)
+rooted_next b (lexemes.Directive c) key s l o e d w = refl
+rooted_next b lexemes.DocumentStart key s l o e d w =
+    let given = give_all o (pointed DocumentEnds e ∷ shown_event (DocumentStarts true None) (at_of b s (at_kind l lexemes.DocumentStart key)) ∷ []) d.given in
+    record {
+      beside = Started l d [] given;
+      is_seen = refl;
+      gives = refl;
+      knows =
+          (ap₂ (λ n hs. record { last = l.shown.end; count = n; names = []; handles = hs; given = given })
+             (ap (λ d. d.count) w.0) (sym w.1), refl, refl);
+      passes = guarded_by o.block_nesting_limit _ _;
+      comes = hole at_root;
+    }
+rooted_next b lexemes.DocumentEnd key s l o e d w = record {
+  beside = record d {
+    last = l.shown.end;
+    handles = [];
+    given = give_all o (shown_event DocumentEnds (at_of b s (at_kind l lexemes.DocumentEnd key)) ∷ []) d.given;
+  };
+  is_seen = refl;
+  gives = refl;
+  knows = (ap (λ d. d.count) w.0, refl, refl, refl, refl);
+  passes = guarded_by o.block_nesting_limit _ _;
+  comes = is_fresh;
+}
+rooted_next b lexemes.StreamEnd key s l o e d w = record {
+  beside = record d {
+    given = give_all o (pointed DocumentEnds e ∷ shown_event StreamEnds (at_of b s (at_kind l lexemes.StreamEnd key)) ∷ []) d.given;
+  };
+  is_seen = refl;
+  gives = refl;
+  knows = tt;
+  passes = guarded_by o.block_nesting_limit _ _;
+  comes = tt;
+}
+rooted_next b (lexemes.Open bracket) key s l o e d w = refl
+rooted_next b (lexemes.Close bracket) key s l o e d w = refl
+rooted_next b lexemes.Comma key s l o e d w = refl
+rooted_next b lexemes.Dash key s l o e d w = refl
+rooted_next b lexemes.Question key s l o e d w = refl
+rooted_next b lexemes.Colon key s l o e d w = refl
+rooted_next b (lexemes.Alias name) key s l o e d w = refl
+rooted_next b (lexemes.Anchor name) key s l o e d w = refl
+rooted_next b (lexemes.Tag handle suffix) key s l o e d w = refl
+rooted_next b (lexemes.Scalar style text) key s l o e d w = refl
+
+-- ---- where a document may begin
+
+indent_same : (i : Option ℕ) → indent_told (indent_of i) ≡ i
+indent_same None = refl
+indent_same (Some n) = refl
+
+-- a document without `---` starts alike
+bare_same :
+    (b : Bool) (k : lexemes.LexemeKind) (key : Option KeyStart) (s : Scope) (l : lexemes.Lexeme) (o : OptionsData) →
+    begins_node (token_sort b key k) ≡ true →
+    event_told o (bare_document_start (terminal_kind k key) (at_of b s (at_kind l k key)))
+    ≡ bare_start (token_sort b key k) (token_of b (at_kind l k key)) ∷ []
+bare_same b (lexemes.Directive c) key s l o e = cc (e)
+bare_same b lexemes.DocumentStart key s l o e = cc (e)
+bare_same b lexemes.DocumentEnd key s l o e = cc (e)
+bare_same b lexemes.StreamEnd key s l o e = cc (e)
+bare_same b lexemes.Comma key s l o e = cc (e)
+bare_same b (lexemes.Close Square) key s l o e = cc (e)
+bare_same b (lexemes.Close Curly) key s l o e = cc (e)
+bare_same b lexemes.Dash key s l o e = refl
+bare_same b lexemes.Question key s l o e = refl
+bare_same b lexemes.Colon None s l o e = refl
+bare_same b lexemes.Colon (Some n) s l o e = cc (e)
+bare_same true (lexemes.Open bracket) key s l o e = refl
+bare_same false (lexemes.Open bracket) key s l o e =
+    ap (λ i. with_indent i (event_at (plain.DocumentStart false None) l.shown) ∷ []) (indent_same l.indent)
+bare_same true (lexemes.Alias name) key s l o e = refl
+bare_same false (lexemes.Alias name) key s l o e =
+    ap (λ i. with_indent i (event_at (plain.DocumentStart false None) l.shown) ∷ []) (indent_same l.indent)
+bare_same true (lexemes.Anchor name) key s l o e = refl
+bare_same false (lexemes.Anchor name) key s l o e =
+    ap (λ i. with_indent i (event_at (plain.DocumentStart false None) l.shown) ∷ []) (indent_same l.indent)
+bare_same true (lexemes.Tag handle suffix) key s l o e = refl
+bare_same false (lexemes.Tag handle suffix) key s l o e =
+    ap (λ i. with_indent i (event_at (plain.DocumentStart false None) l.shown) ∷ []) (indent_same l.indent)
+bare_same true (lexemes.Scalar style text) key s l o e = refl
+bare_same false (lexemes.Scalar style text) key s l o e =
+    ap (λ i. with_indent i (event_at (plain.DocumentStart false None) l.shown) ∷ []) (indent_same l.indent)
+
+abbrev BareAt : Bool → lexemes.LexemeKind → Option KeyStart → lexemes.Lexeme → PlainEvent
+BareAt b k key l = bare_start (token_sort b key k) (token_of b (at_kind l k key))
+
+abbrev BareEvent : Bool → lexemes.LexemeKind → Option KeyStart → Scope → lexemes.Lexeme → TreeEvent
+BareEvent b k key s l = bare_document_start (terminal_kind k key) (at_of b s (at_kind l k key))
+
+abbrev Root : List OpenFrame
+Root = DocumentFrame None ∷ []
+
+abbrev NodeFrom : Bool → lexemes.LexemeKind → Option KeyStart → lexemes.Lexeme → OptionsData → Beside → Stepped
+NodeFrom b k key l o d = steps.node o (token_of b (at_kind l k key)) (state_of o (InFrames Root) d)
+
+-- behind its start, the parser is at the root of a document
+abbrev Begun : Bool → lexemes.LexemeKind → Option KeyStart → lexemes.Lexeme → Beside → Beside
+Begun b k key l d = record {
+  last = (BareAt b k key l).span.end;
+  count = d.count;
+  names = [];
+  handles = [];
+  given = d.given ++ BareAt b k key l ∷ [];
+}
+
+begun_knows :
+    (b : Bool) (k : lexemes.LexemeKind) (key : Option KeyStart) (s : Scope) (l : lexemes.Lexeme) (d : Beside) →
+    Knows IsFresh s d →
+    Begun b k key l d ≡ knowing s (BareAt b k key l).span.end (d.given ++ BareAt b k key l ∷ [])
+begun_knows b k key s l d w =
+    ap
+      (λ n.
+         record {
+           last = (BareAt b k key l).span.end;
+           count = n;
+           names = [];
+           handles = [];
+           given = d.given ++ BareAt b k key l ∷ [];
+         })
+      w.0
+    ∙ ap₂
+        (λ ns hs.
+           record {
+             last = (BareAt b k key l).span.end;
+             count = s.count;
+             names = ns;
+             handles = hs;
+             given = d.given ++ BareAt b k key l ∷ [];
+           })
+        (sym w.1) (sym w.2)
+
+err_before :
+    (o : OptionsData) (x : Terminal) (d c : Beside) (f : Fault) (es : List TreeEvent) (y : EventStep) →
+    LimitView o x d (Err f) y → LimitView o x c (Err f) (after_events es y)
+err_before o x d c f es (GoesTo st more) h = h
+err_before o x d c f es (StopsWith k) h = h
+
+fresh_by :
+    (b : Bool) (k : lexemes.LexemeKind) (key : Option KeyStart) (s : Scope) (l : lexemes.Lexeme) (o : OptionsData)
+    (d : Beside) (begins : Bool) → Knows IsFresh s d → begins_node (token_sort b key k) ≡ begins →
+    LimitView o (X b k key s l) (knowing s (BareAt b k key l).span.end (d.given ++ BareAt b k key l ∷ []))
+      (Tested begins (NodeFrom b k key l o (knowing s (BareAt b k key l).span.end (d.given ++ BareAt b k key l ∷ [])))
+         UnexpectedEofBlockSequence (X b k key s l))
+      (want_frames Root NoProperties (terminal_kind k key) (at_of b s (at_kind l k key))) →
+    LimitView o (X b k key s l) (knowing s l.start d.given)
+      (Tested begins (NodeFrom b k key l o (Begun b k key l d)) UnexpectedEofBlockSequence (X b k key s l))
+      (after_events (BareEvent b k key s l ∷ [])
+         (want_frames Root NoProperties (terminal_kind k key) (at_of b s (at_kind l k key))))
+fresh_by b k key s l o d true w e h =
+    subst
+      (λ c.
+         LimitView o (X b k key s l) (knowing s l.start d.given) (NodeFrom b k key l o c)
+           (after_events (BareEvent b k key s l ∷ [])
+              (want_frames Root NoProperties (terminal_kind k key) (at_of b s (at_kind l k key)))))
+      (sym (begun_knows b k key s l d w))
+      (events_before o (X b k key s l) s (BareAt b k key l).span.end l.start d.given (BareEvent b k key s l ∷ [])
+         (NodeFrom b k key l o (knowing s (BareAt b k key l).span.end (d.given ++ BareAt b k key l ∷ [])))
+         (want_frames Root NoProperties (terminal_kind k key) (at_of b s (at_kind l k key)))
+         (subst
+            (λ es.
+               LimitView o (X b k key s l) (knowing s (BareAt b k key l).span.end (d.given ++ es))
+                 (NodeFrom b k key l o (knowing s (BareAt b k key l).span.end (d.given ++ BareAt b k key l ∷ [])))
+                 (want_frames Root NoProperties (terminal_kind k key) (at_of b s (at_kind l k key))))
+            (sym (bare_same b k key s l o e)) h))
+fresh_by b k key s l o d false w e h =
+    err_before o (X b k key s l) (knowing s (BareAt b k key l).span.end (d.given ++ BareAt b k key l ∷ [])) (knowing s l.start d.given) (fault_of UnexpectedEofBlockSequence (X b k key s l))
+      (BareEvent b k key s l ∷ [])
+      (want_frames Root NoProperties (terminal_kind k key) (at_of b s (at_kind l k key))) h
+
+fresh_other :
+    (b : Bool) (k : lexemes.LexemeKind) (key : Option KeyStart) (s : Scope) (l : lexemes.Lexeme) (o : OptionsData)
+    (d : Beside) → Knows IsFresh s d → is_stream_kind (terminal_kind k key) ≡ false →
+    NextView o (X b k key s l) s d.given (begin_document o (token_of b (at_kind l k key)) (state_of o IsFresh d))
+      (after_events []
+         (after_events (BareEvent b k key s l ∷ [])
+            (want_frames Root NoProperties (terminal_kind k key) (at_of b s (at_kind l k key)))))
+fresh_other b k key s l o d w n =
+    subst
+      (NextView o (X b k key s l) s d.given (begin_document o (token_of b (at_kind l k key)) (state_of o IsFresh d)))
+      (sym (after_nothing (after_events (BareEvent b k key s l ∷ [])
+         (want_frames Root NoProperties (terminal_kind k key) (at_of b s (at_kind l k key))))))
+      (limit_next o (X b k key s l) s l.start d.given
+         (begin_document o (token_of b (at_kind l k key)) (state_of o IsFresh d))
+         (after_events (BareEvent b k key s l ∷ [])
+            (want_frames Root NoProperties (terminal_kind k key) (at_of b s (at_kind l k key))))
+         (fresh_by b k key s l o d (begins_node (token_sort b key k)) w refl
+            (root_by b k key s l o (BareAt b k key l).span.end (d.given ++ BareAt b k key l ∷ []) None (dash_or b key k)
+               (none_open o.block_nesting_limit)))
+         (after_step (BareEvent b k key s l ∷ []) (want_frames Root NoProperties (terminal_kind k key) (at_of b s (at_kind l k key)))
+            (want_stands Root NoProperties (terminal_kind k key) (at_of b s (at_kind l k key)) at_root))
+         n w.3 w.4)
+
+pub fresh_next :
+    (b : Bool) (k : lexemes.LexemeKind) (key : Option KeyStart) (s : Scope) (l : lexemes.Lexeme) (o : OptionsData)
+    (d : Beside) → Knows IsFresh s d → StageView b k key s l o d IsFresh
+fresh_next b (lexemes.Directive (Version major minor)) key s l o d w =
+    directive_next b (Version major minor) key s l o None (record d { names = []; handles = [] }) w.0 (sym w.3) w.4
+fresh_next b (lexemes.Directive (TagPrefix handle prefix)) key s l o d w =
+    directive_next b (TagPrefix handle prefix) key s l o None (record d { names = []; handles = [] }) w.0 (sym w.3) w.4
+fresh_next b (lexemes.Directive (Reserved name parameters)) key s l o d w =
+    directive_next b (Reserved name parameters) key s l o None (record d { names = []; handles = [] }) w.0 (sym w.3) w.4
+fresh_next b lexemes.DocumentStart key s l o d w =
+    let given = give_all o (shown_event (DocumentStarts true None) (at_of b s (at_kind l lexemes.DocumentStart key)) ∷ []) d.given in
+    record {
+      beside = Started l d [] given;
+      is_seen = refl;
+      gives = refl;
+      knows =
+          (ap₂ (λ n hs. record { last = l.shown.end; count = n; names = []; handles = hs; given = given }) w.0 (sym w.3),
+           refl, refl);
+      passes = guarded_by o.block_nesting_limit _ _;
+      comes = hole at_root;
+    }
+fresh_next b lexemes.DocumentEnd key s l o d w = record {
+  beside = d;
+  is_seen = refl;
+  gives = refl;
+  knows = (w.0, refl, refl, refl, refl);
+  passes = guarded_by o.block_nesting_limit _ _;
+  comes = is_fresh;
+}
+fresh_next b lexemes.StreamEnd key s l o d w = record {
+  beside = record d {
+    given = give_all o (shown_event StreamEnds (at_of b s (at_kind l lexemes.StreamEnd key)) ∷ []) d.given;
+  };
+  is_seen = refl;
+  gives = refl;
+  knows = tt;
+  passes = guarded_by o.block_nesting_limit _ _;
+  comes = tt;
+}
+fresh_next b (lexemes.Open bracket) key s l o d w = fresh_other b (lexemes.Open bracket) key s l o d w refl
+fresh_next b (lexemes.Close bracket) key s l o d w = fresh_other b (lexemes.Close bracket) key s l o d w refl
+fresh_next b lexemes.Comma key s l o d w = fresh_other b lexemes.Comma key s l o d w refl
+fresh_next b lexemes.Dash key s l o d w = fresh_other b lexemes.Dash key s l o d w refl
+fresh_next b lexemes.Question key s l o d w = fresh_other b lexemes.Question key s l o d w refl
+fresh_next b lexemes.Colon key s l o d w = fresh_other b lexemes.Colon key s l o d w refl
+fresh_next b (lexemes.Alias name) key s l o d w = fresh_other b (lexemes.Alias name) key s l o d w refl
+fresh_next b (lexemes.Anchor name) key s l o d w = fresh_other b (lexemes.Anchor name) key s l o d w refl
+fresh_next b (lexemes.Tag handle suffix) key s l o d w = fresh_other b (lexemes.Tag handle suffix) key s l o d w refl
+fresh_next b (lexemes.Scalar style text) key s l o d w = fresh_other b (lexemes.Scalar style text) key s l o d w refl

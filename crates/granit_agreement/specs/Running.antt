@@ -1,0 +1,76 @@
+-- How the runs of the parser and of the grammar's machine agree.
+use Rattle.std.specs.Prelude.{◌≡◌, ℕ, Bool, List, [], ◌∷◌, Option, Some, None, Result, Ok, Err}
+use Rattle.granit_error.specs.OptionsData.{OptionsData}
+use Rattle.granit_lexemes.specs.Outcome.{Fault}
+use Rattle.granit_lexemes.specs.PlainEvent.{PlainEvent}
+use Rattle.granit_language.specs.GrammarFault.{GrammarFault, fault_of}
+use Rattle.granit_language.specs.Scope.{Scope}
+use Rattle.granit_language.specs.Scoping.{next_scope}
+use Rattle.granit_language.specs.Telling.{events_told}
+use Rattle.granit_language.specs.Terminal.{Terminal}
+use Rattle.granit_grammar.specs.EventMachine.{EventState, IsFresh, HasDirectives, IsRooted, InFrames, IsEnded, EventStep, GoesTo, StopsWith, ended_by, EventAnswer, Events, Faulty, Unfinished}
+use Rattle.granit_grammar.specs.Guarded.{whole_guard}
+use Rattle.granit_machine.specs.Frames.{ParserState}
+use Rattle.granit_agreement.specs.Fair.{Fair}
+use Rattle.granit_agreement.specs.Good.{Good}
+use Rattle.granit_agreement.specs.Stepping.{taken, knowing}
+use Rattle.granit_agreement.specs.View.{Beside, Flagged, terminal_of, state_of, give_all}
+
+-- the parser knows what stands declared: inside a document the names and handles in force, before one what its
+-- directives declare
+abbrev pub Knows : EventState → Scope → Beside → Type 0
+Knows (InFrames fs) s d = (d ≡ knowing s d.last d.given) × (s.pending ≡ []) × (s.version ≡ None)
+Knows (IsRooted e) s d = (d ≡ knowing s d.last d.given) × (s.pending ≡ []) × (s.version ≡ None)
+Knows IsFresh s d =
+    (d.count ≡ s.count) × (s.names ≡ []) × (s.handles ≡ []) × (s.pending ≡ []) × (s.version ≡ None)
+Knows (HasDirectives v) s d = (d.count ≡ s.count) × (d.handles ≡ s.pending) × (s.version ≡ v)
+Knows IsEnded s d = Unit {0}
+
+-- behind the end only the events count
+abbrev pub Seen : OptionsData → EventState → ParserState → Beside → Type 0
+Seen o IsEnded p d = p.given ≡ d.given
+Seen o st p d = p ≡ state_of o st d
+
+-- a state that the grammar's machine comes to, or the end
+abbrev pub Comes : EventState → Type 0
+Comes IsEnded = Unit {0}
+Comes st = Good st
+
+-- what the parser is behind a step
+pub record NextIs (o : OptionsData) (x : Terminal) (s : Scope) (events : List PlainEvent) (st : EventState)
+  (p : ParserState) : Type 0 where
+  pub beside : Beside
+  pub is_seen : Seen o st p beside
+  pub gives : beside.given ≡ events
+  pub knows : Knows st (next_scope x.kind s) beside
+  pub passes : whole_guard o st x ≡ None
+  pub comes : Comes st
+
+-- both go on alike, or both stop with one fault
+abbrev pub NextView :
+    OptionsData → Terminal → Scope → List PlainEvent → Result ParserState Fault → EventStep → Type 0
+NextView o x s given (Ok p) (GoesTo st es) = NextIs o x s (give_all o es given) st p
+NextView o x s given (Err f) (GoesTo st es) = (k : GrammarFault) × (whole_guard o st x ≡ Some k) × (f ≡ fault_of k x)
+NextView o x s given (Ok p) (StopsWith k) = ⊥
+NextView o x s given (Err f) (StopsWith k) = f ≡ fault_of k x
+
+-- ---- runs
+
+abbrev pub FairNext : EventStep → (EventState → Type 0) → Type 0
+FairNext (GoesTo st es) on = on st
+FairNext (StopsWith k) on = Unit {0}
+
+-- each lexeme is fair to the state that the lexemes before it lead to
+abbrev pub FairRun : List Flagged → Scope → EventState → Type 0
+FairRun [] s st = Unit {0}
+FairRun (f ∷ fs) s st =
+    Fair (terminal_of f.1 s f.0) st
+    × FairNext (taken (ended_by (terminal_of f.1 s f.0) st) (terminal_of f.1 s f.0))
+    (λ st. FairRun fs (next_scope (terminal_of f.1 s f.0).kind s) st)
+
+-- the parser's events are those of the grammar's machine, or its fault is; a list that no end ends may have neither
+abbrev pub RunView : OptionsData → Result (List PlainEvent × ParserState) Fault → EventAnswer → Type 0
+RunView o (Ok y) (Events es) = y.0 ≡ events_told o es
+RunView o (Ok y) Unfinished = Unit {0}
+RunView o (Err f) (Faulty k x) = f ≡ fault_of k x
+RunView o r a = ⊥
