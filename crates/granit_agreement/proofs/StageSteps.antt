@@ -13,7 +13,8 @@ use Rattle.granit_language.specs.Scoping.{next_scope, version_fault, handle_faul
 use Rattle.granit_language.specs.Telling.{event_told, version_told, indent_told}
 use Rattle.granit_language.specs.Terminal.{Directive, DocumentStart, DocumentEnd, TheEnd, Terminal, TerminalKind, is_stream_kind}
 use Rattle.granit_language.specs.TreeEvents.{TreeEvent, bare_document_start, pointed, shown_event, DocumentStarts, DocumentEnds, StreamEnds}
-use Rattle.granit_lexemes.specs.Lexeme.{KeyStart, Square, Curly, DirectiveKind, Version, TagPrefix, Reserved}
+use Rattle.granit_lexemes.specs.Lexeme.{KeyStart, DirectiveKind, Version, TagPrefix, Reserved}
+use Rattle.granit_lexemes.specs.declared.layout.Bracket.TheVariants.{Square, Curly}
 use Rattle.granit_machine.specs.Frames.{ParserState}
 use Rattle.granit_machine.specs.NodeSteps.{Stepped}
 use Rattle.granit_machine.specs.Parser.{take_token}
