@@ -1,0 +1,5 @@
+mod ContentLemmas
+mod HeadLemmas
+mod LineLemmas
+mod ScalarLemmas
+mod SpaceLemmas
