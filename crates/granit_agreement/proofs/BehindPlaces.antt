@@ -2,23 +2,22 @@
 use Rattle.granit_agreement.specs.Fair.{FairAt, FairBehind, frame_ends_at}
 use Rattle.granit_agreement.specs.Good.{Holes, at_root, at_entry, at_key, at_asked, at_value, at_item, at_curly, curly_key, curly_asked, curly_value, made_key, made_value, pair_asked, pair_value, GoodProperties}
 use Rattle.granit_agreement.specs.Stepping.{taken, LimitView, at_kind, knowing}
-use Rattle.granit_agreement.specs.Steps.{StepsLimited, topped, On}
+use Rattle.granit_agreement.specs.Steps.{StepsLimited, On}
 use Rattle.granit_agreement.specs.View.{terminal_kind, terminal_of, at_of, state_of}
-use Rattle.granit_grammar.specs.EventMachine.{OpenFrame, PropertiesFrame, InFrames, EventState, Ending, ending, with_event, finish_frames, ended_by, EventStep, if_gives, begin_pair_frames, frames_room, frames_indent, part_frames, stop_kind, take_frames, want_frames}
+use Rattle.granit_grammar.specs.EventMachine.{OpenFrame, PropertiesFrame, InFrames, EventState, Ending, ending, with_event, finish_frames, if_gives, begin_pair_frames, frames_room, frames_indent, part_frames, stop_kind, take_frames, want_frames}
 use Rattle.granit_grammar.specs.Guarded.{blocks_open}
 use Rattle.granit_language.specs.Choice.{choose}
-use Rattle.granit_language.specs.GrammarFault.{GrammarFault}
 use Rattle.granit_language.specs.Node.{TreeProperties, NoProperties, One, Two}
 use Rattle.granit_language.specs.Room.{Room, BehindKey, Inside, behind_property, room_behind, right_fits, loose_fits, indicates, part_fits, joins, continues_node}
 use Rattle.granit_language.specs.Scope.{Scope}
-use Rattle.granit_language.specs.Terminal.{Anchor, Tag, Part, PartKind, Alias, Property, Scalar, Open, Question, Colon, Dash, At, Terminal, TerminalKind, edge}
+use Rattle.granit_language.specs.Terminal.{Anchor, Tag, Part, PartKind, Alias, Property, Scalar, Open, Question, Colon, At, Terminal, edge}
 use Rattle.granit_language.specs.TreeEvents.{alone_event, properties_end}
 use Rattle.granit_lexemes.specs.Lexeme.{KeyStart}
 use Rattle.granit_lexemes.specs.declared.layout.Bracket.TheVariants.{Square, Curly}
 use Rattle.granit_machine.specs.Frames.{ParserState}
 use Rattle.granit_machine.specs.Parser.{take_token}
 use Rattle.granit_machine.specs.TokenSort.{token_of}
-use Rattle.std.proofs.Common.{◌≡◌, ℕ, suc, Bool, true, false, ◌||◌, ◌&&◌, not, nat_lt, List, [], ◌∷◌, refl, sym, ap, ap₂, ◌∙◌, subst, Option, Some, None, Result, Ok, Err}
+use Rattle.std.proofs.Common.{◌≡◌, ℕ, suc, Bool, true, false, ◌||◌, ◌&&◌, not, nat_lt, List, [], ◌∷◌, refl, sym, ap, ap₂, ◌∙◌, subst, Option, Some, None, Result}
 use Rattle.std.specs.Prelude.{nat_le}
 use Rattle.granit_base.specs.Place.{Mark}
 use Rattle.granit_error.specs.OptionsData.{OptionsData}
@@ -82,28 +81,28 @@ plain_is :
     part_fits (RoomOf p fs) i ≡ true → want_frames fs p (Part m) i ≡ part_frames (stop_kind fs) fs p m i
 plain_is fs p m i e f =
     ap₂
-      (λ a b.
-         choose a (begin_pair_frames (stop_kind fs) fs p (Part m) i)
-           (if_gives b (stop_kind fs) (part_frames (stop_kind fs) fs p m i)))
-      (ap (λ b. b && indicates (RoomOf p fs) i) e) f
+    (λ a b.
+    choose a (begin_pair_frames (stop_kind fs) fs p (Part m) i)
+    (if_gives b (stop_kind fs) (part_frames (stop_kind fs) fs p m i)))
+    (ap (λ b. b && indicates (RoomOf p fs) i) e) f
 
 abbrev BehindView :
     Bool → lexemes.LexemeKind → Option KeyStart → Scope → lexemes.Lexeme → OptionsData → Mark → List PlainEvent →
     TreeProperties → List OpenFrame → Type 0
 BehindView b k key s l o last given p fs =
     LimitView o (X b k key s l) (knowing s last given) (NodeOf b k key s l o last given p fs)
-      (want_frames fs p (terminal_kind k key) (at_of b s (at_kind l k key)))
+    (want_frames fs p (terminal_kind k key) (at_of b s (at_kind l k key)))
 
 plain_behind :
     (m : PartKind) (k : lexemes.LexemeKind) (s : Scope) (l : lexemes.Lexeme) (o : OptionsData) (last : Mark)
     (given : List PlainEvent) (p : TreeProperties) (fs : List OpenFrame) (n : Result ParserState Fault) →
     (part_fits (RoomOf p fs) (at_of false s (at_kind l k None)) && joins p m) ≡ true →
     LimitView o (On k false s l) (knowing s last given) n
-        (part_frames (stop_kind fs) fs p m (at_of false s (at_kind l k None))) →
+    (part_frames (stop_kind fs) fs p m (at_of false s (at_kind l k None))) →
     LimitView o (On k false s l) (knowing s last given) n (want_frames fs p (Part m) (at_of false s (at_kind l k None)))
 plain_behind m k s l o last given p fs n c v =
     subst (LimitView o (On k false s l) (knowing s last given) n)
-      (sym (plain_is fs p m (at_of false s (at_kind l k None)) refl (and_left _ _ c))) v
+    (sym (plain_is fs p m (at_of false s (at_kind l k None)) refl (and_left _ _ c))) v
 
 -- ---- one that begins something outside flow
 
@@ -120,23 +119,23 @@ key_right :
     continues_node (RoomOf p fs) p (Part m) i ≡ true → nat_lt (hole_column fs) (edge i) ≡ true
 key_right fs p m i q e c =
     keyed_right i.begins_key (indicates (RoomOf p fs) i) (part_fits (RoomOf p fs) i) (joins p m)
-      (nat_lt (hole_column fs) (edge i)) e (indicates_is p fs i q) (part_fits_is p fs i q) c
+    (nat_lt (hole_column fs) (edge i)) e (indicates_is p fs i q) (part_fits_is p fs i q) c
 
 -- the test holds
 tested_true :
     (b : Bool) (k : lexemes.LexemeKind) (key : Option KeyStart) (s : Scope) (l : lexemes.Lexeme) (o : OptionsData)
     (last : Mark) (given : List PlainEvent) (p : TreeProperties) (fs : List OpenFrame) (r : Bool) → r ≡ true →
     LimitView o (X b k key s l) (knowing s last given)
-      (Tested r (NodeOf b k key s l o last given p fs) (stop_kind fs) (X b k key s l))
-      (want_frames fs p (terminal_kind k key) (at_of b s (at_kind l k key))) →
+    (Tested r (NodeOf b k key s l o last given p fs) (stop_kind fs) (X b k key s l))
+    (want_frames fs p (terminal_kind k key) (at_of b s (at_kind l k key))) →
     BehindView b k key s l o last given p fs
 tested_true b k key s l o last given p fs r e v =
     subst
-      (λ r.
-         LimitView o (X b k key s l) (knowing s last given)
-           (Tested r (NodeOf b k key s l o last given p fs) (stop_kind fs) (X b k key s l))
-           (want_frames fs p (terminal_kind k key) (at_of b s (at_kind l k key))))
-      e v
+    (λ r.
+    LimitView o (X b k key s l) (knowing s last given)
+    (Tested r (NodeOf b k key s l o last given p fs) (stop_kind fs) (X b k key s l))
+    (want_frames fs p (terminal_kind k key) (at_of b s (at_kind l k key))))
+    e v
 
 no_room : false ≡ true → ⊥
 no_room e = cc (e)
@@ -167,60 +166,60 @@ behind_given b (lexemes.Close bracket) key s l o last given p fs g h r e c f = c
 behind_given b lexemes.Colon (Some n) s l o last given p fs g h r e c f = cc (c)
 behind_given b lexemes.Colon None s l o last given p fs g h (in_block q) e c f =
     tested_true b lexemes.Colon None s l o last given p fs (RightOfHole l fs)
-      (sym (indicates_is p fs (at_of b s (at_kind l lexemes.Colon None)) q) ∙ c)
-      (node_or b lexemes.Colon None s l o last given p fs h q e (joined_colon p b) refl refl)
+    (sym (indicates_is p fs (at_of b s (at_kind l lexemes.Colon None)) q) ∙ c)
+    (node_or b lexemes.Colon None s l o last given p fs h q e (joined_colon p b) refl refl)
 behind_given b lexemes.Colon None s l o last given p fs g h (in_key w) e c f =
     absurd (no_room (ap (λ r. indicates r (at_of b s (at_kind l lexemes.Colon None))) (sym w) ∙ c))
 behind_given b lexemes.Colon None s l o last given p fs g h (in_flow w) e c f =
     absurd (no_room (ap (λ r. indicates r (at_of b s (at_kind l lexemes.Colon None))) (sym w) ∙ c))
 behind_given b lexemes.Question key s l o last given p fs g h (in_block q) e c f =
     tested_true b lexemes.Question key s l o last given p fs (RightOfHole l fs)
-      (sym (indicates_is p fs (at_of b s (at_kind l lexemes.Question key)) q) ∙ c)
-      (node_or b lexemes.Question key s l o last given p fs h q e (joined_question p b) refl refl)
+    (sym (indicates_is p fs (at_of b s (at_kind l lexemes.Question key)) q) ∙ c)
+    (node_or b lexemes.Question key s l o last given p fs h q e (joined_question p b) refl refl)
 behind_given b lexemes.Question key s l o last given p fs g h (in_key w) e c f =
     absurd (no_room (ap (λ r. indicates r (at_of b s (at_kind l lexemes.Question key))) (sym w) ∙ c))
 behind_given b lexemes.Question key s l o last given p fs g h (in_flow w) e c f =
     absurd (no_room (ap (λ r. indicates r (at_of b s (at_kind l lexemes.Question key))) (sym w) ∙ c))
 behind_given b lexemes.Dash key s l o last given p fs g h (in_block q) e c f =
     tested_true b lexemes.Dash key s l o last given p fs
-      (loose_fits (RoomOf p fs) (suc l.start.place.column) || RightOfHole l fs)
-      (ap (λ r. loose_fits (RoomOf p fs) (suc l.start.place.column) || r)
-           (sym (right_is p fs (suc l.start.place.column) q))
-           ∙ c)
-      (dash_tested b key s l o last given p fs h q)
+    (loose_fits (RoomOf p fs) (suc l.start.place.column) || RightOfHole l fs)
+    (ap (λ r. loose_fits (RoomOf p fs) (suc l.start.place.column) || r)
+    (sym (right_is p fs (suc l.start.place.column) q))
+    ∙ c)
+    (dash_tested b key s l o last given p fs h q)
 behind_given b lexemes.Dash key s l o last given p fs g h (in_key w) e c f =
     absurd
-        (no_room
-           (ap (λ r. loose_fits r (suc l.start.place.column) || right_fits r (suc l.start.place.column)) (sym w) ∙ c))
+    (no_room
+    (ap (λ r. loose_fits r (suc l.start.place.column) || right_fits r (suc l.start.place.column)) (sym w) ∙ c))
 behind_given b lexemes.Dash key s l o last given p fs g h (in_flow w) e c f =
     absurd
-        (no_room
-           (ap (λ r. loose_fits r (suc l.start.place.column) || right_fits r (suc l.start.place.column)) (sym w) ∙ c))
+    (no_room
+    (ap (λ r. loose_fits r (suc l.start.place.column) || right_fits r (suc l.start.place.column)) (sym w) ∙ c))
 behind_given false (lexemes.Scalar style text) key s l o last given p fs g h r e c f =
     plain_behind (Scalar style text) (lexemes.Scalar style text) s l o last given p fs
-        (NodeOf false (lexemes.Scalar style text) key s l o last given p fs) c
-      (part_limited false (Scalar style text) (lexemes.Scalar style text) s l o last given p fs (stop_kind fs) h e
-         (scalar_parts false style text s l o last given p fs (stop_kind fs) h))
+    (NodeOf false (lexemes.Scalar style text) key s l o last given p fs) c
+    (part_limited false (Scalar style text) (lexemes.Scalar style text) s l o last given p fs (stop_kind fs) h e
+    (scalar_parts false style text s l o last given p fs (stop_kind fs) h))
 behind_given false (lexemes.Open Square) key s l o last given p fs g h r e c f =
     plain_behind (Open Square) (lexemes.Open Square) s l o last given p fs
-        (NodeOf false (lexemes.Open Square) key s l o last given p fs) c
-      (part_limited false (Open Square) (lexemes.Open Square) s l o last given p fs (stop_kind fs) h e
-         (square_parts false s l o last given p fs (stop_kind fs) h))
+    (NodeOf false (lexemes.Open Square) key s l o last given p fs) c
+    (part_limited false (Open Square) (lexemes.Open Square) s l o last given p fs (stop_kind fs) h e
+    (square_parts false s l o last given p fs (stop_kind fs) h))
 behind_given false (lexemes.Open Curly) key s l o last given p fs g h r e c f =
     plain_behind (Open Curly) (lexemes.Open Curly) s l o last given p fs
-        (NodeOf false (lexemes.Open Curly) key s l o last given p fs) c
-      (part_limited false (Open Curly) (lexemes.Open Curly) s l o last given p fs (stop_kind fs) h e
-         (curly_parts false s l o last given p fs (stop_kind fs) h))
+    (NodeOf false (lexemes.Open Curly) key s l o last given p fs) c
+    (part_limited false (Open Curly) (lexemes.Open Curly) s l o last given p fs (stop_kind fs) h e
+    (curly_parts false s l o last given p fs (stop_kind fs) h))
 behind_given false (lexemes.Anchor name) key s l o last given p fs g h r e c f =
     plain_behind (Property (Anchor name)) (lexemes.Anchor name) s l o last given p fs
-        (NodeOf false (lexemes.Anchor name) key s l o last given p fs) c
-      (part_limited false (Property (Anchor name)) (lexemes.Anchor name) s l o last given p fs (stop_kind fs) h e
-         (anchor_parts false name s l o last given p fs (stop_kind fs) h (and_right _ _ c)))
+    (NodeOf false (lexemes.Anchor name) key s l o last given p fs) c
+    (part_limited false (Property (Anchor name)) (lexemes.Anchor name) s l o last given p fs (stop_kind fs) h e
+    (anchor_parts false name s l o last given p fs (stop_kind fs) h (and_right _ _ c)))
 behind_given false (lexemes.Tag handle suffix) key s l o last given p fs g h r e c f =
     plain_behind (Property (Tag handle suffix)) (lexemes.Tag handle suffix) s l o last given p fs
-        (NodeOf false (lexemes.Tag handle suffix) key s l o last given p fs) c
-      (part_limited false (Property (Tag handle suffix)) (lexemes.Tag handle suffix) s l o last given p fs (stop_kind fs) h e
-         (tag_parts false handle suffix s l o last given p fs (stop_kind fs) h (and_right _ _ c)))
+    (NodeOf false (lexemes.Tag handle suffix) key s l o last given p fs) c
+    (part_limited false (Property (Tag handle suffix)) (lexemes.Tag handle suffix) s l o last given p fs (stop_kind fs) h e
+    (tag_parts false handle suffix s l o last given p fs (stop_kind fs) h (and_right _ _ c)))
 behind_given false (lexemes.Alias name) key s l o last given NoProperties fs g h r e c f = absurd g
 behind_given false (lexemes.Alias name) key s l o last given (One k i) fs g h r e c f =
     absurd (no_room (and_right _ _ c))
@@ -228,49 +227,49 @@ behind_given false (lexemes.Alias name) key s l o last given (Two k i m j) fs g 
     absurd (no_room (and_right _ _ c))
 behind_given true (lexemes.Scalar style text) key s l o last given p fs g h (in_block q) e c f =
     tested_true true (lexemes.Scalar style text) key s l o last given p fs (RightOfHole l fs)
-      (key_right fs p (Scalar style text) (at_of true s (at_kind l (lexemes.Scalar style text) key)) q refl c)
-      (node_or true (lexemes.Scalar style text) key s l o last given p fs h q e tt refl refl)
+    (key_right fs p (Scalar style text) (at_of true s (at_kind l (lexemes.Scalar style text) key)) q refl c)
+    (node_or true (lexemes.Scalar style text) key s l o last given p fs h q e tt refl refl)
 behind_given true (lexemes.Scalar style text) key s l o last given p fs g h (in_key w) e c f =
     absurd (no_key (subst (λ r. FairBehind r (X true (lexemes.Scalar style text) key s l)) w f))
 behind_given true (lexemes.Scalar style text) key s l o last given p fs g h (in_flow w) e c f =
     absurd (no_key (subst (λ r. FairBehind r (X true (lexemes.Scalar style text) key s l)) w f).0)
 behind_given true (lexemes.Open Square) key s l o last given p fs g h (in_block q) e c f =
     tested_true true (lexemes.Open Square) key s l o last given p fs (RightOfHole l fs)
-      (key_right fs p (Open Square) (at_of true s (at_kind l (lexemes.Open Square) key)) q refl c)
-      (node_or true (lexemes.Open Square) key s l o last given p fs h q e tt refl refl)
+    (key_right fs p (Open Square) (at_of true s (at_kind l (lexemes.Open Square) key)) q refl c)
+    (node_or true (lexemes.Open Square) key s l o last given p fs h q e tt refl refl)
 behind_given true (lexemes.Open Square) key s l o last given p fs g h (in_key w) e c f =
     absurd (no_key (subst (λ r. FairBehind r (X true (lexemes.Open Square) key s l)) w f))
 behind_given true (lexemes.Open Square) key s l o last given p fs g h (in_flow w) e c f =
     absurd (no_key (subst (λ r. FairBehind r (X true (lexemes.Open Square) key s l)) w f).0)
 behind_given true (lexemes.Open Curly) key s l o last given p fs g h (in_block q) e c f =
     tested_true true (lexemes.Open Curly) key s l o last given p fs (RightOfHole l fs)
-      (key_right fs p (Open Curly) (at_of true s (at_kind l (lexemes.Open Curly) key)) q refl c)
-      (node_or true (lexemes.Open Curly) key s l o last given p fs h q e tt refl refl)
+    (key_right fs p (Open Curly) (at_of true s (at_kind l (lexemes.Open Curly) key)) q refl c)
+    (node_or true (lexemes.Open Curly) key s l o last given p fs h q e tt refl refl)
 behind_given true (lexemes.Open Curly) key s l o last given p fs g h (in_key w) e c f =
     absurd (no_key (subst (λ r. FairBehind r (X true (lexemes.Open Curly) key s l)) w f))
 behind_given true (lexemes.Open Curly) key s l o last given p fs g h (in_flow w) e c f =
     absurd (no_key (subst (λ r. FairBehind r (X true (lexemes.Open Curly) key s l)) w f).0)
 behind_given true (lexemes.Anchor name) key s l o last given p fs g h (in_block q) e c f =
     tested_true true (lexemes.Anchor name) key s l o last given p fs (RightOfHole l fs)
-      (key_right fs p (Property (Anchor name)) (at_of true s (at_kind l (lexemes.Anchor name) key)) q refl c)
-      (node_or true (lexemes.Anchor name) key s l o last given p fs h q e tt refl refl)
+    (key_right fs p (Property (Anchor name)) (at_of true s (at_kind l (lexemes.Anchor name) key)) q refl c)
+    (node_or true (lexemes.Anchor name) key s l o last given p fs h q e tt refl refl)
 behind_given true (lexemes.Anchor name) key s l o last given p fs g h (in_key w) e c f =
     absurd (no_key (subst (λ r. FairBehind r (X true (lexemes.Anchor name) key s l)) w f))
 behind_given true (lexemes.Anchor name) key s l o last given p fs g h (in_flow w) e c f =
     absurd (no_key (subst (λ r. FairBehind r (X true (lexemes.Anchor name) key s l)) w f).0)
 behind_given true (lexemes.Tag handle suffix) key s l o last given p fs g h (in_block q) e c f =
     tested_true true (lexemes.Tag handle suffix) key s l o last given p fs (RightOfHole l fs)
-      (key_right fs p (Property (Tag handle suffix)) (at_of true s (at_kind l (lexemes.Tag handle suffix) key)) q refl
-           c)
-      (node_or true (lexemes.Tag handle suffix) key s l o last given p fs h q e tt refl refl)
+    (key_right fs p (Property (Tag handle suffix)) (at_of true s (at_kind l (lexemes.Tag handle suffix) key)) q refl
+    c)
+    (node_or true (lexemes.Tag handle suffix) key s l o last given p fs h q e tt refl refl)
 behind_given true (lexemes.Tag handle suffix) key s l o last given p fs g h (in_key w) e c f =
     absurd (no_key (subst (λ r. FairBehind r (X true (lexemes.Tag handle suffix) key s l)) w f))
 behind_given true (lexemes.Tag handle suffix) key s l o last given p fs g h (in_flow w) e c f =
     absurd (no_key (subst (λ r. FairBehind r (X true (lexemes.Tag handle suffix) key s l)) w f).0)
 behind_given true (lexemes.Alias name) key s l o last given p fs g h (in_block q) e c f =
     tested_true true (lexemes.Alias name) key s l o last given p fs (RightOfHole l fs)
-      (key_right fs p (Alias name) (at_of true s (at_kind l (lexemes.Alias name) key)) q refl c)
-      (node_or true (lexemes.Alias name) key s l o last given p fs h q e tt refl refl)
+    (key_right fs p (Alias name) (at_of true s (at_kind l (lexemes.Alias name) key)) q refl c)
+    (node_or true (lexemes.Alias name) key s l o last given p fs h q e tt refl refl)
 behind_given true (lexemes.Alias name) key s l o last given p fs g h (in_key w) e c f =
     absurd (no_key (subst (λ r. FairBehind r (X true (lexemes.Alias name) key s l)) w f))
 behind_given true (lexemes.Alias name) key s l o last given p fs g h (in_flow w) e c f =
@@ -298,29 +297,29 @@ pub behind_properties_steps :
 behind_properties_steps b k key s l o last given NoProperties fs g h f n e = absurd g
 behind_properties_steps b k key s l o last given (One r i) fs g h f n e =
     subst
-      (LimitView o (X b k key s l) (knowing s last given)
-         (take_token o (token_of b (at_kind l k key))
-            (state_of o (InFrames (PropertiesFrame (One r i) ∷ fs)) (knowing s last given))))
-      (sym
-         (continuing
-            (continues_node (behind_property (frames_room fs)) (One r i) (terminal_kind k key)
-                 (at_of b s (at_kind l k key)))
-            (InFrames (PropertiesFrame (One r i) ∷ fs))
-            (with_event (alone_event (One r i) (frames_indent fs))
-                 (finish_frames (X b k key s l) (properties_end (One r i)) fs))
-            (X b k key s l) n))
-      (behind_given b k key s l o last given (One r i) fs g h (place_or (One r i) fs g h) e (not_false _ n) f.1)
+    (LimitView o (X b k key s l) (knowing s last given)
+    (take_token o (token_of b (at_kind l k key))
+    (state_of o (InFrames (PropertiesFrame (One r i) ∷ fs)) (knowing s last given))))
+    (sym
+    (continuing
+    (continues_node (behind_property (frames_room fs)) (One r i) (terminal_kind k key)
+    (at_of b s (at_kind l k key)))
+    (InFrames (PropertiesFrame (One r i) ∷ fs))
+    (with_event (alone_event (One r i) (frames_indent fs))
+    (finish_frames (X b k key s l) (properties_end (One r i)) fs))
+    (X b k key s l) n))
+    (behind_given b k key s l o last given (One r i) fs g h (place_or (One r i) fs g h) e (not_false _ n) f.1)
 behind_properties_steps b k key s l o last given (Two r i m j) fs g h f n e =
     subst
-      (LimitView o (X b k key s l) (knowing s last given)
-         (take_token o (token_of b (at_kind l k key))
-            (state_of o (InFrames (PropertiesFrame (Two r i m j) ∷ fs)) (knowing s last given))))
-      (sym
-         (continuing
-            (continues_node (behind_property (frames_room fs)) (Two r i m j) (terminal_kind k key)
-                 (at_of b s (at_kind l k key)))
-            (InFrames (PropertiesFrame (Two r i m j) ∷ fs))
-            (with_event (alone_event (Two r i m j) (frames_indent fs))
-                 (finish_frames (X b k key s l) (properties_end (Two r i m j)) fs))
-            (X b k key s l) n))
-      (behind_given b k key s l o last given (Two r i m j) fs g h (place_or (Two r i m j) fs g h) e (not_false _ n) f.1)
+    (LimitView o (X b k key s l) (knowing s last given)
+    (take_token o (token_of b (at_kind l k key))
+    (state_of o (InFrames (PropertiesFrame (Two r i m j) ∷ fs)) (knowing s last given))))
+    (sym
+    (continuing
+    (continues_node (behind_property (frames_room fs)) (Two r i m j) (terminal_kind k key)
+    (at_of b s (at_kind l k key)))
+    (InFrames (PropertiesFrame (Two r i m j) ∷ fs))
+    (with_event (alone_event (Two r i m j) (frames_indent fs))
+    (finish_frames (X b k key s l) (properties_end (Two r i m j)) fs))
+    (X b k key s l) n))
+    (behind_given b k key s l o last given (Two r i m j) fs g h (place_or (Two r i m j) fs g h) e (not_false _ n) f.1)

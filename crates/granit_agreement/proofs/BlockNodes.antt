@@ -1,5 +1,5 @@
 -- A lexeme of a node where one may stand outside flow: it begins a block mapping with its simple key, or it is taken.
-use Rattle.granit_agreement.specs.Good.{Holes, at_root, at_entry, at_key, at_asked, at_value, at_item, at_curly, curly_key, curly_asked, curly_value, made_key, made_value, pair_asked, pair_value, IsPositive}
+use Rattle.granit_agreement.specs.Good.{Holes, at_root, at_entry, at_key, at_asked, at_value, at_item, at_curly, curly_key, curly_asked, curly_value, made_key, made_value, pair_asked, pair_value}
 use Rattle.granit_agreement.specs.Stepping.{MeansView, LimitView, at_kind, knowing}
 use Rattle.granit_agreement.specs.Steps.{topped, On, TokenOn, PartsAgree}
 use Rattle.granit_agreement.specs.View.{at_of, state_of}
@@ -10,13 +10,13 @@ use Rattle.granit_language.specs.Node.{TreeProperties, NoProperties, One, Two}
 use Rattle.granit_language.specs.Scope.{Scope}
 use Rattle.granit_language.specs.Scoping.{scope_fault}
 use Rattle.granit_language.specs.Telling.{indent_told, event_told}
-use Rattle.granit_language.specs.Terminal.{Anchor, Tag, Part, PartKind, Alias, Property, Scalar, Open, At, Terminal}
+use Rattle.granit_language.specs.Terminal.{Anchor, Tag, PartKind, Alias, Property, Scalar, Open, At}
 use Rattle.granit_language.specs.TreeEvents.{TreeEvent, mapping_start}
 use Rattle.granit_lexemes.specs.declared.layout.Bracket.TheVariants.{Square, Curly}
 use Rattle.granit_machine.specs.Frames.{ParserState}
 use Rattle.granit_machine.specs.NodeEnds.{block_mapping, begin_block, empty_span}
 use Rattle.granit_machine.specs.NodeSteps.{bare, node}
-use Rattle.std.proofs.Common.{◌≡◌, ℕ, suc, Bool, true, false, List, [], ◌∷◌, ◌++◌, refl, sym, ap, ap₂, ◌∙◌, subst, Option, Some, None, Result, Ok, Err}
+use Rattle.std.proofs.Common.{◌≡◌, ℕ, suc, Bool, true, false, List, [], ◌∷◌, ◌++◌, refl, sym, ap, ap₂, ◌∙◌, subst, Option, Some, None, Result}
 use Rattle.std.specs.Prelude.{nat_le}
 use Rattle.granit_base.specs.Place.{Mark}
 use Rattle.granit_base.specs.Written.{Written}
@@ -79,28 +79,29 @@ key_by :
     (p : TreeProperties) (fs : List OpenFrame) (y : EventStep) (full : Bool) →
     nat_le o.block_nesting_limit (blocks_open fs) ≡ full → OneMore (blocks_open fs) y →
     MeansView o (On k true s l) (knowing s l.start (given ++ event_told o (KeyEvent k s l p fs)))
-      (KeyBare o k s l fs (given ++ event_told o (KeyEvent k s l p fs))) y →
+    (KeyBare o k s l fs (given ++ event_told o (KeyEvent k s l p fs))) y →
     LimitView o (On k true s l) (knowing s last given)
-      (Limited full l.start
-         (framed (machine.BlockMapping l.start.place.column machine.AtKey)
-            (popped fs l.start
-               (HeadGiven o p block_mapping (empty_span l.start) (indent_told (frames_indent fs)) given)
-               (knowing s last given)))
-         >>= bare o (TokenOn k true l))
-      (after_events (KeyEvent k s l p fs ∷ []) y)
+    (Limited full l.start
+    (framed (machine.BlockMapping l.start.place.column machine.AtKey)
+    (popped fs l.start
+    (HeadGiven o p block_mapping (empty_span l.start) (indent_told (frames_indent fs)) given)
+    (knowing s last given)))
+    >>= bare o (TokenOn k true l))
+    (after_events (KeyEvent k s l p fs ∷ []) y)
 unfolding node_head
-key_by o k s l last given p fs (GoesTo st es) true e c h =
-    (TooManyBlocks false,
-     too_many o.block_nesting_limit (blocks_open fs) st
-       (scope_fault o.emit_unresolved_aliases (On k true s l).kind (On k true s l).at.scope) e c.0 c.1,
-     refl)
+key_by o k s l last given p fs (GoesTo st es) true e c h = (
+  TooManyBlocks false,
+  too_many o.block_nesting_limit (blocks_open fs) st
+      (scope_fault o.emit_unresolved_aliases (On k true s l).kind (On k true s l).at.scope) e c.0 c.1,
+  refl,
+)
 key_by o k s l last given p fs (GoesTo st es) false e c h =
     event_before o (On k true s l) s l.start last given (KeyEvent k s l p fs)
-      (KeyBare o k s l fs (given ++ event_told o (KeyEvent k s l p fs))) (GoesTo st es)
-      (means_limited o (On k true s l) (knowing s l.start (given ++ event_told o (KeyEvent k s l p fs)))
-         (KeyBare o k s l fs (given ++ event_told o (KeyEvent k s l p fs))) (GoesTo st es) h
-         (count_flat o.block_nesting_limit (suc (blocks_open fs)) st c.0
-            (free_limit o.block_nesting_limit (blocks_open fs) e)))
+    (KeyBare o k s l fs (given ++ event_told o (KeyEvent k s l p fs))) (GoesTo st es)
+    (means_limited o (On k true s l) (knowing s l.start (given ++ event_told o (KeyEvent k s l p fs)))
+    (KeyBare o k s l fs (given ++ event_told o (KeyEvent k s l p fs))) (GoesTo st es) h
+    (count_flat o.block_nesting_limit (suc (blocks_open fs)) st c.0
+    (free_limit o.block_nesting_limit (blocks_open fs) e)))
 key_by o k s l last given p fs (StopsWith n) full e c h = absurd c
 
 -- the block mapping begins, and the lexeme is taken as its key's first
@@ -114,7 +115,7 @@ KeyNode m k =
     (s : Scope) (l : lexemes.Lexeme) (o : OptionsData) (last : Mark) (given : List PlainEvent) (p : TreeProperties)
     (fs : List OpenFrame) (stop : GrammarFault) → Holes fs →
     LimitView o (On k true s l) (knowing s last given)
-      (node o (TokenOn k true l) (state_of o (InFrames (topped p fs)) (knowing s last given))) (KeyTaken m k s l p fs stop)
+    (node o (TokenOn k true l) (state_of o (InFrames (topped p fs)) (knowing s last given))) (KeyTaken m k s l p fs stop)
 
 abbrev KeyResult :
     PartKind → lexemes.LexemeKind → Scope → lexemes.Lexeme → OptionsData → Mark → List PlainEvent → TreeProperties →
@@ -128,16 +129,16 @@ key_begins :
     OneMore (blocks_open fs) (part_frames stop (KeyHole l fs) NoProperties m (at_of true s (at_kind l k None))) →
     PartsAgree true m k s l o l.start (given ++ event_told o (KeyEvent k s l p fs)) NoProperties (KeyHole l fs) stop →
     KeyResult m k s l o last given p fs stop
-      (begin_block o block_mapping l.start (machine.BlockMapping l.start.place.column machine.AtKey)
-         (state_of o (InFrames (topped p fs)) (knowing s last given)))
+    (begin_block o block_mapping l.start (machine.BlockMapping l.start.place.column machine.AtKey)
+    (state_of o (InFrames (topped p fs)) (knowing s last given)))
 key_begins m k s l o last given p fs stop h c e =
     subst (KeyResult m k s l o last given p fs stop)
-      (sym
-         (limited_by o block_mapping l.start (machine.BlockMapping l.start.place.column machine.AtKey) p fs
-            (knowing s last given) (nat_le o.block_nesting_limit (blocks_open fs)) h refl))
-      (key_by o k s l last given p fs
-         (part_frames stop (KeyHole l fs) NoProperties m (at_of true s (at_kind l k None)))
-         (nat_le o.block_nesting_limit (blocks_open fs)) refl c e)
+    (sym
+    (limited_by o block_mapping l.start (machine.BlockMapping l.start.place.column machine.AtKey) p fs
+    (knowing s last given) (nat_le o.block_nesting_limit (blocks_open fs)) h refl))
+    (key_by o k s l last given p fs
+    (part_frames stop (KeyHole l fs) NoProperties m (at_of true s (at_kind l k None)))
+    (nat_le o.block_nesting_limit (blocks_open fs)) refl c e)
 
 abbrev KeyGiven :
     OptionsData → lexemes.LexemeKind → Scope → lexemes.Lexeme → TreeProperties → List OpenFrame → List PlainEvent →
@@ -148,39 +149,39 @@ pub scalar_key : (style : ScalarStyle) (text : Written) → KeyNode (Scalar styl
 scalar_key style text s l o last given p fs stop h =
     let k = lexemes.Scalar style text in
     key_begins (Scalar style text) k s l o last given p fs stop h (refl, refl)
-      (scalar_parts true style text s l o l.start (KeyGiven o k s l p fs given) NoProperties (KeyHole l fs) stop (at_key tt h))
+    (scalar_parts true style text s l o l.start (KeyGiven o k s l p fs given) NoProperties (KeyHole l fs) stop (at_key tt h))
 
 pub square_key : KeyNode (Open Square) (lexemes.Open Square)
 square_key s l o last given p fs stop h =
     key_begins (Open Square) (lexemes.Open Square) s l o last given p fs stop h (refl, refl)
-      (square_parts true s l o l.start (KeyGiven o (lexemes.Open Square) s l p fs given) NoProperties (KeyHole l fs) stop
-         (at_key tt h))
+    (square_parts true s l o l.start (KeyGiven o (lexemes.Open Square) s l p fs given) NoProperties (KeyHole l fs) stop
+    (at_key tt h))
 
 pub curly_key_node : KeyNode (Open Curly) (lexemes.Open Curly)
 curly_key_node s l o last given p fs stop h =
     key_begins (Open Curly) (lexemes.Open Curly) s l o last given p fs stop h (refl, refl)
-      (curly_parts true s l o l.start (KeyGiven o (lexemes.Open Curly) s l p fs given) NoProperties (KeyHole l fs) stop
-         (at_key tt h))
+    (curly_parts true s l o l.start (KeyGiven o (lexemes.Open Curly) s l p fs given) NoProperties (KeyHole l fs) stop
+    (at_key tt h))
 
 pub anchor_key : (name : Written) → KeyNode (Property (Anchor name)) (lexemes.Anchor name)
 anchor_key name s l o last given p fs stop h =
     let k = lexemes.Anchor name in
     key_begins (Property (Anchor name)) k s l o last given p fs stop h (refl, refl)
-      (anchor_parts true name s l o l.start (KeyGiven o k s l p fs given) NoProperties (KeyHole l fs) stop (at_key tt h)
-         refl)
+    (anchor_parts true name s l o l.start (KeyGiven o k s l p fs given) NoProperties (KeyHole l fs) stop (at_key tt h)
+    refl)
 
 pub tag_key : (handle suffix : List ℕ) → KeyNode (Property (Tag handle suffix)) (lexemes.Tag handle suffix)
 tag_key handle suffix s l o last given p fs stop h =
     let k = lexemes.Tag handle suffix in
     key_begins (Property (Tag handle suffix)) k s l o last given p fs stop h (refl, refl)
-      (tag_parts true handle suffix s l o l.start (KeyGiven o k s l p fs given) NoProperties (KeyHole l fs) stop
-         (at_key tt h) refl)
+    (tag_parts true handle suffix s l o l.start (KeyGiven o k s l p fs given) NoProperties (KeyHole l fs) stop
+    (at_key tt h) refl)
 
 pub alias_key : (name : Written) → KeyNode (Alias name) (lexemes.Alias name)
 alias_key name s l o last given p fs stop h =
     let k = lexemes.Alias name in
     key_begins (Alias name) k s l o last given p fs stop h (refl, refl)
-      (alias_parts true name s l o l.start (KeyGiven o k s l p fs given) (KeyHole l fs) stop (at_key tt h))
+    (alias_parts true name s l o l.start (KeyGiven o k s l p fs given) (KeyHole l fs) stop (at_key tt h))
 
 -- ---- another lexeme of a node
 
@@ -220,10 +221,10 @@ pub part_limited :
     (given : List PlainEvent) (p : TreeProperties) (fs : List OpenFrame) (stop : GrammarFault) → Holes fs →
     nat_le (blocks_open fs) o.block_nesting_limit ≡ true → PartsAgree b m k s l o last given p fs stop →
     LimitView o (On k b s l) (knowing s last given)
-      (bare o (TokenOn k b l) (state_of o (InFrames (topped p fs)) (knowing s last given)))
-      (part_frames stop fs p m (at_of b s (at_kind l k None)))
+    (bare o (TokenOn k b l) (state_of o (InFrames (topped p fs)) (knowing s last given)))
+    (part_frames stop fs p m (at_of b s (at_kind l k None)))
 part_limited b m k s l o last given p fs stop h e f =
     means_limited o (On k b s l) (knowing s last given)
-      (bare o (TokenOn k b l) (state_of o (InFrames (topped p fs)) (knowing s last given)))
-      (part_frames stop fs p m (at_of b s (at_kind l k None))) f
-      (part_flat o.block_nesting_limit stop fs p m (at_of b s (at_kind l k None)) h e)
+    (bare o (TokenOn k b l) (state_of o (InFrames (topped p fs)) (knowing s last given)))
+    (part_frames stop fs p m (at_of b s (at_kind l k None))) f
+    (part_flat o.block_nesting_limit stop fs p m (at_of b s (at_kind l k None)) h e)

@@ -1,22 +1,19 @@
 -- Behind an item, a key or a pair, a lexeme that is taken passes the guards.
-use Rattle.granit_agreement.specs.Good.{Holes, at_item, at_curly, curly_key, curly_asked, curly_value, made_key, made_value, pair_asked, pair_value}
+use Rattle.granit_agreement.specs.Good.{Holes}
 use Rattle.granit_agreement.specs.Stepping.{taken, at_kind}
-use Rattle.granit_agreement.specs.View.{terminal_kind, terminal_of, at_of}
-use Rattle.granit_grammar.specs.EventMachine.{Opened, Key, KeyDone, Asking, AskDone, Solo, Done, Value, OpenFrame, MappingFrame, FlowSequenceFrame, FlowMappingFrame, FlowPairFrame, InFrames, EventStep, GoesTo, StopsWith, ended_by, put_frames}
+use Rattle.granit_agreement.specs.View.{terminal_kind, terminal_of}
+use Rattle.granit_grammar.specs.EventMachine.{Opened, KeyDone, AskDone, Solo, Done, Value, OpenFrame, MappingFrame, FlowSequenceFrame, FlowMappingFrame, FlowPairFrame, InFrames, EventStep, GoesTo, StopsWith, ended_by, put_frames}
 use Rattle.granit_grammar.specs.Guarded.{blocks_open, first_fault, whole_guard}
-use Rattle.granit_language.specs.GrammarFault.{GrammarFault, UnexpectedEofImplicitFlowMapping}
-use Rattle.granit_language.specs.Node.{NoProperties}
 use Rattle.granit_language.specs.Scope.{Scope}
-use Rattle.granit_language.specs.Terminal.{Anchor, Tag, Alias, Property, Scalar, Open, Terminal, is_comma_kind, is_bare_kind, closes_kind}
+use Rattle.granit_language.specs.Terminal.{Terminal, is_comma_kind, is_bare_kind, closes_kind}
 use Rattle.granit_lexemes.specs.Lexeme.{KeyStart}
 use Rattle.granit_lexemes.specs.declared.layout.Bracket.TheVariants.{Square, Curly}
 use Rattle.std.proofs.Common.{◌≡◌, ℕ, suc, Bool, true, false, ◌||◌, not, List, ◌∷◌, refl, ap, Option, Some, None}
 use Rattle.std.specs.Prelude.{nat_le}
-use Rattle.granit_base.specs.Place.{Mark}
 use Rattle.granit_error.specs.OptionsData.{OptionsData}
 use Rattle.granit_lexemes.specs.Lexeme as lexemes
-use Rattle.granit_agreement.proofs.BlockNodes.{put_count, part_flat}
-use Rattle.granit_agreement.proofs.Views.{Flat, count_flat}
+use Rattle.granit_agreement.proofs.BlockNodes.{put_count}
+use Rattle.granit_agreement.proofs.Views.{count_flat}
 
 abbrev X : Bool → lexemes.LexemeKind → Option KeyStart → Scope → lexemes.Lexeme → Terminal
 X b k key s l = terminal_of b s (at_kind l k key)
@@ -36,10 +33,10 @@ item_done_calm b lexemes.DocumentEnd key s l o fs h e = tt
 item_done_calm b lexemes.StreamEnd key s l o fs h e = tt
 item_done_calm b lexemes.Comma key s l o fs h e =
     ap (λ f. first_fault f None)
-      (count_flat o.block_nesting_limit (blocks_open fs) (InFrames (FlowSequenceFrame false ∷ fs)) refl e)
+    (count_flat o.block_nesting_limit (blocks_open fs) (InFrames (FlowSequenceFrame false ∷ fs)) refl e)
 item_done_calm b (lexemes.Close Square) key s l o fs h e =
     ap (λ f. first_fault f None)
-      (count_flat o.block_nesting_limit (blocks_open fs) (put_frames l.shown.end fs) (put_count l.shown.end fs h) e)
+    (count_flat o.block_nesting_limit (blocks_open fs) (put_frames l.shown.end fs) (put_count l.shown.end fs h) e)
 item_done_calm b (lexemes.Close Curly) key s l o fs h e = tt
 item_done_calm b lexemes.Dash key s l o fs h e = tt
 item_done_calm b lexemes.Question key s l o fs h e = tt
@@ -62,7 +59,7 @@ pub curly_key_done_calm :
     (b : Bool) (k : lexemes.LexemeKind) (key : Option KeyStart) (s : Scope) (l : lexemes.Lexeme) (o : OptionsData)
     (fs : List OpenFrame) → Holes fs → nat_le (blocks_open fs) o.block_nesting_limit ≡ true →
     Calm o (X b k key s l)
-        (taken (ended_by (X b k key s l) (InFrames (FlowMappingFrame false KeyDone ∷ fs))) (X b k key s l))
+    (taken (ended_by (X b k key s l) (InFrames (FlowMappingFrame false KeyDone ∷ fs))) (X b k key s l))
 curly_key_done_calm b (lexemes.Directive directive) key s l o fs h e = tt
 curly_key_done_calm b lexemes.DocumentStart key s l o fs h e = tt
 curly_key_done_calm b lexemes.DocumentEnd key s l o fs h e = tt
@@ -75,8 +72,8 @@ curly_key_done_calm b lexemes.Question key s l o fs h e = tt
 curly_key_done_calm b lexemes.Colon None s l o fs h e = tt
 curly_key_done_calm b lexemes.Colon (Some n) s l o fs h e =
     ap (λ f. first_fault f None)
-      (count_flat o.block_nesting_limit (blocks_open fs) (InFrames (FlowMappingFrame false (Value l.start) ∷ fs)) refl
-         e)
+    (count_flat o.block_nesting_limit (blocks_open fs) (InFrames (FlowMappingFrame false (Value l.start) ∷ fs)) refl
+    e)
 curly_key_done_calm true (lexemes.Open Square) key s l o fs h e = tt
 curly_key_done_calm false (lexemes.Open Square) key s l o fs h e = tt
 curly_key_done_calm true (lexemes.Open Curly) key s l o fs h e = tt
@@ -94,18 +91,18 @@ pub curly_done_calm :
     (b : Bool) (k : lexemes.LexemeKind) (key : Option KeyStart) (s : Scope) (l : lexemes.Lexeme) (o : OptionsData)
     (fs : List OpenFrame) → Holes fs → nat_le (blocks_open fs) o.block_nesting_limit ≡ true →
     Calm o (X b k key s l)
-        (taken (ended_by (X b k key s l) (InFrames (FlowMappingFrame false Done ∷ fs))) (X b k key s l))
+    (taken (ended_by (X b k key s l) (InFrames (FlowMappingFrame false Done ∷ fs))) (X b k key s l))
 curly_done_calm b (lexemes.Directive directive) key s l o fs h e = tt
 curly_done_calm b lexemes.DocumentStart key s l o fs h e = tt
 curly_done_calm b lexemes.DocumentEnd key s l o fs h e = tt
 curly_done_calm b lexemes.StreamEnd key s l o fs h e = tt
 curly_done_calm b lexemes.Comma key s l o fs h e =
     ap (λ f. first_fault f None)
-      (count_flat o.block_nesting_limit (blocks_open fs) (InFrames (FlowMappingFrame false Opened ∷ fs)) refl e)
+    (count_flat o.block_nesting_limit (blocks_open fs) (InFrames (FlowMappingFrame false Opened ∷ fs)) refl e)
 curly_done_calm b (lexemes.Close Square) key s l o fs h e = tt
 curly_done_calm b (lexemes.Close Curly) key s l o fs h e =
     ap (λ f. first_fault f None)
-      (count_flat o.block_nesting_limit (blocks_open fs) (put_frames l.shown.end fs) (put_count l.shown.end fs h) e)
+    (count_flat o.block_nesting_limit (blocks_open fs) (put_frames l.shown.end fs) (put_count l.shown.end fs h) e)
 curly_done_calm b lexemes.Dash key s l o fs h e = tt
 curly_done_calm b lexemes.Question key s l o fs h e = tt
 curly_done_calm b lexemes.Colon None s l o fs h e = tt
@@ -127,18 +124,18 @@ pub curly_solo_calm :
     (b : Bool) (k : lexemes.LexemeKind) (key : Option KeyStart) (s : Scope) (l : lexemes.Lexeme) (o : OptionsData)
     (fs : List OpenFrame) → Holes fs → nat_le (blocks_open fs) o.block_nesting_limit ≡ true →
     Calm o (X b k key s l)
-        (taken (ended_by (X b k key s l) (InFrames (FlowMappingFrame false Solo ∷ fs))) (X b k key s l))
+    (taken (ended_by (X b k key s l) (InFrames (FlowMappingFrame false Solo ∷ fs))) (X b k key s l))
 curly_solo_calm b (lexemes.Directive directive) key s l o fs h e = tt
 curly_solo_calm b lexemes.DocumentStart key s l o fs h e = tt
 curly_solo_calm b lexemes.DocumentEnd key s l o fs h e = tt
 curly_solo_calm b lexemes.StreamEnd key s l o fs h e = tt
 curly_solo_calm b lexemes.Comma key s l o fs h e =
     ap (λ f. first_fault f None)
-      (count_flat o.block_nesting_limit (blocks_open fs) (InFrames (FlowMappingFrame false Opened ∷ fs)) refl e)
+    (count_flat o.block_nesting_limit (blocks_open fs) (InFrames (FlowMappingFrame false Opened ∷ fs)) refl e)
 curly_solo_calm b (lexemes.Close Square) key s l o fs h e = tt
 curly_solo_calm b (lexemes.Close Curly) key s l o fs h e =
     ap (λ f. first_fault f None)
-      (count_flat o.block_nesting_limit (blocks_open fs) (put_frames l.shown.end fs) (put_count l.shown.end fs h) e)
+    (count_flat o.block_nesting_limit (blocks_open fs) (put_frames l.shown.end fs) (put_count l.shown.end fs h) e)
 curly_solo_calm b lexemes.Dash key s l o fs h e = tt
 curly_solo_calm b lexemes.Question key s l o fs h e = tt
 curly_solo_calm b lexemes.Colon None s l o fs h e = tt
@@ -160,24 +157,24 @@ pub curly_ask_done_calm :
     (b : Bool) (k : lexemes.LexemeKind) (key : Option KeyStart) (s : Scope) (l : lexemes.Lexeme) (o : OptionsData)
     (fs : List OpenFrame) → Holes fs → nat_le (blocks_open fs) o.block_nesting_limit ≡ true →
     Calm o (X b k key s l)
-        (taken (ended_by (X b k key s l) (InFrames (FlowMappingFrame false AskDone ∷ fs))) (X b k key s l))
+    (taken (ended_by (X b k key s l) (InFrames (FlowMappingFrame false AskDone ∷ fs))) (X b k key s l))
 curly_ask_done_calm b (lexemes.Directive directive) key s l o fs h e = tt
 curly_ask_done_calm b lexemes.DocumentStart key s l o fs h e = tt
 curly_ask_done_calm b lexemes.DocumentEnd key s l o fs h e = tt
 curly_ask_done_calm b lexemes.StreamEnd key s l o fs h e = tt
 curly_ask_done_calm b lexemes.Comma key s l o fs h e =
     ap (λ f. first_fault f None)
-      (count_flat o.block_nesting_limit (blocks_open fs) (InFrames (FlowMappingFrame false Opened ∷ fs)) refl e)
+    (count_flat o.block_nesting_limit (blocks_open fs) (InFrames (FlowMappingFrame false Opened ∷ fs)) refl e)
 curly_ask_done_calm b (lexemes.Close Square) key s l o fs h e = tt
 curly_ask_done_calm b (lexemes.Close Curly) key s l o fs h e =
     ap (λ f. first_fault f None)
-      (count_flat o.block_nesting_limit (blocks_open fs) (put_frames l.shown.end fs) (put_count l.shown.end fs h) e)
+    (count_flat o.block_nesting_limit (blocks_open fs) (put_frames l.shown.end fs) (put_count l.shown.end fs h) e)
 curly_ask_done_calm b lexemes.Dash key s l o fs h e = tt
 curly_ask_done_calm b lexemes.Question key s l o fs h e = tt
 curly_ask_done_calm b lexemes.Colon None s l o fs h e =
     ap (λ f. first_fault f None)
-      (count_flat o.block_nesting_limit (blocks_open fs) (InFrames (FlowMappingFrame false (Value l.start) ∷ fs)) refl
-         e)
+    (count_flat o.block_nesting_limit (blocks_open fs) (InFrames (FlowMappingFrame false (Value l.start) ∷ fs)) refl
+    e)
 curly_ask_done_calm b lexemes.Colon (Some n) s l o fs h e = tt
 curly_ask_done_calm true (lexemes.Open Square) key s l o fs h e = tt
 curly_ask_done_calm false (lexemes.Open Square) key s l o fs h e = tt
@@ -196,8 +193,8 @@ pub made_key_done_calm :
     (b : Bool) (k : lexemes.LexemeKind) (key : Option KeyStart) (s : Scope) (l : lexemes.Lexeme) (o : OptionsData)
     (fs : List OpenFrame) → Holes fs → nat_le (blocks_open fs) o.block_nesting_limit ≡ true →
     Calm o (X b k key s l)
-        (taken (ended_by (X b k key s l) (InFrames (FlowMappingFrame true KeyDone ∷ FlowSequenceFrame false ∷ fs)))
-           (X b k key s l))
+    (taken (ended_by (X b k key s l) (InFrames (FlowMappingFrame true KeyDone ∷ FlowSequenceFrame false ∷ fs)))
+    (X b k key s l))
 made_key_done_calm b (lexemes.Directive directive) key s l o fs h e = tt
 made_key_done_calm b lexemes.DocumentStart key s l o fs h e = tt
 made_key_done_calm b lexemes.DocumentEnd key s l o fs h e = tt
@@ -210,8 +207,8 @@ made_key_done_calm b lexemes.Question key s l o fs h e = tt
 made_key_done_calm b lexemes.Colon None s l o fs h e = tt
 made_key_done_calm b lexemes.Colon (Some n) s l o fs h e =
     ap (λ f. first_fault f None)
-      (count_flat o.block_nesting_limit (blocks_open fs)
-         (InFrames (FlowMappingFrame true (Value l.start) ∷ FlowSequenceFrame false ∷ fs)) refl e)
+    (count_flat o.block_nesting_limit (blocks_open fs)
+    (InFrames (FlowMappingFrame true (Value l.start) ∷ FlowSequenceFrame false ∷ fs)) refl e)
 made_key_done_calm true (lexemes.Open Square) key s l o fs h e = tt
 made_key_done_calm false (lexemes.Open Square) key s l o fs h e = tt
 made_key_done_calm true (lexemes.Open Curly) key s l o fs h e = tt
@@ -228,12 +225,12 @@ made_key_done_calm false (lexemes.Scalar style text) key s l o fs h e = tt
 pub made_done_calm :
     (b : Bool) (k : lexemes.LexemeKind) (key : Option KeyStart) (s : Scope) (l : lexemes.Lexeme) (o : OptionsData)
     (fs : List OpenFrame) → Holes fs → nat_le (blocks_open fs) o.block_nesting_limit ≡ true →
-      ((is_comma_kind (terminal_kind k key) || closes_kind Square (terminal_kind k key))
-         || closes_kind Curly (terminal_kind k key))
-        ≡ false →
+    ((is_comma_kind (terminal_kind k key) || closes_kind Square (terminal_kind k key))
+    || closes_kind Curly (terminal_kind k key))
+    ≡ false →
     Calm o (X b k key s l)
-        (taken (ended_by (X b k key s l) (InFrames (FlowMappingFrame true Done ∷ FlowSequenceFrame false ∷ fs)))
-           (X b k key s l))
+    (taken (ended_by (X b k key s l) (InFrames (FlowMappingFrame true Done ∷ FlowSequenceFrame false ∷ fs)))
+    (X b k key s l))
 made_done_calm b (lexemes.Directive directive) key s l o fs h e f = tt
 made_done_calm b lexemes.DocumentStart key s l o fs h e f = tt
 made_done_calm b lexemes.DocumentEnd key s l o fs h e f = tt
@@ -261,10 +258,10 @@ made_done_calm false (lexemes.Scalar style text) key s l o fs h e f = tt
 pub square_ask_done_calm :
     (b : Bool) (k : lexemes.LexemeKind) (key : Option KeyStart) (s : Scope) (l : lexemes.Lexeme) (o : OptionsData)
     (fs : List OpenFrame) → Holes fs → nat_le (blocks_open fs) o.block_nesting_limit ≡ true →
-      not (is_bare_kind (terminal_kind k key)) ≡ false →
+    not (is_bare_kind (terminal_kind k key)) ≡ false →
     Calm o (X b k key s l)
-        (taken (ended_by (X b k key s l) (InFrames (FlowPairFrame AskDone ∷ FlowSequenceFrame false ∷ fs)))
-           (X b k key s l))
+    (taken (ended_by (X b k key s l) (InFrames (FlowPairFrame AskDone ∷ FlowSequenceFrame false ∷ fs)))
+    (X b k key s l))
 square_ask_done_calm b (lexemes.Directive directive) key s l o fs h e f = cc (f)
 square_ask_done_calm b lexemes.DocumentStart key s l o fs h e f = cc (f)
 square_ask_done_calm b lexemes.DocumentEnd key s l o fs h e f = cc (f)
@@ -291,7 +288,7 @@ square_ask_done_calm false (lexemes.Scalar style text) key s l o fs h e f = cc (
 
 pub block_key_calm :
     (b : Bool) (k : lexemes.LexemeKind) (key : Option KeyStart) (s : Scope) (l : lexemes.Lexeme) (o : OptionsData)
-        (c : ℕ)
+    (c : ℕ)
     (fs : List OpenFrame) → Holes fs → nat_le (suc (blocks_open fs)) o.block_nesting_limit ≡ true →
     Calm o (X b k key s l) (taken (ended_by (X b k key s l) (InFrames (MappingFrame c KeyDone ∷ fs))) (X b k key s l))
 block_key_calm b (lexemes.Directive directive) key s l o c fs h e = tt
@@ -306,7 +303,7 @@ block_key_calm b lexemes.Question key s l o c fs h e = tt
 block_key_calm b lexemes.Colon None s l o c fs h e = tt
 block_key_calm b lexemes.Colon (Some n) s l o c fs h e =
     ap (λ f. first_fault f None)
-      (count_flat o.block_nesting_limit (suc (blocks_open fs)) (InFrames (MappingFrame c (Value l.start) ∷ fs)) refl e)
+    (count_flat o.block_nesting_limit (suc (blocks_open fs)) (InFrames (MappingFrame c (Value l.start) ∷ fs)) refl e)
 block_key_calm true (lexemes.Open Square) key s l o c fs h e = tt
 block_key_calm false (lexemes.Open Square) key s l o c fs h e = tt
 block_key_calm true (lexemes.Open Curly) key s l o c fs h e = tt

@@ -1,22 +1,22 @@
 -- A step inside a document, with what stands declared behind it.
 use Rattle.granit_agreement.specs.Fair.{FairAt, frame_ends_at}
-use Rattle.granit_agreement.specs.Good.{Holes, at_root, at_entry, at_key, at_asked, at_value, at_item, at_curly, curly_key, curly_asked, curly_value, made_key, made_value, pair_asked, pair_value, Good, hole, behind_properties, past_entry, key_done, ask_done, pair_done, item_done, curly_key_done, curly_ask_done, curly_solo, curly_done, made_key_done, made_done, square_ask_done, square_done, rooted}
-use Rattle.granit_agreement.specs.Running.{Knows, Comes, NextIs, NextView}
+use Rattle.granit_agreement.specs.Good.{at_root, at_entry, at_key, at_asked, at_value, at_item, at_curly, curly_key, curly_asked, curly_value, made_key, made_value, pair_asked, pair_value, Good, hole, behind_properties, past_entry, key_done, ask_done, pair_done, item_done, curly_key_done, curly_ask_done, curly_solo, curly_done, made_key_done, made_done, square_ask_done, square_done, rooted}
+use Rattle.granit_agreement.specs.Running.{NextView}
 use Rattle.granit_agreement.specs.Stepping.{taken, LimitView, at_kind, knowing, known_behind, moved_on}
 use Rattle.granit_agreement.specs.View.{Beside, terminal_kind, terminal_of, state_of, give_all}
-use Rattle.granit_grammar.specs.EventMachine.{OpenFrame, EventState, IsFresh, HasDirectives, IsRooted, InFrames, IsEnded, Ending, ending, ended_by, EventStep, GoesTo, StopsWith, take_frames}
+use Rattle.granit_grammar.specs.EventMachine.{OpenFrame, IsFresh, HasDirectives, IsRooted, InFrames, IsEnded, Ending, ending, ended_by, EventStep, GoesTo, StopsWith, take_frames}
 use Rattle.granit_grammar.specs.Guarded.{blocks_open}
 use Rattle.granit_language.specs.Node.{TreeProperties}
 use Rattle.granit_language.specs.Room.{Room, continues_node}
 use Rattle.granit_language.specs.Scope.{Scope}
 use Rattle.granit_language.specs.Scoping.{next_scope}
-use Rattle.granit_language.specs.Terminal.{Anchor, Tag, Alias, Property, Scalar, Open, TerminalKind, Directive, DocumentStart, DocumentEnd, TheEnd, Dash, Question, Comma, Colon, Close, Part, At, Terminal, is_stream_kind, is_bare_kind}
+use Rattle.granit_language.specs.Terminal.{Anchor, Tag, Alias, Property, Scalar, Open, TerminalKind, Directive, DocumentStart, DocumentEnd, TheEnd, Colon, Part, At, Terminal, is_stream_kind, is_bare_kind}
 use Rattle.granit_lexemes.specs.Lexeme.{KeyStart}
 use Rattle.granit_machine.specs.BlockSteps.{in_sequence, behind_indicator}
 use Rattle.granit_machine.specs.Frames.{ParserState}
 use Rattle.granit_machine.specs.Parser.{take_token}
 use Rattle.granit_machine.specs.TokenSort.{Token, TokenSort, token_of, token_sort, is_of_stream, BeginsKey, BeginsNode, DashToken, QuestionToken, BareColon, KeyedColon, CommaToken, SequenceCloser, MappingCloser, OfStream}
-use Rattle.std.proofs.Common.{◌≡◌, ℕ, Bool, true, false, not, List, [], ◌∷◌, refl, sym, ap, ◌∙◌, subst, Option, Some, None, Result, Ok, Err}
+use Rattle.std.proofs.Common.{◌≡◌, Bool, true, false, not, List, [], refl, sym, ap, ◌∙◌, subst, Option, None, Result, Ok, Err}
 use Rattle.std.specs.Prelude.{nat_le}
 use Rattle.granit_base.specs.Place.{Mark}
 use Rattle.granit_error.specs.OptionsData.{OptionsData}
@@ -24,7 +24,7 @@ use Rattle.granit_lexemes.specs.Outcome.{Fault}
 use Rattle.granit_lexemes.specs.PlainEvent.{PlainEvent}
 use Rattle.granit_lexemes.specs.Lexeme as lexemes
 use Rattle.granit_agreement.proofs.FrameSteps.{frame_steps}
-use Rattle.granit_agreement.proofs.GoodSteps.{Stands, GoodEnding, ends_well, GoodStep, goes_well, stops_well, after_step, closes_stand, take_stands}
+use Rattle.granit_agreement.proofs.GoodSteps.{GoodEnding, ends_well, GoodStep, goes_well, stops_well, after_step, closes_stand, take_stands}
 use Rattle.granit_agreement.proofs.Sorts.{sort_is}
 
 abbrev X : Bool → lexemes.LexemeKind → Option KeyStart → Scope → lexemes.Lexeme → Terminal
@@ -162,9 +162,11 @@ limit_next o x s last given (Ok p) (GoesTo (InFrames fs) es) h (goes_well g) e q
   beside = moved_on o x h.0.0 (give_all o es given) (knowing s last given);
   is_seen = h.0.1;
   gives = refl;
-  knows =
-      (known_same x.kind s last h.0.0 given (give_all o es given) e, still_pending x.kind s e ∙ q,
-       still_version x.kind s e ∙ v);
+  knows = (
+    known_same x.kind s last h.0.0 given (give_all o es given) e,
+    still_pending x.kind s e ∙ q,
+    still_version x.kind s e ∙ v,
+  );
   passes = h.1;
   comes = g;
 }
@@ -172,9 +174,11 @@ limit_next o x s last given (Ok p) (GoesTo (IsRooted m) es) h (goes_well g) e q 
   beside = moved_on o x h.0.0 (give_all o es given) (knowing s last given);
   is_seen = h.0.1;
   gives = refl;
-  knows =
-      (known_same x.kind s last h.0.0 given (give_all o es given) e, still_pending x.kind s e ∙ q,
-       still_version x.kind s e ∙ v);
+  knows = (
+    known_same x.kind s last h.0.0 given (give_all o es given) e,
+    still_pending x.kind s e ∙ q,
+    still_version x.kind s e ∙ v,
+  );
   passes = h.1;
   comes = rooted;
 }
@@ -210,25 +214,25 @@ frame_by :
     nat_le (blocks_open fs) o.block_nesting_limit ≡ true → is_stream_kind (terminal_kind k key) ≡ stream →
     s.pending ≡ [] → s.version ≡ None →
     NextView o (X b k key s l) s given
-      (take_token o (token_of b (at_kind l k key)) (state_of o (InFrames fs) (knowing s last given)))
-      (taken (ended_by (X b k key s l) (InFrames fs)) (X b k key s l))
+    (take_token o (token_of b (at_kind l k key)) (state_of o (InFrames fs) (knowing s last given)))
+    (taken (ended_by (X b k key s l) (InFrames fs)) (X b k key s l))
 frame_by b k key s l o last given fs false g f n e t q v =
     limit_next o (X b k key s l) s last given
-      (take_token o (token_of b (at_kind l k key)) (state_of o (InFrames fs) (knowing s last given)))
-      (taken (ended_by (X b k key s l) (InFrames fs)) (X b k key s l)) (frame_steps b k key s l o last given fs g f n e)
-      (taken_well (X b k key s l) (ended_by (X b k key s l) (InFrames fs)) (closes_stand (X b k key s l) fs g) t) t q v
+    (take_token o (token_of b (at_kind l k key)) (state_of o (InFrames fs) (knowing s last given)))
+    (taken (ended_by (X b k key s l) (InFrames fs)) (X b k key s l)) (frame_steps b k key s l o last given fs g f n e)
+    (taken_well (X b k key s l) (ended_by (X b k key s l) (InFrames fs)) (closes_stand (X b k key s l) fs g) t) t q v
 frame_by b k key s l o last given fs true g f n e t q v =
     err_next o (X b k key s l) (knowing s last given) s given
-      (take_token o (token_of b (at_kind l k key)) (state_of o (InFrames fs) (knowing s last given)))
-      (taken (ended_by (X b k key s l) (InFrames fs)) (X b k key s l))
-      (subst
-         (λ q.
-            IsErr
-              (take_token o (record { lexeme = at_kind l k key; sort = q })
-                 (state_of o (InFrames fs) (knowing s last given))))
-         (sym (sort_stream (token_sort b key k) ((sort_is b key k).stream ∙ t)))
-         (stream_errs o (at_kind l k key) (X b k key s l) (knowing s last given) fs g t n))
-      (frame_steps b k key s l o last given fs g f n e)
+    (take_token o (token_of b (at_kind l k key)) (state_of o (InFrames fs) (knowing s last given)))
+    (taken (ended_by (X b k key s l) (InFrames fs)) (X b k key s l))
+    (subst
+    (λ q.
+    IsErr
+    (take_token o (record { lexeme = at_kind l k key; sort = q })
+    (state_of o (InFrames fs) (knowing s last given))))
+    (sym (sort_stream (token_sort b key k) ((sort_is b key k).stream ∙ t)))
+    (stream_errs o (at_kind l k key) (X b k key s l) (knowing s last given) fs g t n))
+    (frame_steps b k key s l o last given fs g f n e)
 
 pub frame_next :
     (b : Bool) (k : lexemes.LexemeKind) (key : Option KeyStart) (s : Scope) (l : lexemes.Lexeme) (o : OptionsData)
@@ -236,7 +240,7 @@ pub frame_next :
     FairAt (X b k key s l) (InFrames fs) → frame_ends_at (X b k key s l) (InFrames fs) ≡ false →
     nat_le (blocks_open fs) o.block_nesting_limit ≡ true → s.pending ≡ [] → s.version ≡ None →
     NextView o (X b k key s l) s given
-      (take_token o (token_of b (at_kind l k key)) (state_of o (InFrames fs) (knowing s last given)))
-      (taken (ended_by (X b k key s l) (InFrames fs)) (X b k key s l))
+    (take_token o (token_of b (at_kind l k key)) (state_of o (InFrames fs) (knowing s last given)))
+    (taken (ended_by (X b k key s l) (InFrames fs)) (X b k key s l))
 frame_next b k key s l o last given fs g f n e q v =
     frame_by b k key s l o last given fs (is_stream_kind (terminal_kind k key)) g f n e refl q v

@@ -1,10 +1,10 @@
 -- Every step inside a document: what the parser does and what the grammar's machine takes agree.
 use Rattle.granit_agreement.specs.Fair.{FairAt, frame_ends_at}
-use Rattle.granit_agreement.specs.Good.{Holes, at_root, at_entry, at_key, at_asked, at_value, at_item, at_curly, curly_key, curly_asked, curly_value, made_key, made_value, pair_asked, pair_value, Good, hole, behind_properties, past_entry, key_done, ask_done, pair_done, item_done, curly_key_done, curly_ask_done, curly_solo, curly_done, made_key_done, made_done, square_ask_done, square_done}
-use Rattle.granit_agreement.specs.Stepping.{taken, StepView, MeansView, LimitView, at_kind, knowing}
+use Rattle.granit_agreement.specs.Good.{at_root, at_entry, at_key, at_asked, at_value, at_item, at_curly, curly_key, curly_asked, curly_value, made_key, made_value, pair_asked, pair_value, Good, hole, behind_properties, past_entry, key_done, ask_done, pair_done, item_done, curly_key_done, curly_ask_done, curly_solo, curly_done, made_key_done, made_done, square_ask_done, square_done}
+use Rattle.granit_agreement.specs.Stepping.{taken, StepView, LimitView, at_kind, knowing}
 use Rattle.granit_agreement.specs.Steps.{StepsLimited, Steps, StepsM}
 use Rattle.granit_agreement.specs.View.{Beside, terminal_of, state_of}
-use Rattle.granit_grammar.specs.EventMachine.{OpenFrame, EventState, InFrames, EventStep, GoesTo, StopsWith, ended_by}
+use Rattle.granit_grammar.specs.EventMachine.{OpenFrame, InFrames, EventStep, GoesTo, StopsWith, ended_by}
 use Rattle.granit_grammar.specs.Guarded.{blocks_open}
 use Rattle.granit_language.specs.Scope.{Scope}
 use Rattle.granit_language.specs.Terminal.{Terminal}
@@ -12,7 +12,7 @@ use Rattle.granit_lexemes.specs.Lexeme.{KeyStart}
 use Rattle.granit_machine.specs.Frames.{ParserState}
 use Rattle.granit_machine.specs.Parser.{take_token}
 use Rattle.granit_machine.specs.TokenSort.{token_of}
-use Rattle.std.proofs.Common.{◌≡◌, ℕ, Bool, true, false, List, [], ◌∷◌, refl, Option, Some, None, Result, Ok, Err}
+use Rattle.std.proofs.Common.{◌≡◌, Bool, true, false, List, Option, Result, Ok, Err}
 use Rattle.std.specs.Prelude.{nat_le}
 use Rattle.granit_base.specs.Place.{Mark}
 use Rattle.granit_error.specs.OptionsData.{OptionsData}
@@ -47,8 +47,8 @@ flat_step :
     StepsLimited b k key s l o last given fs
 flat_step b k key s l o last given fs h c =
     means_limited o (X b k key s l) (knowing s last given)
-      (take_token o (token_of b (at_kind l k key)) (state_of o (InFrames fs) (knowing s last given)))
-      (taken (ended_by (X b k key s l) (InFrames fs)) (X b k key s l)) h c
+    (take_token o (token_of b (at_kind l k key)) (state_of o (InFrames fs) (knowing s last given)))
+    (taken (ended_by (X b k key s l) (InFrames fs)) (X b k key s l)) h c
 
 calm_step :
     (b : Bool) (k : lexemes.LexemeKind) (key : Option KeyStart) (s : Scope) (l : lexemes.Lexeme) (o : OptionsData)
@@ -57,8 +57,8 @@ calm_step :
     StepsLimited b k key s l o last given fs
 calm_step b k key s l o last given fs h c =
     calm_limited o (X b k key s l) (knowing s last given)
-      (take_token o (token_of b (at_kind l k key)) (state_of o (InFrames fs) (knowing s last given)))
-      (taken (ended_by (X b k key s l) (InFrames fs)) (X b k key s l)) h c
+    (take_token o (token_of b (at_kind l k key)) (state_of o (InFrames fs) (knowing s last given)))
+    (taken (ended_by (X b k key s l) (InFrames fs)) (X b k key s l)) h c
 
 -- where nothing more ends before the lexeme
 pub frame_steps :
@@ -81,54 +81,54 @@ frame_steps b k key s l o last given fs (hole (at_curly {fs = gs} h)) f n e =
 frame_steps b k key s l o last given fs (hole (curly_key h)) f n e = absurd f
 frame_steps b k key s l o last given fs (hole (curly_asked {fs = gs} h)) f n e =
     flat_step b k key s l o last given fs (flow.curly_asked_steps b k key s l o last given gs h)
-      (curly_asked_flat b k key s l o gs h e)
+    (curly_asked_flat b k key s l o gs h e)
 frame_steps b k key s l o last given fs (hole (curly_value {w = w} {fs = gs} h)) f n e =
     flat_step b k key s l o last given fs (flow.curly_value_steps w b k key s l o last given gs h)
-      (curly_value_flat b k key s l o w gs h e)
+    (curly_value_flat b k key s l o w gs h e)
 frame_steps b k key s l o last given fs (hole (made_key h)) f n e = absurd f
 frame_steps b k key s l o last given fs (hole (made_value {w = w} {fs = gs} h)) f n e =
     flat_step b k key s l o last given fs (flow.made_value_steps w b k key s l o last given gs h (both_false _ _ n f))
-      (made_value_flat b k key s l o w gs h e (both_false _ _ n f))
+    (made_value_flat b k key s l o w gs h e (both_false _ _ n f))
 frame_steps b k key s l o last given fs (hole (pair_asked {fs = gs} h)) f n e =
     flat_step b k key s l o last given fs (flow.pair_asked_steps b k key s l o last given gs h n)
-      (pair_asked_flat b k key s l o gs h e n)
+    (pair_asked_flat b k key s l o gs h e n)
 frame_steps b k key s l o last given fs (hole (pair_value {w = w} {fs = gs} h)) f n e =
     flat_step b k key s l o last given fs (flow.pair_value_steps w b k key s l o last given gs h n)
-      (pair_value_flat b k key s l o w gs h e n)
+    (pair_value_flat b k key s l o w gs h e n)
 frame_steps b k key s l o last given fs (behind_properties {p = p} {fs = gs} g h) f n e =
     behind_properties_steps b k key s l o last given p gs g h f n e
 frame_steps b k key s l o last given fs (past_entry {loose = loose} {c = c} {fs = gs} p h) f n e =
     past_steps b k key s l o last given loose c gs p n e
 frame_steps b k key s l o last given fs (key_done {c = c} {fs = gs} p h) f n e =
     calm_step b k key s l o last given fs (done.key_done_steps c b k key s l o (knowing s last given) gs h)
-      (block_key_calm b k key s l o c gs h e)
+    (block_key_calm b k key s l o c gs h e)
 frame_steps b k key s l o last given fs (ask_done {c = c} {fs = gs} p h) f n e =
     mapping_steps b k key s l o last given c _ gs asked p h n e
 frame_steps b k key s l o last given fs (pair_done {c = c} {fs = gs} p h) f n e =
     mapping_steps b k key s l o last given c _ gs paired p h n e
 frame_steps b k key s l o last given fs (item_done {fs = gs} h) f n e =
     calm_step b k key s l o last given fs (done.item_done_steps b k key s l o (knowing s last given) gs h)
-      (item_done_calm b k key s l o gs h e)
+    (item_done_calm b k key s l o gs h e)
 frame_steps b k key s l o last given fs (curly_key_done {fs = gs} h) f n e =
     calm_step b k key s l o last given fs (done.curly_key_steps b k key s l o (knowing s last given) gs h)
-      (curly_key_done_calm b k key s l o gs h e)
+    (curly_key_done_calm b k key s l o gs h e)
 frame_steps b k key s l o last given fs (curly_ask_done {fs = gs} h) f n e =
     calm_step b k key s l o last given fs (done.curly_asked_steps b k key s l o (knowing s last given) gs h)
-      (curly_ask_done_calm b k key s l o gs h e)
+    (curly_ask_done_calm b k key s l o gs h e)
 frame_steps b k key s l o last given fs (curly_solo {fs = gs} h) f n e =
     calm_step b k key s l o last given fs (done.curly_solo_steps b k key s l o (knowing s last given) gs h)
-      (curly_solo_calm b k key s l o gs h e)
+    (curly_solo_calm b k key s l o gs h e)
 frame_steps b k key s l o last given fs (curly_done {fs = gs} h) f n e =
     calm_step b k key s l o last given fs (done.curly_done_steps b k key s l o (knowing s last given) gs h)
-      (curly_done_calm b k key s l o gs h e)
+    (curly_done_calm b k key s l o gs h e)
 frame_steps b k key s l o last given fs (made_key_done {fs = gs} h) f n e =
     calm_step b k key s l o last given fs (done.made_key_steps b k key s l o (knowing s last given) gs h)
-      (made_key_done_calm b k key s l o gs h e)
+    (made_key_done_calm b k key s l o gs h e)
 frame_steps b k key s l o last given fs (made_done {fs = gs} h) f n e =
     calm_step b k key s l o last given fs
-      (made_done_steps b k key s l o (knowing s last given) gs h (both_false _ _ n f))
-      (made_done_calm b k key s l o gs h e (both_false _ _ n f))
+    (made_done_steps b k key s l o (knowing s last given) gs h (both_false _ _ n f))
+    (made_done_calm b k key s l o gs h e (both_false _ _ n f))
 frame_steps b k key s l o last given fs (square_ask_done {fs = gs} h) f n e =
     calm_step b k key s l o last given fs (square_asked_steps b k key s l o (knowing s last given) gs h n)
-      (square_ask_done_calm b k key s l o gs h e n)
+    (square_ask_done_calm b k key s l o gs h e n)
 frame_steps b k key s l o last given fs (square_done h) f n e = cc (n)

@@ -1,15 +1,14 @@
 -- Steps of the grammar's machine lead to states that it comes to.
-use Rattle.granit_agreement.specs.Good.{Holes, at_root, at_entry, at_key, at_asked, at_value, at_item, at_curly, curly_key, curly_asked, curly_value, made_key, made_value, pair_asked, pair_value, Good, hole, behind_properties, past_entry, key_done, ask_done, pair_done, item_done, curly_key_done, curly_ask_done, curly_solo, curly_done, made_key_done, made_done, square_ask_done, square_done, GoodProperties, IsPositive}
-use Rattle.granit_agreement.specs.Stepping.{taken}
-use Rattle.granit_grammar.specs.EventMachine.{Key, Asking, AskDone, Done, Value, OpenFrame, PropertiesFrame, SequenceFrame, MappingFrame, FlowSequenceFrame, FlowMappingFrame, FlowPairFrame, past_sequence, past_mapping, past_asked, past_curly, past_curly_asked, past_made, past_square_asked, frames_empty, nothing_event, nothing_end, frames_room, frames_indent, EventState, IsRooted, InFrames, Ending, ending, with_event, finish_frames, ended_by, EventStep, GoesTo, StopsWith, after_events, if_gives, put_frames, flow_frame, part_frames, PairSite, BlockSite, FlowSite, entry_frames, begin_pair_frames, take_frames, want_frames, stop_kind}
+use Rattle.granit_agreement.specs.Good.{Holes, at_root, at_entry, at_key, at_asked, at_value, at_item, at_curly, curly_key, curly_asked, curly_value, made_key, made_value, pair_asked, pair_value, Good, hole, behind_properties, past_entry, key_done, ask_done, pair_done, item_done, curly_key_done, curly_ask_done, curly_solo, curly_done, made_key_done, made_done, square_ask_done, square_done, IsPositive}
+use Rattle.granit_grammar.specs.EventMachine.{Key, AskDone, Done, Value, OpenFrame, PropertiesFrame, SequenceFrame, MappingFrame, FlowSequenceFrame, FlowMappingFrame, FlowPairFrame, past_sequence, past_mapping, past_asked, past_curly, past_curly_asked, past_made, past_square_asked, frames_empty, nothing_event, nothing_end, frames_room, frames_indent, EventState, IsRooted, InFrames, Ending, ending, with_event, finish_frames, ended_by, EventStep, GoesTo, StopsWith, after_events, if_gives, put_frames, part_frames, BlockSite, FlowSite, entry_frames, begin_pair_frames, take_frames, want_frames, stop_kind}
 use Rattle.granit_language.specs.Choice.{choose}
 use Rattle.granit_language.specs.GrammarFault.{GrammarFault, ExpectedBlockSequenceEntry, ExpectedBlockMappingKey}
 use Rattle.granit_language.specs.Node.{TreeProperties, NoProperties, One, Two}
 use Rattle.granit_language.specs.Room.{BlockIn, FlowIn, behind_property, room_behind, right_fits, loose_fits, indicates, opens, part_fits, differ, continues_node, sequence_ends, ask_over}
-use Rattle.granit_language.specs.Terminal.{PartKind, Alias, Property, Scalar, Open, TerminalKind, Directive, DocumentStart, DocumentEnd, TheEnd, Dash, Question, Comma, Colon, Close, Part, At, Terminal, terminal, edge, stands_left, entry_in, is_comma_kind, closes_kind}
+use Rattle.granit_language.specs.Terminal.{PartKind, Alias, Property, Scalar, Open, TerminalKind, Dash, Question, Comma, Colon, Close, Part, At, Terminal, terminal, edge, stands_left, entry_in, is_comma_kind, closes_kind}
 use Rattle.granit_language.specs.TreeEvents.{TreeEvent, SequenceEnds, MappingEnds, pointed, null, alone_event, properties_end, mapping_start, sequence_start, pair_start}
 use Rattle.granit_lexemes.specs.declared.layout.Bracket.TheVariants.{Square, Curly}
-use Rattle.std.proofs.Common.{◌≡◌, ℕ, Bool, true, false, ◌||◌, ◌==◌, List, [], ◌∷◌, refl, sym, subst, Option, Some, None}
+use Rattle.std.proofs.Common.{◌≡◌, ℕ, Bool, true, false, ◌||◌, ◌==◌, List, [], ◌∷◌, refl, Some, None}
 use Rattle.granit_base.specs.Place.{Mark}
 
 -- inside a document or behind its root
@@ -67,54 +66,54 @@ put_stands e fs (pair_value h) = square_done h
 
 past_sequence_well :
     (x : Terminal) (loose : Bool) (c : ℕ) (fs : List OpenFrame) (on : Ending) → IsPositive c → Holes fs →
-      GoodEnding on →
+    GoodEnding on →
     GoodEnding (past_sequence x loose c fs on)
 past_sequence_well x loose c fs on p h g =
     either_ending (sequence_ends loose c x) (with_event (pointed SequenceEnds x.at.start) on)
-      (ending (InFrames (SequenceFrame loose c None ∷ fs)) []) (with_ending (pointed SequenceEnds x.at.start) on g)
-      (ends_well (past_entry p h))
+    (ending (InFrames (SequenceFrame loose c None ∷ fs)) []) (with_ending (pointed SequenceEnds x.at.start) on g)
+    (ends_well (past_entry p h))
 
 past_mapping_well :
     (x : Terminal) (c : ℕ) (fs : List OpenFrame) (on : Ending) → IsPositive c → Holes fs → GoodEnding on →
     GoodEnding (past_mapping x c fs on)
 past_mapping_well x c fs on p h g =
     either_ending (stands_left x c) (with_event (pointed MappingEnds x.at.start) on)
-      (ending (InFrames (MappingFrame c Done ∷ fs)) []) (with_ending (pointed MappingEnds x.at.start) on g)
-      (ends_well (pair_done p h))
+    (ending (InFrames (MappingFrame c Done ∷ fs)) []) (with_ending (pointed MappingEnds x.at.start) on g)
+    (ends_well (pair_done p h))
 
 past_asked_well :
     (x : Terminal) (c : ℕ) (fs : List OpenFrame) (on : Ending) → IsPositive c → Holes fs → GoodEnding on →
     GoodEnding (past_asked x c fs on)
 past_asked_well x c fs on p h g =
     either_ending (ask_over (BlockIn c) x) (with_event (null x.at.start None) (past_mapping x c fs on))
-      (ending (InFrames (MappingFrame c AskDone ∷ fs)) [])
-      (with_ending (null x.at.start None) (past_mapping x c fs on) (past_mapping_well x c fs on p h g))
-      (ends_well (ask_done p h))
+    (ending (InFrames (MappingFrame c AskDone ∷ fs)) [])
+    (with_ending (null x.at.start None) (past_mapping x c fs on) (past_mapping_well x c fs on p h g))
+    (ends_well (ask_done p h))
 
 past_curly_well : (x : Terminal) (fs : List OpenFrame) → Holes fs → GoodEnding (past_curly_asked x fs)
 past_curly_well x fs h =
     either_ending (ask_over (FlowIn Curly) x) (with_event (null x.at.start None) (past_curly fs))
-      (ending (InFrames (FlowMappingFrame false AskDone ∷ fs)) []) (ends_well (curly_done h))
-          (ends_well (curly_ask_done h))
+    (ending (InFrames (FlowMappingFrame false AskDone ∷ fs)) []) (ends_well (curly_done h))
+    (ends_well (curly_ask_done h))
 
 past_made_well :
     (x : Terminal) (fs : List OpenFrame) (on : Ending) → Holes fs → GoodEnding on →
     GoodEnding (past_made x (FlowSequenceFrame false ∷ fs) on)
 past_made_well x fs on h g =
     either_ending (is_comma_kind x.kind || closes_kind Square x.kind) (with_event (pointed MappingEnds x.at.start) on)
-      (ending (InFrames (FlowMappingFrame true Done ∷ FlowSequenceFrame false ∷ fs)) [])
-      (with_ending (pointed MappingEnds x.at.start) on g) (ends_well (made_done h))
+    (ending (InFrames (FlowMappingFrame true Done ∷ FlowSequenceFrame false ∷ fs)) [])
+    (with_ending (pointed MappingEnds x.at.start) on g) (ends_well (made_done h))
 
 past_square_well :
     (x : Terminal) (fs : List OpenFrame) (on : Ending) → Holes fs → GoodEnding on →
     GoodEnding (past_square_asked x (FlowSequenceFrame false ∷ fs) on)
 past_square_well x fs on h g =
     either_ending (ask_over (FlowIn Square) x)
-      (with_event (null x.at.start None) (with_event (pointed MappingEnds x.at.start) on))
-      (ending (InFrames (FlowPairFrame AskDone ∷ FlowSequenceFrame false ∷ fs)) [])
-      (with_ending (null x.at.start None) (with_event (pointed MappingEnds x.at.start) on)
-         (with_ending (pointed MappingEnds x.at.start) on g))
-      (ends_well (square_ask_done h))
+    (with_event (null x.at.start None) (with_event (pointed MappingEnds x.at.start) on))
+    (ending (InFrames (FlowPairFrame AskDone ∷ FlowSequenceFrame false ∷ fs)) [])
+    (with_ending (null x.at.start None) (with_event (pointed MappingEnds x.at.start) on)
+    (with_ending (pointed MappingEnds x.at.start) on g))
+    (ends_well (square_ask_done h))
 
 finish_ends : (x : Terminal) (e : Mark) (fs : List OpenFrame) → Holes fs → GoodEnding (finish_frames x e fs)
 finish_ends x e fs at_root = ends_well tt
@@ -142,7 +141,7 @@ hole_closes :
     GoodEnding (choose b (with_event e (finish_frames x m fs)) (ending (InFrames fs) []))
 hole_closes b e x m fs h =
     either_ending b (with_event e (finish_frames x m fs)) (ending (InFrames fs) [])
-      (with_ending e (finish_frames x m fs) (finish_ends x m fs h)) (ends_well (hole h))
+    (with_ending e (finish_frames x m fs) (finish_ends x m fs h)) (ends_well (hole h))
 
 pub closes_stand : (x : Terminal) (fs : List OpenFrame) → Good (InFrames fs) → GoodEnding (ended_by x (InFrames fs))
 closes_stand x fs (hole at_root) = hole_closes (frames_empty fs x) (nothing_event x fs) x (nothing_end fs) fs at_root
@@ -174,11 +173,11 @@ closes_stand x fs (hole (pair_value h)) =
     hole_closes (frames_empty fs x) (nothing_event x fs) x (nothing_end fs) fs (pair_value h)
 closes_stand x fs (behind_properties {p = p} {fs = gs} g h) =
     either_ending (continues_node (behind_property (frames_room gs)) p x.kind x.at)
-      (ending (InFrames (PropertiesFrame p ∷ gs)) [])
-      (with_event (alone_event p (frames_indent gs)) (finish_frames x (properties_end p) gs))
-          (ends_well (behind_properties g h))
-      (with_ending (alone_event p (frames_indent gs)) (finish_frames x (properties_end p) gs)
-           (finish_ends x (properties_end p) gs h))
+    (ending (InFrames (PropertiesFrame p ∷ gs)) [])
+    (with_event (alone_event p (frames_indent gs)) (finish_frames x (properties_end p) gs))
+    (ends_well (behind_properties g h))
+    (with_ending (alone_event p (frames_indent gs)) (finish_frames x (properties_end p) gs)
+    (finish_ends x (properties_end p) gs h))
 closes_stand x fs (past_entry {loose = loose} {c = c} {fs = gs} p h) =
     past_sequence_well x loose c gs (finish_frames x x.at.start gs) p h (finish_ends x x.at.start gs h)
 closes_stand x fs (key_done p h) = ends_well (key_done p h)
@@ -209,7 +208,7 @@ part_stands stop fs (Two k j m q) (Alias name) i h = stops_well
 part_stands stop fs NoProperties (Property k) i h = goes_well (behind_properties tt h)
 part_stands stop fs (One m j) (Property k) i h =
     if_step (differ m k) stop (GoesTo (InFrames (PropertiesFrame (Two m j k i) ∷ fs)) [])
-      (λ e. goes_well (behind_properties e h))
+    (λ e. goes_well (behind_properties e h))
 part_stands stop fs (Two k j m q) (Property r) i h = stops_well
 part_stands stop fs NoProperties (Scalar style text) i h = goes_well (put_stands i.shown.end fs h)
 part_stands stop fs (One k j) (Scalar style text) i h = goes_well (put_stands i.shown.end fs h)
@@ -227,7 +226,7 @@ block_entry :
     GoodStep (entry_frames stop (BlockSite c fs) kind i)
 block_entry stop (Part k) c i fs g h =
     after_step [] (part_frames stop (MappingFrame c Key ∷ fs) NoProperties k i)
-      (part_stands stop (MappingFrame c Key ∷ fs) NoProperties k i (at_key g h))
+    (part_stands stop (MappingFrame c Key ∷ fs) NoProperties k i (at_key g h))
 block_entry stop Question c i fs g h = goes_well (hole (at_asked g h))
 block_entry stop (Colon None) c i fs g h = goes_well (hole (at_value g h))
 block_entry stop (Colon (Some n)) c i fs g h = stops_well
@@ -238,8 +237,8 @@ square_entry :
     GoodStep (entry_frames stop (FlowSite Square fs) kind i)
 square_entry stop (Part k) i fs h =
     after_step (pair_start (Part k) i ∷ [])
-      (part_frames stop (FlowMappingFrame true Key ∷ FlowSequenceFrame false ∷ fs) NoProperties k i)
-      (part_stands stop (FlowMappingFrame true Key ∷ FlowSequenceFrame false ∷ fs) NoProperties k i (made_key h))
+    (part_frames stop (FlowMappingFrame true Key ∷ FlowSequenceFrame false ∷ fs) NoProperties k i)
+    (part_stands stop (FlowMappingFrame true Key ∷ FlowSequenceFrame false ∷ fs) NoProperties k i (made_key h))
 square_entry stop Question i fs h = goes_well (hole (pair_asked h))
 square_entry stop (Colon None) i fs h = goes_well (hole (made_value h))
 square_entry stop (Colon (Some n)) i fs h = stops_well
@@ -250,7 +249,7 @@ curly_entry :
     GoodStep (entry_frames stop (FlowSite Curly fs) kind i)
 curly_entry stop (Part k) i fs h =
     after_step [] (part_frames stop (FlowMappingFrame false Key ∷ fs) NoProperties k i)
-      (part_stands stop (FlowMappingFrame false Key ∷ fs) NoProperties k i (curly_key h))
+    (part_stands stop (FlowMappingFrame false Key ∷ fs) NoProperties k i (curly_key h))
 curly_entry stop Question i fs h = goes_well (hole (curly_asked h))
 curly_entry stop (Colon None) i fs h = goes_well (hole (curly_value h))
 curly_entry stop (Colon (Some n)) i fs h = stops_well
@@ -261,48 +260,48 @@ begin_stands :
     GoodStep (begin_pair_frames stop fs p kind i)
 begin_stands stop fs (One k j) kind i h =
     after_step (mapping_start (One k j) (terminal kind i) (frames_indent fs) ∷ [])
-      (entry_frames stop (BlockSite (edge i) fs) kind i) (block_entry stop kind (edge i) i fs tt h)
+    (entry_frames stop (BlockSite (edge i) fs) kind i) (block_entry stop kind (edge i) i fs tt h)
 begin_stands stop fs (Two k j m q) kind i h =
     after_step (mapping_start (Two k j m q) (terminal kind i) (frames_indent fs) ∷ [])
-      (entry_frames stop (BlockSite (edge i) fs) kind i) (block_entry stop kind (edge i) i fs tt h)
+    (entry_frames stop (BlockSite (edge i) fs) kind i) (block_entry stop kind (edge i) i fs tt h)
 begin_stands stop fs NoProperties kind i (at_item h) = square_entry stop kind i _ h
 begin_stands stop fs NoProperties kind i (at_curly h) = curly_entry stop kind i _ h
 begin_stands stop fs NoProperties kind i at_root =
     after_step (mapping_start NoProperties (terminal kind i) (frames_indent fs) ∷ [])
-      (entry_frames stop (BlockSite (edge i) fs) kind i) (block_entry stop kind (edge i) i fs tt at_root)
+    (entry_frames stop (BlockSite (edge i) fs) kind i) (block_entry stop kind (edge i) i fs tt at_root)
 begin_stands stop fs NoProperties kind i (at_entry p h) =
     after_step (mapping_start NoProperties (terminal kind i) (frames_indent fs) ∷ [])
-      (entry_frames stop (BlockSite (edge i) fs) kind i) (block_entry stop kind (edge i) i fs tt (at_entry p h))
+    (entry_frames stop (BlockSite (edge i) fs) kind i) (block_entry stop kind (edge i) i fs tt (at_entry p h))
 begin_stands stop fs NoProperties kind i (at_key p h) =
     after_step (mapping_start NoProperties (terminal kind i) (frames_indent fs) ∷ [])
-      (entry_frames stop (BlockSite (edge i) fs) kind i) (block_entry stop kind (edge i) i fs tt (at_key p h))
+    (entry_frames stop (BlockSite (edge i) fs) kind i) (block_entry stop kind (edge i) i fs tt (at_key p h))
 begin_stands stop fs NoProperties kind i (at_asked p h) =
     after_step (mapping_start NoProperties (terminal kind i) (frames_indent fs) ∷ [])
-      (entry_frames stop (BlockSite (edge i) fs) kind i) (block_entry stop kind (edge i) i fs tt (at_asked p h))
+    (entry_frames stop (BlockSite (edge i) fs) kind i) (block_entry stop kind (edge i) i fs tt (at_asked p h))
 begin_stands stop fs NoProperties kind i (at_value p h) =
     after_step (mapping_start NoProperties (terminal kind i) (frames_indent fs) ∷ [])
-      (entry_frames stop (BlockSite (edge i) fs) kind i) (block_entry stop kind (edge i) i fs tt (at_value p h))
+    (entry_frames stop (BlockSite (edge i) fs) kind i) (block_entry stop kind (edge i) i fs tt (at_value p h))
 begin_stands stop fs NoProperties kind i (curly_key h) =
     after_step (mapping_start NoProperties (terminal kind i) (frames_indent fs) ∷ [])
-      (entry_frames stop (BlockSite (edge i) fs) kind i) (block_entry stop kind (edge i) i fs tt (curly_key h))
+    (entry_frames stop (BlockSite (edge i) fs) kind i) (block_entry stop kind (edge i) i fs tt (curly_key h))
 begin_stands stop fs NoProperties kind i (curly_asked h) =
     after_step (mapping_start NoProperties (terminal kind i) (frames_indent fs) ∷ [])
-      (entry_frames stop (BlockSite (edge i) fs) kind i) (block_entry stop kind (edge i) i fs tt (curly_asked h))
+    (entry_frames stop (BlockSite (edge i) fs) kind i) (block_entry stop kind (edge i) i fs tt (curly_asked h))
 begin_stands stop fs NoProperties kind i (curly_value h) =
     after_step (mapping_start NoProperties (terminal kind i) (frames_indent fs) ∷ [])
-      (entry_frames stop (BlockSite (edge i) fs) kind i) (block_entry stop kind (edge i) i fs tt (curly_value h))
+    (entry_frames stop (BlockSite (edge i) fs) kind i) (block_entry stop kind (edge i) i fs tt (curly_value h))
 begin_stands stop fs NoProperties kind i (made_key h) =
     after_step (mapping_start NoProperties (terminal kind i) (frames_indent fs) ∷ [])
-      (entry_frames stop (BlockSite (edge i) fs) kind i) (block_entry stop kind (edge i) i fs tt (made_key h))
+    (entry_frames stop (BlockSite (edge i) fs) kind i) (block_entry stop kind (edge i) i fs tt (made_key h))
 begin_stands stop fs NoProperties kind i (made_value h) =
     after_step (mapping_start NoProperties (terminal kind i) (frames_indent fs) ∷ [])
-      (entry_frames stop (BlockSite (edge i) fs) kind i) (block_entry stop kind (edge i) i fs tt (made_value h))
+    (entry_frames stop (BlockSite (edge i) fs) kind i) (block_entry stop kind (edge i) i fs tt (made_value h))
 begin_stands stop fs NoProperties kind i (pair_asked h) =
     after_step (mapping_start NoProperties (terminal kind i) (frames_indent fs) ∷ [])
-      (entry_frames stop (BlockSite (edge i) fs) kind i) (block_entry stop kind (edge i) i fs tt (pair_asked h))
+    (entry_frames stop (BlockSite (edge i) fs) kind i) (block_entry stop kind (edge i) i fs tt (pair_asked h))
 begin_stands stop fs NoProperties kind i (pair_value h) =
     after_step (mapping_start NoProperties (terminal kind i) (frames_indent fs) ∷ [])
-      (entry_frames stop (BlockSite (edge i) fs) kind i) (block_entry stop kind (edge i) i fs tt (pair_value h))
+    (entry_frames stop (BlockSite (edge i) fs) kind i) (block_entry stop kind (edge i) i fs tt (pair_value h))
 
 close_stands :
     (fs : List OpenFrame) (p : TreeProperties) (i : At) → Holes fs →
@@ -353,30 +352,30 @@ close_stands fs NoProperties i (pair_value h) = (stops_well, stops_well)
 abbrev Dashed : Bool → TreeProperties → At → List OpenFrame → EventStep
 Dashed loose p i fs =
     GoesTo (InFrames (SequenceFrame loose (edge i) (Some i.end) ∷ fs))
-      (sequence_start p loose i (frames_indent fs) ∷ [])
+    (sequence_start p loose i (frames_indent fs) ∷ [])
 
 pub want_stands :
     (fs : List OpenFrame) (p : TreeProperties) (kind : TerminalKind) (i : At) → Holes fs →
-      GoodStep (want_frames fs p kind i)
+    GoodStep (want_frames fs p kind i)
 want_stands fs p (Part k) i h =
     either_step (opens (room_behind p (frames_room fs)) i) (begin_pair_frames (stop_kind fs) fs p (Part k) i)
-      (if_gives (part_fits (room_behind p (frames_room fs)) i) (stop_kind fs) (part_frames (stop_kind fs) fs p k i))
-      (begin_stands (stop_kind fs) fs p (Part k) i h)
-      (if_step (part_fits (room_behind p (frames_room fs)) i) (stop_kind fs) (part_frames (stop_kind fs) fs p k i)
-         (λ e. part_stands (stop_kind fs) fs p k i h))
+    (if_gives (part_fits (room_behind p (frames_room fs)) i) (stop_kind fs) (part_frames (stop_kind fs) fs p k i))
+    (begin_stands (stop_kind fs) fs p (Part k) i h)
+    (if_step (part_fits (room_behind p (frames_room fs)) i) (stop_kind fs) (part_frames (stop_kind fs) fs p k i)
+    (λ e. part_stands (stop_kind fs) fs p k i h))
 want_stands fs p Dash i h =
     either_step (loose_fits (room_behind p (frames_room fs)) (edge i)) (Dashed true p i fs)
-      (if_gives (right_fits (room_behind p (frames_room fs)) (edge i)) (stop_kind fs) (Dashed false p i fs))
-      (goes_well (hole (at_entry tt h)))
-      (if_step (right_fits (room_behind p (frames_room fs)) (edge i)) (stop_kind fs) (Dashed false p i fs)
-         (λ e. goes_well (hole (at_entry tt h))))
+    (if_gives (right_fits (room_behind p (frames_room fs)) (edge i)) (stop_kind fs) (Dashed false p i fs))
+    (goes_well (hole (at_entry tt h)))
+    (if_step (right_fits (room_behind p (frames_room fs)) (edge i)) (stop_kind fs) (Dashed false p i fs)
+    (λ e. goes_well (hole (at_entry tt h))))
 want_stands fs p Question i h =
     if_step (indicates (room_behind p (frames_room fs)) i) (stop_kind fs)
-        (begin_pair_frames (stop_kind fs) fs p Question i)
-      (λ e. begin_stands (stop_kind fs) fs p Question i h)
+    (begin_pair_frames (stop_kind fs) fs p Question i)
+    (λ e. begin_stands (stop_kind fs) fs p Question i h)
 want_stands fs p (Colon None) i h =
     if_step (indicates (room_behind p (frames_room fs)) i) (stop_kind fs)
-      (begin_pair_frames (stop_kind fs) fs p (Colon None) i) (λ e. begin_stands (stop_kind fs) fs p (Colon None) i h)
+    (begin_pair_frames (stop_kind fs) fs p (Colon None) i) (λ e. begin_stands (stop_kind fs) fs p (Colon None) i h)
 want_stands fs p (Colon (Some n)) i h = stops_well
 want_stands fs p (Close Square) i h = (close_stands fs p i h).0
 want_stands fs p (Close Curly) i h = (close_stands fs p i h).1
@@ -385,7 +384,7 @@ want_stands fs p kind i h = stops_well
 -- where nothing ends before a lexeme
 pub take_stands :
     (fs : List OpenFrame) (kind : TerminalKind) (i : At) → Good (InFrames fs) →
-      GoodStep (take_frames (InFrames fs) kind i)
+    GoodStep (take_frames (InFrames fs) kind i)
 take_stands fs kind i (hole at_root) = want_stands fs NoProperties kind i at_root
 take_stands fs kind i (hole (at_entry p h)) = want_stands fs NoProperties kind i (at_entry p h)
 take_stands fs kind i (hole (at_key p h)) = want_stands fs NoProperties kind i (at_key p h)
@@ -403,20 +402,20 @@ take_stands fs kind i (hole (pair_value h)) = want_stands fs NoProperties kind i
 take_stands fs kind i (behind_properties {p = p} {fs = gs} g h) = want_stands gs p kind i h
 take_stands fs Dash i (past_entry {loose = loose} {c = c} {fs = gs} p h) =
     if_step (edge i == c) ExpectedBlockSequenceEntry (GoesTo (InFrames (SequenceFrame loose c (Some i.end) ∷ gs)) [])
-      (λ e. goes_well (hole (at_entry p h)))
+    (λ e. goes_well (hole (at_entry p h)))
 take_stands fs kind i (past_entry p h) = stops_well
 take_stands fs (Colon (Some n)) i (key_done p h) = goes_well (hole (at_value p h))
 take_stands fs (Colon None) i (key_done p h) = stops_well
 take_stands fs kind i (key_done p h) = stops_well
 take_stands fs (Colon None) i (ask_done {c = c} {fs = gs} p h) =
     if_step (edge i == c) ExpectedBlockMappingKey (GoesTo (InFrames (MappingFrame c (Value i.start) ∷ gs)) [])
-      (λ e. goes_well (hole (at_value p h)))
+    (λ e. goes_well (hole (at_value p h)))
 take_stands fs (Colon (Some n)) i (ask_done p h) = stops_well
 take_stands fs kind i (ask_done p h) = stops_well
 take_stands fs kind i (pair_done {c = c} {fs = gs} p h) =
     if_step (entry_in (terminal kind i) c) ExpectedBlockMappingKey
-        (entry_frames ExpectedBlockMappingKey (BlockSite c gs) kind i)
-      (λ e. block_entry ExpectedBlockMappingKey kind c i gs p h)
+    (entry_frames ExpectedBlockMappingKey (BlockSite c gs) kind i)
+    (λ e. block_entry ExpectedBlockMappingKey kind c i gs p h)
 take_stands fs Comma i (item_done h) = goes_well (hole (at_item h))
 take_stands fs (Close Square) i (item_done {fs = gs} h) = goes_well (put_stands i.shown.end gs h)
 take_stands fs (Close Curly) i (item_done h) = stops_well

@@ -1,29 +1,27 @@
 -- Steps in a block mapping: behind `?`, its key, `:` and its value.
-use Rattle.granit_agreement.specs.Fair.{frame_ends_at}
 use Rattle.granit_agreement.specs.Good.{Holes, at_key, at_asked, at_value, IsPositive}
-use Rattle.granit_agreement.specs.Stepping.{taken, MeansView, LimitView, at_kind, knowing}
+use Rattle.granit_agreement.specs.Stepping.{taken, LimitView, at_kind, knowing}
 use Rattle.granit_agreement.specs.Steps.{StepsLimited, On, TokenOn, PartsAgree}
-use Rattle.granit_agreement.specs.View.{Beside, terminal_kind, terminal_of, at_of, state_of, give_all, stage_of}
-use Rattle.granit_grammar.specs.EventMachine.{PairAt, Key, Asking, AskDone, Done, Value, OpenFrame, MappingFrame, EventState, InFrames, Ending, ending, with_event, finish_frames, frames_empty, nothing_frames, ended_by, EventStep, GoesTo, StopsWith, after_events, if_gives, take_frames, want_frames, part_frames, entry_frames, BlockSite}
+use Rattle.granit_agreement.specs.View.{terminal_kind, terminal_of, at_of, state_of, give_all, stage_of}
+use Rattle.granit_grammar.specs.EventMachine.{PairAt, Key, Asking, AskDone, Done, Value, OpenFrame, MappingFrame, EventState, InFrames, Ending, ending, with_event, finish_frames, nothing_frames, ended_by, GoesTo, after_events, if_gives, take_frames, want_frames, part_frames, entry_frames, BlockSite}
 use Rattle.granit_grammar.specs.Guarded.{blocks_open, first_fault}
 use Rattle.granit_language.specs.Choice.{choose}
-use Rattle.granit_language.specs.GrammarFault.{GrammarFault, UnexpectedEofBlockMapping, ExpectedBlockMappingKey, fault_of}
+use Rattle.granit_language.specs.GrammarFault.{UnexpectedEofBlockMapping, ExpectedBlockMappingKey, fault_of}
 use Rattle.granit_language.specs.Node.{NoProperties}
 use Rattle.granit_language.specs.Scope.{Scope}
 use Rattle.granit_language.specs.Telling.{one_less}
-use Rattle.granit_language.specs.Terminal.{Anchor, Tag, Part, PartKind, Alias, Property, Scalar, Open, Question, Colon, Terminal, TerminalKind, At, terminal, stands_left, stands_in, entry_in, bare_in, is_bare_kind, begins_entry_kind}
+use Rattle.granit_language.specs.Terminal.{Anchor, Tag, Part, PartKind, Alias, Property, Scalar, Open, Colon, Terminal, TerminalKind, At, terminal, stands_left, stands_in, entry_in, bare_in, is_bare_kind, begins_entry_kind}
 use Rattle.granit_language.specs.TreeEvents.{TreeEvent, null, pointed, MappingEnds}
 use Rattle.granit_lexemes.specs.Lexeme.{KeyStart}
 use Rattle.granit_lexemes.specs.declared.layout.Bracket.TheVariants.{Square, Curly}
 use Rattle.granit_machine.specs.BlockSteps.{behind_indicator, next_pair, takes_node, mapping_at, mapping_colon, bare_colon_in_mapping}
 use Rattle.granit_machine.specs.Frames.{ParserState}
-use Rattle.granit_machine.specs.Giving.{put, null_at, give_empty}
-use Rattle.granit_machine.specs.NodeEnds.{owed, waits, with_top}
-use Rattle.granit_machine.specs.NodeSteps.{bare, node}
+use Rattle.granit_machine.specs.Giving.{put, null_at}
+use Rattle.granit_machine.specs.NodeEnds.{owed}
+use Rattle.granit_machine.specs.NodeSteps.{bare}
 use Rattle.granit_machine.specs.Parser.{take_token}
-use Rattle.granit_machine.specs.TokenSort.{TokenSort, token_of, token_sort, begins_node, begins_pair, is_dash_token, column_of_token, token_column, is_in_column, is_right_of, DashToken}
-use Rattle.std.proofs.Common.{◌≡◌, ℕ, suc, zero, Bool, true, false, arith, ◌||◌, ◌&&◌, ◌==◌, not, nat_lt, List, [], ◌∷◌, ◌++◌, refl, sym, ap, ap₂, ◌∙◌, subst, Option, Some, None, Result, Ok, Err}
-use Rattle.std.proofs.lemmas.Bool.Decides.{nat_tests}
+use Rattle.granit_machine.specs.TokenSort.{token_of, token_sort, begins_node, is_dash_token, token_column, is_in_column, is_right_of, DashToken}
+use Rattle.std.proofs.Common.{◌≡◌, ℕ, suc, Bool, true, false, ◌||◌, ◌&&◌, not, List, [], ◌∷◌, refl, sym, ap, ap₂, ◌∙◌, subst, Option, Some, None, Result, Err}
 use Rattle.std.specs.Prelude.{nat_le, if◌then◌else◌}
 use Rattle.granit_base.specs.Place.{Mark}
 use Rattle.granit_error.specs.OptionsData.{OptionsData}
@@ -33,12 +31,12 @@ use Rattle.granit_lexemes.specs.Lexeme as lexemes
 use Rattle.granit_machine.specs.Frames as machine
 use Rattle.granit_agreement.proofs.BlockNodes.{part_limited}
 use Rattle.granit_agreement.proofs.Dashes.{DashOr, a_dash, another, dash_or}
-use Rattle.granit_agreement.proofs.NodeTests.{joined_none, Tested, NodeOf, RightOfHole, node_tested, dash_tested}
+use Rattle.granit_agreement.proofs.NodeTests.{joined_none, Tested, NodeOf, node_tested, dash_tested}
 use Rattle.granit_agreement.proofs.PartSteps.{scalar_parts, square_parts, curly_parts, anchor_parts, tag_parts, alias_parts}
 use Rattle.granit_agreement.proofs.Pops.{flushed}
-use Rattle.granit_agreement.proofs.SequencePlaces.{stays_taken, begins_right, column_is, same_not_left}
-use Rattle.granit_agreement.proofs.Sorts.{sort_is, right_column, stands_same, entry_same}
-use Rattle.granit_agreement.proofs.Views.{after_nothing, count_flat, events_before}
+use Rattle.granit_agreement.proofs.SequencePlaces.{stays_taken, begins_right}
+use Rattle.granit_agreement.proofs.Sorts.{stands_same, entry_same}
+use Rattle.granit_agreement.proofs.Views.{count_flat, events_before}
 use Rattle.granit_agreement.proofs.Wants.{asked_hole, value_hole, key_entry}
 
 abbrev X : Bool → lexemes.LexemeKind → Option KeyStart → Scope → lexemes.Lexeme → Terminal
@@ -65,11 +63,11 @@ In c at fs = InFrames (MappingFrame c at ∷ fs)
 abbrev AskedEnds : Terminal → ℕ → List OpenFrame → Ending → Bool → Bool → Ending
 AskedEnds x c fs on left colon =
     choose (not colon) (with_event (null x.at.start None) (choose left on (ending (In c Done fs) [])))
-        (ending (In c AskDone fs) [])
+    (ending (In c AskDone fs) [])
 
 asking_ends :
     (x : Terminal) (c : ℕ) (fs : List OpenFrame) (on y : Ending) (left entry colon : Bool) → left ≡ false →
-      entry ≡ true →
+    entry ≡ true →
     colon ≡ false →
     taken (choose (left || entry) (with_event (null x.at.start (Some c)) (AskedEnds x c fs on left colon)) y) x
     ≡ after_events (Before Asking c x.at.start) (take_frames (In c Done fs) x.kind x.at)
@@ -113,33 +111,33 @@ entry_follows :
     ≡ after_events (Before at c x.at.start) (entry_frames ExpectedBlockMappingKey (BlockSite c fs) x.kind x.at)
 entry_follows x c at fs asking e f g =
     asking_ends x c fs (PastMapping x fs) (ending (In c Asking fs) []) (stands_left x c) (entry_in x c) (bare_in x c) e
-        f g
+    f g
     ∙ ap
-        (λ b.
-           after_events (Before Asking c x.at.start)
-             (if_gives b ExpectedBlockMappingKey (entry_frames ExpectedBlockMappingKey (BlockSite c fs) x.kind x.at)))
-        f
+    (λ b.
+    after_events (Before Asking c x.at.start)
+    (if_gives b ExpectedBlockMappingKey (entry_frames ExpectedBlockMappingKey (BlockSite c fs) x.kind x.at)))
+    f
 entry_follows x c at fs asked e f g =
     asked_ends x c fs (PastMapping x fs) (stands_left x c) (bare_in x c) e g
     ∙ ap
-        (λ b.
-           after_events (Before AskDone c x.at.start)
-             (if_gives b ExpectedBlockMappingKey (entry_frames ExpectedBlockMappingKey (BlockSite c fs) x.kind x.at)))
-        f
+    (λ b.
+    after_events (Before AskDone c x.at.start)
+    (if_gives b ExpectedBlockMappingKey (entry_frames ExpectedBlockMappingKey (BlockSite c fs) x.kind x.at)))
+    f
 entry_follows x c at fs (valued {w = w}) e f g =
     valued_ends x c w fs (PastMapping x fs) (ending (In c (Value w) fs) []) (stands_left x c) (entry_in x c) e f
     ∙ ap
-        (λ b.
-           after_events (Before (Value w) c x.at.start)
-             (if_gives b ExpectedBlockMappingKey (entry_frames ExpectedBlockMappingKey (BlockSite c fs) x.kind x.at)))
-        f
+    (λ b.
+    after_events (Before (Value w) c x.at.start)
+    (if_gives b ExpectedBlockMappingKey (entry_frames ExpectedBlockMappingKey (BlockSite c fs) x.kind x.at)))
+    f
 entry_follows x c at fs paired e f g =
     paired_ends x c fs (PastMapping x fs) (stands_left x c) e
     ∙ ap
-        (λ b.
-           after_events (Before Done c x.at.start)
-             (if_gives b ExpectedBlockMappingKey (entry_frames ExpectedBlockMappingKey (BlockSite c fs) x.kind x.at)))
-        f
+    (λ b.
+    after_events (Before Done c x.at.start)
+    (if_gives b ExpectedBlockMappingKey (entry_frames ExpectedBlockMappingKey (BlockSite c fs) x.kind x.at)))
+    f
 
 -- a `:` without key follows
 abbrev ColonBefore : PairAt → ℕ → Mark → List TreeEvent
@@ -154,7 +152,7 @@ ColonAt i = terminal (Colon None) i
 asking_colon :
     (i : At) (c : ℕ) (fs : List OpenFrame) (on y : Ending) (left same : Bool) → left ≡ false → same ≡ true →
     taken (choose (left || same) (with_event (null i.start (Some c)) (AskedEnds (ColonAt i) c fs on left same)) y)
-        (ColonAt i)
+    (ColonAt i)
     ≡ after_events (ColonBefore Asking c i.start) (take_frames (In c AskDone fs) (Colon None) i)
 asking_colon i c fs on y false true e f = refl
 asking_colon i c fs on y true same e f = cc (e)
@@ -173,31 +171,31 @@ colon_follows :
     taken (ended_by (ColonAt i) (In c at fs)) (ColonAt i) ≡ GoesTo (In c (Value i.start) fs) (ColonBefore at c i.start)
 colon_follows i c at fs asking e f =
     asking_colon i c fs (PastMapping (ColonAt i) fs) (ending (In c Asking fs) []) (stands_left (ColonAt i) c)
-      (stands_in (ColonAt i) c) e f
+    (stands_in (ColonAt i) c) e f
     ∙ ap
-        (λ b.
-           after_events (ColonBefore Asking c i.start)
-             (if_gives b ExpectedBlockMappingKey (GoesTo (In c (Value i.start) fs) [])))
-        f
+    (λ b.
+    after_events (ColonBefore Asking c i.start)
+    (if_gives b ExpectedBlockMappingKey (GoesTo (In c (Value i.start) fs) [])))
+    f
 colon_follows i c at fs asked e f =
     asked_colon i c fs (PastMapping (ColonAt i) fs) (stands_left (ColonAt i) c) (stands_in (ColonAt i) c) f
     ∙ ap (λ b. after_events [] (if_gives b ExpectedBlockMappingKey (GoesTo (In c (Value i.start) fs) []))) f
 colon_follows i c at fs (valued {w = w}) e f =
     valued_ends (ColonAt i) c w fs (PastMapping (ColonAt i) fs) (ending (In c (Value w) fs) [])
-        (stands_left (ColonAt i) c)
-      (stands_in (ColonAt i) c) e f
+    (stands_left (ColonAt i) c)
+    (stands_in (ColonAt i) c) e f
     ∙ ap
-        (λ b.
-           after_events (Before (Value w) c i.start)
-             (if_gives b ExpectedBlockMappingKey (GoesTo (In c (Value i.start) fs) (null i.start None ∷ []))))
-        f
+    (λ b.
+    after_events (Before (Value w) c i.start)
+    (if_gives b ExpectedBlockMappingKey (GoesTo (In c (Value i.start) fs) (null i.start None ∷ []))))
+    f
 colon_follows i c at fs paired e f =
     paired_ends (ColonAt i) c fs (PastMapping (ColonAt i) fs) (stands_left (ColonAt i) c) e
     ∙ ap
-        (λ b.
-           after_events []
-             (if_gives b ExpectedBlockMappingKey (GoesTo (In c (Value i.start) fs) (null i.start None ∷ []))))
-        f
+    (λ b.
+    after_events []
+    (if_gives b ExpectedBlockMappingKey (GoesTo (In c (Value i.start) fs) (null i.start None ∷ []))))
+    f
 
 -- ---- what the parser owes
 
@@ -212,7 +210,7 @@ P o s last given c at fs = state_of o (In c at fs) (knowing s last given)
 
 owed_key :
     (o : OptionsData) (s : Scope) (x last : Mark) (given : List PlainEvent) (c : ℕ) (at : PairAt) (fs : List OpenFrame)
-        →
+    →
     Between at →
     mapping_at (one_less c) machine.AtKey (owed x (P o s last given c at fs))
     ≡ P o s (LastOf at x last) (give_all o (Before at c x) given) c Key fs
@@ -220,12 +218,12 @@ owed_key o s x last given c at fs asking = refl
 owed_key o s x last given c at fs asked = refl
 owed_key o s x last given c at fs (valued {w = w}) =
     ap (mapping_at (one_less c) machine.AtKey)
-      (flushed o w o.max_buffered_comment_events (put (null_at w) (P o s last given c (Value w) fs)))
+    (flushed o w o.max_buffered_comment_events (put (null_at w) (P o s last given c (Value w) fs)))
 owed_key o s x last given c at fs paired = refl
 
 owed_question :
     (o : OptionsData) (s : Scope) (x last : Mark) (given : List PlainEvent) (c : ℕ) (at : PairAt) (fs : List OpenFrame)
-        →
+    →
     Between at →
     mapping_at (one_less c) machine.AtQuestion (owed x (P o s last given c at fs))
     ≡ P o s (LastOf at x last) (give_all o (Before at c x) given) c Asking fs
@@ -233,7 +231,7 @@ owed_question o s x last given c at fs asking = refl
 owed_question o s x last given c at fs asked = refl
 owed_question o s x last given c at fs (valued {w = w}) =
     ap (mapping_at (one_less c) machine.AtQuestion)
-      (flushed o w o.max_buffered_comment_events (put (null_at w) (P o s last given c (Value w) fs)))
+    (flushed o w o.max_buffered_comment_events (put (null_at w) (P o s last given c (Value w) fs)))
 owed_question o s x last given c at fs paired = refl
 
 abbrev ColonLast : PairAt → Mark → Mark → Mark
@@ -249,7 +247,7 @@ owed_colon b s l o last given c at fs asking = refl
 owed_colon b s l o last given c at fs asked = refl
 owed_colon b s l o last given c at fs (valued {w = w}) =
     ap (λ q. mapping_colon o (TokenOn lexemes.Colon b l) (one_less c) (put (null_at l.start) q))
-      (flushed o w o.max_buffered_comment_events (put (null_at w) (P o s last given c (Value w) fs)))
+    (flushed o w o.max_buffered_comment_events (put (null_at w) (P o s last given c (Value w) fs)))
 owed_colon b s l o last given c at fs paired = refl
 
 -- ---- an entry follows
@@ -260,18 +258,18 @@ abbrev Rest :
 Rest b k key s l o last given c at fs =
     if not (takes_node (stage_of at)) then Err (fault_of ExpectedBlockMappingKey (X b k key s l))
     else Tested
-      ((is_dash_token (token_sort b key k) && is_in_column (token_column (token_of b (at_kind l k key))) (one_less c))
-       ||
-           (begins_node (token_sort b key k)
-              && is_right_of (token_column (token_of b (at_kind l k key))) (Some (one_less c))))
-      (NodeOf b k key s l o last given NoProperties (MappingFrame c at ∷ fs)) UnexpectedEofBlockMapping (X b k key s l)
+    ((is_dash_token (token_sort b key k) && is_in_column (token_column (token_of b (at_kind l k key))) (one_less c))
+    ||
+    (begins_node (token_sort b key k)
+    && is_right_of (token_column (token_of b (at_kind l k key))) (Some (one_less c))))
+    (NodeOf b k key s l o last given NoProperties (MappingFrame c at ∷ fs)) UnexpectedEofBlockMapping (X b k key s l)
 
 abbrev NextPair :
     Bool → lexemes.LexemeKind → Option KeyStart → Scope → lexemes.Lexeme → OptionsData → Mark → List PlainEvent → ℕ →
     PairAt → List OpenFrame → Result ParserState Fault
 NextPair b k key s l o last given c at fs =
     next_pair o (token_of b (at_kind l k key)) (one_less c) (stage_of at) (token_sort b key k)
-        (P o s last given c at fs)
+    (P o s last given c at fs)
 
 -- the parser's step where an entry may follow
 abbrev MappingToken :
@@ -284,27 +282,27 @@ indicator_is :
     (last : Mark) (given : List PlainEvent) (c : ℕ) (at : PairAt) (fs : List OpenFrame) → Between at → IsPositive c →
     MappingToken b k key s l o last given c at fs
     ≡ (if entry_in (X b k key s l) c then NextPair b k key s l o last given c at fs
-       else Rest b k key s l o last given c at fs)
+    else Rest b k key s l o last given c at fs)
 unfolding behind_indicator
 indicator_is b k key s l o last given c at fs asking p =
     ap (λ e. if e then NextPair b k key s l o last given c at fs else Rest b k key s l o last given c at fs)
-      (entry_same b s (at_kind l k key) c p)
+    (entry_same b s (at_kind l k key) c p)
 indicator_is b k key s l o last given c at fs asked p =
     ap (λ e. if e then NextPair b k key s l o last given c at fs else Rest b k key s l o last given c at fs)
-      (entry_same b s (at_kind l k key) c p)
+    (entry_same b s (at_kind l k key) c p)
 indicator_is b k key s l o last given c at fs valued p =
     ap (λ e. if e then NextPair b k key s l o last given c at fs else Rest b k key s l o last given c at fs)
-      (entry_same b s (at_kind l k key) c p)
+    (entry_same b s (at_kind l k key) c p)
 indicator_is b k key s l o last given c at fs paired p =
     ap (λ e. if e then NextPair b k key s l o last given c at fs else Rest b k key s l o last given c at fs)
-      (entry_same b s (at_kind l k key) c p)
+    (entry_same b s (at_kind l k key) c p)
 
 abbrev EntryView :
     Bool → lexemes.LexemeKind → Option KeyStart → Scope → lexemes.Lexeme → OptionsData → Mark → List PlainEvent → ℕ →
     PairAt → List OpenFrame → Type 0
 EntryView b k key s l o last given c at fs =
     LimitView o (X b k key s l) (knowing s last given) (NextPair b k key s l o last given c at fs)
-      (taken (ended_by (X b k key s l) (In c at fs)) (X b k key s l))
+    (taken (ended_by (X b k key s l) (In c at fs)) (X b k key s l))
 
 -- a simple key's first lexeme
 key_follows :
@@ -313,26 +311,26 @@ key_follows :
     terminal_kind k None ≡ Part m → stands_left (On k true s l) c ≡ false → entry_in (On k true s l) c ≡ true →
     nat_le (blocks_open (MappingFrame c at ∷ fs)) o.block_nesting_limit ≡ true →
     PartsAgree true m k s l o (LastOf at l.start last) (give_all o (Before at c l.start) given) NoProperties
-      (MappingFrame c Key ∷ fs) ExpectedBlockMappingKey →
+    (MappingFrame c Key ∷ fs) ExpectedBlockMappingKey →
     LimitView o (On k true s l) (knowing s last given)
-      (bare o (TokenOn k true l) (mapping_at (one_less c) machine.AtKey (owed l.start (P o s last given c at fs))))
-      (after_events (Before at c l.start)
-         (part_frames ExpectedBlockMappingKey (MappingFrame c Key ∷ fs) NoProperties m
-              (at_of true s (at_kind l k None))))
+    (bare o (TokenOn k true l) (mapping_at (one_less c) machine.AtKey (owed l.start (P o s last given c at fs))))
+    (after_events (Before at c l.start)
+    (part_frames ExpectedBlockMappingKey (MappingFrame c Key ∷ fs) NoProperties m
+    (at_of true s (at_kind l k None))))
 key_follows m k s l o last given c at fs w p h g f e q v =
     subst
-      (λ q.
-         LimitView o (On k true s l) (knowing s last given) (bare o (TokenOn k true l) q)
-           (after_events (Before at c l.start)
-              (part_frames ExpectedBlockMappingKey (MappingFrame c Key ∷ fs) NoProperties m
-                   (at_of true s (at_kind l k None)))))
-      (sym (owed_key o s l.start last given c at fs w))
-      (events_before o (On k true s l) s (LastOf at l.start last) last given (Before at c l.start)
-         (bare o (TokenOn k true l) (P o s (LastOf at l.start last) (give_all o (Before at c l.start) given) c Key fs))
-         (part_frames ExpectedBlockMappingKey (MappingFrame c Key ∷ fs) NoProperties m
-              (at_of true s (at_kind l k None)))
-         (part_limited true m k s l o (LastOf at l.start last) (give_all o (Before at c l.start) given) NoProperties
-            (MappingFrame c Key ∷ fs) ExpectedBlockMappingKey (at_key p h) q v))
+    (λ q.
+    LimitView o (On k true s l) (knowing s last given) (bare o (TokenOn k true l) q)
+    (after_events (Before at c l.start)
+    (part_frames ExpectedBlockMappingKey (MappingFrame c Key ∷ fs) NoProperties m
+    (at_of true s (at_kind l k None)))))
+    (sym (owed_key o s l.start last given c at fs w))
+    (events_before o (On k true s l) s (LastOf at l.start last) last given (Before at c l.start)
+    (bare o (TokenOn k true l) (P o s (LastOf at l.start last) (give_all o (Before at c l.start) given) c Key fs))
+    (part_frames ExpectedBlockMappingKey (MappingFrame c Key ∷ fs) NoProperties m
+    (at_of true s (at_kind l k None)))
+    (part_limited true m k s l o (LastOf at l.start last) (give_all o (Before at c l.start) given) NoProperties
+    (MappingFrame c Key ∷ fs) ExpectedBlockMappingKey (at_key p h) q v))
 
 entry_given :
     (b : Bool) (k : lexemes.LexemeKind) (key : Option KeyStart) (s : Scope) (l : lexemes.Lexeme) (o : OptionsData)
@@ -350,106 +348,108 @@ entry_given b lexemes.Dash key s l o last given c at fs w p h f e q = cc (e)
 entry_given b lexemes.Colon (Some n) s l o last given c at fs w p h f e q = cc (e)
 entry_given b lexemes.Colon None s l o last given c at fs w p h f e q =
     subst
-        (LimitView o (X b lexemes.Colon None s l) (knowing s last given)
-           (NextPair b lexemes.Colon None s l o last given c at fs))
-      (sym (colon_follows (at_of b s (at_kind l lexemes.Colon None)) c at fs w f e))
-      ((ColonLast at l.start last, owed_colon b s l o last given c at fs w),
-       ap (λ f. first_fault f None)
-           (count_flat o.block_nesting_limit (suc (blocks_open fs)) (In c (Value l.start) fs) refl q))
+    (LimitView o (X b lexemes.Colon None s l) (knowing s last given)
+    (NextPair b lexemes.Colon None s l o last given c at fs))
+    (sym (colon_follows (at_of b s (at_kind l lexemes.Colon None)) c at fs w f e)) (
+      (ColonLast at l.start last, owed_colon b s l o last given c at fs w),
+      ap (λ f. first_fault f None)
+          (count_flat o.block_nesting_limit (suc (blocks_open fs)) (In c (Value l.start) fs) refl q),
+    )
 entry_given b lexemes.Question key s l o last given c at fs w p h f e q =
     subst
-        (LimitView o (X b lexemes.Question key s l) (knowing s last given)
-           (NextPair b lexemes.Question key s l o last given c at fs))
-      (sym (entry_follows (X b lexemes.Question key s l) c at fs w f e refl))
-      (events_before o (X b lexemes.Question key s l) s (LastOf at l.start last) last given (Before at c l.start)
-         (NextPair b lexemes.Question key s l o last given c at fs) (GoesTo (In c Asking fs) [])
-         ((LastOf at l.start last, owed_question o s l.start last given c at fs w),
-          ap (λ f. first_fault f None)
-              (count_flat o.block_nesting_limit (suc (blocks_open fs)) (In c Asking fs) refl q)))
+    (LimitView o (X b lexemes.Question key s l) (knowing s last given)
+    (NextPair b lexemes.Question key s l o last given c at fs))
+    (sym (entry_follows (X b lexemes.Question key s l) c at fs w f e refl))
+    (events_before o (X b lexemes.Question key s l) s (LastOf at l.start last) last given (Before at c l.start)
+    (NextPair b lexemes.Question key s l o last given c at fs) (GoesTo (In c Asking fs) []) (
+      (LastOf at l.start last, owed_question o s l.start last given c at fs w),
+      ap (λ f. first_fault f None)
+          (count_flat o.block_nesting_limit (suc (blocks_open fs)) (In c Asking fs) refl q),
+    ))
 entry_given false (lexemes.Scalar style text) key s l o last given c at fs w p h f e q = cc (e)
 entry_given true (lexemes.Scalar style text) key s l o last given c at fs w p h f e q =
     subst
-        (LimitView o (X true (lexemes.Scalar style text) key s l) (knowing s last given)
-           (NextPair true (lexemes.Scalar style text) key s l o last given c at fs))
-      (sym
-         (entry_follows (X true (lexemes.Scalar style text) key s l) c at fs w f e refl
-          ∙ ap (after_events (Before at c l.start))
-              (key_entry ExpectedBlockMappingKey c fs (Scalar style text)
-                 (at_of true s (at_kind l (lexemes.Scalar style text) key)))))
-      (key_follows (Scalar style text) (lexemes.Scalar style text) s l o last given c at fs w p h refl f e q
-         (scalar_parts true style text s l o (LastOf at l.start last) (give_all o (Before at c l.start) given)
-              NoProperties (MappingFrame c Key ∷ fs)
-            ExpectedBlockMappingKey (at_key p h)))
+    (LimitView o (X true (lexemes.Scalar style text) key s l) (knowing s last given)
+    (NextPair true (lexemes.Scalar style text) key s l o last given c at fs))
+    (sym
+    (entry_follows (X true (lexemes.Scalar style text) key s l) c at fs w f e refl
+    ∙ ap (after_events (Before at c l.start))
+    (key_entry ExpectedBlockMappingKey c fs (Scalar style text)
+    (at_of true s (at_kind l (lexemes.Scalar style text) key)))))
+    (key_follows (Scalar style text) (lexemes.Scalar style text) s l o last given c at fs w p h refl f e q
+    (scalar_parts true style text s l o (LastOf at l.start last) (give_all o (Before at c l.start) given)
+    NoProperties (MappingFrame c Key ∷ fs)
+    ExpectedBlockMappingKey (at_key p h)))
 entry_given false (lexemes.Open Square) key s l o last given c at fs w p h f e q = cc (e)
 entry_given true (lexemes.Open Square) key s l o last given c at fs w p h f e q =
     subst
-        (LimitView o (X true (lexemes.Open Square) key s l) (knowing s last given)
-           (NextPair true (lexemes.Open Square) key s l o last given c at fs))
-      (sym
-         (entry_follows (X true (lexemes.Open Square) key s l) c at fs w f e refl
-          ∙ ap (after_events (Before at c l.start))
-              (key_entry ExpectedBlockMappingKey c fs (Open Square)
-                 (at_of true s (at_kind l (lexemes.Open Square) key)))))
-      (key_follows (Open Square) (lexemes.Open Square) s l o last given c at fs w p h refl f e q
-         (square_parts true s l o (LastOf at l.start last) (give_all o (Before at c l.start) given) NoProperties
-              (MappingFrame c Key ∷ fs)
-            ExpectedBlockMappingKey (at_key p h)))
+    (LimitView o (X true (lexemes.Open Square) key s l) (knowing s last given)
+    (NextPair true (lexemes.Open Square) key s l o last given c at fs))
+    (sym
+    (entry_follows (X true (lexemes.Open Square) key s l) c at fs w f e refl
+    ∙ ap (after_events (Before at c l.start))
+    (key_entry ExpectedBlockMappingKey c fs (Open Square)
+    (at_of true s (at_kind l (lexemes.Open Square) key)))))
+    (key_follows (Open Square) (lexemes.Open Square) s l o last given c at fs w p h refl f e q
+    (square_parts true s l o (LastOf at l.start last) (give_all o (Before at c l.start) given) NoProperties
+    (MappingFrame c Key ∷ fs)
+    ExpectedBlockMappingKey (at_key p h)))
 entry_given false (lexemes.Open Curly) key s l o last given c at fs w p h f e q = cc (e)
 entry_given true (lexemes.Open Curly) key s l o last given c at fs w p h f e q =
     subst
-        (LimitView o (X true (lexemes.Open Curly) key s l) (knowing s last given)
-           (NextPair true (lexemes.Open Curly) key s l o last given c at fs))
-      (sym
-         (entry_follows (X true (lexemes.Open Curly) key s l) c at fs w f e refl
-          ∙ ap (after_events (Before at c l.start))
-              (key_entry ExpectedBlockMappingKey c fs (Open Curly)
-                   (at_of true s (at_kind l (lexemes.Open Curly) key)))))
-      (key_follows (Open Curly) (lexemes.Open Curly) s l o last given c at fs w p h refl f e q
-         (curly_parts true s l o (LastOf at l.start last) (give_all o (Before at c l.start) given) NoProperties
-              (MappingFrame c Key ∷ fs)
-            ExpectedBlockMappingKey (at_key p h)))
+    (LimitView o (X true (lexemes.Open Curly) key s l) (knowing s last given)
+    (NextPair true (lexemes.Open Curly) key s l o last given c at fs))
+    (sym
+    (entry_follows (X true (lexemes.Open Curly) key s l) c at fs w f e refl
+    ∙ ap (after_events (Before at c l.start))
+    (key_entry ExpectedBlockMappingKey c fs (Open Curly)
+    (at_of true s (at_kind l (lexemes.Open Curly) key)))))
+    (key_follows (Open Curly) (lexemes.Open Curly) s l o last given c at fs w p h refl f e q
+    (curly_parts true s l o (LastOf at l.start last) (give_all o (Before at c l.start) given) NoProperties
+    (MappingFrame c Key ∷ fs)
+    ExpectedBlockMappingKey (at_key p h)))
 entry_given false (lexemes.Anchor name) key s l o last given c at fs w p h f e q = cc (e)
 entry_given true (lexemes.Anchor name) key s l o last given c at fs w p h f e q =
     subst
-        (LimitView o (X true (lexemes.Anchor name) key s l) (knowing s last given)
-           (NextPair true (lexemes.Anchor name) key s l o last given c at fs))
-      (sym
-         (entry_follows (X true (lexemes.Anchor name) key s l) c at fs w f e refl
-          ∙ ap (after_events (Before at c l.start))
-              (key_entry ExpectedBlockMappingKey c fs (Property (Anchor name))
-                 (at_of true s (at_kind l (lexemes.Anchor name) key)))))
-      (key_follows (Property (Anchor name)) (lexemes.Anchor name) s l o last given c at fs w p h refl f e q
-         (anchor_parts true name s l o (LastOf at l.start last) (give_all o (Before at c l.start) given) NoProperties
-              (MappingFrame c Key ∷ fs)
-            ExpectedBlockMappingKey (at_key p h) refl))
+    (LimitView o (X true (lexemes.Anchor name) key s l) (knowing s last given)
+    (NextPair true (lexemes.Anchor name) key s l o last given c at fs))
+    (sym
+    (entry_follows (X true (lexemes.Anchor name) key s l) c at fs w f e refl
+    ∙ ap (after_events (Before at c l.start))
+    (key_entry ExpectedBlockMappingKey c fs (Property (Anchor name))
+    (at_of true s (at_kind l (lexemes.Anchor name) key)))))
+    (key_follows (Property (Anchor name)) (lexemes.Anchor name) s l o last given c at fs w p h refl f e q
+    (anchor_parts true name s l o (LastOf at l.start last) (give_all o (Before at c l.start) given) NoProperties
+    (MappingFrame c Key ∷ fs)
+    ExpectedBlockMappingKey (at_key p h) refl))
 entry_given false (lexemes.Tag handle suffix) key s l o last given c at fs w p h f e q = cc (e)
 entry_given true (lexemes.Tag handle suffix) key s l o last given c at fs w p h f e q =
     subst
-        (LimitView o (X true (lexemes.Tag handle suffix) key s l) (knowing s last given)
-           (NextPair true (lexemes.Tag handle suffix) key s l o last given c at fs))
-      (sym
-         (entry_follows (X true (lexemes.Tag handle suffix) key s l) c at fs w f e refl
-          ∙ ap (after_events (Before at c l.start))
-              (key_entry ExpectedBlockMappingKey c fs (Property (Tag handle suffix))
-                 (at_of true s (at_kind l (lexemes.Tag handle suffix) key)))))
-      (key_follows (Property (Tag handle suffix)) (lexemes.Tag handle suffix) s l o last given c at fs w p h refl f e q
-         (tag_parts true handle suffix s l o (LastOf at l.start last) (give_all o (Before at c l.start) given)
-              NoProperties (MappingFrame c Key ∷ fs)
-            ExpectedBlockMappingKey (at_key p h) refl))
+    (LimitView o (X true (lexemes.Tag handle suffix) key s l) (knowing s last given)
+    (NextPair true (lexemes.Tag handle suffix) key s l o last given c at fs))
+    (sym
+    (entry_follows (X true (lexemes.Tag handle suffix) key s l) c at fs w f e refl
+    ∙ ap (after_events (Before at c l.start))
+    (key_entry ExpectedBlockMappingKey c fs (Property (Tag handle suffix))
+    (at_of true s (at_kind l (lexemes.Tag handle suffix) key)))))
+    (key_follows (Property (Tag handle suffix)) (lexemes.Tag handle suffix) s l o last given c at fs w p h refl f e q
+    (tag_parts true handle suffix s l o (LastOf at l.start last) (give_all o (Before at c l.start) given)
+    NoProperties (MappingFrame c Key ∷ fs)
+    ExpectedBlockMappingKey (at_key p h) refl))
 entry_given false (lexemes.Alias name) key s l o last given c at fs w p h f e q = cc (e)
 entry_given true (lexemes.Alias name) key s l o last given c at fs w p h f e q =
     subst
-        (LimitView o (X true (lexemes.Alias name) key s l) (knowing s last given)
-           (NextPair true (lexemes.Alias name) key s l o last given c at fs))
-      (sym
-         (entry_follows (X true (lexemes.Alias name) key s l) c at fs w f e refl
-          ∙ ap (after_events (Before at c l.start))
-              (key_entry ExpectedBlockMappingKey c fs (Alias name)
-                   (at_of true s (at_kind l (lexemes.Alias name) key)))))
-      (key_follows (Alias name) (lexemes.Alias name) s l o last given c at fs w p h refl f e q
-         (alias_parts true name s l o (LastOf at l.start last) (give_all o (Before at c l.start) given)
-              (MappingFrame c Key ∷ fs)
-            ExpectedBlockMappingKey (at_key p h)))
+    (LimitView o (X true (lexemes.Alias name) key s l) (knowing s last given)
+    (NextPair true (lexemes.Alias name) key s l o last given c at fs))
+    (sym
+    (entry_follows (X true (lexemes.Alias name) key s l) c at fs w f e refl
+    ∙ ap (after_events (Before at c l.start))
+    (key_entry ExpectedBlockMappingKey c fs (Alias name)
+    (at_of true s (at_kind l (lexemes.Alias name) key)))))
+    (key_follows (Alias name) (lexemes.Alias name) s l o last given c at fs w p h refl f e q
+    (alias_parts true name s l o (LastOf at l.start last) (give_all o (Before at c l.start) given)
+    (MappingFrame c Key ∷ fs)
+    ExpectedBlockMappingKey (at_key p h)))
 
 -- ---- no entry follows
 
@@ -463,7 +463,7 @@ abbrev RestView :
     PairAt → List OpenFrame → Type 0
 RestView b k key s l o last given c at fs =
     LimitView o (X b k key s l) (knowing s last given) (Rest b k key s l o last given c at fs)
-      (taken (ended_by (X b k key s l) (In c at fs)) (X b k key s l))
+    (taken (ended_by (X b k key s l) (In c at fs)) (X b k key s l))
 
 -- the test of a node, and what is wanted
 abbrev WantedView :
@@ -471,16 +471,16 @@ abbrev WantedView :
     PairAt → List OpenFrame → Bool → Type 0
 WantedView b k key s l o last given c at fs r =
     LimitView o (X b k key s l) (knowing s last given)
-      (Tested r (NodeOf b k key s l o last given NoProperties (MappingFrame c at ∷ fs)) UnexpectedEofBlockMapping
-           (X b k key s l))
-      (want_frames (MappingFrame c at ∷ fs) NoProperties (terminal_kind k key) (at_of b s (at_kind l k key)))
+    (Tested r (NodeOf b k key s l o last given NoProperties (MappingFrame c at ∷ fs)) UnexpectedEofBlockMapping
+    (X b k key s l))
+    (want_frames (MappingFrame c at ∷ fs) NoProperties (terminal_kind k key) (at_of b s (at_kind l k key)))
 
 abbrev NodeTest : Bool → lexemes.LexemeKind → Option KeyStart → lexemes.Lexeme → ℕ → Bool
 NodeTest b k key l c =
     (is_dash_token (token_sort b key k) && is_in_column (token_column (token_of b (at_kind l k key))) (one_less c))
     ||
-        (begins_node (token_sort b key k)
-           && is_right_of (token_column (token_of b (at_kind l k key))) (Some (one_less c)))
+    (begins_node (token_sort b key k)
+    && is_right_of (token_column (token_of b (at_kind l k key))) (Some (one_less c)))
 
 node_asked :
     (b : Bool) (k : lexemes.LexemeKind) (key : Option KeyStart) (s : Scope) (l : lexemes.Lexeme) (o : OptionsData)
@@ -489,18 +489,18 @@ node_asked :
     WantedView b k key s l o last given c Asking fs (NodeTest b k key l c)
 node_asked b k key s l o last given c fs (another n) p h e =
     subst (WantedView b k key s l o last given c Asking fs)
-      (sym
-         (ap₂ (λ a b. a || b)
-            (ap (λ d. d && is_in_column (token_column (token_of b (at_kind l k key))) (one_less c)) n)
-            (begins_right (token_sort b key k) l.start.place.column c p)))
-      (node_tested b k key s l o last given NoProperties (MappingFrame c Asking ∷ fs) (at_asked p h) asked_hole e
-         (joined_none b (terminal_kind k key)) n)
+    (sym
+    (ap₂ (λ a b. a || b)
+    (ap (λ d. d && is_in_column (token_column (token_of b (at_kind l k key))) (one_less c)) n)
+    (begins_right (token_sort b key k) l.start.place.column c p)))
+    (node_tested b k key s l o last given NoProperties (MappingFrame c Asking ∷ fs) (at_asked p h) asked_hole e
+    (joined_none b (terminal_kind k key)) n)
 node_asked b lexemes.Dash key s l o last given c fs a_dash p h e =
     subst (WantedView b lexemes.Dash key s l o last given c Asking fs)
-      (sym
-         (ap₂ (λ a b. a || b) (stands_same b s (at_kind l lexemes.Dash key) c p)
-            (begins_right DashToken l.start.place.column c p)))
-      (dash_tested b key s l o last given NoProperties (MappingFrame c Asking ∷ fs) (at_asked p h) asked_hole)
+    (sym
+    (ap₂ (λ a b. a || b) (stands_same b s (at_kind l lexemes.Dash key) c p)
+    (begins_right DashToken l.start.place.column c p)))
+    (dash_tested b key s l o last given NoProperties (MappingFrame c Asking ∷ fs) (at_asked p h) asked_hole)
 
 node_valued :
     (b : Bool) (k : lexemes.LexemeKind) (key : Option KeyStart) (s : Scope) (l : lexemes.Lexeme) (o : OptionsData)
@@ -509,18 +509,18 @@ node_valued :
     WantedView b k key s l o last given c (Value w) fs (NodeTest b k key l c)
 node_valued b k key s l o last given c w fs (another n) p h e =
     subst (WantedView b k key s l o last given c (Value w) fs)
-      (sym
-         (ap₂ (λ a b. a || b)
-            (ap (λ d. d && is_in_column (token_column (token_of b (at_kind l k key))) (one_less c)) n)
-            (begins_right (token_sort b key k) l.start.place.column c p)))
-      (node_tested b k key s l o last given NoProperties (MappingFrame c (Value w) ∷ fs) (at_value p h) value_hole e
-         (joined_none b (terminal_kind k key)) n)
+    (sym
+    (ap₂ (λ a b. a || b)
+    (ap (λ d. d && is_in_column (token_column (token_of b (at_kind l k key))) (one_less c)) n)
+    (begins_right (token_sort b key k) l.start.place.column c p)))
+    (node_tested b k key s l o last given NoProperties (MappingFrame c (Value w) ∷ fs) (at_value p h) value_hole e
+    (joined_none b (terminal_kind k key)) n)
 node_valued b lexemes.Dash key s l o last given c w fs a_dash p h e =
     subst (WantedView b lexemes.Dash key s l o last given c (Value w) fs)
-      (sym
-         (ap₂ (λ a b. a || b) (stands_same b s (at_kind l lexemes.Dash key) c p)
-            (begins_right DashToken l.start.place.column c p)))
-      (dash_tested b key s l o last given NoProperties (MappingFrame c (Value w) ∷ fs) (at_value p h) value_hole)
+    (sym
+    (ap₂ (λ a b. a || b) (stands_same b s (at_kind l lexemes.Dash key) c p)
+    (begins_right DashToken l.start.place.column c p)))
+    (dash_tested b key s l o last given NoProperties (MappingFrame c (Value w) ∷ fs) (at_value p h) value_hole)
 
 pub both_false : (a b : Bool) → a ≡ false → b ≡ false → (a || b) ≡ false
 both_false true b e f = e
@@ -534,41 +534,41 @@ rest_given :
     RestView b k key s l o last given c at fs
 rest_given b k key s l o last given c at fs asking p h f e q =
     subst (LimitView o (X b k key s l) (knowing s last given) (Rest b k key s l o last given c Asking fs))
-      (sym
-         (stays_taken (stands_left (X b k key s l) c || entry_in (X b k key s l) c)
-            (nothing_frames (X b k key s l) (MappingFrame c Asking ∷ fs)) (In c Asking fs) (X b k key s l)
-            (both_false _ _ f e)))
-      (node_asked b k key s l o last given c fs (dash_or b key k) p h q)
+    (sym
+    (stays_taken (stands_left (X b k key s l) c || entry_in (X b k key s l) c)
+    (nothing_frames (X b k key s l) (MappingFrame c Asking ∷ fs)) (In c Asking fs) (X b k key s l)
+    (both_false _ _ f e)))
+    (node_asked b k key s l o last given c fs (dash_or b key k) p h q)
 rest_given b k key s l o last given c at fs (valued {w = w}) p h f e q =
     subst (LimitView o (X b k key s l) (knowing s last given) (Rest b k key s l o last given c (Value w) fs))
-      (sym
-         (stays_taken (stands_left (X b k key s l) c || entry_in (X b k key s l) c)
-            (nothing_frames (X b k key s l) (MappingFrame c (Value w) ∷ fs)) (In c (Value w) fs) (X b k key s l)
-            (both_false _ _ f e)))
-      (node_valued b k key s l o last given c w fs (dash_or b key k) p h q)
+    (sym
+    (stays_taken (stands_left (X b k key s l) c || entry_in (X b k key s l) c)
+    (nothing_frames (X b k key s l) (MappingFrame c (Value w) ∷ fs)) (In c (Value w) fs) (X b k key s l)
+    (both_false _ _ f e)))
+    (node_valued b k key s l o last given c w fs (dash_or b key k) p h q)
 rest_given b k key s l o last given c at fs asked p h f e q =
     subst (LimitView o (X b k key s l) (knowing s last given) (Rest b k key s l o last given c AskDone fs))
-      (sym
-         (asked_ends (X b k key s l) c fs (PastMapping (X b k key s l) fs) (stands_left (X b k key s l) c)
-            (bare_in (X b k key s l) c) f (bare_no (terminal_kind k key) b (stands_in (X b k key s l) c) e)
-          ∙ ap
-              (λ r.
-                 after_events (Before AskDone c l.start)
-                   (if_gives r ExpectedBlockMappingKey
-                      (entry_frames ExpectedBlockMappingKey (BlockSite c fs) (X b k key s l).kind (X b k key s l).at)))
-              e))
-      refl
+    (sym
+    (asked_ends (X b k key s l) c fs (PastMapping (X b k key s l) fs) (stands_left (X b k key s l) c)
+    (bare_in (X b k key s l) c) f (bare_no (terminal_kind k key) b (stands_in (X b k key s l) c) e)
+    ∙ ap
+    (λ r.
+    after_events (Before AskDone c l.start)
+    (if_gives r ExpectedBlockMappingKey
+    (entry_frames ExpectedBlockMappingKey (BlockSite c fs) (X b k key s l).kind (X b k key s l).at)))
+    e))
+    refl
 rest_given b k key s l o last given c at fs paired p h f e q =
     subst (LimitView o (X b k key s l) (knowing s last given) (Rest b k key s l o last given c Done fs))
-      (sym
-         (paired_ends (X b k key s l) c fs (PastMapping (X b k key s l) fs) (stands_left (X b k key s l) c) f
-          ∙ ap
-              (λ r.
-                 after_events (Before Done c l.start)
-                   (if_gives r ExpectedBlockMappingKey
-                      (entry_frames ExpectedBlockMappingKey (BlockSite c fs) (X b k key s l).kind (X b k key s l).at)))
-              e))
-      refl
+    (sym
+    (paired_ends (X b k key s l) c fs (PastMapping (X b k key s l) fs) (stands_left (X b k key s l) c) f
+    ∙ ap
+    (λ r.
+    after_events (Before Done c l.start)
+    (if_gives r ExpectedBlockMappingKey
+    (entry_frames ExpectedBlockMappingKey (BlockSite c fs) (X b k key s l).kind (X b k key s l).at)))
+    e))
+    refl
 
 mapping_by :
     (b : Bool) (k : lexemes.LexemeKind) (key : Option KeyStart) (s : Scope) (l : lexemes.Lexeme) (o : OptionsData)
@@ -576,8 +576,8 @@ mapping_by :
     IsPositive c → Holes fs → stands_left (X b k key s l) c ≡ false → entry_in (X b k key s l) c ≡ entry →
     nat_le (blocks_open (MappingFrame c at ∷ fs)) o.block_nesting_limit ≡ true →
     LimitView o (X b k key s l) (knowing s last given)
-      (if entry then NextPair b k key s l o last given c at fs else Rest b k key s l o last given c at fs)
-      (taken (ended_by (X b k key s l) (In c at fs)) (X b k key s l))
+    (if entry then NextPair b k key s l o last given c at fs else Rest b k key s l o last given c at fs)
+    (taken (ended_by (X b k key s l) (In c at fs)) (X b k key s l))
 mapping_by b k key s l o last given c at fs true w p h f e q = entry_given b k key s l o last given c at fs w p h f e q
 mapping_by b k key s l o last given c at fs false w p h f e q = rest_given b k key s l o last given c at fs w p h f e q
 
@@ -589,8 +589,8 @@ pub mapping_steps :
     StepsLimited b k key s l o last given (MappingFrame c at ∷ fs)
 mapping_steps b k key s l o last given c at fs w p h f q =
     subst
-      (λ r.
-         LimitView o (X b k key s l) (knowing s last given) r
-           (taken (ended_by (X b k key s l) (In c at fs)) (X b k key s l)))
-      (sym (indicator_is b k key s l o last given c at fs w p))
-      (mapping_by b k key s l o last given c at fs (entry_in (X b k key s l) c) w p h f refl q)
+    (λ r.
+    LimitView o (X b k key s l) (knowing s last given) r
+    (taken (ended_by (X b k key s l) (In c at fs)) (X b k key s l)))
+    (sym (indicator_is b k key s l o last given c at fs w p))
+    (mapping_by b k key s l o last given c at fs (entry_in (X b k key s l) c) w p h f refl q)

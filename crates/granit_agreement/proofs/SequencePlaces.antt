@@ -3,26 +3,26 @@ use Rattle.granit_agreement.specs.Fair.{frame_ends_at}
 use Rattle.granit_agreement.specs.Good.{Holes, at_root, at_entry, IsPositive}
 use Rattle.granit_agreement.specs.Stepping.{taken, LimitView, at_kind, knowing}
 use Rattle.granit_agreement.specs.Steps.{StepsLimited}
-use Rattle.granit_agreement.specs.View.{Beside, waits_at, terminal_kind, terminal_of, at_of, state_of}
-use Rattle.granit_grammar.specs.EventMachine.{OpenFrame, DocumentFrame, SequenceFrame, EventState, InFrames, Ending, ending, with_event, finish_frames, frames_empty, nothing_frames, ended_by, EventStep, GoesTo, StopsWith, after_events, if_gives, take_frames, want_frames}
+use Rattle.granit_agreement.specs.View.{terminal_kind, terminal_of, at_of, state_of}
+use Rattle.granit_grammar.specs.EventMachine.{OpenFrame, DocumentFrame, SequenceFrame, EventState, InFrames, Ending, ending, with_event, finish_frames, frames_empty, nothing_frames, GoesTo, StopsWith, after_events, if_gives, take_frames, want_frames}
 use Rattle.granit_grammar.specs.Guarded.{blocks_open, first_fault}
 use Rattle.granit_language.specs.Choice.{choose}
 use Rattle.granit_language.specs.GrammarFault.{GrammarFault, UnexpectedEofBlockSequence, ExpectedBlockSequenceEntry, fault_of}
 use Rattle.granit_language.specs.Node.{NoProperties}
-use Rattle.granit_language.specs.Room.{entry_empty, sequence_ends}
+use Rattle.granit_language.specs.Room.{sequence_ends}
 use Rattle.granit_language.specs.Scope.{Scope}
 use Rattle.granit_language.specs.Telling.{one_less}
-use Rattle.granit_language.specs.Terminal.{Terminal, TerminalKind, Dash, At, is_dash_kind, is_stream_kind, stands_left, stands_in, dash_in, entry_in}
+use Rattle.granit_language.specs.Terminal.{Terminal, TerminalKind, Dash, At, is_dash_kind, stands_left, stands_in, dash_in, entry_in}
 use Rattle.granit_lexemes.specs.Lexeme.{KeyStart}
 use Rattle.granit_language.specs.TreeEvents.{null, pointed, SequenceEnds}
 use Rattle.granit_machine.specs.BlockSteps.{in_sequence}
 use Rattle.granit_machine.specs.Frames.{ParserState}
 use Rattle.granit_machine.specs.Giving.{put, null_at, give_empty}
 use Rattle.granit_machine.specs.NodeEnds.{waits, with_top}
-use Rattle.granit_machine.specs.NodeSteps.{node, take_dash, NextEntry}
+use Rattle.granit_machine.specs.NodeSteps.{take_dash, NextEntry}
 use Rattle.granit_machine.specs.Parser.{take_token}
 use Rattle.granit_machine.specs.TokenSort.{TokenSort, token_of, token_sort, begins_node, is_dash_token, column_of_token, token_column, is_in_column, is_right_of, BeginsKey, BeginsNode, DashToken, QuestionToken, BareColon, KeyedColon, CommaToken, SequenceCloser, MappingCloser, OfStream}
-use Rattle.std.proofs.Common.{◌≡◌, ℕ, suc, zero, Bool, true, false, arith, ◌||◌, ◌&&◌, ◌==◌, not, nat_lt, List, [], ◌∷◌, ◌++◌, refl, sym, ap, ap₂, ◌∙◌, subst, Option, Some, None, Result, Ok, Err}
+use Rattle.std.proofs.Common.{◌≡◌, ℕ, suc, zero, Bool, true, false, arith, ◌||◌, ◌&&◌, ◌==◌, not, nat_lt, List, [], ◌∷◌, refl, sym, ap, ap₂, ◌∙◌, subst, Option, Some, None, Result, Ok, Err}
 use Rattle.std.proofs.lemmas.Bool.Decides.{nat_tests}
 use Rattle.std.specs.Prelude.{nat_le, if◌then◌else◌}
 use Rattle.granit_base.specs.Place.{Mark}
@@ -32,10 +32,9 @@ use Rattle.granit_lexemes.specs.PlainEvent.{PlainEvent}
 use Rattle.granit_lexemes.specs.Lexeme as lexemes
 use Rattle.granit_machine.specs.Frames as machine
 use Rattle.granit_agreement.proofs.Dashes.{DashOr, a_dash, another, dash_or}
-use Rattle.granit_agreement.proofs.Ends.{left_no_dash}
-use Rattle.granit_agreement.proofs.NodeTests.{joined_none, Tested, NodeOf, RightOfHole, node_tested, dash_tested}
+use Rattle.granit_agreement.proofs.NodeTests.{joined_none, Tested, NodeOf, node_tested, dash_tested}
 use Rattle.granit_agreement.proofs.Pops.{flushed}
-use Rattle.granit_agreement.proofs.Sorts.{sort_is, right_column, stands_same, dash_same}
+use Rattle.granit_agreement.proofs.Sorts.{sort_is, right_column, stands_same}
 use Rattle.granit_agreement.proofs.Views.{after_nothing, count_flat}
 use Rattle.granit_agreement.proofs.Wants.{root_hole, entry_hole}
 
@@ -69,9 +68,9 @@ abbrev pub RootStep :
     Option Mark → Bool → Type 0
 RootStep b k key s l o last given m r =
     LimitView o (X b k key s l) (knowing s last given)
-      (Tested r (NodeOf b k key s l o last given NoProperties (DocumentFrame m ∷ [])) UnexpectedEofBlockSequence
-           (X b k key s l))
-      (want_frames (DocumentFrame m ∷ []) NoProperties (terminal_kind k key) (at_of b s (at_kind l k key)))
+    (Tested r (NodeOf b k key s l o last given NoProperties (DocumentFrame m ∷ [])) UnexpectedEofBlockSequence
+    (X b k key s l))
+    (want_frames (DocumentFrame m ∷ []) NoProperties (terminal_kind k key) (at_of b s (at_kind l k key)))
 
 pub root_by :
     (b : Bool) (k : lexemes.LexemeKind) (key : Option KeyStart) (s : Scope) (l : lexemes.Lexeme) (o : OptionsData)
@@ -79,12 +78,12 @@ pub root_by :
     nat_le 0 o.block_nesting_limit ≡ true → RootStep b k key s l o last given m (begins_node (token_sort b key k))
 root_by b k key s l o last given m (another n) e =
     subst (RootStep b k key s l o last given m)
-      (and_true (begins_node (token_sort b key k)) _ (right_zero l.start.place.column))
-      (node_tested b k key s l o last given NoProperties (DocumentFrame m ∷ []) at_root root_hole e
-         (joined_none b (terminal_kind k key)) n)
+    (and_true (begins_node (token_sort b key k)) _ (right_zero l.start.place.column))
+    (node_tested b k key s l o last given NoProperties (DocumentFrame m ∷ []) at_root root_hole e
+    (joined_none b (terminal_kind k key)) n)
 root_by b lexemes.Dash key s l o last given m a_dash e =
     subst (RootStep b lexemes.Dash key s l o last given m) (right_zero l.start.place.column)
-      (dash_tested b key s l o last given NoProperties (DocumentFrame m ∷ []) at_root root_hole)
+    (dash_tested b key s l o last given NoProperties (DocumentFrame m ∷ []) at_root root_hole)
 
 pub root_steps :
     (b : Bool) (k : lexemes.LexemeKind) (key : Option KeyStart) (s : Scope) (l : lexemes.Lexeme) (o : OptionsData)
@@ -93,14 +92,14 @@ pub root_steps :
     StepsLimited b k key s l o last given (DocumentFrame m ∷ [])
 root_steps b k key s l o last given m f e =
     subst
-      (LimitView o (X b k key s l) (knowing s last given)
-         (take_token o (token_of b (at_kind l k key))
-              (state_of o (InFrames (DocumentFrame m ∷ [])) (knowing s last given))))
-      (sym
-         (stays_taken (frames_empty (DocumentFrame m ∷ []) (X b k key s l))
-              (nothing_frames (X b k key s l) (DocumentFrame m ∷ []))
-            (InFrames (DocumentFrame m ∷ [])) (X b k key s l) (root_empty m (X b k key s l) f)))
-      (root_by b k key s l o last given m (dash_or b key k) e)
+    (LimitView o (X b k key s l) (knowing s last given)
+    (take_token o (token_of b (at_kind l k key))
+    (state_of o (InFrames (DocumentFrame m ∷ [])) (knowing s last given))))
+    (sym
+    (stays_taken (frames_empty (DocumentFrame m ∷ []) (X b k key s l))
+    (nothing_frames (X b k key s l) (DocumentFrame m ∷ []))
+    (InFrames (DocumentFrame m ∷ [])) (X b k key s l) (root_empty m (X b k key s l) f)))
+    (root_by b k key s l o last given m (dash_or b key k) e)
 
 -- ---- behind a `-`
 
@@ -131,7 +130,7 @@ Entry loose c w fs = SequenceFrame loose c (Some w) ∷ fs
 
 abbrev Chosen :
     Result ParserState Fault → Result ParserState Fault → GrammarFault → Terminal → Bool → Bool →
-      Result ParserState Fault
+    Result ParserState Fault
 Chosen y n stop x a r = if a then y else Tested r n stop x
 
 abbrev Next :
@@ -139,7 +138,7 @@ abbrev Next :
     List OpenFrame → Result ParserState Fault
 Next b k key s l o last given loose fs =
     take_dash o (token_of b (at_kind l k key)) NextEntry loose
-        (give_empty (state_of o (InFrames fs) (knowing s last given)))
+    (give_empty (state_of o (InFrames fs) (knowing s last given)))
 
 entry_other :
     (b : Bool) (k : lexemes.LexemeKind) (key : Option KeyStart) (s : Scope) (l : lexemes.Lexeme) (o : OptionsData)
@@ -151,28 +150,28 @@ entry_other :
 unfolding in_sequence
 entry_other b k key s l o last given loose c w fs p h n f e =
     subst
-      (LimitView o (X b k key s l) (knowing s last given)
-         (take_token o (token_of b (at_kind l k key))
-              (state_of o (InFrames (Entry loose c w fs)) (knowing s last given))))
-      (sym
-         (stays_taken (frames_empty (Entry loose c w fs) (X b k key s l))
-              (nothing_frames (X b k key s l) (Entry loose c w fs))
-            (InFrames (Entry loose c w fs)) (X b k key s l)
-            (entry_same_empty (stands_left (X b k key s l) c) (dash_in (X b k key s l) c) (entry_in (X b k key s l) c) loose
-               (ap (λ d. d && stands_in (X b k key s l) c) (sym (sort_is b key k).dash ∙ n)) f)))
-      (subst
-         (λ r.
-            LimitView o (X b k key s l) (knowing s last given) r
-              (want_frames (Entry loose c w fs) NoProperties (terminal_kind k key) (at_of b s (at_kind l k key))))
-         (sym
-            (ap₂
-               (Chosen (Next b k key s l o last given loose (Entry loose c w fs))
-                  (NodeOf b k key s l o last given NoProperties (Entry loose c w fs)) UnexpectedEofBlockSequence
-                      (X b k key s l))
-               (ap (λ d. d && is_in_column (token_column (token_of b (at_kind l k key))) (one_less c)) n)
-               (begins_right (token_sort b key k) l.start.place.column c p)))
-         (node_tested b k key s l o last given NoProperties (Entry loose c w fs) (at_entry p h) entry_hole e
-            (joined_none b (terminal_kind k key)) n))
+    (LimitView o (X b k key s l) (knowing s last given)
+    (take_token o (token_of b (at_kind l k key))
+    (state_of o (InFrames (Entry loose c w fs)) (knowing s last given))))
+    (sym
+    (stays_taken (frames_empty (Entry loose c w fs) (X b k key s l))
+    (nothing_frames (X b k key s l) (Entry loose c w fs))
+    (InFrames (Entry loose c w fs)) (X b k key s l)
+    (entry_same_empty (stands_left (X b k key s l) c) (dash_in (X b k key s l) c) (entry_in (X b k key s l) c) loose
+    (ap (λ d. d && stands_in (X b k key s l) c) (sym (sort_is b key k).dash ∙ n)) f)))
+    (subst
+    (λ r.
+    LimitView o (X b k key s l) (knowing s last given) r
+    (want_frames (Entry loose c w fs) NoProperties (terminal_kind k key) (at_of b s (at_kind l k key))))
+    (sym
+    (ap₂
+    (Chosen (Next b k key s l o last given loose (Entry loose c w fs))
+    (NodeOf b k key s l o last given NoProperties (Entry loose c w fs)) UnexpectedEofBlockSequence
+    (X b k key s l))
+    (ap (λ d. d && is_in_column (token_column (token_of b (at_kind l k key))) (one_less c)) n)
+    (begins_right (token_sort b key k) l.start.place.column c p)))
+    (node_tested b k key s l o last given NoProperties (Entry loose c w fs) (at_entry p h) entry_hole e
+    (joined_none b (terminal_kind k key)) n))
 
 -- a `-` that isn't in the column of its sequence
 entry_dash_other :
@@ -184,29 +183,29 @@ entry_dash_other :
 unfolding in_sequence
 entry_dash_other b key s l o last given loose c w fs p h n f =
     subst
-      (LimitView o (X b lexemes.Dash key s l) (knowing s last given)
-         (take_token o (token_of b (at_kind l lexemes.Dash key))
-              (state_of o (InFrames (Entry loose c w fs)) (knowing s last given))))
-      (sym
-         (stays_taken (frames_empty (Entry loose c w fs) (X b lexemes.Dash key s l))
-            (nothing_frames (X b lexemes.Dash key s l) (Entry loose c w fs)) (InFrames (Entry loose c w fs))
-                (X b lexemes.Dash key s l)
-            (entry_same_empty (stands_left (X b lexemes.Dash key s l) c) (dash_in (X b lexemes.Dash key s l) c)
-               (entry_in (X b lexemes.Dash key s l) c) loose n f)))
-      (subst
-         (λ r.
-            LimitView o (X b lexemes.Dash key s l) (knowing s last given) r
-              (want_frames (Entry loose c w fs) NoProperties (terminal_kind lexemes.Dash key)
-                   (at_of b s (at_kind l lexemes.Dash key))))
-         (sym
-            (ap₂
-               (Chosen (Next b lexemes.Dash key s l o last given loose (Entry loose c w fs))
-                  (NodeOf b lexemes.Dash key s l o last given NoProperties (Entry loose c w fs))
-                      UnexpectedEofBlockSequence
-                  (X b lexemes.Dash key s l))
-               (stands_same b s (at_kind l lexemes.Dash key) c p ∙ n)
-               (begins_right DashToken l.start.place.column c p)))
-         (dash_tested b key s l o last given NoProperties (Entry loose c w fs) (at_entry p h) entry_hole))
+    (LimitView o (X b lexemes.Dash key s l) (knowing s last given)
+    (take_token o (token_of b (at_kind l lexemes.Dash key))
+    (state_of o (InFrames (Entry loose c w fs)) (knowing s last given))))
+    (sym
+    (stays_taken (frames_empty (Entry loose c w fs) (X b lexemes.Dash key s l))
+    (nothing_frames (X b lexemes.Dash key s l) (Entry loose c w fs)) (InFrames (Entry loose c w fs))
+    (X b lexemes.Dash key s l)
+    (entry_same_empty (stands_left (X b lexemes.Dash key s l) c) (dash_in (X b lexemes.Dash key s l) c)
+    (entry_in (X b lexemes.Dash key s l) c) loose n f)))
+    (subst
+    (λ r.
+    LimitView o (X b lexemes.Dash key s l) (knowing s last given) r
+    (want_frames (Entry loose c w fs) NoProperties (terminal_kind lexemes.Dash key)
+    (at_of b s (at_kind l lexemes.Dash key))))
+    (sym
+    (ap₂
+    (Chosen (Next b lexemes.Dash key s l o last given loose (Entry loose c w fs))
+    (NodeOf b lexemes.Dash key s l o last given NoProperties (Entry loose c w fs))
+    UnexpectedEofBlockSequence
+    (X b lexemes.Dash key s l))
+    (stands_same b s (at_kind l lexemes.Dash key) c p ∙ n)
+    (begins_right DashToken l.start.place.column c p)))
+    (dash_tested b key s l o last given NoProperties (Entry loose c w fs) (at_entry p h) entry_hole))
 
 pub column_is : (k c : ℕ) → IsPositive c → (suc k == c) ≡ true → k ≡ one_less c
 column_is k zero p e = absurd p
@@ -220,10 +219,10 @@ goes_entry :
     (x : Terminal) (loose : Bool) (c : ℕ) (w : Mark) (fs : List OpenFrame) (empty over same : Bool) (on : Ending) →
     empty ≡ true → over ≡ false → same ≡ true →
     taken
-      (choose empty
-         (with_event (null w None) (choose over on (ending (InFrames (SequenceFrame loose c None ∷ fs)) [])))
-         (ending (InFrames (Entry loose c w fs)) []))
-      x
+    (choose empty
+    (with_event (null w None) (choose over on (ending (InFrames (SequenceFrame loose c None ∷ fs)) [])))
+    (ending (InFrames (Entry loose c w fs)) []))
+    x
     ≡ after_events (null w None ∷ []) (take_frames (InFrames (SequenceFrame loose c None ∷ fs)) x.kind x.at)
 goes_entry x loose c w fs true false same on e f g = refl
 goes_entry x loose c w fs true true same on e f g = cc (f)
@@ -252,40 +251,41 @@ entry_dash :
 unfolding in_sequence take_dash
 entry_dash b key s l o last given loose c w fs p h n e =
     subst
-      (LimitView o (X b lexemes.Dash key s l) (knowing s last given)
-         (take_token o (token_of b (at_kind l lexemes.Dash key))
-              (state_of o (InFrames (Entry loose c w fs)) (knowing s last given))))
-      (sym
-         (goes_entry (X b lexemes.Dash key s l) loose c w fs _ _ true
-            (with_event (pointed SequenceEnds l.start) (finish_frames (X b lexemes.Dash key s l) l.start fs))
-            (entry_is_empty (stands_left (X b lexemes.Dash key s l) c) (dash_in (X b lexemes.Dash key s l) c)
-               (loose && entry_in (X b lexemes.Dash key s l) c) n)
-            (sequence_goes_on loose c (X b lexemes.Dash key s l) n (same_not_left (suc l.start.place.column) c n)) refl
-         ∙ ap
-             (λ r.
-                after_events (null w None ∷ [])
-                  (if_gives r ExpectedBlockSequenceEntry (GoesTo (InFrames (Entry loose c l.end fs)) [])))
-             n))
-      (subst
-         (λ a.
-            LimitView o (X b lexemes.Dash key s l) (knowing s last given)
-              (Chosen (Next b lexemes.Dash key s l o last given loose (Entry loose c w fs))
-                 (NodeOf b lexemes.Dash key s l o last given NoProperties (Entry loose c w fs))
-                     UnexpectedEofBlockSequence
-                 (X b lexemes.Dash key s l) a (is_right_of (Some l.start.place.column) (Some (one_less c))))
-              (GoesTo (InFrames (Entry loose c l.end fs)) (null w None ∷ [])))
-         (sym (stands_same b s (at_kind l lexemes.Dash key) c p ∙ n))
-         (subst
-            (λ r.
-               LimitView o (X b lexemes.Dash key s l) (knowing s last given) r
-                 (GoesTo (InFrames (Entry loose c l.end fs)) (null w None ∷ [])))
-            (sym
-               (ap₂ (λ k q. Entered o l loose k q) (column_is l.start.place.column c p n)
-                  (flushed o w o.max_buffered_comment_events
-                     (put (null_at w) (state_of o (InFrames (Entry loose c w fs)) (knowing s last given))))))
-            ((w, refl),
-             ap (λ f. first_fault f None)
-               (count_flat o.block_nesting_limit (suc (blocks_open fs)) (InFrames (Entry loose c l.end fs)) refl e))))
+    (LimitView o (X b lexemes.Dash key s l) (knowing s last given)
+    (take_token o (token_of b (at_kind l lexemes.Dash key))
+    (state_of o (InFrames (Entry loose c w fs)) (knowing s last given))))
+    (sym
+    (goes_entry (X b lexemes.Dash key s l) loose c w fs _ _ true
+    (with_event (pointed SequenceEnds l.start) (finish_frames (X b lexemes.Dash key s l) l.start fs))
+    (entry_is_empty (stands_left (X b lexemes.Dash key s l) c) (dash_in (X b lexemes.Dash key s l) c)
+    (loose && entry_in (X b lexemes.Dash key s l) c) n)
+    (sequence_goes_on loose c (X b lexemes.Dash key s l) n (same_not_left (suc l.start.place.column) c n)) refl
+    ∙ ap
+    (λ r.
+    after_events (null w None ∷ [])
+    (if_gives r ExpectedBlockSequenceEntry (GoesTo (InFrames (Entry loose c l.end fs)) [])))
+    n))
+    (subst
+    (λ a.
+    LimitView o (X b lexemes.Dash key s l) (knowing s last given)
+    (Chosen (Next b lexemes.Dash key s l o last given loose (Entry loose c w fs))
+    (NodeOf b lexemes.Dash key s l o last given NoProperties (Entry loose c w fs))
+    UnexpectedEofBlockSequence
+    (X b lexemes.Dash key s l) a (is_right_of (Some l.start.place.column) (Some (one_less c))))
+    (GoesTo (InFrames (Entry loose c l.end fs)) (null w None ∷ [])))
+    (sym (stands_same b s (at_kind l lexemes.Dash key) c p ∙ n))
+    (subst
+    (λ r.
+    LimitView o (X b lexemes.Dash key s l) (knowing s last given) r
+    (GoesTo (InFrames (Entry loose c l.end fs)) (null w None ∷ [])))
+    (sym
+    (ap₂ (λ k q. Entered o l loose k q) (column_is l.start.place.column c p n)
+    (flushed o w o.max_buffered_comment_events
+    (put (null_at w) (state_of o (InFrames (Entry loose c w fs)) (knowing s last given)))))) (
+      (w, refl),
+      ap (λ f. first_fault f None)
+          (count_flat o.block_nesting_limit (suc (blocks_open fs)) (InFrames (Entry loose c l.end fs)) refl e),
+    )))
 
 entry_by :
     (b : Bool) (k : lexemes.LexemeKind) (key : Option KeyStart) (s : Scope) (l : lexemes.Lexeme) (o : OptionsData)
@@ -329,44 +329,47 @@ past_other :
 unfolding in_sequence
 past_other b k key s l o last given loose c fs n f =
     subst
-      (LimitView o (X b k key s l) (knowing s last given)
-         (take_token o (token_of b (at_kind l k key)) (state_of o (InFrames (Past loose c fs)) (knowing s last given))))
-      (sym
-         (stays_taken (sequence_ends loose c (X b k key s l))
-            (with_event (pointed SequenceEnds l.start) (finish_frames (X b k key s l) l.start fs))
-                (InFrames (Past loose c fs))
-            (X b k key s l) f
-         ∙ no_entry (terminal_kind k key) (at_of b s (at_kind l k key)) loose c fs (sym (sort_is b key k).dash ∙ n)))
-      (subst
-         (λ a.
-            LimitView o (X b k key s l) (knowing s last given)
-              (if a then Next b k key s l o last given loose (Past loose c fs)
-               else Err (fault_of ExpectedBlockSequenceEntry (X b k key s l)))
-              (StopsWith ExpectedBlockSequenceEntry))
-         (sym (ap (λ d. d && is_in_column (token_column (token_of b (at_kind l k key))) (one_less c)) n)) refl)
+    (LimitView o (X b k key s l) (knowing s last given)
+    (take_token o (token_of b (at_kind l k key)) (state_of o (InFrames (Past loose c fs)) (knowing s last given))))
+    (sym
+    (stays_taken (sequence_ends loose c (X b k key s l))
+    (with_event (pointed SequenceEnds l.start) (finish_frames (X b k key s l) l.start fs))
+    (InFrames (Past loose c fs))
+    (X b k key s l) f
+    ∙ no_entry (terminal_kind k key) (at_of b s (at_kind l k key)) loose c fs (sym (sort_is b key k).dash ∙ n)))
+    (subst
+    (λ a.
+    LimitView o (X b k key s l) (knowing s last given)
+    (if a then Next b k key s l o last given loose (Past loose c fs)
+    else Err (fault_of ExpectedBlockSequenceEntry (X b k key s l)))
+    (StopsWith ExpectedBlockSequenceEntry))
+    (sym (ap (λ d. d && is_in_column (token_column (token_of b (at_kind l k key))) (one_less c)) n)) refl)
 
 past_dash :
     (b : Bool) (key : Option KeyStart) (s : Scope) (l : lexemes.Lexeme) (o : OptionsData) (last : Mark)
     (given : List PlainEvent) (loose : Bool) (c : ℕ) (fs : List OpenFrame) (same : Bool) → IsPositive c →
     (suc l.start.place.column == c) ≡ same → nat_le (blocks_open (Past loose c fs)) o.block_nesting_limit ≡ true →
     LimitView o (X b lexemes.Dash key s l) (knowing s last given)
-      (if same then Next b lexemes.Dash key s l o last given loose (Past loose c fs)
-       else Err (fault_of ExpectedBlockSequenceEntry (X b lexemes.Dash key s l)))
-      (if_gives same ExpectedBlockSequenceEntry (GoesTo (InFrames (Entry loose c l.end fs)) []))
+    (if same then Next b lexemes.Dash key s l o last given loose (Past loose c fs)
+    else Err (fault_of ExpectedBlockSequenceEntry (X b lexemes.Dash key s l)))
+    (if_gives same ExpectedBlockSequenceEntry (GoesTo (InFrames (Entry loose c l.end fs)) []))
 unfolding take_dash
-past_dash b key s l o last given loose c fs true p t e =
-    ((last,
-      ap (λ k. waits l.end o.max_buffered_comment_events
-           (with_top (machine.BlockSequence k loose) (state_of o (InFrames (Past loose c fs)) (knowing s last given))))
-        (column_is l.start.place.column c p t)),
-     ap (λ f. first_fault f None)
-       (count_flat o.block_nesting_limit (suc (blocks_open fs)) (InFrames (Entry loose c l.end fs)) refl e))
+past_dash b key s l o last given loose c fs true p t e = (
+  (
+    last,
+    ap (λ k. waits l.end o.max_buffered_comment_events
+        (with_top (machine.BlockSequence k loose) (state_of o (InFrames (Past loose c fs)) (knowing s last given))))
+        (column_is l.start.place.column c p t),
+  ),
+  ap (λ f. first_fault f None)
+      (count_flat o.block_nesting_limit (suc (blocks_open fs)) (InFrames (Entry loose c l.end fs)) refl e),
+)
 past_dash b key s l o last given loose c fs false p t e = refl
 
 past_by :
     (b : Bool) (k : lexemes.LexemeKind) (key : Option KeyStart) (s : Scope) (l : lexemes.Lexeme) (o : OptionsData)
     (last : Mark) (given : List PlainEvent) (loose : Bool) (c : ℕ) (fs : List OpenFrame) → DashOr b key k →
-      IsPositive c →
+    IsPositive c →
     sequence_ends loose c (X b k key s l) ≡ false →
     nat_le (blocks_open (Past loose c fs)) o.block_nesting_limit ≡ true →
     StepsLimited b k key s l o last given (Past loose c fs)
@@ -374,22 +377,22 @@ unfolding in_sequence
 past_by b k key s l o last given loose c fs (another n) p f e = past_other b k key s l o last given loose c fs n f
 past_by b lexemes.Dash key s l o last given loose c fs a_dash p f e =
     subst
-      (LimitView o (X b lexemes.Dash key s l) (knowing s last given)
-         (take_token o (token_of b (at_kind l lexemes.Dash key))
-              (state_of o (InFrames (Past loose c fs)) (knowing s last given))))
-      (sym
-         (stays_taken (sequence_ends loose c (X b lexemes.Dash key s l))
-            (with_event (pointed SequenceEnds l.start) (finish_frames (X b lexemes.Dash key s l) l.start fs))
-            (InFrames (Past loose c fs)) (X b lexemes.Dash key s l) f))
-      (subst
-         (λ a.
-            LimitView o (X b lexemes.Dash key s l) (knowing s last given)
-              (if a then Next b lexemes.Dash key s l o last given loose (Past loose c fs)
-               else Err (fault_of ExpectedBlockSequenceEntry (X b lexemes.Dash key s l)))
-              (if_gives (stands_in (X b lexemes.Dash key s l) c) ExpectedBlockSequenceEntry
-                 (GoesTo (InFrames (Entry loose c l.end fs)) [])))
-         (sym (stands_same b s (at_kind l lexemes.Dash key) c p))
-         (past_dash b key s l o last given loose c fs (stands_in (X b lexemes.Dash key s l) c) p refl e))
+    (LimitView o (X b lexemes.Dash key s l) (knowing s last given)
+    (take_token o (token_of b (at_kind l lexemes.Dash key))
+    (state_of o (InFrames (Past loose c fs)) (knowing s last given))))
+    (sym
+    (stays_taken (sequence_ends loose c (X b lexemes.Dash key s l))
+    (with_event (pointed SequenceEnds l.start) (finish_frames (X b lexemes.Dash key s l) l.start fs))
+    (InFrames (Past loose c fs)) (X b lexemes.Dash key s l) f))
+    (subst
+    (λ a.
+    LimitView o (X b lexemes.Dash key s l) (knowing s last given)
+    (if a then Next b lexemes.Dash key s l o last given loose (Past loose c fs)
+    else Err (fault_of ExpectedBlockSequenceEntry (X b lexemes.Dash key s l)))
+    (if_gives (stands_in (X b lexemes.Dash key s l) c) ExpectedBlockSequenceEntry
+    (GoesTo (InFrames (Entry loose c l.end fs)) [])))
+    (sym (stands_same b s (at_kind l lexemes.Dash key) c p))
+    (past_dash b key s l o last given loose c fs (stands_in (X b lexemes.Dash key s l) c) p refl e))
 
 pub past_steps :
     (b : Bool) (k : lexemes.LexemeKind) (key : Option KeyStart) (s : Scope) (l : lexemes.Lexeme) (o : OptionsData)

@@ -1,26 +1,24 @@
 -- Steps around documents: directives, marks and the end, and the first lexeme of a document without `---`.
-use Rattle.granit_agreement.specs.Good.{Good, hole, at_root, is_fresh, directed, rooted}
-use Rattle.granit_agreement.specs.Running.{Knows, Comes, NextIs, NextView}
+use Rattle.granit_agreement.specs.Good.{hole, at_root, is_fresh, directed}
+use Rattle.granit_agreement.specs.Running.{Knows, NextView}
 use Rattle.granit_agreement.specs.Stepping.{taken, LimitView, at_kind, knowing}
 use Rattle.granit_agreement.specs.View.{Beside, terminal_kind, terminal_of, at_of, indent_of, state_of, give_all}
-use Rattle.granit_grammar.specs.EventMachine.{OpenFrame, DocumentFrame, EventState, IsFresh, HasDirectives, IsRooted, InFrames, IsEnded, Ending, ending, ended_by, EventStep, GoesTo, StopsWith, after_events, take_frames, want_frames}
-use Rattle.granit_grammar.specs.Guarded.{blocks_open, first_fault, fault_unless, whole_guard}
-use Rattle.granit_language.specs.Choice.{choose}
-use Rattle.granit_language.specs.GrammarFault.{GrammarFault, fault_of, UnexpectedEofBlockSequence, ExpectedDocumentStart, MissingDocumentEndBeforeDirective, DuplicateVersionDirective, UnsupportedYamlMajorVersion, DuplicateTagDirective}
+use Rattle.granit_grammar.specs.EventMachine.{OpenFrame, DocumentFrame, EventState, IsFresh, HasDirectives, IsRooted, InFrames, ended_by, EventStep, GoesTo, StopsWith, after_events, take_frames, want_frames}
+use Rattle.granit_grammar.specs.Guarded.{first_fault, fault_unless}
+use Rattle.granit_language.specs.GrammarFault.{GrammarFault, fault_of, UnexpectedEofBlockSequence, DuplicateVersionDirective, UnsupportedYamlMajorVersion, DuplicateTagDirective}
 use Rattle.granit_language.specs.Node.{NoProperties}
 use Rattle.granit_language.specs.Scope.{Scope, entry_of}
-use Rattle.granit_language.specs.Scoping.{next_scope, version_fault, handle_fault, unless}
+use Rattle.granit_language.specs.Scoping.{version_fault, handle_fault, unless}
 use Rattle.granit_language.specs.Telling.{event_told, version_told, indent_told}
-use Rattle.granit_language.specs.Terminal.{Directive, DocumentStart, DocumentEnd, TheEnd, Terminal, TerminalKind, is_stream_kind}
+use Rattle.granit_language.specs.Terminal.{Directive, Terminal, is_stream_kind}
 use Rattle.granit_language.specs.TreeEvents.{TreeEvent, bare_document_start, pointed, shown_event, DocumentStarts, DocumentEnds, StreamEnds}
 use Rattle.granit_lexemes.specs.Lexeme.{KeyStart, DirectiveKind, Version, TagPrefix, Reserved}
 use Rattle.granit_lexemes.specs.declared.layout.Bracket.TheVariants.{Square, Curly}
-use Rattle.granit_machine.specs.Frames.{ParserState}
 use Rattle.granit_machine.specs.NodeSteps.{Stepped}
 use Rattle.granit_machine.specs.Parser.{take_token}
-use Rattle.granit_machine.specs.StreamSteps.{bare_start, begin_document, with_directive, with_version, with_handle}
-use Rattle.granit_machine.specs.TokenSort.{Token, token_of, token_sort, begins_node}
-use Rattle.std.proofs.Common.{◌≡◌, ℕ, Bool, true, false, arith, ◌==◌, List, [], ◌∷◌, ◌++◌, refl, sym, ap, ap₂, ◌∙◌, subst, Option, Some, None, Result, Ok, Err}
+use Rattle.granit_machine.specs.StreamSteps.{bare_start, begin_document, with_directive, with_handle}
+use Rattle.granit_machine.specs.TokenSort.{token_of, token_sort, begins_node}
+use Rattle.std.proofs.Common.{◌≡◌, ℕ, Bool, true, false, arith, ◌==◌, List, [], ◌∷◌, ◌++◌, refl, sym, ap, ap₂, ◌∙◌, subst, Option, Some, None, Ok, Err}
 use Rattle.std.proofs.lemmas.Bool.Decides.{nat_tests}
 use Rattle.std.specs.Prelude.{nat_le, if◌then◌else◌}
 use Rattle.granit_base.specs.Place.{Mark}
@@ -30,14 +28,13 @@ use Rattle.granit_lexemes.specs.PlainEvent.{PlainEvent, PlainVersion, event_at}
 use Rattle.granit_lexemes.specs.PlainEvent as plain
 use Rattle.granit_machine.specs.Giving.{with_indent}
 use Rattle.granit_lexemes.specs.Lexeme as lexemes
-use Rattle.granit_machine.specs.Frames as machine
 use Rattle.granit_machine.specs.NodeSteps as steps
 use Rattle.granit_agreement.proofs.Dashes.{dash_or}
 use Rattle.granit_agreement.proofs.FrameNexts.{limit_next}
-use Rattle.granit_agreement.proofs.GoodSteps.{GoodStep, stops_well, after_step, want_stands}
-use Rattle.granit_agreement.proofs.NodeTests.{Tested, NodeOf}
+use Rattle.granit_agreement.proofs.GoodSteps.{after_step, want_stands}
+use Rattle.granit_agreement.proofs.NodeTests.{Tested}
 use Rattle.granit_agreement.proofs.PartSteps.{lookup_texts}
-use Rattle.granit_agreement.proofs.SequencePlaces.{RootStep, root_by}
+use Rattle.granit_agreement.proofs.SequencePlaces.{root_by}
 use Rattle.granit_agreement.proofs.Views.{after_nothing, events_before}
 
 abbrev X : Bool → lexemes.LexemeKind → Option KeyStart → Scope → lexemes.Lexeme → Terminal
@@ -55,7 +52,7 @@ abbrev StageView :
     Bool → lexemes.LexemeKind → Option KeyStart → Scope → lexemes.Lexeme → OptionsData → Beside → EventState → Type 0
 StageView b k key s l o d st =
     NextView o (X b k key s l) s d.given (take_token o (token_of b (at_kind l k key)) (state_of o st d))
-      (taken (ended_by (X b k key s l) st) (X b k key s l))
+    (taken (ended_by (X b k key s l) st) (X b k key s l))
 
 -- ---- directives
 
@@ -73,32 +70,33 @@ version_by :
     Then b (Version major minor) key s l o None d (With o b (Version major minor) key l None d)
 version_by b major minor key s l o d true e c h v =
     subst (Then b (Version major minor) key s l o None d)
-      (sym (ap (λ q. if q then Ok (state_of o (HasDirectives (Some (major, minor))) d) else Err (fault_of UnsupportedYamlMajorVersion (X b (lexemes.Directive (Version major minor)) key s l))) e))
-      (record {
-         beside = d;
-         is_seen = refl;
-         gives = refl;
-         knows = (c, h, refl);
-         passes =
-             guarded_by o.block_nesting_limit _ _
-             ∙ (ap (version_fault major) v ∙ ap (λ q. unless q (Some UnsupportedYamlMajorVersion)) e);
-         comes = directed;
-       })
+    (sym (ap (λ q. if q then Ok (state_of o (HasDirectives (Some (major, minor))) d) else Err (fault_of UnsupportedYamlMajorVersion (X b (lexemes.Directive (Version major minor)) key s l))) e))
+    (record {
+      beside = d;
+      is_seen = refl;
+      gives = refl;
+      knows = (c, h, refl);
+      passes =
+          guarded_by o.block_nesting_limit _ _
+          ∙ (ap (version_fault major) v ∙ ap (λ q. unless q (Some UnsupportedYamlMajorVersion)) e);
+      comes = directed;
+    })
 version_by b major minor key s l o d false e c h v =
     subst (Then b (Version major minor) key s l o None d)
-      (sym (ap (λ q. if q then Ok (state_of o (HasDirectives (Some (major, minor))) d) else Err (fault_of UnsupportedYamlMajorVersion (X b (lexemes.Directive (Version major minor)) key s l))) e))
-      (UnsupportedYamlMajorVersion,
-       guarded_by o.block_nesting_limit _ _
-       ∙ (ap (version_fault major) v ∙ ap (λ q. unless q (Some UnsupportedYamlMajorVersion)) e),
-       refl)
+    (sym (ap (λ q. if q then Ok (state_of o (HasDirectives (Some (major, minor))) d) else Err (fault_of UnsupportedYamlMajorVersion (X b (lexemes.Directive (Version major minor)) key s l))) e)) (
+      UnsupportedYamlMajorVersion,
+      guarded_by o.block_nesting_limit _ _
+          ∙ (ap (version_fault major) v ∙ ap (λ q. unless q (Some UnsupportedYamlMajorVersion)) e),
+      refl,
+    )
 
 handle_by :
     (b : Bool) (handle prefix : List ℕ) (key : Option KeyStart) (s : Scope) (l : lexemes.Lexeme) (o : OptionsData)
     (v : Option (ℕ × ℕ)) (d : Beside) (known : Option (List ℕ)) → entry_of handle s.pending ≡ known →
     d.count ≡ s.count → d.handles ≡ s.pending → s.version ≡ v →
     Then b (TagPrefix handle prefix) key s l o v d
-      (with_handle (token_of b (at_kind l (lexemes.Directive (TagPrefix handle prefix)) key)) (version_told v) handle prefix known
-         (state_of o (HasDirectives v) d))
+    (with_handle (token_of b (at_kind l (lexemes.Directive (TagPrefix handle prefix)) key)) (version_told v) handle prefix known
+    (state_of o (HasDirectives v) d))
 handle_by b handle prefix key s l o v d (Some known) e c h w =
     (DuplicateTagDirective, guarded_by o.block_nesting_limit _ _ ∙ ap handle_fault e, refl)
 handle_by b handle prefix key s l o v d None e c h w = record {
@@ -120,12 +118,12 @@ directive_next b (Version major minor) key s l o (Some v) d c h w =
     (DuplicateVersionDirective, guarded_by o.block_nesting_limit _ _ ∙ ap (version_fault major) w, refl)
 directive_next b (TagPrefix handle prefix) key s l o v d c h w =
     subst
-      (λ q.
-         Then b (TagPrefix handle prefix) key s l o v d
-           (with_handle (token_of b (at_kind l (lexemes.Directive (TagPrefix handle prefix)) key)) (version_told v) handle prefix q
-              (state_of o (HasDirectives v) d)))
-      (sym (lookup_texts handle d.handles ∙ ap (entry_of handle) h))
-      (handle_by b handle prefix key s l o v d (entry_of handle s.pending) refl c h w)
+    (λ q.
+    Then b (TagPrefix handle prefix) key s l o v d
+    (with_handle (token_of b (at_kind l (lexemes.Directive (TagPrefix handle prefix)) key)) (version_told v) handle prefix q
+    (state_of o (HasDirectives v) d)))
+    (sym (lookup_texts handle d.handles ∙ ap (entry_of handle) h))
+    (handle_by b handle prefix key s l o v d (entry_of handle s.pending) refl c h w)
 directive_next b (Reserved name parameters) key s l o v d c h w = record {
   beside = d;
   is_seen = refl;
@@ -180,9 +178,12 @@ rooted_next b lexemes.DocumentStart key s l o e d w =
       beside = Started l d [] given;
       is_seen = refl;
       gives = refl;
-      knows =
-          (ap₂ (λ n hs. record { last = l.shown.end; count = n; names = []; handles = hs; given = given })
-             (ap (λ d. d.count) w.0) (sym w.1), refl, refl);
+      knows = (
+        ap₂ (λ n hs. record { last = l.shown.end; count = n; names = []; handles = hs; given = given })
+            (ap (λ d. d.count) w.0) (sym w.1),
+        refl,
+        refl,
+      );
       passes = guarded_by o.block_nesting_limit _ _;
       comes = hole at_root;
     }
@@ -286,25 +287,25 @@ begun_knows :
     Begun b k key l d ≡ knowing s (BareAt b k key l).span.end (d.given ++ BareAt b k key l ∷ [])
 begun_knows b k key s l d w =
     ap
-      (λ n.
-         record {
-           last = (BareAt b k key l).span.end;
-           count = n;
-           names = [];
-           handles = [];
-           given = d.given ++ BareAt b k key l ∷ [];
-         })
-      w.0
+    (λ n.
+    record {
+      last = (BareAt b k key l).span.end;
+      count = n;
+      names = [];
+      handles = [];
+      given = d.given ++ BareAt b k key l ∷ [];
+    })
+    w.0
     ∙ ap₂
-        (λ ns hs.
-           record {
-             last = (BareAt b k key l).span.end;
-             count = s.count;
-             names = ns;
-             handles = hs;
-             given = d.given ++ BareAt b k key l ∷ [];
-           })
-        (sym w.1) (sym w.2)
+    (λ ns hs.
+    record {
+      last = (BareAt b k key l).span.end;
+      count = s.count;
+      names = ns;
+      handles = hs;
+      given = d.given ++ BareAt b k key l ∷ [];
+    })
+    (sym w.1) (sym w.2)
 
 err_before :
     (o : OptionsData) (x : Terminal) (d c : Beside) (f : Fault) (es : List TreeEvent) (y : EventStep) →
@@ -316,56 +317,56 @@ fresh_by :
     (b : Bool) (k : lexemes.LexemeKind) (key : Option KeyStart) (s : Scope) (l : lexemes.Lexeme) (o : OptionsData)
     (d : Beside) (begins : Bool) → Knows IsFresh s d → begins_node (token_sort b key k) ≡ begins →
     LimitView o (X b k key s l) (knowing s (BareAt b k key l).span.end (d.given ++ BareAt b k key l ∷ []))
-      (Tested begins (NodeFrom b k key l o (knowing s (BareAt b k key l).span.end (d.given ++ BareAt b k key l ∷ [])))
-         UnexpectedEofBlockSequence (X b k key s l))
-      (want_frames Root NoProperties (terminal_kind k key) (at_of b s (at_kind l k key))) →
+    (Tested begins (NodeFrom b k key l o (knowing s (BareAt b k key l).span.end (d.given ++ BareAt b k key l ∷ [])))
+    UnexpectedEofBlockSequence (X b k key s l))
+    (want_frames Root NoProperties (terminal_kind k key) (at_of b s (at_kind l k key))) →
     LimitView o (X b k key s l) (knowing s l.start d.given)
-      (Tested begins (NodeFrom b k key l o (Begun b k key l d)) UnexpectedEofBlockSequence (X b k key s l))
-      (after_events (BareEvent b k key s l ∷ [])
-         (want_frames Root NoProperties (terminal_kind k key) (at_of b s (at_kind l k key))))
+    (Tested begins (NodeFrom b k key l o (Begun b k key l d)) UnexpectedEofBlockSequence (X b k key s l))
+    (after_events (BareEvent b k key s l ∷ [])
+    (want_frames Root NoProperties (terminal_kind k key) (at_of b s (at_kind l k key))))
 fresh_by b k key s l o d true w e h =
     subst
-      (λ c.
-         LimitView o (X b k key s l) (knowing s l.start d.given) (NodeFrom b k key l o c)
-           (after_events (BareEvent b k key s l ∷ [])
-              (want_frames Root NoProperties (terminal_kind k key) (at_of b s (at_kind l k key)))))
-      (sym (begun_knows b k key s l d w))
-      (events_before o (X b k key s l) s (BareAt b k key l).span.end l.start d.given (BareEvent b k key s l ∷ [])
-         (NodeFrom b k key l o (knowing s (BareAt b k key l).span.end (d.given ++ BareAt b k key l ∷ [])))
-         (want_frames Root NoProperties (terminal_kind k key) (at_of b s (at_kind l k key)))
-         (subst
-            (λ es.
-               LimitView o (X b k key s l) (knowing s (BareAt b k key l).span.end (d.given ++ es))
-                 (NodeFrom b k key l o (knowing s (BareAt b k key l).span.end (d.given ++ BareAt b k key l ∷ [])))
-                 (want_frames Root NoProperties (terminal_kind k key) (at_of b s (at_kind l k key))))
-            (sym (bare_same b k key s l o e)) h))
+    (λ c.
+    LimitView o (X b k key s l) (knowing s l.start d.given) (NodeFrom b k key l o c)
+    (after_events (BareEvent b k key s l ∷ [])
+    (want_frames Root NoProperties (terminal_kind k key) (at_of b s (at_kind l k key)))))
+    (sym (begun_knows b k key s l d w))
+    (events_before o (X b k key s l) s (BareAt b k key l).span.end l.start d.given (BareEvent b k key s l ∷ [])
+    (NodeFrom b k key l o (knowing s (BareAt b k key l).span.end (d.given ++ BareAt b k key l ∷ [])))
+    (want_frames Root NoProperties (terminal_kind k key) (at_of b s (at_kind l k key)))
+    (subst
+    (λ es.
+    LimitView o (X b k key s l) (knowing s (BareAt b k key l).span.end (d.given ++ es))
+    (NodeFrom b k key l o (knowing s (BareAt b k key l).span.end (d.given ++ BareAt b k key l ∷ [])))
+    (want_frames Root NoProperties (terminal_kind k key) (at_of b s (at_kind l k key))))
+    (sym (bare_same b k key s l o e)) h))
 fresh_by b k key s l o d false w e h =
     err_before o (X b k key s l) (knowing s (BareAt b k key l).span.end (d.given ++ BareAt b k key l ∷ [])) (knowing s l.start d.given) (fault_of UnexpectedEofBlockSequence (X b k key s l))
-      (BareEvent b k key s l ∷ [])
-      (want_frames Root NoProperties (terminal_kind k key) (at_of b s (at_kind l k key))) h
+    (BareEvent b k key s l ∷ [])
+    (want_frames Root NoProperties (terminal_kind k key) (at_of b s (at_kind l k key))) h
 
 fresh_other :
     (b : Bool) (k : lexemes.LexemeKind) (key : Option KeyStart) (s : Scope) (l : lexemes.Lexeme) (o : OptionsData)
     (d : Beside) → Knows IsFresh s d → is_stream_kind (terminal_kind k key) ≡ false →
     NextView o (X b k key s l) s d.given (begin_document o (token_of b (at_kind l k key)) (state_of o IsFresh d))
-      (after_events []
-         (after_events (BareEvent b k key s l ∷ [])
-            (want_frames Root NoProperties (terminal_kind k key) (at_of b s (at_kind l k key)))))
+    (after_events []
+    (after_events (BareEvent b k key s l ∷ [])
+    (want_frames Root NoProperties (terminal_kind k key) (at_of b s (at_kind l k key)))))
 fresh_other b k key s l o d w n =
     subst
-      (NextView o (X b k key s l) s d.given (begin_document o (token_of b (at_kind l k key)) (state_of o IsFresh d)))
-      (sym (after_nothing (after_events (BareEvent b k key s l ∷ [])
-         (want_frames Root NoProperties (terminal_kind k key) (at_of b s (at_kind l k key))))))
-      (limit_next o (X b k key s l) s l.start d.given
-         (begin_document o (token_of b (at_kind l k key)) (state_of o IsFresh d))
-         (after_events (BareEvent b k key s l ∷ [])
-            (want_frames Root NoProperties (terminal_kind k key) (at_of b s (at_kind l k key))))
-         (fresh_by b k key s l o d (begins_node (token_sort b key k)) w refl
-            (root_by b k key s l o (BareAt b k key l).span.end (d.given ++ BareAt b k key l ∷ []) None (dash_or b key k)
-               (none_open o.block_nesting_limit)))
-         (after_step (BareEvent b k key s l ∷ []) (want_frames Root NoProperties (terminal_kind k key) (at_of b s (at_kind l k key)))
-            (want_stands Root NoProperties (terminal_kind k key) (at_of b s (at_kind l k key)) at_root))
-         n w.3 w.4)
+    (NextView o (X b k key s l) s d.given (begin_document o (token_of b (at_kind l k key)) (state_of o IsFresh d)))
+    (sym (after_nothing (after_events (BareEvent b k key s l ∷ [])
+    (want_frames Root NoProperties (terminal_kind k key) (at_of b s (at_kind l k key))))))
+    (limit_next o (X b k key s l) s l.start d.given
+    (begin_document o (token_of b (at_kind l k key)) (state_of o IsFresh d))
+    (after_events (BareEvent b k key s l ∷ [])
+    (want_frames Root NoProperties (terminal_kind k key) (at_of b s (at_kind l k key))))
+    (fresh_by b k key s l o d (begins_node (token_sort b key k)) w refl
+    (root_by b k key s l o (BareAt b k key l).span.end (d.given ++ BareAt b k key l ∷ []) None (dash_or b key k)
+    (none_open o.block_nesting_limit)))
+    (after_step (BareEvent b k key s l ∷ []) (want_frames Root NoProperties (terminal_kind k key) (at_of b s (at_kind l k key)))
+    (want_stands Root NoProperties (terminal_kind k key) (at_of b s (at_kind l k key)) at_root))
+    n w.3 w.4)
 
 pub fresh_next :
     (b : Bool) (k : lexemes.LexemeKind) (key : Option KeyStart) (s : Scope) (l : lexemes.Lexeme) (o : OptionsData)
@@ -382,9 +383,11 @@ fresh_next b lexemes.DocumentStart key s l o d w =
       beside = Started l d [] given;
       is_seen = refl;
       gives = refl;
-      knows =
-          (ap₂ (λ n hs. record { last = l.shown.end; count = n; names = []; handles = hs; given = given }) w.0 (sym w.3),
-           refl, refl);
+      knows = (
+        ap₂ (λ n hs. record { last = l.shown.end; count = n; names = []; handles = hs; given = given }) w.0 (sym w.3),
+        refl,
+        refl,
+      );
       passes = guarded_by o.block_nesting_limit _ _;
       comes = hole at_root;
     }

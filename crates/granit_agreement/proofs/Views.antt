@@ -1,16 +1,16 @@
 -- How views of steps are carried: an event before, and the limit of block collections.
-use Rattle.granit_agreement.specs.Stepping.{StepView, MeansView, LimitView, knowing, known_behind, moved_on}
+use Rattle.granit_agreement.specs.Stepping.{MeansView, LimitView, knowing, known_behind, moved_on}
 use Rattle.granit_agreement.specs.View.{Beside, state_of, give_all}
-use Rattle.granit_grammar.specs.EventMachine.{OpenFrame, EventState, InFrames, EventStep, GoesTo, StopsWith, after_events}
-use Rattle.granit_grammar.specs.Guarded.{limit_fault, fault_unless, first_fault, state_count, is_loose, whole_guard}
-use Rattle.granit_language.specs.GrammarFault.{GrammarFault, TooManyBlocks, fault_of}
+use Rattle.granit_grammar.specs.EventMachine.{EventState, EventStep, GoesTo, StopsWith, after_events}
+use Rattle.granit_grammar.specs.Guarded.{limit_fault, fault_unless, first_fault, state_count, is_loose}
+use Rattle.granit_language.specs.GrammarFault.{TooManyBlocks}
 use Rattle.granit_language.specs.Scope.{Scope}
 use Rattle.granit_language.specs.Scoping.{scope_fault}
 use Rattle.granit_language.specs.Telling.{event_told}
 use Rattle.granit_language.specs.Terminal.{Anchor, Tag, Alias, Property, Scalar, Open, TerminalKind, Part, Terminal}
 use Rattle.granit_language.specs.TreeEvents.{TreeEvent}
 use Rattle.granit_machine.specs.Frames.{ParserState}
-use Rattle.std.proofs.Common.{◌≡◌, ℕ, Bool, true, false, List, [], ◌∷◌, ◌++◌, refl, sym, ap, ◌∙◌, Option, Some, None, Result, Ok, Err}
+use Rattle.std.proofs.Common.{◌≡◌, ℕ, true, List, [], ◌∷◌, ◌++◌, refl, sym, ap, ◌∙◌, None, Result, Ok, Err}
 use Rattle.std.specs.Prelude.{nat_le}
 use Rattle.granit_base.specs.Place.{Mark}
 use Rattle.granit_error.specs.OptionsData.{OptionsData}
@@ -59,9 +59,14 @@ pub event_before :
     (r : Result ParserState Fault) (y : EventStep) →
     LimitView o x (knowing s a (given ++ event_told o e)) r y →
     LimitView o x (knowing s last given) r (after_events (e ∷ []) y)
-event_before o x s a last given e (Ok p) (GoesTo st es) h =
-    ((h.0.0, h.0.1 ∙ ap (state_of o st) (moved_same x.kind s a last h.0.0 (given ++ event_told o e) given
-       (give_all o es (given ++ event_told o e)))), h.1)
+event_before o x s a last given e (Ok p) (GoesTo st es) h = (
+  (
+    h.0.0,
+    h.0.1 ∙ ap (state_of o st) (moved_same x.kind s a last h.0.0 (given ++ event_told o e) given
+        (give_all o es (given ++ event_told o e))),
+  ),
+  h.1,
+)
 event_before o x s a last given e (Err f) (GoesTo st es) h = h
 event_before o x s a last given e (Ok p) (StopsWith k) h = h
 event_before o x s a last given e (Err f) (StopsWith k) h = h
@@ -71,12 +76,15 @@ pub events_before :
     (o : OptionsData) (x : Terminal) (s : Scope) (a last : Mark) (given : List PlainEvent) (es : List TreeEvent)
     (r : Result ParserState Fault) (y : EventStep) → LimitView o x (knowing s a (give_all o es given)) r y →
     LimitView o x (knowing s last given) r (after_events es y)
-events_before o x s a last given es (Ok p) (GoesTo st more) h =
-    ((h.0.0,
-      h.0.1 ∙ ap (λ g. state_of o st (moved_on o x h.0.0 g (knowing s a (give_all o es given)))) (sym (give_append o es more given))
-      ∙ ap (state_of o st)
-          (moved_same x.kind s a last h.0.0 (give_all o es given) given (give_all o (es ++ more) given))),
-     h.1)
+events_before o x s a last given es (Ok p) (GoesTo st more) h = (
+  (
+    h.0.0,
+    h.0.1 ∙ ap (λ g. state_of o st (moved_on o x h.0.0 g (knowing s a (give_all o es given)))) (sym (give_append o es more given))
+        ∙ ap (state_of o st)
+        (moved_same x.kind s a last h.0.0 (give_all o es given) given (give_all o (es ++ more) given)),
+  ),
+  h.1,
+)
 events_before o x s a last given es (Err f) (GoesTo st more) h = h
 events_before o x s a last given es (Ok p) (StopsWith k) h = h
 events_before o x s a last given es (Err f) (StopsWith k) h = h

@@ -1,31 +1,14 @@
 -- A lexeme where a node must stand outside flow, by the column it stands in.
-use Rattle.granit_agreement.specs.Good.{Holes, IsPositive}
-use Rattle.granit_agreement.specs.Stepping.{LimitView, at_kind, knowing}
-use Rattle.granit_agreement.specs.Steps.{topped, On, asks, colons, dashes}
-use Rattle.granit_agreement.specs.View.{terminal_kind, terminal_of, at_of, frames_of, state_of}
-use Rattle.granit_grammar.specs.EventMachine.{Key, Asking, Value, OpenFrame, DocumentFrame, SequenceFrame, MappingFrame, InFrames, EventStep, GoesTo, StopsWith, after_events, if_gives, frames_room, frames_indent, part_frames, plain_pair, begin_pair_frames, entry_frames, BlockSite, stop_kind, want_frames}
-use Rattle.granit_grammar.specs.Guarded.{blocks_open}
+use Rattle.granit_agreement.specs.Steps.{asks, colons, dashes}
+use Rattle.granit_grammar.specs.EventMachine.{Key, Asking, Value, OpenFrame, DocumentFrame, SequenceFrame, MappingFrame, EventStep, after_events, if_gives, frames_room, frames_indent, part_frames, begin_pair_frames, entry_frames, BlockSite, stop_kind, want_frames}
 use Rattle.granit_language.specs.Choice.{choose}
 use Rattle.granit_language.specs.GrammarFault.{GrammarFault}
 use Rattle.granit_language.specs.Node.{TreeProperties, NoProperties, One, Two}
-use Rattle.granit_language.specs.Room.{Room, RightOf, ValueIn, room_behind, right_fits, loose_fits, indicates, opens, part_fits, joins}
-use Rattle.granit_language.specs.Scope.{Scope}
-use Rattle.granit_language.specs.Terminal.{Anchor, Tag, Part, PartKind, Alias, Property, Scalar, Open, Question, Colon, Dash, At, Terminal, TerminalKind, terminal, edge}
-use Rattle.granit_language.specs.TreeEvents.{mapping_start, sequence_start}
-use Rattle.granit_lexemes.specs.Lexeme.{KeyStart}
-use Rattle.granit_lexemes.specs.declared.layout.Bracket.TheVariants.{Square, Curly}
-use Rattle.granit_machine.specs.NodeEnds.{may_be_indentless}
-use Rattle.granit_machine.specs.NodeSteps.{bare, node, take_dash, first_dash}
-use Rattle.granit_machine.specs.TokenSort.{token_of, token_sort, begins_node}
-use Rattle.std.proofs.Common.{◌≡◌, ℕ, suc, Bool, true, false, ◌||◌, ◌&&◌, not, ◌==◌, nat_lt, List, [], ◌∷◌, refl, sym, ap, ap₂, ◌∙◌, subst, Option, Some, None, Result, Ok, Err}
-use Rattle.std.specs.Prelude.{nat_le}
+use Rattle.granit_language.specs.Room.{Room, room_behind, right_fits, loose_fits, indicates, part_fits}
+use Rattle.granit_language.specs.Terminal.{Part, PartKind, Alias, Property, Scalar, Open, Question, Colon, Dash, At, terminal, edge}
+use Rattle.granit_language.specs.TreeEvents.{mapping_start}
+use Rattle.std.proofs.Common.{◌≡◌, ℕ, Bool, true, false, ◌&&◌, not, nat_lt, List, [], ◌∷◌, refl, ap, ap₂, ◌∙◌, Option, Some, None}
 use Rattle.granit_base.specs.Place.{Mark}
-use Rattle.granit_error.specs.OptionsData.{OptionsData}
-use Rattle.granit_lexemes.specs.PlainEvent.{PlainEvent}
-use Rattle.granit_lexemes.specs.Lexeme as lexemes
-use Rattle.granit_agreement.proofs.BlockBegins.{question_begins, colon_begins, dash_begins, loose_begins}
-use Rattle.granit_agreement.proofs.BlockNodes.{KeyTaken, scalar_key, square_key, curly_key_node, anchor_key, tag_key, alias_key, part_limited}
-use Rattle.granit_agreement.proofs.PartSteps.{scalar_parts, square_parts, curly_parts, anchor_parts, tag_parts, alias_parts}
 
 -- a place for a node outside flow, where a block collection may begin
 pub data BlockHole : List OpenFrame → Type 0 where
@@ -61,7 +44,7 @@ right_is (Two k i m j) fs e value_hole = refl
 
 -- a pair may begin where a block collection may
 pub indicates_is : (p : TreeProperties) (fs : List OpenFrame) (i : At) → BlockHole fs →
-  indicates (RoomOf p fs) i ≡ nat_lt (hole_column fs) (edge i)
+    indicates (RoomOf p fs) i ≡ nat_lt (hole_column fs) (edge i)
 indicates_is NoProperties fs i root_hole = refl
 indicates_is (One k j) fs i root_hole = refl
 indicates_is (Two k j m n) fs i root_hole = refl
@@ -101,21 +84,21 @@ pub want_plain :
     want_frames fs p (Part m) i ≡ if_gives (Right fs i) (stop_kind fs) (part_frames (stop_kind fs) fs p m i)
 want_plain fs p m i h e =
     ap₂
-        (λ a b.
-           choose a (begin_pair_frames (stop_kind fs) fs p (Part m) i)
-             (if_gives b (stop_kind fs) (part_frames (stop_kind fs) fs p m i)))
-      (ap (λ b. b && indicates (RoomOf p fs) i) e) (part_fits_is p fs i h ∙ ap (λ b. not b && Right fs i) e)
+    (λ a b.
+    choose a (begin_pair_frames (stop_kind fs) fs p (Part m) i)
+    (if_gives b (stop_kind fs) (part_frames (stop_kind fs) fs p m i)))
+    (ap (λ b. b && indicates (RoomOf p fs) i) e) (part_fits_is p fs i h ∙ ap (λ b. not b && Right fs i) e)
 
 -- the pair of a simple key is that of a block mapping
 abbrev KeyPair : List OpenFrame → TreeProperties → PartKind → At → EventStep
 KeyPair fs p m i =
     after_events (mapping_start p (terminal (Part m) i) (frames_indent fs) ∷ [])
-      (part_frames (stop_kind fs) (MappingFrame (edge i) Key ∷ fs) NoProperties m i)
+    (part_frames (stop_kind fs) (MappingFrame (edge i) Key ∷ fs) NoProperties m i)
 
 pair_in : (fs : List OpenFrame) (p : TreeProperties) (m : PartKind) (i : At) → BlockHole fs →
     begin_pair_frames (stop_kind fs) fs p (Part m) i
-        ≡ after_events (mapping_start p (terminal (Part m) i) (frames_indent fs) ∷ [])
-            (entry_frames (stop_kind fs) (BlockSite (edge i) fs) (Part m) i)
+    ≡ after_events (mapping_start p (terminal (Part m) i) (frames_indent fs) ∷ [])
+    (entry_frames (stop_kind fs) (BlockSite (edge i) fs) (Part m) i)
 pair_in fs NoProperties m i root_hole = refl
 pair_in fs (One k j) m i root_hole = refl
 pair_in fs (Two k j n q) m i root_hole = refl
@@ -137,7 +120,7 @@ key_entry stop c fs (Scalar style text) i = refl
 key_entry stop c fs (Open bracket) i = refl
 
 if_pair : (b r : Bool) (stop : GrammarFault) (y z : EventStep) → b ≡ true →
-  choose (b && r) y (if_gives (not b && r) stop z) ≡ if_gives r stop y
+    choose (b && r) y (if_gives (not b && r) stop z) ≡ if_gives r stop y
 if_pair true true stop y z e = refl
 if_pair true false stop y z e = refl
 if_pair false r stop y z e = cc (e)
@@ -146,15 +129,15 @@ pub want_key : (fs : List OpenFrame) (p : TreeProperties) (m : PartKind) (i : At
     want_frames fs p (Part m) i ≡ if_gives (Right fs i) (stop_kind fs) (KeyPair fs p m i)
 want_key fs p m i h e =
     ap₂
-        (λ a b.
-           choose (i.begins_key && a) (begin_pair_frames (stop_kind fs) fs p (Part m) i)
-             (if_gives b (stop_kind fs) (part_frames (stop_kind fs) fs p m i)))
-      (indicates_is p fs i h) (part_fits_is p fs i h)
+    (λ a b.
+    choose (i.begins_key && a) (begin_pair_frames (stop_kind fs) fs p (Part m) i)
+    (if_gives b (stop_kind fs) (part_frames (stop_kind fs) fs p m i)))
+    (indicates_is p fs i h) (part_fits_is p fs i h)
     ∙ (if_pair i.begins_key (Right fs i) (stop_kind fs) _ _ e
     ∙ ap (if_gives (Right fs i) (stop_kind fs))
-        (pair_in fs p m i h
-         ∙ ap (after_events (mapping_start p (terminal (Part m) i) (frames_indent fs) ∷ []))
-             (key_entry (stop_kind fs) (edge i) fs m i)))
+    (pair_in fs p m i h
+    ∙ ap (after_events (mapping_start p (terminal (Part m) i) (frames_indent fs) ∷ []))
+    (key_entry (stop_kind fs) (edge i) fs m i)))
 
 asks_in :
     (fs : List OpenFrame) (p : TreeProperties) (i : At) → BlockHole fs →
@@ -198,11 +181,11 @@ want_colon fs p i h = ap₂ (λ b y. if_gives b (stop_kind fs) y) (indicates_is 
 
 pub want_dash : (fs : List OpenFrame) (p : TreeProperties) (i : At) → BlockHole fs →
     want_frames fs p Dash i
-        ≡ choose (loose_fits (RoomOf p fs) (edge i)) (dashes true p (terminal Dash i) fs)
-            (if_gives (Right fs i) (stop_kind fs) (dashes false p (terminal Dash i) fs))
+    ≡ choose (loose_fits (RoomOf p fs) (edge i)) (dashes true p (terminal Dash i) fs)
+    (if_gives (Right fs i) (stop_kind fs) (dashes false p (terminal Dash i) fs))
 want_dash fs p i h =
     ap
-        (λ b.
-           choose (loose_fits (RoomOf p fs) (edge i)) (dashes true p (terminal Dash i) fs)
-             (if_gives b (stop_kind fs) (dashes false p (terminal Dash i) fs)))
-      (right_is p fs (edge i) h)
+    (λ b.
+    choose (loose_fits (RoomOf p fs) (edge i)) (dashes true p (terminal Dash i) fs)
+    (if_gives b (stop_kind fs) (dashes false p (terminal Dash i) fs)))
+    (right_is p fs (edge i) h)

@@ -1,9 +1,9 @@
 -- A whole step: what a lexeme ends, and how it is taken.
-use Rattle.granit_agreement.specs.Closed.{ClosedView, Below, with_all}
+use Rattle.granit_agreement.specs.Closed.{Below, with_all}
 use Rattle.granit_agreement.specs.Fair.{FairAt, Fair, frame_ends_at}
 use Rattle.granit_agreement.specs.Good.{Good}
-use Rattle.granit_agreement.specs.Running.{Knows, NextIs, NextView}
-use Rattle.granit_agreement.specs.Stepping.{taken, at_kind, knowing}
+use Rattle.granit_agreement.specs.Running.{Knows, NextView}
+use Rattle.granit_agreement.specs.Stepping.{taken, at_kind}
 use Rattle.granit_agreement.specs.View.{Beside, terminal_of, state_of, give_all, with_given}
 use Rattle.granit_grammar.specs.EventMachine.{OpenFrame, EventState, IsFresh, HasDirectives, IsRooted, InFrames, IsEnded, Ending, ending, with_event, ended_by, EventStep, GoesTo, StopsWith, after_events, take_frames}
 use Rattle.granit_grammar.specs.Guarded.{blocks_open, state_count}
@@ -15,8 +15,7 @@ use Rattle.granit_machine.specs.Closing.{close}
 use Rattle.granit_machine.specs.Frames.{ParserState}
 use Rattle.granit_machine.specs.Parser.{take_token}
 use Rattle.granit_machine.specs.TokenSort.{token_of}
-use Rattle.std.proofs.Common.{◌≡◌, ℕ, Bool, true, false, arith, List, [], ◌∷◌, ◌++◌, refl, sym, ap, ◌∙◌, subst, Option, Some, None, Result, Ok, Err}
-use Rattle.std.proofs.lemmas.Bool.Decides.{nat_tests}
+use Rattle.std.proofs.Common.{◌≡◌, ℕ, Bool, true, false, List, [], ◌∷◌, refl, sym, ap, ◌∙◌, subst, Option, Result, Ok, Err}
 use Rattle.std.specs.Prelude.{nat_le}
 use Rattle.granit_base.specs.Place.{Mark}
 use Rattle.granit_error.specs.OptionsData.{OptionsData}
@@ -64,14 +63,14 @@ inner_next :
     (st cs : EventState) (d : Beside) → Below st cs → nat_le (state_count st) o.block_nesting_limit ≡ true →
     Good cs → FairAt (X b k key s l) cs → frame_ends_at (X b k key s l) cs ≡ false → Knows cs s d →
     NextView o (X b k key s l) s d.given (take_token o (token_of b (at_kind l k key)) (state_of o cs d))
-      (taken (ended_by (X b k key s l) cs) (X b k key s l))
+    (taken (ended_by (X b k key s l) cs) (X b k key s l))
 inner_next b k key s l o st (InFrames gs) d w e g f n q =
     subst
-      (λ c.
-         NextView o (X b k key s l) s d.given (take_token o (token_of b (at_kind l k key)) (state_of o (InFrames gs) c))
-           (taken (ended_by (X b k key s l) (InFrames gs)) (X b k key s l)))
-      (sym q.0)
-      (frame_next b k key s l o d.last d.given gs g f n (kept_closed o.block_nesting_limit st gs w e) q.1 q.2)
+    (λ c.
+    NextView o (X b k key s l) s d.given (take_token o (token_of b (at_kind l k key)) (state_of o (InFrames gs) c))
+    (taken (ended_by (X b k key s l) (InFrames gs)) (X b k key s l)))
+    (sym q.0)
+    (frame_next b k key s l o d.last d.given gs g f n (kept_closed o.block_nesting_limit st gs w e) q.1 q.2)
 inner_next b k key s l o st IsFresh d w e g f n q = fresh_next b k key s l o d q
 inner_next b k key s l o st (HasDirectives v) d w e g f n q = directed_next b k key s l o v d q
 inner_next b k key s l o st (IsRooted m) d w e g f n q = rooted_next b k key s l o m d q
@@ -113,27 +112,27 @@ pub step_next :
     (st : EventState) (d : Beside) → Good st → Fair (X b k key s l) st → Knows st s d →
     nat_le (state_count st) o.block_nesting_limit ≡ true →
     NextView o (X b k key s l) s d.given
-      (close o (token_of b (at_kind l k key)) (state_of o st d) >>= take_token o (token_of b (at_kind l k key)))
-      (taken (ended_by (X b k key s l) st) (X b k key s l))
+    (close o (token_of b (at_kind l k key)) (state_of o st d) >>= take_token o (token_of b (at_kind l k key)))
+    (taken (ended_by (X b k key s l) st) (X b k key s l))
 step_next b k key s l o st d g f q e =
     let c = close_agrees b s (at_kind l k key) o st d g f in
     let v = c.viewed in
     subst
-      (λ r.
-         NextView o (X b k key s l) s d.given (r >>= take_token o (token_of b (at_kind l k key)))
-           (taken (ended_by (X b k key s l) st) (X b k key s l)))
-      (sym (c.closes_to ∙ ap (λ p. Ok p) v.view))
-      (subst
-         (NextView o (X b k key s l) s d.given
-            (take_token o (token_of b (at_kind l k key))
-               (state_of o v.closed_state (with_given v.last (give_all o v.gives d.given) d))))
-         (sym
-            (ap (λ y. taken y (X b k key s l)) v.closes_is
-             ∙ taken_all (X b k key s l) v.gives (ended_by (X b k key s l) v.closed_state)))
-         (next_before o (X b k key s l) s d.given v.gives
-            (take_token o (token_of b (at_kind l k key))
-               (state_of o v.closed_state (with_given v.last (give_all o v.gives d.given) d)))
-            (taken (ended_by (X b k key s l) v.closed_state) (X b k key s l))
-            (inner_next b k key s l o st v.closed_state (with_given v.last (give_all o v.gives d.given) d) v.below e v.is_good
-               v.is_fair v.stays
-               (knows_closed st v.closed_state s d v.last (give_all o v.gives d.given) v.below q))))
+    (λ r.
+    NextView o (X b k key s l) s d.given (r >>= take_token o (token_of b (at_kind l k key)))
+    (taken (ended_by (X b k key s l) st) (X b k key s l)))
+    (sym (c.closes_to ∙ ap (λ p. Ok p) v.view))
+    (subst
+    (NextView o (X b k key s l) s d.given
+    (take_token o (token_of b (at_kind l k key))
+    (state_of o v.closed_state (with_given v.last (give_all o v.gives d.given) d))))
+    (sym
+    (ap (λ y. taken y (X b k key s l)) v.closes_is
+    ∙ taken_all (X b k key s l) v.gives (ended_by (X b k key s l) v.closed_state)))
+    (next_before o (X b k key s l) s d.given v.gives
+    (take_token o (token_of b (at_kind l k key))
+    (state_of o v.closed_state (with_given v.last (give_all o v.gives d.given) d)))
+    (taken (ended_by (X b k key s l) v.closed_state) (X b k key s l))
+    (inner_next b k key s l o st v.closed_state (with_given v.last (give_all o v.gives d.given) d) v.below e v.is_good
+    v.is_fair v.stays
+    (knows_closed st v.closed_state s d v.last (give_all o v.gives d.given) v.below q))))

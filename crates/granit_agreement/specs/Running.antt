@@ -1,13 +1,19 @@
 -- How the runs of the parser and of the grammar's machine agree.
-use Rattle.std.specs.Prelude.{◌≡◌, ℕ, Bool, List, [], ◌∷◌, Option, Some, None, Result, Ok, Err}
+use Rattle.std.specs.Prelude.{◌≡◌, Bool, List, [], ◌∷◌, Some, None, Result, Ok, Err}
 use Rattle.granit_error.specs.OptionsData.{OptionsData}
-use Rattle.granit_lexemes.specs.Outcome.{Fault}
-use Rattle.granit_lexemes.specs.PlainEvent.{PlainEvent}
+use Rattle.granit_lexemes.specs.Lexeme.{Lexeme}
+use Rattle.granit_lexemes.specs.Outcome.{Fault, ◌>>=◌}
+use Rattle.granit_lexemes.specs.PlainEvent.{PlainEvent, StreamStart, event_on}
 use Rattle.granit_language.specs.GrammarFault.{GrammarFault, fault_of}
 use Rattle.granit_language.specs.Scope.{Scope}
 use Rattle.granit_language.specs.Scoping.{next_scope}
 use Rattle.granit_language.specs.Telling.{events_told}
-use Rattle.granit_language.specs.Terminal.{Terminal}
+use Rattle.granit_language.specs.Terminal.{Terminal, text_start}
+use Rattle.granit_language.specs.TreeEvents.{TreeEvent}
+use Rattle.granit_language.specs.Whole.{WholeReading}
+use Rattle.granit_machine.specs.Closing.{close}
+use Rattle.granit_machine.specs.Parser.{take_token}
+use Rattle.granit_machine.specs.TokenSort.{token_of}
 use Rattle.granit_grammar.specs.EventMachine.{EventState, IsFresh, HasDirectives, IsRooted, InFrames, IsEnded, EventStep, GoesTo, StopsWith, ended_by, EventAnswer, Events, Faulty, Unfinished}
 use Rattle.granit_grammar.specs.Guarded.{whole_guard}
 use Rattle.granit_machine.specs.Frames.{ParserState}
@@ -38,7 +44,7 @@ Comes st = Good st
 
 -- what the parser is behind a step
 pub record NextIs (o : OptionsData) (x : Terminal) (s : Scope) (events : List PlainEvent) (st : EventState)
-  (p : ParserState) : Type 0 where
+    (p : ParserState) : Type 0 where
   pub beside : Beside
   pub is_seen : Seen o st p beside
   pub gives : beside.given ≡ events
@@ -53,6 +59,14 @@ NextView o x s given (Ok p) (GoesTo st es) = NextIs o x s (give_all o es given) 
 NextView o x s given (Err f) (GoesTo st es) = (k : GrammarFault) × (whole_guard o st x ≡ Some k) × (f ≡ fault_of k x)
 NextView o x s given (Ok p) (StopsWith k) = ⊥
 NextView o x s given (Err f) (StopsWith k) = f ≡ fault_of k x
+
+-- a lexeme with no comment behind it ends what it ends and is taken, on both sides
+abbrev pub StepsAlike : Bool → Scope → Lexeme → OptionsData → EventState → Beside → Type 0
+StepsAlike b s l o st d =
+    NextView o (terminal_of b s l) s d.given
+    (close o (token_of b (record l { tail = None })) (state_of o st d)
+    >>= take_token o (token_of b (record l { tail = None })))
+    (taken (ended_by (terminal_of b s l) st) (terminal_of b s l))
 
 -- ---- runs
 
@@ -74,3 +88,12 @@ RunView o (Ok y) (Events es) = y.0 ≡ events_told o es
 RunView o (Ok y) Unfinished = Unit {0}
 RunView o (Err f) (Faulty k x) = f ≡ fault_of k x
 RunView o r a = ⊥
+
+-- the given events, behind the start of the stream, are those of the one stream of the lexemes
+abbrev pub ParsedAs : OptionsData → List Terminal → List PlainEvent → Type 0
+ParsedAs o xs gs = (es : List TreeEvent) × WholeReading o xs es × (events_told o es ≡ event_on StreamStart text_start ∷ gs)
+
+-- they are these, told
+abbrev pub GivesAll : OptionsData → List TreeEvent → Result (List PlainEvent × ParserState) Fault → Type 0
+GivesAll o es (Ok y) = events_told o es ≡ event_on StreamStart text_start ∷ y.0
+GivesAll o es (Err f) = ⊥

@@ -1,22 +1,19 @@
 -- Where the steps of both agree.
-use Rattle.std.specs.Prelude.{◌≡◌, true, false, Bool, List, [], ◌∷◌, Option, Some, None}
+use Rattle.std.specs.Prelude.{Bool, List, [], ◌∷◌, Option, Some, None}
 use Rattle.granit_base.specs.Place.{Mark}
 use Rattle.granit_error.specs.OptionsData.{OptionsData}
 use Rattle.granit_lexemes.specs.PlainEvent.{PlainEvent}
 use Rattle.granit_lexemes.specs.Lexeme as lexemes
-use Rattle.granit_agreement.specs.Good.{Holes}
 use Rattle.granit_agreement.specs.Stepping.{taken, StepView, MeansView, LimitView, knowing, at_kind}
 use Rattle.granit_agreement.specs.View.{terminal_of, at_of, Beside, state_of}
 use Rattle.granit_grammar.specs.EventMachine.{frames_room, Asking, Value, OpenFrame, SequenceFrame, MappingFrame, GoesTo, frames_indent, PropertiesFrame, InFrames, ended_by, part_frames}
 use Rattle.granit_language.specs.GrammarFault.{GrammarFault}
 use Rattle.granit_language.specs.Node.{TreeProperties, NoProperties}
-use Rattle.granit_language.specs.Room.{behind_property, continues_node}
 use Rattle.granit_language.specs.Scope.{Scope}
-use Rattle.granit_language.specs.Terminal.{Part, PartKind, Terminal, edge}
+use Rattle.granit_language.specs.Terminal.{PartKind, Terminal, edge}
 use Rattle.granit_language.specs.TreeEvents.{mapping_start, null, sequence_start}
 use Rattle.granit_lexemes.specs.Lexeme.{KeyStart}
-use Rattle.granit_machine.specs.Frames.{ParserState}
-use Rattle.granit_machine.specs.NodeSteps.{Stepped, bare}
+use Rattle.granit_machine.specs.NodeSteps.{bare}
 use Rattle.granit_machine.specs.Parser.{take_token}
 use Rattle.granit_machine.specs.TokenSort.{Token, token_of}
 use Rattle.granit_grammar.specs.EventMachine as grammar
@@ -53,41 +50,12 @@ StepsM b k key s l o last given fs =
     (take_token o (token_of b (at_kind l k key)) (state_of o (InFrames fs) (knowing s last given)))
     (taken (ended_by (terminal_of b s (at_kind l k key)) (InFrames fs)) (terminal_of b s (at_kind l k key)))
 
--- wherever such frames stand in a place for a node
-abbrev pub DoneAt : (List OpenFrame → List OpenFrame) → Type 0
-DoneAt f =
-    (b : Bool) (k : lexemes.LexemeKind) (key : Option KeyStart) (s : Scope) (l : lexemes.Lexeme) (o : OptionsData)
-    (d : Beside) (fs : List OpenFrame) →
-    Holes fs → Steps b k key s l o d (f fs)
-
-abbrev pub NodeAt : (List OpenFrame → List OpenFrame) → Type 0
-NodeAt f =
-    (b : Bool) (k : lexemes.LexemeKind) (key : Option KeyStart) (s : Scope) (l : lexemes.Lexeme) (o : OptionsData)
-    (last : Mark) (given : List PlainEvent) (fs : List OpenFrame) →
-    Holes fs → StepsM b k key s l o last given (f fs)
-
-abbrev pub PartAt : PartKind → lexemes.LexemeKind → (TreeProperties → Type 0) → Type 0
-PartAt m k Joins =
-    (b : Bool) (s : Scope) (l : lexemes.Lexeme) (o : OptionsData) (last : Mark) (given : List PlainEvent)
-    (p : TreeProperties) (fs : List OpenFrame) (stop : GrammarFault) →
-    Holes fs → Joins p → PartsAgree b m k s l o last given p fs stop
-
 -- a lexeme begins a block collection behind properties
 abbrev pub On : lexemes.LexemeKind → Bool → Scope → lexemes.Lexeme → Terminal
 On k b s l = terminal_of b s (at_kind l k None)
 
 abbrev pub TokenOn : lexemes.LexemeKind → Bool → lexemes.Lexeme → Token
 TokenOn k b l = token_of b (at_kind l k None)
-
-abbrev pub BeginsAt :
-    lexemes.LexemeKind → (OptionsData → Token → ParserState → Stepped) →
-    (TreeProperties → Terminal → List OpenFrame → grammar.EventStep) → Type 0
-BeginsAt k take gives =
-    (b : Bool) (s : Scope) (l : lexemes.Lexeme) (o : OptionsData) (d : Beside) (p : TreeProperties)
-    (fs : List OpenFrame) →
-    Holes fs →
-    LimitView o (On k b s l) d (take o (TokenOn k b l) (state_of o (InFrames (topped p fs)) d))
-    (gives p (On k b s l) fs)
 
 abbrev pub asks : TreeProperties → Terminal → List OpenFrame → grammar.EventStep
 asks p x fs = GoesTo (InFrames (MappingFrame (edge x.at) Asking ∷ fs)) (mapping_start p x (frames_indent fs) ∷ [])
@@ -101,20 +69,6 @@ abbrev pub dashes : Bool → TreeProperties → Terminal → List OpenFrame → 
 dashes loose p x fs =
     GoesTo (InFrames (SequenceFrame loose (edge x.at) (Some x.at.end) ∷ fs))
     (sequence_start p loose x.at (frames_indent fs) ∷ [])
-
--- behind properties, a lexeme that goes on with them and begins no simple key
-abbrev pub BehindOn :
-    PartKind → lexemes.LexemeKind → Scope → lexemes.Lexeme → OptionsData → Mark → List PlainEvent → TreeProperties →
-    List OpenFrame → Type 0
-BehindOn m k s l o last given NoProperties fs = Unit {0}
-BehindOn m k s l o last given p fs = StepsM false k None s l o last given (PropertiesFrame p ∷ fs)
-
-abbrev pub BehindAt : PartKind → lexemes.LexemeKind → Type 0
-BehindAt m k =
-    (s : Scope) (l : lexemes.Lexeme) (o : OptionsData) (last : Mark) (given : List PlainEvent) (p : TreeProperties)
-    (fs : List OpenFrame) →
-    Holes fs → continues_node (behind_property (frames_room fs)) p (Part m) (at_of false s (at_kind l k None)) ≡ true →
-    BehindOn m k s l o last given p fs
 
 -- a step of the parser and of the grammar's machine, with what means nothing and the limit
 abbrev pub StepsLimited :

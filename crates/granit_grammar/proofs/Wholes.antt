@@ -3,7 +3,7 @@ use Rattle.std.proofs.Common.{arith, ◌≡◌, ℕ, Bool, true, false, List, []
 use Rattle.std.specs.Prelude.{◌⊎◌, if◌then◌else◌, nat_le}
 use Rattle.granit_error.specs.OptionsData.{OptionsData}
 use Rattle.granit_grammar.specs.EventMachine.{EventState, IsFresh, EventAnswer, Events, Faulty, Unfinished, events_before, run_events_from, run_events}
-use Rattle.granit_grammar.specs.Guarded.{guarded, Passes, first_fault, fault_unless, limit_fault, limit_guard, scope_guard, whole_guard, whole_run, state_count, is_loose}
+use Rattle.granit_grammar.specs.Guarded.{guarded, Passes, first_fault, fault_unless, limit_fault, limit_guard, scope_guard, whole_guard, whole_run, state_count, is_loose, Guard}
 use Rattle.granit_grammar.specs.Passing.{GuardFault}
 use Rattle.granit_grammar.specs.TreeMachine.{parse, tree_start}
 use Rattle.granit_language.specs.GrammarFault.{GrammarFault, TooManyBlocks, UnknownAnchor, UndeclaredTagHandle, UnsupportedYamlMajorVersion, DuplicateVersionDirective}
@@ -11,7 +11,7 @@ use Rattle.granit_language.specs.Node.{Stream}
 use Rattle.granit_language.specs.Placed.{StreamPlaced}
 use Rattle.granit_language.specs.Scope.{Scope, no_scope, entry_of}
 use Rattle.granit_language.specs.Scoping.{next_scope, scope_behind, in_scope, scoped, prefix_by, number_of_anchor, fault_if_none, unless, alias_fault, version_fault, handle_fault, scope_fault, Means}
-use Rattle.granit_language.specs.Terminal.{Anchor, Tag, Alias, Property, Scalar, Open, TerminalKind, Directive, Part, Terminal, text_start}
+use Rattle.granit_language.specs.Terminal.{Anchor, Tag, Alias, Property, Scalar, Open, TerminalKind, Directive, Part, Terminal, text_start, At, TheEnd, terminal}
 use Rattle.granit_language.specs.TreeEvents.{StreamStarts, TreeEvent, pointed}
 use Rattle.granit_language.specs.Whole.{WholeReading, ScopeCause, no_anchor, no_handle, second_version, other_version, second_handle, IsWithin, GuardCause, WholeFault}
 use Rattle.granit_language.specs.Within.{stream_within}
@@ -19,7 +19,7 @@ use Rattle.granit_language.specs.Yield.{spell_stream}
 use Rattle.granit_lexemes.specs.Lexeme.{Version, TagPrefix, Reserved}
 use Rattle.std.proofs.lemmas.Bool.Decides.{nat_tests}
 use Rattle.granit_grammar.proofs.Complete.{reads}
-use Rattle.granit_grammar.proofs.Prefixes.{events_are, streams_are_read, faults_are}
+use Rattle.granit_grammar.proofs.Prefixes.{events_are, streams_are_read, faults_are, never_unfinished}
 use Rattle.granit_grammar.proofs.Guards.{passes_same, guarded_tells, TellsOf, passes_first, passes_second, passes_both, means_passes, passes_means}
 use Rattle.granit_grammar.proofs.Limit.{passes_within, within_passes}
 use Rattle.granit_grammar.proofs.Declares.{not_named, declared_by, versioned_by, not_versioned, not_in_force}
@@ -289,3 +289,33 @@ whole_faults o xs k x e =
     (subst (TellsOf (whole_guard o) (scoped no_scope xs) IsFresh)
     (start_fault (guarded (whole_guard o) (scoped no_scope xs) IsFresh) k x e)
     (guarded_tells (whole_guard o) (scoped no_scope xs) IsFresh))
+
+-- ---- a list with its end has an answer
+
+-- scope keeps the end where it is
+record EndedBy (xs : List Terminal) : Type 0 where
+  pub front : List Terminal
+  pub at : At
+  pub is : xs ≡ front ++ (terminal TheEnd at ∷ [])
+
+scoped_end : (s : Scope) (xs : List Terminal) (i : At) → EndedBy (scoped s (xs ++ (terminal TheEnd i ∷ [])))
+scoped_end s [] i = record { front = []; at = (in_scope s (terminal TheEnd i)).at; is = refl }
+scoped_end s (x ∷ xs) i =
+    let e = scoped_end (next_scope x.kind s) xs i in
+    record { front = in_scope s x ∷ e.front; at = e.at; is = ap (λ ys. in_scope s x ∷ ys) e.is }
+
+unfinished_passes :
+    (g : Guard) (xs : List Terminal) (o : EventAnswer) → guarded g xs IsFresh ≡ o → TellsOf g xs IsFresh o →
+    Starts o ≡ Unfinished → run_events xs ≡ Unfinished
+unfinished_passes g xs Unfinished e t h = ap Starts (sym (passes_same g xs IsFresh t) ∙ e)
+unfinished_passes g xs (Events es) e t h = cc (h)
+unfinished_passes g xs (Faulty k x) e t h = cc (h)
+
+pub whole_never_unfinished :
+    (o : OptionsData) (xs : List Terminal) (i : At) → whole_run o (xs ++ (terminal TheEnd i ∷ [])) ≡ Unfinished → ⊥
+whole_never_unfinished o xs i e =
+    let ls = scoped no_scope (xs ++ (terminal TheEnd i ∷ [])) in
+    let d = scoped_end no_scope xs i in
+    never_unfinished d.front d.at
+    (ap run_events (sym d.is)
+    ∙ unfinished_passes (whole_guard o) ls (guarded (whole_guard o) ls IsFresh) refl (guarded_tells (whole_guard o) ls IsFresh) e)

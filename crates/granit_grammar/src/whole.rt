@@ -1,10 +1,10 @@
 //! The same with what stands declared and with the limit of open block collections.
-ghost use Rattle.std.specs.Prelude.{◌≡◌, List};
+ghost use Rattle.std.specs.Prelude.{◌≡◌, List, [], ◌∷◌, ◌++◌};
 ghost use Rattle.granit_error.specs.OptionsData.{OptionsData};
-ghost use Rattle.granit_grammar.specs.EventMachine.{Events, Faulty};
+ghost use Rattle.granit_grammar.specs.EventMachine.{Events, Faulty, Unfinished};
 ghost use Rattle.granit_grammar.specs.Guarded.{whole_run};
 ghost use Rattle.granit_language.specs.GrammarFault.{GrammarFault};
-ghost use Rattle.granit_language.specs.Terminal.{Terminal};
+ghost use Rattle.granit_language.specs.Terminal.{At, TheEnd, Terminal, terminal};
 ghost use Rattle.granit_language.specs.TreeEvents.{TreeEvent};
 ghost use Rattle.granit_language.specs.Whole.{WholeReading, WholeFault};
 
@@ -19,8 +19,8 @@ pub fn every_reading_is_answered()
 {}
 
 /// A fault has its cause: the grammar's, or a lexeme that the grammar takes and that the limit or what stands declared
-/// refuses.
+/// refuses. Lexemes that the end follows have one answer or the other.
 pub fn every_fault_has_its_cause()
-    ensures { (o : OptionsData) (xs : List Terminal) (k : GrammarFault) (x : Terminal) → whole_run o xs ≡ Faulty k x →
-        WholeFault o xs k x }
+    ensures cause { (o : OptionsData) (xs : List Terminal) (k : GrammarFault) (x : Terminal) → whole_run o xs ≡ Faulty k x → WholeFault o xs k x }
+    ensures ends { (o : OptionsData) (xs : List Terminal) (i : At) → whole_run o (xs ++ (terminal TheEnd i ∷ [])) ≡ Unfinished → ⊥ }
 {}

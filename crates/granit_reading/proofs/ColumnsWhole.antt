@@ -51,7 +51,7 @@ fresh_kept o m in_flow (Some k) = on (is_stale o in_flow m k)
 fresh_said : (o : OptionsData) (ls : List Lexeme) (s : ReaderState) → OpenSays ls s.laid → OpenSays ls (freshened o s).laid
 fresh_said o ls s m = said_as ls s.laid (freshened o s).laid refl refl (fresh_kept o (mark_of s.here) (is_in_flow s.laid) s.laid.key) m
 
-latest_noted : (x : Lexeme) (note : Option CommentRead) (ls : List Lexeme) → latest (OfLexeme x ∷ note_items note) ls ≡ x ∷ ls
+pub latest_noted : (x : Lexeme) (note : Option CommentRead) (ls : List Lexeme) → latest (OfLexeme x ∷ note_items note) ls ≡ x ∷ ls
 latest_noted x None ls = refl
 latest_noted x (Some c) ls = refl
 
@@ -66,7 +66,7 @@ reads_said o ls {s = s} (of_lexeme {items = items} at behind sort comes given ke
     let d = changed ls f.laid t.lexeme behind.laid n (v.number ∙ c.0) (v.next ∙ ap suc c.0) (columns_change o sort f.here f.laid t.lexeme t.cut t.reached behind.laid t.told t.says t.leaves) in
     subst (λ (l : List Lexeme). OpenSays l (freshened o behind).laid) (sym (ap (λ (is : List Item). latest is ls) t.are ∙ latest_noted t.lexeme t.note ls)) (fresh_said o (t.lexeme ∷ ls) behind d)
 
-latest_joined : (items more : List Item) (ls : List Lexeme) → latest (items ++ more) ls ≡ latest more (latest items ls)
+pub latest_joined : (items more : List Item) (ls : List Lexeme) → latest (items ++ more) ls ≡ latest more (latest items ls)
 latest_joined [] more ls = refl
 latest_joined (OfLexeme x ∷ is) more ls = latest_joined is more (x ∷ ls)
 latest_joined (OfComment c ∷ is) more ls = latest_joined is more ls

@@ -1,5 +1,6 @@
 -- What stands between lexemes and behind them is what the reader skips.
 use Rattle.std.proofs.Common.{◌≡◌, ℕ, suc, ◌≤◌, ◌==◌, ◌&&◌, ◌||◌, Bool, true, false, List, [], ◌∷◌, ◌++◌, length, drop, Option, Some, None, Result, Ok, Err, refl, sym, ap, ◌∙◌, subst, arith}
+use Rattle.std.proofs.lemmas.Bool.{and_parts}
 use Rattle.std.specs.Prelude.{if◌then◌else◌, nat_lt}
 use Rattle.std.proofs.lemmas.Bool.Decides.{nat_tests}
 use Rattle.std.proofs.lemmas.List.{length-drop}
@@ -29,6 +30,7 @@ use Rattle.granit_language.specs.Refusing.{WrongTab, behind_sign, in_indentation
 use Rattle.granit_language.specs.Standing.{tab_limit, TabFits, CutFits, GapStands, in_front_of_comment, in_front_of_lexeme}
 use Rattle.granit_language.specs.Stretch.{GapTo, ends, white, prefix_mark, GapHere, WrongTail, touching, spoiled}
 use Rattle.granit_reading.proofs.Answering.{Answers, answers_then, answers_if}
+
 
 -- ---- comments
 
@@ -150,11 +152,6 @@ past_white h = let p = past_reads is_gap is_gap_nul h in record { gap = p.charac
 
 -- ---- what the gap in front of a place gives
 
-both : (x y : Bool) → (x && y) ≡ true → (x ≡ true) × (y ≡ true)
-both true true e = (refl, refl)
-both true false e = absurd cc
-both false y e = absurd cc
-
 pub refuse_tab_is : {B : Type 0} (R : B → Type 0) (W : FaultKind → Mark → Type 0) (o : OptionsData) (l : Laid) (h : Here) (f : Unit {0} → Result B Fault)
     → ((kind : FaultKind) (m : Mark) → WrongTab o l h kind m → W kind m) → (TabFits o l (leading_tab h) → Answers R W (f tt)) → Answers R W (refuse_tab o l (mark_of h) (leading_tab h) >>= f)
 unfolding refuse_tab_at
@@ -162,7 +159,7 @@ refuse_tab_is {B = B} R W o l h f w p = on (leading_tab h) refl p
   where
     at_tab : (t : Mark) → leading_tab h ≡ Some t → (TabFits o l (Some t) → Answers R W (f tt)) → (a b : Bool) → (is_question l.last && is_left (block_column l) t.place.column) ≡ a → nat_lt t.place.column (tab_limit o l) ≡ b
         → Answers R W ((if a then fails_at TabNotAllowed t else if b then fails_at TabInBlockIndentation (mark_of h) else Ok tt) >>= f)
-    at_tab t e q true b y z = let v = both (is_question l.last) (is_left (block_column l) t.place.column) y in w _ _ (behind_sign e v.0 v.1)
+    at_tab t e q true b y z = let v = and_parts (is_question l.last) (is_left (block_column l) t.place.column) y in w _ _ (behind_sign e v.0 v.1)
     at_tab t e q false true y z = w _ _ (in_indentation e z)
     at_tab t e q false false y z = q (y, z)
 

@@ -1,5 +1,6 @@
 -- What the reader reads as a lexeme of a sort stands there, and what it refuses is wrong there.
 use Rattle.std.proofs.Common.{◌≡◌, ℕ, ◌<◌, ◌≤◌, ◌==◌, ◌&&◌, not, Bool, true, false, List, [], ◌∷◌, length, Option, Some, None, Result, Ok, Err, inl, inr, refl, sym, ap, ◌∙◌, subst, arith}
+use Rattle.std.proofs.lemmas.Bool.{and_parts}
 use Rattle.std.specs.Prelude.{if◌then◌else◌, nat_le, slice_index}
 use Rattle.std.proofs.lemmas.Bool.Decides.{nat_tests}
 use Rattle.granit_base.specs.Classes.{is_gap, is_blank, is_breakz}
@@ -46,6 +47,7 @@ use Rattle.granit_language.specs.Standing.{RoomFor, NoneRequired, a_comment, no_
 use Rattle.granit_language.specs.Stretch.{GapHere, WrongTail, TailIf}
 use Rattle.granit_reading.proofs.Answering.{Answers, answers_then, answers_as, answers_if}
 use Rattle.granit_reading.proofs.Gapping.{TailAt, tail_is, NotedAt, comment_at_is, refuse_tab_is, GapAt, gap_is, past_white}
+use Rattle.granit_reading.proofs.Sorting.{not_true, not_false}
 
 abbrev pub GivenBy : OptionsData → Bool → LexemeSort → Here → Laid → List Item × ReaderState → Type 0
 GivenBy o ends sort h l x = Given o ends sort h l x.0 x.1
@@ -56,19 +58,6 @@ PlacedAs o ends sort h l r = Answers (GivenBy o ends (Placed sort) h l) (Refuses
 
 abbrev pub ReadAs : OptionsData → Bool → LexemeSort → Here → Laid → Result (List Item × ReaderState) Fault → Type 0
 ReadAs o ends sort h l r = Answers (GivenBy o ends sort h l) (RefusesSort o h l sort) r
-
-both : (x y : Bool) → (x && y) ≡ true → (x ≡ true) × (y ≡ true)
-both true true e = (refl, refl)
-both true false e = absurd cc
-both false y e = absurd cc
-
-not_true : (v : Bool) → not v ≡ true → v ≡ false
-not_true true e = absurd cc
-not_true false e = refl
-
-not_false : (v : Bool) → not v ≡ false → v ≡ true
-not_false true e = refl
-not_false false e = absurd cc
 
 -- ---- parts that lexemes share
 
@@ -253,7 +242,7 @@ module _ (o : OptionsData) (ends : Bool) (h : Here) (l : Laid) where
   unfolding colon colon_tail
   colon-is =
       answers_if (GivenBy o ends (Placed ColonSign) h l) (Refuses o h l ColonSign) (not (is_adjacent l.last) && opens_flow (slice_index h.unread.text 1)) _ _
-      (λ y. let p = both (not (is_adjacent l.last)) (opens_flow (slice_index h.unread.text 1)) y in colon_touches (not_true _ p.0) p.1)
+      (λ y. let p = and_parts (not (is_adjacent l.last)) (opens_flow (slice_index h.unread.text 1)) y in colon_touches (not_true _ p.0) p.1)
       (λ apart. colon_tail-is (is_blank (next_char (step h))) refl apart)
 
 -- ---- names, tags and scalars

@@ -17,3 +17,5 @@ pub mod GapAnswers
 pub mod SortAnswers
 pub mod LexemeAnswers
 pub mod ReadAnswers
+pub mod RunsLaw
+pub mod RunsWhole

@@ -195,7 +195,7 @@ colon_number h l false None = refl
 colon_number h l true (Some k) = refl
 colon_number h l false (Some k) = refl
 
-left_open : (bs : List OpenBracket) (bracket : Bracket) → ClosesInnermost bracket bs → (b : OpenBracket) × (cs : List OpenBracket) × (bs ≡ b ∷ cs)
+pub left_open : (bs : List OpenBracket) (bracket : Bracket) → ClosesInnermost bracket bs → (b : OpenBracket) × (cs : List OpenBracket) × (bs ≡ b ∷ cs)
 left_open [] bracket p = absurd p
 left_open (b ∷ bs) bracket p = (b, bs, refl)
 

@@ -114,7 +114,7 @@ module _ (x : List ℕ) where
       on true = to_break h
       on false = stay x h
 
-  gap_passes : {o : OptionsData} {h : Here} {l : Laid} {c : Option CommentRead} {t : ReaderState} → GapStands o h l c t → Passes h (note_items c) t.here
+  pub gap_passes : {o : OptionsData} {h : Here} {l : Laid} {c : Option CommentRead} {t : ReaderState} → GapStands o h l c t → Passes h (note_items c) t.here
   gap_passes (in_front_of_comment at end g p) = pass_then (passes_none (to_gap x g.over)) (starts_comment p (move_then x (to_comment p) (over_break end)))
   gap_passes (in_front_of_lexeme at g n t k) = passes_none (to_gap x g.over)
 
@@ -140,12 +140,12 @@ module _ (x : List ℕ) where
 
   -- ---- lexemes
 
-  record LexemePlaces (h : Here) (items : List Item) (after : Here) : Type 0 where
-    lexeme : Lexeme
-    notes : List Item
-    are : items ≡ OfLexeme lexeme ∷ notes
-    start : lexeme.start ≡ mark_of h
-    passes : Passes h notes after
+  pub record LexemePlaces (h : Here) (items : List Item) (after : Here) : Type 0 where
+    pub lexeme : Lexeme
+    pub notes : List Item
+    pub are : items ≡ OfLexeme lexeme ∷ notes
+    pub start : lexeme.start ≡ mark_of h
+    pub passes : Passes h notes after
 
   one : (h : Here) (y z : Lexeme) (after : Here) → y ≡ z → z.start ≡ mark_of h → MovesTo x h after → LexemePlaces h (OfLexeme y ∷ []) after
   one h y z after e s f = record { lexeme = y; notes = []; are = refl; start = ap (λ (y : Lexeme). y.start) e ∙ s; passes = passes_none f }
@@ -160,7 +160,7 @@ module _ (x : List ℕ) where
         (pass_then (passes_none (move_then x (move_then x (to_over x (quote_char single ∷ (p.answers.source ++ p.answers.gap)) h) (to_over x (quote_char single ∷ []) _)) (to_trail p.answers.trails))) (gap_passes p.gap));
   }
 
-  given_places : (o : OptionsData) (ends : Bool) (sort : LexemeSort) (h : Here) (l : Laid) (items : List Item) (after : ReaderState) → Given o ends sort h l items after → LexemePlaces h items after.here
+  pub given_places : (o : OptionsData) (ends : Bool) (sort : LexemeSort) (h : Here) (l : Laid) (items : List Item) (after : ReaderState) → Given o ends sort h l items after → LexemePlaces h items after.here
   given_places o ends (Placed (QuoteSign single)) h l items after p = quoted_places o single ends h l items after p
   given_places o ends TextEnd h l (OfLexeme y ∷ []) after p = one h y _ after.here p.0.0.is refl (move_as x p.0.0.reaches (stay x h))
   given_places o ends StartMark h l (OfLexeme y ∷ []) after p = one h y _ after.here p.0.0.is refl (move_as x p.0.0.reaches (to_steps x 3 h))

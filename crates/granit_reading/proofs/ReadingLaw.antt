@@ -1,5 +1,6 @@
 -- What the reader reads of a text is what the text holds.
 use Rattle.std.proofs.Common.{◌≡◌, ℕ, ◌&&◌, ◌||◌, Bool, true, false, List, [], ◌∷◌, ◌++◌, Option, Some, None, Result, Ok, Err, refl, sym, ap, ap₂, ◌∙◌, subst, append_assoc}
+use Rattle.std.proofs.lemmas.Bool.{and_parts}
 use Rattle.std.specs.Prelude.{if◌then◌else◌}
 use Rattle.std.proofs.lemmas.List.{append-nil}
 use Rattle.granit_base.specs.Classes.{is_gap}
@@ -134,11 +135,6 @@ lexeme_of-is o PlainSign ends h l p = plain-is o ends h (noded false h l) (ap (�
 lexeme_of-is o StrayMark ends h l p = stray
 lexeme_of-is o NoSign ends h l p = nothing
 
-both : (x y : Bool) → (x && y) ≡ true → (x ≡ true) × (y ≡ true)
-both true true e = (refl, refl)
-both true false e = absurd cc
-both false y e = absurd cc
-
 first_not : (x y : Bool) → (x || y) ≡ false → x ≡ false
 first_not true y e = absurd cc
 first_not false y e = refl
@@ -161,8 +157,8 @@ column-is o sort ends h l p =
     let same : ((o.strict_indentation && is_in_flow t) && is_left (block_column t) h.place.column) ≡ is_strict_outside o h.place.column l =
     ap₂ (λ (f : Bool) (cs : List OpenColumn). (o.strict_indentation && f) && is_left (innermost_column cs) h.place.column) (run_flow sort h l) (run_columns sort h l) in
     answers_if (InsideBy o ends (Placed sort) h t) (RefusesSort o h t (Placed sort)) (is_strict_outside o h.place.column l) _ _
-    (λ y. let a = both (o.strict_indentation && is_in_flow t) (is_left (block_column t) h.place.column) (same ∙ y) in
-    let b = both o.strict_indentation (is_in_flow t) a.0 in placed (left_of_block b.0 b.1 a.1))
+    (λ y. let a = and_parts (o.strict_indentation && is_in_flow t) (is_left (block_column t) h.place.column) (same ∙ y) in
+    let b = and_parts o.strict_indentation (is_in_flow t) a.0 in placed (left_of_block b.0 b.1 a.1))
     (λ n. inside_as o ends (Placed sort) h t _ (same ∙ n) (placed_as o ends sort h t _ (lexeme_of-is o sort ends h l p)))
 
 lexeme_by-is : (o : OptionsData) (sort : LexemeSort) (s : ReaderState) → Begins (is_in_flow s.laid) (is_adjacent s.laid.last) s.here.place.column s.here.unread.text sort → sort_at (is_in_flow s.laid) (is_adjacent s.laid.last) s.here ≡ sort → is_gap (next_char s.here) ≡ false

@@ -1,7 +1,7 @@
 -- The lexeme that begins at a place is the one that the reader's start table tells.
 use Rattle.std.proofs.Common.{◌≡◌, ◌≢◌, ℕ, ◌==◌, ◌&&◌, ◌||◌, Bool, true, false, not, List, ◌∷◌, length, inl, inr, refl, sym, ap, ap₂, ◌∙◌, subst, arith}
 use Rattle.std.specs.Prelude.{if◌then◌else◌, slice_index}
-use Rattle.std.proofs.lemmas.Bool.{cond-true, cond-false}
+use Rattle.std.proofs.lemmas.Bool.{cond-true, cond-false, and_parts, or_parts}
 use Rattle.granit_base.specs.Classes.{is_blank_or_breakz, is_flow, is_printable, is_bom, is_break}
 use Rattle.granit_base.specs.Place.{first}
 use Rattle.granit_lexemes.specs.Basics.{is_document_mark}
@@ -10,7 +10,7 @@ use Rattle.granit_lexemes.specs.declared.layout.Bracket.TheVariants.{Square, Cur
 use Rattle.granit_lexemes.proofs.HereLemmas.{not_empty}
 use Rattle.granit_machine.specs.LexemeSort.{PlacedSort, NoSign, PlainSign, LexemeSort, TextEnd, StartMark, EndMark, Unprintable, DirectiveSign, Placed, sort_of, sort_at}
 use Rattle.granit_language.specs.Begins.{block_char, ReservedChar, parts_colon, SignBegins, opens, closes, comma, dash, question, colon, alias, anchor, tag, block, quote, stray, nothing, other, ThreeStand, NoMark, Begins, at_end, dashes, dots, unprintable, directive, sign}
-use Rattle.granit_reading.proofs.Sorting.{same, both, neither, some_of, three, three_stand}
+use Rattle.granit_reading.proofs.Sorting.{same, some_of, three, three_stand}
 
 is_not : (c d : ℕ) → c ≢ d → (c == d) ≡ false
 is_not c d n = on (c == d) refl
@@ -59,10 +59,10 @@ module _ (in_flow adjacent : Bool) (next : ℕ) where
       → (c ≢ 0x2A) → (c ≢ 0x26) → (c ≢ 0x21) → (c ≢ 0x27) → (c ≢ 0x22) → (c ≢ 0xFEFF) → (ReservedChar c → ⊥) → Sorts c PlainSign
   unfolding sort_of is_flow is_bom
   plain_answers c flow d q o a b e f g bom r =
-      let p = neither (c == 0x2C || (c == 0x5B || c == 0x5D)) (c == 0x7B || c == 0x7D) flow in
-      let u = neither (c == 0x2C) (c == 0x5B || c == 0x5D) p.0 in
-      let s = neither (c == 0x5B) (c == 0x5D) u.1 in
-      let k = neither (c == 0x7B) (c == 0x7D) p.1 in
+      let p = or_parts (c == 0x2C || (c == 0x5B || c == 0x5D)) (c == 0x7B || c == 0x7D) flow in
+      let u = or_parts (c == 0x2C) (c == 0x5B || c == 0x5D) p.0 in
+      let s = or_parts (c == 0x5B) (c == 0x5D) u.1 in
+      let k = or_parts (c == 0x7B) (c == 0x7D) p.1 in
       let at = is_not c 0x40 (λ e. r (inl (inl e))) in
       let tick = is_not c 0x60 (λ e. r (inl (inr e))) in
       let percent = is_not c 0x25 (λ e. r (inr (inl e))) in
@@ -107,7 +107,7 @@ no_mark_there column text bare = on (column == 0 && is_document_mark text) refl
   where
     on : (v : Bool) → (column == 0 && is_document_mark text) ≡ v → v ≡ false
     on false e = refl
-    on true e = absurd (let p = both (column == 0) (is_document_mark text) e in
+    on true e = absurd (let p = and_parts (column == 0) (is_document_mark text) e in
         let z = sym (same column 0 p.0) in
         elim (some_of (three 0x2D text) (three 0x2E text) p.1) [ inl q ↦ bare.0 (three_stand 0x2D column text (omega arith) z q) | inr q ↦ bare.1 (three_stand 0x2E column text (omega arith) z q) ])
 

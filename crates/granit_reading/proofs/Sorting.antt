@@ -1,5 +1,6 @@
 -- The start table says which lexeme begins at a place.
 use Rattle.std.proofs.Common.{◌≡◌, ◌≢◌, ℕ, ◌<◌, ◌==◌, ◌&&◌, ◌||◌, Bool, true, false, not, List, [], ◌∷◌, length, ◌⊎◌, inl, inr, refl, sym, ap, ◌∙◌, subst, arith}
+use Rattle.std.proofs.lemmas.Bool.{and_parts, or_parts}
 use Rattle.std.specs.Prelude.{if◌then◌else◌, slice_index}
 use Rattle.std.proofs.lemmas.Bool.Decides.{nat_tests}
 use Rattle.granit_base.specs.Classes.{is_blank_or_breakz, is_flow, is_printable, is_bom}
@@ -21,16 +22,6 @@ same c d e = grind (arith, nat_tests)
 differs : (c d : ℕ) → (c == d) ≡ false → c ≢ d
 differs c d e = λ p. grind (arith, nat_tests)
 
-pub both : (x y : Bool) → (x && y) ≡ true → (x ≡ true) × (y ≡ true)
-both true true e = (refl, refl)
-both true false e = absurd cc
-both false y e = absurd cc
-
-pub neither : (x y : Bool) → (x || y) ≡ false → (x ≡ false) × (y ≡ false)
-neither false false e = (refl, refl)
-neither false true e = absurd cc
-neither true y e = absurd cc
-
 pub some_of : (x y : Bool) → (x || y) ≡ true → (x ≡ true) ⊎ (y ≡ true)
 some_of true y e = inl refl
 some_of false true e = inr refl
@@ -44,7 +35,7 @@ pub not_true : (v : Bool) → not v ≡ true → v ≡ false
 not_true true e = absurd cc
 not_true false e = refl
 
-not_false : (v : Bool) → not v ≡ false → v ≡ true
+pub not_false : (v : Bool) → not v ≡ false → v ≡ true
 not_false true e = refl
 not_false false e = absurd cc
 
@@ -68,10 +59,10 @@ reserved c e = elim (some_of ((c == 0x40 || c == 0x60) || c == 0x25) (c == 0x7C 
 
 not_reserved : (c : ℕ) → (((c == 0x40 || c == 0x60) || c == 0x25) || (c == 0x7C || c == 0x3E)) ≡ false → ReservedChar c → ⊥
 not_reserved c e =
-    let a = neither ((c == 0x40 || c == 0x60) || c == 0x25) (c == 0x7C || c == 0x3E) e in
-    let b = neither (c == 0x40 || c == 0x60) (c == 0x25) a.0 in
-    let d = neither (c == 0x40) (c == 0x60) b.0 in
-    let f = neither (c == 0x7C) (c == 0x3E) a.1 in
+    let a = or_parts ((c == 0x40 || c == 0x60) || c == 0x25) (c == 0x7C || c == 0x3E) e in
+    let b = or_parts (c == 0x40 || c == 0x60) (c == 0x25) a.0 in
+    let d = or_parts (c == 0x40) (c == 0x60) b.0 in
+    let f = or_parts (c == 0x7C) (c == 0x3E) a.1 in
     λ r. elim r [ inl p ↦ elim p [ inl q ↦ differs c 0x40 d.0 q | inr q ↦ differs c 0x60 d.1 q ] | inr p ↦ elim p [ inl q ↦ differs c 0x25 b.1 q | inr q ↦ elim q [ inl s ↦ differs c 0x7C f.0 s | inr s ↦ differs c 0x3E f.1 s ] ] ]
 
 module _ (in_flow adjacent : Bool) (next : ℕ) where
@@ -99,17 +90,17 @@ module _ (in_flow adjacent : Bool) (next : ℕ) where
       either P (c == 0x5D) _ _ (λ e. at_char c 0x5D (CloseSign Square) e (closes Square)) (λ n3.
       either P (c == 0x7D) _ _ (λ e. at_char c 0x7D (CloseSign Curly) e (closes Curly)) (λ n4.
       either P (c == 0x2C) _ _ (λ e. at_char c 0x2C CommaSign e comma) (λ n5.
-      either P (c == 0x2D && is_blank_or_breakz next) _ _ (λ e. let p = both (c == 0x2D) (is_blank_or_breakz next) e in at_char c 0x2D DashSign p.0 (dash p.1)) (λ n6.
-      either P (c == 0x3F && is_blank_or_breakz next) _ _ (λ e. let p = both (c == 0x3F) (is_blank_or_breakz next) e in at_char c 0x3F QuestionSign p.0 (question p.1)) (λ n7.
-      either P (c == 0x3A && parts_colon in_flow adjacent next) _ _ (λ e. let p = both (c == 0x3A) (parts_colon in_flow adjacent next) e in at_char c 0x3A ColonSign p.0 (colon p.1)) (λ n8.
+      either P (c == 0x2D && is_blank_or_breakz next) _ _ (λ e. let p = and_parts (c == 0x2D) (is_blank_or_breakz next) e in at_char c 0x2D DashSign p.0 (dash p.1)) (λ n6.
+      either P (c == 0x3F && is_blank_or_breakz next) _ _ (λ e. let p = and_parts (c == 0x3F) (is_blank_or_breakz next) e in at_char c 0x3F QuestionSign p.0 (question p.1)) (λ n7.
+      either P (c == 0x3A && parts_colon in_flow adjacent next) _ _ (λ e. let p = and_parts (c == 0x3A) (parts_colon in_flow adjacent next) e in at_char c 0x3A ColonSign p.0 (colon p.1)) (λ n8.
       either P (c == 0x2A) _ _ (λ e. at_char c 0x2A AliasSign e alias) (λ n9.
       either P (c == 0x26) _ _ (λ e. at_char c 0x26 AnchorSign e anchor) (λ n10.
       either P (c == 0x21) _ _ (λ e. at_char c 0x21 TagSign e tag) (λ n11.
-      either P ((c == 0x7C || c == 0x3E) && not in_flow) _ _ (λ e. let p = both (c == 0x7C || c == 0x3E) (not in_flow) e in block_at c (c == 0x7C) refl p.0 (not_true in_flow p.1)) (λ n12.
+      either P ((c == 0x7C || c == 0x3E) && not in_flow) _ _ (λ e. let p = and_parts (c == 0x7C || c == 0x3E) (not in_flow) e in block_at c (c == 0x7C) refl p.0 (not_true in_flow p.1)) (λ n12.
       either P (c == 0x27 || c == 0x22) _ _ (λ e. quote_at c (c == 0x27) refl e) (λ n13.
       either P (is_bom c) _ _ (λ e. subst (λ c. SignBegins in_flow adjacent next c StrayMark) (bom_is c e) stray) (λ n14.
       either P (((c == 0x40 || c == 0x60) || c == 0x25) || (c == 0x7C || c == 0x3E)) _ _ (λ e. nothing (reserved c e) (not_block c n12)) (λ n15.
-      let q = neither (c == 0x27) (c == 0x22) n13 in
+      let q = or_parts (c == 0x27) (c == 0x22) n13 in
       other (no_flow c n1 n2 n3 n4 n5) (unless c 0x2D (is_blank_or_breakz next) n6) (unless c 0x3F (is_blank_or_breakz next) n7) (unless c 0x3A (parts_colon in_flow adjacent next) n8)
       (differs c 0x2A n9) (differs c 0x26 n10) (differs c 0x21 n11) (differs c 0x27 q.0) (differs c 0x22 q.1) (no_bom c n14) (not_reserved c n15))))))))))))))))
 
@@ -123,9 +114,9 @@ three_stand c column [] some z e = absurd (grind (arith, nat_tests))
 three_stand c column (a ∷ []) some z e = absurd (grind (arith, nat_tests))
 three_stand c column (a ∷ b ∷ []) some z e = absurd (grind (arith, nat_tests))
 three_stand c column (a ∷ b ∷ d ∷ t) some z e =
-    let p = both ((a == c && b == c) && d == c) (is_blank_or_breakz (slice_index t 0)) e in
-    let q = both (a == c && b == c) (d == c) p.0 in
-    let r = both (a == c) (b == c) q.0 in
+    let p = and_parts ((a == c && b == c) && d == c) (is_blank_or_breakz (slice_index t 0)) e in
+    let q = and_parts (a == c && b == c) (d == c) p.0 in
+    let r = and_parts (a == c) (b == c) q.0 in
     let x = same a c r.0 in let y = same b c r.1 in let w = same d c q.1 in
     (z, t, cc, p.1)
 
@@ -156,25 +147,25 @@ mark_of_three column text e = (
 dash_three : (text : List ℕ) → (three 0x2D text || three 0x2E text) ≡ true → (first text == 0x2D) ≡ true → three 0x2D text ≡ true
 dash_three text e d = elim (some_of (three 0x2D text) (three 0x2E text) e) [
   | inl p ↦ p
-  | inr p ↦ absurd (let q = both ((slice_index text 0 == 0x2E && slice_index text 1 == 0x2E) && slice_index text 2 == 0x2E) (is_blank_or_breakz (slice_index text 3)) p in
-      let r = both (slice_index text 0 == 0x2E && slice_index text 1 == 0x2E) (slice_index text 2 == 0x2E) q.0 in
-      let s = both (slice_index text 0 == 0x2E) (slice_index text 1 == 0x2E) r.0 in grind (arith, nat_tests, s.0, d))
+  | inr p ↦ absurd (let q = and_parts ((slice_index text 0 == 0x2E && slice_index text 1 == 0x2E) && slice_index text 2 == 0x2E) (is_blank_or_breakz (slice_index text 3)) p in
+      let r = and_parts (slice_index text 0 == 0x2E && slice_index text 1 == 0x2E) (slice_index text 2 == 0x2E) q.0 in
+      let s = and_parts (slice_index text 0 == 0x2E) (slice_index text 1 == 0x2E) r.0 in grind (arith, nat_tests, s.0, d))
 ]
 
 dot_three : (text : List ℕ) → (three 0x2D text || three 0x2E text) ≡ true → (first text == 0x2D) ≡ false → three 0x2E text ≡ true
 dot_three text e d = elim (some_of (three 0x2D text) (three 0x2E text) e) [
   | inr p ↦ p
-  | inl p ↦ absurd (let q = both ((slice_index text 0 == 0x2D && slice_index text 1 == 0x2D) && slice_index text 2 == 0x2D) (is_blank_or_breakz (slice_index text 3)) p in
-      let r = both (slice_index text 0 == 0x2D && slice_index text 1 == 0x2D) (slice_index text 2 == 0x2D) q.0 in
-      let s = both (slice_index text 0 == 0x2D) (slice_index text 1 == 0x2D) r.0 in cc)
+  | inl p ↦ absurd (let q = and_parts ((slice_index text 0 == 0x2D && slice_index text 1 == 0x2D) && slice_index text 2 == 0x2D) (is_blank_or_breakz (slice_index text 3)) p in
+      let r = and_parts (slice_index text 0 == 0x2D && slice_index text 1 == 0x2D) (slice_index text 2 == 0x2D) q.0 in
+      let s = and_parts (slice_index text 0 == 0x2D) (slice_index text 1 == 0x2D) r.0 in cc)
 ]
 
 -- ---- what begins at a place
 
 module _ (in_flow adjacent : Bool) (h : Here) where
   percent : (text : List ℕ) (column : ℕ) → (column == 0 && first text == 0x25) ≡ true → Begins in_flow adjacent column text DirectiveSign
-  percent [] column e = absurd (let p = both (column == 0) (0 == 0x25) e in cc)
-  percent (c ∷ text) column e = let p = both (column == 0) (c == 0x25) e in subst (λ c. Begins in_flow adjacent column (c ∷ text) DirectiveSign) (same c 0x25 p.1) (directive (sym (same column 0 p.0)))
+  percent [] column e = absurd (let p = and_parts (column == 0) (0 == 0x25) e in cc)
+  percent (c ∷ text) column e = let p = and_parts (column == 0) (c == 0x25) e in subst (λ c. Begins in_flow adjacent column (c ∷ text) DirectiveSign) (same c 0x25 p.1) (directive (sym (same column 0 p.0)))
 
   no_percent : (column c : ℕ) → (column == 0 && c == 0x25) ≡ false → column ≡ 0 → c ≢ 0x25
   no_percent column c e z = λ p. grind (arith, nat_tests)
@@ -190,7 +181,7 @@ module _ (in_flow adjacent : Bool) (h : Here) where
       let P = λ (sort : LexemeSort). Begins in_flow adjacent column (c ∷ text) sort in
       either P (length (c ∷ text) == 0) _ _ (λ e. absurd (let n = not_empty c text in cc)) (λ _.
       either P (column == 0 && is_document_mark (c ∷ text)) _ _
-      (λ e. let p = both (column == 0) (is_document_mark (c ∷ text)) e in
+      (λ e. let p = and_parts (column == 0) (is_document_mark (c ∷ text)) e in
       either P (c == 0x2D) _ _ (λ d. dashes (three_stand 0x2D column (c ∷ text) (omega arith) (sym (same column 0 p.0)) (dash_three (c ∷ text) p.1 d)))
       (λ d. dots (three_stand 0x2E column (c ∷ text) (omega arith) (sym (same column 0 p.0)) (dot_three (c ∷ text) p.1 d))))
       (λ m. let no = mark_of_three column (c ∷ text) m in

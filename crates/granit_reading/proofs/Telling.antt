@@ -7,10 +7,13 @@ use Rattle.granit_error.specs.OptionsData.{OptionsData}
 use Rattle.granit_lexemes.specs.Comment.{CommentRead}
 use Rattle.granit_lexemes.specs.Here.{Here, mark_of}
 use Rattle.granit_lexemes.specs.Lexeme.{LexemeKind, DirectiveKind, Directive, DocumentStart, DocumentEnd, StreamEnd, Open, Close, Comma, Dash, Question, Colon, Alias, Anchor, Tag, Scalar, Lexeme, Item, OfLexeme}
-use Rattle.granit_machine.specs.Laid.{Laid, is_dash, is_indicator, is_in_flow}
+use Rattle.granit_machine.specs.Laid.{Laid, is_opener, is_dash, is_indicator, is_in_flow}
+use Rattle.granit_lexemes.specs.declared.layout.LastLexeme.{LastLexeme}
+use Rattle.granit_lexemes.specs.declared.layout.LastLexeme.TheVariants.{Opener, BehindDash, BehindQuestion, BehindBareColon, BehindProperty, Adjacent, Another}
 use Rattle.granit_lexemes.specs.declared.layout.PossibleKey.{PossibleKey}
 use Rattle.granit_machine.specs.LexemeSort.{PlacedSort, OpenSign, CloseSign, CommaSign, DashSign, QuestionSign, ColonSign, AliasSign, AnchorSign, TagSign, BlockSign, QuoteSign, StrayMark, NoSign, PlainSign, LexemeSort, TextEnd, StartMark, EndMark, Unprintable, DirectiveSign, Placed}
-use Rattle.granit_machine.specs.NodeLexemes.{note_items}
+use Rattle.granit_machine.specs.NodeLexemes.{note_items, adjacent_unless}
+use Rattle.granit_machine.specs.Gaps.{no_more_adjacent, last_behind}
 use Rattle.granit_machine.specs.PossibleKeys.{top_key, is_allowed}
 use Rattle.granit_machine.specs.ReaderState.{ReaderState, lexeme_to, with_tail}
 use Rattle.granit_language.specs.Before.{behind}
@@ -67,19 +70,49 @@ SaysOf (Placed sort) h l x = Says sort h l x
 
 -- ---- what is left
 
--- the same but for what the last lexeme lets the next be
+-- last lexemes that let the next one begin the same keys
+pub record SameLast (a b : LastLexeme) : Type 0 where
+  pub opener : is_opener a ≡ is_opener b
+  pub dash : is_dash a ≡ is_dash b
+  pub indicator : is_indicator a ≡ is_indicator b
+
+same_last : {a b : LastLexeme} → a ≡ b → SameLast a b
+same_last e = record { opener = ap is_opener e; dash = ap is_dash e; indicator = ap is_indicator e }
+
+last_then : {a b c : LastLexeme} → SameLast a b → SameLast b c → SameLast a c
+last_then p q = record { opener = p.opener ∙ q.opener; dash = p.dash ∙ q.dash; indicator = p.indicator ∙ q.indicator }
+
+no_more_same : (a : LastLexeme) → SameLast (no_more_adjacent a) a
+no_more_same Adjacent = record { opener = refl; dash = refl; indicator = refl }
+no_more_same Opener = same_last refl
+no_more_same BehindDash = same_last refl
+no_more_same BehindQuestion = same_last refl
+no_more_same BehindBareColon = same_last refl
+no_more_same BehindProperty = same_last refl
+no_more_same Another = same_last refl
+
+last_behind_same : (moved : Bool) (a : LastLexeme) → SameLast (last_behind moved a) a
+last_behind_same true a = no_more_same a
+last_behind_same false a = same_last refl
+
+noted_same : (note : Option CommentRead) → SameLast (adjacent_unless note) Adjacent
+noted_same None = same_last refl
+noted_same (Some c) = record { opener = refl; dash = refl; indicator = refl }
+
+-- the same but for what was cut and whether a value may stand at once
 pub record Agrees (a b : Laid) : Type 0 where
   pub number : a.number ≡ b.number
   pub key : a.key ≡ b.key
   pub brackets : a.brackets ≡ b.brackets
   pub columns : a.columns ≡ b.columns
+  pub last : SameLast a.last b.last
 
 agrees_as : {a b : Laid} → a ≡ b → Agrees a b
-agrees_as e = record { number = ap (λ (l : Laid). l.number) e; key = ap (λ (l : Laid). l.key) e; brackets = ap (λ (l : Laid). l.brackets) e; columns = ap (λ (l : Laid). l.columns) e }
+agrees_as e = record { number = ap (λ (l : Laid). l.number) e; key = ap (λ (l : Laid). l.key) e; brackets = ap (λ (l : Laid). l.brackets) e; columns = ap (λ (l : Laid). l.columns) e; last = same_last (ap (λ (l : Laid). l.last) e) }
 
 pub gap_agrees : {o : OptionsData} {h : Here} {l : Laid} {c : Option CommentRead} {t : ReaderState} → GapStands o h l c t → Agrees t.laid l
-gap_agrees (in_front_of_comment at end g p) = record { number = refl; key = refl; brackets = refl; columns = refl }
-gap_agrees (in_front_of_lexeme at g n t k) = record { number = refl; key = refl; brackets = refl; columns = refl }
+gap_agrees {l = l} (in_front_of_comment at end g p) = record { number = refl; key = refl; brackets = refl; columns = refl; last = no_more_same l.last }
+gap_agrees {l = l} (in_front_of_lexeme at g n t k) = record { number = refl; key = refl; brackets = refl; columns = refl; last = last_behind_same _ l.last }
 
 -- the lexeme of a read, perhaps a comment behind it, and what is left
 pub record Telling (o : OptionsData) (sort : LexemeSort) (h : Here) (l : Laid) (items : List Item) (after : ReaderState) : Type 0 where
@@ -131,7 +164,7 @@ module _ (o : OptionsData) (ends : Bool) (h : Here) (l : Laid) where
         says = (_, _, record { is = refl; key = refl });
         cut = None;
         reached = p.end;
-        leaves = record { number = ap (λ (l : Laid). l.number) e ∙ g.number; key = ap (λ (l : Laid). l.key) e ∙ g.key; brackets = ap (λ (l : Laid). l.brackets) e ∙ g.brackets; columns = ap (λ (l : Laid). l.columns) e ∙ g.columns };
+        leaves = record { number = ap (λ (l : Laid). l.number) e ∙ g.number; key = ap (λ (l : Laid). l.key) e ∙ g.key; brackets = ap (λ (l : Laid). l.brackets) e ∙ g.brackets; columns = ap (λ (l : Laid). l.columns) e ∙ g.columns; last = last_then (same_last (ap (λ (l : Laid). l.last) e)) (noted_same p.note) };
       }
 
   pub telling : (sort : LexemeSort) (items : List Item) (after : ReaderState) → Given o ends sort h l items after → Telling o sort h l items after

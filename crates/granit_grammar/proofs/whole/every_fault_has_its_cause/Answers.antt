@@ -1,5 +1,8 @@
-use Rattle.granit_grammar.proofs.Wholes.{whole_faults}
+use Rattle.granit_grammar.proofs.Wholes.{whole_faults, whole_never_unfinished}
 use Rattle.granit_grammar.proofs.whole.every_fault_has_its_cause.Goals as goal
 
-pub returns : goal.returns
-returns c = whole_faults
+pub returns-clause-cause : goal.returns-clause-cause
+returns-clause-cause c = whole_faults
+
+pub returns-clause-ends : goal.returns-clause-ends
+returns-clause-ends c = whole_never_unfinished

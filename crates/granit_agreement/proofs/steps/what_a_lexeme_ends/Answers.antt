@@ -1,5 +1,5 @@
 use Rattle.granit_agreement.proofs.Closes.{close_agrees}
-use Rattle.granit_agreement.proofs.closing.Goals as goal
+use Rattle.granit_agreement.proofs.steps.what_a_lexeme_ends.Goals as goal
 
 pub returns : goal.returns
 returns c = close_agrees

@@ -1,12 +1,11 @@
 -- The parser's run over lexemes and that of the grammar's machine.
-use Rattle.granit_agreement.specs.Fair.{Fair}
 use Rattle.granit_agreement.specs.Good.{Good, is_fresh}
-use Rattle.granit_agreement.specs.Running.{Knows, Seen, Comes, NextIs, NextView, FairNext, FairRun, RunView}
+use Rattle.granit_agreement.specs.Running.{Knows, Seen, Comes, NextView, FairNext, FairRun, RunView}
 use Rattle.granit_agreement.specs.Stepping.{taken, at_kind}
 use Rattle.granit_agreement.specs.View.{Beside, Flagged, terminal_of, item_of, seen, state_of, give_all}
 use Rattle.granit_grammar.specs.EventMachine.{EventState, IsFresh, HasDirectives, IsRooted, InFrames, IsEnded, Ending, ending, ended_by, EventStep, GoesTo, StopsWith, after_events, take_frames, EventAnswer, Events, Faulty, Unfinished, events_before}
 use Rattle.granit_grammar.specs.Guarded.{Guard, passed, goes_by, closed_by, guarded, first_fault, fault_unless, state_count, is_loose, whole_guard}
-use Rattle.granit_language.specs.GrammarFault.{GrammarFault, TooManyBlocks, fault_of}
+use Rattle.granit_language.specs.GrammarFault.{GrammarFault, TooManyBlocks}
 use Rattle.granit_language.specs.Scope.{Scope, no_scope}
 use Rattle.granit_language.specs.Scoping.{next_scope, scoped}
 use Rattle.granit_language.specs.Telling.{event_told, events_told}
@@ -18,7 +17,7 @@ use Rattle.granit_machine.specs.Lexing.{FlaggedItem}
 use Rattle.granit_machine.specs.Machine.{feed_all}
 use Rattle.granit_machine.specs.Parser.{take_token, take_tail, next_line, feed}
 use Rattle.granit_machine.specs.TokenSort.{token_of}
-use Rattle.std.proofs.Common.{◌≡◌, ℕ, Bool, true, false, List, [], ◌∷◌, ◌++◌, map, refl, sym, ap, ap₂, ◌∙◌, subst, append_assoc, Option, Some, None, Result, Ok, Err}
+use Rattle.std.proofs.Common.{◌≡◌, ℕ, Bool, true, false, List, [], ◌∷◌, ◌++◌, map, refl, sym, ap, ap₂, ◌∙◌, subst, append_assoc, Option, None, Result, Ok, Err}
 use Rattle.std.specs.Prelude.{nat_le}
 use Rattle.std.proofs.lemmas.List.{append-nil}
 use Rattle.granit_base.specs.Place.{Mark}
@@ -81,14 +80,14 @@ fed_ok :
     Fed o f is (Ok p) ≡ with_front p.given (feed_all o is (Emptied p))
 fed_ok o f is p =
     ap (λ r. (r >>= Given) >>= Front o is)
-      (tail_none f.0.kind (next_line is) p)
+    (tail_none f.0.kind (next_line is) p)
 
 fed_is :
     (o : OptionsData) (f : Flagged) (is : List FlaggedItem) (p : ParserState) →
     feed_all o (item_of f ∷ is) p
     ≡ Fed o f is
-        (close o (token_of f.1 (at_kind f.0 f.0.kind f.0.key)) p
-         >>= take_token o (token_of f.1 (at_kind f.0 f.0.kind f.0.key)))
+    (close o (token_of f.1 (at_kind f.0 f.0.kind f.0.key)) p
+    >>= take_token o (token_of f.1 (at_kind f.0 f.0.kind f.0.key)))
 unfolding feed
 fed_is o f is p = refl
 
@@ -149,21 +148,21 @@ step_run :
     NextView o (terminal_of f.1 s f.0) s [] r y →
     FairNext y (λ st. FairRun fs (next_scope (terminal_of f.1 s f.0).kind s) st) → Runs o fs →
     RunView o (Fed o f (map item_of fs) r)
-      (goes_by (whole_guard o) y (terminal_of f.1 s f.0) (λ st. Go o fs (next_scope (terminal_of f.1 s f.0).kind s) st))
+    (goes_by (whole_guard o) y (terminal_of f.1 s f.0) (λ st. Go o fs (next_scope (terminal_of f.1 s f.0).kind s) st))
 step_run o f fs s (Ok p) (GoesTo st es) h fair ih =
     let x = terminal_of f.1 s f.0 in
     subst
-      (λ a.
-         RunView o (Fed o f (map item_of fs) (Ok p)) (events_before es (passed a x (Go o fs (next_scope x.kind s) st))))
-      (sym h.passes)
-      (subst (λ r. RunView o r (events_before es (Go o fs (next_scope x.kind s) st)))
-         (sym (fed_ok o f (map item_of fs) p))
-         (run_front o p.given es (feed_all o (map item_of fs) (Emptied p)) (Go o fs (next_scope x.kind s) st)
-            (seen_given o st p h.beside h.is_seen ∙ (h.gives ∙ give_told o es []))
-            (ih (next_scope x.kind s) st (Cleared h.beside) (Emptied p) h.comes
-               (knows_cleared st (next_scope x.kind s) h.beside h.knows)
-               (fault_passed (nat_le (state_count st) o.block_nesting_limit) (TooManyBlocks (is_loose st)) _ h.passes) refl
-               fair (seen_cleared o st p h.beside h.is_seen))))
+    (λ a.
+    RunView o (Fed o f (map item_of fs) (Ok p)) (events_before es (passed a x (Go o fs (next_scope x.kind s) st))))
+    (sym h.passes)
+    (subst (λ r. RunView o r (events_before es (Go o fs (next_scope x.kind s) st)))
+    (sym (fed_ok o f (map item_of fs) p))
+    (run_front o p.given es (feed_all o (map item_of fs) (Emptied p)) (Go o fs (next_scope x.kind s) st)
+    (seen_given o st p h.beside h.is_seen ∙ (h.gives ∙ give_told o es []))
+    (ih (next_scope x.kind s) st (Cleared h.beside) (Emptied p) h.comes
+    (knows_cleared st (next_scope x.kind s) h.beside h.knows)
+    (fault_passed (nat_le (state_count st) o.block_nesting_limit) (TooManyBlocks (is_loose st)) _ h.passes) refl
+    fair (seen_cleared o st p h.beside h.is_seen))))
 step_run o f fs s (Err e) (GoesTo st es) h fair ih =
     let x = terminal_of f.1 s f.0 in
     subst (λ a. RunView o (Err e) (events_before es (passed a x (Go o fs (next_scope x.kind s) st)))) (sym h.1) h.2
@@ -177,24 +176,24 @@ one_run :
 one_run o f fs s st d g q e n fair ih =
     let x = terminal_of f.1 s f.0 in
     subst (λ a. RunView o (feed_all o (map item_of (f ∷ fs)) (state_of o st d)) a)
-      (sym (closed_goes (whole_guard o) (ended_by x st) x (λ st. Go o fs (next_scope x.kind s) st)))
-      (subst
-         (λ r.
-            RunView o r
-              (goes_by (whole_guard o) (taken (ended_by x st) x) x (λ st. Go o fs (next_scope x.kind s) st)))
-         (sym (fed_is o f (map item_of fs) (state_of o st d)))
-         (step_run o f fs s
-            (close o (token_of f.1 (at_kind f.0 f.0.kind f.0.key)) (state_of o st d)
-             >>= take_token o (token_of f.1 (at_kind f.0 f.0.kind f.0.key)))
-            (taken (ended_by x st) x)
-            (subst
-               (λ given.
-                  NextView o x s given
-                    (close o (token_of f.1 (at_kind f.0 f.0.kind f.0.key)) (state_of o st d)
-                     >>= take_token o (token_of f.1 (at_kind f.0 f.0.kind f.0.key)))
-                    (taken (ended_by x st) x))
-               n (step_next f.1 f.0.kind f.0.key s f.0 o st d g fair.0 q e))
-            fair.1 ih))
+    (sym (closed_goes (whole_guard o) (ended_by x st) x (λ st. Go o fs (next_scope x.kind s) st)))
+    (subst
+    (λ r.
+    RunView o r
+    (goes_by (whole_guard o) (taken (ended_by x st) x) x (λ st. Go o fs (next_scope x.kind s) st)))
+    (sym (fed_is o f (map item_of fs) (state_of o st d)))
+    (step_run o f fs s
+    (close o (token_of f.1 (at_kind f.0 f.0.kind f.0.key)) (state_of o st d)
+    >>= take_token o (token_of f.1 (at_kind f.0 f.0.kind f.0.key)))
+    (taken (ended_by x st) x)
+    (subst
+    (λ given.
+    NextView o x s given
+    (close o (token_of f.1 (at_kind f.0 f.0.kind f.0.key)) (state_of o st d)
+    >>= take_token o (token_of f.1 (at_kind f.0 f.0.kind f.0.key)))
+    (taken (ended_by x st) x))
+    n (step_next f.1 f.0.kind f.0.key s f.0 o st d g fair.0 q e))
+    fair.1 ih))
 
 runs : (o : OptionsData) (fs : List Flagged) → Runs o fs
 runs o [] s IsEnded d p c q e n fair h = refl
@@ -205,16 +204,16 @@ runs o [] s (InFrames gs) d p c q e n fair h = tt
 runs o (f ∷ fs) s IsEnded d p c q e n fair h = absurd fair.0.0
 runs o (f ∷ fs) s IsFresh d p c q e n fair h =
     subst (λ p. RunView o (feed_all o (map item_of (f ∷ fs)) p) (Go o (f ∷ fs) s IsFresh)) (sym h)
-      (one_run o f fs s IsFresh d c q e n fair (runs o fs))
+    (one_run o f fs s IsFresh d c q e n fair (runs o fs))
 runs o (f ∷ fs) s (HasDirectives v) d p c q e n fair h =
     subst (λ p. RunView o (feed_all o (map item_of (f ∷ fs)) p) (Go o (f ∷ fs) s (HasDirectives v))) (sym h)
-      (one_run o f fs s (HasDirectives v) d c q e n fair (runs o fs))
+    (one_run o f fs s (HasDirectives v) d c q e n fair (runs o fs))
 runs o (f ∷ fs) s (IsRooted m) d p c q e n fair h =
     subst (λ p. RunView o (feed_all o (map item_of (f ∷ fs)) p) (Go o (f ∷ fs) s (IsRooted m))) (sym h)
-      (one_run o f fs s (IsRooted m) d c q e n fair (runs o fs))
+    (one_run o f fs s (IsRooted m) d c q e n fair (runs o fs))
 runs o (f ∷ fs) s (InFrames gs) d p c q e n fair h =
     subst (λ p. RunView o (feed_all o (map item_of (f ∷ fs)) p) (Go o (f ∷ fs) s (InFrames gs))) (sym h)
-      (one_run o f fs s (InFrames gs) d c q e n fair (runs o fs))
+    (one_run o f fs s (InFrames gs) d c q e n fair (runs o fs))
 
 -- from the start of a stream
 pub run_agrees :
@@ -222,4 +221,4 @@ pub run_agrees :
     RunView o (feed_all o (map item_of fs) (parser_start m)) (guarded (whole_guard o) (scoped no_scope (map seen fs)) IsFresh)
 run_agrees o m fs fair =
     runs o fs no_scope IsFresh (record { last = m; count = 0; names = []; handles = []; given = [] }) (parser_start m)
-      is_fresh (refl, refl, refl, refl, refl) (none_open o.block_nesting_limit) refl fair refl
+    is_fresh (refl, refl, refl, refl, refl) (none_open o.block_nesting_limit) refl fair refl

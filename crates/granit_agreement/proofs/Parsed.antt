@@ -1,0 +1,82 @@
+-- What the parser answers, in words of readings and causes.
+use Rattle.granit_agreement.specs.Running.{FairRun, RunView, ParsedAs, GivesAll}
+use Rattle.granit_agreement.specs.View.{Flagged, item_of, seen}
+use Rattle.granit_grammar.specs.EventMachine.{EventAnswer, Events, Faulty, Unfinished, events_before, IsFresh}
+use Rattle.granit_grammar.specs.Guarded.{guarded, whole_guard, whole_run}
+use Rattle.granit_language.specs.GrammarFault.{GrammarFault, fault_of}
+use Rattle.granit_language.specs.Scope.{no_scope}
+use Rattle.granit_language.specs.Scoping.{scoped}
+use Rattle.granit_language.specs.Telling.{events_told}
+use Rattle.granit_language.specs.Terminal.{At, TheEnd, Terminal, terminal, text_start}
+use Rattle.granit_language.specs.TreeEvents.{TreeEvent, StreamStarts, pointed}
+use Rattle.granit_language.specs.Whole.{WholeReading, WholeFault}
+use Rattle.granit_machine.specs.Frames.{ParserState, parser_start}
+use Rattle.granit_machine.specs.Machine.{feed_all}
+use Rattle.std.proofs.Common.{◌≡◌, List, [], ◌∷◌, ◌++◌, map, refl, sym, ap, ◌∙◌, subst, Result, Ok, Err}
+use Rattle.granit_base.specs.Place.{Mark}
+use Rattle.granit_error.specs.OptionsData.{OptionsData}
+use Rattle.granit_lexemes.specs.Outcome.{Fault}
+use Rattle.granit_lexemes.specs.PlainEvent.{PlainEvent, StreamStart, event_on}
+use Rattle.granit_grammar.proofs.Wholes.{whole_events, whole_streams, whole_faults, whole_never_unfinished}
+use Rattle.granit_agreement.proofs.WholeRuns.{run_agrees}
+
+abbrev Fully : EventAnswer → EventAnswer
+Fully a = events_before (pointed StreamStarts text_start ∷ []) a
+
+abbrev Guards : OptionsData → List Terminal → EventAnswer
+Guards o xs = guarded (whole_guard o) (scoped no_scope xs) IsFresh
+
+events_by :
+    (o : OptionsData) (xs ys : List Terminal) (i : At) (gs : List PlainEvent) (p : ParserState) (a : EventAnswer) →
+    xs ≡ ys ++ (terminal TheEnd i ∷ []) → Guards o xs ≡ a → RunView o (Ok (gs, p)) a → ParsedAs o xs gs
+events_by o xs ys i gs p (Events es) n e h = (
+  pointed StreamStarts text_start ∷ es,
+  whole_events o xs (pointed StreamStarts text_start ∷ es) (ap Fully e),
+  ap (λ gs. event_on StreamStart text_start ∷ gs) (sym h),
+)
+events_by o xs ys i gs p Unfinished n e h =
+    absurd (whole_never_unfinished o ys i (ap (whole_run o) (sym n) ∙ ap Fully e))
+events_by o xs ys i gs p (Faulty k x) n e h = absurd h
+
+pub parsed_events :
+    (o : OptionsData) (m : Mark) (fs : List Flagged) (ys : List Terminal) (i : At) (gs : List PlainEvent)
+    (p : ParserState) → FairRun fs no_scope IsFresh → map seen fs ≡ ys ++ (terminal TheEnd i ∷ []) →
+    feed_all o (map item_of fs) (parser_start m) ≡ Ok (gs, p) → ParsedAs o (map seen fs) gs
+parsed_events o m fs ys i gs p fair n e =
+    events_by o (map seen fs) ys i gs p (Guards o (map seen fs)) n refl
+    (subst (λ r. RunView o r (Guards o (map seen fs))) e (run_agrees o m fs fair))
+
+faults_by :
+    (o : OptionsData) (xs : List Terminal) (f : Fault) (a : EventAnswer) → Guards o xs ≡ a → RunView o (Err f) a →
+    (k : GrammarFault) × (x : Terminal) × WholeFault o xs k x × (f ≡ fault_of k x)
+faults_by o xs f (Faulty k x) e h = (k, x, whole_faults o xs k x (ap Fully e), h)
+faults_by o xs f (Events es) e h = absurd h
+faults_by o xs f Unfinished e h = absurd h
+
+pub parsed_faults :
+    (o : OptionsData) (m : Mark) (fs : List Flagged) (f : Fault) → FairRun fs no_scope IsFresh →
+    feed_all o (map item_of fs) (parser_start m) ≡ Err f →
+    (k : GrammarFault) × (x : Terminal) × WholeFault o (map seen fs) k x × (f ≡ fault_of k x)
+parsed_faults o m fs f fair e =
+    faults_by o (map seen fs) f (Guards o (map seen fs)) refl
+    (subst (λ r. RunView o r (Guards o (map seen fs))) e (run_agrees o m fs fair))
+
+events_same : (es more : List TreeEvent) → Events es ≡ Events more → es ≡ more
+events_same es more e = cc (e)
+
+told_by :
+    (o : OptionsData) (es : List TreeEvent) (r : Result (List PlainEvent × ParserState) Fault) (a : EventAnswer) →
+    Fully a ≡ Events es → RunView o r a → GivesAll o es r
+told_by o es (Ok y) (Events more) e h =
+    subst (λ es. events_told o es ≡ event_on StreamStart text_start ∷ y.0) (events_same (pointed StreamStarts text_start ∷ more) es e)
+    (ap (λ gs. event_on StreamStart text_start ∷ gs) (sym h))
+told_by o es (Err f) (Events more) e h = absurd h
+told_by o es r Unfinished e h = cc (e)
+told_by o es r (Faulty k x) e h = cc (e)
+
+pub readings_parsed :
+    (o : OptionsData) (m : Mark) (fs : List Flagged) (es : List TreeEvent) → FairRun fs no_scope IsFresh →
+    WholeReading o (map seen fs) es → GivesAll o es (feed_all o (map item_of fs) (parser_start m))
+readings_parsed o m fs es fair r =
+    told_by o es (feed_all o (map item_of fs) (parser_start m)) (Guards o (map seen fs))
+    (whole_streams o (map seen fs) es r) (run_agrees o m fs fair)

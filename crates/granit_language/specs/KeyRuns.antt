@@ -1,0 +1,107 @@
+-- The key of a `:`, said of the lexemes before it (YAML 1.2.2, 7.4.2 and 8.2.2).
+use Rattle.std.specs.Prelude.{◌≡◌, ◌+◌, Bool, true, false, ◌&&◌, ◌||◌, not, nat_lt, List, [], ◌∷◌, ◌⊎◌, Option, Some, None}
+use Rattle.granit_base.specs.Place.{Mark}
+use Rattle.granit_error.specs.OptionsData.{OptionsData}
+use Rattle.granit_lexemes.specs.Lexeme.{LexemeKind, Open, Comma, Dash, Colon, KeyStart, Lexeme, Item, OfLexeme, OfComment}
+use Rattle.granit_language.specs.Fitting.{Role, OfNode, Opens, Closes, role_of}
+
+abbrev pub role : Lexeme → Role
+role x = role_of x.kind x.key
+
+-- lexemes whose brackets are whole, the latest first, in front of others
+pub data WholeBrackets : (xs rest : List Lexeme) → Type 0 where
+  whole_none : {rest : List Lexeme} → WholeBrackets rest rest
+  whole_other : {x : Lexeme} {xs rest : List Lexeme} → (role x ≡ Opens → ⊥) → (role x ≡ Closes → ⊥) → WholeBrackets xs rest
+      → WholeBrackets (x ∷ xs) rest
+  whole_pair : {closer opener : Lexeme} {xs ys rest : List Lexeme} → role closer ≡ Closes → WholeBrackets xs (opener ∷ ys)
+      → role opener ≡ Opens → WholeBrackets ys rest → WholeBrackets (closer ∷ xs) rest
+
+-- no run ends here: neither an alias, a property or a scalar stands last, nor a closer
+abbrev pub NoRun : List Lexeme → Type 0
+NoRun [] = Unit {0}
+NoRun (x ∷ xs) = (role x ≡ OfNode → ⊥) × (role x ≡ Closes → ⊥)
+
+-- outside flow what begins its line joins no run before it
+abbrev pub joins_run : Lexeme → Bool
+joins_run x = x.in_flow || not x.begins_line
+
+abbrev pub BeginsRun : Lexeme → List Lexeme → Type 0
+BeginsRun x ys = (joins_run x ≡ false) ⊎ NoRun ys
+
+-- The longest stretch of aliases, properties, scalars and whole bracketed collections that ends with these lexemes, the
+-- latest first: the lexeme that begins it, and those before that.
+pub data Run : (xs : List Lexeme) (first : Lexeme) (rest : List Lexeme) → Type 0 where
+  part_begins : {x : Lexeme} {ys : List Lexeme} → role x ≡ OfNode → BeginsRun x ys → Run (x ∷ ys) x ys
+  part_joins : {x first : Lexeme} {ys rest : List Lexeme} → role x ≡ OfNode → joins_run x ≡ true → Run ys first rest
+      → Run (x ∷ ys) first rest
+  whole_begins : {closer opener : Lexeme} {xs ys : List Lexeme} → role closer ≡ Closes → WholeBrackets xs (opener ∷ ys)
+      → role opener ≡ Opens → BeginsRun opener ys → Run (closer ∷ xs) opener ys
+  whole_joins : {closer opener first : Lexeme} {xs ys rest : List Lexeme} → role closer ≡ Closes
+      → WholeBrackets xs (opener ∷ ys) → role opener ≡ Opens → joins_run opener ≡ true → Run ys first rest
+      → Run (closer ∷ xs) first rest
+
+-- ---- where a key may begin
+
+-- directly behind an opener, or a `,` in flow
+abbrev pub opens_entry : LexemeKind → (in_flow : Bool) → Bool
+opens_entry (Open bracket) in_flow = true
+opens_entry Comma in_flow = in_flow
+opens_entry kind in_flow = false
+
+abbrev pub follows_opener : List Lexeme → Bool
+follows_opener [] = false
+follows_opener (x ∷ xs) = opens_entry x.kind x.in_flow
+
+abbrev pub is_entry_dash : LexemeKind → Bool
+is_entry_dash Dash = true
+is_entry_dash kind = false
+
+abbrev pub follows_dash : List Lexeme → Bool
+follows_dash [] = false
+follows_dash (x ∷ xs) = is_entry_dash x.kind
+
+-- a key may begin there: in flow behind an opener or a `,`; outside flow at its line's begin, or directly behind a `-`,
+-- a `?` or a `:` without key
+abbrev pub may_begin : (in_flow : Bool) → Lexeme → List Lexeme → Bool
+may_begin true first rest = follows_opener rest
+may_begin false first rest = first.begins_line || first.follows_indicator
+
+-- a key begins there: the same, but for a `?` or a `:` without key, behind which no tab may stand
+abbrev pub must_begin : (in_flow : Bool) → Lexeme → List Lexeme → Bool
+must_begin true first rest = follows_opener rest
+must_begin false first rest = first.begins_line || follows_dash rest
+
+-- a place too far behind a key's start for its `:`, or outside flow on a later line
+abbrev pub too_far : OptionsData → (in_flow : Bool) → (from to : Mark) → Bool
+too_far o in_flow from to =
+    nat_lt (from.place.index + o.simple_key_max_lookahead) to.place.index
+    || (not in_flow && nat_lt from.place.line to.place.line)
+
+-- ---- each `:`
+
+-- the run before it is its key
+pub record HasKey (o : OptionsData) (xs : List Lexeme) (x : Lexeme) (k : KeyStart) : Type 0 where
+  pub first : Lexeme
+  pub rest : List Lexeme
+  pub run : Run xs first rest
+  pub number : k.number ≡ first.number
+  pub start : k.start ≡ first.start
+  pub begins : may_begin x.in_flow first rest ≡ true
+  pub near : too_far o x.in_flow first.start x.start ≡ false
+
+-- there is none, or it is none
+pub data NoKey (o : OptionsData) (xs : List Lexeme) (x : Lexeme) : Type 0 where
+  no_run : NoRun xs → NoKey o xs x
+  no_key : {first : Lexeme} {rest : List Lexeme} → Run xs first rest
+      → (must_begin x.in_flow first rest ≡ true → too_far o x.in_flow first.start x.start ≡ true) → NoKey o xs x
+
+abbrev pub ColonSays : OptionsData → List Lexeme → Lexeme → LexemeKind → Option KeyStart → Type 0
+ColonSays o xs x Colon (Some k) = HasKey o xs x k
+ColonSays o xs x Colon None = NoKey o xs x
+ColonSays o xs x kind key = Unit {0}
+
+-- each `:` of some items, behind these lexemes
+abbrev pub ColonsSay : OptionsData → List Lexeme → List Item → Type 0
+ColonsSay o xs [] = Unit {0}
+ColonsSay o xs (OfLexeme x ∷ is) = ColonSays o xs x x.kind x.key × ColonsSay o (x ∷ xs) is
+ColonsSay o xs (OfComment c ∷ is) = ColonsSay o xs is
