@@ -3,7 +3,6 @@ use Rattle.std.specs.Prelude.{ℕ, suc, Bool, true, false, ◌==◌, List, [], �
 use Rattle.granit_base.specs.Place.{Mark}
 use Rattle.granit_lexemes.specs.declared.layout.Bracket.{Bracket}
 use Rattle.granit_lexemes.specs.declared.layout.Bracket.TheVariants.{Square, Curly}
-
 -- what the last lexeme lets the next one be, a possible simple key (7.4.2, 8.2.2), an open bracket, and an open column
 use Rattle.granit_lexemes.specs.declared.layout.LastLexeme.{LastLexeme}
 use Rattle.granit_lexemes.specs.declared.layout.LastLexeme.TheVariants.{Opener, BehindDash, BehindQuestion, BehindBareColon, BehindProperty, Adjacent, Another}

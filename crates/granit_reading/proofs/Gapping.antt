@@ -31,7 +31,6 @@ use Rattle.granit_language.specs.Standing.{tab_limit, TabFits, CutFits, GapStand
 use Rattle.granit_language.specs.Stretch.{GapTo, ends, white, prefix_mark, GapHere, WrongTail, touching, spoiled}
 use Rattle.granit_reading.proofs.Answering.{Answers, answers_then, answers_if}
 
-
 -- ---- comments
 
 hash_there : (h : Here) → (next_char h == 0x23) ≡ true → next_char h ≡ 0x23
