@@ -1,34 +1,25 @@
 -- The value of a block scalar, and the scalar whole, as the code has them.
-use Rattle.std.proofs.Common.{◌≡◌, ℕ, zero, suc, ◌==◌, Bool, true, false, not, ◌&&◌, ◌||◌, cond, List, [], ◌∷◌, ◌++◌, length, Option, Some, None, ◌⊎◌, Result, Ok, Err, IfOk, IfErr, refl, sym, ap, ap₂, ◌∙◌, subst, arith}
+use Rattle.std.proofs.Common.{◌≡◌, ℕ, zero, suc, ◌==◌, Bool, true, false, not, ◌&&◌, ◌||◌, cond, List, [], ◌∷◌, Option, Some, None, Result, Ok, Err, refl, sym, ap, ap₂, ◌∙◌, arith}
 use Rattle.std.specs.Prelude.{is_none, is_some, if◌then◌else◌}
 use Rattle.std.specs.List.{find, list_all}
 use Rattle.std.proofs.lemmas.Bool.Decides.{nat_tests}
 use Rattle.granit_base.specs.Classes.{is_break}
 use Rattle.granit_base.specs.Place.{Mark}
 use Rattle.granit_base.specs.Written.{string_chars}
-use Rattle.granit_error.specs.FaultKind.{FaultKind, NoMemory, UnexpectedCharacter, TabAtBlockScalarStart, InvalidBlockScalarIndent, InvalidBlockScalarHeader}
+use Rattle.granit_error.specs.FaultKind.{UnexpectedCharacter, TabAtBlockScalarStart}
 use Rattle.granit_error.specs.Refused.{Refused}
-use Rattle.granit_lexemes.specs.Basics.{owned, past_break, unprintable}
-use Rattle.granit_lexemes.specs.BlockExtent.{AnswersBlock, RefusesBlock}
-use Rattle.granit_lexemes.specs.BlockHeader.{BlockHeader, Chomping, Strip, Clip, Keep, chomping_of, content_column, block_header}
-use Rattle.granit_lexemes.specs.BlockScalar.{BlockState, BlockRead, BlockGiven, is_white, empty_lines, no_content, is_between, block_turn, block_len, behind_block, content_lines, block_lines, block_body, block_scalar}
+use Rattle.granit_lexemes.specs.Basics.{owned, unprintable}
+use Rattle.granit_lexemes.specs.BlockHeader.{BlockHeader, Chomping, Strip, Clip, Keep, chomping_of, content_column}
+use Rattle.granit_lexemes.specs.BlockScalar.{BlockState, BlockRead, is_white, empty_lines, is_between, block_turn, block_len, behind_block, content_lines, block_lines, block_body}
 use Rattle.granit_lexemes.specs.BlockValue.{line_feeds}
-use Rattle.granit_lexemes.specs.Comment.{CommentRead}
 use Rattle.granit_lexemes.specs.Here.{Here, text_len, next_char, mark_of}
-use Rattle.granit_lexemes.specs.LayoutData.{LayoutData}
 use Rattle.granit_lexemes.specs.LinesExtent.{is_clear}
 use Rattle.granit_lexemes.specs.Outcome.{Fault, fault_at, Fails, ◌>>=◌}
 use Rattle.granit_lexemes.specs.Pieces.{with_front, pieces}
-use Rattle.granit_lexemes.specs.Tail.{tail_at}
 use Rattle.granit_lexemes.proofs.PieceLemmas.{with_front-nil, pieces_done}
-use Rattle.granit_scalars.proofs.Nameless.{IsNameless}
-use Rattle.granit_blocks.proofs.BlockLaw.{whole_of, ended_on, behind_block_is, then_behind, content_on, content_lines_is, then_content, then_lines, lines_on, block_lines_is, body_on, block_body_is, given_on, tail_then, block_refused, block_standing, block_is_answered}
+use Rattle.granit_blocks.proofs.BlockLaw.{whole_of, ended_on, behind_block_is, content_on, content_lines_is, then_content, then_lines, lines_on, block_lines_is, body_on, block_body_is}
 use Rattle.granit_blocks.proofs.LineTurns.{state_at, turn_on, is_mark, block_turn_is}
-use Rattle.granit_cursor.specs.Reading.{GivesTo, coded}
-use Rattle.granit_cursor.specs.declared.token.Lexed.{Lexed}
-use Rattle.granit_cursor.specs.declared.token.Token.{Token}
-use Rattle.granit_cursor.proofs.GivenLemmas.{given_stands, given_cause, given_answered}
-use Rattle.granit_block.specs.BlockCode.{asked_note, noted_tail, block_lexed, block_given, block_with, content_read, block_state, block_whole}
+use Rattle.granit_block.specs.BlockCode.{text_given, block_state, block_whole}
 use Rattle.granit_block.specs.declared.lines.Lines.{Lines}
 
 -- ---- white space
@@ -91,10 +82,10 @@ outside_by literal column k h n =
 
 -- where content stands it stands in the scalar's column, and else the value is white space
 pub column_shown : (literal : Bool) (chomping : Chomping) (column k : ℕ) (h : Here) (text : List ℕ) (s : BlockState) → pieces block_len (block_turn literal column) (state_at h k None false) ≡ Ok (text, s)
-    → content_read literal chomping column k h ≡ behind_block chomping h.place.column (mark_of h) text s
+    → text_given literal chomping column k h ≡ behind_block chomping h.place.column (mark_of h) text s
 column_shown literal chomping column k h text s e = by (h.place.column == column) refl
   where
-    by : (b : Bool) → (h.place.column == column) ≡ b → content_read literal chomping column k h ≡ behind_block chomping h.place.column (mark_of h) text s
+    by : (b : Bool) → (h.place.column == column) ≡ b → text_given literal chomping column k h ≡ behind_block chomping h.place.column (mark_of h) text s
     by true y =
         let same : column ≡ h.place.column = grind (arith, nat_tests, y) in
         ap (read_ended chomping column h) e ∙ ap (λ (c : ℕ). behind_block chomping c (mark_of h) text s) same
@@ -109,7 +100,7 @@ pub text_read : (literal : Bool) (column k : ℕ) (h : Here) (l : Lines) (r : Re
 text_read literal column k h l r none state whole =
     sym (with_front-nil _) ∙ ap₂ (λ (v : List ℕ) (s : BlockState). with_front v (pieces block_len (block_turn literal column) s)) (sym none) (sym state) ∙ whole
 
-pub content_fails : (literal : Bool) (chomping : Chomping) (column k : ℕ) (h : Here) (e : Refused) → Fails e (pieces block_len (block_turn literal column) (state_at h k None false)) → Fails e (content_read literal chomping column k h)
+pub content_fails : (literal : Bool) (chomping : Chomping) (column k : ℕ) (h : Here) (e : Refused) → Fails e (pieces block_len (block_turn literal column) (state_at h k None false)) → Fails e (text_given literal chomping column k h)
 content_fails literal chomping column k h e fails = λ other. ap (read_ended chomping column h) (fails other)
 
 -- ---- behind the last line

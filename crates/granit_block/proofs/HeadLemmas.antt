@@ -1,17 +1,12 @@
 -- What the code reads behind a header on its line.
-use Rattle.std.proofs.Common.{◌≡◌, ℕ, ◌==◌, Bool, true, false, not, Option, Some, None, Result, Ok, Err, refl, sym, ap, ap₂, ◌∙◌, arith}
-use Rattle.std.specs.Prelude.{if◌then◌else◌}
-use Rattle.std.proofs.lemmas.Bool.Decides.{nat_tests}
+use Rattle.std.proofs.Common.{◌≡◌, ℕ, ◌==◌, Bool, true, false, Option, Some, None, Result, Ok, Err, refl, ap, ap₂, ◌∙◌}
 use Rattle.granit_base.specs.Classes.{is_blank}
 use Rattle.granit_error.specs.FaultKind.{CommentNotSeparated}
-use Rattle.granit_error.specs.Refused.{Refused}
 use Rattle.granit_input.specs.Runs.{run_length, starts}
-use Rattle.granit_lexemes.specs.Basics.{count_up_to}
 use Rattle.granit_lexemes.specs.Comment.{CommentRead}
 use Rattle.granit_lexemes.specs.Here.{Here, next_char, mark_of, past}
 use Rattle.granit_lexemes.specs.LayoutData.{LayoutData}
 use Rattle.granit_lexemes.specs.Outcome.{Fault, fault_at, ◌>>=◌}
-use Rattle.granit_lexemes.specs.Tail.{tail_at}
 use Rattle.granit_blocks.proofs.BlockHeads.{tail_on, tail_at_is, with_noted}
 use Rattle.granit_cursor.specs.declared.token.Token.{Token}
 use Rattle.granit_block.specs.BlockCode.{asked_note, note_at, noted_tail}

@@ -1,5 +1,5 @@
 -- How the code goes over lines of content.
-use Rattle.std.proofs.Common.{◌≡◌, ℕ, ◌-◌, ◌≤◌, ◌==◌, Bool, true, false, List, [], ◌++◌, length, take, Option, Some, None, Result, Ok, Err, refl, sym, ap, ap₂, ◌∙◌, append_assoc, arith}
+use Rattle.std.proofs.Common.{◌≡◌, ℕ, ◌-◌, ◌≤◌, ◌==◌, Bool, true, false, List, [], ◌++◌, length, take, Some, None, Ok, Err, refl, sym, ap, ap₂, ◌∙◌, append_assoc, arith}
 use Rattle.std.proofs.lemmas.List.{length-drop}
 use Rattle.granit_base.specs.Classes.{is_blank}
 use Rattle.granit_base.specs.Written.{string_chars}
@@ -12,13 +12,12 @@ use Rattle.granit_lexemes.specs.BlockScalar.{BlockState, between_lines, empty_li
 use Rattle.granit_lexemes.specs.Here.{Here, text_len, next_char, mark_of, mid_line, past}
 use Rattle.granit_lexemes.specs.LinesExtent.{is_clear}
 use Rattle.granit_lexemes.specs.Moves.{steps}
-use Rattle.granit_lexemes.specs.Outcome.{Fault, fault_at, Fails}
-use Rattle.granit_lexemes.specs.Pieces.{with_front}
+use Rattle.granit_lexemes.specs.Outcome.{fault_at, Fails}
 use Rattle.granit_lexemes.proofs.PieceLemmas.{with_front-nil, loop_more, loop_done, loop_fails}
 use Rattle.granit_scalars.proofs.Comments.{steps_text}
 use Rattle.granit_blocks.proofs.LineTurns.{line_on, line_up_to_is, after_break, piece_of, turn_on, block_turn_is, block_shortens, either_no}
 use Rattle.granit_cursor.proofs.MoveLemmas.{steps_past}
-use Rattle.granit_block.specs.BlockCode.{block_state, block_whole, empty_whole, is_out, is_content_mark}
+use Rattle.granit_block.specs.BlockCode.{block_state, block_whole, empty_whole, is_off_content, is_content_mark}
 use Rattle.granit_block.specs.declared.lines.Lines.{Lines}
 
 -- ---- a run that is taken whole
@@ -94,7 +93,7 @@ line_goes literal column s l new now met clear empties state =
 -- ---- a turn
 
 module _ (literal : Bool) (column : ℕ) (l : Lines) (h : Here) where
-  turn : (out clear mark : Bool) → is_out column h ≡ out → is_clear h ≡ clear → is_content_mark column h ≡ mark → block_turn literal column (block_state l h) ≡ turn_on literal column (block_state l h) out clear mark
+  turn : (out clear mark : Bool) → is_off_content column h ≡ out → is_clear h ≡ clear → is_content_mark column h ≡ mark → block_turn literal column (block_state l h) ≡ turn_on literal column (block_state l h) out clear mark
   turn out clear mark o c m =
       block_turn_is literal column (block_state l h)
       ∙ ap₂ (λ (a b : Bool). turn_on literal column (block_state l h) a b (is_content_mark column h)) o c
@@ -103,25 +102,25 @@ module _ (literal : Bool) (column : ℕ) (l : Lines) (h : Here) where
   done : block_turn literal column (block_state l h) ≡ Ok (None, block_state l h) → block_whole literal column l h ≡ Ok (string_chars l.value, block_state l h)
   done is = loop_done block_len (block_turn literal column) (string_chars l.value) (block_state l h) (block_state l h) (block_whole literal column l h) refl is
 
-  pub line_outside : is_out column h ≡ true → block_whole literal column l h ≡ Ok (string_chars l.value, block_state l h)
+  pub line_outside : is_off_content column h ≡ true → block_whole literal column l h ≡ Ok (string_chars l.value, block_state l h)
   line_outside o = done (turn true (is_clear h) (is_content_mark column h) o refl refl)
 
-  pub line_mark : is_out column h ≡ false → is_clear h ≡ true → is_content_mark column h ≡ true → block_whole literal column l h ≡ Ok (string_chars l.value, block_state l h)
+  pub line_mark : is_off_content column h ≡ false → is_clear h ≡ true → is_content_mark column h ≡ true → block_whole literal column l h ≡ Ok (string_chars l.value, block_state l h)
   line_mark o c m = done (turn false true true o c m)
 
-  pub line_refused : (e : Refused) → is_out column h ≡ false → is_clear h ≡ false → e ≡ fault_at (UnexpectedCharacter (next_char h)) (mark_of h) → Fails e (block_whole literal column l h)
+  pub line_refused : (e : Refused) → is_off_content column h ≡ false → is_clear h ≡ false → e ≡ fault_at (UnexpectedCharacter (next_char h)) (mark_of h) → Fails e (block_whole literal column l h)
   line_refused e o c is =
       loop_fails block_len (block_turn literal column) (string_chars l.value) (block_state l h) e (block_whole literal column l h) refl (λ other.
       turn false false (is_content_mark column h) o c refl ∙ ap (λ (f : Refused). Err f) (sym is))
 
-  line_turn : is_out column h ≡ false → is_clear h ≡ true → is_content_mark column h ≡ false → block_turn literal column (block_state l h) ≡ line_up_to literal column (block_state l h) (line_end h)
+  line_turn : is_off_content column h ≡ false → is_clear h ≡ true → is_content_mark column h ≡ false → block_turn literal column (block_state l h) ≡ line_up_to literal column (block_state l h) (line_end h)
   line_turn o c m = turn false true false o c m
 
-  pub line_fails : (e : Refused) → is_out column h ≡ false → is_clear h ≡ true → is_content_mark column h ≡ false → Fails e (line_up_to literal column (block_state l h) (line_end h)) → Fails e (block_whole literal column l h)
+  pub line_fails : (e : Refused) → is_off_content column h ≡ false → is_clear h ≡ true → is_content_mark column h ≡ false → Fails e (line_up_to literal column (block_state l h) (line_end h)) → Fails e (block_whole literal column l h)
   line_fails e o c m fails =
       loop_fails block_len (block_turn literal column) (string_chars l.value) (block_state l h) e (block_whole literal column l h) refl (λ other. line_turn o c m ∙ fails other)
 
-  pub line_more : (new : Lines) (now : Here) (piece : List ℕ) → is_out column h ≡ false → is_clear h ≡ true → is_content_mark column h ≡ false
+  pub line_more : (new : Lines) (now : Here) (piece : List ℕ) → is_off_content column h ≡ false → is_clear h ≡ true → is_content_mark column h ≡ false
       → line_up_to literal column (block_state l h) (line_end h) ≡ Ok (Some piece, block_state new now) → string_chars new.value ≡ string_chars l.value ++ piece → block_whole literal column new now ≡ block_whole literal column l h
   line_more new now piece o c m is grown =
       loop_more block_len (block_turn literal column) (block_shortens literal column) (string_chars l.value) (string_chars new.value) (block_state l h) (block_state new now) piece (block_whole literal column l h) refl (line_turn o c m ∙ is) grown

@@ -1,7 +1,6 @@
 -- A block scalar whole, as the code has it.
-use Rattle.std.proofs.Common.{◌≡◌, Bool, [], Option, ◌⊎◌, Result, Ok, Err, IfOk, IfErr, refl, sym, ap, ◌∙◌, subst}
-use Rattle.granit_base.specs.Place.{Mark}
-use Rattle.granit_error.specs.FaultKind.{FaultKind, NoMemory}
+use Rattle.std.proofs.Common.{◌≡◌, Bool, [], Option, ◌⊎◌, Result, Ok, Err, IfOk, IfErr, refl, sym, ap, subst}
+use Rattle.granit_error.specs.FaultKind.{NoMemory}
 use Rattle.granit_error.specs.Refused.{Refused}
 use Rattle.granit_lexemes.specs.BlockExtent.{AnswersBlock, RefusesBlock}
 use Rattle.granit_lexemes.specs.BlockHeader.{BlockHeader, block_header}
@@ -16,7 +15,7 @@ use Rattle.granit_blocks.proofs.BlockLaw.{given_on, tail_then, block_refused, bl
 use Rattle.granit_cursor.specs.Reading.{GivesTo, coded}
 use Rattle.granit_cursor.specs.declared.token.Lexed.{Lexed}
 use Rattle.granit_cursor.proofs.GivenLemmas.{same_ok, given_cause, given_answered}
-use Rattle.granit_block.specs.BlockCode.{asked_note, block_lexed, block_given, block_with, body_read, tail_read, block_chained}
+use Rattle.granit_block.specs.BlockCode.{asked_note, block_lexed, block_given, body_read, tail_read, block_chained}
 
 module _ (at : LayoutData) (literal : Bool) (h : Here) where
   abbrev given_from : Result (BlockGiven × Here) Fault → Result (Lexed × Here) Fault

@@ -5,7 +5,7 @@ use Rattle.std.proofs.lemmas.List.{append-nil, length-append}
 use Rattle.granit_base.specs.Classes.{is_break}
 use Rattle.granit_lexemes.specs.Basics.{past_break}
 use Rattle.granit_lexemes.specs.BlockHeader.{is_space, leading_turn, greatest, margin_of, outer_of, content_column}
-use Rattle.granit_lexemes.specs.BlockMoves.{Breaks, AllSpaces, no_space, space, Spaces, at_column, no_space_left, space_left}
+use Rattle.granit_lexemes.specs.BlockMoves.{AllSpaces, no_space, space, Spaces, at_column, no_space_left, space_left}
 use Rattle.granit_lexemes.specs.BlockScalar.{indented, empty_turn, empty_lines}
 use Rattle.granit_lexemes.specs.BlockValue.{line_feeds}
 use Rattle.granit_lexemes.specs.Here.{Here, text_len, next_char, step, past}

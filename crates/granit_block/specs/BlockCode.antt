@@ -1,5 +1,5 @@
 -- How the code reads a block scalar.
-use Rattle.std.specs.Prelude.{◌≡◌, ℕ, ◌+◌, ◌<◌, ◌≤◌, ◌||◌, ◌&&◌, ◌==◌, not, Bool, true, false, List, [], ◌∷◌, ◌++◌, length, if◌then◌else◌, Option, Some, None, is_some, Result, Ok, Err}
+use Rattle.std.specs.Prelude.{◌≡◌, ℕ, ◌<◌, ◌≤◌, ◌||◌, ◌&&◌, ◌==◌, not, Bool, true, false, List, [], ◌∷◌, ◌++◌, length, if◌then◌else◌, Option, Some, None, is_some, Result, Ok, Err}
 use Rattle.std.specs.Option.{option_map}
 use Rattle.granit_base.specs.Place.{Mark}
 use Rattle.granit_base.specs.Written.{string_chars}
@@ -8,7 +8,7 @@ use Rattle.granit_error.specs.Refused.{Refused}
 use Rattle.granit_lexemes.specs.Basics.{owned, is_document_mark}
 use Rattle.granit_lexemes.specs.BlockHeader as spec
 use Rattle.granit_lexemes.specs.BlockHeader.{BlockHeader, block_header, leading_turn, greatest, content_column}
-use Rattle.granit_lexemes.specs.BlockScalar.{BlockState, BlockRead, BlockGiven, empty_turn, empty_lines, line_up_to, is_block_char, block_turn, block_len, block_style, block_body, block_scalar, behind_block, kept}
+use Rattle.granit_lexemes.specs.BlockScalar.{BlockState, BlockRead, BlockGiven, empty_lines, line_up_to, is_block_char, block_turn, block_len, block_style, block_body, block_scalar, behind_block, kept}
 use Rattle.granit_lexemes.specs.BlockValue.{line_feeds}
 use Rattle.granit_lexemes.specs.Comment.{CommentRead, comment}
 use Rattle.granit_lexemes.specs.Here.{Here, text_len, next_char, mark_of, mid_line, past}
@@ -167,8 +167,8 @@ IsClear (Ok u) Lands h = Lands h × (is_clear h ≡ true)
 IsClear (Err e) Lands h = (is_clear h ≡ false) × (e ≡ fault_at (UnexpectedCharacter (next_char h)) (mark_of h))
 
 -- the end, or another column than the content's
-abbrev pub is_out : ℕ → Here → Bool
-is_out column h = text_len h == 0 || not (h.place.column == column)
+abbrev pub is_off_content : ℕ → Here → Bool
+is_off_content column h = text_len h == 0 || not (h.place.column == column)
 
 -- a document mark in column 0 of the content
 abbrev pub is_content_mark : ℕ → Here → Bool
@@ -206,8 +206,8 @@ LinesTo (Err e) Lands l given = Fails e given
 -- ---- the value
 
 -- the lines of content from here on in a column, behind so many empty ones
-abbrev pub content_read : Bool → spec.Chomping → ℕ → ℕ → Here → Result (BlockRead × Here) Fault
-content_read literal chomping column k h =
+abbrev pub text_given : Bool → spec.Chomping → ℕ → ℕ → Here → Result (BlockRead × Here) Fault
+text_given literal chomping column k h =
     pieces block_len (block_turn literal column)
     (record { here = h; empty = line_feeds k; before = None; broken = false }) >>= λ x.
     behind_block chomping column (mark_of h) x.0 x.1

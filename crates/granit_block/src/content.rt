@@ -8,7 +8,7 @@ ghost use Rattle.granit_lexemes.specs.BlockHeader as header;
 ghost use Rattle.granit_lexemes.specs.BlockScalar as spec;
 ghost use Rattle.granit_lexemes.specs.BlockValue.{line_feeds};
 ghost use Rattle.granit_lexemes.specs.Here.{Here};
-ghost use Rattle.granit_block.specs.BlockCode.{header_data, chomping_data, content_data, block_state, content_read, ending_of, IsBlockKind};
+ghost use Rattle.granit_block.specs.BlockCode.{header_data, chomping_data, content_data, block_state, text_given, ending_of, IsBlockKind};
 ghost use Rattle.granit_cursor.specs.Reading.{Stands, Moves, Wherever, GivesTo};
 
 use crate::header::{Chomping, Header};
@@ -195,7 +195,7 @@ fn read_text<T: Input>(
 ) -> Result<Content, ScanError>
     ensures here { Wherever T.unread cursor.old cursor.new (λ h Lands.
         (k : ℕ) → string_chars empty ≡ line_feeds k
-        → GivesTo content_data result Lands (content_read frame.literal (chomping_data frame.chomping) column k h)) }
+        → GivesTo content_data result Lands (text_given frame.literal (chomping_data frame.chomping) column k h)) }
     ensures kinds { IfErr result (λ e. IsBlockKind e.kind) }
     ensures moves { Moves T.left T.origin cursor.old cursor.new }
 {

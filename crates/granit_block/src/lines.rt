@@ -4,7 +4,7 @@ ghost use Rattle.granit_base.specs.Written.{string_chars};
 ghost use Rattle.granit_lexemes.specs.BlockScalar as spec;
 ghost use Rattle.granit_lexemes.specs.Here.{Here};
 ghost use Rattle.granit_lexemes.specs.LinesExtent.{is_clear};
-ghost use Rattle.granit_block.specs.BlockCode.{block_state, block_whole, is_out, is_content_mark, IsClear, Shrinks, TakesLine, LineTurnsTo, LinesTo, IsBlockKind};
+ghost use Rattle.granit_block.specs.BlockCode.{block_state, block_whole, is_off_content, is_content_mark, IsClear, Shrinks, TakesLine, LineTurnsTo, LinesTo, IsBlockKind};
 ghost use Rattle.granit_cursor.specs.Reading.{Stands, Moves, Wherever};
 
 use crate::spaces::past_empty_lines;
@@ -91,7 +91,7 @@ fn take_content<T: Input>(
 /// Whether no content stands here: at the end, or in another column.
 fn is_outside<T: Input>(cursor: &Cursor<T>, column: u128) -> bool
     requires { 1 ≤ T.window cursor.now.input }
-    ensures value { (h : Here) → Stands T.unread cursor.now h → result ≡ is_out column h }
+    ensures value { (h : Here) → Stands T.unread cursor.now h → result ≡ is_off_content column h }
     ensures some { result ≡ false → 0 < T.left cursor.now.input }
 {
     cursor.input().next_is_z() || cursor.mark().col() as u128 != column

@@ -85,7 +85,7 @@ fn worked_block_scalars(rt: HostRuntime) {
             0,
             None,
             "a b\nc\n",
-            (3, 11, Some(1), true),
+            (3, 12, Some(1), true),
         ),
         (
             "a: |\n  x\n  y",

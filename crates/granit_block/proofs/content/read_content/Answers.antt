@@ -1,7 +1,6 @@
 use Rattle.std.proofs.Common.{◌≡◌, ◌==◌, ℕ, List, None, true, false, Result, Ok, Err, refl, sym, ap, ◌∙◌, subst}
 use Rattle.std.proofs.lemmas.Result.{err_from_is_err_and}
 use Rattle.granit_base.specs.Place.{Mark}
-use Rattle.granit_base.specs.Written.{string_chars}
 use Rattle.granit_error.specs.Refused.{Refused}
 use Rattle.granit_lexemes.specs.Basics.{owned}
 use Rattle.granit_lexemes.specs.BlockScalar.{BlockRead, no_content}

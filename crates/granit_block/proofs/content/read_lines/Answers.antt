@@ -1,4 +1,4 @@
-use Rattle.std.proofs.Common.{◌≡◌, ◌==◌, ℕ, true, false, Result, Err, sym, ap, ap₂, ◌∙◌, ◌++◌, List, [], subst, arith}
+use Rattle.std.proofs.Common.{◌≡◌, ◌==◌, ℕ, true, false, Result, Err, sym, ap, ◌∙◌, ◌++◌, List, subst, arith}
 use Rattle.std.proofs.lemmas.Bool.Decides.{nat_tests}
 use Rattle.std.proofs.lemmas.Result.{err_from_is_err_and}
 use Rattle.granit_base.specs.Written.{string_chars}

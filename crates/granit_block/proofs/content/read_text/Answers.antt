@@ -1,7 +1,7 @@
-use Rattle.std.proofs.Common.{◌≡◌, ℕ, List, false, None, Result, sym, ap, ◌∙◌, subst}
+use Rattle.std.proofs.Common.{false, None, Result, sym, ap, ◌∙◌, subst}
 use Rattle.granit_base.specs.Place.{Mark}
 use Rattle.granit_base.specs.Written.{string_chars}
-use Rattle.granit_lexemes.specs.BlockScalar.{BlockState, BlockRead, behind_block}
+use Rattle.granit_lexemes.specs.BlockScalar.{BlockRead, behind_block}
 use Rattle.granit_lexemes.specs.Here.{Here}
 use Rattle.granit_lexemes.specs.Outcome.{Fault}
 use Rattle.granit_cursor.specs.Reading.{Stands, GivesTo}

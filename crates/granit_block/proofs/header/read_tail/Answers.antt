@@ -1,4 +1,4 @@
-use Rattle.std.proofs.Common.{◌≡◌, ◌==◌, true, false, sym, ap, ◌∙◌, subst, Result, Option, arith}
+use Rattle.std.proofs.Common.{◌≡◌, ◌==◌, true, false, sym, subst, Result, Option, arith}
 use Rattle.std.proofs.lemmas.Bool.Decides.{nat_tests}
 use Rattle.granit_base.specs.Classes.{is_blank}
 use Rattle.granit_lexemes.specs.Here.{Here, next_char, past}

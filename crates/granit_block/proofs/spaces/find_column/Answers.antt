@@ -1,6 +1,6 @@
-use Rattle.std.proofs.Common.{◌≡◌, ◌+◌, ℕ, max, length, Some, None, Ok, sym, ap, ap₂, ◌∙◌, subst, arith}
+use Rattle.std.proofs.Common.{◌≡◌, ◌+◌, ℕ, max, length, Ok, sym, ap, ◌∙◌, arith}
 use Rattle.granit_base.specs.Written.{string_chars}
-use Rattle.granit_lexemes.specs.BlockHeader.{content_column, outer_of, margin_of, greatest}
+use Rattle.granit_lexemes.specs.BlockHeader.{content_column, margin_of, greatest}
 use Rattle.granit_block.proofs.SpaceLemmas.{feeds_given, column_told, column_led}
 use Rattle.granit_block.proofs.spaces.find_column.Goals as goal
 

@@ -1,8 +1,7 @@
 use Rattle.std.proofs.Common.{◌≡◌, ◌==◌, false, sym, ◌∙◌, subst, arith}
 use Rattle.std.proofs.lemmas.Bool.Decides.{nat_tests}
 use Rattle.granit_input.proofs.OriginLemmas.{goes_on}
-use Rattle.granit_lexemes.specs.BlockHeader.{is_space}
-use Rattle.granit_lexemes.specs.Here.{Here, next_char, step, past}
+use Rattle.granit_lexemes.specs.Here.{Here, next_char, step}
 use Rattle.granit_cursor.specs.Reading.{Stands}
 use Rattle.granit_block.proofs.SpaceLemmas.{over_space, no_more_spaces}
 use Rattle.granit_block.proofs.spaces.past_spaces.Goals as goal

@@ -3,7 +3,7 @@ use Rattle.granit_base.specs.Classes.{is_break}
 use Rattle.granit_base.specs.Place.{Mark}
 use Rattle.granit_lexemes.specs.Basics.{past_break}
 use Rattle.granit_lexemes.specs.BlockHeader.{is_space}
-use Rattle.granit_lexemes.specs.Here.{Here, next_char, past}
+use Rattle.granit_lexemes.specs.Here.{next_char, past}
 use Rattle.granit_block.proofs.SpaceLemmas.{leading_line, no_leading_line}
 use Rattle.granit_block.proofs.spaces.take_leading_line.Goals as goal
 
