@@ -80,6 +80,7 @@ pub fn indicators()
     ensures comment_cuts { reads (codes "a #c\nb") ≡ (codes "0 Scalar plain \"a\" 0:1:1-1:1:2\ncomment right \"c\" 2:1:3-4:1:5\nfault 74: at char 2 line 1 column 3\n") }
     ensures comment_cuts_no_key { reads (codes "a #c\n: b") ≡ (codes "0 Scalar plain \"a\" 0:1:1-1:1:2\ncomment right \"c\" 2:1:3-4:1:5\n1 : 5:2:1-6:2:2\n2 Scalar plain \"b\" 7:2:3-8:2:4\n3 End 8:2:4-8:2:4 ends\n") }
     ensures multi_line_key { reads (codes "\"a\n b\": c") ≡ (codes "fault 44: at char 6 line 2 column 4\n") }
+    ensures dash_before_comma { reads (codes "- ,\n\ta") ≡ (codes "0 - 0:1:1-1:1:2 to 2:1:3\n1 , 2:1:3-3:1:4\nfault 70: at char 5 line 2 column 2\n") }
 {}
 
 /// Names and tags.
