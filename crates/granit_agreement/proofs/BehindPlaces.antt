@@ -218,7 +218,8 @@ behind_given false (lexemes.Anchor name) key s l o last given p fs g h r e c f =
 behind_given false (lexemes.Tag handle suffix) key s l o last given p fs g h r e c f =
     plain_behind (Property (Tag handle suffix)) (lexemes.Tag handle suffix) s l o last given p fs
     (NodeOf false (lexemes.Tag handle suffix) key s l o last given p fs) c
-    (part_limited false (Property (Tag handle suffix)) (lexemes.Tag handle suffix) s l o last given p fs (stop_kind fs) h e
+    (part_limited false (Property (Tag handle suffix)) (lexemes.Tag handle suffix)
+    s l o last given p fs (stop_kind fs) h e
     (tag_parts false handle suffix s l o last given p fs (stop_kind fs) h (and_right _ _ c)))
 behind_given false (lexemes.Alias name) key s l o last given NoProperties fs g h r e c f = absurd g
 behind_given false (lexemes.Alias name) key s l o last given (One k i) fs g h r e c f =

@@ -64,7 +64,8 @@ abbrev pub KeyEvent : lexemes.LexemeKind → Scope → lexemes.Lexeme → TreePr
 KeyEvent k s l p fs = mapping_start p (On k true s l) (frames_indent fs)
 
 abbrev KeyBare :
-    OptionsData → lexemes.LexemeKind → Scope → lexemes.Lexeme → List OpenFrame → List PlainEvent → Result ParserState Fault
+    OptionsData → lexemes.LexemeKind → Scope → lexemes.Lexeme → List OpenFrame → List PlainEvent →
+    Result ParserState Fault
 KeyBare o k s l fs given = bare o (TokenOn k true l) (state_of o (InFrames (KeyHole l fs)) (knowing s l.start given))
 
 too_many :
@@ -108,14 +109,16 @@ key_by o k s l last given p fs (StopsWith n) full e c h = absurd c
 abbrev pub KeyTaken :
     PartKind → lexemes.LexemeKind → Scope → lexemes.Lexeme → TreeProperties → List OpenFrame → GrammarFault → EventStep
 KeyTaken m k s l p fs stop =
-    after_events (KeyEvent k s l p fs ∷ []) (part_frames stop (KeyHole l fs) NoProperties m (at_of true s (at_kind l k None)))
+    after_events (KeyEvent k s l p fs ∷ [])
+    (part_frames stop (KeyHole l fs) NoProperties m (at_of true s (at_kind l k None)))
 
 abbrev pub KeyNode : PartKind → lexemes.LexemeKind → Type 0
 KeyNode m k =
     (s : Scope) (l : lexemes.Lexeme) (o : OptionsData) (last : Mark) (given : List PlainEvent) (p : TreeProperties)
     (fs : List OpenFrame) (stop : GrammarFault) → Holes fs →
     LimitView o (On k true s l) (knowing s last given)
-    (node o (TokenOn k true l) (state_of o (InFrames (topped p fs)) (knowing s last given))) (KeyTaken m k s l p fs stop)
+    (node o (TokenOn k true l) (state_of o (InFrames (topped p fs)) (knowing s last given)))
+    (KeyTaken m k s l p fs stop)
 
 abbrev KeyResult :
     PartKind → lexemes.LexemeKind → Scope → lexemes.Lexeme → OptionsData → Mark → List PlainEvent → TreeProperties →
@@ -149,7 +152,8 @@ pub scalar_key : (style : ScalarStyle) (text : Written) → KeyNode (Scalar styl
 scalar_key style text s l o last given p fs stop h =
     let k = lexemes.Scalar style text in
     key_begins (Scalar style text) k s l o last given p fs stop h (refl, refl)
-    (scalar_parts true style text s l o l.start (KeyGiven o k s l p fs given) NoProperties (KeyHole l fs) stop (at_key tt h))
+    (scalar_parts true style text s l o l.start (KeyGiven o k s l p fs given) NoProperties (KeyHole l fs) stop
+    (at_key tt h))
 
 pub square_key : KeyNode (Open Square) (lexemes.Open Square)
 square_key s l o last given p fs stop h =
@@ -208,12 +212,18 @@ part_flat n stop fs (One k j) (Scalar style text) i h e =
     count_flat n (blocks_open fs) (put_frames i.shown.end fs) (put_count i.shown.end fs h) e
 part_flat n stop fs (Two k j m q) (Scalar style text) i h e =
     count_flat n (blocks_open fs) (put_frames i.shown.end fs) (put_count i.shown.end fs h) e
-part_flat n stop fs NoProperties (Open Square) i h e = count_flat n (blocks_open fs) (InFrames (flow_frame Square ∷ fs)) refl e
-part_flat n stop fs (One k j) (Open Square) i h e = count_flat n (blocks_open fs) (InFrames (flow_frame Square ∷ fs)) refl e
-part_flat n stop fs (Two k j m q) (Open Square) i h e = count_flat n (blocks_open fs) (InFrames (flow_frame Square ∷ fs)) refl e
-part_flat n stop fs NoProperties (Open Curly) i h e = count_flat n (blocks_open fs) (InFrames (flow_frame Curly ∷ fs)) refl e
-part_flat n stop fs (One k j) (Open Curly) i h e = count_flat n (blocks_open fs) (InFrames (flow_frame Curly ∷ fs)) refl e
-part_flat n stop fs (Two k j m q) (Open Curly) i h e = count_flat n (blocks_open fs) (InFrames (flow_frame Curly ∷ fs)) refl e
+part_flat n stop fs NoProperties (Open Square) i h e =
+    count_flat n (blocks_open fs) (InFrames (flow_frame Square ∷ fs)) refl e
+part_flat n stop fs (One k j) (Open Square) i h e =
+    count_flat n (blocks_open fs) (InFrames (flow_frame Square ∷ fs)) refl e
+part_flat n stop fs (Two k j m q) (Open Square) i h e =
+    count_flat n (blocks_open fs) (InFrames (flow_frame Square ∷ fs)) refl e
+part_flat n stop fs NoProperties (Open Curly) i h e =
+    count_flat n (blocks_open fs) (InFrames (flow_frame Curly ∷ fs)) refl e
+part_flat n stop fs (One k j) (Open Curly) i h e =
+    count_flat n (blocks_open fs) (InFrames (flow_frame Curly ∷ fs)) refl e
+part_flat n stop fs (Two k j m q) (Open Curly) i h e =
+    count_flat n (blocks_open fs) (InFrames (flow_frame Curly ∷ fs)) refl e
 
 -- the same with the limit
 pub part_limited :

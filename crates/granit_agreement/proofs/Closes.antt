@@ -6,7 +6,7 @@ use Rattle.granit_agreement.specs.View.{terminal_of, Beside, state_of, give_all,
 use Rattle.granit_base.specs.Place.{Mark}
 use Rattle.granit_grammar.specs.EventMachine.{OpenFrame, DocumentFrame, PropertiesFrame, SequenceFrame, MappingFrame, FlowSequenceFrame, FlowMappingFrame, FlowPairFrame, EventState, IsFresh, HasDirectives, IsRooted, InFrames, IsEnded, Ending, with_event, past_sequence, past_mapping, past_asked, finish_frames, ended_by, put_frames, frames_room, frames_indent}
 use Rattle.granit_language.specs.Choice.{choose}
-use Rattle.granit_language.specs.Room.{BlockIn, entry_empty, sequence_ends, behind_property, continues_node, ask_over}
+use Rattle.granit_language.specs.Room.{BlockIn, entry_empty, sequence_over, behind_property, continues_node, ask_over}
 use Rattle.granit_language.specs.Scope.{Scope}
 use Rattle.granit_language.specs.Telling.{event_told}
 use Rattle.granit_language.specs.Terminal.{TerminalKind, Comma, Close, Terminal, stands_left, dash_in, entry_in, bare_in, stands_in, reach_of, is_bare_kind, is_comma_kind, closes_kind}
@@ -60,7 +60,7 @@ or_split false b P e f g = g e
 
 waits_over :
     (loose : Bool) (x : Terminal) (c : ℕ) → (stands_left x c || (loose && entry_in x c)) ≡ true →
-    sequence_ends loose c x ≡ true
+    sequence_over loose c x ≡ true
 waits_over true x c e =
     or_split (stands_left x c) (entry_in x c) (not (dash_in x c) ≡ true) e (λ l. ap not (left_no_dash x c l))
     (λ p. ap not (dash_no_entry x c p))
@@ -77,11 +77,11 @@ ends_not_bare k e = cc (e)
 -- ---- the parts of the grammar's closing
 
 over_sequence :
-    (x : Terminal) (loose : Bool) (c : ℕ) (fs : List OpenFrame) → Holes fs → sequence_ends loose c x ≡ true →
+    (x : Terminal) (loose : Bool) (c : ℕ) (fs : List OpenFrame) → Holes fs → sequence_over loose c x ≡ true →
     past_sequence x loose c fs (finish_frames x x.at.start fs)
     ≡ with_event (pointed SequenceEnds x.at.start) (ended_by x (put_frames x.at.start fs))
 over_sequence x loose c fs h e =
-    chosen (sequence_ends loose c x) _ _ e
+    chosen (sequence_over loose c x) _ _ e
     ∙ ap (with_event (pointed SequenceEnds x.at.start)) (finish_closes x x.at.start fs h)
 
 over_mapping :
@@ -184,7 +184,8 @@ fair_put x e fs (pair_value h) f = f
 
 -- the frames below one that ends take a node
 below_holes :
-    (x : Terminal) (fs : List OpenFrame) → Good (InFrames fs) → frame_ends_at x (InFrames fs) ≡ true → Holes (top_below fs)
+    (x : Terminal) (fs : List OpenFrame) → Good (InFrames fs) → frame_ends_at x (InFrames fs) ≡ true →
+    Holes (top_below fs)
 below_holes x fs (hole (at_root {m = m})) e = at_root
 below_holes x fs (hole (at_entry q h)) e = h
 below_holes x fs (hole (at_key q h)) e = h
@@ -314,7 +315,8 @@ top_fewer (FlowMappingFrame single at ∷ fs) = not_more (blocks_open fs)
 top_fewer (FlowPairFrame at ∷ fs) = not_more (blocks_open fs)
 
 stay :
-    (o : OptionsData) (x : Terminal) (st : EventState) (d : Beside) → Good st → FairAt x st → frame_ends_at x st ≡ false →
+    (o : OptionsData) (x : Terminal) (st : EventState) (d : Beside) → Good st → FairAt x st →
+    frame_ends_at x st ≡ false →
     ClosedView o x st d (state_of o st d)
 stay o x st d g f e = record {
   closed_state = st;
@@ -433,7 +435,8 @@ turn_by n b s l o st d ih g f m true e = cc (e)
 
 views : (n : ℕ) (b : Bool) (s : Scope) (l : lexemes.Lexeme) (o : OptionsData) → Views n b s l o
 views zero b s l o st d g f m = absurd (omega (arith, m))
-views (suc n) b s l o st d g f m = turn_by n b s l o st d (views n b s l o) g f m (frame_ends_at (terminal_of b s l) st) refl
+views (suc n) b s l o st d g f m =
+    turn_by n b s l o st d (views n b s l o) g f m (frame_ends_at (terminal_of b s l) st) refl
 
 pub close_agrees :
     (b : Bool) (s : Scope) (l : lexemes.Lexeme) (o : OptionsData) (st : EventState) (d : Beside) → Good st →

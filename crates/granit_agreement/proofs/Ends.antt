@@ -10,7 +10,7 @@ use Rattle.granit_agreement.specs.View.{terminal_kind, at_of, terminal_of, frame
 use Rattle.granit_grammar.specs.EventMachine.{OpenFrame, EventState, frames_room}
 use Rattle.granit_language.specs.Node.{TreeProperties, NoProperties, One, Two}
 use Rattle.granit_language.specs.Reading.{begins_kind}
-use Rattle.granit_language.specs.Room.{Room, RightOf, ValueIn, BehindKey, Inside, behind_property, joins, continues_node, sequence_ends}
+use Rattle.granit_language.specs.Room.{Room, RightOf, ValueIn, BehindKey, Inside, behind_property, joins, continues_node, sequence_over}
 use Rattle.granit_language.specs.Scope.{Scope}
 use Rattle.granit_language.specs.Telling.{one_less, properties_anchor, properties_tag}
 use Rattle.granit_language.specs.Terminal.{TerminalKind, Dash, Alias, Property, Scalar, Open, Part, Question, Colon, At, Anchor, Tag, Terminal, edge, stands_left, dash_in, entry_in, stands_in, reach_of, is_dash_kind, begins_entry_kind}
@@ -61,7 +61,7 @@ no_or false = refl
 -- behind an entry
 entry_over :
     (loose : Bool) (left dash pair : Bool) (x : Terminal) (c : ℕ) → left ≡ stands_left x c → dash ≡ dash_in x c →
-    (left || ((loose && not dash) && (true || pair))) ≡ sequence_ends loose c x
+    (left || ((loose && not dash) && (true || pair))) ≡ sequence_over loose c x
 entry_over true left dash pair x c e h = past_by left dash pair (λ t. h ∙ left_no_dash x c (sym e ∙ t)) ∙ ap not h
 entry_over false left dash pair x c e h = no_or left ∙ e
 

@@ -191,7 +191,8 @@ limit_next o x s last given (Err f) (StopsWith k) h g e q v = h
 
 -- ---- the steps
 
-rooted_stops : (m : Mark) (kind : TerminalKind) (i : At) → is_stream_kind kind ≡ false → GoodStep (take_frames (IsRooted m) kind i)
+rooted_stops :
+    (m : Mark) (kind : TerminalKind) (i : At) → is_stream_kind kind ≡ false → GoodStep (take_frames (IsRooted m) kind i)
 rooted_stops m (Directive d) i e = cc (e)
 rooted_stops m DocumentStart i e = cc (e)
 rooted_stops m DocumentEnd i e = cc (e)

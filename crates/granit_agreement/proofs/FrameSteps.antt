@@ -75,9 +75,11 @@ frame_steps b k key s l o last given fs (hole (at_asked {c = c} {fs = gs} p h)) 
 frame_steps b k key s l o last given fs (hole (at_value {c = c} {w = w} {fs = gs} p h)) f n e =
     mapping_steps b k key s l o last given c _ gs valued p h n e
 frame_steps b k key s l o last given fs (hole (at_item {fs = gs} h)) f n e =
-    flat_step b k key s l o last given fs (flow.item_steps b k key s l o last given gs h) (item_flat b k key s l o gs h e)
+    flat_step b k key s l o last given fs (flow.item_steps b k key s l o last given gs h)
+    (item_flat b k key s l o gs h e)
 frame_steps b k key s l o last given fs (hole (at_curly {fs = gs} h)) f n e =
-    flat_step b k key s l o last given fs (flow.curly_steps b k key s l o last given gs h) (curly_flat b k key s l o gs h e)
+    flat_step b k key s l o last given fs (flow.curly_steps b k key s l o last given gs h)
+    (curly_flat b k key s l o gs h e)
 frame_steps b k key s l o last given fs (hole (curly_key h)) f n e = absurd f
 frame_steps b k key s l o last given fs (hole (curly_asked {fs = gs} h)) f n e =
     flat_step b k key s l o last given fs (flow.curly_asked_steps b k key s l o last given gs h)

@@ -4,7 +4,7 @@ use Rattle.granit_grammar.specs.EventMachine.{Key, AskDone, Done, Value, OpenFra
 use Rattle.granit_language.specs.Choice.{choose}
 use Rattle.granit_language.specs.GrammarFault.{GrammarFault, ExpectedBlockSequenceEntry, ExpectedBlockMappingKey}
 use Rattle.granit_language.specs.Node.{TreeProperties, NoProperties, One, Two}
-use Rattle.granit_language.specs.Room.{BlockIn, FlowIn, behind_property, room_behind, right_fits, loose_fits, indicates, opens, part_fits, differ, continues_node, sequence_ends, ask_over}
+use Rattle.granit_language.specs.Room.{BlockIn, FlowIn, behind_property, room_behind, right_fits, loose_fits, indicates, opens, part_fits, differ, continues_node, sequence_over, ask_over}
 use Rattle.granit_language.specs.Terminal.{PartKind, Alias, Property, Scalar, Open, TerminalKind, Dash, Question, Comma, Colon, Close, Part, At, Terminal, terminal, edge, stands_left, entry_in, is_comma_kind, closes_kind}
 use Rattle.granit_language.specs.TreeEvents.{TreeEvent, SequenceEnds, MappingEnds, pointed, null, alone_event, properties_end, mapping_start, sequence_start, pair_start}
 use Rattle.granit_lexemes.specs.declared.layout.Bracket.TheVariants.{Square, Curly}
@@ -69,7 +69,7 @@ past_sequence_well :
     GoodEnding on →
     GoodEnding (past_sequence x loose c fs on)
 past_sequence_well x loose c fs on p h g =
-    either_ending (sequence_ends loose c x) (with_event (pointed SequenceEnds x.at.start) on)
+    either_ending (sequence_over loose c x) (with_event (pointed SequenceEnds x.at.start) on)
     (ending (InFrames (SequenceFrame loose c None ∷ fs)) []) (with_ending (pointed SequenceEnds x.at.start) on g)
     (ends_well (past_entry p h))
 

@@ -160,7 +160,8 @@ node_or false (lexemes.Anchor name) key s l o last given p fs h q e j c n =
 node_or false (lexemes.Tag handle suffix) key s l o last given p fs h q e j c n =
     plain_wanted (Property (Tag handle suffix)) (lexemes.Tag handle suffix) s l o last given p fs
     (NodeOf false (lexemes.Tag handle suffix) key s l o last given p fs) q
-    (part_limited false (Property (Tag handle suffix)) (lexemes.Tag handle suffix) s l o last given p fs (stop_kind fs) h e
+    (part_limited false (Property (Tag handle suffix)) (lexemes.Tag handle suffix)
+    s l o last given p fs (stop_kind fs) h e
     (tag_parts false handle suffix s l o last given p fs (stop_kind fs) h j))
 node_or false (lexemes.Alias name) key s l o last given NoProperties fs h q e j c n =
     plain_wanted (Alias name) (lexemes.Alias name) s l o last given NoProperties fs

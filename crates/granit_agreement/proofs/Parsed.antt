@@ -1,6 +1,6 @@
 -- What the parser answers, in words of readings and causes.
 use Rattle.granit_agreement.specs.Running.{FairRun, RunView, ParsedAs, GivesAll}
-use Rattle.granit_agreement.specs.View.{Flagged, item_of, seen}
+use Rattle.granit_agreement.specs.View.{Flagged, item_of, terminal_seen}
 use Rattle.granit_grammar.specs.EventMachine.{EventAnswer, Events, Faulty, Unfinished, events_before, IsFresh}
 use Rattle.granit_grammar.specs.Guarded.{guarded, whole_guard, whole_run}
 use Rattle.granit_language.specs.GrammarFault.{GrammarFault, fault_of}
@@ -40,11 +40,11 @@ events_by o xs ys i gs p (Faulty k x) n e h = absurd h
 
 pub parsed_events :
     (o : OptionsData) (m : Mark) (fs : List Flagged) (ys : List Terminal) (i : At) (gs : List PlainEvent)
-    (p : ParserState) → FairRun fs no_scope IsFresh → map seen fs ≡ ys ++ (terminal TheEnd i ∷ []) →
-    feed_all o (map item_of fs) (parser_start m) ≡ Ok (gs, p) → ParsedAs o (map seen fs) gs
+    (p : ParserState) → FairRun fs no_scope IsFresh → map terminal_seen fs ≡ ys ++ (terminal TheEnd i ∷ []) →
+    feed_all o (map item_of fs) (parser_start m) ≡ Ok (gs, p) → ParsedAs o (map terminal_seen fs) gs
 parsed_events o m fs ys i gs p fair n e =
-    events_by o (map seen fs) ys i gs p (Guards o (map seen fs)) n refl
-    (subst (λ r. RunView o r (Guards o (map seen fs))) e (run_agrees o m fs fair))
+    events_by o (map terminal_seen fs) ys i gs p (Guards o (map terminal_seen fs)) n refl
+    (subst (λ r. RunView o r (Guards o (map terminal_seen fs))) e (run_agrees o m fs fair))
 
 faults_by :
     (o : OptionsData) (xs : List Terminal) (f : Fault) (a : EventAnswer) → Guards o xs ≡ a → RunView o (Err f) a →
@@ -56,10 +56,10 @@ faults_by o xs f Unfinished e h = absurd h
 pub parsed_faults :
     (o : OptionsData) (m : Mark) (fs : List Flagged) (f : Fault) → FairRun fs no_scope IsFresh →
     feed_all o (map item_of fs) (parser_start m) ≡ Err f →
-    (k : GrammarFault) × (x : Terminal) × WholeFault o (map seen fs) k x × (f ≡ fault_of k x)
+    (k : GrammarFault) × (x : Terminal) × WholeFault o (map terminal_seen fs) k x × (f ≡ fault_of k x)
 parsed_faults o m fs f fair e =
-    faults_by o (map seen fs) f (Guards o (map seen fs)) refl
-    (subst (λ r. RunView o r (Guards o (map seen fs))) e (run_agrees o m fs fair))
+    faults_by o (map terminal_seen fs) f (Guards o (map terminal_seen fs)) refl
+    (subst (λ r. RunView o r (Guards o (map terminal_seen fs))) e (run_agrees o m fs fair))
 
 events_same : (es more : List TreeEvent) → Events es ≡ Events more → es ≡ more
 events_same es more e = cc (e)
@@ -68,7 +68,8 @@ told_by :
     (o : OptionsData) (es : List TreeEvent) (r : Result (List PlainEvent × ParserState) Fault) (a : EventAnswer) →
     Fully a ≡ Events es → RunView o r a → GivesAll o es r
 told_by o es (Ok y) (Events more) e h =
-    subst (λ es. events_told o es ≡ event_on StreamStart text_start ∷ y.0) (events_same (pointed StreamStarts text_start ∷ more) es e)
+    subst (λ es. events_told o es ≡ event_on StreamStart text_start ∷ y.0)
+    (events_same (pointed StreamStarts text_start ∷ more) es e)
     (ap (λ gs. event_on StreamStart text_start ∷ gs) (sym h))
 told_by o es (Err f) (Events more) e h = absurd h
 told_by o es r Unfinished e h = cc (e)
@@ -76,7 +77,7 @@ told_by o es r (Faulty k x) e h = cc (e)
 
 pub readings_parsed :
     (o : OptionsData) (m : Mark) (fs : List Flagged) (es : List TreeEvent) → FairRun fs no_scope IsFresh →
-    WholeReading o (map seen fs) es → GivesAll o es (feed_all o (map item_of fs) (parser_start m))
+    WholeReading o (map terminal_seen fs) es → GivesAll o es (feed_all o (map item_of fs) (parser_start m))
 readings_parsed o m fs es fair r =
-    told_by o es (feed_all o (map item_of fs) (parser_start m)) (Guards o (map seen fs))
-    (whole_streams o (map seen fs) es r) (run_agrees o m fs fair)
+    told_by o es (feed_all o (map item_of fs) (parser_start m)) (Guards o (map terminal_seen fs))
+    (whole_streams o (map terminal_seen fs) es r) (run_agrees o m fs fair)

@@ -9,7 +9,7 @@ use Rattle.granit_grammar.specs.Guarded.{blocks_open, first_fault}
 use Rattle.granit_language.specs.Choice.{choose}
 use Rattle.granit_language.specs.GrammarFault.{GrammarFault, UnexpectedEofBlockSequence, ExpectedBlockSequenceEntry, fault_of}
 use Rattle.granit_language.specs.Node.{NoProperties}
-use Rattle.granit_language.specs.Room.{sequence_ends}
+use Rattle.granit_language.specs.Room.{sequence_over}
 use Rattle.granit_language.specs.Scope.{Scope}
 use Rattle.granit_language.specs.Telling.{one_less}
 use Rattle.granit_language.specs.Terminal.{Terminal, TerminalKind, Dash, At, is_dash_kind, stands_left, stands_in, dash_in, entry_in}
@@ -230,7 +230,7 @@ goes_entry x loose c w fs false over same on e f g = cc (e)
 
 sequence_goes_on :
     (loose : Bool) (c : ℕ) (x : Terminal) → dash_in x c ≡ true → stands_left x c ≡ false →
-    sequence_ends loose c x ≡ false
+    sequence_over loose c x ≡ false
 sequence_goes_on true c x e f = ap not e
 sequence_goes_on false c x e f = f
 
@@ -324,7 +324,7 @@ no_entry kind i loose c fs e = refl
 past_other :
     (b : Bool) (k : lexemes.LexemeKind) (key : Option KeyStart) (s : Scope) (l : lexemes.Lexeme) (o : OptionsData)
     (last : Mark) (given : List PlainEvent) (loose : Bool) (c : ℕ) (fs : List OpenFrame) →
-    is_dash_token (token_sort b key k) ≡ false → sequence_ends loose c (X b k key s l) ≡ false →
+    is_dash_token (token_sort b key k) ≡ false → sequence_over loose c (X b k key s l) ≡ false →
     StepsLimited b k key s l o last given (Past loose c fs)
 unfolding in_sequence
 past_other b k key s l o last given loose c fs n f =
@@ -332,7 +332,7 @@ past_other b k key s l o last given loose c fs n f =
     (LimitView o (X b k key s l) (knowing s last given)
     (take_token o (token_of b (at_kind l k key)) (state_of o (InFrames (Past loose c fs)) (knowing s last given))))
     (sym
-    (stays_taken (sequence_ends loose c (X b k key s l))
+    (stays_taken (sequence_over loose c (X b k key s l))
     (with_event (pointed SequenceEnds l.start) (finish_frames (X b k key s l) l.start fs))
     (InFrames (Past loose c fs))
     (X b k key s l) f
@@ -370,7 +370,7 @@ past_by :
     (b : Bool) (k : lexemes.LexemeKind) (key : Option KeyStart) (s : Scope) (l : lexemes.Lexeme) (o : OptionsData)
     (last : Mark) (given : List PlainEvent) (loose : Bool) (c : ℕ) (fs : List OpenFrame) → DashOr b key k →
     IsPositive c →
-    sequence_ends loose c (X b k key s l) ≡ false →
+    sequence_over loose c (X b k key s l) ≡ false →
     nat_le (blocks_open (Past loose c fs)) o.block_nesting_limit ≡ true →
     StepsLimited b k key s l o last given (Past loose c fs)
 unfolding in_sequence
@@ -381,7 +381,7 @@ past_by b lexemes.Dash key s l o last given loose c fs a_dash p f e =
     (take_token o (token_of b (at_kind l lexemes.Dash key))
     (state_of o (InFrames (Past loose c fs)) (knowing s last given))))
     (sym
-    (stays_taken (sequence_ends loose c (X b lexemes.Dash key s l))
+    (stays_taken (sequence_over loose c (X b lexemes.Dash key s l))
     (with_event (pointed SequenceEnds l.start) (finish_frames (X b lexemes.Dash key s l) l.start fs))
     (InFrames (Past loose c fs)) (X b lexemes.Dash key s l) f))
     (subst

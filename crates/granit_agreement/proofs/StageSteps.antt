@@ -58,11 +58,15 @@ StageView b k key s l o d st =
 
 abbrev With : OptionsData → Bool → DirectiveKind → Option KeyStart → lexemes.Lexeme → Option (ℕ × ℕ) → Beside → Stepped
 With o b c key l v d =
-    with_directive (token_of b (at_kind l (lexemes.Directive c) key)) c (version_told v) (state_of o (HasDirectives v) d)
+    with_directive (token_of b (at_kind l (lexemes.Directive c) key)) c (version_told v)
+    (state_of o (HasDirectives v) d)
 
-abbrev Then : Bool → DirectiveKind → Option KeyStart → Scope → lexemes.Lexeme → OptionsData → Option (ℕ × ℕ) → Beside → Stepped → Type 0
+abbrev Then :
+    Bool → DirectiveKind → Option KeyStart → Scope → lexemes.Lexeme → OptionsData → Option (ℕ × ℕ) → Beside → Stepped →
+    Type 0
 Then b c key s l o v d r =
-    NextView o (X b (lexemes.Directive c) key s l) s d.given r (take_frames (HasDirectives v) (Directive c) (at_of b s (at_kind l (lexemes.Directive c) key)))
+    NextView o (X b (lexemes.Directive c) key s l) s d.given r
+    (take_frames (HasDirectives v) (Directive c) (at_of b s (at_kind l (lexemes.Directive c) key)))
 
 version_by :
     (b : Bool) (major minor : ℕ) (key : Option KeyStart) (s : Scope) (l : lexemes.Lexeme) (o : OptionsData) (d : Beside)
@@ -70,7 +74,12 @@ version_by :
     Then b (Version major minor) key s l o None d (With o b (Version major minor) key l None d)
 version_by b major minor key s l o d true e c h v =
     subst (Then b (Version major minor) key s l o None d)
-    (sym (ap (λ q. if q then Ok (state_of o (HasDirectives (Some (major, minor))) d) else Err (fault_of UnsupportedYamlMajorVersion (X b (lexemes.Directive (Version major minor)) key s l))) e))
+    (sym
+    (ap
+    (λ q.
+    if q then Ok (state_of o (HasDirectives (Some (major, minor))) d)
+    else Err (fault_of UnsupportedYamlMajorVersion (X b (lexemes.Directive (Version major minor)) key s l)))
+    e))
     (record {
       beside = d;
       is_seen = refl;
@@ -83,7 +92,12 @@ version_by b major minor key s l o d true e c h v =
     })
 version_by b major minor key s l o d false e c h v =
     subst (Then b (Version major minor) key s l o None d)
-    (sym (ap (λ q. if q then Ok (state_of o (HasDirectives (Some (major, minor))) d) else Err (fault_of UnsupportedYamlMajorVersion (X b (lexemes.Directive (Version major minor)) key s l))) e)) (
+    (sym
+    (ap
+    (λ q.
+    if q then Ok (state_of o (HasDirectives (Some (major, minor))) d)
+    else Err (fault_of UnsupportedYamlMajorVersion (X b (lexemes.Directive (Version major minor)) key s l)))
+    e)) (
       UnsupportedYamlMajorVersion,
       guarded_by o.block_nesting_limit _ _
           ∙ (ap (version_fault major) v ∙ ap (λ q. unless q (Some UnsupportedYamlMajorVersion)) e),
@@ -95,7 +109,8 @@ handle_by :
     (v : Option (ℕ × ℕ)) (d : Beside) (known : Option (List ℕ)) → entry_of handle s.pending ≡ known →
     d.count ≡ s.count → d.handles ≡ s.pending → s.version ≡ v →
     Then b (TagPrefix handle prefix) key s l o v d
-    (with_handle (token_of b (at_kind l (lexemes.Directive (TagPrefix handle prefix)) key)) (version_told v) handle prefix known
+    (with_handle (token_of b (at_kind l (lexemes.Directive (TagPrefix handle prefix)) key))
+    (version_told v) handle prefix known
     (state_of o (HasDirectives v) d))
 handle_by b handle prefix key s l o v d (Some known) e c h w =
     (DuplicateTagDirective, guarded_by o.block_nesting_limit _ _ ∙ ap handle_fault e, refl)
@@ -120,7 +135,8 @@ directive_next b (TagPrefix handle prefix) key s l o v d c h w =
     subst
     (λ q.
     Then b (TagPrefix handle prefix) key s l o v d
-    (with_handle (token_of b (at_kind l (lexemes.Directive (TagPrefix handle prefix)) key)) (version_told v) handle prefix q
+    (with_handle (token_of b (at_kind l (lexemes.Directive (TagPrefix handle prefix)) key))
+    (version_told v) handle prefix q
     (state_of o (HasDirectives v) d)))
     (sym (lookup_texts handle d.handles ∙ ap (entry_of handle) h))
     (handle_by b handle prefix key s l o v d (entry_of handle s.pending) refl c h w)
@@ -143,13 +159,17 @@ pub directed_next :
     (v : Option (ℕ × ℕ)) (d : Beside) → Knows (HasDirectives v) s d → StageView b k key s l o d (HasDirectives v)
 directed_next b (lexemes.Directive c) key s l o v d w = directive_next b c key s l o v d w.0 w.1 w.2
 directed_next b lexemes.DocumentStart key s l o v d w =
-    let given = give_all o (shown_event (DocumentStarts true v) (at_of b s (at_kind l lexemes.DocumentStart key)) ∷ []) d.given in
+    let given = give_all o (shown_event (DocumentStarts true v) (at_of b s (at_kind l lexemes.DocumentStart key)) ∷ [])
+    d.given in
     record {
       beside = Started l d d.handles given;
       is_seen = refl;
       gives = refl;
-      knows =
-          (ap₂ (λ n hs. record { last = l.shown.end; count = n; names = []; handles = hs; given = given }) w.0 w.1, refl, refl);
+      knows = (
+        ap₂ (λ n hs. record { last = l.shown.end; count = n; names = []; handles = hs; given = given }) w.0 w.1,
+        refl,
+        refl,
+      );
       passes = guarded_by o.block_nesting_limit _ _;
       comes = hole at_root;
     }
@@ -173,7 +193,10 @@ pub rooted_next :
     (e : Mark) (d : Beside) → Knows (IsRooted e) s d → StageView b k key s l o d (IsRooted e)
 rooted_next b (lexemes.Directive c) key s l o e d w = refl
 rooted_next b lexemes.DocumentStart key s l o e d w =
-    let given = give_all o (pointed DocumentEnds e ∷ shown_event (DocumentStarts true None) (at_of b s (at_kind l lexemes.DocumentStart key)) ∷ []) d.given in
+    let given = give_all o
+    (pointed DocumentEnds e ∷ shown_event (DocumentStarts true None) (at_of b s (at_kind l lexemes.DocumentStart key))
+    ∷ [])
+    d.given in
     record {
       beside = Started l d [] given;
       is_seen = refl;
@@ -201,7 +224,9 @@ rooted_next b lexemes.DocumentEnd key s l o e d w = record {
 }
 rooted_next b lexemes.StreamEnd key s l o e d w = record {
   beside = record d {
-    given = give_all o (pointed DocumentEnds e ∷ shown_event StreamEnds (at_of b s (at_kind l lexemes.StreamEnd key)) ∷ []) d.given;
+    given =
+        give_all o (pointed DocumentEnds e ∷ shown_event StreamEnds (at_of b s (at_kind l lexemes.StreamEnd key)) ∷ [])
+        d.given;
   };
   is_seen = refl;
   gives = refl;
@@ -341,7 +366,8 @@ fresh_by b k key s l o d true w e h =
     (want_frames Root NoProperties (terminal_kind k key) (at_of b s (at_kind l k key))))
     (sym (bare_same b k key s l o e)) h))
 fresh_by b k key s l o d false w e h =
-    err_before o (X b k key s l) (knowing s (BareAt b k key l).span.end (d.given ++ BareAt b k key l ∷ [])) (knowing s l.start d.given) (fault_of UnexpectedEofBlockSequence (X b k key s l))
+    err_before o (X b k key s l) (knowing s (BareAt b k key l).span.end (d.given ++ BareAt b k key l ∷ []))
+    (knowing s l.start d.given) (fault_of UnexpectedEofBlockSequence (X b k key s l))
     (BareEvent b k key s l ∷ [])
     (want_frames Root NoProperties (terminal_kind k key) (at_of b s (at_kind l k key))) h
 
@@ -364,7 +390,8 @@ fresh_other b k key s l o d w n =
     (fresh_by b k key s l o d (begins_node (token_sort b key k)) w refl
     (root_by b k key s l o (BareAt b k key l).span.end (d.given ++ BareAt b k key l ∷ []) None (dash_or b key k)
     (none_open o.block_nesting_limit)))
-    (after_step (BareEvent b k key s l ∷ []) (want_frames Root NoProperties (terminal_kind k key) (at_of b s (at_kind l k key)))
+    (after_step (BareEvent b k key s l ∷ [])
+    (want_frames Root NoProperties (terminal_kind k key) (at_of b s (at_kind l k key)))
     (want_stands Root NoProperties (terminal_kind k key) (at_of b s (at_kind l k key)) at_root))
     n w.3 w.4)
 
@@ -378,7 +405,8 @@ fresh_next b (lexemes.Directive (TagPrefix handle prefix)) key s l o d w =
 fresh_next b (lexemes.Directive (Reserved name parameters)) key s l o d w =
     directive_next b (Reserved name parameters) key s l o None (record d { names = []; handles = [] }) w.0 (sym w.3) w.4
 fresh_next b lexemes.DocumentStart key s l o d w =
-    let given = give_all o (shown_event (DocumentStarts true None) (at_of b s (at_kind l lexemes.DocumentStart key)) ∷ []) d.given in
+    let given = give_all o
+    (shown_event (DocumentStarts true None) (at_of b s (at_kind l lexemes.DocumentStart key)) ∷ []) d.given in
     record {
       beside = Started l d [] given;
       is_seen = refl;

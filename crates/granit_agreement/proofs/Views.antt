@@ -79,7 +79,9 @@ pub events_before :
 events_before o x s a last given es (Ok p) (GoesTo st more) h = (
   (
     h.0.0,
-    h.0.1 ∙ ap (λ g. state_of o st (moved_on o x h.0.0 g (knowing s a (give_all o es given)))) (sym (give_append o es more given))
+    h.0.1
+        ∙ ap (λ g. state_of o st (moved_on o x h.0.0 g (knowing s a (give_all o es given))))
+        (sym (give_append o es more given))
         ∙ ap (state_of o st)
         (moved_same x.kind s a last h.0.0 (give_all o es given) given (give_all o (es ++ more) given)),
   ),

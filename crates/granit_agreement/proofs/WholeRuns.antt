@@ -2,7 +2,7 @@
 use Rattle.granit_agreement.specs.Good.{Good, is_fresh}
 use Rattle.granit_agreement.specs.Running.{Knows, Seen, Comes, NextView, FairNext, FairRun, RunView}
 use Rattle.granit_agreement.specs.Stepping.{taken, at_kind}
-use Rattle.granit_agreement.specs.View.{Beside, Flagged, terminal_of, item_of, seen, state_of, give_all}
+use Rattle.granit_agreement.specs.View.{Beside, Flagged, terminal_of, item_of, terminal_seen, state_of, give_all}
 use Rattle.granit_grammar.specs.EventMachine.{EventState, IsFresh, HasDirectives, IsRooted, InFrames, IsEnded, Ending, ending, ended_by, EventStep, GoesTo, StopsWith, after_events, take_frames, EventAnswer, Events, Faulty, Unfinished, events_before}
 use Rattle.granit_grammar.specs.Guarded.{Guard, passed, goes_by, closed_by, guarded, first_fault, fault_unless, state_count, is_loose, whole_guard}
 use Rattle.granit_language.specs.GrammarFault.{GrammarFault, TooManyBlocks}
@@ -32,13 +32,15 @@ use Rattle.granit_agreement.proofs.WholeSteps.{step_next}
 
 -- ---- events
 
-told_append : (o : OptionsData) (es more : List TreeEvent) → events_told o (es ++ more) ≡ events_told o es ++ events_told o more
+told_append :
+    (o : OptionsData) (es more : List TreeEvent) → events_told o (es ++ more) ≡ events_told o es ++ events_told o more
 told_append o [] more = refl
 told_append o (e ∷ es) more =
     ap (λ gs. event_told o e ++ gs) (told_append o es more)
     ∙ sym (append_assoc (event_told o e) (events_told o es) (events_told o more))
 
-give_told : (o : OptionsData) (es : List TreeEvent) (given : List PlainEvent) → give_all o es given ≡ given ++ events_told o es
+give_told :
+    (o : OptionsData) (es : List TreeEvent) (given : List PlainEvent) → give_all o es given ≡ given ++ events_told o es
 give_told o [] given = sym (append-nil given)
 give_told o (e ∷ es) given =
     give_told o es (given ++ event_told o e) ∙ append_assoc given (event_told o e) (events_told o es)
@@ -64,10 +66,12 @@ Emptied p = record p { given = [] }
 abbrev Given : ParserState → Result (List PlainEvent × ParserState) Fault
 Given q = Ok (q.given, Emptied q)
 
-abbrev Front : OptionsData → List FlaggedItem → List PlainEvent × ParserState → Result (List PlainEvent × ParserState) Fault
+abbrev Front :
+    OptionsData → List FlaggedItem → List PlainEvent × ParserState → Result (List PlainEvent × ParserState) Fault
 Front o is x = with_front x.0 (feed_all o is x.1)
 
-abbrev Fed : OptionsData → Flagged → List FlaggedItem → Result ParserState Fault → Result (List PlainEvent × ParserState) Fault
+abbrev Fed :
+    OptionsData → Flagged → List FlaggedItem → Result ParserState Fault → Result (List PlainEvent × ParserState) Fault
 Fed o f is r =
     ((r >>= take_tail f.0.kind None (next_line is)) >>= Given) >>= Front o is
 
@@ -104,7 +108,8 @@ abbrev Cleared : Beside → Beside
 Cleared d = record d { given = [] }
 
 seen_cleared :
-    (o : OptionsData) (st : EventState) (p : ParserState) (d : Beside) → Seen o st p d → Seen o st (Emptied p) (Cleared d)
+    (o : OptionsData) (st : EventState) (p : ParserState) (d : Beside) → Seen o st p d →
+    Seen o st (Emptied p) (Cleared d)
 seen_cleared o IsFresh p d h = ap Emptied h
 seen_cleared o (HasDirectives v) p d h = ap Emptied h
 seen_cleared o (IsRooted m) p d h = ap Emptied h
@@ -118,7 +123,8 @@ knows_cleared (IsRooted m) s d h = (ap Cleared h.0, h.1, h.2)
 knows_cleared (InFrames fs) s d h = (ap Cleared h.0, h.1, h.2)
 knows_cleared IsEnded s d h = tt
 
-fault_passed : (b : Bool) (k : GrammarFault) (f : Option GrammarFault) → first_fault (fault_unless b k) f ≡ None → b ≡ true
+fault_passed :
+    (b : Bool) (k : GrammarFault) (f : Option GrammarFault) → first_fault (fault_unless b k) f ≡ None → b ≡ true
 fault_passed true k f e = refl
 fault_passed false k f e = cc (e)
 
@@ -135,7 +141,7 @@ run_front o gs es (Err f) (Events more) e h = absurd h
 run_front o gs es (Err f) Unfinished e h = absurd h
 
 abbrev Go : OptionsData → List Flagged → Scope → EventState → EventAnswer
-Go o fs s st = guarded (whole_guard o) (scoped s (map seen fs)) st
+Go o fs s st = guarded (whole_guard o) (scoped s (map terminal_seen fs)) st
 
 abbrev Runs : OptionsData → List Flagged → Type 0
 Runs o fs =
@@ -218,7 +224,8 @@ runs o (f ∷ fs) s (InFrames gs) d p c q e n fair h =
 -- from the start of a stream
 pub run_agrees :
     (o : OptionsData) (m : Mark) (fs : List Flagged) → FairRun fs no_scope IsFresh →
-    RunView o (feed_all o (map item_of fs) (parser_start m)) (guarded (whole_guard o) (scoped no_scope (map seen fs)) IsFresh)
+    RunView o (feed_all o (map item_of fs) (parser_start m))
+    (guarded (whole_guard o) (scoped no_scope (map terminal_seen fs)) IsFresh)
 run_agrees o m fs fair =
     runs o fs no_scope IsFresh (record { last = m; count = 0; names = []; handles = []; given = [] }) (parser_start m)
     is_fresh (refl, refl, refl, refl, refl) (none_open o.block_nesting_limit) refl fair refl

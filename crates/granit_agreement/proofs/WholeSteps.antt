@@ -93,7 +93,9 @@ next_before o x s given es (Err f) (GoesTo st more) h = h
 next_before o x s given es (Ok p) (StopsWith k) h = h
 next_before o x s given es (Err f) (StopsWith k) h = h
 
-after_more : (e : TreeEvent) (es : List TreeEvent) (y : EventStep) → after_events (e ∷ []) (after_events es y) ≡ after_events (e ∷ es) y
+after_more :
+    (e : TreeEvent) (es : List TreeEvent) (y : EventStep) →
+    after_events (e ∷ []) (after_events es y) ≡ after_events (e ∷ es) y
 after_more e es (GoesTo st more) = refl
 after_more e es (StopsWith k) = refl
 

@@ -5,7 +5,7 @@ use Rattle.std.specs.Prelude.{◌≡◌, ℕ, Bool, true, false, ◌&&◌, ◌||
 use Rattle.granit_base.specs.Place.{Mark}
 use Rattle.granit_grammar.specs.EventMachine.{PairAt, Key, KeyDone, AskDone, Done, Value, OpenFrame, DocumentFrame, PropertiesFrame, SequenceFrame, MappingFrame, FlowSequenceFrame, FlowMappingFrame, FlowPairFrame, EventState, InFrames, IsEnded, frames_room, put_frames}
 use Rattle.granit_language.specs.Reading.{begins_kind}
-use Rattle.granit_language.specs.Room.{Room, BehindKey, Inside, behind_property, continues_node, sequence_ends}
+use Rattle.granit_language.specs.Room.{Room, BehindKey, Inside, behind_property, continues_node, sequence_over}
 use Rattle.granit_language.specs.Terminal.{TerminalKind, Part, Terminal, is_stream_kind, is_dash_kind, is_bare_kind, is_comma_kind, closes_kind, stands_left, entry_in, text_start}
 use Rattle.granit_lexemes.specs.declared.layout.Bracket.TheVariants.{Square, Curly}
 
@@ -53,7 +53,7 @@ pair_ends c KeyDone x = false
 pair_ends c at x = stands_left x c
 
 abbrev pub entry_ends : Bool → ℕ → Option Mark → Terminal → Bool
-entry_ends loose c None x = sequence_ends loose c x
+entry_ends loose c None x = sequence_over loose c x
 entry_ends loose c (Some w) x = stands_left x c || (loose && entry_in x c)
 
 abbrev pub made_ends : Bool → PairAt → Terminal → Bool
@@ -66,13 +66,13 @@ square_ends Done x = true
 square_ends AskDone x = not (is_bare_kind x.kind)
 square_ends at x = is_comma_kind x.kind || closes_kind Square x.kind
 
-abbrev pub document_ends : Option Mark → Terminal → Bool
-document_ends None x = false
-document_ends (Some m) x = is_stream_kind x.kind
+abbrev pub root_ends : Option Mark → Terminal → Bool
+root_ends None x = false
+root_ends (Some m) x = is_stream_kind x.kind
 
 abbrev pub ends_in : Terminal → List OpenFrame → Bool
 ends_in x [] = false
-ends_in x (DocumentFrame m ∷ fs) = document_ends m x
+ends_in x (DocumentFrame m ∷ fs) = root_ends m x
 ends_in x (PropertiesFrame p ∷ fs) = not (continues_node (behind_property (frames_room fs)) p x.kind x.at)
 ends_in x (SequenceFrame loose c w ∷ fs) = entry_ends loose c w x
 ends_in x (MappingFrame c at ∷ fs) = pair_ends c at x
@@ -88,7 +88,8 @@ frame_ends_at x st = false
 abbrev pub FairFinish : Terminal → List OpenFrame → Type 0
 FairFinish x [] = Unit {0}
 FairFinish x (f ∷ fs) =
-    FairAt x (put_frames text_start (f ∷ fs)) × (frame_ends_at x (put_frames text_start (f ∷ fs)) ≡ true → FairFinish x fs)
+    FairAt x (put_frames text_start (f ∷ fs))
+    × (frame_ends_at x (put_frames text_start (f ∷ fs)) ≡ true → FairFinish x fs)
 
 abbrev pub frames_below : EventState → List OpenFrame
 frames_below (InFrames (f ∷ fs)) = fs

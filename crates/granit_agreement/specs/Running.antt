@@ -91,7 +91,8 @@ RunView o r a = ⊥
 
 -- the given events, behind the start of the stream, are those of the one stream of the lexemes
 abbrev pub ParsedAs : OptionsData → List Terminal → List PlainEvent → Type 0
-ParsedAs o xs gs = (es : List TreeEvent) × WholeReading o xs es × (events_told o es ≡ event_on StreamStart text_start ∷ gs)
+ParsedAs o xs gs =
+    (es : List TreeEvent) × WholeReading o xs es × (events_told o es ≡ event_on StreamStart text_start ∷ gs)
 
 -- they are these, told
 abbrev pub GivesAll : OptionsData → List TreeEvent → Result (List PlainEvent × ParserState) Fault → Type 0

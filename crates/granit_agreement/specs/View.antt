@@ -70,8 +70,8 @@ Flagged = lexemes.Lexeme × Bool
 abbrev pub item_of : Flagged → FlaggedItem
 item_of f = record { item = lexemes.OfLexeme (record (f.0) { tail = None }); begins_key = f.1 }
 
-abbrev pub seen : Flagged → Terminal
-seen f = terminal_of f.1 no_scope f.0
+abbrev pub terminal_seen : Flagged → Terminal
+terminal_seen f = terminal_of f.1 no_scope f.0
 
 -- ---- frames
 

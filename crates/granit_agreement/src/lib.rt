@@ -2,8 +2,10 @@
 //! ends, each step, and whole runs. So what the parser answers is a reading of the lexemes or has its cause.
 #![tactic(auto)]
 
+mod fair;
 mod runs;
 mod steps;
 
+pub use fair::texts_are_fair;
 pub use runs::{every_run_agrees, what_is_parsed_is_a_reading};
 pub use steps::{every_step_agrees, what_a_lexeme_ends};

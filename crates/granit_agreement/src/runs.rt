@@ -15,18 +15,18 @@ ghost use Rattle.granit_grammar.specs.Guarded.{guarded, whole_guard};
 ghost use Rattle.granit_machine.specs.Frames.{ParserState, parser_start};
 ghost use Rattle.granit_machine.specs.Machine.{feed_all};
 ghost use Rattle.granit_agreement.specs.Running.{FairRun, GivesAll, ParsedAs, RunView};
-ghost use Rattle.granit_agreement.specs.View.{Flagged, item_of, seen};
+ghost use Rattle.granit_agreement.specs.View.{Flagged, item_of, terminal_seen};
 
 /// Fed with lexemes that are fair to it, the parser gives the events of the grammar's machine, or the fault of the
 /// lexeme that it refuses.
 pub fn every_run_agrees()
-    ensures { (o : OptionsData) (m : Mark) (fs : List Flagged) → FairRun fs no_scope IsFresh → RunView o (feed_all o (map item_of fs) (parser_start m)) (guarded (whole_guard o) (scoped no_scope (map seen fs)) IsFresh) }
+    ensures { (o : OptionsData) (m : Mark) (fs : List Flagged) → FairRun fs no_scope IsFresh → RunView o (feed_all o (map item_of fs) (parser_start m)) (guarded (whole_guard o) (scoped no_scope (map terminal_seen fs)) IsFresh) }
 {}
 
 /// So the events that it gives for lexemes with their end are those of their one reading, its fault has its cause, and
 /// the events of a reading are given.
 pub fn what_is_parsed_is_a_reading()
-    ensures events { (o : OptionsData) (m : Mark) (fs : List Flagged) (ys : List Terminal) (i : At) (gs : List PlainEvent) (p : ParserState) → FairRun fs no_scope IsFresh → map seen fs ≡ ys ++ (terminal TheEnd i ∷ []) → feed_all o (map item_of fs) (parser_start m) ≡ Ok (gs, p) → ParsedAs o (map seen fs) gs }
-    ensures faults { (o : OptionsData) (m : Mark) (fs : List Flagged) (f : Fault) → FairRun fs no_scope IsFresh → feed_all o (map item_of fs) (parser_start m) ≡ Err f → (k : GrammarFault) × (x : Terminal) × WholeFault o (map seen fs) k x × (f ≡ fault_of k x) }
-    ensures readings { (o : OptionsData) (m : Mark) (fs : List Flagged) (es : List TreeEvent) → FairRun fs no_scope IsFresh → WholeReading o (map seen fs) es → GivesAll o es (feed_all o (map item_of fs) (parser_start m)) }
+    ensures events { (o : OptionsData) (m : Mark) (fs : List Flagged) (ys : List Terminal) (i : At) (gs : List PlainEvent) (p : ParserState) → FairRun fs no_scope IsFresh → map terminal_seen fs ≡ ys ++ (terminal TheEnd i ∷ []) → feed_all o (map item_of fs) (parser_start m) ≡ Ok (gs, p) → ParsedAs o (map terminal_seen fs) gs }
+    ensures faults { (o : OptionsData) (m : Mark) (fs : List Flagged) (f : Fault) → FairRun fs no_scope IsFresh → feed_all o (map item_of fs) (parser_start m) ≡ Err f → (k : GrammarFault) × (x : Terminal) × WholeFault o (map terminal_seen fs) k x × (f ≡ fault_of k x) }
+    ensures readings { (o : OptionsData) (m : Mark) (fs : List Flagged) (es : List TreeEvent) → FairRun fs no_scope IsFresh → WholeReading o (map terminal_seen fs) es → GivesAll o es (feed_all o (map item_of fs) (parser_start m)) }
 {}

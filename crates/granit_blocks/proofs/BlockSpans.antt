@@ -9,7 +9,7 @@ use Rattle.granit_scalars.proofs.QuotedEscapes.{over_text}
 use Rattle.granit_scalars.proofs.Stepping.{over-append}
 use Rattle.granit_lexemes.specs.BlockHeader.{Chomping, BlockHeader}
 use Rattle.granit_lexemes.specs.BlockScalar.{BlockRead, BlockGiven}
-use Rattle.granit_lexemes.specs.BlockExtent.{BlockBody, without_content, with_content, AnswersBlock}
+use Rattle.granit_lexemes.specs.BlockExtent.{BlockFront, BlockBody, without_content, with_content, AnswersBlock}
 use Rattle.granit_lexemes.specs.BlockMoves.{Crosses, Covers, Breaks, Spaces, at_column, no_space_left, space_left}
 use Rattle.granit_lexemes.specs.HeaderExtent.{Indicator, takes_sign, takes_digit, takes_none, HeaderStands, HeaderTail, commented, uncommented, LineEnds, line_broken, line_unbroken}
 use Rattle.granit_lexemes.specs.LinesExtent.{Empties, no_empty_line, empty_line, BlockLine, BehindLine, by_break, by_end, ContentLines, no_line, more_lines}
@@ -111,11 +111,15 @@ ends_reach : {h after : Here} {broken : Bool} → LineEnds h broken after → Re
 ends_reach (line_broken b) = breaks_reach b
 ends_reach {h} (line_unbroken e) = stays h
 
-body_reaches : {literal : Bool} {chomping : Chomping} {broken : Bool} {block : Option ℕ} {column k : ℕ} {start : Mark} {place : Here} {read : BlockRead} {after : Here} → BlockBody literal chomping broken block column k start place read after → Reaches place after
+-- from behind the header's line to where content would begin
+pub front_reaches : {block : Option ℕ} {h : Here} {header : BlockHeader} {noted : Option CommentRead} {broken : Bool} {column k : ℕ} {place : Here} (f : BlockFront block h header noted broken column k place) → Reaches f.behind_tail place
+front_reaches f = joined (ends_reach f.ends) (empties_reach f.empties)
+
+pub body_reaches : {literal : Bool} {chomping : Chomping} {broken : Bool} {block : Option ℕ} {column k : ℕ} {start : Mark} {place : Here} {read : BlockRead} {after : Here} → BlockBody literal chomping broken block column k start place read after → Reaches place after
 body_reaches {place = place} (without_content e) = stays place
 body_reaches (with_content lines t after some right ls out c u) = lines_reach ls
 
 pub block_reaches : (literal : Bool) (block : Option ℕ) (h : Here) (given : BlockGiven) (after : Here) → AnswersBlock literal block h given after → Reaches h after
 block_reaches literal block h given after p =
     let f = p.front in
-    joined (header_reaches f.heads) (joined (tail_reaches f.tails) (joined (ends_reach f.ends) (joined (empties_reach f.empties) (body_reaches p.body))))
+    joined (header_reaches f.heads) (joined (tail_reaches f.tails) (joined (front_reaches f) (body_reaches p.body)))

@@ -162,7 +162,7 @@ fn comments_are_cloned(rt: HostRuntime) -> Result<(), Fail> {
 #[test]
 fn tokens_are_cloned(rt: HostRuntime) -> Result<(), Fail> {
     let mut parameters = TextList::new(rt.alloc());
-    parameters.push(OwnedText::from_str(alloc, "b")?)?;
+    parameters.push(OwnedText::from_str(rt.alloc(), "b")?)?;
     let directive = TokenType::ReservedDirective(Text::borrowed("a"), parameters);
     let token = Token::new(Span::empty(Marker::new(3, 1, 3)), directive);
     let copy = token.try_clone(rt.alloc())?;

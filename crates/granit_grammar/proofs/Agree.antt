@@ -8,7 +8,7 @@ use Rattle.granit_language.specs.FaultKinds.{fault_kind_at}
 use Rattle.granit_language.specs.Node.{NoProperties, One, Two}
 use Rattle.granit_language.specs.OpenEvents.{open_events}
 use Rattle.granit_language.specs.OpenPlace.{OpenPlace, Fresh, InDirectives, BehindRoot, Ended, Want, PastEntry, PastKey, PastAsk, PastPair, PastItem, IsOpen}
-use Rattle.granit_language.specs.Settling.{settle}
+use Rattle.granit_language.specs.Settling.{settle_place}
 use Rattle.granit_language.specs.Terminal.{Terminal, text_start}
 use Rattle.granit_language.specs.TreeEvents.{StreamStarts, TreeEvent, pointed, stream_events}
 use Rattle.granit_grammar.proofs.AgreeClose.{Agree, close_agrees}
@@ -100,7 +100,7 @@ follows : (xs : List Terminal) → Onward (run_events_from xs) (parse xs)
 follows [] p f i g = not_ended p f (g text_start)
 follows (x ∷ xs) p f i g =
     other (open_events x.at.start p) f _ _ (g x.at.start)
-    (closed_answers (run_events_from xs) (parse xs) (follows xs) (open_events x.at.start p) (settle x p) x
+    (closed_answers (run_events_from xs) (parse xs) (follows xs) (open_events x.at.start p) (settle_place x p) x
     (ended_by x (state_at p)) (close_agrees x p i))
 
 -- the two machines agree on each list

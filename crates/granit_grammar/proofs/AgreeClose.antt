@@ -8,8 +8,8 @@ use Rattle.granit_language.specs.Node.{TreeProperties, NoProperties, One, Two, N
 use Rattle.granit_language.specs.OpenEvents.{hole_indent, around_first, around_events, hole_events, open_events}
 use Rattle.granit_language.specs.OpenPlace.{Bare, Explicit, Around, BlockPairs, FlowPairs, Hole, AtRoot, AtEntry, AtItem, AtKey, AtAsk, AtColon, OpenPlace, Fresh, InDirectives, BehindRoot, Ended, Want, PastEntry, PastKey, PastAsk, PastPair, PastItem, holder, room_of, IsHole, IsOpen}
 use Rattle.granit_language.specs.Placed.{pair_front}
-use Rattle.granit_language.specs.Room.{BlockIn, FlowIn, Room, RightOf, ValueIn, KeyIn, BehindKey, ItemIn, Inside, behind_property, continues_node, entry_empty, sequence_ends, value_empty, ask_empty, ask_over}
-use Rattle.granit_language.specs.Settling.{end_entries, end_pair, end_ask, finish_at, settle_want, settle}
+use Rattle.granit_language.specs.Room.{BlockIn, FlowIn, Room, RightOf, ValueIn, KeyIn, BehindKey, ItemIn, Inside, behind_property, continues_node, entry_empty, sequence_over, value_empty, ask_empty, ask_over}
+use Rattle.granit_language.specs.Settling.{end_entries, end_pair, end_ask, finish_at, settle_want, settle_place}
 use Rattle.granit_language.specs.Terminal.{Question, At, Terminal, terminal, is_stream_kind, is_comma_kind, closes_kind, stands_left, no_terminal}
 use Rattle.granit_language.specs.TreeEvents.{SequenceEnds, MappingEnds, TreeEvent, pointed, null, indent_of_key, properties_end, alone_event, node_events, content_events, entries_events, pair_events, first_with, entries_first, first_terminal, node_end}
 use Rattle.granit_lexemes.specs.declared.layout.Bracket.TheVariants.{Square, Curly}
@@ -68,7 +68,7 @@ entries_agree :
     x.at.start (past_sequence x loose c (hole_frames r) (finish_frames x x.at.start (hole_frames r)))
     (end_entries x on r p loose c es)
 entries_agree x on r p loose c es h =
-    both _ _ (sequence_ends loose c x) _ _ _ _
+    both _ _ (sequence_over loose c x) _ _ _ _
     (one _ _ (pointed SequenceEnds x.at.start) _ _ (h (Sequence p loose c es x.at.start)))
     (same _ _ (PastEntry r p loose c es) tt (λ more. refl))
 
@@ -333,7 +333,7 @@ properties_end_agree x r p e =
 
 pub close_agrees :
     (x : Terminal) (p : OpenPlace) → IsOpen p →
-    Agree (open_events x.at.start p) x.at.start (ended_by x (state_at p)) (settle x p)
+    Agree (open_events x.at.start p) x.at.start (ended_by x (state_at p)) (settle_place x p)
 close_agrees x (Fresh b) i = same _ _ (Fresh b) tt (λ more. refl)
 close_agrees x (InDirectives ds) i = same _ _ (InDirectives ds) tt (λ more. refl)
 close_agrees x (BehindRoot ro) i = same _ _ (BehindRoot ro) tt (λ more. refl)

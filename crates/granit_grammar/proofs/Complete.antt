@@ -7,8 +7,8 @@ use Rattle.granit_language.specs.Choice.{choose}
 use Rattle.granit_language.specs.Node.{TreeProperties, NoProperties, One, Two, Node, AliasNode, ScalarNode, Alone, Flow, Sequence, Mapping, Content, Nothing, Just, Entries, Entry, EntryLead, NoEntry, AfterEntry, Pairs, Through, PairLead, NoPair, AfterPair, Pair, WithColon, AskOnly, Left, SimpleKey, Asked, NoKey, FlowLead, NoItem, AfterItem, FlowLast, NoLast, LastItem, FlowItem, Single, Paired, Before, Beginning, ExtraEnd, Closed, Directives, FirstDirective, NextDirective, Start, AtFresh, AfterDirectives, AfterRoot, Rooted, BareRoot, ExplicitRoot, Stream, EndFresh, EndRooted}
 use Rattle.granit_language.specs.OpenPlace.{Bare, Explicit, Around, BlockPairs, FlowPairs, Hole, AtRoot, AtEntry, AtItem, AtKey, AtAsk, AtColon, Fresh, InDirectives, BehindRoot, Ended, Want, PastEntry, PastAsk, PastPair, PastItem, holder, room_of, AroundPlaced, HolePlaced, ItemOver}
 use Rattle.granit_language.specs.Placed.{PropertiesPlaced, SomeProperties, left_front, pair_front, Placed, ContentPlaced, EntriesPlaced, EntryLeadPlaced, PairsPlaced, PairLeadPlaced, PairPlaced, LeftPlaced, FlowPlaced, LastPlaced, ItemPlaced, BeforePlaced, DirectivesPlaced, StartPlaced, RootedPlaced, StreamPlaced}
-use Rattle.granit_language.specs.Room.{Holder, BlockIn, FlowIn, KeyIn, room_behind, right_fits, sequence_fits, PartFits, joins, continues_node, sequence_ends, ask_over, place_fits, is_made, pair_over}
-use Rattle.granit_language.specs.Settling.{put_in, empty_fits, end_pair, finish_at, settle}
+use Rattle.granit_language.specs.Room.{Holder, BlockIn, FlowIn, KeyIn, room_behind, right_fits, sequence_fits, PartFits, joins, continues_node, sequence_over, ask_over, place_fits, is_made, pair_over}
+use Rattle.granit_language.specs.Settling.{put_in, empty_fits, end_pair, finish_at, settle_place}
 use Rattle.granit_language.specs.Terminal.{PartKind, Alias, Property, Scalar, Open, Directive, DocumentStart, DocumentEnd, TheEnd, Dash, Question, Comma, Colon, Close, Part, At, Terminal, terminal, edge, stands_left}
 use Rattle.granit_language.specs.Yield.{spell_properties, colon_kind, spell, spell_content, spell_entries, spell_entry_lead, spell_pairs, spell_pair_lead, spell_pair, spell_left, spell_flow, spell_last, spell_item, spell_before, spell_directives, spell_start, spell_rooted, spell_stream}
 use Rattle.granit_lexemes.specs.declared.layout.Bracket.{Bracket}
@@ -70,7 +70,7 @@ takes_opener r p bracket o rest f g h =
 pub alone_ends :
     (x : Terminal) (r : Hole) (p : TreeProperties) → SomeProperties p →
     continues_node (room_behind p (room_of r)) p x.kind x.at ≡ false →
-    settle x (door_with r p) ≡ settle x (put_in r (Just (Alone p)))
+    settle_place x (door_with r p) ≡ settle_place x (put_in r (Just (Alone p)))
 alone_ends x r NoProperties s e = absurd s
 alone_ends x r (One k i) s e =
     ap (λ b. choose b (Want r (One k i)) (finish_at x r (Just (Alone (One k i))))) e
@@ -80,7 +80,7 @@ alone_ends x r (Two k i m j) s e =
     ∙ sym (close_put x r (Just (Alone (Two k i m j))))
 
 -- nothing
-nothing_ends : (x : Terminal) (r : Hole) → empty_fits r x ≡ true → settle x (door r) ≡ settle x (put_in r Nothing)
+nothing_ends : (x : Terminal) (r : Hole) → empty_fits r x ≡ true → settle_place x (door r) ≡ settle_place x (put_in r Nothing)
 nothing_ends x (AtRoot (Bare b)) e = cc (e)
 nothing_ends x (AtRoot (Explicit s i)) e =
     ap (λ b. choose b (BehindRoot (ExplicitRoot s i Nothing)) (Want (AtRoot (Explicit s i)) NoProperties)) e
@@ -99,7 +99,7 @@ nothing_ends x (AtColon r a left m) e =
 -- a sequence and a mapping end
 entries_end :
     (x : Terminal) (rest : List Terminal) (r : Hole) (p : TreeProperties) (loose : Bool) (c : ℕ) (es : Entries) →
-    sequence_ends loose c x ≡ true →
+    sequence_over loose c x ≡ true →
     parse (x ∷ rest) (PastEntry r p loose c es) ≡ parse (x ∷ rest) (put_in r (Just (Sequence p loose c es x.at.start)))
 entries_end x rest r p loose c es e =
     alike x rest (PastEntry r p loose c es) (put_in r (Just (Sequence p loose c es x.at.start)))
@@ -120,7 +120,7 @@ pairs_end x rest r p c (Through lead pair) e =
     ∙ sym (close_put x r (Just (Mapping p c (Through lead pair) x.at.start))))
 
 -- another `-`
-dash_stays : (loose : Bool) (c : ℕ) (i : At) → (edge i == c) ≡ true → sequence_ends loose c (terminal Dash i) ≡ false
+dash_stays : (loose : Bool) (c : ℕ) (i : At) → (edge i == c) ≡ true → sequence_over loose c (terminal Dash i) ≡ false
 dash_stays true c i e = ap not e
 dash_stays false c i e = same_left (edge i) c e
 

@@ -5,7 +5,7 @@ use Rattle.granit_language.specs.Choice.{choose}
 use Rattle.granit_language.specs.Node.{TreeProperties, NoProperties, One, Two, Alone, Mapping, Content, Nothing, Just, NoEntry, Pairs, Through, NoPair, AfterPair, FlowLead}
 use Rattle.granit_language.specs.OpenPlace.{Bare, Explicit, Around, BlockPairs, FlowPairs, Hole, AtRoot, AtEntry, AtItem, AtKey, AtAsk, AtColon, OpenPlace, Fresh, Want, PastPair, holder, room_of, AroundPlaced, HolePlaced}
 use Rattle.granit_language.specs.Room.{Holder, BlockIn, FlowIn, Room, RightOf, ValueIn, KeyIn, BehindKey, ItemIn, Inside, behind_property, room_behind, right_fits, loose_fits, sequence_fits, indicates, opens, part_fits, PartFits, joins, continues_node, entry_empty, room_value, value_empty, KeyBegins}
-use Rattle.granit_language.specs.Settling.{put_in, empty_fits, finish_at, settle}
+use Rattle.granit_language.specs.Settling.{put_in, empty_fits, finish_at, settle_place}
 use Rattle.granit_language.specs.Terminal.{PropertyKind, PartKind, TerminalKind, Directive, DocumentStart, DocumentEnd, TheEnd, Dash, Question, Colon, Part, At, Terminal, terminal, edge, reach_of, is_stream_kind, begins_entry_kind, stands_left, entry_in}
 use Rattle.granit_lexemes.specs.declared.layout.Bracket.{Bracket}
 use Rattle.granit_lexemes.specs.declared.layout.Bracket.TheVariants.{Square, Curly}
@@ -15,7 +15,7 @@ use Rattle.granit_grammar.proofs.Placing.{EntryFits}
 
 -- a lexeme that ends nothing, and the step on it
 pub record Enters (p : OpenPlace) (kind : TerminalKind) (i : At) (n : Next) : Type 0 where
-  pub stays : settle (terminal kind i) p ≡ p
+  pub stays : settle_place (terminal kind i) p ≡ p
   pub goes_to : take p kind i ≡ n
 
 pub to_same :
@@ -31,11 +31,11 @@ steps kind i rest p q h =
 
 -- where a lexeme ends the same, the machine goes on alike
 pub alike :
-    (l : Terminal) (rest : List Terminal) (p q : OpenPlace) → settle l p ≡ settle l q →
+    (l : Terminal) (rest : List Terminal) (p q : OpenPlace) → settle_place l p ≡ settle_place l q →
     parse (l ∷ rest) p ≡ parse (l ∷ rest) q
 alike l rest p q e = ap (λ q. tree_goes (take q l.kind l.at) q l (parse rest)) e
 
-pub close_put : (x : Terminal) (r : Hole) (v : Content) → settle x (put_in r v) ≡ finish_at x r v
+pub close_put : (x : Terminal) (r : Hole) (v : Content) → settle_place x (put_in r v) ≡ finish_at x r v
 close_put x (AtRoot (Bare b)) Nothing = refl
 close_put x (AtRoot (Bare b)) (Just t) = refl
 close_put x (AtRoot (Explicit s i)) v = refl

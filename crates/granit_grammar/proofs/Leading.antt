@@ -5,7 +5,7 @@ use Rattle.granit_language.specs.Node.{TreeProperties, NoProperties, One, Two, S
 use Rattle.granit_language.specs.OpenPlace.{Bare, Explicit, Around, BlockPairs, FlowPairs, Hole, AtRoot, AtEntry, AtItem, AtKey, AtAsk, AtColon, OpenPlace, Fresh, InDirectives, BehindRoot, Ended, Want, PastEntry, PastKey, PastAsk, PastPair, PastItem, spell_around, spell_hole, spell_open, holder, room_of, AroundPlaced, HolePlaced, OpenPlaced, IsHole, IsOpen}
 use Rattle.granit_language.specs.Placed.{PropertiesPlaced, SomeProperties, left_front, pair_front, StreamPlaced}
 use Rattle.granit_language.specs.Room.{room_behind, right_fits, sequence_fits, PartFits}
-use Rattle.granit_language.specs.Settling.{settle}
+use Rattle.granit_language.specs.Settling.{settle_place}
 use Rattle.granit_language.specs.Terminal.{Open, Dash, Question, Part, At, Terminal, terminal}
 use Rattle.granit_language.specs.Yield.{spell_properties, colon_kind, spell, spell_content, spell_entries, spell_entry_lead, spell_pair_lead, spell_pair, spell_left, spell_flow, spell_item, spell_stream}
 use Rattle.granit_lexemes.specs.declared.layout.Bracket.{Bracket}
@@ -142,7 +142,7 @@ pub no_stream :
 no_stream p x rest s i f e q h =
     let a = leads_to p x rest i f in
     let b = reads s q in
-    let c = ap (λ n. tree_goes n (settle x p) x (parse rest)) e in
+    let c = ap (λ n. tree_goes n (settle_place x p) x (parse rest)) e in
     cc (a, b, c, ap (λ ls. parse ls tree_start) h)
 
 not_fault : (p q : OpenPlace) (x : Terminal) → at_end p ≡ RefusedAt q x → ⊥
@@ -156,9 +156,9 @@ same_open NotTaken p q x e = cc
 -- the open place is one
 pub one_open :
     (p q : OpenPlace) (x : Terminal) → IsOpen p → IsOpen q → OpenPlaced x p → OpenPlaced x q →
-    spell_open p (x ∷ []) ≡ spell_open q (x ∷ []) → tree_step p x ≡ NotTaken → settle x p ≡ settle x q
+    spell_open p (x ∷ []) ≡ spell_open q (x ∷ []) → tree_step p x ≡ NotTaken → settle_place x p ≡ settle_place x q
 one_open p q x i j f g h e =
     let a = leads_to p x [] i f in
     let b = leads_to q x [] j g in
-    let c = ap (λ n. tree_goes n (settle x p) x (parse [])) e in
-    same_open (tree_step q x) (settle x p) (settle x q) x (cc (a, b, c, ap (λ ls. parse ls tree_start) h))
+    let c = ap (λ n. tree_goes n (settle_place x p) x (parse [])) e in
+    same_open (tree_step q x) (settle_place x p) (settle_place x q) x (cc (a, b, c, ap (λ ls. parse ls tree_start) h))

@@ -11,7 +11,7 @@ use Rattle.granit_language.specs.GrammarFault.{GrammarFault, TooManyBlocks}
 use Rattle.granit_language.specs.Node.{Stream}
 use Rattle.granit_language.specs.OpenEvents.{open_events}
 use Rattle.granit_language.specs.OpenPlace.{OpenPlace, Ended, IsOpen}
-use Rattle.granit_language.specs.Settling.{settle}
+use Rattle.granit_language.specs.Settling.{settle_place}
 use Rattle.granit_language.specs.Terminal.{Terminal}
 use Rattle.granit_language.specs.TreeEvents.{TreeEvent}
 use Rattle.granit_language.specs.Within.{stream_within}
@@ -77,13 +77,13 @@ pub passes_within : (n : ℕ) (s : Stream) (xs : List Terminal) → Onto n s (Pa
 passes_within n s [] p i w r h = no_read p s n true r w
 passes_within n s (x ∷ xs) p i w r h =
     let a = close_agrees x p i in
-    passes_step n (open_blocks (settle x p)) s (Passes (limit_guard n) xs) (parse xs) (passes_within n s xs)
-    (open_events x.at.start (settle x p)) (fault_kind_at (settle x p) x.kind) (settle x p) x
-    (take_frames (state_at (settle x p)) x.kind x.at) (take (settle x p) x.kind x.at)
-    (take_agrees (settle x p) x.kind x.at a.is_open)
-    (kept_next n (open_blocks (settle x p)) (open_within n (settle x p)) (take (settle x p) x.kind x.at)
-    (close_keeps n x p ∙ w) (take_keeps n (settle x p) x.kind x.at))
-    r (closed_state n (ended_by x (state_at p)) x (state_at (settle x p)) (Passes (limit_guard n) xs) a.state_is h)
+    passes_step n (open_blocks (settle_place x p)) s (Passes (limit_guard n) xs) (parse xs) (passes_within n s xs)
+    (open_events x.at.start (settle_place x p)) (fault_kind_at (settle_place x p) x.kind) (settle_place x p) x
+    (take_frames (state_at (settle_place x p)) x.kind x.at) (take (settle_place x p) x.kind x.at)
+    (take_agrees (settle_place x p) x.kind x.at a.is_open)
+    (kept_next n (open_blocks (settle_place x p)) (open_within n (settle_place x p)) (take (settle_place x p) x.kind x.at)
+    (close_keeps n x p ∙ w) (take_keeps n (settle_place x p) x.kind x.at))
+    r (closed_state n (ended_by x (state_at p)) x (state_at (settle_place x p)) (Passes (limit_guard n) xs) a.state_is h)
 
 -- ---- what keeps the limit passes
 
@@ -101,9 +101,9 @@ broken :
     stream_within n s ≡ false
 broken n s [] p w r = no_read p s n false r w
 broken n s (x ∷ xs) p w r =
-    broken_step n (open_blocks (settle x p)) s (parse xs) (settle x p) x (broken n s xs) (take (settle x p) x.kind x.at)
-    (subst (λ b. NextKeeps n b (open_blocks (settle x p)) (take (settle x p) x.kind x.at)) (close_keeps n x p ∙ w)
-    (take_keeps n (settle x p) x.kind x.at))
+    broken_step n (open_blocks (settle_place x p)) s (parse xs) (settle_place x p) x (broken n s xs) (take (settle_place x p) x.kind x.at)
+    (subst (λ b. NextKeeps n b (open_blocks (settle_place x p)) (take (settle_place x p) x.kind x.at)) (close_keeps n x p ∙ w)
+    (take_keeps n (settle_place x p) x.kind x.at))
     r
 
 abbrev Back : ℕ → Stream → (EventState → Type 0) → (OpenPlace → Answer) → Type 0
@@ -138,12 +138,12 @@ pub within_passes :
 within_passes n s w [] p i o le r = tt
 within_passes n s w (x ∷ xs) p i o le r =
     let a = close_agrees x p i in
-    state_closed n (ended_by x (state_at p)) x (state_at (settle x p)) (Passes (limit_guard n) xs) a.state_is
-    (within_step n (open_blocks (settle x p)) s xs (Passes (limit_guard n) xs) w (within_passes n s w xs)
-    (open_events x.at.start (settle x p)) (fault_kind_at (settle x p) x.kind) (settle x p) x
-    (take_frames (state_at (settle x p)) x.kind x.at) (take (settle x p) x.kind x.at)
+    state_closed n (ended_by x (state_at p)) x (state_at (settle_place x p)) (Passes (limit_guard n) xs) a.state_is
+    (within_step n (open_blocks (settle_place x p)) s xs (Passes (limit_guard n) xs) w (within_passes n s w xs)
+    (open_events x.at.start (settle_place x p)) (fault_kind_at (settle_place x p) x.kind) (settle_place x p) x
+    (take_frames (state_at (settle_place x p)) x.kind x.at) (take (settle_place x p) x.kind x.at)
     (close_most n x p le)
-    (take_agrees (settle x p) x.kind x.at a.is_open)
-    (kept_next n (open_blocks (settle x p)) (open_within n (settle x p)) (take (settle x p) x.kind x.at)
-    (close_keeps n x p ∙ o) (take_keeps n (settle x p) x.kind x.at))
+    (take_agrees (settle_place x p) x.kind x.at a.is_open)
+    (kept_next n (open_blocks (settle_place x p)) (open_within n (settle_place x p)) (take (settle_place x p) x.kind x.at)
+    (close_keeps n x p ∙ o) (take_keeps n (settle_place x p) x.kind x.at))
     r)

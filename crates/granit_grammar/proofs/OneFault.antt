@@ -3,9 +3,9 @@ use Rattle.std.proofs.Common.{◌≡◌, List, [], ◌∷◌, ◌++◌, refl, sy
 use Rattle.granit_grammar.specs.EventMachine.{EventAnswer, Events, Faulty, Unfinished, run_events}
 use Rattle.granit_grammar.specs.TreeMachine.{Next, Go, NotTaken, tree_step, tree_goes, parse, tree_start}
 use Rattle.granit_language.specs.FaultKinds.{fault_kind_at}
-use Rattle.granit_language.specs.Faults.{IsStream, FaultAt}
+use Rattle.granit_language.specs.Faults.{IsSpelled, FaultAt}
 use Rattle.granit_language.specs.GrammarFault.{GrammarFault}
-use Rattle.granit_language.specs.Settling.{settle}
+use Rattle.granit_language.specs.Settling.{settle_place}
 use Rattle.granit_language.specs.Terminal.{TheEnd, At, Terminal, terminal, no_terminal}
 use Rattle.std.proofs.Common.{append_assoc}
 use Rattle.granit_grammar.proofs.Placing.{close_placed, take_placed, NextPlaced}
@@ -35,8 +35,8 @@ compare (a ∷ f) (b ∷ g) x y r s e =
 -- a stream can't begin with what no stream begins with
 no_longer :
     (f g : List Terminal) (x : Terminal) (z : List Terminal) → g ≡ f ++ (x ∷ z) →
-    ((more : List Terminal) → IsStream (f ++ (x ∷ more)) → ⊥) → (more : List Terminal) × IsStream (g ++ more) → ⊥
-no_longer f g x z e h v = h (z ++ v.0) (subst IsStream (ap (λ g. g ++ v.0) e ∙ append_assoc f (x ∷ z) v.0) v.1)
+    ((more : List Terminal) → IsSpelled (f ++ (x ∷ more)) → ⊥) → (more : List Terminal) × IsSpelled (g ++ more) → ⊥
+no_longer f g x z e h v = h (z ++ v.0) (subst IsSpelled (ap (λ g. g ++ v.0) e ∙ append_assoc f (x ∷ z) v.0) v.1)
 
 -- the lexeme isn't admitted
 refused_by :
@@ -46,13 +46,13 @@ refused_by xs k x f NotTaken e = refl
 refused_by xs k x f (Go q) e =
     let p = f.place in
     let i = subst NextOpen e (step_open p x f.is_open) in
-    let g = subst NextPlaced e (take_placed (settle x p) x.kind x.at (close_placed x p f.placed)) in
+    let g = subst NextPlaced e (take_placed (settle_place x p) x.kind x.at (close_placed x p f.placed)) in
     let c = completes q i (g no_terminal) in
     absurd
     (f.unread c.0
     (whole (f.front ++ (x ∷ c.0)) c.1.0
     (ap (λ ls. parse ls tree_start) (sym (f.cut (x ∷ c.0))) ∙ leads_to p x c.0 f.is_open f.placed
-    ∙ ap (λ n. tree_goes n (settle x p) x (parse c.0)) e ∙ c.1.1)))
+    ∙ ap (λ n. tree_goes n (settle_place x p) x (parse c.0)) e ∙ c.1.1)))
 
 one_kind :
     (xs : List Terminal) (k j : GrammarFault) (x : Terminal) (f : FaultAt xs k x) (g : FaultAt xs j x) →
@@ -77,8 +77,8 @@ pub one_fault :
 one_fault xs k j x y f g = split_faults xs k j x y f g (compare f.front g.front x y f.rest g.rest (sym f.is ∙ g.is))
 
 -- a list with a fault is no stream
-pub no_both : (xs : List Terminal) (k : GrammarFault) (x : Terminal) → FaultAt xs k x → IsStream xs → ⊥
-no_both xs k x f s = f.unread f.rest (subst IsStream f.is s)
+pub no_both : (xs : List Terminal) (k : GrammarFault) (x : Terminal) → FaultAt xs k x → IsSpelled xs → ⊥
+no_both xs k x f s = f.unread f.rest (subst IsSpelled f.is s)
 
 -- so the event machine says each fault, where the list has its end
 fault_run :

@@ -5,8 +5,8 @@ use Rattle.granit_language.specs.Choice.{choose}
 use Rattle.granit_language.specs.Node.{TreeProperties, NoProperties, One, Two, AliasNode, ScalarNode, Alone, Flow, Sequence, Mapping, Content, Nothing, Just, Entries, Entry, Through, NoPair, AfterPair, Pair, WithColon, AskOnly, NoLast, LastItem, Paired}
 use Rattle.granit_language.specs.OpenPlace.{Bare, Explicit, Around, BlockPairs, FlowPairs, Hole, AtRoot, AtEntry, AtItem, AtKey, AtAsk, AtColon, OpenPlace, Fresh, InDirectives, BehindRoot, Ended, Want, PastEntry, PastKey, PastAsk, PastPair, PastItem, spell_open, holder, room_of, AroundPlaced, HolePlaced, OpenPlaced}
 use Rattle.granit_language.specs.Placed.{PropertiesPlaced, ContentPlaced, StreamPlaced}
-use Rattle.granit_language.specs.Room.{Holder, BlockIn, FlowIn, Room, RightOf, ValueIn, KeyIn, BehindKey, ItemIn, Inside, behind_property, room_behind, right_fits, loose_fits, indicates, opens, part_fits, PartFits, differ, continues_node, sequence_ends, ask_over, place_fits, pair_over}
-use Rattle.granit_language.specs.Settling.{put_in, empty_fits, end_entries, end_pair, end_ask, finish_at, settle_want, settle}
+use Rattle.granit_language.specs.Room.{Holder, BlockIn, FlowIn, Room, RightOf, ValueIn, KeyIn, BehindKey, ItemIn, Inside, behind_property, room_behind, right_fits, loose_fits, indicates, opens, part_fits, PartFits, differ, continues_node, sequence_over, ask_over, place_fits, pair_over}
+use Rattle.granit_language.specs.Settling.{put_in, empty_fits, end_entries, end_pair, end_ask, finish_at, settle_want, settle_place}
 use Rattle.granit_language.specs.Terminal.{PartKind, Alias, Property, Scalar, Open, TerminalKind, Directive, DocumentStart, DocumentEnd, TheEnd, Dash, Question, Comma, Colon, Close, Part, At, Terminal, terminal, edge, begins_entry_kind, stands_left, entry_in, no_terminal}
 use Rattle.granit_language.specs.Yield.{spell_stream}
 use Rattle.granit_lexemes.specs.declared.layout.Bracket.TheVariants.{Square, Curly}
@@ -39,7 +39,7 @@ entries_then :
     OpenPlaced x (PastEntry r p loose c es) → ((v : Content) → FilledPlaced x r v → OpenPlaced x (on v)) →
     OpenPlaced x (end_entries x on r p loose c es)
 entries_then x on r p loose c es f g =
-    either_is (OpenPlaced x) (sequence_ends loose c x) (on (Just (Sequence p loose c es x.at.start)))
+    either_is (OpenPlaced x) (sequence_over loose c x) (on (Just (Sequence p loose c es x.at.start)))
     (PastEntry r p loose c es) (λ e. g (Just (Sequence p loose c es x.at.start)) (f.1, f.2, f.3, e, refl)) (λ e. f)
 
 pair_then :
@@ -88,7 +88,7 @@ want_closes x r (Two k i m j) f =
     (Want r (Two k i m j)) (finish_at x r (Just (Alone (Two k i m j)))) (λ e. f)
     (λ e. finish_placed x r (Just (Alone (Two k i m j))) f.0 (f.1, tt, e))
 
-pub close_placed : (x : Terminal) (p : OpenPlace) → OpenPlaced x p → OpenPlaced x (settle x p)
+pub close_placed : (x : Terminal) (p : OpenPlace) → OpenPlaced x p → OpenPlaced x (settle_place x p)
 close_placed x (Want r p) f = want_closes x r p f
 close_placed x (PastEntry r p loose c es) f =
     entries_then x (finish_at x r) r p loose c es f (λ v h. finish_placed x r v f.0 h)
@@ -281,7 +281,7 @@ pub tells :
 tells [] p f = end_tells p f no_terminal
 tells (l ∷ ls) p f =
     let g = close_placed l p (f l)
-    in goes_tells (tree_step p l) p (settle l p) l ls refl (step_leads p l) (take_placed (settle l p) l.kind l.at g)
+    in goes_tells (tree_step p l) p (settle_place l p) l ls refl (step_leads p l) (take_placed (settle_place l p) l.kind l.at g)
     (close_spells l p) g (tells ls)
 
 pub one_cut : (ls : List Terminal) → Tells (parse ls tree_start) ls

@@ -3,12 +3,12 @@ use Rattle.std.proofs.Common.{◌≡◌, List, [], ◌∷◌, ◌++◌, refl, sy
 use Rattle.granit_grammar.specs.EventMachine.{EventStep, EventAnswer, Events, Faulty, Unfinished, run_events}
 use Rattle.granit_grammar.specs.TreeMachine.{Next, Go, NotTaken, take, tree_step, Answer, ReadAs, RefusedAt, Short, at_end, tree_goes, parse, tree_start}
 use Rattle.granit_language.specs.FaultKinds.{fault_kind_at}
-use Rattle.granit_language.specs.Faults.{IsStream, FaultAt}
+use Rattle.granit_language.specs.Faults.{IsSpelled, FaultAt}
 use Rattle.granit_language.specs.GrammarFault.{GrammarFault}
 use Rattle.granit_language.specs.Node.{Stream}
 use Rattle.granit_language.specs.OpenPlace.{BlockPairs, FlowPairs, OpenPlace, Fresh, InDirectives, BehindRoot, Ended, Want, PastEntry, PastKey, PastAsk, PastPair, PastItem, spell_open, OpenPlaced, IsOpen}
 use Rattle.granit_language.specs.Placed.{StreamPlaced}
-use Rattle.granit_language.specs.Settling.{settle}
+use Rattle.granit_language.specs.Settling.{settle_place}
 use Rattle.granit_language.specs.Terminal.{TheEnd, At, Terminal, terminal, no_terminal}
 use Rattle.granit_language.specs.TreeEvents.{TreeEvent, stream_events}
 use Rattle.granit_language.specs.Yield.{spell_stream}
@@ -33,7 +33,7 @@ steps_open f k s n (goes_to i e g) = i
 steps_open f k s n (stops_at e) = tt
 
 pub step_open : (p : OpenPlace) (x : Terminal) → IsOpen p → NextOpen (tree_step p x)
-step_open p x i = steps_open _ _ _ _ (take_agrees (settle x p) x.kind x.at (close_agrees x p i).is_open)
+step_open p x i = steps_open _ _ _ _ (take_agrees (settle_place x p) x.kind x.at (close_agrees x p i).is_open)
 
 -- A list whose parse stops at a lexeme: what stands before it, the place before it, and the place where it isn't
 -- admitted.
@@ -49,7 +49,7 @@ record StopsAt (xs : List Terminal) (p q : OpenPlace) (x : Terminal) : Type 0 wh
   cut : (more : List Terminal) → spell_open q more ≡ spell_open p (front ++ more)
   placed : OpenPlaced x q
   place_open : IsOpen q
-  settled : settle x q ≡ q
+  settled : settle_place x q ≡ q
 
 no_fault : (p q : OpenPlace) (x : Terminal) → at_end p ≡ RefusedAt q x → ⊥
 no_fault (Ended s) q x e = cc
@@ -57,10 +57,10 @@ no_fault p q x e = cc
 
 goes_stops :
     (n : Next) (l : Terminal) (xs : List Terminal) (p q : OpenPlace) (x : Terminal) → IsOpen p →
-    ((y : Terminal) → OpenPlaced y p) → take (settle l p) l.kind l.at ≡ n → NextOpen n → NextPlaced n →
+    ((y : Terminal) → OpenPlaced y p) → take (settle_place l p) l.kind l.at ≡ n → NextOpen n → NextPlaced n →
     Leads n (Then p l.kind l.at) →
     ((r : OpenPlace) → IsOpen r → ((y : Terminal) → OpenPlaced y r) → parse xs r ≡ RefusedAt q x → StopsAt xs r q x) →
-    tree_goes n (settle l p) l (parse xs) ≡ RefusedAt q x → StopsAt (l ∷ xs) p q x
+    tree_goes n (settle_place l p) l (parse xs) ≡ RefusedAt q x → StopsAt (l ∷ xs) p q x
 goes_stops (Go r) l xs p q x i f e j g t ih h =
     let s = ih r j g h in
     record {
@@ -70,7 +70,7 @@ goes_stops (Go r) l xs p q x i f e j g t ih h =
       is = ap (λ xs. l ∷ xs) s.is;
       last_open = s.last_open;
       last_placed = s.last_placed;
-      leads = λ more. ap (λ n. tree_goes n (settle l p) l (parse (s.front ++ more))) e ∙ s.leads more;
+      leads = λ more. ap (λ n. tree_goes n (settle_place l p) l (parse (s.front ++ more))) e ∙ s.leads more;
       stops_here = s.stops_here;
       cut = λ more. s.cut more ∙ t (s.front ++ more);
       placed = s.placed;
@@ -79,7 +79,7 @@ goes_stops (Go r) l xs p q x i f e j g t ih h =
     }
 goes_stops NotTaken l xs p q x i f e j g t ih h =
     let same : l ≡ x = cc (h) in
-    let place : settle l p ≡ q = cc (h) in
+    let place : settle_place l p ≡ q = cc (h) in
     record {
       front = [];
       rest = xs;
@@ -91,11 +91,11 @@ goes_stops NotTaken l xs p q x i f e j g t ih h =
       stops_here =
           λ more.
           subst (λ y. parse (y ∷ more) p ≡ RefusedAt q x) same
-          (ap (λ n. tree_goes n (settle l p) l (parse more)) e ∙ h);
+          (ap (λ n. tree_goes n (settle_place l p) l (parse more)) e ∙ h);
       cut = λ more. subst (λ q. spell_open q more ≡ spell_open p more) place (close_spells l p more);
       placed = subst (λ y. OpenPlaced y q) same (subst (OpenPlaced l) place (close_placed l p (f l)));
       place_open = subst IsOpen place (close_agrees l p i).is_open;
-      settled = subst (λ y. settle y q ≡ q) same (subst (λ q. settle l q ≡ q) place (close_settled l p));
+      settled = subst (λ y. settle_place y q ≡ q) same (subst (λ q. settle_place l q ≡ q) place (close_settled l p));
     }
 
 stops :
@@ -104,15 +104,15 @@ stops :
 stops [] p q x i f h = absurd (no_fault p q x h)
 stops (l ∷ xs) p q x i f h =
     goes_stops (tree_step p l) l xs p q x i f refl (step_open p l i)
-    (take_placed (settle l p) l.kind l.at (close_placed l p (f l))) (step_leads p l) (λ r j g e. stops xs r q x j g e)
+    (take_placed (settle_place l p) l.kind l.at (close_placed l p (f l))) (step_leads p l) (λ r j g e. stops xs r q x j g e)
     h
 
 -- what is read from a place behind a front is a stream
-pub whole : (xs : List Terminal) (s : Stream) → parse xs tree_start ≡ ReadAs s → IsStream xs
+pub whole : (xs : List Terminal) (s : Stream) → parse xs tree_start ≡ ReadAs s → IsSpelled xs
 whole xs s e = let t = subst (λ a. Tells a xs) e (one_cut xs) in (s, t.0, t.1)
 
 unread_there :
-    (xs : List Terminal) (q : OpenPlace) (x : Terminal) → parse xs tree_start ≡ RefusedAt q x → IsStream xs → ⊥
+    (xs : List Terminal) (q : OpenPlace) (x : Terminal) → parse xs tree_start ≡ RefusedAt q x → IsSpelled xs → ⊥
 unread_there xs q x e s = let a = reads s.0 s.2 in cc (a, e, ap (λ ls. parse ls tree_start) s.1)
 
 pub fault_at :
@@ -212,10 +212,10 @@ goes_further NotTaken p x ls h = tt
 
 not_short : (xs : List Terminal) (i : At) (p : OpenPlace) → NotShort (parse (xs ++ (terminal TheEnd i ∷ [])) p)
 not_short [] i p =
-    end_goes (take (settle (terminal TheEnd i) p) TheEnd i) (settle (terminal TheEnd i) p) (terminal TheEnd i)
-    (end_taken (settle (terminal TheEnd i) p) i)
+    end_goes (take (settle_place (terminal TheEnd i) p) TheEnd i) (settle_place (terminal TheEnd i) p) (terminal TheEnd i)
+    (end_taken (settle_place (terminal TheEnd i) p) i)
 not_short (x ∷ xs) i p =
-    goes_further (take (settle x p) x.kind x.at) (settle x p) x (xs ++ (terminal TheEnd i ∷ [])) (not_short xs i)
+    goes_further (take (settle_place x p) x.kind x.at) (settle_place x p) x (xs ++ (terminal TheEnd i ∷ [])) (not_short xs i)
 
 unfinished_short : (a : Answer) → Answers (λ more. more) Unfinished a → NotShort a → ⊥
 unfinished_short (ReadAs s) h g = h

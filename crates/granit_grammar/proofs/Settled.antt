@@ -3,12 +3,12 @@ use Rattle.std.proofs.Common.{◌≡◌, ℕ, Bool, true, false, refl, ap}
 use Rattle.granit_language.specs.Choice.{choose}
 use Rattle.granit_language.specs.Node.{TreeProperties, NoProperties, One, Two, Alone, Sequence, Mapping, Content, Nothing, Just, Entries, Entry, Through, Pair, WithColon, AskOnly, Paired}
 use Rattle.granit_language.specs.OpenPlace.{Bare, Explicit, Around, BlockPairs, FlowPairs, Hole, AtRoot, AtEntry, AtItem, AtKey, AtAsk, AtColon, OpenPlace, Fresh, InDirectives, BehindRoot, Ended, Want, PastEntry, PastKey, PastAsk, PastPair, PastItem, holder, room_of}
-use Rattle.granit_language.specs.Room.{behind_property, continues_node, sequence_ends, ask_over, pair_over}
-use Rattle.granit_language.specs.Settling.{empty_fits, end_entries, end_pair, end_ask, finish_at, settle}
+use Rattle.granit_language.specs.Room.{behind_property, continues_node, sequence_over, ask_over, pair_over}
+use Rattle.granit_language.specs.Settling.{empty_fits, end_entries, end_pair, end_ask, finish_at, settle_place}
 use Rattle.granit_language.specs.Terminal.{At, Terminal, stands_left}
 
 abbrev pub Settled : Terminal → OpenPlace → Type 0
-Settled x p = settle x p ≡ p
+Settled x p = settle_place x p ≡ p
 
 either_is :
     (P : OpenPlace → Type 0) (b : Bool) (p q : OpenPlace) → (b ≡ true → P p) → (b ≡ false → P q) → P (choose b p q)
@@ -19,7 +19,7 @@ entries_settled :
     (x : Terminal) (on : Content → OpenPlace) (r : Hole) (p : TreeProperties) (loose : Bool) (c : ℕ) (es : Entries) →
     ((v : Content) → Settled x (on v)) → Settled x (end_entries x on r p loose c es)
 entries_settled x on r p loose c es h =
-    either_is (Settled x) (sequence_ends loose c x) (on (Just (Sequence p loose c es x.at.start)))
+    either_is (Settled x) (sequence_over loose c x) (on (Just (Sequence p loose c es x.at.start)))
     (PastEntry r p loose c es) (λ e. h (Just (Sequence p loose c es x.at.start)))
     (λ e. ap (λ b. choose b (finish_at x r (Just (Sequence p loose c es x.at.start))) (PastEntry r p loose c es)) e)
 
@@ -63,7 +63,7 @@ finish_settled x (AtKey r a f) (Just t) = refl
 finish_settled x (AtAsk r a q) v = ask_settled x (finish_at x r) r a q v (finish_settled x r)
 finish_settled x (AtColon r a left m) v = pair_settled x (finish_at x r) r a (WithColon left m v) (finish_settled x r)
 
-pub close_settled : (x : Terminal) (p : OpenPlace) → Settled x (settle x p)
+pub close_settled : (x : Terminal) (p : OpenPlace) → Settled x (settle_place x p)
 close_settled x (Want r NoProperties) =
     either_is (Settled x) (empty_fits r x) (finish_at x r Nothing) (Want r NoProperties)
     (λ e. finish_settled x r Nothing) (λ e. ap (λ b. choose b (finish_at x r Nothing) (Want r NoProperties)) e)

@@ -4,8 +4,8 @@ use Rattle.granit_grammar.specs.TreeMachine.{Next, Go, NotTaken, if_go, part_tak
 use Rattle.granit_language.specs.Choice.{choose}
 use Rattle.granit_language.specs.Node.{TreeProperties, NoProperties, One, Two, AliasNode, ScalarNode, Alone, Flow, Sequence, Mapping, Content, Nothing, Just, Entries, Entry, Through, NoPair, AfterPair, Pair, WithColon, AskOnly, NoLast, LastItem, Paired}
 use Rattle.granit_language.specs.OpenPlace.{Bare, Explicit, Around, BlockPairs, FlowPairs, Hole, AtRoot, AtEntry, AtItem, AtKey, AtAsk, AtColon, OpenPlace, Fresh, InDirectives, BehindRoot, Want, PastEntry, PastKey, PastAsk, PastPair, PastItem, spell_around, spell_hole, spell_open, holder, room_of}
-use Rattle.granit_language.specs.Room.{room_behind, right_fits, loose_fits, indicates, opens, part_fits, differ, continues_node, sequence_ends, ask_over, place_fits, pair_over}
-use Rattle.granit_language.specs.Settling.{put_in, empty_fits, end_entries, end_pair, end_ask, finish_at, settle_want, settle}
+use Rattle.granit_language.specs.Room.{room_behind, right_fits, loose_fits, indicates, opens, part_fits, differ, continues_node, sequence_over, ask_over, place_fits, pair_over}
+use Rattle.granit_language.specs.Settling.{put_in, empty_fits, end_entries, end_pair, end_ask, finish_at, settle_want, settle_place}
 use Rattle.granit_language.specs.Terminal.{PartKind, Alias, Property, Scalar, Open, TerminalKind, Directive, DocumentStart, DocumentEnd, TheEnd, Dash, Question, Comma, Colon, Close, Part, At, Terminal, terminal, edge, stands_left, entry_in}
 use Rattle.granit_language.specs.Yield.{spell_properties, spell_content, spell_entries, spell_pair}
 use Rattle.granit_lexemes.specs.declared.layout.Bracket.TheVariants.{Square, Curly}
@@ -39,7 +39,7 @@ entries_spell :
     ((v : Content) → Spells (Filled r v) (on v)) →
     Spells (λ rest. spell_hole r (spell_properties p (spell_entries es rest))) (end_entries x on r p loose c es)
 entries_spell x on r p loose c es h =
-    either (Spells _) (sequence_ends loose c x) _ _ (h (Just (Sequence p loose c es x.at.start))) (λ rest. refl)
+    either (Spells _) (sequence_over loose c x) _ _ (h (Just (Sequence p loose c es x.at.start))) (λ rest. refl)
 
 pair_spells :
     (x : Terminal) (on : Content → OpenPlace) (r : Hole) (a : Around) (pair : Pair) →
@@ -76,7 +76,7 @@ want_spells x r (Two k i m j) =
     (λ rest. refl) (finish_spells x r (Just (Alone (Two k i m j))))
 
 -- what ends spells nothing
-pub close_spells : (x : Terminal) (p : OpenPlace) → Spells (spell_open p) (settle x p)
+pub close_spells : (x : Terminal) (p : OpenPlace) → Spells (spell_open p) (settle_place x p)
 close_spells x (Want r p) = want_spells x r p
 close_spells x (PastEntry r p loose c es) = entries_spell x (finish_at x r) r p loose c es (finish_spells x r)
 close_spells x (PastAsk r a q v) = ask_spells x (finish_at x r) r a q v (finish_spells x r)
@@ -174,10 +174,10 @@ take_leads (PastItem r p Curly o lead item) (Close Curly) i =
 take_leads p kind i = tt
 
 via_close :
-    (n : Next) (l : Terminal) (p : OpenPlace) → Leads n (Then (settle l p) l.kind l.at) → Leads n (Then p l.kind l.at)
+    (n : Next) (l : Terminal) (p : OpenPlace) → Leads n (Then (settle_place l p) l.kind l.at) → Leads n (Then p l.kind l.at)
 via_close (Go q) l p h = λ rest. h rest ∙ close_spells l p (l ∷ rest)
 via_close NotTaken l p h = tt
 
 -- what stands before the place behind a step is what stood before it, and the lexeme
 pub step_leads : (p : OpenPlace) (l : Terminal) → Leads (tree_step p l) (Then p l.kind l.at)
-step_leads p l = via_close (tree_step p l) l p (take_leads (settle l p) l.kind l.at)
+step_leads p l = via_close (tree_step p l) l p (take_leads (settle_place l p) l.kind l.at)

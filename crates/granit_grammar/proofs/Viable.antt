@@ -5,8 +5,8 @@ use Rattle.granit_language.specs.Choice.{choose}
 use Rattle.granit_language.specs.Node.{TreeProperties, NoProperties, One, Two, Node, Alone, Flow, Sequence, Mapping, Content, Nothing, Just, Entries, Entry, Through, PairLead, Pair, WithColon, AskOnly, Left, SimpleKey, FlowLead, NoLast, LastItem, Single, Paired, AfterDirectives, Rooted, BareRoot, ExplicitRoot, Stream, EndFresh, EndRooted}
 use Rattle.granit_language.specs.OpenPlace.{Bare, Explicit, Around, BlockPairs, FlowPairs, Hole, AtRoot, AtEntry, AtItem, AtKey, AtAsk, AtColon, OpenPlace, Fresh, InDirectives, BehindRoot, Ended, Want, PastEntry, PastKey, PastAsk, PastPair, PastItem, room_of, AroundPlaced, HolePlaced, OpenPlaced, IsHole, IsOpen}
 use Rattle.granit_language.specs.Placed.{SomeProperties, left_front, pair_front, EntriesPlaced}
-use Rattle.granit_language.specs.Room.{BlockIn, FlowIn, Room, RightOf, ValueIn, KeyIn, BehindKey, ItemIn, Inside, behind_property, room_behind, right_fits, loose_fits, sequence_fits, continues_node, entry_empty, sequence_ends, value_empty, ask_empty}
-use Rattle.granit_language.specs.Settling.{put_in, end_entries, end_pair, finish_at, settle}
+use Rattle.granit_language.specs.Room.{BlockIn, FlowIn, Room, RightOf, ValueIn, KeyIn, BehindKey, ItemIn, Inside, behind_property, room_behind, right_fits, loose_fits, sequence_fits, continues_node, entry_empty, sequence_over, value_empty, ask_empty}
+use Rattle.granit_language.specs.Settling.{put_in, end_entries, end_pair, finish_at, settle_place}
 use Rattle.granit_language.specs.Terminal.{DocumentStart, TheEnd, Question, Colon, Close, At, Terminal, terminal, edge, closes_kind, text_start, no_terminal}
 use Rattle.granit_lexemes.specs.declared.layout.Bracket.{Bracket}
 use Rattle.granit_lexemes.specs.declared.layout.Bracket.TheVariants.{Square, Curly}
@@ -112,9 +112,9 @@ block_sequence p room true c e = block_loose p room c e
 block_sequence p room false c e = block_right p room c e
 
 -- the end finishes all block collections
-sequence_over : (loose : Bool) (c : ℕ) → nat_lt 0 c ≡ true → sequence_ends loose c the_end ≡ true
-sequence_over true c e = refl
-sequence_over false c e = e
+sequence_finished : (loose : Bool) (c : ℕ) → nat_lt 0 c ≡ true → sequence_over loose c the_end ≡ true
+sequence_finished true c e = refl
+sequence_finished false c e = e
 
 entries_over :
     (on : Content → OpenPlace) (r : Hole) (p : TreeProperties) (loose : Bool) (c : ℕ) (es : Entries) →
@@ -124,7 +124,7 @@ entries_over on r p loose c es e h =
     in (
       g.0,
       ap (λ b. choose b (on (Just (Sequence p loose c es text_start))) (PastEntry r p loose c es))
-          (sequence_over loose c e)
+          (sequence_finished loose c e)
           ∙ g.1,
     )
 
@@ -169,11 +169,11 @@ block_pair_over r p c lead pair f e =
     pair_over_end (finish_at the_end r) r p c lead pair (positive_right (room_behind p (room_of r)) c e)
     (roots r f (block_right p (room_of r) c e))
 
-end_reads : (p : OpenPlace) → Rooting (settle the_end p) → Reads (the_end ∷ []) p
+end_reads : (p : OpenPlace) → Rooting (settle_place the_end p) → Reads (the_end ∷ []) p
 end_reads p g = (EndRooted g.0 nowhere, ap (λ q. tree_goes (take q TheEnd nowhere) q the_end (parse [])) g.1)
 
 end_here :
-    (p : OpenPlace) (b : Bool) (q : OpenPlace) → settle the_end p ≡ choose b q p → b ≡ true → Rooting q →
+    (p : OpenPlace) (b : Bool) (q : OpenPlace) → settle_place the_end p ≡ choose b q p → b ≡ true → Rooting q →
     Reads (the_end ∷ []) p
 end_here p b q e h g = end_reads p (g.0, e ∙ ap (λ b. choose b q p) h ∙ g.1)
 

@@ -1,8 +1,10 @@
 -- The whole machine's answers.
-use Rattle.std.proofs.Common.{arith, ◌≡◌, ℕ, Bool, true, false, List, [], ◌∷◌, ◌++◌, length, codes, refl, sym, ap, ap₂, ◌∙◌, subst, inl, inr, Option, Some, None, ◌==◌, nat_lt}
+use Rattle.granit_language.specs.Faults.{IsSpelled}
+use Rattle.granit_grammar.proofs.Taken.{NotFaulty, taken_viable}
+use Rattle.std.proofs.Common.{arith, ◌≡◌, ℕ, Bool, true, false, List, [], ◌∷◌, ◌++◌, length, codes, refl, sym, ap, ap₂, ◌∙◌, subst, inl, inr, Option, Some, None, ◌==◌, nat_lt, append_assoc}
 use Rattle.std.specs.Prelude.{◌⊎◌, if◌then◌else◌, nat_le}
 use Rattle.granit_error.specs.OptionsData.{OptionsData}
-use Rattle.granit_grammar.specs.EventMachine.{EventState, IsFresh, EventAnswer, Events, Faulty, Unfinished, events_before, run_events_from, run_events}
+use Rattle.granit_grammar.specs.EventMachine.{EventState, IsFresh, EventAnswer, Events, Faulty, Unfinished, events_before, run_events_from, run_events, outcome_at_end, IsEnded}
 use Rattle.granit_grammar.specs.Guarded.{guarded, Passes, first_fault, fault_unless, limit_fault, limit_guard, scope_guard, whole_guard, whole_run, state_count, is_loose, Guard}
 use Rattle.granit_grammar.specs.Passing.{GuardFault}
 use Rattle.granit_grammar.specs.TreeMachine.{parse, tree_start}
@@ -230,6 +232,22 @@ over_limit o xs k x h f more s =
     let none = h.seen (limit_guard (limit_of o)) more p in
     let e : Some k ≡ None = sym f ∙ none in absurd cc
 
+end_taken : (es more : List TreeEvent) (st : EventState) → NotFaulty (events_before es (events_before more (outcome_at_end st)))
+end_taken es more IsEnded = tt
+end_taken es more st = tt
+
+-- what the guards refuse, the grammar takes
+guard_viable :
+    (o : OptionsData) (xs : List Terminal) (k : GrammarFault) (x : Terminal)
+    (h : GuardFault (whole_guard o) (scoped no_scope xs) IsFresh k x) (t : Split no_scope xs h.front x) →
+    (more : List Terminal) × IsSpelled (scoped no_scope t.plain ++ (x ∷ more))
+guard_viable o xs k x h t =
+    let v = taken_viable (h.front ++ (x ∷ []))
+    (subst NotFaulty (sym (ap Starts (h.runs []))) (end_taken (pointed StreamStarts text_start ∷ []) h.given h.behind)) in (
+      v.0,
+      subst (λ front. IsSpelled (front ++ (x ∷ v.0))) t.front_is (subst IsSpelled (append_assoc h.front (x ∷ []) v.0) v.1),
+    )
+
 cause_by :
     (o : OptionsData) (xs : List Terminal) (k : GrammarFault) (x : Terminal)
     (h : GuardFault (whole_guard o) (scoped no_scope xs) IsFresh k x) (t : Split no_scope xs h.front x) →
@@ -243,6 +261,7 @@ cause_by o xs k x h t (inl f) = record {
   rest = t.rest;
   is = t.is;
   x_is = t.x_is;
+  viable = guard_viable o xs k x h t;
   cause =
       inl (
         is_loose h.behind,
@@ -258,6 +277,7 @@ cause_by o xs k x h t (inr f) = record {
   rest = t.rest;
   is = t.is;
   x_is = t.x_is;
+  viable = guard_viable o xs k x h t;
   cause =
       inr
       (scope_cause o.emit_unresolved_aliases t.plain t.here.kind k

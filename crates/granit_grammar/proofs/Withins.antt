@@ -9,8 +9,8 @@ use Rattle.granit_grammar.specs.TreeMachine.{Next, Go, NotTaken, if_go, part_tak
 use Rattle.granit_language.specs.Choice.{choose}
 use Rattle.granit_language.specs.Node.{TreeProperties, NoProperties, One, Two, Node, AliasNode, ScalarNode, Alone, Flow, Sequence, Mapping, Content, Nothing, Just, Entries, Entry, Through, NoPair, AfterPair, Pair, WithColon, AskOnly, SimpleKey, Asked, NoKey, NoLast, LastItem, Single, Paired}
 use Rattle.granit_language.specs.OpenPlace.{Bare, Explicit, Around, BlockPairs, FlowPairs, Hole, AtRoot, AtEntry, AtItem, AtKey, AtAsk, AtColon, OpenPlace, Fresh, InDirectives, BehindRoot, Want, PastEntry, PastKey, PastAsk, PastPair, PastItem, Ended, holder, room_of}
-use Rattle.granit_language.specs.Room.{room_behind, right_fits, loose_fits, indicates, opens, part_fits, differ, continues_node, sequence_ends, ask_over, place_fits, pair_over}
-use Rattle.granit_language.specs.Settling.{put_in, empty_fits, end_entries, end_pair, end_ask, finish_at, settle_want, settle}
+use Rattle.granit_language.specs.Room.{room_behind, right_fits, loose_fits, indicates, opens, part_fits, differ, continues_node, sequence_over, ask_over, place_fits, pair_over}
+use Rattle.granit_language.specs.Settling.{put_in, empty_fits, end_entries, end_pair, end_ask, finish_at, settle_want, settle_place}
 use Rattle.granit_language.specs.Terminal.{PartKind, Alias, Property, Scalar, Open, TerminalKind, Directive, DocumentStart, DocumentEnd, TheEnd, Dash, Question, Comma, Colon, Close, Part, At, Terminal, terminal, edge, stands_left, entry_in}
 use Rattle.granit_language.specs.Within.{content_within, entries_within, pair_within}
 use Rattle.granit_lexemes.specs.declared.layout.Bracket.TheVariants.{Square, Curly}
@@ -43,7 +43,7 @@ entries_keep :
     Keeps n (entries_within n es (suc (hole_blocks r)) (hole_within n r && nat_le (suc (hole_blocks r)) n))
     (end_entries x on r p loose c es)
 entries_keep n x on r p loose c es h =
-    either (Keeps n _) (sequence_ends loose c x) _ _ (h (Just (Sequence p loose c es x.at.start))) refl
+    either (Keeps n _) (sequence_over loose c x) _ _ (h (Just (Sequence p loose c es x.at.start))) refl
 
 pair_keeps :
     (n : ℕ) (x : Terminal) (on : Content → OpenPlace) (r : Hole) (a : Around) (pair : Pair) →
@@ -80,7 +80,7 @@ want_keeps n x r (Two k i m j) =
     either (Keeps n _) (continues_node (room_behind (Two k i m j) (room_of r)) (Two k i m j) x.kind x.at) _ _ refl
     (finish_keeps n x r (Just (Alone (Two k i m j))))
 
-pub close_keeps : (n : ℕ) (x : Terminal) (p : OpenPlace) → Keeps n (open_within n p) (settle x p)
+pub close_keeps : (n : ℕ) (x : Terminal) (p : OpenPlace) → Keeps n (open_within n p) (settle_place x p)
 close_keeps n x (Want r p) = want_keeps n x r p
 close_keeps n x (PastEntry r p loose c es) = entries_keep n x (finish_at x r) r p loose c es (finish_keeps n x r)
 close_keeps n x (PastAsk r a q v) = ask_keeps n x (finish_at x r) r a q v (finish_keeps n x r)
@@ -260,7 +260,7 @@ entries_most :
     ((v : Content) → AtMost d (on v)) → nat_le (suc (hole_blocks r)) d ≡ true →
     AtMost d (end_entries x on r p loose c es)
 entries_most d x on r p loose c es h e =
-    either (AtMost d) (sequence_ends loose c x) _ _ (h (Just (Sequence p loose c es x.at.start))) e
+    either (AtMost d) (sequence_over loose c x) _ _ (h (Just (Sequence p loose c es x.at.start))) e
 
 pair_most :
     (d : ℕ) (x : Terminal) (on : Content → OpenPlace) (r : Hole) (a : Around) (pair : Pair) →
@@ -304,7 +304,7 @@ want_most d x r (Two k i m j) e =
 
 pub close_most :
     (d : ℕ) (x : Terminal) (p : OpenPlace) → nat_le (open_blocks p) d ≡ true →
-    nat_le (open_blocks (settle x p)) d ≡ true
+    nat_le (open_blocks (settle_place x p)) d ≡ true
 close_most d x (Want r p) e = want_most d x r p e
 close_most d x (PastEntry r p loose c es) e =
     entries_most d x (finish_at x r) r p loose c es (λ v. finish_most d x r v (less (hole_blocks r) d e)) e

@@ -4,7 +4,7 @@ use Rattle.granit_base.specs.Place.{Mark}
 use Rattle.granit_language.specs.Choice.{choose}
 use Rattle.granit_language.specs.GrammarFault.{GrammarFault, ExpectedDocumentStart, MissingDocumentEndBeforeDirective, UnexpectedEofBlockSequence, UnexpectedEofBlockMapping, UnexpectedEofImplicitFlowMapping, ExpectedBlockMappingKey, ExpectedBlockSequenceEntry, ExpectedFlowMappingSeparator, ExpectedFlowSequenceSeparator, NoFault}
 use Rattle.granit_language.specs.Node.{TreeProperties, NoProperties, One, Two}
-use Rattle.granit_language.specs.Room.{BlockIn, FlowIn, Room, RightOf, ValueIn, KeyIn, ItemIn, Inside, behind_property, room_behind, right_fits, loose_fits, indicates, opens, part_fits, differ, continues_node, entry_empty, sequence_ends, value_empty, ask_empty, ask_over}
+use Rattle.granit_language.specs.Room.{BlockIn, FlowIn, Room, RightOf, ValueIn, KeyIn, ItemIn, Inside, behind_property, room_behind, right_fits, loose_fits, indicates, opens, part_fits, differ, continues_node, entry_empty, sequence_over, value_empty, ask_empty, ask_over}
 use Rattle.granit_language.specs.Terminal.{PartKind, Alias, Property, Scalar, Open, TerminalKind, Directive, DocumentStart, DocumentEnd, TheEnd, Dash, Question, Comma, Colon, Close, Part, At, Terminal, terminal, edge, is_stream_kind, is_comma_kind, closes_kind, stands_left, entry_in, text_start, no_terminal, is_directive_kind}
 use Rattle.granit_language.specs.TreeEvents.{StreamStarts, StreamEnds, DocumentEnds, SequenceEnds, MappingEnds, DocumentStarts, TreeEvent, pointed, shown_event, null, properties_end, alone_event, scalar_event, alias_event, flow_start, flow_end, sequence_start, mapping_start, pair_start, version_of, bare_document_start}
 use Rattle.granit_lexemes.specs.declared.layout.Bracket.{Bracket}
@@ -48,7 +48,7 @@ with_event e (ending st es) = ending st (e ∷ es)
 
 abbrev pub past_sequence : Terminal → Bool → ℕ → List OpenFrame → Ending → Ending
 past_sequence x loose c fs on =
-    choose (sequence_ends loose c x) (with_event (pointed SequenceEnds x.at.start) on)
+    choose (sequence_over loose c x) (with_event (pointed SequenceEnds x.at.start) on)
     (ending (InFrames (SequenceFrame loose c None ∷ fs)) [])
 
 abbrev pub past_mapping : Terminal → ℕ → List OpenFrame → Ending → Ending

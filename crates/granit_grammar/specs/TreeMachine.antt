@@ -4,7 +4,7 @@ use Rattle.granit_language.specs.Choice.{choose}
 use Rattle.granit_language.specs.Node.{TreeProperties, NoProperties, One, Two, AliasNode, ScalarNode, Flow, Just, NoEntry, AfterEntry, Through, NoPair, AfterPair, SimpleKey, Asked, NoKey, NoItem, AfterItem, NoLast, LastItem, Paired, Beginning, ExtraEnd, Closed, FirstDirective, NextDirective, AtFresh, AfterDirectives, AfterRoot, Stream, EndFresh, EndRooted}
 use Rattle.granit_language.specs.OpenPlace.{Bare, Explicit, Around, BlockPairs, FlowPairs, Hole, AtRoot, AtEntry, AtItem, AtKey, AtAsk, AtColon, OpenPlace, Fresh, InDirectives, BehindRoot, Ended, Want, PastEntry, PastKey, PastAsk, PastPair, PastItem, holder, room_of}
 use Rattle.granit_language.specs.Room.{room_behind, right_fits, loose_fits, indicates, opens, part_fits, differ, place_fits}
-use Rattle.granit_language.specs.Settling.{put_in, settle}
+use Rattle.granit_language.specs.Settling.{put_in, settle_place}
 use Rattle.granit_language.specs.Terminal.{PartKind, Alias, Property, Scalar, Open, TerminalKind, Directive, DocumentStart, DocumentEnd, TheEnd, Dash, Question, Comma, Colon, Close, Part, At, Terminal, terminal, edge, entry_in}
 use Rattle.granit_lexemes.specs.declared.layout.Bracket.TheVariants.{Square, Curly}
 
@@ -96,7 +96,7 @@ take (PastItem r p Curly o lead item) (Close Curly) i = Go (put_in r (Just (Flow
 take p kind i = NotTaken
 
 abbrev pub tree_step : OpenPlace → Terminal → Next
-tree_step p l = take (settle l p) l.kind l.at
+tree_step p l = take (settle_place l p) l.kind l.at
 
 pub data Answer : Type 0 where
   ReadAs : Stream → Answer
@@ -114,7 +114,7 @@ tree_goes NotTaken p l on = RefusedAt p l
 
 abbrev pub parse : List Terminal → OpenPlace → Answer
 parse [] p = at_end p
-parse (l ∷ ls) p = tree_goes (take (settle l p) l.kind l.at) (settle l p) l (parse ls)
+parse (l ∷ ls) p = tree_goes (take (settle_place l p) l.kind l.at) (settle_place l p) l (parse ls)
 
 abbrev pub tree_start : OpenPlace
 tree_start = Fresh Beginning

@@ -4,7 +4,7 @@ ghost use Rattle.granit_grammar.specs.TreeMachine.{parse, tree_start, tree_step,
 ghost use Rattle.granit_language.specs.Node.{Stream};
 ghost use Rattle.granit_language.specs.OpenPlace.{OpenPlace, OpenPlaced, IsOpen, spell_open};
 ghost use Rattle.granit_language.specs.Placed.{StreamPlaced};
-ghost use Rattle.granit_language.specs.Settling.{settle};
+ghost use Rattle.granit_language.specs.Settling.{settle_place};
 ghost use Rattle.granit_language.specs.Terminal.{Terminal};
 ghost use Rattle.granit_language.specs.Yield.{spell_stream};
 
@@ -22,7 +22,7 @@ pub fn no_stream_goes_on()
     ensures leads { (p : OpenPlace) (x : Terminal) (rest : List Terminal) → IsOpen p → OpenPlaced x p →
         parse (spell_open p (x ∷ rest)) tree_start ≡ parse (x ∷ rest) p }
     ensures one_place { (p q : OpenPlace) (x : Terminal) → IsOpen p → IsOpen q → OpenPlaced x p → OpenPlaced x q →
-        spell_open p (x ∷ []) ≡ spell_open q (x ∷ []) → tree_step p x ≡ NotTaken → settle x p ≡ settle x q }
+        spell_open p (x ∷ []) ≡ spell_open q (x ∷ []) → tree_step p x ≡ NotTaken → settle_place x p ≡ settle_place x q }
     ensures none { (p : OpenPlace) (x : Terminal) (rest : List Terminal) (s : Stream) → IsOpen p → OpenPlaced x p →
         tree_step p x ≡ NotTaken → StreamPlaced s → spell_stream s [] ≡ spell_open p (x ∷ rest) → ⊥ }
 {}

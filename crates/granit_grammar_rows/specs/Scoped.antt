@@ -34,5 +34,5 @@ outcome (Events es) = EventsAre []
 outcome (Faulty k x) = RefusedAs k x.at.number
 outcome Unfinished = Stops
 
-abbrev pub answer : OptionsData → List Sketch → Telling
-answer o ss = outcome (whole_run o (all_drawn 0 ss))
+abbrev pub answered_by : OptionsData → List Sketch → Telling
+answered_by o ss = outcome (whole_run o (all_drawn 0 ss))

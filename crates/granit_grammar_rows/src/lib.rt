@@ -11,7 +11,7 @@ ghost use Rattle.granit_grammar_rows.specs.Row.{answers, tellings};
 ghost use Rattle.granit_error.specs.OptionsData.{default_options};
 ghost use Rattle.granit_language.specs.GrammarFault.{DuplicateVersionDirective, TooManyBlocks, UndeclaredTagHandle, UnknownAnchor, UnsupportedYamlMajorVersion};
 ghost use Rattle.granit_grammar_rows.specs.Row.{EventsAre, RefusedAs, dash_at, start_mark_at, end_at};
-ghost use Rattle.granit_grammar_rows.specs.Scoped.{alias_named, anchor_named, answer, handle_x, limited, tag_x, version};
+ghost use Rattle.granit_grammar_rows.specs.Scoped.{alias_named, anchor_named, answered_by, handle_x, limited, tag_x, version};
 ghost use Rattle.std.specs.Prelude.{false};
 
 /// Block sequences and mappings.
@@ -53,14 +53,14 @@ pub fn flow_collections_are_read()
 /// `- &a` and `- *a`; `- &a` and `- *b`; `--- &a` and `--- *a`; `!x!y`; `%TAG !x! z`, `--- !x!y` and `--- !x!y`;
 /// `%YAML 1.2` twice; `%YAML 2.0`; and `- - ` where one block collection may be open, and where two may.
 pub fn names_and_limits_are_kept()
-    ensures unknown_name { answer default_options (alias_named 97 0 0 ∷ end_at 2 2 ∷ []) ≡ RefusedAs UnknownAnchor 0 }
-    ensures known_name { answer default_options (dash_at 0 1 0 ∷ anchor_named 97 2 2 ∷ dash_at 5 6 0 ∷ alias_named 97 7 2 ∷ end_at 9 4 ∷ []) ≡ EventsAre [] }
-    ensures other_name { answer default_options (dash_at 0 1 0 ∷ anchor_named 97 2 2 ∷ dash_at 5 6 0 ∷ alias_named 98 7 2 ∷ end_at 9 4 ∷ []) ≡ RefusedAs UnknownAnchor 3 }
-    ensures name_of_another_document { answer default_options (start_mark_at 0 ∷ anchor_named 97 4 4 ∷ start_mark_at 7 ∷ alias_named 97 11 4 ∷ end_at 13 6 ∷ []) ≡ RefusedAs UnknownAnchor 3 }
-    ensures unknown_handle { answer default_options (tag_x 0 0 ∷ end_at 4 4 ∷ []) ≡ RefusedAs UndeclaredTagHandle 0 }
-    ensures handle_of_another_document { answer default_options (handle_x 0 ∷ start_mark_at 11 ∷ tag_x 15 4 ∷ start_mark_at 20 ∷ tag_x 24 4 ∷ end_at 28 8 ∷ []) ≡ RefusedAs UndeclaredTagHandle 4 }
-    ensures second_version { answer default_options (version 1 2 0 ∷ version 1 2 10 ∷ []) ≡ RefusedAs DuplicateVersionDirective 1 }
-    ensures other_version { answer default_options (version 2 0 0 ∷ []) ≡ RefusedAs UnsupportedYamlMajorVersion 0 }
-    ensures one_too_many { answer (limited 1) (dash_at 0 2 0 ∷ dash_at 2 4 2 ∷ end_at 4 4 ∷ []) ≡ RefusedAs (TooManyBlocks false) 1 }
-    ensures as_many_as_may_be { answer (limited 2) (dash_at 0 2 0 ∷ dash_at 2 4 2 ∷ end_at 4 4 ∷ []) ≡ EventsAre [] }
+    ensures unknown_name { answered_by default_options (alias_named 97 0 0 ∷ end_at 2 2 ∷ []) ≡ RefusedAs UnknownAnchor 0 }
+    ensures known_name { answered_by default_options (dash_at 0 1 0 ∷ anchor_named 97 2 2 ∷ dash_at 5 6 0 ∷ alias_named 97 7 2 ∷ end_at 9 4 ∷ []) ≡ EventsAre [] }
+    ensures other_name { answered_by default_options (dash_at 0 1 0 ∷ anchor_named 97 2 2 ∷ dash_at 5 6 0 ∷ alias_named 98 7 2 ∷ end_at 9 4 ∷ []) ≡ RefusedAs UnknownAnchor 3 }
+    ensures name_of_another_document { answered_by default_options (start_mark_at 0 ∷ anchor_named 97 4 4 ∷ start_mark_at 7 ∷ alias_named 97 11 4 ∷ end_at 13 6 ∷ []) ≡ RefusedAs UnknownAnchor 3 }
+    ensures unknown_handle { answered_by default_options (tag_x 0 0 ∷ end_at 4 4 ∷ []) ≡ RefusedAs UndeclaredTagHandle 0 }
+    ensures handle_of_another_document { answered_by default_options (handle_x 0 ∷ start_mark_at 11 ∷ tag_x 15 4 ∷ start_mark_at 20 ∷ tag_x 24 4 ∷ end_at 28 8 ∷ []) ≡ RefusedAs UndeclaredTagHandle 4 }
+    ensures second_version { answered_by default_options (version 1 2 0 ∷ version 1 2 10 ∷ []) ≡ RefusedAs DuplicateVersionDirective 1 }
+    ensures other_version { answered_by default_options (version 2 0 0 ∷ []) ≡ RefusedAs UnsupportedYamlMajorVersion 0 }
+    ensures one_too_many { answered_by (limited 1) (dash_at 0 2 0 ∷ dash_at 2 4 2 ∷ end_at 4 4 ∷ []) ≡ RefusedAs (TooManyBlocks false) 1 }
+    ensures as_many_as_may_be { answered_by (limited 2) (dash_at 0 2 0 ∷ dash_at 2 4 2 ∷ end_at 4 4 ∷ []) ≡ EventsAre [] }
 {}

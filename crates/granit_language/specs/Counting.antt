@@ -1,10 +1,11 @@
 -- The place of an index, counted on the whole text: byte-order marks in front of documents count no column
 -- (YAML 1.2.2, 5.2, 5.4).
-use Rattle.std.specs.Prelude.{◌≡◌, ℕ, suc, ◌+◌, ◌-◌, ◌<◌, ◌&&◌, nat_le, nat_lt, List, [], ◌∷◌, length, take, drop, Some}
+use Rattle.std.specs.Prelude.{◌≡◌, ℕ, suc, ◌+◌, ◌-◌, ◌<◌, ◌&&◌, nat_le, nat_lt, List, [], ◌∷◌, ◌++◌, length, take, drop, Option, Some, None}
 use Rattle.std.specs.Str.{encode_utf8_all}
 use Rattle.granit_base.specs.Place.{Mark, first}
+use Rattle.granit_lexemes.specs.Comment.{CommentRead}
 use Rattle.granit_lexemes.specs.Here.{Here, mark_of}
-use Rattle.granit_lexemes.specs.Lexeme.{Item, OfLexeme, OfComment}
+use Rattle.granit_lexemes.specs.Lexeme.{Lexeme, Item, OfLexeme, OfComment}
 use Rattle.granit_lexemes.specs.Place.{one_more_if, line_ends, since_line_end}
 
 -- how many of some indices are from one to another
@@ -39,15 +40,32 @@ MarksStand x ms [] = Unit {0}
 MarksStand x ms (i ∷ is) =
     (first (drop i x) ≡ 0xFEFF) × (marks_on_line x ms i ≡ since_line_end x i) × MarksStand x ms is
 
--- each lexeme begins at an index of the text, counted with the same marks
-abbrev pub StartsCounted : List ℕ → List ℕ → List Item → Type 0
-StartsCounted x ms [] = Unit {0}
-StartsCounted x ms (OfLexeme y ∷ is) = ((i : ℕ) × CountedMark x ms i y.start) × StartsCounted x ms is
-StartsCounted x ms (OfComment c ∷ is) = ((i : ℕ) × CountedMark x ms i c.source.start) × StartsCounted x ms is
+-- ---- what a lexeme or a comment tells of its places
 
--- The lexemes and comments of a text begin at indices of it, and the byte-order marks in front of its documents, one
--- list for all of them, count no column.
+abbrev pub comment_places : CommentRead → List Mark
+comment_places c = c.source.start ∷ c.source.end ∷ []
+
+abbrev pub tail_places : Option CommentRead → List Mark
+tail_places None = []
+tail_places (Some c) = comment_places c
+
+-- where it begins, the span that is shown, where it ends, and the span of the comment behind it
+abbrev pub lexeme_places : Lexeme → List Mark
+lexeme_places y = y.start ∷ y.shown.start ∷ y.shown.end ∷ y.end ∷ tail_places y.tail
+
+abbrev pub places_of : List Item → List Mark
+places_of [] = []
+places_of (OfLexeme y ∷ is) = lexeme_places y ++ places_of is
+places_of (OfComment c ∷ is) = comment_places c ++ places_of is
+
+-- each of these is the place of an index
+abbrev pub PlacesCounted : List ℕ → List ℕ → List Mark → Type 0
+PlacesCounted x ms [] = Unit {0}
+PlacesCounted x ms (m ∷ rest) = ((i : ℕ) × CountedMark x ms i m) × PlacesCounted x ms rest
+
+-- All places that the lexemes and comments of a text tell are counted on it, and the byte-order marks in front of its
+-- documents, one list for all of them, count no column.
 pub record Counted (x : List ℕ) (items : List Item) : Type 0 where
   pub marks : List ℕ
   pub stand : MarksStand x marks marks
-  pub starts : StartsCounted x marks items
+  pub places : PlacesCounted x marks (places_of items)

@@ -5,13 +5,13 @@ use Rattle.granit_language.specs.GrammarFault.{GrammarFault}
 use Rattle.granit_language.specs.Node.{Stream}
 use Rattle.granit_language.specs.OpenPlace.{OpenPlace, OpenPlaced, IsOpen, spell_open}
 use Rattle.granit_language.specs.Placed.{StreamPlaced}
-use Rattle.granit_language.specs.Settling.{settle}
+use Rattle.granit_language.specs.Settling.{settle_place}
 use Rattle.granit_language.specs.Terminal.{Terminal}
 use Rattle.granit_language.specs.Yield.{spell_stream}
 
 -- the lexemes are those of a placed stream
-abbrev pub IsStream : List Terminal → Type 0
-IsStream xs = (s : Stream) × (spell_stream s [] ≡ xs) × StreamPlaced s
+abbrev pub IsSpelled : List Terminal → Type 0
+IsSpelled xs = (s : Stream) × (spell_stream s [] ≡ xs) × StreamPlaced s
 
 -- Lexemes with which some stream begins, the next lexeme, with which none goes on, and the open place between, which
 -- names the kind.
@@ -24,9 +24,9 @@ pub record FaultAt (xs : List Terminal) (k : GrammarFault) (x : Terminal) : Type
   pub placed : OpenPlaced x place
   pub is_open : IsOpen place
   -- what the lexeme ends is finished there
-  pub settled : settle x place ≡ place
+  pub settled : settle_place x place ≡ place
   pub kind_is : k ≡ fault_kind_at place x.kind
   -- nothing goes on so
-  pub unread : (more : List Terminal) → IsStream (front ++ (x ∷ more)) → ⊥
+  pub unread : (more : List Terminal) → IsSpelled (front ++ (x ∷ more)) → ⊥
   -- and something without it does
-  pub viable : (more : List Terminal) × IsStream (front ++ more)
+  pub viable : (more : List Terminal) × IsSpelled (front ++ more)

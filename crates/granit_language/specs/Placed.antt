@@ -1,7 +1,7 @@
 -- Trees whose parts stand where they may, each in front of the lexeme that follows it (YAML 1.2.2, 6.1, 7.4, 8.2, 9.2).
 use Rattle.std.specs.Prelude.{◌≡◌, ℕ, Bool, true, false, ◌==◌, Some, None}
 use Rattle.granit_language.specs.Node.{TreeProperties, NoProperties, One, Two, Node, AliasNode, ScalarNode, Alone, Flow, Sequence, Mapping, Content, Nothing, Just, Entries, Entry, EntryLead, NoEntry, AfterEntry, Pairs, Through, PairLead, NoPair, AfterPair, Pair, WithColon, AskOnly, Left, SimpleKey, Asked, NoKey, FlowLead, NoItem, AfterItem, FlowLast, NoLast, LastItem, FlowItem, Single, Paired, Before, Beginning, ExtraEnd, Closed, Directives, FirstDirective, NextDirective, Start, AtFresh, AfterDirectives, AfterRoot, Rooted, BareRoot, ExplicitRoot, Stream, EndFresh, EndRooted}
-use Rattle.granit_language.specs.Room.{Holder, BlockIn, FlowIn, Room, RightOf, KeyIn, ItemIn, behind_property, room_behind, right_fits, sequence_fits, PartFits, differ, continues_node, entry_empty, sequence_ends, room_value, value_empty, ask_empty, ask_over, place_fits, KeyBegins}
+use Rattle.granit_language.specs.Room.{Holder, BlockIn, FlowIn, Room, RightOf, KeyIn, ItemIn, behind_property, room_behind, right_fits, sequence_fits, PartFits, differ, continues_node, entry_empty, sequence_over, room_value, value_empty, ask_empty, ask_over, place_fits, KeyBegins}
 use Rattle.granit_language.specs.Terminal.{Alias, Property, Scalar, Open, DocumentStart, DocumentEnd, TheEnd, Dash, Question, Comma, Colon, Close, At, Terminal, terminal, edge, is_stream_kind, stands_left}
 use Rattle.granit_lexemes.specs.declared.layout.Bracket.{Bracket}
 
@@ -38,7 +38,7 @@ abbrev mutual
       × LastPlaced last bracket (terminal (Close bracket) e)
   Placed (Sequence p loose c es e) room x =
       PropertiesPlaced p room × (sequence_fits (room_behind p room) loose c ≡ true) × EntriesPlaced es loose c x
-      × (sequence_ends loose c x ≡ true) × (e ≡ x.at.start)
+      × (sequence_over loose c x ≡ true) × (e ≡ x.at.start)
   Placed (Mapping p c ps e) room x =
       PropertiesPlaced p room × (right_fits (room_behind p room) c ≡ true) × PairsPlaced ps c x
       × (stands_left x c ≡ true) × (e ≡ x.at.start)

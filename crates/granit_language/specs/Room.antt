@@ -103,9 +103,9 @@ abbrev pub entry_empty : Bool → ℕ → Terminal → Bool
 entry_empty loose c x = stands_left x c || (dash_in x c || (loose && entry_in x c))
 
 -- a sequence ends in front of x
-abbrev pub sequence_ends : Bool → ℕ → Terminal → Bool
-sequence_ends true c x = not (dash_in x c)
-sequence_ends false c x = stands_left x c
+abbrev pub sequence_over : Bool → ℕ → Terminal → Bool
+sequence_over true c x = not (dash_in x c)
+sequence_over false c x = stands_left x c
 
 -- a key behind `?`, or a value behind `:`
 abbrev pub room_value : Holder → Room

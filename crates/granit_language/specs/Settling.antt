@@ -4,7 +4,7 @@ use Rattle.std.specs.Prelude.{ℕ, Bool, false}
 use Rattle.granit_language.specs.Choice.{choose}
 use Rattle.granit_language.specs.Node.{TreeProperties, NoProperties, Alone, Sequence, Mapping, Content, Nothing, Just, Entries, Entry, Through, Pair, WithColon, AskOnly, Single, Paired, BareRoot, ExplicitRoot}
 use Rattle.granit_language.specs.OpenPlace.{Bare, Explicit, Around, BlockPairs, FlowPairs, Hole, AtRoot, AtEntry, AtItem, AtKey, AtAsk, AtColon, OpenPlace, BehindRoot, Want, PastEntry, PastKey, PastAsk, PastPair, PastItem, holder, room_of}
-use Rattle.granit_language.specs.Room.{room_behind, continues_node, entry_empty, sequence_ends, value_empty, ask_empty, ask_over, pair_over}
+use Rattle.granit_language.specs.Room.{room_behind, continues_node, entry_empty, sequence_over, value_empty, ask_empty, ask_over, pair_over}
 use Rattle.granit_language.specs.Terminal.{At, Terminal, is_stream_kind, stands_left}
 
 -- a finished node, or nothing, in a hole
@@ -31,7 +31,7 @@ empty_fits (AtColon r a left m) x = value_empty (holder a) x
 -- The function finishes a node in the hole.
 abbrev pub end_entries : Terminal → (Content → OpenPlace) → Hole → TreeProperties → Bool → ℕ → Entries → OpenPlace
 end_entries x on r p loose c es =
-    choose (sequence_ends loose c x) (on (Just (Sequence p loose c es x.at.start))) (PastEntry r p loose c es)
+    choose (sequence_over loose c x) (on (Just (Sequence p loose c es x.at.start))) (PastEntry r p loose c es)
 
 abbrev pub end_pair : Terminal → (Content → OpenPlace) → Hole → Around → Pair → OpenPlace
 end_pair x on r (BlockPairs p c lead) pair =
@@ -58,9 +58,9 @@ settle_want x r NoProperties = choose (empty_fits r x) (finish_at x r Nothing) (
 settle_want x r p =
     choose (continues_node (room_behind p (room_of r)) p x.kind x.at) (Want r p) (finish_at x r (Just (Alone p)))
 
-abbrev pub settle : Terminal → OpenPlace → OpenPlace
-settle x (Want r p) = settle_want x r p
-settle x (PastEntry r p loose c es) = end_entries x (finish_at x r) r p loose c es
-settle x (PastAsk r a q v) = end_ask x (finish_at x r) r a q v
-settle x (PastPair r a pair) = end_pair x (finish_at x r) r a pair
-settle x p = p
+abbrev pub settle_place : Terminal → OpenPlace → OpenPlace
+settle_place x (Want r p) = settle_want x r p
+settle_place x (PastEntry r p loose c es) = end_entries x (finish_at x r) r p loose c es
+settle_place x (PastAsk r a q v) = end_ask x (finish_at x r) r a q v
+settle_place x (PastPair r a pair) = end_pair x (finish_at x r) r a pair
+settle_place x p = p

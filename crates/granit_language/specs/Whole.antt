@@ -3,7 +3,7 @@ use Rattle.std.specs.Prelude.{◌≡◌, ℕ, Bool, true, false, ◌==◌, nat_l
 use Rattle.granit_base.specs.Written.{Written}
 use Rattle.granit_error.specs.OptionsData.{OptionsData}
 use Rattle.granit_language.specs.Declared.{is_anchor_of, is_version, no_kind, Without, LastSince, NoneSince, DeclaredBy, NotInForce}
-use Rattle.granit_language.specs.Faults.{FaultAt}
+use Rattle.granit_language.specs.Faults.{IsSpelled, FaultAt}
 use Rattle.granit_language.specs.GrammarFault.{GrammarFault, TooManyBlocks, DuplicateVersionDirective, UnsupportedYamlMajorVersion, DuplicateTagDirective, UnknownAnchor, UndeclaredTagHandle}
 use Rattle.granit_language.specs.Node.{Stream}
 use Rattle.granit_language.specs.Placed.{StreamPlaced}
@@ -47,13 +47,15 @@ pub data ScopeCause (unresolved : Bool) (front : List Terminal) : TerminalKind �
 abbrev pub IsWithin : ℕ → List Terminal → Type 0
 IsWithin n xs = (s : Stream) × (spell_stream s [] ≡ xs) × StreamPlaced s × (stream_within n s ≡ true)
 
--- A lexeme that the grammar takes: streams go on with it, but none that keeps the limit; or it means nothing.
+-- A lexeme that the grammar takes, so that a stream goes on with it: but none that keeps the limit does, or it means
+-- nothing.
 pub record GuardCause (o : OptionsData) (xs : List Terminal) (k : GrammarFault) (x : Terminal) : Type 0 where
   pub front : List Terminal
   pub here : Terminal
   pub rest : List Terminal
   pub is : xs ≡ front ++ (here ∷ rest)
   pub x_is : x ≡ in_scope (scope_behind front no_scope) here
+  pub viable : (more : List Terminal) × IsSpelled (scoped no_scope front ++ (x ∷ more))
   pub cause :
       ((loose : Bool) × (k ≡ TooManyBlocks loose)
       × ((more : List Terminal) → IsWithin o.block_nesting_limit (scoped no_scope front ++ (x ∷ more)) → ⊥))

@@ -1,17 +1,17 @@
 -- What stands between lexemes and behind them is what the reader skips.
-use Rattle.std.proofs.Common.{◌≡◌, ℕ, suc, ◌≤◌, ◌==◌, ◌&&◌, ◌||◌, Bool, true, false, List, [], ◌∷◌, ◌++◌, length, drop, Option, Some, None, Result, Ok, Err, refl, sym, ap, ◌∙◌, subst, arith}
+use Rattle.std.proofs.Common.{◌≡◌, ℕ, suc, ◌≤◌, ◌==◌, ◌&&◌, ◌||◌, not, Bool, true, false, List, [], ◌∷◌, ◌++◌, length, drop, Option, Some, None, Result, Ok, Err, refl, sym, ap, ◌∙◌, subst, arith}
 use Rattle.std.proofs.lemmas.Bool.{and_parts}
 use Rattle.std.specs.Prelude.{if◌then◌else◌, nat_lt}
 use Rattle.std.proofs.lemmas.Bool.Decides.{nat_tests}
 use Rattle.std.proofs.lemmas.List.{length-drop}
 use Rattle.granit_base.specs.Classes.{is_gap, is_blank, is_break, is_bom}
-use Rattle.granit_base.specs.Place.{Mark, first}
+use Rattle.granit_base.specs.Place.{Mark, first, ends_line}
 use Rattle.granit_error.specs.FaultKind.{FaultKind, TabNotAllowed, TabInBlockIndentation, CommentInterceptedScalar}
 use Rattle.granit_error.specs.OptionsData.{OptionsData}
 use Rattle.granit_lexemes.specs.Basics.{fails_at}
 use Rattle.granit_lexemes.specs.Comment.{CommentRead, comment, StandsComment, Spoils, ReadsComment}
 use Rattle.granit_lexemes.specs.HeaderExtent.{HeaderTail}
-use Rattle.granit_lexemes.specs.Here.{Here, text_len, next_char, mark_of, step, chosen, past}
+use Rattle.granit_lexemes.specs.Here.{Here, text_len, next_char, is_quiet, mark_of, step, chosen, past}
 use Rattle.granit_lexemes.specs.LayoutData.{is_left}
 use Rattle.granit_lexemes.specs.Moves.{past_prefix_mark}
 use Rattle.granit_lexemes.specs.Outcome.{Fault, ◌>>=◌}
@@ -148,6 +148,36 @@ past_white h = let p = past_reads is_gap is_gap_nul h in record { gap = p.charac
     on : (cs : List ℕ) (g at : Here) (rest : List ℕ) → g.unread.text ≡ cs ++ rest → at ≡ over cs g → Each is_gap cs → GapTo false g cs at
     on [] g at rest t l e = subst (GapTo false g []) (sym l) ends
     on (c ∷ cs) g at rest t l e = white t e.0 (on cs (step g) at rest (text_behind g c (cs ++ rest) t) l e.1)
+
+pub gap_break : (c : ℕ) → is_gap c ≡ true → is_quiet c ≡ false → is_break c ≡ true
+unfolding is_gap is_blank is_break
+gap_break c g q = grind (arith, nat_tests, g, q)
+
+pub break_gap : (c : ℕ) → is_break c ≡ true → is_gap c ≡ true
+unfolding is_gap
+break_gap c e = second_of (is_blank c) (is_break c) e
+
+pub line_feed : (c d : ℕ) → (c == 0x0D && d == 0x0A) ≡ true → is_break d ≡ true
+unfolding is_break
+line_feed c d e = ap (λ v. v || d == 0x0D) (and_parts (c == 0x0D) (d == 0x0A) e).1
+
+pub no_break_bom : is_break 0xFEFF ≡ false
+unfolding is_break
+no_break_bom = refl
+
+-- a break that ends no line is the CR of a CR LF
+pub carriage : (h : Here) (c : ℕ) (t : List ℕ) → h.unread.text ≡ c ∷ t → ends_line h.unread.text ≡ false → is_break (next_char h) ≡ true → is_break (next_char (step h)) ≡ true
+unfolding is_break
+carriage h c t e f b =
+    let n : (c == 0x0A || c == 0x0D) ≡ true = ap (λ (l : List ℕ). first l == 0x0A || first l == 0x0D) (sym e) ∙ b in
+    let m : (c == 0x0A || (c == 0x0D && not (first t == 0x0A))) ≡ false = ap (λ (l : List ℕ). ends_line l) (sym e) ∙ f in
+    ap (λ (l : List ℕ). first l == 0x0A || first l == 0x0D) (text_behind h c t e) ∙ on (c == 0x0A) (c == 0x0D) (first t == 0x0A) (first t == 0x0D) n m
+  where
+    on : (a b d f : Bool) → (a || b) ≡ true → (a || (b && not d)) ≡ false → (d || f) ≡ true
+    on true b d f n m = absurd cc
+    on false false d f n m = absurd cc
+    on false true true f n m = refl
+    on false true false f n m = absurd cc
 
 -- ---- what the gap in front of a place gives
 

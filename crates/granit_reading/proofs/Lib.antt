@@ -19,3 +19,5 @@ pub mod LexemeAnswers
 pub mod ReadAnswers
 pub mod RunsLaw
 pub mod RunsWhole
+pub mod RunsOnce
+pub mod Signs

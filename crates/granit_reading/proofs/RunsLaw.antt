@@ -13,51 +13,52 @@ use Rattle.granit_lexemes.specs.declared.layout.PossibleKey.{PossibleKey}
 use Rattle.granit_lexemes.specs.declared.layout.OpenBracket.{OpenBracket}
 use Rattle.granit_machine.specs.PossibleKeys.{top_key, is_stale, fresh_key, fresh_bracket, is_allowed, new_key, key_goes_on, node_key}
 use Rattle.granit_language.specs.Fitting.{OfNode, Opens, Closes, role_of}
-use Rattle.granit_language.specs.KeyRuns.{role, WholeBrackets, NoRun, joins_run, BeginsRun, Run, part_begins, part_joins, whole_begins, whole_joins, opens_entry, follows_opener, is_entry_dash, follows_dash, may_begin, must_begin, too_far}
+use Rattle.granit_language.specs.KeyRuns.{role, WholeBrackets, NoRun, joins_run, BeginsRun, Run, part_begins, part_joins, whole_begins, whole_joins, opens_entry, follows_opener, is_entry_dash, follows_dash, follows_sign, NoTabBehind, MayBeKey, too_far}
 use Rattle.granit_reading.proofs.Counting.{At, Further}
 
 -- ---- what is held of the runs before a place
 
 -- what a key that is held says of the run that may be it, and what it says that none is held
-abbrev pub Holds : OptionsData → Bool → Mark → Option PossibleKey → Lexeme → List Lexeme → Type 0
-Holds o f m (Some k) first rest = (k.number ≡ first.number) × (k.start ≡ first.start) × (may_begin f first rest ≡ true)
-Holds o f m None first rest = must_begin f first rest ≡ true → too_far o f first.start m ≡ true
+abbrev pub Holds : OptionsData → List ℕ → Bool → Mark → Option PossibleKey → Lexeme → List Lexeme → Type 0
+Holds o text f m (Some k) first rest = (k.number ≡ first.number) × (k.start ≡ first.start) × MayBeKey text f first rest
+Holds o text f m None first rest = MayBeKey text f first rest → too_far o f first.start m ≡ true
 
-pub data Now (o : OptionsData) (f : Bool) (m : Mark) (ls : List Lexeme) (key : Option PossibleKey) : Type 0 where
-  no_run_now : NoRun ls → key ≡ None → Now o f m ls key
-  run_now : {first : Lexeme} {rest : List Lexeme} → Run ls first rest → Holds o f m key first rest → Now o f m ls key
+pub data Now (o : OptionsData) (text : List ℕ) (f : Bool) (m : Mark) (ls : List Lexeme) (key : Option PossibleKey) : Type 0 where
+  no_run_now : NoRun ls → key ≡ None → Now o text f m ls key
+  run_now : {first : Lexeme} {rest : List Lexeme} → Run ls first rest → Holds o text f m key first rest → Now o text f m ls key
 
 -- the run that a lexeme begins or joins
 pub data Lead (x : Lexeme) (ys : List Lexeme) : Lexeme → List Lexeme → Type 0 where
   lead_begins : BeginsRun x ys → Lead x ys x ys
   lead_joins : {first : Lexeme} {rest : List Lexeme} → joins_run x ≡ true → Run ys first rest → Lead x ys first rest
 
-pub record Leads (o : OptionsData) (f : Bool) (m : Mark) (x : Lexeme) (ys : List Lexeme) (key : Option PossibleKey) : Type 0 where
+pub record Leads (o : OptionsData) (text : List ℕ) (f : Bool) (m : Mark) (x : Lexeme) (ys : List Lexeme) (key : Option PossibleKey) : Type 0 where
   pub first : Lexeme
   pub rest : List Lexeme
   pub lead : Lead x ys first rest
-  pub holds : Holds o f m key first rest
+  pub holds : Holds o text f m key first rest
 
 -- a bracket that is open, in front of what stands in it
-pub record Pending (o : OptionsData) (f : Bool) (m : Mark) (ls : List Lexeme) (key : Option PossibleKey) : Type 0 where
+pub record Pending (o : OptionsData) (text : List ℕ) (f : Bool) (m : Mark) (ls : List Lexeme) (key : Option PossibleKey) : Type 0 where
   pub opener : Lexeme
   pub before : List Lexeme
   pub whole : WholeBrackets ls (opener ∷ before)
   pub opens : role opener ≡ Opens
-  pub leads : Leads o f m opener before key
+  pub leads : Leads o text f m opener before key
 
-abbrev pub Around : OptionsData → Mark → List Lexeme → List OpenBracket → Option PossibleKey → Type 0
-Around o m ls [] key = Pending o false m ls key
-Around o m ls (b ∷ bs) key = (p : Pending o true m ls b.key) × Around o m p.before bs key
+abbrev pub Around : OptionsData → List ℕ → Mark → List Lexeme → List OpenBracket → Option PossibleKey → Type 0
+Around o text m ls [] key = Pending o text false m ls key
+Around o text m ls (b ∷ bs) key = (p : Pending o text true m ls b.key) × Around o text m p.before bs key
 
-abbrev pub Depths : OptionsData → Mark → List Lexeme → List OpenBracket → Option PossibleKey → Type 0
-Depths o m ls [] key = Now o false m ls key
-Depths o m ls (b ∷ bs) key = Now o true m ls b.key × Around o m ls bs key
+abbrev pub Depths : OptionsData → List ℕ → Mark → List Lexeme → List OpenBracket → Option PossibleKey → Type 0
+Depths o text m ls [] key = Now o text false m ls key
+Depths o text m ls (b ∷ bs) key = Now o text true m ls b.key × Around o text m ls bs key
 
 pub record LastSays (ls : List Lexeme) (l : Laid) : Type 0 where
   pub opener : is_opener l.last ≡ follows_opener ls
   pub dash : is_dash l.last ≡ follows_dash ls
   pub indicator : is_indicator l.last ≡ true → NoRun ls
+  pub sign : is_indicator l.last ≡ follows_sign ls
 
 -- ---- places further on
 
@@ -100,9 +101,9 @@ far_on o f s m n w e = on (nat_lt (s.place.index + o.simple_key_max_lookahead) m
     on true c p q e = first_true _ _ (later _ m.place.index n.place.index w.0 p)
     on false c p q e = second_true (nat_lt (s.place.index + o.simple_key_max_lookahead) n.place.index) f c (nat_lt s.place.line n.place.line) (λ t. later s.place.line m.place.line n.place.line w.1 (q ∙ t)) e
 
-holds_on : (o : OptionsData) (f : Bool) (m n : Mark) (key : Option PossibleKey) (first : Lexeme) (rest : List Lexeme) → Onward m n → Holds o f m key first rest → Holds o f n key first rest
-holds_on o f m n (Some k) first rest w h = h
-holds_on o f m n None first rest w h = λ e. far_on o f first.start m n w (h e)
+holds_on : (o : OptionsData) (text : List ℕ) (f : Bool) (m n : Mark) (key : Option PossibleKey) (first : Lexeme) (rest : List Lexeme) → Onward m n → Holds o text f m key first rest → Holds o text f n key first rest
+holds_on o text f m n (Some k) first rest w h = h
+holds_on o text f m n None first rest w h = λ e. far_on o f first.start m n w (h e)
 
 -- ---- freshening
 
@@ -116,28 +117,28 @@ stale_far o f g m s k less e y = subst (λ s. too_far o f s m ≡ true) e (weake
     weaker false c false true p e = absurd cc
     weaker false c false false p e = e
 
-module _ (o : OptionsData) (m n : Mark) (w : Onward m n) where
-  holds_fresh : (f g : Bool) (key : Option PossibleKey) (first : Lexeme) (rest : List Lexeme) → (f ≡ true → g ≡ true) → Holds o f m key first rest → Holds o f n (fresh_key o g n key) first rest
-  holds_fresh f g None first rest less h = holds_on o f m n None first rest w h
+module _ (o : OptionsData) (text : List ℕ) (m n : Mark) (w : Onward m n) where
+  holds_fresh : (f g : Bool) (key : Option PossibleKey) (first : Lexeme) (rest : List Lexeme) → (f ≡ true → g ≡ true) → Holds o text f m key first rest → Holds o text f n (fresh_key o g n key) first rest
+  holds_fresh f g None first rest less h = holds_on o text f m n None first rest w h
   holds_fresh f g (Some k) first rest less h = on (is_stale o g n k) refl
     where
-      on : (v : Bool) → is_stale o g n k ≡ v → Holds o f n (if v then None else Some k) first rest
+      on : (v : Bool) → is_stale o g n k ≡ v → Holds o text f n (if v then None else Some k) first rest
       on true e = λ _. stale_far o f g n first.start k less h.1 e
       on false e = h
 
-  now_fresh : (f g : Bool) (ls : List Lexeme) (key : Option PossibleKey) → (f ≡ true → g ≡ true) → Now o f m ls key → Now o f n ls (fresh_key o g n key)
+  now_fresh : (f g : Bool) (ls : List Lexeme) (key : Option PossibleKey) → (f ≡ true → g ≡ true) → Now o text f m ls key → Now o text f n ls (fresh_key o g n key)
   now_fresh f g ls key less (no_run_now r e) = no_run_now r (ap (fresh_key o g n) e)
   now_fresh f g ls key less (run_now {first = first} {rest = rest} r h) = run_now r (holds_fresh f g key first rest less h)
 
-  pending_fresh : (f g : Bool) (ls : List Lexeme) (key : Option PossibleKey) → (f ≡ true → g ≡ true) → Pending o f m ls key → Pending o f n ls (fresh_key o g n key)
+  pending_fresh : (f g : Bool) (ls : List Lexeme) (key : Option PossibleKey) → (f ≡ true → g ≡ true) → Pending o text f m ls key → Pending o text f n ls (fresh_key o g n key)
   pending_fresh f g ls key less p = record { opener = p.opener; before = p.before; whole = p.whole; opens = p.opens; leads = record { first = p.leads.first; rest = p.leads.rest; lead = p.leads.lead; holds = holds_fresh f g key p.leads.first p.leads.rest less p.leads.holds } }
 
-  around_fresh : (g : Bool) (ls : List Lexeme) (bs : List OpenBracket) (key : Option PossibleKey) → Around o m ls bs key → Around o n ls (map (fresh_bracket o n) bs) (fresh_key o g n key)
+  around_fresh : (g : Bool) (ls : List Lexeme) (bs : List OpenBracket) (key : Option PossibleKey) → Around o text m ls bs key → Around o text n ls (map (fresh_bracket o n) bs) (fresh_key o g n key)
   unfolding pending_fresh
   around_fresh g ls [] key p = pending_fresh false g ls key (λ e. absurd cc) p
   around_fresh g ls (b ∷ bs) key p = (pending_fresh true true ls b.key (λ e. e) p.0, around_fresh g p.0.before bs key p.1)
 
-  pub depths_fresh : (g : Bool) (ls : List Lexeme) (bs : List OpenBracket) (key : Option PossibleKey) → Depths o m ls bs key → Depths o n ls (map (fresh_bracket o n) bs) (fresh_key o g n key)
+  pub depths_fresh : (g : Bool) (ls : List Lexeme) (bs : List OpenBracket) (key : Option PossibleKey) → Depths o text m ls bs key → Depths o text n ls (map (fresh_bracket o n) bs) (fresh_key o g n key)
   depths_fresh g ls [] key p = now_fresh false g ls key (λ e. absurd cc) p
   depths_fresh g ls (b ∷ bs) key p = (now_fresh true true ls b.key (λ e. e) p.0, around_fresh g ls bs key p.1)
 
@@ -162,7 +163,7 @@ part_lets Dash key f (inl e) = absurd cc
 part_lets Dash key f (inr e) = absurd cc
 part_lets kind key f e = (refl, refl)
 
-run_ends : {ls : List Lexeme} {first : Lexeme} {rest : List Lexeme} → Run ls first rest → (follows_opener ls ≡ false) × (follows_dash ls ≡ false) × (NoRun ls → ⊥)
+pub run_ends : {ls : List Lexeme} {first : Lexeme} {rest : List Lexeme} → Run ls first rest → (follows_opener ls ≡ false) × (follows_dash ls ≡ false) × (NoRun ls → ⊥)
 run_ends (part_begins {x = x} r b) = let p = part_lets x.kind x.key x.in_flow (inl r) in (p.0, p.1, λ n. n.0 r)
 run_ends (part_joins {x = x} r j s) = let p = part_lets x.kind x.key x.in_flow (inl r) in (p.0, p.1, λ n. n.0 r)
 run_ends (whole_begins {closer = x} r w q b) = let p = part_lets x.kind x.key x.in_flow (inr r) in (p.0, p.1, λ n. n.1 r)
@@ -170,40 +171,39 @@ run_ends (whole_joins {closer = x} r w q j s) = let p = part_lets x.kind x.key x
 
 -- ---- a lexeme of a node
 
-module _ (o : OptionsData) (h : Here) (l : Laid) (ls : List Lexeme) (x : Lexeme) (number : x.number ≡ l.number) (start : x.start ≡ mark_of h) (flow : x.in_flow ≡ is_in_flow l) (line : x.begins_line ≡ h.begins_line) (follows : x.follows_indicator ≡ (is_dash l.last || is_indicator l.last)) (last : LastSays ls l) where
+-- behind a sign a tab before a place is one behind the sign
+abbrev pub TabSays : List ℕ → List Lexeme → Here → Laid → Type 0
+TabSays text ls h l = is_indicator l.last ≡ true → h.begins_line ≡ false → (is_none h.tab ≡ true → NoTabBehind text ls (mark_of h)) × (NoTabBehind text ls (mark_of h) → is_none h.tab ≡ true)
+
+module _ (o : OptionsData) (text : List ℕ) (h : Here) (l : Laid) (ls : List Lexeme) (x : Lexeme) (number : x.number ≡ l.number) (start : x.start ≡ mark_of h) (flow : x.in_flow ≡ is_in_flow l) (line : x.begins_line ≡ h.begins_line) (follows : x.follows_indicator ≡ (is_dash l.last || is_indicator l.last)) (last : LastSays ls l) (tabs : TabSays text ls h l) where
   abbrev allowed : Bool
   allowed = is_allowed h.begins_line h.tab l
 
-  may_on : (f opens line dash sign none : Bool) → (if f then opens else (line || dash) || (sign && none)) ≡ true → (f ≡ true → opens ≡ true) × (f ≡ false → (line || (dash || sign)) ≡ true)
-  may_on true opens line dash sign none e = (λ _. e, λ p. absurd cc)
-  may_on false opens true dash sign none e = (λ p. absurd cc, λ _. refl)
-  may_on false opens false true sign none e = (λ p. absurd cc, λ _. refl)
-  may_on false opens false false true none e = (λ p. absurd cc, λ _. refl)
-  may_on false opens false false false none e = (λ p. absurd cc, λ _. e)
+  may_on : (f b d s n : Bool) → is_in_flow l ≡ f → h.begins_line ≡ b → is_dash l.last ≡ d → is_indicator l.last ≡ s → is_none h.tab ≡ n → (if f then is_opener l.last else (b || d) || (s && n)) ≡ true → MayBeKey text f x ls
+  may_on true b d s n p q r t u e = sym last.opener ∙ e
+  may_on false true d s n p q r t u e = inl (line ∙ q)
+  may_on false false true s n p q r t u e = inr (inl (sym last.dash ∙ r))
+  may_on false false false true true p q r t u e = inr (inr (sym last.sign ∙ t, subst (NoTabBehind text ls) (sym start) ((tabs t q).0 u)))
+  may_on false false false true false p q r t u e = absurd cc
+  may_on false false false false n p q r t u e = absurd cc
 
-  may : allowed ≡ true → may_begin (is_in_flow l) x ls ≡ true
+  may : allowed ≡ true → MayBeKey text (is_in_flow l) x ls
   unfolding is_allowed
-  may e = on (is_in_flow l) refl
-    where
-      q : (is_in_flow l ≡ true → is_opener l.last ≡ true) × (is_in_flow l ≡ false → (h.begins_line || (is_dash l.last || is_indicator l.last)) ≡ true)
-      q = may_on (is_in_flow l) (is_opener l.last) h.begins_line (is_dash l.last) (is_indicator l.last) (is_none h.tab) e
+  may e = may_on (is_in_flow l) h.begins_line (is_dash l.last) (is_indicator l.last) (is_none h.tab) refl refl refl refl refl e
 
-      on : (f : Bool) → is_in_flow l ≡ f → may_begin f x ls ≡ true
-      on true f = sym last.opener ∙ q.0 f
-      on false f = ap₂ (λ (a b : Bool). a || b) line follows ∙ q.1 f
+  must_on : (f b d s n : Bool) → is_in_flow l ≡ f → h.begins_line ≡ b → is_dash l.last ≡ d → is_indicator l.last ≡ s → is_none h.tab ≡ n → (if f then is_opener l.last else (b || d) || (s && n)) ≡ false → MayBeKey text f x ls → ⊥
+  must_on true b d s n p q r t u e y = let z = last.opener in cc
+  must_on false true d s n p q r t u e y = cc
+  must_on false false true s n p q r t u e y = cc
+  must_on false false false s n p q r t u e (inl b) = let z = line in cc
+  must_on false false false s n p q r t u e (inr (inl v)) = let z = last.dash in cc
+  must_on false false false false n p q r t u e (inr (inr (v, w))) = let z = last.sign in cc
+  must_on false false false true true p q r t u e (inr (inr (v, w))) = cc
+  must_on false false false true false p q r t u e (inr (inr (v, w))) = let z = (tabs t q).1 (subst (NoTabBehind text ls) start w) in cc
 
-  must : allowed ≡ false → must_begin (is_in_flow l) x ls ≡ true → ⊥
+  must : allowed ≡ false → MayBeKey text (is_in_flow l) x ls → ⊥
   unfolding is_allowed
-  must e y = on (is_in_flow l) e y
-    where
-      outside : (line dash rest : Bool) → ((line || dash) || rest) ≡ false → (line || dash) ≡ false
-      outside true dash rest e = absurd cc
-      outside false true rest e = absurd cc
-      outside false false rest e = refl
-
-      on : (f : Bool) → (if f then is_opener l.last else (h.begins_line || is_dash l.last) || (is_indicator l.last && is_none h.tab)) ≡ false → must_begin f x ls ≡ true → ⊥
-      on true e y = let z = last.opener in cc
-      on false e y = let z = outside h.begins_line (is_dash l.last) (is_indicator l.last && is_none h.tab) e in let u : (x.begins_line || follows_dash ls) ≡ (h.begins_line || is_dash l.last) = ap₂ (λ (a b : Bool). a || b) line (sym last.dash) in cc
+  must e y = must_on (is_in_flow l) h.begins_line (is_dash l.last) (is_indicator l.last) (is_none h.tab) refl refl refl refl refl e y
 
   -- what joins a run isn't allowed to begin one
   not_allowed : {first : Lexeme} {rest : List Lexeme} → Run ls first rest → joins_run x ≡ true → allowed ≡ false
@@ -233,23 +233,23 @@ module _ (o : OptionsData) (h : Here) (l : Laid) (ls : List Lexeme) (x : Lexeme)
   key_by property v = if v then Some (new_key property (mark_of h) l) else key_goes_on property (is_left (block_column l) h.place.column) (top_key l)
 
   abbrev Led : Option PossibleKey → Type 0
-  Led key = Leads o (is_in_flow l) (mark_of h) x ls key
+  Led key = Leads o text (is_in_flow l) (mark_of h) x ls key
 
   begins_new : (property : Bool) → BeginsRun x ls → allowed ≡ true → Led (Some (new_key property (mark_of h) l))
   begins_new property b e = record { first = x; rest = ls; lead = lead_begins b; holds = (sym number, sym start, may e) }
 
-  goes_holds : (property low : Bool) (key : Option PossibleKey) (first : Lexeme) (rest : List Lexeme) → Holds o (is_in_flow l) (mark_of h) key first rest → Holds o (is_in_flow l) (mark_of h) (key_goes_on property low key) first rest
+  goes_holds : (property low : Bool) (key : Option PossibleKey) (first : Lexeme) (rest : List Lexeme) → Holds o text (is_in_flow l) (mark_of h) key first rest → Holds o text (is_in_flow l) (mark_of h) (key_goes_on property low key) first rest
   goes_holds property low None first rest p = p
   goes_holds property low (Some k) first rest p = on k.is_head
     where
-      on : (v : Bool) → Holds o (is_in_flow l) (mark_of h) (if v then Some (record k { is_low = k.is_low || low; is_head = property }) else Some k) first rest
+      on : (v : Bool) → Holds o text (is_in_flow l) (mark_of h) (if v then Some (record k { is_low = k.is_low || low; is_head = property }) else Some k) first rest
       on true = p
       on false = p
 
   none_goes : (property low : Bool) → top_key l ≡ None → key_goes_on property low (top_key l) ≡ None
   none_goes property low e = ap (key_goes_on property low) e
 
-  led_by : (property v : Bool) → allowed ≡ v → Now o (is_in_flow l) (mark_of h) ls (top_key l) → Led (key_by property v)
+  led_by : (property v : Bool) → allowed ≡ v → Now o text (is_in_flow l) (mark_of h) ls (top_key l) → Led (key_by property v)
   led_by property true e (no_run_now n k) = begins_new property (inr n) e
   led_by property false e (no_run_now n k) = subst Led (sym (none_goes property _ k)) (record { first = x; rest = ls; lead = lead_begins (inr n); holds = λ y. absurd (must e y) })
   led_by property true e (run_now r p) = on (joins_run x) refl
@@ -264,6 +264,6 @@ module _ (o : OptionsData) (h : Here) (l : Laid) (ls : List Lexeme) (x : Lexeme)
       on false j = absurd (let n = line_allowed j in cc)
 
   -- a lexeme of a node begins a run or joins one, and the key says so
-  pub leads_on : (property : Bool) → Now o (is_in_flow l) (mark_of h) ls (top_key l) → Led (node_key property allowed (mark_of h) l)
+  pub leads_on : (property : Bool) → Now o text (is_in_flow l) (mark_of h) ls (top_key l) → Led (node_key property allowed (mark_of h) l)
   unfolding node_key
   leads_on property n = led_by property allowed refl n
