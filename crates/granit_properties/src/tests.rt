@@ -54,6 +54,16 @@ fn has_anchor(alloc: Global, text: &str, name: &str, end: usize) -> bool {
     is_token(&token, wanted, end, cursor.mark().index())
 }
 
+/// Whether a text begins with an alias of that name, which ends there.
+fn has_alias(alloc: Global, text: &str, name: &str, end: usize) -> bool {
+    let mut cursor = Cursor::new(StrInput::new(text));
+    let Some(Ok(token)) = name_at(alloc, &mut cursor) else {
+        return false;
+    };
+    let wanted = TokenType::Alias(Text::borrowed(name));
+    is_token(&token, wanted, end, cursor.mark().index())
+}
+
 /// Whether a text begins with a tag of that handle and suffix, which ends there.
 fn has_tag(
     alloc: Global,
@@ -82,13 +92,7 @@ fn names(rt: HostRuntime) {
     for (text, name, end) in rows {
         assert_eq!(rt; has_anchor(rt.alloc(), text, name, end), true, "at {text}");
     }
-    let mut alias = Cursor::new(StrInput::new("*a "));
-    let read = name_at(rt.alloc(), &mut alias);
-    let is_alias = match read {
-        Some(Ok(token)) => *token.token_type() == TokenType::Alias(Text::borrowed("a")),
-        _ => false,
-    };
-    assert_eq!(rt; is_alias, true);
+    assert_eq!(rt; has_alias(rt.alloc(), "*a ", "a", 2), true);
     let mut none = Cursor::new(StrInput::new("& a"));
     assert_eq!(rt; told(name_at(rt.alloc(), &mut none)), Some((63, 0)));
 }

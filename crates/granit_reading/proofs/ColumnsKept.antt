@@ -81,7 +81,7 @@ has_pop k c (n ∷ ns) f h = on (nat_lt k n) refl (has_pop k c ns f.1) h
     on false e more (inl p) = (subst (λ c. nat_lt k c ≡ false) p e, inl p)
     on false e more (inr p) = (under k n c e (at_most_has n c ns f.0 p), inr p)
 
-pop_at_most : (a k : ℕ) (ns : List ℕ) → AtMost a ns → AtMost a (pop k ns)
+pub pop_at_most : (a k : ℕ) (ns : List ℕ) → AtMost a ns → AtMost a (pop k ns)
 pop_at_most a k [] p = tt
 pop_at_most a k (n ∷ ns) p = on (nat_lt k n) (pop_at_most a k ns p.1)
   where
@@ -89,7 +89,7 @@ pop_at_most a k (n ∷ ns) p = on (nat_lt k n) (pop_at_most a k ns p.1)
     on true q = q
     on false q = p
 
-pop_below : (k : ℕ) (ns : List ℕ) → Falls ns → AtMost k (pop k ns)
+pub pop_below : (k : ℕ) (ns : List ℕ) → Falls ns → AtMost k (pop k ns)
 pop_below k [] f = tt
 pop_below k (n ∷ ns) f = on (nat_lt k n) refl (pop_below k ns f.1)
   where

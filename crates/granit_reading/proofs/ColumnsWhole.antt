@@ -37,7 +37,7 @@ said_as ls l m cs n k s = record {
           subst (λ a. a < m.number) (sym i) (subst (λ b. j.number < b) (sym n) q.2),
         )
 
-agrees_said : (ls : List Lexeme) (l m : Laid) → Agrees m l → OpenSays ls l → OpenSays ls m
+pub agrees_said : (ls : List Lexeme) (l m : Laid) → Agrees m l → OpenSays ls l → OpenSays ls m
 agrees_said ls l m a s = said_as ls l m (ap (λ (l : List OpenColumn). map (λ (x : OpenColumn). x.column) l) a.columns) a.number (subst (λ key. SameKey key l.key) (sym a.key) (same_self l.key)) s
 
 fresh_kept : (o : OptionsData) (m : Mark) (in_flow : Bool) (key : Option PossibleKey) → SameKey (fresh_key o in_flow m key) key
@@ -48,14 +48,14 @@ fresh_kept o m in_flow (Some k) = on (is_stale o in_flow m k)
     on true = tt
     on false = (k, refl, refl, refl)
 
-fresh_said : (o : OptionsData) (ls : List Lexeme) (s : ReaderState) → OpenSays ls s.laid → OpenSays ls (freshened o s).laid
+pub fresh_said : (o : OptionsData) (ls : List Lexeme) (s : ReaderState) → OpenSays ls s.laid → OpenSays ls (freshened o s).laid
 fresh_said o ls s m = said_as ls s.laid (freshened o s).laid refl refl (fresh_kept o (mark_of s.here) (is_in_flow s.laid) s.laid.key) m
 
 pub latest_noted : (x : Lexeme) (note : Option CommentRead) (ls : List Lexeme) → latest (OfLexeme x ∷ note_items note) ls ≡ x ∷ ls
 latest_noted x None ls = refl
 latest_noted x (Some c) ls = refl
 
-reads_said : (o : OptionsData) (ls : List Lexeme) {s after : ReaderState} {items : List Item} → Reads o s items after → OpenSays ls s.laid → OpenSays (latest items ls) after.laid
+pub reads_said : (o : OptionsData) (ls : List Lexeme) {s after : ReaderState} {items : List Item} → Reads o s items after → OpenSays ls s.laid → OpenSays (latest items ls) after.laid
 reads_said o ls {s = s} (of_comment at g k) m = fresh_said o ls at (agrees_said ls s.laid at.laid (gap_agrees g) m)
 reads_said o ls {s = s} (of_lexeme {items = items} at behind sort comes given keys) m =
     let f = freshened o at in

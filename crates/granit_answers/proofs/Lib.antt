@@ -1,0 +1,5 @@
+pub mod Enclosing
+pub mod OrderSteps
+pub mod BracketsPassed
+pub mod BracketsKept
+pub mod Answered
