@@ -2,7 +2,7 @@
 use Rattle.std.proofs.Common.{◌≡◌, ℕ, Bool, true, false, List, [], ◌∷◌, ◌++◌, map, Option, Some, None, Result, Ok, Err, ◌⊎◌, inl, inr, refl, sym, ap, ap₂, ◌∙◌, subst}
 use Rattle.granit_error.specs.OptionsData.{OptionsData}
 use Rattle.granit_agreement.specs.Running.{FairRun, GivesAll}
-use Rattle.granit_agreement.specs.View.{Flagged, item_of, seen, terminal_of}
+use Rattle.granit_agreement.specs.View.{Flagged, item_of, terminal_seen, terminal_of}
 use Rattle.granit_agreement.proofs.Parsed.{parsed_events, parsed_faults, readings_parsed}
 use Rattle.granit_grammar.specs.EventMachine.{IsFresh}
 use Rattle.granit_language.specs.GrammarFault.{GrammarFault, fault_of}
@@ -80,25 +80,25 @@ none_behind (g ∷ front) f rest s bs due may e p =
     let x = terminal_of g.1 s g.0 in
     none_behind front f rest (next_scope x.kind s) (open_behind x.kind bs) (due_behind bs x.kind x.at due) (may_follow x.kind) e p.2
 
-map_joined : (xs ys : List Flagged) → map seen (xs ++ ys) ≡ map seen xs ++ map seen ys
+map_joined : (xs ys : List Flagged) → map terminal_seen (xs ++ ys) ≡ map terminal_seen xs ++ map terminal_seen ys
 map_joined [] ys = refl
-map_joined (x ∷ xs) ys = ap (λ (l : List Terminal). seen x ∷ l) (map_joined xs ys)
+map_joined (x ∷ xs) ys = ap (λ (l : List Terminal). terminal_seen x ∷ l) (map_joined xs ys)
 
-seen_end : (f : Flagged) → f.0.kind ≡ StreamEnd → seen f ≡ terminal TheEnd (seen f).at
-seen_end f e = ap (λ kind. terminal (Rattle.granit_agreement.specs.View.terminal_kind kind f.0.key) (seen f).at) e
+seen_end : (f : Flagged) → f.0.kind ≡ StreamEnd → terminal_seen f ≡ terminal TheEnd (terminal_seen f).at
+seen_end f e = ap (λ kind. terminal (Rattle.granit_agreement.specs.View.terminal_kind kind f.0.key) (terminal_seen f).at) e
 
 record ToEnd (fs : List Flagged) : Type 0 where
   before : List Terminal
   at : At
-  are : map seen fs ≡ before ++ (terminal TheEnd at ∷ [])
+  are : map terminal_seen fs ≡ before ++ (terminal TheEnd at ∷ [])
 
 to_end : (fs : List Flagged) → HasEnd fs → OrderedFrom fs no_scope [] None false → ToEnd fs
 to_end fs h p =
     let none = none_behind h.front h.end h.rest no_scope [] None false h.ends (subst (λ (fs : List Flagged). OrderedFrom fs no_scope [] None false) h.is p) in
     record {
-      before = map seen h.front;
-      at = (seen h.end).at;
-      are = ap (λ (fs : List Flagged). map seen fs) h.is ∙ map_joined h.front (h.end ∷ h.rest) ∙ ap₂ (λ (y : Terminal) (ys : List Flagged). map seen h.front ++ (y ∷ map seen ys)) (seen_end h.end h.ends) none;
+      before = map terminal_seen h.front;
+      at = (terminal_seen h.end).at;
+      are = ap (λ (fs : List Flagged). map terminal_seen fs) h.is ∙ map_joined h.front (h.end ∷ h.rest) ∙ ap₂ (λ (y : Terminal) (ys : List Flagged). map terminal_seen h.front ++ (y ∷ map terminal_seen ys)) (seen_end h.end h.ends) none;
     }
 
 -- ---- the answer

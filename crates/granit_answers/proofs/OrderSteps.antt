@@ -10,7 +10,7 @@ use Rattle.granit_grammar.specs.EventMachine.{Key, Asking, AskDone, Done, Value,
 use Rattle.granit_language.specs.Choice.{choose}
 use Rattle.granit_language.specs.GrammarFault.{GrammarFault, ExpectedBlockMappingKey, ExpectedBlockSequenceEntry}
 use Rattle.granit_language.specs.Node.{TreeProperties, NoProperties, One, Two}
-use Rattle.granit_language.specs.Room.{BlockIn, FlowIn, BehindKey, ItemIn, Inside, behind_property, differ, continues_node, sequence_ends, ask_over, right_fits, loose_fits, part_fits, opens, room_behind, indicates}
+use Rattle.granit_language.specs.Room.{BlockIn, FlowIn, BehindKey, ItemIn, Inside, behind_property, differ, continues_node, sequence_over, ask_over, right_fits, loose_fits, part_fits, opens, room_behind, indicates}
 use Rattle.granit_language.specs.Scope.{Scope, no_scope}
 use Rattle.granit_language.specs.Scoping.{next_scope}
 use Rattle.granit_language.specs.Terminal.{PartKind, Alias, Property, Scalar, Open, TerminalKind, Directive, DocumentStart, DocumentEnd, TheEnd, Dash, Question, Comma, Colon, Close, Part, At, Terminal, terminal, edge, entry_in, stands_left, is_comma_kind, closes_kind, text_start}
@@ -37,7 +37,7 @@ module _ (x : Terminal) (bs : List Bracket) (due : Option ℕ) (may : Bool) wher
   To y = EndSuits bs due may y
 
   sequence_to : (loose : Bool) (c : ℕ) (fs : List OpenFrame) (on : Ending) → To on → Suits bs due may (InFrames (SequenceFrame loose c None ∷ fs)) → To (past_sequence x loose c fs on)
-  sequence_to loose c fs on p q = either_suits bs due may (sequence_ends loose c x) (with_event (pointed SequenceEnds x.at.start) on) (ending (InFrames (SequenceFrame loose c None ∷ fs)) []) (event_suits bs due may (pointed SequenceEnds x.at.start) on p) q
+  sequence_to loose c fs on p q = either_suits bs due may (sequence_over loose c x) (with_event (pointed SequenceEnds x.at.start) on) (ending (InFrames (SequenceFrame loose c None ∷ fs)) []) (event_suits bs due may (pointed SequenceEnds x.at.start) on p) q
 
   mapping_to : (c : ℕ) (fs : List OpenFrame) (on : Ending) → To on → Suits bs due may (InFrames (MappingFrame c Done ∷ fs)) → To (past_mapping x c fs on)
   mapping_to c fs on p q = either_suits bs due may (stands_left x c) (with_event (pointed MappingEnds x.at.start) on) (ending (InFrames (MappingFrame c Done ∷ fs)) []) (event_suits bs due may (pointed MappingEnds x.at.start) on p) q

@@ -1,7 +1,7 @@
 -- The lexemes of a text with their flags, and what an answer is to the readings of them.
 use Rattle.std.specs.Prelude.{◌≡◌, ℕ, Bool, List, [], ◌∷◌, ◌++◌, map, None, Ok}
 use Rattle.granit_error.specs.OptionsData.{OptionsData}
-use Rattle.granit_agreement.specs.View.{Flagged, seen}
+use Rattle.granit_agreement.specs.View.{Flagged, terminal_seen}
 use Rattle.granit_language.specs.GrammarFault.{GrammarFault, fault_of}
 use Rattle.granit_language.specs.Reached.{Reached}
 use Rattle.granit_language.specs.Scope.{no_scope}
@@ -32,7 +32,7 @@ read_lexemes items = lexemes_flagged (flagged items)
 
 -- the lexemes of items as the grammar sees them
 abbrev pub terminals_of : List Item → List Terminal
-terminals_of items = map seen (read_lexemes items)
+terminals_of items = map terminal_seen (read_lexemes items)
 
 -- what stands before the `:` of each simple key of a text keeps to it
 abbrev pub KeysInOrder : OptionsData → List ℕ → Type 0
@@ -58,5 +58,5 @@ pub record FrontFault (o : OptionsData) (items : List Item) (f : Fault) : Type 0
   pub is : read_lexemes items ≡ front ++ more
   pub kind : GrammarFault
   pub at : Terminal
-  pub cause : WholeFault o (map seen front) kind at
+  pub cause : WholeFault o (map terminal_seen front) kind at
   pub named : f ≡ fault_of kind at
