@@ -156,14 +156,14 @@ module _ (s : Scope) (x : Lexeme) (n : ℕ) (number : x.number ≡ n) (old new :
   gone : {A : Type 0} (m : ℕ) → new ≡ None → key_number new ≡ Some m → A
   gone m e f = let g = ap key_number e in absurd cc
 
-  abbrev pub Ends : LexemeKind → Option KeyStart → Type 0
-  Ends kind key = EntryOf kind key x.start.place.column [] x.start.place.column ⊎ (is_outer_kind kind ≡ true) → new ≡ None
+  abbrev pub EntryEnds : LexemeKind → Option KeyStart → Type 0
+  EntryEnds kind key = EntryOf kind key x.start.place.column [] x.start.place.column ⊎ (is_outer_kind kind ≡ true) → new ≡ None
 
   unflagged : (flag : Bool) (m : ℕ) → (flag ≡ true → ◌≡◌ {A = Option ℕ} (Some m) None) → flag ≡ false
   unflagged true m p = absurd (let e = p refl in cc)
   unflagged false m p = refl
 
-  pub begins_on : (kind : LexemeKind) (key : Option KeyStart) (flag : Bool) (m : ℕ) (ks : Held) → (flag ≡ true → ◌≡◌ {A = Option ℕ} (Some m) None) → AfterSays kind key flag (Some m ∷ ks) → Ends kind key → begins_kind (terminal_kind kind key) flag ≡ false
+  pub begins_on : (kind : LexemeKind) (key : Option KeyStart) (flag : Bool) (m : ℕ) (ks : Held) → (flag ≡ true → ◌≡◌ {A = Option ℕ} (Some m) None) → AfterSays kind key flag (Some m ∷ ks) → EntryEnds kind key → begins_kind (terminal_kind kind key) flag ≡ false
   begins_on (Directive d) key flag m ks p a e = refl
   begins_on DocumentStart key flag m ks p a e = refl
   begins_on DocumentEnd key flag m ks p a e = refl
@@ -183,7 +183,7 @@ module _ (s : Scope) (x : Lexeme) (n : ℕ) (number : x.number ≡ n) (old new :
   beyond : (c : ℕ) → nat_lt x.start.place.column c ≡ false → nat_lt (suc x.start.place.column) (suc c) ≡ false
   beyond c e = grind (arith, nat_tests, e)
 
-  pub stands_on : (kind : LexemeKind) (key : Option KeyStart) (flag : Bool) (m c : ℕ) (ks : Held) → AfterSays kind key flag (Some m ∷ ks) → Ends kind key → nat_lt x.start.place.column c ≡ false → stands_left (Rattle.granit_language.specs.Terminal.terminal (terminal_kind kind key) (at_of flag s x)) (suc c) ≡ false
+  pub stands_on : (kind : LexemeKind) (key : Option KeyStart) (flag : Bool) (m c : ℕ) (ks : Held) → AfterSays kind key flag (Some m ∷ ks) → EntryEnds kind key → nat_lt x.start.place.column c ≡ false → stands_left (Rattle.granit_language.specs.Terminal.terminal (terminal_kind kind key) (at_of flag s x)) (suc c) ≡ false
   stands_on (Directive d) key flag m c ks a e r = gone m (e (inr refl)) (a m refl)
   stands_on DocumentStart key flag m c ks a e r = gone m (e (inr refl)) (a m refl)
   stands_on DocumentEnd key flag m c ks a e r = gone m (e (inr refl)) (a m refl)
