@@ -24,10 +24,11 @@ use Rattle.granit_machine.specs.Lexing.{FlaggedItem, Flagging, is_nearest, flag_
 use Rattle.granit_machine.specs.Machine.{asked_items, feed_all, is_settled, front_if, settled, answered, run}
 use Rattle.granit_machine.specs.Reader.{LexState, is_end_kind, is_end}
 use Rattle.granit_reading.proofs.ReadingLaw.{lexed, lex_answers}
-use Rattle.granit_answers.specs.Answers.{FrontFault, lexemes_flagged, read_lexemes, terminals_of, KeysInOrder, AnswersReading}
+use Rattle.granit_answers.specs.Answers.{FrontFault, lexemes_flagged, read_lexemes, terminals_of, AnswersReading}
 use Rattle.granit_answers.specs.Order.{EndsThere, OrderedFrom, open_behind, due_behind, may_follow}
 use Rattle.granit_answers.proofs.OrderSteps.{ordered_fair, make_order}
 use Rattle.granit_answers.proofs.BracketsKept.{brackets_kept}
+use Rattle.granit_answers.proofs.KeysKept.{keys_kept}
 
 -- ---- the items that the parser is fed with
 
@@ -116,16 +117,16 @@ module _ (o : OptionsData) (x : List ℕ) where
       ∙ ap₂ (λ v fault. answered o (mark_of (start_of x)) (asked_items v (flagged items)) t.reader.laid fault) off f
       ∙ ap (λ (is : List FlaggedItem). Shown (feed_all o is (parser_start (mark_of (start_of x))))) (asked_are (flagged items))
 
-  in_order : (items : List Item) (t : LexState) → KeysInOrder o x → lex o (start_of x) ≡ Ok (items, t) → OrderedFrom (read_lexemes items) no_scope [] None false
-  in_order items t keys e = make_order (read_lexemes items) no_scope [] None false (brackets_kept o x items t.reader (lexed o (start_of x) items t e).reached) (keys items t e)
+  in_order : (items : List Item) (t : LexState) → lex o (start_of x) ≡ Ok (items, t) → OrderedFrom (read_lexemes items) no_scope [] None false
+  in_order items t e = make_order (read_lexemes items) no_scope [] None false (brackets_kept o x items t.reader (lexed o (start_of x) items t e).reached) (keys_kept o x items t.reader (lexed o (start_of x) items t e).reached)
 
-  fair : (items : List Item) (t : LexState) → KeysInOrder o x → lex o (start_of x) ≡ Ok (items, t) → FairRun (read_lexemes items) no_scope IsFresh
-  fair items t ordered e = ordered_fair (read_lexemes items) (in_order items t ordered e)
+  fair : (items : List Item) (t : LexState) → lex o (start_of x) ≡ Ok (items, t) → FairRun (read_lexemes items) no_scope IsFresh
+  fair items t e = ordered_fair (read_lexemes items) (in_order items t e)
 
-  shape : (items : List Item) (t : LexState) → KeysInOrder o x → lex o (start_of x) ≡ Ok (items, t) → t.fault ≡ None → ToEnd (read_lexemes items)
-  shape items t ordered e f =
+  shape : (items : List Item) (t : LexState) → lex o (start_of x) ≡ Ok (items, t) → t.fault ≡ None → ToEnd (read_lexemes items)
+  shape items t e f =
       let (front, last, is, ends) = subst (EndsBy o items t.reader) f (lexed o (start_of x) items t e).ends in
-      to_end (read_lexemes items) (subst (λ (is : List Item). HasEnd (read_lexemes is)) (sym is) (has_end front last ends)) (in_order items t ordered e)
+      to_end (read_lexemes items) (subst (λ (is : List Item). HasEnd (read_lexemes is)) (sym is) (has_end front last ends)) (in_order items t e)
 
   never_ok : (r : Result (List PlainEvent × ParserState) Fault) (f : Fault) (es : List PlainEvent) → ◌≡◌ {A = Result (List PlainEvent) Fault} (r >>= λ y. Err f) (Ok es) → ⊥
   never_ok (Ok y) f es e = cc
@@ -137,21 +138,21 @@ module _ (o : OptionsData) (x : List ℕ) where
       (sym (ap (λ r. r >>= λ y. answered o (mark_of (start_of x)) (asked_items o.emit_comments (flagged y.0)) y.1.reader.laid y.1.fault) e
       ∙ ap (λ fault. answered o (mark_of (start_of x)) (asked_items o.emit_comments (flagged items)) t.reader.laid fault) g) ∙ r)
 
-  fed_reads : (items : List Item) (t : LexState) (es : List PlainEvent) → KeysInOrder o x → lex o (start_of x) ≡ Ok (items, t) → t.fault ≡ None → (r : Result (List PlainEvent × ParserState) Fault) → Fed items ≡ r → Shown r ≡ Ok es → AnswersReading o x es
-  fed_reads items t es ordered e f (Ok (gs, p)) g r =
-      let y = shape items t ordered e f in
-      let (tree, reading, told) = parsed_events o (mark_of (start_of x)) (read_lexemes items) y.before y.at gs p (fair items t ordered e) y.are g in
+  fed_reads : (items : List Item) (t : LexState) (es : List PlainEvent) → lex o (start_of x) ≡ Ok (items, t) → t.fault ≡ None → (r : Result (List PlainEvent × ParserState) Fault) → Fed items ≡ r → Shown r ≡ Ok es → AnswersReading o x es
+  fed_reads items t es e f (Ok (gs, p)) g r =
+      let y = shape items t e f in
+      let (tree, reading, told) = parsed_events o (mark_of (start_of x)) (read_lexemes items) y.before y.at gs p (fair items t e) y.are g in
       let same : event_on StreamStart (mark_of (start_of x)) ∷ gs ≡ es = cc in
       record { items = items; state = t; are_read = e; to_end = f; stand = (lexed o (start_of x) items t e).reached; tree_events = tree; reading = reading; told = told ∙ same }
-  fed_reads items t es ordered e f (Err g) h r = absurd cc
+  fed_reads items t es e f (Err g) h r = absurd cc
 
-  fault_or : (items : List Item) (t : LexState) (es : List PlainEvent) → o.emit_comments ≡ false → KeysInOrder o x → run o x ≡ Ok es → lex o (start_of x) ≡ Ok (items, t) → (fault : Option Fault) → t.fault ≡ fault → AnswersReading o x es
-  fault_or items t es off ordered r e None f = fed_reads items t es ordered e f (Fed items) refl (sym (run_is items t off e f) ∙ r)
-  fault_or items t es off ordered r e (Some g) f = absurd (faulty items t g es e f r)
+  fault_or : (items : List Item) (t : LexState) (es : List PlainEvent) → o.emit_comments ≡ false → run o x ≡ Ok es → lex o (start_of x) ≡ Ok (items, t) → (fault : Option Fault) → t.fault ≡ fault → AnswersReading o x es
+  fault_or items t es off r e None f = fed_reads items t es e f (Fed items) refl (sym (run_is items t off e f) ∙ r)
+  fault_or items t es off r e (Some g) f = absurd (faulty items t g es e f r)
 
-  read_or : (es : List PlainEvent) → o.emit_comments ≡ false → KeysInOrder o x → run o x ≡ Ok es → (r : Result (List Item × LexState) Fault) → lex o (start_of x) ≡ r → AnswersReading o x es
-  read_or es off ordered r (Ok (items, t)) e = fault_or items t es off ordered r e t.fault refl
-  read_or es off ordered r (Err f) e = absurd (lex_answers o (start_of x) f e)
+  read_or : (es : List PlainEvent) → o.emit_comments ≡ false → run o x ≡ Ok es → (r : Result (List Item × LexState) Fault) → lex o (start_of x) ≡ r → AnswersReading o x es
+  read_or es off r (Ok (items, t)) e = fault_or items t es off r e t.fault refl
+  read_or es off r (Err f) e = absurd (lex_answers o (start_of x) f e)
 
   given_all : (es : List TreeEvent) (r : Result (List PlainEvent × ParserState) Fault) → GivesAll o es r → Shown r ≡ Ok (events_told o es)
   given_all es (Ok y) p = ap (λ gs. Ok gs) (sym p)
@@ -161,16 +162,16 @@ module _ (o : OptionsData) (x : List ℕ) where
   shown_fault (Ok y) f e = absurd cc
   shown_fault (Err g) f e = let same : g ≡ f = cc in ap (λ f. Err f) same
 
-pub answer_reads : (o : OptionsData) (x : List ℕ) (es : List PlainEvent) → o.emit_comments ≡ false → KeysInOrder o x → run o x ≡ Ok es → AnswersReading o x es
-answer_reads o x es off ordered r = read_or o x es off ordered r (lex o (start_of x)) refl
+pub answer_reads : (o : OptionsData) (x : List ℕ) (es : List PlainEvent) → o.emit_comments ≡ false → run o x ≡ Ok es → AnswersReading o x es
+answer_reads o x es off r = read_or o x es off r (lex o (start_of x)) refl
 
-pub reading_answered : (o : OptionsData) (x : List ℕ) (items : List Item) (t : LexState) (es : List TreeEvent) → o.emit_comments ≡ false → KeysInOrder o x → lex o (start_of x) ≡ Ok (items, t) → t.fault ≡ None → WholeReading o (terminals_of items) es → run o x ≡ Ok (events_told o es)
-reading_answered o x items t es off ordered e f r =
-    run_is o x items t off e f ∙ given_all o x es (feed_all o (map item_of (read_lexemes items)) (parser_start (mark_of (start_of x)))) (readings_parsed o (mark_of (start_of x)) (read_lexemes items) es (fair o x items t ordered e) r)
+pub reading_answered : (o : OptionsData) (x : List ℕ) (items : List Item) (t : LexState) (es : List TreeEvent) → o.emit_comments ≡ false → lex o (start_of x) ≡ Ok (items, t) → t.fault ≡ None → WholeReading o (terminals_of items) es → run o x ≡ Ok (events_told o es)
+reading_answered o x items t es off e f r =
+    run_is o x items t off e f ∙ given_all o x es (feed_all o (map item_of (read_lexemes items)) (parser_start (mark_of (start_of x)))) (readings_parsed o (mark_of (start_of x)) (read_lexemes items) es (fair o x items t e) r)
 
-pub fault_caused : (o : OptionsData) (x : List ℕ) (items : List Item) (t : LexState) (f : Fault) → o.emit_comments ≡ false → KeysInOrder o x → lex o (start_of x) ≡ Ok (items, t) → t.fault ≡ None → run o x ≡ Err f → (k : GrammarFault) × (y : Terminal) × WholeFault o (terminals_of items) k y × (f ≡ fault_of k y)
-fault_caused o x items t f off ordered e g r =
-    parsed_faults o (mark_of (start_of x)) (read_lexemes items) f (fair o x items t ordered e)
+pub fault_caused : (o : OptionsData) (x : List ℕ) (items : List Item) (t : LexState) (f : Fault) → o.emit_comments ≡ false → lex o (start_of x) ≡ Ok (items, t) → t.fault ≡ None → run o x ≡ Err f → (k : GrammarFault) × (y : Terminal) × WholeFault o (terminals_of items) k y × (f ≡ fault_of k y)
+fault_caused o x items t f off e g r =
+    parsed_faults o (mark_of (start_of x)) (read_lexemes items) f (fair o x items t e)
     (shown_fault o x (feed_all o (map item_of (read_lexemes items)) (parser_start (mark_of (start_of x)))) f (sym (run_is o x items t off e g) ∙ r))
 
 -- ---- where reading fails, the parser has what stands before the oldest possible key
@@ -218,8 +219,8 @@ late_fault : (r : Result (List PlainEvent × ParserState) Fault) (f g : Fault) �
 late_fault (Ok y) f g e = let same : f ≡ g = cc in inl (sym same)
 late_fault (Err h) f g e = let same : h ≡ g = cc in inr (ap (λ f. Err f) same)
 
-pub early_caused : (o : OptionsData) (x : List ℕ) (items : List Item) (t : LexState) (f g : Fault) → o.emit_comments ≡ false → KeysInOrder o x → lex o (start_of x) ≡ Ok (items, t) → t.fault ≡ Some f → run o x ≡ Err g → (g ≡ f) ⊎ FrontFault o items g
-early_caused o x items t f g off keys e fault r =
+pub early_caused : (o : OptionsData) (x : List ℕ) (items : List Item) (t : LexState) (f g : Fault) → o.emit_comments ≡ false → lex o (start_of x) ≡ Ok (items, t) → t.fault ≡ Some f → run o x ≡ Err g → (g ≡ f) ⊎ FrontFault o items g
+early_caused o x items t f g off e fault r =
     let fs = read_lexemes items in
     let front = settled_front t.reader.laid fs in
     let more = settled_more t.reader.laid fs in
@@ -231,6 +232,6 @@ early_caused o x items t f g off keys e fault r =
     elim (late_fault (feed_all o (map item_of front) (parser_start (mark_of (start_of x)))) f g (sym fed ∙ r)) [
       | inl same ↦ inl same
       | inr faults ↦ inr (
-          let c = parsed_faults o (mark_of (start_of x)) front g (ordered_fair front (settled_order t.reader.laid fs no_scope [] None false (in_order o x items t keys e))) faults in
+          let c = parsed_faults o (mark_of (start_of x)) front g (ordered_fair front (settled_order t.reader.laid fs no_scope [] None false (in_order o x items t e))) faults in
           record { front = front; more = more.0; is = more.1; kind = c.0; at = c.1; cause = c.2; named = c.3 })
     ]

@@ -43,7 +43,7 @@ fits_from a b y w k e f = record {
   ordered = λ s may p. subst (λ bs. BracketsFrom (lexemes_flagged y.0) s bs may) k (f.ordered s may (λ q. p (ap (λ (bs : List Bracket). is_nonempty bs) (sym k) ∙ q) ∙ sym e));
 }
 
-fresh_kinds : (o : OptionsData) (m : Mark) (bs : List OpenBracket) → kinds_in (map (fresh_bracket o m) bs) ≡ kinds_in bs
+pub fresh_kinds : (o : OptionsData) (m : Mark) (bs : List OpenBracket) → kinds_in (map (fresh_bracket o m) bs) ≡ kinds_in bs
 fresh_kinds o m [] = refl
 fresh_kinds o m (b ∷ bs) = ap (λ (ks : List Bracket). b.bracket ∷ ks) (fresh_kinds o m bs)
 
@@ -55,7 +55,7 @@ comment_fits l c y f = record { ks = f.ks; chosen = f.chosen; ordered = f.ordere
 
 -- ---- one lexeme
 
-named : (key : Option KeyStart) (ns : List ℕ) → and_key key ns ≡ and_number (start_number key) ns
+pub named : (key : Option KeyStart) (ns : List ℕ) → and_key key ns ≡ and_number (start_number key) ns
 named None ns = refl
 named (Some k) ns = refl
 
@@ -88,7 +88,7 @@ module _ (l after : Laid) (x : Lexeme) (flow : x.in_flow ≡ is_in_flow l) (numb
 
 -- ---- one read
 
-closed_same : (sort : LexemeSort) (h : Here) (l : Laid) → (kinds_in (closed_for sort h l).brackets ≡ kinds_in l.brackets) × (is_opener (closed_for sort h l).last ≡ is_opener l.last)
+pub closed_same : (sort : LexemeSort) (h : Here) (l : Laid) → (kinds_in (closed_for sort h l).brackets ≡ kinds_in l.brackets) × (is_opener (closed_for sort h l).last ≡ is_opener l.last)
 closed_same TextEnd h l = (refl, refl)
 closed_same Unprintable h l = (refl, refl)
 closed_same StartMark h l = (refl, refl)
@@ -96,7 +96,7 @@ closed_same EndMark h l = (refl, refl)
 closed_same DirectiveSign h l = (refl, refl)
 closed_same (Placed sort) h l = (refl, refl)
 
-run_flow : (sort : LexemeSort) (h : Here) (l : Laid) → is_in_flow (Rattle.granit_language.specs.Before.run_for sort h l) ≡ is_in_flow l
+pub run_flow : (sort : LexemeSort) (h : Here) (l : Laid) → is_in_flow (Rattle.granit_language.specs.Before.run_for sort h l) ≡ is_in_flow l
 run_flow TextEnd h l = refl
 run_flow Unprintable h l = refl
 run_flow StartMark h l = refl

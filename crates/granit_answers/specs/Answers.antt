@@ -4,7 +4,6 @@ use Rattle.granit_error.specs.OptionsData.{OptionsData}
 use Rattle.granit_agreement.specs.View.{Flagged, terminal_seen}
 use Rattle.granit_language.specs.GrammarFault.{GrammarFault, fault_of}
 use Rattle.granit_language.specs.Reached.{Reached}
-use Rattle.granit_language.specs.Scope.{no_scope}
 use Rattle.granit_language.specs.Telling.{events_told}
 use Rattle.granit_language.specs.Terminal.{Terminal}
 use Rattle.granit_language.specs.TreeEvents.{TreeEvent}
@@ -16,7 +15,6 @@ use Rattle.granit_lexemes.specs.PlainEvent.{PlainEvent}
 use Rattle.granit_machine.specs.Lexing.{FlaggedItem, flagged, lex}
 use Rattle.granit_machine.specs.Reader.{LexState}
 use Rattle.granit_machine.specs.ReaderState.{reader_start}
-use Rattle.granit_answers.specs.Order.{KeysFrom}
 
 abbrev pub with_lexeme : Item → Bool → List Flagged → List Flagged
 with_lexeme (OfLexeme l) flag fs = (l, flag) ∷ fs
@@ -33,12 +31,6 @@ read_lexemes items = lexemes_flagged (flagged items)
 -- the lexemes of items as the grammar sees them
 abbrev pub terminals_of : List Item → List Terminal
 terminals_of items = map terminal_seen (read_lexemes items)
-
--- what stands before the `:` of each simple key of a text keeps to it
-abbrev pub KeysInOrder : OptionsData → List ℕ → Type 0
-KeysInOrder o x =
-    (items : List Item) (t : LexState) → lex o (start_of x) ≡ Ok (items, t) →
-    KeysFrom (read_lexemes items) no_scope [] None
 
 -- these events are those of the one reading of the text's lexemes, which are read up to its end
 pub record AnswersReading (o : OptionsData) (x : List ℕ) (es : List PlainEvent) : Type 0 where

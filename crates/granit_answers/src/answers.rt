@@ -13,14 +13,14 @@ ghost use Rattle.granit_lexemes.specs.PlainEvent.{PlainEvent};
 ghost use Rattle.granit_machine.specs.Lexing.{lex};
 ghost use Rattle.granit_machine.specs.Machine.{run};
 ghost use Rattle.granit_machine.specs.Reader.{LexState};
-ghost use Rattle.granit_answers.specs.Answers.{AnswersReading, FrontFault, KeysInOrder, terminals_of};
+ghost use Rattle.granit_answers.specs.Answers.{AnswersReading, FrontFault, terminals_of};
 
-/// Where what stands before the `:` of each simple key keeps to it, what is answered is the one reading of the text's
-/// lexemes, a reading of lexemes that are read up to the end is answered, and a fault of the parser has its
-/// cause; where reading fails, the fault is that of reading, or has its cause in the lexemes before.
-pub fn answers_in_order_are_readings()
-    ensures answers { (o : OptionsData) (x : List ℕ) (es : List PlainEvent) → o.emit_comments ≡ false → KeysInOrder o x → run o x ≡ Ok es → AnswersReading o x es }
-    ensures readings { (o : OptionsData) (x : List ℕ) (items : List Item) (t : LexState) (es : List TreeEvent) → o.emit_comments ≡ false → KeysInOrder o x → lex o (start_of x) ≡ Ok (items, t) → t.fault ≡ None → WholeReading o (terminals_of items) es → run o x ≡ Ok (events_told o es) }
-    ensures faults { (o : OptionsData) (x : List ℕ) (items : List Item) (t : LexState) (f : Fault) → o.emit_comments ≡ false → KeysInOrder o x → lex o (start_of x) ≡ Ok (items, t) → t.fault ≡ None → run o x ≡ Err f → (k : GrammarFault) × (y : Terminal) × WholeFault o (terminals_of items) k y × (f ≡ fault_of k y) }
-    ensures early { (o : OptionsData) (x : List ℕ) (items : List Item) (t : LexState) (f g : Fault) → o.emit_comments ≡ false → KeysInOrder o x → lex o (start_of x) ≡ Ok (items, t) → t.fault ≡ Some f → run o x ≡ Err g → (g ≡ f) ⊎ FrontFault o items g }
+/// What is answered is the one reading of the text's lexemes, a reading of lexemes that are read up to the end is
+/// answered, and a fault of the parser has its cause; where reading fails, the fault is that of reading, or has its
+/// cause in the lexemes before.
+pub fn every_answer_is_the_reading_of_its_text()
+    ensures answers { (o : OptionsData) (x : List ℕ) (es : List PlainEvent) → o.emit_comments ≡ false → run o x ≡ Ok es → AnswersReading o x es }
+    ensures readings { (o : OptionsData) (x : List ℕ) (items : List Item) (t : LexState) (es : List TreeEvent) → o.emit_comments ≡ false → lex o (start_of x) ≡ Ok (items, t) → t.fault ≡ None → WholeReading o (terminals_of items) es → run o x ≡ Ok (events_told o es) }
+    ensures faults { (o : OptionsData) (x : List ℕ) (items : List Item) (t : LexState) (f : Fault) → o.emit_comments ≡ false → lex o (start_of x) ≡ Ok (items, t) → t.fault ≡ None → run o x ≡ Err f → (k : GrammarFault) × (y : Terminal) × WholeFault o (terminals_of items) k y × (f ≡ fault_of k y) }
+    ensures early { (o : OptionsData) (x : List ℕ) (items : List Item) (t : LexState) (f g : Fault) → o.emit_comments ≡ false → lex o (start_of x) ≡ Ok (items, t) → t.fault ≡ Some f → run o x ≡ Err g → (g ≡ f) ⊎ FrontFault o items g }
 {}

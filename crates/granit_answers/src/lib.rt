@@ -5,7 +5,8 @@
 mod answers;
 mod order;
 
-pub use answers::answers_in_order_are_readings;
+pub use answers::every_answer_is_the_reading_of_its_text;
 pub use order::{
     brackets_and_keys_make_an_order, lists_in_order_are_fair, the_brackets_of_a_text_are_in_order,
+    the_keys_of_a_text_are_in_order,
 };

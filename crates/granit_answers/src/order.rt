@@ -28,3 +28,9 @@ pub fn brackets_and_keys_make_an_order()
 pub fn the_brackets_of_a_text_are_in_order()
     ensures { (o : OptionsData) (x : List ℕ) (items : List Item) (t : ReaderState) → Reached o (reader_start (start_of x)) items t → BracketsFrom (read_lexemes items) no_scope [] false }
 {}
+
+/// From the begin of a simple key outside flow up to its `:`, no lexeme outside brackets stands left of it or begins
+/// anything else.
+pub fn the_keys_of_a_text_are_in_order()
+    ensures { (o : OptionsData) (x : List ℕ) (items : List Item) (t : ReaderState) → Reached o (reader_start (start_of x)) items t → KeysFrom (read_lexemes items) no_scope [] None }
+{}

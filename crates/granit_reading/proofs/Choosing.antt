@@ -143,6 +143,8 @@ pub record Stepped (role : Role) (new : Bool) (n : ℕ) (hs ks : Held) (ns : Lis
   pub flags : is_nearest n ns ≡ flag
   pub begun : flag ≡ true → new ≡ true
   pub before : Held
+  -- no key is due where one begins
+  pub alone : flag ≡ true → top_of before ≡ None
   pub chosen : Chosen hs before (pending flag role ns)
   pub fits : role_fits role before ≡ true
   pub next : keys_behind role flag n before ≡ ks
@@ -155,23 +157,23 @@ nearest n k m e f = let g : n ≡ k = cc in grind (arith, nat_tests, g, f)
 
 begins_new : (n : ℕ) (h : Option ℕ) (hs ks : Held) (ns : List ℕ) → Below n (h ∷ hs) → Chosen (Some n ∷ hs) ks ns → Stepped OfNode true n (h ∷ hs) ks ns
 begins_new n h hs [] ns b q = absurd q
-begins_new n h hs (None ∷ ks) ns b q = record { flag = false; flags = not_nearest n hs ks ns (below_others n (h ∷ hs) b) q; begun = λ e. refl; before = None ∷ ks; chosen = q; fits = refl; next = refl }
+begins_new n h hs (None ∷ ks) ns b q = record { flag = false; flags = not_nearest n hs ks ns (below_others n (h ∷ hs) b) q; begun = λ e. refl; before = None ∷ ks; alone = λ e. refl; chosen = q; fits = refl; next = refl }
 begins_new n h hs (Some k ∷ ks) [] b q = absurd q
 begins_new n h hs (Some k ∷ ks) (m ∷ ns) b q =
-    record { flag = true; flags = nearest n k m q.0 q.1; begun = λ e. refl; before = None ∷ ks; chosen = q.2; fits = refl; next = ap (λ (x : Option ℕ). x ∷ ks) q.0 }
+    record { flag = true; flags = nearest n k m q.0 q.1; begun = λ e. refl; before = None ∷ ks; alone = λ e. refl; chosen = q.2; fits = refl; next = ap (λ (x : Option ℕ). x ∷ ks) q.0 }
 
 opens_new : (n : ℕ) (h : Option ℕ) (hs ks : Held) (ns : List ℕ) → Below n (h ∷ hs) → Chosen (None ∷ Some n ∷ hs) ks ns → Stepped Opens true n (h ∷ hs) ks ns
 opens_new n h hs [] ns b q = absurd q
 opens_new n h hs (Some k ∷ ks) [] b q = absurd q
 opens_new n h hs (Some k ∷ ks) (m ∷ ns) b q = absurd (let e = q.0 in cc)
-opens_new n h hs (None ∷ ks) ns b q = let s = begins_new n h hs ks ns b q in record { flag = s.flag; flags = s.flags; begun = s.begun; before = s.before; chosen = as_opens s.flag s.before s.chosen; fits = refl; next = ap (λ (l : Held). None ∷ l) s.next }
+opens_new n h hs (None ∷ ks) ns b q = let s = begins_new n h hs ks ns b q in record { flag = s.flag; flags = s.flags; begun = s.begun; before = s.before; alone = s.alone; chosen = as_opens s.flag s.before s.chosen; fits = refl; next = ap (λ (l : Held). None ∷ l) s.next }
   where
     as_opens : (flag : Bool) (before : Held) → Chosen (h ∷ hs) before (pending flag OfNode ns) → Chosen (h ∷ hs) before (pending flag Opens ns)
     as_opens true before p = p
     as_opens false before p = p
 
 kept : (role : Role) (new : Bool) (n : ℕ) (hs gs before ks : Held) (ns : List ℕ) → Below n gs → Chosen gs ks ns → Chosen hs before (pending false role ns) → role_fits role before ≡ true → keys_behind role false n before ≡ ks → Stepped role new n hs ks ns
-kept role new n hs gs before ks ns b q c f x = record { flag = false; flags = not_nearest n gs ks ns b q; begun = λ e. absurd cc; before = before; chosen = c; fits = f; next = x }
+kept role new n hs gs before ks ns b q c f x = record { flag = false; flags = not_nearest n gs ks ns b q; begun = λ e. absurd cc; before = before; alone = λ e. absurd cc; chosen = c; fits = f; next = x }
 
 opens_old : (n : ℕ) (hs ks : Held) (ns : List ℕ) → Below n hs → Chosen (None ∷ hs) ks ns → Stepped Opens false n hs ks ns
 opens_old n hs [] ns b q = absurd q

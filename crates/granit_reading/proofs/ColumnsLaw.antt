@@ -184,7 +184,7 @@ some_of : (bs : List OpenBracket) → is_nonempty bs ≡ true → (b : OpenBrack
 some_of [] e = absurd cc
 some_of (b ∷ bs) e = (b, bs, refl)
 
-closed_brackets : (sort : LexemeSort) (h : Here) (l : Laid) → (closed_for sort h l).brackets ≡ l.brackets
+pub closed_brackets : (sort : LexemeSort) (h : Here) (l : Laid) → (closed_for sort h l).brackets ≡ l.brackets
 closed_brackets TextEnd h l = refl
 closed_brackets StartMark h l = refl
 closed_brackets EndMark h l = refl
@@ -192,7 +192,7 @@ closed_brackets DirectiveSign h l = refl
 closed_brackets Unprintable h l = refl
 closed_brackets (Placed sort) h l = refl
 
-closed_key : (sort : LexemeSort) (h : Here) (l : Laid) → (closed_for sort h l).key ≡ l.key
+pub closed_key : (sort : LexemeSort) (h : Here) (l : Laid) → (closed_for sort h l).key ≡ l.key
 closed_key TextEnd h l = refl
 closed_key StartMark h l = refl
 closed_key EndMark h l = refl

@@ -40,7 +40,7 @@ said_as ls l m cs n k s = record {
 pub agrees_said : (ls : List Lexeme) (l m : Laid) → Agrees m l → OpenSays ls l → OpenSays ls m
 agrees_said ls l m a s = said_as ls l m (ap (λ (l : List OpenColumn). map (λ (x : OpenColumn). x.column) l) a.columns) a.number (subst (λ key. SameKey key l.key) (sym a.key) (same_self l.key)) s
 
-fresh_kept : (o : OptionsData) (m : Mark) (in_flow : Bool) (key : Option PossibleKey) → SameKey (fresh_key o in_flow m key) key
+pub fresh_kept : (o : OptionsData) (m : Mark) (in_flow : Bool) (key : Option PossibleKey) → SameKey (fresh_key o in_flow m key) key
 fresh_kept o m in_flow None = tt
 fresh_kept o m in_flow (Some k) = on (is_stale o in_flow m k)
   where

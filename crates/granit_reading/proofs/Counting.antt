@@ -1,5 +1,5 @@
 -- The place that the reader keeps is counted on the whole text.
-use Rattle.std.proofs.Common.{◌≡◌, ℕ, zero, suc, ◌+◌, ◌-◌, ◌<◌, ◌≤◌, ◌==◌, ◌&&◌, Bool, true, false, List, [], ◌∷◌, ◌++◌, length, take, drop, refl, sym, ap, ap₂, ◌∙◌, subst, arith, add-one, length-append, append_assoc, Some}
+use Rattle.std.proofs.Common.{◌≡◌, ℕ, zero, suc, ◌+◌, ◌-◌, ◌<◌, ◌≤◌, ◌==◌, ◌&&◌, Bool, true, false, List, [], ◌∷◌, ◌++◌, length, take, drop, refl, sym, ap, ap₂, ◌∙◌, subst, arith, add-one, length-append, append_assoc, Some, ◌⊎◌, inl, inr}
 use Rattle.std.specs.Prelude.{if◌then◌else◌, nat_le, nat_lt}
 use Rattle.std.specs.Option.{option_map}
 use Rattle.std.specs.Str.{encode_utf8_all}
@@ -239,6 +239,30 @@ pub record At (x : List ℕ) (h : Here) : Type 0 where
   pub here : CountedHere x marks index h
   pub stand : MarksStand x marks marks
 
+-- on a later line, or further on the same one
+abbrev pub Ahead : Place → Place → Type 0
+Ahead p q = (p.line < q.line) ⊎ ((p.line ≡ q.line) × (p.column ≤ q.column))
+
+pub ahead_self : (p : Place) → Ahead p p
+ahead_self p = inr (refl, omega arith)
+
+pub ahead_then : (p q r : Place) → Ahead p q → Ahead q r → Ahead p r
+ahead_then p q r (inl a) (inl b) = inl (omega (arith, a, b))
+ahead_then p q r (inl a) (inr b) = let e = b.0 in inl (omega (arith, a, e))
+ahead_then p q r (inr a) (inl b) = let e = a.0 in inl (omega (arith, b, e))
+ahead_then p q r (inr a) (inr b) = let c = a.1 in let d = b.1 in inr (a.0 ∙ b.0, omega (arith, c, d))
+
+place_ahead : (v : Bool) (p : Place) → Ahead p (place_by v p)
+place_ahead true p = inl (omega arith)
+place_ahead false p = inr (refl, omega arith)
+
+step_ahead : (c : ℕ) (t : List ℕ) (h : Here) → h.unread.text ≡ c ∷ t → Ahead h.place (step h).place
+step_ahead c t h e = subst (Ahead h.place) (sym (ap (λ (h : Here). h.place) (placed_at c t h e))) (place_ahead (ends_line h.unread.text) h.place)
+
+mark_ahead : (h : Here) → Ahead h.place (past_prefix_mark h).place
+unfolding past_prefix_mark
+mark_ahead h = inr (refl, omega arith)
+
 -- a place further on, with more marks
 pub record Further (x : List ℕ) (h : Here) (a : At x h) (g : Here) : Type 0 where
   pub place : At x g
@@ -246,16 +270,17 @@ pub record Further (x : List ℕ) (h : Here) (a : At x h) (g : Here) : Type 0 wh
   pub marks : place.marks ≡ more ++ a.marks
   pub beyond : AllFrom a.index more
   pub index : a.index ≤ place.index
+  pub ahead : Ahead h.place g.place
 
 abbrev pub MovesTo : List ℕ → Here → Here → Type 0
 MovesTo x h g = (a : At x h) → Further x h a g
 
 module _ (x : List ℕ) where
   pub stay : (h : Here) → MovesTo x h h
-  stay h a = record { place = a; more = []; marks = refl; beyond = tt; index = omega arith }
+  stay h a = record { place = a; more = []; marks = refl; beyond = tt; index = omega arith; ahead = ahead_self h.place }
 
   unfoldable pub further_then : {h g k : Here} (a : At x h) (b : Further x h a g) → Further x g b.place k → Further x h a k
-  further_then a b c =
+  further_then {h = h} {g = g} {k = k} a b c =
       let p = b.index in let q = c.index in
       record {
         place = c.place;
@@ -263,6 +288,7 @@ module _ (x : List ℕ) where
         marks = c.marks ∙ ap (λ (l : List ℕ). c.more ++ l) b.marks ∙ sym (append_assoc c.more b.more a.marks);
         beyond = from_joined a.index c.more b.more (from_less a.index b.place.index c.more p c.beyond) b.beyond;
         index = omega (arith, p, q);
+        ahead = ahead_then h.place g.place k.place b.ahead c.ahead;
       }
 
   pub move_then : {h g k : Here} → MovesTo x h g → MovesTo x g k → MovesTo x h k
@@ -273,7 +299,7 @@ module _ (x : List ℕ) where
 
   step_on : (h : Here) (t : List ℕ) → h.unread.text ≡ t → MovesTo x h (step h)
   step_on h [] e = move_as (at_end h e) (stay h)
-  step_on h (k ∷ t) e = λ a. record { place = record { marks = a.marks; index = suc a.index; here = stepped_on x a.marks a.index k t h e a.here; stand = a.stand }; more = []; marks = refl; beyond = tt; index = omega arith }
+  step_on h (k ∷ t) e = λ a. record { place = record { marks = a.marks; index = suc a.index; here = stepped_on x a.marks a.index k t h e a.here; stand = a.stand }; more = []; marks = refl; beyond = tt; index = omega arith; ahead = step_ahead k t h e }
 
   pub to_step : (h : Here) → MovesTo x h (step h)
   to_step h = step_on h h.unread.text refl
@@ -299,6 +325,7 @@ module _ (x : List ℕ) where
         marks = refl;
         beyond = tt;
         index = omega arith;
+        ahead = subst (Ahead h.place) p (ahead_self h.place);
       }
 
   -- over a byte-order mark in front of a document
@@ -322,6 +349,7 @@ module _ (x : List ℕ) where
         marks = refl;
         beyond = from;
         index = omega arith;
+        ahead = mark_ahead h;
       }
 
   pub to_gap : {may : Bool} {h after : Here} {cs : List ℕ} → GapTo may h cs after → MovesTo x h after

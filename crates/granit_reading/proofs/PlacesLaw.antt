@@ -32,7 +32,7 @@ use Rattle.granit_language.specs.Counting.{CountedMark, comment_places, tail_pla
 use Rattle.granit_language.specs.Reached.{Reads, of_comment, of_lexeme, Reached, stops, goes_on}
 use Rattle.granit_language.specs.Standing.{GapStands, in_front_of_comment, in_front_of_lexeme, QuestionTail, a_comment, no_comment, QuestionStands, quoted_lexeme_of, QuotedLexeme, Given}
 use Rattle.granit_language.specs.Stretch.{TailIf}
-use Rattle.granit_reading.proofs.Counting.{AllFrom, from_less, counted_more, At, Further, MovesTo, stay, further_then, move_then, move_as, to_step, to_steps, to_over, to_place, to_gap, start_at}
+use Rattle.granit_reading.proofs.Counting.{ahead_self, AllFrom, from_less, counted_more, At, Further, MovesTo, stay, further_then, move_then, move_as, to_step, to_steps, to_over, to_place, to_gap, start_at}
 
 -- places of indices up to one
 abbrev pub CountedTo : List ℕ → List ℕ → ℕ → Mark → Type 0
@@ -74,7 +74,7 @@ module _ (x : List ℕ) where
   passes_none f a = record { further = f a; places = tt }
 
   pass_here : (h : Here) → Passes h (mark_of h ∷ []) h
-  pass_here h a = record { further = record { place = a; more = []; marks = refl; beyond = tt; index = omega arith }; places = ((a.index, omega arith, a.here.mark), tt) }
+  pass_here h a = record { further = record { place = a; more = []; marks = refl; beyond = tt; index = omega arith; ahead = ahead_self h.place }; places = ((a.index, omega arith, a.here.mark), tt) }
 
   pass_then : {h g k : Here} {ps more : List Mark} → Passes h ps g → Passes g more k → Passes h (ps ++ more) k
   unfolding further_then

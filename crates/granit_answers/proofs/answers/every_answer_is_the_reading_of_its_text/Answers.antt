@@ -1,5 +1,5 @@
 use Rattle.granit_answers.proofs.Answered.{answer_reads, reading_answered, fault_caused, early_caused}
-use Rattle.granit_answers.proofs.answers.answers_in_order_are_readings.Goals as goal
+use Rattle.granit_answers.proofs.answers.every_answer_is_the_reading_of_its_text.Goals as goal
 
 pub returns-clause-answers : goal.returns-clause-answers
 returns-clause-answers c = answer_reads
