@@ -36,4 +36,9 @@ memory_ran_out words source sink = record {
 }
 
 pub ran_out : (all : Option (List (List ℕ))) (source sink : End) → RanOn all source source sink sink status.NoMemory
-ran_out all source sink = record { words = told_words all; are_the_words = are_told all; ran = memory_ran_out (told_words all) source sink }
+ran_out all source sink = record {
+  words = told_words all;
+  are_the_words = are_told all;
+  ran = memory_ran_out
+      (told_words all) source sink;
+}

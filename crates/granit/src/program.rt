@@ -15,7 +15,8 @@ fn run_on_words<A: Arguments, S: Source, W: Sink>(
     source: &mut S,
     sink: &mut W,
 ) -> Status
-    ensures { RanOn (A.all arguments.now) (end_of S.left S.faults source.old) (end_of S.left S.faults source.new) (end_of W.written W.faults sink.old) (end_of W.written W.faults sink.new) result }
+    ensures { RanOn (A.all arguments.now) (end_of S.left S.faults source.old) (end_of S.left S.faults source.new)
+        (end_of W.written W.faults sink.old) (end_of W.written W.faults sink.new) result }
 {
     match words(alloc, arguments) {
         Ok(words) => run(alloc, &words, source, sink),
@@ -30,7 +31,8 @@ pub fn run_on_arguments<A: Arguments, S: Source, W: Sink>(
     source: &mut S,
     sink: &mut W,
 ) -> ExitCode
-    ensures { Exits (A.all arguments.now) (end_of S.left S.faults source.old) (end_of S.left S.faults source.new) (end_of W.written W.faults sink.old) (end_of W.written W.faults sink.new) result }
+    ensures { Exits (A.all arguments.now) (end_of S.left S.faults source.old) (end_of S.left S.faults source.new)
+        (end_of W.written W.faults sink.old) (end_of W.written W.faults sink.new) result }
 {
     let status = run_on_words(alloc, arguments, source, sink);
     ExitCode::from(status.code())

@@ -1,23 +1,31 @@
 -- Steps behind properties.
 use Rattle.granit_agreement.specs.Fair.{FairAt, FairBehind, frame_ends_at}
-use Rattle.granit_agreement.specs.Good.{Holes, at_root, at_entry, at_key, at_asked, at_value, at_item, at_curly, curly_key, curly_asked, curly_value, made_key, made_value, pair_asked, pair_value, GoodProperties}
+use Rattle.granit_agreement.specs.Good.{Holes, at_root, at_entry, at_key, at_asked, at_value, at_item, at_curly}
+use Rattle.granit_agreement.specs.Good.{curly_key, curly_asked, curly_value, made_key, made_value, pair_asked}
+use Rattle.granit_agreement.specs.Good.{pair_value, GoodProperties}
 use Rattle.granit_agreement.specs.Stepping.{taken, LimitView, at_kind, knowing}
 use Rattle.granit_agreement.specs.Steps.{StepsLimited, On}
-use Rattle.granit_agreement.specs.View.{terminal_kind, terminal_of, at_of, state_of}
-use Rattle.granit_grammar.specs.EventMachine.{OpenFrame, PropertiesFrame, InFrames, EventState, Ending, ending, with_event, finish_frames, if_gives, begin_pair_frames, frames_room, frames_indent, part_frames, stop_kind, take_frames, want_frames}
+use Rattle.granit_agreement.specs.View.{state_of}
+use Rattle.granit_language.specs.Seen.{terminal_kind, terminal_of, at_of}
+use Rattle.granit_grammar.specs.EventMachine.{OpenFrame, PropertiesFrame, InFrames, EventState, Ending, ending}
+use Rattle.granit_grammar.specs.EventMachine.{with_event, finish_frames, if_gives, begin_pair_frames, frames_room}
+use Rattle.granit_grammar.specs.EventMachine.{frames_indent, part_frames, stop_kind, take_frames, want_frames}
 use Rattle.granit_grammar.specs.Guarded.{blocks_open}
 use Rattle.granit_language.specs.Choice.{choose}
 use Rattle.granit_language.specs.Node.{TreeProperties, NoProperties, One, Two}
-use Rattle.granit_language.specs.Room.{Room, BehindKey, Inside, behind_property, room_behind, right_fits, loose_fits, indicates, part_fits, joins, continues_node}
+use Rattle.granit_language.specs.Room.{Room, BehindKey, Inside, behind_property, room_behind, right_fits, loose_fits}
+use Rattle.granit_language.specs.Room.{indicates, part_fits, joins, continues_node}
 use Rattle.granit_language.specs.Scope.{Scope}
-use Rattle.granit_language.specs.Terminal.{Anchor, Tag, Part, PartKind, Alias, Property, Scalar, Open, Question, Colon, At, Terminal, edge}
+use Rattle.granit_language.specs.Terminal.{Anchor, Tag, Part, PartKind, Alias, Property, Scalar, Open, Question, Colon}
+use Rattle.granit_language.specs.Terminal.{At, Terminal, edge}
 use Rattle.granit_language.specs.TreeEvents.{alone_event, properties_end}
 use Rattle.granit_lexemes.specs.Lexeme.{KeyStart}
 use Rattle.granit_lexemes.specs.declared.layout.Bracket.TheVariants.{Square, Curly}
 use Rattle.granit_machine.specs.Frames.{ParserState}
 use Rattle.granit_machine.specs.Parser.{take_token}
 use Rattle.granit_machine.specs.TokenSort.{token_of}
-use Rattle.std.proofs.Common.{◌≡◌, ℕ, suc, Bool, true, false, ◌||◌, ◌&&◌, not, nat_lt, List, [], ◌∷◌, refl, sym, ap, ap₂, ◌∙◌, subst, Option, Some, None, Result}
+use Rattle.std.proofs.Common.{◌≡◌, ℕ, suc, Bool, true, false, ◌||◌, ◌&&◌, not, nat_lt, List, [], ◌∷◌, refl, sym, ap}
+use Rattle.std.proofs.Common.{ap₂, ◌∙◌, subst, Option, Some, None, Result}
 use Rattle.std.specs.Prelude.{nat_le}
 use Rattle.granit_base.specs.Place.{Mark}
 use Rattle.granit_error.specs.OptionsData.{OptionsData}
@@ -29,7 +37,8 @@ use Rattle.granit_agreement.proofs.BlockNodes.{part_limited}
 use Rattle.granit_agreement.proofs.NodeTests.{Joined, Tested, NodeOf, RightOfHole, node_or, dash_tested}
 use Rattle.granit_agreement.proofs.PartSteps.{scalar_parts, square_parts, curly_parts, anchor_parts, tag_parts}
 use Rattle.granit_agreement.proofs.Views.{after_nothing}
-use Rattle.granit_agreement.proofs.Wants.{BlockHole, root_hole, entry_hole, asked_hole, value_hole, hole_column, right_is, indicates_is, part_fits_is}
+use Rattle.granit_agreement.proofs.Wants.{BlockHole, root_hole, entry_hole, asked_hole, value_hole, hole_column}
+use Rattle.granit_agreement.proofs.Wants.{right_is, indicates_is, part_fits_is}
 
 abbrev X : Bool → lexemes.LexemeKind → Option KeyStart → Scope → lexemes.Lexeme → Terminal
 X b k key s l = terminal_of b s (at_kind l k key)

@@ -2,8 +2,11 @@
 use Rattle.granit_agreement.specs.Good.{Holes}
 use Rattle.granit_agreement.specs.Stepping.{LimitView, at_kind}
 use Rattle.granit_agreement.specs.Steps.{topped}
-use Rattle.granit_agreement.specs.View.{terminal_of, frames_of, Beside, state_of}
-use Rattle.granit_grammar.specs.EventMachine.{GoesTo, Asking, Value, OpenFrame, DocumentFrame, PropertiesFrame, SequenceFrame, MappingFrame, FlowSequenceFrame, FlowMappingFrame, FlowPairFrame, InFrames, frames_indent}
+use Rattle.granit_agreement.specs.View.{frames_of, Beside, state_of}
+use Rattle.granit_language.specs.Seen.{terminal_of}
+use Rattle.granit_grammar.specs.EventMachine.{GoesTo, Asking, Value, OpenFrame, DocumentFrame, PropertiesFrame}
+use Rattle.granit_grammar.specs.EventMachine.{SequenceFrame, MappingFrame, FlowSequenceFrame, FlowMappingFrame}
+use Rattle.granit_grammar.specs.EventMachine.{FlowPairFrame, InFrames, frames_indent}
 use Rattle.granit_grammar.specs.Guarded.{blocks_open, fault_unless, first_fault}
 use Rattle.granit_language.specs.GrammarFault.{TooManyBlocks}
 use Rattle.granit_language.specs.Node.{TreeProperties, NoProperties, One, Two}
@@ -20,7 +23,8 @@ use Rattle.std.proofs.lemmas.Bool.Decides.{nat_tests}
 use Rattle.std.specs.Prelude.{nat_le}
 use Rattle.granit_machine.specs.NodeEnds as machine_ends
 use Rattle.granit_agreement.proofs.PartSteps.{HeadGiven, node_begins, framed}
-use Rattle.std.proofs.Common.{arith, ◌≡◌, ℕ, suc, Bool, true, false, List, [], ◌∷◌, refl, sym, ap, ap₂, ◌∙◌, subst, Option, Some, None, Result, Ok, Err}
+use Rattle.std.proofs.Common.{arith, ◌≡◌, ℕ, suc, Bool, true, false, List, [], ◌∷◌, refl, sym, ap, ap₂, ◌∙◌, subst}
+use Rattle.std.proofs.Common.{Option, Some, None, Result, Ok, Err}
 use Rattle.std.specs.Prelude.{if◌then◌else◌}
 use Rattle.granit_base.specs.Place.{Mark}
 use Rattle.granit_error.specs.FaultKind as refused

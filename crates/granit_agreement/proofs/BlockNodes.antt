@@ -1,9 +1,14 @@
 -- A lexeme of a node where one may stand outside flow: it begins a block mapping with its simple key, or it is taken.
-use Rattle.granit_agreement.specs.Good.{Holes, at_root, at_entry, at_key, at_asked, at_value, at_item, at_curly, curly_key, curly_asked, curly_value, made_key, made_value, pair_asked, pair_value}
+use Rattle.granit_agreement.specs.Good.{Holes, at_root, at_entry, at_key, at_asked, at_value, at_item, at_curly}
+use Rattle.granit_agreement.specs.Good.{curly_key, curly_asked, curly_value, made_key, made_value, pair_asked}
+use Rattle.granit_agreement.specs.Good.{pair_value}
 use Rattle.granit_agreement.specs.Stepping.{MeansView, LimitView, at_kind, knowing}
 use Rattle.granit_agreement.specs.Steps.{topped, On, TokenOn, PartsAgree}
-use Rattle.granit_agreement.specs.View.{at_of, state_of}
-use Rattle.granit_grammar.specs.EventMachine.{Key, OpenFrame, PropertiesFrame, MappingFrame, InFrames, EventState, EventStep, GoesTo, StopsWith, after_events, frames_indent, put_frames, flow_frame, part_frames}
+use Rattle.granit_agreement.specs.View.{state_of}
+use Rattle.granit_language.specs.Seen.{at_of}
+use Rattle.granit_grammar.specs.EventMachine.{Key, OpenFrame, PropertiesFrame, MappingFrame, InFrames, EventState}
+use Rattle.granit_grammar.specs.EventMachine.{EventStep, GoesTo, StopsWith, after_events, frames_indent, put_frames}
+use Rattle.granit_grammar.specs.EventMachine.{flow_frame, part_frames}
 use Rattle.granit_grammar.specs.Guarded.{blocks_open, state_count, is_loose, fault_unless, first_fault}
 use Rattle.granit_language.specs.GrammarFault.{GrammarFault, TooManyBlocks}
 use Rattle.granit_language.specs.Node.{TreeProperties, NoProperties, One, Two}
@@ -16,7 +21,8 @@ use Rattle.granit_lexemes.specs.declared.layout.Bracket.TheVariants.{Square, Cur
 use Rattle.granit_machine.specs.Frames.{ParserState}
 use Rattle.granit_machine.specs.NodeEnds.{block_mapping, begin_block, empty_span}
 use Rattle.granit_machine.specs.NodeSteps.{bare, node}
-use Rattle.std.proofs.Common.{◌≡◌, ℕ, suc, Bool, true, false, List, [], ◌∷◌, ◌++◌, refl, sym, ap, ap₂, ◌∙◌, subst, Option, Some, None, Result}
+use Rattle.std.proofs.Common.{◌≡◌, ℕ, suc, Bool, true, false, List, [], ◌∷◌, ◌++◌, refl, sym, ap, ap₂, ◌∙◌, subst}
+use Rattle.std.proofs.Common.{Option, Some, None, Result}
 use Rattle.std.specs.Prelude.{nat_le}
 use Rattle.granit_base.specs.Place.{Mark}
 use Rattle.granit_base.specs.Written.{Written}
@@ -27,7 +33,8 @@ use Rattle.granit_lexemes.specs.PlainEvent.{PlainEvent}
 use Rattle.granit_lexemes.specs.Lexeme as lexemes
 use Rattle.granit_machine.specs.Frames as machine
 use Rattle.granit_agreement.proofs.BlockBegins.{Limited, limited_by, full_limit, free_limit}
-use Rattle.granit_agreement.proofs.PartSteps.{HeadGiven, framed, scalar_parts, square_parts, curly_parts, anchor_parts, tag_parts, alias_parts}
+use Rattle.granit_agreement.proofs.PartSteps.{HeadGiven, framed, scalar_parts, square_parts, curly_parts, anchor_parts}
+use Rattle.granit_agreement.proofs.PartSteps.{tag_parts, alias_parts}
 use Rattle.granit_agreement.proofs.Pops.{node_head}
 use Rattle.granit_agreement.proofs.Standing.{popped}
 use Rattle.granit_agreement.proofs.Views.{Flat, count_flat, means_limited, event_before}

@@ -1,21 +1,33 @@
 -- What a lexeme ends: the parser's turns are steps of the grammar's closing.
 use Rattle.granit_agreement.specs.Closed.{Closed, ClosedView, Below, with_all}
 use Rattle.granit_agreement.specs.Fair.{FairAt, FairFinish, Fair, frame_ends_at, frames_below}
-use Rattle.granit_agreement.specs.Good.{Holes, at_root, at_entry, at_key, at_asked, at_value, at_item, at_curly, curly_key, curly_asked, curly_value, made_key, made_value, pair_asked, pair_value, Good, hole, behind_properties, past_entry, key_done, ask_done, pair_done, item_done, curly_key_done, curly_ask_done, curly_solo, curly_done, made_key_done, made_done, square_ask_done, square_done}
-use Rattle.granit_agreement.specs.View.{terminal_of, Beside, state_of, give_all, with_given}
+use Rattle.granit_agreement.specs.Good.{Holes, at_root, at_entry, at_key, at_asked, at_value, at_item, at_curly}
+use Rattle.granit_agreement.specs.Good.{curly_key, curly_asked, curly_value, made_key, made_value, pair_asked}
+use Rattle.granit_agreement.specs.Good.{pair_value, Good, hole, behind_properties, past_entry, key_done, ask_done}
+use Rattle.granit_agreement.specs.Good.{pair_done, item_done, curly_key_done, curly_ask_done, curly_solo, curly_done}
+use Rattle.granit_agreement.specs.Good.{made_key_done, made_done, square_ask_done, square_done}
+use Rattle.granit_agreement.specs.View.{Beside, state_of, give_all, with_given}
+use Rattle.granit_language.specs.Seen.{terminal_of}
 use Rattle.granit_base.specs.Place.{Mark}
-use Rattle.granit_grammar.specs.EventMachine.{OpenFrame, DocumentFrame, PropertiesFrame, SequenceFrame, MappingFrame, FlowSequenceFrame, FlowMappingFrame, FlowPairFrame, EventState, IsFresh, HasDirectives, IsRooted, InFrames, IsEnded, Ending, with_event, past_sequence, past_mapping, past_asked, finish_frames, ended_by, put_frames, frames_room, frames_indent}
+use Rattle.granit_grammar.specs.EventMachine.{OpenFrame, DocumentFrame, PropertiesFrame, SequenceFrame, MappingFrame}
+use Rattle.granit_grammar.specs.EventMachine.{FlowSequenceFrame, FlowMappingFrame, FlowPairFrame, EventState, IsFresh}
+use Rattle.granit_grammar.specs.EventMachine.{HasDirectives, IsRooted, InFrames, IsEnded, Ending, with_event}
+use Rattle.granit_grammar.specs.EventMachine.{past_sequence, past_mapping, past_asked, finish_frames, ended_by}
+use Rattle.granit_grammar.specs.EventMachine.{put_frames, frames_room, frames_indent}
 use Rattle.granit_language.specs.Choice.{choose}
 use Rattle.granit_language.specs.Room.{BlockIn, entry_empty, sequence_over, behind_property, continues_node, ask_over}
 use Rattle.granit_language.specs.Scope.{Scope}
 use Rattle.granit_language.specs.Telling.{event_told}
-use Rattle.granit_language.specs.Terminal.{TerminalKind, Comma, Close, Terminal, stands_left, dash_in, entry_in, bare_in, stands_in, reach_of, is_bare_kind, is_comma_kind, closes_kind}
-use Rattle.granit_language.specs.TreeEvents.{SequenceEnds, MappingEnds, TreeEvent, null, pointed, alone_event, properties_end}
+use Rattle.granit_language.specs.Terminal.{TerminalKind, Comma, Close, Terminal, stands_left, dash_in, entry_in}
+use Rattle.granit_language.specs.Terminal.{bare_in, stands_in, reach_of, is_bare_kind, is_comma_kind, closes_kind}
+use Rattle.granit_language.specs.TreeEvents.{SequenceEnds, MappingEnds, TreeEvent, null, pointed, alone_event}
+use Rattle.granit_language.specs.TreeEvents.{properties_end}
 use Rattle.granit_lexemes.specs.declared.layout.Bracket.TheVariants.{Square}
 use Rattle.granit_machine.specs.Closing.{Closing, ends_top, end_top, close_turn, depth}
 use Rattle.granit_machine.specs.Frames.{ParserState}
 use Rattle.granit_machine.specs.TokenSort.{Token, token_of}
-use Rattle.std.proofs.Common.{◌≡◌, ◌<◌, ℕ, suc, zero, Bool, true, false, List, [], ◌∷◌, ◌++◌, refl, sym, ap, ◌∙◌, subst, arith, ◌||◌, ◌&&◌, not, Some, None, Result, Ok}
+use Rattle.std.proofs.Common.{◌≡◌, ◌<◌, ℕ, suc, zero, Bool, true, false, List, [], ◌∷◌, ◌++◌, refl, sym, ap, ◌∙◌, subst}
+use Rattle.std.proofs.Common.{arith, ◌||◌, ◌&&◌, not, Some, None, Result, Ok}
 use Rattle.std.specs.Prelude.{if◌then◌else◌, nat_le}
 use Rattle.std.proofs.lemmas.Bool.Decides.{nat_tests}
 use Rattle.granit_grammar.specs.Guarded.{blocks_open}

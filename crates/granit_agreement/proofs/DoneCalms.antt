@@ -1,8 +1,10 @@
 -- Behind an item, a key or a pair, a lexeme that is taken passes the guards.
 use Rattle.granit_agreement.specs.Good.{Holes}
 use Rattle.granit_agreement.specs.Stepping.{taken, at_kind}
-use Rattle.granit_agreement.specs.View.{terminal_kind, terminal_of}
-use Rattle.granit_grammar.specs.EventMachine.{Opened, KeyDone, AskDone, Solo, Done, Value, OpenFrame, MappingFrame, FlowSequenceFrame, FlowMappingFrame, FlowPairFrame, InFrames, EventStep, GoesTo, StopsWith, ended_by, put_frames}
+use Rattle.granit_language.specs.Seen.{terminal_kind, terminal_of}
+use Rattle.granit_grammar.specs.EventMachine.{Opened, KeyDone, AskDone, Solo, Done, Value, OpenFrame, MappingFrame}
+use Rattle.granit_grammar.specs.EventMachine.{FlowSequenceFrame, FlowMappingFrame, FlowPairFrame, InFrames, EventStep}
+use Rattle.granit_grammar.specs.EventMachine.{GoesTo, StopsWith, ended_by, put_frames}
 use Rattle.granit_grammar.specs.Guarded.{blocks_open, first_fault, whole_guard}
 use Rattle.granit_language.specs.Scope.{Scope}
 use Rattle.granit_language.specs.Terminal.{Terminal, is_comma_kind, is_bare_kind, closes_kind}

@@ -2,7 +2,8 @@
 use Rattle.granit_agreement.specs.Good.{Holes}
 use Rattle.granit_agreement.specs.Steps.{Steps}
 use Rattle.granit_agreement.specs.View.{Beside}
-use Rattle.granit_grammar.specs.EventMachine.{KeyDone, AskDone, Solo, Done, OpenFrame, MappingFrame, FlowSequenceFrame, FlowMappingFrame}
+use Rattle.granit_grammar.specs.EventMachine.{KeyDone, AskDone, Solo, Done, OpenFrame, MappingFrame, FlowSequenceFrame}
+use Rattle.granit_grammar.specs.EventMachine.{FlowMappingFrame}
 use Rattle.granit_language.specs.Scope.{Scope}
 use Rattle.granit_lexemes.specs.Lexeme.{KeyStart}
 use Rattle.granit_machine.specs.Giving.{null_at}

@@ -1,24 +1,36 @@
 -- The parser ends the frame on top where the grammar's machine does.
-use Rattle.std.proofs.Common.{◌≡◌, ℕ, suc, zero, Bool, true, false, List, refl, sym, ap, ap₂, ◌∙◌, arith, ◌==◌, ◌&&◌, ◌||◌, not, nat_lt, Option, Some, None}
+use Rattle.std.proofs.Common.{◌≡◌, ℕ, suc, zero, Bool, true, false, List, refl, sym, ap, ap₂, ◌∙◌, arith, ◌==◌, ◌&&◌}
+use Rattle.std.proofs.Common.{◌||◌, not, nat_lt, Option, Some, None}
 use Rattle.std.specs.Prelude.{if◌then◌else◌, is_none}
 use Rattle.std.proofs.lemmas.Bool.Decides.{nat_tests}
 use Rattle.granit_error.specs.OptionsData.{OptionsData}
 use Rattle.granit_lexemes.specs.Lexeme as lexemes
 use Rattle.granit_agreement.specs.Fair.{frames_in_flow, is_key_part, FairBehind, FairAt, frame_ends_at}
-use Rattle.granit_agreement.specs.Good.{IsPositive, Holes, at_root, at_entry, at_key, at_asked, at_value, at_item, at_curly, curly_key, curly_asked, curly_value, made_key, made_value, pair_asked, pair_value, GoodProperties, Good, is_fresh, directed, rooted, hole, behind_properties, past_entry, key_done, ask_done, pair_done, item_done, curly_key_done, curly_ask_done, curly_solo, curly_done, made_key_done, made_done, square_ask_done, square_done}
-use Rattle.granit_agreement.specs.View.{terminal_kind, at_of, terminal_of, frames_of, parser_properties, Beside, state_of}
+use Rattle.granit_agreement.specs.Good.{IsPositive, Holes, at_root, at_entry, at_key, at_asked, at_value, at_item}
+use Rattle.granit_agreement.specs.Good.{at_curly, curly_key, curly_asked, curly_value, made_key, made_value, pair_asked}
+use Rattle.granit_agreement.specs.Good.{pair_value, GoodProperties, Good, is_fresh, directed, rooted, hole}
+use Rattle.granit_agreement.specs.Good.{behind_properties, past_entry, key_done, ask_done, pair_done, item_done}
+use Rattle.granit_agreement.specs.Good.{curly_key_done, curly_ask_done, curly_solo, curly_done, made_key_done}
+use Rattle.granit_agreement.specs.Good.{made_done, square_ask_done, square_done}
+use Rattle.granit_agreement.specs.View.{frames_of, parser_properties, Beside, state_of}
+use Rattle.granit_language.specs.Seen.{terminal_kind, at_of, terminal_of}
 use Rattle.granit_grammar.specs.EventMachine.{OpenFrame, EventState, frames_room}
 use Rattle.granit_language.specs.Node.{TreeProperties, NoProperties, One, Two}
 use Rattle.granit_language.specs.Reading.{begins_kind}
-use Rattle.granit_language.specs.Room.{Room, RightOf, ValueIn, BehindKey, Inside, behind_property, joins, continues_node, sequence_over}
+use Rattle.granit_language.specs.Room.{Room, RightOf, ValueIn, BehindKey, Inside, behind_property, joins}
+use Rattle.granit_language.specs.Room.{continues_node, sequence_over}
 use Rattle.granit_language.specs.Scope.{Scope}
 use Rattle.granit_language.specs.Telling.{one_less, properties_anchor, properties_tag}
-use Rattle.granit_language.specs.Terminal.{TerminalKind, Dash, Alias, Property, Scalar, Open, Part, Question, Colon, At, Anchor, Tag, Terminal, edge, stands_left, dash_in, entry_in, stands_in, reach_of, is_dash_kind, begins_entry_kind}
+use Rattle.granit_language.specs.Terminal.{TerminalKind, Dash, Alias, Property, Scalar, Open, Part, Question, Colon, At}
+use Rattle.granit_language.specs.Terminal.{Anchor, Tag, Terminal, edge, stands_left, dash_in, entry_in, stands_in}
+use Rattle.granit_language.specs.Terminal.{reach_of, is_dash_kind, begins_entry_kind}
 use Rattle.granit_lexemes.specs.Lexeme.{KeyStart}
 use Rattle.granit_lexemes.specs.declared.layout.Bracket.{Bracket}
 use Rattle.granit_machine.specs.Closing.{goes_on_by_kind, goes_on_with, ends_top}
 use Rattle.granit_machine.specs.NodeEnds.{under_column}
-use Rattle.granit_machine.specs.TokenSort.{TokenSort, BareColon, CommaToken, SequenceCloser, token_of, ends_frame, is_in_column, is_dash_token, begins_pair, is_bare_colon, ends_entry, token_sort, is_key_token, column_of_token, is_right_of}
+use Rattle.granit_machine.specs.TokenSort.{TokenSort, BareColon, CommaToken, SequenceCloser, token_of, ends_frame}
+use Rattle.granit_machine.specs.TokenSort.{is_in_column, is_dash_token, begins_pair, is_bare_colon, ends_entry}
+use Rattle.granit_machine.specs.TokenSort.{token_sort, is_key_token, column_of_token, is_right_of}
 use Rattle.granit_base.specs.Written.{Written}
 use Rattle.granit_base.specs.declared.style.ScalarStyle.{ScalarStyle}
 use Rattle.granit_agreement.proofs.Sorts.{Column, sort_is, right_column, left_same, dash_same, entry_same}

@@ -1,13 +1,16 @@
 -- Where a node may stand in flow, a lexeme begins no block collection.
-use Rattle.granit_agreement.specs.Good.{Holes, at_item, at_curly, curly_key, curly_asked, curly_value, made_key, made_value, pair_asked, pair_value}
+use Rattle.granit_agreement.specs.Good.{Holes, at_item, at_curly, curly_key, curly_asked, curly_value, made_key}
+use Rattle.granit_agreement.specs.Good.{made_value, pair_asked, pair_value}
 use Rattle.granit_agreement.specs.Stepping.{taken, at_kind}
-use Rattle.granit_agreement.specs.View.{terminal_kind, terminal_of, at_of}
-use Rattle.granit_grammar.specs.EventMachine.{Opened, Key, Asking, Value, OpenFrame, FlowSequenceFrame, FlowMappingFrame, FlowPairFrame, InFrames, ended_by, put_frames}
+use Rattle.granit_language.specs.Seen.{terminal_kind, terminal_of, at_of}
+use Rattle.granit_grammar.specs.EventMachine.{Opened, Key, Asking, Value, OpenFrame, FlowSequenceFrame}
+use Rattle.granit_grammar.specs.EventMachine.{FlowMappingFrame, FlowPairFrame, InFrames, ended_by, put_frames}
 use Rattle.granit_grammar.specs.Guarded.{blocks_open}
 use Rattle.granit_language.specs.GrammarFault.{GrammarFault, UnexpectedEofImplicitFlowMapping}
 use Rattle.granit_language.specs.Node.{NoProperties}
 use Rattle.granit_language.specs.Scope.{Scope}
-use Rattle.granit_language.specs.Terminal.{Anchor, Tag, Alias, Property, Scalar, Open, Terminal, is_comma_kind, closes_kind}
+use Rattle.granit_language.specs.Terminal.{Anchor, Tag, Alias, Property, Scalar, Open, Terminal, is_comma_kind}
+use Rattle.granit_language.specs.Terminal.{closes_kind}
 use Rattle.granit_lexemes.specs.Lexeme.{KeyStart}
 use Rattle.granit_lexemes.specs.declared.layout.Bracket.TheVariants.{Square, Curly}
 use Rattle.std.proofs.Common.{◌≡◌, Bool, true, false, ◌||◌, List, ◌∷◌, refl, Option, Some, None}

@@ -1,9 +1,12 @@
 -- Steps where a node may stand in flow.
-use Rattle.granit_agreement.specs.Good.{Holes, at_item, at_curly, curly_key, curly_asked, curly_value, made_key, made_value, pair_asked, pair_value}
+use Rattle.granit_agreement.specs.Good.{Holes, at_item, at_curly, curly_key, curly_asked, curly_value, made_key}
+use Rattle.granit_agreement.specs.Good.{made_value, pair_asked, pair_value}
 use Rattle.granit_agreement.specs.Stepping.{MeansView, knowing, at_kind}
 use Rattle.granit_agreement.specs.Steps.{StepsM}
-use Rattle.granit_agreement.specs.View.{terminal_of, state_of, terminal_kind}
-use Rattle.granit_grammar.specs.EventMachine.{Opened, Key, Asking, Value, OpenFrame, PropertiesFrame, FlowSequenceFrame, FlowMappingFrame, FlowPairFrame, EventState, InFrames, GoesTo, put_frames}
+use Rattle.granit_agreement.specs.View.{state_of}
+use Rattle.granit_language.specs.Seen.{terminal_of, terminal_kind}
+use Rattle.granit_grammar.specs.EventMachine.{Opened, Key, Asking, Value, OpenFrame, PropertiesFrame, FlowSequenceFrame}
+use Rattle.granit_grammar.specs.EventMachine.{FlowMappingFrame, FlowPairFrame, EventState, InFrames, GoesTo, put_frames}
 use Rattle.granit_language.specs.GrammarFault.{GrammarFault, UnexpectedEofImplicitFlowMapping}
 use Rattle.granit_language.specs.Node.{NoProperties, One}
 use Rattle.granit_language.specs.Scope.{Scope}
@@ -17,7 +20,8 @@ use Rattle.granit_machine.specs.Giving.{put, null_at}
 use Rattle.granit_machine.specs.NodeEnds.{end_node, end_by}
 use Rattle.granit_machine.specs.NodeSteps.{bare}
 use Rattle.granit_machine.specs.TokenSort.{token_of}
-use Rattle.std.proofs.Common.{◌≡◌, ℕ, Bool, true, false, List, [], ◌∷◌, ◌++◌, refl, ap, ◌∙◌, ◌||◌, Option, Some, None, Result, Ok, Err}
+use Rattle.std.proofs.Common.{◌≡◌, ℕ, Bool, true, false, List, [], ◌∷◌, ◌++◌, refl, ap, ◌∙◌, ◌||◌, Option, Some, None}
+use Rattle.std.proofs.Common.{Result, Ok, Err}
 use Rattle.granit_base.specs.Place.{Mark}
 use Rattle.granit_error.specs.OptionsData.{OptionsData}
 use Rattle.granit_lexemes.specs.Lexeme as lexemes
@@ -28,7 +32,8 @@ use Rattle.granit_lexemes.specs.Outcome.{Fault}
 use Rattle.granit_base.specs.declared.style.StructureStyle.TheVariants.{Flow}
 use Rattle.granit_machine.specs.Frames as machine
 use Rattle.granit_agreement.proofs.Pops.{flushed}
-use Rattle.granit_agreement.proofs.PartSteps.{scalar_parts, square_parts, curly_parts, anchor_parts, tag_parts, alias_parts}
+use Rattle.granit_agreement.proofs.PartSteps.{scalar_parts, square_parts, curly_parts, anchor_parts, tag_parts}
+use Rattle.granit_agreement.proofs.PartSteps.{alias_parts}
 use Rattle.granit_agreement.proofs.Standing.{finish_view}
 use Rattle.granit_lexemes.specs.declared.layout.Bracket.TheVariants as brackets
 

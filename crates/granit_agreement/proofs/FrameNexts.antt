@@ -1,22 +1,33 @@
 -- A step inside a document, with what stands declared behind it.
 use Rattle.granit_agreement.specs.Fair.{FairAt, frame_ends_at}
-use Rattle.granit_agreement.specs.Good.{at_root, at_entry, at_key, at_asked, at_value, at_item, at_curly, curly_key, curly_asked, curly_value, made_key, made_value, pair_asked, pair_value, Good, hole, behind_properties, past_entry, key_done, ask_done, pair_done, item_done, curly_key_done, curly_ask_done, curly_solo, curly_done, made_key_done, made_done, square_ask_done, square_done, rooted}
+use Rattle.granit_agreement.specs.Good.{at_root, at_entry, at_key, at_asked, at_value, at_item, at_curly, curly_key}
+use Rattle.granit_agreement.specs.Good.{curly_asked, curly_value, made_key, made_value, pair_asked, pair_value, Good}
+use Rattle.granit_agreement.specs.Good.{hole, behind_properties, past_entry, key_done, ask_done, pair_done, item_done}
+use Rattle.granit_agreement.specs.Good.{curly_key_done, curly_ask_done, curly_solo, curly_done, made_key_done}
+use Rattle.granit_agreement.specs.Good.{made_done, square_ask_done, square_done, rooted}
 use Rattle.granit_agreement.specs.Running.{NextView}
 use Rattle.granit_agreement.specs.Stepping.{taken, LimitView, at_kind, knowing, known_behind, moved_on}
-use Rattle.granit_agreement.specs.View.{Beside, terminal_kind, terminal_of, state_of, give_all}
-use Rattle.granit_grammar.specs.EventMachine.{OpenFrame, IsFresh, HasDirectives, IsRooted, InFrames, IsEnded, Ending, ending, ended_by, EventStep, GoesTo, StopsWith, take_frames}
+use Rattle.granit_agreement.specs.View.{Beside, state_of, give_all}
+use Rattle.granit_language.specs.Seen.{terminal_kind, terminal_of}
+use Rattle.granit_grammar.specs.EventMachine.{OpenFrame, IsFresh, HasDirectives, IsRooted, InFrames, IsEnded, Ending}
+use Rattle.granit_grammar.specs.EventMachine.{ending, ended_by, EventStep, GoesTo, StopsWith, take_frames}
 use Rattle.granit_grammar.specs.Guarded.{blocks_open}
 use Rattle.granit_language.specs.Node.{TreeProperties}
 use Rattle.granit_language.specs.Room.{Room, continues_node}
 use Rattle.granit_language.specs.Scope.{Scope}
 use Rattle.granit_language.specs.Scoping.{next_scope}
-use Rattle.granit_language.specs.Terminal.{Anchor, Tag, Alias, Property, Scalar, Open, TerminalKind, Directive, DocumentStart, DocumentEnd, TheEnd, Colon, Part, At, Terminal, is_stream_kind, is_bare_kind}
+use Rattle.granit_language.specs.Terminal.{Anchor, Tag, Alias, Property, Scalar, Open, TerminalKind, Directive}
+use Rattle.granit_language.specs.Terminal.{DocumentStart, DocumentEnd, TheEnd, Colon, Part, At, Terminal}
+use Rattle.granit_language.specs.Terminal.{is_stream_kind, is_bare_kind}
 use Rattle.granit_lexemes.specs.Lexeme.{KeyStart}
 use Rattle.granit_machine.specs.BlockSteps.{in_sequence, behind_indicator}
 use Rattle.granit_machine.specs.Frames.{ParserState}
 use Rattle.granit_machine.specs.Parser.{take_token}
-use Rattle.granit_machine.specs.TokenSort.{Token, TokenSort, token_of, token_sort, is_of_stream, BeginsKey, BeginsNode, DashToken, QuestionToken, BareColon, KeyedColon, CommaToken, SequenceCloser, MappingCloser, OfStream}
-use Rattle.std.proofs.Common.{◌≡◌, Bool, true, false, not, List, [], refl, sym, ap, ◌∙◌, subst, Option, None, Result, Ok, Err}
+use Rattle.granit_machine.specs.TokenSort.{Token, TokenSort, token_of, token_sort, is_of_stream, BeginsKey, BeginsNode}
+use Rattle.granit_machine.specs.TokenSort.{DashToken, QuestionToken, BareColon, KeyedColon, CommaToken, SequenceCloser}
+use Rattle.granit_machine.specs.TokenSort.{MappingCloser, OfStream}
+use Rattle.std.proofs.Common.{◌≡◌, Bool, true, false, not, List, [], refl, sym, ap, ◌∙◌, subst, Option, None, Result}
+use Rattle.std.proofs.Common.{Ok, Err}
 use Rattle.std.specs.Prelude.{nat_le}
 use Rattle.granit_base.specs.Place.{Mark}
 use Rattle.granit_error.specs.OptionsData.{OptionsData}
@@ -24,7 +35,8 @@ use Rattle.granit_lexemes.specs.Outcome.{Fault}
 use Rattle.granit_lexemes.specs.PlainEvent.{PlainEvent}
 use Rattle.granit_lexemes.specs.Lexeme as lexemes
 use Rattle.granit_agreement.proofs.FrameSteps.{frame_steps}
-use Rattle.granit_agreement.proofs.GoodSteps.{GoodEnding, ends_well, GoodStep, goes_well, stops_well, after_step, closes_stand, take_stands}
+use Rattle.granit_agreement.proofs.GoodSteps.{GoodEnding, ends_well, GoodStep, goes_well, stops_well, after_step}
+use Rattle.granit_agreement.proofs.GoodSteps.{closes_stand, take_stands}
 use Rattle.granit_agreement.proofs.Sorts.{sort_is}
 
 abbrev X : Bool → lexemes.LexemeKind → Option KeyStart → Scope → lexemes.Lexeme → Terminal

@@ -1,9 +1,14 @@
 -- Every step inside a document: what the parser does and what the grammar's machine takes agree.
 use Rattle.granit_agreement.specs.Fair.{FairAt, frame_ends_at}
-use Rattle.granit_agreement.specs.Good.{at_root, at_entry, at_key, at_asked, at_value, at_item, at_curly, curly_key, curly_asked, curly_value, made_key, made_value, pair_asked, pair_value, Good, hole, behind_properties, past_entry, key_done, ask_done, pair_done, item_done, curly_key_done, curly_ask_done, curly_solo, curly_done, made_key_done, made_done, square_ask_done, square_done}
+use Rattle.granit_agreement.specs.Good.{at_root, at_entry, at_key, at_asked, at_value, at_item, at_curly, curly_key}
+use Rattle.granit_agreement.specs.Good.{curly_asked, curly_value, made_key, made_value, pair_asked, pair_value, Good}
+use Rattle.granit_agreement.specs.Good.{hole, behind_properties, past_entry, key_done, ask_done, pair_done, item_done}
+use Rattle.granit_agreement.specs.Good.{curly_key_done, curly_ask_done, curly_solo, curly_done, made_key_done}
+use Rattle.granit_agreement.specs.Good.{made_done, square_ask_done, square_done}
 use Rattle.granit_agreement.specs.Stepping.{taken, StepView, LimitView, at_kind, knowing}
 use Rattle.granit_agreement.specs.Steps.{StepsLimited, Steps, StepsM}
-use Rattle.granit_agreement.specs.View.{Beside, terminal_of, state_of}
+use Rattle.granit_agreement.specs.View.{Beside, state_of}
+use Rattle.granit_language.specs.Seen.{terminal_of}
 use Rattle.granit_grammar.specs.EventMachine.{OpenFrame, InFrames, EventStep, GoesTo, StopsWith, ended_by}
 use Rattle.granit_grammar.specs.Guarded.{blocks_open}
 use Rattle.granit_language.specs.Scope.{Scope}
@@ -20,9 +25,12 @@ use Rattle.granit_lexemes.specs.Outcome.{Fault}
 use Rattle.granit_lexemes.specs.PlainEvent.{PlainEvent}
 use Rattle.granit_lexemes.specs.Lexeme as lexemes
 use Rattle.granit_agreement.proofs.BehindPlaces.{behind_properties_steps}
-use Rattle.granit_agreement.proofs.DoneCalms.{Calm, item_done_calm, curly_key_done_calm, curly_done_calm, curly_solo_calm, curly_ask_done_calm, made_key_done_calm, made_done_calm, square_ask_done_calm, block_key_calm}
+use Rattle.granit_agreement.proofs.DoneCalms.{Calm, item_done_calm, curly_key_done_calm, curly_done_calm}
+use Rattle.granit_agreement.proofs.DoneCalms.{curly_solo_calm, curly_ask_done_calm, made_key_done_calm, made_done_calm}
+use Rattle.granit_agreement.proofs.DoneCalms.{square_ask_done_calm, block_key_calm}
 use Rattle.granit_agreement.proofs.DoneSteps as done
-use Rattle.granit_agreement.proofs.FlowFlats.{item_flat, curly_flat, curly_asked_flat, curly_value_flat, made_value_flat, pair_asked_flat, pair_value_flat}
+use Rattle.granit_agreement.proofs.FlowFlats.{item_flat, curly_flat, curly_asked_flat, curly_value_flat}
+use Rattle.granit_agreement.proofs.FlowFlats.{made_value_flat, pair_asked_flat, pair_value_flat}
 use Rattle.granit_agreement.proofs.FlowNodes as flow
 use Rattle.granit_agreement.proofs.MappingPlaces.{mapping_steps, asking, asked, valued, paired, both_false}
 use Rattle.granit_agreement.proofs.MoreSteps.{made_done_steps, square_asked_steps}

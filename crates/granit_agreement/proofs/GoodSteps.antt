@@ -1,12 +1,27 @@
 -- Steps of the grammar's machine lead to states that it comes to.
-use Rattle.granit_agreement.specs.Good.{Holes, at_root, at_entry, at_key, at_asked, at_value, at_item, at_curly, curly_key, curly_asked, curly_value, made_key, made_value, pair_asked, pair_value, Good, hole, behind_properties, past_entry, key_done, ask_done, pair_done, item_done, curly_key_done, curly_ask_done, curly_solo, curly_done, made_key_done, made_done, square_ask_done, square_done, IsPositive}
-use Rattle.granit_grammar.specs.EventMachine.{Key, AskDone, Done, Value, OpenFrame, PropertiesFrame, SequenceFrame, MappingFrame, FlowSequenceFrame, FlowMappingFrame, FlowPairFrame, past_sequence, past_mapping, past_asked, past_curly, past_curly_asked, past_made, past_square_asked, frames_empty, nothing_event, nothing_end, frames_room, frames_indent, EventState, IsRooted, InFrames, Ending, ending, with_event, finish_frames, ended_by, EventStep, GoesTo, StopsWith, after_events, if_gives, put_frames, part_frames, BlockSite, FlowSite, entry_frames, begin_pair_frames, take_frames, want_frames, stop_kind}
+use Rattle.granit_agreement.specs.Good.{Holes, at_root, at_entry, at_key, at_asked, at_value, at_item, at_curly}
+use Rattle.granit_agreement.specs.Good.{curly_key, curly_asked, curly_value, made_key, made_value, pair_asked}
+use Rattle.granit_agreement.specs.Good.{pair_value, Good, hole, behind_properties, past_entry, key_done, ask_done}
+use Rattle.granit_agreement.specs.Good.{pair_done, item_done, curly_key_done, curly_ask_done, curly_solo, curly_done}
+use Rattle.granit_agreement.specs.Good.{made_key_done, made_done, square_ask_done, square_done, IsPositive}
+use Rattle.granit_grammar.specs.EventMachine.{Key, AskDone, Done, Value, OpenFrame, PropertiesFrame, SequenceFrame}
+use Rattle.granit_grammar.specs.EventMachine.{MappingFrame, FlowSequenceFrame, FlowMappingFrame, FlowPairFrame}
+use Rattle.granit_grammar.specs.EventMachine.{past_sequence, past_mapping, past_asked, past_curly, past_curly_asked}
+use Rattle.granit_grammar.specs.EventMachine.{past_made, past_square_asked, frames_empty, nothing_event, nothing_end}
+use Rattle.granit_grammar.specs.EventMachine.{frames_room, frames_indent, EventState, IsRooted, InFrames, Ending}
+use Rattle.granit_grammar.specs.EventMachine.{ending, with_event, finish_frames, ended_by, EventStep, GoesTo, StopsWith}
+use Rattle.granit_grammar.specs.EventMachine.{after_events, if_gives, put_frames, part_frames, BlockSite, FlowSite}
+use Rattle.granit_grammar.specs.EventMachine.{entry_frames, begin_pair_frames, take_frames, want_frames, stop_kind}
 use Rattle.granit_language.specs.Choice.{choose}
 use Rattle.granit_language.specs.GrammarFault.{GrammarFault, ExpectedBlockSequenceEntry, ExpectedBlockMappingKey}
 use Rattle.granit_language.specs.Node.{TreeProperties, NoProperties, One, Two}
-use Rattle.granit_language.specs.Room.{BlockIn, FlowIn, behind_property, room_behind, right_fits, loose_fits, indicates, opens, part_fits, differ, continues_node, sequence_over, ask_over}
-use Rattle.granit_language.specs.Terminal.{PartKind, Alias, Property, Scalar, Open, TerminalKind, Dash, Question, Comma, Colon, Close, Part, At, Terminal, terminal, edge, stands_left, entry_in, is_comma_kind, closes_kind}
-use Rattle.granit_language.specs.TreeEvents.{TreeEvent, SequenceEnds, MappingEnds, pointed, null, alone_event, properties_end, mapping_start, sequence_start, pair_start}
+use Rattle.granit_language.specs.Room.{BlockIn, FlowIn, behind_property, room_behind, right_fits, loose_fits, indicates}
+use Rattle.granit_language.specs.Room.{opens, part_fits, differ, continues_node, sequence_over, ask_over}
+use Rattle.granit_language.specs.Terminal.{PartKind, Alias, Property, Scalar, Open, TerminalKind, Dash, Question, Comma}
+use Rattle.granit_language.specs.Terminal.{Colon, Close, Part, At, Terminal, terminal, edge, stands_left, entry_in}
+use Rattle.granit_language.specs.Terminal.{is_comma_kind, closes_kind}
+use Rattle.granit_language.specs.TreeEvents.{TreeEvent, SequenceEnds, MappingEnds, pointed, null, alone_event}
+use Rattle.granit_language.specs.TreeEvents.{properties_end, mapping_start, sequence_start, pair_start}
 use Rattle.granit_lexemes.specs.declared.layout.Bracket.TheVariants.{Square, Curly}
 use Rattle.std.proofs.Common.{◌≡◌, ℕ, Bool, true, false, ◌||◌, ◌==◌, List, [], ◌∷◌, refl, Some, None}
 use Rattle.granit_base.specs.Place.{Mark}

@@ -2,26 +2,35 @@
 use Rattle.granit_agreement.specs.Good.{Holes, at_key, at_asked, at_value, IsPositive}
 use Rattle.granit_agreement.specs.Stepping.{taken, LimitView, at_kind, knowing}
 use Rattle.granit_agreement.specs.Steps.{StepsLimited, On, TokenOn, PartsAgree}
-use Rattle.granit_agreement.specs.View.{terminal_kind, terminal_of, at_of, state_of, give_all, stage_of}
-use Rattle.granit_grammar.specs.EventMachine.{PairAt, Key, Asking, AskDone, Done, Value, OpenFrame, MappingFrame, EventState, InFrames, Ending, ending, with_event, finish_frames, nothing_frames, ended_by, GoesTo, after_events, if_gives, take_frames, want_frames, part_frames, entry_frames, BlockSite}
+use Rattle.granit_agreement.specs.View.{state_of, give_all, stage_of}
+use Rattle.granit_language.specs.Seen.{terminal_kind, terminal_of, at_of}
+use Rattle.granit_grammar.specs.EventMachine.{PairAt, Key, Asking, AskDone, Done, Value, OpenFrame, MappingFrame}
+use Rattle.granit_grammar.specs.EventMachine.{EventState, InFrames, Ending, ending, with_event, finish_frames}
+use Rattle.granit_grammar.specs.EventMachine.{nothing_frames, ended_by, GoesTo, after_events, if_gives, take_frames}
+use Rattle.granit_grammar.specs.EventMachine.{want_frames, part_frames, entry_frames, BlockSite}
 use Rattle.granit_grammar.specs.Guarded.{blocks_open, first_fault}
 use Rattle.granit_language.specs.Choice.{choose}
 use Rattle.granit_language.specs.GrammarFault.{UnexpectedEofBlockMapping, ExpectedBlockMappingKey, fault_of}
 use Rattle.granit_language.specs.Node.{NoProperties}
 use Rattle.granit_language.specs.Scope.{Scope}
 use Rattle.granit_language.specs.Telling.{one_less}
-use Rattle.granit_language.specs.Terminal.{Anchor, Tag, Part, PartKind, Alias, Property, Scalar, Open, Colon, Terminal, TerminalKind, At, terminal, stands_left, stands_in, entry_in, bare_in, is_bare_kind, begins_entry_kind}
+use Rattle.granit_language.specs.Terminal.{Anchor, Tag, Part, PartKind, Alias, Property, Scalar, Open, Colon, Terminal}
+use Rattle.granit_language.specs.Terminal.{TerminalKind, At, terminal, stands_left, stands_in, entry_in, bare_in}
+use Rattle.granit_language.specs.Terminal.{is_bare_kind, begins_entry_kind}
 use Rattle.granit_language.specs.TreeEvents.{TreeEvent, null, pointed, MappingEnds}
 use Rattle.granit_lexemes.specs.Lexeme.{KeyStart}
 use Rattle.granit_lexemes.specs.declared.layout.Bracket.TheVariants.{Square, Curly}
-use Rattle.granit_machine.specs.BlockSteps.{behind_indicator, next_pair, takes_node, mapping_at, mapping_colon, bare_colon_in_mapping}
+use Rattle.granit_machine.specs.BlockSteps.{behind_indicator, next_pair, takes_node, mapping_at, mapping_colon}
+use Rattle.granit_machine.specs.BlockSteps.{bare_colon_in_mapping}
 use Rattle.granit_machine.specs.Frames.{ParserState}
 use Rattle.granit_machine.specs.Giving.{put, null_at}
 use Rattle.granit_machine.specs.NodeEnds.{owed}
 use Rattle.granit_machine.specs.NodeSteps.{bare}
 use Rattle.granit_machine.specs.Parser.{take_token}
-use Rattle.granit_machine.specs.TokenSort.{token_of, token_sort, begins_node, is_dash_token, token_column, is_in_column, is_right_of, DashToken}
-use Rattle.std.proofs.Common.{◌≡◌, ℕ, suc, Bool, true, false, ◌||◌, ◌&&◌, not, List, [], ◌∷◌, refl, sym, ap, ap₂, ◌∙◌, subst, Option, Some, None, Result, Err}
+use Rattle.granit_machine.specs.TokenSort.{token_of, token_sort, begins_node, is_dash_token, token_column, is_in_column}
+use Rattle.granit_machine.specs.TokenSort.{is_right_of, DashToken}
+use Rattle.std.proofs.Common.{◌≡◌, ℕ, suc, Bool, true, false, ◌||◌, ◌&&◌, not, List, [], ◌∷◌, refl, sym, ap, ap₂, ◌∙◌}
+use Rattle.std.proofs.Common.{subst, Option, Some, None, Result, Err}
 use Rattle.std.specs.Prelude.{nat_le, if◌then◌else◌}
 use Rattle.granit_base.specs.Place.{Mark}
 use Rattle.granit_error.specs.OptionsData.{OptionsData}
@@ -32,7 +41,8 @@ use Rattle.granit_machine.specs.Frames as machine
 use Rattle.granit_agreement.proofs.BlockNodes.{part_limited}
 use Rattle.granit_agreement.proofs.Dashes.{DashOr, a_dash, another, dash_or}
 use Rattle.granit_agreement.proofs.NodeTests.{joined_none, Tested, NodeOf, node_tested, dash_tested}
-use Rattle.granit_agreement.proofs.PartSteps.{scalar_parts, square_parts, curly_parts, anchor_parts, tag_parts, alias_parts}
+use Rattle.granit_agreement.proofs.PartSteps.{scalar_parts, square_parts, curly_parts, anchor_parts, tag_parts}
+use Rattle.granit_agreement.proofs.PartSteps.{alias_parts}
 use Rattle.granit_agreement.proofs.Pops.{flushed}
 use Rattle.granit_agreement.proofs.SequencePlaces.{stays_taken, begins_right}
 use Rattle.granit_agreement.proofs.Sorts.{stands_same, entry_same}

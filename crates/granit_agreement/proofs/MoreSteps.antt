@@ -1,8 +1,10 @@
 -- Steps behind a pair of a flow sequence and an entry of a block collection.
 use Rattle.granit_agreement.specs.Good.{Holes}
 use Rattle.granit_agreement.specs.Steps.{Steps}
-use Rattle.granit_agreement.specs.View.{terminal_kind, Beside}
-use Rattle.granit_grammar.specs.EventMachine.{AskDone, Done, OpenFrame, FlowSequenceFrame, FlowMappingFrame, FlowPairFrame}
+use Rattle.granit_agreement.specs.View.{Beside}
+use Rattle.granit_language.specs.Seen.{terminal_kind}
+use Rattle.granit_grammar.specs.EventMachine.{AskDone, Done, OpenFrame, FlowSequenceFrame, FlowMappingFrame}
+use Rattle.granit_grammar.specs.EventMachine.{FlowPairFrame}
 use Rattle.granit_language.specs.Scope.{Scope}
 use Rattle.granit_language.specs.Terminal.{is_comma_kind, closes_kind, is_bare_kind}
 use Rattle.granit_lexemes.specs.Lexeme.{KeyStart}

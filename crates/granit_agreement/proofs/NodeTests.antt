@@ -2,8 +2,10 @@
 use Rattle.granit_agreement.specs.Good.{Holes, at_asked, at_value, IsPositive}
 use Rattle.granit_agreement.specs.Stepping.{LimitView, at_kind, knowing}
 use Rattle.granit_agreement.specs.Steps.{topped, On, asks, colons, dashes}
-use Rattle.granit_agreement.specs.View.{Beside, terminal_kind, terminal_of, at_of, frames_of, state_of}
-use Rattle.granit_grammar.specs.EventMachine.{Asking, Value, OpenFrame, MappingFrame, InFrames, EventStep, StopsWith, if_gives, part_frames, frames_room, stop_kind, want_frames}
+use Rattle.granit_agreement.specs.View.{Beside, frames_of, state_of}
+use Rattle.granit_language.specs.Seen.{terminal_kind, terminal_of, at_of}
+use Rattle.granit_grammar.specs.EventMachine.{Asking, Value, OpenFrame, MappingFrame, InFrames, EventStep, StopsWith}
+use Rattle.granit_grammar.specs.EventMachine.{if_gives, part_frames, frames_room, stop_kind, want_frames}
 use Rattle.granit_grammar.specs.Guarded.{blocks_open}
 use Rattle.granit_language.specs.Choice.{choose}
 use Rattle.granit_language.specs.GrammarFault.{GrammarFault, fault_of}
@@ -11,7 +13,8 @@ use Rattle.granit_language.specs.Node.{TreeProperties, NoProperties, One, Two}
 use Rattle.granit_language.specs.Room.{room_behind, loose_fits, joins}
 use Rattle.granit_language.specs.Scope.{Scope}
 use Rattle.granit_language.specs.Telling.{one_less}
-use Rattle.granit_language.specs.Terminal.{Anchor, Tag, Part, PartKind, Alias, Property, Scalar, Open, Dash, At, Terminal, TerminalKind}
+use Rattle.granit_language.specs.Terminal.{Anchor, Tag, Part, PartKind, Alias, Property, Scalar, Open, Dash, At}
+use Rattle.granit_language.specs.Terminal.{Terminal, TerminalKind}
 use Rattle.granit_lexemes.specs.Lexeme.{KeyStart}
 use Rattle.granit_lexemes.specs.declared.layout.Bracket.TheVariants.{Square, Curly}
 use Rattle.granit_machine.specs.Frames.{ParserState}
@@ -19,7 +22,8 @@ use Rattle.granit_machine.specs.Giving.{below_properties}
 use Rattle.granit_machine.specs.NodeEnds.{may_be_indentless}
 use Rattle.granit_machine.specs.NodeSteps.{node, take_dash, first_dash}
 use Rattle.granit_machine.specs.TokenSort.{token_of, token_sort, begins_node, is_dash_token}
-use Rattle.std.proofs.Common.{◌≡◌, ℕ, suc, zero, Bool, true, false, arith, ◌||◌, ◌&&◌, ◌==◌, nat_lt, List, ◌∷◌, refl, sym, subst, Option, Some, None, Result, Err}
+use Rattle.std.proofs.Common.{◌≡◌, ℕ, suc, zero, Bool, true, false, arith, ◌||◌, ◌&&◌, ◌==◌, nat_lt, List, ◌∷◌, refl}
+use Rattle.std.proofs.Common.{sym, subst, Option, Some, None, Result, Err}
 use Rattle.std.proofs.lemmas.Bool.Decides.{nat_tests}
 use Rattle.std.specs.Prelude.{nat_le, if◌then◌else◌}
 use Rattle.granit_base.specs.Place.{Mark}
@@ -28,9 +32,12 @@ use Rattle.granit_lexemes.specs.Outcome.{Fault}
 use Rattle.granit_lexemes.specs.PlainEvent.{PlainEvent}
 use Rattle.granit_lexemes.specs.Lexeme as lexemes
 use Rattle.granit_agreement.proofs.BlockBegins.{question_begins, colon_begins, dash_begins, loose_begins}
-use Rattle.granit_agreement.proofs.BlockNodes.{KeyTaken, scalar_key, square_key, curly_key_node, anchor_key, tag_key, alias_key, part_limited}
-use Rattle.granit_agreement.proofs.PartSteps.{scalar_parts, square_parts, curly_parts, anchor_parts, tag_parts, alias_parts}
-use Rattle.granit_agreement.proofs.Wants.{BlockHole, root_hole, entry_hole, asked_hole, value_hole, hole_column, want_plain, want_key, want_question, want_colon, want_dash}
+use Rattle.granit_agreement.proofs.BlockNodes.{KeyTaken, scalar_key, square_key, curly_key_node, anchor_key, tag_key}
+use Rattle.granit_agreement.proofs.BlockNodes.{alias_key, part_limited}
+use Rattle.granit_agreement.proofs.PartSteps.{scalar_parts, square_parts, curly_parts, anchor_parts, tag_parts}
+use Rattle.granit_agreement.proofs.PartSteps.{alias_parts}
+use Rattle.granit_agreement.proofs.Wants.{BlockHole, root_hole, entry_hole, asked_hole, value_hole, hole_column}
+use Rattle.granit_agreement.proofs.Wants.{want_plain, want_key, want_question, want_colon, want_dash}
 
 -- ---- tests on both sides
 

@@ -1,6 +1,7 @@
 -- What the parser answers, in words of readings and causes.
 use Rattle.granit_agreement.specs.Running.{FairRun, RunView, ParsedAs, GivesAll}
-use Rattle.granit_agreement.specs.View.{Flagged, item_of, terminal_seen}
+use Rattle.granit_agreement.specs.View.{item_of}
+use Rattle.granit_language.specs.Seen.{Flagged, terminal_seen}
 use Rattle.granit_grammar.specs.EventMachine.{EventAnswer, Events, Faulty, Unfinished, events_before, IsFresh}
 use Rattle.granit_grammar.specs.Guarded.{guarded, whole_guard, whole_run}
 use Rattle.granit_language.specs.GrammarFault.{GrammarFault, fault_of}
@@ -9,15 +10,18 @@ use Rattle.granit_language.specs.Scoping.{scoped}
 use Rattle.granit_language.specs.Telling.{events_told}
 use Rattle.granit_language.specs.Terminal.{At, TheEnd, Terminal, terminal, text_start}
 use Rattle.granit_language.specs.TreeEvents.{TreeEvent, StreamStarts, pointed}
-use Rattle.granit_language.specs.Whole.{WholeReading, WholeFault}
+use Rattle.granit_language.specs.Whole.{Viable, WholeReading, WholeFault}
 use Rattle.granit_machine.specs.Frames.{ParserState, parser_start}
 use Rattle.granit_machine.specs.Machine.{feed_all}
-use Rattle.std.proofs.Common.{◌≡◌, List, [], ◌∷◌, ◌++◌, map, refl, sym, ap, ◌∙◌, subst, Result, Ok, Err}
+use Rattle.std.proofs.Common.{◌≡◌, List, [], ◌∷◌, ◌++◌, map, refl, sym, ap, ap₂, ◌∙◌, subst, Result, Ok, Err}
 use Rattle.granit_base.specs.Place.{Mark}
 use Rattle.granit_error.specs.OptionsData.{OptionsData}
 use Rattle.granit_lexemes.specs.Outcome.{Fault}
 use Rattle.granit_lexemes.specs.PlainEvent.{PlainEvent, StreamStart, event_on}
 use Rattle.granit_grammar.proofs.Wholes.{whole_events, whole_streams, whole_faults, whole_never_unfinished}
+use Rattle.granit_grammar.proofs.Wholes.{whole_viable}
+use Rattle.granit_grammar.proofs.Guards.{NotFaulty}
+use Rattle.granit_grammar.proofs.OneWhole.{viable_blocked, whole_faults_told}
 use Rattle.granit_agreement.proofs.WholeRuns.{run_agrees}
 
 abbrev Fully : EventAnswer → EventAnswer
@@ -81,3 +85,50 @@ pub readings_parsed :
 readings_parsed o m fs es fair r =
     told_by o es (feed_all o (map item_of fs) (parser_start m)) (Guards o (map terminal_seen fs))
     (whole_streams o (map terminal_seen fs) es r) (run_agrees o m fs fair)
+
+-- ---- causes and beginnings of readings, and what is parsed
+
+not_faulty_by :
+    (o : OptionsData) (xs : List Terminal) (y : List PlainEvent × ParserState) (a : EventAnswer) → RunView o (Ok y) a →
+    NotFaulty (Fully a)
+not_faulty_by o xs y (Events es) h = tt
+not_faulty_by o xs y Unfinished h = tt
+not_faulty_by o xs y (Faulty k x) h = absurd h
+
+pub parsed_viable :
+    (o : OptionsData) (m : Mark) (fs : List Flagged) (y : List PlainEvent × ParserState) →
+    FairRun fs no_scope IsFresh → feed_all o (map item_of fs) (parser_start m) ≡ Ok y → Viable o (map terminal_seen fs)
+parsed_viable o m fs y fair e =
+    whole_viable o (map terminal_seen fs)
+    (not_faulty_by o (map terminal_seen fs) y (Guards o (map terminal_seen fs))
+    (subst (λ r. RunView o r (Guards o (map terminal_seen fs))) e (run_agrees o m fs fair)))
+
+fault_by :
+    (o : OptionsData) (k : GrammarFault) (x : Terminal) (r : Result (List PlainEvent × ParserState) Fault)
+    (a : EventAnswer) → Fully a ≡ Faulty k x → RunView o r a → r ≡ Err (fault_of k x)
+fault_by o k x (Err f) (Faulty j y) e h = ap (λ f. Err f) (h ∙ same_fault j k y x e)
+  where
+    same_fault : (j k : GrammarFault) (y x : Terminal) → Faulty j y ≡ Faulty k x → fault_of j y ≡ fault_of k x
+    same_fault j k y x e = let a : j ≡ k = cc (e) in let b : y ≡ x = cc (e) in ap₂ fault_of a b
+fault_by o k x (Ok y) (Faulty j z) e h = absurd h
+fault_by o k x r (Events es) e h = absurd cc
+fault_by o k x r Unfinished e h = absurd cc
+
+pub faults_parsed :
+    (o : OptionsData) (m : Mark) (fs : List Flagged) (k : GrammarFault) (x : Terminal) → FairRun fs no_scope IsFresh →
+    WholeFault o (map terminal_seen fs) k x → feed_all o (map item_of fs) (parser_start m) ≡ Err (fault_of k x)
+faults_parsed o m fs k x fair f =
+    fault_by o k x (feed_all o (map item_of fs) (parser_start m)) (Guards o (map terminal_seen fs))
+    (whole_faults_told o (map terminal_seen fs) k x f) (run_agrees o m fs fair)
+
+pub viable_parsed :
+    (o : OptionsData) (m : Mark) (fs : List Flagged) → FairRun fs no_scope IsFresh → Viable o (map terminal_seen fs) →
+    (y : List PlainEvent × ParserState) × (feed_all o (map item_of fs) (parser_start m) ≡ Ok y)
+viable_parsed o m fs fair v = by (feed_all o (map item_of fs) (parser_start m)) refl
+  where
+    by :
+        (r : Result (List PlainEvent × ParserState) Fault) → feed_all o (map item_of fs) (parser_start m) ≡ r →
+        (y : List PlainEvent × ParserState) × (r ≡ Ok y)
+    by (Ok y) e = (y, refl)
+    by (Err f) e =
+        let c = parsed_faults o m fs f fair e in absurd (viable_blocked o (map terminal_seen fs) c.0 c.1 c.2 v)

@@ -1,15 +1,20 @@
 -- A lexeme of a node, at a place for one or behind properties.
-use Rattle.granit_agreement.specs.Good.{Holes, at_root, at_entry, at_key, at_asked, at_value, at_item, at_curly, curly_key, curly_asked, curly_value, made_key, made_value, pair_asked, pair_value}
+use Rattle.granit_agreement.specs.Good.{Holes, at_root, at_entry, at_key, at_asked, at_value, at_item, at_curly}
+use Rattle.granit_agreement.specs.Good.{curly_key, curly_asked, curly_value, made_key, made_value, pair_asked}
+use Rattle.granit_agreement.specs.Good.{pair_value}
 use Rattle.granit_agreement.specs.Stepping.{MeansView, StepView, at_kind, knowing}
 use Rattle.granit_agreement.specs.Steps.{PartsAgree, topped}
-use Rattle.granit_agreement.specs.View.{last_of, with_given, terminal_of, at_of, indent_of, frames_of, Beside, state_of}
+use Rattle.granit_agreement.specs.View.{last_of, with_given, frames_of, Beside, state_of}
+use Rattle.granit_language.specs.Seen.{terminal_of, at_of, indent_of}
 use Rattle.granit_grammar.specs.EventMachine.{OpenFrame, InFrames, frames_indent, put_frames, flow_frame, part_frames}
 use Rattle.granit_language.specs.GrammarFault.{GrammarFault, UnknownAnchor, UndeclaredTagHandle}
 use Rattle.granit_language.specs.Node.{TreeProperties, NoProperties, One, Two}
 use Rattle.granit_language.specs.Room.{joins}
-use Rattle.granit_language.specs.Scope.{Scope, entry_of}
-use Rattle.granit_language.specs.Scoping.{number_of_anchor, prefix_of, prefix_by, fault_if_none, alias_fault, scope_fault}
-use Rattle.granit_language.specs.Telling.{alias_told, or_handle, properties_anchor, properties_tag, indent_told, anchor_told}
+use Rattle.granit_language.specs.Scope.{Scope}
+use Rattle.granit_language.specs.Scoping.{number_of_anchor, prefix_of, prefix_by, fault_if_none, alias_fault}
+use Rattle.granit_language.specs.Scoping.{scope_fault}
+use Rattle.granit_language.specs.Telling.{alias_told, or_handle, properties_anchor, properties_tag, indent_told}
+use Rattle.granit_language.specs.Telling.{anchor_told}
 use Rattle.granit_language.specs.Terminal.{Anchor, Tag, Part, Alias, Property, Scalar, Open}
 use Rattle.granit_language.specs.TreeEvents.{imposed}
 use Rattle.granit_lexemes.specs.declared.layout.Bracket.TheVariants.{Square, Curly}
@@ -18,9 +23,9 @@ use Rattle.granit_machine.specs.Giving.{put, flush, key_indent, node_event}
 use Rattle.granit_machine.specs.NodeEnds.{finish, begin}
 use Rattle.granit_machine.specs.NodeSteps.{bare}
 use Rattle.granit_machine.specs.TokenSort.{token_of}
-use Rattle.std.proofs.Common.{◌≡◌, ℕ, Bool, true, false, List, [], ◌∷◌, ◌++◌, length, codes, refl, sym, ap, ap₂, ◌∙◌, subst, ◌==◌, nat_lt, Option, Some, None, Result, Ok, Err}
-use Rattle.std.specs.Prelude.{if◌then◌else◌, nat_eq}
-use lib.Pointwise.{pointwise}
+use Rattle.std.proofs.Common.{◌≡◌, ℕ, Bool, true, false, List, [], ◌∷◌, ◌++◌, length, codes, refl, sym, ap, ap₂, ◌∙◌}
+use Rattle.std.proofs.Common.{subst, ◌==◌, nat_lt, Option, Some, None, Result, Ok, Err}
+use Rattle.std.specs.Prelude.{if◌then◌else◌}
 use Rattle.granit_base.specs.Place.{Mark}
 use Rattle.granit_base.specs.Written.{Written}
 use Rattle.granit_base.specs.declared.style.ScalarStyle.{ScalarStyle}
@@ -33,7 +38,10 @@ use Rattle.granit_lexemes.specs.Outcome.{Fault, fault_at, ◌>>=◌}
 use Rattle.granit_lexemes.specs.PlainEvent as plain
 use Rattle.granit_lexemes.specs.PlainEvent.{PlainEvent, PlainTag, event_at}
 use Rattle.granit_machine.specs.Frames as machine
+use Rattle.granit_machine.specs.Entries.{lookup_text}
 use Rattle.granit_machine.specs.NodeSteps as steps
+use Rattle.granit_agreement.specs.Ordered.{ordered}
+use Rattle.granit_agreement.proofs.Lookups.{found_in_order}
 use Rattle.granit_agreement.proofs.Pops.{indent_none, node_head, node_event_view, flushed, indent_or, indent_view}
 use Rattle.granit_agreement.proofs.Standing.{popped, finish_view}
 use Rattle.granit_lexemes.specs.declared.layout.Bracket.TheVariants as brackets
@@ -256,14 +264,6 @@ anchor_parts b name s l o last given NoProperties fs stop (pair_asked h) e = ((l
 anchor_parts b name s l o last given NoProperties fs stop (pair_value h) e = ((last_of fs last, refl), refl)
 
 -- what lists say is one
-lookup_numbers : (name : List ℕ) (xs : List (List ℕ × ℕ)) → steps.lookup_text name xs ≡ entry_of name xs
-lookup_numbers name [] = refl
-lookup_numbers name (x ∷ xs) = ap (λ r. if pointwise nat_eq name x.0 then Some x.1 else r) (lookup_numbers name xs)
-
-pub lookup_texts : (name : List ℕ) (xs : List (List ℕ × List ℕ)) → steps.lookup_text name xs ≡ entry_of name xs
-lookup_texts name [] = refl
-lookup_texts name (x ∷ xs) = ap (λ r. if pointwise nat_eq name x.0 then Some x.1 else r) (lookup_texts name xs)
-
 -- ---- tags
 
 abbrev of_prefix : lexemes.Lexeme → Option (List ℕ) → Result (List ℕ) Fault
@@ -388,20 +388,20 @@ pub tag_parts :
 tag_parts b handle suffix s l o last given NoProperties fs stop h e =
     subst (TagMeans b handle suffix s l o last given NoProperties fs stop)
     (sym
-    (prefix_same b (TagLexeme l handle suffix) handle (steps.lookup_text handle s.handles)
-    ∙ ap (λ q. of_prefix l (prefix_by handle q)) (lookup_texts handle s.handles)))
+    (prefix_same b (TagLexeme l handle suffix) handle (lookup_text handle (ordered s.handles))
+    ∙ ap (λ q. of_prefix l (prefix_by handle q)) (found_in_order handle s.handles)))
     (tag_means b handle suffix s l o last given NoProperties fs stop (prefix_of handle s) h e refl)
 tag_parts b handle suffix s l o last given (One k i) fs stop h e =
     subst (TagMeans b handle suffix s l o last given (One k i) fs stop)
     (sym
-    (prefix_same b (TagLexeme l handle suffix) handle (steps.lookup_text handle s.handles)
-    ∙ ap (λ q. of_prefix l (prefix_by handle q)) (lookup_texts handle s.handles)))
+    (prefix_same b (TagLexeme l handle suffix) handle (lookup_text handle (ordered s.handles))
+    ∙ ap (λ q. of_prefix l (prefix_by handle q)) (found_in_order handle s.handles)))
     (tag_means b handle suffix s l o last given (One k i) fs stop (prefix_of handle s) h e refl)
 tag_parts b handle suffix s l o last given (Two k i m j) fs stop h e =
     subst (TagMeans b handle suffix s l o last given (Two k i m j) fs stop)
     (sym
-    (prefix_same b (TagLexeme l handle suffix) handle (steps.lookup_text handle s.handles)
-    ∙ ap (λ q. of_prefix l (prefix_by handle q)) (lookup_texts handle s.handles)))
+    (prefix_same b (TagLexeme l handle suffix) handle (lookup_text handle (ordered s.handles))
+    ∙ ap (λ q. of_prefix l (prefix_by handle q)) (found_in_order handle s.handles)))
     (tag_means b handle suffix s l o last given (Two k i m j) fs stop (prefix_of handle s) h e refl)
 
 -- ---- aliases
@@ -512,5 +512,5 @@ alias_parts b name s l o last given fs stop h =
     AliasMeans b name s l o last given fs stop
     (steps.alias_by o (token_of b (AliasLexeme l name)) name r
     (state_of o (InFrames fs) (knowing s last given))))
-    (sym (lookup_numbers name.characters s.names))
+    (sym (found_in_order name.characters s.names))
     (alias_means b name s l o last given fs stop (number_of_anchor name.characters s) h refl)

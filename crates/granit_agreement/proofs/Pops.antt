@@ -1,5 +1,6 @@
 -- The parser ends a frame with the events that the grammar's machine gives.
-use Rattle.std.proofs.Common.{◌≡◌, ℕ, Bool, true, false, List, [], ◌∷◌, ◌++◌, refl, ap, ap₂, ◌∙◌, append_assoc, Option, Some, None}
+use Rattle.std.proofs.Common.{◌≡◌, ℕ, Bool, true, false, List, [], ◌∷◌, ◌++◌, refl, ap, ap₂, ◌∙◌, append_assoc, Option}
+use Rattle.std.proofs.Common.{Some, None}
 use Rattle.std.specs.Prelude.{if◌then◌else◌}
 use Rattle.std.proofs.lemmas.List.{append-nil}
 use Rattle.granit_base.specs.Place.{Mark}
@@ -11,19 +12,28 @@ use Rattle.granit_lexemes.specs.PlainEvent.{PlainEvent, PlainTag, EventKind, eve
 use Rattle.granit_lexemes.specs.PlainEvent as plain
 use Rattle.granit_lexemes.specs.Lexeme as lexemes
 use Rattle.granit_agreement.specs.Fair.{frame_ends_at}
-use Rattle.granit_agreement.specs.Good.{Holes, at_root, at_entry, at_key, at_asked, at_value, at_item, at_curly, curly_key, curly_asked, curly_value, made_key, made_value, pair_asked, pair_value, GoodProperties, Good, hole, behind_properties, past_entry, key_done, ask_done, pair_done, item_done, curly_key_done, curly_ask_done, curly_solo, curly_done, made_key_done, made_done, square_ask_done, square_done}
-use Rattle.granit_agreement.specs.View.{terminal_of, frames_of, parser_properties, Beside, state_of, give_all, with_given, waits_at}
+use Rattle.granit_agreement.specs.Good.{Holes, at_root, at_entry, at_key, at_asked, at_value, at_item, at_curly}
+use Rattle.granit_agreement.specs.Good.{curly_key, curly_asked, curly_value, made_key, made_value, pair_asked}
+use Rattle.granit_agreement.specs.Good.{pair_value, GoodProperties, Good, hole, behind_properties, past_entry, key_done}
+use Rattle.granit_agreement.specs.Good.{ask_done, pair_done, item_done, curly_key_done, curly_ask_done, curly_solo}
+use Rattle.granit_agreement.specs.Good.{curly_done, made_key_done, made_done, square_ask_done, square_done}
+use Rattle.granit_agreement.specs.View.{frames_of, parser_properties, Beside, state_of, give_all, with_given, waits_at}
+use Rattle.granit_language.specs.Seen.{terminal_of}
 use Rattle.granit_base.specs.Place.{Mark}
-use Rattle.granit_grammar.specs.EventMachine.{Asking, AskDone, Done, Value, OpenFrame, DocumentFrame, PropertiesFrame, SequenceFrame, MappingFrame, FlowSequenceFrame, FlowMappingFrame, FlowPairFrame, InFrames, frames_indent, put_frames, PairAt}
+use Rattle.granit_grammar.specs.EventMachine.{Asking, AskDone, Done, Value, OpenFrame, DocumentFrame, PropertiesFrame}
+use Rattle.granit_grammar.specs.EventMachine.{SequenceFrame, MappingFrame, FlowSequenceFrame, FlowMappingFrame}
+use Rattle.granit_grammar.specs.EventMachine.{FlowPairFrame, InFrames, frames_indent, put_frames, PairAt}
 use Rattle.granit_language.specs.Node.{TreeProperties, NoProperties, One, Two}
 use Rattle.granit_language.specs.Scope.{Scope}
-use Rattle.granit_language.specs.Telling.{number_told, tag_told, span_told, one_less, AnchorTold, TagTold, properties_anchor, properties_tag, indent_told, anchor_told}
+use Rattle.granit_language.specs.Telling.{number_told, tag_told, span_told, one_less, AnchorTold, TagTold}
+use Rattle.granit_language.specs.Telling.{properties_anchor, properties_tag, indent_told, anchor_told}
 use Rattle.granit_language.specs.Terminal.{Anchor, Tag}
-use Rattle.granit_language.specs.TreeEvents.{alone_text, SequenceEnds, MappingEnds, TreeEvent, null, pointed, alone_event, properties_end}
-use Rattle.granit_lexemes.specs.Basics.{owned}
+use Rattle.granit_language.specs.TreeEvents.{alone_text, SequenceEnds, MappingEnds, TreeEvent, null, pointed}
+use Rattle.granit_language.specs.TreeEvents.{alone_event, properties_end}
 use Rattle.granit_machine.specs.Closing.{end_top}
 use Rattle.granit_machine.specs.Frames.{ParserState}
-use Rattle.granit_machine.specs.Giving.{put, flush_held, null_at, key_indent, tell_anchor, node_event_by, node_event}
+use Rattle.granit_machine.specs.Giving.{lent, put, flush_held, null_at, key_indent, tell_anchor, node_event_by}
+use Rattle.granit_machine.specs.Giving.{node_event}
 use Rattle.granit_machine.specs.NodeEnds.{null_text, finish, end_by, end_node, end_properties, null_node, empty_span}
 use Rattle.granit_machine.specs.TokenSort.{token_of}
 use Rattle.granit_agreement.proofs.Standing.{popped, finish_view}
@@ -270,7 +280,7 @@ indent_none (Some c) = refl
 abbrev AloneGiven : OptionsData → TreeProperties → List ℕ → Option ℕ → List PlainEvent → List PlainEvent
 AloneGiven o p text indent given =
     given
-    ++ node_head (properties_anchor p) (properties_tag p) (plain.Scalar (owned text) Plain)
+    ++ node_head (properties_anchor p) (properties_tag p) (plain.Scalar (lent text) Plain)
     (empty_span (properties_end p)) indent
     ∷ anchor_told o (properties_anchor p) []
 

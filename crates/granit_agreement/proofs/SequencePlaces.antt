@@ -3,16 +3,21 @@ use Rattle.granit_agreement.specs.Fair.{frame_ends_at}
 use Rattle.granit_agreement.specs.Good.{Holes, at_root, at_entry, IsPositive}
 use Rattle.granit_agreement.specs.Stepping.{taken, LimitView, at_kind, knowing}
 use Rattle.granit_agreement.specs.Steps.{StepsLimited}
-use Rattle.granit_agreement.specs.View.{terminal_kind, terminal_of, at_of, state_of}
-use Rattle.granit_grammar.specs.EventMachine.{OpenFrame, DocumentFrame, SequenceFrame, EventState, InFrames, Ending, ending, with_event, finish_frames, frames_empty, nothing_frames, GoesTo, StopsWith, after_events, if_gives, take_frames, want_frames}
+use Rattle.granit_agreement.specs.View.{state_of}
+use Rattle.granit_language.specs.Seen.{terminal_kind, terminal_of, at_of}
+use Rattle.granit_grammar.specs.EventMachine.{OpenFrame, DocumentFrame, SequenceFrame, EventState, InFrames, Ending}
+use Rattle.granit_grammar.specs.EventMachine.{ending, with_event, finish_frames, frames_empty, nothing_frames, GoesTo}
+use Rattle.granit_grammar.specs.EventMachine.{StopsWith, after_events, if_gives, take_frames, want_frames}
 use Rattle.granit_grammar.specs.Guarded.{blocks_open, first_fault}
 use Rattle.granit_language.specs.Choice.{choose}
-use Rattle.granit_language.specs.GrammarFault.{GrammarFault, UnexpectedEofBlockSequence, ExpectedBlockSequenceEntry, fault_of}
+use Rattle.granit_language.specs.GrammarFault.{GrammarFault, UnexpectedEofBlockSequence, ExpectedBlockSequenceEntry}
+use Rattle.granit_language.specs.GrammarFault.{fault_of}
 use Rattle.granit_language.specs.Node.{NoProperties}
 use Rattle.granit_language.specs.Room.{sequence_over}
 use Rattle.granit_language.specs.Scope.{Scope}
 use Rattle.granit_language.specs.Telling.{one_less}
-use Rattle.granit_language.specs.Terminal.{Terminal, TerminalKind, Dash, At, is_dash_kind, stands_left, stands_in, dash_in, entry_in}
+use Rattle.granit_language.specs.Terminal.{Terminal, TerminalKind, Dash, At, is_dash_kind, stands_left, stands_in}
+use Rattle.granit_language.specs.Terminal.{dash_in, entry_in}
 use Rattle.granit_lexemes.specs.Lexeme.{KeyStart}
 use Rattle.granit_language.specs.TreeEvents.{null, pointed, SequenceEnds}
 use Rattle.granit_machine.specs.BlockSteps.{in_sequence}
@@ -21,8 +26,12 @@ use Rattle.granit_machine.specs.Giving.{put, null_at, give_empty}
 use Rattle.granit_machine.specs.NodeEnds.{waits, with_top}
 use Rattle.granit_machine.specs.NodeSteps.{take_dash, NextEntry}
 use Rattle.granit_machine.specs.Parser.{take_token}
-use Rattle.granit_machine.specs.TokenSort.{TokenSort, token_of, token_sort, begins_node, is_dash_token, column_of_token, token_column, is_in_column, is_right_of, BeginsKey, BeginsNode, DashToken, QuestionToken, BareColon, KeyedColon, CommaToken, SequenceCloser, MappingCloser, OfStream}
-use Rattle.std.proofs.Common.{◌≡◌, ℕ, suc, zero, Bool, true, false, arith, ◌||◌, ◌&&◌, ◌==◌, not, nat_lt, List, [], ◌∷◌, refl, sym, ap, ap₂, ◌∙◌, subst, Option, Some, None, Result, Ok, Err}
+use Rattle.granit_machine.specs.TokenSort.{TokenSort, token_of, token_sort, begins_node, is_dash_token, column_of_token}
+use Rattle.granit_machine.specs.TokenSort.{token_column, is_in_column, is_right_of, BeginsKey, BeginsNode, DashToken}
+use Rattle.granit_machine.specs.TokenSort.{QuestionToken, BareColon, KeyedColon, CommaToken, SequenceCloser}
+use Rattle.granit_machine.specs.TokenSort.{MappingCloser, OfStream}
+use Rattle.std.proofs.Common.{◌≡◌, ℕ, suc, zero, Bool, true, false, arith, ◌||◌, ◌&&◌, ◌==◌, not, nat_lt, List, [], ◌∷◌}
+use Rattle.std.proofs.Common.{refl, sym, ap, ap₂, ◌∙◌, subst, Option, Some, None, Result, Ok, Err}
 use Rattle.std.proofs.lemmas.Bool.Decides.{nat_tests}
 use Rattle.std.specs.Prelude.{nat_le, if◌then◌else◌}
 use Rattle.granit_base.specs.Place.{Mark}

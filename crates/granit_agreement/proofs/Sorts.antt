@@ -1,13 +1,17 @@
 -- Tests of a token are tests of its lexeme.
 use Rattle.granit_agreement.specs.Good.{IsPositive}
-use Rattle.granit_agreement.specs.View.{terminal_kind, at_of, terminal_of}
+use Rattle.granit_language.specs.Seen.{terminal_kind, at_of, terminal_of}
 use Rattle.granit_language.specs.Scope.{Scope}
 use Rattle.granit_language.specs.Telling.{one_less}
-use Rattle.granit_language.specs.Terminal.{At, reach_of, is_stream_kind, is_dash_kind, is_bare_kind, is_comma_kind, closes_kind, begins_entry_kind, stands_left, stands_in, dash_in, entry_in}
+use Rattle.granit_language.specs.Terminal.{At, reach_of, is_stream_kind, is_dash_kind, is_bare_kind, is_comma_kind}
+use Rattle.granit_language.specs.Terminal.{closes_kind, begins_entry_kind, stands_left, stands_in, dash_in, entry_in}
 use Rattle.granit_lexemes.specs.Lexeme.{KeyStart}
 use Rattle.granit_lexemes.specs.declared.layout.Bracket.TheVariants.{Square}
-use Rattle.granit_machine.specs.TokenSort.{token_sort, token_of, begins_pair, is_dash_token, is_bare_colon, is_of_stream, ends_entry, column_of_token, token_column, is_in_column, ends_frame}
-use Rattle.std.proofs.Common.{◌≡◌, ℕ, suc, zero, Bool, true, false, refl, sym, ap, ap₂, ◌∙◌, arith, ◌==◌, ◌&&◌, ◌||◌, nat_lt, Option, Some, None}
+use Rattle.granit_machine.specs.TokenSort.{token_sort, token_of, begins_pair, is_dash_token, is_bare_colon}
+use Rattle.granit_machine.specs.TokenSort.{is_of_stream, ends_entry, column_of_token, token_column, is_in_column}
+use Rattle.granit_machine.specs.TokenSort.{ends_frame}
+use Rattle.std.proofs.Common.{◌≡◌, ℕ, suc, zero, Bool, true, false, refl, sym, ap, ap₂, ◌∙◌, arith, ◌==◌, ◌&&◌, ◌||◌}
+use Rattle.std.proofs.Common.{nat_lt, Option, Some, None}
 use Rattle.std.proofs.lemmas.Bool.Decides.{nat_tests}
 use Rattle.granit_lexemes.specs.Lexeme as lexemes
 use Rattle.granit_lexemes.specs.declared.layout.Bracket.TheVariants as brackets

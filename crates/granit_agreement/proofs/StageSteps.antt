@@ -2,23 +2,30 @@
 use Rattle.granit_agreement.specs.Good.{hole, at_root, is_fresh, directed}
 use Rattle.granit_agreement.specs.Running.{Knows, NextView}
 use Rattle.granit_agreement.specs.Stepping.{taken, LimitView, at_kind, knowing}
-use Rattle.granit_agreement.specs.View.{Beside, terminal_kind, terminal_of, at_of, indent_of, state_of, give_all}
-use Rattle.granit_grammar.specs.EventMachine.{OpenFrame, DocumentFrame, EventState, IsFresh, HasDirectives, IsRooted, InFrames, ended_by, EventStep, GoesTo, StopsWith, after_events, take_frames, want_frames}
+use Rattle.granit_agreement.specs.View.{Beside, state_of, give_all}
+use Rattle.granit_language.specs.Seen.{terminal_kind, terminal_of, at_of, indent_of}
+use Rattle.granit_grammar.specs.EventMachine.{OpenFrame, DocumentFrame, EventState, IsFresh, HasDirectives, IsRooted}
+use Rattle.granit_grammar.specs.EventMachine.{InFrames, ended_by, EventStep, GoesTo, StopsWith, after_events}
+use Rattle.granit_grammar.specs.EventMachine.{take_frames, want_frames}
 use Rattle.granit_grammar.specs.Guarded.{first_fault, fault_unless}
-use Rattle.granit_language.specs.GrammarFault.{GrammarFault, fault_of, UnexpectedEofBlockSequence, DuplicateVersionDirective, UnsupportedYamlMajorVersion, DuplicateTagDirective}
+use Rattle.granit_language.specs.GrammarFault.{GrammarFault, fault_of, UnexpectedEofBlockSequence}
+use Rattle.granit_language.specs.GrammarFault.{DuplicateVersionDirective, UnsupportedYamlMajorVersion}
+use Rattle.granit_language.specs.GrammarFault.{DuplicateTagDirective}
 use Rattle.granit_language.specs.Node.{NoProperties}
 use Rattle.granit_language.specs.Scope.{Scope, entry_of}
 use Rattle.granit_language.specs.Scoping.{version_fault, handle_fault, unless}
 use Rattle.granit_language.specs.Telling.{event_told, version_told, indent_told}
 use Rattle.granit_language.specs.Terminal.{Directive, Terminal, is_stream_kind}
-use Rattle.granit_language.specs.TreeEvents.{TreeEvent, bare_document_start, pointed, shown_event, DocumentStarts, DocumentEnds, StreamEnds}
+use Rattle.granit_language.specs.TreeEvents.{TreeEvent, bare_document_start, pointed, shown_event, DocumentStarts}
+use Rattle.granit_language.specs.TreeEvents.{DocumentEnds, StreamEnds}
 use Rattle.granit_lexemes.specs.Lexeme.{KeyStart, DirectiveKind, Version, TagPrefix, Reserved}
 use Rattle.granit_lexemes.specs.declared.layout.Bracket.TheVariants.{Square, Curly}
 use Rattle.granit_machine.specs.NodeSteps.{Stepped}
 use Rattle.granit_machine.specs.Parser.{take_token}
 use Rattle.granit_machine.specs.StreamSteps.{bare_start, begin_document, with_directive, with_handle}
 use Rattle.granit_machine.specs.TokenSort.{token_of, token_sort, begins_node}
-use Rattle.std.proofs.Common.{◌≡◌, ℕ, Bool, true, false, arith, ◌==◌, List, [], ◌∷◌, ◌++◌, refl, sym, ap, ap₂, ◌∙◌, subst, Option, Some, None, Ok, Err}
+use Rattle.std.proofs.Common.{◌≡◌, ℕ, Bool, true, false, arith, ◌==◌, List, [], ◌∷◌, ◌++◌, refl, sym, ap, ap₂, ◌∙◌}
+use Rattle.std.proofs.Common.{subst, Option, Some, None, Ok, Err}
 use Rattle.std.proofs.lemmas.Bool.Decides.{nat_tests}
 use Rattle.std.specs.Prelude.{nat_le, if◌then◌else◌}
 use Rattle.granit_base.specs.Place.{Mark}
@@ -33,7 +40,9 @@ use Rattle.granit_agreement.proofs.Dashes.{dash_or}
 use Rattle.granit_agreement.proofs.FrameNexts.{limit_next}
 use Rattle.granit_agreement.proofs.GoodSteps.{after_step, want_stands}
 use Rattle.granit_agreement.proofs.NodeTests.{Tested}
-use Rattle.granit_agreement.proofs.PartSteps.{lookup_texts}
+use Rattle.granit_agreement.proofs.Lookups.{found_in_order}
+use Rattle.granit_agreement.specs.Ordered.{ordered}
+use Rattle.granit_machine.specs.Entries.{lookup_text, remembered}
 use Rattle.granit_agreement.proofs.SequencePlaces.{root_by}
 use Rattle.granit_agreement.proofs.Views.{after_nothing, events_before}
 
@@ -70,7 +79,7 @@ Then b c key s l o v d r =
 
 version_by :
     (b : Bool) (major minor : ℕ) (key : Option KeyStart) (s : Scope) (l : lexemes.Lexeme) (o : OptionsData) (d : Beside)
-    (same : Bool) → (major == 1) ≡ same → d.count ≡ s.count → d.handles ≡ s.pending → s.version ≡ None →
+    (same : Bool) → (major == 1) ≡ same → d.count ≡ s.count → d.handles ≡ ordered s.pending → s.version ≡ None →
     Then b (Version major minor) key s l o None d (With o b (Version major minor) key l None d)
 version_by b major minor key s l o d true e c h v =
     subst (Then b (Version major minor) key s l o None d)
@@ -107,7 +116,7 @@ version_by b major minor key s l o d false e c h v =
 handle_by :
     (b : Bool) (handle prefix : List ℕ) (key : Option KeyStart) (s : Scope) (l : lexemes.Lexeme) (o : OptionsData)
     (v : Option (ℕ × ℕ)) (d : Beside) (known : Option (List ℕ)) → entry_of handle s.pending ≡ known →
-    d.count ≡ s.count → d.handles ≡ s.pending → s.version ≡ v →
+    d.count ≡ s.count → d.handles ≡ ordered s.pending → s.version ≡ v →
     Then b (TagPrefix handle prefix) key s l o v d
     (with_handle (token_of b (at_kind l (lexemes.Directive (TagPrefix handle prefix)) key))
     (version_told v) handle prefix known
@@ -115,17 +124,17 @@ handle_by :
 handle_by b handle prefix key s l o v d (Some known) e c h w =
     (DuplicateTagDirective, guarded_by o.block_nesting_limit _ _ ∙ ap handle_fault e, refl)
 handle_by b handle prefix key s l o v d None e c h w = record {
-  beside = record d { handles = (handle, prefix) ∷ d.handles };
+  beside = record d { handles = remembered handle prefix d.handles };
   is_seen = refl;
   gives = refl;
-  knows = (c, ap (λ hs. (handle, prefix) ∷ hs) h, w);
+  knows = (c, ap (remembered handle prefix) h, w);
   passes = guarded_by o.block_nesting_limit _ _ ∙ ap handle_fault e;
   comes = directed;
 }
 
 directive_next :
     (b : Bool) (c : DirectiveKind) (key : Option KeyStart) (s : Scope) (l : lexemes.Lexeme) (o : OptionsData)
-    (v : Option (ℕ × ℕ)) (d : Beside) → d.count ≡ s.count → d.handles ≡ s.pending → s.version ≡ v →
+    (v : Option (ℕ × ℕ)) (d : Beside) → d.count ≡ s.count → d.handles ≡ ordered s.pending → s.version ≡ v →
     Then b c key s l o v d (With o b c key l v d)
 directive_next b (Version major minor) key s l o None d c h w =
     version_by b major minor key s l o d (major == 1) refl c h w
@@ -138,7 +147,7 @@ directive_next b (TagPrefix handle prefix) key s l o v d c h w =
     (with_handle (token_of b (at_kind l (lexemes.Directive (TagPrefix handle prefix)) key))
     (version_told v) handle prefix q
     (state_of o (HasDirectives v) d)))
-    (sym (lookup_texts handle d.handles ∙ ap (entry_of handle) h))
+    (sym (ap (lookup_text handle) h ∙ found_in_order handle s.pending))
     (handle_by b handle prefix key s l o v d (entry_of handle s.pending) refl c h w)
 directive_next b (Reserved name parameters) key s l o v d c h w = record {
   beside = d;
@@ -203,7 +212,7 @@ rooted_next b lexemes.DocumentStart key s l o e d w =
       gives = refl;
       knows = (
         ap₂ (λ n hs. record { last = l.shown.end; count = n; names = []; handles = hs; given = given })
-            (ap (λ d. d.count) w.0) (sym w.1),
+            (ap (λ d. d.count) w.0) (ap ordered (sym w.1)),
         refl,
         refl,
       );
@@ -228,7 +237,7 @@ rooted_next b lexemes.StreamEnd key s l o e d w = record {
         give_all o (pointed DocumentEnds e ∷ shown_event StreamEnds (at_of b s (at_kind l lexemes.StreamEnd key)) ∷ [])
         d.given;
   };
-  is_seen = refl;
+  is_seen = (refl, refl);
   gives = refl;
   knows = tt;
   passes = guarded_by o.block_nesting_limit _ _;
@@ -330,7 +339,7 @@ begun_knows b k key s l d w =
       handles = hs;
       given = d.given ++ BareAt b k key l ∷ [];
     })
-    (sym w.1) (sym w.2)
+    (ap ordered (sym w.1)) (ap ordered (sym w.2))
 
 err_before :
     (o : OptionsData) (x : Terminal) (d c : Beside) (f : Fault) (es : List TreeEvent) (y : EventStep) →
@@ -399,11 +408,14 @@ pub fresh_next :
     (b : Bool) (k : lexemes.LexemeKind) (key : Option KeyStart) (s : Scope) (l : lexemes.Lexeme) (o : OptionsData)
     (d : Beside) → Knows IsFresh s d → StageView b k key s l o d IsFresh
 fresh_next b (lexemes.Directive (Version major minor)) key s l o d w =
-    directive_next b (Version major minor) key s l o None (record d { names = []; handles = [] }) w.0 (sym w.3) w.4
+    directive_next b (Version major minor) key s l o None (record d { names = []; handles = [] }) w.0
+    (ap ordered (sym w.3)) w.4
 fresh_next b (lexemes.Directive (TagPrefix handle prefix)) key s l o d w =
-    directive_next b (TagPrefix handle prefix) key s l o None (record d { names = []; handles = [] }) w.0 (sym w.3) w.4
+    directive_next b (TagPrefix handle prefix) key s l o None (record d { names = []; handles = [] }) w.0
+    (ap ordered (sym w.3)) w.4
 fresh_next b (lexemes.Directive (Reserved name parameters)) key s l o d w =
-    directive_next b (Reserved name parameters) key s l o None (record d { names = []; handles = [] }) w.0 (sym w.3) w.4
+    directive_next b (Reserved name parameters) key s l o None (record d { names = []; handles = [] }) w.0
+    (ap ordered (sym w.3)) w.4
 fresh_next b lexemes.DocumentStart key s l o d w =
     let given = give_all o
     (shown_event (DocumentStarts true None) (at_of b s (at_kind l lexemes.DocumentStart key)) ∷ []) d.given in
@@ -412,7 +424,8 @@ fresh_next b lexemes.DocumentStart key s l o d w =
       is_seen = refl;
       gives = refl;
       knows = (
-        ap₂ (λ n hs. record { last = l.shown.end; count = n; names = []; handles = hs; given = given }) w.0 (sym w.3),
+        ap₂ (λ n hs. record { last = l.shown.end; count = n; names = []; handles = hs; given = given }) w.0
+            (ap ordered (sym w.3)),
         refl,
         refl,
       );
@@ -431,7 +444,7 @@ fresh_next b lexemes.StreamEnd key s l o d w = record {
   beside = record d {
     given = give_all o (shown_event StreamEnds (at_of b s (at_kind l lexemes.StreamEnd key)) ∷ []) d.given;
   };
-  is_seen = refl;
+  is_seen = (refl, refl);
   gives = refl;
   knows = tt;
   passes = guarded_by o.block_nesting_limit _ _;

@@ -1,5 +1,9 @@
 -- The states that the grammar's machine comes to, and what finishing a node does to them on both sides.
-use Rattle.granit_agreement.specs.Good.{rooted, Good, Holes, ask_done, at_asked, at_curly, at_entry, at_item, at_key, at_root, at_value, curly_ask_done, curly_asked, curly_done, curly_key, curly_key_done, curly_solo, curly_value, item_done, key_done, made_done, made_key, made_key_done, made_value, pair_asked, pair_done, pair_value, past_entry, square_ask_done, square_done}
+use Rattle.granit_agreement.specs.Good.{rooted, Good, Holes, ask_done, at_asked, at_curly, at_entry, at_item, at_key}
+use Rattle.granit_agreement.specs.Good.{at_root, at_value, curly_ask_done, curly_asked, curly_done, curly_key}
+use Rattle.granit_agreement.specs.Good.{curly_key_done, curly_solo, curly_value, item_done, key_done, made_done}
+use Rattle.granit_agreement.specs.Good.{made_key, made_key_done, made_value, pair_asked, pair_done, pair_value}
+use Rattle.granit_agreement.specs.Good.{past_entry, square_ask_done, square_done}
 use Rattle.granit_agreement.specs.View.{frames_of, Beside, state_of, with_given}
 use Rattle.granit_base.specs.Place.{Mark}
 use Rattle.granit_grammar.specs.EventMachine.{OpenFrame, finish_frames, ended_by, put_frames}

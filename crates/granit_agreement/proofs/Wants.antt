@@ -1,13 +1,18 @@
 -- A lexeme where a node must stand outside flow, by the column it stands in.
 use Rattle.granit_agreement.specs.Steps.{asks, colons, dashes}
-use Rattle.granit_grammar.specs.EventMachine.{Key, Asking, Value, OpenFrame, DocumentFrame, SequenceFrame, MappingFrame, EventStep, after_events, if_gives, frames_room, frames_indent, part_frames, begin_pair_frames, entry_frames, BlockSite, stop_kind, want_frames}
+use Rattle.granit_grammar.specs.EventMachine.{Key, Asking, Value, OpenFrame, DocumentFrame, SequenceFrame, MappingFrame}
+use Rattle.granit_grammar.specs.EventMachine.{EventStep, after_events, if_gives, frames_room, frames_indent}
+use Rattle.granit_grammar.specs.EventMachine.{part_frames, begin_pair_frames, entry_frames, BlockSite, stop_kind}
+use Rattle.granit_grammar.specs.EventMachine.{want_frames}
 use Rattle.granit_language.specs.Choice.{choose}
 use Rattle.granit_language.specs.GrammarFault.{GrammarFault}
 use Rattle.granit_language.specs.Node.{TreeProperties, NoProperties, One, Two}
 use Rattle.granit_language.specs.Room.{Room, room_behind, right_fits, loose_fits, indicates, part_fits}
-use Rattle.granit_language.specs.Terminal.{Part, PartKind, Alias, Property, Scalar, Open, Question, Colon, Dash, At, terminal, edge}
+use Rattle.granit_language.specs.Terminal.{Part, PartKind, Alias, Property, Scalar, Open, Question, Colon, Dash, At}
+use Rattle.granit_language.specs.Terminal.{terminal, edge}
 use Rattle.granit_language.specs.TreeEvents.{mapping_start}
-use Rattle.std.proofs.Common.{◌≡◌, ℕ, Bool, true, false, ◌&&◌, not, nat_lt, List, [], ◌∷◌, refl, ap, ap₂, ◌∙◌, Option, Some, None}
+use Rattle.std.proofs.Common.{◌≡◌, ℕ, Bool, true, false, ◌&&◌, not, nat_lt, List, [], ◌∷◌, refl, ap, ap₂, ◌∙◌, Option}
+use Rattle.std.proofs.Common.{Some, None}
 use Rattle.granit_base.specs.Place.{Mark}
 
 -- a place for a node outside flow, where a block collection may begin

@@ -1,10 +1,14 @@
 -- The parser's run over lexemes and that of the grammar's machine.
 use Rattle.granit_agreement.specs.Good.{Good, is_fresh}
-use Rattle.granit_agreement.specs.Running.{Knows, Seen, Comes, NextView, FairNext, FairRun, RunView}
+use Rattle.granit_agreement.specs.Running.{Knows, Seen, ComesTo, NextView, FairNext, FairRun, RunView}
 use Rattle.granit_agreement.specs.Stepping.{taken, at_kind}
-use Rattle.granit_agreement.specs.View.{Beside, Flagged, terminal_of, item_of, terminal_seen, state_of, give_all}
-use Rattle.granit_grammar.specs.EventMachine.{EventState, IsFresh, HasDirectives, IsRooted, InFrames, IsEnded, Ending, ending, ended_by, EventStep, GoesTo, StopsWith, after_events, take_frames, EventAnswer, Events, Faulty, Unfinished, events_before}
-use Rattle.granit_grammar.specs.Guarded.{Guard, passed, goes_by, closed_by, guarded, first_fault, fault_unless, state_count, is_loose, whole_guard}
+use Rattle.granit_agreement.specs.View.{Beside, item_of, state_of, give_all}
+use Rattle.granit_language.specs.Seen.{Flagged, terminal_of, terminal_seen}
+use Rattle.granit_grammar.specs.EventMachine.{EventState, IsFresh, HasDirectives, IsRooted, InFrames, IsEnded, Ending}
+use Rattle.granit_grammar.specs.EventMachine.{ending, ended_by, EventStep, GoesTo, StopsWith, after_events, take_frames}
+use Rattle.granit_grammar.specs.EventMachine.{EventAnswer, Events, Faulty, Unfinished, events_before}
+use Rattle.granit_grammar.specs.Guarded.{Guard, passed, goes_by, closed_by, guarded, first_fault, fault_unless}
+use Rattle.granit_grammar.specs.Guarded.{state_count, is_loose, whole_guard}
 use Rattle.granit_language.specs.GrammarFault.{GrammarFault, TooManyBlocks}
 use Rattle.granit_language.specs.Scope.{Scope, no_scope}
 use Rattle.granit_language.specs.Scoping.{next_scope, scoped}
@@ -17,7 +21,8 @@ use Rattle.granit_machine.specs.Lexing.{FlaggedItem}
 use Rattle.granit_machine.specs.Machine.{feed_all}
 use Rattle.granit_machine.specs.Parser.{take_token, take_tail, next_line, feed}
 use Rattle.granit_machine.specs.TokenSort.{token_of}
-use Rattle.std.proofs.Common.{◌≡◌, ℕ, Bool, true, false, List, [], ◌∷◌, ◌++◌, map, refl, sym, ap, ap₂, ◌∙◌, subst, append_assoc, Option, None, Result, Ok, Err}
+use Rattle.std.proofs.Common.{◌≡◌, ℕ, Bool, true, false, List, [], ◌∷◌, ◌++◌, map, refl, sym, ap, ap₂, ◌∙◌, subst}
+use Rattle.std.proofs.Common.{append_assoc, Option, None, Result, Ok, Err}
 use Rattle.std.specs.Prelude.{nat_le}
 use Rattle.std.proofs.lemmas.List.{append-nil}
 use Rattle.granit_base.specs.Place.{Mark}
@@ -32,14 +37,14 @@ use Rattle.granit_agreement.proofs.WholeSteps.{step_next}
 
 -- ---- events
 
-told_append :
+pub told_append :
     (o : OptionsData) (es more : List TreeEvent) → events_told o (es ++ more) ≡ events_told o es ++ events_told o more
 told_append o [] more = refl
 told_append o (e ∷ es) more =
     ap (λ gs. event_told o e ++ gs) (told_append o es more)
     ∙ sym (append_assoc (event_told o e) (events_told o es) (events_told o more))
 
-give_told :
+pub give_told :
     (o : OptionsData) (es : List TreeEvent) (given : List PlainEvent) → give_all o es given ≡ given ++ events_told o es
 give_told o [] given = sym (append-nil given)
 give_told o (e ∷ es) given =
@@ -60,17 +65,17 @@ closed_goes g (ending st es) x on = goes_after g es (take_frames st x.kind x.at)
 
 -- ---- the parser is fed item by item
 
-abbrev Emptied : ParserState → ParserState
+abbrev pub Emptied : ParserState → ParserState
 Emptied p = record p { given = [] }
 
-abbrev Given : ParserState → Result (List PlainEvent × ParserState) Fault
+abbrev pub Given : ParserState → Result (List PlainEvent × ParserState) Fault
 Given q = Ok (q.given, Emptied q)
 
-abbrev Front :
+abbrev pub Front :
     OptionsData → List FlaggedItem → List PlainEvent × ParserState → Result (List PlainEvent × ParserState) Fault
 Front o is x = with_front x.0 (feed_all o is x.1)
 
-abbrev Fed :
+abbrev pub Fed :
     OptionsData → Flagged → List FlaggedItem → Result ParserState Fault → Result (List PlainEvent × ParserState) Fault
 Fed o f is r =
     ((r >>= take_tail f.0.kind None (next_line is)) >>= Given) >>= Front o is
@@ -79,14 +84,14 @@ tail_none : (k : lexemes.LexemeKind) (next : Option ℕ) (p : ParserState) → t
 tail_none lexemes.Dash next p = refl
 tail_none k next p = refl
 
-fed_ok :
+pub fed_ok :
     (o : OptionsData) (f : Flagged) (is : List FlaggedItem) (p : ParserState) →
     Fed o f is (Ok p) ≡ with_front p.given (feed_all o is (Emptied p))
 fed_ok o f is p =
     ap (λ r. (r >>= Given) >>= Front o is)
     (tail_none f.0.kind (next_line is) p)
 
-fed_is :
+pub fed_is :
     (o : OptionsData) (f : Flagged) (is : List FlaggedItem) (p : ParserState) →
     feed_all o (item_of f ∷ is) p
     ≡ Fed o f is
@@ -97,33 +102,33 @@ fed_is o f is p = refl
 
 -- ---- between two lexemes
 
-seen_given : (o : OptionsData) (st : EventState) (p : ParserState) (d : Beside) → Seen o st p d → p.given ≡ d.given
+pub seen_given : (o : OptionsData) (st : EventState) (p : ParserState) (d : Beside) → Seen o st p d → p.given ≡ d.given
 seen_given o IsFresh p d h = ap (λ p. p.given) h
 seen_given o (HasDirectives v) p d h = ap (λ p. p.given) h
 seen_given o (IsRooted m) p d h = ap (λ p. p.given) h
 seen_given o (InFrames fs) p d h = ap (λ p. p.given) h
-seen_given o IsEnded p d h = h
+seen_given o IsEnded p d h = h.0
 
-abbrev Cleared : Beside → Beside
+abbrev pub Cleared : Beside → Beside
 Cleared d = record d { given = [] }
 
-seen_cleared :
+pub seen_cleared :
     (o : OptionsData) (st : EventState) (p : ParserState) (d : Beside) → Seen o st p d →
     Seen o st (Emptied p) (Cleared d)
 seen_cleared o IsFresh p d h = ap Emptied h
 seen_cleared o (HasDirectives v) p d h = ap Emptied h
 seen_cleared o (IsRooted m) p d h = ap Emptied h
 seen_cleared o (InFrames fs) p d h = ap Emptied h
-seen_cleared o IsEnded p d h = refl
+seen_cleared o IsEnded p d h = (refl, h.1)
 
-knows_cleared : (st : EventState) (s : Scope) (d : Beside) → Knows st s d → Knows st s (Cleared d)
+pub knows_cleared : (st : EventState) (s : Scope) (d : Beside) → Knows st s d → Knows st s (Cleared d)
 knows_cleared IsFresh s d h = h
 knows_cleared (HasDirectives v) s d h = h
 knows_cleared (IsRooted m) s d h = (ap Cleared h.0, h.1, h.2)
 knows_cleared (InFrames fs) s d h = (ap Cleared h.0, h.1, h.2)
 knows_cleared IsEnded s d h = tt
 
-fault_passed :
+pub fault_passed :
     (b : Bool) (k : GrammarFault) (f : Option GrammarFault) → first_fault (fault_unless b k) f ≡ None → b ≡ true
 fault_passed true k f e = refl
 fault_passed false k f e = cc (e)
@@ -145,7 +150,7 @@ Go o fs s st = guarded (whole_guard o) (scoped s (map terminal_seen fs)) st
 
 abbrev Runs : OptionsData → List Flagged → Type 0
 Runs o fs =
-    (s : Scope) (st : EventState) (d : Beside) (p : ParserState) → Comes st → Knows st s d →
+    (s : Scope) (st : EventState) (d : Beside) (p : ParserState) → ComesTo st → Knows st s d →
     nat_le (state_count st) o.block_nesting_limit ≡ true → d.given ≡ [] → FairRun fs s st → Seen o st p d →
     RunView o (feed_all o (map item_of fs) p) (Go o fs s st)
 

@@ -4,8 +4,11 @@ use Rattle.granit_agreement.specs.Fair.{FairAt, Fair, frame_ends_at}
 use Rattle.granit_agreement.specs.Good.{Good}
 use Rattle.granit_agreement.specs.Running.{Knows, NextView}
 use Rattle.granit_agreement.specs.Stepping.{taken, at_kind}
-use Rattle.granit_agreement.specs.View.{Beside, terminal_of, state_of, give_all, with_given}
-use Rattle.granit_grammar.specs.EventMachine.{OpenFrame, EventState, IsFresh, HasDirectives, IsRooted, InFrames, IsEnded, Ending, ending, with_event, ended_by, EventStep, GoesTo, StopsWith, after_events, take_frames}
+use Rattle.granit_agreement.specs.View.{Beside, state_of, give_all, with_given}
+use Rattle.granit_language.specs.Seen.{terminal_of}
+use Rattle.granit_grammar.specs.EventMachine.{OpenFrame, EventState, IsFresh, HasDirectives, IsRooted, InFrames}
+use Rattle.granit_grammar.specs.EventMachine.{IsEnded, Ending, ending, with_event, ended_by, EventStep, GoesTo}
+use Rattle.granit_grammar.specs.EventMachine.{StopsWith, after_events, take_frames}
 use Rattle.granit_grammar.specs.Guarded.{blocks_open, state_count}
 use Rattle.granit_language.specs.Scope.{Scope}
 use Rattle.granit_language.specs.Terminal.{Terminal}
@@ -15,7 +18,8 @@ use Rattle.granit_machine.specs.Closing.{close}
 use Rattle.granit_machine.specs.Frames.{ParserState}
 use Rattle.granit_machine.specs.Parser.{take_token}
 use Rattle.granit_machine.specs.TokenSort.{token_of}
-use Rattle.std.proofs.Common.{◌≡◌, ℕ, Bool, true, false, List, [], ◌∷◌, refl, sym, ap, ◌∙◌, subst, Option, Result, Ok, Err}
+use Rattle.std.proofs.Common.{◌≡◌, ℕ, Bool, true, false, List, [], ◌∷◌, refl, sym, ap, ◌∙◌, subst, Option, Result, Ok}
+use Rattle.std.proofs.Common.{Err}
 use Rattle.std.specs.Prelude.{nat_le}
 use Rattle.granit_base.specs.Place.{Mark}
 use Rattle.granit_error.specs.OptionsData.{OptionsData}

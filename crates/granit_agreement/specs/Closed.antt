@@ -5,7 +5,8 @@ use Rattle.granit_error.specs.OptionsData.{OptionsData}
 use Rattle.granit_lexemes.specs.Lexeme as lexemes
 use Rattle.granit_agreement.specs.Fair.{FairAt, frame_ends_at}
 use Rattle.granit_agreement.specs.Good.{Good}
-use Rattle.granit_agreement.specs.View.{terminal_of, Beside, state_of, give_all, with_given}
+use Rattle.granit_agreement.specs.View.{Beside, state_of, give_all, with_given}
+use Rattle.granit_language.specs.Seen.{terminal_of}
 use Rattle.granit_grammar.specs.EventMachine.{EventState, IsRooted, InFrames, Ending, with_event, ended_by}
 use Rattle.granit_grammar.specs.Guarded.{blocks_open}
 use Rattle.granit_language.specs.Scope.{Scope}

@@ -1,12 +1,15 @@
 -- What a reader's lists keep to, said of the state before a lexeme: a simple key isn't left before its `:`, brackets
--- match, and `in_flow`
--- is what the brackets say.
+-- match, and `in_flow` is what the brackets say.
 use Rattle.std.specs.Prelude.{◌≡◌, ℕ, Bool, true, false, ◌&&◌, ◌||◌, not, List, [], ◌∷◌, Option, Some, None}
 use Rattle.granit_base.specs.Place.{Mark}
-use Rattle.granit_grammar.specs.EventMachine.{PairAt, Key, KeyDone, AskDone, Done, Value, OpenFrame, DocumentFrame, PropertiesFrame, SequenceFrame, MappingFrame, FlowSequenceFrame, FlowMappingFrame, FlowPairFrame, EventState, InFrames, IsEnded, frames_room, put_frames}
+use Rattle.granit_grammar.specs.EventMachine.{PairAt, Key, KeyDone, AskDone, Done, Value, OpenFrame, DocumentFrame}
+use Rattle.granit_grammar.specs.EventMachine.{PropertiesFrame, SequenceFrame, MappingFrame, FlowSequenceFrame}
+use Rattle.granit_grammar.specs.EventMachine.{FlowMappingFrame, FlowPairFrame, EventState, InFrames, IsEnded}
+use Rattle.granit_grammar.specs.EventMachine.{frames_room, put_frames}
 use Rattle.granit_language.specs.Reading.{begins_kind}
 use Rattle.granit_language.specs.Room.{Room, BehindKey, Inside, behind_property, continues_node, sequence_over}
-use Rattle.granit_language.specs.Terminal.{TerminalKind, Part, Terminal, is_stream_kind, is_dash_kind, is_bare_kind, is_comma_kind, closes_kind, stands_left, entry_in, text_start}
+use Rattle.granit_language.specs.Terminal.{TerminalKind, Part, Terminal, is_stream_kind, is_dash_kind, is_bare_kind}
+use Rattle.granit_language.specs.Terminal.{is_comma_kind, closes_kind, stands_left, entry_in, text_start}
 use Rattle.granit_lexemes.specs.declared.layout.Bracket.TheVariants.{Square, Curly}
 
 abbrev pub frames_in_flow : List OpenFrame → Bool

@@ -9,7 +9,7 @@ use Rattle.granit_grammar.specs.EventMachine.{IsFresh}
 use Rattle.granit_machine.specs.Lexing.{FlaggedItem, flagged, lex}
 use Rattle.granit_machine.specs.Reader.{LexState}
 use Rattle.granit_agreement.specs.FairTest.{fair_run}
-use Rattle.granit_agreement.specs.View.{Flagged}
+use Rattle.granit_language.specs.Seen.{Flagged}
 
 abbrev pub with_item : Item → Bool → List Flagged → List Flagged
 with_item (OfLexeme l) b fs = (l, b) ∷ fs

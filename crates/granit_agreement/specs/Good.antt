@@ -1,7 +1,10 @@
 -- The states that the grammar's machine comes to.
 use Rattle.std.specs.Prelude.{◌≡◌, ℕ, zero, suc, Bool, true, false, List, [], ◌∷◌, Option, Some, None}
 use Rattle.granit_base.specs.Place.{Mark}
-use Rattle.granit_grammar.specs.EventMachine.{Opened, Key, KeyDone, Asking, AskDone, Solo, Done, Value, OpenFrame, DocumentFrame, PropertiesFrame, SequenceFrame, MappingFrame, FlowSequenceFrame, FlowMappingFrame, FlowPairFrame, EventState, IsFresh, HasDirectives, IsRooted, InFrames}
+use Rattle.granit_grammar.specs.EventMachine.{Opened, Key, KeyDone, Asking, AskDone, Solo, Done, Value, OpenFrame}
+use Rattle.granit_grammar.specs.EventMachine.{DocumentFrame, PropertiesFrame, SequenceFrame, MappingFrame}
+use Rattle.granit_grammar.specs.EventMachine.{FlowSequenceFrame, FlowMappingFrame, FlowPairFrame, EventState, IsFresh}
+use Rattle.granit_grammar.specs.EventMachine.{HasDirectives, IsRooted, InFrames}
 use Rattle.granit_language.specs.Node.{TreeProperties, NoProperties, One, Two}
 use Rattle.granit_language.specs.Room.{differ}
 

@@ -14,13 +14,17 @@ use Rattle.granit_language.specs.Whole.{WholeReading}
 use Rattle.granit_machine.specs.Closing.{close}
 use Rattle.granit_machine.specs.Parser.{take_token}
 use Rattle.granit_machine.specs.TokenSort.{token_of}
-use Rattle.granit_grammar.specs.EventMachine.{EventState, IsFresh, HasDirectives, IsRooted, InFrames, IsEnded, EventStep, GoesTo, StopsWith, ended_by, EventAnswer, Events, Faulty, Unfinished}
+use Rattle.granit_grammar.specs.EventMachine.{EventState, IsFresh, HasDirectives, IsRooted, InFrames, IsEnded}
+use Rattle.granit_grammar.specs.EventMachine.{EventStep, GoesTo, StopsWith, ended_by, EventAnswer, Events, Faulty}
+use Rattle.granit_grammar.specs.EventMachine.{Unfinished}
 use Rattle.granit_grammar.specs.Guarded.{whole_guard}
 use Rattle.granit_machine.specs.Frames.{ParserState}
 use Rattle.granit_agreement.specs.Fair.{Fair}
+use Rattle.granit_agreement.specs.Ordered.{ordered}
 use Rattle.granit_agreement.specs.Good.{Good}
 use Rattle.granit_agreement.specs.Stepping.{taken, knowing}
-use Rattle.granit_agreement.specs.View.{Beside, Flagged, terminal_of, state_of, give_all}
+use Rattle.granit_agreement.specs.View.{Beside, state_of, give_all}
+use Rattle.granit_language.specs.Seen.{Flagged, terminal_of}
 
 -- the parser knows what stands declared: inside a document the names and handles in force, before one what its
 -- directives declare
@@ -29,18 +33,18 @@ Knows (InFrames fs) s d = (d ≡ knowing s d.last d.given) × (s.pending ≡ [])
 Knows (IsRooted e) s d = (d ≡ knowing s d.last d.given) × (s.pending ≡ []) × (s.version ≡ None)
 Knows IsFresh s d =
     (d.count ≡ s.count) × (s.names ≡ []) × (s.handles ≡ []) × (s.pending ≡ []) × (s.version ≡ None)
-Knows (HasDirectives v) s d = (d.count ≡ s.count) × (d.handles ≡ s.pending) × (s.version ≡ v)
+Knows (HasDirectives v) s d = (d.count ≡ s.count) × (d.handles ≡ ordered s.pending) × (s.version ≡ v)
 Knows IsEnded s d = Unit {0}
 
--- behind the end only the events count
+-- behind the end only the events count, and nothing waits
 abbrev pub Seen : OptionsData → EventState → ParserState → Beside → Type 0
-Seen o IsEnded p d = p.given ≡ d.given
+Seen o IsEnded p d = (p.given ≡ d.given) × (p.waiting ≡ None)
 Seen o st p d = p ≡ state_of o st d
 
 -- a state that the grammar's machine comes to, or the end
-abbrev pub Comes : EventState → Type 0
-Comes IsEnded = Unit {0}
-Comes st = Good st
+abbrev pub ComesTo : EventState → Type 0
+ComesTo IsEnded = Unit {0}
+ComesTo st = Good st
 
 -- what the parser is behind a step
 pub record NextIs (o : OptionsData) (x : Terminal) (s : Scope) (events : List PlainEvent) (st : EventState)
@@ -50,7 +54,7 @@ pub record NextIs (o : OptionsData) (x : Terminal) (s : Scope) (events : List Pl
   pub gives : beside.given ≡ events
   pub knows : Knows st (next_scope x.kind s) beside
   pub passes : whole_guard o st x ≡ None
-  pub comes : Comes st
+  pub comes : ComesTo st
 
 -- both go on alike, or both stop with one fault
 abbrev pub NextView :

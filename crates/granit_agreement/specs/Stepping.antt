@@ -1,5 +1,5 @@
 -- How a step of the parser agrees with a step of the grammar's machine, behind closing.
-use Rattle.std.specs.Prelude.{◌≡◌, suc, List, ◌∷◌, Option, Some, None, Result, Ok, Err}
+use Rattle.std.specs.Prelude.{◌≡◌, suc, List, Option, Some, None, Result, Ok, Err}
 use Rattle.granit_base.specs.Place.{Mark}
 use Rattle.granit_error.specs.OptionsData.{OptionsData}
 use Rattle.granit_lexemes.specs.Outcome.{Fault}
@@ -13,7 +13,9 @@ use Rattle.granit_language.specs.Scope.{Scope}
 use Rattle.granit_language.specs.Scoping.{scope_fault}
 use Rattle.granit_language.specs.Terminal.{Anchor, Property, TerminalKind, Part, Terminal}
 use Rattle.granit_lexemes.specs.Lexeme.{KeyStart}
+use Rattle.granit_machine.specs.Entries.{remembered}
 use Rattle.granit_machine.specs.Frames.{ParserState}
+use Rattle.granit_agreement.specs.Ordered.{ordered}
 
 -- what the grammar's machine takes behind its closing
 abbrev pub taken : Ending → Terminal → EventStep
@@ -22,7 +24,7 @@ taken (ending st es) x = after_events es (take_frames st x.kind x.at)
 -- an anchor is counted and named
 abbrev pub known_behind : TerminalKind → Beside → Beside
 known_behind (Part (Property (Anchor name))) d =
-    record d { count = suc d.count; names = (name.characters, suc d.count) ∷ d.names }
+    record d { count = suc d.count; names = remembered name.characters (suc d.count) d.names }
 known_behind kind d = d
 
 abbrev pub moved_on : OptionsData → Terminal → Mark → List PlainEvent → Beside → Beside
@@ -30,7 +32,13 @@ moved_on o x last given d = record (known_behind x.kind d) { last = last; given 
 
 -- what stands before a lexeme is known to the parser
 abbrev pub knowing : Scope → Mark → List PlainEvent → Beside
-knowing s last given = record { last = last; count = s.count; names = s.names; handles = s.handles; given = given }
+knowing s last given = record {
+  last = last;
+  count = s.count;
+  names = ordered s.names;
+  handles = ordered s.handles;
+  given = given;
+}
 
 -- both go on alike, or both stop with one fault
 abbrev pub StepView : OptionsData → Terminal → Beside → Result ParserState Fault → EventStep → Type 0

@@ -5,8 +5,10 @@ use Rattle.granit_error.specs.OptionsData.{OptionsData}
 use Rattle.granit_lexemes.specs.PlainEvent.{PlainEvent}
 use Rattle.granit_lexemes.specs.Lexeme as lexemes
 use Rattle.granit_agreement.specs.Stepping.{taken, StepView, MeansView, LimitView, knowing, at_kind}
-use Rattle.granit_agreement.specs.View.{terminal_of, at_of, Beside, state_of}
-use Rattle.granit_grammar.specs.EventMachine.{frames_room, Asking, Value, OpenFrame, SequenceFrame, MappingFrame, GoesTo, frames_indent, PropertiesFrame, InFrames, ended_by, part_frames}
+use Rattle.granit_agreement.specs.View.{Beside, state_of}
+use Rattle.granit_language.specs.Seen.{terminal_of, at_of}
+use Rattle.granit_grammar.specs.EventMachine.{frames_room, Asking, Value, OpenFrame, SequenceFrame, MappingFrame}
+use Rattle.granit_grammar.specs.EventMachine.{GoesTo, frames_indent, PropertiesFrame, InFrames, ended_by, part_frames}
 use Rattle.granit_language.specs.GrammarFault.{GrammarFault}
 use Rattle.granit_language.specs.Node.{TreeProperties, NoProperties}
 use Rattle.granit_language.specs.Scope.{Scope}

@@ -1,77 +1,27 @@
 -- The lexemes and states of the plain machine's parser as those of the grammar's machine.
-use Rattle.std.specs.Prelude.{ℕ, suc, Bool, true, false, List, [], ◌∷◌, ◌++◌, Option, Some, None}
+use Rattle.std.specs.Prelude.{ℕ, Bool, true, false, List, [], ◌∷◌, ◌++◌, Option, Some, None}
 use Rattle.granit_base.specs.Place.{Mark}
 use Rattle.granit_error.specs.OptionsData.{OptionsData}
 use Rattle.granit_lexemes.specs.Lexeme as lexemes
 use Rattle.granit_lexemes.specs.PlainEvent.{PlainEvent}
-use Rattle.granit_grammar.specs.EventMachine.{PairAt, Opened, Key, KeyDone, Asking, AskDone, Solo, Done, Value, OpenFrame, DocumentFrame, PropertiesFrame, SequenceFrame, MappingFrame, FlowSequenceFrame, FlowMappingFrame, FlowPairFrame, EventState, IsFresh, HasDirectives, IsRooted, InFrames, IsEnded}
+use Rattle.granit_grammar.specs.EventMachine.{PairAt, Opened, Key, KeyDone, Asking, AskDone, Solo, Done, Value}
+use Rattle.granit_grammar.specs.EventMachine.{OpenFrame, DocumentFrame, PropertiesFrame, SequenceFrame, MappingFrame}
+use Rattle.granit_grammar.specs.EventMachine.{FlowSequenceFrame, FlowMappingFrame, FlowPairFrame, EventState, IsFresh}
+use Rattle.granit_grammar.specs.EventMachine.{HasDirectives, IsRooted, InFrames, IsEnded}
 use Rattle.granit_language.specs.Node.{TreeProperties}
-use Rattle.granit_language.specs.Scope.{Scope, no_scope}
+use Rattle.granit_language.specs.Seen.{Flagged}
 use Rattle.granit_language.specs.Telling.{properties_anchor, properties_tag, one_less, version_told, event_told}
-use Rattle.granit_language.specs.Terminal.{Anchor, Tag, Alias, Property, Scalar, Open, TerminalKind, Directive, DocumentStart, DocumentEnd, TheEnd, Dash, Question, Comma, Colon, Close, Part, At, Terminal, terminal}
 use Rattle.granit_language.specs.TreeEvents.{TreeEvent, properties_end}
 use Rattle.granit_lexemes.specs.Lexeme.{Version, TagPrefix, Reserved, KeyStart}
-use Rattle.granit_lexemes.specs.declared.layout.Bracket.{Bracket}
-use Rattle.granit_lexemes.specs.declared.layout.Bracket.TheVariants.{Square, Curly}
 use Rattle.granit_machine.specs.Frames.{ParserState, Waiting}
 use Rattle.granit_machine.specs.Lexing.{FlaggedItem}
 use Rattle.granit_machine.specs.Frames as machine
 
 -- ---- lexemes
 
-abbrev pub key_number : Option KeyStart → Option ℕ
-key_number None = None
-key_number (Some k) = Some k.number
-
-abbrev pub terminal_kind : lexemes.LexemeKind → Option KeyStart → TerminalKind
-terminal_kind (lexemes.Directive directive) key = Directive directive
-terminal_kind lexemes.DocumentStart key = DocumentStart
-terminal_kind lexemes.DocumentEnd key = DocumentEnd
-terminal_kind lexemes.StreamEnd key = TheEnd
-terminal_kind (lexemes.Open bracket) key = Part (Open bracket)
-terminal_kind (lexemes.Close bracket) key = Close bracket
-terminal_kind lexemes.Comma key = Comma
-terminal_kind lexemes.Dash key = Dash
-terminal_kind lexemes.Question key = Question
-terminal_kind lexemes.Colon key = Colon (key_number key)
-terminal_kind (lexemes.Alias name) key = Part (Alias name)
-terminal_kind (lexemes.Anchor name) key = Part (Property (Anchor name))
-terminal_kind (lexemes.Tag handle suffix) key = Part (Property (Tag handle suffix))
-terminal_kind (lexemes.Scalar style text) key = Part (Scalar style text)
-
--- columns count from 1
-abbrev pub indent_of : Option ℕ → Option ℕ
-indent_of None = None
-indent_of (Some n) = Some (suc n)
-
-abbrev pub at_of : Bool → Scope → lexemes.Lexeme → At
-at_of begins_key s l = record {
-  start = l.start;
-  shown = l.shown;
-  end = l.end;
-  column = l.start.place.column;
-  in_flow = l.in_flow;
-  begins_line = l.begins_line;
-  follows_indicator = l.follows_indicator;
-  number = l.number;
-  own_indent = indent_of l.indent;
-  begins_key = begins_key;
-  scope = s;
-}
-
-abbrev pub terminal_of : Bool → Scope → lexemes.Lexeme → Terminal
-terminal_of begins_key s l = terminal (terminal_kind l.kind l.key) (at_of begins_key s l)
-
--- a lexeme and whether a simple key begins with it
-abbrev pub Flagged : Type 0
-Flagged = lexemes.Lexeme × Bool
-
 -- as an item, without a comment behind it
 abbrev pub item_of : Flagged → FlaggedItem
 item_of f = record { item = lexemes.OfLexeme (record (f.0) { tail = None }); begins_key = f.1 }
-
-abbrev pub terminal_seen : Flagged → Terminal
-terminal_seen f = terminal_of f.1 no_scope f.0
 
 -- ---- frames
 

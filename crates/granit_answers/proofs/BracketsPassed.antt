@@ -1,10 +1,11 @@
 -- What a lexeme of each sort makes of the open brackets, and where a simple key may begin with it in flow.
-use Rattle.std.proofs.Common.{◌≡◌, ℕ, ◌&&◌, ◌||◌, Bool, true, false, List, [], ◌∷◌, drop, map, Option, Some, None, refl, sym, ap, ap₂, ◌∙◌, subst}
+use Rattle.std.proofs.Common.{◌≡◌, ℕ, ◌&&◌, ◌||◌, Bool, true, false, List, [], ◌∷◌, drop, map, Option, Some, None, refl}
+use Rattle.std.proofs.Common.{sym, ap, ap₂, ◌∙◌, subst}
 use Rattle.std.specs.Prelude.{if◌then◌else◌, is_none}
 use Rattle.granit_base.specs.Place.{Mark}
 use Rattle.granit_error.specs.OptionsData.{OptionsData}
 use Rattle.granit_agreement.specs.Fair.{is_key_part}
-use Rattle.granit_agreement.specs.View.{key_number, terminal_kind}
+use Rattle.granit_language.specs.Seen.{key_number, terminal_kind}
 use Rattle.granit_language.specs.Before.{run_for, behind_colon, behind_question_sign, last_of_colon, behind}
 use Rattle.granit_language.specs.Fitting.{OfNode, Opens, role_of}
 use Rattle.granit_language.specs.Standing.{ClosesInnermost}
@@ -14,15 +15,21 @@ use Rattle.granit_lexemes.specs.Here.{Here}
 use Rattle.granit_lexemes.specs.Lexeme.{LexemeKind, Lexeme}
 use Rattle.granit_lexemes.specs.declared.layout.Bracket.{Bracket}
 use Rattle.granit_lexemes.specs.declared.layout.Bracket.TheVariants.{Square, Curly}
-use Rattle.granit_lexemes.specs.declared.layout.LastLexeme.TheVariants.{Opener, BehindProperty, BehindQuestion, Adjacent, Another}
+use Rattle.granit_lexemes.specs.declared.layout.LastLexeme.TheVariants.{Opener, BehindProperty, BehindQuestion}
+use Rattle.granit_lexemes.specs.declared.layout.LastLexeme.TheVariants.{Adjacent, Another}
 use Rattle.granit_lexemes.specs.declared.layout.OpenBracket.{OpenBracket}
 use Rattle.granit_lexemes.specs.declared.layout.PossibleKey.{PossibleKey}
-use Rattle.granit_machine.specs.Laid.{Laid, is_opener, is_dash, is_indicator, is_question, is_nonempty, is_in_flow, same_bracket}
-use Rattle.granit_machine.specs.LexemeSort.{OpenSign, CloseSign, CommaSign, DashSign, QuestionSign, ColonSign, AliasSign, AnchorSign, TagSign, BlockSign, QuoteSign, StrayMark, NoSign, PlainSign, LexemeSort, TextEnd, StartMark, EndMark, Unprintable, DirectiveSign, Placed}
+use Rattle.granit_machine.specs.Laid.{Laid, is_opener, is_dash, is_indicator, is_question, is_nonempty, is_in_flow}
+use Rattle.granit_machine.specs.Laid.{same_bracket}
+use Rattle.granit_machine.specs.LexemeSort.{OpenSign, CloseSign, CommaSign, DashSign, QuestionSign, ColonSign}
+use Rattle.granit_machine.specs.LexemeSort.{AliasSign, AnchorSign, TagSign, BlockSign, QuoteSign, StrayMark, NoSign}
+use Rattle.granit_machine.specs.LexemeSort.{PlainSign, LexemeSort, TextEnd, StartMark, EndMark, Unprintable}
+use Rattle.granit_machine.specs.LexemeSort.{DirectiveSign, Placed}
 use Rattle.granit_machine.specs.NodeLexemes.{last_of_property}
 use Rattle.granit_machine.specs.PossibleKeys.{top_key, keyed_brackets, is_allowed}
 use Rattle.granit_machine.specs.Reader.{noded}
 use Rattle.granit_machine.specs.ReaderState.{behind_tail}
+use Rattle.granit_reading.proofs.Deciding.{asserts, bracket_decided}
 use Rattle.granit_reading.proofs.Choosing.{Held, Within, within_self, Moves}
 use Rattle.granit_reading.proofs.Holding.{held, Noted, node_noted}
 use Rattle.granit_reading.proofs.Moving.{Moved, agrees_held}
@@ -36,7 +43,7 @@ pub kinds_flow : (bs : List OpenBracket) → is_nonempty (kinds_in bs) ≡ is_no
 kinds_flow [] = refl
 kinds_flow (b ∷ bs) = refl
 
-keyed_kinds : (key : Option PossibleKey) (bs : List OpenBracket) → kinds_in (keyed_brackets key bs) ≡ kinds_in bs
+pub keyed_kinds : (key : Option PossibleKey) (bs : List OpenBracket) → kinds_in (keyed_brackets key bs) ≡ kinds_in bs
 keyed_kinds key [] = refl
 keyed_kinds key (b ∷ bs) = refl
 
@@ -50,9 +57,10 @@ same_is Curly Curly e = refl
 same_is Square Curly e = absurd cc
 same_is Curly Square e = absurd cc
 
-closes_kinds : (bracket : Bracket) (bs : List OpenBracket) → ClosesInnermost bracket bs → is_innermost bracket (kinds_in bs) ≡ true
+closes_kinds : (bracket : Bracket) (bs : List OpenBracket) → ClosesInnermost bracket bs →
+    is_innermost bracket (kinds_in bs) ≡ true
 closes_kinds bracket [] p = absurd p
-closes_kinds bracket (b ∷ bs) p = same_is b.bracket bracket p
+closes_kinds bracket (b ∷ bs) p = same_is b.bracket bracket (asserts (bracket_decided b.bracket bracket) p)
 
 -- a lexeme passes the keys and the brackets on
 pub record Passed (l : Laid) (x : Lexeme) (after : Laid) : Type 0 where
@@ -64,9 +72,10 @@ pub record Passed (l : Laid) (x : Lexeme) (after : Laid) : Type 0 where
   pub last : is_nonempty (kinds_in after.brackets) ≡ true → is_opener after.last ≡ may_follow term
   pub closes : closes_innermost term (kinds_in l.brackets) ≡ true
   pub no_dash : is_nonempty (kinds_in l.brackets) ≡ true → is_dash_kind term ≡ false
-  pub begins : (flag : Bool) → (flag ≡ true → new ≡ true) → is_nonempty (kinds_in l.brackets) ≡ true → is_opener l.last ≡ false → is_key_part term flag ≡ false
+  pub begins : (flag : Bool) → (flag ≡ true → new ≡ true) → is_nonempty (kinds_in l.brackets) ≡ true →
+      is_opener l.last ≡ false → is_key_part term flag ≡ false
 
-term_of : {kind : LexemeKind} {x : Lexeme} → Unkeyed kind x → terminal_kind x.kind x.key ≡ terminal_kind kind None
+pub term_of : {kind : LexemeKind} {x : Lexeme} → Unkeyed kind x → terminal_kind x.kind x.key ≡ terminal_kind kind None
 term_of u = ap₂ terminal_kind u.is u.key
 
 role_at : {kind : LexemeKind} {x : Lexeme} → Unkeyed kind x → role_of x.kind x.key ≡ role_of kind None
@@ -75,27 +84,43 @@ role_at u = ap₂ role_of u.is u.key
 -- ---- lexemes of nodes
 
 node_moves : (v : Bool) (n : ℕ) (hs gs : Held) → Noted v n hs gs → Moves OfNode v n hs gs
-node_moves true n hs gs e = subst (λ gs. Within gs (Some n ∷ Rattle.granit_language.specs.Fitting.outer_keys hs)) (sym e) (within_self (Some n ∷ Rattle.granit_language.specs.Fitting.outer_keys hs))
+node_moves true n hs gs e =
+    subst (λ gs. Within gs (Some n ∷ Rattle.granit_language.specs.Fitting.outer_keys hs)) (sym e)
+    (within_self (Some n ∷ Rattle.granit_language.specs.Fitting.outer_keys hs))
 node_moves false n hs gs e = subst (λ gs. Within gs hs) (sym e) (within_self hs)
 
 opens_moves : (v : Bool) (n : ℕ) (hs gs : Held) → Noted v n hs gs → Moves Opens v n hs (None ∷ gs)
-opens_moves true n hs gs e = subst (λ gs. Within (None ∷ gs) (None ∷ Some n ∷ Rattle.granit_language.specs.Fitting.outer_keys hs)) (sym e) (within_self (None ∷ Some n ∷ Rattle.granit_language.specs.Fitting.outer_keys hs))
+opens_moves true n hs gs e =
+    subst (λ gs. Within (None ∷ gs) (None ∷ Some n ∷ Rattle.granit_language.specs.Fitting.outer_keys hs)) (sym e)
+    (within_self (None ∷ Some n ∷ Rattle.granit_language.specs.Fitting.outer_keys hs))
 opens_moves false n hs gs e = subst (λ gs. Within (None ∷ gs) (None ∷ hs)) (sym e) (within_self (None ∷ hs))
 
-allowed_opener : (h : Here) (l : Laid) → is_in_flow l ≡ true → is_allowed h.begins_line h.tab l ≡ true → is_opener l.last ≡ true
+allowed_opener : (h : Here) (l : Laid) → is_in_flow l ≡ true → is_allowed h.begins_line h.tab l ≡ true →
+    is_opener l.last ≡ true
 unfolding is_allowed
-allowed_opener h l f e = sym (ap (λ (f : Bool). if f then is_opener l.last else (h.begins_line || is_dash l.last) || (is_indicator l.last && is_none h.tab)) f) ∙ e
+allowed_opener h l f e =
+    sym (ap (λ (f : Bool). if f then is_opener l.last else (h.begins_line || is_dash l.last) ||
+    (is_indicator l.last && is_none h.tab)) f) ∙ e
 
-begins_part : (h : Here) (l : Laid) (k : PartKind) (flag : Bool) → (flag ≡ true → is_allowed h.begins_line h.tab l ≡ true) → is_nonempty (kinds_in l.brackets) ≡ true → is_opener l.last ≡ false → is_key_part (Part k) flag ≡ false
+begins_part : (h : Here) (l : Laid) (k : PartKind) (flag : Bool) →
+    (flag ≡ true → is_allowed h.begins_line h.tab l ≡ true) → is_nonempty (kinds_in l.brackets) ≡ true →
+    is_opener l.last ≡ false → is_key_part (Part k) flag ≡ false
 begins_part h l k false p f q = refl
 begins_part h l k true p f q = let z = allowed_opener h l (sym (kinds_flow l.brackets) ∙ f) (p refl) in absurd cc
 
-module _ (h : Here) (l : Laid) (x : Lexeme) (after : Laid) (kind : LexemeKind) (k : PartKind) (property : Bool) (u : Unkeyed kind x) where
-  node_passed : terminal_kind kind None ≡ Part k → role_of kind None ≡ OfNode → held after ≡ held (noded property h l) → kinds_in after.brackets ≡ kinds_in (noded property h l).brackets → is_opener after.last ≡ false
-      → open_behind (Part k) (kinds_in l.brackets) ≡ kinds_in l.brackets → may_follow (Part k) ≡ false → Passed l x after
+module _ (h : Here) (l : Laid) (x : Lexeme) (after : Laid) (kind : LexemeKind) (k : PartKind) (property : Bool)
+    (u : Unkeyed kind x) where
+  node_passed : terminal_kind kind None ≡ Part k → role_of kind None ≡ OfNode → held after ≡ held (noded property h l) →
+      kinds_in after.brackets ≡ kinds_in (noded property h l).brackets → is_opener after.last ≡ false
+      → open_behind (Part k) (kinds_in l.brackets) ≡ kinds_in l.brackets → may_follow (Part k) ≡ false →
+      Passed l x after
   node_passed t r e b q same quiet = record {
     new = is_allowed h.begins_line h.tab l;
-    moves = subst (λ r. Moves r (is_allowed h.begins_line h.tab l) l.number (held l) (held after)) (sym (role_at u ∙ r)) (subst (Moves OfNode (is_allowed h.begins_line h.tab l) l.number (held l)) (sym e) (node_moves (is_allowed h.begins_line h.tab l) l.number (held l) (held (noded property h l)) (node_noted property h l)));
+    moves =
+        subst (λ r. Moves r (is_allowed h.begins_line h.tab l) l.number (held l) (held after)) (sym (role_at u
+        ∙ r)) (subst (Moves OfNode (is_allowed h.begins_line h.tab l) l.number (held l)) (sym e)
+        (node_moves (is_allowed h.begins_line h.tab l) l.number (held l) (held (noded property h l))
+        (node_noted property h l)));
     term = Part k;
     term_is = term_of u ∙ t;
     kinds = b ∙ keyed_kinds _ l.brackets ∙ sym same;
@@ -108,13 +133,29 @@ module _ (h : Here) (l : Laid) (x : Lexeme) (after : Laid) (kind : LexemeKind) (
 -- ---- others
 
 module _ (l : Laid) (x : Lexeme) (after : Laid) (m : Moved l x after) where
-  sign_passed : (term : TerminalKind) → terminal_kind x.kind x.key ≡ term → kinds_in after.brackets ≡ open_behind term (kinds_in l.brackets) → (is_nonempty (kinds_in after.brackets) ≡ true → is_opener after.last ≡ may_follow term)
-      → closes_innermost term (kinds_in l.brackets) ≡ true → (is_nonempty (kinds_in l.brackets) ≡ true → is_dash_kind term ≡ false) → ((flag : Bool) → is_key_part term flag ≡ false) → Passed l x after
+  sign_passed : (term : TerminalKind) → terminal_kind x.kind x.key ≡ term →
+      kinds_in after.brackets ≡ open_behind term (kinds_in l.brackets) →
+      (is_nonempty (kinds_in after.brackets) ≡ true → is_opener after.last ≡ may_follow term)
+      → closes_innermost term (kinds_in l.brackets) ≡ true →
+      (is_nonempty (kinds_in l.brackets) ≡ true → is_dash_kind term ≡ false) →
+      ((flag : Bool) → is_key_part term flag ≡ false) → Passed l x after
   sign_passed term is kinds last closes dash part =
-      record { new = m.new; moves = m.moves; term = term; term_is = is; kinds = kinds; last = last; closes = closes; no_dash = dash; begins = λ flag p f q. part flag }
+      record {
+        new = m.new;
+        moves = m.moves;
+        term = term;
+        term_is = is;
+        kinds = kinds;
+        last = last;
+        closes = closes;
+        no_dash = dash;
+        begins = λ flag p f q. part flag;
+      }
 
-none_open : (bs cs : List OpenBracket) → bs ≡ [] → kinds_in cs ≡ kinds_in bs → {A : Type 0} → is_nonempty (kinds_in cs) ≡ true → A
-none_open bs cs e f g = let z = ap (λ (ks : List Bracket). is_nonempty ks) (f ∙ ap (λ (bs : List OpenBracket). kinds_in bs) e) in absurd cc
+none_open : (bs cs : List OpenBracket) → bs ≡ [] → kinds_in cs ≡ kinds_in bs → {A : Type 0} →
+    is_nonempty (kinds_in cs) ≡ true → A
+none_open bs cs e f g =
+    let z = ap (λ (ks : List Bracket). is_nonempty ks) (f ∙ ap (λ (bs : List OpenBracket). kinds_in bs) e) in absurd cc
 
 property_quiet : (o : OptionsData) (l : Laid) → is_opener (last_of_property o l) ≡ false
 property_quiet o l = on (o.strict_indentation && is_question l.last)
@@ -135,7 +176,8 @@ question_quiet : (v : Bool) → is_opener (if v then Another else BehindQuestion
 question_quiet true = refl
 question_quiet false = refl
 
-colon_kinds : (h : Here) (l : Laid) (v : Bool) (key : Option PossibleKey) → kinds_in (behind_colon v key h l).brackets ≡ kinds_in l.brackets
+colon_kinds : (h : Here) (l : Laid) (v : Bool) (key : Option PossibleKey) →
+    kinds_in (behind_colon v key h l).brackets ≡ kinds_in l.brackets
 colon_kinds h l true None = refl
 colon_kinds h l true (Some k) = keyed_kinds None l.brackets
 colon_kinds h l false None = refl
@@ -151,19 +193,34 @@ comma_opens : (v : Bool) → v ≡ true → is_opener (if v then Opener else Ano
 comma_opens true e = refl
 comma_opens false e = absurd cc
 
-module _ (o : OptionsData) (h : Here) (l : Laid) (x : Lexeme) (cut : Option Mark) (reached : Here) (after : Laid) (m : Moved l x after) where
+module _ (o : OptionsData) (h : Here) (l : Laid) (x : Lexeme) (cut : Option Mark) (reached : Here) (after : Laid)
+    (m : Moved l x after) where
   kinds_as : (a : Laid) → Agrees after a → kinds_in after.brackets ≡ kinds_in a.brackets
   kinds_as a e = ap (λ (bs : List OpenBracket). kinds_in bs) e.brackets
 
-  pub passed : (sort : LexemeSort) → SaysOf sort h (run_for sort h l) x → Agrees after (behind o sort x cut reached h (run_for sort h l)) → Passed l x after
-  passed TextEnd s a = sign_passed l x after m _ (term_of s.0) (kinds_as _ a ∙ keyed_kinds None l.brackets) (λ f. none_open l.brackets after.brackets s.1 (kinds_as _ a ∙ keyed_kinds None l.brackets) f) refl (λ f. refl) (λ flag. refl)
-  passed StartMark s a = sign_passed l x after m _ (term_of s.0) (kinds_as _ a ∙ keyed_kinds None l.brackets) (λ f. a.last.opener) refl (λ f. refl) (λ flag. refl)
-  passed EndMark s a = sign_passed l x after m _ (term_of s.0) (kinds_as _ a ∙ keyed_kinds None l.brackets) (λ f. a.last.opener) refl (λ f. refl) (λ flag. refl)
-  passed DirectiveSign s a = sign_passed l x after m _ (term_of s.1) (kinds_as _ a ∙ keyed_kinds None l.brackets) (λ f. a.last.opener) refl (λ f. refl) (λ flag. refl)
+  pub passed : (sort : LexemeSort) → SaysOf sort h (run_for sort h l) x →
+      Agrees after (behind o sort x cut reached h (run_for sort h l)) → Passed l x after
+  passed TextEnd s a =
+      sign_passed l x after m _ (term_of s.0) (kinds_as _ a
+      ∙ keyed_kinds None l.brackets) (λ f. none_open l.brackets after.brackets s.1 (kinds_as _ a
+      ∙ keyed_kinds None l.brackets) f) refl (λ f. refl) (λ flag. refl)
+  passed StartMark s a =
+      sign_passed l x after m _ (term_of s.0) (kinds_as _ a
+      ∙ keyed_kinds None l.brackets) (λ f. a.last.opener) refl (λ f. refl) (λ flag. refl)
+  passed EndMark s a =
+      sign_passed l x after m _ (term_of s.0) (kinds_as _ a
+      ∙ keyed_kinds None l.brackets) (λ f. a.last.opener) refl (λ f. refl) (λ flag. refl)
+  passed DirectiveSign s a =
+      sign_passed l x after m _ (term_of s.1) (kinds_as _ a
+      ∙ keyed_kinds None l.brackets) (λ f. a.last.opener) refl (λ f. refl) (λ flag. refl)
   passed Unprintable s a = absurd s
   passed (Placed (OpenSign bracket)) s a = record {
     new = is_allowed h.begins_line h.tab l;
-    moves = subst (λ r. Moves r (is_allowed h.begins_line h.tab l) l.number (held l) (held after)) (sym (role_at s)) (subst (Moves Opens (is_allowed h.begins_line h.tab l) l.number (held l)) (sym (agrees_held a)) (opens_moves (is_allowed h.begins_line h.tab l) l.number (held l) (held (noded false h l)) (node_noted false h l)));
+    moves =
+        subst (λ r. Moves r (is_allowed h.begins_line h.tab l) l.number (held l) (held after)) (sym (role_at s))
+        (subst (Moves Opens (is_allowed h.begins_line h.tab l) l.number (held l)) (sym (agrees_held a))
+        (opens_moves (is_allowed h.begins_line h.tab l) l.number (held l) (held (noded false h l))
+        (node_noted false h l)));
     term = Part (Rattle.granit_language.specs.Terminal.Open bracket);
     term_is = term_of s;
     kinds = kinds_as _ a ∙ ap (λ (ks : List Bracket). bracket ∷ ks) (keyed_kinds _ l.brackets);
@@ -172,20 +229,39 @@ module _ (o : OptionsData) (h : Here) (l : Laid) (x : Lexeme) (cut : Option Mark
     no_dash = λ f. refl;
     begins = begins_part h l (Rattle.granit_language.specs.Terminal.Open bracket);
   }
-  passed (Placed (CloseSign bracket)) s a = sign_passed l x after m _ (term_of s.0) (kinds_as _ a ∙ dropped_kinds l.brackets) (λ f. a.last.opener ∙ tail_quiet x.tail) (closes_kinds bracket l.brackets s.1) (λ f. refl) (λ flag. refl)
+  passed (Placed (CloseSign bracket)) s a =
+      sign_passed l x after m _ (term_of s.0) (kinds_as _ a ∙ dropped_kinds l.brackets) (λ f. a.last.opener
+      ∙ tail_quiet x.tail) (closes_kinds bracket l.brackets s.1) (λ f. refl) (λ flag. refl)
   passed (Placed CommaSign) s a =
       let e = kinds_as _ a ∙ keyed_kinds None l.brackets in
-      sign_passed l x after m _ (term_of s) e (λ f. a.last.opener ∙ comma_opens (is_in_flow l) (sym (kinds_flow l.brackets) ∙ ap (λ (ks : List Bracket). is_nonempty ks) (sym e) ∙ f)) refl (λ f. refl) (λ flag. refl)
+      sign_passed l x after m _ (term_of s) e (λ f. a.last.opener
+      ∙ comma_opens (is_in_flow l) (sym (kinds_flow l.brackets) ∙ ap (λ (ks : List Bracket). is_nonempty ks) (sym e)
+      ∙ f)) refl (λ f. refl) (λ flag. refl)
   passed (Placed DashSign) s a =
-      sign_passed l x after m _ (term_of s.0) (kinds_as _ a ∙ keyed_kinds None l.brackets) (λ f. a.last.opener) refl (λ f. let z = sym (kinds_flow l.brackets) ∙ f in let y = s.1 in absurd cc) (λ flag. refl)
-  passed (Placed QuestionSign) s a = sign_passed l x after m _ (term_of s.0) (kinds_as _ a ∙ question_kinds h l (is_in_flow l)) (λ f. a.last.opener ∙ question_quiet (is_in_flow l)) refl (λ f. refl) (λ flag. refl)
+      sign_passed l x after m _ (term_of s.0) (kinds_as _ a
+      ∙ keyed_kinds None l.brackets) (λ f. a.last.opener) refl (λ f. let z =
+      sym (kinds_flow l.brackets) ∙ f in let y = s.1 in absurd cc) (λ flag. refl)
+  passed (Placed QuestionSign) s a =
+      sign_passed l x after m _ (term_of s.0) (kinds_as _ a ∙ question_kinds h l (is_in_flow l)) (λ f. a.last.opener
+      ∙ question_quiet (is_in_flow l)) refl (λ f. refl) (λ flag. refl)
   passed (Placed ColonSign) s a =
-      sign_passed l x after m (Rattle.granit_language.specs.Terminal.Colon (key_number x.key)) (ap (λ kind. terminal_kind kind x.key) s.0) (kinds_as _ a ∙ colon_kinds h l (is_in_flow l) (top_key l)) (λ f. a.last.opener ∙ colon_quiet (is_in_flow l) (top_key l)) refl (λ f. refl) (λ flag. refl)
-  passed (Placed AliasSign) s a = node_passed h l x after _ _ false s.1 refl refl (agrees_held a) (kinds_as _ a) a.last.opener refl refl
-  passed (Placed AnchorSign) s a = node_passed h l x after _ _ true s.1 refl refl (agrees_held a) (kinds_as _ a) (a.last.opener ∙ property_quiet o (noded true h l)) refl refl
-  passed (Placed TagSign) s a = node_passed h l x after _ _ true s.2 refl refl (agrees_held a) (kinds_as _ a) (a.last.opener ∙ property_quiet o (noded true h l)) refl refl
-  passed (Placed (BlockSign literal)) s a = node_passed h l x after _ _ false s.2 refl refl (agrees_held a) (kinds_as _ a) a.last.opener refl refl
-  passed (Placed (QuoteSign single)) s a = node_passed h l x after _ _ false s.2 refl refl (agrees_held a) (kinds_as _ a) a.last.opener refl refl
-  passed (Placed PlainSign) s a = node_passed h l x after _ _ false s.2 refl refl (agrees_held a) (kinds_as _ a) a.last.opener refl refl
+      sign_passed l x after m (Rattle.granit_language.specs.Terminal.Colon (key_number x.key))
+      (ap (λ kind. terminal_kind kind x.key) s.0) (kinds_as _ a
+      ∙ colon_kinds h l (is_in_flow l) (top_key l)) (λ f. a.last.opener
+      ∙ colon_quiet (is_in_flow l) (top_key l)) refl (λ f. refl) (λ flag. refl)
+  passed (Placed AliasSign) s a =
+      node_passed h l x after _ _ false s.1 refl refl (agrees_held a) (kinds_as _ a) a.last.opener refl refl
+  passed (Placed AnchorSign) s a =
+      node_passed h l x after _ _ true s.1 refl refl (agrees_held a) (kinds_as _ a) (a.last.opener
+      ∙ property_quiet o (noded true h l)) refl refl
+  passed (Placed TagSign) s a =
+      node_passed h l x after _ _ true s.2 refl refl (agrees_held a) (kinds_as _ a) (a.last.opener
+      ∙ property_quiet o (noded true h l)) refl refl
+  passed (Placed (BlockSign literal)) s a =
+      node_passed h l x after _ _ false s.2 refl refl (agrees_held a) (kinds_as _ a) a.last.opener refl refl
+  passed (Placed (QuoteSign single)) s a =
+      node_passed h l x after _ _ false s.2 refl refl (agrees_held a) (kinds_as _ a) a.last.opener refl refl
+  passed (Placed PlainSign) s a =
+      node_passed h l x after _ _ false s.2 refl refl (agrees_held a) (kinds_as _ a) a.last.opener refl refl
   passed (Placed StrayMark) s a = absurd s
   passed (Placed NoSign) s a = absurd s

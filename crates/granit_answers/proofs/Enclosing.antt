@@ -2,7 +2,10 @@
 use Rattle.std.proofs.Common.{◌≡◌, ℕ, Bool, true, false, List, [], ◌∷◌, Option, Some, None, refl, ◌∙◌}
 use Rattle.granit_base.specs.Place.{Mark}
 use Rattle.granit_agreement.specs.Fair.{frames_in_flow, FairBehind, FairFinish, Fair}
-use Rattle.granit_grammar.specs.EventMachine.{Opened, Key, KeyDone, Asking, AskDone, Solo, Done, Value, OpenFrame, DocumentFrame, PropertiesFrame, SequenceFrame, MappingFrame, FlowSequenceFrame, FlowMappingFrame, FlowPairFrame, EventState, IsFresh, HasDirectives, IsRooted, InFrames, frames_room, put_frames}
+use Rattle.granit_grammar.specs.EventMachine.{Opened, Key, KeyDone, Asking, AskDone, Solo, Done, Value, OpenFrame}
+use Rattle.granit_grammar.specs.EventMachine.{DocumentFrame, PropertiesFrame, SequenceFrame, MappingFrame}
+use Rattle.granit_grammar.specs.EventMachine.{FlowSequenceFrame, FlowMappingFrame, FlowPairFrame, EventState, IsFresh}
+use Rattle.granit_grammar.specs.EventMachine.{HasDirectives, IsRooted, InFrames, frames_room, put_frames}
 use Rattle.granit_language.specs.Node.{One, Two}
 use Rattle.granit_language.specs.Room.{behind_property}
 use Rattle.granit_language.specs.Terminal.{PropertyKind, TerminalKind, Close, At, Terminal, closes_kind}
@@ -14,7 +17,8 @@ use Rattle.granit_answers.specs.Order.{closes_innermost, InOrder}
 -- frames outside flow, none of them at a simple key, whose innermost one a node must stand in
 pub data Blocks : List OpenFrame → Type 0 where
   block_root : {m : Option Mark} → Blocks (DocumentFrame m ∷ [])
-  block_entry : {loose : Bool} {c : ℕ} {w : Mark} {fs : List OpenFrame} → Blocks fs → Blocks (SequenceFrame loose c (Some w) ∷ fs)
+  block_entry : {loose : Bool} {c : ℕ} {w : Mark} {fs : List OpenFrame} → Blocks fs
+      → Blocks (SequenceFrame loose c (Some w) ∷ fs)
   block_asked : {c : ℕ} {fs : List OpenFrame} → Blocks fs → Blocks (MappingFrame c Asking ∷ fs)
   block_value : {c : ℕ} {w : Mark} {fs : List OpenFrame} → Blocks fs → Blocks (MappingFrame c (Value w) ∷ fs)
 
@@ -22,15 +26,24 @@ pub data Blocks : List OpenFrame → Type 0 where
 pub data Encloses : List Bracket → Option ℕ → List OpenFrame → Type 0 where
   in_blocks : {due : Option ℕ} {fs : List OpenFrame} → Blocks fs → Encloses [] due fs
   in_key : {c : ℕ} {fs : List OpenFrame} → Blocks fs → Encloses [] (Some c) (MappingFrame c Key ∷ fs)
-  in_item : {bs : List Bracket} {due : Option ℕ} {fs : List OpenFrame} → Encloses bs due fs → Encloses (Square ∷ bs) due (FlowSequenceFrame false ∷ fs)
-  in_curly : {bs : List Bracket} {due : Option ℕ} {fs : List OpenFrame} → Encloses bs due fs → Encloses (Curly ∷ bs) due (FlowMappingFrame false Opened ∷ fs)
-  in_curly_key : {bs : List Bracket} {due : Option ℕ} {fs : List OpenFrame} → Encloses bs due fs → Encloses (Curly ∷ bs) due (FlowMappingFrame false Key ∷ fs)
-  in_curly_asked : {bs : List Bracket} {due : Option ℕ} {fs : List OpenFrame} → Encloses bs due fs → Encloses (Curly ∷ bs) due (FlowMappingFrame false Asking ∷ fs)
-  in_curly_value : {w : Mark} {bs : List Bracket} {due : Option ℕ} {fs : List OpenFrame} → Encloses bs due fs → Encloses (Curly ∷ bs) due (FlowMappingFrame false (Value w) ∷ fs)
-  in_made_key : {bs : List Bracket} {due : Option ℕ} {fs : List OpenFrame} → Encloses bs due fs → Encloses (Square ∷ bs) due (FlowMappingFrame true Key ∷ FlowSequenceFrame false ∷ fs)
-  in_made_value : {w : Mark} {bs : List Bracket} {due : Option ℕ} {fs : List OpenFrame} → Encloses bs due fs → Encloses (Square ∷ bs) due (FlowMappingFrame true (Value w) ∷ FlowSequenceFrame false ∷ fs)
-  in_pair_asked : {bs : List Bracket} {due : Option ℕ} {fs : List OpenFrame} → Encloses bs due fs → Encloses (Square ∷ bs) due (FlowPairFrame Asking ∷ FlowSequenceFrame false ∷ fs)
-  in_pair_value : {w : Mark} {bs : List Bracket} {due : Option ℕ} {fs : List OpenFrame} → Encloses bs due fs → Encloses (Square ∷ bs) due (FlowPairFrame (Value w) ∷ FlowSequenceFrame false ∷ fs)
+  in_item : {bs : List Bracket} {due : Option ℕ} {fs : List OpenFrame} → Encloses bs due fs
+      → Encloses (Square ∷ bs) due (FlowSequenceFrame false ∷ fs)
+  in_curly : {bs : List Bracket} {due : Option ℕ} {fs : List OpenFrame} → Encloses bs due fs
+      → Encloses (Curly ∷ bs) due (FlowMappingFrame false Opened ∷ fs)
+  in_curly_key : {bs : List Bracket} {due : Option ℕ} {fs : List OpenFrame} → Encloses bs due fs
+      → Encloses (Curly ∷ bs) due (FlowMappingFrame false Key ∷ fs)
+  in_curly_asked : {bs : List Bracket} {due : Option ℕ} {fs : List OpenFrame} → Encloses bs due fs
+      → Encloses (Curly ∷ bs) due (FlowMappingFrame false Asking ∷ fs)
+  in_curly_value : {w : Mark} {bs : List Bracket} {due : Option ℕ} {fs : List OpenFrame} → Encloses bs due fs
+      → Encloses (Curly ∷ bs) due (FlowMappingFrame false (Value w) ∷ fs)
+  in_made_key : {bs : List Bracket} {due : Option ℕ} {fs : List OpenFrame} → Encloses bs due fs
+      → Encloses (Square ∷ bs) due (FlowMappingFrame true Key ∷ FlowSequenceFrame false ∷ fs)
+  in_made_value : {w : Mark} {bs : List Bracket} {due : Option ℕ} {fs : List OpenFrame} → Encloses bs due fs
+      → Encloses (Square ∷ bs) due (FlowMappingFrame true (Value w) ∷ FlowSequenceFrame false ∷ fs)
+  in_pair_asked : {bs : List Bracket} {due : Option ℕ} {fs : List OpenFrame} → Encloses bs due fs
+      → Encloses (Square ∷ bs) due (FlowPairFrame Asking ∷ FlowSequenceFrame false ∷ fs)
+  in_pair_value : {w : Mark} {bs : List Bracket} {due : Option ℕ} {fs : List OpenFrame} → Encloses bs due fs
+      → Encloses (Square ∷ bs) due (FlowPairFrame (Value w) ∷ FlowSequenceFrame false ∷ fs)
 
 -- behind properties no simple key begins in flow
 abbrev pub IsOff : List Bracket → Bool → Type 0
@@ -42,31 +55,56 @@ pub data Suits : List Bracket → Option ℕ → Bool → EventState → Type 0 
   suits_directed : {due : Option ℕ} {may : Bool} {v : Option (ℕ × ℕ)} → Suits [] due may (HasDirectives v)
   suits_rooted : {due : Option ℕ} {may : Bool} {e : Mark} → Suits [] due may (IsRooted e)
   suits_blocks : {due : Option ℕ} {may : Bool} {fs : List OpenFrame} → Blocks fs → Suits [] due may (InFrames fs)
-  suits_item : {bs : List Bracket} {due : Option ℕ} {may : Bool} {fs : List OpenFrame} → Encloses bs due fs → Suits (Square ∷ bs) due may (InFrames (FlowSequenceFrame false ∷ fs))
-  suits_curly : {bs : List Bracket} {due : Option ℕ} {may : Bool} {fs : List OpenFrame} → Encloses bs due fs → Suits (Curly ∷ bs) due may (InFrames (FlowMappingFrame false Opened ∷ fs))
-  suits_curly_asked : {bs : List Bracket} {due : Option ℕ} {may : Bool} {fs : List OpenFrame} → Encloses bs due fs → Suits (Curly ∷ bs) due may (InFrames (FlowMappingFrame false Asking ∷ fs))
-  suits_curly_value : {w : Mark} {bs : List Bracket} {due : Option ℕ} {may : Bool} {fs : List OpenFrame} → Encloses bs due fs → Suits (Curly ∷ bs) due may (InFrames (FlowMappingFrame false (Value w) ∷ fs))
-  suits_made_value : {w : Mark} {bs : List Bracket} {due : Option ℕ} {may : Bool} {fs : List OpenFrame} → Encloses bs due fs → Suits (Square ∷ bs) due may (InFrames (FlowMappingFrame true (Value w) ∷ FlowSequenceFrame false ∷ fs))
-  suits_pair_asked : {bs : List Bracket} {due : Option ℕ} {may : Bool} {fs : List OpenFrame} → Encloses bs due fs → Suits (Square ∷ bs) due may (InFrames (FlowPairFrame Asking ∷ FlowSequenceFrame false ∷ fs))
-  suits_pair_value : {w : Mark} {bs : List Bracket} {due : Option ℕ} {may : Bool} {fs : List OpenFrame} → Encloses bs due fs → Suits (Square ∷ bs) due may (InFrames (FlowPairFrame (Value w) ∷ FlowSequenceFrame false ∷ fs))
-  suits_one : {k : PropertyKind} {i : At} {bs : List Bracket} {due : Option ℕ} {may : Bool} {fs : List OpenFrame} → IsOff bs may → Encloses bs due fs → Suits bs due may (InFrames (PropertiesFrame (One k i) ∷ fs))
-  suits_two : {k m : PropertyKind} {i j : At} {bs : List Bracket} {due : Option ℕ} {may : Bool} {fs : List OpenFrame} → IsOff bs may → Encloses bs due fs → Suits bs due may (InFrames (PropertiesFrame (Two k i m j) ∷ fs))
-  suits_past_entry : {loose : Bool} {c : ℕ} {due : Option ℕ} {may : Bool} {fs : List OpenFrame} → Blocks fs → Suits [] due may (InFrames (SequenceFrame loose c None ∷ fs))
-  suits_key_done : {c : ℕ} {may : Bool} {fs : List OpenFrame} → Blocks fs → Suits [] (Some c) may (InFrames (MappingFrame c KeyDone ∷ fs))
-  suits_ask_done : {c : ℕ} {due : Option ℕ} {may : Bool} {fs : List OpenFrame} → Blocks fs → Suits [] due may (InFrames (MappingFrame c AskDone ∷ fs))
-  suits_done : {c : ℕ} {due : Option ℕ} {may : Bool} {fs : List OpenFrame} → Blocks fs → Suits [] due may (InFrames (MappingFrame c Done ∷ fs))
-  suits_item_done : {bs : List Bracket} {due : Option ℕ} {may : Bool} {fs : List OpenFrame} → Encloses bs due fs → Suits (Square ∷ bs) due may (InFrames (FlowSequenceFrame true ∷ fs))
-  suits_curly_key_done : {bs : List Bracket} {due : Option ℕ} {may : Bool} {fs : List OpenFrame} → Encloses bs due fs → Suits (Curly ∷ bs) due may (InFrames (FlowMappingFrame false KeyDone ∷ fs))
-  suits_curly_ask_done : {bs : List Bracket} {due : Option ℕ} {may : Bool} {fs : List OpenFrame} → Encloses bs due fs → Suits (Curly ∷ bs) due may (InFrames (FlowMappingFrame false AskDone ∷ fs))
-  suits_curly_solo : {bs : List Bracket} {due : Option ℕ} {may : Bool} {fs : List OpenFrame} → Encloses bs due fs → Suits (Curly ∷ bs) due may (InFrames (FlowMappingFrame false Solo ∷ fs))
-  suits_curly_done : {bs : List Bracket} {due : Option ℕ} {may : Bool} {fs : List OpenFrame} → Encloses bs due fs → Suits (Curly ∷ bs) due may (InFrames (FlowMappingFrame false Done ∷ fs))
-  suits_made_key_done : {bs : List Bracket} {due : Option ℕ} {may : Bool} {fs : List OpenFrame} → Encloses bs due fs → Suits (Square ∷ bs) due may (InFrames (FlowMappingFrame true KeyDone ∷ FlowSequenceFrame false ∷ fs))
-  suits_made_done : {bs : List Bracket} {due : Option ℕ} {may : Bool} {fs : List OpenFrame} → Encloses bs due fs → Suits (Square ∷ bs) due may (InFrames (FlowMappingFrame true Done ∷ FlowSequenceFrame false ∷ fs))
-  suits_square_ask_done : {bs : List Bracket} {due : Option ℕ} {may : Bool} {fs : List OpenFrame} → Encloses bs due fs → Suits (Square ∷ bs) due may (InFrames (FlowPairFrame AskDone ∷ FlowSequenceFrame false ∷ fs))
-  suits_square_done : {bs : List Bracket} {due : Option ℕ} {may : Bool} {fs : List OpenFrame} → Encloses bs due fs → Suits (Square ∷ bs) due may (InFrames (FlowPairFrame Done ∷ FlowSequenceFrame false ∷ fs))
+  suits_item : {bs : List Bracket} {due : Option ℕ} {may : Bool} {fs : List OpenFrame} → Encloses bs due fs
+      → Suits (Square ∷ bs) due may (InFrames (FlowSequenceFrame false ∷ fs))
+  suits_curly : {bs : List Bracket} {due : Option ℕ} {may : Bool} {fs : List OpenFrame} → Encloses bs due fs
+      → Suits (Curly ∷ bs) due may (InFrames (FlowMappingFrame false Opened ∷ fs))
+  suits_curly_asked : {bs : List Bracket} {due : Option ℕ} {may : Bool} {fs : List OpenFrame} → Encloses bs due fs
+      → Suits (Curly ∷ bs) due may (InFrames (FlowMappingFrame false Asking ∷ fs))
+  suits_curly_value : {w : Mark} {bs : List Bracket} {due : Option ℕ} {may : Bool} {fs : List OpenFrame}
+      → Encloses bs due fs → Suits (Curly ∷ bs) due may (InFrames (FlowMappingFrame false (Value w) ∷ fs))
+  suits_made_value : {w : Mark} {bs : List Bracket} {due : Option ℕ} {may : Bool} {fs : List OpenFrame}
+      → Encloses bs due fs → Suits (Square ∷ bs) due may
+      (InFrames (FlowMappingFrame true (Value w) ∷ FlowSequenceFrame false ∷ fs))
+  suits_pair_asked : {bs : List Bracket} {due : Option ℕ} {may : Bool} {fs : List OpenFrame} → Encloses bs due fs
+      → Suits (Square ∷ bs) due may (InFrames (FlowPairFrame Asking ∷ FlowSequenceFrame false ∷ fs))
+  suits_pair_value : {w : Mark} {bs : List Bracket} {due : Option ℕ} {may : Bool} {fs : List OpenFrame}
+      → Encloses bs due fs → Suits (Square ∷ bs) due may
+      (InFrames (FlowPairFrame (Value w) ∷ FlowSequenceFrame false ∷ fs))
+  suits_one : {k : PropertyKind} {i : At} {bs : List Bracket} {due : Option ℕ} {may : Bool} {fs : List OpenFrame}
+      → IsOff bs may → Encloses bs due fs → Suits bs due may (InFrames (PropertiesFrame (One k i) ∷ fs))
+  suits_two : {k m : PropertyKind} {i j : At} {bs : List Bracket} {due : Option ℕ} {may : Bool} {fs : List OpenFrame}
+      → IsOff bs may → Encloses bs due fs → Suits bs due may (InFrames (PropertiesFrame (Two k i m j) ∷ fs))
+  suits_past_entry : {loose : Bool} {c : ℕ} {due : Option ℕ} {may : Bool} {fs : List OpenFrame} → Blocks fs
+      → Suits [] due may (InFrames (SequenceFrame loose c None ∷ fs))
+  suits_key_done : {c : ℕ} {may : Bool} {fs : List OpenFrame} → Blocks fs
+      → Suits [] (Some c) may (InFrames (MappingFrame c KeyDone ∷ fs))
+  suits_ask_done : {c : ℕ} {due : Option ℕ} {may : Bool} {fs : List OpenFrame} → Blocks fs
+      → Suits [] due may (InFrames (MappingFrame c AskDone ∷ fs))
+  suits_done : {c : ℕ} {due : Option ℕ} {may : Bool} {fs : List OpenFrame} → Blocks fs
+      → Suits [] due may (InFrames (MappingFrame c Done ∷ fs))
+  suits_item_done : {bs : List Bracket} {due : Option ℕ} {may : Bool} {fs : List OpenFrame} → Encloses bs due fs
+      → Suits (Square ∷ bs) due may (InFrames (FlowSequenceFrame true ∷ fs))
+  suits_curly_key_done : {bs : List Bracket} {due : Option ℕ} {may : Bool} {fs : List OpenFrame} → Encloses bs due fs
+      → Suits (Curly ∷ bs) due may (InFrames (FlowMappingFrame false KeyDone ∷ fs))
+  suits_curly_ask_done : {bs : List Bracket} {due : Option ℕ} {may : Bool} {fs : List OpenFrame} → Encloses bs due fs
+      → Suits (Curly ∷ bs) due may (InFrames (FlowMappingFrame false AskDone ∷ fs))
+  suits_curly_solo : {bs : List Bracket} {due : Option ℕ} {may : Bool} {fs : List OpenFrame} → Encloses bs due fs
+      → Suits (Curly ∷ bs) due may (InFrames (FlowMappingFrame false Solo ∷ fs))
+  suits_curly_done : {bs : List Bracket} {due : Option ℕ} {may : Bool} {fs : List OpenFrame} → Encloses bs due fs
+      → Suits (Curly ∷ bs) due may (InFrames (FlowMappingFrame false Done ∷ fs))
+  suits_made_key_done : {bs : List Bracket} {due : Option ℕ} {may : Bool} {fs : List OpenFrame} → Encloses bs due fs
+      → Suits (Square ∷ bs) due may (InFrames (FlowMappingFrame true KeyDone ∷ FlowSequenceFrame false ∷ fs))
+  suits_made_done : {bs : List Bracket} {due : Option ℕ} {may : Bool} {fs : List OpenFrame} → Encloses bs due fs
+      → Suits (Square ∷ bs) due may (InFrames (FlowMappingFrame true Done ∷ FlowSequenceFrame false ∷ fs))
+  suits_square_ask_done : {bs : List Bracket} {due : Option ℕ} {may : Bool} {fs : List OpenFrame} → Encloses bs due fs
+      → Suits (Square ∷ bs) due may (InFrames (FlowPairFrame AskDone ∷ FlowSequenceFrame false ∷ fs))
+  suits_square_done : {bs : List Bracket} {due : Option ℕ} {may : Bool} {fs : List OpenFrame} → Encloses bs due fs
+      → Suits (Square ∷ bs) due may (InFrames (FlowPairFrame Done ∷ FlowSequenceFrame false ∷ fs))
 
 -- a node is finished
-pub put_suits : (e : Mark) {bs : List Bracket} {due : Option ℕ} {may : Bool} {fs : List OpenFrame} → Encloses bs due fs → Suits bs due may (put_frames e fs)
+pub put_suits : (e : Mark) {bs : List Bracket} {due : Option ℕ} {may : Bool} {fs : List OpenFrame} → Encloses bs due fs
+    → Suits bs due may (put_frames e fs)
 put_suits e (in_blocks block_root) = suits_rooted
 put_suits e (in_blocks (block_entry b)) = suits_past_entry b
 put_suits e (in_blocks (block_asked b)) = suits_ask_done b
@@ -84,7 +122,8 @@ put_suits e (in_pair_value p) = suits_square_done p
 
 -- ---- a lexeme in order is fair there
 
-flow_is : {bs : List Bracket} {due : Option ℕ} {fs : List OpenFrame} → Encloses bs due fs → is_nonempty bs ≡ frames_in_flow fs
+flow_is : {bs : List Bracket} {due : Option ℕ} {fs : List OpenFrame} → Encloses bs due fs
+    → is_nonempty bs ≡ frames_in_flow fs
 flow_is (in_blocks block_root) = refl
 flow_is (in_blocks (block_entry b)) = refl
 flow_is (in_blocks (block_asked b)) = refl
@@ -100,13 +139,15 @@ flow_is (in_made_value p) = refl
 flow_is (in_pair_asked p) = refl
 flow_is (in_pair_value p) = refl
 
-not_curly : (kind : TerminalKind) (bs : List Bracket) → closes_innermost kind (Square ∷ bs) ≡ true → closes_kind Curly kind ≡ false
+not_curly : (kind : TerminalKind) (bs : List Bracket) → closes_innermost kind (Square ∷ bs) ≡ true
+    → closes_kind Curly kind ≡ false
 not_curly (Close Square) bs e = refl
 not_curly (Close Curly) bs e = absurd cc
 not_curly kind bs e = refl
 
 module _ (x : Terminal) where
-  behind_fair : {bs : List Bracket} {due : Option ℕ} {may : Bool} {fs : List OpenFrame} → InOrder bs due may x → IsOff bs may → Encloses bs due fs → FairBehind (behind_property (frames_room fs)) x
+  behind_fair : {bs : List Bracket} {due : Option ℕ} {may : Bool} {fs : List OpenFrame} → InOrder bs due may x
+      → IsOff bs may → Encloses bs due fs → FairBehind (behind_property (frames_room fs)) x
   behind_fair i off (in_blocks block_root) = tt
   behind_fair i off (in_blocks (block_entry b)) = tt
   behind_fair i off (in_blocks (block_asked b)) = tt
@@ -128,7 +169,8 @@ module _ (x : Terminal) where
   blocks_finish (block_asked b) = (tt, λ e. blocks_finish b)
   blocks_finish (block_value b) = (tt, λ e. blocks_finish b)
 
-  fair_finish : {bs : List Bracket} {due : Option ℕ} {may : Bool} {fs : List OpenFrame} → InOrder bs due may x → Encloses bs due fs → FairFinish x fs
+  fair_finish : {bs : List Bracket} {due : Option ℕ} {may : Bool} {fs : List OpenFrame} → InOrder bs due may x
+      → Encloses bs due fs → FairFinish x fs
   fair_finish i (in_blocks b) = blocks_finish b
   fair_finish i (in_key b) = (i.stands_right _ refl refl, λ e. absurd cc)
   fair_finish i (in_item p) = (tt, λ e. absurd cc)
@@ -141,7 +183,8 @@ module _ (x : Terminal) where
   fair_finish i (in_pair_asked p) = (tt, λ e. (tt, λ e. absurd cc))
   fair_finish i (in_pair_value p) = (tt, λ e. (tt, λ e. absurd cc))
 
-  pub suits_fair : {bs : List Bracket} {due : Option ℕ} {may : Bool} {st : EventState} → InOrder bs due may x → Suits bs due may st → Fair x st
+  pub suits_fair : {bs : List Bracket} {due : Option ℕ} {may : Bool} {st : EventState} → InOrder bs due may x
+      → Suits bs due may st → Fair x st
   suits_fair i suits_fresh = (tt, λ e. tt)
   suits_fair i suits_directed = (tt, λ e. tt)
   suits_fair i suits_rooted = (tt, λ e. tt)

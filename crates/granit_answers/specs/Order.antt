@@ -4,11 +4,12 @@
 -- and 8.2).
 use Rattle.std.specs.Prelude.{◌≡◌, ℕ, Bool, true, false, List, [], ◌∷◌, Option, Some, None}
 use Rattle.granit_agreement.specs.Fair.{is_key_part}
-use Rattle.granit_agreement.specs.View.{Flagged, terminal_of}
+use Rattle.granit_language.specs.Seen.{Flagged, terminal_of}
 use Rattle.granit_language.specs.Reading.{begins_kind}
 use Rattle.granit_language.specs.Scope.{Scope}
 use Rattle.granit_language.specs.Scoping.{next_scope}
-use Rattle.granit_language.specs.Terminal.{Open, TerminalKind, TheEnd, Comma, Colon, Close, Part, At, Terminal, edge, is_dash_kind, bracket_is, stands_left}
+use Rattle.granit_language.specs.Terminal.{Open, TerminalKind, TheEnd, Comma, Colon, Close, Part, At, Terminal, edge}
+use Rattle.granit_language.specs.Terminal.{is_dash_kind, bracket_is, stands_left}
 use Rattle.granit_lexemes.specs.declared.layout.Bracket.{Bracket}
 use Rattle.granit_machine.specs.Laid.{is_nonempty}
 

@@ -1,11 +1,12 @@
-//! What the machine of the whole language answers, where comments aren't asked for.
-ghost use Rattle.std.specs.Prelude.{◌≡◌, ℕ, false, ◌⊎◌, List, None, Some, Ok, Err};
+//! What the machine of the whole language answers.
+ghost use Rattle.std.specs.Prelude.{◌≡◌, ℕ, false, true, ◌⊎◌, List, None, Some, Ok, Err, []};
 ghost use Rattle.granit_error.specs.OptionsData.{OptionsData};
-ghost use Rattle.granit_language.specs.GrammarFault.{GrammarFault, fault_of};
+ghost use Rattle.granit_invariants.specs.Quiet.{but_comments};
+ghost use Rattle.granit_language.specs.Reached.{ReadStopped};
+ghost use Rattle.granit_language.specs.TextFault.{NoneTold, OfComments, OfLexemes, OfReading, WholeCause};
 ghost use Rattle.granit_language.specs.Telling.{events_told};
-ghost use Rattle.granit_language.specs.Terminal.{Terminal};
 ghost use Rattle.granit_language.specs.TreeEvents.{TreeEvent};
-ghost use Rattle.granit_language.specs.Whole.{WholeFault, WholeReading};
+ghost use Rattle.granit_language.specs.Whole.{WholeReading};
 ghost use Rattle.granit_lexemes.specs.Here.{start_of};
 ghost use Rattle.granit_lexemes.specs.Lexeme.{Item};
 ghost use Rattle.granit_lexemes.specs.Outcome.{Fault};
@@ -13,14 +14,58 @@ ghost use Rattle.granit_lexemes.specs.PlainEvent.{PlainEvent};
 ghost use Rattle.granit_machine.specs.Lexing.{lex};
 ghost use Rattle.granit_machine.specs.Machine.{run};
 ghost use Rattle.granit_machine.specs.Reader.{LexState};
-ghost use Rattle.granit_answers.specs.Answers.{AnswersReading, FrontFault, terminals_of};
+ghost use Rattle.granit_answers.specs.Answers.{AnswersReading};
+ghost use Rattle.granit_language.specs.Seen.{terminals_of};
 
-/// What is answered is the one reading of the text's lexemes, a reading of lexemes that are read up to the end is
-/// answered, and a fault of the parser has its cause; where reading fails, the fault is that of reading, or has its
-/// cause in the lexemes before.
+/// What is answered is, comments aside, the one reading of the text's lexemes, and a reading of lexemes that are read
+/// up to the end is answered, unless a comment that is asked for is one too many. Unasked no comment is told.
 pub fn every_answer_is_the_reading_of_its_text()
-    ensures answers { (o : OptionsData) (x : List ℕ) (es : List PlainEvent) → o.emit_comments ≡ false → run o x ≡ Ok es → AnswersReading o x es }
-    ensures readings { (o : OptionsData) (x : List ℕ) (items : List Item) (t : LexState) (es : List TreeEvent) → o.emit_comments ≡ false → lex o (start_of x) ≡ Ok (items, t) → t.fault ≡ None → WholeReading o (terminals_of items) es → run o x ≡ Ok (events_told o es) }
-    ensures faults { (o : OptionsData) (x : List ℕ) (items : List Item) (t : LexState) (f : Fault) → o.emit_comments ≡ false → lex o (start_of x) ≡ Ok (items, t) → t.fault ≡ None → run o x ≡ Err f → (k : GrammarFault) × (y : Terminal) × WholeFault o (terminals_of items) k y × (f ≡ fault_of k y) }
-    ensures early { (o : OptionsData) (x : List ℕ) (items : List Item) (t : LexState) (f g : Fault) → o.emit_comments ≡ false → lex o (start_of x) ≡ Ok (items, t) → t.fault ≡ Some f → run o x ≡ Err g → (g ≡ f) ⊎ FrontFault o items g }
+    ensures answers { (o : OptionsData) (x : List ℕ) (es : List PlainEvent) → run o x ≡ Ok es → AnswersReading o x es }
+    ensures readings { (o : OptionsData) (x : List ℕ) (items : List Item) (t : LexState) (es : List TreeEvent) →
+        lex o (start_of x) ≡ Ok (items, t) → t.fault ≡ None → WholeReading o (terminals_of items) es →
+        NoneTold o true t.reader.laid items → (gs : List PlainEvent) × (run o x ≡ Ok gs)
+        × (but_comments gs ≡ events_told o es) }
+    ensures unasked { (o : OptionsData) (x : List ℕ) (es : List PlainEvent) → o.emit_comments ≡ false →
+        run o x ≡ Ok es → but_comments es ≡ es }
+    ensures exact { (o : OptionsData) (x : List ℕ) (items : List Item) (t : LexState) (es : List TreeEvent) →
+        o.emit_comments ≡ false →
+        lex o (start_of x) ≡ Ok (items, t) → t.fault ≡ None → WholeReading o (terminals_of items) es →
+        run o x ≡ Ok (events_told o es) }
+{}
+
+/// A text that is refused has a cause: a lexeme with which no reading goes on, what nothing is read of, or, where
+/// comments are asked for, one too many of them behind a `-` or `:` that waits for its node.
+pub fn every_fault_has_its_cause()
+    ensures { (o : OptionsData) (x : List ℕ) (f : Fault) → run o x ≡ Err f → WholeCause o x f }
+{}
+
+/// A cause in the lexemes or of comments is the answer; a text with a cause of reading is refused for one at that
+/// place, for that very one unless it is inside a tag, a quoted scalar or a directive. So a text that is answered has
+/// none.
+pub fn every_cause_is_answered()
+    ensures answered { (o : OptionsData) (x : List ℕ) (f : Fault) → OfLexemes o x f → run o x ≡ Err f }
+    ensures comments { (o : OptionsData) (x : List ℕ) (f : Fault) → OfComments o x f → run o x ≡ Err f }
+    ensures refused { (o : OptionsData) (x : List ℕ) (f : Fault) → OfReading o x f → (g : Fault) × (run o x ≡ Err g)
+        × OfReading o x g }
+    ensures exact { (o : OptionsData) (x : List ℕ) (f : Fault) → (c : OfReading o x f) →
+        ReadStopped o c.state f.kind f.mark → f.sources ≡ [] → run o x ≡ Err f }
+    ensures none { (o : OptionsData) (x : List ℕ) (f : Fault) (es : List PlainEvent) → run o x ≡ Ok es →
+        WholeCause o x f → ⊥ }
+{}
+
+/// A text has one cause at most: two are one, or both of reading and at one place.
+pub fn a_text_has_one_cause()
+    ensures one { (o : OptionsData) (x : List ℕ) (f g : Fault) → WholeCause o x f → WholeCause o x g → (f ≡ g)
+        ⊎ (OfReading o x f × OfReading o x g) }
+    ensures apart { (o : OptionsData) (x : List ℕ) (f g : Fault) → OfLexemes o x f → OfReading o x g → ⊥ }
+    ensures lexemes { (o : OptionsData) (x : List ℕ) (f g : Fault) → OfLexemes o x f → OfComments o x g → ⊥ }
+    ensures readings { (o : OptionsData) (x : List ℕ) (f g : Fault) → OfReading o x f → OfComments o x g → ⊥ }
+    ensures place { (o : OptionsData) (x : List ℕ) (f g : Fault) → (c : OfReading o x f) → (d : OfReading o x g) →
+        (c.items ≡ d.items) × (c.state ≡ d.state) }
+{}
+
+/// A text has a reading, whose events are the answer, or a cause.
+pub fn every_text_has_a_reading_or_a_cause()
+    ensures { (o : OptionsData) (x : List ℕ) → ((es : List PlainEvent) × AnswersReading o x es)
+        ⊎ ((f : Fault) × WholeCause o x f) }
 {}

@@ -71,7 +71,8 @@ is_anchor_char c = is_yaml_non_space c && not (is_flow c)
 -- a sign that a URI may have beside words: # ; / ? : @ & = + $ , _ . ! ~ * ' ( ) [ ] %
 unfoldable pub is_uri_sign : ℕ → Bool
 is_uri_sign c =
-    (((((((c == 0x23 || c == 0x3B) || c == 0x2F) || (c == 0x3F || c == 0x3A)) || ((c == 0x40 || c == 0x26) || (c == 0x3D || c == 0x2B)))
+    (((((((c == 0x23 || c == 0x3B) || c == 0x2F) || (c == 0x3F || c == 0x3A))
+    || ((c == 0x40 || c == 0x26) || (c == 0x3D || c == 0x2B)))
     || ((c == 0x24 || c == 0x2C) || (c == 0x5F || c == 0x2E)))
     || ((c == 0x21 || c == 0x7E) || (c == 0x2A || c == 0x27)))
     || ((c == 0x28 || c == 0x29) || (c == 0x5B || c == 0x5D)))

@@ -1,5 +1,6 @@
 pub mod Classes
 pub mod Place
+pub mod PlainContent
 pub mod Spans
 pub mod Texts
 pub mod Written

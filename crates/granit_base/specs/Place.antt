@@ -1,5 +1,6 @@
 -- Places in a text, and how a place moves over a character.
-use Rattle.std.specs.Prelude.{ℕ, ◌+◌, Bool, ◌&&◌, ◌||◌, ◌==◌, not, if◌then◌else◌, List, length, drop, slice_index, Option}
+use Rattle.std.specs.Prelude.{ℕ, ◌+◌, Bool, ◌&&◌, ◌||◌, ◌==◌, not, if◌then◌else◌, List, length, drop, slice_index}
+use Rattle.std.specs.Prelude.{Option}
 use Rattle.std.specs.Option.{option_map}
 use Rattle.std.specs.Char.{encode_utf8}
 
@@ -31,7 +32,8 @@ place_after text p =
     if ends_line text then record { index = p.index + 1; line = p.line + 1; column = 0 }
     else record { index = p.index + 1; line = p.line; column = p.column + 1 }
 
--- what is still to be read: its characters, how many bytes stand before it where that is told, and whether parts of it can be lent
+-- what is still to be read: its characters, how many bytes stand before it where that is told, and whether parts of it
+-- can be lent
 pub record Unread : Type 0 where
   pub text : List ℕ
   pub offset : Option ℕ

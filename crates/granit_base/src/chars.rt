@@ -1,5 +1,6 @@
 //! Strings, character by character.
-ghost use Rattle.std.specs.Prelude.{◌≡◌, ◌≤◌, ◌==◌, [], ◌∷◌, ◌++◌, length, slice_index, string_bytes, IfNone, IfSome, OnOk, OnErr};
+ghost use Rattle.std.specs.Prelude.{◌≡◌, ◌≤◌, ◌==◌, [], ◌∷◌, ◌++◌, length, slice_index, string_bytes, IfNone, IfSome};
+ghost use Rattle.std.specs.Prelude.{OnOk, OnErr};
 ghost use Rattle.granit_base.specs.Written.{string_chars};
 ghost use Rattle.std.specs.Str.{chars};
 ghost use Rattle.std.specs.Char.{encode_utf8};

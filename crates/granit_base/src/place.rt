@@ -20,9 +20,19 @@ impl Model for Marker {
 
     ghost Value = { Mark };
 
-    ghost view = { λ m. record { place = record { index = m.index; line = m.line; column = m.col }; byte_offset = m.byte_offset } };
+    ghost view = { λ m. record {
+      place = record { index = m.index; line = m.line; column = m.col };
+      byte_offset =
+          m.byte_offset;
+    } };
 
-    ghost inverse = { λ m. record { index = m.place.index; line = m.place.line; col = m.place.column; byte_offset = m.byte_offset } };
+    ghost inverse = { λ m. record {
+      index = m.place.index;
+      line = m.place.line;
+      col = m.place.column;
+      byte_offset =
+          m.byte_offset;
+    } };
 }
 
 impl Marker {

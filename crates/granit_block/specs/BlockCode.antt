@@ -1,14 +1,19 @@
 -- How the code reads a block scalar.
-use Rattle.std.specs.Prelude.{◌≡◌, ℕ, ◌<◌, ◌≤◌, ◌||◌, ◌&&◌, ◌==◌, not, Bool, true, false, List, [], ◌∷◌, ◌++◌, length, if◌then◌else◌, Option, Some, None, is_some, Result, Ok, Err}
+use Rattle.std.specs.Prelude.{◌≡◌, ℕ, ◌<◌, ◌≤◌, ◌||◌, ◌&&◌, ◌==◌, not, Bool, true, false, List, [], ◌∷◌, ◌++◌, length}
+use Rattle.std.specs.Prelude.{if◌then◌else◌, Option, Some, None, is_some, Result, Ok, Err}
 use Rattle.std.specs.Option.{option_map}
 use Rattle.granit_base.specs.Place.{Mark}
 use Rattle.granit_base.specs.Written.{string_chars}
-use Rattle.granit_error.specs.FaultKind.{FaultKind, NoMemory, ZeroBlockScalarIndent, InvalidBlockScalarHeader, TabAtBlockScalarStart, InvalidBlockScalarIndent, CommentNotSeparated, UnexpectedCharacter}
+use Rattle.granit_error.specs.FaultKind.{FaultKind, NoMemory, ZeroBlockScalarIndent, InvalidBlockScalarHeader}
+use Rattle.granit_error.specs.FaultKind.{TabAtBlockScalarStart, InvalidBlockScalarIndent, CommentNotSeparated}
+use Rattle.granit_error.specs.FaultKind.{UnexpectedCharacter}
 use Rattle.granit_error.specs.Refused.{Refused}
 use Rattle.granit_lexemes.specs.Basics.{owned, is_document_mark}
 use Rattle.granit_lexemes.specs.BlockHeader as spec
 use Rattle.granit_lexemes.specs.BlockHeader.{BlockHeader, block_header, leading_turn, greatest, content_column}
-use Rattle.granit_lexemes.specs.BlockScalar.{BlockState, BlockRead, BlockGiven, empty_lines, line_up_to, is_block_char, block_turn, block_len, block_style, block_body, block_scalar, behind_block, kept}
+use Rattle.granit_lexemes.specs.BlockScalar.{BlockState, BlockRead, BlockGiven, empty_lines, line_up_to, is_block_char}
+use Rattle.granit_lexemes.specs.BlockScalar.{block_turn, block_len, block_style, block_body, block_scalar, behind_block}
+use Rattle.granit_lexemes.specs.BlockScalar.{kept}
 use Rattle.granit_lexemes.specs.BlockValue.{line_feeds}
 use Rattle.granit_lexemes.specs.Comment.{CommentRead, comment}
 use Rattle.granit_lexemes.specs.Here.{Here, text_len, next_char, mark_of, mid_line, past}
@@ -78,8 +83,8 @@ abbrev pub block_lexed : LayoutData → Bool → BlockGiven → Here → Lexed
 block_lexed at literal given after =
     block_with literal given.read (mark_of after) (asked_note at given.noted) after.begins_line
 
-abbrev pub block_given : LayoutData → Bool → Here → Result (Lexed × Here) Fault
-block_given at literal h = block_scalar literal at.block_column h >>= λ x. Ok (block_lexed at literal x.0 x.1, x.1)
+abbrev pub block_lexed_at : LayoutData → Bool → Here → Result (Lexed × Here) Fault
+block_lexed_at at literal h = block_scalar literal at.block_column h >>= λ x. Ok (block_lexed at literal x.0 x.1, x.1)
 
 -- the same, part by part
 abbrev pub body_read : Bool → Option Token → Result (BlockRead × Here) Fault → Result (Lexed × Here) Fault

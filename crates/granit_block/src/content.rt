@@ -8,7 +8,8 @@ ghost use Rattle.granit_lexemes.specs.BlockHeader as header;
 ghost use Rattle.granit_lexemes.specs.BlockScalar as spec;
 ghost use Rattle.granit_lexemes.specs.BlockValue.{line_feeds};
 ghost use Rattle.granit_lexemes.specs.Here.{Here};
-ghost use Rattle.granit_block.specs.BlockCode.{header_data, chomping_data, content_data, block_state, text_given, ending_of, IsBlockKind};
+ghost use Rattle.granit_block.specs.BlockCode.{header_data, chomping_data, content_data, block_state, text_given};
+ghost use Rattle.granit_block.specs.BlockCode.{ending_of, IsBlockKind};
 ghost use Rattle.granit_cursor.specs.Reading.{Stands, Moves, Wherever, GivesTo};
 
 use crate::header::{Chomping, Header};

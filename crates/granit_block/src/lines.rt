@@ -4,7 +4,8 @@ ghost use Rattle.granit_base.specs.Written.{string_chars};
 ghost use Rattle.granit_lexemes.specs.BlockScalar as spec;
 ghost use Rattle.granit_lexemes.specs.Here.{Here};
 ghost use Rattle.granit_lexemes.specs.LinesExtent.{is_clear};
-ghost use Rattle.granit_block.specs.BlockCode.{block_state, block_whole, is_off_content, is_content_mark, IsClear, Shrinks, TakesLine, LineTurnsTo, LinesTo, IsBlockKind};
+ghost use Rattle.granit_block.specs.BlockCode.{block_state, block_whole, is_off_content, is_content_mark, IsClear};
+ghost use Rattle.granit_block.specs.BlockCode.{Shrinks, TakesLine, LineTurnsTo, LinesTo, IsBlockKind};
 ghost use Rattle.granit_cursor.specs.Reading.{Stands, Moves, Wherever};
 
 use crate::spaces::past_empty_lines;
@@ -43,7 +44,8 @@ pub(crate) fn refuse_unprintable<T: Input>(cursor: &mut Cursor<T>) -> Result<(),
 /// Appends what stands for the breaks before a line of content.
 fn push_between(literal: bool, blank: bool, lines: &mut Lines) -> Result<(), NoMemory>
     ensures value { OnOk result (string_chars lines.new.value
-        ≡ string_chars lines.old.value ++ spec.between_lines literal lines.old.before blank (string_chars lines.old.empty)) }
+        ≡ string_chars lines.old.value ++ spec.between_lines literal lines.old.before blank
+        (string_chars lines.old.empty)) }
     ensures kept { (lines.new.empty ≡ lines.old.empty) }
 {
     let Some(before) = lines.before else {

@@ -5,7 +5,8 @@ ghost use Rattle.granit_error.specs.FaultKind.{NoMemory};
 ghost use Rattle.granit_lexemes.specs.BlockExtent as extent;
 ghost use Rattle.granit_lexemes.specs.BlockScalar as spec;
 ghost use Rattle.granit_lexemes.specs.Here.{Here, next_char};
-ghost use Rattle.granit_block.specs.BlockCode.{block_indicator, block_lexed, block_given, block_chained, block_with, content_data, IsBlockKind};
+ghost use Rattle.granit_block.specs.BlockCode.{block_indicator, block_lexed, block_lexed_at, block_chained, block_with};
+ghost use Rattle.granit_block.specs.BlockCode.{content_data, IsBlockKind};
 ghost use Rattle.granit_cursor.specs.Reading.{Stands, Moves, Wherever, ReadsAs, RefusedFor};
 ghost use Rattle.granit_cursor.specs.Tokens.{layout_data};
 
@@ -37,7 +38,7 @@ pub fn scan_block_scalar<'input, T: BorrowedInput<'input>>(
     at: &Layout,
 ) -> Result<Lexed<'input>, ScanError>
     requires { (h : Here) → Stands T.unread cursor.old h → next_char h ≡ block_indicator literal }
-    ensures here { ReadsAs T.unread cursor.old cursor.new result (block_given (layout_data at.now) literal) }
+    ensures here { ReadsAs T.unread cursor.old cursor.new result (block_lexed_at (layout_data at.now) literal) }
     ensures scalar { Wherever T.unread cursor.old cursor.new (λ h Lands.
         IfOk result (λ l. (given : spec.BlockGiven) × (after : Here)
         × extent.AnswersBlock literal at.now.block_column h given after

@@ -4,7 +4,8 @@ ghost use Rattle.granit_base.specs.Written.{string_chars};
 ghost use Rattle.granit_lexemes.specs.BlockHeader as spec;
 ghost use Rattle.granit_lexemes.specs.BlockScalar.{indented};
 ghost use Rattle.granit_lexemes.specs.Here.{Here, past};
-ghost use Rattle.granit_block.specs.BlockCode.{Shrinks, ShrinksIf, empty_whole, EmptyTurnsTo, EmptiesTo, WidthGiven, WidestGiven, FindsColumn};
+ghost use Rattle.granit_block.specs.BlockCode.{Shrinks, ShrinksIf, empty_whole, EmptyTurnsTo, EmptiesTo, WidthGiven};
+ghost use Rattle.granit_block.specs.BlockCode.{WidestGiven, FindsColumn};
 ghost use Rattle.granit_cursor.specs.Reading.{Stands, Moves, Wherever, GoesTo};
 
 use granit_base::{NoMemory, is_break, push_char};

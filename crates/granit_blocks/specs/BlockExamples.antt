@@ -12,14 +12,15 @@ use Rattle.granit_scalars.specs.QuotedExamples.{comment_text}
 abbrev pub block_in : (literal : Bool) → (block : Option ℕ) → List ℕ → ℕ → Result (BlockGiven × Here) Fault
 block_in literal block text index = block_scalar literal block (over (take index text) (start_of text))
 
-abbrev pub indent_words : Option ℕ → List ℕ
-indent_words None = []
-indent_words (Some n) = codes " indent=" ++ decimal n
+abbrev pub indent_in_words : Option ℕ → List ℕ
+indent_in_words None = []
+indent_in_words (Some n) = codes " indent=" ++ decimal n
 
 abbrev pub block_token_line : Bool → Result (BlockGiven × Here) Fault → List ℕ
 block_token_line literal (Ok (given, after)) =
     codes "Scalar " ++ style_word (block_style literal) ++ codes " " ++ in_quotes given.read.text.characters
-    ++ codes " " ++ place_line given.read.shown.place ++ codes "-" ++ place_line after.place ++ indent_words given.read.indent
+    ++ codes " " ++ place_line given.read.shown.place ++ codes "-" ++ place_line after.place
+    ++ indent_in_words given.read.indent
     ++ codes "\n"
 block_token_line literal (Err f) = fault_line f
 

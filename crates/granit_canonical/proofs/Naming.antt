@@ -1,5 +1,6 @@
 -- What is written for a tag spells it, and names are of characters that a name may have.
-use Rattle.std.proofs.Common.{◌≡◌, ◌≢◌, ℕ, suc, ◌+◌, ◌/◌, ◌%◌, ◌<◌, ◌==◌, Bool, true, false, cond, ◌||◌, List, [], ◌∷◌, ◌++◌, length, refl, sym, ap, ◌∙◌, subst, arith}
+use Rattle.std.proofs.Common.{◌≡◌, ◌≢◌, ℕ, suc, ◌+◌, ◌/◌, ◌%◌, ◌<◌, ◌==◌, Bool, true, false, cond, ◌||◌, List, [], ◌∷◌}
+use Rattle.std.proofs.Common.{◌++◌, length, refl, sym, ap, ◌∙◌, subst, arith}
 use Rattle.std.proofs.lemmas.Bool.{and_parts}
 use Rattle.std.proofs.lemmas.Bool.Decides.{nat_tests}
 use Rattle.std.proofs.lemmas.Str.{length-encode, len_utf8_bounds}
@@ -25,10 +26,13 @@ last_scalar c s = ⊎_elim (λ h. omega (arith, h)) (λ h. h.1) (scalar_cases c 
 
 -- the bytes of a character
 encoded : (one two three : Bool) (c : ℕ) → ltb c 128 ≡ one → ltb c 2048 ≡ two → ltb c 65536 ≡ three → c < 0x110000
-    → AreBytes (cond one (c ∷ []) (cond two ((192 + c / 64) ∷ next c ∷ []) (cond three ((224 + c / 4096) ∷ next (c / 64) ∷ next c ∷ []) ((240 + c / 262144) ∷ next (c / 4096) ∷ next (c / 64) ∷ next c ∷ []))))
+    → AreBytes (cond one (c ∷ []) (cond two ((192 + c / 64) ∷ next c ∷ [])
+    (cond three ((224 + c / 4096) ∷ next (c / 64) ∷ next c ∷ [])
+    ((240 + c / 262144) ∷ next (c / 4096) ∷ next (c / 64) ∷ next c ∷ []))))
 encoded true two three c e f g h = (grind (arith, nat_tests), tt)
 encoded false true three c e f g h = let k : c < 2048 = grind (arith, nat_tests) in (omega arith, (omega arith, tt))
-encoded false false true c e f g h = let k : c < 65536 = grind (arith, nat_tests) in (omega arith, (omega arith, (omega arith, tt)))
+encoded false false true c e f g h = let k : c < 65536 = grind
+    (arith, nat_tests) in (omega arith, (omega arith, (omega arith, tt)))
 encoded false false false c e f g h = (omega arith, (omega arith, (omega arith, (omega arith, tt))))
 
 are_bytes : (c : ℕ) → scalar c ≡ true → AreBytes (encode c)
@@ -42,7 +46,8 @@ bytes_and (x ∷ xs) ys h k = (h.0, bytes_and xs ys h.1 k)
 -- the UTF-8 of a text is of bytes
 pub utf8_bytes : (text : List ℕ) → scalars text ≡ true → AreBytes (encode_utf8_all text)
 utf8_bytes [] e = tt
-utf8_bytes (c ∷ cs) e = bytes_and (encode c) (encode_utf8_all cs) (are_bytes c (and_parts (scalar c) (scalars cs) e).0) (utf8_bytes cs (and_parts (scalar c) (scalars cs) e).1)
+utf8_bytes (c ∷ cs) e = bytes_and (encode c) (encode_utf8_all cs) (are_bytes c (and_parts (scalar c) (scalars cs) e).0)
+    (utf8_bytes cs (and_parts (scalar c) (scalars cs) e).1)
 
 append_some : (xs ys : List ℕ) → xs ≢ [] → xs ++ ys ≢ []
 append_some [] ys h e = h refl
@@ -63,7 +68,8 @@ uri_is : (b : ℕ) → stands_itself b ≡ true → is_uri_char b ≡ true
 unfolding is_uri_char is_uri_sign
 uri_is b h = by (is_word_char b) h
   where
-    by : (word : Bool) → (word || ((b == 0x3A || b == 0x2C) || (b == 0x2E || b == 0x2F))) ≡ true → (word || is_uri_sign b) ≡ true
+    by : (word : Bool) → (word || ((b == 0x3A || b == 0x2C) || (b == 0x2E || b == 0x2F))) ≡ true
+        → (word || is_uri_sign b) ≡ true
     by true e = refl
     by false e = grind (arith, nat_tests)
 
@@ -71,13 +77,16 @@ no_percent : (b : ℕ) → stands_itself b ≡ true → b ≢ 0x25
 unfolding is_word_char is_digit
 no_percent b h e = let k : stands_itself 0x25 ≡ true = ap stands_itself (sym e) ∙ h in cc
 
-byte_spells : (itself_so : Bool) (b : ℕ) (rest bytes : List ℕ) → stands_itself b ≡ itself_so → b < 0x100 → UriBytes rest bytes → UriBytes (byte_by itself_so b rest) (b ∷ bytes)
+byte_spells : (itself_so : Bool) (b : ℕ) (rest bytes : List ℕ) → stands_itself b ≡ itself_so → b < 0x100
+    → UriBytes rest bytes → UriBytes (byte_by itself_so b rest) (b ∷ bytes)
 byte_spells true b rest bytes e h r = itself (uri_is b e) (no_percent b e) r
 byte_spells false b rest bytes e h r =
-    subst (λ n. UriBytes (0x25 ∷ two_digits b rest) (n ∷ bytes)) (omega (arith, digit_writes (b / 16) (omega arith), digit_writes (b % 16) (omega arith)))
+    subst (λ n. UriBytes (0x25 ∷ two_digits b rest) (n ∷ bytes))
+    (omega (arith, digit_writes (b / 16) (omega arith), digit_writes (b % 16) (omega arith)))
     (percent (digit_is_hex (b / 16) (omega arith)) (digit_is_hex (b % 16) (omega arith)) r)
 
-tag_byte_spells : (b : ℕ) (rest bytes : List ℕ) → b < 0x100 → UriBytes rest bytes → UriBytes (tag_byte b rest) (b ∷ bytes)
+tag_byte_spells : (b : ℕ) (rest bytes : List ℕ) → b < 0x100 → UriBytes rest bytes
+    → UriBytes (tag_byte b rest) (b ∷ bytes)
 unfolding tag_byte
 tag_byte_spells b rest bytes h r = byte_spells (stands_itself b) b rest bytes refl h r
 

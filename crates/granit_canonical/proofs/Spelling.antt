@@ -2,8 +2,12 @@
 use Rattle.std.proofs.Common.{ℕ, zero, suc, List, [], ◌∷◌, Option, Some, None, subst, arith}
 use Rattle.std.specs.Prelude.{IfSome}
 use Rattle.std.specs.List.{All}
-use Rattle.granit_canonical.specs.Canonical.{AreCharacters, PropertiesHaveCharacters, TreeHasCharacters, HasCharacters, PairsHaveCharacters}
-use Rattle.granit_model.specs.Tree.{Properties, PlainTree, AliasOf, ScalarOf, SequenceOf, MappingOf, PlainTrees, NoTrees, AfterTrees, PlainPairs, NoPairs, AfterPairs, with_anchor, behind_tree, behind_trees, behind_pairs, IsAnchorName, PropertiesFit, TreeFits, TreesFit, PairsFit, DocumentsFit}
+use Rattle.granit_model.specs.Characters.{AreCharacters, PropertiesHaveCharacters, TreeHasCharacters, HasCharacters}
+use Rattle.granit_model.specs.Characters.{PairsHaveCharacters}
+use Rattle.granit_model.specs.Tree.{Properties, PlainTree, AliasOf, ScalarOf, SequenceOf, MappingOf, PlainTrees}
+use Rattle.granit_model.specs.Tree.{NoTrees, AfterTrees, PlainPairs, NoPairs, AfterPairs, with_anchor, behind_tree}
+use Rattle.granit_model.specs.Tree.{behind_trees, behind_pairs, IsAnchorName, PropertiesFit, TreeFits, TreesFit}
+use Rattle.granit_model.specs.Tree.{PairsFit, DocumentsFit}
 
 -- tags and names that can be written
 abbrev pub CanStand : Properties → Type 0
@@ -36,12 +40,14 @@ one_more : (name : List ℕ) (known : List (List ℕ)) → IsAnchorName name →
 one_more name known h n zero d l = h
 one_more name known h n (suc k) d l = n k d (omega arith)
 
-more_named : (anchor : Option (List ℕ)) (known : List (List ℕ)) → IfSome anchor IsAnchorName → AreNames known → AreNames (with_anchor anchor known)
+more_named : (anchor : Option (List ℕ)) (known : List (List ℕ)) → IfSome anchor IsAnchorName → AreNames known
+    → AreNames (with_anchor anchor known)
 more_named None known h n = n
 more_named (Some name) known h n = one_more name known h n
 
 mutual
-  tree_spells : (t : PlainTree) (known : List (List ℕ)) → AreNames known → TreeFits t known → TreeHasCharacters t → CanSpell t × AreNames (behind_tree t known)
+  tree_spells : (t : PlainTree) (known : List (List ℕ)) → AreNames known → TreeFits t known → TreeHasCharacters t
+      → CanSpell t × AreNames (behind_tree t known)
   tree_spells (AliasOf name) known n h c = ((subst IsAnchorName h.2 (n h.0 name h.1), c), n)
   tree_spells (ScalarOf p text) known n h c = (((h, c.0), c.1), more_named p.anchor known h.1 n)
   tree_spells (SequenceOf p entries) known n h c =
@@ -51,14 +57,16 @@ mutual
       let inner = pairs_spell pairs (with_anchor p.anchor known) (more_named p.anchor known h.0.1 n) h.1 c.1 in
       (((h.0, c.0), inner.0), inner.1)
 
-  trees_spell : (ts : PlainTrees) (known : List (List ℕ)) → AreNames known → TreesFit ts known → HasCharacters ts → CanSpellTrees ts × AreNames (behind_trees ts known)
+  trees_spell : (ts : PlainTrees) (known : List (List ℕ)) → AreNames known → TreesFit ts known → HasCharacters ts
+      → CanSpellTrees ts × AreNames (behind_trees ts known)
   trees_spell NoTrees known n h c = (tt, n)
   trees_spell (AfterTrees ts t) known n h c =
       let front = trees_spell ts known n h.0 c.0 in
       let last = tree_spells t (behind_trees ts known) front.1 h.1 c.1 in
       ((front.0, last.0), last.1)
 
-  pairs_spell : (ps : PlainPairs) (known : List (List ℕ)) → AreNames known → PairsFit ps known → PairsHaveCharacters ps → CanSpellPairs ps × AreNames (behind_pairs ps known)
+  pairs_spell : (ps : PlainPairs) (known : List (List ℕ)) → AreNames known → PairsFit ps known → PairsHaveCharacters ps
+      → CanSpellPairs ps × AreNames (behind_pairs ps known)
   pairs_spell NoPairs known n h c = (tt, n)
   pairs_spell (AfterPairs ps k v) known n h c =
       let front = pairs_spell ps known n h.0 c.0 in

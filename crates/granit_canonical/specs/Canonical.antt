@@ -1,41 +1,21 @@
 -- What canonical flow text is read as: the nodes of its trees, at the places where the text puts them.
-use Rattle.std.specs.Prelude.{◌≡◌, ℕ, ◌+◌, true, not, List, [], length, Option, Some, None, IfSome}
+use Rattle.std.specs.Prelude.{ℕ, ◌+◌, true, not, List, [], length, Option, Some, None}
 use Rattle.std.specs.Str.{encode_utf8_all}
-use lib.Utf8.{scalars}
 use Rattle.granit_base.specs.Written.{Written}
 use Rattle.granit_base.specs.declared.style.ScalarStyle.TheVariants.{DoubleQuoted}
 use Rattle.granit_error.specs.OptionsData.{OptionsData}
 use Rattle.granit_flow.specs.Content.{has_backslash}
 use Rattle.granit_flow.specs.Events.{events}
-use Rattle.granit_model.specs.FlowText.{tag_bytes, quoted_characters, tag_text, properties_text, tree_text, comma_unless, entries_text, pairs_text, documents_text, flow_characters}
+use Rattle.granit_model.specs.FlowText.{tag_bytes, quoted_characters, tag_text, properties_text, tree_text}
+use Rattle.granit_model.specs.FlowText.{comma_unless, entries_text, pairs_text, documents_text, flow_characters}
 use Rattle.granit_lexemes.specs.Source.{Source}
-use Rattle.granit_flow.specs.Node.{TagAt, AnchorAt, NodeProperties, Node, AliasNode, ScalarNode, EmptySequence, Sequence, EmptyMapping, Mapping, Entry, EntryLead, FirstEntry, NextEntry, Pair, PairLead, FirstPair, NextPair, Documents, NoDocument, Document}
+use Rattle.granit_flow.specs.Node.{TagAt, AnchorAt, NodeProperties, Node, AliasNode, ScalarNode, EmptySequence}
+use Rattle.granit_flow.specs.Node.{Sequence, EmptyMapping, Mapping, Entry, EntryLead, FirstEntry, NextEntry, Pair}
+use Rattle.granit_flow.specs.Node.{PairLead, FirstPair, NextPair, Documents, NoDocument, Document}
 use Rattle.granit_lexemes.specs.Place.{mark_at}
 use Rattle.granit_lexemes.specs.PlainEvent.{PlainEvent}
-use Rattle.granit_model.specs.Tree.{Properties, PlainTree, AliasOf, ScalarOf, SequenceOf, MappingOf, PlainTrees, NoTrees, AfterTrees, PlainPairs, NoPairs, AfterPairs, no_trees, no_pairs}
-
--- characters: each code point is a Unicode scalar value
-abbrev pub AreCharacters : List ℕ → Type 0
-AreCharacters text = scalars text ≡ true
-
-abbrev pub PropertiesHaveCharacters : Properties → Type 0
-PropertiesHaveCharacters p = IfSome p.tag AreCharacters × IfSome p.anchor AreCharacters
-
--- each text, tag and name in a tree, in trees, in pairs is of characters
-abbrev mutual
-  pub TreeHasCharacters : PlainTree → Type 0
-  TreeHasCharacters (AliasOf name) = AreCharacters name
-  TreeHasCharacters (ScalarOf p text) = PropertiesHaveCharacters p × AreCharacters text
-  TreeHasCharacters (SequenceOf p entries) = PropertiesHaveCharacters p × HasCharacters entries
-  TreeHasCharacters (MappingOf p pairs) = PropertiesHaveCharacters p × PairsHaveCharacters pairs
-
-  pub HasCharacters : PlainTrees → Type 0
-  HasCharacters NoTrees = Unit {0}
-  HasCharacters (AfterTrees ts t) = HasCharacters ts × TreeHasCharacters t
-
-  pub PairsHaveCharacters : PlainPairs → Type 0
-  PairsHaveCharacters NoPairs = Unit {0}
-  PairsHaveCharacters (AfterPairs ps k v) = PairsHaveCharacters ps × TreeHasCharacters k × TreeHasCharacters v
+use Rattle.granit_model.specs.Tree.{Properties, PlainTree, AliasOf, ScalarOf, SequenceOf, MappingOf, PlainTrees}
+use Rattle.granit_model.specs.Tree.{NoTrees, AfterTrees, PlainPairs, NoPairs, AfterPairs, no_trees, no_pairs}
 
 -- how many characters their canonical text has
 abbrev pub tag_width : Option (List ℕ) → ℕ
@@ -70,7 +50,10 @@ source_at x i width = record { start = mark_at x i; end = mark_at x (i + width) 
 -- a tag from its `!` to behind its `>`
 abbrev pub tag_at : (x : List ℕ) (i : ℕ) → Option (List ℕ) → Option TagAt
 tag_at x i None = None
-tag_at x i (Some tag) = Some (record { source = source_at x i (length (tag_bytes (encode_utf8_all tag) []) + 3); suffix = tag })
+tag_at x i (Some tag) = Some (record {
+  source = source_at x i (length (tag_bytes (encode_utf8_all tag) []) + 3);
+  suffix = tag;
+})
 
 -- a name, lent from the text, where an anchor or an alias stands
 abbrev pub lent : List ℕ → Written
@@ -91,9 +74,11 @@ abbrev pub quoted_value : List ℕ → Written
 quoted_value text = record { characters = text; is_borrowed = not (has_backslash (quoted_characters text [])) }
 
 abbrev pub scalar_at : (x : List ℕ) → NodeProperties → (i : ℕ) → List ℕ → Node
-scalar_at x own i text = ScalarNode own (source_at x i (length (quoted_characters text []) + 2)) DoubleQuoted (quoted_value text)
+scalar_at x own i text = ScalarNode own (source_at x i (length (quoted_characters text []) + 2)) DoubleQuoted
+    (quoted_value text)
 
--- The nodes of trees whose canonical text stands from an index of a text on. Behind properties the node's own text begins.
+-- The nodes of trees whose canonical text stands from an index of a text on. Behind properties the node's own text
+-- begins.
 abbrev mutual
   pub node_at : (x : List ℕ) (i : ℕ) → PlainTree → Node
   node_at x i (AliasOf name) = AliasNode (name_at x i name) (lent name)
@@ -105,7 +90,8 @@ abbrev mutual
   pub sequence_at : (x : List ℕ) → NodeProperties → (i : ℕ) → PlainTrees → Node
   sequence_at x own i NoTrees = EmptySequence own (source_at x i 1) (source_at x (i + 1) 1)
   sequence_at x own i (AfterTrees ts t) =
-      Sequence own (source_at x i 1) (Entry (entry_lead_at x (i + 1) ts) (node_at x (i + 1 + entry_offset ts) t)) (source_at x (i + 1 + entries_width (AfterTrees ts t)) 1)
+      Sequence own (source_at x i 1) (Entry (entry_lead_at x (i + 1) ts) (node_at x (i + 1 + entry_offset ts) t))
+      (source_at x (i + 1 + entries_width (AfterTrees ts t)) 1)
 
   -- from its `{` on
   pub mapping_at : (x : List ℕ) → NodeProperties → (i : ℕ) → PlainPairs → Node
@@ -113,13 +99,15 @@ abbrev mutual
   mapping_at x own i (AfterPairs ps k v) =
       let q = i + 1 + pair_offset ps in
       Mapping own (source_at x i 1)
-      (Pair (pair_lead_at x (i + 1) ps) (source_at x q 1) (node_at x (q + 2) k) (source_at x (q + 3 + tree_width k) 1) (node_at x (q + 5 + tree_width k) v))
+      (Pair (pair_lead_at x (i + 1) ps) (source_at x q 1) (node_at x (q + 2) k) (source_at x (q + 3 + tree_width k) 1)
+      (node_at x (q + 5 + tree_width k) v))
       (source_at x (i + 1 + pairs_width (AfterPairs ps k v)) 1)
 
   -- what stands before an entry: from the first of these entries on
   pub entry_lead_at : (x : List ℕ) (i : ℕ) → PlainTrees → EntryLead
   entry_lead_at x i NoTrees = FirstEntry
-  entry_lead_at x i (AfterTrees ts t) = NextEntry (Entry (entry_lead_at x i ts) (node_at x (i + entry_offset ts) t)) (source_at x (i + entries_width (AfterTrees ts t)) 1)
+  entry_lead_at x i (AfterTrees ts t) = NextEntry (Entry (entry_lead_at x i ts) (node_at x (i + entry_offset ts) t))
+      (source_at x (i + entries_width (AfterTrees ts t)) 1)
 
   -- what stands before a pair: from the first of these pairs on
   pub pair_lead_at : (x : List ℕ) (i : ℕ) → PlainPairs → PairLead
@@ -127,13 +115,15 @@ abbrev mutual
   pair_lead_at x i (AfterPairs ps k v) =
       let q = i + pair_offset ps in
       NextPair
-      (Pair (pair_lead_at x i ps) (source_at x q 1) (node_at x (q + 2) k) (source_at x (q + 3 + tree_width k) 1) (node_at x (q + 5 + tree_width k) v))
+      (Pair (pair_lead_at x i ps) (source_at x q 1) (node_at x (q + 2) k) (source_at x (q + 3 + tree_width k) 1)
+      (node_at x (q + 5 + tree_width k) v))
       (source_at x (i + pairs_width (AfterPairs ps k v)) 1)
 
 -- the documents whose canonical text begins a text
 abbrev pub documents_in : (x : List ℕ) → PlainTrees → Documents
 documents_in x NoTrees = NoDocument
-documents_in x (AfterTrees ts t) = let i = documents_width ts in Document (documents_in x ts) (source_at x i 3) (node_at x (i + 4) t)
+documents_in x (AfterTrees ts t) = let i = documents_width ts in Document (documents_in x ts) (source_at x i 3)
+    (node_at x (i + 4) t)
 
 -- the events of documents that are read from their own canonical text
 abbrev pub canonical_events : OptionsData → PlainTrees → List PlainEvent

@@ -1,7 +1,8 @@
 //! Canonical flow text has the reading that its trees give.
 ghost use Rattle.std.specs.Prelude.{[], ◌≤◌};
 ghost use Rattle.granit_error.specs.OptionsData.{OptionsData};
-ghost use Rattle.granit_canonical.specs.Canonical.{HasCharacters, documents_in};
+ghost use Rattle.granit_canonical.specs.Canonical.{documents_in};
+ghost use Rattle.granit_model.specs.Characters.{HasCharacters};
 ghost use Rattle.granit_model.specs.FlowText.{flow_characters};
 ghost use Rattle.granit_flow.specs.Reading.{Reading};
 ghost use Rattle.granit_flow.specs.Scope.{Resolves};
@@ -12,6 +13,10 @@ ghost use Rattle.granit_flow.specs.Yield.{spell_documents};
 /// as long as they are no deeper than allowed (`reading`); and each alias in it names an anchor before
 /// it in its document, whatever the options (`scope`).
 pub fn canonical_text_is_read()
-    ensures reading { (o : OptionsData) (ts : PlainTrees) → DocumentsFit ts → HasCharacters ts → trees_depth ts ≤ o.flow_nesting_limit → Reading o (flow_characters ts) (spell_documents (documents_in (flow_characters ts) ts) []) (documents_in (flow_characters ts) ts) }
-    ensures scope { (o : OptionsData) (ts : PlainTrees) → DocumentsFit ts → Resolves o [] (spell_documents (documents_in (flow_characters ts) ts) []) }
+    ensures reading { (o : OptionsData) (ts : PlainTrees) → DocumentsFit ts → HasCharacters ts
+        → trees_depth ts ≤ o.flow_nesting_limit
+        → Reading o (flow_characters ts) (spell_documents (documents_in (flow_characters ts) ts) [])
+        (documents_in (flow_characters ts) ts) }
+    ensures scope { (o : OptionsData) (ts : PlainTrees) → DocumentsFit ts
+        → Resolves o [] (spell_documents (documents_in (flow_characters ts) ts) []) }
 {}

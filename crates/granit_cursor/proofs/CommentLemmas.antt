@@ -1,10 +1,12 @@
 -- What a call that reads a comment gives.
-use Rattle.std.proofs.Common.{◌≡◌, ℕ, suc, ◌+◌, Bool, cond, List, [], ◌∷◌, ◌++◌, take, ◌⊎◌, Result, Ok, Err, IfOk, IfErr, refl, sym, ap, ◌∙◌, subst, arith}
+use Rattle.std.proofs.Common.{◌≡◌, ℕ, suc, ◌+◌, Bool, cond, List, [], ◌∷◌, ◌++◌, take, ◌⊎◌, Result, Ok, Err, IfOk}
+use Rattle.std.proofs.Common.{IfErr, refl, sym, ap, ◌∙◌, subst, arith}
 use Rattle.std.specs.List.{prefix_len}
 use Rattle.granit_error.specs.FaultKind.{NoMemory, UnexpectedCharacter}
 use Rattle.granit_error.specs.Refused.{Refused}
 use Rattle.granit_input.specs.Runs.{run_length, starts, is_line_char}
-use Rattle.granit_lexemes.specs.Comment.{is_comment_char, behind_comment, skipped_comment, comment, comment_read, CommentRead, StandsComment, Spoils, ReadsComment}
+use Rattle.granit_lexemes.specs.Comment.{is_comment_char, behind_comment, skipped_comment, comment, comment_read}
+use Rattle.granit_lexemes.specs.Comment.{CommentRead, StandsComment, Spoils, ReadsComment}
 use Rattle.granit_lexemes.specs.Here.{Here, next_char, step, chunk, mid_line}
 use Rattle.granit_lexemes.specs.Moves.{steps}
 use Rattle.granit_lexemes.specs.Outcome.{Fault, Fails}
@@ -29,48 +31,71 @@ run_prefix test (c ∷ cs) =
 abbrev pub behind_text : ℕ → Here → Here
 behind_text n h = mid_line (steps n (step h))
 
-pub comment_behind : (n : ℕ) (h : Here) → n ≡ run_length (starts is_line_char) (step h).unread.text → skipped_comment h ≡ behind_comment (behind_text n h)
+pub comment_behind : (n : ℕ) (h : Here) → n ≡ run_length (starts is_line_char) (step h).unread.text
+    → skipped_comment h ≡ behind_comment (behind_text n h)
 unfolding skipped_comment
-comment_behind n h is = ap (λ (m : ℕ). behind_comment (behind_text m h)) (sym (is ∙ run_prefix is_comment_char (step h).unread.text))
+comment_behind n h is = ap (λ (m : ℕ). behind_comment (behind_text m h))
+    (sym (is ∙ run_prefix is_comment_char (step h).unread.text))
 
-pub comment_fails : (n : ℕ) (h : Here) (e : Refused) → n ≡ run_length (starts is_line_char) (step h).unread.text → Fails e (behind_comment (behind_text n h)) → Fails e (coded comment_token (comment h))
+pub comment_fails : (n : ℕ) (h : Here) (e : Refused) → n ≡ run_length (starts is_line_char) (step h).unread.text
+    → Fails e (behind_comment (behind_text n h)) → Fails e (coded comment_token (comment h))
 unfolding comment
-comment_fails n h e is fails = λ other. ap (λ s. coded comment_token (with_text h s)) (comment_behind n h is ∙ fails other)
+comment_fails n h e is fails = λ other. ap (λ s. coded comment_token (with_text h s))
+    (comment_behind n h is ∙ fails other)
 
-pub comment_given : (n : ℕ) (h after : Here) (u : Unit {0}) (t : Token) → n ≡ run_length (starts is_line_char) (step h).unread.text → behind_comment (behind_text n h) ≡ Ok (u, after) → t ≡ comment_token (comment_read h after)
+pub comment_given : (n : ℕ) (h after : Here) (u : Unit {0}) (t : Token)
+    → n ≡ run_length (starts is_line_char) (step h).unread.text → behind_comment (behind_text n h) ≡ Ok (u, after)
+    → t ≡ comment_token (comment_read h after)
     → coded comment_token (comment h) ≡ Ok (t, after)
 unfolding comment
-comment_given n h after u t is behind token = ap (λ s. coded comment_token (with_text h s)) (comment_behind n h is ∙ behind) ∙ ap (λ (v : Token). Ok (v, after)) (sym token)
+comment_given n h after u t is behind token = ap (λ s. coded comment_token (with_text h s))
+    (comment_behind n h is ∙ behind) ∙ ap (λ (v : Token). Ok (v, after)) (sym token)
 
 -- what was appended to an empty text is the text of the comment
-pub text_of : (n : ℕ) (h : Here) (empty out : List ℕ) → n ≡ run_length (starts is_line_char) (step h).unread.text → empty ≡ [] → out ≡ empty ++ take n (step h).unread.text → out ≡ chunk is_comment_char (step h)
+pub text_of : (n : ℕ) (h : Here) (empty out : List ℕ) → n ≡ run_length (starts is_line_char) (step h).unread.text
+    → empty ≡ [] → out ≡ empty ++ take n (step h).unread.text → out ≡ chunk is_comment_char (step h)
 text_of n h empty out is none appended =
-    appended ∙ ap (λ (cs : List ℕ). cs ++ take n (step h).unread.text) none ∙ ap (λ (m : ℕ). take m (step h).unread.text) (is ∙ run_prefix is_comment_char (step h).unread.text)
+    appended ∙ ap (λ (cs : List ℕ). cs ++ take n (step h).unread.text) none
+    ∙ ap (λ (m : ℕ). take m (step h).unread.text) (is ∙ run_prefix is_comment_char (step h).unread.text)
 
 -- ---- from what a call gives to what is true of it
 
 module _ (h : Here) (Lands : Here → Type 0) where
-  pub token_stands : (result : Result Token Refused) → next_char h ≡ 0x23 → GivesTo (λ t. t) result Lands (coded comment_token (comment h))
+  pub token_stands : (result : Result Token Refused) → next_char h ≡ 0x23
+      → GivesTo (λ t. t) result Lands (coded comment_token (comment h))
       → IfOk result (λ t. (c : CommentRead) × (at : Here) × StandsComment h c at × (t ≡ comment_token c) × Lands at)
-  token_stands result is given = given_stands comment_token Lands (StandsComment h) (comment h) result (λ c at e. subst (ReadsComment h) e (comment_reads h is)) given
+  token_stands result is given = given_stands comment_token Lands (StandsComment h) (comment h) result
+      (λ c at e. subst (ReadsComment h) e (comment_reads h is)) given
 
-  pub token_cause : (result : Result Token Refused) → next_char h ≡ 0x23 → GivesTo (λ t. t) result Lands (coded comment_token (comment h)) → IfErr result (λ e. (e.kind ≡ NoMemory) ⊎ (Spoils h e.kind e.mark × (e.sources ≡ [])))
-  token_cause result is given = given_cause comment_token Lands (Spoils h) (comment h) result (λ f e. subst (ReadsComment h) e (comment_reads h is)) (comment_none h) given
+  pub token_cause : (result : Result Token Refused) → next_char h ≡ 0x23
+      → GivesTo (λ t. t) result Lands (coded comment_token (comment h))
+      → IfErr result (λ e. (e.kind ≡ NoMemory) ⊎ (Spoils h e.kind e.mark × (e.sources ≡ [])))
+  token_cause result is given = given_cause comment_token Lands (Spoils h) (comment h) result
+      (λ f e. subst (ReadsComment h) e (comment_reads h is)) (comment_none h) given
 
-  skip_on : (s : Result (Unit {0} × Here) Fault) (u : Unit {0}) (after : Here) → ReadsComment h (with_text h s) → Lands after → s ≡ Ok (u, after) → (c : CommentRead) × (at : Here) × StandsComment h c at × Lands at
+  skip_on : (s : Result (Unit {0} × Here) Fault) (u : Unit {0}) (after : Here) → ReadsComment h (with_text h s)
+      → Lands after → s ≡ Ok (u, after) → (c : CommentRead) × (at : Here) × StandsComment h c at × Lands at
   skip_on (Ok x) u after reads lands e =
       let same = same_ok x (u, after) e in
       (comment_read h x.1, x.1, reads, subst Lands (sym (ap (λ (p : Unit {0} × Here). p.1) same)) lands)
   skip_on (Err f) u after reads lands e = absurd cc
 
-  skip_cause_on : (s : Result (Unit {0} × Here) Fault) (e : Refused) → ReadsComment h (with_text h s) → IsNameless s → s ≡ Err e → Spoils h e.kind e.mark × (e.sources ≡ [])
+  skip_cause_on : (s : Result (Unit {0} × Here) Fault) (e : Refused) → ReadsComment h (with_text h s) → IsNameless s
+      → s ≡ Err e → Spoils h e.kind e.mark × (e.sources ≡ [])
   skip_cause_on (Ok x) e reads none is = absurd cc
-  skip_cause_on (Err f) e reads none is = let same : f ≡ e = cc in subst (λ (d : Fault). Spoils h d.kind d.mark × (d.sources ≡ [])) same (reads, none.none f refl)
+  skip_cause_on (Err f) e reads none is = let same : f
+      ≡ e = cc in subst (λ (d : Fault). Spoils h d.kind d.mark × (d.sources ≡ [])) same (reads, none.none f refl)
 
-  pub skip_stands : (result : Result (Unit {0}) Refused) → next_char h ≡ 0x23 → GivesTo (λ u. u) result Lands (skipped_comment h) → IfOk result (λ u. (c : CommentRead) × (at : Here) × StandsComment h c at × Lands at)
+  pub skip_stands : (result : Result (Unit {0}) Refused) → next_char h ≡ 0x23
+      → GivesTo (λ u. u) result Lands (skipped_comment h)
+      → IfOk result (λ u. (c : CommentRead) × (at : Here) × StandsComment h c at × Lands at)
   skip_stands (Ok u) is given = skip_on (skipped_comment h) u given.0 (comment_is h is) given.1 given.2
   skip_stands (Err e) is given = tt
 
-  pub skip_cause : (result : Result (Unit {0}) Refused) → next_char h ≡ 0x23 → IfErr result (λ e. (c : ℕ) × (e.kind ≡ UnexpectedCharacter c)) → GivesTo (λ u. u) result Lands (skipped_comment h) → IfErr result (λ e. Spoils h e.kind e.mark × (e.sources ≡ []))
+  pub skip_cause : (result : Result (Unit {0}) Refused) → next_char h ≡ 0x23
+      → IfErr result (λ e. (c : ℕ) × (e.kind ≡ UnexpectedCharacter c))
+      → GivesTo (λ u. u) result Lands (skipped_comment h)
+      → IfErr result (λ e. Spoils h e.kind e.mark × (e.sources ≡ []))
   skip_cause (Ok u) is kinds given = tt
-  skip_cause (Err e) is kinds given = skip_cause_on (skipped_comment h) e (comment_is h is) (skipped_none h) (given (λ m. let names = kinds.1 in cc))
+  skip_cause (Err e) is kinds given = skip_cause_on (skipped_comment h) e (comment_is h is) (skipped_none h)
+      (given (λ m. let names = kinds.1 in cc))

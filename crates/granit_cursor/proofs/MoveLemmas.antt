@@ -1,5 +1,7 @@
 -- Moves over several characters of a line.
-use Rattle.std.proofs.Common.{◌≡◌, ℕ, zero, suc, ◌+◌, ◌<◌, ◌≤◌, ◌==◌, Bool, true, false, not, ◌&&◌, ◌||◌, cond, if◌then◌else◌, List, [], ◌∷◌, length, drop, Option, Some, None, ◌⊎◌, inl, inr, zero-add, refl, sym, ap, ◌∙◌, subst, arith}
+use Rattle.std.proofs.Common.{◌≡◌, ℕ, zero, suc, ◌+◌, ◌<◌, ◌≤◌, ◌==◌, Bool, true, false, not, ◌&&◌, ◌||◌, cond}
+use Rattle.std.proofs.Common.{if◌then◌else◌, List, [], ◌∷◌, length, drop, Option, Some, None, ◌⊎◌, inl, inr, zero-add}
+use Rattle.std.proofs.Common.{refl, sym, ap, ◌∙◌, subst, arith}
 use Rattle.std.specs.Prelude.{String, string_bytes}
 use Rattle.std.specs.Str.{chars}
 use Rattle.std.specs.declared.alloc.Global.{Global}
@@ -7,15 +9,18 @@ use Rattle.std.proofs.lemmas.Bool.{and_parts, or_parts, not-true, cases_Bool, eq
 use Rattle.std.proofs.lemmas.Bool.Decides.{nat_tests}
 use Rattle.std.proofs.lemmas.List.{drop-drop}
 use Rattle.std.proofs.lemmas.Str.{chars-nil}
-use Rattle.granit_base.specs.Classes.{is_alpha, is_word_char, is_digit, is_yaml_non_space, is_yaml_non_break, is_printable, is_bom, is_blank, is_break, is_breakz, is_blank_or_breakz}
+use Rattle.granit_base.specs.Classes.{is_alpha, is_word_char, is_digit, is_yaml_non_space, is_yaml_non_break}
+use Rattle.granit_base.specs.Classes.{is_printable, is_bom, is_blank, is_break, is_breakz, is_blank_or_breakz}
 use Rattle.granit_base.specs.Place.{Place, Mark, Unread, first, ends_line}
 use Rattle.granit_base.specs.Written.{string_chars}
 use Rattle.granit_input.specs.Unread.{past}
-use Rattle.granit_input.specs.Runs.{run_length, starts, is_line_char, is_non_breakz, is_plain_at, is_quoted_char}
+use Rattle.granit_input.specs.Runs.{run_length, starts, is_line_char, is_non_breakz, is_quoted_char}
+use Rattle.granit_base.specs.PlainContent.{is_content}
 use Rattle.granit_input.specs.White.{is_skipped}
 use Rattle.granit_input.specs.declared.whitespace.SkipTabs.TheVariants.{No}
 use Rattle.granit_input.proofs.UnreadLemmas.{past_none, past_one, past_text, past_twice}
-use Rattle.granit_lexemes.specs.Here.{Here, next_char, mark_of, is_quiet, first_tab, begins_behind, tab_behind, step, mid_line, chosen, skip, past as past_all}
+use Rattle.granit_lexemes.specs.Here.{Here, next_char, mark_of, is_quiet, first_tab, begins_behind, tab_behind, step}
+use Rattle.granit_lexemes.specs.Here.{mid_line, chosen, skip, past as past_all}
 use Rattle.granit_lexemes.specs.Moves.{steps, past_prefix_mark}
 use Rattle.granit_lexemes.proofs.HereLemmas.{step_text}
 use Rattle.granit_cursor.specs.Reading.{Reading, Stands}
@@ -74,11 +79,13 @@ run_begins test n (c ∷ cs) fits =
     ]
 
 -- the rest of a run behind its first character
-run_rest : (test : List ℕ → Bool) (n : ℕ) (h : Here) → n ≤ run_length test (drop 1 h.unread.text) → n ≤ run_length test (step h).unread.text
+run_rest : (test : List ℕ → Bool) (n : ℕ) (h : Here) → n ≤ run_length test (drop 1 h.unread.text)
+    → n ≤ run_length test (step h).unread.text
 run_rest test n h more = rw (step_text h) more
 
 -- step by step over a run of a line
-pub run_along : (test : List ℕ → Bool) (n : ℕ) (h : Here) → KeepsLine test → n ≤ run_length test h.unread.text → Along n h (steps n h)
+pub run_along : (test : List ℕ → Bool) (n : ℕ) (h : Here) → KeepsLine test → n ≤ run_length test h.unread.text
+    → Along n h (steps n h)
 unfolding steps
 run_along test zero h line fits = record { unread = sym (past_none h.unread); place = moved_none h.place }
 run_along test (suc n) h line fits =
@@ -97,11 +104,13 @@ run_along test (suc n) h line fits =
 abbrev pub Shows : (List ℕ → Bool) → Type 0
 Shows test = (text : List ℕ) → test text ≡ true → (ends_line text ≡ false) × (is_quiet (first text) ≡ false)
 
-step_shows : (h : Here) → 0 < length h.unread.text → ends_line h.unread.text ≡ false → is_quiet (next_char h) ≡ false → ((step h).begins_line ≡ false) × ((step h).tab ≡ None)
+step_shows : (h : Here) → 0 < length h.unread.text → ends_line h.unread.text ≡ false → is_quiet (next_char h) ≡ false
+    → ((step h).begins_line ≡ false) × ((step h).tab ≡ None)
 unfolding step begins_behind tab_behind
 step_shows h some line shown = rw (not_none (length h.unread.text) some, line, shown) (refl, refl)
 
-run_shows : (test : List ℕ → Bool) (n : ℕ) (h : Here) → Shows test → suc n ≤ run_length test h.unread.text → ((steps (suc n) h).begins_line ≡ false) × ((steps (suc n) h).tab ≡ None)
+run_shows : (test : List ℕ → Bool) (n : ℕ) (h : Here) → Shows test → suc n ≤ run_length test h.unread.text
+    → ((steps (suc n) h).begins_line ≡ false) × ((steps (suc n) h).tab ≡ None)
 unfolding steps
 run_shows test zero h shows fits =
     let b = run_begins test zero h.unread.text fits in
@@ -131,7 +140,8 @@ shown test (suc n) h shows fits =
 
 -- all characters that pass a test are spaces, or blanks
 step_blank : (h : Here) → 0 < length h.unread.text → ends_line h.unread.text ≡ false → is_quiet (next_char h) ≡ true
-    → ((step h).begins_line ≡ h.begins_line) × ((step h).tab ≡ (if next_char h == 0x09 then first_tab h.tab (mark_of h) else h.tab))
+    → ((step h).begins_line ≡ h.begins_line) × ((step h).tab
+    ≡ (if next_char h == 0x09 then first_tab h.tab (mark_of h) else h.tab))
 unfolding step begins_behind tab_behind
 step_blank h some line quiet = rw (not_none (length h.unread.text) some, line, quiet) (refl, refl)
 
@@ -154,11 +164,20 @@ other test c k fails passes =
     ]
 
 pub keeps_line : (test : ℕ → Bool) → test 0x0A ≡ false → test 0x0D ≡ false → KeepsLine (starts test)
-keeps_line test lf cr text passes = rw (other test (first text) 0x0A lf passes, other test (first text) 0x0D cr passes) refl
+keeps_line test lf cr text passes = rw (other test (first text) 0x0A lf passes, other test (first text) 0x0D cr passes)
+    refl
 
-pub shows_all : (test : ℕ → Bool) → test 0x0A ≡ false → test 0x0D ≡ false → test 0x20 ≡ false → test 0x09 ≡ false → Shows (starts test)
-shows_all test lf cr space tab text passes =
-    (keeps_line test lf cr text passes, rw (other test (first text) 0x20 space passes, other test (first text) 0x09 tab passes, other test (first text) 0x0D cr passes) refl)
+pub shows_all : (test : ℕ → Bool) → test 0x0A ≡ false → test 0x0D ≡ false → test 0x20 ≡ false → test 0x09 ≡ false
+    → Shows (starts test)
+shows_all test lf cr space tab text passes = (
+  keeps_line test lf cr text passes,
+  rw (
+    other test (first text) 0x20 space passes,
+    other test (first text) 0x09 tab
+        passes,
+    other test (first text) 0x0D cr passes,
+  ) refl,
+)
 
 pub blank_line : KeepsLine (starts is_blank)
 unfolding is_blank
@@ -193,9 +212,10 @@ quoted_shows false = shows_all (is_quoted_char false) refl refl refl refl
 abbrev no_separator : ℕ → Bool
 no_separator c = not (is_blank_or_breakz c)
 
-pub plain_shows : (in_flow : Bool) → Shows (is_plain_at in_flow)
+pub plain_shows : (in_flow : Bool) → Shows (is_content in_flow)
 unfolding is_blank_or_breakz is_breakz is_break is_blank
-plain_shows in_flow text passes = shows_all no_separator refl refl refl refl text (and_parts (no_separator (first text)) _ passes).0
+plain_shows in_flow text passes = shows_all no_separator refl refl refl refl text
+    (and_parts (no_separator (first text)) _ passes).0
 
 -- ---- blanks
 
@@ -211,7 +231,8 @@ blanks_stay (suc n) h t fits noted is =
     let rest = blanks_stay n (step h) t (run_rest (starts is_blank) n h b.more) noted kept in
     (rest.0 ∙ one.0, rest.1)
   where
-    stays : (tab : Bool) → h.tab ≡ t → first_tab t (mark_of h) ≡ t → (if tab then first_tab h.tab (mark_of h) else h.tab) ≡ t
+    stays : (tab : Bool) → h.tab ≡ t → first_tab t (mark_of h) ≡ t
+        → (if tab then first_tab h.tab (mark_of h) else h.tab) ≡ t
     stays true is noted = ap (λ (o : Option Mark). first_tab o (mark_of h)) is ∙ noted
     stays false is noted = is
 
@@ -232,7 +253,8 @@ tab_noted (suc k) h tab some fits =
     let b = run_begins (starts is_blank) k h.unread.text fits in
     let one = step_blank h b.some (blank_line h.unread.text b.passes) (blank_quiet (next_char h) b.passes) in
     let kept : (step h).tab ≡ first_tab h.tab (mark_of h) = one.1 ∙ rw tab refl in
-    let rest = blanks_stay k (step h) (first_tab h.tab (mark_of h)) (run_rest (starts is_blank) k h b.more) (λ m. some_noted h.tab (mark_of h) m) kept in
+    let rest = blanks_stay k (step h) (first_tab h.tab (mark_of h)) (run_rest (starts is_blank) k h b.more)
+    (λ m. some_noted h.tab (mark_of h) m) kept in
     (rest.0 ∙ one.0, rest.1)
 
 -- from a tab on that tab is noted, where none was
@@ -243,17 +265,20 @@ tabs_noted n h tab whole =
     tab_noted n h tab (omega (arith, whole, some)) (omega (arith, whole))
 
 -- over spaces all stays as it is
-pub spaces_stay : (n : ℕ) (h : Here) → n ≤ run_length (starts is_space) h.unread.text → ((steps n h).begins_line ≡ h.begins_line) × ((steps n h).tab ≡ h.tab)
+pub spaces_stay : (n : ℕ) (h : Here) → n ≤ run_length (starts is_space) h.unread.text
+    → ((steps n h).begins_line ≡ h.begins_line) × ((steps n h).tab ≡ h.tab)
 unfolding steps
 spaces_stay zero h fits = (refl, refl)
 spaces_stay (suc n) h fits =
     let b = run_begins (starts is_space) n h.unread.text fits in
-    let one = step_blank h b.some (space_line h.unread.text b.passes) (quiet_of (next_char h == 0x20) (next_char h == 0x09) (next_char h == 0x0D) (rw b.passes refl)) in
+    let one = step_blank h b.some (space_line h.unread.text b.passes)
+    (quiet_of (next_char h == 0x20) (next_char h == 0x09) (next_char h == 0x0D) (rw b.passes refl)) in
     let no_tab : (next_char h == 0x09) ≡ false = other is_space (next_char h) 0x09 refl b.passes in
     let rest = spaces_stay n (step h) (run_rest (starts is_space) n h b.more) in
     (rest.0 ∙ one.0, rest.1 ∙ one.1 ∙ rw no_tab refl)
 
-space_more : (c : ℕ) (cs : List ℕ) → (c == 0x20) ≡ true → run_length (starts is_space) (c ∷ cs) ≡ suc (run_length (starts is_space) cs)
+space_more : (c : ℕ) (cs : List ℕ) → (c == 0x20) ≡ true
+    → run_length (starts is_space) (c ∷ cs) ≡ suc (run_length (starts is_space) cs)
 unfolding run_length
 space_more c cs is = rw is refl
 
@@ -261,22 +286,27 @@ space_none : (c : ℕ) (cs : List ℕ) → (c == 0x20) ≡ false → run_length 
 unfolding run_length
 space_none c cs is = rw is refl
 
-blank_more : (c : ℕ) (cs : List ℕ) → (c == 0x20) ≡ true → run_length (starts is_blank) (c ∷ cs) ≡ suc (run_length (starts is_blank) cs)
+blank_more : (c : ℕ) (cs : List ℕ) → (c == 0x20) ≡ true
+    → run_length (starts is_blank) (c ∷ cs) ≡ suc (run_length (starts is_blank) cs)
 unfolding run_length is_blank
 blank_more c cs is = rw is refl
 
-blank_none : (c : ℕ) (cs : List ℕ) → (c == 0x20) ≡ false → (c == 0x09) ≡ false → run_length (starts is_blank) (c ∷ cs) ≡ 0
+blank_none : (c : ℕ) (cs : List ℕ) → (c == 0x20) ≡ false → (c == 0x09) ≡ false
+    → run_length (starts is_blank) (c ∷ cs) ≡ 0
 unfolding run_length is_blank
 blank_none c cs space tab = rw (space, tab) refl
 
 -- the blanks are the spaces, and the blanks behind these
-blanks_split : (text : List ℕ) (n : ℕ) → n ≡ run_length (starts is_space) text → run_length (starts is_blank) text ≡ n + run_length (starts is_blank) (drop n text)
+blanks_split : (text : List ℕ) (n : ℕ) → n ≡ run_length (starts is_space) text
+    → run_length (starts is_blank) text ≡ n + run_length (starts is_blank) (drop n text)
 unfolding run_length
 blanks_split [] n is = rw is refl
 blanks_split (c ∷ cs) n is = split (blanks_split cs (run_length (starts is_space) cs) refl) (cases_Bool (c == 0x20))
   where
-    split : run_length (starts is_blank) cs ≡ run_length (starts is_space) cs + run_length (starts is_blank) (drop (run_length (starts is_space) cs) cs)
-        → ((c == 0x20) ≡ true) ⊎ ((c == 0x20) ≡ false) → run_length (starts is_blank) (c ∷ cs) ≡ n + run_length (starts is_blank) (drop n (c ∷ cs))
+    split : run_length (starts is_blank) cs ≡ run_length (starts is_space) cs + run_length (starts is_blank)
+        (drop (run_length (starts is_space) cs) cs)
+        → ((c == 0x20) ≡ true) ⊎ ((c == 0x20) ≡ false)
+        → run_length (starts is_blank) (c ∷ cs) ≡ n + run_length (starts is_blank) (drop n (c ∷ cs))
     split more (inl space) =
         let count : n ≡ suc (run_length (starts is_space) cs) = is ∙ space_more c cs space in
         rw (count, blank_more c cs space) (omega (arith, more))
@@ -285,32 +315,42 @@ blanks_split (c ∷ cs) n is = split (blanks_split cs (run_length (starts is_spa
         rw count (sym (zero-add _))
 
 -- the spaces are all the blanks where no tab stands behind them
-spaces_all : (text : List ℕ) (n : ℕ) → n ≡ run_length (starts is_space) text → (first (drop n text) ≡ 0x09 → ⊥) → n ≡ run_length (starts is_blank) text
+spaces_all : (text : List ℕ) (n : ℕ) → n ≡ run_length (starts is_space) text → (first (drop n text) ≡ 0x09 → ⊥)
+    → n ≡ run_length (starts is_blank) text
 unfolding run_length
 spaces_all [] n is none = is
-spaces_all (c ∷ cs) n is none = split (λ more. spaces_all cs (run_length (starts is_space) cs) refl more) (cases_Bool (c == 0x20)) (cases_Bool (c == 0x09))
+spaces_all (c ∷ cs) n is none = split (λ more. spaces_all cs (run_length (starts is_space) cs) refl more)
+    (cases_Bool (c == 0x20)) (cases_Bool (c == 0x09))
   where
-    split : ((first (drop (run_length (starts is_space) cs) cs) ≡ 0x09 → ⊥) → run_length (starts is_space) cs ≡ run_length (starts is_blank) cs)
-        → ((c == 0x20) ≡ true) ⊎ ((c == 0x20) ≡ false) → ((c == 0x09) ≡ true) ⊎ ((c == 0x09) ≡ false) → n ≡ run_length (starts is_blank) (c ∷ cs)
+    split : ((first (drop (run_length (starts is_space) cs) cs) ≡ 0x09 → ⊥)
+        → run_length (starts is_space) cs ≡ run_length (starts is_blank) cs)
+        → ((c == 0x20) ≡ true) ⊎ ((c == 0x20) ≡ false) → ((c == 0x09) ≡ true) ⊎ ((c == 0x09) ≡ false)
+        → n ≡ run_length (starts is_blank) (c ∷ cs)
     split all (inl space) tab =
         let count : n ≡ suc (run_length (starts is_space) cs) = is ∙ space_more c cs space in
         let more = all (rw count at none) in
         count ∙ ap suc more ∙ sym (blank_more c cs space)
-    split all (inr other) (inl tab) = absurd (let behind : first (drop 0 (c ∷ cs)) ≡ 0x09 → ⊥ = rw (is ∙ space_none c cs other) at none in behind (eqb-true c 0x09 tab))
+    split all (inr other) (inl tab) = absurd (let behind : first (drop 0 (c ∷ cs)) ≡ 0x09
+        → ⊥ = rw (is ∙ space_none c cs other) at none in behind (eqb-true c 0x09 tab))
     split all (inr other) (inr solid) = is ∙ space_none c cs other ∙ sym (blank_none c cs other solid)
 
 -- what is left behind spaces
-behind_spaces : (n : ℕ) (h : Here) → n ≡ run_length (starts is_space) h.unread.text → (steps n h).unread.text ≡ drop n h.unread.text
+behind_spaces : (n : ℕ) (h : Here) → n ≡ run_length (starts is_space) h.unread.text
+    → (steps n h).unread.text ≡ drop n h.unread.text
 behind_spaces n h spaces =
     let along = run_along (starts is_space) n h space_line (omega (arith, spaces)) in
     ap (λ (u : Unread). u.text) along.unread ∙ past_text n h.unread
 
-pub spaces_alone : (n : ℕ) (h : Here) → n ≡ run_length (starts is_space) h.unread.text → (next_char (steps n h) ≡ 0x09 → ⊥) → n ≡ run_length (starts is_blank) h.unread.text
-spaces_alone n h spaces none = spaces_all h.unread.text n spaces (λ tab. none (ap first (behind_spaces n h spaces) ∙ tab))
+pub spaces_alone : (n : ℕ) (h : Here) → n ≡ run_length (starts is_space) h.unread.text
+    → (next_char (steps n h) ≡ 0x09 → ⊥) → n ≡ run_length (starts is_blank) h.unread.text
+spaces_alone n h spaces none = spaces_all h.unread.text n spaces
+    (λ tab. none (ap first (behind_spaces n h spaces) ∙ tab))
 
-pub spaces_more : (n k : ℕ) (h : Here) → n ≡ run_length (starts is_space) h.unread.text → k ≡ run_length (starts is_blank) (steps n h).unread.text → n + k ≡ run_length (starts is_blank) h.unread.text
+pub spaces_more : (n k : ℕ) (h : Here) → n ≡ run_length (starts is_space) h.unread.text
+    → k ≡ run_length (starts is_blank) (steps n h).unread.text → n + k ≡ run_length (starts is_blank) h.unread.text
 spaces_more n k h spaces more =
-    let rest : k ≡ run_length (starts is_blank) (drop n h.unread.text) = more ∙ ap (run_length (starts is_blank)) (behind_spaces n h spaces) in
+    let rest : k ≡ run_length (starts is_blank) (drop n h.unread.text) = more
+    ∙ ap (run_length (starts is_blank)) (behind_spaces n h spaces) in
     let split = blanks_split h.unread.text n spaces in
     omega (arith, split, rest)
 
@@ -318,46 +358,64 @@ spaces_more n k h spaces more =
 pub steps_twice : (n k : ℕ) (h : Here) → steps k (steps n h) ≡ steps (n + k) h
 unfolding steps
 steps_twice zero k h = ap (λ (m : ℕ). steps m h) (let e : k ≡ 0 + k = omega arith in e)
-steps_twice (suc n) k h = steps_twice n k (step h) ∙ ap (λ (m : ℕ). steps m h) (let e : suc (n + k) ≡ suc n + k = omega arith in e)
+steps_twice (suc n) k h = steps_twice n k (step h)
+    ∙ ap (λ (m : ℕ). steps m h) (let e : suc (n + k) ≡ suc n + k = omega arith in e)
 
 -- ---- where a cursor stands behind a call that took so many characters
 
 -- the same cursor, by its parts
-pub stands_at : {I : Type 0} (unread : I → Unread → Type 0) (r s : Reading I) (h : Here) → s ≡ r → Stands unread r h → Stands unread s h
+pub stands_at : {I : Type 0} (unread : I → Unread → Type 0) (r s : Reading I) (h : Here) → s ≡ r → Stands unread r h
+    → Stands unread s h
 stands_at unread r s h is k = subst (λ q. Stands unread q h) (sym is) k
 
-module _ {I : Type 0} (unread : I → Unread → Type 0) (test : List ℕ → Bool) (n : ℕ) (old new : Reading I) (h : Here) where
-  along_stands : Along n h (steps n h) → Stands unread old h → unread new.input (past n h.unread) → new.place ≡ moved n old.place → unread new.input (steps n h).unread × ((steps n h).place ≡ new.place)
+module _ {I : Type 0} (unread : I → Unread → Type 0) (test : List ℕ → Bool) (n : ℕ) (old new : Reading I)
+    (h : Here) where
+  along_stands : Along n h (steps n h) → Stands unread old h → unread new.input (past n h.unread)
+      → new.place ≡ moved n old.place → unread new.input (steps n h).unread × ((steps n h).place ≡ new.place)
   along_stands a k known place = (subst (unread new.input) (sym a.unread) known, a.place ∙ ap (moved n) k.1 ∙ sym place)
 
   -- behind characters that show
-  pub lands : Shows test → n ≤ run_length test h.unread.text → Stands unread old h → unread new.input (past n h.unread) → new.place ≡ moved n old.place
-      → new.begins_line ≡ (old.begins_line && n == 0) → new.tab ≡ (if n == 0 then old.tab else None) → Stands unread new (steps n h)
+  pub lands : Shows test → n ≤ run_length test h.unread.text → Stands unread old h → unread new.input (past n h.unread)
+      → new.place ≡ moved n old.place
+      → new.begins_line ≡ (old.begins_line && n == 0) → new.tab ≡ (if n == 0 then old.tab else None)
+      → Stands unread new (steps n h)
   lands shows fits k known place begins tab =
       let a = along_stands (run_along test n h (λ text passes. (shows text passes).0) fits) k known place in
-      let s = shown test n h shows fits in
-      (a.0, a.1, s.0 ∙ ap (λ (b : Bool). b && n == 0) k.2 ∙ sym begins, s.1 ∙ ap (λ (t : Option Mark). if n == 0 then t else None) k.3 ∙ sym tab)
+      let s = shown test n h shows fits in (
+        a.0,
+        a.1,
+        s.0 ∙ ap (λ (b : Bool). b && n == 0) k.2 ∙ sym begins,
+        s.1
+            ∙ ap (λ (t : Option Mark). if n == 0 then t else None) k.3 ∙ sym tab,
+      )
 
   -- behind the characters of a line that is begun with them
-  pub lands_inside : KeepsLine test → n ≤ run_length test h.unread.text → Stands unread old h → unread new.input (past n h.unread) → new.place ≡ moved n old.place
+  pub lands_inside : KeepsLine test → n ≤ run_length test h.unread.text → Stands unread old h
+      → unread new.input (past n h.unread) → new.place ≡ moved n old.place
       → new.begins_line ≡ false → new.tab ≡ None → Stands unread new (mid_line (steps n h))
   lands_inside line fits k known place begins tab =
       let a = along_stands (run_along test n h line fits) k known place in
       (a.0, a.1, sym begins, sym tab)
 
 pub lands_spaces :
-    {I : Type 0} (unread : I → Unread → Type 0) (n : ℕ) (old new : Reading I) (h : Here) → n ≤ run_length (starts is_space) h.unread.text → Stands unread old h
-    → unread new.input (past n h.unread) → new.place ≡ moved n old.place → new.begins_line ≡ old.begins_line → new.tab ≡ old.tab → Stands unread new (steps n h)
+    {I : Type 0} (unread : I → Unread → Type 0) (n : ℕ) (old new : Reading I) (h : Here)
+    → n ≤ run_length (starts is_space) h.unread.text → Stands unread old h
+    → unread new.input (past n h.unread) → new.place ≡ moved n old.place → new.begins_line ≡ old.begins_line
+    → new.tab ≡ old.tab → Stands unread new (steps n h)
 lands_spaces unread n old new h fits k known place begins tab =
-    let a = along_stands unread (starts is_space) n old new h (run_along (starts is_space) n h space_line fits) k known place in
+    let a = along_stands unread (starts is_space) n old new h (run_along (starts is_space) n h space_line fits) k known
+    place in
     let s = spaces_stay n h fits in
     (a.0, a.1, s.0 ∙ k.2 ∙ sym begins, s.1 ∙ k.3 ∙ sym tab)
 
 pub lands_tabs :
-    {I : Type 0} (unread : I → Unread → Type 0) (n : ℕ) (old new : Reading I) (h : Here) → next_char h ≡ 0x09 → n ≡ run_length (starts is_blank) h.unread.text → Stands unread old h
-    → unread new.input (past n h.unread) → new.place ≡ moved n old.place → new.begins_line ≡ old.begins_line → new.tab ≡ first_tab h.tab (mark_of h) → Stands unread new (steps n h)
+    {I : Type 0} (unread : I → Unread → Type 0) (n : ℕ) (old new : Reading I) (h : Here) → next_char h ≡ 0x09
+    → n ≡ run_length (starts is_blank) h.unread.text → Stands unread old h
+    → unread new.input (past n h.unread) → new.place ≡ moved n old.place → new.begins_line ≡ old.begins_line
+    → new.tab ≡ first_tab h.tab (mark_of h) → Stands unread new (steps n h)
 lands_tabs unread n old new h is fits k known place begins tab =
-    let a = along_stands unread (starts is_blank) n old new h (run_along (starts is_blank) n h blank_line (omega (arith, fits))) k known place in
+    let a = along_stands unread (starts is_blank) n old new h
+    (run_along (starts is_blank) n h blank_line (omega (arith, fits))) k known place in
     let s = tabs_noted n h is fits in
     (a.0, a.1, s.0 ∙ k.2 ∙ sym begins, s.1 ∙ sym tab)
 
@@ -367,8 +425,10 @@ mark_some [] is = absurd cc
 mark_some (c ∷ cs) is = omega arith
 
 pub mark_lands :
-    {I : Type 0} (unread : I → Unread → Type 0) (old new : Reading I) (h : Here) → next_char h ≡ 0xFEFF → Stands unread old h → unread new.input (past 1 h.unread)
-    → new.place ≡ record { index = old.place.index + 1; line = old.place.line; column = old.place.column } → new.begins_line ≡ old.begins_line → new.tab ≡ old.tab → Stands unread new (past_prefix_mark h)
+    {I : Type 0} (unread : I → Unread → Type 0) (old new : Reading I) (h : Here) → next_char h ≡ 0xFEFF
+    → Stands unread old h → unread new.input (past 1 h.unread)
+    → new.place ≡ record { index = old.place.index + 1; line = old.place.line; column = old.place.column }
+    → new.begins_line ≡ old.begins_line → new.tab ≡ old.tab → Stands unread new (past_prefix_mark h)
 unfolding past_prefix_mark
 mark_lands unread old new h mark k known place begins tab = (
   subst (unread new.input) (past_one h.unread (mark_some h.unread.text mark)) known,
@@ -384,13 +444,16 @@ unfolding steps
 chosen_steps true n x h e = e
 chosen_steps false n x h e = refl
 
-skip_steps : (test : ℕ → Bool) (text : List ℕ) (h : Here) → text ≡ h.unread.text → skip test text h ≡ steps (run_length (starts test) text) h
+skip_steps : (test : ℕ → Bool) (text : List ℕ) (h : Here) → text ≡ h.unread.text
+    → skip test text h ≡ steps (run_length (starts test) text) h
 unfolding run_length steps
 skip_steps test [] h e = refl
 skip_steps test (c ∷ cs) h e =
     let rest : cs ≡ (step h).unread.text = sym (step_text h ∙ ap (λ (text : List ℕ). drop 1 text) (sym e)) in
     let seen : next_char h ≡ c = ap (λ (text : List ℕ). first text) (sym e) in
-    ap (λ (k : ℕ). chosen (test k) (skip test cs (step h)) h) seen ∙ chosen_steps (test c) (run_length (starts test) cs) (skip test cs (step h)) h (skip_steps test cs (step h) rest)
+    ap (λ (k : ℕ). chosen (test k) (skip test cs (step h)) h) seen
+    ∙ chosen_steps (test c) (run_length (starts test) cs) (skip test cs (step h)) h
+    (skip_steps test cs (step h) rest)
 
 pub steps_past : (test : ℕ → Bool) (h : Here) → steps (run_length (starts test) h.unread.text) h ≡ past_all test h
 unfolding past_all

@@ -1,5 +1,6 @@
 //! An input, and the place up to which it was read.
-ghost use Rattle.std.specs.Prelude.{◌≡◌, ◌<◌, ◌≤◌, ◌+◌, ◌-◌, ◌^◌, ◌==◌, ◌&&◌, max, min, is_some, true, false, None, Some, if◌then◌else◌, IfOk};
+ghost use Rattle.std.specs.Prelude.{◌≡◌, ◌<◌, ◌≤◌, ◌+◌, ◌-◌, ◌^◌, ◌==◌, ◌&&◌, max, min, is_some, true, false, None};
+ghost use Rattle.std.specs.Prelude.{Some, if◌then◌else◌, IfOk};
 ghost use Rattle.std.specs.Borrow.{sem};
 ghost use Rattle.std.specs.Io.BufRead.{Rests};
 ghost use Rattle.std.specs.Option.{option_map};
@@ -10,13 +11,15 @@ ghost use Rattle.granit_base.specs.Written.{string_chars};
 ghost use Rattle.granit_error.specs.Kinds.{kind_of};
 ghost use Rattle.granit_input.specs.Chunks.{Extends};
 ghost use Rattle.granit_input.specs.Origin.{error_given, after_giving, LentBetween};
-ghost use Rattle.granit_input.specs.Runs.{starts, is_line_char, is_non_breakz, is_plain_at, is_quoted_char};
+ghost use Rattle.granit_input.specs.Runs.{starts, is_line_char, is_non_breakz, is_quoted_char};
+ghost use Rattle.granit_base.specs.PlainContent.{is_content};
 ghost use Rattle.granit_input.specs.White.{is_skipped};
 ghost use Rattle.granit_input.specs.declared.whitespace.SkipTabs.TheVariants.{No};
 ghost use Rattle.granit_lexemes.specs.Here as spec;
 ghost use Rattle.granit_lexemes.specs.Here.{Here, first_place, mark_of, next_char, step};
 ghost use Rattle.granit_lexemes.specs.Moves.{past_prefix_mark};
-ghost use Rattle.granit_cursor.specs.Reading.{Stands, Moves, Takes, Wherever, GoesTo, Inside, StepsRun, StepsFront, FetchesSteps, FetchesFrontSteps, LendsSteps, has_source};
+ghost use Rattle.granit_cursor.specs.Reading.{Stands, Moves, Takes, Wherever, GoesTo, Inside, StepsRun, StepsFront};
+ghost use Rattle.granit_cursor.specs.Reading.{FetchesSteps, FetchesFrontSteps, LendsSteps, has_source};
 ghost use Rattle.granit_cursor.specs.contracts.cursor.Cursor.{the_row};
 
 use granit_base::{Marker, NoMemory};
@@ -204,7 +207,7 @@ impl<T: Input> Cursor<T> {
         flow_level_gt_0: bool,
     ) -> Result<(bool, usize), NoMemory>
         ensures here { Wherever T.unread self.old self.new (λ h Lands.
-            FetchesFrontSteps (is_plain_at flow_level_gt_0) h count result Lands
+            FetchesFrontSteps (is_content flow_level_gt_0) h count result Lands
             (string_chars out.old) (string_chars out.new)) }
         ensures kept { Extends (string_chars out.old) (string_chars out.new) }
         ensures few { IfOk result (λ r. r.0 ≡ false → count ≤ r.1) }
@@ -225,7 +228,7 @@ impl<T: Input> Cursor<T> {
     /// The same without appending.
     pub fn skip_plain_scalar_chunk(&mut self, count: usize, flow_level_gt_0: bool) -> (bool, usize)
         ensures here { Wherever T.unread self.old self.new (λ h Lands.
-            StepsFront (is_plain_at flow_level_gt_0) h count result Lands) }
+            StepsFront (is_content flow_level_gt_0) h count result Lands) }
         ensures few { result.0 ≡ false → count ≤ result.1 }
         ensures limit { result.1 ≤ count }
         ensures takes { Takes T.left T.window self.old self.new result.1 }

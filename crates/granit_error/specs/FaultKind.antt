@@ -1,4 +1,5 @@
--- Why a text is refused, as plain data, with the number and the printed words of each kind. A text is seen as its characters.
+-- Why a text is refused, as plain data, with the number and the printed words of each kind. A text is seen as its
+-- characters.
 use Rattle.std.specs.Prelude.{ℕ, List, ◌++◌, codes}
 use Rattle.std.specs.Fmt.{decimal}
 use Rattle.std.specs.Char.{encode_utf8}
@@ -205,7 +206,8 @@ fault_number NotBuilt = 96
 abbrev pub fault_words : FaultKind → List ℕ
 fault_words NoMemory = codes "out of memory"
 fault_words (UnclosedFlowCollection opener) = codes "unclosed bracket '" ++ encode_utf8 opener ++ codes "'"
-fault_words (MismatchedFlowCollectionEnd opener closer) = codes "mismatched bracket '" ++ (encode_utf8 opener ++ (codes "' closed by '" ++ (encode_utf8 closer ++ (codes "'"))))
+fault_words (MismatchedFlowCollectionEnd opener closer) = codes "mismatched bracket '"
+    ++ (encode_utf8 opener ++ (codes "' closed by '" ++ (encode_utf8 closer ++ (codes "'"))))
 fault_words MisplacedFlowCollectionEnd = codes "misplaced bracket"
 fault_words RecursionLimitExceeded = codes "recursion limit exceeded"
 fault_words BlockEntryInFlowCollection = codes "\"-\" is only valid inside a block"
@@ -219,15 +221,19 @@ fault_words InvalidDocumentEnd = codes "invalid content after document end marke
 fault_words DirectiveDisallowed = codes "YAML directives are disallowed"
 fault_words MissingDirectiveName = codes "while scanning a directive, could not find expected directive name"
 fault_words InvalidDirectiveName = codes "while scanning a directive, found unexpected non-alphabetical character"
-fault_words (DirectiveByteLimitExceeded limit) = codes "directive exceeds the configured limit of " ++ decimal limit ++ codes " bytes"
-fault_words (TooManyReservedDirectiveParams limit) = codes "reserved directive exceeds the configured limit of " ++ decimal limit ++ codes " parameters"
+fault_words (DirectiveByteLimitExceeded limit) = codes "directive exceeds the configured limit of " ++ decimal limit
+    ++ codes " bytes"
+fault_words (TooManyReservedDirectiveParams limit) = codes "reserved directive exceeds the configured limit of "
+    ++ decimal limit ++ codes " parameters"
 fault_words InvalidDirectiveTerminator = codes "while scanning a directive, did not find expected comment or line break"
 fault_words MissingYamlVersion = codes "while scanning a YAML directive, did not find expected version number"
-fault_words MissingYamlVersionSeparator = codes "while scanning a YAML directive, did not find expected digit or '.' character"
+fault_words MissingYamlVersionSeparator = codes
+    "while scanning a YAML directive, did not find expected digit or '.' character"
 fault_words YamlVersionTooLong = codes "while scanning a YAML directive, found extremely long version number"
 fault_words DuplicateVersionDirective = codes "duplicate version directive"
 fault_words UnsupportedYamlMajorVersion = codes "unsupported YAML major version"
-fault_words DuplicateTagDirective = codes "the TAG directive must only be given at most once per handle in the same document"
+fault_words DuplicateTagDirective = codes
+    "the TAG directive must only be given at most once per handle in the same document"
 fault_words ExpectedTagBang = codes "while scanning a tag, did not find expected '!'"
 fault_words ExpectedTagDirectiveBang = codes "while parsing a tag directive, did not find expected '!'"
 fault_words InvalidGlobalTagCharacter = codes "invalid global tag character"
@@ -242,20 +248,25 @@ fault_words ExpectedFlowSequenceSeparator = codes "while parsing a flow sequence
 fault_words UnknownAnchor = codes "while parsing node, found unknown anchor"
 fault_words UndeclaredTagHandle = codes "the handle wasn't declared"
 fault_words UnclosedQuotedScalar = codes "unclosed quote"
-fault_words DocumentIndicatorInQuotedScalar = codes "while scanning a quoted scalar, found unexpected document indicator"
+fault_words DocumentIndicatorInQuotedScalar = codes
+    "while scanning a quoted scalar, found unexpected document indicator"
 fault_words TabInIndentation = codes "tab cannot be used as indentation"
 fault_words InvalidQuotedScalarIndent = codes "invalid indentation in multiline quoted scalar"
 fault_words InvalidTrailingSingleQuotedScalar = codes "invalid trailing content after single-quoted scalar"
 fault_words InvalidTrailingDoubleQuotedScalar = codes "invalid trailing content after double-quoted scalar"
 fault_words UnknownQuotedScalarEscape = codes "while parsing a quoted scalar, found unknown escape character"
-fault_words InvalidQuotedScalarHexEscape = codes "while parsing a quoted scalar, did not find expected hexadecimal number"
-fault_words MissingLowSurrogate = codes "while parsing a quoted scalar, found high surrogate without following low surrogate"
-fault_words InvalidLowSurrogateHexEscape = codes "while parsing a quoted scalar, did not find expected hexadecimal number for low surrogate"
+fault_words InvalidQuotedScalarHexEscape = codes
+    "while parsing a quoted scalar, did not find expected hexadecimal number"
+fault_words MissingLowSurrogate = codes
+    "while parsing a quoted scalar, found high surrogate without following low surrogate"
+fault_words InvalidLowSurrogateHexEscape = codes
+    "while parsing a quoted scalar, did not find expected hexadecimal number for low surrogate"
 fault_words InvalidLowSurrogate = codes "while parsing a quoted scalar, found invalid low surrogate"
 fault_words UnpairedLowSurrogate = codes "while parsing a quoted scalar, found unpaired low surrogate"
 fault_words InvalidUnicodeEscape = codes "while parsing a quoted scalar, found invalid Unicode character escape code"
 fault_words ZeroBlockScalarIndent = codes "while scanning a block scalar, found an indentation indicator equal to 0"
-fault_words InvalidBlockScalarHeader = codes "while scanning a block scalar, did not find expected comment or line break"
+fault_words InvalidBlockScalarHeader = codes
+    "while scanning a block scalar, did not find expected comment or line break"
 fault_words TabAtBlockScalarStart = codes "a block scalar content cannot start with a tab"
 fault_words InvalidBlockScalarIndent = codes "wrongly indented line in block scalar"
 fault_words MissingTagUri = codes "while parsing a tag, did not find expected tag URI"
@@ -265,7 +276,8 @@ fault_words InvalidTagEscape = codes "while parsing a tag, found an invalid esca
 fault_words InvalidTagUtf8LeadingByte = codes "while parsing a tag, found an incorrect leading UTF-8 byte"
 fault_words InvalidTagUtf8TrailingByte = codes "while parsing a tag, found an incorrect trailing UTF-8 byte"
 fault_words InvalidTagUtf8 = codes "while parsing a tag, found an invalid UTF-8 codepoint"
-fault_words MissingAnchorOrAliasName = codes "while scanning an anchor or alias, did not find expected alphabetic or numeric character"
+fault_words MissingAnchorOrAliasName = codes
+    "while scanning an anchor or alias, did not find expected alphabetic or numeric character"
 fault_words SimpleKeyExpected = codes "simple key expected ':'"
 fault_words BlockSequenceEntryNotAllowed = codes "block sequence entries are not allowed in this context"
 fault_words MappingKeyNotAllowed = codes "mapping keys are not allowed in this context"
@@ -278,11 +290,13 @@ fault_words TabInPlainScalar = codes "while scanning a plain scalar, found a tab
 fault_words CommentNotSeparated = codes "comments must be separated from other tokens by whitespace"
 fault_words CommentInterceptedScalar = codes "comment intercepting the multiline text"
 fault_words TooManyComments = codes "too many buffered comments while looking ahead"
-fault_words (UnexpectedCharacter character) = codes "unexpected character: `" ++ encode_utf8_all (escape_default character) ++ codes "'"
+fault_words (UnexpectedCharacter character) = codes "unexpected character: `"
+    ++ encode_utf8_all (escape_default character) ++ codes "'"
 fault_words BomInsideDocument = codes "a BOM must not appear inside a document"
 fault_words (InputIo error) = codes "input I/O error: " ++ encode_utf8_all error
 fault_words (InputDecoding message) = codes "input decoding error: " ++ encode_utf8_all message
-fault_words (InputByteLimitExceeded limit) = codes "input exceeds the configured limit of " ++ decimal limit ++ codes " bytes"
+fault_words (InputByteLimitExceeded limit) = codes "input exceeds the configured limit of " ++ decimal limit
+    ++ codes " bytes"
 fault_words (Custom message) = encode_utf8_all message
 fault_words InputOffsetsWithoutSlice = codes "internal error: input advertised offsets but did not provide a slice"
 fault_words InputSlicingUnavailable = codes "internal error: input advertised slicing but did not provide a slice"

@@ -1,5 +1,38 @@
 -- The kind that an `ErrorKind` of the code names.
-use Rattle.granit_error.specs.FaultKind.{FaultKind, NoMemory, UnclosedFlowCollection, MismatchedFlowCollectionEnd, MisplacedFlowCollectionEnd, RecursionLimitExceeded, BlockEntryInFlowCollection, PlainScalarStartsWithDashFlowIndicator, FlowMappingValueAdjacentCollection, InvalidColonPlacement, InvalidIndentation, ExpectedDocumentStart, MissingDocumentEndBeforeDirective, InvalidDocumentEnd, DirectiveDisallowed, MissingDirectiveName, InvalidDirectiveName, DirectiveByteLimitExceeded, TooManyReservedDirectiveParams, InvalidDirectiveTerminator, MissingYamlVersion, MissingYamlVersionSeparator, YamlVersionTooLong, DuplicateVersionDirective, UnsupportedYamlMajorVersion, DuplicateTagDirective, ExpectedTagBang, ExpectedTagDirectiveBang, InvalidGlobalTagCharacter, InvalidTagDirectiveTerminator, UnexpectedEofBlockSequence, UnexpectedEofBlockMapping, UnexpectedEofImplicitFlowMapping, ExpectedBlockMappingKey, ExpectedBlockSequenceEntry, ExpectedFlowMappingSeparator, ExpectedFlowSequenceSeparator, UnknownAnchor, UndeclaredTagHandle, UnclosedQuotedScalar, DocumentIndicatorInQuotedScalar, TabInIndentation, InvalidQuotedScalarIndent, InvalidTrailingSingleQuotedScalar, InvalidTrailingDoubleQuotedScalar, UnknownQuotedScalarEscape, InvalidQuotedScalarHexEscape, MissingLowSurrogate, InvalidLowSurrogateHexEscape, InvalidLowSurrogate, UnpairedLowSurrogate, InvalidUnicodeEscape, ZeroBlockScalarIndent, InvalidBlockScalarHeader, TabAtBlockScalarStart, InvalidBlockScalarIndent, MissingTagUri, UnclosedVerbatimTag, InvalidTagTerminator, InvalidTagEscape, InvalidTagUtf8LeadingByte, InvalidTagUtf8TrailingByte, InvalidTagUtf8, MissingAnchorOrAliasName, SimpleKeyExpected, BlockSequenceEntryNotAllowed, MappingKeyNotAllowed, MappingValueNotAllowed, InvalidBlockEntryWhitespace, ExpectedWhitespace, TabInBlockIndentation, TabNotAllowed, TabInPlainScalar, CommentNotSeparated, CommentInterceptedScalar, TooManyComments, UnexpectedCharacter, BomInsideDocument, InputIo, InputDecoding, InputByteLimitExceeded, Custom, InputOffsetsWithoutSlice, InputSlicingUnavailable, MissingIncludeResolver, MultipleDocumentsUnsupported, AnchorCountOverflow, UnexpectedEof, UnexpectedEofFlowSequence, UnexpectedEofFlowMapping, ExpectedNodeContent, ExpectedStreamStart, InvalidSimpleKey, InvalidFlowScalarIndent, InvalidMappingValueWhitespace, UnexpectedEndOfPlainScalar, NotBuilt}
+use Rattle.granit_error.specs.FaultKind.{FaultKind, NoMemory, UnclosedFlowCollection, MismatchedFlowCollectionEnd}
+use Rattle.granit_error.specs.FaultKind.{MisplacedFlowCollectionEnd, RecursionLimitExceeded, BlockEntryInFlowCollection}
+use Rattle.granit_error.specs.FaultKind.{PlainScalarStartsWithDashFlowIndicator, FlowMappingValueAdjacentCollection}
+use Rattle.granit_error.specs.FaultKind.{InvalidColonPlacement, InvalidIndentation, ExpectedDocumentStart}
+use Rattle.granit_error.specs.FaultKind.{MissingDocumentEndBeforeDirective, InvalidDocumentEnd, DirectiveDisallowed}
+use Rattle.granit_error.specs.FaultKind.{MissingDirectiveName, InvalidDirectiveName, DirectiveByteLimitExceeded}
+use Rattle.granit_error.specs.FaultKind.{TooManyReservedDirectiveParams, InvalidDirectiveTerminator, MissingYamlVersion}
+use Rattle.granit_error.specs.FaultKind.{MissingYamlVersionSeparator, YamlVersionTooLong, DuplicateVersionDirective}
+use Rattle.granit_error.specs.FaultKind.{UnsupportedYamlMajorVersion, DuplicateTagDirective, ExpectedTagBang}
+use Rattle.granit_error.specs.FaultKind.{ExpectedTagDirectiveBang, InvalidGlobalTagCharacter}
+use Rattle.granit_error.specs.FaultKind.{InvalidTagDirectiveTerminator, UnexpectedEofBlockSequence}
+use Rattle.granit_error.specs.FaultKind.{UnexpectedEofBlockMapping, UnexpectedEofImplicitFlowMapping}
+use Rattle.granit_error.specs.FaultKind.{ExpectedBlockMappingKey, ExpectedBlockSequenceEntry}
+use Rattle.granit_error.specs.FaultKind.{ExpectedFlowMappingSeparator, ExpectedFlowSequenceSeparator, UnknownAnchor}
+use Rattle.granit_error.specs.FaultKind.{UndeclaredTagHandle, UnclosedQuotedScalar, DocumentIndicatorInQuotedScalar}
+use Rattle.granit_error.specs.FaultKind.{TabInIndentation, InvalidQuotedScalarIndent, InvalidTrailingSingleQuotedScalar}
+use Rattle.granit_error.specs.FaultKind.{InvalidTrailingDoubleQuotedScalar, UnknownQuotedScalarEscape}
+use Rattle.granit_error.specs.FaultKind.{InvalidQuotedScalarHexEscape, MissingLowSurrogate}
+use Rattle.granit_error.specs.FaultKind.{InvalidLowSurrogateHexEscape, InvalidLowSurrogate, UnpairedLowSurrogate}
+use Rattle.granit_error.specs.FaultKind.{InvalidUnicodeEscape, ZeroBlockScalarIndent, InvalidBlockScalarHeader}
+use Rattle.granit_error.specs.FaultKind.{TabAtBlockScalarStart, InvalidBlockScalarIndent, MissingTagUri}
+use Rattle.granit_error.specs.FaultKind.{UnclosedVerbatimTag, InvalidTagTerminator, InvalidTagEscape}
+use Rattle.granit_error.specs.FaultKind.{InvalidTagUtf8LeadingByte, InvalidTagUtf8TrailingByte, InvalidTagUtf8}
+use Rattle.granit_error.specs.FaultKind.{MissingAnchorOrAliasName, SimpleKeyExpected, BlockSequenceEntryNotAllowed}
+use Rattle.granit_error.specs.FaultKind.{MappingKeyNotAllowed, MappingValueNotAllowed, InvalidBlockEntryWhitespace}
+use Rattle.granit_error.specs.FaultKind.{ExpectedWhitespace, TabInBlockIndentation, TabNotAllowed, TabInPlainScalar}
+use Rattle.granit_error.specs.FaultKind.{CommentNotSeparated, CommentInterceptedScalar, TooManyComments}
+use Rattle.granit_error.specs.FaultKind.{UnexpectedCharacter, BomInsideDocument, InputIo, InputDecoding}
+use Rattle.granit_error.specs.FaultKind.{InputByteLimitExceeded, Custom, InputOffsetsWithoutSlice}
+use Rattle.granit_error.specs.FaultKind.{InputSlicingUnavailable, MissingIncludeResolver, MultipleDocumentsUnsupported}
+use Rattle.granit_error.specs.FaultKind.{AnchorCountOverflow, UnexpectedEof, UnexpectedEofFlowSequence}
+use Rattle.granit_error.specs.FaultKind.{UnexpectedEofFlowMapping, ExpectedNodeContent, ExpectedStreamStart}
+use Rattle.granit_error.specs.FaultKind.{InvalidSimpleKey, InvalidFlowScalarIndent, InvalidMappingValueWhitespace}
+use Rattle.granit_error.specs.FaultKind.{UnexpectedEndOfPlainScalar, NotBuilt}
 use Rattle.granit_error.specs.declared.kind.ErrorKind.{ErrorKind}
 use Rattle.granit_error.specs.declared.kind.ErrorKind.TheVariants as code
 

@@ -6,7 +6,9 @@ use Rattle.std.specs.Cmp.Lexicographic.{pointwise, pointwise_decides}
 use Rattle.std.proofs.lemmas.Cmp.{nat_list_eq_equiv}
 use Rattle.std.specs.Hash as fed
 use Rattle.std.specs.Hash.{HashWrites, Alike, same_Alike, on_Alike, and-Alike}
-use Rattle.granit_error.specs.FaultKind.{FaultKind, DirectiveByteLimitExceeded, TooManyReservedDirectiveParams, InputByteLimitExceeded, UnclosedFlowCollection, MismatchedFlowCollectionEnd, UnexpectedCharacter, InputIo, InputDecoding, Custom, fault_number}
+use Rattle.granit_error.specs.FaultKind.{FaultKind, DirectiveByteLimitExceeded, TooManyReservedDirectiveParams}
+use Rattle.granit_error.specs.FaultKind.{InputByteLimitExceeded, UnclosedFlowCollection, MismatchedFlowCollectionEnd}
+use Rattle.granit_error.specs.FaultKind.{UnexpectedCharacter, InputIo, InputDecoding, Custom, fault_number}
 
 -- its limit, and 0 where it has none
 abbrev pub fault_limit : FaultKind → ℕ
@@ -35,7 +37,8 @@ fault_message (Custom message) = message
 fault_message _ = []
 
 abbrev pub same_parts : FaultKind → FaultKind → Bool
-same_parts a b = ((fault_number a == fault_number b && fault_limit a == fault_limit b) && fault_first a == fault_first b) && fault_second a == fault_second b
+same_parts a b = ((fault_number a == fault_number b && fault_limit a == fault_limit b)
+    && fault_first a == fault_first b) && fault_second a == fault_second b
 
 -- two kinds are equal where their numbers are and each part that they hold
 abbrev pub same_fault : FaultKind → FaultKind → Bool

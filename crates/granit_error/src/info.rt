@@ -29,9 +29,9 @@ impl ErrorKind {
 struct Joined<'a>(&'a [OwnedText]);
 
 impl<'a> fmt::Display for Joined<'a> {
-    ghost use Rattle.granit_error.specs.Refused.{joined};
+    ghost use Rattle.granit_error.specs.Refused.{joined_names};
 
-    ghost output = { λ j. Some (joined j.0.now) };
+    ghost output = { λ j. Some (joined_names j.0.now) };
 
     fn fmt<W: fmt::Write>(&self, f: &mut fmt::Formatter<W>) -> fmt::Result {
         match self.0.split_first() {

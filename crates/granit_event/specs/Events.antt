@@ -2,7 +2,9 @@
 use Rattle.std.specs.Prelude.{List, map}
 use Rattle.std.specs.Option.{option_map}
 use Rattle.granit_base.specs.declared.place.Span.{Span}
-use Rattle.granit_lexemes.specs.PlainEvent.{PlainEvent, PlainVersion, EventKind, StreamStart, StreamEnd, DocumentStart, DocumentEnd, Alias, Anchor, UnresolvedAlias, Comment, Scalar, SequenceStart, SequenceEnd, MappingStart, MappingEnd}
+use Rattle.granit_lexemes.specs.PlainEvent.{PlainEvent, PlainVersion, EventKind, StreamStart, StreamEnd, DocumentStart}
+use Rattle.granit_lexemes.specs.PlainEvent.{DocumentEnd, Alias, Anchor, UnresolvedAlias, Comment, Scalar, SequenceStart}
+use Rattle.granit_lexemes.specs.PlainEvent.{SequenceEnd, MappingStart, MappingEnd}
 use Rattle.granit_event.specs.declared.event.YamlVersion.{YamlVersion}
 use Rattle.granit_event.specs.declared.event.Event.{Event}
 use Rattle.granit_event.specs.declared.event.Event.TheVariants as events

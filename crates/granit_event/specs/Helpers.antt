@@ -4,7 +4,8 @@ use Rattle.std.specs.Borrow.{Bor}
 use Rattle.std.specs.Option.{option_map}
 use Rattle.std.specs.Str.{chars}
 use Rattle.granit_base.specs.declared.style.ScalarStyle.{ScalarStyle}
-use Rattle.granit_lexemes.specs.PlainEvent.{PlainTag, EventKind, Alias, Anchor, UnresolvedAlias, Scalar, SequenceStart, MappingStart}
+use Rattle.granit_lexemes.specs.PlainEvent.{PlainTag, EventKind, Alias, Anchor, UnresolvedAlias, Scalar, SequenceStart}
+use Rattle.granit_lexemes.specs.PlainEvent.{MappingStart}
 
 -- the number of an anchor, where there is one
 abbrev pub numbered : ℕ → Option ℕ

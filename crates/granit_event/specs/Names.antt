@@ -1,5 +1,6 @@
 -- The name of a tag: its handle followed by its suffix, and what the calls of a tag answer of it.
-use Rattle.std.specs.Prelude.{ℕ, Bool, true, false, ◌==◌, ◌&&◌, not, if◌then◌else◌, nat_eq, List, [], ◌∷◌, ◌++◌, codes, Option, Some, None}
+use Rattle.std.specs.Prelude.{ℕ, Bool, true, false, ◌==◌, ◌&&◌, not, if◌then◌else◌, nat_eq, List, [], ◌∷◌, ◌++◌, codes}
+use Rattle.std.specs.Prelude.{Option, Some, None}
 use Rattle.std.specs.Borrow.{Bor}
 use Rattle.std.specs.Option.{option_map, option_and_then}
 use Rattle.std.specs.Str.{chars}
@@ -65,7 +66,8 @@ lent_unless false x = record { characters = x; is_borrowed = true }
 
 -- what follows a namespace in the name of a tag: lent, unless the handle goes on behind the namespace
 abbrev pub suffix_behind : List ℕ → PlainTag → Option Written
-suffix_behind namespace t = option_map (lent_unless (goes_on (behind_front namespace t.handle))) (behind_front namespace (name_of t))
+suffix_behind namespace t = option_map (lent_unless (goes_on (behind_front namespace t.handle)))
+    (behind_front namespace (name_of t))
 
 abbrev pub verbatim : List ℕ → List ℕ
 verbatim suffix = (codes "!<" ++ suffix) ++ codes ">"

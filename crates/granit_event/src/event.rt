@@ -2,7 +2,8 @@
 ghost use Rattle.std.specs.Prelude.{◌≡◌, IfOk};
 ghost use Rattle.std.specs.Option.{option_copied};
 ghost use Rattle.granit_event.specs.Events.{event_kind};
-ghost use Rattle.granit_event.specs.Helpers.{numbered as numbered_of, anchor_of, alias_of, is_alias_kind, tag_of, scalar_of, scalar_told, is_node_kind};
+ghost use Rattle.granit_event.specs.Helpers.{numbered as numbered_of, anchor_of, alias_of, is_alias_kind, tag_of};
+ghost use Rattle.granit_event.specs.Helpers.{scalar_of, scalar_told, is_node_kind};
 
 use crate::tag::Tag;
 use granit_base::{NoMemory, Placement, ScalarStyle, Span, StructureStyle, Text};

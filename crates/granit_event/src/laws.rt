@@ -12,5 +12,6 @@ pub fn core_suffixes_are_named()
 /// As texts, the answers on a namespace depend on handle followed by suffix alone. Of the core's the
 /// clause says so itself.
 pub fn parts_of_a_name_are_one()
-    ensures { (p : List ℕ) (t u : PlainTag) → name_of t ≡ name_of u → option_map (λ s. s.characters) (suffix_behind p t) ≡ option_map (λ s. s.characters) (suffix_behind p u) }
+    ensures { (p : List ℕ) (t u : PlainTag) → name_of t ≡ name_of u
+        → option_map (λ s. s.characters) (suffix_behind p t) ≡ option_map (λ s. s.characters) (suffix_behind p u) }
 {}

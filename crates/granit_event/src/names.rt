@@ -24,7 +24,8 @@ fn behind_front<'a>(front: &str, text: &'a str) -> Option<&'a str>
 #[tactic(auto, using(crate::proofs::NameLemmas::behind_more, crate::proofs::NameLemmas::behind_other, crate::proofs::NameLemmas::behind_rest, crate::proofs::NameLemmas::behind_both, crate::proofs::NameLemmas::nothing_more))]
 pub(crate) fn behind<'a>(front: &str, first: &'a str, second: &'a str) -> Option<(&'a str, &'a str)>
     ensures joined { spec.told_pair result ≡ spec.behind_front (chars front.now) (chars first.now ++ chars second.now) }
-    ensures first { IfSome result (λ p. spec.more_than (chars p.0.now) ≡ spec.goes_on (spec.behind_front (chars front.now) (chars first.now))) }
+    ensures first { IfSome result (λ p. spec.more_than (chars p.0.now)
+        ≡ spec.goes_on (spec.behind_front (chars front.now) (chars first.now))) }
 {
     match behind_front(front, first) {
         Some(left) => Some((left, second)),
@@ -56,7 +57,8 @@ fn name_or(
     second: &str,
     found: Option<&'static str>,
 ) -> Option<&'static str>
-    ensures { spec.told result ≡ spec.name_or (chars name.now) (chars first.now ++ chars second.now) (spec.told found.entry) }
+    ensures { spec.told result ≡ spec.name_or (chars name.now) (chars first.now ++ chars second.now)
+        (spec.told found.entry) }
 {
     if is_joined(name, first, second) {
         Some(name)
@@ -105,7 +107,8 @@ pub(crate) fn lent_or_joined<'a>(
     first: &'a str,
     second: &'a str,
 ) -> Result<Text<'a>, NoMemory>
-    ensures { IfOk result (λ t. t ≡ spec.lent_unless (spec.more_than (chars first.now)) (chars first.now ++ chars second.now)) }
+    ensures { IfOk result (λ t. t ≡ spec.lent_unless (spec.more_than (chars first.now))
+        (chars first.now ++ chars second.now)) }
 {
     if is_at_end(first) {
         Ok(Text::borrowed(second))
@@ -127,7 +130,8 @@ pub(crate) fn verbatim(alloc: Global, suffix: &str) -> Result<OwnedText, NoMemor
 /// Whether a handle is that of a verbatim tag: it is empty, and the suffix isn't `!` (YAML 1.2.2,
 /// 6.9.1).
 pub(crate) fn is_verbatim(original_handle: &str, suffix: &str) -> bool
-    ensures { result ≡ (spec.same_text (chars original_handle.now) [] && not (spec.same_text (chars suffix.now) (codes "!"))) }
+    ensures { result ≡ (spec.same_text (chars original_handle.now) []
+        && not (spec.same_text (chars suffix.now) (codes "!"))) }
 {
     same_text(original_handle, "") && !same_text(suffix, "!")
 }

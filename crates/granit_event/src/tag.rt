@@ -29,7 +29,11 @@ impl Model for Tag {
 
     ghost Value = { PlainTag };
 
-    ghost view = { λ t. record { handle = t.parts.value.handle.characters; suffix = t.parts.value.suffix.characters; original_handle = t.parts.value.original_handle.characters } };
+    ghost view = { λ t. record {
+      handle = t.parts.value.handle.characters;
+      suffix = t.parts.value.suffix.characters;
+      original_handle = t.parts.value.original_handle.characters;
+    } };
 }
 
 impl Tag {
@@ -39,7 +43,12 @@ impl Tag {
     ///
     /// `NoMemory` alone.
     pub fn new(alloc: Global, handle: &str, suffix: &str) -> Result<Tag, NoMemory>
-        ensures { IfOk result (λ t. t ≡ record { handle = chars handle.now; suffix = chars suffix.now; original_handle = chars handle.now }) }
+        ensures { IfOk result (λ t. t ≡ record {
+          handle = chars handle.now;
+          suffix = chars suffix.now;
+          original_handle =
+              chars handle.now;
+        }) }
     {
         Tag::with_original_handle(alloc, handle, suffix, handle)
     }
@@ -55,7 +64,12 @@ impl Tag {
         suffix: &str,
         original_handle: &str,
     ) -> Result<Tag, NoMemory>
-        ensures { IfOk result (λ t. t ≡ record { handle = chars handle.now; suffix = chars suffix.now; original_handle = chars original_handle.now }) }
+        ensures { IfOk result (λ t. t ≡ record {
+          handle = chars handle.now;
+          suffix = chars suffix.now;
+          original_handle =
+              chars original_handle.now;
+        }) }
     {
         let parts = TagParts {
             handle: OwnedText::from_str(alloc, handle)?,

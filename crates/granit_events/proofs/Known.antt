@@ -1,5 +1,6 @@
 -- Known bytes, a piece at a time.
-use Rattle.std.proofs.Common.{ℕ, ◌<◌, List, [], ◌++◌, length, take, drop, sym, ap, ◌∙◌, append_assoc, length-append, refl, arith}
+use Rattle.std.proofs.Common.{ℕ, ◌<◌, List, [], ◌++◌, length, take, drop, sym, ap, ◌∙◌, append_assoc, length-append}
+use Rattle.std.proofs.Common.{refl, arith}
 use Rattle.std.proofs.lemmas.List.{append-nil, take-append-drop, length-drop}
 use Rattle.std.specs.Prelude.{codes, Option, None, Some}
 use Rattle.std.specs.Io.KnownBytes.{Appends, Keeps}
@@ -25,7 +26,8 @@ pub appends_then_keeps : (a b c : Option (List ℕ)) (xs : List ℕ) → Appends
 appends_then_keeps a b c xs p k = rw append-nil at (appends_both a b c xs [] p (appends_nothing b c k))
 
 -- some bytes of an output were written, and then a write failed
-pub wrote_part : (a b c : Option (List ℕ)) (n : ℕ) (output : List ℕ) → n < length output → Appends a b (take n output) → Keeps b c → WroteFront a c output
+pub wrote_part : (a b c : Option (List ℕ)) (n : ℕ) (output : List ℕ) → n < length output → Appends a b (take n output)
+    → Keeps b c → WroteFront a c output
 wrote_part a b c n output some p k = record {
   front = take n output;
   rest = drop n output;
@@ -35,7 +37,8 @@ wrote_part a b c n output some p k = record {
 }
 
 -- some bytes of an output are written, and a front of the rest
-pub front_behind : (a b c : Option (List ℕ)) (xs ys : List ℕ) → Appends a b xs → WroteFront b c ys → WroteFront a c (xs ++ ys)
+pub front_behind : (a b c : Option (List ℕ)) (xs ys : List ℕ) → Appends a b xs → WroteFront b c ys
+    → WroteFront a c (xs ++ ys)
 front_behind a b c xs ys p w = record {
   front = xs ++ w.front;
   rest = w.rest;
@@ -55,12 +58,20 @@ front_of_front a b xs ys w = record {
 }
 
 -- all that was written is a front of more
-pub whole_is_front : (a b : Option (List ℕ)) (xs ys : List ℕ) → 0 < length ys → Appends a b xs → WroteFront a b (xs ++ ys)
+pub whole_is_front : (a b : Option (List ℕ)) (xs ys : List ℕ) → 0 < length ys → Appends a b xs
+    → WroteFront a b (xs ++ ys)
 whole_is_front a b xs ys some p = record { front = xs; rest = ys; parts = refl; unwritten = some; wrote = p }
 
 -- nothing is a front of an output that has a byte
 pub nothing_is_front : (a b : Option (List ℕ)) (output : List ℕ) → 0 < length output → Keeps a b → WroteFront a b output
-nothing_is_front a b output some k = record { front = []; rest = output; parts = refl; unwritten = some; wrote = appends_nothing a b k }
+nothing_is_front a b output some k = record {
+  front = [];
+  rest = output;
+  parts = refl;
+  unwritten = some;
+  wrote =
+      appends_nothing a b k;
+}
 
 -- a line has a byte, its line feed
 pub line_has_some : (words : List ℕ) → 0 < length (words ++ codes "\n")

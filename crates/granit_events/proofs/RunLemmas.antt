@@ -13,10 +13,18 @@ use Rattle.granit_events.specs.declared.input.Input.TheVariants as came
 use Rattle.granit_events.specs.declared.status.Status.{Status}
 use Rattle.granit_events.specs.declared.status.Status.TheVariants as status
 
-pub cut_input : (input same : Input) (a b : Option (List ℕ)) (s : Status) (output : List ℕ) → input ≡ same → Responds same s output → WroteFront a b output → CutOutput (Responds input) a b
-cut_input input same a b s output e r w = record { wanted = s; output = output; called = subst (λ (i : Input). Responds i s output) (sym e) r; wrote = w }
+pub cut_input : (input same : Input) (a b : Option (List ℕ)) (s : Status) (output : List ℕ) → input ≡ same
+    → Responds same s output → WroteFront a b output → CutOutput (Responds input) a b
+cut_input input same a b s output e r w = record {
+  wanted = s;
+  output = output;
+  called =
+      subst (λ (i : Input). Responds i s output) (sym e) r;
+  wrote = w;
+}
 
-ended_of : (words : List Written) (before now : Option (List ℕ)) (input : Input) (s : Status) (output : List ℕ) → Took words before now input → Responds input s output → Ended words before now s output
+ended_of : (words : List Written) (before now : Option (List ℕ)) (input : Input) (s : Status) (output : List ℕ)
+    → Took words before now input → Responds input s output → Ended words before now s output
 ended_of words before now (came.WrongWord k) status.Usage output t r = (t.0, (k, t.1, r))
 ended_of words before now (came.WrongWord k) _ output t r = absurd r
 ended_of words before now came.TooLong status.TooLong output t r = (t.0, (t.1.0, t.1.1, r))
@@ -26,8 +34,10 @@ ended_of words before now (came.Whole v) status.Fault output t r = (t.0, (v.item
 ended_of words before now (came.Whole v) status.Done output t r = (t.0, (v.items, t.1, r))
 ended_of words before now (came.Whole v) _ output t r = absurd r
 
-pub whole_ended : (words : List Written) (before now a b : Option (List ℕ)) (input : Input) (s : Status) → Took words before now input → WholeOutput (Responds input) a b s → WholeOutput (Ended words before now) a b s
-whole_ended words before now a b input s t w = record { output = w.output; called = ended_of words before now input s w.output t w.called; wrote = w.wrote }
+pub whole_ended : (words : List Written) (before now a b : Option (List ℕ)) (input : Input) (s : Status)
+    → Took words before now input → WholeOutput (Responds input) a b s → WholeOutput (Ended words before now) a b s
+whole_ended words before now a b input s t w =
+    record { output = w.output; called = ended_of words before now input s w.output t w.called; wrote = w.wrote }
 
 right_or_wrong : (words : List Written) (k : ℕ) → AreRight words → AreWrongAt words k → ⊥
 right_or_wrong words k r w = cc
@@ -43,11 +53,13 @@ pub whole_bytes : (bytes came : List ℕ) (now : Option (List ℕ)) → CameWhol
 whole_bytes bytes came None w = absurd w.came
 whole_bytes bytes came (Some rest) w = w.came ∙ (ap (λ (xs : List ℕ). came ++ xs) w.none_left ∙ append-nil came)
 
-too_many_bytes : (bytes came : List ℕ) (now : Option (List ℕ)) → CameTooMany (Some bytes) now came → most_bytes < length bytes
+too_many_bytes : (bytes came : List ℕ) (now : Option (List ℕ)) → CameTooMany (Some bytes) now came
+    → most_bytes < length bytes
 too_many_bytes bytes came None w = absurd w.came
 too_many_bytes bytes came (Some rest) w = omega (arith, w.too_many, ap length w.came ∙ length-append came rest)
 
-answers_exactly : (words : List Written) (bytes output : List ℕ) (s wanted : Status) → AreRight words → length bytes ≤ most_bytes → Answers bytes s output → CallsFor words bytes wanted → s ≡ wanted
+answers_exactly : (words : List Written) (bytes output : List ℕ) (s wanted : Status) → AreRight words
+    → length bytes ≤ most_bytes → Answers bytes s output → CallsFor words bytes wanted → s ≡ wanted
 answers_exactly words bytes output status.NotUtf8 status.Usage r f a c = absurd (right_or_wrong words c.0 r c.1)
 answers_exactly words bytes output status.NotUtf8 status.TooLong r f a c = absurd (omega (arith, c.1))
 answers_exactly words bytes output status.NotUtf8 status.NotUtf8 r f a c = refl
@@ -68,13 +80,15 @@ answers_exactly words bytes output status.Done status.Done r f a c = refl
 answers_exactly words bytes output status.Done _ r f a c = absurd c
 answers_exactly words bytes output _ wanted r f a c = absurd a
 
-whole_exactly : (words : List Written) (bytes output : List ℕ) (now : Option (List ℕ)) (s wanted : Status) → EndedWhole words (Some bytes) now s output → CallsFor words bytes wanted → s ≡ wanted
+whole_exactly : (words : List Written) (bytes output : List ℕ) (now : Option (List ℕ)) (s wanted : Status)
+    → EndedWhole words (Some bytes) now s output → CallsFor words bytes wanted → s ≡ wanted
 whole_exactly words bytes output now s wanted e c =
     let came = e.1.0 in
     let same : bytes ≡ came = whole_bytes bytes came now e.1.1 in
     answers_exactly words bytes output s wanted e.0 (rw same e.1.1.fits) (rw same e.1.2) c
 
-too_long_exactly : (words : List Written) (bytes : List ℕ) (wanted : Status) → AreRight words → most_bytes < length bytes → CallsFor words bytes wanted → status.TooLong ≡ wanted
+too_long_exactly : (words : List Written) (bytes : List ℕ) (wanted : Status) → AreRight words
+    → most_bytes < length bytes → CallsFor words bytes wanted → status.TooLong ≡ wanted
 too_long_exactly words bytes status.Usage r l c = absurd (right_or_wrong words c.0 r c.1)
 too_long_exactly words bytes status.TooLong r l c = refl
 too_long_exactly words bytes status.NotUtf8 r l c = absurd (omega (arith, c.1))
@@ -82,7 +96,8 @@ too_long_exactly words bytes status.Fault r l c = absurd (omega (arith, c.1))
 too_long_exactly words bytes status.Done r l c = absurd (omega (arith, c.1))
 too_long_exactly words bytes _ r l c = absurd c
 
-usage_exactly : (words : List Written) (bytes : List ℕ) (k : ℕ) (wanted : Status) → AreWrongAt words k → CallsFor words bytes wanted → status.Usage ≡ wanted
+usage_exactly : (words : List Written) (bytes : List ℕ) (k : ℕ) (wanted : Status) → AreWrongAt words k
+    → CallsFor words bytes wanted → status.Usage ≡ wanted
 usage_exactly words bytes k status.Usage w c = refl
 usage_exactly words bytes k status.TooLong w c = absurd (right_or_wrong words k c.0 w)
 usage_exactly words bytes k status.NotUtf8 w c = absurd (right_or_wrong words k c.0 w)
@@ -90,14 +105,22 @@ usage_exactly words bytes k status.Fault w c = absurd (right_or_wrong words k c.
 usage_exactly words bytes k status.Done w c = absurd (right_or_wrong words k c.0 w)
 usage_exactly words bytes k _ w c = absurd c
 
-ended_exactly : (words : List Written) (bytes output : List ℕ) (now : Option (List ℕ)) (s wanted : Status) → Ended words (Some bytes) now s output → CallsFor words bytes wanted → s ≡ wanted
+ended_exactly : (words : List Written) (bytes output : List ℕ) (now : Option (List ℕ)) (s wanted : Status)
+    → Ended words (Some bytes) now s output → CallsFor words bytes wanted → s ≡ wanted
 ended_exactly words bytes output now status.Usage wanted e c = usage_exactly words bytes e.1.0 wanted e.1.1 c
-ended_exactly words bytes output now status.TooLong wanted e c = too_long_exactly words bytes wanted e.0 (too_many_bytes bytes e.1.0 now e.1.1) c
-ended_exactly words bytes output now status.NotUtf8 wanted e c = whole_exactly words bytes output now status.NotUtf8 wanted e c
-ended_exactly words bytes output now status.Fault wanted e c = whole_exactly words bytes output now status.Fault wanted e c
-ended_exactly words bytes output now status.Done wanted e c = whole_exactly words bytes output now status.Done wanted e c
+ended_exactly words bytes output now status.TooLong wanted e c = too_long_exactly words bytes wanted e.0
+    (too_many_bytes bytes e.1.0 now e.1.1) c
+ended_exactly words bytes output now status.NotUtf8 wanted e c = whole_exactly words bytes output now status.NotUtf8
+    wanted e c
+ended_exactly words bytes output now status.Fault wanted e c = whole_exactly words bytes output now status.Fault wanted
+    e c
+ended_exactly words bytes output now status.Done wanted e c = whole_exactly words bytes output now status.Done wanted e
+    c
 ended_exactly words bytes output now _ wanted e c = absurd e
 
-pub exactly_yields : (words : List Written) (bytes : List ℕ) (before now a b : Option (List ℕ)) (s wanted : Status) → WholeOutput (Ended words before now) a b s → before ≡ Some bytes → CallsFor words bytes wanted → IsOrYields wanted s
+pub exactly_yields : (words : List Written) (bytes : List ℕ) (before now a b : Option (List ℕ)) (s wanted : Status)
+    → WholeOutput (Ended words before now) a b s → before ≡ Some bytes → CallsFor words bytes wanted
+    → IsOrYields wanted s
 exactly_yields words bytes before now a b s wanted w e c =
-    yields s wanted (ended_exactly words bytes w.output now s wanted (subst (λ (o : Option (List ℕ)). Ended words o now s w.output) e w.called) c)
+    yields s wanted (ended_exactly words bytes w.output now s wanted
+    (subst (λ (o : Option (List ℕ)). Ended words o now s w.output) e w.called) c)

@@ -1,5 +1,6 @@
 -- What words and bytes call for: a status, and the output that it fixes.
-use Rattle.std.specs.Prelude.{◌≡◌, Bool, ℕ, ◌==◌, ◌<◌, ◌≤◌, List, ◌++◌, length, map, codes, Option, Some, None, Result, Ok, Err}
+use Rattle.std.specs.Prelude.{◌≡◌, Bool, ℕ, ◌==◌, ◌<◌, ◌≤◌, List, ◌++◌, length, map, codes, Option, Some, None, Result}
+use Rattle.std.specs.Prelude.{Ok, Err}
 use Rattle.std.specs.Fmt.{decimal}
 use Rattle.std.specs.Str.{chars, IsUtf8, encode_utf8_all}
 use Rattle.std.specs.Str.Lossy.{utf8_valid_len}
@@ -40,19 +41,23 @@ machine_answer bytes = events_of default_options (chars bytes)
 -- the status and the output that the whole bytes of an input call for
 abbrev pub Answers : List ℕ → Status → List ℕ → Type 0
 Answers bytes status.NotUtf8 output = (IsUtf8 bytes → ⊥) × (output ≡ not_utf8_line (utf8_valid_len bytes))
-Answers bytes status.Fault output = IsUtf8 bytes × ((f : Fault) × (machine_answer bytes ≡ Err f) × (output ≡ fault_line f))
-Answers bytes status.Done output = IsUtf8 bytes × ((events : List PlainEvent) × (machine_answer bytes ≡ Ok events) × (output ≡ event_lines events))
+Answers bytes status.Fault output = IsUtf8 bytes
+    × ((f : Fault) × (machine_answer bytes ≡ Err f) × (output ≡ fault_line f))
+Answers bytes status.Done output = IsUtf8 bytes
+    × ((events : List PlainEvent) × (machine_answer bytes ≡ Ok events) × (output ≡ event_lines events))
 Answers bytes _ output = ⊥
 
 -- the words were right, the whole input came, and it calls for that status and output
 abbrev pub EndedWhole : List Written → Option (List ℕ) → Option (List ℕ) → Status → List ℕ → Type 0
-EndedWhole words before now s output = AreRight words × ((bytes : List ℕ) × CameWhole before now bytes × Answers bytes s output)
+EndedWhole words before now s output = AreRight words
+    × ((bytes : List ℕ) × CameWhole before now bytes × Answers bytes s output)
 
--- A call of `run` ended with that status, for the reason that it names, and the output that this fixes; a fault of the outside and
--- want of memory fix none.
+-- A call of `run` ended with that status, for the reason that it names, and the output that this fixes; a fault of the
+-- outside and want of memory fix none.
 abbrev pub Ended : List Written → Option (List ℕ) → Option (List ℕ) → Status → List ℕ → Type 0
 Ended words before now status.Usage output = (now ≡ before) × ((k : ℕ) × AreWrongAt words k × (output ≡ usage_line k))
-Ended words before now status.TooLong output = AreRight words × ((bytes : List ℕ) × CameTooMany before now bytes × (output ≡ too_long_line))
+Ended words before now status.TooLong output = AreRight words
+    × ((bytes : List ℕ) × CameTooMany before now bytes × (output ≡ too_long_line))
 Ended words before now status.NotUtf8 output = EndedWhole words before now status.NotUtf8 output
 Ended words before now status.Fault output = EndedWhole words before now status.Fault output
 Ended words before now status.Done output = EndedWhole words before now status.Done output
@@ -77,8 +82,10 @@ abbrev pub CallsFor : List Written → List ℕ → Status → Type 0
 CallsFor words bytes status.Usage = (k : ℕ) × AreWrongAt words k
 CallsFor words bytes status.TooLong = AreRight words × (most_bytes < length bytes)
 CallsFor words bytes status.NotUtf8 = AreRight words × (length bytes ≤ most_bytes) × (IsUtf8 bytes → ⊥)
-CallsFor words bytes status.Fault = AreRight words × (length bytes ≤ most_bytes) × IsUtf8 bytes × ((f : Fault) × (machine_answer bytes ≡ Err f))
-CallsFor words bytes status.Done = AreRight words × (length bytes ≤ most_bytes) × IsUtf8 bytes × ((events : List PlainEvent) × (machine_answer bytes ≡ Ok events))
+CallsFor words bytes status.Fault = AreRight words × (length bytes ≤ most_bytes) × IsUtf8 bytes
+    × ((f : Fault) × (machine_answer bytes ≡ Err f))
+CallsFor words bytes status.Done = AreRight words × (length bytes ≤ most_bytes) × IsUtf8 bytes
+    × ((events : List PlainEvent) × (machine_answer bytes ≡ Ok events))
 CallsFor words bytes _ = ⊥
 
 -- that status, or one that stands in its place: a fault of the outside or want of memory

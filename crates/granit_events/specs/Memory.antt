@@ -2,7 +2,8 @@
 use Rattle.std.specs.Prelude.{ℕ, ◌==◌, Bool, List}
 use Rattle.std.specs.List.{list_any}
 
--- the bytes left, the most bytes a call moves, the numbers of the calls that fail, how many calls there were, and how many of them failed
+-- the bytes left, the most bytes a call moves, the numbers of the calls that fail, how many calls there were, and how
+-- many of them failed
 pub record MemoryIn : Type 0 where
   pub left : List ℕ
   pub most : ℕ

@@ -5,7 +5,8 @@ use Rattle.granit_events.specs.Wrote.{WroteFront}
 use Rattle.granit_events.specs.declared.status.Status.{Status}
 
 -- the whole of an output that is called for with that status
-pub record WholeOutput (calls : Status → List ℕ → Type 0) (before now : Option (List ℕ)) (status : Status) : Type 0 where
+pub record WholeOutput (calls : Status → List ℕ → Type 0) (before now : Option (List ℕ)) (status : Status) : Type
+    0 where
   pub output : List ℕ
   pub called : calls status output
   pub wrote : Appends before now output

@@ -26,31 +26,41 @@ end_of bytes faults s = record { bytes = bytes s; faults = faults s }
 
 -- neither the source nor the sink told a fault
 abbrev pub AreQuiet : End → End → End → End → Type 0
-AreQuiet source source_after sink sink_after = (Rose source.faults source_after.faults → ⊥) × (Rose sink.faults sink_after.faults → ⊥)
+AreQuiet source source_after sink sink_after = (Rose source.faults source_after.faults → ⊥)
+    × (Rose sink.faults sink_after.faults → ⊥)
 
 -- A run on the words, with the source and the sink as they were before and after, ended with that status.
 pub record Ran (words : List Written) (source source_after sink sink_after : End) (ended_as : Status) : Type 0 where
   -- each status names its cause and fixes the output
-  pub ended : Fixes ended_as → WholeOutput (Ended words source.bytes source_after.bytes) sink.bytes sink_after.bytes ended_as
-  pub read_fault : ended_as ≡ status.ReadFault → AreRight words × Keeps sink.bytes sink_after.bytes × Rose source.faults source_after.faults
-  pub write_fault : ended_as ≡ status.WriteFault → CutOutput (Ended words source.bytes source_after.bytes) sink.bytes sink_after.bytes × Rose sink.faults sink_after.faults
-  pub no_memory : ended_as ≡ status.NoMemory → Keeps sink.bytes sink_after.bytes ⊎ CutOutput (Ended words source.bytes source_after.bytes) sink.bytes sink_after.bytes
+  pub ended : Fixes ended_as → WholeOutput (Ended words source.bytes source_after.bytes) sink.bytes sink_after.bytes
+      ended_as
+  pub read_fault : ended_as ≡ status.ReadFault
+      → AreRight words × Keeps sink.bytes sink_after.bytes × Rose source.faults source_after.faults
+  pub write_fault : ended_as ≡ status.WriteFault
+      → CutOutput (Ended words source.bytes source_after.bytes) sink.bytes sink_after.bytes
+      × Rose sink.faults sink_after.faults
+  pub no_memory : ended_as ≡ status.NoMemory → Keeps sink.bytes sink_after.bytes
+      ⊎ CutOutput (Ended words source.bytes source_after.bytes) sink.bytes sink_after.bytes
   pub source_count : (ended_as ≡ status.ReadFault → ⊥) → source_after.faults ≡ source.faults
   pub sink_count : (ended_as ≡ status.WriteFault → ⊥) → sink_after.faults ≡ sink.faults
   pub none_left : ReadsAll ended_as → IsAtEnd source_after.bytes
   pub unread : (k : ℕ) → AreWrongAt words k → source_after ≡ source
   -- the words and the bytes call for a status
   pub usage : (k : ℕ) → AreWrongAt words k → IsOrYields status.Usage ended_as
-  pub exactly : (bytes : List ℕ) (wanted : Status) → source.bytes ≡ Some bytes → CallsFor words bytes wanted → IsOrYields wanted ended_as
+  pub exactly : (bytes : List ℕ) (wanted : Status) → source.bytes ≡ Some bytes → CallsFor words bytes wanted
+      → IsOrYields wanted ended_as
   -- what was printed is so of the text
   pub read : ended_as ≡ status.Done → PrintsReading words source.bytes source_after.bytes sink.bytes sink_after.bytes
   pub caused : ended_as ≡ status.Fault → PrintsFault words source.bytes source_after.bytes sink.bytes sink_after.bytes
-  -- where neither end told a fault, a text with a reading is answered, one with a cause is refused with it, and canonical text is
-  -- answered with its trees' events
-  pub answered : CanRead words source.bytes → AreQuiet source source_after sink sink_after → (ended_as ≡ status.Done) ⊎ (ended_as ≡ status.NoMemory)
+  -- where neither end told a fault, a text with a reading is answered, one with a cause is refused with it, and
+  -- canonical text is answered with its trees' events
+  pub answered : CanRead words source.bytes → AreQuiet source source_after sink sink_after
+      → (ended_as ≡ status.Done) ⊎ (ended_as ≡ status.NoMemory)
   pub refused :
       (kind : FaultKind) (m : Mark) → HasCause words source.bytes kind m → AreQuiet source source_after sink sink_after
-      → ((ended_as ≡ status.Fault) × Appends sink.bytes sink_after.bytes (fault_line (fault_at kind m))) ⊎ (ended_as ≡ status.NoMemory)
+      → ((ended_as ≡ status.Fault) × Appends sink.bytes sink_after.bytes (fault_line (fault_at kind m)))
+      ⊎ (ended_as ≡ status.NoMemory)
   pub canonical :
       (ts : PlainTrees) → HasCanonical words source.bytes ts → AreQuiet source source_after sink sink_after
-      → ((ended_as ≡ status.Done) × Appends sink.bytes sink_after.bytes (event_lines (canonical_events default_options ts))) ⊎ (ended_as ≡ status.NoMemory)
+      → ((ended_as ≡ status.Done) × Appends sink.bytes sink_after.bytes
+      (event_lines (canonical_events default_options ts))) ⊎ (ended_as ≡ status.NoMemory)

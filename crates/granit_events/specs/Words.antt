@@ -10,7 +10,8 @@ abbrev pub wrong_option : List (List ℕ) → Option ℕ
 wrong_option [] = None
 wrong_option (w ∷ ws) = Some 2
 
--- The grammar is the one word `events`. The number of the first wrong word, from 1, or one past the last where a word is missing.
+-- The grammar is the one word `events`. The number of the first wrong word, from 1, or one past the last where a word
+-- is missing.
 abbrev pub wrong_word : List (List ℕ) → Option ℕ
 wrong_word [] = Some 1
 wrong_word (w ∷ ws) = if is_word w (codes "events") then wrong_option ws else Some 1

@@ -42,7 +42,8 @@ const FULL: usize = 32_768;
 
 /// Hands the buffer to the sink, and empties it, where it is full.
 fn pass_on<W: Sink>(sink: &mut W, out: &mut String) -> Result<(), Failed>
-    ensures passed { OnOk result ((piece : List ℕ) × (string_bytes out.old ≡ piece ++ string_bytes out.new) × Appends (W.written sink.old) (W.written sink.new) piece) }
+    ensures passed { OnOk result ((piece : List ℕ) × (string_bytes out.old ≡ piece ++ string_bytes out.new)
+        × Appends (W.written sink.old) (W.written sink.new) piece) }
     ensures same { OnOk result (W.faults sink.new ≡ W.faults sink.old) }
     ensures front { OnErr result (WroteFront (W.written sink.old) (W.written sink.new) (string_bytes out.old)) }
     ensures failed { OnErr result (Rose (W.faults sink.old) (W.faults sink.new)) }
@@ -66,9 +67,11 @@ pub fn write_events<W: Sink>(
     sink: &mut W,
     events: &[(Event, Span)],
 ) -> Result<(), WriteEnd>
-    ensures whole { OnOk result (Appends (W.written sink.old) (W.written sink.new) (event_lines (plain_events events.now))) }
+    ensures whole { OnOk result (Appends (W.written sink.old) (W.written sink.new)
+        (event_lines (plain_events events.now))) }
     ensures same { OnOk result (W.faults sink.new ≡ W.faults sink.old) }
-    ensures front { OnErr result (WroteFront (W.written sink.old) (W.written sink.new) (event_lines (plain_events events.now))) }
+    ensures front { OnErr result (WroteFront (W.written sink.old) (W.written sink.new)
+        (event_lines (plain_events events.now))) }
     ensures failed { result ≡ Err ends.Failed → Rose (W.faults sink.old) (W.faults sink.new) }
     ensures no_memory { result ≡ Err ends.NoMemory → W.faults sink.new ≡ W.faults sink.old }
 {

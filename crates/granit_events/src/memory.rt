@@ -1,5 +1,6 @@
 //! A source and a sink in memory, whose calls fail where they are told to.
-ghost use Rattle.std.specs.Prelude.{◌≡◌, ◌+◌, ◌-◌, ◌<◌, ◌≤◌, ◌==◌, ◌&&◌, ◌||◌, not, min, Some, [], length, is_ok, IfOk, OnOk, OnErr, MatchResult};
+ghost use Rattle.std.specs.Prelude.{◌≡◌, ◌+◌, ◌-◌, ◌<◌, ◌≤◌, ◌==◌, ◌&&◌, ◌||◌, not, min, Some, [], length, is_ok, IfOk};
+ghost use Rattle.std.specs.Prelude.{OnOk, OnErr, MatchResult};
 ghost use Rattle.std.specs.Io.{ReadsAtMost, WritesAtMost};
 ghost use Rattle.std.specs.Io.KnownBytes.{ReadConsumes, WriteAppends};
 ghost use Rattle.granit_events.specs.Counts.{Rose, next_count, held};
@@ -29,7 +30,14 @@ impl Model for MemorySource {
 
     ghost Value = { MemoryIn };
 
-    ghost view = { λ s. record { left = drop s.position s.bytes.items; most = s.most; failing = s.failing.items; calls = s.calls; faults = s.faults } };
+    ghost view = { λ s. record {
+      left = drop s.position s.bytes.items;
+      most = s.most;
+      failing = s.failing.items;
+      calls =
+          s.calls;
+      faults = s.faults;
+    } };
 
     ghost invariant = { λ s. (s.position ≤ vec_len s.bytes) × (0 < s.most) };
 }
@@ -69,7 +77,8 @@ impl Source for MemorySource {
         ensures same { OnOk result (held self.new.faults ≡ held self.old.faults) }
         ensures failed { OnErr result (Rose (held self.old.faults) (held self.new.faults)) }
         ensures never_falls { held self.old.faults ≤ held self.new.faults }
-        ensures counted { MatchResult result (λ _. self.new.faults ≡ self.old.faults) (λ _. self.new.faults ≡ next_count self.old.faults) }
+        ensures counted { MatchResult result (λ _. self.new.faults ≡ self.old.faults)
+            (λ _. self.new.faults ≡ next_count self.old.faults) }
         ensures calls { self.new.calls ≡ next_count self.old.calls }
         ensures fails { is_ok result ≡ not (is_among self.new.calls self.old.failing) }
         ensures count { IfOk result (λ n. n ≡ min (min (length self.old.left) self.old.most) (length buf.new)) }
@@ -105,7 +114,14 @@ impl Model for MemorySink {
 
     ghost Value = { MemoryOut };
 
-    ghost view = { λ s. record { written = s.bytes.items; room = s.room; most = s.most; failing = s.failing.items; calls = s.calls; faults = s.faults } };
+    ghost view = { λ s. record {
+      written = s.bytes.items;
+      room = s.room;
+      most = s.most;
+      failing = s.failing.items;
+      calls = s.calls;
+      faults = s.faults;
+    } };
 
     ghost invariant = { λ s. (vec_len s.bytes ≤ s.room) × (s.room ≤ vec_capacity s.bytes) × (0 < s.most) };
 }
@@ -124,7 +140,14 @@ impl MemorySink {
         failing: Vec<usize>,
     ) -> Result<MemorySink, NoMemory>
         requires { 0 < most }
-        ensures { IfOk result (λ s. s ≡ record { written = []; room = room; most = most; failing = failing.items; calls = 0; faults = 0 }) }
+        ensures { IfOk result (λ s. s ≡ record {
+          written = [];
+          room = room;
+          most = most;
+          failing = failing.items;
+          calls = 0;
+          faults = 0;
+        }) }
     {
         Ok(MemorySink {
             bytes: Vec::with_capacity(alloc, room)?,
@@ -162,11 +185,15 @@ impl Sink for MemorySink {
         ensures same { OnOk result (held self.new.faults ≡ held self.old.faults) }
         ensures failed { OnErr result (Rose (held self.old.faults) (held self.new.faults)) }
         ensures never_falls { held self.old.faults ≤ held self.new.faults }
-        ensures counted { MatchResult result (λ _. self.new.faults ≡ self.old.faults) (λ _. self.new.faults ≡ next_count self.old.faults) }
+        ensures counted { MatchResult result (λ _. self.new.faults ≡ self.old.faults)
+            (λ _. self.new.faults ≡ next_count self.old.faults) }
         ensures calls { self.new.calls ≡ next_count self.old.calls }
-        ensures fails { is_ok result ≡ not (is_among self.new.calls self.old.failing || (not (length piece.now == 0) && length self.old.written == self.old.room)) }
-        ensures count { IfOk result (λ n. n ≡ min (min (length piece.now) self.old.most) (self.old.room - length self.old.written)) }
-        ensures kept { (self.new.room ≡ self.old.room) × (self.new.most ≡ self.old.most) × (self.new.failing ≡ self.old.failing) }
+        ensures fails { is_ok result ≡ not (is_among self.new.calls self.old.failing
+            || (not (length piece.now == 0) && length self.old.written == self.old.room)) }
+        ensures count { IfOk result (λ n. n ≡ min (min (length piece.now) self.old.most)
+            (self.old.room - length self.old.written)) }
+        ensures kept { (self.new.room ≡ self.old.room) × (self.new.most ≡ self.old.most)
+            × (self.new.failing ≡ self.old.failing) }
     {
         self.calls = self.calls.saturating_add(1);
         let free = self.room - self.bytes.len();

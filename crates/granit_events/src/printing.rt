@@ -117,7 +117,8 @@ fn placement_word(placement: Placement) -> &'static str
 
 /// The version that a directive names, where there is one.
 fn push_version(out: &mut String, version: &Option<YamlVersion>) -> Result<(), NoMemory>
-    ensures { OnOk result (string_bytes out.new ≡ string_bytes out.old ++ line.version_words (option_map plain_version version.now)) }
+    ensures { OnOk result (string_bytes out.new
+        ≡ string_bytes out.old ++ line.version_words (option_map plain_version version.now)) }
 {
     if let Some(version) = version {
         out.push_str(" ")?;
@@ -167,7 +168,8 @@ fn push_scalar(
     anchor: usize,
     tag: &Option<Tag>,
 ) -> Result<(), NoMemory>
-    ensures { OnOk result (string_bytes out.new ≡ string_bytes out.old ++ line.event_words (plain.Scalar text.now style anchor tag.now)) }
+    ensures { OnOk result (string_bytes out.new
+        ≡ string_bytes out.old ++ line.event_words (plain.Scalar text.now style anchor tag.now)) }
 {
     out.push_str("Scalar ")?;
     out.push_str(style_word(style))?;
@@ -184,7 +186,8 @@ fn push_start(
     anchor: usize,
     tag: &Option<Tag>,
 ) -> Result<(), NoMemory>
-    ensures { OnOk result (string_bytes out.new ≡ string_bytes out.old ++ ((word.now ++ line.structure_word style) ++ line.property_words anchor tag.now)) }
+    ensures { OnOk result (string_bytes out.new
+        ≡ string_bytes out.old ++ ((word.now ++ line.structure_word style) ++ line.property_words anchor tag.now)) }
 {
     out.push_str(word)?;
     out.push_str(structure_word(style))?;
@@ -196,7 +199,9 @@ fn push_document_start(
     explicit: bool,
     version: &Option<YamlVersion>,
 ) -> Result<(), NoMemory>
-    ensures { OnOk result (string_bytes out.new ≡ string_bytes out.old ++ line.event_words (plain.DocumentStart explicit (option_map plain_version version.now))) }
+    ensures { OnOk result (string_bytes out.new
+        ≡ string_bytes out.old ++ line.event_words
+        (plain.DocumentStart explicit (option_map plain_version version.now))) }
 {
     out.push_str("DocumentStart ")?;
     out.push_str(explicit_word(explicit))?;
@@ -212,7 +217,8 @@ fn push_alias(out: &mut String, anchor: usize) -> Result<(), NoMemory>
 
 /// An anchor that is told beside its node.
 fn push_named(out: &mut String, anchor: usize, name: &Text) -> Result<(), NoMemory>
-    ensures { OnOk result (string_bytes out.new ≡ string_bytes out.old ++ line.event_words (plain.Anchor anchor name.now)) }
+    ensures { OnOk result (string_bytes out.new
+        ≡ string_bytes out.old ++ line.event_words (plain.Anchor anchor name.now)) }
 {
     out.push_str("Anchor ")?;
     push_number(out, anchor)?;
@@ -221,14 +227,16 @@ fn push_named(out: &mut String, anchor: usize, name: &Text) -> Result<(), NoMemo
 }
 
 fn push_unresolved(out: &mut String, name: &Text) -> Result<(), NoMemory>
-    ensures { OnOk result (string_bytes out.new ≡ string_bytes out.old ++ line.event_words (plain.UnresolvedAlias name.now)) }
+    ensures { OnOk result (string_bytes out.new
+        ≡ string_bytes out.old ++ line.event_words (plain.UnresolvedAlias name.now)) }
 {
     out.push_str("UnresolvedAlias ")?;
     push_in_quotes(out, name.as_str())
 }
 
 fn push_comment(out: &mut String, text: &Text, placement: Placement) -> Result<(), NoMemory>
-    ensures { OnOk result (string_bytes out.new ≡ string_bytes out.old ++ line.event_words (plain.Comment text.now placement)) }
+    ensures { OnOk result (string_bytes out.new
+        ≡ string_bytes out.old ++ line.event_words (plain.Comment text.now placement)) }
 {
     out.push_str("Comment ")?;
     out.push_str(placement_word(placement))?;
@@ -271,7 +279,8 @@ fn push_event(out: &mut String, event: &Event) -> Result<(), NoMemory>
 /// The line of an event.
 #[tactic(auto, unfolding(granit_lexemes::specs::Line::event_line))]
 pub fn push_line(out: &mut String, event: &Event, span: &Span) -> Result<(), NoMemory>
-    ensures { OnOk result (string_bytes out.new ≡ string_bytes out.old ++ line.event_line (plain_event (event.now, span.now))) }
+    ensures { OnOk result (string_bytes out.new
+        ≡ string_bytes out.old ++ line.event_line (plain_event (event.now, span.now))) }
 {
     push_event(out, event)?;
     out.push_str(" ")?;

@@ -41,7 +41,8 @@ pub fn read_all<S: Source>(alloc: Global, source: &mut S) -> Result<Vec<u8>, Rea
     ensures whole { IfOk result (λ v. CameWhole (S.left source.old) (S.left source.new) v.items) }
     ensures same { OnOk result (S.faults source.new ≡ S.faults source.old) }
     ensures failed { result ≡ Err ends.Failed → Rose (S.faults source.old) (S.faults source.new) }
-    ensures too_long { result ≡ Err ends.TooLong → (bytes : List ℕ) × CameTooMany (S.left source.old) (S.left source.new) bytes }
+    ensures too_long { result ≡ Err ends.TooLong
+        → (bytes : List ℕ) × CameTooMany (S.left source.old) (S.left source.new) bytes }
     ensures too_long_same { result ≡ Err ends.TooLong → S.faults source.new ≡ S.faults source.old }
     ensures no_memory_same { result ≡ Err ends.NoMemory → S.faults source.new ≡ S.faults source.old }
 {

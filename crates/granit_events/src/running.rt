@@ -24,16 +24,25 @@ pub(crate) fn run_once<S: Source, W: Sink>(
     source: &mut S,
     sink: &mut W,
 ) -> Status
-    ensures ended { Fixes result → WholeOutput (Ended words.now (S.left source.old) (S.left source.new)) (W.written sink.old) (W.written sink.new) result }
-    ensures read_fault { result ≡ status.ReadFault → AreRight words.now × Keeps (W.written sink.old) (W.written sink.new) × Rose (S.faults source.old) (S.faults source.new) }
-    ensures write_fault { result ≡ status.WriteFault → CutOutput (Ended words.now (S.left source.old) (S.left source.new)) (W.written sink.old) (W.written sink.new) × Rose (W.faults sink.old) (W.faults sink.new) }
-    ensures no_memory { result ≡ status.NoMemory → Keeps (W.written sink.old) (W.written sink.new) ⊎ CutOutput (Ended words.now (S.left source.old) (S.left source.new)) (W.written sink.old) (W.written sink.new) }
+    ensures ended { Fixes result → WholeOutput (Ended words.now (S.left source.old) (S.left source.new))
+        (W.written sink.old) (W.written sink.new) result }
+    ensures read_fault { result ≡ status.ReadFault
+        → AreRight words.now × Keeps (W.written sink.old) (W.written sink.new)
+        × Rose (S.faults source.old) (S.faults source.new) }
+    ensures write_fault { result ≡ status.WriteFault
+        → CutOutput (Ended words.now (S.left source.old) (S.left source.new)) (W.written sink.old) (W.written sink.new)
+        × Rose (W.faults sink.old) (W.faults sink.new) }
+    ensures no_memory { result ≡ status.NoMemory
+        → Keeps (W.written sink.old) (W.written sink.new)
+        ⊎ CutOutput (Ended words.now (S.left source.old) (S.left source.new)) (W.written sink.old)
+        (W.written sink.new) }
     ensures source_count { (result ≡ status.ReadFault → ⊥) → S.faults source.new ≡ S.faults source.old }
     ensures sink_count { (result ≡ status.WriteFault → ⊥) → W.faults sink.new ≡ W.faults sink.old }
     ensures none_left { ReadsAll result → IsAtEnd (S.left source.new) }
     ensures unread { (k : ℕ) → AreWrongAt words.now k → source.new ≡ source.old }
     ensures usage { (k : ℕ) → AreWrongAt words.now k → IsOrYields status.Usage result }
-    ensures exactly { (bytes : List ℕ) (wanted : Status) → S.left source.old ≡ Some bytes → CallsFor words.now bytes wanted → IsOrYields wanted result }
+    ensures exactly { (bytes : List ℕ) (wanted : Status) → S.left source.old ≡ Some bytes
+        → CallsFor words.now bytes wanted → IsOrYields wanted result }
 {
     let input = match take_input(alloc, words, source) {
         Ok(input) => input,
@@ -62,7 +71,8 @@ pub fn run<S: Source, W: Sink>(
     source: &mut S,
     sink: &mut W,
 ) -> Status
-    ensures ran { Ran words.now (end_of S.left S.faults source.old) (end_of S.left S.faults source.new) (end_of W.written W.faults sink.old) (end_of W.written W.faults sink.new) result }
+    ensures ran { Ran words.now (end_of S.left S.faults source.old) (end_of S.left S.faults source.new)
+        (end_of W.written W.faults sink.old) (end_of W.written W.faults sink.new) result }
     ensures unread { (k : ℕ) → AreWrongAt words.now k → source.new ≡ source.old }
 {
     run_once(alloc, words, source, sink)
@@ -77,7 +87,10 @@ pub fn run_plain(
 ) -> Status
     ensures never_read_fault { result ≡ status.ReadFault → ⊥ }
     ensures never_write_fault { result ≡ status.WriteFault → ⊥ }
-    ensures ran { Ran words.now (end_of ⟦<PlainSource as Source>⟧.left ⟦<PlainSource as Source>⟧.faults source.old) (end_of ⟦<PlainSource as Source>⟧.left ⟦<PlainSource as Source>⟧.faults source.new) (end_of ⟦<PlainSink as Sink>⟧.written ⟦<PlainSink as Sink>⟧.faults sink.old) (end_of ⟦<PlainSink as Sink>⟧.written ⟦<PlainSink as Sink>⟧.faults sink.new) result }
+    ensures ran { Ran words.now (end_of ⟦<PlainSource as Source>⟧.left ⟦<PlainSource as Source>⟧.faults source.old)
+        (end_of ⟦<PlainSource as Source>⟧.left ⟦<PlainSource as Source>⟧.faults source.new)
+        (end_of ⟦<PlainSink as Sink>⟧.written ⟦<PlainSink as Sink>⟧.faults sink.old)
+        (end_of ⟦<PlainSink as Sink>⟧.written ⟦<PlainSink as Sink>⟧.faults sink.new) result }
     ensures unread { (k : ℕ) → AreWrongAt words.now k → source.new ≡ source.old }
 {
     run(alloc, words, source, sink)

@@ -33,7 +33,8 @@ pub fn not_utf8(alloc: Global, valid: usize) -> Result<String, NoMemory>
 }
 
 fn push_words_and_place(out: &mut String, kind: &ErrorKind, mark: &Marker) -> Result<(), NoMemory>
-    ensures { OnOk result (string_bytes out.new ≡ string_bytes out.old ++ (fault_words (kind_of kind.now) ++ place_words mark.now.place)) }
+    ensures { OnOk result (string_bytes out.new
+        ≡ string_bytes out.old ++ (fault_words (kind_of kind.now) ++ place_words mark.now.place)) }
 {
     let index = mark.index();
     let line = mark.line();

@@ -1,5 +1,6 @@
 -- How a reader moves on.
-use Rattle.std.proofs.Common.{◌≡◌, ℕ, ◌-◌, ◌<◌, ◌≤◌, ◌==◌, ◌&&◌, ◌||◌, Bool, true, false, not, cond, List, [], ◌∷◌, length, drop, refl, sym, ap, ◌∙◌, arith}
+use Rattle.std.proofs.Common.{◌≡◌, ℕ, ◌-◌, ◌<◌, ◌≤◌, ◌==◌, ◌&&◌, ◌||◌, Bool, true, false, not, cond, List, [], ◌∷◌}
+use Rattle.std.proofs.Common.{length, drop, refl, sym, ap, ◌∙◌, arith}
 use Rattle.std.proofs.lemmas.List.{length-drop}
 use Rattle.std.proofs.lemmas.Bool.Decides.{nat_tests}
 use Rattle.granit_base.specs.Classes.{is_break}
@@ -39,7 +40,8 @@ passes_some : (test : ℕ → Bool) (text : List ℕ) → test 0 ≡ false → t
 passes_some test [] nul held = absurd cc
 passes_some test (c ∷ cs) nul held = omega arith
 
-skip_goes : (test : ℕ → Bool) (text : List ℕ) (h : Here) → text ≡ h.unread.text → test 0 ≡ false → test (next_char h) ≡ true → skip test text h ≡ skip test (drop 1 text) (step h)
+skip_goes : (test : ℕ → Bool) (text : List ℕ) (h : Here) → text ≡ h.unread.text → test 0 ≡ false
+    → test (next_char h) ≡ true → skip test text h ≡ skip test (drop 1 text) (step h)
 skip_goes test [] h e nul held = absurd (let gone = rw (← e) at held in cc)
 skip_goes test (c ∷ cs) h e nul held = rw held refl
 
@@ -47,15 +49,18 @@ skip_stops : (test : ℕ → Bool) (text : List ℕ) (h : Here) → test (next_c
 skip_stops test [] h failed = refl
 skip_stops test (c ∷ cs) h failed = rw failed refl
 
-pub past_goes : (test : ℕ → Bool) (h : Here) → test 0 ≡ false → test (next_char h) ≡ true → past test (step h) ≡ past test h
+pub past_goes : (test : ℕ → Bool) (h : Here) → test 0 ≡ false → test (next_char h) ≡ true
+    → past test (step h) ≡ past test h
 unfolding past
-past_goes test h nul held = ap (λ (text : List ℕ). skip test text (step h)) (step_text h) ∙ sym (skip_goes test h.unread.text h refl nul held)
+past_goes test h nul held = ap (λ (text : List ℕ). skip test text (step h)) (step_text h)
+    ∙ sym (skip_goes test h.unread.text h refl nul held)
 
 pub past_stops : (test : ℕ → Bool) (h : Here) → test (next_char h) ≡ false → past test h ≡ h
 unfolding past
 past_stops test h failed = skip_stops test h.unread.text h failed
 
-pub step_shortens : (test : ℕ → Bool) (h : Here) → test 0 ≡ false → test (next_char h) ≡ true → text_len (step h) < text_len h
+pub step_shortens : (test : ℕ → Bool) (h : Here) → test 0 ≡ false → test (next_char h) ≡ true
+    → text_len (step h) < text_len h
 step_shortens test h nul held = let some = passes_some test h.unread.text nul held in omega (arith, step_len h)
 
 chosen_len : (b : Bool) (n : ℕ) (x y : Here) → text_len x ≤ n → text_len y ≤ n → text_len (chosen b x y) ≤ n
@@ -64,7 +69,8 @@ chosen_len false n x y p q = q
 
 skip_len : (test : ℕ → Bool) (text : List ℕ) (h : Here) → text_len (skip test text h) ≤ text_len h
 skip_len test [] h = omega arith
-skip_len test (c ∷ cs) h = chosen_len (test (next_char h)) (text_len h) (skip test cs (step h)) h (omega (arith, skip_len test cs (step h), step_len h)) (omega arith)
+skip_len test (c ∷ cs) h = chosen_len (test (next_char h)) (text_len h) (skip test cs (step h)) h
+    (omega (arith, skip_len test cs (step h), step_len h)) (omega arith)
 
 pub past_len : (test : ℕ → Bool) (h : Here) → text_len (past test h) ≤ text_len h
 unfolding past

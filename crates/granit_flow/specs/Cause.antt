@@ -4,7 +4,8 @@ use Rattle.granit_base.specs.Place.{Mark, first}
 use Rattle.granit_base.specs.Written.{Written}
 use Rattle.granit_base.specs.Classes.{is_gap, is_blank_or_breakz}
 use Rattle.granit_error.specs.OptionsData.{OptionsData}
-use Rattle.granit_error.specs.FaultKind.{FaultKind, UnclosedFlowCollection, RecursionLimitExceeded, UnknownAnchor, NotBuilt}
+use Rattle.granit_error.specs.FaultKind.{FaultKind, UnclosedFlowCollection, RecursionLimitExceeded, UnknownAnchor}
+use Rattle.granit_error.specs.FaultKind.{NotBuilt}
 use Rattle.granit_flow.specs.Lexeme.{Lexeme, Alias, wants_gap, Opener, opener_char}
 use Rattle.granit_lexemes.specs.Place.{place_of, mark_at}
 use Rattle.granit_lexemes.specs.Gap.{StandsAt}
@@ -33,8 +34,8 @@ pub record IsDocumentMark (x : List ℕ) (i : ℕ) : Type 0 where
 abbrev pub Begins : List Lexeme → Type 0
 Begins ls = (ds : Documents) × (more : List Lexeme) × (spell_documents ds [] ≡ ls ++ more)
 
--- Lexemes with which nothing is wrong: some documents begin with them, no more brackets are open at once than are allowed, and each
--- alias names an anchor before it in its document or may stay.
+-- Lexemes with which nothing is wrong: some documents begin with them, no more brackets are open at once than are
+-- allowed, and each alias names an anchor before it in its document or may stay.
 pub record IsViable (o : OptionsData) (ls : List Lexeme) : Type 0 where
   pub begins : Begins ls
   pub nests : NestsWithin o.flow_nesting_limit nothing_before ls
@@ -44,8 +45,8 @@ pub record IsViable (o : OptionsData) (ls : List Lexeme) : Type 0 where
 abbrev pub IsNext : List ℕ → List Lexeme → Lexeme → Type 0
 IsNext x ls l = (to : ℕ) × ReachedTo x (ls ++ (l ∷ [])) to
 
--- Viable lexemes spell the text before the end, or before a document mark, and the opener of the innermost bracket that they leave
--- open stands at the mark.
+-- Viable lexemes spell the text before the end, or before a document mark, and the opener of the innermost bracket that
+-- they leave open stands at the mark.
 pub record Unclosed (o : OptionsData) (x : List ℕ) (opener : ℕ) (m : Mark) : Type 0 where
   pub before : List Lexeme
   pub at : ℕ
@@ -67,8 +68,8 @@ pub record TooDeep (o : OptionsData) (x : List ℕ) (m : Mark) : Type 0 where
   pub deeper : o.flow_nesting_limit < length (open_brackets (before ++ (opener ∷ [])))
   pub marks : m ≡ opener.source.start
 
--- Viable lexemes spell the text before a mark, and the next lexeme is an alias there that some documents go on with; no anchor before
--- it in its document has its name, and it may not be left unresolved.
+-- Viable lexemes spell the text before a mark, and the next lexeme is an alias there that some documents go on with; no
+-- anchor before it in its document has its name, and it may not be left unresolved.
 pub record Unknown (o : OptionsData) (x : List ℕ) (m : Mark) : Type 0 where
   pub before : List Lexeme
   pub alias : Lexeme
@@ -86,7 +87,8 @@ pub data NotTaken (o : OptionsData) (x : List ℕ) (ls : List Lexeme) (i : ℕ) 
   -- the end, where the lexemes spell no documents
   at_end : i ≡ length x → ((ds : Documents) → spell_documents ds [] ≢ ls) → NotTaken o x ls i
   -- directly behind the last lexeme, which wants a gap, something else
-  at_no_gap : (front : List Lexeme) (l : Lexeme) → ls ≡ front ++ (l ∷ []) → wants_gap l.kind ≡ true → l.source.end ≡ mark_at x i
+  at_no_gap : (front : List Lexeme) (l : Lexeme) → ls ≡ front ++ (l ∷ []) → wants_gap l.kind ≡ true
+      → l.source.end ≡ mark_at x i
       → i < length x → is_gap (first (drop i x)) ≡ false → NotTaken o x ls i
   -- a lexeme that follows these in no documents, and opens no bracket more than are allowed
   at_lexeme : (l : Lexeme) (cs behind : List ℕ) → IsLexeme x i l cs behind
@@ -96,8 +98,8 @@ pub data NotTaken (o : OptionsData) (x : List ℕ) (ls : List Lexeme) (i : ℕ) 
   at_foreign : i < length x → is_gap (first (drop i x)) ≡ false
       → ((l : Lexeme) (cs behind : List ℕ) → IsLexeme x i l cs behind → ⊥) → NotTaken o x ls i
 
--- The text is no plain flow document under any options. The lexemes before the mark are viable, and with what stands at the mark they
--- begin no documents; no bracket is open there, if that is the end or a document mark.
+-- The text is no plain flow document under any options. The lexemes before the mark are viable, and with what stands at
+-- the mark they begin no documents; no bracket is open there, if that is the end or a document mark.
 pub record NotPlainFlow (o : OptionsData) (x : List ℕ) (m : Mark) : Type 0 where
   pub before : List Lexeme
   pub at : ℕ
@@ -108,8 +110,8 @@ pub record NotPlainFlow (o : OptionsData) (x : List ℕ) (m : Mark) : Type 0 whe
   pub closed : (at ≡ length x) ⊎ IsDocumentMark x at → open_brackets before ≡ []
   pub marks : m ≡ mark_at x at
 
--- The cause of a kind at a mark. Want of memory and the kinds that are never answered have none. A text has one at most (law
--- `one_cause`).
+-- The cause of a kind at a mark. Want of memory and the kinds that are never answered have none. A text has one at most
+-- (law `one_cause`).
 abbrev pub Cause : OptionsData → List ℕ → FaultKind → Mark → Type 0
 Cause o x (UnclosedFlowCollection opener) m = Unclosed o x opener m
 Cause o x RecursionLimitExceeded m = TooDeep o x m

@@ -15,9 +15,11 @@ abbrev pub has_backslash : List ℕ → Bool
 has_backslash [] = false
 has_backslash (c ∷ cs) = c == 0x5C || has_backslash cs
 
--- the characters of a URI, and the bytes that they spell: `%` and two hexadecimal digits a byte, another character itself
+-- the characters of a URI, and the bytes that they spell: `%` and two hexadecimal digits a byte, another character
+-- itself
 pub data UriBytes : List ℕ → List ℕ → Type 0 where
   nothing : UriBytes [] []
-  itself : {c : ℕ} {uri bytes : List ℕ} → is_uri_char c ≡ true → c ≢ 0x25 → UriBytes uri bytes → UriBytes (c ∷ uri) (c ∷ bytes)
+  itself : {c : ℕ} {uri bytes : List ℕ} → is_uri_char c ≡ true → c ≢ 0x25 → UriBytes uri bytes
+      → UriBytes (c ∷ uri) (c ∷ bytes)
   percent : {high low : ℕ} {uri bytes : List ℕ} → is_hex high ≡ true → is_hex low ≡ true → UriBytes uri bytes
       → UriBytes (0x25 ∷ high ∷ low ∷ uri) ((hex_value high * 16 + hex_value low) ∷ bytes)

@@ -3,7 +3,8 @@ use Rattle.std.specs.Prelude.{◌≡◌, ◌≢◌, ℕ, true, false, ◌+◌, n
 use Rattle.std.specs.Str.{encode_utf8_all}
 use lib.Utf8.{scalars}
 use Rattle.granit_base.specs.declared.style.ScalarStyle.TheVariants.{DoubleQuoted}
-use Rattle.granit_flow.specs.Lexeme.{Lexeme, LexemeKind, DocumentStart, SequenceOpen, SequenceClose, MappingOpen, MappingClose, Comma, Question, Colon, Tag, Anchor, Alias, Scalar}
+use Rattle.granit_flow.specs.Lexeme.{Lexeme, LexemeKind, DocumentStart, SequenceOpen, SequenceClose, MappingOpen}
+use Rattle.granit_flow.specs.Lexeme.{MappingClose, Comma, Question, Colon, Tag, Anchor, Alias, Scalar}
 use Rattle.granit_lexemes.specs.Place.{place_of, mark_at}
 use Rattle.granit_base.specs.Classes.{is_anchor_char}
 use Rattle.granit_base.specs.Place.{first}
@@ -23,14 +24,18 @@ pub data Spells : LexemeKind → List ℕ → Type 0 where
   question : Spells Question (0x3F ∷ [])
   colon : Spells Colon (0x3A ∷ [])
   -- `!<`, a URI that spells the bytes of a text, and `>` (6.9.1)
-  verbatim : {uri bytes suffix : List ℕ} → UriBytes uri bytes → uri ≢ [] → scalars suffix ≡ true → encode_utf8_all suffix ≡ bytes
+  verbatim : {uri bytes suffix : List ℕ} → UriBytes uri bytes → uri ≢ [] → scalars suffix ≡ true
+      → encode_utf8_all suffix ≡ bytes
       → Spells (Tag suffix) (0x21 ∷ 0x3C ∷ (uri ++ 0x3E ∷ []))
   -- `&` or `*` and a name of one or more characters, lent from the text (6.9.2, 7.1)
-  anchor : {name : List ℕ} → Each is_anchor_char name → name ≢ [] → Spells (Anchor (record { characters = name; is_borrowed = true })) (0x26 ∷ name)
-  alias : {name : List ℕ} → Each is_anchor_char name → name ≢ [] → Spells (Alias (record { characters = name; is_borrowed = true })) (0x2A ∷ name)
+  anchor : {name : List ℕ} → Each is_anchor_char name → name ≢ []
+      → Spells (Anchor (record { characters = name; is_borrowed = true })) (0x26 ∷ name)
+  alias : {name : List ℕ} → Each is_anchor_char name → name ≢ []
+      → Spells (Alias (record { characters = name; is_borrowed = true })) (0x2A ∷ name)
   -- a double-quoted scalar on one line, lent from the text where it holds no escape (7.3.1)
   quoted : {content value : List ℕ} → Content content value
-      → Spells (Scalar DoubleQuoted (record { characters = value; is_borrowed = not (has_backslash content) })) (0x22 ∷ (content ++ 0x22 ∷ []))
+      → Spells (Scalar DoubleQuoted (record { characters = value; is_borrowed = not (has_backslash content) }))
+      (0x22 ∷ (content ++ 0x22 ∷ []))
 
 -- where a kind may begin: a document mark in column 0 alone
 abbrev pub MayBegin : List ℕ → ℕ → LexemeKind → Type 0

@@ -29,7 +29,8 @@ mark_of h = record { place = h.place; byte_offset = h.unread.offset }
 
 -- one character on, stopping at the end
 unfoldable pub step : Here → Here
-step h = if length h.unread.text == 0 then h else record { unread = past_first h.unread; place = place_after h.unread.text h.place }
+step h = if length h.unread.text == 0 then h else
+    record { unread = past_first h.unread; place = place_after h.unread.text h.place }
 
 abbrev pub chosen : Bool → Here → Here → Here
 chosen true a b = a
@@ -59,5 +60,10 @@ past_chunk test h = record {
     offset = option_map (λ n. n + length (encode_utf8_all (chunk test h))) h.unread.offset;
     lends = h.unread.lends;
   };
-  place = record { index = h.place.index + chunk_len test h; line = h.place.line; column = h.place.column + chunk_len test h };
+  place = record {
+    index = h.place.index + chunk_len test h;
+    line = h.place.line;
+    column = h.place.column + chunk_len
+        test h;
+  };
 }

@@ -35,11 +35,16 @@ abbrev pub size : MachineState → ℕ
 size s = text_len s.reader.here
 
 abbrev pub machine_start : Here → MachineState
-machine_start h = record { reader = record { here = h; openers = []; owes_gap = false }; parser = record { path = []; anchors = no_anchors } }
+machine_start h = record {
+  reader = record { here = h; openers = []; owes_gap = false };
+  parser =
+      record { path = []; anchors = no_anchors };
+}
 
 -- the events of all turns, between those of the stream
 abbrev pub stream_events : Here → List PlainEvent → MachineState → List PlainEvent
-stream_events h events s = event_on StreamStart (mark_of h) ∷ (events ++ event_on StreamEnd (mark_of s.reader.here) ∷ [])
+stream_events h events s = event_on StreamStart (mark_of h)
+    ∷ (events ++ event_on StreamEnd (mark_of s.reader.here) ∷ [])
 
 abbrev pub events_from : OptionsData → Here → Result (List PlainEvent) Fault
 events_from o h = pieces size (turn o) (machine_start h) >>= λ x. Ok (stream_events h x.0 x.1)

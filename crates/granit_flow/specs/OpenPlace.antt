@@ -5,11 +5,16 @@ use Rattle.granit_error.specs.OptionsData.{OptionsData}
 use Rattle.granit_flow.specs.Lexeme.{Lexeme, DocumentStart, SequenceOpen, MappingOpen, Comma, Question, Colon}
 use Rattle.granit_lexemes.specs.Source.{Source}
 use Rattle.granit_flow.specs.Node.{NodeProperties, Node, Entries, Pairs, PairLead, Documents}
-use Rattle.granit_flow.specs.Yield.{lexeme, spell_properties, spell, spell_entries, spell_pairs, spell_pair_lead, spell_documents}
-use Rattle.granit_lexemes.specs.PlainEvent.{PlainEvent, event_at, DocumentStart as DocumentStarts, SequenceStart, MappingStart}
-use Rattle.granit_flow.specs.Scope.{Scope, in_new_document, anchored, behind_node, behind_entries, behind_pairs, behind_pair_lead, behind_documents}
-use Rattle.granit_flow.specs.Events.{start_events, node_events, entry_events, pair_events, pair_lead_events, document_events}
-use Rattle.granit_flow.specs.Path.{Path, Root, FlowSequence, SequenceOpened, AtEntry, BehindEntry, FlowMapping, MappingOpened, AtPair, AtKey, BehindKey, AtValue, BehindPair, WithProperties}
+use Rattle.granit_flow.specs.Yield.{lexeme, spell_properties, spell, spell_entries, spell_pairs, spell_pair_lead}
+use Rattle.granit_flow.specs.Yield.{spell_documents}
+use Rattle.granit_lexemes.specs.PlainEvent.{PlainEvent, event_at, DocumentStart as DocumentStarts, SequenceStart}
+use Rattle.granit_lexemes.specs.PlainEvent.{MappingStart}
+use Rattle.granit_flow.specs.Scope.{Scope, in_new_document, anchored, behind_node, behind_entries, behind_pairs}
+use Rattle.granit_flow.specs.Scope.{behind_pair_lead, behind_documents}
+use Rattle.granit_flow.specs.Events.{start_events, node_events, entry_events, pair_events, pair_lead_events}
+use Rattle.granit_flow.specs.Events.{document_events}
+use Rattle.granit_flow.specs.Path.{Path, Root, FlowSequence, SequenceOpened, AtEntry, BehindEntry, FlowMapping}
+use Rattle.granit_flow.specs.Path.{MappingOpened, AtPair, AtKey, BehindKey, AtValue, BehindPair, WithProperties}
 
 -- a place where a node must stand, with all that stands before it in the unfinished nodes around it
 pub data Hole : Type 0 where
@@ -21,7 +26,8 @@ pub data Hole : Type 0 where
   NextEntryHole : Hole → NodeProperties → (opener : Source) → Entries → (comma : Source) → Hole
   -- a key, behind `?`, and its value, behind `:` (7.4.2)
   KeyHole : Hole → NodeProperties → (opener : Source) → PairLead → (question : Source) → Hole
-  ValueHole : Hole → NodeProperties → (opener : Source) → PairLead → (question : Source) → Node → (colon : Source) → Hole
+  ValueHole : Hole → NodeProperties → (opener : Source) → PairLead → (question : Source) → Node → (colon : Source)
+      → Hole
 
 -- a place where lexemes may go on
 pub data OpenPlace : Type 0 where
@@ -42,20 +48,28 @@ pub data OpenPlace : Type 0 where
 abbrev pub spell_hole : Hole → List Lexeme → List Lexeme
 spell_hole (RootHole ds m) more = spell_documents ds (lexeme DocumentStart m ∷ more)
 spell_hole (FirstEntryHole h p s) more = spell_hole h (spell_properties p (lexeme SequenceOpen s ∷ more))
-spell_hole (NextEntryHole h p s entries c) more = spell_hole h (spell_properties p (lexeme SequenceOpen s ∷ spell_entries entries (lexeme Comma c ∷ more)))
-spell_hole (KeyHole h p s lead q) more = spell_hole h (spell_properties p (lexeme MappingOpen s ∷ spell_pair_lead lead (lexeme Question q ∷ more)))
-spell_hole (ValueHole h p s lead q k c) more = spell_hole h (spell_properties p (lexeme MappingOpen s ∷ spell_pair_lead lead (lexeme Question q ∷ spell k (lexeme Colon c ∷ more))))
+spell_hole (NextEntryHole h p s entries c) more = spell_hole h
+    (spell_properties p (lexeme SequenceOpen s ∷ spell_entries entries (lexeme Comma c ∷ more)))
+spell_hole (KeyHole h p s lead q) more = spell_hole h
+    (spell_properties p (lexeme MappingOpen s ∷ spell_pair_lead lead (lexeme Question q ∷ more)))
+spell_hole (ValueHole h p s lead q k c) more = spell_hole h
+    (spell_properties p (lexeme MappingOpen s
+    ∷ spell_pair_lead lead (lexeme Question q ∷ spell k (lexeme Colon c ∷ more))))
 
 -- the lexemes before an open place, and then more
 abbrev pub spell_open : OpenPlace → List Lexeme → List Lexeme
 spell_open (BetweenDocuments ds) more = spell_documents ds more
 spell_open (AtHole h) more = spell_hole h more
 spell_open (AfterProperties h p) more = spell_hole h (spell_properties p more)
-spell_open (AfterEntry h p s entries) more = spell_hole h (spell_properties p (lexeme SequenceOpen s ∷ spell_entries entries more))
+spell_open (AfterEntry h p s entries) more = spell_hole h
+    (spell_properties p (lexeme SequenceOpen s ∷ spell_entries entries more))
 spell_open (AfterMappingOpen h p s) more = spell_hole h (spell_properties p (lexeme MappingOpen s ∷ more))
-spell_open (AfterPairComma h p s pairs c) more = spell_hole h (spell_properties p (lexeme MappingOpen s ∷ spell_pairs pairs (lexeme Comma c ∷ more)))
-spell_open (AfterKey h p s lead q k) more = spell_hole h (spell_properties p (lexeme MappingOpen s ∷ spell_pair_lead lead (lexeme Question q ∷ spell k more)))
-spell_open (AfterPair h p s pairs) more = spell_hole h (spell_properties p (lexeme MappingOpen s ∷ spell_pairs pairs more))
+spell_open (AfterPairComma h p s pairs c) more = spell_hole h
+    (spell_properties p (lexeme MappingOpen s ∷ spell_pairs pairs (lexeme Comma c ∷ more)))
+spell_open (AfterKey h p s lead q k) more = spell_hole h
+    (spell_properties p (lexeme MappingOpen s ∷ spell_pair_lead lead (lexeme Question q ∷ spell k more)))
+spell_open (AfterPair h p s pairs) more = spell_hole h
+    (spell_properties p (lexeme MappingOpen s ∷ spell_pairs pairs more))
 
 -- the unfinished nodes around a hole, without their pieces
 abbrev pub hole_path : Hole → Path
@@ -98,22 +112,36 @@ open_scope (AfterPair h p s pairs) = behind_pairs pairs (anchored p.anchor (hole
 -- the events before a hole, and then more
 abbrev pub hole_events : OptionsData → Hole → List PlainEvent → List PlainEvent
 hole_events o (RootHole ds m) more = document_events o ds (event_at (DocumentStarts true None) m ∷ more)
-hole_events o (FirstEntryHole h p s) more = hole_events o h (start_events o (hole_scope h) p (SequenceStart Flow) s more)
-hole_events o (NextEntryHole h p s entries c) more = hole_events o h (start_events o (hole_scope h) p (SequenceStart Flow) s (entry_events o (anchored p.anchor (hole_scope h)) entries more))
-hole_events o (KeyHole h p s lead q) more = hole_events o h (start_events o (hole_scope h) p (MappingStart Flow) s (pair_lead_events o (anchored p.anchor (hole_scope h)) lead more))
+hole_events o (FirstEntryHole h p s) more = hole_events o h
+    (start_events o (hole_scope h) p (SequenceStart Flow) s more)
+hole_events o (NextEntryHole h p s entries c) more = hole_events o h
+    (start_events o (hole_scope h) p (SequenceStart Flow) s
+    (entry_events o (anchored p.anchor (hole_scope h)) entries more))
+hole_events o (KeyHole h p s lead q) more = hole_events o h
+    (start_events o (hole_scope h) p (MappingStart Flow) s
+    (pair_lead_events o (anchored p.anchor (hole_scope h)) lead more))
 hole_events o (ValueHole h p s lead q k c) more =
     hole_events o h (start_events o (hole_scope h) p (MappingStart Flow) s
-    (pair_lead_events o (anchored p.anchor (hole_scope h)) lead (node_events o (behind_pair_lead lead (anchored p.anchor (hole_scope h))) k more)))
+    (pair_lead_events o (anchored p.anchor (hole_scope h)) lead
+    (node_events o (behind_pair_lead lead (anchored p.anchor (hole_scope h))) k more)))
 
 -- the events before an open place, and then more
 abbrev pub open_events : OptionsData → OpenPlace → List PlainEvent → List PlainEvent
 open_events o (BetweenDocuments ds) more = document_events o ds more
 open_events o (AtHole h) more = hole_events o h more
 open_events o (AfterProperties h p) more = hole_events o h more
-open_events o (AfterEntry h p s entries) more = hole_events o h (start_events o (hole_scope h) p (SequenceStart Flow) s (entry_events o (anchored p.anchor (hole_scope h)) entries more))
-open_events o (AfterMappingOpen h p s) more = hole_events o h (start_events o (hole_scope h) p (MappingStart Flow) s more)
-open_events o (AfterPairComma h p s pairs c) more = hole_events o h (start_events o (hole_scope h) p (MappingStart Flow) s (pair_events o (anchored p.anchor (hole_scope h)) pairs more))
+open_events o (AfterEntry h p s entries) more = hole_events o h
+    (start_events o (hole_scope h) p (SequenceStart Flow) s
+    (entry_events o (anchored p.anchor (hole_scope h)) entries more))
+open_events o (AfterMappingOpen h p s) more = hole_events o h
+    (start_events o (hole_scope h) p (MappingStart Flow) s more)
+open_events o (AfterPairComma h p s pairs c) more = hole_events o h
+    (start_events o (hole_scope h) p (MappingStart Flow) s
+    (pair_events o (anchored p.anchor (hole_scope h)) pairs more))
 open_events o (AfterKey h p s lead q k) more =
     hole_events o h (start_events o (hole_scope h) p (MappingStart Flow) s
-    (pair_lead_events o (anchored p.anchor (hole_scope h)) lead (node_events o (behind_pair_lead lead (anchored p.anchor (hole_scope h))) k more)))
-open_events o (AfterPair h p s pairs) more = hole_events o h (start_events o (hole_scope h) p (MappingStart Flow) s (pair_events o (anchored p.anchor (hole_scope h)) pairs more))
+    (pair_lead_events o (anchored p.anchor (hole_scope h)) lead
+    (node_events o (behind_pair_lead lead (anchored p.anchor (hole_scope h))) k more)))
+open_events o (AfterPair h p s pairs) more = hole_events o h
+    (start_events o (hole_scope h) p (MappingStart Flow) s
+    (pair_events o (anchored p.anchor (hole_scope h)) pairs more))

@@ -1,5 +1,6 @@
 -- The plain machine's reading of tags, anchors and aliases. What can't be read is refused at its first character.
-use Rattle.std.specs.Prelude.{ℕ, ◌+◌, ◌*◌, Bool, ◌==◌, ◌&&◌, not, nat_eq, if◌then◌else◌, List, [], ◌∷◌, length, slice_index, Option, Some, None, Result, Ok}
+use Rattle.std.specs.Prelude.{ℕ, ◌+◌, ◌*◌, Bool, ◌==◌, ◌&&◌, not, nat_eq, if◌then◌else◌, List, [], ◌∷◌, length}
+use Rattle.std.specs.Prelude.{slice_index, Option, Some, None, Result, Ok}
 use Rattle.std.specs.Str.{chars, encode_utf8_all}
 use lib.Utf8.{scalars}
 use lib.Pointwise.{pointwise}
@@ -14,7 +15,11 @@ use Rattle.granit_flow.specs.Quoted.{refuse_at}
 unfoldable pub percent_byte : Mark → Here → Result (Option (List ℕ) × Here) Fault
 percent_byte start h =
     if is_hex (slice_index h.unread.text 1) && is_hex (slice_index h.unread.text 2) then
-    Ok (Some ((hex_value (slice_index h.unread.text 1) * 16 + hex_value (slice_index h.unread.text 2)) ∷ []), step (step (step h)))
+    Ok (
+      Some ((hex_value (slice_index h.unread.text 1) * 16 + hex_value (slice_index h.unread.text 2)) ∷ []),
+      step
+          (step (step h)),
+    )
     else refuse_at start
 
 -- the next byte that a URI spells, or None where `>` closes the tag

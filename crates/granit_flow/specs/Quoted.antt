@@ -1,5 +1,7 @@
--- The plain machine's reading of a double-quoted scalar that holds escapes. What can't be read is refused at the scalar's start.
-use Rattle.std.specs.Prelude.{ℕ, zero, suc, ◌+◌, ◌*◌, ◌==◌, ◌&&◌, if◌then◌else◌, List, ◌∷◌, slice_index, Option, Some, None, Result, Ok, Err}
+-- The plain machine's reading of a double-quoted scalar that holds escapes. What can't be read is refused at the
+-- scalar's start.
+use Rattle.std.specs.Prelude.{ℕ, zero, suc, ◌+◌, ◌*◌, ◌==◌, ◌&&◌, if◌then◌else◌, List, ◌∷◌, slice_index, Option, Some}
+use Rattle.std.specs.Prelude.{None, Result, Ok, Err}
 use lib.Utf8.{scalar}
 use Rattle.granit_base.specs.Classes.{is_hex, hex_value}
 use Rattle.granit_base.specs.Place.{Mark}
@@ -50,7 +52,8 @@ escape start h = escape_by start (letter_value (next_char h)) (digit_count (next
 unfoldable pub escaped_piece : Mark → Here → Result (Option (List ℕ) × Here) Fault
 escaped_piece start h =
     if next_char h == 0x22 then Ok (None, h)
-    else if next_char h == 0x5C then (escape start (step h) >>= λ x. Ok (Some (x.0 ∷ chunk is_inner x.1), past_chunk is_inner x.1))
+    else if next_char h == 0x5C then (escape start (step h) >>= λ x. Ok
+    (Some (x.0 ∷ chunk is_inner x.1), past_chunk is_inner x.1))
     else refuse_at start
 
 -- the characters from an escape up to the closing quote

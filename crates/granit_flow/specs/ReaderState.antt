@@ -1,5 +1,6 @@
 -- The plain machine's reader: the next lexeme, from the state that the lexemes before it left.
-use Rattle.std.specs.Prelude.{ℕ, Bool, true, false, ◌==◌, ◌&&◌, nat_le, if◌then◌else◌, List, [], ◌∷◌, length, slice_index, Option, Some, None, Result, Ok, Err}
+use Rattle.std.specs.Prelude.{ℕ, Bool, true, false, ◌==◌, ◌&&◌, nat_le, if◌then◌else◌, List, [], ◌∷◌, length}
+use Rattle.std.specs.Prelude.{slice_index, Option, Some, None, Result, Ok, Err}
 use Rattle.granit_base.specs.Classes.{is_gap, is_anchor_char}
 use Rattle.granit_base.specs.Written.{Written}
 use Rattle.granit_flow.specs.Property.{uri_bytes, is_suffix}
@@ -11,8 +12,12 @@ use Rattle.granit_flow.specs.Here.{Here, text_len, next_char, mark_of, step, pas
 use Rattle.granit_lexemes.specs.Outcome.{Fault, fault_at, ◌>>=◌}
 use Rattle.granit_lexemes.specs.Pieces.{with_front}
 use Rattle.granit_flow.specs.Quoted.{escaped_pieces}
-use Rattle.granit_flow.specs.Lexeme.{Lexeme, LexemeKind, DocumentStart, SequenceOpen, SequenceClose, MappingOpen, MappingClose, Comma, Question, Colon, Tag, Anchor, Alias, Scalar, wants_gap, Bracket, Square, Curly, Opener, opener_char}
-use Rattle.granit_flow.specs.Start.{Glyph, Dash, DoubleQuote, LeftSquare, RightSquare, LeftCurly, RightCurly, CommaSign, QuestionSign, ColonSign, Exclamation, Ampersand, Asterisk, Foreign, glyph, is_inner, at_document_start, is_separated}
+use Rattle.granit_flow.specs.Lexeme.{Lexeme, LexemeKind, DocumentStart, SequenceOpen, SequenceClose, MappingOpen}
+use Rattle.granit_flow.specs.Lexeme.{MappingClose, Comma, Question, Colon, Tag, Anchor, Alias, Scalar, wants_gap}
+use Rattle.granit_flow.specs.Lexeme.{Bracket, Square, Curly, Opener, opener_char}
+use Rattle.granit_flow.specs.Start.{Glyph, Dash, DoubleQuote, LeftSquare, RightSquare, LeftCurly, RightCurly, CommaSign}
+use Rattle.granit_flow.specs.Start.{QuestionSign, ColonSign, Exclamation, Ampersand, Asterisk, Foreign, glyph, is_inner}
+use Rattle.granit_flow.specs.Start.{at_document_start, is_separated}
 
 -- where reading stands, the brackets that are open there, the innermost first, and whether the last lexeme wants a gap
 pub record ReaderState : Type 0 where
@@ -53,28 +58,34 @@ dash openers h = if at_document_start h then mark_in (is_separated h) openers h 
 
 -- a double-quoted scalar, from its quote up to where it closes
 abbrev pub closed_quote : List Opener → Here → Bool → List ℕ → Here → Read
-closed_quote openers h lends value closing = lexed (Scalar DoubleQuoted (record { characters = value; is_borrowed = lends })) h (step closing) openers
+closed_quote openers h lends value closing = lexed
+    (Scalar DoubleQuoted (record { characters = value; is_borrowed = lends })) h (step closing) openers
 
 -- a double-quoted scalar on one line
 unfoldable pub double_quoted : List Opener → Here → Read
 double_quoted openers h =
-    if next_char (past_chunk is_inner (step h)) == 0x22 then closed_quote openers h h.unread.lends (chunk is_inner (step h)) (past_chunk is_inner (step h))
-    else (with_front (chunk is_inner (step h)) (escaped_pieces (mark_of h) (past_chunk is_inner (step h))) >>= λ x. closed_quote openers h false x.0 x.1)
+    if next_char (past_chunk is_inner (step h)) == 0x22 then closed_quote openers h h.unread.lends
+    (chunk is_inner (step h)) (past_chunk is_inner (step h))
+    else (with_front (chunk is_inner (step h)) (escaped_pieces (mark_of h) (past_chunk is_inner (step h))) >>=
+    λ x. closed_quote openers h false x.0 x.1)
 
 -- a verbatim tag, from its `!` up to its `>`
 abbrev pub closed_tag : List Opener → Here → List ℕ → Here → Read
-closed_tag openers h bytes closing = if is_suffix bytes then lexed (Tag (chars bytes)) h (step closing) openers else refuse NotBuilt h
+closed_tag openers h bytes closing = if is_suffix bytes then lexed (Tag (chars bytes)) h (step closing) openers else
+    refuse NotBuilt h
 
 unfoldable pub verbatim_tag : List Opener → Here → Read
 verbatim_tag openers h =
-    if slice_index h.unread.text 1 == 0x3C then (uri_bytes (mark_of h) (step (step h)) >>= λ x. closed_tag openers h x.0 x.1)
+    if slice_index h.unread.text 1 == 0x3C then
+    (uri_bytes (mark_of h) (step (step h)) >>= λ x. closed_tag openers h x.0 x.1)
     else refuse NotBuilt h
 
 -- an anchor or an alias: the name behind its first character
 unfoldable pub named : (Written → LexemeKind) → List Opener → Here → Read
 named kind openers h =
     if chunk_len is_anchor_char (step h) == 0 then refuse NotBuilt h
-    else lexed (kind (record { characters = chunk is_anchor_char (step h); is_borrowed = h.unread.lends })) h (past_chunk is_anchor_char (step h)) openers
+    else lexed (kind (record { characters = chunk is_anchor_char (step h); is_borrowed = h.unread.lends })) h
+    (past_chunk is_anchor_char (step h)) openers
 
 abbrev pub open_kind : Bracket → LexemeKind
 open_kind Square = SequenceOpen

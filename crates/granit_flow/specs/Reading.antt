@@ -2,7 +2,8 @@
 use Rattle.std.specs.Prelude.{◌≡◌, ℕ, ◌+◌, ◌≤◌, Bool, false, List, [], ◌∷◌, ◌++◌, length, drop}
 use Rattle.granit_base.specs.Place.{Mark}
 use Rattle.granit_error.specs.OptionsData.{OptionsData}
-use Rattle.granit_flow.specs.Lexeme.{Lexeme, LexemeKind, SequenceOpen, SequenceClose, MappingOpen, MappingClose, wants_gap, Square, Curly, Opener}
+use Rattle.granit_flow.specs.Lexeme.{Lexeme, LexemeKind, SequenceOpen, SequenceClose, MappingOpen, MappingClose}
+use Rattle.granit_flow.specs.Lexeme.{wants_gap, Square, Curly, Opener}
 use Rattle.granit_lexemes.specs.Gap.{StandsAt, IsGap, Parts}
 use Rattle.granit_flow.specs.Extent.{IsLexeme}
 use Rattle.granit_flow.specs.Events.{events}
@@ -48,7 +49,8 @@ abbrev pub NestsWithin : ℕ → Before → List Lexeme → Type 0
 NestsWithin limit b [] = Unit {0}
 NestsWithin limit b (l ∷ ls) = (length (behind_lexeme b l).openers ≤ limit) × NestsWithin limit (behind_lexeme b l) ls
 
--- These lexemes are those of the whole text, the documents spell them, and no more brackets than allowed are open at once.
+-- These lexemes are those of the whole text, the documents spell them, and no more brackets than allowed are open at
+-- once.
 pub record Reading (o : OptionsData) (x : List ℕ) (lexemes : List Lexeme) (documents : Documents) : Type 0 where
   pub reached : Reached x nothing_before 0 lexemes (length x)
   pub spelled : spell_documents documents [] ≡ lexemes
@@ -56,4 +58,5 @@ pub record Reading (o : OptionsData) (x : List ℕ) (lexemes : List Lexeme) (doc
 
 -- these are the events of documents as which the text is read, each alias of an anchor before it or left unresolved
 abbrev pub IsReading : OptionsData → List ℕ → List PlainEvent → Type 0
-IsReading o x es = (lexemes : List Lexeme) × (documents : Documents) × Reading o x lexemes documents × Resolves o [] lexemes × (es ≡ events o x documents)
+IsReading o x es = (lexemes : List Lexeme) × (documents : Documents) × Reading o x lexemes documents
+    × Resolves o [] lexemes × (es ≡ events o x documents)

@@ -1,9 +1,12 @@
 -- Scope: the numbers of anchors, and which anchor an alias names (YAML 1.2.2, 3.2.2.2, 6.9.2 and 7.1).
-use Rattle.std.specs.Prelude.{◌≡◌, ℕ, suc, true, List, [], ◌∷◌, nat_eq, if◌then◌else◌, Option, Some, None, ◌⊎◌, Contains}
+use Rattle.std.specs.Prelude.{◌≡◌, ℕ, suc, true, List, [], ◌∷◌, nat_eq, if◌then◌else◌, Option, Some, None, ◌⊎◌}
+use Rattle.std.specs.Prelude.{Contains}
 use lib.Pointwise.{pointwise}
 use Rattle.granit_error.specs.OptionsData.{OptionsData}
 use Rattle.granit_flow.specs.Lexeme.{Lexeme, LexemeKind, DocumentStart, Anchor, Alias}
-use Rattle.granit_flow.specs.Node.{AnchorAt, Node, AliasNode, ScalarNode, EmptySequence, Sequence, EmptyMapping, Mapping, Entries, Entry, EntryLead, FirstEntry, NextEntry, Pairs, Pair, PairLead, FirstPair, NextPair, Documents, NoDocument, Document}
+use Rattle.granit_flow.specs.Node.{AnchorAt, Node, AliasNode, ScalarNode, EmptySequence, Sequence, EmptyMapping}
+use Rattle.granit_flow.specs.Node.{Mapping, Entries, Entry, EntryLead, FirstEntry, NextEntry, Pairs, Pair, PairLead}
+use Rattle.granit_flow.specs.Node.{FirstPair, NextPair, Documents, NoDocument, Document}
 
 -- how many anchors stand before a place, and the names of those of its document with their numbers, the last first
 pub record Scope : Type 0 where

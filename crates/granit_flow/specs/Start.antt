@@ -5,7 +5,8 @@ use Rattle.granit_flow.specs.Here.{Here}
 
 -- a character by the lexeme that it may begin
 pub data Glyph : Type 0 where
-  Dash DoubleQuote LeftSquare RightSquare LeftCurly RightCurly CommaSign QuestionSign ColonSign Exclamation Ampersand Asterisk Foreign : Glyph
+  Dash DoubleQuote LeftSquare RightSquare LeftCurly RightCurly CommaSign QuestionSign ColonSign Exclamation Ampersand
+      Asterisk Foreign : Glyph
 
 unfoldable pub glyph : ℕ → Glyph
 glyph c =
@@ -30,7 +31,8 @@ is_inner c = (is_printable c && not (is_break c)) && not (c == 0x22 || c == 0x5C
 -- `---` in column 0 (9.1.2)
 abbrev pub at_document_start : Here → Bool
 at_document_start h =
-    ((h.place.column == 0 && slice_index h.unread.text 0 == 0x2D) && slice_index h.unread.text 1 == 0x2D) && slice_index h.unread.text 2 == 0x2D
+    ((h.place.column == 0 && slice_index h.unread.text 0 == 0x2D) && slice_index h.unread.text 1 == 0x2D)
+    && slice_index h.unread.text 2 == 0x2D
 
 -- a blank, a break, NUL or the end behind three characters
 abbrev pub is_separated : Here → Bool

@@ -1,8 +1,11 @@
 -- The lexemes that trees spell, in order.
 use Rattle.std.specs.Prelude.{List, ◌∷◌, Option, Some, None}
-use Rattle.granit_flow.specs.Lexeme.{Lexeme, LexemeKind, DocumentStart, SequenceOpen, SequenceClose, MappingOpen, MappingClose, Comma, Question, Colon, Tag, Anchor, Alias, Scalar}
+use Rattle.granit_flow.specs.Lexeme.{Lexeme, LexemeKind, DocumentStart, SequenceOpen, SequenceClose, MappingOpen}
+use Rattle.granit_flow.specs.Lexeme.{MappingClose, Comma, Question, Colon, Tag, Anchor, Alias, Scalar}
 use Rattle.granit_lexemes.specs.Source.{Source}
-use Rattle.granit_flow.specs.Node.{TagAt, AnchorAt, NodeProperties, Node, AliasNode, ScalarNode, EmptySequence, Sequence, EmptyMapping, Mapping, Entries, Entry, EntryLead, FirstEntry, NextEntry, Pairs, Pair, PairLead, FirstPair, NextPair, Documents, NoDocument, Document}
+use Rattle.granit_flow.specs.Node.{TagAt, AnchorAt, NodeProperties, Node, AliasNode, ScalarNode, EmptySequence}
+use Rattle.granit_flow.specs.Node.{Sequence, EmptyMapping, Mapping, Entries, Entry, EntryLead, FirstEntry, NextEntry}
+use Rattle.granit_flow.specs.Node.{Pairs, Pair, PairLead, FirstPair, NextPair, Documents, NoDocument, Document}
 
 abbrev pub lexeme : LexemeKind → Source → Lexeme
 lexeme kind source = record { kind = kind; source = source }
@@ -25,9 +28,11 @@ abbrev mutual
   spell (AliasNode s name) more = lexeme (Alias name) s ∷ more
   spell (ScalarNode p s style text) more = spell_properties p (lexeme (Scalar style text) s ∷ more)
   spell (EmptySequence p s e) more = spell_properties p (lexeme SequenceOpen s ∷ lexeme SequenceClose e ∷ more)
-  spell (Sequence p s entries e) more = spell_properties p (lexeme SequenceOpen s ∷ spell_entries entries (lexeme SequenceClose e ∷ more))
+  spell (Sequence p s entries e) more = spell_properties p
+      (lexeme SequenceOpen s ∷ spell_entries entries (lexeme SequenceClose e ∷ more))
   spell (EmptyMapping p s e) more = spell_properties p (lexeme MappingOpen s ∷ lexeme MappingClose e ∷ more)
-  spell (Mapping p s pairs e) more = spell_properties p (lexeme MappingOpen s ∷ spell_pairs pairs (lexeme MappingClose e ∷ more))
+  spell (Mapping p s pairs e) more = spell_properties p
+      (lexeme MappingOpen s ∷ spell_pairs pairs (lexeme MappingClose e ∷ more))
 
   pub spell_entries : Entries → List Lexeme → List Lexeme
   spell_entries (Entry lead n) more = spell_entry_lead lead (spell n more)
@@ -37,7 +42,8 @@ abbrev mutual
   spell_entry_lead (NextEntry entries c) more = spell_entries entries (lexeme Comma c ∷ more)
 
   pub spell_pairs : Pairs → List Lexeme → List Lexeme
-  spell_pairs (Pair lead q k c v) more = spell_pair_lead lead (lexeme Question q ∷ spell k (lexeme Colon c ∷ spell v more))
+  spell_pairs (Pair lead q k c v) more = spell_pair_lead lead
+      (lexeme Question q ∷ spell k (lexeme Colon c ∷ spell v more))
 
   pub spell_pair_lead : PairLead → List Lexeme → List Lexeme
   spell_pair_lead FirstPair more = more

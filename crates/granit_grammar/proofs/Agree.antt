@@ -1,13 +1,17 @@
 -- The event machine gives the events of the stream that is read, or the fault of the open place.
 use Rattle.std.proofs.Common.{◌≡◌, List, [], ◌∷◌, ◌++◌, refl, sym, ◌∙◌, subst}
 use Rattle.granit_base.specs.Place.{Mark}
-use Rattle.granit_grammar.specs.EventMachine.{EventState, IsFresh, Ending, ending, ended_by, EventStep, take_frames, EventAnswer, Events, Faulty, Unfinished, events_before, outcome_at_end, go_on, go_closed, run_events_from, run_events}
+use Rattle.granit_grammar.specs.EventMachine.{EventState, IsFresh, Ending, ending, ended_by, EventStep, take_frames}
+use Rattle.granit_grammar.specs.EventMachine.{EventAnswer, Events, Faulty, Unfinished, events_before, outcome_at_end}
+use Rattle.granit_grammar.specs.EventMachine.{go_on, go_closed, run_events_from, run_events}
 use Rattle.granit_grammar.specs.PlaceFrames.{state_at}
-use Rattle.granit_grammar.specs.TreeMachine.{Next, take, Answer, ReadAs, RefusedAt, Short, at_end, tree_goes, parse, tree_start}
+use Rattle.granit_grammar.specs.TreeMachine.{Next, take, Answer, ReadAs, RefusedAt, Short, at_end, tree_goes, parse}
+use Rattle.granit_grammar.specs.TreeMachine.{tree_start}
 use Rattle.granit_language.specs.FaultKinds.{fault_kind_at}
 use Rattle.granit_language.specs.Node.{NoProperties, One, Two}
 use Rattle.granit_language.specs.OpenEvents.{open_events}
-use Rattle.granit_language.specs.OpenPlace.{OpenPlace, Fresh, InDirectives, BehindRoot, Ended, Want, PastEntry, PastKey, PastAsk, PastPair, PastItem, IsOpen}
+use Rattle.granit_language.specs.OpenPlace.{OpenPlace, Fresh, InDirectives, BehindRoot, Ended, Want, PastEntry, PastKey}
+use Rattle.granit_language.specs.OpenPlace.{PastAsk, PastPair, PastItem, IsOpen}
 use Rattle.granit_language.specs.Settling.{settle_place}
 use Rattle.granit_language.specs.Terminal.{Terminal, text_start}
 use Rattle.granit_language.specs.TreeEvents.{StreamStarts, TreeEvent, pointed, stream_events}

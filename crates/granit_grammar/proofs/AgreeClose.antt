@@ -1,17 +1,31 @@
 -- What a lexeme ends: the event machine's endings are those of the machine that builds trees.
-use Rattle.std.proofs.Common.{◌≡◌, ℕ, Bool, true, false, List, [], ◌∷◌, ◌++◌, refl, sym, ap, ◌∙◌, subst, ◌||◌, Some, None}
+use Rattle.std.proofs.Common.{◌≡◌, ℕ, Bool, true, false, List, [], ◌∷◌, ◌++◌, refl, sym, ap, ◌∙◌, subst, ◌||◌, Some}
+use Rattle.std.proofs.Common.{None}
 use Rattle.granit_base.specs.Place.{Mark}
-use Rattle.granit_grammar.specs.EventMachine.{FlowSequenceFrame, EventState, Ending, ending, with_event, past_sequence, past_mapping, past_asked, past_curly, past_curly_asked, past_made, past_square_asked, finish_frames, frames_room, frames_indent, close_frames, ended_by}
+use Rattle.granit_grammar.specs.EventMachine.{FlowSequenceFrame, EventState, Ending, ending, with_event, past_sequence}
+use Rattle.granit_grammar.specs.EventMachine.{past_mapping, past_asked, past_curly, past_curly_asked, past_made}
+use Rattle.granit_grammar.specs.EventMachine.{past_square_asked, finish_frames, frames_room, frames_indent}
+use Rattle.granit_grammar.specs.EventMachine.{close_frames, ended_by}
 use Rattle.granit_grammar.specs.PlaceFrames.{hole_frames, state_at}
 use Rattle.granit_language.specs.Choice.{choose}
-use Rattle.granit_language.specs.Node.{TreeProperties, NoProperties, One, Two, Node, Alone, Sequence, Mapping, Content, Nothing, Just, Entries, Entry, Through, PairLead, Pair, WithColon, AskOnly, SimpleKey, Asked, NoKey, FlowLead, Single, Paired, BareRoot, ExplicitRoot}
+use Rattle.granit_language.specs.Node.{TreeProperties, NoProperties, One, Two, Node, Alone, Sequence, Mapping, Content}
+use Rattle.granit_language.specs.Node.{Nothing, Just, Entries, Entry, Through, PairLead, Pair, WithColon, AskOnly}
+use Rattle.granit_language.specs.Node.{SimpleKey, Asked, NoKey, FlowLead, Single, Paired, BareRoot, ExplicitRoot}
 use Rattle.granit_language.specs.OpenEvents.{hole_indent, around_first, around_events, hole_events, open_events}
-use Rattle.granit_language.specs.OpenPlace.{Bare, Explicit, Around, BlockPairs, FlowPairs, Hole, AtRoot, AtEntry, AtItem, AtKey, AtAsk, AtColon, OpenPlace, Fresh, InDirectives, BehindRoot, Ended, Want, PastEntry, PastKey, PastAsk, PastPair, PastItem, holder, room_of, IsHole, IsOpen}
+use Rattle.granit_language.specs.OpenPlace.{Bare, Explicit, Around, BlockPairs, FlowPairs, Hole, AtRoot, AtEntry}
+use Rattle.granit_language.specs.OpenPlace.{AtItem, AtKey, AtAsk, AtColon, OpenPlace, Fresh, InDirectives, BehindRoot}
+use Rattle.granit_language.specs.OpenPlace.{Ended, Want, PastEntry, PastKey, PastAsk, PastPair, PastItem, holder}
+use Rattle.granit_language.specs.OpenPlace.{room_of, IsHole, IsOpen}
 use Rattle.granit_language.specs.Placed.{pair_front}
-use Rattle.granit_language.specs.Room.{BlockIn, FlowIn, Room, RightOf, ValueIn, KeyIn, BehindKey, ItemIn, Inside, behind_property, continues_node, entry_empty, sequence_over, value_empty, ask_empty, ask_over}
+use Rattle.granit_language.specs.Room.{BlockIn, FlowIn, Room, RightOf, ValueIn, KeyIn, BehindKey, ItemIn, Inside}
+use Rattle.granit_language.specs.Room.{behind_property, continues_node, entry_empty, sequence_over, value_empty}
+use Rattle.granit_language.specs.Room.{ask_empty, ask_over}
 use Rattle.granit_language.specs.Settling.{end_entries, end_pair, end_ask, finish_at, settle_want, settle_place}
-use Rattle.granit_language.specs.Terminal.{Question, At, Terminal, terminal, is_stream_kind, is_comma_kind, closes_kind, stands_left, no_terminal}
-use Rattle.granit_language.specs.TreeEvents.{SequenceEnds, MappingEnds, TreeEvent, pointed, null, indent_of_key, properties_end, alone_event, node_events, content_events, entries_events, pair_events, first_with, entries_first, first_terminal, node_end}
+use Rattle.granit_language.specs.Terminal.{Question, At, Terminal, terminal, is_stream_kind, is_comma_kind, closes_kind}
+use Rattle.granit_language.specs.Terminal.{stands_left, no_terminal}
+use Rattle.granit_language.specs.TreeEvents.{SequenceEnds, MappingEnds, TreeEvent, pointed, null, indent_of_key}
+use Rattle.granit_language.specs.TreeEvents.{properties_end, alone_event, node_events, content_events, entries_events}
+use Rattle.granit_language.specs.TreeEvents.{pair_events, first_with, entries_first, first_terminal, node_end}
 use Rattle.granit_lexemes.specs.declared.layout.Bracket.TheVariants.{Square, Curly}
 
 abbrev pub ending_state : Ending → EventState

@@ -1,19 +1,34 @@
 -- What a lexeme gives: the event machine's steps are those of the machine that builds trees.
 use Rattle.std.proofs.Common.{◌≡◌, ℕ, Bool, true, false, List, [], ◌∷◌, ◌++◌, refl, sym, ap, subst, Some, None}
 use Rattle.granit_base.specs.Place.{Mark}
-use Rattle.granit_grammar.specs.EventMachine.{SequenceFrame, EventState, InFrames, frames_room, frames_indent, EventStep, GoesTo, StopsWith, after_events, if_gives, put_frames, flow_frame, part_frames, BlockSite, entry_frames, plain_pair, begin_pair_frames, stop_kind, want_frames, take_top, take_frames}
+use Rattle.granit_grammar.specs.EventMachine.{SequenceFrame, EventState, InFrames, frames_room, frames_indent}
+use Rattle.granit_grammar.specs.EventMachine.{EventStep, GoesTo, StopsWith, after_events, if_gives, put_frames}
+use Rattle.granit_grammar.specs.EventMachine.{flow_frame, part_frames, BlockSite, entry_frames, plain_pair}
+use Rattle.granit_grammar.specs.EventMachine.{begin_pair_frames, stop_kind, want_frames, take_top, take_frames}
 use Rattle.granit_grammar.specs.PlaceFrames.{site_in, hole_frames, state_at}
-use Rattle.granit_grammar.specs.TreeMachine.{Next, Go, NotTaken, if_go, part_take, entry_take, entry_at, plain_site, pair_site, want_take, take}
+use Rattle.granit_grammar.specs.TreeMachine.{Next, Go, NotTaken, if_go, part_take, entry_take, entry_at, plain_site}
+use Rattle.granit_grammar.specs.TreeMachine.{pair_site, want_take, take}
 use Rattle.granit_language.specs.Choice.{choose}
 use Rattle.granit_language.specs.FaultKinds.{fault_kind_at}
 use Rattle.granit_language.specs.GrammarFault.{GrammarFault, ExpectedBlockMappingKey}
-use Rattle.granit_language.specs.Node.{TreeProperties, NoProperties, One, Two, Node, AliasNode, ScalarNode, Flow, Just, NoEntry, Through, PairLead, NoPair, AfterPair, Pair, WithColon, AskOnly, SimpleKey, Asked, NoKey, NoItem, NoLast, LastItem, Single, Paired}
+use Rattle.granit_language.specs.Node.{TreeProperties, NoProperties, One, Two, Node, AliasNode, ScalarNode, Flow, Just}
+use Rattle.granit_language.specs.Node.{NoEntry, Through, PairLead, NoPair, AfterPair, Pair, WithColon, AskOnly}
+use Rattle.granit_language.specs.Node.{SimpleKey, Asked, NoKey, NoItem, NoLast, LastItem, Single, Paired}
 use Rattle.granit_language.specs.OpenEvents.{hole_indent, around_first, around_before, hole_events, open_events}
-use Rattle.granit_language.specs.OpenPlace.{Bare, Explicit, Around, BlockPairs, FlowPairs, Hole, AtRoot, AtEntry, AtItem, AtKey, AtAsk, AtColon, OpenPlace, Fresh, InDirectives, BehindRoot, Want, PastEntry, PastKey, PastAsk, PastPair, PastItem, room_of, IsHole, IsOpen}
-use Rattle.granit_language.specs.Room.{BlockIn, FlowIn, Room, RightOf, ValueIn, KeyIn, BehindKey, ItemIn, Inside, behind_property, room_behind, right_fits, loose_fits, indicates, opens, part_fits, differ}
+use Rattle.granit_language.specs.OpenPlace.{Bare, Explicit, Around, BlockPairs, FlowPairs, Hole, AtRoot, AtEntry}
+use Rattle.granit_language.specs.OpenPlace.{AtItem, AtKey, AtAsk, AtColon, OpenPlace, Fresh, InDirectives, BehindRoot}
+use Rattle.granit_language.specs.OpenPlace.{Want, PastEntry, PastKey, PastAsk, PastPair, PastItem, room_of, IsHole}
+use Rattle.granit_language.specs.OpenPlace.{IsOpen}
+use Rattle.granit_language.specs.Room.{BlockIn, FlowIn, Room, RightOf, ValueIn, KeyIn, BehindKey, ItemIn, Inside}
+use Rattle.granit_language.specs.Room.{behind_property, room_behind, right_fits, loose_fits, indicates, opens}
+use Rattle.granit_language.specs.Room.{part_fits, differ}
 use Rattle.granit_language.specs.Settling.{put_in}
-use Rattle.granit_language.specs.Terminal.{PartKind, Alias, Property, Scalar, Open, TerminalKind, Directive, DocumentStart, DocumentEnd, TheEnd, Dash, Question, Comma, Colon, Close, Part, At, terminal, edge, entry_in, no_terminal}
-use Rattle.granit_language.specs.TreeEvents.{TreeEvent, scalar_event, alias_event, flow_start, sequence_start, mapping_start, pair_start, node_events, first_with, first_terminal, node_end, bare_document_start}
+use Rattle.granit_language.specs.Terminal.{PartKind, Alias, Property, Scalar, Open, TerminalKind, Directive}
+use Rattle.granit_language.specs.Terminal.{DocumentStart, DocumentEnd, TheEnd, Dash, Question, Comma, Colon, Close}
+use Rattle.granit_language.specs.Terminal.{Part, At, terminal, edge, entry_in, no_terminal}
+use Rattle.granit_language.specs.TreeEvents.{TreeEvent, scalar_event, alias_event, flow_start, sequence_start}
+use Rattle.granit_language.specs.TreeEvents.{mapping_start, pair_start, node_events, first_with, first_terminal}
+use Rattle.granit_language.specs.TreeEvents.{node_end, bare_document_start}
 use Rattle.granit_lexemes.specs.declared.layout.Bracket.{Bracket}
 use Rattle.granit_lexemes.specs.declared.layout.Bracket.TheVariants.{Square, Curly}
 use Rattle.granit_grammar.proofs.AgreeClose.{indent_same, forget, room_same, behind_same}

@@ -1,21 +1,41 @@
 -- What a placed tree spells is taken as that tree.
-use Rattle.std.proofs.Common.{◌≡◌, ℕ, Bool, true, false, List, [], ◌∷◌, refl, sym, ap, ◌∙◌, subst, ◌==◌, not, Some, None}
+use Rattle.std.proofs.Common.{◌≡◌, ℕ, Bool, true, false, List, [], ◌∷◌, refl, sym, ap, ◌∙◌, subst, ◌==◌, not, Some}
+use Rattle.std.proofs.Common.{None}
 use Rattle.granit_base.specs.Written.{Written}
 use Rattle.granit_base.specs.declared.style.ScalarStyle.{ScalarStyle}
 use Rattle.granit_grammar.specs.TreeMachine.{Go, if_go, part_take, ReadAs, parse, tree_start}
 use Rattle.granit_language.specs.Choice.{choose}
-use Rattle.granit_language.specs.Node.{TreeProperties, NoProperties, One, Two, Node, AliasNode, ScalarNode, Alone, Flow, Sequence, Mapping, Content, Nothing, Just, Entries, Entry, EntryLead, NoEntry, AfterEntry, Pairs, Through, PairLead, NoPair, AfterPair, Pair, WithColon, AskOnly, Left, SimpleKey, Asked, NoKey, FlowLead, NoItem, AfterItem, FlowLast, NoLast, LastItem, FlowItem, Single, Paired, Before, Beginning, ExtraEnd, Closed, Directives, FirstDirective, NextDirective, Start, AtFresh, AfterDirectives, AfterRoot, Rooted, BareRoot, ExplicitRoot, Stream, EndFresh, EndRooted}
-use Rattle.granit_language.specs.OpenPlace.{Bare, Explicit, Around, BlockPairs, FlowPairs, Hole, AtRoot, AtEntry, AtItem, AtKey, AtAsk, AtColon, Fresh, InDirectives, BehindRoot, Ended, Want, PastEntry, PastAsk, PastPair, PastItem, holder, room_of, AroundPlaced, HolePlaced, ItemOver}
-use Rattle.granit_language.specs.Placed.{PropertiesPlaced, SomeProperties, left_front, pair_front, Placed, ContentPlaced, EntriesPlaced, EntryLeadPlaced, PairsPlaced, PairLeadPlaced, PairPlaced, LeftPlaced, FlowPlaced, LastPlaced, ItemPlaced, BeforePlaced, DirectivesPlaced, StartPlaced, RootedPlaced, StreamPlaced}
-use Rattle.granit_language.specs.Room.{Holder, BlockIn, FlowIn, KeyIn, room_behind, right_fits, sequence_fits, PartFits, joins, continues_node, sequence_over, ask_over, place_fits, is_made, pair_over}
+use Rattle.granit_language.specs.Node.{TreeProperties, NoProperties, One, Two, Node, AliasNode, ScalarNode, Alone, Flow}
+use Rattle.granit_language.specs.Node.{Sequence, Mapping, Content, Nothing, Just, Entries, Entry, EntryLead, NoEntry}
+use Rattle.granit_language.specs.Node.{AfterEntry, Pairs, Through, PairLead, NoPair, AfterPair, Pair, WithColon}
+use Rattle.granit_language.specs.Node.{AskOnly, Left, SimpleKey, Asked, NoKey, FlowLead, NoItem, AfterItem, FlowLast}
+use Rattle.granit_language.specs.Node.{NoLast, LastItem, FlowItem, Single, Paired, Before, Beginning, ExtraEnd, Closed}
+use Rattle.granit_language.specs.Node.{Directives, FirstDirective, NextDirective, Start, AtFresh, AfterDirectives}
+use Rattle.granit_language.specs.Node.{AfterRoot, Rooted, BareRoot, ExplicitRoot, Stream, EndFresh, EndRooted}
+use Rattle.granit_language.specs.OpenPlace.{Bare, Explicit, Around, BlockPairs, FlowPairs, Hole, AtRoot, AtEntry}
+use Rattle.granit_language.specs.OpenPlace.{AtItem, AtKey, AtAsk, AtColon, Fresh, InDirectives, BehindRoot, Ended, Want}
+use Rattle.granit_language.specs.OpenPlace.{PastEntry, PastAsk, PastPair, PastItem, holder, room_of, AroundPlaced}
+use Rattle.granit_language.specs.OpenPlace.{HolePlaced, ItemOver}
+use Rattle.granit_language.specs.Placed.{PropertiesPlaced, SomeProperties, left_front, pair_front, Placed}
+use Rattle.granit_language.specs.Placed.{ContentPlaced, EntriesPlaced, EntryLeadPlaced, PairsPlaced, PairLeadPlaced}
+use Rattle.granit_language.specs.Placed.{PairPlaced, LeftPlaced, FlowPlaced, LastPlaced, ItemPlaced, BeforePlaced}
+use Rattle.granit_language.specs.Placed.{DirectivesPlaced, StartPlaced, RootedPlaced, StreamPlaced}
+use Rattle.granit_language.specs.Room.{Holder, BlockIn, FlowIn, KeyIn, room_behind, right_fits, sequence_fits, PartFits}
+use Rattle.granit_language.specs.Room.{joins, continues_node, sequence_over, ask_over, place_fits, is_made, pair_over}
 use Rattle.granit_language.specs.Settling.{put_in, empty_fits, end_pair, finish_at, settle_place}
-use Rattle.granit_language.specs.Terminal.{PartKind, Alias, Property, Scalar, Open, Directive, DocumentStart, DocumentEnd, TheEnd, Dash, Question, Comma, Colon, Close, Part, At, Terminal, terminal, edge, stands_left}
-use Rattle.granit_language.specs.Yield.{spell_properties, colon_kind, spell, spell_content, spell_entries, spell_entry_lead, spell_pairs, spell_pair_lead, spell_pair, spell_left, spell_flow, spell_last, spell_item, spell_before, spell_directives, spell_start, spell_rooted, spell_stream}
+use Rattle.granit_language.specs.Terminal.{PartKind, Alias, Property, Scalar, Open, Directive, DocumentStart}
+use Rattle.granit_language.specs.Terminal.{DocumentEnd, TheEnd, Dash, Question, Comma, Colon, Close, Part, At, Terminal}
+use Rattle.granit_language.specs.Terminal.{terminal, edge, stands_left}
+use Rattle.granit_language.specs.Yield.{spell_properties, colon_kind, spell, spell_content, spell_entries}
+use Rattle.granit_language.specs.Yield.{spell_entry_lead, spell_pairs, spell_pair_lead, spell_pair, spell_left}
+use Rattle.granit_language.specs.Yield.{spell_flow, spell_last, spell_item, spell_before, spell_directives, spell_start}
+use Rattle.granit_language.specs.Yield.{spell_rooted, spell_stream}
 use Rattle.granit_lexemes.specs.declared.layout.Bracket.{Bracket}
 use Rattle.granit_lexemes.specs.declared.layout.Bracket.TheVariants.{Square, Curly}
 use Rattle.std.proofs.Common.{eqb-true}
 use Rattle.granit_grammar.proofs.Tests.{or_right, same_left}
-use Rattle.granit_grammar.proofs.Entering.{to_same, steps, alike, close_put, gate_with, past_pairs, site_door, door, door_with, enters_entry, enters_part, enters_dash}
+use Rattle.granit_grammar.proofs.Entering.{to_same, steps, alike, close_put, gate_with, past_pairs, site_door, door}
+use Rattle.granit_grammar.proofs.Entering.{door_with, enters_entry, enters_part, enters_dash}
 
 -- properties
 pub takes_properties :
@@ -80,7 +100,8 @@ alone_ends x r (Two k i m j) s e =
     ∙ sym (close_put x r (Just (Alone (Two k i m j))))
 
 -- nothing
-nothing_ends : (x : Terminal) (r : Hole) → empty_fits r x ≡ true → settle_place x (door r) ≡ settle_place x (put_in r Nothing)
+nothing_ends : (x : Terminal) (r : Hole) → empty_fits r x ≡ true
+    → settle_place x (door r) ≡ settle_place x (put_in r Nothing)
 nothing_ends x (AtRoot (Bare b)) e = cc (e)
 nothing_ends x (AtRoot (Explicit s i)) e =
     ap (λ b. choose b (BehindRoot (ExplicitRoot s i Nothing)) (Want (AtRoot (Explicit s i)) NoProperties)) e

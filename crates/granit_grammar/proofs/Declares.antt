@@ -1,21 +1,25 @@
 -- The kept scope is what the lexemes before a place declare.
-use Rattle.std.proofs.Common.{◌≡◌, ℕ, suc, Bool, true, false, List, [], ◌∷◌, ◌++◌, refl, sym, ap, ◌∙◌, inl, inr, Option, Some, None}
+use Rattle.std.proofs.Common.{◌≡◌, ℕ, suc, Bool, true, false, List, [], ◌∷◌, ◌++◌, refl, sym, ap, ◌∙◌, inl, inr, Option}
+use Rattle.std.proofs.Common.{Some, None}
 use Rattle.std.specs.Prelude.{◌⊎◌, if◌then◌else◌, nat_eq}
 use lib.Pointwise.{pointwise}
 use Rattle.granit_base.specs.Written.{Written}
-use Rattle.granit_language.specs.Declared.{is_mark, is_anchor_of, is_handle_of, is_version, no_kind, one_more, anchors, Without, LastSince, NoneBehind, NoneSince, NamedBy, DeclaredBy, InForce, NotInForce}
+use Rattle.granit_language.specs.Declared.{is_mark, is_anchor_of, is_handle_of, is_version, no_kind, one_more, anchors}
+use Rattle.granit_language.specs.Declared.{Without, LastSince, NoneBehind, NoneSince, NamedBy, DeclaredBy, InForce}
+use Rattle.granit_language.specs.Declared.{NotInForce}
 use Rattle.granit_language.specs.Scope.{Scope, no_scope, entry_of}
 use Rattle.granit_language.specs.Scoping.{next_scope, scope_behind, number_of_anchor}
-use Rattle.granit_language.specs.Terminal.{Anchor, Tag, Alias, Property, Scalar, Open, TerminalKind, Directive, DocumentStart, DocumentEnd, Part, At, Terminal, terminal}
+use Rattle.granit_language.specs.Terminal.{Anchor, Tag, Alias, Property, Scalar, Open, TerminalKind, Directive}
+use Rattle.granit_language.specs.Terminal.{DocumentStart, DocumentEnd, Part, At, Terminal, terminal}
 use Rattle.granit_lexemes.specs.Lexeme.{Version, TagPrefix, Reserved}
 
 -- what a lexeme does to a part of the scope: a mark clears it, what a test finds sets it
-data Change {A : Type 0} (marks finds : Bool) (old new : Option A) : Type 0 where
+pub data Change {A : Type 0} (marks finds : Bool) (old new : Option A) : Type 0 where
   clears : marks ≡ true → new ≡ None → Change marks finds old new
   sets : marks ≡ false → finds ≡ true → (new ≡ None → ⊥) → Change marks finds old new
   leaves : marks ≡ false → finds ≡ false → new ≡ old → Change marks finds old new
 
-abbrev Tracks : {A : Type 0} → (TerminalKind → Bool) → (Scope → Option A) → Type 0
+abbrev pub Tracks : {A : Type 0} → (TerminalKind → Bool) → (Scope → Option A) → Type 0
 Tracks test get = (k : TerminalKind) (s : Scope) → Change (is_mark k) (test k) (get s) (get (next_scope k s))
 
 -- the lexeme that set it
@@ -130,7 +134,7 @@ anchor_change :
 anchor_change name w s true = sets refl refl (λ e. cc (e))
 anchor_change name w s false = leaves refl refl refl
 
-names_track : (name : List ℕ) → Tracks (is_anchor_of name) (number_of_anchor name)
+pub names_track : (name : List ℕ) → Tracks (is_anchor_of name) (number_of_anchor name)
 names_track name (Directive (Version major minor)) s = leaves refl refl refl
 names_track name (Directive (TagPrefix h p)) s = leaves refl refl refl
 names_track name (Directive (Reserved n p)) s = leaves refl refl refl
@@ -185,7 +189,7 @@ handle_change : (b : Bool) (p : List ℕ) (old : Option (List ℕ)) → Change f
 handle_change true p old = sets refl refl (λ e. cc (e))
 handle_change false p old = leaves refl refl refl
 
-handles_track : (handle : List ℕ) → Tracks (is_handle_of handle) (pending_of handle)
+pub handles_track : (handle : List ℕ) → Tracks (is_handle_of handle) (pending_of handle)
 handles_track handle (Directive (Version major minor)) s = leaves refl refl refl
 handles_track handle (Directive (TagPrefix h p)) s = handle_change (pointwise nat_eq handle h) p (pending_of handle s)
 handles_track handle (Directive (Reserved n p)) s = leaves refl refl refl
@@ -227,7 +231,7 @@ not_declared handle front e =
 
 -- ---- the version
 
-versions_track : Tracks is_version (λ s. s.version)
+pub versions_track : Tracks is_version (λ s. s.version)
 versions_track (Directive (Version major minor)) s = sets refl refl (λ e. cc (e))
 versions_track (Directive (TagPrefix h p)) s = leaves refl refl refl
 versions_track (Directive (Reserved n p)) s = leaves refl refl refl

@@ -1,16 +1,26 @@
 -- A lexeme that fits is taken where it fits.
 use Rattle.std.proofs.Common.{◌≡◌, ℕ, Bool, true, false, List, ◌∷◌, refl, sym, ap, ◌∙◌, subst, ◌==◌, nat_lt, None}
-use Rattle.granit_grammar.specs.TreeMachine.{Next, Go, if_go, part_take, entry_take, entry_at, site, plain_site, pair_site, want_take, take, tree_goes, parse}
+use Rattle.granit_grammar.specs.TreeMachine.{Next, Go, if_go, part_take, entry_take, entry_at, site, plain_site}
+use Rattle.granit_grammar.specs.TreeMachine.{pair_site, want_take, take, tree_goes, parse}
 use Rattle.granit_language.specs.Choice.{choose}
-use Rattle.granit_language.specs.Node.{TreeProperties, NoProperties, One, Two, Alone, Mapping, Content, Nothing, Just, NoEntry, Pairs, Through, NoPair, AfterPair, FlowLead}
-use Rattle.granit_language.specs.OpenPlace.{Bare, Explicit, Around, BlockPairs, FlowPairs, Hole, AtRoot, AtEntry, AtItem, AtKey, AtAsk, AtColon, OpenPlace, Fresh, Want, PastPair, holder, room_of, AroundPlaced, HolePlaced}
-use Rattle.granit_language.specs.Room.{Holder, BlockIn, FlowIn, Room, RightOf, ValueIn, KeyIn, BehindKey, ItemIn, Inside, behind_property, room_behind, right_fits, loose_fits, sequence_fits, indicates, opens, part_fits, PartFits, joins, continues_node, entry_empty, room_value, value_empty, KeyBegins}
+use Rattle.granit_language.specs.Node.{TreeProperties, NoProperties, One, Two, Alone, Mapping, Content, Nothing, Just}
+use Rattle.granit_language.specs.Node.{NoEntry, Pairs, Through, NoPair, AfterPair, FlowLead}
+use Rattle.granit_language.specs.OpenPlace.{Bare, Explicit, Around, BlockPairs, FlowPairs, Hole, AtRoot, AtEntry}
+use Rattle.granit_language.specs.OpenPlace.{AtItem, AtKey, AtAsk, AtColon, OpenPlace, Fresh, Want, PastPair, holder}
+use Rattle.granit_language.specs.OpenPlace.{room_of, AroundPlaced, HolePlaced}
+use Rattle.granit_language.specs.Room.{Holder, BlockIn, FlowIn, Room, RightOf, ValueIn, KeyIn, BehindKey, ItemIn}
+use Rattle.granit_language.specs.Room.{Inside, behind_property, room_behind, right_fits, loose_fits, sequence_fits}
+use Rattle.granit_language.specs.Room.{indicates, opens, part_fits, PartFits, joins, continues_node, entry_empty}
+use Rattle.granit_language.specs.Room.{room_value, value_empty, KeyBegins}
 use Rattle.granit_language.specs.Settling.{put_in, empty_fits, finish_at, settle_place}
-use Rattle.granit_language.specs.Terminal.{PropertyKind, PartKind, TerminalKind, Directive, DocumentStart, DocumentEnd, TheEnd, Dash, Question, Colon, Part, At, Terminal, terminal, edge, reach_of, is_stream_kind, begins_entry_kind, stands_left, entry_in}
+use Rattle.granit_language.specs.Terminal.{PropertyKind, PartKind, TerminalKind, Directive, DocumentStart, DocumentEnd}
+use Rattle.granit_language.specs.Terminal.{TheEnd, Dash, Question, Colon, Part, At, Terminal, terminal, edge, reach_of}
+use Rattle.granit_language.specs.Terminal.{is_stream_kind, begins_entry_kind, stands_left, entry_in}
 use Rattle.granit_lexemes.specs.declared.layout.Bracket.{Bracket}
 use Rattle.granit_lexemes.specs.declared.layout.Bracket.TheVariants.{Square, Curly}
 use Rattle.std.proofs.Common.{eqb-true}
-use Rattle.granit_grammar.proofs.Tests.{and_left, and_right, and_both, and_false, or_left, or_right, or_false, right_left, right_same, same_left, no_key, no_key_alone}
+use Rattle.granit_grammar.proofs.Tests.{and_left, and_right, and_both, and_false, or_left, or_right, or_false}
+use Rattle.granit_grammar.proofs.Tests.{right_left, right_same, same_left, no_key, no_key_alone}
 use Rattle.granit_grammar.proofs.Placing.{EntryFits}
 
 -- a lexeme that ends nothing, and the step on it

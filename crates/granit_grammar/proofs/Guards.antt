@@ -1,9 +1,13 @@
 -- The guarded machine answers as the event machine, but at the first lexeme that doesn't pass.
-use Rattle.std.proofs.Common.{◌≡◌, Bool, List, [], ◌∷◌, ◌++◌, refl, sym, ap, ◌∙◌, subst, append_assoc, inl, inr, Option, Some, None}
+use Rattle.std.proofs.Common.{◌≡◌, Bool, List, [], ◌∷◌, ◌++◌, refl, sym, ap, ◌∙◌, subst, append_assoc, inl, inr, Option}
+use Rattle.std.proofs.Common.{Some, None}
 use Rattle.std.specs.Prelude.{◌⊎◌}
-use Rattle.granit_grammar.specs.EventMachine.{EventState, IsEnded, Ending, ending, ended_by, EventStep, GoesTo, StopsWith, take_frames, EventAnswer, Events, Faulty, Unfinished, events_before, outcome_at_end, go_on, go_closed, run_events_from}
-use Rattle.granit_grammar.specs.Guarded.{Guard, passed, goes_by, closed_by, guarded, PassesStep, PassesClosed, Passes, first_fault, both_guards, scope_guard}
-use Rattle.granit_grammar.specs.Passing.{GuardFault}
+use Rattle.granit_grammar.specs.EventMachine.{EventState, IsEnded, Ending, ending, ended_by, EventStep, GoesTo}
+use Rattle.granit_grammar.specs.EventMachine.{StopsWith, take_frames, EventAnswer, Events, Faulty, Unfinished}
+use Rattle.granit_grammar.specs.EventMachine.{events_before, outcome_at_end, go_on, go_closed, run_events_from}
+use Rattle.granit_grammar.specs.Guarded.{Guard, passed, goes_by, closed_by, guarded, PassesStep, PassesClosed, Passes}
+use Rattle.granit_grammar.specs.Guarded.{first_fault, both_guards, scope_guard}
+use Rattle.granit_grammar.specs.Passing.{runs_none, runs_on, GuardFault}
 use Rattle.granit_language.specs.GrammarFault.{GrammarFault}
 use Rattle.granit_language.specs.Scoping.{scope_fault, Means}
 use Rattle.granit_language.specs.Terminal.{Terminal}
@@ -62,7 +66,7 @@ run_step x st st1 st2 es1 es2 e1 e2 more =
     ∙ (ap (λ s. events_before es1 (go_on s x (run_events_from more))) e2
     ∙ before_before es1 es2 (run_events_from more st2))
 
-unpass :
+pub unpass :
     (h : Guard) (x : Terminal) (xs : List Terminal) (st st1 st2 : EventState) (es1 es2 : List TreeEvent) →
     ended_by x st ≡ ending st1 es1 → take_frames st1 x.kind x.at ≡ GoesTo st2 es2 → Passes h (x ∷ xs) st →
     (h st2 x ≡ None) × Passes h xs st2
@@ -101,9 +105,14 @@ lift g x xs st st1 st2 es1 es2 e1 e2 e3 (Faulty k y) (inr h) = inr (record {
       run_step x st st1 st2 es1 es2 e1 e2 (h.front ++ (y ∷ more))
       ∙ (ap (events_before (es1 ++ es2)) (h.runs more)
       ∙ before_before (es1 ++ es2) h.given (run_events_from more h.behind));
+  comes = runs_on e1 e2 h.comes;
   fault = h.fault;
   passes = pass_step g x h.front st st1 st2 es1 es2 e1 e2 e3 h.passes;
   seen = λ k more p. h.seen k more (unpass k x (h.front ++ (y ∷ more)) st st1 st2 es1 es2 e1 e2 p).1;
+  joined =
+      λ k p n.
+      let q = unpass k x h.front st st1 st2 es1 es2 e1 e2 p in
+      pass_step k x (h.front ++ (y ∷ [])) st st1 st2 es1 es2 e1 e2 q.0 (h.joined k q.1 n);
   told =
       λ more.
       guard_step g x st st1 st2 es1 es2 None e1 e2 e3 (h.front ++ (y ∷ more))
@@ -123,9 +132,11 @@ tells_passed g x xs st st1 st2 es1 es2 e1 e2 h (Some k) e3 = inr (record {
   behind = st2;
   given = es1 ++ es2;
   runs = run_step x st st1 st2 es1 es2 e1 e2;
+  comes = runs_on e1 e2 runs_none;
   fault = e3;
   passes = tt;
   seen = λ h more p. (unpass h x more st st1 st2 es1 es2 e1 e2 p).0;
+  joined = λ h p n. pass_step h x [] st st1 st2 es1 es2 e1 e2 n tt;
   told = guard_step g x st st1 st2 es1 es2 (Some k) e1 e2 e3;
 })
 
@@ -182,6 +193,12 @@ map_closed :
     ((st : EventState) → P st → Q st) → (y : Ending) (x : Terminal) → PassesClosed g y x P → PassesClosed h y x Q
 map_closed g h P Q m n (ending st es) x p = map_step g h P Q m n (take_frames st x.kind x.at) x p
 
+-- what passes passes as far as it goes
+pub passes_front : (g : Guard) (xs ys : List Terminal) (st : EventState) → Passes g (xs ++ ys) st → Passes g xs st
+passes_front g [] ys st p = tt
+passes_front g (x ∷ xs) ys st p =
+    map_closed g g (Passes g (xs ++ ys)) (Passes g xs) (λ st x e. e) (passes_front g xs ys) (ended_by x st) x p
+
 pub passes_map :
     (g h : Guard) → ((st : EventState) (x : Terminal) → g st x ≡ None → h st x ≡ None) →
     (xs : List Terminal) (st : EventState) → Passes g xs st → Passes h xs st
@@ -232,41 +249,35 @@ means_passes u [] m st = tt
 means_passes u (x ∷ xs) m st =
     means_passes_closed u (Passes (scope_guard u) xs) x m.0 (means_passes u xs m.1) (ended_by x st)
 
--- an outcome with events
-abbrev GivesEvents : EventAnswer → Type 0
-GivesEvents (Events es) = Unit {0}
-GivesEvents (Faulty k x) = ⊥
-GivesEvents Unfinished = ⊥
+-- an outcome without a fault
+abbrev pub NotFaulty : EventAnswer → Type 0
+NotFaulty (Faulty k x) = ⊥
+NotFaulty o = Unit {0}
 
-drop_before : (es : List TreeEvent) (o : EventAnswer) → GivesEvents (events_before es o) → GivesEvents o
+pub drop_before : (es : List TreeEvent) (o : EventAnswer) → NotFaulty (events_before es o) → NotFaulty o
 drop_before es (Events more) h = h
 drop_before es (Faulty k x) h = h
 drop_before es Unfinished h = h
 
 passes_means_step :
     (u : Bool) (P : EventState → Type 0) (M : Type 0) (on : EventState → EventAnswer) (x : Terminal) →
-    ((st : EventState) → GivesEvents (on st) → P st → M) → (s : EventStep) → GivesEvents (go_on s x on) →
+    ((st : EventState) → NotFaulty (on st) → P st → M) → (s : EventStep) → NotFaulty (go_on s x on) →
     PassesStep (scope_guard u) s x P → (scope_fault u x.kind x.at.scope ≡ None) × M
 passes_means_step u P M on x h (GoesTo st es) g p = (p.0, h st (drop_before es (on st) g) p.1)
 passes_means_step u P M on x h (StopsWith k) g p = absurd g
 
 passes_means_closed :
     (u : Bool) (P : EventState → Type 0) (M : Type 0) (on : EventState → EventAnswer) (x : Terminal) →
-    ((st : EventState) → GivesEvents (on st) → P st → M) → (y : Ending) → GivesEvents (go_closed y x on) →
+    ((st : EventState) → NotFaulty (on st) → P st → M) → (y : Ending) → NotFaulty (go_closed y x on) →
     PassesClosed (scope_guard u) y x P → (scope_fault u x.kind x.at.scope ≡ None) × M
 passes_means_closed u P M on x h (ending st es) g p =
     passes_means_step u P M on x h (take_frames st x.kind x.at)
     (drop_before es (go_on (take_frames st x.kind x.at) x on) g) p
 
-passes_means_in :
-    (u : Bool) (xs : List Terminal) (st : EventState) → GivesEvents (run_events_from xs st) →
-    Passes (scope_guard u) xs st → Means u xs
-passes_means_in u [] st g p = tt
-passes_means_in u (x ∷ xs) st g p =
-    passes_means_closed u (Passes (scope_guard u) xs) (Means u xs) (run_events_from xs) x (passes_means_in u xs)
-    (ended_by x st) g p
-
 pub passes_means :
-    (u : Bool) (xs : List Terminal) (st : EventState) (es : List TreeEvent) → run_events_from xs st ≡ Events es →
+    (u : Bool) (xs : List Terminal) (st : EventState) → NotFaulty (run_events_from xs st) →
     Passes (scope_guard u) xs st → Means u xs
-passes_means u xs st es e p = passes_means_in u xs st (subst GivesEvents (sym e) tt) p
+passes_means u [] st g p = tt
+passes_means u (x ∷ xs) st g p =
+    passes_means_closed u (Passes (scope_guard u) xs) (Means u xs) (run_events_from xs) x (passes_means u xs)
+    (ended_by x st) g p

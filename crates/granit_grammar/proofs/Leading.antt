@@ -1,16 +1,27 @@
 -- The lexemes before an open place lead the machine there, so it is one, and what it refuses has no reading.
 use Rattle.std.proofs.Common.{◌≡◌, ℕ, Bool, true, List, [], ◌∷◌, sym, ap, ◌∙◌}
-use Rattle.granit_grammar.specs.TreeMachine.{Next, Go, NotTaken, tree_step, RefusedAt, at_end, tree_goes, parse, tree_start}
+use Rattle.granit_grammar.specs.TreeMachine.{Next, Go, NotTaken, tree_step, RefusedAt, at_end, tree_goes, parse}
+use Rattle.granit_grammar.specs.TreeMachine.{tree_start}
 use Rattle.granit_language.specs.Node.{TreeProperties, NoProperties, One, Two, Stream}
-use Rattle.granit_language.specs.OpenPlace.{Bare, Explicit, Around, BlockPairs, FlowPairs, Hole, AtRoot, AtEntry, AtItem, AtKey, AtAsk, AtColon, OpenPlace, Fresh, InDirectives, BehindRoot, Ended, Want, PastEntry, PastKey, PastAsk, PastPair, PastItem, spell_around, spell_hole, spell_open, holder, room_of, AroundPlaced, HolePlaced, OpenPlaced, IsHole, IsOpen}
+use Rattle.granit_language.specs.OpenPlace.{Bare, Explicit, Around, BlockPairs, FlowPairs, Hole, AtRoot, AtEntry}
+use Rattle.granit_language.specs.OpenPlace.{AtItem, AtKey, AtAsk, AtColon, OpenPlace, Fresh, InDirectives, BehindRoot}
+use Rattle.granit_language.specs.OpenPlace.{Ended, Want, PastEntry, PastKey, PastAsk, PastPair, PastItem, spell_around}
+use Rattle.granit_language.specs.OpenPlace.{spell_hole, spell_open, holder, room_of, AroundPlaced, HolePlaced}
+use Rattle.granit_language.specs.OpenPlace.{OpenPlaced, IsHole, IsOpen}
 use Rattle.granit_language.specs.Placed.{PropertiesPlaced, SomeProperties, left_front, pair_front, StreamPlaced}
 use Rattle.granit_language.specs.Room.{room_behind, right_fits, sequence_fits, PartFits}
 use Rattle.granit_language.specs.Settling.{settle_place}
 use Rattle.granit_language.specs.Terminal.{Open, Dash, Question, Part, At, Terminal, terminal}
-use Rattle.granit_language.specs.Yield.{spell_properties, colon_kind, spell, spell_content, spell_entries, spell_entry_lead, spell_pair_lead, spell_pair, spell_left, spell_flow, spell_item, spell_stream}
+use Rattle.granit_language.specs.Yield.{spell_properties, colon_kind, spell, spell_content, spell_entries}
+use Rattle.granit_language.specs.Yield.{spell_entry_lead, spell_pair_lead, spell_pair, spell_left, spell_flow}
+use Rattle.granit_language.specs.Yield.{spell_item, spell_stream}
 use Rattle.granit_lexemes.specs.declared.layout.Bracket.{Bracket}
 use Rattle.granit_grammar.proofs.Entering.{steps, site_door, door, door_with, enters_entry}
-use Rattle.granit_grammar.proofs.Complete.{takes_properties, takes_opener, FirstOf, part_first, alone_first, no_right, no_sequence, key_first, left_first, pair_first, takes, takes_content, takes_entries, takes_entry_lead, takes_pair_lead, takes_pair, takes_left, takes_flow, takes_item, takes_before, takes_directives, takes_start, takes_rooted, takes_stream, reads}
+use Rattle.granit_grammar.proofs.Complete.{takes_properties, takes_opener, FirstOf, part_first, alone_first, no_right}
+use Rattle.granit_grammar.proofs.Complete.{no_sequence, key_first, left_first, pair_first, takes, takes_content}
+use Rattle.granit_grammar.proofs.Complete.{takes_entries, takes_entry_lead, takes_pair_lead, takes_pair, takes_left}
+use Rattle.granit_grammar.proofs.Complete.{takes_flow, takes_item, takes_before, takes_directives, takes_start}
+use Rattle.granit_grammar.proofs.Complete.{takes_rooted, takes_stream, reads}
 
 -- what stands in a hole: a simple key begins with its first lexeme
 abbrev Heads : Hole → List Terminal → Type 0
@@ -89,7 +100,7 @@ leads (AtColon r a left m) f = λ ls h.
     (left_first left (holder a) m ls f.2) (leads r f.0) f.0 f.1
     ∙ takes_left left r a m ls f.0 f.1 f.2
 
-leads_want :
+pub leads_want :
     (r : Hole) (ls : List Terminal) → IsHole r → HolePlaced r →
     parse (spell_hole r ls) tree_start ≡ parse ls (Want r NoProperties)
 leads_want (AtRoot (Bare b)) ls i f = absurd i

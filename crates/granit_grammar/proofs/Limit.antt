@@ -1,11 +1,13 @@
 -- The limit of block collections: what passes is a stream that keeps it.
-use Rattle.std.proofs.Common.{◌≡◌, ℕ, suc, Bool, true, false, List, [], ◌∷◌, refl, sym, ap, ◌∙◌, subst, None}
+use Rattle.std.proofs.Common.{arith, ◌≡◌, ℕ, suc, Bool, true, false, List, [], ◌∷◌, refl, sym, ap, ◌∙◌, subst, None}
 use Rattle.std.specs.Prelude.{nat_le}
 use Rattle.granit_grammar.specs.EventMachine.{EventState, Ending, ending, ended_by, EventStep, take_frames}
-use Rattle.granit_grammar.specs.Guarded.{PassesStep, PassesClosed, Passes, limit_guard, limit_fault, fault_unless, is_loose, state_count}
+use Rattle.granit_grammar.specs.Guarded.{PassesStep, PassesClosed, Passes, limit_guard, limit_fault, fault_unless}
+use Rattle.granit_grammar.specs.Guarded.{is_loose, state_count}
 use Rattle.granit_grammar.specs.OpenWithin.{open_within, open_blocks}
 use Rattle.granit_grammar.specs.PlaceFrames.{state_at}
-use Rattle.granit_grammar.specs.TreeMachine.{Next, Go, NotTaken, take, Answer, ReadAs, at_end, tree_goes, parse}
+use Rattle.granit_grammar.specs.TreeMachine.{Next, Go, NotTaken, take, Answer, ReadAs, RefusedAt, Short, at_end}
+use Rattle.granit_grammar.specs.TreeMachine.{tree_goes, parse}
 use Rattle.granit_language.specs.FaultKinds.{fault_kind_at}
 use Rattle.granit_language.specs.GrammarFault.{GrammarFault, TooManyBlocks}
 use Rattle.granit_language.specs.Node.{Stream}
@@ -15,16 +17,21 @@ use Rattle.granit_language.specs.Settling.{settle_place}
 use Rattle.granit_language.specs.Terminal.{Terminal}
 use Rattle.granit_language.specs.TreeEvents.{TreeEvent}
 use Rattle.granit_language.specs.Within.{stream_within}
+use Rattle.std.proofs.lemmas.Bool.Decides.{nat_tests}
 use Rattle.granit_grammar.proofs.AgreeClose.{ending_state, close_agrees}
 use Rattle.granit_grammar.proofs.AgreeStep.{StepsTo, goes_to, stops_at, take_agrees}
-use Rattle.granit_grammar.proofs.Withins.{close_keeps, StepKeeps, begins, stays, NextKeeps, take_keeps, close_most, count_same}
+use Rattle.granit_grammar.proofs.Withins.{close_keeps, StepKeeps, begins, stays, NextKeeps, take_keeps, close_most}
+use Rattle.granit_grammar.proofs.Withins.{count_same}
+
+pub from_zero : (n : ℕ) → nat_le 0 n ≡ true
+from_zero n = grind (arith, nat_tests)
 
 no_read :
     (p : OpenPlace) (s : Stream) (n : ℕ) (b : Bool) → at_end p ≡ ReadAs s → open_within n p ≡ b → stream_within n s ≡ b
 no_read (Ended t) s n b e h = let same : t ≡ s = cc (e) in subst (λ s. stream_within n s ≡ b) same h
 no_read p s n b e h = absurd cc
 
-passed_fault : (b : Bool) (k : GrammarFault) → fault_unless b k ≡ None → b ≡ true
+pub passed_fault : (b : Bool) (k : GrammarFault) → fault_unless b k ≡ None → b ≡ true
 passed_fault true k e = refl
 passed_fault false k e = cc (e)
 
@@ -59,31 +66,43 @@ state_closed n (ending st1 es) x st P e h =
 
 -- ---- what passes keeps the limit
 
-abbrev Onto : ℕ → Stream → (EventState → Type 0) → (OpenPlace → Answer) → Type 0
-Onto n s P on =
-    (q : OpenPlace) → IsOpen q → open_within n q ≡ true → on q ≡ ReadAs s → P (state_at q) → stream_within n s ≡ true
+-- what was read keeps the limit, up to an end
+abbrev pub answer_within : ℕ → Answer → Bool
+answer_within n (ReadAs s) = stream_within n s
+answer_within n (Short q) = open_within n q
+answer_within n (RefusedAt q y) = true
+
+end_within : (n : ℕ) (p : OpenPlace) → answer_within n (at_end p) ≡ open_within n p
+end_within n (Ended s) = refl
+end_within n p = refl
+
+abbrev Onto : ℕ → Answer → (EventState → Type 0) → (OpenPlace → Answer) → Type 0
+Onto n a P on =
+    (q : OpenPlace) → IsOpen q → open_within n q ≡ true → on q ≡ a → P (state_at q) → answer_within n a ≡ true
 
 passes_step :
-    (n d : ℕ) (s : Stream) (P : EventState → Type 0) (on : OpenPlace → Answer) → Onto n s P on →
+    (n d : ℕ) (s : Answer) (P : EventState → Type 0) (on : OpenPlace → Answer) → Onto n s P on →
     (f : List TreeEvent → List TreeEvent) (k : GrammarFault) (p : OpenPlace) (x : Terminal) (t : EventStep) (m : Next) →
-    StepsTo f k t m → NextKeeps n true d m → tree_goes m p x on ≡ ReadAs s → PassesStep (limit_guard n) t x P →
-    stream_within n s ≡ true
+    StepsTo f k t m → NextKeeps n true d m → tree_goes m p x on ≡ s → PassesStep (limit_guard n) t x P →
+    answer_within n s ≡ true
 passes_step n d s P on h f k p x t m (goes_to {st = st} {es = es} {q = q} i e g) keeps r passes =
     h q i (kept_within n d q keeps (passed_count n q (subst (λ st. limit_fault n st ≡ None) e passes.0))) r
     (subst P e passes.1)
-passes_step n d s P on h f k p x t m (stops_at j) keeps r passes = absurd cc
+passes_step n d s P on h f k p x t m (stops_at j) keeps r passes = subst (λ a. answer_within n a ≡ true) r refl
 
-pub passes_within : (n : ℕ) (s : Stream) (xs : List Terminal) → Onto n s (Passes (limit_guard n) xs) (parse xs)
-passes_within n s [] p i w r h = no_read p s n true r w
+pub passes_within : (n : ℕ) (s : Answer) (xs : List Terminal) → Onto n s (Passes (limit_guard n) xs) (parse xs)
+passes_within n s [] p i w r h = subst (λ a. answer_within n a ≡ true) r (end_within n p ∙ w)
 passes_within n s (x ∷ xs) p i w r h =
     let a = close_agrees x p i in
     passes_step n (open_blocks (settle_place x p)) s (Passes (limit_guard n) xs) (parse xs) (passes_within n s xs)
     (open_events x.at.start (settle_place x p)) (fault_kind_at (settle_place x p) x.kind) (settle_place x p) x
     (take_frames (state_at (settle_place x p)) x.kind x.at) (take (settle_place x p) x.kind x.at)
     (take_agrees (settle_place x p) x.kind x.at a.is_open)
-    (kept_next n (open_blocks (settle_place x p)) (open_within n (settle_place x p)) (take (settle_place x p) x.kind x.at)
+    (kept_next n (open_blocks (settle_place x p)) (open_within n (settle_place x p))
+    (take (settle_place x p) x.kind x.at)
     (close_keeps n x p ∙ w) (take_keeps n (settle_place x p) x.kind x.at))
-    r (closed_state n (ended_by x (state_at p)) x (state_at (settle_place x p)) (Passes (limit_guard n) xs) a.state_is h)
+    r (closed_state n (ended_by x (state_at p)) x (state_at (settle_place x p)) (Passes (limit_guard n) xs) a.state_is
+    h)
 
 -- ---- what keeps the limit passes
 
@@ -101,8 +120,10 @@ broken :
     stream_within n s ≡ false
 broken n s [] p w r = no_read p s n false r w
 broken n s (x ∷ xs) p w r =
-    broken_step n (open_blocks (settle_place x p)) s (parse xs) (settle_place x p) x (broken n s xs) (take (settle_place x p) x.kind x.at)
-    (subst (λ b. NextKeeps n b (open_blocks (settle_place x p)) (take (settle_place x p) x.kind x.at)) (close_keeps n x p ∙ w)
+    broken_step n (open_blocks (settle_place x p)) s (parse xs) (settle_place x p) x (broken n s xs)
+    (take (settle_place x p) x.kind x.at)
+    (subst (λ b. NextKeeps n b (open_blocks (settle_place x p)) (take (settle_place x p) x.kind x.at))
+    (close_keeps n x p ∙ w)
     (take_keeps n (settle_place x p) x.kind x.at))
     r
 
@@ -144,6 +165,7 @@ within_passes n s w (x ∷ xs) p i o le r =
     (take_frames (state_at (settle_place x p)) x.kind x.at) (take (settle_place x p) x.kind x.at)
     (close_most n x p le)
     (take_agrees (settle_place x p) x.kind x.at a.is_open)
-    (kept_next n (open_blocks (settle_place x p)) (open_within n (settle_place x p)) (take (settle_place x p) x.kind x.at)
+    (kept_next n (open_blocks (settle_place x p)) (open_within n (settle_place x p))
+    (take (settle_place x p) x.kind x.at)
     (close_keeps n x p ∙ o) (take_keeps n (settle_place x p) x.kind x.at))
     r)

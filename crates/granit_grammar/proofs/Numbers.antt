@@ -2,12 +2,30 @@
 use Rattle.std.proofs.Common.{◌≡◌, ℕ, Bool, true, false, List, [], ◌∷◌, refl, subst, ◌&&◌, not, Option, Some, None}
 use Rattle.granit_base.specs.Written.{Written}
 use Rattle.granit_base.specs.declared.style.ScalarStyle.{ScalarStyle}
-use Rattle.granit_language.specs.Node.{TreeProperties, NoProperties, One, Two, Node, AliasNode, ScalarNode, Alone, Flow, Sequence, Mapping, Content, Nothing, Just, Entries, Entry, EntryLead, NoEntry, AfterEntry, Pairs, Through, PairLead, NoPair, AfterPair, Pair, WithColon, AskOnly, Left, SimpleKey, Asked, NoKey, FlowLead, NoItem, AfterItem, FlowLast, NoLast, LastItem, FlowItem, Single, Paired, Before, Beginning, ExtraEnd, Closed, Directives, FirstDirective, NextDirective, Start, AtFresh, AfterDirectives, AfterRoot, Rooted, BareRoot, ExplicitRoot, Stream, EndFresh, EndRooted}
-use Rattle.granit_language.specs.Placed.{PropertiesPlaced, SomeProperties, pair_front, Placed, ContentPlaced, EntriesPlaced, EntryLeadPlaced, PairsPlaced, PairLeadPlaced, PairPlaced, LeftPlaced, FlowPlaced, LastPlaced, ItemPlaced, BeforePlaced, DirectivesPlaced, StartPlaced, RootedPlaced, StreamPlaced}
-use Rattle.granit_language.specs.Reading.{set_key, KeysFit, NodeNamed, ContentNamed, EntriesNamed, EntryLeadNamed, PairsNamed, PairLeadNamed, PairNamed, LeftNamed, FlowNamed, LastNamed, ItemNamed, BeforeNamed, DirectivesNamed, StartNamed, RootedNamed, StreamNamed}
-use Rattle.granit_language.specs.Room.{Holder, BlockIn, FlowIn, Room, RightOf, ValueIn, KeyIn, BehindKey, ItemIn, Inside, behind_property, room_behind, right_fits, sequence_fits, part_fits, PartFits, entry_empty, room_value, value_empty, ask_empty}
-use Rattle.granit_language.specs.Terminal.{PartKind, Alias, Property, Scalar, Open, Directive, DocumentStart, DocumentEnd, TheEnd, Dash, Comma, Colon, Close, Part, At, Terminal, terminal, is_stream_kind}
-use Rattle.granit_language.specs.Yield.{spell_properties, colon_kind, spell, spell_content, spell_entries, spell_entry_lead, spell_pairs, spell_pair_lead, spell_pair, spell_left, spell_flow, spell_last, spell_item, spell_before, spell_directives, spell_start, spell_rooted, spell_stream}
+use Rattle.granit_language.specs.Node.{TreeProperties, NoProperties, One, Two, Node, AliasNode, ScalarNode, Alone, Flow}
+use Rattle.granit_language.specs.Node.{Sequence, Mapping, Content, Nothing, Just, Entries, Entry, EntryLead, NoEntry}
+use Rattle.granit_language.specs.Node.{AfterEntry, Pairs, Through, PairLead, NoPair, AfterPair, Pair, WithColon}
+use Rattle.granit_language.specs.Node.{AskOnly, Left, SimpleKey, Asked, NoKey, FlowLead, NoItem, AfterItem, FlowLast}
+use Rattle.granit_language.specs.Node.{NoLast, LastItem, FlowItem, Single, Paired, Before, Beginning, ExtraEnd, Closed}
+use Rattle.granit_language.specs.Node.{Directives, FirstDirective, NextDirective, Start, AtFresh, AfterDirectives}
+use Rattle.granit_language.specs.Node.{AfterRoot, Rooted, BareRoot, ExplicitRoot, Stream, EndFresh, EndRooted}
+use Rattle.granit_language.specs.Placed.{PropertiesPlaced, SomeProperties, pair_front, Placed, ContentPlaced}
+use Rattle.granit_language.specs.Placed.{EntriesPlaced, EntryLeadPlaced, PairsPlaced, PairLeadPlaced, PairPlaced}
+use Rattle.granit_language.specs.Placed.{LeftPlaced, FlowPlaced, LastPlaced, ItemPlaced, BeforePlaced, DirectivesPlaced}
+use Rattle.granit_language.specs.Placed.{StartPlaced, RootedPlaced, StreamPlaced}
+use Rattle.granit_language.specs.Reading.{set_key, KeysFit, NodeNamed, ContentNamed, EntriesNamed, EntryLeadNamed}
+use Rattle.granit_language.specs.Reading.{PairsNamed, PairLeadNamed, PairNamed, LeftNamed, FlowNamed, LastNamed}
+use Rattle.granit_language.specs.Reading.{ItemNamed, BeforeNamed, DirectivesNamed, StartNamed, RootedNamed, StreamNamed}
+use Rattle.granit_language.specs.Room.{Holder, BlockIn, FlowIn, Room, RightOf, ValueIn, KeyIn, BehindKey, ItemIn}
+use Rattle.granit_language.specs.Room.{Inside, behind_property, room_behind, right_fits, sequence_fits, part_fits}
+use Rattle.granit_language.specs.Room.{PartFits, entry_empty, room_value, value_empty, ask_empty}
+use Rattle.granit_language.specs.Terminal.{PartKind, Alias, Property, Scalar, Open, Directive, DocumentStart}
+use Rattle.granit_language.specs.Terminal.{DocumentEnd, TheEnd, Dash, Comma, Colon, Close, Part, At, Terminal, terminal}
+use Rattle.granit_language.specs.Terminal.{is_stream_kind}
+use Rattle.granit_language.specs.Yield.{spell_properties, colon_kind, spell, spell_content, spell_entries}
+use Rattle.granit_language.specs.Yield.{spell_entry_lead, spell_pairs, spell_pair_lead, spell_pair, spell_left}
+use Rattle.granit_language.specs.Yield.{spell_flow, spell_last, spell_item, spell_before, spell_directives, spell_start}
+use Rattle.granit_language.specs.Yield.{spell_rooted, spell_stream}
 use Rattle.granit_lexemes.specs.declared.layout.Bracket.{Bracket}
 use Rattle.granit_grammar.proofs.Tests.{and_left}
 

@@ -14,7 +14,7 @@ use Rattle.granit_grammar.proofs.Viable.{completes}
 use Rattle.granit_grammar.proofs.Prefixes.{NextOpen, step_open, whole, events_are, faults_are, never_unfinished}
 
 -- two ways to split a list
-data Splits (f g : List Terminal) (x y : Terminal) : Type 0 where
+pub data Splits (f g : List Terminal) (x y : Terminal) : Type 0 where
   alike_split : f ≡ g → x ≡ y → Splits f g x y
   longer : (z : List Terminal) → g ≡ f ++ (x ∷ z) → Splits f g x y
   shorter : (z : List Terminal) → f ≡ g ++ (y ∷ z) → Splits f g x y
@@ -24,7 +24,8 @@ one_more a b f g x y e (alike_split h i) = alike_split (ap₂ (λ a f. a ∷ f) 
 one_more a b f g x y e (longer z h) = longer z (ap₂ (λ a f. a ∷ f) (sym e) h)
 one_more a b f g x y e (shorter z h) = shorter z (ap₂ (λ a f. a ∷ f) e h)
 
-compare : (f g : List Terminal) (x y : Terminal) (r s : List Terminal) → f ++ (x ∷ r) ≡ g ++ (y ∷ s) → Splits f g x y
+pub compare : (f g : List Terminal) (x y : Terminal) (r s : List Terminal) → f ++ (x ∷ r) ≡ g ++ (y ∷ s)
+    → Splits f g x y
 compare [] [] x y r s e = alike_split refl (cc (e))
 compare [] (b ∷ g) x y r s e = let h : b ≡ x = cc (e) in longer g (ap (λ b. b ∷ g) h)
 compare (a ∷ f) [] x y r s e = let h : a ≡ y = cc (e) in shorter f (ap (λ a. a ∷ f) h)

@@ -1,13 +1,27 @@
 -- What is read is placed.
 use Rattle.std.proofs.Common.{◌≡◌, ℕ, Bool, true, false, List, [], ◌∷◌, refl, subst, ◌==◌, ◌&&◌, Some, None}
-use Rattle.granit_grammar.specs.TreeMachine.{Next, Go, NotTaken, if_go, part_take, entry_take, entry_at, plain_site, pair_site, want_take, take, tree_step, Answer, ReadAs, RefusedAt, Short, at_end, tree_goes, parse, tree_start}
+use Rattle.granit_grammar.specs.TreeMachine.{Next, Go, NotTaken, if_go, part_take, entry_take, entry_at, plain_site}
+use Rattle.granit_grammar.specs.TreeMachine.{pair_site, want_take, take, tree_step, Answer, ReadAs, RefusedAt, Short}
+use Rattle.granit_grammar.specs.TreeMachine.{at_end, tree_goes, parse, tree_start}
 use Rattle.granit_language.specs.Choice.{choose}
-use Rattle.granit_language.specs.Node.{TreeProperties, NoProperties, One, Two, AliasNode, ScalarNode, Alone, Flow, Sequence, Mapping, Content, Nothing, Just, Entries, Entry, Through, NoPair, AfterPair, Pair, WithColon, AskOnly, NoLast, LastItem, Paired}
-use Rattle.granit_language.specs.OpenPlace.{Bare, Explicit, Around, BlockPairs, FlowPairs, Hole, AtRoot, AtEntry, AtItem, AtKey, AtAsk, AtColon, OpenPlace, Fresh, InDirectives, BehindRoot, Ended, Want, PastEntry, PastKey, PastAsk, PastPair, PastItem, spell_open, holder, room_of, AroundPlaced, HolePlaced, OpenPlaced}
+use Rattle.granit_language.specs.Node.{TreeProperties, NoProperties, One, Two, AliasNode, ScalarNode, Alone, Flow}
+use Rattle.granit_language.specs.Node.{Sequence, Mapping, Content, Nothing, Just, Entries, Entry, Through, NoPair}
+use Rattle.granit_language.specs.Node.{AfterPair, Pair, WithColon, AskOnly, NoLast, LastItem, Paired}
+use Rattle.granit_language.specs.OpenPlace.{Bare, Explicit, Around, BlockPairs, FlowPairs, Hole, AtRoot, AtEntry}
+use Rattle.granit_language.specs.OpenPlace.{AtItem, AtKey, AtAsk, AtColon, OpenPlace, Fresh, InDirectives, BehindRoot}
+use Rattle.granit_language.specs.OpenPlace.{Ended, Want, PastEntry, PastKey, PastAsk, PastPair, PastItem, spell_open}
+use Rattle.granit_language.specs.OpenPlace.{holder, room_of, AroundPlaced, HolePlaced, OpenPlaced}
 use Rattle.granit_language.specs.Placed.{PropertiesPlaced, ContentPlaced, StreamPlaced}
-use Rattle.granit_language.specs.Room.{Holder, BlockIn, FlowIn, Room, RightOf, ValueIn, KeyIn, BehindKey, ItemIn, Inside, behind_property, room_behind, right_fits, loose_fits, indicates, opens, part_fits, PartFits, differ, continues_node, sequence_over, ask_over, place_fits, pair_over}
-use Rattle.granit_language.specs.Settling.{put_in, empty_fits, end_entries, end_pair, end_ask, finish_at, settle_want, settle_place}
-use Rattle.granit_language.specs.Terminal.{PartKind, Alias, Property, Scalar, Open, TerminalKind, Directive, DocumentStart, DocumentEnd, TheEnd, Dash, Question, Comma, Colon, Close, Part, At, Terminal, terminal, edge, begins_entry_kind, stands_left, entry_in, no_terminal}
+use Rattle.granit_language.specs.Room.{Holder, BlockIn, FlowIn, Room, RightOf, ValueIn, KeyIn, BehindKey, ItemIn}
+use Rattle.granit_language.specs.Room.{Inside, behind_property, room_behind, right_fits, loose_fits, indicates, opens}
+use Rattle.granit_language.specs.Room.{part_fits, PartFits, differ, continues_node, sequence_over, ask_over, place_fits}
+use Rattle.granit_language.specs.Room.{pair_over}
+use Rattle.granit_language.specs.Settling.{put_in, empty_fits, end_entries, end_pair, end_ask, finish_at, settle_want}
+use Rattle.granit_language.specs.Settling.{settle_place}
+use Rattle.granit_language.specs.Terminal.{PartKind, Alias, Property, Scalar, Open, TerminalKind, Directive}
+use Rattle.granit_language.specs.Terminal.{DocumentStart, DocumentEnd, TheEnd, Dash, Question, Comma, Colon, Close}
+use Rattle.granit_language.specs.Terminal.{Part, At, Terminal, terminal, edge, begins_entry_kind, stands_left, entry_in}
+use Rattle.granit_language.specs.Terminal.{no_terminal}
 use Rattle.granit_language.specs.Yield.{spell_stream}
 use Rattle.granit_lexemes.specs.declared.layout.Bracket.TheVariants.{Square, Curly}
 use Rattle.granit_grammar.proofs.Tests.{and_left, and_right, and_both, same_number}
@@ -281,7 +295,8 @@ pub tells :
 tells [] p f = end_tells p f no_terminal
 tells (l ∷ ls) p f =
     let g = close_placed l p (f l)
-    in goes_tells (tree_step p l) p (settle_place l p) l ls refl (step_leads p l) (take_placed (settle_place l p) l.kind l.at g)
+    in goes_tells (tree_step p l) p (settle_place l p) l ls refl (step_leads p l)
+    (take_placed (settle_place l p) l.kind l.at g)
     (close_spells l p) g (tells ls)
 
 pub one_cut : (ls : List Terminal) → Tells (parse ls tree_start) ls

@@ -1,12 +1,15 @@
 -- A fault: the lexemes before it begin a stream, and no stream goes on with its lexeme.
 use Rattle.std.proofs.Common.{◌≡◌, List, [], ◌∷◌, ◌++◌, refl, sym, ap, ◌∙◌, subst}
 use Rattle.granit_grammar.specs.EventMachine.{EventStep, EventAnswer, Events, Faulty, Unfinished, run_events}
-use Rattle.granit_grammar.specs.TreeMachine.{Next, Go, NotTaken, take, tree_step, Answer, ReadAs, RefusedAt, Short, at_end, tree_goes, parse, tree_start}
+use Rattle.granit_grammar.specs.TreeMachine.{Next, Go, NotTaken, take, tree_step, Answer, ReadAs, RefusedAt, Short}
+use Rattle.granit_grammar.specs.TreeMachine.{at_end, tree_goes, parse, tree_start}
 use Rattle.granit_language.specs.FaultKinds.{fault_kind_at}
 use Rattle.granit_language.specs.Faults.{IsSpelled, FaultAt}
 use Rattle.granit_language.specs.GrammarFault.{GrammarFault}
 use Rattle.granit_language.specs.Node.{Stream}
-use Rattle.granit_language.specs.OpenPlace.{BlockPairs, FlowPairs, OpenPlace, Fresh, InDirectives, BehindRoot, Ended, Want, PastEntry, PastKey, PastAsk, PastPair, PastItem, spell_open, OpenPlaced, IsOpen}
+use Rattle.granit_language.specs.OpenPlace.{BlockPairs, FlowPairs, OpenPlace, Fresh, InDirectives, BehindRoot, Ended}
+use Rattle.granit_language.specs.OpenPlace.{Want, PastEntry, PastKey, PastAsk, PastPair, PastItem, spell_open}
+use Rattle.granit_language.specs.OpenPlace.{OpenPlaced, IsOpen}
 use Rattle.granit_language.specs.Placed.{StreamPlaced}
 use Rattle.granit_language.specs.Settling.{settle_place}
 use Rattle.granit_language.specs.Terminal.{TheEnd, At, Terminal, terminal, no_terminal}
@@ -104,7 +107,8 @@ stops :
 stops [] p q x i f h = absurd (no_fault p q x h)
 stops (l ∷ xs) p q x i f h =
     goes_stops (tree_step p l) l xs p q x i f refl (step_open p l i)
-    (take_placed (settle_place l p) l.kind l.at (close_placed l p (f l))) (step_leads p l) (λ r j g e. stops xs r q x j g e)
+    (take_placed (settle_place l p) l.kind l.at (close_placed l p (f l))) (step_leads p l)
+    (λ r j g e. stops xs r q x j g e)
     h
 
 -- what is read from a place behind a front is a stream
@@ -212,10 +216,12 @@ goes_further NotTaken p x ls h = tt
 
 not_short : (xs : List Terminal) (i : At) (p : OpenPlace) → NotShort (parse (xs ++ (terminal TheEnd i ∷ [])) p)
 not_short [] i p =
-    end_goes (take (settle_place (terminal TheEnd i) p) TheEnd i) (settle_place (terminal TheEnd i) p) (terminal TheEnd i)
+    end_goes (take (settle_place (terminal TheEnd i) p) TheEnd i) (settle_place (terminal TheEnd i) p)
+    (terminal TheEnd i)
     (end_taken (settle_place (terminal TheEnd i) p) i)
 not_short (x ∷ xs) i p =
-    goes_further (take (settle_place x p) x.kind x.at) (settle_place x p) x (xs ++ (terminal TheEnd i ∷ [])) (not_short xs i)
+    goes_further (take (settle_place x p) x.kind x.at) (settle_place x p) x (xs ++ (terminal TheEnd i ∷ []))
+    (not_short xs i)
 
 unfinished_short : (a : Answer) → Answers (λ more. more) Unfinished a → NotShort a → ⊥
 unfinished_short (ReadAs s) h g = h

@@ -1,8 +1,12 @@
 -- What a lexeme ends, it ends at once.
 use Rattle.std.proofs.Common.{◌≡◌, ℕ, Bool, true, false, refl, ap}
 use Rattle.granit_language.specs.Choice.{choose}
-use Rattle.granit_language.specs.Node.{TreeProperties, NoProperties, One, Two, Alone, Sequence, Mapping, Content, Nothing, Just, Entries, Entry, Through, Pair, WithColon, AskOnly, Paired}
-use Rattle.granit_language.specs.OpenPlace.{Bare, Explicit, Around, BlockPairs, FlowPairs, Hole, AtRoot, AtEntry, AtItem, AtKey, AtAsk, AtColon, OpenPlace, Fresh, InDirectives, BehindRoot, Ended, Want, PastEntry, PastKey, PastAsk, PastPair, PastItem, holder, room_of}
+use Rattle.granit_language.specs.Node.{TreeProperties, NoProperties, One, Two, Alone, Sequence, Mapping, Content}
+use Rattle.granit_language.specs.Node.{Nothing, Just, Entries, Entry, Through, Pair, WithColon, AskOnly, Paired}
+use Rattle.granit_language.specs.OpenPlace.{Bare, Explicit, Around, BlockPairs, FlowPairs, Hole, AtRoot, AtEntry}
+use Rattle.granit_language.specs.OpenPlace.{AtItem, AtKey, AtAsk, AtColon, OpenPlace, Fresh, InDirectives, BehindRoot}
+use Rattle.granit_language.specs.OpenPlace.{Ended, Want, PastEntry, PastKey, PastAsk, PastPair, PastItem, holder}
+use Rattle.granit_language.specs.OpenPlace.{room_of}
 use Rattle.granit_language.specs.Room.{behind_property, continues_node, sequence_over, ask_over, pair_over}
 use Rattle.granit_language.specs.Settling.{empty_fits, end_entries, end_pair, end_ask, finish_at, settle_place}
 use Rattle.granit_language.specs.Terminal.{At, Terminal, stands_left}

@@ -1,12 +1,22 @@
 -- What stands before an open place is what was taken.
 use Rattle.std.proofs.Common.{◌≡◌, ℕ, Bool, true, false, List, ◌∷◌, refl, ◌∙◌, ◌==◌, Some, None}
-use Rattle.granit_grammar.specs.TreeMachine.{Next, Go, NotTaken, if_go, part_take, entry_take, entry_at, plain_site, pair_site, want_take, take, tree_step}
+use Rattle.granit_grammar.specs.TreeMachine.{Next, Go, NotTaken, if_go, part_take, entry_take, entry_at, plain_site}
+use Rattle.granit_grammar.specs.TreeMachine.{pair_site, want_take, take, tree_step}
 use Rattle.granit_language.specs.Choice.{choose}
-use Rattle.granit_language.specs.Node.{TreeProperties, NoProperties, One, Two, AliasNode, ScalarNode, Alone, Flow, Sequence, Mapping, Content, Nothing, Just, Entries, Entry, Through, NoPair, AfterPair, Pair, WithColon, AskOnly, NoLast, LastItem, Paired}
-use Rattle.granit_language.specs.OpenPlace.{Bare, Explicit, Around, BlockPairs, FlowPairs, Hole, AtRoot, AtEntry, AtItem, AtKey, AtAsk, AtColon, OpenPlace, Fresh, InDirectives, BehindRoot, Want, PastEntry, PastKey, PastAsk, PastPair, PastItem, spell_around, spell_hole, spell_open, holder, room_of}
-use Rattle.granit_language.specs.Room.{room_behind, right_fits, loose_fits, indicates, opens, part_fits, differ, continues_node, sequence_over, ask_over, place_fits, pair_over}
-use Rattle.granit_language.specs.Settling.{put_in, empty_fits, end_entries, end_pair, end_ask, finish_at, settle_want, settle_place}
-use Rattle.granit_language.specs.Terminal.{PartKind, Alias, Property, Scalar, Open, TerminalKind, Directive, DocumentStart, DocumentEnd, TheEnd, Dash, Question, Comma, Colon, Close, Part, At, Terminal, terminal, edge, stands_left, entry_in}
+use Rattle.granit_language.specs.Node.{TreeProperties, NoProperties, One, Two, AliasNode, ScalarNode, Alone, Flow}
+use Rattle.granit_language.specs.Node.{Sequence, Mapping, Content, Nothing, Just, Entries, Entry, Through, NoPair}
+use Rattle.granit_language.specs.Node.{AfterPair, Pair, WithColon, AskOnly, NoLast, LastItem, Paired}
+use Rattle.granit_language.specs.OpenPlace.{Bare, Explicit, Around, BlockPairs, FlowPairs, Hole, AtRoot, AtEntry}
+use Rattle.granit_language.specs.OpenPlace.{AtItem, AtKey, AtAsk, AtColon, OpenPlace, Fresh, InDirectives, BehindRoot}
+use Rattle.granit_language.specs.OpenPlace.{Want, PastEntry, PastKey, PastAsk, PastPair, PastItem, spell_around}
+use Rattle.granit_language.specs.OpenPlace.{spell_hole, spell_open, holder, room_of}
+use Rattle.granit_language.specs.Room.{room_behind, right_fits, loose_fits, indicates, opens, part_fits, differ}
+use Rattle.granit_language.specs.Room.{continues_node, sequence_over, ask_over, place_fits, pair_over}
+use Rattle.granit_language.specs.Settling.{put_in, empty_fits, end_entries, end_pair, end_ask, finish_at, settle_want}
+use Rattle.granit_language.specs.Settling.{settle_place}
+use Rattle.granit_language.specs.Terminal.{PartKind, Alias, Property, Scalar, Open, TerminalKind, Directive}
+use Rattle.granit_language.specs.Terminal.{DocumentStart, DocumentEnd, TheEnd, Dash, Question, Comma, Colon, Close}
+use Rattle.granit_language.specs.Terminal.{Part, At, Terminal, terminal, edge, stands_left, entry_in}
 use Rattle.granit_language.specs.Yield.{spell_properties, spell_content, spell_entries, spell_pair}
 use Rattle.granit_lexemes.specs.declared.layout.Bracket.TheVariants.{Square, Curly}
 
@@ -174,7 +184,8 @@ take_leads (PastItem r p Curly o lead item) (Close Curly) i =
 take_leads p kind i = tt
 
 via_close :
-    (n : Next) (l : Terminal) (p : OpenPlace) → Leads n (Then (settle_place l p) l.kind l.at) → Leads n (Then p l.kind l.at)
+    (n : Next) (l : Terminal) (p : OpenPlace) → Leads n (Then (settle_place l p) l.kind l.at)
+    → Leads n (Then p l.kind l.at)
 via_close (Go q) l p h = λ rest. h rest ∙ close_spells l p (l ∷ rest)
 via_close NotTaken l p h = tt
 

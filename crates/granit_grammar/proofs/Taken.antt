@@ -2,7 +2,8 @@
 use Rattle.std.proofs.Common.{◌≡◌, List, [], ◌∷◌, ◌++◌, refl, sym, ap, ◌∙◌, subst}
 use Rattle.std.proofs.lemmas.List.{append-nil}
 use Rattle.granit_grammar.specs.EventMachine.{EventAnswer, Events, Faulty, Unfinished, run_events}
-use Rattle.granit_grammar.specs.TreeMachine.{Next, Go, NotTaken, take, tree_step, tree_start, Answer, ReadAs, RefusedAt, Short, at_end, tree_goes, parse}
+use Rattle.granit_grammar.specs.TreeMachine.{Next, Go, NotTaken, take, tree_step, tree_start, Answer, ReadAs, RefusedAt}
+use Rattle.granit_grammar.specs.TreeMachine.{Short, at_end, tree_goes, parse}
 use Rattle.granit_language.specs.Faults.{IsSpelled}
 use Rattle.granit_language.specs.OpenPlace.{OpenPlace, Ended, OpenPlaced, IsOpen}
 use Rattle.granit_language.specs.Settling.{settle_place}
@@ -11,9 +12,10 @@ use Rattle.granit_grammar.proofs.Agree.{Answers, machines_agree}
 use Rattle.granit_grammar.proofs.Placing.{NextPlaced, take_placed, close_placed}
 use Rattle.granit_grammar.proofs.Prefixes.{NextOpen, step_open, whole}
 use Rattle.granit_grammar.proofs.Viable.{completes}
+use Rattle.granit_grammar.proofs.Guards.{NotFaulty}
 
 -- A list that is parsed up to an open place.
-record ComesTo (xs : List Terminal) (p q : OpenPlace) : Type 0 where
+pub record ComesTo (xs : List Terminal) (p q : OpenPlace) : Type 0 where
   pub is_open : IsOpen q
   pub placed : (y : Terminal) → OpenPlaced y q
   pub leads : (more : List Terminal) → parse (xs ++ more) p ≡ parse more q
@@ -23,7 +25,8 @@ short_same (Ended s) q e = absurd cc
 short_same p q e = cc (e)
 
 goes_short :
-    (n : Next) (l : Terminal) (xs : List Terminal) (p q : OpenPlace) → take (settle_place l p) l.kind l.at ≡ n → NextOpen n →
+    (n : Next) (l : Terminal) (xs : List Terminal) (p q : OpenPlace) → take (settle_place l p) l.kind l.at ≡ n
+    → NextOpen n →
     NextPlaced n →
     ((r : OpenPlace) → IsOpen r → ((y : Terminal) → OpenPlaced y r) → parse xs r ≡ Short q → ComesTo xs r q) →
     tree_goes n (settle_place l p) l (parse xs) ≡ Short q → ComesTo (l ∷ xs) p q
@@ -36,7 +39,7 @@ goes_short (Go r) l xs p q e i f ih h =
     }
 goes_short NotTaken l xs p q e i f ih h = absurd cc
 
-comes_to :
+pub comes_to :
     (xs : List Terminal) (p q : OpenPlace) → IsOpen p → ((y : Terminal) → OpenPlaced y p) → parse xs p ≡ Short q →
     ComesTo xs p q
 comes_to [] p q i f h =
@@ -49,10 +52,6 @@ comes_to [] p q i f h =
 comes_to (l ∷ xs) p q i f h =
     goes_short (tree_step p l) l xs p q refl (step_open p l i)
     (take_placed (settle_place l p) l.kind l.at (close_placed l p (f l))) (λ r j g e. comes_to xs r q j g e) h
-
-abbrev pub NotFaulty : EventAnswer → Type 0
-NotFaulty (Faulty k x) = ⊥
-NotFaulty o = Unit {0}
 
 viable_by :
     (xs : List Terminal) (o : EventAnswer) (a : Answer) → parse xs tree_start ≡ a → NotFaulty o →

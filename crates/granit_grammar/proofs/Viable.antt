@@ -2,12 +2,21 @@
 use Rattle.std.proofs.Common.{◌≡◌, ℕ, Bool, true, false, List, [], ◌∷◌, refl, sym, ap, ◌∙◌, arith, ◌==◌, nat_lt, Some}
 use Rattle.granit_grammar.specs.TreeMachine.{take, ReadAs, tree_goes, parse}
 use Rattle.granit_language.specs.Choice.{choose}
-use Rattle.granit_language.specs.Node.{TreeProperties, NoProperties, One, Two, Node, Alone, Flow, Sequence, Mapping, Content, Nothing, Just, Entries, Entry, Through, PairLead, Pair, WithColon, AskOnly, Left, SimpleKey, FlowLead, NoLast, LastItem, Single, Paired, AfterDirectives, Rooted, BareRoot, ExplicitRoot, Stream, EndFresh, EndRooted}
-use Rattle.granit_language.specs.OpenPlace.{Bare, Explicit, Around, BlockPairs, FlowPairs, Hole, AtRoot, AtEntry, AtItem, AtKey, AtAsk, AtColon, OpenPlace, Fresh, InDirectives, BehindRoot, Ended, Want, PastEntry, PastKey, PastAsk, PastPair, PastItem, room_of, AroundPlaced, HolePlaced, OpenPlaced, IsHole, IsOpen}
+use Rattle.granit_language.specs.Node.{TreeProperties, NoProperties, One, Two, Node, Alone, Flow, Sequence, Mapping}
+use Rattle.granit_language.specs.Node.{Content, Nothing, Just, Entries, Entry, Through, PairLead, Pair, WithColon}
+use Rattle.granit_language.specs.Node.{AskOnly, Left, SimpleKey, FlowLead, NoLast, LastItem, Single, Paired}
+use Rattle.granit_language.specs.Node.{AfterDirectives, Rooted, BareRoot, ExplicitRoot, Stream, EndFresh, EndRooted}
+use Rattle.granit_language.specs.OpenPlace.{Bare, Explicit, Around, BlockPairs, FlowPairs, Hole, AtRoot, AtEntry}
+use Rattle.granit_language.specs.OpenPlace.{AtItem, AtKey, AtAsk, AtColon, OpenPlace, Fresh, InDirectives, BehindRoot}
+use Rattle.granit_language.specs.OpenPlace.{Ended, Want, PastEntry, PastKey, PastAsk, PastPair, PastItem, room_of}
+use Rattle.granit_language.specs.OpenPlace.{AroundPlaced, HolePlaced, OpenPlaced, IsHole, IsOpen}
 use Rattle.granit_language.specs.Placed.{SomeProperties, left_front, pair_front, EntriesPlaced}
-use Rattle.granit_language.specs.Room.{BlockIn, FlowIn, Room, RightOf, ValueIn, KeyIn, BehindKey, ItemIn, Inside, behind_property, room_behind, right_fits, loose_fits, sequence_fits, continues_node, entry_empty, sequence_over, value_empty, ask_empty}
+use Rattle.granit_language.specs.Room.{BlockIn, FlowIn, Room, RightOf, ValueIn, KeyIn, BehindKey, ItemIn, Inside}
+use Rattle.granit_language.specs.Room.{behind_property, room_behind, right_fits, loose_fits, sequence_fits}
+use Rattle.granit_language.specs.Room.{continues_node, entry_empty, sequence_over, value_empty, ask_empty}
 use Rattle.granit_language.specs.Settling.{put_in, end_entries, end_pair, finish_at, settle_place}
-use Rattle.granit_language.specs.Terminal.{DocumentStart, TheEnd, Question, Colon, Close, At, Terminal, terminal, edge, closes_kind, text_start, no_terminal}
+use Rattle.granit_language.specs.Terminal.{DocumentStart, TheEnd, Question, Colon, Close, At, Terminal, terminal, edge}
+use Rattle.granit_language.specs.Terminal.{closes_kind, text_start, no_terminal}
 use Rattle.granit_lexemes.specs.declared.layout.Bracket.{Bracket}
 use Rattle.granit_lexemes.specs.declared.layout.Bracket.TheVariants.{Square, Curly}
 use Rattle.std.proofs.lemmas.Bool.Decides.{nat_tests}
@@ -16,24 +25,24 @@ use Rattle.granit_grammar.proofs.Entering.{alike, close_put}
 use Rattle.granit_grammar.proofs.Complete.{closes_empty, closes_item, closer_over}
 
 -- lexemes that end what is open
-abbrev nowhere : At
+abbrev pub nowhere : At
 nowhere = no_terminal.at
 
-abbrev the_end : Terminal
+abbrev pub the_end : Terminal
 the_end = terminal TheEnd nowhere
 
-abbrev closer : Bracket → Terminal
+abbrev pub closer : Bracket → Terminal
 closer bracket = terminal (Close bracket) nowhere
 
-abbrev key_colon : Terminal
+abbrev pub key_colon : Terminal
 key_colon = terminal (Colon (Some 0)) nowhere
 
-abbrev after_around : List Terminal → Around → List Terminal
+abbrev pub after_around : List Terminal → Around → List Terminal
 after_around more (BlockPairs p c lead) = the_end ∷ []
 after_around more (FlowPairs p bracket o lead) = closer bracket ∷ more
 
 -- what may follow a node in a hole up to the end
-abbrev after_put : Hole → List Terminal
+abbrev pub after_put : Hole → List Terminal
 after_put (AtRoot root) = the_end ∷ []
 after_put (AtEntry r p loose c lead i) = the_end ∷ []
 after_put (AtItem r p bracket o lead) = closer bracket ∷ after_put r
@@ -318,54 +327,71 @@ alone_same (AtColon r (FlowPairs q bracket o lead) left m) p s =
 alone_reads : (r : Hole) (p : TreeProperties) → SomeProperties p → HolePlaced r → Reads (after_put r) (Want r p)
 alone_reads r p s f = let g = put_reads r f (Alone p) in (g.0, alone_same r p s ∙ g.1)
 
+-- ---- what may follow an open place up to the end
+
+abbrev pub after_hole : Hole → List Terminal
+after_hole (AtRoot (Bare b)) = []
+after_hole (AtRoot (Explicit s j)) = the_end ∷ []
+after_hole (AtEntry r p loose c lead j) = the_end ∷ []
+after_hole (AtItem r p bracket o lead) = closer bracket ∷ after_put r
+after_hole (AtKey r a k) = []
+after_hole (AtAsk r a q) = after_around (after_put r) a
+after_hole (AtColon r a left m) = after_around (after_put r) a
+
+abbrev pub after_place : OpenPlace → List Terminal
+after_place (Fresh b) = the_end ∷ []
+after_place (InDirectives ds) = terminal DocumentStart nowhere ∷ the_end ∷ []
+after_place (BehindRoot ro) = the_end ∷ []
+after_place (Ended s) = []
+after_place (Want r NoProperties) = after_hole r
+after_place (Want r p) = after_put r
+after_place (PastEntry r p loose c es) = the_end ∷ []
+after_place (PastKey r a k t) = key_colon ∷ after_around (after_put r) a
+after_place (PastAsk r a q v) = after_around (after_put r) a
+after_place (PastPair r a pair) = after_around (after_put r) a
+after_place (PastItem r p bracket o lead item) = closer bracket ∷ after_put r
+
 -- nothing in a hole
-want_reads : (r : Hole) → IsHole r → HolePlaced r → (ls : List Terminal) × Reads ls (Want r NoProperties)
+want_reads : (r : Hole) → IsHole r → HolePlaced r → Reads (after_hole r) (Want r NoProperties)
 want_reads (AtRoot (Bare b)) i f = absurd i
-want_reads (AtRoot (Explicit s j)) i f = (the_end ∷ [], (EndRooted (ExplicitRoot s j Nothing) nowhere, refl))
-want_reads (AtEntry r p loose c lead j) i f = (
-  the_end ∷ [],
-  end_here (Want (AtEntry r p loose c lead j) NoProperties) (entry_empty loose c the_end)
-      (end_entries the_end (finish_at the_end r) r p loose c (Entry lead j Nothing)) refl
-      (or_left _ _ (positive_edge j c f.4))
-      (entries_over (finish_at the_end r) r p loose c (Entry lead j Nothing) (positive_edge j c f.4)
-      (roots r f.0 (block_sequence p (room_of r) loose c f.2))),
-)
+want_reads (AtRoot (Explicit s j)) i f = (EndRooted (ExplicitRoot s j Nothing) nowhere, refl)
+want_reads (AtEntry r p loose c lead j) i f =
+    end_here (Want (AtEntry r p loose c lead j) NoProperties) (entry_empty loose c the_end)
+    (end_entries the_end (finish_at the_end r) r p loose c (Entry lead j Nothing)) refl
+    (or_left _ _ (positive_edge j c f.4))
+    (entries_over (finish_at the_end r) r p loose c (Entry lead j Nothing) (positive_edge j c f.4)
+    (roots r f.0 (block_sequence p (room_of r) loose c f.2)))
 want_reads (AtItem r p bracket o lead) i f =
     let g = put_reads r f.0 (Flow p bracket o lead NoLast nowhere) in
-    (closer bracket ∷ after_put r, (g.0, closes_empty r p bracket o lead nowhere (after_put r) ∙ g.1))
+    (g.0, closes_empty r p bracket o lead nowhere (after_put r) ∙ g.1)
 want_reads (AtKey r a k) i f = absurd i
 want_reads (AtAsk r a q) i f =
-    (after_around (after_put r) a, question_reads r a q (terminal Question q) f.0 f.1 (put_reads r f.0))
+    question_reads r a q (terminal Question q) f.0 f.1 (put_reads r f.0)
 want_reads (AtColon r a left m) i f =
-    (after_around (after_put r) a, colon_reads r a left m (left_front left m) f.0 f.1 (put_reads r f.0))
+    colon_reads r a left m (left_front left m) f.0 f.1 (put_reads r f.0)
 
 -- the column of the entries
 entries_column : (es : Entries) (loose : Bool) (c : ℕ) (x : Terminal) → EntriesPlaced es loose c x → nat_lt 0 c ≡ true
 entries_column (Entry lead i v) loose c x f = positive_edge i c f.1
 
-pub completes : (p : OpenPlace) → IsOpen p → OpenPlaced no_terminal p → (ls : List Terminal) × Reads ls p
-completes (Fresh b) i f = (the_end ∷ [], (EndFresh b nowhere, refl))
-completes (InDirectives ds) i f = (
-  terminal DocumentStart nowhere ∷ the_end ∷ [],
-  (EndRooted (ExplicitRoot (AfterDirectives ds) nowhere Nothing) nowhere, refl),
-)
-completes (BehindRoot ro) i f = (the_end ∷ [], (EndRooted ro nowhere, refl))
-completes (Ended s) i f = ([], (s, refl))
-completes (Want r NoProperties) i f = want_reads r i f.0
-completes (Want r (One k j)) i f = (after_put r, alone_reads r (One k j) tt f.0)
-completes (Want r (Two k j m h)) i f = (after_put r, alone_reads r (Two k j m h) tt f.0)
-completes (PastEntry r p loose c es) i f = (
-  the_end ∷ [],
-  end_reads (PastEntry r p loose c es)
-      (entries_over (finish_at the_end r) r p loose c es (entries_column es loose c no_terminal f.3)
-      (roots r f.0 (block_sequence p (room_of r) loose c f.2))),
-)
-completes (PastKey r a k t) i f =
-    (key_colon ∷ after_around (after_put r) a, colon_reads r a (SimpleKey k t 0) nowhere k f.0 f.1 (put_reads r f.0))
-completes (PastAsk r a q v) i f =
-    (after_around (after_put r) a, ask_reads r a q v (terminal Question q) f.0 f.1 (put_reads r f.0))
-completes (PastPair r a pair) i f =
-    (after_around (after_put r) a, pair_reads r a pair (pair_front pair) f.0 f.1 (put_reads r f.0))
-completes (PastItem r p bracket o lead item) i f =
+pub completed : (p : OpenPlace) → IsOpen p → OpenPlaced no_terminal p → Reads (after_place p) p
+completed (Fresh b) i f = (EndFresh b nowhere, refl)
+completed (InDirectives ds) i f = (EndRooted (ExplicitRoot (AfterDirectives ds) nowhere Nothing) nowhere, refl)
+completed (BehindRoot ro) i f = (EndRooted ro nowhere, refl)
+completed (Ended s) i f = (s, refl)
+completed (Want r NoProperties) i f = want_reads r i f.0
+completed (Want r (One k j)) i f = alone_reads r (One k j) tt f.0
+completed (Want r (Two k j m h)) i f = alone_reads r (Two k j m h) tt f.0
+completed (PastEntry r p loose c es) i f =
+    end_reads (PastEntry r p loose c es)
+    (entries_over (finish_at the_end r) r p loose c es (entries_column es loose c no_terminal f.3)
+    (roots r f.0 (block_sequence p (room_of r) loose c f.2)))
+completed (PastKey r a k t) i f = colon_reads r a (SimpleKey k t 0) nowhere k f.0 f.1 (put_reads r f.0)
+completed (PastAsk r a q v) i f = ask_reads r a q v (terminal Question q) f.0 f.1 (put_reads r f.0)
+completed (PastPair r a pair) i f = pair_reads r a pair (pair_front pair) f.0 f.1 (put_reads r f.0)
+completed (PastItem r p bracket o lead item) i f =
     let g = put_reads r f.0 (Flow p bracket o lead (LastItem item) nowhere) in
-    (closer bracket ∷ after_put r, (g.0, closes_item r p bracket o lead item nowhere (after_put r) ∙ g.1))
+    (g.0, closes_item r p bracket o lead item nowhere (after_put r) ∙ g.1)
+
+pub completes : (p : OpenPlace) → IsOpen p → OpenPlaced no_terminal p → (ls : List Terminal) × Reads ls p
+completes p i f = (after_place p, completed p i f)

@@ -1,29 +1,44 @@
 -- The whole machine's answers.
-use Rattle.granit_language.specs.Faults.{IsSpelled}
-use Rattle.granit_grammar.proofs.Taken.{NotFaulty, taken_viable}
-use Rattle.std.proofs.Common.{arith, ◌≡◌, ℕ, Bool, true, false, List, [], ◌∷◌, ◌++◌, length, codes, refl, sym, ap, ap₂, ◌∙◌, subst, inl, inr, Option, Some, None, ◌==◌, nat_lt, append_assoc}
+use Rattle.granit_language.specs.Faults.{IsSpelled, FaultAt}
+use Rattle.granit_grammar.proofs.Taken.{comes_to, taken_viable}
+use Rattle.std.proofs.Common.{◌≡◌, ℕ, Bool, true, false, List, [], ◌∷◌, ◌++◌, length, codes, refl, sym, ap, ap₂, ◌∙◌}
+use Rattle.std.proofs.Common.{subst, inl, inr, Option, Some, None, ◌==◌, nat_lt, append_assoc}
 use Rattle.std.specs.Prelude.{◌⊎◌, if◌then◌else◌, nat_le}
 use Rattle.granit_error.specs.OptionsData.{OptionsData}
-use Rattle.granit_grammar.specs.EventMachine.{EventState, IsFresh, EventAnswer, Events, Faulty, Unfinished, events_before, run_events_from, run_events, outcome_at_end, IsEnded}
-use Rattle.granit_grammar.specs.Guarded.{guarded, Passes, first_fault, fault_unless, limit_fault, limit_guard, scope_guard, whole_guard, whole_run, state_count, is_loose, Guard}
+use Rattle.granit_grammar.specs.EventMachine.{EventState, IsFresh, EventAnswer, Events, Faulty, Unfinished}
+use Rattle.granit_grammar.specs.EventMachine.{events_before, run_events_from, run_events, outcome_at_end, IsEnded}
+use Rattle.granit_grammar.specs.Guarded.{guarded, Passes, first_fault, fault_unless, limit_fault, limit_guard}
+use Rattle.granit_grammar.specs.Guarded.{scope_guard, whole_guard, whole_run, state_count, is_loose, Guard}
 use Rattle.granit_grammar.specs.Passing.{GuardFault}
-use Rattle.granit_grammar.specs.TreeMachine.{parse, tree_start}
-use Rattle.granit_language.specs.GrammarFault.{GrammarFault, TooManyBlocks, UnknownAnchor, UndeclaredTagHandle, UnsupportedYamlMajorVersion, DuplicateVersionDirective}
+use Rattle.granit_grammar.specs.TreeMachine.{Answer, ReadAs, RefusedAt, Short, parse, tree_start}
+use Rattle.granit_language.specs.GrammarFault.{GrammarFault, TooManyBlocks, UnknownAnchor, UndeclaredTagHandle}
+use Rattle.granit_language.specs.GrammarFault.{UnsupportedYamlMajorVersion, DuplicateVersionDirective}
 use Rattle.granit_language.specs.Node.{Stream}
 use Rattle.granit_language.specs.Placed.{StreamPlaced}
 use Rattle.granit_language.specs.Scope.{Scope, no_scope, entry_of}
-use Rattle.granit_language.specs.Scoping.{next_scope, scope_behind, in_scope, scoped, prefix_by, number_of_anchor, fault_if_none, unless, alias_fault, version_fault, handle_fault, scope_fault, Means}
-use Rattle.granit_language.specs.Terminal.{Anchor, Tag, Alias, Property, Scalar, Open, TerminalKind, Directive, Part, Terminal, text_start, At, TheEnd, terminal}
+use Rattle.granit_language.specs.Scoping.{next_scope, scope_behind, in_scope, scoped, prefix_by, number_of_anchor}
+use Rattle.granit_language.specs.Scoping.{fault_if_none, unless, alias_fault, version_fault, handle_fault, scope_fault}
+use Rattle.granit_language.specs.Scoping.{Means}
+use Rattle.granit_language.specs.Terminal.{Anchor, Tag, Alias, Property, Scalar, Open, TerminalKind, Directive, Part}
+use Rattle.granit_language.specs.Terminal.{Terminal, text_start, At, TheEnd, terminal, no_terminal}
 use Rattle.granit_language.specs.TreeEvents.{StreamStarts, TreeEvent, pointed}
-use Rattle.granit_language.specs.Whole.{WholeReading, ScopeCause, no_anchor, no_handle, second_version, other_version, second_handle, IsWithin, GuardCause, WholeFault}
+use Rattle.granit_language.specs.Whole.{WholeReading, ScopeCause, no_anchor, no_handle, second_version, other_version}
+use Rattle.granit_language.specs.Whole.{second_handle, IsWithin, Viable, BeginsBlock, LexemeCause, not_taken, too_many}
+use Rattle.granit_language.specs.Whole.{means_nothing, WholeFault}
 use Rattle.granit_language.specs.Within.{stream_within}
 use Rattle.granit_language.specs.Yield.{spell_stream}
 use Rattle.granit_lexemes.specs.Lexeme.{Version, TagPrefix, Reserved}
-use Rattle.std.proofs.lemmas.Bool.Decides.{nat_tests}
+use Rattle.std.proofs.lemmas.List.{append-nil}
+use Rattle.granit_grammar.proofs.Agree.{Answers, machines_agree}
+use Rattle.granit_grammar.proofs.Beginning.{too_many_begin}
 use Rattle.granit_grammar.proofs.Complete.{reads}
+use Rattle.granit_grammar.proofs.Completing.{completed_within}
+use Rattle.granit_grammar.proofs.Placing.{Tells, one_cut}
+use Rattle.granit_grammar.proofs.Viable.{after_place, completed}
 use Rattle.granit_grammar.proofs.Prefixes.{events_are, streams_are_read, faults_are, never_unfinished}
-use Rattle.granit_grammar.proofs.Guards.{passes_same, guarded_tells, TellsOf, passes_first, passes_second, passes_both, means_passes, passes_means}
-use Rattle.granit_grammar.proofs.Limit.{passes_within, within_passes}
+use Rattle.granit_grammar.proofs.Guards.{NotFaulty, drop_before, passes_front, passes_same, guarded_tells, TellsOf}
+use Rattle.granit_grammar.proofs.Guards.{passes_first, passes_second, passes_both, means_passes, passes_means}
+use Rattle.granit_grammar.proofs.Limit.{from_zero, passes_within, within_passes}
 use Rattle.granit_grammar.proofs.Declares.{not_named, declared_by, versioned_by, not_versioned, not_in_force}
 
 abbrev Starts : EventAnswer → EventAnswer
@@ -33,9 +48,6 @@ Starts o = events_before (pointed StreamStarts text_start ∷ []) o
 
 abbrev limit_of : OptionsData → ℕ
 limit_of o = o.block_nesting_limit
-
-from_zero : (n : ℕ) → nat_le 0 n ≡ true
-from_zero n = grind (arith, nat_tests)
 
 stream_passes :
     (o : OptionsData) (xs : List Terminal) (s : Stream) → spell_stream s [] ≡ scoped no_scope xs → StreamPlaced s →
@@ -77,12 +89,12 @@ events_from o xs es more (Events m) h p e same =
       spelled = t.1;
       placed = t.2;
       within =
-          passes_within (limit_of o) t.0 (scoped no_scope xs) tree_start tt refl
+          passes_within (limit_of o) (ReadAs t.0) (scoped no_scope xs) tree_start tt refl
           (ap (λ ls. parse ls tree_start) (sym t.1) ∙ reads t.0 t.2)
           (passes_first (limit_guard (limit_of o)) (scope_guard o.emit_unresolved_aliases) (scoped no_scope xs)
           IsFresh p);
       means =
-          passes_means o.emit_unresolved_aliases (scoped no_scope xs) IsFresh m ran
+          passes_means o.emit_unresolved_aliases (scoped no_scope xs) IsFresh (subst NotFaulty (sym ran) tt)
           (passes_second (limit_guard (limit_of o)) (scope_guard o.emit_unresolved_aliases) (scoped no_scope xs)
           IsFresh p);
       events_are = t.3;
@@ -179,6 +191,65 @@ scope_cause u front (Part (Open bracket)) k e = absurd cc
 scope_cause u front (Directive (Reserved n p)) k e = absurd cc
 scope_cause u front kind k e = absurd cc
 
+-- ---- lexemes that are taken and that all guards let pass begin a reading
+
+within_by :
+    (n : ℕ) (ls : List Terminal) (a : Answer) → parse ls tree_start ≡ a → Passes (limit_guard n) ls IsFresh →
+    (o : EventAnswer) → NotFaulty o → Answers (λ more. more) o a → (more : List Terminal) × IsWithin n (ls ++ more)
+within_by n ls (ReadAs s) e p o f h =
+    let t = subst (λ a. Tells a ls) e (one_cut ls) in
+    ([], (s, t.0 ∙ sym (append-nil ls), t.1, passes_within n (ReadAs s) ls tree_start tt refl e p))
+within_by n ls (Short q) e p o f h =
+    let t = comes_to ls tree_start q tt (λ y. tt) e in
+    let c = completed q t.is_open (t.placed no_terminal) in
+    let u = subst (λ a. Tells a (ls ++ after_place q)) (t.leads (after_place q) ∙ c.1) (one_cut
+    (ls ++ after_place q)) in (
+      after_place q,
+      (
+        c.0,
+        u.0,
+        u.1,
+        completed_within n q t.is_open (t.placed no_terminal) (passes_within n (Short q) ls tree_start tt refl e p),
+      ),
+    )
+within_by n ls (RefusedAt q y) e p (Faulty k x) f h = absurd f
+within_by n ls (RefusedAt q y) e p (Events es) f h = absurd h
+within_by n ls (RefusedAt q y) e p Unfinished f h = absurd h
+
+within_from :
+    (n : ℕ) (ls : List Terminal) → Passes (limit_guard n) ls IsFresh → NotFaulty (run_events ls) →
+    (more : List Terminal) × IsWithin n (ls ++ more)
+within_from n ls p f = within_by n ls (parse ls tree_start) refl p (run_events ls) f (machines_agree ls)
+
+viable_from :
+    (o : OptionsData) (xs : List Terminal) → Passes (whole_guard o) (scoped no_scope xs) IsFresh →
+    NotFaulty (run_events (scoped no_scope xs)) → Viable o xs
+viable_from o xs p f =
+    let ls = scoped no_scope xs in
+    let w = within_from (limit_of o) ls
+    (passes_first (limit_guard (limit_of o)) (scope_guard o.emit_unresolved_aliases) ls IsFresh p) f in
+    record {
+      more = w.0;
+      within = w.1;
+      means =
+          passes_means o.emit_unresolved_aliases ls IsFresh
+          (drop_before (pointed StreamStarts text_start ∷ []) (run_events_from ls IsFresh) f)
+          (passes_second (limit_guard (limit_of o)) (scope_guard o.emit_unresolved_aliases) ls IsFresh p);
+    }
+
+-- with lexemes with which a stream begins there is no fault
+taken_by :
+    (xs more : List Terminal) (o : EventAnswer) → run_events xs ≡ o → IsSpelled (xs ++ more) → NotFaulty o
+taken_by xs more (Events es) e v = tt
+taken_by xs more Unfinished e v = tt
+taken_by xs more (Faulty k x) e v =
+    let f = faults_are xs k x e in
+    f.unread (f.rest ++ more)
+    (subst IsSpelled (ap (λ xs. xs ++ more) f.is ∙ append_assoc f.front (x ∷ f.rest) more) v)
+
+viable_taken : (xs more : List Terminal) → IsSpelled (xs ++ more) → NotFaulty (run_events xs)
+viable_taken xs more v = taken_by xs more (run_events xs) refl v
+
 -- ---- faults
 
 -- a list with scopes is split as the list is
@@ -232,69 +303,126 @@ over_limit o xs k x h f more s =
     let none = h.seen (limit_guard (limit_of o)) more p in
     let e : Some k ≡ None = sym f ∙ none in absurd cc
 
-end_taken : (es more : List TreeEvent) (st : EventState) → NotFaulty (events_before es (events_before more (outcome_at_end st)))
+end_taken : (es more : List TreeEvent) (st : EventState) → NotFaulty (events_before es (events_before more
+    (outcome_at_end st)))
 end_taken es more IsEnded = tt
 end_taken es more st = tt
 
 -- what the guards refuse, the grammar takes
+guard_taken :
+    (o : OptionsData) (xs : List Terminal) (k : GrammarFault) (x : Terminal)
+    (h : GuardFault (whole_guard o) xs IsFresh k x) → NotFaulty (run_events (h.front ++ (x ∷ [])))
+guard_taken o xs k x h =
+    subst NotFaulty (sym (ap Starts (h.runs []))) (end_taken (pointed StreamStarts text_start ∷ []) h.given h.behind)
+
 guard_viable :
     (o : OptionsData) (xs : List Terminal) (k : GrammarFault) (x : Terminal)
-    (h : GuardFault (whole_guard o) (scoped no_scope xs) IsFresh k x) (t : Split no_scope xs h.front x) →
-    (more : List Terminal) × IsSpelled (scoped no_scope t.plain ++ (x ∷ more))
-guard_viable o xs k x h t =
-    let v = taken_viable (h.front ++ (x ∷ []))
-    (subst NotFaulty (sym (ap Starts (h.runs []))) (end_taken (pointed StreamStarts text_start ∷ []) h.given h.behind)) in (
-      v.0,
-      subst (λ front. IsSpelled (front ++ (x ∷ v.0))) t.front_is (subst IsSpelled (append_assoc h.front (x ∷ []) v.0) v.1),
-    )
+    (h : GuardFault (whole_guard o) xs IsFresh k x) → (more : List Terminal) × IsSpelled (h.front ++ (x ∷ more))
+guard_viable o xs k x h =
+    let v = taken_viable (h.front ++ (x ∷ [])) (guard_taken o xs k x h) in
+    (v.0, subst IsSpelled (append_assoc h.front (x ∷ []) v.0) v.1)
 
-cause_by :
+guard_before :
+    (o : OptionsData) (xs : List Terminal) (k : GrammarFault) (x : Terminal)
+    (h : GuardFault (whole_guard o) (scoped no_scope xs) IsFresh k x) (t : Split no_scope xs h.front x) →
+    Viable o t.plain
+guard_before o xs k x h t =
+    let v = guard_viable o (scoped no_scope xs) k x h in
+    viable_from o t.plain (subst (λ ls. Passes (whole_guard o) ls IsFresh) t.front_is h.passes)
+    (viable_taken (scoped no_scope t.plain) (x ∷ v.0) (subst (λ front. IsSpelled (front ++ (x ∷ v.0))) t.front_is v.1))
+
+guard_cause :
     (o : OptionsData) (xs : List Terminal) (k : GrammarFault) (x : Terminal)
     (h : GuardFault (whole_guard o) (scoped no_scope xs) IsFresh k x) (t : Split no_scope xs h.front x) →
     (limit_fault (limit_of o) h.behind ≡ Some k)
     ⊎ ((limit_fault (limit_of o) h.behind ≡ None)
     × (scope_fault o.emit_unresolved_aliases x.kind x.at.scope ≡ Some k)) →
-    GuardCause o xs k x
-cause_by o xs k x h t (inl f) = record {
-  front = t.plain;
-  here = t.here;
-  rest = t.rest;
-  is = t.is;
-  x_is = t.x_is;
-  viable = guard_viable o xs k x h t;
-  cause =
-      inl (
-        is_loose h.behind,
-        limit_kind (limit_of o) h.behind k f,
-        λ more.
-            subst (λ front. IsWithin (limit_of o) (front ++ (x ∷ more)) → ⊥) t.front_is
-            (over_limit o (scoped no_scope xs) k x h f more),
-      );
-}
-cause_by o xs k x h t (inr f) = record {
-  front = t.plain;
-  here = t.here;
-  rest = t.rest;
-  is = t.is;
-  x_is = t.x_is;
-  viable = guard_viable o xs k x h t;
-  cause =
-      inr
-      (scope_cause o.emit_unresolved_aliases t.plain t.here.kind k
-      (subst (λ x. scope_fault o.emit_unresolved_aliases x.kind x.at.scope ≡ Some k) t.x_is f.1));
-}
+    LexemeCause o t.plain t.here.kind x k
+guard_cause o xs k x h t (inl f) =
+    let v = guard_viable o (scoped no_scope xs) k x h in
+    let limits = passes_first (limit_guard (limit_of o))
+    (scope_guard o.emit_unresolved_aliases) h.front IsFresh h.passes
+    in
+    subst (LexemeCause o t.plain t.here.kind x) (sym (limit_kind (limit_of o) h.behind k f))
+    (too_many v.0 (subst (λ front. IsSpelled (front ++ (x ∷ v.0))) t.front_is v.1)
+    (λ more.
+    subst (λ front. IsWithin (limit_of o) (front ++ (x ∷ more)) → ⊥) t.front_is
+    (over_limit o (scoped no_scope xs) k x h f more))
+    (subst (λ kind. BeginsBlock (scoped no_scope t.plain ++ (x ∷ [])) kind (is_loose h.behind))
+    (ap (λ x. x.kind) t.x_is)
+    (subst (λ front. BeginsBlock (front ++ (x ∷ [])) x.kind (is_loose h.behind)) t.front_is
+    (too_many_begin (whole_guard o) (limit_of o) (scoped no_scope xs) k x h limits f))))
+guard_cause o xs k x h t (inr f) =
+    let limits = passes_first (limit_guard (limit_of o))
+    (scope_guard o.emit_unresolved_aliases) h.front IsFresh h.passes
+    in
+    let w = within_from (limit_of o) (h.front ++ (x ∷ [])) (h.joined (limit_guard (limit_of o)) limits f.0)
+    (guard_taken o (scoped no_scope xs) k x h) in
+    means_nothing w.0
+    (subst (λ front. IsWithin (limit_of o) (front ++ (x ∷ w.0))) t.front_is
+    (subst (IsWithin (limit_of o)) (append_assoc h.front (x ∷ []) w.0) w.1))
+    (scope_cause o.emit_unresolved_aliases t.plain t.here.kind k
+    (subst (λ x. scope_fault o.emit_unresolved_aliases x.kind x.at.scope ≡ Some k) t.x_is f.1))
+
+guard_fault :
+    (o : OptionsData) (xs : List Terminal) (k : GrammarFault) (x : Terminal) →
+    GuardFault (whole_guard o) (scoped no_scope xs) IsFresh k x → WholeFault o xs k x
+guard_fault o xs k x h =
+    let t = split no_scope xs h.front x h.rest h.is in
+    record {
+      front = t.plain;
+      here = t.here;
+      rest = t.rest;
+      is = t.is;
+      x_is = t.x_is;
+      viable = guard_before o xs k x h t;
+      cause =
+          guard_cause o xs k x h t
+          (first_of_two (limit_fault (limit_of o) h.behind) (scope_fault o.emit_unresolved_aliases x.kind x.at.scope) k
+          h.fault);
+    }
+
+-- what all guards let pass and the grammar refuses
+grammar_fault :
+    (o : OptionsData) (xs : List Terminal) (k : GrammarFault) (x : Terminal) →
+    Passes (whole_guard o) (scoped no_scope xs) IsFresh → FaultAt (scoped no_scope xs) k x → WholeFault o xs k x
+grammar_fault o xs k x p f =
+    let t = split no_scope xs f.front x f.rest f.is in
+    let before = passes_front (whole_guard o) f.front (x ∷ f.rest) IsFresh
+    (subst (λ ls. Passes (whole_guard o) ls IsFresh) f.is p) in
+    record {
+      front = t.plain;
+      here = t.here;
+      rest = t.rest;
+      is = t.is;
+      x_is = t.x_is;
+      viable =
+          viable_from o t.plain (subst (λ ls. Passes (whole_guard o) ls IsFresh) t.front_is before)
+          (viable_taken (scoped no_scope t.plain) f.viable.0
+          (subst (λ front. IsSpelled (front ++ f.viable.0)) t.front_is f.viable.1));
+      cause =
+          not_taken (record {
+            front = f.front;
+            rest = [];
+            is = ap (λ front. front ++ (x ∷ [])) (sym t.front_is);
+            place = f.place;
+            cut = f.cut;
+            placed = f.placed;
+            is_open = f.is_open;
+            settled = f.settled;
+            kind_is = f.kind_is;
+            unread = f.unread;
+            viable = f.viable;
+          });
+    }
 
 fault_from :
     (o : OptionsData) (xs : List Terminal) (k : GrammarFault) (x : Terminal) →
     (Passes (whole_guard o) (scoped no_scope xs) IsFresh × (run_events_from (scoped no_scope xs) IsFresh ≡ Faulty k x))
     ⊎ GuardFault (whole_guard o) (scoped no_scope xs) IsFresh k x →
     WholeFault o xs k x
-fault_from o xs k x (inl h) = inl (faults_are (scoped no_scope xs) k x (ap Starts h.1))
-fault_from o xs k x (inr h) =
-    inr
-    (cause_by o xs k x h (split no_scope xs h.front x h.rest h.is)
-    (first_of_two (limit_fault (limit_of o) h.behind) (scope_fault o.emit_unresolved_aliases x.kind x.at.scope) k
-    h.fault))
+fault_from o xs k x (inl h) = grammar_fault o xs k x h.0 (faults_are (scoped no_scope xs) k x (ap Starts h.1))
+fault_from o xs k x (inr h) = guard_fault o xs k x h
 
 start_fault : (o : EventAnswer) (k : GrammarFault) (x : Terminal) → Starts o ≡ Faulty k x → o ≡ Faulty k x
 start_fault (Faulty j y) k x e = e
@@ -309,6 +437,25 @@ whole_faults o xs k x e =
     (subst (TellsOf (whole_guard o) (scoped no_scope xs) IsFresh)
     (start_fault (guarded (whole_guard o) (scoped no_scope xs) IsFresh) k x e)
     (guarded_tells (whole_guard o) (scoped no_scope xs) IsFresh))
+
+-- ---- where there is no fault, a reading begins
+
+not_faulty_tells :
+    (o : OptionsData) (xs : List Terminal) (a : EventAnswer) →
+    guarded (whole_guard o) (scoped no_scope xs) IsFresh ≡ a → NotFaulty (Starts a) →
+    TellsOf (whole_guard o) (scoped no_scope xs) IsFresh a → Viable o xs
+not_faulty_tells o xs (Events es) e n t =
+    viable_from o xs t
+    (subst NotFaulty (sym (ap Starts (sym (passes_same (whole_guard o) (scoped no_scope xs) IsFresh t) ∙ e))) tt)
+not_faulty_tells o xs Unfinished e n t =
+    viable_from o xs t
+    (subst NotFaulty (sym (ap Starts (sym (passes_same (whole_guard o) (scoped no_scope xs) IsFresh t) ∙ e))) tt)
+not_faulty_tells o xs (Faulty k x) e n t = absurd n
+
+pub whole_viable : (o : OptionsData) (xs : List Terminal) → NotFaulty (whole_run o xs) → Viable o xs
+whole_viable o xs n =
+    not_faulty_tells o xs (guarded (whole_guard o) (scoped no_scope xs) IsFresh) refl n
+    (guarded_tells (whole_guard o) (scoped no_scope xs) IsFresh)
 
 -- ---- a list with its end has an answer
 
@@ -338,4 +485,5 @@ whole_never_unfinished o xs i e =
     let d = scoped_end no_scope xs i in
     never_unfinished d.front d.at
     (ap run_events (sym d.is)
-    ∙ unfinished_passes (whole_guard o) ls (guarded (whole_guard o) ls IsFresh) refl (guarded_tells (whole_guard o) ls IsFresh) e)
+    ∙ unfinished_passes (whole_guard o) ls (guarded (whole_guard o) ls IsFresh) refl (guarded_tells
+    (whole_guard o) ls IsFresh) e)

@@ -3,15 +3,27 @@ use Rattle.std.proofs.Common.{◌≡◌, ℕ, suc, Bool, true, false, refl, ap, 
 use Rattle.std.specs.Prelude.{nat_le}
 use Rattle.granit_grammar.specs.EventMachine.{PairAt, KeyDone, AskDone, Done, pair_frames}
 use Rattle.granit_grammar.specs.Guarded.{blocks_open, state_count}
-use Rattle.granit_grammar.specs.OpenWithin.{around_blocks, hole_blocks, around_within, hole_within, open_within, open_blocks}
+use Rattle.granit_grammar.specs.OpenWithin.{around_blocks, hole_blocks, around_within, hole_within, open_within}
+use Rattle.granit_grammar.specs.OpenWithin.{open_blocks}
 use Rattle.granit_grammar.specs.PlaceFrames.{site_in, hole_frames, pair_made, state_at}
-use Rattle.granit_grammar.specs.TreeMachine.{Next, Go, NotTaken, if_go, part_take, entry_take, entry_at, plain_site, pair_site, want_take, take}
+use Rattle.granit_grammar.specs.TreeMachine.{Next, Go, NotTaken, if_go, part_take, entry_take, entry_at, plain_site}
+use Rattle.granit_grammar.specs.TreeMachine.{pair_site, want_take, take}
 use Rattle.granit_language.specs.Choice.{choose}
-use Rattle.granit_language.specs.Node.{TreeProperties, NoProperties, One, Two, Node, AliasNode, ScalarNode, Alone, Flow, Sequence, Mapping, Content, Nothing, Just, Entries, Entry, Through, NoPair, AfterPair, Pair, WithColon, AskOnly, SimpleKey, Asked, NoKey, NoLast, LastItem, Single, Paired}
-use Rattle.granit_language.specs.OpenPlace.{Bare, Explicit, Around, BlockPairs, FlowPairs, Hole, AtRoot, AtEntry, AtItem, AtKey, AtAsk, AtColon, OpenPlace, Fresh, InDirectives, BehindRoot, Want, PastEntry, PastKey, PastAsk, PastPair, PastItem, Ended, holder, room_of}
-use Rattle.granit_language.specs.Room.{room_behind, right_fits, loose_fits, indicates, opens, part_fits, differ, continues_node, sequence_over, ask_over, place_fits, pair_over}
-use Rattle.granit_language.specs.Settling.{put_in, empty_fits, end_entries, end_pair, end_ask, finish_at, settle_want, settle_place}
-use Rattle.granit_language.specs.Terminal.{PartKind, Alias, Property, Scalar, Open, TerminalKind, Directive, DocumentStart, DocumentEnd, TheEnd, Dash, Question, Comma, Colon, Close, Part, At, Terminal, terminal, edge, stands_left, entry_in}
+use Rattle.granit_language.specs.Node.{TreeProperties, NoProperties, One, Two, Node, AliasNode, ScalarNode, Alone, Flow}
+use Rattle.granit_language.specs.Node.{Sequence, Mapping, Content, Nothing, Just, Entries, Entry, Through, NoPair}
+use Rattle.granit_language.specs.Node.{AfterPair, Pair, WithColon, AskOnly, SimpleKey, Asked, NoKey, NoLast, LastItem}
+use Rattle.granit_language.specs.Node.{Single, Paired}
+use Rattle.granit_language.specs.OpenPlace.{Bare, Explicit, Around, BlockPairs, FlowPairs, Hole, AtRoot, AtEntry}
+use Rattle.granit_language.specs.OpenPlace.{AtItem, AtKey, AtAsk, AtColon, OpenPlace, Fresh, InDirectives, BehindRoot}
+use Rattle.granit_language.specs.OpenPlace.{Want, PastEntry, PastKey, PastAsk, PastPair, PastItem, Ended, holder}
+use Rattle.granit_language.specs.OpenPlace.{room_of}
+use Rattle.granit_language.specs.Room.{room_behind, right_fits, loose_fits, indicates, opens, part_fits, differ}
+use Rattle.granit_language.specs.Room.{continues_node, sequence_over, ask_over, place_fits, pair_over}
+use Rattle.granit_language.specs.Settling.{put_in, empty_fits, end_entries, end_pair, end_ask, finish_at, settle_want}
+use Rattle.granit_language.specs.Settling.{settle_place}
+use Rattle.granit_language.specs.Terminal.{PartKind, Alias, Property, Scalar, Open, TerminalKind, Directive}
+use Rattle.granit_language.specs.Terminal.{DocumentStart, DocumentEnd, TheEnd, Dash, Question, Comma, Colon, Close}
+use Rattle.granit_language.specs.Terminal.{Part, At, Terminal, terminal, edge, stands_left, entry_in}
 use Rattle.granit_language.specs.Within.{content_within, entries_within, pair_within}
 use Rattle.granit_lexemes.specs.declared.layout.Bracket.TheVariants.{Square, Curly}
 use Rattle.std.proofs.lemmas.Bool.Decides.{nat_tests}
@@ -107,7 +119,7 @@ choose_keep n b d true m k h g = h
 choose_keep n b d false m k h g = g
 
 -- it begins none
-abbrev NextStays : ℕ → Bool → ℕ → Next → Type 0
+abbrev pub NextStays : ℕ → Bool → ℕ → Next → Type 0
 NextStays n b d (Go q) = (open_within n q ≡ b) × (open_blocks q ≡ d)
 NextStays n b d NotTaken = Unit {0}
 
@@ -123,7 +135,7 @@ as_begun : (n : ℕ) (b : Bool) (d : ℕ) (m : Next) → NextStays n (b && nat_l
 as_begun n b d (Go q) h = begins h.0 h.1
 as_begun n b d NotTaken h = tt
 
-put_blocks : (r : Hole) (t : Node) → open_blocks (put_in r (Just t)) ≡ hole_blocks r
+pub put_blocks : (r : Hole) (t : Node) → open_blocks (put_in r (Just t)) ≡ hole_blocks r
 put_blocks (AtRoot (Bare b)) t = refl
 put_blocks (AtRoot (Explicit s i)) t = refl
 put_blocks (AtEntry r p loose c lead i) t = refl
@@ -140,7 +152,7 @@ node_stays n r t e = (put_keeps n r (Just t) ∙ e, put_blocks r t)
 filled_keeps : (n : ℕ) (r : Hole) (t : Node) → StepKeeps n (Filled n r (Just t)) (hole_blocks r) (put_in r (Just t))
 filled_keeps n r t = stays (put_keeps n r (Just t)) (put_blocks r t)
 
-part_stays :
+pub part_stays :
     (n : ℕ) (r : Hole) (p : TreeProperties) (k : PartKind) (i : At) →
     NextStays n (hole_within n r) (hole_blocks r) (part_take r p k i)
 part_stays n r NoProperties (Alias name) i = node_stays n r (AliasNode name i) refl
@@ -150,7 +162,7 @@ part_stays n r p (Scalar style text) i = node_stays n r (ScalarNode p style text
 part_stays n r p (Open bracket) i = (refl, refl)
 part_stays n r p k i = tt
 
-entry_stays :
+pub entry_stays :
     (n : ℕ) (r : Hole) (a : Around) (kind : TerminalKind) (i : At) →
     NextStays n (around_within n a (hole_blocks r) (hole_within n r)) (around_blocks a (hole_blocks r))
     (entry_take r a kind i)
@@ -226,6 +238,61 @@ take_keeps n (PastItem r p Square o lead item) (Close Square) i =
     filled_keeps n r (Flow p Square o lead (LastItem item) i)
 take_keeps n (PastItem r p Curly o lead item) (Close Curly) i = filled_keeps n r (Flow p Curly o lead (LastItem item) i)
 take_keeps n p kind i = tt
+
+-- ---- what only ends begins none
+
+-- the end, a closer, a `:` with its key, a `---`
+abbrev pub IsClosing : TerminalKind → Type 0
+IsClosing TheEnd = Unit {0}
+IsClosing (Close bracket) = Unit {0}
+IsClosing (Colon (Some m)) = Unit {0}
+IsClosing DocumentStart = Unit {0}
+IsClosing kind = ⊥
+
+filled_stays :
+    (n : ℕ) (r : Hole) (t : Node) → NextStays n (Filled n r (Just t)) (hole_blocks r) (Go (put_in r (Just t)))
+filled_stays n r t = (put_keeps n r (Just t), put_blocks r t)
+
+pub closing_stays :
+    (n : ℕ) (p : OpenPlace) (kind : TerminalKind) (i : At) → IsClosing kind →
+    NextStays n (open_within n p) (open_blocks p) (take p kind i)
+closing_stays n (Fresh b) TheEnd i c = (refl, refl)
+closing_stays n (BehindRoot ro) TheEnd i c = (refl, refl)
+closing_stays n (PastPair r (BlockPairs p d lead) pair) TheEnd i c = tt
+closing_stays n (PastPair r (FlowPairs p Square o lead) pair) TheEnd i c = tt
+closing_stays n (PastItem r p Square o lead item) TheEnd i c = tt
+closing_stays n (PastPair r (FlowPairs p Curly o lead) pair) TheEnd i c = tt
+closing_stays n (PastItem r p Curly o lead item) TheEnd i c = tt
+closing_stays n p TheEnd i c = tt
+closing_stays n (Fresh b) DocumentStart i c = (refl, refl)
+closing_stays n (InDirectives ds) DocumentStart i c = (refl, refl)
+closing_stays n (BehindRoot ro) DocumentStart i c = (refl, refl)
+closing_stays n (PastPair r (BlockPairs p d lead) pair) DocumentStart i c = tt
+closing_stays n (PastPair r (FlowPairs p Square o lead) pair) DocumentStart i c = tt
+closing_stays n (PastItem r p Square o lead item) DocumentStart i c = tt
+closing_stays n (PastPair r (FlowPairs p Curly o lead) pair) DocumentStart i c = tt
+closing_stays n (PastItem r p Curly o lead item) DocumentStart i c = tt
+closing_stays n p DocumentStart i c = tt
+closing_stays n (PastKey r a f k) (Colon (Some m)) i c = (refl, refl)
+closing_stays n (PastPair r (BlockPairs p d lead) pair) (Colon (Some m)) i c = tt
+closing_stays n (PastPair r (FlowPairs p Square o lead) pair) (Colon (Some m)) i c = tt
+closing_stays n (PastItem r p Square o lead item) (Colon (Some m)) i c = tt
+closing_stays n (PastPair r (FlowPairs p Curly o lead) pair) (Colon (Some m)) i c = tt
+closing_stays n (PastItem r p Curly o lead item) (Colon (Some m)) i c = tt
+closing_stays n p (Colon (Some m)) i c = tt
+closing_stays n (Want (AtItem r q Square o lead) NoProperties) (Close Square) i c =
+    filled_stays n r (Flow q Square o lead NoLast i)
+closing_stays n (Want (AtItem r q Curly o lead) NoProperties) (Close Curly) i c =
+    filled_stays n r (Flow q Curly o lead NoLast i)
+closing_stays n (PastPair r (BlockPairs p d lead) pair) (Close bracket) i c = tt
+closing_stays n (PastPair r (FlowPairs p Curly o lead) pair) (Close Curly) i c =
+    filled_stays n r (Flow p Curly o lead (LastItem (Paired pair)) i)
+closing_stays n (PastItem r p Square o lead item) (Close Square) i c =
+    filled_stays n r (Flow p Square o lead (LastItem item) i)
+closing_stays n (PastItem r p Curly o lead item) (Close Curly) i c =
+    filled_stays n r (Flow p Curly o lead (LastItem item) i)
+closing_stays n p (Close bracket) i c = tt
+closing_stays n p kind i c = absurd c
 
 -- ---- ending leaves no more around
 

@@ -2,11 +2,24 @@
 use Rattle.std.specs.Prelude.{ℕ, Bool, true, false, ◌||◌, ◌==◌, List, [], ◌∷◌, ◌++◌, Option, Some, None}
 use Rattle.granit_base.specs.Place.{Mark}
 use Rattle.granit_language.specs.Choice.{choose}
-use Rattle.granit_language.specs.GrammarFault.{GrammarFault, ExpectedDocumentStart, MissingDocumentEndBeforeDirective, UnexpectedEofBlockSequence, UnexpectedEofBlockMapping, UnexpectedEofImplicitFlowMapping, ExpectedBlockMappingKey, ExpectedBlockSequenceEntry, ExpectedFlowMappingSeparator, ExpectedFlowSequenceSeparator, NoFault}
+use Rattle.granit_language.specs.GrammarFault.{GrammarFault, ExpectedDocumentStart, MissingDocumentEndBeforeDirective}
+use Rattle.granit_language.specs.GrammarFault.{UnexpectedEofBlockSequence, UnexpectedEofBlockMapping}
+use Rattle.granit_language.specs.GrammarFault.{UnexpectedEofImplicitFlowMapping, ExpectedBlockMappingKey}
+use Rattle.granit_language.specs.GrammarFault.{ExpectedBlockSequenceEntry, ExpectedFlowMappingSeparator}
+use Rattle.granit_language.specs.GrammarFault.{ExpectedFlowSequenceSeparator, NoFault}
 use Rattle.granit_language.specs.Node.{TreeProperties, NoProperties, One, Two}
-use Rattle.granit_language.specs.Room.{BlockIn, FlowIn, Room, RightOf, ValueIn, KeyIn, ItemIn, Inside, behind_property, room_behind, right_fits, loose_fits, indicates, opens, part_fits, differ, continues_node, entry_empty, sequence_over, value_empty, ask_empty, ask_over}
-use Rattle.granit_language.specs.Terminal.{PartKind, Alias, Property, Scalar, Open, TerminalKind, Directive, DocumentStart, DocumentEnd, TheEnd, Dash, Question, Comma, Colon, Close, Part, At, Terminal, terminal, edge, is_stream_kind, is_comma_kind, closes_kind, stands_left, entry_in, text_start, no_terminal, is_directive_kind}
-use Rattle.granit_language.specs.TreeEvents.{StreamStarts, StreamEnds, DocumentEnds, SequenceEnds, MappingEnds, DocumentStarts, TreeEvent, pointed, shown_event, null, properties_end, alone_event, scalar_event, alias_event, flow_start, flow_end, sequence_start, mapping_start, pair_start, version_of, bare_document_start}
+use Rattle.granit_language.specs.Room.{BlockIn, FlowIn, Room, RightOf, ValueIn, KeyIn, ItemIn, Inside, behind_property}
+use Rattle.granit_language.specs.Room.{room_behind, right_fits, loose_fits, indicates, opens, part_fits, differ}
+use Rattle.granit_language.specs.Room.{continues_node, entry_empty, sequence_over, value_empty, ask_empty, ask_over}
+use Rattle.granit_language.specs.Terminal.{PartKind, Alias, Property, Scalar, Open, TerminalKind, Directive}
+use Rattle.granit_language.specs.Terminal.{DocumentStart, DocumentEnd, TheEnd, Dash, Question, Comma, Colon, Close}
+use Rattle.granit_language.specs.Terminal.{Part, At, Terminal, terminal, edge, is_stream_kind, is_comma_kind}
+use Rattle.granit_language.specs.Terminal.{closes_kind, stands_left, entry_in, text_start, no_terminal}
+use Rattle.granit_language.specs.Terminal.{is_directive_kind}
+use Rattle.granit_language.specs.TreeEvents.{StreamStarts, StreamEnds, DocumentEnds, SequenceEnds, MappingEnds}
+use Rattle.granit_language.specs.TreeEvents.{DocumentStarts, TreeEvent, pointed, shown_event, null, properties_end}
+use Rattle.granit_language.specs.TreeEvents.{alone_event, scalar_event, alias_event, flow_start, flow_end}
+use Rattle.granit_language.specs.TreeEvents.{sequence_start, mapping_start, pair_start, version_of, bare_document_start}
 use Rattle.granit_lexemes.specs.declared.layout.Bracket.{Bracket}
 use Rattle.granit_lexemes.specs.declared.layout.Bracket.TheVariants.{Square, Curly}
 

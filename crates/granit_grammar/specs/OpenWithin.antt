@@ -1,7 +1,11 @@
 -- At most so many block collections are open at once, in what stands before an open place.
 use Rattle.std.specs.Prelude.{ℕ, suc, Bool, ◌&&◌, nat_le}
-use Rattle.granit_language.specs.OpenPlace.{Root, Bare, Explicit, Around, BlockPairs, FlowPairs, Hole, AtRoot, AtEntry, AtItem, AtKey, AtAsk, AtColon, OpenPlace, Fresh, InDirectives, BehindRoot, Ended, Want, PastEntry, PastKey, PastAsk, PastPair, PastItem}
-use Rattle.granit_language.specs.Within.{node_within, content_within, entries_within, entry_lead_within, pair_lead_within, pair_within, left_within, flow_within, item_within, before_within, directives_within, start_within, rooted_within, stream_within}
+use Rattle.granit_language.specs.OpenPlace.{Root, Bare, Explicit, Around, BlockPairs, FlowPairs, Hole, AtRoot, AtEntry}
+use Rattle.granit_language.specs.OpenPlace.{AtItem, AtKey, AtAsk, AtColon, OpenPlace, Fresh, InDirectives, BehindRoot}
+use Rattle.granit_language.specs.OpenPlace.{Ended, Want, PastEntry, PastKey, PastAsk, PastPair, PastItem}
+use Rattle.granit_language.specs.Within.{node_within, content_within, entries_within, entry_lead_within}
+use Rattle.granit_language.specs.Within.{pair_lead_within, pair_within, left_within, flow_within, item_within}
+use Rattle.granit_language.specs.Within.{before_within, directives_within, start_within, rooted_within, stream_within}
 
 abbrev pub around_blocks : Around → ℕ → ℕ
 around_blocks (BlockPairs p c lead) d = suc d

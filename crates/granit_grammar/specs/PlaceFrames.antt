@@ -1,8 +1,13 @@
 -- The frames of an open place.
 use Rattle.std.specs.Prelude.{Bool, true, false, List, [], ◌∷◌, Some, None}
-use Rattle.granit_grammar.specs.EventMachine.{Key, KeyDone, Asking, AskDone, Solo, Done, Value, OpenFrame, DocumentFrame, PropertiesFrame, SequenceFrame, FlowSequenceFrame, FlowMappingFrame, EventState, IsFresh, HasDirectives, IsRooted, InFrames, IsEnded, flow_frame, PairSite, BlockSite, FlowSite, pair_frames}
+use Rattle.granit_grammar.specs.EventMachine.{Key, KeyDone, Asking, AskDone, Solo, Done, Value, OpenFrame}
+use Rattle.granit_grammar.specs.EventMachine.{DocumentFrame, PropertiesFrame, SequenceFrame, FlowSequenceFrame}
+use Rattle.granit_grammar.specs.EventMachine.{FlowMappingFrame, EventState, IsFresh, HasDirectives, IsRooted, InFrames}
+use Rattle.granit_grammar.specs.EventMachine.{IsEnded, flow_frame, PairSite, BlockSite, FlowSite, pair_frames}
 use Rattle.granit_language.specs.Node.{NoProperties, Pair, WithColon, AskOnly, FlowItem, Single, Paired}
-use Rattle.granit_language.specs.OpenPlace.{Root, Bare, Explicit, Around, BlockPairs, FlowPairs, Hole, AtRoot, AtEntry, AtItem, AtKey, AtAsk, AtColon, OpenPlace, Fresh, InDirectives, BehindRoot, Ended, Want, PastEntry, PastKey, PastAsk, PastPair, PastItem}
+use Rattle.granit_language.specs.OpenPlace.{Root, Bare, Explicit, Around, BlockPairs, FlowPairs, Hole, AtRoot, AtEntry}
+use Rattle.granit_language.specs.OpenPlace.{AtItem, AtKey, AtAsk, AtColon, OpenPlace, Fresh, InDirectives, BehindRoot}
+use Rattle.granit_language.specs.OpenPlace.{Ended, Want, PastEntry, PastKey, PastAsk, PastPair, PastItem}
 use Rattle.granit_language.specs.Room.{is_made}
 use Rattle.granit_language.specs.TreeEvents.{root_end, directives_version}
 use Rattle.granit_lexemes.specs.declared.layout.Bracket.{Bracket}

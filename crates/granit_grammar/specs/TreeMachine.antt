@@ -1,11 +1,20 @@
 -- The machine that builds trees: one step for each lexeme.
 use Rattle.std.specs.Prelude.{Bool, true, false, ◌==◌, List, [], ◌∷◌, Some, None}
 use Rattle.granit_language.specs.Choice.{choose}
-use Rattle.granit_language.specs.Node.{TreeProperties, NoProperties, One, Two, AliasNode, ScalarNode, Flow, Just, NoEntry, AfterEntry, Through, NoPair, AfterPair, SimpleKey, Asked, NoKey, NoItem, AfterItem, NoLast, LastItem, Paired, Beginning, ExtraEnd, Closed, FirstDirective, NextDirective, AtFresh, AfterDirectives, AfterRoot, Stream, EndFresh, EndRooted}
-use Rattle.granit_language.specs.OpenPlace.{Bare, Explicit, Around, BlockPairs, FlowPairs, Hole, AtRoot, AtEntry, AtItem, AtKey, AtAsk, AtColon, OpenPlace, Fresh, InDirectives, BehindRoot, Ended, Want, PastEntry, PastKey, PastAsk, PastPair, PastItem, holder, room_of}
-use Rattle.granit_language.specs.Room.{room_behind, right_fits, loose_fits, indicates, opens, part_fits, differ, place_fits}
+use Rattle.granit_language.specs.Node.{TreeProperties, NoProperties, One, Two, AliasNode, ScalarNode, Flow, Just}
+use Rattle.granit_language.specs.Node.{NoEntry, AfterEntry, Through, NoPair, AfterPair, SimpleKey, Asked, NoKey, NoItem}
+use Rattle.granit_language.specs.Node.{AfterItem, NoLast, LastItem, Paired, Beginning, ExtraEnd, Closed, FirstDirective}
+use Rattle.granit_language.specs.Node.{NextDirective, AtFresh, AfterDirectives, AfterRoot, Stream, EndFresh, EndRooted}
+use Rattle.granit_language.specs.OpenPlace.{Bare, Explicit, Around, BlockPairs, FlowPairs, Hole, AtRoot, AtEntry}
+use Rattle.granit_language.specs.OpenPlace.{AtItem, AtKey, AtAsk, AtColon, OpenPlace, Fresh, InDirectives, BehindRoot}
+use Rattle.granit_language.specs.OpenPlace.{Ended, Want, PastEntry, PastKey, PastAsk, PastPair, PastItem, holder}
+use Rattle.granit_language.specs.OpenPlace.{room_of}
+use Rattle.granit_language.specs.Room.{room_behind, right_fits, loose_fits, indicates, opens, part_fits, differ}
+use Rattle.granit_language.specs.Room.{place_fits}
 use Rattle.granit_language.specs.Settling.{put_in, settle_place}
-use Rattle.granit_language.specs.Terminal.{PartKind, Alias, Property, Scalar, Open, TerminalKind, Directive, DocumentStart, DocumentEnd, TheEnd, Dash, Question, Comma, Colon, Close, Part, At, Terminal, terminal, edge, entry_in}
+use Rattle.granit_language.specs.Terminal.{PartKind, Alias, Property, Scalar, Open, TerminalKind, Directive}
+use Rattle.granit_language.specs.Terminal.{DocumentStart, DocumentEnd, TheEnd, Dash, Question, Comma, Colon, Close}
+use Rattle.granit_language.specs.Terminal.{Part, At, Terminal, terminal, edge, entry_in}
 use Rattle.granit_lexemes.specs.declared.layout.Bracket.TheVariants.{Square, Curly}
 
 pub data Next : Type 0 where

@@ -20,9 +20,12 @@ pub fn every_answer_is_a_stream()
 /// open place between names the kind. At most one kind and lexeme have a cause, and of lexemes that the end follows a
 /// cause is the answer; these have one answer or the other.
 pub fn every_refusal_has_its_cause()
-    ensures cause { (xs : List Terminal) (k : GrammarFault) (x : Terminal) → run_events xs ≡ Faulty k x → FaultAt xs k x }
-    ensures one { (xs : List Terminal) (k j : GrammarFault) (x y : Terminal) → FaultAt xs k x → FaultAt xs j y → (k ≡ j) × (x ≡ y) }
-    ensures answered { (xs : List Terminal) (i : At) (k : GrammarFault) (x : Terminal) → FaultAt (xs ++ (terminal TheEnd i ∷ [])) k x →
+    ensures cause { (xs : List Terminal) (k : GrammarFault) (x : Terminal) → run_events xs ≡ Faulty k x
+        → FaultAt xs k x }
+    ensures one { (xs : List Terminal) (k j : GrammarFault) (x y : Terminal) → FaultAt xs k x → FaultAt xs j y
+        → (k ≡ j) × (x ≡ y) }
+    ensures answered { (xs : List Terminal) (i : At) (k : GrammarFault) (x : Terminal)
+        → FaultAt (xs ++ (terminal TheEnd i ∷ [])) k x →
         run_events (xs ++ (terminal TheEnd i ∷ [])) ≡ Faulty k x }
     ensures ends { (xs : List Terminal) (i : At) → run_events (xs ++ (terminal TheEnd i ∷ [])) ≡ Unfinished → ⊥ }
 {}

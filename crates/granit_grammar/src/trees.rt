@@ -11,7 +11,8 @@ ghost use Rattle.granit_language.specs.Yield.{spell_stream};
 /// What is parsed is a placed stream that spells the lexemes; each placed stream is parsed from what it spells; and
 /// lexemes are spelled by at most one.
 pub fn parsing_gives_the_one_stream()
-    ensures stands { (xs : List Terminal) (s : Stream) → parse xs tree_start ≡ ReadAs s → (spell_stream s [] ≡ xs) × StreamPlaced s }
+    ensures stands { (xs : List Terminal) (s : Stream) → parse xs tree_start ≡ ReadAs s
+        → (spell_stream s [] ≡ xs) × StreamPlaced s }
     ensures answered { (s : Stream) → StreamPlaced s → parse (spell_stream s []) tree_start ≡ ReadAs s }
     ensures one { (a b : Stream) → StreamPlaced a → StreamPlaced b → spell_stream a [] ≡ spell_stream b [] → a ≡ b }
 {}

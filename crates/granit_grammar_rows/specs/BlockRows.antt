@@ -1,6 +1,10 @@
 -- Lists of lexemes of block collections, and their events. Above each stands a text that has these lexemes.
 use Rattle.std.specs.Prelude.{List, [], ◌∷◌}
-use Rattle.granit_grammar_rows.specs.Row.{Row, is_read, anchor_at, tag_from, text_at, dash_at, question_at, colon_at, colon_of, start_mark_at, end_mark_at, end_at, begins, on, inner, only, and_anchor, and_tag, and_both, StreamEnd, BareDocument, MarkedDocument, DocumentEnd, SequenceEnd, MappingEnd, Text, Null, Empty, BlockSequence, BlockMapping}
+use Rattle.granit_grammar_rows.specs.Row.{Row, is_read, anchor_at, tag_from, text_at, dash_at, question_at, colon_at}
+use Rattle.granit_grammar_rows.specs.Row.{colon_of, start_mark_at, end_mark_at, end_at, begins, on, inner, only}
+use Rattle.granit_grammar_rows.specs.Row.{and_anchor, and_tag, and_both, StreamEnd, BareDocument, MarkedDocument}
+use Rattle.granit_grammar_rows.specs.Row.{DocumentEnd, SequenceEnd, MappingEnd, Text, Null, Empty, BlockSequence}
+use Rattle.granit_grammar_rows.specs.Row.{BlockMapping}
 
 abbrev pub at_most_one_lexeme : List Row
 at_most_one_lexeme =

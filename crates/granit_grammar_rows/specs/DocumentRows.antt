@@ -1,7 +1,11 @@
 -- Lists of lexemes of several documents, and their events. Above each stands a text that has these lexemes.
 use Rattle.std.specs.Prelude.{List, [], ◌∷◌}
 use Rattle.granit_lexemes.specs.declared.layout.Bracket.TheVariants.{Square, Curly}
-use Rattle.granit_grammar_rows.specs.Row.{Row, is_read, anchor_at, tag_from, text_at, dash_at, question_at, colon_at, colon_of, start_mark_at, end_mark_at, directive_from, opener_at, closer_at, end_at, begins, on, inner, only, and_anchor, and_tag, and_both, StreamEnd, BareDocument, MarkedDocument, DocumentEnd, SequenceEnd, MappingEnd, Text, Null, Empty, BlockSequence, FlowSequence, BlockMapping, FlowMapping}
+use Rattle.granit_grammar_rows.specs.Row.{Row, is_read, anchor_at, tag_from, text_at, dash_at, question_at, colon_at}
+use Rattle.granit_grammar_rows.specs.Row.{colon_of, start_mark_at, end_mark_at, directive_from, opener_at, closer_at}
+use Rattle.granit_grammar_rows.specs.Row.{end_at, begins, on, inner, only, and_anchor, and_tag, and_both, StreamEnd}
+use Rattle.granit_grammar_rows.specs.Row.{BareDocument, MarkedDocument, DocumentEnd, SequenceEnd, MappingEnd, Text}
+use Rattle.granit_grammar_rows.specs.Row.{Null, Empty, BlockSequence, FlowSequence, BlockMapping, FlowMapping}
 
 abbrev pub marks_in_front : List Row
 marks_in_front =

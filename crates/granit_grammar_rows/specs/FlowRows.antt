@@ -1,7 +1,11 @@
 -- Lists of lexemes with flow collections, and their events. Above each stands a text that has these lexemes.
 use Rattle.std.specs.Prelude.{List, [], ◌∷◌}
 use Rattle.granit_lexemes.specs.declared.layout.Bracket.TheVariants.{Square, Curly}
-use Rattle.granit_grammar_rows.specs.Row.{Row, is_read, anchor_at, tag_from, text_at, dash_at, question_at, colon_at, colon_of, comma_at, opener_at, closer_at, end_at, begins, on, inner, only, and_anchor, and_tag, and_both, StreamEnd, BareDocument, DocumentEnd, SequenceEnd, MappingEnd, Text, Null, Empty, BlockSequence, FlowSequence, BlockMapping, FlowMapping}
+use Rattle.granit_grammar_rows.specs.Row.{Row, is_read, anchor_at, tag_from, text_at, dash_at, question_at, colon_at}
+use Rattle.granit_grammar_rows.specs.Row.{colon_of, comma_at, opener_at, closer_at, end_at, begins, on, inner, only}
+use Rattle.granit_grammar_rows.specs.Row.{and_anchor, and_tag, and_both, StreamEnd, BareDocument, DocumentEnd}
+use Rattle.granit_grammar_rows.specs.Row.{SequenceEnd, MappingEnd, Text, Null, Empty, BlockSequence, FlowSequence}
+use Rattle.granit_grammar_rows.specs.Row.{BlockMapping, FlowMapping}
 
 abbrev pub square_brackets : List Row
 square_brackets =

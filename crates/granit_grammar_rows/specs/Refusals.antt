@@ -1,8 +1,14 @@
 -- Refused lists of lexemes, by kind. Above each stands a text that has these lexemes.
 use Rattle.std.specs.Prelude.{List, [], ◌∷◌}
 use Rattle.granit_lexemes.specs.declared.layout.Bracket.TheVariants.{Square, Curly}
-use Rattle.granit_language.specs.GrammarFault.{ExpectedDocumentStart, MissingDocumentEndBeforeDirective, UnexpectedEofBlockSequence, UnexpectedEofBlockMapping, UnexpectedEofImplicitFlowMapping, ExpectedBlockMappingKey, ExpectedBlockSequenceEntry, ExpectedFlowMappingSeparator, ExpectedFlowSequenceSeparator}
-use Rattle.granit_grammar_rows.specs.Row.{Row, is_refused, anchor_at, tag_from, text_at, dash_at, question_at, colon_at, colon_of, comma_at, start_mark_at, end_mark_at, directive_from, opener_at, closer_at, end_at, begins}
+use Rattle.granit_language.specs.GrammarFault.{ExpectedDocumentStart, MissingDocumentEndBeforeDirective}
+use Rattle.granit_language.specs.GrammarFault.{UnexpectedEofBlockSequence, UnexpectedEofBlockMapping}
+use Rattle.granit_language.specs.GrammarFault.{UnexpectedEofImplicitFlowMapping, ExpectedBlockMappingKey}
+use Rattle.granit_language.specs.GrammarFault.{ExpectedBlockSequenceEntry, ExpectedFlowMappingSeparator}
+use Rattle.granit_language.specs.GrammarFault.{ExpectedFlowSequenceSeparator}
+use Rattle.granit_grammar_rows.specs.Row.{Row, is_refused, anchor_at, tag_from, text_at, dash_at, question_at, colon_at}
+use Rattle.granit_grammar_rows.specs.Row.{colon_of, comma_at, start_mark_at, end_mark_at, directive_from, opener_at}
+use Rattle.granit_grammar_rows.specs.Row.{closer_at, end_at, begins}
 
 abbrev pub no_root_or_entry : List Row
 no_root_or_entry =

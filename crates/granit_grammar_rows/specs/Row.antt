@@ -11,7 +11,9 @@ use Rattle.granit_language.specs.Node.{TreeProperties, NoProperties, One, Two}
 use Rattle.granit_language.specs.Scope.{no_scope}
 use Rattle.granit_language.specs.Terminal as grammar
 use Rattle.granit_language.specs.Terminal.{PropertyKind, TerminalKind, Terminal, terminal}
-use Rattle.granit_language.specs.TreeEvents.{TreeEventKind, StreamStarts, StreamEnds, DocumentEnds, SequenceEnds, MappingEnds, DocumentStarts, AliasIs, ScalarIs, SequenceStarts, MappingStarts, TreeEvent}
+use Rattle.granit_language.specs.TreeEvents.{TreeEventKind, StreamStarts, StreamEnds, DocumentEnds, SequenceEnds}
+use Rattle.granit_language.specs.TreeEvents.{MappingEnds, DocumentStarts, AliasIs, ScalarIs, SequenceStarts}
+use Rattle.granit_language.specs.TreeEvents.{MappingStarts, TreeEvent}
 use Rattle.granit_grammar.specs.EventMachine.{EventAnswer, Events, Faulty, Unfinished, run_events}
 
 -- ---- lexemes

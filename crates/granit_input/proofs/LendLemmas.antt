@@ -1,9 +1,11 @@
 -- Parts of a source between two places of reading.
-use Rattle.std.proofs.Common.{◌≡◌, ℕ, ◌+◌, ◌-◌, ◌≤◌, Bool, List, ◌++◌, length, take, drop, slice_range, ◌&&◌, Option, Some, None, is_some, IsNone, IfSome, refl, sym, ap, subst, ◌∙◌, arith}
+use Rattle.std.proofs.Common.{◌≡◌, ℕ, ◌+◌, ◌-◌, ◌≤◌, Bool, List, ◌++◌, length, take, drop, slice_range, ◌&&◌, Option}
+use Rattle.std.proofs.Common.{Some, None, is_some, IsNone, IfSome, refl, sym, ap, subst, ◌∙◌, arith}
 use Rattle.std.specs.Str.{chars, encode_utf8_all, IsUtf8, IsCharBoundary}
 use Rattle.std.proofs.lemmas.List.{take-append-drop, drop-drop, length-drop}
 use Rattle.std.proofs.Math.Seq.{take-append_seam}
-use Rattle.std.proofs.lemmas.Str.{encodes-append, encodes-chars, encodes_same, IsUtf8-from_is_utf8, IsCharBoundary-from_drop, IsUtf8-take}
+use Rattle.std.proofs.lemmas.Str.{encodes-append, encodes-chars, encodes_same, IsUtf8-from_is_utf8}
+use Rattle.std.proofs.lemmas.Str.{IsCharBoundary-from_drop, IsUtf8-take}
 use Rattle.std.specs.Borrow.{Bor}
 use Rattle.std.specs.Option.{option_map}
 use Rattle.granit_base.specs.Spans.{CutsOut}
@@ -19,25 +21,33 @@ pub spells_cut : (bytes : List ℕ) (at : ℕ) (text : List ℕ) → Spells byte
 spells_cut bytes at text s = IsCharBoundary-from_drop bytes at s.within (spells_utf8 bytes at text s)
 
 -- between two places of reading the source can be cut
-pub part_cut : (bytes : List ℕ) (start end : ℕ) (text rest : List ℕ) → Spells bytes start text → Spells bytes end rest → start ≤ end → CutsOut bytes (record { start = start; end = end })
-part_cut bytes start end text rest first last order = (order, spells_cut bytes start text first, spells_cut bytes end rest last)
+pub part_cut : (bytes : List ℕ) (start end : ℕ) (text rest : List ℕ) → Spells bytes start text → Spells bytes end rest
+    → start ≤ end → CutsOut bytes (record { start = start; end = end })
+part_cut bytes start end text rest first last order =
+    (order, spells_cut bytes start text first, spells_cut bytes end rest last)
 
 -- and the part is what was read between
-pub part_bytes : (bytes : List ℕ) (start : ℕ) (text : List ℕ) (n : ℕ) → Spells bytes start text → take (utf8_length (take n text)) (drop start bytes) ≡ encode_utf8_all (take n text)
+pub part_bytes : (bytes : List ℕ) (start : ℕ) (text : List ℕ) (n : ℕ) → Spells bytes start text
+    → take (utf8_length (take n text)) (drop start bytes) ≡ encode_utf8_all (take n text)
 part_bytes bytes start text n s =
-    let all : drop start bytes ≡ encode_utf8_all text = sym (encodes-chars (drop start bytes) (spells_utf8 bytes start text s)) ∙ ap encode_utf8_all s.spelled in
+    let all : drop start bytes ≡ encode_utf8_all text = sym
+    (encodes-chars (drop start bytes) (spells_utf8 bytes start text s)) ∙ ap encode_utf8_all s.spelled in
     let parts : encode_utf8_all text ≡ encode_utf8_all (take n text) ++ encode_utf8_all (drop n text) =
     ap encode_utf8_all (sym (take-append-drop n text)) ∙ encodes-append (take n text) (drop n text) in
     rw (all, parts) (take-append_seam (encode_utf8_all (take n text)) (encode_utf8_all (drop n text)))
 
-pub part_chars : (bytes : List ℕ) (start : ℕ) (text rest part : List ℕ) (n : ℕ) → Spells bytes start text → Spells bytes (start + utf8_length (take n text)) rest
+pub part_chars : (bytes : List ℕ) (start : ℕ) (text rest part : List ℕ) (n : ℕ) → Spells bytes start text
+    → Spells bytes (start + utf8_length (take n text)) rest
     → part ≡ slice_range bytes start (start + utf8_length (take n text)) → chars part ≡ take n text
 part_chars bytes start text rest part n first last is =
     let long : start + utf8_length (take n text) - start ≡ utf8_length (take n text) = omega arith in
-    let cut : part ≡ take (utf8_length (take n text)) (drop start bytes) = is ∙ ap (λ (k : ℕ). take k (drop start bytes)) long in
+    let cut : part ≡ take (utf8_length (take n text)) (drop start bytes) = is
+    ∙ ap (λ (k : ℕ). take k (drop start bytes)) long in
     let spelt : part ≡ encode_utf8_all (take n text) = cut ∙ part_bytes bytes start text n first in
-    let behind : IsUtf8 (drop (utf8_length (take n text)) (drop start bytes)) = rw drop-drop (spells_utf8 bytes (start + utf8_length (take n text)) rest last) in
-    let within : utf8_length (take n text) ≤ length (drop start bytes) = omega (arith, length-drop start bytes, last.within) in
+    let behind : IsUtf8 (drop (utf8_length (take n text)) (drop start bytes)) = rw drop-drop
+    (spells_utf8 bytes (start + utf8_length (take n text)) rest last) in
+    let within : utf8_length (take n text) ≤ length (drop start bytes) = omega
+    (arith, length-drop start bytes, last.within) in
     let edge = IsCharBoundary-from_drop (drop start bytes) (utf8_length (take n text)) within behind in
     let whole = IsUtf8-take (drop start bytes) (utf8_length (take n text)) (spells_utf8 bytes start text first) edge in
     let utf8 : IsUtf8 part = rw cut whole in
@@ -47,14 +57,17 @@ none_is : (answer : Option (Bor (List ℕ))) (P : Bor (List ℕ) → Type 0) →
 none_is None P none = tt
 none_is (Some part) P none = absurd cc
 
-found_is : (bytes : List ℕ) (start : ℕ) (text rest : List ℕ) (n : ℕ) (answer : Option (Bor (List ℕ))) → Spells bytes start text → Spells bytes (start + utf8_length (take n text)) rest
-    → IfSome answer (λ part. part.now ≡ slice_range bytes start (start + utf8_length (take n text))) → IfSome answer (λ part. chars part.now ≡ take n text)
+found_is : (bytes : List ℕ) (start : ℕ) (text rest : List ℕ) (n : ℕ) (answer : Option (Bor (List ℕ)))
+    → Spells bytes start text → Spells bytes (start + utf8_length (take n text)) rest
+    → IfSome answer (λ part. part.now ≡ slice_range bytes start (start + utf8_length (take n text)))
+    → IfSome answer (λ part. chars part.now ≡ take n text)
 found_is bytes start text rest n None first last h = tt
 found_is bytes start text rest n (Some part) first last h = part_chars bytes start text rest part.now n first last h
 
--- what is lent of a source between two places of reading: something exactly where there is a source and the offset is told, and
--- then what was read between
-pub lent_between : (source : Option (List ℕ)) (start end : Option ℕ) (text rest : List ℕ) (n : ℕ) (answer : Option (Bor (List ℕ)))
+-- what is lent of a source between two places of reading: something exactly where there is a source and the offset is
+-- told, and then what was read between
+pub lent_between : (source : Option (List ℕ)) (start end : Option ℕ) (text rest : List ℕ) (n : ℕ)
+    (answer : Option (Bor (List ℕ)))
     → ((bytes : List ℕ) (at : ℕ) → source ≡ Some bytes → start ≡ Some at → Spells bytes at text)
     → ((bytes : List ℕ) (at : ℕ) → source ≡ Some bytes → end ≡ Some at → Spells bytes at rest)
     → end ≡ option_map (λ bytes. bytes + utf8_length (take n text)) start → LentBetween source start end answer
@@ -66,12 +79,17 @@ lent_between None (Some start) end text rest n answer first last far h =
 lent_between (Some bytes) (Some start) end text rest n answer first last far h =
     let cut = subst (λ (e : Option ℕ). LentBetween (Some bytes) (Some start) e answer) far h in
     let here = first bytes start refl refl in
-    let there = last bytes (start + utf8_length (take n text)) refl far in
-    (cut.0.1 (part_cut bytes start (start + utf8_length (take n text)) text rest here there (omega arith)), found_is bytes start text rest n answer here there cut.1)
+    let there = last bytes (start + utf8_length (take n text)) refl far in (
+      cut.0.1 (part_cut bytes start (start + utf8_length (take n text)) text rest here there (omega arith)),
+      found_is
+          bytes start text rest n answer here there cut.1,
+    )
 
 -- the same for an input that read on
-pub lent_past : (old now : Origin) (left_old left_now : ℕ) (u : Unread) (n : ℕ) (start end : Option ℕ) (answer : Option (Bor (List ℕ))) → Goes old now
-    → Agrees left_old old u → Agrees left_now now (past n u) → start ≡ u.offset → end ≡ (past n u).offset → LentBetween now.lent start end answer
+pub lent_past : (old now : Origin) (left_old left_now : ℕ) (u : Unread) (n : ℕ) (start end : Option ℕ)
+    (answer : Option (Bor (List ℕ))) → Goes old now
+    → Agrees left_old old u → Agrees left_now now (past n u) → start ≡ u.offset → end ≡ (past n u).offset
+    → LentBetween now.lent start end answer
     → (is_some answer ≡ u.lends) × IfSome answer (λ part. chars part.now ≡ take n u.text)
 lent_past old now left_old left_now u n start end answer goes before after from to h =
     let answered = lent_between now.lent start end u.text (past n u).text n answer
@@ -80,5 +98,6 @@ lent_past old now left_old left_now u n start end answer goes before after from 
     (to ∙ past_offset n u ∙ ap (option_map (λ bytes. bytes + utf8_length (take n u.text))) (sym from))
     h in
     let told : is_some start ≡ now.tells_offset = ap is_some from ∙ before.offset ∙ sym goes.tells_offset in
-    let lends : u.lends ≡ (now.tells_offset && is_some now.lent) = before.lends ∙ rw (← goes.tells_offset, ← goes.lent) refl in
+    let lends : u.lends ≡ (now.tells_offset && is_some now.lent) = before.lends
+    ∙ rw (← goes.tells_offset, ← goes.lent) refl in
     (answered.0 ∙ ap (λ (t : Bool). t && is_some now.lent) told ∙ sym lends, answered.1)

@@ -1,5 +1,6 @@
 -- Chunks of quoted scalars.
-use Rattle.std.proofs.Common.{◌≡◌, ◌≤◌, ℕ, Bool, true, ◌||◌, List, [], ◌∷◌, length, refl, sym, ap, subst, inl, inr, arith}
+use Rattle.std.proofs.Common.{◌≡◌, ◌≤◌, ℕ, Bool, true, ◌||◌, List, [], ◌∷◌, length, refl, sym, ap, subst, inl, inr}
+use Rattle.std.proofs.Common.{arith}
 use Rattle.std.specs.Str.{chars}
 use Rattle.std.proofs.lemmas.Bool.{cases_Bool}
 use Rattle.std.proofs.lemmas.Str.{chars-nil}
@@ -12,12 +13,14 @@ pub no_chars : length (chars []) ≡ 0
 no_chars = ap length chars-nil
 
 -- no text is a front of any run
-pub takes_none : (test : List ℕ → Bool) (u : Unread) (Lands : Unread → Type 0) → Lands u → TakesText test u (chars []) Lands
+pub takes_none : (test : List ℕ → Bool) (u : Unread) (Lands : Unread → Type 0) → Lands u
+    → TakesText test u (chars []) Lands
 takes_none test u Lands here =
     rw chars-nil (record { fits = omega arith; text = refl; lands = subst Lands (sym (past_none u)) here })
 
 -- a test that passes more has no shorter runs
-run_wider : (narrow wide : List ℕ → Bool) → ((text : List ℕ) → narrow text ≡ true → wide text ≡ true) → (text : List ℕ) → run_length narrow text ≤ run_length wide text
+run_wider : (narrow wide : List ℕ → Bool) → ((text : List ℕ) → narrow text ≡ true → wide text ≡ true) → (text : List ℕ)
+    → run_length narrow text ≤ run_length wide text
 unfolding run_length
 run_wider narrow wide more [] = omega arith
 run_wider narrow wide more (c ∷ cs) =
@@ -30,8 +33,10 @@ either_true : (a b : Bool) → a ≡ true → (a || b) ≡ true
 either_true a b e = rw e refl
 
 -- a front of the run of ASCII is one of the wider run
-pub takes_wider : (single : Bool) (u : Unread) (taken : List ℕ) (Lands : Unread → Type 0) → TakesText (starts (is_quoted_ascii single)) u taken Lands
+pub takes_wider : (single : Bool) (u : Unread) (taken : List ℕ) (Lands : Unread → Type 0)
+    → TakesText (starts (is_quoted_ascii single)) u taken Lands
     → TakesText (starts (is_quoted_char single)) u taken Lands
 takes_wider single u taken Lands t =
-    let wider = run_wider (starts (is_quoted_ascii single)) (starts (is_quoted_char single)) (λ text e. either_true (is_quoted_ascii single (first text)) _ e) u.text in
+    let wider = run_wider (starts (is_quoted_ascii single)) (starts (is_quoted_char single))
+    (λ text e. either_true (is_quoted_ascii single (first text)) _ e) u.text in
     record { fits = omega (arith, t.fits); text = t.text; lands = t.lands }

@@ -1,8 +1,11 @@
 -- Runs, one character at a time.
-use Rattle.std.proofs.Common.{◌≡◌, ℕ, zero, suc, ◌+◌, ◌<◌, ◌≤◌, Bool, true, false, List, [], ◌∷◌, length, drop, refl, ap, ◌∙◌, inl, inr, zero-add, arith}
+use Rattle.std.proofs.Common.{◌≡◌, ℕ, zero, suc, ◌+◌, ◌<◌, ◌≤◌, Bool, true, false, List, [], ◌∷◌, length, drop, refl}
+use Rattle.std.proofs.Common.{ap, ◌∙◌, inl, inr, zero-add, arith}
 use Rattle.std.proofs.lemmas.List.{drop-drop}
 use Rattle.std.proofs.lemmas.Bool.{cases_Bool}
-use Rattle.granit_base.specs.Classes.{is_alpha, is_word_char, is_digit, is_blank, is_blank_or_breakz, is_break, is_breakz, is_z, is_flow, is_printable, is_yaml_non_space, is_yaml_non_break, is_bom}
+use Rattle.granit_base.specs.Classes.{is_alpha, is_word_char, is_digit, is_blank, is_blank_or_breakz, is_break}
+use Rattle.granit_base.specs.Classes.{is_breakz, is_z, is_flow, is_printable, is_yaml_non_space, is_yaml_non_break}
+use Rattle.granit_base.specs.Classes.{is_bom}
 use Rattle.granit_input.specs.Runs.{run_length, run_test, class_test, is_quoted_ascii, is_quoted_char}
 use Rattle.granit_input.specs.Chunks.{TakesFront}
 use Rattle.granit_input.specs.declared.class.Class.{Class}
@@ -12,7 +15,8 @@ use Rattle.granit_input.specs.declared.class.Run.TheVariants.{Of, Plain, Quoted,
 
 -- no run takes NUL
 pub class_nul : (k : Class) → class_test k 0 ≡ false
-unfolding is_alpha is_word_char is_digit is_yaml_non_space is_yaml_non_break is_printable is_blank is_break is_breakz is_z is_bom
+unfolding is_alpha is_word_char is_digit is_yaml_non_space is_yaml_non_break is_printable is_blank is_break is_breakz
+    is_z is_bom
 class_nul Alpha = refl
 class_nul NonSpace = refl
 class_nul Blank = refl
@@ -82,7 +86,8 @@ unfolding run_length
 run_stops test [] e = refl
 run_stops test (c ∷ cs) e = rw e refl
 
-run_goes : (test : List ℕ → Bool) (text : List ℕ) → test [] ≡ false → test text ≡ true → run_length test text ≡ suc (run_length test (drop 1 text))
+run_goes : (test : List ℕ → Bool) (text : List ℕ) → test [] ≡ false → test text ≡ true
+    → run_length test text ≡ suc (run_length test (drop 1 text))
 unfolding run_length
 run_goes test [] nul e = absurd cc
 run_goes test (c ∷ cs) nul e = rw e refl
@@ -103,32 +108,50 @@ pub record IsFront (test : List ℕ → Bool) (text : List ℕ) (count : ℕ) : 
 pub front_none : (test : List ℕ → Bool) (text : List ℕ) → IsFront test text 0
 front_none test text = record { rest = zero-add _ }
 
-pub front_more : (test : List ℕ → Bool) (text : List ℕ) (count : ℕ) → test [] ≡ false → IsFront test text count → test (drop count text) ≡ true → IsFront test text (count + 1)
+pub front_more : (test : List ℕ → Bool) (text : List ℕ) (count : ℕ) → test [] ≡ false → IsFront test text count
+    → test (drop count text) ≡ true → IsFront test text (count + 1)
 front_more test text count nul front go =
     let goes = run_goes test (drop count text) nul go in
     let next : drop 1 (drop count text) ≡ drop (count + 1) text = drop-drop 1 count text in
-    let more : run_length test (drop count text) ≡ suc (run_length test (drop (count + 1) text)) = goes ∙ ap (λ (t : List ℕ). suc (run_length test t)) next in
+    let more : run_length test (drop count text) ≡ suc (run_length test (drop (count + 1) text)) = goes
+    ∙ ap (λ (t : List ℕ). suc (run_length test t)) next in
     record { rest = omega (arith, front.rest, more) }
 
-pub front_whole : (test : List ℕ → Bool) (text : List ℕ) (count : ℕ) → IsFront test text count → test (drop count text) ≡ false → count ≡ run_length test text
+pub front_whole : (test : List ℕ → Bool) (text : List ℕ) (count : ℕ) → IsFront test text count
+    → test (drop count text) ≡ false → count ≡ run_length test text
 front_whole test text count front stop = omega (arith, front.rest, run_stops test (drop count text) stop)
 
-pub front_fits : (test : List ℕ → Bool) (text : List ℕ) (count : ℕ) → IsFront test text count → count ≤ run_length test text
+pub front_fits : (test : List ℕ → Bool) (text : List ℕ) (count : ℕ) → IsFront test text count
+    → count ≤ run_length test text
 front_fits test text count front = omega (arith, front.rest)
 
-pub front_ended : (test : List ℕ → Bool) (text : List ℕ) (asked count : ℕ) → IsFront test text count → test (drop count text) ≡ false → TakesFront test text asked true count
+pub front_ended : (test : List ℕ → Bool) (text : List ℕ) (asked count : ℕ) → IsFront test text count
+    → test (drop count text) ≡ false → TakesFront test text asked true count
 front_ended test text asked count front stop =
     let whole = front_whole test text count front stop in
     record { fits = omega arith; whole = λ _. whole; enough = λ e. absurd cc }
 
 -- no fewer characters than were asked for, whether or not the run ends there
-pub front_cut : (test : List ℕ → Bool) (text : List ℕ) (asked count : ℕ) → IsFront test text count → asked ≤ count → TakesFront test text asked false count
+pub front_cut : (test : List ℕ → Bool) (text : List ℕ) (asked count : ℕ) → IsFront test text count → asked ≤ count
+    → TakesFront test text asked false count
 front_cut test text asked count front enough =
     record { fits = front_fits test text count front; whole = λ e. absurd cc; enough = λ _. enough }
 
 -- a front that is shorter than what was asked for is the whole run
-pub front_all : (test : List ℕ → Bool) (text : List ℕ) (asked : ℕ) (ended : Bool) (count : ℕ) → TakesFront test text asked ended count → count < asked → count ≡ run_length test text
+pub front_all : (test : List ℕ → Bool) (text : List ℕ) (asked : ℕ) (ended : Bool) (count : ℕ)
+    → TakesFront test text asked ended count → count < asked → count ≡ run_length test text
 front_all test text asked true count front short = front.whole refl
 front_all test text asked false count front short = absurd (omega (arith, front.enough refl))
 
-pub ruleset not_nul = (class_some, alpha_some, blank_some, break_some, breakz_some, blank_or_breakz_some, flow_some, quoted_some, quoted_ascii_some, digit_some)
+pub ruleset not_nul = (
+  class_some,
+  alpha_some,
+  blank_some,
+  break_some,
+  breakz_some,
+  blank_or_breakz_some,
+  flow_some,
+  quoted_some,
+  quoted_ascii_some,
+  digit_some,
+)

@@ -1,5 +1,6 @@
 -- How what is left goes on.
-use Rattle.std.proofs.Common.{◌≡◌, ℕ, ◌+◌, ◌<◌, ◌≤◌, ◌==◌, Bool, true, false, List, [], ◌∷◌, length, take, drop, Option, Some, None, refl, ap, ◌∙◌, add-zero, arith}
+use Rattle.std.proofs.Common.{◌≡◌, ℕ, ◌+◌, ◌<◌, ◌≤◌, ◌==◌, Bool, true, false, List, [], ◌∷◌, length, take, drop, Option}
+use Rattle.std.proofs.Common.{Some, None, refl, ap, ◌∙◌, add-zero, arith}
 use Rattle.std.specs.Option.{option_map}
 use Rattle.std.specs.Char.{encode_utf8}
 use Rattle.std.proofs.lemmas.List.{length-append, append-nil, drop-drop, length-drop}
@@ -13,7 +14,8 @@ pub past_text : (n : ℕ) (u : Unread) → (past n u).text ≡ drop n u.text
 unfolding past
 past_text n u = refl
 
-pub past_offset : (n : ℕ) (u : Unread) → (past n u).offset ≡ option_map (λ bytes. bytes + utf8_length (take n u.text)) u.offset
+pub past_offset : (n : ℕ) (u : Unread) → (past n u).offset
+    ≡ option_map (λ bytes. bytes + utf8_length (take n u.text)) u.offset
 unfolding past
 past_offset n u = refl
 
@@ -25,18 +27,22 @@ pub past_none : (u : Unread) → past 0 u ≡ u
 unfolding past
 past_none u = ap (λ (o : Option ℕ). record u { offset = o }) (plus_none u.offset)
 
-plus_twice : (a b : ℕ) (o : Option ℕ) → option_map (λ bytes. bytes + b) (option_map (λ bytes. bytes + a) o) ≡ option_map (λ bytes. bytes + (a + b)) o
+plus_twice : (a b : ℕ) (o : Option ℕ) → option_map (λ bytes. bytes + b) (option_map (λ bytes. bytes + a) o)
+    ≡ option_map (λ bytes. bytes + (a + b)) o
 plus_twice a b None = refl
 plus_twice a b (Some n) = ap (λ (k : ℕ). Some k) (omega arith)
 
-utf8_length_take : (m n : ℕ) (xs : List ℕ) → utf8_length (take (m + n) xs) ≡ utf8_length (take m xs) + utf8_length (take n (drop m xs))
-utf8_length_take m n xs = ap utf8_length (take-add m n xs) ∙ ap length (encodes-append (take m xs) (take n (drop m xs))) ∙ length-append _ _
+utf8_length_take : (m n : ℕ) (xs : List ℕ) → utf8_length (take (m + n) xs)
+    ≡ utf8_length (take m xs) + utf8_length (take n (drop m xs))
+utf8_length_take m n xs = ap utf8_length (take-add m n xs) ∙ ap length (encodes-append (take m xs) (take n (drop m xs)))
+    ∙ length-append _ _
 
 pub past_twice : (m n : ℕ) (u : Unread) → past n (past m u) ≡ past (m + n) u
 unfolding past
 past_twice m n u =
     let more = plus_twice (utf8_length (take m u.text)) (utf8_length (take n (drop m u.text))) u.offset in
-    rw (drop-drop n m u.text, utf8_length_take m n u.text) (ap (λ (o : Option ℕ). record { text = drop (m + n) u.text; offset = o; lends = u.lends }) more)
+    rw (drop-drop n m u.text, utf8_length_take m n u.text)
+    (ap (λ (o : Option ℕ). record { text = drop (m + n) u.text; offset = o; lends = u.lends }) more)
 
 -- past a character that is there
 pub past_one : (u : Unread) → 0 < length u.text → past 1 u ≡ past_first u
@@ -44,7 +50,12 @@ unfolding past
 past_one u some = one_of u.text u.offset u.lends some
   where
     one_of : (text : List ℕ) (offset : Option ℕ) (lends : Bool) → 0 < length text
-        → (record { text = drop 1 text; offset = option_map (λ bytes. bytes + utf8_length (take 1 text)) offset; lends = lends })
+        → (record {
+          text = drop 1 text;
+          offset = option_map (λ bytes. bytes + utf8_length (take 1 text)) offset;
+          lends =
+              lends;
+        })
         ≡ past_first (record { text = text; offset = offset; lends = lends })
     one_of [] offset lends some = absurd (omega arith)
     one_of (c ∷ cs) offset lends some = rw (append-nil (encode_utf8 c)) refl

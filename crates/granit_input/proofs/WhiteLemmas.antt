@@ -1,5 +1,6 @@
 -- What stands among blanks.
-use Rattle.std.proofs.Common.{◌≡◌, Ok, Err, ℕ, zero, suc, ◌+◌, ◌<◌, ◌==◌, ◌||◌, Bool, true, false, List, [], ◌∷◌, ◌++◌, length, take, drop, refl, ap, ◌∙◌, arith}
+use Rattle.std.proofs.Common.{◌≡◌, Ok, Err, ℕ, zero, suc, ◌+◌, ◌<◌, ◌==◌, ◌||◌, Bool, true, false, List, [], ◌∷◌, ◌++◌}
+use Rattle.std.proofs.Common.{length, take, drop, refl, ap, ◌∙◌, arith}
 use Rattle.std.proofs.lemmas.Bool.Decides.{nat_tests}
 use Rattle.std.proofs.Math.Seq.{take-add}
 use Rattle.granit_error.specs.declared.kind.ErrorKind.TheVariants.{CommentNotSeparated}
@@ -33,14 +34,17 @@ one_more [] some = absurd (omega arith)
 one_more (c ∷ cs) some = refl
 
 -- one character more of a text that has it
-pub take_more : (n : ℕ) (text : List ℕ) → 0 < length (drop n text) → take (n + 1) text ≡ take n text ++ first (drop n text) ∷ []
+pub take_more : (n : ℕ) (text : List ℕ) → 0 < length (drop n text)
+    → take (n + 1) text ≡ take n text ++ first (drop n text) ∷ []
 take_more n text some = take-add n 1 text ∙ ap (λ (xs : List ℕ). take n text ++ xs) (one_more (drop n text) some)
 
-pub holds_next : (c n : ℕ) (text : List ℕ) → 0 < length (drop n text) → holds c (take (n + 1) text) ≡ (holds c (take n text) || (first (drop n text) == c))
+pub holds_next : (c n : ℕ) (text : List ℕ) → 0 < length (drop n text)
+    → holds c (take (n + 1) text) ≡ (holds c (take n text) || (first (drop n text) == c))
 holds_next c n text some = ap (holds c) (take_more n text some) ∙ holds_more c (first (drop n text)) (take n text)
 
 -- what is found among the blanks with one more
-pub found_next : (n : ℕ) (text : List ℕ) (c : ℕ) → 0 < length (drop n text) → c ≡ first (drop n text) → found_more (found_in (take n text)) c ≡ found_in (take (n + 1) text)
+pub found_next : (n : ℕ) (text : List ℕ) (c : ℕ) → 0 < length (drop n text) → c ≡ first (drop n text)
+    → found_more (found_in (take n text)) c ≡ found_in (take (n + 1) text)
 found_next n text c some is = rw (is, holds_next 0x09 n text some, holds_next 0x20 n text some) refl
 
 -- a text that a test which refuses the end passes isn't at its end
@@ -54,10 +58,12 @@ test_true m n e = grind (arith, nat_tests, e)
 test_false : (m n : ℕ) → (m ≡ n → ⊥) → (m == n) ≡ false
 test_false m n e = grind (arith, nat_tests, e)
 
-pub white_without : (blanks : ℕ) (text : List ℕ) → (first (drop blanks text) ≡ 0x23 → ⊥) → white_skipped blanks text ≡ (blanks, Ok (found_in (take blanks text)))
+pub white_without : (blanks : ℕ) (text : List ℕ) → (first (drop blanks text) ≡ 0x23 → ⊥)
+    → white_skipped blanks text ≡ (blanks, Ok (found_in (take blanks text)))
 white_without blanks text none = rw (test_false (first (drop blanks text)) 0x23 none) refl
 
-pub white_refused : (blanks : ℕ) (text : List ℕ) → first (drop blanks text) ≡ 0x23 → blanks ≡ 0 → white_skipped blanks text ≡ (0, Err CommentNotSeparated)
+pub white_refused : (blanks : ℕ) (text : List ℕ) → first (drop blanks text) ≡ 0x23 → blanks ≡ 0
+    → white_skipped blanks text ≡ (0, Err CommentNotSeparated)
 white_refused blanks text here none = rw (test_true (first (drop blanks text)) 0x23 here, test_true blanks 0 none) refl
 
 pub white_comment : (blanks : ℕ) (text : List ℕ) → first (drop blanks text) ≡ 0x23 → (blanks ≡ 0 → ⊥)

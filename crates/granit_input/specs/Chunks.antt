@@ -14,7 +14,8 @@ pub record Extends (before : List ℕ) (after : List ℕ) : Type 0 where
   pub is : after ≡ before ++ added
 
 -- the run was broken off, and nothing is lost: what was taken of it was appended
-pub record BreaksOff (test : List ℕ → Bool) (u : Unread) (Lands : Unread → Type 0) (before after : List ℕ) : Type 0 where
+pub record BreaksOff (test : List ℕ → Bool) (u : Unread) (Lands : Unread → Type 0) (before after : List ℕ) : Type
+    0 where
   pub count : ℕ
   pub fits : count ≤ run_length test u.text
   pub lands : Lands (past count u)

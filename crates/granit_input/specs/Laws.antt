@@ -1,5 +1,6 @@
 -- Why a string keeps the laws of an input.
-use Rattle.std.proofs.Common.{◌≡◌, ◌<◌, ◌≤◌, ◌-◌, ◌^◌, ℕ, true, List, Some, is_some, length, drop, sym, ap, ◌∙◌, le_of_eq, arith}
+use Rattle.std.proofs.Common.{◌≡◌, ◌<◌, ◌≤◌, ◌-◌, ◌^◌, ℕ, true, List, Some, is_some, length, drop, sym, ap, ◌∙◌}
+use Rattle.std.proofs.Common.{le_of_eq, arith}
 use Rattle.std.specs.Str.{chars, is_utf8}
 use Rattle.granit_base.specs.Place.{Unread}
 use Rattle.granit_base.proofs.CharLemmas.{chars_len}

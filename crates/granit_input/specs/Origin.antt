@@ -1,5 +1,6 @@
 -- Where the characters of an input come from.
-use Rattle.std.specs.Prelude.{◌≡◌, ◌≤◌, ◌&&◌, ◌||◌, ℕ, length, Bool, true, false, if◌then◌else◌, List, Option, None, Some, IsNone, IsSome, is_some}
+use Rattle.std.specs.Prelude.{◌≡◌, ◌≤◌, ◌&&◌, ◌||◌, ℕ, length, Bool, true, false, if◌then◌else◌, List, Option, None}
+use Rattle.std.specs.Prelude.{Some, IsNone, IsSome, is_some}
 use Rattle.std.specs.Borrow.{Bor}
 use Rattle.granit_base.specs.Place.{Unread}
 use Rattle.granit_base.specs.Spans.{Slices}

@@ -1,7 +1,8 @@
 -- Runs: the longest prefix of a text in which each character passes a test. A test sees the text from the character on.
 use Rattle.std.specs.Prelude.{ℕ, zero, suc, ◌==◌, ◌&&◌, ◌||◌, not, Bool, if◌then◌else◌, List, [], ◌∷◌, slice_index}
 use Rattle.granit_base.specs.Place.{first}
-use Rattle.granit_base.specs.Classes.{is_within, is_alpha, is_blank, is_blank_or_breakz, is_breakz, is_flow, is_printable, is_yaml_non_space}
+use Rattle.granit_base.specs.PlainContent.{is_content, plain_goes_on}
+use Rattle.granit_base.specs.Classes.{is_within, is_alpha, is_blank, is_breakz, is_printable, is_yaml_non_space}
 use Rattle.granit_input.specs.declared.class.Class.{Class}
 use Rattle.granit_input.specs.declared.class.Class.TheVariants.{Alpha, NonSpace, Blank, Printable, NonBreakz}
 use Rattle.granit_input.specs.declared.class.Run.{Run}
@@ -24,19 +25,9 @@ is_line_char c = not (is_breakz c) && is_printable c
 abbrev pub is_non_breakz : ℕ → Bool
 is_non_breakz c = not (is_breakz c)
 
--- Whether a character, with the next one behind it, doesn't end a plain scalar as an indicator (7.3.3): a `:` with a
--- blank, a break, NUL or the end behind it does, and in flow a `:` with a flow indicator behind it and a flow
--- indicator.
-abbrev pub plain_goes_on : Bool → ℕ → ℕ → Bool
-plain_goes_on in_flow c next = not (c == 0x3A && (is_blank_or_breakz next || (in_flow && is_flow next)))
-    && not (in_flow && is_flow c)
-
+-- whether the first character, which may be a blank, doesn't end a plain scalar as an indicator
 abbrev pub can_be_plain : Bool → List ℕ → Bool
 can_be_plain in_flow text = plain_goes_on in_flow (first text) (slice_index text 1)
-
--- whether a plain scalar takes the first character, blanks apart (7.3.3)
-abbrev pub is_plain_at : Bool → List ℕ → Bool
-is_plain_at in_flow text = not (is_blank_or_breakz (first text)) && can_be_plain in_flow text
 
 -- the quote of a quoted scalar, and in double quotes the backslash (7.3.1, 7.3.2)
 abbrev pub is_quoted_stop : Bool → ℕ → Bool
@@ -60,6 +51,6 @@ class_test NonBreakz c = is_non_breakz c
 
 abbrev pub run_test : Run → List ℕ → Bool
 run_test (Of class) text = class_test class (first text)
-run_test (Plain in_flow) text = is_plain_at in_flow text
+run_test (Plain in_flow) text = is_content in_flow text
 run_test (Quoted single) text = is_quoted_char single (first text)
 run_test (QuotedAscii single) text = is_quoted_ascii single (first text)

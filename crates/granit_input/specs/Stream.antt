@@ -1,5 +1,6 @@
 -- A stream: what its iterator gives is known, its end is not until it was asked for, and no offset is told.
-use Rattle.std.specs.Prelude.{◌≡◌, ℕ, ◌<◌, Bool, true, false, ◌&&◌, if◌then◌else◌, List, [], ◌∷◌, ◌++◌, length, Option, Some, None}
+use Rattle.std.specs.Prelude.{◌≡◌, ℕ, ◌<◌, Bool, true, false, ◌&&◌, if◌then◌else◌, List, [], ◌∷◌, ◌++◌, length, Option}
+use Rattle.std.specs.Prelude.{Some, None}
 use Rattle.std.specs.Iterator.{Count, size}
 use Rattle.granit_error.specs.FaultKind.{UnexpectedEof}
 use Rattle.granit_input.specs.Origin.{Origin}

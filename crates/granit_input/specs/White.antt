@@ -1,5 +1,6 @@
 -- White space up to the end of a line, and a comment behind it.
-use Rattle.std.specs.Prelude.{◌≡◌, ℕ, ◌+◌, ◌==◌, ◌||◌, Bool, false, if◌then◌else◌, List, [], ◌∷◌, take, drop, Result, Ok, Err}
+use Rattle.std.specs.Prelude.{◌≡◌, ℕ, ◌+◌, ◌==◌, ◌||◌, Bool, false, if◌then◌else◌, List, [], ◌∷◌, take, drop, Result}
+use Rattle.std.specs.Prelude.{Ok, Err}
 use Rattle.granit_base.specs.Place.{Unread, first}
 use Rattle.granit_error.specs.declared.kind.ErrorKind.{ErrorKind}
 use Rattle.granit_error.specs.declared.kind.ErrorKind.TheVariants.{CommentNotSeparated}

@@ -1,7 +1,8 @@
 //! The classes of characters that runs are made of.
 ghost use Rattle.std.specs.Prelude.{◌≡◌, ◌∷◌};
 ghost use Rattle.std.specs.Str.{chars};
-ghost use Rattle.granit_input.specs.Runs.{class_test, is_quoted_ascii, is_quoted_char, plain_goes_on, run_test};
+ghost use Rattle.granit_input.specs.Runs.{class_test, is_quoted_ascii, is_quoted_char, run_test};
+ghost use Rattle.granit_base.specs.PlainContent.{plain_goes_on};
 
 use granit_base::{
     is_alpha, is_blank, is_blank_or_breakz, is_breakz, is_flow, is_printable, is_yaml_non_space,

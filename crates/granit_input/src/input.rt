@@ -1,5 +1,6 @@
 //! What a scanner asks of its input.
-ghost use Rattle.std.specs.Prelude.{◌≡◌, ℕ, ◌+◌, ◌-◌, ◌<◌, ◌≤◌, ◌^◌, ◌==◌, ◌&&◌, ◌||◌, Option, false, true, length, slice_index, is_some, min, max, IfOk, MatchOption, IfSome};
+ghost use Rattle.std.specs.Prelude.{◌≡◌, ℕ, ◌+◌, ◌-◌, ◌<◌, ◌≤◌, ◌^◌, ◌==◌, ◌&&◌, ◌||◌, Option, false, true, length};
+ghost use Rattle.std.specs.Prelude.{slice_index, is_some, min, max, IfOk, MatchOption, IfSome};
 ghost use Rattle.std.specs.Borrow.{sem};
 ghost use Rattle.std.specs.Io.BufRead.{Rests};
 ghost use Rattle.std.specs.Option.{option_map};
@@ -10,9 +11,13 @@ ghost use Rattle.granit_base.specs.Written.{string_chars};
 ghost use Rattle.granit_error.specs.Kinds.{kind_of};
 ghost use Rattle.granit_input.specs.Unread.{past};
 ghost use Rattle.granit_input.specs.Origin.{Origin, Goes, PartOf, error_given, after_giving, Agrees};
-ghost use Rattle.granit_input.specs.Runs.{starts, run_test, is_line_char, is_non_breakz, is_plain_at, is_quoted_ascii, is_quoted_char, can_be_plain};
-ghost use Rattle.granit_input.specs.Chunks.{SkipsRun, FetchesRun, SkipsFront, FetchesFront, Extends, TakesText, count_of, front_count_of};
-ghost use Rattle.granit_input.specs.Looks.{begins_with_2, begins_with_3, is_document_start, is_document_end, is_document_indicator, ReadsNonBreakz};
+ghost use Rattle.granit_input.specs.Runs.{starts, run_test, is_line_char, is_non_breakz, is_quoted_ascii};
+ghost use Rattle.granit_input.specs.Runs.{is_quoted_char, can_be_plain};
+ghost use Rattle.granit_base.specs.PlainContent.{is_content};
+ghost use Rattle.granit_input.specs.Chunks.{SkipsRun, FetchesRun, SkipsFront, FetchesFront, Extends, TakesText};
+ghost use Rattle.granit_input.specs.Chunks.{count_of, front_count_of};
+ghost use Rattle.granit_input.specs.Looks.{begins_with_2, begins_with_3, is_document_start, is_document_end};
+ghost use Rattle.granit_input.specs.Looks.{is_document_indicator, ReadsNonBreakz};
 ghost use Rattle.granit_input.specs.White.{holds, SkipsBlanks, SkipsWhite};
 
 use crate::class::{Class, Run, goes_on, is_quoted, is_quoted_ascii};
@@ -511,7 +516,7 @@ pub trait Input: Drop {
         flow_level_gt_0: bool,
     ) -> Result<(bool, usize), NoMemory>
         ensures fetches { (u : Unread) → unread self.old u
-            → FetchesFront (is_plain_at flow_level_gt_0) u count result (unread self.new)
+            → FetchesFront (is_content flow_level_gt_0) u count result (unread self.new)
             (string_chars out.old) (string_chars out.new) }
         ensures kept { Extends (string_chars out.old) (string_chars out.new) }
         ensures few { IfOk result (λ r. r.0 ≡ false → count ≤ r.1) }
@@ -526,7 +531,7 @@ pub trait Input: Drop {
     /// The same without appending.
     fn skip_plain_scalar_chunk(&mut self, count: usize, flow_level_gt_0: bool) -> (bool, usize)
         ensures skips { (u : Unread) → unread self.old u
-            → SkipsFront (is_plain_at flow_level_gt_0) u count result (unread self.new) }
+            → SkipsFront (is_content flow_level_gt_0) u count result (unread self.new) }
         ensures few { result.0 ≡ false → count ≤ result.1 }
         ensures limit { result.1 ≤ count }
         ensures moves { (left self.new + result.1 ≤ left self.old)

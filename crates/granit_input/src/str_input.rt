@@ -75,7 +75,8 @@ impl<'a> Input for StrInput<'a> {
     ghost use mir.Syntax.{named};
     ghost use Rattle.granit_input.specs.Laws.{string_short, string_agrees, string_floor};
     ghost use Rattle.granit_input.specs.Runs.{starts, is_quoted_ascii, is_quoted_char};
-    ghost use Rattle.granit_input.specs.Strings.{Leaves, Looks, MovesBy, MovesIfSome, TakesRun, IsWhole, count_left, origin_of};
+    ghost use Rattle.granit_input.specs.Strings.{Leaves, Looks, MovesBy, MovesIfSome, TakesRun, IsWhole, count_left};
+    ghost use Rattle.granit_input.specs.Strings.{origin_of};
     ghost use Rattle.granit_input.specs.White.{holds};
     ghost use Rattle.granit_input.specs.contracts.str_input.StrInput.{the_row};
 

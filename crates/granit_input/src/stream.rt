@@ -1,6 +1,7 @@
 //! The characters of an iterator, as a stream has them: at most 8 are read ahead, no offset is told, and the
 //! end isn't known until it was asked for.
-ghost use Rattle.std.specs.Prelude.{◌≡◌, ℕ, ◌+◌, ◌-◌, ◌<◌, ◌≤◌, ◌^◌, List, [], ◌∷◌, ◌++◌, length, None, false, IfOk, MatchOption, true};
+ghost use Rattle.std.specs.Prelude.{◌≡◌, ℕ, ◌+◌, ◌-◌, ◌<◌, ◌≤◌, ◌^◌, List, [], ◌∷◌, ◌++◌, length, None, false, IfOk};
+ghost use Rattle.std.specs.Prelude.{MatchOption, true};
 ghost use Rattle.std.specs.Char.{IsScalar};
 ghost use Rattle.std.specs.Iterator.{IsFinite, size};
 ghost use Rattle.circular_buffer.specs.Buffer.{buffer};
@@ -146,7 +147,8 @@ impl<T: Source> Input for Stream<T> {
 
     ghost floored = { λ s. zero-le };
 
-    ghost agrees = { λ s u k. stream_agrees T.next_gives T.remaining s.tail.done s.tail.iterator s.held.items s.breaks_off s.handed_out u k };
+    ghost agrees = { λ s u k. stream_agrees T.next_gives T.remaining s.tail.done s.tail.iterator s.held.items
+        s.breaks_off s.handed_out u k };
 
     fn lookahead(&mut self, count: usize) {
         let count = count.min(8);

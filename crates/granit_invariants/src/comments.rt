@@ -1,17 +1,24 @@
 //! Comments change nothing else.
+ghost use Rattle.granit_base.specs.declared.style.Placement.{Placement};
 ghost use Rattle.granit_error.specs.FaultKind.{TooManyComments};
 ghost use Rattle.granit_error.specs.OptionsData.{OptionsData};
+ghost use Rattle.granit_invariants.specs.CommentEvents.{comment_event, comment_events, held_of, only_comments};
+ghost use Rattle.granit_invariants.specs.CommentPlaces.{StandsAmong, tail_event};
+ghost use Rattle.granit_invariants.specs.RefusedRows.{FirstRow, NoRow, RefusesRow};
+ghost use Rattle.granit_invariants.specs.Placements.{PlacedAs};
 ghost use Rattle.granit_invariants.specs.Quiet.{asking, but_comments, quiet};
+ghost use Rattle.granit_language.specs.Reached.{ReadWhole};
 ghost use Rattle.granit_lexemes.specs.Comment.{CommentRead};
 ghost use Rattle.granit_lexemes.specs.Here.{Here};
-ghost use Rattle.granit_lexemes.specs.Lexeme.{OfComment};
+ghost use Rattle.granit_lexemes.specs.Lexeme.{Dash, Item, Lexeme, OfComment, OfLexeme};
 ghost use Rattle.granit_lexemes.specs.Outcome.{Fault};
 ghost use Rattle.granit_lexemes.specs.PlainEvent.{PlainEvent};
 ghost use Rattle.granit_machine.specs.Frames.{ParserState};
-ghost use Rattle.granit_machine.specs.Lexing.{FlaggedItem, lex};
+ghost use Rattle.granit_machine.specs.Lexing.{FlaggedItem, flagged, lex};
 ghost use Rattle.granit_machine.specs.Machine.{asked_items, feed_all, run_from};
-ghost use Rattle.granit_machine.specs.Parser.{feed};
-ghost use Rattle.std.specs.Prelude.{◌≡◌, ◌⊎◌, [], Bool, Err, List, Ok, Option, false, true, ℕ};
+ghost use Rattle.granit_machine.specs.Parser.{feed, next_line, placed};
+ghost use Rattle.granit_machine.specs.ReaderState.{ReaderState, reader_start};
+ghost use Rattle.std.specs.Prelude.{◌++◌, ◌∷◌, ◌≡◌, ◌⊎◌, [], Bool, Err, List, None, Ok, Option, Some, false, true, ℕ};
 
 /// What is read doesn't depend on whether comments are asked for.
 pub fn reading_asks_for_no_comments()
@@ -59,4 +66,68 @@ pub fn comments_change_nothing_else()
 pub fn no_comment_is_told_unasked()
     ensures { (o : OptionsData) (h : Here) (es : List PlainEvent) →
         run_from (asking false o) h ≡ Ok es → but_comments es ≡ es }
+{}
+
+/// The comments among the events of items are those of the items, in order, each with its span and placed by the token
+/// behind it; those that are held at the beginning stand before them, and those that are still held at the end are
+/// left.
+pub fn comments_are_told_in_order()
+    ensures { (o : OptionsData) (items : List FlaggedItem) (p q : ParserState) (es : List PlainEvent) →
+        p.given ≡ [] → feed_all o items p ≡ Ok (es, q) →
+        only_comments es ++ only_comments (held_of q.waiting)
+        ≡ only_comments (held_of p.waiting) ++ comment_events items }
+{}
+
+/// An answer that comments are asked for tells exactly those of the text's items, in order, each with its span and
+/// placed by the token behind it.
+pub fn the_comments_of_a_text_are_told()
+    ensures { (o : OptionsData) (h : Here) (es : List PlainEvent) →
+        run_from (asking true o) h ≡ Ok es →
+        (items : List Item) × (s : ReaderState) × ReadWhole o (reader_start h) items true s
+        × (only_comments es ≡ comment_events (flagged items)) }
+{}
+
+/// Items are refused for a comment only where more stand in a row behind a lexeme than may be held, and its node waits
+/// there; else they are refused without their comments too, for the same.
+pub fn a_comment_too_many_stands_in_a_row()
+    ensures { (o : OptionsData) (p : ParserState) (items : List FlaggedItem) (f : Fault) →
+        p.waiting ≡ None → p.given ≡ [] → feed_all o items p ≡ Err f →
+        RefusesRow o (quiet o p) items f ⊎ (feed_all o (asked_items false items) (quiet o p) ≡ Err f) }
+{}
+
+/// Where a comment is placed is what the items behind it say, and they say one placement.
+pub fn each_comment_is_placed_as_declared()
+    ensures placed { (c : CommentRead) (rest : List FlaggedItem) → PlacedAs c rest (placed c (next_line rest)) }
+    ensures one { (c : CommentRead) (rest : List FlaggedItem) (a b : Placement) → PlacedAs c rest a →
+        PlacedAs c rest b → a ≡ b }
+{}
+
+/// The first comment too many is what items are refused for; where there is none they are answered or refused as they
+/// are without their comments, and what is answered has none.
+pub fn the_first_comment_too_many_is_refused()
+    ensures refused { (o : OptionsData) (p : ParserState) (items : List FlaggedItem) (f : Fault) →
+        p.waiting ≡ None → p.given ≡ [] → FirstRow o (quiet o p) items f → feed_all o items p ≡ Err f }
+    ensures causes { (o : OptionsData) (p : ParserState) (items : List FlaggedItem) (f : Fault) →
+        p.waiting ≡ None → p.given ≡ [] → feed_all o items p ≡ Err f →
+        FirstRow o (quiet o p) items f
+        ⊎ (NoRow o (quiet o p) items × (feed_all o (asked_items false items) (quiet o p) ≡ Err f)) }
+    ensures none { (o : OptionsData) (p q : ParserState) (items : List FlaggedItem) (es : List PlainEvent) →
+        p.waiting ≡ None → p.given ≡ [] → feed_all o items p ≡ Ok (es, q) → NoRow o (quiet o p) items }
+{}
+
+/// Each comment's event stands behind the events that the items up to it give without their comments, and in front of
+/// those of the comments behind it. Where a node waits that stays empty, it may stand behind the empty node; one
+/// behind a `-` on its line may stand in front of the start of the sequence in the column of its mapping.
+pub fn each_comment_stands_behind_what_is_before_it()
+    ensures lines { (o : OptionsData) (p : ParserState) (front back : List FlaggedItem) (c : CommentRead) (b : Bool)
+        (es : List PlainEvent) (q : ParserState) → p.waiting ≡ None → p.given ≡ [] →
+        feed_all o (front ++ (record { item = OfComment c; begins_key = b } ∷ back)) p ≡ Ok (es, q) →
+        q.waiting ≡ None →
+        StandsAmong o p ⊥ front back (comment_event c (placed c (next_line back))) es }
+    ensures tails { (o : OptionsData) (p : ParserState) (front back : List FlaggedItem) (l : Lexeme) (b : Bool)
+        (c : CommentRead) (es : List PlainEvent) (q : ParserState) → p.waiting ≡ None → p.given ≡ [] → l.tail ≡ Some c →
+        feed_all o (front ++ (record { item = OfLexeme l; begins_key = b } ∷ back)) p ≡ Ok (es, q) →
+        q.waiting ≡ None →
+        StandsAmong o p (l.kind ≡ Dash) (front ++ (record { item = OfLexeme l; begins_key = b } ∷ [])) back
+        (tail_event l.kind c (next_line back)) es }
 {}

@@ -9,9 +9,12 @@ use Rattle.granit_machine.specs.FlowLexemes.{opened, closed_bracket, last_of_com
 use Rattle.granit_machine.specs.IndicatorLexemes.{widened_if, is_before_break, behind_question}
 use Rattle.granit_machine.specs.Laid.{Laid, behind_lexeme, is_in_flow}
 use Rattle.granit_lexemes.specs.declared.layout.LastLexeme.{LastLexeme}
-use Rattle.granit_lexemes.specs.declared.layout.LastLexeme.TheVariants.{Opener, BehindDash, BehindQuestion, BehindBareColon, Adjacent, Another}
+use Rattle.granit_lexemes.specs.declared.layout.LastLexeme.TheVariants.{Opener, BehindDash, BehindQuestion}
+use Rattle.granit_lexemes.specs.declared.layout.LastLexeme.TheVariants.{BehindBareColon, Adjacent, Another}
 use Rattle.granit_lexemes.specs.declared.layout.PossibleKey.{PossibleKey}
-use Rattle.granit_machine.specs.LexemeSort.{PlacedSort, OpenSign, CloseSign, CommaSign, DashSign, QuestionSign, ColonSign, AliasSign, AnchorSign, TagSign, BlockSign, QuoteSign, PlainSign, LexemeSort, TextEnd, StartMark, EndMark, Unprintable, DirectiveSign, Placed}
+use Rattle.granit_machine.specs.LexemeSort.{PlacedSort, OpenSign, CloseSign, CommaSign, DashSign, QuestionSign}
+use Rattle.granit_machine.specs.LexemeSort.{ColonSign, AliasSign, AnchorSign, TagSign, BlockSign, QuoteSign, PlainSign}
+use Rattle.granit_machine.specs.LexemeSort.{LexemeSort, TextEnd, StartMark, EndMark, Unprintable, DirectiveSign, Placed}
 use Rattle.granit_machine.specs.NodeLexemes.{last_of_property, unrolled}
 use Rattle.granit_machine.specs.PossibleKeys.{top_key, forgets_key, fresh}
 use Rattle.granit_machine.specs.Reader.{noded}

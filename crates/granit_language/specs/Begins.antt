@@ -5,7 +5,10 @@ use Rattle.granit_base.specs.Place.{first}
 use Rattle.granit_lexemes.specs.Lexeme.{opener_char, closer_char}
 use Rattle.granit_lexemes.specs.declared.layout.Bracket.{Bracket}
 use Rattle.granit_lexemes.specs.QuotedScalar.{quote_char}
-use Rattle.granit_machine.specs.LexemeSort.{PlacedSort, OpenSign, CloseSign, CommaSign, DashSign, QuestionSign, ColonSign, AliasSign, AnchorSign, TagSign, BlockSign, QuoteSign, StrayMark, NoSign, PlainSign, LexemeSort, TextEnd, StartMark, EndMark, Unprintable, DirectiveSign, Placed}
+use Rattle.granit_machine.specs.LexemeSort.{PlacedSort, OpenSign, CloseSign, CommaSign, DashSign, QuestionSign}
+use Rattle.granit_machine.specs.LexemeSort.{ColonSign, AliasSign, AnchorSign, TagSign, BlockSign, QuoteSign, StrayMark}
+use Rattle.granit_machine.specs.LexemeSort.{NoSign, PlainSign, LexemeSort, TextEnd, StartMark, EndMark, Unprintable}
+use Rattle.granit_machine.specs.LexemeSort.{DirectiveSign, Placed}
 
 -- `|` or `>`
 abbrev pub block_char : Bool → ℕ

@@ -1,6 +1,7 @@
 -- The place of an index, counted on the whole text: byte-order marks in front of documents count no column
 -- (YAML 1.2.2, 5.2, 5.4).
-use Rattle.std.specs.Prelude.{◌≡◌, ℕ, suc, ◌+◌, ◌-◌, ◌<◌, ◌&&◌, nat_le, nat_lt, List, [], ◌∷◌, ◌++◌, length, take, drop, Option, Some, None}
+use Rattle.std.specs.Prelude.{◌≡◌, ℕ, suc, ◌+◌, ◌-◌, ◌<◌, ◌&&◌, nat_le, nat_lt, List, [], ◌∷◌, ◌++◌, length, take, drop}
+use Rattle.std.specs.Prelude.{Option, Some, None}
 use Rattle.std.specs.Str.{encode_utf8_all}
 use Rattle.granit_base.specs.Place.{Mark, first}
 use Rattle.granit_lexemes.specs.Comment.{CommentRead}

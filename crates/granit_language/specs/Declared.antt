@@ -1,7 +1,8 @@
 -- What stands declared at a place, said of the lexemes before it (YAML 1.2.2, 3.2.2.2, 6.8 and 6.9).
 use Rattle.std.specs.Prelude.{◌≡◌, ℕ, suc, Bool, true, false, nat_eq, List, [], ◌∷◌, ◌++◌, ◌⊎◌}
 use lib.Pointwise.{pointwise}
-use Rattle.granit_language.specs.Terminal.{Anchor, Property, TerminalKind, Directive, DocumentStart, DocumentEnd, Part, Terminal}
+use Rattle.granit_language.specs.Terminal.{Anchor, Property, TerminalKind, Directive, DocumentStart, DocumentEnd, Part}
+use Rattle.granit_language.specs.Terminal.{Terminal}
 use Rattle.granit_lexemes.specs.Lexeme.{Version, TagPrefix}
 
 abbrev pub is_mark : TerminalKind → Bool

@@ -1,8 +1,14 @@
 -- The kind of a refusal, by the open place.
 use Rattle.granit_lexemes.specs.declared.layout.Bracket.TheVariants.{Square, Curly}
 use Rattle.granit_language.specs.Choice.{choose}
-use Rattle.granit_language.specs.GrammarFault.{GrammarFault, ExpectedDocumentStart, MissingDocumentEndBeforeDirective, UnexpectedEofBlockSequence, UnexpectedEofBlockMapping, UnexpectedEofImplicitFlowMapping, ExpectedBlockMappingKey, ExpectedBlockSequenceEntry, ExpectedFlowMappingSeparator, ExpectedFlowSequenceSeparator, NoFault}
-use Rattle.granit_language.specs.OpenPlace.{AtRoot, AtEntry, AtItem, AtKey, AtAsk, AtColon, OpenPlace, Fresh, InDirectives, BehindRoot, Ended, Want, PastEntry, PastKey, PastAsk, PastPair, PastItem, BlockPairs}
+use Rattle.granit_language.specs.GrammarFault.{GrammarFault, ExpectedDocumentStart, MissingDocumentEndBeforeDirective}
+use Rattle.granit_language.specs.GrammarFault.{UnexpectedEofBlockSequence, UnexpectedEofBlockMapping}
+use Rattle.granit_language.specs.GrammarFault.{UnexpectedEofImplicitFlowMapping, ExpectedBlockMappingKey}
+use Rattle.granit_language.specs.GrammarFault.{ExpectedBlockSequenceEntry, ExpectedFlowMappingSeparator}
+use Rattle.granit_language.specs.GrammarFault.{ExpectedFlowSequenceSeparator, NoFault}
+use Rattle.granit_language.specs.OpenPlace.{AtRoot, AtEntry, AtItem, AtKey, AtAsk, AtColon, OpenPlace, Fresh}
+use Rattle.granit_language.specs.OpenPlace.{InDirectives, BehindRoot, Ended, Want, PastEntry, PastKey, PastAsk}
+use Rattle.granit_language.specs.OpenPlace.{PastPair, PastItem, BlockPairs}
 use Rattle.granit_language.specs.Terminal.{TerminalKind, is_directive_kind}
 
 -- the kind of a lexeme that isn't admitted at an open place

@@ -1,7 +1,8 @@
 -- What flagged lexemes fit: each keyed `:` names the last lexeme at its depth that begins a simple key, keys nest, and
 -- what begins an entry of a block collection begins its line or follows an indicator (YAML 1.2.2, 7.4.2, 8.2).
 use Rattle.std.specs.Prelude.{◌≡◌, ℕ, ◌==◌, Bool, true, false, ◌||◌, not, List, [], ◌∷◌, Option, Some, None}
-use Rattle.granit_lexemes.specs.Lexeme.{LexemeKind, Open, Close, Dash, Question, Colon, Alias, Anchor, Tag, Scalar, KeyStart, Lexeme, Item, OfLexeme, OfComment}
+use Rattle.granit_lexemes.specs.Lexeme.{LexemeKind, Open, Close, Dash, Question, Colon, Alias, Anchor, Tag, Scalar}
+use Rattle.granit_lexemes.specs.Lexeme.{KeyStart, Lexeme, Item, OfLexeme, OfComment}
 use Rattle.granit_machine.specs.Lexing.{FlaggedItem}
 
 -- what a lexeme is to the keys around it

@@ -1,8 +1,10 @@
 -- The key of a `:`, said of the lexemes before it (YAML 1.2.2, 7.4.2 and 8.2.2).
-use Rattle.std.specs.Prelude.{◌≡◌, ℕ, ◌+◌, ◌==◌, Bool, true, false, ◌&&◌, ◌||◌, not, nat_lt, List, [], ◌∷◌, ◌++◌, drop, ◌⊎◌, Option, Some, None}
+use Rattle.std.specs.Prelude.{◌≡◌, ℕ, ◌+◌, ◌==◌, Bool, true, false, ◌&&◌, ◌||◌, not, nat_lt, List, [], ◌∷◌, ◌++◌, drop}
+use Rattle.std.specs.Prelude.{◌⊎◌, Option, Some, None}
 use Rattle.granit_base.specs.Place.{Mark}
 use Rattle.granit_error.specs.OptionsData.{OptionsData}
-use Rattle.granit_lexemes.specs.Lexeme.{LexemeKind, Open, Comma, Dash, Question, Colon, KeyStart, Lexeme, Item, OfLexeme, OfComment}
+use Rattle.granit_lexemes.specs.Lexeme.{LexemeKind, Open, Comma, Dash, Question, Colon, KeyStart, Lexeme, Item}
+use Rattle.granit_lexemes.specs.Lexeme.{OfLexeme, OfComment}
 use Rattle.granit_language.specs.Fitting.{Role, OfNode, Opens, Closes, role_of}
 
 abbrev pub role : Lexeme → Role
@@ -62,14 +64,14 @@ follows_dash [] = false
 follows_dash (x ∷ xs) = is_entry_dash x.kind
 
 -- a `?`, or a `:` without key
-abbrev pub is_sign : LexemeKind → Option KeyStart → Bool
-is_sign Question key = true
-is_sign Colon None = true
-is_sign kind key = false
+abbrev pub is_key_sign : LexemeKind → Option KeyStart → Bool
+is_key_sign Question key = true
+is_key_sign Colon None = true
+is_key_sign kind key = false
 
 abbrev pub follows_sign : List Lexeme → Bool
 follows_sign [] = false
-follows_sign (x ∷ xs) = not x.in_flow && is_sign x.kind x.key
+follows_sign (x ∷ xs) = not x.in_flow && is_key_sign x.kind x.key
 
 abbrev pub no_tab : List ℕ → Bool
 no_tab [] = true

@@ -1,3 +1,4 @@
+pub mod Allowed
 pub mod Before
 pub mod Begins
 pub mod Choice
@@ -19,12 +20,18 @@ pub mod Refusing
 pub mod Room
 pub mod Scope
 pub mod Scoping
+pub mod Seen
 pub mod Settling
 pub mod Standing
 pub mod Stretch
 pub mod Telling
 pub mod Terminal
+pub mod TextFault
 pub mod TreeEvents
 pub mod Whole
 pub mod Within
 pub mod Yield
+pub mod Awaiting
+pub mod CommentRows
+pub mod OpenTold
+pub mod HeldSaid

@@ -1,6 +1,8 @@
 -- The open columns of block collections, said of the lexemes before a place (YAML 1.2.2, 8.2).
-use Rattle.std.specs.Prelude.{◌≡◌, ℕ, ◌==◌, Bool, true, false, nat_lt, if◌then◌else◌, List, [], ◌∷◌, ◌⊎◌, map, Option, Some, None}
-use Rattle.granit_lexemes.specs.Lexeme.{LexemeKind, Directive, DocumentStart, DocumentEnd, StreamEnd, Dash, Question, Colon, KeyStart, Lexeme, Item, OfLexeme, OfComment}
+use Rattle.std.specs.Prelude.{◌≡◌, ℕ, ◌==◌, Bool, true, false, nat_lt, if◌then◌else◌, List, [], ◌∷◌, ◌⊎◌, map, Option}
+use Rattle.std.specs.Prelude.{Some, None}
+use Rattle.granit_lexemes.specs.Lexeme.{LexemeKind, Directive, DocumentStart, DocumentEnd, StreamEnd, Dash, Question}
+use Rattle.granit_lexemes.specs.Lexeme.{Colon, KeyStart, Lexeme, Item, OfLexeme, OfComment}
 use Rattle.granit_machine.specs.Laid.{Laid}
 use Rattle.granit_lexemes.specs.declared.layout.OpenColumn.{OpenColumn}
 
@@ -35,13 +37,13 @@ is_outer_kind StreamEnd = true
 is_outer_kind kind = false
 
 -- outside flow it neither ends the document nor stands left of a column
-abbrev pub Leaves : Lexeme → ℕ → Type 0
-Leaves x c = x.in_flow ≡ false → (is_outer_kind x.kind ≡ false) × (nat_lt x.start.place.column c ≡ false)
+abbrev pub LeavesOpen : Lexeme → ℕ → Type 0
+LeavesOpen x c = x.in_flow ≡ false → (is_outer_kind x.kind ≡ false) × (nat_lt x.start.place.column c ≡ false)
 
 -- an entry outside flow stands in a column, and no lexeme outside flow after it in the document stands left of it
 abbrev pub IsOpenColumn : List Lexeme → ℕ → Type 0
 IsOpenColumn [] c = ⊥
-IsOpenColumn (x ∷ xs) c = IsEntry x xs c ⊎ (Leaves x c × IsOpenColumn xs c)
+IsOpenColumn (x ∷ xs) c = IsEntry x xs c ⊎ (LeavesOpen x c × IsOpenColumn xs c)
 
 abbrev pub Has : ℕ → List ℕ → Type 0
 Has c [] = ⊥

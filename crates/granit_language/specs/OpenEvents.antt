@@ -2,11 +2,18 @@
 use Rattle.std.specs.Prelude.{ℕ, true, List, ◌∷◌, Option, None}
 use Rattle.granit_base.specs.Place.{Mark}
 use Rattle.granit_language.specs.Node.{FlowItem, Single, Paired}
-use Rattle.granit_language.specs.OpenPlace.{Bare, Explicit, Around, BlockPairs, FlowPairs, Hole, AtRoot, AtEntry, AtItem, AtKey, AtAsk, AtColon, OpenPlace, Fresh, InDirectives, BehindRoot, Ended, Want, PastEntry, PastKey, PastAsk, PastPair, PastItem, holder}
+use Rattle.granit_language.specs.OpenPlace.{Bare, Explicit, Around, BlockPairs, FlowPairs, Hole, AtRoot, AtEntry}
+use Rattle.granit_language.specs.OpenPlace.{AtItem, AtKey, AtAsk, AtColon, OpenPlace, Fresh, InDirectives, BehindRoot}
+use Rattle.granit_language.specs.OpenPlace.{Ended, Want, PastEntry, PastKey, PastAsk, PastPair, PastItem, holder}
 use Rattle.granit_language.specs.Placed.{left_front, pair_front}
 use Rattle.granit_language.specs.Room.{FlowIn}
 use Rattle.granit_language.specs.Terminal.{Open, Question, Part, Terminal, terminal, no_terminal}
-use Rattle.granit_language.specs.TreeEvents.{DocumentStarts, TreeEvent, shown_event, indent_of_key, flow_start, pair_opens, pair_closes, node_events, content_events, entries_events, entry_lead_events, pair_lead_events, pair_events, left_events, flow_events, first_with, entries_first, entry_lead_first, pair_lead_first, start_version, bare_document_start, before_events, directives_events, start_events, rooted_events, stream_events}
+use Rattle.granit_language.specs.TreeEvents.{DocumentStarts, TreeEvent, shown_event, indent_of_key, flow_start}
+use Rattle.granit_language.specs.TreeEvents.{pair_opens, pair_closes, node_events, content_events, entries_events}
+use Rattle.granit_language.specs.TreeEvents.{entry_lead_events, pair_lead_events, pair_events, left_events, flow_events}
+use Rattle.granit_language.specs.TreeEvents.{first_with, entries_first, entry_lead_first, pair_lead_first}
+use Rattle.granit_language.specs.TreeEvents.{start_version, bare_document_start, before_events, directives_events}
+use Rattle.granit_language.specs.TreeEvents.{start_events, rooted_events, stream_events}
 use Rattle.granit_lexemes.specs.declared.layout.Bracket.{Bracket}
 
 abbrev pub hole_indent : Hole → Option ℕ

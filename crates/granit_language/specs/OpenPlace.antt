@@ -1,10 +1,19 @@
 -- How far a list of lexemes has come in the grammar: the place where it goes on, with the finished pieces to its left.
 use Rattle.std.specs.Prelude.{◌≡◌, ℕ, Bool, true, List, ◌∷◌, ◌==◌}
-use Rattle.granit_language.specs.Node.{TreeProperties, NoProperties, Node, Content, Entries, EntryLead, PairLead, Pair, Left, FlowLead, FlowItem, Single, Paired, Before, Directives, Start, Rooted, Stream}
-use Rattle.granit_language.specs.Placed.{PropertiesPlaced, left_front, pair_front, Placed, ContentPlaced, EntriesPlaced, EntryLeadPlaced, PairLeadPlaced, PairPlaced, LeftPlaced, FlowPlaced, ItemPlaced, BeforePlaced, DirectivesPlaced, StartPlaced, RootedPlaced, StreamPlaced}
-use Rattle.granit_language.specs.Room.{Holder, BlockIn, FlowIn, Room, RightOf, KeyIn, ItemIn, room_behind, right_fits, sequence_fits, PartFits, room_value, ask_empty, place_fits, KeyBegins, pair_over}
+use Rattle.granit_language.specs.Node.{TreeProperties, NoProperties, Node, Content, Entries, EntryLead, PairLead, Pair}
+use Rattle.granit_language.specs.Node.{Left, FlowLead, FlowItem, Single, Paired, Before, Directives, Start, Rooted}
+use Rattle.granit_language.specs.Node.{Stream}
+use Rattle.granit_language.specs.Placed.{PropertiesPlaced, left_front, pair_front, Placed, ContentPlaced, EntriesPlaced}
+use Rattle.granit_language.specs.Placed.{EntryLeadPlaced, PairLeadPlaced, PairPlaced, LeftPlaced, FlowPlaced}
+use Rattle.granit_language.specs.Placed.{ItemPlaced, BeforePlaced, DirectivesPlaced, StartPlaced, RootedPlaced}
+use Rattle.granit_language.specs.Placed.{StreamPlaced}
+use Rattle.granit_language.specs.Room.{Holder, BlockIn, FlowIn, Room, RightOf, KeyIn, ItemIn, room_behind, right_fits}
+use Rattle.granit_language.specs.Room.{sequence_fits, PartFits, room_value, ask_empty, place_fits, KeyBegins, pair_over}
 use Rattle.granit_language.specs.Terminal.{Open, DocumentStart, Dash, Question, Part, At, Terminal, terminal, edge}
-use Rattle.granit_language.specs.Yield.{spell_properties, colon_kind, spell, spell_content, spell_entries, spell_entry_lead, spell_pair_lead, spell_pair, spell_left, spell_flow, spell_item, spell_before, spell_directives, spell_start, spell_rooted, spell_stream}
+use Rattle.granit_language.specs.Yield.{spell_properties, colon_kind, spell, spell_content, spell_entries}
+use Rattle.granit_language.specs.Yield.{spell_entry_lead, spell_pair_lead, spell_pair, spell_left, spell_flow}
+use Rattle.granit_language.specs.Yield.{spell_item, spell_before, spell_directives, spell_start, spell_rooted}
+use Rattle.granit_language.specs.Yield.{spell_stream}
 use Rattle.granit_lexemes.specs.declared.layout.Bracket.{Bracket}
 
 -- the root of a document that must come
@@ -13,8 +22,7 @@ pub data Root : Type 0 where
   Explicit : Start → (mark : At) → Root
 
 -- an unfinished collection where a pair may stand: a block mapping in a column, with its properties and the pairs
--- before it;
--- a flow collection, with its properties, its opener and the items before it
+-- before it; a flow collection, with its properties, its opener and the items before it
 pub data Around : Type 0 where
   BlockPairs : TreeProperties → (column : ℕ) → PairLead → Around
   FlowPairs : TreeProperties → Bracket → (opener : At) → FlowLead → Around

@@ -1,8 +1,19 @@
 -- Trees whose parts stand where they may, each in front of the lexeme that follows it (YAML 1.2.2, 6.1, 7.4, 8.2, 9.2).
 use Rattle.std.specs.Prelude.{◌≡◌, ℕ, Bool, true, false, ◌==◌, Some, None}
-use Rattle.granit_language.specs.Node.{TreeProperties, NoProperties, One, Two, Node, AliasNode, ScalarNode, Alone, Flow, Sequence, Mapping, Content, Nothing, Just, Entries, Entry, EntryLead, NoEntry, AfterEntry, Pairs, Through, PairLead, NoPair, AfterPair, Pair, WithColon, AskOnly, Left, SimpleKey, Asked, NoKey, FlowLead, NoItem, AfterItem, FlowLast, NoLast, LastItem, FlowItem, Single, Paired, Before, Beginning, ExtraEnd, Closed, Directives, FirstDirective, NextDirective, Start, AtFresh, AfterDirectives, AfterRoot, Rooted, BareRoot, ExplicitRoot, Stream, EndFresh, EndRooted}
-use Rattle.granit_language.specs.Room.{Holder, BlockIn, FlowIn, Room, RightOf, KeyIn, ItemIn, behind_property, room_behind, right_fits, sequence_fits, PartFits, differ, continues_node, entry_empty, sequence_over, room_value, value_empty, ask_empty, ask_over, place_fits, KeyBegins}
-use Rattle.granit_language.specs.Terminal.{Alias, Property, Scalar, Open, DocumentStart, DocumentEnd, TheEnd, Dash, Question, Comma, Colon, Close, At, Terminal, terminal, edge, is_stream_kind, stands_left}
+use Rattle.granit_language.specs.Node.{TreeProperties, NoProperties, One, Two, Node, AliasNode, ScalarNode, Alone, Flow}
+use Rattle.granit_language.specs.Node.{Sequence, Mapping, Content, Nothing, Just, Entries, Entry, EntryLead, NoEntry}
+use Rattle.granit_language.specs.Node.{AfterEntry, Pairs, Through, PairLead, NoPair, AfterPair, Pair, WithColon}
+use Rattle.granit_language.specs.Node.{AskOnly, Left, SimpleKey, Asked, NoKey, FlowLead, NoItem, AfterItem, FlowLast}
+use Rattle.granit_language.specs.Node.{NoLast, LastItem, FlowItem, Single, Paired, Before, Beginning, ExtraEnd, Closed}
+use Rattle.granit_language.specs.Node.{Directives, FirstDirective, NextDirective, Start, AtFresh, AfterDirectives}
+use Rattle.granit_language.specs.Node.{AfterRoot, Rooted, BareRoot, ExplicitRoot, Stream, EndFresh, EndRooted}
+use Rattle.granit_language.specs.Room.{Holder, BlockIn, FlowIn, Room, RightOf, KeyIn, ItemIn, behind_property}
+use Rattle.granit_language.specs.Room.{room_behind, right_fits, sequence_fits, PartFits, differ, continues_node}
+use Rattle.granit_language.specs.Room.{entry_empty, sequence_over, room_value, value_empty, ask_empty, ask_over}
+use Rattle.granit_language.specs.Room.{place_fits, KeyBegins}
+use Rattle.granit_language.specs.Terminal.{Alias, Property, Scalar, Open, DocumentStart, DocumentEnd, TheEnd, Dash}
+use Rattle.granit_language.specs.Terminal.{Question, Comma, Colon, Close, At, Terminal, terminal, edge, is_stream_kind}
+use Rattle.granit_language.specs.Terminal.{stands_left}
 use Rattle.granit_lexemes.specs.declared.layout.Bracket.{Bracket}
 
 abbrev pub PropertiesPlaced : TreeProperties → Room → Type 0

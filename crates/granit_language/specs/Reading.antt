@@ -1,8 +1,15 @@
 -- What a reading asks of the lexemes alone, beside a placed stream that spells them.
 use Rattle.std.specs.Prelude.{◌≡◌, ℕ, Bool, true, false, ◌||◌, not, ◌==◌, List, [], ◌∷◌, Option, Some, None}
-use Rattle.granit_language.specs.Node.{Node, AliasNode, ScalarNode, Alone, Flow, Sequence, Mapping, Content, Nothing, Just, Entries, Entry, EntryLead, NoEntry, AfterEntry, Pairs, Through, PairLead, NoPair, AfterPair, Pair, WithColon, AskOnly, Left, SimpleKey, Asked, NoKey, FlowLead, NoItem, AfterItem, FlowLast, NoLast, LastItem, FlowItem, Single, Paired, Before, Beginning, ExtraEnd, Closed, Directives, FirstDirective, NextDirective, Start, AtFresh, AfterDirectives, AfterRoot, Rooted, BareRoot, ExplicitRoot, Stream, EndFresh, EndRooted}
+use Rattle.granit_language.specs.Node.{Node, AliasNode, ScalarNode, Alone, Flow, Sequence, Mapping, Content, Nothing}
+use Rattle.granit_language.specs.Node.{Just, Entries, Entry, EntryLead, NoEntry, AfterEntry, Pairs, Through, PairLead}
+use Rattle.granit_language.specs.Node.{NoPair, AfterPair, Pair, WithColon, AskOnly, Left, SimpleKey, Asked, NoKey}
+use Rattle.granit_language.specs.Node.{FlowLead, NoItem, AfterItem, FlowLast, NoLast, LastItem, FlowItem, Single}
+use Rattle.granit_language.specs.Node.{Paired, Before, Beginning, ExtraEnd, Closed, Directives, FirstDirective}
+use Rattle.granit_language.specs.Node.{NextDirective, Start, AtFresh, AfterDirectives, AfterRoot, Rooted, BareRoot}
+use Rattle.granit_language.specs.Node.{ExplicitRoot, Stream, EndFresh, EndRooted}
 use Rattle.granit_language.specs.Placed.{StreamPlaced}
-use Rattle.granit_language.specs.Terminal.{Open, TerminalKind, Dash, Colon, Close, Part, At, Terminal, begins_entry_kind}
+use Rattle.granit_language.specs.Terminal.{Open, TerminalKind, Dash, Colon, Close, Part, At, Terminal}
+use Rattle.granit_language.specs.Terminal.{begins_entry_kind}
 use Rattle.granit_language.specs.Yield.{spell_stream}
 
 -- what begins an entry of a block collection

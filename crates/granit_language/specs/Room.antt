@@ -2,7 +2,9 @@
 -- machines and for the trees.
 use Rattle.std.specs.Prelude.{◌≡◌, ℕ, Bool, true, false, ◌&&◌, ◌||◌, not, ◌==◌, nat_lt, None}
 use Rattle.granit_language.specs.Node.{TreeProperties, NoProperties, One, Two, Pair, WithColon, AskOnly, Left, Asked}
-use Rattle.granit_language.specs.Terminal.{PropertyKind, Anchor, Tag, PartKind, Alias, Property, TerminalKind, Dash, Question, Colon, Part, At, Terminal, terminal, edge, stands_left, dash_in, entry_in, bare_in, is_comma_kind, closes_kind, is_bare_kind}
+use Rattle.granit_language.specs.Terminal.{PropertyKind, Anchor, Tag, PartKind, Alias, Property, TerminalKind, Dash}
+use Rattle.granit_language.specs.Terminal.{Question, Colon, Part, At, Terminal, terminal, edge, stands_left, dash_in}
+use Rattle.granit_language.specs.Terminal.{entry_in, bare_in, is_comma_kind, closes_kind, is_bare_kind}
 use Rattle.granit_lexemes.specs.declared.layout.Bracket.{Bracket}
 use Rattle.granit_lexemes.specs.declared.layout.Bracket.TheVariants.{Square, Curly}
 
@@ -13,9 +15,9 @@ pub data Holder : Type 0 where
 
 pub data Room : Type 0 where
   RightOf : ℕ → Room
-  -- right of a column, or an indentless sequence in it ([201] seq-space)
+  -- right of a column, or an indentless sequence in it (8.2.3)
   ValueIn : ℕ → Room
-  -- a simple key whose first lexeme is given ([154], [155], [193])
+  -- a simple key whose first lexeme is given (7.4.2, 8.2.2)
   KeyIn : Holder → Terminal → Room
   -- a simple key outside flow, behind its properties
   BehindKey : ℕ → Room

@@ -1,9 +1,12 @@
 -- How lexemes declare, what they mean by what was declared before them, and which of them mean nothing.
-use Rattle.std.specs.Prelude.{◌≡◌, ℕ, suc, Bool, true, false, ◌==◌, nat_lt, if◌then◌else◌, List, [], ◌∷◌, length, codes, Option, Some, None}
+use Rattle.std.specs.Prelude.{◌≡◌, ℕ, suc, Bool, true, false, ◌==◌, nat_lt, if◌then◌else◌, List, [], ◌∷◌, length, codes}
+use Rattle.std.specs.Prelude.{Option, Some, None}
 use Rattle.granit_base.specs.Written.{Written}
-use Rattle.granit_language.specs.GrammarFault.{GrammarFault, DuplicateVersionDirective, UnsupportedYamlMajorVersion, DuplicateTagDirective, UnknownAnchor, UndeclaredTagHandle}
+use Rattle.granit_language.specs.GrammarFault.{GrammarFault, DuplicateVersionDirective, UnsupportedYamlMajorVersion}
+use Rattle.granit_language.specs.GrammarFault.{DuplicateTagDirective, UnknownAnchor, UndeclaredTagHandle}
 use Rattle.granit_language.specs.Scope.{Scope, entry_of}
-use Rattle.granit_language.specs.Terminal.{Anchor, Tag, Alias, Property, TerminalKind, Directive, DocumentStart, DocumentEnd, Part, Terminal, terminal}
+use Rattle.granit_language.specs.Terminal.{Anchor, Tag, Alias, Property, TerminalKind, Directive, DocumentStart}
+use Rattle.granit_language.specs.Terminal.{DocumentEnd, Part, Terminal, terminal}
 use Rattle.granit_lexemes.specs.Lexeme.{Version, TagPrefix}
 
 abbrev pub with_anchor_named : Written → Scope → Scope

@@ -2,9 +2,14 @@
 -- empty.
 use Rattle.std.specs.Prelude.{ℕ, Bool, false}
 use Rattle.granit_language.specs.Choice.{choose}
-use Rattle.granit_language.specs.Node.{TreeProperties, NoProperties, Alone, Sequence, Mapping, Content, Nothing, Just, Entries, Entry, Through, Pair, WithColon, AskOnly, Single, Paired, BareRoot, ExplicitRoot}
-use Rattle.granit_language.specs.OpenPlace.{Bare, Explicit, Around, BlockPairs, FlowPairs, Hole, AtRoot, AtEntry, AtItem, AtKey, AtAsk, AtColon, OpenPlace, BehindRoot, Want, PastEntry, PastKey, PastAsk, PastPair, PastItem, holder, room_of}
-use Rattle.granit_language.specs.Room.{room_behind, continues_node, entry_empty, sequence_over, value_empty, ask_empty, ask_over, pair_over}
+use Rattle.granit_language.specs.Node.{TreeProperties, NoProperties, Alone, Sequence, Mapping, Content, Nothing, Just}
+use Rattle.granit_language.specs.Node.{Entries, Entry, Through, Pair, WithColon, AskOnly, Single, Paired, BareRoot}
+use Rattle.granit_language.specs.Node.{ExplicitRoot}
+use Rattle.granit_language.specs.OpenPlace.{Bare, Explicit, Around, BlockPairs, FlowPairs, Hole, AtRoot, AtEntry}
+use Rattle.granit_language.specs.OpenPlace.{AtItem, AtKey, AtAsk, AtColon, OpenPlace, BehindRoot, Want, PastEntry}
+use Rattle.granit_language.specs.OpenPlace.{PastKey, PastAsk, PastPair, PastItem, holder, room_of}
+use Rattle.granit_language.specs.Room.{room_behind, continues_node, entry_empty, sequence_over, value_empty, ask_empty}
+use Rattle.granit_language.specs.Room.{ask_over, pair_over}
 use Rattle.granit_language.specs.Terminal.{At, Terminal, is_stream_kind, stands_left}
 
 -- a finished node, or nothing, in a hole

@@ -1,5 +1,5 @@
 -- The lexemes of a text by kind: which one stands at a place, how far it goes, and what is said of it.
-use Rattle.std.specs.Prelude.{◌≡◌, ℕ, ◌<◌, ◌==◌, ◌&&◌, ◌||◌, Bool, true, false, not, nat_lt, nat_le, List, [], ◌∷◌, length, slice_index, ◌⊎◌, Option, Some, None}
+use Rattle.std.specs.Prelude.{◌≡◌, ◌≢◌, ℕ, ◌<◌, ◌==◌, Bool, true, false, List, [], ◌∷◌, length, Option, Some, None}
 use Rattle.granit_base.specs.Classes.{is_blank, is_breakz}
 use Rattle.granit_base.specs.Place.{Mark}
 use Rattle.granit_base.specs.declared.style.ScalarStyle.TheVariants.{Plain}
@@ -10,10 +10,12 @@ use Rattle.granit_lexemes.specs.BlockScalar.{BlockGiven}
 use Rattle.granit_lexemes.specs.Comment.{CommentRead, StandsComment}
 use Rattle.granit_lexemes.specs.Directive.{DirectiveRead}
 use Rattle.granit_lexemes.specs.DirectiveExtent.{AnswersDirective}
-use Rattle.granit_lexemes.specs.HeaderExtent.{HeaderTail}
+use Rattle.granit_lexemes.specs.HeaderExtent.{LexemeTail}
 use Rattle.granit_lexemes.specs.Here.{Here, next_char, mark_of, step}
-use Rattle.granit_lexemes.specs.LayoutData.{is_left}
-use Rattle.granit_lexemes.specs.Lexeme.{LexemeKind, Directive, DocumentStart, DocumentEnd, StreamEnd, Open, Close, Comma, Dash, Question, Colon, Alias, Anchor, Tag, Scalar, KeyStart, Lexeme, Item, OfLexeme}
+use Rattle.granit_lexemes.specs.LayoutData.{LayoutData}
+use Rattle.granit_lexemes.specs.Lexeme.{LexemeKind, Directive, DocumentStart, DocumentEnd, StreamEnd, Open, Close}
+use Rattle.granit_lexemes.specs.Lexeme.{Comma, Dash, Question, Colon, Alias, Anchor, Tag, Scalar, KeyStart, Lexeme}
+use Rattle.granit_lexemes.specs.Lexeme.{Item, OfLexeme}
 use Rattle.granit_lexemes.specs.declared.layout.Bracket.{Bracket}
 use Rattle.granit_lexemes.specs.Moves.{steps}
 use Rattle.granit_lexemes.specs.NameExtent.{AnswersName}
@@ -23,46 +25,34 @@ use Rattle.granit_lexemes.specs.QuotedExtent.{AnswersQuoted}
 use Rattle.granit_lexemes.specs.QuotedScalar.{QuotedRead, quoted_style}
 use Rattle.granit_lexemes.specs.TagExtent.{AnswersTag}
 use Rattle.granit_lexemes.specs.Tags.{TagRead}
-use Rattle.granit_machine.specs.Gaps.{over_break_if, leading_tab, goes_on_behind, takes_prefix, behind_note, behind_gap}
-use Rattle.granit_machine.specs.IndicatorLexemes.{is_tabbed_dash, nul_behind, behind_question, opens_flow}
+use Rattle.granit_machine.specs.Gaps.{over_break_if, behind_note, behind_gap}
+use Rattle.granit_machine.specs.IndicatorLexemes.{behind_question}
 use Rattle.granit_machine.specs.Columns.{entered}
-use Rattle.granit_machine.specs.Laid.{Laid, behind_lexeme, is_question, is_adjacent, is_nonempty, is_in_flow, same_bracket, block_column, is_column}
+use Rattle.granit_machine.specs.Laid.{Laid, behind_lexeme, is_nonempty, is_in_flow, block_column}
 use Rattle.granit_lexemes.specs.declared.layout.LastLexeme.TheVariants.{Adjacent}
 use Rattle.granit_lexemes.specs.declared.layout.PossibleKey.{PossibleKey}
 use Rattle.granit_lexemes.specs.declared.layout.OpenBracket.{OpenBracket}
-use Rattle.granit_machine.specs.LexemeSort.{PlacedSort, OpenSign, CloseSign, CommaSign, DashSign, QuestionSign, ColonSign, AliasSign, AnchorSign, TagSign, BlockSign, QuoteSign, PlainSign, LexemeSort, TextEnd, StartMark, EndMark, DirectiveSign, Placed}
+use Rattle.granit_machine.specs.LexemeSort.{PlacedSort, OpenSign, CloseSign, CommaSign, DashSign, QuestionSign}
+use Rattle.granit_machine.specs.LexemeSort.{ColonSign, AliasSign, AnchorSign, TagSign, BlockSign, QuoteSign, PlainSign}
+use Rattle.granit_machine.specs.LexemeSort.{LexemeSort, TextEnd, StartMark, EndMark, DirectiveSign, Placed}
 use Rattle.granit_machine.specs.NodeLexemes.{block_shown, note_items, adjacent_unless}
-use Rattle.granit_machine.specs.PossibleKeys.{top_key, is_allowed, start_of_key, is_far_below, layout_of, tab_column_of}
+use Rattle.granit_machine.specs.PossibleKeys.{top_key, start_of_key}
 use Rattle.granit_machine.specs.ReaderState.{ReaderState, lexeme_to, sign_lexeme, with_tail}
+use Rattle.granit_language.specs.Allowed.{EntryMayBegin, RoomFor, EntryFits, FarBelow, DashBehindTab, NulBehind}
+use Rattle.granit_language.specs.Allowed.{OpenerBehind, TabsFit, CutFits, MayPrefix, LayoutIs}
 use Rattle.granit_language.specs.Before.{behind}
 use Rattle.granit_language.specs.Stretch.{GapHere, TailIf}
 
 -- ---- gaps (6.1, 6.6)
 
--- the column left of which no tab may begin a line with something on it
-abbrev pub tab_limit : OptionsData → Laid → ℕ
-tab_limit o l = tab_column_of (l.rolled || (is_in_flow l && o.strict_indentation)) (block_column l)
-
--- a tab that begins a line with something on it: not left of where a node may stand behind `?`, nor left of its block
-abbrev pub TabFits : OptionsData → Laid → Option Mark → Type 0
-TabFits o l None = Unit {0}
-TabFits o l (Some tab) =
-    ((is_question l.last && is_left (block_column l) tab.place.column) ≡ false)
-    × (nat_lt tab.place.column (tab_limit o l) ≡ false)
-
--- what does not go on with a plain scalar that a comment cut short
-abbrev pub CutFits : Laid → Here → Option Mark → Type 0
-CutFits l h None = Unit {0}
-CutFits l h (Some cut) = goes_on_behind l h cut ≡ false
-
 -- A gap and a comment with its break, or a gap in front of what may be a lexeme. Behind a gap that holds a character,
 -- or a comment, no value stands at once behind a quoted scalar or a closer.
 pub data GapStands (o : OptionsData) (h : Here) (l : Laid) : Option CommentRead → ReaderState → Type 0 where
-  in_front_of_comment : {comment : CommentRead} (at end : Here) → GapHere (takes_prefix l) h at
+  in_front_of_comment : {comment : CommentRead} (at end : Here) → GapHere (MayPrefix l) h at
       → StandsComment at comment end
       → GapStands o h l (Some comment) (record { here = over_break_if end; laid = behind_note l })
-  in_front_of_lexeme : (at : Here) (gap : GapHere (takes_prefix l) h at) → (next_char at == 0x23) ≡ false
-      → TabFits o l (leading_tab at) → CutFits l at l.cut
+  in_front_of_lexeme : (at : Here) (gap : GapHere (MayPrefix l) h at) → (next_char at == 0x23) ≡ false
+      → TabsFit o l at → CutFits l at
       → GapStands o h l None (record { here = at; laid = behind_gap (is_nonempty gap.gap) l })
 
 -- ---- lexemes that end at a place
@@ -71,7 +61,7 @@ pub data GapStands (o : OptionsData) (h : Here) (l : Laid) : Option CommentRead 
 pub record Tailed (ends : Bool) (h : Here) (l : Laid) (kind : LexemeKind) (end : Here) (x : Lexeme)
     (after : Here) : Type 0 where
   pub tail : Option CommentRead
-  pub tailed : HeaderTail end tail after
+  pub tailed : LexemeTail end tail after
   pub is : x ≡ with_tail (lexeme_to ends kind (mark_of end) h l) tail
 
 -- without one
@@ -96,36 +86,27 @@ pub record DirectiveLexeme (o : OptionsData) (ends : Bool) (h : Here) (l : Laid)
 
 -- ---- indicators (7.4.2, 8.2)
 
--- an entry stands in the column, or one more collection may begin
-abbrev pub RoomFor : OptionsData → ℕ → Laid → Type 0
-RoomFor o column l =
-    (is_column (block_column l) column ≡ true) ⊎ (nat_le o.block_nesting_limit (length l.columns) ≡ false)
-
 -- a `-`, behind whose tail no `-` stands behind a tab
 pub record DashLexeme (o : OptionsData) (ends : Bool) (h : Here) (l : Laid) (x : Lexeme)
     (after : Here) : Type 0 where
-  pub outside : is_in_flow l ≡ false
-  pub allowed : is_allowed h.begins_line h.tab l ≡ true
-  pub room : RoomFor o h.place.column l
+  pub entry : EntryFits o h l
   pub tail : Option CommentRead
-  pub tailed : HeaderTail (step h) tail after
-  pub no_tab : is_tabbed_dash after ≡ false
+  pub tailed : LexemeTail (step h) tail after
+  pub no_tab : DashBehindTab after → ⊥
   pub is : x ≡ record (with_tail (sign_lexeme ends Dash h l) tail) { end = mark_of after }
 
 -- behind the blanks and breaks behind a `?`: a comment, or what the key may begin at
 pub data QuestionTail (o : OptionsData) (l : Laid) (at : Here) : Option CommentRead → Here → Type 0 where
   a_comment : {comment : CommentRead} {after : Here} → StandsComment at comment after
       → QuestionTail o l at (Some comment) after
-  no_comment : (next_char at == 0x23) ≡ false → TabFits o l (leading_tab at) → QuestionTail o l at None at
+  no_comment : (next_char at == 0x23) ≡ false → TabsFit o l at → QuestionTail o l at None at
 
 pub record QuestionLexeme (o : OptionsData) (ends : Bool) (h : Here) (l : Laid) (x : Lexeme)
     (after : Here) : Type 0 where
-  pub outside : is_in_flow l ≡ false
-  pub allowed : is_allowed h.begins_line h.tab l ≡ true
-  pub room : RoomFor o h.place.column l
-  pub no_nul : nul_behind h ≡ false
+  pub entry : EntryFits o h l
+  pub no_nul : NulBehind h → ⊥
   pub at : Here
-  pub gap : GapHere false (step h) at
+  pub gap : GapHere ⊥ (step h) at
   pub tail : Option CommentRead
   pub tailed : QuestionTail o (behind_question (entered h.place.column l)) at tail after
   pub is : x ≡ with_tail (sign_lexeme ends Question h l) tail
@@ -136,19 +117,23 @@ QuestionStands o ends h l x after false = QuestionLexeme o ends h l x after
 
 -- a `:` with its key, and one without
 abbrev pub ColonFits : OptionsData → (in_flow : Bool) → Option PossibleKey → Here → Laid → Type 0
-ColonFits o true (Some k) h l = is_far_below h.place l k ≡ false
+ColonFits o true (Some k) h l = FarBelow h l k → ⊥
 ColonFits o true None h l = Unit {0}
-ColonFits o false (Some k) h l = (is_far_below h.place l k ≡ false) × RoomFor o k.start.place.column l
-ColonFits o false None h l = (is_allowed h.begins_line h.tab l ≡ true) × RoomFor o h.place.column l
+ColonFits o false (Some k) h l = (FarBelow h l k → ⊥) × RoomFor o k.start.place.column l
+ColonFits o false None h l = EntryMayBegin h l × RoomFor o h.place.column l
 
 abbrev pub key_start : Option PossibleKey → Option KeyStart
 key_start None = None
 key_start (Some k) = Some (start_of_key k)
 
+-- a `:` touches no opener, but behind a quoted scalar or a closer
+abbrev pub ColonApart : Here → Laid → Type 0
+ColonApart h l = l.last ≢ Adjacent → OpenerBehind h → ⊥
+
 -- a `:`, with a tail where a blank follows it
 pub record ColonLexeme (o : OptionsData) (ends : Bool) (h : Here) (l : Laid) (x : Lexeme)
     (after : Here) : Type 0 where
-  pub apart : (not (is_adjacent l.last) && opens_flow (slice_index h.unread.text 1)) ≡ false
+  pub apart : ColonApart h l
   pub tail : Option CommentRead
   pub tailed : TailIf (is_blank (next_char (step h))) (step h) tail after
   pub fits : ColonFits o (is_in_flow l) (top_key l) h l
@@ -175,7 +160,9 @@ pub record BlockLexeme (literal ends : Bool) (h : Here) (l : Laid) (x : Lexeme) 
 pub record PlainLexeme (o : OptionsData) (ends : Bool) (h : Here) (l : Laid) (x : Lexeme) (cut : Option Mark)
     (after : Here) : Type 0 where
   pub read : PlainRead
-  pub answers : AnswersPlain (layout_of o h.place.column l) h read after
+  pub layout : LayoutData
+  pub told : LayoutIs o h.place.column l layout
+  pub answers : AnswersPlain layout h read after
   pub is : x ≡ lexeme_to ends (Scalar Plain read.text) read.source.end h l
   pub cuts : cut ≡ read.cut_by_comment
 
@@ -190,7 +177,9 @@ pub record QuotedLexeme (o : OptionsData) (single ends : Bool) (h : Here) (l : L
   pub end : Here
   pub note : Option CommentRead
   pub at : ReaderState
-  pub answers : AnswersQuoted single (layout_of o h.place.column l) h read end
+  pub layout : LayoutData
+  pub told : LayoutIs o h.place.column l layout
+  pub answers : AnswersQuoted single layout h read end
   pub gap : GapStands o end (behind_lexeme Adjacent l) note at
   pub gives : items ≡ OfLexeme (quoted_lexeme_of single ends h l read) ∷ note_items note
   pub leaves : after ≡ record { here = at.here; laid = record (at.laid) { last = adjacent_unless note } }
@@ -199,7 +188,7 @@ pub record QuotedLexeme (o : OptionsData) (single ends : Bool) (h : Here) (l : L
 
 abbrev pub ClosesInnermost : Bracket → List OpenBracket → Type 0
 ClosesInnermost bracket [] = ⊥
-ClosesInnermost bracket (b ∷ bs) = same_bracket b.bracket bracket ≡ true
+ClosesInnermost bracket (b ∷ bs) = b.bracket ≡ bracket
 
 abbrev pub Stands : OptionsData → (ends : Bool) → PlacedSort → Here → Laid → Lexeme → (after : Here) → Type 0
 Stands o ends (OpenSign bracket) h l x after =

@@ -1,6 +1,7 @@
 -- The real events: anchors by their numbers, tags by what their handles stand for, and anchors' events where such are
 -- asked for.
-use Rattle.std.specs.Prelude.{ℕ, zero, suc, ◌-◌, ◌++◌, Bool, true, false, if◌then◌else◌, List, [], ◌∷◌, Option, Some, None}
+use Rattle.std.specs.Prelude.{ℕ, zero, suc, ◌-◌, ◌++◌, Bool, true, false, if◌then◌else◌, List, [], ◌∷◌, Option, Some}
+use Rattle.std.specs.Prelude.{None}
 use Rattle.granit_base.specs.Written.{Written}
 use Rattle.granit_base.specs.declared.place.Span.{Span}
 use Rattle.granit_base.specs.declared.style.StructureStyle.{StructureStyle}
@@ -14,7 +15,9 @@ use Rattle.granit_base.specs.Place.{Mark}
 use Rattle.granit_language.specs.Node.{TreeProperties, NoProperties, One, Two}
 use Rattle.granit_language.specs.Scoping.{prefix_of, number_of_anchor}
 use Rattle.granit_language.specs.Terminal.{PropertyKind, Anchor, Tag, At}
-use Rattle.granit_language.specs.TreeEvents.{TreeEventKind, StreamStarts, StreamEnds, DocumentEnds, SequenceEnds, MappingEnds, DocumentStarts, AliasIs, ScalarIs, SequenceStarts, MappingStarts, TreeEvent}
+use Rattle.granit_language.specs.TreeEvents.{TreeEventKind, StreamStarts, StreamEnds, DocumentEnds, SequenceEnds}
+use Rattle.granit_language.specs.TreeEvents.{MappingEnds, DocumentStarts, AliasIs, ScalarIs, SequenceStarts}
+use Rattle.granit_language.specs.TreeEvents.{MappingStarts, TreeEvent}
 
 -- ---- the anchor and the tag of properties
 

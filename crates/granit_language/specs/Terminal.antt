@@ -14,7 +14,7 @@ use Rattle.granit_language.specs.Scope.{Scope, no_scope}
 abbrev pub text_start : Mark
 text_start = record { place = first_place; byte_offset = Some 0 }
 
--- `&` or `!` and what follows ([97] c-ns-tag-property, [101] c-ns-anchor-property, 6.9)
+-- `&` or `!` and what follows (c-ns-tag-property, c-ns-anchor-property, 6.9)
 pub data PropertyKind : Type 0 where
   Anchor : (name : Written) → PropertyKind
   Tag : (handle suffix : List ℕ) → PropertyKind

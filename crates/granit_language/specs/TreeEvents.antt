@@ -5,13 +5,19 @@ use Rattle.granit_base.specs.Written.{Written}
 use Rattle.granit_base.specs.declared.style.ScalarStyle.TheVariants.{Plain}
 use Rattle.granit_base.specs.declared.style.ScalarStyle.{ScalarStyle}
 use Rattle.granit_base.specs.Place.{Mark}
-use Rattle.granit_lexemes.specs.Basics.{owned}
 use Rattle.granit_language.specs.Choice.{choose}
-use Rattle.granit_language.specs.Node.{TreeProperties, NoProperties, One, Two, Node, AliasNode, ScalarNode, Alone, Flow, Sequence, Mapping, Content, Nothing, Just, Entries, Entry, EntryLead, NoEntry, AfterEntry, Pairs, Through, PairLead, NoPair, AfterPair, Pair, WithColon, AskOnly, Left, SimpleKey, Asked, NoKey, FlowLead, NoItem, AfterItem, FlowLast, NoLast, LastItem, FlowItem, Single, Paired, Before, Beginning, ExtraEnd, Closed, Directives, FirstDirective, NextDirective, Start, AtFresh, AfterDirectives, AfterRoot, Rooted, BareRoot, ExplicitRoot, Stream, EndFresh, EndRooted}
+use Rattle.granit_language.specs.Node.{TreeProperties, NoProperties, One, Two, Node, AliasNode, ScalarNode, Alone, Flow}
+use Rattle.granit_language.specs.Node.{Sequence, Mapping, Content, Nothing, Just, Entries, Entry, EntryLead, NoEntry}
+use Rattle.granit_language.specs.Node.{AfterEntry, Pairs, Through, PairLead, NoPair, AfterPair, Pair, WithColon}
+use Rattle.granit_language.specs.Node.{AskOnly, Left, SimpleKey, Asked, NoKey, FlowLead, NoItem, AfterItem, FlowLast}
+use Rattle.granit_language.specs.Node.{NoLast, LastItem, FlowItem, Single, Paired, Before, Beginning, ExtraEnd, Closed}
+use Rattle.granit_language.specs.Node.{Directives, FirstDirective, NextDirective, Start, AtFresh, AfterDirectives}
+use Rattle.granit_language.specs.Node.{AfterRoot, Rooted, BareRoot, ExplicitRoot, Stream, EndFresh, EndRooted}
 use Rattle.granit_language.specs.Placed.{pair_front}
 use Rattle.granit_language.specs.Room.{Holder, BlockIn, FlowIn}
 use Rattle.granit_language.specs.Scope.{Scope}
-use Rattle.granit_language.specs.Terminal.{PropertyKind, Anchor, Tag, Alias, Property, Scalar, Open, TerminalKind, Dash, Question, Part, At, Terminal, terminal, text_start, no_terminal}
+use Rattle.granit_language.specs.Terminal.{PropertyKind, Anchor, Tag, Alias, Property, Scalar, Open, TerminalKind, Dash}
+use Rattle.granit_language.specs.Terminal.{Question, Part, At, Terminal, terminal, text_start, no_terminal}
 use Rattle.granit_lexemes.specs.Lexeme.{DirectiveKind, Version}
 use Rattle.granit_lexemes.specs.declared.layout.Bracket.{Bracket}
 use Rattle.granit_lexemes.specs.declared.layout.Bracket.TheVariants.{Square, Curly}
@@ -40,9 +46,13 @@ pointed k x = tree_event k x x None
 abbrev pub shown_event : TreeEventKind → At → TreeEvent
 shown_event k i = tree_event k i.shown.start i.shown.end None
 
+-- the text of an empty node, which is lent
+abbrev pub empty_text : List ℕ → Written
+empty_text text = record { characters = text; is_borrowed = true }
+
 -- nothing
 abbrev pub null : Mark → Option ℕ → TreeEvent
-null x indent = tree_event (ScalarIs NoProperties Plain (owned (codes "~"))) x x indent
+null x indent = tree_event (ScalarIs NoProperties Plain (empty_text (codes "~"))) x x indent
 
 -- the indent that a block mapping gives its keys, or a scalar's own
 abbrev pub imposed : Option ℕ → Option ℕ → Option ℕ
@@ -69,7 +79,8 @@ alone_text (One k i) = choose (is_tag k) [] (codes "~")
 alone_text (Two k i m j) = []
 
 abbrev pub alone_event : TreeProperties → Option ℕ → TreeEvent
-alone_event p indent = tree_event (ScalarIs p Plain (owned (alone_text p))) (properties_end p) (properties_end p) indent
+alone_event p indent = tree_event (ScalarIs p Plain (empty_text (alone_text p))) (properties_end p) (properties_end p)
+    indent
 
 abbrev pub scalar_event : TreeProperties → ScalarStyle → Written → At → Option ℕ → TreeEvent
 scalar_event p style text i indent =

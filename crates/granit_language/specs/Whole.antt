@@ -2,14 +2,19 @@
 use Rattle.std.specs.Prelude.{◌≡◌, ℕ, Bool, true, false, ◌==◌, nat_lt, List, [], ◌∷◌, ◌++◌, length, ◌⊎◌}
 use Rattle.granit_base.specs.Written.{Written}
 use Rattle.granit_error.specs.OptionsData.{OptionsData}
-use Rattle.granit_language.specs.Declared.{is_anchor_of, is_version, no_kind, Without, LastSince, NoneSince, DeclaredBy, NotInForce}
+use Rattle.granit_language.specs.Declared.{is_anchor_of, is_version, no_kind, Without, LastSince, NoneSince, DeclaredBy}
+use Rattle.granit_language.specs.Declared.{NotInForce}
 use Rattle.granit_language.specs.Faults.{IsSpelled, FaultAt}
-use Rattle.granit_language.specs.GrammarFault.{GrammarFault, TooManyBlocks, DuplicateVersionDirective, UnsupportedYamlMajorVersion, DuplicateTagDirective, UnknownAnchor, UndeclaredTagHandle}
-use Rattle.granit_language.specs.Node.{Stream}
+use Rattle.granit_language.specs.GrammarFault.{GrammarFault, TooManyBlocks, DuplicateVersionDirective}
+use Rattle.granit_language.specs.GrammarFault.{UnsupportedYamlMajorVersion, DuplicateTagDirective, UnknownAnchor}
+use Rattle.granit_language.specs.GrammarFault.{UndeclaredTagHandle}
+use Rattle.granit_language.specs.Node.{TreeProperties, EntryLead, Stream}
+use Rattle.granit_language.specs.OpenPlace.{Hole, AtEntry, spell_hole, HolePlaced}
 use Rattle.granit_language.specs.Placed.{StreamPlaced}
 use Rattle.granit_language.specs.Scope.{no_scope}
 use Rattle.granit_language.specs.Scoping.{scope_behind, in_scope, scoped, Means}
-use Rattle.granit_language.specs.Terminal.{Tag, Alias, Property, TerminalKind, Directive, Part, Terminal}
+use Rattle.granit_language.specs.Terminal.{Tag, Alias, Property, TerminalKind, Directive, Dash, Part, At, Terminal}
+use Rattle.granit_language.specs.Terminal.{is_dash_kind}
 use Rattle.granit_language.specs.TreeEvents.{TreeEvent, stream_events}
 use Rattle.granit_language.specs.Within.{stream_within}
 use Rattle.granit_language.specs.Yield.{spell_stream}
@@ -47,19 +52,43 @@ pub data ScopeCause (unresolved : Bool) (front : List Terminal) : TerminalKind �
 abbrev pub IsWithin : ℕ → List Terminal → Type 0
 IsWithin n xs = (s : Stream) × (spell_stream s [] ≡ xs) × StreamPlaced s × (stream_within n s ≡ true)
 
--- A lexeme that the grammar takes, so that a stream goes on with it: but none that keeps the limit does, or it means
--- nothing.
-pub record GuardCause (o : OptionsData) (xs : List Terminal) (k : GrammarFault) (x : Terminal) : Type 0 where
+-- With these lexemes a reading begins: some stream that keeps the limit goes on with them, and each means something.
+pub record Viable (o : OptionsData) (xs : List Terminal) : Type 0 where
+  pub more : List Terminal
+  pub within : IsWithin o.block_nesting_limit (scoped no_scope xs ++ more)
+  pub means : Means o.emit_unresolved_aliases (scoped no_scope xs)
+
+-- The last lexeme begins a block collection: a `-` a sequence, indentless or not, another one a mapping.
+pub data BeginsBlock (xs : List Terminal) : TerminalKind → (indentless : Bool) → Type 0 where
+  begins_sequence :
+      {indentless : Bool} (r : Hole) (p : TreeProperties) (column : ℕ) (lead : EntryLead) (dash : At) →
+      HolePlaced (AtEntry r p indentless column lead dash) →
+      spell_hole (AtEntry r p indentless column lead dash) [] ≡ xs → BeginsBlock xs Dash indentless
+  begins_mapping : {kind : TerminalKind} → is_dash_kind kind ≡ false → BeginsBlock xs kind false
+
+-- Why no reading goes on with x, a lexeme of a kind with what stands declared there, behind these.
+pub data LexemeCause (o : OptionsData) (front : List Terminal) (kind : TerminalKind) (x : Terminal) :
+    GrammarFault → Type 0 where
+  -- no stream goes on so
+  not_taken : {k : GrammarFault} → FaultAt (scoped no_scope front ++ (x ∷ [])) k x → LexemeCause o front kind x k
+  -- one does, but none that keeps the limit
+  too_many :
+      {indentless : Bool} (more : List Terminal) → IsSpelled (scoped no_scope front ++ (x ∷ more)) →
+      ((more : List Terminal) → IsWithin o.block_nesting_limit (scoped no_scope front ++ (x ∷ more)) → ⊥) →
+      BeginsBlock (scoped no_scope front ++ (x ∷ [])) kind indentless →
+      LexemeCause o front kind x (TooManyBlocks indentless)
+  -- one does that keeps it, but the lexeme means nothing
+  means_nothing :
+      {k : GrammarFault} (more : List Terminal) →
+      IsWithin o.block_nesting_limit (scoped no_scope front ++ (x ∷ more)) →
+      ScopeCause o.emit_unresolved_aliases front kind k → LexemeCause o front kind x k
+
+-- Lexemes with which a reading begins, and the next one, with which none goes on, for a cause.
+pub record WholeFault (o : OptionsData) (xs : List Terminal) (k : GrammarFault) (x : Terminal) : Type 0 where
   pub front : List Terminal
   pub here : Terminal
   pub rest : List Terminal
   pub is : xs ≡ front ++ (here ∷ rest)
   pub x_is : x ≡ in_scope (scope_behind front no_scope) here
-  pub viable : (more : List Terminal) × IsSpelled (scoped no_scope front ++ (x ∷ more))
-  pub cause :
-      ((loose : Bool) × (k ≡ TooManyBlocks loose)
-      × ((more : List Terminal) → IsWithin o.block_nesting_limit (scoped no_scope front ++ (x ∷ more)) → ⊥))
-      ⊎ ScopeCause o.emit_unresolved_aliases front here.kind k
-
-abbrev pub WholeFault : OptionsData → List Terminal → GrammarFault → Terminal → Type 0
-WholeFault o xs k x = FaultAt (scoped no_scope xs) k x ⊎ GuardCause o xs k x
+  pub viable : Viable o front
+  pub cause : LexemeCause o front here.kind x k

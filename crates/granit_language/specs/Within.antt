@@ -1,6 +1,12 @@
 -- At most so many block collections are open at once.
 use Rattle.std.specs.Prelude.{ℕ, suc, Bool, true, ◌&&◌, nat_le}
-use Rattle.granit_language.specs.Node.{Node, AliasNode, ScalarNode, Alone, Flow, Sequence, Mapping, Content, Nothing, Just, Entries, Entry, EntryLead, NoEntry, AfterEntry, Pairs, Through, PairLead, NoPair, AfterPair, Pair, WithColon, AskOnly, Left, SimpleKey, Asked, NoKey, FlowLead, NoItem, AfterItem, FlowLast, NoLast, LastItem, FlowItem, Single, Paired, Before, Beginning, ExtraEnd, Closed, Directives, FirstDirective, NextDirective, Start, AtFresh, AfterDirectives, AfterRoot, Rooted, BareRoot, ExplicitRoot, Stream, EndFresh, EndRooted}
+use Rattle.granit_language.specs.Node.{Node, AliasNode, ScalarNode, Alone, Flow, Sequence, Mapping, Content, Nothing}
+use Rattle.granit_language.specs.Node.{Just, Entries, Entry, EntryLead, NoEntry, AfterEntry, Pairs, Through, PairLead}
+use Rattle.granit_language.specs.Node.{NoPair, AfterPair, Pair, WithColon, AskOnly, Left, SimpleKey, Asked, NoKey}
+use Rattle.granit_language.specs.Node.{FlowLead, NoItem, AfterItem, FlowLast, NoLast, LastItem, FlowItem, Single}
+use Rattle.granit_language.specs.Node.{Paired, Before, Beginning, ExtraEnd, Closed, Directives, FirstDirective}
+use Rattle.granit_language.specs.Node.{NextDirective, Start, AtFresh, AfterDirectives, AfterRoot, Rooted, BareRoot}
+use Rattle.granit_language.specs.Node.{ExplicitRoot, Stream, EndFresh, EndRooted}
 
 -- Each function says whether a limit n is kept, where d block collections stand around and it was kept before.
 abbrev mutual

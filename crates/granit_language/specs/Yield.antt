@@ -1,7 +1,15 @@
 -- The lexemes that trees spell, in order, before a rest.
 use Rattle.std.specs.Prelude.{List, ◌∷◌, Some, None}
-use Rattle.granit_language.specs.Node.{TreeProperties, NoProperties, One, Two, Node, AliasNode, ScalarNode, Alone, Flow, Sequence, Mapping, Content, Nothing, Just, Entries, Entry, EntryLead, NoEntry, AfterEntry, Pairs, Through, PairLead, NoPair, AfterPair, Pair, WithColon, AskOnly, Left, SimpleKey, Asked, NoKey, FlowLead, NoItem, AfterItem, FlowLast, NoLast, LastItem, FlowItem, Single, Paired, Before, Beginning, ExtraEnd, Closed, Directives, FirstDirective, NextDirective, Start, AtFresh, AfterDirectives, AfterRoot, Rooted, BareRoot, ExplicitRoot, Stream, EndFresh, EndRooted}
-use Rattle.granit_language.specs.Terminal.{Alias, Property, Scalar, Open, TerminalKind, Directive, DocumentStart, DocumentEnd, TheEnd, Dash, Question, Comma, Colon, Close, Part, Terminal, terminal}
+use Rattle.granit_language.specs.Node.{TreeProperties, NoProperties, One, Two, Node, AliasNode, ScalarNode, Alone, Flow}
+use Rattle.granit_language.specs.Node.{Sequence, Mapping, Content, Nothing, Just, Entries, Entry, EntryLead, NoEntry}
+use Rattle.granit_language.specs.Node.{AfterEntry, Pairs, Through, PairLead, NoPair, AfterPair, Pair, WithColon}
+use Rattle.granit_language.specs.Node.{AskOnly, Left, SimpleKey, Asked, NoKey, FlowLead, NoItem, AfterItem, FlowLast}
+use Rattle.granit_language.specs.Node.{NoLast, LastItem, FlowItem, Single, Paired, Before, Beginning, ExtraEnd, Closed}
+use Rattle.granit_language.specs.Node.{Directives, FirstDirective, NextDirective, Start, AtFresh, AfterDirectives}
+use Rattle.granit_language.specs.Node.{AfterRoot, Rooted, BareRoot, ExplicitRoot, Stream, EndFresh, EndRooted}
+use Rattle.granit_language.specs.Terminal.{Alias, Property, Scalar, Open, TerminalKind, Directive, DocumentStart}
+use Rattle.granit_language.specs.Terminal.{DocumentEnd, TheEnd, Dash, Question, Comma, Colon, Close, Part, Terminal}
+use Rattle.granit_language.specs.Terminal.{terminal}
 
 abbrev pub spell_properties : TreeProperties → List Terminal → List Terminal
 spell_properties NoProperties rest = rest

@@ -1,18 +1,23 @@
 -- What the plain machine answers: a reading and its events, or a fault whose cause stands at its mark.
-use Rattle.std.proofs.Common.{◌≡◌, ◌≢◌, ℕ, zero, suc, ◌+◌, ◌≤◌, ◌<◌, true, false, List, [], ◌∷◌, ◌++◌, length, drop, refl, sym, ap, ap₂, ◌∙◌, subst, arith, append_assoc, length-drop, length-append, Some, None, Result, Ok, Err, ◌⊎◌, inl, inr}
+use Rattle.std.proofs.Common.{◌≡◌, ◌≢◌, ℕ, zero, suc, ◌+◌, ◌≤◌, ◌<◌, true, false, List, [], ◌∷◌, ◌++◌, length, drop}
+use Rattle.std.proofs.Common.{refl, sym, ap, ap₂, ◌∙◌, subst, arith, append_assoc, length-drop, length-append, Some}
+use Rattle.std.proofs.Common.{None, Result, Ok, Err, ◌⊎◌, inl, inr}
 use Rattle.std.proofs.lemmas.List.{append-nil}
 use Rattle.granit_base.specs.Classes.{is_gap}
 use Rattle.granit_base.specs.Place.{Mark, first}
-use Rattle.granit_error.specs.FaultKind.{FaultKind, UnclosedFlowCollection, RecursionLimitExceeded, NotBuilt, UnknownAnchor}
+use Rattle.granit_error.specs.FaultKind.{FaultKind, UnclosedFlowCollection, RecursionLimitExceeded, NotBuilt}
+use Rattle.granit_error.specs.FaultKind.{UnknownAnchor}
 use Rattle.granit_error.specs.OptionsData.{OptionsData}
-use Rattle.granit_flow.specs.Cause.{ReachedTo, open_brackets, IsDocumentMark, IsViable, IsNext, Unclosed, TooDeep, Unknown, NotTaken, at_end, at_no_gap, at_lexeme, at_foreign}
+use Rattle.granit_flow.specs.Cause.{ReachedTo, open_brackets, IsDocumentMark, IsViable, IsNext, Unclosed, TooDeep}
+use Rattle.granit_flow.specs.Cause.{Unknown, NotTaken, at_end, at_no_gap, at_lexeme, at_foreign}
 use Rattle.granit_flow.specs.Events.{document_events, events}
 use Rattle.granit_flow.specs.Extent.{IsLexeme}
 use Rattle.granit_lexemes.specs.Gap.{StandsAt, IsGap, Parts}
 use Rattle.granit_flow.specs.Here.{Here, mark_of, start_of}
 use Rattle.granit_flow.specs.Lexeme.{Lexeme, LexemeKind, SequenceClose, MappingClose, wants_gap, Opener, opener_char}
 use Rattle.granit_lexemes.specs.Source.{Source}
-use Rattle.granit_flow.specs.Machine.{MachineState, Turn, stream_end, on_read, turn, size, machine_start, stream_events, events_of}
+use Rattle.granit_flow.specs.Machine.{MachineState, Turn, stream_end, on_read, turn, size, machine_start, stream_events}
+use Rattle.granit_flow.specs.Machine.{events_of}
 use Rattle.granit_flow.specs.Node.{Documents}
 use Rattle.granit_lexemes.specs.Outcome.{Fault, ◌>>=◌}
 use Rattle.granit_flow.specs.Path.{Path, Frame, Anchors, no_anchors, ParserState, Stepped, step_on}
@@ -20,10 +25,12 @@ use Rattle.granit_lexemes.specs.Pieces.{with_front, then_more, turns, pieces}
 use Rattle.granit_lexemes.specs.Place.{place_of, mark_at}
 use Rattle.granit_lexemes.specs.PlainEvent.{PlainEvent, event_on, StreamStart, StreamEnd}
 use Rattle.granit_flow.specs.ReaderState.{ReaderState, Read, next_lexeme}
-use Rattle.granit_flow.specs.Reading.{Before, nothing_before, openers_behind, behind_lexeme, behind_all, Reached, stops, goes_on, NestsWithin, Reading}
+use Rattle.granit_flow.specs.Reading.{Before, nothing_before, openers_behind, behind_lexeme, behind_all, Reached, stops}
+use Rattle.granit_flow.specs.Reading.{goes_on, NestsWithin, Reading}
 use Rattle.granit_flow.specs.Scope.{Resolves}
 use Rattle.granit_flow.specs.Yield.{spell_documents}
-use Rattle.granit_lexing.specs.Finding.{Misfits, Finds, FindsEnd, FindsUnclosed, FindsTooDeep, Strange, no_gap, misfit, foreign, FindsStrange, FindsFault, Reads}
+use Rattle.granit_lexing.specs.Finding.{Misfits, Finds, FindsEnd, FindsUnclosed, FindsTooDeep, Strange, no_gap, misfit}
+use Rattle.granit_lexing.specs.Finding.{foreign, FindsStrange, FindsFault, Reads}
 use Rattle.granit_lexing.specs.Standing.{here_at, state_at}
 use Rattle.granit_lexing.proofs.LexingReads.{next_lexeme_reads}
 use Rattle.granit_lexing.proofs.Places.{mark_is, start_is}
@@ -45,11 +52,13 @@ pub record LastWants (x : List ℕ) (ls : List Lexeme) (i : ℕ) : Type 0 where
   pub column : (place_of x i).column ≢ 0
 
 -- The machine has read these lexemes and stands at an index directly behind them.
-pub record Kept (o : OptionsData) (x : List ℕ) (ls : List Lexeme) (i : ℕ) (b : Before) (es : List PlainEvent) (p : ParserState) : Type 0 where
+pub record Kept (o : OptionsData) (x : List ℕ) (ls : List Lexeme) (i : ℕ) (b : Before) (es : List PlainEvent)
+    (p : ParserState) : Type 0 where
   pub onward : (more : List Lexeme) (j : ℕ) → Reached x b i more j → Reached x nothing_before 0 (ls ++ more) j
   pub said : behind_all nothing_before ls ≡ b
   pub opened : Opened o ls es p
-  pub nests : (more : List Lexeme) → NestsWithin o.flow_nesting_limit b more → NestsWithin o.flow_nesting_limit nothing_before (ls ++ more)
+  pub nests : (more : List Lexeme) → NestsWithin o.flow_nesting_limit b more
+      → NestsWithin o.flow_nesting_limit nothing_before (ls ++ more)
   pub room : length b.openers ≤ o.flow_nesting_limit
   pub last : b.owes_gap ≡ true → LastWants x ls i
   pub within : i ≤ length x
@@ -96,29 +105,40 @@ unfit kind os h w = absurd h
 -- ---- the answer, turn by turn
 
 module _ (o : OptionsData) (x : List ℕ) where
-  reached_behind : (ls : List Lexeme) (i : ℕ) (b : Before) (es : List PlainEvent) (p : ParserState) (g behind : List ℕ) → Kept o x ls i b es p → StandsAt x i g behind → IsGap g → ReachedTo x ls (i + length g)
-  reached_behind ls i b es p g behind k s e = subst (λ (ms : List Lexeme). ReachedTo x ms (i + length g)) (append-nil ls) (k.onward [] (i + length g) (stops g behind s e))
+  reached_behind : (ls : List Lexeme) (i : ℕ) (b : Before) (es : List PlainEvent) (p : ParserState) (g behind : List ℕ)
+      → Kept o x ls i b es p → StandsAt x i g behind → IsGap g → ReachedTo x ls (i + length g)
+  reached_behind ls i b es p g behind k s e = subst (λ (ms : List Lexeme). ReachedTo x ms (i + length g))
+      (append-nil ls) (k.onward [] (i + length g) (stops g behind s e))
 
   -- a lexeme behind a gap is the next
-  next_behind : (ls : List Lexeme) (i : ℕ) (b : Before) (es : List PlainEvent) (p : ParserState) (l : Lexeme) (g cs behind : List ℕ) → Kept o x ls i b es p
-      → StandsAt x i g (cs ++ behind) → IsGap g → Parts b.owes_gap g → IsLexeme x (i + length g) l cs behind → IsNext x ls l
-  next_behind ls i b es p l g cs behind k s e q is =
-      (i + length g + length cs + 0, k.onward (l ∷ []) (i + length g + length cs + 0) (goes_on g cs behind s e q is (stops [] (drop (i + length g + length cs) x) (record { inside = refl }) tt)))
+  next_behind : (ls : List Lexeme) (i : ℕ) (b : Before) (es : List PlainEvent) (p : ParserState) (l : Lexeme)
+      (g cs behind : List ℕ) → Kept o x ls i b es p
+      → StandsAt x i g (cs ++ behind) → IsGap g → Parts b.owes_gap g → IsLexeme x (i + length g) l cs behind
+      → IsNext x ls l
+  next_behind ls i b es p l g cs behind k s e q is = (
+    i + length g + length cs + 0,
+    k.onward (l ∷ []) (i + length g + length cs + 0)
+        (goes_on g cs behind s e q is (stops [] (drop (i + length g + length cs) x) (record { inside = refl }) tt)),
+  )
 
   -- nothing is wrong with the lexemes so far
-  viable : (ls : List Lexeme) (i : ℕ) (b : Before) (es : List PlainEvent) (p : ParserState) → Kept o x ls i b es p → IsViable o ls
+  viable : (ls : List Lexeme) (i : ℕ) (b : Before) (es : List PlainEvent) (p : ParserState) → Kept o x ls i b es p
+      → IsViable o ls
   viable ls i b es p k = record {
     begins = begins k.opened.place ls k.opened.spells;
-    nests = subst (λ (ms : List Lexeme). NestsWithin o.flow_nesting_limit nothing_before ms) (append-nil ls) (k.nests [] tt);
+    nests = subst (λ (ms : List Lexeme). NestsWithin o.flow_nesting_limit nothing_before ms) (append-nil ls)
+        (k.nests [] tt);
     resolves = k.opened.resolves;
   }
 
-  opens_are : (ls : List Lexeme) (i : ℕ) (b : Before) (es : List PlainEvent) (p : ParserState) → Kept o x ls i b es p → open_brackets ls ≡ b.openers
+  opens_are : (ls : List Lexeme) (i : ℕ) (b : Before) (es : List PlainEvent) (p : ParserState) → Kept o x ls i b es p
+      → open_brackets ls ≡ b.openers
   opens_are ls i b es p k = ap (λ (c : Before). c.openers) k.said
 
   -- ---- faults of the reader
 
-  why_unclosed : (ls : List Lexeme) (i : ℕ) (b : Before) (es : List PlainEvent) (p : ParserState) (opener : ℕ) (m : Mark) → Kept o x ls i b es p → FindsUnclosed x i b opener m → Unclosed o x opener m
+  why_unclosed : (ls : List Lexeme) (i : ℕ) (b : Before) (es : List PlainEvent) (p : ParserState) (opener : ℕ)
+      (m : Mark) → Kept o x ls i b es p → FindsUnclosed x i b opener m → Unclosed o x opener m
   why_unclosed ls i b es p opener m k f = record {
     before = ls;
     at = i + length f.gap;
@@ -132,7 +152,8 @@ module _ (o : OptionsData) (x : List ℕ) where
     marks = f.marks;
   }
 
-  why_deep : (ls : List Lexeme) (i : ℕ) (b : Before) (es : List PlainEvent) (p : ParserState) (m : Mark) → Kept o x ls i b es p → FindsTooDeep o x i b m → TooDeep o x m
+  why_deep : (ls : List Lexeme) (i : ℕ) (b : Before) (es : List PlainEvent) (p : ParserState) (m : Mark)
+      → Kept o x ls i b es p → FindsTooDeep o x i b m → TooDeep o x m
   why_deep ls i b es p m k f =
       let same = ap (λ (os : List Opener). length os) (opens_are ls i b es p k) in
       let full = f.full in
@@ -142,40 +163,52 @@ module _ (o : OptionsData) (x : List ℕ) where
         before = ls;
         opener = opener;
         viable = viable ls i b es p k;
-        next = next_behind ls i b es p opener f.gap (opener_char f.bracket ∷ []) f.behind k f.stands f.only_gap f.parts (opener_is x (i + length f.gap) f.bracket f.behind f.opener);
+        next = next_behind ls i b es p opener f.gap (opener_char f.bracket ∷ []) f.behind k f.stands f.only_gap f.parts
+            (opener_is x (i + length f.gap) f.bracket f.behind f.opener);
         deeper = omega (arith, same, full, deeper);
         marks = f.marks;
       }
 
   -- the brackets that one more lexeme leaves open
-  opens_within : (ls : List Lexeme) (i : ℕ) (b : Before) (es : List PlainEvent) (p : ParserState) (l : Lexeme) → Kept o x ls i b es p → length (behind_lexeme b l).openers ≤ o.flow_nesting_limit
+  opens_within : (ls : List Lexeme) (i : ℕ) (b : Before) (es : List PlainEvent) (p : ParserState) (l : Lexeme)
+      → Kept o x ls i b es p → length (behind_lexeme b l).openers ≤ o.flow_nesting_limit
       → length (open_brackets (ls ++ (l ∷ []))) ≤ o.flow_nesting_limit
   opens_within ls i b es p l k n =
-      subst (λ (os : List Opener). length os ≤ o.flow_nesting_limit) (sym (open_behind ls l ∙ ap (openers_behind l.kind l.source.start) (opens_are ls i b es p k))) n
+      subst (λ (os : List Opener). length os ≤ o.flow_nesting_limit)
+      (sym (open_behind ls l ∙ ap (openers_behind l.kind l.source.start) (opens_are ls i b es p k))) n
 
-  misfit_closes : (kind : LexemeKind) (m : Mark) (os : List Opener) → Misfits kind os → length os ≤ o.flow_nesting_limit → length (openers_behind kind m os) ≤ o.flow_nesting_limit
+  misfit_closes : (kind : LexemeKind) (m : Mark) (os : List Opener) → Misfits kind os → length os ≤ o.flow_nesting_limit
+      → length (openers_behind kind m os) ≤ o.flow_nesting_limit
   misfit_closes SequenceClose m [] h n = n
   misfit_closes SequenceClose m (p ∷ os) h n = omega (arith, n)
   misfit_closes MappingClose m [] h n = n
   misfit_closes MappingClose m (p ∷ os) h n = omega (arith, n)
   misfit_closes kind m os h n = absurd h
 
-  no_documents : (ls : List Lexeme) (l : Lexeme) (b : Before) → open_brackets ls ≡ b.openers → Misfits l.kind b.openers → (ds : Documents) (more : List Lexeme) → spell_documents ds [] ≢ ls ++ (l ∷ more)
-  no_documents ls l b same h ds more e = unfit l.kind b.openers h (subst (WantsOpen l.kind) same (documents_want ls l more ds e))
+  no_documents : (ls : List Lexeme) (l : Lexeme) (b : Before) → open_brackets ls ≡ b.openers → Misfits l.kind b.openers
+      → (ds : Documents) (more : List Lexeme) → spell_documents ds [] ≢ ls ++ (l ∷ more)
+  no_documents ls l b same h ds more e = unfit l.kind b.openers h
+      (subst (WantsOpen l.kind) same (documents_want ls l more ds e))
 
-  why_strange : (ls : List Lexeme) (i : ℕ) (b : Before) (es : List PlainEvent) (p : ParserState) (g : List ℕ) → Kept o x ls i b es p → i + length g < length x → is_gap (first (drop (i + length g) x)) ≡ false → Strange x b g (i + length g) → NotTaken o x ls (i + length g)
+  why_strange : (ls : List Lexeme) (i : ℕ) (b : Before) (es : List PlainEvent) (p : ParserState) (g : List ℕ)
+      → Kept o x ls i b es p → i + length g < length x → is_gap (first (drop (i + length g) x)) ≡ false
+      → Strange x b g (i + length g) → NotTaken o x ls (i + length g)
   why_strange ls i b es p g k w n (no_gap owes none) =
       let last = k.last owes in
       let here : i ≡ i + length g = sym (ap (λ (h : List ℕ). i + length h) none ∙ omega arith) in
       at_no_gap last.front last.last last.whole last.wants (last.ends ∙ ap (mark_at x) here) w n
-  why_strange ls i b es p g k w n (misfit l cs behind is h) = at_lexeme l cs behind is (no_documents ls l b (opens_are ls i b es p k) h) (opens_within ls i b es p l k (misfit_closes l.kind l.source.start b.openers h k.room))
+  why_strange ls i b es p g k w n (misfit l cs behind is h) = at_lexeme l cs behind is
+      (no_documents ls l b (opens_are ls i b es p k) h)
+      (opens_within ls i b es p l k (misfit_closes l.kind l.source.start b.openers h k.room))
   why_strange ls i b es p g k w n (foreign h) = at_foreign w n h
 
-  not_the_end : (i : ℕ) (b : Before) (ls : List Lexeme) → i < length x → (IsDocumentMark x i → ⊥) → (i ≡ length x) ⊎ IsDocumentMark x i → open_brackets ls ≡ []
+  not_the_end : (i : ℕ) (b : Before) (ls : List Lexeme) → i < length x → (IsDocumentMark x i → ⊥)
+      → (i ≡ length x) ⊎ IsDocumentMark x i → open_brackets ls ≡ []
   not_the_end i b ls w n (inl e) = absurd (omega (arith, w, e))
   not_the_end i b ls w n (inr d) = absurd (n d)
 
-  why_refused : (ls : List Lexeme) (i : ℕ) (b : Before) (es : List PlainEvent) (p : ParserState) (m : Mark) → Kept o x ls i b es p → FindsStrange x i b m → IsRefused o x m
+  why_refused : (ls : List Lexeme) (i : ℕ) (b : Before) (es : List PlainEvent) (p : ParserState) (m : Mark)
+      → Kept o x ls i b es p → FindsStrange x i b m → IsRefused o x m
   why_refused ls i b es p m k f = record {
     before = ls;
     at = i + length f.gap;
@@ -186,7 +219,8 @@ module _ (o : OptionsData) (x : List ℕ) where
     marks = f.marks;
   }
 
-  why_fault : (ls : List Lexeme) (i : ℕ) (b : Before) (es : List PlainEvent) (p : ParserState) (kind : FaultKind) (m : Mark) → Kept o x ls i b es p → FindsFault o x i b kind m → Why o x kind m
+  why_fault : (ls : List Lexeme) (i : ℕ) (b : Before) (es : List PlainEvent) (p : ParserState) (kind : FaultKind)
+      (m : Mark) → Kept o x ls i b es p → FindsFault o x i b kind m → Why o x kind m
   why_fault ls i b es p (UnclosedFlowCollection opener) m k f = why_unclosed ls i b es p opener m k f
   why_fault ls i b es p RecursionLimitExceeded m k f = why_deep ls i b es p m k f
   why_fault ls i b es p NotBuilt m k f = why_refused ls i b es p m k f
@@ -194,10 +228,13 @@ module _ (o : OptionsData) (x : List ℕ) where
 
   -- ---- the end of the text
 
-  at_the_end : (ls : List Lexeme) (i : ℕ) (b : Before) (es : List PlainEvent) (p : ParserState) (s : ReaderState) → Kept o x ls i b es p → FindsEnd x i b s → ReachedTo x ls (length x)
-  at_the_end ls i b es p s k f = subst (λ (j : ℕ). ReachedTo x ls j) f.reaches (reached_behind ls i b es p f.gap [] k f.stands f.only_gap)
+  at_the_end : (ls : List Lexeme) (i : ℕ) (b : Before) (es : List PlainEvent) (p : ParserState) (s : ReaderState)
+      → Kept o x ls i b es p → FindsEnd x i b s → ReachedTo x ls (length x)
+  at_the_end ls i b es p s k f = subst (λ (j : ℕ). ReachedTo x ls j) f.reaches
+      (reached_behind ls i b es p f.gap [] k f.stands f.only_gap)
 
-  whole_text : (ls : List Lexeme) (i : ℕ) (b : Before) (es : List PlainEvent) (a : Anchors) (s : ReaderState) → Kept o x ls i b es (record { path = []; anchors = a }) → FindsEnd x i b s
+  whole_text : (ls : List Lexeme) (i : ℕ) (b : Before) (es : List PlainEvent) (a : Anchors) (s : ReaderState)
+      → Kept o x ls i b es (record { path = []; anchors = a }) → FindsEnd x i b s
       → IsRead o x es [] (record { reader = s; parser = record { path = []; anchors = a } })
   whole_text ls i b es a s k f =
       let d = sound o ls es (record { path = []; anchors = a }) k.opened refl in
@@ -207,14 +244,17 @@ module _ (o : OptionsData) (x : List ℕ) where
         reading = record {
           reached = at_the_end ls i b es (record { path = []; anchors = a }) s k f;
           spelled = d.spells;
-          nests = subst (λ (ms : List Lexeme). NestsWithin o.flow_nesting_limit nothing_before ms) (append-nil ls) (k.nests [] tt);
+          nests = subst (λ (ms : List Lexeme). NestsWithin o.flow_nesting_limit nothing_before ms) (append-nil ls)
+              (k.nests [] tt);
         };
         resolves = k.opened.resolves;
         gives = λ rest. d.gives rest ∙ ap (λ (gs : List PlainEvent). gs ++ rest) (sym (append-nil es));
         stands = ap (λ (r : ReaderState). r.here) f.after;
       }
 
-  cut_short : (ls : List Lexeme) (i : ℕ) (b : Before) (es : List PlainEvent) (frame : Frame) (fs : Path) (a : Anchors) (s : ReaderState) → Kept o x ls i b es (record { path = frame ∷ fs; anchors = a }) → FindsEnd x i b s → IsRefused o x (mark_of s.here)
+  cut_short : (ls : List Lexeme) (i : ℕ) (b : Before) (es : List PlainEvent) (frame : Frame) (fs : Path) (a : Anchors)
+      (s : ReaderState) → Kept o x ls i b es (record { path = frame ∷ fs; anchors = a }) → FindsEnd x i b s
+      → IsRefused o x (mark_of s.here)
   cut_short ls i b es frame fs a s k f = record {
     before = ls;
     at = length x;
@@ -225,7 +265,8 @@ module _ (o : OptionsData) (x : List ℕ) where
     marks = ap (λ (r : ReaderState). mark_of r.here) f.after ∙ mark_is x (length x);
   }
 
-  on_end : (ls : List Lexeme) (i : ℕ) (b : Before) (es : List PlainEvent) (fs : Path) (a : Anchors) (s : ReaderState) (n : ℕ) → Kept o x ls i b es (record { path = fs; anchors = a }) → FindsEnd x i b s
+  on_end : (ls : List Lexeme) (i : ℕ) (b : Before) (es : List PlainEvent) (fs : Path) (a : Anchors) (s : ReaderState)
+      (n : ℕ) → Kept o x ls i b es (record { path = fs; anchors = a }) → FindsEnd x i b s
       → Answers o x es (stream_end fs a s >>= λ y. then_more (turns (turn o) n) y.0 y.1)
   on_end ls i b es [] a s n k f = whole_text ls i b es a s k f
   on_end ls i b es (frame ∷ fs) a s n k f = (cut_short ls i b es frame fs a s k f, refl)
@@ -235,7 +276,8 @@ module _ (o : OptionsData) (x : List ℕ) where
   joined : (ls more : List Lexeme) (l : Lexeme) → ls ++ (l ∷ more) ≡ (ls ++ (l ∷ [])) ++ more
   joined ls more l = sym (append_assoc ls (l ∷ []) more)
 
-  last_of : (ls : List Lexeme) (j : ℕ) (l : Lexeme) (cs behind : List ℕ) → IsLexeme x j l cs behind → wants_gap l.kind ≡ true → LastWants x (ls ++ (l ∷ [])) (j + length cs)
+  last_of : (ls : List Lexeme) (j : ℕ) (l : Lexeme) (cs behind : List ℕ) → IsLexeme x j l cs behind
+      → wants_gap l.kind ≡ true → LastWants x (ls ++ (l ∷ [])) (j + length cs)
   last_of ls j l cs behind is w = record {
     front = ls;
     last = l;
@@ -245,28 +287,38 @@ module _ (o : OptionsData) (x : List ℕ) where
     column = wanting_column x j l.kind cs behind is.spells is.stands.inside w;
   }
 
-  stays_within : (i : ℕ) (g cs behind : List ℕ) → i ≤ length x → drop i x ≡ g ++ (cs ++ behind) → i + length g + length cs ≤ length x
+  stays_within : (i : ℕ) (g cs behind : List ℕ) → i ≤ length x → drop i x ≡ g ++ (cs ++ behind)
+      → i + length g + length cs ≤ length x
   stays_within i g cs behind w e =
       let whole = ap (λ (t : List ℕ). length t) e in
       omega (arith, w, whole, length-append g (cs ++ behind), length-append cs behind, length-drop i x)
 
-  kept_behind : (ls : List Lexeme) (i : ℕ) (b : Before) (es more : List PlainEvent) (p q : ParserState) (l : Lexeme) (s : ReaderState) → Kept o x ls i b es p → (f : Finds o x i b l s) → step_on o p l ≡ Ok (more, q)
+  kept_behind : (ls : List Lexeme) (i : ℕ) (b : Before) (es more : List PlainEvent) (p q : ParserState) (l : Lexeme)
+      (s : ReaderState) → Kept o x ls i b es p → (f : Finds o x i b l s) → step_on o p l ≡ Ok (more, q)
       → Kept o x (ls ++ (l ∷ [])) (i + length f.gap + length f.spelling) (behind_lexeme b l) (es ++ more) q
   kept_behind ls i b es more p q l s k f e = record {
-    onward = λ ms j r. subst (λ (all : List Lexeme). Reached x nothing_before 0 all j) (joined ls ms l) (k.onward (l ∷ ms) j (goes_on f.gap f.spelling f.behind f.stands f.only_gap f.parts f.lexeme r));
+    onward = λ ms j r. subst (λ (all : List Lexeme). Reached x nothing_before 0 all j) (joined ls ms l)
+        (k.onward (l ∷ ms) j (goes_on f.gap f.spelling f.behind f.stands f.only_gap f.parts f.lexeme r));
     said = behind_append nothing_before ls (l ∷ []) ∙ ap (λ (c : Before). behind_lexeme c l) k.said;
     opened = opened_next o ls es more p q l k.opened e;
-    nests = λ ms n. subst (λ (all : List Lexeme). NestsWithin o.flow_nesting_limit nothing_before all) (joined ls ms l) (k.nests (l ∷ ms) (f.nests k.room, n));
+    nests = λ ms n. subst (λ (all : List Lexeme). NestsWithin o.flow_nesting_limit nothing_before all) (joined ls ms l)
+        (k.nests (l ∷ ms) (f.nests k.room, n));
     room = f.nests k.room;
     last = last_of ls (i + length f.gap) l f.spelling f.behind f.lexeme;
     within = stays_within i f.gap f.spelling f.behind k.within f.stands.inside;
   }
 
-  closed_at : (i : ℕ) (b : Before) (ls : List Lexeme) (l : Lexeme) (s : ReaderState) (f : Finds o x i b l s) → open_brackets ls ≡ b.openers → (i + length f.gap ≡ length x) ⊎ IsDocumentMark x (i + length f.gap) → open_brackets ls ≡ []
-  closed_at i b ls l s f same (inl e) = absurd (lexeme_within x (i + length f.gap) l.kind f.spelling f.behind f.lexeme.spells f.lexeme.stands.inside e)
-  closed_at i b ls l s f same (inr d) = same ∙ mark_fits x (i + length f.gap) l.kind f.spelling f.behind d.behind b.openers f.lexeme.spells f.lexeme.stands.inside d.stands.inside d.separated f.fits
+  closed_at : (i : ℕ) (b : Before) (ls : List Lexeme) (l : Lexeme) (s : ReaderState) (f : Finds o x i b l s)
+      → open_brackets ls ≡ b.openers → (i + length f.gap ≡ length x) ⊎ IsDocumentMark x (i + length f.gap)
+      → open_brackets ls ≡ []
+  closed_at i b ls l s f same (inl e) = absurd
+      (lexeme_within x (i + length f.gap) l.kind f.spelling f.behind f.lexeme.spells f.lexeme.stands.inside e)
+  closed_at i b ls l s f same (inr d) = same ∙ mark_fits x (i + length f.gap) l.kind f.spelling f.behind d.behind
+      b.openers f.lexeme.spells f.lexeme.stands.inside d.stands.inside d.separated f.fits
 
-  why_misplaced : (ls : List Lexeme) (i : ℕ) (b : Before) (es : List PlainEvent) (p : ParserState) (l : Lexeme) (s : ReaderState) (e : Fault) → Kept o x ls i b es p → Finds o x i b l s → Misplaced ls l e → IsRefused o x l.source.start
+  why_misplaced : (ls : List Lexeme) (i : ℕ) (b : Before) (es : List PlainEvent) (p : ParserState) (l : Lexeme)
+      (s : ReaderState) (e : Fault) → Kept o x ls i b es p → Finds o x i b l s → Misplaced ls l e
+      → IsRefused o x l.source.start
   why_misplaced ls i b es p l s e k f h = record {
     before = ls;
     at = i + length f.gap;
@@ -277,7 +329,9 @@ module _ (o : OptionsData) (x : List ℕ) where
     marks = ap (λ (s : Source). s.start) f.lexeme.source;
   }
 
-  why_unknown : (ls : List Lexeme) (i : ℕ) (b : Before) (es : List PlainEvent) (p : ParserState) (l : Lexeme) (s : ReaderState) (e : Fault) → Kept o x ls i b es p → Finds o x i b l s → NamesNone o ls l e → Unknown o x l.source.start
+  why_unknown : (ls : List Lexeme) (i : ℕ) (b : Before) (es : List PlainEvent) (p : ParserState) (l : Lexeme)
+      (s : ReaderState) (e : Fault) → Kept o x ls i b es p → Finds o x i b l s → NamesNone o ls l e
+      → Unknown o x l.source.start
   why_unknown ls i b es p l s e k f h = record {
     before = ls;
     alias = l;
@@ -291,11 +345,16 @@ module _ (o : OptionsData) (x : List ℕ) where
     marks = refl;
   }
 
-  why_stopped : (ls : List Lexeme) (i : ℕ) (b : Before) (es : List PlainEvent) (p : ParserState) (l : Lexeme) (s : ReaderState) (e : Fault) → Kept o x ls i b es p → Finds o x i b l s → Misplaced ls l e ⊎ NamesNone o ls l e → Why o x e.kind e.mark × (e.sources ≡ [])
-  why_stopped ls i b es p l s e k f (inl h) = subst (λ (g : Fault). Why o x g.kind g.mark × (g.sources ≡ [])) (sym h.fault_is) (why_misplaced ls i b es p l s e k f h, refl)
-  why_stopped ls i b es p l s e k f (inr h) = subst (λ (g : Fault). Why o x g.kind g.mark × (g.sources ≡ [])) (sym h.fault_is) (why_unknown ls i b es p l s e k f h, refl)
+  why_stopped : (ls : List Lexeme) (i : ℕ) (b : Before) (es : List PlainEvent) (p : ParserState) (l : Lexeme)
+      (s : ReaderState) (e : Fault) → Kept o x ls i b es p → Finds o x i b l s → Misplaced ls l e ⊎ NamesNone o ls l e
+      → Why o x e.kind e.mark × (e.sources ≡ [])
+  why_stopped ls i b es p l s e k f (inl h) = subst (λ (g : Fault). Why o x g.kind g.mark × (g.sources ≡ []))
+      (sym h.fault_is) (why_misplaced ls i b es p l s e k f h, refl)
+  why_stopped ls i b es p l s e k f (inr h) = subst (λ (g : Fault). Why o x g.kind g.mark × (g.sources ≡ []))
+      (sym h.fault_is) (why_unknown ls i b es p l s e k f h, refl)
 
-  with_more : (es more : List PlainEvent) (r : Result (List PlainEvent × MachineState) Fault) → Answers o x (es ++ more) r → Answers o x es (with_front more r)
+  with_more : (es more : List PlainEvent) (r : Result (List PlainEvent × MachineState) Fault)
+      → Answers o x (es ++ more) r → Answers o x es (with_front more r)
   with_more es more (Ok (rest, s)) a = record {
     lexemes = a.lexemes;
     documents = a.documents;
@@ -307,7 +366,8 @@ module _ (o : OptionsData) (x : List ℕ) where
   with_more es more (Err f) a = a
 
   -- each turn leaves less to read
-  less_left : (i : ℕ) (b : Before) (l : Lexeme) (s : ReaderState) (n : ℕ) → (f : Finds o x i b l s) → length (drop i x) < suc n → length (drop (i + length f.gap + length f.spelling) x) < n
+  less_left : (i : ℕ) (b : Before) (l : Lexeme) (s : ReaderState) (n : ℕ) → (f : Finds o x i b l s)
+      → length (drop i x) < suc n → length (drop (i + length f.gap + length f.spelling) x) < n
   less_left i b l s n f w =
       let whole = ap (λ (t : List ℕ). length t) f.stands.inside in
       let parts = length-append f.gap (f.spelling ++ f.behind) in
@@ -326,26 +386,36 @@ module _ (o : OptionsData) (x : List ℕ) where
   abbrev turned : Read → ParserState → Turn
   turned r p = r >>= λ y. on_read o y.0 y.1 p
 
-  on_step : (ls : List Lexeme) (i : ℕ) (b : Before) (es : List PlainEvent) (p : ParserState) (l : Lexeme) (s : ReaderState) (n : ℕ) (q : Stepped) → step_on o p l ≡ q → Kept o x ls i b es p → Finds o x i b l s → length (drop i x) < suc n
-      → ((ms : List Lexeme) (j : ℕ) (c : Before) (more : List PlainEvent) (t : ParserState) → Kept o x ms j c more t → length (drop j x) < n → Answers o x more (turns (turn o) n (record { reader = state_at x j c; parser = t })))
+  on_step : (ls : List Lexeme) (i : ℕ) (b : Before) (es : List PlainEvent) (p : ParserState) (l : Lexeme)
+      (s : ReaderState) (n : ℕ) (q : Stepped) → step_on o p l ≡ q → Kept o x ls i b es p → Finds o x i b l s
+      → length (drop i x) < suc n
+      → ((ms : List Lexeme) (j : ℕ) (c : Before) (more : List PlainEvent) (t : ParserState) → Kept o x ms j c more t
+      → length (drop j x) < n → Answers o x more (turns (turn o) n (record { reader = state_at x j c; parser = t })))
       → Answers o x es (stepped s q >>= λ y. then_more (turns (turn o) n) y.0 y.1)
   on_step ls i b es p l s n (Ok (more, t)) e k f w ih =
-      with_more o x es more _ (subst (λ (r : ReaderState). Answers o x (es ++ more) (turns (turn o) n (record { reader = r; parser = t }))) (sym f.after)
-      (ih (ls ++ (l ∷ [])) (i + length f.gap + length f.spelling) (behind_lexeme b l) (es ++ more) t (kept_behind o x ls i b es more p t l s k f e) (less_left o x i b l s n f w)))
-  on_step ls i b es p l s n (Err f) e k found w ih = why_stopped o x ls i b es p l s f k found (refused o ls es p l f k.opened e)
+      with_more o x es more _ (subst (λ (r : ReaderState). Answers o x (es ++ more)
+      (turns (turn o) n (record { reader = r; parser = t }))) (sym f.after)
+      (ih (ls ++ (l ∷ [])) (i + length f.gap + length f.spelling) (behind_lexeme b l) (es ++ more) t
+      (kept_behind o x ls i b es more p t l s k f e) (less_left o x i b l s n f w)))
+  on_step ls i b es p l s n (Err f) e k found w ih = why_stopped o x ls i b es p l s f k found
+      (refused o ls es p l f k.opened e)
 
-  on_read_of : (ls : List Lexeme) (i : ℕ) (b : Before) (es : List PlainEvent) (p : ParserState) (n : ℕ) (r : Read) → Reads o x i b r → Kept o x ls i b es p → length (drop i x) < suc n
-      → ((ms : List Lexeme) (j : ℕ) (c : Before) (more : List PlainEvent) (t : ParserState) → Kept o x ms j c more t → length (drop j x) < n → Answers o x more (turns (turn o) n (record { reader = state_at x j c; parser = t })))
+  on_read_of : (ls : List Lexeme) (i : ℕ) (b : Before) (es : List PlainEvent) (p : ParserState) (n : ℕ) (r : Read)
+      → Reads o x i b r → Kept o x ls i b es p → length (drop i x) < suc n
+      → ((ms : List Lexeme) (j : ℕ) (c : Before) (more : List PlainEvent) (t : ParserState) → Kept o x ms j c more t
+      → length (drop j x) < n → Answers o x more (turns (turn o) n (record { reader = state_at x j c; parser = t })))
       → Answers o x es (turned r p >>= λ y. then_more (turns (turn o) n) y.0 y.1)
   on_read_of ls i b es p n (Ok (Some l, s)) f k w ih = on_step ls i b es p l s n (step_on o p l) refl k f w ih
   on_read_of ls i b es p n (Ok (None, s)) f k w ih = on_end o x ls i b es p.path p.anchors s n k f
   on_read_of ls i b es p n (Err f) found k w ih = (why_fault o x ls i b es p f.kind f.mark k found.0, found.1)
 
   answers : (n : ℕ) (ls : List Lexeme) (i : ℕ) (b : Before) (es : List PlainEvent) (p : ParserState)
-      → Kept o x ls i b es p → length (drop i x) < n → Answers o x es (turns (turn o) n (record { reader = state_at x i b; parser = p }))
+      → Kept o x ls i b es p → length (drop i x) < n
+      → Answers o x es (turns (turn o) n (record { reader = state_at x i b; parser = p }))
   unfolding turns turn
   answers zero ls i b es p k w = absurd (omega arith)
-  answers (suc n) ls i b es p k w = on_read_of ls i b es p n (next_lexeme o (state_at x i b)) (next_lexeme_reads o x i b k.within) k w (λ ms j c more t. answers n ms j c more t)
+  answers (suc n) ls i b es p k w = on_read_of ls i b es p n (next_lexeme o (state_at x i b))
+      (next_lexeme_reads o x i b k.within) k w (λ ms j c more t. answers n ms j c more t)
 
   kept_at_start : Kept o x [] 0 nothing_before [] (record { path = []; anchors = no_anchors })
   kept_at_start = record {
@@ -360,14 +430,17 @@ module _ (o : OptionsData) (x : List ℕ) where
 
   all_answers : Answers o x [] (pieces size (turn o) (machine_start (start_of x)))
   unfolding pieces
-  all_answers = answers (suc (length x)) [] 0 nothing_before [] (record { path = []; anchors = no_anchors }) kept_at_start (omega (arith, length-drop 0 x))
+  all_answers = answers (suc (length x)) [] 0 nothing_before [] (record { path = []; anchors = no_anchors })
+      kept_at_start (omega (arith, length-drop 0 x))
 
 -- what is known of a whole answer
 abbrev pub Answered : OptionsData → List ℕ → Result (List PlainEvent) Fault → Type 0
-Answered o x (Ok es) = (ls : List Lexeme) × (ds : Documents) × Reading o x ls ds × Resolves o [] ls × (es ≡ events o x ds)
+Answered o x (Ok es) = (ls : List Lexeme) × (ds : Documents) × Reading o x ls ds × Resolves o [] ls
+    × (es ≡ events o x ds)
 Answered o x (Err f) = Why o x f.kind f.mark × (f.sources ≡ [])
 
-stream_of : (o : OptionsData) (x : List ℕ) (more : List PlainEvent) (s : MachineState) → IsRead o x [] more s → Answered o x (Ok (stream_events (start_of x) more s))
+stream_of : (o : OptionsData) (x : List ℕ) (more : List PlainEvent) (s : MachineState) → IsRead o x [] more s
+    → Answered o x (Ok (stream_events (start_of x) more s))
 stream_of o x more s a = (
   a.lexemes,
   a.documents,
@@ -379,7 +452,8 @@ stream_of o x more s a = (
       ∙ sym (a.gives (event_on StreamEnd (mark_at x (length x)) ∷ []))),
 )
 
-answered_by : (o : OptionsData) (x : List ℕ) (r : Result (List PlainEvent × MachineState) Fault) → Answers o x [] r → Answered o x (r >>= λ y. Ok (stream_events (start_of x) y.0 y.1))
+answered_by : (o : OptionsData) (x : List ℕ) (r : Result (List PlainEvent × MachineState) Fault) → Answers o x [] r
+    → Answered o x (r >>= λ y. Ok (stream_events (start_of x) y.0 y.1))
 answered_by o x (Ok (more, s)) a = stream_of o x more s a
 answered_by o x (Err f) a = a
 

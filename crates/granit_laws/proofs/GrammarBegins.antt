@@ -4,9 +4,12 @@ use Rattle.granit_base.specs.Written.{Written}
 use Rattle.granit_base.specs.declared.style.ScalarStyle.TheVariants.{DoubleQuoted}
 use Rattle.granit_flow.specs.Lexeme.{Lexeme, SequenceClose, MappingClose, Question, Colon, Scalar}
 use Rattle.granit_lexemes.specs.Source.{Source}
-use Rattle.granit_flow.specs.Node.{NodeProperties, no_properties, Node, ScalarNode, Sequence, EmptyMapping, Mapping, Entry, FirstEntry, NextEntry, Pair, NextPair, Documents, Document}
+use Rattle.granit_flow.specs.Node.{NodeProperties, no_properties, Node, ScalarNode, Sequence, EmptyMapping, Mapping}
+use Rattle.granit_flow.specs.Node.{Entry, FirstEntry, NextEntry, Pair, NextPair, Documents, Document}
 use Rattle.granit_flow.specs.Yield.{lexeme, spell, spell_documents}
-use Rattle.granit_flow.specs.OpenPlace.{Hole, RootHole, FirstEntryHole, NextEntryHole, KeyHole, ValueHole, OpenPlace, BetweenDocuments, AtHole, AfterProperties, AfterEntry, AfterMappingOpen, AfterPairComma, AfterKey, AfterPair, spell_hole, spell_open}
+use Rattle.granit_flow.specs.OpenPlace.{Hole, RootHole, FirstEntryHole, NextEntryHole, KeyHole, ValueHole, OpenPlace}
+use Rattle.granit_flow.specs.OpenPlace.{BetweenDocuments, AtHole, AfterProperties, AfterEntry, AfterMappingOpen}
+use Rattle.granit_flow.specs.OpenPlace.{AfterPairComma, AfterKey, AfterPair, spell_hole, spell_open}
 use Rattle.granit_flow.specs.Cause.{Begins}
 
 -- lexemes that complete what stands before them to documents
@@ -40,7 +43,12 @@ hole_completes (NextEntryHole h p s entries c) n =
     record { documents = r.documents; rest = lexeme SequenceClose s ∷ r.rest; spells = r.spells }
 hole_completes (KeyHole h p s lead q) n =
     let r = hole_completes h (Mapping p s (Pair lead q n s (empty_node s)) s) in
-    record { documents = r.documents; rest = lexeme Colon s ∷ empty_lexeme s ∷ lexeme MappingClose s ∷ r.rest; spells = r.spells }
+    record {
+      documents = r.documents;
+      rest = lexeme Colon s ∷ empty_lexeme s ∷ lexeme MappingClose s
+          ∷ r.rest;
+      spells = r.spells;
+    }
 hole_completes (ValueHole h p s lead q k c) n =
     let r = hole_completes h (Mapping p s (Pair lead q k c n) s) in
     record { documents = r.documents; rest = lexeme MappingClose s ∷ r.rest; spells = r.spells }
@@ -70,10 +78,20 @@ open_completes (AfterMappingOpen h p s) =
     record { documents = r.documents; rest = lexeme MappingClose s ∷ r.rest; spells = r.spells }
 open_completes (AfterPairComma h p s pairs c) =
     let r = hole_completes h (Mapping p s (Pair (NextPair pairs c) s (empty_node s) s (empty_node s)) s) in
-    record { documents = r.documents; rest = lexeme Question s ∷ empty_lexeme s ∷ lexeme Colon s ∷ empty_lexeme s ∷ lexeme MappingClose s ∷ r.rest; spells = r.spells }
+    record {
+      documents = r.documents;
+      rest = lexeme Question s ∷ empty_lexeme s ∷ lexeme Colon s ∷ empty_lexeme s
+          ∷ lexeme MappingClose s ∷ r.rest;
+      spells = r.spells;
+    }
 open_completes (AfterKey h p s lead q k) =
     let r = hole_completes h (Mapping p s (Pair lead q k s (empty_node s)) s) in
-    record { documents = r.documents; rest = lexeme Colon s ∷ empty_lexeme s ∷ lexeme MappingClose s ∷ r.rest; spells = r.spells }
+    record {
+      documents = r.documents;
+      rest = lexeme Colon s ∷ empty_lexeme s ∷ lexeme MappingClose s
+          ∷ r.rest;
+      spells = r.spells;
+    }
 open_completes (AfterPair h p s pairs) =
     let r = hole_completes h (Mapping p s pairs s) in
     record { documents = r.documents; rest = lexeme MappingClose s ∷ r.rest; spells = r.spells }

@@ -1,14 +1,19 @@
 -- The brackets that lexemes leave open are those of the unfinished nodes behind them.
 use Rattle.std.proofs.Common.{◌≡◌, List, [], ◌∷◌, ◌++◌, map, drop, Option, Some, None, refl, sym, ap, ◌∙◌, subst}
 use Rattle.granit_base.specs.Place.{Mark}
-use Rattle.granit_flow.specs.Lexeme.{Lexeme, LexemeKind, DocumentStart, SequenceOpen, SequenceClose, MappingOpen, MappingClose, Comma, Question, Colon, Tag, Anchor, Alias, Scalar, Bracket, Square, Curly, Opener}
+use Rattle.granit_flow.specs.Lexeme.{Lexeme, LexemeKind, DocumentStart, SequenceOpen, SequenceClose, MappingOpen}
+use Rattle.granit_flow.specs.Lexeme.{MappingClose, Comma, Question, Colon, Tag, Anchor, Alias, Scalar, Bracket, Square}
+use Rattle.granit_flow.specs.Lexeme.{Curly, Opener}
 use Rattle.granit_lexemes.specs.Source.{Source}
 use Rattle.granit_flow.specs.Node.{AnchorAt, NodeProperties, no_properties, Node, Documents}
 use Rattle.granit_flow.specs.Yield.{spell_documents}
-use Rattle.granit_flow.specs.OpenPlace.{Hole, RootHole, FirstEntryHole, NextEntryHole, KeyHole, ValueHole, OpenPlace, BetweenDocuments, AtHole, AfterProperties, AfterEntry, AfterMappingOpen, AfterPairComma, AfterKey, AfterPair}
+use Rattle.granit_flow.specs.OpenPlace.{Hole, RootHole, FirstEntryHole, NextEntryHole, KeyHole, ValueHole, OpenPlace}
+use Rattle.granit_flow.specs.OpenPlace.{BetweenDocuments, AtHole, AfterProperties, AfterEntry, AfterMappingOpen}
+use Rattle.granit_flow.specs.OpenPlace.{AfterPairComma, AfterKey, AfterPair}
 use Rattle.granit_flow.specs.Reading.{Before, nothing_before, openers_behind, behind_lexeme, behind_all}
 use Rattle.granit_flow.specs.Cause.{open_brackets}
-use Rattle.granit_laws.proofs.GrammarPlaces.{fill, place_body, place_node, place_behind_properties, place_step, place_then, place_behind, first_of_all}
+use Rattle.granit_laws.proofs.GrammarPlaces.{fill, place_body, place_node, place_behind_properties, place_step}
+use Rattle.granit_laws.proofs.GrammarPlaces.{place_then, place_behind, first_of_all}
 use Rattle.granit_laws.proofs.GrammarComplete.{complete}
 
 -- the brackets of the unfinished collections around a hole, the innermost first
@@ -49,7 +54,8 @@ Wants MappingClose bs = (around : List Bracket) × (bs ≡ Curly ∷ around)
 Wants DocumentStart bs = bs ≡ []
 Wants kind bs = Unit {0}
 
-kinds_behind : (kind : LexemeKind) (m : Mark) (os : List Opener) → kinds_of (openers_behind kind m os) ≡ brackets_behind kind (kinds_of os)
+kinds_behind : (kind : LexemeKind) (m : Mark) (os : List Opener)
+    → kinds_of (openers_behind kind m os) ≡ brackets_behind kind (kinds_of os)
 kinds_behind SequenceClose m [] = refl
 kinds_behind SequenceClose m (o ∷ os) = refl
 kinds_behind MappingClose m [] = refl
@@ -77,7 +83,8 @@ fill_brackets (NextEntryHole h p s entries c) n = refl
 fill_brackets (KeyHole h p s lead q) n = refl
 fill_brackets (ValueHole h p s lead q k c) n = refl
 
-body_turns : (h : Hole) (p : NodeProperties) (kind : LexemeKind) (s : Source) → TurnsOf (place_body h p kind s) (hole_brackets h) kind
+body_turns : (h : Hole) (p : NodeProperties) (kind : LexemeKind) (s : Source)
+    → TurnsOf (place_body h p kind s) (hole_brackets h) kind
 body_turns h p (Scalar style text) s = record { nests = fill_brackets h _; wants = tt }
 body_turns h p SequenceOpen s = record { nests = refl; wants = tt }
 body_turns h p MappingOpen s = record { nests = refl; wants = tt }
@@ -89,51 +96,66 @@ node_turns h (Anchor name) s = record { nests = refl; wants = tt }
 node_turns h (Alias name) s = record { nests = fill_brackets h _; wants = tt }
 node_turns h kind s = body_turns h no_properties kind s
 
-properties_turn : (h : Hole) (p : NodeProperties) (anchor : Option AnchorAt) (kind : LexemeKind) (s : Source) → TurnsOf (place_behind_properties h p anchor kind s) (hole_brackets h) kind
+properties_turn : (h : Hole) (p : NodeProperties) (anchor : Option AnchorAt) (kind : LexemeKind) (s : Source)
+    → TurnsOf (place_behind_properties h p anchor kind s) (hole_brackets h) kind
 properties_turn h p None (Anchor name) s = record { nests = refl; wants = tt }
 properties_turn h p anchor kind s = body_turns h p kind s
 
 step_turns : (p : OpenPlace) (kind : LexemeKind) (s : Source) → TurnsOf (place_step p kind s) (place_brackets p) kind
 step_turns (BetweenDocuments ds) DocumentStart m = record { nests = refl; wants = refl }
-step_turns (AtHole (FirstEntryHole h p s)) SequenceClose e = record { nests = fill_brackets h _; wants = (hole_brackets h, refl) }
+step_turns (AtHole (FirstEntryHole h p s)) SequenceClose e =
+    record { nests = fill_brackets h _; wants = (hole_brackets h, refl) }
 step_turns (AtHole h) kind s = node_turns h kind s
 step_turns (AfterProperties h p) kind s = properties_turn h p p.anchor kind s
 step_turns (AfterEntry h p s entries) Comma c = record { nests = refl; wants = tt }
-step_turns (AfterEntry h p s entries) SequenceClose e = record { nests = fill_brackets h _; wants = (hole_brackets h, refl) }
+step_turns (AfterEntry h p s entries) SequenceClose e =
+    record { nests = fill_brackets h _; wants = (hole_brackets h, refl) }
 step_turns (AfterMappingOpen h p s) Question q = record { nests = refl; wants = tt }
-step_turns (AfterMappingOpen h p s) MappingClose e = record { nests = fill_brackets h _; wants = (hole_brackets h, refl) }
+step_turns (AfterMappingOpen h p s) MappingClose e =
+    record { nests = fill_brackets h _; wants = (hole_brackets h, refl) }
 step_turns (AfterPairComma h p s pairs c) Question q = record { nests = refl; wants = tt }
 step_turns (AfterKey h p s lead q k) Colon c = record { nests = refl; wants = tt }
 step_turns (AfterPair h p s pairs) Comma c = record { nests = refl; wants = tt }
-step_turns (AfterPair h p s pairs) MappingClose e = record { nests = fill_brackets h _; wants = (hole_brackets h, refl) }
+step_turns (AfterPair h p s pairs) MappingClose e =
+    record { nests = fill_brackets h _; wants = (hole_brackets h, refl) }
 step_turns p kind s = tt
 
 -- A closer that is taken closes the innermost unfinished collection, and `---` is taken where there is none.
-pub step_wants : (p : OpenPlace) (l : Lexeme) (q : OpenPlace) → place_step p l.kind l.source ≡ Some q → Wants l.kind (place_brackets p)
-step_wants p l q e = (subst (λ (a : Option OpenPlace). TurnsOf a (place_brackets p) l.kind) e (step_turns p l.kind l.source)).wants
+pub step_wants : (p : OpenPlace) (l : Lexeme) (q : OpenPlace) → place_step p l.kind l.source ≡ Some q
+    → Wants l.kind (place_brackets p)
+step_wants p l q e = (subst (λ (a : Option OpenPlace). TurnsOf a (place_brackets p) l.kind) e
+    (step_turns p l.kind l.source)).wants
 
 -- the brackets behind lexemes, and those of the place that they lead to
 abbrev Nested : Option OpenPlace → List Lexeme → Before → Type 0
 Nested (Some q) ls b = kinds_of (behind_all b ls).openers ≡ place_brackets q
 Nested None ls b = Unit {0}
 
-nested_on : (a : Option OpenPlace) (l : Lexeme) (ls : List Lexeme) (b : Before) → Nested a ls (behind_lexeme b l) → Nested a (l ∷ ls) b
+nested_on : (a : Option OpenPlace) (l : Lexeme) (ls : List Lexeme) (b : Before) → Nested a ls (behind_lexeme b l)
+    → Nested a (l ∷ ls) b
 nested_on (Some q) l ls b h = h
 nested_on None l ls b h = tt
 
-nested_step : (a : Option OpenPlace) (bs : List Bracket) (l : Lexeme) (ls : List Lexeme) (b : Before) → TurnsOf a bs l.kind → kinds_of b.openers ≡ bs
-    → ((b : Before) (p : OpenPlace) → kinds_of b.openers ≡ place_brackets p → Nested (place_behind ls p) ls b) → Nested (place_then a (place_behind ls)) (l ∷ ls) b
+nested_step : (a : Option OpenPlace) (bs : List Bracket) (l : Lexeme) (ls : List Lexeme) (b : Before)
+    → TurnsOf a bs l.kind → kinds_of b.openers ≡ bs
+    → ((b : Before) (p : OpenPlace) → kinds_of b.openers ≡ place_brackets p → Nested (place_behind ls p) ls b)
+    → Nested (place_then a (place_behind ls)) (l ∷ ls) b
 nested_step (Some q) bs l ls b h e rest =
-    nested_on (place_behind ls q) l ls b (rest (behind_lexeme b l) q (kinds_behind l.kind l.source.start b.openers ∙ ap (brackets_behind l.kind) e ∙ sym h.nests))
+    nested_on (place_behind ls q) l ls b (rest (behind_lexeme b l) q
+    (kinds_behind l.kind l.source.start b.openers ∙ ap (brackets_behind l.kind) e ∙ sym h.nests))
 nested_step None bs l ls b h e rest = tt
 
-nested : (ls : List Lexeme) (b : Before) (p : OpenPlace) → kinds_of b.openers ≡ place_brackets p → Nested (place_behind ls p) ls b
+nested : (ls : List Lexeme) (b : Before) (p : OpenPlace) → kinds_of b.openers ≡ place_brackets p
+    → Nested (place_behind ls p) ls b
 nested [] b p e = e
-nested (l ∷ ls) b p e = nested_step (place_step p l.kind l.source) (place_brackets p) l ls b (step_turns p l.kind l.source) e (nested ls)
+nested (l ∷ ls) b p e = nested_step (place_step p l.kind l.source) (place_brackets p) l ls b
+    (step_turns p l.kind l.source) e (nested ls)
 
 -- The brackets that lexemes leave open are those of the unfinished collections, in order.
-pub brackets_are : (ls : List Lexeme) (q : OpenPlace) → place_behind ls first_of_all ≡ Some q → kinds_of (open_brackets ls) ≡ place_brackets q
-brackets_are ls q e = subst (λ (a : Option OpenPlace). Nested a ls nothing_before) e (nested ls nothing_before first_of_all refl)
+pub brackets_are : (ls : List Lexeme) (q : OpenPlace) → place_behind ls first_of_all ≡ Some q
+    → kinds_of (open_brackets ls) ≡ place_brackets q
+brackets_are ls q e = subst (λ (a : Option OpenPlace). Nested a ls nothing_before) e
+    (nested ls nothing_before first_of_all refl)
 
 -- Where no opener is of any kind, there is none.
 pub no_kinds : (os : List Opener) → kinds_of os ≡ [] → os ≡ []
@@ -142,4 +164,5 @@ no_kinds (o ∷ os) e = cc
 
 -- Behind documents no bracket is open.
 pub documents_close : (ds : Documents) → open_brackets (spell_documents ds []) ≡ []
-documents_close ds = no_kinds (open_brackets (spell_documents ds [])) (brackets_are (spell_documents ds []) (BetweenDocuments ds) (complete ds))
+documents_close ds = no_kinds (open_brackets (spell_documents ds []))
+    (brackets_are (spell_documents ds []) (BetweenDocuments ds) (complete ds))

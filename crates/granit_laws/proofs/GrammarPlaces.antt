@@ -1,10 +1,15 @@
 -- The parser that keeps its pieces: open places in place of paths, one step for each lexeme.
 use Rattle.std.proofs.Common.{◌≡◌, List, [], ◌∷◌, ◌++◌, Option, Some, None, refl}
-use Rattle.granit_flow.specs.Lexeme.{Lexeme, LexemeKind, DocumentStart, SequenceOpen, SequenceClose, MappingOpen, MappingClose, Comma, Question, Colon, Tag, Anchor, Alias, Scalar}
+use Rattle.granit_flow.specs.Lexeme.{Lexeme, LexemeKind, DocumentStart, SequenceOpen, SequenceClose, MappingOpen}
+use Rattle.granit_flow.specs.Lexeme.{MappingClose, Comma, Question, Colon, Tag, Anchor, Alias, Scalar}
 use Rattle.granit_lexemes.specs.Source.{Source}
-use Rattle.granit_flow.specs.Node.{AnchorAt, NodeProperties, no_properties, Node, AliasNode, ScalarNode, EmptySequence, Sequence, EmptyMapping, Mapping, Entry, FirstEntry, NextEntry, Pair, FirstPair, NextPair, NoDocument, Document}
+use Rattle.granit_flow.specs.Node.{AnchorAt, NodeProperties, no_properties, Node, AliasNode, ScalarNode, EmptySequence}
+use Rattle.granit_flow.specs.Node.{Sequence, EmptyMapping, Mapping, Entry, FirstEntry, NextEntry, Pair, FirstPair}
+use Rattle.granit_flow.specs.Node.{NextPair, NoDocument, Document}
 use Rattle.granit_flow.specs.Path.{tag_alone, anchor_behind}
-use Rattle.granit_flow.specs.OpenPlace.{Hole, RootHole, FirstEntryHole, NextEntryHole, KeyHole, ValueHole, OpenPlace, BetweenDocuments, AtHole, AfterProperties, AfterEntry, AfterMappingOpen, AfterPairComma, AfterKey, AfterPair}
+use Rattle.granit_flow.specs.OpenPlace.{Hole, RootHole, FirstEntryHole, NextEntryHole, KeyHole, ValueHole, OpenPlace}
+use Rattle.granit_flow.specs.OpenPlace.{BetweenDocuments, AtHole, AfterProperties, AfterEntry, AfterMappingOpen}
+use Rattle.granit_flow.specs.OpenPlace.{AfterPairComma, AfterKey, AfterPair}
 
 -- the place behind a node that fills a hole
 abbrev pub fill : Hole → Node → OpenPlace
@@ -63,11 +68,14 @@ place_behind (l ∷ ls) p = place_then (place_step p l.kind l.source) (place_beh
 abbrev pub first_of_all : OpenPlace
 first_of_all = BetweenDocuments NoDocument
 
-append_step : (a : Option OpenPlace) (both front more : OpenPlace → Option OpenPlace) → ((p : OpenPlace) → both p ≡ place_then (front p) more) → place_then a both ≡ place_then (place_then a front) more
+append_step : (a : Option OpenPlace) (both front more : OpenPlace → Option OpenPlace)
+    → ((p : OpenPlace) → both p ≡ place_then (front p) more) → place_then a both ≡ place_then (place_then a front) more
 append_step (Some p) both front more h = h p
 append_step None both front more h = refl
 
 -- The place behind two lists is told one list behind the other.
-pub place_append : (a b : List Lexeme) (p : OpenPlace) → place_behind (a ++ b) p ≡ place_then (place_behind a p) (place_behind b)
+pub place_append : (a b : List Lexeme) (p : OpenPlace)
+    → place_behind (a ++ b) p ≡ place_then (place_behind a p) (place_behind b)
 place_append [] b p = refl
-place_append (l ∷ a) b p = append_step (place_step p l.kind l.source) (place_behind (a ++ b)) (place_behind a) (place_behind b) (place_append a b)
+place_append (l ∷ a) b p = append_step (place_step p l.kind l.source) (place_behind (a ++ b)) (place_behind a)
+    (place_behind b) (place_append a b)

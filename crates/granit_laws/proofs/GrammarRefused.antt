@@ -1,5 +1,7 @@
--- Where a lexeme isn't taken, no documents go on with it, or it is an alias of no anchor; where a node is unfinished, none end.
-use Rattle.std.proofs.Common.{◌≡◌, ◌≢◌, ℕ, false, List, [], ◌∷◌, ◌++◌, Option, Some, None, Err, ◌⊎◌, inl, inr, refl, sym, ap, ◌∙◌, subst, append_assoc}
+-- Where a lexeme isn't taken, no documents go on with it, or it is an alias of no anchor; where a node is unfinished,
+-- none end.
+use Rattle.std.proofs.Common.{◌≡◌, ◌≢◌, ℕ, false, List, [], ◌∷◌, ◌++◌, Option, Some, None, Err, ◌⊎◌, inl, inr, refl}
+use Rattle.std.proofs.Common.{sym, ap, ◌∙◌, subst, append_assoc}
 use Rattle.std.specs.Prelude.{Contains}
 use Rattle.granit_base.specs.Written.{Written}
 use Rattle.granit_error.specs.FaultKind.{NotBuilt, UnknownAnchor}
@@ -34,32 +36,43 @@ pub record NamesNone (o : OptionsData) (ls : List Lexeme) (l : Lexeme) (f : Faul
   pub fault_is : f ≡ fault_at UnknownAnchor l.source.start
 
 -- no documents go on with a lexeme that leads to no place
-stops_there : (ls more : List Lexeme) (l : Lexeme) (p : OpenPlace) → place_behind ls first_of_all ≡ Some p → place_step p l.kind l.source ≡ None → (ds : Documents) → spell_documents ds [] ≢ ls ++ (l ∷ more)
+stops_there : (ls more : List Lexeme) (l : Lexeme) (p : OpenPlace) → place_behind ls first_of_all ≡ Some p
+    → place_step p l.kind l.source ≡ None → (ds : Documents) → spell_documents ds [] ≢ ls ++ (l ∷ more)
 stops_there ls more l p e n ds s =
     let whole = complete_at (ls ++ (l ∷ more)) ds s in
-    let front = place_append ls (l ∷ more) first_of_all ∙ ap (λ (r : Option OpenPlace). place_then r (place_behind (l ∷ more))) e ∙ ap (λ (r : Option OpenPlace). place_then r (place_behind more)) n in
+    let front = place_append ls (l ∷ more) first_of_all
+    ∙ ap (λ (r : Option OpenPlace). place_then r (place_behind (l ∷ more))) e
+    ∙ ap (λ (r : Option OpenPlace). place_then r (place_behind more)) n in
     cc
 
-refused_by : (o : OptionsData) (ls : List Lexeme) (es : List PlainEvent) (s : ParserState) (l : Lexeme) (f : Fault) (k : Opened o ls es s) (a : Option OpenPlace) → place_step k.place l.kind l.source ≡ a → Agree o a (Err f) k.place l
+refused_by : (o : OptionsData) (ls : List Lexeme) (es : List PlainEvent) (s : ParserState) (l : Lexeme) (f : Fault)
+    (k : Opened o ls es s) (a : Option OpenPlace) → place_step k.place l.kind l.source ≡ a → Agree o a (Err f) k.place l
     → Misplaced ls l f ⊎ NamesNone o ls l f
 refused_by o ls es s l f k (Some q) e u = inr (record {
   name = u.name;
   is_alias = u.is_alias;
-  goes_on = begins q (ls ++ (l ∷ [])) (λ more. u.spells more ∙ k.spells (l ∷ more) ∙ sym (append_assoc ls (l ∷ []) more));
+  goes_on = begins q (ls ++ (l ∷ [])) (λ more. u.spells more ∙ k.spells (l ∷ more)
+      ∙ sym (append_assoc ls (l ∷ []) more));
   unknown = subst (λ (names : List (List ℕ)). Contains names u.name.characters → ⊥) k.names u.unknown;
   must_be_known = u.must_be_known;
   fault_is = u.fault_is;
 })
-refused_by o ls es s l f k None e u = inl (record { fault_is = u; none = λ ds more. stops_there ls more l k.place k.reached e ds })
+refused_by o ls es s l f k None e u = inl (record {
+  fault_is = u;
+  none = λ ds more. stops_there ls more l k.place
+      k.reached e ds;
+})
 
 -- A lexeme that the machine doesn't take is misplaced, or is an alias that names no anchor.
-pub refused : (o : OptionsData) (ls : List Lexeme) (es : List PlainEvent) (s : ParserState) (l : Lexeme) (f : Fault) → Opened o ls es s → step_on o s l ≡ Err f → Misplaced ls l f ⊎ NamesNone o ls l f
+pub refused : (o : OptionsData) (ls : List Lexeme) (es : List PlainEvent) (s : ParserState) (l : Lexeme) (f : Fault)
+    → Opened o ls es s → step_on o s l ≡ Err f → Misplaced ls l f ⊎ NamesNone o ls l f
 refused o ls es s l f k e =
     refused_by o ls es s l f k (place_step k.place l.kind l.source) refl
     (subst (λ (r : Stepped). Agree o (place_step k.place l.kind l.source) r k.place l) e (next_agrees o ls es s l k))
 
 -- Lexemes behind which a node is unfinished are those of no documents.
-pub short : (o : OptionsData) (ls : List Lexeme) (es : List PlainEvent) (s : ParserState) (f : Frame) (fs : Path) → Opened o ls es s → s.path ≡ f ∷ fs → (ds : Documents) → spell_documents ds [] ≢ ls
+pub short : (o : OptionsData) (ls : List Lexeme) (es : List PlainEvent) (s : ParserState) (f : Frame) (fs : Path)
+    → Opened o ls es s → s.path ≡ f ∷ fs → (ds : Documents) → spell_documents ds [] ≢ ls
 short o ls es s f fs k e ds w =
     let there : Some k.place ≡ Some (BetweenDocuments ds) = sym k.reached ∙ complete_at ls ds w in
     let same : k.place ≡ BetweenDocuments ds = cc in

@@ -23,7 +23,8 @@ pub record LastReached (x : List ℕ) (b : Before) (i : ℕ) (ls : List Lexeme) 
   pub lies : end_of i ls + length gap ≡ at
   pub stands : IsLexeme x at l spelling behind
 
-pub last_reached : {x : List ℕ} (ls : List Lexeme) (l : Lexeme) {b : Before} {i j : ℕ} → Reached x b i (ls ++ (l ∷ [])) j → LastReached x b i ls l
+pub last_reached : {x : List ℕ} (ls : List Lexeme) (l : Lexeme) {b : Before} {i j : ℕ}
+    → Reached x b i (ls ++ (l ∷ [])) j → LastReached x b i ls l
 last_reached [] l {i = i} (goes_on g cs behind s e q is more) = record {
   at = i + length g;
   gap = g;
@@ -43,12 +44,14 @@ last_reached (m ∷ ls) l (goes_on g cs behind s e q is more) =
       behind = last.behind;
       reached = goes_on g cs behind s e q is last.reached;
       parts = last.parts;
-      lies = ap (λ (k : ℕ). end_of k ls + length last.gap) (ap (λ (s : Source). s.end.place.index) is.source) ∙ last.lies;
+      lies = ap (λ (k : ℕ). end_of k ls + length last.gap) (ap (λ (s : Source). s.end.place.index) is.source)
+          ∙ last.lies;
       stands = last.stands;
     }
 
 -- the brackets that one more lexeme leaves open
-pub open_behind : (ls : List Lexeme) (l : Lexeme) → open_brackets (ls ++ (l ∷ [])) ≡ openers_behind l.kind l.source.start (open_brackets ls)
+pub open_behind : (ls : List Lexeme) (l : Lexeme)
+    → open_brackets (ls ++ (l ∷ [])) ≡ openers_behind l.kind l.source.start (open_brackets ls)
 open_behind ls l = ap (λ (b : Before). b.openers) (behind_append nothing_before ls (l ∷ []))
 
 -- ---- openers
@@ -69,13 +72,23 @@ opener_ends Curly behind = tt
 abbrev pub opener_at : List ℕ → ℕ → Bracket → Lexeme
 opener_at x i b = record { kind = open_kind b; source = record { start = mark_at x i; end = mark_at x (i + 1) } }
 
-pub opener_is : (x : List ℕ) (i : ℕ) (b : Bracket) (behind : List ℕ) → StandsAt x i (opener_char b ∷ []) behind → IsLexeme x i (opener_at x i b) (opener_char b ∷ []) behind
-opener_is x i b behind s = record { stands = s; spells = opener_spells b; begins = opener_begins x i b; ends = opener_ends b behind; source = refl }
+pub opener_is : (x : List ℕ) (i : ℕ) (b : Bracket) (behind : List ℕ) → StandsAt x i (opener_char b ∷ []) behind
+    → IsLexeme x i (opener_at x i b) (opener_char b ∷ []) behind
+opener_is x i b behind s = record {
+  stands = s;
+  spells = opener_spells b;
+  begins = opener_begins x i b;
+  ends =
+      opener_ends b behind;
+  source = refl;
+}
 
 one_more : (b : Bracket) (m : Mark) (os : List Opener) → length (openers_behind (open_kind b) m os) ≡ suc (length os)
 one_more Square m os = refl
 one_more Curly m os = refl
 
 -- an opener opens one bracket more
-pub one_deeper : (x : List ℕ) (i : ℕ) (b : Bracket) (ls : List Lexeme) → length (open_brackets (ls ++ (opener_at x i b ∷ []))) ≡ suc (length (open_brackets ls))
-one_deeper x i b ls = ap (λ (os : List Opener). length os) (open_behind ls (opener_at x i b)) ∙ one_more b (mark_at x i) (open_brackets ls)
+pub one_deeper : (x : List ℕ) (i : ℕ) (b : Bracket) (ls : List Lexeme)
+    → length (open_brackets (ls ++ (opener_at x i b ∷ []))) ≡ suc (length (open_brackets ls))
+one_deeper x i b ls = ap (λ (os : List Opener). length os) (open_behind ls (opener_at x i b))
+    ∙ one_more b (mark_at x i) (open_brackets ls)

@@ -12,6 +12,8 @@ pub fn scope_is_told_by_the_lexemes_before()
 
 /// A name has a number behind lexemes exactly where an anchor of their last document has it.
 pub fn names_of_anchors_have_numbers()
-    ensures known { (ls : List Lexeme) (name : List ℕ) (n : ℕ) → number_in name (scope_of ls).known ≡ Some n → Contains (names_behind_all ls []) name }
-    ensures numbered { (ls : List Lexeme) (name : List ℕ) → Contains (names_behind_all ls []) name → (n : ℕ) × (number_in name (scope_of ls).known ≡ Some n) }
+    ensures known { (ls : List Lexeme) (name : List ℕ) (n : ℕ) → number_in name (scope_of ls).known ≡ Some n
+        → Contains (names_behind_all ls []) name }
+    ensures numbered { (ls : List Lexeme) (name : List ℕ) → Contains (names_behind_all ls []) name
+        → (n : ℕ) × (number_in name (scope_of ls).known ≡ Some n) }
 {}

@@ -1,16 +1,20 @@
 -- How the code reads a plain scalar: a stretch of content a turn.
-use Rattle.std.specs.Prelude.{◌≡◌, ℕ, ◌<◌, ◌≤◌, Bool, true, false, ◌&&◌, not, if◌then◌else◌, List, [], ◌∷◌, ◌++◌, Option, Some, None, Result, Ok, Err}
+use Rattle.std.specs.Prelude.{◌≡◌, ℕ, ◌<◌, ◌≤◌, Bool, true, false, ◌&&◌, not, if◌then◌else◌, List, [], ◌∷◌, ◌++◌}
+use Rattle.std.specs.Prelude.{Option, Some, None, Result, Ok, Err}
 use Rattle.granit_base.specs.Classes.{is_blank, is_break, is_z}
 use Rattle.granit_base.specs.Place.{Mark}
 use Rattle.granit_base.specs.declared.style.ScalarStyle.TheVariants.{Plain}
-use Rattle.granit_error.specs.FaultKind.{FaultKind, NoMemory, PlainScalarStartsWithDashFlowIndicator, TabInPlainScalar, UnexpectedCharacter}
+use Rattle.granit_error.specs.FaultKind.{FaultKind, NoMemory, PlainScalarStartsWithDashFlowIndicator, TabInPlainScalar}
+use Rattle.granit_error.specs.FaultKind.{UnexpectedCharacter}
 use Rattle.granit_error.specs.Refused.{Refused}
 use Rattle.granit_lexemes.specs.Here.{Here, next_char, mark_of}
 use Rattle.granit_lexemes.specs.LayoutData.{LayoutData}
 use Rattle.granit_lexemes.specs.Outcome.{Fault, Fails}
 use Rattle.granit_lexemes.specs.Pieces.{with_front, pieces}
 use Rattle.granit_lexemes.specs.Basics.{fails_at, only_printable, unprintable}
-use Rattle.granit_lexemes.specs.PlainScalar.{PlainState, PlainRead, is_content, between, on_content, on_blank, on_break, meets_comment, ends_before_line, plain_turn, plain_len, behind_plain}
+use Rattle.granit_lexemes.specs.PlainScalar.{PlainState, PlainRead, between, on_content, on_blank, on_break}
+use Rattle.granit_lexemes.specs.PlainScalar.{meets_comment, ends_before_line, plain_turn, plain_len, behind_plain}
+use Rattle.granit_base.specs.PlainContent.{is_content}
 use Rattle.granit_cursor.specs.Tokens.{scalar_token}
 use Rattle.granit_cursor.specs.declared.token.Lexed.{Lexed}
 use Rattle.granit_lex.specs.Taken.{PlainTaken}

@@ -1,9 +1,15 @@
 -- How the code reads a quoted scalar: a character of content a turn.
-use Rattle.std.specs.Prelude.{◌≡◌, ◌⊎◌, ℕ, ◌==◌, Bool, true, false, ◌&&◌, ◌||◌, not, if◌then◌else◌, List, [], ◌∷◌, ◌++◌, slice_index, Option, Some, None, Result, Ok, Err}
+use Rattle.std.specs.Prelude.{◌≡◌, ◌⊎◌, ℕ, ◌==◌, Bool, true, false, ◌&&◌, ◌||◌, not, if◌then◌else◌, List, [], ◌∷◌, ◌++◌}
+use Rattle.std.specs.Prelude.{slice_index, Option, Some, None, Result, Ok, Err}
 use Rattle.std.specs.Option.{option_map}
 use Rattle.granit_base.specs.Classes.{is_blank, is_break, is_printable}
 use Rattle.granit_base.specs.Place.{Mark}
-use Rattle.granit_error.specs.FaultKind.{FaultKind, NoMemory, InvalidIndentation, UnclosedQuotedScalar, DocumentIndicatorInQuotedScalar, TabInIndentation, InvalidQuotedScalarIndent, InvalidTrailingSingleQuotedScalar, InvalidTrailingDoubleQuotedScalar, UnknownQuotedScalarEscape, InvalidQuotedScalarHexEscape, MissingLowSurrogate, InvalidLowSurrogateHexEscape, InvalidLowSurrogate, UnpairedLowSurrogate, InvalidUnicodeEscape, CommentNotSeparated, UnexpectedCharacter}
+use Rattle.granit_error.specs.FaultKind.{FaultKind, NoMemory, InvalidIndentation, UnclosedQuotedScalar}
+use Rattle.granit_error.specs.FaultKind.{DocumentIndicatorInQuotedScalar, TabInIndentation, InvalidQuotedScalarIndent}
+use Rattle.granit_error.specs.FaultKind.{InvalidTrailingSingleQuotedScalar, InvalidTrailingDoubleQuotedScalar}
+use Rattle.granit_error.specs.FaultKind.{UnknownQuotedScalarEscape, InvalidQuotedScalarHexEscape, MissingLowSurrogate}
+use Rattle.granit_error.specs.FaultKind.{InvalidLowSurrogateHexEscape, InvalidLowSurrogate, UnpairedLowSurrogate}
+use Rattle.granit_error.specs.FaultKind.{InvalidUnicodeEscape, CommentNotSeparated, UnexpectedCharacter}
 use Rattle.granit_error.specs.Refused.{Refused}
 use Rattle.granit_lexemes.specs.Comment.{comment}
 use Rattle.granit_lexemes.specs.Here.{Here, text_len, next_char, mark_of, step}
@@ -11,7 +17,9 @@ use Rattle.granit_lexemes.specs.LayoutData.{LayoutData}
 use Rattle.granit_lexemes.specs.Outcome.{Fault, Fails, ◌>>=◌}
 use Rattle.granit_lexemes.specs.Pieces.{with_front}
 use Rattle.granit_lexemes.specs.Basics.{fails_at, is_document_mark, owned}
-use Rattle.granit_lexemes.specs.QuotedScalar.{QuotedRead, quoted_style, asked_comment, QuotedState, is_closing, is_tab_left, is_strictly_left, is_loosely_left, escape_or, between_quoted, quoted_at, over_blank, over_break, quoted_content, quoted_rest}
+use Rattle.granit_lexemes.specs.QuotedScalar.{QuotedRead, quoted_style, asked_comment, QuotedState, is_closing}
+use Rattle.granit_lexemes.specs.QuotedScalar.{is_tab_left, is_strictly_left, is_loosely_left, escape_or, between_quoted}
+use Rattle.granit_lexemes.specs.QuotedScalar.{quoted_at, over_blank, over_break, quoted_content, quoted_rest}
 use Rattle.granit_cursor.specs.Tokens.{comment_token, scalar_token}
 use Rattle.granit_cursor.specs.declared.token.Lexed.{Lexed}
 use Rattle.granit_cursor.specs.declared.token.Token.{Token}

@@ -1,7 +1,10 @@
 //! Plain scalars are read (YAML 1.2.2, 7.3.3).
-ghost use Rattle.std.specs.Prelude.{◌≡◌, ◌<◌, ◌≤◌, ◌-◌, ◌⊎◌, ◌==◌, ◌&&◌, ◌||◌, not, ℕ, [], ◌∷◌, ◌++◌, true, length, take, IfOk, IfErr, OnOk};
-ghost use Rattle.granit_error.specs.FaultKind.{NoMemory as OutOfMemory, PlainScalarStartsWithDashFlowIndicator, TabInPlainScalar, UnexpectedCharacter};
-ghost use Rattle.granit_input.specs.Runs.{run_length, is_plain_at};
+ghost use Rattle.std.specs.Prelude.{◌≡◌, ◌<◌, ◌≤◌, ◌-◌, ◌⊎◌, ◌==◌, ◌&&◌, ◌||◌, not, ℕ, [], ◌∷◌, ◌++◌, true, length};
+ghost use Rattle.std.specs.Prelude.{take, IfOk, IfErr, OnOk};
+ghost use Rattle.granit_error.specs.FaultKind.{NoMemory as OutOfMemory, PlainScalarStartsWithDashFlowIndicator};
+ghost use Rattle.granit_error.specs.FaultKind.{TabInPlainScalar, UnexpectedCharacter};
+ghost use Rattle.granit_input.specs.Runs.{run_length};
+ghost use Rattle.granit_base.specs.PlainContent.{is_content};
 ghost use Rattle.granit_lexemes.specs.Here.{Here, next_char, mark_of, step};
 ghost use Rattle.granit_lexemes.specs.Basics as basics;
 ghost use Rattle.granit_lexemes.specs.Moves.{steps};
@@ -9,7 +12,9 @@ ghost use Rattle.granit_lexemes.specs.PlainExtent as extent;
 ghost use Rattle.granit_lexemes.specs.PlainScalar as spec;
 ghost use Rattle.granit_cursor.specs.Reading.{Stands, Moves, Wherever, ReadsAs, AnswersAs, RefusedFor, coded};
 ghost use Rattle.granit_cursor.specs.Tokens.{layout_data};
-ghost use Rattle.granit_lex.specs.PlainCode.{plain_lexed, plain_state, inside, plain_rest, plain_whole, ahead_of, TakesSome, TurnTakes, TurnsTo, PartsTo, ended_plain, IsPlainKind};
+ghost use Rattle.granit_lex.specs.declared.plain.Ahead.TheVariants.{Tab};
+ghost use Rattle.granit_lex.specs.PlainCode.{plain_lexed, plain_state, inside, plain_rest, plain_whole, ahead_of};
+ghost use Rattle.granit_lex.specs.PlainCode.{TakesSome, TurnTakes, TurnsTo, PartsTo, ended_plain, IsPlainKind};
 
 use granit_base::{
     Marker, NoMemory, ScalarStyle, Span, Text, find_non_printable, is_at_end, is_blank,
@@ -35,7 +40,7 @@ pub fn scan_plain_scalar<'input, T: BorrowedInput<'input>>(
     cursor: &mut Cursor<T>,
     at: &Layout,
 ) -> Result<Lexed<'input>, ScanError>
-    requires { (h : Here) → Stands T.unread cursor.old h → spec.is_content at.now.in_flow h.unread.text ≡ true }
+    requires { (h : Here) → Stands T.unread cursor.old h → is_content at.now.in_flow h.unread.text ≡ true }
     ensures here { ReadsAs T.unread cursor.old cursor.new result (λ h.
         coded plain_lexed (spec.plain_scalar (layout_data at.now) h)) }
     ensures scalar { AnswersAs T.unread cursor.old cursor.new result plain_lexed
@@ -206,7 +211,7 @@ fn take_content<T: Input>(
     parts: &mut PlainParts,
 ) -> Result<(), NoMemory>
     ensures here { Wherever T.unread cursor.old cursor.new (λ h Lands. OnOk result ((n : ℕ)
-        × (n ≡ run_length (is_plain_at in_flow) (step h).unread.text) × Lands (steps n (step h))
+        × (n ≡ run_length (is_content in_flow) (step h).unread.text) × Lands (steps n (step h))
         × (parts.new.value ≡ ((parts.old.value ++ spec.between (plain_state parts.old h))
         ++ next_char h ∷ []) ++ take n (step h).unread.text)
         × (plain_state parts.new (steps n (step h)) ≡ inside (steps n (step h))))) }
@@ -237,6 +242,9 @@ fn take_turn<T: Input>(
         (plain_whole (layout_data at.now) start parts.old h)) }
     ensures left { TurnTakes result (T.left cursor.old.input) (T.left cursor.new.input) }
     ensures kinds { IfErr result (λ e. (e.kind ≡ OutOfMemory) ⊎ (e.kind ≡ TabInPlainScalar)) }
+    ensures tab { (h : Here) → Stands T.unread cursor.old h
+        → ahead_of (layout_data at.now) (plain_state parts.old h) ≡ Tab
+        → IfErr result (λ e. e.kind ≡ TabInPlainScalar) }
     ensures moves { Moves T.left T.origin cursor.old cursor.new }
 {
     match look_ahead(cursor, at, parts) {

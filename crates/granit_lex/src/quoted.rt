@@ -12,7 +12,9 @@ ghost use Rattle.granit_lex.specs.PlainCode.{TurnTakes};
 ghost use Rattle.granit_lexemes.specs.QuotedScalar.{quoted_rest};
 ghost use Rattle.granit_cursor.specs.Reading.{Stands, Moves, Wherever, ReadsAs, AnswersAs, RefusedFor, coded};
 ghost use Rattle.granit_cursor.specs.Tokens.{layout_data};
-ghost use Rattle.granit_lex.specs.QuotedCode.{quoted_lexed, quoted_with, asked, IsQuotedFault, quoted_state, quoted_whole, quoted_ahead, content_read, SeesTo, SeesSome, TakesContent, added, escapes, QuotedTurnsTo, QuotedPartsTo, IsQuotedKind};
+ghost use Rattle.granit_lex.specs.QuotedCode.{quoted_lexed, quoted_with, asked, IsQuotedFault, quoted_state};
+ghost use Rattle.granit_lex.specs.QuotedCode.{quoted_whole, quoted_ahead, content_read, SeesTo, SeesSome, TakesContent};
+ghost use Rattle.granit_lex.specs.QuotedCode.{added, escapes, QuotedTurnsTo, QuotedPartsTo, IsQuotedKind};
 
 use crate::escape::escape;
 use granit_base::{

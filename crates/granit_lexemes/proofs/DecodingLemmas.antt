@@ -1,5 +1,6 @@
 -- What every reader of escapes needs of letters, digits and halves.
-use Rattle.std.proofs.Common.{◌≡◌, ℕ, ◌+◌, ◌*◌, ◌<◌, ◌≤◌, ◌^◌, true, false, ◌==◌, ◌&&◌, List, [], ◌∷◌, refl, ap, ◌∙◌, arith, Some, None}
+use Rattle.std.proofs.Common.{◌≡◌, ℕ, ◌+◌, ◌*◌, ◌<◌, ◌≤◌, ◌^◌, true, false, ◌==◌, ◌&&◌, List, [], ◌∷◌, refl, ap, ◌∙◌}
+use Rattle.std.proofs.Common.{arith, Some, None}
 use Rattle.std.specs.Prelude.{slice_index}
 use Rattle.std.proofs.lemmas.Bool.Decides.{nat_tests}
 use Rattle.std.proofs.Math.Nat.{pow-suc, pow-le-pow_right}
@@ -41,7 +42,8 @@ unfolding is_high
 half_is_none n e = grind (arith, nat_tests)
 
 -- a second half begins with `\u`
-pub begins_second : (l : List ℕ) → (first l == 0x5C && slice_index l 1 == 0x75) ≡ true → (t : List ℕ) × (l ≡ 0x5C ∷ 0x75 ∷ t)
+pub begins_second : (l : List ℕ) → (first l == 0x5C && slice_index l 1 == 0x75) ≡ true
+    → (t : List ℕ) × (l ≡ 0x5C ∷ 0x75 ∷ t)
 begins_second [] e = absurd (grind (arith, nat_tests))
 begins_second (a ∷ []) e = absurd (grind (arith, nat_tests))
 begins_second (a ∷ b ∷ t) e =
@@ -60,7 +62,9 @@ pub digits_fit : (i v : ℕ) → i ≤ 8 → v < 16 ^ i → v < 2 ^ 32
 digits_fit i v le fits = let most : 16 ^ i ≤ 16 ^ 8 = pow-le-pow_right (omega arith) le in omega arith
 
 pub digit_space : (i v : ℕ) → v < 16 ^ i → v * 16 < 16 ^ (i + 1)
-digit_space i v fits = let e : 16 ^ (i + 1) ≡ 16 ^ i * 16 = ap (λ (k : ℕ). 16 ^ k) (omega arith) ∙ pow-suc 16 i in omega arith
+digit_space i v fits = let e : 16 ^ (i + 1) ≡ 16 ^ i * 16 = ap (λ (k : ℕ). 16 ^ k) (omega arith)
+    ∙ pow-suc 16 i in omega arith
 
 pub digit_more : (i v d : ℕ) → v < 16 ^ i → d < 16 → v * 16 + d < 16 ^ (i + 1)
-digit_more i v d fits small = let e : 16 ^ (i + 1) ≡ 16 ^ i * 16 = ap (λ (k : ℕ). 16 ^ k) (omega arith) ∙ pow-suc 16 i in omega arith
+digit_more i v d fits small = let e : 16 ^ (i + 1) ≡ 16 ^ i * 16 = ap (λ (k : ℕ). 16 ^ k) (omega arith)
+    ∙ pow-suc 16 i in omega arith

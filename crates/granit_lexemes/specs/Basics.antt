@@ -1,5 +1,6 @@
 -- What the readers of all lexemes share.
-use Rattle.std.specs.Prelude.{ℕ, ◌-◌, Bool, false, ◌==◌, ◌&&◌, ◌||◌, not, if◌then◌else◌, List, take, slice_index, Option, Some, None, Result, Err}
+use Rattle.std.specs.Prelude.{ℕ, ◌-◌, Bool, false, ◌==◌, ◌&&◌, ◌||◌, not, if◌then◌else◌, List, take, slice_index}
+use Rattle.std.specs.Prelude.{Option, Some, None, Result, Err}
 use Rattle.std.specs.List.{find}
 use Rattle.granit_base.specs.Classes.{is_blank_or_breakz, is_printable}
 use Rattle.granit_base.specs.Place.{Mark}
@@ -20,8 +21,10 @@ past_break h =
 -- whether a text begins with `---` or `...`, with a blank, a break, NUL or the end behind it (9.1.2)
 abbrev pub is_document_mark : List ℕ → Bool
 is_document_mark text =
-    (((slice_index text 0 == 0x2D && slice_index text 1 == 0x2D) && slice_index text 2 == 0x2D) && is_blank_or_breakz (slice_index text 3))
-    || (((slice_index text 0 == 0x2E && slice_index text 1 == 0x2E) && slice_index text 2 == 0x2E) && is_blank_or_breakz (slice_index text 3))
+    (((slice_index text 0 == 0x2D && slice_index text 1 == 0x2D) && slice_index text 2 == 0x2D)
+    && is_blank_or_breakz (slice_index text 3))
+    || (((slice_index text 0 == 0x2E && slice_index text 1 == 0x2E) && slice_index text 2 == 0x2E)
+    && is_blank_or_breakz (slice_index text 3))
 
 -- the first character that isn't printable
 abbrev pub unprintable : List ℕ → Option ℕ

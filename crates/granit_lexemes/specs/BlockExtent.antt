@@ -2,15 +2,18 @@
 use Rattle.std.specs.Prelude.{◌≡◌, ℕ, Bool, true, false, ◌==◌, List, [], ◌∷◌, Option, Some, None}
 use Rattle.granit_base.specs.Classes.{is_break}
 use Rattle.granit_base.specs.Place.{Mark}
-use Rattle.granit_error.specs.FaultKind.{FaultKind, ZeroBlockScalarIndent, InvalidBlockScalarHeader, TabAtBlockScalarStart, InvalidBlockScalarIndent, CommentNotSeparated, UnexpectedCharacter}
+use Rattle.granit_error.specs.FaultKind.{FaultKind, ZeroBlockScalarIndent, InvalidBlockScalarHeader}
+use Rattle.granit_error.specs.FaultKind.{TabAtBlockScalarStart, InvalidBlockScalarIndent, CommentNotSeparated}
+use Rattle.granit_error.specs.FaultKind.{UnexpectedCharacter}
 use Rattle.granit_lexemes.specs.Basics.{owned, unprintable}
 use Rattle.granit_lexemes.specs.BlockHeader.{Chomping, BlockHeader, chomping_of}
 use Rattle.granit_lexemes.specs.BlockScalar.{BlockRead, BlockGiven, block_read, is_between}
 use Rattle.granit_lexemes.specs.BlockValue.{block_value, empty_value}
 use Rattle.granit_lexemes.specs.Comment.{CommentRead, Spoils}
-use Rattle.granit_lexemes.specs.HeaderExtent.{HeaderStands, HeaderFront, HeaderTail, LineEnds}
+use Rattle.granit_lexemes.specs.HeaderExtent.{HeaderStands, HeaderFront, LexemeTail, LineEnds}
 use Rattle.granit_lexemes.specs.Here.{Here, text_len, next_char, mark_of}
-use Rattle.granit_lexemes.specs.LinesExtent.{ContentColumn, Empties, BlockLine, IsLine, ContentLines, is_outside_block, is_clear}
+use Rattle.granit_lexemes.specs.LinesExtent.{ContentColumn, Empties, BlockLine, IsLine, ContentLines, is_outside_block}
+use Rattle.granit_lexemes.specs.LinesExtent.{is_clear}
 use Rattle.granit_lexemes.specs.PlainExtent.{over}
 use Rattle.granit_lexemes.specs.QuotedExtent.{BlanksBehind}
 
@@ -22,7 +25,7 @@ pub record BlockFront (block : Option ℕ) (h : Here) (header : BlockHeader) (no
   pub behind_tail : Here
   pub first_line : Here
   pub heads : HeaderStands h header behind_header
-  pub tails : HeaderTail behind_header noted behind_tail
+  pub tails : LexemeTail behind_header noted behind_tail
   pub ends : LineEnds behind_tail broken first_line
   pub no_tab : (next_char first_line == 0x09) ≡ false
   pub indented : ContentColumn block header.digit first_line column
@@ -66,19 +69,19 @@ pub data RefusesBlock (literal : Bool) (block : Option ℕ) (h : Here) : FaultKi
       → RefusesBlock literal block h kind m
   -- an unprintable character behind the header and its tail, at it
   behind_header : {header : BlockHeader} {g i : Here} {noted : Option CommentRead} → HeaderStands h header g
-      → HeaderTail g noted i → is_clear i ≡ false
+      → LexemeTail g noted i → is_clear i ≡ false
       → RefusesBlock literal block h (UnexpectedCharacter (next_char i)) (mark_of i)
   -- other content on the header's line, at the scalar's start
   other_content : {header : BlockHeader} {g i : Here} {noted : Option CommentRead} → HeaderStands h header g
-      → HeaderTail g noted i → is_clear i ≡ true → (text_len i == 0) ≡ false → is_break (next_char i) ≡ false
+      → LexemeTail g noted i → is_clear i ≡ true → (text_len i == 0) ≡ false → is_break (next_char i) ≡ false
       → RefusesBlock literal block h InvalidBlockScalarHeader (mark_of h)
   -- an unprintable character that begins the first line, at it
   first_character : {header : BlockHeader} {g i j : Here} {noted : Option CommentRead} {broken : Bool}
-      → HeaderStands h header g → HeaderTail g noted i → LineEnds i broken j → is_clear j ≡ false
+      → HeaderStands h header g → LexemeTail g noted i → LineEnds i broken j → is_clear j ≡ false
       → RefusesBlock literal block h (UnexpectedCharacter (next_char j)) (mark_of j)
   -- a tab that begins the first line, at the scalar's start
   first_tab : {header : BlockHeader} {g i j : Here} {noted : Option CommentRead} {broken : Bool}
-      → HeaderStands h header g → HeaderTail g noted i → LineEnds i broken j → next_char j ≡ 0x09
+      → HeaderStands h header g → LexemeTail g noted i → LineEnds i broken j → next_char j ≡ 0x09
       → RefusesBlock literal block h TabAtBlockScalarStart (mark_of h)
   -- the first content, right of its block but left of the content's column, at it
   wrong_column : {header : BlockHeader} {noted : Option CommentRead} {broken : Bool} {column k : ℕ} {place : Here}

@@ -1,5 +1,6 @@
 -- The header of a block scalar (YAML 1.2.2, 8.1.1), and where its content stands.
-use Rattle.std.specs.Prelude.{ℕ, ◌+◌, ◌-◌, Bool, true, false, ◌==◌, ◌&&◌, ◌||◌, max, if◌then◌else◌, List, [], ◌∷◌, Option, Some, None, is_none, Result, Ok}
+use Rattle.std.specs.Prelude.{ℕ, ◌+◌, ◌-◌, Bool, true, false, ◌==◌, ◌&&◌, ◌||◌, max, if◌then◌else◌, List, [], ◌∷◌}
+use Rattle.std.specs.Prelude.{Option, Some, None, is_none, Result, Ok}
 use Rattle.granit_base.specs.Classes.{is_break, is_digit, is_printable}
 use Rattle.granit_base.specs.Place.{Mark}
 use Rattle.granit_error.specs.FaultKind.{ZeroBlockScalarIndent, UnexpectedCharacter}

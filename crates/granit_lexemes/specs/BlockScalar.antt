@@ -1,6 +1,7 @@
 -- The lines of a block scalar (YAML 1.2.2, 8.1), and its value.
 use Rattle.std.specs.List.{list_all}
-use Rattle.std.specs.Prelude.{ℕ, zero, suc, ◌-◌, Bool, true, false, ◌==◌, ◌&&◌, ◌||◌, not, nat_lt, if◌then◌else◌, List, [], ◌∷◌, ◌++◌, length, Option, Some, None, is_none, is_some, Result, Ok}
+use Rattle.std.specs.Prelude.{ℕ, zero, suc, ◌-◌, Bool, true, false, ◌==◌, ◌&&◌, ◌||◌, not, nat_lt, if◌then◌else◌, List}
+use Rattle.std.specs.Prelude.{[], ◌∷◌, ◌++◌, length, Option, Some, None, is_none, is_some, Result, Ok}
 use Rattle.granit_base.specs.Classes.{is_within, is_blank, is_break, is_breakz}
 use Rattle.granit_base.specs.Place.{Mark}
 use Rattle.granit_base.specs.Written.{Written}
@@ -13,8 +14,10 @@ use Rattle.granit_lexemes.specs.LayoutData.{is_left}
 use Rattle.granit_lexemes.specs.Outcome.{Fault, ◌>>=◌}
 use Rattle.granit_lexemes.specs.Pieces.{pieces}
 use Rattle.granit_lexemes.specs.Tail.{tail_at}
-use Rattle.granit_lexemes.specs.Basics.{fails_at, past_break, is_document_mark, only_printable, unprintable, owned, text_up_to}
-use Rattle.granit_lexemes.specs.BlockHeader.{Chomping, is_strip, is_keep, BlockHeader, chomping_of, refuse_unprintable, content_column, block_header}
+use Rattle.granit_lexemes.specs.Basics.{fails_at, past_break, is_document_mark, only_printable, unprintable, owned}
+use Rattle.granit_lexemes.specs.Basics.{text_up_to}
+use Rattle.granit_lexemes.specs.BlockHeader.{Chomping, is_strip, is_keep, BlockHeader, chomping_of, refuse_unprintable}
+use Rattle.granit_lexemes.specs.BlockHeader.{content_column, block_header}
 
 -- over spaces left of a column, at most so many
 unfoldable pub over_spaces : ℕ → Here → Here
@@ -44,8 +47,8 @@ pub record BlockState : Type 0 where
   -- whether a break ended it
   pub broken : Bool
 
--- what stands for the breaks before a line: between two lines of a folded scalar that begin with no blank one break is a
--- space (8.1.3)
+-- what stands for the breaks before a line: between two lines of a folded scalar that begin with no blank one break is
+-- a space (8.1.3)
 abbrev pub between_lines : Bool → Option Bool → Bool → List ℕ → List ℕ
 between_lines literal None blank empty = empty
 between_lines literal (Some before) blank empty =

@@ -1,5 +1,6 @@
 -- The value of a block scalar, from its finished lines (YAML 1.2.2, 8.1.1.2, 8.1.2 and 8.1.3).
-use Rattle.std.specs.Prelude.{ℕ, zero, suc, Bool, true, false, ◌||◌, nat_lt, if◌then◌else◌, List, [], ◌∷◌, ◌++◌, replicate, Option, Some, None}
+use Rattle.std.specs.Prelude.{ℕ, zero, suc, Bool, true, false, ◌||◌, nat_lt, if◌then◌else◌, List, [], ◌∷◌, ◌++◌}
+use Rattle.std.specs.Prelude.{replicate, Option, Some, None}
 use Rattle.granit_base.specs.Classes.{is_blank}
 use Rattle.granit_base.specs.Place.{first}
 use Rattle.granit_lexemes.specs.BlockHeader.{Chomping, Strip, Clip, Keep}
@@ -9,8 +10,8 @@ use Rattle.granit_lexemes.specs.LinesExtent.{BlockLine}
 abbrev pub line_feeds : ℕ → List ℕ
 line_feeds k = replicate k 0x0A
 
--- What stands before a line of content with k empty lines before it: k LF before the first, k + 1 LF before another one,
--- but between two lines of a folded scalar neither of which begins with a blank a space for k = 0, and else k LF.
+-- What stands before a line of content with k empty lines before it: k LF before the first, k + 1 LF before another
+-- one, but between two lines of a folded scalar neither of which begins with a blank a space for k = 0, and else k LF.
 abbrev pub line_gap : (literal : Bool) → (before : Option Bool) → (blank : Bool) → ℕ → List ℕ
 line_gap literal None blank k = line_feeds k
 line_gap literal (Some before) blank k = if literal || (before || blank) then line_feeds (suc k) else break_text k

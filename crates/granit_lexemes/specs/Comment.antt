@@ -1,5 +1,6 @@
 -- Comments: how far one goes, its text, and what may not stand in it (YAML 1.2.2, 6.6).
-use Rattle.std.specs.Prelude.{◌≡◌, ℕ, suc, ◌==◌, Bool, true, false, ◌&&◌, ◌||◌, not, if◌then◌else◌, List, [], ◌∷◌, ◌++◌, length, ◌⊎◌, Result, Ok, Err}
+use Rattle.std.specs.Prelude.{◌≡◌, ℕ, suc, ◌==◌, Bool, true, false, ◌&&◌, ◌||◌, not, if◌then◌else◌, List, [], ◌∷◌, ◌++◌}
+use Rattle.std.specs.Prelude.{length, ◌⊎◌, Result, Ok, Err}
 use Rattle.granit_base.specs.Classes.{is_break, is_breakz, is_printable}
 use Rattle.granit_base.specs.Place.{Mark, first}
 use Rattle.granit_base.specs.Written.{Written}

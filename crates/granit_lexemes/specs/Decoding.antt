@@ -1,5 +1,6 @@
 -- Escapes, and what they stand for (YAML 1.2.2, 5.7).
-use Rattle.std.specs.Prelude.{◌≡◌, ℕ, ◌+◌, ◌-◌, ◌*◌, Bool, true, ◌==◌, if◌then◌else◌, List, [], ◌∷◌, ◌++◌, length, Option, Some, None}
+use Rattle.std.specs.Prelude.{◌≡◌, ℕ, ◌+◌, ◌-◌, ◌*◌, Bool, true, ◌==◌, if◌then◌else◌, List, [], ◌∷◌, ◌++◌, length}
+use Rattle.std.specs.Prelude.{Option, Some, None}
 use lib.Utf8.{scalar}
 use Rattle.granit_base.specs.Classes.{is_within, is_hex, hex_value}
 use Rattle.granit_lexemes.specs.Gap.{Each}
@@ -60,7 +61,9 @@ pub data Escape : List ℕ → ℕ → Type 0 where
   -- a backslash and a letter
   letter : {l c : ℕ} → letter_value l ≡ Some c → Escape (0x5C ∷ l ∷ []) c
   -- a backslash, a letter and the digits that it wants, which write the number of a character
-  number : {l count : ℕ} {digits : List ℕ} → digit_count l ≡ Some count → AreDigits count digits → scalar (number_of digits) ≡ true → Escape (0x5C ∷ l ∷ digits) (number_of digits)
+  number : {l count : ℕ} {digits : List ℕ} → digit_count l ≡ Some count → AreDigits count digits
+      → scalar (number_of digits) ≡ true → Escape (0x5C ∷ l ∷ digits) (number_of digits)
   -- `\u` and a first half, `\u` and a second half
-  halves : {high low : List ℕ} → AreDigits 4 high → is_high (number_of high) ≡ true → AreDigits 4 low → is_low (number_of low) ≡ true
+  halves : {high low : List ℕ} → AreDigits 4 high → is_high (number_of high) ≡ true → AreDigits 4 low
+      → is_low (number_of low) ≡ true
       → Escape (0x5C ∷ 0x75 ∷ (high ++ 0x5C ∷ 0x75 ∷ low)) (joined (number_of high) (number_of low))

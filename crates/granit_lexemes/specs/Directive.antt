@@ -1,10 +1,16 @@
 -- Directives, word by word (YAML 1.2.2, 6.8).
-use Rattle.std.specs.Prelude.{ℕ, ◌+◌, ◌-◌, ◌*◌, Bool, true, false, ◌==◌, ◌&&◌, ◌||◌, not, nat_lt, nat_le, nat_eq, if◌then◌else◌, List, [], ◌∷◌, length, codes, Option, Some, None, Result, Ok}
+use Rattle.std.specs.Prelude.{ℕ, ◌+◌, ◌-◌, ◌*◌, Bool, true, false, ◌==◌, ◌&&◌, ◌||◌, not, nat_lt, nat_le, nat_eq}
+use Rattle.std.specs.Prelude.{if◌then◌else◌, List, [], ◌∷◌, length, codes, Option, Some, None, Result, Ok}
 use Rattle.std.specs.Str.{encode_utf8_all}
 use lib.Pointwise.{pointwise}
-use Rattle.granit_base.specs.Classes.{is_blank, is_breakz, is_blank_or_breakz, is_digit, is_alpha, is_uri_char, is_tag_char, is_yaml_non_space}
+use Rattle.granit_base.specs.Classes.{is_blank, is_breakz, is_blank_or_breakz, is_digit, is_alpha, is_uri_char}
+use Rattle.granit_base.specs.Classes.{is_tag_char, is_yaml_non_space}
 use Rattle.granit_base.specs.Place.{Mark}
-use Rattle.granit_error.specs.FaultKind.{DirectiveDisallowed, InvalidDirectiveTerminator, MissingDirectiveName, InvalidDirectiveName, TooManyReservedDirectiveParams, MissingYamlVersion, MissingYamlVersionSeparator, YamlVersionTooLong, ExpectedTagBang, ExpectedTagDirectiveBang, InvalidGlobalTagCharacter, InvalidTagDirectiveTerminator}
+use Rattle.granit_error.specs.FaultKind.{DirectiveDisallowed, InvalidDirectiveTerminator, MissingDirectiveName}
+use Rattle.granit_error.specs.FaultKind.{InvalidDirectiveName, TooManyReservedDirectiveParams, MissingYamlVersion}
+use Rattle.granit_error.specs.FaultKind.{MissingYamlVersionSeparator, YamlVersionTooLong, ExpectedTagBang}
+use Rattle.granit_error.specs.FaultKind.{ExpectedTagDirectiveBang, InvalidGlobalTagCharacter}
+use Rattle.granit_error.specs.FaultKind.{InvalidTagDirectiveTerminator}
 use Rattle.granit_error.specs.OptionsData.{OptionsData}
 use Rattle.granit_lexemes.specs.Comment.{CommentRead, comment}
 use Rattle.granit_lexemes.specs.Here.{Here, text_len, next_char, mark_of, step, past}
@@ -18,7 +24,8 @@ use Rattle.granit_lexemes.specs.Tags.{Budget, spent, decoded}
 
 -- a word of characters that aren't blanks, within what may still be read
 abbrev pub word_up_to : Option Budget → Mark → Here → Here → Result (Option Budget × Here) Fault
-word_up_to budget start h after = spent budget (length (encode_utf8_all (text_up_to h after))) start >>= λ left. Ok (left, after)
+word_up_to budget start h after = spent budget (length (encode_utf8_all (text_up_to h after))) start >>= λ left. Ok
+    (left, after)
 
 -- ---- `%YAML` and a version (6.8.1)
 
@@ -38,16 +45,19 @@ version_number start h = number_up_to start h (past is_digit h)
 
 -- the second number, behind a `.`
 unfoldable pub minor_number : Mark → Here → Result (ℕ × Here) Fault
-minor_number start h = if next_char h == 0x2E then version_number start (step h) else fails_at MissingYamlVersionSeparator start
+minor_number start h = if next_char h == 0x2E then version_number start (step h) else fails_at
+    MissingYamlVersionSeparator start
 
 abbrev pub version_directive : Mark → Here → Result (DirectiveKind × Here) Fault
-version_directive start h = version_number start (past is_blank h) >>= λ major. minor_number start major.1 >>= λ minor. Ok (Version major.0 minor.0, minor.1)
+version_directive start h = version_number start (past is_blank h) >>= λ major. minor_number start major.1 >>=
+    λ minor. Ok (Version major.0 minor.0, minor.1)
 
 -- ---- `%TAG`, a handle and a prefix (6.8.2)
 
 -- over blanks, within what may still be read
 abbrev pub blanks_within : Option Budget → Mark → Here → Result (Option Budget × Here) Fault
-blanks_within budget start h = spent budget (count_up_to h (past is_blank h)) start >>= λ left. Ok (left, past is_blank h)
+blanks_within budget start h = spent budget (count_up_to h (past is_blank h)) start >>= λ left. Ok
+    (left, past is_blank h)
 
 -- whether a handle that begins here with its `!` ends with one behind a word
 abbrev pub ends_handle : Here → Here → Bool
@@ -68,20 +78,25 @@ handle_at budget start h =
     else fails_at ExpectedTagBang start
 
 abbrev pub prefix_ends : Mark → List ℕ → List ℕ → Here → Result (DirectiveKind × Here) Fault
-prefix_ends start handle prefix h = if is_blank_or_breakz (next_char h) then Ok (TagPrefix handle prefix, h) else fails_at InvalidTagDirectiveTerminator start
+prefix_ends start handle prefix h = if is_blank_or_breakz (next_char h) then Ok (TagPrefix handle prefix, h) else
+    fails_at InvalidTagDirectiveTerminator start
 
 -- the prefix: `!` or a character of a tag, and a URI
 unfoldable pub prefix_at : Option Budget → Mark → List ℕ → Here → Result (DirectiveKind × Here) Fault
 prefix_at budget start handle h =
-    if next_char h == 0x21 then (spent budget 1 start >>= λ left. decoded is_uri_char start left (step h) >>= λ x. prefix_ends start handle (0x21 ∷ x.0) x.1.here)
-    else if is_tag_char (next_char h) then (decoded is_uri_char start budget h >>= λ x. prefix_ends start handle x.0 x.1.here)
+    if next_char h == 0x21 then (spent budget 1 start >>= λ left. decoded is_uri_char start left (step h) >>=
+    λ x. prefix_ends start handle (0x21 ∷ x.0) x.1.here)
+    else if is_tag_char (next_char h) then (decoded is_uri_char start budget h >>= λ x. prefix_ends start handle x.0
+    x.1.here)
     else fails_at InvalidGlobalTagCharacter start
 
 abbrev pub behind_handle_at : Mark → Here → Option Budget × Here → Result (DirectiveKind × Here) Fault
-behind_handle_at start h handle = blanks_within handle.0 start handle.1 >>= λ x. prefix_at x.0 start (text_up_to h handle.1) x.1
+behind_handle_at start h handle = blanks_within handle.0 start handle.1 >>= λ x. prefix_at x.0 start
+    (text_up_to h handle.1) x.1
 
 abbrev pub tag_directive : Option Budget → Mark → Here → Result (DirectiveKind × Here) Fault
-tag_directive budget start h = blanks_within budget start h >>= λ x. handle_at x.0 start x.1 >>= behind_handle_at start x.1
+tag_directive budget start h = blanks_within budget start h >>= λ x. handle_at x.0 start x.1 >>= behind_handle_at start
+    x.1
 
 -- ---- a reserved directive and its parameters (6.8)
 
@@ -91,11 +106,14 @@ pub record ParameterState : Type 0 where
   pub count : ℕ
 
 -- another parameter, behind blanks
-unfoldable pub parameter_behind : OptionsData → Mark → ParameterState → Here → Result (Option (List (List ℕ)) × ParameterState) Fault
+unfoldable pub parameter_behind : OptionsData → Mark → ParameterState → Here
+    → Result (Option (List (List ℕ)) × ParameterState) Fault
 parameter_behind o start s h =
-    if (count_up_to s.here h == 0 || next_char h == 0x23) || is_blank_or_breakz (next_char h) then Ok (None, record s { here = h })
+    if (count_up_to s.here h == 0 || next_char h == 0x23)
+    || is_blank_or_breakz (next_char h) then Ok (None, record s { here = h })
     else spent s.budget (count_up_to s.here h) start >>= λ left.
-    if nat_le o.max_reserved_directive_params s.count then fails_at (TooManyReservedDirectiveParams o.max_reserved_directive_params) start
+    if nat_le o.max_reserved_directive_params s.count then fails_at
+    (TooManyReservedDirectiveParams o.max_reserved_directive_params) start
     else word_up_to left start h (past is_yaml_non_space h) >>= λ x.
     Ok (Some (text_up_to h x.1 ∷ []), record { here = x.1; budget = x.0; count = s.count + 1 })
 
@@ -107,7 +125,8 @@ parameters_len s = text_len s.here
 
 abbrev pub reserved_directive : OptionsData → Option Budget → Mark → List ℕ → Here → Result (DirectiveKind × Here) Fault
 reserved_directive o budget start name h =
-    pieces parameters_len (parameter_turn o start) (record { here = h; budget = budget; count = 0 }) >>= λ x. Ok (Reserved name x.0, x.1.here)
+    pieces parameters_len (parameter_turn o start) (record { here = h; budget = budget; count = 0 }) >>= λ x. Ok
+    (Reserved name x.0, x.1.here)
 
 -- ---- any directive
 
@@ -130,7 +149,8 @@ behind_name o start h x =
 -- the directive that begins here with its `%`, and the place behind it
 unfoldable pub directive_at : OptionsData → Here → Result (DirectiveKind × Here) Fault
 directive_at o h =
-    word_up_to (Some (record { left = o.max_directive_bytes; limit = o.max_directive_bytes })) (mark_of (step h)) (step h) (past is_yaml_non_space (step h)) >>=
+    word_up_to (Some (record { left = o.max_directive_bytes; limit = o.max_directive_bytes })) (mark_of (step h))
+    (step h) (past is_yaml_non_space (step h)) >>=
     behind_name o (mark_of h) (step h)
 
 -- ---- its line's end
@@ -154,10 +174,15 @@ directive_tail kind end =
     else tail_at end
 
 abbrev pub directive_read : Here → DirectiveKind → Here → Option CommentRead → DirectiveRead
-directive_read h kind end noted = record { kind = kind; source = record { start = mark_of h; end = mark_of end }; noted = noted }
+directive_read h kind end noted = record {
+  kind = kind;
+  source = record { start = mark_of h; end = mark_of end };
+  noted = noted;
+}
 
 -- a directive of a kind that goes up to a place, whose line ends behind its tail
-unfoldable pub directive_up_to : Here → DirectiveKind → Here → Option CommentRead → Here → Result (DirectiveRead × Here) Fault
+unfoldable pub directive_up_to : Here → DirectiveKind → Here → Option CommentRead → Here
+    → Result (DirectiveRead × Here) Fault
 directive_up_to h kind end noted after =
     if is_breakz (next_char after) then Ok (directive_read h kind end noted, after)
     else fails_at InvalidDirectiveTerminator (mark_of h)
@@ -165,7 +190,8 @@ directive_up_to h kind end noted after =
 abbrev pub directive_behind : Here → DirectiveKind → Here → Result (DirectiveRead × Here) Fault
 directive_behind h kind end = directive_tail kind end >>= λ x. directive_up_to h kind end x.0 x.1
 
--- the directive that begins here with its `%`, and where reading then stands: behind it, its blanks and its comment, in front of its line's end
+-- the directive that begins here with its `%`, and where reading then stands: behind it, its blanks and its comment, in
+-- front of its line's end
 unfoldable pub directive : OptionsData → Here → Result (DirectiveRead × Here) Fault
 directive o h =
     if o.disallow_directives then fails_at DirectiveDisallowed (mark_of h)

@@ -1,9 +1,15 @@
 -- How far a directive goes, its parts, its line's end, and what is refused at it (YAML 1.2.2, 6.8).
-use Rattle.std.specs.Prelude.{◌≡◌, ◌≢◌, ℕ, ◌+◌, ◌≤◌, ◌<◌, ◌==◌, Bool, true, false, ◌||◌, not, List, [], ◌∷◌, ◌++◌, length, codes, Option, Some, None}
+use Rattle.std.specs.Prelude.{◌≡◌, ◌≢◌, ℕ, ◌+◌, ◌≤◌, ◌<◌, ◌==◌, Bool, true, false, ◌||◌, not, List, [], ◌∷◌, ◌++◌}
+use Rattle.std.specs.Prelude.{length, codes, Option, Some, None}
 use Rattle.std.specs.Str.{encode_utf8_all}
-use Rattle.granit_base.specs.Classes.{is_blank, is_breakz, is_blank_or_breakz, is_digit, is_alpha, is_uri_char, is_tag_char, is_yaml_non_space}
+use Rattle.granit_base.specs.Classes.{is_blank, is_breakz, is_blank_or_breakz, is_digit, is_alpha, is_uri_char}
+use Rattle.granit_base.specs.Classes.{is_tag_char, is_yaml_non_space}
 use Rattle.granit_base.specs.Place.{Mark, first}
-use Rattle.granit_error.specs.FaultKind.{FaultKind, DirectiveDisallowed, MissingDirectiveName, InvalidDirectiveName, DirectiveByteLimitExceeded, TooManyReservedDirectiveParams, InvalidDirectiveTerminator, MissingYamlVersion, MissingYamlVersionSeparator, YamlVersionTooLong, ExpectedTagBang, ExpectedTagDirectiveBang, InvalidGlobalTagCharacter, InvalidTagDirectiveTerminator, CommentNotSeparated}
+use Rattle.granit_error.specs.FaultKind.{FaultKind, DirectiveDisallowed, MissingDirectiveName, InvalidDirectiveName}
+use Rattle.granit_error.specs.FaultKind.{DirectiveByteLimitExceeded, TooManyReservedDirectiveParams}
+use Rattle.granit_error.specs.FaultKind.{InvalidDirectiveTerminator, MissingYamlVersion, MissingYamlVersionSeparator}
+use Rattle.granit_error.specs.FaultKind.{YamlVersionTooLong, ExpectedTagBang, ExpectedTagDirectiveBang}
+use Rattle.granit_error.specs.FaultKind.{InvalidGlobalTagCharacter, InvalidTagDirectiveTerminator, CommentNotSeparated}
 use Rattle.granit_error.specs.OptionsData.{OptionsData}
 use Rattle.granit_lexemes.specs.Comment.{CommentRead, StandsComment, Spoils}
 use Rattle.granit_lexemes.specs.Directive.{digits_value, DirectiveRead, is_reserved}
@@ -201,18 +207,27 @@ pub data WrongContinuation (o : OptionsData) (name text : List ℕ) : FaultKind 
   -- words of a reserved directive and the blanks before them
   long_words : {source piece word rest behind : List ℕ} {words : List (List ℕ)} → name ≢ codes "YAML"
       → name ≢ codes "TAG" → WordsStand text source words rest → WordStands rest piece word behind
+      → length words < o.max_reserved_directive_params
       → o.max_directive_bytes < bytes_of name + bytes_of (source ++ piece)
       → WrongContinuation o name text (DirectiveByteLimitExceeded o.max_directive_bytes)
-  -- one word more than the limit
+  -- and the blanks before one word more than the limit
+  long_blanks : {source piece word rest behind : List ℕ} {words : List (List ℕ)} → name ≢ codes "YAML"
+      → name ≢ codes "TAG" → WordsStand text source words rest → (last : WordStands rest piece word behind)
+      → length words ≡ o.max_reserved_directive_params
+      → o.max_directive_bytes < bytes_of name + bytes_of (source ++ last.blanks)
+      → WrongContinuation o name text (DirectiveByteLimitExceeded o.max_directive_bytes)
+  -- one word more than the limit, where the bytes before it are within theirs
   many_words : {source piece word rest behind : List ℕ} {words : List (List ℕ)} → name ≢ codes "YAML"
-      → name ≢ codes "TAG" → WordsStand text source words rest → WordStands rest piece word behind
-      → o.max_reserved_directive_params ≤ length words
+      → name ≢ codes "TAG" → WordsStand text source words rest → (last : WordStands rest piece word behind)
+      → length words ≡ o.max_reserved_directive_params
+      → bytes_of name + bytes_of (source ++ last.blanks) ≤ o.max_directive_bytes
       → WrongContinuation o name text (TooManyReservedDirectiveParams o.max_reserved_directive_params)
 
 -- why no directive stands here, for its name at the name's start, else at the `%`
 pub data WrongDirective (o : OptionsData) (h : Here) : FaultKind → Mark → Type 0 where
   nameless : {rest : List ℕ} → DirectiveName h [] rest → WrongDirective o h MissingDirectiveName (mark_of (step h))
-  wrong_name : {name rest : List ℕ} → DirectiveName h name rest → name ≢ [] → is_blank_or_breakz (first rest) ≡ false
+  wrong_name : {name rest : List ℕ} → DirectiveName h name rest → name ≢ [] → bytes_of name ≤ o.max_directive_bytes
+      → is_blank_or_breakz (first rest) ≡ false
       → WrongDirective o h InvalidDirectiveName (mark_of (step h))
   long_name : {name rest : List ℕ} → DirectiveName h name rest → o.max_directive_bytes < bytes_of name
       → WrongDirective o h (DirectiveByteLimitExceeded o.max_directive_bytes) (mark_of (step h))
@@ -227,12 +242,13 @@ may_comment owns_blanks blanks = owns_blanks || not (length blanks == 0)
 
 -- Behind a directive: blanks, and a comment that they part from it, up to the line's end. Behind a reserved one, whose
 -- blanks are part of it, the comment may stand at once.
-pub data LineEnds (owns_blanks : Bool) (end : Here) : (noted : Option CommentRead) → (after : Here) → Type 0 where
+pub data DirectiveLineEnds (owns_blanks : Bool) (end : Here) : (noted : Option CommentRead) → (after : Here)
+    → Type 0 where
   nothing : {blanks rest : List ℕ} → All is_blank end.unread.text blanks rest → is_breakz (first rest) ≡ true
-      → LineEnds owns_blanks end None (over blanks end)
+      → DirectiveLineEnds owns_blanks end None (over blanks end)
   comment : {blanks rest : List ℕ} {after : Here} {c : CommentRead} → All is_blank end.unread.text blanks rest
       → may_comment owns_blanks blanks ≡ true → starts_comment rest ≡ true → StandsComment (over blanks end) c after
-      → LineEnds owns_blanks end (Some c) after
+      → DirectiveLineEnds owns_blanks end (Some c) after
 
 -- what is wrong there: `#` without a blank before it, an unprintable character in the comment, or, at the `%`, what
 -- is no line's end
@@ -253,7 +269,7 @@ pub record AnswersDirective (o : OptionsData) (h : Here) (read : DirectiveRead) 
   pub allowed : o.disallow_directives ≡ false
   pub end : Here
   pub stands : DirectiveStands o h read.kind end
-  pub line : LineEnds (is_reserved read.kind) end read.noted after
+  pub line : DirectiveLineEnds (is_reserved read.kind) end read.noted after
   pub place : read.source ≡ record { start = mark_of h; end = mark_of end }
 
 -- why a directive is refused, and where

@@ -58,7 +58,8 @@ fold_behind k (line ∷ []) = break_text k ++ line
 fold_behind k ([] ∷ next ∷ more) = fold_behind (suc k) (next ∷ more)
 fold_behind k ((c ∷ cs) ∷ next ∷ more) = break_text k ++ (c ∷ cs) ++ fold_behind 0 (next ∷ more)
 
--- lines as one text: one break gives a space, and k empty lines between two lines give k LF; the first line is content even where it is empty
+-- lines as one text: one break gives a space, and k empty lines between two lines give k LF; the first line is content
+-- even where it is empty
 abbrev pub fold : List (List ℕ) → List ℕ
 fold [] = []
 fold (line ∷ more) = line ++ fold_behind 0 more

@@ -1,5 +1,6 @@
 -- The header of a block scalar, and what stands behind it on its line (YAML 1.2.2, 8.1.1).
-use Rattle.std.specs.Prelude.{◌≡◌, ℕ, ◌-◌, Bool, true, false, ◌==◌, ◌&&◌, ◌||◌, List, [], ◌∷◌, Option, Some, None, is_none}
+use Rattle.std.specs.Prelude.{◌≡◌, ℕ, ◌-◌, Bool, true, false, ◌==◌, ◌&&◌, ◌||◌, List, [], ◌∷◌, Option, Some, None}
+use Rattle.std.specs.Prelude.{is_none}
 use Rattle.granit_base.specs.Classes.{is_within, is_digit}
 use Rattle.granit_lexemes.specs.BlockHeader.{Chomping, Strip, Keep, BlockHeader}
 use Rattle.granit_lexemes.specs.BlockMoves.{Breaks}
@@ -42,11 +43,11 @@ pub data HeaderFront (h : Here) : BlockHeader → Here → Type 0 where
       → HeaderFront h once middle
 
 -- what stands behind a header: blanks and a comment, or blanks
-pub data HeaderTail (h : Here) : Option CommentRead → Here → Type 0 where
+pub data LexemeTail (h : Here) : Option CommentRead → Here → Type 0 where
   commented : {after : Here} (b : ℕ) (blanks rest : List ℕ) (c : CommentRead) → BlanksBehind h (b ∷ blanks) rest
-      → starts_comment rest ≡ true → StandsComment (over (b ∷ blanks) h) c after → HeaderTail h (Some c) after
+      → starts_comment rest ≡ true → StandsComment (over (b ∷ blanks) h) c after → LexemeTail h (Some c) after
   uncommented : {after : Here} (blanks rest : List ℕ) → BlanksBehind h blanks rest
-      → starts_comment rest ≡ false → after ≡ over blanks h → HeaderTail h None after
+      → starts_comment rest ≡ false → after ≡ over blanks h → LexemeTail h None after
 
 -- where a line ends: a break, or the end of the text
 pub data LineEnds (h : Here) : (broken : Bool) → Here → Type 0 where

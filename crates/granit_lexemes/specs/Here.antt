@@ -1,5 +1,6 @@
 -- Where a reader stands, what stands before it on its line, and how it moves on.
-use Rattle.std.specs.Prelude.{ℕ, Bool, true, false, ◌==◌, ◌&&◌, ◌||◌, not, if◌then◌else◌, List, [], ◌∷◌, length, take, Option, Some, None}
+use Rattle.std.specs.Prelude.{ℕ, Bool, true, false, ◌==◌, ◌&&◌, ◌||◌, not, if◌then◌else◌, List, [], ◌∷◌, length, take}
+use Rattle.std.specs.Prelude.{Option, Some, None}
 use Rattle.std.specs.List.{prefix_len}
 use Rattle.granit_base.specs.Place.{Place, Mark, Unread, first, past_first, place_after, ends_line}
 
@@ -53,11 +54,18 @@ tab_behind h =
     else if next_char h == 0x09 then first_tab h.tab (mark_of h)
     else h.tab
 
--- one character on, stopping at the end: a break begins a line, blanks keep what was seen of it, another character stands on it (6.1)
+-- one character on, stopping at the end: a break begins a line, blanks keep what was seen of it, another character
+-- stands on it (6.1)
 unfoldable pub step : Here → Here
 step h =
     if length h.unread.text == 0 then h
-    else record { unread = past_first h.unread; place = place_after h.unread.text h.place; begins_line = begins_behind h; tab = tab_behind h }
+    else record {
+      unread = past_first h.unread;
+      place = place_after h.unread.text h.place;
+      begins_line = begins_behind
+          h;
+      tab = tab_behind h;
+    }
 
 -- the same place with something before it on its line, and no tab directly before it
 abbrev pub mid_line : Here → Here

@@ -1,5 +1,6 @@
 -- The printed lines, in UTF-8.
-use Rattle.std.specs.Prelude.{ℕ, Bool, true, false, ◌==◌, ◌&&◌, ◌||◌, nat_le, if◌then◌else◌, List, [], ◌∷◌, ◌++◌, codes, Option, Some, None, Result, Ok, Err}
+use Rattle.std.specs.Prelude.{ℕ, Bool, true, false, ◌==◌, ◌&&◌, ◌||◌, nat_le, if◌then◌else◌, List, [], ◌∷◌, ◌++◌, codes}
+use Rattle.std.specs.Prelude.{Option, Some, None, Result, Ok, Err}
 use Rattle.std.specs.Fmt.{decimal, radix_digits}
 use Rattle.std.specs.List.{flat_map}
 use Rattle.granit_base.specs.Place.{Place}
@@ -12,7 +13,9 @@ use Rattle.granit_base.specs.declared.style.StructureStyle.TheVariants.{Block, F
 use Rattle.granit_error.specs.FaultKind.{fault_number, fault_words}
 use Rattle.granit_error.specs.Refused.{printed_column, place_words}
 use Rattle.granit_lexemes.specs.Outcome.{Fault}
-use Rattle.granit_lexemes.specs.PlainEvent.{PlainEvent, PlainVersion, PlainTag, EventKind, StreamStart, StreamEnd, DocumentStart, DocumentEnd, Alias, Anchor, UnresolvedAlias, Comment, Scalar, SequenceStart, SequenceEnd, MappingStart, MappingEnd}
+use Rattle.granit_lexemes.specs.PlainEvent.{PlainEvent, PlainVersion, PlainTag, EventKind, StreamStart, StreamEnd}
+use Rattle.granit_lexemes.specs.PlainEvent.{DocumentStart, DocumentEnd, Alias, Anchor, UnresolvedAlias, Comment, Scalar}
+use Rattle.granit_lexemes.specs.PlainEvent.{SequenceStart, SequenceEnd, MappingStart, MappingEnd}
 
 -- a character between quotes
 unfoldable pub quoted_char : ℕ → List ℕ
@@ -69,16 +72,21 @@ property_words anchor tag = anchor_words anchor ++ tag_words tag
 abbrev pub event_words : EventKind → List ℕ
 event_words StreamStart = codes "StreamStart"
 event_words StreamEnd = codes "StreamEnd"
-event_words (DocumentStart explicit version) = (codes "DocumentStart " ++ explicit_word explicit) ++ version_words version
+event_words (DocumentStart explicit version) = (codes "DocumentStart " ++ explicit_word explicit)
+    ++ version_words version
 event_words DocumentEnd = codes "DocumentEnd"
 event_words (Alias anchor) = codes "Alias " ++ decimal anchor
 event_words (Anchor anchor name) = ((codes "Anchor " ++ decimal anchor) ++ codes " ") ++ in_quotes name.characters
 event_words (UnresolvedAlias name) = codes "UnresolvedAlias " ++ in_quotes name.characters
-event_words (Comment text placement) = ((codes "Comment " ++ placement_word placement) ++ codes " ") ++ in_quotes text.characters
-event_words (Scalar text style anchor tag) = (((codes "Scalar " ++ style_word style) ++ codes " ") ++ in_quotes text.characters) ++ property_words anchor tag
-event_words (SequenceStart style anchor tag) = (codes "SequenceStart " ++ structure_word style) ++ property_words anchor tag
+event_words (Comment text placement) = ((codes "Comment " ++ placement_word placement) ++ codes " ")
+    ++ in_quotes text.characters
+event_words (Scalar text style anchor tag) = (((codes "Scalar " ++ style_word style) ++ codes " ")
+    ++ in_quotes text.characters) ++ property_words anchor tag
+event_words (SequenceStart style anchor tag) = (codes "SequenceStart " ++ structure_word style)
+    ++ property_words anchor tag
 event_words SequenceEnd = codes "SequenceEnd"
-event_words (MappingStart style anchor tag) = (codes "MappingStart " ++ structure_word style) ++ property_words anchor tag
+event_words (MappingStart style anchor tag) = (codes "MappingStart " ++ structure_word style)
+    ++ property_words anchor tag
 event_words MappingEnd = codes "MappingEnd"
 
 -- `index:line:column`, the column from 1
@@ -87,14 +95,16 @@ place_line p = (((decimal p.index ++ codes ":") ++ decimal p.line) ++ codes ":")
 
 -- the event, a space, its span and a line feed
 unfoldable pub event_line : PlainEvent → List ℕ
-event_line e = ((((event_words e.kind ++ codes " ") ++ place_line e.span.start.place) ++ codes "-") ++ place_line e.span.end.place) ++ codes "\n"
+event_line e = ((((event_words e.kind ++ codes " ") ++ place_line e.span.start.place) ++ codes "-")
+    ++ place_line e.span.end.place) ++ codes "\n"
 
 abbrev pub event_lines : List PlainEvent → List ℕ
 event_lines events = flat_map event_line events
 
 -- `fault N: `, its words and place, and a line feed
 abbrev pub fault_line : Fault → List ℕ
-fault_line f = (((codes "fault " ++ decimal (fault_number f.kind)) ++ codes ": ") ++ (fault_words f.kind ++ place_words f.mark.place)) ++ codes "\n"
+fault_line f = (((codes "fault " ++ decimal (fault_number f.kind)) ++ codes ": ")
+    ++ (fault_words f.kind ++ place_words f.mark.place)) ++ codes "\n"
 
 -- what is printed for an answer of the machine
 abbrev pub answer_lines : Result (List PlainEvent) Fault → List ℕ

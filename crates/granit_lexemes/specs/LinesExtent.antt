@@ -1,6 +1,7 @@
 -- The lines of a block scalar: where its content stands, its empty lines, and its lines of content (YAML 1.2.2,
 -- 8.1.1.1 and 8.1.2).
-use Rattle.std.specs.Prelude.{◌≡◌, ℕ, zero, suc, ◌+◌, max, Bool, true, false, ◌==◌, ◌&&◌, ◌||◌, not, List, [], ◌∷◌, Option, Some, None}
+use Rattle.std.specs.Prelude.{◌≡◌, ℕ, zero, suc, ◌+◌, max, Bool, true, false, ◌==◌, ◌&&◌, ◌||◌, not, List, [], ◌∷◌}
+use Rattle.std.specs.Prelude.{Option, Some, None}
 use Rattle.granit_base.specs.Classes.{is_break, is_printable}
 use Rattle.granit_lexemes.specs.Basics.{is_document_mark}
 use Rattle.granit_lexemes.specs.BlockHeader.{margin_of, outer_of, greatest}
@@ -47,8 +48,8 @@ pub record IsLine (column : ℕ) (h : Here) (cs : List ℕ) (after : Here) : Typ
   pub is_at : h.place.column ≡ column
   pub no_mark : (column == 0 && is_document_mark h.unread.text) ≡ false
 
--- What stands behind a line of content, and so many empty lines in it: its break, empty lines and the spaces of the next
--- line; or the end.
+-- What stands behind a line of content, and so many empty lines in it: its break, empty lines and the spaces of the
+-- next line; or the end.
 pub data BehindLine (column : ℕ) (h : Here) : Here → ℕ → Type 0 where
   by_break : {i after : Here} {k : ℕ} → Breaks h i → Empties column i after k → BehindLine column h after k
   by_end : h.unread.text ≡ [] → BehindLine column h h zero

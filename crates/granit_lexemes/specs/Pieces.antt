@@ -5,7 +5,8 @@ use Rattle.granit_lexemes.specs.Outcome.{Fault, ◌>>=◌}
 abbrev pub with_front : {S A : Type 0} → List A → Result (List A × S) Fault → Result (List A × S) Fault
 with_front front given = given >>= λ x. Ok (front ++ x.0, x.1)
 
-abbrev pub then_more : {S A : Type 0} → (S → Result (List A × S) Fault) → Option (List A) → S → Result (List A × S) Fault
+abbrev pub then_more : {S A : Type 0} → (S → Result (List A × S) Fault) → Option (List A) → S
+    → Result (List A × S) Fault
 then_more more None s = Ok ([], s)
 then_more more (Some piece) s = with_front piece (more s)
 
@@ -15,7 +16,8 @@ turns turn zero s = Ok ([], s)
 turns turn (suc n) s = turn s >>= λ x. then_more (turns turn n) x.0 x.1
 
 -- as many turns as the size of the state says, and one more
-unfoldable pub pieces : {S A : Type 0} → (S → ℕ) → (S → Result (Option (List A) × S) Fault) → S → Result (List A × S) Fault
+unfoldable pub pieces : {S A : Type 0} → (S → ℕ) → (S → Result (Option (List A) × S) Fault) → S
+    → Result (List A × S) Fault
 pieces size turn s = turns turn (suc (size s)) s
 
 -- each turn but the last makes the state smaller

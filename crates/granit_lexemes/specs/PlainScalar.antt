@@ -1,7 +1,9 @@
 -- A plain scalar, read character by character (YAML 1.2.2, 7.3.3 and 6.5).
-use Rattle.std.specs.Prelude.{ℕ, ◌==◌, Bool, true, false, ◌&&◌, ◌||◌, not, if◌then◌else◌, List, [], ◌∷◌, ◌++◌, length, slice_index, Option, Some, None, Result, Ok}
-use Rattle.granit_base.specs.Classes.{is_blank, is_break, is_z, is_blank_or_breakz, is_flow, is_printable}
-use Rattle.granit_base.specs.Place.{Mark, first}
+use Rattle.std.specs.Prelude.{ℕ, ◌==◌, Bool, true, false, ◌&&◌, ◌||◌, not, if◌then◌else◌, List, [], ◌∷◌, ◌++◌, length}
+use Rattle.std.specs.Prelude.{slice_index, Option, Some, None, Result, Ok}
+use Rattle.granit_base.specs.Classes.{is_blank, is_break, is_z, is_flow, is_printable}
+use Rattle.granit_base.specs.Place.{Mark}
+use Rattle.granit_base.specs.PlainContent.{is_content}
 use Rattle.granit_base.specs.Written.{Written}
 use Rattle.granit_error.specs.FaultKind.{PlainScalarStartsWithDashFlowIndicator, TabInPlainScalar, UnexpectedCharacter}
 use Rattle.granit_lexemes.specs.Basics.{fails_at, past_break, is_document_mark, unprintable, only_printable, owned}
@@ -32,26 +34,29 @@ pub record PlainRead : Type 0 where
   -- whether a break was read behind the scalar
   pub on_new_line : Bool
 
--- whether a character, with the next one behind it, doesn't end a plain scalar as an indicator
-abbrev pub can_be_plain : Bool → ℕ → ℕ → Bool
-can_be_plain in_flow c next = not (c == 0x3A && (is_blank_or_breakz next || (in_flow && is_flow next))) && not (in_flow && is_flow c)
-
--- whether a plain scalar takes the first character of a text as content
-abbrev pub is_content : Bool → List ℕ → Bool
-is_content in_flow text = not (is_blank_or_breakz (first text)) && can_be_plain in_flow (first text) (slice_index text 1)
-
 -- what stands for the blanks and breaks between two characters of content: one break gives a space
 abbrev pub between : PlainState → List ℕ
 between s = if s.on_new_line && length s.pending == 0 then 0x20 ∷ [] else s.pending
 
 -- a character of content on
 unfoldable pub on_content : PlainState → PlainState
-on_content s = record { here = step s.here; end = mark_of (step s.here); pending = []; on_new_line = false; left_tab = false }
+on_content s = record {
+  here = step s.here;
+  end = mark_of (step s.here);
+  pending = [];
+  on_new_line = false;
+  left_tab =
+      false;
+}
 
 -- a blank on, which is dropped where it begins a line
 unfoldable pub on_blank : LayoutData → PlainState → PlainState
 on_blank at s =
-    if s.on_new_line then record s { here = step s.here; left_tab = s.left_tab || (next_char s.here == 0x09 && is_left at.block_column s.here.place.column) }
+    if s.on_new_line then record s {
+      here = step s.here;
+      left_tab = s.left_tab
+          || (next_char s.here == 0x09 && is_left at.block_column s.here.place.column);
+    }
     else record s { here = step s.here; pending = s.pending ++ next_char s.here ∷ [] }
 
 -- a break on: blanks before the first are dropped, and each further one is an empty line
@@ -60,13 +65,15 @@ on_break s =
     if s.on_new_line then record s { here = past_break s.here; pending = s.pending ++ 0x0A ∷ []; left_tab = false }
     else record s { here = past_break s.here; pending = []; on_new_line = true }
 
--- whether a comment cuts the scalar short: its `#` stands behind blanks on a line of content, or on a later line behind such a tab
+-- whether a comment cuts the scalar short: its `#` stands behind blanks on a line of content, or on a later line behind
+-- such a tab
 abbrev pub meets_comment : PlainState → Bool
 meets_comment s = next_char s.here == 0x23 && (s.left_tab || (not s.on_new_line && not (length s.pending == 0)))
 
 -- whether a line that begins here is no part of the scalar
 abbrev pub ends_before_line : LayoutData → Here → Bool
-ends_before_line at h = (next_char h == 0x23 || is_outside at h.place.column) || (h.place.column == 0 && is_document_mark h.unread.text)
+ends_before_line at h = (next_char h == 0x23 || is_outside at h.place.column)
+    || (h.place.column == 0 && is_document_mark h.unread.text)
 
 -- the next character, which the scalar takes or ends before; such a tab is refused where content follows
 unfoldable pub plain_turn : LayoutData → Mark → PlainState → Result (Option (List ℕ) × PlainState) Fault
@@ -100,12 +107,14 @@ plain_read at start value s = record {
 -- behind the scalar, its blanks and breaks, where no unprintable character may stand
 unfoldable pub behind_plain : LayoutData → Mark → List ℕ → PlainState → Result (PlainRead × Here) Fault
 behind_plain at start value s =
-    if not (text_len s.here == 0) && not (is_printable (next_char s.here)) then fails_at (UnexpectedCharacter (next_char s.here)) (mark_of s.here)
+    if not (text_len s.here == 0) && not (is_printable (next_char s.here)) then fails_at
+    (UnexpectedCharacter (next_char s.here)) (mark_of s.here)
     else Ok (plain_read at start value s, s.here)
 
 -- the plain scalar that begins here, and where reading then stands: behind it, its blanks and its breaks
 unfoldable pub plain_scalar : LayoutData → Here → Result (PlainRead × Here) Fault
 plain_scalar at h =
-    if at.in_flow && (next_char h == 0x2D && is_flow (slice_index h.unread.text 1)) then fails_at PlainScalarStartsWithDashFlowIndicator (mark_of h)
+    if at.in_flow && (next_char h == 0x2D && is_flow (slice_index h.unread.text 1)) then fails_at
+    PlainScalarStartsWithDashFlowIndicator (mark_of h)
     else pieces plain_len (plain_turn at (mark_of h)) (plain_start h) >>= λ x.
     only_printable (unprintable x.0) (mark_of h) (behind_plain at (mark_of h) x.0 x.1)

@@ -1,12 +1,18 @@
 -- A quoted scalar over any number of lines, read character by character (YAML 1.2.2, 7.3.1, 7.3.2, 6.5 and 5.7).
-use Rattle.std.specs.Prelude.{ℕ, zero, suc, ◌+◌, ◌*◌, ◌==◌, Bool, true, false, ◌&&◌, ◌||◌, not, if◌then◌else◌, nat_lt, List, [], ◌∷◌, ◌++◌, length, slice_index, Option, Some, None, Result, Ok}
+use Rattle.std.specs.Prelude.{ℕ, zero, suc, ◌+◌, ◌*◌, ◌==◌, Bool, true, false, ◌&&◌, ◌||◌, not, if◌then◌else◌, nat_lt}
+use Rattle.std.specs.Prelude.{List, [], ◌∷◌, ◌++◌, length, slice_index, Option, Some, None, Result, Ok}
 use lib.Utf8.{scalar}
 use Rattle.granit_base.specs.Classes.{is_blank, is_break, is_hex, hex_value, is_printable}
 use Rattle.granit_base.specs.Place.{Mark, first}
 use Rattle.granit_base.specs.Written.{Written}
 use Rattle.granit_base.specs.declared.style.ScalarStyle.{ScalarStyle}
 use Rattle.granit_base.specs.declared.style.ScalarStyle.TheVariants.{SingleQuoted, DoubleQuoted}
-use Rattle.granit_error.specs.FaultKind.{FaultKind, InvalidIndentation, UnclosedQuotedScalar, DocumentIndicatorInQuotedScalar, TabInIndentation, InvalidQuotedScalarIndent, InvalidTrailingSingleQuotedScalar, InvalidTrailingDoubleQuotedScalar, UnknownQuotedScalarEscape, InvalidQuotedScalarHexEscape, MissingLowSurrogate, InvalidLowSurrogateHexEscape, InvalidLowSurrogate, UnpairedLowSurrogate, InvalidUnicodeEscape, CommentNotSeparated, UnexpectedCharacter}
+use Rattle.granit_error.specs.FaultKind.{FaultKind, InvalidIndentation, UnclosedQuotedScalar}
+use Rattle.granit_error.specs.FaultKind.{DocumentIndicatorInQuotedScalar, TabInIndentation, InvalidQuotedScalarIndent}
+use Rattle.granit_error.specs.FaultKind.{InvalidTrailingSingleQuotedScalar, InvalidTrailingDoubleQuotedScalar}
+use Rattle.granit_error.specs.FaultKind.{UnknownQuotedScalarEscape, InvalidQuotedScalarHexEscape, MissingLowSurrogate}
+use Rattle.granit_error.specs.FaultKind.{InvalidLowSurrogateHexEscape, InvalidLowSurrogate, UnpairedLowSurrogate}
+use Rattle.granit_error.specs.FaultKind.{InvalidUnicodeEscape, CommentNotSeparated, UnexpectedCharacter}
 use Rattle.granit_lexemes.specs.Comment.{CommentRead, comment}
 use Rattle.granit_lexemes.specs.Decoding.{letter_value, digit_count, is_high, is_low, joined}
 use Rattle.granit_lexemes.specs.Here.{Here, text_len, next_char, mark_of, step, past}
@@ -77,7 +83,8 @@ numbered_or start count n h =
 
 abbrev pub escape_or_by : Mark → Option ℕ → Option ℕ → Here → Result (ℕ × Here) Fault
 escape_or_by start (Some c) count h = Ok (c, step h)
-escape_or_by start None (Some count) h = digits_or InvalidQuotedScalarHexEscape start count 0 (step h) >>= λ x. numbered_or start count x.0 x.1
+escape_or_by start None (Some count) h = digits_or InvalidQuotedScalarHexEscape start count 0 (step h) >>=
+    λ x. numbered_or start count x.0 x.1
 escape_or_by start None None h = fails_at UnknownQuotedScalarEscape start
 
 -- an escape, from its letter on
@@ -96,7 +103,8 @@ is_strictly_left at escaped column = (at.strict && (at.in_flow || escaped)) && i
 
 -- left of its block outside flow; the closing quote may stand there, unless indentation is strict
 unfoldable pub is_loosely_left : LayoutData → Bool → Bool → ℕ → Bool
-is_loosely_left at escaped closing column = (not (at.in_flow || escaped) && (at.strict || not closing)) && is_left at.block_column column
+is_loosely_left at escaped closing column = (not (at.in_flow || escaped) && (at.strict || not closing))
+    && is_left at.block_column column
 
 -- ---- a turn
 
@@ -135,14 +143,19 @@ quoted_content single start s =
 unfoldable pub quoted_turn : Bool → LayoutData → Mark → QuotedState → Result (Option (List ℕ) × QuotedState) Fault
 quoted_turn single at start s =
     if is_blank (next_char s.here) then
-    (if s.on_new_line && (next_char s.here == 0x09 && is_tab_left at s.here.place.column) then fails_at TabInIndentation (mark_of s.here)
+    (if s.on_new_line && (next_char s.here == 0x09 && is_tab_left at s.here.place.column) then fails_at TabInIndentation
+    (mark_of s.here)
     else Ok (Some [], over_blank s))
     else if is_break (next_char s.here) then Ok (Some [], over_break s)
-    else if s.on_new_line && is_strictly_left at s.escaped s.here.place.column then fails_at InvalidIndentation (mark_of s.here)
-    else if s.on_new_line && is_loosely_left at s.escaped (is_closing single s.here.unread.text) s.here.place.column then fails_at InvalidQuotedScalarIndent (mark_of s.here)
-    else if s.on_new_line && (s.here.place.column == 0 && is_document_mark s.here.unread.text) then fails_at DocumentIndicatorInQuotedScalar start
+    else if s.on_new_line && is_strictly_left at s.escaped s.here.place.column then fails_at InvalidIndentation
+    (mark_of s.here)
+    else if s.on_new_line && is_loosely_left at s.escaped (is_closing single s.here.unread.text) s.here.place.column
+    then fails_at InvalidQuotedScalarIndent (mark_of s.here)
+    else if s.on_new_line && (s.here.place.column == 0 && is_document_mark s.here.unread.text) then fails_at
+    DocumentIndicatorInQuotedScalar start
     else if text_len s.here == 0 then fails_at UnclosedQuotedScalar start
-    else if not (is_printable (next_char s.here)) then fails_at (UnexpectedCharacter (next_char s.here)) (mark_of s.here)
+    else if not (is_printable (next_char s.here)) then fails_at (UnexpectedCharacter (next_char s.here))
+    (mark_of s.here)
     else if is_closing single s.here.unread.text then Ok (None, s)
     else quoted_content single start s
 
@@ -168,14 +181,16 @@ trailing_kind false = InvalidTrailingDoubleQuotedScalar
 
 -- whether a character may follow the scalar and its blanks, where it began on this line or not
 unfoldable pub may_trail : LayoutData → Bool → ℕ → Bool
-may_trail at on_line c = (is_break c || (at.in_flow && ((c == 0x2C || c == 0x3A) || (c == 0x5D || c == 0x7D)))) || (on_line && c == 0x3A)
+may_trail at on_line c = (is_break c || (at.in_flow && ((c == 0x2C || c == 0x3A) || (c == 0x5D || c == 0x7D))))
+    || (on_line && c == 0x3A)
 
 -- behind the closing quote and blanks, where no comment begins
 unfoldable pub behind_quoted : Bool → LayoutData → Mark → List ℕ → Mark → Here → Result (QuotedRead × Here) Fault
 behind_quoted single at start value end h =
     if text_len h == 0 then Ok (quoted_read single start value end None, h)
     else if not (is_printable (next_char h)) then fails_at (UnexpectedCharacter (next_char h)) (mark_of h)
-    else if may_trail at (h.place.line == start.place.line) (next_char h) then Ok (quoted_read single start value end None, h)
+    else if may_trail at (h.place.line == start.place.line) (next_char h) then Ok
+    (quoted_read single start value end None, h)
     else fails_at (trailing_kind single) (mark_of h)
 
 -- behind the closing quote: a comment, which blanks part from it, or what may follow
@@ -190,7 +205,8 @@ quoted_tail single at start value h =
 abbrev pub quoted_rest : Bool → LayoutData → Mark → QuotedState → Result (List ℕ × QuotedState) Fault
 quoted_rest single at start s = pieces quoted_len (quoted_turn single at start) s
 
--- the quoted scalar that begins here with its quote, and where reading then stands: behind it, its blanks, and a comment on its last line
+-- the quoted scalar that begins here with its quote, and where reading then stands: behind it, its blanks, and a
+-- comment on its last line
 unfoldable pub quoted_scalar : (single : Bool) → LayoutData → Here → Result (QuotedRead × Here) Fault
 quoted_scalar single at h =
     quoted_rest single at (mark_of h) (quoted_at false (step h)) >>= λ x.

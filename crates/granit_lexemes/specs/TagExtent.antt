@@ -1,10 +1,14 @@
 -- How far a tag goes, what it spells, and what is refused at it (YAML 1.2.2, 6.9.1 and 5.6).
-use Rattle.std.specs.Prelude.{◌≡◌, ◌≢◌, ℕ, ◌+◌, ◌*◌, ◌<◌, Bool, true, false, ◌==◌, ◌&&◌, ◌||◌, List, [], ◌∷◌, ◌++◌, length, slice_index, Some, None}
+use Rattle.std.specs.Prelude.{◌≡◌, ◌≢◌, ℕ, ◌+◌, ◌*◌, ◌<◌, Bool, true, false, ◌==◌, ◌&&◌, ◌||◌, List, [], ◌∷◌, ◌++◌}
+use Rattle.std.specs.Prelude.{length, slice_index, Some, None}
 use Rattle.std.specs.Str.{encode_utf8_all}
 use lib.Utf8.{scalars, scalar, encode}
-use Rattle.granit_base.specs.Classes.{is_within, is_hex, hex_value, is_alpha, is_uri_char, is_tag_char, is_blank_or_breakz}
+use Rattle.granit_base.specs.Classes.{is_within, is_hex, hex_value, is_alpha, is_uri_char, is_tag_char}
+use Rattle.granit_base.specs.Classes.{is_blank_or_breakz}
 use Rattle.granit_base.specs.Place.{Mark, first}
-use Rattle.granit_error.specs.FaultKind.{FaultKind, InvalidTagEscape, InvalidTagUtf8LeadingByte, InvalidTagUtf8TrailingByte, InvalidTagUtf8, MissingTagUri, UnclosedVerbatimTag, InvalidTagTerminator}
+use Rattle.granit_error.specs.FaultKind.{FaultKind, InvalidTagEscape, InvalidTagUtf8LeadingByte}
+use Rattle.granit_error.specs.FaultKind.{InvalidTagUtf8TrailingByte, InvalidTagUtf8, MissingTagUri, UnclosedVerbatimTag}
+use Rattle.granit_error.specs.FaultKind.{InvalidTagTerminator}
 use Rattle.granit_lexemes.specs.Gap.{Each}
 use Rattle.granit_lexemes.specs.Here.{Here, mark_of}
 use Rattle.granit_lexemes.specs.PlainExtent.{over}

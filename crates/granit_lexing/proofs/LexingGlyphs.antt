@@ -8,9 +8,12 @@ use Rattle.granit_base.specs.Place.{first}
 use Rattle.granit_base.specs.Written.{Written}
 use Rattle.granit_flow.specs.Content.{Content, UriBytes}
 use Rattle.granit_lexemes.specs.Gap.{Each}
-use Rattle.granit_flow.specs.Lexeme.{LexemeKind, DocumentStart, SequenceOpen, SequenceClose, MappingOpen, MappingClose, Comma, Question, Colon, Tag, Anchor, Alias, Scalar}
-use Rattle.granit_flow.specs.Start.{Glyph, Dash, DoubleQuote, LeftSquare, RightSquare, LeftCurly, RightCurly, CommaSign, QuestionSign, ColonSign, Exclamation, Ampersand, Asterisk, Foreign, glyph}
-use Rattle.granit_flow.specs.Extent.{Spells, dashes, left_square, right_square, left_curly, right_curly, comma, question, colon, verbatim, anchor, alias, quoted}
+use Rattle.granit_flow.specs.Lexeme.{LexemeKind, DocumentStart, SequenceOpen, SequenceClose, MappingOpen, MappingClose}
+use Rattle.granit_flow.specs.Lexeme.{Comma, Question, Colon, Tag, Anchor, Alias, Scalar}
+use Rattle.granit_flow.specs.Start.{Glyph, Dash, DoubleQuote, LeftSquare, RightSquare, LeftCurly, RightCurly, CommaSign}
+use Rattle.granit_flow.specs.Start.{QuestionSign, ColonSign, Exclamation, Ampersand, Asterisk, Foreign, glyph}
+use Rattle.granit_flow.specs.Extent.{Spells, dashes, left_square, right_square, left_curly, right_curly, comma}
+use Rattle.granit_flow.specs.Extent.{question, colon, verbatim, anchor, alias, quoted}
 use Rattle.granit_lexing.proofs.LexingRuns.{Ends}
 
 pub dash_is : (c : ℕ) → glyph c ≡ Dash → c ≡ 0x2D
@@ -139,7 +142,8 @@ Named kind sign k cs = (name : List ℕ) × IsName name × (k ≡ kind (lent nam
 abbrev pub Shape : LexemeKind → List ℕ → Glyph → Type 0
 Shape k cs Dash = (k ≡ DocumentStart) × (cs ≡ 0x2D ∷ 0x2D ∷ 0x2D ∷ [])
 Shape k cs DoubleQuote = (content : List ℕ) × (value : List ℕ) × Content content value × (cs ≡ quotes content)
-Shape k cs Exclamation = (uri : List ℕ) × (bytes : List ℕ) × (suffix : List ℕ) × Spelling uri bytes suffix × (cs ≡ verbatim_of uri)
+Shape k cs Exclamation = (uri : List ℕ) × (bytes : List ℕ) × (suffix : List ℕ) × Spelling uri bytes suffix
+    × (cs ≡ verbatim_of uri)
 Shape k cs Ampersand = Named Anchor 0x26 k cs
 Shape k cs Asterisk = Named Alias 0x2A k cs
 Shape k cs Foreign = ⊥
@@ -154,17 +158,21 @@ shaped right_curly = tt
 shaped comma = tt
 shaped question = tt
 shaped colon = tt
-shaped (verbatim {uri = uri} {bytes = bytes} {suffix = suffix} p n s e) = (uri, bytes, suffix, record { uri_bytes = p; some = n; scalar = s; encodes = e }, refl)
+shaped (verbatim {uri = uri} {bytes = bytes} {suffix = suffix} p n s e) =
+    (uri, bytes, suffix, record { uri_bytes = p; some = n; scalar = s; encodes = e }, refl)
 shaped (anchor {name = name} p n) = (name, record { each = p; some = n }, refl, refl)
 shaped (alias {name = name} p n) = (name, record { each = p; some = n }, refl, refl)
 shaped (quoted {content = content} {value = value} q) = (content, value, q, refl)
 
 -- what begins with a character that is taken for something has its shape
-pub shape_of : {k : LexemeKind} {cs : List ℕ} (behind : List ℕ) (c : ℕ) (t : List ℕ) (g : Glyph) → Spells k cs → cs ++ behind ≡ c ∷ t → glyph c ≡ g → Shape k cs g
-shape_of {k = k} {cs = cs} behind c t g s e h = subst (Shape k cs) (sym (starts behind s) ∙ ap (λ (l : List ℕ). glyph (first l)) e ∙ h) (shaped s)
+pub shape_of : {k : LexemeKind} {cs : List ℕ} (behind : List ℕ) (c : ℕ) (t : List ℕ) (g : Glyph) → Spells k cs
+    → cs ++ behind ≡ c ∷ t → glyph c ≡ g → Shape k cs g
+shape_of {k = k} {cs = cs} behind c t g s e h = subst (Shape k cs)
+    (sym (starts behind s) ∙ ap (λ (l : List ℕ). glyph (first l)) e ∙ h) (shaped s)
 
 -- a lexeme has a character
-pub not_nothing : {k : LexemeKind} {cs : List ℕ} (behind : List ℕ) → Spells k cs → (c : ℕ) × (t : List ℕ) × (cs ++ behind ≡ c ∷ t)
+pub not_nothing : {k : LexemeKind} {cs : List ℕ} (behind : List ℕ) → Spells k cs
+    → (c : ℕ) × (t : List ℕ) × (cs ++ behind ≡ c ∷ t)
 not_nothing behind dashes = (_, _, refl)
 not_nothing behind left_square = (_, _, refl)
 not_nothing behind right_square = (_, _, refl)

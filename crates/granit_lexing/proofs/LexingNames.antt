@@ -1,5 +1,6 @@
 -- What is read behind `&` and `*`: the name that stands there, or a refusal where none does.
-use Rattle.std.proofs.Common.{◌≡◌, ◌≢◌, ℕ, suc, ◌+◌, ◌==◌, false, List, [], ◌∷◌, ◌++◌, length, drop, refl, ap, ap₂, ◌∙◌, ◌⊎◌, inl, inr}
+use Rattle.std.proofs.Common.{◌≡◌, ◌≢◌, ℕ, suc, ◌+◌, ◌==◌, false, List, [], ◌∷◌, ◌++◌, length, drop, refl, ap, ap₂, ◌∙◌}
+use Rattle.std.proofs.Common.{◌⊎◌, inl, inr}
 use Rattle.std.specs.Prelude.{if◌then◌else◌}
 use Rattle.std.proofs.lemmas.Bool.{cond-false}
 use Rattle.granit_base.specs.Classes.{is_anchor_char, is_yaml_non_space, is_yaml_non_break, is_printable, is_break}
@@ -37,7 +38,8 @@ pub record NameAt (x : List ℕ) (j sign : ℕ) : Type 0 where
   pub is_name : IsName name
   pub ends : is_anchor_char (first behind) ≡ false
 
-module _ (kind : Written → LexemeKind) (x : List ℕ) (j : ℕ) (os : List Opener) (c : ℕ) (t : List ℕ) (e : drop j x ≡ c ∷ t) where
+module _ (kind : Written → LexemeKind) (x : List ℕ) (j : ℕ) (os : List Opener) (c : ℕ) (t : List ℕ)
+    (e : drop j x ≡ c ∷ t) where
   -- what the reader gives, from the index behind the sign on
   abbrev name_from : Here → Read
   name_from h =
@@ -52,19 +54,31 @@ module _ (kind : Written → LexemeKind) (x : List ℕ) (j : ℕ) (os : List Ope
     behind_sign : drop (suc j) x ≡ f ++ b
     behind_sign = rest_behind x j c t e ∙ w
 
-    named_run : named kind os (here_at x j) ≡ (if length f == 0 then refuse NotBuilt (here_at x j) else lexed (kind (lent f)) (here_at x j) (here_at x (j + suc (length f))) os)
+    named_run : named kind os (here_at x j) ≡ (if length f == 0 then refuse NotBuilt (here_at x j) else lexed
+        (kind (lent f)) (here_at x j) (here_at x (j + suc (length f))) os)
     named_run =
         named_from
-        ∙ ap (λ m. if m == 0 then refuse NotBuilt (here_at x j) else lexed (kind (lent (chunk is_anchor_char (here_at x (suc j))))) (here_at x j) (past_chunk is_anchor_char (here_at x (suc j))) os)
+        ∙ ap (λ m. if m == 0 then refuse NotBuilt (here_at x j) else lexed
+        (kind (lent (chunk is_anchor_char (here_at x (suc j))))) (here_at x j)
+        (past_chunk is_anchor_char (here_at x (suc j))) os)
         (chunk_len_is is_anchor_char f b x (suc j) behind_sign p n)
-        ∙ ap₂ (λ (cs : List ℕ) h. if length f == 0 then refuse NotBuilt (here_at x j) else lexed (kind (lent cs)) (here_at x j) h os)
+        ∙ ap₂ (λ (cs : List ℕ) h. if length f == 0 then refuse NotBuilt (here_at x j) else lexed (kind (lent cs))
+        (here_at x j) h os)
         (chunk_is is_anchor_char f b x (suc j) behind_sign p n)
         (past_chunk_is is_anchor_char name_no_break f b x (suc j) behind_sign p n ∙ ap (here_at x) (along j (length f)))
 
-  name_or_none : (f b : List ℕ) → t ≡ f ++ b → Each is_anchor_char f → Ends is_anchor_char b → NameAt x j c ⊎ (named kind os (here_at x j) ≡ refuse NotBuilt (here_at x j))
+  name_or_none : (f b : List ℕ) → t ≡ f ++ b → Each is_anchor_char f → Ends is_anchor_char b
+      → NameAt x j c ⊎ (named kind os (here_at x j) ≡ refuse NotBuilt (here_at x j))
   name_or_none [] b w p n = inr (named_run [] b w p n)
   name_or_none (d ∷ f) b w p n =
-      inl (record { name = d ∷ f; behind = b; stands = e ∙ ap (λ (l : List ℕ). c ∷ l) w; is_name = record { each = p; some = λ q. cc }; ends = name_ends b n })
+      inl (record {
+        name = d ∷ f;
+        behind = b;
+        stands = e
+            ∙ ap (λ (l : List ℕ). c ∷ l) w;
+        is_name = record { each = p; some = λ q. cc };
+        ends = name_ends b n;
+      })
 
   -- a name stands behind a sign, or what is there is refused
   pub named_or : NameAt x j c ⊎ (named kind os (here_at x j) ≡ refuse NotBuilt (here_at x j))
@@ -75,7 +89,9 @@ some_length [] n = absurd (n refl)
 some_length (c ∷ f) n = not_empty c f
 
 -- a name that stands at an index is read
-pub named_is : (kind : Written → LexemeKind) (x : List ℕ) (j sign : ℕ) (os : List Opener) (n : NameAt x j sign) → named kind os (here_at x j) ≡ lexed (kind (lent n.name)) (here_at x j) (here_at x (j + length (sign ∷ n.name))) os
+pub named_is : (kind : Written → LexemeKind) (x : List ℕ) (j sign : ℕ) (os : List Opener) (n : NameAt x j sign)
+    → named kind os (here_at x j) ≡ lexed (kind (lent n.name)) (here_at x j) (here_at x (j + length (sign ∷ n.name))) os
 named_is kind x j sign os n =
-    named_run kind x j os sign (n.name ++ n.behind) n.stands n.name n.behind refl n.is_name.each (ends_name n.behind n.ends)
+    named_run kind x j os sign (n.name ++ n.behind) n.stands n.name n.behind refl n.is_name.each
+    (ends_name n.behind n.ends)
     ∙ cond-false (length n.name == 0) _ _ (some_length n.name n.is_name.some)

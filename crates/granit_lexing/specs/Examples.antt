@@ -4,7 +4,11 @@ use Rattle.granit_base.specs.Place.{Mark}
 use Rattle.granit_error.specs.OptionsData.{OptionsData, default_options}
 
 abbrev pub mark : ℕ → ℕ → ℕ → ℕ → Mark
-mark index line column bytes = record { place = record { index = index; line = line; column = column }; byte_offset = Some bytes }
+mark index line column bytes = record {
+  place = record { index = index; line = line; column = column };
+  byte_offset =
+      Some bytes;
+}
 
 -- `a` LF `b` CR `c` CR LF and characters of two, three and four bytes
 abbrev pub lines_text : List ℕ

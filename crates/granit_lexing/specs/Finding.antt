@@ -1,10 +1,12 @@
 -- What the plain machine's reader finds from an index on, said of the text.
-use Rattle.std.specs.Prelude.{◌≡◌, ◌≢◌, ℕ, ◌+◌, ◌<◌, ◌≤◌, true, false, List, [], ◌∷◌, ◌++◌, length, drop, ◌⊎◌, Some, None, Ok, Err}
+use Rattle.std.specs.Prelude.{◌≡◌, ◌≢◌, ℕ, ◌+◌, ◌<◌, ◌≤◌, true, false, List, [], ◌∷◌, ◌++◌, length, drop, ◌⊎◌, Some}
+use Rattle.std.specs.Prelude.{None, Ok, Err}
 use Rattle.granit_base.specs.Place.{Mark, first}
 use Rattle.granit_base.specs.Classes.{is_gap, is_blank_or_breakz}
 use Rattle.granit_error.specs.FaultKind.{FaultKind, UnclosedFlowCollection, RecursionLimitExceeded, NotBuilt}
 use Rattle.granit_error.specs.OptionsData.{OptionsData}
-use Rattle.granit_flow.specs.Lexeme.{Lexeme, LexemeKind, DocumentStart, SequenceClose, MappingClose, Bracket, Square, Curly, Opener, opener_char}
+use Rattle.granit_flow.specs.Lexeme.{Lexeme, LexemeKind, DocumentStart, SequenceClose, MappingClose, Bracket, Square}
+use Rattle.granit_flow.specs.Lexeme.{Curly, Opener, opener_char}
 use Rattle.granit_lexemes.specs.Place.{place_of, mark_at}
 use Rattle.granit_lexemes.specs.Gap.{StandsAt, IsGap, Parts}
 use Rattle.granit_flow.specs.Extent.{IsLexeme}
@@ -83,12 +85,13 @@ pub data Strange (x : List ℕ) (b : Before) (gap : List ℕ) (j : ℕ) : Type 0
   -- no gap, where one is wanted
   no_gap : b.owes_gap ≡ true → gap ≡ [] → Strange x b gap j
   -- a closer that closes nothing, or another bracket
-  misfit : (l : Lexeme) (spelling behind : List ℕ) → IsLexeme x j l spelling behind → Misfits l.kind b.openers → Strange x b gap j
+  misfit : (l : Lexeme) (spelling behind : List ℕ) → IsLexeme x j l spelling behind → Misfits l.kind b.openers
+      → Strange x b gap j
   -- what begins no lexeme
   foreign : ((l : Lexeme) (spelling behind : List ℕ) → IsLexeme x j l spelling behind → ⊥) → Strange x b gap j
 
--- Behind a gap a character stands that no lexeme can be read from here, and no document mark stands there: this, where the
--- gap that is wanted is missing, only unless it is in column 0.
+-- Behind a gap a character stands that no lexeme can be read from here, and no document mark stands there: this, where
+-- the gap that is wanted is missing, only unless it is in column 0.
 pub record FindsStrange (x : List ℕ) (i : ℕ) (b : Before) (m : Mark) : Type 0 where
   pub gap : List ℕ
   pub behind : List ℕ

@@ -15,5 +15,7 @@ pub fn the_kept_place_is_counted()
 
 /// Places behind LF, CR and CR LF, behind characters of two, three and four bytes, and at the end.
 pub fn places_of_the_examples()
-    ensures { map (mark_at lines_text) (0 ∷ 1 ∷ 2 ∷ 3 ∷ 4 ∷ 5 ∷ 6 ∷ 7 ∷ 8 ∷ 9 ∷ 10 ∷ []) ≡ mark 0 1 0 0 ∷ mark 1 1 1 1 ∷ mark 2 2 0 2 ∷ mark 3 2 1 3 ∷ mark 4 3 0 4 ∷ mark 5 3 1 5 ∷ mark 6 3 2 6 ∷ mark 7 4 0 7 ∷ mark 8 4 1 9 ∷ mark 9 4 2 12 ∷ mark 10 4 3 16 ∷ [] }
+    ensures { map (mark_at lines_text) (0 ∷ 1 ∷ 2 ∷ 3 ∷ 4 ∷ 5 ∷ 6 ∷ 7 ∷ 8 ∷ 9 ∷ 10 ∷ [])
+        ≡ mark 0 1 0 0 ∷ mark 1 1 1 1 ∷ mark 2 2 0 2 ∷ mark 3 2 1 3 ∷ mark 4 3 0 4 ∷ mark 5 3 1 5 ∷ mark 6 3 2 6
+        ∷ mark 7 4 0 7 ∷ mark 8 4 1 9 ∷ mark 9 4 2 12 ∷ mark 10 4 3 16 ∷ [] }
 {}

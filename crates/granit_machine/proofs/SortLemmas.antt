@@ -2,12 +2,16 @@
 use Rattle.std.proofs.Common.{◌≡◌, ℕ, ◌==◌, ◌&&◌, ◌||◌, Bool, true, false, not, refl, sym, ap, arith}
 use Rattle.std.specs.Prelude.{if◌then◌else◌, slice_index}
 use Rattle.std.proofs.lemmas.Bool.Decides.{nat_tests}
-use Rattle.granit_base.specs.Classes.{is_blank, is_break, is_z, is_breakz, is_blank_or_breakz, is_gap, is_flow, is_printable, is_bom}
+use Rattle.granit_base.specs.Classes.{is_blank, is_break, is_z, is_breakz, is_blank_or_breakz, is_gap, is_flow}
+use Rattle.granit_base.specs.Classes.{is_printable, is_bom}
 use Rattle.granit_lexemes.specs.Basics.{is_document_mark}
 use Rattle.granit_lexemes.specs.Here.{Here, text_len, next_char}
 use Rattle.granit_lexemes.specs.declared.layout.Bracket.TheVariants.{Square, Curly}
-use Rattle.granit_lexemes.specs.PlainScalar.{is_content}
-use Rattle.granit_machine.specs.LexemeSort.{PlacedSort, LexemeSort, Placed, TextEnd, StartMark, EndMark, Unprintable, DirectiveSign, OpenSign, CloseSign, CommaSign, DashSign, QuestionSign, ColonSign, AliasSign, AnchorSign, TagSign, BlockSign, QuoteSign, StrayMark, NoSign, PlainSign, sort_of, sort_at}
+use Rattle.granit_base.specs.PlainContent.{is_content}
+use Rattle.granit_machine.specs.LexemeSort.{PlacedSort, LexemeSort, Placed, TextEnd, StartMark, EndMark, Unprintable}
+use Rattle.granit_machine.specs.LexemeSort.{DirectiveSign, OpenSign, CloseSign, CommaSign, DashSign, QuestionSign}
+use Rattle.granit_machine.specs.LexemeSort.{ColonSign, AliasSign, AnchorSign, TagSign, BlockSign, QuoteSign, StrayMark}
+use Rattle.granit_machine.specs.LexemeSort.{NoSign, PlainSign, sort_of, sort_at}
 
 abbrev is_plain : PlacedSort → Bool
 is_plain PlainSign = true
@@ -44,22 +48,28 @@ no_plain sort p e = let m : is_plain sort ≡ true = ap is_plain e in absurd cc
 abbrev NoIndicator : (a b c d e i : Bool) → Type 0
 NoIndicator a b c d e i = (a ≡ false) × (b ≡ false) × (c ≡ false) × (d ≡ false) × (e ≡ false) × (i ≡ false)
 
-chain_plain : (literal single : Bool) (a b c d e f g i j k l m n p q : Bool) → chain literal single a b c d e f g i j k l m n p q ≡ PlainSign → NoIndicator a b c d e i
+chain_plain : (literal single : Bool) (a b c d e f g i j k l m n p q : Bool)
+    → chain literal single a b c d e f g i j k l m n p q ≡ PlainSign → NoIndicator a b c d e i
 chain_plain literal single true b c d e f g i j k l m n p q is = absurd (no_plain (OpenSign Square) refl is)
 chain_plain literal single false true c d e f g i j k l m n p q is = absurd (no_plain (OpenSign Curly) refl is)
 chain_plain literal single false false true d e f g i j k l m n p q is = absurd (no_plain (CloseSign Square) refl is)
 chain_plain literal single false false false true e f g i j k l m n p q is = absurd (no_plain (CloseSign Curly) refl is)
 chain_plain literal single false false false false true f g i j k l m n p q is = absurd (no_plain CommaSign refl is)
 chain_plain literal single false false false false false true g i j k l m n p q is = absurd (no_plain DashSign refl is)
-chain_plain literal single false false false false false false true i j k l m n p q is = absurd (no_plain QuestionSign refl is)
-chain_plain literal single false false false false false false false true j k l m n p q is = absurd (no_plain ColonSign refl is)
-chain_plain literal single false false false false false false false false j k l m n p q is = (refl, refl, refl, refl, refl, refl)
+chain_plain literal single false false false false false false true i j k l m n p q is = absurd
+    (no_plain QuestionSign refl is)
+chain_plain literal single false false false false false false false true j k l m n p q is = absurd
+    (no_plain ColonSign refl is)
+chain_plain literal single false false false false false false false false j k l m n p q is =
+    (refl, refl, refl, refl, refl, refl)
 
-no_flow : (c : ℕ) → (c == 0x5B) ≡ false → (c == 0x7B) ≡ false → (c == 0x5D) ≡ false → (c == 0x7D) ≡ false → (c == 0x2C) ≡ false → is_flow c ≡ false
+no_flow : (c : ℕ) → (c == 0x5B) ≡ false → (c == 0x7B) ≡ false → (c == 0x5D) ≡ false → (c == 0x7D) ≡ false
+    → (c == 0x2C) ≡ false → is_flow c ≡ false
 unfolding is_flow
 no_flow c p q r s t = rw (p, q, r, s, t) refl
 
-no_colon : (colon parted in_flow flow adjacent : Bool) → (colon && (parted || (in_flow && (flow || adjacent)))) ≡ false → (colon && (parted || (in_flow && flow))) ≡ false
+no_colon : (colon parted in_flow flow adjacent : Bool) → (colon && (parted || (in_flow && (flow || adjacent)))) ≡ false
+    → (colon && (parted || (in_flow && flow))) ≡ false
 no_colon false parted in_flow flow adjacent e = refl
 no_colon true true in_flow flow adjacent e = e
 no_colon true false false flow adjacent e = refl
@@ -67,15 +77,19 @@ no_colon true false true true adjacent e = e
 no_colon true false true false adjacent e = refl
 
 -- the tests of content, where they pass
-content_as : (gap_or_nul colon in_flow flow : Bool) → gap_or_nul ≡ false → colon ≡ false → flow ≡ false → (not gap_or_nul && (not colon && not (in_flow && flow))) ≡ true
+content_as : (gap_or_nul colon in_flow flow : Bool) → gap_or_nul ≡ false → colon ≡ false → flow ≡ false
+    → (not gap_or_nul && (not colon && not (in_flow && flow))) ≡ true
 content_as gap_or_nul colon true flow p q r = rw (p, q, r) refl
 content_as gap_or_nul colon false flow p q r = rw (p, q) refl
 
-plain_of : (in_flow adjacent : Bool) (c next : ℕ) → sort_of in_flow adjacent c next ≡ PlainSign → (is_flow c ≡ false) × ((c == 0x3A && (is_blank_or_breakz next || (in_flow && is_flow next))) ≡ false)
+plain_of : (in_flow adjacent : Bool) (c next : ℕ) → sort_of in_flow adjacent c next ≡ PlainSign
+    → (is_flow c ≡ false) × ((c == 0x3A && (is_blank_or_breakz next || (in_flow && is_flow next))) ≡ false)
 unfolding sort_of
 plain_of in_flow adjacent c next is =
-    let x = chain_plain (c == 0x7C) (c == 0x27) (c == 0x5B) (c == 0x7B) (c == 0x5D) (c == 0x7D) (c == 0x2C) (c == 0x2D && is_blank_or_breakz next) (c == 0x3F && is_blank_or_breakz next)
-    (c == 0x3A && (is_blank_or_breakz next || (in_flow && (is_flow next || adjacent)))) (c == 0x2A) (c == 0x26) (c == 0x21) ((c == 0x7C || c == 0x3E) && not in_flow) (c == 0x27 || c == 0x22) (is_bom c)
+    let x = chain_plain (c == 0x7C) (c == 0x27) (c == 0x5B) (c == 0x7B) (c == 0x5D) (c == 0x7D) (c == 0x2C)
+    (c == 0x2D && is_blank_or_breakz next) (c == 0x3F && is_blank_or_breakz next)
+    (c == 0x3A && (is_blank_or_breakz next || (in_flow && (is_flow next || adjacent)))) (c == 0x2A) (c == 0x26)
+    (c == 0x21) ((c == 0x7C || c == 0x3E) && not in_flow) (c == 0x27 || c == 0x22) (is_bom c)
     (((c == 0x40 || c == 0x60) || c == 0x25) || (c == 0x7C || c == 0x3E)) is in
     (no_flow c x.0 x.1 x.2 x.3 x.4, no_colon (c == 0x3A) (is_blank_or_breakz next) in_flow (is_flow next) adjacent x.5)
 
@@ -119,7 +133,8 @@ no_mark : (dash : Bool) → (if dash then StartMark else EndMark) ≡ Placed Pla
 no_mark true e = no_plain_placed StartMark refl e
 no_mark false e = no_plain_placed EndMark refl e
 
-front_plain : (a b dash d e : Bool) (sort : PlacedSort) → front a b dash d e sort ≡ Placed PlainSign → (d ≡ false) × (sort ≡ PlainSign)
+front_plain : (a b dash d e : Bool) (sort : PlacedSort) → front a b dash d e sort ≡ Placed PlainSign
+    → (d ≡ false) × (sort ≡ PlainSign)
 front_plain true b dash d e sort is = absurd (no_plain_placed TextEnd refl is)
 front_plain false true dash d e sort is = absurd (no_mark dash is)
 front_plain false false dash true e sort is = absurd (no_plain_placed Unprintable refl is)
@@ -131,11 +146,15 @@ not_false true e = refl
 not_false false e = sym e
 
 -- where a plain scalar begins behind a gap, it has content
-pub plain_sign-content : (in_flow adjacent : Bool) (h : Here) → is_gap (next_char h) ≡ false → sort_at in_flow adjacent h ≡ Placed PlainSign → is_content in_flow h.unread.text ≡ true
+pub plain_sign-content : (in_flow adjacent : Bool) (h : Here) → is_gap (next_char h) ≡ false
+    → sort_at in_flow adjacent h ≡ Placed PlainSign → is_content in_flow h.unread.text ≡ true
 unfolding sort_at
 plain_sign-content in_flow adjacent h stops is =
-    let x = front_plain (text_len h == 0) (h.place.column == 0 && is_document_mark h.unread.text) (next_char h == 0x2D) (not (is_printable (next_char h))) (h.place.column == 0 && next_char h == 0x25)
+    let x = front_plain (text_len h == 0) (h.place.column == 0 && is_document_mark h.unread.text) (next_char h == 0x2D)
+    (not (is_printable (next_char h))) (h.place.column == 0 && next_char h == 0x25)
     (sort_of in_flow adjacent (next_char h) (slice_index h.unread.text 1)) is in
     let y = plain_of in_flow adjacent (next_char h) (slice_index h.unread.text 1) x.1 in
-    content_as (is_blank_or_breakz (next_char h)) (next_char h == 0x3A && (is_blank_or_breakz (slice_index h.unread.text 1) || (in_flow && is_flow (slice_index h.unread.text 1)))) in_flow (is_flow (next_char h))
+    content_as (is_blank_or_breakz (next_char h))
+    (next_char h == 0x3A && (is_blank_or_breakz (slice_index h.unread.text 1)
+    || (in_flow && is_flow (slice_index h.unread.text 1)))) in_flow (is_flow (next_char h))
     (no_gap_or_nul (next_char h) stops (not_false (is_printable (next_char h)) x.0)) y.1 y.0

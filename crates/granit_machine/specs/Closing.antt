@@ -1,16 +1,21 @@
 -- What a lexeme ends before it is taken.
-use Rattle.std.specs.Prelude.{ℕ, Bool, true, false, ◌&&◌, ◌||◌, not, if◌then◌else◌, List, [], ◌∷◌, length, Option, Some, None, is_none, Result, Ok}
+use Rattle.std.specs.Prelude.{ℕ, Bool, true, false, ◌&&◌, ◌||◌, not, if◌then◌else◌, List, [], ◌∷◌, length, Option, Some}
+use Rattle.std.specs.Prelude.{None, is_none, Result, Ok}
 use Rattle.granit_error.specs.OptionsData.{OptionsData}
 use Rattle.granit_lexemes.specs.Source.{Source}
 use Rattle.granit_lexemes.specs.Outcome.{Fault, ◌>>=◌}
 use Rattle.granit_lexemes.specs.Pieces.{pieces}
 use Rattle.granit_lexemes.specs.PlainEvent.{PlainEvent}
-use Rattle.granit_machine.specs.Frames.{PairStage, BehindQuestion, AtValue, BehindPair, NodeProperties, Frame, Root, WithProperties, BlockSequence, BlockMapping, FlowSequence, FlowMapping, FlowPair, ParserState}
+use Rattle.granit_machine.specs.Frames.{PairStage, BehindQuestion, AtValue, BehindPair, NodeProperties, Frame, Root}
+use Rattle.granit_machine.specs.Frames.{WithProperties, BlockSequence, BlockMapping, FlowSequence, FlowMapping}
+use Rattle.granit_machine.specs.Frames.{FlowPair, ParserState}
 use Rattle.granit_machine.specs.Giving.{null_at, give}
 use Rattle.granit_lexemes.specs.Lexeme as lexemes
 use Rattle.granit_lexemes.specs.Lexeme.{LexemeKind}
 use Rattle.granit_machine.specs.NodeEnds.{finish, end_node, end_properties, empty_span, under_column, may_be_indentless}
-use Rattle.granit_machine.specs.TokenSort.{TokenSort, DashToken, QuestionToken, BareColon, Token, begins_pair, is_dash_token, is_bare_colon, is_of_stream, ends_entry, is_key_in_block, token_column, is_in_column, ends_frame, is_right_of}
+use Rattle.granit_machine.specs.TokenSort.{TokenSort, DashToken, QuestionToken, BareColon, Token, begins_pair}
+use Rattle.granit_machine.specs.TokenSort.{is_dash_token, is_bare_colon, is_of_stream, ends_entry, is_key_in_block}
+use Rattle.granit_machine.specs.TokenSort.{token_column, is_in_column, ends_frame, is_right_of}
 
 abbrev pub goes_on_by_sort : Bool → Bool → Bool → TokenSort → Bool
 goes_on_by_sort right in_flow indentless DashToken = right || indentless

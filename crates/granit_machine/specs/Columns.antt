@@ -1,5 +1,6 @@
 -- Open columns: which an entry begins, and which a lexeme ends (YAML 1.2.2, 8.1 and 8.2).
-use Rattle.std.specs.Prelude.{ℕ, Bool, true, false, ◌&&◌, ◌||◌, not, nat_lt, nat_le, if◌then◌else◌, List, [], ◌∷◌, length, map, drop, Result, Ok}
+use Rattle.std.specs.Prelude.{ℕ, Bool, true, false, ◌&&◌, ◌||◌, not, nat_lt, nat_le, if◌then◌else◌, List, [], ◌∷◌}
+use Rattle.std.specs.Prelude.{length, map, drop, Result, Ok}
 use Rattle.granit_base.specs.Place.{Mark}
 use Rattle.granit_error.specs.FaultKind.{RecursionLimitExceeded}
 use Rattle.granit_error.specs.OptionsData.{OptionsData}

@@ -1,7 +1,8 @@
 -- Brackets and `,` (YAML 1.2.2, 7.4).
 use Rattle.std.specs.Prelude.{Bool, ◌&&◌, ◌||◌, not, nat_le, if◌then◌else◌, List, [], ◌∷◌, length, None}
 use Rattle.granit_base.specs.Place.{Mark}
-use Rattle.granit_error.specs.FaultKind.{MismatchedFlowCollectionEnd, MisplacedFlowCollectionEnd, RecursionLimitExceeded}
+use Rattle.granit_error.specs.FaultKind.{MismatchedFlowCollectionEnd, MisplacedFlowCollectionEnd}
+use Rattle.granit_error.specs.FaultKind.{RecursionLimitExceeded}
 use Rattle.granit_error.specs.OptionsData.{OptionsData}
 use Rattle.granit_lexemes.specs.Basics.{fails_at}
 use Rattle.granit_lexemes.specs.Here.{Here, mark_of, step}

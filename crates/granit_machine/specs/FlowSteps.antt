@@ -2,14 +2,17 @@
 use Rattle.std.specs.Prelude.{Bool, true, false, ◌∷◌, None, Ok}
 use Rattle.granit_base.specs.Place.{Mark}
 use Rattle.granit_base.specs.declared.style.StructureStyle.TheVariants.{Flow}
-use Rattle.granit_error.specs.FaultKind.{UnexpectedEofImplicitFlowMapping, ExpectedFlowMappingSeparator, ExpectedFlowSequenceSeparator}
+use Rattle.granit_error.specs.FaultKind.{UnexpectedEofImplicitFlowMapping, ExpectedFlowMappingSeparator}
+use Rattle.granit_error.specs.FaultKind.{ExpectedFlowSequenceSeparator}
 use Rattle.granit_error.specs.OptionsData.{OptionsData}
 use Rattle.granit_lexemes.specs.PlainEvent.{event_at, MappingStart}
-use Rattle.granit_machine.specs.Frames.{PairStage, BeforePair, AtKey, BehindKey, AtQuestion, BehindQuestion, AtValue, Frame, FlowSequence, FlowMapping, FlowPair, ParserState}
+use Rattle.granit_machine.specs.Frames.{PairStage, BeforePair, AtKey, BehindKey, AtQuestion, BehindQuestion, AtValue}
+use Rattle.granit_machine.specs.Frames.{Frame, FlowSequence, FlowMapping, FlowPair, ParserState}
 use Rattle.granit_machine.specs.Giving.{null_at, flush, give}
 use Rattle.granit_machine.specs.NodeEnds.{owed, end_node, waits, with_top}
 use Rattle.granit_machine.specs.NodeSteps.{Stepped, misplaced, bare}
-use Rattle.granit_machine.specs.TokenSort.{TokenSort, BeginsKey, BeginsNode, QuestionToken, BareColon, KeyedColon, CommaToken, SequenceCloser, MappingCloser, Token}
+use Rattle.granit_machine.specs.TokenSort.{TokenSort, BeginsKey, BeginsNode, QuestionToken, BareColon, KeyedColon}
+use Rattle.granit_machine.specs.TokenSort.{CommaToken, SequenceCloser, MappingCloser, Token}
 
 -- a closer, whose event ends behind it
 abbrev pub close_flow : Token → ParserState → ParserState

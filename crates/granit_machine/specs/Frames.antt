@@ -54,7 +54,7 @@ pub record ParserState : Type 0 where
   pub stage : DocumentStage
   -- the end of the last event that is no comment and no anchor
   pub last_end : Mark
-  -- how many anchors were read, and the document's names with their numbers, the last first
+  -- how many anchors were read, and the number of the last one of each name in the document
   pub count : ℕ
   pub names : List (List ℕ × ℕ)
   -- the handles of the document's directives, and what they stand for

@@ -1,5 +1,6 @@
 -- What stands between lexemes, and where a tab or a comment is refused there (YAML 1.2.2, 6.1 and 6.6).
-use Rattle.std.specs.Prelude.{ℕ, suc, Bool, ◌==◌, ◌&&◌, ◌||◌, not, nat_lt, if◌then◌else◌, List, [], ◌∷◌, slice_index, Option, Some, None, Result, Ok}
+use Rattle.std.specs.Prelude.{ℕ, suc, Bool, ◌==◌, ◌&&◌, ◌||◌, not, nat_lt, if◌then◌else◌, List, [], ◌∷◌, slice_index}
+use Rattle.std.specs.Prelude.{Option, Some, None, Result, Ok}
 use Rattle.granit_base.specs.Classes.{is_break, is_bom, is_gap, is_breakz, is_blank_or_breakz}
 use Rattle.granit_base.specs.Place.{Mark}
 use Rattle.granit_error.specs.FaultKind.{TabInBlockIndentation, TabNotAllowed, CommentInterceptedScalar}

@@ -1,7 +1,10 @@
 -- `-`, `?` and `:` (YAML 1.2.2, 7.4.2 and 8.2).
-use Rattle.std.specs.Prelude.{ℕ, Bool, false, ◌==◌, ◌&&◌, ◌||◌, not, nat_lt, if◌then◌else◌, map, slice_index, Option, Some, None, is_some, Result, Ok}
+use Rattle.std.specs.Prelude.{ℕ, Bool, false, ◌==◌, ◌&&◌, ◌||◌, not, nat_lt, if◌then◌else◌, map, slice_index, Option}
+use Rattle.std.specs.Prelude.{Some, None, is_some, Result, Ok}
 use Rattle.granit_base.specs.Classes.{is_blank, is_break, is_gap, is_flow, is_blank_or_breakz}
-use Rattle.granit_error.specs.FaultKind.{BlockEntryInFlowCollection, FlowMappingValueAdjacentCollection, InvalidColonPlacement, BlockSequenceEntryNotAllowed, MappingKeyNotAllowed, MappingValueNotAllowed, InvalidBlockEntryWhitespace, ExpectedWhitespace}
+use Rattle.granit_error.specs.FaultKind.{BlockEntryInFlowCollection, FlowMappingValueAdjacentCollection}
+use Rattle.granit_error.specs.FaultKind.{InvalidColonPlacement, BlockSequenceEntryNotAllowed, MappingKeyNotAllowed}
+use Rattle.granit_error.specs.FaultKind.{MappingValueNotAllowed, InvalidBlockEntryWhitespace, ExpectedWhitespace}
 use Rattle.granit_error.specs.OptionsData.{OptionsData}
 use Rattle.granit_lexemes.specs.Basics.{fails_at}
 use Rattle.granit_lexemes.specs.Comment.{CommentRead, comment}
@@ -12,7 +15,8 @@ use Rattle.granit_lexemes.specs.Tail.{tail_at}
 use Rattle.granit_machine.specs.Columns.{widened, with_entry, with_pair}
 use Rattle.granit_machine.specs.Gaps.{leading_tab, refuse_tab}
 use Rattle.granit_machine.specs.Laid.{Laid, is_adjacent, is_in_flow}
-use Rattle.granit_lexemes.specs.declared.layout.LastLexeme.TheVariants.{BehindDash, BehindQuestion, BehindBareColon, Another}
+use Rattle.granit_lexemes.specs.declared.layout.LastLexeme.TheVariants.{BehindDash, BehindQuestion, BehindBareColon}
+use Rattle.granit_lexemes.specs.declared.layout.LastLexeme.TheVariants.{Another}
 use Rattle.granit_lexemes.specs.declared.layout.PossibleKey.{PossibleKey}
 use Rattle.granit_machine.specs.PossibleKeys.{top_key, forgets_key, is_allowed, start_of_key, is_far_below}
 use Rattle.granit_machine.specs.ReaderState.{Read, sign_lexeme, with_tail, given}

@@ -28,20 +28,20 @@ abbrev pub offset_words : Option ℕ → List ℕ
 offset_words None = codes "?"
 offset_words (Some n) = decimal n
 
-abbrev pub bytes_of : Source → List ℕ
-bytes_of s = (offset_words s.start.byte_offset ++ codes "-") ++ offset_words s.end.byte_offset
+abbrev pub offsets_of : Source → List ℕ
+offsets_of s = (offset_words s.start.byte_offset ++ codes "-") ++ offset_words s.end.byte_offset
 
 abbrev pub note_bytes : Option CommentRead → List ℕ
 note_bytes None = []
-note_bytes (Some c) = codes " #" ++ bytes_of c.source
+note_bytes (Some c) = codes " #" ++ offsets_of c.source
 
 -- the bytes before its start and before its end
 unfoldable pub byte_line : Lexeme → List ℕ
-byte_line x = ((decimal x.number ++ codes " ") ++ (bytes_of x.shown ++ note_bytes x.tail)) ++ codes "\n"
+byte_line x = ((decimal x.number ++ codes " ") ++ (offsets_of x.shown ++ note_bytes x.tail)) ++ codes "\n"
 
 abbrev pub lines_by : (Lexeme → List ℕ) → Item → List ℕ
 lines_by line (OfLexeme x) = line x
-lines_by line (OfComment c) = codes "#" ++ (bytes_of c.source ++ codes "\n")
+lines_by line (OfComment c) = codes "#" ++ (offsets_of c.source ++ codes "\n")
 
 abbrev pub printed_by : (Lexeme → List ℕ) → Result (List Item × LexState) Fault → List ℕ
 printed_by line (Ok (items, s)) = flat_map (lines_by line) items ++ fault_end s.fault

@@ -1,5 +1,6 @@
 -- The printed lines of items, for the worked examples.
-use Rattle.std.specs.Prelude.{ℕ, Bool, true, false, ◌==◌, not, List, [], ◌++◌, codes, Option, Some, None, Result, Ok, Err}
+use Rattle.std.specs.Prelude.{ℕ, Bool, true, false, ◌==◌, not, List, [], ◌++◌, codes, Option, Some, None, Result, Ok}
+use Rattle.std.specs.Prelude.{Err}
 use Rattle.std.specs.Fmt.{decimal}
 use Rattle.std.specs.List.{flat_map}
 use Rattle.granit_base.specs.Place.{Mark}
@@ -12,7 +13,9 @@ use Rattle.granit_lexemes.specs.declared.layout.Bracket.TheVariants.{Square, Cur
 use Rattle.granit_lexemes.specs.Source.{Source}
 use Rattle.granit_lexemes.specs.Line.{in_quotes, style_word, place_line}
 use Rattle.granit_lexemes.specs.Outcome.{Fault}
-use Rattle.granit_lexemes.specs.Lexeme.{DirectiveKind, Version, TagPrefix, Reserved, LexemeKind, Directive, KeyStart, DocumentStart, DocumentEnd, StreamEnd, Open, Close, Comma, Dash, Question, Colon, Alias, Anchor, Tag, Scalar, Lexeme, Item, OfLexeme, OfComment}
+use Rattle.granit_lexemes.specs.Lexeme.{DirectiveKind, Version, TagPrefix, Reserved, LexemeKind, Directive, KeyStart}
+use Rattle.granit_lexemes.specs.Lexeme.{DocumentStart, DocumentEnd, StreamEnd, Open, Close, Comma, Dash, Question}
+use Rattle.granit_lexemes.specs.Lexeme.{Colon, Alias, Anchor, Tag, Scalar, Lexeme, Item, OfLexeme, OfComment}
 use Rattle.granit_machine.specs.Lexing.{FlaggedItem, flagged, lex}
 use Rattle.granit_machine.specs.Reader.{LexState}
 

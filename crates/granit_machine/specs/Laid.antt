@@ -5,7 +5,9 @@ use Rattle.granit_lexemes.specs.declared.layout.Bracket.{Bracket}
 use Rattle.granit_lexemes.specs.declared.layout.Bracket.TheVariants.{Square, Curly}
 -- what the last lexeme lets the next one be, a possible simple key (7.4.2, 8.2.2), an open bracket, and an open column
 use Rattle.granit_lexemes.specs.declared.layout.LastLexeme.{LastLexeme}
-use Rattle.granit_lexemes.specs.declared.layout.LastLexeme.TheVariants.{Opener, BehindDash, BehindQuestion, BehindBareColon, BehindProperty, Adjacent, Another}
+use Rattle.granit_lexemes.specs.declared.layout.LastLexeme.TheVariants.{Opener, BehindDash, BehindQuestion}
+use Rattle.granit_lexemes.specs.declared.layout.LastLexeme.TheVariants.{BehindBareColon, BehindProperty, Adjacent}
+use Rattle.granit_lexemes.specs.declared.layout.LastLexeme.TheVariants.{Another}
 use Rattle.granit_lexemes.specs.declared.layout.PossibleKey.{PossibleKey}
 use Rattle.granit_lexemes.specs.declared.layout.OpenBracket.{OpenBracket}
 use Rattle.granit_lexemes.specs.declared.layout.OpenColumn.{OpenColumn}

@@ -1,6 +1,7 @@
 pub mod BlockSteps
 pub mod Closing
 pub mod Columns
+pub mod Entries
 pub mod Events
 pub mod ExampleOptions
 pub mod FlowLexemes
@@ -12,6 +13,7 @@ pub mod IndicatorLexemes
 pub mod ItemFlags
 pub mod Items
 pub mod Laid
+pub mod Leaving
 pub mod LexemeSort
 pub mod Lexing
 pub mod Machine
@@ -25,3 +27,4 @@ pub mod ReaderState
 pub mod StreamLexemes
 pub mod StreamSteps
 pub mod TokenSort
+pub mod LongTexts

@@ -1,5 +1,6 @@
 -- How nodes end and collections begin.
-use Rattle.std.specs.Prelude.{ℕ, suc, Bool, true, false, ◌==◌, nat_le, if◌then◌else◌, List, [], ◌∷◌, codes, Option, Some, None, Result, Ok}
+use Rattle.std.specs.Prelude.{ℕ, suc, Bool, true, false, ◌==◌, nat_le, if◌then◌else◌, List, [], ◌∷◌, codes, Option}
+use Rattle.std.specs.Prelude.{Some, None, Result, Ok}
 use Rattle.granit_base.specs.Place.{Mark}
 use Rattle.granit_base.specs.declared.style.ScalarStyle.TheVariants.{Plain}
 use Rattle.granit_base.specs.declared.style.StructureStyle.TheVariants.{Block}
@@ -7,11 +8,13 @@ use Rattle.granit_error.specs.FaultKind.{RecursionLimitExceeded}
 use Rattle.granit_error.specs.OptionsData.{OptionsData}
 use Rattle.granit_lexemes.specs.Source.{Source}
 use Rattle.granit_lexemes.specs.Outcome.{Fault}
-use Rattle.granit_lexemes.specs.PlainEvent.{PlainTag, EventKind, event_at, Scalar, SequenceEnd, MappingEnd, MappingStart}
+use Rattle.granit_lexemes.specs.PlainEvent.{PlainTag, EventKind, event_at, Scalar, SequenceEnd, MappingEnd}
+use Rattle.granit_lexemes.specs.PlainEvent.{MappingStart}
 use Rattle.granit_lexemes.specs.Basics.{fails_at}
-use Rattle.granit_machine.specs.Frames.{PairStage, BeforePair, AtKey, BehindKey, AtQuestion, BehindQuestion, AtValue, BehindAlone, BehindPair, NodeProperties, Frame, Root, BlockSequence, BlockMapping, FlowSequence, FlowMapping, FlowPair, BehindRoot, ParserState}
-use Rattle.granit_machine.specs.Giving.{null_at, with_indent, flush, give, give_empty, node_event}
-use Rattle.granit_lexemes.specs.Basics.{owned}
+use Rattle.granit_machine.specs.Frames.{PairStage, BeforePair, AtKey, BehindKey, AtQuestion, BehindQuestion, AtValue}
+use Rattle.granit_machine.specs.Frames.{BehindAlone, BehindPair, NodeProperties, Frame, Root, BlockSequence}
+use Rattle.granit_machine.specs.Frames.{BlockMapping, FlowSequence, FlowMapping, FlowPair, BehindRoot, ParserState}
+use Rattle.granit_machine.specs.Giving.{lent, null_at, with_indent, flush, give, give_empty, node_event}
 
 abbrev pub finished_stage : PairStage → PairStage
 finished_stage BeforePair = BehindAlone
@@ -71,7 +74,7 @@ null_text None = codes "~"
 null_text (Some t) = []
 
 abbrev pub null_node : NodeProperties → ℕ → Option PlainTag → EventKind
-null_node q number tag = Scalar (owned (null_text q.tag)) Plain number tag
+null_node q number tag = Scalar (lent (null_text q.tag)) Plain number tag
 
 abbrev pub empty_span : Mark → Source
 empty_span m = record { start = m; end = m }

@@ -1,22 +1,27 @@
 -- A lexeme where a node must stand (YAML 1.2.2, 6.9, 7.1 and 8.2).
-use Rattle.std.specs.Prelude.{ℕ, suc, ◌-◌, Bool, true, false, ◌==◌, nat_lt, nat_le, nat_eq, if◌then◌else◌, List, [], ◌∷◌, ◌++◌, length, codes, Option, Some, None, Result, Ok}
-use lib.Pointwise.{pointwise}
+use Rattle.std.specs.Prelude.{ℕ, suc, ◌-◌, Bool, true, false, ◌==◌, nat_lt, nat_le, if◌then◌else◌, List, [], ◌∷◌, ◌++◌}
+use Rattle.std.specs.Prelude.{length, codes, Option, Some, None, Result, Ok}
 use Rattle.granit_base.specs.Written.{Written}
 use Rattle.granit_base.specs.declared.style.Placement.TheVariants.{Right}
 use Rattle.granit_base.specs.declared.style.StructureStyle.TheVariants.{Block, Flow}
-use Rattle.granit_error.specs.FaultKind.{FaultKind, RecursionLimitExceeded, UnknownAnchor, UndeclaredTagHandle, TooManyComments}
+use Rattle.granit_error.specs.FaultKind.{FaultKind, RecursionLimitExceeded, UnknownAnchor, UndeclaredTagHandle}
+use Rattle.granit_error.specs.FaultKind.{TooManyComments}
 use Rattle.granit_error.specs.OptionsData.{OptionsData}
 use Rattle.granit_lexemes.specs.declared.layout.Bracket.{Bracket}
 use Rattle.granit_lexemes.specs.declared.layout.Bracket.TheVariants.{Square, Curly}
 use Rattle.granit_lexemes.specs.Outcome.{Fault, ◌>>=◌}
-use Rattle.granit_lexemes.specs.PlainEvent.{PlainTag, EventKind, event_at, Alias, UnresolvedAlias, Comment, Scalar, SequenceStart, MappingStart}
+use Rattle.granit_lexemes.specs.PlainEvent.{PlainTag, EventKind, event_at, Alias, UnresolvedAlias, Comment, Scalar}
+use Rattle.granit_lexemes.specs.PlainEvent.{SequenceStart, MappingStart}
 use Rattle.granit_lexemes.specs.Basics.{fails_at}
-use Rattle.granit_machine.specs.Frames.{BeforePair, AtKey, AtQuestion, AtValue, NodeProperties, WithProperties, BlockSequence, BlockMapping, FlowSequence, FlowMapping, ParserState}
+use Rattle.granit_machine.specs.Entries.{lookup_text, remembered}
+use Rattle.granit_machine.specs.Frames.{BeforePair, AtKey, AtQuestion, AtValue, NodeProperties, WithProperties}
+use Rattle.granit_machine.specs.Frames.{BlockSequence, BlockMapping, FlowSequence, FlowMapping, ParserState}
 use Rattle.granit_machine.specs.Giving.{null_at, flush, give, properties_on, below_properties, node_event}
 use Rattle.granit_lexemes.specs.Comment.{CommentRead}
 use Rattle.granit_lexemes.specs.Lexeme as lexemes
 use Rattle.granit_lexemes.specs.Lexeme.{LexemeKind}
-use Rattle.granit_machine.specs.NodeEnds.{finish, empty_span, block_count, may_be_indentless, begin, begin_block, block_mapping, waits, with_top}
+use Rattle.granit_machine.specs.NodeEnds.{finish, empty_span, block_count, may_be_indentless, begin, begin_block}
+use Rattle.granit_machine.specs.NodeEnds.{block_mapping, waits, with_top}
 use Rattle.granit_machine.specs.TokenSort.{TokenSort, BeginsKey, Token}
 
 abbrev pub Stepped : Type 0
@@ -26,10 +31,6 @@ abbrev pub misplaced : FaultKind → Token → Stepped
 misplaced kind t = fails_at kind t.lexeme.shown.start
 
 -- ---- a node begins (6.9, 7.1)
-
-abbrev pub lookup_text : {A : Type 0} → List ℕ → List (List ℕ × A) → Option A
-lookup_text name [] = None
-lookup_text name (x ∷ xs) = if pointwise nat_eq name x.0 then Some x.1 else lookup_text name xs
 
 abbrev pub alias_by : OptionsData → Token → Written → Option ℕ → ParserState → Stepped
 alias_by o t name (Some n) p = Ok (finish (node_event o (λ number tag. Alias n) t.lexeme.shown None p))
@@ -51,7 +52,7 @@ abbrev pub anchored : Token → Written → ParserState → ParserState
 anchored t name p =
     let q = properties_on p.frames t.lexeme.shown.end in
     with_properties (record q { anchor = Some (suc p.count, name, t.lexeme.shown); end = t.lexeme.shown.end })
-    (record p { count = suc p.count; names = (name.characters, suc p.count) ∷ p.names })
+    (record p { count = suc p.count; names = remembered name.characters (suc p.count) p.names })
 
 abbrev pub tagged : Token → List ℕ → List ℕ → List ℕ → ParserState → ParserState
 tagged t handle suffix prefix p =

@@ -1,5 +1,6 @@
 -- The plain machine's parser: one step for each lexeme, and the comments.
-use Rattle.std.specs.Prelude.{ℕ, suc, ◌-◌, Bool, ◌==◌, ◌||◌, if◌then◌else◌, List, [], ◌∷◌, ◌++◌, Option, Some, None, is_some, Result, Ok}
+use Rattle.std.specs.Prelude.{ℕ, suc, ◌-◌, Bool, ◌==◌, ◌||◌, if◌then◌else◌, List, [], ◌∷◌, ◌++◌, Option, Some, None}
+use Rattle.std.specs.Prelude.{is_some, Result, Ok}
 use Rattle.granit_base.specs.declared.style.Placement.TheVariants.{Above, Right, Free, Last}
 use Rattle.granit_base.specs.declared.style.Placement.{Placement}
 use Rattle.granit_error.specs.FaultKind.{TooManyComments}
@@ -10,7 +11,8 @@ use Rattle.granit_lexemes.specs.Basics.{fails_at}
 use Rattle.granit_machine.specs.BlockSteps.{in_sequence, in_mapping}
 use Rattle.granit_machine.specs.Closing.{close}
 use Rattle.granit_machine.specs.FlowSteps.{in_flow_sequence, in_flow_mapping_by, in_flow_pair}
-use Rattle.granit_machine.specs.Frames.{Frame, Root, WithProperties, BlockSequence, BlockMapping, FlowSequence, FlowMapping, FlowPair, Waiting, ParserState}
+use Rattle.granit_machine.specs.Frames.{Frame, Root, WithProperties, BlockSequence, BlockMapping, FlowSequence}
+use Rattle.granit_machine.specs.Frames.{FlowMapping, FlowPair, Waiting, ParserState}
 use Rattle.granit_lexemes.specs.Comment.{CommentRead}
 use Rattle.granit_lexemes.specs.Lexeme as lexemes
 use Rattle.granit_lexemes.specs.Lexeme.{LexemeKind, Lexeme, Item, OfLexeme, OfComment}

@@ -1,6 +1,7 @@
 -- Simple keys that are still possible (YAML 1.2.2, 7.4.2 and 8.2.2), and what a scalar is told.
 use Rattle.std.specs.List.{list_any}
-use Rattle.std.specs.Prelude.{ℕ, ◌+◌, Bool, true, false, ◌==◌, ◌&&◌, ◌||◌, not, nat_lt, if◌then◌else◌, List, [], ◌∷◌, map, Option, Some, None, is_none, Result, Ok}
+use Rattle.std.specs.Prelude.{ℕ, ◌+◌, Bool, true, false, ◌==◌, ◌&&◌, ◌||◌, not, nat_lt, if◌then◌else◌, List, [], ◌∷◌}
+use Rattle.std.specs.Prelude.{map, Option, Some, None, is_none, Result, Ok}
 use Rattle.granit_base.specs.Place.{Place, Mark}
 use Rattle.granit_error.specs.FaultKind.{SimpleKeyExpected}
 use Rattle.granit_error.specs.OptionsData.{OptionsData}
@@ -8,7 +9,8 @@ use Rattle.granit_lexemes.specs.Basics.{fails_at}
 use Rattle.granit_lexemes.specs.LayoutData.{LayoutData, is_left}
 use Rattle.granit_lexemes.specs.Lexeme.{KeyStart}
 use Rattle.granit_lexemes.specs.Outcome.{Fault, ◌>>=◌}
-use Rattle.granit_machine.specs.Laid.{Laid, is_opener, is_dash, is_indicator, is_in_flow, in_square, block_column, is_column}
+use Rattle.granit_machine.specs.Laid.{Laid, is_opener, is_dash, is_indicator, is_in_flow, in_square, block_column}
+use Rattle.granit_machine.specs.Laid.{is_column}
 use Rattle.granit_lexemes.specs.declared.layout.PossibleKey.{PossibleKey}
 use Rattle.granit_lexemes.specs.declared.layout.OpenBracket.{OpenBracket}
 use Rattle.granit_lexemes.specs.declared.layout.OpenColumn.{OpenColumn}

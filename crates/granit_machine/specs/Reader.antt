@@ -1,5 +1,6 @@
 -- The plain machine's reader: what one read gives, and all that can be read.
-use Rattle.std.specs.Prelude.{ℕ, suc, Bool, true, false, ◌&&◌, if◌then◌else◌, List, [], ◌∷◌, Option, Some, None, Result, Ok, Err}
+use Rattle.std.specs.Prelude.{ℕ, suc, Bool, true, false, ◌&&◌, if◌then◌else◌, List, [], ◌∷◌, Option, Some, None, Result}
+use Rattle.std.specs.Prelude.{Ok, Err}
 use Rattle.granit_error.specs.FaultKind.{InvalidIndentation, BomInsideDocument}
 use Rattle.granit_error.specs.OptionsData.{OptionsData}
 use Rattle.granit_lexemes.specs.Basics.{fails_at}
@@ -13,8 +14,12 @@ use Rattle.granit_machine.specs.FlowLexemes.{opener, closer, comma}
 use Rattle.granit_machine.specs.Gaps.{gap}
 use Rattle.granit_machine.specs.IndicatorLexemes.{dash, question, colon}
 use Rattle.granit_machine.specs.Laid.{Laid, is_adjacent, is_in_flow, block_column}
-use Rattle.granit_machine.specs.LexemeSort.{PlacedSort, OpenSign, CloseSign, CommaSign, DashSign, QuestionSign, ColonSign, AliasSign, AnchorSign, TagSign, BlockSign, QuoteSign, StrayMark, NoSign, PlainSign, LexemeSort, TextEnd, StartMark, EndMark, Unprintable, DirectiveSign, Placed, sort_at}
-use Rattle.granit_machine.specs.NodeLexemes.{alias_lexeme, anchor_lexeme, tag_lexeme, block_lexeme, plain_lexeme, quoted_and_gap}
+use Rattle.granit_machine.specs.LexemeSort.{PlacedSort, OpenSign, CloseSign, CommaSign, DashSign, QuestionSign}
+use Rattle.granit_machine.specs.LexemeSort.{ColonSign, AliasSign, AnchorSign, TagSign, BlockSign, QuoteSign, StrayMark}
+use Rattle.granit_machine.specs.LexemeSort.{NoSign, PlainSign, LexemeSort, TextEnd, StartMark, EndMark, Unprintable}
+use Rattle.granit_machine.specs.LexemeSort.{DirectiveSign, Placed, sort_at}
+use Rattle.granit_machine.specs.NodeLexemes.{alias_lexeme, anchor_lexeme, tag_lexeme, block_lexeme, plain_lexeme}
+use Rattle.granit_machine.specs.NodeLexemes.{quoted_and_gap}
 use Rattle.granit_machine.specs.PossibleKeys.{is_allowed, without_stale, with_node}
 use Rattle.granit_machine.specs.ReaderState.{ReaderState, Read, refuse_open, unexpected}
 use Rattle.granit_machine.specs.StreamLexemes.{text_end, start_mark, end_mark, directive_lexeme}

@@ -1,16 +1,20 @@
 -- A lexeme around documents (YAML 1.2.2, chapter 9).
 use Rattle.std.specs.Prelude.{ℕ, true, false, ◌==◌, if◌then◌else◌, List, [], ◌∷◌, Option, Some, None, Ok}
-use Rattle.granit_error.specs.FaultKind.{ExpectedDocumentStart, MissingDocumentEndBeforeDirective, DuplicateVersionDirective, UnsupportedYamlMajorVersion, DuplicateTagDirective, UnexpectedEofBlockSequence}
+use Rattle.granit_error.specs.FaultKind.{ExpectedDocumentStart, MissingDocumentEndBeforeDirective}
+use Rattle.granit_error.specs.FaultKind.{DuplicateVersionDirective, UnsupportedYamlMajorVersion, DuplicateTagDirective}
+use Rattle.granit_error.specs.FaultKind.{UnexpectedEofBlockSequence}
 use Rattle.granit_error.specs.OptionsData.{OptionsData}
 use Rattle.granit_lexemes.specs.Source.{Source}
 use Rattle.granit_lexemes.specs.PlainEvent.{PlainEvent, PlainVersion, event_at, StreamEnd, DocumentStart, DocumentEnd}
 use Rattle.granit_machine.specs.Closing.{token_start}
-use Rattle.granit_machine.specs.Frames.{Root, DocumentStage, Fresh, Directives, Inside, BehindRoot, Between, ParserState}
+use Rattle.granit_machine.specs.Entries.{lookup_text, remembered}
+use Rattle.granit_machine.specs.Frames.{Root, DocumentStage, Fresh, Directives, Inside, BehindRoot, Between}
+use Rattle.granit_machine.specs.Frames.{ParserState}
 use Rattle.granit_machine.specs.Giving.{with_indent, flush, give}
 use Rattle.granit_lexemes.specs.Lexeme as lexemes
 use Rattle.granit_lexemes.specs.Lexeme.{DirectiveKind, Version, TagPrefix, Reserved, LexemeKind}
 use Rattle.granit_machine.specs.NodeEnds.{empty_span}
-use Rattle.granit_machine.specs.NodeSteps.{Stepped, misplaced, lookup_text, node}
+use Rattle.granit_machine.specs.NodeSteps.{Stepped, misplaced, node}
 use Rattle.granit_machine.specs.TokenSort.{TokenSort, BeginsNode, Token, begins_node}
 
 abbrev pub at_root : OptionsData → Token → ParserState → Stepped
@@ -25,7 +29,7 @@ with_version t None major minor p =
 abbrev pub with_handle : Token → Option PlainVersion → List ℕ → List ℕ → Option (List ℕ) → ParserState → Stepped
 with_handle t version handle prefix (Some known) p = misplaced DuplicateTagDirective t
 with_handle t version handle prefix None p =
-    Ok (record p { handles = (handle, prefix) ∷ p.handles; stage = Directives version })
+    Ok (record p { handles = remembered handle prefix p.handles; stage = Directives version })
 
 abbrev pub open_document : Token → Option PlainVersion → ParserState → Stepped
 open_document t version p =

@@ -1,5 +1,7 @@
--- Each alias names an anchor that stands before it, exactly where the first mention of each alias's name in its document is an anchor.
-use Rattle.std.proofs.Common.{◌≡◌, ◌≢◌, ℕ, ◌==◌, Bool, true, false, not, ◌&&◌, ◌||◌, List, [], ◌∷◌, length, Option, Some, None, IfSome, Contains, refl, sym, ap, ◌∙◌, subst, arith, eqb-true, eq-eqb}
+-- Each alias names an anchor that stands before it, exactly where the first mention of each alias's name in its
+-- document is an anchor.
+use Rattle.std.proofs.Common.{◌≡◌, ◌≢◌, ℕ, ◌==◌, Bool, true, false, not, ◌&&◌, ◌||◌, List, [], ◌∷◌, length, Option}
+use Rattle.std.proofs.Common.{Some, None, IfSome, Contains, refl, sym, ap, ◌∙◌, subst, arith, eqb-true, eq-eqb}
 use Rattle.std.specs.List.{list_any, list_all, slice_index_or}
 use Rattle.std.proofs.lemmas.List.Folds.{Any-from_list_any}
 use Rattle.std.proofs.lemmas.List.Sums.{AllPass-from_list_all, list_all-from_AllPass}
@@ -12,8 +14,13 @@ use lib.Pointwise.{pointwise_decides}
 use Rattle.granit_base.specs.Classes.{is_anchor_char}
 use Rattle.granit_model.specs.declared.fitting.Mention.{Mention}
 use Rattle.granit_model.specs.declared.fitting.Mention.TheVariants.{Anchor, Alias}
-use Rattle.granit_model.specs.Tree.{Properties, PlainTree, AliasOf, ScalarOf, SequenceOf, MappingOf, PlainTrees, NoTrees, AfterTrees, PlainPairs, NoPairs, AfterPairs, with_anchor, behind_tree, behind_trees, behind_pairs, IsAnchorName, PropertiesFit, TreeFits, TreesFit, PairsFit, DocumentsFit}
-use Rattle.granit_model.specs.FirstMention.{same_name, or_else, mention_as, anchor_mention, mention_in_tree, mention_in_trees, mention_in_pairs, by_anchor, is_anchor_name, tag_fits, anchor_fits, properties_fit, tree_fits, trees_fit, pairs_fit, documents_fit}
+use Rattle.granit_model.specs.Tree.{Properties, PlainTree, AliasOf, ScalarOf, SequenceOf, MappingOf, PlainTrees}
+use Rattle.granit_model.specs.Tree.{NoTrees, AfterTrees, PlainPairs, NoPairs, AfterPairs, with_anchor, behind_tree}
+use Rattle.granit_model.specs.Tree.{behind_trees, behind_pairs, IsAnchorName, PropertiesFit, TreeFits, TreesFit}
+use Rattle.granit_model.specs.Tree.{PairsFit, DocumentsFit}
+use Rattle.granit_model.specs.FirstMention.{same_name, or_else, mention_as, anchor_mention, mention_in_tree}
+use Rattle.granit_model.specs.FirstMention.{mention_in_trees, mention_in_pairs, by_anchor, is_anchor_name, tag_fits}
+use Rattle.granit_model.specs.FirstMention.{anchor_fits, properties_fit, tree_fits, trees_fit, pairs_fit, documents_fit}
 
 -- what of a tree its fitting speaks of, in the order of the document
 data Mark : Type 0 where
@@ -61,38 +68,47 @@ first_past_tag : (n : List ℕ) (o : Option (List ℕ)) (rest : List Mark) → f
 first_past_tag n None rest = refl
 first_past_tag n (Some tag) rest = refl
 
-first_past_anchor : (n : List ℕ) (o : Option (List ℕ)) (rest : List Mark) → first n (anchor_marks o rest) ≡ or_else (anchor_mention n o) (first n rest)
+first_past_anchor : (n : List ℕ) (o : Option (List ℕ)) (rest : List Mark)
+    → first n (anchor_marks o rest) ≡ or_else (anchor_mention n o) (first n rest)
 first_past_anchor n None rest = refl
 first_past_anchor n (Some a) rest = refl
 
 first_past_properties :
-    (n : List ℕ) (p : Properties) (rest : List Mark) → first n (tag_marks p.tag (anchor_marks p.anchor rest)) ≡ or_else (anchor_mention n p.anchor) (first n rest)
+    (n : List ℕ) (p : Properties) (rest : List Mark)
+    → first n (tag_marks p.tag (anchor_marks p.anchor rest)) ≡ or_else (anchor_mention n p.anchor) (first n rest)
 first_past_properties n p rest = first_past_tag n p.tag (anchor_marks p.anchor rest) ∙ first_past_anchor n p.anchor rest
 
 mutual
-  first_in_tree : (n : List ℕ) (t : PlainTree) (rest : List Mark) → first n (marks t rest) ≡ or_else (mention_in_tree n t) (first n rest)
+  first_in_tree : (n : List ℕ) (t : PlainTree) (rest : List Mark)
+      → first n (marks t rest) ≡ or_else (mention_in_tree n t) (first n rest)
   first_in_tree n (AliasOf name) rest = refl
   first_in_tree n (ScalarOf p text) rest = first_past_properties n p rest
   first_in_tree n (SequenceOf p entries) rest =
-      first_past_properties n p (marks_of_trees entries rest) ∙ ap (or_else (anchor_mention n p.anchor)) (first_in_trees n entries rest)
+      first_past_properties n p (marks_of_trees entries rest)
+      ∙ ap (or_else (anchor_mention n p.anchor)) (first_in_trees n entries rest)
       ∙ sym (or_else_or_else (anchor_mention n p.anchor) (mention_in_trees n entries) (first n rest))
   first_in_tree n (MappingOf p pairs) rest =
-      first_past_properties n p (marks_of_pairs pairs rest) ∙ ap (or_else (anchor_mention n p.anchor)) (first_in_pairs n pairs rest)
+      first_past_properties n p (marks_of_pairs pairs rest)
+      ∙ ap (or_else (anchor_mention n p.anchor)) (first_in_pairs n pairs rest)
       ∙ sym (or_else_or_else (anchor_mention n p.anchor) (mention_in_pairs n pairs) (first n rest))
 
-  first_in_trees : (n : List ℕ) (ts : PlainTrees) (rest : List Mark) → first n (marks_of_trees ts rest) ≡ or_else (mention_in_trees n ts) (first n rest)
+  first_in_trees : (n : List ℕ) (ts : PlainTrees) (rest : List Mark)
+      → first n (marks_of_trees ts rest) ≡ or_else (mention_in_trees n ts) (first n rest)
   first_in_trees n NoTrees rest = refl
   first_in_trees n (AfterTrees ts t) rest =
       first_in_trees n ts (marks t rest) ∙ ap (or_else (mention_in_trees n ts)) (first_in_tree n t rest)
       ∙ sym (or_else_or_else (mention_in_trees n ts) (mention_in_tree n t) (first n rest))
 
-  first_in_pairs : (n : List ℕ) (ps : PlainPairs) (rest : List Mark) → first n (marks_of_pairs ps rest) ≡ or_else (mention_in_pairs n ps) (first n rest)
+  first_in_pairs : (n : List ℕ) (ps : PlainPairs) (rest : List Mark)
+      → first n (marks_of_pairs ps rest) ≡ or_else (mention_in_pairs n ps) (first n rest)
   first_in_pairs n NoPairs rest = refl
   first_in_pairs n (AfterPairs ps k v) rest =
       first_in_pairs n ps (marks k (marks v rest))
       ∙ ap (or_else (mention_in_pairs n ps))
-      (first_in_tree n k (marks v rest) ∙ ap (or_else (mention_in_tree n k)) (first_in_tree n v rest) ∙ sym (or_else_or_else (mention_in_tree n k) (mention_in_tree n v) (first n rest)))
-      ∙ sym (or_else_or_else (mention_in_pairs n ps) (or_else (mention_in_tree n k) (mention_in_tree n v)) (first n rest))
+      (first_in_tree n k (marks v rest) ∙ ap (or_else (mention_in_tree n k)) (first_in_tree n v rest)
+      ∙ sym (or_else_or_else (mention_in_tree n k) (mention_in_tree n v) (first n rest)))
+      ∙ sym (or_else_or_else (mention_in_pairs n ps) (or_else (mention_in_tree n k) (mention_in_tree n v))
+      (first n rest))
 
 -- each mark passes, where a test of names stands for what aliases need
 abbrev pass : (List ℕ → Bool) → List Mark → Bool
@@ -116,21 +132,25 @@ module _ (root : PlainTree) where
   abbrev named_first : List ℕ → Bool
   named_first n = by_anchor (mention_in_tree n root)
 
-  pass_tag : (o : Option (List ℕ)) (rest : List Mark) → pass named_first (tag_marks o rest) ≡ (tag_fits o && pass named_first rest)
+  pass_tag : (o : Option (List ℕ)) (rest : List Mark)
+      → pass named_first (tag_marks o rest) ≡ (tag_fits o && pass named_first rest)
   pass_tag None rest = refl
   pass_tag (Some tag) rest = refl
 
-  pass_anchor : (o : Option (List ℕ)) (rest : List Mark) → pass named_first (anchor_marks o rest) ≡ (anchor_fits o && pass named_first rest)
+  pass_anchor : (o : Option (List ℕ)) (rest : List Mark)
+      → pass named_first (anchor_marks o rest) ≡ (anchor_fits o && pass named_first rest)
   pass_anchor None rest = refl
   pass_anchor (Some a) rest = refl
 
-  pass_properties : (p : Properties) (rest : List Mark) → pass named_first (tag_marks p.tag (anchor_marks p.anchor rest)) ≡ (properties_fit p && pass named_first rest)
+  pass_properties : (p : Properties) (rest : List Mark)
+      → pass named_first (tag_marks p.tag (anchor_marks p.anchor rest)) ≡ (properties_fit p && pass named_first rest)
   pass_properties p rest =
       pass_tag p.tag (anchor_marks p.anchor rest) ∙ ap (λ b. tag_fits p.tag && b) (pass_anchor p.anchor rest)
       ∙ sym (and_and (tag_fits p.tag) (anchor_fits p.anchor) (pass named_first rest))
 
   mutual
-    pass_tree : (t : PlainTree) (rest : List Mark) → pass named_first (marks t rest) ≡ (tree_fits t root && pass named_first rest)
+    pass_tree : (t : PlainTree) (rest : List Mark)
+        → pass named_first (marks t rest) ≡ (tree_fits t root && pass named_first rest)
     pass_tree (AliasOf name) rest = refl
     pass_tree (ScalarOf p text) rest = pass_properties p rest
     pass_tree (SequenceOf p entries) rest =
@@ -140,17 +160,21 @@ module _ (root : PlainTree) where
         pass_properties p (marks_of_pairs pairs rest) ∙ ap (λ b. properties_fit p && b) (pass_pairs pairs rest)
         ∙ sym (and_and (properties_fit p) (pairs_fit pairs root) (pass named_first rest))
 
-    pass_trees : (ts : PlainTrees) (rest : List Mark) → pass named_first (marks_of_trees ts rest) ≡ (trees_fit ts root && pass named_first rest)
+    pass_trees : (ts : PlainTrees) (rest : List Mark)
+        → pass named_first (marks_of_trees ts rest) ≡ (trees_fit ts root && pass named_first rest)
     pass_trees NoTrees rest = refl
     pass_trees (AfterTrees ts t) rest =
-        pass_trees ts (marks t rest) ∙ ap (λ b. trees_fit ts root && b) (pass_tree t rest) ∙ sym (and_and (trees_fit ts root) (tree_fits t root) (pass named_first rest))
+        pass_trees ts (marks t rest) ∙ ap (λ b. trees_fit ts root && b) (pass_tree t rest)
+        ∙ sym (and_and (trees_fit ts root) (tree_fits t root) (pass named_first rest))
 
-    pass_pairs : (ps : PlainPairs) (rest : List Mark) → pass named_first (marks_of_pairs ps rest) ≡ (pairs_fit ps root && pass named_first rest)
+    pass_pairs : (ps : PlainPairs) (rest : List Mark)
+        → pass named_first (marks_of_pairs ps rest) ≡ (pairs_fit ps root && pass named_first rest)
     pass_pairs NoPairs rest = refl
     pass_pairs (AfterPairs ps k v) rest =
         pass_pairs ps (marks k (marks v rest))
         ∙ ap (λ b. pairs_fit ps root && b)
-        (pass_tree k (marks v rest) ∙ ap (λ b. tree_fits k root && b) (pass_tree v rest) ∙ sym (and_and (tree_fits k root) (tree_fits v root) (pass named_first rest)))
+        (pass_tree k (marks v rest) ∙ ap (λ b. tree_fits k root && b) (pass_tree v rest)
+        ∙ sym (and_and (tree_fits k root) (tree_fits v root) (pass named_first rest)))
         ∙ sym (and_and (pairs_fit ps root) (tree_fits k root && tree_fits v root) (pass named_first rest))
 
 -- the same, where an alias's name must be among the known ones
@@ -174,11 +198,13 @@ or_true true = refl
 or_true false = refl
 
 -- a name that is an anchor's passes before the anchor as behind it
-joined_anchor : (s t h : Bool) (f : Option Mention) → t ≡ s → ((t || h) || by_anchor f) ≡ (h || by_anchor (or_else (mention_as Anchor s) f))
+joined_anchor : (s t h : Bool) (f : Option Mention) → t ≡ s
+    → ((t || h) || by_anchor f) ≡ (h || by_anchor (or_else (mention_as Anchor s) f))
 joined_anchor true t h f e = rw e (or_true h)
 joined_anchor false t h f e = rw e refl
 
-joined_alias : (s h : Bool) (f : Option Mention) → (s ≡ true → h ≡ true) → (h || by_anchor f) ≡ (h || by_anchor (or_else (mention_as Alias s) f))
+joined_alias : (s h : Bool) (f : Option Mention) → (s ≡ true → h ≡ true)
+    → (h || by_anchor f) ≡ (h || by_anchor (or_else (mention_as Alias s) f))
 joined_alias s true f e = refl
 joined_alias true false f e = absurd (true≢false (sym (e refl)))
 joined_alias false false f e = refl
@@ -204,15 +230,18 @@ fit_is_pass known (AliasAt a ∷ ms) =
     let later : has a known ≡ true → fit known ms ≡ pass (known_or_first known (AliasAt a ∷ ms)) ms =
     λ h. fit_is_pass known ms
     ∙ pass_alike (known_or_first known ms) (known_or_first known (AliasAt a ∷ ms)) ms
-    (λ n. joined_alias (same_name a n) (has n known) (first n ms) (λ e. subst (λ m. has m known ≡ true) ((same_decides a n).0 e) h)) in
+    (λ n. joined_alias (same_name a n) (has n known) (first n ms)
+    (λ e. subst (λ m. has m known ≡ true) ((same_decides a n).0 e) h)) in
     under (has a known) (fit known ms) (pass (known_or_first known (AliasAt a ∷ ms)) ms) later
-    ∙ ap (λ b. b && pass (known_or_first known (AliasAt a ∷ ms)) ms) (sym (alias_itself (same_name a a) (has a known) (first a ms) (nat_list_eq_equiv.refl a)))
+    ∙ ap (λ b. b && pass (known_or_first known (AliasAt a ∷ ms)) ms)
+    (sym (alias_itself (same_name a a) (has a known) (first a ms) (nat_list_eq_equiv.refl a)))
 
 -- the test of a document
 document_fits : (t : PlainTree) → fit [] (marks t []) ≡ tree_fits t t
 document_fits t =
     fit_is_pass [] (marks t [])
-    ∙ pass_alike (known_or_first [] (marks t [])) (named_first t) (marks t []) (λ n. ap by_anchor (first_in_tree n t [] ∙ or_else_none (mention_in_tree n t)))
+    ∙ pass_alike (known_or_first [] (marks t [])) (named_first t) (marks t [])
+    (λ n. ap by_anchor (first_in_tree n t [] ∙ or_else_none (mention_in_tree n t)))
     ∙ pass_tree t t [] ∙ and_true (tree_fits t t)
 
 -- what passes the tests fits, and the other way round
@@ -235,27 +264,35 @@ anchor_named a h =
     (not_empty a both.0, AllPass-from_list_all is_anchor_char a both.1)
 
 test_anchor : (a : List ℕ) → IsAnchorName a → is_anchor_name a ≡ true
-test_anchor a h = and_from (not (length a == 0)) (list_all is_anchor_char a) (test_not_empty a h.0) (list_all-from_AllPass is_anchor_char a h.1)
+test_anchor a h = and_from (not (length a == 0)) (list_all is_anchor_char a) (test_not_empty a h.0)
+    (list_all-from_AllPass is_anchor_char a h.1)
 
-told_tag : (o : Option (List ℕ)) (known : List (List ℕ)) (rest : List Mark) → fit known (tag_marks o rest) ≡ true → IfSome o (λ tag. tag ≢ []) × (fit known rest ≡ true)
+told_tag : (o : Option (List ℕ)) (known : List (List ℕ)) (rest : List Mark) → fit known (tag_marks o rest) ≡ true
+    → IfSome o (λ tag. tag ≢ []) × (fit known rest ≡ true)
 told_tag None known rest h = (tt, h)
-told_tag (Some tag) known rest h = let both = and_parts (not (length tag == 0)) (fit known rest) h in (not_empty tag both.0, both.1)
+told_tag (Some tag) known rest h = let both = and_parts (not (length tag == 0)) (fit known rest)
+    h in (not_empty tag both.0, both.1)
 
-told_anchor : (o : Option (List ℕ)) (known : List (List ℕ)) (rest : List Mark) → fit known (anchor_marks o rest) ≡ true → IfSome o IsAnchorName × (fit (with_anchor o known) rest ≡ true)
+told_anchor : (o : Option (List ℕ)) (known : List (List ℕ)) (rest : List Mark) → fit known (anchor_marks o rest) ≡ true
+    → IfSome o IsAnchorName × (fit (with_anchor o known) rest ≡ true)
 told_anchor None known rest h = (tt, h)
-told_anchor (Some a) known rest h = let both = and_parts (is_anchor_name a) (fit (a ∷ known) rest) h in (anchor_named a both.0, both.1)
+told_anchor (Some a) known rest h = let both = and_parts (is_anchor_name a) (fit (a ∷ known) rest)
+    h in (anchor_named a both.0, both.1)
 
 told_properties :
     (p : Properties) (known : List (List ℕ)) (rest : List Mark)
-    → fit known (tag_marks p.tag (anchor_marks p.anchor rest)) ≡ true → PropertiesFit p × (fit (with_anchor p.anchor known) rest ≡ true)
+    → fit known (tag_marks p.tag (anchor_marks p.anchor rest)) ≡ true
+    → PropertiesFit p × (fit (with_anchor p.anchor known) rest ≡ true)
 told_properties p known rest h =
     let tag = told_tag p.tag known (anchor_marks p.anchor rest) h in
     let anchor = told_anchor p.anchor known rest tag.1 in
     ((tag.0, anchor.0), anchor.1)
 
 mutual
-  told_tree : (t : PlainTree) (known : List (List ℕ)) (rest : List Mark) → fit known (marks t rest) ≡ true → TreeFits t known × (fit (behind_tree t known) rest ≡ true)
-  told_tree (AliasOf name) known rest h = let both = and_parts (has name known) (fit known rest) h in (found_known name known both.0, both.1)
+  told_tree : (t : PlainTree) (known : List (List ℕ)) (rest : List Mark) → fit known (marks t rest) ≡ true
+      → TreeFits t known × (fit (behind_tree t known) rest ≡ true)
+  told_tree (AliasOf name) known rest h = let both = and_parts (has name known) (fit known rest)
+      h in (found_known name known both.0, both.1)
   told_tree (ScalarOf p text) known rest h = told_properties p known rest h
   told_tree (SequenceOf p entries) known rest h =
       let own = told_properties p known (marks_of_trees entries rest) h in
@@ -266,14 +303,16 @@ mutual
       let inner = told_pairs pairs (with_anchor p.anchor known) rest own.1 in
       ((own.0, inner.0), inner.1)
 
-  told_trees : (ts : PlainTrees) (known : List (List ℕ)) (rest : List Mark) → fit known (marks_of_trees ts rest) ≡ true → TreesFit ts known × (fit (behind_trees ts known) rest ≡ true)
+  told_trees : (ts : PlainTrees) (known : List (List ℕ)) (rest : List Mark) → fit known (marks_of_trees ts rest) ≡ true
+      → TreesFit ts known × (fit (behind_trees ts known) rest ≡ true)
   told_trees NoTrees known rest h = (tt, h)
   told_trees (AfterTrees ts t) known rest h =
       let front = told_trees ts known (marks t rest) h in
       let last = told_tree t (behind_trees ts known) rest front.1 in
       ((front.0, last.0), last.1)
 
-  told_pairs : (ps : PlainPairs) (known : List (List ℕ)) (rest : List Mark) → fit known (marks_of_pairs ps rest) ≡ true → PairsFit ps known × (fit (behind_pairs ps known) rest ≡ true)
+  told_pairs : (ps : PlainPairs) (known : List (List ℕ)) (rest : List Mark) → fit known (marks_of_pairs ps rest) ≡ true
+      → PairsFit ps known × (fit (behind_pairs ps known) rest ≡ true)
   told_pairs NoPairs known rest h = (tt, h)
   told_pairs (AfterPairs ps k v) known rest h =
       let front = told_pairs ps known (marks k (marks v rest)) h in
@@ -281,37 +320,48 @@ mutual
       let value = told_tree v (behind_tree k (behind_pairs ps known)) rest key.1 in
       ((front.0, key.0, value.0), value.1)
 
-test_tag : (o : Option (List ℕ)) (known : List (List ℕ)) (rest : List Mark) → IfSome o (λ tag. tag ≢ []) → fit known rest ≡ true → fit known (tag_marks o rest) ≡ true
+test_tag : (o : Option (List ℕ)) (known : List (List ℕ)) (rest : List Mark) → IfSome o (λ tag. tag ≢ [])
+    → fit known rest ≡ true → fit known (tag_marks o rest) ≡ true
 test_tag None known rest h r = r
 test_tag (Some tag) known rest h r = and_from (not (length tag == 0)) (fit known rest) (test_not_empty tag h) r
 
-test_anchors : (o : Option (List ℕ)) (known : List (List ℕ)) (rest : List Mark) → IfSome o IsAnchorName → fit (with_anchor o known) rest ≡ true → fit known (anchor_marks o rest) ≡ true
+test_anchors : (o : Option (List ℕ)) (known : List (List ℕ)) (rest : List Mark) → IfSome o IsAnchorName
+    → fit (with_anchor o known) rest ≡ true → fit known (anchor_marks o rest) ≡ true
 test_anchors None known rest h r = r
 test_anchors (Some a) known rest h r = and_from (is_anchor_name a) (fit (a ∷ known) rest) (test_anchor a h) r
 
 test_properties :
     (p : Properties) (known : List (List ℕ)) (rest : List Mark)
-    → PropertiesFit p → fit (with_anchor p.anchor known) rest ≡ true → fit known (tag_marks p.tag (anchor_marks p.anchor rest)) ≡ true
-test_properties p known rest h r = test_tag p.tag known (anchor_marks p.anchor rest) h.0 (test_anchors p.anchor known rest h.1 r)
+    → PropertiesFit p → fit (with_anchor p.anchor known) rest ≡ true
+    → fit known (tag_marks p.tag (anchor_marks p.anchor rest)) ≡ true
+test_properties p known rest h r = test_tag p.tag known (anchor_marks p.anchor rest) h.0
+    (test_anchors p.anchor known rest h.1 r)
 
 mutual
-  test_tree : (t : PlainTree) (known : List (List ℕ)) (rest : List Mark) → TreeFits t known → fit (behind_tree t known) rest ≡ true → fit known (marks t rest) ≡ true
-  test_tree (AliasOf name) known rest h r = and_from (has name known) (fit known rest) (list_any-from_Contains nat_list_eq_equiv name known h) r
+  test_tree : (t : PlainTree) (known : List (List ℕ)) (rest : List Mark) → TreeFits t known
+      → fit (behind_tree t known) rest ≡ true → fit known (marks t rest) ≡ true
+  test_tree (AliasOf name) known rest h r = and_from (has name known) (fit known rest)
+      (list_any-from_Contains nat_list_eq_equiv name known h) r
   test_tree (ScalarOf p text) known rest h r = test_properties p known rest h r
   test_tree (SequenceOf p entries) known rest h r =
-      test_properties p known (marks_of_trees entries rest) h.0 (test_trees entries (with_anchor p.anchor known) rest h.1 r)
+      test_properties p known (marks_of_trees entries rest) h.0
+      (test_trees entries (with_anchor p.anchor known) rest h.1 r)
   test_tree (MappingOf p pairs) known rest h r =
       test_properties p known (marks_of_pairs pairs rest) h.0 (test_pairs pairs (with_anchor p.anchor known) rest h.1 r)
 
-  test_trees : (ts : PlainTrees) (known : List (List ℕ)) (rest : List Mark) → TreesFit ts known → fit (behind_trees ts known) rest ≡ true → fit known (marks_of_trees ts rest) ≡ true
+  test_trees : (ts : PlainTrees) (known : List (List ℕ)) (rest : List Mark) → TreesFit ts known
+      → fit (behind_trees ts known) rest ≡ true → fit known (marks_of_trees ts rest) ≡ true
   test_trees NoTrees known rest h r = r
-  test_trees (AfterTrees ts t) known rest h r = test_trees ts known (marks t rest) h.0 (test_tree t (behind_trees ts known) rest h.1 r)
+  test_trees (AfterTrees ts t) known rest h r = test_trees ts known (marks t rest) h.0
+      (test_tree t (behind_trees ts known) rest h.1 r)
 
-  test_pairs : (ps : PlainPairs) (known : List (List ℕ)) (rest : List Mark) → PairsFit ps known → fit (behind_pairs ps known) rest ≡ true → fit known (marks_of_pairs ps rest) ≡ true
+  test_pairs : (ps : PlainPairs) (known : List (List ℕ)) (rest : List Mark) → PairsFit ps known
+      → fit (behind_pairs ps known) rest ≡ true → fit known (marks_of_pairs ps rest) ≡ true
   test_pairs NoPairs known rest h r = r
   test_pairs (AfterPairs ps k v) known rest h r =
       let here = behind_pairs ps known in
-      test_pairs ps known (marks k (marks v rest)) h.0 (test_tree k here (marks v rest) h.1 (test_tree v (behind_tree k here) rest h.2 r))
+      test_pairs ps known (marks k (marks v rest)) h.0
+      (test_tree k here (marks v rest) h.1 (test_tree v (behind_tree k here) rest h.2 r))
 
 -- the test of documents tells those that fit from the others
 pub told_documents : (ts : PlainTrees) → documents_fit ts ≡ true → DocumentsFit ts
@@ -322,4 +372,5 @@ told_documents (AfterTrees ts t) h =
 
 pub test_documents : (ts : PlainTrees) → DocumentsFit ts → documents_fit ts ≡ true
 test_documents NoTrees h = refl
-test_documents (AfterTrees ts t) h = and_from (documents_fit ts) (tree_fits t t) (test_documents ts h.0) (sym (document_fits t) ∙ test_tree t [] [] h.1 refl)
+test_documents (AfterTrees ts t) h = and_from (documents_fit ts) (tree_fits t t) (test_documents ts h.0)
+    (sym (document_fits t) ∙ test_tree t [] [] h.1 refl)

@@ -5,7 +5,8 @@ use lib.Pointwise.{pointwise}
 use Rattle.granit_base.specs.Classes.{is_anchor_char}
 use Rattle.granit_model.specs.declared.fitting.Mention.{Mention}
 use Rattle.granit_model.specs.declared.fitting.Mention.TheVariants.{Anchor, Alias}
-use Rattle.granit_model.specs.Tree.{Properties, PlainTree, AliasOf, ScalarOf, SequenceOf, MappingOf, PlainTrees, NoTrees, AfterTrees, PlainPairs, NoPairs, AfterPairs}
+use Rattle.granit_model.specs.Tree.{Properties, PlainTree, AliasOf, ScalarOf, SequenceOf, MappingOf, PlainTrees}
+use Rattle.granit_model.specs.Tree.{NoTrees, AfterTrees, PlainPairs, NoPairs, AfterPairs}
 
 abbrev pub same_name : List ℕ → List ℕ → Bool
 same_name a b = pointwise nat_eq a b
@@ -37,7 +38,8 @@ abbrev mutual
 
   pub mention_in_pairs : List ℕ → PlainPairs → Option Mention
   mention_in_pairs name NoPairs = None
-  mention_in_pairs name (AfterPairs ps k v) = or_else (mention_in_pairs name ps) (or_else (mention_in_tree name k) (mention_in_tree name v))
+  mention_in_pairs name (AfterPairs ps k v) = or_else (mention_in_pairs name ps)
+      (or_else (mention_in_tree name k) (mention_in_tree name v))
 
 abbrev pub by_anchor : Option Mention → Bool
 by_anchor None = false

@@ -1,10 +1,12 @@
 -- The canonical flow text of trees, character by character. Each function writes in front of a rest.
-use Rattle.std.specs.Prelude.{◌≡◌, ℕ, ◌+◌, ◌/◌, ◌%◌, Bool, true, false, ◌==◌, ◌||◌, nat_lt, nat_le, if◌then◌else◌, List, [], ◌∷◌, ◌++◌, Option, Some, None, String, codes}
+use Rattle.std.specs.Prelude.{◌≡◌, ℕ, ◌+◌, ◌/◌, ◌%◌, Bool, true, false, ◌==◌, ◌||◌, nat_lt, nat_le, if◌then◌else◌, List}
+use Rattle.std.specs.Prelude.{[], ◌∷◌, ◌++◌, Option, Some, None, String, codes}
 use Rattle.std.specs.Str.{encode_utf8_all}
 use Rattle.std.specs.declared.alloc.Global.{Global}
 use Rattle.granit_base.specs.Classes.{is_within, is_word_char}
 use Rattle.granit_base.specs.Written.{string_chars}
-use Rattle.granit_model.specs.Tree.{Properties, PlainTree, AliasOf, ScalarOf, SequenceOf, MappingOf, PlainTrees, NoTrees, AfterTrees, PlainPairs, NoPairs, AfterPairs, no_trees, no_pairs}
+use Rattle.granit_model.specs.Tree.{Properties, PlainTree, AliasOf, ScalarOf, SequenceOf, MappingOf, PlainTrees}
+use Rattle.granit_model.specs.Tree.{NoTrees, AfterTrees, PlainPairs, NoPairs, AfterPairs, no_trees, no_pairs}
 
 -- the hexadecimal digit of a number below 16, upper case
 unfoldable pub upper_digit : ℕ → ℕ
@@ -78,7 +80,8 @@ abbrev mutual
   -- pairs joined by `, `, each with its `?` and `:`
   pub pairs_text : PlainPairs → List ℕ → List ℕ
   pairs_text NoPairs rest = rest
-  pairs_text (AfterPairs ps k v) rest = pairs_text ps (comma_unless (no_pairs ps) (codes "? " ++ tree_text k (codes " : " ++ tree_text v rest)))
+  pairs_text (AfterPairs ps k v) rest = pairs_text ps
+      (comma_unless (no_pairs ps) (codes "? " ++ tree_text k (codes " : " ++ tree_text v rest)))
 
 abbrev pub pair_text : (key value : PlainTree) → List ℕ → List ℕ
 pair_text k v rest = codes "? " ++ tree_text k (codes " : " ++ tree_text v rest)

@@ -1,3 +1,4 @@
+pub mod Characters
 pub mod FirstMention
 pub mod FlowText
 pub mod Tree

@@ -1,4 +1,5 @@
--- Trees as plain data: texts by their characters, lists that grow at the end. When they fit to be written, and how deep they are.
+-- Trees as plain data: texts by their characters, lists that grow at the end. When they fit to be written, and how deep
+-- they are.
 use Rattle.std.specs.Prelude.{ℕ, Bool, true, false, ◌+◌, max, ◌≢◌, List, [], ◌∷◌, Option, Some, None, IfSome, Contains}
 use Rattle.std.specs.List.{AllPass}
 use Rattle.granit_base.specs.Classes.{is_anchor_char}
@@ -88,8 +89,8 @@ IsAnchorName name = (name ≢ []) × AllPass is_anchor_char name
 abbrev pub PropertiesFit : Properties → Type 0
 PropertiesFit p = IfSome p.tag (λ tag. tag ≢ []) × IfSome p.anchor IsAnchorName
 
--- properties fit, and each alias names an anchor that stands before it; those before the tree are `known`, and a collection's own
--- stands before what is in it (7.1)
+-- properties fit, and each alias names an anchor that stands before it; those before the tree are `known`, and a
+-- collection's own stands before what is in it (7.1)
 abbrev mutual
   pub TreeFits : PlainTree → (known : List (List ℕ)) → Type 0
   TreeFits (AliasOf name) known = Contains known name
@@ -103,7 +104,8 @@ abbrev mutual
 
   pub PairsFit : PlainPairs → (known : List (List ℕ)) → Type 0
   PairsFit NoPairs known = Unit {0}
-  PairsFit (AfterPairs ps k v) known = let here = behind_pairs ps known in PairsFit ps known × TreeFits k here × TreeFits v (behind_tree k here)
+  PairsFit (AfterPairs ps k v) known = let here = behind_pairs ps known in PairsFit ps known × TreeFits k here
+      × TreeFits v (behind_tree k here)
 
 -- each tree is the root of a document, and no anchor stands before it (3.2.2.2)
 abbrev pub DocumentsFit : PlainTrees → Type 0

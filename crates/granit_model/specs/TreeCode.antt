@@ -3,7 +3,8 @@ use Rattle.std.specs.Prelude.{◌≡◌, ℕ, List, Option, refl}
 use Rattle.std.specs.Coded.{Coded, code_by, coded×, coded_ℕ, coded_list, coded_option}
 use Rattle.std.proofs.Common.{ap, arith}
 use base.Stored.{Gv, gnum, gcons}
-use Rattle.granit_model.specs.Tree.{Properties, PlainTree, AliasOf, ScalarOf, SequenceOf, MappingOf, PlainTrees, NoTrees, AfterTrees, PlainPairs, NoPairs, AfterPairs}
+use Rattle.granit_model.specs.Tree.{Properties, PlainTree, AliasOf, ScalarOf, SequenceOf, MappingOf, PlainTrees}
+use Rattle.granit_model.specs.Tree.{NoTrees, AfterTrees, PlainPairs, NoPairs, AfterPairs}
 
 abbrev text_coded : Coded (List ℕ)
 text_coded = coded_list coded_ℕ
@@ -47,19 +48,24 @@ parts g = 0
 mutual
   pub tree_same : (t u : PlainTree) → tree_code t ≡ tree_code u → t ≡ u
   tree_same (AliasOf n) (AliasOf m) e = ap AliasOf (text_coded.inj n m (ap right e))
-  tree_same (ScalarOf p a) (ScalarOf q b) e = λ i. ScalarOf (properties_coded.inj p q (ap (λ g. left (right g)) e) i) (text_coded.inj a b (ap (λ g. right (right g)) e) i)
-  tree_same (SequenceOf p a) (SequenceOf q b) e = λ i. SequenceOf (properties_coded.inj p q (ap (λ g. left (right g)) e) i) (trees_same a b (ap (λ g. right (right g)) e) i)
-  tree_same (MappingOf p a) (MappingOf q b) e = λ i. MappingOf (properties_coded.inj p q (ap (λ g. left (right g)) e) i) (pairs_same a b (ap (λ g. right (right g)) e) i)
+  tree_same (ScalarOf p a) (ScalarOf q b) e = λ i. ScalarOf (properties_coded.inj p q (ap (λ g. left (right g)) e) i)
+      (text_coded.inj a b (ap (λ g. right (right g)) e) i)
+  tree_same (SequenceOf p a) (SequenceOf q b) e = λ i. SequenceOf
+      (properties_coded.inj p q (ap (λ g. left (right g)) e) i) (trees_same a b (ap (λ g. right (right g)) e) i)
+  tree_same (MappingOf p a) (MappingOf q b) e = λ i. MappingOf (properties_coded.inj p q (ap (λ g. left (right g)) e) i)
+      (pairs_same a b (ap (λ g. right (right g)) e) i)
   tree_same t u e = absurd (omega (arith, ap (λ g. number (left g)) e))
 
   pub trees_same : (a b : PlainTrees) → trees_code a ≡ trees_code b → a ≡ b
   trees_same NoTrees NoTrees e = refl
-  trees_same (AfterTrees a t) (AfterTrees b u) e = λ i. AfterTrees (trees_same a b (ap left e) i) (tree_same t u (ap right e) i)
+  trees_same (AfterTrees a t) (AfterTrees b u) e = λ i. AfterTrees (trees_same a b (ap left e) i)
+      (tree_same t u (ap right e) i)
   trees_same a b e = absurd (omega (arith, ap parts e))
 
   pub pairs_same : (a b : PlainPairs) → pairs_code a ≡ pairs_code b → a ≡ b
   pairs_same NoPairs NoPairs e = refl
-  pairs_same (AfterPairs a k v) (AfterPairs b j w) e = λ i. AfterPairs (pairs_same a b (ap left e) i) (tree_same k j (ap (λ g. left (right g)) e) i) (tree_same v w (ap (λ g. right (right g)) e) i)
+  pairs_same (AfterPairs a k v) (AfterPairs b j w) e = λ i. AfterPairs (pairs_same a b (ap left e) i)
+      (tree_same k j (ap (λ g. left (right g)) e) i) (tree_same v w (ap (λ g. right (right g)) e) i)
   pairs_same a b e = absurd (omega (arith, ap parts e))
 
 abbrev pub trees_coded : Coded PlainTrees

@@ -4,7 +4,8 @@ use Rattle.std.specs.Option.{option_map}
 use Rattle.granit_model.specs.declared.tree.Props.{Props}
 use Rattle.granit_model.specs.declared.tree.Tree.{Tree}
 use Rattle.granit_model.specs.declared.tree.Tree.TheVariants.{Alias, Scalar, Sequence, Mapping}
-use Rattle.granit_model.specs.Tree.{Properties, PlainTree, AliasOf, ScalarOf, SequenceOf, MappingOf, PlainTrees, AfterTrees, PlainPairs, AfterPairs}
+use Rattle.granit_model.specs.Tree.{Properties, PlainTree, AliasOf, ScalarOf, SequenceOf, MappingOf, PlainTrees}
+use Rattle.granit_model.specs.Tree.{AfterTrees, PlainPairs, AfterPairs}
 
 abbrev pub properties_of : Props → Properties
 properties_of p = record {

@@ -165,7 +165,8 @@ fn mention_in_pairs(pairs: &PairList, name: &Text<'static>) -> Option<Mention>
 
 #[cycle(mention)]
 fn mention_in_pair(pair: &(Tree, Tree), name: &Text<'static>) -> Option<Mention>
-    ensures { result ≡ test.or_else (test.mention_in_tree name.now.characters (plain_tree pair.now.0)) (test.mention_in_tree name.now.characters (plain_tree pair.now.1)) }
+    ensures { result ≡ test.or_else (test.mention_in_tree name.now.characters (plain_tree pair.now.0))
+        (test.mention_in_tree name.now.characters (plain_tree pair.now.1)) }
 {
     match mention_in_tree(&pair.0, name) {
         None => mention_in_tree(&pair.1, name),

@@ -1,6 +1,7 @@
 //! Trees: the nodes of documents without places.
 ghost use Rattle.std.specs.Prelude.{◌≡◌, OnOk, OnErr, IfErr};
-ghost use Rattle.granit_model.specs.Tree.{NoTrees, AfterTrees, tree_count, no_trees, NoPairs, AfterPairs, pair_count, no_pairs};
+ghost use Rattle.granit_model.specs.Tree.{NoTrees, AfterTrees, tree_count, no_trees, NoPairs, AfterPairs, pair_count};
+ghost use Rattle.granit_model.specs.Tree.{no_pairs};
 ghost use Rattle.granit_model.specs.TreeView.{plain_tree, with_trees, with_pairs};
 
 use granit_base::Text;

@@ -1,7 +1,9 @@
 //! The canonical flow text of trees. The walk is plain recursion, so the call stack bounds the depth.
-ghost use Rattle.std.specs.Prelude.{◌≡◌, ◌<◌, ◌∷◌, ◌++◌, IfOk, OnOk, false};
+ghost use Rattle.std.specs.Prelude.{◌≡◌, ◌<◌, ◌∷◌, ◌++◌, IfOk, IfSome, OnOk, false};
 ghost use Rattle.std.specs.Option.{option_map};
 ghost use Rattle.std.specs.Str.{chars, encode_utf8_all};
+ghost use Rattle.granit_model.specs.Characters.{AreCharacters, HasCharacters, PairsHaveCharacters};
+ghost use Rattle.granit_model.specs.Characters.{PropertiesHaveCharacters, TreeHasCharacters};
 ghost use Rattle.granit_model.specs.Tree.{DocumentsFit, AliasOf, ScalarOf};
 ghost use Rattle.granit_model.specs.FlowText as flow;
 ghost use Rattle.granit_model.specs.FlowText.{Appends};
@@ -24,8 +26,10 @@ fn push_two(out: &mut String, first: char, second: char) -> Result<(), NoMemory>
     push(out, second)
 }
 
+#[tactic(auto, using(crate::proofs::TextLemmas::characters_of))]
 fn push_name(out: &mut String, name: &str) -> Result<(), NoMemory>
-    ensures { OnOk result (Appends out.old out.new (λ rest. chars name.now ++ rest)) }
+    ensures written { OnOk result (Appends out.old out.new (λ rest. chars name.now ++ rest)) }
+    ensures characters { OnOk result (AreCharacters (chars name.now)) }
 {
     push_text(out, name)
 }
@@ -95,8 +99,10 @@ fn push_quoted_character(out: &mut String, c: char) -> Result<(), NoMemory>
     }
 }
 
+#[tactic(auto, using(crate::proofs::TextLemmas::characters_of))]
 fn push_tag_bytes(out: &mut String, tag: &str) -> Result<(), NoMemory>
-    ensures { OnOk result (Appends out.old out.new (flow.tag_bytes (encode_utf8_all (chars tag.now)))) }
+    ensures written { OnOk result (Appends out.old out.new (flow.tag_bytes (encode_utf8_all (chars tag.now)))) }
+    ensures characters { OnOk result (AreCharacters (chars tag.now)) }
 {
     for b in tag.as_bytes() {
         push_tag_byte(out, *b)?;
@@ -104,8 +110,10 @@ fn push_tag_bytes(out: &mut String, tag: &str) -> Result<(), NoMemory>
     Ok(())
 }
 
+#[tactic(auto, using(crate::proofs::TextLemmas::characters_of))]
 fn push_quoted_characters(out: &mut String, text: &str) -> Result<(), NoMemory>
-    ensures { OnOk result (Appends out.old out.new (flow.quoted_characters (chars text.now))) }
+    ensures written { OnOk result (Appends out.old out.new (flow.quoted_characters (chars text.now))) }
+    ensures characters { OnOk result (AreCharacters (chars text.now)) }
 {
     for c in text.chars() {
         push_quoted_character(out, c)?;
@@ -114,7 +122,8 @@ fn push_quoted_characters(out: &mut String, text: &str) -> Result<(), NoMemory>
 }
 
 fn push_tag(out: &mut String, tag: &Option<Text<'static>>) -> Result<(), NoMemory>
-    ensures { OnOk result (Appends out.old out.new (flow.tag_text (option_map (λ t. t.characters) tag.now))) }
+    ensures written { OnOk result (Appends out.old out.new (flow.tag_text (option_map (λ t. t.characters) tag.now))) }
+    ensures characters { OnOk result (IfSome (option_map (λ t. t.characters) tag.now) AreCharacters) }
 {
     match tag {
         None => Ok(()),
@@ -127,7 +136,9 @@ fn push_tag(out: &mut String, tag: &Option<Text<'static>>) -> Result<(), NoMemor
 }
 
 fn push_anchor(out: &mut String, anchor: &Option<Text<'static>>) -> Result<(), NoMemory>
-    ensures { OnOk result (Appends out.old out.new (flow.anchor_text (option_map (λ t. t.characters) anchor.now))) }
+    ensures written { OnOk result (Appends out.old out.new
+        (flow.anchor_text (option_map (λ t. t.characters) anchor.now))) }
+    ensures characters { OnOk result (IfSome (option_map (λ t. t.characters) anchor.now) AreCharacters) }
 {
     match anchor {
         None => Ok(()),
@@ -140,7 +151,8 @@ fn push_anchor(out: &mut String, anchor: &Option<Text<'static>>) -> Result<(), N
 }
 
 fn push_properties(out: &mut String, props: &Props) -> Result<(), NoMemory>
-    ensures { OnOk result (Appends out.old out.new (flow.properties_text (properties_of props.now))) }
+    ensures written { OnOk result (Appends out.old out.new (flow.properties_text (properties_of props.now))) }
+    ensures characters { OnOk result (PropertiesHaveCharacters (properties_of props.now)) }
 {
     push_tag(out, &props.tag)?;
     push_anchor(out, &props.anchor)
@@ -157,14 +169,17 @@ fn push_comma_unless(out: &mut String, first: bool) -> Result<(), NoMemory>
 }
 
 fn push_alias(out: &mut String, name: &Text<'static>) -> Result<(), NoMemory>
-    ensures { OnOk result (Appends out.old out.new (flow.tree_text (AliasOf name.now.characters))) }
+    ensures written { OnOk result (Appends out.old out.new (flow.tree_text (AliasOf name.now.characters))) }
+    ensures characters { OnOk result (AreCharacters name.now.characters) }
 {
     push(out, '*')?;
     push_name(out, name.as_str())
 }
 
 fn push_scalar(out: &mut String, props: &Props, text: &Text<'static>) -> Result<(), NoMemory>
-    ensures { OnOk result (Appends out.old out.new (flow.tree_text (ScalarOf (properties_of props.now) text.now.characters))) }
+    ensures written { OnOk result (Appends out.old out.new
+        (flow.tree_text (ScalarOf (properties_of props.now) text.now.characters))) }
+    ensures characters { OnOk result (TreeHasCharacters (ScalarOf (properties_of props.now) text.now.characters)) }
 {
     push_properties(out, props)?;
     push(out, '"')?;
@@ -174,7 +189,8 @@ fn push_scalar(out: &mut String, props: &Props, text: &Text<'static>) -> Result<
 
 #[cycle(writing)]
 fn push_tree(out: &mut String, tree: &Tree) -> Result<(), NoMemory>
-    ensures { OnOk result (Appends out.old out.new (flow.tree_text (plain_tree tree.now))) }
+    ensures written { OnOk result (Appends out.old out.new (flow.tree_text (plain_tree tree.now))) }
+    ensures characters { OnOk result (TreeHasCharacters (plain_tree tree.now)) }
 {
     match tree {
         Tree::Alias(name) => push_alias(out, name),
@@ -197,7 +213,8 @@ fn push_tree(out: &mut String, tree: &Tree) -> Result<(), NoMemory>
 #[cycle(writing)]
 #[tactic(auto, using(crate::proofs::TreeLemmas::trees_more))]
 fn push_entries(out: &mut String, entries: &TreeList) -> Result<(), NoMemory>
-    ensures { OnOk result (Appends out.old out.new (flow.entries_text entries.now)) }
+    ensures written { OnOk result (Appends out.old out.new (flow.entries_text entries.now)) }
+    ensures characters { OnOk result (HasCharacters entries.now) }
 {
     let mut first = true;
     for entry in &entries.trees {
@@ -211,7 +228,8 @@ fn push_entries(out: &mut String, entries: &TreeList) -> Result<(), NoMemory>
 #[cycle(writing)]
 #[tactic(auto, using(crate::proofs::TreeLemmas::pairs_more))]
 fn push_pairs(out: &mut String, pairs: &PairList) -> Result<(), NoMemory>
-    ensures { OnOk result (Appends out.old out.new (flow.pairs_text pairs.now)) }
+    ensures written { OnOk result (Appends out.old out.new (flow.pairs_text pairs.now)) }
+    ensures characters { OnOk result (PairsHaveCharacters pairs.now) }
 {
     let mut first = true;
     for pair in &pairs.pairs {
@@ -224,7 +242,10 @@ fn push_pairs(out: &mut String, pairs: &PairList) -> Result<(), NoMemory>
 
 #[cycle(writing)]
 fn push_pair(out: &mut String, pair: &(Tree, Tree)) -> Result<(), NoMemory>
-    ensures { OnOk result (Appends out.old out.new (flow.pair_text (plain_tree pair.now.0) (plain_tree pair.now.1))) }
+    ensures written { OnOk result (Appends out.old out.new
+        (flow.pair_text (plain_tree pair.now.0) (plain_tree pair.now.1))) }
+    ensures characters { OnOk result (TreeHasCharacters (plain_tree pair.now.0)
+        × TreeHasCharacters (plain_tree pair.now.1)) }
 {
     push_two(out, '?', ' ')?;
     push_tree(out, &pair.0)?;
@@ -242,7 +263,9 @@ fn push_pair(out: &mut String, pair: &(Tree, Tree)) -> Result<(), NoMemory>
 #[tactic(auto, using(crate::proofs::TreeLemmas::trees_more))]
 pub fn flow_text(alloc: Global, trees: &TreeList) -> Result<Text<'static>, NoMemory>
     requires { DocumentsFit trees.now }
-    ensures { IfOk result (λ t. t ≡ record { characters = flow.flow_characters trees.now; is_borrowed = false }) }
+    ensures written { IfOk result (λ t. t
+        ≡ record { characters = flow.flow_characters trees.now; is_borrowed = false }) }
+    ensures characters { OnOk result (HasCharacters trees.now) }
 {
     let mut out = String::new(alloc);
     for root in &trees.trees {

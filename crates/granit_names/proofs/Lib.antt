@@ -5,10 +5,13 @@ pub mod HandleLaw
 pub mod HandleOnce
 pub mod Kept
 pub mod LineLaw
+pub mod NameCauses
 pub mod NameLaw
 pub mod ReservedLaw
 pub mod Runs
 pub mod Spelling
+pub mod TagCauses
 pub mod TagLaw
 pub mod TagOnce
 pub mod VersionLaw
+pub mod WrongBytes

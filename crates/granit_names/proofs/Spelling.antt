@@ -1,5 +1,6 @@
 -- What characters of a class spell, put together and taken apart.
-use Rattle.std.proofs.Common.{◌≡◌, ℕ, ◌+◌, ◌/◌, ◌<◌, ◌≤◌, ◌==◌, Bool, true, false, ◌&&◌, List, [], ◌∷◌, ◌++◌, length, append_assoc, Some, refl, sym, ap, ap₂, ◌∙◌, subst, arith, ◌⊎◌, inl, inr}
+use Rattle.std.proofs.Common.{◌≡◌, ℕ, ◌+◌, ◌/◌, ◌<◌, ◌≤◌, ◌==◌, Bool, true, false, ◌&&◌, List, [], ◌∷◌, ◌++◌, length}
+use Rattle.std.proofs.Common.{append_assoc, Some, refl, sym, ap, ap₂, ◌∙◌, subst, arith, ◌⊎◌, inl, inr}
 use Rattle.std.proofs.lemmas.Bool.{and_parts, cases_lt}
 use Rattle.std.proofs.lemmas.Bool.Decides.{nat_tests}
 use Rattle.std.proofs.lemmas.Str.{encodes-append, encode_ascii, encodes_same}
@@ -8,7 +9,8 @@ use lib.Utf8.{scalar, scalars, encode, next, scalar_cases, low_scalar}
 use Rattle.granit_base.specs.Classes.{is_digit, is_hex, is_word_char, is_uri_sign, is_uri_char, is_flow, is_tag_char}
 use Rattle.granit_lexemes.specs.Gap.{Each}
 use Rattle.granit_lexemes.specs.Tags.{bytes_behind}
-use Rattle.granit_lexemes.specs.TagExtent.{byte_of, SpellsBytes, nothing, itself, percent, SpellsText, Escapes, no_more, one_more, is_trailing}
+use Rattle.granit_lexemes.specs.TagExtent.{byte_of, SpellsBytes, nothing, itself, percent, SpellsText, Escapes, no_more}
+use Rattle.granit_lexemes.specs.TagExtent.{one_more, is_trailing}
 
 -- a class of characters that URIs have: ASCII, with `%` and digits
 pub record IsUriClass (test : ℕ → Bool) : Type 0 where
@@ -47,7 +49,8 @@ pub escapes_spell : {source bytes : List ℕ} (test : ℕ → Bool) → Escapes 
 escapes_spell test no_more = nothing
 escapes_spell test (one_more p q e) = percent p q (escapes_spell test e)
 
-pub spells-append : {test : ℕ → Bool} {a s : List ℕ} (b t : List ℕ) → SpellsBytes test a s → SpellsBytes test b t → SpellsBytes test (a ++ b) (s ++ t)
+pub spells-append : {test : ℕ → Bool} {a s : List ℕ} (b t : List ℕ) → SpellsBytes test a s → SpellsBytes test b t
+    → SpellsBytes test (a ++ b) (s ++ t)
 spells-append b t nothing q = q
 spells-append b t (itself y n p) q = itself y n (spells-append b t p q)
 spells-append b t (percent y z p) q = percent y z (spells-append b t p q)
@@ -58,9 +61,11 @@ escapes-append b t (one_more y z p) q = one_more y z (escapes-append b t p q)
 
 scalars_both : (s t : List ℕ) → scalars s ≡ true → scalars t ≡ true → scalars (s ++ t) ≡ true
 scalars_both [] t p q = q
-scalars_both (c ∷ s) t p q = let h = and_parts (scalar c) (scalars s) p in ap₂ (λ a b. a && b) h.0 (scalars_both s t h.1 q)
+scalars_both (c ∷ s) t p q = let h = and_parts (scalar c) (scalars s) p in ap₂ (λ a b. a && b) h.0
+    (scalars_both s t h.1 q)
 
-pub text-append : {test : ℕ → Bool} {a s b t : List ℕ} → SpellsText test a s → SpellsText test b t → SpellsText test (a ++ b) (s ++ t)
+pub text-append : {test : ℕ → Bool} {a s b t : List ℕ} → SpellsText test a s → SpellsText test b t
+    → SpellsText test (a ++ b) (s ++ t)
 text-append {a = a} {s = s} {b = b} {t = t} p q = record {
   bytes = p.bytes ++ q.bytes;
   spells = spells-append b q.bytes p.spells q.spells;
@@ -72,7 +77,8 @@ pub empty_spells : (test : ℕ → Bool) → SpellsText test [] []
 empty_spells test = record { bytes = []; spells = nothing; scalar = refl; encodes = refl }
 
 -- an ASCII character that stands for itself
-pub one_text : {test : ℕ → Bool} (c : ℕ) → IsUriClass test → test c ≡ true → (c == 0x25) ≡ false → SpellsText test (c ∷ []) (c ∷ [])
+pub one_text : {test : ℕ → Bool} (c : ℕ) → IsUriClass test → test c ≡ true → (c == 0x25) ≡ false
+    → SpellsText test (c ∷ []) (c ∷ [])
 one_text c k y n = record {
   bytes = c ∷ [];
   spells = itself y n nothing;
@@ -83,7 +89,8 @@ one_text c k y n = record {
 -- ---- taken apart
 
 -- all characters are of the class
-pub spelled_each : {test : ℕ → Bool} {source bytes : List ℕ} → IsUriClass test → SpellsBytes test source bytes → Each test source
+pub spelled_each : {test : ℕ → Bool} {source bytes : List ℕ} → IsUriClass test → SpellsBytes test source bytes
+    → Each test source
 spelled_each k nothing = tt
 spelled_each k (itself y n p) = (y, spelled_each k p)
 spelled_each k (percent y z p) = (k.sign, (k.digit _ y, (k.digit _ z, spelled_each k p)))
@@ -92,7 +99,8 @@ not_percent : (c : ℕ) → c ≡ 0x25 → (c == 0x25) ≡ false → ⊥
 not_percent c e n = grind (arith, nat_tests)
 
 -- characters spell one row of bytes
-pub one_row : {test : ℕ → Bool} {source bytes : List ℕ} (other row : List ℕ) → source ≡ other → SpellsBytes test source bytes → SpellsBytes test other row → bytes ≡ row
+pub one_row : {test : ℕ → Bool} {source bytes : List ℕ} (other row : List ℕ) → source ≡ other
+    → SpellsBytes test source bytes → SpellsBytes test other row → bytes ≡ row
 one_row other row e nothing nothing = refl
 one_row other row e nothing (itself y n q) = cc
 one_row other row e nothing (percent y z q) = cc
@@ -104,15 +112,18 @@ one_row other row e (itself {c} {source} y n p) (itself {c = d} {source = more} 
     ap₂ (λ k (l : List ℕ). k ∷ l) h (one_row more ds t p q)
 one_row other row e (itself {c} y n p) (percent z w q) = absurd (not_percent c (cc) n)
 one_row other row e (percent y z p) (itself {c = d} w m q) = absurd (not_percent d (cc) m)
-one_row other row e (percent {high} {low} {source} y z p) (percent {high = a} {low = b} {source = more} {bytes = ds} v w q) =
+one_row other row e (percent {high} {low} {source} y z p)
+    (percent {high = a} {low = b} {source = more} {bytes = ds} v w q) =
     let h : high ≡ a = cc in
     let g : low ≡ b = cc in
     let t : source ≡ more = cc in
     ap₂ (λ k (l : List ℕ). k ∷ l) (ap₂ byte_of h g) (one_row more ds t p q)
 
 -- and one text
-pub one_spelled : {test : ℕ → Bool} (source other text more : List ℕ) → source ≡ other → SpellsText test source text → SpellsText test other more → text ≡ more
-one_spelled source other text more e p q = encodes_same text more (p.encodes ∙ one_row other q.bytes e p.spells q.spells ∙ sym q.encodes)
+pub one_spelled : {test : ℕ → Bool} (source other text more : List ℕ) → source ≡ other → SpellsText test source text
+    → SpellsText test other more → text ≡ more
+one_spelled source other text more e p q = encodes_same text more
+    (p.encodes ∙ one_row other q.bytes e p.spells q.spells ∙ sym q.encodes)
 
 -- bytes that no character of the class is
 abbrev pub AreHigh : List ℕ → Type 0
@@ -127,9 +138,11 @@ pub record Parted (test : ℕ → Bool) (source highs bytes : List ℕ) : Type 0
   pub escapes : Escapes front highs
   pub spells : SpellsBytes test rest bytes
 
-part_one : {test : ℕ → Bool} (source bytes : List ℕ) (b : ℕ) (row : List ℕ) → IsUriClass test → 128 ≤ b → row ≡ b ∷ bytes → SpellsBytes test source row → Parted test source (b ∷ []) bytes
+part_one : {test : ℕ → Bool} (source bytes : List ℕ) (b : ℕ) (row : List ℕ) → IsUriClass test → 128 ≤ b
+    → row ≡ b ∷ bytes → SpellsBytes test source row → Parted test source (b ∷ []) bytes
 part_one source bytes b row k l e nothing = cc
-part_one source bytes b row k l e (itself {c} y n p) = absurd (let same : c ≡ b = cc in let s = k.small c y in omega arith)
+part_one source bytes b row k l e (itself {c} y n p) = absurd
+    (let same : c ≡ b = cc in let s = k.small c y in omega arith)
 part_one {test} source bytes b row k l e (percent {high} {low} {source = s} {bytes = bs} y z p) =
     let same : byte_of high low ≡ b = cc in
     let more : bs ≡ bytes = cc in
@@ -141,7 +154,8 @@ part_one {test} source bytes b row k l e (percent {high} {low} {source = s} {byt
       spells = subst (SpellsBytes test s) more p;
     }
 
-pub part : {test : ℕ → Bool} (highs source bytes : List ℕ) → IsUriClass test → AreHigh highs → SpellsBytes test source (highs ++ bytes) → Parted test source highs bytes
+pub part : {test : ℕ → Bool} (highs source bytes : List ℕ) → IsUriClass test → AreHigh highs
+    → SpellsBytes test source (highs ++ bytes) → Parted test source highs bytes
 part [] source bytes k h p = record { front = []; rest = source; whole = refl; escapes = no_more; spells = p }
 part (b ∷ highs) source bytes k h p =
     let a = part_one source (highs ++ bytes) b (b ∷ (highs ++ bytes)) k h.0 refl p in
@@ -219,7 +233,14 @@ below c (inl h) = omega arith
 below c (inr h) = h.1
 
 rows_by : (c : ℕ) → c < 1114112 → (c < 128) ⊎ (128 ≤ c) → (c < 2048) ⊎ (2048 ≤ c) → (c < 65536) ⊎ (65536 ≤ c) → Rows c
-rows_by c top (inl h) _ _ = record { lead = c; more = []; is = encode_ascii c h; wants = wants_none c h; each = tt; high = λ l. absurd (omega arith) }
+rows_by c top (inl h) _ _ = record {
+  lead = c;
+  more = [];
+  is = encode_ascii c h;
+  wants = wants_none c h;
+  each = tt;
+  high = λ l. absurd (omega arith);
+}
 rows_by c top (inr l) (inl h) _ = record {
   lead = 192 + c / 64;
   more = next c ∷ [];

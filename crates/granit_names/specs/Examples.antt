@@ -12,22 +12,22 @@ use Rattle.granit_lexemes.specs.Lexeme.{DirectiveKind}
 use Rattle.granit_lexemes.specs.Tags.{TagRead, name_at, tag_at}
 
 -- what is read and the index behind it, or what is refused and the index where
-abbrev pub outcome : {X : Type 0} → Result (X × Here) Fault → Result (X × ℕ) (FaultKind × ℕ)
-outcome (Ok (x, after)) = Ok (x, after.place.index)
-outcome (Err f) = Err (f.kind, f.mark.place.index)
+abbrev pub outcome_told : {X : Type 0} → Result (X × Here) Fault → Result (X × ℕ) (FaultKind × ℕ)
+outcome_told (Ok (x, after)) = Ok (x, after.place.index)
+outcome_told (Err f) = Err (f.kind, f.mark.place.index)
 
 -- an index of a text
 abbrev pub at_index : List ℕ → ℕ → Here
 at_index text index = over (take index text) (start_of text)
 
 abbrev pub tag_seen : Bool → List ℕ → ℕ → Result (TagRead × ℕ) (FaultKind × ℕ)
-tag_seen in_flow text index = outcome (tag_at in_flow (at_index text index))
+tag_seen in_flow text index = outcome_told (tag_at in_flow (at_index text index))
 
 abbrev pub name_seen : List ℕ → ℕ → Result (List ℕ × ℕ) (FaultKind × ℕ)
-name_seen text index = outcome (name_at (at_index text index))
+name_seen text index = outcome_told (name_at (at_index text index))
 
 abbrev pub directive_seen : OptionsData → List ℕ → Result (DirectiveKind × ℕ) (FaultKind × ℕ)
-directive_seen o text = outcome (directive_at o (start_of text))
+directive_seen o text = outcome_told (directive_at o (start_of text))
 
 -- options with other limits, and without directives
 abbrev pub few_bytes : ℕ → OptionsData
@@ -36,8 +36,8 @@ few_bytes n = record default_options { max_directive_bytes = n }
 abbrev pub few_words : ℕ → OptionsData
 few_words n = record default_options { max_reserved_directive_params = n }
 
-abbrev pub no_directives : OptionsData
-no_directives = record default_options { disallow_directives = true }
+abbrev pub directives_refused : OptionsData
+directives_refused = record default_options { disallow_directives = true }
 
 -- a directive, the index behind it, the text of the comment behind it, and the index where reading then stands
 abbrev pub line_read : Result (DirectiveRead × Here) Fault

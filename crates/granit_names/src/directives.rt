@@ -9,20 +9,24 @@ ghost use Rattle.granit_lexemes.specs.Outcome.{Fault};
 /// Where its `%` stands, an answer is the directive that stands there, with the comment behind it on its
 /// line, and where reading then stands, in front of its line's end.
 pub fn every_directive_answer_stands()
-    ensures { (o : OptionsData) (h : Here) (read : DirectiveRead) (after : Here) → next_char h ≡ 0x25 → directive o h ≡ Ok (read, after) → AnswersDirective o h read after }
+    ensures { (o : OptionsData) (h : Here) (read : DirectiveRead) (after : Here) → next_char h ≡ 0x25
+        → directive o h ≡ Ok (read, after) → AnswersDirective o h read after }
 {}
 
 /// A directive that stands there is answered.
 pub fn every_directive_is_answered()
-    ensures { (o : OptionsData) (h : Here) (read : DirectiveRead) (after : Here) → AnswersDirective o h read after → directive o h ≡ Ok (read, after) }
+    ensures { (o : OptionsData) (h : Here) (read : DirectiveRead) (after : Here) → AnswersDirective o h read after
+        → directive o h ≡ Ok (read, after) }
 {}
 
 /// Where its `%` stands, the cause of a refusal stands at its mark, and it names no source.
 pub fn every_directive_refusal_has_its_cause()
-    ensures { (o : OptionsData) (h : Here) (f : Fault) → next_char h ≡ 0x25 → directive o h ≡ Err f → RefusesDirective o h f.kind f.mark × (f.sources ≡ []) }
+    ensures { (o : OptionsData) (h : Here) (f : Fault) → next_char h ≡ 0x25 → directive o h ≡ Err f
+        → RefusesDirective o h f.kind f.mark × (f.sources ≡ []) }
 {}
 
 /// At most one directive stands at a place.
 pub fn one_directive()
-    ensures { (o : OptionsData) (h : Here) (read other : DirectiveRead) (after behind : Here) → AnswersDirective o h read after → AnswersDirective o h other behind → (read ≡ other) × (after ≡ behind) }
+    ensures { (o : OptionsData) (h : Here) (read other : DirectiveRead) (after behind : Here)
+        → AnswersDirective o h read after → AnswersDirective o h other behind → (read ≡ other) × (after ≡ behind) }
 {}

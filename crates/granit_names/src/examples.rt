@@ -1,6 +1,8 @@
 //! Worked examples by computation. Each value is the original's token of that text, or its fault.
 ghost use Rattle.std.specs.Prelude.{◌≡◌, [], ◌∷◌, ◌++◌, codes, true, false, Ok, Err};
-ghost use Rattle.granit_error.specs.FaultKind.{InvalidTagEscape, InvalidTagTerminator, InvalidTagUtf8, InvalidTagUtf8LeadingByte, InvalidTagUtf8TrailingByte, MissingAnchorOrAliasName, MissingTagUri, UnclosedVerbatimTag};
+ghost use Rattle.granit_error.specs.FaultKind.{InvalidTagEscape, InvalidTagTerminator, InvalidTagUtf8};
+ghost use Rattle.granit_error.specs.FaultKind.{InvalidTagUtf8LeadingByte, InvalidTagUtf8TrailingByte};
+ghost use Rattle.granit_error.specs.FaultKind.{MissingAnchorOrAliasName, MissingTagUri, UnclosedVerbatimTag};
 ghost use Rattle.granit_lexemes.specs.Tags.{tag_of};
 ghost use Rattle.granit_names.specs.Examples.{name_seen, tag_seen};
 
@@ -15,7 +17,8 @@ pub fn names_of_the_examples()
     ensures percent { name_seen (codes "&%4 c") 0 ≡ Ok ((codes "%4"), 3) }
     ensures quote { name_seen (codes "&\"a c") 0 ≡ Ok ((codes "\"a"), 3) }
     ensures accent { name_seen ((codes "&") ++ (0xE9 ∷ []) ++ (codes " c")) 0 ≡ Ok ((0xE9 ∷ []), 2) }
-    ensures next_line_mark { name_seen ((codes "&a") ++ (0x85 ∷ []) ++ (codes "b c")) 0 ≡ Ok (((codes "a") ++ (0x85 ∷ []) ++ (codes "b")), 4) }
+    ensures next_line_mark { name_seen ((codes "&a") ++ (0x85 ∷ []) ++ (codes "b c")) 0
+        ≡ Ok (((codes "a") ++ (0x85 ∷ []) ++ (codes "b")), 4) }
     ensures beyond { name_seen ((codes "&") ++ (0x1F600 ∷ []) ++ (codes " c")) 0 ≡ Ok ((0x1F600 ∷ []), 2) }
     ensures end { name_seen (codes "&a") 0 ≡ Ok ((codes "a"), 2) }
     ensures line { name_seen ((codes "&a") ++ (0xA ∷ [])) 0 ≡ Ok ((codes "a"), 2) }
@@ -45,11 +48,13 @@ pub fn tags_of_the_examples()
     ensures named { tag_seen false (codes "!e!tag a") 0 ≡ Ok (tag_of (codes "!e!") (codes "tag"), 6) }
     ensures escaped { tag_seen false (codes "!e!tag%21 a") 0 ≡ Ok (tag_of (codes "!e!") (codes "tag!"), 9) }
     ensures accent { tag_seen false (codes "!e!%C3%A9 a") 0 ≡ Ok (tag_of (codes "!e!") (0xE9 ∷ []), 9) }
-    ensures accent_first { tag_seen false (codes "!%c3%a9x a") 0 ≡ Ok (tag_of (codes "!") ((0xE9 ∷ []) ++ (codes "x")), 8) }
+    ensures accent_first { tag_seen false (codes "!%c3%a9x a") 0
+        ≡ Ok (tag_of (codes "!") ((0xE9 ∷ []) ++ (codes "x")), 8) }
     ensures three { tag_seen false (codes "!%E2%82%AC a") 0 ≡ Ok (tag_of (codes "!") (0x20AC ∷ []), 10) }
     ensures four { tag_seen false (codes "!%F0%9F%98%80 a") 0 ≡ Ok (tag_of (codes "!") (0x1F600 ∷ []), 13) }
     ensures letter_escaped { tag_seen false (codes "!a%41b c") 0 ≡ Ok (tag_of (codes "!") (codes "aAb"), 6) }
-    ensures signs { tag_seen false (codes "!a;/?:@&=+$_.~*'()# b") 0 ≡ Ok (tag_of (codes "!") (codes "a;/?:@&=+$_.~*'()#"), 19) }
+    ensures signs { tag_seen false (codes "!a;/?:@&=+$_.~*'()# b") 0
+        ≡ Ok (tag_of (codes "!") (codes "a;/?:@&=+$_.~*'()#"), 19) }
     ensures verbatim { tag_seen false (codes "!<tag:x%20y> a") 0 ≡ Ok (tag_of [] (codes "tag:x y"), 12) }
     ensures verbatim_bang { tag_seen false (codes "!<!a> b") 0 ≡ Ok (tag_of [] (codes "!a"), 5) }
     ensures verbatim_flow_signs { tag_seen false (codes "!<a,[b]> c") 0 ≡ Ok (tag_of [] (codes "a,[b]"), 8) }

@@ -1,14 +1,17 @@
-//! Runs the calls that read block scalars, tags and names on each case of standard input, and prints the token that they
-//! give, with the comment behind it, or the fault. A case is a line: how many characters stand before the lexeme, the
-//! column of the block around it or `-`, `literal`, `folded`, `tag`, `flow tag`, `anchor` or `alias`, and the text as a
-//! JSON string. The stored lines are the original's tokens of the whole text, or its fault; none of it is this program's.
+//! Runs the calls that read block scalars, tags, names and directives on each case of standard input, and prints the
+//! token that they give, with the comment behind it, or the fault. A case is a line: how many characters stand before
+//! the lexeme, the column of the block around it or `-`, `literal`, `folded`, `tag`, `flow tag`, `anchor`, `alias`,
+//! `directive`, `directive without comments` or `forbidden directive`, and the text as a JSON string. A directive has
+//! its two limits in the place of the column, or `-` for the usual ones. The stored lines are the original's tokens of
+//! the whole text, or its fault; none of it is this program's.
 #![tactic(auto)]
 
 use anyhow::{Context, Result};
-use granit_base::{Marker, Placement, ScalarStyle, Text};
+use granit_base::{Marker, Placement, ScalarStyle, Text, TextList};
 use granit_block::scan_block_scalar;
 use granit_cursor::{Cursor, Layout, Lexed, Token, TokenType};
-use granit_error::ScanError;
+use granit_directives::scan_directive;
+use granit_error::{Options, ScanError};
 use granit_input::{Input, StrInput};
 use granit_properties::{scan_anchor, scan_tag};
 use serde_json::Value;
@@ -24,6 +27,18 @@ fn layout(column: &str) -> Layout {
         strict: false,
         comments: true,
     }
+}
+
+/// The options of a directive's case.
+fn options(limits: &str, kind: &str) -> Options {
+    let mut options = Options::default();
+    options.emit_comments = kind != "directive without comments";
+    options.disallow_directives = kind == "forbidden directive";
+    if let Some((bytes, words)) = limits.split_once(' ') {
+        options.max_directive_bytes = bytes.parse::<usize>().unwrap_or(0);
+        options.max_reserved_directive_params = words.parse::<usize>().unwrap_or(0);
+    }
+    options
 }
 
 /// A cursor that many characters into a text.
@@ -63,6 +78,7 @@ fn lexeme_at<'a>(
         ("flow tag", '!') => Some(alone(scan_tag(alloc, cursor, true))),
         ("anchor", '&') => Some(alone(scan_anchor(alloc, cursor, false))),
         ("alias", '*') => Some(alone(scan_anchor(alloc, cursor, true))),
+        (_, '%') => Some(scan_directive(alloc, cursor, &options(column, kind))),
         _ => None,
     }
 }
@@ -87,6 +103,15 @@ fn placement_word(placement: Placement) -> &'static str {
     }
 }
 
+/// A reserved directive's name and words.
+fn reserved_words(alloc: Global, name: &Text<'_>, words: &TextList) -> Result<String> {
+    let mut line = format!(in alloc; "ReservedDirective {}", quoted(alloc, name)?)?;
+    for word in words.as_slice() {
+        line.push_str(format!(in alloc; " \"{}\"", word.as_str().escape_default())?.as_str())?;
+    }
+    Ok(line)
+}
+
 /// What a token says.
 fn token_words(alloc: Global, token: &TokenType<'_>) -> Result<String> {
     Ok(match token {
@@ -101,6 +126,14 @@ fn token_words(alloc: Global, token: &TokenType<'_>) -> Result<String> {
         }
         TokenType::Anchor(name) => format!(in alloc; "Anchor {}", quoted(alloc, name)?)?,
         TokenType::Alias(name) => format!(in alloc; "Alias {}", quoted(alloc, name)?)?,
+        TokenType::VersionDirective(major, minor) => {
+            format!(in alloc; "VersionDirective {major}.{minor}")?
+        }
+        TokenType::TagDirective(handle, prefix) => {
+            let handle = quoted(alloc, handle)?;
+            format!(in alloc; "TagDirective {handle} {}", quoted(alloc, prefix)?)?
+        }
+        TokenType::ReservedDirective(name, words) => reserved_words(alloc, name, words)?,
         TokenType::Comment(comment) => {
             let word = placement_word(comment.placement());
             format!(in alloc; "Comment {word} \"{}\"", comment.text().escape_default())?

@@ -5,13 +5,15 @@ use Rattle.granit_base.specs.Place.{Mark}
 use Rattle.granit_flow.specs.Here.{Here, next_char, step}
 use Rattle.granit_flow.specs.Quoted.{digits, refuse_at}
 
-pub digits_go : (start : Mark) (n i v : ℕ) (h : Here) → i < n → is_hex (next_char h) ≡ true → digits start (n - i) v h ≡ digits start (n - (i + 1)) (v * 16 + hex_value (next_char h)) (step h)
+pub digits_go : (start : Mark) (n i v : ℕ) (h : Here) → i < n → is_hex (next_char h) ≡ true
+    → digits start (n - i) v h ≡ digits start (n - (i + 1)) (v * 16 + hex_value (next_char h)) (step h)
 unfolding digits
 digits_go start n i v h lt is =
     let k : n - i ≡ suc (n - (i + 1)) = omega arith in
     rw (k, is) refl
 
-pub digits_stop : (start : Mark) (n i v : ℕ) (h : Here) → i < n → is_hex (next_char h) ≡ false → digits start (n - i) v h ≡ refuse_at start
+pub digits_stop : (start : Mark) (n i v : ℕ) (h : Here) → i < n → is_hex (next_char h) ≡ false
+    → digits start (n - i) v h ≡ refuse_at start
 unfolding digits
 digits_stop start n i v h lt is =
     let k : n - i ≡ suc (n - (i + 1)) = omega arith in

@@ -1,8 +1,11 @@
 -- What the code's glyphs, lexemes and open brackets say.
 use Rattle.std.specs.Prelude.{List, map, reverse}
 use Rattle.granit_base.specs.Written.{Written, string_chars}
-use Rattle.granit_flow.specs.Lexeme.{Lexeme, LexemeKind, DocumentStart, SequenceOpen, SequenceClose, MappingOpen, MappingClose, Comma, Question, Colon, Tag, Anchor, Alias, Scalar, Bracket, Square, Curly, Opener}
-use Rattle.granit_flow.specs.Start.{Glyph, Dash, DoubleQuote, LeftSquare, RightSquare, LeftCurly, RightCurly, CommaSign, QuestionSign, ColonSign, Exclamation, Ampersand, Asterisk, Foreign}
+use Rattle.granit_flow.specs.Lexeme.{Lexeme, LexemeKind, DocumentStart, SequenceOpen, SequenceClose, MappingOpen}
+use Rattle.granit_flow.specs.Lexeme.{MappingClose, Comma, Question, Colon, Tag, Anchor, Alias, Scalar, Bracket, Square}
+use Rattle.granit_flow.specs.Lexeme.{Curly, Opener}
+use Rattle.granit_flow.specs.Start.{Glyph, Dash, DoubleQuote, LeftSquare, RightSquare, LeftCurly, RightCurly, CommaSign}
+use Rattle.granit_flow.specs.Start.{QuestionSign, ColonSign, Exclamation, Ampersand, Asterisk, Foreign}
 use Rattle.granit_parser.specs.declared.glyph.Glyph.{Glyph as CodeGlyph}
 use Rattle.granit_parser.specs.declared.glyph.Glyph.TheVariants as glyphs
 use Rattle.granit_parser.specs.declared.lexeme.LexemeKind.{LexemeKind as CodeKind}

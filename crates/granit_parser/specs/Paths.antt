@@ -1,6 +1,8 @@
 -- What the code's path says.
 use Rattle.std.specs.Prelude.{List, ◌∷◌, map, reverse, Option, Some, None}
-use Rattle.granit_flow.specs.Path.{SequenceStage, SequenceOpened, AtEntry, BehindEntry, MappingStage, MappingOpened, AtPair, AtKey, BehindKey, AtValue, BehindPair, Frame, Root, FlowSequence, FlowMapping, WithProperties, Path, ParserState}
+use Rattle.granit_flow.specs.Path.{SequenceStage, SequenceOpened, AtEntry, BehindEntry, MappingStage, MappingOpened}
+use Rattle.granit_flow.specs.Path.{AtPair, AtKey, BehindKey, AtValue, BehindPair, Frame, Root, FlowSequence}
+use Rattle.granit_flow.specs.Path.{FlowMapping, WithProperties, Path, ParserState}
 use Rattle.granit_parser.specs.declared.path.SequenceStage.{SequenceStage as CodeSequenceStage}
 use Rattle.granit_parser.specs.declared.path.SequenceStage.TheVariants as sequences
 use Rattle.granit_parser.specs.declared.path.MappingStage.{MappingStage as CodeMappingStage}

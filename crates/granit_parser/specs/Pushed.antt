@@ -1,4 +1,5 @@
--- What a function does that appends its items to a list: the items and the state that it leaves are those that the definition gives.
+-- What a function does that appends its items to a list: the items and the state that it leaves are those that the
+-- definition gives.
 use Rattle.std.specs.Prelude.{◌≡◌, Bool, true, false, List, ◌++◌, Option, Some, None, Result, Ok, Err}
 use Rattle.granit_error.specs.Refused.{Refused}
 use Rattle.granit_lexemes.specs.Outcome.{Fault, Fails}
@@ -22,6 +23,7 @@ TurnedOk more after old new (Ok x) = TurnedBy more old new x.0 × (after ≡ x.1
 TurnedOk more after old new (Err f) = ⊥
 
 -- the same of a turn, which says whether there is more
-abbrev pub Turned : {S A : Type 0} → Result Bool Refused → S → List A → List A → Result (Option (List A) × S) Fault → Type 0
+abbrev pub Turned : {S A : Type 0} → Result Bool Refused → S → List A → List A → Result (Option (List A) × S) Fault
+    → Type 0
 Turned (Ok more) after old new given = TurnedOk more after old new given
 Turned (Err e) after old new given = Fails e given

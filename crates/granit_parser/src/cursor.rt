@@ -27,9 +27,13 @@ impl<'a> Model for Cursor<'a> {
 
     ghost Value = { Here };
 
-    ghost view = { λ c. record { unread = record { text = chars c.rest.now; offset = Some c.byte_offset; lends = true }; place = record { index = c.index; line = c.line; column = c.col } } };
+    ghost view = { λ c. record {
+      unread = record { text = chars c.rest.now; offset = Some c.byte_offset; lends = true };
+      place = record { index = c.index; line = c.line; column = c.col };
+    } };
 
-    ghost invariant = { λ c. (c.index + length (chars c.rest.now) < 2 ^ 63) × (c.byte_offset + length c.rest.now < 2 ^ 63) × (c.line ≤ c.index + 1) × (c.col ≤ c.index) };
+    ghost invariant = { λ c. (c.index + length (chars c.rest.now) < 2 ^ 63)
+        × (c.byte_offset + length c.rest.now < 2 ^ 63) × (c.line ≤ c.index + 1) × (c.col ≤ c.index) };
 }
 
 impl<'a> Cursor<'a> {

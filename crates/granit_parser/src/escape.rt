@@ -87,7 +87,8 @@ impl<'a> Cursor<'a> {
     /// closing quote, which is left: whether there may be more.
     #[tactic(auto, unfolding(granit_flow::specs::Quoted::escaped_piece))]
     fn escaped_piece(&mut self, start: Marker, value: &mut String) -> Result<bool, ScanError>
-        ensures { Turned result self.new (string_chars value.old) (string_chars value.new) (spec.escaped_piece start self.old) }
+        ensures { Turned result self.new (string_chars value.old) (string_chars value.new)
+            (spec.escaped_piece start self.old) }
     {
         match self.peek() {
             '"' => Ok(false),
@@ -105,7 +106,8 @@ impl<'a> Cursor<'a> {
 
     /// The characters from an escape up to the closing quote, which are appended.
     fn escaped_pieces(&mut self, start: Marker, value: &mut String) -> Result<(), ScanError>
-        ensures { Pushed result self.new (string_chars value.old) (string_chars value.new) (spec.escaped_pieces start self.old) }
+        ensures { Pushed result self.new (string_chars value.old) (string_chars value.new)
+            (spec.escaped_pieces start self.old) }
     {
         'pieces: while self.escaped_piece(start, value)? {}
         Ok(())
@@ -118,7 +120,8 @@ impl<'a> Cursor<'a> {
         start: Marker,
         front: &str,
     ) -> Result<String, ScanError>
-        ensures { Gives string_chars result self.new (with_front (chars front.now) (spec.escaped_pieces start self.old)) }
+        ensures { Gives string_chars result self.new
+            (with_front (chars front.now) (spec.escaped_pieces start self.old)) }
     {
         let mut value = String::new(alloc);
         push_text(&mut value, front)?;

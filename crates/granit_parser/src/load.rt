@@ -4,9 +4,11 @@ ghost use Rattle.std.specs.Option.{option_copied};
 ghost use Rattle.std.specs.Str.{chars};
 ghost use Rattle.granit_base.specs.Place.{Mark};
 ghost use Rattle.granit_error.specs.OptionsView.{options_of};
-ghost use Rattle.granit_error.specs.FaultKind.{FaultKind, RecursionLimitExceeded, UnknownAnchor, NoMemory as OutOfMemory};
+ghost use Rattle.granit_error.specs.FaultKind.{FaultKind, RecursionLimitExceeded, UnknownAnchor};
+ghost use Rattle.granit_error.specs.FaultKind.{NoMemory as OutOfMemory};
 ghost use Rattle.granit_error.specs.OptionsData.{OptionsData};
-ghost use Rattle.granit_canonical.specs.Canonical.{HasCharacters, canonical_events};
+ghost use Rattle.granit_canonical.specs.Canonical.{canonical_events};
+ghost use Rattle.granit_model.specs.Characters.{HasCharacters};
 ghost use Rattle.granit_flow.specs.Cause.{Cause};
 ghost use Rattle.granit_flow.specs.Events.{SpansIn};
 ghost use Rattle.granit_model.specs.FlowText.{flow_characters};
@@ -111,11 +113,18 @@ pub fn load_str<'a>(alloc: Global, text: &'a str, options: Options) -> Result<Ev
     ensures value { GivesValue plain_events result (events_of (options_of options) (chars text.now)) }
     ensures reading { IfOk result (λ v. IsReading (options_of options) (chars text.now) (plain_events v)) }
     ensures spans { IfOk result (λ v. SpansIn (chars text.now) (plain_events v)) }
-    ensures answered { (ls : List Lexeme) (ds : Documents) → Reading (options_of options) (chars text.now) ls ds → Resolves (options_of options) [] ls → IfErr result (λ e. e.kind ≡ OutOfMemory) }
-    ensures deeper { (p : OptionsData) (ls : List Lexeme) (ds : Documents) → Reading p (chars text.now) ls ds → IfErr result (λ e. (e.kind ≡ OutOfMemory) ⊎ (e.kind ≡ RecursionLimitExceeded) ⊎ (e.kind ≡ UnknownAnchor)) }
-    ensures cause { IfErr result (λ e. (e.kind ≡ OutOfMemory) ⊎ (Cause (options_of options) (chars text.now) e.kind e.mark × (e.sources ≡ []))) }
-    ensures refused { (kind : FaultKind) (m : Mark) → Cause (options_of options) (chars text.now) kind m → IfOk result (λ v. ⊥) × IfErr result (λ e. (e.kind ≡ OutOfMemory) ⊎ (e ≡ fault_at kind m)) }
-    ensures canonical { (ts : PlainTrees) → DocumentsFit ts → HasCharacters ts → trees_depth ts ≤ (options_of options).flow_nesting_limit → chars text.now ≡ flow_characters ts → IfErr result (λ e. e.kind ≡ OutOfMemory) × IfOk result (λ v. plain_events v ≡ canonical_events (options_of options) ts) }
+    ensures answered { (ls : List Lexeme) (ds : Documents) → Reading (options_of options) (chars text.now) ls ds
+        → Resolves (options_of options) [] ls → IfErr result (λ e. e.kind ≡ OutOfMemory) }
+    ensures deeper { (p : OptionsData) (ls : List Lexeme) (ds : Documents) → Reading p (chars text.now) ls ds
+        → IfErr result (λ e. (e.kind ≡ OutOfMemory) ⊎ (e.kind ≡ RecursionLimitExceeded) ⊎ (e.kind ≡ UnknownAnchor)) }
+    ensures cause { IfErr result (λ e. (e.kind ≡ OutOfMemory)
+        ⊎ (Cause (options_of options) (chars text.now) e.kind e.mark × (e.sources ≡ []))) }
+    ensures refused { (kind : FaultKind) (m : Mark) → Cause (options_of options) (chars text.now) kind m
+        → IfOk result (λ v. ⊥) × IfErr result (λ e. (e.kind ≡ OutOfMemory) ⊎ (e ≡ fault_at kind m)) }
+    ensures canonical { (ts : PlainTrees) → DocumentsFit ts → HasCharacters ts
+        → trees_depth ts ≤ (options_of options).flow_nesting_limit → chars text.now ≡ flow_characters ts
+        → IfErr result (λ e. e.kind ≡ OutOfMemory)
+        × IfOk result (λ v. plain_events v ≡ canonical_events (options_of options) ts) }
 {
     load(alloc, text, &options)
 }

@@ -59,7 +59,8 @@ impl<'a> Parser<'a> {
         events: &mut Vec<(Event<'a>, Span)>,
     ) -> Result<bool, ScanError>
         requires { self.old.parser.anchors.count + spec.size self.old < 2 ^ 63 }
-        ensures { Turned result self.new (plain_events events.old.items) (plain_events events.new.items) (spec.turn (options_of options.now) self.old) }
+        ensures { Turned result self.new (plain_events events.old.items) (plain_events events.new.items)
+            (spec.turn (options_of options.now) self.old) }
     {
         match self.scanner.next_lexeme(options) {
             Err(e) => Err(e),
@@ -84,7 +85,8 @@ impl<'a> Parser<'a> {
         events: &mut Vec<(Event<'a>, Span)>,
     ) -> Result<(), ScanError>
         requires { self.old.parser.anchors.count + spec.size self.old < 2 ^ 63 }
-        ensures { Pushed result self.new (plain_events events.old.items) (plain_events events.new.items) (pieces spec.size (spec.turn (options_of options.now)) self.old) }
+        ensures { Pushed result self.new (plain_events events.old.items) (plain_events events.new.items)
+            (pieces spec.size (spec.turn (options_of options.now)) self.old) }
     {
         'turns: while self.turn(options, events)? {}
         Ok(())

@@ -96,7 +96,8 @@ pub(crate) fn step_on<'a>(
     events: &mut Vec<(Event<'a>, Span)>,
 ) -> Result<(), ScanError>
     requires { path.old.anchors.count < 2 ^ 63 }
-    ensures { Pushed result (parser_view path.new) (plain_events events.old.items) (plain_events events.new.items) (spec.step_on (options_of options.now) (parser_view path.old) (lexeme_view lexeme.entry)) }
+    ensures { Pushed result (parser_view path.new) (plain_events events.old.items) (plain_events events.new.items)
+        (spec.step_on (options_of options.now) (parser_view path.old) (lexeme_view lexeme.entry)) }
 {
     if let Some(properties) = path.pending.take() {
         return behind_properties(properties, path, options, lexeme, events);
@@ -120,7 +121,16 @@ fn document<'a>(
     events: &mut Vec<(Event<'a>, Span)>,
 ) -> Result<(), ScanError>
     requires { path.old.pending ≡ None }
-    ensures { Pushed result (parser_view path.new) (plain_events events.old.items) (plain_events events.new.items) (Ok (event_at (kinds.DocumentStart true None) (record { start = start; end = end }) ∷ [], record { path = spec.Root ∷ path_view path.old.frames.items; anchors = record path.old.anchors { known = [] } })) }
+    ensures { Pushed result (parser_view path.new) (plain_events events.old.items) (plain_events events.new.items)
+        (Ok (
+          event_at (kinds.DocumentStart true None) (record { start = start; end = end })
+              ∷ [],
+          record {
+            path = spec.Root ∷ path_view path.old.frames.items;
+            anchors =
+                record path.old.anchors { known = [] };
+          },
+        )) }
 {
     events.push((Event::DocumentStart(true, None), Span::new(start, end)))?;
     path.frames.push(Frame::Root)?;
@@ -138,7 +148,10 @@ fn in_sequence<'a>(
 ) -> Result<(), ScanError>
     requires idle { path.old.pending ≡ None }
     requires few { path.old.anchors.count < 2 ^ 63 }
-    ensures { Pushed result (parser_view path.new) (plain_events events.old.items) (plain_events events.new.items) (spec.step_in (options_of options.now) path.old.anchors (spec.FlowSequence (sequence_stage stage) ∷ path_view path.old.frames.items) (lexeme_view lexeme.entry).kind (lexeme_view lexeme.entry)) }
+    ensures { Pushed result (parser_view path.new) (plain_events events.old.items) (plain_events events.new.items)
+        (spec.step_in (options_of options.now) path.old.anchors
+        (spec.FlowSequence (sequence_stage stage) ∷ path_view path.old.frames.items) (lexeme_view lexeme.entry).kind
+        (lexeme_view lexeme.entry)) }
 {
     match stage {
         SequenceStage::Opened => match lexeme.kind {
@@ -170,7 +183,10 @@ fn in_mapping<'a>(
 ) -> Result<(), ScanError>
     requires idle { path.old.pending ≡ None }
     requires few { path.old.anchors.count < 2 ^ 63 }
-    ensures { Pushed result (parser_view path.new) (plain_events events.old.items) (plain_events events.new.items) (spec.step_in (options_of options.now) path.old.anchors (spec.FlowMapping (mapping_stage stage) ∷ path_view path.old.frames.items) (lexeme_view lexeme.entry).kind (lexeme_view lexeme.entry)) }
+    ensures { Pushed result (parser_view path.new) (plain_events events.old.items) (plain_events events.new.items)
+        (spec.step_in (options_of options.now) path.old.anchors
+        (spec.FlowMapping (mapping_stage stage) ∷ path_view path.old.frames.items) (lexeme_view lexeme.entry).kind
+        (lexeme_view lexeme.entry)) }
 {
     match (stage, &lexeme.kind) {
         (MappingStage::AtKey | MappingStage::AtValue, _) => {
@@ -206,7 +222,9 @@ fn node_in<'a>(
 ) -> Result<(), ScanError>
     requires idle { path.old.pending ≡ None }
     requires few { path.old.anchors.count < 2 ^ 63 }
-    ensures { Pushed result (parser_view path.new) (plain_events events.old.items) (plain_events events.new.items) (spec.node (options_of options.now) path.old.anchors (frame_view frame ∷ path_view path.old.frames.items) (lexeme_view lexeme.entry).kind (lexeme_view lexeme.entry)) }
+    ensures { Pushed result (parser_view path.new) (plain_events events.old.items) (plain_events events.new.items)
+        (spec.node (options_of options.now) path.old.anchors (frame_view frame ∷ path_view path.old.frames.items)
+        (lexeme_view lexeme.entry).kind (lexeme_view lexeme.entry)) }
 {
     path.frames.push(frame)?;
     node(path, options, lexeme, events)
@@ -221,7 +239,9 @@ fn node<'a>(
 ) -> Result<(), ScanError>
     requires idle { path.old.pending ≡ None }
     requires few { path.old.anchors.count < 2 ^ 63 }
-    ensures { Pushed result (parser_view path.new) (plain_events events.old.items) (plain_events events.new.items) (spec.node (options_of options.now) path.old.anchors (path_view path.old.frames.items) (lexeme_view lexeme.entry).kind (lexeme_view lexeme.entry)) }
+    ensures { Pushed result (parser_view path.new) (plain_events events.old.items) (plain_events events.new.items)
+        (spec.node (options_of options.now) path.old.anchors (path_view path.old.frames.items)
+        (lexeme_view lexeme.entry).kind (lexeme_view lexeme.entry)) }
 {
     let Lexeme { kind, start, end } = lexeme;
     match kind {
@@ -266,7 +286,10 @@ fn behind_properties<'a>(
 ) -> Result<(), ScanError>
     requires idle { path.old.pending ≡ None }
     requires few { path.old.anchors.count < 2 ^ 63 }
-    ensures { Pushed result (parser_view path.new) (plain_events events.old.items) (plain_events events.new.items) (spec.behind_properties (options_of options.now) path.old.anchors (properties_view properties.entry) (properties_view properties.entry).anchor (path_view path.old.frames.items) (lexeme_view lexeme.entry).kind (lexeme_view lexeme.entry)) }
+    ensures { Pushed result (parser_view path.new) (plain_events events.old.items) (plain_events events.new.items)
+        (spec.behind_properties (options_of options.now) path.old.anchors (properties_view properties.entry)
+        (properties_view properties.entry).anchor (path_view path.old.frames.items) (lexeme_view lexeme.entry).kind
+        (lexeme_view lexeme.entry)) }
 {
     if properties.anchor.is_some() {
         return body(properties, path, options, lexeme, events);
@@ -300,7 +323,9 @@ fn body<'a>(
 ) -> Result<(), ScanError>
     requires idle { path.old.pending ≡ None }
     requires few { path.old.anchors.count < 2 ^ 63 }
-    ensures { Pushed result (parser_view path.new) (plain_events events.old.items) (plain_events events.new.items) (spec.body (options_of options.now) path.old.anchors (properties_view properties.entry) (path_view path.old.frames.items) (lexeme_view lexeme.entry).kind (lexeme_view lexeme.entry)) }
+    ensures { Pushed result (parser_view path.new) (plain_events events.old.items) (plain_events events.new.items)
+        (spec.body (options_of options.now) path.old.anchors (properties_view properties.entry)
+        (path_view path.old.frames.items) (lexeme_view lexeme.entry).kind (lexeme_view lexeme.entry)) }
 {
     let Lexeme { kind, start, end } = lexeme;
     let Properties { tag, anchor } = properties;
@@ -339,8 +364,11 @@ fn begin<'a>(
     requires { path.old.anchors.count < 2 ^ 63 }
     ensures memory { IfErr result (λ e. e.kind ≡ faults.NoMemory) }
     ensures path { OnOk result ((path.new.frames ≡ path.old.frames) × (path.new.pending ≡ path.old.pending)) }
-    ensures anchors { OnOk result (path.new.anchors ≡ spec.with_anchor (option_map anchor_view anchor.entry) path.old.anchors) }
-    ensures events { OnOk result (plain_events events.new.items ≡ plain_events events.old.items ++ record { kind = event_kind event.entry; span = span } ∷ spec.anchor_event (options_of options.now) (option_map anchor_view anchor.entry) path.old.anchors) }
+    ensures anchors { OnOk result (path.new.anchors
+        ≡ spec.with_anchor (option_map anchor_view anchor.entry) path.old.anchors) }
+    ensures events { OnOk result (plain_events events.new.items
+        ≡ plain_events events.old.items ++ record { kind = event_kind event.entry; span = span }
+        ∷ spec.anchor_event (options_of options.now) (option_map anchor_view anchor.entry) path.old.anchors) }
 {
     events.push((event, span))?;
     match anchor {
@@ -362,7 +390,9 @@ fn tell_anchor<'a>(
 ) -> Result<(), ScanError>
     requires { path.now.anchors.count < 2 ^ 63 }
     ensures memory { IfErr result (λ e. e.kind ≡ faults.NoMemory) }
-    ensures events { OnOk result (plain_events events.new.items ≡ plain_events events.old.items ++ spec.anchor_event (options_of options.now) (Some (anchor_view anchor.now)) path.now.anchors) }
+    ensures events { OnOk result (plain_events events.new.items
+        ≡ plain_events events.old.items ++ spec.anchor_event (options_of options.now) (Some (anchor_view anchor.now))
+        path.now.anchors) }
 {
     if !options.emit_anchor_events {
         return Ok(());
@@ -383,7 +413,10 @@ fn alias<'a>(
     events: &mut Vec<(Event<'a>, Span)>,
 ) -> Result<(), ScanError>
     requires { path.old.pending ≡ None }
-    ensures { Pushed result (parser_view path.new) (plain_events events.old.items) (plain_events events.new.items) (spec.alias (options_of options.now) path.old.anchors (path_view path.old.frames.items) (spec.number_of name.entry path.old.anchors) name.entry (record { kind = lexemes.Alias name.entry; source = record { start = start; end = end } })) }
+    ensures { Pushed result (parser_view path.new) (plain_events events.old.items) (plain_events events.new.items)
+        (spec.alias (options_of options.now) path.old.anchors (path_view path.old.frames.items)
+        (spec.number_of name.entry path.old.anchors) name.entry
+        (record { kind = lexemes.Alias name.entry; source = record { start = start; end = end } })) }
 {
     match path.anchors.number_of(&name) {
         Some(number) => finished(Event::Alias(number), start, end, path, events),
@@ -405,7 +438,8 @@ fn misplaced(start: Marker) -> ScanError
 fn goes_on(frame: Frame, path: &mut Path<'_>) -> Result<(), ScanError>
     requires { path.old.pending ≡ None }
     ensures memory { IfErr result (λ e. e.kind ≡ faults.NoMemory) }
-    ensures value { OnOk result (parser_view path.new ≡ record { path = frame_view frame ∷ path_view path.old.frames.items; anchors = path.old.anchors }) }
+    ensures value { OnOk result (parser_view path.new
+        ≡ record { path = frame_view frame ∷ path_view path.old.frames.items; anchors = path.old.anchors }) }
 {
     path.frames.push(frame)?;
     Ok(())
@@ -420,7 +454,9 @@ fn finished<'a>(
     events: &mut Vec<(Event<'a>, Span)>,
 ) -> Result<(), ScanError>
     requires { path.old.pending ≡ None }
-    ensures { Pushed result (parser_view path.new) (plain_events events.old.items) (plain_events events.new.items) (spec.finished (event_kind event.entry) (record { start = start; end = end }) (path_view path.old.frames.items) path.old.anchors) }
+    ensures { Pushed result (parser_view path.new) (plain_events events.old.items) (plain_events events.new.items)
+        (spec.finished (event_kind event.entry) (record { start = start; end = end }) (path_view path.old.frames.items)
+        path.old.anchors) }
 {
     events.push((event, Span::new(start, end)))?;
     behind_node(end, path, events)
@@ -433,7 +469,11 @@ fn behind_node<'a>(
     events: &mut Vec<(Event<'a>, Span)>,
 ) -> Result<(), ScanError>
     requires { path.old.pending ≡ None }
-    ensures { Pushed result (parser_view path.new) (plain_events events.old.items) (plain_events events.new.items) (Ok (spec.root_end (path_view path.old.frames.items) end, record { path = spec.behind_node (path_view path.old.frames.items); anchors = path.old.anchors })) }
+    ensures { Pushed result (parser_view path.new) (plain_events events.old.items) (plain_events events.new.items)
+        (Ok (
+          spec.root_end (path_view path.old.frames.items) end,
+          record { path = spec.behind_node (path_view path.old.frames.items); anchors = path.old.anchors },
+        )) }
 {
     match path.frames.pop() {
         None => {}

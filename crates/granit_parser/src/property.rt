@@ -129,7 +129,11 @@ impl<'a> Anchors<'a> {
     /// `NoMemory` alone.
     pub(crate) fn add(&mut self, name: Text<'a>) -> Result<(), NoMemory>
         requires { self.old.count < 2 ^ 63 }
-        ensures { OnOk result (self.new ≡ record { count = self.old.count + 1; known = insert_entry order_of_characters self.old.known name.entry (self.old.count + 1) }) }
+        ensures { OnOk result (self.new ≡ record {
+          count = self.old.count + 1;
+          known = insert_entry order_of_characters
+              self.old.known name.entry (self.old.count + 1);
+        }) }
     {
         self.count += 1;
         self.known.insert(name, self.count)?;

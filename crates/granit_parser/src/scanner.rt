@@ -97,7 +97,9 @@ impl<'a> Scanner<'a> {
     /// The lexeme that the next character begins.
     #[tactic(auto, unfolding(granit_flow::specs::ReaderState::lexeme_at))]
     fn lexeme(&mut self, options: &Options) -> Result<Option<Lexeme<'a>>, ScanError>
-        ensures { Gives (option_map lexeme_view) result self.new (spec.lexeme_at (options_of options.now) (letters.glyph (here.next_char self.old.here)) self.old.openers self.old.here) }
+        ensures { Gives (option_map lexeme_view) result self.new
+            (spec.lexeme_at (options_of options.now) (letters.glyph (here.next_char self.old.here)) self.old.openers
+            self.old.here) }
     {
         match glyph_of(self.cursor.peek()) {
             Glyph::Dash => self.dash(),
@@ -122,7 +124,15 @@ impl<'a> Scanner<'a> {
         kind: LexemeKind<'a>,
         start: Marker,
     ) -> Result<Option<Lexeme<'a>>, ScanError>
-        ensures { Gives (option_map lexeme_view) result self.new (Ok (Some (record { kind = kind_view kind.entry; source = record { start = start; end = here.mark_of self.old.here } }), record self.old { owes_gap = spelled.wants_gap (kind_view kind.entry) })) }
+        ensures { Gives (option_map lexeme_view) result self.new
+            (Ok (
+              Some (record {
+                kind = kind_view kind.entry;
+                source =
+                    record { start = start; end = here.mark_of self.old.here };
+              }),
+              record self.old { owes_gap = spelled.wants_gap (kind_view kind.entry) },
+            )) }
     {
         self.owes_gap = wants_gap(&kind);
         let end = self.cursor.mark();
@@ -131,7 +141,8 @@ impl<'a> Scanner<'a> {
 
     /// A lexeme of one character.
     fn sign(&mut self, kind: LexemeKind<'a>) -> Result<Option<Lexeme<'a>>, ScanError>
-        ensures { Gives (option_map lexeme_view) result self.new (spec.lexed (kind_view kind.entry) self.old.here (here.step self.old.here) self.old.openers) }
+        ensures { Gives (option_map lexeme_view) result self.new
+            (spec.lexed (kind_view kind.entry) self.old.here (here.step self.old.here) self.old.openers) }
     {
         let start = self.cursor.mark();
         self.cursor.step();
@@ -156,7 +167,8 @@ impl<'a> Scanner<'a> {
 
     /// A document mark, which no open bracket may meet where it is separated.
     fn document_start(&mut self, separated: bool) -> Result<Option<Lexeme<'a>>, ScanError>
-        ensures { Gives (option_map lexeme_view) result self.new (spec.mark_in separated self.old.openers self.old.here) }
+        ensures { Gives (option_map lexeme_view) result self.new
+            (spec.mark_in separated self.old.openers self.old.here) }
     {
         if separated {
             if let Some(opener) = self.openers.pop() {
@@ -191,7 +203,15 @@ impl<'a> Scanner<'a> {
         text: Text<'a>,
         start: Marker,
     ) -> Result<Option<Lexeme<'a>>, ScanError>
-        ensures { Gives (option_map lexeme_view) result self.new (Ok (Some (record { kind = spelled.Scalar DoubleQuoted text.entry; source = record { start = start; end = here.mark_of (here.step self.old.here) } }), record self.old { here = here.step self.old.here; owes_gap = false })) }
+        ensures { Gives (option_map lexeme_view) result self.new
+            (Ok (
+              Some (record {
+                kind = spelled.Scalar DoubleQuoted text.entry;
+                source =
+                    record { start = start; end = here.mark_of (here.step self.old.here) };
+              }),
+              record self.old { here = here.step self.old.here; owes_gap = false },
+            )) }
     {
         self.cursor.step();
         self.lexed(LexemeKind::Scalar(ScalarStyle::DoubleQuoted, text), start)
@@ -221,7 +241,8 @@ impl<'a> Scanner<'a> {
     /// An anchor or an alias, at its `&` or `*` (YAML 1.2.2, 6.9.2 and 7.1).
     #[tactic(auto, unfolding(granit_flow::specs::ReaderState::named), using(granit_flow::proofs::HereLemmas::step_lends, crate::proofs::ChunkLemmas::run_length))]
     fn named(&mut self, naming: Naming) -> Result<Option<Lexeme<'a>>, ScanError>
-        ensures { Gives (option_map lexeme_view) result self.new (spec.named (naming_kind naming) self.old.openers self.old.here) }
+        ensures { Gives (option_map lexeme_view) result self.new
+            (spec.named (naming_kind naming) self.old.openers self.old.here) }
     {
         let start = self.cursor.mark();
         self.cursor.step();
@@ -244,7 +265,8 @@ impl<'a> Scanner<'a> {
         options: &Options,
         bracket: Bracket,
     ) -> Result<Option<Lexeme<'a>>, ScanError>
-        ensures { Gives (option_map lexeme_view) result self.new (spec.open_bracket (options_of options.now) (bracket_view bracket) self.old.openers self.old.here) }
+        ensures { Gives (option_map lexeme_view) result self.new
+            (spec.open_bracket (options_of options.now) (bracket_view bracket) self.old.openers self.old.here) }
     {
         if self.openers.len() >= options.flow_nesting_limit {
             return Err(ScanError::from_kind(self.cursor.mark(), ErrorKind::RecursionLimitExceeded));
@@ -259,7 +281,8 @@ impl<'a> Scanner<'a> {
 
     /// A closer of the innermost open bracket (YAML 1.2.2, 7.4).
     fn close_bracket(&mut self, bracket: Bracket) -> Result<Option<Lexeme<'a>>, ScanError>
-        ensures { Gives (option_map lexeme_view) result self.new (spec.close_bracket (bracket_view bracket) self.old.openers self.old.here) }
+        ensures { Gives (option_map lexeme_view) result self.new
+            (spec.close_bracket (bracket_view bracket) self.old.openers self.old.here) }
     {
         let opened = self.openers.pop();
         match (bracket, opened.map(|opener| opener.bracket)) {
@@ -272,7 +295,12 @@ impl<'a> Scanner<'a> {
 
 /// The fault of an opener that isn't closed.
 fn unclosed(opener: Opener) -> ScanError
-    ensures { result ≡ record { kind = faults.UnclosedFlowCollection (spelled.opener_char (bracket_view opener.bracket)); mark = opener.mark; sources = [] } }
+    ensures { result ≡ record {
+      kind = faults.UnclosedFlowCollection
+          (spelled.opener_char (bracket_view opener.bracket));
+      mark = opener.mark;
+      sources = [];
+    } }
 {
     ScanError::from_kind(
         opener.mark,

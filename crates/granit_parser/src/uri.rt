@@ -70,7 +70,8 @@ impl<'a> Cursor<'a> {
 
 /// The text that the bytes of a URI are, and `None` where they are none or not UTF-8.
 pub(crate) fn suffix_of(bytes: Vec<u8>) -> Option<String>
-    ensures { MatchOption result (spec.is_suffix bytes.items ≡ false) (λ s. (spec.is_suffix bytes.items ≡ true) × (string_chars s ≡ chars bytes.items)) }
+    ensures { MatchOption result (spec.is_suffix bytes.items ≡ false)
+        (λ s. (spec.is_suffix bytes.items ≡ true) × (string_chars s ≡ chars bytes.items)) }
 {
     if bytes.is_empty() {
         return None;

@@ -16,18 +16,23 @@ abbrev pub past_name : Here → Here
 past_name h = past is_anchor_char (step h)
 
 -- what was appended to an empty text, and whether that is empty
-pub appended : (h after : Here) (empty name : List ℕ) → empty ≡ [] → name ≡ empty ++ text_up_to h after → name ≡ text_up_to h after
+pub appended : (h after : Here) (empty name : List ℕ) → empty ≡ [] → name ≡ empty ++ text_up_to h after
+    → name ≡ text_up_to h after
 appended h after empty name none is = is ∙ ap (λ (l : List ℕ). l ++ text_up_to h after) none
 
-pub counted : (h after : Here) (name : List ℕ) (v : Bool) → name ≡ text_up_to h after → (length name == 0) ≡ v → (count_up_to h after == 0) ≡ v
+pub counted : (h after : Here) (name : List ℕ) (v : Bool) → name ≡ text_up_to h after → (length name == 0) ≡ v
+    → (count_up_to h after == 0) ≡ v
 counted h after name v is e = ap (λ n. n == 0) (sym (up_to_length h after) ∙ ap (length {A = ℕ}) (sym is)) ∙ e
 
-pub name_fails : (alias : Bool) (h : Here) (name : List ℕ) → name ≡ text_up_to (step h) (past_name h) → (length name == 0) ≡ true
+pub name_fails : (alias : Bool) (h : Here) (name : List ℕ) → name ≡ text_up_to (step h) (past_name h)
+    → (length name == 0) ≡ true
     → coded (name_token alias) (placed_at name_at h) ≡ Err (fault_at MissingAnchorOrAliasName (mark_of h))
 unfolding name_at
 name_fails alias h name is none = rw (counted (step h) (past_name h) name true is none) refl
 
-pub name_given : (alias : Bool) (h : Here) (name : List ℕ) (t : Token) → name ≡ text_up_to (step h) (past_name h) → (length name == 0) ≡ false
-    → t ≡ name_token alias (record { value = name; source = source_of h (past_name h) }) → coded (name_token alias) (placed_at name_at h) ≡ Ok (t, past_name h)
+pub name_given : (alias : Bool) (h : Here) (name : List ℕ) (t : Token) → name ≡ text_up_to (step h) (past_name h)
+    → (length name == 0) ≡ false
+    → t ≡ name_token alias (record { value = name; source = source_of h (past_name h) })
+    → coded (name_token alias) (placed_at name_at h) ≡ Ok (t, past_name h)
 unfolding name_at
 name_given alias h name t is some token = rw (counted (step h) (past_name h) name false is some, token, is) refl

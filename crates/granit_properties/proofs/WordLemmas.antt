@@ -1,7 +1,9 @@
 -- Words, a character at a time.
-use Rattle.std.proofs.Common.{◌≡◌, ℕ, zero, suc, ◌-◌, ◌<◌, ◌≤◌, Bool, true, false, List, [], ◌∷◌, ◌++◌, length, take, drop, refl, sym, ap, ap₂, ◌∙◌, append_assoc, arith}
+use Rattle.std.proofs.Common.{◌≡◌, ℕ, zero, suc, ◌-◌, ◌<◌, ◌≤◌, Bool, true, false, List, [], ◌∷◌, ◌++◌, length, take}
+use Rattle.std.proofs.Common.{drop, refl, sym, ap, ap₂, ◌∙◌, append_assoc, arith}
 use Rattle.std.proofs.lemmas.List.{append-nil, length-take-le}
-use Rattle.granit_base.specs.Classes.{is_anchor_char, is_alpha, is_yaml_non_space, is_yaml_non_break, is_printable, is_break, is_word_char, is_digit}
+use Rattle.granit_base.specs.Classes.{is_anchor_char, is_alpha, is_yaml_non_space, is_yaml_non_break, is_printable}
+use Rattle.granit_base.specs.Classes.{is_break, is_word_char, is_digit}
 use Rattle.granit_base.specs.Place.{first}
 use Rattle.granit_lexemes.specs.Basics.{count_up_to, text_up_to}
 use Rattle.granit_lexemes.specs.Here.{Here, text_len, next_char, step, past}
@@ -42,7 +44,8 @@ take_front (c ∷ cs) zero some more = absurd (omega arith)
 take_front (c ∷ cs) (suc n) some more = ap (λ k. c ∷ take k cs) (omega arith)
 
 -- behind a character, where a later place is not before the next
-pub up_to_more : (h after : Here) → text_len (step h) < text_len h → text_len after ≤ text_len (step h) → text_up_to h after ≡ next_char h ∷ text_up_to (step h) after
+pub up_to_more : (h after : Here) → text_len (step h) < text_len h → text_len after ≤ text_len (step h)
+    → text_up_to h after ≡ next_char h ∷ text_up_to (step h) after
 up_to_more h after less le =
     let one = step_len h in
     take_front h.unread.text (count_up_to h after) (omega arith) (omega arith)
@@ -50,19 +53,27 @@ up_to_more h after less le =
 
 -- over one character of a run, and behind the last
 pub run_on : (test : ℕ → Bool) (h : Here) → test 0 ≡ false → test (next_char h) ≡ true
-    → (past test (step h) ≡ past test h) × (text_up_to h (past test h) ≡ next_char h ∷ text_up_to (step h) (past test (step h)))
+    → (past test (step h) ≡ past test h) × (text_up_to h (past test h)
+    ≡ next_char h ∷ text_up_to (step h) (past test (step h)))
 run_on test h nul held =
-    let same = past_goes test h nul held in
-    (same, up_to_more h (past test h) (step_shortens test h nul held) (let le = past_len test (step h) in omega (arith, le, ap text_len same)) ∙ ap (λ (g : Here). next_char h ∷ text_up_to (step h) g) (sym same))
+    let same = past_goes test h nul held in (
+      same,
+      up_to_more h (past test h) (step_shortens test h nul held)
+          (let le = past_len test (step h) in omega (arith, le, ap text_len same))
+          ∙ ap (λ (g : Here). next_char h ∷ text_up_to (step h) g) (sym same),
+    )
 
-pub run_ends : (test : ℕ → Bool) (h : Here) → test (next_char h) ≡ false → (past test h ≡ h) × (text_up_to h (past test h) ≡ [])
+pub run_ends : (test : ℕ → Bool) (h : Here) → test (next_char h) ≡ false
+    → (past test h ≡ h) × (text_up_to h (past test h) ≡ [])
 run_ends test h failed =
     let same = past_stops test h failed in
     (same, ap (text_up_to h) same ∙ none_between h)
 
 -- what was taken and what is still to be taken
-pub word_on : (test : ℕ → Bool) (h now : Here) (old out more : List ℕ) → test 0 ≡ false → test (next_char now) ≡ true → more ≡ out ++ next_char now ∷ []
-    → out ++ text_up_to now (past test now) ≡ old ++ text_up_to h (past test h) → more ++ text_up_to (step now) (past test (step now)) ≡ old ++ text_up_to h (past test h)
+pub word_on : (test : ℕ → Bool) (h now : Here) (old out more : List ℕ) → test 0 ≡ false → test (next_char now) ≡ true
+    → more ≡ out ++ next_char now ∷ []
+    → out ++ text_up_to now (past test now) ≡ old ++ text_up_to h (past test h)
+    → more ++ text_up_to (step now) (past test (step now)) ≡ old ++ text_up_to h (past test h)
 word_on test h now old out more nul held grown so_far =
     ap (λ (l : List ℕ). l ++ text_up_to (step now) (past test (step now))) grown
     ∙ append_assoc out (next_char now ∷ []) (text_up_to (step now) (past test (step now)))
@@ -70,5 +81,7 @@ word_on test h now old out more nul held grown so_far =
     ∙ so_far
 
 pub word_ends : (test : ℕ → Bool) (h now : Here) (old out : List ℕ) → test (next_char now) ≡ false
-    → out ++ text_up_to now (past test now) ≡ old ++ text_up_to h (past test h) → out ≡ old ++ text_up_to h (past test h)
-word_ends test h now old out failed so_far = sym (append-nil out) ∙ ap (λ (l : List ℕ). out ++ l) (sym (run_ends test now failed).1) ∙ so_far
+    → out ++ text_up_to now (past test now) ≡ old ++ text_up_to h (past test h)
+    → out ≡ old ++ text_up_to h (past test h)
+word_ends test h now old out failed so_far = sym (append-nil out)
+    ∙ ap (λ (l : List ℕ). out ++ l) (sym (run_ends test now failed).1) ∙ so_far

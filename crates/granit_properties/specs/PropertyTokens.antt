@@ -3,7 +3,9 @@ use Rattle.std.specs.Prelude.{◌≡◌, ℕ, Bool, true, false, List, Result, O
 use Rattle.granit_cursor.specs.declared.token.Token.{Token}
 use Rattle.granit_cursor.specs.declared.token.TokenType.{TokenType}
 use Rattle.granit_cursor.specs.declared.token.TokenType.TheVariants as tokens
-use Rattle.granit_error.specs.FaultKind.{FaultKind, NoMemory, MissingAnchorOrAliasName, MissingTagUri, UnclosedVerbatimTag, InvalidTagTerminator, InvalidTagEscape, InvalidTagUtf8LeadingByte, InvalidTagUtf8TrailingByte, InvalidTagUtf8}
+use Rattle.granit_error.specs.FaultKind.{FaultKind, NoMemory, MissingAnchorOrAliasName, MissingTagUri}
+use Rattle.granit_error.specs.FaultKind.{UnclosedVerbatimTag, InvalidTagTerminator, InvalidTagEscape}
+use Rattle.granit_error.specs.FaultKind.{InvalidTagUtf8LeadingByte, InvalidTagUtf8TrailingByte, InvalidTagUtf8}
 use Rattle.granit_lexemes.specs.Basics.{owned}
 use Rattle.granit_lexemes.specs.Here.{Here, mark_of}
 use Rattle.granit_lexemes.specs.Outcome.{Fault, ◌>>=◌}

@@ -1,15 +1,18 @@
 -- How the code reads the characters of a URI: a character a turn.
-use Rattle.std.specs.Prelude.{◌≡◌, ℕ, ◌<◌, ◌≤◌, Bool, true, false, List, [], ◌∷◌, ◌++◌, Option, Some, None, Result, Ok, Err}
+use Rattle.std.specs.Prelude.{◌≡◌, ℕ, ◌<◌, ◌≤◌, Bool, true, false, List, [], ◌∷◌, ◌++◌, Option, Some, None, Result, Ok}
+use Rattle.std.specs.Prelude.{Err}
 use Rattle.std.specs.Str.{chars}
 use Rattle.granit_base.specs.Classes.{is_uri_char, is_tag_char}
 use Rattle.granit_base.specs.Place.{Mark}
 use Rattle.granit_base.specs.Written.{string_chars}
-use Rattle.granit_error.specs.FaultKind.{FaultKind, NoMemory, DirectiveByteLimitExceeded, InvalidTagEscape, InvalidTagUtf8LeadingByte, InvalidTagUtf8TrailingByte, InvalidTagUtf8}
+use Rattle.granit_error.specs.FaultKind.{FaultKind, NoMemory, DirectiveByteLimitExceeded, InvalidTagEscape}
+use Rattle.granit_error.specs.FaultKind.{InvalidTagUtf8LeadingByte, InvalidTagUtf8TrailingByte, InvalidTagUtf8}
 use Rattle.granit_error.specs.Refused.{Refused}
 use Rattle.granit_lexemes.specs.Here.{Here, next_char, step}
 use Rattle.granit_lexemes.specs.Outcome.{Fault, Fails, fault_at, ◌>>=◌}
 use Rattle.granit_lexemes.specs.Pieces.{with_front, pieces}
-use Rattle.granit_lexemes.specs.Tags.{Budget, UriState, spent, is_utf8, escaped_byte, bytes_behind, escaped_by, uri_turn, uri_len}
+use Rattle.granit_lexemes.specs.Tags.{Budget, UriState, spent, is_utf8, escaped_byte, bytes_behind, escaped_by}
+use Rattle.granit_lexemes.specs.Tags.{uri_turn, uri_len}
 use Rattle.granit_properties.specs.declared.uri.Uri.{Uri}
 use Rattle.granit_properties.specs.declared.uri.Uri.TheVariants.{Whole, Tag}
 use Rattle.granit_properties.specs.declared.uri.UriParts.{UriParts}
@@ -44,16 +47,16 @@ UriTo limit (Ok p) Lands given =
 UriTo limit (Err e) Lands given = Fails e given
 
 -- a turn's characters were appended
-abbrev pub Appends : Result (Unit {0}) Refused → (Here → Type 0) → (old new : List ℕ) → Option Budget
+abbrev pub AppendsUri : Result (Unit {0}) Refused → (Here → Type 0) → (old new : List ℕ) → Option Budget
     → Result (Option (List ℕ) × UriState) Fault → Type 0
-Appends (Ok u) Lands old new b given =
+AppendsUri (Ok u) Lands old new b given =
     (piece : List ℕ) × (now : Here) × Lands now × (given ≡ Ok (Some piece, uri_at now b)) × (new ≡ old ++ piece)
-Appends (Err e) Lands old new b given = Fails e given
+AppendsUri (Err e) Lands old new b given = Fails e given
 
 -- the bytes of a character were appended as it
-abbrev pub Spells : Result (Unit {0}) Refused → (old new bytes : List ℕ) → Mark → Type 0
-Spells (Ok u) old new bytes start = (is_utf8 bytes ≡ true) × (new ≡ old ++ chars bytes)
-Spells (Err e) old new bytes start =
+abbrev pub SpellsUri : Result (Unit {0}) Refused → (old new bytes : List ℕ) → Mark → Type 0
+SpellsUri (Ok u) old new bytes start = (is_utf8 bytes ≡ true) × (new ≡ old ++ chars bytes)
+SpellsUri (Err e) old new bytes start =
     (e.kind ≡ NoMemory → ⊥) → (is_utf8 bytes ≡ false) × (e ≡ fault_at InvalidTagUtf8 start)
 
 -- a turn at a `%`, and at another character
@@ -66,21 +69,23 @@ own_char start s = spent s.budget 1 start >>= λ left. Ok (Some (next_char s.her
 -- what is read behind what was read
 abbrev pub uri_whole : Uri → Mark → Option ℕ → UriParts → Here → Result (List ℕ × UriState) Fault
 uri_whole uri start limit p h =
-    with_front (string_chars p.value) (pieces uri_len (uri_turn (uri_test uri) start) (uri_at h (budget_of limit p.left)))
+    with_front (string_chars p.value) (pieces uri_len (uri_turn (uri_test uri) start)
+    (uri_at h (budget_of limit p.left)))
 
 -- a turn goes on with the same whole, or that is all of it
-abbrev pub GoesOn : Uri → Mark → Option ℕ → Result Bool Refused → (Here → Type 0) → UriParts
+abbrev pub UriGoesOn : Uri → Mark → Option ℕ → Result Bool Refused → (Here → Type 0) → UriParts
     → Result (List ℕ × UriState) Fault → Type 0
-GoesOn uri start limit (Ok true) Lands p before = (now : Here) × Lands now × (uri_whole uri start limit p now ≡ before)
-GoesOn uri start limit (Ok false) Lands p before =
+UriGoesOn uri start limit (Ok true) Lands p before = (now : Here) × Lands now
+    × (uri_whole uri start limit p now ≡ before)
+UriGoesOn uri start limit (Ok false) Lands p before =
     (now : Here) × Lands now × (before ≡ Ok (string_chars p.value, uri_at now (budget_of limit p.left)))
-GoesOn uri start limit (Err e) Lands p before = Fails e before
+UriGoesOn uri start limit (Err e) Lands p before = Fails e before
 
 -- a turn that goes on took a character
-abbrev pub TurnTakes : {E : Type 0} → Result Bool E → ℕ → ℕ → Type 0
-TurnTakes (Ok true) old new = new < old
-TurnTakes (Ok false) old new = new ≤ old
-TurnTakes (Err e) old new = new ≤ old
+abbrev pub UriTurnTakes : {E : Type 0} → Result Bool E → ℕ → ℕ → Type 0
+UriTurnTakes (Ok true) old new = new < old
+UriTurnTakes (Ok false) old new = new ≤ old
+UriTurnTakes (Err e) old new = new ≤ old
 
 -- the kinds that a URI is refused by
 abbrev pub IsUriKind : (limit : Option ℕ) → FaultKind → Type 0

@@ -31,7 +31,8 @@ pub fn scan_anchor<'input, T: BorrowedInput<'input>>(
     ensures here { ReadsAs T.unread cursor.old cursor.new result (λ h. coded (name_token alias) (placed_at name_at h)) }
     ensures name { AnswersAs T.unread cursor.old cursor.new result (name_token alias) (StandsPlaced AnswersName) }
     ensures cause { RefusedFor T.unread cursor.old result RefusesName }
-    ensures answered { (h : Here) (name : List ℕ) (after : Here) → Stands T.unread cursor.old h → AnswersName h name after → IfErr result (λ e. e.kind ≡ OutOfMemory) }
+    ensures answered { (h : Here) (name : List ℕ) (after : Here) → Stands T.unread cursor.old h
+        → AnswersName h name after → IfErr result (λ e. e.kind ≡ OutOfMemory) }
     ensures kinds { IfErr result (λ e. IsNameKind e.kind) }
     ensures moves { Moves T.left T.origin cursor.old cursor.new }
 {

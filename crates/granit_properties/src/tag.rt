@@ -7,7 +7,7 @@ ghost use Rattle.granit_lexemes.specs.Here.{Here, mark_of, next_char};
 ghost use Rattle.granit_lexemes.specs.TagExtent as extent;
 ghost use Rattle.granit_lexemes.specs.Tags as spec;
 ghost use Rattle.granit_properties.specs.PropertyTokens.{IsTagKind, StandsPlaced, placed_at, tag_token};
-ghost use Rattle.granit_properties.specs.TagCode.{named_rest, short_rest, spelled, tag_read, verbatim_rest};
+ghost use Rattle.granit_properties.specs.TagCode.{named_rest, short_rest, spelled_tag, tag_read, verbatim_rest};
 
 use crate::uri::{Uri, read_uri};
 use crate::word::{Word, take_word};
@@ -35,10 +35,12 @@ pub fn scan_tag<'input, T: BorrowedInput<'input>>(
     in_flow: bool,
 ) -> Result<Token<'input>, ScanError>
     requires { (h : Here) → Stands T.unread cursor.old h → next_char h ≡ 0x21 }
-    ensures here { ReadsAs T.unread cursor.old cursor.new result (λ h. coded tag_token (placed_at (spec.tag_at in_flow) h)) }
+    ensures here { ReadsAs T.unread cursor.old cursor.new result
+        (λ h. coded tag_token (placed_at (spec.tag_at in_flow) h)) }
     ensures tag { AnswersAs T.unread cursor.old cursor.new result tag_token (StandsPlaced (extent.AnswersTag in_flow)) }
     ensures cause { RefusedFor T.unread cursor.old result (extent.RefusesTag in_flow) }
-    ensures answered { (h : Here) (tag : spec.TagRead) (after : Here) → Stands T.unread cursor.old h → extent.AnswersTag in_flow h tag after → IfErr result (λ e. e.kind ≡ OutOfMemory) }
+    ensures answered { (h : Here) (tag : spec.TagRead) (after : Here) → Stands T.unread cursor.old h
+        → extent.AnswersTag in_flow h tag after → IfErr result (λ e. e.kind ≡ OutOfMemory) }
     ensures kinds { IfErr result (λ e. IsTagKind e.kind) }
     ensures moves { Moves T.left T.origin cursor.old cursor.new }
 {
@@ -51,7 +53,8 @@ fn read_tag<'input, T: Input>(
     in_flow: bool,
 ) -> Result<Token<'input>, ScanError>
     requires { (h : Here) → Stands T.unread cursor.old h → next_char h ≡ 0x21 }
-    ensures here { ReadsAs T.unread cursor.old cursor.new result (λ h. coded tag_token (placed_at (spec.tag_at in_flow) h)) }
+    ensures here { ReadsAs T.unread cursor.old cursor.new result
+        (λ h. coded tag_token (placed_at (spec.tag_at in_flow) h)) }
     ensures kinds { IfErr result (λ e. IsTagKind e.kind) }
     ensures moves { Moves T.left T.origin cursor.old cursor.new }
 {
@@ -70,14 +73,18 @@ struct TagText {
 
 /// No text.
 #[tactic(auto, using(granit_cursor::proofs::MoveLemmas::cleared))]
-pub(crate) fn empty_text(alloc: Global) -> String
+pub fn empty_text(alloc: Global) -> String
     ensures { string_chars result ≡ [] }
 {
     String::new(alloc)
 }
 
 /// The text `!`.
-fn bang(alloc: Global) -> Result<String, NoMemory>
+///
+/// # Errors
+///
+/// `NoMemory` alone.
+pub fn bang(alloc: Global) -> Result<String, NoMemory>
     ensures { IfOk result (λ s. string_chars s ≡ 0x21 ∷ []) }
 {
     let mut text = empty_text(alloc);
@@ -103,7 +110,8 @@ fn tag_text<T: Input>(
     start: Marker,
     text: String,
 ) -> Result<String, ScanError>
-    ensures here { Wherever T.unread cursor.old cursor.new (λ h Lands. GivesTo string_chars result Lands (spelled uri start (string_chars text) h)) }
+    ensures here { Wherever T.unread cursor.old cursor.new
+        (λ h Lands. GivesTo string_chars result Lands (spelled_tag uri start (string_chars text) h)) }
     ensures kinds { IfErr result (λ e. IsTagKind e.kind) }
     ensures moves { Moves T.left T.origin cursor.old cursor.new }
 {
@@ -121,7 +129,8 @@ fn finish_tag<T: Input>(
     suffix: String,
 ) -> Result<TagText, ScanError>
     ensures here { Wherever T.unread cursor.old cursor.new (λ h Lands.
-        GivesTo tag_read result Lands (spec.tag_ends in_flow start (spec.tag_of (string_chars handle) (string_chars suffix)) h)) }
+        GivesTo tag_read result Lands (spec.tag_ends in_flow start
+        (spec.tag_of (string_chars handle) (string_chars suffix)) h)) }
     ensures kinds { IfErr result (λ e. IsTagKind e.kind) }
     ensures moves { Moves T.left T.origin cursor.old cursor.new }
 {
@@ -205,7 +214,8 @@ fn tag_at<T: Input>(
     start: Marker,
 ) -> Result<TagText, ScanError>
     requires { (h : Here) → Stands T.unread cursor.old h → (next_char h ≡ 0x21) × (start ≡ mark_of h) }
-    ensures here { Wherever T.unread cursor.old cursor.new (λ h Lands. GivesTo tag_read result Lands (spec.tag_at in_flow h)) }
+    ensures here { Wherever T.unread cursor.old cursor.new
+        (λ h Lands. GivesTo tag_read result Lands (spec.tag_at in_flow h)) }
     ensures kinds { IfErr result (λ e. IsTagKind e.kind) }
     ensures moves { Moves T.left T.origin cursor.old cursor.new }
 {

@@ -7,7 +7,9 @@ ghost use Rattle.granit_cursor.specs.Reading.{Stands, Moves, Wherever, GivesTo};
 ghost use Rattle.granit_lexemes.specs.Outcome.{GivesValue};
 ghost use Rattle.granit_lexemes.specs.Pieces.{with_front};
 ghost use Rattle.granit_lexemes.specs.Tags as spec;
-ghost use Rattle.granit_properties.specs.UriCode.{Appends, GoesOn, Spells, TrailsTo, UriTo, escaped_char, own_char, IsUriKind, LandsUri, TurnTakes, budget_of, uri_at, uri_test, uri_whole};
+ghost use Rattle.granit_properties.specs.UriCode.{AppendsUri, UriGoesOn, SpellsUri, TrailsTo, UriTo, escaped_char};
+ghost use Rattle.granit_properties.specs.UriCode.{own_char, IsUriKind, LandsUri, UriTurnTakes, budget_of, uri_at};
+ghost use Rattle.granit_properties.specs.UriCode.{uri_test, uri_whole};
 
 use granit_base::{Marker, as_hex, is_hex, is_tag_char, is_uri_char, push_char, push_text};
 use granit_cursor::Cursor;
@@ -17,7 +19,7 @@ use std::alloc::Global;
 
 /// The characters that are read.
 #[derive(Clone, Copy)]
-pub(crate) enum Uri {
+pub enum Uri {
     /// Those of a URI.
     Whole,
     /// Those of a tag that isn't verbatim.
@@ -37,21 +39,26 @@ impl Uri {
 
 /// What was read, and how many bytes a directive may still hold.
 #[derive(Drop)]
-pub(crate) struct UriParts {
-    pub(crate) value: String,
+pub struct UriParts {
+    pub value: String,
     /// The bytes of the last escaped character.
     bytes: Vec<u8>,
-    pub(crate) left: usize,
+    pub left: usize,
 }
 
 /// So many bytes fewer are left, where there is a limit.
-pub(crate) fn spend(
+///
+/// # Errors
+///
+/// At the start: `DirectiveByteLimitExceeded` where fewer are left.
+pub fn spend(
     limit: Option<usize>,
     left: &mut usize,
     count: usize,
     start: Marker,
 ) -> Result<(), ScanError>
-    ensures spent { GivesValue (λ u. budget_of limit left.new) result (spec.spent (budget_of limit left.old) count start) }
+    ensures spent { GivesValue (λ u. budget_of limit left.new) result
+        (spec.spent (budget_of limit left.old) count start) }
     ensures kinds { IfErr result (λ e. IsUriKind limit e.kind) }
 {
     if let Some(limit) = limit {
@@ -75,7 +82,8 @@ fn escaped_byte<T: Input>(
     left: &mut usize,
 ) -> Result<u8, ScanError>
     ensures here { Wherever T.unread cursor.old cursor.new (λ h Lands.
-        GivesTo (λ b. b) result (LandsUri Lands (budget_of limit left.new)) (spec.escaped_byte start (uri_at h (budget_of limit left.old)))) }
+        GivesTo (λ b. b) result (LandsUri Lands (budget_of limit left.new))
+        (spec.escaped_byte start (uri_at h (budget_of limit left.old)))) }
     ensures left { OnOk result (T.left cursor.new.input ≤ T.left cursor.old.input - 1) }
     ensures kinds { IfErr result (λ e. IsUriKind limit e.kind) }
     ensures moves { Moves T.left T.origin cursor.old cursor.new }
@@ -123,7 +131,8 @@ fn trailing_bytes<T: Input>(
     parts: &mut UriParts,
 ) -> Result<(), ScanError>
     ensures here { Wherever T.unread cursor.old cursor.new (λ h Lands.
-        TrailsTo limit result Lands parts.new (spec.trailing_bytes start count parts.old.bytes.items (uri_at h (budget_of limit parts.old.left)))) }
+        TrailsTo limit result Lands parts.new
+        (spec.trailing_bytes start count parts.old.bytes.items (uri_at h (budget_of limit parts.old.left)))) }
     ensures value { string_chars parts.new.value ≡ string_chars parts.old.value }
     ensures kinds { IfErr result (λ e. IsUriKind limit e.kind) }
     ensures moves { Moves T.left T.origin cursor.old cursor.new }
@@ -138,9 +147,10 @@ fn trailing_bytes<T: Input>(
     Ok(())
 }
 
-/// Appends the character that the bytes spell.
+/// AppendsUri the character that the bytes spell.
 fn push_spelled(start: Marker, parts: &mut UriParts) -> Result<(), ScanError>
-    ensures spells { Spells result (string_chars parts.old.value) (string_chars parts.new.value) parts.old.bytes.items start }
+    ensures spells { SpellsUri result (string_chars parts.old.value) (string_chars parts.new.value)
+        parts.old.bytes.items start }
     ensures left { parts.new.left ≡ parts.old.left }
     ensures kinds { (limit : Option ℕ) → IfErr result (λ e. IsUriKind limit e.kind) }
 {
@@ -161,7 +171,8 @@ fn take_escaped<T: Input>(
     parts: &mut UriParts,
 ) -> Result<(), ScanError>
     ensures here { Wherever T.unread cursor.old cursor.new (λ h Lands.
-        Appends result Lands (string_chars parts.old.value) (string_chars parts.new.value) (budget_of limit parts.new.left)
+        AppendsUri result Lands (string_chars parts.old.value) (string_chars parts.new.value)
+        (budget_of limit parts.new.left)
         (escaped_char start (uri_at h (budget_of limit parts.old.left)))) }
     ensures left { OnOk result (T.left cursor.new.input ≤ T.left cursor.old.input - 1) }
     ensures kinds { IfErr result (λ e. IsUriKind limit e.kind) }
@@ -187,7 +198,8 @@ fn take_itself<T: Input>(
     parts: &mut UriParts,
 ) -> Result<(), ScanError>
     ensures here { Wherever T.unread cursor.old cursor.new (λ h Lands.
-        Appends result Lands (string_chars parts.old.value) (string_chars parts.new.value) (budget_of limit parts.new.left)
+        AppendsUri result Lands (string_chars parts.old.value) (string_chars parts.new.value)
+        (budget_of limit parts.new.left)
         (own_char start (uri_at h (budget_of limit parts.old.left)))) }
     ensures left { OnOk result (T.left cursor.new.input ≤ T.left cursor.old.input - 1) }
     ensures kinds { IfErr result (λ e. IsUriKind limit e.kind) }
@@ -210,8 +222,8 @@ fn take_turn<T: Input>(
     parts: &mut UriParts,
 ) -> Result<bool, ScanError>
     ensures here { Wherever T.unread cursor.old cursor.new (λ h Lands.
-        GoesOn uri start limit result Lands parts.new (uri_whole uri start limit parts.old h)) }
-    ensures left { TurnTakes result (T.left cursor.old.input) (T.left cursor.new.input) }
+        UriGoesOn uri start limit result Lands parts.new (uri_whole uri start limit parts.old h)) }
+    ensures left { UriTurnTakes result (T.left cursor.old.input) (T.left cursor.new.input) }
     ensures kinds { IfErr result (λ e. IsUriKind limit e.kind) }
     ensures moves { Moves T.left T.origin cursor.old cursor.new }
 {
@@ -229,7 +241,12 @@ fn take_turn<T: Input>(
 }
 
 /// Behind a text, what the characters of a URI spell, with so many bytes left.
-pub(crate) fn read_uri<T: Input>(
+///
+/// # Errors
+///
+/// `NoMemory`. At the start: `DirectiveByteLimitExceeded`, and the kinds of a wrong escape, from
+/// `InvalidTagEscape` to `InvalidTagUtf8`.
+pub fn read_uri<T: Input>(
     alloc: Global,
     cursor: &mut Cursor<T>,
     uri: Uri,
@@ -239,7 +256,8 @@ pub(crate) fn read_uri<T: Input>(
     left: usize,
 ) -> Result<UriParts, ScanError>
     ensures here { Wherever T.unread cursor.old cursor.new (λ h Lands.
-        UriTo limit result Lands (with_front (string_chars value) (spec.decoded (uri_test uri) start (budget_of limit left) h))) }
+        UriTo limit result Lands (with_front (string_chars value)
+        (spec.decoded (uri_test uri) start (budget_of limit left) h))) }
     ensures kinds { IfErr result (λ e. IsUriKind limit e.kind) }
     ensures moves { Moves T.left T.origin cursor.old cursor.new }
 {

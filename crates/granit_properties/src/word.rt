@@ -12,7 +12,7 @@ use granit_input::Input;
 
 /// The characters that a word is of.
 #[derive(Clone, Copy)]
-pub(crate) enum Word {
+pub enum Word {
     /// Those of an anchor's name (YAML 1.2.2, 6.9.2).
     Name,
     /// Those of a tag handle's name (YAML 1.2.2, 6.8.2).
@@ -33,14 +33,19 @@ impl Word {
     }
 }
 
-/// On over the characters of a word, which are appended. Its error is `NoMemory` alone.
-pub(crate) fn take_word<T: Input>(
+/// On over the characters of a word, which are appended.
+///
+/// # Errors
+///
+/// `NoMemory` alone.
+pub fn take_word<T: Input>(
     cursor: &mut Cursor<T>,
     word: Word,
     out: &mut String,
 ) -> Result<(), NoMemory>
     ensures here { Wherever T.unread cursor.old cursor.new (λ h Lands.
-        OnOk result (Lands (past (word_test word) h) × (string_chars out.new ≡ string_chars out.old ++ text_up_to h (past (word_test word) h)))) }
+        OnOk result (Lands (past (word_test word) h)
+        × (string_chars out.new ≡ string_chars out.old ++ text_up_to h (past (word_test word) h)))) }
     ensures moves { Moves T.left T.origin cursor.old cursor.new }
 {
     'word: loop {

@@ -1,5 +1,6 @@
 -- Flags from the right are the possible keys from the left that get their `:`.
-use Rattle.std.proofs.Common.{◌≡◌, ℕ, suc, ◌<◌, ◌==◌, Bool, true, false, List, [], ◌∷◌, Option, Some, None, refl, sym, ap, ◌∙◌, subst, arith}
+use Rattle.std.proofs.Common.{◌≡◌, ℕ, suc, ◌<◌, ◌==◌, Bool, true, false, List, [], ◌∷◌, Option, Some, None, refl, sym}
+use Rattle.std.proofs.Common.{ap, ◌∙◌, subst, arith}
 use Rattle.std.proofs.lemmas.Bool.Decides.{nat_tests}
 use Rattle.granit_machine.specs.Lexing.{is_nearest, others}
 use Rattle.granit_language.specs.Fitting.{Role, OfNode, Opens, Closes, Keyed, Other, outer_keys, keys_behind, role_fits}
@@ -53,7 +54,8 @@ below_within n (Some m ∷ a) [] p q = absurd p
 below_within n (None ∷ a) (None ∷ b) p q = below_within n a b p q
 below_within n (None ∷ a) (Some k ∷ b) p q = below_within n a b p q.1
 below_within n (Some m ∷ a) (None ∷ b) p q = absurd (let e = p.0 in cc)
-below_within n (Some m ∷ a) (Some k ∷ b) p q = (let e : k ≡ m = let f = p.0 in cc in let l = q.0 in subst (λ m. m < n) e l, below_within n a b p.1 q.1)
+below_within n (Some m ∷ a) (Some k ∷ b) p q =
+    (let e : k ≡ m = let f = p.0 in cc in let l = q.0 in subst (λ m. m < n) e l, below_within n a b p.1 q.1)
 
 pub below_more : (n : ℕ) (a : Held) → Below n a → Below (suc n) a
 below_more n [] q = tt
@@ -117,13 +119,18 @@ Moves Closes new n hs gs = Within gs (outer_keys hs)
 Moves (Keyed m) new n hs gs = (top_of hs ≡ Some m) × Within gs (None ∷ outer_keys hs)
 Moves Other new n hs gs = Within gs hs
 
-pub below_moves : (role : Role) (new : Bool) (n : ℕ) (hs gs : Held) → Below n hs → Moves role new n hs gs → Below (suc n) gs
-below_moves OfNode true n hs gs b p = below_within (suc n) gs (Some n ∷ outer_keys hs) p (omega arith, below_more n (outer_keys hs) (below_others n hs b))
+pub below_moves : (role : Role) (new : Bool) (n : ℕ) (hs gs : Held) → Below n hs → Moves role new n hs gs
+    → Below (suc n) gs
+below_moves OfNode true n hs gs b p = below_within (suc n) gs (Some n ∷ outer_keys hs) p
+    (omega arith, below_more n (outer_keys hs) (below_others n hs b))
 below_moves OfNode false n hs gs b p = below_within (suc n) gs hs p (below_more n hs b)
-below_moves Opens true n hs gs b p = below_within (suc n) gs (None ∷ Some n ∷ outer_keys hs) p (omega arith, below_more n (outer_keys hs) (below_others n hs b))
+below_moves Opens true n hs gs b p = below_within (suc n) gs (None ∷ Some n ∷ outer_keys hs) p
+    (omega arith, below_more n (outer_keys hs) (below_others n hs b))
 below_moves Opens false n hs gs b p = below_within (suc n) gs (None ∷ hs) p (below_more n hs b)
-below_moves Closes new n hs gs b p = below_within (suc n) gs (outer_keys hs) p (below_more n (outer_keys hs) (below_others n hs b))
-below_moves (Keyed m) new n hs gs b p = below_within (suc n) gs (None ∷ outer_keys hs) p.1 (below_more n (outer_keys hs) (below_others n hs b))
+below_moves Closes new n hs gs b p = below_within (suc n) gs (outer_keys hs) p
+    (below_more n (outer_keys hs) (below_others n hs b))
+below_moves (Keyed m) new n hs gs b p = below_within (suc n) gs (None ∷ outer_keys hs) p.1
+    (below_more n (outer_keys hs) (below_others n hs b))
 below_moves Other new n hs gs b p = below_within (suc n) gs hs p (below_more n hs b)
 
 abbrev pub role_key : Role → Option ℕ
@@ -155,48 +162,104 @@ same_number n = grind (arith, nat_tests)
 nearest : (n k m : ℕ) → ◌≡◌ {A = Option ℕ} (Some n) (Some k) → k ≡ m → (m == n) ≡ true
 nearest n k m e f = let g : n ≡ k = cc in grind (arith, nat_tests, g, f)
 
-begins_new : (n : ℕ) (h : Option ℕ) (hs ks : Held) (ns : List ℕ) → Below n (h ∷ hs) → Chosen (Some n ∷ hs) ks ns → Stepped OfNode true n (h ∷ hs) ks ns
+begins_new : (n : ℕ) (h : Option ℕ) (hs ks : Held) (ns : List ℕ) → Below n (h ∷ hs) → Chosen (Some n ∷ hs) ks ns
+    → Stepped OfNode true n (h ∷ hs) ks ns
 begins_new n h hs [] ns b q = absurd q
-begins_new n h hs (None ∷ ks) ns b q = record { flag = false; flags = not_nearest n hs ks ns (below_others n (h ∷ hs) b) q; begun = λ e. refl; before = None ∷ ks; alone = λ e. refl; chosen = q; fits = refl; next = refl }
+begins_new n h hs (None ∷ ks) ns b q = record {
+  flag = false;
+  flags = not_nearest n hs ks ns (below_others n (h ∷ hs) b)
+      q;
+  begun = λ e. refl;
+  before = None ∷ ks;
+  alone = λ e. refl;
+  chosen = q;
+  fits = refl;
+  next = refl;
+}
 begins_new n h hs (Some k ∷ ks) [] b q = absurd q
 begins_new n h hs (Some k ∷ ks) (m ∷ ns) b q =
-    record { flag = true; flags = nearest n k m q.0 q.1; begun = λ e. refl; before = None ∷ ks; alone = λ e. refl; chosen = q.2; fits = refl; next = ap (λ (x : Option ℕ). x ∷ ks) q.0 }
+    record {
+      flag = true;
+      flags = nearest n k m q.0 q.1;
+      begun = λ e. refl;
+      before = None
+          ∷ ks;
+      alone = λ e. refl;
+      chosen = q.2;
+      fits = refl;
+      next = ap (λ (x : Option ℕ). x ∷ ks) q.0;
+    }
 
-opens_new : (n : ℕ) (h : Option ℕ) (hs ks : Held) (ns : List ℕ) → Below n (h ∷ hs) → Chosen (None ∷ Some n ∷ hs) ks ns → Stepped Opens true n (h ∷ hs) ks ns
+opens_new : (n : ℕ) (h : Option ℕ) (hs ks : Held) (ns : List ℕ) → Below n (h ∷ hs) → Chosen (None ∷ Some n ∷ hs) ks ns
+    → Stepped Opens true n (h ∷ hs) ks ns
 opens_new n h hs [] ns b q = absurd q
 opens_new n h hs (Some k ∷ ks) [] b q = absurd q
 opens_new n h hs (Some k ∷ ks) (m ∷ ns) b q = absurd (let e = q.0 in cc)
-opens_new n h hs (None ∷ ks) ns b q = let s = begins_new n h hs ks ns b q in record { flag = s.flag; flags = s.flags; begun = s.begun; before = s.before; alone = s.alone; chosen = as_opens s.flag s.before s.chosen; fits = refl; next = ap (λ (l : Held). None ∷ l) s.next }
+opens_new n h hs (None ∷ ks) ns b q = let s = begins_new n h hs ks ns b
+    q in record {
+      flag = s.flag;
+      flags = s.flags;
+      begun = s.begun;
+      before = s.before;
+      alone = s.alone;
+      chosen = as_opens
+          s.flag s.before s.chosen;
+      fits = refl;
+      next = ap (λ (l : Held). None ∷ l) s.next;
+    }
   where
-    as_opens : (flag : Bool) (before : Held) → Chosen (h ∷ hs) before (pending flag OfNode ns) → Chosen (h ∷ hs) before (pending flag Opens ns)
+    as_opens : (flag : Bool) (before : Held) → Chosen (h ∷ hs) before (pending flag OfNode ns)
+        → Chosen (h ∷ hs) before (pending flag Opens ns)
     as_opens true before p = p
     as_opens false before p = p
 
-kept : (role : Role) (new : Bool) (n : ℕ) (hs gs before ks : Held) (ns : List ℕ) → Below n gs → Chosen gs ks ns → Chosen hs before (pending false role ns) → role_fits role before ≡ true → keys_behind role false n before ≡ ks → Stepped role new n hs ks ns
-kept role new n hs gs before ks ns b q c f x = record { flag = false; flags = not_nearest n gs ks ns b q; begun = λ e. absurd cc; before = before; alone = λ e. absurd cc; chosen = c; fits = f; next = x }
+kept : (role : Role) (new : Bool) (n : ℕ) (hs gs before ks : Held) (ns : List ℕ) → Below n gs → Chosen gs ks ns
+    → Chosen hs before (pending false role ns) → role_fits role before ≡ true → keys_behind role false n before ≡ ks
+    → Stepped role new n hs ks ns
+kept role new n hs gs before ks ns b q c f x =
+    record {
+      flag = false;
+      flags = not_nearest n gs ks ns b q;
+      begun = λ e. absurd cc;
+      before = before;
+      alone =
+          λ e. absurd cc;
+      chosen = c;
+      fits = f;
+      next = x;
+    }
 
-opens_old : (n : ℕ) (hs ks : Held) (ns : List ℕ) → Below n hs → Chosen (None ∷ hs) ks ns → Stepped Opens false n hs ks ns
+opens_old : (n : ℕ) (hs ks : Held) (ns : List ℕ) → Below n hs → Chosen (None ∷ hs) ks ns
+    → Stepped Opens false n hs ks ns
 opens_old n hs [] ns b q = absurd q
 opens_old n hs (Some k ∷ ks) [] b q = absurd q
 opens_old n hs (Some k ∷ ks) (m ∷ ns) b q = absurd (let e = q.0 in cc)
 opens_old n hs (None ∷ ks) ns b q = kept Opens false n hs (None ∷ hs) ks (None ∷ ks) ns b q q refl refl
 
-keyed : (m : ℕ) (new : Bool) (n : ℕ) (hs ks : Held) (ns : List ℕ) → Below n hs → Chosen (None ∷ hs) ks ns → Stepped (Keyed m) new n (Some m ∷ hs) ks ns
+keyed : (m : ℕ) (new : Bool) (n : ℕ) (hs ks : Held) (ns : List ℕ) → Below n hs → Chosen (None ∷ hs) ks ns
+    → Stepped (Keyed m) new n (Some m ∷ hs) ks ns
 keyed m new n hs [] ns b q = absurd q
 keyed m new n hs (Some k ∷ ks) [] b q = absurd q
 keyed m new n hs (Some k ∷ ks) (x ∷ ns) b q = absurd (let e = q.0 in cc)
-keyed m new n hs (None ∷ ks) ns b q = kept (Keyed m) new n (Some m ∷ hs) (None ∷ hs) (Some m ∷ ks) (None ∷ ks) ns b q (refl, refl, q) (same_number m) refl
+keyed m new n hs (None ∷ ks) ns b q = kept (Keyed m) new n (Some m ∷ hs) (None ∷ hs) (Some m ∷ ks) (None ∷ ks) ns b q
+    (refl, refl, q) (same_number m) refl
 
-stepped_on : (role : Role) (new : Bool) (n : ℕ) (h : Option ℕ) (hs gs ks : Held) (ns : List ℕ) → Below n (h ∷ hs) → Moves role new n (h ∷ hs) gs → Chosen gs ks ns → Stepped role new n (h ∷ hs) ks ns
+stepped_on : (role : Role) (new : Bool) (n : ℕ) (h : Option ℕ) (hs gs ks : Held) (ns : List ℕ) → Below n (h ∷ hs)
+    → Moves role new n (h ∷ hs) gs → Chosen gs ks ns → Stepped role new n (h ∷ hs) ks ns
 stepped_on OfNode true n h hs gs ks ns b p q = begins_new n h hs ks ns b (chosen_within gs (Some n ∷ hs) ks ns p q)
-stepped_on OfNode false n h hs gs ks ns b p q = let c = chosen_within gs (h ∷ hs) ks ns p q in kept OfNode false n (h ∷ hs) (h ∷ hs) ks ks ns b c c refl refl
+stepped_on OfNode false n h hs gs ks ns b p q = let c = chosen_within gs (h ∷ hs) ks ns p q in kept OfNode false n
+    (h ∷ hs) (h ∷ hs) ks ks ns b c c refl refl
 stepped_on Opens true n h hs gs ks ns b p q = opens_new n h hs ks ns b (chosen_within gs (None ∷ Some n ∷ hs) ks ns p q)
 stepped_on Opens false n h hs gs ks ns b p q = opens_old n (h ∷ hs) ks ns b (chosen_within gs (None ∷ h ∷ hs) ks ns p q)
-stepped_on Closes new n h hs gs ks ns b p q = let c = chosen_within gs hs ks ns p q in kept Closes new n (h ∷ hs) hs (None ∷ ks) ks ns (below_others n (h ∷ hs) b) c c refl refl
+stepped_on Closes new n h hs gs ks ns b p q = let c = chosen_within gs hs ks ns p q in kept Closes new n (h ∷ hs) hs
+    (None ∷ ks) ks ns (below_others n (h ∷ hs) b) c c refl refl
 stepped_on (Keyed m) new n h hs gs ks ns b p q =
-    subst (λ (x : Option ℕ). Stepped (Keyed m) new n (x ∷ hs) ks ns) (sym p.0) (keyed m new n hs ks ns (below_others n (h ∷ hs) b) (chosen_within gs (None ∷ hs) ks ns p.1 q))
-stepped_on Other new n h hs gs ks ns b p q = let c = chosen_within gs (h ∷ hs) ks ns p q in kept Other new n (h ∷ hs) (h ∷ hs) ks ks ns b c c refl refl
+    subst (λ (x : Option ℕ). Stepped (Keyed m) new n (x ∷ hs) ks ns) (sym p.0)
+    (keyed m new n hs ks ns (below_others n (h ∷ hs) b) (chosen_within gs (None ∷ hs) ks ns p.1 q))
+stepped_on Other new n h hs gs ks ns b p q = let c = chosen_within gs (h ∷ hs) ks ns p q in kept Other new n (h ∷ hs)
+    (h ∷ hs) ks ks ns b c c refl refl
 
-pub stepped : (role : Role) (new : Bool) (n : ℕ) (hs gs ks : Held) (ns : List ℕ) → hs ≡ top_of hs ∷ outer_keys hs → Below n hs → Moves role new n hs gs → Chosen gs ks ns → Stepped role new n hs ks ns
+pub stepped : (role : Role) (new : Bool) (n : ℕ) (hs gs ks : Held) (ns : List ℕ) → hs ≡ top_of hs ∷ outer_keys hs
+    → Below n hs → Moves role new n hs gs → Chosen gs ks ns → Stepped role new n hs ks ns
 stepped role new n [] gs ks ns e b p q = absurd cc
 stepped role new n (h ∷ hs) gs ks ns e b p q = stepped_on role new n h hs gs ks ns b p q

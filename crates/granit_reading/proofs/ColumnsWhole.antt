@@ -1,5 +1,6 @@
 -- The columns that the reader keeps are the open ones of the lexemes that it has read.
-use Rattle.std.proofs.Common.{◌≡◌, suc, ◌<◌, Bool, true, false, List, [], ◌∷◌, ◌++◌, map, Option, Some, None, refl, sym, ap, ◌∙◌, subst}
+use Rattle.std.proofs.Common.{◌≡◌, suc, ◌<◌, Bool, true, false, List, [], ◌∷◌, ◌++◌, map, Option, Some, None, refl, sym}
+use Rattle.std.proofs.Common.{ap, ◌∙◌, subst}
 use Rattle.std.specs.Prelude.{if◌then◌else◌}
 use Rattle.granit_base.specs.Place.{Mark}
 use Rattle.granit_error.specs.OptionsData.{OptionsData}
@@ -21,9 +22,15 @@ use Rattle.granit_reading.proofs.Moving.{closed_held, lexeme_moved}
 use Rattle.granit_reading.proofs.Telling.{Agrees, gap_agrees, telling}
 
 -- the same columns, and the same key or none
-said_as : (ls : List Lexeme) (l m : Laid) → columns_of m ≡ columns_of l → m.number ≡ l.number → SameKey m.key l.key → OpenSays ls l → OpenSays ls m
+said_as : (ls : List Lexeme) (l m : Laid) → columns_of m ≡ columns_of l → m.number ≡ l.number → SameKey m.key l.key
+    → OpenSays ls l → OpenSays ls m
 said_as ls l m cs n k s = record {
-  columns = record { are_open = λ c h. s.columns.are_open c (subst (Has c) cs h); are_kept = λ c p. subst (Has c) (sym cs) (s.columns.are_kept c p); fall = subst Falls (sym cs) s.columns.fall };
+  columns = record {
+    are_open = λ c h. s.columns.are_open c (subst (Has c) cs h);
+    are_kept = λ c p. subst (Has c)
+        (sym cs) (s.columns.are_kept c p);
+    fall = subst Falls (sym cs) s.columns.fall;
+  };
   key = on m.key k;
 }
   where
@@ -38,9 +45,11 @@ said_as ls l m cs n k s = record {
         )
 
 pub agrees_said : (ls : List Lexeme) (l m : Laid) → Agrees m l → OpenSays ls l → OpenSays ls m
-agrees_said ls l m a s = said_as ls l m (ap (λ (l : List OpenColumn). map (λ (x : OpenColumn). x.column) l) a.columns) a.number (subst (λ key. SameKey key l.key) (sym a.key) (same_self l.key)) s
+agrees_said ls l m a s = said_as ls l m (ap (λ (l : List OpenColumn). map (λ (x : OpenColumn). x.column) l) a.columns)
+    a.number (subst (λ key. SameKey key l.key) (sym a.key) (same_self l.key)) s
 
-pub fresh_kept : (o : OptionsData) (m : Mark) (in_flow : Bool) (key : Option PossibleKey) → SameKey (fresh_key o in_flow m key) key
+pub fresh_kept : (o : OptionsData) (m : Mark) (in_flow : Bool) (key : Option PossibleKey)
+    → SameKey (fresh_key o in_flow m key) key
 fresh_kept o m in_flow None = tt
 fresh_kept o m in_flow (Some k) = on (is_stale o in_flow m k)
   where
@@ -48,34 +57,48 @@ fresh_kept o m in_flow (Some k) = on (is_stale o in_flow m k)
     on true = tt
     on false = (k, refl, refl, refl)
 
-pub fresh_said : (o : OptionsData) (ls : List Lexeme) (s : ReaderState) → OpenSays ls s.laid → OpenSays ls (freshened o s).laid
-fresh_said o ls s m = said_as ls s.laid (freshened o s).laid refl refl (fresh_kept o (mark_of s.here) (is_in_flow s.laid) s.laid.key) m
+pub fresh_said : (o : OptionsData) (ls : List Lexeme) (s : ReaderState) → OpenSays ls s.laid
+    → OpenSays ls (freshened o s).laid
+fresh_said o ls s m = said_as ls s.laid (freshened o s).laid refl refl
+    (fresh_kept o (mark_of s.here) (is_in_flow s.laid) s.laid.key) m
 
-pub latest_noted : (x : Lexeme) (note : Option CommentRead) (ls : List Lexeme) → latest (OfLexeme x ∷ note_items note) ls ≡ x ∷ ls
+pub latest_noted : (x : Lexeme) (note : Option CommentRead) (ls : List Lexeme)
+    → latest (OfLexeme x ∷ note_items note) ls ≡ x ∷ ls
 latest_noted x None ls = refl
 latest_noted x (Some c) ls = refl
 
-pub reads_said : (o : OptionsData) (ls : List Lexeme) {s after : ReaderState} {items : List Item} → Reads o s items after → OpenSays ls s.laid → OpenSays (latest items ls) after.laid
+pub reads_said : (o : OptionsData) (ls : List Lexeme) {s after : ReaderState} {items : List Item}
+    → Reads o s items after → OpenSays ls s.laid → OpenSays (latest items ls) after.laid
 reads_said o ls {s = s} (of_comment at g k) m = fresh_said o ls at (agrees_said ls s.laid at.laid (gap_agrees g) m)
 reads_said o ls {s = s} (of_lexeme {items = items} at behind sort comes given keys) m =
     let f = freshened o at in
     let n = fresh_said o ls at (agrees_said ls s.laid at.laid (gap_agrees comes.gap) m) in
     let t = telling o (ends_column_by sort f) f.here _ sort items behind given.1 in
     let c = closed_held sort f.here f.laid in
-    let v = lexeme_moved o sort f.here (closed_for sort f.here f.laid) t.lexeme t.cut t.reached behind.laid t.told t.says t.leaves in
-    let d = changed ls f.laid t.lexeme behind.laid n (v.number ∙ c.0) (v.next ∙ ap suc c.0) (columns_change o sort f.here f.laid t.lexeme t.cut t.reached behind.laid t.told t.says t.leaves) in
-    subst (λ (l : List Lexeme). OpenSays l (freshened o behind).laid) (sym (ap (λ (is : List Item). latest is ls) t.are ∙ latest_noted t.lexeme t.note ls)) (fresh_said o (t.lexeme ∷ ls) behind d)
+    let v = lexeme_moved o sort f.here (closed_for sort f.here f.laid) t.lexeme t.cut t.reached behind.laid t.told
+    t.says t.leaves in
+    let d = changed ls f.laid t.lexeme behind.laid n (v.number ∙ c.0) (v.next ∙ ap suc c.0)
+    (columns_change o sort f.here f.laid t.lexeme t.cut t.reached behind.laid t.told t.says t.leaves) in
+    subst (λ (l : List Lexeme). OpenSays l (freshened o behind).laid)
+    (sym (ap (λ (is : List Item). latest is ls) t.are ∙ latest_noted t.lexeme t.note ls))
+    (fresh_said o (t.lexeme ∷ ls) behind d)
 
-pub latest_joined : (items more : List Item) (ls : List Lexeme) → latest (items ++ more) ls ≡ latest more (latest items ls)
+pub latest_joined : (items more : List Item) (ls : List Lexeme)
+    → latest (items ++ more) ls ≡ latest more (latest items ls)
 latest_joined [] more ls = refl
 latest_joined (OfLexeme x ∷ is) more ls = latest_joined is more (x ∷ ls)
 latest_joined (OfComment c ∷ is) more ls = latest_joined is more ls
 
-reached_said : (o : OptionsData) (ls : List Lexeme) {s t : ReaderState} {items : List Item} → Reached o s items t → OpenSays ls s.laid → OpenSays (latest items ls) t.laid
+reached_said : (o : OptionsData) (ls : List Lexeme) {s t : ReaderState} {items : List Item} → Reached o s items t
+    → OpenSays ls s.laid → OpenSays (latest items ls) t.laid
 reached_said o ls stops m = m
 reached_said o ls {t = t} (goes_on next items more r last rest e) m =
-    subst (λ (l : List Lexeme). OpenSays l t.laid) (sym (ap (λ (is : List Item). latest is ls) e ∙ latest_joined items more ls)) (reached_said o (latest items ls) rest (reads_said o ls r m))
+    subst (λ (l : List Lexeme). OpenSays l t.laid)
+    (sym (ap (λ (is : List Item). latest is ls) e ∙ latest_joined items more ls))
+    (reached_said o (latest items ls) rest (reads_said o ls r m))
 
 -- behind the lexemes of a text, the columns that are kept are the open ones
-pub columns_said : (o : OptionsData) (h : Here) (items : List Item) (t : ReaderState) → Reached o (reader_start h) items t → ColumnsSay (latest items []) t.laid
-columns_said o h items t r = (reached_said o [] r (record { columns = record { are_open = λ c p. p; are_kept = λ c p. p; fall = tt }; key = tt })).columns
+pub columns_said : (o : OptionsData) (h : Here) (items : List Item) (t : ReaderState)
+    → Reached o (reader_start h) items t → ColumnsSay (latest items []) t.laid
+columns_said o h items t r = (reached_said o [] r
+    (record { columns = record { are_open = λ c p. p; are_kept = λ c p. p; fall = tt }; key = tt })).columns

@@ -1,446 +1,110 @@
 -- The key of each `:` of a text is the run of lexemes before it.
-use Rattle.std.proofs.Common.{◌≡◌, ℕ, ◌&&◌, Bool, true, false, List, [], ◌∷◌, ◌++◌, drop, map, Option, Some, None, refl, sym, ap, ap₂, ◌∙◌, subst, not, ◌⊎◌, inl, inr}
-use Rattle.std.specs.Prelude.{if◌then◌else◌, is_none}
+use Rattle.std.proofs.Common.{◌≡◌, ℕ, Bool, true, false, List, [], ◌∷◌, ◌++◌, drop, Option, Some, None, refl}
+use Rattle.std.proofs.Common.{sym, ap, ap₂, ◌∙◌, subst, ◌⊎◌, inl, inr}
+use Rattle.std.specs.Prelude.{is_none}
 use Rattle.granit_language.specs.Stretch.{TailIf}
-use Rattle.std.proofs.lemmas.Bool.{and_parts, or_parts}
+use Rattle.std.proofs.lemmas.Bool.{and_parts}
 use Rattle.std.proofs.lemmas.List.{append_cancel_right}
 use Rattle.granit_base.specs.Classes.{is_blank, is_break, is_gap}
 use Rattle.granit_base.specs.Place.{Mark}
 use Rattle.granit_error.specs.OptionsData.{OptionsData}
 use Rattle.granit_lexemes.specs.Comment.{CommentRead}
 use Rattle.granit_lexemes.specs.Here.{Here, next_char, is_quiet, mark_of, step, start_of}
-use Rattle.granit_lexemes.specs.Lexeme.{LexemeKind, Open, Comma, Dash, Question, Colon, KeyStart, Lexeme, Item, OfLexeme, OfComment}
-use Rattle.granit_machine.specs.Columns.{entered}
-use Rattle.granit_machine.specs.IndicatorLexemes.{widened_if, is_before_break}
+use Rattle.granit_lexemes.specs.Lexeme.{Lexeme, Item}
+use Rattle.granit_lexemes.specs.Lexeme.{OfLexeme, OfComment}
 use Rattle.granit_machine.specs.Gaps.{over_break_if}
-use Rattle.granit_machine.specs.Laid.{Laid, is_opener, is_dash, is_indicator, is_question, is_nonempty, is_in_flow}
-use Rattle.granit_lexemes.specs.declared.layout.LastLexeme.{LastLexeme}
-use Rattle.granit_lexemes.specs.declared.layout.LastLexeme.TheVariants.{BehindProperty, Adjacent, Opener, BehindQuestion, Another}
+use Rattle.granit_machine.specs.Laid.{Laid, is_in_flow}
 use Rattle.granit_lexemes.specs.declared.layout.PossibleKey.{PossibleKey}
-use Rattle.granit_lexemes.specs.declared.layout.OpenBracket.{OpenBracket}
-use Rattle.granit_machine.specs.LexemeSort.{OpenSign, CloseSign, CommaSign, DashSign, QuestionSign, ColonSign, AliasSign, AnchorSign, TagSign, BlockSign, QuoteSign, StrayMark, NoSign, PlainSign, LexemeSort, TextEnd, StartMark, EndMark, Unprintable, DirectiveSign, Placed, PlacedSort}
-use Rattle.granit_machine.specs.NodeLexemes.{note_items, last_of_property}
-use Rattle.granit_machine.specs.PossibleKeys.{key_in, top_key, outer_key, keyed_brackets, is_stale, fresh_key, fresh_bracket, is_allowed, node_key}
-use Rattle.granit_machine.specs.Reader.{noded, is_end_kind, is_end}
-use Rattle.granit_machine.specs.ReaderState.{ReaderState, behind_tail, reader_start}
-use Rattle.granit_machine.proofs.LexLengths.{noded-flow}
-use Rattle.granit_language.specs.Before.{freshened, closed_for, run_for, behind_colon, behind_question_sign, last_of_colon, behind}
-use Rattle.granit_language.specs.Begins.{SignBegins, Begins, sign}
+use Rattle.granit_machine.specs.LexemeSort.{OpenSign, CloseSign, CommaSign, DashSign, QuestionSign, ColonSign}
+use Rattle.granit_machine.specs.LexemeSort.{AliasSign, AnchorSign, TagSign, BlockSign, QuoteSign, StrayMark, NoSign}
+use Rattle.granit_machine.specs.LexemeSort.{PlainSign, LexemeSort, TextEnd, StartMark, EndMark, Unprintable}
+use Rattle.granit_machine.specs.LexemeSort.{DirectiveSign, Placed, PlacedSort}
+use Rattle.granit_machine.specs.NodeLexemes.{note_items}
+use Rattle.granit_machine.specs.PossibleKeys.{top_key, is_stale}
+use Rattle.granit_machine.specs.Reader.{is_end_kind, is_end}
+use Rattle.granit_machine.specs.ReaderState.{ReaderState, reader_start}
+use Rattle.granit_language.specs.Before.{freshened, closed_for}
+use Rattle.granit_language.specs.Before.{behind}
+use Rattle.granit_language.specs.Begins.{Begins, sign}
 use Rattle.granit_language.specs.Begins as begins
-use Rattle.granit_language.specs.Fitting.{OfNode, Opens, Closes, Other, role_of}
-use Rattle.granit_language.specs.KeyRuns.{role, WholeBrackets, whole_none, whole_other, whole_pair, Run, part_begins, part_joins, whole_begins, whole_joins, opens_entry, is_entry_dash, is_sign, MayBeKey, no_tab, NoTabBehind, too_far, no_run, no_key, ColonSays, ColonsSay}
+use Rattle.granit_language.specs.KeyRuns.{is_key_sign, no_tab, NoTabBehind}
+use Rattle.granit_language.specs.KeyRuns.{ColonsSay}
+use Rattle.granit_language.specs.HeldSaid.{no_run_now}
+use Rattle.granit_language.specs.HeldSaid.{RunsSay}
 use Rattle.granit_language.specs.OpenColumns.{latest}
 use Rattle.granit_language.specs.Reached.{ends_column_by, Reads, of_comment, of_lexeme, Reached, stops, goes_on}
-use Rattle.granit_language.specs.Standing.{key_start, GapStands, in_front_of_comment, in_front_of_lexeme, QuestionStands, QuestionTail, a_comment, no_comment, Given}
+use Rattle.granit_language.specs.Standing.{GapStands, in_front_of_comment, in_front_of_lexeme}
+use Rattle.granit_language.specs.Standing.{QuestionStands, QuestionTail, a_comment, no_comment, Given}
 use Rattle.granit_reading.proofs.ColumnsWhole.{latest_noted}
-use Rattle.granit_reading.proofs.Moving.{left_open}
 use Rattle.granit_reading.proofs.Counting.{At, start_at, to_step}
 use Rattle.granit_reading.proofs.PlacesLaw.{gap_passes, given_places}
-use Rattle.granit_reading.proofs.RunsLaw.{Now, no_run_now, run_now, Lead, lead_begins, lead_joins, Leads, Pending, Around, Depths, LastSays, Onward, onward, depths_fresh, fresh_near, TabSays, leads_on}
-use Rattle.granit_reading.proofs.Signs.{TabSeen, sign_tab, comment_end, From, from_gap, from_comment, from_tail, over_break_from}
-use Rattle.granit_reading.proofs.Telling.{Told, Unkeyed, SaysOf, SameLast, Agrees, gap_agrees, telling}
-
-abbrev IsPlaced : LexemeSort → Type 0
-IsPlaced (Placed sort) = Unit {0}
-IsPlaced sort = ⊥
-
--- what the lexemes before a place say of its keys
-record RunsSay (o : OptionsData) (text : List ℕ) (m : Mark) (ls : List Lexeme) (l : Laid) : Type 0 where
-  depths : Depths o text m ls l.brackets l.key
-  last : LastSays ls l
-
--- ---- what a lexeme leaves open
-
-module _ (o : OptionsData) (text : List ℕ) (m : Mark) (ls : List Lexeme) (x : Lexeme) where
-  -- one that is no part of a run
-  abbrev Plain : Type 0
-  Plain = (role x ≡ OfNode → ⊥) × (role x ≡ Opens → ⊥) × (role x ≡ Closes → ⊥)
-
-  plain_around : Plain → (bs : List OpenBracket) (key : Option PossibleKey) → Around o text m ls bs key → Around o text m (x ∷ ls) bs key
-  plain_around n [] key p = record { opener = p.opener; before = p.before; whole = whole_other n.1 n.2 p.whole; opens = p.opens; leads = p.leads }
-  plain_around n (b ∷ bs) key p = (record { opener = p.0.opener; before = p.0.before; whole = whole_other n.1 n.2 p.0.whole; opens = p.0.opens; leads = p.0.leads }, p.1)
-
-  forgets_depths : Plain → (bs : List OpenBracket) (key : Option PossibleKey) → Depths o text m ls bs key → Depths o text m (x ∷ ls) (keyed_brackets None bs) (outer_key bs None key)
-  forgets_depths n [] key p = no_run_now (n.0, n.2) refl
-  forgets_depths n (b ∷ bs) key p = (no_run_now (n.0, n.2) refl, plain_around n bs key p.1)
-
-  bare_depths : Plain → (bs : List OpenBracket) (key : Option PossibleKey) → key_in bs key ≡ None → Depths o text m ls bs key → Depths o text m (x ∷ ls) bs key
-  bare_depths n [] key e p = no_run_now (n.0, n.2) e
-  bare_depths n (b ∷ bs) key e p = (no_run_now (n.0, n.2) e, plain_around n bs key p.1)
-
-  part_run : {first : Lexeme} {rest : List Lexeme} → role x ≡ OfNode → Lead x ls first rest → Run (x ∷ ls) first rest
-  part_run r (lead_begins b) = part_begins r b
-  part_run r (lead_joins j s) = part_joins r j s
-
-  part_now : (f : Bool) (key : Option PossibleKey) → role x ≡ OfNode → Leads o text f m x ls key → Now o text f m (x ∷ ls) key
-  part_now f key r p = run_now (part_run r p.lead) p.holds
-
-  part_around : role x ≡ OfNode → (bs : List OpenBracket) (key : Option PossibleKey) → Around o text m ls bs key → Around o text m (x ∷ ls) bs key
-  part_around r [] key p = record { opener = p.opener; before = p.before; whole = whole_other (λ e. let q = sym r ∙ e in cc) (λ e. let q = sym r ∙ e in cc) p.whole; opens = p.opens; leads = p.leads }
-  part_around r (b ∷ bs) key p = (record { opener = p.0.opener; before = p.0.before; whole = whole_other (λ e. let q = sym r ∙ e in cc) (λ e. let q = sym r ∙ e in cc) p.0.whole; opens = p.0.opens; leads = p.0.leads }, p.1)
-
-  part_depths : role x ≡ OfNode → (bs : List OpenBracket) (key new : Option PossibleKey) → Depths o text m ls bs key → Leads o text (is_nonempty bs) m x ls new → Depths o text m (x ∷ ls) (keyed_brackets new bs) (outer_key bs new key)
-  part_depths r [] key new p q = part_now false new r q
-  part_depths r (b ∷ bs) key new p q = (part_now true new r q, part_around r bs key p.1)
-
-  opens_depths : role x ≡ Opens → (b : OpenBracket) (bs : List OpenBracket) (key new : Option PossibleKey) → b.key ≡ None → Depths o text m ls bs key → Leads o text (is_nonempty bs) m x ls new → Depths o text m (x ∷ ls) (b ∷ keyed_brackets new bs) (outer_key bs new key)
-  opens_depths r b [] key new e p q = (no_run_now (λ t. let u = sym r ∙ t in cc, λ t. let u = sym r ∙ t in cc) e, record { opener = x; before = ls; whole = whole_none; opens = r; leads = q })
-  opens_depths r b (c ∷ bs) key new e p q = (no_run_now (λ t. let u = sym r ∙ t in cc, λ t. let u = sym r ∙ t in cc) e, (record { opener = x; before = ls; whole = whole_none; opens = r; leads = q }, p.1))
-
-  whole_run : {opener first : Lexeme} {ys rest : List Lexeme} → role x ≡ Closes → WholeBrackets ls (opener ∷ ys) → role opener ≡ Opens → Lead opener ys first rest → Run (x ∷ ls) first rest
-  whole_run r w q (lead_begins b) = whole_begins r w q b
-  whole_run r w q (lead_joins j s) = whole_joins r w q j s
-
-  closes_now : (f : Bool) (key : Option PossibleKey) → role x ≡ Closes → Pending o text f m ls key → Now o text f m (x ∷ ls) key
-  closes_now f key r p = run_now (whole_run r p.whole p.opens p.leads.lead) p.leads.holds
-
-  closes_around : role x ≡ Closes → {opener : Lexeme} {ys : List Lexeme} → WholeBrackets ls (opener ∷ ys) → role opener ≡ Opens → (bs : List OpenBracket) (key : Option PossibleKey) → Around o text m ys bs key → Around o text m (x ∷ ls) bs key
-  closes_around r w q [] key p = record { opener = p.opener; before = p.before; whole = whole_pair r w q p.whole; opens = p.opens; leads = p.leads }
-  closes_around r w q (b ∷ bs) key p = (record { opener = p.0.opener; before = p.0.before; whole = whole_pair r w q p.0.whole; opens = p.0.opens; leads = p.0.leads }, p.1)
-
-  closes_depths : role x ≡ Closes → (bs : List OpenBracket) (key : Option PossibleKey) → (b : OpenBracket) × (cs : List OpenBracket) × (bs ≡ b ∷ cs) → Depths o text m ls bs key → Depths o text m (x ∷ ls) (drop 1 bs) key
-  closes_depths r [] key (b, cs, e) p = absurd cc
-  closes_depths r (b ∷ []) key e p = closes_now false key r p.1
-  closes_depths r (b ∷ c ∷ bs) key e p = (closes_now true c.key r p.1.0, closes_around r p.1.0.whole p.1.0.opens bs key p.1.1)
-
--- ---- what a lexeme lets begin behind it
-
-record LastOf (x : Lexeme) (a : LastLexeme) : Type 0 where
-  opener : is_opener a ≡ opens_entry x.kind x.in_flow
-  dash : is_dash a ≡ is_entry_dash x.kind
-  indicator : is_indicator a ≡ true → (role x ≡ OfNode → ⊥) × (role x ≡ Closes → ⊥)
-  sign : is_indicator a ≡ (not x.in_flow && is_sign x.kind x.key)
-
-last_says : (ls : List Lexeme) (x : Lexeme) (l : Laid) (a : LastLexeme) → SameLast l.last a → LastOf x a → LastSays (x ∷ ls) l
-last_says ls x l a s p = record { opener = s.opener ∙ p.opener; dash = s.dash ∙ p.dash; indicator = λ e. p.indicator (sym s.indicator ∙ e); sign = s.indicator ∙ p.sign }
-
-and_false : (a : Bool) → (a && false) ≡ false
-and_false true = refl
-and_false false = refl
-
--- what is no sign lets no sign's place begin
-no_sign : (x : Lexeme) (kind : LexemeKind) → Unkeyed kind x → is_sign kind None ≡ false → (not x.in_flow && is_sign x.kind x.key) ≡ false
-no_sign x kind u e = ap (λ b. not x.in_flow && b) (ap₂ is_sign u.is u.key ∙ e) ∙ and_false (not x.in_flow)
-
--- behind a lexeme of this kind neither an opener's nor a dash's place
-quiet_last : (x : Lexeme) (kind : LexemeKind) (a : LastLexeme) → Unkeyed kind x → opens_entry kind x.in_flow ≡ false → is_entry_dash kind ≡ false → is_sign kind None ≡ false → is_opener a ≡ false → is_dash a ≡ false → is_indicator a ≡ false → LastOf x a
-quiet_last x kind a k p q n u v w = record { opener = u ∙ sym p ∙ ap (λ k. opens_entry k x.in_flow) (sym k.is); dash = v ∙ sym q ∙ ap is_entry_dash (sym k.is); indicator = λ y. absurd (let z = sym w ∙ y in cc); sign = w ∙ sym (no_sign x kind k n) }
-
-property_last : (o : OptionsData) (l : Laid) → (is_opener (last_of_property o l) ≡ false) × (is_dash (last_of_property o l) ≡ false) × (is_indicator (last_of_property o l) ≡ false)
-property_last o l = on (o.strict_indentation && is_question l.last)
-  where
-    on : (v : Bool) → (is_opener (if v then BehindProperty else Another) ≡ false) × (is_dash (if v then BehindProperty else Another) ≡ false) × (is_indicator (if v then BehindProperty else Another) ≡ false)
-    on true = (refl, refl, refl)
-    on false = (refl, refl, refl)
-
-role_is : {kind : LexemeKind} {x : Lexeme} → Unkeyed kind x → role x ≡ role_of kind None
-role_is u = ap₂ role_of u.is u.key
-
--- ---- one lexeme
-
-module _ (o : OptionsData) (text : List ℕ) (h : Here) (l : Laid) (ls : List Lexeme) (x : Lexeme) (after : Laid) (says : RunsSay o text (mark_of h) ls l) where
-  abbrev Goes : Type 0
-  Goes = RunsSay o text (mark_of h) (x ∷ ls) after
-
-  goes_as : (a : Laid) → Agrees after a → Depths o text (mark_of h) (x ∷ ls) a.brackets a.key → LastOf x a.last → Goes
-  goes_as a e d p = record { depths = subst (λ bs. Depths o text (mark_of h) (x ∷ ls) bs after.key) (sym e.brackets) (subst (λ key. Depths o text (mark_of h) (x ∷ ls) a.brackets key) (sym e.key) d); last = last_says ls x after a.last e.last p }
-
-  plain_of : {kind : LexemeKind} → Unkeyed kind x → role_of kind None ≡ Other → Plain o text (mark_of h) ls x
-  plain_of u e = let r = role_is u ∙ e in (λ t. let q = sym r ∙ t in cc, λ t. let q = sym r ∙ t in cc, λ t. let q = sym r ∙ t in cc)
-
-  forgets : Plain o text (mark_of h) ls x → Depths o text (mark_of h) (x ∷ ls) (keyed_brackets None l.brackets) (outer_key l.brackets None l.key)
-  forgets n = forgets_depths o text (mark_of h) ls x n l.brackets l.key says.depths
-
-  now_of : (bs : List OpenBracket) (key : Option PossibleKey) → Depths o text (mark_of h) ls bs key → Now o text (is_nonempty bs) (mark_of h) ls (key_in bs key)
-  now_of [] key d = d
-  now_of (b ∷ bs) key d = d.0
-
-  -- a lexeme of a node, told by what it notes
-  module _ (tabs : TabSays text ls h l) (property : Bool) (t : Told h (noded property h l) x) where
-    noted : Option PossibleKey
-    noted = node_key property (is_allowed h.begins_line h.tab l) (mark_of h) l
-
-    leads : Leads o text (is_in_flow l) (mark_of h) x ls (node_key property (is_allowed h.begins_line h.tab l) (mark_of h) l)
-    leads = leads_on o text h l ls x t.number t.start (t.flow ∙ noded-flow property h l) t.line t.follows says.last tabs property (now_of l.brackets l.key says.depths)
-
-    node_goes : (a : Laid) → Agrees after a → a.brackets ≡ (noded property h l).brackets → a.key ≡ (noded property h l).key → role x ≡ OfNode → LastOf x a.last → Goes
-    node_goes a e b k r p = goes_as a e (subst (λ bs. Depths o text (mark_of h) (x ∷ ls) bs a.key) (sym b) (subst (λ key. Depths o text (mark_of h) (x ∷ ls) (noded property h l).brackets key) (sym k) (part_depths o text (mark_of h) ls x r l.brackets l.key _ says.depths leads))) p
-
-  question_goes : (a : Laid) (v : Bool) → is_in_flow l ≡ v → Agrees after a → a.brackets ≡ (behind_question_sign v h l).brackets → a.key ≡ (behind_question_sign v h l).key → a.last ≡ (if v then Another else BehindQuestion) → Unkeyed Question x → x.in_flow ≡ v → Goes
-  question_goes a true f e b k q u w =
-      let n = plain_of u refl in
-      goes_as a e (subst (λ bs. Depths o text (mark_of h) (x ∷ ls) bs a.key) (sym b) (subst (λ key. Depths o text (mark_of h) (x ∷ ls) (keyed_brackets None l.brackets) key) (sym k) (forgets n)))
-      (record { opener = ap is_opener q ∙ ap (λ k. opens_entry k x.in_flow) (sym u.is); dash = ap is_dash q ∙ ap is_entry_dash (sym u.is); indicator = λ y. (n.0, n.2); sign = ap is_indicator q ∙ sym (ap₂ (λ (f s : Bool). not f && s) w (ap₂ is_sign u.is u.key)) })
-  question_goes a false f e b k q u w =
-      let n = plain_of u refl in
-      goes_as a e (subst (λ bs. Depths o text (mark_of h) (x ∷ ls) bs a.key) (sym b) (subst (λ key. Depths o text (mark_of h) (x ∷ ls) (keyed_brackets None l.brackets) key) (sym k) (forgets n)))
-      (record { opener = ap is_opener q ∙ ap (λ k. opens_entry k x.in_flow) (sym u.is); dash = ap is_dash q ∙ ap is_entry_dash (sym u.is); indicator = λ y. (n.0, n.2); sign = ap is_indicator q ∙ sym (ap₂ (λ (f s : Bool). not f && s) w (ap₂ is_sign u.is u.key)) })
-
-  colon_plain : x.kind ≡ Colon → Plain o text (mark_of h) ls x
-  colon_plain e = (
-    λ t. never_part x.key (sym (ap (λ k. role_of k x.key) e) ∙ t),
-    λ t. never_opens x.key (sym (ap (λ k. role_of k x.key) e) ∙ t),
-    λ t. never_closes x.key (sym (ap (λ k. role_of k x.key) e) ∙ t),
-  )
-    where
-      never_part : (key : Option KeyStart) → role_of Colon key ≡ OfNode → ⊥
-      never_part None p = cc
-      never_part (Some k) p = cc
-
-      never_opens : (key : Option KeyStart) → role_of Colon key ≡ Opens → ⊥
-      never_opens None p = cc
-      never_opens (Some k) p = cc
-
-      never_closes : (key : Option KeyStart) → role_of Colon key ≡ Closes → ⊥
-      never_closes None p = cc
-      never_closes (Some k) p = cc
-
-  colon_goes : (a : Laid) (v : Bool) (key : Option PossibleKey) → top_key l ≡ key → Agrees after a → a.brackets ≡ (behind_colon v key h l).brackets → a.key ≡ (behind_colon v key h l).key → a.last ≡ last_of_colon v key → x.kind ≡ Colon → x.in_flow ≡ v → x.key ≡ key_start key → Goes
-  colon_goes a v key t e b k q is w ks =
-      let n = colon_plain is in
-      goes_as a e (subst (λ bs. Depths o text (mark_of h) (x ∷ ls) bs a.key) (sym b) (subst (λ k. Depths o text (mark_of h) (x ∷ ls) (behind_colon v key h l).brackets k) (sym k) (on v key t)))
-      (record { opener = ap is_opener q ∙ no_opener v key ∙ ap (λ k. opens_entry k x.in_flow) (sym is); dash = ap is_dash q ∙ no_dash v key ∙ ap is_entry_dash (sym is); indicator = λ y. (n.0, n.2); sign = ap is_indicator q ∙ signs v key ∙ sym (ap₂ (λ (f s : Bool). not f && s) w (ap₂ is_sign is ks)) })
-    where
-      signs : (v : Bool) (key : Option PossibleKey) → is_indicator (last_of_colon v key) ≡ (not v && is_sign Colon (key_start key))
-      signs false None = refl
-      signs false (Some k) = refl
-      signs true None = refl
-      signs true (Some k) = refl
-
-      no_opener : (v : Bool) (key : Option PossibleKey) → is_opener (last_of_colon v key) ≡ false
-      no_opener false None = refl
-      no_opener false (Some k) = refl
-      no_opener true None = refl
-      no_opener true (Some k) = refl
-
-      no_dash : (v : Bool) (key : Option PossibleKey) → is_dash (last_of_colon v key) ≡ false
-      no_dash false None = refl
-      no_dash false (Some k) = refl
-      no_dash true None = refl
-      no_dash true (Some k) = refl
-
-      on : (v : Bool) (key : Option PossibleKey) → top_key l ≡ key → Depths o text (mark_of h) (x ∷ ls) (behind_colon v key h l).brackets (behind_colon v key h l).key
-      on true None t = bare_depths o text (mark_of h) ls x (colon_plain is) l.brackets l.key t says.depths
-      on false None t = bare_depths o text (mark_of h) ls x (colon_plain is) l.brackets l.key t says.depths
-      on true (Some k) t = forgets (colon_plain is)
-      on false (Some k) t = forgets (colon_plain is)
-
-  comma_last_of : x.in_flow ≡ is_in_flow l → Unkeyed Comma x → LastOf x (if is_in_flow l then Opener else Another)
-  comma_last_of f u = record { opener = on (is_in_flow l) ∙ sym f ∙ ap (λ k. opens_entry k x.in_flow) (sym u.is); dash = off (is_in_flow l) ∙ ap is_entry_dash (sym u.is); indicator = λ y. let n = plain_of u refl in (n.0, n.2); sign = none (is_in_flow l) ∙ sym (no_sign x Comma u refl) }
-    where
-      none : (v : Bool) → is_indicator (if v then Opener else Another) ≡ false
-      none true = refl
-      none false = refl
-
-      on : (v : Bool) → is_opener (if v then Opener else Another) ≡ v
-      on true = refl
-      on false = refl
-
-      off : (v : Bool) → is_dash (if v then Opener else Another) ≡ false
-      off true = refl
-      off false = refl
-
-  node_last : {kind : LexemeKind} → Unkeyed kind x → (a : LastLexeme) → (opens_entry kind x.in_flow ≡ false) → (is_entry_dash kind ≡ false) → (is_sign kind None ≡ false) → (is_opener a ≡ false) × (is_dash a ≡ false) × (is_indicator a ≡ false) → LastOf x a
-  node_last {kind = kind} u a p q n z = quiet_last x kind a u p q n z.0 z.1 z.2
-
-  lexeme_goes : (sort : LexemeSort) (cut : Option Mark) (g : Here) → (IsPlaced sort → TabSays text ls h l) → (x.kind ≡ Rattle.granit_lexemes.specs.Lexeme.StreamEnd → ⊥) → Told h (run_for sort h l) x → SaysOf sort h (run_for sort h l) x → Agrees after (behind o sort x cut g h (run_for sort h l)) → Goes
-  lexeme_goes TextEnd cut g tabs w t s a = absurd (w s.0.is)
-  lexeme_goes StartMark cut g tabs w t s a = goes_as _ a (forgets (plain_of s.0 refl)) (node_last s.0 Another refl refl refl (refl, refl, refl))
-  lexeme_goes EndMark cut g tabs w t s a = goes_as _ a (forgets (plain_of s.0 refl)) (node_last s.0 Another refl refl refl (refl, refl, refl))
-  lexeme_goes DirectiveSign cut g tabs w t s a = goes_as _ a (forgets (plain_of s.1 refl)) (node_last s.1 Another refl refl refl (refl, refl, refl))
-  lexeme_goes Unprintable cut g tabs w t s a = absurd s
-  lexeme_goes (Placed (OpenSign bracket)) cut g tabs w t s a =
-      goes_as _ a (opens_depths o text (mark_of h) ls x (role_is s) (record { bracket = bracket; mark = mark_of h; key = None }) l.brackets l.key _ refl says.depths (leads (tabs tt) false t))
-      (record { opener = ap (λ k. opens_entry k x.in_flow) (sym s.is); dash = ap is_entry_dash (sym s.is); indicator = λ y. absurd cc; sign = sym (no_sign x _ s refl) })
-  lexeme_goes (Placed (CloseSign bracket)) cut g tabs w t s a =
-      goes_as _ a (closes_depths o text (mark_of h) ls x (role_is s.0) l.brackets l.key (left_open l.brackets bracket s.1) says.depths)
-      (node_last s.0 _ refl refl refl (closer_last x.tail))
-    where
-      closer_last : (tail : Option CommentRead) → (is_opener (behind_tail Adjacent tail) ≡ false) × (is_dash (behind_tail Adjacent tail) ≡ false) × (is_indicator (behind_tail Adjacent tail) ≡ false)
-      closer_last None = (refl, refl, refl)
-      closer_last (Some c) = (refl, refl, refl)
-  lexeme_goes (Placed CommaSign) cut g tabs w t s a = goes_as _ a (forgets (plain_of s refl)) (comma_last_of t.flow s)
-  lexeme_goes (Placed DashSign) cut g tabs w t s a =
-      goes_as _ a (dash_depths (is_before_break g)) (record { opener = ap (λ k. opens_entry k x.in_flow) (sym s.0.is); dash = ap is_entry_dash (sym s.0.is); indicator = λ y. absurd cc; sign = sym (no_sign x _ s.0 refl) })
-    where
-      dash_depths : (v : Bool) → Depths o text (mark_of h) (x ∷ ls) (keyed_brackets None (widened_if v (entered h.place.column l)).brackets) (outer_key (widened_if v (entered h.place.column l)).brackets None (widened_if v (entered h.place.column l)).key)
-      dash_depths v = forgets (plain_of s.0 refl)
-  lexeme_goes (Placed QuestionSign) cut g tabs w t s a = question_goes _ (is_in_flow l) refl a refl refl refl s.0 t.flow
-  lexeme_goes (Placed ColonSign) cut g tabs w t s a = colon_goes _ (is_in_flow l) (top_key l) refl a refl refl refl s.0 t.flow s.1
-  lexeme_goes (Placed AliasSign) cut g tabs w t s a = node_goes (tabs tt) false t _ a refl refl (role_is s.1) (node_last s.1 Another refl refl refl (refl, refl, refl))
-  lexeme_goes (Placed AnchorSign) cut g tabs w t s a = node_goes (tabs tt) true t _ a refl refl (role_is s.1) (node_last s.1 _ refl refl refl (property_last o (noded true h l)))
-  lexeme_goes (Placed TagSign) cut g tabs w t s a = node_goes (tabs tt) true t _ a refl refl (role_is s.2) (node_last s.2 _ refl refl refl (property_last o (noded true h l)))
-  lexeme_goes (Placed (BlockSign literal)) cut g tabs w t s a = node_goes (tabs tt) false t _ a refl refl (role_is s.2) (node_last s.2 Another refl refl refl (refl, refl, refl))
-  lexeme_goes (Placed (QuoteSign single)) cut g tabs w t s a = node_goes (tabs tt) false t _ a refl refl (role_is s.2) (node_last s.2 Adjacent refl refl refl (refl, refl, refl))
-  lexeme_goes (Placed PlainSign) cut g tabs w t s a = node_goes (tabs tt) false t _ a refl refl (role_is s.2) (node_last s.2 Another refl refl refl (refl, refl, refl))
-  lexeme_goes (Placed StrayMark) cut g tabs w t s a = absurd s
-  lexeme_goes (Placed NoSign) cut g tabs w t s a = absurd s
-
-  -- ---- what a `:` says
-
-  -- the key that is held fresh
-  abbrev Near : Type 0
-  Near = (k : PossibleKey) → top_key l ≡ Some k → is_stale o (is_in_flow l) (mark_of h) k ≡ false
-
-  colon_by : Near → x.in_flow ≡ is_in_flow l → x.start ≡ mark_of h → (key : Option PossibleKey) → top_key l ≡ key → Now o text (is_in_flow l) (mark_of h) ls key → ColonSays o text ls x Colon (key_start key)
-  unfolding is_stale
-  colon_by near f s None e (no_run_now n k) = no_run n
-  colon_by near f s None e (run_now {first = first} {rest = rest} r p) =
-      no_key r (subst (λ f. MayBeKey text f first rest → too_far o f first.start x.start ≡ true) (sym f) (subst (λ m. MayBeKey text (is_in_flow l) first rest → too_far o (is_in_flow l) first.start m ≡ true) (sym s) p))
-  colon_by near f s (Some k) e (no_run_now n q) = absurd cc
-  colon_by near f s (Some k) e (run_now {first = first} {rest = rest} r p) = record {
-    first = first;
-    rest = rest;
-    run = r;
-    number = p.0;
-    start = p.1;
-    begins = subst (λ f. MayBeKey text f first rest) (sym f) p.2;
-    near = subst (λ f. too_far o f first.start x.start ≡ false) (sym f) (subst (λ m. too_far o (is_in_flow l) first.start m ≡ false) (sym s) (subst (λ m. too_far o (is_in_flow l) m (mark_of h) ≡ false) p.1 (near k e)));
-  }
-
-  other_says : {kind : LexemeKind} → Unkeyed kind x → ColonSays o text ls x kind None → ColonSays o text ls x x.kind x.key
-  other_says {kind = kind} u p = subst (λ k. ColonSays o text ls x k x.key) (sym u.is) (subst (ColonSays o text ls x kind) (sym u.key) p)
-
-  colon_says : Near → (sort : LexemeSort) → Told h (run_for sort h l) x → SaysOf sort h (run_for sort h l) x → ColonSays o text ls x x.kind x.key
-  colon_says near TextEnd t s = other_says s.0 tt
-  colon_says near StartMark t s = other_says s.0 tt
-  colon_says near EndMark t s = other_says s.0 tt
-  colon_says near DirectiveSign t s = other_says s.1 tt
-  colon_says near Unprintable t s = absurd s
-  colon_says near (Placed (OpenSign bracket)) t s = other_says s tt
-  colon_says near (Placed (CloseSign bracket)) t s = other_says s.0 tt
-  colon_says near (Placed CommaSign) t s = other_says s tt
-  colon_says near (Placed DashSign) t s = other_says s.0 tt
-  colon_says near (Placed QuestionSign) t s = other_says s.0 tt
-  colon_says near (Placed ColonSign) t s =
-      subst (λ k. ColonSays o text ls x k x.key) (sym s.0) (subst (ColonSays o text ls x Colon) (sym s.1) (colon_by near t.flow t.start (top_key l) refl (now_of l.brackets l.key says.depths)))
-  colon_says near (Placed AliasSign) t s = other_says s.1 tt
-  colon_says near (Placed AnchorSign) t s = other_says s.1 tt
-  colon_says near (Placed TagSign) t s = other_says s.2 tt
-  colon_says near (Placed (BlockSign literal)) t s = other_says s.2 tt
-  colon_says near (Placed (QuoteSign single)) t s = other_says s.2 tt
-  colon_says near (Placed PlainSign) t s = other_says s.2 tt
-  colon_says near (Placed StrayMark) t s = absurd s
-  colon_says near (Placed NoSign) t s = absurd s
-
--- ---- reads
-
-gap_runs : (o : OptionsData) (text : List ℕ) (m : Mark) (ls : List Lexeme) (l after : Laid) → Agrees after l → RunsSay o text m ls l → RunsSay o text m ls after
-gap_runs o text m ls l after a r = record {
-  depths = subst (λ bs. Depths o text m ls bs after.key) (sym a.brackets) (subst (λ key. Depths o text m ls l.brackets key) (sym a.key) r.depths);
-  last = record { opener = a.last.opener ∙ r.last.opener; dash = a.last.dash ∙ r.last.dash; indicator = λ e. r.last.indicator (sym a.last.indicator ∙ e); sign = a.last.indicator ∙ r.last.sign };
-}
-
-fresh_runs : (o : OptionsData) (text : List ℕ) (m : Mark) (ls : List Lexeme) (s : ReaderState) → Onward m (mark_of s.here) → RunsSay o text m ls s.laid → RunsSay o text (mark_of s.here) ls (freshened o s).laid
-fresh_runs o text m ls s w r = record { depths = depths_fresh o text m (mark_of s.here) w (is_in_flow s.laid) ls s.laid.brackets s.laid.key r.depths; last = record { opener = r.last.opener; dash = r.last.dash; indicator = r.last.indicator; sign = r.last.sign } }
-
--- what is held behind a fresh look is near
-fresh_nears : (o : OptionsData) (s : ReaderState) (k : PossibleKey) → top_key (freshened o s).laid ≡ Some k → is_stale o (is_in_flow (freshened o s).laid) (mark_of s.here) k ≡ false
-fresh_nears o s k e = on s.laid.brackets refl e
-  where
-    on : (bs : List OpenBracket) → s.laid.brackets ≡ bs → key_in (map (fresh_bracket o (mark_of s.here)) bs) (fresh_key o (is_in_flow s.laid) (mark_of s.here) s.laid.key) ≡ Some k → is_stale o (is_nonempty (map (fresh_bracket o (mark_of s.here)) s.laid.brackets)) (mark_of s.here) k ≡ false
-    on [] f e = subst (λ (bs : List OpenBracket). is_stale o (is_nonempty (map (fresh_bracket o (mark_of s.here)) bs)) (mark_of s.here) k ≡ false) (sym f)
-        (subst (λ g. is_stale o g (mark_of s.here) k ≡ false) (ap (λ (bs : List OpenBracket). is_nonempty bs) f) (fresh_near o (is_in_flow s.laid) (mark_of s.here) s.laid.key k e))
-    on (b ∷ bs) f e = subst (λ (bs : List OpenBracket). is_stale o (is_nonempty (map (fresh_bracket o (mark_of s.here)) bs)) (mark_of s.here) k ≡ false) (sym f) (fresh_near o true (mark_of s.here) b.key k e)
-
-closed_runs : (o : OptionsData) (text : List ℕ) (m : Mark) (ls : List Lexeme) (sort : LexemeSort) (h : Here) (l : Laid) → RunsSay o text m ls l → RunsSay o text m ls (closed_for sort h l)
-closed_runs o text m ls TextEnd h l r = r
-closed_runs o text m ls Unprintable h l r = r
-closed_runs o text m ls StartMark h l r = record { depths = r.depths; last = record { opener = r.last.opener; dash = r.last.dash; indicator = r.last.indicator; sign = r.last.sign } }
-closed_runs o text m ls EndMark h l r = record { depths = r.depths; last = record { opener = r.last.opener; dash = r.last.dash; indicator = r.last.indicator; sign = r.last.sign } }
-closed_runs o text m ls DirectiveSign h l r = record { depths = r.depths; last = record { opener = r.last.opener; dash = r.last.dash; indicator = r.last.indicator; sign = r.last.sign } }
-closed_runs o text m ls (Placed sort) h l r = record { depths = r.depths; last = record { opener = r.last.opener; dash = r.last.dash; indicator = r.last.indicator; sign = r.last.sign } }
-
-closed_near : (sort : LexemeSort) (h : Here) (l : Laid) → (top_key (closed_for sort h l) ≡ top_key l) × (is_in_flow (closed_for sort h l) ≡ is_in_flow l)
-closed_near TextEnd h l = (refl, refl)
-closed_near Unprintable h l = (refl, refl)
-closed_near StartMark h l = (refl, refl)
-closed_near EndMark h l = (refl, refl)
-closed_near DirectiveSign h l = (refl, refl)
-closed_near (Placed sort) h l = (refl, refl)
-
-noted_says : (o : OptionsData) (text : List ℕ) (ls : List Lexeme) (x : Lexeme) (note : Option CommentRead) → ColonSays o text ls x x.kind x.key → ColonsSay o text ls (OfLexeme x ∷ note_items note)
-noted_says o text ls x None p = (p, tt)
-noted_says o text ls x (Some c) p = (p, tt)
-
-says_joined : (o : OptionsData) (text : List ℕ) (ls : List Lexeme) (items more : List Item) → ColonsSay o text ls items → ColonsSay o text (latest items ls) more → ColonsSay o text ls (items ++ more)
-says_joined o text ls [] more p q = q
-says_joined o text ls (OfLexeme x ∷ is) more p q = (p.0, says_joined o text (x ∷ ls) is more p.1 q)
-says_joined o text ls (OfComment c ∷ is) more p q = says_joined o text ls is more p q
-
--- ---- behind a `?` or a `:` without key
-
--- where the last lexeme is one, characters of the text lead from its end
-abbrev Signed : List ℕ → List Lexeme → ReaderState → Type 0
-Signed text ls s = is_indicator s.laid.last ≡ true → (y : Lexeme) × (ys : List Lexeme) × (ls ≡ y ∷ ys) × From text y.shown.end.place.index s.here
-
-sign_there : {in_flow adjacent : Bool} {column : ℕ} {text : List ℕ} {sort : PlacedSort} → Begins in_flow adjacent column text (Placed sort) → (c : ℕ) × (t : List ℕ) × (text ≡ c ∷ t) × ((sort ≡ QuestionSign) ⊎ (sort ≡ ColonSign) → is_quiet c ≡ false)
-sign_there (sign {c = c} {text = t} m p d s) = (c, t, refl, λ e. loud s e)
-  where
-    loud : {in_flow adjacent : Bool} {next c : ℕ} {sort : PlacedSort} → SignBegins in_flow adjacent next c sort → (sort ≡ QuestionSign) ⊎ (sort ≡ ColonSign) → is_quiet c ≡ false
-    loud (begins.SignBegins.question e) k = refl
-    loud (begins.SignBegins.colon e) k = refl
-    loud (begins.SignBegins.opens b) (inl e) = absurd cc
-    loud (begins.SignBegins.opens b) (inr e) = absurd cc
-    loud (begins.SignBegins.closes b) (inl e) = absurd cc
-    loud (begins.SignBegins.closes b) (inr e) = absurd cc
-    loud begins.SignBegins.comma (inl e) = absurd cc
-    loud begins.SignBegins.comma (inr e) = absurd cc
-    loud (begins.SignBegins.dash n) (inl e) = absurd cc
-    loud (begins.SignBegins.dash n) (inr e) = absurd cc
-    loud begins.SignBegins.alias (inl e) = absurd cc
-    loud begins.SignBegins.alias (inr e) = absurd cc
-    loud begins.SignBegins.anchor (inl e) = absurd cc
-    loud begins.SignBegins.anchor (inr e) = absurd cc
-    loud begins.SignBegins.tag (inl e) = absurd cc
-    loud begins.SignBegins.tag (inr e) = absurd cc
-    loud (begins.SignBegins.block v n) (inl e) = absurd cc
-    loud (begins.SignBegins.block v n) (inr e) = absurd cc
-    loud (begins.SignBegins.quote v) (inl e) = absurd cc
-    loud (begins.SignBegins.quote v) (inr e) = absurd cc
-    loud begins.SignBegins.stray (inl e) = absurd cc
-    loud begins.SignBegins.stray (inr e) = absurd cc
-    loud (begins.SignBegins.nothing r n) (inl e) = absurd cc
-    loud (begins.SignBegins.nothing r n) (inr e) = absurd cc
-    loud (begins.SignBegins.other a b d e f g i j k m n) (inl z) = absurd cc
-    loud (begins.SignBegins.other a b d e f g i j k m n) (inr z) = absurd cc
+use Rattle.granit_reading.proofs.RunsLaw.{onward, TabSays}
+use Rattle.granit_reading.proofs.Signs.{TabSeen, sign_tab, comment_end, From, from_gap, from_comment, from_tail}
+use Rattle.granit_reading.proofs.Signs.{over_break_from}
+use Rattle.granit_reading.proofs.Telling.{SaysOf, gap_agrees, telling}
+use Rattle.granit_reading.proofs.RunsKept.{IsPlaced, lexeme_goes, colon_says, gap_runs, fresh_runs, fresh_nears}
+use Rattle.granit_reading.proofs.RunsKept.{closed_runs, closed_near, noted_says, says_joined, Signed, sign_there}
 
 module _ (o : OptionsData) (text : List ℕ) where
   -- over a break where one ends the line
-  from_break : (i : ℕ) (h : Here) → (h.unread.text ≡ []) ⊎ (is_break (next_char h) ≡ true) → From text i h → From text i (over_break_if h)
+  from_break : (i : ℕ) (h : Here) → (h.unread.text ≡ []) ⊎ (is_break (next_char h) ≡ true) → From text i h
+      → From text i (over_break_if h)
   from_break i h e f = over_break_from text i h e f
 
-  gap_signed : {h : Here} {l : Laid} {c : Option CommentRead} {t : ReaderState} (i : ℕ) → GapStands o h l c t → From text i h → From text i t.here
-  gap_signed i (in_front_of_comment at end g p) f = from_break i end (comment_end p).1 (from_comment text i p (from_gap text i g.over f))
+  gap_signed : {h : Here} {l : Laid} {c : Option CommentRead} {t : ReaderState} (i : ℕ) → GapStands o h l c t
+      → From text i h → From text i t.here
+  gap_signed i (in_front_of_comment at end g p) f = from_break i end (comment_end p).1
+      (from_comment text i p (from_gap text i g.over f))
   gap_signed i (in_front_of_lexeme at g n t k) f = from_gap text i g.over f
 
   -- the place behind a sign
-  from_sign : (h : Here) (a : At text h) (c : ℕ) (t : List ℕ) → h.unread.text ≡ c ∷ t → is_quiet c ≡ false → From text (step h).place.index (step h)
+  from_sign : (h : Here) (a : At text h) (c : ℕ) (t : List ℕ) → h.unread.text ≡ c ∷ t → is_quiet c ≡ false
+      → From text (step h).place.index (step h)
   from_sign h a c t e q =
       let b = (to_step text h a).place in
-      record { characters = []; leads = ap (λ i. drop i text) b.here.mark.index ∙ sym b.here.text; seen = inr (inr (ap is_none (sign_tab h c t e q))) }
+      record {
+        characters = [];
+        leads = ap (λ i. drop i text) b.here.mark.index
+            ∙ sym b.here.text;
+        seen = inr (inr (ap is_none (sign_tab h c t e q)));
+      }
 
-  question_signed : (ends : Bool) (h : Here) (l : Laid) (y : Lexeme) (after : Here) (v : Bool) → QuestionStands o ends h l y after v → From text (step h).place.index (step h) → (y.shown.end ≡ mark_of (step h)) × From text (step h).place.index after
-  question_signed ends h l y after true p f = (ap (λ (y : Lexeme). y.shown.end) p.is, subst (From text (step h).place.index) (sym p.reaches) f)
+  question_signed : (ends : Bool) (h : Here) (l : Laid) (y : Lexeme) (after : Here) (v : Bool)
+      → QuestionStands o ends h l y after v → From text (step h).place.index (step h)
+      → (y.shown.end ≡ mark_of (step h)) × From text (step h).place.index after
+  question_signed ends h l y after true p f = (
+    ap (λ (y : Lexeme). y.shown.end) p.is,
+    subst
+        (From text (step h).place.index) (sym p.reaches) f,
+  )
   question_signed ends h l y after false p f = (ap (λ (y : Lexeme). y.shown.end) p.is, on p.tailed)
     where
-      on : {l : Laid} {held : Option CommentRead} {g : Here} → QuestionTail o l p.at held g → From text (step h).place.index g
+      on : {l : Laid} {held : Option CommentRead} {g : Here} → QuestionTail o l p.at held g
+          → From text (step h).place.index g
       on (a_comment s) = from_comment text _ s (from_gap text _ p.gap.over f)
       on (no_comment n t) = from_gap text _ p.gap.over f
 
-  tail_if_signed : (v : Bool) (end after : Here) (held : Option CommentRead) (i : ℕ) → TailIf v end held after → From text i end → From text i after
+  tail_if_signed : (v : Bool) (end after : Here) (held : Option CommentRead) (i : ℕ) → TailIf v end held after
+      → From text i end → From text i after
   tail_if_signed true end after held i p f = from_tail text i p f
   tail_if_signed false end after held i p f = subst (From text i) (sym p.1) f
 
   -- a `?` or a `:` is read, and characters lead on from its end
   abbrev SignRead : Here → List Item → Here → Type 0
-  SignRead h items after = (y : Lexeme) (notes : List Item) → items ≡ OfLexeme y ∷ notes → From text y.shown.end.place.index after
+  SignRead h items after = (y : Lexeme) (notes : List Item) → items ≡ OfLexeme y ∷ notes
+      → From text y.shown.end.place.index after
 
-  sign_read : (ends : Bool) (sort : PlacedSort) (h : Here) (l : Laid) (items : List Item) (after : ReaderState) → (sort ≡ QuestionSign) ⊎ (sort ≡ ColonSign) → Given o ends (Placed sort) h l items after → From text (step h).place.index (step h) → SignRead h items after.here
-  sign_read ends QuestionSign h l (OfLexeme y ∷ []) after e p f = λ z notes are. let q = question_signed ends h l y after.here (is_in_flow l) p.0 f in let same : y ≡ z = cc in subst (λ (z : Lexeme). From text z.shown.end.place.index after.here) same (subst (λ (m : Mark). From text m.place.index after.here) (sym q.0) q.1)
+  sign_read : (ends : Bool) (sort : PlacedSort) (h : Here) (l : Laid) (items : List Item) (after : ReaderState)
+      → (sort ≡ QuestionSign) ⊎ (sort ≡ ColonSign) → Given o ends (Placed sort) h l items after
+      → From text (step h).place.index (step h) → SignRead h items after.here
+  sign_read ends QuestionSign h l (OfLexeme y ∷ []) after e p f = λ z notes are. let q = question_signed ends h l y
+      after.here (is_in_flow l) p.0 f in let same : y ≡ z = cc in subst
+      (λ (z : Lexeme). From text z.shown.end.place.index after.here) same
+      (subst (λ (m : Mark). From text m.place.index after.here) (sym q.0) q.1)
   sign_read ends ColonSign h l (OfLexeme y ∷ []) after e p f =
       λ z notes are. let same : y ≡ z = cc in subst (λ (z : Lexeme). From text z.shown.end.place.index after.here) same
-      (subst (λ (m : Mark). From text m.place.index after.here) (sym (ap (λ (y : Lexeme). y.shown.end) p.0.is)) (tail_if_signed (is_blank (next_char (step h))) (step h) after.here p.0.tail _ p.0.tailed f))
+      (subst (λ (m : Mark). From text m.place.index after.here) (sym (ap (λ (y : Lexeme). y.shown.end) p.0.is))
+      (tail_if_signed (is_blank (next_char (step h))) (step h) after.here p.0.tail _ p.0.tailed f))
   sign_read ends QuestionSign h l [] after e p f = absurd p
   sign_read ends QuestionSign h l (OfComment c ∷ is) after e p f = absurd p
   sign_read ends QuestionSign h l (OfLexeme y ∷ i ∷ is) after e p f = absurd p
@@ -455,14 +119,18 @@ module _ (o : OptionsData) (text : List ℕ) where
 no_break : (h : Here) → is_gap (next_char h) ≡ false → is_break (next_char h) ≡ true → ⊥
 no_break h g b = let z = Rattle.granit_reading.proofs.Gapping.break_gap (next_char h) b in cc
 
-gap_stops : {o : OptionsData} {h : Here} {l : Laid} {t : ReaderState} → GapStands o h l None t → is_gap (next_char t.here) ≡ false
-gap_stops (in_front_of_lexeme at g n t k) = (or_parts _ _ g.stops).0
+gap_stops : {o : OptionsData} {h : Here} {l : Laid} {t : ReaderState} → GapStands o h l None t
+    → is_gap (next_char t.here) ≡ false
+gap_stops (in_front_of_lexeme at g n t k) = g.stops.0
 
 -- in front of a lexeme of the text the tab is one behind the sign
-tabs_say : (text : List ℕ) (ls : List Lexeme) (s : ReaderState) → At text s.here → Signed text ls s → is_gap (next_char s.here) ≡ false → (s.here.unread.text ≡ [] → ⊥) → TabSays text ls s.here s.laid
+tabs_say : (text : List ℕ) (ls : List Lexeme) (s : ReaderState) → At text s.here → Signed text ls s
+    → is_gap (next_char s.here) ≡ false → (s.here.unread.text ≡ [] → ⊥) → TabSays text ls s.here s.laid
 tabs_say text ls s a f g some i line = let q = f i in on q.0 q.1 q.2 q.3
   where
-    on : (y : Lexeme) (ys : List Lexeme) → ls ≡ y ∷ ys → From text y.shown.end.place.index s.here → (is_none s.here.tab ≡ true → NoTabBehind text ls (mark_of s.here)) × (NoTabBehind text ls (mark_of s.here) → is_none s.here.tab ≡ true)
+    on : (y : Lexeme) (ys : List Lexeme) → ls ≡ y ∷ ys → From text y.shown.end.place.index s.here
+        → (is_none s.here.tab ≡ true → NoTabBehind text ls (mark_of s.here))
+        × (NoTabBehind text ls (mark_of s.here) → is_none s.here.tab ≡ true)
     on y ys e p = by p.seen
       where
         here : drop s.here.place.index text ≡ s.here.unread.text
@@ -471,19 +139,23 @@ tabs_say text ls s a f g some i line = let q = f i in on q.0 q.1 q.2 q.3
         leads : drop y.shown.end.place.index text ≡ p.characters ++ drop s.here.place.index text
         leads = p.leads ∙ ap (λ (l : List ℕ). p.characters ++ l) (sym here)
 
-        by : TabSeen s.here p.characters → (is_none s.here.tab ≡ true → NoTabBehind text ls (mark_of s.here)) × (NoTabBehind text ls (mark_of s.here) → is_none s.here.tab ≡ true)
+        by : TabSeen s.here p.characters → (is_none s.here.tab ≡ true → NoTabBehind text ls (mark_of s.here))
+            × (NoTabBehind text ls (mark_of s.here) → is_none s.here.tab ≡ true)
         by (inl b) = absurd cc
         by (inr (inl (inl n))) = absurd (some n)
         by (inr (inl (inr b))) = absurd (no_break s.here g b)
         by (inr (inr k)) = (
-          λ n. subst (λ (l : List Lexeme). NoTabBehind text l (mark_of s.here)) (sym e) (p.characters, leads, sym k ∙ n),
+          λ n. subst (λ (l : List Lexeme). NoTabBehind text l (mark_of s.here)) (sym e)
+              (p.characters, leads, sym k ∙ n),
           λ v. back (subst (λ (l : List Lexeme). NoTabBehind text l (mark_of s.here)) e v),
         )
           where
             back : NoTabBehind text (y ∷ ys) (mark_of s.here) → is_none s.here.tab ≡ true
-            back (cs, d, n) = let same : cs ≡ p.characters = append_cancel_right cs p.characters (drop s.here.place.index text) (sym d ∙ leads) in k ∙ ap no_tab (sym same) ∙ n
+            back (cs, d, n) = let same : cs ≡ p.characters = append_cancel_right cs p.characters
+                (drop s.here.place.index text) (sym d ∙ leads) in k ∙ ap no_tab (sym same) ∙ n
 
-closed_tabs : (text : List ℕ) (sort : LexemeSort) (h : Here) (l : Laid) (ls : List Lexeme) → TabSays text ls h l → TabSays text ls h (closed_for sort h l)
+closed_tabs : (text : List ℕ) (sort : LexemeSort) (h : Here) (l : Laid) (ls : List Lexeme) → TabSays text ls h l
+    → TabSays text ls h (closed_for sort h l)
 closed_tabs text TextEnd h l ls t = t
 closed_tabs text StartMark h l ls t = t
 closed_tabs text EndMark h l ls t = t
@@ -492,39 +164,59 @@ closed_tabs text Unprintable h l ls t = t
 closed_tabs text (Placed sort) h l ls t = t
 
 module _ (o : OptionsData) (text : List ℕ) where
-  record ReadRuns (s : ReaderState) (ls : List Lexeme) (items : List Item) (after : ReaderState) : Type 0 where
-    says : ColonsSay o text ls items
-    place : At text after.here
-    runs : is_end items ≡ false → RunsSay o text (mark_of after.here) (latest items ls) after.laid
-    signed : is_end items ≡ false → Signed text (latest items ls) after
+  pub record ReadRuns (s : ReaderState) (ls : List Lexeme) (items : List Item) (after : ReaderState) : Type 0 where
+    pub says : ColonsSay o text ls items
+    pub place : At text after.here
+    pub runs : is_end items ≡ false → RunsSay o text (mark_of after.here) (latest items ls) after.laid
+    pub signed : is_end items ≡ false → Signed text (latest items ls) after
 
-  gap_keeps : {s at : ReaderState} {c : Option CommentRead} (ls : List Lexeme) → GapStands o s.here s.laid c at → Signed text ls s → Signed text ls at
+  gap_keeps : {s at : ReaderState} {c : Option CommentRead} (ls : List Lexeme) → GapStands o s.here s.laid c at
+      → Signed text ls s → Signed text ls at
   gap_keeps ls g f i = let q = f (sym (gap_agrees g).last.indicator ∙ i) in (q.0, q.1, q.2, gap_signed o text _ g q.3)
 
   -- behind a lexeme that is a sign
-  sign_signed : (ends : Bool) (sort : LexemeSort) (h : Here) (l : Laid) (items : List Item) (after : ReaderState) (x : Lexeme) (notes : List Item) → items ≡ OfLexeme x ∷ notes → SaysOf sort h l x → Given o ends sort h l items after
-      → (IsPlaced sort → At text h) → ((p : PlacedSort) → sort ≡ Placed p → (p ≡ QuestionSign) ⊎ (p ≡ ColonSign) → From text (step h).place.index (step h)) → is_sign x.kind x.key ≡ true → From text x.shown.end.place.index after.here
-  sign_signed ends (Placed QuestionSign) h l items after x notes are s p a f e = sign_read o text ends QuestionSign h l items after (inl refl) p (f QuestionSign refl (inl refl)) x notes are
-  sign_signed ends (Placed ColonSign) h l items after x notes are s p a f e = sign_read o text ends ColonSign h l items after (inr refl) p (f ColonSign refl (inr refl)) x notes are
-  sign_signed ends TextEnd h l items after x notes are s p a f e = absurd (let z = ap₂ is_sign s.0.is s.0.key in cc)
-  sign_signed ends StartMark h l items after x notes are s p a f e = absurd (let z = ap₂ is_sign s.0.is s.0.key in cc)
-  sign_signed ends EndMark h l items after x notes are s p a f e = absurd (let z = ap₂ is_sign s.0.is s.0.key in cc)
-  sign_signed ends DirectiveSign h l items after x notes are s p a f e = absurd (let z = ap₂ is_sign s.1.is s.1.key in cc)
+  sign_signed : (ends : Bool) (sort : LexemeSort) (h : Here) (l : Laid) (items : List Item) (after : ReaderState)
+      (x : Lexeme) (notes : List Item) → items ≡ OfLexeme x ∷ notes → SaysOf sort h l x
+      → Given o ends sort h l items after
+      → (IsPlaced sort → At text h) → ((p : PlacedSort) → sort ≡ Placed p → (p ≡ QuestionSign) ⊎ (p ≡ ColonSign)
+      → From text (step h).place.index (step h)) → is_key_sign x.kind x.key ≡ true
+      → From text x.shown.end.place.index after.here
+  sign_signed ends (Placed QuestionSign) h l items after x notes are s p a f e = sign_read o text ends QuestionSign h
+      l items after (inl refl) p (f QuestionSign refl (inl refl)) x notes are
+  sign_signed ends (Placed ColonSign) h l items after x notes are s p a f e = sign_read o text ends ColonSign h l
+      items after (inr refl) p (f ColonSign refl (inr refl)) x notes are
+  sign_signed ends TextEnd h l items after x notes are s p a f e = absurd (let z = ap₂ is_key_sign s.0.is s.0.key in cc)
+  sign_signed ends StartMark h l items after x notes are s p a f e = absurd
+      (let z = ap₂ is_key_sign s.0.is s.0.key in cc)
+  sign_signed ends EndMark h l items after x notes are s p a f e = absurd (let z = ap₂ is_key_sign s.0.is s.0.key in cc)
+  sign_signed ends DirectiveSign h l items after x notes are s p a f e = absurd
+      (let z = ap₂ is_key_sign s.1.is s.1.key in cc)
   sign_signed ends Unprintable h l items after x notes are s p a f e = absurd s
-  sign_signed ends (Placed (OpenSign bracket)) h l items after x notes are s p a f e = absurd (let z = ap₂ is_sign s.is s.key in cc)
-  sign_signed ends (Placed (CloseSign bracket)) h l items after x notes are s p a f e = absurd (let z = ap₂ is_sign s.0.is s.0.key in cc)
-  sign_signed ends (Placed CommaSign) h l items after x notes are s p a f e = absurd (let z = ap₂ is_sign s.is s.key in cc)
-  sign_signed ends (Placed DashSign) h l items after x notes are s p a f e = absurd (let z = ap₂ is_sign s.0.is s.0.key in cc)
-  sign_signed ends (Placed AliasSign) h l items after x notes are s p a f e = absurd (let z = ap₂ is_sign s.1.is s.1.key in cc)
-  sign_signed ends (Placed AnchorSign) h l items after x notes are s p a f e = absurd (let z = ap₂ is_sign s.1.is s.1.key in cc)
-  sign_signed ends (Placed TagSign) h l items after x notes are s p a f e = absurd (let z = ap₂ is_sign s.2.is s.2.key in cc)
-  sign_signed ends (Placed (BlockSign literal)) h l items after x notes are s p a f e = absurd (let z = ap₂ is_sign s.2.is s.2.key in cc)
-  sign_signed ends (Placed (QuoteSign single)) h l items after x notes are s p a f e = absurd (let z = ap₂ is_sign s.2.is s.2.key in cc)
-  sign_signed ends (Placed PlainSign) h l items after x notes are s p a f e = absurd (let z = ap₂ is_sign s.2.is s.2.key in cc)
+  sign_signed ends (Placed (OpenSign bracket)) h l items after x notes are s p a f e = absurd
+      (let z = ap₂ is_key_sign s.is s.key in cc)
+  sign_signed ends (Placed (CloseSign bracket)) h l items after x notes are s p a f e = absurd
+      (let z = ap₂ is_key_sign s.0.is s.0.key in cc)
+  sign_signed ends (Placed CommaSign) h l items after x notes are s p a f e = absurd
+      (let z = ap₂ is_key_sign s.is s.key in cc)
+  sign_signed ends (Placed DashSign) h l items after x notes are s p a f e = absurd
+      (let z = ap₂ is_key_sign s.0.is s.0.key in cc)
+  sign_signed ends (Placed AliasSign) h l items after x notes are s p a f e = absurd
+      (let z = ap₂ is_key_sign s.1.is s.1.key in cc)
+  sign_signed ends (Placed AnchorSign) h l items after x notes are s p a f e = absurd
+      (let z = ap₂ is_key_sign s.1.is s.1.key in cc)
+  sign_signed ends (Placed TagSign) h l items after x notes are s p a f e = absurd
+      (let z = ap₂ is_key_sign s.2.is s.2.key in cc)
+  sign_signed ends (Placed (BlockSign literal)) h l items after x notes are s p a f e = absurd
+      (let z = ap₂ is_key_sign s.2.is s.2.key in cc)
+  sign_signed ends (Placed (QuoteSign single)) h l items after x notes are s p a f e = absurd
+      (let z = ap₂ is_key_sign s.2.is s.2.key in cc)
+  sign_signed ends (Placed PlainSign) h l items after x notes are s p a f e = absurd
+      (let z = ap₂ is_key_sign s.2.is s.2.key in cc)
   sign_signed ends (Placed StrayMark) h l items after x notes are s p a f e = absurd s
   sign_signed ends (Placed NoSign) h l items after x notes are s p a f e = absurd s
 
-  placed_some : (sort : LexemeSort) (in_flow adjacent : Bool) (h : Here) → IsPlaced sort → Begins in_flow adjacent h.place.column h.unread.text sort → h.unread.text ≡ [] → ⊥
+  placed_some : (sort : LexemeSort) (in_flow adjacent : Bool) (h : Here) → IsPlaced sort
+      → Begins in_flow adjacent h.place.column h.unread.text sort → h.unread.text ≡ [] → ⊥
   placed_some (Placed sort) in_flow adjacent h i b e = let q = sign_there b in let z = sym e ∙ q.2 in absurd cc
   placed_some TextEnd in_flow adjacent h i b e = absurd i
   placed_some StartMark in_flow adjacent h i b e = absurd i
@@ -532,53 +224,89 @@ module _ (o : OptionsData) (text : List ℕ) where
   placed_some DirectiveSign in_flow adjacent h i b e = absurd i
   placed_some Unprintable in_flow adjacent h i b e = absurd i
 
-  step_from : (sort : LexemeSort) (in_flow adjacent : Bool) (h : Here) → At text h → Begins in_flow adjacent h.place.column h.unread.text sort → (p : PlacedSort) → sort ≡ Placed p → (p ≡ QuestionSign) ⊎ (p ≡ ColonSign) → From text (step h).place.index (step h)
-  step_from sort in_flow adjacent h a b p e k = let q = sign_there (subst (λ sort. Begins in_flow adjacent h.place.column h.unread.text sort) e b) in from_sign o text h a q.0 q.1 q.2 (q.3 k)
+  step_from : (sort : LexemeSort) (in_flow adjacent : Bool) (h : Here) → At text h
+      → Begins in_flow adjacent h.place.column h.unread.text sort → (p : PlacedSort) → sort ≡ Placed p
+      → (p ≡ QuestionSign) ⊎ (p ≡ ColonSign) → From text (step h).place.index (step h)
+  step_from sort in_flow adjacent h a b p e k = let q = sign_there
+      (subst (λ sort. Begins in_flow adjacent h.place.column h.unread.text sort) e b) in from_sign o text h a q.0 q.1
+      q.2 (q.3 k)
 
-  read_runs : {s after : ReaderState} {items : List Item} (ls : List Lexeme) → Reads o s items after → At text s.here → RunsSay o text (mark_of s.here) ls s.laid → Signed text ls s → ReadRuns s ls items after
+  pub read_runs : {s after : ReaderState} {items : List Item} (ls : List Lexeme) → Reads o s items after
+      → At text s.here → RunsSay o text (mark_of s.here) ls s.laid → Signed text ls s → ReadRuns s ls items after
   read_runs {s = s} ls (of_comment {comment = c} at g k) a r d =
       let p = (gap_passes text g a).further in
-      record { says = tt; place = p.place; runs = λ e. fresh_runs o text (mark_of s.here) ls at (onward text a p) (gap_runs o text (mark_of s.here) ls s.laid at.laid (gap_agrees g) r); signed = λ e. gap_keeps ls g d }
+      record {
+        says = tt;
+        place = p.place;
+        runs = λ e. fresh_runs o text (mark_of s.here) ls at (onward text a p)
+            (gap_runs o text (mark_of s.here) ls s.laid at.laid (gap_agrees g) r);
+        signed = λ e. gap_keeps ls g d;
+      }
   read_runs {s = s} ls (of_lexeme {items = items} at behind sort comes given keys) a r d =
       let p = (gap_passes text comes.gap a).further in
       let f = freshened o at in
       let h = at.here in
-      let u = fresh_runs o text (mark_of s.here) ls at (onward text a p) (gap_runs o text (mark_of s.here) ls s.laid at.laid (gap_agrees comes.gap) r) in
+      let u = fresh_runs o text (mark_of s.here) ls at (onward text a p)
+      (gap_runs o text (mark_of s.here) ls s.laid at.laid (gap_agrees comes.gap) r) in
       let c = closed_for sort h f.laid in
       let v = closed_runs o text (mark_of h) ls sort h f.laid u in
       let t = telling o (ends_column_by sort f) h _ sort items behind given.1 in
       let n = closed_near sort h f.laid in
       let q = ((given_places text o _ sort h _ items behind given.1).passes p.place).further in
-      let near = λ (k : PossibleKey) (e : top_key c ≡ Some k). subst (λ g. is_stale o g (mark_of h) k ≡ false) (sym n.1) (fresh_nears o at k (sym n.0 ∙ e)) in
-      let tabs = λ (i : IsPlaced sort). closed_tabs text sort h f.laid ls (tabs_say text ls f p.place (gap_keeps ls comes.gap d) (gap_stops comes.gap) (placed_some sort _ _ h i comes.begins)) in
+      let near = λ (k : PossibleKey) (e : top_key c ≡ Some k). subst (λ g. is_stale o g (mark_of h) k ≡ false)
+      (sym n.1) (fresh_nears o at k (sym n.0 ∙ e)) in
+      let tabs = λ (i : IsPlaced sort). closed_tabs text sort h f.laid ls
+      (tabs_say text ls f p.place (gap_keeps ls comes.gap d) (gap_stops comes.gap)
+      (placed_some sort _ _ h i comes.begins)) in
       let e = ap (λ (is : List Item). latest is ls) t.are ∙ latest_noted t.lexeme t.note ls in
-      let goes = λ (w : t.lexeme.kind ≡ Rattle.granit_lexemes.specs.Lexeme.StreamEnd → ⊥). lexeme_goes o text h c ls t.lexeme behind.laid v sort t.cut t.reached tabs w t.told t.says t.leaves in
+      let goes = λ (w : t.lexeme.kind ≡ Rattle.granit_lexemes.specs.Lexeme.StreamEnd → ⊥). lexeme_goes o text h c ls
+      t.lexeme behind.laid v sort t.cut t.reached tabs w t.told t.says t.leaves in
       record {
-        says = subst (ColonsSay o text ls) (sym t.are) (noted_says o text ls t.lexeme t.note (colon_says o text h c ls t.lexeme behind.laid v near sort t.told t.says));
+        says = subst (ColonsSay o text ls) (sym t.are)
+            (noted_says o text ls t.lexeme t.note
+            (colon_says o text h c ls t.lexeme behind.laid v near sort t.told t.says));
         place = q.place;
-        runs = λ y. subst (λ (xs : List Lexeme). RunsSay o text (mark_of behind.here) xs (freshened o behind).laid) (sym e)
-            (fresh_runs o text (mark_of h) (t.lexeme ∷ ls) behind (onward text p.place q) (goes (λ is. let z = sym y ∙ ap is_end t.are ∙ ap is_end_kind is in cc)));
+        runs = λ y. subst (λ (xs : List Lexeme). RunsSay o text (mark_of behind.here) xs (freshened o behind).laid)
+            (sym e)
+            (fresh_runs o text (mark_of h) (t.lexeme ∷ ls) behind (onward text p.place q)
+            (goes (λ is. let z = sym y ∙ ap is_end t.are ∙ ap is_end_kind is in cc)));
         signed = λ y z. (
           t.lexeme,
           ls,
           e,
-          sign_signed (ends_column_by sort f) sort h _ items behind t.lexeme (note_items t.note) t.are t.says given.1 (λ i. p.place) (step_from sort _ _ h p.place comes.begins)
-              (and_parts _ _ (sym (goes (λ is. let w = sym y ∙ ap is_end t.are ∙ ap is_end_kind is in cc)).last.sign ∙ z)).1,
+          sign_signed (ends_column_by sort f) sort h _ items behind t.lexeme (note_items t.note) t.are t.says given.1
+              (λ i. p.place) (step_from sort _ _ h p.place comes.begins)
+              (and_parts _ _ (sym (goes (λ is. let w = sym y ∙ ap is_end t.are ∙ ap is_end_kind is in cc)).last.sign
+              ∙ z)).1,
         );
       }
 
-  runs_reach : {s t : ReaderState} {items : List Item} (ls : List Lexeme) → Reached o s items t → At text s.here → RunsSay o text (mark_of s.here) ls s.laid → Signed text ls s → ColonsSay o text ls items
+  runs_reach : {s t : ReaderState} {items : List Item} (ls : List Lexeme) → Reached o s items t → At text s.here
+      → RunsSay o text (mark_of s.here) ls s.laid → Signed text ls s → ColonsSay o text ls items
   runs_reach ls stops a r d = tt
   runs_reach {s = s} ls (goes_on next items more read last rest e) a r d =
       let p = read_runs ls read a r d in
       subst (ColonsSay o text ls) (sym e) (says_joined o text ls items more p.says
-      (on (is_end items) refl p.runs p.signed (λ (q : RunsSay o text (mark_of next.here) (latest items ls) next.laid) (d : Signed text (latest items ls) next). runs_reach (latest items ls) rest p.place q d)))
+      (on (is_end items) refl p.runs p.signed (λ (q : RunsSay o text (mark_of next.here) (latest items ls) next.laid)
+      (d : Signed text (latest items ls) next). runs_reach (latest items ls) rest p.place q d)))
     where
-      on : (v : Bool) → is_end items ≡ v → (is_end items ≡ false → RunsSay o text (mark_of next.here) (latest items ls) next.laid) → (is_end items ≡ false → Signed text (latest items ls) next)
-          → (RunsSay o text (mark_of next.here) (latest items ls) next.laid → Signed text (latest items ls) next → ColonsSay o text (latest items ls) more) → ColonsSay o text (latest items ls) more
+      on : (v : Bool) → is_end items ≡ v → (is_end items ≡ false
+          → RunsSay o text (mark_of next.here) (latest items ls) next.laid)
+          → (is_end items ≡ false → Signed text (latest items ls) next)
+          → (RunsSay o text (mark_of next.here) (latest items ls) next.laid → Signed text (latest items ls) next
+          → ColonsSay o text (latest items ls) more) → ColonsSay o text (latest items ls) more
       on true y f d g = subst (ColonsSay o text (latest items ls)) (sym (last y)) tt
       on false y f d g = g (f y) (d y)
 
+-- at the start of a text there is none
+pub start_says : (o : OptionsData) (text : List ℕ) (h : Here) → RunsSay o text (mark_of h) [] (reader_start h).laid
+start_says o text h = record {
+  depths = no_run_now tt refl;
+  last = record { opener = refl; dash = refl; indicator = λ e. tt; sign = refl };
+}
+
 -- each `:` of a text has the key that the lexemes before it say
-pub colons_said : (o : OptionsData) (text : List ℕ) (items : List Item) (t : ReaderState) → Reached o (reader_start (start_of text)) items t → ColonsSay o text [] items
-colons_said o text items t r = runs_reach o text [] r (start_at text) (record { depths = no_run_now tt refl; last = record { opener = refl; dash = refl; indicator = λ e. tt; sign = refl } }) (λ e. absurd cc)
+pub colons_said : (o : OptionsData) (text : List ℕ) (items : List Item) (t : ReaderState)
+    → Reached o (reader_start (start_of text)) items t → ColonsSay o text [] items
+colons_said o text items t r =
+    runs_reach o text [] r (start_at text) (start_says o text (start_of text)) (λ e. absurd cc)

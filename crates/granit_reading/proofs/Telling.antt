@@ -1,23 +1,34 @@
 -- What one read gives of the lexeme that stands, and what it leaves.
-use Rattle.std.proofs.Common.{◌≡◌, ℕ, ◌||◌, Bool, true, false, List, [], ◌∷◌, Option, Some, None, ◌⊎◌, inl, inr, refl, sym, ap, ◌∙◌, subst}
+use Rattle.std.proofs.Common.{◌≡◌, ℕ, ◌||◌, Bool, true, false, List, [], ◌∷◌, Option, Some, None, ◌⊎◌, inl, inr, refl}
+use Rattle.std.proofs.Common.{sym, ap, ◌∙◌, subst}
 use Rattle.granit_base.specs.Place.{Mark}
 use Rattle.granit_base.specs.Written.{Written}
 use Rattle.granit_base.specs.declared.style.ScalarStyle.{ScalarStyle}
 use Rattle.granit_error.specs.OptionsData.{OptionsData}
 use Rattle.granit_lexemes.specs.Comment.{CommentRead}
 use Rattle.granit_lexemes.specs.Here.{Here, mark_of}
-use Rattle.granit_lexemes.specs.Lexeme.{LexemeKind, DirectiveKind, Directive, DocumentStart, DocumentEnd, StreamEnd, Open, Close, Comma, Dash, Question, Colon, Alias, Anchor, Tag, Scalar, Lexeme, Item, OfLexeme}
+use Rattle.granit_lexemes.specs.Lexeme.{LexemeKind, DirectiveKind, Directive, DocumentStart, DocumentEnd, StreamEnd}
+use Rattle.granit_lexemes.specs.Lexeme.{Open, Close, Comma, Dash, Question, Colon, Alias, Anchor, Tag, Scalar, Lexeme}
+use Rattle.granit_lexemes.specs.Lexeme.{Item, OfLexeme}
 use Rattle.granit_machine.specs.Laid.{Laid, is_opener, is_dash, is_indicator, is_in_flow}
 use Rattle.granit_lexemes.specs.declared.layout.LastLexeme.{LastLexeme}
-use Rattle.granit_lexemes.specs.declared.layout.LastLexeme.TheVariants.{Opener, BehindDash, BehindQuestion, BehindBareColon, BehindProperty, Adjacent, Another}
+use Rattle.granit_lexemes.specs.declared.layout.LastLexeme.TheVariants.{Opener, BehindDash, BehindQuestion}
+use Rattle.granit_lexemes.specs.declared.layout.LastLexeme.TheVariants.{BehindBareColon, BehindProperty, Adjacent}
+use Rattle.granit_lexemes.specs.declared.layout.LastLexeme.TheVariants.{Another}
 use Rattle.granit_lexemes.specs.declared.layout.PossibleKey.{PossibleKey}
-use Rattle.granit_machine.specs.LexemeSort.{PlacedSort, OpenSign, CloseSign, CommaSign, DashSign, QuestionSign, ColonSign, AliasSign, AnchorSign, TagSign, BlockSign, QuoteSign, StrayMark, NoSign, PlainSign, LexemeSort, TextEnd, StartMark, EndMark, Unprintable, DirectiveSign, Placed}
+use Rattle.granit_machine.specs.LexemeSort.{PlacedSort, OpenSign, CloseSign, CommaSign, DashSign, QuestionSign}
+use Rattle.granit_machine.specs.LexemeSort.{ColonSign, AliasSign, AnchorSign, TagSign, BlockSign, QuoteSign, StrayMark}
+use Rattle.granit_machine.specs.LexemeSort.{NoSign, PlainSign, LexemeSort, TextEnd, StartMark, EndMark, Unprintable}
+use Rattle.granit_machine.specs.LexemeSort.{DirectiveSign, Placed}
 use Rattle.granit_machine.specs.NodeLexemes.{note_items, adjacent_unless}
 use Rattle.granit_machine.specs.Gaps.{no_more_adjacent, last_behind}
 use Rattle.granit_machine.specs.PossibleKeys.{top_key, is_allowed}
 use Rattle.granit_machine.specs.ReaderState.{ReaderState, lexeme_to, with_tail}
 use Rattle.granit_language.specs.Before.{behind}
-use Rattle.granit_language.specs.Standing.{GapStands, in_front_of_comment, in_front_of_lexeme, QuestionStands, ColonFits, key_start, ClosesInnermost, QuotedLexeme, Given}
+use Rattle.granit_language.specs.Allowed.{outside}
+use Rattle.granit_reading.proofs.Deciding.{asserts, begin_decided, flow_same}
+use Rattle.granit_language.specs.Standing.{GapStands, in_front_of_comment, in_front_of_lexeme, QuestionStands}
+use Rattle.granit_language.specs.Standing.{ColonFits, key_start, ClosesInnermost, QuotedLexeme, Given}
 
 -- what is told of a lexeme by what stands in front of it
 pub record Told (h : Here) (l : Laid) (x : Lexeme) : Type 0 where
@@ -51,7 +62,8 @@ Says (CloseSign bracket) h l x = Unkeyed (Close bracket) x × ClosesInnermost br
 Says CommaSign h l x = Unkeyed Comma x
 Says DashSign h l x = Unkeyed Dash x × (is_in_flow l ≡ false) × Allowed h l
 Says QuestionSign h l x = Unkeyed Question x × ((is_in_flow l ≡ true) ⊎ Allowed h l)
-Says ColonSign h l x = (x.kind ≡ Colon) × (x.key ≡ key_start (top_key l)) × ((is_in_flow l ≡ false) → (top_key l ≡ None) → Allowed h l)
+Says ColonSign h l x = (x.kind ≡ Colon) × (x.key ≡ key_start (top_key l))
+    × ((is_in_flow l ≡ false) → (top_key l ≡ None) → Allowed h l)
 Says AliasSign h l x = (name : Written) × Unkeyed (Alias name) x
 Says AnchorSign h l x = (name : Written) × Unkeyed (Anchor name) x
 Says TagSign h l x = (handle suffix : List ℕ) × Unkeyed (Tag handle suffix) x
@@ -108,14 +120,26 @@ pub record Agrees (a b : Laid) : Type 0 where
   pub last : SameLast a.last b.last
 
 agrees_as : {a b : Laid} → a ≡ b → Agrees a b
-agrees_as e = record { number = ap (λ (l : Laid). l.number) e; key = ap (λ (l : Laid). l.key) e; brackets = ap (λ (l : Laid). l.brackets) e; columns = ap (λ (l : Laid). l.columns) e; last = same_last (ap (λ (l : Laid). l.last) e) }
+agrees_as e = record {
+  number = ap (λ (l : Laid). l.number) e;
+  key = ap (λ (l : Laid). l.key) e;
+  brackets = ap
+      (λ (l : Laid). l.brackets) e;
+  columns = ap (λ (l : Laid). l.columns) e;
+  last = same_last
+      (ap (λ (l : Laid). l.last) e);
+}
 
-pub gap_agrees : {o : OptionsData} {h : Here} {l : Laid} {c : Option CommentRead} {t : ReaderState} → GapStands o h l c t → Agrees t.laid l
-gap_agrees {l = l} (in_front_of_comment at end g p) = record { number = refl; key = refl; brackets = refl; columns = refl; last = no_more_same l.last }
-gap_agrees {l = l} (in_front_of_lexeme at g n t k) = record { number = refl; key = refl; brackets = refl; columns = refl; last = last_behind_same _ l.last }
+pub gap_agrees : {o : OptionsData} {h : Here} {l : Laid} {c : Option CommentRead} {t : ReaderState}
+    → GapStands o h l c t → Agrees t.laid l
+gap_agrees {l = l} (in_front_of_comment at end g p) =
+    record { number = refl; key = refl; brackets = refl; columns = refl; last = no_more_same l.last }
+gap_agrees {l = l} (in_front_of_lexeme at g n t k) =
+    record { number = refl; key = refl; brackets = refl; columns = refl; last = last_behind_same _ l.last }
 
 -- the lexeme of a read, perhaps a comment behind it, and what is left
-pub record Telling (o : OptionsData) (sort : LexemeSort) (h : Here) (l : Laid) (items : List Item) (after : ReaderState) : Type 0 where
+pub record Telling (o : OptionsData) (sort : LexemeSort) (h : Here) (l : Laid) (items : List Item)
+    (after : ReaderState) : Type 0 where
   pub lexeme : Lexeme
   pub note : Option CommentRead
   pub are : items ≡ OfLexeme lexeme ∷ note_items note
@@ -125,21 +149,37 @@ pub record Telling (o : OptionsData) (sort : LexemeSort) (h : Here) (l : Laid) (
   pub reached : Here
   pub leaves : Agrees after.laid (behind o sort lexeme cut reached h l)
 
-question_told : (o : OptionsData) (ends : Bool) (h : Here) (l : Laid) (x : Lexeme) (after : Here) (v : Bool) → is_in_flow l ≡ v → QuestionStands o ends h l x after v → Told h l x × Says QuestionSign h l x
-question_told o ends h l x after true e p = (told_as h l x _ p.is (record { number = refl; start = refl; flow = refl; line = refl; follows = refl }), (unkeyed_as Question x _ p.is (record { is = refl; key = refl }), inl e))
-question_told o ends h l x after false e p = (told_as h l x _ p.is (record { number = refl; start = refl; flow = refl; line = refl; follows = refl }), (unkeyed_as Question x _ p.is (record { is = refl; key = refl }), inr p.allowed))
+question_told : (o : OptionsData) (ends : Bool) (h : Here) (l : Laid) (x : Lexeme) (after : Here) (v : Bool)
+    → is_in_flow l ≡ v → QuestionStands o ends h l x after v → Told h l x × Says QuestionSign h l x
+question_told o ends h l x after true e p = (
+  told_as h l x _ p.is
+      (record { number = refl; start = refl; flow = refl; line = refl; follows = refl }),
+  (unkeyed_as Question x _ p.is (record { is = refl; key = refl }), inl e),
+)
+question_told o ends h l x after false e p = (
+  told_as h l x _ p.is
+      (record { number = refl; start = refl; flow = refl; line = refl; follows = refl }),
+  (
+    unkeyed_as Question x _ p.is (record { is = refl; key = refl }),
+    inr
+        (asserts (begin_decided h l) p.entry.allowed),
+  ),
+)
 
-colon_allowed : (o : OptionsData) (v : Bool) (key : Option PossibleKey) (h : Here) (l : Laid) → ColonFits o v key h l → v ≡ false → key ≡ None → Allowed h l
-colon_allowed o false None h l f e k = f.0
+colon_allowed : (o : OptionsData) (v : Bool) (key : Option PossibleKey) (h : Here) (l : Laid) → ColonFits o v key h l
+    → v ≡ false → key ≡ None → Allowed h l
+colon_allowed o false None h l f e k = asserts (begin_decided h l) f.0
 colon_allowed o false (Some k) h l f e g = absurd cc
 colon_allowed o true key h l f e g = absurd cc
 
 module _ (o : OptionsData) (ends : Bool) (h : Here) (l : Laid) where
-  abbrev plain_told : (kind : LexemeKind) (m : Mark) (tail : Option CommentRead) → Told h l (with_tail (lexeme_to ends kind m h l) tail)
+  abbrev plain_told : (kind : LexemeKind) (m : Mark) (tail : Option CommentRead)
+      → Told h l (with_tail (lexeme_to ends kind m h l) tail)
   plain_told kind m tail = record { number = refl; start = refl; flow = refl; line = refl; follows = refl }
 
   -- one whose lexeme is told by its kind alone
-  alone : (sort : LexemeSort) (kind : LexemeKind) (m : Mark) (tail : Option CommentRead) (x : Lexeme) (after : ReaderState) → x ≡ with_tail (lexeme_to ends kind m h l) tail → (Unkeyed kind x → SaysOf sort h l x)
+  alone : (sort : LexemeSort) (kind : LexemeKind) (m : Mark) (tail : Option CommentRead) (x : Lexeme)
+      (after : ReaderState) → x ≡ with_tail (lexeme_to ends kind m h l) tail → (Unkeyed kind x → SaysOf sort h l x)
       → after.laid ≡ behind o sort x None after.here h l → Telling o sort h l (OfLexeme x ∷ []) after
   alone sort kind m tail x after e says leaves = record {
     lexeme = x;
@@ -152,7 +192,8 @@ module _ (o : OptionsData) (ends : Bool) (h : Here) (l : Laid) where
     leaves = agrees_as leaves;
   }
 
-  quoted_told : (single : Bool) (items : List Item) (after : ReaderState) → QuotedLexeme o single ends h l items after → Telling o (Placed (QuoteSign single)) h l items after
+  quoted_told : (single : Bool) (items : List Item) (after : ReaderState) → QuotedLexeme o single ends h l items after
+      → Telling o (Placed (QuoteSign single)) h l items after
   quoted_told single items after p =
       let g = gap_agrees p.gap in
       let e = ap (λ (s : ReaderState). s.laid) p.leaves in
@@ -164,45 +205,83 @@ module _ (o : OptionsData) (ends : Bool) (h : Here) (l : Laid) where
         says = (_, _, record { is = refl; key = refl });
         cut = None;
         reached = p.end;
-        leaves = record { number = ap (λ (l : Laid). l.number) e ∙ g.number; key = ap (λ (l : Laid). l.key) e ∙ g.key; brackets = ap (λ (l : Laid). l.brackets) e ∙ g.brackets; columns = ap (λ (l : Laid). l.columns) e ∙ g.columns; last = last_then (same_last (ap (λ (l : Laid). l.last) e)) (noted_same p.note) };
+        leaves = record {
+          number = ap (λ (l : Laid). l.number) e ∙ g.number;
+          key = ap (λ (l : Laid). l.key) e
+              ∙ g.key;
+          brackets = ap (λ (l : Laid). l.brackets) e ∙ g.brackets;
+          columns = ap (λ (l : Laid). l.columns) e
+              ∙ g.columns;
+          last = last_then (same_last (ap (λ (l : Laid). l.last) e)) (noted_same p.note);
+        };
       }
 
-  pub telling : (sort : LexemeSort) (items : List Item) (after : ReaderState) → Given o ends sort h l items after → Telling o sort h l items after
+  pub telling : (sort : LexemeSort) (items : List Item) (after : ReaderState) → Given o ends sort h l items after
+      → Telling o sort h l items after
   telling (Placed (QuoteSign single)) items after p = quoted_told single items after p
   telling TextEnd (OfLexeme x ∷ []) after p = alone TextEnd StreamEnd _ None x after p.0.0.is (λ u. (u, p.0.1)) p.1
-  telling StartMark (OfLexeme x ∷ []) after p = alone StartMark DocumentStart _ None x after p.0.0.is (λ u. (u, p.0.1)) p.1
-  telling EndMark (OfLexeme x ∷ []) after p = alone EndMark DocumentEnd _ p.0.0.tail x after p.0.0.is (λ u. (u, p.0.2)) p.1
-  telling DirectiveSign (OfLexeme x ∷ []) after p = alone DirectiveSign (Directive p.0.read.kind) _ p.0.read.noted x after p.0.is (λ u. (p.0.read.kind, u)) p.1
+  telling StartMark (OfLexeme x ∷ []) after p = alone StartMark DocumentStart _ None x after p.0.0.is (λ u. (u, p.0.1))
+      p.1
+  telling EndMark (OfLexeme x ∷ []) after p = alone EndMark DocumentEnd _ p.0.0.tail x after p.0.0.is (λ u. (u, p.0.2))
+      p.1
+  telling DirectiveSign (OfLexeme x ∷ []) after p = alone DirectiveSign (Directive p.0.read.kind) _ p.0.read.noted x
+      after p.0.is (λ u. (p.0.read.kind, u)) p.1
   telling Unprintable (OfLexeme x ∷ []) after p = absurd p.0
-  telling (Placed (OpenSign bracket)) (OfLexeme x ∷ []) after p = alone (Placed (OpenSign bracket)) (Open bracket) _ p.0.0.tail x after p.0.0.is (λ u. u) p.1
-  telling (Placed (CloseSign bracket)) (OfLexeme x ∷ []) after p = alone (Placed (CloseSign bracket)) (Close bracket) _ p.0.0.tail x after p.0.0.is (λ u. (u, p.0.1)) p.1
-  telling (Placed CommaSign) (OfLexeme x ∷ []) after p = alone (Placed CommaSign) Comma _ p.0.0.tail x after p.0.0.is (λ u. u) p.1
+  telling (Placed (OpenSign bracket)) (OfLexeme x ∷ []) after p = alone (Placed (OpenSign bracket)) (Open bracket) _
+      p.0.0.tail x after p.0.0.is (λ u. u) p.1
+  telling (Placed (CloseSign bracket)) (OfLexeme x ∷ []) after p = alone (Placed (CloseSign bracket)) (Close bracket) _
+      p.0.0.tail x after p.0.0.is (λ u. (u, p.0.1)) p.1
+  telling (Placed CommaSign) (OfLexeme x ∷ []) after p = alone (Placed CommaSign) Comma _ p.0.0.tail x after p.0.0.is
+      (λ u. u) p.1
   telling (Placed DashSign) (OfLexeme x ∷ []) after p = record {
     lexeme = x;
     note = None;
     are = refl;
     told = told_as h l x _ p.0.is (record { number = refl; start = refl; flow = refl; line = refl; follows = refl });
-    says = (unkeyed_as Dash x _ p.0.is (record { is = refl; key = refl }), p.0.outside, p.0.allowed);
+    says = (
+      unkeyed_as Dash x _ p.0.is (record { is = refl; key = refl }),
+      flow_same {l = l}
+          (outside p.0.entry.outside),
+      asserts (begin_decided h l) p.0.entry.allowed,
+    );
     cut = None;
     reached = after.here;
     leaves = agrees_as p.1;
   }
   telling (Placed QuestionSign) (OfLexeme x ∷ []) after p =
       let q = question_told o ends h l x after.here (is_in_flow l) refl p.0 in
-      record { lexeme = x; note = None; are = refl; told = q.0; says = q.1; cut = None; reached = after.here; leaves = agrees_as p.1 }
+      record {
+        lexeme = x;
+        note = None;
+        are = refl;
+        told = q.0;
+        says = q.1;
+        cut = None;
+        reached = after.here;
+        leaves =
+            agrees_as p.1;
+      }
   telling (Placed ColonSign) (OfLexeme x ∷ []) after p = record {
     lexeme = x;
     note = None;
     are = refl;
     told = told_as h l x _ p.0.is (record { number = refl; start = refl; flow = refl; line = refl; follows = refl });
-    says = (ap (λ (x : Lexeme). x.kind) p.0.is, ap (λ (x : Lexeme). x.key) p.0.is, colon_allowed o (is_in_flow l) (top_key l) h l p.0.fits);
+    says = (
+      ap (λ (x : Lexeme). x.kind) p.0.is,
+      ap (λ (x : Lexeme). x.key) p.0.is,
+      colon_allowed o (is_in_flow l)
+          (top_key l) h l p.0.fits,
+    );
     cut = None;
     reached = after.here;
     leaves = agrees_as p.1;
   }
-  telling (Placed AliasSign) (OfLexeme x ∷ []) after p = alone (Placed AliasSign) _ _ None x after p.0.is (λ u. (_, u)) p.1
-  telling (Placed AnchorSign) (OfLexeme x ∷ []) after p = alone (Placed AnchorSign) _ _ None x after p.0.is (λ u. (_, u)) p.1
-  telling (Placed TagSign) (OfLexeme x ∷ []) after p = alone (Placed TagSign) _ _ None x after p.0.is (λ u. (_, _, u)) p.1
+  telling (Placed AliasSign) (OfLexeme x ∷ []) after p = alone (Placed AliasSign) _ _ None x after p.0.is (λ u. (_, u))
+      p.1
+  telling (Placed AnchorSign) (OfLexeme x ∷ []) after p = alone (Placed AnchorSign) _ _ None x after p.0.is
+      (λ u. (_, u)) p.1
+  telling (Placed TagSign) (OfLexeme x ∷ []) after p = alone (Placed TagSign) _ _ None x after p.0.is (λ u. (_, _, u))
+      p.1
   telling (Placed (BlockSign literal)) (OfLexeme x ∷ []) after p = record {
     lexeme = x;
     note = None;

@@ -1,4 +1,5 @@
 pub mod Comments
+pub mod EscapeCauses
 pub mod Folding
 pub mod Nameless
 pub mod PlainKept
@@ -8,10 +9,13 @@ pub mod PlainReads
 pub mod PlainSpelling
 pub mod PlainTurns
 pub mod Printing
+pub mod QuotedCauses
 pub mod QuotedEscapes
 pub mod QuotedFolding
+pub mod QuotedGaps
 pub mod QuotedKept
 pub mod QuotedLaw
+pub mod QuotedLines
 pub mod QuotedOnce
 pub mod QuotedReads
 pub mod QuotedRuns

@@ -1,5 +1,6 @@
 -- The plain function answers the plain scalar that stands there, or refuses it with its cause.
-use Rattle.std.proofs.Common.{◌≡◌, ℕ, ◌==◌, Bool, true, false, cond, not, ◌&&◌, ◌||◌, List, [], ◌∷◌, ◌++◌, length, Option, Some, None, Result, Ok, Err, refl, sym, ap, ap₂, ◌∙◌, subst}
+use Rattle.std.proofs.Common.{◌≡◌, ℕ, ◌==◌, Bool, true, false, cond, not, ◌&&◌, ◌||◌, List, [], ◌∷◌, ◌++◌, length}
+use Rattle.std.proofs.Common.{Option, Some, None, Result, Ok, Err, refl, sym, ap, ap₂, ◌∙◌, subst}
 use Rattle.std.specs.Prelude.{if◌then◌else◌}
 use Rattle.std.proofs.Math.Bool.{and-false, or-false}
 use Rattle.granit_base.specs.Classes.{is_printable}
@@ -10,9 +11,14 @@ use Rattle.granit_lexemes.specs.Here.{Here, next_char, mark_of, step}
 use Rattle.granit_lexemes.specs.LayoutData.{LayoutData}
 use Rattle.granit_lexemes.specs.Outcome.{Fault, ◌>>=◌}
 use Rattle.granit_lexemes.specs.Pieces.{with_front, pieces}
-use Rattle.granit_lexemes.specs.PlainExtent.{Separation, OnLine, Folded, separation_text, left_tab, PlainStands, tab_refused, is_cut, is_folded, over, behind_of, plain_answer, is_flow_dash, is_unprintable_at, AnswersPlain, is_inside, is_behind, RefusesPlain}
+use Rattle.granit_lexemes.specs.PlainExtent.{Separation, OnLine, Folded, separation_text, left_tab, PlainStands}
+use Rattle.granit_lexemes.specs.PlainExtent.{tab_refused, is_cut, is_folded, over, behind_of, plain_answer}
+use Rattle.granit_lexemes.specs.PlainExtent.{is_flow_dash, is_unprintable_at, AnswersPlain, is_inside, is_behind}
+use Rattle.granit_lexemes.specs.PlainExtent.{RefusesPlain}
 use Rattle.granit_lexemes.specs.Basics.{fails_at, unprintable, only_printable, owned}
-use Rattle.granit_lexemes.specs.PlainScalar.{PlainState, PlainRead, is_content, on_content, meets_comment, plain_turn, plain_len, plain_start, cut_mark, plain_read, behind_plain, plain_scalar}
+use Rattle.granit_lexemes.specs.PlainScalar.{PlainState, PlainRead, on_content, meets_comment, plain_turn, plain_len}
+use Rattle.granit_lexemes.specs.PlainScalar.{plain_start, cut_mark, plain_read, behind_plain, plain_scalar}
+use Rattle.granit_base.specs.PlainContent.{is_content}
 use Rattle.granit_lexemes.proofs.PieceLemmas.{pieces_more}
 use Rattle.granit_scalars.proofs.Folding.{folds_content}
 use Rattle.granit_scalars.proofs.PlainKept.{Kept, Stays, content_stays}
@@ -22,7 +28,8 @@ use Rattle.granit_scalars.proofs.PlainTurns.{seen_content, plain_shortens}
 
 -- ---- the first character
 
-first_turn : (at : LayoutData) (h : Here) → is_content at.in_flow h.unread.text ≡ true → plain_turn at (mark_of h) (plain_start h) ≡ Ok (Some (next_char h ∷ []), on_content (plain_start h))
+first_turn : (at : LayoutData) (h : Here) → is_content at.in_flow h.unread.text ≡ true
+    → plain_turn at (mark_of h) (plain_start h) ≡ Ok (Some (next_char h ∷ []), on_content (plain_start h))
 unfolding plain_turn
 first_turn at h y =
     let s = solid at.in_flow h.unread.text y in
@@ -32,19 +39,31 @@ first_turn at h y =
     rw (b, k, none, y) refl
 
 first_piece : (at : LayoutData) (h : Here) → is_content at.in_flow h.unread.text ≡ true
-    → pieces plain_len (plain_turn at (mark_of h)) (plain_start h) ≡ with_front (next_char h ∷ []) (pieces plain_len (plain_turn at (mark_of h)) (on_content (plain_start h)))
-first_piece at h y = pieces_more plain_len (plain_turn at (mark_of h)) (plain_shortens at (mark_of h)) (plain_start h) (on_content (plain_start h)) (next_char h ∷ []) (first_turn at h y)
+    → pieces plain_len (plain_turn at (mark_of h)) (plain_start h)
+    ≡ with_front (next_char h ∷ []) (pieces plain_len (plain_turn at (mark_of h)) (on_content (plain_start h)))
+first_piece at h y = pieces_more plain_len (plain_turn at (mark_of h)) (plain_shortens at (mark_of h)) (plain_start h)
+    (on_content (plain_start h)) (next_char h ∷ []) (first_turn at h y)
 
 -- ---- the scalar stands there
 
-stands : (at : LayoutData) (h : Here) → is_content at.in_flow h.unread.text ≡ true → (source : List ℕ) (tail : Separation) (rest : List ℕ) → Finds at (step h) source tail rest → PlainStands at h (next_char h ∷ source) tail rest
+stands : (at : LayoutData) (h : Here) → is_content at.in_flow h.unread.text ≡ true
+    → (source : List ℕ) (tail : Separation) (rest : List ℕ) → Finds at (step h) source tail rest
+    → PlainStands at h (next_char h ∷ source) tail rest
 stands at h y source tail rest found =
     let c = next_char h in
-    let there : h.unread.text ≡ c ∷ (source ++ (separation_text tail ++ rest)) = (seen_content at.in_flow h y).is ∙ ap (λ (t : List ℕ). c ∷ t) found.whole in
+    let there : h.unread.text ≡ c ∷ (source ++ (separation_text tail ++ rest)) = (seen_content at.in_flow h y).is
+    ∙ ap (λ (t : List ℕ). c ∷ t) found.whole in
     record {
       extent = record {
         whole = there;
-        spelled = record { start = c; more = source; begins = refl; content = subst (λ (t : List ℕ). is_content at.in_flow t ≡ true) there y; goes = found.goes };
+        spelled = record {
+          start = c;
+          more = source;
+          begins = refl;
+          content =
+              subst (λ (t : List ℕ). is_content at.in_flow t ≡ true) there y;
+          goes = found.goes;
+        };
         longest = no_longer c source tail rest found.goes found.separation found.no_gap found.ends;
       };
       separation = found.separation;
@@ -58,11 +77,14 @@ abbrev pub Answered : LayoutData → Here → Result (PlainRead × Here) Fault �
 Answered at h (Ok (read, after)) = AnswersPlain at h read after
 Answered at h (Err f) = RefusesPlain at h f.kind f.mark
 
-cut_is : (at : LayoutData) (tail : Separation) (s : PlainState) → Kept at tail s → meets_comment s ≡ is_cut at tail s.here.unread.text
+cut_is : (at : LayoutData) (tail : Separation) (s : PlainState) → Kept at tail s
+    → meets_comment s ≡ is_cut at tail s.here.unread.text
 cut_is at (OnLine blanks) s k =
-    ap₂ (λ (t l : Bool). next_char s.here == 0x23 && (t || (not l && not (length s.pending == 0)))) k.tab k.line ∙ ap (λ (p : List ℕ). next_char s.here == 0x23 && not (length p == 0)) k.pending
+    ap₂ (λ (t l : Bool). next_char s.here == 0x23 && (t || (not l && not (length s.pending == 0)))) k.tab k.line
+    ∙ ap (λ (p : List ℕ). next_char s.here == 0x23 && not (length p == 0)) k.pending
 cut_is at (Folded breaks indent) s k =
-    ap₂ (λ (t l : Bool). next_char s.here == 0x23 && (t || (not l && not (length s.pending == 0)))) k.tab k.line ∙ ap (λ v. next_char s.here == 0x23 && v) (or-false (left_tab at.block_column 0 indent))
+    ap₂ (λ (t l : Bool). next_char s.here == 0x23 && (t || (not l && not (length s.pending == 0)))) k.tab k.line
+    ∙ ap (λ v. next_char s.here == 0x23 && v) (or-false (left_tab at.block_column 0 indent))
 
 line_is : (at : LayoutData) (tail : Separation) (s : PlainState) → Kept at tail s → s.on_new_line ≡ is_folded tail
 line_is at (OnLine blanks) s k = k.line
@@ -76,21 +98,31 @@ read_of start value end cut line = record {
   on_new_line = line;
 }
 
-same_read : (start : Mark) (v w : List ℕ) (a b : Mark) (c d : Option Mark) (l m : Bool) → v ≡ w → a ≡ b → c ≡ d → l ≡ m → read_of start v a c l ≡ read_of start w b d m
+same_read : (start : Mark) (v w : List ℕ) (a b : Mark) (c d : Option Mark) (l m : Bool) → v ≡ w → a ≡ b → c ≡ d → l ≡ m
+    → read_of start v a c l ≡ read_of start w b d m
 same_read start v w a b c d l m e f g h = rw (e, f, g, h) refl
 
-answer_is : (at : LayoutData) (h : Here) (value source : List ℕ) (tail : Separation) (s : PlainState) → value ≡ folded source → Stays at tail (over source h) s → plain_read at (mark_of h) value s ≡ plain_answer at h source tail s.here.unread.text
+answer_is : (at : LayoutData) (h : Here) (value source : List ℕ) (tail : Separation) (s : PlainState)
+    → value ≡ folded source → Stays at tail (over source h) s
+    → plain_read at (mark_of h) value s ≡ plain_answer at h source tail s.here.unread.text
 answer_is at h value source tail s e k =
-    same_read (mark_of h) value (folded source) s.end (mark_of (over source h)) (cut_mark at s) (if not at.in_flow && is_cut at tail s.here.unread.text then Some (mark_of (behind_of h source tail)) else None) s.on_new_line (is_folded tail)
+    same_read (mark_of h) value (folded source) s.end (mark_of (over source h)) (cut_mark at s)
+    (if not at.in_flow && is_cut at tail s.here.unread.text then Some (mark_of (behind_of h source tail)) else None)
+    s.on_new_line (is_folded tail)
     e k.end
-    (ap₂ (λ (b : Bool) (n : Here). if not at.in_flow && b then Some (mark_of n) else None) (cut_is at tail s k.kept) k.here)
+    (ap₂ (λ (b : Bool) (n : Here). if not at.in_flow && b then Some (mark_of n) else None) (cut_is at tail s k.kept)
+    k.here)
     (line_is at tail s k.kept)
 
-behind_as : (at : LayoutData) (h : Here) → is_flow_dash at h.unread.text ≡ false → (value source : List ℕ) (tail : Separation) (s : PlainState) → value ≡ folded source → unprintable source ≡ None
-    → PlainStands at h source tail s.here.unread.text → Stays at tail (over source h) s → tab_refused at tail s.here.unread.text ≡ false
+behind_as : (at : LayoutData) (h : Here) → is_flow_dash at h.unread.text ≡ false
+    → (value source : List ℕ) (tail : Separation) (s : PlainState) → value ≡ folded source → unprintable source ≡ None
+    → PlainStands at h source tail s.here.unread.text → Stays at tail (over source h) s
+    → tab_refused at tail s.here.unread.text ≡ false
     → (b : Bool) → is_unprintable_at s.here.unread.text ≡ b
-    → Answered at h (if b then fails_at (UnexpectedCharacter (next_char s.here)) (mark_of s.here) else Ok (plain_read at (mark_of h) value s, s.here))
-behind_as at h d value source tail s e u p k t true y = is_behind source tail s.here.unread.text p y refl (ap mark_of k.here)
+    → Answered at h (if b then fails_at (UnexpectedCharacter (next_char s.here)) (mark_of s.here) else Ok
+    (plain_read at (mark_of h) value s, s.here))
+behind_as at h d value source tail s e u p k t true y = is_behind source tail s.here.unread.text
+    (record { stands = p; no_dash = d; no_tab = t }) u y refl (ap mark_of k.here)
 behind_as at h d value source tail s e u p k t false y = record {
   source = source;
   tail = tail;
@@ -104,35 +136,62 @@ behind_as at h d value source tail s e u p k t false y = record {
   printable = y;
 }
 
-printed : (at : LayoutData) (h : Here) → is_flow_dash at h.unread.text ≡ false → (value source : List ℕ) (tail : Separation) (s : PlainState) → value ≡ folded source
-    → PlainStands at h source tail s.here.unread.text → Stays at tail (over source h) s → tab_refused at tail s.here.unread.text ≡ false
-    → (u : Option ℕ) → unprintable source ≡ u → Answered at h (only_printable u (mark_of h) (behind_plain at (mark_of h) value s))
+printed : (at : LayoutData) (h : Here) → is_flow_dash at h.unread.text ≡ false
+    → (value source : List ℕ) (tail : Separation) (s : PlainState) → value ≡ folded source
+    → PlainStands at h source tail s.here.unread.text → Stays at tail (over source h) s
+    → tab_refused at tail s.here.unread.text ≡ false
+    → (u : Option ℕ) → unprintable source ≡ u
+    → Answered at h (only_printable u (mark_of h) (behind_plain at (mark_of h) value s))
 unfolding behind_plain
-printed at h d value source tail s e p k t (Some c) y = is_inside source tail s.here.unread.text p y refl
-printed at h d value source tail s e p k t None y = behind_as at h d value source tail s e y p k t (is_unprintable_at s.here.unread.text) refl
+printed at h d value source tail s e p k t (Some c) y = is_inside source tail s.here.unread.text
+    (record { stands = p; no_dash = d; no_tab = t }) y refl
+printed at h d value source tail s e p k t None y = behind_as at h d value source tail s e y p k t
+    (is_unprintable_at s.here.unread.text) refl
 
-run_answers : (at : LayoutData) (h : Here) → is_content at.in_flow h.unread.text ≡ true → is_flow_dash at h.unread.text ≡ false → (run : Result (List ℕ × PlainState) Fault) → Reads at (mark_of h) (on_content (plain_start h)) run
-    → Answered at h (with_front (next_char h ∷ []) run >>= λ x. only_printable (unprintable x.0) (mark_of h) (behind_plain at (mark_of h) x.0 x.1))
+run_answers : (at : LayoutData) (h : Here) → is_content at.in_flow h.unread.text ≡ true
+    → is_flow_dash at h.unread.text ≡ false → (run : Result (List ℕ × PlainState) Fault)
+    → Reads at (mark_of h) (on_content (plain_start h)) run
+    → Answered at h (with_front (next_char h ∷ []) run >>= λ x. only_printable (unprintable x.0) (mark_of h)
+    (behind_plain at (mark_of h) x.0 x.1))
 run_answers at h y d (Ok (value, last)) reading =
     let r = reading (OnLine []) (step h) (content_stays at (plain_start h)) in
     let c = next_char h in
     let s = solid at.in_flow h.unread.text y in
-    let same : unprintable (c ∷ value) ≡ unprintable (c ∷ r.source) = ap (λ (u : Option ℕ). cond (not (is_printable c)) (Some c) u) r.characters in
-    printed at h d (c ∷ value) (c ∷ r.source) r.tail last (ap (λ (t : List ℕ). c ∷ t) r.value ∙ sym (folds_content c r.source s.no_blank s.no_break))
-    (stands at h y r.source r.tail last.here.unread.text r.finds) r.stays r.untabbed (unprintable (c ∷ value)) (sym same)
+    let same : unprintable (c ∷ value) ≡ unprintable (c ∷ r.source) = ap
+    (λ (u : Option ℕ). cond (not (is_printable c)) (Some c) u) r.characters in
+    printed at h d (c ∷ value) (c ∷ r.source) r.tail last
+    (ap (λ (t : List ℕ). c ∷ t) r.value ∙ sym (folds_content c r.source s.no_blank s.no_break))
+    (stands at h y r.source r.tail last.here.unread.text r.finds) r.stays r.untabbed (unprintable (c ∷ value))
+    (sym same)
 run_answers at h y d (Err f) reading =
     let r = reading (OnLine []) (step h) (content_stays at (plain_start h)) in
     subst (λ (g : Fault). RefusesPlain at h g.kind g.mark) (sym r.fault)
-    (record { source = next_char h ∷ r.source; tail = r.tail; rest = r.rest; stands = stands at h y r.source r.tail r.rest r.finds; tab = r.tabbed; marks = refl })
+    (record {
+      source = next_char h ∷ r.source;
+      tail = r.tail;
+      rest = r.rest;
+      stands = stands at h y r.source r.tail
+          r.rest r.finds;
+      no_dash = d;
+      tab = r.tabbed;
+      marks = refl;
+    })
 
-dash_or : (at : LayoutData) (h : Here) → is_content at.in_flow h.unread.text ≡ true → (b : Bool) → is_flow_dash at h.unread.text ≡ b
-    → Answered at h (if b then fails_at PlainScalarStartsWithDashFlowIndicator (mark_of h) else pieces plain_len (plain_turn at (mark_of h)) (plain_start h) >>= λ x. only_printable (unprintable x.0) (mark_of h) (behind_plain at (mark_of h) x.0 x.1))
+dash_or : (at : LayoutData) (h : Here) → is_content at.in_flow h.unread.text ≡ true → (b : Bool)
+    → is_flow_dash at h.unread.text ≡ b
+    → Answered at h (if b then fails_at PlainScalarStartsWithDashFlowIndicator (mark_of h) else pieces plain_len
+    (plain_turn at (mark_of h)) (plain_start h) >>= λ x. only_printable (unprintable x.0) (mark_of h)
+    (behind_plain at (mark_of h) x.0 x.1))
 dash_or at h y true d = record { dash = d; marks = refl }
 dash_or at h y false d =
-    subst (λ (run : Result (List ℕ × PlainState) Fault). Answered at h (run >>= λ x. only_printable (unprintable x.0) (mark_of h) (behind_plain at (mark_of h) x.0 x.1))) (sym (first_piece at h y))
-    (run_answers at h y d (pieces plain_len (plain_turn at (mark_of h)) (on_content (plain_start h))) (reads at (mark_of h) (on_content (plain_start h))))
+    subst (λ (run : Result (List ℕ × PlainState) Fault). Answered at h
+    (run >>= λ x. only_printable (unprintable x.0) (mark_of h) (behind_plain at (mark_of h) x.0 x.1)))
+    (sym (first_piece at h y))
+    (run_answers at h y d (pieces plain_len (plain_turn at (mark_of h)) (on_content (plain_start h)))
+    (reads at (mark_of h) (on_content (plain_start h))))
 
 -- where content begins, the plain function answers what stands there
-pub answered : (at : LayoutData) (h : Here) → is_content at.in_flow h.unread.text ≡ true → Answered at h (plain_scalar at h)
+pub answered : (at : LayoutData) (h : Here) → is_content at.in_flow h.unread.text ≡ true
+    → Answered at h (plain_scalar at h)
 unfolding plain_scalar
 answered at h y = dash_or at h y (is_flow_dash at h.unread.text) refl

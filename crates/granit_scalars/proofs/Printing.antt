@@ -1,5 +1,6 @@
 -- Blanks and breaks are printable.
-use Rattle.std.proofs.Common.{◌≡◌, ℕ, zero, suc, true, cond, not, List, [], ◌∷◌, ◌++◌, replicate, Some, refl, ap, ◌∙◌, arith}
+use Rattle.std.proofs.Common.{◌≡◌, ℕ, zero, suc, true, cond, not, List, [], ◌∷◌, ◌++◌, replicate, Some, refl, ap, ◌∙◌}
+use Rattle.std.proofs.Common.{arith}
 use Rattle.std.proofs.lemmas.Bool.Decides.{nat_tests}
 use Rattle.granit_base.specs.Classes.{is_blank, is_break, is_gap, is_printable}
 use Rattle.granit_lexemes.specs.Folding.{break_text}
@@ -13,7 +14,8 @@ gap_printable c e = grind (arith, nat_tests)
 -- the first unprintable character doesn't stand among blanks and breaks
 pub unprintable_behind : (front text : List ℕ) → Each is_gap front → unprintable (front ++ text) ≡ unprintable text
 unprintable_behind [] text e = refl
-unprintable_behind (c ∷ front) text e = ap (λ b. cond (not b) (Some c) (unprintable (front ++ text))) (gap_printable c e.0) ∙ unprintable_behind front text e.1
+unprintable_behind (c ∷ front) text e = ap (λ b. cond (not b) (Some c) (unprintable (front ++ text)))
+    (gap_printable c e.0) ∙ unprintable_behind front text e.1
 
 space_gap : is_gap 0x20 ≡ true
 unfolding is_gap is_blank is_break

@@ -1,11 +1,15 @@
 -- The plain function answers the quoted scalar that stands there, or refuses it with its cause.
-use Rattle.std.proofs.Common.{◌≡◌, ℕ, ◌==◌, Bool, true, false, List, [], ◌∷◌, ◌++◌, Result, Ok, Err, refl, ap, ap₂, ◌∙◌, subst}
+use Rattle.std.proofs.Common.{◌≡◌, ℕ, ◌==◌, Bool, true, false, List, [], ◌∷◌, ◌++◌, Result, Ok, Err, refl, ap, ap₂, ◌∙◌}
+use Rattle.std.proofs.Common.{subst}
 use Rattle.granit_lexemes.specs.Here.{Here, next_char, mark_of, step}
 use Rattle.granit_lexemes.specs.LayoutData.{LayoutData}
 use Rattle.granit_lexemes.specs.Outcome.{Fault, ◌>>=◌}
 use Rattle.granit_lexemes.specs.Pieces.{pieces}
-use Rattle.granit_lexemes.specs.QuotedExtent.{Between, Blanks, QuotedFront, QuotedStands, quoted_end, quoted_value, Trails, AnswersQuoted, WrongInside, WrongBehind, RefusesQuoted, inside, behind}
-use Rattle.granit_lexemes.specs.QuotedScalar.{QuotedState, QuotedRead, quote_char, quoted_at, between_quoted, quoted_turn, quoted_len, quoted_read, quoted_tail, quoted_scalar}
+use Rattle.granit_lexemes.specs.QuotedExtent.{Between, Blanks, QuotedFront, QuotedStands, quoted_end, quoted_value}
+use Rattle.granit_lexemes.specs.QuotedExtent.{Trails, AnswersQuoted, WrongInside, WrongBehind, RefusesQuoted, inside}
+use Rattle.granit_lexemes.specs.QuotedExtent.{behind}
+use Rattle.granit_lexemes.specs.QuotedScalar.{QuotedState, QuotedRead, quote_char, quoted_at, between_quoted}
+use Rattle.granit_lexemes.specs.QuotedScalar.{quoted_turn, quoted_len, quoted_read, quoted_tail, quoted_scalar}
 use Rattle.granit_scalars.proofs.QuotedKept.{quoted_fresh}
 use Rattle.granit_scalars.proofs.QuotedReads.{QuotedFinds, QuotedReads, quoted_reads}
 use Rattle.granit_scalars.proofs.QuotedTail.{TailReads, tail_reads}
@@ -23,16 +27,29 @@ same_quote : (single : Bool) → (quote_char single == quote_char single) ≡ tr
 same_quote true = refl
 same_quote false = refl
 
-pub quote_seen : (single : Bool) (h : Here) → next_char h ≡ quote_char single → h.unread.text ≡ quote_char single ∷ (step h).unread.text
+pub quote_seen : (single : Bool) (h : Here) → next_char h ≡ quote_char single
+    → h.unread.text ≡ quote_char single ∷ (step h).unread.text
 quote_seen single h y =
-    let s = seen (λ c. c == quote_char single) h (no_quote_nul single) (ap (λ c. c == quote_char single) y ∙ same_quote single) in
+    let s = seen (λ c. c == quote_char single) h (no_quote_nul single)
+    (ap (λ c. c == quote_char single) y ∙ same_quote single) in
     s.is ∙ ap (λ c. c ∷ (step h).unread.text) y
 
-front_of : (single : Bool) (at : LayoutData) (h : Here) → next_char h ≡ quote_char single → {source value gap : List ℕ} {left : Bool} {x : Between} {rest : List ℕ} → QuotedFinds single at false (step h) source value gap left x rest → QuotedFront single at h source value gap left x rest
-front_of single at h y f = record { whole = quote_seen single h y ∙ ap (λ (t : List ℕ). quote_char single ∷ t) f.whole; inside = f.inside; separated = f.separated }
+front_of : (single : Bool) (at : LayoutData) (h : Here) → next_char h ≡ quote_char single
+    → {source value gap : List ℕ} {left : Bool} {x : Between} {rest : List ℕ}
+    → QuotedFinds single at false (step h) source value gap left x rest
+    → QuotedFront single at h source value gap left x rest
+front_of single at h y f = record {
+  whole = quote_seen single h y
+      ∙ ap (λ (t : List ℕ). quote_char single ∷ t) f.whole;
+  inside = f.inside;
+  separated = f.separated;
+}
 
-with_tail : (single : Bool) (at : LayoutData) (h : Here) (source value gap : List ℕ) (left : Bool) (x : Between) (rest text : List ℕ) (end : Here) → QuotedStands single at h source value gap left x rest → text ≡ quoted_value value left x → end ≡ quoted_end single h source gap
-    → (given : Result (QuotedRead × Here) Fault) → TailReads single at (mark_of h) text end given → QuotedAnswered single at h given
+with_tail : (single : Bool) (at : LayoutData) (h : Here) (source value gap : List ℕ) (left : Bool) (x : Between)
+    (rest text : List ℕ) (end : Here) → QuotedStands single at h source value gap left x rest
+    → text ≡ quoted_value value left x → end ≡ quoted_end single h source gap
+    → (given : Result (QuotedRead × Here) Fault) → TailReads single at (mark_of h) text end given
+    → QuotedAnswered single at h given
 with_tail single at h source value gap left x rest text end stands e f (Ok (read, after)) t = record {
   source = source;
   value = value;
@@ -45,28 +62,41 @@ with_tail single at h source value gap left x rest text end stands e f (Ok (read
   trails = subst (λ (g : Here). Trails at (mark_of h) g t.0 after) f t.1;
   answer = t.2 ∙ ap₂ (λ (v : List ℕ) (g : Here). quoted_read single (mark_of h) v (mark_of g) t.0) e f;
 }
-with_tail single at h source value gap left x rest text end stands e f (Err g) t = behind source value gap left x rest stands (subst (λ (i : Here). WrongBehind single at (mark_of h) i g.kind g.mark) f t)
+with_tail single at h source value gap left x rest text end stands e f (Err g) t = behind source value gap left x rest
+    stands (subst (λ (i : Here). WrongBehind single at (mark_of h) i g.kind g.mark) f t)
 
-run_answers : (single : Bool) (at : LayoutData) (h : Here) → next_char h ≡ quote_char single → (run : Result (List ℕ × QuotedState) Fault) → QuotedReads single at (mark_of h) (quoted_at false (step h)) run
-    → QuotedAnswered single at h (run >>= λ x. quoted_tail single at (mark_of h) (x.0 ++ between_quoted x.1) (step x.1.here))
+run_answers : (single : Bool) (at : LayoutData) (h : Here) → next_char h ≡ quote_char single
+    → (run : Result (List ℕ × QuotedState) Fault) → QuotedReads single at (mark_of h) (quoted_at false (step h)) run
+    → QuotedAnswered single at h (run >>= λ x. quoted_tail single at (mark_of h) (x.0 ++ between_quoted x.1)
+    (step x.1.here))
 run_answers single at h y (Ok (text, last)) reading =
     let r = reading [] (Blanks []) (step h) (quoted_fresh at false (step h)) in
-    let stands : QuotedStands single at h r.source r.value r.gap last.escaped r.x last.here.unread.text = record { front = front_of single at h y r.finds; closing = r.closing; placed = r.placed } in
-    with_tail single at h r.source r.value r.gap last.escaped r.x last.here.unread.text (text ++ between_quoted last) (step last.here) stands r.value_is (ap step r.place)
-    (quoted_tail single at (mark_of h) (text ++ between_quoted last) (step last.here)) (tail_reads single at (mark_of h) (text ++ between_quoted last) (step last.here))
+    let stands : QuotedStands single at h r.source r.value r.gap last.escaped r.x last.here.unread.text =
+    record { front = front_of single at h y r.finds; closing = r.closing; placed = r.placed } in
+    with_tail single at h r.source r.value r.gap last.escaped r.x last.here.unread.text (text ++ between_quoted last)
+    (step last.here) stands r.value_is (ap step r.place)
+    (quoted_tail single at (mark_of h) (text ++ between_quoted last) (step last.here))
+    (tail_reads single at (mark_of h) (text ++ between_quoted last) (step last.here))
 run_answers single at h y (Err f) reading =
     let r = reading [] (Blanks []) (step h) (quoted_fresh at false (step h)) in
-    inside r.source r.value r.gap r.left r.x r.rest (front_of single at h y r.finds) (subst (λ (g : Here). WrongInside single at (mark_of h) r.left r.x r.rest g f.kind f.mark) r.place_is r.wrong)
+    inside r.source r.value r.gap r.left r.x r.rest (front_of single at h y r.finds)
+    (subst (λ (g : Here). WrongInside single at (mark_of h) r.left r.x r.rest g f.kind f.mark) r.place_is r.wrong)
 
 -- where its quote stands, the plain function answers what stands there
-pub quoted_answered : (single : Bool) (at : LayoutData) (h : Here) → next_char h ≡ quote_char single → QuotedAnswered single at h (quoted_scalar single at h)
+pub quoted_answered : (single : Bool) (at : LayoutData) (h : Here) → next_char h ≡ quote_char single
+    → QuotedAnswered single at h (quoted_scalar single at h)
 unfolding quoted_scalar
-quoted_answered single at h y = run_answers single at h y (pieces quoted_len (quoted_turn single at (mark_of h)) (quoted_at false (step h))) (quoted_reads single at (mark_of h) (quoted_at false (step h)))
+quoted_answered single at h y = run_answers single at h y
+    (pieces quoted_len (quoted_turn single at (mark_of h)) (quoted_at false (step h)))
+    (quoted_reads single at (mark_of h) (quoted_at false (step h)))
 
 -- an answer is what stands there
-pub quoted_standing : (single : Bool) (at : LayoutData) (h : Here) (read : QuotedRead) (after : Here) → next_char h ≡ quote_char single → quoted_scalar single at h ≡ Ok (read, after) → AnswersQuoted single at h read after
+pub quoted_standing : (single : Bool) (at : LayoutData) (h : Here) (read : QuotedRead) (after : Here)
+    → next_char h ≡ quote_char single → quoted_scalar single at h ≡ Ok (read, after)
+    → AnswersQuoted single at h read after
 quoted_standing single at h read after y e = subst (QuotedAnswered single at h) e (quoted_answered single at h y)
 
 -- a refusal has its cause
-pub quoted_refused : (single : Bool) (at : LayoutData) (h : Here) (f : Fault) → next_char h ≡ quote_char single → quoted_scalar single at h ≡ Err f → RefusesQuoted single at h f.kind f.mark
+pub quoted_refused : (single : Bool) (at : LayoutData) (h : Here) (f : Fault) → next_char h ≡ quote_char single
+    → quoted_scalar single at h ≡ Err f → RefusesQuoted single at h f.kind f.mark
 quoted_refused single at h f y e = subst (QuotedAnswered single at h) e (quoted_answered single at h y)

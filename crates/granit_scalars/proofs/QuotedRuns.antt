@@ -1,171 +1,38 @@
 -- A quoted scalar that stands somewhere is read.
-use Rattle.std.proofs.Common.{◌≡◌, ℕ, suc, ◌+◌, ◌==◌, Bool, true, false, cond, not, ◌&&◌, ◌||◌, List, [], ◌∷◌, ◌++◌, length, Some, None, Ok, refl, sym, ap, ap₂, ◌∙◌, subst, arith, append_assoc, append-nil, add-zero}
+use Rattle.std.proofs.Common.{◌≡◌, ℕ, ◌==◌, Bool, true, false, cond, not, ◌&&◌, ◌||◌, List, [], ◌∷◌, ◌++◌, length}
+use Rattle.std.proofs.Common.{Some, None, Ok, refl, sym, ap, ap₂, ◌∙◌, subst, arith, append_assoc, append-nil}
 use Rattle.std.specs.Prelude.{slice_index, if◌then◌else◌}
-use Rattle.std.proofs.lemmas.Bool.{and_parts}
+use Rattle.std.proofs.lemmas.Bool.{and_parts, and_left}
 use Rattle.std.proofs.lemmas.Bool.Decides.{nat_tests}
-use Rattle.std.proofs.lemmas.Bool.{and_left}
 use Rattle.granit_base.specs.Classes.{is_blank, is_break, is_gap, is_printable}
 use Rattle.granit_base.specs.Place.{Mark, first}
 use Rattle.granit_lexemes.specs.Decoding.{letter_value, digit_count, Escape, letter, number, halves}
-use Rattle.granit_lexemes.specs.Gap.{Each}
 use Rattle.granit_lexemes.specs.Here.{Here, next_char, step, text_len}
 use Rattle.granit_lexemes.specs.LayoutData.{LayoutData, is_left}
 use Rattle.granit_lexemes.specs.Outcome.{◌>>=◌}
 use Rattle.granit_lexemes.specs.Pieces.{with_front}
 use Rattle.granit_lexemes.specs.PlainExtent.{over}
-use Rattle.granit_lexemes.specs.Basics.{past_break, is_document_mark}
-use Rattle.granit_lexemes.specs.QuotedExtent.{OneBreak, line_feed, pair, carriage_return, NewLine, no_more, blank, break, Between, Blanks, Lines, Separates, on_line, folded, between_text, is_literal, Piece, itself, doubled, escape, before_break, may_be_left, MayStand, Inside, nothing, content}
-use Rattle.granit_lexemes.specs.QuotedScalar.{QuotedState, quote_char, is_closing, is_tab_left, is_strictly_left, is_loosely_left, between_quoted, quoted_at, over_blank, over_break, quoted_piece, quoted_content, quoted_turn, quoted_len, escape_or, quoted_rest}
+use Rattle.granit_lexemes.specs.Basics.{is_document_mark}
+use Rattle.granit_lexemes.specs.QuotedExtent.{Between, Blanks, Lines, Separates, between_text, is_literal, Piece}
+use Rattle.granit_lexemes.specs.QuotedExtent.{itself, doubled, escape, before_break, may_be_left, MayStand, Inside}
+use Rattle.granit_lexemes.specs.QuotedExtent.{nothing, content}
+use Rattle.granit_lexemes.specs.QuotedScalar.{QuotedState, quote_char, is_closing, is_strictly_left, is_loosely_left}
+use Rattle.granit_lexemes.specs.QuotedScalar.{between_quoted, quoted_at, quoted_piece, quoted_content, quoted_turn}
+use Rattle.granit_lexemes.specs.QuotedScalar.{quoted_len, escape_or, quoted_rest}
 use Rattle.granit_lexemes.proofs.HereLemmas.{not_empty}
 use Rattle.granit_lexemes.proofs.PieceLemmas.{with_front-nil, with_front-with_front, pieces_more, pieces_done}
-use Rattle.granit_scalars.proofs.Folding.{blank_apart_from_break}
-use Rattle.granit_scalars.proofs.PlainKept.{one_more}
 use Rattle.granit_scalars.proofs.PlainReads.{neither_gap}
-use Rattle.granit_scalars.proofs.QuotedEscapes.{text_behind, over_text, escape_is}
-use Rattle.granit_scalars.proofs.QuotedKept.{StateIs, between_is, is_line_blank, is_indent_blank, is_first_break, is_further_break}
-use Rattle.granit_scalars.proofs.QuotedTurns.{closing_is, tab_meets, strict_meets, loose_meets, mark_meets, Placed, turn_chain, turn_is, quoted_shortens}
-use Rattle.granit_scalars.proofs.Stepping.{over-append, seen_as, column_on, broken}
-
--- ---- a turn over a blank, and over a break
-
-blank_turn : (single : Bool) (at : LayoutData) (start : Mark) (s : QuotedState) → is_blank (next_char s.here) ≡ true → tab_meets at s ≡ false → quoted_turn single at start s ≡ Ok (Some [], over_blank s)
-blank_turn single at start s y n =
-    turn_is single at start s
-    ∙ ap₂ (λ a t. turn_chain single start s a t (is_break (next_char s.here)) (strict_meets at s) (loose_meets single at s) (mark_meets s) (text_len s.here == 0) (is_printable (next_char s.here)) (is_closing single s.here.unread.text)) y n
-
-no_blank_break : (c : ℕ) → is_break c ≡ true → is_blank c ≡ false
-unfolding is_blank is_break
-no_blank_break c y = grind (arith, nat_tests)
-
-break_turn : (single : Bool) (at : LayoutData) (start : Mark) (s : QuotedState) → is_break (next_char s.here) ≡ true → quoted_turn single at start s ≡ Ok (Some [], over_break s)
-break_turn single at start s y =
-    turn_is single at start s
-    ∙ ap₂ (λ a b. turn_chain single start s a (tab_meets at s) b (strict_meets at s) (loose_meets single at s) (mark_meets s) (text_len s.here == 0) (is_printable (next_char s.here)) (is_closing single s.here.unread.text)) (no_blank_break (next_char s.here) y) y
-
-onward : (single : Bool) (at : LayoutData) (start : Mark) (s after last : QuotedState) → quoted_turn single at start s ≡ Ok (Some [], after) → after ≡ last → quoted_rest single at start s ≡ quoted_rest single at start last
-onward single at start s after last e f =
-    pieces_more quoted_len (quoted_turn single at start) (quoted_shortens single at start) s after [] e ∙ with_front-nil (quoted_rest single at start after) ∙ ap (quoted_rest single at start) f
-
--- ---- over blanks and breaks
-
--- where reading stands behind so much
-record RunsTo (single : Bool) (at : LayoutData) (start : Mark) (s : QuotedState) (gap : List ℕ) (x : Between) : Type 0 where
-  after : QuotedState
-  same : quoted_rest single at start s ≡ quoted_rest single at start after
-  here : after.here ≡ over gap s.here
-  state : StateIs x after
-  escaped : after.escaped ≡ s.escaped
-
-pub break_first : {brk behind : List ℕ} → OneBreak brk behind → is_break (first (brk ++ behind)) ≡ true
-unfolding is_break
-break_first line_feed = refl
-break_first pair = refl
-break_first (carriage_return n) = refl
-
-past_cr_if : (h : Here) (b : Bool) → (next_char h == 0x0D && slice_index h.unread.text 1 == 0x0A) ≡ b → past_break h ≡ (if b then step (step h) else step h)
-unfolding past_break
-past_cr_if h true e = rw e refl
-past_cr_if h false e = rw e refl
-
-pub past_one : {brk behind : List ℕ} → OneBreak brk behind → (h : Here) → h.unread.text ≡ brk ++ behind → past_break h ≡ over brk h
-past_one line_feed h e = past_cr_if h false (ap (λ (t : List ℕ). first t == 0x0D && slice_index t 1 == 0x0A) e)
-past_one pair h e = past_cr_if h true (ap (λ (t : List ℕ). first t == 0x0D && slice_index t 1 == 0x0A) e)
-past_one (carriage_return n) h e = past_cr_if h false (ap (λ (t : List ℕ). first t == 0x0D && slice_index t 1 == 0x0A) e ∙ n)
-
-tab_none : (line : Bool) (c b column n : ℕ) (at : LayoutData) → line ≡ true → c ≡ b → column ≡ n → (b == 0x09 && is_tab_left at n) ≡ false → (line && (c == 0x09 && is_tab_left at column)) ≡ false
-tab_none line c b column n at p q r e = rw (p, q, r) e
-
-newline_runs : (single : Bool) (at : LayoutData) (start : Mark) {column empty last : ℕ} {text behind : List ℕ} → NewLine at column text behind empty last → (s : QuotedState) (k : ℕ) → StateIs (Lines k column) s → s.here.unread.text ≡ text ++ behind
-    → RunsTo single at start s text (Lines (k + empty) last)
-newline_runs single at start {column} no_more s k i e =
-    record { after = s; same = refl; here = refl; state = subst (λ m. StateIs (Lines m column) s) (sym (add-zero k)) i; escaped = refl }
-newline_runs single at start {column} (blank {text = text} {behind = behind} b y z more) s k i e =
-    let there = seen_as s.here b (text ++ behind) e in
-    let next : next_char s.here ≡ b = ap first e in
-    let is_one : is_blank (next_char s.here) ≡ true = ap is_blank next ∙ y in
-    let after = record s { here = step s.here } in
-    let moved : (step s.here).place.column ≡ suc column = column_on s.here there (blank_apart_from_break (next_char s.here) is_one) ∙ ap (λ n. n + 1) i.2 ∙ omega arith in
-    let r = newline_runs single at start more after k (i.0, i.1, moved) (text_behind s.here b (text ++ behind) e) in
-    record {
-      after = r.after;
-      same = onward single at start s (over_blank s) after (blank_turn single at start s is_one (tab_none s.on_new_line (next_char s.here) b s.here.place.column column at i.1 next i.2 z)) (is_indent_blank s i.1) ∙ r.same;
-      here = r.here;
-      state = r.state;
-      escaped = r.escaped;
-    }
-newline_runs single at start {last = last} (break {text = text} {behind = behind} {empty = empty} brk one more) s k i e =
-    let whole : s.here.unread.text ≡ brk ++ (text ++ behind) = e ∙ append_assoc brk text behind in
-    let is_one : is_break (next_char s.here) ≡ true = ap (λ (t : List ℕ). is_break (first t)) whole ∙ break_first one in
-    let after = record s { here = past_break s.here; pending = s.pending ++ 0x0A ∷ [] } in
-    let lands = past_one one s.here whole in
-    let r = newline_runs single at start more after (suc k) (ap (λ (t : List ℕ). t ++ 0x0A ∷ []) i.0 ∙ one_more k 0x0A, i.1, (broken s.here is_one).column) (ap (λ (g : Here). g.unread.text) lands ∙ over_text brk (text ++ behind) s.here whole) in
-    record {
-      after = r.after;
-      same = onward single at start s (over_break s) after (break_turn single at start s is_one) (is_further_break s i.1) ∙ r.same;
-      here = r.here ∙ ap (over text) lands ∙ sym (over-append brk text s.here);
-      state = subst (λ m. StateIs (Lines m last) r.after) (omega arith) r.state;
-      escaped = r.escaped;
-    }
-
-record RunsOver (single : Bool) (at : LayoutData) (start : Mark) (s : QuotedState) (blanks : List ℕ) : Type 0 where
-  after : QuotedState
-  same : quoted_rest single at start s ≡ quoted_rest single at start after
-  here : after.here ≡ over blanks s.here
-  pending : after.pending ≡ s.pending ++ blanks
-  line : after.on_new_line ≡ false
-  escaped : after.escaped ≡ s.escaped
-
-line_runs : (single : Bool) (at : LayoutData) (start : Mark) (blanks behind : List ℕ) (s : QuotedState) → Each is_blank blanks → s.on_new_line ≡ false → s.here.unread.text ≡ blanks ++ behind → RunsOver single at start s blanks
-line_runs single at start [] behind s y n e = record { after = s; same = refl; here = refl; pending = sym (append-nil s.pending); line = n; escaped = refl }
-line_runs single at start (b ∷ blanks) behind s y n e =
-    let next : next_char s.here ≡ b = ap first e in
-    let is_one : is_blank (next_char s.here) ≡ true = ap is_blank next ∙ y.0 in
-    let after = record s { here = step s.here; pending = s.pending ++ next_char s.here ∷ [] } in
-    let r = line_runs single at start blanks behind after y.1 n (text_behind s.here b (blanks ++ behind) e) in
-    record {
-      after = r.after;
-      same = onward single at start s (over_blank s) after (blank_turn single at start s is_one (and_left s.on_new_line (next_char s.here == 0x09 && is_tab_left at s.here.place.column) n)) (is_line_blank s n) ∙ r.same;
-      here = r.here;
-      pending = r.pending ∙ append_assoc s.pending (next_char s.here ∷ []) blanks ∙ ap (λ c. s.pending ++ c ∷ blanks) next;
-      line = r.line;
-      escaped = r.escaped;
-    }
-
-gap_text : (blanks brk text behind : List ℕ) (h mid : Here) → mid ≡ over blanks h → h.unread.text ≡ (blanks ++ (brk ++ text)) ++ behind → mid.unread.text ≡ brk ++ (text ++ behind)
-gap_text blanks brk text behind h mid e f =
-    ap (λ (g : Here). g.unread.text) e ∙ over_text blanks ((brk ++ text) ++ behind) h (f ∙ append_assoc blanks (brk ++ text) behind) ∙ append_assoc brk text behind
-
-text_on : (brk rest : List ℕ) (h mid : Here) → mid ≡ over brk h → h.unread.text ≡ brk ++ rest → mid.unread.text ≡ rest
-text_on brk rest h mid e f = ap (λ (g : Here). g.unread.text) e ∙ over_text brk rest h f
-
-gap_place : (blanks brk text : List ℕ) (h mid next last : Here) → mid ≡ over blanks h → next ≡ over brk mid → last ≡ over text next → last ≡ over (blanks ++ (brk ++ text)) h
-gap_place blanks brk text h mid next last e f g =
-    g ∙ ap (over text) (f ∙ ap (over brk) e) ∙ sym (over-append brk text (over blanks h)) ∙ sym (over-append blanks (brk ++ text) h)
-
-gap_runs : (single : Bool) (at : LayoutData) (start : Mark) (escaped : Bool) (h : Here) {gap behind : List ℕ} {x : Between} → Separates at gap behind x → h.unread.text ≡ gap ++ behind → RunsTo single at start (quoted_at escaped h) gap x
-gap_runs single at start escaped h {behind = behind} (on_line {blanks = blanks} each) e =
-    let r = line_runs single at start blanks behind (quoted_at escaped h) each refl e in
-    record { after = r.after; same = r.same; here = r.here; state = (r.pending, r.line); escaped = r.escaped }
-gap_runs single at start escaped h {behind = behind} (folded {text = text} {empty = empty} {column = column} blanks brk each one more) e =
-    let r = line_runs single at start blanks ((brk ++ text) ++ behind) (quoted_at escaped h) each refl (e ∙ append_assoc blanks (brk ++ text) behind) in
-    let s = r.after in
-    let there : s.here.unread.text ≡ brk ++ (text ++ behind) = gap_text blanks brk text behind h s.here r.here e in
-    let is_one : is_break (next_char s.here) ≡ true = ap (λ (t : List ℕ). is_break (first t)) there ∙ break_first one in
-    let after : QuotedState = record s { here = past_break s.here; pending = []; on_new_line = true } in
-    let lands = past_one one s.here there in
-    let q = newline_runs single at start more after 0 (refl, refl, (broken s.here is_one).column) (text_on brk (text ++ behind) s.here (past_break s.here) lands there) in
-    let turned : quoted_rest single at start s ≡ quoted_rest single at start after = onward single at start s (over_break s) after (break_turn single at start s is_one) (is_first_break s r.line) in
-    record {
-      after = q.after;
-      same = r.same ∙ turned ∙ q.same;
-      here = gap_place blanks brk text h s.here (past_break s.here) q.after.here r.here lands q.here;
-      state = subst (λ m. StateIs (Lines m column) q.after) (omega arith) q.state;
-      escaped = q.escaped ∙ r.escaped;
-    }
+use Rattle.granit_scalars.proofs.QuotedEscapes.{over_text, escape_is}
+use Rattle.granit_scalars.proofs.QuotedGaps.{gap_runs}
+use Rattle.granit_scalars.proofs.QuotedKept.{StateIs, between_is}
+use Rattle.granit_scalars.proofs.QuotedTurns.{closing_is, tab_meets, strict_meets, loose_meets, mark_meets, Placed}
+use Rattle.granit_scalars.proofs.QuotedTurns.{turn_chain, turn_is, quoted_shortens}
+use Rattle.granit_scalars.proofs.Stepping.{over-append}
 
 -- ---- over content
 
-chain_at : (single : Bool) (start : Mark) (s : QuotedState) (a t b d e f g p c : Bool) → a ≡ false → b ≡ false → d ≡ false → e ≡ false → f ≡ false → g ≡ false → p ≡ true
+chain_at : (single : Bool) (start : Mark) (s : QuotedState) (a t b d e f g p c : Bool) → a ≡ false → b ≡ false
+    → d ≡ false → e ≡ false → f ≡ false → g ≡ false → p ≡ true
     → turn_chain single start s a t b d e f g p c ≡ cond c (Ok (None, s)) (quoted_content single start s)
 chain_at single start s a t b d e f g p c ha hb hd he hf hg hp = rw (ha, hb, hd, he, hf, hg, hp) refl
 
@@ -177,13 +44,15 @@ no_true : {A : Type 0} (b : Bool) → b ≡ false → b ≡ true → A
 no_true true e f = absurd cc
 no_true false e f = absurd cc
 
-strict_no : (strict f left closing : Bool) → (left && not (not strict && (f || closing))) ≡ false → ((strict && f) && left) ≡ false
+strict_no : (strict f left closing : Bool) → (left && not (not strict && (f || closing))) ≡ false
+    → ((strict && f) && left) ≡ false
 strict_no true true true closing e = absurd cc
 strict_no true true false closing e = refl
 strict_no true false left closing e = refl
 strict_no false f left closing e = refl
 
-loose_no : (strict f left closing : Bool) → (left && not (not strict && (f || closing))) ≡ false → ((not f && (strict || not closing)) && left) ≡ false
+loose_no : (strict f left closing : Bool) → (left && not (not strict && (f || closing))) ≡ false
+    → ((not f && (strict || not closing)) && left) ≡ false
 loose_no strict true left closing e = refl
 loose_no true false true closing e = absurd cc
 loose_no true false false closing e = refl
@@ -191,49 +60,66 @@ loose_no false false left true e = refl
 loose_no false false true false e = absurd cc
 loose_no false false false false e = refl
 
-module _ (single : Bool) (at : LayoutData) (escaped : Bool) (column : ℕ) (text : List ℕ) (e : (is_left at.block_column column && not (may_be_left single at escaped text)) ≡ false) where
-  no_strictly : is_strictly_left at escaped column ≡ false
+module _ (single : Bool) (at : LayoutData) (escaped : Bool) (column : ℕ) (text : List ℕ)
+    (e : (is_left at.block_column column && not (may_be_left single at escaped text)) ≡ false) where
+  pub no_strictly : is_strictly_left at escaped column ≡ false
   unfolding is_strictly_left
   no_strictly = strict_no at.strict (at.in_flow || escaped) (is_left at.block_column column) (is_closing single text) e
 
-  no_loosely : is_loosely_left at escaped (is_closing single text) column ≡ false
+  pub no_loosely : is_loosely_left at escaped (is_closing single text) column ≡ false
   unfolding is_loosely_left
   no_loosely = loose_no at.strict (at.in_flow || escaped) (is_left at.block_column column) (is_closing single text) e
 
-placed : (single : Bool) (at : LayoutData) (x : Between) (s : QuotedState) → StateIs x s → MayStand single at s.escaped x s.here.unread.text → is_gap (next_char s.here) ≡ false → Placed single at s
+pub placed : (single : Bool) (at : LayoutData) (x : Between) (s : QuotedState) → StateIs x s
+    → MayStand single at s.escaped x s.here.unread.text → is_gap (next_char s.here) ≡ false → Placed single at s
 placed single at (Blanks blanks) s i m n = record {
   no_gap = n;
   no_strict = line_no s.on_new_line (is_strictly_left at s.escaped s.here.place.column) (no_true s.on_new_line i.1);
-  no_loose = line_no s.on_new_line (is_loosely_left at s.escaped (is_closing single s.here.unread.text) s.here.place.column) (no_true s.on_new_line i.1);
-  no_mark = line_no s.on_new_line (s.here.place.column == 0 && is_document_mark s.here.unread.text) (no_true s.on_new_line i.1);
+  no_loose = line_no s.on_new_line (is_loosely_left at s.escaped
+      (is_closing single s.here.unread.text) s.here.place.column) (no_true s.on_new_line i.1);
+  no_mark = line_no s.on_new_line (s.here.place.column == 0
+      && is_document_mark s.here.unread.text) (no_true s.on_new_line i.1);
 }
 placed single at (Lines empty column) s i m n = record {
   no_gap = n;
-  no_strict = line_no s.on_new_line (is_strictly_left at s.escaped s.here.place.column) (λ _. ap (is_strictly_left at s.escaped) i.2 ∙ no_strictly single at s.escaped column s.here.unread.text m.0);
-  no_loose = line_no s.on_new_line (is_loosely_left at s.escaped (is_closing single s.here.unread.text) s.here.place.column) (λ _. ap (is_loosely_left at s.escaped (is_closing single s.here.unread.text)) i.2 ∙ no_loosely single at s.escaped column s.here.unread.text m.0);
-  no_mark = line_no s.on_new_line (s.here.place.column == 0 && is_document_mark s.here.unread.text) (λ _. ap (λ k. k == 0 && is_document_mark s.here.unread.text) i.2 ∙ m.1);
+  no_strict = line_no s.on_new_line (is_strictly_left at s.escaped s.here.place.column)
+      (λ _. ap (is_strictly_left at s.escaped) i.2 ∙ no_strictly single at s.escaped column s.here.unread.text m.0);
+  no_loose = line_no s.on_new_line (is_loosely_left at s.escaped
+      (is_closing single s.here.unread.text) s.here.place.column)
+      (λ _. ap (is_loosely_left at s.escaped (is_closing single s.here.unread.text)) i.2
+      ∙ no_loosely single at s.escaped column s.here.unread.text m.0);
+  no_mark = line_no s.on_new_line (s.here.place.column == 0
+      && is_document_mark s.here.unread.text) (λ _. ap (λ k. k == 0 && is_document_mark s.here.unread.text) i.2 ∙ m.1);
 }
 
 -- what content or the closing quote begins with
-record Begins (text : List ℕ) : Type 0 where
-  no_gap : is_gap (first text) ≡ false
-  some : (length text == 0) ≡ false
-  prints : is_printable (first text) ≡ true
+pub record Begins (text : List ℕ) : Type 0 where
+  pub no_gap : is_gap (first text) ≡ false
+  pub some : (length text == 0) ≡ false
+  pub prints : is_printable (first text) ≡ true
 
-turn_at : (single : Bool) (at : LayoutData) (start : Mark) (x : Between) (s : QuotedState) → StateIs x s → MayStand single at s.escaped x s.here.unread.text → Begins s.here.unread.text
-    → quoted_turn single at start s ≡ cond (is_closing single s.here.unread.text) (Ok (None, s)) (quoted_content single start s)
+pub turn_at : (single : Bool) (at : LayoutData) (start : Mark) (x : Between) (s : QuotedState) → StateIs x s
+    → MayStand single at s.escaped x s.here.unread.text → Begins s.here.unread.text
+    → quoted_turn single at start s ≡ cond (is_closing single s.here.unread.text) (Ok (None, s))
+    (quoted_content single start s)
 turn_at single at start x s i m b =
     let p = placed single at x s i m b.no_gap in
     let n = neither_gap (next_char s.here) b.no_gap in
     turn_is single at start s
-    ∙ chain_at single start s (is_blank (next_char s.here)) (tab_meets at s) (is_break (next_char s.here)) (strict_meets at s) (loose_meets single at s) (mark_meets s) (text_len s.here == 0) (is_printable (next_char s.here)) (is_closing single s.here.unread.text)
+    ∙ chain_at single start s (is_blank (next_char s.here)) (tab_meets at s) (is_break (next_char s.here))
+    (strict_meets at s) (loose_meets single at s) (mark_meets s) (text_len s.here == 0)
+    (is_printable (next_char s.here)) (is_closing single s.here.unread.text)
     n.0 n.1 p.no_strict p.no_loose p.no_mark b.some b.prints
 
 -- a piece that stands there is taken
 record Takes (single : Bool) (start : Mark) (s : QuotedState) (piece taken : List ℕ) (escapes : Bool) : Type 0 where
   begins : Begins s.here.unread.text
   open_one : is_closing single s.here.unread.text ≡ false
-  taken_is : quoted_content single start s ≡ Ok (Some (between_quoted s ++ taken), quoted_at escapes (over piece s.here))
+  taken_is : quoted_content single start s ≡ Ok (
+    Some (between_quoted s ++ taken),
+    quoted_at escapes
+        (over piece s.here),
+  )
 
 record Literal (single : Bool) (c : ℕ) : Type 0 where
   no_gap : is_gap c ≡ false
@@ -241,7 +127,8 @@ record Literal (single : Bool) (c : ℕ) : Type 0 where
   no_quote : (c == quote_char single) ≡ false
   no_escape : (single || not (c == 0x5C)) ≡ true
 
-literal_parts : (a b c d : Bool) → ((not a && b) && (not c && d)) ≡ true → (a ≡ false) × (b ≡ true) × (c ≡ false) × (d ≡ true)
+literal_parts : (a b c d : Bool) → ((not a && b) && (not c && d)) ≡ true → (a ≡ false) × (b ≡ true) × (c ≡ false)
+    × (d ≡ true)
 literal_parts true b c d e = cc
 literal_parts false false c d e = cc
 literal_parts false true true d e = cc
@@ -258,10 +145,16 @@ not_doubled : (single : Bool) (c : ℕ) → (c == quote_char single) ≡ false �
 not_doubled true c e = e
 not_doubled false c e = refl
 
-begins_with : (c : ℕ) (t text : List ℕ) → text ≡ c ∷ t → is_gap c ≡ false → is_printable c ≡ true → Begins text
-begins_with c t text e n p = record { no_gap = ap (λ (l : List ℕ). is_gap (first l)) e ∙ n; some = ap (λ (l : List ℕ). length l == 0) e ∙ not_empty c t; prints = ap (λ (l : List ℕ). is_printable (first l)) e ∙ p }
+pub begins_with : (c : ℕ) (t text : List ℕ) → text ≡ c ∷ t → is_gap c ≡ false → is_printable c ≡ true → Begins text
+begins_with c t text e n p = record {
+  no_gap = ap (λ (l : List ℕ). is_gap (first l)) e
+      ∙ n;
+  some = ap (λ (l : List ℕ). length l == 0) e
+      ∙ not_empty c t;
+  prints = ap (λ (l : List ℕ). is_printable (first l)) e ∙ p;
+}
 
-quote_no_gap : (single : Bool) → is_gap (quote_char single) ≡ false
+pub quote_no_gap : (single : Bool) → is_gap (quote_char single) ≡ false
 unfolding is_gap is_blank is_break
 quote_no_gap true = refl
 quote_no_gap false = refl
@@ -271,11 +164,11 @@ unfolding is_printable is_break
 quote_prints true = refl
 quote_prints false = refl
 
-backslash_no_gap : is_gap 0x5C ≡ false
+pub backslash_no_gap : is_gap 0x5C ≡ false
 unfolding is_gap is_blank is_break
 backslash_no_gap = refl
 
-backslash_prints : is_printable 0x5C ≡ true
+pub backslash_prints : is_printable 0x5C ≡ true
 unfolding is_printable is_break
 backslash_prints = refl
 
@@ -291,7 +184,8 @@ no_break_u : is_break 0x75 ≡ false
 unfolding is_break
 no_break_u = refl
 
-no_break_behind : {e : List ℕ} {c : ℕ} → Escape e c → (t : List ℕ) → (is_break (slice_index (e ++ t) 1) ≡ false) × (first (e ++ t) ≡ 0x5C)
+pub no_break_behind : {e : List ℕ} {c : ℕ} → Escape e c → (t : List ℕ) → (is_break (slice_index (e ++ t) 1) ≡ false)
+    × (first (e ++ t) ≡ 0x5C)
 no_break_behind (letter {l = l} {c = c} y) t = (no_break_letter l c y, refl)
 no_break_behind (number {l = l} {count = count} y a s) t = (no_break_count l count y, refl)
 no_break_behind (halves a p b q) t = (no_break_u, refl)
@@ -300,26 +194,38 @@ some_text : (t : List ℕ) (c : ℕ) → first t ≡ c → (c ≡ 0 → ⊥) →
 some_text [] c e n = absurd (n (sym e))
 some_text (d ∷ t) c e n = (t, ap (λ k. k ∷ t) e)
 
-content_chain : (single : Bool) (start : Mark) (s : QuotedState) (a b c : Bool) → (single && next_char s.here == 0x27) ≡ a → (single || not (next_char s.here == 0x5C)) ≡ b → is_break (slice_index s.here.unread.text 1) ≡ c
-    → quoted_content single start s ≡ (if a then quoted_piece s (0x27, step (step s.here)) else if b then quoted_piece s (next_char s.here, step s.here) else if c then Ok (Some (between_quoted s), quoted_at true (step s.here)) else (escape_or start (step s.here) >>= quoted_piece s))
+pub content_chain : (single : Bool) (start : Mark) (s : QuotedState) (a b c : Bool)
+    → (single && next_char s.here == 0x27) ≡ a → (single || not (next_char s.here == 0x5C)) ≡ b
+    → is_break (slice_index s.here.unread.text 1) ≡ c
+    → quoted_content single start s ≡ (if a then quoted_piece s (0x27, step (step s.here)) else if b then quoted_piece s
+    (next_char s.here, step s.here) else if c then Ok (Some (between_quoted s), quoted_at true (step s.here)) else
+    (escape_or start (step s.here) >>= quoted_piece s))
 unfolding quoted_content
 content_chain single start s a b c p q r = rw (p, q, r) refl
 
-takes : (single : Bool) (start : Mark) (s : QuotedState) (piece behind taken : List ℕ) (escapes : Bool) → Piece single piece behind taken escapes → s.here.unread.text ≡ piece ++ behind → Takes single start s piece taken escapes
+takes : (single : Bool) (start : Mark) (s : QuotedState) (piece behind taken : List ℕ) (escapes : Bool)
+    → Piece single piece behind taken escapes → s.here.unread.text ≡ piece ++ behind
+    → Takes single start s piece taken escapes
 takes single start s piece behind taken escapes (itself {c = c} y) e =
     let l = literal single c y in
     let next : next_char s.here ≡ c = ap first e in
-    let no_quote : (next_char s.here == quote_char single) ≡ false = ap (λ k. k == quote_char single) next ∙ l.no_quote in
+    let no_quote : (next_char s.here == quote_char single) ≡ false = ap (λ k. k == quote_char single) next
+    ∙ l.no_quote in
     record {
       begins = begins_with c behind s.here.unread.text e l.no_gap l.prints;
-      open_one = closing_is single s.here.unread.text ∙ and_left (next_char s.here == quote_char single) (not (single && slice_index s.here.unread.text 1 == 0x27)) no_quote;
-      taken_is = content_chain single start s false true (is_break (slice_index s.here.unread.text 1)) (not_doubled single (next_char s.here) no_quote) (ap (λ k. single || not (k == 0x5C)) next ∙ l.no_escape) refl
+      open_one = closing_is single s.here.unread.text
+          ∙ and_left (next_char s.here == quote_char single) (not (single
+          && slice_index s.here.unread.text 1 == 0x27)) no_quote;
+      taken_is = content_chain single start s false true (is_break (slice_index s.here.unread.text 1))
+          (not_doubled single (next_char s.here) no_quote) (ap (λ k. single || not (k == 0x5C)) next ∙ l.no_escape) refl
           ∙ ap (λ k. Ok (Some (between_quoted s ++ k ∷ []), quoted_at false (step s.here))) next;
     }
 takes true start s piece behind taken escapes doubled e = record {
   begins = begins_with 0x27 (0x27 ∷ behind) s.here.unread.text e (quote_no_gap true) (quote_prints true);
-  open_one = closing_is true s.here.unread.text ∙ ap (λ (t : List ℕ). first t == 0x27 && not (true && slice_index t 1 == 0x27)) e;
-  taken_is = content_chain true start s true true (is_break (slice_index s.here.unread.text 1)) (ap (λ (t : List ℕ). first t == 0x27) e) refl refl;
+  open_one = closing_is true s.here.unread.text ∙ ap (λ (t : List ℕ). first t == 0x27
+      && not (true && slice_index t 1 == 0x27)) e;
+  taken_is = content_chain true start s true true (is_break (slice_index s.here.unread.text 1))
+      (ap (λ (t : List ℕ). first t == 0x27) e) refl refl;
 }
 takes false start s piece behind taken escapes (escape {c = c} {e = e} y) is =
     let n = no_break_behind y behind in
@@ -327,53 +233,79 @@ takes false start s piece behind taken escapes (escape {c = c} {e = e} y) is =
     let more = some_text s.here.unread.text 0x5C next (λ z. cc) in
     record {
       begins = begins_with 0x5C more.0 s.here.unread.text more.1 backslash_no_gap backslash_prints;
-      open_one = closing_is false s.here.unread.text ∙ ap (λ k. k == 0x22 && not (false && slice_index s.here.unread.text 1 == 0x27)) next;
-      taken_is = content_chain false start s false false false refl (ap (λ k. not (k == 0x5C)) next) (ap (λ (t : List ℕ). is_break (slice_index t 1)) is ∙ n.0)
+      open_one = closing_is false s.here.unread.text
+          ∙ ap (λ k. k == 0x22 && not (false && slice_index s.here.unread.text 1 == 0x27)) next;
+      taken_is = content_chain false start s false false false refl (ap (λ k. not (k == 0x5C)) next)
+          (ap (λ (t : List ℕ). is_break (slice_index t 1)) is ∙ n.0)
           ∙ ap (λ r. r >>= quoted_piece s) (escape_is start e c behind s.here y is);
     }
 takes false start s piece behind taken escapes (before_break y) e =
     let next : next_char s.here ≡ 0x5C = ap first e in
     record {
       begins = begins_with 0x5C behind s.here.unread.text e backslash_no_gap backslash_prints;
-      open_one = closing_is false s.here.unread.text ∙ ap (λ k. k == 0x22 && not (false && slice_index s.here.unread.text 1 == 0x27)) next;
-      taken_is = content_chain false start s false false true refl (ap (λ k. not (k == 0x5C)) next) (ap (λ (t : List ℕ). is_break (slice_index t 1)) e ∙ y)
+      open_one = closing_is false s.here.unread.text
+          ∙ ap (λ k. k == 0x22 && not (false && slice_index s.here.unread.text 1 == 0x27)) next;
+      taken_is = content_chain false start s false false true refl (ap (λ k. not (k == 0x5C)) next)
+          (ap (λ (t : List ℕ). is_break (slice_index t 1)) e ∙ y)
           ∙ ap (λ (t : List ℕ). Ok (Some t, quoted_at true (step s.here))) (sym (append-nil (between_quoted s)));
     }
 
 -- over one piece of content, and what stands before it
-piece_runs : (single : Bool) (at : LayoutData) (start : Mark) (escaped : Bool) (h : Here) {gap piece behind taken : List ℕ} {escapes : Bool} {x : Between} → h.unread.text ≡ gap ++ (piece ++ behind)
-    → Separates at gap (piece ++ behind) x → Piece single piece behind taken escapes → MayStand single at escaped x (piece ++ behind)
-    → quoted_rest single at start (quoted_at escaped h) ≡ with_front (between_text escaped x ++ taken) (quoted_rest single at start (quoted_at escapes (over (gap ++ piece) h)))
+piece_runs : (single : Bool) (at : LayoutData) (start : Mark) (escaped : Bool)
+    (h : Here) {gap piece behind taken : List ℕ} {escapes : Bool} {x : Between}
+    → h.unread.text ≡ gap ++ (piece ++ behind)
+    → Separates at gap (piece ++ behind) x → Piece single piece behind taken escapes
+    → MayStand single at escaped x (piece ++ behind)
+    → quoted_rest single at start (quoted_at escaped h) ≡ with_front (between_text escaped x ++ taken)
+    (quoted_rest single at start (quoted_at escapes (over (gap ++ piece) h)))
 piece_runs single at start escaped h {gap} {piece} {behind} {taken} {escapes} {x} e p q m =
     let r = gap_runs single at start escaped h p e in
     let s = r.after in
-    let there : s.here.unread.text ≡ piece ++ behind = ap (λ (g : Here). g.unread.text) r.here ∙ over_text gap (piece ++ behind) h e in
+    let there : s.here.unread.text ≡ piece ++ behind = ap (λ (g : Here). g.unread.text) r.here
+    ∙ over_text gap (piece ++ behind) h e in
     let t = takes single start s piece behind taken escapes q there in
-    let stand : MayStand single at s.escaped x s.here.unread.text = subst (λ b. MayStand single at b x s.here.unread.text) (sym r.escaped) (subst (MayStand single at escaped x) (sym there) m) in
-    let turn : quoted_turn single at start s ≡ Ok (Some (between_quoted s ++ taken), quoted_at escapes (over piece s.here)) =
-    turn_at single at start x s r.state stand t.begins ∙ ap (λ c. cond c (Ok (None, s)) (quoted_content single start s)) t.open_one ∙ t.taken_is in
+    let stand : MayStand single at s.escaped x s.here.unread.text = subst
+    (λ b. MayStand single at b x s.here.unread.text) (sym r.escaped)
+    (subst (MayStand single at escaped x) (sym there) m) in
+    let turn : quoted_turn single at start s ≡ Ok
+    (Some (between_quoted s ++ taken), quoted_at escapes (over piece s.here)) =
+    turn_at single at start x s r.state stand t.begins
+    ∙ ap (λ c. cond c (Ok (None, s)) (quoted_content single start s)) t.open_one ∙ t.taken_is in
     r.same
-    ∙ pieces_more quoted_len (quoted_turn single at start) (quoted_shortens single at start) s (quoted_at escapes (over piece s.here)) (between_quoted s ++ taken) turn
+    ∙ pieces_more quoted_len (quoted_turn single at start) (quoted_shortens single at start) s
+    (quoted_at escapes (over piece s.here)) (between_quoted s ++ taken) turn
     ∙ ap₂ (λ (f : List ℕ) (g : Here). with_front (f ++ taken) (quoted_rest single at start (quoted_at escapes g)))
-    (between_is x s r.state ∙ ap (λ b. between_text b x) r.escaped) (ap (over piece) r.here ∙ sym (over-append gap piece h))
+    (between_is x s r.state ∙ ap (λ b. between_text b x) r.escaped) (ap (over piece) r.here
+    ∙ sym (over-append gap piece h))
 
-pub inside_runs : (single : Bool) (at : LayoutData) (start : Mark) {escaped left : Bool} {source behind value : List ℕ} → Inside single at escaped source behind value left → (h : Here) → h.unread.text ≡ source ++ behind
-    → quoted_rest single at start (quoted_at escaped h) ≡ with_front value (quoted_rest single at start (quoted_at left (over source h)))
-inside_runs single at start {escaped} nothing h e = sym (with_front-nil (quoted_rest single at start (quoted_at escaped h)))
-inside_runs single at start {escaped} {left} (content {escapes = escapes} {source = source} {behind = behind} {value = value} {gap = gap} {piece = piece} {cs = cs} {taken = taken} {more = more} x s v p q m on) h e =
-    let whole : h.unread.text ≡ gap ++ (piece ++ (cs ++ behind)) = e ∙ ap (λ (t : List ℕ). t ++ behind) s ∙ append_assoc gap (piece ++ cs) behind ∙ ap (λ (t : List ℕ). gap ++ t) (append_assoc piece cs behind) in
-    let joined : h.unread.text ≡ (gap ++ piece) ++ (cs ++ behind) = whole ∙ sym (append_assoc gap piece (cs ++ behind)) in
+pub inside_runs : (single : Bool) (at : LayoutData) (start : Mark) {escaped left : Bool} {source behind value : List ℕ}
+    → Inside single at escaped source behind value left → (h : Here) → h.unread.text ≡ source ++ behind
+    → quoted_rest single at start (quoted_at escaped h) ≡ with_front value
+    (quoted_rest single at start (quoted_at left (over source h)))
+inside_runs single at start {escaped} nothing h e =
+    sym (with_front-nil (quoted_rest single at start (quoted_at escaped h)))
+inside_runs single at start {escaped} {left}
+    (content {escapes = escapes} {source = source} {behind = behind} {value = value} {gap = gap} {piece = piece}
+    {cs = cs} {taken = taken} {more = more} x s v p q m on) h e =
+    let whole : h.unread.text ≡ gap ++ (piece ++ (cs ++ behind)) = e ∙ ap (λ (t : List ℕ). t ++ behind) s
+    ∙ append_assoc gap (piece ++ cs) behind ∙ ap (λ (t : List ℕ). gap ++ t) (append_assoc piece cs behind) in
+    let joined : h.unread.text ≡ (gap ++ piece) ++ (cs ++ behind) = whole
+    ∙ sym (append_assoc gap piece (cs ++ behind)) in
     let last = quoted_rest single at start (quoted_at left (over source h)) in
-    let lands : over cs (over (gap ++ piece) h) ≡ over source h = sym (over-append (gap ++ piece) cs h) ∙ ap (λ (t : List ℕ). over t h) (append_assoc gap piece cs ∙ sym s) in
+    let lands : over cs (over (gap ++ piece) h) ≡ over source h = sym (over-append (gap ++ piece) cs h)
+    ∙ ap (λ (t : List ℕ). over t h) (append_assoc gap piece cs ∙ sym s) in
     piece_runs single at start escaped h whole p q m
-    ∙ ap (with_front (between_text escaped x ++ taken)) (inside_runs single at start on (over (gap ++ piece) h) (over_text (gap ++ piece) (cs ++ behind) h joined) ∙ ap (λ (g : Here). with_front more (quoted_rest single at start (quoted_at left g))) lands)
+    ∙ ap (with_front (between_text escaped x ++ taken))
+    (inside_runs single at start on (over (gap ++ piece) h) (over_text (gap ++ piece) (cs ++ behind) h joined)
+    ∙ ap (λ (g : Here). with_front more (quoted_rest single at start (quoted_at left g))) lands)
     ∙ with_front-with_front (between_text escaped x ++ taken) more last
     ∙ ap (λ (t : List ℕ). with_front t last) (append_assoc (between_text escaped x) taken more ∙ sym v)
 
 -- ---- up to the closing quote
 
 -- where reading stands at the closing quote
-pub record RunsUp (single : Bool) (at : LayoutData) (start : Mark) (left : Bool) (h : Here) (gap : List ℕ) (x : Between) : Type 0 where
+pub record RunsUp (single : Bool) (at : LayoutData) (start : Mark) (left : Bool) (h : Here) (gap : List ℕ)
+    (x : Between) : Type 0 where
   pub after : QuotedState
   pub gives : quoted_rest single at start (quoted_at left h) ≡ Ok ([], after)
   pub here : after.here ≡ over gap h
@@ -381,21 +313,36 @@ pub record RunsUp (single : Bool) (at : LayoutData) (start : Mark) (left : Bool)
 
 closes_with : (single : Bool) (text : List ℕ) → is_closing single text ≡ true → first text ≡ quote_char single
 closes_with single text e =
-    let p = (and_parts (first text == quote_char single) (not (single && slice_index text 1 == 0x27)) (sym (closing_is single text) ∙ e)).0 in
+    let p = (and_parts (first text == quote_char single) (not (single
+    && slice_index text 1 == 0x27)) (sym (closing_is single text) ∙ e)).0 in
     grind (arith, nat_tests)
 
 no_quote_nul : (single : Bool) → quote_char single ≡ 0 → ⊥
 no_quote_nul true e = cc
 no_quote_nul false e = cc
 
-pub closes : (single : Bool) (at : LayoutData) (start : Mark) (left : Bool) (h : Here) {gap rest : List ℕ} {x : Between} → Separates at gap rest x → h.unread.text ≡ gap ++ rest → is_closing single rest ≡ true → MayStand single at left x rest → RunsUp single at start left h gap x
+pub closes : (single : Bool) (at : LayoutData) (start : Mark) (left : Bool) (h : Here) {gap rest : List ℕ} {x : Between}
+    → Separates at gap rest x → h.unread.text ≡ gap ++ rest → is_closing single rest ≡ true
+    → MayStand single at left x rest → RunsUp single at start left h gap x
 closes single at start left h {gap} {rest} {x} p e c m =
     let r = gap_runs single at start left h p e in
     let s = r.after in
     let there : s.here.unread.text ≡ rest = ap (λ (g : Here). g.unread.text) r.here ∙ over_text gap rest h e in
     let closing : is_closing single s.here.unread.text ≡ true = ap (is_closing single) there ∙ c in
-    let more = some_text s.here.unread.text (quote_char single) (closes_with single s.here.unread.text closing) (no_quote_nul single) in
-    let begins = begins_with (quote_char single) more.0 s.here.unread.text more.1 (quote_no_gap single) (quote_prints single) in
-    let stand : MayStand single at s.escaped x s.here.unread.text = subst (λ b. MayStand single at b x s.here.unread.text) (sym r.escaped) (subst (MayStand single at left x) (sym there) m) in
-    let turn : quoted_turn single at start s ≡ Ok (None, s) = turn_at single at start x s r.state stand begins ∙ ap (λ b. cond b (Ok (None, s)) (quoted_content single start s)) closing in
-    record { after = s; gives = r.same ∙ pieces_done quoted_len (quoted_turn single at start) s s turn; here = r.here; between = between_is x s r.state ∙ ap (λ b. between_text b x) r.escaped }
+    let more = some_text s.here.unread.text (quote_char single) (closes_with single s.here.unread.text closing)
+    (no_quote_nul single) in
+    let begins = begins_with (quote_char single) more.0 s.here.unread.text more.1 (quote_no_gap single)
+    (quote_prints single) in
+    let stand : MayStand single at s.escaped x s.here.unread.text = subst
+    (λ b. MayStand single at b x s.here.unread.text) (sym r.escaped) (subst (MayStand single at left x) (sym there) m)
+    in
+    let turn : quoted_turn single at start s ≡ Ok (None, s) = turn_at single at start x s r.state stand begins
+    ∙ ap (λ b. cond b (Ok (None, s)) (quoted_content single start s)) closing in
+    record {
+      after = s;
+      gives = r.same
+          ∙ pieces_done quoted_len (quoted_turn single at start) s s turn;
+      here = r.here;
+      between = between_is x s r.state
+          ∙ ap (λ b. between_text b x) r.escaped;
+    }

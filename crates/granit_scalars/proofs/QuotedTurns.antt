@@ -1,16 +1,20 @@
 -- What a turn over a quoted scalar does.
-use Rattle.std.proofs.Common.{◌≡◌, ℕ, suc, ◌<◌, ◌==◌, Bool, true, false, not, ◌&&◌, ◌||◌, List, [], ◌∷◌, ◌++◌, length, Option, Some, None, Result, Ok, Err, refl, sym, ap, subst, arith}
+use Rattle.std.proofs.Common.{◌≡◌, ℕ, suc, ◌<◌, ◌==◌, Bool, true, false, not, ◌&&◌, ◌||◌, List, [], ◌∷◌, ◌++◌, length}
+use Rattle.std.proofs.Common.{Option, Some, None, Result, Ok, Err, refl, sym, ap, subst, arith}
 use Rattle.std.specs.Prelude.{slice_index, if◌then◌else◌}
 use Rattle.std.proofs.lemmas.Bool.Decides.{nat_tests}
 use Rattle.granit_base.specs.Classes.{is_blank, is_break, is_gap, is_printable}
 use Rattle.granit_base.specs.Place.{Mark, first}
-use Rattle.granit_error.specs.FaultKind.{InvalidIndentation, UnclosedQuotedScalar, DocumentIndicatorInQuotedScalar, TabInIndentation, InvalidQuotedScalarIndent, UnexpectedCharacter}
+use Rattle.granit_error.specs.FaultKind.{InvalidIndentation, UnclosedQuotedScalar, DocumentIndicatorInQuotedScalar}
+use Rattle.granit_error.specs.FaultKind.{TabInIndentation, InvalidQuotedScalarIndent, UnexpectedCharacter}
 use Rattle.granit_lexemes.specs.Here.{Here, next_char, mark_of, step, text_len}
 use Rattle.granit_lexemes.specs.LayoutData.{LayoutData}
 use Rattle.granit_lexemes.specs.Outcome.{Fault, ◌>>=◌}
 use Rattle.granit_lexemes.specs.Pieces.{Shortens}
 use Rattle.granit_lexemes.specs.Basics.{fails_at, past_break, is_document_mark}
-use Rattle.granit_lexemes.specs.QuotedScalar.{QuotedState, quote_char, is_closing, is_tab_left, is_strictly_left, is_loosely_left, between_quoted, quoted_at, over_blank, over_break, quoted_piece, quoted_content, quoted_turn, quoted_len, escape_or}
+use Rattle.granit_lexemes.specs.QuotedScalar.{QuotedState, quote_char, is_closing, is_tab_left, is_strictly_left}
+use Rattle.granit_lexemes.specs.QuotedScalar.{is_loosely_left, between_quoted, quoted_at, over_blank, over_break}
+use Rattle.granit_lexemes.specs.QuotedScalar.{quoted_piece, quoted_content, quoted_turn, quoted_len, escape_or}
 use Rattle.granit_lexemes.proofs.HereLemmas.{step_len}
 use Rattle.granit_scalars.proofs.PlainSpelling.{no_gap_of}
 use Rattle.granit_scalars.proofs.PlainTurns.{seen_blank}
@@ -26,12 +30,14 @@ abbrev pub strict_meets : LayoutData → QuotedState → Bool
 strict_meets at s = s.on_new_line && is_strictly_left at s.escaped s.here.place.column
 
 abbrev pub loose_meets : Bool → LayoutData → QuotedState → Bool
-loose_meets single at s = s.on_new_line && is_loosely_left at s.escaped (is_closing single s.here.unread.text) s.here.place.column
+loose_meets single at s =
+    s.on_new_line && is_loosely_left at s.escaped (is_closing single s.here.unread.text) s.here.place.column
 
 abbrev pub mark_meets : QuotedState → Bool
 mark_meets s = s.on_new_line && (s.here.place.column == 0 && is_document_mark s.here.unread.text)
 
-pub closing_is : (single : Bool) (text : List ℕ) → is_closing single text ≡ (first text == quote_char single && not (single && slice_index text 1 == 0x27))
+pub closing_is : (single : Bool) (text : List ℕ) → is_closing single text ≡ (first text == quote_char single
+    && not (single && slice_index text 1 == 0x27))
 unfolding is_closing
 closing_is single text = refl
 
@@ -43,19 +49,29 @@ pub record Placed (single : Bool) (at : LayoutData) (s : QuotedState) : Type 0 w
   pub no_mark : mark_meets s ≡ false
 
 -- each turn, with the tests that led to it
-pub data QuotedTurned (single : Bool) (at : LayoutData) (start : Mark) (s : QuotedState) : Result (Option (List ℕ) × QuotedState) Fault → Type 0 where
-  past_a_blank : is_blank (next_char s.here) ≡ true → tab_meets at s ≡ false → QuotedTurned single at start s (Ok (Some [], over_blank s))
+pub data QuotedTurned (single : Bool) (at : LayoutData) (start : Mark) (s : QuotedState) : Result (Option (List ℕ)
+    × QuotedState) Fault → Type 0 where
+  past_a_blank : is_blank (next_char s.here) ≡ true → tab_meets at s ≡ false
+      → QuotedTurned single at start s (Ok (Some [], over_blank s))
   at_a_tab : tab_meets at s ≡ true → QuotedTurned single at start s (fails_at TabInIndentation (mark_of s.here))
   past_a_break : is_break (next_char s.here) ≡ true → QuotedTurned single at start s (Ok (Some [], over_break s))
-  at_strict : is_gap (next_char s.here) ≡ false → strict_meets at s ≡ true → QuotedTurned single at start s (fails_at InvalidIndentation (mark_of s.here))
-  at_loose : is_gap (next_char s.here) ≡ false → loose_meets single at s ≡ true → QuotedTurned single at start s (fails_at InvalidQuotedScalarIndent (mark_of s.here))
-  at_a_mark : mark_meets s ≡ true → QuotedTurned single at start s (fails_at DocumentIndicatorInQuotedScalar start)
-  at_the_end : (text_len s.here == 0) ≡ true → QuotedTurned single at start s (fails_at UnclosedQuotedScalar start)
-  at_a_character : (text_len s.here == 0) ≡ false → is_printable (next_char s.here) ≡ false → QuotedTurned single at start s (fails_at (UnexpectedCharacter (next_char s.here)) (mark_of s.here))
-  at_the_quote : Placed single at s → is_closing single s.here.unread.text ≡ true → QuotedTurned single at start s (Ok (None, s))
-  in_content : Placed single at s → (text_len s.here == 0) ≡ false → is_printable (next_char s.here) ≡ true → is_closing single s.here.unread.text ≡ false → QuotedTurned single at start s (quoted_content single start s)
+  at_strict : is_gap (next_char s.here) ≡ false → strict_meets at s ≡ true
+      → QuotedTurned single at start s (fails_at InvalidIndentation (mark_of s.here))
+  at_loose : is_gap (next_char s.here) ≡ false → loose_meets single at s ≡ true
+      → QuotedTurned single at start s (fails_at InvalidQuotedScalarIndent (mark_of s.here))
+  at_a_mark : strict_meets at s ≡ false → loose_meets single at s ≡ false → mark_meets s ≡ true
+      → QuotedTurned single at start s (fails_at DocumentIndicatorInQuotedScalar start)
+  at_the_end : Placed single at s → (text_len s.here == 0) ≡ true
+      → QuotedTurned single at start s (fails_at UnclosedQuotedScalar start)
+  at_a_character : Placed single at s → (text_len s.here == 0) ≡ false → is_printable (next_char s.here) ≡ false
+      → QuotedTurned single at start s (fails_at (UnexpectedCharacter (next_char s.here)) (mark_of s.here))
+  at_the_quote : Placed single at s → is_closing single s.here.unread.text ≡ true
+      → QuotedTurned single at start s (Ok (None, s))
+  in_content : Placed single at s → (text_len s.here == 0) ≡ false → is_printable (next_char s.here) ≡ true
+      → is_closing single s.here.unread.text ≡ false → QuotedTurned single at start s (quoted_content single start s)
 
-abbrev pub turn_chain : Bool → Mark → QuotedState → (a t b d e f g p c : Bool) → Result (Option (List ℕ) × QuotedState) Fault
+abbrev pub turn_chain : Bool → Mark → QuotedState → (a t b d e f g p c : Bool)
+    → Result (Option (List ℕ) × QuotedState) Fault
 turn_chain single start s a t b d e f g p c =
     if a then (if t then fails_at TabInIndentation (mark_of s.here) else Ok (Some [], over_blank s))
     else if b then Ok (Some [], over_break s)
@@ -68,43 +84,65 @@ turn_chain single start s a t b d e f g p c =
     else quoted_content single start s
 
 turned_as : (single : Bool) (at : LayoutData) (start : Mark) (s : QuotedState) (a t b d e f g p c : Bool)
-    → is_blank (next_char s.here) ≡ a → tab_meets at s ≡ t → is_break (next_char s.here) ≡ b → strict_meets at s ≡ d → loose_meets single at s ≡ e → mark_meets s ≡ f → (text_len s.here == 0) ≡ g → is_printable (next_char s.here) ≡ p
-    → is_closing single s.here.unread.text ≡ c → QuotedTurned single at start s (turn_chain single start s a t b d e f g p c)
+    → is_blank (next_char s.here) ≡ a → tab_meets at s ≡ t → is_break (next_char s.here) ≡ b → strict_meets at s ≡ d
+    → loose_meets single at s ≡ e → mark_meets s ≡ f → (text_len s.here == 0) ≡ g → is_printable (next_char s.here) ≡ p
+    → is_closing single s.here.unread.text ≡ c
+    → QuotedTurned single at start s (turn_chain single start s a t b d e f g p c)
 turned_as single at start s true true b d e f g p c ya yt yb yd ye yf yg yp yc = at_a_tab yt
 turned_as single at start s true false b d e f g p c ya yt yb yd ye yf yg yp yc = past_a_blank ya yt
 turned_as single at start s false t true d e f g p c ya yt yb yd ye yf yg yp yc = past_a_break yb
-turned_as single at start s false t false true e f g p c ya yt yb yd ye yf yg yp yc = at_strict (no_gap_of (next_char s.here) ya yb) yd
-turned_as single at start s false t false false true f g p c ya yt yb yd ye yf yg yp yc = at_loose (no_gap_of (next_char s.here) ya yb) ye
-turned_as single at start s false t false false false true g p c ya yt yb yd ye yf yg yp yc = at_a_mark yf
-turned_as single at start s false t false false false false true p c ya yt yb yd ye yf yg yp yc = at_the_end yg
-turned_as single at start s false t false false false false false false c ya yt yb yd ye yf yg yp yc = at_a_character yg yp
+turned_as single at start s false t false true e f g p c ya yt yb yd ye yf yg yp yc =
+    at_strict (no_gap_of (next_char s.here) ya yb) yd
+turned_as single at start s false t false false true f g p c ya yt yb yd ye yf yg yp yc =
+    at_loose (no_gap_of (next_char s.here) ya yb) ye
+turned_as single at start s false t false false false true g p c ya yt yb yd ye yf yg yp yc = at_a_mark yd ye yf
+turned_as single at start s false t false false false false true p c ya yt yb yd ye yf yg yp yc =
+    at_the_end (record { no_gap = no_gap_of (next_char s.here) ya yb; no_strict = yd; no_loose = ye; no_mark = yf }) yg
+turned_as single at start s false t false false false false false false c ya yt yb yd ye yf yg yp yc =
+    at_a_character
+    (record { no_gap = no_gap_of (next_char s.here) ya yb; no_strict = yd; no_loose = ye; no_mark = yf }) yg yp
 turned_as single at start s false t false false false false false true true ya yt yb yd ye yf yg yp yc =
-    at_the_quote (record { no_gap = no_gap_of (next_char s.here) ya yb; no_strict = yd; no_loose = ye; no_mark = yf }) yc
+    at_the_quote
+    (record { no_gap = no_gap_of (next_char s.here) ya yb; no_strict = yd; no_loose = ye; no_mark = yf }) yc
 turned_as single at start s false t false false false false false true false ya yt yb yd ye yf yg yp yc =
-    in_content (record { no_gap = no_gap_of (next_char s.here) ya yb; no_strict = yd; no_loose = ye; no_mark = yf }) yg yp yc
+    in_content
+    (record { no_gap = no_gap_of (next_char s.here) ya yb; no_strict = yd; no_loose = ye; no_mark = yf }) yg yp yc
 
 pub turn_is : (single : Bool) (at : LayoutData) (start : Mark) (s : QuotedState) → quoted_turn single at start s
-    ≡ turn_chain single start s (is_blank (next_char s.here)) (tab_meets at s) (is_break (next_char s.here)) (strict_meets at s) (loose_meets single at s) (mark_meets s) (text_len s.here == 0) (is_printable (next_char s.here)) (is_closing single s.here.unread.text)
+    ≡ turn_chain single start s (is_blank (next_char s.here)) (tab_meets at s) (is_break (next_char s.here))
+    (strict_meets at s) (loose_meets single at s) (mark_meets s) (text_len s.here == 0)
+    (is_printable (next_char s.here)) (is_closing single s.here.unread.text)
 unfolding quoted_turn
 turn_is single at start s = refl
 
-pub quoted_turned : (single : Bool) (at : LayoutData) (start : Mark) (s : QuotedState) → QuotedTurned single at start s (quoted_turn single at start s)
+pub quoted_turned : (single : Bool) (at : LayoutData) (start : Mark) (s : QuotedState)
+    → QuotedTurned single at start s (quoted_turn single at start s)
 unfolding quoted_turn
 quoted_turned single at start s =
-    turned_as single at start s (is_blank (next_char s.here)) (tab_meets at s) (is_break (next_char s.here)) (strict_meets at s) (loose_meets single at s) (mark_meets s) (text_len s.here == 0) (is_printable (next_char s.here)) (is_closing single s.here.unread.text)
+    turned_as single at start s (is_blank (next_char s.here)) (tab_meets at s) (is_break (next_char s.here))
+    (strict_meets at s) (loose_meets single at s) (mark_meets s) (text_len s.here == 0)
+    (is_printable (next_char s.here)) (is_closing single s.here.unread.text)
     refl refl refl refl refl refl refl refl refl
 
 -- ---- content
 
 -- each piece of content, with the tests that led to it
-pub data ContentTurned (single : Bool) (start : Mark) (s : QuotedState) : Result (Option (List ℕ) × QuotedState) Fault → Type 0 where
-  at_a_doubled : single ≡ true → next_char s.here ≡ 0x27 → ContentTurned single start s (quoted_piece s (0x27, step (step s.here)))
-  at_itself : (single && next_char s.here == 0x27) ≡ false → (single || not (next_char s.here == 0x5C)) ≡ true → ContentTurned single start s (quoted_piece s (next_char s.here, step s.here))
-  at_escaped_break : single ≡ false → next_char s.here ≡ 0x5C → is_break (slice_index s.here.unread.text 1) ≡ true → ContentTurned single start s (Ok (Some (between_quoted s), quoted_at true (step s.here)))
-  at_an_escape : single ≡ false → next_char s.here ≡ 0x5C → is_break (slice_index s.here.unread.text 1) ≡ false → ContentTurned single start s (escape_or start (step s.here) >>= quoted_piece s)
+pub data ContentTurned (single : Bool) (start : Mark) (s : QuotedState) : Result (Option (List ℕ) × QuotedState) Fault
+    → Type 0 where
+  at_a_doubled : single ≡ true → next_char s.here ≡ 0x27
+      → ContentTurned single start s (quoted_piece s (0x27, step (step s.here)))
+  at_itself : (single && next_char s.here == 0x27) ≡ false → (single || not (next_char s.here == 0x5C)) ≡ true
+      → ContentTurned single start s (quoted_piece s (next_char s.here, step s.here))
+  at_escaped_break : single ≡ false → next_char s.here ≡ 0x5C → is_break (slice_index s.here.unread.text 1) ≡ true
+      → ContentTurned single start s (Ok (Some (between_quoted s), quoted_at true (step s.here)))
+  at_an_escape : single ≡ false → next_char s.here ≡ 0x5C → is_break (slice_index s.here.unread.text 1) ≡ false
+      → ContentTurned single start s (escape_or start (step s.here) >>= quoted_piece s)
 
-content_as : (single : Bool) (start : Mark) (s : QuotedState) (a b c : Bool) → (single && next_char s.here == 0x27) ≡ a → (single || not (next_char s.here == 0x5C)) ≡ b → is_break (slice_index s.here.unread.text 1) ≡ c
-    → ContentTurned single start s (if a then quoted_piece s (0x27, step (step s.here)) else if b then quoted_piece s (next_char s.here, step s.here) else if c then Ok (Some (between_quoted s), quoted_at true (step s.here)) else (escape_or start (step s.here) >>= quoted_piece s))
+content_as : (single : Bool) (start : Mark) (s : QuotedState) (a b c : Bool) → (single && next_char s.here == 0x27) ≡ a
+    → (single || not (next_char s.here == 0x5C)) ≡ b → is_break (slice_index s.here.unread.text 1) ≡ c
+    → ContentTurned single start s (if a then quoted_piece s (0x27, step (step s.here)) else if b then quoted_piece s
+    (next_char s.here, step s.here) else if c then Ok (Some (between_quoted s), quoted_at true (step s.here)) else
+    (escape_or start (step s.here) >>= quoted_piece s))
 content_as true start s true b c ya yb yc = at_a_doubled refl (grind (arith, nat_tests))
 content_as true start s false true c ya yb yc = at_itself ya yb
 content_as true start s false false c ya yb yc = absurd cc
@@ -113,9 +151,11 @@ content_as false start s false true c ya yb yc = at_itself ya yb
 content_as false start s false false true ya yb yc = at_escaped_break refl (grind (arith, nat_tests)) yc
 content_as false start s false false false ya yb yc = at_an_escape refl (grind (arith, nat_tests)) yc
 
-pub content_turned : (single : Bool) (start : Mark) (s : QuotedState) → ContentTurned single start s (quoted_content single start s)
+pub content_turned : (single : Bool) (start : Mark) (s : QuotedState)
+    → ContentTurned single start s (quoted_content single start s)
 unfolding quoted_content
-content_turned single start s = content_as single start s (single && next_char s.here == 0x27) (single || not (next_char s.here == 0x5C)) (is_break (slice_index s.here.unread.text 1)) refl refl refl
+content_turned single start s = content_as single start s (single && next_char s.here == 0x27) (single
+    || not (next_char s.here == 0x5C)) (is_break (slice_index s.here.unread.text 1)) refl refl refl
 
 -- ---- each turn but the last takes a character
 
@@ -141,18 +181,22 @@ abbrev Less : QuotedState → Result (Option (List ℕ) × QuotedState) Fault �
 Less s (Ok (Some piece, after)) = quoted_len after < quoted_len s
 Less s _ = Unit {0}
 
-less_to : (s after : QuotedState) (h : Here) → after.here ≡ h → text_len h < text_len s.here → quoted_len after < quoted_len s
+less_to : (s after : QuotedState) (h : Here) → after.here ≡ h → text_len h < text_len s.here
+    → quoted_len after < quoted_len s
 less_to s after h e l = subst (λ n. n < quoted_len s) (sym (ap text_len e)) l
 
-no_longer : (h : Here) (e : List ℕ) (after : Here) → h.unread.text ≡ e ++ after.unread.text → text_len after < suc (text_len h)
+no_longer : (h : Here) (e : List ℕ) (after : Here) → h.unread.text ≡ e ++ after.unread.text
+    → text_len after < suc (text_len h)
 no_longer h [] after is = let e = ap (λ (t : List ℕ). length t) is in omega arith
-no_longer h (c ∷ e) after is = let l = longer e after.unread.text in let k = ap (λ (t : List ℕ). length t) is in omega arith
+no_longer h (c ∷ e) after is =
+    let l = longer e after.unread.text in let k = ap (λ (t : List ℕ). length t) is in omega arith
   where
     longer : (e t : List ℕ) → length t < suc (length (e ++ t))
     longer [] t = omega arith
     longer (c ∷ e) t = let l = longer e t in omega arith
 
-escape_less : (s : QuotedState) (start : Mark) → Seen s.here → (r : Result (ℕ × Here) Fault) → ReadsEscape start (step s.here) r → Less s (r >>= quoted_piece s)
+escape_less : (s : QuotedState) (start : Mark) → Seen s.here → (r : Result (ℕ × Here) Fault)
+    → ReadsEscape start (step s.here) r → Less s (r >>= quoted_piece s)
 escape_less s start there (Ok (c, after)) read =
     let a = no_longer (step s.here) read.characters after read.text in
     let b = shorter s.here there in
@@ -162,23 +206,32 @@ escape_less s start there (Err f) read = tt
 step_no_longer : (h : Here) → text_len (step h) < suc (text_len h)
 step_no_longer h = omega (arith, step_len h)
 
-content_less : (single : Bool) (start : Mark) (s : QuotedState) → Seen s.here → (r : Result (Option (List ℕ) × QuotedState) Fault) → ContentTurned single start s r → Less s r
-content_less single start s there r (at_a_doubled y e) = let a = shorter s.here there in let b = step_no_longer (step s.here) in omega arith
+content_less : (single : Bool) (start : Mark) (s : QuotedState) → Seen s.here
+    → (r : Result (Option (List ℕ) × QuotedState) Fault) → ContentTurned single start s r → Less s r
+content_less single start s there r (at_a_doubled y e) =
+    let a = shorter s.here there in let b = step_no_longer (step s.here) in omega arith
 content_less single start s there r (at_itself y e) = shorter s.here there
 content_less single start s there r (at_escaped_break y e b) = shorter s.here there
-content_less single start s there r (at_an_escape y e b) = escape_less s start there (escape_or start (step s.here)) (reads_escape start (step s.here))
+content_less single start s there r (at_an_escape y e b) =
+    escape_less s start there (escape_or start (step s.here)) (reads_escape start (step s.here))
 
-less : {single : Bool} {at : LayoutData} {start : Mark} (s : QuotedState) (r : Result (Option (List ℕ) × QuotedState) Fault) → QuotedTurned single at start s r → Less s r
-less s r (past_a_blank y t) = less_to s (over_blank s) (step s.here) (blank_here s s.on_new_line refl) (shorter s.here (seen_blank s.here y))
+less : {single : Bool} {at : LayoutData} {start : Mark} (s : QuotedState) (r : Result (Option (List ℕ)
+    × QuotedState) Fault) → QuotedTurned single at start s r → Less s r
+less s r (past_a_blank y t) =
+    less_to s (over_blank s) (step s.here) (blank_here s s.on_new_line refl) (shorter s.here (seen_blank s.here y))
 less s r (at_a_tab t) = tt
-less s r (past_a_break y) = less_to s (over_break s) (past_break s.here) (break_here s s.on_new_line refl) (broken s.here y).shortens
+less s r (past_a_break y) =
+    less_to s (over_break s) (past_break s.here) (break_here s s.on_new_line refl) (broken s.here y).shortens
 less s r (at_strict n y) = tt
 less s r (at_loose n y) = tt
-less s r (at_a_mark y) = tt
-less s r (at_the_end y) = tt
-less s r (at_a_character n y) = tt
+less s r (at_a_mark n m y) = tt
+less s r (at_the_end p y) = tt
+less s r (at_a_character p n y) = tt
 less s r (at_the_quote p y) = tt
-less {single} {at} {start} s r (in_content p n y c) = content_less single start s (seen_there s.here n) (quoted_content single start s) (content_turned single start s)
+less {single} {at} {start} s r (in_content p n y c) =
+    content_less single start s (seen_there s.here n) (quoted_content single start s) (content_turned single start s)
 
-pub quoted_shortens : (single : Bool) (at : LayoutData) (start : Mark) → Shortens quoted_len (quoted_turn single at start)
-quoted_shortens single at start s after piece e = subst (Less s) e (less s (quoted_turn single at start s) (quoted_turned single at start s))
+pub quoted_shortens : (single : Bool) (at : LayoutData) (start : Mark)
+    → Shortens quoted_len (quoted_turn single at start)
+quoted_shortens single at start s after piece e =
+    subst (Less s) e (less s (quoted_turn single at start s) (quoted_turned single at start s))

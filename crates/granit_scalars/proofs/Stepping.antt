@@ -1,5 +1,6 @@
 -- How a reader moves on over characters, blanks and breaks.
-use Rattle.std.proofs.Common.{◌≡◌, ℕ, ◌+◌, ◌<◌, ◌==◌, Bool, true, false, cond, not, ◌&&◌, ◌||◌, List, [], ◌∷◌, ◌++◌, length, drop, refl, sym, ap, ap₂, ◌∙◌, arith}
+use Rattle.std.proofs.Common.{◌≡◌, ℕ, ◌+◌, ◌<◌, ◌==◌, Bool, true, false, cond, not, ◌&&◌, ◌||◌, List, [], ◌∷◌, ◌++◌}
+use Rattle.std.proofs.Common.{length, drop, refl, sym, ap, ap₂, ◌∙◌, arith}
 use Rattle.std.specs.Prelude.{slice_index, if◌then◌else◌}
 use Rattle.std.proofs.lemmas.Bool.Decides.{nat_tests}
 use Rattle.granit_base.specs.Classes.{is_break}
@@ -22,10 +23,15 @@ pub record Seen (h : Here) : Type 0 where
 
 -- a text that begins with a character
 pub seen_as : (h : Here) (c : ℕ) (t : List ℕ) → h.unread.text ≡ c ∷ t → Seen h
-seen_as h c t e = record { is = e ∙ ap₂ (λ n (l : List ℕ). n ∷ l) (sym (ap first e)) (sym (step_text h ∙ ap (drop 1) e)) }
+seen_as h c t e = record {
+  is = e ∙ ap₂ (λ n (l : List ℕ). n ∷ l) (sym (ap first e))
+      (sym (step_text h ∙ ap (drop 1) e));
+}
 
-seen_in : (text : List ℕ) (h : Here) (test : ℕ → Bool) → h.unread.text ≡ text → test 0 ≡ false → test (next_char h) ≡ true → Seen h
-seen_in [] h test e nul held = absurd (let gone : test (next_char h) ≡ test 0 = ap (λ (t : List ℕ). test (first t)) e in cc)
+seen_in : (text : List ℕ) (h : Here) (test : ℕ → Bool) → h.unread.text ≡ text → test 0 ≡ false
+    → test (next_char h) ≡ true → Seen h
+seen_in [] h test e nul held = absurd (let gone : test (next_char h)
+    ≡ test 0 = ap (λ (t : List ℕ). test (first t)) e in cc)
 seen_in (c ∷ t) h test e nul held = seen_as h c t e
 
 -- a character that passes a test that NUL doesn't pass
@@ -40,11 +46,19 @@ shorter h s = let n = there h s in grind (arith, nat_tests, step_len h)
 
 placed : (h : Here) → Seen h → (step h).place ≡ place_after h.unread.text h.place
 unfolding step
-placed h s = ap (λ b. (cond b h record { unread = past_first h.unread; place = place_after h.unread.text h.place; begins_line = begins_behind h; tab = tab_behind h }).place) (there h s)
+placed h s = ap (λ b. (cond b h record {
+  unread = past_first h.unread;
+  place = place_after h.unread.text h.place;
+  begins_line = begins_behind h;
+  tab = tab_behind h;
+}).place) (there h s)
 
-column_of : (p : Place) (text : List ℕ) (b : Bool) → ends_line text ≡ b → (place_after text p).column ≡ cond b 0 (p.column + 1)
-column_of p text true e = ap (λ b. (cond {A = Place} b record { index = p.index + 1; line = p.line + 1; column = 0 } record { index = p.index + 1; line = p.line; column = p.column + 1 }).column) e
-column_of p text false e = ap (λ b. (cond {A = Place} b record { index = p.index + 1; line = p.line + 1; column = 0 } record { index = p.index + 1; line = p.line; column = p.column + 1 }).column) e
+column_of : (p : Place) (text : List ℕ) (b : Bool) → ends_line text ≡ b
+    → (place_after text p).column ≡ cond b 0 (p.column + 1)
+column_of p text true e = ap (λ b. (cond {A = Place} b record { index = p.index + 1; line = p.line + 1; column = 0 }
+    record { index = p.index + 1; line = p.line; column = p.column + 1 }).column) e
+column_of p text false e = ap (λ b. (cond {A = Place} b record { index = p.index + 1; line = p.line + 1; column = 0 }
+    record { index = p.index + 1; line = p.line; column = p.column + 1 }).column) e
 
 -- a character that is no break takes a column
 pub column_on : (h : Here) → Seen h → is_break (next_char h) ≡ false → (step h).place.column ≡ h.place.column + 1
@@ -75,7 +89,8 @@ line_ends_as false true true e f = cc
 line_ends_as false true false e f = refl
 line_ends_as false false r e f = cc
 
-ends_line_as : (c : ℕ) (t : List ℕ) → is_break c ≡ true → (c == 0x0D && first t == 0x0A) ≡ false → ends_line (c ∷ t) ≡ true
+ends_line_as : (c : ℕ) (t : List ℕ) → is_break c ≡ true → (c == 0x0D && first t == 0x0A) ≡ false
+    → ends_line (c ∷ t) ≡ true
 unfolding is_break
 ends_line_as c t y n = line_ends_as (c == 0x0A) (c == 0x0D) (first t == 0x0A) y n
 
@@ -105,7 +120,8 @@ is_break_nul = refl
 pub second_of : (h : Here) → Seen h → slice_index h.unread.text 1 ≡ next_char (step h)
 second_of h s = ap (λ (l : List ℕ). slice_index l 1) s.is
 
-broken_if : (h : Here) → Seen h → is_break (next_char h) ≡ true → (b : Bool) → (next_char h == 0x0D && slice_index h.unread.text 1 == 0x0A) ≡ b → Broken h (if b then step (step h) else step h)
+broken_if : (h : Here) → Seen h → is_break (next_char h) ≡ true → (b : Bool)
+    → (next_char h == 0x0D && slice_index h.unread.text 1 == 0x0A) ≡ b → Broken h (if b then step (step h) else step h)
 broken_if h s y true e =
     let cr : next_char h ≡ 0x0D = grind (arith, nat_tests) in
     let second : slice_index h.unread.text 1 ≡ 0x0A = grind (arith, nat_tests) in
@@ -122,8 +138,10 @@ broken_if h s y true e =
       breaks = λ u first_is. two_break u;
     }
 broken_if h s y false e =
-    let single : (next_char h == 0x0D && next_char (step h) == 0x0A) ≡ false = ap (λ n. next_char h == 0x0D && n == 0x0A) (sym (second_of h s)) ∙ e in
-    let line : ends_line (next_char h ∷ (step h).unread.text) ≡ true = ends_line_as (next_char h) (step h).unread.text y single in
+    let single : (next_char h == 0x0D && next_char (step h) == 0x0A)
+    ≡ false = ap (λ n. next_char h == 0x0D && n == 0x0A) (sym (second_of h s)) ∙ e in
+    let line : ends_line (next_char h ∷ (step h).unread.text)
+    ≡ true = ends_line_as (next_char h) (step h).unread.text y single in
     record {
       characters = next_char h ∷ [];
       up = at_break y;
@@ -132,10 +150,12 @@ broken_if h s y false e =
       column = column_zero h s (ap ends_line s.is ∙ line);
       shortens = shorter h s;
       head = λ u. refl;
-      breaks = λ u first_is. one_break (next_char h) u (ends_line_same (next_char h) (step h).unread.text u (sym first_is) ∙ line);
+      breaks = λ u first_is. one_break (next_char h) u
+          (ends_line_same (next_char h) (step h).unread.text u (sym first_is) ∙ line);
     }
 
 -- a break is taken whole
 pub broken : (h : Here) → is_break (next_char h) ≡ true → Broken h (past_break h)
 unfolding past_break
-broken h y = broken_if h (seen is_break h is_break_nul y) y (next_char h == 0x0D && slice_index h.unread.text 1 == 0x0A) refl
+broken h y = broken_if h (seen is_break h is_break_nul y) y (next_char h == 0x0D && slice_index h.unread.text 1 == 0x0A)
+    refl

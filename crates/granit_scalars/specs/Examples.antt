@@ -1,5 +1,6 @@
 -- Words of the worked examples.
-use Rattle.std.specs.Prelude.{ℕ, Bool, true, List, take, Option, Some, None, Result, Ok, Err}
+use Rattle.std.specs.Prelude.{◌≡◌, ℕ, Bool, true, false, List, ◌++◌, take, Option, Some, None, Result, Ok, Err, codes}
+use Prim.Native.String.{String}
 use Rattle.granit_base.specs.Place.{Place, Mark}
 use Rattle.granit_base.specs.Written.{Written}
 use Rattle.granit_base.specs.declared.style.ScalarStyle.{ScalarStyle}
@@ -15,7 +16,26 @@ use Rattle.granit_lexemes.specs.Source.{Source}
 
 -- block column, in flow, strict
 abbrev pub layout : Option ℕ → Bool → Bool → LayoutData
-layout block_column in_flow strict = record { block_column = block_column; tab_column = 0; in_flow = in_flow; strict = strict; comments = true }
+layout block_column in_flow strict = record {
+  block_column = block_column;
+  tab_column = 0;
+  in_flow = in_flow;
+  strict = strict;
+  comments = true;
+}
+
+-- at the root, and in a block in column 0, and both in flow
+abbrev pub root : LayoutData
+root = layout None false false
+
+abbrev pub root_flow : LayoutData
+root_flow = layout None true false
+
+abbrev pub in_block : LayoutData
+in_block = layout (Some 0) false false
+
+abbrev pub block_flow : LayoutData
+block_flow = layout (Some 0) true false
 
 -- the plain scalar that begins at an index of a text
 abbrev pub plain_in : LayoutData → List ℕ → ℕ → Result (PlainRead × Here) Fault
@@ -33,6 +53,14 @@ token_line (Err f) = fault_line f
 abbrev pub plain_line : LayoutData → List ℕ → ℕ → List ℕ
 plain_line at text index = token_line (plain_in at text index)
 
+-- the plain scalar that begins at an index of a text has this token
+abbrev pub ReadsPlain : LayoutData → ℕ → (text line : String) → Type 0
+ReadsPlain at index text line = plain_line at (codes text) index ≡ codes line
+
+-- or it is refused with this message, at this place
+abbrev pub FailsPlain : LayoutData → ℕ → (text message place : String) → Type 0
+FailsPlain at index text message place = plain_line at (codes text) index ≡ codes message ++ codes place
+
 -- where reading stands, the index of the `#` that cut the scalar short, and whether a break was read
 pub record Behind : Type 0 where
   pub place : Place
@@ -43,12 +71,17 @@ abbrev pub index_of : Option Mark → Option ℕ
 index_of None = None
 index_of (Some m) = Some m.place.index
 
-abbrev pub behind : ℕ → ℕ → ℕ → Option ℕ → Bool → Option Behind
-behind index line column cut on_new_line = Some (record { place = record { index = index; line = line; column = column }; cut = cut; on_new_line = on_new_line })
+abbrev pub rest_behind : ℕ → ℕ → ℕ → Option ℕ → Bool → Option Behind
+rest_behind index line column cut on_new_line = Some (record {
+  place = record { index = index; line = line; column = column };
+  cut = cut;
+  on_new_line = on_new_line;
+})
 
-abbrev pub behind_of : Result (PlainRead × Here) Fault → Option Behind
-behind_of (Ok (read, after)) = Some (record { place = after.place; cut = index_of read.cut_by_comment; on_new_line = read.on_new_line })
-behind_of (Err f) = None
+abbrev pub rest_of : Result (PlainRead × Here) Fault → Option Behind
+rest_of (Ok (read, after)) =
+    Some (record { place = after.place; cut = index_of read.cut_by_comment; on_new_line = read.on_new_line })
+rest_of (Err f) = None
 
 abbrev pub behind_line : LayoutData → List ℕ → ℕ → Option Behind
-behind_line at text index = behind_of (plain_in at text index)
+behind_line at text index = rest_of (plain_in at text index)

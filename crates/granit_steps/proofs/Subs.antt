@@ -1,5 +1,6 @@
 -- Lists of numbers in another list's order, and numbers below one.
-use Rattle.std.proofs.Common.{◌≡◌, ℕ, suc, ◌<◌, ◌≤◌, ◌==◌, ◌||◌, Bool, true, false, List, [], ◌∷◌, Option, Some, None, ◌⊎◌, inl, inr, refl, ap, ◌∙◌, arith}
+use Rattle.std.proofs.Common.{◌≡◌, ℕ, suc, ◌<◌, ◌≤◌, ◌==◌, ◌||◌, Bool, true, false, List, [], ◌∷◌, Option, Some, None}
+use Rattle.std.proofs.Common.{◌⊎◌, inl, inr, refl, ap, ◌∙◌, arith}
 use Rattle.std.proofs.lemmas.Bool.Decides.{nat_tests}
 use Rattle.granit_lexemes.specs.Lexeme.{KeyStart}
 use Rattle.granit_machine.specs.Lexing.{and_key}
@@ -62,7 +63,8 @@ sub_in n (x ∷ xs) [] p e = absurd p
 sub_in n xs (y ∷ ys) (inr p) e = sub_in n xs ys p (right_false (y == n) (is_in n ys) e)
 sub_in n [] (y ∷ ys) (inl p) e = refl
 sub_in n (x ∷ xs) (y ∷ ys) (inl p) e =
-    both_false (x == n) (is_in n xs) (ap (λ k. k == n) p.0 ∙ left_false (y == n) (is_in n ys) e) (sub_in n xs ys p.1 (right_false (y == n) (is_in n ys) e))
+    both_false (x == n) (is_in n xs) (ap (λ k. k == n) p.0 ∙ left_false (y == n) (is_in n ys) e)
+    (sub_in n xs ys p.1 (right_false (y == n) (is_in n ys) e))
 
 -- ---- numbers below one
 
@@ -73,7 +75,8 @@ Below n (x ∷ xs) = (x < n) × Below n xs
 pub sub_below : (n : ℕ) (xs ys : List ℕ) → Sub xs ys → Below n ys → Below n xs
 sub_below n [] ys p q = tt
 sub_below n (x ∷ xs) [] p q = absurd p
-sub_below n (x ∷ xs) (y ∷ ys) (inl p) q = let e = p.0 in let less = q.0 in (omega (arith, e, less), sub_below n xs ys p.1 q.1)
+sub_below n (x ∷ xs) (y ∷ ys) (inl p) q = let e = p.0 in let less =
+    q.0 in (omega (arith, e, less), sub_below n xs ys p.1 q.1)
 sub_below n (x ∷ xs) (y ∷ ys) (inr p) q = sub_below n (x ∷ xs) ys p q.1
 
 pub below_suc : (n : ℕ) (xs : List ℕ) → Below n xs → Below (suc n) xs
@@ -82,7 +85,8 @@ below_suc n (x ∷ xs) p = let less = p.0 in (omega (arith, less), below_suc n x
 
 pub below_not : (n m : ℕ) (xs : List ℕ) → n ≤ m → Below n xs → is_in m xs ≡ false
 below_not n m [] h p = refl
-below_not n m (x ∷ xs) h p = let less = p.0 in let e : (x == m) ≡ false = grind (arith, nat_tests) in both_false (x == m) (is_in m xs) e (below_not n m xs h p.1)
+below_not n m (x ∷ xs) h p = let less = p.0 in let e : (x == m)
+    ≡ false = grind (arith, nat_tests) in both_false (x == m) (is_in m xs) e (below_not n m xs h p.1)
 
 pub sub_key : (k : Option KeyStart) (xs ys : List ℕ) → Sub xs ys → Sub (and_key k xs) (and_key k ys)
 sub_key None xs ys p = p

@@ -1,6 +1,8 @@
 -- Well-formed events: a stream of documents, each with one node, whose collections close in order.
 use Rattle.std.specs.Prelude.{◌≡◌, List, [], ◌∷◌, ◌++◌, Option, Some, None}
-use Rattle.granit_lexemes.specs.PlainEvent.{PlainEvent, EventKind, StreamStart, StreamEnd, DocumentStart, DocumentEnd, Alias, UnresolvedAlias, Anchor, Comment, Scalar, SequenceStart, SequenceEnd, MappingStart, MappingEnd}
+use Rattle.granit_lexemes.specs.PlainEvent.{PlainEvent, EventKind, StreamStart, StreamEnd, DocumentStart, DocumentEnd}
+use Rattle.granit_lexemes.specs.PlainEvent.{Alias, UnresolvedAlias, Anchor, Comment, Scalar, SequenceStart, SequenceEnd}
+use Rattle.granit_lexemes.specs.PlainEvent.{MappingStart, MappingEnd}
 
 -- what is open: a stream, a document before or behind its node, a collection
 pub data Level : Type 0 where

@@ -3,14 +3,17 @@ use Rattle.std.specs.Prelude.{ℕ, List, [], ◌++◌, codes, Result, Ok, Err}
 use Rattle.std.specs.List.{flat_map}
 use Rattle.granit_error.specs.OptionsData.{default_options}
 use Rattle.granit_lexemes.specs.Here.{start_of}
-use Rattle.granit_lexemes.specs.Lexeme.{DirectiveKind, Version, TagPrefix, Reserved, LexemeKind, Directive, DocumentStart, DocumentEnd, StreamEnd, Open, Close, Comma, Dash, Question, Colon, Alias, Anchor, Tag, Scalar}
+use Rattle.granit_lexemes.specs.Lexeme.{DirectiveKind, Version, TagPrefix, Reserved, LexemeKind, Directive}
+use Rattle.granit_lexemes.specs.Lexeme.{DocumentStart, DocumentEnd, StreamEnd, Open, Close, Comma, Dash, Question}
+use Rattle.granit_lexemes.specs.Lexeme.{Colon, Alias, Anchor, Tag, Scalar}
 use Rattle.granit_lexemes.specs.declared.layout.Bracket.TheVariants.{Square, Curly}
 use Rattle.granit_lexemes.specs.Outcome.{Fault}
 use Rattle.granit_lexemes.specs.Source.{Source}
 use Rattle.granit_machine.specs.Items.{span_words}
 use Rattle.granit_machine.specs.NodeEnds.{empty_span}
 use Rattle.granit_machine.specs.Reader.{LexState}
-use Rattle.granit_steps.specs.Tokens.{Insertion, BlockEnd, BlockMappingStart, BlockSequenceStart, KeySign, PairStart, PairEnd, ScanToken, Inserted, Own, Noted, own_span, text_tokens}
+use Rattle.granit_steps.specs.Tokens.{Insertion, BlockEnd, BlockMappingStart, BlockSequenceStart, KeySign, PairStart}
+use Rattle.granit_steps.specs.Tokens.{PairEnd, ScanToken, Inserted, Own, Noted, own_span, text_tokens}
 
 abbrev pub insertion_name : Insertion → List ℕ
 insertion_name BlockEnd = codes "BlockEnd"

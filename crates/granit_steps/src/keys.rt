@@ -11,12 +11,14 @@ ghost use Rattle.granit_steps.specs.Told.{FlagsOf};
 
 /// Once no key can begin with a lexeme, none ever can again.
 pub fn no_key_is_possible_again()
-    ensures { (o : OptionsData) (s t : ReaderState) (items : List Item) (n : ℕ) → read o s ≡ Ok (items, t) → n < s.laid.number → is_possible n s.laid ≡ false → is_possible n t.laid ≡ false }
+    ensures { (o : OptionsData) (s t : ReaderState) (items : List Item) (n : ℕ) → read o s ≡ Ok (items, t)
+        → n < s.laid.number → is_possible n s.laid ≡ false → is_possible n t.laid ≡ false }
 {}
 
 /// No key is possible before its first lexeme is read.
 pub fn no_key_is_possible_yet()
-    ensures { (o : OptionsData) (s t : ReaderState) (items : List Item) (n : ℕ) → read o s ≡ Ok (items, t) → t.laid.number ≤ n → is_possible n s.laid ≡ false → is_possible n t.laid ≡ false }
+    ensures { (o : OptionsData) (s t : ReaderState) (items : List Item) (n : ℕ) → read o s ≡ Ok (items, t)
+        → t.laid.number ≤ n → is_possible n s.laid ≡ false → is_possible n t.laid ≡ false }
 {}
 
 /// Keys nest: the flags that a stack gives are those that the numbers give.

@@ -15,15 +15,18 @@ pub fn every_turn_leaves_less()
 
 /// The calls come to an end: they give the events that are told, and then nothing more or the fault.
 pub fn the_steps_give_all()
-    ensures { (o : OptionsData) (text : List ℕ) → GivesEvents o (steps_start text) (told_of o text).0 (told_of o text).1 }
+    ensures { (o : OptionsData) (text : List ℕ)
+        → GivesEvents o (steps_start text) (told_of o text).0 (told_of o text).1 }
 {}
 
 /// Whatever they give is what is told.
 pub fn nothing_else_is_given()
-    ensures { (o : OptionsData) (text : List ℕ) (es : List PlainEvent) (f : Option Fault) → GivesEvents o (steps_start text) es f → told_of o text ≡ (es, f) }
+    ensures { (o : OptionsData) (text : List ℕ) (es : List PlainEvent) (f : Option Fault)
+        → GivesEvents o (steps_start text) es f → told_of o text ≡ (es, f) }
 {}
 
 /// The events that they give are the run's, and so is their fault.
 pub fn steps_give_the_run()
-    ensures { (o : OptionsData) (text : List ℕ) (es : List PlainEvent) (f : Option Fault) → GivesEvents o (steps_start text) es f → run o text ≡ answer (es, f) f }
+    ensures { (o : OptionsData) (text : List ℕ) (es : List PlainEvent) (f : Option Fault)
+        → GivesEvents o (steps_start text) es f → run o text ≡ answer (es, f) f }
 {}

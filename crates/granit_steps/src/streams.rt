@@ -7,7 +7,8 @@ ghost use Rattle.granit_machine.specs.Machine.{run};
 ghost use Rattle.granit_steps.specs.Levels.{BeginsStream, IsStream};
 ghost use Rattle.granit_steps.specs.Told.{told_of};
 
-/// The events of a run are a whole stream: StreamStart first, StreamEnd last, one node a document, collections closed in order.
+/// The events of a run are a whole stream: StreamStart first, StreamEnd last, one node a document, collections closed
+/// in order.
 pub fn a_run_is_a_stream()
     ensures { (o : OptionsData) (text : List ℕ) (es : List PlainEvent) → run o text ≡ Ok es → IsStream es }
 {}

@@ -16,4 +16,5 @@ returns-in_ok-from_str-in-Ok c =
 
 pub returns-in-Err : goal.returns-in-Err
 unfolding chars
-returns-in-Err c = c.new-in-Err-2.ensures ∙ ap text_of c.new-in-Err.ensures.bytes ∙ sym (word_of_other_bytes _ c.in-Err.ensures.cases.0)
+returns-in-Err c = c.new-in-Err-2.ensures ∙ ap text_of c.new-in-Err.ensures.bytes
+    ∙ sym (word_of_other_bytes _ c.in-Err.ensures.cases.0)

@@ -18,7 +18,10 @@ returns-clause-here g c = λ h k n e.
     let read = c.in_ok-past_lines.ensures.here h k in
     let text = string_chars c.past_lines.new.lines.value in
     let s = block_state c.past_lines.new.lines read.0 in
-    let whole = text_read c.args.frame.literal c.args.column n h begun _ (cleared c.new.result c.new.ensures.bytes) (ap (starting h) e) read.2 in
+    let whole = text_read c.args.frame.literal c.args.column n h begun _ (cleared c.new.result c.new.ensures.bytes)
+    (ap (starting h) e) read.2 in
     let shown = c.mark-shown.ensures.here h k in
-    let same = column_shown c.args.frame.literal chomping c.args.column n h text s whole ∙ ap (λ (m : Mark). behind_block chomping m.place.column m text s) (sym shown) in
-    subst (λ (r : Result (BlockRead × Here) Fault). GivesTo content_data c.end_text.result (Stands g.T.Input.unread c.end_text.new.cursor) r) (sym same) (c.end_text.ensures.here read.0 read.1)
+    let same = column_shown c.args.frame.literal chomping c.args.column n h text s whole
+    ∙ ap (λ (m : Mark). behind_block chomping m.place.column m text s) (sym shown) in
+    subst (λ (r : Result (BlockRead × Here) Fault). GivesTo content_data c.end_text.result
+    (Stands g.T.Input.unread c.end_text.new.cursor) r) (sym same) (c.end_text.ensures.here read.0 read.1)

@@ -16,7 +16,8 @@ returns-then-peek-ne35-clause-here g c = λ h k.
     let run = c.skip_while_blank-blanks.ensures.here h k in
     let n = c.skip_while_blank-blanks.result in
     let now = past is_blank h in
-    let stands = subst (λ (i : Here). Stands g.T.Input.unread c.skip_while_blank-blanks.new.self i) (run_lands is_blank n h run.0) run.1 in
+    let stands = subst (λ (i : Here). Stands g.T.Input.unread c.skip_while_blank-blanks.new.self i)
+    (run_lands is_blank n h run.0) run.1 in
     let looked = c.look.ensures.here now stands in
     let seen : c.peek.result ≡ next_char now = c.peek.ensures.value now.unread (rw c.input.ensures looked.0) in
     let y : (next_char now == 0x23) ≡ false = grind (arith, nat_tests, seen, c.if-peek-ne35.true) in
@@ -28,7 +29,8 @@ returns-then-blanks-eq0-clause-here g c = λ h k.
     let run = c.skip_while_blank-blanks.ensures.here h k in
     let n = c.skip_while_blank-blanks.result in
     let now = past is_blank h in
-    let stands = subst (λ (i : Here). Stands g.T.Input.unread c.skip_while_blank-blanks.new.self i) (run_lands is_blank n h run.0) run.1 in
+    let stands = subst (λ (i : Here). Stands g.T.Input.unread c.skip_while_blank-blanks.new.self i)
+    (run_lands is_blank n h run.0) run.1 in
     let looked = c.look.ensures.here now stands in
     let seen : c.peek.result ≡ next_char now = c.peek.ensures.value now.unread (rw c.input.ensures looked.0) in
     let y : (next_char now == 0x23) ≡ true = grind (arith, nat_tests, seen, c.if-peek-ne35.false) in
@@ -41,9 +43,12 @@ returns-clause-here g c = λ h k.
     let run = c.skip_while_blank-blanks.ensures.here h k in
     let n = c.skip_while_blank-blanks.result in
     let now = past is_blank h in
-    let stands = subst (λ (i : Here). Stands g.T.Input.unread c.skip_while_blank-blanks.new.self i) (run_lands is_blank n h run.0) run.1 in
+    let stands = subst (λ (i : Here). Stands g.T.Input.unread c.skip_while_blank-blanks.new.self i)
+    (run_lands is_blank n h run.0) run.1 in
     let looked = c.look.ensures.here now stands in
     let seen : c.peek.result ≡ next_char now = c.peek.ensures.value now.unread (rw c.input.ensures looked.0) in
     let y : (next_char now == 0x23) ≡ true = grind (arith, nat_tests, seen, c.if-peek-ne35.false) in
     let e : (n == 0) ≡ false = grind (arith, nat_tests, c.if-blanks-eq0.false) in
-    subst (λ (r : Result (Option Token × Here) Fault). GivesTo (λ t. t) c.read_note.result (Stands g.T.Input.unread c.read_note.new.cursor) r) (sym (note_stands at n h run.0 y e)) (c.read_note.ensures.here now looked)
+    subst (λ (r : Result (Option Token × Here) Fault). GivesTo (λ t. t) c.read_note.result
+    (Stands g.T.Input.unread c.read_note.new.cursor) r) (sym (note_stands at n h run.0 y e))
+    (c.read_note.ensures.here now looked)

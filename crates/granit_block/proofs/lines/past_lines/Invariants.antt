@@ -7,7 +7,8 @@ use Rattle.granit_block.proofs.lines.past_lines.Given as goal
 abbrev pub invariant-lines : goal.invariant-lines
 invariant-lines g l = record {
   told : (h : Here) → Stands g.T.Input.unread l.fn.cursor h
-      → (now : Here) × Stands g.T.Input.unread l.cursor now × (block_whole l.literal l.column l.lines now ≡ block_whole l.literal l.column l.fn.lines h);
+      → (now : Here) × Stands g.T.Input.unread l.cursor now
+      × (block_whole l.literal l.column l.lines now ≡ block_whole l.literal l.column l.fn.lines h);
   moves : Moves g.T.Input.left g.T.Input.origin l.fn.cursor l.cursor;
 }
 

@@ -13,11 +13,17 @@ spaces-preserved g c =
     record {
       told = λ h k.
           let told = c.spaces.invariant.told h k in
-          let seen : c.peek.result ≡ next_char told.0 = c.peek.ensures.value told.0.unread (rw c.input.ensures told.1.0) in
+          let seen : c.peek.result ≡ next_char told.0 = c.peek.ensures.value told.0.unread
+          (rw c.input.ensures told.1.0) in
           let y : next_char told.0 ≡ 0x20 = grind (arith, nat_tests, seen, c.if-peek-eq32.true) in
-          let col : c.col.result ≡ told.0.place.column = c.col.ensures ∙ ap (λ (m : Mark). m.place.column) (c.mark.ensures.here told.0 told.1) in
-          let left : told.0.place.column < c.args.column = omega (arith, col, c.spaces-test.true) in
-          (step told.0, c.look-in-spaces.ensures.here (step told.0) (c.step.ensures.here told.0 told.1), indent_goes c.args.column told.0 left y ∙ told.2);
+          let col : c.col.result ≡ told.0.place.column = c.col.ensures
+          ∙ ap (λ (m : Mark). m.place.column) (c.mark.ensures.here told.0 told.1) in
+          let left : told.0.place.column < c.args.column = omega (arith, col, c.spaces-test.true) in (
+            step told.0,
+            c.look-in-spaces.ensures.here (step told.0) (c.step.ensures.here told.0 told.1),
+            indent_goes
+                c.args.column told.0 left y ∙ told.2,
+          );
       window = omega (arith, c.look-in-spaces.ensures.window);
       moves = (
         omega (arith, kept.0, c.step.ensures.moves.0, c.look-in-spaces.ensures.moves.0),
@@ -30,11 +36,14 @@ returns-else-peek-eq32-clause-here g c = λ h k.
     let told = c.spaces.invariant.told h k in
     let seen : c.peek.result ≡ next_char told.0 = c.peek.ensures.value told.0.unread (rw c.input.ensures told.1.0) in
     let n : (next_char told.0 == 0x20) ≡ false = grind (arith, nat_tests, seen, c.if-peek-eq32.false) in
-    subst (λ (now : Here). Stands g.T.Input.unread c.spaces.cursor now) (sym (indent_ends c.args.column told.0 n) ∙ told.2) told.1
+    subst (λ (now : Here). Stands g.T.Input.unread c.spaces.cursor now)
+    (sym (indent_ends c.args.column told.0 n) ∙ told.2) told.1
 
 pub returns-after-spaces-clause-here : goal.returns-after-spaces-clause-here
 returns-after-spaces-clause-here g c = λ h k.
     let told = c.spaces.invariant.told h k in
-    let col : c.col.result ≡ told.0.place.column = c.col.ensures ∙ ap (λ (m : Mark). m.place.column) (c.mark.ensures.here told.0 told.1) in
+    let col : c.col.result ≡ told.0.place.column = c.col.ensures
+    ∙ ap (λ (m : Mark). m.place.column) (c.mark.ensures.here told.0 told.1) in
     let right : c.args.column ≤ told.0.place.column = omega (arith, col, c.spaces-test.false) in
-    subst (λ (now : Here). Stands g.T.Input.unread c.spaces.cursor now) (sym (indent_stops c.args.column told.0 right) ∙ told.2) told.1
+    subst (λ (now : Here). Stands g.T.Input.unread c.spaces.cursor now)
+    (sym (indent_stops c.args.column told.0 right) ∙ told.2) told.1

@@ -8,7 +8,8 @@ use Rattle.granit_block.proofs.spaces.past_empty_lines.Given as goal
 abbrev pub invariant-lines : goal.invariant-lines
 invariant-lines g l = record {
   told : (h : Here) → Stands g.T.Input.unread l.fn.cursor h
-      → (now : Here) × Stands g.T.Input.unread l.cursor now × (empty_whole l.column (string_chars l.empty) now ≡ empty_whole l.column (string_chars l.fn.empty) h);
+      → (now : Here) × Stands g.T.Input.unread l.cursor now
+      × (empty_whole l.column (string_chars l.empty) now ≡ empty_whole l.column (string_chars l.fn.empty) h);
   moves : Moves g.T.Input.left g.T.Input.origin l.fn.cursor l.cursor;
 }
 

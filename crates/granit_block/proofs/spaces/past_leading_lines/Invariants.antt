@@ -7,7 +7,8 @@ use Rattle.granit_block.proofs.spaces.past_leading_lines.Given as goal
 abbrev pub invariant-lines : goal.invariant-lines
 invariant-lines g l = record {
   told : (h : Here) → Stands g.T.Input.unread l.fn.cursor h
-      → (now : Here) × Stands g.T.Input.unread l.cursor now × LeadingSo (string_chars l.fn.empty) (string_chars l.empty) l.widest h now;
+      → (now : Here) × Stands g.T.Input.unread l.cursor now
+      × LeadingSo (string_chars l.fn.empty) (string_chars l.empty) l.widest h now;
   moves : Moves g.T.Input.left g.T.Input.origin l.fn.cursor l.cursor;
 }
 

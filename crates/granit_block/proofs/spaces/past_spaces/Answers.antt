@@ -12,9 +12,14 @@ spaces-preserved g c =
     record {
       told = λ h k.
           let told = c.spaces.invariant.told h k in
-          let seen : c.peek.result ≡ next_char told.0 = c.peek.ensures.value told.0.unread (rw c.input.ensures told.1.0) in
-          let y : next_char told.0 ≡ 0x20 = grind (arith, nat_tests, seen, c.spaces-test.true) in
-          (step told.0, c.look-in-spaces.ensures.here (step told.0) (c.step.ensures.here told.0 told.1), over_space told.0 y ∙ told.2);
+          let seen : c.peek.result ≡ next_char told.0 = c.peek.ensures.value told.0.unread
+          (rw c.input.ensures told.1.0) in
+          let y : next_char told.0 ≡ 0x20 = grind (arith, nat_tests, seen, c.spaces-test.true) in (
+            step told.0,
+            c.look-in-spaces.ensures.here (step told.0) (c.step.ensures.here told.0 told.1),
+            over_space
+                told.0 y ∙ told.2,
+          );
       window = omega (arith, c.look-in-spaces.ensures.window);
       moves = (
         omega (arith, kept.0, c.step.ensures.moves.0, c.look-in-spaces.ensures.moves.0),

@@ -6,7 +6,8 @@ use Rattle.granit_block.proofs.spaces.past_spaces.Given as goal
 
 abbrev pub invariant-spaces : goal.invariant-spaces
 invariant-spaces g l = record {
-  told : (h : Here) → Stands g.T.Input.unread l.fn.cursor h → (now : Here) × Stands g.T.Input.unread l.cursor now × (past is_space now ≡ past is_space h);
+  told : (h : Here) → Stands g.T.Input.unread l.fn.cursor h
+      → (now : Here) × Stands g.T.Input.unread l.cursor now × (past is_space now ≡ past is_space h);
   window : 1 ≤ g.T.Input.window l.cursor.input;
   moves : Moves g.T.Input.left g.T.Input.origin l.fn.cursor l.cursor;
 }

@@ -13,7 +13,8 @@ returns-then-not-is_break-clause-here g c = λ h k.
     let now = indented column h in
     let looked = c.look.ensures.here now (c.indent.ensures.here h k) in
     let seen : c.peek.result ≡ next_char now = c.peek.ensures.value now.unread (rw c.input.ensures looked.0) in
-    let none : is_break (next_char now) ≡ false = ap is_break (sym seen) ∙ sym c.is_break.ensures ∙ c.if-not-is_break.true in
+    let none : is_break (next_char now) ≡ false = ap is_break (sym seen) ∙ sym c.is_break.ensures
+    ∙ c.if-not-is_break.true in
     (now, looked, empty_done column (string_chars c.args.empty.now) h none)
 
 pub returns-clause-here : goal.returns-clause-here
@@ -22,5 +23,10 @@ returns-clause-here g c = λ h k.
     let now = indented column h in
     let looked = c.look.ensures.here now (c.indent.ensures.here h k) in
     let seen : c.peek.result ≡ next_char now = c.peek.ensures.value now.unread (rw c.input.ensures looked.0) in
-    let some : is_break (next_char now) ≡ true = ap is_break (sym seen) ∙ sym c.is_break.ensures ∙ c.if-not-is_break.false in
-    (past_break now, c.past_break.ensures.here now looked, empty_more column (string_chars c.args.empty.now) (string_chars c.push_char.new.out) h some c.in_ok-push_char.ensures.appended)
+    let some : is_break (next_char now) ≡ true = ap is_break (sym seen) ∙ sym c.is_break.ensures
+    ∙ c.if-not-is_break.false in (
+      past_break now,
+      c.past_break.ensures.here now looked,
+      empty_more column (string_chars c.args.empty.now)
+          (string_chars c.push_char.new.out) h some c.in_ok-push_char.ensures.appended,
+    )

@@ -12,7 +12,8 @@ returns-then-not-is_break-clause-here g c = λ h k.
     let now = past is_space h in
     let looked = c.look.ensures.here now (c.past_spaces.ensures.here h k) in
     let seen : c.peek.result ≡ next_char now = c.peek.ensures.value now.unread (rw c.input.ensures looked.0) in
-    let none : is_break (next_char now) ≡ false = ap is_break (sym seen) ∙ sym c.is_break.ensures ∙ c.if-not-is_break.true in
+    let none : is_break (next_char now) ≡ false = ap is_break (sym seen) ∙ sym c.is_break.ensures
+    ∙ c.if-not-is_break.true in
     (now, looked, no_leading_line h none, refl)
 
 pub returns-clause-here : goal.returns-clause-here
@@ -20,8 +21,10 @@ returns-clause-here g c = λ h k.
     let now = past is_space h in
     let looked = c.look.ensures.here now (c.past_spaces.ensures.here h k) in
     let seen : c.peek.result ≡ next_char now = c.peek.ensures.value now.unread (rw c.input.ensures looked.0) in
-    let some : is_break (next_char now) ≡ true = ap is_break (sym seen) ∙ sym c.is_break.ensures ∙ c.if-not-is_break.false in
-    let width : c.col-width.result ≡ now.place.column = c.col-width.ensures ∙ ap (λ (m : Mark). m.place.column) (c.mark.ensures.here now looked) in (
+    let some : is_break (next_char now) ≡ true = ap is_break (sym seen) ∙ sym c.is_break.ensures
+    ∙ c.if-not-is_break.false in
+    let width : c.col-width.result ≡ now.place.column = c.col-width.ensures
+    ∙ ap (λ (m : Mark). m.place.column) (c.mark.ensures.here now looked) in (
       past_break now,
       c.past_break.ensures.here now looked,
       leading_line h some ∙ ap (λ (w : ℕ). Ok (Some (w ∷ []), past_break now)) (sym width),

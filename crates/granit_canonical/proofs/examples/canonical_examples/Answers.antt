@@ -2,7 +2,8 @@
 use Rattle.std.proofs.Common.{refl}
 use lib.Utf8.{encode}
 use Rattle.std.specs.Fmt.{digits}
-use Rattle.granit_base.specs.Classes.{is_word_char, is_digit, is_anchor_char, is_yaml_non_space, is_yaml_non_break, is_printable, is_break, is_blank, is_flow, is_bom}
+use Rattle.granit_base.specs.Classes.{is_word_char, is_digit, is_anchor_char, is_yaml_non_space, is_yaml_non_break}
+use Rattle.granit_base.specs.Classes.{is_printable, is_break, is_blank, is_flow, is_bom}
 use Rattle.granit_model.specs.FlowText.{upper_digit, tag_byte, quoted_character}
 use Rattle.granit_lexemes.specs.Line.{event_line, quoted_char}
 use Rattle.granit_model.proofs.FittingLemmas.{told_documents}
@@ -53,6 +54,9 @@ pub returns-clause-can_be_met : goal.returns-clause-can_be_met
 unfolding is_anchor_char is_yaml_non_space is_yaml_non_break is_printable is_break is_blank is_flow is_bom
 returns-clause-can_be_met c = (
   told_documents names_tree refl,
-  ((tt, ((tt, refl), ((((tt, refl), ((refl, refl), refl)), refl), ((tt, refl), (tt, refl, ((refl, tt), tt)))))), ((tt, refl), (((tt, ((tt, refl), refl)), refl), refl))),
+  (
+    (tt, ((tt, refl), ((((tt, refl), ((refl, refl), refl)), refl), ((tt, refl), (tt, refl, ((refl, tt), tt)))))),
+    ((tt, refl), (((tt, ((tt, refl), refl)), refl), refl)),
+  ),
   refl,
 )

@@ -9,4 +9,5 @@ use Rattle.granit_cursor.proofs.moves.past_blanks.Goals as goal
 pub returns-clause-here : goal.returns-clause-here
 returns-clause-here g c = λ h k.
     let taken = c.skip_while_blank.ensures.here h k in
-    subst (λ (now : Here). Stands g.T.Input.unread c.skip_while_blank.new.self now) (ap (λ (n : ℕ). steps n h) taken.0 ∙ steps_past is_blank h) taken.1
+    subst (λ (now : Here). Stands g.T.Input.unread c.skip_while_blank.new.self now)
+    (ap (λ (n : ℕ). steps n h) taken.0 ∙ steps_past is_blank h) taken.1

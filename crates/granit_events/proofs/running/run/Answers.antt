@@ -1,7 +1,8 @@
 use Rattle.std.proofs.Common.{ap}
 use Rattle.granit_events.specs.Ran.{end_of}
 use Rattle.granit_events.specs.declared.status.Status.TheVariants as status
-use Rattle.granit_events.proofs.UnderstoodLemmas.{reading_where, fault_where, calls_for_done, wanted_or_memory, refused_run, canonical_run}
+use Rattle.granit_events.proofs.UnderstoodLemmas.{reading_where, fault_where, calls_for_done, wanted_or_memory}
+use Rattle.granit_events.proofs.UnderstoodLemmas.{refused_run, canonical_run}
 use Rattle.granit_events.proofs.running.run.Goals as goal
 
 pub returns-clause-ran : goal.returns-clause-ran

@@ -3,4 +3,5 @@ use Rattle.granit_events.proofs.running.run_once.Goals as goal
 
 pub returns-in-Ok-respond-clause-exactly : goal.returns-in-Ok-respond-clause-exactly
 returns-in-Ok-respond-clause-exactly g c =
-    λ bytes wanted told called. exactly_yields _ bytes _ _ _ _ _ wanted (whole_ended _ _ _ _ _ _ _ c.in-Ok.ensures.took c.in-Ok-respond.ensures.whole) told called
+    λ bytes wanted told called. exactly_yields _ bytes _ _ _ _ _ wanted
+    (whole_ended _ _ _ _ _ _ _ c.in-Ok.ensures.took c.in-Ok-respond.ensures.whole) told called

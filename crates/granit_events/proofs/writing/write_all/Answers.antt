@@ -10,11 +10,13 @@ pieces-preserved g c =
     let bound = rw take_rest at c.in_ok-done.ensures.bound in
     record {
       within = omega (arith, bound, length-drop c.pieces.done bytes);
-      wrote = rw (take-add c.pieces.done c.in_ok-done.field-0 bytes) (appends_both _ _ _ _ _ c.pieces.invariant.wrote (rw take_rest at c.in_ok-done.ensures.bytes));
+      wrote = rw (take-add c.pieces.done c.in_ok-done.field-0 bytes)
+          (appends_both _ _ _ _ _ c.pieces.invariant.wrote (rw take_rest at c.in_ok-done.ensures.bytes));
       same = c.in_ok-done.ensures.same ∙ c.pieces.invariant.same;
     }
 
 pub returns-in_err-done-clause-front : goal.returns-in_err-done-clause-front
 returns-in_err-done-clause-front g c =
-    let w = wrote_part _ _ _ c.pieces.done c.args.bytes.now c.pieces-test.true c.pieces.invariant.wrote c.in_err-done.ensures.bytes in
+    let w = wrote_part _ _ _ c.pieces.done c.args.bytes.now c.pieces-test.true c.pieces.invariant.wrote
+    c.in_err-done.ensures.bytes in
     search rules

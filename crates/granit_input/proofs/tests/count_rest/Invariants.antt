@@ -5,7 +5,8 @@ use Rattle.granit_input.proofs.tests.count_rest.Given as goal
 
 abbrev pub invariant-rest : goal.invariant-rest
 invariant-rest g l = record {
-  told : (u : Unread) → g.T.Input.unread l.fn.input u → g.T.Input.unread l.input (past l.count u) × (l.count ≤ length u.text);
+  told : (u : Unread) → g.T.Input.unread l.fn.input u
+      → g.T.Input.unread l.input (past l.count u) × (l.count ≤ length u.text);
   left : g.T.Input.left l.input + l.count ≤ g.T.Input.left l.fn.input;
 }
 

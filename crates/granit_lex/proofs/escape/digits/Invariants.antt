@@ -8,7 +8,9 @@ use Rattle.granit_lex.proofs.escape.digits.Given as goal
 abbrev pub invariant-digits : goal.invariant-digits
 invariant-digits g l = record {
   told : (h : Here) → Stands g.T.Input.unread l.fn.cursor h
-      → (now : Here) × Stands g.T.Input.unread l.cursor now × (digits_or (hex_refusal l.second) l.start (l.count - l.i) l.number now ≡ digits_or (hex_refusal l.second) l.start l.count 0 h);
+      → (now : Here) × Stands g.T.Input.unread l.cursor now
+      × (digits_or (hex_refusal l.second) l.start (l.count - l.i) l.number now
+      ≡ digits_or (hex_refusal l.second) l.start l.count 0 h);
   fits : l.number < 16 ^ l.i;
   moves : Moves g.T.Input.left g.T.Input.origin l.fn.cursor l.cursor;
 }

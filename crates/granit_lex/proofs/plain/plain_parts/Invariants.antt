@@ -9,7 +9,8 @@ use Rattle.granit_lex.proofs.plain.plain_parts.Given as goal
 abbrev pub invariant-turns : goal.invariant-turns
 invariant-turns g l = record {
   told : (h : Here) → Stands g.T.Input.unread l.fn.cursor h → l.start ≡ mark_of h
-      → (now : Here) × Stands g.T.Input.unread l.cursor now × (plain_whole (layout_data l.at) l.start l.parts now ≡ plain_rest (layout_data l.at) l.start (plain_start h));
+      → (now : Here) × Stands g.T.Input.unread l.cursor now
+      × (plain_whole (layout_data l.at) l.start l.parts now ≡ plain_rest (layout_data l.at) l.start (plain_start h));
   moves : Moves g.T.Input.left g.T.Input.origin l.fn.cursor l.cursor;
 }
 

@@ -12,23 +12,40 @@ use Rattle.granit_lex.proofs.plain.take_turn.Goals as goal
 pub returns-in_ok-take_blank-in-Blank-clause-here : goal.returns-in_ok-take_blank-in-Blank-clause-here
 returns-in_ok-take_blank-in-Blank-clause-here g c = λ h k.
     let looked = c.look_ahead.ensures.here h k in
-    let is : ahead_of (layout_data c.args.at.now) (plain_state c.args.parts.now h) ≡ Blank = sym looked.1 ∙ c.in-Blank.is in
-    let taken = c.in_ok-take_blank-in-Blank.ensures.here h looked.0 in
-    (step h, taken.0, gap_goes (layout_data c.args.at.now) c.args.start c.args.parts.now c.take_blank.new.parts h (step h) Blank is (ap (λ (s : PlainState). Ok (Some [], s)) (sym taken.1)) c.in_ok-take_blank-in-Blank.ensures.value)
+    let is : ahead_of (layout_data c.args.at.now) (plain_state c.args.parts.now h) ≡ Blank = sym looked.1
+    ∙ c.in-Blank.is in
+    let taken = c.in_ok-take_blank-in-Blank.ensures.here h looked.0 in (
+      step h,
+      taken.0,
+      gap_goes (layout_data c.args.at.now) c.args.start c.args.parts.now c.take_blank.new.parts h
+          (step h) Blank is (ap (λ (s : PlainState). Ok (Some [], s)) (sym taken.1))
+          c.in_ok-take_blank-in-Blank.ensures.value,
+    )
 
 pub returns-in_ok-take_break-in-Break-clause-here : goal.returns-in_ok-take_break-in-Break-clause-here
 returns-in_ok-take_break-in-Break-clause-here g c = λ h k.
     let looked = c.look_ahead.ensures.here h k in
-    let is : ahead_of (layout_data c.args.at.now) (plain_state c.args.parts.now h) ≡ Break = sym looked.1 ∙ c.in-Break.is in
-    let taken = c.in_ok-take_break-in-Break.ensures.here h looked.0 in
-    (past_break h, taken.0, gap_goes (layout_data c.args.at.now) c.args.start c.args.parts.now c.take_break.new.parts h (past_break h) Break is (ap (λ (s : PlainState). Ok (Some [], s)) (sym taken.1)) c.in_ok-take_break-in-Break.ensures.value)
+    let is : ahead_of (layout_data c.args.at.now) (plain_state c.args.parts.now h) ≡ Break = sym looked.1
+    ∙ c.in-Break.is in
+    let taken = c.in_ok-take_break-in-Break.ensures.here h looked.0 in (
+      past_break h,
+      taken.0,
+      gap_goes (layout_data c.args.at.now) c.args.start c.args.parts.now c.take_break.new.parts h
+          (past_break h) Break is (ap (λ (s : PlainState). Ok (Some [], s)) (sym taken.1))
+          c.in_ok-take_break-in-Break.ensures.value,
+    )
 
 pub returns-in_ok-take_content-in-Content-clause-here : goal.returns-in_ok-take_content-in-Content-clause-here
 returns-in_ok-take_content-in-Content-clause-here g c = λ h k.
     let looked = c.look_ahead.ensures.here h k in
-    let is : ahead_of (layout_data c.args.at.now) (plain_state c.args.parts.now h) ≡ Content = sym looked.1 ∙ c.in-Content.is in
-    let taken = c.in_ok-take_content-in-Content.ensures.here h looked.0 in
-    (steps taken.0 (step h), taken.2, content_goes (layout_data c.args.at.now) c.args.start c.args.parts.now c.take_content.new.parts h taken.0 is taken.1 taken.3 taken.4)
+    let is : ahead_of (layout_data c.args.at.now) (plain_state c.args.parts.now h) ≡ Content = sym looked.1
+    ∙ c.in-Content.is in
+    let taken = c.in_ok-take_content-in-Content.ensures.here h looked.0 in (
+      steps taken.0 (step h),
+      taken.2,
+      content_goes (layout_data c.args.at.now) c.args.start c.args.parts.now
+          c.take_content.new.parts h taken.0 is taken.1 taken.3 taken.4,
+    )
 
 pub returns-in-Tab-clause-here : goal.returns-in-Tab-clause-here
 returns-in-Tab-clause-here g c = λ h k.

@@ -10,8 +10,17 @@ use Rattle.granit_lex.proofs.quoted.quoted_parts.Goals as goal
 pub turns-init : goal.turns-init
 turns-init g c = record {
   told = λ h k.
-      let parts : QuotedTaken = record { value = string_chars c.new.result; pending = string_chars c.new-2.result; on_new_line = false; escaped = false } in
-      let none = cleared c.new-2.result c.new-2.ensures.bytes in
-      (h, k, quoted_begins c.args.single (layout_data c.args.at.now) c.args.start parts h (cleared c.new.result c.new.ensures.bytes) (rw none refl));
+      let parts : QuotedTaken = record {
+        value = string_chars c.new.result;
+        pending = string_chars c.new-2.result;
+        on_new_line = false;
+        escaped = false;
+      } in
+      let none = cleared c.new-2.result c.new-2.ensures.bytes in (
+        h,
+        k,
+        quoted_begins c.args.single (layout_data c.args.at.now) c.args.start parts h
+            (cleared c.new.result c.new.ensures.bytes) (rw none refl),
+      );
   moves = (omega arith, goes_nowhere _);
 }

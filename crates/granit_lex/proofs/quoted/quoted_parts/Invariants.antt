@@ -9,7 +9,9 @@ use Rattle.granit_lex.proofs.quoted.quoted_parts.Given as goal
 abbrev pub invariant-turns : goal.invariant-turns
 invariant-turns g l = record {
   told : (h : Here) → Stands g.T.Input.unread l.fn.cursor h
-      → (now : Here) × Stands g.T.Input.unread l.cursor now × (quoted_whole l.single (layout_data l.at) l.start l.parts now ≡ quoted_rest l.single (layout_data l.at) l.start (quoted_at false h));
+      → (now : Here) × Stands g.T.Input.unread l.cursor now
+      × (quoted_whole l.single (layout_data l.at) l.start l.parts now
+      ≡ quoted_rest l.single (layout_data l.at) l.start (quoted_at false h));
   moves : Moves g.T.Input.left g.T.Input.origin l.fn.cursor l.cursor;
 }
 

@@ -1,8 +1,12 @@
 use Rattle.std.proofs.Common.{take}
+use Rattle.granit_model.specs.Characters.{HasCharacters}
 use Rattle.granit_model.specs.Tree.{NoTrees}
 use Rattle.granit_model.specs.FlowText.{Appends, documents_text}
 use Rattle.granit_model.specs.TreeView.{with_trees}
 use Rattle.granit_model.proofs.writing.flow_text.Given as goal
 
 abbrev pub invariant-loop-root : goal.invariant-loop-root
-invariant-loop-root l = Appends l.initial.out l.out (documents_text (with_trees NoTrees (take l.root-index l.root-items)))
+invariant-loop-root l = record {
+  written : Appends l.initial.out l.out (documents_text (with_trees NoTrees (take l.root-index l.root-items)));
+  characters : HasCharacters (with_trees NoTrees (take l.root-index l.root-items));
+}

@@ -12,8 +12,9 @@ loop-c-preserved c =
     ∙ ap (λ (cs : List ℕ). string_chars c.args.out.now ++ cs) (sym (quoted_push c.loop-c.yielded c.in-Some.c rest))
 
 -- every character was gone over
-pub returns : goal.returns
-returns c =
-    let chars_yielded = YieldsList-end (YieldsList-from_chars c.args.text.now c.utf8.text cc) c.loop-c.yielded _ c.loop-c.yielded_by _ _ c.in-None.is c.next.ensures.steps in
+pub returns-clause-written : goal.returns-clause-written
+returns-clause-written c =
+    let chars_yielded = YieldsList-end (YieldsList-from_chars c.args.text.now c.utf8.text cc) c.loop-c.yielded _
+    c.loop-c.yielded_by _ _ c.in-None.is c.next.ensures.steps in
     let all = as_they_are c.loop-c.yielded ∙ chars_yielded.0 in
     λ rest. c.loop-c.invariant rest ∙ ap (λ (cs : List ℕ). string_chars c.args.out.now ++ quoted_characters cs rest) all

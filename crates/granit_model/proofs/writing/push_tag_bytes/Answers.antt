@@ -14,8 +14,9 @@ loop-b-preserved c =
     ∙ ap (λ (cs : List ℕ). string_chars c.args.out.now ++ cs) (sym (tag_more bytes i rest c.loop-b-test.true))
 
 -- the bytes are those that the characters are written with
-pub returns : goal.returns
-returns c =
+pub returns-clause-written : goal.returns-clause-written
+returns-clause-written c =
     let bytes = c.as_bytes-b-items.result.now in
-    let all = take_all c.loop-b.b-index bytes c.loop-b-test.false ∙ c.as_bytes-b-items.ensures.value ∙ sym (encodes-chars c.args.tag.now c.utf8.tag) in
+    let all = take_all c.loop-b.b-index bytes c.loop-b-test.false ∙ c.as_bytes-b-items.ensures.value
+    ∙ sym (encodes-chars c.args.tag.now c.utf8.tag) in
     λ rest. c.loop-b.invariant rest ∙ ap (λ (bs : List ℕ). string_chars c.args.out.now ++ tag_bytes bs rest) all

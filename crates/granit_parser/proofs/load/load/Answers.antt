@@ -13,5 +13,7 @@ pub returns-in_err-finish : goal.returns-in_err-finish
 returns-in_err-finish c =
     let p = err_from_is_err_and c.from_residual-in_err-finish.result c.from_residual-in_err-finish.ensures.1 in
     let o = options_of c.args.options.now in
-    let failed = subst (λ (s : MachineState). Fails c.in_err-finish.field-0.0 (pieces size (turn o) s)) c.new-parser.ensures c.in_err-finish.ensures in
-    rw (p.1, p.2) (fails_then c.in_err-finish.field-0.0 (pieces size (turn o) (machine_start (start_of (chars c.args.text.now)))) _ failed)
+    let failed = subst (λ (s : MachineState). Fails c.in_err-finish.field-0.0 (pieces size (turn o) s))
+    c.new-parser.ensures c.in_err-finish.ensures in
+    rw (p.1, p.2) (fails_then c.in_err-finish.field-0.0
+    (pieces size (turn o) (machine_start (start_of (chars c.args.text.now)))) _ failed)

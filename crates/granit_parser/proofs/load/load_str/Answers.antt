@@ -1,26 +1,34 @@
 use Rattle.std.specs.Str.{chars}
 use Rattle.granit_error.specs.OptionsView.{options_of}
 use Rattle.granit_event.specs.Events.{plain_events}
-use Rattle.granit_parser.proofs.LoadLemmas.{reading_of, spans_of, answered_of, deeper_of, cause_of, refused_of, canonical_of}
+use Rattle.granit_parser.proofs.LoadLemmas.{reading_of, spans_of, answered_of, deeper_of, cause_of, refused_of}
+use Rattle.granit_parser.proofs.LoadLemmas.{canonical_of}
 use Rattle.granit_parser.proofs.load.load_str.Goals as goal
 
 pub returns-clause-reading : goal.returns-clause-reading
-returns-clause-reading c = reading_of plain_events (options_of c.args.options) (chars c.args.text.now) c.load.result c.load.ensures
+returns-clause-reading c = reading_of plain_events (options_of c.args.options) (chars c.args.text.now) c.load.result
+    c.load.ensures
 
 pub returns-clause-spans : goal.returns-clause-spans
-returns-clause-spans c = spans_of plain_events (options_of c.args.options) (chars c.args.text.now) c.load.result c.load.ensures
+returns-clause-spans c = spans_of plain_events (options_of c.args.options) (chars c.args.text.now) c.load.result
+    c.load.ensures
 
 pub returns-clause-answered : goal.returns-clause-answered
-returns-clause-answered c = answered_of plain_events (options_of c.args.options) (chars c.args.text.now) c.load.result c.load.ensures
+returns-clause-answered c = answered_of plain_events (options_of c.args.options) (chars c.args.text.now) c.load.result
+    c.load.ensures
 
 pub returns-clause-deeper : goal.returns-clause-deeper
-returns-clause-deeper c = deeper_of plain_events (options_of c.args.options) (chars c.args.text.now) c.load.result c.load.ensures
+returns-clause-deeper c = deeper_of plain_events (options_of c.args.options) (chars c.args.text.now) c.load.result
+    c.load.ensures
 
 pub returns-clause-cause : goal.returns-clause-cause
-returns-clause-cause c = cause_of plain_events (options_of c.args.options) (chars c.args.text.now) c.load.result c.load.ensures
+returns-clause-cause c = cause_of plain_events (options_of c.args.options) (chars c.args.text.now) c.load.result
+    c.load.ensures
 
 pub returns-clause-refused : goal.returns-clause-refused
-returns-clause-refused c = refused_of plain_events (options_of c.args.options) (chars c.args.text.now) c.load.result c.load.ensures
+returns-clause-refused c = refused_of plain_events (options_of c.args.options) (chars c.args.text.now) c.load.result
+    c.load.ensures
 
 pub returns-clause-canonical : goal.returns-clause-canonical
-returns-clause-canonical c = canonical_of plain_events (options_of c.args.options) (chars c.args.text.now) c.load.result c.load.ensures
+returns-clause-canonical c = canonical_of plain_events (options_of c.args.options) (chars c.args.text.now) c.load.result
+    c.load.ensures

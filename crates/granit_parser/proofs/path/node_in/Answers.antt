@@ -11,6 +11,9 @@ use Rattle.granit_parser.proofs.path.node_in.Goals as goal
 pub returns : goal.returns
 returns c =
     subst
-    (λ (fs : Path). Pushed c.node.result (parser_view c.node.new.path) (plain_events c.args.events.now.items) (plain_events c.node.new.events.items) (node (options_of c.args.options.now) c.args.path.now.anchors fs (kind_view c.args.lexeme.kind) (lexeme_view c.args.lexeme)))
+    (λ (fs : Path). Pushed c.node.result (parser_view c.node.new.path) (plain_events c.args.events.now.items)
+    (plain_events c.node.new.events.items)
+    (node (options_of c.args.options.now) c.args.path.now.anchors fs (kind_view c.args.lexeme.kind)
+    (lexeme_view c.args.lexeme)))
     (frame_pushed c.args.frame c.args.path.now.frames.items c.push.new.self.items c.in_ok-push.ensures.items)
     c.node.ensures

@@ -13,14 +13,18 @@ is_sign false = refl
 
 pub returns-clause-name : goal.returns-clause-name
 returns-clause-name g c = λ h k.
-    placed_answers (name_token c.args.alias) name_at h (Stands g.T.Input.unread c.read_name.new.cursor) c.read_name.result AnswersName
-    (λ name after e. name_stands h name after (ap is_name_sign (c.requires h k) ∙ is_sign c.args.alias) e) (c.read_name.ensures.here h k)
+    placed_answers (name_token c.args.alias) name_at h (Stands g.T.Input.unread c.read_name.new.cursor)
+    c.read_name.result AnswersName
+    (λ name after e. name_stands h name after (ap is_name_sign (c.requires h k) ∙ is_sign c.args.alias) e)
+    (c.read_name.ensures.here h k)
 
 pub returns-clause-cause : goal.returns-clause-cause
 returns-clause-cause g c = λ h k.
-    placed_cause (name_token c.args.alias) name_at h (Stands g.T.Input.unread c.read_name.new.cursor) c.read_name.result (RefusesName h)
+    placed_cause (name_token c.args.alias) name_at h (Stands g.T.Input.unread c.read_name.new.cursor) c.read_name.result
+    (RefusesName h)
     (λ f e. name_refused h f (ap is_name_sign (c.requires h k) ∙ is_sign c.args.alias) e) (c.read_name.ensures.here h k)
 
 pub returns-clause-answered : goal.returns-clause-answered
 returns-clause-answered g c = λ h name after k a.
-    placed_memory (name_token c.args.alias) name_at h (Stands g.T.Input.unread c.read_name.new.cursor) c.read_name.result name after (name_is h name after a) (c.read_name.ensures.here h k)
+    placed_memory (name_token c.args.alias) name_at h (Stands g.T.Input.unread c.read_name.new.cursor)
+    c.read_name.result name after (name_is h name after a) (c.read_name.ensures.here h k)

@@ -8,5 +8,6 @@ pub returns-in_ok-push_text-in-Ok-clause-spells : goal.returns-in_ok-push_text-i
 returns-in_ok-push_text-in-Ok-clause-spells c =
     let cases = c.in-Ok.ensures.cases in (
       text_is c.args.parts.now.bytes.items (subst IsUtf8 c.as_slice.ensures.value cases.1),
-      c.in_ok-push_text-in-Ok.ensures.appended ∙ ap (λ (b : List ℕ). string_chars c.args.parts.now.value ++ chars b) (cases.0 ∙ c.as_slice.ensures.value),
+      c.in_ok-push_text-in-Ok.ensures.appended
+          ∙ ap (λ (b : List ℕ). string_chars c.args.parts.now.value ++ chars b) (cases.0 ∙ c.as_slice.ensures.value),
     )

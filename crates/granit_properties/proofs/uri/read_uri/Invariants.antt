@@ -11,7 +11,8 @@ abbrev pub invariant-turns : goal.invariant-turns
 invariant-turns g l = record {
   told : (h : Here) → Stands g.T.Input.unread l.fn.cursor h
       → (now : Here) × Stands g.T.Input.unread l.cursor now
-      × (uri_whole l.uri l.start l.limit l.parts now ≡ with_front (string_chars l.fn.value) (decoded (uri_test l.uri) l.start (budget_of l.limit l.fn.left) h));
+      × (uri_whole l.uri l.start l.limit l.parts now
+      ≡ with_front (string_chars l.fn.value) (decoded (uri_test l.uri) l.start (budget_of l.limit l.fn.left) h));
   moves : Moves g.T.Input.left g.T.Input.origin l.fn.cursor l.cursor;
 }
 

@@ -11,14 +11,20 @@ pub returns-in_err-byte-clause-here : goal.returns-in_err-byte-clause-here
 returns-in_err-byte-clause-here g c = λ h k.
     let told = c.bytes.invariant.told h k in
     let p = err_from_is_err_and c.from_residual.result c.from_residual.ensures.1 in
-    rw (p.1, p.2, ← told.2) (byte_fails c.args.start c.args.count c.bytes.i c.bytes.parts.bytes.items (uri_at told.0 (budget_of c.args.limit c.bytes.parts.left)) c.in_err-byte.field-0.0 (omega (arith, c.bytes-test.true)) (c.in_err-byte.ensures.here told.0 told.1))
+    rw (p.1, p.2, ← told.2) (byte_fails c.args.start c.args.count c.bytes.i c.bytes.parts.bytes.items
+    (uri_at told.0 (budget_of c.args.limit c.bytes.parts.left)) c.in_err-byte.field-0.0
+    (omega (arith, c.bytes-test.true)) (c.in_err-byte.ensures.here told.0 told.1))
 
 pub returns-then-not-is_trailing-clause-here : goal.returns-then-not-is_trailing-clause-here
 returns-then-not-is_trailing-clause-here g c = λ h k.
     let told = c.bytes.invariant.told h k in
     let read = c.in_ok-byte.ensures.here told.0 told.1 in
-    let without : is_within 0x80 0xBF c.in_ok-byte.byte ≡ false = sym c.is_trailing.ensures ∙ c.if-not-is_trailing.true in
-    λ other. rw (c.from_kind.ensures, ← told.2) (byte_wrong c.args.start c.args.count c.bytes.i c.in_ok-byte.byte c.bytes.parts.bytes.items (uri_at told.0 (budget_of c.args.limit c.bytes.parts.left)) read.0 (omega (arith, c.bytes-test.true)) read.2 without)
+    let without : is_within 0x80 0xBF c.in_ok-byte.byte ≡ false = sym c.is_trailing.ensures
+    ∙ c.if-not-is_trailing.true in
+    λ other. rw (c.from_kind.ensures, ← told.2)
+    (byte_wrong c.args.start c.args.count c.bytes.i c.in_ok-byte.byte c.bytes.parts.bytes.items
+    (uri_at told.0 (budget_of c.args.limit c.bytes.parts.left)) read.0 (omega (arith, c.bytes-test.true)) read.2
+    without)
 
 pub bytes-preserved : goal.bytes-preserved
 bytes-preserved g c =
@@ -27,11 +33,15 @@ bytes-preserved g c =
       told = λ h k.
           let told = c.bytes.invariant.told h k in
           let read = c.in_ok-byte.ensures.here told.0 told.1 in
-          let within : is_within 0x80 0xBF c.in_ok-byte.byte ≡ true = sym c.is_trailing.ensures ∙ c.if-not-is_trailing.false in
-          let on = byte_on c.args.start c.args.count c.bytes.i c.in_ok-byte.byte c.bytes.parts.bytes.items (uri_at told.0 (budget_of c.args.limit c.bytes.parts.left)) read.0 (omega (arith, c.bytes-test.true)) read.2 within in (
+          let within : is_within 0x80 0xBF c.in_ok-byte.byte ≡ true = sym c.is_trailing.ensures
+          ∙ c.if-not-is_trailing.false in
+          let on = byte_on c.args.start c.args.count c.bytes.i c.in_ok-byte.byte c.bytes.parts.bytes.items
+          (uri_at told.0 (budget_of c.args.limit c.bytes.parts.left)) read.0 (omega (arith, c.bytes-test.true))
+          read.2 within in (
             read.0.here,
             read.1.0,
-            rw c.in_ok-push.ensures.items (ap (trailing_bytes c.args.start (c.args.count - (c.bytes.i + 1)) _) (sym (state_is read.0 (budget_of c.args.limit c.escaped_byte.new.left) read.1.1)) ∙ on) ∙ told.2,
+            rw c.in_ok-push.ensures.items (ap (trailing_bytes c.args.start (c.args.count - (c.bytes.i + 1)) _)
+                (sym (state_is read.0 (budget_of c.args.limit c.escaped_byte.new.left) read.1.1)) ∙ on) ∙ told.2,
           );
       value = c.bytes.invariant.value;
       moves = (omega (arith, kept.0, c.in_ok-byte.ensures.moves.0), goes_on _ _ _ kept.1 c.in_ok-byte.ensures.moves.1);
@@ -39,5 +49,9 @@ bytes-preserved g c =
 
 pub returns-clause-here : goal.returns-clause-here
 returns-clause-here g c = λ h k.
-    let told = c.bytes.invariant.told h k in
-    (told.0, told.1, sym told.2 ∙ bytes_end c.args.start c.args.count c.bytes.i c.bytes.parts.bytes.items (uri_at told.0 (budget_of c.args.limit c.bytes.parts.left)) (omega (arith, c.bytes-test.false)))
+    let told = c.bytes.invariant.told h k in (
+      told.0,
+      told.1,
+      sym told.2 ∙ bytes_end c.args.start c.args.count c.bytes.i c.bytes.parts.bytes.items
+          (uri_at told.0 (budget_of c.args.limit c.bytes.parts.left)) (omega (arith, c.bytes-test.false)),
+    )

@@ -10,7 +10,8 @@ abbrev pub invariant-bytes : goal.invariant-bytes
 invariant-bytes g l = record {
   told : (h : Here) → Stands g.T.Input.unread l.fn.cursor h
       → (now : Here) × Stands g.T.Input.unread l.cursor now
-      × (trailing_bytes l.start (l.count - l.i) l.parts.bytes.items (uri_at now (budget_of l.limit l.parts.left)) ≡ trailing_bytes l.start l.count l.fn.parts.bytes.items (uri_at h (budget_of l.limit l.fn.parts.left)));
+      × (trailing_bytes l.start (l.count - l.i) l.parts.bytes.items (uri_at now (budget_of l.limit l.parts.left))
+      ≡ trailing_bytes l.start l.count l.fn.parts.bytes.items (uri_at h (budget_of l.limit l.fn.parts.left)));
   value : string_chars l.parts.value ≡ string_chars l.fn.parts.value;
   moves : Moves g.T.Input.left g.T.Input.origin l.fn.cursor l.cursor;
 }

@@ -11,33 +11,41 @@ use Rattle.granit_lexemes.specs.PlainScalar.{on_content, on_blank, on_break, pla
 use Rattle.granit_scalars.proofs.examples.folds_of_quoted_lines.Goals as goal
 
 pub returns-clause-one_break : goal.returns-clause-one_break
-unfolding is_printable is_break is_blank is_breakz is_blank_or_breakz is_flow is_z step past_break on_content on_blank on_break plain_turn behind_plain plain_scalar pieces turns event_line quoted_char digits encode
+unfolding is_printable is_break is_blank is_breakz is_blank_or_breakz is_flow is_z step past_break on_content on_blank
+    on_break plain_turn behind_plain plain_scalar pieces turns event_line quoted_char digits encode
 returns-clause-one_break c = refl
 
 pub returns-clause-two_breaks : goal.returns-clause-two_breaks
-unfolding is_printable is_break is_blank is_breakz is_blank_or_breakz is_flow is_z step past_break on_content on_blank on_break plain_turn behind_plain plain_scalar pieces turns event_line quoted_char digits encode
+unfolding is_printable is_break is_blank is_breakz is_blank_or_breakz is_flow is_z step past_break on_content on_blank
+    on_break plain_turn behind_plain plain_scalar pieces turns event_line quoted_char digits encode
 returns-clause-two_breaks c = refl
 
 pub returns-clause-empty_last : goal.returns-clause-empty_last
-unfolding is_printable is_break is_blank is_breakz is_blank_or_breakz is_flow is_z step past_break on_content on_blank on_break plain_turn behind_plain plain_scalar pieces turns event_line quoted_char digits encode
+unfolding is_printable is_break is_blank is_breakz is_blank_or_breakz is_flow is_z step past_break on_content on_blank
+    on_break plain_turn behind_plain plain_scalar pieces turns event_line quoted_char digits encode
 returns-clause-empty_last c = refl
 
 pub returns-clause-empty_first : goal.returns-clause-empty_first
-unfolding is_printable is_break is_blank is_breakz is_blank_or_breakz is_flow is_z step past_break on_content on_blank on_break plain_turn behind_plain plain_scalar pieces turns event_line quoted_char digits encode
+unfolding is_printable is_break is_blank is_breakz is_blank_or_breakz is_flow is_z step past_break on_content on_blank
+    on_break plain_turn behind_plain plain_scalar pieces turns event_line quoted_char digits encode
 returns-clause-empty_first c = refl
 
 pub returns-clause-outer_blanks : goal.returns-clause-outer_blanks
-unfolding is_printable is_break is_blank is_breakz is_blank_or_breakz is_flow is_z step past_break on_content on_blank on_break plain_turn behind_plain plain_scalar pieces turns event_line quoted_char digits encode
+unfolding is_printable is_break is_blank is_breakz is_blank_or_breakz is_flow is_z step past_break on_content on_blank
+    on_break plain_turn behind_plain plain_scalar pieces turns event_line quoted_char digits encode
 returns-clause-outer_blanks c = refl
 
 pub returns-clause-blanks_alone : goal.returns-clause-blanks_alone
-unfolding is_printable is_break is_blank is_breakz is_blank_or_breakz is_flow is_z step past_break on_content on_blank on_break plain_turn behind_plain plain_scalar pieces turns event_line quoted_char digits encode
+unfolding is_printable is_break is_blank is_breakz is_blank_or_breakz is_flow is_z step past_break on_content on_blank
+    on_break plain_turn behind_plain plain_scalar pieces turns event_line quoted_char digits encode
 returns-clause-blanks_alone c = refl
 
 pub returns-clause-mixed : goal.returns-clause-mixed
-unfolding is_printable is_break is_blank is_breakz is_blank_or_breakz is_flow is_z step past_break on_content on_blank on_break plain_turn behind_plain plain_scalar pieces turns event_line quoted_char digits encode
+unfolding is_printable is_break is_blank is_breakz is_blank_or_breakz is_flow is_z step past_break on_content on_blank
+    on_break plain_turn behind_plain plain_scalar pieces turns event_line quoted_char digits encode
 returns-clause-mixed c = refl
 
 pub returns-clause-one_line : goal.returns-clause-one_line
-unfolding is_printable is_break is_blank is_breakz is_blank_or_breakz is_flow is_z step past_break on_content on_blank on_break plain_turn behind_plain plain_scalar pieces turns event_line quoted_char digits encode
+unfolding is_printable is_break is_blank is_breakz is_blank_or_breakz is_flow is_z step past_break on_content on_blank
+    on_break plain_turn behind_plain plain_scalar pieces turns event_line quoted_char digits encode
 returns-clause-one_line c = refl

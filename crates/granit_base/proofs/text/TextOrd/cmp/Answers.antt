@@ -8,6 +8,7 @@ pub returns : goal.returns
 returns c =
     let compared = cmp_from_yields_List (λ x y. y ≡ x) _ nat_cmp _ c.cmp.ensures.ran
     (YieldsList-from_chars c.as_str.result.now c.as_str.utf8 c.chars.ensures.rest)
-    (λ it e. YieldsList-from_chars c.as_str-2.result.now c.as_str-2.utf8 (ap (λ k. k.rest.now) e ∙ c.chars-2.ensures.rest))
+    (λ it e. YieldsList-from_chars c.as_str-2.result.now c.as_str-2.utf8
+    (ap (λ k. k.rest.now) e ∙ c.chars-2.ensures.rest))
     (λ x y. refl) in
     rw (← c.as_str.ensures, ← c.as_str-2.ensures) compared

@@ -6,5 +6,11 @@ use Rattle.granit_cursor.proofs.cursor.Cursor.fetch_block_scalar_line.Goals as g
 pub returns-clause-here : goal.returns-clause-here
 returns-clause-here g c = λ h k.
     let stood = stands_at g.T.Input.unread _ _ h c.self.view_is k in
-    let taken = c.in_ok-taken.ensures.fetches h.unread stood.0 in
-    ((taken.0, lands_inside g.T.Input.unread (starts is_non_breakz) c.in_ok-taken.taken _ _ h non_breakz_line (le_of_eq taken.0) stood taken.1 refl refl refl), taken.2)
+    let taken = c.in_ok-taken.ensures.fetches h.unread stood.0 in (
+      (
+        taken.0,
+        lands_inside g.T.Input.unread (starts is_non_breakz) c.in_ok-taken.taken _ _ h non_breakz_line
+            (le_of_eq taken.0) stood taken.1 refl refl refl,
+      ),
+      taken.2,
+    )

@@ -1,10 +1,17 @@
 use Rattle.std.proofs.Common.{refl}
-use Rattle.granit_input.specs.Runs.{is_plain_at}
+use Rattle.granit_base.specs.PlainContent.{is_content}
 use Rattle.granit_cursor.proofs.MoveLemmas.{stands_at, lands, plain_shows}
 use Rattle.granit_cursor.proofs.cursor.Cursor.fetch_plain_scalar_chunk.Goals as goal
 
 pub returns-clause-here : goal.returns-clause-here
 returns-clause-here g c = λ h k.
     let stood = stands_at g.T.Input.unread _ _ h c.self.view_is k in
-    let taken = c.in_ok-ended.ensures.fetches h.unread stood.0 in
-    ((taken.0, lands g.T.Input.unread (is_plain_at c.args.flow_level_gt_0) c.in_ok-ended.taken _ _ h (plain_shows c.args.flow_level_gt_0) taken.0.fits stood taken.1 refl c.still_begins-self-inside.ensures c.still_tab-self-inside.ensures), taken.2)
+    let taken = c.in_ok-ended.ensures.fetches h.unread stood.0 in (
+      (
+        taken.0,
+        lands g.T.Input.unread (is_content c.args.flow_level_gt_0) c.in_ok-ended.taken _ _ h
+            (plain_shows c.args.flow_level_gt_0) taken.0.fits stood taken.1 refl c.still_begins-self-inside.ensures
+            c.still_tab-self-inside.ensures,
+      ),
+      taken.2,
+    )

@@ -7,5 +7,11 @@ use Rattle.granit_cursor.proofs.cursor.Cursor.fetch_while_is_alpha.Goals as goal
 pub returns-clause-here : goal.returns-clause-here
 returns-clause-here g c = λ h k.
     let stood = stands_at g.T.Input.unread _ _ h c.self.view_is k in
-    let taken = c.in_ok-taken.ensures.fetches h.unread stood.0 in
-    ((taken.0, lands g.T.Input.unread (starts is_alpha) c.in_ok-taken.taken _ _ h alpha_shows (le_of_eq taken.0) stood taken.1 refl c.still_begins-self-inside.ensures c.still_tab-self-inside.ensures), taken.2)
+    let taken = c.in_ok-taken.ensures.fetches h.unread stood.0 in (
+      (
+        taken.0,
+        lands g.T.Input.unread (starts is_alpha) c.in_ok-taken.taken _ _ h alpha_shows (le_of_eq taken.0) stood
+            taken.1 refl c.still_begins-self-inside.ensures c.still_tab-self-inside.ensures,
+      ),
+      taken.2,
+    )

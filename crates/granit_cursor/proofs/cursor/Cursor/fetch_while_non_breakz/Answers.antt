@@ -10,5 +10,12 @@ returns-clause-here g c = λ h k.
     let taken = c.in_ok-taken.ensures.fetches h.unread stood.0 in
     let short = g.met.T.Input.short c.self.inside.input in
     let few : c.in_ok-taken.taken < 2 ^ 64 - 1 = omega (arith, c.in_ok-taken.ensures.moves.0, short) in
-    let whole : c.in_ok-taken.taken ≡ run_length (starts is_line_char) h.unread.text = front_all (starts is_line_char) h.unread.text _ _ c.in_ok-taken.taken taken.0 few in
-    ((whole, lands_inside g.T.Input.unread (starts is_line_char) c.in_ok-taken.taken _ _ h char_line taken.0.fits stood taken.1 refl refl refl), taken.2)
+    let whole : c.in_ok-taken.taken ≡ run_length (starts is_line_char) h.unread.text = front_all (starts is_line_char)
+    h.unread.text _ _ c.in_ok-taken.taken taken.0 few in (
+      (
+        whole,
+        lands_inside g.T.Input.unread (starts is_line_char) c.in_ok-taken.taken _ _ h char_line taken.0.fits stood
+            taken.1 refl refl refl,
+      ),
+      taken.2,
+    )

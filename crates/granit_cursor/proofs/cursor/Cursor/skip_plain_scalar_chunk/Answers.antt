@@ -1,10 +1,14 @@
 use Rattle.std.proofs.Common.{refl}
-use Rattle.granit_input.specs.Runs.{is_plain_at}
+use Rattle.granit_base.specs.PlainContent.{is_content}
 use Rattle.granit_cursor.proofs.MoveLemmas.{stands_at, lands, plain_shows}
 use Rattle.granit_cursor.proofs.cursor.Cursor.skip_plain_scalar_chunk.Goals as goal
 
 pub returns-clause-here : goal.returns-clause-here
 returns-clause-here g c = λ h k.
     let stood = stands_at g.T.Input.unread _ _ h c.self.view_is k in
-    let taken = c.skip_plain_scalar_chunk-ended.ensures.skips h.unread stood.0 in
-    (taken.0, lands g.T.Input.unread (is_plain_at c.args.flow_level_gt_0) c.skip_plain_scalar_chunk-ended.result.1 _ _ h (plain_shows c.args.flow_level_gt_0) taken.0.fits stood taken.1 refl c.still_begins-self-inside.ensures c.still_tab-self-inside.ensures)
+    let taken = c.skip_plain_scalar_chunk-ended.ensures.skips h.unread stood.0 in (
+      taken.0,
+      lands g.T.Input.unread (is_content c.args.flow_level_gt_0) c.skip_plain_scalar_chunk-ended.result.1 _ _ h
+          (plain_shows c.args.flow_level_gt_0) taken.0.fits stood taken.1 refl c.still_begins-self-inside.ensures
+          c.still_tab-self-inside.ensures,
+    )

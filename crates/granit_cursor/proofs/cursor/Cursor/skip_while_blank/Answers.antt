@@ -19,5 +19,8 @@ returns-clause-here g c = λ h k.
     let spaces = c.skip_spaces-spaces.ensures.here h k in
     let n = c.skip_spaces-spaces.result in
     let looked = c.look.ensures.here (steps n h) spaces.1 in
-    let rest = c.skip_from_tab.ensures.here (steps n h) looked in
-    (spaces_more n c.skip_from_tab.result h spaces.0 rest.0, subst (Stands g.T.Input.unread c.skip_from_tab.new.self) (steps_twice n c.skip_from_tab.result h) rest.1)
+    let rest = c.skip_from_tab.ensures.here (steps n h) looked in (
+      spaces_more n c.skip_from_tab.result h spaces.0 rest.0,
+      subst (Stands g.T.Input.unread c.skip_from_tab.new.self)
+          (steps_twice n c.skip_from_tab.result h) rest.1,
+    )

@@ -6,5 +6,8 @@ use Rattle.granit_cursor.proofs.cursor.Cursor.skip_while_non_breakz.Goals as goa
 pub returns-clause-here : goal.returns-clause-here
 returns-clause-here g c = λ h k.
     let stood = stands_at g.T.Input.unread _ _ h c.self.view_is k in
-    let taken = c.skip_while_non_breakz-taken.ensures.skips h.unread stood.0 in
-    (taken.0, lands_inside g.T.Input.unread (starts is_line_char) c.skip_while_non_breakz-taken.result _ _ h char_line (le_of_eq taken.0) stood taken.1 refl refl refl)
+    let taken = c.skip_while_non_breakz-taken.ensures.skips h.unread stood.0 in (
+      taken.0,
+      lands_inside g.T.Input.unread (starts is_line_char) c.skip_while_non_breakz-taken.result _ _ h char_line
+          (le_of_eq taken.0) stood taken.1 refl refl refl,
+    )

@@ -13,13 +13,17 @@ returns-in_err-slice_bytes g c = λ u k.
     let same = sym (ap (λ r. r.input) c.self.view_is) in
     let known = subst (λ input. g.T.Input.unread input u) same k in
     let here = c.in_ok-here.ensures.value u known in
-    let cut = empty_slice (g.T.Input.left c.self.inside.input) c.in_ok-here.here (g.T.Input.origin c.self.inside.input) u c.slice_bytes.result (g.met.T.Input.agrees c.self.inside.input u known) here c.slice_bytes.ensures in
-    c.from_residual-in_err-slice_bytes.ensures ∙ rw same (no_source (g.T.Input.origin c.self.inside.input) u (sym cut ∙ ap is_some c.in_err-slice_bytes.was))
+    let cut = empty_slice (g.T.Input.left c.self.inside.input) c.in_ok-here.here (g.T.Input.origin c.self.inside.input)
+    u c.slice_bytes.result (g.met.T.Input.agrees c.self.inside.input u known) here c.slice_bytes.ensures in
+    c.from_residual-in_err-slice_bytes.ensures
+    ∙ rw same (no_source (g.T.Input.origin c.self.inside.input) u (sym cut ∙ ap is_some c.in_err-slice_bytes.was))
 
 pub returns : goal.returns
 returns g c = λ u k.
     let same = sym (ap (λ r. r.input) c.self.view_is) in
     let known = subst (λ input. g.T.Input.unread input u) same k in
     let here = c.in_ok-here.ensures.value u known in
-    let cut = empty_slice (g.T.Input.left c.self.inside.input) c.in_ok-here.here (g.T.Input.origin c.self.inside.input) u c.slice_bytes.result (g.met.T.Input.agrees c.self.inside.input u known) here c.slice_bytes.ensures in
-    rw same (some_source c.in_ok-here.here (g.T.Input.origin c.self.inside.input) u c.in_ok-here.ensures.told (sym cut ∙ ap is_some c.in_ok-slice_bytes.was) here)
+    let cut = empty_slice (g.T.Input.left c.self.inside.input) c.in_ok-here.here (g.T.Input.origin c.self.inside.input)
+    u c.slice_bytes.result (g.met.T.Input.agrees c.self.inside.input u known) here c.slice_bytes.ensures in
+    rw same (some_source c.in_ok-here.here (g.T.Input.origin c.self.inside.input) u c.in_ok-here.ensures.told
+    (sym cut ∙ ap is_some c.in_ok-slice_bytes.was) here)

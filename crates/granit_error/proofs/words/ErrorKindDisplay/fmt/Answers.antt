@@ -8,5 +8,6 @@ use Rattle.granit_error.proofs.words.ErrorKindDisplay.fmt.Goals as goal
 pub returns-in-MismatchedFlowCollectionEnd-clause-writes :
     goal.returns-in-MismatchedFlowCollectionEnd-clause-writes
 returns-in-MismatchedFlowCollectionEnd-clause-writes g c = λ plain good.
-    has_written_of_eq _ _ _ _ _ (sym (ap (λ (k : ErrorKind). fault_words (kind_of k)) c.in-MismatchedFlowCollectionEnd.is))
+    has_written_of_eq _ _ _ _ _ (sym (ap (λ (k : ErrorKind). fault_words (kind_of k))
+    c.in-MismatchedFlowCollectionEnd.is))
     (c.write-in-MismatchedFlowCollectionEnd.ensures.writes plain good)

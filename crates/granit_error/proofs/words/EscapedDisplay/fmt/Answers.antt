@@ -14,5 +14,6 @@ loop-c-preserved g c = (
   rw (append_assoc, ← c.in-Some.ensures.steps.1.0) c.loop-c.invariant.0,
   λ plain.
       let before = c.loop-c.invariant.1 plain in
-      has_written_of_eq _ _ _ _ _ (one_more c.loop-c.yielded c.in-Some.c) (has_written_append _ _ _ _ _ _ before (c.in_ok-write_char.ensures.writes before.plain refl)),
+      has_written_of_eq _ _ _ _ _ (one_more c.loop-c.yielded c.in-Some.c)
+      (has_written_append _ _ _ _ _ _ before (c.in_ok-write_char.ensures.writes before.plain refl)),
 )

@@ -56,7 +56,8 @@ run-preserved g c = record {
       let go : run_test c.args.run (drop c.run.count u.text) ≡ true = cc in
       let some = passes_some (run_test c.args.run) (drop c.run.count u.text) (run_nul c.args.run) go in
       let next = c.skip.ensures.unread (past c.run.count u) look.0 in
-      let seen : c.peek.result ≡ first (drop c.run.count u.text) = c.peek.ensures.value (past c.run.count u) look.0 ∙ ap first text in (
+      let seen : c.peek.result ≡ first (drop c.run.count u.text) = c.peek.ensures.value (past c.run.count u) look.0
+      ∙ ap first text in (
         subst (g.Self.Input.unread c.skip.new.self) (past_twice c.run.count 1 u) next,
         front_more (run_test c.args.run) u.text c.run.count (run_nul c.args.run) so_far.1 go,
         appended_more _ _ _ c.run.count u.text c.peek.result c.in_ok-push_char.ensures.appended so_far.2 some seen,

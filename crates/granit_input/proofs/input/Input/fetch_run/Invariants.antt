@@ -10,7 +10,8 @@ use Rattle.granit_input.proofs.input.Input.fetch_run.Given as goal
 
 abbrev pub invariant-run : goal.invariant-run
 invariant-run g l = record {
-  told : (u : Unread) → g.Self.Input.unread l.fn.self u → g.Self.Input.unread l.self (past l.count u) × IsFront (run_test l.run) u.text l.count
+  told : (u : Unread) → g.Self.Input.unread l.fn.self u
+      → g.Self.Input.unread l.self (past l.count u) × IsFront (run_test l.run) u.text l.count
       × (string_chars l.out ≡ string_chars l.fn.out ++ take l.count u.text);
   kept : Extends (string_chars l.fn.out) (string_chars l.out);
   limit : l.count ≤ l.limit;

@@ -8,7 +8,11 @@ use Rattle.granit_input.proofs.input.Input.skip_run.Goals as goal
 
 pub run-init : goal.run-init
 run-init g c = record {
-  told = λ u k. (subst (g.Self.Input.unread c.args.self.now) (sym (past_none u)) k, front_none (run_test c.args.run) u.text);
+  told = λ u k. (
+    subst (g.Self.Input.unread c.args.self.now) (sym (past_none u)) k,
+    front_none (run_test c.args.run)
+        u.text,
+  );
   limit = omega arith;
   left = omega arith;
   window = omega arith;
@@ -30,8 +34,11 @@ run-preserved g c = record {
       let look = c.next_in.ensures.look (past c.run.count u) so_far.0 in
       let text = past_text c.run.count u in
       let go : run_test c.args.run (drop c.run.count u.text) ≡ true = cc in
-      let next = c.skip.ensures.unread (past c.run.count u) look.0 in
-      (subst (g.Self.Input.unread c.skip.new.self) (past_twice c.run.count 1 u) next, front_more (run_test c.args.run) u.text c.run.count (run_nul c.args.run) so_far.1 go);
+      let next = c.skip.ensures.unread (past c.run.count u) look.0 in (
+        subst (g.Self.Input.unread c.skip.new.self) (past_twice c.run.count 1 u) next,
+        front_more (run_test c.args.run)
+            u.text c.run.count (run_nul c.args.run) so_far.1 go,
+      );
   limit = omega arith;
   left = let some = c.next_in.ensures.some c.if-not-next_in.false in omega arith;
   window = omega arith;

@@ -8,7 +8,8 @@ use Rattle.granit_input.proofs.input.Input.skip_run.Given as goal
 
 abbrev pub invariant-run : goal.invariant-run
 invariant-run g l = record {
-  told : (u : Unread) → g.Self.Input.unread l.fn.self u → g.Self.Input.unread l.self (past l.count u) × IsFront (run_test l.run) u.text l.count;
+  told : (u : Unread) → g.Self.Input.unread l.fn.self u
+      → g.Self.Input.unread l.self (past l.count u) × IsFront (run_test l.run) u.text l.count;
   limit : l.count ≤ l.limit;
   left : g.Self.Input.left l.self + l.count ≤ g.Self.Input.left l.fn.self;
   window : g.Self.Input.window l.fn.self ≤ g.Self.Input.window l.self + l.count;

@@ -23,8 +23,11 @@ returns-then-blanks-eq0-clause-skips g c = λ u k.
     let n = c.skip_ws_to_eol_blanks-blanks.result.0 in
     let look = c.look_ch-c.ensures.look (past n u) blanks.2 in
     let seen : c.look_ch-c.result ≡ first (drop n u.text) = look.1 ∙ ap first (past_text n u) in
-    let refused = white_refused n u.text (sym seen ∙ c.if-c-ne35.false) c.if-blanks-eq0.true in
-    (rw (← blanks.0, refused) refl, subst (λ (m : ℕ). g.Self.Input.unread c.look_ch-c.new.self (past m u)) c.if-blanks-eq0.true look.0)
+    let refused = white_refused n u.text (sym seen ∙ c.if-c-ne35.false) c.if-blanks-eq0.true in (
+      rw (← blanks.0, refused) refl,
+      subst (λ (m : ℕ). g.Self.Input.unread c.look_ch-c.new.self (past m u))
+          c.if-blanks-eq0.true look.0,
+    )
 
 pub returns-clause-skips : goal.returns-clause-skips
 returns-clause-skips g c = λ u k.
@@ -38,5 +41,8 @@ returns-clause-skips g c = λ u k.
     let few : m < 2 ^ 64 - 1 = omega (arith, c.skip_run-comment.ensures.moves.0, short) in
     let whole = front_all (starts is_non_breakz) (past n u).text _ _ m comment.0 few in
     let count : m ≡ comment_length n u.text = whole ∙ ap (run_length (starts is_non_breakz)) (past_text n u) in
-    let answer = white_comment n u.text (sym seen ∙ c.if-c-ne35.false) c.if-blanks-eq0.false in
-    (rw (← blanks.0, answer, blanks.1, count) refl, subst (g.Self.Input.unread c.skip_run-comment.new.self) (past_twice n m u) comment.1)
+    let answer = white_comment n u.text (sym seen ∙ c.if-c-ne35.false) c.if-blanks-eq0.false in (
+      rw (← blanks.0, answer, blanks.1, count) refl,
+      subst (g.Self.Input.unread c.skip_run-comment.new.self)
+          (past_twice n m u) comment.1,
+    )

@@ -12,7 +12,12 @@ use Rattle.granit_input.proofs.input.Input.skip_ws_to_eol_blanks.Goals as goal
 
 pub blanks-init : goal.blanks-init
 blanks-init g c = record {
-  told = λ u k. (subst (g.Self.Input.unread c.args.self.now) (sym (past_none u)) k, front_none (starts (is_skipped c.args.skip_tabs)) u.text, c.new-found.ensures);
+  told = λ u k. (
+    subst (g.Self.Input.unread c.args.self.now) (sym (past_none u)) k,
+    front_none
+        (starts (is_skipped c.args.skip_tabs)) u.text,
+    c.new-found.ensures,
+  );
   left = omega arith;
   window = omega arith;
   origin = goes_nowhere _;
@@ -34,13 +39,17 @@ blanks-preserved g c = record {
       let text = past_text c.blanks.count u in
       let seen : c.look_ch-c.result ≡ first (drop c.blanks.count u.text) = look.1 ∙ ap first text in
       let go : is_skipped c.args.skip_tabs (first (drop c.blanks.count u.text)) ≡ true = cc in
-      let some = passes_some (starts (is_skipped c.args.skip_tabs)) (drop c.blanks.count u.text) (skipped_nul c.args.skip_tabs) go in
+      let some = passes_some (starts (is_skipped c.args.skip_tabs)) (drop c.blanks.count u.text)
+      (skipped_nul c.args.skip_tabs) go in
       let next = c.skip.ensures.unread (past c.blanks.count u) look.0 in (
         subst (g.Self.Input.unread c.skip.new.self) (past_twice c.blanks.count 1 u) next,
-        front_more (starts (is_skipped c.args.skip_tabs)) u.text c.blanks.count (skipped_nul c.args.skip_tabs) so_far.1 go,
-        c.with-found.ensures ∙ ap (λ (f : WhitespaceResult). found_more f c.look_ch-c.result) so_far.2 ∙ found_next c.blanks.count u.text c.look_ch-c.result some seen,
+        front_more (starts (is_skipped c.args.skip_tabs)) u.text c.blanks.count (skipped_nul c.args.skip_tabs) so_far.1
+            go,
+        c.with-found.ensures ∙ ap (λ (f : WhitespaceResult). found_more f c.look_ch-c.result) so_far.2
+            ∙ found_next c.blanks.count u.text c.look_ch-c.result some seen,
       );
-  left = let some = c.look_ch-c.ensures.some (skipped_some c.args.skip_tabs c.look_ch-c.result (sym c.skips.ensures ∙ c.if-not-skips.false)) in omega arith;
+  left = let some = c.look_ch-c.ensures.some (skipped_some c.args.skip_tabs c.look_ch-c.result
+      (sym c.skips.ensures ∙ c.if-not-skips.false)) in omega arith;
   window = omega arith;
   origin = goes_on _ _ _ c.blanks.invariant.origin (goes_on _ _ _ c.look_ch-c.ensures.moves.2 c.skip.ensures.moves.2);
 }

@@ -9,7 +9,8 @@ use Rattle.granit_input.proofs.input.Input.skip_ws_to_eol_blanks.Given as goal
 
 abbrev pub invariant-blanks : goal.invariant-blanks
 invariant-blanks g l = record {
-  told : (u : Unread) → g.Self.Input.unread l.fn.self u → g.Self.Input.unread l.self (past l.count u) × IsFront (starts (is_skipped l.skip_tabs)) u.text l.count
+  told : (u : Unread) → g.Self.Input.unread l.fn.self u
+      → g.Self.Input.unread l.self (past l.count u) × IsFront (starts (is_skipped l.skip_tabs)) u.text l.count
       × (l.found ≡ found_in (take l.count u.text));
   left : g.Self.Input.left l.self + l.count ≤ g.Self.Input.left l.fn.self;
   window : g.Self.Input.window l.fn.self ≤ g.Self.Input.window l.self + l.count;

@@ -10,7 +10,13 @@ returns g c =
       (
         refl,
         λ _. tt,
-        (λ u k. takes_wider c.args.single u (chars taken.result.0.now) (g.Self.Input.unread taken.follows.lender-at-none) (rested.0 u k), rested.1, rested.2, rested.3),
+        (
+          λ u k. takes_wider c.args.single u (chars taken.result.0.now)
+              (g.Self.Input.unread taken.follows.lender-at-none) (rested.0 u k),
+          rested.1,
+          rested.2,
+          rested.3,
+        ),
       ),
       record { rests = tt; count = taken.ensures.count },
     )

@@ -1,22 +1,33 @@
 use Rattle.std.specs.Char.{encode_utf8}
 use Rattle.std.specs.Str.{chars}
-use Rattle.granit_input.proofs.StringLemmas.{suffix_bytes, within_bytes, utf8_behind, read_left, end_left, first_left, nul_left}
+use Rattle.granit_input.proofs.StringLemmas.{suffix_bytes, within_bytes, utf8_behind, read_left, end_left, first_left}
+use Rattle.granit_input.proofs.StringLemmas.{nul_left}
 use Rattle.granit_input.proofs.str_input.StrInputInput.raw_read_ch.Goals as goal
 
 pub invariant_of-self-clause-suffix : goal.invariant_of-self-clause-suffix
-invariant_of-self-clause-suffix c = suffix_bytes c.args.self.now.source.now c.args.self.now.rest.now c.in-Some.rest.now (encode_utf8 c.in-Some.c) c.args.self.now.within c.args.self.now.suffix c.in-Some.ensures.bytes
+invariant_of-self-clause-suffix c = suffix_bytes c.args.self.now.source.now c.args.self.now.rest.now c.in-Some.rest.now
+    (encode_utf8 c.in-Some.c) c.args.self.now.within c.args.self.now.suffix c.in-Some.ensures.bytes
 
 pub invariant_of-self-clause-within : goal.invariant_of-self-clause-within
-invariant_of-self-clause-within c = within_bytes c.args.self.now.source.now c.args.self.now.rest.now c.in-Some.rest.now (encode_utf8 c.in-Some.c) c.args.self.now.within c.in-Some.ensures.bytes
+invariant_of-self-clause-within c = within_bytes c.args.self.now.source.now c.args.self.now.rest.now c.in-Some.rest.now
+    (encode_utf8 c.in-Some.c) c.args.self.now.within c.in-Some.ensures.bytes
 
 pub invariant_of-self-clause-utf8 : goal.invariant_of-self-clause-utf8
-invariant_of-self-clause-utf8 c = utf8_behind c.args.self.now.rest.now c.in-Some.rest.now c.in-Some.c c.args.self.now.utf8 c.in-Some.ensures.bytes
+invariant_of-self-clause-utf8 c = utf8_behind c.args.self.now.rest.now c.in-Some.rest.now c.in-Some.c
+    c.args.self.now.utf8 c.in-Some.ensures.bytes
 
 pub returns-in-Some-clause-read : goal.returns-in-Some-clause-read
 returns-in-Some-clause-read c = λ u is. (
-  read_left c.args.self.now.source.now c.args.self.now.rest.now c.in-Some.rest.now c.in-Some.c u c.args.self.now.within c.in-Some.ensures.some c.in-Some.ensures.bytes is,
-  first_left c.args.self.now.source.now c.args.self.now.rest.now c.in-Some.c (chars c.in-Some.rest.now) u c.in-Some.ensures.some is,
+  read_left c.args.self.now.source.now c.args.self.now.rest.now c.in-Some.rest.now c.in-Some.c u c.args.self.now.within
+      c.in-Some.ensures.some c.in-Some.ensures.bytes is,
+  first_left c.args.self.now.source.now c.args.self.now.rest.now c.in-Some.c (chars c.in-Some.rest.now) u
+      c.in-Some.ensures.some is,
 )
 
 pub returns-in-None-clause-read : goal.returns-in-None-clause-read
-returns-in-None-clause-read c = λ u is. (end_left c.args.self.now.source.now c.args.self.now.rest.now 1 u c.args.self.now.within c.in-None.ensures.none is, nul_left c.args.self.now.source.now c.args.self.now.rest.now u c.in-None.ensures.none is)
+returns-in-None-clause-read c = λ u is. (
+  end_left c.args.self.now.source.now c.args.self.now.rest.now 1 u
+      c.args.self.now.within c.in-None.ensures.none is,
+  nul_left c.args.self.now.source.now c.args.self.now.rest.now u
+      c.in-None.ensures.none is,
+)

@@ -14,14 +14,23 @@ returns c =
     let after = run.new.self.rest.now in
     let text = c.since.result.now in
     let test = starts (is_quoted_ascii c.args.single) in
-    let taken = since_text source run.new.self.source.now rest after text run.result run.ensures.kept.0 c.args.self.now.suffix run.ensures.bytes c.since.ensures in
+    let taken = since_text source run.new.self.source.now rest after text run.result run.ensures.kept.0
+    c.args.self.now.suffix run.ensures.bytes c.since.ensures in
     let long : length (chars text) ≡ run.result = taken_length test rest text run.result run.ensures.whole taken in (
       (
         refl,
         λ _. tt,
         (
-          λ u is. text_behind test source run.new.self.source.now rest after text run.result u run.ensures.kept.0 c.args.self.now.within run.ensures.whole run.ensures.text run.ensures.bytes taken is,
-          omega (arith, long, ap length run.ensures.text ∙ length-drop run.result (chars rest), run.ensures.whole, run_within test (chars rest)),
+          λ u is. text_behind test source run.new.self.source.now rest after text run.result u run.ensures.kept.0
+              c.args.self.now.within run.ensures.whole run.ensures.text run.ensures.bytes taken is,
+          omega (
+            arith,
+            long,
+            ap length run.ensures.text
+                ∙ length-drop run.result (chars rest),
+            run.ensures.whole,
+            run_within test (chars rest),
+          ),
           omega (arith, run.ensures.kept.1),
           search rules,
         ),

@@ -11,7 +11,9 @@ fill-preserved g c =
       told = λ xs k.
           let h = c.fill.invariant.told xs k in
           let turn = c.in-Some.ensures.told h.0 h.2 in
-          holds_more g.T.Iterator.next_gives g.T.Iterator.remaining c.next_char.new.self.done c.next_char.new.self.iterator c.fill.self.held.items c.hold.new.held.items h.0 turn.0 xs c.in-Some.c h.1 turn.1 grown turn.2;
+          holds_more g.T.Iterator.next_gives g.T.Iterator.remaining c.next_char.new.self.done
+          c.next_char.new.self.iterator c.fill.self.held.items c.hold.new.held.items h.0 turn.0 xs c.in-Some.c h.1
+          turn.1 grown turn.2;
       left = omega (arith, c.fill.invariant.left, c.in-Some.ensures.left, len);
       window = c.fill.invariant.window;
       kept = c.fill.invariant.kept;
@@ -20,5 +22,9 @@ fill-preserved g c =
 
 pub returns-in-None-clause-told : goal.returns-in-None-clause-told
 returns-in-None-clause-told g c = λ xs k.
-    let h = c.fill.invariant.told xs k in
-    (h.0, h.1, rest_over g.T.Iterator.next_gives g.T.Iterator.remaining c.next_char.new.self.done c.next_char.new.self.iterator h.0 c.in-None.ensures.left (c.in-None.ensures.told h.0 h.2))
+    let h = c.fill.invariant.told xs k in (
+      h.0,
+      h.1,
+      rest_over g.T.Iterator.next_gives g.T.Iterator.remaining c.next_char.new.self.done
+          c.next_char.new.self.iterator h.0 c.in-None.ensures.left (c.in-None.ensures.told h.0 h.2),
+    )

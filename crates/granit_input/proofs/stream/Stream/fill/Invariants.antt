@@ -4,7 +4,8 @@ use Rattle.granit_input.proofs.stream.Stream.fill.Given as goal
 
 abbrev pub invariant-fill : goal.invariant-fill
 invariant-fill g l = record {
-  told : (xs : List ℕ) → Holds g.T.Iterator.next_gives g.T.Iterator.remaining l.fn.self.tail.done l.fn.self.tail.iterator l.fn.self.held.items xs
+  told : (xs : List ℕ) → Holds g.T.Iterator.next_gives g.T.Iterator.remaining l.fn.self.tail.done
+      l.fn.self.tail.iterator l.fn.self.held.items xs
       → Holds g.T.Iterator.next_gives g.T.Iterator.remaining l.self.tail.done l.self.tail.iterator l.self.held.items xs;
   left : length l.self.held.items + still_left l.self.tail.done (g.T.Iterator.remaining l.self.tail.iterator)
       ≤ length l.fn.self.held.items + still_left l.fn.self.tail.done (g.T.Iterator.remaining l.fn.self.tail.iterator);

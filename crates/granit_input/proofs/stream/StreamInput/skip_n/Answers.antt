@@ -9,7 +9,8 @@ use Rattle.granit_input.proofs.stream.StreamInput.skip_n.Goals as goal
 pub taken-init : goal.taken-init
 taken-init g c = record {
   told = λ u k. subst (λ (v : Unread). (v.offset ≡ None) × (v.lends ≡ false)
-      × Holds g.T.Iterator.next_gives g.T.Iterator.remaining c.args.self.now.tail.done c.args.self.now.tail.iterator c.args.self.now.held.items v.text) (sym (past_none u)) k;
+      × Holds g.T.Iterator.next_gives g.T.Iterator.remaining c.args.self.now.tail.done c.args.self.now.tail.iterator
+      c.args.self.now.held.items v.text) (sym (past_none u)) k;
   count = omega arith;
   left = omega arith;
   window = omega arith;
@@ -19,7 +20,8 @@ taken-init g c = record {
 pub taken-preserved : goal.taken-preserved
 taken-preserved g c = record {
   told = λ u k. subst (λ (v : Unread). (v.offset ≡ None) × (v.lends ≡ false)
-      × Holds g.T.Iterator.next_gives g.T.Iterator.remaining c.skip.new.self.tail.done c.skip.new.self.tail.iterator c.skip.new.self.held.items v.text) (past_twice c.taken.taken 1 u)
+      × Holds g.T.Iterator.next_gives g.T.Iterator.remaining c.skip.new.self.tail.done c.skip.new.self.tail.iterator
+      c.skip.new.self.held.items v.text) (past_twice c.taken.taken 1 u)
       (c.skip.ensures.unread (past c.taken.taken u) (c.taken.invariant.told u k));
   count = omega arith;
   left = omega (arith, c.taken.invariant.left, c.skip.ensures.moves.0);

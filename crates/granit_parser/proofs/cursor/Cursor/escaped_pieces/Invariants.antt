@@ -7,7 +7,8 @@ use Rattle.granit_parser.proofs.cursor.Cursor.escaped_pieces.Given as goal
 
 -- what is left to be read belongs behind what was gathered
 abbrev pub invariant-pieces : goal.invariant-pieces
-invariant-pieces l = with_front (string_chars l.value) (escaped_pieces l.start l.self) ≡ with_front (string_chars l.initial.value) (escaped_pieces l.start l.initial.self)
+invariant-pieces l = with_front (string_chars l.value) (escaped_pieces l.start l.self)
+    ≡ with_front (string_chars l.initial.value) (escaped_pieces l.start l.initial.self)
 
 abbrev pub decreases-pieces : goal.decreases-pieces
 decreases-pieces l = text_len l.self

@@ -10,4 +10,5 @@ returns c =
     let total = uri_bytes c.args.start c.args.self.now in
     sym (with_front-nil total)
     ∙ ap (λ (bytes : List ℕ). with_front bytes total) (sym c.new-bytes.ensures.items)
-    ∙ pushed_behind c.push_uri_bytes.new.self c.new-bytes.result.items c.push_uri_bytes.new.bytes.items total c.in_ok-push_uri_bytes.ensures
+    ∙ pushed_behind c.push_uri_bytes.new.self c.new-bytes.result.items c.push_uri_bytes.new.bytes.items total
+    c.in_ok-push_uri_bytes.ensures

@@ -1,0 +1,5 @@
+pub mod DirectiveCode
+pub mod PrefixCode
+pub mod ReservedCode
+pub mod VersionCode
+pub mod WordCode

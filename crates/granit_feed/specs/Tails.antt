@@ -1,0 +1,16 @@
+-- The comment behind a lexeme, but for that of a `-`, which is given among its events.
+use Rattle.std.specs.Prelude.{ℕ, Bool, true, false, Option, Some, None, Ok}
+use Rattle.granit_lexemes.specs.Comment.{CommentRead}
+use Rattle.granit_lexemes.specs.Lexeme as lexemes
+use Rattle.granit_lexemes.specs.Lexeme.{LexemeKind}
+use Rattle.granit_machine.specs.Frames.{ParserState}
+use Rattle.granit_machine.specs.NodeSteps.{Stepped}
+use Rattle.granit_machine.specs.Parser.{take_comment}
+
+abbrev pub is_dash : LexemeKind → Bool
+is_dash lexemes.Dash = true
+is_dash kind = false
+
+abbrev pub tail_taken : Option CommentRead → Option ℕ → ParserState → Stepped
+tail_taken None next p = Ok p
+tail_taken (Some c) next p = take_comment c next p

@@ -1,0 +1,271 @@
+//! A lexeme in a block collection (YAML 1.2.2, 8.2).
+ghost use Rattle.std.specs.Prelude.{◌≡◌, OnOk};
+ghost use Rattle.granit_error.specs.OptionsView.{options_of};
+ghost use Rattle.granit_frames.specs.SortViews.{machine_token, sort_view};
+ghost use Rattle.granit_frames.specs.StateViews.{pair_view};
+ghost use Rattle.granit_machine.specs.BlockSteps as steps;
+ghost use Rattle.granit_machine.specs.Frames as machine;
+ghost use Rattle.granit_machine.specs.TokenSort as sorts;
+ghost use Rattle.granit_machine.specs.Leaving.{LeavesIfRoom};
+
+use crate::nodes::{bare, next_dash, node};
+use granit_base::{NoMemory, Span};
+use granit_error::{ErrorKind, Options, ScanError};
+use granit_frames::{Frame, PairStage, ParserState, Token, TokenSort, null_event};
+use std::alloc::Global;
+
+/// Whether a node may stand there.
+fn takes_node(stage: PairStage) -> bool
+    ensures { result ≡ steps.takes_node (pair_view stage) }
+{
+    matches!(stage, PairStage::AtQuestion | PairStage::AtValue)
+}
+
+// Sequences (YAML 1.2.2, 8.2.1).
+
+#[tactic(auto, unfolding(granit_machine::specs::BlockSteps::in_sequence))]
+pub(crate) fn in_sequence<'input>(
+    state: &mut ParserState<'input>,
+    alloc: Global,
+    options: &Options,
+    token: &mut Token<'input>,
+    column: usize,
+    indentless: bool,
+) -> Result<(), ScanError>
+    ensures { LeavesIfRoom result state.new (steps.in_sequence (options_of options.now)
+        (machine_token token.old) column indentless state.old) }
+{
+    if token.sort.is_dash() && token.is_in_column(column) {
+        state.give_empty()?;
+        return next_dash(state, alloc, options, token, indentless);
+    }
+    if state.waits_for_none() {
+        return Err(token.misplaced(ErrorKind::ExpectedBlockSequenceEntry));
+    }
+    if token.sort.begins_node() && token.is_right_of(column) {
+        return node(state, alloc, options, token);
+    }
+    Err(token.misplaced(ErrorKind::UnexpectedEofBlockSequence))
+}
+
+// Mappings (YAML 1.2.2, 8.2.2).
+
+fn mapping_at<'input>(
+    state: &mut ParserState<'input>,
+    column: usize,
+    stage: PairStage,
+) -> Result<(), NoMemory>
+    ensures { OnOk result (state.new ≡ steps.mapping_at column (pair_view stage) state.old) }
+{
+    state.flush()?;
+    state.with_top(Frame::BlockMapping(column, stage))
+}
+
+/// Behind the `:` of a mapping.
+fn mapping_colon<'input>(
+    state: &mut ParserState<'input>,
+    alloc: Global,
+    options: &Options,
+    token: &Token<'input>,
+    column: usize,
+) -> Result<(), NoMemory>
+    ensures { OnOk result (state.new ≡ steps.mapping_colon (options_of options.now)
+        (machine_token token.now) column state.old) }
+{
+    mapping_at(state, column, PairStage::AtValue)?;
+    state.waits(
+        alloc,
+        token.lexeme.start,
+        options.max_buffered_comment_events,
+    )
+}
+
+/// A `:` without a key, whose pair has none, or one behind `?`.
+fn bare_colon_in_mapping<'input>(
+    state: &mut ParserState<'input>,
+    alloc: Global,
+    options: &Options,
+    token: &Token<'input>,
+    column: usize,
+    stage: PairStage,
+) -> Result<(), NoMemory>
+    ensures { OnOk result (state.new ≡ steps.bare_colon_in_mapping (options_of options.now)
+        (machine_token token.now) column (pair_view stage) state.old) }
+{
+    let start = token.lexeme.start;
+    match stage {
+        PairStage::AtQuestion => {
+            let span = Span::empty(start).with_indent(Some(column));
+            state.give(null_event(), span)?;
+            mapping_colon(state, alloc, options, token, column)
+        }
+        PairStage::BehindQuestion => mapping_colon(state, alloc, options, token, column),
+        PairStage::BeforePair => colon_behind_pair(state, alloc, options, token, column),
+        PairStage::AtKey => colon_behind_pair(state, alloc, options, token, column),
+        PairStage::BehindKey => colon_behind_pair(state, alloc, options, token, column),
+        PairStage::AtValue => colon_behind_pair(state, alloc, options, token, column),
+        PairStage::BehindAlone => colon_behind_pair(state, alloc, options, token, column),
+        PairStage::BehindPair => colon_behind_pair(state, alloc, options, token, column),
+    }
+}
+
+fn colon_behind_pair<'input>(
+    state: &mut ParserState<'input>,
+    alloc: Global,
+    options: &Options,
+    token: &Token<'input>,
+    column: usize,
+) -> Result<(), NoMemory>
+    ensures { OnOk result (state.new ≡ steps.bare_colon_in_mapping (options_of options.now)
+        (machine_token token.now) column machine.BeforePair state.old) }
+{
+    let start = token.lexeme.start;
+    state.owed(start)?;
+    state.give_null(start)?;
+    mapping_colon(state, alloc, options, token, column)
+}
+
+fn pair_colon<'input>(
+    state: &mut ParserState<'input>,
+    alloc: Global,
+    options: &Options,
+    token: &Token<'input>,
+    column: usize,
+    stage: PairStage,
+) -> Result<(), ScanError>
+    ensures { LeavesIfRoom result state.new (steps.next_pair (options_of options.now)
+        (machine_token token.now) column (pair_view stage) sorts.BareColon state.old) }
+{
+    bare_colon_in_mapping(state, alloc, options, token, column, stage)?;
+    Ok(())
+}
+
+/// The next entry, or the `:` of this one, in the mapping's column.
+fn next_pair<'input>(
+    state: &mut ParserState<'input>,
+    alloc: Global,
+    options: &Options,
+    token: &mut Token<'input>,
+    column: usize,
+    stage: PairStage,
+) -> Result<(), ScanError>
+    ensures { LeavesIfRoom result state.new (steps.next_pair (options_of options.now)
+        (machine_token token.old) column (pair_view stage) (sort_view token.old.sort) state.old) }
+{
+    match token.sort {
+        TokenSort::BeginsKey => {
+            state.owed(token.lexeme.start)?;
+            mapping_at(state, column, PairStage::AtKey)?;
+            bare(state, alloc, options, token)
+        }
+        TokenSort::QuestionToken => {
+            state.owed(token.lexeme.start)?;
+            Ok(mapping_at(state, column, PairStage::AtQuestion)?)
+        }
+        TokenSort::BeginsNode => pair_colon(state, alloc, options, token, column, stage),
+        TokenSort::DashToken => pair_colon(state, alloc, options, token, column, stage),
+        TokenSort::BareColon => pair_colon(state, alloc, options, token, column, stage),
+        TokenSort::KeyedColon => pair_colon(state, alloc, options, token, column, stage),
+        TokenSort::CommaToken => pair_colon(state, alloc, options, token, column, stage),
+        TokenSort::SequenceCloser => pair_colon(state, alloc, options, token, column, stage),
+        TokenSort::MappingCloser => pair_colon(state, alloc, options, token, column, stage),
+        TokenSort::OfStream => pair_colon(state, alloc, options, token, column, stage),
+    }
+}
+
+/// In a mapping where neither a simple key nor its `:` must come.
+#[tactic(auto, unfolding(granit_machine::specs::BlockSteps::behind_indicator))]
+fn behind_indicator<'input>(
+    state: &mut ParserState<'input>,
+    alloc: Global,
+    options: &Options,
+    token: &mut Token<'input>,
+    column: usize,
+    stage: PairStage,
+) -> Result<(), ScanError>
+    ensures { LeavesIfRoom result state.new (steps.behind_indicator (options_of options.now)
+        (machine_token token.old) column (pair_view stage) state.old) }
+{
+    if token.sort.begins_pair() && token.is_in_column(column) {
+        return next_pair(state, alloc, options, token, column, stage);
+    }
+    if !takes_node(stage) {
+        return Err(token.misplaced(ErrorKind::ExpectedBlockMappingKey));
+    }
+    if (token.sort.is_dash() && token.is_in_column(column))
+        || (token.sort.begins_node() && token.is_right_of(column))
+    {
+        return node(state, alloc, options, token);
+    }
+    Err(token.misplaced(ErrorKind::UnexpectedEofBlockMapping))
+}
+
+fn at_block_key<'input>(
+    state: &mut ParserState<'input>,
+    alloc: Global,
+    options: &Options,
+    token: &mut Token<'input>,
+) -> Result<(), ScanError>
+    ensures { LeavesIfRoom result state.new (steps.at_block_key (options_of options.now) (machine_token token.old)
+        (sort_view token.old.sort) state.old) }
+{
+    match token.sort {
+        TokenSort::BeginsNode => bare(state, alloc, options, token),
+        TokenSort::BeginsKey => Err(token.misplaced(ErrorKind::ExpectedBlockMappingKey)),
+        TokenSort::DashToken => Err(token.misplaced(ErrorKind::ExpectedBlockMappingKey)),
+        TokenSort::QuestionToken => Err(token.misplaced(ErrorKind::ExpectedBlockMappingKey)),
+        TokenSort::BareColon => Err(token.misplaced(ErrorKind::ExpectedBlockMappingKey)),
+        TokenSort::KeyedColon => Err(token.misplaced(ErrorKind::ExpectedBlockMappingKey)),
+        TokenSort::CommaToken => Err(token.misplaced(ErrorKind::ExpectedBlockMappingKey)),
+        TokenSort::SequenceCloser => Err(token.misplaced(ErrorKind::ExpectedBlockMappingKey)),
+        TokenSort::MappingCloser => Err(token.misplaced(ErrorKind::ExpectedBlockMappingKey)),
+        TokenSort::OfStream => Err(token.misplaced(ErrorKind::ExpectedBlockMappingKey)),
+    }
+}
+
+fn behind_block_key<'input>(
+    state: &mut ParserState<'input>,
+    alloc: Global,
+    options: &Options,
+    token: &Token<'input>,
+    column: usize,
+) -> Result<(), ScanError>
+    ensures { LeavesIfRoom result state.new (steps.behind_block_key (options_of options.now)
+        (machine_token token.now) column (sort_view token.now.sort) state.old) }
+{
+    match token.sort {
+        TokenSort::KeyedColon => Ok(mapping_colon(state, alloc, options, token, column)?),
+        TokenSort::BeginsKey => Err(token.misplaced(ErrorKind::ExpectedBlockMappingKey)),
+        TokenSort::BeginsNode => Err(token.misplaced(ErrorKind::ExpectedBlockMappingKey)),
+        TokenSort::DashToken => Err(token.misplaced(ErrorKind::ExpectedBlockMappingKey)),
+        TokenSort::QuestionToken => Err(token.misplaced(ErrorKind::ExpectedBlockMappingKey)),
+        TokenSort::BareColon => Err(token.misplaced(ErrorKind::ExpectedBlockMappingKey)),
+        TokenSort::CommaToken => Err(token.misplaced(ErrorKind::ExpectedBlockMappingKey)),
+        TokenSort::SequenceCloser => Err(token.misplaced(ErrorKind::ExpectedBlockMappingKey)),
+        TokenSort::MappingCloser => Err(token.misplaced(ErrorKind::ExpectedBlockMappingKey)),
+        TokenSort::OfStream => Err(token.misplaced(ErrorKind::ExpectedBlockMappingKey)),
+    }
+}
+
+pub(crate) fn in_mapping<'input>(
+    state: &mut ParserState<'input>,
+    alloc: Global,
+    options: &Options,
+    token: &mut Token<'input>,
+    column: usize,
+    stage: PairStage,
+) -> Result<(), ScanError>
+    ensures { LeavesIfRoom result state.new (steps.in_mapping (options_of options.now)
+        (machine_token token.old) column (pair_view stage) state.old) }
+{
+    match stage {
+        PairStage::AtKey => at_block_key(state, alloc, options, token),
+        PairStage::BehindKey => behind_block_key(state, alloc, options, token, column),
+        PairStage::BeforePair => behind_indicator(state, alloc, options, token, column, stage),
+        PairStage::AtQuestion => behind_indicator(state, alloc, options, token, column, stage),
+        PairStage::BehindQuestion => behind_indicator(state, alloc, options, token, column, stage),
+        PairStage::AtValue => behind_indicator(state, alloc, options, token, column, stage),
+        PairStage::BehindAlone => behind_indicator(state, alloc, options, token, column, stage),
+        PairStage::BehindPair => behind_indicator(state, alloc, options, token, column, stage),
+    }
+}

@@ -1,0 +1,151 @@
+//! One item: the events that it gives, and what it leaves.
+ghost use Rattle.std.specs.Prelude.{◌≡◌, IfOk};
+ghost use Rattle.std.specs.Option.{option_map};
+ghost use Rattle.granit_error.specs.OptionsView.{options_of};
+ghost use Rattle.granit_frames.specs.SortViews.{machine_token};
+ghost use Rattle.granit_feed.specs.Tails as tails;
+ghost use Rattle.granit_items.specs.ItemViews.{item_view, kind_view, note_view};
+ghost use Rattle.granit_machine.specs.Leaving.{LeavesIfRoom};
+ghost use Rattle.granit_machine.specs.Parser as spec;
+
+use crate::block::{in_mapping, in_sequence};
+use crate::flow::{in_flow_mapping, in_flow_pair, in_flow_sequence};
+use crate::nodes::node;
+use crate::stream::{at_root, outside};
+use granit_base::{NoMemory, Span};
+use granit_error::{Options, ScanError};
+use granit_event::Event;
+use granit_frames::{Frame, ParserState, Token, Top, token_sort};
+use granit_items::{Item, Lexeme, LexemeKind, Note};
+use std::alloc::Global;
+
+/// At the open place that closing left.
+fn take_token<'input>(
+    state: &mut ParserState<'input>,
+    alloc: Global,
+    options: &Options,
+    token: &mut Token<'input>,
+) -> Result<(), ScanError>
+    ensures { LeavesIfRoom result state.new (spec.take_token (options_of options.now)
+        (machine_token token.old) state.old) }
+{
+    match state.top() {
+        Top::Outside => outside(state, alloc, options, token),
+        Top::Properties(_, _) => node(state, alloc, options, token),
+        Top::In(Frame::Root(_), _) => at_root(state, alloc, options, token),
+        Top::In(Frame::BlockSequence(column, indentless), _) => {
+            in_sequence(state, alloc, options, token, column, indentless)
+        }
+        Top::In(Frame::BlockMapping(column, stage), _) => {
+            in_mapping(state, alloc, options, token, column, stage)
+        }
+        Top::In(Frame::FlowSequence(behind_entry), _) => {
+            in_flow_sequence(state, alloc, options, token, behind_entry)
+        }
+        Top::In(Frame::FlowMapping(single, stage), _) => {
+            in_flow_mapping(state, alloc, options, token, single, stage)
+        }
+        Top::In(Frame::FlowPair(stage), _) => in_flow_pair(state, alloc, options, token, stage),
+    }
+}
+
+/// An equal comment.
+fn clone_note<'input>(alloc: Global, note: &Note<'input>) -> Result<Note<'input>, NoMemory>
+    ensures { IfOk result (λ n. n ≡ note.now) }
+{
+    Ok(Note {
+        text: note.text.try_clone(alloc)?,
+        start: note.start,
+        end: note.end,
+        is_right: note.is_right,
+    })
+}
+
+fn clone_tail<'input>(
+    alloc: Global,
+    tail: &Option<Note<'input>>,
+) -> Result<Option<Note<'input>>, NoMemory>
+    ensures { IfOk result (λ t. t ≡ tail.now) }
+{
+    match tail {
+        None => Ok(None),
+        Some(note) => Ok(Some(clone_note(alloc, note)?)),
+    }
+}
+
+fn is_dash(kind: &LexemeKind<'_>) -> bool
+    ensures { result ≡ tails.is_dash (kind_view kind.now) }
+{
+    matches!(kind, LexemeKind::Dash)
+}
+
+/// The comment that is taken behind a lexeme; that of a `-` is given among its events.
+#[tactic(auto, using(crate::proofs::TailLemmas::tail_of))]
+fn tail_behind<'input>(
+    alloc: Global,
+    lexeme: &Lexeme<'input>,
+) -> Result<Option<Note<'input>>, NoMemory>
+    ensures { IfOk result (λ tail. (next : _) (p : _) → spec.take_tail (kind_view lexeme.now.kind)
+        (option_map note_view lexeme.now.tail) next p ≡ tails.tail_taken (option_map note_view tail) next p) }
+{
+    if is_dash(&lexeme.kind) {
+        return Ok(None);
+    }
+    clone_tail(alloc, &lexeme.tail)
+}
+
+fn take_tail<'input>(
+    state: &mut ParserState<'input>,
+    tail: Option<Note<'input>>,
+    next_line: Option<usize>,
+) -> Result<(), ScanError>
+    ensures { LeavesIfRoom result state.new (tails.tail_taken (option_map note_view tail.entry) next_line state.old) }
+{
+    match tail {
+        None => Ok(()),
+        Some(note) => state.take_comment(note, next_line),
+    }
+}
+
+fn take_lexeme<'input>(
+    state: &mut ParserState<'input>,
+    alloc: Global,
+    options: &Options,
+    token: &mut Token<'input>,
+    next_line: Option<usize>,
+) -> Result<(), ScanError>
+    ensures { LeavesIfRoom result state.new (spec.take_lexeme (options_of options.now)
+        (machine_token token.old) next_line state.old) }
+{
+    let tail = tail_behind(alloc, &token.lexeme)?;
+    state.close(options, token)?;
+    take_token(state, alloc, options, token)?;
+    take_tail(state, tail, next_line)
+}
+
+/// Takes an item, of which it is told whether a simple key begins with it, and the line of the next token: its
+/// events are given behind those that weren't taken yet.
+///
+/// # Errors
+///
+/// What is wrong with it there, and `NoMemory`; nothing is said of the state from then on.
+pub fn feed<'input>(
+    state: &mut ParserState<'input>,
+    alloc: Global,
+    options: &Options,
+    item: Item<'input>,
+    begins_key: bool,
+    next_line: Option<usize>,
+) -> Result<(), ScanError>
+    ensures { LeavesIfRoom result state.new (spec.take_item (options_of options.now)
+        (item_view item.entry) begins_key next_line state.old) }
+{
+    match item {
+        Item::Note(note) => state.take_comment(note, next_line),
+        Item::Lexeme(lexeme) => {
+            let sort = token_sort(begins_key, &lexeme);
+            let mut token = Token { lexeme, sort };
+            take_lexeme(state, alloc, options, &mut token, next_line)
+        }
+    }
+}

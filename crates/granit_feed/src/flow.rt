@@ -1,0 +1,485 @@
+//! A lexeme in a flow collection (YAML 1.2.2, 7.4).
+ghost use Rattle.std.specs.Prelude.{◌≡◌, false, OnOk};
+ghost use Rattle.granit_error.specs.OptionsView.{options_of};
+ghost use Rattle.granit_frames.specs.SortViews.{machine_token, sort_view};
+ghost use Rattle.granit_frames.specs.StateViews.{frame_view, pair_view, has_properties};
+ghost use Rattle.granit_machine.specs.FlowSteps as steps;
+ghost use Rattle.granit_machine.specs.Frames as machine;
+ghost use Rattle.granit_machine.specs.Giving as giving;
+ghost use Rattle.granit_machine.specs.Leaving.{LeavesIfRoom};
+ghost use Rattle.granit_machine.specs.NodeEnds as ends;
+
+use crate::nodes::bare;
+use granit_base::{Marker, NoMemory, Span, StructureStyle};
+use granit_error::{ErrorKind, Options, ScanError};
+use granit_event::Event;
+use granit_frames::{Frame, PairStage, ParserState, Token, TokenSort};
+use std::alloc::Global;
+
+// Ends and beginnings.
+
+/// A closer, whose event ends behind it.
+fn close_flow<'input>(
+    state: &mut ParserState<'input>,
+    token: &Token<'input>,
+) -> Result<(), NoMemory>
+    ensures { OnOk result (state.new ≡ steps.close_flow (machine_token token.now) state.old) }
+{
+    let start = token.lexeme.start;
+    state.end_node(start, start, token.lexeme.shown_end)
+}
+
+fn flow_at<'input>(
+    state: &mut ParserState<'input>,
+    single: bool,
+    stage: PairStage,
+) -> Result<(), NoMemory>
+    ensures { OnOk result (state.new ≡ steps.flow_at single (pair_view stage) state.old) }
+{
+    state.flush()?;
+    state.with_top(Frame::FlowMapping(single, stage))
+}
+
+/// Behind the `:` of a mapping.
+fn flow_colon<'input>(
+    state: &mut ParserState<'input>,
+    alloc: Global,
+    options: &Options,
+    token: &Token<'input>,
+    single: bool,
+) -> Result<(), NoMemory>
+    ensures { OnOk result (state.new ≡ steps.flow_colon (options_of options.now)
+        (machine_token token.now) single state.old) }
+{
+    flow_at(state, single, PairStage::AtValue)?;
+    state.waits(
+        alloc,
+        token.lexeme.start,
+        options.max_buffered_comment_events,
+    )
+}
+
+/// Behind a `:` that has no key.
+fn null_colon<'input>(
+    state: &mut ParserState<'input>,
+    alloc: Global,
+    options: &Options,
+    token: &Token<'input>,
+    single: bool,
+) -> Result<(), NoMemory>
+    ensures { OnOk result (state.new ≡ steps.flow_colon (options_of options.now) (machine_token token.now) single
+        (giving.give (giving.null_at token.now.lexeme.start) state.old)) }
+{
+    state.give_null(token.lexeme.start)?;
+    flow_colon(state, alloc, options, token, single)
+}
+
+/// A single pair of a sequence begins.
+#[tactic(auto, using(crate::proofs::GivingLemmas::flush_frames))]
+fn begin_pair<'input>(
+    state: &mut ParserState<'input>,
+    token: &Token<'input>,
+    end: Marker,
+    frame: Frame,
+) -> Result<(), NoMemory>
+    requires bare { has_properties state.old.frames ≡ false }
+    ensures { OnOk result (state.new ≡ steps.begin_pair (machine_token token.now) end (frame_view frame) state.old) }
+{
+    let event = Event::MappingStart(StructureStyle::Flow, 0, None);
+    state.give(event, Span::new(token.lexeme.start, end))?;
+    state.push_frame(frame)
+}
+
+// Sequences (YAML 1.2.2, 7.4.1).
+
+fn at_entry<'input>(
+    state: &mut ParserState<'input>,
+    alloc: Global,
+    options: &Options,
+    token: &mut Token<'input>,
+) -> Result<(), ScanError>
+    requires bare { has_properties state.old.frames ≡ false }
+    ensures { LeavesIfRoom result state.new (steps.at_entry (options_of options.now) (machine_token token.old)
+        (sort_view token.old.sort) state.old) }
+{
+    let start = token.lexeme.start;
+    match token.sort {
+        TokenSort::SequenceCloser => Ok(close_flow(state, token)?),
+        TokenSort::QuestionToken => {
+            let end = token.lexeme.shown_end;
+            Ok(begin_pair(state, token, end, Frame::FlowPair(PairStage::AtQuestion))?)
+        }
+        TokenSort::BareColon => {
+            begin_pair(
+                state,
+                token,
+                start,
+                Frame::FlowMapping(true, PairStage::BeforePair),
+            )?;
+            Ok(null_colon(state, alloc, options, token, true)?)
+        }
+        TokenSort::BeginsKey => {
+            begin_pair(
+                state,
+                token,
+                start,
+                Frame::FlowMapping(true, PairStage::AtKey),
+            )?;
+            bare(state, alloc, options, token)
+        }
+        TokenSort::BeginsNode => bare(state, alloc, options, token),
+        TokenSort::DashToken => Err(token.misplaced(ErrorKind::UnexpectedEofImplicitFlowMapping)),
+        TokenSort::KeyedColon => Err(token.misplaced(ErrorKind::UnexpectedEofImplicitFlowMapping)),
+        TokenSort::CommaToken => Err(token.misplaced(ErrorKind::UnexpectedEofImplicitFlowMapping)),
+        TokenSort::MappingCloser => Err(token.misplaced(
+            ErrorKind::UnexpectedEofImplicitFlowMapping,
+        )),
+        TokenSort::OfStream => Err(token.misplaced(ErrorKind::UnexpectedEofImplicitFlowMapping)),
+    }
+}
+
+fn behind_flow_entry<'input>(
+    state: &mut ParserState<'input>,
+    token: &Token<'input>,
+) -> Result<(), ScanError>
+    ensures { LeavesIfRoom result state.new (steps.behind_entry_of (machine_token token.now)
+        (sort_view token.now.sort) state.old) }
+{
+    match token.sort {
+        TokenSort::SequenceCloser => Ok(close_flow(state, token)?),
+        TokenSort::CommaToken => Ok(state.with_top(Frame::FlowSequence(false))?),
+        TokenSort::BeginsKey => Err(token.misplaced(ErrorKind::ExpectedFlowSequenceSeparator)),
+        TokenSort::BeginsNode => Err(token.misplaced(ErrorKind::ExpectedFlowSequenceSeparator)),
+        TokenSort::DashToken => Err(token.misplaced(ErrorKind::ExpectedFlowSequenceSeparator)),
+        TokenSort::QuestionToken => Err(token.misplaced(ErrorKind::ExpectedFlowSequenceSeparator)),
+        TokenSort::BareColon => Err(token.misplaced(ErrorKind::ExpectedFlowSequenceSeparator)),
+        TokenSort::KeyedColon => Err(token.misplaced(ErrorKind::ExpectedFlowSequenceSeparator)),
+        TokenSort::MappingCloser => Err(token.misplaced(ErrorKind::ExpectedFlowSequenceSeparator)),
+        TokenSort::OfStream => Err(token.misplaced(ErrorKind::ExpectedFlowSequenceSeparator)),
+    }
+}
+
+pub(crate) fn in_flow_sequence<'input>(
+    state: &mut ParserState<'input>,
+    alloc: Global,
+    options: &Options,
+    token: &mut Token<'input>,
+    behind_entry: bool,
+) -> Result<(), ScanError>
+    requires bare { has_properties state.old.frames ≡ false }
+    ensures { LeavesIfRoom result state.new (steps.in_flow_sequence (options_of options.now)
+        (machine_token token.old) behind_entry state.old) }
+{
+    if behind_entry {
+        behind_flow_entry(state, token)
+    } else {
+        at_entry(state, alloc, options, token)
+    }
+}
+
+// Mappings (YAML 1.2.2, 7.4.2).
+
+/// A `,` behind a pair.
+fn behind_comma<'input>(
+    state: &mut ParserState<'input>,
+    token: &Token<'input>,
+    single: bool,
+) -> Result<(), NoMemory>
+    ensures { OnOk result (state.new ≡ steps.flow_at single machine.BeforePair
+        (ends.owed token.now.lexeme.start state.old)) }
+{
+    state.owed(token.lexeme.start)?;
+    flow_at(state, single, PairStage::BeforePair)
+}
+
+/// Before a key.
+fn before_pair<'input>(
+    state: &mut ParserState<'input>,
+    alloc: Global,
+    options: &Options,
+    token: &mut Token<'input>,
+    single: bool,
+) -> Result<(), ScanError>
+    ensures { LeavesIfRoom result state.new (steps.in_flow_mapping_by (options_of options.now)
+        (machine_token token.old) single machine.BeforePair (sort_view token.old.sort) state.old) }
+{
+    match token.sort {
+        TokenSort::MappingCloser => Ok(close_flow(state, token)?),
+        TokenSort::QuestionToken => Ok(flow_at(state, single, PairStage::AtQuestion)?),
+        TokenSort::BeginsKey => {
+            flow_at(state, single, PairStage::AtKey)?;
+            bare(state, alloc, options, token)
+        },
+        TokenSort::BareColon => Ok(null_colon(state, alloc, options, token, single)?),
+        TokenSort::BeginsNode => bare(state, alloc, options, token),
+        TokenSort::DashToken => Err(token.misplaced(ErrorKind::UnexpectedEofImplicitFlowMapping)),
+        TokenSort::KeyedColon => Err(token.misplaced(ErrorKind::UnexpectedEofImplicitFlowMapping)),
+        TokenSort::CommaToken => Err(token.misplaced(ErrorKind::UnexpectedEofImplicitFlowMapping)),
+        TokenSort::SequenceCloser => Err(token.misplaced(
+            ErrorKind::UnexpectedEofImplicitFlowMapping,
+        )),
+        TokenSort::OfStream => Err(token.misplaced(ErrorKind::UnexpectedEofImplicitFlowMapping)),
+    }
+}
+
+/// At a simple key.
+fn at_flow_key<'input>(
+    state: &mut ParserState<'input>,
+    alloc: Global,
+    options: &Options,
+    token: &mut Token<'input>,
+    single: bool,
+) -> Result<(), ScanError>
+    ensures { LeavesIfRoom result state.new (steps.in_flow_mapping_by (options_of options.now)
+        (machine_token token.old) single machine.AtKey (sort_view token.old.sort) state.old) }
+{
+    match token.sort {
+        TokenSort::BeginsNode => bare(state, alloc, options, token),
+        TokenSort::BeginsKey => Err(token.misplaced(ErrorKind::UnexpectedEofImplicitFlowMapping)),
+        TokenSort::DashToken => Err(token.misplaced(ErrorKind::UnexpectedEofImplicitFlowMapping)),
+        TokenSort::QuestionToken => Err(token.misplaced(
+            ErrorKind::UnexpectedEofImplicitFlowMapping,
+        )),
+        TokenSort::BareColon => Err(token.misplaced(ErrorKind::UnexpectedEofImplicitFlowMapping)),
+        TokenSort::KeyedColon => Err(token.misplaced(ErrorKind::UnexpectedEofImplicitFlowMapping)),
+        TokenSort::CommaToken => Err(token.misplaced(ErrorKind::UnexpectedEofImplicitFlowMapping)),
+        TokenSort::SequenceCloser => Err(token.misplaced(
+            ErrorKind::UnexpectedEofImplicitFlowMapping,
+        )),
+        TokenSort::MappingCloser => Err(token.misplaced(
+            ErrorKind::UnexpectedEofImplicitFlowMapping,
+        )),
+        TokenSort::OfStream => Err(token.misplaced(ErrorKind::UnexpectedEofImplicitFlowMapping)),
+    }
+}
+
+/// Behind a simple key.
+fn behind_flow_key<'input>(
+    state: &mut ParserState<'input>,
+    alloc: Global,
+    options: &Options,
+    token: &Token<'input>,
+    single: bool,
+) -> Result<(), ScanError>
+    ensures { LeavesIfRoom result state.new (steps.in_flow_mapping_by (options_of options.now)
+        (machine_token token.now) single machine.BehindKey (sort_view token.now.sort) state.old) }
+{
+    match token.sort {
+        TokenSort::KeyedColon => Ok(flow_colon(state, alloc, options, token, single)?),
+        TokenSort::BeginsKey => Err(token.misplaced(ErrorKind::ExpectedFlowMappingSeparator)),
+        TokenSort::BeginsNode => Err(token.misplaced(ErrorKind::ExpectedFlowMappingSeparator)),
+        TokenSort::DashToken => Err(token.misplaced(ErrorKind::ExpectedFlowMappingSeparator)),
+        TokenSort::QuestionToken => Err(token.misplaced(ErrorKind::ExpectedFlowMappingSeparator)),
+        TokenSort::BareColon => Err(token.misplaced(ErrorKind::ExpectedFlowMappingSeparator)),
+        TokenSort::CommaToken => Err(token.misplaced(ErrorKind::ExpectedFlowMappingSeparator)),
+        TokenSort::SequenceCloser => Err(token.misplaced(ErrorKind::ExpectedFlowMappingSeparator)),
+        TokenSort::MappingCloser => Err(token.misplaced(ErrorKind::ExpectedFlowMappingSeparator)),
+        TokenSort::OfStream => Err(token.misplaced(ErrorKind::ExpectedFlowMappingSeparator)),
+    }
+}
+
+/// Behind `?`.
+fn at_flow_question<'input>(
+    state: &mut ParserState<'input>,
+    alloc: Global,
+    options: &Options,
+    token: &mut Token<'input>,
+    single: bool,
+) -> Result<(), ScanError>
+    ensures { LeavesIfRoom result state.new (steps.in_flow_mapping_by (options_of options.now)
+        (machine_token token.old) single machine.AtQuestion (sort_view token.old.sort) state.old) }
+{
+    match token.sort {
+        TokenSort::MappingCloser => Ok(close_flow(state, token)?),
+        TokenSort::CommaToken => Ok(behind_comma(state, token, single)?),
+        TokenSort::BareColon => Ok(null_colon(state, alloc, options, token, single)?),
+        TokenSort::BeginsNode => bare(state, alloc, options, token),
+        TokenSort::BeginsKey => Err(token.misplaced(ErrorKind::UnexpectedEofImplicitFlowMapping)),
+        TokenSort::DashToken => Err(token.misplaced(ErrorKind::UnexpectedEofImplicitFlowMapping)),
+        TokenSort::QuestionToken => Err(token.misplaced(
+            ErrorKind::UnexpectedEofImplicitFlowMapping,
+        )),
+        TokenSort::KeyedColon => Err(token.misplaced(ErrorKind::UnexpectedEofImplicitFlowMapping)),
+        TokenSort::SequenceCloser => Err(token.misplaced(
+            ErrorKind::UnexpectedEofImplicitFlowMapping,
+        )),
+        TokenSort::OfStream => Err(token.misplaced(ErrorKind::UnexpectedEofImplicitFlowMapping)),
+    }
+}
+
+/// Behind the key of a `?`.
+fn behind_flow_question<'input>(
+    state: &mut ParserState<'input>,
+    alloc: Global,
+    options: &Options,
+    token: &Token<'input>,
+    single: bool,
+) -> Result<(), ScanError>
+    ensures { LeavesIfRoom result state.new (steps.in_flow_mapping_by (options_of options.now)
+        (machine_token token.now) single machine.BehindQuestion (sort_view token.now.sort) state.old) }
+{
+    match token.sort {
+        TokenSort::MappingCloser => Ok(close_flow(state, token)?),
+        TokenSort::CommaToken => Ok(behind_comma(state, token, single)?),
+        TokenSort::BareColon => Ok(flow_colon(state, alloc, options, token, single)?),
+        TokenSort::BeginsKey => Err(token.misplaced(ErrorKind::ExpectedFlowMappingSeparator)),
+        TokenSort::BeginsNode => Err(token.misplaced(ErrorKind::ExpectedFlowMappingSeparator)),
+        TokenSort::DashToken => Err(token.misplaced(ErrorKind::ExpectedFlowMappingSeparator)),
+        TokenSort::QuestionToken => Err(token.misplaced(ErrorKind::ExpectedFlowMappingSeparator)),
+        TokenSort::KeyedColon => Err(token.misplaced(ErrorKind::ExpectedFlowMappingSeparator)),
+        TokenSort::SequenceCloser => Err(token.misplaced(ErrorKind::ExpectedFlowMappingSeparator)),
+        TokenSort::OfStream => Err(token.misplaced(ErrorKind::ExpectedFlowMappingSeparator)),
+    }
+}
+
+/// Behind `:`.
+fn at_flow_value<'input>(
+    state: &mut ParserState<'input>,
+    alloc: Global,
+    options: &Options,
+    token: &mut Token<'input>,
+    single: bool,
+) -> Result<(), ScanError>
+    ensures { LeavesIfRoom result state.new (steps.in_flow_mapping_by (options_of options.now)
+        (machine_token token.old) single machine.AtValue (sort_view token.old.sort) state.old) }
+{
+    match token.sort {
+        TokenSort::MappingCloser => Ok(close_flow(state, token)?),
+        TokenSort::CommaToken => Ok(behind_comma(state, token, single)?),
+        TokenSort::BeginsNode => bare(state, alloc, options, token),
+        TokenSort::BeginsKey => Err(token.misplaced(ErrorKind::UnexpectedEofImplicitFlowMapping)),
+        TokenSort::DashToken => Err(token.misplaced(ErrorKind::UnexpectedEofImplicitFlowMapping)),
+        TokenSort::QuestionToken => Err(token.misplaced(
+            ErrorKind::UnexpectedEofImplicitFlowMapping,
+        )),
+        TokenSort::BareColon => Err(token.misplaced(ErrorKind::UnexpectedEofImplicitFlowMapping)),
+        TokenSort::KeyedColon => Err(token.misplaced(ErrorKind::UnexpectedEofImplicitFlowMapping)),
+        TokenSort::SequenceCloser => Err(token.misplaced(
+            ErrorKind::UnexpectedEofImplicitFlowMapping,
+        )),
+        TokenSort::OfStream => Err(token.misplaced(ErrorKind::UnexpectedEofImplicitFlowMapping)),
+    }
+}
+
+/// Behind a node without `:`.
+fn behind_alone<'input>(
+    state: &mut ParserState<'input>,
+    options: &Options,
+    token: &Token<'input>,
+    single: bool,
+) -> Result<(), ScanError>
+    ensures { LeavesIfRoom result state.new (steps.in_flow_mapping_by (options_of options.now)
+        (machine_token token.now) single machine.BehindAlone (sort_view token.now.sort) state.old) }
+{
+    match token.sort {
+        TokenSort::MappingCloser => Ok(close_flow(state, token)?),
+        TokenSort::CommaToken => Ok(behind_comma(state, token, single)?),
+        TokenSort::BeginsKey => Err(token.misplaced(ErrorKind::ExpectedFlowMappingSeparator)),
+        TokenSort::BeginsNode => Err(token.misplaced(ErrorKind::ExpectedFlowMappingSeparator)),
+        TokenSort::DashToken => Err(token.misplaced(ErrorKind::ExpectedFlowMappingSeparator)),
+        TokenSort::QuestionToken => Err(token.misplaced(ErrorKind::ExpectedFlowMappingSeparator)),
+        TokenSort::BareColon => Err(token.misplaced(ErrorKind::ExpectedFlowMappingSeparator)),
+        TokenSort::KeyedColon => Err(token.misplaced(ErrorKind::ExpectedFlowMappingSeparator)),
+        TokenSort::SequenceCloser => Err(token.misplaced(ErrorKind::ExpectedFlowMappingSeparator)),
+        TokenSort::OfStream => Err(token.misplaced(ErrorKind::ExpectedFlowMappingSeparator)),
+    }
+}
+
+/// Behind a value.
+fn behind_flow_pair<'input>(
+    state: &mut ParserState<'input>,
+    options: &Options,
+    token: &Token<'input>,
+    single: bool,
+) -> Result<(), ScanError>
+    ensures { LeavesIfRoom result state.new (steps.in_flow_mapping_by (options_of options.now)
+        (machine_token token.now) single machine.BehindPair (sort_view token.now.sort) state.old) }
+{
+    match token.sort {
+        TokenSort::MappingCloser => Ok(close_flow(state, token)?),
+        TokenSort::CommaToken => Ok(behind_comma(state, token, single)?),
+        TokenSort::BeginsKey => Err(token.misplaced(ErrorKind::ExpectedFlowMappingSeparator)),
+        TokenSort::BeginsNode => Err(token.misplaced(ErrorKind::ExpectedFlowMappingSeparator)),
+        TokenSort::DashToken => Err(token.misplaced(ErrorKind::ExpectedFlowMappingSeparator)),
+        TokenSort::QuestionToken => Err(token.misplaced(ErrorKind::ExpectedFlowMappingSeparator)),
+        TokenSort::BareColon => Err(token.misplaced(ErrorKind::ExpectedFlowMappingSeparator)),
+        TokenSort::KeyedColon => Err(token.misplaced(ErrorKind::ExpectedFlowMappingSeparator)),
+        TokenSort::SequenceCloser => Err(token.misplaced(ErrorKind::ExpectedFlowMappingSeparator)),
+        TokenSort::OfStream => Err(token.misplaced(ErrorKind::ExpectedFlowMappingSeparator)),
+    }
+}
+
+pub(crate) fn in_flow_mapping<'input>(
+    state: &mut ParserState<'input>,
+    alloc: Global,
+    options: &Options,
+    token: &mut Token<'input>,
+    single: bool,
+    stage: PairStage,
+) -> Result<(), ScanError>
+    ensures { LeavesIfRoom result state.new (steps.in_flow_mapping_by (options_of options.now)
+        (machine_token token.old) single (pair_view stage) (sort_view token.old.sort) state.old) }
+{
+    match stage {
+        PairStage::BeforePair => before_pair(state, alloc, options, token, single),
+        PairStage::AtKey => at_flow_key(state, alloc, options, token, single),
+        PairStage::BehindKey => behind_flow_key(state, alloc, options, token, single),
+        PairStage::AtQuestion => at_flow_question(state, alloc, options, token, single),
+        PairStage::BehindQuestion => behind_flow_question(state, alloc, options, token, single),
+        PairStage::AtValue => at_flow_value(state, alloc, options, token, single),
+        PairStage::BehindAlone => behind_alone(state, options, token, single),
+        PairStage::BehindPair => behind_flow_pair(state, options, token, single),
+    }
+}
+
+/// In the pair that a `?` makes in a sequence; what closing leaves behind its key is its `:`.
+pub(crate) fn in_flow_pair<'input>(
+    state: &mut ParserState<'input>,
+    alloc: Global,
+    options: &Options,
+    token: &mut Token<'input>,
+    stage: PairStage,
+) -> Result<(), ScanError>
+    ensures { LeavesIfRoom result state.new (steps.in_flow_pair (options_of options.now) (machine_token token.old)
+        (pair_view stage) (sort_view token.old.sort) state.old) }
+{
+    match stage {
+        PairStage::BehindQuestion => Ok(state.with_top(Frame::FlowPair(PairStage::AtValue))?),
+        PairStage::BeforePair => node_of_pair(state, alloc, options, token),
+        PairStage::AtKey => node_of_pair(state, alloc, options, token),
+        PairStage::BehindKey => node_of_pair(state, alloc, options, token),
+        PairStage::AtQuestion => node_of_pair(state, alloc, options, token),
+        PairStage::AtValue => node_of_pair(state, alloc, options, token),
+        PairStage::BehindAlone => node_of_pair(state, alloc, options, token),
+        PairStage::BehindPair => node_of_pair(state, alloc, options, token),
+    }
+}
+
+fn node_of_pair<'input>(
+    state: &mut ParserState<'input>,
+    alloc: Global,
+    options: &Options,
+    token: &mut Token<'input>,
+) -> Result<(), ScanError>
+    ensures { LeavesIfRoom result state.new (steps.in_flow_pair (options_of options.now)
+        (machine_token token.old) machine.AtValue (sort_view token.old.sort) state.old) }
+{
+    match token.sort {
+        TokenSort::BeginsNode => bare(state, alloc, options, token),
+        TokenSort::BeginsKey => Err(token.misplaced(ErrorKind::UnexpectedEofImplicitFlowMapping)),
+        TokenSort::DashToken => Err(token.misplaced(ErrorKind::UnexpectedEofImplicitFlowMapping)),
+        TokenSort::QuestionToken => Err(token.misplaced(
+            ErrorKind::UnexpectedEofImplicitFlowMapping,
+        )),
+        TokenSort::BareColon => Err(token.misplaced(ErrorKind::UnexpectedEofImplicitFlowMapping)),
+        TokenSort::KeyedColon => Err(token.misplaced(ErrorKind::UnexpectedEofImplicitFlowMapping)),
+        TokenSort::CommaToken => Err(token.misplaced(ErrorKind::UnexpectedEofImplicitFlowMapping)),
+        TokenSort::SequenceCloser => Err(token.misplaced(
+            ErrorKind::UnexpectedEofImplicitFlowMapping,
+        )),
+        TokenSort::MappingCloser => Err(token.misplaced(
+            ErrorKind::UnexpectedEofImplicitFlowMapping,
+        )),
+        TokenSort::OfStream => Err(token.misplaced(ErrorKind::UnexpectedEofImplicitFlowMapping)),
+    }
+}

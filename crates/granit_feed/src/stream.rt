@@ -1,0 +1,366 @@
+//! A lexeme around documents (YAML 1.2.2, chapter 9).
+ghost use Rattle.std.specs.Prelude.{◌≡◌, [], false, None, OnOk};
+ghost use Rattle.std.specs.Option.{option_map};
+ghost use Rattle.granit_error.specs.OptionsView.{options_of};
+ghost use Rattle.granit_event.specs.Events.{plain_version};
+ghost use Rattle.granit_frames.specs.SortViews.{machine_token, of_kind, sort_view};
+ghost use Rattle.granit_frames.specs.StateViews.{stage_view};
+ghost use Rattle.granit_items.specs.declared.item.LexemeKind.TheVariants as kinds;
+ghost use Rattle.granit_lexemes.specs.Lexeme as lexemes;
+ghost use Rattle.granit_lexemes.specs.PlainEvent as plain;
+ghost use Rattle.granit_machine.specs.Frames as machine;
+ghost use Rattle.granit_machine.specs.Giving as giving;
+ghost use Rattle.granit_machine.specs.Leaving.{LeavesIfRoom};
+ghost use Rattle.granit_machine.specs.NodeEnds.{empty_span};
+ghost use Rattle.granit_machine.specs.StreamSteps as steps;
+
+use crate::nodes::node;
+use granit_base::{NoMemory, Span, Text};
+use granit_error::{ErrorKind, Options, ScanError};
+use granit_event::{Event, YamlVersion};
+use granit_frames::{DocumentStage, Frame, ParserState, Token, TokenSort};
+use granit_items::LexemeKind;
+use std::alloc::Global;
+use std::mem;
+
+// Directives (YAML 1.2.2, 6.8).
+
+/// A directive that names a version, behind others one of which may have.
+fn with_version<'input>(
+    state: &mut ParserState<'input>,
+    major: u32,
+    minor: u32,
+    token: &Token<'input>,
+    version: Option<YamlVersion>,
+) -> Result<(), ScanError>
+    ensures { LeavesIfRoom result state.new (steps.with_version (machine_token token.now)
+        (option_map plain_version version) major minor state.old) }
+{
+    match version {
+        Some(_) => Err(token.misplaced(ErrorKind::DuplicateVersionDirective)),
+        None => {
+            if major != 1 {
+                return Err(token.misplaced(ErrorKind::UnsupportedYamlMajorVersion));
+            }
+            state.set_stage(DocumentStage::Directives(Some(YamlVersion { major, minor })));
+            Ok(())
+        }
+    }
+}
+
+/// A directive that says what a handle stands for.
+fn with_handle<'input>(
+    state: &mut ParserState<'input>,
+    handle: Text<'input>,
+    prefix: Text<'input>,
+    token: &Token<'input>,
+    version: Option<YamlVersion>,
+) -> Result<(), ScanError>
+    ensures { LeavesIfRoom result state.new (steps.with_directive
+        (of_kind (kinds.TagPrefix handle.entry prefix.entry) token.now)
+        (lexemes.TagPrefix handle.entry.characters prefix.entry.characters)
+        (option_map plain_version version) state.old) }
+{
+    match state.prefix_of(&handle) {
+        Some(_) => Err(token.misplaced(ErrorKind::DuplicateTagDirective)),
+        None => {
+            state.remember_handle(handle, prefix)?;
+            state.set_stage(DocumentStage::Directives(version));
+            Ok(())
+        }
+    }
+}
+
+/// `---`, behind directives one of which may name a version.
+#[tactic(auto, using(crate::proofs::GivingLemmas::flush_frames))]
+fn open_document<'input>(
+    state: &mut ParserState<'input>,
+    token: &Token<'input>,
+    version: Option<YamlVersion>,
+) -> Result<(), ScanError>
+    requires outer { state.old.frames ≡ [] }
+    ensures { LeavesIfRoom result state.new (steps.open_document (machine_token token.now)
+        (option_map plain_version version) state.old) }
+{
+    state.forget_names();
+    state.set_stage(DocumentStage::Inside);
+    state.give(Event::DocumentStart(true, version), token.span())?;
+    state.push_frame(Frame::Root(true))?;
+    Ok(())
+}
+
+/// Behind directives: another, or `---`.
+fn behind_directives<'input>(
+    state: &mut ParserState<'input>,
+    options: &Options,
+    token: &mut Token<'input>,
+    version: Option<YamlVersion>,
+) -> Result<(), ScanError>
+    requires outer { state.old.frames ≡ [] }
+    ensures { LeavesIfRoom result state.new (steps.behind_directives (options_of options.now)
+        (machine_token token.old).lexeme.kind (machine_token token.old) (option_map plain_version version) state.old) }
+{
+    match mem::replace(&mut token.lexeme.kind, LexemeKind::Comma) {
+        LexemeKind::Version(major, minor) => with_version(state, major, minor, token, version),
+        LexemeKind::TagPrefix(handle, prefix) => with_handle(state, handle, prefix, token, version),
+        LexemeKind::Reserved(_, _) => {
+            state.set_stage(DocumentStage::Directives(version));
+            Ok(())
+        }
+        LexemeKind::DocumentStart => open_document(state, token, version),
+        LexemeKind::DocumentEnd => Err(token.misplaced(ErrorKind::ExpectedDocumentStart)),
+        LexemeKind::StreamEnd => Err(token.misplaced(ErrorKind::ExpectedDocumentStart)),
+        LexemeKind::Open(_) => Err(token.misplaced(ErrorKind::ExpectedDocumentStart)),
+        LexemeKind::Close(_) => Err(token.misplaced(ErrorKind::ExpectedDocumentStart)),
+        LexemeKind::Comma => Err(token.misplaced(ErrorKind::ExpectedDocumentStart)),
+        LexemeKind::Dash => Err(token.misplaced(ErrorKind::ExpectedDocumentStart)),
+        LexemeKind::Question => Err(token.misplaced(ErrorKind::ExpectedDocumentStart)),
+        LexemeKind::Colon => Err(token.misplaced(ErrorKind::ExpectedDocumentStart)),
+        LexemeKind::Alias(_) => Err(token.misplaced(ErrorKind::ExpectedDocumentStart)),
+        LexemeKind::Anchor(_) => Err(token.misplaced(ErrorKind::ExpectedDocumentStart)),
+        LexemeKind::Tag(_, _) => Err(token.misplaced(ErrorKind::ExpectedDocumentStart)),
+        LexemeKind::Scalar(_, _) => Err(token.misplaced(ErrorKind::ExpectedDocumentStart)),
+    }
+}
+
+/// The span of a document's start without `---`: that of the first lexeme, unless a block collection begins with it.
+fn bare_start(token: &Token<'_>) -> Span
+    ensures { record { kind = plain.DocumentStart false None; span = result }
+        ≡ steps.bare_start (sort_view token.now.sort) (machine_token token.now) }
+{
+    match token.sort {
+        TokenSort::BeginsNode => token.span().with_indent(token.lexeme.indent),
+        TokenSort::BeginsKey => Span::empty(token.lexeme.start),
+        TokenSort::DashToken => Span::empty(token.lexeme.start),
+        TokenSort::QuestionToken => Span::empty(token.lexeme.start),
+        TokenSort::BareColon => Span::empty(token.lexeme.start),
+        TokenSort::KeyedColon => Span::empty(token.lexeme.start),
+        TokenSort::CommaToken => Span::empty(token.lexeme.start),
+        TokenSort::SequenceCloser => Span::empty(token.lexeme.start),
+        TokenSort::MappingCloser => Span::empty(token.lexeme.start),
+        TokenSort::OfStream => Span::empty(token.lexeme.start),
+    }
+}
+
+// Documents (YAML 1.2.2, 9.1 and 9.2).
+
+/// The root of a document behind its `---`.
+pub(crate) fn at_root<'input>(
+    state: &mut ParserState<'input>,
+    alloc: Global,
+    options: &Options,
+    token: &mut Token<'input>,
+) -> Result<(), ScanError>
+    ensures { LeavesIfRoom result state.new (steps.at_root (options_of options.now)
+        (machine_token token.old) state.old) }
+{
+    if !token.sort.begins_node() {
+        return Err(token.misplaced(ErrorKind::UnexpectedEofBlockSequence));
+    }
+    node(state, alloc, options, token)
+}
+
+/// A document without `---`.
+#[tactic(auto, using(crate::proofs::GivingLemmas::flush_frames))]
+fn begin_document<'input>(
+    state: &mut ParserState<'input>,
+    alloc: Global,
+    options: &Options,
+    token: &mut Token<'input>,
+) -> Result<(), ScanError>
+    requires outer { state.old.frames ≡ [] }
+    ensures { LeavesIfRoom result state.new (steps.begin_document (options_of options.now)
+        (machine_token token.old) state.old) }
+{
+    if !token.sort.begins_node() {
+        return Err(token.misplaced(ErrorKind::UnexpectedEofBlockSequence));
+    }
+    state.forget_names();
+    state.forget_handles();
+    state.set_stage(DocumentStage::Inside);
+    state.give(Event::DocumentStart(false, None), bare_start(token))?;
+    state.push_frame(Frame::Root(false))?;
+    node(state, alloc, options, token)
+}
+
+fn end_stream<'input>(
+    state: &mut ParserState<'input>,
+    token: &Token<'input>,
+) -> Result<(), NoMemory>
+    ensures { OnOk result (state.new ≡ giving.give (plain.event_at plain.StreamEnd
+        (machine_token token.now).lexeme.shown) state.old) }
+{
+    state.give(Event::StreamEnd, token.span())
+}
+
+/// What `%` begins, where no directive stands before it.
+fn first_directive<'input>(
+    state: &mut ParserState<'input>,
+    options: &Options,
+    token: &mut Token<'input>,
+) -> Result<(), ScanError>
+    requires outer { state.old.frames ≡ [] }
+    ensures { LeavesIfRoom result state.new (steps.behind_directives (options_of options.now)
+        (machine_token token.old).lexeme.kind (machine_token token.old) None (steps.without_directives state.old)) }
+{
+    state.forget_handles();
+    state.forget_names();
+    behind_directives(state, options, token, None)
+}
+
+/// `---` without directives.
+fn plain_document<'input>(
+    state: &mut ParserState<'input>,
+    token: &Token<'input>,
+) -> Result<(), ScanError>
+    requires outer { state.old.frames ≡ [] }
+    ensures { LeavesIfRoom result state.new (steps.open_document (machine_token token.now) None
+        (record state.old { handles = [] })) }
+{
+    state.forget_handles();
+    open_document(state, token, None)
+}
+
+/// Before a document that directives may begin.
+fn when_fresh<'input>(
+    state: &mut ParserState<'input>,
+    alloc: Global,
+    options: &Options,
+    token: &mut Token<'input>,
+) -> Result<(), ScanError>
+    requires outer { state.old.frames ≡ [] }
+    ensures { LeavesIfRoom result state.new (steps.when_fresh (options_of options.now)
+        (machine_token token.old).lexeme.kind (machine_token token.old) state.old) }
+{
+    match &token.lexeme.kind {
+        LexemeKind::DocumentEnd => Ok(state.flush()?),
+        LexemeKind::StreamEnd => Ok(end_stream(state, token)?),
+        LexemeKind::Version(_, _) => first_directive(state, options, token),
+        LexemeKind::TagPrefix(_, _) => first_directive(state, options, token),
+        LexemeKind::Reserved(_, _) => first_directive(state, options, token),
+        LexemeKind::DocumentStart => plain_document(state, token),
+        LexemeKind::Open(_) => begin_document(state, alloc, options, token),
+        LexemeKind::Close(_) => begin_document(state, alloc, options, token),
+        LexemeKind::Comma => begin_document(state, alloc, options, token),
+        LexemeKind::Dash => begin_document(state, alloc, options, token),
+        LexemeKind::Question => begin_document(state, alloc, options, token),
+        LexemeKind::Colon => begin_document(state, alloc, options, token),
+        LexemeKind::Alias(_) => begin_document(state, alloc, options, token),
+        LexemeKind::Anchor(_) => begin_document(state, alloc, options, token),
+        LexemeKind::Tag(_, _) => begin_document(state, alloc, options, token),
+        LexemeKind::Scalar(_, _) => begin_document(state, alloc, options, token),
+    }
+}
+
+/// Behind a document that `...` didn't end.
+fn when_between<'input>(
+    state: &mut ParserState<'input>,
+    token: &Token<'input>,
+) -> Result<(), ScanError>
+    requires outer { state.old.frames ≡ [] }
+    ensures { LeavesIfRoom result state.new (steps.when_between (machine_token token.now).lexeme.kind
+        (machine_token token.now) state.old) }
+{
+    match &token.lexeme.kind {
+        LexemeKind::Version(_, _) => Err(token.misplaced(
+            ErrorKind::MissingDocumentEndBeforeDirective,
+        )),
+        LexemeKind::TagPrefix(_, _) => Err(token.misplaced(
+            ErrorKind::MissingDocumentEndBeforeDirective,
+        )),
+        LexemeKind::Reserved(_, _) => Err(token.misplaced(
+            ErrorKind::MissingDocumentEndBeforeDirective,
+        )),
+        LexemeKind::DocumentStart => plain_document(state, token),
+        LexemeKind::StreamEnd => Ok(end_stream(state, token)?),
+        LexemeKind::DocumentEnd => Err(token.misplaced(ErrorKind::ExpectedDocumentStart)),
+        LexemeKind::Open(_) => Err(token.misplaced(ErrorKind::ExpectedDocumentStart)),
+        LexemeKind::Close(_) => Err(token.misplaced(ErrorKind::ExpectedDocumentStart)),
+        LexemeKind::Comma => Err(token.misplaced(ErrorKind::ExpectedDocumentStart)),
+        LexemeKind::Dash => Err(token.misplaced(ErrorKind::ExpectedDocumentStart)),
+        LexemeKind::Question => Err(token.misplaced(ErrorKind::ExpectedDocumentStart)),
+        LexemeKind::Colon => Err(token.misplaced(ErrorKind::ExpectedDocumentStart)),
+        LexemeKind::Alias(_) => Err(token.misplaced(ErrorKind::ExpectedDocumentStart)),
+        LexemeKind::Anchor(_) => Err(token.misplaced(ErrorKind::ExpectedDocumentStart)),
+        LexemeKind::Tag(_, _) => Err(token.misplaced(ErrorKind::ExpectedDocumentStart)),
+        LexemeKind::Scalar(_, _) => Err(token.misplaced(ErrorKind::ExpectedDocumentStart)),
+    }
+}
+
+/// The end of a document.
+fn end_document<'input>(
+    state: &mut ParserState<'input>,
+    span: Span,
+    stage: DocumentStage,
+) -> Result<(), NoMemory>
+    ensures { OnOk result (state.new ≡ steps.end_document (record { start = span.start; end = span.end })
+        (stage_view stage) state.old) }
+{
+    state.give(Event::DocumentEnd, Span::new(span.start, span.end))?;
+    state.forget_handles();
+    state.set_stage(stage);
+    Ok(())
+}
+
+/// Behind the root of a document that isn't ended by `...`.
+#[tactic(auto, using(crate::proofs::GivingLemmas::flush_frames))]
+fn behind_unended<'input>(
+    state: &mut ParserState<'input>,
+    token: &Token<'input>,
+) -> Result<(), ScanError>
+    requires outer { state.old.frames ≡ [] }
+    ensures { LeavesIfRoom result state.new (steps.when_between (machine_token token.now).lexeme.kind
+        (machine_token token.now) (steps.end_document (empty_span state.old.last_end) machine.Between state.old)) }
+{
+    end_document(state, Span::empty(state.last_end()), DocumentStage::Between)?;
+    when_between(state, token)
+}
+
+/// Behind the root of a document.
+fn behind_root<'input>(
+    state: &mut ParserState<'input>,
+    token: &Token<'input>,
+) -> Result<(), ScanError>
+    requires outer { state.old.frames ≡ [] }
+    ensures { LeavesIfRoom result state.new (steps.behind_root (machine_token token.now).lexeme.kind
+        (machine_token token.now) state.old) }
+{
+    match &token.lexeme.kind {
+        LexemeKind::DocumentEnd => Ok(end_document(state, token.span(), DocumentStage::Fresh)?),
+        LexemeKind::Version(_, _) => behind_unended(state, token),
+        LexemeKind::TagPrefix(_, _) => behind_unended(state, token),
+        LexemeKind::Reserved(_, _) => behind_unended(state, token),
+        LexemeKind::DocumentStart => behind_unended(state, token),
+        LexemeKind::StreamEnd => behind_unended(state, token),
+        LexemeKind::Open(_) => behind_unended(state, token),
+        LexemeKind::Close(_) => behind_unended(state, token),
+        LexemeKind::Comma => behind_unended(state, token),
+        LexemeKind::Dash => behind_unended(state, token),
+        LexemeKind::Question => behind_unended(state, token),
+        LexemeKind::Colon => behind_unended(state, token),
+        LexemeKind::Alias(_) => behind_unended(state, token),
+        LexemeKind::Anchor(_) => behind_unended(state, token),
+        LexemeKind::Tag(_, _) => behind_unended(state, token),
+        LexemeKind::Scalar(_, _) => behind_unended(state, token),
+    }
+}
+
+/// Around documents.
+pub(crate) fn outside<'input>(
+    state: &mut ParserState<'input>,
+    alloc: Global,
+    options: &Options,
+    token: &mut Token<'input>,
+) -> Result<(), ScanError>
+    requires outer { state.old.frames ≡ [] }
+    ensures { LeavesIfRoom result state.new (steps.outside (options_of options.now) state.old.stage
+        (machine_token token.old) state.old) }
+{
+    match state.stage() {
+        DocumentStage::Fresh => when_fresh(state, alloc, options, token),
+        DocumentStage::Directives(version) => behind_directives(state, options, token, version),
+        DocumentStage::BehindRoot => behind_root(state, token),
+        DocumentStage::Between => when_between(state, token),
+        DocumentStage::Inside => Err(token.misplaced(ErrorKind::ExpectedDocumentStart)),
+    }
+}

@@ -1,0 +1,3 @@
+pub mod SortViews
+pub mod StateViews
+pub mod TopViews

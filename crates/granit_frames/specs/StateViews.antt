@@ -1,0 +1,93 @@
+-- What the code's parser keeps, as the machine's parser has it.
+use Rattle.std.specs.Prelude.{ℕ, Bool, true, false, List, [], ◌∷◌, map, reverse, Option, Some, None}
+use Rattle.std.specs.Borrow.{Bor}
+use Rattle.std.specs.Option.{option_map}
+use Rattle.granit_base.specs.Written.{Written}
+use Rattle.granit_event.specs.Events.{plain_events, plain_version}
+use Rattle.granit_lexemes.specs.Source.{Source}
+use Rattle.granit_lexemes.specs.PlainEvent.{PlainTag, EventKind, Scalar, SequenceStart, MappingStart}
+use Rattle.granit_machine.specs.Frames as spec
+use Rattle.granit_frames.specs.declared.state.PairStage.{PairStage}
+use Rattle.granit_frames.specs.declared.state.PairStage.TheVariants as stages
+use Rattle.granit_frames.specs.declared.state.Frame.{Frame}
+use Rattle.granit_frames.specs.declared.state.Frame.TheVariants as frames
+use Rattle.granit_frames.specs.declared.state.DocumentStage.{DocumentStage}
+use Rattle.granit_frames.specs.declared.state.DocumentStage.TheVariants as documents
+use Rattle.granit_frames.specs.declared.state.NodeAnchor.{NodeAnchor}
+use Rattle.granit_frames.specs.declared.state.NodeTag.{NodeTag}
+use Rattle.granit_frames.specs.declared.state.NodeProperties.{NodeProperties}
+use Rattle.granit_frames.specs.declared.state.Waiting.{Waiting}
+
+abbrev pub pair_view : PairStage → spec.PairStage
+pair_view stages.BeforePair = spec.BeforePair
+pair_view stages.AtKey = spec.AtKey
+pair_view stages.BehindKey = spec.BehindKey
+pair_view stages.AtQuestion = spec.AtQuestion
+pair_view stages.BehindQuestion = spec.BehindQuestion
+pair_view stages.AtValue = spec.AtValue
+pair_view stages.BehindAlone = spec.BehindAlone
+pair_view stages.BehindPair = spec.BehindPair
+
+abbrev pub frame_view : Frame → spec.Frame
+frame_view (frames.Root explicit) = spec.Root explicit
+frame_view (frames.BlockSequence column indentless) = spec.BlockSequence column indentless
+frame_view (frames.BlockMapping column stage) = spec.BlockMapping column (pair_view stage)
+frame_view (frames.FlowSequence behind_entry) = spec.FlowSequence behind_entry
+frame_view (frames.FlowMapping single stage) = spec.FlowMapping single (pair_view stage)
+frame_view (frames.FlowPair stage) = spec.FlowPair (pair_view stage)
+
+abbrev pub anchor_view : NodeAnchor → ℕ × Written × Source
+anchor_view a = (a.number, a.name, record { start = a.start; end = a.end })
+
+abbrev pub tag_view : NodeTag → PlainTag × Source
+tag_view t = (t.tag, record { start = t.start; end = t.end })
+
+abbrev pub properties_view : NodeProperties → spec.NodeProperties
+properties_view q = record { anchor = option_map anchor_view q.anchor; tag = option_map tag_view q.tag; end = q.end }
+
+abbrev pub frames_view : List Frame → List spec.Frame
+frames_view fs = map frame_view fs
+
+-- a frame and those around it, the innermost last
+abbrev pub split_view : Option (Frame × Bor (List Frame)) → List Frame
+split_view None = []
+split_view (Some s) = s.0 ∷ reverse s.1.now
+
+-- the innermost first, and properties inside all frames
+abbrev pub all_frames : Option NodeProperties → List Frame → List spec.Frame
+all_frames None fs = frames_view fs
+all_frames (Some q) fs = spec.WithProperties (properties_view q) ∷ frames_view fs
+
+-- whether properties stand inside all frames
+abbrev pub has_properties : List spec.Frame → Bool
+has_properties (spec.WithProperties q ∷ fs) = true
+has_properties fs = false
+
+abbrev pub stage_view : DocumentStage → spec.DocumentStage
+stage_view documents.Fresh = spec.Fresh
+stage_view (documents.Directives version) = spec.Directives (option_map plain_version version)
+stage_view documents.Inside = spec.Inside
+stage_view documents.BehindRoot = spec.BehindRoot
+stage_view documents.Between = spec.Between
+
+abbrev pub name_view : Written × ℕ → List ℕ × ℕ
+name_view e = (e.0.characters, e.1)
+
+abbrev pub names_view : List (Written × ℕ) → List (List ℕ × ℕ)
+names_view es = map name_view es
+
+abbrev pub handle_view : Written × Written → List ℕ × List ℕ
+handle_view e = (e.0.characters, e.1.characters)
+
+abbrev pub handles_view : List (Written × Written) → List (List ℕ × List ℕ)
+handles_view es = map handle_view es
+
+abbrev pub waiting_view : Waiting → spec.Waiting
+waiting_view w = record { at = w.at; room = w.room; held = plain_events w.held.items }
+
+-- a node's event with the number of an anchor and a tag
+abbrev pub bears : EventKind → ℕ → Option PlainTag → EventKind
+bears (Scalar text style none untagged) number tag = Scalar text style number tag
+bears (SequenceStart style none untagged) number tag = SequenceStart style number tag
+bears (MappingStart style none untagged) number tag = MappingStart style number tag
+bears kind number tag = kind

@@ -1,0 +1,155 @@
+//! What a lexeme ends before it is taken.
+ghost use Rattle.std.specs.Prelude.{◌≡◌, Ok, OnOk};
+ghost use Rattle.granit_error.specs.OptionsView.{options_of};
+ghost use Rattle.granit_frames.specs.SortViews.{sort_view, machine_token};
+ghost use Rattle.granit_frames.specs.StateViews.{pair_view, frames_view, properties_view};
+ghost use Rattle.granit_machine.specs.Closing as closing;
+
+use crate::frames::Frames;
+use crate::sort::{Token, TokenSort, ends_frame, is_key_in_block, is_right_of};
+use crate::state::{Frame, NodeProperties, PairStage, ParserState, Top};
+use granit_base::NoMemory;
+use granit_error::Options;
+use granit_items::LexemeKind;
+
+fn goes_on_by_sort(right: bool, in_flow: bool, indentless: bool, sort: TokenSort) -> bool
+    ensures { result ≡ closing.goes_on_by_sort right in_flow indentless (sort_view sort) }
+{
+    match sort {
+        TokenSort::BeginsKey => false,
+        TokenSort::BeginsNode => false,
+        TokenSort::DashToken => right || indentless,
+        TokenSort::QuestionToken => right && !in_flow,
+        TokenSort::BareColon => right && !in_flow,
+        TokenSort::KeyedColon => false,
+        TokenSort::CommaToken => false,
+        TokenSort::SequenceCloser => false,
+        TokenSort::MappingCloser => false,
+        TokenSort::OfStream => false,
+    }
+}
+
+fn goes_on_by_kind(
+    right: bool,
+    indentless: bool,
+    properties: &NodeProperties<'_>,
+    token: &Token<'_>,
+) -> bool
+    ensures { result ≡ closing.goes_on_by_kind right (machine_token token.now).lexeme.in_flow indentless
+        (properties_view properties.now) (machine_token token.now).sort (machine_token token.now).lexeme.kind }
+{
+    let by_sort = goes_on_by_sort(right, token.lexeme.in_flow, indentless, token.sort);
+    match &token.lexeme.kind {
+        LexemeKind::Anchor(_) => right && properties.anchor.is_none(),
+        LexemeKind::Tag(_, _) => right && properties.tag.is_none(),
+        LexemeKind::Scalar(_, _) => right,
+        LexemeKind::Open(_) => right,
+        LexemeKind::Version(_, _) => by_sort,
+        LexemeKind::TagPrefix(_, _) => by_sort,
+        LexemeKind::Reserved(_, _) => by_sort,
+        LexemeKind::DocumentStart => by_sort,
+        LexemeKind::DocumentEnd => by_sort,
+        LexemeKind::StreamEnd => by_sort,
+        LexemeKind::Close(_) => by_sort,
+        LexemeKind::Comma => by_sort,
+        LexemeKind::Dash => by_sort,
+        LexemeKind::Question => by_sort,
+        LexemeKind::Colon => by_sort,
+        LexemeKind::Alias(_) => by_sort,
+    }
+}
+
+/// Whether a token goes on with the node of the properties inside all frames.
+#[tactic(auto, unfolding(granit_machine::specs::Closing::goes_on_with))]
+fn goes_on_with(token: &Token<'_>, properties: &NodeProperties<'_>, around: &Frames) -> bool
+    ensures { result
+        ≡ closing.goes_on_with (machine_token token.now) (properties_view properties.now) (frames_view around.now) }
+{
+    let right = token.lexeme.in_flow || is_right_of(token.column(), around.under_column());
+    if is_key_in_block(&token.lexeme, token.sort) {
+        return right;
+    }
+    let indentless = around.may_be_indentless(token.lexeme.start.col());
+    goes_on_by_kind(right, indentless, properties, token)
+}
+
+fn is_at_value_or_behind(stage: PairStage) -> bool
+    ensures { result ≡ closing.is_at_value_or_behind (pair_view stage) }
+{
+    matches!(stage, PairStage::AtValue | PairStage::BehindPair)
+}
+
+fn is_behind_pair(stage: PairStage) -> bool
+    ensures { result ≡ closing.is_behind_pair (pair_view stage) }
+{
+    matches!(stage, PairStage::BehindPair)
+}
+
+fn is_behind_question(stage: PairStage) -> bool
+    ensures { result ≡ closing.is_behind_question (pair_view stage) }
+{
+    matches!(stage, PairStage::BehindQuestion)
+}
+
+impl<'input> ParserState<'input> {
+    /// Whether a token ends the innermost unfinished node.
+    fn ends_top(&self, token: &Token<'input>) -> bool
+        ensures { result ≡ closing.ends_top (machine_token token.now) self.now self.now.frames }
+    {
+        match self.top() {
+            Top::Outside => false,
+            Top::Properties(properties, around) => !goes_on_with(token, properties, around),
+            Top::In(Frame::Root(explicit), _) => explicit && token.sort.is_of_stream(),
+            Top::In(Frame::BlockSequence(column, indentless), _) => {
+                ends_frame(token.column(), column)
+                    || (indentless
+                        && !(token.sort.is_dash() && token.is_in_column(column))
+                        && (self.waiting.is_none()
+                            || (token.is_in_column(column) && token.sort.begins_pair())))
+            }
+            Top::In(Frame::BlockMapping(column, _), _) => ends_frame(token.column(), column),
+            Top::In(Frame::FlowSequence(_), _) => false,
+            Top::In(Frame::FlowMapping(single, stage), _) => {
+                single && is_at_value_or_behind(stage) && token.sort.ends_entry()
+            }
+            Top::In(Frame::FlowPair(stage), _) => {
+                token.sort.ends_entry()
+                    || is_behind_pair(stage)
+                    || (is_behind_question(stage) && !token.sort.is_bare_colon())
+            }
+        }
+    }
+
+    /// The innermost unfinished node ends before a token.
+    fn end_top(&mut self, options: &Options, token: &Token<'input>) -> Result<(), NoMemory>
+        ensures { OnOk result (self.new
+            ≡ closing.end_top (options_of options.now) (machine_token token.now) self.old self.old.frames) }
+    {
+        let start = token.lexeme.start;
+        match self.top() {
+            Top::Outside => self.end_node(start, start, start),
+            Top::Properties(_, _) => self.end_properties(options),
+            Top::In(Frame::Root(_), _) => {
+                self.give_null(self.last_end)?;
+                self.finish()
+            }
+            Top::In(Frame::BlockSequence(_, _), _) => self.end_node(start, start, start),
+            Top::In(Frame::BlockMapping(_, _), _) => self.end_node(start, start, start),
+            Top::In(Frame::FlowSequence(_), _) => self.end_node(start, start, start),
+            Top::In(Frame::FlowMapping(_, _), _) => self.end_node(start, start, start),
+            Top::In(Frame::FlowPair(_), _) => self.end_node(start, start, start),
+        }
+    }
+
+    /// Ends what a token ends.
+    #[tactic(auto, using(crate::proofs::CloseLemmas::closes_on, crate::proofs::CloseLemmas::closing_shortens, crate::proofs::CloseLemmas::closed_all))]
+    pub fn close(&mut self, options: &Options, token: &Token<'input>) -> Result<(), NoMemory>
+        ensures { OnOk result (closing.close (options_of options.now) (machine_token token.now) self.old
+            ≡ Ok self.new) }
+    {
+        'tops: while self.ends_top(token) {
+            self.end_top(options, token)?;
+        }
+        Ok(())
+    }
+}

@@ -1,0 +1,314 @@
+//! How nodes end and collections begin.
+ghost use Rattle.std.specs.Prelude.{◌≡◌, ◌∷◌, false, None, OnOk};
+ghost use Rattle.std.specs.Option.{option_map};
+ghost use Rattle.granit_base.specs.declared.style.ScalarStyle.TheVariants.{Plain};
+ghost use Rattle.granit_error.specs.OptionsView.{options_of};
+ghost use Rattle.granit_event.specs.Events.{event_kind};
+ghost use Rattle.granit_frames.specs.StateViews.{frame_view, pair_view, tag_view, bears, has_properties};
+ghost use Rattle.granit_lexemes.specs.PlainEvent as plain;
+ghost use Rattle.granit_machine.specs.Frames as spec;
+ghost use Rattle.granit_machine.specs.Giving as giving;
+ghost use Rattle.granit_machine.specs.Leaving.{LeavesIfRoom};
+ghost use Rattle.granit_machine.specs.NodeEnds as ends;
+
+use crate::giving::null_event;
+use crate::state::{DocumentStage, Frame, NodeTag, PairStage, ParserState, Top, Waiting};
+use granit_base::{Marker, NoMemory, ScalarStyle, Span, Text};
+use granit_error::{ErrorKind, Options, ScanError};
+use granit_event::Event;
+use std::alloc::Global;
+use std::collections::VecDeque;
+
+/// Where a pair stands behind a node.
+fn finished_stage(stage: PairStage) -> PairStage
+    ensures { pair_view result ≡ ends.finished_stage (pair_view stage) }
+{
+    match stage {
+        PairStage::BeforePair => PairStage::BehindAlone,
+        PairStage::AtKey => PairStage::BehindKey,
+        PairStage::BehindKey => PairStage::BehindKey,
+        PairStage::AtQuestion => PairStage::BehindQuestion,
+        PairStage::BehindQuestion => PairStage::BehindQuestion,
+        PairStage::AtValue => PairStage::BehindPair,
+        PairStage::BehindAlone => PairStage::BehindAlone,
+        PairStage::BehindPair => PairStage::BehindPair,
+    }
+}
+
+// Ends of nodes.
+impl<'input> ParserState<'input> {
+    /// Without the innermost unfinished node.
+    fn drop_top(&mut self)
+        ensures { self.new ≡ record self.old { frames = ends.below self.old.frames } }
+    {
+        match self.properties.take() {
+            None => self.frames.pop(),
+            Some(_) => {}
+        }
+    }
+
+    /// Another frame in the place of the innermost.
+    pub fn with_top(&mut self, frame: Frame) -> Result<(), NoMemory>
+        ensures { OnOk result (self.new ≡ ends.with_top (frame_view frame) self.old) }
+    {
+        match self.properties.take() {
+            None => self.frames.replace(frame),
+            Some(_) => self.frames.push(frame),
+        }
+    }
+
+    /// The node at the open place is finished.
+    pub fn finish(&mut self) -> Result<(), NoMemory>
+        ensures { OnOk result (self.new ≡ ends.finish self.old) }
+    {
+        match self.top() {
+            Top::Outside => Ok(()),
+            Top::Properties(_, _) => Ok(()),
+            Top::In(Frame::Root(_), _) => {
+                self.drop_top();
+                self.stage = DocumentStage::BehindRoot;
+                Ok(())
+            }
+            Top::In(Frame::BlockSequence(_, _), _) => Ok(()),
+            Top::In(Frame::BlockMapping(column, stage), _) => {
+                self.with_top(Frame::BlockMapping(column, finished_stage(stage)))
+            }
+            Top::In(Frame::FlowSequence(_), _) => self.with_top(Frame::FlowSequence(true)),
+            Top::In(Frame::FlowMapping(single, stage), _) => {
+                self.with_top(Frame::FlowMapping(single, finished_stage(stage)))
+            }
+            Top::In(Frame::FlowPair(stage), _) => {
+                self.with_top(Frame::FlowPair(finished_stage(stage)))
+            }
+        }
+    }
+
+    /// The empty nodes of the pair that ends before a place, or goes on there with no `:`.
+    pub fn owed(&mut self, mark: Marker) -> Result<(), NoMemory>
+        ensures { OnOk result (self.new ≡ ends.owed mark self.old) }
+    {
+        match self.top() {
+            Top::Outside => Ok(()),
+            Top::Properties(_, _) => Ok(()),
+            Top::In(Frame::Root(_), _) => Ok(()),
+            Top::In(Frame::BlockSequence(_, _), _) => self.give_empty(),
+            Top::In(Frame::BlockMapping(column, stage), _) => self.owed_in_block(
+                mark, column, stage,
+            ),
+            Top::In(Frame::FlowSequence(_), _) => Ok(()),
+            Top::In(Frame::FlowMapping(_, stage), _) => self.owed_in_flow(mark, stage),
+            Top::In(Frame::FlowPair(stage), _) => self.owed_in_pair(mark, stage),
+        }
+    }
+
+    fn owed_in_block(
+        &mut self,
+        mark: Marker,
+        column: usize,
+        stage: PairStage,
+    ) -> Result<(), NoMemory>
+        ensures { (below : _) → OnOk result (self.new
+            ≡ ends.owed_in (spec.BlockMapping column (pair_view stage) ∷ below) mark self.old) }
+    {
+        match stage {
+            PairStage::BeforePair => Ok(()),
+            PairStage::AtKey => Ok(()),
+            PairStage::BehindKey => Ok(()),
+            PairStage::AtQuestion => {
+                self.give(null_event(), Span::empty(mark).with_indent(Some(column)))?;
+                self.give_null(mark)
+            }
+            PairStage::BehindQuestion => self.give_null(mark),
+            PairStage::AtValue => self.give_empty(),
+            PairStage::BehindAlone => Ok(()),
+            PairStage::BehindPair => Ok(()),
+        }
+    }
+
+    fn owed_in_flow(&mut self, mark: Marker, stage: PairStage) -> Result<(), NoMemory>
+        ensures { (single : _) (below : _) → OnOk result (self.new
+            ≡ ends.owed_in (spec.FlowMapping single (pair_view stage) ∷ below) mark self.old) }
+    {
+        match stage {
+            PairStage::BeforePair => Ok(()),
+            PairStage::AtKey => Ok(()),
+            PairStage::BehindKey => Ok(()),
+            PairStage::AtQuestion => {
+                self.give_null(mark)?;
+                self.give_null(mark)
+            }
+            PairStage::BehindQuestion => self.give_null(mark),
+            PairStage::AtValue => self.give_empty(),
+            PairStage::BehindAlone => self.give_null(mark),
+            PairStage::BehindPair => Ok(()),
+        }
+    }
+
+    fn owed_in_pair(&mut self, mark: Marker, stage: PairStage) -> Result<(), NoMemory>
+        ensures { (below : _) → OnOk result (self.new
+            ≡ ends.owed_in (spec.FlowPair (pair_view stage) ∷ below) mark self.old) }
+    {
+        match stage {
+            PairStage::BeforePair => Ok(()),
+            PairStage::AtKey => Ok(()),
+            PairStage::BehindKey => Ok(()),
+            PairStage::AtQuestion => {
+                self.give_null(mark)?;
+                self.give_null(mark)
+            }
+            PairStage::BehindQuestion => self.give_null(mark),
+            PairStage::AtValue => self.give_null(mark),
+            PairStage::BehindAlone => Ok(()),
+            PairStage::BehindPair => Ok(()),
+        }
+    }
+
+    /// The event that ends the innermost unfinished node.
+    fn end_event(&self) -> Event<'input>
+        ensures { event_kind result ≡ ends.end_kind self.now.frames }
+    {
+        match self.top() {
+            Top::Outside => Event::MappingEnd,
+            Top::Properties(_, _) => Event::MappingEnd,
+            Top::In(Frame::Root(_), _) => Event::MappingEnd,
+            Top::In(Frame::BlockSequence(_, _), _) => Event::SequenceEnd,
+            Top::In(Frame::BlockMapping(_, _), _) => Event::MappingEnd,
+            Top::In(Frame::FlowSequence(_), _) => Event::SequenceEnd,
+            Top::In(Frame::FlowMapping(_, _), _) => Event::MappingEnd,
+            Top::In(Frame::FlowPair(_), _) => Event::MappingEnd,
+        }
+    }
+
+    /// The innermost collection ends before a place, with an event of a span.
+    #[tactic(auto, unfolding(granit_machine::specs::NodeEnds::end_node))]
+    pub fn end_node(&mut self, mark: Marker, start: Marker, end: Marker) -> Result<(), NoMemory>
+        ensures { OnOk result (self.new ≡ ends.end_node mark (record { start = start; end = end }) self.old) }
+    {
+        self.owed(mark)?;
+        let event = self.end_event();
+        self.drop_top();
+        self.give(event, Span::new(start, end))?;
+        self.finish()
+    }
+
+    /// The node of properties stays empty.
+    #[tactic(auto, unfolding(granit_machine::specs::NodeEnds::end_properties))]
+    pub(crate) fn end_properties(&mut self, options: &Options) -> Result<(), NoMemory>
+        ensures { OnOk result (self.new ≡ ends.end_properties (options_of options.now)
+            (giving.properties_on self.old.frames self.old.last_end) self.old) }
+    {
+        match self.top() {
+            Top::Outside => self.end_empty(options, null_event(), self.last_end),
+            Top::Properties(properties, _) => {
+                let mark = properties.end;
+                let event = null_of(&properties.tag);
+                self.end_empty(options, event, mark)
+            }
+            Top::In(_, _) => self.end_empty(options, null_event(), self.last_end),
+        }
+    }
+
+    fn end_empty(
+        &mut self,
+        options: &Options,
+        event: Event<'input>,
+        mark: Marker,
+    ) -> Result<(), NoMemory>
+        ensures { OnOk result (self.new ≡ ends.finish (giving.node_event (options_of options.now)
+            (bears (event_kind event.entry)) (ends.empty_span mark) None self.old)) }
+    {
+        self.node_event(options, event, mark, mark, None)?;
+        self.finish()
+    }
+}
+
+// Beginnings of collections.
+impl<'input> ParserState<'input> {
+    /// How many block collections are open.
+    #[tactic(auto, using(crate::proofs::FrameLemmas::blocks_below))]
+    pub fn block_count(&self) -> usize
+        ensures { result ≡ ends.block_count self.now.frames }
+    {
+        self.frames.block_count()
+    }
+
+    /// Whether a sequence may begin in the column of its mapping (YAML 1.2.2, 8.2.2).
+    #[tactic(auto, using(crate::proofs::FrameLemmas::below_all))]
+    pub fn may_be_indentless(&self, column: usize) -> bool
+        ensures { result ≡ ends.may_be_indentless column (giving.below_properties self.now.frames) }
+    {
+        self.frames.may_be_indentless(column)
+    }
+
+    /// One more unfinished node.
+    #[tactic(auto, using(crate::proofs::FrameLemmas::pushed_frame))]
+    pub fn push_frame(&mut self, frame: Frame) -> Result<(), NoMemory>
+        requires bare { has_properties self.old.frames ≡ false }
+        ensures { OnOk result (self.new ≡ record self.old { frames = frame_view frame ∷ self.old.frames }) }
+    {
+        self.frames.push(frame)
+    }
+
+    /// A collection begins.
+    pub fn begin(
+        &mut self,
+        options: &Options,
+        event: Event<'input>,
+        start: Marker,
+        end: Marker,
+        frame: Frame,
+    ) -> Result<(), NoMemory>
+        ensures { OnOk result (self.new ≡ ends.begin (options_of options.now) (bears (event_kind event.entry))
+            (record { start = start; end = end }) (frame_view frame) self.old) }
+    {
+        self.node_event(options, event, start, end, None)?;
+        self.push_frame(frame)
+    }
+
+    /// A block collection begins at a mark.
+    ///
+    /// # Errors
+    ///
+    /// `RecursionLimitExceeded` there, where no more may.
+    #[tactic(auto, unfolding(granit_machine::specs::NodeEnds::begin_block))]
+    pub fn begin_block(
+        &mut self,
+        options: &Options,
+        event: Event<'input>,
+        mark: Marker,
+        frame: Frame,
+    ) -> Result<(), ScanError>
+        ensures { LeavesIfRoom result self.new (ends.begin_block (options_of options.now)
+            (bears (event_kind event.entry)) mark (frame_view frame) self.old) }
+    {
+        if options.block_nesting_limit <= self.block_count() {
+            return Err(ScanError::from_kind(mark, ErrorKind::RecursionLimitExceeded));
+        }
+        self.begin(options, event, mark, mark, frame)?;
+        Ok(())
+    }
+
+    /// A `-` or `:` waits for its node.
+    pub fn waits(&mut self, alloc: Global, mark: Marker, room: usize) -> Result<(), NoMemory>
+        ensures { OnOk result (self.new ≡ ends.waits mark room self.old) }
+    {
+        self.flush()?;
+        self.waiting = Some(Waiting {
+            at: mark,
+            room,
+            held: VecDeque::new(alloc),
+        });
+        Ok(())
+    }
+}
+
+/// The empty node of a tag.
+fn null_of<'input>(tag: &Option<NodeTag>) -> Event<'input>
+    ensures { event_kind result
+        ≡ plain.Scalar (giving.lent (ends.null_text (option_map tag_view tag.now))) Plain 0 None }
+{
+    match tag {
+        None => null_event(),
+        Some(_) => Event::Scalar(Text::borrowed(""), ScalarStyle::Plain, 0, None),
+    }
+}

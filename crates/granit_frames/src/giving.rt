@@ -1,0 +1,254 @@
+//! How events are given: behind held comments, and with the properties of their node.
+ghost use Rattle.std.specs.Prelude.{◌≡◌, ◌-◌, ◌==◌, ◌++◌, ◌∷◌, [], false, not, None, length, drop, slice_get, OnOk};
+ghost use Rattle.std.specs.Option.{option_map};
+ghost use Rattle.granit_error.specs.OptionsView.{options_of};
+ghost use Rattle.granit_event.specs.Events.{event_kind, plain_event};
+ghost use Rattle.granit_frames.specs.StateViews.{anchor_view, tag_view, properties_view, bears, has_properties};
+ghost use Rattle.granit_lexemes.specs.PlainEvent as plain;
+ghost use Rattle.granit_machine.specs.Giving as giving;
+
+use crate::state::{NodeAnchor, NodeProperties, NodeTag, ParserState};
+use granit_base::{Marker, NoMemory, ScalarStyle, Span, Text};
+use granit_error::Options;
+use granit_event::{Event, Tag};
+
+/// An empty node (YAML 1.2.2, 7.2).
+pub fn null_event<'input>() -> Event<'input>
+    ensures { event_kind result ≡ giving.null_kind }
+{
+    Event::Scalar(Text::borrowed("~"), ScalarStyle::Plain, 0, None)
+}
+
+// Events and held comments.
+impl<'input> ParserState<'input> {
+    /// One more event of this step.
+    pub fn add_event(&mut self, event: Event<'input>, span: Span) -> Result<(), NoMemory>
+        ensures { OnOk result (self.new
+            ≡ record self.old { given = self.old.given ++ plain_event (event.entry, span) ∷ [] }) }
+    {
+        self.given.push_back((event, span))?;
+        Ok(())
+    }
+
+    /// Gives the held comments.
+    pub fn flush(&mut self) -> Result<(), NoMemory>
+        ensures { OnOk result (self.new ≡ giving.flush self.old) }
+    {
+        match self.waiting.take() {
+            None => Ok(()),
+            Some(mut waiting) => {
+                self.given.append(&mut waiting.held)?;
+                Ok(())
+            }
+        }
+    }
+
+    /// Gives an event.
+    pub(crate) fn put(&mut self, event: Event<'input>, span: Span) -> Result<(), NoMemory>
+        ensures { OnOk result (self.new ≡ giving.put (plain_event (event.entry, span)) self.old) }
+    {
+        self.last_end = span.end;
+        self.add_event(event, span)
+    }
+
+    /// Gives an event behind the held comments.
+    pub fn give(&mut self, event: Event<'input>, span: Span) -> Result<(), NoMemory>
+        ensures { OnOk result (self.new ≡ giving.give (plain_event (event.entry, span)) self.old) }
+    {
+        self.flush()?;
+        self.put(event, span)
+    }
+
+    /// Gives an empty node behind the held comments.
+    pub fn give_null(&mut self, mark: Marker) -> Result<(), NoMemory>
+        ensures { OnOk result (self.new ≡ giving.give (giving.null_at mark) self.old) }
+    {
+        self.give(null_event(), Span::empty(mark))
+    }
+
+    /// Whether an event was given and not taken.
+    pub fn has_event(&self) -> bool
+        ensures { result ≡ not (length self.now.given == 0) }
+    {
+        !self.given.is_empty()
+    }
+
+    /// Takes the first of the events that were given.
+    pub fn pop_event(&mut self) -> Option<(Event<'input>, Span)>
+        ensures first { option_map plain_event result ≡ slice_get self.old.given 0 }
+        ensures rest { self.new ≡ record self.old { given = drop 1 self.old.given } }
+    {
+        self.given.pop_front()
+    }
+
+    /// Gives the empty node of what waits, before the held comments.
+    pub fn give_empty(&mut self) -> Result<(), NoMemory>
+        ensures { OnOk result (self.new ≡ giving.give_empty self.old) }
+    {
+        match &self.waiting {
+            None => Ok(()),
+            Some(waiting) => {
+                let mark = waiting.at;
+                self.put(null_event(), Span::empty(mark))?;
+                self.flush()
+            }
+        }
+    }
+}
+
+/// The event of a node, with the number of its anchor and its tag.
+fn bearing<'input>(event: Event<'input>, number: usize, tag: Option<Tag>) -> Event<'input>
+    ensures { event_kind result ≡ bears (event_kind event.entry) number tag }
+{
+    match event {
+        Event::StreamStart => Event::StreamStart,
+        Event::StreamEnd => Event::StreamEnd,
+        Event::DocumentStart(explicit, version) => Event::DocumentStart(explicit, version),
+        Event::DocumentEnd => Event::DocumentEnd,
+        Event::Alias(anchor) => Event::Alias(anchor),
+        Event::Anchor(anchor, name) => Event::Anchor(anchor, name),
+        Event::UnresolvedAlias(name) => Event::UnresolvedAlias(name),
+        Event::Comment(text, placement) => Event::Comment(text, placement),
+        Event::Scalar(text, style, _, _) => Event::Scalar(text, style, number, tag),
+        Event::SequenceStart(style, _, _) => Event::SequenceStart(style, number, tag),
+        Event::SequenceEnd => Event::SequenceEnd,
+        Event::MappingStart(style, _, _) => Event::MappingStart(style, number, tag),
+        Event::MappingEnd => Event::MappingEnd,
+    }
+}
+
+/// The number of a node's anchor, 0 where it has none.
+fn anchor_number(anchor: &Option<NodeAnchor<'_>>) -> usize
+    ensures { result ≡ giving.anchor_number (option_map anchor_view anchor.now) }
+{
+    match anchor {
+        None => 0,
+        Some(anchor) => anchor.number,
+    }
+}
+
+fn tag_value(tag: Option<NodeTag>) -> Option<Tag>
+    ensures { result ≡ giving.tag_value (option_map tag_view tag) }
+{
+    match tag {
+        None => None,
+        Some(tag) => Some(tag.tag),
+    }
+}
+
+/// How many characters a span says that a tag has: 0 where 32 bits are too few.
+fn told_length(start: Marker, end: Marker) -> u32
+    ensures { result ≡ plain.told_length (end.place.index - start.place.index) }
+{
+    let length = end.index().saturating_sub(start.index());
+    if length <= u32::MAX as usize {
+        length as u32
+    } else {
+        0
+    }
+}
+
+/// The same span with the place of a node's tag.
+fn span_with_tag(tag: &Option<NodeTag>, start: Marker, end: Marker, indent: Option<usize>) -> Span
+    ensures { result ≡ giving.span_with_tag (option_map tag_view tag.now) (record { start = start; end = end }) indent }
+{
+    let span = Span::new(start, end).with_indent(indent);
+    match tag {
+        None => span,
+        Some(tag) => span.with_tag_span(Some((tag.start, told_length(tag.start, tag.end)))),
+    }
+}
+
+// Events of nodes.
+impl<'input> ParserState<'input> {
+    /// The properties of the node that begins, or none up to a place.
+    #[tactic(auto, using(crate::proofs::FrameLemmas::no_properties_below, crate::proofs::FrameLemmas::none_on_top, crate::proofs::FrameLemmas::no_properties_on))]
+    pub(crate) fn take_properties(&mut self, end: Marker) -> NodeProperties<'input>
+        ensures properties { properties_view result ≡ giving.properties_on self.old.frames end }
+        ensures below { self.new ≡ record self.old { frames = giving.below_properties self.old.frames } }
+        ensures bare { has_properties self.new.frames ≡ false }
+    {
+        let Some(properties) = self.properties.take() else {
+            return NodeProperties {
+                anchor: None,
+                tag: None,
+                end,
+            };
+        };
+        properties
+    }
+
+    /// The column that the first event of a key of a block mapping tells, else its own.
+    fn key_indent(&self, own: Option<usize>) -> Option<usize>
+        ensures { result ≡ giving.key_indent self.now.frames own }
+    {
+        match &self.properties {
+            Some(_) => own,
+            None => self.frames.key_indent(own),
+        }
+    }
+
+    /// The event of an anchor, where such are asked for.
+    fn tell_anchor(
+        &mut self,
+        options: &Options,
+        anchor: Option<NodeAnchor<'input>>,
+    ) -> Result<(), NoMemory>
+        ensures { OnOk result (self.new
+            ≡ giving.tell_anchor (options_of options.now) (option_map anchor_view anchor.entry) self.old) }
+    {
+        match anchor {
+            None => Ok(()),
+            Some(anchor) => {
+                if options.emit_anchor_events {
+                    let span = Span::new(anchor.start, anchor.end);
+                    return self.add_event(Event::Anchor(anchor.number, anchor.name), span);
+                }
+                Ok(())
+            }
+        }
+    }
+
+    fn node_event_by(
+        &mut self,
+        options: &Options,
+        properties: NodeProperties<'input>,
+        event: Event<'input>,
+        start: Marker,
+        end: Marker,
+        indent: Option<usize>,
+    ) -> Result<(), NoMemory>
+        ensures { OnOk result (self.new ≡ giving.node_event_by (options_of options.now)
+            (properties_view properties.entry) (bears (event_kind event.entry))
+            (record { start = start; end = end }) indent self.old) }
+    {
+        let NodeProperties {
+            anchor,
+            tag,
+            end: _,
+        } = properties;
+        let column = self.key_indent(indent);
+        let span = span_with_tag(&tag, start, end, column);
+        let number = anchor_number(&anchor);
+        self.give(bearing(event, number, tag_value(tag)), span)?;
+        self.tell_anchor(options, anchor)
+    }
+
+    /// A node's first event with its properties, and its anchor's event.
+    #[tactic(auto, unfolding(granit_machine::specs::Giving::node_event), using(crate::proofs::FrameLemmas::same_frames))]
+    pub fn node_event(
+        &mut self,
+        options: &Options,
+        event: Event<'input>,
+        start: Marker,
+        end: Marker,
+        indent: Option<usize>,
+    ) -> Result<(), NoMemory>
+        ensures event { OnOk result (self.new ≡ giving.node_event (options_of options.now)
+            (bears (event_kind event.entry)) (record { start = start; end = end }) indent self.old) }
+        ensures bare { OnOk result (has_properties self.new.frames ≡ false) }
+    {
+        let properties = self.take_properties(end);
+        self.node_event_by(options, properties, event, start, end, indent)
+    }
+}

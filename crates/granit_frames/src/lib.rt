@@ -1,0 +1,20 @@
+//! The parser's unfinished nodes: what stands between lexemes, and how events are given, nodes begin and nodes end
+//! (YAML 1.2.2, chapters 6 to 9).
+#![tactic(auto)]
+
+mod closing;
+mod comments;
+mod ends;
+mod frames;
+mod giving;
+mod names;
+mod properties;
+mod sort;
+mod state;
+
+pub use frames::Frames;
+pub use giving::null_event;
+pub use sort::{Token, TokenSort, token_sort};
+pub use state::{
+    DocumentStage, Frame, NodeAnchor, NodeProperties, NodeTag, PairStage, ParserState, Top,
+};

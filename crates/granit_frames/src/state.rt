@@ -1,0 +1,226 @@
+//! What a parser keeps between lexemes.
+ghost use Rattle.std.specs.Prelude.{◌≡◌, is_none};
+ghost use Rattle.granit_frames.specs.StateViews.{stage_view};
+ghost use Rattle.granit_frames.specs.TopViews.{top_view};
+ghost use Rattle.granit_machine.specs.Frames.{parser_start};
+
+use crate::frames::Frames;
+use granit_base::{Marker, Span, Text};
+use granit_event::{Event, Tag, YamlVersion};
+use std::alloc::Global;
+use std::collections::{BTreeMap, VecDeque};
+use std::marker::Model;
+
+/// Where a pair of a mapping stands (YAML 1.2.2, 7.4.2 and 8.2.2).
+#[derive(Clone, Copy, Debug, PartialEq, Eq)]
+pub enum PairStage {
+    /// Before its key.
+    BeforePair,
+    /// At a simple key.
+    AtKey,
+    /// Behind a simple key.
+    BehindKey,
+    /// Behind `?`.
+    AtQuestion,
+    /// Behind the key of a `?`.
+    BehindQuestion,
+    /// Behind `:`.
+    AtValue,
+    /// Behind a node without `:`.
+    BehindAlone,
+    /// Behind its value.
+    BehindPair,
+}
+
+/// An unfinished node.
+#[derive(Clone, Copy, Debug, PartialEq, Eq)]
+pub enum Frame {
+    /// A document whose root must come; whether `---` was written.
+    Root(bool),
+    /// A sequence in a column; whether it stands in the column of its mapping.
+    BlockSequence(usize, bool),
+    /// A mapping in a column.
+    BlockMapping(usize, PairStage),
+    /// A sequence in brackets; whether it stands behind an entry.
+    FlowSequence(bool),
+    /// A mapping in brackets, or the pair that a `:` makes in a sequence.
+    FlowMapping(bool, PairStage),
+    /// The pair that a `?` makes in a sequence.
+    FlowPair(PairStage),
+}
+
+/// Where a stream stands around its documents (YAML 1.2.2, 9.2).
+#[derive(Clone, Copy, Debug, PartialEq, Eq)]
+pub enum DocumentStage {
+    /// Before a document that directives may begin.
+    Fresh,
+    /// Behind directives, one of which may name a version.
+    Directives(Option<YamlVersion>),
+    /// In a document.
+    Inside,
+    /// Behind the root of a document.
+    BehindRoot,
+    /// Behind a document that `...` didn't end.
+    Between,
+}
+
+/// An anchor of a node: its number, its name, and where it stands.
+#[derive(Drop)]
+pub struct NodeAnchor<'input> {
+    /// How many anchors were read up to it.
+    pub number: usize,
+    /// Its name.
+    pub name: Text<'input>,
+    /// Where it begins with its `&`.
+    pub start: Marker,
+    /// The place behind it.
+    pub end: Marker,
+}
+
+/// A tag of a node, and where it stands.
+#[derive(Drop)]
+pub struct NodeTag {
+    /// Its handle and what follows that, with what the handle stands for.
+    pub tag: Tag,
+    /// Where it begins with its `!`.
+    pub start: Marker,
+    /// The place behind it.
+    pub end: Marker,
+}
+
+/// The properties of a node that must come (YAML 1.2.2, 6.9).
+#[derive(Drop)]
+pub struct NodeProperties<'input> {
+    /// Its anchor.
+    pub anchor: Option<NodeAnchor<'input>>,
+    /// Its tag.
+    pub tag: Option<NodeTag>,
+    /// The place behind the last of them.
+    pub end: Marker,
+}
+
+/// A `-` or a `:` whose node hasn't begun.
+#[derive(Drop)]
+pub(crate) struct Waiting<'input> {
+    /// Where its node stands if it stays empty.
+    pub(crate) at: Marker,
+    /// How many comments may still come.
+    pub(crate) room: usize,
+    /// Those that came.
+    pub(crate) held: VecDeque<(Event<'input>, Span)>,
+}
+
+/// What a parser keeps between lexemes: the unfinished nodes, what is declared, what waits, and the events that it
+/// gives.
+#[derive(Drop)]
+pub struct ParserState<'input> {
+    pub(crate) frames: Frames,
+    /// Of the node that must come, inside all frames.
+    pub(crate) properties: Option<NodeProperties<'input>>,
+    pub(crate) stage: DocumentStage,
+    /// The end of the last event that is no comment and no anchor.
+    pub(crate) last_end: Marker,
+    /// How many anchors were read.
+    pub(crate) count: usize,
+    /// The number of the last anchor of each name in the document.
+    pub(crate) names: BTreeMap<Text<'input>, usize>,
+    /// What the handles of the document's directives stand for.
+    pub(crate) handles: BTreeMap<Text<'input>, Text<'input>>,
+    pub(crate) waiting: Option<Waiting<'input>>,
+    /// The events of this step so far.
+    pub(crate) given: VecDeque<(Event<'input>, Span)>,
+}
+
+/// The innermost unfinished node, and those around it.
+pub enum Top<'a, 'input> {
+    /// None: around documents.
+    Outside,
+    /// A node whose properties were read.
+    Properties(&'a NodeProperties<'input>, &'a Frames),
+    /// Another.
+    In(Frame, &'a [Frame]),
+}
+
+impl<'input> Model for ParserState<'input> {
+    ghost use Rattle.std.specs.Prelude.{◌≡◌};
+    ghost use Rattle.granit_machine.specs.Frames as spec;
+    ghost use Rattle.std.specs.Option.{option_map};
+    ghost use Rattle.granit_event.specs.Events.{plain_events};
+    ghost use Rattle.granit_frames.specs.StateViews.{all_frames, stage_view, names_view, handles_view, waiting_view};
+
+    ghost Value = { spec.ParserState };
+
+    ghost view = { λ p. record {
+      frames = all_frames p.properties p.frames;
+      stage = stage_view p.stage;
+      last_end = p.last_end;
+      count = p.count;
+      names = names_view p.names.entries;
+      handles = handles_view p.handles.entries;
+      waiting = option_map waiting_view p.waiting;
+      given = plain_events p.given.items;
+    } };
+}
+
+impl<'input> ParserState<'input> {
+    /// Before a text that begins there.
+    pub fn new(alloc: Global, start: Marker) -> ParserState<'input>
+        ensures { result ≡ parser_start start }
+    {
+        ParserState {
+            frames: Frames::new(alloc),
+            properties: None,
+            stage: DocumentStage::Fresh,
+            last_end: start,
+            count: 0,
+            names: BTreeMap::new(alloc),
+            handles: BTreeMap::new(alloc),
+            waiting: None,
+            given: VecDeque::new(alloc),
+        }
+    }
+
+    /// The innermost unfinished node.
+    pub fn top(&self) -> Top<'_, 'input>
+        ensures { self.now.frames ≡ top_view result }
+    {
+        match &self.properties {
+            Some(properties) => Top::Properties(properties, &self.frames),
+            None => match self.frames.split() {
+                None => Top::Outside,
+                Some((frame, around)) => Top::In(frame, around),
+            },
+        }
+    }
+
+    /// Where the stream stands around its documents.
+    pub fn stage(&self) -> DocumentStage
+        ensures { self.now.stage ≡ stage_view result }
+    {
+        self.stage
+    }
+
+    /// From now on the stream stands there.
+    pub fn set_stage(&mut self, stage: DocumentStage)
+        ensures { self.new ≡ record self.old { stage = stage_view stage } }
+    {
+        self.stage = stage;
+    }
+
+    /// The end of the last event that is no comment and no anchor.
+    pub fn last_end(&self) -> Marker
+        ensures { result ≡ self.now.last_end }
+    {
+        self.last_end
+    }
+
+    /// Whether no `-` or `:` waits for its node.
+    pub fn waits_for_none(&self) -> bool
+        ensures { result ≡ is_none self.now.waiting }
+    {
+        match &self.waiting {
+            None => true,
+            Some(_) => false,
+        }
+    }
+}

@@ -1,0 +1,113 @@
+//! What a reader gives: lexemes with their tails, and comments.
+
+use granit_base::{Marker, ScalarStyle, Text, TextList};
+use granit_lexemes::Bracket;
+
+/// What a lexeme is, with its value.
+#[derive(Drop)]
+pub enum LexemeKind<'input> {
+    /// The directive `%YAML`, by the numbers before and behind the dot (YAML 1.2.2, 6.8.1).
+    Version(u32, u32),
+    /// The directive `%TAG`, by its handle and what that stands for (YAML 1.2.2, 6.8.2).
+    TagPrefix(Text<'input>, Text<'input>),
+    /// A directive of another name, with its parameters (YAML 1.2.2, 6.8).
+    Reserved(Text<'input>, TextList),
+    /// `---` (YAML 1.2.2, 9.1.2).
+    DocumentStart,
+    /// `...` (YAML 1.2.2, 9.1.2).
+    DocumentEnd,
+    /// The end of the text.
+    StreamEnd,
+    /// `[` or `{` (YAML 1.2.2, 7.4).
+    Open(Bracket),
+    /// `]` or `}` (YAML 1.2.2, 7.4).
+    Close(Bracket),
+    /// `,` (YAML 1.2.2, 7.4).
+    Comma,
+    /// `-` (YAML 1.2.2, 8.2.1).
+    Dash,
+    /// `?` (YAML 1.2.2, 8.2.2).
+    Question,
+    /// `:` (YAML 1.2.2, 8.2.2).
+    Colon,
+    /// `*` and a name (YAML 1.2.2, 7.1).
+    Alias(Text<'input>),
+    /// `&` and a name (YAML 1.2.2, 6.9.2).
+    Anchor(Text<'input>),
+    /// A tag by its handle and what follows that (YAML 1.2.2, 6.9.1).
+    Tag(Text<'input>, Text<'input>),
+    /// A scalar by how it is written, and its value (YAML 1.2.2, 7.3 and 8.1).
+    Scalar(ScalarStyle, Text<'input>),
+}
+
+/// A comment (YAML 1.2.2, 6.6).
+#[derive(Drop)]
+pub struct Note<'input> {
+    /// What follows its `#`, up to the break.
+    pub text: Text<'input>,
+    /// Where it begins with its `#`.
+    pub start: Marker,
+    /// Where its line ends.
+    pub end: Marker,
+    /// Whether something else than blanks and prefix marks stands before it on its line.
+    pub is_right: bool,
+}
+
+/// Where the simple key of a `:` begins, and the number of its first lexeme.
+#[derive(Clone, Copy, Debug)]
+pub struct KeyStart {
+    /// How many lexemes stand before its first one.
+    pub number: usize,
+    /// The place of its first character.
+    pub start: Marker,
+}
+
+/// A lexeme with its tail.
+#[derive(Drop)]
+pub struct Lexeme<'input> {
+    /// How many lexemes stand before it.
+    pub number: usize,
+    /// What it is.
+    pub kind: LexemeKind<'input>,
+    /// The place of its first character.
+    pub start: Marker,
+    /// Where the span that its token bears begins.
+    pub shown_start: Marker,
+    /// Where the span that its token bears ends.
+    pub shown_end: Marker,
+    /// The place behind its tail.
+    pub end: Marker,
+    /// The column of a block scalar's content.
+    pub indent: Option<usize>,
+    /// Whether it stands inside brackets, or opens or closes some inside others.
+    pub in_flow: bool,
+    /// Whether only blanks and prefix marks stand before it on its line.
+    pub begins_line: bool,
+    /// Whether it directly follows a `-`, `?` or keyless `:` outside flow.
+    pub follows_indicator: bool,
+    /// Whether it ends an open column.
+    pub ends_column: bool,
+    /// Of a `:`, the simple key before it.
+    pub key: Option<KeyStart>,
+    /// The comment behind it on its line, where comments are asked for.
+    pub tail: Option<Note<'input>>,
+}
+
+/// What one read gives: a lexeme, a comment, a quoted scalar and the comment in the gap behind it, or nothing where
+/// a comment isn't asked for.
+#[derive(Drop)]
+pub struct Found<'input> {
+    /// The lexeme.
+    pub lexeme: Option<Lexeme<'input>>,
+    /// The comment, which stands behind the lexeme.
+    pub note: Option<Note<'input>>,
+}
+
+/// A lexeme with its tail, or a comment that is no lexeme's tail.
+#[derive(Drop)]
+pub enum Item<'input> {
+    /// A lexeme.
+    Lexeme(Lexeme<'input>),
+    /// A comment.
+    Note(Note<'input>),
+}

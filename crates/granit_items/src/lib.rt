@@ -1,0 +1,6 @@
+//! Items: lexemes with their tails, and comments, as a reader gives them and a parser takes them.
+#![tactic(auto)]
+
+mod item;
+
+pub use item::{Found, Item, KeyStart, Lexeme, LexemeKind, Note};

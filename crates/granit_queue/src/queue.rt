@@ -1,0 +1,147 @@
+//! Items that were read and not yet taken.
+ghost use Rattle.std.specs.Prelude.{◌≡◌, ◌||◌, [], ◌∷◌, map, Some, slice_get, drop, take, OnOk};
+ghost use Rattle.std.specs.Option.{option_copied, option_map};
+ghost use Rattle.granit_items.specs.ItemViews.{found_items, item_view, key_view};
+ghost use Rattle.granit_queue.specs.QueueViews.{flags_of, is_numbered, queue_view, queued_view};
+ghost use Rattle.granit_steps.specs.Steps as spec;
+
+use granit_base::NoMemory;
+use granit_items::{Found, Item, KeyStart, LexemeKind};
+use std::alloc::Global;
+use std::collections::VecDeque;
+use std::marker::Model;
+
+/// An item, and whether a simple key begins with it.
+#[derive(Drop)]
+pub struct Queued<'input> {
+    /// The item.
+    pub item: Item<'input>,
+    /// Whether a simple key begins with it, as far as the items behind it tell.
+    pub begins_key: bool,
+}
+
+/// The items that were read and not yet taken, the oldest first.
+#[derive(Drop)]
+pub struct Queue<'input> {
+    items: VecDeque<Queued<'input>>,
+}
+
+impl<'input> Model for Queue<'input> {
+    ghost use Rattle.std.specs.Prelude.{List};
+    ghost use Rattle.granit_machine.specs.Lexing.{FlaggedItem};
+    ghost use Rattle.granit_queue.specs.QueueViews.{queue_view};
+
+    ghost Value = { List FlaggedItem };
+
+    ghost view = { λ q. queue_view q.items.items };
+}
+
+impl<'input> Queue<'input> {
+    /// Nothing waits.
+    pub fn new(alloc: Global) -> Queue<'input>
+        ensures { result ≡ [] }
+    {
+        Queue {
+            items: VecDeque::new(alloc),
+        }
+    }
+
+    /// What a read found comes behind the others; a `:` with a key flags the lexeme that begins it.
+    ///
+    /// # Errors
+    ///
+    /// `NoMemory` alone.
+    pub fn push_found(&mut self, found: Found<'input>) -> Result<(), NoMemory>
+        ensures { OnOk result (self.new ≡ spec.pushed self.old (found_items found.entry)) }
+    {
+        let Found { lexeme, note } = found;
+        if let Some(lexeme) = lexeme {
+            self.push(Item::Lexeme(lexeme))?;
+        }
+        if let Some(note) = note {
+            self.push(Item::Note(note))?;
+        }
+        Ok(())
+    }
+
+    fn push(&mut self, item: Item<'input>) -> Result<(), NoMemory>
+        ensures { OnOk result (self.new ≡ spec.pushed self.old (item_view item.entry ∷ [])) }
+    {
+        mark_by(&mut self.items, &item);
+        self.items.push_back(Queued {
+            item,
+            begins_key: false,
+        })?;
+        Ok(())
+    }
+
+    /// The item behind so many older ones.
+    #[tactic(auto, using(crate::proofs::QueueLemmas::queued_at))]
+    pub fn get(&self, older: usize) -> Option<&Queued<'input>>
+        ensures { option_map queued_view (option_copied result) ≡ slice_get self.now older }
+    {
+        self.items.get(older)
+    }
+
+    /// The oldest item goes.
+    pub fn pop(&mut self) -> Option<Queued<'input>>
+        ensures front { option_map queued_view result ≡ slice_get self.old 0 }
+        ensures rest { self.new ≡ drop 1 self.old }
+    {
+        self.items.pop_front()
+    }
+
+    /// No more than the oldest ones stay.
+    #[tactic(auto, using(crate::proofs::QueueLemmas::queue_cut))]
+    pub fn truncate(&mut self, count: usize)
+        ensures { self.new ≡ take count self.old }
+    {
+        self.items.truncate(count);
+    }
+}
+
+/// The key of a `:`.
+fn key_of(item: &Item<'_>) -> Option<KeyStart>
+    ensures { option_map key_view result ≡ spec.key_of_item (item_view item.now) }
+{
+    match item {
+        Item::Lexeme(lexeme) => lexeme.key,
+        Item::Note(_) => None,
+    }
+}
+
+/// Whether an item is the lexeme of a number.
+fn is_number(item: &Item<'_>, number: usize) -> bool
+    ensures { result ≡ is_numbered number (item_view item.now) }
+{
+    match item {
+        Item::Lexeme(lexeme) => lexeme.number == number,
+        Item::Note(_) => false,
+    }
+}
+
+/// A `:` with a key flags the lexeme that begins it.
+#[tactic(auto, using(crate::proofs::QueueLemmas::no_key_marks, crate::proofs::QueueLemmas::key_marks))]
+fn mark_by(items: &mut VecDeque<Queued<'_>>, item: &Item<'_>)
+    ensures { queue_view items.new.items ≡ map (spec.marked_by (item_view item.now)) (queue_view items.old.items) }
+{
+    match key_of(item) {
+        None => {}
+        Some(key) => mark(items, key.number),
+    }
+}
+
+/// Flags the lexeme of a number, which begins a key.
+fn mark(items: &mut VecDeque<Queued<'_>>, number: usize)
+    ensures { queue_view items.new.items ≡ map (flags_of number) (queue_view items.old.items) }
+{
+    'items: for i in 0..items.len() {
+        items[i].begins_key = either(items[i].begins_key, is_number(&items[i].item, number));
+    }
+}
+
+fn either(a: bool, b: bool) -> bool
+    ensures { result ≡ (a || b) }
+{
+    a || b
+}

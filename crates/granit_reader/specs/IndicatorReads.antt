@@ -1,0 +1,44 @@
+-- `?` and `:`, by what the code holds of them.
+use Rattle.std.specs.Prelude.{◌==◌, ◌&&◌, not, Bool, if◌then◌else◌, Option, Some, None}
+use Rattle.granit_base.specs.Classes.{is_gap}
+use Rattle.granit_base.specs.Place.{Mark}
+use Rattle.granit_error.specs.FaultKind.{InvalidColonPlacement, MappingValueNotAllowed, ExpectedWhitespace}
+use Rattle.granit_error.specs.OptionsData.{OptionsData}
+use Rattle.granit_lexemes.specs.Basics.{fails_at}
+use Rattle.granit_lexemes.specs.Here.{Here, text_len, next_char, mark_of, past}
+use Rattle.granit_lexemes.specs.Lexeme.{Lexeme}
+use Rattle.granit_lexemes.specs.Outcome.{Fault, ◌>>=◌}
+use Rattle.granit_lexemes.specs.declared.layout.LastLexeme.TheVariants.{Another}
+use Rattle.granit_lexemes.specs.declared.layout.PossibleKey.{PossibleKey}
+use Rattle.granit_machine.specs.Columns.{with_pair}
+use Rattle.granit_machine.specs.IndicatorLexemes.{behind_question, question_up_to, keyed_given, bare_given}
+use Rattle.granit_machine.specs.Laid.{Laid, is_in_flow}
+use Rattle.granit_machine.specs.PossibleKeys.{start_of_key, is_far_below}
+use Rattle.granit_machine.specs.ReaderState.{Read, given}
+
+-- behind a `?` that began an entry, where no NUL may stand
+abbrev pub question_from : OptionsData → Lexeme → Here → Laid → Read
+question_from o x h l =
+    if next_char h == 0x00 && not (text_len h == 0) then fails_at ExpectedWhitespace (mark_of h)
+    else question_up_to o x (past is_gap h) (behind_question l)
+
+abbrev pub with_key : PossibleKey → Lexeme → Lexeme
+with_key k x = record x { key = Some (start_of_key k) }
+
+-- a `:` at a mark behind its key
+abbrev pub keyed_by : OptionsData → PossibleKey → Lexeme → Mark → (after : Here) → Laid → Read
+keyed_by o k x m after l =
+    if is_far_below m.place l k then fails_at InvalidColonPlacement m
+    else if is_in_flow l then keyed_given (with_key k x) after l
+    else with_pair o k.start.place.column k.start l >>= keyed_given (with_key k x) after
+
+-- one without a key, where that is allowed or not
+abbrev pub bare_by : OptionsData → Lexeme → Mark → (allowed : Bool) → (after : Here) → Laid → Read
+bare_by o x m allowed after l =
+    if is_in_flow l then given x Another after l
+    else if not allowed then fails_at MappingValueNotAllowed m
+    else with_pair o m.place.column m l >>= bare_given x after
+
+abbrev pub colon_by : OptionsData → Option PossibleKey → Lexeme → Mark → (allowed : Bool) → (after : Here) → Laid → Read
+colon_by o (Some k) x m allowed after l = keyed_by o k x m after l
+colon_by o None x m allowed after l = bare_by o x m allowed after l

@@ -1,0 +1,236 @@
+//! One read: a comment, or a lexeme with its tail.
+ghost use Rattle.std.specs.Prelude.{◌≡◌, ◌<◌, ◌≤◌, ◌^◌, Bool, false, Option};
+ghost use Rattle.granit_base.specs.Classes.{is_gap};
+ghost use Rattle.granit_cursor.specs.Reading.{Moves, Stands};
+ghost use Rattle.granit_error.specs.FaultKind as faults;
+ghost use Rattle.granit_error.specs.OptionsView.{options_of};
+ghost use Rattle.granit_lexemes.specs.Comment.{CommentRead};
+ghost use Rattle.granit_lexemes.specs.Here as here;
+ghost use Rattle.granit_lexemes.specs.Here.{Here};
+ghost use Rattle.granit_lexemes.specs.Outcome.{fault_at};
+ghost use Rattle.granit_machine.specs.Laid.{is_in_flow};
+ghost use Rattle.granit_machine.specs.Reader as spec;
+ghost use Rattle.granit_reader.specs.declared.tail.Tail.TheVariants.{Nothing};
+ghost use Rattle.granit_items.specs.ItemViews.{found_items};
+ghost use Rattle.granit_reader.specs.Reads.{ReadsItems, only_lexeme, reader_at, seen, tail_view};
+ghost use Rattle.granit_reader.specs.SortViews as sorts;
+ghost use Rattle.granit_reader.specs.SortViews.{PlacedFits, SortFits, placed_view, sort_view};
+
+use crate::colon::colon;
+use crate::flow::{closer, comma, opener};
+use crate::gap::gap;
+use crate::indicators::{dash, question};
+use crate::nodes::{alias_lexeme, anchor_lexeme, tag_lexeme};
+use crate::scalars::{block_lexeme, plain_lexeme, quoted_and_gap};
+use crate::sort::{LexemeSort, PlacedSort, sort_at};
+use crate::stream::{directive, document_end, document_start, text_end};
+use crate::tail::Tail;
+use granit_cursor::Cursor;
+use granit_error::{ErrorKind, Options, ScanError};
+use granit_input::{BorrowedInput, Input};
+use granit_items::{Found, Lexeme};
+use granit_layout::{Layouts, is_adjacent};
+use std::alloc::Global;
+
+/// One read: a comment, or a lexeme with its tail.
+#[tactic(auto, unfolding(granit_machine::specs::Reader::read))]
+pub(crate) fn read<'input, T: BorrowedInput<'input>>(
+    alloc: Global,
+    options: &Options,
+    at: &mut Cursor<T>,
+    layouts: &mut Layouts,
+) -> Result<Found<'input>, ScanError>
+    requires room { layouts.old.number < 2 ^ 63 }
+    ensures here { ReadsItems T.unread (options_of options.now).emit_comments at.old at.new layouts.new found_items
+        result (λ h. spec.read (options_of options.now) (reader_at h layouts.old)) }
+    ensures moves { Moves T.left T.origin at.old at.new }
+{
+    let note = gap(alloc, options, at, layouts)?;
+    let found = behind_gap(alloc, options, at, layouts, note)?;
+    layouts.drop_stale(options, at.mark())?;
+    Ok(found)
+}
+
+/// Behind a gap: its comment, or a lexeme.
+fn behind_gap<'input, T: BorrowedInput<'input>>(
+    alloc: Global,
+    options: &Options,
+    at: &mut Cursor<T>,
+    layouts: &mut Layouts,
+    note: Tail<'input>,
+) -> Result<Found<'input>, ScanError>
+    requires clear { note ≡ Nothing → (h : Here) → Stands T.unread at.old h → is_gap (here.next_char h) ≡ false }
+    requires window { note ≡ Nothing → 4 ≤ T.window at.old.input }
+    requires room { layouts.old.number < 2 ^ 63 }
+    ensures here { (t : Option CommentRead) → tail_view note.entry ≡ seen (options_of options.now).emit_comments t
+        → ReadsItems T.unread (options_of options.now).emit_comments at.old at.new layouts.new found_items
+        result (λ h. spec.read_behind (options_of options.now) t (reader_at h layouts.old)) }
+    ensures moves { Moves T.left T.origin at.old at.new }
+{
+    match note {
+        Tail::Nothing => {
+            layouts.drop_stale(options, at.mark())?;
+            lexeme(alloc, options, at, layouts)
+        }
+        Tail::Passed => Ok(Found {
+            lexeme: None,
+            note: None,
+        }),
+        Tail::Kept(note) => Ok(Found {
+            lexeme: None,
+            note: Some(note),
+        }),
+    }
+}
+
+/// The lexeme that begins here.
+fn lexeme<'input, T: BorrowedInput<'input>>(
+    alloc: Global,
+    options: &Options,
+    at: &mut Cursor<T>,
+    layouts: &mut Layouts,
+) -> Result<Found<'input>, ScanError>
+    requires clear { (h : Here) → Stands T.unread at.old h → is_gap (here.next_char h) ≡ false }
+    requires window { 4 ≤ T.window at.old.input }
+    requires room { layouts.old.number < 2 ^ 63 }
+    ensures here { ReadsItems T.unread (options_of options.now).emit_comments at.old at.new layouts.new found_items
+        result (λ h. spec.lexeme (options_of options.now) h layouts.old) }
+    ensures moves { Moves T.left T.origin at.old at.new }
+{
+    let sort = sort_at(at, layouts.is_in_flow(), is_adjacent(layouts.last()));
+    lexeme_by(alloc, options, at, layouts, sort)
+}
+
+/// The lexeme of a sort.
+#[tactic(auto, unfolding(granit_machine::specs::Reader::lexeme_by))]
+fn lexeme_by<'input, T: BorrowedInput<'input>>(
+    alloc: Global,
+    options: &Options,
+    at: &mut Cursor<T>,
+    layouts: &mut Layouts,
+    sort: LexemeSort,
+) -> Result<Found<'input>, ScanError>
+    requires fits { (h : Here) → Stands T.unread at.old h → SortFits (is_in_flow layouts.old) (sort_view sort) h }
+    requires room { layouts.old.number < 2 ^ 63 }
+    ensures here { ReadsItems T.unread (options_of options.now).emit_comments at.old at.new layouts.new found_items
+        result (λ h. spec.lexeme_by (options_of options.now) (sort_view sort) h layouts.old) }
+    ensures moves { Moves T.left T.origin at.old at.new }
+{
+    let asked = options.emit_comments;
+    match sort {
+        LexemeSort::TextEnd => only(text_end(asked, at, layouts)),
+        LexemeSort::StartMark => only(document_start(asked, at, layouts)),
+        LexemeSort::EndMark => only(document_end(alloc, asked, at, layouts)),
+        LexemeSort::Unprintable => Err(unexpected(at)),
+        LexemeSort::DirectiveSign => only(directive(alloc, options, at, layouts)),
+        LexemeSort::Placed(sort) => {
+            let column = at.mark().col();
+            let ends = layouts.ends_at(column);
+            layouts.close_at(column);
+            lexeme_in_column(alloc, options, at, layouts, sort, ends)
+        }
+    }
+}
+
+/// A lexeme that stands in a column; where indentation is strict, lines in flow are indented too.
+#[tactic(auto, unfolding(granit_machine::specs::Reader::lexeme_in_column))]
+fn lexeme_in_column<'input, T: BorrowedInput<'input>>(
+    alloc: Global,
+    options: &Options,
+    at: &mut Cursor<T>,
+    layouts: &mut Layouts,
+    sort: PlacedSort,
+    ends: bool,
+) -> Result<Found<'input>, ScanError>
+    requires fits { (h : Here) → Stands T.unread at.old h → PlacedFits (is_in_flow layouts.old) (placed_view sort) h }
+    requires room { layouts.old.number < 2 ^ 63 }
+    ensures here { ReadsItems T.unread (options_of options.now).emit_comments at.old at.new layouts.new found_items
+        result (λ h. spec.lexeme_in_column (options_of options.now) (placed_view sort) ends h layouts.old) }
+    ensures moves { Moves T.left T.origin at.old at.new }
+{
+    if is_strict_outside(options, layouts, at.mark().col()) {
+        return Err(ScanError::from_kind(at.mark(), ErrorKind::InvalidIndentation));
+    }
+    begin_node(at, layouts, sort);
+    lexeme_of(alloc, options, at, layouts, sort, ends)
+}
+
+/// Whether a line that begins in a column is left of its block, where lines in flow are indented too.
+#[tactic(auto, unfolding(granit_machine::specs::Reader::is_strict_outside))]
+fn is_strict_outside(options: &Options, layouts: &Layouts, column: usize) -> bool
+    ensures { result ≡ spec.is_strict_outside (options_of options.now) column layouts.now }
+{
+    options.strict_indentation && layouts.is_in_flow() && layouts.is_left(column)
+}
+
+/// A lexeme of a node stands here, or another.
+fn begin_node<T: Input>(at: &Cursor<T>, layouts: &mut Layouts, sort: PlacedSort)
+    ensures here { (h : Here) → Stands T.unread at.now h
+        → layouts.new ≡ sorts.noded_by (placed_view sort) h layouts.old }
+    ensures number { layouts.new.number ≡ layouts.old.number }
+    ensures flow { is_in_flow layouts.new ≡ is_in_flow layouts.old }
+{
+    if sort.is_node() {
+        layouts.begin_node(sort.is_property(), at.begins_line(), at.tab(), at.mark());
+    }
+}
+
+/// The lexeme of a sort, where columns right of it have ended and its node has begun.
+fn lexeme_of<'input, T: BorrowedInput<'input>>(
+    alloc: Global,
+    options: &Options,
+    at: &mut Cursor<T>,
+    layouts: &mut Layouts,
+    sort: PlacedSort,
+    ends: bool,
+) -> Result<Found<'input>, ScanError>
+    requires fits { (h : Here) → Stands T.unread at.old h → PlacedFits (is_in_flow layouts.old) (placed_view sort) h }
+    requires room { layouts.old.number < 2 ^ 63 }
+    ensures here { ReadsItems T.unread (options_of options.now).emit_comments at.old at.new layouts.new found_items
+        result (λ h. sorts.begun (options_of options.now) (placed_view sort) ends h layouts.old) }
+    ensures moves { Moves T.left T.origin at.old at.new }
+{
+    match sort {
+        PlacedSort::OpenSign(bracket) => only(opener(alloc, options, at, layouts, bracket, ends)),
+        PlacedSort::CloseSign(bracket) => only(closer(alloc, options, at, layouts, bracket, ends)),
+        PlacedSort::CommaSign => only(comma(alloc, options, at, layouts, ends)),
+        PlacedSort::DashSign => only(dash(alloc, options, at, layouts, ends)),
+        PlacedSort::QuestionSign => only(question(alloc, options, at, layouts, ends)),
+        PlacedSort::ColonSign => only(colon(alloc, options, at, layouts, ends)),
+        PlacedSort::AliasSign => only(alias_lexeme(alloc, at, layouts, ends)),
+        PlacedSort::AnchorSign => only(anchor_lexeme(alloc, options, at, layouts, ends)),
+        PlacedSort::TagSign => only(tag_lexeme(alloc, options, at, layouts, ends)),
+        PlacedSort::BlockSign(literal) => only(block_lexeme(
+            alloc, options, at, layouts, literal, ends,
+        )),
+        PlacedSort::QuoteSign(single) => quoted_and_gap(alloc, options, at, layouts, single, ends),
+        PlacedSort::StrayMark => Err(ScanError::from_kind(at.mark(), ErrorKind::BomInsideDocument)),
+        PlacedSort::NoSign => Err(unexpected(at)),
+        PlacedSort::PlainSign => only(plain_lexeme(alloc, options, at, layouts, ends)),
+    }
+}
+
+/// A lexeme with no comment behind it.
+fn only<'input>(read: Result<Lexeme<'input>, ScanError>) -> Result<Found<'input>, ScanError>
+    ensures { result ≡ only_lexeme read.entry }
+{
+    match read {
+        Ok(lexeme) => Ok(Found {
+            lexeme: Some(lexeme),
+            note: None,
+        }),
+        Err(error) => Err(error),
+    }
+}
+
+/// The character that stands here begins no lexeme.
+fn unexpected<T: Input>(at: &mut Cursor<T>) -> ScanError
+    ensures here { (h : Here) → Stands T.unread at.old h
+        → result ≡ fault_at (faults.UnexpectedCharacter (here.next_char h)) (here.mark_of h) }
+    ensures moves { Moves T.left T.origin at.old at.new }
+{
+    let mark = at.mark();
+    at.look(1);
+    let character = at.input().peek();
+    ScanError::from_kind(mark, ErrorKind::UnexpectedCharacter { character })
+}

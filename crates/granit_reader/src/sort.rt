@@ -1,0 +1,153 @@
+//! Which lexeme a text begins with, told by its first characters.
+ghost use Rattle.std.specs.Prelude.{◌≡◌, ◌≤◌};
+ghost use Rattle.granit_cursor.specs.Reading.{Stands};
+ghost use Rattle.granit_lexemes.specs.Here.{Here};
+ghost use Rattle.granit_machine.specs.LexemeSort as spec;
+ghost use Rattle.granit_reader.specs.SortViews.{is_node, is_property, placed_view, sort_view};
+
+use granit_base::{is_blank_or_breakz, is_bom, is_flow, is_printable};
+use granit_cursor::Cursor;
+use granit_input::Input;
+use granit_lexemes::Bracket;
+
+/// A lexeme that stands in a column.
+#[derive(Clone, Copy)]
+pub(crate) enum PlacedSort {
+    OpenSign(Bracket),
+    CloseSign(Bracket),
+    CommaSign,
+    DashSign,
+    QuestionSign,
+    ColonSign,
+    AliasSign,
+    AnchorSign,
+    TagSign,
+    /// Whether it is a literal one.
+    BlockSign(bool),
+    /// Whether its quotes are single ones.
+    QuoteSign(bool),
+    /// A byte-order mark.
+    StrayMark,
+    /// Another character that begins nothing.
+    NoSign,
+    PlainSign,
+}
+
+impl PlacedSort {
+    /// Whether it is one of a node.
+    pub(crate) fn is_node(self) -> bool
+        ensures { result ≡ is_node (placed_view self) }
+    {
+        matches!(
+            self,
+            PlacedSort::OpenSign(_)
+                | PlacedSort::AliasSign
+                | PlacedSort::AnchorSign
+                | PlacedSort::TagSign
+                | PlacedSort::BlockSign(_)
+                | PlacedSort::QuoteSign(_)
+                | PlacedSort::PlainSign
+        )
+    }
+
+    /// Whether it is a property.
+    pub(crate) fn is_property(self) -> bool
+        ensures { result ≡ is_property (placed_view self) }
+    {
+        matches!(self, PlacedSort::AnchorSign | PlacedSort::TagSign)
+    }
+}
+
+/// Which lexeme a text begins with.
+#[derive(Clone, Copy)]
+pub(crate) enum LexemeSort {
+    TextEnd,
+    /// `---` in column 0.
+    StartMark,
+    /// `...` in column 0.
+    EndMark,
+    Unprintable,
+    /// `%` in column 0.
+    DirectiveSign,
+    Placed(PlacedSort),
+}
+
+/// By what stands here.
+#[tactic(auto, unfolding(granit_machine::specs::LexemeSort::sort_at))]
+pub(crate) fn sort_at<T: Input>(at: &Cursor<T>, in_flow: bool, adjacent: bool) -> LexemeSort
+    requires window { 4 ≤ T.window at.now.input }
+    ensures { (h : Here) → Stands T.unread at.now h → sort_view result ≡ spec.sort_at in_flow adjacent h }
+{
+    if at.input().next_is_z() {
+        return LexemeSort::TextEnd;
+    }
+    let c = at.input().peek();
+    let column = at.mark().col();
+    if column == 0 && at.input().next_is_document_indicator() {
+        if c == '-' {
+            return LexemeSort::StartMark;
+        }
+        return LexemeSort::EndMark;
+    }
+    if !is_printable(c) {
+        return LexemeSort::Unprintable;
+    }
+    if column == 0 && c == '%' {
+        return LexemeSort::DirectiveSign;
+    }
+    LexemeSort::Placed(sort_of(in_flow, adjacent, c, at.input().peek_nth(1)))
+}
+
+/// By the first character and the next one; a `:` needs no blank in flow before a flow indicator, or behind a quoted
+/// scalar or a closer (YAML 1.2.2, 7.3.3 and 7.4.2).
+#[tactic(auto, unfolding(granit_machine::specs::LexemeSort::sort_of))]
+fn sort_of(in_flow: bool, adjacent: bool, c: char, next: char) -> PlacedSort
+    ensures { placed_view result ≡ spec.sort_of in_flow adjacent c next }
+{
+    if c == '[' {
+        return PlacedSort::OpenSign(Bracket::Square);
+    }
+    if c == '{' {
+        return PlacedSort::OpenSign(Bracket::Curly);
+    }
+    if c == ']' {
+        return PlacedSort::CloseSign(Bracket::Square);
+    }
+    if c == '}' {
+        return PlacedSort::CloseSign(Bracket::Curly);
+    }
+    if c == ',' {
+        return PlacedSort::CommaSign;
+    }
+    if c == '-' && is_blank_or_breakz(next) {
+        return PlacedSort::DashSign;
+    }
+    if c == '?' && is_blank_or_breakz(next) {
+        return PlacedSort::QuestionSign;
+    }
+    if c == ':' && (is_blank_or_breakz(next) || in_flow && (is_flow(next) || adjacent)) {
+        return PlacedSort::ColonSign;
+    }
+    if c == '*' {
+        return PlacedSort::AliasSign;
+    }
+    if c == '&' {
+        return PlacedSort::AnchorSign;
+    }
+    if c == '!' {
+        return PlacedSort::TagSign;
+    }
+    if (c == '|' || c == '>') && !in_flow {
+        return PlacedSort::BlockSign(c == '|');
+    }
+    if c == '\'' || c == '"' {
+        return PlacedSort::QuoteSign(c == '\'');
+    }
+    if is_bom(c) {
+        return PlacedSort::StrayMark;
+    }
+    if (c == '@' || c == '`') || c == '%' || (c == '|' || c == '>') {
+        return PlacedSort::NoSign;
+    }
+    PlacedSort::PlainSign
+}

@@ -1,0 +1,53 @@
+//! All reads, one after another.
+ghost use Rattle.std.specs.Prelude.{◌≡◌, ◌<◌, ◌^◌};
+ghost use Rattle.granit_cursor.specs.Reading.{Moves, Stands};
+ghost use Rattle.granit_error.specs.OptionsView.{options_of};
+ghost use Rattle.granit_lexemes.specs.Here.{Here};
+ghost use Rattle.granit_machine.specs.Reader as spec;
+ghost use Rattle.granit_items.specs.ItemViews.{found_items};
+ghost use Rattle.granit_reader.specs.Reads.{IsAt, reader_at};
+ghost use Rattle.granit_reader.specs.Turns.{TurnTo, before_turn};
+
+use crate::read::read;
+use granit_cursor::Cursor;
+use granit_error::{Options, ScanError};
+use granit_input::BorrowedInput;
+use granit_items::{Found, LexemeKind};
+use granit_layout::Layouts;
+use std::alloc::Global;
+
+/// What the next read gives, and nothing behind the end of the text, which is told.
+///
+/// # Errors
+///
+/// `NoMemory`, and the kinds of `docs/FAULTS.md` that a reader finds.
+pub fn next_found<'input, T: BorrowedInput<'input>>(
+    alloc: Global,
+    options: &Options,
+    at: &mut Cursor<T>,
+    layouts: &mut Layouts,
+    ended: &mut bool,
+) -> Result<Option<Found<'input>>, ScanError>
+    requires room { layouts.old.number < 2 ^ 63 }
+    ensures here { (h : Here) → Stands T.unread at.old h → TurnTo (options_of options.now).emit_comments result
+        (IsAt T.unread at.new layouts.new) ended.new (reader_at h layouts.old)
+        (spec.lex_turn (options_of options.now) (before_turn ended.old (reader_at h layouts.old))) }
+    ensures moves { Moves T.left T.origin at.old at.new }
+{
+    if *ended {
+        return Ok(None);
+    }
+    let found = read(alloc, options, at, layouts)?;
+    *ended = is_end(&found);
+    Ok(Some(found))
+}
+
+/// Whether the end of the text was read.
+fn is_end(found: &Found<'_>) -> bool
+    ensures { result ≡ spec.is_end (found_items found.now) }
+{
+    match &found.lexeme {
+        None => false,
+        Some(lexeme) => matches!(lexeme.kind, LexemeKind::StreamEnd),
+    }
+}

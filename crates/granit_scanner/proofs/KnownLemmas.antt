@@ -1,0 +1,114 @@
+-- A scanner that is known to be in a state of the machine.
+use Rattle.std.proofs.Common.{◌≡◌, Bool, true, false, ◌&&◌, ◌||◌, not, List, [], ◌∷◌, drop, Option, Some, None, is_some}
+use Rattle.std.proofs.Common.{refl, sym, ap, ◌∙◌}
+use Rattle.std.specs.List.{slice_get}
+use Rattle.std.specs.Option.{option_map}
+use Rattle.granit_base.specs.Place.{Unread}
+use Rattle.granit_error.specs.Refused.{Refused}
+use Rattle.granit_machine.specs.Laid.{Laid}
+use Rattle.granit_machine.specs.Lexing.{FlaggedItem}
+use Rattle.granit_machine.specs.Machine.{front_if, is_settled, settled}
+use Rattle.granit_machine.specs.Reader.{LexState}
+use Rattle.granit_scanner.specs.Scans.{Scanning, Known, KnownBy, TakesOldest, front_goes, is_done, line_next}
+use Rattle.granit_scanner.specs.Scans.{may_front_go}
+use Rattle.granit_steps.specs.Steps.{asks_next, is_next_settled, is_over, line_behind, may_go}
+
+or_true : (b : Bool) → (b || true) ≡ true
+or_true true = refl
+or_true false = refl
+
+or_false : (b : Bool) → (b || false) ≡ b
+or_false true = refl
+or_false false = refl
+
+-- ---- where no read failed
+
+same_goes : (l : LexState) (laid : Laid) (ended : Bool) (q : List FlaggedItem) → l.reader.laid ≡ laid → l.ended ≡ ended
+    → l.fault ≡ None
+    → front_goes (ended || false) laid q ≡ may_front_go l q
+same_goes l laid ended [] at end none = refl
+same_goes l laid true (i ∷ is) at end none = rw end refl
+same_goes l laid false (i ∷ is) at end none = rw (at, end, none) refl
+
+-- ---- where a read failed
+
+goes_if : (b : Bool) (laid : Laid) (i : FlaggedItem) (is : List FlaggedItem)
+    → front_goes true laid (front_if b i is) ≡ b
+goes_if true laid i is = refl
+goes_if false laid i is = refl
+
+settled_goes : (b c : Bool) → (false || (b && (true || c))) ≡ b
+settled_goes true c = refl
+settled_goes false c = refl
+
+kept_goes : (l : LexState) (laid : Laid) (f : Refused) (q : List FlaggedItem) → l.ended ≡ false → l.fault ≡ Some f
+    → front_goes true laid (settled l.reader.laid q) ≡ may_front_go l q
+kept_goes l laid f [] end is = refl
+kept_goes l laid f (i ∷ rest) end is =
+    goes_if (is_settled l.reader.laid i.item) laid i (settled l.reader.laid rest)
+    ∙ rw (end, is) (sym (settled_goes (is_settled l.reader.laid i.item)
+    (not (asks_next i.item) || is_next_settled l.reader.laid rest)))
+
+-- what may go is kept
+goes_kept : (l : LexState) (f : Refused) (i : FlaggedItem) (is : List FlaggedItem) → l.ended ≡ false → l.fault ≡ Some f
+    → may_go l i is ≡ true → settled l.reader.laid (i ∷ is) ≡ i ∷ settled l.reader.laid is
+goes_kept l f i is end failed goes =
+    ap (λ (b : Bool). front_if b i (settled l.reader.laid is))
+    (sym (goes_if (is_settled l.reader.laid i.item) l.reader.laid i (settled l.reader.laid is))
+    ∙ kept_goes l l.reader.laid f (i ∷ is) end failed ∙ goes)
+
+module _ {I : Type 0} (unread : I → Unread → Type 0) (s : Scanning I) (l : LexState) where
+  over_by : (q : List FlaggedItem) (f : Option Refused) → KnownBy unread f s l q → (s.ended || is_some f) ≡ is_over l
+  over_by q None k = rw (k.1, k.2) refl
+  over_by q (Some f) k = rw (k.0, k.1) (or_true s.ended)
+
+  pub known_over : (q : List FlaggedItem) → Known unread s l q → is_done s ≡ is_over l
+  known_over q k = over_by q s.fault k
+
+  goes_by : (q : List FlaggedItem) (f : Option Refused) → KnownBy unread f s l q
+      → front_goes (s.ended || is_some f) s.laid s.queue ≡ may_front_go l q
+  goes_by q None k = rw (← k.3) (same_goes l s.laid s.ended q k.0.1 k.1 k.2)
+  goes_by q (Some f) k = rw (← k.2, or_true s.ended) (kept_goes l s.laid f q k.0 k.1)
+
+  pub known_goes : (q : List FlaggedItem) → Known unread s l q
+      → front_goes (is_done s) s.laid s.queue ≡ may_front_go l q
+  known_goes q k = goes_by q s.fault k
+
+  fault_by : (q : List FlaggedItem) (f : Option Refused) → KnownBy unread f s l q → l.fault ≡ None → f ≡ None
+  fault_by q None k none = refl
+  fault_by q (Some f) k none = absurd (let e : Some f ≡ None = sym k.1 ∙ none in cc)
+
+  pub no_fault : (q : List FlaggedItem) → Known unread s l q → l.fault ≡ None → s.fault ≡ None
+  no_fault q k none = fault_by q s.fault k none
+
+  -- ---- the oldest item is taken
+
+  abbrev without_first : Scanning I
+  without_first = record s { queue = drop 1 s.queue }
+
+  line_kept : (f : Option Refused) (i : FlaggedItem) (is : List FlaggedItem) → KnownBy unread f s l (i ∷ is)
+      → may_go l i is ≡ true
+      → line_next (s.ended || is_some f) s.laid s.queue ≡ line_behind l is
+  line_kept None i is k goes = rw (← k.3, or_false s.ended, k.1, k.0.1) refl
+  line_kept (Some f) i is k goes =
+      rw (← k.2, or_true s.ended, goes_kept l f i is k.0 k.1 goes, k.0) refl
+
+  rest_kept : (f : Option Refused) (i : FlaggedItem) (is : List FlaggedItem) → KnownBy unread f s l (i ∷ is)
+      → may_go l i is ≡ true
+      → KnownBy unread f without_first l is
+  rest_kept None i is k goes = (k.0, k.1, k.2, ap (drop 1) k.3)
+  rest_kept (Some f) i is k goes = (k.0, k.1, ap (drop 1) (sym (goes_kept l f i is k.0 k.1 goes) ∙ k.2))
+
+  first_kept : (f : Option Refused) (i : FlaggedItem) (is : List FlaggedItem) → KnownBy unread f s l (i ∷ is)
+      → may_go l i is ≡ true
+      → slice_get s.queue 0 ≡ Some i
+  first_kept None i is k goes = rw (← k.3) refl
+  first_kept (Some f) i is k goes = rw (← k.2, goes_kept l f i is k.0 k.1 goes) refl
+
+  -- the oldest item, with the line of what stands behind it
+  pub taken : (q : List FlaggedItem) → Known unread s l q → may_front_go l q ≡ true
+      → TakesOldest unread (option_map (λ (i : FlaggedItem). (i, line_next (is_done s) s.laid s.queue))
+      (slice_get s.queue 0)) without_first l q
+  taken [] k goes = cc
+  taken (i ∷ is) k goes =
+      (rw (first_kept s.fault i is k goes, line_kept s.fault i is k goes) refl, rest_kept s.fault i is k goes)

@@ -1,0 +1,99 @@
+-- What contracts see of a scanner, and in which state of the machine it is known to be.
+use Rattle.std.specs.Prelude.{◌≡◌, ℕ, Bool, false, ◌==◌, ◌&&◌, ◌||◌, not, if◌then◌else◌, List, [], ◌∷◌, drop, take}
+use Rattle.std.specs.Prelude.{Option, Some, None, is_some, Result, Ok, Err}
+use Rattle.std.specs.Option.{option_map}
+use Rattle.granit_base.specs.Place.{Unread}
+use Rattle.granit_cursor.specs.Reading.{Reading}
+use Rattle.granit_error.specs.FaultKind.{FaultKind, NoMemory, fault_number}
+use Rattle.granit_error.specs.OptionsData.{OptionsData}
+use Rattle.granit_error.specs.Refused.{Refused}
+use Rattle.granit_items.specs.ItemViews.{found_items}
+use Rattle.granit_items.specs.declared.item.Found.{Found}
+use Rattle.granit_lexemes.specs.Lexeme.{Item}
+use Rattle.granit_machine.specs.Laid.{Laid}
+use Rattle.granit_machine.specs.Lexing.{FlaggedItem}
+use Rattle.granit_machine.specs.Machine.{is_settled, settled}
+use Rattle.granit_machine.specs.Parser.{line_of_item, next_line}
+use Rattle.granit_machine.specs.Reader.{LexState, lex_turn}
+use Rattle.granit_queue.specs.QueueViews.{queued_view}
+use Rattle.granit_reader.specs.Reads.{IsAt}
+use Rattle.granit_scanner.specs.declared.scanner.Front.{Front}
+use Rattle.granit_steps.specs.Steps.{asks_next, free_items, incoming, is_next_settled, items_of, line_behind, may_go}
+use Rattle.granit_steps.specs.Steps.{pushed}
+
+-- a cursor, what the lexemes so far left, the options, the items that wait, and how reading ended
+pub record Scanning (I : Type 0) : Type 0 where
+  pub cursor : Reading I
+  pub laid : Laid
+  pub options : OptionsData
+  pub queue : List FlaggedItem
+  pub ended : Bool
+  pub fault : Option Refused
+
+-- ---- in which state of the machine
+
+-- before a fault only those items are kept that may go
+abbrev pub KnownBy : {I : Type 0} → (I → Unread → Type 0) → Option Refused → Scanning I → LexState → List FlaggedItem
+    → Type 0
+KnownBy unread None s l q = IsAt unread s.cursor s.laid l.reader × (l.ended ≡ s.ended) × (l.fault ≡ None)
+    × (q ≡ s.queue)
+KnownBy unread (Some f) s l q = (l.ended ≡ false) × (l.fault ≡ Some f) × (settled l.reader.laid q ≡ s.queue)
+
+-- a scanner is known to be where reading stands, with those items
+abbrev pub Known : {I : Type 0} → (I → Unread → Type 0) → Scanning I → LexState → List FlaggedItem → Type 0
+Known unread s l q = KnownBy unread s.fault s l q
+
+-- ---- what may go
+
+abbrev pub is_done : {I : Type 0} → Scanning I → Bool
+is_done s = s.ended || is_some s.fault
+
+-- whether nothing behind an item can change what it is, before more is read
+abbrev pub is_final : Laid → Item → List FlaggedItem → Bool
+is_final l i is = is_settled l i && (not (asks_next i) || is_next_settled l is)
+
+-- whether the oldest item may go, where reading is over or not
+abbrev pub front_goes : (over : Bool) → Laid → List FlaggedItem → Bool
+front_goes over l [] = false
+front_goes over l (i ∷ is) = over || is_final l i.item is
+
+-- whether the parser may have the oldest of the machine's items
+abbrev pub may_front_go : LexState → List FlaggedItem → Bool
+may_front_go l [] = false
+may_front_go l (i ∷ is) = may_go l i is
+
+abbrev pub line_known : (over : Bool) → Laid → FlaggedItem → Option ℕ
+line_known over l i = if over || is_settled l i.item then line_of_item i.item i.begins_key else None
+
+-- the line of what stands behind the oldest item, where it is known
+abbrev pub line_next : (over : Bool) → Laid → List FlaggedItem → Option ℕ
+line_next over l q = next_line (free_items over l (drop 1 q))
+
+-- ---- what is taken
+
+abbrev pub front_view : Front → FlaggedItem × Option ℕ
+front_view f = (queued_view f.queued, f.next_line)
+
+-- the oldest item and the line of what stands behind it, and the state with the items behind it
+abbrev pub TakesOldest : {I : Type 0} → (I → Unread → Type 0) → Option (FlaggedItem × Option ℕ) → Scanning I → LexState
+    → List FlaggedItem → Type 0
+TakesOldest unread given s l [] = ⊥
+TakesOldest unread given s l (i ∷ is) = (given ≡ Some (i, line_behind l is)) × Known unread s l is
+
+-- ---- what is read
+
+abbrev pub wants_memory : FaultKind → Bool
+wants_memory kind = fault_number kind == fault_number NoMemory
+
+-- the machine's turn, and its items came into the queue
+abbrev pub ReadsOn : {I : Type 0} → (I → Unread → Type 0) → OptionsData → Scanning I → LexState → List FlaggedItem
+    → Type 0
+ReadsOn unread o s l q =
+    (x : Option (List Item) × LexState) × (lex_turn o l ≡ Ok x)
+    × Known unread s x.1 (pushed q (incoming o.emit_comments (items_of x.0)))
+
+-- what a read leaves: what it found comes behind what waits, and before a fault so many items stay
+abbrev pub TakesRead : {I : Type 0} → Result (Option Found) Refused → (free : ℕ) → (old new : Scanning I) → Type 0
+TakesRead (Ok x) free old new = new ≡ record old { queue = pushed old.queue (items_of (option_map found_items x)) }
+TakesRead (Err e) free old new =
+    (new ≡ record old { fault = Some e; queue = take free old.queue }) × (wants_memory e.kind ≡ false)

@@ -1,0 +1,293 @@
+//! Items in order, each as soon as nothing behind it can change what it is.
+ghost use Rattle.std.specs.Prelude.{◌≡◌, true, false, [], drop, take, None, Some, slice_get, OnOk};
+ghost use Rattle.std.specs.Option.{option_map};
+ghost use Rattle.granit_base.specs.Place.{Unread};
+ghost use Rattle.granit_cursor.specs.Reading.{Moves, Stands};
+ghost use Rattle.granit_error.specs.OptionsView.{options_of};
+ghost use Rattle.granit_items.specs.ItemViews.{found_items, item_view};
+ghost use Rattle.granit_lexemes.specs.Here.{Here, first_place, mark_of};
+ghost use Rattle.granit_machine.specs.Laid.{laid_start};
+ghost use Rattle.granit_machine.specs.Lexing.{FlaggedItem, lex_start};
+ghost use Rattle.granit_machine.specs.Machine.{is_settled, settled};
+ghost use Rattle.granit_machine.specs.Reader.{LexState};
+ghost use Rattle.granit_queue.specs.QueueViews.{queued_view};
+ghost use Rattle.granit_scanner.specs.Scans as spec;
+ghost use Rattle.granit_scanner.specs.Scans.{Known, ReadsOn, TakesOldest, TakesRead};
+ghost use Rattle.granit_steps.specs.Steps as steps;
+
+use granit_base::{Marker, NoMemory};
+use granit_cursor::Cursor;
+use granit_error::{ErrorKind, Options, ScanError};
+use granit_input::{BorrowedInput, Input};
+use granit_items::{Found, Item};
+use granit_layout::Layouts;
+use granit_queue::{Queue, Queued, asks_next, line_of};
+use granit_reader::next_found;
+use std::alloc::Global;
+use std::marker::Model;
+
+/// More lexemes than this stand in no text.
+const MOST_LEXEMES: usize = 0x7FFF_FFFF_FFFF_FFFF;
+
+/// An item that is final, and the line by which its comment is placed.
+#[derive(Drop)]
+pub struct Front<'input> {
+    /// The item, and whether a simple key begins with it.
+    pub queued: Queued<'input>,
+    /// The line of what stands behind it, where that is known.
+    pub next_line: Option<usize>,
+}
+
+/// An input that is read into items, which wait until nothing behind them can change what they are.
+#[derive(Drop)]
+pub struct Scanner<'input, T: Input> {
+    cursor: Cursor<T>,
+    layouts: Layouts,
+    options: Options,
+    queue: Queue<'input>,
+    ended: bool,
+    // Of a read that failed: no other is made, and of the items that waited those are left that may go.
+    fault: Option<ScanError>,
+}
+
+impl<'input, T: Input> Model for Scanner<'input, T> {
+    ghost use Rattle.granit_error.specs.OptionsView.{options_of};
+    ghost use Rattle.granit_scanner.specs.Scans.{Scanning};
+
+    ghost Value = { Scanning T };
+
+    ghost view = { λ s. record {
+      cursor = s.cursor;
+      laid = s.layouts;
+      options = options_of s.options;
+      queue = s.queue;
+      ended = s.ended;
+      fault = s.fault;
+    } };
+}
+
+impl<'input, T: BorrowedInput<'input>> Scanner<'input, T> {
+    /// Before an input, of which nothing was read.
+    pub fn new(alloc: Global, input: T, options: Options) -> Scanner<'input, T>
+        ensures start { (h : Here) → T.unread input h.unread → h.place ≡ first_place → h.begins_line ≡ true
+            → h.tab ≡ None → Known T.unread result (lex_start h) [] }
+        ensures options { result.options ≡ options_of options }
+    {
+        Scanner {
+            cursor: Cursor::new(input),
+            layouts: Layouts::new(alloc),
+            options,
+            queue: Queue::new(alloc),
+            ended: false,
+            fault: None,
+        }
+    }
+
+    /// The place up to which was read.
+    pub fn mark(&self) -> Marker
+        ensures { (h : Here) → Stands T.unread self.now.cursor h → result ≡ mark_of h }
+    {
+        self.cursor.mark()
+    }
+
+    /// How the input is read.
+    pub fn options(&self) -> &Options
+        ensures { options_of result.now ≡ self.now.options }
+    {
+        &self.options
+    }
+
+    /// Whether nothing more is read: the end was, or a read failed.
+    pub fn is_over(&self) -> bool
+        ensures seen { result ≡ spec.is_done self.now }
+        ensures known { (l : LexState) (q : _) → Known T.unread self.now l q → result ≡ steps.is_over l }
+    {
+        self.is_done()
+    }
+
+    /// Whether the oldest item may be taken, as nothing behind it can change what it is.
+    pub fn front_may_go(&self) -> bool
+        ensures seen { result ≡ spec.front_goes (spec.is_done self.now) self.now.laid self.now.queue }
+        ensures known { (l : LexState) (q : _) → Known T.unread self.now l q → result ≡ spec.may_front_go l q }
+    {
+        match self.queue.get(0) {
+            None => false,
+            Some(front) => self.is_done() || self.is_final(&front.item),
+        }
+    }
+
+    /// Takes the oldest item, where it may go.
+    pub fn take_front(&mut self) -> Option<Front<'input>>
+        ensures known { (l : LexState) (q : _) → Known T.unread self.old l q → spec.may_front_go l q ≡ true
+            → TakesOldest T.unread (option_map spec.front_view result) self.new l q }
+        ensures item { option_map spec.front_view result ≡ option_map (λ i. (
+          i,
+          spec.line_next (spec.is_done self.old)
+              self.old.laid self.old.queue,
+        )) (slice_get self.old.queue 0) }
+        ensures rest { self.new ≡ record self.old { queue = drop 1 self.old.queue } }
+    {
+        self.take_oldest()
+    }
+
+    /// Makes one more read, where the oldest item may not go; its items wait behind the others. A fault is kept, and
+    /// then nothing is read any more.
+    ///
+    /// # Errors
+    ///
+    /// `NoMemory` alone.
+    pub fn read_on(&mut self, alloc: Global) -> Result<(), NoMemory>
+        ensures known { (l : LexState) (q : _) → Known T.unread self.old l q → l.fault ≡ None
+            → spec.may_front_go l q ≡ false → OnOk result (ReadsOn T.unread self.old.options self.new l q) }
+        ensures options { self.new.options ≡ self.old.options }
+        ensures moves { Moves T.left T.origin self.old.cursor self.new.cursor }
+    {
+        if self.fault.is_some() {
+            return Ok(());
+        }
+        if self.layouts.number() > MOST_LEXEMES {
+            return Err(NoMemory);
+        }
+        let free = self.free_count();
+        let read = next_found(
+            alloc,
+            &self.options,
+            &mut self.cursor,
+            &mut self.layouts,
+            &mut self.ended,
+        );
+        self.take_read(read, free)
+    }
+
+    /// The fault of the read that failed, which is then given.
+    pub fn take_fault(&mut self) -> Option<ScanError>
+        ensures given { result ≡ self.old.fault }
+        ensures rest { self.new ≡ record self.old { fault = None; ended = true } }
+    {
+        self.ended = true;
+        self.fault.take()
+    }
+}
+
+impl<'input, T: Input> Scanner<'input, T> {
+    fn take_oldest(&mut self) -> Option<Front<'input>>
+        ensures item { option_map spec.front_view result ≡ option_map (λ i. (
+          i,
+          spec.line_next (spec.is_done self.old)
+              self.old.laid self.old.queue,
+        )) (slice_get self.old.queue 0) }
+        ensures rest { self.new ≡ record self.old { queue = drop 1 self.old.queue } }
+    {
+        let next_line = self.line_behind();
+        front_of(self.queue.pop(), next_line)
+    }
+
+    /// What a read found waits behind the other items; before a fault so many of them stay.
+    fn take_read(
+        &mut self,
+        read: Result<Option<Found<'input>>, ScanError>,
+        free: usize,
+    ) -> Result<(), NoMemory>
+        ensures taken { OnOk result (TakesRead read.entry free self.old self.new) }
+        ensures cursor { self.new.cursor ≡ self.old.cursor }
+        ensures options { self.new.options ≡ self.old.options }
+    {
+        match read {
+            Ok(None) => Ok(()),
+            Ok(Some(found)) => self.queue.push_found(found),
+            Err(error) => self.keep(error, free),
+        }
+    }
+
+    /// A read failed: of the items that wait so many may go.
+    fn keep(&mut self, error: ScanError, free: usize) -> Result<(), NoMemory>
+        ensures kept { OnOk result (self.new
+            ≡ record self.old { fault = Some error; queue = take free self.old.queue }) }
+        ensures found { OnOk result (spec.wants_memory error.kind ≡ false) }
+        ensures cursor { self.new.cursor ≡ self.old.cursor }
+        ensures options { self.new.options ≡ self.old.options }
+    {
+        if error.kind().number() == ErrorKind::NoMemory.number() {
+            return Err(NoMemory);
+        }
+        self.queue.truncate(free);
+        self.fault = Some(error);
+        Ok(())
+    }
+
+    /// How many items may go before more is read, where the oldest one waits for what is behind it at most.
+    fn free_count(&self) -> usize
+        ensures { spec.front_goes false self.now.laid self.now.queue ≡ false
+            → take result self.now.queue ≡ settled self.now.laid self.now.queue }
+    {
+        match self.queue.get(0) {
+            None => 0,
+            Some(front) => usize::from(self.is_settled(&front.item)),
+        }
+    }
+
+    /// Whether nothing behind an item can change what it is, before more is read.
+    fn is_final(&self, item: &Item<'input>) -> bool
+        ensures { result ≡ spec.is_final self.now.laid (item_view item.now) (drop 1 self.now.queue) }
+    {
+        self.is_settled(item) && (!asks_next(item) || self.is_next_settled())
+    }
+
+    /// Whether no simple key can begin with an item any more.
+    fn is_settled(&self, item: &Item<'input>) -> bool
+        ensures { result ≡ is_settled self.now.laid (item_view item.now) }
+    {
+        match item {
+            Item::Lexeme(lexeme) => !self.layouts.is_possible(lexeme.number),
+            Item::Note(_) => true,
+        }
+    }
+
+    fn is_next_settled(&self) -> bool
+        ensures { result ≡ steps.is_next_settled self.now.laid (drop 1 self.now.queue) }
+    {
+        match self.queue.get(1) {
+            None => false,
+            Some(next) => self.is_settled(&next.item),
+        }
+    }
+
+    /// The line of what stands behind the oldest item, where it is known.
+    #[tactic(auto, using(crate::proofs::FrontLemmas::no_line))]
+    fn line_behind(&self) -> Option<usize>
+        ensures { result ≡ spec.line_next (spec.is_done self.now) self.now.laid self.now.queue }
+    {
+        match self.queue.get(1) {
+            None => None,
+            Some(next) => self.line_if_known(next),
+        }
+    }
+
+    fn line_if_known(&self, next: &Queued<'input>) -> Option<usize>
+        ensures { result ≡ spec.line_known (spec.is_done self.now) self.now.laid (queued_view next.now) }
+    {
+        if self.is_done() || self.is_settled(&next.item) {
+            line_of(next)
+        } else {
+            None
+        }
+    }
+
+    fn is_done(&self) -> bool
+        ensures { result ≡ spec.is_done self.now }
+    {
+        self.ended || self.fault.is_some()
+    }
+}
+
+fn front_of<'input>(
+    queued: Option<Queued<'input>>,
+    next_line: Option<usize>,
+) -> Option<Front<'input>>
+    ensures { option_map spec.front_view result ≡ option_map (λ q. (queued_view q, next_line)) queued.entry }
+{
+    match queued {
+        None => None,
+        Some(queued) => Some(Front { queued, next_line }),
+    }
+}

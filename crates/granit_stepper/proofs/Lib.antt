@@ -1,0 +1,3 @@
+pub mod SettleLemmas
+pub mod StateLemmas
+pub mod TurnLemmas

@@ -1,0 +1,27 @@
+use Rattle.std.proofs.Common.{◌≡◌, None, Ok, sym, ap, subst, ◌∙◌}
+use Rattle.granit_cursor.specs.Reading.{GivesTo}
+use Rattle.granit_stepper.specs.Stepping.{Stepping, StandsIn, no_events}
+use Rattle.granit_stepper.proofs.StateLemmas.{gives_next, next_fails}
+use Rattle.granit_stepper.proofs.stepper.Stepper.later_event.Goals as goal
+use Rattle.granit_steps.specs.Steps.{settle}
+
+pub returns-in-Ok-clause-known : goal.returns-in-Ok-clause-known
+returns-in-Ok-clause-known g c = λ m at told.
+    let unread = g.T.Input.unread in
+    let inside : Stepping g.row.T.Denot = record {
+      scanner = c.self.inside.scanner;
+      parser = c.self.inside.parser;
+      first = c.self.inside.first;
+      failed = c.self.inside.failed;
+    } in
+    let o = c.args.self.now.scanner.options in
+    let first = ap (λ (s : Stepping g.row.T.Denot). s.first) c.self.view_is ∙ c.in-Ok.ensures.keeps.first ∙ told in
+    let settled = subst
+    (λ (s : Stepping g.row.T.Denot). GivesTo no_events (Ok c.in-Ok.field-0) (StandsIn unread s) (settle o m))
+    (sym c.self.view_is) (c.in-Ok.ensures.known m at told) in
+    gives_next unread c.in-Ok.field-0 o inside m c.pop_event.new.self c.pop_event.result first settled
+    c.pop_event.ensures.first c.pop_event.ensures.rest
+
+pub returns-in-Err-clause-known : goal.returns-in-Err-clause-known
+returns-in-Err-clause-known g c = λ m at told.
+    next_fails g.T.Input.unread c.args.self.now.scanner.options m c.in-Err.error (c.in-Err.ensures.known m at told)

@@ -1,0 +1,23 @@
+use Rattle.std.proofs.Common.{◌≡◌, Some, refl, sym, ap, subst, ◌∙◌}
+use Rattle.granit_event.specs.declared.event.Event.TheVariants as events
+use Rattle.granit_event.specs.Events.{plain_event}
+use Rattle.granit_lexemes.specs.PlainEvent.{event_on, StreamStart}
+use Rattle.granit_stepper.specs.Stepping.{Stepping, StandsIn}
+use Rattle.granit_stepper.proofs.StateLemmas.{tells_start}
+use Rattle.granit_stepper.proofs.stepper.Stepper.next_event.Goals as goal
+
+pub returns-in-Some-clause-known : goal.returns-in-Some-clause-known
+returns-in-Some-clause-known g c = λ m at.
+    let unread = g.T.Input.unread in
+    let inside : Stepping g.row.T.Denot = record {
+      scanner = c.self.inside.scanner;
+      parser = c.self.inside.parser;
+      first = c.self.inside.first;
+      failed = c.self.inside.failed;
+    } in
+    let here = subst (λ (s : Stepping g.row.T.Denot). StandsIn unread s m) (sym c.self.view_is) at in
+    let told : plain_event (events.StreamStart, c.empty.result) ≡ event_on StreamStart c.in-Some.start =
+    rw c.empty.ensures refl in
+    let first : inside.first ≡ Some c.in-Some.start = c.in-Some.is in
+    tells_start unread inside m here c.args.self.now.scanner.options c.in-Some.start
+    (events.StreamStart, c.empty.result) first told

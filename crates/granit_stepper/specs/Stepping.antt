@@ -1,0 +1,61 @@
+-- What contracts see of a stepper, and in which state of the machine it is known to be.
+use Rattle.std.specs.Prelude.{◌≡◌, ℕ, Bool, true, false, List, [], ◌∷◌, ◌++◌, Option, Some, None, Ok}
+use Rattle.granit_base.specs.Place.{Mark, Unread}
+use Rattle.granit_error.specs.OptionsData.{OptionsData}
+use Rattle.granit_lexemes.specs.Outcome.{◌>>=◌}
+use Rattle.granit_lexemes.specs.PlainEvent.{PlainEvent, event_on, StreamStart}
+use Rattle.granit_machine.specs.Frames.{ParserState}
+use Rattle.granit_machine.specs.Lexing.{FlaggedItem}
+use Rattle.granit_machine.specs.Parser.{feed}
+use Rattle.granit_scanner.specs.Scans.{Scanning, Known, may_front_go}
+use Rattle.granit_steps.specs.Steps.{StepState, Turn, line_behind, may_go, with_fed}
+
+-- a scanner, the parser's state, where the stream starts if that isn't told yet, and whether a call failed
+pub record Stepping (I : Type 0) : Type 0 where
+  pub scanner : Scanning I
+  pub parser : ParserState
+  pub first : Option Mark
+  pub failed : Bool
+
+-- ---- in which state of the machine
+
+abbrev pub first_events : Option Mark → List PlainEvent
+first_events None = []
+first_events (Some m) = event_on StreamStart m ∷ []
+
+-- a stepper is known to be in a state of the machine: no call failed, and what wasn't given yet waits in the parser
+pub record StandsIn {I : Type 0} (unread : I → Unread → Type 0) (s : Stepping I) (m : StepState) : Type 0 where
+  pub going : s.failed ≡ false
+  pub reading : Known unread s.scanner m.reading m.queue
+  pub parser : m.parser ≡ record (s.parser) { given = [] }
+  pub pending : m.pending ≡ first_events s.first ++ s.parser.given
+
+-- what no turn changes
+pub record Keeps {I : Type 0} (old new : Stepping I) : Type 0 where
+  pub first : new.first ≡ old.first
+  pub failed : new.failed ≡ old.failed
+  pub options : new.scanner.options ≡ old.scanner.options
+
+-- ---- turns
+
+-- a turn was made, or none is left to make
+abbrev pub turn_view : Bool → Option (List PlainEvent)
+turn_view true = Some []
+turn_view false = None
+
+-- turns give no events: these wait in the state
+abbrev pub no_events : {X : Type 0} → X → List PlainEvent
+no_events x = []
+
+-- The oldest item, where it may go, with the line of what stands behind it: a stepper is then in the state with the
+-- items behind it.
+abbrev pub TakesFree : {I : Type 0} → (I → Unread → Type 0) → Option (FlaggedItem × Option ℕ) → Stepping I → StepState
+    → Type 0
+TakesFree unread None s m = (may_front_go m.reading m.queue ≡ false) × StandsIn unread s m
+TakesFree unread (Some x) s m =
+    (is : List FlaggedItem) × (m.queue ≡ x.0 ∷ is) × (may_go m.reading x.0 is ≡ true)
+    × (x.1 ≡ line_behind m.reading is) × StandsIn unread s (record m { queue = is })
+
+-- what the machine does with an item that was taken
+abbrev pub feed_item : OptionsData → FlaggedItem × Option ℕ → StepState → Turn
+feed_item o x m = feed o x.0 x.1 m.parser >>= λ y. Ok (Some [], with_fed m m.queue y)

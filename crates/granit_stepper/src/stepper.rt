@@ -1,0 +1,203 @@
+//! An input that is read into events, one for each call.
+ghost use Rattle.std.specs.Prelude.{◌≡◌, [], true, false, None, Ok, IfErr};
+ghost use Rattle.std.specs.Option.{option_map};
+ghost use Rattle.granit_base.specs.Place.{Unread};
+ghost use Rattle.granit_cursor.specs.Reading.{GivesTo, Moves};
+ghost use Rattle.granit_error.specs.OptionsView.{options_of};
+ghost use Rattle.granit_event.specs.Events.{plain_event};
+ghost use Rattle.granit_lexemes.specs.Here.{Here, first_place};
+ghost use Rattle.granit_scanner.specs.Scans.{front_view, may_front_go};
+ghost use Rattle.granit_stepper.specs.Stepping as spec;
+ghost use Rattle.granit_stepper.specs.Stepping.{Keeps, StandsIn, TakesFree};
+ghost use Rattle.granit_steps.specs.Steps as steps;
+ghost use Rattle.granit_steps.specs.Steps.{StepState};
+
+use granit_base::{Marker, NoMemory, Span};
+use granit_error::{Options, ScanError};
+use granit_event::Event;
+use granit_feed::feed;
+use granit_frames::ParserState;
+use granit_input::{BorrowedInput, Input};
+use granit_queue::Queued;
+use granit_scanner::{Front, Scanner};
+use std::alloc::Global;
+use std::marker::Model;
+
+/// An input that is read into events, one for each call.
+#[derive(Drop)]
+pub struct Stepper<'input, T: Input> {
+    scanner: Scanner<'input, T>,
+    parser: ParserState<'input>,
+    // Where the stream starts, until that is told.
+    first: Option<Marker>,
+    // A call failed: nothing more is given.
+    failed: bool,
+}
+
+impl<'input, T: Input> Model for Stepper<'input, T> {
+    ghost use Rattle.granit_stepper.specs.Stepping.{Stepping};
+
+    ghost Value = { Stepping T };
+
+    ghost view = { λ s. record { scanner = s.scanner; parser = s.parser; first = s.first; failed = s.failed } };
+}
+
+impl<'input, T: BorrowedInput<'input>> Stepper<'input, T> {
+    /// Before an input, of which nothing was read.
+    pub fn new(alloc: Global, input: T, options: Options) -> Stepper<'input, T>
+        ensures start { (h : Here) → T.unread input h.unread → h.place ≡ first_place → h.begins_line ≡ true
+            → h.tab ≡ None → StandsIn T.unread result (steps.start_from h) }
+        ensures options { result.scanner.options ≡ options_of options }
+    {
+        let scanner = Scanner::new(alloc, input, options);
+        let start = scanner.mark();
+        Stepper {
+            scanner,
+            parser: ParserState::new(alloc, start),
+            first: Some(start),
+            failed: false,
+        }
+    }
+
+    /// The next event, and where it stands; none behind the end of the stream, and behind an error.
+    ///
+    /// # Errors
+    ///
+    /// What is wrong with the input there, by the kinds of `docs/FAULTS.md`, and `NoMemory`.
+    pub fn next_event(&mut self, alloc: Global) -> Result<Option<(Event<'input>, Span)>, ScanError>
+        ensures known { (m : StepState) → StandsIn T.unread self.old m → GivesTo (option_map plain_event) result
+            (StandsIn T.unread self.new) (steps.next_event self.old.scanner.options m) }
+        ensures failed { IfErr result (λ e. self.new.failed ≡ true) }
+        ensures over { self.old.failed ≡ true → (result ≡ Ok None) × (self.new ≡ self.old) }
+        ensures options { self.new.scanner.options ≡ self.old.scanner.options }
+        ensures moves { Moves T.left T.origin self.old.scanner.cursor self.new.scanner.cursor }
+    {
+        if self.failed {
+            return Ok(None);
+        }
+        match self.first {
+            Some(start) => {
+                self.first = None;
+                Ok(Some((Event::StreamStart, Span::empty(start))))
+            }
+            None => self.later_event(alloc),
+        }
+    }
+
+    /// The next event behind the start of the stream.
+    fn later_event(&mut self, alloc: Global) -> Result<Option<(Event<'input>, Span)>, ScanError>
+        ensures known { (m : StepState) → StandsIn T.unread self.old m → self.old.first ≡ None
+            → GivesTo (option_map plain_event) result (StandsIn T.unread self.new)
+            (steps.next_event self.old.scanner.options m) }
+        ensures failed { IfErr result (λ e. self.new.failed ≡ true) }
+        ensures options { self.new.scanner.options ≡ self.old.scanner.options }
+        ensures moves { Moves T.left T.origin self.old.scanner.cursor self.new.scanner.cursor }
+    {
+        match self.settle(alloc) {
+            Ok(()) => Ok(self.parser.pop_event()),
+            Err(error) => {
+                self.failed = true;
+                Err(error)
+            }
+        }
+    }
+
+    /// Turns until an event waits, or nothing is left.
+    fn settle(&mut self, alloc: Global) -> Result<(), ScanError>
+        ensures known { (m : StepState) → StandsIn T.unread self.old m → self.old.first ≡ None
+            → GivesTo spec.no_events result (StandsIn T.unread self.new) (steps.settle self.old.scanner.options m) }
+        ensures keeps { Keeps self.old self.new }
+        ensures moves { Moves T.left T.origin self.old.scanner.cursor self.new.scanner.cursor }
+    {
+        // Over an input of which nothing is known no number falls with each turn, so the turns are counted.
+        'turns: for _ in 0..u64::MAX {
+            if !self.turn(alloc)? {
+                return Ok(());
+            }
+        }
+        Err(ScanError::from(NoMemory))
+    }
+
+    /// One turn: the oldest item is fed where it may go, and else one more read is made; false where an event waits or
+    /// nothing is left.
+    fn turn(&mut self, alloc: Global) -> Result<bool, ScanError>
+        ensures known { (m : StepState) → StandsIn T.unread self.old m → self.old.first ≡ None
+            → GivesTo spec.turn_view result (StandsIn T.unread self.new) (steps.step_turn self.old.scanner.options m) }
+        ensures keeps { Keeps self.old self.new }
+        ensures moves { Moves T.left T.origin self.old.scanner.cursor self.new.scanner.cursor }
+    {
+        if self.parser.has_event() {
+            return Ok(false);
+        }
+        match self.take_free() {
+            Some(front) => self.take_item(alloc, front),
+            None => self.read_more(alloc),
+        }
+    }
+
+    /// The oldest item, where it may go.
+    fn take_free(&mut self) -> Option<Front<'input>>
+        ensures known { (m : StepState) → StandsIn T.unread self.old m
+            → TakesFree T.unread (option_map front_view result) self.new m }
+        ensures keeps { Keeps self.old self.new }
+        ensures parser { self.new.parser ≡ self.old.parser }
+        ensures cursor { self.new.scanner.cursor ≡ self.old.scanner.cursor }
+    {
+        if self.scanner.front_may_go() {
+            self.scanner.take_front()
+        } else {
+            None
+        }
+    }
+
+    /// The parser takes an item.
+    fn take_item(&mut self, alloc: Global, front: Front<'input>) -> Result<bool, ScanError>
+        ensures known { (m : StepState) → StandsIn T.unread self.old m → self.old.first ≡ None → m.pending ≡ []
+            → GivesTo spec.turn_view result (StandsIn T.unread self.new)
+            (spec.feed_item self.old.scanner.options (front_view front.entry) m) }
+        ensures keeps { Keeps self.old self.new }
+        ensures scanner { self.new.scanner ≡ self.old.scanner }
+    {
+        let Front { queued, next_line } = front;
+        let Queued { item, begins_key } = queued;
+        let options = self.scanner.options();
+        feed(
+            &mut self.parser,
+            alloc,
+            options,
+            item,
+            begins_key,
+            next_line,
+        )?;
+        Ok(true)
+    }
+
+    /// One more read, or the fault of the one before; false behind the end.
+    fn read_more(&mut self, alloc: Global) -> Result<bool, ScanError>
+        ensures known { (m : StepState) → StandsIn T.unread self.old m → may_front_go m.reading m.queue ≡ false
+            → GivesTo spec.turn_view result (StandsIn T.unread self.new)
+            (steps.read_more self.old.scanner.options m.reading.ended m) }
+        ensures keeps { Keeps self.old self.new }
+        ensures moves { Moves T.left T.origin self.old.scanner.cursor self.new.scanner.cursor }
+    {
+        if self.scanner.is_over() {
+            return self.end();
+        }
+        self.scanner.read_on(alloc)?;
+        Ok(true)
+    }
+
+    /// Reading is over: by a fault, or at the end.
+    fn end(&mut self) -> Result<bool, ScanError>
+        ensures known { (m : StepState) → StandsIn T.unread self.old m → steps.is_over m.reading ≡ true
+            → GivesTo spec.turn_view result (StandsIn T.unread self.new)
+            (steps.read_more self.old.scanner.options m.reading.ended m) }
+        ensures keeps { Keeps self.old self.new }
+        ensures cursor { self.new.scanner.cursor ≡ self.old.scanner.cursor }
+    {
+        match self.scanner.take_fault() {
+            None => Ok(false),
+            Some(fault) => Err(fault),
+        }
+    }
+}
