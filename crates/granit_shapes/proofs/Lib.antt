@@ -1,0 +1,3 @@
+pub mod PairsEven
+pub mod PairsInTrees
+pub mod Placing

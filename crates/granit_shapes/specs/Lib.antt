@@ -1,0 +1,3 @@
+pub mod EvenNodes
+pub mod Placeless
+pub mod Turns
