@@ -1,6 +1,6 @@
 #!/usr/bin/env bash
-# Speed and memory on 5 MB of plain flow documents, beside another program that reads the same words: first with no escapes,
-# then with many.
+# Speed and memory beside another program that reads the same words: on block mappings with comments, on flow collections on one line,
+# on flow collections over many lines, and on escapes.
 # usage: bench/compare.sh OTHER_PROGRAM [MEGABYTES]
 set -eu
 other="${1:?usage: bench/compare.sh OTHER_PROGRAM [MEGABYTES]}"
@@ -13,8 +13,10 @@ write_text() {
 import sys
 size = int(float(sys.argv[1]) * 1_000_000)
 forms = {
-    'plain': '--- {? "name" : "service number %d", ? "ports" : ["80:%d", "443:%d"],\n  ? "labels" : {? "tier" : "backend — of the shop", ? "owner" : "team %d"}}\n',
-    'escaped': '--- {? "na\\u006de" : "line\\n%d\\t\\"quoted\\"", ? "\\x70orts\\\\" : ["80\\/%d", "\\\\\\\\%d\\_\\N"],\n  ? "\\ud83d\\ude00" : ["\\0\\a\\b\\e\\f\\v\\r\\L\\P", "\\U0001F600 team %d"]}\n',
+    'block': '- name: service-%d   # number %d\n  ports:\n    - 80:%d\n    - "443"\n  labels:\n    tier: backend — of the shop\n    owner: team %d\n',
+    'flow': ' {"name": "service-%d", "ports": [%d, %d], "labels": {"tier": "backend — of the shop", "owner": "team %d"}},',
+    'pretty': '  {\n    "name": "service-%d",\n    "ports": [\n      %d,\n      %d\n    ],\n    "labels": {\n      "owner": "team %d"\n    }\n  },\n',
+    'escaped': '- "line\\n%d\\t\\"quoted\\""\n- "80\\/%d \\\\\\\\%d\\_\\N"\n- "\\U0001F600 team %d"\n',
 }
 out, length, number = [], 0, 0
 while length < size:
@@ -22,7 +24,8 @@ while length < size:
     text = forms[sys.argv[2]] % (number, number, number, number % 7)
     out.append(text)
     length += len(text.encode())
-sys.stdout.write(''.join(out))
+text = ''.join(out)
+sys.stdout.write('[' + text + ']\n' if sys.argv[2] in ('flow', 'pretty') else text)
 PYTHON
 }
 "$top/granit" events </dev/null >/dev/null
@@ -49,7 +52,7 @@ PYTHON
     awk -v name="$name" -v best="$best" -v peak="$peak" -v size="$(stat -c %s "$work/text")" \
         'BEGIN { printf "%s: %.3f s (best of 5), peak %.1f MB, %.1f bytes an input byte\n", name, best, peak / 1024, peak * 1024 / size }'
 }
-for form in plain escaped; do
+for form in block flow pretty escaped; do
     write_text "$form"
     echo "$form: $(stat -c %s "$work/text") bytes"
     measure ours "$top/granit" events

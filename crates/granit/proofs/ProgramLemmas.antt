@@ -31,8 +31,7 @@ memory_ran_out words source sink = record {
   read = λ e. absurd cc;
   caused = λ e. absurd cc;
   answered = λ can quiet. inr refl;
-  refused = λ kind m has quiet. inr refl;
-  canonical = λ ts has quiet. inr refl;
+  refused = λ f has quiet. inr refl;
 }
 
 pub ran_out : (all : Option (List (List ℕ))) (source sink : End) → RanOn all source source sink sink status.NoMemory

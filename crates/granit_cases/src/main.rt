@@ -1,6 +1,6 @@
-//! Runs each case of standard input, a text as a JSON string a line, and prints what the program
-//! prints for it and the status. The stored lines come from the original and from an independent
-//! judge of the grammar, never from this program.
+//! Runs each case of standard input, the words of the program and a text as a JSON string on a line with a tab between,
+//! and prints what the program prints for it and the status. The stored lines are those of the original with the
+//! differences of docs/DIFFERENCES.md built in, never of this program.
 #![tactic(auto)]
 
 use anyhow::{Context, Result};
@@ -9,6 +9,18 @@ use granit_events::{PlainSource, WriteSink, run};
 use serde_json::Value;
 use std::alloc::Global;
 use std::io::{BufRead, BufReader};
+
+/// The words of a case.
+fn case_words(alloc: Global, line: &str) -> Result<TextList> {
+    let mut words = TextList::new(alloc);
+    for word in line.split_whitespace() {
+        OwnedText::from_str(alloc, word)
+            .and_then(|word| words.push(word))
+            .ok()
+            .context("no memory for a word")?;
+    }
+    Ok(words)
+}
 
 /// The text of a case.
 fn case_text(alloc: Global, line: &str) -> Result<Vec<u8>> {
@@ -19,13 +31,14 @@ fn case_text(alloc: Global, line: &str) -> Result<Vec<u8>> {
 
 fn main(rt: HostRuntime) -> Result<()> {
     let alloc = rt.alloc();
-    let mut words = TextList::new(alloc);
-    OwnedText::from_str(alloc, "events")
-        .and_then(|word| words.push(word))
-        .ok()
-        .context("no memory for the word")?;
     for line in BufReader::new(alloc, rt.reader())?.lines(alloc) {
-        let mut source = PlainSource::new(case_text(alloc, line?.as_str())?);
+        let line = line?;
+        let (words, text) = line
+            .as_str()
+            .split_once('\t')
+            .context("a case is words and a text")?;
+        let words = case_words(alloc, words)?;
+        let mut source = PlainSource::new(case_text(alloc, text)?);
         let mut sink = WriteSink::new(rt.stdout());
         let status = run(alloc, &words, &mut source, &mut sink).code();
         println!(rt; "status {status}")?;

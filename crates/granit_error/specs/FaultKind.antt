@@ -102,7 +102,6 @@ pub data FaultKind : Type 0 where
   InvalidFlowScalarIndent : FaultKind
   InvalidMappingValueWhitespace : FaultKind
   UnexpectedEndOfPlainScalar : FaultKind
-  NotBuilt : FaultKind
 
 abbrev pub fault_number : FaultKind → ℕ
 fault_number NoMemory = 1
@@ -200,7 +199,6 @@ fault_number InvalidSimpleKey = 92
 fault_number InvalidFlowScalarIndent = 93
 fault_number InvalidMappingValueWhitespace = 94
 fault_number UnexpectedEndOfPlainScalar = 95
-fault_number NotBuilt = 96
 
 -- the words in UTF-8
 abbrev pub fault_words : FaultKind → List ℕ
@@ -312,4 +310,3 @@ fault_words InvalidSimpleKey = codes "simple key is no longer valid"
 fault_words InvalidFlowScalarIndent = codes "invalid indentation in flow construct"
 fault_words InvalidMappingValueWhitespace = codes "':' must be followed by a valid YAML whitespace"
 fault_words UnexpectedEndOfPlainScalar = codes "unexpected end of plain scalar"
-fault_words NotBuilt = codes "not built yet"

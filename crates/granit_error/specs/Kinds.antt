@@ -32,7 +32,7 @@ use Rattle.granit_error.specs.FaultKind.{InputSlicingUnavailable, MissingInclude
 use Rattle.granit_error.specs.FaultKind.{AnchorCountOverflow, UnexpectedEof, UnexpectedEofFlowSequence}
 use Rattle.granit_error.specs.FaultKind.{UnexpectedEofFlowMapping, ExpectedNodeContent, ExpectedStreamStart}
 use Rattle.granit_error.specs.FaultKind.{InvalidSimpleKey, InvalidFlowScalarIndent, InvalidMappingValueWhitespace}
-use Rattle.granit_error.specs.FaultKind.{UnexpectedEndOfPlainScalar, NotBuilt}
+use Rattle.granit_error.specs.FaultKind.{UnexpectedEndOfPlainScalar}
 use Rattle.granit_error.specs.declared.kind.ErrorKind.{ErrorKind}
 use Rattle.granit_error.specs.declared.kind.ErrorKind.TheVariants as code
 
@@ -132,4 +132,3 @@ kind_of code.InvalidSimpleKey = InvalidSimpleKey
 kind_of code.InvalidFlowScalarIndent = InvalidFlowScalarIndent
 kind_of code.InvalidMappingValueWhitespace = InvalidMappingValueWhitespace
 kind_of code.UnexpectedEndOfPlainScalar = UnexpectedEndOfPlainScalar
-kind_of code.NotBuilt = NotBuilt

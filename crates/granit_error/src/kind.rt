@@ -225,8 +225,6 @@ pub enum ErrorKind {
     InvalidMappingValueWhitespace,
     /// Kept for its name: no call of this project finds it.
     UnexpectedEndOfPlainScalar,
-    /// A part of YAML that this version cannot read yet.
-    NotBuilt,
 }
 
 impl ErrorKind {
@@ -332,7 +330,6 @@ impl ErrorKind {
             ErrorKind::InvalidFlowScalarIndent => 93,
             ErrorKind::InvalidMappingValueWhitespace => 94,
             ErrorKind::UnexpectedEndOfPlainScalar => 95,
-            ErrorKind::NotBuilt => 96,
         }
     }
 
@@ -479,7 +476,6 @@ impl ErrorKind {
                 ErrorKind::InvalidMappingValueWhitespace,
             ),
             ErrorKind::UnexpectedEndOfPlainScalar => Ok(ErrorKind::UnexpectedEndOfPlainScalar),
-            ErrorKind::NotBuilt => Ok(ErrorKind::NotBuilt),
         }
     }
 }

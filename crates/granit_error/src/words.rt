@@ -286,7 +286,6 @@ impl fmt::Display for ErrorKind {
                 "':' must be followed by a valid YAML whitespace",
             ),
             ErrorKind::UnexpectedEndOfPlainScalar => f.write_str("unexpected end of plain scalar"),
-            ErrorKind::NotBuilt => f.write_str("not built yet"),
         }
     }
 }

@@ -31,7 +31,6 @@ fn kinds_without_texts_print_their_words(rt: HostRuntime) -> Result<(), Fail> {
             84,
             "No include resolver set for parser stack.",
         ),
-        (ErrorKind::NotBuilt, 96, "not built yet"),
         (
             ErrorKind::UnclosedFlowCollection { opener: '{' },
             2,

@@ -1,6 +1,8 @@
 pub mod AnswerLemmas
 pub mod Known
+pub mod NumberLemmas
+pub mod PushLemmas
 pub mod Reaching
 pub mod RunLemmas
-pub mod PushLemmas
 pub mod UnderstoodLemmas
+pub mod WordLemmas

@@ -1,32 +1,33 @@
 -- What words and bytes call for: a status, and the output that it fixes.
-use Rattle.std.specs.Prelude.{◌≡◌, Bool, ℕ, ◌==◌, ◌<◌, ◌≤◌, List, ◌++◌, length, map, codes, Option, Some, None, Result}
+use Rattle.std.specs.Prelude.{◌≡◌, Bool, ℕ, ◌==◌, ◌<◌, ◌≤◌, List, ◌++◌, length, codes, Option, Result}
 use Rattle.std.specs.Prelude.{Ok, Err}
 use Rattle.std.specs.Fmt.{decimal}
-use Rattle.std.specs.Str.{chars, IsUtf8, encode_utf8_all}
+use Rattle.std.specs.Str.{chars, IsUtf8}
 use Rattle.std.specs.Str.Lossy.{utf8_valid_len}
 use Rattle.granit_base.specs.Written.{Written}
 use Rattle.granit_error.specs.FaultKind.{FaultKind, NoMemory, fault_number}
-use Rattle.granit_error.specs.OptionsData.{default_options}
+use Rattle.granit_error.specs.OptionsData.{OptionsData}
 use Rattle.granit_lexemes.specs.Line.{event_lines, fault_line}
-use Rattle.granit_flow.specs.Machine.{events_of}
 use Rattle.granit_lexemes.specs.Outcome.{Fault}
 use Rattle.granit_lexemes.specs.PlainEvent.{PlainEvent}
-use Rattle.granit_events.specs.Words.{wrong_word, usage_line}
+use Rattle.granit_machine.specs.Machine.{run}
+use Rattle.granit_events.specs.Words.{Say, spelled, usage_line}
+use Rattle.granit_events.specs.Words as grammar
 use Rattle.granit_events.specs.Came.{most_bytes, CameWhole, CameTooMany}
 use Rattle.granit_events.specs.declared.status.Status.{Status}
 use Rattle.granit_events.specs.declared.status.Status.TheVariants as status
 
--- the words in UTF-8
-abbrev pub spelled : List Written → List (List ℕ)
-spelled words = map (λ w. encode_utf8_all w.characters) words
+-- the words are right, and these are the options that they say
+abbrev pub SayOptions : List Written → OptionsData → Type 0
+SayOptions words o = Say (spelled words) o
 
 -- the words are in the grammar
 abbrev pub AreRight : List Written → Type 0
-AreRight words = wrong_word (spelled words) ≡ None
+AreRight words = grammar.AreRight (spelled words)
 
 -- the k-th word is the first wrong or missing one
 abbrev pub AreWrongAt : List Written → ℕ → Type 0
-AreWrongAt words k = wrong_word (spelled words) ≡ Some k
+AreWrongAt words k = grammar.AreWrongAt (spelled words) k
 
 abbrev pub too_long_line : List ℕ
 too_long_line = codes "input too long\n"
@@ -34,23 +35,23 @@ too_long_line = codes "input too long\n"
 abbrev pub not_utf8_line : ℕ → List ℕ
 not_utf8_line n = (codes "not UTF-8 after " ++ decimal n) ++ codes " bytes\n"
 
--- what the plain machine gives for bytes that are UTF-8, with default options
-abbrev pub machine_answer : List ℕ → Result (List PlainEvent) Fault
-machine_answer bytes = events_of default_options (chars bytes)
+-- what the plain machine gives for bytes that are UTF-8
+abbrev pub machine_answer : OptionsData → List ℕ → Result (List PlainEvent) Fault
+machine_answer o bytes = run o (chars bytes)
 
--- the status and the output that the whole bytes of an input call for
-abbrev pub Answers : List ℕ → Status → List ℕ → Type 0
-Answers bytes status.NotUtf8 output = (IsUtf8 bytes → ⊥) × (output ≡ not_utf8_line (utf8_valid_len bytes))
-Answers bytes status.Fault output = IsUtf8 bytes
-    × ((f : Fault) × (machine_answer bytes ≡ Err f) × (output ≡ fault_line f))
-Answers bytes status.Done output = IsUtf8 bytes
-    × ((events : List PlainEvent) × (machine_answer bytes ≡ Ok events) × (output ≡ event_lines events))
-Answers bytes _ output = ⊥
+-- the status and the output that the whole bytes of an input call for under options
+abbrev pub Answers : OptionsData → List ℕ → Status → List ℕ → Type 0
+Answers o bytes status.NotUtf8 output = (IsUtf8 bytes → ⊥) × (output ≡ not_utf8_line (utf8_valid_len bytes))
+Answers o bytes status.Fault output = IsUtf8 bytes
+    × ((f : Fault) × (machine_answer o bytes ≡ Err f) × (output ≡ fault_line f))
+Answers o bytes status.Done output = IsUtf8 bytes
+    × ((events : List PlainEvent) × (machine_answer o bytes ≡ Ok events) × (output ≡ event_lines events))
+Answers o bytes _ output = ⊥
 
--- the words were right, the whole input came, and it calls for that status and output
+-- the words were right, the whole input came, and under their options it calls for that status and output
 abbrev pub EndedWhole : List Written → Option (List ℕ) → Option (List ℕ) → Status → List ℕ → Type 0
-EndedWhole words before now s output = AreRight words
-    × ((bytes : List ℕ) × CameWhole before now bytes × Answers bytes s output)
+EndedWhole words before now s output = (o : OptionsData) × SayOptions words o
+    × ((bytes : List ℕ) × CameWhole before now bytes × Answers o bytes s output)
 
 -- A call of `run` ended with that status, for the reason that it names, and the output that this fixes; a fault of the
 -- outside and want of memory fix none.
@@ -82,10 +83,10 @@ abbrev pub CallsFor : List Written → List ℕ → Status → Type 0
 CallsFor words bytes status.Usage = (k : ℕ) × AreWrongAt words k
 CallsFor words bytes status.TooLong = AreRight words × (most_bytes < length bytes)
 CallsFor words bytes status.NotUtf8 = AreRight words × (length bytes ≤ most_bytes) × (IsUtf8 bytes → ⊥)
-CallsFor words bytes status.Fault = AreRight words × (length bytes ≤ most_bytes) × IsUtf8 bytes
-    × ((f : Fault) × (machine_answer bytes ≡ Err f))
-CallsFor words bytes status.Done = AreRight words × (length bytes ≤ most_bytes) × IsUtf8 bytes
-    × ((events : List PlainEvent) × (machine_answer bytes ≡ Ok events))
+CallsFor words bytes status.Fault = (o : OptionsData) × SayOptions words o × (length bytes ≤ most_bytes) × IsUtf8 bytes
+    × ((f : Fault) × (machine_answer o bytes ≡ Err f))
+CallsFor words bytes status.Done = (o : OptionsData) × SayOptions words o × (length bytes ≤ most_bytes) × IsUtf8 bytes
+    × ((events : List PlainEvent) × (machine_answer o bytes ≡ Ok events))
 CallsFor words bytes _ = ⊥
 
 -- that status, or one that stands in its place: a fault of the outside or want of memory

@@ -1,18 +1,12 @@
 -- What a run does with words, a source and a sink.
 use Rattle.std.specs.Prelude.{◌≡◌, ◌⊎◌, ℕ, List, Option, Some}
-use Rattle.std.specs.Io.KnownBytes.{Appends, IsAtEnd, Keeps}
-use Rattle.granit_base.specs.Place.{Mark}
+use Rattle.std.specs.Io.KnownBytes.{IsAtEnd, Keeps}
 use Rattle.granit_base.specs.Written.{Written}
-use Rattle.granit_error.specs.FaultKind.{FaultKind}
-use Rattle.granit_error.specs.OptionsData.{default_options}
-use Rattle.granit_canonical.specs.Canonical.{canonical_events}
-use Rattle.granit_lexemes.specs.Line.{event_lines, fault_line}
-use Rattle.granit_lexemes.specs.Outcome.{fault_at}
-use Rattle.granit_model.specs.Tree.{PlainTrees}
+use Rattle.granit_lexemes.specs.Outcome.{Fault}
 use Rattle.granit_events.specs.Counts.{Rose}
 use Rattle.granit_events.specs.Ended.{AreRight, AreWrongAt, CallsFor, Ended, Fixes, IsOrYields, ReadsAll}
 use Rattle.granit_events.specs.Output.{CutOutput, WholeOutput}
-use Rattle.granit_events.specs.Understood.{CanRead, HasCanonical, HasCause, PrintsFault, PrintsReading}
+use Rattle.granit_events.specs.Understood.{CanRead, HasCause, PrintsCause, PrintsFault, PrintsReading}
 use Rattle.granit_events.specs.declared.status.Status.{Status}
 use Rattle.granit_events.specs.declared.status.Status.TheVariants as status
 
@@ -49,18 +43,13 @@ pub record Ran (words : List Written) (source source_after sink sink_after : End
   pub usage : (k : ℕ) → AreWrongAt words k → IsOrYields status.Usage ended_as
   pub exactly : (bytes : List ℕ) (wanted : Status) → source.bytes ≡ Some bytes → CallsFor words bytes wanted
       → IsOrYields wanted ended_as
-  -- what was printed is so of the text
+  -- what was printed is so of the text under the options that the words say
   pub read : ended_as ≡ status.Done → PrintsReading words source.bytes source_after.bytes sink.bytes sink_after.bytes
   pub caused : ended_as ≡ status.Fault → PrintsFault words source.bytes source_after.bytes sink.bytes sink_after.bytes
-  -- where neither end told a fault, a text with a reading is answered, one with a cause is refused with it, and
-  -- canonical text is answered with its trees' events
+  -- where neither end told a fault, a text with a reading is answered, and one with a cause is refused with it
   pub answered : CanRead words source.bytes → AreQuiet source source_after sink sink_after
       → (ended_as ≡ status.Done) ⊎ (ended_as ≡ status.NoMemory)
   pub refused :
-      (kind : FaultKind) (m : Mark) → HasCause words source.bytes kind m → AreQuiet source source_after sink sink_after
-      → ((ended_as ≡ status.Fault) × Appends sink.bytes sink_after.bytes (fault_line (fault_at kind m)))
+      (f : Fault) → (h : HasCause words source.bytes f) → AreQuiet source source_after sink sink_after
+      → ((ended_as ≡ status.Fault) × PrintsCause h.options h.bytes f sink.bytes sink_after.bytes)
       ⊎ (ended_as ≡ status.NoMemory)
-  pub canonical :
-      (ts : PlainTrees) → HasCanonical words source.bytes ts → AreQuiet source source_after sink sink_after
-      → ((ended_as ≡ status.Done) × Appends sink.bytes sink_after.bytes
-      (event_lines (canonical_events default_options ts))) ⊎ (ended_as ≡ status.NoMemory)

@@ -1,6 +1,7 @@
 //! What is printed for the whole bytes of an input.
 ghost use Rattle.std.specs.Prelude.{◌≡◌, Err, IfOk, OnOk, OnErr};
 ghost use Rattle.std.specs.Io.KnownBytes.{Appends};
+ghost use Rattle.granit_error.specs.OptionsView.{options_of};
 ghost use Rattle.granit_lexemes.specs.Line.{fault_line};
 ghost use Rattle.granit_events.specs.Words.{usage_line};
 ghost use Rattle.granit_events.specs.Counts.{Rose};
@@ -54,14 +55,21 @@ fn print_not_utf8<W: Sink>(alloc: Global, sink: &mut W, valid: usize) -> Result<
 }
 
 /// Prints the events of a text, or its fault.
-fn answer_text<W: Sink>(alloc: Global, text: &str, sink: &mut W) -> Result<Status, WriteEnd>
-    ensures whole { IfOk result (λ s. WholeOutput (Answers text.now) (W.written sink.old) (W.written sink.new) s) }
+fn answer_text<W: Sink>(
+    alloc: Global,
+    options: Options,
+    text: &str,
+    sink: &mut W,
+) -> Result<Status, WriteEnd>
+    ensures whole { IfOk result (λ s. WholeOutput (Answers (options_of options) text.now) (W.written sink.old)
+        (W.written sink.new) s) }
     ensures same { OnOk result (W.faults sink.new ≡ W.faults sink.old) }
-    ensures cut { OnErr result (CutOutput (Answers text.now) (W.written sink.old) (W.written sink.new)) }
+    ensures cut { OnErr result (CutOutput (Answers (options_of options) text.now) (W.written sink.old)
+        (W.written sink.new)) }
     ensures failed { result ≡ Err ends.Failed → Rose (W.faults sink.old) (W.faults sink.new) }
     ensures no_memory { result ≡ Err ends.NoMemory → W.faults sink.new ≡ W.faults sink.old }
 {
-    match load_str(alloc, text, Options::default()) {
+    match load_str(alloc, text, options) {
         Ok(events) => {
             write_events(alloc, sink, events.as_slice())?;
             Ok(Status::Done)
@@ -82,15 +90,22 @@ fn answer_text<W: Sink>(alloc: Global, text: &str, sink: &mut W) -> Result<Statu
 ///
 /// `Failed`, only where the sink's count of faults rose, and `NoMemory`; a front of the output is
 /// written then.
-pub fn answer<W: Sink>(alloc: Global, bytes: &[u8], sink: &mut W) -> Result<Status, WriteEnd>
-    ensures whole { IfOk result (λ s. WholeOutput (Answers bytes.now) (W.written sink.old) (W.written sink.new) s) }
+pub fn answer<W: Sink>(
+    alloc: Global,
+    options: Options,
+    bytes: &[u8],
+    sink: &mut W,
+) -> Result<Status, WriteEnd>
+    ensures whole { IfOk result (λ s. WholeOutput (Answers (options_of options) bytes.now) (W.written sink.old)
+        (W.written sink.new) s) }
     ensures same { OnOk result (W.faults sink.new ≡ W.faults sink.old) }
-    ensures cut { OnErr result (CutOutput (Answers bytes.now) (W.written sink.old) (W.written sink.new)) }
+    ensures cut { OnErr result (CutOutput (Answers (options_of options) bytes.now) (W.written sink.old)
+        (W.written sink.new)) }
     ensures failed { result ≡ Err ends.Failed → Rose (W.faults sink.old) (W.faults sink.new) }
     ensures no_memory { result ≡ Err ends.NoMemory → W.faults sink.new ≡ W.faults sink.old }
 {
     match str::from_utf8(bytes) {
-        Ok(text) => answer_text(alloc, text, sink),
+        Ok(text) => answer_text(alloc, options, text, sink),
         Err(error) => {
             print_not_utf8(alloc, sink, error.valid_up_to())?;
             Ok(Status::NotUtf8)
@@ -133,6 +148,6 @@ pub fn respond<W: Sink>(alloc: Global, input: &Input, sink: &mut W) -> Result<St
             write_all(sink, b"input too long\n")?;
             Ok(Status::TooLong)
         }
-        Input::Whole(bytes) => answer(alloc, bytes, sink),
+        Input::Whole(bytes, options) => answer(alloc, *options, bytes, sink),
     }
 }

@@ -7,8 +7,9 @@ ghost use Rattle.granit_events.specs.declared.input.InputEnd.TheVariants as ends
 
 use crate::ends::Source;
 use crate::reading::{ReadEnd, read_all};
-use crate::words::first_wrong;
+use crate::words::read_words;
 use granit_base::TextList;
+use granit_error::Options;
 use std::alloc::Global;
 
 /// What came in.
@@ -18,8 +19,8 @@ pub enum Input {
     WrongWord(usize),
     /// One byte too many.
     TooLong,
-    /// All bytes of the source.
-    Whole(Vec<u8>),
+    /// All bytes of the source, and how they are read.
+    Whole(Vec<u8>, Options),
 }
 
 /// Why nothing came in.
@@ -42,11 +43,12 @@ pub fn take_input<S: Source>(
     ensures words { OnErr result (AreRight words.now) }
     ensures unread { (k : ℕ) → AreWrongAt words.now k → source.new ≡ source.old }
 {
-    if let Some(number) = first_wrong(words) {
-        return Ok(Input::WrongWord(number));
-    }
+    let options = match read_words(words) {
+        Ok(options) => options,
+        Err(number) => return Ok(Input::WrongWord(number)),
+    };
     match read_all(alloc, source) {
-        Ok(bytes) => Ok(Input::Whole(bytes)),
+        Ok(bytes) => Ok(Input::Whole(bytes, options)),
         Err(ReadEnd::TooLong) => Ok(Input::TooLong),
         Err(ReadEnd::Failed) => Err(InputEnd::Failed),
         Err(ReadEnd::NoMemory) => Err(InputEnd::NoMemory),

@@ -61,10 +61,9 @@ pub(crate) fn run_once<S: Source, W: Sink>(
 ///
 /// The contract, `Ran`: each status names its cause and fixes the output (`ended` and what stands
 /// behind it), and which status the words and bytes call for (`usage`, `exactly`). Events that were
-/// printed are those of the documents as which the text is read (`read`), a fault has its cause at
-/// its mark (`caused`), a text with a reading whose aliases name anchors is answered (`answered`),
-/// and one in which a cause stands is refused with it (`refused`). The canonical flow text of trees
-/// that fit is printed as those trees' events (`canonical`). Wrong words leave the source as it was.
+/// printed are, comments aside, those of the one reading of the text (`read`), a fault is a cause of the
+/// text (`caused`), a text with a reading is answered (`answered`), and one with a cause is refused with it
+/// (`refused`). Wrong words leave the source as it was.
 pub fn run<S: Source, W: Sink>(
     alloc: Global,
     words: &TextList,

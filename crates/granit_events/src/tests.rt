@@ -114,6 +114,41 @@ fn prints_what_is_wrong(rt: HostRuntime) {
 }
 
 #[test]
+fn reads_its_words(rt: HostRuntime) {
+    let holds = Some(true);
+    let unresolved =
+        "StreamStart 0:1:1-0:1:1\nDocumentStart implicit 0:1:1-2:1:3\nUnresolvedAlias \"x\" 0:1:1-2:1:3\nDocumentEnd 2:1:3-2:1:3\nStreamEnd 2:1:3-2:1:3\n";
+    assert_eq!(rt;
+        ends(
+            &rt,
+            over(&["events", "unresolved=on"], b"*x"),
+            Status::Done,
+            unresolved
+        ),
+        holds
+    );
+    let deep = "fault 5: recursion limit exceeded at char 0 line 1 column 1\n";
+    assert_eq!(rt;
+        ends(
+            &rt,
+            over(&["events", "flow-limit=0", "strict=on"], b"[a]"),
+            Status::Fault,
+            deep
+        ),
+        holds
+    );
+    assert_eq!(rt;
+        ends(
+            &rt,
+            over(&["events", "comments=on", "comments=off"], b"a"),
+            Status::Usage,
+            "usage: word 3\n"
+        ),
+        holds
+    );
+}
+
+#[test]
 fn fails_where_the_outside_does(rt: HostRuntime) {
     let holds = Some(true);
     let slow = Case {

@@ -6,7 +6,7 @@ use granit_error::Options;
 use granit_event::Event;
 use granit_parser::load_str;
 
-const TEXT: &str = "--- {? \"name\" : \"granit\",\n  ? \"reads\" : [\"strings\", \"streams\"]}\n";
+const TEXT: &str = "name: granit\nreads:\n  - strings\n  - [flow, block]\n";
 
 fn main(rt: HostRuntime) -> Result<()> {
     match load_str(rt.alloc(), TEXT, Options::default()) {

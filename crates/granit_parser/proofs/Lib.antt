@@ -1,8 +1,2 @@
-pub mod AnchorLemmas
-pub mod ChunkLemmas
-pub mod EscapeLemmas
-pub mod GapLemmas
-pub mod PathLemmas
-pub mod PushedLemmas
+pub mod GatherLemmas
 pub mod LoadLemmas
-pub mod UriLemmas

@@ -1,115 +1,123 @@
 -- What the laws of the plain machine say of an answer of the code.
-use Rattle.std.proofs.Common.{◌≡◌, ◌≢◌, ◌≤◌, ℕ, List, [], refl, sym, ap, ◌∙◌, subst, Result, Ok, Err, ◌⊎◌, inl, inr}
+use Rattle.std.proofs.Common.{◌≡◌, ◌≢◌, ℕ, List, [], Option, Some, None, Result, Ok, Err, ◌⊎◌, inl, inr}
+use Rattle.std.proofs.Common.{refl, sym, subst, ◌∙◌}
 use Rattle.std.specs.Prelude.{IfOk, IfErr}
-use Rattle.granit_base.specs.Place.{Mark}
-use Rattle.granit_error.specs.FaultKind.{FaultKind, NoMemory, RecursionLimitExceeded, UnknownAnchor}
+use Rattle.granit_answers.specs.Answers.{AnswersReading}
+use Rattle.granit_answers.proofs.Caused.{answered_by, refused_by, exact_by}
+use Rattle.granit_answers.proofs.CommentsCaused.{any_fault_caused, comments_answered}
+use Rattle.granit_answers.proofs.OneCause.{answer_reads, reading_answered}
+use Rattle.granit_error.specs.FaultKind.{FaultKind, NoMemory}
 use Rattle.granit_error.specs.OptionsData.{OptionsData}
 use Rattle.granit_error.specs.Refused.{Refused}
-use Rattle.granit_canonical.specs.Canonical.{documents_in, canonical_events}
-use Rattle.granit_model.specs.Characters.{HasCharacters}
-use Rattle.granit_flow.specs.Cause.{Cause}
-use Rattle.granit_flow.specs.Events.{SpansIn, events}
-use Rattle.granit_model.specs.FlowText.{flow_characters}
-use Rattle.granit_flow.specs.Lexeme.{Lexeme}
-use Rattle.granit_flow.specs.Machine.{events_of}
-use Rattle.granit_flow.specs.Node.{Documents}
-use Rattle.granit_lexemes.specs.Outcome.{Fault, fault_at, Fails, GivesValue}
+use Rattle.granit_invariants.specs.EventPlaces.{EventsInText}
+use Rattle.granit_invariants.specs.Quiet.{but_comments}
+use Rattle.granit_invariants.proofs.SpanLaw.{events_in_text}
+use Rattle.granit_language.specs.Reached.{ReadStopped}
+use Rattle.granit_language.specs.TextFault.{OfComments, OfLexemes, OfReading, WholeCause}
+use Rattle.granit_lexemes.specs.Outcome.{Fault, Fails, GivesValue}
 use Rattle.granit_lexemes.specs.PlainEvent.{PlainEvent}
-use Rattle.granit_flow.specs.Reading.{IsReading, Reading}
-use Rattle.granit_flow.specs.Scope.{Resolves}
-use Rattle.granit_model.specs.Tree.{PlainTrees, trees_depth, DocumentsFit}
-use Rattle.granit_flow.specs.Yield.{spell_documents}
-use Rattle.granit_canonical.proofs.Laws.{is_read, names_anchors}
-use Rattle.granit_laws.proofs.Laws.{is_reading, is_answered, answered_or_refused, has_cause, is_refused, IsLimit}
-use Rattle.granit_laws.proofs.Spans.{spans_in}
+use Rattle.granit_machine.specs.Machine.{run}
+use Rattle.granit_parser.specs.Answering.{IsRefusedAs}
+use Rattle.granit_reading.proofs.ParserSources.{run_none}
+use Rattle.granit_steps.specs.Levels.{IsStream}
+use Rattle.granit_steps.specs.Steps.{steps_start}
+use Rattle.granit_steps.specs.Told.{GivesEvents}
+use Rattle.granit_steps.proofs.StepLaws.{steps_give}
+use Rattle.granit_steps.proofs.StreamLaws.{run_is_stream}
 
 memory_or_not : (k : FaultKind) → (k ≡ NoMemory) ⊎ (k ≢ NoMemory)
 memory_or_not NoMemory = inl refl
 memory_or_not k = inr (λ e. cc)
 
+same_fault : (f g : Fault) → ◌≡◌ {A = Result (List PlainEvent) Fault} (Err f) (Err g) → f ≡ g
+same_fault f g e = cc
+
+never_both : (es : List PlainEvent) (f : Fault) → ◌≡◌ {A = Result (List PlainEvent) Fault} (Ok es) (Err f) → ⊥
+never_both es f e = cc
+
+same_events : (es gs : List PlainEvent) → ◌≡◌ {A = Result (List PlainEvent) Fault} (Ok es) (Ok gs) → es ≡ gs
+same_events es gs e = cc
+
+module _ (o : OptionsData) (x : List ℕ) where
+  -- all that is given of a text is the machine's answer
+  pub answer_of : (p : OptionsData) (es : List PlainEvent) → p ≡ o → GivesEvents p (steps_start x) es None
+      → run o x ≡ Ok es
+  answer_of p es same g =
+      steps_give o x es None (subst (λ (q : OptionsData). GivesEvents q (steps_start x) es None) same g)
+
+  pub fault_of : (p : OptionsData) (e : Refused) → p ≡ o
+      → ((e.kind ≡ NoMemory → ⊥) → (es : List PlainEvent) × GivesEvents p (steps_start x) es (Some e))
+      → Fails e (run o x)
+  fault_of p e same g = λ other.
+      let h = g other in
+      steps_give o x h.0 (Some e) (subst (λ (q : OptionsData). GivesEvents q (steps_start x) h.0 (Some e)) same h.1)
+
 module _ {V : Type 0} (view : V → List PlainEvent) (o : OptionsData) (x : List ℕ) where
-  pub reading_of : (r : Result V Refused) → GivesValue view r (events_of o x) → IfOk r (λ v. IsReading o x (view v))
-  reading_of (Ok v) g = is_reading o x (view v) g
+  -- ---- an answer
+
+  pub reading_of : (r : Result V Refused) → GivesValue view r (run o x) → IfOk r (λ v. AnswersReading o x (view v))
+  reading_of (Ok v) g = answer_reads o x (view v) g
   reading_of (Err e) g = tt
 
-  pub spans_of : (r : Result V Refused) → GivesValue view r (events_of o x) → IfOk r (λ v. SpansIn x (view v))
-  spans_of (Ok v) g =
-      let a = is_reading o x (view v) g in
-      subst (SpansIn x) (sym a.4) (spans_in o o x a.0 a.1 a.2)
+  pub spans_of : (r : Result V Refused) → GivesValue view r (run o x) → IfOk r (λ v. EventsInText x (view v))
+  spans_of (Ok v) g = events_in_text o x (view v) g
   spans_of (Err e) g = tt
 
-  -- an answer that must be is only refused for want of memory
-  memory_alone : (e : Refused) (es : List PlainEvent) → (e.kind ≡ NoMemory) ⊎ (e.kind ≢ NoMemory)
-      → Fails e (events_of o x) → events_of o x ≡ Ok es → e.kind ≡ NoMemory
+  pub stream_of : (r : Result V Refused) → GivesValue view r (run o x) → IfOk r (λ v. IsStream (view v))
+  stream_of (Ok v) g = run_is_stream o x (view v) g
+  stream_of (Err e) g = tt
+
+  -- where there must be an answer, only want of memory stands in its place
+  memory_alone : (e : Refused) (es : List PlainEvent) → (e.kind ≡ NoMemory) ⊎ (e.kind ≢ NoMemory) → Fails e (run o x)
+      → run o x ≡ Ok es → e.kind ≡ NoMemory
   memory_alone e es (inl m) g a = m
-  memory_alone e es (inr n) g a = let b = g n in cc
+  memory_alone e es (inr n) g a = absurd (never_both es e (sym a ∙ g n))
 
-  pub answered_of : (r : Result V Refused) → GivesValue view r (events_of o x) → (ls : List Lexeme) (ds : Documents)
-      → Reading o x ls ds → Resolves o [] ls → IfErr r (λ e. e.kind ≡ NoMemory)
-  answered_of (Ok v) g ls ds a s = tt
-  answered_of (Err e) g ls ds a s = memory_alone e (events o x ds) (memory_or_not e.kind) g (is_answered o x ls ds a s)
+  pub answered_of : (r : Result V Refused) → GivesValue view r (run o x) → (es : List PlainEvent)
+      → AnswersReading o x es
+      → IfErr r (λ e. e.kind ≡ NoMemory) × IfOk r (λ v. but_comments (view v) ≡ but_comments es)
+  answered_of (Ok v) g es a =
+      let h = reading_answered o x a.items a.state a.tree_events a.are_read a.to_end a.reading a.none in
+      let same : view v ≡ h.0 = same_events (view v) h.0 (sym g ∙ h.1) in
+      (tt, subst (λ (gs : List PlainEvent). but_comments gs ≡ but_comments es) (sym same) (h.2 ∙ a.told))
+  answered_of (Err e) g es a =
+      let h = reading_answered o x a.items a.state a.tree_events a.are_read a.to_end a.reading a.none in
+      (memory_alone e h.0 (memory_or_not e.kind) g h.1, tt)
 
-  same_fault : (f h : Fault) → ◌≡◌ {A = Result (List PlainEvent) Fault} (Err f) (Err h) → f ≡ h
-  same_fault f h e = cc
+  -- ---- a refusal
 
-  limit_or_memory : (e : Refused) (es : List PlainEvent) → (e.kind ≡ NoMemory) ⊎ (e.kind ≢ NoMemory)
-      → Fails e (events_of o x)
-      → (events_of o x ≡ Ok es) ⊎ ((f : Fault) × (events_of o x ≡ Err f) × IsLimit f.kind)
-      → (e.kind ≡ NoMemory) ⊎ IsLimit e.kind
-  limit_or_memory e es (inl m) g a = inl m
-  limit_or_memory e es (inr n) g (inl a) = let b = g n in cc
-  limit_or_memory e es (inr n) g (inr a) = inr
-      (subst (λ (f : Fault). IsLimit f.kind) (same_fault a.0 e (sym a.1 ∙ g n)) a.2)
-
-  pub deeper_of : (r : Result V Refused) → GivesValue view r (events_of o x)
-      → (p : OptionsData) (ls : List Lexeme) (ds : Documents) → Reading p x ls ds
-      → IfErr r (λ e. (e.kind ≡ NoMemory) ⊎ (e.kind ≡ RecursionLimitExceeded) ⊎ (e.kind ≡ UnknownAnchor))
-  deeper_of (Ok v) g p ls ds a = tt
-  deeper_of (Err e) g p ls ds a = limit_or_memory e (events o x ds) (memory_or_not e.kind) g
-      (answered_or_refused o p x ls ds a)
-
-  caused : (e : Refused) → (e.kind ≡ NoMemory) ⊎ (e.kind ≢ NoMemory) → Fails e (events_of o x)
-      → (e.kind ≡ NoMemory) ⊎ (Cause o x e.kind e.mark × (e.sources ≡ []))
+  caused : (e : Refused) → (e.kind ≡ NoMemory) ⊎ (e.kind ≢ NoMemory) → Fails e (run o x)
+      → (e.kind ≡ NoMemory) ⊎ (WholeCause o x e × (e.sources ≡ []))
   caused e (inl m) g = inl m
-  caused e (inr n) g = inr (has_cause o x e (g n))
+  caused e (inr n) g = inr (any_fault_caused o x e (g n), run_none o x e (g n))
 
-  pub cause_of : (r : Result V Refused) → GivesValue view r (events_of o x)
-      → IfErr r (λ e. (e.kind ≡ NoMemory) ⊎ (Cause o x e.kind e.mark × (e.sources ≡ [])))
+  pub cause_of : (r : Result V Refused) → GivesValue view r (run o x)
+      → IfErr r (λ e. (e.kind ≡ NoMemory) ⊎ (WholeCause o x e × (e.sources ≡ [])))
   cause_of (Ok v) g = tt
   cause_of (Err e) g = caused e (memory_or_not e.kind) g
 
+  refused_so : (Holds : Fault → Type 0) (e : Refused) → (e.kind ≡ NoMemory) ⊎ (e.kind ≢ NoMemory) → Fails e (run o x)
+      → (f : Fault) → run o x ≡ Err f → Holds f → (e.kind ≡ NoMemory) ⊎ Holds e
+  refused_so Holds e (inl m) g f is holds = inl m
+  refused_so Holds e (inr n) g f is holds = inr (subst Holds (same_fault f e (sym is ∙ g n)) holds)
+
+  refused_as : (Holds : Fault → Type 0) (r : Result V Refused) → GivesValue view r (run o x) → (f : Fault)
+      → run o x ≡ Err f → Holds f → IsRefusedAs r Holds
+  refused_as Holds (Ok v) g f is holds = absurd (never_both (view v) f (sym g ∙ is))
+  refused_as Holds (Err e) g f is holds = (tt, refused_so Holds e (memory_or_not e.kind) g f is holds)
+
   -- with the one cause that the text has
-  caused_so : (kind : FaultKind) (m : Mark) (e : Refused) → (e.kind ≡ NoMemory) ⊎ (e.kind ≢ NoMemory)
-      → Fails e (events_of o x) → Cause o x kind m → (e.kind ≡ NoMemory) ⊎ (e ≡ fault_at kind m)
-  caused_so kind m e (inl h) g c = inl h
-  caused_so kind m e (inr n) g c = inr (same_fault e (fault_at kind m) (sym (g n) ∙ is_refused o x kind m c))
+  pub refused_of : (r : Result V Refused) → GivesValue view r (run o x) → (f : Fault)
+      → OfLexemes o x f ⊎ OfComments o x f → IsRefusedAs r (λ e. e ≡ f)
+  refused_of r g f (inl c) = refused_as (λ (e : Fault). e ≡ f) r g f (answered_by o x f c) refl
+  refused_of r g f (inr c) = refused_as (λ (e : Fault). e ≡ f) r g f (comments_answered o x f c) refl
 
-  pub refused_of : (r : Result V Refused) → GivesValue view r (events_of o x) → (kind : FaultKind) (m : Mark)
-      → Cause o x kind m
-      → IfOk r (λ v. ⊥) × IfErr r (λ e. (e.kind ≡ NoMemory) ⊎ (e ≡ fault_at kind m))
-  refused_of (Ok v) g kind m c = let other = is_refused o x kind m c in (cc, tt)
-  refused_of (Err e) g kind m c = (tt, caused_so kind m e (memory_or_not e.kind) g c)
+  -- or with one of those that reading has at that place
+  pub unread_of : (r : Result V Refused) → GivesValue view r (run o x) → (f : Fault) → OfReading o x f
+      → IsRefusedAs r (OfReading o x)
+  unread_of r g f c = let h = refused_by o x f c in refused_as (OfReading o x) r g h.0 h.1 h.2
 
-  -- with the events of the reading
-  answer_of : (r : Result V Refused) → GivesValue view r (events_of o x) → (es : List PlainEvent)
-      → events_of o x ≡ Ok es → IfOk r (λ v. view v ≡ es)
-  answer_of (Ok v) g es e = let h : ◌≡◌ {A = Result (List PlainEvent) Fault} (Ok (view v)) (Ok es) = sym g ∙ e in cc
-  answer_of (Err f) g es e = tt
-
-  -- canonical text is answered with its trees' events
-  pub canonical_of :
-      (r : Result V Refused) → GivesValue view r (events_of o x) → (ts : PlainTrees) → DocumentsFit ts
-      → HasCharacters ts → trees_depth ts ≤ o.flow_nesting_limit → x ≡ flow_characters ts
-      → IfErr r (λ e. e.kind ≡ NoMemory) × IfOk r (λ v. view v ≡ canonical_events o ts)
-  canonical_of r g ts fit written depth e =
-      let reading : Reading o x (spell_documents (documents_in x ts) []) (documents_in x ts) =
-      subst (λ (y : List ℕ). Reading o y (spell_documents (documents_in y ts) []) (documents_in y ts)) (sym e)
-      (is_read o ts fit written depth) in
-      let scope : Resolves o [] (spell_documents (documents_in x ts) []) =
-      subst (λ (y : List ℕ). Resolves o [] (spell_documents (documents_in y ts) [])) (sym e)
-      (names_anchors o ts fit) in (
-        answered_of r g (spell_documents (documents_in x ts) []) (documents_in x ts) reading scope,
-        answer_of r g (canonical_events o ts)
-            (is_answered o x (spell_documents (documents_in x ts) []) (documents_in x ts) reading scope
-            ∙ ap (λ (y : List ℕ). Ok (events o y (documents_in y ts))) e),
-      )
+  pub stopped_of : (r : Result V Refused) → GivesValue view r (run o x) → (f : Fault) → (c : OfReading o x f)
+      → ReadStopped o c.state f.kind f.mark → f.sources ≡ [] → IsRefusedAs r (λ e. e ≡ f)
+  stopped_of r g f c stopped none =
+      refused_as (λ (e : Fault). e ≡ f) r g f (exact_by o x f c stopped none) refl

@@ -1,5 +1,2 @@
-pub mod Chunks
-pub mod Lexemes
-pub mod Paths
-pub mod Properties
-pub mod Pushed
+pub mod Answering
+pub mod Parsing

@@ -1,30 +1,28 @@
 //! All events of a text.
-ghost use Rattle.std.specs.Prelude.{◌≡◌, ◌≤◌, ◌==◌, ◌⊎◌, List, [], length, slice_get, IfOk, IfErr};
+ghost use Rattle.std.specs.Prelude.{◌≡◌, ◌==◌, ◌⊎◌, List, [], length, slice_get, IfOk, IfErr};
 ghost use Rattle.std.specs.Option.{option_copied};
 ghost use Rattle.std.specs.Str.{chars};
-ghost use Rattle.granit_base.specs.Place.{Mark};
-ghost use Rattle.granit_error.specs.OptionsView.{options_of};
-ghost use Rattle.granit_error.specs.FaultKind.{FaultKind, RecursionLimitExceeded, UnknownAnchor};
+ghost use Rattle.granit_answers.specs.Answers.{AnswersReading};
 ghost use Rattle.granit_error.specs.FaultKind.{NoMemory as OutOfMemory};
-ghost use Rattle.granit_error.specs.OptionsData.{OptionsData};
-ghost use Rattle.granit_canonical.specs.Canonical.{canonical_events};
-ghost use Rattle.granit_model.specs.Characters.{HasCharacters};
-ghost use Rattle.granit_flow.specs.Cause.{Cause};
-ghost use Rattle.granit_flow.specs.Events.{SpansIn};
-ghost use Rattle.granit_model.specs.FlowText.{flow_characters};
-ghost use Rattle.granit_flow.specs.Lexeme.{Lexeme};
-ghost use Rattle.granit_flow.specs.Machine.{events_of};
-ghost use Rattle.granit_flow.specs.Node.{Documents};
-ghost use Rattle.granit_flow.specs.Reading.{IsReading, Reading};
-ghost use Rattle.granit_flow.specs.Scope.{Resolves};
-ghost use Rattle.granit_lexemes.specs.Outcome.{GivesValue, fault_at};
-ghost use Rattle.granit_model.specs.Tree.{DocumentsFit, PlainTrees, trees_depth};
+ghost use Rattle.granit_error.specs.OptionsView.{options_of};
 ghost use Rattle.granit_event.specs.Events.{plain_events};
+ghost use Rattle.granit_invariants.specs.EventPlaces.{EventsInText};
+ghost use Rattle.granit_invariants.specs.Quiet.{but_comments};
+ghost use Rattle.granit_language.specs.Reached.{ReadStopped};
+ghost use Rattle.granit_language.specs.TextFault.{OfComments, OfLexemes, OfReading, WholeCause};
+ghost use Rattle.granit_lexemes.specs.Outcome.{Fault, GivesValue};
+ghost use Rattle.granit_lexemes.specs.PlainEvent.{PlainEvent};
+ghost use Rattle.granit_machine.specs.Machine.{run};
+ghost use Rattle.granit_parser.specs.Answering.{IsRefusedAs};
+ghost use Rattle.granit_parser.specs.Parsing.{GivesAll, StandsAt};
+ghost use Rattle.granit_steps.specs.Levels.{IsStream};
+ghost use Rattle.granit_steps.specs.Steps.{StepState};
 
 use crate::parser::Parser;
-use granit_base::Span;
+use granit_base::{NoMemory, Span};
 use granit_error::{Options, ScanError};
 use granit_event::Event;
+use granit_input::BorrowedInput;
 use std::alloc::Global;
 use std::marker::Model;
 
@@ -81,50 +79,67 @@ impl<'a> Events<'a> {
     }
 }
 
-/// The events of a text.
-fn load<'a>(alloc: Global, text: &'a str, options: &Options) -> Result<Events<'a>, ScanError>
-    ensures { GivesValue plain_events result (events_of (options_of options.now) (chars text.now)) }
+/// All events that a parser still gives.
+fn gather<'a, T: BorrowedInput<'a>>(
+    alloc: Global,
+    parser: &mut Parser<'a, T>,
+) -> Result<Vec<(Event<'a>, Span)>, ScanError>
+    ensures { (m : StepState) → StandsAt T.unread parser.old m
+        → GivesAll (λ v. plain_events v.items) parser.old.stepper.scanner.options m result }
 {
-    let mut parser = Parser::new(alloc, text);
     let mut items = Vec::new(alloc);
-    items.push((Event::StreamStart, Span::empty(parser.mark())))?;
-    parser.finish(options, &mut items)?;
-    items.push((Event::StreamEnd, Span::empty(parser.mark())))?;
-    Ok(Events { items })
+    'events: for _ in 0..u64::MAX {
+        match parser.next_event() {
+            None => return Ok(items),
+            Some(Err(error)) => return Err(error),
+            Some(Ok(event)) => items.push(event)?,
+        }
+    }
+    Err(ScanError::from(NoMemory))
 }
 
-/// All events of a text, in order, each scalar borrowed from it where it holds no escape. Columns
-/// count characters from 0, lines from 1, and each marker tells its byte offset.
+/// The events of a text.
+fn load<'a>(alloc: Global, text: &'a str, options: Options) -> Result<Events<'a>, ScanError>
+    ensures { GivesValue plain_events result (run (options_of options) (chars text.now)) }
+{
+    let mut parser = Parser::new_from_str_with_options(alloc, text, options);
+    match gather(alloc, &mut parser) {
+        Ok(items) => Ok(Events { items }),
+        Err(error) => Err(error),
+    }
+}
+
+/// All events of a text, in order. Columns count characters from 0, lines from 1, and each marker tells its byte
+/// offset. The text of a scalar is a copy.
 ///
-/// The contract: an answer is the event list of the documents as which the text is read, each span
-/// one of the text (`reading`, `spans`); a text with a reading, each alias of which names an anchor
-/// before it in its document or may stay, is answered (`answered`); a text with a reading under
-/// whichever options is refused for its depth or an unknown anchor alone (`deeper`); a fault has its
-/// cause at its mark and names no source (`cause`); a text with a cause is refused with it (`refused`);
-/// the canonical flow text of documents that fit, no deeper than allowed, is answered with their events
-/// (`canonical`). Every text has a reading whose aliases are so, or a cause, not both, and one alone
-/// (laws of granit_laws). Want of memory may stand in the place of each answer.
-/// `value` says the same as a plain function.
+/// The contract: an answer is, comments aside, the events of the one reading of the text's lexemes, with the
+/// comments of the text where they are asked for (`reading`); its events are a stream (`stream`), each span stands in
+/// the text (`spans`). A text with a reading is answered (`answered`). A refusal has its cause, and names no source
+/// (`cause`). A text with a cause in its lexemes or comments is refused with it (`refused`); one that can't be read on
+/// from some place, for a cause there (`unread`), and with that very one where no lexeme but a tag, a quoted scalar or
+/// a directive begins there (`stopped`). Want of memory may stand in the place of each answer. `value` says the same
+/// as a plain function. Every text has a reading or a cause, and no text has both (laws of granit_answers).
 ///
 /// # Errors
 ///
 /// The first fault of the text, at its place, or `NoMemory`; docs/FAULTS.md has the kinds.
 pub fn load_str<'a>(alloc: Global, text: &'a str, options: Options) -> Result<Events<'a>, ScanError>
-    ensures value { GivesValue plain_events result (events_of (options_of options) (chars text.now)) }
-    ensures reading { IfOk result (λ v. IsReading (options_of options) (chars text.now) (plain_events v)) }
-    ensures spans { IfOk result (λ v. SpansIn (chars text.now) (plain_events v)) }
-    ensures answered { (ls : List Lexeme) (ds : Documents) → Reading (options_of options) (chars text.now) ls ds
-        → Resolves (options_of options) [] ls → IfErr result (λ e. e.kind ≡ OutOfMemory) }
-    ensures deeper { (p : OptionsData) (ls : List Lexeme) (ds : Documents) → Reading p (chars text.now) ls ds
-        → IfErr result (λ e. (e.kind ≡ OutOfMemory) ⊎ (e.kind ≡ RecursionLimitExceeded) ⊎ (e.kind ≡ UnknownAnchor)) }
-    ensures cause { IfErr result (λ e. (e.kind ≡ OutOfMemory)
-        ⊎ (Cause (options_of options) (chars text.now) e.kind e.mark × (e.sources ≡ []))) }
-    ensures refused { (kind : FaultKind) (m : Mark) → Cause (options_of options) (chars text.now) kind m
-        → IfOk result (λ v. ⊥) × IfErr result (λ e. (e.kind ≡ OutOfMemory) ⊎ (e ≡ fault_at kind m)) }
-    ensures canonical { (ts : PlainTrees) → DocumentsFit ts → HasCharacters ts
-        → trees_depth ts ≤ (options_of options).flow_nesting_limit → chars text.now ≡ flow_characters ts
+    ensures value { GivesValue plain_events result (run (options_of options) (chars text.now)) }
+    ensures reading { IfOk result (λ v. AnswersReading (options_of options) (chars text.now) (plain_events v)) }
+    ensures spans { IfOk result (λ v. EventsInText (chars text.now) (plain_events v)) }
+    ensures stream { IfOk result (λ v. IsStream (plain_events v)) }
+    ensures answered { (es : List PlainEvent) → AnswersReading (options_of options) (chars text.now) es
         → IfErr result (λ e. e.kind ≡ OutOfMemory)
-        × IfOk result (λ v. plain_events v ≡ canonical_events (options_of options) ts) }
+        × IfOk result (λ v. but_comments (plain_events v) ≡ but_comments es) }
+    ensures cause { IfErr result (λ e. (e.kind ≡ OutOfMemory)
+        ⊎ (WholeCause (options_of options) (chars text.now) e × (e.sources ≡ []))) }
+    ensures refused { (f : Fault) → OfLexemes (options_of options) (chars text.now) f
+        ⊎ OfComments (options_of options) (chars text.now) f → IsRefusedAs result (λ e. e ≡ f) }
+    ensures unread { (f : Fault) → OfReading (options_of options) (chars text.now) f
+        → IsRefusedAs result (λ e. OfReading (options_of options) (chars text.now) e) }
+    ensures stopped { (f : Fault) → (c : OfReading (options_of options) (chars text.now) f)
+        → ReadStopped (options_of options) c.state f.kind f.mark → f.sources ≡ []
+        → IsRefusedAs result (λ e. e ≡ f) }
 {
-    load(alloc, text, &options)
+    load(alloc, text, options)
 }

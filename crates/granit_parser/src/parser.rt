@@ -1,94 +1,181 @@
-//! The parser: the events of one lexeme after another.
-ghost use Rattle.std.specs.Prelude.{◌≡◌, ◌+◌, ◌<◌, ◌^◌};
+//! An input that is read into events, one for each call, with a look at the next.
+ghost use mir.Syntax.{named};
+ghost use Rattle.std.specs.Prelude.{◌≡◌, [], true, None, Some, IfErr, IfSome};
+ghost use Rattle.std.specs.Borrow.{sem};
+ghost use Rattle.std.specs.Io.BufRead.{Rests};
 ghost use Rattle.std.specs.Str.{chars};
+ghost use Rattle.granit_base.specs.Place.{Unread};
+ghost use Rattle.granit_cursor.specs.Reading.{Moves};
+ghost use Rattle.granit_error.specs.OptionsData.{default_options};
 ghost use Rattle.granit_error.specs.OptionsView.{options_of};
-ghost use Rattle.granit_flow.specs.Here as here;
-ghost use Rattle.granit_flow.specs.Machine as spec;
-ghost use Rattle.granit_lexemes.specs.Pieces.{pieces};
-ghost use Rattle.granit_event.specs.Events.{plain_events};
-ghost use Rattle.granit_parser.specs.Pushed.{Pushed, Turned};
+ghost use Rattle.granit_input.specs.Strings.{Leaves};
+ghost use Rattle.granit_lexemes.specs.Here.{Here, first_place};
+ghost use Rattle.granit_parser.specs.Parsing as spec;
+ghost use Rattle.granit_parser.specs.Parsing.{EndsWith, GivesNext, IsOver, PeeksAs, StandsAt, shown};
+ghost use Rattle.granit_parser.specs.contracts.parser.Parser.{the_row};
+ghost use Rattle.granit_stepper.specs.Stepping.{StandsIn};
+ghost use Rattle.granit_steps.specs.Steps as steps;
+ghost use Rattle.granit_steps.specs.Steps.{StepState};
 
-use crate::path::{Path, step_on};
-use crate::scanner::Scanner;
-use granit_base::{Marker, Span};
+use granit_base::Span;
 use granit_error::{Options, ScanError};
 use granit_event::Event;
+use granit_input::{BorrowedInput, Input, StrInput};
+use granit_stepper::Stepper;
 use std::alloc::Global;
+use std::iter::FusedIterator;
 use std::marker::Model;
 
-/// A reader, and the nodes that are unfinished and the anchors that are known where it stands.
+/// An input that is read into events, one for each call.
 #[derive(Drop)]
-pub(crate) struct Parser<'a> {
-    scanner: Scanner<'a>,
-    path: Path<'a>,
+pub struct Parser<'input, T: Input> {
+    alloc: Global,
+    stepper: Stepper<'input, T>,
+    // What was looked at and not taken.
+    peeked: Option<Result<(Event<'input>, Span), ScanError>>,
 }
 
-impl<'a> Model for Parser<'a> {
-    ghost use Rattle.granit_flow.specs.Machine.{MachineState};
+impl<'input, T: Input> Model for Parser<'input, T> {
+    ghost use Rattle.granit_parser.specs.Parsing.{EndsWith, Parsing};
 
-    ghost Value = { MachineState };
+    ghost Value = { Parsing T };
 
-    ghost use Rattle.granit_parser.specs.Paths.{parser_view};
+    ghost view = { λ p. record { stepper = p.stepper; peeked = p.peeked } };
 
-    ghost view = { λ p. record { reader = p.scanner; parser = parser_view p.path } };
+    // nothing is read behind a refusal that was looked at
+    ghost invariant = { λ p. EndsWith p.peeked p.stepper };
 }
 
-impl<'a> Parser<'a> {
-    /// At the start of a string.
-    pub(crate) fn new(alloc: Global, text: &'a str) -> Parser<'a>
-        ensures { result ≡ spec.machine_start (here.start_of (chars text.now)) }
+impl<'input> Parser<'input, StrInput<'input>> {
+    /// Before a string, read with the default options.
+    pub fn new_from_str(alloc: Global, value: &'input str) -> Parser<'input, StrInput<'input>>
+        ensures start { StandsAt Leaves result (steps.steps_start (chars value.now)) }
+        ensures options { result.stepper.scanner.options ≡ default_options }
+    {
+        Parser::new_from_str_with_options(alloc, value, Options::default())
+    }
+
+    /// Before a string.
+    pub fn new_from_str_with_options(
+        alloc: Global,
+        value: &'input str,
+        options: Options,
+    ) -> Parser<'input, StrInput<'input>>
+        ensures start { StandsAt Leaves result (steps.steps_start (chars value.now)) }
+        ensures options { result.stepper.scanner.options ≡ options_of options }
+    {
+        Parser::with_options(alloc, StrInput::new(value), options)
+    }
+}
+
+impl<'input, T: BorrowedInput<'input>> Parser<'input, T> {
+    /// Before an input of which nothing was read, read with the default options.
+    pub fn new(alloc: Global, src: T) -> Parser<'input, T>
+        ensures start { (h : Here) → T.unread src h.unread → h.place ≡ first_place → h.begins_line ≡ true
+            → h.tab ≡ None → StandsAt T.unread result (steps.start_from h) }
+        ensures options { result.stepper.scanner.options ≡ default_options }
+    {
+        Parser::with_options(alloc, src, Options::default())
+    }
+
+    /// Before an input of which nothing was read.
+    pub fn with_options(alloc: Global, src: T, options: Options) -> Parser<'input, T>
+        ensures start { (h : Here) → T.unread src h.unread → h.place ≡ first_place → h.begins_line ≡ true
+            → h.tab ≡ None → StandsAt T.unread result (steps.start_from h) }
+        ensures options { result.stepper.scanner.options ≡ options_of options }
     {
         Parser {
-            scanner: Scanner::new(alloc, text),
-            path: Path::new(alloc),
+            alloc,
+            stepper: Stepper::new(alloc, src, options),
+            peeked: None,
         }
     }
 
-    /// The place up to which was read.
-    pub(crate) fn mark(&self) -> Marker
-        ensures { result ≡ here.mark_of self.now.reader.here }
+    /// The next event and where it stands; none behind the end of the stream, and behind a refusal.
+    ///
+    /// # Errors
+    ///
+    /// What is wrong with the input there, by the kinds of `docs/FAULTS.md`, and `NoMemory`.
+    pub fn next_event(&mut self) -> Option<Result<(Event<'input>, Span), ScanError>>
+        ensures known { (m : StepState) → StandsAt T.unread self.old m → GivesNext result (StandsAt T.unread self.new)
+            (steps.next_event self.old.stepper.scanner.options m) }
+        ensures peeked { self.new.peeked ≡ None }
+        ensures seen { IfSome self.old.peeked (λ r. (result ≡ Some r) × (self.new.stepper ≡ self.old.stepper)) }
+        ensures refused { EndsWith result self.new.stepper }
+        ensures over { IsOver self.old → (result ≡ None) × (self.new ≡ self.old) }
+        ensures options { self.new.stepper.scanner.options ≡ self.old.stepper.scanner.options }
+        ensures moves { Moves T.left T.origin self.old.stepper.scanner.cursor self.new.stepper.scanner.cursor }
     {
-        self.scanner.mark()
-    }
-
-    /// One lexeme, whose events are appended, or the end: whether there may be more.
-    #[tactic(auto, unfolding(granit_flow::specs::Machine::turn))]
-    pub(crate) fn turn(
-        &mut self,
-        options: &Options,
-        events: &mut Vec<(Event<'a>, Span)>,
-    ) -> Result<bool, ScanError>
-        requires { self.old.parser.anchors.count + spec.size self.old < 2 ^ 63 }
-        ensures { Turned result self.new (plain_events events.old.items) (plain_events events.new.items)
-            (spec.turn (options_of options.now) self.old) }
-    {
-        match self.scanner.next_lexeme(options) {
-            Err(e) => Err(e),
-            Ok(None) => {
-                if self.path.is_between_documents() {
-                    Ok(false)
-                } else {
-                    Err(self.scanner.not_built())
-                }
-            }
-            Ok(Some(lexeme)) => {
-                step_on(&mut self.path, options, lexeme, events)?;
-                Ok(true)
-            }
+        match self.peeked.take() {
+            Some(peeked) => Some(peeked),
+            None => self.read_event(),
         }
     }
 
-    /// All lexemes to the end, whose events are appended.
-    pub(crate) fn finish(
-        &mut self,
-        options: &Options,
-        events: &mut Vec<(Event<'a>, Span)>,
-    ) -> Result<(), ScanError>
-        requires { self.old.parser.anchors.count + spec.size self.old < 2 ^ 63 }
-        ensures { Pushed result self.new (plain_events events.old.items) (plain_events events.new.items)
-            (pieces spec.size (spec.turn (options_of options.now)) self.old) }
+    /// What the next call of `next_event` gives, which gives it all the same; none behind the end of the stream, and
+    /// behind a refusal that was given.
+    ///
+    /// # Errors
+    ///
+    /// As `next_event`, lent as often as asked.
+    pub fn peek(&mut self) -> Option<Result<&(Event<'input>, Span), &ScanError>>
+        ensures* { sem 𝓛 (Rests (the_row (record { mir = named 1; lft = [] }) T.row T.Input) self.entry (λ new.
+            PeeksAs T.unread T.left T.origin self.old (shown result) new)) }
     {
-        'turns: while self.turn(options, events)? {}
-        Ok(())
+        self.look_on();
+        self.look()
+    }
+
+    /// Reads the next event, where none was looked at.
+    fn look_on(&mut self)
+        ensures { PeeksAs T.unread T.left T.origin self.old self.new.peeked self.new }
+    {
+        if self.peeked.is_none() {
+            self.peeked = self.read_event();
+        }
+    }
+
+    /// What was looked at.
+    fn look(&self) -> Option<Result<&(Event<'input>, Span), &ScanError>>
+        ensures { shown result ≡ self.now.peeked }
+    {
+        match &self.peeked {
+            None => None,
+            Some(Ok(event)) => Some(Ok(event)),
+            Some(Err(error)) => Some(Err(error)),
+        }
+    }
+
+    /// The next event of the input.
+    fn read_event(&mut self) -> Option<Result<(Event<'input>, Span), ScanError>>
+        ensures known { (m : StepState) → StandsIn T.unread self.old.stepper m
+            → GivesNext result (StandsIn T.unread self.new.stepper)
+            (steps.next_event self.old.stepper.scanner.options m) }
+        ensures peeked { self.new.peeked ≡ self.old.peeked }
+        ensures refused { EndsWith result self.new.stepper }
+        ensures over { self.old.stepper.failed ≡ true → (result ≡ None) × (self.new ≡ self.old) }
+        ensures options { self.new.stepper.scanner.options ≡ self.old.stepper.scanner.options }
+        ensures moves { Moves T.left T.origin self.old.stepper.scanner.cursor self.new.stepper.scanner.cursor }
+    {
+        match self.stepper.next_event(self.alloc) {
+            Ok(None) => None,
+            Ok(Some(event)) => Some(Ok(event)),
+            Err(error) => Some(Err(error)),
+        }
     }
 }
+
+/// The events one by one, as `next_event` gives them, up to the end of the stream or a refusal.
+impl<'input, T: BorrowedInput<'input>> Iterator for Parser<'input, T> {
+    type Item = Result<(Event<'input>, Span), ScanError>;
+
+    ghost use Rattle.granit_parser.specs.Parsing.{StepsTo};
+
+    ghost next_gives = { λ p r q. StepsTo T.unread T.left T.origin p r q };
+
+    fn next(&mut self) -> Option<Result<(Event<'input>, Span), ScanError>> {
+        self.next_event()
+    }
+}
+
+impl<'input, T: BorrowedInput<'input>> FusedIterator for Parser<'input, T> {}

@@ -1,3 +1,4 @@
+pub mod PairsAnswered
 pub mod PairsEven
 pub mod PairsInTrees
 pub mod Placing

@@ -1,8 +1,11 @@
 -- Mappings in pairs: what the next node of each open collection is, by the events before it (YAML 1.2.2, 3.2.1).
-use Rattle.std.specs.Prelude.{◌≡◌, List, [], ◌∷◌, Option, Some, None, map}
+use Rattle.std.specs.Prelude.{◌≡◌, ℕ, List, [], ◌∷◌, Option, Some, None, map, Result, Ok, Err}
+use Rattle.granit_error.specs.OptionsData.{default_options}
 use Rattle.granit_lexemes.specs.Here.{mark_of, start_of}
 use Rattle.granit_lexemes.specs.PlainEvent.{PlainEvent, EventKind, Alias, UnresolvedAlias, Scalar, event_on}
 use Rattle.granit_lexemes.specs.PlainEvent.{SequenceStart, SequenceEnd, MappingStart, MappingEnd}
+use Rattle.granit_lexemes.specs.Outcome.{Fault}
+use Rattle.granit_machine.specs.Machine.{run}
 
 -- the next node of an open collection: any in a sequence, a key or a value in a mapping
 pub data NextNode : Type 0 where
@@ -51,3 +54,11 @@ InPairs es = events_passed es [] ≡ Some []
 
 abbrev pub kinds_passed : List EventKind → Option (List NextNode)
 kinds_passed kinds = events_passed (map (λ kind. event_on kind (mark_of (start_of []))) kinds) []
+
+abbrev pub answer_passed : Result (List PlainEvent) Fault → Option (List NextNode)
+answer_passed (Ok es) = events_passed es []
+answer_passed (Err f) = None
+
+-- what is left open by the answer of a text
+abbrev pub text_passed : List ℕ → Option (List NextNode)
+text_passed x = answer_passed (run default_options x)

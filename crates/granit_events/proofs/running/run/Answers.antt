@@ -2,7 +2,7 @@ use Rattle.std.proofs.Common.{ap}
 use Rattle.granit_events.specs.Ran.{end_of}
 use Rattle.granit_events.specs.declared.status.Status.TheVariants as status
 use Rattle.granit_events.proofs.UnderstoodLemmas.{reading_where, fault_where, calls_for_done, wanted_or_memory}
-use Rattle.granit_events.proofs.UnderstoodLemmas.{refused_run, canonical_run}
+use Rattle.granit_events.proofs.UnderstoodLemmas.{refused_run}
 use Rattle.granit_events.proofs.running.run.Goals as goal
 
 pub returns-clause-ran : goal.returns-clause-ran
@@ -29,10 +29,7 @@ returns-clause-ran g c =
       answered = λ r quiet. wanted_or_memory c.run_once.result status.Done _ _
           (once.exactly r.bytes status.Done r.told (calls_for_done words left r))
           (λ e. (once.read_fault e).2) (λ e. (once.write_fault e).1) quiet.0 quiet.1;
-      refused = λ kind m h quiet. refused_run words left now written after kind m h
-          c.run_once.result _ _ once.ended once.exactly
-          (λ e. (once.read_fault e).2) (λ e. (once.write_fault e).1) quiet.0 quiet.1;
-      canonical = λ ts h quiet. canonical_run words left now written after ts h
+      refused = λ f h quiet. refused_run words left now written after f h
           c.run_once.result _ _ once.ended once.exactly
           (λ e. (once.read_fault e).2) (λ e. (once.write_fault e).1) quiet.0 quiet.1;
     }

@@ -1,19 +1,19 @@
-use Rattle.std.proofs.Common.{subst}
 use Rattle.std.specs.Str.{chars}
-use Rattle.std.proofs.lemmas.Result.{err_from_is_err_and}
 use Rattle.granit_error.specs.OptionsView.{options_of}
-use Rattle.granit_flow.specs.Here.{start_of}
-use Rattle.granit_flow.specs.Machine.{MachineState, size, turn, machine_start}
-use Rattle.granit_lexemes.specs.Outcome.{Fails}
-use Rattle.granit_lexemes.specs.Pieces.{pieces}
-use Rattle.granit_parser.proofs.PathLemmas.{fails_then}
+use Rattle.granit_event.specs.Events.{plain_events}
+use Rattle.granit_parser.proofs.LoadLemmas.{answer_of, fault_of}
 use Rattle.granit_parser.proofs.load.load.Goals as goal
+use Rattle.granit_steps.specs.Steps.{steps_start}
 
-pub returns-in_err-finish : goal.returns-in_err-finish
-returns-in_err-finish c =
-    let p = err_from_is_err_and c.from_residual-in_err-finish.result c.from_residual-in_err-finish.ensures.1 in
-    let o = options_of c.args.options.now in
-    let failed = subst (λ (s : MachineState). Fails c.in_err-finish.field-0.0 (pieces size (turn o) s))
-    c.new-parser.ensures c.in_err-finish.ensures in
-    rw (p.1, p.2) (fails_then c.in_err-finish.field-0.0
-    (pieces size (turn o) (machine_start (start_of (chars c.args.text.now)))) _ failed)
+pub returns-in-Ok : goal.returns-in-Ok
+returns-in-Ok c =
+    let parser = c.new_from_str_with_options-parser in
+    answer_of (options_of c.args.options) (chars c.args.text.now) parser.result.stepper.scanner.options
+    (plain_events c.in-Ok.items.items) parser.ensures.options
+    (c.in-Ok.ensures (steps_start (chars c.args.text.now)) parser.ensures.start)
+
+pub returns : goal.returns
+returns c =
+    let parser = c.new_from_str_with_options-parser in
+    fault_of (options_of c.args.options) (chars c.args.text.now) parser.result.stepper.scanner.options c.in-Err.error
+    parser.ensures.options (c.in-Err.ensures (steps_start (chars c.args.text.now)) parser.ensures.start)

@@ -1,8 +1,8 @@
 use Rattle.std.specs.Str.{chars}
 use Rattle.granit_error.specs.OptionsView.{options_of}
 use Rattle.granit_event.specs.Events.{plain_events}
-use Rattle.granit_parser.proofs.LoadLemmas.{reading_of, spans_of, answered_of, deeper_of, cause_of, refused_of}
-use Rattle.granit_parser.proofs.LoadLemmas.{canonical_of}
+use Rattle.granit_parser.proofs.LoadLemmas.{reading_of, spans_of, stream_of, answered_of, cause_of, refused_of}
+use Rattle.granit_parser.proofs.LoadLemmas.{stopped_of, unread_of}
 use Rattle.granit_parser.proofs.load.load_str.Goals as goal
 
 pub returns-clause-reading : goal.returns-clause-reading
@@ -13,12 +13,12 @@ pub returns-clause-spans : goal.returns-clause-spans
 returns-clause-spans c = spans_of plain_events (options_of c.args.options) (chars c.args.text.now) c.load.result
     c.load.ensures
 
-pub returns-clause-answered : goal.returns-clause-answered
-returns-clause-answered c = answered_of plain_events (options_of c.args.options) (chars c.args.text.now) c.load.result
+pub returns-clause-stream : goal.returns-clause-stream
+returns-clause-stream c = stream_of plain_events (options_of c.args.options) (chars c.args.text.now) c.load.result
     c.load.ensures
 
-pub returns-clause-deeper : goal.returns-clause-deeper
-returns-clause-deeper c = deeper_of plain_events (options_of c.args.options) (chars c.args.text.now) c.load.result
+pub returns-clause-answered : goal.returns-clause-answered
+returns-clause-answered c = answered_of plain_events (options_of c.args.options) (chars c.args.text.now) c.load.result
     c.load.ensures
 
 pub returns-clause-cause : goal.returns-clause-cause
@@ -29,6 +29,10 @@ pub returns-clause-refused : goal.returns-clause-refused
 returns-clause-refused c = refused_of plain_events (options_of c.args.options) (chars c.args.text.now) c.load.result
     c.load.ensures
 
-pub returns-clause-canonical : goal.returns-clause-canonical
-returns-clause-canonical c = canonical_of plain_events (options_of c.args.options) (chars c.args.text.now) c.load.result
+pub returns-clause-unread : goal.returns-clause-unread
+returns-clause-unread c = unread_of plain_events (options_of c.args.options) (chars c.args.text.now) c.load.result
+    c.load.ensures
+
+pub returns-clause-stopped : goal.returns-clause-stopped
+returns-clause-stopped c = stopped_of plain_events (options_of c.args.options) (chars c.args.text.now) c.load.result
     c.load.ensures

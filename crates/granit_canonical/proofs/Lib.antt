@@ -1,9 +1,0 @@
-pub mod Characters
-pub mod Covers
-pub mod Fronts
-pub mod Laws
-pub mod Naming
-pub mod Nesting
-pub mod Quoting
-pub mod Resolving
-pub mod Spelling

@@ -1,3 +1,0 @@
-pub mod HereLemmas
-pub mod QuotedLemmas
-pub mod SizeLemmas

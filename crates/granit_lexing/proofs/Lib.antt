@@ -1,9 +1,0 @@
-pub mod LexingEscapes
-pub mod LexingGlyphs
-pub mod LexingNames
-pub mod LexingOnce
-pub mod LexingQuoted
-pub mod LexingReads
-pub mod LexingRuns
-pub mod LexingTags
-pub mod Places

@@ -1,0 +1,92 @@
+-- What contracts see of a parser, and what its calls give.
+use Rattle.std.specs.Prelude.{◌≡◌, ℕ, true, List, Option, Some, None, Result, Ok, Err, IfSome, IfErr}
+use Rattle.std.specs.Borrow.{Bor}
+use Rattle.granit_base.specs.Place.{Unread}
+use Rattle.granit_base.specs.declared.place.Span.{Span}
+use Rattle.granit_cursor.specs.Reading.{Moves}
+use Rattle.granit_error.specs.FaultKind.{NoMemory}
+use Rattle.granit_error.specs.OptionsData.{OptionsData}
+use Rattle.granit_error.specs.Refused.{Refused}
+use Rattle.granit_event.specs.declared.event.Event.{Event}
+use Rattle.granit_event.specs.Events.{plain_event}
+use Rattle.granit_input.specs.Origin.{Origin}
+use Rattle.granit_lexemes.specs.Outcome.{Fault, Fails}
+use Rattle.granit_lexemes.specs.PlainEvent.{PlainEvent}
+use Rattle.granit_stepper.specs.Stepping.{Stepping, StandsIn}
+use Rattle.granit_steps.specs.Steps.{StepState, next_event}
+use Rattle.granit_steps.specs.Told.{GivesEvents}
+
+-- what a call gives: an event, why there is none, or nothing more
+abbrev pub Next : Type 0
+Next = Option (Result (Event × Span) Refused)
+
+-- a stepper, and what was looked at and not taken
+pub record Parsing (I : Type 0) : Type 0 where
+  pub stepper : Stepping I
+  pub peeked : Next
+
+-- where this is a refusal, it is the last that is given: a parser that has nothing looked at is then over
+abbrev pub EndsWith : {I : Type 0} → Next → Stepping I → Type 0
+EndsWith r s = IfSome r (λ x. IfErr x (λ e. s.failed ≡ true))
+
+-- a call gives what the machine's step gives, and a state is then known in which that ends; a refusal is its fault,
+-- unless memory ran out
+abbrev pub GivesNext : Next → (StepState → Type 0) → Result (Option PlainEvent × StepState) Fault → Type 0
+GivesNext None Lands given = (after : StepState) × Lands after × (given ≡ Ok (None, after))
+GivesNext (Some (Ok e)) Lands given = (after : StepState) × Lands after × (given ≡ Ok (Some (plain_event e), after))
+GivesNext (Some (Err e)) Lands given = Fails e given
+
+-- a state of the machine in which a stepper is known to be, or out of which what was looked at led it
+abbrev pub StandsBefore : {I : Type 0} → (I → Unread → Type 0) → Next → Stepping I → StepState → Type 0
+StandsBefore unread None s m = StandsIn unread s m
+StandsBefore unread (Some r) s m = GivesNext (Some r) (StandsIn unread s) (next_event s.scanner.options m)
+
+-- a parser is known to be in a state of the machine
+abbrev pub StandsAt : {I : Type 0} → (I → Unread → Type 0) → Parsing I → StepState → Type 0
+StandsAt unread p m = StandsBefore unread p.peeked p.stepper m
+
+-- what is lent of what a call gives
+abbrev pub shown : Option (Result (Bor (Event × Span)) (Bor Refused)) → Next
+shown None = None
+shown (Some (Ok e)) = Some (Ok e.now)
+shown (Some (Err e)) = Some (Err e.now)
+
+-- a look shows what the machine's step gives: a parser is then known to stand before it, or behind the end
+abbrev pub ShowsNext : {I : Type 0} → (I → Unread → Type 0) → Next → Parsing I → StepState
+    → Result (Option PlainEvent × StepState) Fault → Type 0
+ShowsNext unread None p m given = GivesNext None (StandsAt unread p) given
+ShowsNext unread (Some r) p m given = StandsAt unread p m
+
+-- a parser gives nothing more
+pub record IsOver {I : Type 0} (p : Parsing I) : Type 0 where
+  pub none : p.peeked ≡ None
+  pub failed : p.stepper.failed ≡ true
+
+-- what a look at the next event shows and leaves
+pub record PeeksAs {I : Type 0} (unread : I → Unread → Type 0) (left : I → ℕ) (origin : I → Origin) (old : Parsing I)
+    (r : Next) (new : Parsing I) : Type 0 where
+  pub shown : r ≡ new.peeked
+  pub known : (m : StepState) → StandsAt unread old m
+      → ShowsNext unread r new m (next_event old.stepper.scanner.options m)
+  pub seen : IfSome old.peeked (λ x. new ≡ old)
+  pub refused : EndsWith r new.stepper
+  pub over : IsOver old → new ≡ old
+  pub options : new.stepper.scanner.options ≡ old.stepper.scanner.options
+  pub moves : Moves left origin old.stepper.scanner.cursor new.stepper.scanner.cursor
+
+-- a step gives what the machine's step gives, what was looked at, and behind a refusal nothing
+pub record StepsTo {I : Type 0} (unread : I → Unread → Type 0) (left : I → ℕ) (origin : I → Origin) (p : Parsing I)
+    (r : Next) (q : Parsing I) : Type 0 where
+  pub known : (m : StepState) → StandsAt unread p m
+      → GivesNext r (StandsAt unread q) (next_event p.stepper.scanner.options m)
+  pub seen : IfSome p.peeked (λ x. (r ≡ Some x) × (q.stepper ≡ p.stepper))
+  pub none : q.peeked ≡ None
+  pub refused : EndsWith r q.stepper
+  pub over : IsOver p → (r ≡ None) × (q ≡ p)
+  pub options : q.stepper.scanner.options ≡ p.stepper.scanner.options
+  pub moves : Moves left origin p.stepper.scanner.cursor q.stepper.scanner.cursor
+
+-- All that is given from a state on are these events, or some events and then this refusal, unless memory ran out.
+abbrev pub GivesAll : {V : Type 0} → (V → List PlainEvent) → OptionsData → StepState → Result V Refused → Type 0
+GivesAll view o m (Ok v) = GivesEvents o m (view v) None
+GivesAll view o m (Err e) = (e.kind ≡ NoMemory → ⊥) → (es : List PlainEvent) × GivesEvents o m es (Some e)

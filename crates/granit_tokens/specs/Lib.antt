@@ -1,0 +1,3 @@
+pub mod Balanced
+pub mod Counted
+pub mod Keys
