@@ -1,11 +1,13 @@
 -- What the laws of the plain machine say of an answer of the code.
 use Rattle.std.proofs.Common.{◌≡◌, ◌≢◌, ℕ, List, [], Option, Some, None, Result, Ok, Err, ◌⊎◌, inl, inr}
-use Rattle.std.proofs.Common.{refl, sym, subst, ◌∙◌}
+use Rattle.std.proofs.Common.{refl, sym, ap, subst, ◌∙◌, ◌≤◌}
 use Rattle.std.specs.Prelude.{IfOk, IfErr}
 use Rattle.granit_answers.specs.Answers.{AnswersReading}
 use Rattle.granit_answers.proofs.Caused.{answered_by, refused_by, exact_by}
 use Rattle.granit_answers.proofs.CommentsCaused.{any_fault_caused, comments_answered}
 use Rattle.granit_answers.proofs.OneCause.{answer_reads, reading_answered}
+use Rattle.granit_canonical.specs.Canonical.{canonical_events}
+use Rattle.granit_canonical.proofs.Laws.{canonical_is_read}
 use Rattle.granit_error.specs.FaultKind.{FaultKind, NoMemory}
 use Rattle.granit_error.specs.OptionsData.{OptionsData}
 use Rattle.granit_error.specs.Refused.{Refused}
@@ -17,6 +19,9 @@ use Rattle.granit_language.specs.TextFault.{OfComments, OfLexemes, OfReading, Wh
 use Rattle.granit_lexemes.specs.Outcome.{Fault, Fails, GivesValue}
 use Rattle.granit_lexemes.specs.PlainEvent.{PlainEvent}
 use Rattle.granit_machine.specs.Machine.{run}
+use Rattle.granit_model.specs.Characters.{HasCharacters}
+use Rattle.granit_model.specs.FlowText.{flow_characters}
+use Rattle.granit_model.specs.Tree.{DocumentsFit, PlainTrees, trees_depth}
 use Rattle.granit_parser.specs.Answering.{IsRefusedAs}
 use Rattle.granit_reading.proofs.ParserSources.{run_none}
 use Rattle.granit_steps.specs.Levels.{IsStream}
@@ -83,6 +88,17 @@ module _ {V : Type 0} (view : V → List PlainEvent) (o : OptionsData) (x : List
   answered_of (Err e) g es a =
       let h = reading_answered o x a.items a.state a.tree_events a.are_read a.to_end a.reading a.none in
       (memory_alone e h.0 (memory_or_not e.kind) g h.1, tt)
+
+  -- canonical text has the events of its trees
+  pub canonical_of : (r : Result V Refused) → GivesValue view r (run o x) → (ts : PlainTrees) → DocumentsFit ts
+      → HasCharacters ts → trees_depth ts ≤ o.flow_nesting_limit → x ≡ flow_characters ts
+      → IfErr r (λ e. e.kind ≡ NoMemory) × IfOk r (λ v. view v ≡ canonical_events o ts)
+  canonical_of (Ok v) g ts fits written deep is =
+      let read = ap (run o) is ∙ canonical_is_read o ts fits written deep in
+      (tt, same_events (view v) (canonical_events o ts) (sym g ∙ read))
+  canonical_of (Err e) g ts fits written deep is =
+      let read = ap (run o) is ∙ canonical_is_read o ts fits written deep in
+      (memory_alone e (canonical_events o ts) (memory_or_not e.kind) g read, tt)
 
   -- ---- a refusal
 

@@ -1,8 +1,9 @@
 //! All events of a text.
-ghost use Rattle.std.specs.Prelude.{◌≡◌, ◌==◌, ◌⊎◌, List, [], length, slice_get, IfOk, IfErr};
+ghost use Rattle.std.specs.Prelude.{◌≡◌, ◌==◌, ◌⊎◌, ◌≤◌, List, [], length, slice_get, IfOk, IfErr};
 ghost use Rattle.std.specs.Option.{option_copied};
 ghost use Rattle.std.specs.Str.{chars};
 ghost use Rattle.granit_answers.specs.Answers.{AnswersReading};
+ghost use Rattle.granit_canonical.specs.Canonical.{canonical_events};
 ghost use Rattle.granit_error.specs.FaultKind.{NoMemory as OutOfMemory};
 ghost use Rattle.granit_error.specs.OptionsView.{options_of};
 ghost use Rattle.granit_event.specs.Events.{plain_events};
@@ -13,6 +14,9 @@ ghost use Rattle.granit_language.specs.TextFault.{OfComments, OfLexemes, OfReadi
 ghost use Rattle.granit_lexemes.specs.Outcome.{Fault, GivesValue};
 ghost use Rattle.granit_lexemes.specs.PlainEvent.{PlainEvent};
 ghost use Rattle.granit_machine.specs.Machine.{run};
+ghost use Rattle.granit_model.specs.Characters.{HasCharacters};
+ghost use Rattle.granit_model.specs.FlowText.{flow_characters};
+ghost use Rattle.granit_model.specs.Tree.{DocumentsFit, PlainTrees, trees_depth};
 ghost use Rattle.granit_parser.specs.Answering.{IsRefusedAs};
 ghost use Rattle.granit_parser.specs.Parsing.{GivesAll, StandsAt};
 ghost use Rattle.granit_steps.specs.Levels.{IsStream};
@@ -117,7 +121,8 @@ fn load<'a>(alloc: Global, text: &'a str, options: Options) -> Result<Events<'a>
 /// the text (`spans`). A text with a reading is answered (`answered`). A refusal has its cause, and names no source
 /// (`cause`). A text with a cause in its lexemes or comments is refused with it (`refused`); one that can't be read on
 /// from some place, for a cause there (`unread`), and with that very one where no lexeme but a tag, a quoted scalar or
-/// a directive begins there (`stopped`). Want of memory may stand in the place of each answer. `value` says the same
+/// a directive begins there (`stopped`). The canonical flow text of trees that fit, no deeper than allowed, is answered
+/// with their events (`canonical`). Want of memory may stand in the place of each answer. `value` says the same
 /// as a plain function. Every text has a reading or a cause, and no text has both (laws of granit_answers).
 ///
 /// # Errors
@@ -140,6 +145,10 @@ pub fn load_str<'a>(alloc: Global, text: &'a str, options: Options) -> Result<Ev
     ensures stopped { (f : Fault) → (c : OfReading (options_of options) (chars text.now) f)
         → ReadStopped (options_of options) c.state f.kind f.mark → f.sources ≡ []
         → IsRefusedAs result (λ e. e ≡ f) }
+    ensures canonical { (ts : PlainTrees) → DocumentsFit ts → HasCharacters ts
+        → trees_depth ts ≤ (options_of options).flow_nesting_limit → chars text.now ≡ flow_characters ts
+        → IfErr result (λ e. e.kind ≡ OutOfMemory)
+        × IfOk result (λ v. plain_events v ≡ canonical_events (options_of options) ts) }
 {
     load(alloc, text, options)
 }

@@ -2,7 +2,7 @@ use Rattle.std.specs.Str.{chars}
 use Rattle.granit_error.specs.OptionsView.{options_of}
 use Rattle.granit_event.specs.Events.{plain_events}
 use Rattle.granit_parser.proofs.LoadLemmas.{reading_of, spans_of, stream_of, answered_of, cause_of, refused_of}
-use Rattle.granit_parser.proofs.LoadLemmas.{stopped_of, unread_of}
+use Rattle.granit_parser.proofs.LoadLemmas.{canonical_of, stopped_of, unread_of}
 use Rattle.granit_parser.proofs.load.load_str.Goals as goal
 
 pub returns-clause-reading : goal.returns-clause-reading
@@ -35,4 +35,8 @@ returns-clause-unread c = unread_of plain_events (options_of c.args.options) (ch
 
 pub returns-clause-stopped : goal.returns-clause-stopped
 returns-clause-stopped c = stopped_of plain_events (options_of c.args.options) (chars c.args.text.now) c.load.result
+    c.load.ensures
+
+pub returns-clause-canonical : goal.returns-clause-canonical
+returns-clause-canonical c = canonical_of plain_events (options_of c.args.options) (chars c.args.text.now) c.load.result
     c.load.ensures
