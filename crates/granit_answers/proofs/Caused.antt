@@ -27,7 +27,8 @@ use Rattle.granit_machine.specs.PossibleKeys.{is_possible}
 use Rattle.granit_machine.specs.Reader.{read, LexState}
 use Rattle.granit_machine.specs.ReaderState.{ReaderState, reader_start}
 use Rattle.granit_reading.proofs.ReadingLaw.{lexed}
-use Rattle.granit_reading.proofs.Refused.{stopped_refused}
+use Rattle.granit_reading.proofs.Sources.{Nameless, lex_none}
+use Rattle.granit_reading.proofs.Misspelt.{cause_refused}
 use Rattle.granit_reading.proofs.WholeLaw.{lexed_whole, all_read_whole, one_whole}
 use Rattle.granit_answers.proofs.Answered.{asked_are, Bare, bare_is, in_order, fair, Fed, Shown, shown_fault}
 use Rattle.granit_answers.proofs.Answered.{front_flagged, settled_front, settled_are, settled_order}
@@ -119,6 +120,7 @@ module _ (o : OptionsData) (x : List ℕ) where
         settled = is_front t.reader.laid (read_lexemes items);
         viable = parsed_viable o (mark_of (start_of x)) front y (front_fair items t t.reader.laid e) given;
         refused = stop_refused items t g e f;
+        unnamed = subst Nameless f (lex_none o (start_of x) items t e);
         none = none;
       }
 
@@ -206,19 +208,22 @@ module _ (o : OptionsData) (x : List ℕ) where
       )
 
   -- what the place is refused for is the answer
-  pub exact_by :
-      (f : Fault) → (c : OfReading o x f) → ReadStopped o c.state f.kind f.mark → f.sources ≡ [] → run o x ≡ Err f
+  pub reading_by : (f : Fault) → OfReading o x f → run o x ≡ Err f
   unfolding refused_by some_is
-  exact_by f c p none =
+  reading_by f c =
       let t = all_read_whole o (start_of x) c.items false c.state c.whole in
       let g = some_is t.0.fault t.2 in
       let there : read o c.state ≡ Err g.0 =
       subst (λ (s : ReaderState). read o s ≡ Err g.0) t.3
       ((lexed_whole o (start_of x) c.items t.0 t.1).refused g.0 g.1) in
       let same : g.0 ≡ fault_at f.kind f.mark =
-      same_refusal g.0 (fault_at f.kind f.mark) (sym there ∙ stopped_refused o c.state p) in
+      same_refusal g.0 (fault_at f.kind f.mark) (sym there ∙ cause_refused o c.state c.refused) in
       (refused_by f c).1
-      ∙ ap (λ (f : Fault). Err f) (same ∙ ap (λ (sources : List _). record f { sources = sources }) (sym none))
+      ∙ ap (λ (f : Fault). Err f) (same ∙ ap (λ (sources : List _). record f { sources = sources }) (sym c.unnamed))
+
+  pub exact_by :
+      (f : Fault) → (c : OfReading o x f) → ReadStopped o c.state f.kind f.mark → f.sources ≡ [] → run o x ≡ Err f
+  exact_by f c p none = reading_by f c
 
 pub causes_apart :
     (o : OptionsData) (x : List ℕ) (f g : Fault) → OfLexemes o x f → OfReading o x g → ⊥

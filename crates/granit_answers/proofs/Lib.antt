@@ -19,3 +19,4 @@ pub mod CommentsInText
 pub mod FlowLimits
 pub mod FlowColumns
 pub mod PrefixSaid
+pub mod CutSaid

@@ -28,7 +28,7 @@ use Rattle.granit_answers.specs.Answers.{AnswersReading}
 use Rattle.granit_answers.proofs.Answered.{bare_run, bare_reads, bare_answered, Shown}
 use Rattle.granit_answers.proofs.Asked.{Fed, Asked, asked_run, asked_to_end, bare_of, bare_silent, same_answer}
 use Rattle.granit_answers.proofs.RowsTold.{Start, none_told, unasked_none}
-use Rattle.granit_answers.proofs.Caused.{read_whole, answered_by, refused_by, causes_apart}
+use Rattle.granit_answers.proofs.Caused.{read_whole, answered_by, reading_by}
 use Rattle.granit_answers.proofs.CommentsCaused.{any_fault_caused, comments_answered}
 
 -- ---- what is answered is a reading
@@ -131,22 +131,17 @@ module _ (o : OptionsData) (x : List ℕ) where
   answered_same : (f g : Fault) → run o x ≡ Err f → run o x ≡ Err g → f ≡ g
   answered_same f g a b = err_same f g (sym a ∙ b)
 
-  pub one_cause : (f g : Fault) → WholeCause o x f → WholeCause o x g → (f ≡ g) ⊎ (OfReading o x f × OfReading o x g)
-  one_cause f g (inl c) (inl d) = inl (answered_same f g (answered_by o x f c) (answered_by o x g d))
-  one_cause f g (inl c) (inr (inl d)) = absurd (causes_apart o x f g c d)
-  one_cause f g (inl c) (inr (inr d)) = absurd (lexemes_or_comments f g c d)
-  one_cause f g (inr (inl c)) (inl d) = absurd (causes_apart o x g f d c)
-  one_cause f g (inr (inl c)) (inr (inl d)) = inr (c, d)
-  one_cause f g (inr (inl c)) (inr (inr d)) = absurd (reading_or_comments f g c d)
-  one_cause f g (inr (inr c)) (inl d) = absurd (lexemes_or_comments g f d c)
-  one_cause f g (inr (inr c)) (inr (inl d)) = absurd (reading_or_comments g f d c)
-  one_cause f g (inr (inr c)) (inr (inr d)) =
-      inl (answered_same f g (comments_answered o x f c) (comments_answered o x g d))
+  -- each cause is the answer
+  pub cause_answered : (f : Fault) → WholeCause o x f → run o x ≡ Err f
+  cause_answered f (inl c) = answered_by o x f c
+  cause_answered f (inr (inl c)) = reading_by o x f c
+  cause_answered f (inr (inr c)) = comments_answered o x f c
+
+  pub one_cause : (f g : Fault) → WholeCause o x f → WholeCause o x g → f ≡ g
+  one_cause f g c d = answered_same f g (cause_answered f c) (cause_answered g d)
 
   pub no_cause : (f : Fault) (es : List PlainEvent) → run o x ≡ Ok es → WholeCause o x f → ⊥
-  no_cause f es r (inl c) = never_both es f (sym r ∙ answered_by o x f c)
-  no_cause f es r (inr (inl c)) = let g = refused_by o x f c in never_both es g.0 (sym r ∙ g.1)
-  no_cause f es r (inr (inr c)) = never_both es f (sym r ∙ comments_answered o x f c)
+  no_cause f es r c = never_both es f (sym r ∙ cause_answered f c)
 
   pub reading_or_cause : ((es : List PlainEvent) × AnswersReading o x es) ⊎ ((f : Fault) × WholeCause o x f)
   reading_or_cause = by (run o x) refl

@@ -5,3 +5,4 @@ pub mod ColumnTexts
 pub mod CommentStands
 pub mod FlowLimit
 pub mod Prefix
+pub mod CutShort

@@ -2,7 +2,6 @@
 ghost use Rattle.std.specs.Prelude.{◌≡◌, ℕ, false, true, ◌⊎◌, List, None, Some, Ok, Err, []};
 ghost use Rattle.granit_error.specs.OptionsData.{OptionsData};
 ghost use Rattle.granit_invariants.specs.Quiet.{but_comments};
-ghost use Rattle.granit_language.specs.Reached.{ReadStopped};
 ghost use Rattle.granit_language.specs.TextFault.{NoneTold, OfComments, OfLexemes, OfReading, WholeCause};
 ghost use Rattle.granit_language.specs.Telling.{events_told};
 ghost use Rattle.granit_language.specs.TreeEvents.{TreeEvent};
@@ -39,24 +38,17 @@ pub fn every_fault_has_its_cause()
     ensures { (o : OptionsData) (x : List ℕ) (f : Fault) → run o x ≡ Err f → WholeCause o x f }
 {}
 
-/// A cause in the lexemes or of comments is the answer; a text with a cause of reading is refused for one at that
-/// place, for that very one unless it is inside a tag, a quoted scalar or a directive. So a text that is answered has
-/// none.
+/// A cause of a text is the answer, wherever it stands: at a lexeme, in what is read, or at a comment. So a text that
+/// is answered has none.
 pub fn every_cause_is_answered()
-    ensures answered { (o : OptionsData) (x : List ℕ) (f : Fault) → OfLexemes o x f → run o x ≡ Err f }
-    ensures comments { (o : OptionsData) (x : List ℕ) (f : Fault) → OfComments o x f → run o x ≡ Err f }
-    ensures refused { (o : OptionsData) (x : List ℕ) (f : Fault) → OfReading o x f → (g : Fault) × (run o x ≡ Err g)
-        × OfReading o x g }
-    ensures exact { (o : OptionsData) (x : List ℕ) (f : Fault) → (c : OfReading o x f) →
-        ReadStopped o c.state f.kind f.mark → f.sources ≡ [] → run o x ≡ Err f }
+    ensures answered { (o : OptionsData) (x : List ℕ) (f : Fault) → WholeCause o x f → run o x ≡ Err f }
     ensures none { (o : OptionsData) (x : List ℕ) (f : Fault) (es : List PlainEvent) → run o x ≡ Ok es →
         WholeCause o x f → ⊥ }
 {}
 
-/// A text has one cause at most: two are one, or both of reading and at one place.
+/// A text has one cause at most, and no two sorts of it; where reading stops is one place.
 pub fn a_text_has_one_cause()
-    ensures one { (o : OptionsData) (x : List ℕ) (f g : Fault) → WholeCause o x f → WholeCause o x g → (f ≡ g)
-        ⊎ (OfReading o x f × OfReading o x g) }
+    ensures one { (o : OptionsData) (x : List ℕ) (f g : Fault) → WholeCause o x f → WholeCause o x g → f ≡ g }
     ensures apart { (o : OptionsData) (x : List ℕ) (f g : Fault) → OfLexemes o x f → OfReading o x g → ⊥ }
     ensures lexemes { (o : OptionsData) (x : List ℕ) (f g : Fault) → OfLexemes o x f → OfComments o x g → ⊥ }
     ensures readings { (o : OptionsData) (x : List ℕ) (f g : Fault) → OfReading o x f → OfComments o x g → ⊥ }

@@ -14,7 +14,8 @@ pub use answers::{
 pub use columns::{open_columns_are_frames, texts_have_their_columns_as_frames};
 pub use comments::every_comment_of_a_text_stands_in_its_place;
 pub use order::{
-    brackets_and_keys_make_an_order, brackets_nest_within_the_limit,
-    byte_order_marks_may_stand_before_documents, lexemes_in_flow_keep_to_lines_and_columns,
-    lists_in_order_are_fair, the_brackets_of_a_text_are_in_order, the_keys_of_a_text_are_in_order,
+    a_comment_cuts_short_the_scalar_before_it, brackets_and_keys_make_an_order,
+    brackets_nest_within_the_limit, byte_order_marks_may_stand_before_documents,
+    lexemes_in_flow_keep_to_lines_and_columns, lists_in_order_are_fair,
+    the_brackets_of_a_text_are_in_order, the_keys_of_a_text_are_in_order,
 };

@@ -1,5 +1,6 @@
 //! Lists of flagged lexemes that are in order.
-ghost use Rattle.std.specs.Prelude.{◌≡◌, Bool, List, None, Option, [], false, map, ℕ};
+ghost use Rattle.std.specs.Prelude.{◌≡◌, Bool, List, None, Option, Some, [], false, map, ℕ};
+ghost use Rattle.granit_base.specs.Place.{Mark};
 ghost use Rattle.granit_error.specs.OptionsData.{OptionsData};
 ghost use Rattle.granit_agreement.specs.Running.{FairRun};
 ghost use Rattle.granit_language.specs.Seen.{Flagged, read_lexemes};
@@ -13,6 +14,7 @@ ghost use Rattle.granit_lexemes.specs.declared.layout.Bracket.{Bracket};
 ghost use Rattle.granit_lexemes.specs.declared.layout.OpenBracket.{OpenBracket};
 ghost use Rattle.granit_machine.specs.ReaderState.{ReaderState, reader_start};
 ghost use Rattle.granit_answers.specs.FlowLimit.{AllStandRight, KeysOnLines, NestWithin, brackets_behind};
+ghost use Rattle.granit_answers.specs.CutShort.{LastCut};
 ghost use Rattle.granit_answers.specs.Prefix.{before_document};
 ghost use Rattle.granit_answers.specs.Order.{BracketsFrom, KeysFrom, OrderedFrom};
 
@@ -64,4 +66,11 @@ pub fn lexemes_in_flow_keep_to_lines_and_columns()
 pub fn byte_order_marks_may_stand_before_documents()
     ensures { (o : OptionsData) (h : Here) (items : List Item) (t : ReaderState) →
         Reached o (reader_start h) items t → t.laid.may_prefix ≡ before_document (latest items []) }
+{}
+
+/// What a comment cut short is the plain scalar that was read last: it ends at the `#` there, and behind it nothing but
+/// comments was read.
+pub fn a_comment_cuts_short_the_scalar_before_it()
+    ensures { (o : OptionsData) (h : Here) (items : List Item) (t : ReaderState) (m : Mark) →
+        Reached o (reader_start h) items t → t.laid.cut ≡ Some m → LastCut (latest items []) m }
 {}

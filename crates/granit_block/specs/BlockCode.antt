@@ -4,7 +4,8 @@ use Rattle.std.specs.Prelude.{if◌then◌else◌, Option, Some, None, is_some, 
 use Rattle.std.specs.Option.{option_map}
 use Rattle.granit_base.specs.Place.{Mark}
 use Rattle.granit_base.specs.Written.{string_chars}
-use Rattle.granit_error.specs.FaultKind.{FaultKind, NoMemory, ZeroBlockScalarIndent, InvalidBlockScalarHeader}
+use Rattle.granit_error.specs.FaultKind.{FaultKind, InputSlicingUnavailable, NoMemory, ZeroBlockScalarIndent}
+use Rattle.granit_error.specs.FaultKind.{InvalidBlockScalarHeader}
 use Rattle.granit_error.specs.FaultKind.{TabAtBlockScalarStart, InvalidBlockScalarIndent, CommentNotSeparated}
 use Rattle.granit_error.specs.FaultKind.{UnexpectedCharacter}
 use Rattle.granit_error.specs.Refused.{Refused}
@@ -106,6 +107,7 @@ block_indicator false = 0x3E
 -- the kinds that a block scalar is refused by
 abbrev pub IsBlockKind : FaultKind → Type 0
 IsBlockKind NoMemory = Unit {0}
+IsBlockKind InputSlicingUnavailable = Unit {0}
 IsBlockKind ZeroBlockScalarIndent = Unit {0}
 IsBlockKind InvalidBlockScalarHeader = Unit {0}
 IsBlockKind TabAtBlockScalarStart = Unit {0}

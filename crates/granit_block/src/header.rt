@@ -8,7 +8,7 @@ ghost use Rattle.granit_cursor.specs.Tokens.{layout_data};
 use granit_base::{Marker, is_digit};
 use granit_cursor::{Cursor, Layout, Token, pass_comment, read_comment};
 use granit_error::{ErrorKind, ScanError};
-use granit_input::Input;
+use granit_input::{BorrowedInput, Input};
 use std::alloc::Global;
 
 /// How the last break and the empty lines behind the content are kept (YAML 1.2.2, 8.1.1.2).
@@ -100,7 +100,7 @@ pub(crate) fn read_header<T: Input>(cursor: &mut Cursor<T>) -> Result<Header, Sc
 }
 
 /// Blanks, and a comment that they part from the header (YAML 1.2.2, 6.6), where comments are asked for.
-pub(crate) fn read_tail<'input, T: Input>(
+pub(crate) fn read_tail<'input, T: BorrowedInput<'input>>(
     alloc: Global,
     cursor: &mut Cursor<T>,
     at: &Layout,
@@ -122,7 +122,7 @@ pub(crate) fn read_tail<'input, T: Input>(
 
 /// The comment that begins here, where comments are asked for.
 #[tactic(auto, unfolding(granit_lexemes::specs::Comment::comment))]
-fn read_note<'input, T: Input>(
+fn read_note<'input, T: BorrowedInput<'input>>(
     alloc: Global,
     cursor: &mut Cursor<T>,
     at: &Layout,

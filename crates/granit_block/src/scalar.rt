@@ -15,14 +15,14 @@ use crate::header::{read_header, read_tail};
 use granit_base::{Marker, ScalarStyle, Span, Text};
 use granit_cursor::{Cursor, Layout, Lexed, Token, TokenType};
 use granit_error::ScanError;
-use granit_input::{BorrowedInput, Input};
+use granit_input::BorrowedInput;
 use std::alloc::Global;
 
 /// The block scalar that begins here with its `|`, where it is literal, or its `>` (YAML 1.2.2, 8.1), with the
-/// comment behind its header, where comments are asked for; the cursor then stands behind its last line and
-/// the spaces of the next one left of its content. Its value is owned, and its span begins at its first
-/// content; where it has none, with the line that ends it, or with the indicator where the text ends first. The
-/// span has the content's column as indent, where the value is more than white space.
+/// comment behind its header, where comments are asked for, lent where the input lends; the cursor then stands
+/// behind its last line and the spaces of the next one left of its content. Its value is owned, and its span
+/// begins at its first content; where it has none, with the line that ends it, or with the indicator where the
+/// text ends first. The span has the content's column as indent, where the value is more than white space.
 ///
 /// # Errors
 ///
@@ -31,6 +31,7 @@ use std::alloc::Global;
 /// next line. At the character: `CommentNotSeparated` for a `#` directly behind the header;
 /// `InvalidBlockScalarIndent` for the first content, right of its block and left of the scalar's column;
 /// `UnexpectedCharacter` for one that isn't printable, but at the first content for one inside the value.
+/// `InputSlicingUnavailable`, where the input refuses to lend what it could.
 pub fn scan_block_scalar<'input, T: BorrowedInput<'input>>(
     alloc: Global,
     cursor: &mut Cursor<T>,
@@ -52,7 +53,7 @@ pub fn scan_block_scalar<'input, T: BorrowedInput<'input>>(
     read_block(alloc, cursor, literal, at)
 }
 
-fn read_block<'input, T: Input>(
+fn read_block<'input, T: BorrowedInput<'input>>(
     alloc: Global,
     cursor: &mut Cursor<T>,
     literal: bool,

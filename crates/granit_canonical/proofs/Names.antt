@@ -11,11 +11,12 @@ use Rattle.granit_canonical.proofs.Naming.{bytes_spell, each_of, uri_some, utf8_
 use Rattle.granit_canonical.proofs.Places.{Held, Parts, marked, parts_gap, past_all, spaced}
 use Rattle.granit_canonical.proofs.Signs.{choose_opener, source_is}
 use Rattle.granit_canonical.proofs.Taking.{Taken, begins_text, begins_with, passed_at}
+use Rattle.granit_canonical.specs.Canonical.{lent_name}
 use Rattle.granit_error.specs.OptionsData.{OptionsData}
 use Rattle.granit_language.specs.Before.{behind, in_front}
 use Rattle.granit_language.specs.Begins.{Begins, alias, anchor, tag}
 use Rattle.granit_language.specs.Reached.{ends_column_by}
-use Rattle.granit_lexemes.specs.Basics.{owned}
+use Rattle.granit_lexemes.specs.Basics.{as_spelled}
 use Rattle.granit_lexemes.specs.Here.{mark_of}
 use Rattle.granit_lexemes.specs.Lexeme.{Alias, Anchor, Tag, closer_char}
 use Rattle.granit_lexemes.specs.PlainExtent.{over}
@@ -96,7 +97,7 @@ module _ (o : OptionsData) (x : List ℕ) where
   pub takes_alias : (bs : List Bracket) (name g rest : List ℕ) (t : ReaderState) → Parts g → EndsName g rest
       → IsAnchorName name → Held x t.here → t.here.unread.text ≡ 0x2A ∷ (name ++ (g ++ rest)) → Calm bs t.laid
       → Fine bs t.laid.last
-      → Taken o x bs (Placed AliasSign) (Alias (owned name)) (0x2A ∷ (name ++ (g ++ rest))) (g ++ rest) rest false t
+      → Taken o x bs (Placed AliasSign) (Alias (lent_name name)) (0x2A ∷ (name ++ (g ++ rest))) (g ++ rest) rest false t
   takes_alias bs name g rest t parts ended n held e c f =
       let h = t.here in
       let l = in_front (Placed AliasSign) h t.laid in
@@ -104,7 +105,7 @@ module _ (o : OptionsData) (x : List ℕ) where
       let p = past_all x (first h.unread.text ∷ name) (g ++ rest) h (head_is h.unread.text 0x2A (name ++ (g ++ rest)) e)
       held in
       let after = over (first h.unread.text ∷ name) h in
-      let y = lexeme_to (ends_column_by (Placed AliasSign) t) (Alias (owned name)) (mark_of after) h l in
+      let y = lexeme_to (ends_column_by (Placed AliasSign) t) (Alias (as_spelled h name)) (mark_of after) h l in
       record {
         lexeme = y;
         behind = record { here = after; laid = behind o (Placed AliasSign) y None after h l };
@@ -114,7 +115,7 @@ module _ (o : OptionsData) (x : List ℕ) where
           stands_inside o AliasSign bs l h calm,
           (
             record {
-              name = name;
+              name = as_spelled h name;
               answers = record {
                 rest = g ++ rest;
                 stands = record {
@@ -125,6 +126,7 @@ module _ (o : OptionsData) (x : List ℕ) where
                   some = n.0;
                   all = name_ends ended;
                 };
+                is = refl;
                 reached = refl;
               };
               is = refl;
@@ -132,7 +134,7 @@ module _ (o : OptionsData) (x : List ℕ) where
             refl,
           ),
         );
-        kind_is = refl;
+        kind_is = ap (λ (lends : Bool). Alias (record { characters = name; is_borrowed = lends })) held.lends;
         key_is = refl;
         tail_is = refl;
         indent_is = refl;
@@ -148,7 +150,8 @@ module _ (o : OptionsData) (x : List ℕ) where
   pub takes_anchor : (bs : List Bracket) (name rest : List ℕ) (t : ReaderState)
       → IsAnchorName name → Held x t.here → t.here.unread.text ≡ 0x26 ∷ (name ++ 0x20 ∷ rest) → Calm bs t.laid
       → Fine bs t.laid.last
-      → Taken o x bs (Placed AnchorSign) (Anchor (owned name)) (0x26 ∷ (name ++ 0x20 ∷ rest)) (0x20 ∷ rest) rest false t
+      → Taken o x bs (Placed AnchorSign) (Anchor (lent_name name)) (0x26 ∷ (name ++ 0x20 ∷ rest)) (0x20 ∷ rest) rest
+      false t
   takes_anchor bs name rest t n held e c f =
       let h = t.here in
       let l = in_front (Placed AnchorSign) h t.laid in
@@ -156,7 +159,7 @@ module _ (o : OptionsData) (x : List ℕ) where
       let p = past_all x (first h.unread.text ∷ name) (0x20 ∷ rest) h
       (head_is h.unread.text 0x26 (name ++ 0x20 ∷ rest) e) held in
       let after = over (first h.unread.text ∷ name) h in
-      let y = lexeme_to (ends_column_by (Placed AnchorSign) t) (Anchor (owned name)) (mark_of after) h l in
+      let y = lexeme_to (ends_column_by (Placed AnchorSign) t) (Anchor (as_spelled h name)) (mark_of after) h l in
       record {
         lexeme = y;
         behind = record { here = after; laid = behind o (Placed AnchorSign) y None after h l };
@@ -166,7 +169,7 @@ module _ (o : OptionsData) (x : List ℕ) where
           stands_inside o AnchorSign bs l h calm,
           (
             record {
-              name = name;
+              name = as_spelled h name;
               answers = record {
                 rest = 0x20 ∷ rest;
                 stands = record {
@@ -177,6 +180,7 @@ module _ (o : OptionsData) (x : List ℕ) where
                   some = n.0;
                   all = space_ends;
                 };
+                is = refl;
                 reached = refl;
               };
               is = refl;
@@ -184,7 +188,7 @@ module _ (o : OptionsData) (x : List ℕ) where
             refl,
           ),
         );
-        kind_is = refl;
+        kind_is = ap (λ (lends : Bool). Anchor (record { characters = name; is_borrowed = lends })) held.lends;
         key_is = refl;
         tail_is = refl;
         indent_is = refl;

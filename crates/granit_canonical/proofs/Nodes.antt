@@ -19,7 +19,7 @@ use Rattle.granit_canonical.proofs.Quotes.{takes_quoted}
 use Rattle.granit_canonical.proofs.Spelling.{CanStand}
 use Rattle.granit_canonical.proofs.Taking.{Follows, OneRead, follows_parts, reads_one}
 use Rattle.granit_canonical.specs.Canonical.{Anchors, anchor_before, past_anchor, past_tree, spot, stretch}
-use Rattle.granit_canonical.specs.Canonical.{tag_before, tree_before}
+use Rattle.granit_canonical.specs.Canonical.{between_quotes, lent_name, tag_before, tree_before}
 use Rattle.granit_error.specs.OptionsData.{OptionsData}
 use Rattle.granit_language.specs.Node.{AliasNode, NoProperties, Node, One, ScalarNode, TreeProperties, Two}
 use Rattle.granit_language.specs.Placed.{Placed, PropertiesPlaced}
@@ -33,7 +33,6 @@ use Rattle.granit_language.specs.Terminal.{Alias, Anchor, Part, Property, Scalar
 use Rattle.granit_language.specs.TreeEvents.{TreeEvent, imposed, node_end, node_events}
 use Rattle.granit_language.specs.Within.{node_within}
 use Rattle.granit_language.specs.Yield.{spell, spell_properties}
-use Rattle.granit_lexemes.specs.Basics.{owned}
 use Rattle.granit_lexemes.specs.Lexeme.{closer_char, opener_char}
 use Rattle.granit_lexemes.specs.PlainEvent.{event_at}
 use Rattle.granit_lexemes.specs.Source.{Source}
@@ -156,9 +155,9 @@ end_of_source x from to s e = ap (λ (s : Source). s.end) e
 module _ (o : OptionsData) (x : List ℕ) where
   anchor_one : (bs : List Bracket) (own name : List ℕ) (s : ReaderState) → Before x (anchor_text (Some name) own) s.here
       → Calm bs s.laid → Fine bs s.laid.last → IsAnchorName name
-      → OneRead o x bs (lexemes.Anchor (owned name)) (0x26 ∷ (name ++ 0x20 ∷ own)) (0x20 ∷ own) own false s
+      → OneRead o x bs (lexemes.Anchor (lent_name name)) (0x26 ∷ (name ++ 0x20 ∷ own)) (0x20 ∷ own) own false s
   anchor_one bs own name s b c f n =
-      reads_one o x bs bs (sorts.Placed AnchorSign) (lexemes.Anchor (owned name)) (0x26 ∷ (name ++ 0x20 ∷ own))
+      reads_one o x bs bs (sorts.Placed AnchorSign) (lexemes.Anchor (lent_name name)) (0x26 ∷ (name ++ 0x20 ∷ own))
       (0x20 ∷ own)
       own false s (subst (λ (l : List ℕ). Before x l s.here) (anchor_text_is name own) b) c
       (anchor_starts (name ++ 0x20 ∷ own))
@@ -175,9 +174,9 @@ module _ (o : OptionsData) (x : List ℕ) where
 
   anchor_told_so : (a : Anchors) (name own : List ℕ) (l : Source)
       → l ≡ stretch x (0x26 ∷ (name ++ 0x20 ∷ own)) (0x20 ∷ own)
-      → ◌≡◌ {A = AnchorTold} (Some (suc a.count, owned name, l)) (anchor_before x a (Some name) own)
+      → ◌≡◌ {A = AnchorTold} (Some (suc a.count, lent_name name, l)) (anchor_before x a (Some name) own)
   anchor_told_so a name own l e =
-      ap (λ (s : Source). Some (suc a.count, owned name, s))
+      ap (λ (s : Source). Some (suc a.count, lent_name name, s))
       (e ∙ ap (λ (l : List ℕ). stretch x l (0x20 ∷ own)) (sym (anchor_text_is name own)))
 
   tag_told_so : (name own : List ℕ) (l : Source) → l ≡ stretch x (tag_source name ++ 0x20 ∷ own) (0x20 ∷ own)
@@ -207,14 +206,15 @@ module _ (o : OptionsData) (x : List ℕ) where
   properties_read bs own s None (Some name) a n w m b c f =
       let r = anchor_one bs own name s b c f m in record {
         after = r.after;
-        properties = One (Anchor (owned name)) (place_in a r.lexeme);
-        passage = passage_one o x bs (lexemes.Anchor (owned name)) (0x26 ∷ (name ++ 0x20 ∷ own)) (0x20 ∷ own) own false
+        properties = One (Anchor (lent_name name)) (place_in a r.lexeme);
+        passage = passage_one o x bs (lexemes.Anchor (lent_name name)) (0x26 ∷ (name ++ 0x20 ∷ own)) (0x20 ∷ own) own
+            false
             s a
             (past_anchor (Some name) a) r refl refl refl;
         before = r.before;
         calm = r.calm;
         fine = fine_if bs r.after.laid.last r.opener;
-        placed = λ room p. plain_fits room p (Property (Anchor (owned name))) a r.lexeme;
+        placed = λ room p. plain_fits room p (Property (Anchor (lent_name name))) a r.lexeme;
         behind = λ room p. plain_behind room p;
         anchor_is = anchor_told_so a name own r.lexeme.shown r.shown_is;
         tag_is = refl;
@@ -240,22 +240,23 @@ module _ (o : OptionsData) (x : List ℕ) where
       let first = passage_one o x bs (lexemes.Tag [] name) (tag_source name ++ 0x20 ∷ middle) (0x20 ∷ middle) middle
       false s
       a a r refl refl refl in
-      let second = passage_one o x bs (lexemes.Anchor (owned anchor)) (0x26 ∷ (anchor ++ 0x20 ∷ own)) (0x20 ∷ own) own
+      let second = passage_one o x bs (lexemes.Anchor (lent_name anchor)) (0x26 ∷ (anchor ++ 0x20 ∷ own)) (0x20 ∷ own)
+      own
       false
       r.after a (past_anchor (Some anchor) a) q refl refl refl in
       let i = place_in a r.lexeme in
       let j = place_in a q.lexeme in record {
         after = q.after;
-        properties = Two (Tag [] name) i (Anchor (owned anchor)) j;
+        properties = Two (Tag [] name) i (Anchor (lent_name anchor)) j;
         passage = passage_then o s r.after q.after a a (past_anchor (Some anchor) a)
             (λ more. terminal (Part (Property (Tag [] name))) i ∷ more)
-            (λ more. terminal (Part (Property (Anchor (owned anchor)))) j ∷ more) first second;
+            (λ more. terminal (Part (Property (Anchor (lent_name anchor)))) j ∷ more) first second;
         before = q.before;
         calm = q.calm;
         fine = fine_if bs q.after.laid.last q.opener;
         placed = λ room p. (
           plain_fits room p (Property (Tag [] name)) a r.lexeme,
-          plain_fits (behind_property room) (plain_behind room p) (Property (Anchor (owned anchor))) a q.lexeme,
+          plain_fits (behind_property room) (plain_behind room p) (Property (Anchor (lent_name anchor))) a q.lexeme,
           refl,
         );
         behind = λ room p. plain_behind room p;
@@ -269,23 +270,24 @@ module _ (o : OptionsData) (x : List ℕ) where
       → NodeRead o x bs (g ++ rest) rest s (AliasOf name) a
   alias_read bs g rest s name a n ff ended is known b c f =
       let from = 0x2A ∷ (name ++ (g ++ rest)) in
-      let r = reads_one o x bs bs (sorts.Placed AliasSign) (lexemes.Alias (owned name)) from (g ++ rest) rest false s b
+      let r = reads_one o x bs bs (sorts.Placed AliasSign) (lexemes.Alias (lent_name name)) from (g ++ rest) rest false
+      s b
       c
       (star_starts (name ++ (g ++ rest)))
       (λ t h e c q. takes_alias o x bs name g rest t (follows_parts ff) ended is h e c
       (fine_as bs s.laid.last t.laid.last q f)) in
       record {
         after = r.after;
-        node = AliasNode (owned name) (place_in a r.lexeme);
-        passage = passage_one o x bs (lexemes.Alias (owned name)) from (g ++ rest) rest false s a a r refl refl
+        node = AliasNode (lent_name name) (place_in a r.lexeme);
+        passage = passage_one o x bs (lexemes.Alias (lent_name name)) from (g ++ rest) rest false s a a r refl refl
             (ap (alias_fault o.emit_unresolved_aliases) known ∙ always o.emit_unresolved_aliases);
         before = r.before;
         passed = r.passed;
         calm = r.calm;
         opener = r.opener;
-        placed = λ room p y. plain_fits room p (Alias (owned name)) a r.lexeme;
+        placed = λ room p y. plain_fits room p (Alias (lent_name name)) a r.lexeme;
         within = λ n d b. refl;
-        told = λ more. ap (λ (s : Source). event_at (alias_told (owned name) (entry_of name a.names)) s
+        told = λ more. ap (λ (s : Source). event_at (alias_told (lent_name name) (entry_of name a.names)) s
             ∷ events_told o more)
             r.shown_is;
         ends = end_of_source x from (g ++ rest) r.lexeme.shown r.shown_is;
@@ -304,31 +306,34 @@ module _ (o : OptionsData) (x : List ℕ) where
       let to = g ++ rest in
       let own = 0x22 ∷ quoted_characters chars (0x22 ∷ to) in
       let r = properties_read bs own s p.tag p.anchor a can.0.0 can.1.0 can.0.1 b c f in
-      let q = reads_one o x bs bs (sorts.Placed (QuoteSign false)) (lexemes.Scalar DoubleQuoted (owned chars)) own to
+      let q = reads_one o x bs bs (sorts.Placed (QuoteSign false)) (lexemes.Scalar DoubleQuoted (between_quotes chars))
+      own to
       rest
       false r.after r.before r.calm (quote_starts (quoted_characters chars (0x22 ∷ to)))
       (λ t h e c k. takes_quoted o x bs chars g rest t ff w h e c
       (fine_as bs r.after.laid.last t.laid.last k r.fine)) in
       let b = past_anchor p.anchor a in
       let i = place_in b q.lexeme in
-      let second = passage_one o x bs (lexemes.Scalar DoubleQuoted (owned chars)) own to rest false r.after b b q refl
+      let second = passage_one o x bs (lexemes.Scalar DoubleQuoted (between_quotes chars)) own to rest false r.after b b
+      q refl
       refl
       refl in
       record {
         after = q.after;
-        node = ScalarNode r.properties DoubleQuoted (owned chars) i;
+        node = ScalarNode r.properties DoubleQuoted (between_quotes chars) i;
         passage = passage_then o s r.after q.after a b b (spell_properties r.properties)
-            (λ more. terminal (Part (Scalar DoubleQuoted (owned chars))) i ∷ more) r.passage second;
+            (λ more. terminal (Part (Scalar DoubleQuoted (between_quotes chars))) i ∷ more) r.passage second;
         before = q.before;
         passed = q.passed;
         calm = q.calm;
         opener = q.opener;
         placed = λ room h y. (
           r.placed room h,
-          plain_fits (room_behind r.properties room) (r.behind room h) (Scalar DoubleQuoted (owned chars)) b q.lexeme,
+          plain_fits (room_behind r.properties room) (r.behind room h) (Scalar DoubleQuoted (between_quotes chars)) b
+              q.lexeme,
         );
         within = λ n d b. refl;
-        told = λ more. node_is_told o x a p r.properties (plain.Scalar (owned chars) DoubleQuoted) own to
+        told = λ more. node_is_told o x a p r.properties (plain.Scalar (between_quotes chars) DoubleQuoted) own to
             q.lexeme.shown.start q.lexeme.shown.end (imposed None (indent_of q.lexeme.indent)) r.anchor_is r.tag_is
             (start_of_source x own to q.lexeme.shown q.shown_is) (end_of_source x own to q.lexeme.shown q.shown_is)
             (ap indent_of q.indent_is) (events_told o more);

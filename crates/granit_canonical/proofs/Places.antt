@@ -8,7 +8,7 @@ use Rattle.granit_base.specs.Place.{Mark, Place, first}
 use Rattle.granit_canonical.specs.Canonical.{spot}
 use Rattle.granit_language.specs.Counting.{CountedHere, CountedMark}
 use Rattle.granit_language.specs.Stretch.{GapTo, NoGap, ends, white}
-use Rattle.granit_lexemes.proofs.HereLemmas.{step_text}
+use Rattle.granit_lexemes.proofs.HereLemmas.{step_lends, step_text}
 use Rattle.granit_lexemes.specs.Gap.{Each, IsGap}
 use Rattle.granit_lexemes.specs.HeaderExtent.{LexemeTail, uncommented}
 use Rattle.granit_lexemes.specs.Here.{Here, mark_of, start_of, step}
@@ -22,6 +22,7 @@ pub record Held (x : List ℕ) (h : Here) : Type 0 where
   pub index : ℕ
   pub counted : CountedHere x [] index h
   pub sum : index + length h.unread.text ≡ length x
+  pub lends : h.unread.lends ≡ true
 
 pub starts_held : (x : List ℕ) → Held x (start_of x)
 starts_held x = record {
@@ -32,6 +33,7 @@ starts_held x = record {
     below = tt;
   };
   sum = omega arith;
+  lends = refl;
 }
 
 pub stepped_text : (h : Here) (c : ℕ) (t : List ℕ) → h.unread.text ≡ c ∷ t → (step h).unread.text ≡ t
@@ -45,6 +47,7 @@ held_on x h c t e held = record {
       ∙ (let more : held.index + suc (length t) ≡ length x = sym (ap (λ (l : List ℕ). held.index + length l) e)
       ∙ held.sum in
       omega (arith, more));
+  lends = step_lends h ∙ held.lends;
 }
 
 -- behind these characters a rest is left

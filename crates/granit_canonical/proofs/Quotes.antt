@@ -2,33 +2,38 @@
 use Rattle.std.proofs.Common.{Bool, List, [], ap, append_assoc, arith, false, length, refl, subst, sym, true, ℕ, ◌&&◌}
 use Rattle.std.proofs.Common.{◌++◌, ◌==◌, ◌||◌, ◌∙◌, ◌∷◌, ◌≡◌}
 use Rattle.std.proofs.lemmas.Bool.Decides.{nat_tests}
+use Rattle.std.proofs.Common.{ap₂}
+use Rattle.std.specs.List.{list_all}
 use Rattle.std.specs.Prelude.{None}
 use lib.Utf8.{scalars}
 use Rattle.granit_base.specs.Classes.{is_break, is_printable}
 use Rattle.granit_base.specs.Place.{Mark, first}
+use Rattle.granit_base.specs.Written.{Written}
 use Rattle.granit_base.specs.declared.style.ScalarStyle.TheVariants.{DoubleQuoted}
 use Rattle.granit_canonical.proofs.Calm.{Calm, Fine, Shape, calm_behind, calm_closed, calm_gap, calm_noded, cut_fits}
 use Rattle.granit_canonical.proofs.Calm.{shape_flow, stands_inside, tabs_fit}
 use Rattle.granit_canonical.proofs.Fronts.{quoted_front}
 use Rattle.granit_canonical.proofs.Places.{Held, directly, fed, gap_stops, gap_to, left_of, marked, past_all, spaced}
 use Rattle.granit_canonical.proofs.Places.{tail_of, touching}
-use Rattle.granit_canonical.proofs.Quoting.{between_quotes}
+use Rattle.granit_canonical.proofs.Quoting.{all_itself, spelled_between}
 use Rattle.granit_canonical.proofs.Signs.{source_is}
 use Rattle.granit_canonical.proofs.Taking.{Follows, Taken, at_line, begins_text, begins_with, follows_parts}
 use Rattle.granit_canonical.proofs.Taking.{follows_starts, in_brackets, is_mark, passed_at}
+use Rattle.granit_canonical.specs.Canonical.{between_quotes, stands_for_itself}
 use Rattle.granit_error.specs.OptionsData.{OptionsData}
 use Rattle.granit_language.specs.Allowed.{MayPrefix}
 use Rattle.granit_language.specs.Before.{in_front}
 use Rattle.granit_language.specs.Begins.{Begins, quote}
 use Rattle.granit_language.specs.Reached.{ends_column_by}
 use Rattle.granit_language.specs.Standing.{in_front_of_lexeme, quoted_lexeme_of}
-use Rattle.granit_lexemes.specs.Basics.{owned}
+use Rattle.granit_lexemes.specs.Basics.{lent_if}
 use Rattle.granit_lexemes.specs.Here.{Here, mark_of}
 use Rattle.granit_lexemes.specs.LayoutData.{LayoutData}
 use Rattle.granit_lexemes.specs.Lexeme.{Scalar}
 use Rattle.granit_lexemes.specs.PlainExtent.{over}
-use Rattle.granit_lexemes.specs.QuotedExtent.{Blanks, ends_quoted, nothing, on_line, quoted_answer, quoted_end}
-use Rattle.granit_lexemes.specs.QuotedScalar.{is_closing, may_trail}
+use Rattle.granit_lexemes.specs.QuotedExtent.{Blanks, ends_quoted, is_unchanged, nothing, on_line, quoted_answer}
+use Rattle.granit_lexemes.specs.QuotedExtent.{quoted_end}
+use Rattle.granit_lexemes.specs.QuotedScalar.{is_closing, is_kept, may_trail}
 use Rattle.granit_lexemes.specs.declared.layout.Bracket.{Bracket}
 use Rattle.granit_lexemes.specs.declared.layout.LastLexeme.TheVariants.{Adjacent}
 use Rattle.granit_machine.specs.Columns.{closed_at}
@@ -76,6 +81,10 @@ or_right : (a b : Bool) → b ≡ true → (a || b) ≡ true
 or_right true b e = refl
 or_right false b e = e
 
+with_true : (a : Bool) → (a && true) ≡ a
+with_true true = refl
+with_true false = refl
+
 both_true : (a b : Bool) → a ≡ true → b ≡ true → (a && b) ≡ true
 both_true true b p q = q
 both_true false b p q = p
@@ -102,12 +111,21 @@ ends_here at start _ _ _ h (in_brackets {b = b} {bs = bs} {c = c} {rest = rest} 
 ends_here at start _ _ _ h (in_brackets {b = b} {bs = bs} {c = c} {rest = rest} fed m) flow e =
     ends_by at start h 0x0A (c ∷ rest) e feed_prints (λ v. feed_trails at v)
 
+-- the text is lent where nothing between the quotes is escaped
+text_between : (chars inside : List ℕ) (h : Here) → quoted_characters chars [] ≡ inside → h.unread.lends ≡ true
+    → lent_if (is_unchanged false inside) h chars ≡ between_quotes chars
+text_between chars inside h e lends =
+    ap₂ (λ (kept lends : Bool). record { characters = chars; is_borrowed = kept && lends })
+    (ap (list_all (is_kept false)) (sym e) ∙ all_itself chars) lends
+    ∙ ap (λ (lent : Bool). record { characters = chars; is_borrowed = lent })
+    (with_true (list_all stands_for_itself chars))
+
 module _ (o : OptionsData) (x : List ℕ) where
   pub takes_quoted : (bs : List Bracket) (chars g rest : List ℕ) (t : ReaderState) → Follows bs g rest
       → scalars chars ≡ true → Held x t.here
       → t.here.unread.text ≡ 0x22 ∷ quoted_characters chars (0x22 ∷ (g ++ rest)) → Calm bs t.laid
       → Fine bs t.laid.last
-      → Taken o x bs (Placed (QuoteSign false)) (Scalar DoubleQuoted (owned chars))
+      → Taken o x bs (Placed (QuoteSign false)) (Scalar DoubleQuoted (between_quotes chars))
       (0x22 ∷ quoted_characters chars (0x22 ∷ (g ++ rest))) (g ++ rest) rest false t
   takes_quoted bs chars g rest t ff s held e c f =
       let h = t.here in
@@ -117,14 +135,14 @@ module _ (o : OptionsData) (x : List ℕ) where
       let calm = calm_noded false h bs (closed_at h.place.column t.laid) (calm_closed h.place.column bs t.laid c) f in
       let layout = layout_of o h.place.column l in
       let left = 0x22 ∷ (g ++ rest) in
-      let b = between_quotes layout [] chars left tt s in
+      let b = spelled_between layout [] chars left tt s in
       let whole : h.unread.text ≡ 0x22 ∷ ((b.source ++ b.gap) ++ left) = e
       ∙ ap (λ (l : List ℕ). 0x22 ∷ l) (quoted_front chars left ∙ ap (λ (l : List ℕ). l ++ left) b.whole) in
       let p = past_all x (0x22 ∷ (b.source ++ b.gap)) left h whole held in
       let q = past_all x (0x22 ∷ []) (g ++ rest) (over (0x22 ∷ (b.source ++ b.gap)) h) p.text p.held in
       let end = quoted_end false h b.source b.gap in
       let tail = tail_of x rest g end parts st q.held q.text in
-      let read = quoted_answer false (mark_of h) chars (mark_of end) None in
+      let read = quoted_answer false h b.source b.gap chars None in
       let y = quoted_lexeme_of false (ends_column_by (Placed (QuoteSign false)) t) h l read in
       let inner = behind_lexeme Adjacent l in
       let calmly = calm_behind Adjacent bs l calm in
@@ -169,7 +187,7 @@ module _ (o : OptionsData) (x : List ℕ) where
                   (λ b ds same. shape_flow b ds l.brackets
                   (subst (λ (bs : List Bracket). Shape bs l.brackets) same calm.shape))
                   tail.text);
-              answer = ap (λ (v : List ℕ). quoted_answer false (mark_of h) v (mark_of end) None) (sym b.spells);
+              answer = ap (λ (v : List ℕ). quoted_answer false h b.source b.gap v None) (sym b.spells);
             };
             gap = in_front_of_lexeme (over bb.gap tail.after)
                 (record {
@@ -183,7 +201,8 @@ module _ (o : OptionsData) (x : List ℕ) where
             leaves = refl;
           },
         );
-        kind_is = refl;
+        kind_is = ap (λ (text : Written). Scalar DoubleQuoted text)
+            (text_between chars (b.source ++ b.gap) h b.whole held.lends);
         key_is = refl;
         tail_is = refl;
         indent_is = refl;

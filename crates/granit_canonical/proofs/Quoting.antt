@@ -4,17 +4,20 @@ use Rattle.std.proofs.Common.{◌+◌, ◌/◌, ◌<◌, ◌==◌, ◌||◌, ◌
 use Rattle.std.proofs.lemmas.Bool.{and_parts}
 use Rattle.std.proofs.lemmas.Bool.Decides.{nat_tests}
 use Rattle.std.proofs.lemmas.List.{append-nil}
+use Rattle.std.proofs.Common.{not, ◌&&◌}
+use Rattle.std.specs.List.{list_all}
 use Rattle.std.specs.Prelude.{Some, nat_le, ◌%◌}
 use lib.Utf8.{scalar, scalar_fits, scalars}
 use Rattle.granit_base.specs.Classes.{hex_value, is_blank, is_break, is_digit, is_gap, is_hex, is_printable}
 use Rattle.granit_base.specs.Classes.{is_within}
 use Rattle.granit_canonical.proofs.Fronts.{character_by, quoted_character_front}
+use Rattle.granit_canonical.specs.Canonical.{stands_for_itself}
 use Rattle.granit_lexemes.specs.Decoding.{AreDigits, Escape, digit_count, letter, letter_value, number, number_behind}
 use Rattle.granit_lexemes.specs.Decoding.{number_of}
 use Rattle.granit_lexemes.specs.Gap.{Each}
 use Rattle.granit_lexemes.specs.LayoutData.{LayoutData}
-use Rattle.granit_lexemes.specs.QuotedExtent.{Blanks, Inside, Piece, content, escape, is_literal, itself, nothing}
-use Rattle.granit_lexemes.specs.QuotedExtent.{on_line}
+use Rattle.granit_lexemes.specs.QuotedExtent.{Blanks, Inside, Piece, content, escape, itself, nothing, on_line}
+use Rattle.granit_lexemes.specs.QuotedScalar.{is_kept, is_literal}
 use Rattle.granit_model.specs.FlowText.{eight_digits, four_digits, quoted_character, quoted_characters, two_digits}
 use Rattle.granit_model.specs.FlowText.{upper_digit}
 
@@ -140,9 +143,9 @@ pub record Between (at : LayoutData) (bl text behind : List ℕ) : Type 0 where
   pub blanks : Each is_blank gap
   pub spells : value ++ gap ≡ bl ++ text
 
-pub between_quotes : (at : LayoutData) (bl text behind : List ℕ) → Each is_blank bl → scalars text ≡ true
+pub spelled_between : (at : LayoutData) (bl text behind : List ℕ) → Each is_blank bl → scalars text ≡ true
     → Between at bl text behind
-between_quotes at bl [] behind b s = record {
+spelled_between at bl [] behind b s = record {
   source = [];
   gap = bl;
   value = [];
@@ -151,10 +154,10 @@ between_quotes at bl [] behind b s = record {
   blanks = b;
   spells = sym (append-nil bl);
 }
-between_quotes at bl (c ∷ cs) behind b s =
+spelled_between at bl (c ∷ cs) behind b s =
     let more = (and_parts (scalar c) (scalars cs) s).1 in
-    by (c == 0x20) refl (between_quotes at (bl ++ 0x20 ∷ []) cs behind (one_more_blank bl b) more)
-    (between_quotes at [] cs behind tt more)
+    by (c == 0x20) refl (spelled_between at (bl ++ 0x20 ∷ []) cs behind (one_more_blank bl b) more)
+    (spelled_between at [] cs behind tt more)
   where
     by : (v : Bool) → (c == 0x20) ≡ v → Between at (bl ++ 0x20 ∷ []) cs behind → Between at [] cs behind
         → Between at bl (c ∷ cs) behind
@@ -182,3 +185,37 @@ between_quotes at bl (c ∷ cs) behind b s =
           blanks = r.blanks;
           spells = append_assoc bl (c ∷ r.value) r.gap ∙ ap (λ (l : List ℕ). bl ++ c ∷ l) r.spells;
         }
+
+-- ---- what is written as it is
+
+backslash_escapes : is_kept false 0x5C ≡ false
+unfolding is_blank is_break is_gap is_printable is_literal
+backslash_escapes = refl
+
+plain_kept : (c : ℕ) → (c == 0x22 || c == 0x5C) ≡ false → is_within 0x20 0x7E c ≡ true → is_kept false c ≡ true
+unfolding is_literal is_printable is_gap is_blank is_break
+plain_kept c e f = grind (arith, nat_tests)
+
+-- no character of an escape but the first tells more
+escape_tells : (rest : List ℕ) → list_all (is_kept false) (0x5C ∷ rest) ≡ false
+escape_tells rest = ap (λ b. b && list_all (is_kept false) rest) backslash_escapes
+
+one_itself : (quote plain byte short : Bool) (c : ℕ) (rest : List ℕ) → (c == 0x22 || c == 0x5C) ≡ quote
+    → is_within 0x20 0x7E c ≡ plain → list_all (is_kept false) (character_by quote plain byte short c rest)
+    ≡ ((plain && not quote) && list_all (is_kept false) rest)
+one_itself true true byte short c rest e f = escape_tells (c ∷ rest)
+one_itself true false byte short c rest e f = escape_tells (c ∷ rest)
+one_itself false true byte short c rest e f = ap (λ b. b && list_all (is_kept false) rest) (plain_kept c e f)
+one_itself false false true short c rest e f = escape_tells (0x78 ∷ two_digits c rest)
+one_itself false false false true c rest e f = escape_tells (0x75 ∷ four_digits c rest)
+one_itself false false false false c rest e f = escape_tells (0x55 ∷ eight_digits c rest)
+
+-- what is written for a text holds no escape where each character stands for itself
+pub all_itself : (text : List ℕ)
+    → list_all (is_kept false) (quoted_characters text []) ≡ list_all stands_for_itself text
+unfolding quoted_character
+all_itself [] = refl
+all_itself (c ∷ cs) =
+    one_itself (c == 0x22 || c == 0x5C) (is_within 0x20 0x7E c) (nat_le c 0xFF) (nat_le c 0xFFFF) c
+    (quoted_characters cs []) refl refl
+    ∙ ap (λ b. stands_for_itself c && b) (all_itself cs)

@@ -1,7 +1,11 @@
 -- The events of canonical flow text, each where its text stands in the whole. What is written before a rest begins
 -- where that text is left.
-use Rattle.std.specs.Prelude.{List, None, Option, Some, [], length, suc, true, ℕ, ◌-◌, ◌∷◌}
+use Rattle.std.specs.Prelude.{Bool, List, None, Option, Some, [], length, not, suc, true, ℕ, ◌&&◌, ◌-◌, ◌==◌, ◌||◌}
+use Rattle.std.specs.Prelude.{◌∷◌}
+use Rattle.std.specs.List.{list_all}
+use Rattle.granit_base.specs.Classes.{is_within}
 use Rattle.granit_base.specs.Place.{Mark}
+use Rattle.granit_base.specs.Written.{Written}
 use Rattle.granit_base.specs.declared.style.ScalarStyle.TheVariants.{DoubleQuoted}
 use Rattle.granit_base.specs.declared.style.StructureStyle.TheVariants.{Flow}
 use Rattle.granit_error.specs.OptionsData.{OptionsData}
@@ -9,7 +13,6 @@ use Rattle.granit_language.specs.Scope.{entry_of}
 use Rattle.granit_language.specs.Telling.{AnchorTold, TagTold, alias_told, anchor_told, number_told, span_told}
 use Rattle.granit_language.specs.Telling.{tag_told}
 use Rattle.granit_language.specs.Terminal.{text_start}
-use Rattle.granit_lexemes.specs.Basics.{owned}
 use Rattle.granit_lexemes.specs.Place.{mark_at}
 use Rattle.granit_lexemes.specs.PlainEvent.{DocumentEnd, DocumentStart, EventKind, MappingEnd, MappingStart}
 use Rattle.granit_lexemes.specs.PlainEvent.{PlainEvent, PlainTag, Scalar, SequenceEnd, SequenceStart, StreamEnd}
@@ -19,6 +22,18 @@ use Rattle.granit_model.specs.FlowText.{anchor_text, comma_unless, entries_text,
 use Rattle.granit_model.specs.FlowText.{pairs_text, quoted_characters, tag_text, tree_text}
 use Rattle.granit_model.specs.Tree.{AfterPairs, AfterTrees, AliasOf, MappingOf, NoPairs, NoTrees, PlainPairs}
 use Rattle.granit_model.specs.Tree.{PlainTree, PlainTrees, Properties, ScalarOf, SequenceOf, no_pairs, no_trees}
+
+-- a name stands in the text as it is, and is lent
+abbrev pub lent_name : List ℕ → Written
+lent_name name = record { characters = name; is_borrowed = true }
+
+-- a character that is written as it is between quotes
+abbrev pub stands_for_itself : ℕ → Bool
+stands_for_itself c = is_within 0x20 0x7E c && not (c == 0x22 || c == 0x5C)
+
+-- a text between quotes is lent where each of its characters is
+abbrev pub between_quotes : List ℕ → Written
+between_quotes text = record { characters = text; is_borrowed = list_all stands_for_itself text }
 
 -- the place in a text behind which this is left
 
@@ -66,7 +81,7 @@ past_documents (AfterTrees ts t) = past_tree t (renewed (past_documents ts))
 abbrev pub anchor_before : (x : List ℕ) → Anchors → Option (List ℕ) → (rest : List ℕ) → AnchorTold
 anchor_before x a None rest = None
 anchor_before x a (Some name) rest =
-    Some (suc a.count, owned name, stretch x (anchor_text (Some name) rest) (0x20 ∷ rest))
+    Some (suc a.count, lent_name name, stretch x (anchor_text (Some name) rest) (0x20 ∷ rest))
 
 -- and of a tag, which has no handle
 abbrev pub tag_before : (x : List ℕ) → Option (List ℕ) → (rest : List ℕ) → TagTold
@@ -95,9 +110,11 @@ abbrev mutual
   pub tree_before : OptionsData → (x : List ℕ) → PlainTree → Anchors → (rest : List ℕ) → List PlainEvent →
       List PlainEvent
   tree_before o x (AliasOf name) a rest more =
-      event_at (alias_told (owned name) (entry_of name a.names)) (stretch x (tree_text (AliasOf name) rest) rest) ∷ more
+      event_at (alias_told (lent_name name) (entry_of name a.names)) (stretch x (tree_text (AliasOf name) rest) rest)
+      ∷ more
   tree_before o x (ScalarOf p text) a rest more =
-      node_before o x a p (Scalar (owned text) DoubleQuoted) (0x22 ∷ quoted_characters text (0x22 ∷ rest)) rest more
+      node_before o x a p (Scalar (between_quotes text) DoubleQuoted) (0x22 ∷ quoted_characters text (0x22 ∷ rest)) rest
+      more
   tree_before o x (SequenceOf p entries) a rest more =
       let inside = entries_text entries (0x5D ∷ rest) in
       node_before o x a p (SequenceStart Flow) (0x5B ∷ inside) inside

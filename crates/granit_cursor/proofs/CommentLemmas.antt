@@ -1,15 +1,18 @@
 -- What a call that reads a comment gives.
 use Rattle.std.proofs.Common.{◌≡◌, ℕ, suc, ◌+◌, Bool, cond, List, [], ◌∷◌, ◌++◌, take, ◌⊎◌, Result, Ok, Err, IfOk}
-use Rattle.std.proofs.Common.{IfErr, refl, sym, ap, ◌∙◌, subst, arith}
+use Rattle.std.proofs.Common.{IfErr, refl, sym, ap, ap₂, ◌∙◌, subst, arith}
 use Rattle.std.specs.List.{prefix_len}
+use Rattle.granit_base.specs.Written.{Written}
 use Rattle.granit_error.specs.FaultKind.{NoMemory, UnexpectedCharacter}
 use Rattle.granit_error.specs.Refused.{Refused}
 use Rattle.granit_input.specs.Runs.{run_length, starts, is_line_char}
 use Rattle.granit_lexemes.specs.Comment.{is_comment_char, behind_comment, skipped_comment, comment, comment_read}
 use Rattle.granit_lexemes.specs.Comment.{CommentRead, StandsComment, Spoils, ReadsComment}
+use Rattle.granit_lexemes.specs.Basics.{as_spelled}
 use Rattle.granit_lexemes.specs.Here.{Here, next_char, step, chunk, mid_line}
 use Rattle.granit_lexemes.specs.Moves.{steps}
 use Rattle.granit_lexemes.specs.Outcome.{Fault, Fails}
+use Rattle.granit_lexemes.proofs.HereLemmas.{step_lends}
 use Rattle.granit_scalars.proofs.Nameless.{IsNameless, comment_none, skipped_none}
 use Rattle.granit_scalars.proofs.Comments.{with_text, comment_is, comment_reads}
 use Rattle.granit_cursor.specs.Reading.{GivesTo, coded}
@@ -51,12 +54,12 @@ unfolding comment
 comment_given n h after u t is behind token = ap (λ s. coded comment_token (with_text h s))
     (comment_behind n h is ∙ behind) ∙ ap (λ (v : Token). Ok (v, after)) (sym token)
 
--- what was appended to an empty text is the text of the comment
-pub text_of : (n : ℕ) (h : Here) (empty out : List ℕ) → n ≡ run_length (starts is_line_char) (step h).unread.text
-    → empty ≡ [] → out ≡ empty ++ take n (step h).unread.text → out ≡ chunk is_comment_char (step h)
-text_of n h empty out is none appended =
-    appended ∙ ap (λ (cs : List ℕ). cs ++ take n (step h).unread.text) none
-    ∙ ap (λ (m : ℕ). take m (step h).unread.text) (is ∙ run_prefix is_comment_char (step h).unread.text)
+-- what was taken behind the `#` is the text of the comment
+pub text_of : (n : ℕ) (h : Here) (text : Written) → n ≡ run_length (starts is_line_char) (step h).unread.text
+    → text ≡ as_spelled (step h) (take n (step h).unread.text) → text ≡ as_spelled h (chunk is_comment_char (step h))
+text_of n h text is taken =
+    taken ∙ ap₂ (λ (m : ℕ) (b : Bool). record { characters = take m (step h).unread.text; is_borrowed = b })
+    (is ∙ run_prefix is_comment_char (step h).unread.text) (step_lends h)
 
 -- ---- from what a call gives to what is true of it
 

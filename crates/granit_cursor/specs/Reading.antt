@@ -1,12 +1,16 @@
 -- What contracts see of a cursor, and what a reader gives for whatever is known to be left.
 use Rattle.std.specs.Prelude.{◌≡◌, ◌⊎◌, ℕ, ◌+◌, ◌≤◌, Bool, ◌&&◌, if◌then◌else◌, List, [], ◌++◌, take, Option, is_some}
 use Rattle.std.specs.Prelude.{Result, Ok, Err, IfOk, IfErr}
+use Rattle.std.specs.Borrow.{Bor}
+use Rattle.std.specs.Str.{chars}
 use Rattle.granit_base.specs.Place.{Place, Mark, Unread}
+use Rattle.granit_base.specs.Written.{Written}
 use Rattle.granit_error.specs.FaultKind.{FaultKind, NoMemory}
 use Rattle.granit_error.specs.Refused.{Refused}
 use Rattle.granit_input.specs.Chunks.{TakesFront}
 use Rattle.granit_input.specs.Origin.{Origin, Goes}
 use Rattle.granit_input.specs.Runs.{run_length}
+use Rattle.granit_lexemes.specs.Basics.{as_spelled}
 use Rattle.granit_lexemes.specs.Here.{Here, mid_line}
 use Rattle.granit_lexemes.specs.Moves.{steps}
 use Rattle.granit_lexemes.specs.Outcome.{Fault, Fails, ◌>>=◌}
@@ -108,3 +112,16 @@ pub record LendsSteps (o : Origin) (test : List ℕ → Bool) (h : Here) (lent :
   pub counted : count ≡ (if has_source o then run_length test h.unread.text else 0)
   pub text : lent ≡ take count h.unread.text
   pub lands : Lands (steps count h)
+
+-- ---- what is lent
+
+-- the part of the source that was wanted was lent, and it is this text
+abbrev pub IsLent : {E : Type 0} → Result (Bor (List ℕ)) E → List ℕ → Type 0
+IsLent (Ok part) text = chars part.now ≡ text
+IsLent (Err e) text = ⊥
+
+-- A run was taken whole, and lent where the input lends; the cursor stands behind it. A refusal is for want of memory.
+abbrev pub TakesText : (List ℕ → Bool) → Here → Result Written Refused → (Here → Type 0) → Type 0
+TakesText test h (Ok text) Lands =
+    (n : ℕ) × StepsRun test h n Lands × (text ≡ as_spelled h (take n h.unread.text))
+TakesText test h (Err e) Lands = e.kind ≡ NoMemory

@@ -1,9 +1,10 @@
 -- What the definitions give, as the code has it.
-use Rattle.std.specs.Prelude.{Bool, true, false}
+use Rattle.std.specs.Prelude.{◌≡◌, ◌⊎◌, ℕ, Bool, true, false}
 use Rattle.granit_base.specs.declared.style.Placement.{Placement}
 use Rattle.granit_base.specs.declared.style.Placement.TheVariants.{Free, Right}
 use Rattle.granit_base.specs.declared.style.ScalarStyle.{ScalarStyle}
 use Rattle.granit_base.specs.Written.{Written}
+use Rattle.granit_error.specs.FaultKind.{FaultKind, InputSlicingUnavailable, NoMemory, UnexpectedCharacter}
 use Rattle.granit_lexemes.specs.Comment.{CommentRead}
 use Rattle.granit_lexemes.specs.LayoutData.{LayoutData}
 use Rattle.granit_lexemes.specs.PlainEvent.{plain_span}
@@ -40,3 +41,8 @@ layout_data l = record {
   strict = l.strict;
   comments = l.comments;
 }
+
+-- the kinds that a comment is refused by
+abbrev pub IsCommentKind : FaultKind → Type 0
+IsCommentKind kind =
+    (kind ≡ NoMemory) ⊎ ((kind ≡ InputSlicingUnavailable) ⊎ ((c : ℕ) × (kind ≡ UnexpectedCharacter c)))

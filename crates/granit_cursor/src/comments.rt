@@ -1,13 +1,17 @@
 //! Comments are read.
 ghost use Rattle.std.specs.Prelude.{◌≡◌, ◌⊎◌, ℕ, IfOk, IfErr, []};
-ghost use Rattle.granit_error.specs.FaultKind.{NoMemory, UnexpectedCharacter};
+ghost use Rattle.granit_error.specs.FaultKind.{InputSlicingUnavailable, NoMemory, UnexpectedCharacter};
+ghost use Rattle.granit_input.specs.Runs.{starts, is_line_char};
 ghost use Rattle.granit_lexemes.specs.Comment as spec;
 ghost use Rattle.granit_lexemes.specs.Here.{Here, next_char};
 ghost use Rattle.granit_cursor.specs.Reading.{Stands, Moves, Wherever, ReadsAs, AnswersAs, RefusedFor, coded};
+ghost use Rattle.granit_cursor.specs.Reading.{Inside, TakesText};
+ghost use Rattle.granit_cursor.specs.Tokens.{IsCommentKind};
 ghost use Rattle.granit_cursor.specs.Tokens.{placed, comment_token};
 
 use crate::comment::Comment;
 use crate::cursor::Cursor;
+use crate::lending::{lending_offset, lent_since};
 use crate::token::{Token, TokenType};
 use granit_base::{Placement, Span, Text, is_printable};
 use granit_error::{ErrorKind, ScanError};
@@ -15,14 +19,14 @@ use granit_input::{BorrowedInput, Input};
 use std::alloc::Global;
 
 /// The comment that begins here with its `#`, up to the break, the end or what isn't printable
-/// (YAML 1.2.2, 6.6); the cursor then stands there. Its text is what follows the `#`, and owned; its
-/// placement is `Right` where something else than blanks and prefix marks stands before it on its line,
+/// (YAML 1.2.2, 6.6); the cursor then stands there. Its text is what follows the `#`, lent where the input
+/// lends; its placement is `Right` where something else than blanks and prefix marks stands before it on its line,
 /// else `Free`.
 ///
 /// # Errors
 ///
 /// `NoMemory`, and `UnexpectedCharacter` at the first character on the line that isn't printable. A NUL
-/// in the text is one.
+/// in the text is one. `InputSlicingUnavailable`, where the input refuses to lend what it could.
 pub fn scan_comment<'input, T: BorrowedInput<'input>>(
     alloc: Global,
     cursor: &mut Cursor<T>,
@@ -31,7 +35,7 @@ pub fn scan_comment<'input, T: BorrowedInput<'input>>(
     ensures here { ReadsAs T.unread cursor.old cursor.new result (λ h. coded comment_token (spec.comment h)) }
     ensures comment { AnswersAs T.unread cursor.old cursor.new result comment_token spec.StandsComment }
     ensures cause { RefusedFor T.unread cursor.old result spec.Spoils }
-    ensures kinds { IfErr result (λ e. (e.kind ≡ NoMemory) ⊎ ((c : ℕ) × (e.kind ≡ UnexpectedCharacter c))) }
+    ensures kinds { IfErr result (λ e. IsCommentKind e.kind) }
     ensures moves { Moves T.left T.origin cursor.old cursor.new }
 {
     read_comment(alloc, cursor)
@@ -63,23 +67,48 @@ pub fn skip_comment<'input, T: BorrowedInput<'input>>(
 ///
 /// `NoMemory`, and `UnexpectedCharacter`, as there.
 #[tactic(auto, unfolding(granit_lexemes::specs::Comment::comment, granit_lexemes::specs::Comment::skipped_comment))]
-pub fn read_comment<'input, T: Input>(
+pub fn read_comment<'input, T: BorrowedInput<'input>>(
     alloc: Global,
     cursor: &mut Cursor<T>,
 ) -> Result<Token<'input>, ScanError>
     ensures here { ReadsAs T.unread cursor.old cursor.new result (λ h. coded comment_token (spec.comment h)) }
-    ensures kinds { IfErr result (λ e. (e.kind ≡ NoMemory) ⊎ ((c : ℕ) × (e.kind ≡ UnexpectedCharacter c))) }
+    ensures kinds { IfErr result (λ e. IsCommentKind e.kind) }
     ensures moves { Moves T.left T.origin cursor.old cursor.new }
 {
     let start = cursor.mark();
     let placement = placement(!cursor.begins_line());
     cursor.step();
-    let mut text = String::new(alloc);
-    cursor.fetch_while_non_breakz(&mut text)?;
+    let text = comment_text(alloc, cursor)?;
     behind_comment(cursor)?;
-    let comment = Comment::new(Text::owned(text)).with_placement(placement);
+    let comment = Comment::new(text).with_placement(placement);
     let span = Span::new(start, cursor.mark());
     Ok(Token::new(span, TokenType::Comment(comment)))
+}
+
+/// The characters of a comment's text, lent where the input lends.
+fn comment_text<'input, T: BorrowedInput<'input>>(
+    alloc: Global,
+    cursor: &mut Cursor<T>,
+) -> Result<Text<'input>, ScanError>
+    ensures here { Wherever T.unread cursor.old cursor.new (λ h Lands.
+        TakesText (starts is_line_char) h result (Inside Lands)) }
+    ensures kinds { IfErr result (λ e. (e.kind ≡ NoMemory) ⊎ (e.kind ≡ InputSlicingUnavailable)) }
+    ensures moves { Moves T.left T.origin cursor.old cursor.new }
+{
+    match lending_offset(cursor) {
+        Some(start) => {
+            cursor.skip_while_non_breakz();
+            match lent_since(cursor, start) {
+                Ok(text) => Ok(Text::borrowed(text)),
+                Err(e) => Err(e),
+            }
+        }
+        None => {
+            let mut text = String::new(alloc);
+            cursor.fetch_while_non_breakz(&mut text)?;
+            Ok(Text::owned(text))
+        }
+    }
 }
 
 /// Where a comment stands, as far as its line tells.

@@ -269,6 +269,22 @@ impl<T: Input> Cursor<T> {
         }
     }
 
+    /// Consumes the characters that stand for themselves in quotes, up to the first other or a blank; how
+    /// many (YAML 1.2.2, 7.3.1 and 7.3.2).
+    pub fn skip_quoted(&mut self, single: bool) -> usize
+        ensures here { Wherever T.unread self.old self.new (λ h Lands.
+            StepsRun (starts (is_quoted_char single)) h result Lands) }
+        ensures takes { Takes T.left T.window self.old self.new result }
+        ensures moves { Moves T.left T.origin self.old self.new }
+    {
+        let (_, taken) = self.input.skip_run(Run::Quoted(single), usize::MAX);
+        self.index += taken;
+        self.col += taken;
+        self.begins_line = still_begins(self.begins_line, taken);
+        self.tab = still_tab(self.tab, taken);
+        taken
+    }
+
     /// Where in its source the input stands, where it has one.
     fn source_offset(&self) -> Option<usize>
         ensures { (u : place.Unread) → T.unread self.now.input u

@@ -5,6 +5,7 @@ mod comment;
 mod comments;
 mod cursor;
 mod layout;
+mod lending;
 mod moves;
 mod token;
 
@@ -12,6 +13,7 @@ pub use comment::Comment;
 pub use comments::{pass_comment, read_comment, scan_comment, skip_comment};
 pub use cursor::Cursor;
 pub use layout::Layout;
+pub use lending::{lending_offset, lent_since};
 pub use moves::{drop_blanks, past_blanks, past_break};
 pub use token::{Lexed, Token, TokenType};
 

@@ -107,6 +107,20 @@ fn comment_at<'a>(alloc: Global, cursor: &mut Cursor<StrInput<'a>>) -> Option<To
     scan_comment(alloc, cursor).ok()
 }
 
+/// Whether the text of a comment is lent.
+fn is_lent(alloc: Global, token: &Option<Token<'_>>) -> bool {
+    let Some(token) = token else {
+        return false;
+    };
+    match token.token_type() {
+        TokenType::Comment(comment) => match comment.try_clone(alloc) {
+            Ok(copy) => copy.into_text().is_borrowed(),
+            Err(_) => false,
+        },
+        _ => false,
+    }
+}
+
 /// The number of the kind by which a comment is refused, and the index of its mark.
 fn refused(cursor: &mut Cursor<StrInput<'_>>) -> Option<(u8, usize)> {
     cursor.look(1);
@@ -134,6 +148,7 @@ fn comments_tell_whether_they_are_right(rt: HostRuntime) {
         };
         let comment = Comment::new(Text::borrowed(text)).with_placement(placement);
         let span = Span::new(Marker::new(2, 1, 2), Marker::new(5, 1, 5));
+        assert_eq!(rt; is_lent(rt.alloc(), &token), true);
         assert_eq!(rt;
             token == Some(Token::new(span, TokenType::Comment(comment))),
             true

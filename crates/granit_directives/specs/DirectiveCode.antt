@@ -13,7 +13,7 @@ use Rattle.granit_error.specs.FaultKind.{MissingYamlVersionSeparator, YamlVersio
 use Rattle.granit_error.specs.FaultKind.{ExpectedTagDirectiveBang, InvalidGlobalTagCharacter}
 use Rattle.granit_error.specs.FaultKind.{InvalidTagDirectiveTerminator, InvalidTagEscape, InvalidTagUtf8LeadingByte}
 use Rattle.granit_error.specs.FaultKind.{InvalidTagUtf8TrailingByte, InvalidTagUtf8, CommentNotSeparated}
-use Rattle.granit_error.specs.FaultKind.{UnexpectedCharacter}
+use Rattle.granit_error.specs.FaultKind.{InputSlicingUnavailable, UnexpectedCharacter}
 use Rattle.granit_lexemes.specs.Basics.{owned}
 use Rattle.granit_lexemes.specs.Comment.{CommentRead, comment}
 use Rattle.granit_lexemes.specs.Directive.{DirectiveRead, directive_tail}
@@ -50,6 +50,7 @@ asked_tail comments kind h = directive_tail kind h >>= λ x. Ok (noted_if commen
 -- the kinds that a directive is refused by
 abbrev pub IsDirectiveKind : FaultKind → Type 0
 IsDirectiveKind NoMemory = Unit {0}
+IsDirectiveKind InputSlicingUnavailable = Unit {0}
 IsDirectiveKind DirectiveDisallowed = Unit {0}
 IsDirectiveKind MissingDirectiveName = Unit {0}
 IsDirectiveKind InvalidDirectiveName = Unit {0}

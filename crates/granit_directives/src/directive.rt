@@ -9,6 +9,7 @@ ghost use Rattle.granit_lexemes.specs.Directive as spec;
 ghost use Rattle.granit_lexemes.specs.DirectiveExtent as extent;
 ghost use Rattle.granit_lexemes.specs.Here.{Here, mark_of, next_char};
 ghost use Rattle.granit_lexemes.specs.Lexeme.{DirectiveKind};
+ghost use Rattle.granit_names.specs.FirstCause.{DirectiveCause};
 ghost use Rattle.granit_directives.specs.DirectiveCode.{IsDirectiveKind, directive_lexed, kind_type};
 ghost use Rattle.granit_properties.specs.UriCode.{budget_of};
 
@@ -24,7 +25,8 @@ use granit_input::{BorrowedInput, Input};
 use std::alloc::Global;
 
 /// The directive that begins here with its `%`, with the comment behind it, where comments are asked for; its
-/// texts are owned, and the cursor then stands in front of its line's end (YAML 1.2.2, 6.8).
+/// texts are owned, the comment's is lent where the input lends, and the cursor then stands in front of its
+/// line's end (YAML 1.2.2, 6.8).
 ///
 /// # Errors
 ///
@@ -35,6 +37,7 @@ use std::alloc::Global;
 /// `InvalidDirectiveTerminator` for what is no line's end. At the name: `MissingDirectiveName` and
 /// `InvalidDirectiveName`. At either: `DirectiveByteLimitExceeded`. At the `#`: `CommentNotSeparated`. At
 /// the character: `UnexpectedCharacter` for one in the comment that isn't printable.
+/// `InputSlicingUnavailable`, where the input refuses to lend what it could.
 pub fn scan_directive<'input, T: BorrowedInput<'input>>(
     alloc: Global,
     cursor: &mut Cursor<T>,
@@ -45,7 +48,7 @@ pub fn scan_directive<'input, T: BorrowedInput<'input>>(
         (λ h. coded (directive_lexed options.now.emit_comments) (spec.directive (options_of options.now) h)) }
     ensures directive { AnswersAs T.unread cursor.old cursor.new result
         (directive_lexed options.now.emit_comments) (extent.AnswersDirective (options_of options.now)) }
-    ensures cause { RefusedFor T.unread cursor.old result (extent.RefusesDirective (options_of options.now)) }
+    ensures cause { RefusedFor T.unread cursor.old result (DirectiveCause (options_of options.now)) }
     ensures answered { (h : Here) (read : spec.DirectiveRead) (after : Here) → Stands T.unread cursor.old h
         → extent.AnswersDirective (options_of options.now) h read after
         → IfErr result (λ e. e.kind ≡ OutOfMemory) }
@@ -56,7 +59,7 @@ pub fn scan_directive<'input, T: BorrowedInput<'input>>(
 }
 
 #[tactic(auto, unfolding(granit_lexemes::specs::Directive::directive, granit_lexemes::specs::Directive::directive_up_to))]
-fn read_directive<'input, T: Input>(
+fn read_directive<'input, T: BorrowedInput<'input>>(
     alloc: Global,
     cursor: &mut Cursor<T>,
     options: &Options,

@@ -8,12 +8,12 @@ ghost use Rattle.granit_lexemes.specs.Lexeme.{DirectiveKind};
 use crate::words::count_blanks;
 use granit_cursor::{Cursor, Token, pass_comment, read_comment};
 use granit_error::{ErrorKind, ScanError};
-use granit_input::Input;
+use granit_input::{BorrowedInput, Input};
 use std::alloc::Global;
 
 /// The comment that begins here, where comments are asked for.
 #[tactic(auto, unfolding(granit_lexemes::specs::Comment::comment))]
-fn comment_here<'input, T: Input>(
+fn comment_here<'input, T: BorrowedInput<'input>>(
     alloc: Global,
     cursor: &mut Cursor<T>,
     comments: bool,
@@ -39,7 +39,7 @@ fn begins_at_once(reserved: bool, c: char) -> bool
 
 /// The comment behind a directive, which blanks must part from it unless they are part of it.
 #[tactic(auto, unfolding(granit_lexemes::specs::Directive::directive_tail, granit_lexemes::specs::Tail::tail_behind))]
-pub(crate) fn directive_tail<'input, T: Input>(
+pub(crate) fn directive_tail<'input, T: BorrowedInput<'input>>(
     alloc: Global,
     cursor: &mut Cursor<T>,
     reserved: bool,

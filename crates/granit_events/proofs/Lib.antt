@@ -1,7 +1,9 @@
 pub mod AnswerLemmas
 pub mod Known
 pub mod NumberLemmas
+pub mod PlaceLemmas
 pub mod PushLemmas
+pub mod QuotingLemmas
 pub mod Reaching
 pub mod RunLemmas
 pub mod UnderstoodLemmas

@@ -1,20 +1,26 @@
 -- What the laws of the plain machine say of a run.
-use Rattle.std.proofs.Common.{◌≡◌, ℕ, List, refl, sym, ap, ◌∙◌, subst, Option, Some, Result, Err, ◌⊎◌, inl, inr}
+use Rattle.std.proofs.Common.{◌≡◌, ℕ, List, refl, sym, ap, ◌∙◌, subst, Option, Some, Result, Ok, Err, ◌⊎◌, inl, inr}
 use Rattle.std.specs.Str.{chars}
 use Rattle.std.specs.Io.KnownBytes.{Appends}
-use Rattle.granit_answers.proofs.Caused.{answered_by, refused_by}
-use Rattle.granit_answers.proofs.CommentsCaused.{any_fault_caused, comments_answered}
-use Rattle.granit_answers.proofs.OneCause.{answer_reads, reading_answered}
+use Rattle.granit_answers.proofs.CommentsCaused.{any_fault_caused}
+use Rattle.granit_answers.proofs.OneCause.{answer_reads, cause_answered, reading_answered}
 use Rattle.granit_base.specs.Written.{Written}
+use Rattle.granit_before.proofs.CauseSaid.{cause_declared, declared_cause}
+use Rattle.granit_before.proofs.ReadingSaid.{answer_declared, declared_answer}
+use Rattle.granit_canonical.proofs.Laws.{canonical_is_read}
+use Rattle.granit_comments.proofs.Told.{comments_told}
+use Rattle.granit_comments.proofs.Unasked.{told_unasked}
+use Rattle.granit_json.proofs.Laws.{json_answered}
 use Rattle.granit_error.specs.OptionsData.{OptionsData}
-use Rattle.granit_language.specs.TextFault.{WholeCause}
-use Rattle.granit_lexemes.specs.Line.{fault_line}
+use Rattle.granit_lexemes.specs.Line.{event_lines, fault_line}
 use Rattle.granit_lexemes.specs.Outcome.{Fault}
 use Rattle.granit_lexemes.specs.PlainEvent.{PlainEvent}
+use Rattle.granit_machine.specs.Machine.{run}
 use Rattle.granit_events.specs.Came.{CameWhole}
 use Rattle.granit_events.specs.Ended.{Ended, Fixes, CallsFor, IsOrYields, machine_answer}
 use Rattle.granit_events.specs.Output.{WholeOutput}
-use Rattle.granit_events.specs.Understood.{PrintsReading, PrintsFault, PrintsCause, CanRead, HasCause, IsSameCause}
+use Rattle.granit_events.specs.Understood.{PrintsReading, PrintsFault, CanRead, HasCause, HasEvents, HasKnownEvents}
+use Rattle.granit_events.specs.Understood.{of_trees, of_json}
 use Rattle.granit_events.specs.Words.{spelled}
 use Rattle.granit_events.proofs.RunLemmas.{whole_bytes}
 use Rattle.granit_events.proofs.WordLemmas.{say_one}
@@ -34,7 +40,9 @@ module _ (words : List Written) (left now written after : Option (List ℕ)) whe
         came = c.2.1;
         utf8 = c.2.2.0;
         events = answer.0;
-        reading = answer_reads c.0 (chars c.2.0) answer.0 answer.1;
+        reading = answer_declared c.0 (chars c.2.0) answer.0 (answer_reads c.0 (chars c.2.0) answer.0 answer.1);
+        comments = comments_told c.0 (chars c.2.0) answer.0 answer.1;
+        uncommented = told_unasked c.0 (chars c.2.0) answer.0 answer.1;
         wrote = subst (λ (output : List ℕ). Appends written after output) answer.2 w.wrote;
       }
 
@@ -50,7 +58,7 @@ module _ (words : List Written) (left now written after : Option (List ℕ)) whe
         came = c.2.1;
         utf8 = c.2.2.0;
         fault = answer.0;
-        cause = any_fault_caused c.0 (chars c.2.0) answer.0 answer.1;
+        cause = cause_declared c.0 (chars c.2.0) answer.0 (any_fault_caused c.0 (chars c.2.0) answer.0 answer.1);
         wrote = subst (λ (output : List ℕ). Appends written after output) answer.2 w.wrote;
       }
 
@@ -68,7 +76,7 @@ module _ (words : List Written) (left now written after : Option (List ℕ)) whe
 pub calls_for_done : (words : List Written) (left : Option (List ℕ)) → (r : CanRead words left)
     → CallsFor words r.bytes status.Done
 calls_for_done words left r =
-    let a = r.reading in
+    let a = declared_answer r.options (chars r.bytes) r.events r.reading in
     let h = reading_answered r.options (chars r.bytes) a.items a.state a.tree_events a.are_read a.to_end a.reading
     a.none in
     (r.options, r.said, r.fits, r.utf8, (h.0, h.1))
@@ -82,41 +90,33 @@ wanted_or_memory status.WriteFault wanted source sink y r w a b = absurd (b (w r
 wanted_or_memory status.NoMemory wanted source sink y r w a b = inr refl
 wanted_or_memory s wanted source sink y r w a b = inl y
 
--- a text with a cause is refused with it, or for another of reading at its place
-cause_answer : (o : OptionsData) (bytes : List ℕ) (f : Fault) → WholeCause o (chars bytes) f
-    → (g : Fault) × (machine_answer o bytes ≡ Err g) × IsSameCause o bytes f g
-cause_answer o bytes f (inl c) = (f, answered_by o (chars bytes) f c, inl refl)
-cause_answer o bytes f (inr (inl c)) = let h = refused_by o (chars bytes) f c in (h.0, h.1, inr (c, h.2))
-cause_answer o bytes f (inr (inr c)) = (f, comments_answered o (chars bytes) f c, inl refl)
-
+-- a text with a cause is refused with it
 module _ (words : List Written) (left now written after : Option (List ℕ)) (f : Fault) (h : HasCause words left f) where
+  refused_answer : machine_answer h.options h.bytes ≡ Err f
+  refused_answer =
+      cause_answered h.options (chars h.bytes) f (declared_cause h.options (chars h.bytes) f h.cause)
+
   refused_calls : CallsFor words h.bytes status.Fault
   refused_calls =
-      let answer = cause_answer h.options h.bytes f h.cause in
-      (h.options, h.said, h.fits, h.utf8, (answer.0, answer.1))
+      (h.options, h.said, h.fits, h.utf8, (f, refused_answer))
 
-  refused_line : WholeOutput (Ended words left now) written after status.Fault
-      → PrintsCause h.options h.bytes f written after
+  refused_line : WholeOutput (Ended words left now) written after status.Fault → Appends written after (fault_line f)
   refused_line w =
       let c = w.called in
       let answer = c.2.2.1 in
-      let cause = cause_answer h.options h.bytes f h.cause in
       let same = whole_bytes h.bytes c.2.0 now (subst (λ (o : Option (List ℕ)). CameWhole o now c.2.0) h.told c.2.1) in
       let said = say_one (spelled words) h.options c.0 h.said c.1 in
-      let given : machine_answer c.0 c.2.0 ≡ Err cause.0 =
-      subst (λ (o : OptionsData). machine_answer o c.2.0 ≡ Err cause.0) said
-      (subst (λ (bytes : List ℕ). machine_answer h.options bytes ≡ Err cause.0) same cause.1) in
-      let both : ◌≡◌ {A = Result (List PlainEvent) Fault} (Err answer.0) (Err cause.0) = sym answer.1 ∙ given in
-      let that : answer.0 ≡ cause.0 = cc in (
-        cause.0,
-        cause.2,
-        subst (λ (output : List ℕ). Appends written after output)
-            (answer.2 ∙ ap fault_line that) w.wrote,
-      )
+      let given : machine_answer c.0 c.2.0 ≡ Err f =
+      subst (λ (o : OptionsData). machine_answer o c.2.0 ≡ Err f) said
+      (subst (λ (bytes : List ℕ). machine_answer h.options bytes ≡ Err f) same
+      refused_answer) in
+      let both : ◌≡◌ {A = Result (List PlainEvent) Fault} (Err answer.0) (Err f) = sym answer.1 ∙ given in
+      let that : answer.0 ≡ f = cc in
+      subst (λ (output : List ℕ). Appends written after output) (answer.2 ∙ ap fault_line that) w.wrote
 
   refused_or_memory : (s : Status) → (Fixes s → WholeOutput (Ended words left now) written after s)
       → (s ≡ status.Fault) ⊎ (s ≡ status.NoMemory)
-      → ((s ≡ status.Fault) × PrintsCause h.options h.bytes f written after) ⊎ (s ≡ status.NoMemory)
+      → ((s ≡ status.Fault) × Appends written after (fault_line f)) ⊎ (s ≡ status.NoMemory)
   refused_or_memory s w (inl e) = inl (
     e,
     refused_line
@@ -129,6 +129,51 @@ module _ (words : List Written) (left now written after : Option (List ℕ)) (f 
       (s : Status) (source sink : Type 0) → (Fixes s → WholeOutput (Ended words left now) written after s)
       → ((bytes : List ℕ) (wanted : Status) → left ≡ Some bytes → CallsFor words bytes wanted → IsOrYields wanted s)
       → (s ≡ status.ReadFault → source) → (s ≡ status.WriteFault → sink) → (source → ⊥) → (sink → ⊥)
-      → ((s ≡ status.Fault) × PrintsCause h.options h.bytes f written after) ⊎ (s ≡ status.NoMemory)
+      → ((s ≡ status.Fault) × Appends written after (fault_line f)) ⊎ (s ≡ status.NoMemory)
   refused_run s source sink w y r u a b = refused_or_memory s w
       (wanted_or_memory s status.Fault source sink (y h.bytes status.Fault h.told refused_calls) r u a b)
+
+known_answer : (o : OptionsData) (x : List ℕ) (es : List PlainEvent) → HasKnownEvents o x es → run o x ≡ Ok es
+known_answer o x es (of_trees ts fits written deep is e) =
+    ap (run o) is ∙ canonical_is_read o ts fits written deep ∙ ap Ok (sym e)
+known_answer o x es (of_json t d printable deep near e) =
+    json_answered o x t d printable deep near ∙ ap Ok (sym e)
+
+-- what is canonical text or JSON text is answered with its events
+module _ (words : List Written) (left now written after : Option (List ℕ)) (es : List PlainEvent)
+    (h : HasEvents words left es) where
+  known_calls : CallsFor words h.bytes status.Done
+  known_calls =
+      (h.options, h.said, h.fits, h.utf8, (es, known_answer h.options (chars h.bytes) es h.known))
+
+  known_lines : WholeOutput (Ended words left now) written after status.Done → Appends written after (event_lines es)
+  known_lines w =
+      let c = w.called in
+      let answer = c.2.2.1 in
+      let same = whole_bytes h.bytes c.2.0 now (subst (λ (o : Option (List ℕ)). CameWhole o now c.2.0) h.told c.2.1) in
+      let said = say_one (spelled words) h.options c.0 h.said c.1 in
+      let given : machine_answer c.0 c.2.0 ≡ Ok es =
+      subst (λ (o : OptionsData). machine_answer o c.2.0 ≡ Ok es) said
+      (subst (λ (bytes : List ℕ). machine_answer h.options bytes ≡ Ok es) same
+      (known_answer h.options (chars h.bytes) es h.known)) in
+      let both : ◌≡◌ {A = Result (List PlainEvent) Fault} (Ok answer.0) (Ok es) = sym answer.1 ∙ given in
+      let that : answer.0 ≡ es = cc in
+      subst (λ (output : List ℕ). Appends written after output) (answer.2 ∙ ap event_lines that) w.wrote
+
+  known_or_memory : (s : Status) → (Fixes s → WholeOutput (Ended words left now) written after s)
+      → (s ≡ status.Done) ⊎ (s ≡ status.NoMemory)
+      → ((s ≡ status.Done) × Appends written after (event_lines es)) ⊎ (s ≡ status.NoMemory)
+  known_or_memory s w (inl e) = inl (
+    e,
+    known_lines (subst (λ (t : Status). Fixes t → WholeOutput (Ended words left now) written after t) e w tt),
+  )
+  known_or_memory s w (inr e) = inr e
+
+  -- their lines are printed, where no count rose
+  pub known_run :
+      (s : Status) (source sink : Type 0) → (Fixes s → WholeOutput (Ended words left now) written after s)
+      → ((bytes : List ℕ) (wanted : Status) → left ≡ Some bytes → CallsFor words bytes wanted → IsOrYields wanted s)
+      → (s ≡ status.ReadFault → source) → (s ≡ status.WriteFault → sink) → (source → ⊥) → (sink → ⊥)
+      → ((s ≡ status.Done) × Appends written after (event_lines es)) ⊎ (s ≡ status.NoMemory)
+  known_run s source sink w y r u a b = known_or_memory s w
+      (wanted_or_memory s status.Done source sink (y h.bytes status.Done h.told known_calls) r u a b)

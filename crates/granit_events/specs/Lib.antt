@@ -5,6 +5,7 @@ pub mod Ended
 pub mod Inputs
 pub mod Memory
 pub mod Output
+pub mod Pieces
 pub mod Ran
 pub mod Understood
 pub mod Words

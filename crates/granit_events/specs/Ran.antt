@@ -1,12 +1,14 @@
 -- What a run does with words, a source and a sink.
 use Rattle.std.specs.Prelude.{◌≡◌, ◌⊎◌, ℕ, List, Option, Some}
-use Rattle.std.specs.Io.KnownBytes.{IsAtEnd, Keeps}
+use Rattle.std.specs.Io.KnownBytes.{Appends, IsAtEnd, Keeps}
 use Rattle.granit_base.specs.Written.{Written}
+use Rattle.granit_lexemes.specs.Line.{event_lines, fault_line}
 use Rattle.granit_lexemes.specs.Outcome.{Fault}
+use Rattle.granit_lexemes.specs.PlainEvent.{PlainEvent}
 use Rattle.granit_events.specs.Counts.{Rose}
 use Rattle.granit_events.specs.Ended.{AreRight, AreWrongAt, CallsFor, Ended, Fixes, IsOrYields, ReadsAll}
 use Rattle.granit_events.specs.Output.{CutOutput, WholeOutput}
-use Rattle.granit_events.specs.Understood.{CanRead, HasCause, PrintsCause, PrintsFault, PrintsReading}
+use Rattle.granit_events.specs.Understood.{CanRead, HasCause, HasEvents, PrintsFault, PrintsReading}
 use Rattle.granit_events.specs.declared.status.Status.{Status}
 use Rattle.granit_events.specs.declared.status.Status.TheVariants as status
 
@@ -46,10 +48,15 @@ pub record Ran (words : List Written) (source source_after sink sink_after : End
   -- what was printed is so of the text under the options that the words say
   pub read : ended_as ≡ status.Done → PrintsReading words source.bytes source_after.bytes sink.bytes sink_after.bytes
   pub caused : ended_as ≡ status.Fault → PrintsFault words source.bytes source_after.bytes sink.bytes sink_after.bytes
-  -- where neither end told a fault, a text with a reading is answered, and one with a cause is refused with it
+  -- where neither end told a fault, a text with a reading is answered, and one with a cause is refused with its line
   pub answered : CanRead words source.bytes → AreQuiet source source_after sink sink_after
       → (ended_as ≡ status.Done) ⊎ (ended_as ≡ status.NoMemory)
   pub refused :
-      (f : Fault) → (h : HasCause words source.bytes f) → AreQuiet source source_after sink sink_after
-      → ((ended_as ≡ status.Fault) × PrintsCause h.options h.bytes f sink.bytes sink_after.bytes)
+      (f : Fault) → HasCause words source.bytes f → AreQuiet source source_after sink sink_after
+      → ((ended_as ≡ status.Fault) × Appends sink.bytes sink_after.bytes (fault_line f))
+      ⊎ (ended_as ≡ status.NoMemory)
+  -- and what is canonical text of trees, or JSON text of a value, with the lines of their events
+  pub known :
+      (es : List PlainEvent) → HasEvents words source.bytes es → AreQuiet source source_after sink sink_after
+      → ((ended_as ≡ status.Done) × Appends sink.bytes sink_after.bytes (event_lines es))
       ⊎ (ended_as ≡ status.NoMemory)

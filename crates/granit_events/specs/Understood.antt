@@ -1,19 +1,29 @@
 -- What the statuses Done and Fault say of the text itself, under the options that the words say.
-use Rattle.std.specs.Prelude.{◌≡◌, ◌⊎◌, ℕ, ◌≤◌, List, length, Option, Some}
+use Rattle.std.specs.Prelude.{◌≡◌, ℕ, ◌≤◌, List, length, Option, Some}
 use Rattle.std.specs.Io.KnownBytes.{Appends}
 use Rattle.std.specs.Str.{chars, IsUtf8}
-use Rattle.granit_answers.specs.Answers.{AnswersReading}
+use Rattle.granit_base.specs.Classes.{is_printable}
 use Rattle.granit_base.specs.Written.{Written}
+use Rattle.granit_before.specs.DeclaredCause.{DeclaredCause}
+use Rattle.granit_before.specs.DeclaredReading.{DeclaredReading}
+use Rattle.granit_canonical.specs.Canonical.{canonical_events}
+use Rattle.granit_comments.specs.TextComments.{TellsComments, ToldUnasked}
 use Rattle.granit_error.specs.OptionsData.{OptionsData}
-use Rattle.granit_language.specs.TextFault.{OfReading, WholeCause}
+use Rattle.granit_json.specs.Json.{Json, depth}
+use Rattle.granit_json.specs.JsonEvents.{json_events}
+use Rattle.granit_json.specs.JsonText.{JsonText, NamesFit}
+use Rattle.granit_lexemes.specs.Gap.{Each}
 use Rattle.granit_lexemes.specs.Line.{event_lines, fault_line}
 use Rattle.granit_lexemes.specs.Outcome.{Fault}
 use Rattle.granit_lexemes.specs.PlainEvent.{PlainEvent}
+use Rattle.granit_model.specs.Characters.{HasCharacters}
+use Rattle.granit_model.specs.FlowText.{flow_characters}
+use Rattle.granit_model.specs.Tree.{DocumentsFit, PlainTrees, trees_depth}
 use Rattle.granit_events.specs.Came.{most_bytes, CameWhole}
 use Rattle.granit_events.specs.Ended.{SayOptions}
 
 -- All bytes came, they are UTF-8, and what was written are the lines of events that are, comments aside, those of the
--- one reading of the text.
+-- one reading of the text, with exactly its comments where these are asked for, and the same but for them else.
 pub record PrintsReading (words : List Written) (left now : Option (List ℕ)) (written after : Option (List ℕ)) : Type
     0 where
   pub options : OptionsData
@@ -22,7 +32,9 @@ pub record PrintsReading (words : List Written) (left now : Option (List ℕ)) (
   pub came : CameWhole left now bytes
   pub utf8 : IsUtf8 bytes
   pub events : List PlainEvent
-  pub reading : AnswersReading options (chars bytes) events
+  pub reading : DeclaredReading options (chars bytes) events
+  pub comments : TellsComments options (chars bytes) events
+  pub uncommented : ToldUnasked options (chars bytes) events
   pub wrote : Appends written after (event_lines events)
 
 -- All bytes came, they are UTF-8, and what was written is the line of a fault that is a cause of the text.
@@ -34,7 +46,7 @@ pub record PrintsFault (words : List Written) (left now : Option (List ℕ)) (wr
   pub came : CameWhole left now bytes
   pub utf8 : IsUtf8 bytes
   pub fault : Fault
-  pub cause : WholeCause options (chars bytes) fault
+  pub cause : DeclaredCause options (chars bytes) fault
   pub wrote : Appends written after (fault_line fault)
 
 -- the words are right, and a source has the UTF-8 of a text left that has a reading, within the limit of an input
@@ -46,7 +58,7 @@ pub record CanRead (words : List Written) (left : Option (List ℕ)) : Type 0 wh
   pub fits : length bytes ≤ most_bytes
   pub utf8 : IsUtf8 bytes
   pub events : List PlainEvent
-  pub reading : AnswersReading options (chars bytes) events
+  pub reading : DeclaredReading options (chars bytes) events
 
 -- the words are right, and a source has the UTF-8 of a text left that has that cause, within the limit of an input
 pub record HasCause (words : List Written) (left : Option (List ℕ)) (f : Fault) : Type 0 where
@@ -56,12 +68,21 @@ pub record HasCause (words : List Written) (left : Option (List ℕ)) (f : Fault
   pub told : left ≡ Some bytes
   pub fits : length bytes ≤ most_bytes
   pub utf8 : IsUtf8 bytes
-  pub cause : WholeCause options (chars bytes) f
+  pub cause : DeclaredCause options (chars bytes) f
 
--- a fault is that one, or both are why a text can't be read on from one place
-abbrev pub IsSameCause : OptionsData → List ℕ → Fault → Fault → Type 0
-IsSameCause o bytes f g = (g ≡ f) ⊎ (OfReading o (chars bytes) f × OfReading o (chars bytes) g)
+-- the events of a text that is canonical text of trees, or JSON text of a value
+pub data HasKnownEvents (o : OptionsData) (x : List ℕ) (es : List PlainEvent) : Type 0 where
+  of_trees : (ts : PlainTrees) → DocumentsFit ts → HasCharacters ts → trees_depth ts ≤ o.flow_nesting_limit
+      → x ≡ flow_characters ts → es ≡ canonical_events o ts → HasKnownEvents o x es
+  of_json : (t : Json) (d : JsonText x t) → Each is_printable x → depth t ≤ o.flow_nesting_limit
+      → NamesFit o.simple_key_max_lookahead d → es ≡ json_events x d → HasKnownEvents o x es
 
--- the line of a cause was written, or of another of reading at its place
-abbrev pub PrintsCause : OptionsData → List ℕ → Fault → (written after : Option (List ℕ)) → Type 0
-PrintsCause o bytes f written after = (g : Fault) × IsSameCause o bytes f g × Appends written after (fault_line g)
+-- the words are right, and a source has the UTF-8 of such a text left, within the limit of an input
+pub record HasEvents (words : List Written) (left : Option (List ℕ)) (es : List PlainEvent) : Type 0 where
+  pub options : OptionsData
+  pub said : SayOptions words options
+  pub bytes : List ℕ
+  pub told : left ≡ Some bytes
+  pub fits : length bytes ≤ most_bytes
+  pub utf8 : IsUtf8 bytes
+  pub known : HasKnownEvents options (chars bytes) es

@@ -8,10 +8,12 @@ mod input;
 mod lines;
 mod memory;
 mod outside;
+mod places;
 mod plain;
 mod printing;
 #[cfg(test)]
 mod printing_tests;
+mod quoting;
 mod reading;
 mod running;
 mod saying;

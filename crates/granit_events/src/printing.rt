@@ -7,9 +7,9 @@ ghost use Rattle.granit_lexemes.specs.Line as line;
 ghost use Rattle.granit_lexemes.specs.PlainEvent as plain;
 ghost use Rattle.granit_event.specs.Events.{event_kind, plain_event, plain_version};
 
-use granit_base::{
-    Marker, NoMemory, Placement, ScalarStyle, Span, StructureStyle, Text, split_first_char,
-};
+use crate::places::push_span;
+use crate::quoting::push_in_quotes;
+use granit_base::{NoMemory, Placement, ScalarStyle, Span, StructureStyle, Text};
 use granit_event::{Event, Tag, YamlVersion};
 use itoa::Buffer;
 
@@ -19,61 +19,6 @@ pub fn push_number(out: &mut String, n: usize) -> Result<(), NoMemory>
 {
     let mut digits = Buffer::new();
     out.push_str(digits.format(n))?;
-    Ok(())
-}
-
-/// A place, as `index:line:column`, the column from 1.
-fn push_place(out: &mut String, mark: &Marker) -> Result<(), NoMemory>
-    ensures { OnOk result (string_bytes out.new ≡ string_bytes out.old ++ line.place_line mark.now.place) }
-{
-    push_number(out, mark.index())?;
-    out.push_str(":")?;
-    push_number(out, mark.line())?;
-    out.push_str(":")?;
-    push_number(out, mark.col().saturating_add(1))
-}
-
-/// A character between quotes.
-#[tactic(auto, unfolding(granit_lexemes::specs::Line::quoted_char))]
-fn push_quoted_char(out: &mut String, c: char) -> Result<(), NoMemory>
-    ensures { OnOk result (string_bytes out.new ≡ string_bytes out.old ++ line.quoted_char c) }
-{
-    match c {
-        '"' | '\\' => {
-            out.push('\\')?;
-            out.push(c)?;
-        }
-        ' '..='~' => out.push(c)?,
-        '\n' => out.push_str("\\n")?,
-        '\r' => out.push_str("\\r")?,
-        '\t' => out.push_str("\\t")?,
-        _ => {
-            let code = c as u32;
-            write!(out, "\\u{{{code:x}}}")?;
-        }
-    }
-    Ok(())
-}
-
-/// A text between quotes, without them.
-fn push_quoted(out: &mut String, text: &str) -> Result<(), NoMemory>
-    ensures { OnOk result (string_bytes out.new ≡ string_bytes out.old ++ line.quoted_text (chars text.now)) }
-{
-    let mut rest = text;
-    'characters: while let Some((c, after)) = split_first_char(rest) {
-        push_quoted_char(out, c)?;
-        rest = after;
-    }
-    Ok(())
-}
-
-/// A text in its quotes.
-fn push_in_quotes(out: &mut String, text: &str) -> Result<(), NoMemory>
-    ensures { OnOk result (string_bytes out.new ≡ string_bytes out.old ++ line.in_quotes (chars text.now)) }
-{
-    out.push_str("\"")?;
-    push_quoted(out, text)?;
-    out.push_str("\"")?;
     Ok(())
 }
 
@@ -283,10 +228,5 @@ pub fn push_line(out: &mut String, event: &Event, span: &Span) -> Result<(), NoM
         ≡ string_bytes out.old ++ line.event_line (plain_event (event.now, span.now))) }
 {
     push_event(out, event)?;
-    out.push_str(" ")?;
-    push_place(out, &span.start)?;
-    out.push_str("-")?;
-    push_place(out, &span.end)?;
-    out.push_str("\n")?;
-    Ok(())
+    push_span(out, span)
 }

@@ -1,7 +1,9 @@
 -- Each lexeme and each comment is shown from a place to one that is no earlier.
 use Rattle.std.proofs.Common.{◌≡◌, ℕ, zero, suc, ◌≤◌, Bool, true, false, List, [], ◌∷◌, ◌++◌, length, Option, Some}
-use Rattle.std.proofs.Common.{None, if◌then◌else◌, inl, inr, sym, ap, subst, arith}
+use Rattle.std.proofs.Common.{None, if◌then◌else◌, inl, inr, sym, ap, subst, arith, ◌==◌, Ok, ◌∙◌}
+use Rattle.std.proofs.lemmas.Bool.Decides.{nat_tests}
 use Rattle.granit_base.specs.Place.{Mark, first}
+use Rattle.granit_base.specs.PlainContent.{is_content}
 use Rattle.granit_blocks.proofs.BlockSpans.{Reaches, block_reaches, body_reaches}
 use Rattle.granit_error.specs.OptionsData.{OptionsData}
 use Rattle.granit_language.specs.Reached.{Reads, of_comment, of_lexeme, Reached, stops, goes_on}
@@ -16,12 +18,12 @@ use Rattle.granit_lexemes.specs.Directive.{DirectiveRead}
 use Rattle.granit_lexemes.specs.DirectiveExtent.{DirectiveLineEnds, AnswersDirective}
 use Rattle.granit_lexemes.specs.DirectiveExtent as lines
 use Rattle.granit_lexemes.specs.HeaderExtent.{LexemeTail, commented, uncommented}
-use Rattle.granit_lexemes.specs.Here.{Here, mark_of, step}
+use Rattle.granit_lexemes.specs.Here.{Here, mark_of, step, text_len}
 use Rattle.granit_lexemes.specs.LayoutData.{LayoutData}
 use Rattle.granit_lexemes.specs.Lexeme.{Lexeme, Item, OfLexeme, OfComment}
 use Rattle.granit_lexemes.specs.Moves.{steps}
-use Rattle.granit_lexemes.specs.PlainExtent.{over}
-use Rattle.granit_lexemes.specs.PlainScalar.{PlainRead}
+use Rattle.granit_lexemes.specs.PlainExtent.{over, separation_text}
+use Rattle.granit_lexemes.specs.PlainScalar.{PlainRead, plain_scalar}
 use Rattle.granit_lexemes.specs.QuotedExtent.{Trails}
 use Rattle.granit_lexemes.specs.QuotedExtent as quoted
 use Rattle.granit_lexemes.specs.QuotedScalar.{QuotedRead, quote_char}
@@ -34,6 +36,7 @@ use Rattle.granit_machine.specs.LexemeSort.{DirectiveSign, Placed}
 use Rattle.granit_machine.specs.NodeLexemes.{block_shown, note_items}
 use Rattle.granit_machine.specs.ReaderState.{ReaderState}
 use Rattle.granit_reading.proofs.PlacesLaw.{shown_from}
+use Rattle.granit_scalars.proofs.PlainLaw.{Answered, answered}
 use Rattle.granit_invariants.proofs.Onward.{step_whole}
 
 -- a mark is no later than another
@@ -167,6 +170,26 @@ plain_runs at h read after a =
     let e : read.source.end ≡ mark_of (over a.source h) = ap (λ (r : PlainRead). r.source.end)
     a.answer in subst (Before (mark_of h)) (sym e) (over_on a.source h)
 
+-- a plain scalar that stands there ends behind its beginning
+extends_by : (at : LayoutData) (h : Here) (read : PlainRead) (after : Here)
+    → Rattle.granit_lexemes.specs.PlainExtent.AnswersPlain at h read after
+    → (h.place.index == read.source.end.place.index) ≡ false
+extends_by at h read after a =
+    let s = a.stands.extent.spelled in
+    let text : h.unread.text ≡ s.start ∷ (s.more ++ (separation_text a.tail ++ a.rest)) = a.stands.extent.whole
+    ∙ ap (λ (l : List ℕ). l ++ (separation_text a.tail ++ a.rest)) s.begins in
+    let some : text_len h ≡ suc (length (s.more ++ (separation_text a.tail ++ a.rest))) = ap length text in
+    let n = step_len h in let w = step_whole h in let b = over_on s.more (step h) in
+    let end : read.source.end.place.index ≡ (over s.more (step h)).place.index =
+    ap (λ (r : PlainRead). r.source.end.place.index) a.answer ∙ ap (λ (l : List ℕ). (over l h).place.index) s.begins in
+    grind (arith, nat_tests, end, some, n, w, b)
+
+pub plain_extends : (at : LayoutData) (h : Here) (read : PlainRead) (after : Here)
+    → is_content at.in_flow h.unread.text ≡ true → plain_scalar at h ≡ Ok (read, after)
+    → (h.place.index == read.source.end.place.index) ≡ false
+plain_extends at h read after content e = extends_by at h read after
+    (subst (Answered at h) e (answered at h content))
+
 -- behind characters of the text
 reached_on : (h after : Here) (cs : List ℕ) → after ≡ over cs h → Before (mark_of h) (mark_of after)
 reached_on h after cs e = subst (λ (g : Here). Before (mark_of h) (mark_of g)) (sym e) (over_on cs h)
@@ -193,9 +216,9 @@ given_runs o ended (Placed QuestionSign) h l (OfLexeme y ∷ []) after p = quest
 given_runs o ended (Placed ColonSign) h l (OfLexeme y ∷ []) after p = one y _ p.0.is
     (step_on h, step_on h, tail_if_runs _ (step h) after.here p.0.tail p.0.tailed)
 given_runs o ended (Placed AliasSign) h l (OfLexeme y ∷ []) after p = let r = reached_on h after.here
-    (first h.unread.text ∷ p.0.name) p.0.answers.reached in one y _ p.0.is (r, r, tt)
+    (first h.unread.text ∷ p.0.name.characters) p.0.answers.reached in one y _ p.0.is (r, r, tt)
 given_runs o ended (Placed AnchorSign) h l (OfLexeme y ∷ []) after p = let r = reached_on h after.here
-    (first h.unread.text ∷ p.0.name) p.0.answers.reached in one y _ p.0.is (r, r, tt)
+    (first h.unread.text ∷ p.0.name.characters) p.0.answers.reached in one y _ p.0.is (r, r, tt)
 given_runs o ended (Placed TagSign) h l (OfLexeme y ∷ []) after p = let r = reached_on h after.here p.0.answers.source
     p.0.answers.reached in one y _ p.0.is (r, r, tt)
 given_runs o ended (Placed (BlockSign literal)) h l (OfLexeme y ∷ []) after p = one y _ p.0.is

@@ -29,3 +29,4 @@ pub mod RowsFirst
 pub mod GrowSteps
 pub mod GrowStream
 pub mod CommentsStand
+pub mod LendingLaw

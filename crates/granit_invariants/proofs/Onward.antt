@@ -166,9 +166,9 @@ given_whole o ended (Placed QuestionSign) h l (OfLexeme y ∷ []) after p = ques
 given_whole o ended (Placed ColonSign) h l (OfLexeme y ∷ []) after p = tail_if_whole _ (step h) after.here p.0.tail
     p.0.tailed ∙ step_whole h
 given_whole o ended (Placed AliasSign) h l (OfLexeme y ∷ []) after p = ap whole p.0.answers.reached
-    ∙ over_whole (first h.unread.text ∷ p.0.name) h
+    ∙ over_whole (first h.unread.text ∷ p.0.name.characters) h
 given_whole o ended (Placed AnchorSign) h l (OfLexeme y ∷ []) after p = ap whole p.0.answers.reached
-    ∙ over_whole (first h.unread.text ∷ p.0.name) h
+    ∙ over_whole (first h.unread.text ∷ p.0.name.characters) h
 given_whole o ended (Placed TagSign) h l (OfLexeme y ∷ []) after p = ap whole p.0.answers.reached
     ∙ over_whole p.0.answers.source h
 given_whole o ended (Placed (BlockSign literal)) h l (OfLexeme y ∷ []) after p = block_whole literal (block_column l) h

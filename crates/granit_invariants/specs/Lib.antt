@@ -7,3 +7,4 @@ pub mod CommentEvents
 pub mod RefusedRows
 pub mod Placements
 pub mod CommentPlaces
+pub mod Lending

@@ -4,6 +4,7 @@
 mod columns;
 mod comments;
 mod keys;
+mod lending;
 mod offsets;
 mod spans;
 
@@ -16,5 +17,8 @@ pub use comments::{
     the_first_comment_too_many_is_refused,
 };
 pub use keys::possible_keys_rise;
+pub use lending::{
+    borrowed_texts_of_the_examples, lending_changes_nothing_else, no_text_is_borrowed_unlent,
+};
 pub use offsets::{items_are_fed_alike_without_offsets, offsets_change_nothing_else};
 pub use spans::every_event_stands_in_the_text;

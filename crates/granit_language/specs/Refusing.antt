@@ -12,7 +12,6 @@ use Rattle.granit_error.specs.FaultKind.{UnexpectedCharacter, BomInsideDocument,
 use Rattle.granit_error.specs.OptionsData.{OptionsData}
 use Rattle.granit_lexemes.specs.BlockExtent.{RefusesBlock}
 use Rattle.granit_lexemes.specs.Comment.{CommentRead, Spoils}
-use Rattle.granit_lexemes.specs.DirectiveExtent.{RefusesDirective}
 use Rattle.granit_lexemes.specs.HeaderExtent.{LexemeTail}
 use Rattle.granit_lexemes.specs.Here.{Here, next_char, mark_of, step}
 use Rattle.granit_lexemes.specs.LayoutData.{LayoutData}
@@ -35,6 +34,7 @@ use Rattle.granit_machine.specs.LexemeSort.{ColonSign, AliasSign, AnchorSign, Ta
 use Rattle.granit_machine.specs.LexemeSort.{NoSign, PlainSign, LexemeSort, TextEnd, StartMark, EndMark, Unprintable}
 use Rattle.granit_machine.specs.LexemeSort.{DirectiveSign, Placed}
 use Rattle.granit_machine.specs.PossibleKeys.{top_key}
+use Rattle.granit_names.specs.FirstCause.{DirectiveCause}
 use Rattle.granit_language.specs.Allowed.{InFlow, OutsideFlow, EntryMayBegin, TooMany, EntryFits, FarBelow}
 use Rattle.granit_language.specs.Allowed.{DashBehindTab, NulBehind, OpenerBehind, GoesOnBehind, TabBegins, LeftOfKey}
 use Rattle.granit_language.specs.Allowed.{InBlock, TabsFit, LeftInside, MayPrefix, LayoutIs}
@@ -188,4 +188,4 @@ pub data RefusesSort (o : OptionsData) (h : Here) (l : Laid) : LexemeSort → Fa
 pub data MisspellsSort (o : OptionsData) (h : Here) (l : Laid) : LexemeSort → FaultKind → Mark → Type 0 where
   of_sign : {sort : PlacedSort} {kind : FaultKind} {m : Mark} → (LeftInside o h l → ⊥) → Misspells o h l sort kind m
       → MisspellsSort o h l (Placed sort) kind m
-  in_directive : {kind : FaultKind} {m : Mark} → RefusesDirective o h kind m → MisspellsSort o h l DirectiveSign kind m
+  in_directive : {kind : FaultKind} {m : Mark} → DirectiveCause o h kind m → MisspellsSort o h l DirectiveSign kind m

@@ -1,10 +1,10 @@
 -- The lexemes of a text by kind: which one stands at a place, how far it goes, and what is said of it.
-use Rattle.std.specs.Prelude.{◌≡◌, ◌≢◌, ℕ, ◌<◌, ◌==◌, Bool, true, false, List, [], ◌∷◌, length, Option, Some, None}
+use Rattle.std.specs.Prelude.{◌≡◌, ◌≢◌, ◌<◌, ◌==◌, Bool, true, false, List, [], ◌∷◌, length, Option, Some, None}
 use Rattle.granit_base.specs.Classes.{is_blank, is_breakz}
 use Rattle.granit_base.specs.Place.{Mark}
+use Rattle.granit_base.specs.Written.{Written}
 use Rattle.granit_base.specs.declared.style.ScalarStyle.TheVariants.{Plain}
 use Rattle.granit_error.specs.OptionsData.{OptionsData}
-use Rattle.granit_lexemes.specs.Basics.{owned}
 use Rattle.granit_lexemes.specs.BlockExtent.{AnswersBlock}
 use Rattle.granit_lexemes.specs.BlockScalar.{BlockGiven}
 use Rattle.granit_lexemes.specs.Comment.{CommentRead, StandsComment}
@@ -141,9 +141,9 @@ pub record ColonLexeme (o : OptionsData) (ends : Bool) (h : Here) (l : Laid) (x 
 
 -- ---- names, tags and scalars (6.9, 7.1, 7.3, 8.1)
 
-pub record NameLexeme (ends : Bool) (h : Here) (l : Laid) (kind : List ℕ → LexemeKind) (x : Lexeme)
+pub record NameLexeme (ends : Bool) (h : Here) (l : Laid) (kind : Written → LexemeKind) (x : Lexeme)
     (after : Here) : Type 0 where
-  pub name : List ℕ
+  pub name : Written
   pub answers : AnswersName h name after
   pub is : x ≡ lexeme_to ends (kind name) (mark_of after) h l
 
@@ -199,8 +199,8 @@ Stands o ends CommaSign h l x after = Tailed ends h l Comma (step h) x after × 
 Stands o ends DashSign h l x after = DashLexeme o ends h l x after
 Stands o ends QuestionSign h l x after = QuestionStands o ends h l x after (is_in_flow l)
 Stands o ends ColonSign h l x after = ColonLexeme o ends h l x after
-Stands o ends AliasSign h l x after = NameLexeme ends h l (λ name. Alias (owned name)) x after
-Stands o ends AnchorSign h l x after = NameLexeme ends h l (λ name. Anchor (owned name)) x after
+Stands o ends AliasSign h l x after = NameLexeme ends h l (λ name. Alias name) x after
+Stands o ends AnchorSign h l x after = NameLexeme ends h l (λ name. Anchor name) x after
 Stands o ends TagSign h l x after = TagLexeme ends h l x after
 Stands o ends (BlockSign literal) h l x after = BlockLexeme literal ends h l x after
 Stands o ends sort h l x after = ⊥

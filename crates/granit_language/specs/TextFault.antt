@@ -104,6 +104,7 @@ pub record OfReading (o : OptionsData) (text : List ℕ) (f : Fault) : Type 0 wh
   pub settled : SettledFront state.laid (read_lexemes items) front
   pub viable : Viable o (map terminal_seen front)
   pub refused : ReadRefused o state f.kind f.mark
+  pub unnamed : f.sources ≡ []
   pub none : NoneTold o false state.laid items
 
 -- Comments are asked for, and one of those that are told is one too many; before the lexeme of its row there is none.

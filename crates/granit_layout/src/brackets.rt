@@ -1,11 +1,13 @@
 //! The open brackets, and the possible keys in them.
-ghost use Rattle.std.specs.Prelude.{◌≡◌, [], ◌∷◌, length, map, drop, slice_get, None, OnOk};
+ghost use Rattle.std.specs.Prelude.{◌≡◌, [], ◌∷◌, length, map, drop, slice_get, reverse, true, None, OnOk};
 ghost use Rattle.std.specs.List.{list_any};
 ghost use Rattle.granit_error.specs.OptionsView.{options_of};
 ghost use Rattle.granit_machine.specs.Laid as laid;
 ghost use Rattle.granit_machine.specs.PossibleKeys as keys;
+ghost use Rattle.granit_layout.specs.Rising.{Rising};
 
-use crate::keys::{fresh_key, is_of};
+use crate::keys::{fresh_key, is_of, reaches};
+use crate::rising::KeyOrder;
 use granit_base::{Marker, NoMemory};
 use granit_error::Options;
 use granit_lexemes::{Bracket, OpenBracket, PossibleKey};
@@ -16,15 +18,19 @@ use std::marker::Model;
 #[derive(Drop)]
 pub(crate) struct Brackets {
     list: Vec<OpenBracket>,
+    order: KeyOrder,
 }
 
 impl Model for Brackets {
     ghost use Rattle.std.specs.Prelude.{List, reverse};
     ghost use Rattle.granit_lexemes.specs.declared.layout.OpenBracket.{OpenBracket};
+    ghost use Rattle.granit_layout.specs.Rising.{Rising};
 
     ghost Value = { List OpenBracket };
 
     ghost view = { λ b. reverse b.list.items };
+
+    ghost invariant = { λ b. Rising b.order b.list.items };
 }
 
 impl Brackets {
@@ -33,6 +39,7 @@ impl Brackets {
     {
         Brackets {
             list: Vec::new(alloc),
+            order: KeyOrder::new(),
         }
     }
 
@@ -57,6 +64,7 @@ impl Brackets {
     }
 
     /// One more, with no key in it.
+    #[tactic(auto, using(crate::proofs::RisingLemmas::pushed))]
     pub(crate) fn push(&mut self, bracket: Bracket, mark: Marker) -> Result<(), NoMemory>
         ensures { OnOk result (self.new ≡ record { bracket = bracket; mark = mark; key = None } ∷ self.old) }
     {
@@ -69,6 +77,7 @@ impl Brackets {
     }
 
     /// Without the innermost one.
+    #[tactic(auto, using(crate::proofs::RisingLemmas::popped))]
     pub(crate) fn pop(&mut self)
         ensures { self.new ≡ drop 1 self.old }
     {
@@ -89,11 +98,7 @@ impl Brackets {
     pub(crate) fn set_key(&mut self, key: Option<PossibleKey>)
         ensures { self.new ≡ keys.keyed_brackets key self.old }
     {
-        let depth = self.list.len();
-        if depth == 0 {
-            return;
-        }
-        self.list[depth - 1].key = key;
+        set_innermost(&mut self.list, &mut self.order, key);
     }
 
     /// Without the keys that reading has left behind.
@@ -101,7 +106,11 @@ impl Brackets {
     pub(crate) fn refresh(&mut self, options: &Options, mark: Marker)
         ensures { self.new ≡ map (keys.fresh_bracket (options_of options.now) mark) self.old }
     {
-        refresh_brackets(&mut self.list, options, mark);
+        if self.order.rises {
+            refresh_outermost(&mut self.list, &mut self.order, options, mark);
+        } else {
+            refresh_all(&mut self.list, options, mark);
+        }
     }
 
     /// Whether a possible key in one of them begins with the lexeme of a number.
@@ -109,8 +118,26 @@ impl Brackets {
     pub(crate) fn is_possible(&self, number: usize) -> bool
         ensures { result ≡ list_any (λ b. keys.is_of number b.key) self.now }
     {
-        any_of(number, &self.list)
+        if self.order.rises {
+            begins_at(number, &self.order, &self.list)
+        } else {
+            any_of(number, &self.list)
+        }
     }
+}
+
+fn set_innermost(brackets: &mut Vec<OpenBracket>, order: &mut KeyOrder, key: Option<PossibleKey>)
+    requires rising { Rising order.old brackets.old.items }
+    ensures key { reverse brackets.new.items ≡ keys.keyed_brackets key (reverse brackets.old.items) }
+    ensures rising { Rising order.new brackets.new.items }
+{
+    let depth = brackets.len();
+    if depth == 0 {
+        return;
+    }
+    let innermost = depth - 1;
+    order.set_key(innermost, brackets[innermost].key, &key);
+    brackets[innermost].key = key;
 }
 
 fn any_of(number: usize, brackets: &[OpenBracket]) -> bool
@@ -119,10 +146,45 @@ fn any_of(number: usize, brackets: &[OpenBracket]) -> bool
     brackets.iter().any(|open| is_of(number, open.key))
 }
 
-fn refresh_brackets(brackets: &mut Vec<OpenBracket>, options: &Options, mark: Marker)
+/// The same where keys rise: no key behind one of a later lexeme is asked.
+fn begins_at(number: usize, order: &KeyOrder, brackets: &[OpenBracket]) -> bool
+    requires rising { Rising order.now brackets.now }
+    requires rises { order.now.rises ≡ true }
+    ensures { result ≡ list_any (λ b. keys.is_of number b.key) brackets.now }
+{
+    'brackets: for i in order.first..brackets.len() {
+        if reaches(number, brackets[i].key) {
+            return is_of(number, brackets[i].key);
+        }
+    }
+    false
+}
+
+fn refresh_all(brackets: &mut Vec<OpenBracket>, options: &Options, mark: Marker)
     ensures { brackets.new.items ≡ map (keys.fresh_bracket (options_of options.now) mark) brackets.old.items }
 {
     'brackets: for i in 0..brackets.len() {
         brackets[i].key = fresh_key(options, true, mark, brackets[i].key);
+    }
+}
+
+/// The same where keys rise: behind the first one that stays, all do.
+fn refresh_outermost(
+    brackets: &mut Vec<OpenBracket>,
+    order: &mut KeyOrder,
+    options: &Options,
+    mark: Marker,
+)
+    requires rising { Rising order.old brackets.old.items }
+    requires rises { order.old.rises ≡ true }
+    ensures fresh { brackets.new.items ≡ map (keys.fresh_bracket (options_of options.now) mark) brackets.old.items }
+    ensures rising { Rising order.new brackets.new.items }
+{
+    'brackets: while order.first < brackets.len() {
+        if fresh_key(options, true, mark, brackets[order.first].key).is_some() {
+            return;
+        }
+        brackets[order.first].key = None;
+        order.first += 1;
     }
 }

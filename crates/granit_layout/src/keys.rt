@@ -5,6 +5,7 @@ ghost use Rattle.granit_error.specs.OptionsView.{options_of};
 ghost use Rattle.granit_lexemes.specs.LayoutData as layout;
 ghost use Rattle.granit_machine.specs.Laid as laid;
 ghost use Rattle.granit_machine.specs.PossibleKeys as keys;
+ghost use Rattle.granit_layout.specs.Rising.{is_from};
 ghost use Rattle.granit_layout.specs.Views.{is_wide_in};
 
 use granit_base::Marker;
@@ -124,6 +125,16 @@ pub(crate) fn is_of(number: usize, key: Option<PossibleKey>) -> bool
     match key {
         None => false,
         Some(key) => key.number == number,
+    }
+}
+
+/// Whether a key begins with the lexeme of a number or with a later one.
+pub(crate) fn reaches(number: usize, key: Option<PossibleKey>) -> bool
+    ensures { result ≡ is_from number key }
+{
+    match key {
+        None => false,
+        Some(key) => number <= key.number,
     }
 }
 

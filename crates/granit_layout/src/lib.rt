@@ -6,6 +6,7 @@ mod columns;
 mod keys;
 mod last;
 mod layouts;
+mod rising;
 
 pub use last::{is_adjacent, is_dash, is_indicator, is_opener, is_question};
 pub use layouts::Layouts;

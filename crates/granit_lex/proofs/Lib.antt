@@ -1,3 +1,6 @@
 pub mod EscapeLemmas
+pub mod FurtherLines
+pub mod KeptLemmas
+pub mod LineLemmas
 pub mod PlainLemmas
 pub mod QuotedLemmas

@@ -2,11 +2,8 @@
 use Rattle.std.proofs.Common.{◌≡◌, ℕ, zero, suc, ◌<◌, ◌≤◌, ◌==◌, Bool, true, false, not, ◌&&◌, if◌then◌else◌, List, []}
 use Rattle.std.proofs.Common.{◌∷◌, ◌++◌, length, take, drop, Some, Result, Ok, refl, sym, ap, ap₂, ◌∙◌, append_assoc}
 use Rattle.std.proofs.Common.{arith}
-use Rattle.std.specs.Str.{chars}
-use Rattle.std.specs.declared.alloc.Global.{Global}
 use Rattle.std.proofs.lemmas.Bool.{and_parts, or_parts, not-true}
 use Rattle.std.proofs.lemmas.List.{append-nil}
-use Rattle.std.proofs.lemmas.Str.{chars-nil}
 use Rattle.std.proofs.Math.Bool.{and-false}
 use Rattle.granit_base.specs.Classes.{is_blank, is_break, is_z, is_breakz, is_blank_or_breakz}
 use Rattle.granit_base.specs.Place.{Mark, first}
@@ -25,11 +22,11 @@ use Rattle.granit_lexemes.proofs.HereLemmas.{step_text}
 use Rattle.granit_lexemes.proofs.PieceLemmas.{with_front-nil, with_front-with_front, pieces_more, pieces_done}
 use Rattle.granit_lexemes.proofs.PieceLemmas.{pieces_fails}
 use Rattle.granit_scalars.proofs.PlainTurns.{chain, plain_shortens}
-use Rattle.granit_lex.specs.PlainCode.{plain_state, inside, plain_rest, plain_whole, ahead_of, turn_of}
+use Rattle.granit_lex.specs.PlainCode.{plain_state, inside, plain_rest, plain_whole, ahead_of, turn_of, nothing_taken}
 use Rattle.granit_lex.specs.Taken.{PlainTaken}
 use Rattle.granit_lex.specs.declared.plain.Ahead.{Ahead}
 use Rattle.granit_lex.specs.declared.plain.Ahead.TheVariants.{Blank, Break, Tab, Content, End}
-use Rattle.granit_cursor.proofs.MoveLemmas.{cleared, run_begins}
+use Rattle.granit_cursor.proofs.MoveLemmas.{run_begins}
 
 -- ---- one turn, by what is next
 
@@ -62,7 +59,7 @@ content_next : (a b c f : Bool) → a ≡ false → b ≡ false → c ≡ false 
 content_next a b c f p q r t = rw (p, q, r, t) refl
 
 -- a character of content is neither a blank nor a break
-apart : (in_flow : Bool) (text : List ℕ) → is_content in_flow text ≡ true
+pub apart : (in_flow : Bool) (text : List ℕ) → is_content in_flow text ≡ true
     → (is_blank (first text) ≡ false) × (is_break (first text) ≡ false)
 unfolding is_blank_or_breakz is_breakz
 apart in_flow text held =
@@ -81,15 +78,16 @@ inside_turn : (at : LayoutData) (start : Mark) (g : Here) → is_content at.in_f
 unfolding on_content
 inside_turn at start g held = turn_is at start (inside g) Content (inside_next at g held)
 
-none_taken : (xs : List ℕ) → take 0 xs ≡ []
+pub none_taken : (xs : List ℕ) → take 0 xs ≡ []
 none_taken [] = refl
 none_taken (x ∷ xs) = refl
 
-take_suc : (n : ℕ) (text : List ℕ) → 0 < length text → first text ∷ take n (drop 1 text) ≡ take (suc n) text
+pub take_suc : (n : ℕ) (text : List ℕ) → 0 < length text → first text ∷ take n (drop 1 text) ≡ take (suc n) text
 take_suc n [] some = absurd (omega arith)
 take_suc n (c ∷ cs) some = refl
 
-content_run : (at : LayoutData) (start : Mark) (n : ℕ) (g : Here) → n ≤ run_length (is_content at.in_flow) g.unread.text
+pub content_run : (at : LayoutData) (start : Mark) (n : ℕ) (g : Here)
+    → n ≤ run_length (is_content at.in_flow) g.unread.text
     → plain_rest at start (inside g) ≡ with_front (take n g.unread.text) (plain_rest at start (inside (steps n g)))
 unfolding steps
 content_run at start zero g fits =
@@ -156,7 +154,17 @@ turn_refused at start p h is =
 
 -- nothing was read yet
 pub plain_begins : (at : LayoutData) (start : Mark) (p : PlainTaken) (h : Here) → p.value ≡ []
-    → plain_state p h ≡ inside h → plain_whole at start p h ≡ plain_rest at start (inside h)
-plain_begins at start p h none state =
-    ap₂ (λ (v : List ℕ) (r : Result (List ℕ × PlainState) Fault). with_front v r) none (ap (plain_rest at start) state)
-    ∙ with_front-nil (plain_rest at start (inside h))
+    → plain_whole at start p h ≡ plain_rest at start (plain_state p h)
+plain_begins at start p h none =
+    ap (λ (v : List ℕ). with_front v (plain_rest at start (plain_state p h))) none
+    ∙ with_front-nil (plain_rest at start (plain_state p h))
+
+pub none_held : (value pending : List ℕ) (end : Mark) (on_new_line : Bool) → value ≡ [] → pending ≡ []
+    → ◌≡◌ {A = PlainTaken} (record {
+      value = value;
+      pending = pending;
+      end = end;
+      on_new_line = on_new_line;
+      left_tab = false;
+    }) (nothing_taken end on_new_line)
+none_held value pending end on_new_line v p = rw (v, p) refl

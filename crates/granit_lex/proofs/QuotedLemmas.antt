@@ -1,23 +1,20 @@
 -- A quoted scalar, a character of content a turn.
-use Rattle.std.proofs.Common.{◌≡◌, ℕ, suc, ◌==◌, Bool, true, false, not, ◌&&◌, ◌||◌, cond, if◌then◌else◌, List, [], ◌∷◌}
-use Rattle.std.proofs.Common.{◌++◌, drop, slice_index, Option, Some, None, Result, Ok, Err, refl, sym, ap, ◌∙◌}
+use Rattle.std.proofs.Common.{◌≡◌, ℕ, ◌==◌, Bool, true, false, not, ◌&&◌, ◌||◌, if◌then◌else◌, List, []}
+use Rattle.std.proofs.Common.{◌++◌, slice_index, Option, Some, None, Result, Ok, Err, refl, sym, ap, ◌∙◌}
 use Rattle.std.proofs.Common.{append_assoc}
 use Rattle.std.proofs.lemmas.List.{append-nil}
 use Rattle.granit_base.specs.Classes.{is_blank, is_break, is_printable}
-use Rattle.granit_base.specs.Place.{Mark, first}
+use Rattle.granit_base.specs.Place.{Mark}
 use Rattle.granit_error.specs.FaultKind.{InvalidIndentation, UnclosedQuotedScalar, DocumentIndicatorInQuotedScalar}
 use Rattle.granit_error.specs.FaultKind.{TabInIndentation, InvalidQuotedScalarIndent, UnexpectedCharacter}
 use Rattle.granit_error.specs.Refused.{Refused}
-use Rattle.granit_input.specs.Runs.{run_length, starts}
-use Rattle.granit_lexemes.specs.Here.{Here, text_len, next_char, mark_of, step, chosen, skip, past}
+use Rattle.granit_lexemes.specs.Here.{Here, text_len, next_char, mark_of, step}
 use Rattle.granit_lexemes.specs.LayoutData.{LayoutData}
-use Rattle.granit_lexemes.specs.Moves.{steps}
 use Rattle.granit_lexemes.specs.Outcome.{Fault, Fails, ◌>>=◌}
 use Rattle.granit_lexemes.specs.Basics.{fails_at}
 use Rattle.granit_lexemes.specs.QuotedScalar.{QuotedState, is_closing, escape_or, between_quoted, quoted_at}
-use Rattle.granit_lexemes.specs.QuotedScalar.{quoted_piece, quoted_content, quoted_turn, quoted_len, QuotedRead}
-use Rattle.granit_lexemes.specs.QuotedScalar.{quoted_tail, quoted_scalar, quoted_rest}
-use Rattle.granit_lexemes.proofs.HereLemmas.{step_text}
+use Rattle.granit_lexemes.specs.QuotedScalar.{quoted_piece, quoted_content, quoted_turn, quoted_len}
+use Rattle.granit_lexemes.specs.QuotedScalar.{quoted_rest}
 use Rattle.granit_lexemes.proofs.PieceLemmas.{with_front-nil, loop_more, loop_done, loop_fails}
 use Rattle.granit_scalars.proofs.QuotedTurns.{quoted_shortens, tab_meets, strict_meets, loose_meets, mark_meets}
 use Rattle.granit_scalars.proofs.QuotedTurns.{turn_chain}
@@ -164,18 +161,3 @@ pub quoted_begins : (single : Bool) (at : LayoutData) (start : Mark) (p : Quoted
     ≡ quoted_rest single at start (quoted_at false h)
 quoted_begins single at start p h none state = rw (none, state)
     (with_front-nil (quoted_rest single at start (quoted_at false h)))
-
--- ---- the whole call
-
-abbrev with_tail : Bool → LayoutData → Mark → Result (List ℕ × QuotedState) Fault → Result (QuotedRead × Here) Fault
-with_tail single at start r = r >>= λ x. quoted_tail single at start (x.0 ++ between_quoted x.1) (step x.1.here)
-
-pub scalar_is : (single : Bool) (at : LayoutData) (h : Here) (start : Mark) (value whole : List ℕ) (s : QuotedState)
-    → start ≡ mark_of h → quoted_rest single at start (quoted_at false (step h)) ≡ Ok (value, s)
-    → whole ≡ value ++ between_quoted s
-    → quoted_scalar single at h ≡ quoted_tail single at start whole (step s.here)
-unfolding quoted_scalar
-scalar_is single at h start value whole s is read grown =
-    ap (λ (m : Mark). with_tail single at m (quoted_rest single at m (quoted_at false (step h)))) (sym is)
-    ∙ ap (with_tail single at start) read
-    ∙ ap (λ (v : List ℕ). quoted_tail single at start v (step s.here)) (sym grown)

@@ -1,3 +1,4 @@
+pub mod LineCode
 pub mod PlainCode
 pub mod QuotedCode
 pub mod Taken

@@ -1,19 +1,20 @@
 -- How the code reads a plain scalar: a stretch of content a turn.
-use Rattle.std.specs.Prelude.{◌≡◌, ℕ, ◌<◌, ◌≤◌, Bool, true, false, ◌&&◌, not, if◌then◌else◌, List, [], ◌∷◌, ◌++◌}
-use Rattle.std.specs.Prelude.{Option, Some, None, Result, Ok, Err}
-use Rattle.granit_base.specs.Classes.{is_blank, is_break, is_z}
+use Rattle.std.specs.Prelude.{◌≡◌, ℕ, ◌<◌, ◌≤◌, ◌==◌, Bool, true, false, ◌&&◌, ◌||◌, not, if◌then◌else◌, List, []}
+use Rattle.std.specs.Prelude.{◌∷◌, ◌++◌, length, Option, Some, None, Result, Ok, Err}
+use Rattle.granit_base.specs.Classes.{is_blank, is_break, is_z, is_printable}
 use Rattle.granit_base.specs.Place.{Mark}
+use Rattle.granit_base.specs.Written.{Written}
 use Rattle.granit_base.specs.declared.style.ScalarStyle.TheVariants.{Plain}
 use Rattle.granit_error.specs.FaultKind.{FaultKind, NoMemory, PlainScalarStartsWithDashFlowIndicator, TabInPlainScalar}
-use Rattle.granit_error.specs.FaultKind.{UnexpectedCharacter}
+use Rattle.granit_error.specs.FaultKind.{InputSlicingUnavailable, UnexpectedCharacter}
 use Rattle.granit_error.specs.Refused.{Refused}
-use Rattle.granit_lexemes.specs.Here.{Here, next_char, mark_of}
+use Rattle.granit_lexemes.specs.Here.{Here, text_len, next_char, mark_of}
 use Rattle.granit_lexemes.specs.LayoutData.{LayoutData}
-use Rattle.granit_lexemes.specs.Outcome.{Fault, Fails}
+use Rattle.granit_lexemes.specs.Outcome.{Fault, Fails, ◌>>=◌}
 use Rattle.granit_lexemes.specs.Pieces.{with_front, pieces}
-use Rattle.granit_lexemes.specs.Basics.{fails_at, only_printable, unprintable}
+use Rattle.granit_lexemes.specs.Basics.{fails_at, only_printable, unprintable, owned}
 use Rattle.granit_lexemes.specs.PlainScalar.{PlainState, PlainRead, between, on_content, on_blank, on_break}
-use Rattle.granit_lexemes.specs.PlainScalar.{meets_comment, ends_before_line, plain_turn, plain_len, behind_plain}
+use Rattle.granit_lexemes.specs.PlainScalar.{meets_comment, ends_before_line, plain_turn, plain_len, plain_start}
 use Rattle.granit_base.specs.PlainContent.{is_content}
 use Rattle.granit_cursor.specs.Tokens.{scalar_token}
 use Rattle.granit_cursor.specs.declared.token.Lexed.{Lexed}
@@ -96,13 +97,47 @@ abbrev pub PartsTo : Result PlainTaken Refused → (Here → Type 0) → Result 
 PartsTo (Ok p) Lands given = (now : Here) × Lands now × (given ≡ Ok (p.value, plain_state p now))
 PartsTo (Err e) Lands given = Fails e given
 
--- a plain scalar that was read up to its end
-abbrev pub ended_plain : LayoutData → Mark → List ℕ → PlainState → Result (PlainRead × Here) Fault
-ended_plain at start value s = only_printable (unprintable value) start (behind_plain at start value s)
+-- nothing was taken behind that place, or the break behind it
+abbrev pub nothing_taken : (end : Mark) → (on_new_line : Bool) → PlainTaken
+nothing_taken end on_new_line =
+    record { value = []; pending = []; end = end; on_new_line = on_new_line; left_tab = false }
+
+-- whether a comment that begins behind what was read cuts the scalar short
+abbrev pub cuts_at : (left_tab on_new_line : Bool) → (pending : List ℕ) → Bool
+cuts_at left_tab on_new_line pending = left_tab || (not on_new_line && not (length pending == 0))
+
+-- a plain scalar of that text, which ends there
+abbrev pub ended_plain : LayoutData → (start : Mark) → Written → (end : Mark) → (on_new_line cuts : Bool) → Here
+    → Result (PlainRead × Here) Fault
+ended_plain at start text end on_new_line cuts h =
+    only_printable (unprintable text.characters) start
+    (if not (text_len h == 0) && not (is_printable (next_char h))
+    then fails_at (UnexpectedCharacter (next_char h)) (mark_of h)
+    else Ok (
+      record {
+        text = text;
+        source = record { start = start; end = end };
+        cut_by_comment = if not at.in_flow && (next_char h == 0x23 && cuts) then Some (mark_of h) else None;
+        on_new_line = on_new_line;
+      },
+      h,
+    ))
+
+-- the same of a text by what was read, where that ends
+abbrev pub ended_by : LayoutData → (start : Mark) → (List ℕ → Mark → Written) → List ℕ × PlainState
+    → Result (PlainRead × Here) Fault
+ended_by at start text x =
+    ended_plain at start (text x.0 x.1.end) x.1.end x.1.on_new_line
+    (cuts_at x.1.left_tab x.1.on_new_line x.1.pending) x.1.here
+
+-- a scalar whose text is copied
+abbrev pub copied_plain : LayoutData → Here → Result (PlainRead × Here) Fault
+copied_plain at h = plain_rest at (mark_of h) (plain_start h) >>= ended_by at (mark_of h) (λ value end. owned value)
 
 -- the kinds that a plain scalar is refused by
 abbrev pub IsPlainKind : FaultKind → Type 0
 IsPlainKind NoMemory = Unit {0}
+IsPlainKind InputSlicingUnavailable = Unit {0}
 IsPlainKind PlainScalarStartsWithDashFlowIndicator = Unit {0}
 IsPlainKind TabInPlainScalar = Unit {0}
 IsPlainKind (UnexpectedCharacter c) = Unit {0}

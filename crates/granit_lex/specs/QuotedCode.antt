@@ -1,6 +1,8 @@
 -- How the code reads a quoted scalar: a character of content a turn.
 use Rattle.std.specs.Prelude.{◌≡◌, ◌⊎◌, ℕ, ◌==◌, Bool, true, false, ◌&&◌, ◌||◌, not, if◌then◌else◌, List, [], ◌∷◌, ◌++◌}
-use Rattle.std.specs.Prelude.{slice_index, Option, Some, None, Result, Ok, Err}
+use Rattle.std.specs.Prelude.{slice_index, take, Option, Some, None, Result, Ok, Err}
+use Rattle.std.specs.Borrow.{Bor}
+use Rattle.std.specs.Str.{chars}
 use Rattle.std.specs.Option.{option_map}
 use Rattle.granit_base.specs.Classes.{is_blank, is_break, is_printable}
 use Rattle.granit_base.specs.Place.{Mark}
@@ -10,14 +12,19 @@ use Rattle.granit_error.specs.FaultKind.{InvalidTrailingSingleQuotedScalar, Inva
 use Rattle.granit_error.specs.FaultKind.{UnknownQuotedScalarEscape, InvalidQuotedScalarHexEscape, MissingLowSurrogate}
 use Rattle.granit_error.specs.FaultKind.{InvalidLowSurrogateHexEscape, InvalidLowSurrogate, UnpairedLowSurrogate}
 use Rattle.granit_error.specs.FaultKind.{InvalidUnicodeEscape, CommentNotSeparated, UnexpectedCharacter}
+use Rattle.granit_error.specs.FaultKind.{InputSlicingUnavailable}
+use Rattle.granit_base.specs.Written.{Written}
 use Rattle.granit_error.specs.Refused.{Refused}
+use Rattle.granit_input.specs.Runs.{run_length, starts}
 use Rattle.granit_lexemes.specs.Comment.{comment}
 use Rattle.granit_lexemes.specs.Here.{Here, text_len, next_char, mark_of, step}
 use Rattle.granit_lexemes.specs.LayoutData.{LayoutData}
+use Rattle.granit_lexemes.specs.Moves.{steps}
 use Rattle.granit_lexemes.specs.Outcome.{Fault, Fails, ◌>>=◌}
 use Rattle.granit_lexemes.specs.Pieces.{with_front}
 use Rattle.granit_lexemes.specs.Basics.{fails_at, is_document_mark, owned}
 use Rattle.granit_lexemes.specs.QuotedScalar.{QuotedRead, quoted_style, asked_comment, QuotedState, is_closing}
+use Rattle.granit_lexemes.specs.QuotedScalar.{is_kept, quoted_tail}
 use Rattle.granit_lexemes.specs.QuotedScalar.{is_tab_left, is_strictly_left, is_loosely_left, escape_or, between_quoted}
 use Rattle.granit_lexemes.specs.QuotedScalar.{quoted_at, over_blank, over_break, quoted_content, quoted_rest}
 use Rattle.granit_cursor.specs.Tokens.{comment_token, scalar_token}
@@ -37,9 +44,9 @@ quoted_lexed single r = record {
 }
 
 -- the same by its parts
-abbrev pub quoted_with : Bool → Mark → List ℕ → Mark → Option Token → Lexed
-quoted_with single start value end noted = record {
-  token = scalar_token (quoted_style single) (owned value) (record { start = start; end = end });
+abbrev pub quoted_with : Bool → Mark → Written → Mark → Option Token → Lexed
+quoted_with single start text end noted = record {
+  token = scalar_token (quoted_style single) text (record { start = start; end = end });
   comment = noted;
   cut_by_comment = None;
   on_new_line = false;
@@ -61,6 +68,42 @@ quoted_state p h = record {
 -- the same behind what was read
 abbrev pub quoted_whole : Bool → LayoutData → Mark → QuotedTaken → Here → Result (List ℕ × QuotedState) Fault
 quoted_whole single at start p h = with_front p.value (quoted_rest single at start (quoted_state p h))
+
+-- nothing was taken yet
+abbrev pub nothing_taken : QuotedTaken
+nothing_taken = record { value = []; pending = []; on_new_line = false; escaped = false }
+
+-- what is held behind a character that stands for itself, and behind several
+abbrev pub kept_char : QuotedTaken → ℕ → QuotedTaken
+kept_char p c =
+    if is_blank c then record p { pending = p.pending ++ c ∷ [] }
+    else record p { value = (p.value ++ p.pending) ++ c ∷ []; pending = [] }
+
+abbrev pub kept_chars : QuotedTaken → List ℕ → QuotedTaken
+kept_chars p [] = p
+kept_chars p (c ∷ cs) = kept_chars (kept_char p c) cs
+
+-- What stands in front was passed: all characters that stand for themselves, which are lent where the input lends, and
+-- else none.
+abbrev pub PassesKept : {E : Type 0} → Bool → Here → Result (Option (Bor (List ℕ))) E → (Here → Type 0) → Type 0
+PassesKept single h (Ok None) Lands = (h.unread.lends ≡ false) × Lands h
+PassesKept single h (Ok (Some part)) Lands =
+    (n : ℕ) × (n ≡ run_length (starts (is_kept single)) h.unread.text) × Lands (steps n h)
+    × (h.unread.lends ≡ true) × (chars part.now ≡ take n h.unread.text)
+PassesKept single h (Err e) Lands = ⊥
+
+-- a scalar some of whose text was passed already, and whose text is copied
+abbrev pub copied_scalar : Bool → LayoutData → Mark → (front : List ℕ) → Here → Result (QuotedRead × Here) Fault
+copied_scalar single at start front h =
+    quoted_whole single at start (kept_chars nothing_taken front) h >>= λ x.
+    quoted_tail single at start (owned (x.0 ++ between_quoted x.1)) (step x.1.here)
+
+-- where the closing quote is next, what was passed is the text
+abbrev pub passed_scalar : Bool → LayoutData → Mark → (front : List ℕ) → Here → Result (QuotedRead × Here) Fault
+passed_scalar single at start front h =
+    if is_closing single h.unread.text
+    then quoted_tail single at start (record { characters = front; is_borrowed = true }) (step h)
+    else copied_scalar single at start front h
 
 -- what stands next, or why it is refused
 unfoldable pub quoted_ahead : Bool → LayoutData → Mark → QuotedState → Result Ahead Fault
@@ -161,6 +204,7 @@ IsQuotedFault InvalidLowSurrogate = Unit {0}
 IsQuotedFault UnpairedLowSurrogate = Unit {0}
 IsQuotedFault InvalidUnicodeEscape = Unit {0}
 IsQuotedFault CommentNotSeparated = Unit {0}
+IsQuotedFault InputSlicingUnavailable = Unit {0}
 IsQuotedFault (UnexpectedCharacter c) = Unit {0}
 IsQuotedFault _ = ⊥
 

@@ -2,6 +2,7 @@
 #![tactic(auto)]
 
 mod escape;
+mod line;
 mod plain;
 mod quoted;
 

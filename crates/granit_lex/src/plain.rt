@@ -1,6 +1,8 @@
 //! Plain scalars are read (YAML 1.2.2, 7.3.3).
 ghost use Rattle.std.specs.Prelude.{◌≡◌, ◌<◌, ◌≤◌, ◌-◌, ◌⊎◌, ◌==◌, ◌&&◌, ◌||◌, not, ℕ, [], ◌∷◌, ◌++◌, true, length};
-ghost use Rattle.std.specs.Prelude.{take, IfOk, IfErr, OnOk};
+ghost use Rattle.std.specs.Prelude.{take, IfOk, IfErr, OnOk, if◌then◌else◌};
+ghost use Rattle.std.specs.Str.{chars};
+ghost use Rattle.granit_base.specs.Classes as class;
 ghost use Rattle.granit_error.specs.FaultKind.{NoMemory as OutOfMemory, PlainScalarStartsWithDashFlowIndicator};
 ghost use Rattle.granit_error.specs.FaultKind.{TabInPlainScalar, UnexpectedCharacter};
 ghost use Rattle.granit_input.specs.Runs.{run_length};
@@ -10,24 +12,30 @@ ghost use Rattle.granit_lexemes.specs.Basics as basics;
 ghost use Rattle.granit_lexemes.specs.Moves.{steps};
 ghost use Rattle.granit_lexemes.specs.PlainExtent as extent;
 ghost use Rattle.granit_lexemes.specs.PlainScalar as spec;
-ghost use Rattle.granit_cursor.specs.Reading.{Stands, Moves, Wherever, ReadsAs, AnswersAs, RefusedFor, coded};
+ghost use Rattle.granit_cursor.specs.Reading.{Stands, Moves, Wherever, ReadsAs, AnswersAs, RefusedFor, GivesTo, coded};
 ghost use Rattle.granit_cursor.specs.Tokens.{layout_data};
 ghost use Rattle.granit_lex.specs.declared.plain.Ahead.TheVariants.{Tab};
-ghost use Rattle.granit_lex.specs.PlainCode.{plain_lexed, plain_state, inside, plain_rest, plain_whole, ahead_of};
-ghost use Rattle.granit_lex.specs.PlainCode.{TakesSome, TurnTakes, TurnsTo, PartsTo, ended_plain, IsPlainKind};
+ghost use Rattle.granit_lex.specs.LineCode.{lent, line_scalar};
+ghost use Rattle.granit_lex.specs.PlainCode.{plain_lexed, plain_state, inside, plain_whole, ahead_of, nothing_taken};
+ghost use Rattle.granit_lex.specs.PlainCode.{TakesSome, TurnTakes, TurnsTo, PartsTo, IsPlainKind};
+ghost use Rattle.granit_lex.specs.PlainCode.{cuts_at, ended_plain, copied_plain};
 
+use crate::line::{Line, pass_line};
 use granit_base::{
     Marker, NoMemory, ScalarStyle, Span, Text, find_non_printable, is_at_end, is_blank,
     is_blank_or_breakz, is_break, is_flow, is_printable, is_z, push_char, push_text,
 };
-use granit_cursor::{Cursor, Layout, Lexed, Token, TokenType, drop_blanks, past_break};
+use granit_cursor::{
+    Cursor, Layout, Lexed, Token, TokenType, drop_blanks, lending_offset, past_break,
+};
 use granit_error::{ErrorKind, ScanError};
 use granit_input::{BorrowedInput, Input};
 use std::alloc::Global;
 use std::marker::Model;
 
 /// The plain scalar that begins here (YAML 1.2.2, 7.3.3); the cursor then stands behind the blanks and
-/// breaks that follow it. Its value is folded (6.5) and owned. No comment is read.
+/// breaks that follow it. Its value is folded (6.5), and lent where the input lends and the scalar stands on
+/// one line. No comment is read.
 ///
 /// # Errors
 ///
@@ -35,6 +43,7 @@ use std::marker::Model;
 /// directly before a flow indicator, in flow; `TabInPlainScalar` where a tab that indents a further line
 /// with content stands left of where a node may stand; `UnexpectedCharacter` where it holds a character
 /// that isn't printable. `UnexpectedCharacter` where such a character stands behind it; a NUL is one.
+/// `InputSlicingUnavailable`, where the input refuses to lend what it could.
 pub fn scan_plain_scalar<'input, T: BorrowedInput<'input>>(
     alloc: Global,
     cursor: &mut Cursor<T>,
@@ -96,12 +105,11 @@ enum Ahead {
     End,
 }
 
-/// Whether the next character is a `#` that cuts the scalar short.
-fn meets_comment(c: char, parts: &PlainParts) -> bool
-    ensures { result ≡ (c == 0x23
-        && (parts.now.left_tab || (not parts.now.on_new_line && not (length parts.now.pending == 0)))) }
+/// Whether a comment that begins here cuts the scalar short.
+fn cuts(parts: &PlainParts) -> bool
+    ensures { result ≡ cuts_at parts.now.left_tab parts.now.on_new_line parts.now.pending }
 {
-    c == '#' && (parts.left_tab || (!parts.on_new_line && !is_at_end(parts.pending.as_str())))
+    parts.left_tab || (!parts.on_new_line && !is_at_end(parts.pending.as_str()))
 }
 
 /// Whether a line that begins here is no part of the scalar.
@@ -131,7 +139,7 @@ fn look_ahead<T: Input>(cursor: &mut Cursor<T>, at: &Layout, parts: &PlainParts)
     if is_break(c) {
         return Ahead::Break;
     }
-    if meets_comment(c, parts) {
+    if c == '#' && cuts(parts) {
         return Ahead::End;
     }
     if parts.left_tab && !is_z(c) {
@@ -265,43 +273,74 @@ fn take_turn<T: Input>(
     }
 }
 
-/// All of a plain scalar, from its first character on.
-fn plain_parts<T: Input>(
-    alloc: Global,
-    cursor: &mut Cursor<T>,
-    at: &Layout,
-    start: Marker,
-) -> Result<PlainParts, ScanError>
-    ensures here { Wherever T.unread cursor.old cursor.new (λ h Lands. start ≡ mark_of h
-        → PartsTo result Lands (plain_rest (layout_data at.now) start (spec.plain_start h))) }
-    ensures kinds { IfErr result (λ e. (e.kind ≡ OutOfMemory) ⊎ (e.kind ≡ TabInPlainScalar)) }
-    ensures moves { Moves T.left T.origin cursor.old cursor.new }
+/// Nothing of a plain scalar behind a place, or behind the break that follows it.
+fn no_parts(alloc: Global, end: Marker, on_new_line: bool) -> PlainParts
+    ensures { result ≡ nothing_taken end on_new_line }
 {
-    let mut parts = PlainParts {
+    PlainParts {
         value: String::new(alloc),
         pending: String::new(alloc),
-        end: start,
-        on_new_line: false,
+        end,
+        on_new_line,
         left_tab: false,
-    };
-    'turns: while take_turn(cursor, at, start, &mut parts)? {}
-    Ok(parts)
+    }
 }
 
-/// A plain scalar that was read up to its end, where it and what stands behind it are printable.
-#[tactic(auto, unfolding(granit_lexemes::specs::PlainScalar::behind_plain))]
-fn finish_plain<'input, T: Input>(
+/// All of a plain scalar that is still to be read.
+fn plain_parts<T: Input>(
     cursor: &mut Cursor<T>,
     at: &Layout,
     start: Marker,
     parts: PlainParts,
+) -> Result<PlainParts, ScanError>
+    ensures here { Wherever T.unread cursor.old cursor.new (λ h Lands.
+        PartsTo result Lands (plain_whole (layout_data at.now) start parts h)) }
+    ensures kinds { IfErr result (λ e. (e.kind ≡ OutOfMemory) ⊎ (e.kind ≡ TabInPlainScalar)) }
+    ensures moves { Moves T.left T.origin cursor.old cursor.new }
+{
+    let mut parts = parts;
+    'turns: while take_turn(cursor, at, start, &mut parts)? {}
+    Ok(parts)
+}
+
+/// Where a plain scalar ended.
+#[derive(Drop)]
+struct PlainEnd {
+    /// The place behind its last character.
+    end: Marker,
+    /// Whether a break was read since then.
+    on_new_line: bool,
+    /// Whether a comment that begins here cuts it short.
+    cuts: bool,
+}
+
+/// Where a plain scalar ended of which all was read.
+fn end_of(parts: &PlainParts) -> PlainEnd
+    ensures end { result.end ≡ parts.now.end }
+    ensures on_new_line { result.on_new_line ≡ parts.now.on_new_line }
+    ensures cuts { result.cuts ≡ cuts_at parts.now.left_tab parts.now.on_new_line parts.now.pending }
+{
+    PlainEnd {
+        end: parts.end,
+        on_new_line: parts.on_new_line,
+        cuts: cuts(parts),
+    }
+}
+
+/// A plain scalar that was read up to its end, where it and what stands behind it are printable.
+fn finish_plain<'input, T: Input>(
+    cursor: &mut Cursor<T>,
+    at: &Layout,
+    start: Marker,
+    ended: &PlainEnd,
+    text: Text<'input>,
 ) -> Result<Lexed<'input>, ScanError>
-    ensures here { ReadsAs T.unread cursor.old cursor.new result (λ h.
-        coded plain_lexed (ended_plain (layout_data at.now) start parts.value (plain_state parts h))) }
+    ensures here { ReadsAs T.unread cursor.old cursor.new result (λ h. coded plain_lexed
+        (ended_plain (layout_data at.now) start text.entry ended.now.end ended.now.on_new_line ended.now.cuts h)) }
     ensures kinds { IfErr result (λ e. (c : ℕ) × (e.kind ≡ UnexpectedCharacter c)) }
     ensures moves { Moves T.left T.origin cursor.old cursor.new }
 {
-    if let Some(character) = find_non_printable(parts.value.as_str()) {
+    if let Some(character) = find_non_printable(text.as_str()) {
         return Err(ScanError::from_kind(start, ErrorKind::UnexpectedCharacter { character }));
     }
     cursor.look(1);
@@ -312,21 +351,104 @@ fn finish_plain<'input, T: Input>(
             ErrorKind::UnexpectedCharacter { character },
         ));
     }
-    let cut = !at.in_flow && meets_comment(character, &parts);
+    let cut = !at.in_flow && character == '#' && ended.cuts;
     let cut_by_comment = if cut { Some(cursor.mark()) } else { None };
-    let span = Span::new(start, parts.end);
-    let on_new_line = parts.on_new_line;
-    let token_type = TokenType::Scalar(ScalarStyle::Plain, Text::owned(parts.value));
+    let span = Span::new(start, ended.end);
+    let token_type = TokenType::Scalar(ScalarStyle::Plain, text);
     Ok(Lexed {
         token: Token::new(span, token_type),
         comment: None,
         cut_by_comment,
-        on_new_line,
+        on_new_line: ended.on_new_line,
     })
 }
 
+/// The text of a scalar by the content of its first line and of the further ones.
+fn text_of_lines<'input>(
+    alloc: Global,
+    is_one_line: bool,
+    front: &'input str,
+    further: &str,
+) -> Result<Text<'input>, NoMemory>
+    ensures { IfOk result (λ t. t ≡ (if is_one_line then lent (chars front.now)
+        else basics.owned (chars front.now ++ chars further.now))) }
+{
+    if is_one_line {
+        return Ok(Text::borrowed(front));
+    }
+    let mut text = String::new(alloc);
+    push_text(&mut text, front)?;
+    push_text(&mut text, further)?;
+    Ok(Text::owned(text))
+}
+
+/// Whether a break is next.
+fn at_break<T: Input>(cursor: &mut Cursor<T>) -> bool
+    ensures here { Wherever T.unread cursor.old cursor.new (λ h Lands.
+        Lands h × (result ≡ class.is_break (next_char h))) }
+    ensures moves { Moves T.left T.origin cursor.old cursor.new }
+{
+    cursor.look(1);
+    is_break(cursor.input().peek())
+}
+
+/// A scalar whose first line was passed; it ends with that, or may go on behind the break.
+fn read_passed<'input, T: Input>(
+    alloc: Global,
+    cursor: &mut Cursor<T>,
+    at: &Layout,
+    start: Marker,
+    line: &Line<'input>,
+) -> Result<Lexed<'input>, ScanError>
+    ensures here { ReadsAs T.unread cursor.old cursor.new result (λ h. coded plain_lexed
+        (line_scalar (layout_data at.now) start (chars line.now.front.now) line.now.end line.now.blank h)) }
+    ensures kinds { IfErr result (λ e. IsPlainKind e.kind) }
+    ensures moves { Moves T.left T.origin cursor.old cursor.new }
+{
+    if !at_break(cursor) {
+        let ended = PlainEnd {
+            end: line.end,
+            on_new_line: false,
+            cuts: line.blank,
+        };
+        return finish_plain(cursor, at, start, &ended, Text::borrowed(line.front));
+    }
+    past_break(cursor);
+    let parts = plain_parts(cursor, at, start, no_parts(alloc, line.end, true))?;
+    let is_one_line = start.line() == parts.end.line();
+    let text = text_of_lines(alloc, is_one_line, line.front, parts.value.as_str())?;
+    finish_plain(cursor, at, start, &end_of(&parts), text)
+}
+
+/// A scalar whose text is copied.
+fn read_copied<'input, T: Input>(
+    alloc: Global,
+    cursor: &mut Cursor<T>,
+    at: &Layout,
+    start: Marker,
+) -> Result<Lexed<'input>, ScanError>
+    ensures here { Wherever T.unread cursor.old cursor.new (λ h Lands. start ≡ mark_of h
+        → GivesTo (λ x. x) result Lands (coded plain_lexed (copied_plain (layout_data at.now) h))) }
+    ensures kinds { IfErr result (λ e. IsPlainKind e.kind) }
+    ensures moves { Moves T.left T.origin cursor.old cursor.new }
+{
+    let parts = plain_parts(cursor, at, start, no_parts(alloc, start, false))?;
+    let ended = end_of(&parts);
+    finish_plain(cursor, at, start, &ended, Text::owned(parts.value))
+}
+
+/// Whether a `-` directly before a flow indicator is next, in flow.
+fn at_flow_dash<T: Input>(cursor: &mut Cursor<T>, at: &Layout) -> bool
+    ensures here { Wherever T.unread cursor.old cursor.new (λ h Lands.
+        Lands h × (result ≡ extent.is_flow_dash (layout_data at.now) h.unread.text)) }
+    ensures moves { Moves T.left T.origin cursor.old cursor.new }
+{
+    cursor.look(2);
+    at.in_flow && cursor.input().peek() == '-' && is_flow(cursor.input().peek_nth(1))
+}
+
 #[tactic(auto, unfolding(granit_lexemes::specs::PlainScalar::plain_scalar))]
-fn read_plain<'input, T: Input>(
+fn read_plain<'input, T: BorrowedInput<'input>>(
     alloc: Global,
     cursor: &mut Cursor<T>,
     at: &Layout,
@@ -337,10 +459,14 @@ fn read_plain<'input, T: Input>(
     ensures moves { Moves T.left T.origin cursor.old cursor.new }
 {
     let start = cursor.mark();
-    cursor.look(2);
-    if at.in_flow && cursor.input().peek() == '-' && is_flow(cursor.input().peek_nth(1)) {
+    if at_flow_dash(cursor, at) {
         return Err(ScanError::from_kind(start, ErrorKind::PlainScalarStartsWithDashFlowIndicator));
     }
-    let parts = plain_parts(alloc, cursor, at, start)?;
-    finish_plain(cursor, at, start, parts)
+    match lending_offset(cursor) {
+        Some(from) => match pass_line(cursor, at, start, from) {
+            Ok(line) => read_passed(alloc, cursor, at, start, &line),
+            Err(e) => Err(e),
+        },
+        None => read_copied(alloc, cursor, at, start),
+    }
 }

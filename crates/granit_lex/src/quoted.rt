@@ -1,20 +1,23 @@
 //! Quoted scalars are read (YAML 1.2.2, 7.3.1 and 7.3.2).
-ghost use Rattle.std.specs.Prelude.{◌≡◌, ◌<◌, ◌≤◌, ◌-◌, ◌⊎◌, false, ◌++◌, IfOk, IfErr, OnOk, []};
+ghost use Rattle.std.specs.Prelude.{◌≡◌, ◌<◌, ◌≤◌, ◌-◌, ◌⊎◌, ◌==◌, ◌&&◌, ℕ, false, ◌++◌, IfOk, IfErr, OnOk};
+ghost use Rattle.std.specs.Str.{chars};
 ghost use Rattle.granit_base.specs.Classes as class;
 ghost use Rattle.granit_base.specs.Written.{string_chars};
-ghost use Rattle.granit_error.specs.FaultKind.{NoMemory as OutOfMemory};
+ghost use Rattle.granit_error.specs.FaultKind.{InputSlicingUnavailable, NoMemory as OutOfMemory};
+ghost use Rattle.granit_input.specs.Runs.{starts};
 ghost use Rattle.granit_error.specs.Kinds.{kind_of};
 ghost use Rattle.granit_lexemes.specs.Here.{Here, next_char, past, step};
 ghost use Rattle.granit_lexemes.specs.Basics as basics;
 ghost use Rattle.granit_lexemes.specs.QuotedExtent as extent;
 ghost use Rattle.granit_lexemes.specs.QuotedScalar as spec;
 ghost use Rattle.granit_lex.specs.PlainCode.{TurnTakes};
-ghost use Rattle.granit_lexemes.specs.QuotedScalar.{quoted_rest};
 ghost use Rattle.granit_cursor.specs.Reading.{Stands, Moves, Wherever, ReadsAs, AnswersAs, RefusedFor, coded};
+ghost use Rattle.granit_cursor.specs.Reading.{StepsRun};
 ghost use Rattle.granit_cursor.specs.Tokens.{layout_data};
 ghost use Rattle.granit_lex.specs.QuotedCode.{quoted_lexed, quoted_with, asked, IsQuotedFault, quoted_state};
 ghost use Rattle.granit_lex.specs.QuotedCode.{quoted_whole, quoted_ahead, content_read, SeesTo, SeesSome, TakesContent};
-ghost use Rattle.granit_lex.specs.QuotedCode.{added, escapes, QuotedTurnsTo, QuotedPartsTo, IsQuotedKind};
+ghost use Rattle.granit_lex.specs.QuotedCode.{added, escapes, QuotedTurnsTo, QuotedPartsTo, IsQuotedKind, kept_char};
+ghost use Rattle.granit_lex.specs.QuotedCode.{kept_chars, nothing_taken, PassesKept, copied_scalar, passed_scalar};
 
 use crate::escape::escape;
 use granit_base::{
@@ -22,8 +25,8 @@ use granit_base::{
     push_char, push_text,
 };
 use granit_cursor::{
-    Cursor, Layout, Lexed, Token, TokenType, drop_blanks, pass_comment, past_blanks, past_break,
-    read_comment,
+    Cursor, Layout, Lexed, Token, TokenType, drop_blanks, lending_offset, lent_since, pass_comment,
+    past_blanks, past_break, read_comment,
 };
 use granit_error::{ErrorKind, ScanError};
 use granit_input::{BorrowedInput, Input};
@@ -32,8 +35,8 @@ use std::marker::Model;
 
 /// The quoted scalar that begins here with its quote, single or double (YAML 1.2.2, 7.3.1 and 7.3.2), with
 /// the comment behind it on its last line, where comments are asked for; the cursor then stands behind the
-/// scalar, its blanks and the comment. Its value is folded (6.5), its escapes are read (5.7), and it is
-/// owned. No break is read behind it.
+/// scalar, its blanks and the comment. Its value is folded (6.5), and its escapes are read (5.7). It is lent
+/// where the input lends and nothing in it was decoded. No break is read behind it.
 ///
 /// # Errors
 ///
@@ -43,7 +46,8 @@ use std::marker::Model;
 /// and `InvalidQuotedScalarIndent` for content, the closing quote or the end on a further line left of
 /// where it may stand; `CommentNotSeparated` for a `#` directly behind the closing quote;
 /// `InvalidTrailingSingleQuotedScalar` and `InvalidTrailingDoubleQuotedScalar` for what may not follow;
-/// `UnexpectedCharacter` for one that isn't printable.
+/// `UnexpectedCharacter` for one that isn't printable. `InputSlicingUnavailable`, where the input refuses to
+/// lend what it could.
 pub fn scan_quoted_scalar<'input, T: BorrowedInput<'input>>(
     alloc: Global,
     cursor: &mut Cursor<T>,
@@ -337,18 +341,31 @@ fn take_turn<T: Input>(
     }
 }
 
-/// All of a quoted scalar between its quotes.
-fn quoted_parts<T: Input>(
-    alloc: Global,
-    cursor: &mut Cursor<T>,
-    single: bool,
-    at: &Layout,
-    start: Marker,
-) -> Result<QuotedParts, ScanError>
-    ensures here { Wherever T.unread cursor.old cursor.new (λ h Lands.
-        QuotedPartsTo result Lands (quoted_rest single (layout_data at.now) start (spec.quoted_at false h))) }
-    ensures kinds { IfErr result (λ e. IsQuotedKind e.kind) }
-    ensures moves { Moves T.left T.origin cursor.old cursor.new }
+/// What is held behind a character that stands for itself.
+fn push_kept(parts: &mut QuotedParts, c: char) -> Result<(), NoMemory>
+    ensures { OnOk result (parts.new ≡ kept_char parts.old c) }
+{
+    if is_blank(c) {
+        return push_char(&mut parts.pending, c);
+    }
+    push_text(&mut parts.value, parts.pending.as_str())?;
+    drop_blanks(&mut parts.pending);
+    push_char(&mut parts.value, c)
+}
+
+/// What is held behind characters that stand for themselves.
+fn push_all_kept(parts: &mut QuotedParts, text: &str) -> Result<(), NoMemory>
+    ensures { OnOk result (parts.new ≡ kept_chars parts.old (chars text.now)) }
+{
+    for c in text.chars() {
+        push_kept(parts, c)?;
+    }
+    Ok(())
+}
+
+/// What is held behind the characters that were passed.
+fn parts_behind(alloc: Global, front: &str) -> Result<QuotedParts, NoMemory>
+    ensures { IfOk result (λ p. p ≡ kept_chars nothing_taken (chars front.now)) }
 {
     let mut parts = QuotedParts {
         value: String::new(alloc),
@@ -356,6 +373,24 @@ fn quoted_parts<T: Input>(
         on_new_line: false,
         escaped: false,
     };
+    push_all_kept(&mut parts, front)?;
+    Ok(parts)
+}
+
+/// All of a quoted scalar between its quotes, behind what was passed of it.
+fn quoted_parts<T: Input>(
+    cursor: &mut Cursor<T>,
+    single: bool,
+    at: &Layout,
+    start: Marker,
+    parts: QuotedParts,
+) -> Result<QuotedParts, ScanError>
+    ensures here { Wherever T.unread cursor.old cursor.new (λ h Lands.
+        QuotedPartsTo result Lands (quoted_whole single (layout_data at.now) start parts h)) }
+    ensures kinds { IfErr result (λ e. IsQuotedKind e.kind) }
+    ensures moves { Moves T.left T.origin cursor.old cursor.new }
+{
+    let mut parts = parts;
     'turns: while take_turn(cursor, single, at, start, &mut parts)? {}
     Ok(parts)
 }
@@ -381,15 +416,15 @@ fn trailing_kind(single: bool) -> ErrorKind
     ErrorKind::InvalidTrailingDoubleQuotedScalar
 }
 
-/// The scalar of that value between two places, with the comment behind it.
+/// The scalar of that text between two places, with the comment behind it.
 fn quoted_token<'input>(
     single: bool,
     start: Marker,
     end: Marker,
-    value: String,
+    text: Text<'input>,
     comment: Option<Token<'input>>,
 ) -> Lexed<'input>
-    ensures { result ≡ quoted_with single start (string_chars value) end comment.entry }
+    ensures { result ≡ quoted_with single start text.entry end comment.entry }
 {
     let style = if single {
         ScalarStyle::SingleQuoted
@@ -397,10 +432,7 @@ fn quoted_token<'input>(
         ScalarStyle::DoubleQuoted
     };
     Lexed {
-        token: Token::new(
-            Span::new(start, end),
-            TokenType::Scalar(style, Text::owned(value)),
-        ),
+        token: Token::new(Span::new(start, end), TokenType::Scalar(style, text)),
         comment,
         cut_by_comment: None,
         on_new_line: false,
@@ -414,11 +446,11 @@ fn behind_quoted<'input, T: Input>(
     single: bool,
     at: &Layout,
     start: Marker,
-    value: String,
+    text: Text<'input>,
     end: Marker,
 ) -> Result<Lexed<'input>, ScanError>
     ensures here { ReadsAs T.unread cursor.old cursor.new result (λ h. coded (quoted_lexed single)
-        (spec.behind_quoted single (layout_data at.now) start (string_chars value) end h)) }
+        (spec.behind_quoted single (layout_data at.now) start text.entry end h)) }
     ensures kinds { IfErr result (λ e. IsQuotedFault e.kind) }
     ensures moves { Moves T.left T.origin cursor.old cursor.new }
 {
@@ -433,12 +465,12 @@ fn behind_quoted<'input, T: Input>(
             return Err(ScanError::from_kind(mark, trailing_kind(single)));
         }
     }
-    Ok(quoted_token(single, start, end, value, None))
+    Ok(quoted_token(single, start, end, text, None))
 }
 
 /// The comment that begins here, where comments are asked for.
 #[tactic(auto, unfolding(granit_lexemes::specs::Comment::comment))]
-fn comment_behind<'input, T: Input>(
+fn comment_behind<'input, T: BorrowedInput<'input>>(
     alloc: Global,
     cursor: &mut Cursor<T>,
     at: &Layout,
@@ -457,16 +489,16 @@ fn comment_behind<'input, T: Input>(
 
 /// What stands behind the closing quote: a comment, which blanks part from it, or what may follow.
 #[tactic(auto, unfolding(granit_lexemes::specs::QuotedScalar::quoted_tail))]
-fn quoted_tail<'input, T: Input>(
+fn quoted_tail<'input, T: BorrowedInput<'input>>(
     alloc: Global,
     cursor: &mut Cursor<T>,
     single: bool,
     at: &Layout,
     start: Marker,
-    value: String,
+    text: Text<'input>,
 ) -> Result<Lexed<'input>, ScanError>
     ensures here { ReadsAs T.unread cursor.old cursor.new result (λ h. coded (quoted_lexed single)
-        (spec.quoted_tail single (layout_data at.now) start (string_chars value) h)) }
+        (spec.quoted_tail single (layout_data at.now) start text.entry h)) }
     ensures kinds { IfErr result (λ e. IsQuotedKind e.kind) }
     ensures moves { Moves T.left T.origin cursor.old cursor.new }
 {
@@ -479,13 +511,108 @@ fn quoted_tail<'input, T: Input>(
     cursor.look(1);
     if cursor.input().peek() == '#' {
         let comment = comment_behind(alloc, cursor, at)?;
-        return Ok(quoted_token(single, start, end, value, comment));
+        return Ok(quoted_token(single, start, end, text, comment));
     }
-    behind_quoted(cursor, single, at, start, value, end)
+    behind_quoted(cursor, single, at, start, text, end)
 }
 
-#[tactic(auto, unfolding(granit_lexemes::specs::QuotedScalar::quoted_scalar))]
-fn read_quoted<'input, T: Input>(
+/// On over blanks and characters that stand for themselves.
+fn skip_kept<T: Input>(cursor: &mut Cursor<T>, single: bool)
+    ensures here { Wherever T.unread cursor.old cursor.new (λ h Lands.
+        (n : ℕ) × StepsRun (starts (spec.is_kept single)) h n Lands) }
+    ensures moves { Moves T.left T.origin cursor.old cursor.new }
+{
+    'kept: loop {
+        let content = cursor.skip_quoted(single);
+        let blanks = cursor.skip_while_blank();
+        if is_nothing(content, blanks) {
+            return;
+        }
+    }
+}
+
+/// Whether no character of either kind was taken.
+fn is_nothing(content: usize, blanks: usize) -> bool
+    ensures { result ≡ (content == 0 && blanks == 0) }
+{
+    content == 0 && blanks == 0
+}
+
+/// The characters in front that stand for themselves, where the input lends them.
+fn pass_kept<'input, T: BorrowedInput<'input>>(
+    cursor: &mut Cursor<T>,
+    single: bool,
+) -> Result<Option<&'input str>, ScanError>
+    ensures here { Wherever T.unread cursor.old cursor.new (λ h Lands. PassesKept single h result Lands) }
+    ensures kinds { IfErr result (λ e. e.kind ≡ InputSlicingUnavailable) }
+    ensures moves { Moves T.left T.origin cursor.old cursor.new }
+{
+    match lending_offset(cursor) {
+        Some(start) => {
+            skip_kept(cursor, single);
+            match lent_since(cursor, start) {
+                Ok(text) => Ok(Some(text)),
+                Err(e) => Err(e),
+            }
+        }
+        None => Ok(None),
+    }
+}
+
+/// Whether the closing quote is next.
+fn at_closing<T: Input>(cursor: &mut Cursor<T>, single: bool) -> bool
+    ensures here { Wherever T.unread cursor.old cursor.new (λ h Lands.
+        Lands h × (result ≡ spec.is_closing single h.unread.text)) }
+    ensures moves { Moves T.left T.origin cursor.old cursor.new }
+{
+    cursor.look(4);
+    is_closing(cursor, single)
+}
+
+/// A scalar whose text is copied, behind what was passed of it.
+fn read_copied<'input, T: BorrowedInput<'input>>(
+    alloc: Global,
+    cursor: &mut Cursor<T>,
+    single: bool,
+    at: &Layout,
+    start: Marker,
+    front: &str,
+) -> Result<Lexed<'input>, ScanError>
+    ensures here { ReadsAs T.unread cursor.old cursor.new result (λ h. coded (quoted_lexed single)
+        (copied_scalar single (layout_data at.now) start (chars front.now) h)) }
+    ensures kinds { IfErr result (λ e. IsQuotedKind e.kind) }
+    ensures moves { Moves T.left T.origin cursor.old cursor.new }
+{
+    let behind = parts_behind(alloc, front)?;
+    let mut parts = quoted_parts(cursor, single, at, start, behind)?;
+    cursor.step();
+    push_between(&mut parts)?;
+    quoted_tail(alloc, cursor, single, at, start, Text::owned(parts.value))
+}
+
+/// A scalar behind its opening quote and the characters that were passed, which are its text where the closing
+/// quote is next.
+fn read_passed<'input, T: BorrowedInput<'input>>(
+    alloc: Global,
+    cursor: &mut Cursor<T>,
+    single: bool,
+    at: &Layout,
+    start: Marker,
+    front: &'input str,
+) -> Result<Lexed<'input>, ScanError>
+    ensures here { ReadsAs T.unread cursor.old cursor.new result (λ h. coded (quoted_lexed single)
+        (passed_scalar single (layout_data at.now) start (chars front.now) h)) }
+    ensures kinds { IfErr result (λ e. IsQuotedKind e.kind) }
+    ensures moves { Moves T.left T.origin cursor.old cursor.new }
+{
+    if at_closing(cursor, single) {
+        cursor.step();
+        return quoted_tail(alloc, cursor, single, at, start, Text::borrowed(front));
+    }
+    read_copied(alloc, cursor, single, at, start, front)
+}
+
+fn read_quoted<'input, T: BorrowedInput<'input>>(
     alloc: Global,
     cursor: &mut Cursor<T>,
     single: bool,
@@ -498,8 +625,9 @@ fn read_quoted<'input, T: Input>(
 {
     let start = cursor.mark();
     cursor.step();
-    let mut parts = quoted_parts(alloc, cursor, single, at, start)?;
-    cursor.step();
-    push_between(&mut parts)?;
-    quoted_tail(alloc, cursor, single, at, start, parts.value)
+    match pass_kept(cursor, single) {
+        Ok(Some(front)) => read_passed(alloc, cursor, single, at, start, front),
+        Ok(None) => read_copied(alloc, cursor, single, at, start, ""),
+        Err(e) => Err(e),
+    }
 }

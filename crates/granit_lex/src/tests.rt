@@ -51,6 +51,55 @@ fn refused(alloc: Global, text: &str) -> Option<(u8, usize)> {
     Some((error.kind().number(), error.marker().index()))
 }
 
+/// Whether the text of the scalar at the start of a text is lent.
+fn is_lent(alloc: Global, text: &str) -> Option<bool> {
+    let mut cursor = Cursor::new(StrInput::new(text));
+    let lexed = scalar_at(alloc, &mut cursor, &nested())?.ok()?;
+    match lexed.token.token_type() {
+        TokenType::Scalar(_, text) => Some(text.is_borrowed()),
+        _ => None,
+    }
+}
+
+/// Whether the text of the comment behind the scalar at the start of a text is lent.
+fn is_comment_lent(alloc: Global, text: &str) -> Option<bool> {
+    let mut cursor = Cursor::new(StrInput::new(text));
+    let mut at = nested();
+    at.comments = true;
+    let lexed = scalar_at(alloc, &mut cursor, &at)?.ok()?;
+    match lexed.comment?.into_parts() {
+        (_, TokenType::Comment(comment)) => Some(comment.into_text().is_borrowed()),
+        _ => None,
+    }
+}
+
+#[test]
+fn texts_are_lent(rt: HostRuntime) {
+    let rows = [
+        ("a b\t c #d", true),
+        ("é", true),
+        ("a\n", true),
+        ("a  \n\nb: c", true),
+        ("a\n b", false),
+        ("a\n\n b\n", false),
+        ("'a b'", true),
+        ("'é \"\\ ' #c", true),
+        ("''", true),
+        ("' '", true),
+        ("'a''b'", false),
+        ("'a\n b'", false),
+        ("\"a b\"", true),
+        ("\"a ' b\"", true),
+        ("\"a\\tb\"", false),
+        ("\"a\\\n b\"", false),
+        ("\"\n a\"", false),
+    ];
+    for (text, lent) in rows {
+        assert_eq!(rt; is_lent(rt.alloc(), text), Some(lent), "at {text}");
+    }
+    assert_eq!(rt; is_comment_lent(rt.alloc(), "'a' #é"), Some(true));
+}
+
 #[test]
 fn scalars_are_read(rt: HostRuntime) {
     let rows = [

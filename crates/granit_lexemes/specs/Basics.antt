@@ -1,5 +1,5 @@
 -- What the readers of all lexemes share.
-use Rattle.std.specs.Prelude.{ℕ, ◌-◌, Bool, false, ◌==◌, ◌&&◌, ◌||◌, not, if◌then◌else◌, List, take, slice_index}
+use Rattle.std.specs.Prelude.{ℕ, ◌-◌, Bool, true, false, ◌==◌, ◌&&◌, ◌||◌, not, if◌then◌else◌, List, take, slice_index}
 use Rattle.std.specs.Prelude.{Option, Some, None, Result, Err}
 use Rattle.std.specs.List.{find}
 use Rattle.granit_base.specs.Classes.{is_blank_or_breakz, is_printable}
@@ -38,6 +38,14 @@ only_printable (Some c) start given = fails_at (UnexpectedCharacter c) start
 -- a text of its own
 abbrev pub owned : List ℕ → Written
 owned text = record { characters = text; is_borrowed = false }
+
+-- a text that is lent where the input lends and nothing in it was decoded
+abbrev pub lent_if : (verbatim : Bool) → Here → List ℕ → Written
+lent_if verbatim h text = record { characters = text; is_borrowed = verbatim && h.unread.lends }
+
+-- a text as it stands in the source, which is lent where the input lends
+abbrev pub as_spelled : Here → List ℕ → Written
+as_spelled h text = lent_if true h text
 
 -- how many characters stand between a place and a later one, and these characters
 abbrev pub count_up_to : Here → Here → ℕ

@@ -6,7 +6,7 @@ use Rattle.granit_base.specs.Place.{Mark, first}
 use Rattle.granit_base.specs.Written.{Written}
 use Rattle.granit_error.specs.FaultKind.{FaultKind, UnexpectedCharacter}
 use Rattle.granit_lexemes.specs.Gap.{Each}
-use Rattle.granit_lexemes.specs.Basics.{fails_at, owned}
+use Rattle.granit_lexemes.specs.Basics.{fails_at, as_spelled}
 use Rattle.granit_lexemes.specs.Here.{Here, text_len, next_char, mark_of, step, chunk_len, chunk, mid_line}
 use Rattle.granit_lexemes.specs.Source.{Source}
 use Rattle.granit_lexemes.specs.Moves.{steps}
@@ -58,7 +58,7 @@ skipped_comment h = behind_comment (past_comment h)
 -- the comment that begins here and ends there
 abbrev pub comment_read : Here → Here → CommentRead
 comment_read h after = record {
-  text = owned (chunk is_comment_char (step h));
+  text = as_spelled h (chunk is_comment_char (step h));
   source = record { start = mark_of h; end = mark_of after };
   is_right = not h.begins_line;
 }
@@ -72,7 +72,7 @@ comment h = skipped_comment h >>= λ x. Ok (comment_read h x.1, x.1)
 -- the comment of these characters that begins here
 abbrev pub comment_of : List ℕ → Here → CommentRead
 comment_of cs h = record {
-  text = owned cs;
+  text = as_spelled h cs;
   source = record { start = mark_of h; end = mark_of (steps (suc (length cs)) h) };
   is_right = not h.begins_line;
 }

@@ -2,7 +2,9 @@
 use Rattle.std.specs.Prelude.{◌≡◌, ◌≢◌, ℕ, ◌==◌, Bool, true, false, ◌||◌, List, [], ◌∷◌, ◌++◌, slice_index}
 use Rattle.granit_base.specs.Classes.{is_anchor_char}
 use Rattle.granit_base.specs.Place.{Mark, first}
+use Rattle.granit_base.specs.Written.{Written}
 use Rattle.granit_error.specs.FaultKind.{FaultKind, MissingAnchorOrAliasName}
+use Rattle.granit_lexemes.specs.Basics.{as_spelled}
 use Rattle.granit_lexemes.specs.Gap.{Each}
 use Rattle.granit_lexemes.specs.Here.{Here, mark_of}
 use Rattle.granit_lexemes.specs.PlainExtent.{over}
@@ -21,10 +23,11 @@ pub record NameStands (h : Here) (name rest : List ℕ) : Type 0 where
   pub all : is_anchor_char (first rest) ≡ false
 
 -- A name is answered where it stands, and reading goes on behind it.
-pub record AnswersName (h : Here) (name : List ℕ) (after : Here) : Type 0 where
+pub record AnswersName (h : Here) (name : Written) (after : Here) : Type 0 where
   pub rest : List ℕ
-  pub stands : NameStands h name rest
-  pub reached : after ≡ over (first h.unread.text ∷ name) h
+  pub stands : NameStands h name.characters rest
+  pub is : name ≡ as_spelled h name.characters
+  pub reached : after ≡ over (first h.unread.text ∷ name.characters) h
 
 -- why a name is refused, and where
 pub data RefusesName (h : Here) : FaultKind → Mark → Type 0 where

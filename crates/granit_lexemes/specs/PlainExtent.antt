@@ -9,8 +9,8 @@ use Rattle.granit_lexemes.specs.Folding.{folded}
 use Rattle.granit_lexemes.specs.Gap.{Each}
 use Rattle.granit_lexemes.specs.Here.{Here, mark_of, step}
 use Rattle.granit_lexemes.specs.LayoutData.{LayoutData, is_left, is_outside}
-use Rattle.granit_lexemes.specs.Basics.{is_document_mark, unprintable, owned}
-use Rattle.granit_lexemes.specs.PlainScalar.{PlainRead}
+use Rattle.granit_lexemes.specs.Basics.{is_document_mark, unprintable, lent_if}
+use Rattle.granit_lexemes.specs.PlainScalar.{PlainRead, is_one_line}
 use Rattle.granit_base.specs.PlainContent.{is_content}
 
 -- What stands between two characters of content, or behind the last one: blanks (s-separate-in-line), or breaks with
@@ -130,7 +130,7 @@ behind_of h source tail = over (separation_text tail) (over source h)
 -- what is answered for it
 abbrev pub plain_answer : LayoutData → Here → (source : List ℕ) → (tail : Separation) → (rest : List ℕ) → PlainRead
 plain_answer at h source tail rest = record {
-  text = owned (folded source);
+  text = lent_if (is_one_line (mark_of h) (mark_of (over source h))) h (folded source);
   source = record { start = mark_of h; end = mark_of (over source h) };
   cut_by_comment = if not at.in_flow && is_cut at tail rest then Some (mark_of (behind_of h source tail)) else None;
   on_new_line = is_folded tail;

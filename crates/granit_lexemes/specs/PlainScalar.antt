@@ -6,7 +6,7 @@ use Rattle.granit_base.specs.Place.{Mark}
 use Rattle.granit_base.specs.PlainContent.{is_content}
 use Rattle.granit_base.specs.Written.{Written}
 use Rattle.granit_error.specs.FaultKind.{PlainScalarStartsWithDashFlowIndicator, TabInPlainScalar, UnexpectedCharacter}
-use Rattle.granit_lexemes.specs.Basics.{fails_at, past_break, is_document_mark, unprintable, only_printable, owned}
+use Rattle.granit_lexemes.specs.Basics.{fails_at, past_break, is_document_mark, unprintable, only_printable, lent_if}
 use Rattle.granit_lexemes.specs.Here.{Here, text_len, next_char, mark_of, step}
 use Rattle.granit_lexemes.specs.LayoutData.{LayoutData, is_left, is_outside}
 use Rattle.granit_lexemes.specs.Source.{Source}
@@ -96,9 +96,13 @@ plain_start h = record { here = h; end = mark_of h; pending = []; on_new_line = 
 abbrev pub cut_mark : LayoutData → PlainState → Option Mark
 cut_mark at s = if not at.in_flow && meets_comment s then Some (mark_of s.here) else None
 
+-- whether a scalar that begins and ends there stands on one line, so that its text is spelled as it is
+abbrev pub is_one_line : (start end : Mark) → Bool
+is_one_line start end = start.place.line == end.place.line
+
 abbrev pub plain_read : LayoutData → Mark → List ℕ → PlainState → PlainRead
 plain_read at start value s = record {
-  text = owned value;
+  text = lent_if (is_one_line start s.end) s.here value;
   source = record { start = start; end = s.end };
   cut_by_comment = cut_mark at s;
   on_new_line = s.on_new_line;

@@ -1,6 +1,7 @@
 -- How far a quoted scalar goes, what it spells, and what is refused at it (YAML 1.2.2, 7.3.1, 7.3.2 and 6.5).
 use Rattle.std.specs.Prelude.{◌≡◌, ℕ, suc, ◌<◌, ◌==◌, Bool, true, false, ◌&&◌, ◌||◌, not, List, [], ◌∷◌, ◌++◌, length}
 use Rattle.std.specs.Prelude.{slice_index, replicate, Option, Some, None}
+use Rattle.std.specs.List.{list_all}
 use lib.Utf8.{scalar}
 use Rattle.granit_base.specs.Classes.{is_blank, is_break, is_gap, is_hex, is_printable}
 use Rattle.granit_base.specs.Place.{Mark, first}
@@ -17,8 +18,9 @@ use Rattle.granit_lexemes.specs.Gap.{Each}
 use Rattle.granit_lexemes.specs.Here.{Here, mark_of}
 use Rattle.granit_lexemes.specs.LayoutData.{LayoutData, is_left}
 use Rattle.granit_lexemes.specs.PlainExtent.{over, starts_comment}
-use Rattle.granit_lexemes.specs.Basics.{is_document_mark, owned}
-use Rattle.granit_lexemes.specs.QuotedScalar.{QuotedRead, quote_char, is_closing, is_tab_left, asked_comment, may_trail}
+use Rattle.granit_lexemes.specs.Basics.{is_document_mark, lent_if}
+use Rattle.granit_lexemes.specs.QuotedScalar.{QuotedRead, quote_char, is_closing, is_tab_left, is_literal, is_kept}
+use Rattle.granit_lexemes.specs.QuotedScalar.{asked_comment, may_trail}
 
 -- ---- blanks and breaks
 
@@ -62,14 +64,6 @@ between_text escaped (Blanks blanks) = blanks
 between_text escaped (Lines empty column) = lines_text escaped empty
 
 -- ---- content
-
--- neither the quote, nor between double quotes a backslash
-abbrev pub is_simple : Bool → ℕ → Bool
-is_simple single c = not (c == quote_char single) && (single || not (c == 0x5C))
-
--- a character that stands for itself: neither a blank nor a break, nor the quote, nor between double quotes a backslash
-unfoldable pub is_literal : Bool → ℕ → Bool
-is_literal single c = (not (is_gap c) && is_printable c) && is_simple single c
 
 -- One piece of content, in front of what stands behind it, what it stands for, and whether it escapes a break. A
 -- backslash before a break is content that stands for nothing.
@@ -157,11 +151,15 @@ pub data Trails (at : LayoutData) (start : Mark) (end : Here) : Option CommentRe
       → after ≡ over blanks end → ends_quoted at start after ≡ true
       → Trails at start end None after
 
+-- whether what stands between the quotes is the value as it is: it holds no break, no escape and no doubled quote
+abbrev pub is_unchanged : Bool → (inside : List ℕ) → Bool
+is_unchanged single inside = list_all (is_kept single) inside
+
 -- what is answered for it; no break behind it is read
-abbrev pub quoted_answer : Bool → Mark → (value : List ℕ) → Mark → Option CommentRead → QuotedRead
-quoted_answer single start value end noted = record {
-  text = owned value;
-  source = record { start = start; end = end };
+abbrev pub quoted_answer : Bool → Here → (source gap : List ℕ) → (value : List ℕ) → Option CommentRead → QuotedRead
+quoted_answer single h source gap value noted = record {
+  text = lent_if (is_unchanged single (source ++ gap)) h value;
+  source = record { start = mark_of h; end = mark_of (quoted_end single h source gap) };
   comment = noted;
   on_new_line = false;
 }
@@ -177,8 +175,7 @@ pub record AnswersQuoted (single : Bool) (at : LayoutData) (h : Here) (read : Qu
   pub noted : Option CommentRead
   pub stands : QuotedStands single at h source value gap left between rest
   pub trails : Trails at (mark_of h) (quoted_end single h source gap) noted after
-  pub answer : read ≡ quoted_answer single (mark_of h) (quoted_value value left between)
-      (mark_of (quoted_end single h source gap)) noted
+  pub answer : read ≡ quoted_answer single h source gap (quoted_value value left between) noted
 
 -- ---- refusals
 

@@ -2,7 +2,7 @@
 use Rattle.std.specs.Prelude.{ℕ, zero, suc, ◌+◌, ◌*◌, ◌==◌, Bool, true, false, ◌&&◌, ◌||◌, not, if◌then◌else◌, nat_lt}
 use Rattle.std.specs.Prelude.{List, [], ◌∷◌, ◌++◌, length, slice_index, Option, Some, None, Result, Ok}
 use lib.Utf8.{scalar}
-use Rattle.granit_base.specs.Classes.{is_blank, is_break, is_hex, hex_value, is_printable}
+use Rattle.granit_base.specs.Classes.{is_blank, is_break, is_gap, is_hex, hex_value, is_printable}
 use Rattle.granit_base.specs.Place.{Mark, first}
 use Rattle.granit_base.specs.Written.{Written}
 use Rattle.granit_base.specs.declared.style.ScalarStyle.{ScalarStyle}
@@ -20,7 +20,7 @@ use Rattle.granit_lexemes.specs.LayoutData.{LayoutData, is_left}
 use Rattle.granit_lexemes.specs.Source.{Source}
 use Rattle.granit_lexemes.specs.Outcome.{Fault, ◌>>=◌}
 use Rattle.granit_lexemes.specs.Pieces.{pieces}
-use Rattle.granit_lexemes.specs.Basics.{fails_at, past_break, is_document_mark, owned}
+use Rattle.granit_lexemes.specs.Basics.{fails_at, past_break, is_document_mark, lent_if}
 
 -- where reading stands in a quoted scalar
 pub record QuotedState : Type 0 where
@@ -162,11 +162,34 @@ quoted_turn single at start s =
 abbrev pub quoted_len : QuotedState → ℕ
 quoted_len s = text_len s.here
 
+-- ---- what nothing is decoded of
+
+-- neither the quote, nor between double quotes a backslash
+abbrev pub is_simple : Bool → ℕ → Bool
+is_simple single c = not (c == quote_char single) && (single || not (c == 0x5C))
+
+-- a character that stands for itself: neither a blank nor a break, nor the quote, nor between double quotes a backslash
+unfoldable pub is_literal : Bool → ℕ → Bool
+is_literal single c = (not (is_gap c) && is_printable c) && is_simple single c
+
+-- such a character, or a blank, which stands for itself inside a line
+abbrev pub is_kept : Bool → ℕ → Bool
+is_kept single c = is_blank c || is_literal single c
+
+-- whether no other stands before the closing quote: no break, no escape and no doubled quote
+abbrev pub is_verbatim : Bool → (text : List ℕ) → Bool
+is_verbatim single [] = false
+is_verbatim single (c ∷ cs) = if is_kept single c then is_verbatim single cs else is_closing single (c ∷ cs)
+
+-- the text of a quoted scalar, from behind its opening quote
+abbrev pub quoted_text : Bool → Here → (value : List ℕ) → Written
+quoted_text single h value = lent_if (is_verbatim single h.unread.text) h value
+
 -- ---- behind the closing quote
 
-abbrev pub quoted_read : Bool → Mark → List ℕ → Mark → Option CommentRead → QuotedRead
-quoted_read single start value end noted = record {
-  text = owned value;
+abbrev pub quoted_read : Bool → Mark → Written → Mark → Option CommentRead → QuotedRead
+quoted_read single start text end noted = record {
+  text = text;
   source = record { start = start; end = end };
   comment = noted;
   on_new_line = false;
@@ -185,21 +208,21 @@ may_trail at on_line c = (is_break c || (at.in_flow && ((c == 0x2C || c == 0x3A)
     || (on_line && c == 0x3A)
 
 -- behind the closing quote and blanks, where no comment begins
-unfoldable pub behind_quoted : Bool → LayoutData → Mark → List ℕ → Mark → Here → Result (QuotedRead × Here) Fault
-behind_quoted single at start value end h =
-    if text_len h == 0 then Ok (quoted_read single start value end None, h)
+unfoldable pub behind_quoted : Bool → LayoutData → Mark → Written → Mark → Here → Result (QuotedRead × Here) Fault
+behind_quoted single at start text end h =
+    if text_len h == 0 then Ok (quoted_read single start text end None, h)
     else if not (is_printable (next_char h)) then fails_at (UnexpectedCharacter (next_char h)) (mark_of h)
     else if may_trail at (h.place.line == start.place.line) (next_char h) then Ok
-    (quoted_read single start value end None, h)
+    (quoted_read single start text end None, h)
     else fails_at (trailing_kind single) (mark_of h)
 
 -- behind the closing quote: a comment, which blanks part from it, or what may follow
-unfoldable pub quoted_tail : Bool → LayoutData → Mark → List ℕ → Here → Result (QuotedRead × Here) Fault
-quoted_tail single at start value h =
+unfoldable pub quoted_tail : Bool → LayoutData → Mark → Written → Here → Result (QuotedRead × Here) Fault
+quoted_tail single at start text h =
     if next_char h == 0x23 then fails_at CommentNotSeparated (mark_of h)
     else if next_char (past is_blank h) == 0x23 then
-    (comment (past is_blank h) >>= λ x. Ok (quoted_read single start value (mark_of h) (asked_comment at x.0), x.1))
-    else behind_quoted single at start value (mark_of h) (past is_blank h)
+    (comment (past is_blank h) >>= λ x. Ok (quoted_read single start text (mark_of h) (asked_comment at x.0), x.1))
+    else behind_quoted single at start text (mark_of h) (past is_blank h)
 
 -- what is read from a state on
 abbrev pub quoted_rest : Bool → LayoutData → Mark → QuotedState → Result (List ℕ × QuotedState) Fault
@@ -210,4 +233,4 @@ quoted_rest single at start s = pieces quoted_len (quoted_turn single at start) 
 unfoldable pub quoted_scalar : (single : Bool) → LayoutData → Here → Result (QuotedRead × Here) Fault
 quoted_scalar single at h =
     quoted_rest single at (mark_of h) (quoted_at false (step h)) >>= λ x.
-    quoted_tail single at (mark_of h) (x.0 ++ between_quoted x.1) (step x.1.here)
+    quoted_tail single at (mark_of h) (quoted_text single (step h) (x.0 ++ between_quoted x.1)) (step x.1.here)

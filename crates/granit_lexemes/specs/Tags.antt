@@ -7,6 +7,7 @@ use lib.Pointwise.{pointwise}
 use Rattle.granit_base.specs.Classes.{is_within, is_hex, hex_value, is_alpha, is_uri_char, is_tag_char, is_anchor_char}
 use Rattle.granit_base.specs.Classes.{is_blank_or_breakz}
 use Rattle.granit_base.specs.Place.{Mark}
+use Rattle.granit_base.specs.Written.{Written}
 use Rattle.granit_error.specs.FaultKind.{DirectiveByteLimitExceeded, InvalidTagEscape, InvalidTagUtf8LeadingByte}
 use Rattle.granit_error.specs.FaultKind.{InvalidTagUtf8TrailingByte, InvalidTagUtf8, MissingTagUri, UnclosedVerbatimTag}
 use Rattle.granit_error.specs.FaultKind.{InvalidTagTerminator, MissingAnchorOrAliasName}
@@ -14,7 +15,7 @@ use Rattle.granit_lexemes.specs.Here.{Here, text_len, next_char, mark_of, step, 
 use Rattle.granit_lexemes.specs.Moves.{steps}
 use Rattle.granit_lexemes.specs.Outcome.{Fault, ◌>>=◌}
 use Rattle.granit_lexemes.specs.Pieces.{pieces}
-use Rattle.granit_lexemes.specs.Basics.{fails_at, count_up_to, text_up_to}
+use Rattle.granit_lexemes.specs.Basics.{fails_at, as_spelled, count_up_to, text_up_to}
 
 -- how many bytes a directive may still hold, and how many it may hold in all
 pub record Budget : Type 0 where
@@ -140,11 +141,11 @@ tag_at in_flow h =
 
 -- ---- anchors and aliases (6.9.2, 7.1)
 
-abbrev pub name_up_to : Here → Here → Result (List ℕ × Here) Fault
+abbrev pub name_up_to : Here → Here → Result (Written × Here) Fault
 name_up_to h after =
     if count_up_to (step h) after == 0 then fails_at MissingAnchorOrAliasName (mark_of h)
-    else Ok (text_up_to (step h) after, after)
+    else Ok (as_spelled h (text_up_to (step h) after), after)
 
 -- the name behind an `&` or `*` that stands here, and the place behind it
-unfoldable pub name_at : Here → Result (List ℕ × Here) Fault
+unfoldable pub name_at : Here → Result (Written × Here) Fault
 name_at h = name_up_to h (past is_anchor_char (step h))

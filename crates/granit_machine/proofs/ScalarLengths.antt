@@ -4,6 +4,7 @@ use Rattle.std.proofs.Common.{Result, Ok, arith}
 use Rattle.std.specs.Prelude.{if◌then◌else◌}
 use Rattle.granit_base.specs.Classes.{is_blank, hex_value}
 use Rattle.granit_base.specs.Place.{Mark}
+use Rattle.granit_base.specs.Written.{Written}
 use Rattle.granit_error.specs.FaultKind.{FaultKind, InvalidLowSurrogateHexEscape, InvalidQuotedScalarHexEscape}
 use Rattle.granit_lexemes.specs.Basics.{past_break, only_printable, unprintable}
 use Rattle.granit_lexemes.specs.Comment.{comment}
@@ -19,6 +20,7 @@ use Rattle.granit_lexemes.specs.QuotedScalar.{QuotedState, digits_or, joined_or,
 use Rattle.granit_lexemes.specs.QuotedScalar.{escape_or_by, escape_or, between_quoted, quoted_at, over_blank}
 use Rattle.granit_lexemes.specs.QuotedScalar.{over_break, quoted_piece, quoted_content, quoted_turn, quoted_len}
 use Rattle.granit_lexemes.specs.QuotedScalar.{quoted_read, asked_comment, behind_quoted, quoted_tail, quoted_rest}
+use Rattle.granit_lexemes.specs.QuotedScalar.{quoted_text}
 use Rattle.granit_lexemes.specs.QuotedScalar.{quoted_scalar}
 use Rattle.granit_scalars.proofs.PlainTurns.{Turned, past_a_blank, past_a_break, at_a_comment, at_a_tab, at_a_line}
 use Rattle.granit_scalars.proofs.PlainTurns.{past_content, at_no_content, turned}
@@ -175,13 +177,13 @@ quoted_turn-fits single at start n s p =
     let c = quoted_content-fits single start n s p in
     search (fits_if, a, b, c, p) depth 12
 
-behind_quoted-fits : (single : Bool) (at : LayoutData) (start : Mark) (value : List ℕ) (end : Mark) (n : ℕ) (h : Here)
+behind_quoted-fits : (single : Bool) (at : LayoutData) (start : Mark) (value : Written) (end : Mark) (n : ℕ) (h : Here)
     → text_len h ≤ n → Fits text_len n (behind_quoted single at start value end h)
 unfolding behind_quoted
 behind_quoted-fits single at start value end n h p = search (fits_if, p)
 
-quoted_tail-fits : (single : Bool) (at : LayoutData) (start : Mark) (value : List ℕ) (n : ℕ) (h : Here) → text_len h ≤ n
-    → Fits text_len n (quoted_tail single at start value h)
+quoted_tail-fits : (single : Bool) (at : LayoutData) (start : Mark) (value : Written) (n : ℕ) (h : Here)
+    → text_len h ≤ n → Fits text_len n (quoted_tail single at start value h)
 unfolding quoted_tail
 quoted_tail-fits single at start value n h p =
     let b = past-fits is_blank n h p in
@@ -197,8 +199,9 @@ pub quoted_scalar-fits : (single : Bool) (at : LayoutData) (n : ℕ) (h : Here) 
 unfolding quoted_scalar
 quoted_scalar-fits single at n h p =
     fits_bind quoted_len text_len n n (quoted_rest single at (mark_of h) (quoted_at false (step h)))
-    (λ x. quoted_tail single at (mark_of h) (x.0 ++ between_quoted x.1) (step x.1.here))
+    (λ x. quoted_tail single at (mark_of h) (quoted_text single (step h) (x.0 ++ between_quoted x.1)) (step x.1.here))
     (pieces-fits quoted_len (quoted_turn single at (mark_of h)) (quoted_turn-fits single at (mark_of h)) n
     (quoted_at false (step h)) (step-less n h p))
-    (λ x q. quoted_tail-fits single at (mark_of h) (x.0 ++ between_quoted x.1) n (step x.1.here)
+    (λ x q. quoted_tail-fits single at (mark_of h) (quoted_text single (step h) (x.0 ++ between_quoted x.1)) n
+    (step x.1.here)
     (step-fits n x.1.here q))

@@ -1,8 +1,8 @@
 -- Properties, aliases and scalars (YAML 1.2.2, 6.9, 7.1, 7.3 and 8.1).
 use Rattle.std.specs.Prelude.{ℕ, Bool, false, ◌&&◌, if◌then◌else◌, List, [], ◌∷◌, ◌++◌, Option, Some, None, Ok}
+use Rattle.granit_base.specs.Written.{Written}
 use Rattle.granit_base.specs.declared.style.ScalarStyle.TheVariants.{Plain}
 use Rattle.granit_error.specs.OptionsData.{OptionsData}
-use Rattle.granit_lexemes.specs.Basics.{owned}
 use Rattle.granit_lexemes.specs.BlockScalar.{BlockGiven, block_style, block_scalar}
 use Rattle.granit_lexemes.specs.Comment.{CommentRead}
 use Rattle.granit_lexemes.specs.Here.{Here, mark_of}
@@ -20,8 +20,8 @@ use Rattle.granit_machine.specs.ReaderState.{ReaderState, Read, lexeme_to, with_
 
 -- ---- aliases and properties (6.9, 7.1)
 
-abbrev pub alias_given : Bool → Here → Laid → (name : List ℕ) → Here → Read
-alias_given ends h l name after = given (lexeme_to ends (Alias (owned name)) (mark_of after) h l) Another after l
+abbrev pub alias_given : Bool → Here → Laid → (name : Written) → Here → Read
+alias_given ends h l name after = given (lexeme_to ends (Alias name) (mark_of after) h l) Another after l
 
 abbrev pub alias_lexeme : Bool → Here → Laid → Read
 alias_lexeme ends h l = name_at h >>= λ x. alias_given ends h l x.0 x.1
@@ -30,9 +30,9 @@ alias_lexeme ends h l = name_at h >>= λ x. alias_given ends h l x.0 x.1
 abbrev pub last_of_property : OptionsData → Laid → LastLexeme
 last_of_property o l = if o.strict_indentation && is_question l.last then BehindProperty else Another
 
-abbrev pub anchor_given : OptionsData → Bool → Here → Laid → (name : List ℕ) → Here → Read
+abbrev pub anchor_given : OptionsData → Bool → Here → Laid → (name : Written) → Here → Read
 anchor_given o ends h l name after =
-    given (lexeme_to ends (Anchor (owned name)) (mark_of after) h l) (last_of_property o l) after l
+    given (lexeme_to ends (Anchor name) (mark_of after) h l) (last_of_property o l) after l
 
 abbrev pub anchor_lexeme : OptionsData → Bool → Here → Laid → Read
 anchor_lexeme o ends h l = name_at h >>= λ x. anchor_given o ends h l x.0 x.1

@@ -7,7 +7,8 @@ use Rattle.std.proofs.lemmas.Bool.Decides.{nat_tests}
 use Rattle.std.specs.Cmp.Lexicographic.{bytes_decides}
 use Rattle.granit_base.specs.Classes.{is_blank_or_breakz, is_yaml_non_space}
 use Rattle.granit_base.specs.Place.{Mark, first}
-use Rattle.granit_error.specs.FaultKind.{MissingDirectiveName, InvalidDirectiveName, DirectiveByteLimitExceeded}
+use Rattle.granit_error.specs.FaultKind.{FaultKind, MissingDirectiveName, InvalidDirectiveName}
+use Rattle.granit_error.specs.FaultKind.{DirectiveByteLimitExceeded}
 use Rattle.granit_error.specs.OptionsData.{OptionsData}
 use Rattle.granit_lexemes.specs.Here.{Here, next_char, mark_of, step}
 use Rattle.granit_lexemes.specs.Outcome.{Fault, ◌>>=◌}
@@ -28,14 +29,20 @@ use Rattle.granit_lexemes.specs.DirectiveExtent.{many_words, WrongDirective, nam
 use Rattle.granit_names.proofs.Runs.{count_over, text_over}
 use Rattle.granit_names.proofs.VersionLaw.{all_over, all_past, VersionRead, read_version, wrong_version as no_version}
 use Rattle.granit_names.proofs.VersionLaw.{version_reads, version_is}
-use Rattle.granit_names.proofs.HandleLaw.{PrefixLineRead, read_tag, wrong_tag, passed_tag, tag_reads}
+use Rattle.granit_names.specs.FirstCause.{FirstBehind, FirstWrong}
+use Rattle.granit_names.proofs.FirstTag.{TagFirst, stands, wrong_first, limit_first, tag_firsts}
 use Rattle.granit_names.proofs.HandleOnce.{tag_is}
 use Rattle.granit_names.proofs.ReservedLaw.{no_word_nul, budget, WordsRead, read, too_long, too_wide, too_many}
 use Rattle.granit_names.proofs.ReservedLaw.{words_read, reserved_is}
 
+-- why no directive stands here, and no such cause before it
+pub record FirstDirective (o : OptionsData) (h : Here) (kind : FaultKind) (m : Mark) : Type 0 where
+  pub wrong : WrongDirective o h kind m
+  pub first : FirstWrong wrong
+
 abbrev pub DirectiveAnswered : OptionsData → Here → Result (DirectiveKind × Here) Fault → Type 0
 DirectiveAnswered o h (Ok (kind, after)) = DirectiveStands o h kind after
-DirectiveAnswered o h (Err f) = WrongDirective o h f.kind f.mark × (f.sources ≡ [])
+DirectiveAnswered o h (Err f) = FirstDirective o h f.kind f.mark × (f.sources ≡ [])
 
 abbrev with_place : Here → Option Budget → Result (Option Budget × Here) Fault
 with_place g l = Ok (l, g)
@@ -68,7 +75,8 @@ module _ (o : OptionsData) (h : Here) (name : List ℕ) where
   abbrev Went : Result (DirectiveKind × Here) Fault → Type 0
   Went (Ok (kind, after)) = (source : List ℕ) × Continues o name place.unread.text source kind
       × (after ≡ over source place)
-  Went (Err f) = WrongContinuation o name place.unread.text f.kind × (f.mark ≡ mark_of h) × (f.sources ≡ [])
+  Went (Err f) = (w : WrongContinuation o name place.unread.text f.kind) × FirstBehind w × (f.mark ≡ mark_of h)
+      × (f.sources ≡ [])
 
   went_all : DirectiveNameStands o h name place.unread.text → (r : Result (DirectiveKind × Here) Fault) → Went r
       → DirectiveAnswered o h r
@@ -81,13 +89,14 @@ module _ (o : OptionsData) (h : Here) (name : List ℕ) where
         w.1;
     reached = w.2 ∙ sym (over-append name w.0 (step h));
   }
-  went_all s (Err f) w = (subst (WrongDirective o h f.kind) (sym w.1) (behind s w.0), w.2)
+  went_all s (Err f) w =
+      (subst (FirstDirective o h f.kind) (sym w.2) (record { wrong = behind s w.0; first = w.1 }), w.3)
 
   version_went : name ≡ codes "YAML" → (r : Result (DirectiveKind × Here) Fault) → VersionRead (mark_of h) place r
       → Went r
   version_went e r (read_version source major minor s k l) =
       (source, subst (Continues o name place.unread.text source) (sym k) (version e s), l)
-  version_went e r (no_version w) = (wrong_version e w, refl, refl)
+  version_went e r (no_version w) = (wrong_version e w, tt, refl, refl)
 
   module _ (fits : bytes_of name ≤ o.max_directive_bytes) where
     words_went : name ≢ codes "YAML" → name ≢ codes "TAG" → (r : Result (List (List ℕ) × ParameterState) Fault)
@@ -96,30 +105,31 @@ module _ (o : OptionsData) (h : Here) (name : List ℕ) where
     words_went n m r (read source blanks words s t b c l) =
         (source ++ blanks, reserved n m s t (omega arith) (omega arith), l)
     words_went n m r (too_long source piece word rest further words s p c l) =
-        (long_words n m s p (omega arith) (omega arith), refl, refl)
+        (long_words n m s p (omega arith) (omega arith), tt, refl, refl)
     words_went n m r (too_wide source piece word rest further words s p c l) =
-        (long_blanks n m s p (omega arith) (omega arith), refl, refl)
+        (long_blanks n m s p (omega arith) (omega arith), tt, refl, refl)
     words_went n m r (too_many source piece word rest further words s p c l) =
-        (many_words n m s p (omega arith) (omega arith), refl, refl)
+        (many_words n m s p (omega arith) (omega arith), tt, refl, refl)
 
     abbrev left : Option Budget
     left = budget o (mark_of h) o.max_directive_bytes room
 
     tag_went : name ≡ codes "TAG" → (r : Result (DirectiveKind × Here) Fault)
-        → PrefixLineRead (mark_of h) o.max_directive_bytes room place r → Went r
-    tag_went e r (read_tag source prefix text s f b k l) = (
+        → TagFirst (mark_of h) o.max_directive_bytes room place r → Went r
+    tag_went e r (stands source prefix text s f b k l) = (
       source,
       subst (Continues o name place.unread.text source) (sym k)
           (handle (over source place).unread.text e s f (omega arith)),
       l,
     )
-    tag_went e r (wrong_tag w) = (wrong_handle e w, refl, refl)
-    tag_went e r (passed_tag f l) = (long_handle e f (omega arith), refl, refl)
+    tag_went e r (wrong_first w l) = (wrong_handle e w, omega arith, refl, refl)
+    tag_went e r (limit_first f l all) =
+        (long_handle e f (omega arith), λ kind w. let k = all kind w in omega arith, refl, refl)
 
     tag_if : name ≢ codes "YAML" → (v : Bool) → is_name name (codes "TAG") ≡ v
         → Went (if v then tag_directive left (mark_of h) place else reserved_directive o left (mark_of h) name place)
     tag_if n true e = tag_went (name_same name (codes "TAG") e) _
-        (tag_reads (mark_of h) o.max_directive_bytes room place)
+        (tag_firsts (mark_of h) o.max_directive_bytes room place)
     tag_if n false e = words_went n (other_name name (codes "TAG") e) _
         (words_read o (mark_of h) o.max_directive_bytes room place)
 
@@ -136,19 +146,19 @@ module _ (o : OptionsData) (h : Here) (name : List ℕ) where
   -- ---- the name
 
   -- behind a name that is within the limit
-  abbrev given_behind : Option Budget → (k : ℕ) → List ℕ → Result (DirectiveKind × Here) Fault
+  abbrev pub given_behind : Option Budget → (k : ℕ) → List ℕ → Result (DirectiveKind × Here) Fault
   given_behind l k t =
       if k == 0 then fails_at MissingDirectiveName (mark_of (step h))
       else if not (is_blank_or_breakz (next_char place)) then fails_at InvalidDirectiveName (mark_of (step h))
       else directive_of o l (mark_of h) t place
 
-  abbrev given_name : Result (DirectiveKind × Here) Fault
+  abbrev pub given_name : Result (DirectiveKind × Here) Fault
   given_name =
       ((if nat_lt o.max_directive_bytes (bytes_of name) then fails_at (DirectiveByteLimitExceeded o.max_directive_bytes)
       (mark_of (step h)) else Ok (budget o (mark_of h) o.max_directive_bytes room)) >>= with_place place)
       >>= behind_name o (mark_of h) (step h)
 
-  name_run : (rest : List ℕ) → All is_yaml_non_space (step h).unread.text name rest → directive_at o h ≡ given_name
+  pub name_run : (rest : List ℕ) → All is_yaml_non_space (step h).unread.text name rest → directive_at o h ≡ given_name
   unfolding directive_at
   name_run rest a =
       ap (λ (g : Here). word_up_to (budget o (mark_of h) o.max_directive_bytes o.max_directive_bytes) (mark_of (step h))
@@ -158,7 +168,7 @@ module _ (o : OptionsData) (h : Here) (name : List ℕ) where
       (mark_of (step h)) >>= with_place place) >>= behind_name o (mark_of h) (step h))
       (text_over name rest (step h) a.whole)
 
-  behind_is : (l : Option Budget) (rest : List ℕ) → All is_yaml_non_space (step h).unread.text name rest
+  pub behind_is : (l : Option Budget) (rest : List ℕ) → All is_yaml_non_space (step h).unread.text name rest
       → behind_name o (mark_of h) (step h) (l, place) ≡ given_behind l (length name) name
   behind_is l rest a = ap₂ (λ k (t : List ℕ). given_behind l k t) (count_over name rest (step h) a.whole)
       (text_over name rest (step h) a.whole)
@@ -169,14 +179,17 @@ module _ (o : OptionsData) (h : Here) (name : List ℕ) where
         → DirectiveAnswered o h (if not v then fails_at InvalidDirectiveName (mark_of (step h)) else directive_of o
         (budget o (mark_of h) o.max_directive_bytes room) (mark_of h) name place)
     parted_if some fits true e = went_all (record { is = d; some = some; within = fits; parted = e }) _ (name_went fits)
-    parted_if some fits false e = (wrong_name d some fits e, refl)
+    parted_if some fits false e = (record { wrong = wrong_name d some fits e; first = tt }, refl)
 
     some_if : bytes_of name ≤ o.max_directive_bytes → (v : Bool) → (length name == 0) ≡ v
         → DirectiveAnswered o h (if v then fails_at MissingDirectiveName (mark_of (step h)) else if not
         (is_blank_or_breakz (next_char place)) then fails_at InvalidDirectiveName (mark_of (step h)) else directive_of o
         (budget o (mark_of h) o.max_directive_bytes room) (mark_of h) name place)
     some_if fits true e = (
-      nameless (subst (λ (l : List ℕ). DirectiveName h l place.unread.text) (empty_is name e) d),
+      record {
+        wrong = nameless (subst (λ (l : List ℕ). DirectiveName h l place.unread.text) (empty_is name e) d);
+        first = tt;
+      },
       refl,
     )
       where
@@ -191,7 +204,7 @@ module _ (o : OptionsData) (h : Here) (name : List ℕ) where
         → DirectiveAnswered o h (((if v then fails_at (DirectiveByteLimitExceeded o.max_directive_bytes)
         (mark_of (step h)) else Ok (budget o (mark_of h) o.max_directive_bytes room)) >>= with_place place) >>=
         behind_name o (mark_of h) (step h))
-    limit_if a true e = (long_name d (grind (arith, nat_tests)), refl)
+    limit_if a true e = (record { wrong = long_name d (grind (arith, nat_tests)); first = tt }, refl)
     limit_if a false e = subst (DirectiveAnswered o h)
         (sym (behind_is (budget o (mark_of h) o.max_directive_bytes room) place.unread.text a))
         (some_if (grind (arith, nat_tests)) (length name == 0) refl)
@@ -210,7 +223,7 @@ pub directive_stands : (o : OptionsData) (h : Here) (kind : DirectiveKind) (afte
 directive_stands o h kind after b e = subst (DirectiveAnswered o h) e (directive_answered o h b)
 
 pub directive_refused : (o : OptionsData) (h : Here) (f : Fault) → next_char h ≡ 0x25 → directive_at o h ≡ Err f
-    → WrongDirective o h f.kind f.mark × (f.sources ≡ [])
+    → FirstDirective o h f.kind f.mark × (f.sources ≡ [])
 directive_refused o h f b e = subst (DirectiveAnswered o h) e (directive_answered o h b)
 
 -- ---- what stands there is read
@@ -219,20 +232,20 @@ module _ (o : OptionsData) (h : Here) (name rest : List ℕ) (s : DirectiveNameS
   abbrev front : All is_yaml_non_space s.is.text name rest
   front = s.is.is
 
-  behind_sign : (step h).unread.text ≡ s.is.text
+  pub behind_sign : (step h).unread.text ≡ s.is.text
   behind_sign = text_behind h 0x25 s.is.text s.is.begins
 
-  name_all : All is_yaml_non_space (step h).unread.text name rest
+  pub name_all : All is_yaml_non_space (step h).unread.text name rest
   name_all = subst (λ (l : List ℕ). All is_yaml_non_space l name rest) (sym behind_sign) front
 
-  name_place : (over name (step h)).unread.text ≡ rest
+  pub name_place : (over name (step h)).unread.text ≡ rest
   name_place = over_text name rest (step h) name_all.whole
 
   some_name : (l : List ℕ) → l ≢ [] → (length l == 0) ≡ false
   some_name [] n = absurd (n refl)
   some_name (c ∷ l) n = not_empty c l
 
-  name_read : directive_at o h ≡ directive_of o
+  pub name_read : directive_at o h ≡ directive_of o
       (budget o (mark_of h) o.max_directive_bytes (o.max_directive_bytes - bytes_of name)) (mark_of h) name
       (over name (step h))
   name_read =
@@ -250,19 +263,19 @@ module _ (o : OptionsData) (h : Here) (name rest : List ℕ) (s : DirectiveNameS
       ∙ cond-false (length name == 0) _ _ (some_name name s.some)
       ∙ cond-false (not (is_blank_or_breakz (next_char g))) _ _ (ap not p)
 
-yaml_of : (o : OptionsData) (l : Option Budget) (start : Mark) (name : List ℕ) (g : Here) → name ≡ codes "YAML"
+pub yaml_of : (o : OptionsData) (l : Option Budget) (start : Mark) (name : List ℕ) (g : Here) → name ≡ codes "YAML"
     → directive_of o l start name g ≡ version_directive start g
 unfolding directive_of
 yaml_of o l start name g e = cond-true (is_name name (codes "YAML")) _ _ ((bytes_decides name (codes "YAML")).1 e)
 
-prefix_of : (o : OptionsData) (l : Option Budget) (start : Mark) (name : List ℕ) (g : Here) → name ≡ codes "TAG"
+pub prefix_of : (o : OptionsData) (l : Option Budget) (start : Mark) (name : List ℕ) (g : Here) → name ≡ codes "TAG"
     → directive_of o l start name g ≡ tag_directive l start g
 unfolding directive_of
 prefix_of o l start name g e =
     cond-false (is_name name (codes "YAML")) _ _ (ap (λ (n : List ℕ). is_name n (codes "YAML")) e)
     ∙ cond-true (is_name name (codes "TAG")) _ _ ((bytes_decides name (codes "TAG")).1 e)
 
-reserved_of : (o : OptionsData) (l : Option Budget) (start : Mark) (name : List ℕ) (g : Here) → name ≢ codes "YAML"
+pub reserved_of : (o : OptionsData) (l : Option Budget) (start : Mark) (name : List ℕ) (g : Here) → name ≢ codes "YAML"
     → name ≢ codes "TAG" → directive_of o l start name g ≡ reserved_directive o l start name g
 unfolding directive_of
 reserved_of o l start name g n m = cond-false (is_name name (codes "YAML")) _ _ (name_differs name (codes "YAML") n)

@@ -143,7 +143,7 @@ trails start (suc count) bytes h = trail_on start count bytes h (λ all g. trail
 
 -- ---- a character
 
-utf8_is : (bytes : List ℕ) → IsUtf8 bytes → is_utf8 bytes ≡ true
+pub utf8_is : (bytes : List ℕ) → IsUtf8 bytes → is_utf8 bytes ≡ true
 unfolding text.is_utf8
 utf8_is bytes u = is_utf8-from_IsUtf8 bytes u
 
@@ -151,7 +151,7 @@ pub utf8_means : (bytes : List ℕ) → is_utf8 bytes ≡ true → IsUtf8 bytes
 unfolding text.is_utf8
 utf8_means bytes e = IsUtf8-from_is_utf8 bytes e
 
-char_utf8 : (c : ℕ) (bytes : List ℕ) → scalar c ≡ true → encode c ≡ bytes → IsUtf8 bytes
+pub char_utf8 : (c : ℕ) (bytes : List ℕ) → scalar c ≡ true → encode c ≡ bytes → IsUtf8 bytes
 char_utf8 c bytes s e = (c ∷ [], (ap (λ b. b && true) s, append-nil (encode c) ∙ e))
 
 -- an escaped character is read, or what is wrong with its escapes
@@ -261,7 +261,7 @@ trailing_is start (suc count) bytes source more rest h (one_more {high} {low} {s
     (omega (arith, n)) p.1 (over_text (0x25 ∷ high ∷ low ∷ []) (s ++ rest) h t)
     ∙ ap (λ (l : List ℕ). Ok (l, free (over (0x25 ∷ high ∷ low ∷ s) h))) (append_assoc bytes (byte_of high low ∷ []) bs)
 
-chars_one : (c : ℕ) (bytes : List ℕ) → scalar c ≡ true → encode c ≡ bytes → chars bytes ≡ c ∷ []
+pub chars_one : (c : ℕ) (bytes : List ℕ) → scalar c ≡ true → encode c ≡ bytes → chars bytes ≡ c ∷ []
 chars_one c bytes s e = ap chars (sym (append-nil (encode c) ∙ e)) ∙ chars-encodes (c ∷ []) (ap (λ b. b && true) s)
 
 char_is : (start : Mark) (h : Here) (c lead : ℕ) (source more row rest : List ℕ) → scalar c ≡ true

@@ -99,7 +99,7 @@ module _ (start : Mark) (limit : ℕ) where
     long_prefix : (front rest : List ℕ) → Each is_uri_char front → t.unread.text ≡ front ++ rest → left < length front
         → PrefixRead left t Limit
 
-  as_long : (t : Here) (a b : List ℕ) → t.unread.text ≡ a ++ (over a t).unread.text
+  pub as_long : (t : Here) (a b : List ℕ) → t.unread.text ≡ a ++ (over a t).unread.text
       → t.unread.text ≡ b ++ (over b t).unread.text → over a t ≡ over b t → length a ≡ length b
   as_long t a b p q e =
       let x : text_len t ≡ length a + text_len (over a t) = ap (length {A = ℕ}) p

@@ -46,7 +46,7 @@ ends_no_uri c e = by (is_uri_char c) refl
     by false p = p
     by true p = let a = uri_above c p in let b = blank_low c e in absurd (omega arith)
 
-uri_no_blank : (c : ℕ) → is_uri_char c ≡ true → is_blank c ≡ false
+pub uri_no_blank : (c : ℕ) → is_uri_char c ≡ true → is_blank c ≡ false
 unfolding is_blank
 uri_no_blank c e = let a = uri_above c e in grind (arith, nat_tests)
 
@@ -78,7 +78,7 @@ module _ (start : Mark) (limit : ℕ) where
             (ap (λ (p : List ℕ × UriState). p.1.here) pair),
       )
 
-  decoded_kept : (left : ℕ) (g : Here) (source text rest : List ℕ) → SpellsText is_uri_char source text
+  pub decoded_kept : (left : ℕ) (g : Here) (source text rest : List ℕ) → SpellsText is_uri_char source text
       → g.unread.text ≡ source ++ rest → is_uri_char (first rest) ≡ false → length source ≤ left
       → (more : ℕ) × (decoded is_uri_char start (budget left) g ≡ Ok (text, held start limit more (over source g)))
   decoded_kept left g source text rest s t n l = kept_is left g source text rest t n l _ _
@@ -90,7 +90,7 @@ module _ (start : Mark) (limit : ℕ) where
   abbrev with_place : Here → Option Budget → Result (Option Budget × Here) Fault
   with_place i l = Ok (l, i)
 
-  blanks_ok : (left : ℕ) (g : Here) (blanks rest : List ℕ) → g.unread.text ≡ blanks ++ rest → Each is_blank blanks
+  pub blanks_ok : (left : ℕ) (g : Here) (blanks rest : List ℕ) → g.unread.text ≡ blanks ++ rest → Each is_blank blanks
       → is_blank (first rest) ≡ false → length blanks ≤ left
       → blanks_within (budget left) start g ≡ Ok (budget (left - length blanks), over blanks g)
   blanks_ok left g blanks rest t y n l =
@@ -105,19 +105,19 @@ module _ (start : Mark) (limit : ℕ) where
   by_handle left place q n m v = spent (budget left) n start >>= λ l. if v
       || m == 1 then Ok (l, if v then step q else q) else fails_at ExpectedTagDirectiveBang start
 
-  bang_at : (left : ℕ) (place : Here) (rest : List ℕ) → place.unread.text ≡ 0x21 ∷ rest
+  pub bang_at : (left : ℕ) (place : Here) (rest : List ℕ) → place.unread.text ≡ 0x21 ∷ rest
       → handle_at (budget left) start place ≡ handle_by (budget left) start place (past is_alpha (step place))
   unfolding handle_at
   bang_at left place rest t = cond-true (next_char place == 0x21) _ _ (ap (λ (l : List ℕ). first l == 0x21) t)
 
-  second_is : (left : ℕ) (place q : Here) → (next_char q == 0x21) ≡ true → count_up_to place (step q) ≤ left
+  pub second_is : (left : ℕ) (place q : Here) → (next_char q == 0x21) ≡ true → count_up_to place (step q) ≤ left
       → handle_by (budget left) start place q ≡ Ok (budget (left - count_up_to place (step q)), step q)
   unfolding handle_by
   second_is left place q e l =
       ap (λ v. by_handle left place q (count_up_to place (if v then step q else q)) (count_up_to place q) v) e
       ∙ ap (λ r. r >>= with_place (step q)) (spent_ok left (count_up_to place (step q)) l)
 
-  lone_is : (left : ℕ) (place q : Here) → (next_char q == 0x21) ≡ false → count_up_to place q ≡ 1 → 1 ≤ left
+  pub lone_is : (left : ℕ) (place q : Here) → (next_char q == 0x21) ≡ false → count_up_to place q ≡ 1 → 1 ≤ left
       → handle_by (budget left) start place q ≡ Ok (budget (left - 1), q)
   unfolding handle_by
   lone_is left place q e k l =
@@ -125,7 +125,7 @@ module _ (start : Mark) (limit : ℕ) where
       ∙ ap (λ n. by_handle left place q n n false) k
       ∙ ap (λ r. r >>= with_place q) (spent_ok left 1 l)
 
-  handle_is : (left : ℕ) (place : Here) (handle behind : List ℕ) → SpellsHandle handle behind
+  pub handle_is : (left : ℕ) (place : Here) (handle behind : List ℕ) → SpellsHandle handle behind
       → place.unread.text ≡ handle ++ behind → length handle ≤ left
       → handle_at (budget left) start place ≡ Ok (budget (left - length handle), over handle place)
   handle_is left place handle behind (named word y) t l =
@@ -155,12 +155,12 @@ module _ (start : Mark) (limit : ℕ) where
       → prefix_ends start handle text g ≡ Ok (TagPrefix handle text, g)
   end_is handle text g e = cond-true (is_blank_or_breakz (next_char g)) _ _ e
 
-  record BehindBang (more text : List ℕ) : Type 0 where
-    value : List ℕ
-    is : text ≡ 0x21 ∷ value
-    spells : SpellsText is_uri_char more value
+  pub record BehindBang (more text : List ℕ) : Type 0 where
+    pub value : List ℕ
+    pub is : text ≡ 0x21 ∷ value
+    pub spells : SpellsText is_uri_char more value
 
-  behind_bang : (c : ℕ) (more text row : List ℕ) → c ≡ 0x21 → SpellsBytes is_uri_char (c ∷ more) row
+  pub behind_bang : (c : ℕ) (more text row : List ℕ) → c ≡ 0x21 → SpellsBytes is_uri_char (c ∷ more) row
       → scalars text ≡ true → encode_utf8_all text ≡ row → BehindBang more text
   behind_bang c more text row z (itself {bytes = bs} y n p) s e =
       let k = cons_from_encodes text bs c (e ∙ ap (λ (l : List ℕ). l ++ bs)
@@ -220,7 +220,7 @@ module _ (start : Mark) (limit : ℕ) where
 
   -- ---- the directive
 
-  handle_each : (handle behind : List ℕ) → SpellsHandle handle behind → Each is_uri_or_blank handle
+  pub handle_each : (handle behind : List ℕ) → SpellsHandle handle behind → Each is_uri_or_blank handle
   handle_each handle behind (named word y) = (
     uri_part 0x21 bang_uri,
     each-append is_uri_or_blank word (0x21 ∷ [])
@@ -229,15 +229,16 @@ module _ (start : Mark) (limit : ℕ) where
   )
   handle_each handle behind (alone n m) = (uri_part 0x21 bang_uri, tt)
 
-  bang_blank : is_blank 0x21 ≡ false
+  pub bang_blank : is_blank 0x21 ≡ false
   unfolding is_blank
   bang_blank = refl
 
-  handle_no_blank : (handle behind : List ℕ) → SpellsHandle handle behind → is_blank (first (handle ++ behind)) ≡ false
+  pub handle_no_blank : (handle behind : List ℕ) → SpellsHandle handle behind
+      → is_blank (first (handle ++ behind)) ≡ false
   handle_no_blank handle behind (named word y) = bang_blank
   handle_no_blank handle behind (alone n m) = bang_blank
 
-  prefix_no_blank : (spelled rest : List ℕ) → Each is_uri_char spelled → begins_prefix (first spelled) ≡ true
+  pub prefix_no_blank : (spelled rest : List ℕ) → Each is_uri_char spelled → begins_prefix (first spelled) ≡ true
       → is_blank (first (spelled ++ rest)) ≡ false
   prefix_no_blank [] rest y b = absurd (let u = tag_uri 0 b in let n = uri_class.nul in cc)
   prefix_no_blank (c ∷ spelled) rest y b = uri_no_blank c y.0

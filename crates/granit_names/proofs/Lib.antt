@@ -1,9 +1,15 @@
+pub mod CommentCauses
 pub mod Decoded
 pub mod DirectiveLaw
 pub mod Escaped
+pub mod FirstLaw
+pub mod FirstTag
 pub mod HandleLaw
 pub mod HandleOnce
 pub mod Kept
+pub mod LimitedEscapes
+pub mod LimitedPrefix
+pub mod LimitedTag
 pub mod LineLaw
 pub mod NameCauses
 pub mod NameLaw
@@ -11,6 +17,7 @@ pub mod ReservedLaw
 pub mod Runs
 pub mod Spelling
 pub mod TagCauses
+pub mod TagFronts
 pub mod TagLaw
 pub mod TagOnce
 pub mod VersionLaw

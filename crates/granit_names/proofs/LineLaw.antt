@@ -6,8 +6,9 @@ use Rattle.std.proofs.Math.Seq.{drop-append_seam}
 use Rattle.std.proofs.lemmas.Bool.{cond-true, cond-false}
 use Rattle.std.proofs.lemmas.Bool.Decides.{nat_tests}
 use Rattle.granit_base.specs.Classes.{is_blank, is_break, is_breakz, is_z}
-use Rattle.granit_base.specs.Place.{first}
-use Rattle.granit_error.specs.FaultKind.{CommentNotSeparated, DirectiveDisallowed, InvalidDirectiveTerminator}
+use Rattle.granit_base.specs.Place.{Mark, first}
+use Rattle.granit_error.specs.FaultKind.{FaultKind, CommentNotSeparated, DirectiveDisallowed}
+use Rattle.granit_error.specs.FaultKind.{InvalidDirectiveTerminator}
 use Rattle.granit_error.specs.OptionsData.{OptionsData}
 use Rattle.granit_lexemes.specs.Basics.{fails_at}
 use Rattle.granit_lexemes.specs.Comment.{CommentRead, comment, StandsComment, ReadsComment}
@@ -19,7 +20,7 @@ use Rattle.granit_lexemes.specs.DirectiveExtent.{AnswersDirective, RefusesDirect
 use Rattle.granit_lexemes.specs.Here.{Here, next_char, mark_of}
 use Rattle.granit_lexemes.specs.Lexeme.{DirectiveKind}
 use Rattle.granit_lexemes.specs.Moves.{steps}
-use Rattle.granit_lexemes.specs.Outcome.{Fault, ◌>>=◌}
+use Rattle.granit_lexemes.specs.Outcome.{Fault, fault_at, ◌>>=◌}
 use Rattle.granit_lexemes.specs.PlainExtent.{over, starts_comment}
 use Rattle.granit_lexemes.specs.Source.{Source}
 use Rattle.granit_lexemes.specs.Tail.{tail_behind}
@@ -27,16 +28,18 @@ use Rattle.granit_lexemes.proofs.HereLemmas.{not_empty}
 use Rattle.granit_scalars.proofs.Comments.{steps_text, comment_reads, comment_answered}
 use Rattle.granit_scalars.proofs.Nameless.{IsNameless, comment_none}
 use Rattle.granit_scalars.proofs.QuotedEscapes.{over_text}
+use Rattle.granit_names.specs.FirstCause.{DirectiveCause}
+use Rattle.granit_names.proofs.CommentCauses.{comment_spoiled}
 use Rattle.granit_names.proofs.Runs.{count_over}
 use Rattle.granit_names.proofs.VersionLaw.{no_blank_nul, all_over, all_past}
 use Rattle.granit_names.proofs.DirectiveLaw.{DirectiveAnswered, directive_answered, directive_is}
 
 -- a comment, where one is asked for
-abbrev with_note : Result (CommentRead × Here) Fault → Result (Option CommentRead × Here) Fault
+abbrev pub with_note : Result (CommentRead × Here) Fault → Result (Option CommentRead × Here) Fault
 with_note r = r >>= λ x. Ok (Some x.0, x.1)
 
 -- what the function gives behind some blanks
-abbrev given_tail : (reserved : Bool) (blanks : List ℕ) → Here → Result (Option CommentRead × Here) Fault
+abbrev pub given_tail : (reserved : Bool) (blanks : List ℕ) → Here → Result (Option CommentRead × Here) Fault
 given_tail reserved blanks g =
     if not (next_char g == 0x23) then Ok (None, g)
     else if may_comment reserved blanks then with_note (comment g)
@@ -84,7 +87,7 @@ tail_by reserved end (b ∷ blanks) rest a =
     (with_note (comment end)) (with_note (comment g)) (fails_at CommentNotSeparated (mark_of g)) g n
     (not_empty b blanks)
 
-tail_run : (kind : DirectiveKind) (end : Here) (blanks rest : List ℕ) → All is_blank end.unread.text blanks rest
+pub tail_run : (kind : DirectiveKind) (end : Here) (blanks rest : List ℕ) → All is_blank end.unread.text blanks rest
     → directive_tail kind end ≡ given_tail (is_reserved kind) blanks (over blanks end)
 unfolding directive_tail tail_behind
 tail_run kind end blanks rest a =
@@ -211,11 +214,46 @@ line_end_is h kind end noted after (noted_comment {blanks} {rest} {c} a m y s) =
     ∙ ap with_note (comment_answered (over blanks end) c after s))
     ∙ cond-true (is_breakz (next_char after)) _ _ (comment_ends (over blanks end) c after s)
 
+-- ---- what is wrong there is refused
+
+hash_no_blank : (c : ℕ) → (c == 0x23) ≡ true → is_blank c ≡ false
+hash_no_blank c e = by (is_blank c) refl
+  where
+    by : (v : Bool) → is_blank c ≡ v → v ≡ false
+    by false p = refl
+    by true p = absurd (let n = blank_no_hash c p in cc)
+
+pub line_end_wrong : (h : Here) (kind : DirectiveKind) (end : Here) {wrong : FaultKind} {m : Mark}
+    → WrongLineEnd (is_reserved kind) (mark_of h) end wrong m → directive_behind h kind end ≡ Err (fault_at wrong m)
+unfolding directive_up_to
+line_end_wrong h kind end (touching none y) =
+    let a : All is_blank end.unread.text [] end.unread.text =
+    record { whole = refl; each = tt; all = hash_no_blank (next_char end) y } in
+    ap (λ (r : Result (Option CommentRead × Here) Fault). r >>= λ x. directive_up_to h kind end x.0 x.1)
+    (tail_run kind end [] end.unread.text a
+    ∙ cond-false (not (next_char end == 0x23)) _ _ (ap not y)
+    ∙ cond-false (may_comment (is_reserved kind) []) _ _ (ap (λ b. b || false) none))
+line_end_wrong h kind end (spoiled {blanks} {rest} a m y s) =
+    let t : (over blanks end).unread.text ≡ rest = over_text blanks rest end a.whole in
+    ap (λ (r : Result (Option CommentRead × Here) Fault). r >>= λ x. directive_up_to h kind end x.0 x.1)
+    (tail_run kind end blanks rest a
+    ∙ cond-false (not (next_char (over blanks end) == 0x23)) _ _
+    (ap not (ap (λ (l : List ℕ). first l == 0x23) t ∙ y))
+    ∙ cond-true (may_comment (is_reserved kind) blanks) _ _ m
+    ∙ ap with_note (comment_spoiled (over blanks end) s))
+line_end_wrong h kind end (unended {blanks} {rest} a n z) =
+    let t : (over blanks end).unread.text ≡ rest = over_text blanks rest end a.whole in
+    ap (λ (r : Result (Option CommentRead × Here) Fault). r >>= λ x. directive_up_to h kind end x.0 x.1)
+    (tail_run kind end blanks rest a
+    ∙ cond-true (not (next_char (over blanks end) == 0x23)) _ _
+    (ap not (ap (λ (l : List ℕ). first l == 0x23) t ∙ n)))
+    ∙ cond-false (is_breakz (next_char (over blanks end))) _ _ (ap (λ (l : List ℕ). is_breakz (first l)) t ∙ z)
+
 -- ---- the whole
 
 abbrev pub WholeAnswered : OptionsData → Here → Result (DirectiveRead × Here) Fault → Type 0
 WholeAnswered o h (Ok (read, after)) = AnswersDirective o h read after
-WholeAnswered o h (Err f) = RefusesDirective o h f.kind f.mark × (f.sources ≡ [])
+WholeAnswered o h (Err f) = DirectiveCause o h f.kind f.mark × (f.sources ≡ [])
 
 module _ (o : OptionsData) (h : Here) where
   whole_line : o.disallow_directives ≡ false → (kind : DirectiveKind) (end : Here) → DirectiveStands o h kind end
@@ -229,17 +267,17 @@ module _ (o : OptionsData) (h : Here) where
         line = subst (λ (d : DirectiveKind). DirectiveLineEnds (is_reserved d) end read.noted after) k l.0;
         place = ap (λ (d : DirectiveRead). d.source) l.1;
       }
-  whole_line n kind end s (Err f) l = (line n s l.0, l.1)
+  whole_line n kind end s (Err f) l = (record { cause = line n s l.0; first = tt }, l.1)
 
   whole_on : o.disallow_directives ≡ false → (r : Result (DirectiveKind × Here) Fault) → DirectiveAnswered o h r
       → WholeAnswered o h (r >>= λ x. directive_behind h x.0 x.1)
   whole_on n (Ok (kind, end)) a = whole_line n kind end a (directive_behind h kind end) (line_answered h kind end)
-  whole_on n (Err f) a = (wrong n a.0, a.1)
+  whole_on n (Err f) a = (record { cause = wrong n a.0.wrong; first = a.0.first }, a.1)
 
   allowed_if : next_char h ≡ 0x25 → (v : Bool) → o.disallow_directives ≡ v
       → WholeAnswered o h (if v then fails_at DirectiveDisallowed (mark_of h) else directive_at o h >>=
       λ x. directive_behind h x.0 x.1)
-  allowed_if sign true e = (disallowed e, refl)
+  allowed_if sign true e = (record { cause = disallowed e; first = tt }, refl)
   allowed_if sign false e = whole_on e (directive_at o h) (directive_answered o h sign)
 
   whole_answered : next_char h ≡ 0x25 → WholeAnswered o h (directive o h)
@@ -250,9 +288,13 @@ pub whole_stands : (o : OptionsData) (h : Here) (read : DirectiveRead) (after : 
     → directive o h ≡ Ok (read, after) → AnswersDirective o h read after
 whole_stands o h read after b e = subst (WholeAnswered o h) e (whole_answered o h b)
 
+pub whole_caused : (o : OptionsData) (h : Here) (f : Fault) → next_char h ≡ 0x25 → directive o h ≡ Err f
+    → DirectiveCause o h f.kind f.mark × (f.sources ≡ [])
+whole_caused o h f b e = subst (WholeAnswered o h) e (whole_answered o h b)
+
 pub whole_refused : (o : OptionsData) (h : Here) (f : Fault) → next_char h ≡ 0x25 → directive o h ≡ Err f
     → RefusesDirective o h f.kind f.mark × (f.sources ≡ [])
-whole_refused o h f b e = subst (WholeAnswered o h) e (whole_answered o h b)
+whole_refused o h f b e = let c = whole_caused o h f b e in (c.0.cause, c.1)
 
 pub whole_is : (o : OptionsData) (h : Here) (read : DirectiveRead) (after : Here) → AnswersDirective o h read after
     → directive o h ≡ Ok (read, after)

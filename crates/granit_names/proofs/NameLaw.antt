@@ -4,12 +4,13 @@ use Rattle.std.proofs.Common.{ap, ap₂, ◌∙◌, subst}
 use Rattle.std.specs.Prelude.{if◌then◌else◌}
 use Rattle.granit_base.specs.Classes.{is_anchor_char, is_yaml_non_space, is_yaml_non_break, is_printable, is_break}
 use Rattle.granit_base.specs.Place.{first}
+use Rattle.granit_base.specs.Written.{Written}
 use Rattle.granit_error.specs.FaultKind.{MissingAnchorOrAliasName}
 use Rattle.granit_lexemes.specs.Gap.{Each}
 use Rattle.granit_lexemes.specs.Here.{Here, next_char, mark_of, step}
 use Rattle.granit_lexemes.specs.Outcome.{Fault}
 use Rattle.granit_lexemes.specs.PlainExtent.{over}
-use Rattle.granit_lexemes.specs.Basics.{fails_at}
+use Rattle.granit_lexemes.specs.Basics.{fails_at, as_spelled}
 use Rattle.granit_lexemes.proofs.HereLemmas.{not_empty}
 use Rattle.granit_scalars.proofs.Comments.{same_run}
 use Rattle.granit_scalars.proofs.QuotedEscapes.{text_behind}
@@ -24,14 +25,14 @@ no_name_nul = refl
 
 -- ---- what is read is there
 
-abbrev pub NameAnswered : Here → Result (List ℕ × Here) Fault → Type 0
+abbrev pub NameAnswered : Here → Result (Written × Here) Fault → Type 0
 NameAnswered h (Ok (name, after)) = AnswersName h name after
 NameAnswered h (Err f) = RefusesName h f.kind f.mark × (f.sources ≡ [])
 
 -- what the function gives for a run behind the sign
-abbrev given_name : Here → (name : List ℕ) → Result (List ℕ × Here) Fault
+abbrev given_name : Here → (name : List ℕ) → Result (Written × Here) Fault
 given_name h name = if length name == 0 then fails_at MissingAnchorOrAliasName (mark_of h) else Ok
-    (name, over name (step h))
+    (as_spelled h name, over name (step h))
 
 pub name_run : (h : Here) (name rest : List ℕ) → (step h).unread.text ≡ name ++ rest → Each is_anchor_char name
     → is_anchor_char (first rest) ≡ false → name_at h ≡ given_name h name
@@ -39,12 +40,12 @@ unfolding name_at
 name_run h name rest e y n =
     ap (name_up_to h) (past_run is_anchor_char no_name_nul name rest (step h) e y n)
     ∙ ap₂ (λ k (l : List ℕ). if k == 0 then fails_at MissingAnchorOrAliasName (mark_of h) else Ok
-    (l, over name (step h))) (count_over name rest (step h) e) (text_over name rest (step h) e)
+    (as_spelled h l, over name (step h))) (count_over name rest (step h) e) (text_over name rest (step h) e)
 
-some_name : (h : Here) (name : List ℕ) → name ≢ [] → given_name h name ≡ Ok (name, over name (step h))
+some_name : (h : Here) (name : List ℕ) → name ≢ [] → given_name h name ≡ Ok (as_spelled h name, over name (step h))
 some_name h [] n = absurd (n refl)
 some_name h (c ∷ name) n = ap (λ b. if b then fails_at MissingAnchorOrAliasName (mark_of h) else Ok
-    (c ∷ name, over (c ∷ name) (step h))) (not_empty c name)
+    (as_spelled h (c ∷ name), over (c ∷ name) (step h))) (not_empty c name)
 
 given_answers : (h : Here) (name rest : List ℕ) → is_name_sign (next_char h) ≡ true → Seen h
     → (step h).unread.text ≡ name ++ rest → Each is_anchor_char name → is_anchor_char (first rest) ≡ false
@@ -61,6 +62,7 @@ given_answers h (c ∷ name) rest sign s e y n = subst (NameAnswered h) (sym (so
     some = λ z. cc;
     all = n;
   };
+  is = refl;
   reached = refl;
 })
 
@@ -73,7 +75,7 @@ name_answered h sign =
     subst (NameAnswered h) (sym (name_run h r.front r.rest r.whole r.each r.all))
     (given_answers h r.front r.rest sign (seen is_name_sign h no_sign_nul sign) r.whole r.each r.all)
 
-pub name_stands : (h : Here) (name : List ℕ) (after : Here) → is_name_sign (next_char h) ≡ true
+pub name_stands : (h : Here) (name : Written) (after : Here) → is_name_sign (next_char h) ≡ true
     → name_at h ≡ Ok (name, after) → AnswersName h name after
 name_stands h name after sign e = subst (NameAnswered h) e (name_answered h sign)
 
@@ -83,12 +85,12 @@ name_refused h f sign e = subst (NameAnswered h) e (name_answered h sign)
 
 -- ---- what stands there is read
 
-pub name_is : (h : Here) (name : List ℕ) (after : Here) → AnswersName h name after → name_at h ≡ Ok (name, after)
+pub name_is : (h : Here) (name : Written) (after : Here) → AnswersName h name after → name_at h ≡ Ok (name, after)
 name_is h name after a =
     let s = a.stands in
-    name_run h name a.rest (text_behind h s.sign (name ++ a.rest) s.whole) s.each s.all
-    ∙ some_name h name s.some
-    ∙ ap (λ (g : Here). Ok (name, g)) (sym a.reached)
+    name_run h name.characters a.rest (text_behind h s.sign (name.characters ++ a.rest) s.whole) s.each s.all
+    ∙ some_name h name.characters s.some
+    ∙ ap₂ (λ (t : Written) (g : Here). Ok (t, g)) (sym a.is) (sym a.reached)
 
 pub one_name_stands : (h : Here) (name other rest behind : List ℕ) → NameStands h name rest → NameStands h other behind
     → (name ≡ other) × (rest ≡ behind)

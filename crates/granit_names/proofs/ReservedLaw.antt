@@ -1,10 +1,10 @@
 -- The words of a reserved directive: what is read is there, and what is there is read.
 use Rattle.std.proofs.Common.{◌≡◌, ℕ, zero, suc, ◌+◌, ◌-◌, ◌≤◌, ◌<◌, ◌==◌, Bool, true, false, ◌||◌, List, [], ◌∷◌, ◌++◌}
-use Rattle.std.proofs.Common.{length, Option, Some, None, Result, Ok, refl, sym, ap, ap₂, ◌∙◌, subst, arith}
-use Rattle.std.proofs.Common.{append_assoc, length-append}
+use Rattle.std.proofs.Common.{length, Option, Some, None, Result, Ok, Err, refl, sym, ap, ap₂, ◌∙◌, subst, arith}
+use Rattle.std.proofs.Common.{append_assoc, length-append, ◌⊎◌, inl, inr}
 use Rattle.std.specs.Prelude.{if◌then◌else◌, nat_lt, nat_le}
 use Rattle.std.specs.Str.{encode_utf8_all}
-use Rattle.std.proofs.lemmas.Bool.{cond-true, cond-false}
+use Rattle.std.proofs.lemmas.Bool.{cond-true, cond-false, cases_lt}
 use Rattle.std.proofs.lemmas.Bool.Decides.{nat_tests}
 use Rattle.std.proofs.lemmas.Str.{encodes-append, encode_ascii}
 use Rattle.granit_base.specs.Classes.{is_blank, is_blank_or_breakz, is_yaml_non_space, is_yaml_non_break, is_printable}
@@ -222,6 +222,46 @@ module _ (o : OptionsData) (start : Mark) (limit : ℕ) where
         → parameter_turn o start (reading left count h) ≡ Ok (None, reading left count (over blanks h))
     stops e = turn_is ∙ cond-true (ends_words blanks place.unread.text) _ _ e
 
+    abbrev spent_blanks : Bool → Result (Option (List (List ℕ)) × ParameterState) Fault
+    spent_blanks v = (if v then fails_at (DirectiveByteLimitExceeded limit) start else Ok
+        (budget (left - length blanks))) >>= counted
+
+    -- a word that is refused, for the limit or for its number
+    wide_turn : ends_words blanks place.unread.text ≡ false → left < length blanks
+        → parameter_turn o start (reading left count h) ≡ fails_at (DirectiveByteLimitExceeded limit) start
+    wide_turn n l =
+        let f : nat_lt left (length blanks) ≡ true = grind (arith, nat_tests) in
+        turn_is ∙ cond-false (ends_words blanks place.unread.text) _ _ n ∙ ap spent_blanks f
+
+    many_turn : ends_words blanks place.unread.text ≡ false → length blanks ≤ left
+        → o.max_reserved_directive_params ≤ count
+        → parameter_turn o start (reading left count h)
+        ≡ fails_at (TooManyReservedDirectiveParams o.max_reserved_directive_params) start
+    many_turn n l c =
+        let f : nat_lt left (length blanks) ≡ false = grind (arith, nat_tests) in
+        let m : nat_le o.max_reserved_directive_params count ≡ true = grind (arith, nat_tests) in
+        turn_is ∙ cond-false (ends_words blanks place.unread.text) _ _ n ∙ ap spent_blanks f
+        ∙ cond-true (nat_le o.max_reserved_directive_params count) _ _ m
+
+    long_turn : ends_words blanks place.unread.text ≡ false → left < bytes_of (blanks ++ word)
+        → count < o.max_reserved_directive_params
+        → parameter_turn o start (reading left count h) ≡ fails_at (DirectiveByteLimitExceeded limit) start
+    long_turn n l c = by (cases_lt left (length blanks))
+      where
+        by : (left < length blanks) ⊎ (length blanks ≤ left)
+            → parameter_turn o start (reading left count h) ≡ fails_at (DirectiveByteLimitExceeded limit) start
+        by (inl few) = wide_turn n few
+        by (inr fits) =
+            let k = piece_bytes in
+            let f : nat_lt left (length blanks) ≡ false = grind (arith, nat_tests) in
+            let m : nat_le o.max_reserved_directive_params count ≡ false = grind (arith, nat_tests) in
+            let g : nat_lt (left - length blanks) (bytes_of word) ≡ true = grind (arith, nat_tests) in
+            turn_is ∙ cond-false (ends_words blanks place.unread.text) _ _ n ∙ ap spent_blanks f
+            ∙ cond-false (nat_le o.max_reserved_directive_params count) _ _ m
+            ∙ word_is (budget (left - length blanks))
+            ∙ ap (λ (v : Bool). ((if v then fails_at (DirectiveByteLimitExceeded limit) start else Ok
+            (budget ((left - length blanks) - bytes_of word))) >>= λ l. Ok (l, over word place)) >>= given_word) g
+
   word_turn : (left count : ℕ) (h : Here) → WordTurn left count h (parameter_turn o start (reading left count h))
   word_turn left count h =
       let b = all_over is_blank no_blank_nul h in
@@ -369,3 +409,135 @@ module _ (o : OptionsData) (start : Mark) (limit : ℕ) where
       let t = turns_are (suc (text_len h)) left 0 source blanks more rest words h h.unread.text refl s n b (omega arith)
       (omega arith) in
       ap (λ r. r >>= λ x. Ok (Reserved name x.0, x.1.here)) t.2
+
+  -- ---- words that are refused
+
+  module _ (left count : ℕ) (h : Here) (piece word behind : List ℕ) (s : WordStands h.unread.text piece word behind)
+    where
+      blanks_text : (over s.blanks h).unread.text ≡ s.behind
+      blanks_text = over_text s.blanks s.behind h s.parted.whole
+
+      blanks_there : All is_blank h.unread.text s.blanks (over s.blanks h).unread.text
+      blanks_there = subst (All is_blank h.unread.text s.blanks) (sym blanks_text) s.parted
+
+      word_there : All is_yaml_non_space (over s.blanks h).unread.text word behind
+      word_there = subst (λ (x : List ℕ). All is_yaml_non_space x word behind) (sym blanks_text) s.is
+
+      begins_word : ends_words s.blanks (over s.blanks h).unread.text ≡ false
+      begins_word = ap (ends_words s.blanks) blanks_text ∙ s.begins
+
+      piece_is : bytes_of piece ≡ bytes_of (s.blanks ++ word)
+      piece_is = ap bytes_of s.source_is
+
+      piece_longer : 0 < length piece
+      piece_longer =
+          let some = some_blank left count h s.blanks word behind blanks_there word_there s.blanks
+          (over s.blanks h).unread.text begins_word in
+          omega (arith, ap (length {A = ℕ}) s.source_is, length-append s.blanks word)
+
+      taken_here : bytes_of piece ≤ left → count < o.max_reserved_directive_params
+          → parameter_turn o start (reading left count h)
+          ≡ Ok (Some (word ∷ []), reading (left - bytes_of piece) (count + 1) (over piece h))
+      taken_here l c =
+          let k = piece_is in
+          takes left count h s.blanks word behind blanks_there word_there begins_word (omega arith) c
+          ∙ ap (λ (x : List ℕ). Ok (Some (word ∷ []), reading (left - bytes_of x) (count + 1) (over x h)))
+          (sym s.source_is)
+
+      pub long_here : left < bytes_of piece → count < o.max_reserved_directive_params
+          → parameter_turn o start (reading left count h) ≡ fails_at (DirectiveByteLimitExceeded limit) start
+      long_here l c = let k = piece_is in
+          long_turn left count h s.blanks word behind blanks_there word_there begins_word (omega arith) c
+
+      pub wide_here : left < bytes_of s.blanks
+          → parameter_turn o start (reading left count h) ≡ fails_at (DirectiveByteLimitExceeded limit) start
+      wide_here l = let b = blank_bytes s.blanks s.parted.each in
+          wide_turn left count h s.blanks word behind blanks_there word_there begins_word (omega arith)
+
+      pub many_here : bytes_of s.blanks ≤ left → o.max_reserved_directive_params ≤ count
+          → parameter_turn o start (reading left count h)
+          ≡ fails_at (TooManyReservedDirectiveParams o.max_reserved_directive_params) start
+      many_here l c = let b = blank_bytes s.blanks s.parted.each in
+          many_turn left count h s.blanks word behind blanks_there word_there begins_word (omega arith) c
+
+  abbrev then_turns : ℕ → Option (List (List ℕ)) × ParameterState → Result (List (List ℕ) × ParameterState) Fault
+  then_turns k x = then_more (turns (parameter_turn o start) k) x.0 x.1
+
+  turns_end : (n left count : ℕ) (source rest : List ℕ) (words : List (List ℕ)) (f : Fault) (h : Here) (text : List ℕ)
+      → h.unread.text ≡ text → WordsStand text source words rest → bytes_of source ≤ left
+      → count + length words ≤ o.max_reserved_directive_params → text_len h < n
+      → ((i c : ℕ) (g : Here) → i + bytes_of source ≡ left → c ≡ count + length words → g.unread.text ≡ rest
+      → parameter_turn o start (reading i c g) ≡ Err f)
+      → turns (parameter_turn o start) n (reading left count h) ≡ Err f
+  unfolding turns
+  turns_end zero left count source rest words f h text is s b c l w = absurd (omega arith)
+  turns_end (suc k) left count source rest words f h text is no_more b c l w =
+      ap (λ r. r >>= then_turns k) (w left count h (omega arith) (omega arith) is)
+  turns_end (suc k) left count source rest words f h text is
+      (one_more {piece} {word} {behind} {source = others} {words = further} s p) b c l w =
+      let s₁ = subst (λ (t : List ℕ). WordStands t piece word behind) (sym is) s in
+      let whole : h.unread.text ≡ piece ++ behind = is ∙ word_whole text piece word behind s in
+      let u : (over piece h).unread.text ≡ behind = over_text piece behind h whole in
+      let sum = bytes-append piece others in
+      let longer = piece_longer left count h piece word behind s₁ in
+      let m : text_len (over piece h) < k =
+      less h piece k longer (whole ∙ ap (λ (x : List ℕ). piece ++ x) (sym u)) l in
+      ap (λ r. r >>= then_turns k) (taken_here left count h piece word behind s₁ (omega arith) (omega arith))
+      ∙ ap (with_front (word ∷ []))
+      (turns_end k (left - bytes_of piece) (count + 1) others rest further f (over piece h) behind u p (omega arith)
+      (omega arith) m (λ i c g e d t. w i c g (omega arith) (omega arith) t))
+
+  turns_over : (n left count : ℕ) (source rest : List ℕ) (words : List (List ℕ)) (h : Here) (text : List ℕ)
+      → h.unread.text ≡ text → WordsStand text source words rest → left < bytes_of source
+      → count + length words ≤ o.max_reserved_directive_params → text_len h < n
+      → turns (parameter_turn o start) n (reading left count h) ≡ fails_at (DirectiveByteLimitExceeded limit) start
+  unfolding turns
+  turns_over zero left count source rest words h text is s b c l = absurd (omega arith)
+  turns_over (suc k) left count source rest words h text is no_more b c l = absurd (omega arith)
+  turns_over (suc k) left count source rest words h text is
+      (one_more {piece} {word} {behind} {source = others} {words = further} s p) b c l =
+      let s₁ = subst (λ (t : List ℕ). WordStands t piece word behind) (sym is) s in
+      let whole : h.unread.text ≡ piece ++ behind = is ∙ word_whole text piece word behind s in
+      let u : (over piece h).unread.text ≡ behind = over_text piece behind h whole in
+      let sum = bytes-append piece others in
+      let longer = piece_longer left count h piece word behind s₁ in
+      let m : text_len (over piece h) < k =
+      less h piece k longer (whole ∙ ap (λ (x : List ℕ). piece ++ x) (sym u)) l in
+      let room : count < o.max_reserved_directive_params = omega arith in
+      by s₁ room
+      (λ fits. turns_over k (left - bytes_of piece) (count + 1) others rest further (over piece h) behind u p
+      (omega (arith, fits)) (omega arith) m) (cases_lt left (bytes_of piece))
+    where
+      by : WordStands h.unread.text piece word behind → count < o.max_reserved_directive_params
+          → (bytes_of piece ≤ left → turns (parameter_turn o start) k
+          (reading (left - bytes_of piece) (count + 1) (over piece h))
+          ≡ fails_at (DirectiveByteLimitExceeded limit) start)
+          → (left < bytes_of piece) ⊎ (bytes_of piece ≤ left)
+          → turns (parameter_turn o start) (suc k) (reading left count h)
+          ≡ fails_at (DirectiveByteLimitExceeded limit) start
+      by s₁ room more (inl passed) =
+          ap (λ r. r >>= then_turns k) (long_here left count h piece word behind s₁ passed room)
+      by s₁ room more (inr fits) =
+          ap (λ r. r >>= then_turns k) (taken_here left count h piece word behind s₁ fits room)
+          ∙ ap (with_front (word ∷ [])) (more fits)
+
+  pub reserved_fails : (left : ℕ) (name source rest : List ℕ) (words : List (List ℕ)) (f : Fault) (h : Here)
+      → WordsStand h.unread.text source words rest → bytes_of source ≤ left
+      → length words ≤ o.max_reserved_directive_params
+      → ((i c : ℕ) (g : Here) → i + bytes_of source ≡ left → c ≡ length words → g.unread.text ≡ rest
+      → parameter_turn o start (reading i c g) ≡ Err f)
+      → reserved_directive o (budget left) start name h ≡ Err f
+  unfolding pieces
+  reserved_fails left name source rest words f h s b c w =
+      ap (λ r. r >>= λ x. Ok (Reserved name x.0, x.1.here))
+      (turns_end (suc (text_len h)) left 0 source rest words f h h.unread.text refl s b (omega arith) (omega arith)
+      (λ i c g e d t. w i c g e (omega (arith, d)) t))
+
+  pub reserved_over : (left : ℕ) (name source rest : List ℕ) (words : List (List ℕ)) (h : Here)
+      → WordsStand h.unread.text source words rest → left < bytes_of source
+      → length words ≤ o.max_reserved_directive_params
+      → reserved_directive o (budget left) start name h ≡ fails_at (DirectiveByteLimitExceeded limit) start
+  unfolding pieces
+  reserved_over left name source rest words h s b c =
+      ap (λ r. r >>= λ x. Ok (Reserved name x.0, x.1.here))
+      (turns_over (suc (text_len h)) left 0 source rest words h h.unread.text refl s b (omega arith) (omega arith))

@@ -51,13 +51,13 @@ all_past test nul h run rest a = past_run test nul run rest h a.whole a.each a.a
 -- ---- a number
 
 -- what the function gives for the digits that begin a text
-abbrev given_number : Mark → List ℕ → Here → Result (ℕ × Here) Fault
+abbrev pub given_number : Mark → List ℕ → Here → Result (ℕ × Here) Fault
 given_number start digits g =
     if length digits == 0 then fails_at MissingYamlVersion start
     else if nat_lt 9 (length digits) then fails_at YamlVersionTooLong start
     else Ok (digits_value 0 digits, over digits g)
 
-number_run : (start : Mark) (g : Here) (digits rest : List ℕ) → All is_digit g.unread.text digits rest
+pub number_run : (start : Mark) (g : Here) (digits rest : List ℕ) → All is_digit g.unread.text digits rest
     → version_number start g ≡ given_number start digits g
 unfolding version_number
 number_run start g digits rest a =
@@ -88,11 +88,11 @@ number start g =
     subst (NumberRead start g) (sym (number_run start g r.0 (over r.0 g).unread.text r.1))
     (number_if start g r.0 r.1 (length r.0 == 0) (nat_lt 9 (length r.0)) refl refl)
 
-some_digits : (digits : List ℕ) → digits ≢ [] → (length digits == 0) ≡ false
+pub some_digits : (digits : List ℕ) → digits ≢ [] → (length digits == 0) ≡ false
 some_digits [] n = absurd (n refl)
 some_digits (d ∷ digits) n = not_empty d digits
 
-number_is : (start : Mark) (g : Here) (digits rest : List ℕ) (n : ℕ) → NumberStands g.unread.text digits rest n
+pub number_is : (start : Mark) (g : Here) (digits rest : List ℕ) (n : ℕ) → NumberStands g.unread.text digits rest n
     → version_number start g ≡ Ok (n, over digits g)
 number_is start g digits rest n s =
     let few = s.few in

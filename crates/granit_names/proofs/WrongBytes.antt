@@ -127,7 +127,7 @@ one_character count source bytes (c ∷ text) b n none s e =
     (r.is ∙ ap₂ (λ k (l : List ℕ). k ∷ l) lead
     (sym (append-nil r.more) ∙ ap (λ (l : List ℕ). r.more ++ l) (sym left) ∙ behind) ∙ sym b.are)
 
-not_utf8 : (count : ℕ) (source bytes : List ℕ) (b : Begun count source bytes) → length bytes ≡ count + 1
+pub not_utf8 : (count : ℕ) (source bytes : List ℕ) (b : Begun count source bytes) → length bytes ≡ count + 1
     → NoCharacter bytes → (v : Bool) → is_utf8 bytes ≡ v → v ≡ false
 not_utf8 count source bytes b n none false y = refl
 not_utf8 count source bytes b n none true y =

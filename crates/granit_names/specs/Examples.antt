@@ -5,7 +5,7 @@ use Rattle.granit_error.specs.FaultKind.{FaultKind}
 use Rattle.granit_error.specs.OptionsData.{OptionsData, default_options}
 use Rattle.granit_lexemes.specs.Comment.{CommentRead}
 use Rattle.granit_lexemes.specs.Here.{Here, start_of}
-use Rattle.granit_lexemes.specs.Outcome.{Fault}
+use Rattle.granit_lexemes.specs.Outcome.{Fault, ◌>>=◌}
 use Rattle.granit_lexemes.specs.PlainExtent.{over}
 use Rattle.granit_lexemes.specs.Directive.{DirectiveRead, directive_at, directive}
 use Rattle.granit_lexemes.specs.Lexeme.{DirectiveKind}
@@ -24,7 +24,7 @@ abbrev pub tag_seen : Bool → List ℕ → ℕ → Result (TagRead × ℕ) (Fau
 tag_seen in_flow text index = outcome_told (tag_at in_flow (at_index text index))
 
 abbrev pub name_seen : List ℕ → ℕ → Result (List ℕ × ℕ) (FaultKind × ℕ)
-name_seen text index = outcome_told (name_at (at_index text index))
+name_seen text index = outcome_told (name_at (at_index text index) >>= λ x. Ok (x.0.characters, x.1))
 
 abbrev pub directive_seen : OptionsData → List ℕ → Result (DirectiveKind × ℕ) (FaultKind × ℕ)
 directive_seen o text = outcome_told (directive_at o (start_of text))

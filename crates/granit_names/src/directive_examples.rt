@@ -94,6 +94,15 @@ pub fn refused_directives_of_the_examples()
     ensures wrong_trail { directive_seen default_options (codes "%TAG ! a%C3%28")
         ≡ Err (InvalidTagUtf8TrailingByte, 0) }
     ensures wrong_char { directive_seen default_options (codes "%TAG ! a%C0%80") ≡ Err (InvalidTagUtf8, 0) }
+    ensures blank_over { directive_seen (few_bytes 3) (codes "%TAG ") ≡ Err (DirectiveByteLimitExceeded 3, 0) }
+    ensures blank_within { directive_seen (few_bytes 4) (codes "%TAG ") ≡ Err (ExpectedTagBang, 0) }
+    ensures word_over { directive_seen (few_bytes 5) (codes "%TAG !a") ≡ Err (DirectiveByteLimitExceeded 5, 0) }
+    ensures word_within { directive_seen (few_bytes 6) (codes "%TAG !a") ≡ Err (ExpectedTagDirectiveBang, 0) }
+    ensures sign_over { directive_seen (few_bytes 5) (codes "%TAG ! %") ≡ Err (DirectiveByteLimitExceeded 5, 0) }
+    ensures sign_within { directive_seen (few_bytes 6) (codes "%TAG ! %") ≡ Err (InvalidTagEscape, 0) }
+    ensures trail_over { directive_seen (few_bytes 11) (codes "%TAG ! %C3%28")
+        ≡ Err (DirectiveByteLimitExceeded 11, 0) }
+    ensures trail_within { directive_seen (few_bytes 12) (codes "%TAG ! %C3%28") ≡ Err (InvalidTagUtf8TrailingByte, 0) }
 {}
 
 /// Directives with what stands behind them on their lines: the index behind a directive, the text of its

@@ -12,8 +12,9 @@ pub use directive_examples::{
     directives_of_the_examples, lines_of_the_examples, refused_directives_of_the_examples,
 };
 pub use directives::{
-    every_directive_answer_stands, every_directive_is_answered,
-    every_directive_refusal_has_its_cause, one_directive,
+    every_directive_answer_stands, every_directive_cause_is_refused, every_directive_is_answered,
+    every_directive_refusal_has_its_cause, every_directive_refusal_has_its_first_cause,
+    one_directive, one_directive_cause,
 };
 pub use examples::{names_of_the_examples, refused_tags_of_the_examples, tags_of_the_examples};
 pub use names::{

@@ -1,6 +1,7 @@
 //! The plain function on characters answers the name of an anchor or an alias that its definitions say.
 ghost use Rattle.std.specs.Prelude.{◌≡◌, ℕ, true, List, [], Ok, Err};
 ghost use Rattle.granit_base.specs.Place.{Mark};
+ghost use Rattle.granit_base.specs.Written.{Written};
 ghost use Rattle.granit_error.specs.FaultKind.{FaultKind};
 ghost use Rattle.granit_lexemes.specs.Here.{Here, next_char};
 ghost use Rattle.granit_lexemes.specs.Outcome.{Fault, fault_at};
@@ -9,13 +10,13 @@ ghost use Rattle.granit_lexemes.specs.NameExtent.{AnswersName, NameStands, Refus
 
 /// Where its sign stands, an answer is the name that stands there, with all its characters.
 pub fn every_name_answer_stands()
-    ensures { (h : Here) (name : List ℕ) (after : Here) → is_name_sign (next_char h) ≡ true
+    ensures { (h : Here) (name : Written) (after : Here) → is_name_sign (next_char h) ≡ true
         → name_at h ≡ Ok (name, after) → AnswersName h name after }
 {}
 
 /// A name that stands there is answered.
 pub fn every_name_is_answered()
-    ensures { (h : Here) (name : List ℕ) (after : Here) → AnswersName h name after → name_at h ≡ Ok (name, after) }
+    ensures { (h : Here) (name : Written) (after : Here) → AnswersName h name after → name_at h ≡ Ok (name, after) }
 {}
 
 /// Where its sign stands, the cause of a refusal stands at its mark, and it names no source.

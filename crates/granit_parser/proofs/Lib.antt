@@ -1,2 +1,5 @@
 pub mod GatherLemmas
 pub mod LoadLemmas
+pub mod StartLaws
+pub mod StreamLemmas
+pub mod TextLemmas

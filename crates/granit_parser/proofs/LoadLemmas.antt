@@ -2,20 +2,29 @@
 use Rattle.std.proofs.Common.{◌≡◌, ◌≢◌, ℕ, List, [], Option, Some, None, Result, Ok, Err, ◌⊎◌, inl, inr}
 use Rattle.std.proofs.Common.{refl, sym, ap, subst, ◌∙◌, ◌≤◌}
 use Rattle.std.specs.Prelude.{IfOk, IfErr}
-use Rattle.granit_answers.specs.Answers.{AnswersReading}
-use Rattle.granit_answers.proofs.Caused.{answered_by, refused_by, exact_by}
-use Rattle.granit_answers.proofs.CommentsCaused.{any_fault_caused, comments_answered}
-use Rattle.granit_answers.proofs.OneCause.{answer_reads, reading_answered}
+use Rattle.granit_answers.proofs.CommentsCaused.{any_fault_caused}
+use Rattle.granit_answers.proofs.OneCause.{answer_reads, cause_answered, reading_answered}
+use Rattle.granit_base.specs.Classes.{is_printable}
+use Rattle.granit_before.specs.DeclaredCause.{DeclaredCause}
+use Rattle.granit_before.specs.DeclaredReading.{DeclaredReading}
+use Rattle.granit_before.proofs.CauseSaid.{cause_declared, declared_cause}
+use Rattle.granit_before.proofs.ReadingSaid.{answer_declared, declared_answer}
 use Rattle.granit_canonical.specs.Canonical.{canonical_events}
 use Rattle.granit_canonical.proofs.Laws.{canonical_is_read}
+use Rattle.granit_comments.specs.TextComments.{TellsComments, ToldUnasked}
+use Rattle.granit_comments.proofs.Told.{comments_told}
+use Rattle.granit_comments.proofs.Unasked.{told_unasked}
 use Rattle.granit_error.specs.FaultKind.{FaultKind, NoMemory}
 use Rattle.granit_error.specs.OptionsData.{OptionsData}
 use Rattle.granit_error.specs.Refused.{Refused}
 use Rattle.granit_invariants.specs.EventPlaces.{EventsInText}
 use Rattle.granit_invariants.specs.Quiet.{but_comments}
 use Rattle.granit_invariants.proofs.SpanLaw.{events_in_text}
-use Rattle.granit_language.specs.Reached.{ReadStopped}
-use Rattle.granit_language.specs.TextFault.{OfComments, OfLexemes, OfReading, WholeCause}
+use Rattle.granit_json.specs.Json.{Json, depth}
+use Rattle.granit_json.specs.JsonEvents.{json_events}
+use Rattle.granit_json.specs.JsonText.{JsonText, NamesFit}
+use Rattle.granit_json.proofs.Laws.{json_answered}
+use Rattle.granit_lexemes.specs.Gap.{Each}
 use Rattle.granit_lexemes.specs.Outcome.{Fault, Fails, GivesValue}
 use Rattle.granit_lexemes.specs.PlainEvent.{PlainEvent}
 use Rattle.granit_machine.specs.Machine.{run}
@@ -30,7 +39,7 @@ use Rattle.granit_steps.specs.Told.{GivesEvents}
 use Rattle.granit_steps.proofs.StepLaws.{steps_give}
 use Rattle.granit_steps.proofs.StreamLaws.{run_is_stream}
 
-memory_or_not : (k : FaultKind) → (k ≡ NoMemory) ⊎ (k ≢ NoMemory)
+pub memory_or_not : (k : FaultKind) → (k ≡ NoMemory) ⊎ (k ≢ NoMemory)
 memory_or_not NoMemory = inl refl
 memory_or_not k = inr (λ e. cc)
 
@@ -60,8 +69,8 @@ module _ (o : OptionsData) (x : List ℕ) where
 module _ {V : Type 0} (view : V → List PlainEvent) (o : OptionsData) (x : List ℕ) where
   -- ---- an answer
 
-  pub reading_of : (r : Result V Refused) → GivesValue view r (run o x) → IfOk r (λ v. AnswersReading o x (view v))
-  reading_of (Ok v) g = answer_reads o x (view v) g
+  pub reading_of : (r : Result V Refused) → GivesValue view r (run o x) → IfOk r (λ v. DeclaredReading o x (view v))
+  reading_of (Ok v) g = answer_declared o x (view v) (answer_reads o x (view v) g)
   reading_of (Err e) g = tt
 
   pub spans_of : (r : Result V Refused) → GivesValue view r (run o x) → IfOk r (λ v. EventsInText x (view v))
@@ -72,6 +81,14 @@ module _ {V : Type 0} (view : V → List PlainEvent) (o : OptionsData) (x : List
   stream_of (Ok v) g = run_is_stream o x (view v) g
   stream_of (Err e) g = tt
 
+  pub comments_of : (r : Result V Refused) → GivesValue view r (run o x) → IfOk r (λ v. TellsComments o x (view v))
+  comments_of (Ok v) g = comments_told o x (view v) g
+  comments_of (Err e) g = tt
+
+  pub uncommented_of : (r : Result V Refused) → GivesValue view r (run o x) → IfOk r (λ v. ToldUnasked o x (view v))
+  uncommented_of (Ok v) g = told_unasked o x (view v) g
+  uncommented_of (Err e) g = tt
+
   -- where there must be an answer, only want of memory stands in its place
   memory_alone : (e : Refused) (es : List PlainEvent) → (e.kind ≡ NoMemory) ⊎ (e.kind ≢ NoMemory) → Fails e (run o x)
       → run o x ≡ Ok es → e.kind ≡ NoMemory
@@ -79,61 +96,57 @@ module _ {V : Type 0} (view : V → List PlainEvent) (o : OptionsData) (x : List
   memory_alone e es (inr n) g a = absurd (never_both es e (sym a ∙ g n))
 
   pub answered_of : (r : Result V Refused) → GivesValue view r (run o x) → (es : List PlainEvent)
-      → AnswersReading o x es
+      → DeclaredReading o x es
       → IfErr r (λ e. e.kind ≡ NoMemory) × IfOk r (λ v. but_comments (view v) ≡ but_comments es)
-  answered_of (Ok v) g es a =
+  answered_of (Ok v) g es declared =
+      let a = declared_answer o x es declared in
       let h = reading_answered o x a.items a.state a.tree_events a.are_read a.to_end a.reading a.none in
       let same : view v ≡ h.0 = same_events (view v) h.0 (sym g ∙ h.1) in
       (tt, subst (λ (gs : List PlainEvent). but_comments gs ≡ but_comments es) (sym same) (h.2 ∙ a.told))
-  answered_of (Err e) g es a =
+  answered_of (Err e) g es declared =
+      let a = declared_answer o x es declared in
       let h = reading_answered o x a.items a.state a.tree_events a.are_read a.to_end a.reading a.none in
       (memory_alone e h.0 (memory_or_not e.kind) g h.1, tt)
+
+  -- a text that is answered with these events is refused for want of memory alone
+  has_events : (r : Result V Refused) → GivesValue view r (run o x) → (es : List PlainEvent) → run o x ≡ Ok es
+      → IfErr r (λ e. e.kind ≡ NoMemory) × IfOk r (λ v. view v ≡ es)
+  has_events (Ok v) g es read = (tt, same_events (view v) es (sym g ∙ read))
+  has_events (Err e) g es read = (memory_alone e es (memory_or_not e.kind) g read, tt)
 
   -- canonical text has the events of its trees
   pub canonical_of : (r : Result V Refused) → GivesValue view r (run o x) → (ts : PlainTrees) → DocumentsFit ts
       → HasCharacters ts → trees_depth ts ≤ o.flow_nesting_limit → x ≡ flow_characters ts
       → IfErr r (λ e. e.kind ≡ NoMemory) × IfOk r (λ v. view v ≡ canonical_events o ts)
-  canonical_of (Ok v) g ts fits written deep is =
-      let read = ap (run o) is ∙ canonical_is_read o ts fits written deep in
-      (tt, same_events (view v) (canonical_events o ts) (sym g ∙ read))
-  canonical_of (Err e) g ts fits written deep is =
-      let read = ap (run o) is ∙ canonical_is_read o ts fits written deep in
-      (memory_alone e (canonical_events o ts) (memory_or_not e.kind) g read, tt)
+  canonical_of r g ts fits written deep is =
+      has_events r g (canonical_events o ts) (ap (run o) is ∙ canonical_is_read o ts fits written deep)
+
+  -- JSON text has those of its value
+  pub json_of : (r : Result V Refused) → GivesValue view r (run o x) → (t : Json) → (d : JsonText x t)
+      → Each is_printable x → depth t ≤ o.flow_nesting_limit → NamesFit o.simple_key_max_lookahead d
+      → IfErr r (λ e. e.kind ≡ NoMemory) × IfOk r (λ v. view v ≡ json_events x d)
+  json_of r g t d printable deep near = has_events r g (json_events x d) (json_answered o x t d printable deep near)
 
   -- ---- a refusal
 
   caused : (e : Refused) → (e.kind ≡ NoMemory) ⊎ (e.kind ≢ NoMemory) → Fails e (run o x)
-      → (e.kind ≡ NoMemory) ⊎ (WholeCause o x e × (e.sources ≡ []))
+      → (e.kind ≡ NoMemory) ⊎ (DeclaredCause o x e × (e.sources ≡ []))
   caused e (inl m) g = inl m
-  caused e (inr n) g = inr (any_fault_caused o x e (g n), run_none o x e (g n))
+  caused e (inr n) g = inr (cause_declared o x e (any_fault_caused o x e (g n)), run_none o x e (g n))
 
   pub cause_of : (r : Result V Refused) → GivesValue view r (run o x)
-      → IfErr r (λ e. (e.kind ≡ NoMemory) ⊎ (WholeCause o x e × (e.sources ≡ [])))
+      → IfErr r (λ e. (e.kind ≡ NoMemory) ⊎ (DeclaredCause o x e × (e.sources ≡ [])))
   cause_of (Ok v) g = tt
   cause_of (Err e) g = caused e (memory_or_not e.kind) g
 
-  refused_so : (Holds : Fault → Type 0) (e : Refused) → (e.kind ≡ NoMemory) ⊎ (e.kind ≢ NoMemory) → Fails e (run o x)
-      → (f : Fault) → run o x ≡ Err f → Holds f → (e.kind ≡ NoMemory) ⊎ Holds e
-  refused_so Holds e (inl m) g f is holds = inl m
-  refused_so Holds e (inr n) g f is holds = inr (subst Holds (same_fault f e (sym is ∙ g n)) holds)
+  refused_so : (e : Refused) → (e.kind ≡ NoMemory) ⊎ (e.kind ≢ NoMemory) → Fails e (run o x) → (f : Fault)
+      → run o x ≡ Err f → (e.kind ≡ NoMemory) ⊎ (e ≡ f)
+  refused_so e (inl m) g f is = inl m
+  refused_so e (inr n) g f is = inr (same_fault e f (sym (g n) ∙ is))
 
-  refused_as : (Holds : Fault → Type 0) (r : Result V Refused) → GivesValue view r (run o x) → (f : Fault)
-      → run o x ≡ Err f → Holds f → IsRefusedAs r Holds
-  refused_as Holds (Ok v) g f is holds = absurd (never_both (view v) f (sym g ∙ is))
-  refused_as Holds (Err e) g f is holds = (tt, refused_so Holds e (memory_or_not e.kind) g f is holds)
-
-  -- with the one cause that the text has
-  pub refused_of : (r : Result V Refused) → GivesValue view r (run o x) → (f : Fault)
-      → OfLexemes o x f ⊎ OfComments o x f → IsRefusedAs r (λ e. e ≡ f)
-  refused_of r g f (inl c) = refused_as (λ (e : Fault). e ≡ f) r g f (answered_by o x f c) refl
-  refused_of r g f (inr c) = refused_as (λ (e : Fault). e ≡ f) r g f (comments_answered o x f c) refl
-
-  -- or with one of those that reading has at that place
-  pub unread_of : (r : Result V Refused) → GivesValue view r (run o x) → (f : Fault) → OfReading o x f
-      → IsRefusedAs r (OfReading o x)
-  unread_of r g f c = let h = refused_by o x f c in refused_as (OfReading o x) r g h.0 h.1 h.2
-
-  pub stopped_of : (r : Result V Refused) → GivesValue view r (run o x) → (f : Fault) → (c : OfReading o x f)
-      → ReadStopped o c.state f.kind f.mark → f.sources ≡ [] → IsRefusedAs r (λ e. e ≡ f)
-  stopped_of r g f c stopped none =
-      refused_as (λ (e : Fault). e ≡ f) r g f (exact_by o x f c stopped none) refl
+  -- with the cause that the text has
+  pub refused_of : (r : Result V Refused) → GivesValue view r (run o x) → (f : Fault) → DeclaredCause o x f
+      → IsRefusedAs r (λ e. e ≡ f)
+  refused_of (Ok v) g f c = absurd (never_both (view v) f (sym g ∙ cause_answered o x f (declared_cause o x f c)))
+  refused_of (Err e) g f c =
+      (tt, refused_so e (memory_or_not e.kind) g f (cause_answered o x f (declared_cause o x f c)))

@@ -1,8 +1,10 @@
 -- What contracts see of a parser, and what its calls give.
-use Rattle.std.specs.Prelude.{◌≡◌, ℕ, true, List, Option, Some, None, Result, Ok, Err, IfSome, IfErr}
+use Rattle.std.specs.Prelude.{◌≡◌, ◌⊎◌, ℕ, true, List, [], ◌∷◌, Option, Some, None, Result, Ok, Err, IfSome, IfErr}
 use Rattle.std.specs.Borrow.{Bor}
 use Rattle.granit_base.specs.Place.{Unread}
 use Rattle.granit_base.specs.declared.place.Span.{Span}
+use Rattle.granit_before.specs.DeclaredCause.{DeclaredCause}
+use Rattle.granit_before.specs.DeclaredReading.{DeclaredReading}
 use Rattle.granit_cursor.specs.Reading.{Moves}
 use Rattle.granit_error.specs.FaultKind.{NoMemory}
 use Rattle.granit_error.specs.OptionsData.{OptionsData}
@@ -13,7 +15,7 @@ use Rattle.granit_input.specs.Origin.{Origin}
 use Rattle.granit_lexemes.specs.Outcome.{Fault, Fails}
 use Rattle.granit_lexemes.specs.PlainEvent.{PlainEvent}
 use Rattle.granit_stepper.specs.Stepping.{Stepping, StandsIn}
-use Rattle.granit_steps.specs.Steps.{StepState, next_event}
+use Rattle.granit_steps.specs.Steps.{StepState, next_event, steps_start}
 use Rattle.granit_steps.specs.Told.{GivesEvents}
 
 -- what a call gives: an event, why there is none, or nothing more
@@ -85,6 +87,18 @@ pub record StepsTo {I : Type 0} (unread : I → Unread → Type 0) (left : I →
   pub over : IsOver p → (r ≡ None) × (q ≡ p)
   pub options : q.stepper.scanner.options ≡ p.stepper.scanner.options
   pub moves : Moves left origin p.stepper.scanner.cursor q.stepper.scanner.cursor
+
+-- one by one these events are given, from a state up to another one
+pub data LeadsTo (o : OptionsData) : StepState → List PlainEvent → StepState → Type 0 where
+  none_given : {m : StepState} → LeadsTo o m [] m
+  first_given : {m next last : StepState} {e : PlainEvent} {es : List PlainEvent}
+      → next_event o m ≡ Ok (Some e, next) → LeadsTo o next es last → LeadsTo o m (e ∷ es) last
+
+-- behind these events of a text, a refusal is for want of memory or a cause of the text, and names no source; and where
+-- there is nothing more, these are the events of its reading
+abbrev pub EndsText : OptionsData → List ℕ → List PlainEvent → Next → Type 0
+EndsText o x es None = DeclaredReading o x es
+EndsText o x es (Some r) = IfErr r (λ e. (e.kind ≡ NoMemory) ⊎ (DeclaredCause o x e × (e.sources ≡ [])))
 
 -- All that is given from a state on are these events, or some events and then this refusal, unless memory ran out.
 abbrev pub GivesAll : {V : Type 0} → (V → List PlainEvent) → OptionsData → StepState → Result V Refused → Type 0

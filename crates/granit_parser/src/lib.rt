@@ -3,8 +3,8 @@
 
 mod load;
 mod parser;
-#[cfg(test)]
-mod tests;
+mod streams;
 
 pub use load::{Events, load_str};
 pub use parser::Parser;
+pub use streams::load_chars;

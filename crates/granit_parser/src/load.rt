@@ -2,15 +2,20 @@
 ghost use Rattle.std.specs.Prelude.{◌≡◌, ◌==◌, ◌⊎◌, ◌≤◌, List, [], length, slice_get, IfOk, IfErr};
 ghost use Rattle.std.specs.Option.{option_copied};
 ghost use Rattle.std.specs.Str.{chars};
-ghost use Rattle.granit_answers.specs.Answers.{AnswersReading};
+ghost use Rattle.granit_base.specs.Classes.{is_printable};
+ghost use Rattle.granit_before.specs.DeclaredCause.{DeclaredCause};
+ghost use Rattle.granit_before.specs.DeclaredReading.{DeclaredReading};
 ghost use Rattle.granit_canonical.specs.Canonical.{canonical_events};
+ghost use Rattle.granit_comments.specs.TextComments.{TellsComments, ToldUnasked};
 ghost use Rattle.granit_error.specs.FaultKind.{NoMemory as OutOfMemory};
 ghost use Rattle.granit_error.specs.OptionsView.{options_of};
 ghost use Rattle.granit_event.specs.Events.{plain_events};
 ghost use Rattle.granit_invariants.specs.EventPlaces.{EventsInText};
 ghost use Rattle.granit_invariants.specs.Quiet.{but_comments};
-ghost use Rattle.granit_language.specs.Reached.{ReadStopped};
-ghost use Rattle.granit_language.specs.TextFault.{OfComments, OfLexemes, OfReading, WholeCause};
+ghost use Rattle.granit_json.specs.Json.{Json, depth};
+ghost use Rattle.granit_json.specs.JsonEvents.{json_events};
+ghost use Rattle.granit_json.specs.JsonText.{JsonText, NamesFit};
+ghost use Rattle.granit_lexemes.specs.Gap.{Each};
 ghost use Rattle.granit_lexemes.specs.Outcome.{Fault, GivesValue};
 ghost use Rattle.granit_lexemes.specs.PlainEvent.{PlainEvent};
 ghost use Rattle.granit_machine.specs.Machine.{run};
@@ -33,7 +38,7 @@ use std::marker::Model;
 /// The events of a text in order, each with its place. Contracts see it as that list.
 #[derive(Debug, Drop)]
 pub struct Events<'a> {
-    items: Vec<(Event<'a>, Span)>,
+    pub(crate) items: Vec<(Event<'a>, Span)>,
 }
 
 impl<'a> Model for Events<'a> {
@@ -84,7 +89,7 @@ impl<'a> Events<'a> {
 }
 
 /// All events that a parser still gives.
-fn gather<'a, T: BorrowedInput<'a>>(
+pub(crate) fn gather<'a, T: BorrowedInput<'a>>(
     alloc: Global,
     parser: &mut Parser<'a, T>,
 ) -> Result<Vec<(Event<'a>, Span)>, ScanError>
@@ -114,41 +119,42 @@ fn load<'a>(alloc: Global, text: &'a str, options: Options) -> Result<Events<'a>
 }
 
 /// All events of a text, in order. Columns count characters from 0, lines from 1, and each marker tells its byte
-/// offset. The text of a scalar is a copy.
+/// offset. The text of a scalar, a name or a comment is lent from the source where nothing in it was decoded.
 ///
-/// The contract: an answer is, comments aside, the events of the one reading of the text's lexemes, with the
-/// comments of the text where they are asked for (`reading`); its events are a stream (`stream`), each span stands in
-/// the text (`spans`). A text with a reading is answered (`answered`). A refusal has its cause, and names no source
-/// (`cause`). A text with a cause in its lexemes or comments is refused with it (`refused`); one that can't be read on
-/// from some place, for a cause there (`unread`), and with that very one where no lexeme but a tag, a quoted scalar or
-/// a directive begins there (`stopped`). The canonical flow text of trees that fit, no deeper than allowed, is answered
-/// with their events (`canonical`). Want of memory may stand in the place of each answer. `value` says the same
-/// as a plain function. Every text has a reading or a cause, and no text has both (laws of granit_answers).
+/// The contract: an answer is, comments aside, the events of the one reading of the text's lexemes (`reading`); its
+/// events are a stream (`stream`), each span stands in the text (`spans`). Where comments are asked for, its comments
+/// are exactly those of the text, each in its place (`comments`), and without them the answer is the same but for them
+/// (`uncommented`). A text with a reading is answered (`answered`). A refusal has its cause, and names no source
+/// (`cause`). A text with a cause is refused with exactly that (`refused`), so no text has two. The canonical flow text
+/// of trees that fit, no deeper than allowed, is answered with their events (`canonical`), and so is JSON text with the
+/// events of its value (`json`). Want of memory may stand in the place of each answer. `value` says the same as a plain
+/// function. Every text has a reading or a cause, and no text has both (laws of granit_answers).
 ///
 /// # Errors
 ///
 /// The first fault of the text, at its place, or `NoMemory`; docs/FAULTS.md has the kinds.
 pub fn load_str<'a>(alloc: Global, text: &'a str, options: Options) -> Result<Events<'a>, ScanError>
     ensures value { GivesValue plain_events result (run (options_of options) (chars text.now)) }
-    ensures reading { IfOk result (λ v. AnswersReading (options_of options) (chars text.now) (plain_events v)) }
+    ensures reading { IfOk result (λ v. DeclaredReading (options_of options) (chars text.now) (plain_events v)) }
     ensures spans { IfOk result (λ v. EventsInText (chars text.now) (plain_events v)) }
     ensures stream { IfOk result (λ v. IsStream (plain_events v)) }
-    ensures answered { (es : List PlainEvent) → AnswersReading (options_of options) (chars text.now) es
+    ensures comments { IfOk result (λ v. TellsComments (options_of options) (chars text.now) (plain_events v)) }
+    ensures uncommented { IfOk result (λ v. ToldUnasked (options_of options) (chars text.now) (plain_events v)) }
+    ensures answered { (es : List PlainEvent) → DeclaredReading (options_of options) (chars text.now) es
         → IfErr result (λ e. e.kind ≡ OutOfMemory)
         × IfOk result (λ v. but_comments (plain_events v) ≡ but_comments es) }
     ensures cause { IfErr result (λ e. (e.kind ≡ OutOfMemory)
-        ⊎ (WholeCause (options_of options) (chars text.now) e × (e.sources ≡ []))) }
-    ensures refused { (f : Fault) → OfLexemes (options_of options) (chars text.now) f
-        ⊎ OfComments (options_of options) (chars text.now) f → IsRefusedAs result (λ e. e ≡ f) }
-    ensures unread { (f : Fault) → OfReading (options_of options) (chars text.now) f
-        → IsRefusedAs result (λ e. OfReading (options_of options) (chars text.now) e) }
-    ensures stopped { (f : Fault) → (c : OfReading (options_of options) (chars text.now) f)
-        → ReadStopped (options_of options) c.state f.kind f.mark → f.sources ≡ []
+        ⊎ (DeclaredCause (options_of options) (chars text.now) e × (e.sources ≡ []))) }
+    ensures refused { (f : Fault) → DeclaredCause (options_of options) (chars text.now) f
         → IsRefusedAs result (λ e. e ≡ f) }
     ensures canonical { (ts : PlainTrees) → DocumentsFit ts → HasCharacters ts
         → trees_depth ts ≤ (options_of options).flow_nesting_limit → chars text.now ≡ flow_characters ts
         → IfErr result (λ e. e.kind ≡ OutOfMemory)
         × IfOk result (λ v. plain_events v ≡ canonical_events (options_of options) ts) }
+    ensures json { (t : Json) (d : JsonText (chars text.now) t) → Each is_printable (chars text.now)
+        → depth t ≤ (options_of options).flow_nesting_limit
+        → NamesFit (options_of options).simple_key_max_lookahead d → IfErr result (λ e. e.kind ≡ OutOfMemory)
+        × IfOk result (λ v. plain_events v ≡ json_events (chars text.now) d) }
 {
     load(alloc, text, options)
 }

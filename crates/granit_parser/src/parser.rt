@@ -1,6 +1,6 @@
 //! An input that is read into events, one for each call, with a look at the next.
 ghost use mir.Syntax.{named};
-ghost use Rattle.std.specs.Prelude.{◌≡◌, [], true, None, Some, IfErr, IfSome};
+ghost use Rattle.std.specs.Prelude.{◌≡◌, ℕ, List, [], true, None, Some, IfErr, IfSome};
 ghost use Rattle.std.specs.Borrow.{sem};
 ghost use Rattle.std.specs.Io.BufRead.{Rests};
 ghost use Rattle.std.specs.Str.{chars};
@@ -10,8 +10,10 @@ ghost use Rattle.granit_error.specs.OptionsData.{default_options};
 ghost use Rattle.granit_error.specs.OptionsView.{options_of};
 ghost use Rattle.granit_input.specs.Strings.{Leaves};
 ghost use Rattle.granit_lexemes.specs.Here.{Here, first_place};
+ghost use Rattle.granit_lexemes.specs.PlainEvent.{PlainEvent};
 ghost use Rattle.granit_parser.specs.Parsing as spec;
-ghost use Rattle.granit_parser.specs.Parsing.{EndsWith, GivesNext, IsOver, PeeksAs, StandsAt, shown};
+ghost use Rattle.granit_parser.specs.Parsing.{EndsText, EndsWith, GivesNext, IsOver, LeadsTo, PeeksAs, StandsAt};
+ghost use Rattle.granit_parser.specs.Parsing.{shown};
 ghost use Rattle.granit_parser.specs.contracts.parser.Parser.{the_row};
 ghost use Rattle.granit_stepper.specs.Stepping.{StandsIn};
 ghost use Rattle.granit_steps.specs.Steps as steps;
@@ -93,10 +95,30 @@ impl<'input, T: BorrowedInput<'input>> Parser<'input, T> {
 
     /// The next event and where it stands; none behind the end of the stream, and behind a refusal.
     ///
+    /// The contract: from a state of the plain machine it gives what that gives (`known`). Behind the first events of a
+    /// text, a refusal is a cause of it, and where nothing more comes, they are the events of its reading (`text`).
+    ///
     /// # Errors
     ///
     /// What is wrong with the input there, by the kinds of `docs/FAULTS.md`, and `NoMemory`.
     pub fn next_event(&mut self) -> Option<Result<(Event<'input>, Span), ScanError>>
+        ensures known { (m : StepState) → StandsAt T.unread self.old m → GivesNext result (StandsAt T.unread self.new)
+            (steps.next_event self.old.stepper.scanner.options m) }
+        ensures text { (x : List ℕ) (es : List PlainEvent) (m : StepState) → StandsAt T.unread self.old m
+            → LeadsTo self.old.stepper.scanner.options (steps.steps_start x) es m
+            → EndsText self.old.stepper.scanner.options x es result }
+        ensures peeked { self.new.peeked ≡ None }
+        ensures seen { IfSome self.old.peeked (λ r. (result ≡ Some r) × (self.new.stepper ≡ self.old.stepper)) }
+        ensures refused { EndsWith result self.new.stepper }
+        ensures over { IsOver self.old → (result ≡ None) × (self.new ≡ self.old) }
+        ensures options { self.new.stepper.scanner.options ≡ self.old.stepper.scanner.options }
+        ensures moves { Moves T.left T.origin self.old.stepper.scanner.cursor self.new.stepper.scanner.cursor }
+    {
+        self.take_event()
+    }
+
+    /// What was looked at, or the next event.
+    fn take_event(&mut self) -> Option<Result<(Event<'input>, Span), ScanError>>
         ensures known { (m : StepState) → StandsAt T.unread self.old m → GivesNext result (StandsAt T.unread self.new)
             (steps.next_event self.old.stepper.scanner.options m) }
         ensures peeked { self.new.peeked ≡ None }

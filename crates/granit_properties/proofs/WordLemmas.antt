@@ -1,13 +1,19 @@
 -- Words, a character at a time.
 use Rattle.std.proofs.Common.{◌≡◌, ℕ, zero, suc, ◌-◌, ◌<◌, ◌≤◌, Bool, true, false, List, [], ◌∷◌, ◌++◌, length, take}
 use Rattle.std.proofs.Common.{drop, refl, sym, ap, ap₂, ◌∙◌, append_assoc, arith}
-use Rattle.std.proofs.lemmas.List.{append-nil, length-take-le}
+use Rattle.std.proofs.lemmas.List.{append-nil, length-take-le, length-drop}
 use Rattle.granit_base.specs.Classes.{is_anchor_char, is_alpha, is_yaml_non_space, is_yaml_non_break, is_printable}
 use Rattle.granit_base.specs.Classes.{is_break, is_word_char, is_digit}
-use Rattle.granit_base.specs.Place.{first}
-use Rattle.granit_lexemes.specs.Basics.{count_up_to, text_up_to}
+use Rattle.granit_base.specs.Place.{Unread, first}
+use Rattle.granit_base.specs.Written.{Written}
+use Rattle.granit_input.specs.Runs.{run_length, starts}
+use Rattle.granit_input.specs.Unread.{past as past_count}
+use Rattle.granit_input.proofs.RunLemmas.{run_within}
+use Rattle.granit_input.proofs.UnreadLemmas.{past_text}
+use Rattle.granit_lexemes.specs.Basics.{as_spelled, count_up_to, text_up_to}
 use Rattle.granit_lexemes.specs.Here.{Here, text_len, next_char, step, past}
 use Rattle.granit_lexemes.proofs.HereLemmas.{step_text, step_len, step_shortens, past_goes, past_stops, past_len}
+use Rattle.granit_cursor.proofs.MoveLemmas.{KeepsLine, keeps_line, run_along, steps_past}
 use Rattle.granit_properties.specs.declared.word.Word.{Word}
 use Rattle.granit_properties.specs.declared.word.Word.TheVariants.{Name, Alpha, NonSpace}
 use Rattle.granit_properties.specs.WordCode.{word_test}
@@ -85,3 +91,45 @@ pub word_ends : (test : ℕ → Bool) (h now : Here) (old out : List ℕ) → te
     → out ≡ old ++ text_up_to h (past test h)
 word_ends test h now old out failed so_far = sym (append-nil out)
     ∙ ap (λ (l : List ℕ). out ++ l) (sym (run_ends test now failed).1) ∙ so_far
+
+-- ---- words that are lent
+
+pub word_line : (w : Word) → KeepsLine (starts (word_test w))
+unfolding is_anchor_char is_alpha is_word_char is_digit is_yaml_non_space is_yaml_non_break is_printable is_break
+word_line Name = keeps_line (word_test Name) refl refl
+word_line Alpha = keeps_line (word_test Alpha) refl refl
+word_line NonSpace = keeps_line (word_test NonSpace) refl refl
+
+-- how many characters a word has
+abbrev pub word_length : (ℕ → Bool) → Here → ℕ
+word_length test h = run_length (starts test) h.unread.text
+
+-- the place behind a word
+pub word_behind : (w : Word) (h : Here)
+    → (past (word_test w) h).unread ≡ past_count (word_length (word_test w) h) h.unread
+word_behind w h = ap (λ (g : Here). g.unread) (sym (steps_past (word_test w) h))
+    ∙ (run_along (starts (word_test w)) (word_length (word_test w) h) h (word_line w) (omega arith)).unread
+
+pub word_count : (w : Word) (h : Here) → count_up_to h (past (word_test w) h) ≡ word_length (word_test w) h
+word_count w h =
+    let test = word_test w in
+    let n = word_length test h in
+    let rest : text_len (past test h) ≡ text_len h - n = ap (λ (u : Unread). length u.text) (word_behind w h)
+    ∙ ap (length {A = ℕ}) (past_text n h.unread) ∙ length-drop n h.unread.text in
+    omega (arith, rest, run_within (starts test) h.unread.text)
+
+-- a word that was lent, and one that was copied
+pub lent_word : (w : Word) (h : Here) (part : List ℕ) → h.unread.lends ≡ true
+    → part ≡ take (word_length (word_test w) h) h.unread.text
+    → ◌≡◌ {A = Written} (record { characters = part; is_borrowed = true })
+    (as_spelled h (text_up_to h (past (word_test w) h)))
+lent_word w h part lends is =
+    ap₂ (λ (t : List ℕ) (b : Bool). record { characters = t; is_borrowed = b })
+    (is ∙ ap (λ (n : ℕ). take n h.unread.text) (sym (word_count w h))) (sym lends)
+
+pub own_word : (h after : Here) (empty out : List ℕ) → h.unread.lends ≡ false → empty ≡ []
+    → out ≡ empty ++ text_up_to h after
+    → ◌≡◌ {A = Written} (record { characters = out; is_borrowed = false }) (as_spelled h (text_up_to h after))
+own_word h after empty out lends none is =
+    ap₂ (λ (t : List ℕ) (b : Bool). record { characters = t; is_borrowed = b })
+    (is ∙ ap (λ (t : List ℕ). t ++ text_up_to h after) none) (sym lends)

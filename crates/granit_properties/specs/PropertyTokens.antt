@@ -1,11 +1,13 @@
 -- What the definitions of names and tags give, as the code has it.
-use Rattle.std.specs.Prelude.{◌≡◌, ℕ, Bool, true, false, List, Result, Ok}
+use Rattle.std.specs.Prelude.{◌≡◌, ℕ, Bool, true, false, Result, Ok}
 use Rattle.granit_cursor.specs.declared.token.Token.{Token}
 use Rattle.granit_cursor.specs.declared.token.TokenType.{TokenType}
 use Rattle.granit_cursor.specs.declared.token.TokenType.TheVariants as tokens
-use Rattle.granit_error.specs.FaultKind.{FaultKind, NoMemory, MissingAnchorOrAliasName, MissingTagUri}
+use Rattle.granit_error.specs.FaultKind.{FaultKind, InputSlicingUnavailable, NoMemory, MissingAnchorOrAliasName}
+use Rattle.granit_error.specs.FaultKind.{MissingTagUri}
 use Rattle.granit_error.specs.FaultKind.{UnclosedVerbatimTag, InvalidTagTerminator, InvalidTagEscape}
 use Rattle.granit_error.specs.FaultKind.{InvalidTagUtf8LeadingByte, InvalidTagUtf8TrailingByte, InvalidTagUtf8}
+use Rattle.granit_base.specs.Written.{Written}
 use Rattle.granit_lexemes.specs.Basics.{owned}
 use Rattle.granit_lexemes.specs.Here.{Here, mark_of}
 use Rattle.granit_lexemes.specs.Outcome.{Fault, ◌>>=◌}
@@ -33,11 +35,11 @@ abbrev pub name_sign : (alias : Bool) → ℕ
 name_sign true = 0x2A
 name_sign false = 0x26
 
-abbrev pub name_type : (alias : Bool) → List ℕ → TokenType
-name_type true name = tokens.Alias (owned name)
-name_type false name = tokens.Anchor (owned name)
+abbrev pub name_type : (alias : Bool) → Written → TokenType
+name_type true name = tokens.Alias name
+name_type false name = tokens.Anchor name
 
-abbrev pub name_token : (alias : Bool) → Placed (List ℕ) → Token
+abbrev pub name_token : (alias : Bool) → Placed Written → Token
 name_token alias p = record { span = plain_span p.source.start p.source.end; token_type = name_type alias p.value }
 
 abbrev pub tag_token : Placed TagRead → Token
@@ -49,6 +51,7 @@ tag_token p = record {
 -- the kinds that a name is refused by, and a tag
 abbrev pub IsNameKind : FaultKind → Type 0
 IsNameKind NoMemory = Unit {0}
+IsNameKind InputSlicingUnavailable = Unit {0}
 IsNameKind MissingAnchorOrAliasName = Unit {0}
 IsNameKind _ = ⊥
 

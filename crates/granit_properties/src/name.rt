@@ -1,6 +1,6 @@
 //! Anchors and aliases are read (YAML 1.2.2, 6.9.2 and 7.1).
-ghost use Rattle.std.specs.Prelude.{◌≡◌, ℕ, List, IfErr};
-ghost use Rattle.granit_base.specs.Written.{string_chars};
+ghost use Rattle.std.specs.Prelude.{◌≡◌, IfErr};
+ghost use Rattle.granit_base.specs.Written.{Written};
 ghost use Rattle.granit_cursor.specs.Reading.{Stands, Moves, ReadsAs, AnswersAs, RefusedFor, coded};
 ghost use Rattle.granit_error.specs.FaultKind.{NoMemory as OutOfMemory};
 ghost use Rattle.granit_lexemes.specs.Here.{Here, next_char};
@@ -9,19 +9,20 @@ ghost use Rattle.granit_lexemes.specs.Tags.{name_at};
 ghost use Rattle.granit_properties.specs.PropertyTokens as spec;
 ghost use Rattle.granit_properties.specs.PropertyTokens.{IsNameKind, StandsPlaced, name_sign, name_token, placed_at};
 
-use crate::word::{Word, take_word};
+use crate::word::{Word, word_text};
 use granit_base::{Span, Text, is_at_end};
 use granit_cursor::{Cursor, Token, TokenType};
 use granit_error::{ErrorKind, ScanError};
-use granit_input::{BorrowedInput, Input};
+use granit_input::BorrowedInput;
 use std::alloc::Global;
 
-/// The anchor that begins here with its `&`, or the alias with its `*`, by its name, which is owned; the
-/// cursor then stands behind it (YAML 1.2.2, 6.9.2 and 7.1).
+/// The anchor that begins here with its `&`, or the alias with its `*`, by its name, which is lent where the
+/// input lends; the cursor then stands behind it (YAML 1.2.2, 6.9.2 and 7.1).
 ///
 /// # Errors
 ///
 /// `NoMemory`, and at the sign `MissingAnchorOrAliasName` where no character of a name follows it.
+/// `InputSlicingUnavailable`, where the input refuses to lend what it could.
 pub fn scan_anchor<'input, T: BorrowedInput<'input>>(
     alloc: Global,
     cursor: &mut Cursor<T>,
@@ -31,7 +32,7 @@ pub fn scan_anchor<'input, T: BorrowedInput<'input>>(
     ensures here { ReadsAs T.unread cursor.old cursor.new result (λ h. coded (name_token alias) (placed_at name_at h)) }
     ensures name { AnswersAs T.unread cursor.old cursor.new result (name_token alias) (StandsPlaced AnswersName) }
     ensures cause { RefusedFor T.unread cursor.old result RefusesName }
-    ensures answered { (h : Here) (name : List ℕ) (after : Here) → Stands T.unread cursor.old h
+    ensures answered { (h : Here) (name : Written) (after : Here) → Stands T.unread cursor.old h
         → AnswersName h name after → IfErr result (λ e. e.kind ≡ OutOfMemory) }
     ensures kinds { IfErr result (λ e. IsNameKind e.kind) }
     ensures moves { Moves T.left T.origin cursor.old cursor.new }
@@ -40,7 +41,7 @@ pub fn scan_anchor<'input, T: BorrowedInput<'input>>(
 }
 
 #[tactic(auto, unfolding(granit_lexemes::specs::Tags::name_at))]
-fn read_name<'input, T: Input>(
+fn read_name<'input, T: BorrowedInput<'input>>(
     alloc: Global,
     cursor: &mut Cursor<T>,
     alias: bool,
@@ -51,8 +52,7 @@ fn read_name<'input, T: Input>(
 {
     let start = cursor.mark();
     cursor.step();
-    let mut name = String::new(alloc);
-    take_word(cursor, Word::Name, &mut name)?;
+    let name = word_text(alloc, cursor, Word::Name)?;
     if is_at_end(name.as_str()) {
         return Err(ScanError::from_kind(start, ErrorKind::MissingAnchorOrAliasName));
     }
@@ -60,10 +60,9 @@ fn read_name<'input, T: Input>(
     Ok(Token::new(Span::new(start, cursor.mark()), token_type))
 }
 
-fn name_type<'input>(alias: bool, name: String) -> TokenType<'input>
-    ensures { result ≡ spec.name_type alias (string_chars name) }
+fn name_type<'input>(alias: bool, name: Text<'input>) -> TokenType<'input>
+    ensures { result ≡ spec.name_type alias name.entry }
 {
-    let name = Text::owned(name);
     if alias {
         TokenType::Alias(name)
     } else {

@@ -44,24 +44,33 @@ fn told(read: Option<Result<Token<'_>, ScanError>>) -> Option<(u8, usize)> {
     Some((error.kind().number(), error.marker().index()))
 }
 
-/// Whether a text begins with an anchor of that name, which ends there.
+/// Whether the name of that anchor or alias is lent.
+fn is_lent(token: &Token<'_>) -> bool {
+    match token.token_type() {
+        TokenType::Anchor(name) => name.is_borrowed(),
+        TokenType::Alias(name) => name.is_borrowed(),
+        _ => false,
+    }
+}
+
+/// Whether a text begins with an anchor of that name, which ends there and is lent.
 fn has_anchor(alloc: Global, text: &str, name: &str, end: usize) -> bool {
     let mut cursor = Cursor::new(StrInput::new(text));
     let Some(Ok(token)) = name_at(alloc, &mut cursor) else {
         return false;
     };
     let wanted = TokenType::Anchor(Text::borrowed(name));
-    is_token(&token, wanted, end, cursor.mark().index())
+    is_lent(&token) && is_token(&token, wanted, end, cursor.mark().index())
 }
 
-/// Whether a text begins with an alias of that name, which ends there.
+/// Whether a text begins with an alias of that name, which ends there and is lent.
 fn has_alias(alloc: Global, text: &str, name: &str, end: usize) -> bool {
     let mut cursor = Cursor::new(StrInput::new(text));
     let Some(Ok(token)) = name_at(alloc, &mut cursor) else {
         return false;
     };
     let wanted = TokenType::Alias(Text::borrowed(name));
-    is_token(&token, wanted, end, cursor.mark().index())
+    is_lent(&token) && is_token(&token, wanted, end, cursor.mark().index())
 }
 
 /// Whether a text begins with a tag of that handle and suffix, which ends there.

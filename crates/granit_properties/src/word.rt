@@ -1,14 +1,17 @@
 //! Words: characters of a class, taken one by one.
-ghost use Rattle.std.specs.Prelude.{◌≡◌, ◌++◌, OnOk};
+ghost use Rattle.std.specs.Prelude.{◌≡◌, ◌⊎◌, ◌++◌, IfErr, OnOk};
 ghost use Rattle.granit_base.specs.Written.{string_chars};
-ghost use Rattle.granit_cursor.specs.Reading.{Moves, Wherever};
+ghost use Rattle.granit_cursor.specs.Reading.{GoesTo, Moves, Wherever};
+ghost use Rattle.granit_error.specs.FaultKind.{InputSlicingUnavailable, NoMemory as OutOfMemory};
 ghost use Rattle.granit_lexemes.specs.Basics.{text_up_to};
 ghost use Rattle.granit_lexemes.specs.Here.{past};
-ghost use Rattle.granit_properties.specs.WordCode.{word_test};
+ghost use Rattle.granit_properties.specs.WordCode.{word_test, TakesWord};
 
-use granit_base::{NoMemory, is_alpha, is_anchor_char, is_yaml_non_space, push_char};
-use granit_cursor::Cursor;
-use granit_input::Input;
+use granit_base::{NoMemory, Text, is_alpha, is_anchor_char, is_yaml_non_space, push_char};
+use granit_cursor::{Cursor, lending_offset, lent_since};
+use granit_error::ScanError;
+use granit_input::{BorrowedInput, Input};
+use std::alloc::Global;
 
 /// The characters that a word is of.
 #[derive(Clone, Copy)]
@@ -56,5 +59,50 @@ pub fn take_word<T: Input>(
         }
         push_char(out, c)?;
         cursor.step();
+    }
+}
+
+/// On over the characters of a word.
+fn skip_word<T: Input>(cursor: &mut Cursor<T>, word: Word)
+    ensures here { GoesTo T.unread cursor.old cursor.new (past (word_test word)) }
+    ensures moves { Moves T.left T.origin cursor.old cursor.new }
+{
+    'word: loop {
+        cursor.look(1);
+        let c = cursor.input().peek();
+        if !word.takes(c) {
+            return;
+        }
+        cursor.step();
+    }
+}
+
+/// The characters of a word, lent where the input lends.
+///
+/// # Errors
+///
+/// `NoMemory`, and `InputSlicingUnavailable`, where the input refuses to lend what it could.
+pub fn word_text<'input, T: BorrowedInput<'input>>(
+    alloc: Global,
+    cursor: &mut Cursor<T>,
+    word: Word,
+) -> Result<Text<'input>, ScanError>
+    ensures here { Wherever T.unread cursor.old cursor.new (λ h Lands. TakesWord (word_test word) h result Lands) }
+    ensures kinds { IfErr result (λ e. (e.kind ≡ OutOfMemory) ⊎ (e.kind ≡ InputSlicingUnavailable)) }
+    ensures moves { Moves T.left T.origin cursor.old cursor.new }
+{
+    match lending_offset(cursor) {
+        Some(start) => {
+            skip_word(cursor, word);
+            match lent_since(cursor, start) {
+                Ok(text) => Ok(Text::borrowed(text)),
+                Err(e) => Err(e),
+            }
+        }
+        None => {
+            let mut text = String::new(alloc);
+            take_word(cursor, word, &mut text)?;
+            Ok(Text::owned(text))
+        }
     }
 }

@@ -1,1 +1,2 @@
 pub mod QueueViews
+pub mod Rising

@@ -3,6 +3,7 @@
 
 mod ahead;
 mod queue;
+mod rising;
 
 pub use ahead::{asks_next, line_of};
 pub use queue::{Queue, Queued};

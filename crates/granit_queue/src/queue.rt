@@ -1,10 +1,12 @@
 //! Items that were read and not yet taken.
-ghost use Rattle.std.specs.Prelude.{◌≡◌, ◌||◌, [], ◌∷◌, map, Some, slice_get, drop, take, OnOk};
+ghost use Rattle.std.specs.Prelude.{◌≡◌, ◌||◌, true, [], ◌∷◌, map, Some, slice_get, drop, take, OnOk};
 ghost use Rattle.std.specs.Option.{option_copied, option_map};
 ghost use Rattle.granit_items.specs.ItemViews.{found_items, item_view, key_view};
 ghost use Rattle.granit_queue.specs.QueueViews.{flags_of, is_numbered, queue_view, queued_view};
+ghost use Rattle.granit_queue.specs.Rising.{Rises, Rising};
 ghost use Rattle.granit_steps.specs.Steps as spec;
 
+use crate::rising::{Numbers, is_before};
 use granit_base::NoMemory;
 use granit_items::{Found, Item, KeyStart, LexemeKind};
 use std::alloc::Global;
@@ -24,16 +26,20 @@ pub struct Queued<'input> {
 #[derive(Drop)]
 pub struct Queue<'input> {
     items: VecDeque<Queued<'input>>,
+    numbers: Numbers,
 }
 
 impl<'input> Model for Queue<'input> {
     ghost use Rattle.std.specs.Prelude.{List};
     ghost use Rattle.granit_machine.specs.Lexing.{FlaggedItem};
     ghost use Rattle.granit_queue.specs.QueueViews.{queue_view};
+    ghost use Rattle.granit_queue.specs.Rising.{Rising};
 
     ghost Value = { List FlaggedItem };
 
     ghost view = { λ q. queue_view q.items.items };
+
+    ghost invariant = { λ q. Rising q.numbers (queue_view q.items.items) };
 }
 
 impl<'input> Queue<'input> {
@@ -43,6 +49,7 @@ impl<'input> Queue<'input> {
     {
         Queue {
             items: VecDeque::new(alloc),
+            numbers: Numbers::new(),
         }
     }
 
@@ -67,12 +74,7 @@ impl<'input> Queue<'input> {
     fn push(&mut self, item: Item<'input>) -> Result<(), NoMemory>
         ensures { OnOk result (self.new ≡ spec.pushed self.old (item_view item.entry ∷ [])) }
     {
-        mark_by(&mut self.items, &item);
-        self.items.push_back(Queued {
-            item,
-            begins_key: false,
-        })?;
-        Ok(())
+        push_item(&mut self.items, &mut self.numbers, item)
     }
 
     /// The item behind so many older ones.
@@ -100,6 +102,25 @@ impl<'input> Queue<'input> {
     }
 }
 
+fn push_item<'input>(
+    items: &mut VecDeque<Queued<'input>>,
+    numbers: &mut Numbers,
+    item: Item<'input>,
+) -> Result<(), NoMemory>
+    requires rising { Rising numbers.old (queue_view items.old.items) }
+    ensures pushed { OnOk result (queue_view items.new.items
+        ≡ spec.pushed (queue_view items.old.items) (item_view item.entry ∷ [])) }
+    ensures rising { Rising numbers.new (queue_view items.new.items) }
+{
+    mark_by(items, numbers.rises, &item);
+    numbers.push(&item);
+    items.push_back(Queued {
+        item,
+        begins_key: false,
+    })?;
+    Ok(())
+}
+
 /// The key of a `:`.
 fn key_of(item: &Item<'_>) -> Option<KeyStart>
     ensures { option_map key_view result ≡ spec.key_of_item (item_view item.now) }
@@ -122,21 +143,49 @@ fn is_number(item: &Item<'_>, number: usize) -> bool
 
 /// A `:` with a key flags the lexeme that begins it.
 #[tactic(auto, using(crate::proofs::QueueLemmas::no_key_marks, crate::proofs::QueueLemmas::key_marks))]
-fn mark_by(items: &mut VecDeque<Queued<'_>>, item: &Item<'_>)
+fn mark_by(items: &mut VecDeque<Queued<'_>>, rises: bool, item: &Item<'_>)
+    requires rising { rises ≡ true → Rises (queue_view items.old.items) }
     ensures { queue_view items.new.items ≡ map (spec.marked_by (item_view item.now)) (queue_view items.old.items) }
 {
     match key_of(item) {
         None => {}
-        Some(key) => mark(items, key.number),
+        Some(key) => mark(items, rises, key.number),
     }
 }
 
 /// Flags the lexeme of a number, which begins a key.
-fn mark(items: &mut VecDeque<Queued<'_>>, number: usize)
+fn mark(items: &mut VecDeque<Queued<'_>>, rises: bool, number: usize)
+    requires rising { rises ≡ true → Rises (queue_view items.old.items) }
+    ensures { queue_view items.new.items ≡ map (flags_of number) (queue_view items.old.items) }
+{
+    if rises {
+        mark_newest(items, number);
+    } else {
+        mark_all(items, number);
+    }
+}
+
+fn mark_all(items: &mut VecDeque<Queued<'_>>, number: usize)
     ensures { queue_view items.new.items ≡ map (flags_of number) (queue_view items.old.items) }
 {
     'items: for i in 0..items.len() {
         items[i].begins_key = either(items[i].begins_key, is_number(&items[i].item, number));
+    }
+}
+
+/// The same where numbers rise: those before an earlier lexeme are not asked.
+fn mark_newest(items: &mut VecDeque<Queued<'_>>, number: usize)
+    requires rising { Rises (queue_view items.old.items) }
+    ensures { queue_view items.new.items ≡ map (flags_of number) (queue_view items.old.items) }
+{
+    let mut newer = items.len();
+    'items: while newer > 0 {
+        let i = newer - 1;
+        if is_before(&items[i].item, number) {
+            return;
+        }
+        items[i].begins_key = either(items[i].begins_key, is_number(&items[i].item, number));
+        newer = i;
     }
 }
 

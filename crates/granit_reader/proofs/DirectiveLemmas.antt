@@ -19,12 +19,12 @@ use Rattle.granit_machine.specs.ReaderState.{Read, lexeme_to, with_tail, read_to
 use Rattle.granit_machine.specs.StreamLexemes.{behind_directive, directive_given, directive_lexeme}
 use Rattle.granit_steps.specs.Steps.{incoming}
 use Rattle.granit_items.specs.ItemViews.{characters_of}
-use Rattle.granit_reader.specs.KindViews.{kind_of_type, note_of_token}
-use Rattle.granit_reader.specs.Reads.{seen, noted}
-use Rattle.granit_reader.specs.ScalarReads.{lexed_as}
-use Rattle.granit_reader.proofs.CodedLemmas.{coded_back, coded_fails, fails_then}
-use Rattle.granit_reader.proofs.ItemLemmas.{read_seen}
-use Rattle.granit_reader.proofs.ScalarLemmas.{note_is}
+use Rattle.granit_content.specs.KindViews.{kind_of_type, note_of_token}
+use Rattle.granit_content.specs.Reads.{seen, noted}
+use Rattle.granit_content.specs.ScalarReads.{lexed_as}
+use Rattle.granit_content.proofs.CodedLemmas.{coded_back, coded_fails, fails_then}
+use Rattle.granit_content.proofs.ItemLemmas.{read_seen}
+use Rattle.granit_content.proofs.ScalarLemmas.{note_is}
 
 texts_back : (texts : List (List ℕ)) → map characters_of (map owned texts) ≡ texts
 texts_back [] = refl

@@ -27,10 +27,10 @@ use Rattle.granit_machine.specs.PossibleKeys.{top_key, forgets_key, is_allowed, 
 use Rattle.granit_machine.specs.ReaderState.{Read, sign_lexeme, with_tail, given}
 use Rattle.granit_steps.specs.Steps.{incoming}
 use Rattle.granit_reader.specs.IndicatorReads.{question_from, with_key, keyed_by, bare_by, colon_by}
-use Rattle.granit_reader.specs.Reads.{Seen, seen, seen_comment, noted}
-use Rattle.granit_reader.proofs.CodedLemmas.{coded_back, coded_fails, fails_then}
-use Rattle.granit_reader.proofs.HeardLemmas.{same_if, same_then}
-use Rattle.granit_reader.proofs.ItemLemmas.{read_untailed, read_seen}
+use Rattle.granit_content.specs.Reads.{Seen, seen, seen_comment, noted}
+use Rattle.granit_content.proofs.CodedLemmas.{coded_back, coded_fails, fails_then}
+use Rattle.granit_content.proofs.HeardLemmas.{same_if, same_then}
+use Rattle.granit_content.proofs.ItemLemmas.{read_untailed, read_seen}
 
 -- ---- branches
 

@@ -1,16 +1,7 @@
-pub mod CodedLemmas
 pub mod DirectiveLemmas
 pub mod FlowLemmas
-pub mod GapLemmas
-pub mod HeardLemmas
 pub mod IndicatorLemmas
-pub mod ItemLemmas
-pub mod KindLemmas
-pub mod NodeLemmas
-pub mod QuotedGapLemmas
 pub mod ReadLemmas
-pub mod ScalarLemmas
 pub mod SortLemmas
 pub mod StreamLemmas
-pub mod TailLemmas
 pub mod TurnLemmas

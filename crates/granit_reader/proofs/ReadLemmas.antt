@@ -17,7 +17,8 @@ use Rattle.granit_machine.specs.Reader.{lexeme_of, is_strict_outside, lexeme_in_
 use Rattle.granit_machine.specs.ReaderState.{ReaderState, Read}
 use Rattle.granit_steps.specs.Steps.{incoming}
 use Rattle.granit_cursor.specs.Reading.{coded}
-use Rattle.granit_reader.specs.Reads.{Passed, Kept, reader_at, seen}
+use Rattle.granit_content.specs.Reads.{Passed, Kept, seen}
+use Rattle.granit_reader.specs.Reads.{reader_at}
 use Rattle.granit_reader.specs.SortViews.{noded_by, begun}
 
 -- ---- a lexeme that stands in a column

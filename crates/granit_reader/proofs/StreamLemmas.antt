@@ -16,8 +16,9 @@ use Rattle.granit_machine.specs.StreamLexemes.{behind_end, text_end, behind_end_
 use Rattle.granit_steps.specs.Steps.{incoming}
 use Rattle.granit_cursor.specs.Reading.{coded}
 use Rattle.granit_cursor.proofs.GivenLemmas.{same_ok}
-use Rattle.granit_reader.specs.Reads.{Seen, seen, noted, refuse_more}
-use Rattle.granit_reader.proofs.ItemLemmas.{read_untailed, read_seen}
+use Rattle.granit_content.specs.Reads.{Seen, seen, noted}
+use Rattle.granit_reader.specs.Reads.{refuse_more}
+use Rattle.granit_content.proofs.ItemLemmas.{read_untailed, read_seen}
 
 pub end_given : (asked : Bool) (h : Here) (l m : Laid) (u : Unit {0}) → refuse_open l.brackets ≡ Ok u
     → drop_key l ≡ Ok m → coded (incoming asked) (text_end h l)

@@ -1,79 +1,17 @@
--- What contracts see of a reader: a cursor, and what the lexemes so far left.
-use Rattle.std.specs.Prelude.{◌≡◌, Bool, true, false, if◌then◌else◌, List, Option, Some, None, Result, Ok, Err}
+-- Reads, and the lexemes that end all columns, as the code has them.
+use Rattle.std.specs.Prelude.{if◌then◌else◌, Some, None, Result, Ok, Err}
 use Rattle.granit_base.specs.Classes.{is_breakz}
-use Rattle.granit_base.specs.Place.{Unread}
-use Rattle.granit_cursor.specs.Reading.{Reading, Stands, GivesTo, coded}
 use Rattle.granit_error.specs.FaultKind.{InvalidDocumentEnd}
 use Rattle.granit_error.specs.Refused.{Refused}
 use Rattle.granit_lexemes.specs.Basics.{fails_at}
-use Rattle.granit_lexemes.specs.Comment.{CommentRead}
 use Rattle.granit_lexemes.specs.Here.{Here, next_char, mark_of}
-use Rattle.granit_lexemes.specs.Lexeme.{Item}
 use Rattle.granit_lexemes.specs.Outcome.{Fault, ◌>>=◌}
-use Rattle.granit_lexemes.specs.declared.layout.LastLexeme.{LastLexeme}
 use Rattle.granit_machine.specs.Columns.{ends_all, closed_all}
-use Rattle.granit_machine.specs.Gaps.{over_gap_char, begins_gap, GapRead, no_more_adjacent}
 use Rattle.granit_machine.specs.Laid.{Laid}
 use Rattle.granit_machine.specs.ReaderState.{ReaderState, Read, refuse_open}
 use Rattle.granit_machine.specs.StreamLexemes.{start_mark, end_mark}
-use Rattle.granit_items.specs.ItemViews.{note_view}
 use Rattle.granit_items.specs.declared.item.Found.{Found}
 use Rattle.granit_items.specs.declared.item.Lexeme.{Lexeme}
-use Rattle.granit_reader.specs.declared.lexeme.Start.{Start}
-use Rattle.granit_reader.specs.declared.tail.Tail.{Tail}
-use Rattle.granit_reader.specs.declared.tail.Tail.TheVariants as tails
-use Rattle.granit_steps.specs.Steps.{incoming}
-
--- a reader is known to be there: its cursor stands at the place, and this is what the lexemes so far left
-abbrev pub IsAt : {I : Type 0} → (I → Unread → Type 0) → Reading I → Laid → ReaderState → Type 0
-IsAt unread at laid s = Stands unread at s.here × (s.laid ≡ laid)
-
--- Wherever the cursor is known to stand, what was returned, seen by a view, is what the definition gives there, without
--- the comments that aren't asked for, and the reader then is where that ends; a refusal is the definition's fault,
--- unless memory ran out.
-abbrev pub ReadsItems : {I X : Type 0} → (I → Unread → Type 0) → (asked : Bool) → (old new : Reading I) → Laid
-    → (X → List Item) → Result X Refused → (Here → Read) → Type 0
-ReadsItems unread asked old new laid view result given =
-    (h : Here) → Stands unread old h → GivesTo view result (IsAt unread new laid) (coded (incoming asked) (given h))
-
--- ---- a comment behind a lexeme
-
--- whether there is one, with what it says where comments are asked for
-pub data Seen : Type 0 where
-  Nothing Passed : Seen
-  Kept : CommentRead → Seen
-
-abbrev pub seen : (asked : Bool) → Option CommentRead → Seen
-seen asked None = Nothing
-seen true (Some c) = Kept c
-seen false (Some c) = Passed
-
-abbrev pub seen_comment : (asked : Bool) → CommentRead → Seen
-seen_comment asked c = seen asked (Some c)
-
-abbrev pub tail_view : Tail → Seen
-tail_view tails.Nothing = Nothing
-tail_view tails.Passed = Passed
-tail_view (tails.Kept n) = Kept (note_view n)
-
--- the comment that is kept
-abbrev pub noted : Seen → Option CommentRead
-noted Nothing = None
-noted Passed = None
-noted (Kept c) = Some c
-
--- behind a closer a value may stand at once, unless a comment does
-abbrev pub behind_seen : LastLexeme → Seen → LastLexeme
-behind_seen last Nothing = last
-behind_seen last Passed = no_more_adjacent last
-behind_seen last (Kept c) = no_more_adjacent last
-
--- the comment itself, where comments are asked for
-abbrev pub kept : (asked : Bool) → Option CommentRead → Option CommentRead
-kept true noted = noted
-kept false noted = None
-
--- ---- reads
 
 abbrev pub reader_at : Here → Laid → ReaderState
 reader_at h l = record { here = h; laid = l }
@@ -82,8 +20,6 @@ reader_at h l = record { here = h; laid = l }
 abbrev pub only_lexeme : Result Lexeme Refused → Result Found Refused
 only_lexeme (Ok x) = Ok (record { lexeme = Some x; note = None })
 only_lexeme (Err e) = Err e
-
--- ---- lexemes
 
 -- `---` and `...` where no bracket is open, which end all columns
 abbrev pub document_start : Here → Laid → Read
@@ -95,20 +31,3 @@ document_end h l = refuse_open l.brackets >>= λ u. end_mark (ends_all l) h (clo
 -- behind a `...` and its tail the line ends
 abbrev pub refuse_more : Here → Result (Unit {0}) Fault
 refuse_more h = if is_breakz (next_char h) then Ok tt else fails_at InvalidDocumentEnd (mark_of h)
-
-abbrev pub IsStart : Start → Here → Type 0
-IsStart s h = (mark_of h ≡ s.mark) × (h.begins_line ≡ s.begins_line)
-
--- ---- gaps
-
--- Wherever the cursor is known to stand, the gap there ends as the definition says, and the reader then is where it
--- ends.
-abbrev pub ReadsGap : {I : Type 0} → (I → Unread → Type 0) → (asked : Bool) → (old new : Reading I) → Laid
-    → Result Tail Refused → (Here → GapRead) → Type 0
-ReadsGap unread asked old new laid result given =
-    (h : Here) → Stands unread old h → GivesTo tail_view result (IsAt unread new laid) (coded (seen asked) (given h))
-
--- over a character of a gap, or none stands here
-abbrev pub OverGapChar : Bool → (Here → Type 0) → (may_prefix : Bool) → Here → Type 0
-OverGapChar true Lands may_prefix h = Lands (over_gap_char may_prefix h) × (begins_gap may_prefix h ≡ true)
-OverGapChar false Lands may_prefix h = Lands h × (begins_gap may_prefix h ≡ false)

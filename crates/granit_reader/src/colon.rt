@@ -9,15 +9,14 @@ ghost use Rattle.granit_machine.specs.Laid.{is_adjacent};
 ghost use Rattle.granit_machine.specs.PossibleKeys as keys;
 ghost use Rattle.granit_reader.specs.IndicatorReads.{with_key, bare_by, keyed_by, colon_by};
 ghost use Rattle.granit_items.specs.ItemViews.{alone, lexeme_view};
-ghost use Rattle.granit_reader.specs.Reads.{ReadsItems, seen, tail_view};
+ghost use Rattle.granit_content.specs.Reads.{ReadsItems, seen, tail_view};
 
 use crate::indicators::column_of;
-use crate::lexeme::{give, sign, with_tail};
-use crate::tail::{Tail, tail_at};
 use granit_base::{Marker, is_blank};
+use granit_content::{Tail, give, sign, tail_at, with_tail};
 use granit_cursor::Cursor;
 use granit_error::{ErrorKind, Options, ScanError};
-use granit_input::Input;
+use granit_input::{BorrowedInput, Input};
 use granit_items::{KeyStart, Lexeme, LexemeKind};
 use granit_layout::{Layouts, is_adjacent};
 use granit_lexemes::{LastLexeme, PossibleKey};
@@ -25,7 +24,7 @@ use std::alloc::Global;
 
 /// A `:` with its tail, and the simple key before it.
 #[tactic(auto, unfolding(granit_machine::specs::IndicatorLexemes::colon))]
-pub(crate) fn colon<'input, T: Input>(
+pub(crate) fn colon<'input, T: BorrowedInput<'input>>(
     alloc: Global,
     options: &Options,
     at: &mut Cursor<T>,
@@ -66,7 +65,7 @@ fn opens_flow(c: char) -> bool
 
 /// The tail of a `:` that ends here, where a blank follows it.
 #[tactic(auto, unfolding(granit_machine::specs::IndicatorLexemes::colon_tail))]
-fn colon_tail<'input, T: Input>(
+fn colon_tail<'input, T: BorrowedInput<'input>>(
     alloc: Global,
     at: &mut Cursor<T>,
     asked: bool,

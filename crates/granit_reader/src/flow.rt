@@ -7,19 +7,19 @@ ghost use Rattle.granit_lexemes.specs.Lexeme as lexemes;
 ghost use Rattle.granit_machine.specs.FlowLexemes as spec;
 ghost use Rattle.granit_machine.specs.Laid as laid;
 ghost use Rattle.granit_items.specs.ItemViews.{alone};
-ghost use Rattle.granit_reader.specs.Reads.{ReadsItems};
+ghost use Rattle.granit_content.specs.Reads.{ReadsItems};
 
-use crate::lexeme::{sign, tailed};
+use granit_content::{sign, tailed};
 use granit_cursor::Cursor;
 use granit_error::{ErrorKind, Options, ScanError};
-use granit_input::Input;
+use granit_input::BorrowedInput;
 use granit_items::{Lexeme, LexemeKind};
 use granit_layout::Layouts;
 use granit_lexemes::{Bracket, LastLexeme, OpenBracket};
 use std::alloc::Global;
 
 /// An opener with its tail, where one more bracket may be open.
-pub(crate) fn opener<'input, T: Input>(
+pub(crate) fn opener<'input, T: BorrowedInput<'input>>(
     alloc: Global,
     options: &Options,
     at: &mut Cursor<T>,
@@ -49,7 +49,7 @@ pub(crate) fn opener<'input, T: Input>(
 }
 
 /// A `,` with its tail.
-pub(crate) fn comma<'input, T: Input>(
+pub(crate) fn comma<'input, T: BorrowedInput<'input>>(
     alloc: Global,
     options: &Options,
     at: &mut Cursor<T>,
@@ -68,7 +68,7 @@ pub(crate) fn comma<'input, T: Input>(
 }
 
 /// A closer of the innermost open bracket, with its tail.
-pub(crate) fn closer<'input, T: Input>(
+pub(crate) fn closer<'input, T: BorrowedInput<'input>>(
     alloc: Global,
     options: &Options,
     at: &mut Cursor<T>,

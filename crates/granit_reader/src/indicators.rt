@@ -10,15 +10,13 @@ ghost use Rattle.granit_machine.specs.PossibleKeys.{forgets_key};
 ghost use Rattle.granit_machine.specs.ReaderState.{sign_lexeme, given};
 ghost use Rattle.granit_reader.specs.IndicatorReads.{question_from};
 ghost use Rattle.granit_items.specs.ItemViews.{alone, lexeme_view};
-ghost use Rattle.granit_reader.specs.Reads.{IsAt, ReadsItems, noted, tail_view};
+ghost use Rattle.granit_content.specs.Reads.{IsAt, ReadsItems, noted, tail_view};
 
-use crate::gap::{leading_tab, past_gap};
-use crate::lexeme::{give, sign, with_tail};
-use crate::tail::{Tail, comment_at, tail_at};
 use granit_base::{Marker, NoMemory, is_blank_or_breakz, is_break, is_flow};
+use granit_content::{Tail, comment_at, give, leading_tab, past_gap, sign, tail_at, with_tail};
 use granit_cursor::Cursor;
 use granit_error::{ErrorKind, Options, ScanError};
-use granit_input::Input;
+use granit_input::{BorrowedInput, Input};
 use granit_items::{Lexeme, LexemeKind};
 use granit_layout::Layouts;
 use granit_lexemes::LastLexeme;
@@ -26,7 +24,7 @@ use std::alloc::Global;
 
 /// A `-` with its tail, where an entry of a block sequence may begin.
 #[tactic(auto, unfolding(granit_machine::specs::IndicatorLexemes::dash))]
-pub(crate) fn dash<'input, T: Input>(
+pub(crate) fn dash<'input, T: BorrowedInput<'input>>(
     alloc: Global,
     options: &Options,
     at: &mut Cursor<T>,
@@ -64,7 +62,7 @@ pub(crate) fn column_of(mark: Marker) -> Result<usize, NoMemory>
 }
 
 /// A `-` that began an entry and ends here.
-fn dash_up_to<'input, T: Input>(
+fn dash_up_to<'input, T: BorrowedInput<'input>>(
     alloc: Global,
     asked: bool,
     at: &mut Cursor<T>,
@@ -135,7 +133,7 @@ fn ended<'input>(lexeme: Lexeme<'input>, tail: Tail<'input>, end: Marker) -> Lex
 
 /// A `?`, outside flow with the gap behind it, up to and with a comment.
 #[tactic(auto, unfolding(granit_machine::specs::IndicatorLexemes::question))]
-pub(crate) fn question<'input, T: Input>(
+pub(crate) fn question<'input, T: BorrowedInput<'input>>(
     alloc: Global,
     options: &Options,
     at: &mut Cursor<T>,
@@ -178,7 +176,7 @@ fn flow_question<'input, T: Input>(
 }
 
 /// Behind a `?` that began an entry, where no NUL may stand.
-fn behind_question<'input, T: Input>(
+fn behind_question<'input, T: BorrowedInput<'input>>(
     alloc: Global,
     options: &Options,
     at: &mut Cursor<T>,
@@ -210,7 +208,7 @@ fn is_nul<T: Input>(at: &Cursor<T>) -> bool
 
 /// Behind the blanks and breaks behind a `?`: a comment, or what the key may begin at.
 #[tactic(auto, unfolding(granit_machine::specs::IndicatorLexemes::question_up_to))]
-fn question_up_to<'input, T: Input>(
+fn question_up_to<'input, T: BorrowedInput<'input>>(
     alloc: Global,
     options: &Options,
     at: &mut Cursor<T>,

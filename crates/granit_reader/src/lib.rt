@@ -3,17 +3,14 @@
 
 mod colon;
 mod flow;
-mod gap;
 mod indicators;
-mod kinds;
-mod lexeme;
-mod nodes;
 mod read;
-mod scalars;
 mod sort;
 mod stream;
-mod tail;
 mod turn;
 
 pub use granit_items::{Found, KeyStart, Lexeme, LexemeKind, Note};
 pub use turn::next_found;
+
+#[cfg(test)]
+mod tests;

@@ -10,21 +10,21 @@ ghost use Rattle.granit_lexemes.specs.Here.{Here};
 ghost use Rattle.granit_lexemes.specs.Outcome.{fault_at};
 ghost use Rattle.granit_machine.specs.Laid.{is_in_flow};
 ghost use Rattle.granit_machine.specs.Reader as spec;
-ghost use Rattle.granit_reader.specs.declared.tail.Tail.TheVariants.{Nothing};
+ghost use Rattle.granit_content.specs.declared.tail.Tail.TheVariants.{Nothing};
 ghost use Rattle.granit_items.specs.ItemViews.{found_items};
-ghost use Rattle.granit_reader.specs.Reads.{ReadsItems, only_lexeme, reader_at, seen, tail_view};
+ghost use Rattle.granit_content.specs.Reads.{ReadsItems, seen, tail_view};
+ghost use Rattle.granit_reader.specs.Reads.{only_lexeme, reader_at};
 ghost use Rattle.granit_reader.specs.SortViews as sorts;
 ghost use Rattle.granit_reader.specs.SortViews.{PlacedFits, SortFits, placed_view, sort_view};
 
 use crate::colon::colon;
 use crate::flow::{closer, comma, opener};
-use crate::gap::gap;
 use crate::indicators::{dash, question};
-use crate::nodes::{alias_lexeme, anchor_lexeme, tag_lexeme};
-use crate::scalars::{block_lexeme, plain_lexeme, quoted_and_gap};
 use crate::sort::{LexemeSort, PlacedSort, sort_at};
 use crate::stream::{directive, document_end, document_start, text_end};
-use crate::tail::Tail;
+use granit_content::{
+    Tail, alias_lexeme, anchor_lexeme, block_lexeme, gap, plain_lexeme, quoted_and_gap, tag_lexeme,
+};
 use granit_cursor::Cursor;
 use granit_error::{ErrorKind, Options, ScanError};
 use granit_input::{BorrowedInput, Input};

@@ -8,13 +8,10 @@ ghost use Rattle.granit_machine.specs.Columns.{closed_all, ends_all};
 ghost use Rattle.granit_machine.specs.StreamLexemes as spec;
 ghost use Rattle.granit_items.specs.ItemViews.{alone};
 ghost use Rattle.granit_reader.specs.Reads as view;
-ghost use Rattle.granit_reader.specs.Reads.{ReadsItems};
+ghost use Rattle.granit_content.specs.Reads.{ReadsItems};
 
-use crate::gap::over_break_if;
-use crate::lexeme::{give, lexeme_to, start_of, with_tail};
-use crate::scalars::scalar_lexeme;
-use crate::tail::tail_at;
 use granit_base::is_breakz;
+use granit_content::{give, lexeme_to, over_break_if, scalar_lexeme, start_of, tail_at, with_tail};
 use granit_cursor::Cursor;
 use granit_directives::scan_directive;
 use granit_error::{ErrorKind, Options, ScanError};
@@ -97,7 +94,7 @@ pub(crate) fn document_start<'input, T: Input>(
 }
 
 /// `...` with its tail where no bracket is open, which ends all columns.
-pub(crate) fn document_end<'input, T: Input>(
+pub(crate) fn document_end<'input, T: BorrowedInput<'input>>(
     alloc: Global,
     asked: bool,
     at: &mut Cursor<T>,
@@ -115,7 +112,7 @@ pub(crate) fn document_end<'input, T: Input>(
 }
 
 /// `...` with its tail, behind which the line ends.
-fn end_mark<'input, T: Input>(
+fn end_mark<'input, T: BorrowedInput<'input>>(
     alloc: Global,
     asked: bool,
     at: &mut Cursor<T>,

@@ -5,7 +5,8 @@ ghost use Rattle.granit_error.specs.OptionsView.{options_of};
 ghost use Rattle.granit_lexemes.specs.Here.{Here};
 ghost use Rattle.granit_machine.specs.Reader as spec;
 ghost use Rattle.granit_items.specs.ItemViews.{found_items};
-ghost use Rattle.granit_reader.specs.Reads.{IsAt, reader_at};
+ghost use Rattle.granit_content.specs.Reads.{IsAt};
+ghost use Rattle.granit_reader.specs.Reads.{reader_at};
 ghost use Rattle.granit_reader.specs.Turns.{TurnTo, before_turn};
 
 use crate::read::read;

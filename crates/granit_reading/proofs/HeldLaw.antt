@@ -1,9 +1,9 @@
 -- What is held behind lexemes is said of them.
-use Rattle.std.proofs.Common.{◌≡◌, ℕ, suc, Bool, true, false, List, [], ◌∷◌, ◌++◌, length, refl, sym, ap, ◌∙◌, subst}
+use Rattle.std.proofs.Common.{◌≡◌, ℕ, suc, Bool, true, false, List, [], length, refl, sym, ap, ◌∙◌, subst}
 use Rattle.granit_error.specs.OptionsData.{OptionsData}
 use Rattle.granit_lexemes.specs.Here.{Here, mark_of, start_of}
-use Rattle.granit_lexemes.specs.Lexeme.{Lexeme, Item, OfLexeme, OfComment}
-use Rattle.granit_machine.specs.Reader.{is_end, is_end_kind}
+use Rattle.granit_lexemes.specs.Lexeme.{Lexeme, Item}
+use Rattle.granit_machine.specs.Reader.{is_end}
 use Rattle.granit_machine.specs.ReaderState.{ReaderState, reader_start}
 use Rattle.granit_language.specs.Before.{freshened, closed_for}
 use Rattle.granit_language.specs.HeldSaid.{RunsSay, has_ended}

@@ -29,7 +29,7 @@ use Rattle.granit_scalars.proofs.QuotedLaw.{quoted_standing, quoted_refused}
 use Rattle.granit_blocks.proofs.BlockLaw.{block_standing, block_refused}
 use Rattle.granit_names.proofs.NameLaw.{name_stands, name_refused}
 use Rattle.granit_names.proofs.TagLaw.{tag_stands, tag_refused}
-use Rattle.granit_names.proofs.LineLaw.{whole_stands, whole_refused}
+use Rattle.granit_names.proofs.LineLaw.{whole_stands, whole_caused}
 use Rattle.granit_machine.specs.Columns.{refuse_column, entered, with_entry, pair_entered, with_pair, ends_all}
 use Rattle.granit_machine.specs.FlowLexemes.{opener, closed_bracket, closes, closer_by, closer, last_of_comma, comma}
 use Rattle.granit_machine.specs.Gaps.{gap}
@@ -509,4 +509,4 @@ directive-is o ends h l begins =
     (λ x e. (
       record { read = x.0; end = x.1; answers = whole_stands o h x.0 x.1 begins e; is = refl; reaches = refl },
       refl,
-    )) (λ f e. in_directive (whole_refused o h f begins e).0)
+    )) (λ f e. in_directive (whole_caused o h f begins e).0)

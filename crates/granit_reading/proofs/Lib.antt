@@ -7,18 +7,20 @@ pub mod Counting
 pub mod Deciding
 pub mod GapAnswers
 pub mod Gapping
+pub mod HeldLaw
 pub mod Holding
 pub mod KeysLaw
 pub mod LexemeAnswers
 pub mod Lexemes
+pub mod Misspelt
 pub mod Moving
 pub mod ParserSources
 pub mod PlacesLaw
 pub mod ReadAnswers
 pub mod ReadingLaw
 pub mod Refused
-pub mod RunsLaw
 pub mod RunsKept
+pub mod RunsLaw
 pub mod RunsOnce
 pub mod RunsWhole
 pub mod Signs
@@ -27,4 +29,3 @@ pub mod Sorting
 pub mod Sources
 pub mod Telling
 pub mod WholeLaw
-pub mod HeldLaw

@@ -346,9 +346,9 @@ module _ (x : List ℕ) where
   given_places o ends (Placed ColonSign) h l (OfLexeme y ∷ []) after p = one h y _ after.here p.0.is
       (shown_passes p.0.tail (to_step x h) (tail_if_passes _ (step h) after.here p.0.tail p.0.tailed))
   given_places o ends (Placed AliasSign) h l (OfLexeme y ∷ []) after p = one h y _ after.here p.0.is
-      (alone_passes (move_as x p.0.answers.reached (to_over x (first h.unread.text ∷ p.0.name) h)))
+      (alone_passes (move_as x p.0.answers.reached (to_over x (first h.unread.text ∷ p.0.name.characters) h)))
   given_places o ends (Placed AnchorSign) h l (OfLexeme y ∷ []) after p = one h y _ after.here p.0.is
-      (alone_passes (move_as x p.0.answers.reached (to_over x (first h.unread.text ∷ p.0.name) h)))
+      (alone_passes (move_as x p.0.answers.reached (to_over x (first h.unread.text ∷ p.0.name.characters) h)))
   given_places o ends (Placed TagSign) h l (OfLexeme y ∷ []) after p = one h y _ after.here p.0.is
       (alone_passes (move_as x p.0.answers.reached (to_over x p.0.answers.source h)))
   given_places o ends (Placed (BlockSign literal)) h l (OfLexeme y ∷ []) after p = one h y _ after.here p.0.is

@@ -56,7 +56,7 @@ use Rattle.granit_machine.proofs.LexLengths.{noded-flow}
 use Rattle.granit_machine.proofs.SortLemmas.{plain_sign-content}
 use Rattle.granit_language.specs.Allowed.{outside, TooMany, EntryFits}
 use Rattle.granit_language.specs.Before.{freshened, with_run, in_front}
-use Rattle.granit_language.specs.Reached.{Comes, Overdue, Reads, ReadStopped, in_gap, key_overdue, at_lexeme}
+use Rattle.granit_language.specs.Reached.{Comes, Overdue, ReadStopped, in_gap, key_overdue, at_lexeme}
 use Rattle.granit_language.specs.Reached.{key_overdue_behind}
 use Rattle.granit_language.specs.Refusing.{WrongTab, left_of_key, in_indentation, WrongGap, spoiled as gap_spoiled, tab}
 use Rattle.granit_language.specs.Refusing.{cut, GapRefused, KeyWaits, tail_of_open, tail_of_close, tail_of_comma}
@@ -77,7 +77,7 @@ use Rattle.granit_reading.proofs.Deciding.{outside_block_decided, layout_same}
 use Rattle.granit_reading.proofs.GapAnswers.{past_gap_answers, past_white_answers, tab_answers, gap_answers}
 use Rattle.granit_reading.proofs.LexemeAnswers.{then_is, tail_then, drop_answers, room_answers, not_less}
 use Rattle.granit_reading.proofs.Lexemes.{bind_bind}
-use Rattle.granit_reading.proofs.ReadAnswers.{by_answers, fresh_answers, read_answers}
+use Rattle.granit_reading.proofs.ReadAnswers.{by_answers, fresh_answers}
 use Rattle.granit_reading.proofs.ReadingLaw.{run_flow, run_columns, Starts, starts, signed, stops_there}
 use Rattle.granit_reading.proofs.SortAnswers.{sort_answers}
 
@@ -85,8 +85,8 @@ use Rattle.granit_reading.proofs.SortAnswers.{sort_answers}
 abbrev pub Fails : {A : Type 0} → FaultKind → Mark → Result A Fault → Type 0
 Fails kind m r = r ≡ Err (fault_at kind m)
 
-fails_then : {A B : Type 0} {r : Result A Fault} {kind : FaultKind} {m : Mark} (f : A → Result B Fault) → Fails kind m r
-    → Fails kind m (r >>= f)
+pub fails_then : {A B : Type 0} {r : Result A Fault} {kind : FaultKind} {m : Mark} (f : A → Result B Fault)
+    → Fails kind m r → Fails kind m (r >>= f)
 fails_then f e = ap (λ r. r >>= f) e
 
 -- ---- comments and tails
@@ -418,28 +418,15 @@ stopped_refused o s (key_overdue_behind items at behind sort comes given k) =
     (sort_answers (is_in_flow f.laid) (is_adjacent f.laid.last) f.here comes.begins)
     ∙ then_is _ (by_answers o sort f items behind given) ∙ fails_then _ (overdue_refused o behind k)
 
--- ---- causes exclude one another, and what stands
+-- ---- one refusal
 
-fault_kind : {A : Type 0} (r : Result A Fault) {k j : FaultKind} {m n : Mark} → Fails k m r → Fails j n r
+pub fault_kind : {A : Type 0} (r : Result A Fault) {k j : FaultKind} {m n : Mark} → Fails k m r → Fails j n r
     → (k ≡ j) × (m ≡ n)
 fault_kind {A = A} r {k} {j} {m} {n} e f =
     let p : ◌≡◌ {A = Result A Fault} (Err (fault_at k m)) (Err (fault_at j n)) = sym e ∙ f in
     let q : fault_at k m ≡ fault_at j n = cc in
     (ap (λ (f : Fault). f.kind) q, ap (λ (f : Fault). f.mark) q)
 
-pub one_stop : (o : OptionsData) (s : ReaderState) {k j : FaultKind} {m n : Mark} → ReadStopped o s k m
-    → ReadStopped o s j n → (k ≡ j) × (m ≡ n)
-one_stop o s p q = fault_kind (read o s) (stopped_refused o s p) (stopped_refused o s q)
-
-pub nothing_stands : (o : OptionsData) (s t : ReaderState) {k : FaultKind} {m : Mark} {items : _} → ReadStopped o s k m
-    → Reads o s items t → ⊥
-nothing_stands o s t p q = let e = sym (stopped_refused o s p) ∙ read_answers o q in absurd cc
-
 abbrev pub is_read : Read → Bool
 is_read (Ok x) = true
 is_read (Err f) = false
-
--- where something is read no such cause stands
-pub well_read : (o : OptionsData) (s : ReaderState) {k : FaultKind} {m : Mark} → ReadStopped o s k m
-    → is_read (read o s) ≡ true → ⊥
-well_read o s p e = absurd (let f = sym (ap is_read (stopped_refused o s p)) ∙ e in cc)

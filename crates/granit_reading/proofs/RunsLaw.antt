@@ -14,11 +14,11 @@ use Rattle.granit_lexemes.specs.declared.layout.PossibleKey.{PossibleKey}
 use Rattle.granit_lexemes.specs.declared.layout.OpenBracket.{OpenBracket}
 use Rattle.granit_machine.specs.PossibleKeys.{top_key, is_stale, fresh_key, fresh_bracket, is_allowed, new_key}
 use Rattle.granit_machine.specs.PossibleKeys.{key_goes_on, node_key}
-use Rattle.granit_language.specs.Fitting.{OfNode, Opens, Closes, role_of}
-use Rattle.granit_language.specs.KeyRuns.{role, WholeBrackets, NoRun, joins_run, BeginsRun, Run, part_begins}
+use Rattle.granit_language.specs.Fitting.{OfNode, Closes, role_of}
+use Rattle.granit_language.specs.KeyRuns.{NoRun, joins_run, BeginsRun, Run, part_begins}
 use Rattle.granit_language.specs.KeyRuns.{part_joins, whole_begins, whole_joins, opens_entry, follows_opener}
-use Rattle.granit_language.specs.KeyRuns.{is_entry_dash, follows_dash, follows_sign, NoTabBehind, MayBeKey, too_far}
-use Rattle.granit_language.specs.HeldSaid.{Holds, Now, no_run_now, run_now, Lead, lead_begins, lead_joins, Leads}
+use Rattle.granit_language.specs.KeyRuns.{is_entry_dash, follows_dash, NoTabBehind, MayBeKey, too_far}
+use Rattle.granit_language.specs.HeldSaid.{Holds, Now, no_run_now, run_now, lead_begins, lead_joins, Leads}
 use Rattle.granit_language.specs.HeldSaid.{Pending, Around, Depths, LastSays}
 use Rattle.granit_reading.proofs.Counting.{At, Further}
 

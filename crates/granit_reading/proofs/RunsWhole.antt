@@ -25,8 +25,7 @@ use Rattle.granit_machine.specs.Reader.{is_end_kind, is_end}
 use Rattle.granit_machine.specs.ReaderState.{ReaderState, reader_start}
 use Rattle.granit_language.specs.Before.{freshened, closed_for}
 use Rattle.granit_language.specs.Before.{behind}
-use Rattle.granit_language.specs.Begins.{Begins, sign}
-use Rattle.granit_language.specs.Begins as begins
+use Rattle.granit_language.specs.Begins.{Begins}
 use Rattle.granit_language.specs.KeyRuns.{is_key_sign, no_tab, NoTabBehind}
 use Rattle.granit_language.specs.KeyRuns.{ColonsSay}
 use Rattle.granit_language.specs.HeldSaid.{no_run_now}

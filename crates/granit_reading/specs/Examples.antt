@@ -10,7 +10,7 @@ use Rattle.granit_lexemes.specs.declared.layout.LastLexeme.{LastLexeme}
 use Rattle.granit_lexemes.specs.declared.layout.PossibleKey.{PossibleKey}
 use Rattle.granit_machine.specs.Laid.{Laid, laid_start}
 use Rattle.granit_machine.specs.ReaderState.{reader_start}
-use Rattle.granit_language.specs.Reached.{ReadRefused, ReadStopped}
+use Rattle.granit_language.specs.Reached.{ReadRefused}
 
 -- so many characters of a text were read
 abbrev pub after_characters : ℕ → List ℕ → Here
@@ -37,4 +37,4 @@ Caused text kind n = ReadRefused default_options (reader_start (start_of text)) 
 
 -- none has one there
 abbrev pub Uncaused : List ℕ → Type 0
-Uncaused text = (kind : FaultKind) (m : Mark) → ReadStopped default_options (reader_start (start_of text)) kind m → ⊥
+Uncaused text = (kind : FaultKind) (m : Mark) → ReadRefused default_options (reader_start (start_of text)) kind m → ⊥

@@ -2,7 +2,7 @@
 ghost use Rattle.granit_base.specs.Place.{Mark};
 ghost use Rattle.granit_error.specs.FaultKind.{FaultKind};
 ghost use Rattle.granit_error.specs.OptionsData.{OptionsData};
-ghost use Rattle.granit_language.specs.Reached.{ReadRefused, ReadStopped, Reads};
+ghost use Rattle.granit_language.specs.Reached.{ReadRefused, Reads};
 ghost use Rattle.granit_lexemes.specs.Lexeme.{Item};
 ghost use Rattle.granit_lexemes.specs.Outcome.{Fault, fault_at};
 ghost use Rattle.granit_machine.specs.Machine.{run};
@@ -16,19 +16,18 @@ pub fn every_refusal_of_the_reader_has_its_cause()
         read o s ≡ Err f → ReadRefused o s f.kind f.mark }
 {}
 
-/// What has such a cause, other than inside a tag, a quoted scalar or a directive, is refused with
-/// exactly that kind at that mark, and the fault names no source.
+/// What has such a cause is refused with exactly that kind at that mark, and the fault names no source.
 pub fn every_cause_of_the_reader_is_refused()
     ensures { (o : OptionsData) (s : ReaderState) (kind : FaultKind) (m : Mark) →
-        ReadStopped o s kind m → read o s ≡ Err (fault_at kind m) }
+        ReadRefused o s kind m → read o s ≡ Err (fault_at kind m) }
 {}
 
 /// So at most one kind at one mark has such a cause behind what was read, and no lexeme stands there.
 pub fn one_cause_of_the_reader()
     ensures one { (o : OptionsData) (s : ReaderState) (kind other : FaultKind) (m n : Mark) →
-        ReadStopped o s kind m → ReadStopped o s other n → (kind ≡ other) × (m ≡ n) }
+        ReadRefused o s kind m → ReadRefused o s other n → (kind ≡ other) × (m ≡ n) }
     ensures none { (o : OptionsData) (s t : ReaderState) (kind : FaultKind) (m : Mark) (items : List Item) →
-        ReadStopped o s kind m → Reads o s items t → ⊥ }
+        ReadRefused o s kind m → Reads o s items t → ⊥ }
 {}
 
 /// No fault of the whole plain machine names a source.

@@ -23,3 +23,4 @@ pub mod QuotedTail
 pub mod QuotedTurns
 pub mod Stepping
 pub mod Turning
+pub mod Verbatim

@@ -5,6 +5,7 @@ use Rattle.std.proofs.Common.{List, [], Option, Some, None, Result, Ok, Err, sym
 use lib.Utf8.{scalar}
 use Rattle.granit_base.specs.Classes.{is_blank, is_break, hex_value, is_printable, is_z}
 use Rattle.granit_base.specs.Place.{Mark}
+use Rattle.granit_base.specs.Written.{Written}
 use Rattle.granit_error.specs.FaultKind.{FaultKind}
 use Rattle.granit_lexemes.specs.Comment.{behind_comment, skipped_comment, comment, past_comment}
 use Rattle.granit_lexemes.specs.Decoding.{letter_value, digit_count, is_high, is_low}
@@ -157,7 +158,7 @@ quoted_turn_none single at start s =
     (if_none (not (is_printable (next_char s.here))) err_none
     (if_none (is_closing single s.here.unread.text) ok_none (content_none single start s))))))))
 
-behind_quoted_none : (single : Bool) (at : LayoutData) (start : Mark) (value : List ℕ) (end : Mark) (h : Here)
+behind_quoted_none : (single : Bool) (at : LayoutData) (start : Mark) (value : Written) (end : Mark) (h : Here)
     → IsNameless (behind_quoted single at start value end h)
 unfolding behind_quoted
 behind_quoted_none single at start value end h =
@@ -165,7 +166,7 @@ behind_quoted_none single at start value end h =
     (if_none (not (is_printable (next_char h))) err_none
     (if_none (may_trail at (h.place.line == start.place.line) (next_char h)) ok_none err_none))
 
-tail_none : (single : Bool) (at : LayoutData) (start : Mark) (value : List ℕ) (h : Here)
+tail_none : (single : Bool) (at : LayoutData) (start : Mark) (value : Written) (h : Here)
     → IsNameless (quoted_tail single at start value h)
 unfolding quoted_tail
 tail_none single at start value h =

@@ -15,9 +15,9 @@ use Rattle.granit_lexemes.specs.PlainExtent.{Separation, OnLine, Folded, separat
 use Rattle.granit_lexemes.specs.PlainExtent.{tab_refused, is_cut, is_folded, over, behind_of, plain_answer}
 use Rattle.granit_lexemes.specs.PlainExtent.{is_flow_dash, is_unprintable_at, AnswersPlain, is_inside, is_behind}
 use Rattle.granit_lexemes.specs.PlainExtent.{RefusesPlain}
-use Rattle.granit_lexemes.specs.Basics.{fails_at, unprintable, only_printable, owned}
+use Rattle.granit_lexemes.specs.Basics.{fails_at, unprintable, only_printable}
 use Rattle.granit_lexemes.specs.PlainScalar.{PlainState, PlainRead, on_content, meets_comment, plain_turn, plain_len}
-use Rattle.granit_lexemes.specs.PlainScalar.{plain_start, cut_mark, plain_read, behind_plain, plain_scalar}
+use Rattle.granit_lexemes.specs.PlainScalar.{plain_start, cut_mark, is_one_line, plain_read, behind_plain, plain_scalar}
 use Rattle.granit_base.specs.PlainContent.{is_content}
 use Rattle.granit_lexemes.proofs.PieceLemmas.{pieces_more}
 use Rattle.granit_scalars.proofs.Folding.{folds_content}
@@ -25,6 +25,7 @@ use Rattle.granit_scalars.proofs.PlainKept.{Kept, Stays, content_stays}
 use Rattle.granit_scalars.proofs.PlainReads.{Finds, Reads, reads}
 use Rattle.granit_scalars.proofs.PlainSpelling.{solid, no_longer}
 use Rattle.granit_scalars.proofs.PlainTurns.{seen_content, plain_shortens}
+use Rattle.granit_scalars.proofs.Stepping.{over_lends}
 
 -- ---- the first character
 
@@ -90,26 +91,28 @@ line_is : (at : LayoutData) (tail : Separation) (s : PlainState) → Kept at tai
 line_is at (OnLine blanks) s k = k.line
 line_is at (Folded breaks indent) s k = k.line
 
-abbrev read_of : Mark → List ℕ → Mark → Option Mark → Bool → PlainRead
-read_of start value end cut line = record {
-  text = owned value;
+abbrev read_of : Mark → List ℕ → (end : Mark) → (lends : Bool) → Option Mark → Bool → PlainRead
+read_of start value end lends cut line = record {
+  text = record { characters = value; is_borrowed = is_one_line start end && lends };
   source = record { start = start; end = end };
   cut_by_comment = cut;
   on_new_line = line;
 }
 
-same_read : (start : Mark) (v w : List ℕ) (a b : Mark) (c d : Option Mark) (l m : Bool) → v ≡ w → a ≡ b → c ≡ d → l ≡ m
-    → read_of start v a c l ≡ read_of start w b d m
-same_read start v w a b c d l m e f g h = rw (e, f, g, h) refl
+same_read : (start : Mark) (v w : List ℕ) (a b : Mark) (s t : Bool) (c d : Option Mark) (l m : Bool) → v ≡ w → a ≡ b
+    → s ≡ t → c ≡ d → l ≡ m → read_of start v a s c l ≡ read_of start w b t d m
+same_read start v w a b s t c d l m e f i g h = rw (e, f, i, g, h) refl
 
 answer_is : (at : LayoutData) (h : Here) (value source : List ℕ) (tail : Separation) (s : PlainState)
     → value ≡ folded source → Stays at tail (over source h) s
     → plain_read at (mark_of h) value s ≡ plain_answer at h source tail s.here.unread.text
 answer_is at h value source tail s e k =
-    same_read (mark_of h) value (folded source) s.end (mark_of (over source h)) (cut_mark at s)
+    same_read (mark_of h) value (folded source) s.end (mark_of (over source h)) s.here.unread.lends h.unread.lends
+    (cut_mark at s)
     (if not at.in_flow && is_cut at tail s.here.unread.text then Some (mark_of (behind_of h source tail)) else None)
     s.on_new_line (is_folded tail)
-    e k.end
+    e k.end (ap (λ (n : Here). n.unread.lends) k.here ∙ over_lends (separation_text tail) (over source h)
+    ∙ over_lends source h)
     (ap₂ (λ (b : Bool) (n : Here). if not at.in_flow && b then Some (mark_of n) else None) (cut_is at tail s k.kept)
     k.here)
     (line_is at tail s k.kept)

@@ -6,6 +6,7 @@ use Rattle.std.proofs.lemmas.Bool.{cond-true, cond-false}
 use Rattle.std.proofs.lemmas.Bool.Decides.{nat_tests}
 use Rattle.granit_base.specs.Classes.{is_blank, is_break, is_gap, is_printable}
 use Rattle.granit_base.specs.Place.{Mark, first}
+use Rattle.granit_base.specs.Written.{Written}
 use Rattle.granit_error.specs.FaultKind.{FaultKind, TabInIndentation, InvalidIndentation, InvalidQuotedScalarIndent}
 use Rattle.granit_error.specs.FaultKind.{DocumentIndicatorInQuotedScalar, UnclosedQuotedScalar, CommentNotSeparated}
 use Rattle.granit_error.specs.FaultKind.{UnexpectedCharacter}
@@ -28,7 +29,7 @@ use Rattle.granit_lexemes.specs.QuotedScalar.{is_strictly_left, is_loosely_left,
 use Rattle.granit_lexemes.specs.QuotedScalar.{quoted_content}
 use Rattle.granit_lexemes.specs.QuotedScalar.{quoted_len, quoted_read, quoted_piece, asked_comment, trailing_kind}
 use Rattle.granit_lexemes.specs.QuotedScalar.{may_trail}
-use Rattle.granit_lexemes.specs.QuotedScalar.{behind_quoted, quoted_tail, quoted_scalar}
+use Rattle.granit_lexemes.specs.QuotedScalar.{quoted_text, behind_quoted, quoted_tail, quoted_scalar}
 use Rattle.granit_lexemes.proofs.HereLemmas.{not_empty}
 use Rattle.granit_lexemes.proofs.PieceLemmas.{pieces_fails}
 use Rattle.granit_scalars.proofs.Comments.{comment_reads, same_run, not_both, no_comment_strange}
@@ -309,11 +310,12 @@ inside_refused single at h source value gap left x rest kind m front w =
     (r.same
     ∙ pieces_fails quoted_len (quoted_turn single at (mark_of h)) s (fault_at kind m)
     (wrong_turn single at (mark_of h) s w r.state r.escaped text place)) in
-    ap (λ g. g >>= λ y. quoted_tail single at (mark_of h) (y.0 ++ between_quoted y.1) (step y.1.here)) fails
+    ap (λ g. g >>= λ y. quoted_tail single at (mark_of h) (quoted_text single (step h) (y.0 ++ between_quoted y.1))
+    (step y.1.here)) fails
 
 -- ---- behind the closing quote
 
-behind_strange : (single : Bool) (at : LayoutData) (start : Mark) (value : List ℕ) (e : Mark) (h : Here) (c : ℕ)
+behind_strange : (single : Bool) (at : LayoutData) (start : Mark) (value : Written) (e : Mark) (h : Here) (c : ℕ)
     (t : List ℕ) → h.unread.text ≡ c ∷ t → is_printable c ≡ false
     → behind_quoted single at start value e h ≡ Err (fault_at (UnexpectedCharacter c) (mark_of h))
 unfolding behind_quoted
@@ -330,7 +332,7 @@ behind_chain given other f false false c y z = absurd cc
 behind_chain given other f false true true y z = absurd cc
 behind_chain given other f false true false y z = refl
 
-behind_trailing : (single : Bool) (at : LayoutData) (start : Mark) (value : List ℕ) (e : Mark) (h : Here)
+behind_trailing : (single : Bool) (at : LayoutData) (start : Mark) (value : Written) (e : Mark) (h : Here)
     → is_printable (next_char h) ≡ true → ends_quoted at start h ≡ false
     → behind_quoted single at start value e h ≡ Err (fault_at (trailing_kind single) (mark_of h))
 unfolding behind_quoted
@@ -339,13 +341,13 @@ behind_trailing single at start value e h y z =
     (fails_at (UnexpectedCharacter (next_char h)) (mark_of h)) (fault_at (trailing_kind single) (mark_of h))
     (text_len h == 0) (is_printable (next_char h)) (may_trail at (h.place.line == start.place.line) (next_char h)) y z
 
-touching_refused : (single : Bool) (at : LayoutData) (start : Mark) (value : List ℕ) (h : Here)
+touching_refused : (single : Bool) (at : LayoutData) (start : Mark) (value : Written) (h : Here)
     → starts_comment h.unread.text ≡ true
     → quoted_tail single at start value h ≡ Err (fault_at CommentNotSeparated (mark_of h))
 unfolding quoted_tail
 touching_refused single at start value h y = cond-true (next_char h == 0x23) _ _ y
 
-module _ (single : Bool) (at : LayoutData) (start : Mark) (value : List ℕ) (h : Here) where
+module _ (single : Bool) (at : LayoutData) (start : Mark) (value : Written) (h : Here) where
   -- where no comment begins behind the blanks
   past_blanks_is : (blanks rest : List ℕ) → BlanksBehind h blanks rest → starts_comment rest ≡ false
       → quoted_tail single at start value h ≡ behind_quoted single at start value (mark_of h) (over blanks h)
@@ -390,8 +392,10 @@ unfolding quoted_scalar
 behind_refused single at h source value gap left x rest kind m stands w =
     let b = body single at h source value gap left x rest stands in
     answer_of single at h (run single at h) b.text b.after b.gives
-    ∙ ap₂ (quoted_tail single at (mark_of h)) b.spells (ap step b.here)
-    ∙ tail_refused single at (mark_of h) (quoted_value value left x) (quoted_end single h source gap) w
+    ∙ ap₂ (λ (v : List ℕ) (g : Here). quoted_tail single at (mark_of h) (quoted_text single (step h) v) g) b.spells
+    (ap step b.here)
+    ∙ tail_refused single at (mark_of h) (quoted_text single (step h) (quoted_value value left x))
+    (quoted_end single h source gap) w
 
 -- ---- the law
 

@@ -11,7 +11,8 @@ use Rattle.granit_lexemes.specs.Here.{Here}
 use Rattle.granit_lexemes.specs.LayoutData.{LayoutData}
 use Rattle.granit_lexemes.specs.QuotedExtent.{OneBreak, line_feed, pair, carriage_return, NewLine, no_more, blank}
 use Rattle.granit_lexemes.specs.QuotedExtent.{break, Between, Blanks, Lines, Separates, on_line, folded as folded_gap}
-use Rattle.granit_lexemes.specs.QuotedExtent.{between_text, is_literal, is_simple, Piece, itself, doubled, escape}
+use Rattle.granit_lexemes.specs.QuotedExtent.{between_text, Piece, itself, doubled, escape}
+use Rattle.granit_lexemes.specs.QuotedScalar.{is_literal, is_simple}
 use Rattle.granit_lexemes.specs.QuotedExtent.{before_break, Inside, nothing, content, QuotedStands, quoted_value}
 use Rattle.granit_scalars.proofs.Folding.{folded_behind, IsBreak, blank_apart_from_break, in_first_line, folds_blanks}
 use Rattle.granit_scalars.proofs.Folding.{folds_break, folds_behind_blank, folds_behind_break, folds_behind_content}

@@ -1,6 +1,7 @@
 -- The plain function answers the quoted scalar that stands there, or refuses it with its cause.
 use Rattle.std.proofs.Common.{◌≡◌, ℕ, ◌==◌, Bool, true, false, List, [], ◌∷◌, ◌++◌, Result, Ok, Err, refl, ap, ap₂, ◌∙◌}
 use Rattle.std.proofs.Common.{subst}
+use Rattle.granit_base.specs.Written.{Written}
 use Rattle.granit_lexemes.specs.Here.{Here, next_char, mark_of, step}
 use Rattle.granit_lexemes.specs.LayoutData.{LayoutData}
 use Rattle.granit_lexemes.specs.Outcome.{Fault, ◌>>=◌}
@@ -9,11 +10,13 @@ use Rattle.granit_lexemes.specs.QuotedExtent.{Between, Blanks, QuotedFront, Quot
 use Rattle.granit_lexemes.specs.QuotedExtent.{Trails, AnswersQuoted, WrongInside, WrongBehind, RefusesQuoted, inside}
 use Rattle.granit_lexemes.specs.QuotedExtent.{behind}
 use Rattle.granit_lexemes.specs.QuotedScalar.{QuotedState, QuotedRead, quote_char, quoted_at, between_quoted}
-use Rattle.granit_lexemes.specs.QuotedScalar.{quoted_turn, quoted_len, quoted_read, quoted_tail, quoted_scalar}
+use Rattle.granit_lexemes.specs.QuotedScalar.{quoted_turn, quoted_len, quoted_read, quoted_text}
+use Rattle.granit_lexemes.specs.QuotedScalar.{quoted_tail, quoted_scalar}
 use Rattle.granit_scalars.proofs.QuotedKept.{quoted_fresh}
 use Rattle.granit_scalars.proofs.QuotedReads.{QuotedFinds, QuotedReads, quoted_reads}
 use Rattle.granit_scalars.proofs.QuotedTail.{TailReads, tail_reads}
 use Rattle.granit_scalars.proofs.Stepping.{seen}
+use Rattle.granit_scalars.proofs.Verbatim.{text_is}
 
 abbrev pub QuotedAnswered : Bool → LayoutData → Here → Result (QuotedRead × Here) Fault → Type 0
 QuotedAnswered single at h (Ok (read, after)) = AnswersQuoted single at h read after
@@ -48,7 +51,8 @@ front_of single at h y f = record {
 with_tail : (single : Bool) (at : LayoutData) (h : Here) (source value gap : List ℕ) (left : Bool) (x : Between)
     (rest text : List ℕ) (end : Here) → QuotedStands single at h source value gap left x rest
     → text ≡ quoted_value value left x → end ≡ quoted_end single h source gap
-    → (given : Result (QuotedRead × Here) Fault) → TailReads single at (mark_of h) text end given
+    → (given : Result (QuotedRead × Here) Fault)
+    → TailReads single at (mark_of h) (quoted_text single (step h) text) end given
     → QuotedAnswered single at h given
 with_tail single at h source value gap left x rest text end stands e f (Ok (read, after)) t = record {
   source = source;
@@ -60,23 +64,26 @@ with_tail single at h source value gap left x rest text end stands e f (Ok (read
   noted = t.0;
   stands = stands;
   trails = subst (λ (g : Here). Trails at (mark_of h) g t.0 after) f t.1;
-  answer = t.2 ∙ ap₂ (λ (v : List ℕ) (g : Here). quoted_read single (mark_of h) v (mark_of g) t.0) e f;
+  answer = t.2 ∙ ap₂ (λ (v : List ℕ) (g : Here). quoted_read single (mark_of h) (quoted_text single (step h) v)
+      (mark_of g) t.0) e f
+      ∙ ap (λ (v : Written). quoted_read single (mark_of h) v (mark_of (quoted_end single h source gap)) t.0)
+      (text_is single h source value gap left x rest stands (quoted_value value left x));
 }
 with_tail single at h source value gap left x rest text end stands e f (Err g) t = behind source value gap left x rest
     stands (subst (λ (i : Here). WrongBehind single at (mark_of h) i g.kind g.mark) f t)
 
 run_answers : (single : Bool) (at : LayoutData) (h : Here) → next_char h ≡ quote_char single
     → (run : Result (List ℕ × QuotedState) Fault) → QuotedReads single at (mark_of h) (quoted_at false (step h)) run
-    → QuotedAnswered single at h (run >>= λ x. quoted_tail single at (mark_of h) (x.0 ++ between_quoted x.1)
-    (step x.1.here))
+    → QuotedAnswered single at h (run >>= λ x. quoted_tail single at (mark_of h)
+    (quoted_text single (step h) (x.0 ++ between_quoted x.1)) (step x.1.here))
 run_answers single at h y (Ok (text, last)) reading =
     let r = reading [] (Blanks []) (step h) (quoted_fresh at false (step h)) in
     let stands : QuotedStands single at h r.source r.value r.gap last.escaped r.x last.here.unread.text =
     record { front = front_of single at h y r.finds; closing = r.closing; placed = r.placed } in
     with_tail single at h r.source r.value r.gap last.escaped r.x last.here.unread.text (text ++ between_quoted last)
     (step last.here) stands r.value_is (ap step r.place)
-    (quoted_tail single at (mark_of h) (text ++ between_quoted last) (step last.here))
-    (tail_reads single at (mark_of h) (text ++ between_quoted last) (step last.here))
+    (quoted_tail single at (mark_of h) (quoted_text single (step h) (text ++ between_quoted last)) (step last.here))
+    (tail_reads single at (mark_of h) (quoted_text single (step h) (text ++ between_quoted last)) (step last.here))
 run_answers single at h y (Err f) reading =
     let r = reading [] (Blanks []) (step h) (quoted_fresh at false (step h)) in
     inside r.source r.value r.gap r.left r.x r.rest (front_of single at h y r.finds)

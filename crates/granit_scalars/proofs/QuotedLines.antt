@@ -22,7 +22,8 @@ use Rattle.granit_lexemes.specs.QuotedExtent.{OneBreak, line_feed, pair, carriag
 use Rattle.granit_lexemes.specs.QuotedExtent.{break}
 use Rattle.granit_lexemes.specs.QuotedExtent.{Between, Blanks, Lines, Separates, on_line, folded, lines_text}
 use Rattle.granit_lexemes.specs.QuotedExtent.{between_text}
-use Rattle.granit_lexemes.specs.QuotedExtent.{is_literal, is_simple, Piece, itself, doubled, escape, before_break}
+use Rattle.granit_lexemes.specs.QuotedExtent.{Piece, itself, doubled, escape, before_break}
+use Rattle.granit_lexemes.specs.QuotedScalar.{is_literal, is_simple}
 use Rattle.granit_lexemes.specs.QuotedExtent.{Inside, nothing, content, QuotedStands, quoted_value}
 use Rattle.granit_lexemes.proofs.DecodingLemmas.{number_letter, u_wants_four, half_is_none}
 use Rattle.granit_scalars.proofs.Comments.{none_dropped}

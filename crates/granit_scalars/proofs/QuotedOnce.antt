@@ -2,6 +2,7 @@
 use Rattle.std.proofs.Common.{◌≡◌, ℕ, Bool, false, List, [], ◌++◌, Result, Ok, refl, sym, ap, ap₂, ◌∙◌, append_assoc}
 use Rattle.std.proofs.Common.{append-nil}
 use Rattle.std.proofs.lemmas.List.{append_cancel_right}
+use Rattle.granit_base.specs.Written.{Written}
 use Rattle.granit_lexemes.specs.Here.{Here, mark_of, step}
 use Rattle.granit_lexemes.specs.LayoutData.{LayoutData}
 use Rattle.granit_lexemes.specs.Outcome.{Fault, ◌>>=◌}
@@ -9,11 +10,12 @@ use Rattle.granit_lexemes.specs.Pieces.{with_front}
 use Rattle.granit_lexemes.specs.PlainExtent.{over}
 use Rattle.granit_lexemes.specs.QuotedExtent.{Between, QuotedStands, quoted_end, quoted_value, AnswersQuoted}
 use Rattle.granit_lexemes.specs.QuotedScalar.{QuotedState, QuotedRead, quote_char, between_quoted, quoted_at}
-use Rattle.granit_lexemes.specs.QuotedScalar.{quoted_tail, quoted_scalar, quoted_rest}
+use Rattle.granit_lexemes.specs.QuotedScalar.{quoted_read, quoted_text, quoted_tail, quoted_scalar, quoted_rest}
 use Rattle.granit_scalars.proofs.QuotedEscapes.{text_behind, over_text}
 use Rattle.granit_scalars.proofs.QuotedRuns.{inside_runs, closes}
 use Rattle.granit_scalars.proofs.QuotedTail.{tail_answers}
 use Rattle.granit_scalars.proofs.Stepping.{over-append}
+use Rattle.granit_scalars.proofs.Verbatim.{text_is}
 
 abbrev pub run : Bool → LayoutData → Here → Result (List ℕ × QuotedState) Fault
 run single at h = quoted_rest single at (mark_of h) (quoted_at false (step h))
@@ -51,8 +53,9 @@ body single at h source value gap left x rest p =
 
 pub answer_of : (single : Bool) (at : LayoutData) (h : Here) (given : Result (List ℕ
     × QuotedState) Fault) (text : List ℕ) (last : QuotedState) → given ≡ Ok (text, last)
-    → (given >>= λ x. quoted_tail single at (mark_of h) (x.0 ++ between_quoted x.1) (step x.1.here))
-    ≡ quoted_tail single at (mark_of h) (text ++ between_quoted last) (step last.here)
+    → (given >>= λ x. quoted_tail single at (mark_of h) (quoted_text single (step h) (x.0 ++ between_quoted x.1))
+    (step x.1.here))
+    ≡ quoted_tail single at (mark_of h) (quoted_text single (step h) (text ++ between_quoted last)) (step last.here)
 answer_of single at h given text last e = rw e refl
 
 -- a scalar that nothing refuses is answered
@@ -62,9 +65,13 @@ unfolding quoted_scalar
 quoted_is_answered single at h read after p =
     let b = body single at h p.source p.value p.gap p.left p.between p.rest p.stands in
     let end = quoted_end single h p.source p.gap in
+    let value = quoted_value p.value p.left p.between in
     answer_of single at h (run single at h) b.text b.after b.gives
-    ∙ ap₂ (quoted_tail single at (mark_of h)) b.spells (ap step b.here)
-    ∙ tail_answers single at (mark_of h) (quoted_value p.value p.left p.between) end p.noted after p.trails
+    ∙ ap₂ (λ (v : List ℕ) (g : Here). quoted_tail single at (mark_of h) (quoted_text single (step h) v) g) b.spells
+    (ap step b.here)
+    ∙ tail_answers single at (mark_of h) (quoted_text single (step h) value) end p.noted after p.trails
+    ∙ ap (λ (t : Written). Ok (quoted_read single (mark_of h) t (mark_of end) p.noted, after))
+    (text_is single h p.source p.value p.gap p.left p.between p.rest p.stands value)
     ∙ ap (λ (r : QuotedRead). Ok (r, after)) (sym p.answer)
 
 abbrev answer : List ℕ → QuotedState → Result (List ℕ × QuotedState) Fault

@@ -14,7 +14,8 @@ use Rattle.granit_lexemes.specs.Outcome.{Fault, fault_at, ◌>>=◌}
 use Rattle.granit_lexemes.specs.Pieces.{with_front, pieces}
 use Rattle.granit_lexemes.specs.PlainExtent.{over}
 use Rattle.granit_lexemes.specs.Basics.{is_document_mark}
-use Rattle.granit_lexemes.specs.QuotedExtent.{Between, Blanks, Lines, Separates, between_text, is_literal, Piece}
+use Rattle.granit_lexemes.specs.QuotedExtent.{Between, Blanks, Lines, Separates, between_text, Piece}
+use Rattle.granit_lexemes.specs.QuotedScalar.{is_literal}
 use Rattle.granit_lexemes.specs.QuotedExtent.{itself, doubled, escape as escape_piece, before_break, may_be_left}
 use Rattle.granit_lexemes.specs.QuotedExtent.{is_misplaced, MayStand, Inside, nothing, content, quoted_value}
 use Rattle.granit_lexemes.specs.QuotedExtent.{WrongInside, tab, strict, loose, mark, end, character, escape}

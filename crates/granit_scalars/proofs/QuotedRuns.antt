@@ -13,7 +13,8 @@ use Rattle.granit_lexemes.specs.Outcome.{◌>>=◌}
 use Rattle.granit_lexemes.specs.Pieces.{with_front}
 use Rattle.granit_lexemes.specs.PlainExtent.{over}
 use Rattle.granit_lexemes.specs.Basics.{is_document_mark}
-use Rattle.granit_lexemes.specs.QuotedExtent.{Between, Blanks, Lines, Separates, between_text, is_literal, Piece}
+use Rattle.granit_lexemes.specs.QuotedExtent.{Between, Blanks, Lines, Separates, between_text, Piece}
+use Rattle.granit_lexemes.specs.QuotedScalar.{is_literal}
 use Rattle.granit_lexemes.specs.QuotedExtent.{itself, doubled, escape, before_break, may_be_left, MayStand, Inside}
 use Rattle.granit_lexemes.specs.QuotedExtent.{nothing, content}
 use Rattle.granit_lexemes.specs.QuotedScalar.{QuotedState, quote_char, is_closing, is_strictly_left, is_loosely_left}

@@ -6,6 +6,7 @@ use Rattle.std.proofs.lemmas.Bool.{cond-true, cond-false}
 use Rattle.std.proofs.lemmas.Bool.Decides.{nat_tests}
 use Rattle.granit_base.specs.Classes.{is_blank, is_printable}
 use Rattle.granit_base.specs.Place.{Mark, first}
+use Rattle.granit_base.specs.Written.{Written}
 use Rattle.granit_error.specs.FaultKind.{CommentNotSeparated, UnexpectedCharacter}
 use Rattle.granit_lexemes.specs.Comment.{CommentRead, comment, ReadsComment}
 use Rattle.granit_lexemes.specs.Gap.{Each}
@@ -61,7 +62,7 @@ past_blanks (b ∷ blanks) rest h e y n =
 
 -- ---- what is read is there
 
-abbrev pub TailReads : Bool → LayoutData → Mark → List ℕ → Here → Result (QuotedRead × Here) Fault → Type 0
+abbrev pub TailReads : Bool → LayoutData → Mark → Written → Here → Result (QuotedRead × Here) Fault → Type 0
 TailReads single at start value h (Ok (read, after)) = (noted : Option CommentRead) × Trails at start h noted after
     × (read ≡ quoted_read single start value (mark_of h) noted)
 TailReads single at start value h (Err f) = WrongBehind single at start h f.kind f.mark
@@ -78,7 +79,7 @@ trailing : (single : Bool) (at : LayoutData) (start : Mark) (h : Here) (blanks r
 trailing single at start h blanks rest p n prints y true s = trailing_single blanks rest s p n prints y
 trailing single at start h blanks rest p n prints y false s = trailing_double blanks rest s p n prints y
 
-module _ (single : Bool) (at : LayoutData) (start : Mark) (value : List ℕ) (h : Here) (blanks rest : List ℕ)
+module _ (single : Bool) (at : LayoutData) (start : Mark) (value : Written) (h : Here) (blanks rest : List ℕ)
     (p : BlanksBehind h blanks rest) (n : starts_comment rest ≡ false) where
   abbrev pub past_here : Here
   past_here = over blanks h
@@ -132,7 +133,7 @@ module _ (single : Bool) (at : LayoutData) (start : Mark) (value : List ℕ) (h 
   unfolding behind_quoted
   behind_reads = some_if (text_len past_here == 0) refl
 
-with_comment : (single : Bool) (at : LayoutData) (start : Mark) (value : List ℕ) (h : Here) (b : ℕ)
+with_comment : (single : Bool) (at : LayoutData) (start : Mark) (value : Written) (h : Here) (b : ℕ)
     (blanks rest : List ℕ) → BlanksBehind h (b ∷ blanks) rest → starts_comment rest ≡ true
     → (r : Result (CommentRead × Here) Fault) → ReadsComment (over (b ∷ blanks) h) r
     → TailReads single at start value h (r >>= λ x. Ok
@@ -141,7 +142,7 @@ with_comment single at start value h b blanks rest p y (Ok (c, after)) read =
     (asked_comment at c, trails_comment b blanks rest c p y read refl, refl)
 with_comment single at start value h b blanks rest p y (Err f) read = wrong_comment b blanks rest p read
 
-comment_if : (single : Bool) (at : LayoutData) (start : Mark) (value : List ℕ) (h : Here)
+comment_if : (single : Bool) (at : LayoutData) (start : Mark) (value : Written) (h : Here)
     → (next_char h == 0x23) ≡ false → (blanks rest : List ℕ) → BlanksBehind h blanks rest → (b : Bool)
     → (next_char (over blanks h) == 0x23) ≡ b
     → TailReads single at start value h (if b then
@@ -156,7 +157,7 @@ comment_if single at start value h n (b ∷ blanks) rest p true y =
 comment_if single at start value h n blanks rest p false y = behind_reads single at start value h blanks rest p
     (ap (λ (t : List ℕ). first t == 0x23) (sym (over_text blanks rest h p.whole)) ∙ y)
 
-touching_if : (single : Bool) (at : LayoutData) (start : Mark) (value : List ℕ) (h : Here) (blanks rest : List ℕ)
+touching_if : (single : Bool) (at : LayoutData) (start : Mark) (value : Written) (h : Here) (blanks rest : List ℕ)
     → BlanksBehind h blanks rest → (b : Bool) → (next_char h == 0x23) ≡ b
     → TailReads single at start value h (if b then fails_at CommentNotSeparated (mark_of h)
     else if next_char (over blanks h) == 0x23 then
@@ -167,7 +168,7 @@ touching_if single at start value h blanks rest p false y =
     comment_if single at start value h y blanks rest p (next_char (over blanks h) == 0x23) refl
 
 -- what is read behind a closing quote may stand there, or is wrong
-pub tail_reads : (single : Bool) (at : LayoutData) (start : Mark) (value : List ℕ) (h : Here)
+pub tail_reads : (single : Bool) (at : LayoutData) (start : Mark) (value : Written) (h : Here)
     → TailReads single at start value h (quoted_tail single at start value h)
 unfolding quoted_tail
 tail_reads single at start value h =
@@ -186,7 +187,7 @@ pub blank_no_hash : (b : ℕ) → is_blank b ≡ true → (b == 0x23) ≡ false
 unfolding is_blank
 blank_no_hash b y = grind (arith, nat_tests)
 
-pub tail_past : (single : Bool) (at : LayoutData) (start : Mark) (value : List ℕ) (h : Here) (blanks rest : List ℕ)
+pub tail_past : (single : Bool) (at : LayoutData) (start : Mark) (value : Written) (h : Here) (blanks rest : List ℕ)
     → BlanksBehind h blanks rest → (next_char h == 0x23) ≡ false
     → quoted_tail single at start value h ≡ (if next_char (over blanks h) == 0x23 then
     (comment (over blanks h) >>= λ x. Ok (quoted_read single start value (mark_of h) (asked_comment at x.0), x.1))
@@ -203,27 +204,27 @@ pub no_hash : (h : Here) (blanks rest : List ℕ) → BlanksBehind h blanks rest
 no_hash h [] rest p n = ap (λ (t : List ℕ). first t == 0x23) p.whole ∙ n
 no_hash h (b ∷ blanks) rest p n = ap (λ (t : List ℕ). first t == 0x23) p.whole ∙ blank_no_hash b p.each.0
 
-abbrev behind_chain : Bool → Mark → List ℕ → Mark → Here → (a b c : Bool) → Result (QuotedRead × Here) Fault
+abbrev behind_chain : Bool → Mark → Written → Mark → Here → (a b c : Bool) → Result (QuotedRead × Here) Fault
 behind_chain single start value e h a b c =
     if a then Ok (quoted_read single start value e None, h) else if not b then fails_at
     (UnexpectedCharacter (next_char h)) (mark_of h) else if c then Ok (quoted_read single start value e None, h)
     else fails_at (trailing_kind single) (mark_of h)
 
-behind_if : (single : Bool) (start : Mark) (value : List ℕ) (e : Mark) (h : Here) (a b c : Bool)
+behind_if : (single : Bool) (start : Mark) (value : Written) (e : Mark) (h : Here) (a b c : Bool)
     → (a || (b && c)) ≡ true → behind_chain single start value e h a b c ≡ Ok (quoted_read single start value e None, h)
 behind_if single start value e h true b c y = refl
 behind_if single start value e h false true true y = refl
 behind_if single start value e h false true false y = absurd cc
 behind_if single start value e h false false c y = absurd cc
 
-behind_answers : (single : Bool) (at : LayoutData) (start : Mark) (value : List ℕ) (e : Mark) (h : Here)
+behind_answers : (single : Bool) (at : LayoutData) (start : Mark) (value : Written) (e : Mark) (h : Here)
     → ends_quoted at start h ≡ true
     → behind_quoted single at start value e h ≡ Ok (quoted_read single start value e None, h)
 unfolding behind_quoted
 behind_answers single at start value e h y = behind_if single start value e h (text_len h == 0)
     (is_printable (next_char h)) (may_trail at (h.place.line == start.place.line) (next_char h)) y
 
-pub tail_answers : (single : Bool) (at : LayoutData) (start : Mark) (value : List ℕ) (h : Here)
+pub tail_answers : (single : Bool) (at : LayoutData) (start : Mark) (value : Written) (h : Here)
     (noted : Option CommentRead) (after : Here) → Trails at start h noted after
     → quoted_tail single at start value h ≡ Ok (quoted_read single start value (mark_of h) noted, after)
 tail_answers single at start value h noted after (trails_comment b blanks rest c p y stands is) =

@@ -9,13 +9,18 @@ use Rattle.granit_lexemes.specs.Folding.{before_lines, lines_of}
 use Rattle.granit_lexemes.specs.Here.{Here, text_len, next_char, begins_behind, tab_behind, step}
 use Rattle.granit_lexemes.specs.PlainExtent.{UpToBreak, at_break, before_break, over}
 use Rattle.granit_lexemes.specs.Basics.{past_break}
-use Rattle.granit_lexemes.proofs.HereLemmas.{not_empty, step_text, step_len, no_line_end}
+use Rattle.granit_lexemes.proofs.HereLemmas.{not_empty, step_text, step_len, step_lends, no_line_end}
 use Rattle.granit_scalars.proofs.Folding.{IsBreak}
 use Rattle.granit_scalars.proofs.PlainSpelling.{break_gap}
 
 pub over-append : (a b : List ℕ) (h : Here) → over (a ++ b) h ≡ over b (over a h)
 over-append [] b h = refl
 over-append (c ∷ a) b h = over-append a b (step h)
+
+-- what follows is lent where this is
+pub over_lends : (cs : List ℕ) (h : Here) → (over cs h).unread.lends ≡ h.unread.lends
+over_lends [] h = refl
+over_lends (c ∷ cs) h = over_lends cs (step h) ∙ step_lends h
 
 -- a character that is there, and what stands behind it
 pub record Seen (h : Here) : Type 0 where

@@ -8,7 +8,8 @@ ghost use Rattle.granit_lexemes.specs.Here.{Here, next_char};
 ghost use Rattle.granit_lexemes.specs.LayoutData.{LayoutData};
 ghost use Rattle.granit_lexemes.specs.Outcome.{Fault, fault_at};
 ghost use Rattle.granit_lexemes.specs.QuotedExtent.{AnswersQuoted, Between, QuotedStands, RefusesQuoted};
-ghost use Rattle.granit_lexemes.specs.QuotedExtent.{is_simple, quoted_value};
+ghost use Rattle.granit_lexemes.specs.QuotedExtent.{quoted_value};
+ghost use Rattle.granit_lexemes.specs.QuotedScalar.{is_simple};
 ghost use Rattle.granit_lexemes.specs.QuotedScalar.{QuotedRead, quote_char, quoted_scalar};
 
 /// Where its quote stands, an answer is the quoted scalar that stands there up to its closing quote, with

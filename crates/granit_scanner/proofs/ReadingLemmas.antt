@@ -13,9 +13,10 @@ use Rattle.granit_machine.specs.Laid.{Laid}
 use Rattle.granit_machine.specs.Lexing.{FlaggedItem}
 use Rattle.granit_machine.specs.Machine.{settled}
 use Rattle.granit_machine.specs.Reader.{LexState, lex_turn}
-use Rattle.granit_reader.specs.Reads.{IsAt, reader_at}
+use Rattle.granit_content.specs.Reads.{IsAt}
+use Rattle.granit_reader.specs.Reads.{reader_at}
 use Rattle.granit_reader.specs.Turns.{TurnTo, before_turn}
-use Rattle.granit_reader.proofs.CodedLemmas.{coded_back}
+use Rattle.granit_content.proofs.CodedLemmas.{coded_back}
 use Rattle.granit_scanner.specs.Scans.{Scanning, Known, KnownBy, ReadsOn, TakesRead, front_goes, is_done, may_front_go}
 use Rattle.granit_scanner.specs.Scans.{wants_memory}
 use Rattle.granit_scanner.proofs.KnownLemmas.{known_goes, no_fault}

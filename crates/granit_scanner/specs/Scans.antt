@@ -16,7 +16,7 @@ use Rattle.granit_machine.specs.Machine.{is_settled, settled}
 use Rattle.granit_machine.specs.Parser.{line_of_item, next_line}
 use Rattle.granit_machine.specs.Reader.{LexState, lex_turn}
 use Rattle.granit_queue.specs.QueueViews.{queued_view}
-use Rattle.granit_reader.specs.Reads.{IsAt}
+use Rattle.granit_content.specs.Reads.{IsAt}
 use Rattle.granit_scanner.specs.declared.scanner.Front.{Front}
 use Rattle.granit_steps.specs.Steps.{asks_next, free_items, incoming, is_next_settled, items_of, line_behind, may_go}
 use Rattle.granit_steps.specs.Steps.{pushed}

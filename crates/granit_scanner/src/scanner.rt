@@ -1,9 +1,11 @@
 //! Items in order, each as soon as nothing behind it can change what it is.
-ghost use Rattle.std.specs.Prelude.{◌≡◌, true, false, [], drop, take, None, Some, slice_get, OnOk};
+ghost use Rattle.std.specs.Prelude.{◌≡◌, ◌≤◌, true, false, [], drop, take, None, Some, slice_get, OnOk};
 ghost use Rattle.std.specs.Option.{option_map};
 ghost use Rattle.granit_base.specs.Place.{Unread};
-ghost use Rattle.granit_cursor.specs.Reading.{Moves, Stands};
+ghost use Rattle.granit_cursor.specs.Reading.{GoesTo, Moves, Stands};
+ghost use Rattle.granit_error.specs.Kinds.{kind_of};
 ghost use Rattle.granit_error.specs.OptionsView.{options_of};
+ghost use Rattle.granit_input.specs.Origin.{after_giving, error_given};
 ghost use Rattle.granit_items.specs.ItemViews.{found_items, item_view};
 ghost use Rattle.granit_lexemes.specs.Here.{Here, first_place, mark_of};
 ghost use Rattle.granit_machine.specs.Laid.{laid_start};
@@ -166,6 +168,18 @@ impl<'input, T: BorrowedInput<'input>> Scanner<'input, T> {
     {
         self.ended = true;
         self.fault.take()
+    }
+
+    /// The first error that the input's source gave, once; reading stands where it stood.
+    pub fn take_source_error(&mut self) -> Option<ErrorKind>
+        ensures given { option_map kind_of result ≡ error_given (T.origin self.old.cursor.input) }
+        ensures known { (l : LexState) (q : _) → Known T.unread self.old l q → Known T.unread self.new l q }
+        ensures here { GoesTo T.unread self.old.cursor self.new.cursor (λ h. h) }
+        ensures rest { self.new ≡ record self.old { cursor = self.new.cursor } }
+        ensures left { T.left self.new.cursor.input ≤ T.left self.old.cursor.input }
+        ensures origin { T.origin self.new.cursor.input ≡ after_giving (T.origin self.old.cursor.input) }
+    {
+        self.cursor.take_source_error()
     }
 }
 

@@ -1,16 +1,15 @@
 use Rattle.std.proofs.Common.{◌≡◌}
-use Rattle.granit_lexemes.specs.Here.{Here, mark_of}
-use Rattle.granit_lexemes.specs.PlainScalar.{plain_start}
-use Rattle.granit_lex.specs.PlainCode.{plain_rest, plain_whole}
+use Rattle.granit_lexemes.specs.Here.{Here}
+use Rattle.granit_lex.specs.PlainCode.{plain_whole}
 use Rattle.granit_cursor.specs.Reading.{Stands, Moves}
 use Rattle.granit_cursor.specs.Tokens.{layout_data}
 use Rattle.granit_lex.proofs.plain.plain_parts.Given as goal
 
 abbrev pub invariant-turns : goal.invariant-turns
 invariant-turns g l = record {
-  told : (h : Here) → Stands g.T.Input.unread l.fn.cursor h → l.start ≡ mark_of h
+  told : (h : Here) → Stands g.T.Input.unread l.fn.cursor h
       → (now : Here) × Stands g.T.Input.unread l.cursor now
-      × (plain_whole (layout_data l.at) l.start l.parts now ≡ plain_rest (layout_data l.at) l.start (plain_start h));
+      × (plain_whole (layout_data l.at) l.start l.parts now ≡ plain_whole (layout_data l.at) l.start l.fn.parts h);
   moves : Moves g.T.Input.left g.T.Input.origin l.fn.cursor l.cursor;
 }
 

@@ -1,6 +1,5 @@
-use Rattle.std.proofs.Common.{◌≡◌, false}
+use Rattle.std.proofs.Common.{◌≡◌}
 use Rattle.granit_lexemes.specs.Here.{Here}
-use Rattle.granit_lexemes.specs.QuotedScalar.{quoted_at, quoted_rest}
 use Rattle.granit_lex.specs.QuotedCode.{quoted_whole}
 use Rattle.granit_cursor.specs.Reading.{Stands, Moves}
 use Rattle.granit_cursor.specs.Tokens.{layout_data}
@@ -11,7 +10,7 @@ invariant-turns g l = record {
   told : (h : Here) → Stands g.T.Input.unread l.fn.cursor h
       → (now : Here) × Stands g.T.Input.unread l.cursor now
       × (quoted_whole l.single (layout_data l.at) l.start l.parts now
-      ≡ quoted_rest l.single (layout_data l.at) l.start (quoted_at false h));
+      ≡ quoted_whole l.single (layout_data l.at) l.start l.fn.parts h);
   moves : Moves g.T.Input.left g.T.Input.origin l.fn.cursor l.cursor;
 }
 

@@ -1,18 +1,27 @@
-use Rattle.std.proofs.Common.{ap, ◌∙◌}
-use Rattle.granit_base.specs.Written.{string_chars}
+use Rattle.std.proofs.lemmas.Str.{chars-nil}
 use Rattle.granit_lexemes.specs.Here.{step}
-use Rattle.granit_lex.specs.QuotedCode.{quoted_state}
+use Rattle.granit_lexemes.specs.Moves.{steps}
+use Rattle.granit_scalars.proofs.Comments.{steps_text}
 use Rattle.granit_cursor.specs.Tokens.{layout_data}
-use Rattle.granit_lex.specs.Taken.{QuotedTaken}
-use Rattle.granit_lex.proofs.QuotedLemmas.{scalar_is}
+use Rattle.granit_lex.proofs.KeptLemmas.{passed_is, copied_is}
 use Rattle.granit_lex.proofs.quoted.read_quoted.Goals as goal
 
-pub returns-clause-here : goal.returns-clause-here
-returns-clause-here g c = λ h k.
-    let start = c.mark-start.ensures.here h k in
-    let read = c.in_ok-parts.ensures.here (step h) (c.step.ensures.here h k) in
-    let closed = c.step-2.ensures.here read.0 read.1 in
-    let grown = ap (λ (p : QuotedTaken). p.value) c.parts.view_is ∙ c.in_ok-push_between.ensures.value read.0 in
-    rw (scalar_is c.args.single (layout_data c.args.at.now) h c.mark-start.result c.in_ok-parts.parts.value
-    (string_chars c.parts.inside.value) (quoted_state c.in_ok-parts.parts read.0) start read.2 grown)
-    (c.quoted_tail.ensures.here (step read.0) closed)
+pub returns-in-Ok-Some-clause-here : goal.returns-in-Ok-Some-clause-here
+returns-in-Ok-Some-clause-here g c = λ h k.
+    let passed = rw c.in-Ok-Some.field-0-is at (c.in-Ok-Some.ensures.here (step h)
+    (c.step.ensures.here h k)) in
+    let n = passed.0 in
+    rw (passed_is c.args.single (layout_data c.args.at.now) h c.mark-start.result n (c.mark-start.ensures.here h k)
+    passed.1 (steps_text n (step h)) passed.3)
+    (rw passed.4 at (c.read_passed.ensures.here (steps n (step h)) passed.2))
+
+pub returns-in-Ok-None-clause-here : goal.returns-in-Ok-None-clause-here
+returns-in-Ok-None-clause-here g c = λ h k.
+    let passed = rw c.in-Ok-None.field-0-is at (c.in-Ok-None.ensures.here (step h)
+    (c.step.ensures.here h k)) in
+    rw (copied_is c.args.single (layout_data c.args.at.now) h c.mark-start.result (c.mark-start.ensures.here h k)
+    passed.0)
+    (rw chars-nil at (c.read_copied.ensures.here (step h) passed.1))
+
+pub returns-in-Err-clause-here : goal.returns-in-Err-clause-here
+returns-in-Err-clause-here g c = λ h k. absurd (c.in-Err.ensures.here (step h) (c.step.ensures.here h k))

@@ -222,3 +222,59 @@ unfolding encode chars is_z is_break is_breakz is_blank is_blank_or_breakz is_di
     past steps turns pieces escaped_byte bytes_behind trailing_bytes uri_turn version_number minor_number handle_by
     handle_at prefix_at parameter_behind directive_of directive_at
 returns-clause-wrong_char c = refl
+
+pub returns-clause-blank_over : goal.returns-clause-blank_over
+unfolding encode chars is_z is_break is_breakz is_blank is_blank_or_breakz is_digit is_hex hex_value is_word_char
+    is_alpha is_flow is_bom is_printable is_yaml_non_break is_yaml_non_space is_uri_sign is_uri_char is_tag_char step
+    past steps turns pieces escaped_byte bytes_behind trailing_bytes uri_turn version_number minor_number handle_by
+    handle_at prefix_at parameter_behind directive_of directive_at
+returns-clause-blank_over c = refl
+
+pub returns-clause-blank_within : goal.returns-clause-blank_within
+unfolding encode chars is_z is_break is_breakz is_blank is_blank_or_breakz is_digit is_hex hex_value is_word_char
+    is_alpha is_flow is_bom is_printable is_yaml_non_break is_yaml_non_space is_uri_sign is_uri_char is_tag_char step
+    past steps turns pieces escaped_byte bytes_behind trailing_bytes uri_turn version_number minor_number handle_by
+    handle_at prefix_at parameter_behind directive_of directive_at
+returns-clause-blank_within c = refl
+
+pub returns-clause-word_over : goal.returns-clause-word_over
+unfolding encode chars is_z is_break is_breakz is_blank is_blank_or_breakz is_digit is_hex hex_value is_word_char
+    is_alpha is_flow is_bom is_printable is_yaml_non_break is_yaml_non_space is_uri_sign is_uri_char is_tag_char step
+    past steps turns pieces escaped_byte bytes_behind trailing_bytes uri_turn version_number minor_number handle_by
+    handle_at prefix_at parameter_behind directive_of directive_at
+returns-clause-word_over c = refl
+
+pub returns-clause-word_within : goal.returns-clause-word_within
+unfolding encode chars is_z is_break is_breakz is_blank is_blank_or_breakz is_digit is_hex hex_value is_word_char
+    is_alpha is_flow is_bom is_printable is_yaml_non_break is_yaml_non_space is_uri_sign is_uri_char is_tag_char step
+    past steps turns pieces escaped_byte bytes_behind trailing_bytes uri_turn version_number minor_number handle_by
+    handle_at prefix_at parameter_behind directive_of directive_at
+returns-clause-word_within c = refl
+
+pub returns-clause-sign_over : goal.returns-clause-sign_over
+unfolding encode chars is_z is_break is_breakz is_blank is_blank_or_breakz is_digit is_hex hex_value is_word_char
+    is_alpha is_flow is_bom is_printable is_yaml_non_break is_yaml_non_space is_uri_sign is_uri_char is_tag_char step
+    past steps turns pieces escaped_byte bytes_behind trailing_bytes uri_turn version_number minor_number handle_by
+    handle_at prefix_at parameter_behind directive_of directive_at
+returns-clause-sign_over c = refl
+
+pub returns-clause-sign_within : goal.returns-clause-sign_within
+unfolding encode chars is_z is_break is_breakz is_blank is_blank_or_breakz is_digit is_hex hex_value is_word_char
+    is_alpha is_flow is_bom is_printable is_yaml_non_break is_yaml_non_space is_uri_sign is_uri_char is_tag_char step
+    past steps turns pieces escaped_byte bytes_behind trailing_bytes uri_turn version_number minor_number handle_by
+    handle_at prefix_at parameter_behind directive_of directive_at
+returns-clause-sign_within c = refl
+
+pub returns-clause-trail_over : goal.returns-clause-trail_over
+unfolding encode chars is_z is_break is_breakz is_blank is_blank_or_breakz is_digit is_hex hex_value is_word_char
+    is_alpha is_flow is_bom is_printable is_yaml_non_break is_yaml_non_space is_uri_sign is_uri_char is_tag_char step
+    past steps turns pieces escaped_byte bytes_behind trailing_bytes uri_turn version_number minor_number handle_by
+    handle_at prefix_at parameter_behind directive_of directive_at
+returns-clause-trail_over c = refl
+
+pub returns-clause-trail_within : goal.returns-clause-trail_within
+unfolding encode chars is_z is_break is_breakz is_blank is_blank_or_breakz is_digit is_hex hex_value is_word_char
+    is_alpha is_flow is_bom is_printable is_yaml_non_break is_yaml_non_space is_uri_sign is_uri_char is_tag_char step
+    past steps turns pieces escaped_byte bytes_behind trailing_bytes uri_turn version_number minor_number handle_by
+    handle_at prefix_at parameter_behind directive_of directive_at
+returns-clause-trail_within c = refl

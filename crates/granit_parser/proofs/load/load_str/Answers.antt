@@ -2,7 +2,7 @@ use Rattle.std.specs.Str.{chars}
 use Rattle.granit_error.specs.OptionsView.{options_of}
 use Rattle.granit_event.specs.Events.{plain_events}
 use Rattle.granit_parser.proofs.LoadLemmas.{reading_of, spans_of, stream_of, answered_of, cause_of, refused_of}
-use Rattle.granit_parser.proofs.LoadLemmas.{canonical_of, stopped_of, unread_of}
+use Rattle.granit_parser.proofs.LoadLemmas.{canonical_of, comments_of, json_of, uncommented_of}
 use Rattle.granit_parser.proofs.load.load_str.Goals as goal
 
 pub returns-clause-reading : goal.returns-clause-reading
@@ -29,14 +29,18 @@ pub returns-clause-refused : goal.returns-clause-refused
 returns-clause-refused c = refused_of plain_events (options_of c.args.options) (chars c.args.text.now) c.load.result
     c.load.ensures
 
-pub returns-clause-unread : goal.returns-clause-unread
-returns-clause-unread c = unread_of plain_events (options_of c.args.options) (chars c.args.text.now) c.load.result
-    c.load.ensures
-
-pub returns-clause-stopped : goal.returns-clause-stopped
-returns-clause-stopped c = stopped_of plain_events (options_of c.args.options) (chars c.args.text.now) c.load.result
-    c.load.ensures
-
 pub returns-clause-canonical : goal.returns-clause-canonical
 returns-clause-canonical c = canonical_of plain_events (options_of c.args.options) (chars c.args.text.now) c.load.result
+    c.load.ensures
+
+pub returns-clause-comments : goal.returns-clause-comments
+returns-clause-comments c = comments_of plain_events (options_of c.args.options) (chars c.args.text.now) c.load.result
+    c.load.ensures
+
+pub returns-clause-uncommented : goal.returns-clause-uncommented
+returns-clause-uncommented c = uncommented_of plain_events (options_of c.args.options) (chars c.args.text.now)
+    c.load.result c.load.ensures
+
+pub returns-clause-json : goal.returns-clause-json
+returns-clause-json c = json_of plain_events (options_of c.args.options) (chars c.args.text.now) c.load.result
     c.load.ensures

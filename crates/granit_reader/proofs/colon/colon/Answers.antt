@@ -7,8 +7,8 @@ use Rattle.granit_lexemes.specs.Lexeme.{Lexeme}
 use Rattle.granit_machine.specs.PossibleKeys.{top_key}
 use Rattle.granit_machine.specs.ReaderState.{Read, with_tail}
 use Rattle.granit_items.specs.ItemViews.{alone, lexeme_view}
-use Rattle.granit_reader.specs.Reads.{IsAt, noted, tail_view}
-use Rattle.granit_reader.proofs.CodedLemmas.{gives_lands}
+use Rattle.granit_content.specs.Reads.{IsAt, noted, tail_view}
+use Rattle.granit_content.proofs.CodedLemmas.{gives_lands}
 use Rattle.granit_reader.proofs.IndicatorLemmas.{colon_tailed, colon_fails, colon_same}
 use Rattle.granit_reader.proofs.colon.colon.Goals as goal
 

@@ -6,7 +6,7 @@ use Rattle.granit_machine.specs.ReaderState.{Read}
 use Rattle.granit_steps.specs.Steps.{incoming}
 use Rattle.granit_cursor.specs.Reading.{GivesTo, coded}
 use Rattle.granit_items.specs.ItemViews.{alone}
-use Rattle.granit_reader.specs.Reads.{IsAt}
+use Rattle.granit_content.specs.Reads.{IsAt}
 use Rattle.granit_reader.proofs.FlowLemmas.{closer_read, closer_other, same_tailed}
 use Rattle.granit_reader.proofs.flow.closer.Goals as goal
 

@@ -5,7 +5,7 @@ use Rattle.granit_machine.specs.Gaps.{past_gap}
 use Rattle.granit_machine.specs.ReaderState.{Read}
 use Rattle.granit_steps.specs.Steps.{incoming}
 use Rattle.granit_items.specs.ItemViews.{alone, lexeme_view}
-use Rattle.granit_reader.specs.Reads.{IsAt}
+use Rattle.granit_content.specs.Reads.{IsAt}
 use Rattle.granit_reader.proofs.IndicatorLemmas.{question_behind}
 use Rattle.granit_reader.proofs.indicators.behind_question.Goals as goal
 

@@ -8,7 +8,7 @@ use Rattle.granit_machine.specs.IndicatorLexemes.{dash_up_to}
 use Rattle.granit_machine.specs.ReaderState.{Read}
 use Rattle.granit_steps.specs.Steps.{incoming}
 use Rattle.granit_items.specs.ItemViews.{alone}
-use Rattle.granit_reader.specs.Reads.{IsAt}
+use Rattle.granit_content.specs.Reads.{IsAt}
 use Rattle.granit_reader.proofs.IndicatorLemmas.{dash_entered}
 use Rattle.granit_reader.proofs.indicators.dash.Goals as goal
 

@@ -3,7 +3,7 @@ use Rattle.std.proofs.lemmas.Result.{err_from_is_err_and}
 use Rattle.granit_cursor.specs.Reading.{GivesTo}
 use Rattle.granit_machine.specs.ReaderState.{Read}
 use Rattle.granit_items.specs.ItemViews.{alone, lexeme_view}
-use Rattle.granit_reader.specs.Reads.{IsAt, tail_view}
+use Rattle.granit_content.specs.Reads.{IsAt, tail_view}
 use Rattle.granit_reader.proofs.IndicatorLemmas.{dash_tailed, dash_fails}
 use Rattle.granit_reader.proofs.indicators.dash_up_to.Goals as goal
 

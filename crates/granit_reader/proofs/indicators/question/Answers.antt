@@ -9,9 +9,9 @@ use Rattle.granit_machine.specs.ReaderState.{Read, sign_lexeme}
 use Rattle.granit_steps.specs.Steps.{incoming}
 use Rattle.granit_reader.specs.IndicatorReads.{question_from}
 use Rattle.granit_items.specs.ItemViews.{alone}
-use Rattle.granit_reader.specs.Reads.{IsAt}
+use Rattle.granit_content.specs.Reads.{IsAt}
 use Rattle.granit_reader.proofs.IndicatorLemmas.{question_entered, question_in_flow}
-use Rattle.granit_reader.proofs.ItemLemmas.{read_untailed}
+use Rattle.granit_content.proofs.ItemLemmas.{read_untailed}
 use Rattle.granit_reader.proofs.indicators.question.Goals as goal
 
 pub returns-then-is_in_flow-clause-here : goal.returns-then-is_in_flow-clause-here

@@ -3,7 +3,7 @@ use Rattle.std.proofs.lemmas.Bool.Decides.{nat_tests}
 use Rattle.granit_error.specs.OptionsView.{options_of}
 use Rattle.granit_lexemes.specs.Here.{next_char}
 use Rattle.granit_items.specs.ItemViews.{lexeme_view}
-use Rattle.granit_reader.specs.Reads.{tail_view}
+use Rattle.granit_content.specs.Reads.{tail_view}
 use Rattle.granit_reader.proofs.IndicatorLemmas.{question_with_note, question_ready}
 use Rattle.granit_reader.proofs.indicators.question_up_to.Goals as goal
 

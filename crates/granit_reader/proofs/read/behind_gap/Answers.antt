@@ -1,7 +1,8 @@
 use Rattle.std.proofs.Common.{◌∙◌, refl, sym, ap}
 use Rattle.granit_error.specs.OptionsView.{options_of}
 use Rattle.granit_items.specs.ItemViews.{note_view}
-use Rattle.granit_reader.specs.Reads.{reader_at, tail_view}
+use Rattle.granit_content.specs.Reads.{tail_view}
+use Rattle.granit_reader.specs.Reads.{reader_at}
 use Rattle.granit_reader.proofs.ReadLemmas.{note_passed, note_kept}
 use Rattle.granit_reader.proofs.read.behind_gap.Goals as goal
 

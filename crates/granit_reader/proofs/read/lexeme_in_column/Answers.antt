@@ -6,7 +6,7 @@ use Rattle.granit_machine.specs.ReaderState.{Read}
 use Rattle.granit_steps.specs.Steps.{incoming}
 use Rattle.granit_cursor.specs.Reading.{GivesTo, coded}
 use Rattle.granit_items.specs.ItemViews.{found_items}
-use Rattle.granit_reader.specs.Reads.{IsAt}
+use Rattle.granit_content.specs.Reads.{IsAt}
 use Rattle.granit_reader.specs.SortViews.{placed_view}
 use Rattle.granit_reader.proofs.ReadLemmas.{placed_read}
 use Rattle.granit_reader.proofs.read.lexeme_in_column.Goals as goal

@@ -10,8 +10,9 @@ use Rattle.granit_machine.specs.Reader.{read_behind}
 use Rattle.granit_steps.specs.Steps.{incoming}
 use Rattle.granit_cursor.specs.Reading.{coded}
 use Rattle.granit_items.specs.ItemViews.{found_items}
-use Rattle.granit_reader.specs.Reads.{reader_at, seen, tail_view}
-use Rattle.granit_reader.proofs.CodedLemmas.{coded_back, coded_fails}
+use Rattle.granit_content.specs.Reads.{seen, tail_view}
+use Rattle.granit_reader.specs.Reads.{reader_at}
+use Rattle.granit_content.proofs.CodedLemmas.{coded_back, coded_fails}
 use Rattle.granit_reader.proofs.ReadLemmas.{read_given, gap_refused, behind_refused, stale_refused}
 use Rattle.granit_reader.proofs.read.read.Goals as goal
 

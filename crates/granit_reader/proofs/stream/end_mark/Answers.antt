@@ -3,7 +3,7 @@ use Rattle.std.proofs.lemmas.Result.{err_from_is_err_and}
 use Rattle.granit_lexemes.specs.Lexeme.{Lexeme}
 use Rattle.granit_lexemes.specs.Moves.{steps}
 use Rattle.granit_machine.specs.ReaderState.{with_tail}
-use Rattle.granit_reader.specs.Reads.{noted, tail_view}
+use Rattle.granit_content.specs.Reads.{noted, tail_view}
 use Rattle.granit_reader.proofs.StreamLemmas.{mark_seen}
 use Rattle.granit_reader.proofs.stream.end_mark.Goals as goal
 

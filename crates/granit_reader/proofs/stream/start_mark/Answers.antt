@@ -3,7 +3,7 @@ use Rattle.granit_lexemes.specs.Here.{mark_of}
 use Rattle.granit_lexemes.specs.Lexeme.{DocumentStart}
 use Rattle.granit_lexemes.specs.Moves.{steps}
 use Rattle.granit_machine.specs.ReaderState.{lexeme_to}
-use Rattle.granit_reader.proofs.ItemLemmas.{read_untailed}
+use Rattle.granit_content.proofs.ItemLemmas.{read_untailed}
 use Rattle.granit_reader.proofs.stream.start_mark.Goals as goal
 
 pub returns-clause-here : goal.returns-clause-here

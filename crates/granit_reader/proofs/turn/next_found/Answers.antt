@@ -6,7 +6,7 @@ use Rattle.granit_steps.specs.Steps.{incoming}
 use Rattle.granit_items.specs.ItemViews.{found_items}
 use Rattle.granit_reader.specs.Reads.{reader_at}
 use Rattle.granit_reader.specs.Turns.{before_turn}
-use Rattle.granit_reader.proofs.CodedLemmas.{coded_back, coded_fails}
+use Rattle.granit_content.proofs.CodedLemmas.{coded_back, coded_fails}
 use Rattle.granit_reader.proofs.TurnLemmas.{turn_given, turn_refused, turn_ended}
 use Rattle.granit_reader.proofs.turn.next_found.Goals as goal
 

@@ -52,7 +52,7 @@ use Rattle.granit_lexemes.specs.Outcome.{fault_at}
 use Rattle.granit_machine.specs.ReaderState.{reader_start}
 use Rattle.std.specs.Prelude.{codes, [], ◌∷◌, ◌++◌}
 use Rattle.granit_reading.proofs.ReadingLaw.{refusal_caused}
-use Rattle.granit_reading.proofs.Refused.{well_read}
+use Rattle.granit_reading.proofs.Misspelt.{well_read}
 use Rattle.granit_reading.proofs.examples.causes_of_the_examples.Goals as goal
 
 pub returns-clause-closer : goal.returns-clause-closer

@@ -1,0 +1,137 @@
+-- A cause of a text is a declared one.
+use Rattle.std.proofs.Common.{◌≡◌, ℕ, Bool, true, false, List, [], map, inl, inr, sym, subst}
+use Rattle.granit_error.specs.OptionsData.{OptionsData}
+use Rattle.granit_language.specs.Reached.{ReadWhole}
+use Rattle.granit_language.specs.Seen.{Flagged, terminal_seen, lexemes_flagged}
+use Rattle.granit_language.specs.TextFault.{SettledFront, ItemsBefore, OfLexemes, to_end, before_stop}
+use Rattle.granit_language.specs.TextFault.{OfReading, OfComments, WholeCause}
+use Rattle.granit_language.specs.Whole.{WholeFault}
+use Rattle.granit_lexemes.specs.Here.{start_of}
+use Rattle.granit_lexemes.specs.Lexeme.{Item}
+use Rattle.granit_lexemes.specs.Outcome.{Fault}
+use Rattle.granit_machine.specs.Laid.{Laid}
+use Rattle.granit_machine.specs.Lexing.{FlaggedItem, flagged}
+use Rattle.granit_machine.specs.ReaderState.{ReaderState, reader_start}
+use Rattle.granit_reading.proofs.ReadingLaw.{lexed}
+use Rattle.granit_reading.proofs.WholeLaw.{all_read_whole}
+use Rattle.granit_before.proofs.KeyFlags.{items_same, flags_said}
+use Rattle.granit_before.proofs.ReadingSaid.{flags_once}
+use Rattle.granit_before.specs.DeclaredCause.{AllItems, NoneAmong, LexemesCause, at_end, at_stop, ReadingCause}
+use Rattle.granit_before.specs.DeclaredCause.{CommentsCause, DeclaredCause}
+use Rattle.granit_before.specs.KeyBegins.{items_of, FlagsSay}
+
+-- ---- all items of a text are flagged as their flags say
+
+whole_flags : (o : OptionsData) (x : List ℕ) (items : List Item) (ended : Bool) (s : ReaderState) →
+    ReadWhole o (reader_start (start_of x)) items ended s → FlagsSay o x [] (flagged items)
+whole_flags o x items ended s w =
+    let r = all_read_whole o (start_of x) items ended s w in
+    flags_said o x items r.0.reader (lexed o (start_of x) items r.0 r.1).reached
+
+all_flagged : (o : OptionsData) (x : List ℕ) (items : List Item) (ended : Bool) (s : ReaderState) →
+    ReadWhole o (reader_start (start_of x)) items ended s → AllItems o x (flagged items) ended s
+all_flagged o x items ended s w = record {
+  stand =
+      subst (λ (is : List Item). ReadWhole o (reader_start (start_of x)) is ended s) (sym (items_same items)) w;
+  flags = whole_flags o x items ended s w;
+}
+
+same_flags : (o : OptionsData) (x : List ℕ) (items : List FlaggedItem) (ended : Bool) (s : ReaderState) →
+    AllItems o x items ended s → flagged (items_of items) ≡ items
+same_flags o x items ended s a =
+    flags_once o x [] (flagged (items_of items)) items (items_same (items_of items))
+    (whole_flags o x (items_of items) ended s a.stand) a.flags
+
+none_as : (o : OptionsData) (ended : Bool) (l : Laid) {fs gs : List FlaggedItem} → fs ≡ gs → NoneAmong o ended l gs →
+    NoneAmong o ended l fs
+none_as o ended l e n = subst (NoneAmong o ended l) (sym e) n
+
+front_as : (l : Laid) {fs gs : List FlaggedItem} {front : List Flagged} → fs ≡ gs →
+    SettledFront l (lexemes_flagged gs) front → SettledFront l (lexemes_flagged fs) front
+front_as l {front = front} e s = subst (λ (fs : List FlaggedItem). SettledFront l (lexemes_flagged fs) front) (sym e) s
+
+-- ---- each way
+
+lexemes_declared : (o : OptionsData) (x : List ℕ) (f : Fault) → OfLexemes o x f → LexemesCause o x f
+lexemes_declared o x f (to_end {items = items} {s = s} w c n e) = at_end (all_flagged o x items true s w) c n e
+lexemes_declared o x f (before_stop {items = items} {s = s} front w t c n e) =
+    at_stop front (all_flagged o x items false s w) t c n e
+
+reading_declared : (o : OptionsData) (x : List ℕ) (f : Fault) → OfReading o x f → ReadingCause o x f
+reading_declared o x f c = record {
+  items = flagged c.items;
+  state = c.state;
+  all = all_flagged o x c.items false c.state c.whole;
+  front = c.front;
+  settled = c.settled;
+  viable = c.viable;
+  refused = c.refused;
+  unnamed = c.unnamed;
+  none = c.none;
+}
+
+comments_declared : (o : OptionsData) (x : List ℕ) (f : Fault) → OfComments o x f → CommentsCause o x f
+comments_declared o x f c = record {
+  asked = c.asked;
+  items = flagged c.items;
+  state = c.state;
+  ended = c.ended;
+  all = all_flagged o x c.items c.ended c.state c.whole;
+  given = c.given;
+  before = c.before;
+  front = c.front;
+  many = c.many;
+  first = c.first;
+}
+
+pub cause_declared : (o : OptionsData) (x : List ℕ) (f : Fault) → WholeCause o x f → DeclaredCause o x f
+cause_declared o x f (inl c) = inl (lexemes_declared o x f c)
+cause_declared o x f (inr (inl c)) = inr (inl (reading_declared o x f c))
+cause_declared o x f (inr (inr c)) = inr (inr (comments_declared o x f c))
+
+lexemes_caused : (o : OptionsData) (x : List ℕ) (f : Fault) → LexemesCause o x f → OfLexemes o x f
+lexemes_caused o x f (at_end {items = items} {s = s} {k = k} {x = y} a c n e) =
+    let same = same_flags o x items true s a in
+    to_end a.stand
+    (subst (λ (fs : List FlaggedItem). WholeFault o (map terminal_seen (lexemes_flagged fs)) k y) (sym same) c)
+    (none_as o true s.laid same n) e
+lexemes_caused o x f (at_stop {items = items} {s = s} front a t c n e) =
+    let same = same_flags o x items false s a in
+    before_stop front a.stand (front_as s.laid same t) c (none_as o false s.laid same n) e
+
+reading_caused : (o : OptionsData) (x : List ℕ) (f : Fault) → ReadingCause o x f → OfReading o x f
+reading_caused o x f c =
+    let same = same_flags o x c.items false c.state c.all in
+    record {
+      items = items_of c.items;
+      state = c.state;
+      whole = c.all.stand;
+      front = c.front;
+      settled = front_as c.state.laid same c.settled;
+      viable = c.viable;
+      refused = c.refused;
+      unnamed = c.unnamed;
+      none = none_as o false c.state.laid same c.none;
+    }
+
+comments_caused : (o : OptionsData) (x : List ℕ) (f : Fault) → CommentsCause o x f → OfComments o x f
+comments_caused o x f c =
+    let same = same_flags o x c.items c.ended c.state c.all in
+    record {
+      asked = c.asked;
+      items = items_of c.items;
+      state = c.state;
+      ended = c.ended;
+      whole = c.all.stand;
+      given = c.given;
+      before =
+          subst (λ (fs : List FlaggedItem). ItemsBefore c.ended c.state.laid fs c.given) (sym same) c.before;
+      front = c.front;
+      many = c.many;
+      first = c.first;
+    }
+
+pub declared_cause : (o : OptionsData) (x : List ℕ) (f : Fault) → DeclaredCause o x f → WholeCause o x f
+declared_cause o x f (inl c) = inl (lexemes_caused o x f c)
+declared_cause o x f (inr (inl c)) = inr (inl (reading_caused o x f c))
+declared_cause o x f (inr (inr c)) = inr (inr (comments_caused o x f c))

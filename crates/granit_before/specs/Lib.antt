@@ -1,0 +1,11 @@
+pub mod DeclaredCause
+pub mod DeclaredReading
+pub mod Fields
+pub mod HeldKeys
+pub mod KeyBegins
+pub mod Openers
+pub mod ScalarLayout
+pub mod Tabs
+pub mod ToldComments
+pub mod Touching
+pub mod Worked

@@ -1,0 +1,4 @@
+pub mod BufferLemmas
+pub mod FallibleLemmas
+pub mod FeedLemmas
+pub mod KnownLemmas

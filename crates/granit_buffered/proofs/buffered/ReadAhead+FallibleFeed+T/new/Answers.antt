@@ -1,0 +1,18 @@
+use Rattle.std.proofs.Common.{refl}
+use Rattle.granit_buffered.specs.Fallible.{characters_of, first_error}
+use Rattle.granit_buffered.proofs.FallibleLemmas.{fresh_comes}
+use Rattle.granit_buffered.proofs.buffered.ReadAhead+FallibleFeed+T.new.Goals as goal
+
+pub returns-clause-read : goal.returns-clause-read
+returns-clause-read g c = λ items known.
+    let s = c.new.result in
+    let comes = fresh_comes g.T.Iterator.next_gives g.T.Iterator.remaining c.args.input s.iterator s.progress items
+    c.new.ensures.0 c.new.ensures.1 known in
+    (refl, refl, (first_error items, (characters_of items, rw c.in_ok-held.ensures refl, comes)))
+
+pub returns-clause-comes : goal.returns-clause-comes
+returns-clause-comes g c = λ items known.
+    let s = c.new.result in
+    let comes = fresh_comes g.T.Iterator.next_gives g.T.Iterator.remaining c.args.input s.iterator s.progress items
+    c.new.ensures.0 c.new.ensures.1 known in
+    (characters_of items, rw c.in_ok-held.ensures refl, comes)

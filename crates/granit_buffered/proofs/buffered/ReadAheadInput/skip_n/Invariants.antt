@@ -1,0 +1,23 @@
+use Rattle.std.proofs.Common.{◌-◌, ◌+◌, ◌≤◌, length, min}
+use Rattle.granit_base.specs.Place.{Unread}
+use Rattle.granit_input.specs.Origin.{Goes}
+use Rattle.granit_input.specs.Unread.{past}
+use Rattle.granit_buffered.specs.Feeds.{Leaves, of_buffer}
+use Rattle.granit_buffered.proofs.buffered.ReadAheadInput.skip_n.Given as goal
+
+abbrev pub invariant-taken : goal.invariant-taken
+invariant-taken g l = record {
+  told : (u : Unread) → Leaves g.F.Feed.told l.fn.self.feed l.fn.self.held.items u
+      → Leaves g.F.Feed.told l.self.feed l.self.held.items (past l.taken u);
+  count : l.taken ≤ l.count;
+  left : length l.self.held.items + g.F.Feed.bound l.self.feed
+      ≤ length l.fn.self.held.items + g.F.Feed.bound l.fn.self.feed - l.taken;
+  window : l.fn.self.window
+      ≤ l.self.window + min l.taken (length l.fn.self.held.items + g.F.Feed.bound l.fn.self.feed);
+  origin : Goes (of_buffer (g.F.Feed.ended l.fn.self.feed) (g.F.Feed.error l.fn.self.feed)
+      (g.F.Feed.handed_out l.fn.self.feed))
+      (of_buffer (g.F.Feed.ended l.self.feed) (g.F.Feed.error l.self.feed) (g.F.Feed.handed_out l.self.feed));
+}
+
+abbrev pub decreases-taken : goal.decreases-taken
+decreases-taken g l = l.count - l.taken

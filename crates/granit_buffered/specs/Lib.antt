@@ -1,0 +1,5 @@
+pub mod BufferLaws
+pub mod Fallible
+pub mod FallibleLaws
+pub mod FeedLaws
+pub mod Feeds

@@ -1,0 +1,19 @@
+//! Inputs over iterators of characters, which read at most sixteen characters ahead.
+#![tactic(auto)]
+
+mod buffered;
+mod fallible;
+mod feed;
+mod laws;
+mod plain;
+mod source;
+
+pub use buffered::{BufferedInput, FallibleBufferedInput, ReadAhead};
+pub use fallible::FallibleFeed;
+pub use feed::Feed;
+pub use laws::{a_list_gives_its_items, a_string_gives_its_characters};
+pub use plain::PlainFeed;
+pub use source::Source;
+
+#[cfg(test)]
+mod tests;

@@ -1,0 +1,9 @@
+pub mod CodedLemmas
+pub mod GapLemmas
+pub mod HeardLemmas
+pub mod ItemLemmas
+pub mod KindLemmas
+pub mod NodeLemmas
+pub mod QuotedGapLemmas
+pub mod ScalarLemmas
+pub mod TailLemmas

@@ -1,0 +1,31 @@
+use Rattle.std.proofs.Common.{ℕ, refl, sym, ap, ◌∙◌}
+use Rattle.std.proofs.lemmas.Result.{err_from_is_err_and}
+use Rattle.granit_base.specs.Place.{Mark}
+use Rattle.granit_error.specs.OptionsView.{options_of}
+use Rattle.granit_machine.specs.PossibleKeys.{layout_of}
+use Rattle.granit_content.specs.ScalarReads.{asking}
+use Rattle.granit_content.proofs.ScalarLemmas.{quoted_items, quoted_fails}
+use Rattle.granit_content.proofs.scalars.quoted_lexeme.Goals as goal
+
+pub returns-in_err-read-clause-here : goal.returns-in_err-read-clause-here
+returns-in_err-read-clause-here g c = λ h k.
+    let p = err_from_is_err_and c.from_residual.result c.from_residual.ensures.1 in
+    let o = options_of c.args.options.now in
+    let begun = c.start_of-start.ensures h k in
+    let told = c.layout-layout.ensures ∙ ap (λ (n : ℕ). asking o.emit_comments (layout_of o n c.args.layouts.now))
+    (c.col.ensures ∙ ap (λ (m : Mark). m.place.column) (sym begun.0)) in
+    rw (p.1, p.2) (quoted_fails o o.emit_comments c.args.ends h c.args.layouts.now c.in_err-read.field-0.0 c.args.single
+    (rw told at (c.in_err-read.ensures.here h k)))
+
+pub returns-clause-here : goal.returns-clause-here
+returns-clause-here g c = λ h k.
+    let o = options_of c.args.options.now in
+    let begun = c.start_of-start.ensures h k in
+    let told = c.layout-layout.ensures ∙ ap (λ (n : ℕ). asking o.emit_comments (layout_of o n c.args.layouts.now))
+    (c.col.ensures ∙ ap (λ (m : Mark). m.place.column) (sym begun.0)) in
+    let read = rw told at (c.in_ok-read.ensures.here h k) in (
+      record { here = read.0; laid = c.give.new.layouts },
+      (read.1, refl),
+      quoted_items o o.emit_comments c.args.ends h c.args.layouts.now c.in_ok-read.read read.0 c.args.single read.2
+          ∙ rw (c.scalar_lexeme-lexeme.ensures h begun) at (c.give.ensures read.0),
+    )

@@ -1,0 +1,3 @@
+pub mod KindViews
+pub mod Reads
+pub mod ScalarReads

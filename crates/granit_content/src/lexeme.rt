@@ -1,0 +1,137 @@
+//! What all lexemes share.
+ghost use Rattle.std.specs.Prelude.{◌≡◌, ◌<◌, ◌^◌, Ok};
+ghost use Rattle.granit_cursor.specs.Reading.{Moves, Stands, Wherever};
+ghost use Rattle.granit_lexemes.specs.Here.{Here, step};
+ghost use Rattle.granit_machine.specs.ReaderState as spec;
+ghost use Rattle.granit_items.specs.ItemViews.{kind_view, note_view, lexeme_view, alone};
+ghost use Rattle.granit_content.specs.Reads.{IsStart, ReadsItems, behind_seen, noted, tail_view};
+
+use crate::tail::{Tail, tail_at};
+use granit_base::Marker;
+use granit_cursor::Cursor;
+use granit_error::ScanError;
+use granit_input::{BorrowedInput, Input};
+use granit_items::{Lexeme, LexemeKind, Note};
+use granit_layout::Layouts;
+use granit_lexemes::LastLexeme;
+use std::alloc::Global;
+
+/// Where a lexeme begins.
+#[derive(Clone, Copy)]
+pub struct Start {
+    /// Its place.
+    pub mark: Marker,
+    /// Whether only blanks and prefix marks stand before it on its line.
+    pub begins_line: bool,
+}
+
+/// A lexeme begins here.
+pub fn start_of<T: Input>(at: &Cursor<T>) -> Start
+    ensures { (h : Here) → Stands T.unread at.now h → IsStart result h }
+{
+    Start {
+        mark: at.mark(),
+        begins_line: at.begins_line(),
+    }
+}
+
+/// The lexeme from there to a mark; whether it ends a column is told.
+pub fn lexeme_to<'input>(
+    layouts: &Layouts,
+    ends: bool,
+    kind: LexemeKind<'input>,
+    start: Start,
+    end: Marker,
+) -> Lexeme<'input>
+    ensures { (h : Here) → IsStart start h
+        → lexeme_view result ≡ spec.lexeme_to ends (kind_view kind.entry) end h layouts.now }
+{
+    Lexeme {
+        number: layouts.number(),
+        kind,
+        start: start.mark,
+        shown_start: start.mark,
+        shown_end: end,
+        end,
+        indent: None,
+        in_flow: layouts.is_in_flow(),
+        begins_line: start.begins_line,
+        follows_indicator: layouts.follows_indicator(),
+        ends_column: ends,
+        key: None,
+        tail: None,
+    }
+}
+
+/// A lexeme of one character, which is read.
+pub fn sign<'input, T: Input>(
+    at: &mut Cursor<T>,
+    layouts: &Layouts,
+    ends: bool,
+    kind: LexemeKind<'input>,
+) -> Lexeme<'input>
+    ensures here { Wherever T.unread at.old at.new (λ h Lands. Lands (step h)
+        × (lexeme_view result ≡ spec.sign_lexeme ends (kind_view kind.entry) h layouts.now)) }
+    ensures moves { Moves T.left T.origin at.old at.new }
+{
+    let start = start_of(at);
+    at.step();
+    lexeme_to(layouts, ends, kind, start, at.mark())
+}
+
+/// A lexeme is read that lets this be the next one.
+pub fn give<'input>(
+    layouts: &mut Layouts,
+    lexeme: Lexeme<'input>,
+    last: LastLexeme,
+) -> Lexeme<'input>
+    requires room { layouts.old.number < 2 ^ 63 }
+    ensures { (h : Here) → spec.given (lexeme_view lexeme.entry) last h layouts.old
+        ≡ Ok (alone result, record { here = h; laid = layouts.new }) }
+{
+    layouts.count_lexeme(last);
+    lexeme
+}
+
+/// The lexeme with a tail.
+pub fn with_tail<'input>(lexeme: Lexeme<'input>, tail: Tail<'input>) -> Lexeme<'input>
+    ensures { lexeme_view result ≡ spec.with_tail (lexeme_view lexeme.entry) (noted (tail_view tail.entry)) }
+{
+    Lexeme {
+        tail: tail.into_note(),
+        ..lexeme
+    }
+}
+
+/// Behind a closer a value may stand at once, unless a comment does.
+pub(crate) fn behind_tail(last: LastLexeme, tail: &Tail<'_>) -> LastLexeme
+    ensures { result ≡ behind_seen last (tail_view tail.now) }
+{
+    match (last, tail) {
+        (LastLexeme::Adjacent, Tail::Passed | Tail::Kept(_)) => LastLexeme::Another,
+        _ => last,
+    }
+}
+
+/// A lexeme that ends here, with its tail.
+///
+/// # Errors
+///
+/// Those of `tail_at`.
+pub fn tailed<'input, T: BorrowedInput<'input>>(
+    alloc: Global,
+    asked: bool,
+    at: &mut Cursor<T>,
+    layouts: &mut Layouts,
+    lexeme: Lexeme<'input>,
+    last: LastLexeme,
+) -> Result<Lexeme<'input>, ScanError>
+    requires room { layouts.old.number < 2 ^ 63 }
+    ensures here { ReadsItems T.unread asked at.old at.new layouts.new alone result
+        (λ h. spec.tailed (lexeme_view lexeme.entry) last h layouts.old) }
+    ensures moves { Moves T.left T.origin at.old at.new }
+{
+    let tail = tail_at(alloc, at, asked)?;
+    let last = behind_tail(last, &tail);
+    Ok(give(layouts, with_tail(lexeme, tail), last))
+}

@@ -1,0 +1,116 @@
+//! Aliases and properties (YAML 1.2.2, 6.9 and 7.1).
+ghost use Rattle.std.specs.Prelude.{◌≡◌, ◌<◌, ◌^◌, Bool};
+ghost use Rattle.granit_cursor.specs.Reading.{Moves, Stands};
+ghost use Rattle.granit_error.specs.OptionsView.{options_of};
+ghost use Rattle.granit_lexemes.specs.Here.{Here, next_char, mark_of};
+ghost use Rattle.granit_machine.specs.NodeLexemes as spec;
+ghost use Rattle.granit_machine.specs.ReaderState as machine;
+ghost use Rattle.granit_items.specs.ItemViews.{lexeme_view, alone};
+ghost use Rattle.granit_content.specs.KindViews.{kind_of_type};
+ghost use Rattle.granit_content.specs.Reads.{IsStart, ReadsItems};
+
+use crate::kinds::lexeme_kind;
+use crate::lexeme::{Start, give, lexeme_to, start_of};
+use granit_cursor::{Cursor, Token};
+use granit_error::{Options, ScanError};
+use granit_input::{BorrowedInput, Input};
+use granit_items::Lexeme;
+use granit_layout::Layouts;
+use granit_lexemes::LastLexeme;
+use granit_properties::{scan_anchor, scan_tag};
+use std::alloc::Global;
+
+/// The alias that begins here with its `*`.
+///
+/// # Errors
+///
+/// Those of `scan_anchor`.
+pub fn alias_lexeme<'input, T: BorrowedInput<'input>>(
+    alloc: Global,
+    at: &mut Cursor<T>,
+    layouts: &mut Layouts,
+    ends: bool,
+) -> Result<Lexeme<'input>, ScanError>
+    requires sign { (h : Here) → Stands T.unread at.old h → next_char h ≡ 0x2A }
+    requires room { layouts.old.number < 2 ^ 63 }
+    ensures here { (asked : Bool) → ReadsItems T.unread asked at.old at.new layouts.new alone result
+        (λ h. spec.alias_lexeme ends h layouts.old) }
+    ensures moves { Moves T.left T.origin at.old at.new }
+{
+    let start = start_of(at);
+    let token = scan_anchor(alloc, at, true)?;
+    let lexeme = token_lexeme(alloc, at, layouts, ends, start, token);
+    Ok(give(layouts, lexeme, LastLexeme::Another))
+}
+
+/// The anchor that begins here with its `&`.
+///
+/// # Errors
+///
+/// Those of `scan_anchor`.
+pub fn anchor_lexeme<'input, T: BorrowedInput<'input>>(
+    alloc: Global,
+    options: &Options,
+    at: &mut Cursor<T>,
+    layouts: &mut Layouts,
+    ends: bool,
+) -> Result<Lexeme<'input>, ScanError>
+    requires sign { (h : Here) → Stands T.unread at.old h → next_char h ≡ 0x26 }
+    requires room { layouts.old.number < 2 ^ 63 }
+    ensures here { (asked : Bool) → ReadsItems T.unread asked at.old at.new layouts.new alone result
+        (λ h. spec.anchor_lexeme (options_of options.now) ends h layouts.old) }
+    ensures moves { Moves T.left T.origin at.old at.new }
+{
+    let start = start_of(at);
+    let last = layouts.last_of_property(options);
+    let token = scan_anchor(alloc, at, false)?;
+    let lexeme = token_lexeme(alloc, at, layouts, ends, start, token);
+    Ok(give(layouts, lexeme, last))
+}
+
+/// The tag that begins here with its `!`.
+///
+/// # Errors
+///
+/// Those of `scan_tag`.
+pub fn tag_lexeme<'input, T: BorrowedInput<'input>>(
+    alloc: Global,
+    options: &Options,
+    at: &mut Cursor<T>,
+    layouts: &mut Layouts,
+    ends: bool,
+) -> Result<Lexeme<'input>, ScanError>
+    requires sign { (h : Here) → Stands T.unread at.old h → next_char h ≡ 0x21 }
+    requires room { layouts.old.number < 2 ^ 63 }
+    ensures here { (asked : Bool) → ReadsItems T.unread asked at.old at.new layouts.new alone result
+        (λ h. spec.tag_lexeme (options_of options.now) ends h layouts.old) }
+    ensures moves { Moves T.left T.origin at.old at.new }
+{
+    let start = start_of(at);
+    let last = layouts.last_of_property(options);
+    let token = scan_tag(alloc, at, layouts.is_in_flow())?;
+    let lexeme = token_lexeme(alloc, at, layouts, ends, start, token);
+    Ok(give(layouts, lexeme, last))
+}
+
+/// The lexeme from there to here that a token tells.
+fn token_lexeme<'input, T: Input>(
+    alloc: Global,
+    at: &Cursor<T>,
+    layouts: &Layouts,
+    ends: bool,
+    start: Start,
+    token: Token<'input>,
+) -> Lexeme<'input>
+    ensures { (h after : Here) → IsStart start h → Stands T.unread at.now after → lexeme_view result
+        ≡ machine.lexeme_to ends (kind_of_type token.entry.token_type) (mark_of after) h layouts.now }
+{
+    let (_, token_type) = token.into_parts();
+    lexeme_to(
+        layouts,
+        ends,
+        lexeme_kind(alloc, token_type),
+        start,
+        at.mark(),
+    )
+}

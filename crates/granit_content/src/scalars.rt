@@ -1,0 +1,199 @@
+//! Scalars (YAML 1.2.2, 7.3 and 8.1).
+ghost use Rattle.std.specs.Prelude.{◌≡◌, ◌<◌, ◌^◌, true};
+ghost use Rattle.std.specs.Option.{option_map};
+ghost use Rattle.granit_base.specs.PlainContent.{is_content};
+ghost use Rattle.granit_block.specs.BlockCode.{block_indicator};
+ghost use Rattle.granit_cursor.specs.Reading.{Moves, Stands};
+ghost use Rattle.granit_error.specs.OptionsView.{options_of};
+ghost use Rattle.granit_lexemes.specs.Here.{Here, next_char};
+ghost use Rattle.granit_lexemes.specs.QuotedScalar.{quote_char};
+ghost use Rattle.granit_machine.specs.Laid.{is_in_flow};
+ghost use Rattle.granit_machine.specs.NodeLexemes as spec;
+ghost use Rattle.granit_items.specs.ItemViews.{note_view, lexeme_view, alone, found_items};
+ghost use Rattle.granit_content.specs.KindViews.{note_of_token};
+ghost use Rattle.granit_content.specs.Reads.{IsStart, ReadsItems};
+ghost use Rattle.granit_content.specs.ScalarReads.{lexed_as, block_as, GapBehind};
+
+use crate::gaps::gap;
+use crate::kinds::{lexeme_kind, note};
+use crate::lexeme::{Start, behind_tail, give, lexeme_to, start_of};
+use granit_block::scan_block_scalar;
+use granit_cursor::{Cursor, Lexed, Token};
+use granit_error::{Options, ScanError};
+use granit_input::BorrowedInput;
+use granit_items::{Found, Lexeme, Note};
+use granit_layout::Layouts;
+use granit_lex::{scan_plain_scalar, scan_quoted_scalar};
+use granit_lexemes::LastLexeme;
+use std::alloc::Global;
+
+/// The plain scalar that begins here, which reads no comment.
+///
+/// # Errors
+///
+/// Those of `scan_plain_scalar`.
+pub fn plain_lexeme<'input, T: BorrowedInput<'input>>(
+    alloc: Global,
+    options: &Options,
+    at: &mut Cursor<T>,
+    layouts: &mut Layouts,
+    ends: bool,
+) -> Result<Lexeme<'input>, ScanError>
+    requires content { (h : Here) → Stands T.unread at.old h
+        → is_content (is_in_flow layouts.old) h.unread.text ≡ true }
+    requires room { layouts.old.number < 2 ^ 63 }
+    ensures here { ReadsItems T.unread (options_of options.now).emit_comments at.old at.new layouts.new alone result
+        (λ h. spec.plain_lexeme (options_of options.now) ends h layouts.old) }
+    ensures moves { Moves T.left T.origin at.old at.new }
+{
+    let start = start_of(at);
+    let layout = layouts.layout(options, start.mark.col(), options.emit_comments);
+    let read = scan_plain_scalar(alloc, at, &layout)?;
+    let cut = read.cut_by_comment;
+    let lexeme = scalar_lexeme(alloc, layouts, ends, start, read);
+    layouts.behind_plain_scalar(cut);
+    Ok(give(layouts, lexeme, LastLexeme::Another))
+}
+
+/// The block scalar that begins here with its `|`, where it is literal, or its `>`.
+///
+/// # Errors
+///
+/// Those of `scan_block_scalar`.
+pub fn block_lexeme<'input, T: BorrowedInput<'input>>(
+    alloc: Global,
+    options: &Options,
+    at: &mut Cursor<T>,
+    layouts: &mut Layouts,
+    literal: bool,
+    ends: bool,
+) -> Result<Lexeme<'input>, ScanError>
+    requires sign { (h : Here) → Stands T.unread at.old h → next_char h ≡ block_indicator literal }
+    requires room { layouts.old.number < 2 ^ 63 }
+    ensures here { ReadsItems T.unread (options_of options.now).emit_comments at.old at.new layouts.new alone result
+        (λ h. spec.block_lexeme literal ends h layouts.old) }
+    ensures moves { Moves T.left T.origin at.old at.new }
+{
+    let start = start_of(at);
+    let layout = layouts.layout(options, start.mark.col(), options.emit_comments);
+    let read = scan_block_scalar(alloc, at, literal, &layout)?;
+    let lexeme = shown_lexeme(alloc, layouts, ends, start, read);
+    layouts.unroll();
+    Ok(give(layouts, lexeme, LastLexeme::Another))
+}
+
+/// The quoted scalar that begins here with its quote, single or double, and the comment behind it on its last line.
+fn quoted_lexeme<'input, T: BorrowedInput<'input>>(
+    alloc: Global,
+    options: &Options,
+    at: &mut Cursor<T>,
+    layouts: &mut Layouts,
+    single: bool,
+    ends: bool,
+) -> Result<Lexeme<'input>, ScanError>
+    requires sign { (h : Here) → Stands T.unread at.old h → next_char h ≡ quote_char single }
+    requires room { layouts.old.number < 2 ^ 63 }
+    ensures here { ReadsItems T.unread (options_of options.now).emit_comments at.old at.new layouts.new alone result
+        (λ h. spec.quoted_lexeme (options_of options.now) single ends h layouts.old) }
+    ensures moves { Moves T.left T.origin at.old at.new }
+{
+    let start = start_of(at);
+    let layout = layouts.layout(options, start.mark.col(), options.emit_comments);
+    let read = scan_quoted_scalar(alloc, at, single, &layout)?;
+    let lexeme = scalar_lexeme(alloc, layouts, ends, start, read);
+    Ok(give(layouts, lexeme, LastLexeme::Adjacent))
+}
+
+/// A quoted scalar, and the gap behind it, up to and with a comment.
+///
+/// # Errors
+///
+/// Those of `scan_quoted_scalar` and of `gap`.
+pub fn quoted_and_gap<'input, T: BorrowedInput<'input>>(
+    alloc: Global,
+    options: &Options,
+    at: &mut Cursor<T>,
+    layouts: &mut Layouts,
+    single: bool,
+    ends: bool,
+) -> Result<Found<'input>, ScanError>
+    requires sign { (h : Here) → Stands T.unread at.old h → next_char h ≡ quote_char single }
+    requires room { layouts.old.number < 2 ^ 63 }
+    ensures here { ReadsItems T.unread (options_of options.now).emit_comments at.old at.new layouts.new found_items
+        result (λ h. spec.quoted_and_gap (options_of options.now) single ends h layouts.old) }
+    ensures moves { Moves T.left T.origin at.old at.new }
+{
+    let lexeme = quoted_lexeme(alloc, options, at, layouts, single, ends)?;
+    with_gap(alloc, options, at, layouts, lexeme)
+}
+
+/// A quoted scalar that was read, and the gap behind it; a value may stand at once behind that, unless a comment does.
+fn with_gap<'input, T: BorrowedInput<'input>>(
+    alloc: Global,
+    options: &Options,
+    at: &mut Cursor<T>,
+    layouts: &mut Layouts,
+    lexeme: Lexeme<'input>,
+) -> Result<Found<'input>, ScanError>
+    ensures here { GapBehind T.unread (options_of options.now) at.old at.new layouts.old layouts.new
+        (alone lexeme.entry) result }
+    ensures moves { Moves T.left T.origin at.old at.new }
+{
+    let tail = gap(alloc, options, at, layouts)?;
+    layouts.set_last(behind_tail(LastLexeme::Adjacent, &tail));
+    Ok(Found {
+        lexeme: Some(lexeme),
+        note: tail.into_note(),
+    })
+}
+
+/// The lexeme from there to the end of a token, with the comment that was read behind it.
+pub fn scalar_lexeme<'input>(
+    alloc: Global,
+    layouts: &Layouts,
+    ends: bool,
+    start: Start,
+    read: Lexed<'input>,
+) -> Lexeme<'input>
+    ensures { (h : Here) → IsStart start h → lexeme_view result ≡ lexed_as ends read.entry h layouts.now }
+{
+    let tail = noted(read.comment);
+    let (span, token_type) = read.token.into_parts();
+    Lexeme {
+        tail,
+        ..lexeme_to(
+            layouts,
+            ends,
+            lexeme_kind(alloc, token_type),
+            start,
+            span.end,
+        )
+    }
+}
+
+/// The same of a block scalar, whose token shows where its content stands.
+fn shown_lexeme<'input>(
+    alloc: Global,
+    layouts: &Layouts,
+    ends: bool,
+    start: Start,
+    read: Lexed<'input>,
+) -> Lexeme<'input>
+    ensures { (h : Here) → IsStart start h → lexeme_view result ≡ block_as ends read.entry h layouts.now }
+{
+    let span = read.token.span();
+    Lexeme {
+        shown_start: span.start,
+        indent: span.indent,
+        ..scalar_lexeme(alloc, layouts, ends, start, read)
+    }
+}
+
+fn noted<'input>(comment: Option<Token<'input>>) -> Option<Note<'input>>
+    ensures { option_map note_view result ≡ option_map note_of_token comment.entry }
+{
+    match comment {
+        None => None,
+        Some(token) => Some(note(token)),
+    }
+}

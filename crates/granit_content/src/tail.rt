@@ -1,0 +1,89 @@
+//! What stands behind a lexeme on its line: blanks, and a comment that they part from it (YAML 1.2.2, 6.6).
+ghost use Rattle.std.specs.Prelude.{◌≡◌, IfOk};
+ghost use Rattle.std.specs.Option.{option_map};
+ghost use Rattle.granit_cursor.specs.Reading.{Moves, Wherever, GivesTo, coded};
+ghost use Rattle.granit_lexemes.specs.Comment as comments;
+ghost use Rattle.granit_lexemes.specs.Tail as spec;
+ghost use Rattle.granit_items.specs.ItemViews.{note_view};
+ghost use Rattle.granit_content.specs.declared.tail.Tail.TheVariants.{Nothing};
+ghost use Rattle.granit_content.specs.Reads.{noted, seen, seen_comment, tail_view};
+
+use crate::kinds::note;
+use granit_cursor::{Cursor, pass_comment, read_comment};
+use granit_error::{ErrorKind, ScanError};
+use granit_input::{BorrowedInput, Input};
+use granit_items::Note;
+use std::alloc::Global;
+
+/// A comment behind a lexeme.
+#[derive(Drop)]
+pub enum Tail<'input> {
+    /// There is none.
+    Nothing,
+    /// There is one, which isn't asked for.
+    Passed,
+    /// This one.
+    Kept(Note<'input>),
+}
+
+impl<'input> Tail<'input> {
+    /// The comment, where it is kept.
+    pub(crate) fn into_note(self) -> Option<Note<'input>>
+        ensures { option_map note_view result ≡ noted (tail_view self.entry) }
+    {
+        match self {
+            Tail::Nothing => None,
+            Tail::Passed => None,
+            Tail::Kept(note) => Some(note),
+        }
+    }
+}
+
+/// The blanks behind a lexeme that ends here, and a comment behind them.
+///
+/// # Errors
+///
+/// `CommentNotSeparated` at a `#` with no blank before it, and those of `comment_at`.
+pub fn tail_at<'input, T: BorrowedInput<'input>>(
+    alloc: Global,
+    at: &mut Cursor<T>,
+    asked: bool,
+) -> Result<Tail<'input>, ScanError>
+    ensures here { Wherever T.unread at.old at.new (λ h Lands.
+        GivesTo tail_view result Lands (coded (seen asked) (spec.tail_at h))) }
+    ensures moves { Moves T.left T.origin at.old at.new }
+{
+    let blanks = at.skip_while_blank();
+    at.look(1);
+    if at.input().peek() != '#' {
+        return Ok(Tail::Nothing);
+    }
+    if blanks == 0 {
+        return Err(ScanError::from_kind(at.mark(), ErrorKind::CommentNotSeparated));
+    }
+    comment_at(alloc, at, asked)
+}
+
+/// The comment that begins here with its `#`.
+///
+/// # Errors
+///
+/// `NoMemory`, where comments are asked for, and `UnexpectedCharacter` at a character that isn't printable.
+#[tactic(auto, unfolding(granit_lexemes::specs::Comment::comment))]
+pub fn comment_at<'input, T: BorrowedInput<'input>>(
+    alloc: Global,
+    at: &mut Cursor<T>,
+    asked: bool,
+) -> Result<Tail<'input>, ScanError>
+    ensures here { Wherever T.unread at.old at.new (λ h Lands.
+        GivesTo tail_view result Lands (coded (seen_comment asked) (comments.comment h))) }
+    ensures some { IfOk result (λ t. t ≡ Nothing → ⊥) }
+    ensures moves { Moves T.left T.origin at.old at.new }
+{
+    if asked {
+        let token = read_comment(alloc, at)?;
+        return Ok(Tail::Kept(note(token)));
+    }
+    pass_comment(at)?;
+    Ok(Tail::Passed)
+}

@@ -1,0 +1,52 @@
+-- What is known of the possible keys in the open brackets, from the outermost bracket on.
+use Rattle.std.specs.Prelude.{ℕ, ◌≡◌, ◌<◌, ◌≤◌, Bool, true, false, nat_le, ◌&&◌, ◌||◌, List, length, get_or, min, max}
+use Rattle.std.specs.Prelude.{Option, Some, None}
+use Rattle.std.specs.List.{All, AllPairs}
+use Rattle.granit_lexemes.specs.declared.layout.OpenBracket.{OpenBracket}
+use Rattle.granit_lexemes.specs.declared.layout.PossibleKey.{PossibleKey}
+use Rattle.granit_layout.specs.declared.rising.KeyOrder.{KeyOrder}
+
+-- a key begins with no earlier lexeme than another one, and at no earlier place
+abbrev pub InOrder : Option PossibleKey → Option PossibleKey → Type 0
+InOrder None later = Unit {0}
+InOrder (Some k) None = Unit {0}
+InOrder (Some k) (Some l) = (k.number ≤ l.number) × (k.start.place.index ≤ l.start.place.index)
+
+-- a key begins with no later lexeme than that of a number, and not behind an index
+abbrev pub UpTo : (number index : ℕ) → Option PossibleKey → Type 0
+UpTo number index None = Unit {0}
+UpTo number index (Some k) = (k.number ≤ number) × (k.start.place.index ≤ index)
+
+-- the first brackets hold no key; the keys rise, where that is told; and none is behind those that were set
+pub record Rising (o : KeyOrder) (bs : List OpenBracket) : Type 0 where
+  pub outer : (i : ℕ) (d : OpenBracket) → i < o.first → i < length bs → (get_or bs i d).key ≡ None
+  pub order : o.rises ≡ true → AllPairs (λ a b. InOrder a.key b.key) bs
+  pub behind : All (λ b. UpTo o.number o.index b.key) bs
+
+-- a key begins with the lexeme of a number or with a later one
+abbrev pub is_from : ℕ → Option PossibleKey → Bool
+is_from number None = false
+is_from number (Some k) = nat_le number k.number
+
+-- ---- another key in the innermost bracket
+
+-- a key that is behind a lexeme of a number and an index
+abbrev pub is_behind : (number index : ℕ) → PossibleKey → Bool
+is_behind number index k = nat_le number k.number && nat_le index k.start.place.index
+
+-- a key in the place of one that it is not before
+abbrev pub goes_on : Option PossibleKey → PossibleKey → Bool
+goes_on None new = false
+goes_on (Some old) new = is_behind old.number old.start.place.index new
+
+abbrev pub with_new : ℕ → Option PossibleKey → PossibleKey → KeyOrder → KeyOrder
+with_new innermost old new o = record {
+  first = min o.first innermost;
+  rises = o.rises && (is_behind o.number o.index new || goes_on old new);
+  number = max o.number new.number;
+  index = max o.index new.start.place.index;
+}
+
+abbrev pub with_key : ℕ → (old new : Option PossibleKey) → KeyOrder → KeyOrder
+with_key innermost old None o = o
+with_key innermost old (Some new) o = with_new innermost old new o

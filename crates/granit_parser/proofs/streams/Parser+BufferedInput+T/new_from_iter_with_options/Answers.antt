@@ -1,0 +1,7 @@
+use Rattle.std.proofs.Common.{refl}
+use Rattle.granit_parser.specs.Streams.{bare_start}
+use Rattle.granit_parser.proofs.streams.Parser+BufferedInput+T.new_from_iter_with_options.Goals as goal
+
+pub returns-clause-start : goal.returns-clause-start
+returns-clause-start g c = λ x known.
+    c.with_options.ensures.start (bare_start x) (c.in_ok-input.ensures x known) refl refl refl

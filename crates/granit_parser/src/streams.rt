@@ -1,0 +1,79 @@
+//! Iterators of characters that are read into events.
+ghost use Rattle.std.specs.Prelude.{◌≡◌, ℕ, ◌<◌, ◌^◌, List, IfOk};
+ghost use Rattle.std.specs.Iterator.{size};
+ghost use Rattle.granit_buffered.specs.Feeds.{GivesOnly};
+ghost use Rattle.granit_error.specs.OptionsData.{default_options};
+ghost use Rattle.granit_error.specs.OptionsView.{options_of};
+ghost use Rattle.granit_event.specs.Events.{plain_events};
+ghost use Rattle.granit_lexemes.specs.Outcome.{GivesValue};
+ghost use Rattle.granit_parser.specs.Parsing.{StandsAt};
+ghost use Rattle.granit_parser.specs.Streams.{bare_run, bare_start};
+ghost use Rattle.granit_steps.specs.Steps as steps;
+
+use crate::load::{Events, gather};
+use crate::parser::Parser;
+use granit_base::NoMemory;
+use granit_buffered::{BufferedInput, Source};
+use granit_error::{Options, ScanError};
+use granit_input::Input;
+use std::alloc::Global;
+
+impl<'input, T: Source<Item = char>> Parser<'input, BufferedInput<T>> {
+    /// Before the characters of an iterator, read with the default options. Markers tell no byte offset.
+    ///
+    /// # Errors
+    ///
+    /// `NoMemory` alone.
+    pub fn new_from_iter(
+        alloc: Global,
+        iter: T,
+    ) -> Result<Parser<'input, BufferedInput<T>>, NoMemory>
+        requires { size (T.remaining iter) < 2 ^ 63 }
+        ensures start { IfOk result (λ p. (x : List ℕ) → GivesOnly T.next_gives T.remaining iter x
+            → StandsAt ⟦<BufferedInput<T> as Input>⟧.unread p (steps.start_from (bare_start x))) }
+        ensures options { IfOk result (λ p. p.stepper.scanner.options ≡ default_options) }
+    {
+        Parser::new_from_iter_with_options(alloc, iter, Options::default())
+    }
+
+    /// Before the characters of an iterator. Markers tell no byte offset.
+    ///
+    /// # Errors
+    ///
+    /// `NoMemory` alone.
+    pub fn new_from_iter_with_options(
+        alloc: Global,
+        iter: T,
+        options: Options,
+    ) -> Result<Parser<'input, BufferedInput<T>>, NoMemory>
+        requires { size (T.remaining iter) < 2 ^ 63 }
+        ensures start { IfOk result (λ p. (x : List ℕ) → GivesOnly T.next_gives T.remaining iter x
+            → StandsAt ⟦<BufferedInput<T> as Input>⟧.unread p (steps.start_from (bare_start x))) }
+        ensures options { IfOk result (λ p. p.stepper.scanner.options ≡ options_of options) }
+    {
+        let input = BufferedInput::new(alloc, iter)?;
+        Ok(Parser::with_options(alloc, input, options))
+    }
+}
+
+/// All events of the characters of an iterator, in order: what `load_str` answers for their text, but that no marker
+/// tells a byte offset, and that memory may be wanting elsewhere. At most sixteen characters are read ahead.
+///
+/// # Errors
+///
+/// The first fault of the text, at its place, or `NoMemory`; docs/FAULTS.md has the kinds.
+pub fn load_chars<'a, T: Source<Item = char>>(
+    alloc: Global,
+    chars: T,
+    options: Options,
+) -> Result<Events<'a>, ScanError>
+    requires { size (T.remaining chars) < 2 ^ 63 }
+    ensures { (x : List ℕ) → GivesOnly T.next_gives T.remaining chars x
+        → GivesValue plain_events result (bare_run (options_of options) x) }
+{
+    let mut parser = Parser::new_from_iter_with_options(alloc, chars, options)?;
+    match gather(alloc, &mut parser) {
+        Ok(items) => Ok(Events { items }),
+        Err(error) => Err(error),
+    }
+}

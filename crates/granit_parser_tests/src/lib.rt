@@ -1,0 +1,7 @@
+//! Tests of granit_parser by its public calls, and of trees that are written as canonical text and read back.
+#![tactic(auto)]
+
+#[cfg(test)]
+mod parser;
+#[cfg(test)]
+mod round_trip;

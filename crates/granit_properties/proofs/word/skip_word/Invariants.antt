@@ -1,0 +1,15 @@
+use Rattle.std.proofs.Common.{◌≡◌}
+use Rattle.granit_cursor.specs.Reading.{Stands, Moves}
+use Rattle.granit_lexemes.specs.Here.{Here, past}
+use Rattle.granit_properties.specs.WordCode.{word_test}
+use Rattle.granit_properties.proofs.word.skip_word.Given as goal
+
+abbrev pub invariant-word : goal.invariant-word
+invariant-word g l = record {
+  told : (h : Here) → Stands g.T.Input.unread l.fn.cursor h
+      → (now : Here) × Stands g.T.Input.unread l.cursor now × (past (word_test l.word) now ≡ past (word_test l.word) h);
+  moves : Moves g.T.Input.left g.T.Input.origin l.fn.cursor l.cursor;
+}
+
+abbrev pub decreases-word : goal.decreases-word
+decreases-word g l = g.T.Input.left l.cursor.input

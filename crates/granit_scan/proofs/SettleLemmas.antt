@@ -1,0 +1,89 @@
+-- Turns until a token waits, or nothing is left.
+use Rattle.std.proofs.Common.{◌≡◌, Bool, true, false, [], Some, None, Result, Ok, Err, refl, sym, subst}
+use Rattle.std.proofs.Common.{◌∙◌}
+use Rattle.granit_base.specs.Place.{Unread}
+use Rattle.granit_cursor.specs.Reading.{GivesTo}
+use Rattle.granit_error.specs.OptionsData.{OptionsData}
+use Rattle.granit_error.specs.Refused.{Refused}
+use Rattle.granit_lexemes.specs.Outcome.{Fails}
+use Rattle.granit_lexemes.proofs.PieceLemmas.{pieces_done, pieces_fails, pieces_more, with_front-nil}
+use Rattle.granit_scan.specs.Scanning.{Scanning, StandsIn, Keeps, turn_view, no_tokens}
+use Rattle.granit_scan.specs.TokenSteps.{TokenState, settle, token_size, token_turn}
+use Rattle.granit_scan.proofs.Shortening.{token_turn-Shortens}
+
+settle_on : (o : OptionsData) (m after : TokenState) → token_turn o m ≡ Ok (Some [], after)
+    → settle o after ≡ settle o m
+settle_on o m after is =
+    sym (pieces_more token_size (token_turn o) (token_turn-Shortens o) m after [] is ∙ with_front-nil (settle o after))
+
+-- as far as turns went, the machine settles as it does where they began
+abbrev pub SettlesAlike : {I : Type 0} → (I → Unread → Type 0) → (initial now : Scanning I) → Type 0
+SettlesAlike unread initial now =
+    (m : TokenState) → StandsIn unread initial m → initial.first ≡ None
+    → (n : TokenState) × StandsIn unread now n × (settle initial.items.options n ≡ settle initial.items.options m)
+
+-- what a turn gives
+abbrev pub Turned : {I : Type 0} → (I → Unread → Type 0) → Scanning I → Result Bool Refused → Scanning I → Type 0
+Turned unread now r after =
+    (m : TokenState) → StandsIn unread now m → now.first ≡ None
+    → GivesTo turn_view r (StandsIn unread after) (token_turn now.items.options m)
+
+pub alike_first : {I : Type 0} (unread : I → Unread → Type 0) (s : Scanning I) → SettlesAlike unread s s
+alike_first unread s = λ m at none. (m, at, refl)
+
+pub keeps_itself : {I : Type 0} (s : Scanning I) → Keeps s s
+keeps_itself s = record {
+  first = refl;
+  ended = refl;
+  failed = refl;
+  failed_in_directive = refl;
+  comments = refl;
+  source_error = refl;
+  options = refl;
+}
+
+pub keeps_both : {I : Type 0} (a b c : Scanning I) → Keeps a b → Keeps b c → Keeps a c
+keeps_both a b c x y = record {
+  first = y.first ∙ x.first;
+  ended = y.ended ∙ x.ended;
+  failed = y.failed ∙ x.failed;
+  failed_in_directive = y.failed_in_directive ∙ x.failed_in_directive;
+  comments = y.comments ∙ x.comments;
+  source_error = y.source_error ∙ x.source_error;
+  options = y.options ∙ x.options;
+}
+
+module _ {I : Type 0} (unread : I → Unread → Type 0) (initial now after : Scanning I) (keeps : Keeps initial now)
+    (alike : SettlesAlike unread initial now) where
+  -- a turn was made
+  pub alike_more : Turned unread now (Ok true) after → SettlesAlike unread initial after
+  alike_more turned = λ m at none.
+      let o = initial.items.options in
+      let n = alike m at none in
+      let t = turned n.0 n.1 (keeps.first ∙ none) in
+      let is : token_turn o n.0 ≡ Ok (Some [], t.0) = subst
+      (λ (p : OptionsData). token_turn p n.0 ≡ Ok (Some [], t.0)) keeps.options t.2 in
+      (t.0, t.1, settle_on o n.0 t.0 is ∙ n.2)
+
+  -- none is left to make
+  pub alike_done : {U : Type 0} (u : U) → Turned unread now (Ok false) after → (m : TokenState)
+      → StandsIn unread initial m
+      → initial.first ≡ None → GivesTo no_tokens (Ok u) (StandsIn unread after) (settle initial.items.options m)
+  alike_done u turned = λ m at none.
+      let o = initial.items.options in
+      let n = alike m at none in
+      let t = turned n.0 n.1 (keeps.first ∙ none) in
+      let is : token_turn o n.0 ≡ Ok (None, t.0) = subst
+      (λ (p : OptionsData). token_turn p n.0 ≡ Ok (None, t.0)) keeps.options t.2 in
+      (t.0, t.1, sym n.2 ∙ pieces_done token_size (token_turn o) n.0 t.0 is)
+
+  -- one fails
+  pub alike_fails : (e : Refused) → Turned unread now (Err e) after → (m : TokenState) → StandsIn unread initial m
+      → initial.first ≡ None → Fails e (settle initial.items.options m)
+  alike_fails e turned = λ m at none other.
+      let o = initial.items.options in
+      let n = alike m at none in
+      let t : Fails e (token_turn now.items.options n.0) = turned n.0 n.1 (keeps.first ∙ none) in
+      let is : token_turn o n.0 ≡ Err e = subst (λ (p : OptionsData). token_turn p n.0 ≡ Err e) keeps.options
+      (t other) in
+      sym n.2 ∙ pieces_fails token_size (token_turn o) n.0 e is

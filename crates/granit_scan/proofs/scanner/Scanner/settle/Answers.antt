@@ -1,0 +1,34 @@
+use Rattle.std.proofs.Common.{◌≡◌, Bool, true, false, Ok, subst, arith}
+use Rattle.std.proofs.lemmas.Result.{err_from_is_err_and}
+use Rattle.granit_input.proofs.OriginLemmas.{goes_on}
+use Rattle.granit_scan.proofs.SettleLemmas.{Turned, alike_done, alike_fails, alike_more, keeps_both}
+use Rattle.granit_scan.proofs.scanner.Scanner.settle.Goals as goal
+
+pub returns-in_err-turn-clause-known : goal.returns-in_err-turn-clause-known
+returns-in_err-turn-clause-known g c = λ m at told.
+    let p = err_from_is_err_and c.from_residual.result c.from_residual.ensures.1 in
+    rw (p.1, p.2) (alike_fails g.T.Input.unread c.args.self.now c.turns.self c.turn.new.self c.turns.invariant.keeps
+    c.turns.invariant.alike c.in_err-turn.field-0.0 c.in_err-turn.ensures.known m at told)
+
+pub returns-then-not-branch-clause-known : goal.returns-then-not-branch-clause-known
+returns-then-not-branch-clause-known g c =
+    let stops : c.in_ok-turn.field-0 ≡ false = c.if-not-branch.true in
+    let turned = subst
+    (λ (b : Bool). Turned g.T.Input.unread c.turns.self (Ok b) c.turn.new.self) stops c.in_ok-turn.ensures.known in
+    alike_done g.T.Input.unread c.args.self.now c.turns.self c.turn.new.self c.turns.invariant.keeps
+    c.turns.invariant.alike (tt {0}) turned
+
+pub turns-preserved : goal.turns-preserved
+turns-preserved g c =
+    let goes : c.in_ok-turn.field-0 ≡ true = c.if-not-branch.false in
+    let turned = subst
+    (λ (b : Bool). Turned g.T.Input.unread c.turns.self (Ok b) c.turn.new.self) goes c.in_ok-turn.ensures.known in
+    let moved = c.turns.invariant.moves in
+    let more = c.in_ok-turn.ensures.moves in
+    record {
+      alike = alike_more g.T.Input.unread c.args.self.now c.turns.self c.turn.new.self c.turns.invariant.keeps
+          c.turns.invariant.alike turned;
+      keeps = keeps_both c.args.self.now c.turns.self c.turn.new.self c.turns.invariant.keeps
+          c.in_ok-turn.ensures.keeps;
+      moves = (omega (arith, moved.0, more.0), goes_on _ _ _ moved.1 more.1);
+    }

@@ -1,0 +1,136 @@
+-- What contracts see of a scanner, and in which state of the machine it is known to be.
+use Rattle.std.specs.Prelude.{◌≡◌, ℕ, Bool, true, false, ◌&&◌, ◌||◌, nat_le, List, [], ◌∷◌, ◌++◌, Option, Some, None}
+use Rattle.std.specs.Prelude.{Result, Ok, Err}
+use Rattle.granit_base.specs.Place.{Mark, Unread}
+use Rattle.granit_cursor.specs.Reading.{Moves}
+use Rattle.granit_cursor.specs.declared.token.Token.{Token}
+use Rattle.granit_error.specs.FaultKind.{FaultKind, fault_number, NoMemory, DirectiveDisallowed, YamlVersionTooLong}
+use Rattle.granit_error.specs.FaultKind.{ExpectedTagBang, InvalidTagDirectiveTerminator}
+use Rattle.granit_error.specs.Refused.{Refused}
+use Rattle.granit_input.specs.Origin.{Origin}
+use Rattle.granit_lexemes.specs.Outcome.{Fault, Fails}
+use Rattle.granit_machine.specs.Lexing.{FlaggedItem}
+use Rattle.granit_scan.specs.Following.{Writing}
+use Rattle.granit_scan.specs.TokenSteps.{TokenState, next_token}
+use Rattle.granit_scan.specs.TokenViews.{PlainToken, TokenKind, StartOfStream, EndOfStream, marked, plain_token}
+use Rattle.granit_scanner.specs.Scans as scans
+use Rattle.granit_scanner.specs.Scans.{Known, may_front_go}
+use Rattle.granit_steps.specs.Steps.{may_go}
+
+-- a scanner of items, what was written of them, where the stream starts if that isn't told yet, whether its end was
+-- given, whether a call failed, and in a directive; whether comments may come, and what the source gave
+pub record Scanning (I : Type 0) : Type 0 where
+  pub items : scans.Scanning I
+  pub writer : Writing
+  pub first : Option Mark
+  pub ended : Bool
+  pub failed : Bool
+  pub failed_in_directive : Bool
+  pub comments : Bool
+  pub source_error : Option Refused
+
+-- ---- in which state of the machine
+
+abbrev pub first_tokens : Option Mark → List PlainToken
+first_tokens None = []
+first_tokens (Some m) = marked StartOfStream m ∷ []
+
+-- a scanner is known to be in a state of the machine: no call failed, and what wasn't given yet waits
+pub record StandsIn {I : Type 0} (unread : I → Unread → Type 0) (s : Scanning I) (m : TokenState) : Type 0 where
+  pub going : s.failed ≡ false
+  pub reading : Known unread s.items m.reading m.queue
+  pub following : m.following ≡ s.writer.following
+  pub pending : m.pending ≡ first_tokens s.first ++ s.writer.waiting
+
+-- what no turn changes
+pub record Keeps {I : Type 0} (old new : Scanning I) : Type 0 where
+  pub first : new.first ≡ old.first
+  pub ended : new.ended ≡ old.ended
+  pub failed : new.failed ≡ old.failed
+  pub failed_in_directive : new.failed_in_directive ≡ old.failed_in_directive
+  pub comments : new.comments ≡ old.comments
+  pub source_error : new.source_error ≡ old.source_error
+  pub options : new.items.options ≡ old.items.options
+
+-- ---- directives
+
+-- whether a number is one of those from the first to the last
+abbrev is_among : (first last number : ℕ) → Bool
+is_among first last number = nat_le first number && nat_le number last
+
+-- whether directives alone are refused so
+abbrev pub is_of_directive : FaultKind → Bool
+is_of_directive kind =
+    is_among (fault_number DirectiveDisallowed) (fault_number YamlVersionTooLong) (fault_number kind)
+    || is_among (fault_number ExpectedTagBang) (fault_number InvalidTagDirectiveTerminator) (fault_number kind)
+
+-- whether the directives of a document are being told
+abbrev pub in_header : {I : Type 0} → Scanning I → Bool
+in_header s = s.failed_in_directive || s.writer.following.in_header
+
+-- ---- what the source gave
+
+-- the error that is kept, or the one that was given at a mark
+abbrev pub first_error : Option Refused → (given : Option FaultKind) → Mark → Option Refused
+first_error (Some e) given m = Some e
+first_error None (Some kind) m = Some (record { kind = kind; mark = m; sources = [] })
+first_error None None m = None
+
+abbrev pub refused_kind : Refused → FaultKind
+refused_kind e = e.kind
+
+-- its kind
+abbrev pub first_kind : Option Refused → (given : Option FaultKind) → Option FaultKind
+first_kind (Some e) given = Some e.kind
+first_kind None given = given
+
+-- Ok exactly where no error is kept, and else that error, unless memory ran out
+abbrev pub TellsError : Option Refused → Result (Unit {0}) Refused → Type 0
+TellsError kept (Ok u) = kept ≡ None
+TellsError None (Err e) = ⊥
+TellsError (Some f) (Err e) = (e.kind ≡ NoMemory → ⊥) → e ≡ f
+
+-- ---- turns
+
+-- a turn was made, or none is left to make
+abbrev pub turn_view : Bool → Option (List PlainToken)
+turn_view true = Some []
+turn_view false = None
+
+-- turns give no tokens: these wait in the state
+abbrev pub no_tokens : {X : Type 0} → X → List PlainToken
+no_tokens x = []
+
+-- The oldest item, where it may go: a scanner is then in the state with the items behind it.
+abbrev pub TakesFree : {I : Type 0} → (I → Unread → Type 0) → Option FlaggedItem → Scanning I → TokenState → Type 0
+TakesFree unread None s m = (may_front_go m.reading m.queue ≡ false) × StandsIn unread s m
+TakesFree unread (Some i) s m =
+    (is : List FlaggedItem) × (m.queue ≡ i ∷ is) × (may_go m.reading i is ≡ true)
+    × StandsIn unread s (record m { queue = is })
+
+-- ---- tokens
+
+abbrev pub is_end_kind : TokenKind → Bool
+is_end_kind EndOfStream = true
+is_end_kind kind = false
+
+-- whether a token is the end of the stream
+abbrev pub is_end : Option PlainToken → Bool
+is_end None = false
+is_end (Some t) = is_end_kind t.kind
+
+-- a step of the iterator gives what the machine's step gives; a refusal is its fault, unless memory ran out
+abbrev pub Next : Type 0
+Next = Option (Result Token Refused)
+
+abbrev pub GivesNext : Next → (TokenState → Type 0) → Result (Option PlainToken × TokenState) Fault → Type 0
+GivesNext None Lands given = (after : TokenState) × Lands after × (given ≡ Ok (None, after))
+GivesNext (Some (Ok t)) Lands given = (after : TokenState) × Lands after × (given ≡ Ok (Some (plain_token t), after))
+GivesNext (Some (Err e)) Lands given = Fails e given
+
+pub record StepsTo {I : Type 0} (unread : I → Unread → Type 0) (left : I → ℕ) (origin : I → Origin) (s : Scanning I)
+    (r : Next) (t : Scanning I) : Type 0 where
+  pub known : (m : TokenState) → StandsIn unread s m → GivesNext r (StandsIn unread t) (next_token s.items.options m)
+  pub over : s.failed ≡ true → (r ≡ None) × (t ≡ s)
+  pub options : t.items.options ≡ s.items.options
+  pub moves : Moves left origin s.items.cursor t.items.cursor

@@ -1,0 +1,97 @@
+//! In which brackets a single pair is open.
+ghost use Rattle.std.specs.Prelude.{◌≡◌, true, false, [], ◌∷◌, drop, slice_get, OnOk};
+ghost use Rattle.granit_items.specs.ItemViews.{kind_view};
+ghost use Rattle.granit_steps.specs.Tokens as spec;
+
+use granit_base::NoMemory;
+use granit_items::LexemeKind;
+use std::alloc::Global;
+use std::marker::Model;
+
+/// Of each open bracket, whether a single pair is open in it, the innermost last.
+#[derive(Drop)]
+pub(crate) struct Pairs {
+    list: Vec<bool>,
+}
+
+impl Model for Pairs {
+    ghost use Rattle.std.specs.Prelude.{Bool, List, reverse};
+
+    ghost Value = { List Bool };
+
+    ghost view = { λ p. reverse p.list.items };
+}
+
+impl Pairs {
+    /// No bracket is open.
+    pub(crate) fn new(alloc: Global) -> Pairs
+        ensures { result ≡ [] }
+    {
+        Pairs {
+            list: Vec::new(alloc),
+        }
+    }
+
+    fn top(&self) -> Option<bool>
+        ensures { result ≡ slice_get self.now 0 }
+    {
+        self.list.last().copied()
+    }
+
+    /// Whether a single pair is open in the innermost bracket.
+    #[tactic(auto, using(crate::proofs::WriteLemmas::no_top, crate::proofs::WriteLemmas::some_top))]
+    pub(crate) fn is_inside(&self) -> bool
+        ensures { result ≡ spec.top_pair self.now }
+    {
+        match self.top() {
+            None => false,
+            Some(pair) => pair,
+        }
+    }
+
+    /// A single pair begins in the innermost bracket, or none does.
+    pub(crate) fn begin_if(&mut self, begins: bool) -> Result<(), NoMemory>
+        ensures { OnOk result (self.new ≡ spec.with_pair_if begins self.old) }
+    {
+        if !begins {
+            return Ok(());
+        }
+        self.replace(true)
+    }
+
+    fn replace(&mut self, pair: bool) -> Result<(), NoMemory>
+        ensures { OnOk result (self.new ≡ pair ∷ drop 1 self.old) }
+    {
+        self.list.pop();
+        self.list.push(pair)?;
+        Ok(())
+    }
+
+    fn open(&mut self) -> Result<(), NoMemory>
+        ensures { OnOk result (self.new ≡ false ∷ self.old) }
+    {
+        self.list.push(false)?;
+        Ok(())
+    }
+
+    fn close(&mut self)
+        ensures { self.new ≡ drop 1 self.old }
+    {
+        self.list.pop();
+    }
+
+    /// What a lexeme leaves of them.
+    pub(crate) fn follow(&mut self, kind: &LexemeKind<'_>) -> Result<(), NoMemory>
+        ensures { OnOk result (self.new ≡ spec.pairs_behind (kind_view kind.now) self.old) }
+    {
+        match kind {
+            LexemeKind::Open(_) => self.open(),
+            LexemeKind::Close(_) => {
+                self.close();
+                Ok(())
+            }
+            LexemeKind::Comma => self.replace(false),
+            _ => Ok(()),
+        }
+    }
+}

@@ -1,0 +1,394 @@
+//! An input that is read into tokens, one for each call.
+ghost use Rattle.std.specs.Prelude.{◌≡◌, ◌≤◌, ◌||◌, [], true, false, None, Ok, is_none, drop, slice_get, IfErr, IfOk};
+ghost use Rattle.std.specs.Option.{option_map};
+ghost use Rattle.granit_base.specs.Place.{Unread};
+ghost use Rattle.granit_cursor.specs.Reading.{GivesTo, GoesTo, Moves, Stands};
+ghost use Rattle.granit_error.specs.Kinds.{kind_of};
+ghost use Rattle.granit_error.specs.OptionsData.{default_options};
+ghost use Rattle.granit_error.specs.OptionsView.{options_of};
+ghost use Rattle.granit_input.specs.Origin.{after_giving, error_given};
+ghost use Rattle.granit_input.specs.White.{holds};
+ghost use Rattle.granit_lexemes.specs.Here.{Here, first_place, mark_of};
+ghost use Rattle.granit_queue.specs.QueueViews.{queued_view};
+ghost use Rattle.granit_scan.specs.Scanning as spec;
+ghost use Rattle.granit_scan.specs.Scanning.{Keeps, StandsIn, TakesFree, TellsError};
+ghost use Rattle.granit_scan.specs.TokenSteps as steps;
+ghost use Rattle.granit_scan.specs.TokenSteps.{TokenState};
+ghost use Rattle.granit_scan.specs.TokenViews.{plain_token};
+ghost use Rattle.granit_scanner.specs.Scans.{may_front_go};
+ghost use Rattle.granit_steps.specs.Steps.{is_over};
+
+use crate::writer::Writer;
+use granit_base::{Marker, NoMemory, Span};
+use granit_cursor::{Token, TokenType};
+use granit_error::{ErrorKind, Options, ScanError};
+use granit_input::{BorrowedInput, Input};
+use granit_queue::Queued;
+use granit_scanner::{Front, Scanner as ItemScanner};
+use std::alloc::Global;
+use std::iter::FusedIterator;
+use std::marker::Model;
+
+/// An input that is read into tokens, one for each call.
+#[derive(Drop)]
+pub struct Scanner<'input, T: Input> {
+    alloc: Global,
+    items: ItemScanner<'input, T>,
+    writer: Writer<'input>,
+    // Where the stream starts, until that is told.
+    first: Option<Marker>,
+    // The end of the stream was given.
+    ended: bool,
+    // A call failed: nothing more is given.
+    failed: bool,
+    // It failed in a directive, as its kind says.
+    failed_in_directive: bool,
+    // Comments are asked for, and the input may hold some.
+    comments: bool,
+    // What the input's source gave, where it was asked.
+    source_error: Option<ScanError>,
+}
+
+impl<'input, T: Input> Model for Scanner<'input, T> {
+    ghost use Rattle.granit_scan.specs.Scanning.{Scanning};
+
+    ghost Value = { Scanning T };
+
+    ghost view = { λ s. record {
+      items = s.items;
+      writer = s.writer;
+      first = s.first;
+      ended = s.ended;
+      failed = s.failed;
+      failed_in_directive = s.failed_in_directive;
+      comments = s.comments;
+      source_error = s.source_error;
+    } };
+}
+
+impl<'input, T: BorrowedInput<'input>> Scanner<'input, T> {
+    /// Before an input of which nothing was read, read with the default options.
+    pub fn new(alloc: Global, input: T) -> Scanner<'input, T>
+        ensures start { (h : Here) → T.unread input h.unread → h.place ≡ first_place → h.begins_line ≡ true
+            → h.tab ≡ None → StandsIn T.unread result (steps.start_from h) }
+        ensures options { result.items.options ≡ default_options }
+        ensures ended { result.ended ≡ false }
+        ensures comments { result.comments ≡ false → (u : Unread) → T.unread input u → holds 0x23 u.text ≡ false }
+        ensures source { result.source_error ≡ None }
+    {
+        Scanner::with_options(alloc, input, Options::default())
+    }
+
+    /// Before an input of which nothing was read.
+    pub fn with_options(alloc: Global, input: T, options: Options) -> Scanner<'input, T>
+        ensures start { (h : Here) → T.unread input h.unread → h.place ≡ first_place → h.begins_line ≡ true
+            → h.tab ≡ None → StandsIn T.unread result (steps.start_from h) }
+        ensures options { result.items.options ≡ options_of options }
+        ensures ended { result.ended ≡ false }
+        ensures comments { result.comments ≡ false → options.emit_comments ≡ true
+            → (u : Unread) → T.unread input u → holds 0x23 u.text ≡ false }
+        ensures unasked { options.emit_comments ≡ false → result.comments ≡ false }
+        ensures source { result.source_error ≡ None }
+    {
+        let comments = options.emit_comments && input.may_contain_comments();
+        let items = ItemScanner::new(alloc, input, options);
+        let start = items.mark();
+        Scanner {
+            alloc,
+            items,
+            writer: Writer::new(alloc),
+            first: Some(start),
+            ended: false,
+            failed: false,
+            failed_in_directive: false,
+            comments,
+            source_error: None,
+        }
+    }
+
+    /// Whether the start of the stream was given.
+    pub fn stream_started(&self) -> bool
+        ensures { result ≡ is_none self.now.first }
+    {
+        self.first.is_none()
+    }
+
+    /// Whether the end of the stream was given.
+    pub fn stream_ended(&self) -> bool
+        ensures { result ≡ self.now.ended }
+    {
+        self.ended
+    }
+
+    /// The place up to which was read.
+    pub fn mark(&self) -> Marker
+        ensures { (h : Here) → Stands T.unread self.now.items.cursor h → result ≡ mark_of h }
+    {
+        self.items.mark()
+    }
+
+    /// Whether the directives of a document are being told: the last lexeme that was written but the end is one, or a
+    /// call failed with a kind that directives alone have.
+    pub fn in_directive_prefix(&self) -> bool
+        ensures { result ≡ spec.in_header self.now }
+    {
+        self.failed_in_directive || self.writer.in_header()
+    }
+
+    /// Whether comments are asked for, and the input didn't rule them out when it was given.
+    pub fn comments_possible(&self) -> bool
+        ensures { result ≡ self.now.comments }
+    {
+        self.comments
+    }
+
+    /// The error that the input's source gave, which is kept; Ok exactly where it gave none. No call for a token asks
+    /// the source.
+    ///
+    /// # Errors
+    ///
+    /// That error, at the place up to which was read when this first met it, and `NoMemory`.
+    pub fn check_source_error(&mut self) -> Result<(), ScanError>
+        ensures told { TellsError self.new.source_error result }
+        ensures kind { option_map spec.refused_kind self.new.source_error
+            ≡ spec.first_kind self.old.source_error (error_given (T.origin self.old.items.cursor.input)) }
+        ensures kept { (h : Here) → Stands T.unread self.old.items.cursor h → self.new.source_error
+            ≡ spec.first_error self.old.source_error (error_given (T.origin self.old.items.cursor.input)) (mark_of h) }
+        ensures known { (m : TokenState) → StandsIn T.unread self.old m → StandsIn T.unread self.new m }
+        ensures rest { self.new
+            ≡ record self.old { items = self.new.items; source_error = self.new.source_error } }
+        ensures items { self.new.items ≡ record (self.old.items) { cursor = self.new.items.cursor } }
+        ensures here { GoesTo T.unread self.old.items.cursor self.new.items.cursor (λ h. h) }
+        ensures left { T.left self.new.items.cursor.input ≤ T.left self.old.items.cursor.input }
+        ensures origin { T.origin self.new.items.cursor.input
+            ≡ after_giving (T.origin self.old.items.cursor.input) }
+    {
+        let mark = self.items.mark();
+        let given = self.items.take_source_error();
+        let kept = self.source_error.take();
+        self.source_error = first_error(kept, given, mark);
+        self.tell_source_error()
+    }
+
+    /// The source's error, where one is kept.
+    fn tell_source_error(&self) -> Result<(), ScanError>
+        ensures { TellsError self.now.source_error result }
+    {
+        match &self.source_error {
+            None => Ok(()),
+            Some(error) => Err(error.try_clone(self.alloc)?),
+        }
+    }
+
+    /// The next token; none behind the end of the stream, and behind an error.
+    ///
+    /// # Errors
+    ///
+    /// What is wrong with the input there, by the kinds of `docs/FAULTS.md`, and `NoMemory`.
+    pub fn next_queued(&mut self) -> Result<Option<Token<'input>>, ScanError>
+        ensures known { (m : TokenState) → StandsIn T.unread self.old m → GivesTo (option_map plain_token) result
+            (StandsIn T.unread self.new) (steps.next_token self.old.items.options m) }
+        ensures ended { IfOk result (λ t. self.new.ended
+            ≡ (self.old.ended || spec.is_end (option_map plain_token t))) }
+        ensures failed { IfErr result (λ e. (self.new.failed ≡ true)
+            × (self.new.failed_in_directive ≡ spec.is_of_directive e.kind)) }
+        ensures going { IfOk result (λ t. self.new.failed_in_directive ≡ self.old.failed_in_directive) }
+        ensures source { (self.new.comments ≡ self.old.comments) × (self.new.source_error ≡ self.old.source_error) }
+        ensures over { self.old.failed ≡ true → (result ≡ Ok None) × (self.new ≡ self.old) }
+        ensures options { self.new.items.options ≡ self.old.items.options }
+        ensures moves { Moves T.left T.origin self.old.items.cursor self.new.items.cursor }
+    {
+        if self.failed {
+            return Ok(None);
+        }
+        match self.first {
+            Some(start) => {
+                self.first = None;
+                Ok(Some(Token::new(Span::empty(start), TokenType::StreamStart)))
+            }
+            None => self.later_token(),
+        }
+    }
+
+    /// The next token behind the start of the stream.
+    fn later_token(&mut self) -> Result<Option<Token<'input>>, ScanError>
+        ensures known { (m : TokenState) → StandsIn T.unread self.old m → self.old.first ≡ None
+            → GivesTo (option_map plain_token) result (StandsIn T.unread self.new)
+            (steps.next_token self.old.items.options m) }
+        ensures ended { IfOk result (λ t. self.new.ended
+            ≡ (self.old.ended || spec.is_end (option_map plain_token t))) }
+        ensures failed { IfErr result (λ e. (self.new.failed ≡ true)
+            × (self.new.failed_in_directive ≡ spec.is_of_directive e.kind)) }
+        ensures going { IfOk result (λ t. self.new.failed_in_directive ≡ self.old.failed_in_directive) }
+        ensures source { (self.new.comments ≡ self.old.comments) × (self.new.source_error ≡ self.old.source_error) }
+        ensures options { self.new.items.options ≡ self.old.items.options }
+        ensures moves { Moves T.left T.origin self.old.items.cursor self.new.items.cursor }
+    {
+        match self.settle() {
+            Ok(()) => Ok(self.take_token()),
+            Err(error) => {
+                self.failed = true;
+                self.failed_in_directive = is_of_directive(error.kind());
+                Err(error)
+            }
+        }
+    }
+
+    /// The oldest token that waits goes.
+    fn take_token(&mut self) -> Option<Token<'input>>
+        ensures first { option_map plain_token result ≡ slice_get self.old.writer.waiting 0 }
+        ensures rest { self.new ≡ record self.old {
+          writer = record (self.old.writer) { waiting = drop 1 self.old.writer.waiting };
+          ended = self.old.ended || spec.is_end (option_map plain_token result);
+        } }
+    {
+        let token = self.writer.pop();
+        self.ended = ends_stream(self.ended, &token);
+        token
+    }
+
+    /// Turns until a token waits, or nothing is left.
+    fn settle(&mut self) -> Result<(), ScanError>
+        ensures known { (m : TokenState) → StandsIn T.unread self.old m → self.old.first ≡ None
+            → GivesTo spec.no_tokens result (StandsIn T.unread self.new) (steps.settle self.old.items.options m) }
+        ensures keeps { Keeps self.old self.new }
+        ensures moves { Moves T.left T.origin self.old.items.cursor self.new.items.cursor }
+    {
+        // Over an input of which nothing is known no number falls with each turn, so the turns are counted.
+        'turns: for _ in 0..u64::MAX {
+            if !self.turn()? {
+                return Ok(());
+            }
+        }
+        Err(ScanError::from(NoMemory))
+    }
+
+    /// One turn: the oldest item is written where it may go, and else one more read is made; false where a token waits
+    /// or nothing is left.
+    fn turn(&mut self) -> Result<bool, ScanError>
+        ensures known { (m : TokenState) → StandsIn T.unread self.old m → self.old.first ≡ None
+            → GivesTo spec.turn_view result (StandsIn T.unread self.new) (steps.token_turn self.old.items.options m) }
+        ensures keeps { Keeps self.old self.new }
+        ensures moves { Moves T.left T.origin self.old.items.cursor self.new.items.cursor }
+    {
+        if !self.writer.is_empty() {
+            return Ok(false);
+        }
+        match self.take_free() {
+            Some(queued) => self.write_item(queued),
+            None => self.read_more(),
+        }
+    }
+
+    /// The oldest item, where it may go.
+    fn take_free(&mut self) -> Option<Queued<'input>>
+        ensures known { (m : TokenState) → StandsIn T.unread self.old m
+            → TakesFree T.unread (option_map queued_view result) self.new m }
+        ensures keeps { Keeps self.old self.new }
+        ensures writer { self.new.writer ≡ self.old.writer }
+        ensures cursor { self.new.items.cursor ≡ self.old.items.cursor }
+    {
+        if !self.items.front_may_go() {
+            return None;
+        }
+        match self.items.take_front() {
+            None => None,
+            Some(front) => Some(front.queued),
+        }
+    }
+
+    /// An item is written as tokens.
+    fn write_item(&mut self, queued: Queued<'input>) -> Result<bool, ScanError>
+        ensures known { (m : TokenState) → StandsIn T.unread self.old m → self.old.first ≡ None → m.pending ≡ []
+            → GivesTo spec.turn_view result (StandsIn T.unread self.new)
+            (Ok (spec.turn_view true, steps.with_written (queued_view queued.entry) m.queue m)) }
+        ensures keeps { Keeps self.old self.new }
+        ensures items { self.new.items ≡ self.old.items }
+    {
+        let Queued { item, begins_key } = queued;
+        let options = self.items.options();
+        self.writer.write(options, item, begins_key)?;
+        Ok(true)
+    }
+
+    /// One more read, or the fault of the one before; false behind the end.
+    fn read_more(&mut self) -> Result<bool, ScanError>
+        ensures known { (m : TokenState) → StandsIn T.unread self.old m → may_front_go m.reading m.queue ≡ false
+            → GivesTo spec.turn_view result (StandsIn T.unread self.new)
+            (steps.read_more self.old.items.options m.reading.ended m) }
+        ensures keeps { Keeps self.old self.new }
+        ensures moves { Moves T.left T.origin self.old.items.cursor self.new.items.cursor }
+    {
+        if self.items.is_over() {
+            return self.end();
+        }
+        self.items.read_on(self.alloc)?;
+        Ok(true)
+    }
+
+    /// Reading is over: by a fault, or at the end.
+    fn end(&mut self) -> Result<bool, ScanError>
+        ensures known { (m : TokenState) → StandsIn T.unread self.old m → is_over m.reading ≡ true
+            → GivesTo spec.turn_view result (StandsIn T.unread self.new)
+            (steps.read_more self.old.items.options m.reading.ended m) }
+        ensures keeps { Keeps self.old self.new }
+        ensures cursor { self.new.items.cursor ≡ self.old.items.cursor }
+    {
+        match self.items.take_fault() {
+            None => Ok(false),
+            Some(fault) => Err(fault),
+        }
+    }
+}
+
+/// Whether the end of the stream was given, now or before.
+fn ends_stream(before: bool, token: &Option<Token<'_>>) -> bool
+    ensures { result ≡ (before || spec.is_end (option_map plain_token token.now)) }
+{
+    match token {
+        None => before,
+        Some(token) => before || matches!(token.token_type(), TokenType::StreamEnd),
+    }
+}
+
+/// Whether only directives are refused so.
+fn is_of_directive(kind: &ErrorKind) -> bool
+    ensures { result ≡ spec.is_of_directive (kind_of kind.now) }
+{
+    let number = kind.number();
+    let of_any = ErrorKind::DirectiveDisallowed.number() <= number
+        && number <= ErrorKind::YamlVersionTooLong.number();
+    let of_tag = ErrorKind::ExpectedTagBang.number() <= number
+        && number <= ErrorKind::InvalidTagDirectiveTerminator.number();
+    of_any || of_tag
+}
+
+/// The error that is kept, or the one that was given at a place.
+fn first_error(kept: Option<ScanError>, given: Option<ErrorKind>, mark: Marker) -> Option<ScanError>
+    ensures { result ≡ spec.first_error kept (option_map kind_of given) mark }
+{
+    match (kept, given) {
+        (Some(error), _) => Some(error),
+        (None, Some(kind)) => Some(ScanError::from_kind(mark, kind)),
+        (None, None) => None,
+    }
+}
+
+/// The tokens one by one, as `next_queued` gives them, up to the end of the stream or a refusal.
+impl<'input, T: BorrowedInput<'input>> Iterator for Scanner<'input, T> {
+    type Item = Result<Token<'input>, ScanError>;
+
+    ghost use Rattle.granit_scan.specs.Scanning.{StepsTo};
+
+    ghost next_gives = { λ p r q. StepsTo T.unread T.left T.origin p r q };
+
+    fn next(&mut self) -> Option<Result<Token<'input>, ScanError>> {
+        match self.next_queued() {
+            Ok(None) => None,
+            Ok(Some(token)) => Some(Ok(token)),
+            Err(error) => Some(Err(error)),
+        }
+    }
+}
+
+impl<'input, T: BorrowedInput<'input>> FusedIterator for Scanner<'input, T> {}

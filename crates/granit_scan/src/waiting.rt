@@ -1,0 +1,86 @@
+//! The tokens that are made and not yet given.
+ghost use Rattle.std.specs.Prelude.{◌≡◌, ◌==◌, [], ◌∷◌, ◌++◌, length, replicate, drop, slice_get, OnOk};
+ghost use Rattle.std.specs.Option.{option_map};
+ghost use Rattle.granit_scan.specs.TokenViews.{CollectionEnd, inserted_if, marked, plain_token, token_kind};
+
+use granit_base::{Marker, NoMemory, Span};
+use granit_cursor::{Token, TokenType};
+use std::alloc::Global;
+use std::collections::VecDeque;
+use std::marker::Model;
+
+/// Tokens that wait, the oldest first. Contracts see their plain tokens.
+#[derive(Drop)]
+pub(crate) struct Waiting<'input> {
+    tokens: VecDeque<Token<'input>>,
+}
+
+impl<'input> Model for Waiting<'input> {
+    ghost use Rattle.std.specs.Prelude.{List, map};
+    ghost use Rattle.granit_scan.specs.TokenViews.{PlainToken, plain_token};
+
+    ghost Value = { List PlainToken };
+
+    ghost view = { λ w. map plain_token w.tokens.items };
+}
+
+impl<'input> Waiting<'input> {
+    /// None waits.
+    pub(crate) fn new(alloc: Global) -> Waiting<'input>
+        ensures { result ≡ [] }
+    {
+        Waiting {
+            tokens: VecDeque::new(alloc),
+        }
+    }
+
+    /// Whether none waits.
+    #[tactic(auto, using(crate::proofs::WriteLemmas::shown_length))]
+    pub(crate) fn is_empty(&self) -> bool
+        ensures { result ≡ (length self.now == 0) }
+    {
+        self.tokens.is_empty()
+    }
+
+    /// The oldest one goes.
+    pub(crate) fn pop(&mut self) -> Option<Token<'input>>
+        ensures first { option_map plain_token result ≡ slice_get self.old 0 }
+        ensures rest { self.new ≡ drop 1 self.old }
+    {
+        self.tokens.pop_front()
+    }
+
+    /// One more waits.
+    pub(crate) fn push(&mut self, token: Token<'input>) -> Result<(), NoMemory>
+        ensures { OnOk result (self.new ≡ self.old ++ plain_token token.entry ∷ []) }
+    {
+        self.tokens.push_back(token)?;
+        Ok(())
+    }
+
+    /// What is inserted at a place waits, where it is wanted.
+    pub(crate) fn insert_if(
+        &mut self,
+        wanted: bool,
+        what: TokenType<'input>,
+        mark: Marker,
+    ) -> Result<(), NoMemory>
+        ensures { OnOk result (self.new ≡ self.old ++ inserted_if wanted (token_kind what.entry) mark) }
+    {
+        if !wanted {
+            return Ok(());
+        }
+        self.push(Token::new(Span::empty(mark), what))
+    }
+
+    /// So many block collections end at a place.
+    #[tactic(auto, using(crate::proofs::WriteLemmas::no_more, crate::proofs::WriteLemmas::one_more))]
+    pub(crate) fn insert_ends(&mut self, count: usize, mark: Marker) -> Result<(), NoMemory>
+        ensures { OnOk result (self.new ≡ self.old ++ replicate count (marked CollectionEnd mark)) }
+    {
+        'ends: for _done in 0..count {
+            self.push(Token::new(Span::empty(mark), TokenType::BlockEnd))?;
+        }
+        Ok(())
+    }
+}
