@@ -33,6 +33,7 @@ memory_ran_out words source sink = record {
   answered = λ can quiet. inr refl;
   refused = λ f has quiet. inr refl;
   known = λ es has quiet. inr refl;
+  layout = λ ts has quiet. inr refl;
 }
 
 pub ran_out : (all : Option (List (List ℕ))) (source sink : End) → RanOn all source source sink sink status.NoMemory

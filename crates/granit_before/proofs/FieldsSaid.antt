@@ -215,7 +215,7 @@ front_last (Placed (QuoteSign single)) h l = refl
 front_last (Placed PlainSign) h l = refl
 front_last (Placed sort) h l = refl
 
-mapped_nonempty : (f : OpenBracket → OpenBracket) (bs : List OpenBracket) → is_nonempty (map f bs) ≡ is_nonempty bs
+pub mapped_nonempty : (f : OpenBracket → OpenBracket) (bs : List OpenBracket) → is_nonempty (map f bs) ≡ is_nonempty bs
 mapped_nonempty f [] = refl
 mapped_nonempty f (b ∷ bs) = refl
 

@@ -77,7 +77,7 @@ module _ (o : OptionsData) (m : Mark) (ls : List Lexeme) where
 
 -- ---- brackets
 
-abbrev opener_of : OpenBracket → Opener
+abbrev pub opener_of : OpenBracket → Opener
 opener_of b = (b.bracket, b.mark)
 
 abbrev pub openers_of : Laid → List Opener
@@ -92,7 +92,7 @@ shut_openers : (bs : List OpenBracket) → map opener_of (drop 1 bs) ≡ inside_
 shut_openers [] = refl
 shut_openers (b ∷ bs) = refl
 
-fresh_openers : (o : OptionsData) (m : Mark) (bs : List OpenBracket) →
+pub fresh_openers : (o : OptionsData) (m : Mark) (bs : List OpenBracket) →
     map opener_of (map (fresh_bracket o m) bs) ≡ map opener_of bs
 fresh_openers o m [] = refl
 fresh_openers o m (b ∷ bs) = ap (λ (ys : List Opener). opener_of b ∷ ys) (fresh_openers o m bs)

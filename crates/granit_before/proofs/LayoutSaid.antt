@@ -168,7 +168,7 @@ module _ (o : OptionsData) (text : List ℕ) (ls : List Lexeme) (x : Lexeme) whe
     comments = comments;
   }
 
-  one_layout : (d e : LayoutData) → ScalarLayout o text ls x d → ScalarLayout o text ls x e → d ≡ e
+  pub one_layout : (d e : LayoutData) → ScalarLayout o text ls x d → ScalarLayout o text ls x e → d ≡ e
   unfolding layout_by
   one_layout d e p q =
       ap₂ (λ (b : Option ℕ) (t : ℕ). layout_by b t d.in_flow d.strict d.comments) (one_block p.block q.block)

@@ -1,5 +1,8 @@
+pub mod Bracketed
 pub mod CauseSaid
+pub mod CertainSaid
 pub mod CommentsSaid
+pub mod CutSaid
 pub mod FieldsSaid
 pub mod HeldLow
 pub mod HeldSteps
@@ -7,9 +10,14 @@ pub mod HeldWhole
 pub mod KeyFlags
 pub mod LayoutSaid
 pub mod Numbered
+pub mod OneLine
+pub mod OuterKey
+pub mod OuterWhole
 pub mod QuestionSaid
 pub mod QuestionTabs
+pub mod QuotedGapSaid
 pub mod ReadingSaid
+pub mod StillSaid
 pub mod TabRows
 pub mod TabsColumns
 pub mod TabsInnermost

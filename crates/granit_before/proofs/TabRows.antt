@@ -86,13 +86,13 @@ head_of ls l c said p = on l.columns refl
 
 module _ (o : OptionsData) (text : List ℕ) (ls : List Lexeme) (l : Laid) (said : ColumnsSay ls l)
     (inside : (InFlow l → IsInside ls) × (IsInside ls → InFlow l)) (tab : Mark) where
-  tab_there : Decides l.rolled (IndentsFurther text ls) → InBlock o l tab →
+  pub tab_there : Decides l.rolled (IndentsFurther text ls) → InBlock o l tab →
       TabIndents o text ls tab.place.column
   tab_there d (c, cs, e, inl f) = (c.column, head_innermost ls l c cs said e, inl f)
   tab_there d (c, cs, e, inr (inl f, g)) = (c.column, head_innermost ls l c cs said e, inr (inl (d.0 f), g))
   tab_there d (c, cs, e, inr (inr f, g)) = (c.column, head_innermost ls l c cs said e, inr (inr (inside.0 f.0, f.1), g))
 
-  tab_back : Decides l.rolled (IndentsFurther text ls) → TabIndents o text ls tab.place.column →
+  pub tab_back : Decides l.rolled (IndentsFurther text ls) → TabIndents o text ls tab.place.column →
       InBlock o l tab
   tab_back d (c, p, inl f) =
       let q = head_of ls l c said p in (q.0, q.1, q.2, inl (subst (λ c. tab.place.column < c) (sym q.3) f))

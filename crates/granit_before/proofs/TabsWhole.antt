@@ -27,7 +27,7 @@ pub record TabsSay (text : List ℕ) (ls : List Lexeme) (l : Laid) : Type 0 wher
   pub innermost : Decides l.rolled (IndentsFurther text ls)
   pub widths : Widths text ls l.columns
 
-tabs_as : (text : List ℕ) (ls : List Lexeme) {a b : Laid} → SameTabs a b → TabsSay text ls b → TabsSay text ls a
+pub tabs_as : (text : List ℕ) (ls : List Lexeme) {a b : Laid} → SameTabs a b → TabsSay text ls b → TabsSay text ls a
 tabs_as text ls {a = a} {b = b} e p = record {
   innermost = Decides-at a.rolled b.rolled e.rolled p.innermost;
   widths = subst (Widths text ls) (sym e.columns) p.widths;

@@ -1,12 +1,14 @@
 -- What decides the worked examples.
-use Rattle.std.proofs.Common.{◌≡◌, ℕ, zero, suc, ◌&&◌, ◌||◌, Bool, true, false, List, [], ◌∷◌, ◌++◌, None}
-use Rattle.std.proofs.Common.{Result, Ok, Err, refl, sym, ◌∙◌}
+use Rattle.std.proofs.Common.{◌≡◌, ℕ, zero, suc, ◌==◌, ◌&&◌, ◌||◌, Bool, true, false, List, [], ◌∷◌, ◌++◌, Option, Some}
+use Rattle.std.proofs.Common.{None}
+use Rattle.std.proofs.Common.{Result, Ok, Err, refl, sym, ap, ◌∙◌, subst, arith}
 use Rattle.std.specs.Bool.{Decides}
 use Rattle.std.specs.Prelude.{nat_lt}
-use Rattle.std.proofs.lemmas.Bool.Decides.{Decides-like}
+use Rattle.std.proofs.lemmas.Bool.Decides.{Decides-like, nat_tests}
 use Rattle.std.proofs.lemmas.List.{append-nil}
 use Rattle.granit_base.specs.Place.{Mark}
 use Rattle.granit_error.specs.OptionsData.{default_options}
+use Rattle.granit_language.specs.HeldSaid.{has_ended}
 use Rattle.granit_language.specs.OpenColumns.{latest}
 use Rattle.granit_language.specs.Reached.{Reads, Reached, stops, goes_on}
 use Rattle.granit_lexemes.specs.Here.{start_of}
@@ -15,18 +17,21 @@ use Rattle.granit_lexemes.specs.Lexeme.{Lexeme, Item, OfLexeme, OfComment}
 use Rattle.granit_lexemes.specs.Outcome.{Fault}
 use Rattle.granit_machine.specs.Laid.{is_question, is_in_flow, block_column}
 use Rattle.granit_machine.specs.Lexing.{FlaggedItem, flagged, lex}
-use Rattle.granit_machine.specs.PossibleKeys.{tab_column_of}
+use Rattle.granit_machine.specs.PossibleKeys.{tab_column_of, is_possible}
 use Rattle.granit_machine.specs.Reader.{LexState, read, is_end}
 use Rattle.granit_machine.specs.ReaderState.{ReaderState, Read, reader_start}
 use Rattle.granit_reading.proofs.Answering.{Answers}
 use Rattle.granit_reading.proofs.Deciding.{block_tab_decided, key_tab_decided}
 use Rattle.granit_reading.proofs.ReadingLaw.{ReadsBy, read-is, lexed}
 use Rattle.granit_language.specs.Reached.{ReadRefused}
+use Rattle.granit_before.proofs.CutSaid.{cut_said, cut_held}
 use Rattle.granit_before.proofs.KeyFlags.{flags_said}
+use Rattle.granit_before.proofs.StillSaid.{still_said}
 use Rattle.granit_before.proofs.TabRows.{block_row, key_row}
 use Rattle.granit_before.specs.KeyBegins.{items_of, FlagSays, FlagsSay}
-use Rattle.granit_before.specs.Worked.{Behind, further, behind_read, reads_from, first_reads, Indents, BeforeKey}
-use Rattle.granit_before.specs.Worked.{item_begins, BeginsIn, items_in, flagged_of, KeyAt}
+use Rattle.granit_before.specs.Worked.{Behind, further, behind_read, reads_from, first_reads, first_lexemes, Indents}
+use Rattle.granit_before.specs.Worked.{BeforeKey}
+use Rattle.granit_before.specs.Worked.{item_begins, BeginsIn, items_in, flagged_of, KeyAt, StillKey, CutAt}
 
 -- ---- so many reads reach a place
 
@@ -117,3 +122,45 @@ is_key text n = flag_in n (flagged_of text)
 pub key_decided : (text : List ℕ) (n : ℕ) → Decides (is_key text n) (KeyAt text n)
 key_decided text n =
     flag_decided text n [] (flagged_of text) (flags_in text (lex default_options (start_of text)) refl)
+
+-- ---- keys that may still begin
+
+abbrev pub may_be_key : List ℕ → (reads number : ℕ) → Bool
+may_be_key text n number = is_possible number (first_reads n text).1.laid
+
+pub still_decided : (text : List ℕ) (n number : ℕ) → has_ended (first_lexemes n text) ≡ false →
+    Decides (may_be_key text n number) (StillKey text n number)
+still_decided text n number e =
+    still_said default_options text (first_reads n text).0 (first_reads n text).1 number (first_reach n text) e
+
+-- ---- comments
+
+abbrev pub stands_at : Option Mark → ℕ → Bool
+stands_at None index = false
+stands_at (Some m) index = m.place.index == index
+
+same_index : (a b : ℕ) → (a == b) ≡ true → a ≡ b
+same_index a b e = grind (arith, nat_tests, e)
+
+index_same : (a b : ℕ) → a ≡ b → (a == b) ≡ true
+index_same a b e = grind (arith, nat_tests, e)
+
+abbrev pub is_cut_at : List ℕ → (reads index : ℕ) → Bool
+is_cut_at text n index = stands_at (first_reads n text).1.laid.cut index
+
+pub cut_decided : (text : List ℕ) (n index : ℕ) → has_ended (first_lexemes n text) ≡ false →
+    Decides (is_cut_at text n index) (CutAt text n index)
+cut_decided text n index e = (there (first_reads n text).1.laid.cut refl, back)
+  where
+    there : (cut : Option Mark) → (first_reads n text).1.laid.cut ≡ cut → stands_at cut index ≡ true →
+        CutAt text n index
+    there None f y = absurd cc
+    there (Some m) f y =
+        subst (CutAt text n) (same_index m.place.index index y)
+        (cut_said default_options text (first_reads n text).0 (first_reads n text).1 m (first_reach n text) e f)
+
+    back : CutAt text n index → is_cut_at text n index ≡ true
+    back c =
+        let r = first_reach n text in
+        let q = cut_held default_options text (first_reads n text).0 (first_reads n text).1 index r e c in
+        ap (λ (cut : Option Mark). stands_at cut index) q.1 ∙ index_same q.0.place.index index q.2

@@ -1,10 +1,14 @@
+pub mod Certain
+pub mod CutText
 pub mod DeclaredCause
 pub mod DeclaredReading
 pub mod Fields
 pub mod HeldKeys
 pub mod KeyBegins
 pub mod Openers
+pub mod QuotedGap
 pub mod ScalarLayout
+pub mod StillBegins
 pub mod Tabs
 pub mod ToldComments
 pub mod Touching

@@ -2,13 +2,15 @@
 use Rattle.std.specs.Prelude.{ℕ, zero, suc, Bool, true, false, List, [], ◌∷◌, ◌++◌, Result, Ok, Err}
 use Rattle.granit_error.specs.OptionsData.{default_options}
 use Rattle.granit_language.specs.OpenColumns.{latest}
-use Rattle.granit_lexemes.specs.Here.{start_of}
+use Rattle.granit_lexemes.specs.Here.{mark_of, start_of}
 use Rattle.granit_lexemes.specs.Lexeme.{Lexeme, Item, OfLexeme, OfComment}
 use Rattle.granit_lexemes.specs.Outcome.{Fault}
 use Rattle.granit_machine.specs.Lexing.{FlaggedItem, flagged, lex}
 use Rattle.granit_machine.specs.Reader.{LexState, read, is_end}
 use Rattle.granit_machine.specs.ReaderState.{ReaderState, Read, reader_start}
+use Rattle.granit_before.specs.CutText.{LastCutsShort}
 use Rattle.granit_before.specs.KeyBegins.{BeginsKey, items_of}
+use Rattle.granit_before.specs.StillBegins.{StillBegins}
 use Rattle.granit_before.specs.Tabs.{TabIndents, TabBeforeKey}
 
 -- ---- behind at most so many reads
@@ -68,3 +70,14 @@ flagged_of text = flagged (items_in (lex default_options (start_of text)))
 -- a simple key begins with the lexeme of a text that so many items stand before
 abbrev pub KeyAt : List ℕ → ℕ → Type 0
 KeyAt text n = BeginsIn text n [] (flagged_of text)
+
+-- behind so many reads of a text a simple key may still begin with the lexeme of a number
+abbrev pub StillKey : List ℕ → (reads number : ℕ) → Type 0
+StillKey text n number =
+    StillBegins default_options text (mark_of (first_reads n text).1.here) (first_lexemes n text) number
+
+-- ---- comments
+
+-- behind so many reads of a text a comment at an index cuts the last scalar short
+abbrev pub CutAt : List ℕ → (reads index : ℕ) → Type 0
+CutAt text n index = LastCutsShort default_options text (first_lexemes n text) index

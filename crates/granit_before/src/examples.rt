@@ -1,5 +1,5 @@
 //! Worked examples, each where it holds, and one character or one lexeme away where it doesn't.
-ghost use Rattle.granit_before.specs.Worked.{BeforeKey, Indents, KeyAt};
+ghost use Rattle.granit_before.specs.Worked.{BeforeKey, CutAt, Indents, KeyAt, StillKey};
 ghost use Rattle.std.specs.Prelude.{codes};
 
 /// Which columns of a line are its indentation, behind so many lexemes of a text.
@@ -46,4 +46,31 @@ pub fn keys_of_the_examples()
     ensures behind_dash { KeyAt (codes "- a: b\n") 1 }
     ensures comment { KeyAt (codes "# a\nb: c\n") 0 → ⊥ }
     ensures behind_comment { KeyAt (codes "# a\nb: c\n") 1 }
+{}
+
+/// With which lexemes a simple key may still begin behind so many reads of a text.
+pub fn keys_that_may_still_begin_of_the_examples()
+    ensures alone { StillKey (codes "a") 1 0 }
+    ensures behind_its_colon { StillKey (codes "a: b") 2 0 → ⊥ }
+    ensures around { StillKey (codes "[a\n") 2 0 }
+    ensures inside { StillKey (codes "[a\n") 2 1 }
+    ensures entry_ended { StillKey (codes "[a, b\n") 4 1 → ⊥ }
+    ensures still_around { StillKey (codes "[a, b\n") 4 0 }
+    ensures closed { StillKey (codes "[a]\n") 3 0 }
+    ensures closed_below { StillKey (codes "[a\n]") 3 0 → ⊥ }
+    ensures below_its_begin { StillKey (codes "\"a\n b\" [c") 3 0 → ⊥ }
+    ensures property { StillKey (codes "&a [b") 2 0 }
+    ensures behind_property { StillKey (codes "&a [b") 2 1 → ⊥ }
+    ensures in_two { StillKey (codes "[{a\n") 3 1 }
+    ensures not_allowed { StillKey (codes "[a [b") 3 2 → ⊥ }
+{}
+
+/// Where a comment cuts the last scalar short behind so many reads of a text.
+pub fn cuts_of_the_examples()
+    ensures behind_blank { CutAt (codes "a #b\n") 1 2 }
+    ensures touching { CutAt (codes "a#b\n") 1 1 → ⊥ }
+    ensures in_flow { CutAt (codes "[a #b\n") 2 3 → ⊥ }
+    ensures behind_tab { CutAt (codes "k:\n a\n\t#b\n") 3 7 }
+    ensures at_root { CutAt (codes "a\n\t#b\n") 1 3 → ⊥ }
+    ensures quoted { CutAt (codes "'a' #b\n") 1 4 → ⊥ }
 {}

@@ -3,15 +3,19 @@ ghost use Rattle.granit_before.specs.Fields.{AllFieldsSay};
 ghost use Rattle.granit_before.specs.HeldKeys.{EachSays, keys_of};
 ghost use Rattle.granit_before.specs.KeyBegins.{AllNumbered, FlagsSay, items_of};
 ghost use Rattle.granit_before.specs.Openers.{openers};
+ghost use Rattle.granit_before.specs.StillBegins.{StillBegins};
 ghost use Rattle.granit_error.specs.OptionsData.{OptionsData};
+ghost use Rattle.granit_language.specs.HeldSaid.{has_ended};
 ghost use Rattle.granit_language.specs.OpenColumns.{latest};
 ghost use Rattle.granit_language.specs.Reached.{Reached};
-ghost use Rattle.granit_lexemes.specs.Here.{Here, start_of};
+ghost use Rattle.granit_lexemes.specs.Here.{Here, mark_of, start_of};
 ghost use Rattle.granit_lexemes.specs.Lexeme.{Item};
 ghost use Rattle.granit_lexemes.specs.declared.layout.OpenBracket.{OpenBracket};
 ghost use Rattle.granit_machine.specs.Lexing.{FlaggedItem, flagged};
+ghost use Rattle.granit_machine.specs.PossibleKeys.{is_possible};
 ghost use Rattle.granit_machine.specs.ReaderState.{ReaderState, reader_start};
-ghost use Rattle.std.specs.Prelude.{◌≡◌, List, map, ℕ, []};
+ghost use Rattle.std.specs.Bool.{Decides};
+ghost use Rattle.std.specs.Prelude.{◌≡◌, List, map, ℕ, [], false};
 
 /// A lexeme is flagged exactly where a later `:` has as its key the run that begins with it. The items stay the same,
 /// and no other flags say so.
@@ -50,4 +54,13 @@ pub fn held_brackets_are_the_open_ones()
 pub fn fields_of_lexemes_are_said_of_those_before()
     ensures { (o : OptionsData) (text : List ℕ) (items : List Item) (t : ReaderState) →
         Reached o (reader_start (start_of text)) items t → AllFieldsSay [] items }
+{}
+
+/// But at the end of the text, a key is held possible exactly with the lexemes with which a simple key may still begin:
+/// the run that they begin may be a key, and no `:` behind the place reached would be too far from it.
+pub fn keys_may_still_begin_as_lexemes_say()
+    ensures { (o : OptionsData) (text : List ℕ) (items : List Item) (t : ReaderState) (number : ℕ) →
+        Reached o (reader_start (start_of text)) items t → has_ended (latest items []) ≡ false →
+        Decides (is_possible number t.laid)
+        (StillBegins o text (mark_of t.here) (latest items []) number) }
 {}

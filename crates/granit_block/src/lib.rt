@@ -8,6 +8,3 @@ mod scalar;
 mod spaces;
 
 pub use scalar::scan_block_scalar;
-
-#[cfg(test)]
-mod tests;

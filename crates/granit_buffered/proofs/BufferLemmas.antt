@@ -1,5 +1,5 @@
 -- What a buffer holds, and what still comes.
-use Rattle.std.proofs.Common.{◌≡◌, ◌<◌, ◌≤◌, ◌==◌, ℕ, zero, suc, inl, inr, List, [], ◌∷◌, ◌++◌, length}
+use Rattle.std.proofs.Common.{◌≡◌, ◌<◌, ◌≤◌, ◌==◌, ℕ, Bool, zero, suc, inl, inr, List, [], ◌∷◌, ◌++◌, length}
 use Rattle.std.proofs.Common.{drop, Option, refl, ap, ◌∙◌, append_assoc, arith}
 use Rattle.std.proofs.lemmas.Bool.{cases_lt}
 use Rattle.std.proofs.lemmas.Bool.Decides.{nat_tests}
@@ -7,8 +7,9 @@ use Rattle.std.proofs.lemmas.List.{append-nil}
 use Rattle.std.specs.List.{slice_index}
 use Rattle.granit_base.specs.Place.{Unread}
 use Rattle.granit_error.specs.FaultKind.{FaultKind}
+use Rattle.granit_input.specs.Origin.{Goes}
 use Rattle.granit_input.specs.Unread.{past}
-use Rattle.granit_buffered.specs.Feeds.{Holds, Leaves}
+use Rattle.granit_buffered.specs.Feeds.{Holds, Leaves, of_buffer, of_feed}
 
 -- behind the end nothing comes
 pub none_comes : {F : Type 0} (told : F → List ℕ → Option FaultKind → Type 0) (bound : F → ℕ)
@@ -84,3 +85,22 @@ pub seen_is_held : (front : List ℕ) (n : ℕ) → 0 < slice_index front n → 
 seen_is_held [] n some = absurd (omega (arith, some))
 seen_is_held (x ∷ front) zero some = omega arith
 seen_is_held (x ∷ front) (suc n) some = omega (arith, seen_is_held front n some)
+
+-- with what is known of the end
+pub goes_known : (old_ended new_ended : Bool) (old_error new_error : Option FaultKind)
+    (old_handed_out new_handed_out : Bool)
+    (old_ends new_ends : Option FaultKind → Type 0)
+    → Goes (of_feed old_ended old_error old_handed_out) (of_feed new_ended new_error new_handed_out)
+    → ((fault : Option FaultKind) → old_ends fault → new_ends fault)
+    → Goes (of_buffer old_ends old_ended old_error old_handed_out)
+    (of_buffer new_ends new_ended new_error new_handed_out)
+goes_known old_ended new_ended old_error new_error old_handed_out new_handed_out old_ends new_ends goes on = record {
+  sliced = goes.sliced;
+  lent = goes.lent;
+  tells_offset = goes.tells_offset;
+  handed_out = goes.handed_out;
+  knows_end = goes.knows_end;
+  error = goes.error;
+  floor = goes.floor;
+  ends_with = on;
+}

@@ -1,6 +1,7 @@
 -- Why an iterator that may fail keeps the laws of a feed.
 use Rattle.std.proofs.Common.{◌≡◌, ◌≤◌, ℕ, Bool, true, false, List, [], ◌∷◌, length, Option, Result, Ok, Err}
-use Rattle.std.proofs.Common.{ap, arith}
+use Rattle.std.proofs.Common.{refl, ap, arith}
+use Rattle.std.specs.Prelude.{IsSome}
 use Rattle.std.specs.Iterator.{Count}
 use Rattle.granit_error.specs.FaultKind.{FaultKind}
 use Rattle.granit_error.specs.declared.kind.ErrorKind.{ErrorKind}
@@ -8,6 +9,7 @@ use Rattle.granit_buffered.specs.Feeds.{still_left}
 use Rattle.granit_buffered.specs.Fallible.{characters_of, Comes, StillComes, has_ended, error_of}
 use Rattle.granit_buffered.specs.FeedLaws.{given_within}
 use Rattle.granit_buffered.specs.declared.fallible.Progress.{Progress}
+use Rattle.granit_buffered.specs.declared.fallible.Progress.TheVariants.{Going, Ended, Failed, HandedOut}
 
 fewer_characters : (items : List (Result ℕ ErrorKind)) → length (characters_of items) ≤ length items
 fewer_characters [] = omega arith
@@ -39,3 +41,10 @@ pub comes_to_its_error : {S : Type 0} (steps : S → Option (Result ℕ ErrorKin
     → StillComes steps remaining progress s xs fault → fault ≡ error_of progress
 comes_to_its_error steps remaining progress s xs fault e k =
     to_its_error steps remaining (has_ended progress) (error_of progress) s xs fault e k
+
+-- an error was met at the end
+pub error_ends : (progress : Progress) → IsSome (error_of progress) → has_ended progress ≡ true
+error_ends Going some = absurd cc
+error_ends Ended some = refl
+error_ends (Failed kind) some = refl
+error_ends (HandedOut was) some = refl

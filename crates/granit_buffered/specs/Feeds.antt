@@ -30,10 +30,15 @@ abbrev pub Holds : {F : Type 0} → (F → List ℕ → Option FaultKind → Typ
     → Type 0
 Holds told feed front text fault = (rest : List ℕ) × (text ≡ front ++ rest) × told feed rest fault
 
+-- the error that what still comes is known to end with
+abbrev pub Ends : {F : Type 0} → (F → List ℕ → Option FaultKind → Type 0) → F → Option FaultKind → Type 0
+Ends told feed fault = (rest : List ℕ) × told feed rest fault
+
 -- where the characters of a buffer come from: there is nothing to slice, no offset is told, and the end isn't known
 -- until it was asked for
-abbrev pub of_buffer : (ended : Bool) → (error : Option FaultKind) → (handed_out : Bool) → Origin
-of_buffer ended error handed_out = record {
+abbrev pub of_buffer : (ends_with : Option FaultKind → Type 0) → (ended : Bool) → (error : Option FaultKind)
+    → (handed_out : Bool) → Origin
+of_buffer ends_with ended error handed_out = record {
   sliced = None;
   lent = None;
   tells_offset = false;
@@ -41,7 +46,18 @@ of_buffer ended error handed_out = record {
   error = error;
   handed_out = handed_out;
   floor = 0;
+  ends_with = ends_with;
 }
+
+-- the same, whatever is known of the end
+abbrev pub of_feed : (ended : Bool) → (error : Option FaultKind) → (handed_out : Bool) → Origin
+of_feed ended error handed_out = of_buffer (λ fault. Unit {0}) ended error handed_out
+
+-- where the characters of a feed come from
+abbrev pub origin_of : {F : Type 0} → (F → List ℕ → Option FaultKind → Type 0) → (F → Bool) → (F → Option FaultKind)
+    → (F → Bool) → F → Origin
+origin_of told ended error handed_out feed =
+    of_buffer (λ fault. Ends told feed fault) (ended feed) (error feed) (handed_out feed)
 
 -- what is known to be left to be read: it can't be lent, and no offset is told
 abbrev pub Leaves : {F : Type 0} → (F → List ℕ → Option FaultKind → Type 0) → F → List ℕ → Unread → Type 0

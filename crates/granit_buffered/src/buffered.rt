@@ -7,7 +7,7 @@ ghost use Rattle.granit_base.specs.Place.{Unread, first};
 ghost use Rattle.granit_error.specs.FaultKind.{FaultKind};
 ghost use Rattle.granit_input.specs.Origin.{Goes};
 ghost use Rattle.granit_input.specs.Unread.{past};
-ghost use Rattle.granit_buffered.specs.Feeds.{GivesOnly, Holds, of_buffer};
+ghost use Rattle.granit_buffered.specs.Feeds.{GivesOnly, origin_of, Holds};
 
 use crate::fallible::FallibleFeed;
 use crate::feed::Feed;
@@ -62,8 +62,10 @@ impl<T: Source<Item = char>> ReadAhead<PlainFeed<T>> {
     /// `NoMemory` alone.
     pub fn new(alloc: Global, input: T) -> Result<BufferedInput<T>, NoMemory>
         requires { size (T.remaining input) < 2 ^ 63 }
-        ensures { IfOk result (λ s. (xs : List ℕ) → GivesOnly T.next_gives T.remaining input xs
+        ensures read { IfOk result (λ s. (xs : List ℕ) → GivesOnly T.next_gives T.remaining input xs
             → ⟦<ReadAhead<PlainFeed<T>> as Input>⟧.unread s (record { text = xs; offset = None; lends = false })) }
+        ensures ends { IfOk result (λ s. (xs : List ℕ) → GivesOnly T.next_gives T.remaining input xs
+            → (⟦<ReadAhead<PlainFeed<T>> as Input>⟧.origin s).ends_with None) }
     {
         let held = HeapCircularBuffer::with_capacity(alloc, 16)?;
         Ok(ReadAhead {
@@ -79,7 +81,7 @@ impl<T: Source<Item = Result<char, ErrorKind>>> ReadAhead<FallibleFeed<T>> {
     ghost use Rattle.granit_error.specs.declared.kind.ErrorKind.{ErrorKind};
     ghost use Rattle.granit_buffered.specs.Fallible.{characters_of, first_error};
 
-    /// All characters of an iterator before its first error.
+    /// All characters of an iterator before its first error, with which they end.
     ///
     /// # Errors
     ///
@@ -90,9 +92,10 @@ impl<T: Source<Item = Result<char, ErrorKind>>> ReadAhead<FallibleFeed<T>> {
             → GivesOnly T.next_gives T.remaining input items
             → ⟦<ReadAhead<FallibleFeed<T>> as Input>⟧.unread s
             (record { text = characters_of items; offset = None; lends = false })) }
-        ensures comes { IfOk result (λ s. (items : List (Result ℕ ErrorKind))
+        ensures ends { IfOk result (λ s. (items : List (Result ℕ ErrorKind))
             → GivesOnly T.next_gives T.remaining input items
-            → Holds ⟦<FallibleFeed<T> as Feed>⟧.told s.feed s.held.items (characters_of items) (first_error items)) }
+            → (⟦<ReadAhead<FallibleFeed<T>> as Input>⟧.origin s).ends_with (first_error items)) }
+        ensures fresh { IfOk result (λ s. (⟦<ReadAhead<FallibleFeed<T>> as Input>⟧.origin s).handed_out ≡ false) }
     {
         let held = HeapCircularBuffer::with_capacity(alloc, 16)?;
         Ok(ReadAhead {
@@ -116,8 +119,8 @@ impl<F: Feed> ReadAhead<F> {
         ensures filled { length self.new.held.items < count → F.ended self.new.feed ≡ true }
         ensures few { length self.new.held.items ≤ max count (length self.old.held.items) }
         ensures stays { F.ended self.old.feed ≡ true → F.ended self.new.feed ≡ true }
-        ensures goes { Goes (of_buffer (F.ended self.old.feed) (F.error self.old.feed) (F.handed_out self.old.feed))
-            (of_buffer (F.ended self.new.feed) (F.error self.new.feed) (F.handed_out self.new.feed)) }
+        ensures goes { Goes (origin_of F.told F.ended F.error F.handed_out self.old.feed)
+            (origin_of F.told F.ended F.error F.handed_out self.new.feed) }
     {
         'fill: while self.held.len() < count {
             match self.feed.next_char() {
@@ -132,7 +135,7 @@ impl<F: Feed> Input for ReadAhead<F> {
     ghost use Rattle.std.specs.Prelude.{false};
     ghost use Rattle.granit_input.specs.Origin.{Goes};
     ghost use Rattle.granit_error.specs.FaultKind.{FaultKind};
-    ghost use Rattle.granit_buffered.specs.Feeds.{Leaves, of_buffer};
+    ghost use Rattle.granit_buffered.specs.Feeds.{Leaves, origin_of};
     ghost use Rattle.granit_buffered.specs.BufferLaws.{buffer_agrees};
     ghost use Rattle.std.proofs.Common.{zero-le};
 
@@ -142,14 +145,16 @@ impl<F: Feed> Input for ReadAhead<F> {
 
     ghost window = { λ s. s.window };
 
-    ghost origin = { λ s. of_buffer (F.ended s.feed) (F.error s.feed) (F.handed_out s.feed) };
+    ghost origin = { λ s. origin_of F.told F.ended F.error F.handed_out s.feed };
 
     ghost short = { λ s. s.bounded };
 
     ghost floored = { λ s. zero-le };
 
-    ghost agrees = { λ s u k. buffer_agrees F.told F.bound F.ended F.bounded F.over s.feed s.held.items
-        (F.error s.feed) (F.handed_out s.feed) u k };
+    ghost fails = { λ s fault known ends. F.fails s.feed ends.0 fault known ends.1 };
+
+    ghost agrees = { λ s u k. buffer_agrees F.told F.bound F.ended F.error F.handed_out F.bounded F.over s.feed
+        s.held.items u k };
 
     fn lookahead(&mut self, count: usize)
         ensures unread { (u : Unread) → Leaves F.told self.old.feed self.old.held.items u
@@ -157,8 +162,8 @@ impl<F: Feed> Input for ReadAhead<F> {
         ensures moves { (length self.new.held.items + F.bound self.new.feed
             ≤ length self.old.held.items + F.bound self.old.feed)
             × (max (min count 8) self.old.window ≤ self.new.window)
-            × Goes (of_buffer (F.ended self.old.feed) (F.error self.old.feed) (F.handed_out self.old.feed))
-            (of_buffer (F.ended self.new.feed) (F.error self.new.feed) (F.handed_out self.new.feed)) }
+            × Goes (origin_of F.told F.ended F.error F.handed_out self.old.feed)
+            (origin_of F.told F.ended F.error F.handed_out self.new.feed) }
         ensures window { self.new.window ≡ max self.old.window (min count 16) }
         ensures few { length self.new.held.items ≤ max (min count 16) (length self.old.held.items) }
     {

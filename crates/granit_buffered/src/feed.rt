@@ -5,7 +5,7 @@ ghost use Rattle.std.specs.Option.{option_map};
 ghost use Rattle.granit_error.specs.FaultKind.{FaultKind};
 ghost use Rattle.granit_error.specs.Kinds.{kind_of};
 ghost use Rattle.granit_input.specs.Origin.{Goes};
-ghost use Rattle.granit_buffered.specs.Feeds.{of_buffer, still_given};
+ghost use Rattle.granit_buffered.specs.Feeds.{of_feed, still_given};
 
 use granit_error::ErrorKind;
 
@@ -33,8 +33,8 @@ pub trait Feed: Drop {
             (λ c. (ys : List ℕ) × (xs ≡ c ∷ ys) × told self.new ys fault) }
         ensures bound { MatchOption result (ended self.new ≡ true) (λ c. bound self.new < bound self.old) }
         ensures stays { ended self.old ≡ true → ended self.new ≡ true }
-        ensures goes { Goes (of_buffer (ended self.old) (error self.old) (handed_out self.old))
-            (of_buffer (ended self.new) (error self.new) (handed_out self.new)) };
+        ensures goes { Goes (of_feed (ended self.old) (error self.old) (handed_out self.old))
+            (of_feed (ended self.new) (error self.new) (handed_out self.new)) };
 
     /// The error that it met, once.
     fn take_error(&mut self) -> Option<ErrorKind>

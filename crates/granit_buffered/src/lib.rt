@@ -11,7 +11,7 @@ mod source;
 pub use buffered::{BufferedInput, FallibleBufferedInput, ReadAhead};
 pub use fallible::FallibleFeed;
 pub use feed::Feed;
-pub use laws::{a_list_gives_its_items, a_string_gives_its_characters};
+pub use laws::{a_list_gives_its_items, a_string_gives_its_characters, an_error_is_the_end};
 pub use plain::PlainFeed;
 pub use source::Source;
 

@@ -143,7 +143,7 @@ calm_all bs l c = record {
 
 -- ---- keys
 
-some_same : (k j : PossibleKey) → ◌≡◌ {A = Option PossibleKey} (Some k) (Some j) → k ≡ j
+pub some_same : (k j : PossibleKey) → ◌≡◌ {A = Option PossibleKey} (Some k) (Some j) → k ≡ j
 some_same k j e = cc
 
 goes_mild : (property low : Bool) (key : Option PossibleKey) → Mild key → Mild (key_goes_on property low key)
@@ -158,7 +158,7 @@ goes_mild property low (Some k) h = by k.is_head
 no_column : (columns : List OpenColumn) (n : ℕ) → columns ≡ [] → is_column (innermost_column columns) n ≡ false
 no_column columns n e = ap (λ (cs : List OpenColumn). is_column (innermost_column cs) n) e
 
-and_false : (a b : Bool) → b ≡ false → (a && b) ≡ false
+pub and_false : (a b : Bool) → b ≡ false → (a && b) ≡ false
 and_false true b e = e
 and_false false b e = refl
 

@@ -4,13 +4,15 @@ use Rattle.std.proofs.Common.{true, ℕ, ◌++◌, ◌∙◌, ◌∷◌, ◌≡�
 use Rattle.std.proofs.lemmas.List.{append-nil}
 use Rattle.std.specs.Prelude.{None, Some, is_none}
 use Rattle.granit_answers.proofs.OneCause.{answer_reads, reading_answered, unasked_silent}
-use Rattle.granit_canonical.proofs.Whole.{AreBare, TextRead, flagged_bare, items_of, text_read, unflagged}
+use Rattle.granit_canonical.proofs.Whole.{AreBare, BareRead, flagged_bare, items_of, text_read, unflagged}
 use Rattle.granit_canonical.specs.Canonical.{canonical_events}
 use Rattle.granit_error.specs.OptionsData.{OptionsData}
 use Rattle.granit_invariants.specs.CommentEvents.{comment_events, only_comments, tail_events}
 use Rattle.granit_invariants.specs.Quiet.{but_comments, tells_comment}
 use Rattle.granit_language.specs.CommentRows.{AreComments, RowTooLong, tail_comments}
+use Rattle.granit_language.specs.Telling.{events_told}
 use Rattle.granit_language.specs.TextFault.{NoneTold}
+use Rattle.granit_language.specs.TreeEvents.{TreeEvent}
 use Rattle.granit_lexemes.specs.Comment.{CommentRead}
 use Rattle.granit_lexemes.specs.Here.{start_of}
 use Rattle.granit_lexemes.specs.Lexeme.{Item, Lexeme, LexemeKind, OfComment, OfLexeme}
@@ -103,30 +105,32 @@ lex_same : (a : Result (List Item × LexState) Fault) (i j : List Item) (s t : L
 unfolding items_in
 lex_same a i j s t e f = sym (ap items_in e) ∙ ap items_in f
 
+-- such a text is answered with the events of its trees
+pub bare_is_answered : (o : OptionsData) (x : List ℕ) (es : List TreeEvent) → BareRead o x es
+    → run o x ≡ Ok (events_told o es)
+bare_is_answered o x es r =
+    let items = items_of r.read in
+    let l = all_read_whole o (start_of x) items true r.state r.whole in
+    let e = fault_none l.0.fault l.2 in
+    let g = reading_answered o x items l.0 es l.1 e r.reading (none_of o l.0.reader.laid r.read r.bare) in
+    g.1 ∙ ap (λ (es : List PlainEvent). Ok es) (sym (silent l.0 g.0 l.1 g.1 o.emit_comments refl) ∙ g.2)
+  where
+    no_comments : comment_events (flagged (items_of r.read)) ≡ []
+    no_comments = ap comment_events (flagged_bare r.read r.bare) ∙ no_events r.read r.bare
+
+    silent : (t : LexState) (gs : List PlainEvent) → lex o (start_of x) ≡ Ok (items_of r.read, t) → run o x ≡ Ok gs
+        → (v : Bool) → o.emit_comments ≡ v → but_comments gs ≡ gs
+    silent t gs l g false off = unasked_silent o x gs off g
+    silent t gs l g true on =
+        let y = answer_reads o x gs g in
+        all_others gs (y.comments on
+        ∙ ap (λ (is : List Item). comment_events (flagged is))
+        (lex_same (lex o (start_of x)) y.items (items_of r.read) y.state t y.are_read l)
+        ∙ no_comments)
+
 -- canonical text is answered with the events of its trees
 pub canonical_is_read : (o : OptionsData) (ts : PlainTrees) → DocumentsFit ts → HasCharacters ts
     → trees_depth ts ≤ o.flow_nesting_limit → run o (flow_characters ts) ≡ Ok (canonical_events o ts)
 canonical_is_read o ts fits written deep =
-    let x = flow_characters ts in
     let r = text_read o ts fits written deep in
-    let items = items_of r.read in
-    let l = all_read_whole o (start_of x) items true r.state r.whole in
-    let e = fault_none l.0.fault l.2 in
-    let g = reading_answered o x items l.0 r.tree_events l.1 e r.reading (none_of o l.0.reader.laid r.read r.bare) in
-    g.1 ∙ ap (λ (es : List PlainEvent). Ok es)
-    (sym (silent o x items l.0 g.0 l.1 g.1 (no_comments r) o.emit_comments refl)
-    ∙ g.2 ∙ r.told)
-  where
-    no_comments : (r : TextRead o ts) → comment_events (flagged (items_of r.read)) ≡ []
-    no_comments r = ap comment_events (flagged_bare r.read r.bare) ∙ no_events r.read r.bare
-
-    silent : (o : OptionsData) (x : List ℕ) (items : List Item) (t : LexState) (gs : List PlainEvent)
-        → lex o (start_of x) ≡ Ok (items, t) → run o x ≡ Ok gs → comment_events (flagged items) ≡ [] → (v : Bool)
-        → o.emit_comments ≡ v → but_comments gs ≡ gs
-    silent o x items t gs l g none false off = unasked_silent o x gs off g
-    silent o x items t gs l g none true on =
-        let y = answer_reads o x gs g in
-        all_others gs (y.comments on
-        ∙ ap (λ (is : List Item). comment_events (flagged is))
-        (lex_same (lex o (start_of x)) y.items items y.state t y.are_read l)
-        ∙ none)
+    bare_is_answered o (flow_characters ts) r.tree_events r.text ∙ ap (λ (es : List PlainEvent). Ok es) r.told

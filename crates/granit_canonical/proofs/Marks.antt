@@ -21,7 +21,7 @@ use Rattle.granit_machine.specs.LexemeSort.{StartMark, TextEnd}
 use Rattle.granit_machine.specs.PossibleKeys.{forgets_key}
 use Rattle.granit_machine.specs.ReaderState.{ReaderState, lexeme_to}
 
-three_steps : (h : Here) → over (0x2D ∷ 0x2D ∷ 0x2D ∷ []) h ≡ steps 3 h
+pub three_steps : (h : Here) → over (0x2D ∷ 0x2D ∷ 0x2D ∷ []) h ≡ steps 3 h
 unfolding steps
 three_steps h = refl
 

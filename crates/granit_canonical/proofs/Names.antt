@@ -33,18 +33,18 @@ use Rattle.granit_machine.specs.ReaderState.{ReaderState, lexeme_to}
 use Rattle.granit_model.specs.FlowText.{tag_bytes}
 use Rattle.granit_model.specs.Tree.{IsAnchorName}
 
-alias_begins : (flow adjacent : Bool) (column : ℕ) (text : List ℕ)
+pub alias_begins : (flow adjacent : Bool) (column : ℕ) (text : List ℕ)
     → Begins flow adjacent column (0x2A ∷ text) (Placed AliasSign)
 unfolding is_printable is_break
 alias_begins flow adjacent column text = begins_with flow adjacent column 0x2A text AliasSign refl refl refl refl alias
 
-anchor_begins : (flow adjacent : Bool) (column : ℕ) (text : List ℕ)
+pub anchor_begins : (flow adjacent : Bool) (column : ℕ) (text : List ℕ)
     → Begins flow adjacent column (0x26 ∷ text) (Placed AnchorSign)
 unfolding is_printable is_break
 anchor_begins flow adjacent column text = begins_with flow adjacent column 0x26 text AnchorSign refl refl refl refl
     anchor
 
-tag_begins : (flow adjacent : Bool) (column : ℕ) (text : List ℕ)
+pub tag_begins : (flow adjacent : Bool) (column : ℕ) (text : List ℕ)
     → Begins flow adjacent column (0x21 ∷ text) (Placed TagSign)
 unfolding is_printable is_break
 tag_begins flow adjacent column text = begins_with flow adjacent column 0x21 text TagSign refl refl refl refl tag
@@ -90,7 +90,7 @@ abbrev pub tag_source : List ℕ → List ℕ
 tag_source name = 0x21 ∷ 0x3C ∷ (tag_bytes (encode_utf8_all name) [] ++ 0x3E ∷ [])
 
 -- a text that begins with a character, by its own first one
-head_is : (text : List ℕ) (c : ℕ) (t : List ℕ) → text ≡ c ∷ t → text ≡ first text ∷ t
+pub head_is : (text : List ℕ) (c : ℕ) (t : List ℕ) → text ≡ c ∷ t → text ≡ first text ∷ t
 head_is text c t e = e ∙ ap (λ n. n ∷ t) (sym (ap first e))
 
 module _ (o : OptionsData) (x : List ℕ) where

@@ -107,14 +107,19 @@ tag_text_starts (Some name) own s = tag_starts (0x3C ∷ tag_bytes (encode_utf8_
 pub properties_start : (p : Properties) (own : List ℕ) → Starts own → Starts (properties_text p own)
 properties_start p own s = tag_text_starts p.tag (anchor_text p.anchor own) (anchor_text_starts p.anchor own s)
 
-anchor_text_is : (name rest : List ℕ) → anchor_text (Some name) rest ≡ 0x26 ∷ (name ++ 0x20 ∷ rest)
+pub anchor_text_is : (name rest : List ℕ) → anchor_text (Some name) rest ≡ 0x26 ∷ (name ++ 0x20 ∷ rest)
 anchor_text_is name rest = ap (λ (l : List ℕ). 0x26 ∷ l) (append_assoc name (0x20 ∷ []) rest)
 
-tag_text_is : (name rest : List ℕ) → tag_text (Some name) rest ≡ tag_source name ++ 0x20 ∷ rest
-tag_text_is name rest =
-    let uri = tag_bytes (encode_utf8_all name) [] in
+-- a verbatim tag in front of a rest
+pub tag_is : (name rest : List ℕ)
+    → 0x21 ∷ 0x3C ∷ tag_bytes (encode_utf8_all name) (0x3E ∷ rest) ≡ tag_source name ++ rest
+tag_is name rest =
     ap (λ (l : List ℕ). 0x21 ∷ 0x3C ∷ l)
-    (tag_bytes_front (encode_utf8_all name) (0x3E ∷ 0x20 ∷ rest) ∙ sym (append_assoc uri (0x3E ∷ []) (0x20 ∷ rest)))
+    (tag_bytes_front (encode_utf8_all name) (0x3E ∷ rest)
+    ∙ sym (append_assoc (tag_bytes (encode_utf8_all name) []) (0x3E ∷ []) rest))
+
+tag_text_is : (name rest : List ℕ) → tag_text (Some name) rest ≡ tag_source name ++ 0x20 ∷ rest
+tag_text_is name rest = tag_is name (0x20 ∷ rest)
 
 -- properties that are read in front of a node's own text
 pub record PropertiesRead (o : OptionsData) (x : List ℕ) (bs : List Bracket) (own : List ℕ) (s : ReaderState)

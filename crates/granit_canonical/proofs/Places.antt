@@ -113,7 +113,7 @@ pub data Parts : List ℕ → Type 0 where
   spaced : Parts (0x20 ∷ [])
   fed : Parts (0x0A ∷ [])
 
-space_gap : IsGap (0x20 ∷ [])
+pub space_gap : IsGap (0x20 ∷ [])
 unfolding is_gap is_blank
 space_gap = (refl, tt)
 
@@ -143,15 +143,15 @@ gap_stops may rest h e s = (
   λ m c f. s.no_mark (sym (ap first e) ∙ f),
 )
 
-blank_space : Each is_blank (0x20 ∷ [])
+pub blank_space : Each is_blank (0x20 ∷ [])
 unfolding is_blank
 blank_space = (refl, tt)
 
-blank_feed : is_blank 0x0A ≡ false
+pub blank_feed : is_blank 0x0A ≡ false
 unfolding is_blank
 blank_feed = refl
 
-no_blank : (c : ℕ) → is_gap c ≡ false → is_blank c ≡ false
+pub no_blank : (c : ℕ) → is_gap c ≡ false → is_blank c ≡ false
 unfolding is_gap
 no_blank c e = by (is_blank c) (is_break c) e
   where

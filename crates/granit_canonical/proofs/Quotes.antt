@@ -45,17 +45,17 @@ use Rattle.granit_machine.specs.ReaderState.{ReaderState}
 use Rattle.granit_model.specs.FlowText.{quoted_characters}
 use Rattle.granit_reading.proofs.Deciding.{layout_is}
 
-quote_begins : (flow adjacent : Bool) (column : ℕ) (text : List ℕ)
+pub quote_begins : (flow adjacent : Bool) (column : ℕ) (text : List ℕ)
     → Begins flow adjacent column (0x22 ∷ text) (Placed (QuoteSign false))
 unfolding is_printable is_break
 quote_begins flow adjacent column text =
     begins_with flow adjacent column 0x22 text (QuoteSign false) refl refl refl refl (quote false)
 
-closing_quote : (rest : List ℕ) → is_closing false (0x22 ∷ rest) ≡ true
+pub closing_quote : (rest : List ℕ) → is_closing false (0x22 ∷ rest) ≡ true
 unfolding is_closing
 closing_quote rest = refl
 
-feed_prints : is_printable 0x0A ≡ true
+pub feed_prints : is_printable 0x0A ≡ true
 unfolding is_printable is_break
 feed_prints = refl
 
@@ -63,7 +63,7 @@ mark_prints : (c : ℕ) → is_mark c ≡ true → is_printable c ≡ true
 unfolding is_printable is_break
 mark_prints c e = grind (arith, nat_tests)
 
-feed_trails : (at : LayoutData) (v : Bool) → may_trail at v 0x0A ≡ true
+pub feed_trails : (at : LayoutData) (v : Bool) → may_trail at v 0x0A ≡ true
 unfolding may_trail is_break
 feed_trails at v = refl
 
@@ -89,7 +89,7 @@ both_true : (a b : Bool) → a ≡ true → b ≡ true → (a && b) ≡ true
 both_true true b p q = q
 both_true false b p q = p
 
-ends_by : (at : LayoutData) (start : Mark) (h : Here) (c : ℕ) (t : List ℕ) → h.unread.text ≡ c ∷ t
+pub ends_by : (at : LayoutData) (start : Mark) (h : Here) (c : ℕ) (t : List ℕ) → h.unread.text ≡ c ∷ t
     → is_printable c ≡ true → ((v : Bool) → may_trail at v c ≡ true) → ends_quoted at start h ≡ true
 ends_by at start h c t e p m =
     or_right (length h.unread.text == 0)
@@ -112,7 +112,7 @@ ends_here at start _ _ _ h (in_brackets {b = b} {bs = bs} {c = c} {rest = rest} 
     ends_by at start h 0x0A (c ∷ rest) e feed_prints (λ v. feed_trails at v)
 
 -- the text is lent where nothing between the quotes is escaped
-text_between : (chars inside : List ℕ) (h : Here) → quoted_characters chars [] ≡ inside → h.unread.lends ≡ true
+pub text_between : (chars inside : List ℕ) (h : Here) → quoted_characters chars [] ≡ inside → h.unread.lends ≡ true
     → lent_if (is_unchanged false inside) h chars ≡ between_quotes chars
 text_between chars inside h e lends =
     ap₂ (λ (kept lends : Bool). record { characters = chars; is_borrowed = kept && lends })

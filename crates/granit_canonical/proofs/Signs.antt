@@ -43,7 +43,7 @@ pub choose_opener : (v : Bool) (a b : LastLexeme) → is_opener a ≡ false → 
 choose_opener true a b p q = p
 choose_opener false a b p q = q
 
-opener_begins : (b : Bracket) (flow adjacent : Bool) (column : ℕ) (text : List ℕ)
+pub opener_begins : (b : Bracket) (flow adjacent : Bool) (column : ℕ) (text : List ℕ)
     → Begins flow adjacent column (opener_char b ∷ text) (Placed (OpenSign b))
 unfolding is_printable is_break
 opener_begins Square flow adjacent column text =
@@ -51,7 +51,7 @@ opener_begins Square flow adjacent column text =
 opener_begins Curly flow adjacent column text =
     begins_with flow adjacent column 0x7B text (OpenSign Curly) refl refl refl refl (opens Curly)
 
-closer_begins : (b : Bracket) (flow adjacent : Bool) (column : ℕ) (text : List ℕ)
+pub closer_begins : (b : Bracket) (flow adjacent : Bool) (column : ℕ) (text : List ℕ)
     → Begins flow adjacent column (closer_char b ∷ text) (Placed (CloseSign b))
 unfolding is_printable is_break
 closer_begins Square flow adjacent column text =

@@ -42,7 +42,7 @@ use Rattle.granit_model.specs.Tree.{PlainPairs, PlainTree, PlainTrees, ScalarOf,
 use Rattle.granit_model.specs.Tree.{behind_pairs, behind_tree, behind_trees, no_pairs, no_trees, pairs_depth}
 use Rattle.granit_model.specs.Tree.{tree_depth, trees_depth, with_anchor}
 
-most_both : (a b n m : ℕ) → max a b + n ≤ m → (a + n ≤ m) × (b + n ≤ m)
+pub most_both : (a b n m : ℕ) → max a b + n ≤ m → (a + n ≤ m) × (b + n ≤ m)
 most_both a b n m h = (omega (arith, h, le-max_left a b), omega (arith, h, le-max_right a b))
 
 tree_starts : (t : PlainTree) (to : List ℕ) → Starts (tree_text t to)

@@ -71,15 +71,16 @@ abbrev pub roots_within : ℕ → Option Rooted → Bool
 roots_within n None = true
 roots_within n (Some ro) = rooted_within n ro
 
-start_placed : (r : Option Rooted) (i : At) → ((y : Terminal) → RootsPlaced r y) → StartPlaced (start_behind r) i
+pub start_placed : (r : Option Rooted) (i : At) → RootsPlaced r (terminal DocumentStart i)
+    → StartPlaced (start_behind r) i
 start_placed None i h = tt
-start_placed (Some ro) i h = h (terminal DocumentStart i)
+start_placed (Some ro) i h = h
 
-start_within_roots : (n : ℕ) (r : Option Rooted) → start_within n (start_behind r) ≡ roots_within n r
+pub start_within_roots : (n : ℕ) (r : Option Rooted) → start_within n (start_behind r) ≡ roots_within n r
 start_within_roots n None = refl
 start_within_roots n (Some ro) = refl
 
-no_version : (r : Option Rooted) → start_version (start_behind r) ≡ None
+pub no_version : (r : Option Rooted) → start_version (start_behind r) ≡ None
 no_version None = refl
 no_version (Some ro) = refl
 
@@ -161,7 +162,7 @@ module _ (o : OptionsData) (x : List ℕ) where
         column = behind_feed x rest n.passed.0 n.passed.1;
         calm = n.calm;
         opener = n.opener;
-        placed = λ y. (start_placed d.roots i d.placed, n.placed (RightOf 0) plain_root y);
+        placed = λ y. (start_placed d.roots i (d.placed (terminal DocumentStart i)), n.placed (RightOf 0) plain_root y);
         within = λ m. n.within m 0 (start_within m (start_behind d.roots)) ∙ start_within_roots m d.roots ∙ d.within m;
         told = λ more.
             d.told (shown_event (DocumentStarts true (start_version (start_behind d.roots))) i
@@ -237,7 +238,7 @@ terminals_bare : (ls : List Lexeme) → AreBare ls → terminals_of (items_of ls
 terminals_bare ls b =
     ap (λ (fs : List FlaggedItem). map terminal_seen (lexemes_flagged fs)) (flagged_bare ls b) ∙ seen_unflagged ls
 
-abbrev stream_of : Option Rooted → At → Stream
+abbrev pub stream_of : Option Rooted → At → Stream
 stream_of None i = EndFresh Beginning i
 stream_of (Some ro) i = EndRooted ro i
 
@@ -246,27 +247,72 @@ stream_spells : (r : Option Rooted) (i : At) → spell_stream (stream_of r i) []
 stream_spells None i = refl
 stream_spells (Some ro) i = refl
 
-stream_placed : (r : Option Rooted) (i : At) → ((y : Terminal) → RootsPlaced r y) → StreamPlaced (stream_of r i)
+stream_placed : (r : Option Rooted) (i : At) → RootsPlaced r (terminal TheEnd i) → StreamPlaced (stream_of r i)
 stream_placed None i h = tt
-stream_placed (Some ro) i h = h (terminal TheEnd i)
+stream_placed (Some ro) i h = h
 
 stream_is_within : (n : ℕ) (r : Option Rooted) (i : At) → stream_within n (stream_of r i) ≡ roots_within n r
 stream_is_within n None i = refl
 stream_is_within n (Some ro) i = refl
 
-stream_tells : (r : Option Rooted) (i : At) → stream_events (stream_of r i) []
+pub stream_tells : (r : Option Rooted) (i : At) → stream_events (stream_of r i) []
     ≡ start_events (start_behind r) (shown_event StreamEnds i ∷ [])
 stream_tells None i = refl
 stream_tells (Some ro) i = refl
 
--- the whole of canonical text, as it is read
-pub record TextRead (o : OptionsData) (ts : PlainTrees) : Type 0 where
+-- a whole text of lexemes without keys and comments that is read, with the events of its trees
+pub record BareRead (o : OptionsData) (x : List ℕ) (es : List TreeEvent) : Type 0 where
   pub read : List Lexeme
   pub state : ReaderState
   pub bare : AreBare read
-  pub whole : ReadWhole o (reader_start (start_of (flow_characters ts))) (items_of read) true state
+  pub whole : ReadWhole o (reader_start (start_of x)) (items_of read) true state
+  pub reading : WholeReading o (terminals_of (items_of read)) es
+
+abbrev pub no_anchors : Anchors
+no_anchors = record { count = 0; names = [] }
+
+-- lexemes that documents spell, and then the end
+pub whole_read : (o : OptionsData) (x : List ℕ) (roots : Option Rooted) (after next : ReaderState) (a : Anchors)
+    (p : Passage o (reader_start (start_of x)) no_anchors a (spell_start (start_behind roots)) after) (l : Lexeme)
+    → Reads o after (OfLexeme l ∷ []) next → l.kind ≡ lexemes.StreamEnd → l.key ≡ None → l.tail ≡ None
+    → RootsPlaced roots (terminal TheEnd (place_in a l)) → roots_within o.block_nesting_limit roots ≡ true
+    → BareRead o x (stream_events (stream_of roots (place_in a l)) [])
+whole_read o x roots after next a p l reads kind key tail placed within =
+    let i = place_in a l in
+    let ls = p.lexemes ++ l ∷ [] in
+    let bare = lexed_bare o (reader_start (start_of x)) after p.lexemes l p.lexed key tail in
+    let e = terminal_of false no_scope l in
+    let same : terminal_kind l.kind l.key ≡ TheEnd = ap₂ terminal_kind kind key in
+    let seen_ls : seen ls ≡ seen p.lexemes ++ e ∷ [] = seen_append p.lexemes (l ∷ []) in
+    let last : scoped (scope_behind (seen p.lexemes) (scope_of no_anchors)) (e ∷ []) ≡ terminal TheEnd i ∷ [] =
+    ap₂ (λ (s : Scope) (k : TerminalKind). terminal k (record (at_of false no_scope l) { scope = s }) ∷ []) p.scope
+    same in
+    let spelled : scoped no_scope (terminals_of (items_of ls))
+    ≡ scoped (scope_of no_anchors) (seen p.lexemes) ++ terminal TheEnd i ∷ [] =
+    ap (scoped no_scope) (terminals_bare ls bare ∙ seen_ls)
+    ∙ scoped_append (scope_of no_anchors) (seen p.lexemes) (e ∷ [])
+    ∙ ap (λ (xs : List Terminal). scoped (scope_of no_anchors) (seen p.lexemes) ++ xs) last in
+    record {
+      read = ls;
+      state = next;
+      bare = bare;
+      whole = lexed_whole o (reader_start (start_of x)) after next p.lexemes l p.lexed reads (ap is_end_kind kind);
+      reading = record {
+        stream = stream_of roots i;
+        spelled = stream_spells roots i ∙ p.spelled (terminal TheEnd i ∷ []) ∙ sym spelled;
+        placed = stream_placed roots i placed;
+        within = stream_is_within o.block_nesting_limit roots i ∙ within;
+        means = subst (Means o.emit_unresolved_aliases) (sym spelled)
+            (means_append o.emit_unresolved_aliases (scoped (scope_of no_anchors) (seen p.lexemes))
+            (terminal TheEnd i ∷ []) p.means (refl, tt));
+        events_are = refl;
+      };
+    }
+
+-- the whole of canonical text, as it is read
+pub record TextRead (o : OptionsData) (ts : PlainTrees) : Type 0 where
   pub tree_events : List TreeEvent
-  pub reading : WholeReading o (terminals_of (items_of read)) tree_events
+  pub text : BareRead o (flow_characters ts) tree_events
   pub told : events_told o tree_events ≡ canonical_events o ts
 
 pub text_read : (o : OptionsData) (ts : PlainTrees) → DocumentsFit ts → HasCharacters ts
@@ -278,39 +324,10 @@ text_read o ts fits written deep =
     let q = reads_one o x [] [] TextEnd lexemes.StreamEnd [] [] [] false d.after d.before d.calm starts_end
     (λ y h e c f. ended_quietly o x y h e c (f ∙ d.opener)) in
     let i = place_in a q.lexeme in
-    let ls = d.passage.lexemes ++ q.lexeme ∷ [] in
-    let bare = lexed_bare o (reader_start (start_of x)) d.after d.passage.lexemes q.lexeme d.passage.lexed q.key_is
-    q.tail_is in
-    let none : Anchors = record { count = 0; names = [] } in
-    let e = terminal_of false no_scope q.lexeme in
-    let same : terminal_kind q.lexeme.kind q.lexeme.key ≡ TheEnd = ap₂ terminal_kind q.kind_is q.key_is in
-    let seen_ls : seen ls ≡ seen d.passage.lexemes ++ e ∷ [] = seen_append d.passage.lexemes (q.lexeme ∷ []) in
-    let last : scoped (scope_behind (seen d.passage.lexemes) (scope_of none)) (e ∷ []) ≡ terminal TheEnd i ∷ [] =
-    ap₂ (λ (s : Scope) (k : TerminalKind). terminal k (record (at_of false no_scope q.lexeme) { scope = s }) ∷ [])
-    d.passage.scope same in
-    let spelled : scoped no_scope (terminals_of (items_of ls))
-    ≡ scoped (scope_of none) (seen d.passage.lexemes) ++ terminal TheEnd i ∷ [] =
-    ap (scoped no_scope) (terminals_bare ls bare ∙ seen_ls)
-    ∙ scoped_append (scope_of none) (seen d.passage.lexemes) (e ∷ [])
-    ∙ ap (λ (xs : List Terminal). scoped (scope_of none) (seen d.passage.lexemes) ++ xs) last in
     record {
-      read = ls;
-      state = q.after;
-      bare = bare;
-      whole = lexed_whole o (reader_start (start_of x)) d.after q.after d.passage.lexemes q.lexeme d.passage.lexed
-          q.reads
-          (ap is_end_kind q.kind_is);
       tree_events = stream_events (stream_of d.roots i) [];
-      reading = record {
-        stream = stream_of d.roots i;
-        spelled = stream_spells d.roots i ∙ d.passage.spelled (terminal TheEnd i ∷ []) ∙ sym spelled;
-        placed = stream_placed d.roots i d.placed;
-        within = stream_is_within o.block_nesting_limit d.roots i ∙ d.within o.block_nesting_limit;
-        means = subst (Means o.emit_unresolved_aliases) (sym spelled)
-            (means_append o.emit_unresolved_aliases (scoped (scope_of none) (seen d.passage.lexemes))
-            (terminal TheEnd i ∷ []) d.passage.means (refl, tt));
-        events_are = refl;
-      };
+      text = whole_read o x d.roots d.after q.after a d.passage q.lexeme q.reads q.kind_is q.key_is q.tail_is
+          (d.placed (terminal TheEnd i)) (d.within o.block_nesting_limit);
       told = ap (events_told o) (stream_tells d.roots i) ∙ d.told (shown_event StreamEnds i ∷ [])
           ∙ ap (λ (s : Source). event_on plain.StreamStart text_start
           ∷ documents_before o x ts [] (event_at plain.StreamEnd s ∷ [])) q.shown_is;

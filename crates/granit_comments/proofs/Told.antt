@@ -7,7 +7,8 @@ use Rattle.granit_answers.proofs.OneCause.{answer_reads, unasked_silent}
 use Rattle.granit_answers.specs.CommentStands.{CommentStands}
 use Rattle.granit_base.specs.declared.style.Placement.{Placement}
 use Rattle.granit_base.specs.declared.style.Placement.TheVariants.{Right}
-use Rattle.granit_comments.specs.TextComments.{LinesStand, TailPlaced, TailsStand, TellsComments, TellsEach}
+use Rattle.granit_before.specs.ToldComments.{TailPlaced}
+use Rattle.granit_comments.specs.TextComments.{LinesStand, TailsStand, TellsComments, TellsEach}
 use Rattle.granit_comments.specs.TextComments.{behind_lexeme, between_lexemes, no_comment, no_more}
 use Rattle.granit_error.specs.OptionsData.{OptionsData}
 use Rattle.granit_invariants.proofs.PlacementLaw.{one_placement, placed_is}

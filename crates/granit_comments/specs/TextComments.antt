@@ -2,7 +2,7 @@
 use Rattle.std.specs.Prelude.{◌≡◌, ℕ, Bool, true, false, List, [], ◌∷◌, ◌++◌, Some, None, Ok}
 use Rattle.granit_answers.specs.CommentStands.{CommentStands}
 use Rattle.granit_base.specs.declared.style.Placement.{Placement}
-use Rattle.granit_base.specs.declared.style.Placement.TheVariants.{Right}
+use Rattle.granit_before.specs.ToldComments.{TailPlaced}
 use Rattle.granit_error.specs.OptionsData.{OptionsData}
 use Rattle.granit_invariants.specs.CommentEvents.{comment_event, only_comments}
 use Rattle.granit_invariants.specs.Placements.{PlacedAs}
@@ -11,16 +11,11 @@ use Rattle.granit_language.specs.Reached.{ReadWhole}
 use Rattle.granit_language.specs.TextFault.{NoneTold}
 use Rattle.granit_lexemes.specs.Comment.{CommentRead}
 use Rattle.granit_lexemes.specs.Here.{start_of}
-use Rattle.granit_lexemes.specs.Lexeme.{LexemeKind, Dash, Lexeme, Item, OfLexeme, OfComment}
+use Rattle.granit_lexemes.specs.Lexeme.{Dash, Lexeme, Item, OfLexeme, OfComment}
 use Rattle.granit_lexemes.specs.PlainEvent.{PlainEvent}
 use Rattle.granit_machine.specs.Lexing.{FlaggedItem, flagged}
 use Rattle.granit_machine.specs.Machine.{run}
 use Rattle.granit_machine.specs.ReaderState.{ReaderState, reader_start}
-
--- where a comment that is told with a lexeme is placed; one behind a `-` is right of it
-abbrev pub TailPlaced : LexemeKind → CommentRead → List FlaggedItem → Placement → Type 0
-TailPlaced Dash c rest placement = placement ≡ Right
-TailPlaced kind c rest placement = PlacedAs c rest placement
 
 -- These events are the comments of these items, in order, each with its text and its span, placed as the items behind
 -- it say: those between lexemes, and those that are told with a lexeme, as is one behind it on its line, behind the

@@ -10,7 +10,7 @@ ghost use Rattle.granit_base.specs.Place as place;
 ghost use Rattle.granit_base.specs.Written.{string_chars};
 ghost use Rattle.granit_error.specs.Kinds.{kind_of};
 ghost use Rattle.granit_input.specs.Chunks.{Extends};
-ghost use Rattle.granit_input.specs.Origin.{error_given, after_giving, LentBetween};
+ghost use Rattle.granit_input.specs.Origin.{error_given, Gave, LentBetween};
 ghost use Rattle.granit_input.specs.Runs.{starts, is_line_char, is_non_breakz, is_quoted_char};
 ghost use Rattle.granit_base.specs.PlainContent.{is_content};
 ghost use Rattle.granit_input.specs.White.{is_skipped};
@@ -192,7 +192,7 @@ impl<T: Input> Cursor<T> {
         ensures place { self.new.place ≡ self.old.place }
         ensures left { T.left self.new.input ≤ T.left self.old.input }
         ensures window { T.window self.old.input ≤ T.window self.new.input }
-        ensures origin { T.origin self.new.input ≡ after_giving (T.origin self.old.input) }
+        ensures origin { Gave (T.origin self.old.input) (T.origin self.new.input) }
     {
         self.input.take_source_error()
     }

@@ -16,6 +16,3 @@ pub use layout::Layout;
 pub use lending::{lending_offset, lent_since};
 pub use moves::{drop_blanks, past_blanks, past_break};
 pub use token::{Lexed, Token, TokenType};
-
-#[cfg(test)]
-mod tests;

@@ -9,6 +9,3 @@ mod version;
 mod words;
 
 pub use directive::scan_directive;
-
-#[cfg(test)]
-mod tests;

@@ -1,12 +1,15 @@
 -- What the laws of the plain machine say of a run.
 use Rattle.std.proofs.Common.{◌≡◌, ℕ, List, refl, sym, ap, ◌∙◌, subst, Option, Some, Result, Ok, Err, ◌⊎◌, inl, inr}
-use Rattle.std.specs.Str.{chars}
+use Rattle.std.specs.Prelude.{length, ◌≤◌}
+use Rattle.std.specs.Str.{IsUtf8, chars}
 use Rattle.std.specs.Io.KnownBytes.{Appends}
 use Rattle.granit_answers.proofs.CommentsCaused.{any_fault_caused}
 use Rattle.granit_answers.proofs.OneCause.{answer_reads, cause_answered, reading_answered}
 use Rattle.granit_base.specs.Written.{Written}
 use Rattle.granit_before.proofs.CauseSaid.{cause_declared, declared_cause}
 use Rattle.granit_before.proofs.ReadingSaid.{answer_declared, declared_answer}
+use Rattle.granit_block_layout.proofs.Laws.{block_is_read}
+use Rattle.granit_block_layout.specs.Alike.{BlockAnswered}
 use Rattle.granit_canonical.proofs.Laws.{canonical_is_read}
 use Rattle.granit_comments.proofs.Told.{comments_told}
 use Rattle.granit_comments.proofs.Unasked.{told_unasked}
@@ -16,11 +19,12 @@ use Rattle.granit_lexemes.specs.Line.{event_lines, fault_line}
 use Rattle.granit_lexemes.specs.Outcome.{Fault}
 use Rattle.granit_lexemes.specs.PlainEvent.{PlainEvent}
 use Rattle.granit_machine.specs.Machine.{run}
-use Rattle.granit_events.specs.Came.{CameWhole}
-use Rattle.granit_events.specs.Ended.{Ended, Fixes, CallsFor, IsOrYields, machine_answer}
+use Rattle.granit_model.specs.Tree.{PlainTrees}
+use Rattle.granit_events.specs.Came.{CameWhole, most_bytes}
+use Rattle.granit_events.specs.Ended.{Ended, Fixes, CallsFor, IsOrYields, SayOptions, machine_answer}
 use Rattle.granit_events.specs.Output.{WholeOutput}
 use Rattle.granit_events.specs.Understood.{PrintsReading, PrintsFault, CanRead, HasCause, HasEvents, HasKnownEvents}
-use Rattle.granit_events.specs.Understood.{of_trees, of_json}
+use Rattle.granit_events.specs.Understood.{HasBlockText, PrintsAlike, of_trees, of_json}
 use Rattle.granit_events.specs.Words.{spelled}
 use Rattle.granit_events.proofs.RunLemmas.{whole_bytes}
 use Rattle.granit_events.proofs.WordLemmas.{say_one}
@@ -139,12 +143,34 @@ known_answer o x es (of_trees ts fits written deep is e) =
 known_answer o x es (of_json t d printable deep near e) =
     json_answered o x t d printable deep near ∙ ap Ok (sym e)
 
+-- the words are right, and what a source has left is answered with these events
+pub record IsAnswered (words : List Written) (left : Option (List ℕ)) (es : List PlainEvent) : Type 0 where
+  options : OptionsData
+  said : SayOptions words options
+  bytes : List ℕ
+  told : left ≡ Some bytes
+  fits : length bytes ≤ most_bytes
+  utf8 : IsUtf8 bytes
+  answer : run options (chars bytes) ≡ Ok es
+
 -- what is canonical text or JSON text is answered with its events
+pub known_answered : (words : List Written) (left : Option (List ℕ)) (es : List PlainEvent) → HasEvents words left es
+    → IsAnswered words left es
+known_answered words left es h = record {
+  options = h.options;
+  said = h.said;
+  bytes = h.bytes;
+  told = h.told;
+  fits = h.fits;
+  utf8 = h.utf8;
+  answer = known_answer h.options (chars h.bytes) es h.known;
+}
+
 module _ (words : List Written) (left now written after : Option (List ℕ)) (es : List PlainEvent)
-    (h : HasEvents words left es) where
+    (h : IsAnswered words left es) where
   known_calls : CallsFor words h.bytes status.Done
   known_calls =
-      (h.options, h.said, h.fits, h.utf8, (es, known_answer h.options (chars h.bytes) es h.known))
+      (h.options, h.said, h.fits, h.utf8, (es, h.answer))
 
   known_lines : WholeOutput (Ended words left now) written after status.Done → Appends written after (event_lines es)
   known_lines w =
@@ -154,8 +180,7 @@ module _ (words : List Written) (left now written after : Option (List ℕ)) (es
       let said = say_one (spelled words) h.options c.0 h.said c.1 in
       let given : machine_answer c.0 c.2.0 ≡ Ok es =
       subst (λ (o : OptionsData). machine_answer o c.2.0 ≡ Ok es) said
-      (subst (λ (bytes : List ℕ). machine_answer h.options bytes ≡ Ok es) same
-      (known_answer h.options (chars h.bytes) es h.known)) in
+      (subst (λ (bytes : List ℕ). machine_answer h.options bytes ≡ Ok es) same h.answer) in
       let both : ◌≡◌ {A = Result (List PlainEvent) Fault} (Ok answer.0) (Ok es) = sym answer.1 ∙ given in
       let that : answer.0 ≡ es = cc in
       subst (λ (output : List ℕ). Appends written after output) (answer.2 ∙ ap event_lines that) w.wrote
@@ -177,3 +202,36 @@ module _ (words : List Written) (left now written after : Option (List ℕ)) (es
       → ((s ≡ status.Done) × Appends written after (event_lines es)) ⊎ (s ≡ status.NoMemory)
   known_run s source sink w y r u a b = known_or_memory s w
       (wanted_or_memory s status.Done source sink (y h.bytes status.Done h.told known_calls) r u a b)
+
+-- canonical block text is answered with events that tell what those of its flow text do
+module _ (words : List Written) (left now written after : Option (List ℕ)) (ts : PlainTrees)
+    (h : HasBlockText words left ts) where
+  block_events : BlockAnswered h.options ts
+  block_events = block_is_read h.options ts h.trees_fit h.has_characters h.flow_fits h.block_fits
+
+  block_answered : IsAnswered words left block_events.events
+  unfolding block_events
+  block_answered = record {
+    options = h.options;
+    said = h.said;
+    bytes = h.bytes;
+    told = h.told;
+    fits = h.fits;
+    utf8 = h.utf8;
+    answer = ap (run h.options) h.is ∙ block_events.answered;
+  }
+
+  told_alike : (s : Status)
+      → ((s ≡ status.Done) × Appends written after (event_lines block_events.events)) ⊎ (s ≡ status.NoMemory)
+      → ((s ≡ status.Done) × PrintsAlike h.options ts written after) ⊎ (s ≡ status.NoMemory)
+  told_alike s (inl d) = inl (d.0, record { events = block_events.events; wrote = d.1; alike = block_events.alike })
+  told_alike s (inr e) = inr e
+
+  -- their lines are printed, where no count rose
+  pub block_run :
+      (s : Status) (source sink : Type 0) → (Fixes s → WholeOutput (Ended words left now) written after s)
+      → ((bytes : List ℕ) (wanted : Status) → left ≡ Some bytes → CallsFor words bytes wanted → IsOrYields wanted s)
+      → (s ≡ status.ReadFault → source) → (s ≡ status.WriteFault → sink) → (source → ⊥) → (sink → ⊥)
+      → ((s ≡ status.Done) × PrintsAlike h.options ts written after) ⊎ (s ≡ status.NoMemory)
+  block_run s source sink w y r u a b =
+      told_alike s (known_run words left now written after block_events.events block_answered s source sink w y r u a b)

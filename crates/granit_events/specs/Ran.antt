@@ -5,10 +5,12 @@ use Rattle.granit_base.specs.Written.{Written}
 use Rattle.granit_lexemes.specs.Line.{event_lines, fault_line}
 use Rattle.granit_lexemes.specs.Outcome.{Fault}
 use Rattle.granit_lexemes.specs.PlainEvent.{PlainEvent}
+use Rattle.granit_model.specs.Tree.{PlainTrees}
 use Rattle.granit_events.specs.Counts.{Rose}
 use Rattle.granit_events.specs.Ended.{AreRight, AreWrongAt, CallsFor, Ended, Fixes, IsOrYields, ReadsAll}
 use Rattle.granit_events.specs.Output.{CutOutput, WholeOutput}
-use Rattle.granit_events.specs.Understood.{CanRead, HasCause, HasEvents, PrintsFault, PrintsReading}
+use Rattle.granit_events.specs.Understood.{CanRead, HasBlockText, HasCause, HasEvents, PrintsAlike, PrintsFault}
+use Rattle.granit_events.specs.Understood.{PrintsReading}
 use Rattle.granit_events.specs.declared.status.Status.{Status}
 use Rattle.granit_events.specs.declared.status.Status.TheVariants as status
 
@@ -59,4 +61,9 @@ pub record Ran (words : List Written) (source source_after sink sink_after : End
   pub known :
       (es : List PlainEvent) → HasEvents words source.bytes es → AreQuiet source source_after sink sink_after
       → ((ended_as ≡ status.Done) × Appends sink.bytes sink_after.bytes (event_lines es))
+      ⊎ (ended_as ≡ status.NoMemory)
+  -- and canonical block text of trees with those of events that its flow text has, but for styles and spans
+  pub layout :
+      (ts : PlainTrees) (h : HasBlockText words source.bytes ts) → AreQuiet source source_after sink sink_after
+      → ((ended_as ≡ status.Done) × PrintsAlike h.options ts sink.bytes sink_after.bytes)
       ⊎ (ended_as ≡ status.NoMemory)

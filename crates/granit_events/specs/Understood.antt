@@ -6,9 +6,11 @@ use Rattle.granit_base.specs.Classes.{is_printable}
 use Rattle.granit_base.specs.Written.{Written}
 use Rattle.granit_before.specs.DeclaredCause.{DeclaredCause}
 use Rattle.granit_before.specs.DeclaredReading.{DeclaredReading}
+use Rattle.granit_block_layout.specs.Alike.{kinds_of}
 use Rattle.granit_canonical.specs.Canonical.{canonical_events}
 use Rattle.granit_comments.specs.TextComments.{TellsComments, ToldUnasked}
 use Rattle.granit_error.specs.OptionsData.{OptionsData}
+use Rattle.granit_generator.specs.BlockText.{block_characters}
 use Rattle.granit_json.specs.Json.{Json, depth}
 use Rattle.granit_json.specs.JsonEvents.{json_events}
 use Rattle.granit_json.specs.JsonText.{JsonText, NamesFit}
@@ -86,3 +88,25 @@ pub record HasEvents (words : List Written) (left : Option (List ℕ)) (es : Lis
   pub fits : length bytes ≤ most_bytes
   pub utf8 : IsUtf8 bytes
   pub known : HasKnownEvents options (chars bytes) es
+
+-- the words are right, and a source has the UTF-8 of the canonical block text of trees left that fit and are no deeper
+-- than the limits, within the limit of an input
+pub record HasBlockText (words : List Written) (left : Option (List ℕ)) (ts : PlainTrees) : Type 0 where
+  pub options : OptionsData
+  pub said : SayOptions words options
+  pub bytes : List ℕ
+  pub told : left ≡ Some bytes
+  pub fits : length bytes ≤ most_bytes
+  pub utf8 : IsUtf8 bytes
+  pub trees_fit : DocumentsFit ts
+  pub has_characters : HasCharacters ts
+  pub flow_fits : trees_depth ts ≤ options.flow_nesting_limit
+  pub block_fits : trees_depth ts ≤ options.block_nesting_limit
+  pub is : chars bytes ≡ block_characters ts
+
+-- what was written are the lines of events that are those of the flow text of trees but for the styles of collections
+-- and for spans
+pub record PrintsAlike (o : OptionsData) (ts : PlainTrees) (written after : Option (List ℕ)) : Type 0 where
+  pub events : List PlainEvent
+  pub wrote : Appends written after (event_lines events)
+  pub alike : kinds_of events ≡ kinds_of (canonical_events o ts)

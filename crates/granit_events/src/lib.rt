@@ -11,15 +11,11 @@ mod outside;
 mod places;
 mod plain;
 mod printing;
-#[cfg(test)]
-mod printing_tests;
 mod quoting;
 mod reading;
 mod running;
 mod saying;
 mod status;
-#[cfg(test)]
-mod tests;
 mod words;
 mod writing;
 
@@ -27,5 +23,6 @@ pub use ends::{Failed, Sink, Source};
 pub use memory::{MemorySink, MemorySource};
 pub use outside::{ReadSource, WriteSink};
 pub use plain::{PlainSink, PlainSource};
+pub use printing::push_line;
 pub use running::{run, run_plain};
 pub use status::Status;

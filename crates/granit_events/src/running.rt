@@ -63,8 +63,9 @@ pub(crate) fn run_once<S: Source, W: Sink>(
 /// behind it), and which status the words and bytes call for (`usage`, `exactly`). Events that were
 /// printed are, comments aside, those of the one reading of the text (`read`), a fault is a cause of the
 /// text (`caused`), a text with a reading is answered (`answered`), and one with a cause is refused with it
-/// (`refused`), canonical text of trees and JSON text with the lines of their events (`known`). Wrong words leave the
-/// source as it was.
+/// (`refused`), canonical text of trees and JSON text with the lines of their events (`known`), canonical block text
+/// with lines of events that are the same but for the styles of collections and for spans (`layout`). Wrong words leave
+/// the source as it was.
 pub fn run<S: Source, W: Sink>(
     alloc: Global,
     words: &TextList,

@@ -1,17 +1,17 @@
 //! A lexeme in a block collection (YAML 1.2.2, 8.2).
 ghost use Rattle.std.specs.Prelude.{◌≡◌, OnOk};
 ghost use Rattle.granit_error.specs.OptionsView.{options_of};
-ghost use Rattle.granit_frames.specs.SortViews.{machine_token, sort_view};
+ghost use Rattle.granit_sorts.specs.SortViews.{machine_token, sort_view};
 ghost use Rattle.granit_frames.specs.StateViews.{pair_view};
 ghost use Rattle.granit_machine.specs.BlockSteps as steps;
 ghost use Rattle.granit_machine.specs.Frames as machine;
 ghost use Rattle.granit_machine.specs.TokenSort as sorts;
 ghost use Rattle.granit_machine.specs.Leaving.{LeavesIfRoom};
 
-use crate::nodes::{bare, next_dash, node};
 use granit_base::{NoMemory, Span};
 use granit_error::{ErrorKind, Options, ScanError};
 use granit_frames::{Frame, PairStage, ParserState, Token, TokenSort, null_event};
+use granit_nodes::{bare, next_dash, node};
 use std::alloc::Global;
 
 /// Whether a node may stand there.

@@ -2,7 +2,7 @@
 ghost use Rattle.std.specs.Prelude.{◌≡◌, IfOk};
 ghost use Rattle.std.specs.Option.{option_map};
 ghost use Rattle.granit_error.specs.OptionsView.{options_of};
-ghost use Rattle.granit_frames.specs.SortViews.{machine_token};
+ghost use Rattle.granit_sorts.specs.SortViews.{machine_token};
 ghost use Rattle.granit_feed.specs.Tails as tails;
 ghost use Rattle.granit_items.specs.ItemViews.{item_view, kind_view, note_view};
 ghost use Rattle.granit_machine.specs.Leaving.{LeavesIfRoom};
@@ -10,13 +10,13 @@ ghost use Rattle.granit_machine.specs.Parser as spec;
 
 use crate::block::{in_mapping, in_sequence};
 use crate::flow::{in_flow_mapping, in_flow_pair, in_flow_sequence};
-use crate::nodes::node;
 use crate::stream::{at_root, outside};
 use granit_base::{NoMemory, Span};
 use granit_error::{Options, ScanError};
 use granit_event::Event;
 use granit_frames::{Frame, ParserState, Token, Top, token_sort};
 use granit_items::{Item, Lexeme, LexemeKind, Note};
+use granit_nodes::node;
 use std::alloc::Global;
 
 /// At the open place that closing left.

@@ -1,7 +1,7 @@
 //! A lexeme in a flow collection (YAML 1.2.2, 7.4).
 ghost use Rattle.std.specs.Prelude.{◌≡◌, false, OnOk};
 ghost use Rattle.granit_error.specs.OptionsView.{options_of};
-ghost use Rattle.granit_frames.specs.SortViews.{machine_token, sort_view};
+ghost use Rattle.granit_sorts.specs.SortViews.{machine_token, sort_view};
 ghost use Rattle.granit_frames.specs.StateViews.{frame_view, pair_view, has_properties};
 ghost use Rattle.granit_machine.specs.FlowSteps as steps;
 ghost use Rattle.granit_machine.specs.Frames as machine;
@@ -9,11 +9,11 @@ ghost use Rattle.granit_machine.specs.Giving as giving;
 ghost use Rattle.granit_machine.specs.Leaving.{LeavesIfRoom};
 ghost use Rattle.granit_machine.specs.NodeEnds as ends;
 
-use crate::nodes::bare;
 use granit_base::{Marker, NoMemory, Span, StructureStyle};
 use granit_error::{ErrorKind, Options, ScanError};
 use granit_event::Event;
 use granit_frames::{Frame, PairStage, ParserState, Token, TokenSort};
+use granit_nodes::bare;
 use std::alloc::Global;
 
 // Ends and beginnings.

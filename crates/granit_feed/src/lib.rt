@@ -5,7 +5,6 @@
 mod block;
 mod feeding;
 mod flow;
-mod nodes;
 mod stream;
 
 pub use feeding::feed;

@@ -3,7 +3,7 @@ ghost use Rattle.std.specs.Prelude.{◌≡◌, [], false, None, OnOk};
 ghost use Rattle.std.specs.Option.{option_map};
 ghost use Rattle.granit_error.specs.OptionsView.{options_of};
 ghost use Rattle.granit_event.specs.Events.{plain_version};
-ghost use Rattle.granit_frames.specs.SortViews.{machine_token, of_kind, sort_view};
+ghost use Rattle.granit_sorts.specs.SortViews.{machine_token, of_kind, sort_view};
 ghost use Rattle.granit_frames.specs.StateViews.{stage_view};
 ghost use Rattle.granit_items.specs.declared.item.LexemeKind.TheVariants as kinds;
 ghost use Rattle.granit_lexemes.specs.Lexeme as lexemes;
@@ -14,12 +14,12 @@ ghost use Rattle.granit_machine.specs.Leaving.{LeavesIfRoom};
 ghost use Rattle.granit_machine.specs.NodeEnds.{empty_span};
 ghost use Rattle.granit_machine.specs.StreamSteps as steps;
 
-use crate::nodes::node;
 use granit_base::{NoMemory, Span, Text};
 use granit_error::{ErrorKind, Options, ScanError};
 use granit_event::{Event, YamlVersion};
 use granit_frames::{DocumentStage, Frame, ParserState, Token, TokenSort};
 use granit_items::LexemeKind;
+use granit_nodes::node;
 use std::alloc::Global;
 use std::mem;
 

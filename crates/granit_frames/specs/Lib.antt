@@ -1,3 +1,2 @@
-pub mod SortViews
 pub mod StateViews
 pub mod TopViews

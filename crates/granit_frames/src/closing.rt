@@ -1,16 +1,16 @@
 //! What a lexeme ends before it is taken.
 ghost use Rattle.std.specs.Prelude.{◌≡◌, Ok, OnOk};
 ghost use Rattle.granit_error.specs.OptionsView.{options_of};
-ghost use Rattle.granit_frames.specs.SortViews.{sort_view, machine_token};
+ghost use Rattle.granit_sorts.specs.SortViews.{sort_view, machine_token};
 ghost use Rattle.granit_frames.specs.StateViews.{pair_view, frames_view, properties_view};
 ghost use Rattle.granit_machine.specs.Closing as closing;
 
 use crate::frames::Frames;
-use crate::sort::{Token, TokenSort, ends_frame, is_key_in_block, is_right_of};
 use crate::state::{Frame, NodeProperties, PairStage, ParserState, Top};
 use granit_base::NoMemory;
 use granit_error::Options;
 use granit_items::LexemeKind;
+use granit_sorts::{Token, TokenSort, ends_frame, is_key_in_block, is_right_of};
 
 fn goes_on_by_sort(right: bool, in_flow: bool, indentless: bool, sort: TokenSort) -> bool
     ensures { result ≡ closing.goes_on_by_sort right in_flow indentless (sort_view sort) }

@@ -9,12 +9,11 @@ mod frames;
 mod giving;
 mod names;
 mod properties;
-mod sort;
 mod state;
 
 pub use frames::Frames;
 pub use giving::null_event;
-pub use sort::{Token, TokenSort, token_sort};
+pub use granit_sorts::{Token, TokenSort, token_sort};
 pub use state::{
     DocumentStage, Frame, NodeAnchor, NodeProperties, NodeTag, PairStage, ParserState, Top,
 };

@@ -1,15 +1,15 @@
 //! Properties of a node that must come (YAML 1.2.2, 6.9).
 ghost use Rattle.std.specs.Prelude.{◌≡◌, Some, OnOk};
-ghost use Rattle.granit_frames.specs.SortViews.{machine_token};
+ghost use Rattle.granit_sorts.specs.SortViews.{machine_token};
 ghost use Rattle.granit_frames.specs.StateViews.{anchor_view, tag_view};
 ghost use Rattle.granit_machine.specs.Giving as giving;
 ghost use Rattle.granit_machine.specs.NodeSteps as steps;
 
 use crate::names::remember_name;
-use crate::sort::Token;
 use crate::state::{NodeAnchor, NodeProperties, NodeTag, ParserState};
 use granit_base::{NoMemory, Text};
 use granit_event::Tag;
+use granit_sorts::Token;
 use std::alloc::Global;
 
 impl<'input> ParserState<'input> {

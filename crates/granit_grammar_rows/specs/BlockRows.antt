@@ -1,10 +1,10 @@
 -- Lists of lexemes of block collections, and their events. Above each stands a text that has these lexemes.
 use Rattle.std.specs.Prelude.{List, [], ◌∷◌}
-use Rattle.granit_grammar_rows.specs.Row.{Row, is_read, anchor_at, tag_from, text_at, dash_at, question_at, colon_at}
-use Rattle.granit_grammar_rows.specs.Row.{colon_of, start_mark_at, end_mark_at, end_at, begins, on, inner, only}
-use Rattle.granit_grammar_rows.specs.Row.{and_anchor, and_tag, and_both, StreamEnd, BareDocument, MarkedDocument}
-use Rattle.granit_grammar_rows.specs.Row.{DocumentEnd, SequenceEnd, MappingEnd, Text, Null, Empty, BlockSequence}
-use Rattle.granit_grammar_rows.specs.Row.{BlockMapping}
+use Rattle.granit_grammar_rows.specs.Row.{Row, is_read, alias_at, anchor_at, tag_from, text_at, dash_at, question_at}
+use Rattle.granit_grammar_rows.specs.Row.{colon_at, colon_of, start_mark_at, end_mark_at, end_at, begins, on, inner}
+use Rattle.granit_grammar_rows.specs.Row.{only, and_anchor, and_tag, and_both, AliasWord, StreamEnd, BareDocument}
+use Rattle.granit_grammar_rows.specs.Row.{MarkedDocument, DocumentEnd, SequenceEnd, MappingEnd, Text, Null, Empty}
+use Rattle.granit_grammar_rows.specs.Row.{BlockSequence, BlockMapping}
 
 abbrev pub at_most_one_lexeme : List Row
 at_most_one_lexeme =
@@ -78,6 +78,15 @@ simple_keys =
     (on BareDocument 0 0 ∷ on (only BlockMapping) 0 0 ∷ inner 1 (only Text) 0 1 ∷ on (only Null) 1 1
     ∷ inner 1 (and_tag Text) 7 8 ∷ on (only Null) 8 8 ∷ on MappingEnd 10 10 ∷ on DocumentEnd 10 10
     ∷ on StreamEnd 10 10 ∷ [])
+    -- "a: !t\na: "
+    ∷ is_read (begins (text_at 0 1 0) ∷ colon_of 0 1 1 ∷ tag_from 3 3 ∷ begins (text_at 6 7 0) ∷ colon_of 3 7 1
+    ∷ end_at 9 3 ∷ [])
+    (on BareDocument 0 0 ∷ on (only BlockMapping) 0 0 ∷ inner 1 (only Text) 0 1 ∷ on (and_tag Empty) 5 5
+    ∷ inner 1 (only Text) 6 7 ∷ on (only Null) 7 7 ∷ on MappingEnd 9 9 ∷ on DocumentEnd 9 9 ∷ on StreamEnd 9 9 ∷ [])
+    -- "*a : "
+    ∷ is_read (begins (alias_at 0 0) ∷ colon_of 0 3 3 ∷ end_at 5 5 ∷ [])
+    (on BareDocument 0 0 ∷ on (only BlockMapping) 0 0 ∷ inner 1 AliasWord 0 2 ∷ on (only Null) 3 3
+    ∷ on MappingEnd 5 5 ∷ on DocumentEnd 5 5 ∷ on StreamEnd 5 5 ∷ [])
     ∷ []
 
 abbrev pub properties_in_front : List Row

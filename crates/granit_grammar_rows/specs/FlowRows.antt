@@ -78,6 +78,11 @@ square_brackets =
     ∷ is_read (opener_at Square 0 0 ∷ tag_from 1 1 ∷ anchor_at 4 4 ∷ closer_at Square 7 7 ∷ end_at 8 8 ∷ [])
     (on BareDocument 0 1 ∷ on (only FlowSequence) 0 1 ∷ on (and_both Empty) 6 6 ∷ on SequenceEnd 7 8
     ∷ on DocumentEnd 8 8 ∷ on StreamEnd 8 8 ∷ [])
+    -- "[? a : ]"
+    ∷ is_read (opener_at Square 0 0 ∷ question_at 1 1 ∷ text_at 3 4 3 ∷ colon_at 5 5 ∷ closer_at Square 7 7
+    ∷ end_at 8 8 ∷ [])
+    (on BareDocument 0 1 ∷ on (only FlowSequence) 0 1 ∷ on (only FlowMapping) 1 2 ∷ on (only Text) 3 4
+    ∷ on (only Null) 7 7 ∷ on MappingEnd 7 7 ∷ on SequenceEnd 7 8 ∷ on DocumentEnd 8 8 ∷ on StreamEnd 8 8 ∷ [])
     -- "[? &x ]"
     ∷ is_read (opener_at Square 0 0 ∷ question_at 1 1 ∷ anchor_at 3 3 ∷ closer_at Square 6 6 ∷ end_at 7 7 ∷ [])
     (on BareDocument 0 1 ∷ on (only FlowSequence) 0 1 ∷ on (only FlowMapping) 1 2 ∷ on (and_anchor Null) 5 5

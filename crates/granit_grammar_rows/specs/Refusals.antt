@@ -167,6 +167,8 @@ no_key_or_value =
     -- "--- \na: , "
     ∷ is_refused (start_mark_at 0 ∷ begins (text_at 5 6 0) ∷ colon_of 0 6 1 ∷ comma_at 8 3 ∷ end_at 10 5 ∷ [])
     UnexpectedEofBlockMapping 3
+    -- "  &x a: " where the key's text, and no other lexeme, stands in column 0, no text
+    ∷ is_refused (begins (anchor_at 0 2) ∷ text_at 3 4 0 ∷ colon_of 0 4 1 ∷ end_at 6 3 ∷ []) ExpectedBlockMappingKey 1
     ∷ []
 
 abbrev pub no_entry_of_a_sequence : List Row
@@ -308,6 +310,10 @@ no_separator_in_a_sequence =
     -- "[&x ? ]"
     ∷ is_refused (opener_at Square 0 0 ∷ anchor_at 1 1 ∷ question_at 4 4 ∷ closer_at Square 6 6 ∷ end_at 7 7 ∷ [])
     ExpectedFlowSequenceSeparator 2
+    -- "[? a : a []]"
+    ∷ is_refused (opener_at Square 0 0 ∷ question_at 1 1 ∷ text_at 3 4 3 ∷ colon_at 5 5 ∷ text_at 7 8 7
+    ∷ opener_at Square 9 9 ∷ closer_at Square 10 10 ∷ closer_at Square 11 11 ∷ end_at 12 12 ∷ [])
+    ExpectedFlowSequenceSeparator 5
     ∷ []
 
 abbrev pub no_separator_in_a_mapping : List Row

@@ -44,6 +44,9 @@ begins s = record s { begins_key = true }
 abbrev pub anchor_at : ℕ → ℕ → Sketch
 anchor_at start column = sketched (grammar.Part (grammar.Property (grammar.Anchor (owned [])))) start (start + 2) column
 
+abbrev pub alias_at : ℕ → ℕ → Sketch
+alias_at start column = sketched (grammar.Part (grammar.Alias (owned []))) start (start + 2) column
+
 abbrev pub tag_from : ℕ → ℕ → Sketch
 tag_from start column = sketched (grammar.Part (grammar.Property (grammar.Tag [] []))) start (start + 2) column
 

@@ -4,7 +4,6 @@ pub mod LendLemmas
 pub mod OriginLemmas
 pub mod QuotedLemmas
 pub mod RunLemmas
-pub mod StreamLemmas
 pub mod StringLemmas
 pub mod UnreadLemmas
 pub mod WhiteLemmas

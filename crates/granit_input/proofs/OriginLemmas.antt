@@ -8,9 +8,10 @@ goes_nowhere o = record {
   lent = refl;
   tells_offset = refl;
   handed_out = refl;
-  knows_end = λ _. refl;
+  knows_end = λ known. (known, refl);
   error = λ _. refl;
   floor = omega arith;
+  ends_with = λ f told. told;
 }
 
 pub goes_on : (a b c : Origin) → Goes a b → Goes b c → Goes a c
@@ -21,8 +22,8 @@ goes_on a b c first next = record {
   handed_out = next.handed_out ∙ first.handed_out;
   knows_end = λ known.
       let same = first.knows_end known in
-      next.knows_end (ap (λ (o : Origin). o.knows_end) same ∙ known)
-      ∙ ap (λ (o : Origin). record o { floor = c.floor }) same;
+      let on = next.knows_end same.0 in (on.0, on.1 ∙ same.1);
   error = λ some. let same = first.error some in next.error (ap is_some same ∙ some) ∙ same;
   floor = le_trans first.floor next.floor;
+  ends_with = λ f told. next.ends_with f (first.ends_with f told);
 }

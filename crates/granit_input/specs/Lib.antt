@@ -4,8 +4,6 @@ pub mod Laws
 pub mod Looks
 pub mod Origin
 pub mod Runs
-pub mod Stream
-pub mod StreamLaws
 pub mod Strings
 pub mod Unread
 pub mod White

@@ -7,7 +7,7 @@ use Rattle.granit_base.specs.Spans.{Slices}
 use Rattle.granit_error.specs.FaultKind.{FaultKind}
 use Rattle.granit_input.specs.Unread.{SpelledBy}
 
-pub record Origin : Type 0 where
+pub record Origin : Type 1 where
   -- the bytes that `slice_bytes` reads, where it reads any
   pub sliced : Option (List ℕ)
   -- the bytes that `slice_borrowed` reads, where it reads any
@@ -22,24 +22,36 @@ pub record Origin : Type 0 where
   pub handed_out : Bool
   -- the window is never smaller than this, whatever is consumed: the window itself where it never shrinks, else 0
   pub floor : ℕ
+  -- this is known to be the error that the characters end with, None where they end without one
+  pub ends_with : Option FaultKind → Type 0
 
 -- What a call leaves as it was, unless it hands out the error: the sources and what is told never change, a known end
--- stays known and nothing comes behind it, the first error stays the first, and the floor of the window never falls.
+-- stays known and nothing comes behind it, the first error stays the first, the floor of the window never falls, and
+-- what is known of the end stays known.
 pub record Goes (old : Origin) (new : Origin) : Type 0 where
   pub sliced : new.sliced ≡ old.sliced
   pub lent : new.lent ≡ old.lent
   pub tells_offset : new.tells_offset ≡ old.tells_offset
   pub handed_out : new.handed_out ≡ old.handed_out
-  pub knows_end : old.knows_end ≡ true → new ≡ record old { floor = new.floor }
+  pub knows_end : old.knows_end ≡ true → (new.knows_end ≡ true) × (new.error ≡ old.error)
   pub error : IsSome old.error → new.error ≡ old.error
   pub floor : old.floor ≤ new.floor
+  pub ends_with : (f : Option FaultKind) → old.ends_with f → new.ends_with f
 
--- the error that is handed out, and what is left of it
+-- the error that is handed out
 abbrev pub error_given : Origin → Option FaultKind
 error_given o = if o.handed_out then None else o.error
 
-abbrev pub after_giving : Origin → Origin
-after_giving o = record o { handed_out = o.handed_out || is_some o.error }
+-- what handing it out leaves: all else as it was
+pub record Gave (old : Origin) (new : Origin) : Type 0 where
+  pub sliced : new.sliced ≡ old.sliced
+  pub lent : new.lent ≡ old.lent
+  pub tells_offset : new.tells_offset ≡ old.tells_offset
+  pub knows_end : new.knows_end ≡ old.knows_end
+  pub error : new.error ≡ old.error
+  pub handed_out : new.handed_out ≡ (old.handed_out || is_some old.error)
+  pub floor : new.floor ≡ old.floor
+  pub ends_with : (f : Option FaultKind) → old.ends_with f → new.ends_with f
 
 -- what is left can be lent where its offsets are told and there is a source to lend from
 abbrev pub can_lend : Origin → Bool
@@ -78,4 +90,5 @@ of_string source window = record {
   error = None;
   handed_out = false;
   floor = window;
+  ends_with = λ f. f ≡ None;
 }

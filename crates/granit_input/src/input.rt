@@ -8,9 +8,10 @@ ghost use Rattle.std.specs.Str.{chars};
 ghost use Rattle.granit_base.specs.Classes as is;
 ghost use Rattle.granit_base.specs.Place.{Unread, first};
 ghost use Rattle.granit_base.specs.Written.{string_chars};
+ghost use Rattle.granit_error.specs.FaultKind.{FaultKind};
 ghost use Rattle.granit_error.specs.Kinds.{kind_of};
 ghost use Rattle.granit_input.specs.Unread.{past};
-ghost use Rattle.granit_input.specs.Origin.{Origin, Goes, PartOf, error_given, after_giving, Agrees};
+ghost use Rattle.granit_input.specs.Origin.{Origin, Goes, PartOf, error_given, Gave, Agrees};
 ghost use Rattle.granit_input.specs.Runs.{starts, run_test, is_line_char, is_non_breakz, is_quoted_ascii};
 ghost use Rattle.granit_input.specs.Runs.{is_quoted_char, can_be_plain};
 ghost use Rattle.granit_base.specs.PlainContent.{is_content};
@@ -120,7 +121,7 @@ pub trait Input: Drop {
         ensures given { option_map kind_of result ≡ error_given (origin self.old) }
         ensures unread { (u : Unread) → unread self.old u → unread self.new u }
         ensures moves { (left self.new ≤ left self.old) × (window self.old ≤ window self.new)
-            × (origin self.new ≡ after_giving (origin self.old)) };
+            × Gave (origin self.old) (origin self.new) };
 
     /// False only where what is left, where that is known, has no `#`, and neither has the source, where it
     /// can be sliced.
@@ -542,6 +543,10 @@ pub trait Input: Drop {
 
     /// No text is longer than memory.
     ghost short: { (input : Self) → left input < 2 ^ 63 };
+
+    /// What the characters end with is the error that was met.
+    ghost fails: { (input : Self) (f : Option FaultKind) → (origin input).knows_end ≡ true
+        → (origin input).ends_with f → f ≡ (origin input).error };
 
     /// The window is never smaller than its floor.
     ghost floored: { (input : Self) → (origin input).floor ≤ window input };

@@ -13,8 +13,3 @@ pub use class::{Class, Run};
 pub use input::Input;
 pub use str_input::StrInput;
 pub use whitespace::{SkipTabs, WhitespaceResult};
-
-#[cfg(test)]
-mod stream;
-#[cfg(test)]
-mod tests;

@@ -92,6 +92,8 @@ impl<'a> Input for StrInput<'a> {
 
     ghost floored = { λ s. string_floor s.window };
 
+    ghost fails = { λ s f known none. none };
+
     ghost agrees = { λ s u is. string_agrees s.source.now s.rest.now s.window u s.suffix s.utf8 is };
 
     fn lookahead(&mut self, count: usize)

@@ -11,6 +11,3 @@ pub use granit_cursor::{
 };
 pub use plain::scan_plain_scalar;
 pub use quoted::scan_quoted_scalar;
-
-#[cfg(test)]
-mod tests;

@@ -9,7 +9,7 @@ mod writing;
 pub use fitting::fits;
 pub use nesting::depth;
 pub use tree::{PairList, Props, Tree, TreeList};
-pub use writing::flow_text;
+pub use writing::{flow_text, push_tag_bytes, push_tree};
 
 #[cfg(test)]
 mod tests;

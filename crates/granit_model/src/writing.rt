@@ -99,8 +99,13 @@ fn push_quoted_character(out: &mut String, c: char) -> Result<(), NoMemory>
     }
 }
 
+/// Appends the bytes of a tag, those that aren't word characters or `:`, `,`, `.` or `/` by their number.
+///
+/// # Errors
+///
+/// `NoMemory` alone.
 #[tactic(auto, using(crate::proofs::TextLemmas::characters_of))]
-fn push_tag_bytes(out: &mut String, tag: &str) -> Result<(), NoMemory>
+pub fn push_tag_bytes(out: &mut String, tag: &str) -> Result<(), NoMemory>
     ensures written { OnOk result (Appends out.old out.new (flow.tag_bytes (encode_utf8_all (chars tag.now)))) }
     ensures characters { OnOk result (AreCharacters (chars tag.now)) }
 {
@@ -187,8 +192,13 @@ fn push_scalar(out: &mut String, props: &Props, text: &Text<'static>) -> Result<
     push(out, '"')
 }
 
+/// Appends a node in flow style, as it stands in `flow_text`.
+///
+/// # Errors
+///
+/// `NoMemory` alone.
 #[cycle(writing)]
-fn push_tree(out: &mut String, tree: &Tree) -> Result<(), NoMemory>
+pub fn push_tree(out: &mut String, tree: &Tree) -> Result<(), NoMemory>
     ensures written { OnOk result (Appends out.old out.new (flow.tree_text (plain_tree tree.now))) }
     ensures characters { OnOk result (TreeHasCharacters (plain_tree tree.now)) }
 {

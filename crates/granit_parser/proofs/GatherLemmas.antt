@@ -1,5 +1,6 @@
 -- All events that a parser still gives, one by one.
 use Rattle.std.proofs.Common.{◌≡◌, List, [], ◌∷◌, ◌++◌, map, Option, Some, None, Ok, Err, sym, ap, subst, append_assoc}
+use Rattle.std.proofs.Common.{◌⊎◌, inl, inr}
 use Rattle.std.proofs.lemmas.List.{append-nil}
 use Rattle.granit_base.specs.Place.{Unread}
 use Rattle.granit_base.specs.declared.place.Span.{Span}
@@ -8,9 +9,12 @@ use Rattle.granit_error.specs.OptionsData.{OptionsData}
 use Rattle.granit_error.specs.Refused.{Refused}
 use Rattle.granit_event.specs.declared.event.Event.{Event}
 use Rattle.granit_event.specs.Events.{plain_event}
-use Rattle.granit_lexemes.specs.Outcome.{Fault}
+use Rattle.granit_input.specs.Origin.{Origin}
+use Rattle.granit_lexemes.specs.Outcome.{Fault, Fails}
 use Rattle.granit_lexemes.specs.PlainEvent.{PlainEvent}
 use Rattle.granit_parser.specs.Parsing.{Next, Parsing, GivesNext, StandsAt}
+use Rattle.granit_parser.specs.Sources.{IsSourceError, TellsSource}
+use Rattle.granit_parser.proofs.SourceLemmas.{never_told}
 use Rattle.granit_steps.specs.Steps.{StepState, next_event}
 use Rattle.granit_steps.specs.Told.{GivesEvents, gives_end, gives_event, gives_fault}
 
@@ -27,6 +31,19 @@ abbrev pub Took : {I : Type 0} → (I → Unread → Type 0) → Parsing I → N
 Took unread now r after =
     (m : StepState) → StandsAt unread now m
     → GivesNext r (StandsAt unread after) (next_event now.stepper.scanner.options m)
+
+-- the same, or the error of the source
+abbrev pub TookOr : {I : Type 0} → (I → Unread → Type 0) → (I → Origin) → (now : Parsing I) → Next → (after : Parsing I)
+    → Type 0
+TookOr unread origin now r after =
+    (m : StepState) → StandsAt unread now m
+    → GivesNext r (StandsAt unread after) (next_event now.stepper.scanner.options m)
+    ⊎ TellsSource origin r after.stepper.scanner.cursor
+
+pub took_event : {I : Type 0} (unread : I → Unread → Type 0) (origin : I → Origin) (now after : Parsing I)
+    (e : Event × Span)
+    → TookOr unread origin now (Some (Ok e)) after → Took unread now (Some (Ok e)) after
+took_event unread origin now after e took = λ m at. never_told (took m at)
 
 pub gave_none : {I : Type 0} (unread : I → Unread → Type 0) (p : Parsing I) → GaveFirst unread p p []
 gave_none unread p = λ m at. (m, at, λ more f gives. gives)
@@ -62,11 +79,24 @@ module _ {I : Type 0} (unread : I → Unread → Type 0) (initial now after : Pa
       subst (λ (xs : List PlainEvent). GivesEvents o m xs None) (append-nil es) (n.2 [] None (gives_end is))
 
   -- or a refusal follows
-  pub gave_fault : (e : Refused) → Took unread now (Some (Err e)) after → (m : StepState) → StandsAt unread initial m
-      → (e.kind ≡ NoMemory → ⊥) → (all : List PlainEvent) × GivesEvents initial.stepper.scanner.options m all (Some e)
-  gave_fault e took m at other =
-      let o = initial.stepper.scanner.options in
+  gave_fault : (m : StepState) (e : Refused) (n : StepState)
+      → ((more : List PlainEvent) (f : Option Fault) → GivesEvents initial.stepper.scanner.options n more f
+      → GivesEvents initial.stepper.scanner.options m (es ++ more) f)
+      → Fails e (next_event now.stepper.scanner.options n) → (e.kind ≡ NoMemory → ⊥)
+      → (all : List PlainEvent) × GivesEvents initial.stepper.scanner.options m all (Some e)
+  gave_fault m e n behind fails other =
+      let is : next_event initial.stepper.scanner.options n ≡ Err e =
+      subst (λ (p : OptionsData). next_event p n ≡ Err e) same (fails other) in
+      (es ++ [], behind [] (Some e) (gives_fault is))
+
+  pub gave_refusal : (origin : I → Origin) (e : Refused) → TookOr unread origin now (Some (Err e)) after
+      → (m : StepState) → StandsAt unread initial m
+      → ((e.kind ≡ NoMemory → ⊥) → (all : List PlainEvent)
+      × GivesEvents initial.stepper.scanner.options m all (Some e))
+      ⊎ IsSourceError (origin after.stepper.scanner.cursor.input) after.stepper.scanner.cursor.place e
+  gave_refusal origin e took m at =
       let n = gave m at in
-      let is : next_event o n.0 ≡ Err e =
-      subst (λ (p : OptionsData). next_event p n.0 ≡ Err e) same (took n.0 n.1 other) in
-      (es ++ [], n.2 [] (Some e) (gives_fault is))
+      elim (took n.0 n.1) [
+        | inl fails ↦ inl (gave_fault m e n.0 n.2 fails)
+        | inr told ↦ inr told
+      ]

@@ -9,6 +9,8 @@ use Rattle.granit_before.specs.DeclaredCause.{DeclaredCause}
 use Rattle.granit_before.specs.DeclaredReading.{DeclaredReading}
 use Rattle.granit_before.proofs.CauseSaid.{cause_declared, declared_cause}
 use Rattle.granit_before.proofs.ReadingSaid.{answer_declared, declared_answer}
+use Rattle.granit_block_layout.specs.Alike.{kinds_of}
+use Rattle.granit_block_layout.proofs.Laws.{block_is_read}
 use Rattle.granit_canonical.specs.Canonical.{canonical_events}
 use Rattle.granit_canonical.proofs.Laws.{canonical_is_read}
 use Rattle.granit_comments.specs.TextComments.{TellsComments, ToldUnasked}
@@ -17,6 +19,7 @@ use Rattle.granit_comments.proofs.Unasked.{told_unasked}
 use Rattle.granit_error.specs.FaultKind.{FaultKind, NoMemory}
 use Rattle.granit_error.specs.OptionsData.{OptionsData}
 use Rattle.granit_error.specs.Refused.{Refused}
+use Rattle.granit_generator.specs.BlockText.{block_characters}
 use Rattle.granit_invariants.specs.EventPlaces.{EventsInText}
 use Rattle.granit_invariants.specs.Quiet.{but_comments}
 use Rattle.granit_invariants.proofs.SpanLaw.{events_in_text}
@@ -33,6 +36,8 @@ use Rattle.granit_model.specs.FlowText.{flow_characters}
 use Rattle.granit_model.specs.Tree.{DocumentsFit, PlainTrees, trees_depth}
 use Rattle.granit_parser.specs.Answering.{IsRefusedAs}
 use Rattle.granit_reading.proofs.ParserSources.{run_none}
+use Rattle.granit_readings.specs.ReadAsTrees.{TellsTrees}
+use Rattle.granit_readings.proofs.ReadOnce.{answer_trees}
 use Rattle.granit_steps.specs.Levels.{IsStream}
 use Rattle.granit_steps.specs.Steps.{steps_start}
 use Rattle.granit_steps.specs.Told.{GivesEvents}
@@ -72,6 +77,10 @@ module _ {V : Type 0} (view : V → List PlainEvent) (o : OptionsData) (x : List
   pub reading_of : (r : Result V Refused) → GivesValue view r (run o x) → IfOk r (λ v. DeclaredReading o x (view v))
   reading_of (Ok v) g = answer_declared o x (view v) (answer_reads o x (view v) g)
   reading_of (Err e) g = tt
+
+  pub trees_of : (r : Result V Refused) → GivesValue view r (run o x) → IfOk r (λ v. TellsTrees o x (view v))
+  trees_of (Ok v) g = answer_trees o x (view v) g
+  trees_of (Err e) g = tt
 
   pub spans_of : (r : Result V Refused) → GivesValue view r (run o x) → IfOk r (λ v. EventsInText x (view v))
   spans_of (Ok v) g = events_in_text o x (view v) g
@@ -120,6 +129,21 @@ module _ {V : Type 0} (view : V → List PlainEvent) (o : OptionsData) (x : List
       → IfErr r (λ e. e.kind ≡ NoMemory) × IfOk r (λ v. view v ≡ canonical_events o ts)
   canonical_of r g ts fits written deep is =
       has_events r g (canonical_events o ts) (ap (run o) is ∙ canonical_is_read o ts fits written deep)
+
+  alike : (r : Result V Refused) (es gs : List PlainEvent) → kinds_of es ≡ kinds_of gs → IfOk r (λ v. view v ≡ es)
+      → IfOk r (λ v. kinds_of (view v) ≡ kinds_of gs)
+  alike (Ok v) es gs e h = ap kinds_of h ∙ e
+  alike (Err f) es gs e h = tt
+
+  -- and block text the same but for styles of collections and spans
+  pub block_of : (r : Result V Refused) → GivesValue view r (run o x) → (ts : PlainTrees) → DocumentsFit ts
+      → HasCharacters ts → trees_depth ts ≤ o.flow_nesting_limit → trees_depth ts ≤ o.block_nesting_limit
+      → x ≡ block_characters ts
+      → IfErr r (λ e. e.kind ≡ NoMemory) × IfOk r (λ v. kinds_of (view v) ≡ kinds_of (canonical_events o ts))
+  block_of r g ts fits written flat deep is =
+      let b = block_is_read o ts fits written flat deep in
+      let h = has_events r g b.events (ap (run o) is ∙ b.answered) in
+      (h.0, alike r b.events (canonical_events o ts) b.alike h.1)
 
   -- JSON text has those of its value
   pub json_of : (r : Result V Refused) → GivesValue view r (run o x) → (t : Json) → (d : JsonText x t)

@@ -1,10 +1,12 @@
 -- What the laws of the plain machine say of the calls that give a text's events one by one.
-use Rattle.std.proofs.Common.{◌≡◌, ◌≢◌, ℕ, List, [], ◌∷◌, Option, Some, None, Result, Ok, Err, ◌⊎◌, inl, inr}
+use Rattle.std.proofs.Common.{◌≡◌, ◌≢◌, ℕ, List, [], ◌∷◌, ◌++◌, Option, Some, None, Result, Ok, Err, ◌⊎◌, inl, inr}
+use Rattle.std.proofs.Common.{refl, sym, ap, ap₂, ◌∙◌, subst, append_assoc}
 use Rattle.granit_answers.proofs.CommentsCaused.{any_fault_caused}
 use Rattle.granit_answers.proofs.OneCause.{answer_reads}
 use Rattle.granit_before.specs.DeclaredCause.{DeclaredCause}
 use Rattle.granit_before.proofs.CauseSaid.{cause_declared}
 use Rattle.granit_before.proofs.ReadingSaid.{answer_declared}
+use Rattle.granit_event.specs.Events.{plain_event}
 use Rattle.granit_error.specs.FaultKind.{FaultKind, NoMemory}
 use Rattle.granit_error.specs.OptionsData.{OptionsData}
 use Rattle.granit_error.specs.Refused.{Refused}
@@ -14,9 +16,11 @@ use Rattle.granit_machine.specs.Machine.{run}
 use Rattle.granit_parser.specs.Parsing.{Next, GivesNext, EndsText, LeadsTo, none_given, first_given}
 use Rattle.granit_parser.proofs.LoadLemmas.{memory_or_not}
 use Rattle.granit_reading.proofs.ParserSources.{run_none}
+use Rattle.granit_steps.specs.Levels.{BeginsStream, stream_levels}
 use Rattle.granit_steps.specs.Steps.{StepState, next_event, steps_start}
-use Rattle.granit_steps.specs.Told.{GivesEvents, gives_end, gives_event, gives_fault}
-use Rattle.granit_steps.proofs.StepLaws.{steps_give}
+use Rattle.granit_steps.specs.Told.{GivesEvents, gives_end, gives_event, gives_fault, told_of}
+use Rattle.granit_steps.proofs.StepLaws.{steps_give, steps_tell}
+use Rattle.granit_steps.proofs.StreamLaws.{run_is_stream, told_begins}
 
 -- what is given behind these events is given in all
 given_behind : (o : OptionsData) (m last : StepState) (es : List PlainEvent) (f : Option Fault) → LeadsTo o m es last
@@ -24,6 +28,46 @@ given_behind : (o : OptionsData) (m last : StepState) (es : List PlainEvent) (f 
 given_behind o m last es f none_given more = more
 given_behind o m last es f (first_given {next = next} {es = rest} is leads) more =
     gives_event is (given_behind o next last rest f leads more)
+
+-- one event more is given
+leads_more : (o : OptionsData) {m last after : StepState} {es : List PlainEvent} {e : PlainEvent} →
+    LeadsTo o m es last → next_event o last ≡ Ok (Some e, after) → LeadsTo o m (es ++ e ∷ []) after
+leads_more o none_given is = first_given is none_given
+leads_more o (first_given was leads) is = first_given was (leads_more o leads is)
+
+abbrev Stepped : Type 0
+Stepped = Result (Option PlainEvent × StepState) Fault
+
+one_step : {a b : Option PlainEvent} {s t : StepState} → ◌≡◌ {A = Stepped} (Ok (a, s)) (Ok (b, t)) → (a ≡ b) × (s ≡ t)
+one_step {a = a} {b = b} {s = s} {t = t} e =
+    let p : ◌≡◌ {A = Option PlainEvent × StepState} (a, s) (b, t) = cc (e) in
+    (ap (λ (x : Option PlainEvent × StepState). x.0) p, ap (λ (x : Option PlainEvent × StepState). x.1) p)
+
+-- what is given in all begins with what is given up to a state
+leads_front : (o : OptionsData) (m last : StepState) (es all : List PlainEvent) (f : Option Fault) →
+    LeadsTo o m es last → GivesEvents o m all f → (more : List PlainEvent) × (all ≡ es ++ more)
+leads_front o m last [] all f none_given g = (all, refl)
+leads_front o m last (e ∷ es) all f (first_given is leads) (gives_end over) =
+    absurd (let z = (one_step (sym is ∙ over)).0 in cc)
+leads_front o m last (e ∷ es) all f (first_given is leads) (gives_fault over) =
+    absurd (let z : ◌≡◌ {A = Stepped} _ _ = sym is ∙ over in cc)
+leads_front o m last (e ∷ es) all f (first_given {next = next} is leads)
+    (gives_event {after = after} {e = d} {es = ds} was more) =
+    let z = one_step (sym was ∙ is) in
+    let event : d ≡ e = cc (z.0) in
+    let p = leads_front o next last es ds f leads (subst (λ (s : StepState). GivesEvents o s ds f) z.1 more) in
+    (p.0, ap₂ (λ (e : PlainEvent) (es : List PlainEvent). e ∷ es) event p.1)
+
+-- the events that lead from the start of a text to a state begin a stream
+front_begins : (o : OptionsData) (x : List ℕ) (es : List PlainEvent) (m : StepState) → LeadsTo o (steps_start x) es m →
+    BeginsStream es
+front_begins o x es m leads =
+    let p = leads_front o (steps_start x) m es (told_of o x).0 (told_of o x).1 leads (steps_tell o x) in
+    let b = told_begins o x in (
+      p.0 ++ b.0,
+      sym (ap (λ (l : List PlainEvent). stream_levels (l ++ b.0)) p.1
+          ∙ ap stream_levels (append_assoc es p.0 b.0)) ∙ b.1,
+    )
 
 module _ (o : OptionsData) (x : List ℕ) (es : List PlainEvent) (m : StepState) (leads : LeadsTo o (steps_start x) es m)
   where
@@ -35,10 +79,18 @@ module _ (o : OptionsData) (x : List ℕ) (es : List PlainEvent) (m : StepState)
         steps_give o x es (Some e) (given_behind o (steps_start x) m es (Some e) leads (gives_fault (fails other))) in
         inr (cause_declared o x e (any_fault_caused o x e answer), run_none o x e answer)
 
+    begins_stream : BeginsStream es
+    begins_stream = front_begins o x es m leads
+
+    -- with one event more
+    event_begins : (e : PlainEvent) (after : StepState) → next_event o m ≡ Ok (Some e, after) →
+        BeginsStream (es ++ e ∷ [])
+    event_begins e after is = front_begins o x (es ++ e ∷ []) after (leads_more o leads is)
+
     pub ends_text : (r : Next) (Lands : StepState → Type 0) → GivesNext r Lands (next_event o m) → EndsText o x es r
     ends_text None Lands g =
         let answer : run o x ≡ Ok es =
         steps_give o x es None (given_behind o (steps_start x) m es None leads (gives_end g.2)) in
-        answer_declared o x es (answer_reads o x es answer)
-    ends_text (Some (Ok e)) Lands g = tt
-    ends_text (Some (Err e)) Lands g = caused e (memory_or_not e.kind) g
+        (answer_declared o x es (answer_reads o x es answer), run_is_stream o x es answer)
+    ends_text (Some (Ok e)) Lands g = event_begins (plain_event e) g.0 g.2
+    ends_text (Some (Err e)) Lands g = (begins_stream, caused e (memory_or_not e.kind) g)

@@ -1,3 +1,4 @@
 pub mod Answering
 pub mod Parsing
+pub mod Sources
 pub mod Streams

@@ -1,11 +1,11 @@
 -- What contracts see of a parser, and what its calls give.
-use Rattle.std.specs.Prelude.{◌≡◌, ◌⊎◌, ℕ, true, List, [], ◌∷◌, Option, Some, None, Result, Ok, Err, IfSome, IfErr}
+use Rattle.std.specs.Prelude.{◌≡◌, ◌⊎◌, ℕ, true, List, [], ◌∷◌, ◌++◌, Option, Some, None, Result, Ok, Err, IfSome}
+use Rattle.std.specs.Prelude.{IfErr}
 use Rattle.std.specs.Borrow.{Bor}
 use Rattle.granit_base.specs.Place.{Unread}
 use Rattle.granit_base.specs.declared.place.Span.{Span}
 use Rattle.granit_before.specs.DeclaredCause.{DeclaredCause}
 use Rattle.granit_before.specs.DeclaredReading.{DeclaredReading}
-use Rattle.granit_cursor.specs.Reading.{Moves}
 use Rattle.granit_error.specs.FaultKind.{NoMemory}
 use Rattle.granit_error.specs.OptionsData.{OptionsData}
 use Rattle.granit_error.specs.Refused.{Refused}
@@ -14,7 +14,10 @@ use Rattle.granit_event.specs.Events.{plain_event}
 use Rattle.granit_input.specs.Origin.{Origin}
 use Rattle.granit_lexemes.specs.Outcome.{Fault, Fails}
 use Rattle.granit_lexemes.specs.PlainEvent.{PlainEvent}
+use Rattle.granit_cursor.specs.Reading.{Reading}
+use Rattle.granit_parser.specs.Sources.{IfUnseen, IsSourceError, MovesUnless, TellsError, TellsSource}
 use Rattle.granit_stepper.specs.Stepping.{Stepping, StandsIn}
+use Rattle.granit_steps.specs.Levels.{IsStream, BeginsStream}
 use Rattle.granit_steps.specs.Steps.{StepState, next_event, steps_start}
 use Rattle.granit_steps.specs.Told.{GivesEvents}
 
@@ -69,24 +72,28 @@ pub record PeeksAs {I : Type 0} (unread : I → Unread → Type 0) (left : I →
     (r : Next) (new : Parsing I) : Type 0 where
   pub shown : r ≡ new.peeked
   pub known : (m : StepState) → StandsAt unread old m
+      → (origin new.stepper.scanner.cursor.input).error ≡ None
       → ShowsNext unread r new m (next_event old.stepper.scanner.options m)
+  pub source : IfUnseen old.peeked (TellsError origin old.stepper r new.stepper.scanner.cursor)
   pub seen : IfSome old.peeked (λ x. new ≡ old)
   pub refused : EndsWith r new.stepper
   pub over : IsOver old → new ≡ old
   pub options : new.stepper.scanner.options ≡ old.stepper.scanner.options
-  pub moves : Moves left origin old.stepper.scanner.cursor new.stepper.scanner.cursor
+  pub moves : IfUnseen old.peeked (MovesUnless left origin r old.stepper.scanner.cursor new.stepper.scanner.cursor)
 
 -- a step gives what the machine's step gives, what was looked at, and behind a refusal nothing
 pub record StepsTo {I : Type 0} (unread : I → Unread → Type 0) (left : I → ℕ) (origin : I → Origin) (p : Parsing I)
     (r : Next) (q : Parsing I) : Type 0 where
   pub known : (m : StepState) → StandsAt unread p m
       → GivesNext r (StandsAt unread q) (next_event p.stepper.scanner.options m)
+      ⊎ TellsSource origin r q.stepper.scanner.cursor
+  pub source : IfUnseen p.peeked (TellsError origin p.stepper r q.stepper.scanner.cursor)
   pub seen : IfSome p.peeked (λ x. (r ≡ Some x) × (q.stepper ≡ p.stepper))
   pub none : q.peeked ≡ None
   pub refused : EndsWith r q.stepper
   pub over : IsOver p → (r ≡ None) × (q ≡ p)
   pub options : q.stepper.scanner.options ≡ p.stepper.scanner.options
-  pub moves : Moves left origin p.stepper.scanner.cursor q.stepper.scanner.cursor
+  pub moves : IfUnseen p.peeked (MovesUnless left origin r p.stepper.scanner.cursor q.stepper.scanner.cursor)
 
 -- one by one these events are given, from a state up to another one
 pub data LeadsTo (o : OptionsData) : StepState → List PlainEvent → StepState → Type 0 where
@@ -94,13 +101,22 @@ pub data LeadsTo (o : OptionsData) : StepState → List PlainEvent → StepState
   first_given : {m next last : StepState} {e : PlainEvent} {es : List PlainEvent}
       → next_event o m ≡ Ok (Some e, next) → LeadsTo o next es last → LeadsTo o m (e ∷ es) last
 
--- behind these events of a text, a refusal is for want of memory or a cause of the text, and names no source; and where
--- there is nothing more, these are the events of its reading
+-- Behind these events of a text: where there is nothing more, they are the events of its reading, a whole stream; an
+-- event goes on with what begins a stream; and a refusal, behind such events, is for want of memory or a cause of the
+-- text, and names no source.
 abbrev pub EndsText : OptionsData → List ℕ → List PlainEvent → Next → Type 0
-EndsText o x es None = DeclaredReading o x es
-EndsText o x es (Some r) = IfErr r (λ e. (e.kind ≡ NoMemory) ⊎ (DeclaredCause o x e × (e.sources ≡ [])))
+EndsText o x es None = DeclaredReading o x es × IsStream es
+EndsText o x es (Some (Ok e)) = BeginsStream (es ++ plain_event e ∷ [])
+EndsText o x es (Some (Err e)) =
+    BeginsStream es × ((e.kind ≡ NoMemory) ⊎ (DeclaredCause o x e × (e.sources ≡ [])))
 
 -- All that is given from a state on are these events, or some events and then this refusal, unless memory ran out.
 abbrev pub GivesAll : {V : Type 0} → (V → List PlainEvent) → OptionsData → StepState → Result V Refused → Type 0
 GivesAll view o m (Ok v) = GivesEvents o m (view v) None
 GivesAll view o m (Err e) = (e.kind ≡ NoMemory → ⊥) → (es : List PlainEvent) × GivesEvents o m es (Some e)
+
+-- the same, or the last refusal is the error of the source
+abbrev pub GivesAllOr : {I V : Type 0} → (I → Origin) → (V → List PlainEvent) → OptionsData → StepState
+    → Result V Refused → Reading I → Type 0
+GivesAllOr origin view o m (Ok v) at = GivesAll view o m (Ok v)
+GivesAllOr origin view o m (Err e) at = GivesAll view o m (Err e) ⊎ IsSourceError (origin at.input) at.place e

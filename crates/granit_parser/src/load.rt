@@ -5,11 +5,14 @@ ghost use Rattle.std.specs.Str.{chars};
 ghost use Rattle.granit_base.specs.Classes.{is_printable};
 ghost use Rattle.granit_before.specs.DeclaredCause.{DeclaredCause};
 ghost use Rattle.granit_before.specs.DeclaredReading.{DeclaredReading};
+ghost use Rattle.granit_block_layout.specs.Alike.{kinds_of};
 ghost use Rattle.granit_canonical.specs.Canonical.{canonical_events};
 ghost use Rattle.granit_comments.specs.TextComments.{TellsComments, ToldUnasked};
 ghost use Rattle.granit_error.specs.FaultKind.{NoMemory as OutOfMemory};
 ghost use Rattle.granit_error.specs.OptionsView.{options_of};
 ghost use Rattle.granit_event.specs.Events.{plain_events};
+ghost use Rattle.granit_input.specs.Origin.{Goes};
+ghost use Rattle.granit_generator.specs.BlockText.{block_characters};
 ghost use Rattle.granit_invariants.specs.EventPlaces.{EventsInText};
 ghost use Rattle.granit_invariants.specs.Quiet.{but_comments};
 ghost use Rattle.granit_json.specs.Json.{Json, depth};
@@ -23,7 +26,9 @@ ghost use Rattle.granit_model.specs.Characters.{HasCharacters};
 ghost use Rattle.granit_model.specs.FlowText.{flow_characters};
 ghost use Rattle.granit_model.specs.Tree.{DocumentsFit, PlainTrees, trees_depth};
 ghost use Rattle.granit_parser.specs.Answering.{IsRefusedAs};
-ghost use Rattle.granit_parser.specs.Parsing.{GivesAll, StandsAt};
+ghost use Rattle.granit_parser.specs.Parsing.{GivesAllOr, StandsAt};
+ghost use Rattle.granit_parser.specs.Sources.{GoesGiving};
+ghost use Rattle.granit_readings.specs.ReadAsTrees.{TellsTrees};
 ghost use Rattle.granit_steps.specs.Levels.{IsStream};
 ghost use Rattle.granit_steps.specs.Steps.{StepState};
 
@@ -93,8 +98,13 @@ pub(crate) fn gather<'a, T: BorrowedInput<'a>>(
     alloc: Global,
     parser: &mut Parser<'a, T>,
 ) -> Result<Vec<(Event<'a>, Span)>, ScanError>
-    ensures { (m : StepState) → StandsAt T.unread parser.old m
-        → GivesAll (λ v. plain_events v.items) parser.old.stepper.scanner.options m result }
+    ensures known { (m : StepState) → StandsAt T.unread parser.old m
+        → GivesAllOr T.origin (λ v. plain_events v.items) parser.old.stepper.scanner.options m result
+        parser.new.stepper.scanner.cursor }
+    ensures goes { IfOk result (λ v. Goes (T.origin parser.old.stepper.scanner.cursor.input)
+        (T.origin parser.new.stepper.scanner.cursor.input)) }
+    ensures failed { IfErr result (λ e. GoesGiving (T.origin parser.old.stepper.scanner.cursor.input)
+        (T.origin parser.new.stepper.scanner.cursor.input)) }
 {
     let mut items = Vec::new(alloc);
     'events: for _ in 0..u64::MAX {
@@ -121,14 +131,17 @@ fn load<'a>(alloc: Global, text: &'a str, options: Options) -> Result<Events<'a>
 /// All events of a text, in order. Columns count characters from 0, lines from 1, and each marker tells its byte
 /// offset. The text of a scalar, a name or a comment is lent from the source where nothing in it was decoded.
 ///
-/// The contract: an answer is, comments aside, the events of the one reading of the text's lexemes (`reading`); its
-/// events are a stream (`stream`), each span stands in the text (`spans`). Where comments are asked for, its comments
-/// are exactly those of the text, each in its place (`comments`), and without them the answer is the same but for them
-/// (`uncommented`). A text with a reading is answered (`answered`). A refusal has its cause, and names no source
-/// (`cause`). A text with a cause is refused with exactly that (`refused`), so no text has two. The canonical flow text
-/// of trees that fit, no deeper than allowed, is answered with their events (`canonical`), and so is JSON text with the
-/// events of its value (`json`). Want of memory may stand in the place of each answer. `value` says the same as a plain
-/// function. Every text has a reading or a cause, and no text has both (laws of granit_answers).
+/// The contract: an answer is, comments aside, the events of the one reading of the text's lexemes (`reading`),
+/// which are those of the one list of documents that the text is read as (`trees`; that there is one, and no other
+/// events, is a law of granit_readings); its events are a stream (`stream`), each span stands in the text
+/// (`spans`). Where comments are asked for, its comments are exactly those of the text, each in its place
+/// (`comments`), and without them the answer is the same but for them (`uncommented`). A text with a reading is
+/// answered (`answered`). A refusal has its cause, and names no source (`cause`). A text with a cause is refused
+/// with exactly that (`refused`), so no text has two. The canonical flow text of trees that fit, no deeper than
+/// allowed, is answered with their events (`canonical`), their canonical block text with the same but for the
+/// styles of collections and for spans (`layout`), and JSON text with the events of its value (`json`). Want of
+/// memory may stand in the place of each answer. `value` says the same as a plain function. Every text has a
+/// reading or a cause, and no text has both (laws of granit_answers).
 ///
 /// # Errors
 ///
@@ -136,6 +149,7 @@ fn load<'a>(alloc: Global, text: &'a str, options: Options) -> Result<Events<'a>
 pub fn load_str<'a>(alloc: Global, text: &'a str, options: Options) -> Result<Events<'a>, ScanError>
     ensures value { GivesValue plain_events result (run (options_of options) (chars text.now)) }
     ensures reading { IfOk result (λ v. DeclaredReading (options_of options) (chars text.now) (plain_events v)) }
+    ensures trees { IfOk result (λ v. TellsTrees (options_of options) (chars text.now) (plain_events v)) }
     ensures spans { IfOk result (λ v. EventsInText (chars text.now) (plain_events v)) }
     ensures stream { IfOk result (λ v. IsStream (plain_events v)) }
     ensures comments { IfOk result (λ v. TellsComments (options_of options) (chars text.now) (plain_events v)) }
@@ -151,6 +165,11 @@ pub fn load_str<'a>(alloc: Global, text: &'a str, options: Options) -> Result<Ev
         → trees_depth ts ≤ (options_of options).flow_nesting_limit → chars text.now ≡ flow_characters ts
         → IfErr result (λ e. e.kind ≡ OutOfMemory)
         × IfOk result (λ v. plain_events v ≡ canonical_events (options_of options) ts) }
+    ensures layout { (ts : PlainTrees) → DocumentsFit ts → HasCharacters ts
+        → trees_depth ts ≤ (options_of options).flow_nesting_limit
+        → trees_depth ts ≤ (options_of options).block_nesting_limit → chars text.now ≡ block_characters ts
+        → IfErr result (λ e. e.kind ≡ OutOfMemory)
+        × IfOk result (λ v. kinds_of (plain_events v) ≡ kinds_of (canonical_events (options_of options) ts)) }
     ensures json { (t : Json) (d : JsonText (chars text.now) t) → Each is_printable (chars text.now)
         → depth t ≤ (options_of options).flow_nesting_limit
         → NamesFit (options_of options).simple_key_max_lookahead d → IfErr result (λ e. e.kind ≡ OutOfMemory)

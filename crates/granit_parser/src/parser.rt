@@ -1,13 +1,17 @@
 //! An input that is read into events, one for each call, with a look at the next.
 ghost use mir.Syntax.{named};
-ghost use Rattle.std.specs.Prelude.{◌≡◌, ℕ, List, [], true, None, Some, IfErr, IfSome};
+ghost use Rattle.std.specs.Prelude.{◌≡◌, ◌≤◌, ◌||◌, ◌⊎◌, ℕ, List, [], true, false, None, Option, Some, IfErr, IfSome};
+ghost use Rattle.std.specs.Prelude.{is_some};
+ghost use Rattle.std.specs.Option.{option_map};
 ghost use Rattle.std.specs.Borrow.{sem};
 ghost use Rattle.std.specs.Io.BufRead.{Rests};
 ghost use Rattle.std.specs.Str.{chars};
 ghost use Rattle.granit_base.specs.Place.{Unread};
 ghost use Rattle.granit_cursor.specs.Reading.{Moves};
+ghost use Rattle.granit_error.specs.FaultKind.{FaultKind};
 ghost use Rattle.granit_error.specs.OptionsData.{default_options};
 ghost use Rattle.granit_error.specs.OptionsView.{options_of};
+ghost use Rattle.granit_input.specs.Origin.{Gave, error_given};
 ghost use Rattle.granit_input.specs.Strings.{Leaves};
 ghost use Rattle.granit_lexemes.specs.Here.{Here, first_place};
 ghost use Rattle.granit_lexemes.specs.PlainEvent.{PlainEvent};
@@ -15,7 +19,8 @@ ghost use Rattle.granit_parser.specs.Parsing as spec;
 ghost use Rattle.granit_parser.specs.Parsing.{EndsText, EndsWith, GivesNext, IsOver, LeadsTo, PeeksAs, StandsAt};
 ghost use Rattle.granit_parser.specs.Parsing.{shown};
 ghost use Rattle.granit_parser.specs.contracts.parser.Parser.{the_row};
-ghost use Rattle.granit_stepper.specs.Stepping.{StandsIn};
+ghost use Rattle.granit_parser.specs.Sources.{IfUnseen, MovesUnless, TellsError, TellsSource, unless_failed};
+ghost use Rattle.granit_stepper.specs.Stepping.{StandsIn, refused_kind};
 ghost use Rattle.granit_steps.specs.Steps as steps;
 ghost use Rattle.granit_steps.specs.Steps.{StepState};
 
@@ -76,6 +81,7 @@ impl<'input, T: BorrowedInput<'input>> Parser<'input, T> {
         ensures start { (h : Here) → T.unread src h.unread → h.place ≡ first_place → h.begins_line ≡ true
             → h.tab ≡ None → StandsAt T.unread result (steps.start_from h) }
         ensures options { result.stepper.scanner.options ≡ default_options }
+        ensures input { result.stepper.scanner.cursor.input ≡ src }
     {
         Parser::with_options(alloc, src, Options::default())
     }
@@ -85,6 +91,7 @@ impl<'input, T: BorrowedInput<'input>> Parser<'input, T> {
         ensures start { (h : Here) → T.unread src h.unread → h.place ≡ first_place → h.begins_line ≡ true
             → h.tab ≡ None → StandsAt T.unread result (steps.start_from h) }
         ensures options { result.stepper.scanner.options ≡ options_of options }
+        ensures input { result.stepper.scanner.cursor.input ≡ src }
     {
         Parser {
             alloc,
@@ -96,23 +103,30 @@ impl<'input, T: BorrowedInput<'input>> Parser<'input, T> {
     /// The next event and where it stands; none behind the end of the stream, and behind a refusal.
     ///
     /// The contract: from a state of the plain machine it gives what that gives (`known`). Behind the first events of a
-    /// text, a refusal is a cause of it, and where nothing more comes, they are the events of its reading (`text`).
+    /// text, an event goes on with what begins a stream, a refusal is a cause of the text, and where nothing more
+    /// comes, they are the events of its reading, a whole stream (`text`). The first error of the input's source stands
+    /// in the place of all that was read up to it (`source`).
     ///
     /// # Errors
     ///
     /// What is wrong with the input there, by the kinds of `docs/FAULTS.md`, and `NoMemory`.
     pub fn next_event(&mut self) -> Option<Result<(Event<'input>, Span), ScanError>>
         ensures known { (m : StepState) → StandsAt T.unread self.old m → GivesNext result (StandsAt T.unread self.new)
-            (steps.next_event self.old.stepper.scanner.options m) }
+            (steps.next_event self.old.stepper.scanner.options m)
+            ⊎ TellsSource T.origin result self.new.stepper.scanner.cursor }
+        ensures source { IfUnseen self.old.peeked (TellsError T.origin self.old.stepper result
+            self.new.stepper.scanner.cursor) }
         ensures text { (x : List ℕ) (es : List PlainEvent) (m : StepState) → StandsAt T.unread self.old m
             → LeadsTo self.old.stepper.scanner.options (steps.steps_start x) es m
-            → EndsText self.old.stepper.scanner.options x es result }
+            → EndsText self.old.stepper.scanner.options x es result
+            ⊎ TellsSource T.origin result self.new.stepper.scanner.cursor }
         ensures peeked { self.new.peeked ≡ None }
         ensures seen { IfSome self.old.peeked (λ r. (result ≡ Some r) × (self.new.stepper ≡ self.old.stepper)) }
         ensures refused { EndsWith result self.new.stepper }
         ensures over { IsOver self.old → (result ≡ None) × (self.new ≡ self.old) }
         ensures options { self.new.stepper.scanner.options ≡ self.old.stepper.scanner.options }
-        ensures moves { Moves T.left T.origin self.old.stepper.scanner.cursor self.new.stepper.scanner.cursor }
+        ensures moves { IfUnseen self.old.peeked (MovesUnless T.left T.origin result
+            self.old.stepper.scanner.cursor self.new.stepper.scanner.cursor) }
     {
         self.take_event()
     }
@@ -120,13 +134,17 @@ impl<'input, T: BorrowedInput<'input>> Parser<'input, T> {
     /// What was looked at, or the next event.
     fn take_event(&mut self) -> Option<Result<(Event<'input>, Span), ScanError>>
         ensures known { (m : StepState) → StandsAt T.unread self.old m → GivesNext result (StandsAt T.unread self.new)
-            (steps.next_event self.old.stepper.scanner.options m) }
+            (steps.next_event self.old.stepper.scanner.options m)
+            ⊎ TellsSource T.origin result self.new.stepper.scanner.cursor }
+        ensures source { IfUnseen self.old.peeked (TellsError T.origin self.old.stepper result
+            self.new.stepper.scanner.cursor) }
         ensures peeked { self.new.peeked ≡ None }
         ensures seen { IfSome self.old.peeked (λ r. (result ≡ Some r) × (self.new.stepper ≡ self.old.stepper)) }
         ensures refused { EndsWith result self.new.stepper }
         ensures over { IsOver self.old → (result ≡ None) × (self.new ≡ self.old) }
         ensures options { self.new.stepper.scanner.options ≡ self.old.stepper.scanner.options }
-        ensures moves { Moves T.left T.origin self.old.stepper.scanner.cursor self.new.stepper.scanner.cursor }
+        ensures moves { IfUnseen self.old.peeked (MovesUnless T.left T.origin result
+            self.old.stepper.scanner.cursor self.new.stepper.scanner.cursor) }
     {
         match self.peeked.take() {
             Some(peeked) => Some(peeked),
@@ -168,8 +186,59 @@ impl<'input, T: BorrowedInput<'input>> Parser<'input, T> {
         }
     }
 
-    /// The next event of the input.
+    /// The next event of the input, or the error of its source in the place of whatever was read up to that.
     fn read_event(&mut self) -> Option<Result<(Event<'input>, Span), ScanError>>
+        ensures known { (m : StepState) → StandsIn T.unread self.old.stepper m
+            → GivesNext result (StandsIn T.unread self.new.stepper)
+            (steps.next_event self.old.stepper.scanner.options m)
+            ⊎ TellsSource T.origin result self.new.stepper.scanner.cursor }
+        ensures sure { (m : StepState) → StandsIn T.unread self.old.stepper m
+            → (T.origin self.new.stepper.scanner.cursor.input).error ≡ None
+            → GivesNext result (StandsIn T.unread self.new.stepper)
+            (steps.next_event self.old.stepper.scanner.options m) }
+        ensures source { TellsError T.origin self.old.stepper result self.new.stepper.scanner.cursor }
+        ensures peeked { self.new.peeked ≡ self.old.peeked }
+        ensures refused { EndsWith result self.new.stepper }
+        ensures over { self.old.stepper.failed ≡ true → (result ≡ None) × (self.new ≡ self.old) }
+        ensures options { self.new.stepper.scanner.options ≡ self.old.stepper.scanner.options }
+        ensures moves { MovesUnless T.left T.origin result self.old.stepper.scanner.cursor
+            self.new.stepper.scanner.cursor }
+    {
+        if self.has_failed() {
+            return None;
+        }
+        let event = self.step_event();
+        let error = self.take_source_error();
+        unless_failed(event, error)
+    }
+
+    /// Whether nothing more is given.
+    fn has_failed(&self) -> bool
+        ensures { result ≡ self.now.stepper.failed }
+    {
+        self.stepper.has_failed()
+    }
+
+    /// The first error of the source, once, at the place up to which was read. Nothing more is given then.
+    fn take_source_error(&mut self) -> Option<ScanError>
+        ensures given { option_map refused_kind result
+            ≡ error_given (T.origin self.old.stepper.scanner.cursor.input) }
+        ensures place { IfSome result (λ e. (e.mark.place ≡ self.new.stepper.scanner.cursor.place)
+            × (e.sources ≡ [])) }
+        ensures known { (m : StepState) → StandsIn T.unread self.old.stepper m → result ≡ None
+            → StandsIn T.unread self.new.stepper m }
+        ensures peeked { self.new.peeked ≡ self.old.peeked }
+        ensures failed { self.new.stepper.failed ≡ (self.old.stepper.failed || is_some result) }
+        ensures options { self.new.stepper.scanner.options ≡ self.old.stepper.scanner.options }
+        ensures left { T.left self.new.stepper.scanner.cursor.input ≤ T.left self.old.stepper.scanner.cursor.input }
+        ensures origin { Gave (T.origin self.old.stepper.scanner.cursor.input)
+            (T.origin self.new.stepper.scanner.cursor.input) }
+    {
+        self.stepper.take_source_error()
+    }
+
+    /// The next event of what was read, whether the source failed or not.
+    fn step_event(&mut self) -> Option<Result<(Event<'input>, Span), ScanError>>
         ensures known { (m : StepState) → StandsIn T.unread self.old.stepper m
             → GivesNext result (StandsIn T.unread self.new.stepper)
             (steps.next_event self.old.stepper.scanner.options m) }
@@ -184,6 +253,29 @@ impl<'input, T: BorrowedInput<'input>> Parser<'input, T> {
             Ok(Some(event)) => Some(Ok(event)),
             Err(error) => Some(Err(error)),
         }
+    }
+
+    /// The error that the source ends with, once: the input is passed up to its end.
+    pub(crate) fn end_error(&mut self) -> Option<ScanError>
+        ensures told { (f : Option FaultKind) → (T.origin self.old.stepper.scanner.cursor.input).ends_with f
+            → (T.origin self.old.stepper.scanner.cursor.input).handed_out ≡ false
+            → option_map refused_kind result ≡ f }
+        ensures unnamed { IfSome result (λ e. e.sources ≡ []) }
+    {
+        self.stepper.end_error()
+    }
+}
+
+/// An event, or the error of the source in its place.
+fn unless_failed<'a>(
+    event: Option<Result<(Event<'a>, Span), ScanError>>,
+    error: Option<ScanError>,
+) -> Option<Result<(Event<'a>, Span), ScanError>>
+    ensures { result ≡ unless_failed event.entry error }
+{
+    match error {
+        None => event,
+        Some(error) => Some(Err(error)),
     }
 }
 

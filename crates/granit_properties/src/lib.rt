@@ -10,6 +10,3 @@ pub use name::scan_anchor;
 pub use tag::{bang, empty_text, scan_tag};
 pub use uri::{Uri, UriParts, read_uri, spend};
 pub use word::{Word, take_word};
-
-#[cfg(test)]
-mod tests;

@@ -11,6 +11,3 @@ mod turn;
 
 pub use granit_items::{Found, KeyStart, Lexeme, LexemeKind, Note};
 pub use turn::next_found;
-
-#[cfg(test)]
-mod tests;

@@ -6,7 +6,7 @@ ghost use Rattle.granit_cursor.specs.Reading.{GivesTo, GoesTo, Moves, Stands};
 ghost use Rattle.granit_error.specs.Kinds.{kind_of};
 ghost use Rattle.granit_error.specs.OptionsData.{default_options};
 ghost use Rattle.granit_error.specs.OptionsView.{options_of};
-ghost use Rattle.granit_input.specs.Origin.{after_giving, error_given};
+ghost use Rattle.granit_input.specs.Origin.{error_given, Gave};
 ghost use Rattle.granit_input.specs.White.{holds};
 ghost use Rattle.granit_lexemes.specs.Here.{Here, first_place, mark_of};
 ghost use Rattle.granit_queue.specs.QueueViews.{queued_view};
@@ -160,8 +160,7 @@ impl<'input, T: BorrowedInput<'input>> Scanner<'input, T> {
         ensures items { self.new.items ≡ record (self.old.items) { cursor = self.new.items.cursor } }
         ensures here { GoesTo T.unread self.old.items.cursor self.new.items.cursor (λ h. h) }
         ensures left { T.left self.new.items.cursor.input ≤ T.left self.old.items.cursor.input }
-        ensures origin { T.origin self.new.items.cursor.input
-            ≡ after_giving (T.origin self.old.items.cursor.input) }
+        ensures origin { Gave (T.origin self.old.items.cursor.input) (T.origin self.new.items.cursor.input) }
     {
         let mark = self.items.mark();
         let given = self.items.take_source_error();

@@ -5,7 +5,7 @@ ghost use Rattle.granit_base.specs.Place.{Unread};
 ghost use Rattle.granit_cursor.specs.Reading.{GoesTo, Moves, Stands};
 ghost use Rattle.granit_error.specs.Kinds.{kind_of};
 ghost use Rattle.granit_error.specs.OptionsView.{options_of};
-ghost use Rattle.granit_input.specs.Origin.{after_giving, error_given};
+ghost use Rattle.granit_input.specs.Origin.{error_given, Gave};
 ghost use Rattle.granit_items.specs.ItemViews.{found_items, item_view};
 ghost use Rattle.granit_lexemes.specs.Here.{Here, first_place, mark_of};
 ghost use Rattle.granit_machine.specs.Laid.{laid_start};
@@ -74,6 +74,7 @@ impl<'input, T: BorrowedInput<'input>> Scanner<'input, T> {
         ensures start { (h : Here) → T.unread input h.unread → h.place ≡ first_place → h.begins_line ≡ true
             → h.tab ≡ None → Known T.unread result (lex_start h) [] }
         ensures options { result.options ≡ options_of options }
+        ensures input { result.cursor.input ≡ input }
     {
         Scanner {
             cursor: Cursor::new(input),
@@ -87,7 +88,8 @@ impl<'input, T: BorrowedInput<'input>> Scanner<'input, T> {
 
     /// The place up to which was read.
     pub fn mark(&self) -> Marker
-        ensures { (h : Here) → Stands T.unread self.now.cursor h → result ≡ mark_of h }
+        ensures here { (h : Here) → Stands T.unread self.now.cursor h → result ≡ mark_of h }
+        ensures place { result.place ≡ self.now.cursor.place }
     {
         self.cursor.mark()
     }
@@ -175,11 +177,35 @@ impl<'input, T: BorrowedInput<'input>> Scanner<'input, T> {
         ensures given { option_map kind_of result ≡ error_given (T.origin self.old.cursor.input) }
         ensures known { (l : LexState) (q : _) → Known T.unread self.old l q → Known T.unread self.new l q }
         ensures here { GoesTo T.unread self.old.cursor self.new.cursor (λ h. h) }
+        ensures place { self.new.cursor.place ≡ self.old.cursor.place }
         ensures rest { self.new ≡ record self.old { cursor = self.new.cursor } }
         ensures left { T.left self.new.cursor.input ≤ T.left self.old.cursor.input }
-        ensures origin { T.origin self.new.cursor.input ≡ after_giving (T.origin self.old.cursor.input) }
+        ensures origin { Gave (T.origin self.old.cursor.input) (T.origin self.new.cursor.input) }
     {
         self.cursor.take_source_error()
+    }
+
+    /// Passes what is left, unread, up to the end of the input.
+    pub fn pass_rest(&mut self)
+        ensures ended { (T.origin self.new.cursor.input).knows_end ≡ true }
+        ensures rest { self.new ≡ record self.old { cursor = self.new.cursor } }
+        ensures moves { Moves T.left T.origin self.old.cursor self.new.cursor }
+    {
+        pass_all(&mut self.cursor);
+    }
+}
+
+/// Passes all that is left, up to the end.
+fn pass_all<T: Input>(cursor: &mut Cursor<T>)
+    ensures ended { (T.origin cursor.new.input).knows_end ≡ true }
+    ensures moves { Moves T.left T.origin cursor.old cursor.new }
+{
+    'all: loop {
+        cursor.look(1);
+        if cursor.input().next_is_z() {
+            return;
+        }
+        cursor.step();
     }
 }
 

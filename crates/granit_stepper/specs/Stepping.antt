@@ -1,7 +1,9 @@
 -- What contracts see of a stepper, and in which state of the machine it is known to be.
 use Rattle.std.specs.Prelude.{◌≡◌, ℕ, Bool, true, false, List, [], ◌∷◌, ◌++◌, Option, Some, None, Ok}
 use Rattle.granit_base.specs.Place.{Mark, Unread}
+use Rattle.granit_error.specs.FaultKind.{FaultKind}
 use Rattle.granit_error.specs.OptionsData.{OptionsData}
+use Rattle.granit_error.specs.Refused.{Refused}
 use Rattle.granit_lexemes.specs.Outcome.{◌>>=◌}
 use Rattle.granit_lexemes.specs.PlainEvent.{PlainEvent, event_on, StreamStart}
 use Rattle.granit_machine.specs.Frames.{ParserState}
@@ -35,6 +37,11 @@ pub record Keeps {I : Type 0} (old new : Stepping I) : Type 0 where
   pub first : new.first ≡ old.first
   pub failed : new.failed ≡ old.failed
   pub options : new.scanner.options ≡ old.scanner.options
+
+-- ---- what the source gave
+
+abbrev pub refused_kind : Refused → FaultKind
+refused_kind e = e.kind
 
 -- ---- turns
 

@@ -1,11 +1,13 @@
 //! An input that is read into events, one for each call.
-ghost use Rattle.std.specs.Prelude.{◌≡◌, [], true, false, None, Ok, IfErr};
+ghost use Rattle.std.specs.Prelude.{◌≡◌, ◌≤◌, ◌||◌, [], true, false, Option, None, Ok, IfErr, IfSome, is_some};
 ghost use Rattle.std.specs.Option.{option_map};
 ghost use Rattle.granit_base.specs.Place.{Unread};
-ghost use Rattle.granit_cursor.specs.Reading.{GivesTo, Moves};
+ghost use Rattle.granit_cursor.specs.Reading.{GivesTo, Moves, Stands};
+ghost use Rattle.granit_error.specs.FaultKind.{FaultKind};
 ghost use Rattle.granit_error.specs.OptionsView.{options_of};
 ghost use Rattle.granit_event.specs.Events.{plain_event};
-ghost use Rattle.granit_lexemes.specs.Here.{Here, first_place};
+ghost use Rattle.granit_input.specs.Origin.{error_given, Gave, Goes};
+ghost use Rattle.granit_lexemes.specs.Here.{Here, first_place, mark_of};
 ghost use Rattle.granit_scanner.specs.Scans.{front_view, may_front_go};
 ghost use Rattle.granit_stepper.specs.Stepping as spec;
 ghost use Rattle.granit_stepper.specs.Stepping.{Keeps, StandsIn, TakesFree};
@@ -48,6 +50,7 @@ impl<'input, T: BorrowedInput<'input>> Stepper<'input, T> {
         ensures start { (h : Here) → T.unread input h.unread → h.place ≡ first_place → h.begins_line ≡ true
             → h.tab ≡ None → StandsIn T.unread result (steps.start_from h) }
         ensures options { result.scanner.options ≡ options_of options }
+        ensures input { result.scanner.cursor.input ≡ input }
     {
         let scanner = Scanner::new(alloc, input, options);
         let start = scanner.mark();
@@ -57,6 +60,20 @@ impl<'input, T: BorrowedInput<'input>> Stepper<'input, T> {
             first: Some(start),
             failed: false,
         }
+    }
+
+    /// The place up to which was read.
+    pub fn mark(&self) -> Marker
+        ensures { (h : Here) → Stands T.unread self.now.scanner.cursor h → result ≡ mark_of h }
+    {
+        self.scanner.mark()
+    }
+
+    /// Gives nothing more.
+    pub fn stop(&mut self)
+        ensures { self.new ≡ record self.old { failed = true } }
+    {
+        self.failed = true;
     }
 
     /// The next event, and where it stands; none behind the end of the stream, and behind an error.
@@ -82,6 +99,52 @@ impl<'input, T: BorrowedInput<'input>> Stepper<'input, T> {
             }
             None => self.later_event(alloc),
         }
+    }
+
+    /// Whether a call failed: nothing more is given.
+    pub fn has_failed(&self) -> bool
+        ensures { result ≡ self.now.failed }
+    {
+        self.failed
+    }
+
+    /// The first error of the input's source, once, at the place up to which was read. Nothing more is given then.
+    pub fn take_source_error(&mut self) -> Option<ScanError>
+        ensures given { option_map spec.refused_kind result ≡ error_given (T.origin self.old.scanner.cursor.input) }
+        ensures place { IfSome result (λ e. (e.mark.place ≡ self.new.scanner.cursor.place) × (e.sources ≡ [])) }
+        ensures here { (h : Here) → Stands T.unread self.old.scanner.cursor h
+            → IfSome result (λ e. e.mark ≡ mark_of h) }
+        ensures known { (m : StepState) → StandsIn T.unread self.old m → result ≡ None → StandsIn T.unread self.new m }
+        ensures failed { self.new.failed ≡ (self.old.failed || is_some result) }
+        ensures options { self.new.scanner.options ≡ self.old.scanner.options }
+        ensures left { T.left self.new.scanner.cursor.input ≤ T.left self.old.scanner.cursor.input }
+        ensures origin { Gave (T.origin self.old.scanner.cursor.input) (T.origin self.new.scanner.cursor.input) }
+    {
+        let mark = self.scanner.mark();
+        let kind = self.scanner.take_source_error()?;
+        self.failed = true;
+        Some(ScanError::from_kind(mark, kind))
+    }
+
+    /// The error that the source ends with, once: what is left is passed, unread, up to the end of the input.
+    pub fn end_error(&mut self) -> Option<ScanError>
+        ensures told { (f : Option FaultKind) → (T.origin self.old.scanner.cursor.input).ends_with f
+            → (T.origin self.old.scanner.cursor.input).handed_out ≡ false
+            → option_map spec.refused_kind result ≡ f }
+        ensures unnamed { IfSome result (λ e. e.sources ≡ []) }
+        ensures failed { self.new.failed ≡ (self.old.failed || is_some result) }
+    {
+        self.pass_rest();
+        self.take_source_error()
+    }
+
+    /// Passes what is left, unread, up to the end of the input.
+    fn pass_rest(&mut self)
+        ensures ended { (T.origin self.new.scanner.cursor.input).knows_end ≡ true }
+        ensures failed { self.new.failed ≡ self.old.failed }
+        ensures goes { Goes (T.origin self.old.scanner.cursor.input) (T.origin self.new.scanner.cursor.input) }
+    {
+        self.scanner.pass_rest();
     }
 
     /// The next event behind the start of the stream.

@@ -18,3 +18,6 @@ returns-clause-asked_keys c = refl
 
 pub returns-clause-empty_keys : goal.returns-clause-empty_keys
 returns-clause-empty_keys c = refl
+
+pub returns-clause-keys_behind_sequences : goal.returns-clause-keys_behind_sequences
+returns-clause-keys_behind_sequences c = refl

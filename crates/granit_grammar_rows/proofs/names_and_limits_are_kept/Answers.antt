@@ -30,3 +30,6 @@ returns-clause-one_too_many c = refl
 
 pub returns-clause-as_many_as_may_be : goal.returns-clause-as_many_as_may_be
 returns-clause-as_many_as_may_be c = refl
+
+pub returns-clause-name_behind_a_document_end : goal.returns-clause-name_behind_a_document_end
+returns-clause-name_behind_a_document_end c = refl

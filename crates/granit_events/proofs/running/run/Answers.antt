@@ -2,7 +2,7 @@ use Rattle.std.proofs.Common.{ap}
 use Rattle.granit_events.specs.Ran.{end_of}
 use Rattle.granit_events.specs.declared.status.Status.TheVariants as status
 use Rattle.granit_events.proofs.UnderstoodLemmas.{reading_where, fault_where, calls_for_done, wanted_or_memory}
-use Rattle.granit_events.proofs.UnderstoodLemmas.{known_run, refused_run}
+use Rattle.granit_events.proofs.UnderstoodLemmas.{block_run, known_answered, known_run, refused_run}
 use Rattle.granit_events.proofs.running.run.Goals as goal
 
 pub returns-clause-ran : goal.returns-clause-ran
@@ -32,7 +32,10 @@ returns-clause-ran g c =
       refused = λ f h quiet. refused_run words left now written after f h
           c.run_once.result _ _ once.ended once.exactly
           (λ e. (once.read_fault e).2) (λ e. (once.write_fault e).1) quiet.0 quiet.1;
-      known = λ es h quiet. known_run words left now written after es h
+      known = λ es h quiet. known_run words left now written after es (known_answered words left es h)
+          c.run_once.result _ _ once.ended once.exactly
+          (λ e. (once.read_fault e).2) (λ e. (once.write_fault e).1) quiet.0 quiet.1;
+      layout = λ ts h quiet. block_run words left now written after ts h
           c.run_once.result _ _ once.ended once.exactly
           (λ e. (once.read_fault e).2) (λ e. (once.write_fault e).1) quiet.0 quiet.1;
     }

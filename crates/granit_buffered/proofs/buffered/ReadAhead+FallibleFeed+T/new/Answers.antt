@@ -10,9 +10,9 @@ returns-clause-read g c = λ items known.
     c.new.ensures.0 c.new.ensures.1 known in
     (refl, refl, (first_error items, (characters_of items, rw c.in_ok-held.ensures refl, comes)))
 
-pub returns-clause-comes : goal.returns-clause-comes
-returns-clause-comes g c = λ items known.
+pub returns-clause-ends : goal.returns-clause-ends
+returns-clause-ends g c = λ items known.
     let s = c.new.result in
     let comes = fresh_comes g.T.Iterator.next_gives g.T.Iterator.remaining c.args.input s.iterator s.progress items
     c.new.ensures.0 c.new.ensures.1 known in
-    (characters_of items, rw c.in_ok-held.ensures refl, comes)
+    (characters_of items, comes)

@@ -1,7 +1,7 @@
 use Rattle.std.proofs.Common.{◌≡◌, ◌+◌, ◌++◌, ◌∷◌, ℕ, List, [], length, ap, refl, ◌∙◌, arith}
 use Rattle.std.proofs.lemmas.List.{length-append}
 use Rattle.granit_input.proofs.OriginLemmas.{goes_nowhere, goes_on}
-use Rattle.granit_buffered.proofs.BufferLemmas.{holds_more}
+use Rattle.granit_buffered.proofs.BufferLemmas.{goes_known, holds_more}
 use Rattle.granit_buffered.proofs.buffered.ReadAhead.fill.Goals as goal
 
 pub fill-init : goal.fill-init
@@ -43,4 +43,13 @@ returns-in-None-clause-left g c =
     omega (arith, c.fill.invariant.left, over)
 
 pub returns-in-None-clause-goes : goal.returns-in-None-clause-goes
-returns-in-None-clause-goes g c = goes_on _ _ _ c.fill.invariant.goes c.next_char.ensures.goes
+returns-in-None-clause-goes g c = goes_known _ _ _ _ _ _ _ _
+    (goes_on _ _ _ c.fill.invariant.goes c.next_char.ensures.goes)
+    (λ fault ends.
+    let h = c.fill.invariant.told (c.args.self.now.held.items ++ ends.0) fault (ends.0, refl, ends.1) in
+    ([], (c.in-None.ensures.told h.0 fault h.2).1))
+
+pub returns-clause-goes : goal.returns-clause-goes
+returns-clause-goes g c = goes_known _ _ _ _ _ _ _ _ c.fill.invariant.goes
+    (λ fault ends.
+    let h = c.fill.invariant.told (c.args.self.now.held.items ++ ends.0) fault (ends.0, refl, ends.1) in (h.0, h.2))

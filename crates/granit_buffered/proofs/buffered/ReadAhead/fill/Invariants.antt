@@ -1,7 +1,7 @@
 use Rattle.std.proofs.Common.{◌≡◌, ◌-◌, ◌+◌, ◌≤◌, ℕ, List, Option, length, max, true}
 use Rattle.granit_error.specs.FaultKind.{FaultKind}
 use Rattle.granit_input.specs.Origin.{Goes}
-use Rattle.granit_buffered.specs.Feeds.{Holds, of_buffer}
+use Rattle.granit_buffered.specs.Feeds.{Holds, of_feed}
 use Rattle.granit_buffered.proofs.buffered.ReadAhead.fill.Given as goal
 
 abbrev pub invariant-fill : goal.invariant-fill
@@ -13,9 +13,9 @@ invariant-fill g l = record {
   window : l.self.window ≡ l.fn.self.window;
   few : length l.self.held.items ≤ max l.count (length l.fn.self.held.items);
   stays : g.F.Feed.ended l.fn.self.feed ≡ true → g.F.Feed.ended l.self.feed ≡ true;
-  goes : Goes (of_buffer (g.F.Feed.ended l.fn.self.feed) (g.F.Feed.error l.fn.self.feed)
+  goes : Goes (of_feed (g.F.Feed.ended l.fn.self.feed) (g.F.Feed.error l.fn.self.feed)
       (g.F.Feed.handed_out l.fn.self.feed))
-      (of_buffer (g.F.Feed.ended l.self.feed) (g.F.Feed.error l.self.feed) (g.F.Feed.handed_out l.self.feed));
+      (of_feed (g.F.Feed.ended l.self.feed) (g.F.Feed.error l.self.feed) (g.F.Feed.handed_out l.self.feed));
 }
 
 abbrev pub decreases-fill : goal.decreases-fill

@@ -2,7 +2,7 @@ use Rattle.std.proofs.Common.{◌-◌, ◌+◌, ◌≤◌, length, min}
 use Rattle.granit_base.specs.Place.{Unread}
 use Rattle.granit_input.specs.Origin.{Goes}
 use Rattle.granit_input.specs.Unread.{past}
-use Rattle.granit_buffered.specs.Feeds.{Leaves, of_buffer}
+use Rattle.granit_buffered.specs.Feeds.{Leaves, origin_of}
 use Rattle.granit_buffered.proofs.buffered.ReadAheadInput.skip_n.Given as goal
 
 abbrev pub invariant-taken : goal.invariant-taken
@@ -14,9 +14,8 @@ invariant-taken g l = record {
       ≤ length l.fn.self.held.items + g.F.Feed.bound l.fn.self.feed - l.taken;
   window : l.fn.self.window
       ≤ l.self.window + min l.taken (length l.fn.self.held.items + g.F.Feed.bound l.fn.self.feed);
-  origin : Goes (of_buffer (g.F.Feed.ended l.fn.self.feed) (g.F.Feed.error l.fn.self.feed)
-      (g.F.Feed.handed_out l.fn.self.feed))
-      (of_buffer (g.F.Feed.ended l.self.feed) (g.F.Feed.error l.self.feed) (g.F.Feed.handed_out l.self.feed));
+  origin : Goes (origin_of g.F.Feed.told g.F.Feed.ended g.F.Feed.error g.F.Feed.handed_out l.fn.self.feed)
+      (origin_of g.F.Feed.told g.F.Feed.ended g.F.Feed.error g.F.Feed.handed_out l.self.feed);
 }
 
 abbrev pub decreases-taken : goal.decreases-taken

@@ -1,6 +1,6 @@
 use Rattle.std.proofs.Common.{◌≡◌}
 use Rattle.granit_error.specs.OptionsView.{options_of}
-use Rattle.granit_frames.specs.SortViews.{machine_token}
+use Rattle.granit_sorts.specs.SortViews.{machine_token}
 use Rattle.granit_machine.specs.Closing.{close, depth}
 use Rattle.granit_frames.proofs.state.ParserState.close.Given as goal
 

@@ -1,7 +1,10 @@
+use Rattle.std.proofs.Common.{inl, inr}
 use Rattle.granit_parser.proofs.TextLemmas.{ends_text}
 use Rattle.granit_parser.proofs.parser.Parser.next_event.Goals as goal
 
 pub returns-clause-text : goal.returns-clause-text
 returns-clause-text g c = λ x es m stands leads.
-    ends_text c.args.self.now.stepper.scanner.options x es m leads c.take_event.result _
-    (c.take_event.ensures.known m stands)
+    elim (c.take_event.ensures.known m stands) [
+      | inl gives ↦ inl (ends_text c.args.self.now.stepper.scanner.options x es m leads c.take_event.result _ gives)
+      | inr told ↦ inr told
+    ]

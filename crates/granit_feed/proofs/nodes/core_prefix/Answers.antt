@@ -1,7 +1,0 @@
-use Rattle.std.proofs.Common.{refl}
-use Rattle.std.specs.Str.{chars}
-use Rattle.granit_feed.proofs.nodes.core_prefix.Goals as goal
-
-pub returns : goal.returns
-unfolding chars
-returns c = refl

@@ -1,0 +1,4 @@
+pub mod BlockLemmas
+pub mod FitLemmas
+pub mod MakingLemmas
+pub mod NameLemmas

@@ -1,0 +1,5 @@
+pub mod BlockText
+pub mod Examples
+pub mod Generator
+pub mod GeneratorView
+pub mod NodeCount

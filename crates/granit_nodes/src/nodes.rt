@@ -1,0 +1,445 @@
+//! A lexeme where a node must stand (YAML 1.2.2, 6.9, 7.1 and 8.2).
+ghost use Rattle.std.specs.Prelude.{◌≡◌, true, false, codes, length, None, Some, IfOk, OnOk};
+ghost use Rattle.std.specs.Option.{option_map};
+ghost use Rattle.std.specs.Str.{chars};
+ghost use Rattle.granit_error.specs.OptionsView.{options_of};
+ghost use Rattle.granit_event.specs.Events.{event_kind};
+ghost use Rattle.granit_sorts.specs.SortViews.{machine_token, of_kind};
+ghost use Rattle.granit_frames.specs.StateViews.{frame_view, pair_view, bears};
+ghost use Rattle.granit_items.specs.ItemViews.{note_view};
+ghost use Rattle.granit_items.specs.declared.item.LexemeKind.TheVariants as kinds;
+ghost use Rattle.granit_lexemes.specs.Outcome.{GivesValue};
+ghost use Rattle.granit_machine.specs.Frames as machine;
+ghost use Rattle.granit_machine.specs.Giving as giving;
+ghost use Rattle.granit_machine.specs.NodeEnds as ends;
+ghost use Rattle.granit_machine.specs.NodeSteps as steps;
+ghost use Rattle.granit_machine.specs.Leaving.{LeavesIfRoom};
+
+use granit_base::{Marker, NoMemory, Placement, Span, StructureStyle, Text};
+use granit_error::{ErrorKind, Options, ScanError};
+use granit_event::{Event, Tag};
+use granit_frames::{Frame, PairStage, ParserState, Token, TokenSort};
+use granit_items::{LexemeKind, Note};
+use granit_lexemes::Bracket;
+use std::alloc::Global;
+use std::mem;
+
+// Aliases and scalars (YAML 1.2.2, 7.1 and 7.3).
+
+/// A node of one event.
+fn leaf<'input>(
+    state: &mut ParserState<'input>,
+    options: &Options,
+    event: Event<'input>,
+    token: &Token<'input>,
+    indent: Option<usize>,
+) -> Result<(), NoMemory>
+    ensures { OnOk result (state.new ≡ ends.finish (giving.node_event (options_of options.now)
+        (bears (event_kind event.entry)) (machine_token token.now).lexeme.shown indent state.old)) }
+{
+    state.node_event(
+        options,
+        event,
+        token.lexeme.shown_start,
+        token.lexeme.shown_end,
+        indent,
+    )?;
+    state.finish()
+}
+
+fn alias<'input>(
+    state: &mut ParserState<'input>,
+    options: &Options,
+    name: Text<'input>,
+    token: &Token<'input>,
+) -> Result<(), ScanError>
+    ensures { LeavesIfRoom result state.new (steps.bare (options_of options.now)
+        (of_kind (kinds.Alias name.entry) token.now) state.old) }
+{
+    match state.number_of(&name) {
+        Some(number) => Ok(leaf(state, options, Event::Alias(number), token, None)?),
+        None => unresolved(state, options, name, token),
+    }
+}
+
+/// An alias of a name that no anchor has.
+fn unresolved<'input>(
+    state: &mut ParserState<'input>,
+    options: &Options,
+    name: Text<'input>,
+    token: &Token<'input>,
+) -> Result<(), ScanError>
+    ensures { LeavesIfRoom result state.new (steps.alias_by (options_of options.now)
+        (machine_token token.now) name.entry None state.old) }
+{
+    if !options.emit_unresolved_aliases {
+        return Err(token.misplaced(ErrorKind::UnknownAnchor));
+    }
+    Ok(leaf(state, options, Event::UnresolvedAlias(name), token, None)?)
+}
+
+// Properties (YAML 1.2.2, 6.9).
+
+/// A tag of the node that must come, where a directive of the document says what its handle stands for
+/// (YAML 1.2.2, 6.8.2).
+fn tag<'input>(
+    state: &mut ParserState<'input>,
+    alloc: Global,
+    options: &Options,
+    handle: &Text<'input>,
+    suffix: &Text<'input>,
+    token: &Token<'input>,
+) -> Result<(), ScanError>
+    ensures { LeavesIfRoom result state.new (steps.bare (options_of options.now)
+        (of_kind (kinds.Tag handle.now suffix.now) token.now) state.old) }
+{
+    match state.prefix_of(handle) {
+        Some(prefix) => {
+            let tag = new_tag(alloc, prefix.as_str(), handle, suffix)?;
+            Ok(state.tagged(tag, token)?)
+        }
+        None => {
+            let tag = new_tag(alloc, known_prefix(handle, token)?, handle, suffix)?;
+            Ok(state.tagged(tag, token)?)
+        }
+    }
+}
+
+fn new_tag(
+    alloc: Global,
+    prefix: &str,
+    handle: &Text<'_>,
+    suffix: &Text<'_>,
+) -> Result<Tag, NoMemory>
+    ensures { IfOk result (λ t. t ≡ record {
+      handle = chars prefix.now;
+      suffix = suffix.now.characters;
+      original_handle = handle.now.characters;
+    }) }
+{
+    Tag::with_original_handle(alloc, prefix, suffix.as_str(), handle.as_str())
+}
+
+fn length_of(text: &str) -> usize
+    ensures { result ≡ length (chars text.now) }
+{
+    text.chars().count()
+}
+
+/// The prefix of the tags that YAML itself has (YAML 1.2.2, 6.8.2.2).
+fn core_prefix<'a>() -> &'a str
+    ensures { chars result.now ≡ codes "tag:yaml.org,2002:" }
+{
+    "tag:yaml.org,2002:"
+}
+
+/// What a handle stands for, where no directive of the document says so (YAML 1.2.2, 6.8.2).
+fn known_prefix<'a>(handle: &'a Text<'_>, token: &Token<'_>) -> Result<&'a str, ScanError>
+    ensures { GivesValue (λ s. chars s.now) result (steps.tag_prefix
+        (machine_token token.now) handle.now.characters None) }
+{
+    let written = handle.as_str();
+    let length = length_of(written);
+    if length == 2 {
+        return Ok(core_prefix());
+    }
+    if length > 2 {
+        return Err(token.misplaced(ErrorKind::UndeclaredTagHandle));
+    }
+    Ok(written)
+}
+
+/// The room for comments behind a `-`, of which its tail takes one.
+fn dash_room(options: &Options, tail: &Option<Note<'_>>) -> Result<usize, ScanError>
+    ensures { GivesValue (λ n. n) result (steps.dash_room (options_of options.now) (option_map note_view tail.now)) }
+{
+    match tail {
+        None => Ok(options.max_buffered_comment_events),
+        Some(note) => {
+            if options.max_buffered_comment_events == 0 {
+                return Err(ScanError::from_kind(note.start, ErrorKind::TooManyComments));
+            }
+            Ok(options.max_buffered_comment_events - 1)
+        }
+    }
+}
+
+// Sequences in columns (YAML 1.2.2, 8.2.1).
+
+fn give_tail<'input>(
+    state: &mut ParserState<'input>,
+    tail: Option<Note<'input>>,
+) -> Result<(), NoMemory>
+    ensures { OnOk result (state.new ≡ steps.give_tail (option_map note_view tail.entry) state.old) }
+{
+    match tail {
+        None => Ok(()),
+        Some(note) => {
+            state.flush()?;
+            let span = Span::new(note.start, note.end);
+            state.add_event(Event::Comment(note.text, Placement::Right), span)
+        }
+    }
+}
+
+/// A `-` in the column of its sequence.
+#[tactic(auto, unfolding(granit_machine::specs::NodeSteps::take_dash))]
+pub fn next_dash<'input>(
+    state: &mut ParserState<'input>,
+    alloc: Global,
+    options: &Options,
+    token: &mut Token<'input>,
+    indentless: bool,
+) -> Result<(), ScanError>
+    ensures { LeavesIfRoom result state.new (steps.take_dash (options_of options.now)
+        (machine_token token.old) steps.NextEntry indentless state.old) }
+{
+    let room = dash_room(options, &token.lexeme.tail)?;
+    give_tail(state, token.lexeme.tail.take())?;
+    state.with_top(Frame::BlockSequence(token.lexeme.start.col(), indentless))?;
+    state.waits(alloc, token.lexeme.end, room)?;
+    Ok(())
+}
+
+fn begin_sequence<'input>(
+    state: &mut ParserState<'input>,
+    options: &Options,
+    mark: Marker,
+    frame: Frame,
+) -> Result<(), ScanError>
+    ensures { LeavesIfRoom result state.new (ends.begin_block (options_of options.now) steps.block_sequence mark
+        (frame_view frame) state.old) }
+{
+    let event = Event::SequenceStart(StructureStyle::Block, 0, None);
+    state.begin_block(options, event, mark, frame)
+}
+
+/// A `-` in a column of its own, where a sequence begins.
+#[tactic(auto, unfolding(granit_machine::specs::NodeSteps::take_dash))]
+fn new_dash<'input>(
+    state: &mut ParserState<'input>,
+    alloc: Global,
+    options: &Options,
+    token: &mut Token<'input>,
+) -> Result<(), ScanError>
+    ensures { LeavesIfRoom result state.new (steps.take_dash (options_of options.now)
+        (of_kind kinds.Dash token.old) steps.NewSequence false state.old) }
+{
+    let start = token.lexeme.start;
+    begin_sequence(
+        state,
+        options,
+        start,
+        Frame::BlockSequence(start.col(), false),
+    )?;
+    let room = dash_room(options, &token.lexeme.tail)?;
+    give_tail(state, token.lexeme.tail.take())?;
+    state.waits(alloc, token.lexeme.end, room)?;
+    Ok(())
+}
+
+fn begin_indentless<'input>(
+    state: &mut ParserState<'input>,
+    options: &Options,
+    mark: Marker,
+    column: usize,
+) -> Result<(), NoMemory>
+    ensures { OnOk result (state.new ≡ ends.begin (options_of options.now) steps.block_sequence
+        (ends.empty_span mark) (machine.BlockSequence column true) state.old) }
+{
+    let event = Event::SequenceStart(StructureStyle::Block, 0, None);
+    state.begin(
+        options,
+        event,
+        mark,
+        mark,
+        Frame::BlockSequence(column, true),
+    )
+}
+
+/// A `-` in the column of its mapping, where a sequence begins.
+#[tactic(auto, unfolding(granit_machine::specs::NodeSteps::take_dash))]
+fn indentless_dash<'input>(
+    state: &mut ParserState<'input>,
+    alloc: Global,
+    options: &Options,
+    token: &mut Token<'input>,
+) -> Result<(), ScanError>
+    ensures { LeavesIfRoom result state.new (steps.take_dash (options_of options.now)
+        (of_kind kinds.Dash token.old) steps.IndentlessSequence false state.old) }
+{
+    let end = token.lexeme.end;
+    if options.block_nesting_limit <= state.block_count() {
+        return Err(ScanError::from_kind(end, ErrorKind::RecursionLimitExceeded));
+    }
+    let room = dash_room(options, &token.lexeme.tail)?;
+    give_tail(state, token.lexeme.tail.take())?;
+    begin_indentless(state, options, end, token.lexeme.start.col())?;
+    state.waits(alloc, end, room)?;
+    Ok(())
+}
+
+/// A `-` where a node must stand.
+fn first_dash<'input>(
+    state: &mut ParserState<'input>,
+    alloc: Global,
+    options: &Options,
+    token: &mut Token<'input>,
+) -> Result<(), ScanError>
+    ensures { LeavesIfRoom result state.new (steps.bare (options_of options.now)
+        (of_kind kinds.Dash token.old) state.old) }
+{
+    let is_indentless = state.may_be_indentless(token.lexeme.start.col());
+    dash(state, alloc, options, token, is_indentless)
+}
+
+fn dash<'input>(
+    state: &mut ParserState<'input>,
+    alloc: Global,
+    options: &Options,
+    token: &mut Token<'input>,
+    is_indentless: bool,
+) -> Result<(), ScanError>
+    ensures { LeavesIfRoom result state.new (steps.take_dash (options_of options.now) (of_kind kinds.Dash token.old)
+        (steps.first_dash is_indentless) false state.old) }
+{
+    if is_indentless {
+        indentless_dash(state, alloc, options, token)
+    } else {
+        new_dash(state, alloc, options, token)
+    }
+}
+
+// Nodes.
+
+fn open_flow<'input>(
+    state: &mut ParserState<'input>,
+    options: &Options,
+    bracket: Bracket,
+    token: &Token<'input>,
+) -> Result<(), NoMemory>
+    ensures { OnOk result (state.new ≡ steps.open_flow (options_of options.now) bracket
+        (machine_token token.now) state.old) }
+{
+    let start = token.lexeme.shown_start;
+    let end = token.lexeme.shown_end;
+    match bracket {
+        Bracket::Square => state.begin(
+            options,
+            Event::SequenceStart(StructureStyle::Flow, 0, None),
+            start,
+            end,
+            Frame::FlowSequence(false),
+        ),
+        Bracket::Curly => state.begin(
+            options,
+            Event::MappingStart(StructureStyle::Flow, 0, None),
+            start,
+            end,
+            Frame::FlowMapping(false, PairStage::BeforePair),
+        ),
+    }
+}
+
+/// A mapping in a column begins, at a stage of its first pair.
+fn begin_mapping<'input>(
+    state: &mut ParserState<'input>,
+    options: &Options,
+    token: &Token<'input>,
+    stage: PairStage,
+) -> Result<(), ScanError>
+    ensures { LeavesIfRoom result state.new (ends.begin_block
+        (options_of options.now) ends.block_mapping token.now.lexeme.start
+        (machine.BlockMapping token.now.lexeme.start.place.column (pair_view stage)) state.old) }
+{
+    state.begin_block(
+        options,
+        Event::MappingStart(StructureStyle::Block, 0, None),
+        token.lexeme.start,
+        Frame::BlockMapping(token.lexeme.start.col(), stage),
+    )
+}
+
+/// A `:` without a key, where a node must stand.
+fn first_colon<'input>(
+    state: &mut ParserState<'input>,
+    alloc: Global,
+    options: &Options,
+    token: &Token<'input>,
+) -> Result<(), ScanError>
+    ensures { LeavesIfRoom result state.new (steps.bare (options_of options.now)
+        (of_kind kinds.Colon token.now) state.old) }
+{
+    let start = token.lexeme.start;
+    begin_mapping(state, options, token, PairStage::AtValue)?;
+    state.give_null(start)?;
+    state.waits(alloc, start, options.max_buffered_comment_events)?;
+    Ok(())
+}
+
+/// A lexeme where a node must stand, which begins no block mapping with its simple key.
+pub fn bare<'input>(
+    state: &mut ParserState<'input>,
+    alloc: Global,
+    options: &Options,
+    token: &mut Token<'input>,
+) -> Result<(), ScanError>
+    ensures { LeavesIfRoom result state.new (steps.bare (options_of options.now) (machine_token token.old) state.old) }
+{
+    match mem::replace(&mut token.lexeme.kind, LexemeKind::Comma) {
+        LexemeKind::Alias(name) => alias(state, options, name, token),
+        LexemeKind::Scalar(style, text) => {
+            let indent = token.lexeme.indent;
+            Ok(leaf(
+                state,
+                options,
+                Event::Scalar(text, style, 0, None),
+                token,
+                indent,
+            )?)
+        }
+        LexemeKind::Open(bracket) => Ok(open_flow(state, options, bracket, token)?),
+        LexemeKind::Anchor(name) => {
+            state.flush()?;
+            Ok(state.anchored(alloc, name, token)?)
+        }
+        LexemeKind::Tag(handle, suffix) => tag(state, alloc, options, &handle, &suffix, token),
+        LexemeKind::Dash => first_dash(state, alloc, options, token),
+        LexemeKind::Question => begin_mapping(state, options, token, PairStage::AtQuestion),
+        LexemeKind::Version(_, _) => first_colon(state, alloc, options, token),
+        LexemeKind::TagPrefix(_, _) => first_colon(state, alloc, options, token),
+        LexemeKind::Reserved(_, _) => first_colon(state, alloc, options, token),
+        LexemeKind::DocumentStart => first_colon(state, alloc, options, token),
+        LexemeKind::DocumentEnd => first_colon(state, alloc, options, token),
+        LexemeKind::StreamEnd => first_colon(state, alloc, options, token),
+        LexemeKind::Close(_) => first_colon(state, alloc, options, token),
+        LexemeKind::Comma => first_colon(state, alloc, options, token),
+        LexemeKind::Colon => first_colon(state, alloc, options, token),
+    }
+}
+
+/// A lexeme where a node must stand.
+pub fn node<'input>(
+    state: &mut ParserState<'input>,
+    alloc: Global,
+    options: &Options,
+    token: &mut Token<'input>,
+) -> Result<(), ScanError>
+    ensures { LeavesIfRoom result state.new (steps.node (options_of options.now) (machine_token token.old) state.old) }
+{
+    match token.sort {
+        TokenSort::BeginsKey => {
+            begin_mapping(state, options, token, PairStage::AtKey)?;
+            bare(state, alloc, options, token)
+        }
+        TokenSort::BeginsNode => bare(state, alloc, options, token),
+        TokenSort::DashToken => bare(state, alloc, options, token),
+        TokenSort::QuestionToken => bare(state, alloc, options, token),
+        TokenSort::BareColon => bare(state, alloc, options, token),
+        TokenSort::KeyedColon => bare(state, alloc, options, token),
+        TokenSort::CommaToken => bare(state, alloc, options, token),
+        TokenSort::SequenceCloser => bare(state, alloc, options, token),
+        TokenSort::MappingCloser => bare(state, alloc, options, token),
+        TokenSort::OfStream => bare(state, alloc, options, token),
+    }
+}

@@ -1,0 +1,217 @@
+-- Why calls give and leave what they do where the source of an input may fail.
+use Rattle.std.proofs.Common.{◌≡◌, ◌≤◌, ℕ, Bool, true, false, ◌||◌, Option, Some, None, Result, Ok, Err, is_some, ◌⊎◌}
+use Rattle.std.proofs.Common.{inl, inr, [], refl, sym, ap, subst, ◌∙◌, le_trans}
+use Rattle.std.specs.Prelude.{if◌then◌else◌, IfErr, IfSome}
+use Rattle.std.specs.Option.{option_map}
+use Rattle.granit_base.specs.Place.{Place, Unread}
+use Rattle.granit_error.specs.FaultKind.{FaultKind}
+use Rattle.granit_error.specs.Refused.{Refused}
+use Rattle.granit_input.specs.Origin.{Origin, Goes, Gave, error_given}
+use Rattle.granit_input.proofs.OriginLemmas.{goes_nowhere}
+use Rattle.granit_lexemes.specs.Outcome.{Fault}
+use Rattle.granit_lexemes.specs.PlainEvent.{PlainEvent}
+use Rattle.granit_parser.specs.Parsing.{EndsWith, GivesNext, Next}
+use Rattle.granit_parser.specs.Sources.{GoesGiving, GoesUnless, IfUnseen, IsSourceError, MovesUnless, TellsError}
+use Rattle.granit_parser.specs.Sources.{TellsSource, unless_failed}
+use Rattle.granit_stepper.specs.Stepping.{StandsIn, Stepping, refused_kind}
+use Rattle.granit_steps.specs.Steps.{StepState}
+
+-- ---- what is handed out
+
+none_handed : (handed_out : Bool) (error : Option FaultKind) → (if handed_out then None else error) ≡ None
+    → (handed_out || is_some error) ≡ handed_out
+none_handed true error none = refl
+none_handed false None none = refl
+none_handed false (Some f) none = absurd cc
+
+none_met : (handed_out : Bool) (error : Option FaultKind) → error ≡ None → (handed_out || is_some error) ≡ handed_out
+none_met true error none = refl
+none_met false error none = ap is_some none
+
+is_given : (handed_out : Bool) (error : Option FaultKind) (f : FaultKind)
+    → Some f ≡ (if handed_out then None else error) → error ≡ Some f
+is_given true error f is = absurd cc
+is_given false error f is = sym is
+
+-- what is handed out is the error
+pub given_met : (o : Origin) (f : FaultKind) → Some f ≡ error_given o → o.error ≡ Some f
+given_met o f is = is_given o.handed_out o.error f is
+
+still_given : (handed_out : Bool) (error : Option FaultKind) → handed_out ≡ false
+    → (if handed_out then None else error) ≡ error
+still_given true error fresh = absurd cc
+still_given false error fresh = refl
+
+-- an error that wasn't handed out is
+pub met_given : (o : Origin) → o.handed_out ≡ false → error_given o ≡ o.error
+met_given o fresh = still_given o.handed_out o.error fresh
+
+-- ---- what calls leave
+
+pub goes_giving : (a b : Origin) → Goes a b → GoesGiving a b
+goes_giving a b goes = record {
+  sliced = goes.sliced;
+  lent = goes.lent;
+  tells_offset = goes.tells_offset;
+  handed_out = λ _. goes.handed_out;
+  knows_end = goes.knows_end;
+  error = goes.error;
+  floor = goes.floor;
+  ends_with = goes.ends_with;
+}
+
+pub goes_unless : {X : Type 0} (r : Option (Result X Refused)) (a b : Origin) → Goes a b → GoesUnless r a b
+goes_unless None a b goes = goes
+goes_unless (Some (Ok x)) a b goes = goes
+goes_unless (Some (Err e)) a b goes = goes_giving a b goes
+
+pub giving_on : (a b c : Origin) → Goes a b → GoesGiving b c → GoesGiving a c
+giving_on a b c first next = record {
+  sliced = next.sliced ∙ first.sliced;
+  lent = next.lent ∙ first.lent;
+  tells_offset = next.tells_offset ∙ first.tells_offset;
+  handed_out = λ none. next.handed_out none ∙ first.handed_out;
+  knows_end = λ known.
+      let same = first.knows_end known in
+      let on = next.knows_end same.0 in (on.0, on.1 ∙ same.1);
+  error = λ some. let same = first.error some in next.error (ap is_some same ∙ some) ∙ same;
+  floor = le_trans first.floor next.floor;
+  ends_with = λ f told. next.ends_with f (first.ends_with f told);
+}
+
+module _ (a b c : Origin) (goes : Goes a b) (gave : Gave b c) where
+  -- the source was asked, and gave nothing
+  pub gave_nothing : error_given b ≡ None → Goes a c
+  gave_nothing none = record {
+    sliced = gave.sliced ∙ goes.sliced;
+    lent = gave.lent ∙ goes.lent;
+    tells_offset = gave.tells_offset ∙ goes.tells_offset;
+    handed_out = gave.handed_out ∙ none_handed b.handed_out b.error none ∙ goes.handed_out;
+    knows_end = λ known. let same = goes.knows_end known in (gave.knows_end ∙ same.0, gave.error ∙ same.1);
+    error = λ some. gave.error ∙ goes.error some;
+    floor = subst (λ (n : ℕ). a.floor ≤ n) (sym gave.floor) goes.floor;
+    ends_with = λ f told. gave.ends_with f (goes.ends_with f told);
+  }
+
+  -- or maybe something
+  pub gave_maybe : GoesGiving a c
+  gave_maybe = record {
+    sliced = gave.sliced ∙ goes.sliced;
+    lent = gave.lent ∙ goes.lent;
+    tells_offset = gave.tells_offset ∙ goes.tells_offset;
+    handed_out = λ none. gave.handed_out ∙ none_met b.handed_out b.error (sym gave.error ∙ none) ∙ goes.handed_out;
+    knows_end = λ known. let same = goes.knows_end known in (gave.knows_end ∙ same.0, gave.error ∙ same.1);
+    error = λ some. gave.error ∙ goes.error some;
+    floor = subst (λ (n : ℕ). a.floor ≤ n) (sym gave.floor) goes.floor;
+    ends_with = λ f told. gave.ends_with f (goes.ends_with f told);
+  }
+
+  -- what it gives is its error
+  pub source_tells : (e : Refused) (at : Place) → Some e.kind ≡ error_given b → e.mark.place ≡ at → e.sources ≡ []
+      → IsSourceError c at e
+  source_tells e at is place unnamed = record {
+    kind = gave.error ∙ given_met b e.kind is;
+    place = place;
+    unnamed = unnamed;
+  }
+
+  -- an error that wasn't handed out before is given
+  pub never_silent : (f : FaultKind) → error_given b ≡ None → c.error ≡ Some f → a.handed_out ≡ false → ⊥
+  never_silent f none met fresh =
+      let e : None ≡ Some f = sym none ∙ met_given b (goes.handed_out ∙ fresh) ∙ sym gave.error ∙ met in cc
+
+-- ---- what calls give
+
+-- where it then stands
+pub lands_on : (r : Next) (Here There : StepState → Type 0) (given : Result (Option PlainEvent × StepState) Fault)
+    → ((m : StepState) → Here m → There m) → GivesNext r Here given → GivesNext r There given
+lands_on None Here There given on g = (g.0, on g.0 g.1, g.2)
+lands_on (Some (Ok e)) Here There given on g = (g.0, on g.0 g.1, g.2)
+lands_on (Some (Err e)) Here There given on g = g
+
+or_true : (b : Bool) → (b || true) ≡ true
+or_true true = refl
+or_true false = refl
+
+-- a parser that is over stays so
+pub ends_on : {I : Type 0} (r : Next) (s t : Stepping I) (error : Option Refused)
+    → t.failed ≡ (s.failed || is_some error) → EndsWith r s → EndsWith r t
+ends_on None s t error same ends = tt
+ends_on (Some (Ok e)) s t error same ends = tt
+ends_on (Some (Err e)) s t error same ends = rw (same, ends) refl
+
+-- ---- a source that was asked behind a call
+
+module _ {I : Type 0} (unread : I → Unread → Type 0) (origin : I → Origin) (old mid new : Stepping I)
+    (goes : Goes (origin old.scanner.cursor.input) (origin mid.scanner.cursor.input))
+    (gave : Gave (origin mid.scanner.cursor.input) (origin new.scanner.cursor.input)) where
+  pub known_by : (error : Option Refused) (r : Next) (given : Result (Option PlainEvent × StepState) Fault)
+      → option_map refused_kind error ≡ error_given (origin mid.scanner.cursor.input)
+      → IfSome error (λ e. (e.mark.place ≡ new.scanner.cursor.place) × (e.sources ≡ []))
+      → ((m : StepState) → StandsIn unread mid m → error ≡ None → StandsIn unread new m)
+      → GivesNext r (StandsIn unread mid) given
+      → GivesNext (unless_failed r error) (StandsIn unread new) given
+      ⊎ TellsSource origin (unless_failed r error) new.scanner.cursor
+  known_by None r given is placed on gives =
+      inl (lands_on r (StandsIn unread mid) (StandsIn unread new) given (λ m at. on m at refl) gives)
+  known_by (Some e) r given is placed on gives = inr (source_tells (origin old.scanner.cursor.input)
+      (origin mid.scanner.cursor.input) (origin new.scanner.cursor.input) goes gave e new.scanner.cursor.place is
+      placed.0 placed.1)
+
+  pub sure_by : (error : Option Refused) (r : Next) (given : Result (Option PlainEvent × StepState) Fault)
+      → option_map refused_kind error ≡ error_given (origin mid.scanner.cursor.input)
+      → ((m : StepState) → StandsIn unread mid m → error ≡ None → StandsIn unread new m)
+      → (origin new.scanner.cursor.input).error ≡ None
+      → GivesNext r (StandsIn unread mid) given
+      → GivesNext (unless_failed r error) (StandsIn unread new) given
+  sure_by None r given is on none gives =
+      lands_on r (StandsIn unread mid) (StandsIn unread new) given (λ m at. on m at refl) gives
+  sure_by (Some e) r given is on none gives =
+      let met = given_met (origin mid.scanner.cursor.input) e.kind is in
+      absurd (let no : None ≡ Some e.kind = sym none ∙ gave.error ∙ met in cc)
+
+  pub source_by : (error : Option Refused) (r : Next)
+      → option_map refused_kind error ≡ error_given (origin mid.scanner.cursor.input)
+      → IfSome error (λ e. (e.mark.place ≡ new.scanner.cursor.place) × (e.sources ≡ []))
+      → TellsError origin old (unless_failed r error) new.scanner.cursor
+  source_by None r is placed = λ f met fresh going. absurd (never_silent (origin old.scanner.cursor.input)
+      (origin mid.scanner.cursor.input) (origin new.scanner.cursor.input) goes gave f (sym is) met fresh)
+  source_by (Some e) r is placed = λ f met fresh going. source_tells (origin old.scanner.cursor.input)
+      (origin mid.scanner.cursor.input) (origin new.scanner.cursor.input) goes gave e new.scanner.cursor.place is
+      placed.0 placed.1
+
+  pub goes_by : (error : Option Refused) (r : Next)
+      → option_map refused_kind error ≡ error_given (origin mid.scanner.cursor.input)
+      → GoesUnless (unless_failed r error) (origin old.scanner.cursor.input) (origin new.scanner.cursor.input)
+  goes_by None r is = goes_unless r (origin old.scanner.cursor.input) (origin new.scanner.cursor.input)
+      (gave_nothing (origin old.scanner.cursor.input) (origin mid.scanner.cursor.input)
+      (origin new.scanner.cursor.input) goes gave (sym is))
+  goes_by (Some e) r is = gave_maybe (origin old.scanner.cursor.input) (origin mid.scanner.cursor.input)
+      (origin new.scanner.cursor.input) goes gave
+
+pub ends_by : {I : Type 0} (error : Option Refused) (r : Next) (mid new : Stepping I)
+    → new.failed ≡ (mid.failed || is_some error) → EndsWith r mid → EndsWith (unless_failed r error) new
+ends_by None r mid new same ends = ends_on r mid new None same ends
+ends_by (Some e) r mid new same ends = same ∙ or_true mid.failed
+
+-- what was looked at leaves all as it was
+pub moves_seen : {I : Type 0} (left : I → ℕ) (origin : I → Origin) (r : Next) (peeked : Next) (old new : Stepping I)
+    → IfSome peeked (λ x. (r ≡ Some x) × (new ≡ old))
+    → IfUnseen peeked (MovesUnless left origin r old.scanner.cursor new.scanner.cursor)
+    → GoesUnless r (origin old.scanner.cursor.input) (origin new.scanner.cursor.input)
+moves_seen left origin r None old new seen moves = moves.1
+moves_seen left origin r (Some x) old new seen moves =
+    rw seen.1 (goes_unless r (origin old.scanner.cursor.input) (origin old.scanner.cursor.input) (goes_nowhere _))
+
+pub for_any : {V A : Type 0} (r : Result V Refused) → A → IfErr r (λ e. A)
+for_any (Ok v) a = tt
+for_any (Err e) a = a
+
+-- no source failed
+pub never_told : {A : Type 0} → A ⊎ ⊥ → A
+never_told (inl a) = a
+never_told (inr e) = absurd e
+
+pub never_failed : {A : Type 0} (o : Origin) (at : Place) (e : Refused) → o.error ≡ None → A ⊎ IsSourceError o at e → A
+never_failed o at e none (inl a) = a
+never_failed o at e none (inr failed) = absurd (let is : None ≡ Some e.kind = sym none ∙ failed.kind in cc)

@@ -1,0 +1,52 @@
+use Rattle.std.proofs.Common.{◌≡◌, true, false, ◌≤◌, sym, ◌∙◌, arith}
+use Rattle.granit_parser.proofs.SourceLemmas.{ends_by, goes_by, known_by, source_by, sure_by}
+use Rattle.granit_parser.proofs.parser.Parser.read_event.Goals as goal
+
+pub returns-then-has_failed-clause-known : goal.returns-then-has_failed-clause-known
+returns-then-has_failed-clause-known g c = λ m at.
+    absurd (let no : true ≡ false = sym c.if-has_failed.true ∙ c.has_failed.ensures ∙ at.going in cc)
+
+pub returns-then-has_failed-clause-sure : goal.returns-then-has_failed-clause-sure
+returns-then-has_failed-clause-sure g c = λ m at none.
+    absurd (let no : true ≡ false = sym c.if-has_failed.true ∙ c.has_failed.ensures ∙ at.going in cc)
+
+pub returns-then-has_failed-clause-source : goal.returns-then-has_failed-clause-source
+returns-then-has_failed-clause-source g c = λ f met fresh going.
+    absurd (let no : true ≡ false = sym c.if-has_failed.true ∙ c.has_failed.ensures ∙ going in cc)
+
+pub returns-clause-known : goal.returns-clause-known
+returns-clause-known g c = λ m at. rw c.unless_failed.ensures (known_by g.T.Input.unread g.T.Input.origin
+    c.args.self.now.stepper c.step_event-event.new.self.stepper c.take_source_error-error.new.self.stepper
+    c.step_event-event.ensures.moves.1 c.take_source_error-error.ensures.origin c.take_source_error-error.result
+    c.step_event-event.result _ c.take_source_error-error.ensures.given c.take_source_error-error.ensures.place
+    c.take_source_error-error.ensures.known (c.step_event-event.ensures.known m at))
+
+pub returns-clause-sure : goal.returns-clause-sure
+returns-clause-sure g c = λ m at none. rw c.unless_failed.ensures (sure_by g.T.Input.unread g.T.Input.origin
+    c.args.self.now.stepper c.step_event-event.new.self.stepper c.take_source_error-error.new.self.stepper
+    c.step_event-event.ensures.moves.1 c.take_source_error-error.ensures.origin c.take_source_error-error.result
+    c.step_event-event.result _ c.take_source_error-error.ensures.given c.take_source_error-error.ensures.known none
+    (c.step_event-event.ensures.known m at))
+
+pub returns-clause-source : goal.returns-clause-source
+returns-clause-source g c = rw c.unless_failed.ensures (source_by g.T.Input.unread g.T.Input.origin
+    c.args.self.now.stepper c.step_event-event.new.self.stepper c.take_source_error-error.new.self.stepper
+    c.step_event-event.ensures.moves.1 c.take_source_error-error.ensures.origin c.take_source_error-error.result
+    c.step_event-event.result c.take_source_error-error.ensures.given c.take_source_error-error.ensures.place)
+
+pub returns-clause-refused : goal.returns-clause-refused
+returns-clause-refused g c = rw c.unless_failed.ensures (ends_by c.take_source_error-error.result
+    c.step_event-event.result c.step_event-event.new.self.stepper c.take_source_error-error.new.self.stepper
+    c.take_source_error-error.ensures.failed c.step_event-event.ensures.refused)
+
+pub returns-clause-moves : goal.returns-clause-moves
+returns-clause-moves g c =
+    let fewer = c.step_event-event.ensures.moves.0 in
+    let left = c.take_source_error-error.ensures.left in
+    rw c.unless_failed.ensures (
+      omega (arith, fewer, left),
+      goes_by g.T.Input.unread g.T.Input.origin
+          c.args.self.now.stepper c.step_event-event.new.self.stepper c.take_source_error-error.new.self.stepper
+          c.step_event-event.ensures.moves.1 c.take_source_error-error.ensures.origin c.take_source_error-error.result
+          c.step_event-event.result c.take_source_error-error.ensures.given,
+    )

@@ -1,0 +1,100 @@
+//! Iterators of characters that may fail, which are read into events.
+ghost use Rattle.std.specs.Prelude.{◌≡◌, ℕ, ◌<◌, ◌^◌, false, List, Result, IfOk};
+ghost use Rattle.std.specs.Iterator.{size};
+ghost use Rattle.granit_buffered.specs.Fallible.{characters_of, first_error};
+ghost use Rattle.granit_buffered.specs.Feeds.{GivesOnly};
+ghost use Rattle.granit_error.specs.OptionsData.{default_options};
+ghost use Rattle.granit_error.specs.OptionsView.{options_of};
+ghost use Rattle.granit_error.specs.declared.kind.ErrorKind.{ErrorKind};
+ghost use Rattle.granit_event.specs.Events.{plain_events};
+ghost use Rattle.granit_parser.specs.Parsing.{StandsAt};
+ghost use Rattle.granit_parser.specs.Streams.{AnswersItems, bare_start};
+ghost use Rattle.granit_steps.specs.Steps as steps;
+
+use crate::load::{Events, gather};
+use crate::parser::Parser;
+use granit_base::NoMemory;
+use granit_buffered::{FallibleBufferedInput, Source};
+use granit_error::{ErrorKind, Options, ScanError};
+use granit_input::Input;
+use std::alloc::Global;
+
+impl<'input, T: Source<Item = Result<char, ErrorKind>>> Parser<'input, FallibleBufferedInput<T>> {
+    /// Before the characters of an iterator that may fail, read with the default options. Its first error ends them.
+    ///
+    /// # Errors
+    ///
+    /// `NoMemory` alone.
+    pub fn new_from_fallible_iter(
+        alloc: Global,
+        iter: T,
+    ) -> Result<Parser<'input, FallibleBufferedInput<T>>, NoMemory>
+        requires { size (T.remaining iter) < 2 ^ 63 }
+        ensures start { IfOk result (λ p. (items : List (Result ℕ ErrorKind))
+            → GivesOnly T.next_gives T.remaining iter items
+            → StandsAt ⟦<FallibleBufferedInput<T> as Input>⟧.unread p
+            (steps.start_from (bare_start (characters_of items)))) }
+        ensures ends { IfOk result (λ p. (items : List (Result ℕ ErrorKind))
+            → GivesOnly T.next_gives T.remaining iter items
+            → (⟦<FallibleBufferedInput<T> as Input>⟧.origin p.stepper.scanner.cursor.input).ends_with
+            (first_error items)) }
+        ensures fresh { IfOk result (λ p.
+            (⟦<FallibleBufferedInput<T> as Input>⟧.origin p.stepper.scanner.cursor.input).handed_out ≡ false) }
+        ensures options { IfOk result (λ p. p.stepper.scanner.options ≡ default_options) }
+    {
+        Parser::new_from_fallible_iter_with_options(alloc, iter, Options::default())
+    }
+
+    /// Before the characters of an iterator that may fail. Its first error ends them.
+    ///
+    /// # Errors
+    ///
+    /// `NoMemory` alone.
+    pub fn new_from_fallible_iter_with_options(
+        alloc: Global,
+        iter: T,
+        options: Options,
+    ) -> Result<Parser<'input, FallibleBufferedInput<T>>, NoMemory>
+        requires { size (T.remaining iter) < 2 ^ 63 }
+        ensures start { IfOk result (λ p. (items : List (Result ℕ ErrorKind))
+            → GivesOnly T.next_gives T.remaining iter items
+            → StandsAt ⟦<FallibleBufferedInput<T> as Input>⟧.unread p
+            (steps.start_from (bare_start (characters_of items)))) }
+        ensures ends { IfOk result (λ p. (items : List (Result ℕ ErrorKind))
+            → GivesOnly T.next_gives T.remaining iter items
+            → (⟦<FallibleBufferedInput<T> as Input>⟧.origin p.stepper.scanner.cursor.input).ends_with
+            (first_error items)) }
+        ensures fresh { IfOk result (λ p.
+            (⟦<FallibleBufferedInput<T> as Input>⟧.origin p.stepper.scanner.cursor.input).handed_out ≡ false) }
+        ensures options { IfOk result (λ p. p.stepper.scanner.options ≡ options_of options) }
+    {
+        let input = FallibleBufferedInput::new(alloc, iter)?;
+        Ok(Parser::with_options(alloc, input, options))
+    }
+}
+
+/// All events of the characters of an iterator that may fail, in order: what `load_chars` answers for them, where they
+/// come to their end without an error. At most sixteen items are read ahead.
+///
+/// # Errors
+///
+/// The first error of the iterator, at the place up to which was read, or what `load_chars` is refused for.
+pub fn load_fallible<'a, T: Source<Item = Result<char, ErrorKind>>>(
+    alloc: Global,
+    chars: T,
+    options: Options,
+) -> Result<Events<'a>, ScanError>
+    requires { size (T.remaining chars) < 2 ^ 63 }
+    ensures { (items : List (Result ℕ ErrorKind)) → GivesOnly T.next_gives T.remaining chars items
+        → AnswersItems plain_events (options_of options) items result }
+{
+    let mut parser = Parser::new_from_fallible_iter_with_options(alloc, chars, options)?;
+    let items = match gather(alloc, &mut parser) {
+        Ok(items) => items,
+        Err(error) => return Err(error),
+    };
+    match parser.end_error() {
+        None => Ok(Events { items }),
+        Some(error) => Err(error),
+    }
+}

@@ -1,0 +1,157 @@
+//! Each call once, also where no comments are asked for, and each kind of a wrong escape. The values and faults are the
+//! original's.
+use granit_base::{ScalarStyle, Text, is_blank_or_breakz};
+use granit_cursor::{Cursor, Layout, Lexed, Token, TokenType};
+use granit_error::ScanError;
+use granit_input::{Input, StrInput};
+use granit_lex::{scan_plain_scalar, scan_quoted_scalar};
+use std::alloc::Global;
+
+/// Outside flow, in a block collection in column 0, where no comments are asked for.
+fn nested() -> Layout {
+    Layout {
+        block_column: Some(0),
+        tab_column: 1,
+        in_flow: false,
+        strict: false,
+        comments: false,
+    }
+}
+
+/// The scalar that begins here, where one does.
+fn scalar_at<'a>(
+    alloc: Global,
+    cursor: &mut Cursor<StrInput<'a>>,
+    at: &Layout,
+) -> Option<Result<Lexed<'a>, ScanError>> {
+    cursor.look(2);
+    match cursor.input().peek() {
+        '\'' => Some(scan_quoted_scalar(alloc, cursor, true, at)),
+        '"' => Some(scan_quoted_scalar(alloc, cursor, false, at)),
+        c if is_blank_or_breakz(c) => None,
+        _ if !cursor.input().next_can_be_plain_scalar(at.in_flow) => None,
+        _ => Some(scan_plain_scalar(alloc, cursor, at)),
+    }
+}
+
+/// The value of the scalar at the start of a text, and where the cursor then stands.
+fn value_of(alloc: Global, text: &str, style: ScalarStyle, value: &str) -> Option<usize> {
+    let mut cursor = Cursor::new(StrInput::new(text));
+    let lexed = scalar_at(alloc, &mut cursor, &nested())?.ok()?;
+    let wanted = TokenType::Scalar(style, Text::borrowed(value));
+    if *lexed.token.token_type() != wanted || lexed.comment.is_some() {
+        return None;
+    }
+    Some(cursor.mark().index())
+}
+
+/// The number of the kind by which the scalar at the start of a text is refused, and the index of its mark.
+fn refused(alloc: Global, text: &str) -> Option<(u8, usize)> {
+    let mut cursor = Cursor::new(StrInput::new(text));
+    let error = scalar_at(alloc, &mut cursor, &nested())?.err()?;
+    Some((error.kind().number(), error.marker().index()))
+}
+
+/// Whether the text of the scalar at the start of a text is lent.
+fn is_lent(alloc: Global, text: &str) -> Option<bool> {
+    let mut cursor = Cursor::new(StrInput::new(text));
+    let lexed = scalar_at(alloc, &mut cursor, &nested())?.ok()?;
+    match lexed.token.token_type() {
+        TokenType::Scalar(_, text) => Some(text.is_borrowed()),
+        _ => None,
+    }
+}
+
+/// The comment behind a scalar, where one stands there.
+fn comment_of<'a>(lexed: Lexed<'a>) -> Option<Token<'a>> {
+    lexed.comment
+}
+
+/// Whether the text of a comment is lent.
+fn is_text_lent(token: Token) -> Option<bool> {
+    match token.into_parts() {
+        (_, TokenType::Comment(comment)) => Some(comment.into_text().is_borrowed()),
+        _ => None,
+    }
+}
+
+/// Whether the text of the comment behind the scalar at the start of a text is lent.
+fn is_comment_lent(alloc: Global, text: &str) -> Option<bool> {
+    let mut cursor = Cursor::new(StrInput::new(text));
+    let mut at = nested();
+    at.comments = true;
+    match scalar_at(alloc, &mut cursor, &at) {
+        Some(Ok(lexed)) => is_text_lent(comment_of(lexed)?),
+        _ => None,
+    }
+}
+
+#[test]
+fn texts_are_lent(rt: HostRuntime) {
+    let rows = [
+        ("a b\t c #d", true),
+        ("é", true),
+        ("a\n", true),
+        ("a  \n\nb: c", true),
+        ("a\n b", false),
+        ("a\n\n b\n", false),
+        ("'a b'", true),
+        ("'é \"\\ ' #c", true),
+        ("''", true),
+        ("' '", true),
+        ("'a''b'", false),
+        ("'a\n b'", false),
+        ("\"a b\"", true),
+        ("\"a ' b\"", true),
+        ("\"a\\tb\"", false),
+        ("\"a\\\n b\"", false),
+        ("\"\n a\"", false),
+    ];
+    for (text, lent) in rows {
+        assert_eq!(rt; is_lent(rt.alloc(), text), Some(lent), "at {text}");
+    }
+    assert_eq!(rt; is_comment_lent(rt.alloc(), "'a' #é"), Some(true));
+}
+
+#[test]
+fn scalars_are_read(rt: HostRuntime) {
+    let rows = [
+        ("a\n\n b #c", ScalarStyle::Plain, "a\nb", 6),
+        ("'a''\n b' #c\n", ScalarStyle::SingleQuoted, "a' b", 11),
+        (
+            "\"\\x41\\u00e9\\U0001f600\\ud83d\\ude00\\\n \\_\"",
+            ScalarStyle::DoubleQuoted,
+            "A\u{e9}\u{1f600}\u{1f600}\u{a0}",
+            39,
+        ),
+    ];
+    for (text, style, value, stands) in rows {
+        assert_eq!(rt;
+            value_of(rt.alloc(), text, style, value),
+            Some(stands),
+            "at {text}"
+        );
+    }
+}
+
+#[test]
+fn scalars_are_refused(rt: HostRuntime) {
+    let rows = [
+        ("a\n\tb", 72, 0),
+        ("'\n\t", 41, 2),
+        ("\"\\", 45, 0),
+        ("\"\\u", 46, 0),
+        ("\"\\ud83d", 47, 0),
+        ("\"\\ud83d\\u", 48, 0),
+        ("\"\\ud83d\\uade00\"", 49, 0),
+        ("\"\\udd83d\"", 50, 0),
+        ("\"\\U00110000\"", 51, 0),
+    ];
+    for (text, number, mark) in rows {
+        assert_eq!(rt;
+            refused(rt.alloc(), text),
+            Some((number, mark)),
+            "at {text}"
+        );
+    }
+}
