@@ -1,7 +1,9 @@
 //! Iterators that fail: their first error stands in the place of whatever was read up to it.
 use granit_error::{ErrorKind, Options, ScanError};
 use granit_event::Event;
+use granit_input::BorrowedInput;
 use granit_parser::{Parser, load_fallible};
+use std::alloc::Global;
 use std::test::*;
 
 /// The worked example of blocks.
@@ -97,40 +99,88 @@ fn a_fault_before_an_error(rt: HostRuntime) -> Result<(), Fail> {
     Ok(())
 }
 
-/// The letter of what was given: `S` and `s` are where the stream starts and ends, `!` is the iterator's error, `?` is
-/// another refusal, `.` is nothing, and `e` is any other event.
-fn letter(given: Option<Result<&(Event<'_>, granit_base::Span), &ScanError>>) -> char {
-    match given {
-        None => '.',
-        Some(Err(error)) if error.kind().number() == 80 => '!',
-        Some(Err(_)) => '?',
-        Some(Ok((Event::StreamStart, _))) => 'S',
-        Some(Ok((Event::StreamEnd, _))) => 's',
-        Some(Ok(_)) => 'e',
+/// The letter of an event: `S` and `s` are where the stream starts and ends, and `e` is any other.
+fn event_letter(event: &Event<'_>) -> char {
+    match event {
+        Event::StreamStart => 'S',
+        Event::StreamEnd => 's',
+        _ => 'e',
     }
+}
+
+/// The letter of a refusal: `!` is the iterator's error, and `?` is another.
+fn error_letter(error: &ScanError) -> char {
+    if error.kind().number() == 80 {
+        '!'
+    } else {
+        '?'
+    }
+}
+
+/// The letter of what is looked at; `.` is nothing.
+fn seen<'a, T: BorrowedInput<'a>>(parser: &mut Parser<'a, T>) -> char {
+    match parser.peek() {
+        None => '.',
+        Some(Err(error)) => error_letter(error),
+        Some(Ok((event, _))) => event_letter(event),
+    }
+}
+
+/// The letter of what is given.
+fn given<'a, T: BorrowedInput<'a>>(parser: &mut Parser<'a, T>) -> char {
+    match parser.next_event() {
+        None => '.',
+        Some(Err(error)) => error_letter(&error),
+        Some(Ok((event, _))) => event_letter(&event),
+    }
+}
+
+/// The letters of what is looked at, twice, and then given, `count` times.
+fn letters<'a, T: BorrowedInput<'a>>(
+    alloc: Global,
+    parser: &mut Parser<'a, T>,
+    count: usize,
+) -> Result<String, Fail> {
+    let mut letters = String::new(alloc);
+    for _ in 0..count {
+        letters.push(seen(parser))?;
+        letters.push(seen(parser))?;
+        letters.push(given(parser))?;
+    }
+    Ok(letters)
+}
+
+/// The letters of the calls over the items of an iterator.
+fn told(
+    alloc: Global,
+    items: Vec<Result<char, ErrorKind>>,
+    options: Options,
+) -> Result<String, Fail> {
+    let mut parser = Parser::new_from_fallible_iter_with_options(
+        alloc,
+        items.into_iter(),
+        options,
+    )?;
+    letters(alloc, &mut parser, 3)
+}
+
+/// The same under the default options.
+fn told_plainly(alloc: Global, items: Vec<Result<char, ErrorKind>>) -> Result<String, Fail> {
+    let mut parser = Parser::new_from_fallible_iter(alloc, items.into_iter())?;
+    letters(alloc, &mut parser, 3)
 }
 
 #[test]
 fn one_by_one(rt: HostRuntime) -> Result<(), Fail> {
-    let items = failing(&rt, "a", 1)?.into_iter();
-    let mut parser = Parser::new_from_fallible_iter(rt.alloc(), items)?;
-    assert_eq!(rt; letter(parser.peek()), 'S');
-    assert!(rt; matches!(parser.next_event(), Some(Ok((Event::StreamStart, _)))));
-    assert_eq!(rt; letter(parser.peek()), '!');
-    assert_eq!(rt; letter(parser.peek()), '!');
-    assert!(rt; matches!(parser.next_event(), Some(Err(_))));
-    assert_eq!(rt; letter(parser.peek()), '.');
-    assert!(rt; parser.next_event().is_none());
+    let said = told_plainly(rt.alloc(), failing(&rt, "a", 1)?)?;
+    assert_eq!(rt; said.as_str(), "SSS!!!...");
     Ok(())
 }
 
 #[test]
 fn with_options(rt: HostRuntime) -> Result<(), Fail> {
-    let items = failing(&rt, "# c\n", 9)?.into_iter();
     let options = granit_error::options!(emit_comments: false);
-    let mut parser = Parser::new_from_fallible_iter_with_options(rt.alloc(), items, options)?;
-    assert!(rt; matches!(parser.next(), Some(Ok((Event::StreamStart, _)))));
-    assert!(rt; matches!(parser.next(), Some(Ok((Event::StreamEnd, _)))));
-    assert!(rt; parser.next().is_none());
+    let said = told(rt.alloc(), failing(&rt, "# c\n", 9)?, options)?;
+    assert_eq!(rt; said.as_str(), "SSSsss...");
     Ok(())
 }

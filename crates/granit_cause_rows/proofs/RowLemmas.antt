@@ -1,0 +1,42 @@
+-- What the machine answers tells which causes a text has.
+use Rattle.std.proofs.Common.{◌≡◌, ℕ, Bool, true, false, List, Ok, Err, Result, ap, ◌∙◌, subst, ◌==◌, is_ok, arith}
+use Rattle.granit_answers.proofs.CommentsCaused.{any_fault_caused}
+use Rattle.granit_answers.proofs.OneCause.{cause_answered}
+use Rattle.granit_before.proofs.CauseSaid.{cause_declared, declared_cause}
+use Rattle.granit_before.specs.DeclaredCause.{DeclaredCause}
+use Rattle.granit_error.specs.FaultKind.{fault_number}
+use Rattle.granit_error.specs.OptionsData.{OptionsData}
+use Rattle.granit_lexemes.specs.Outcome.{Fault}
+use Rattle.granit_lexemes.specs.PlainEvent.{PlainEvent}
+use Rattle.granit_machine.specs.Machine.{run}
+use Rattle.granit_cause_rows.specs.CauseRows.{NoCause, NoCauseOf}
+
+-- a text that is refused has that cause
+pub caused : {o : OptionsData} {x : List ℕ} {f : Fault} → run o x ≡ Err f → DeclaredCause o x f
+caused {o} {x} {f} r = cause_declared o x f (any_fault_caused o x f r)
+
+-- a cause is what its text is refused with
+refused : (o : OptionsData) (x : List ℕ) (f : Fault) → DeclaredCause o x f → run o x ≡ Err f
+refused o x f c = cause_answered o x f (declared_cause o x f c)
+
+not_both : (b : Bool) → b ≡ true → b ≡ false → ⊥
+not_both b t f = cc
+
+-- a text that is answered has none
+pub uncaused : {o : OptionsData} {x : List ℕ} → is_ok (run o x) ≡ true → NoCause o x
+uncaused {o} {x} answered f c = not_both (is_ok (run o x)) answered (ap is_ok (refused o x f c))
+
+-- the number of a refusal's kind, and 0 of an answer
+abbrev pub refused_number : Result (List PlainEvent) Fault → ℕ
+refused_number (Ok es) = 0
+refused_number (Err f) = fault_number f.kind
+
+same_number : (n : ℕ) → (n == n) ≡ true
+same_number n = grind arith
+
+-- a text that is refused with another kind has none of this one
+pub caused_otherwise : {o : OptionsData} {x : List ℕ} {number : ℕ} → (refused_number (run o x) == number) ≡ false →
+    NoCauseOf o x number
+caused_otherwise {o} {x} {number} other f c is =
+    not_both (number == number) (same_number number)
+    (subst (λ n. (n == number) ≡ false) (ap refused_number (refused o x f c) ∙ is) other)
