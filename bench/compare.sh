@@ -8,26 +8,6 @@ megabytes="${2:-5}"
 top="$(cd "$(dirname "${BASH_SOURCE[0]}")/.." && pwd)"
 work="$(mktemp -d)"
 trap 'rm -rf "$work"' EXIT
-write_text() {
-    python3 - "$megabytes" "$1" >"$work/text" <<'PYTHON'
-import sys
-size = int(float(sys.argv[1]) * 1_000_000)
-forms = {
-    'block': '- name: service-%d   # number %d\n  ports:\n    - 80:%d\n    - "443"\n  labels:\n    tier: backend — of the shop\n    owner: team %d\n',
-    'flow': ' {"name": "service-%d", "ports": [%d, %d], "labels": {"tier": "backend — of the shop", "owner": "team %d"}},',
-    'pretty': '  {\n    "name": "service-%d",\n    "ports": [\n      %d,\n      %d\n    ],\n    "labels": {\n      "owner": "team %d"\n    }\n  },\n',
-    'escaped': '- "line\\n%d\\t\\"quoted\\""\n- "80\\/%d \\\\\\\\%d\\_\\N"\n- "\\U0001F600 team %d"\n',
-}
-out, length, number = [], 0, 0
-while length < size:
-    number += 1
-    text = forms[sys.argv[2]] % (number, number, number, number % 7)
-    out.append(text)
-    length += len(text.encode())
-text = ''.join(out)
-sys.stdout.write('[' + text + ']\n' if sys.argv[2] in ('flow', 'pretty') else text)
-PYTHON
-}
 "$top/granit" events </dev/null >/dev/null
 measure() {
     local name="$1" best="" peak=0 seconds kilobytes
@@ -53,7 +33,7 @@ PYTHON
         'BEGIN { printf "%s: %.3f s (best of 5), peak %.1f MB, %.1f bytes an input byte\n", name, best, peak / 1024, peak * 1024 / size }'
 }
 for form in block flow pretty escaped; do
-    write_text "$form"
+    python3 "$top/bench/texts.py" "$form" "$megabytes" >"$work/text"
     echo "$form: $(stat -c %s "$work/text") bytes"
     measure ours "$top/granit" events
     measure other "$other" events

@@ -2,6 +2,7 @@
 use Rattle.std.proofs.Common.{◌≡◌, ℕ, List, [], Option, Some, None, IfSome, refl, inl, inr}
 use Rattle.granit_base.specs.Written.{Written}
 use Rattle.granit_events.specs.Ran.{End, Ran}
+use Rattle.granit_events.specs.Tested.{Tested}
 use Rattle.granit_events.proofs.Known.{keeps_itself}
 use Rattle.granit_events.specs.declared.status.Status.TheVariants as status
 use Rattle.granit.specs.Program.{RanOn}
@@ -36,10 +37,22 @@ memory_ran_out words source sink = record {
   layout = λ ts has quiet. inr refl;
 }
 
+no_memory_tested : (words : List Written) (source sink : End) → Tested words source source sink sink status.NoMemory
+no_memory_tested words source sink = record {
+  may = tt;
+  ended = λ f. absurd f;
+  write_fault = λ e. absurd cc;
+  no_memory = λ e. keeps_itself sink.bytes;
+  sink_count = λ e. refl;
+  unread = refl;
+  usage = λ k w. tt;
+  right = λ seed size a. tt;
+}
+
 pub ran_out : (all : Option (List (List ℕ))) (source sink : End) → RanOn all source source sink sink status.NoMemory
 ran_out all source sink = record {
   words = told_words all;
   are_the_words = are_told all;
-  ran = memory_ran_out
-      (told_words all) source sink;
+  ran = λ other. memory_ran_out (told_words all) source sink;
+  tested = λ begins. no_memory_tested (told_words all) source sink;
 }

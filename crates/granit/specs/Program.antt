@@ -5,6 +5,8 @@ use Rattle.std.specs.declared.process.ExitCode.{ExitCode}
 use Rattle.granit_base.specs.Written.{Written}
 use Rattle.granit_events.specs.Codes.{code_of}
 use Rattle.granit_events.specs.Ran.{End, Ran}
+use Rattle.granit_events.specs.SelfTest.{BeginSelftest}
+use Rattle.granit_events.specs.Tested.{Tested}
 use Rattle.granit_events.specs.declared.status.Status.{Status}
 use Rattle.granit.specs.Words.{words_of}
 
@@ -13,7 +15,8 @@ pub record RanOn (all : Option (List (List ℕ))) (source source_after sink sink
     0 where
   pub words : List Written
   pub are_the_words : IfSome all (λ list. words ≡ words_of list)
-  pub ran : Ran words source source_after sink sink_after ended_as
+  pub ran : (BeginSelftest words → ⊥) → Ran words source source_after sink sink_after ended_as
+  pub tested : BeginSelftest words → Tested words source source_after sink sink_after ended_as
 
 -- the exit code is that of such a status
 abbrev pub Exits : Option (List (List ℕ)) → End → End → End → End → ExitCode → Type 0

@@ -1,5 +1,5 @@
-//! Prints the events of the YAML text on standard input. The arguments are the words of the
-//! program; its exit status is that of the run.
+//! Prints the events of the YAML text on standard input, or the numbers of generated trees. The arguments are the
+//! words of the program; its exit status is that of the run.
 #![tactic(auto)]
 
 mod arguments;

@@ -92,5 +92,8 @@ fn the_exit_code_is_that_of_the_run(rt: HostRuntime) -> Result<(), Fail> {
     assert_eq!(rt; code(alloc, &right, b"--- [\n")? == ExitCode::from(1), true);
     assert_eq!(rt; code(alloc, &right[..1], b"")? == ExitCode::from(2), true);
     assert_eq!(rt; code(alloc, &right, b"\xff")? == ExitCode::from(5), true);
+    let testing: [&[u8]; 4] = [b"granit", b"selftest", b"0", b"1"];
+    assert_eq!(rt; code(alloc, &testing, b"\xff")? == ExitCode::from(0), true);
+    assert_eq!(rt; code(alloc, &testing[..3], b"")? == ExitCode::from(2), true);
     Ok(())
 }

@@ -1,8 +1,8 @@
 -- Brackets that are open behind runs and whole brackets, and whether what begins there stands in flow.
-use Rattle.std.proofs.Common.{◌≡◌, Bool, true, false, List, [], ◌∷◌, map, Option, Some, None, refl, sym, ap, ◌∙◌, subst}
+use Rattle.std.proofs.Common.{◌≡◌, Bool, true, false, List, [], ◌∷◌, map, Option, Some, None, refl, sym, ap, ◌∙◌}
 use Rattle.std.specs.Bool.{Decides}
 use Rattle.granit_base.specs.Place.{Mark}
-use Rattle.granit_language.specs.Fitting.{Role, OfNode, Opens, Closes, role_of}
+use Rattle.granit_language.specs.Fitting.{OfNode, Opens, Closes, role_of}
 use Rattle.granit_language.specs.HeldSaid.{Lead, lead_begins, lead_joins}
 use Rattle.granit_language.specs.KeyRuns.{role, WholeBrackets, whole_none, whole_other, whole_pair, Run, part_begins}
 use Rattle.granit_language.specs.KeyRuns.{part_joins, whole_begins, whole_joins}
@@ -80,24 +80,6 @@ run_openers (whole_joins {closer = x} {opener = y} {xs = xs} {ys = ys} r w q j p
 pub lead_openers : {x first : Lexeme} {ys rest : List Lexeme} → Lead x ys first rest → openers ys ≡ openers rest
 lead_openers (lead_begins b) = refl
 lead_openers (lead_joins j r) = run_openers r
-
--- the innermost bracket that is open is one alone
-opens_closes : {A : Type 0} (r : Role) → r ≡ Opens → r ≡ Closes → A
-opens_closes r p q = absurd (let e = sym p ∙ q in cc)
-
-pub one_bracket : {xs ys zs : List Lexeme} {a b : Lexeme} → WholeBrackets xs (a ∷ ys) → role a ≡ Opens →
-    WholeBrackets xs (b ∷ zs) → role b ≡ Opens → (a ≡ b) × (ys ≡ zs)
-one_bracket whole_none p whole_none q = (refl, refl)
-one_bracket whole_none p (whole_other n c w) q = absurd (n p)
-one_bracket {a = a} whole_none p (whole_pair r w o v) q = opens_closes (role a) p r
-one_bracket (whole_other n c w) p whole_none q = absurd (n q)
-one_bracket (whole_other n c w) p (whole_other m d v) q = one_bracket w p v q
-one_bracket (whole_other n c w) p (whole_pair r v o u) q = absurd (c r)
-one_bracket {b = b} (whole_pair r w o v) p whole_none q = opens_closes (role b) q r
-one_bracket (whole_pair r w o v) p (whole_other m d u) q = absurd (d r)
-one_bracket {zs = zs} {b = b} (whole_pair r w o v) p (whole_pair s u t k) q =
-    let e = one_bracket w o u t in
-    one_bracket v p (subst (λ (l : List Lexeme). WholeBrackets l (b ∷ zs)) (sym e.1) k) q
 
 -- ---- whether a lexeme stands in flow
 

@@ -26,9 +26,10 @@ use Rattle.granit_reading.proofs.Counting.{At, start_at}
 use Rattle.granit_reading.proofs.PlacesLaw.{gap_passes, given_places}
 use Rattle.granit_reading.proofs.RunsKept.{Signed}
 use Rattle.granit_reading.proofs.RunsLaw.{Onward, onward, fresh_near}
+use Rattle.granit_reading.proofs.RunsOnce.{whole_once}
 use Rattle.granit_reading.proofs.RunsWhole.{read_runs, start_says}
 use Rattle.granit_reading.proofs.Telling.{Agrees, gap_agrees, telling}
-use Rattle.granit_before.proofs.Bracketed.{opened, one_bracket}
+use Rattle.granit_before.proofs.Bracketed.{opened}
 use Rattle.granit_before.proofs.HeldWhole.{opener_of, HeldSay, read_held}
 use Rattle.granit_before.proofs.OuterKey.{Near, Moves, moves, opened_line, opens_it, still_open, Kept}
 use Rattle.granit_before.proofs.OuterKey.{OuterKey, OuterSays, outer_fresh}
@@ -116,7 +117,7 @@ module _ (o : OptionsData) (text : List ℕ) (h : Here) (x : Lexeme) (start : x.
       role x ≡ Opens → openers ls ≡ [] → IsNear o false (mark_of h) key → Pending o text false m (x ∷ ls) key →
       OuterKey o text m (x ∷ ls) key
   first_outer m line ls key r e n p =
-      let same = one_bracket p.whole p.opens whole_none r in
+      let same = whole_once p.whole p.opens whole_none r in
       record {
         opener = x;
         before = ls;

@@ -19,8 +19,8 @@ use Rattle.granit_lexemes.specs.declared.layout.PossibleKey.{PossibleKey}
 use Rattle.granit_machine.specs.Laid.{is_nonempty}
 use Rattle.granit_machine.specs.PossibleKeys.{is_of, is_possible, is_stale}
 use Rattle.granit_machine.specs.ReaderState.{ReaderState, reader_start}
-use Rattle.granit_reading.proofs.RunsOnce.{run_once, none_ends}
-use Rattle.granit_before.proofs.Bracketed.{opens_one, whole_openers, run_openers, lead_openers, one_bracket, AllFlow}
+use Rattle.granit_reading.proofs.RunsOnce.{run_once, none_ends, whole_once}
+use Rattle.granit_before.proofs.Bracketed.{opens_one, whole_openers, run_openers, lead_openers, AllFlow}
 use Rattle.granit_before.proofs.Bracketed.{fields_flow, whole_flow, run_flow, lead_flow, flow_is}
 use Rattle.granit_before.proofs.FieldsSaid.{fields_said}
 use Rattle.granit_before.proofs.HeldWhole.{opener_of}
@@ -274,7 +274,7 @@ module _ (o : OptionsData) (text : List ℕ) (m : Mark) where
       (p : Pending o text f m ls key) → Encloses opener before ls → WaitsAround o text m opener before first rest →
       WaitsAround o text m p.opener p.before p.leads.first p.leads.rest × (first ≡ p.leads.first)
   waits_there f {before = before} {rest = rest} {first = first} key p e w =
-      let same = one_bracket e.whole e.opens p.whole p.opens in
+      let same = whole_once e.whole e.opens p.whole p.opens in
       let v = subst (λ (ys : List Lexeme). WaitsAround o text m p.opener ys first rest) same.1
       (subst (λ (x : Lexeme). WaitsAround o text m x before first rest) same.0 w) in
       let run = lead_once v.lead p.leads.lead in (
@@ -335,12 +335,12 @@ module _ (o : OptionsData) (text : List ℕ) (m : Mark) where
   still_around ls [] key b first rest a e j p (around_innermost c w) =
       or_first (is_of first.number key) false (still_outermost b key a e j p c w)
   still_around ls [] key b first rest a e j p (further_out c w) =
-      let same = one_bracket c.whole c.opens p.whole p.opens in
+      let same = whole_once c.whole c.opens p.whole p.opens in
       absurd (outside_open w (ap openers same.1 ∙ around_open b [] p.whole p.opens e))
   still_around ls (c ∷ bs) key b first rest a e j (p, q) (around_innermost d w) =
       of_inner first.number key c bs (still_inner b c bs c.key a e p d w)
   still_around ls (c ∷ bs) key b first rest a e j (p, q) (further_out d w) =
-      let same = one_bracket d.whole d.opens p.whole p.opens in
+      let same = whole_once d.whole d.opens p.whole p.opens in
       let inner = around_open b (c ∷ bs) p.whole p.opens e in
       of_outer first.number key c bs
       (still_around p.before bs key (opener_of c) first rest (whole_flow p.whole a).1 inner

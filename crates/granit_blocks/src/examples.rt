@@ -258,5 +258,6 @@ pub fn block_examples_of_the_specification()
         ≡ (codes "Scalar folded \"folded text\\n\" 3:2:2-18:6:1 indent=1\n") }
     ensures folded_lines { block_line false None
         (codes ">\n\n folded\n line\n\n next\n line\n   * bullet\n\n   * list\n   * lines\n\n last\n line\n\n# Comment\n") 0
-        ≡ (codes "Scalar folded \"\\nfolded line\\nnext line\\n  * bullet\\n\\n  * list\\n  * lines\\n\\nlast line\\n\" 4:3:2-78:16:1 indent=1\n") }
+        ≡ (codes "Scalar folded \"\\nfolded line\\nnext line\\n  * bullet\\n\\n  * list\\n  * lines"
+        ++ codes "\\n\\nlast line\\n\" 4:3:2-78:16:1 indent=1\n") }
 {}

@@ -14,6 +14,3 @@ pub use feed::Feed;
 pub use laws::{a_list_gives_its_items, a_string_gives_its_characters, an_error_is_the_end};
 pub use plain::PlainFeed;
 pub use source::Source;
-
-#[cfg(test)]
-mod tests;

@@ -1,8 +1,6 @@
-//! Tests of granit_cursor, granit_properties and granit_directives by their public calls.
+//! Tests of granit_properties and granit_directives by their public calls.
 #![tactic(auto)]
 
-#[cfg(test)]
-mod cursor;
 #[cfg(test)]
 mod directives;
 #[cfg(test)]

@@ -1,6 +1,6 @@
 //! Runs each case of standard input, the words of the program and a text as a JSON string on a line with a tab between,
 //! and prints what the program prints for it and the status. The stored lines are those of the original with the
-//! differences of docs/DIFFERENCES.md built in, never of this program.
+//! differences of docs/DIFFERENCES.md built in, and those of `selftest` are of another program, never of this one.
 #![tactic(auto)]
 
 use anyhow::{Context, Result};

@@ -1,4 +1,5 @@
 pub mod AnswerLemmas
+pub mod AskLemmas
 pub mod Known
 pub mod NumberLemmas
 pub mod PlaceLemmas

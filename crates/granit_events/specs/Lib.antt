@@ -7,6 +7,8 @@ pub mod Memory
 pub mod Output
 pub mod Pieces
 pub mod Ran
+pub mod SelfTest
+pub mod Tested
 pub mod Understood
 pub mod Words
 pub mod Wrote

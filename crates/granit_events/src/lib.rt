@@ -2,6 +2,7 @@
 #![tactic(auto)]
 
 mod answering;
+mod asking;
 mod ends;
 mod filling;
 mod input;
@@ -16,6 +17,7 @@ mod reading;
 mod running;
 mod saying;
 mod status;
+mod testing;
 mod words;
 mod writing;
 

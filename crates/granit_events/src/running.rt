@@ -5,19 +5,24 @@ ghost use Rattle.granit_events.specs.Counts.{Rose};
 ghost use Rattle.granit_events.specs.Ended.{AreRight, AreWrongAt, CallsFor, Ended, Fixes, IsOrYields, ReadsAll};
 ghost use Rattle.granit_events.specs.Output.{CutOutput, WholeOutput};
 ghost use Rattle.granit_events.specs.Ran.{Ran, end_of};
+ghost use Rattle.granit_events.specs.SelfTest.{BeginSelftest};
+ghost use Rattle.granit_events.specs.Tested.{Tested};
 ghost use Rattle.granit_events.specs.declared.status.Status.{Status};
 ghost use Rattle.granit_events.specs.declared.status.Status.TheVariants as status;
 
 use crate::answering::respond;
+use crate::asking::begin_selftest;
 use crate::ends::{Sink, Source};
 use crate::input::{InputEnd, take_input};
 use crate::lines::WriteEnd;
 use crate::plain::{PlainSink, PlainSource};
 use crate::status::Status;
+use crate::testing::selftest;
 use granit_base::TextList;
 use std::alloc::Global;
 
-/// All that `run` does. Its contract speaks of the plain machine; that of `run` also of the text.
+/// What `run` does on the words of `events` and on wrong ones. Its contract speaks of the plain machine; that of `run`
+/// also of the text.
 pub(crate) fn run_once<S: Source, W: Sink>(
     alloc: Global,
     words: &TextList,
@@ -56,26 +61,38 @@ pub(crate) fn run_once<S: Source, W: Sink>(
     }
 }
 
-/// Reads the words and then the source, and writes the lines of the events, of the fault, or of
-/// what is wrong with the words or the bytes.
+/// Reads the words and then the source, and writes the lines of the events, of the fault, or of what is wrong with the
+/// words or the bytes. On the words `selftest SEED SIZE` it reads nothing, and writes the numbers of generated trees,
+/// of their text and of its events.
 ///
-/// The contract, `Ran`: each status names its cause and fixes the output (`ended` and what stands
-/// behind it), and which status the words and bytes call for (`usage`, `exactly`). Events that were
-/// printed are, comments aside, those of the one reading of the text (`read`), a fault is a cause of the
-/// text (`caused`), a text with a reading is answered (`answered`), and one with a cause is refused with it
-/// (`refused`), canonical text of trees and JSON text with the lines of their events (`known`), canonical block text
-/// with lines of events that are the same but for the styles of collections and for spans (`layout`). Wrong words leave
-/// the source as it was.
+/// The contract where the first word isn't `selftest`, `Ran`: each status names its cause and fixes the output (`ended`
+/// and what stands behind it), and which status the words and bytes call for (`usage`, `exactly`). Events that were
+/// printed are, comments aside, those of the one reading of the text (`read`), a fault is a cause of the text
+/// (`caused`), a text with a reading is answered (`answered`), and one with a cause is refused with it (`refused`),
+/// canonical text of trees and JSON text with the lines of their events (`known`), canonical block text with lines of
+/// events that are the same but for the styles of collections and for spans (`layout`). Wrong words leave the source
+/// as it was.
+///
+/// Where it is `selftest`, `Tested`: each status fixes the output, and the line has the numbers of the definitions
+/// (`ended`); which status the words call for (`usage`, `right`); no status comes but Done, Usage, WriteFault and
+/// NoMemory (`may`), and the source is left as it was (`unread`).
 pub fn run<S: Source, W: Sink>(
     alloc: Global,
     words: &TextList,
     source: &mut S,
     sink: &mut W,
 ) -> Status
-    ensures ran { Ran words.now (end_of S.left S.faults source.old) (end_of S.left S.faults source.new)
+    ensures ran { (BeginSelftest words.now → ⊥)
+        → Ran words.now (end_of S.left S.faults source.old) (end_of S.left S.faults source.new)
+        (end_of W.written W.faults sink.old) (end_of W.written W.faults sink.new) result }
+    ensures tested { BeginSelftest words.now
+        → Tested words.now (end_of S.left S.faults source.old) (end_of S.left S.faults source.new)
         (end_of W.written W.faults sink.old) (end_of W.written W.faults sink.new) result }
     ensures unread { (k : ℕ) → AreWrongAt words.now k → source.new ≡ source.old }
 {
+    if begin_selftest(words) {
+        return selftest(alloc, words, sink);
+    }
     run_once(alloc, words, source, sink)
 }
 
@@ -88,7 +105,13 @@ pub fn run_plain(
 ) -> Status
     ensures never_read_fault { result ≡ status.ReadFault → ⊥ }
     ensures never_write_fault { result ≡ status.WriteFault → ⊥ }
-    ensures ran { Ran words.now (end_of ⟦<PlainSource as Source>⟧.left ⟦<PlainSource as Source>⟧.faults source.old)
+    ensures ran { (BeginSelftest words.now → ⊥)
+        → Ran words.now (end_of ⟦<PlainSource as Source>⟧.left ⟦<PlainSource as Source>⟧.faults source.old)
+        (end_of ⟦<PlainSource as Source>⟧.left ⟦<PlainSource as Source>⟧.faults source.new)
+        (end_of ⟦<PlainSink as Sink>⟧.written ⟦<PlainSink as Sink>⟧.faults sink.old)
+        (end_of ⟦<PlainSink as Sink>⟧.written ⟦<PlainSink as Sink>⟧.faults sink.new) result }
+    ensures tested { BeginSelftest words.now
+        → Tested words.now (end_of ⟦<PlainSource as Source>⟧.left ⟦<PlainSource as Source>⟧.faults source.old)
         (end_of ⟦<PlainSource as Source>⟧.left ⟦<PlainSource as Source>⟧.faults source.new)
         (end_of ⟦<PlainSink as Sink>⟧.written ⟦<PlainSink as Sink>⟧.faults sink.old)
         (end_of ⟦<PlainSink as Sink>⟧.written ⟦<PlainSink as Sink>⟧.faults sink.new) result }

@@ -97,7 +97,7 @@ fn switch(name: &str, word: &str) -> Option<bool>
 }
 
 /// The number that digits write, nine of them at most and no zero in front of others.
-fn number_of(digits: &str) -> Option<usize>
+pub fn number_of(digits: &str) -> Option<usize>
     ensures some { IfSome result (λ n. IsNumber n × (digits.now ≡ decimal n)) }
     ensures none { IfNone result ((n : ℕ) → IsNumber n → digits.now ≡ decimal n → ⊥) }
 {

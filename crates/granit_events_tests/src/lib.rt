@@ -2,6 +2,10 @@
 #![tactic(auto)]
 
 #[cfg(test)]
+mod failing;
+#[cfg(test)]
 mod printing;
 #[cfg(test)]
 mod running;
+#[cfg(test)]
+mod testing;

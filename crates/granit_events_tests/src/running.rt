@@ -17,15 +17,16 @@ fn words(alloc: Global, list: &[&str]) -> Result<TextList, NoMemory> {
 /// How a run over memory ends, and what it writes; `failing_read` and `failing_write` are the
 /// numbers of the calls that fail, where there are such.
 #[derive(Clone, Copy)]
-struct Case {
-    words: &'static [&'static str],
-    bytes: &'static [u8],
-    most: usize,
-    failing_read: usize,
-    failing_write: usize,
+pub(crate) struct Case {
+    pub(crate) words: &'static [&'static str],
+    pub(crate) bytes: &'static [u8],
+    pub(crate) most: usize,
+    pub(crate) failing_read: usize,
+    pub(crate) failing_write: usize,
 }
 
-fn over(words: &'static [&'static str], bytes: &'static [u8]) -> Case {
+/// A case in which nothing fails.
+pub(crate) fn over(words: &'static [&'static str], bytes: &'static [u8]) -> Case {
     Case {
         words,
         bytes,
@@ -35,7 +36,8 @@ fn over(words: &'static [&'static str], bytes: &'static [u8]) -> Case {
     }
 }
 
-fn outcome(alloc: Global, case: Case) -> Result<(Status, Vec<u8>), NoMemory> {
+/// How the run of a case ends, and what it writes.
+pub(crate) fn outcome(alloc: Global, case: Case) -> Result<(Status, Vec<u8>), NoMemory> {
     let most = case.most.max(1);
     let bytes = Vec::from_slice(alloc, case.bytes)?;
     let mut source = MemorySource::new(bytes, most, vec![in alloc; case.failing_read]?);

@@ -11,6 +11,3 @@ pub use block::block_text;
 pub use counting::node_count;
 pub use examples::generator_examples;
 pub use generator::trees_from;
-
-#[cfg(test)]
-mod tests;

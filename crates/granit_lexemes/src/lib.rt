@@ -10,6 +10,3 @@ pub use decoding::{
     digit_count, is_high_surrogate, is_low_surrogate, join_surrogates, letter_value,
 };
 pub use layout::{Bracket, LastLexeme, OpenBracket, OpenColumn, PossibleKey};
-
-#[cfg(test)]
-mod tests;

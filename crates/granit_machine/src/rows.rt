@@ -30,7 +30,8 @@ pub fn documents()
         ≡ (codes "0 Version 123456789.1 0:1:1-17:1:18\n1 End 17:1:18-17:1:18\n") }
     ensures long_version { reads (codes "%YAML 1234567890.1") ≡ (codes "fault 22: at char 0 line 1 column 1\n") }
     ensures most_parameters { reads (codes "%F a a a a a a a a a a a a a a a a")
-        ≡ (codes "0 Reserved \"F\" \"a\" \"a\" \"a\" \"a\" \"a\" \"a\" \"a\" \"a\" \"a\" \"a\" \"a\" \"a\" \"a\" \"a\" \"a\" \"a\" 0:1:1-34:1:35\n"
+        ≡ (codes "0 Reserved \"F\" \"a\" \"a\" \"a\" \"a\" \"a\" \"a\" \"a\" \"a\" "
+        ++ codes "\"a\" \"a\" \"a\" \"a\" \"a\" \"a\" \"a\" \"a\" 0:1:1-34:1:35\n"
         ++ codes "1 End 34:1:35-34:1:35\n") }
     ensures more_parameters { reads (codes "%F a a a a a a a a a a a a a a a a a")
         ≡ (codes "fault 18: at char 0 line 1 column 1\n") }

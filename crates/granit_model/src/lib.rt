@@ -10,6 +10,3 @@ pub use fitting::fits;
 pub use nesting::depth;
 pub use tree::{PairList, Props, Tree, TreeList};
 pub use writing::{flow_text, push_tag_bytes, push_tree};
-
-#[cfg(test)]
-mod tests;

@@ -1,16 +1,17 @@
 -- Why calls give and leave what they do where the source of an input may fail.
 use Rattle.std.proofs.Common.{◌≡◌, ◌≤◌, ℕ, Bool, true, false, ◌||◌, Option, Some, None, Result, Ok, Err, is_some, ◌⊎◌}
-use Rattle.std.proofs.Common.{inl, inr, [], refl, sym, ap, subst, ◌∙◌, le_trans}
+use Rattle.std.proofs.Common.{inl, inr, [], refl, sym, ap, subst, ◌∙◌, le_refl, le_trans}
 use Rattle.std.specs.Prelude.{if◌then◌else◌, IfErr, IfSome}
 use Rattle.std.specs.Option.{option_map}
 use Rattle.granit_base.specs.Place.{Place, Unread}
+use Rattle.granit_cursor.specs.Reading.{Moves, Reading}
 use Rattle.granit_error.specs.FaultKind.{FaultKind}
 use Rattle.granit_error.specs.Refused.{Refused}
 use Rattle.granit_input.specs.Origin.{Origin, Goes, Gave, error_given}
-use Rattle.granit_input.proofs.OriginLemmas.{goes_nowhere}
+use Rattle.granit_input.proofs.OriginLemmas.{goes_nowhere, goes_on}
 use Rattle.granit_lexemes.specs.Outcome.{Fault}
 use Rattle.granit_lexemes.specs.PlainEvent.{PlainEvent}
-use Rattle.granit_parser.specs.Parsing.{EndsWith, GivesNext, Next}
+use Rattle.granit_parser.specs.Parsing.{EndsBehind, EndsWith, GivesNext, Next, Parsing}
 use Rattle.granit_parser.specs.Sources.{GoesGiving, GoesUnless, IfUnseen, IsSourceError, MovesUnless, TellsError}
 use Rattle.granit_parser.specs.Sources.{TellsSource, unless_failed}
 use Rattle.granit_stepper.specs.Stepping.{StandsIn, Stepping, refused_kind}
@@ -140,6 +141,15 @@ ends_on None s t error same ends = tt
 ends_on (Some (Ok e)) s t error same ends = tt
 ends_on (Some (Err e)) s t error same ends = rw (same, ends) refl
 
+-- and what is kept of it holds on
+pub behind_on : {I : Type 0} (r : Next) (given : Option Refused) (s t : Stepping I) (error : Option Refused)
+    → t.failed ≡ (s.failed || is_some error) → EndsBehind r given s → EndsBehind r given t
+behind_on r None s t error same behind = record { seen = ends_on r s t error same behind.seen; over = tt }
+behind_on r (Some e) s t error same behind = record {
+  seen = ends_on r s t error same behind.seen;
+  over = (behind.over.0, rw (same, behind.over.1) refl);
+}
+
 -- ---- a source that was asked behind a call
 
 module _ {I : Type 0} (unread : I → Unread → Type 0) (origin : I → Origin) (old mid new : Stepping I)
@@ -202,6 +212,31 @@ pub moves_seen : {I : Type 0} (left : I → ℕ) (origin : I → Origin) (r : Ne
 moves_seen left origin r None old new seen moves = moves.1
 moves_seen left origin r (Some x) old new seen moves =
     rw seen.1 (goes_unless r (origin old.scanner.cursor.input) (origin old.scanner.cursor.input) (goes_nowhere _))
+
+-- a call that gives what was looked at moves nothing
+pub moved : {I : Type 0} (left : I → ℕ) (origin : I → Origin) (r peeked : Next) (old new : Stepping I)
+    → IfSome peeked (λ x. (r ≡ Some x) × (new ≡ old))
+    → IfUnseen peeked (MovesUnless left origin r old.scanner.cursor new.scanner.cursor)
+    → MovesUnless left origin r old.scanner.cursor new.scanner.cursor
+moved left origin r None old new seen moves = moves
+moved left origin r (Some x) old new seen moves =
+    rw seen.1 (le_refl _, goes_unless r (origin old.scanner.cursor.input) _ (goes_nowhere _))
+
+-- calls one behind the other
+pub moves_on : {I X : Type 0} (left : I → ℕ) (origin : I → Origin) (r : Option (Result X Refused)) (a b c : Reading I)
+    → Moves left origin a b → MovesUnless left origin r b c → MovesUnless left origin r a c
+moves_on left origin None a b c first next = (le_trans next.0 first.0, goes_on _ _ _ first.1 next.1)
+moves_on left origin (Some (Ok x)) a b c first next = (le_trans next.0 first.0, goes_on _ _ _ first.1 next.1)
+moves_on left origin (Some (Err e)) a b c first next = (le_trans next.0 first.0, giving_on _ _ _ first.1 next.1)
+
+pub moves_behind : {I : Type 0} (left : I → ℕ) (origin : I → Origin) (r s : Next) (a : Reading I)
+    (now after : Parsing I) → r ≡ s → IfSome now.peeked (λ x. (r ≡ Some x) × (after.stepper ≡ now.stepper))
+    → IfUnseen now.peeked (MovesUnless left origin r now.stepper.scanner.cursor after.stepper.scanner.cursor)
+    → Moves left origin a now.stepper.scanner.cursor → MovesUnless left origin s a after.stepper.scanner.cursor
+moves_behind left origin r s a now after same seen moves first =
+    moves_on left origin s a now.stepper.scanner.cursor after.stepper.scanner.cursor first
+    (subst (λ (x : Next). MovesUnless left origin x now.stepper.scanner.cursor after.stepper.scanner.cursor) same
+    (moved left origin r now.peeked now.stepper after.stepper seen moves))
 
 pub for_any : {V A : Type 0} (r : Result V Refused) → A → IfErr r (λ e. A)
 for_any (Ok v) a = tt

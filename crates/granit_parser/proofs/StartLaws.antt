@@ -1,6 +1,7 @@
 -- What the calls give one by one from any beginning is what the run from there answers.
 use Rattle.std.proofs.Common.{◌≡◌, ℕ, zero, suc, ◌<◌, List, [], ◌∷◌, Option, Some, None, Result, Ok, Err}
 use Rattle.std.proofs.Common.{refl, sym, ap, subst, ◌∙◌, arith}
+use Rattle.std.proofs.lemmas.List.{append-nil}
 use Rattle.granit_base.specs.Place.{Mark}
 use Rattle.granit_error.specs.OptionsData.{OptionsData}
 use Rattle.granit_lexemes.specs.Here.{Here, mark_of}
@@ -18,6 +19,8 @@ use Rattle.granit_steps.specs.Steps.{StepState, Turn, first_pending, next_event,
 use Rattle.granit_steps.specs.Steps.{step_size, step_turn}
 use Rattle.granit_steps.specs.Told.{GivesEvents, Told, answer, before_told, fed, gives_end, gives_event, gives_fault}
 use Rattle.granit_steps.specs.Told.{parsers_items, told_behind, told_from, told_read}
+use Rattle.granit_event.specs.Events.{plain_event}
+use Rattle.granit_parser.specs.Parsing.{EndsTold, GivesNext, LeadsTo, Next, first_given, none_given}
 use Rattle.granit_steps.proofs.Chains.{LexChain, pieces_chain}
 use Rattle.granit_steps.proofs.Futures.{IsReady, IsStill, TurnKeeps, future, future_of, read_out, rest_of}
 use Rattle.granit_steps.proofs.Futures.{turn_keeps}
@@ -154,3 +157,40 @@ module _ (o : OptionsData) where
       let told = sym (start_told h)
       ∙ gives_future (start_from h) es f given (record { below = tt; old = tt; one_end = λ e. refl }) in
       run_by (mark_of h) (lex o h) ∙ ap (λ (t : Told). answer t t.1) told
+
+  -- ---- what is told of the events so far
+
+  start_ready : (h : Here) → IsReady (start_from h)
+  start_ready h = record { below = tt; old = tt; one_end = λ e. refl }
+
+  -- what is told from a state on are the events that lead to another one, and what is told from there
+  leads_on : (s m : StepState) (es : List PlainEvent) → LeadsTo o s es m → IsReady s
+      → IsReady m × (future o s ≡ before_told es (future o m))
+  leads_on s m [] none_given ready = (ready, refl)
+  leads_on s m (e ∷ es) (first_given {next = next} is leads) ready =
+      let first = subst (NextKeeps s) is (next_keeps s ready) in
+      let rest = leads_on next m es leads first.0 in
+      (rest.0, first.1 ∙ ap (before_told (e ∷ [])) rest.1)
+
+  module _ (h : Here) (es : List PlainEvent) (m : StepState) (leads : LeadsTo o (start_from h) es m) where
+    -- what a state still tells comes behind these events
+    told_behind_them : (rest : Told) → future o m ≡ rest → told_from o h ≡ before_told es rest
+    told_behind_them rest is =
+        sym (start_told h) ∙ ((leads_on (start_from h) m es leads (start_ready h)).1 ∙ ap (before_told es) is)
+
+    next_is : (r : Result (Option PlainEvent × StepState) Fault) → next_event o m ≡ r → NextKeeps m r
+    next_is r is = subst (NextKeeps m) is (next_keeps m (leads_on (start_from h) m es leads (start_ready h)).0)
+
+    told_all : (f : Option Fault) → future o m ≡ ([], f) → told_from o h ≡ (es, f)
+    told_all f is = told_behind_them ([], f) is ∙ ap (λ (xs : List PlainEvent). (xs, f)) (append-nil es)
+
+    pub ends_told : (r : Next) (Lands : StepState → Type 0) → GivesNext r Lands (next_event o m)
+        → EndsTold (told_from o h) es r
+    ends_told None Lands g = told_all None (next_is (Ok (None, g.0)) g.2).1
+    ends_told (Some (Ok e)) Lands g = (
+      (future o g.0).0,
+      ap (λ (x : Told). x.0)
+          (told_behind_them (before_told (plain_event e ∷ []) (future o g.0))
+          (next_is (Ok (Some (plain_event e), g.0)) g.2).1),
+    )
+    ends_told (Some (Err e)) Lands g = λ other. told_all (Some e) (next_is (Err e) (g other))

@@ -7,7 +7,7 @@ use Rattle.granit_before.specs.DeclaredCause.{DeclaredCause}
 use Rattle.granit_before.proofs.CauseSaid.{cause_declared}
 use Rattle.granit_before.proofs.ReadingSaid.{answer_declared}
 use Rattle.granit_event.specs.Events.{plain_event}
-use Rattle.granit_error.specs.FaultKind.{FaultKind, NoMemory}
+use Rattle.granit_error.specs.FaultKind.{NoMemory}
 use Rattle.granit_error.specs.OptionsData.{OptionsData}
 use Rattle.granit_error.specs.Refused.{Refused}
 use Rattle.granit_lexemes.specs.Outcome.{Fault, Fails}

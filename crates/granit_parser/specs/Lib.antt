@@ -1,4 +1,5 @@
 pub mod Answering
 pub mod Parsing
+pub mod Receiving
 pub mod Sources
 pub mod Streams

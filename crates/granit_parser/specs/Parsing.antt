@@ -18,21 +18,37 @@ use Rattle.granit_cursor.specs.Reading.{Reading}
 use Rattle.granit_parser.specs.Sources.{IfUnseen, IsSourceError, MovesUnless, TellsError, TellsSource}
 use Rattle.granit_stepper.specs.Stepping.{Stepping, StandsIn}
 use Rattle.granit_steps.specs.Levels.{IsStream, BeginsStream}
-use Rattle.granit_steps.specs.Steps.{StepState, next_event, steps_start}
-use Rattle.granit_steps.specs.Told.{GivesEvents}
+use Rattle.granit_steps.specs.Steps.{StepState, next_event}
+use Rattle.granit_steps.specs.Told.{GivesEvents, Told}
 
 -- what a call gives: an event, why there is none, or nothing more
 abbrev pub Next : Type 0
 Next = Option (Result (Event × Span) Refused)
 
--- a stepper, and what was looked at and not taken
+-- a stepper, what was looked at and not taken, and the refusal that was given
 pub record Parsing (I : Type 0) : Type 0 where
   pub stepper : Stepping I
   pub peeked : Next
+  pub given : Option Refused
 
 -- where this is a refusal, it is the last that is given: a parser that has nothing looked at is then over
 abbrev pub EndsWith : {I : Type 0} → Next → Stepping I → Type 0
 EndsWith r s = IfSome r (λ x. IfErr x (λ e. s.failed ≡ true))
+
+-- nothing is read behind a refusal that was looked at, and nothing comes behind one that was given
+pub record EndsBehind {I : Type 0} (r : Next) (given : Option Refused) (s : Stepping I) : Type 0 where
+  pub seen : EndsWith r s
+  pub over : IfSome given (λ e. (r ≡ None) × (s.failed ≡ true))
+
+-- a refusal as it is kept: itself, or want of memory where there was no room for it
+abbrev pub IsKept : Refused → Refused → Type 0
+IsKept e kept = (kept ≡ e) ⊎ (kept.kind ≡ NoMemory)
+
+-- a refusal that is given is kept, and nothing else changes what is kept
+abbrev pub Keeps : Next → (old new : Option Refused) → Type 0
+Keeps None old new = new ≡ old
+Keeps (Some (Ok e)) old new = new ≡ old
+Keeps (Some (Err e)) old new = (kept : Refused) × (new ≡ Some kept) × IsKept e kept
 
 -- a call gives what the machine's step gives, and a state is then known in which that ends; a refusal is its fault,
 -- unless memory ran out
@@ -76,6 +92,7 @@ pub record PeeksAs {I : Type 0} (unread : I → Unread → Type 0) (left : I →
       → ShowsNext unread r new m (next_event old.stepper.scanner.options m)
   pub source : IfUnseen old.peeked (TellsError origin old.stepper r new.stepper.scanner.cursor)
   pub seen : IfSome old.peeked (λ x. new ≡ old)
+  pub given : new.given ≡ old.given
   pub refused : EndsWith r new.stepper
   pub over : IsOver old → new ≡ old
   pub options : new.stepper.scanner.options ≡ old.stepper.scanner.options
@@ -90,6 +107,7 @@ pub record StepsTo {I : Type 0} (unread : I → Unread → Type 0) (left : I →
   pub source : IfUnseen p.peeked (TellsError origin p.stepper r q.stepper.scanner.cursor)
   pub seen : IfSome p.peeked (λ x. (r ≡ Some x) × (q.stepper ≡ p.stepper))
   pub none : q.peeked ≡ None
+  pub given : Keeps r p.given q.given
   pub refused : EndsWith r q.stepper
   pub over : IsOver p → (r ≡ None) × (q ≡ p)
   pub options : q.stepper.scanner.options ≡ p.stepper.scanner.options
@@ -109,6 +127,13 @@ EndsText o x es None = DeclaredReading o x es × IsStream es
 EndsText o x es (Some (Ok e)) = BeginsStream (es ++ plain_event e ∷ [])
 EndsText o x es (Some (Err e)) =
     BeginsStream es × ((e.kind ≡ NoMemory) ⊎ (DeclaredCause o x e × (e.sources ≡ [])))
+
+-- Behind these events of all that is told from a beginning: where there is nothing more, they are all; an event is the
+-- next one, so that with each one fewer is left; and a refusal is what ends them, unless memory ran out.
+abbrev pub EndsTold : Told → List PlainEvent → Next → Type 0
+EndsTold all es None = all ≡ (es, None)
+EndsTold all es (Some (Ok e)) = (more : List PlainEvent) × (all.0 ≡ es ++ plain_event e ∷ more)
+EndsTold all es (Some (Err e)) = (e.kind ≡ NoMemory → ⊥) → all ≡ (es, Some e)
 
 -- All that is given from a state on are these events, or some events and then this refusal, unless memory ran out.
 abbrev pub GivesAll : {V : Type 0} → (V → List PlainEvent) → OptionsData → StepState → Result V Refused → Type 0

@@ -35,6 +35,12 @@ TellsError origin old r at =
     (f : FaultKind) → (origin at.input).error ≡ Some f → (origin old.scanner.cursor.input).handed_out ≡ false
     → old.failed ≡ false → TellsSource origin r at
 
+-- the same of calls one behind the other, where there was no error before
+abbrev pub TellsMet : {I X : Type 0} → (I → Origin) → Reading I → Option (Result X Refused) → Reading I → Type 0
+TellsMet origin old r at =
+    (f : FaultKind) → (origin at.input).error ≡ Some f → (origin old.input).error ≡ None
+    → (origin old.input).handed_out ≡ false → TellsSource origin r at
+
 -- What a call leaves as it was that may hand out the error: all that `Goes` says, but of the handing out only where
 -- there is no error.
 pub record GoesGiving (old : Origin) (new : Origin) : Type 0 where

@@ -16,13 +16,14 @@ ghost use Rattle.granit_input.specs.Strings.{Leaves};
 ghost use Rattle.granit_lexemes.specs.Here.{Here, first_place};
 ghost use Rattle.granit_lexemes.specs.PlainEvent.{PlainEvent};
 ghost use Rattle.granit_parser.specs.Parsing as spec;
-ghost use Rattle.granit_parser.specs.Parsing.{EndsText, EndsWith, GivesNext, IsOver, LeadsTo, PeeksAs, StandsAt};
-ghost use Rattle.granit_parser.specs.Parsing.{shown};
+ghost use Rattle.granit_parser.specs.Parsing.{EndsBehind, EndsText, EndsTold, EndsWith, GivesNext, IsKept, IsOver};
+ghost use Rattle.granit_parser.specs.Parsing.{Keeps, LeadsTo, PeeksAs, StandsAt, shown};
 ghost use Rattle.granit_parser.specs.contracts.parser.Parser.{the_row};
 ghost use Rattle.granit_parser.specs.Sources.{IfUnseen, MovesUnless, TellsError, TellsSource, unless_failed};
 ghost use Rattle.granit_stepper.specs.Stepping.{StandsIn, refused_kind};
 ghost use Rattle.granit_steps.specs.Steps as steps;
 ghost use Rattle.granit_steps.specs.Steps.{StepState};
+ghost use Rattle.granit_steps.specs.Told.{told_from};
 
 use granit_base::Span;
 use granit_error::{Options, ScanError};
@@ -36,21 +37,23 @@ use std::marker::Model;
 /// An input that is read into events, one for each call.
 #[derive(Drop)]
 pub struct Parser<'input, T: Input> {
-    alloc: Global,
-    stepper: Stepper<'input, T>,
+    pub(crate) alloc: Global,
+    pub(crate) stepper: Stepper<'input, T>,
     // What was looked at and not taken.
-    peeked: Option<Result<(Event<'input>, Span), ScanError>>,
+    pub(crate) peeked: Option<Result<(Event<'input>, Span), ScanError>>,
+    // The refusal that was given.
+    pub(crate) given: Option<ScanError>,
 }
 
 impl<'input, T: Input> Model for Parser<'input, T> {
-    ghost use Rattle.granit_parser.specs.Parsing.{EndsWith, Parsing};
+    ghost use Rattle.granit_parser.specs.Parsing.{EndsBehind, Parsing};
 
     ghost Value = { Parsing T };
 
-    ghost view = { λ p. record { stepper = p.stepper; peeked = p.peeked } };
+    ghost view = { λ p. record { stepper = p.stepper; peeked = p.peeked; given = p.given } };
 
-    // nothing is read behind a refusal that was looked at
-    ghost invariant = { λ p. EndsWith p.peeked p.stepper };
+    // nothing is read behind a refusal
+    ghost invariant = { λ p. EndsBehind p.peeked p.given p.stepper };
 }
 
 impl<'input> Parser<'input, StrInput<'input>> {
@@ -97,6 +100,7 @@ impl<'input, T: BorrowedInput<'input>> Parser<'input, T> {
             alloc,
             stepper: Stepper::new(alloc, src, options),
             peeked: None,
+            given: None,
         }
     }
 
@@ -104,8 +108,9 @@ impl<'input, T: BorrowedInput<'input>> Parser<'input, T> {
     ///
     /// The contract: from a state of the plain machine it gives what that gives (`known`). Behind the first events of a
     /// text, an event goes on with what begins a stream, a refusal is a cause of the text, and where nothing more
-    /// comes, they are the events of its reading, a whole stream (`text`). The first error of the input's source stands
-    /// in the place of all that was read up to it (`source`).
+    /// comes, they are the events of its reading, a whole stream (`text`). Each event takes one of the finite list that
+    /// is told of the input, so there are no more of them (`told`). The first error of the input's source stands in the
+    /// place of all that was read up to it (`source`). A refusal that is given is kept (`given`).
     ///
     /// # Errors
     ///
@@ -120,7 +125,12 @@ impl<'input, T: BorrowedInput<'input>> Parser<'input, T> {
             → LeadsTo self.old.stepper.scanner.options (steps.steps_start x) es m
             → EndsText self.old.stepper.scanner.options x es result
             ⊎ TellsSource T.origin result self.new.stepper.scanner.cursor }
+        ensures told { (h : Here) (es : List PlainEvent) (m : StepState) → StandsAt T.unread self.old m
+            → LeadsTo self.old.stepper.scanner.options (steps.start_from h) es m
+            → EndsTold (told_from self.old.stepper.scanner.options h) es result
+            ⊎ TellsSource T.origin result self.new.stepper.scanner.cursor }
         ensures peeked { self.new.peeked ≡ None }
+        ensures given { Keeps result self.old.given self.new.given }
         ensures seen { IfSome self.old.peeked (λ r. (result ≡ Some r) × (self.new.stepper ≡ self.old.stepper)) }
         ensures refused { EndsWith result self.new.stepper }
         ensures over { IsOver self.old → (result ≡ None) × (self.new ≡ self.old) }
@@ -139,6 +149,7 @@ impl<'input, T: BorrowedInput<'input>> Parser<'input, T> {
         ensures source { IfUnseen self.old.peeked (TellsError T.origin self.old.stepper result
             self.new.stepper.scanner.cursor) }
         ensures peeked { self.new.peeked ≡ None }
+        ensures given { Keeps result self.old.given self.new.given }
         ensures seen { IfSome self.old.peeked (λ r. (result ≡ Some r) × (self.new.stepper ≡ self.old.stepper)) }
         ensures refused { EndsWith result self.new.stepper }
         ensures over { IsOver self.old → (result ≡ None) × (self.new ≡ self.old) }
@@ -146,10 +157,15 @@ impl<'input, T: BorrowedInput<'input>> Parser<'input, T> {
         ensures moves { IfUnseen self.old.peeked (MovesUnless T.left T.origin result
             self.old.stepper.scanner.cursor self.new.stepper.scanner.cursor) }
     {
-        match self.peeked.take() {
-            Some(peeked) => Some(peeked),
-            None => self.read_event(),
+        let next = if self.peeked.is_none() {
+            self.read_event()
+        } else {
+            self.peeked.take()
+        };
+        if let Some(Err(error)) = &next {
+            self.given = Some(kept(self.alloc, error));
         }
+        next
     }
 
     /// What the next call of `next_event` gives, which gives it all the same; none behind the end of the stream, and
@@ -171,8 +187,17 @@ impl<'input, T: BorrowedInput<'input>> Parser<'input, T> {
         ensures { PeeksAs T.unread T.left T.origin self.old self.new.peeked self.new }
     {
         if self.peeked.is_none() {
-            self.peeked = self.read_event();
+            let next = self.read_event();
+            self.put_ahead(next);
         }
+    }
+
+    /// Keeps what was read ahead.
+    fn put_ahead(&mut self, next: Option<Result<(Event<'input>, Span), ScanError>>)
+        requires { EndsBehind next self.old.given self.old.stepper }
+        ensures { self.new ≡ record self.old { peeked = next.entry } }
+    {
+        self.peeked = next;
     }
 
     /// What was looked at.
@@ -198,6 +223,7 @@ impl<'input, T: BorrowedInput<'input>> Parser<'input, T> {
             (steps.next_event self.old.stepper.scanner.options m) }
         ensures source { TellsError T.origin self.old.stepper result self.new.stepper.scanner.cursor }
         ensures peeked { self.new.peeked ≡ self.old.peeked }
+        ensures given { self.new.given ≡ self.old.given }
         ensures refused { EndsWith result self.new.stepper }
         ensures over { self.old.stepper.failed ≡ true → (result ≡ None) × (self.new ≡ self.old) }
         ensures options { self.new.stepper.scanner.options ≡ self.old.stepper.scanner.options }
@@ -228,6 +254,7 @@ impl<'input, T: BorrowedInput<'input>> Parser<'input, T> {
         ensures known { (m : StepState) → StandsIn T.unread self.old.stepper m → result ≡ None
             → StandsIn T.unread self.new.stepper m }
         ensures peeked { self.new.peeked ≡ self.old.peeked }
+        ensures kept { self.new.given ≡ self.old.given }
         ensures failed { self.new.stepper.failed ≡ (self.old.stepper.failed || is_some result) }
         ensures options { self.new.stepper.scanner.options ≡ self.old.stepper.scanner.options }
         ensures left { T.left self.new.stepper.scanner.cursor.input ≤ T.left self.old.stepper.scanner.cursor.input }
@@ -243,6 +270,7 @@ impl<'input, T: BorrowedInput<'input>> Parser<'input, T> {
             → GivesNext result (StandsIn T.unread self.new.stepper)
             (steps.next_event self.old.stepper.scanner.options m) }
         ensures peeked { self.new.peeked ≡ self.old.peeked }
+        ensures given { self.new.given ≡ self.old.given }
         ensures refused { EndsWith result self.new.stepper }
         ensures over { self.old.stepper.failed ≡ true → (result ≡ None) × (self.new ≡ self.old) }
         ensures options { self.new.stepper.scanner.options ≡ self.old.stepper.scanner.options }
@@ -276,6 +304,16 @@ fn unless_failed<'a>(
     match error {
         None => event,
         Some(error) => Some(Err(error)),
+    }
+}
+
+/// A refusal to be given again, or want of memory where there is no room for it.
+pub(crate) fn kept(alloc: Global, error: &ScanError) -> ScanError
+    ensures { IsKept error.now result }
+{
+    match error.try_clone(alloc) {
+        Ok(error) => error,
+        Err(no_memory) => ScanError::from(no_memory),
     }
 }
 

@@ -6,4 +6,6 @@ mod failing;
 #[cfg(test)]
 mod parser;
 #[cfg(test)]
+mod receive;
+#[cfg(test)]
 mod round_trip;

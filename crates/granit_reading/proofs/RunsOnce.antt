@@ -12,8 +12,8 @@ opens_closes r p q = absurd (let e = sym p ∙ q in cc)
 part_closes : {A : Type 0} (r : Role) → r ≡ OfNode → r ≡ Closes → A
 part_closes r p q = absurd (let e = sym p ∙ q in cc)
 
--- the opener that is in front of whole brackets
-whole_once : {xs ys zs : List Lexeme} {a b : Lexeme} → WholeBrackets xs (a ∷ ys) → role a ≡ Opens
+-- the opener that is in front of whole brackets is one alone
+pub whole_once : {xs ys zs : List Lexeme} {a b : Lexeme} → WholeBrackets xs (a ∷ ys) → role a ≡ Opens
     → WholeBrackets xs (b ∷ zs) → role b ≡ Opens → (a ≡ b) × (ys ≡ zs)
 whole_once whole_none p whole_none q = (refl, refl)
 whole_once {a = a} whole_none p (whole_other n c w) q = absurd (n p)

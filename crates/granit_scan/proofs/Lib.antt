@@ -1,5 +1,6 @@
 pub mod SettleLemmas
 pub mod Shortening
+pub mod SourceLemmas
 pub mod StateLemmas
 pub mod TokenFutures
 pub mod TokenLaws

@@ -14,7 +14,7 @@ use Rattle.granit_lexemes.specs.Outcome.{Fails}
 use Rattle.granit_lexemes.proofs.PieceLemmas.{pieces_done}
 use Rattle.granit_machine.specs.Lexing.{FlaggedItem, lex_start}
 use Rattle.granit_scan.specs.Following.{Following, Writing, writing_start, followed, item_tokens, wrote}
-use Rattle.granit_scan.specs.Scanning.{Scanning, StandsIn, TakesFree, first_tokens, is_end, no_tokens, turn_view}
+use Rattle.granit_scan.specs.Scanning.{Scanning, StandsIn, TakesFree, TakesToken, first_tokens, no_tokens, turn_view}
 use Rattle.granit_scan.specs.TokenSteps.{TokenState, first_pending, next_token, read_more, read_unless, settle}
 use Rattle.granit_scan.specs.TokenSteps.{start_from}
 use Rattle.granit_scan.specs.TokenSteps.{token_size, token_turn, with_read, with_written}
@@ -159,61 +159,44 @@ module _ {I : Type 0} (unread : I → Unread → Type 0) where
 
     -- ---- a token
 
+    -- the start of the stream
     waits_first : (start : Mark) → s.first ≡ Some start → m.pending ≡ marked StartOfStream start ∷ s.writer.waiting
     waits_first start first = at.pending ∙ ap (λ (x : Option Mark). first_tokens x ++ s.writer.waiting) first
 
-    -- the start of the stream
-    pub tells_start : (o : OptionsData) (start : Mark) (t : Token) → s.first ≡ Some start
-        → plain_token t ≡ marked StartOfStream start
-        → GivesTo (option_map plain_token) (Ok (Some t)) (StandsIn unread (record s { first = None })) (next_token o m)
-    tells_start o start t first told =
-        let pending = waits_first start first in
-        let still = turn_waits_on o m (marked StartOfStream start) s.writer.waiting pending in (
-          record m { pending = s.writer.waiting },
-          record { going = at.going; reading = at.reading; following = at.following; pending = refl },
-          next_is o m m (pieces_done token_size (token_turn o) m m still)
-              ∙ ap (λ (ts : List PlainToken). Ok (slice_get ts 0, record m { pending = drop 1 ts })) pending
-              ∙ ap (λ (x : PlainToken). Ok (Some x, record m { pending = s.writer.waiting })) (sym told),
+    -- it waits
+    pub start_waits : {U : Type 0} (u : U) (o : OptionsData) (start : Mark) → s.first ≡ Some start
+        → GivesTo no_tokens (Ok u) (StandsIn unread s) (settle o m)
+    start_waits u o start first =
+        let still = turn_waits_on o m (marked StartOfStream start) s.writer.waiting (waits_first start first) in
+        (m, at, pieces_done token_size (token_turn o) m m still)
+
+    -- it is given
+    pub takes_start : (start : Mark) (t : Token) → s.first ≡ Some start → plain_token t ≡ marked StartOfStream start
+        → TakesToken unread (Some (plain_token t)) (record s { first = None }) m
+    takes_start start t first told =
+        let pending = waits_first start first in (
+          ap Some told ∙ sym (ap (λ (ts : List PlainToken). slice_get ts 0) pending),
+          record {
+            going = at.going;
+            reading = at.reading;
+            following = at.following;
+            pending = ap (drop 1) pending;
+          },
         )
 
-  gives_by : {U : Type 0} (u : U) (o : OptionsData) (s : Scanning I) (m : TokenState) (e : Bool) (r : Option Token)
-      → s.first ≡ None → GivesTo no_tokens (Ok u) (StandsIn unread s) (settle o m)
-      → option_map plain_token r ≡ slice_get s.writer.waiting 0
-      → GivesTo (option_map plain_token) (Ok r) (StandsIn unread (record s {
-        writer = record (s.writer) { waiting = drop 1 s.writer.waiting };
-        ended = e;
-      })) (next_token o m)
-  gives_by u o s m e r told settled first =
-      let after : TokenState = settled.0 in
-      let at : StandsIn unread s after = settled.1 in
-      let pending : after.pending ≡ s.writer.waiting = waiting s after at told in (
-        record after { pending = drop 1 after.pending },
-        record {
-          going = at.going;
-          reading = at.reading;
-          following = at.following;
-          pending = ap (drop 1) pending
-              ∙ sym (ap (λ (x : Option Mark). first_tokens x ++ drop 1 s.writer.waiting) told);
-        },
-        next_is o m after settled.2
-            ∙ ap (λ (x : Option PlainToken). Ok (x, record after { pending = drop 1 after.pending }))
-            (ap (λ (ts : List PlainToken). slice_get ts 0) pending ∙ sym first),
-      )
-
-  -- what waits is given, one by one
-  pub gives_next : {U : Type 0} (u : U) (o : OptionsData) (s : Scanning I) (m : TokenState) (t : Scanning I)
-      (r : Option Token)
-      → s.first ≡ None → GivesTo no_tokens (Ok u) (StandsIn unread s) (settle o m)
-      → option_map plain_token r ≡ slice_get s.writer.waiting 0
-      → t ≡ record s {
-        writer = record (s.writer) { waiting = drop 1 s.writer.waiting };
-        ended = s.ended || is_end (option_map plain_token r);
-      }
+  -- turns were made, and the first token that waits is given
+  pub gives_token : {U : Type 0} (u : U) (o : OptionsData) (m : TokenState) (s t : Scanning I) (r : Option Token)
+      → ((n : TokenState) → StandsIn unread s n → TakesToken unread (option_map plain_token r) t n)
+      → GivesTo no_tokens (Ok u) (StandsIn unread s) (settle o m)
       → GivesTo (option_map plain_token) (Ok r) (StandsIn unread t) (next_token o m)
-  gives_next u o s m t r told settled first rest =
-      subst (λ (x : Scanning I). GivesTo (option_map plain_token) (Ok r) (StandsIn unread x) (next_token o m))
-      (sym rest)
-      (gives_by u o s m (s.ended || is_end (option_map plain_token r)) r told settled first)
+  gives_token u o m s t r takes settled =
+      let after : TokenState = settled.0 in
+      let took = takes after settled.1 in (
+        record after { pending = drop 1 after.pending },
+        took.1,
+        next_is o m after settled.2
+            ∙ ap (λ (x : Option PlainToken). Ok (x, record after { pending = drop 1 after.pending })) (sym took.0),
+      )
 
   -- or nothing is, where turns fail
   pub next_fails : (o : OptionsData) (m : TokenState) (e : Refused) → Fails e (settle o m) → Fails e (next_token o m)

@@ -1,13 +1,12 @@
 -- What contracts see of a scanner, and in which state of the machine it is known to be.
-use Rattle.std.specs.Prelude.{◌≡◌, ℕ, Bool, true, false, ◌&&◌, ◌||◌, nat_le, List, [], ◌∷◌, ◌++◌, Option, Some, None}
-use Rattle.std.specs.Prelude.{Result, Ok, Err}
-use Rattle.granit_base.specs.Place.{Mark, Unread}
-use Rattle.granit_cursor.specs.Reading.{Moves}
+use Rattle.std.specs.Prelude.{◌≡◌, ◌≤◌, ℕ, Bool, true, false, ◌&&◌, ◌||◌, nat_le, if◌then◌else◌, List, [], ◌∷◌, ◌++◌}
+use Rattle.std.specs.Prelude.{Option, Some, None, is_some, Result, Ok, Err, drop, slice_get}
+use Rattle.granit_base.specs.Place.{Place, Mark, Unread}
 use Rattle.granit_cursor.specs.declared.token.Token.{Token}
 use Rattle.granit_error.specs.FaultKind.{FaultKind, fault_number, NoMemory, DirectiveDisallowed, YamlVersionTooLong}
 use Rattle.granit_error.specs.FaultKind.{ExpectedTagBang, InvalidTagDirectiveTerminator}
 use Rattle.granit_error.specs.Refused.{Refused}
-use Rattle.granit_input.specs.Origin.{Origin}
+use Rattle.granit_input.specs.Origin.{Origin, Goes}
 use Rattle.granit_lexemes.specs.Outcome.{Fault, Fails}
 use Rattle.granit_machine.specs.Lexing.{FlaggedItem}
 use Rattle.granit_scan.specs.Following.{Writing}
@@ -90,6 +89,55 @@ TellsError kept (Ok u) = kept ≡ None
 TellsError None (Err e) = ⊥
 TellsError (Some f) (Err e) = (e.kind ≡ NoMemory → ⊥) → e ≡ f
 
+-- the error that is kept, or the one that was given at a mark of that place
+abbrev pub KeepsFirst : Option Refused → (given : Option FaultKind) → Place → Option Refused → Type 0
+KeepsFirst kept given at after = (m : Mark) × (m.place ≡ at) × (after ≡ first_error kept given m)
+
+-- a copy of an error is kept where there is one, and want of memory where there is none for that
+abbrev pub KeepsCopy : Option Refused → Option Refused → Type 0
+KeepsCopy None kept = kept ≡ None
+KeepsCopy (Some f) None = ⊥
+KeepsCopy (Some f) (Some e) = (e.kind ≡ NoMemory → ⊥) → e ≡ f
+
+-- Where an error is kept, or the source gave one, a call fails with that, at that place; and else it gives what it
+-- gives.
+abbrev pub Unless : Option Refused → (given : Option FaultKind) → Place → (Fails : Refused → Type 0) → (Gives : Type 0)
+    → Type 0
+Unless None None at Fails Gives = Gives
+Unless (Some e) given at Fails Gives = Fails e
+Unless None (Some kind) at Fails Gives =
+    (m : Mark) × (m.place ≡ at) × Fails (record { kind = kind; mark = m; sources = [] })
+
+-- the error that a source has given by then, where none was handed out before
+abbrev pub error_since : (before now : Origin) → Option FaultKind
+error_since before now = if before.handed_out then None else now.error
+
+-- a call fails with the first error of the source, at the place up to which was read, and else it gives what it gives
+abbrev pub UnlessFailed : {I : Type 0} → (I → Origin) → (old new : Scanning I) → (Fails : Refused → Type 0)
+    → (Gives : Type 0) → Type 0
+UnlessFailed origin old new Fails Gives =
+    Unless old.source_error (error_since (origin old.items.cursor.input) (origin new.items.cursor.input))
+    new.items.cursor.place Fails Gives
+
+-- the source is asked for its error, unless a call failed; else all is as before
+abbrev pub Asks : (failed : Bool) → (old new : Origin) → Type 0
+Asks failed old new =
+    Goes old (record new { handed_out = old.handed_out })
+    × (failed ≡ false → new.handed_out ≡ (old.handed_out || is_some new.error))
+
+-- no more is left than before, and where it comes from is as before, but that its source was asked
+abbrev pub MovesAsked : {I : Type 0} → (I → ℕ) → (I → Origin) → (old new : Scanning I) → Type 0
+MovesAsked left origin old new =
+    (left new.items.cursor.input ≤ left old.items.cursor.input)
+    × Asks old.failed (origin old.items.cursor.input) (origin new.items.cursor.input)
+
+-- a call failed: nothing more is given, and nothing was
+pub record StopsBy {I : Type 0} (old new : Scanning I) (kind : FaultKind) : Type 0 where
+  pub failed : new.failed ≡ true
+  pub in_directive : new.failed_in_directive ≡ is_of_directive kind
+  pub first : new.first ≡ old.first
+  pub ended : new.ended ≡ old.ended
+
 -- ---- turns
 
 -- a turn was made, or none is left to make
@@ -109,6 +157,18 @@ TakesFree unread (Some i) s m =
     × StandsIn unread s (record m { queue = is })
 
 -- ---- tokens
+
+-- the start of the stream is given, where it wasn't yet
+abbrev pub GivesStart : Option Mark → Result (Option Token) Refused → Type 0
+GivesStart None r = Unit {0}
+GivesStart (Some m) (Ok (Some t)) = plain_token t ≡ marked StartOfStream m
+GivesStart (Some m) (Ok None) = ⊥
+GivesStart (Some m) (Err e) = ⊥
+
+-- the first token that waits, and a scanner is then in the state with the others
+abbrev pub TakesToken : {I : Type 0} → (I → Unread → Type 0) → Option PlainToken → Scanning I → TokenState → Type 0
+TakesToken unread t s m =
+    (t ≡ slice_get m.pending 0) × StandsIn unread s (record m { pending = drop 1 m.pending })
 
 abbrev pub is_end_kind : TokenKind → Bool
 is_end_kind EndOfStream = true
@@ -130,7 +190,10 @@ GivesNext (Some (Err e)) Lands given = Fails e given
 
 pub record StepsTo {I : Type 0} (unread : I → Unread → Type 0) (left : I → ℕ) (origin : I → Origin) (s : Scanning I)
     (r : Next) (t : Scanning I) : Type 0 where
-  pub known : (m : TokenState) → StandsIn unread s m → GivesNext r (StandsIn unread t) (next_token s.items.options m)
+  pub known : (m : TokenState) → StandsIn unread s m → UnlessFailed origin s t (λ e. r ≡ Some (Err e))
+      (GivesNext r (StandsIn unread t) (next_token s.items.options m))
+  pub source : s.failed ≡ false → UnlessFailed origin s t
+      (λ e. (r ≡ Some (Err e)) × KeepsCopy (Some e) t.source_error) (t.source_error ≡ None)
   pub over : s.failed ≡ true → (r ≡ None) × (t ≡ s)
   pub options : t.items.options ≡ s.items.options
-  pub moves : Moves left origin s.items.cursor t.items.cursor
+  pub moves : MovesAsked left origin s t

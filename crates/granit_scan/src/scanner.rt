@@ -1,5 +1,6 @@
 //! An input that is read into tokens, one for each call.
-ghost use Rattle.std.specs.Prelude.{◌≡◌, ◌≤◌, ◌||◌, [], true, false, None, Ok, is_none, drop, slice_get, IfErr, IfOk};
+ghost use Rattle.std.specs.Prelude.{◌≡◌, ◌≤◌, ◌||◌, [], true, false, None, Some, Ok, Err, is_none, drop, slice_get};
+ghost use Rattle.std.specs.Prelude.{IfErr, IfOk};
 ghost use Rattle.std.specs.Option.{option_map};
 ghost use Rattle.granit_base.specs.Place.{Unread};
 ghost use Rattle.granit_cursor.specs.Reading.{GivesTo, GoesTo, Moves, Stands};
@@ -11,7 +12,8 @@ ghost use Rattle.granit_input.specs.White.{holds};
 ghost use Rattle.granit_lexemes.specs.Here.{Here, first_place, mark_of};
 ghost use Rattle.granit_queue.specs.QueueViews.{queued_view};
 ghost use Rattle.granit_scan.specs.Scanning as spec;
-ghost use Rattle.granit_scan.specs.Scanning.{Keeps, StandsIn, TakesFree, TellsError};
+ghost use Rattle.granit_scan.specs.Scanning.{GivesStart, Keeps, KeepsCopy, KeepsFirst, MovesAsked, StandsIn, StopsBy};
+ghost use Rattle.granit_scan.specs.Scanning.{TakesFree, TakesToken, TellsError, UnlessFailed};
 ghost use Rattle.granit_scan.specs.TokenSteps as steps;
 ghost use Rattle.granit_scan.specs.TokenSteps.{TokenState};
 ghost use Rattle.granit_scan.specs.TokenViews.{plain_token};
@@ -142,12 +144,11 @@ impl<'input, T: BorrowedInput<'input>> Scanner<'input, T> {
         self.comments
     }
 
-    /// The error that the input's source gave, which is kept; Ok exactly where it gave none. No call for a token asks
-    /// the source.
+    /// The error that the input's source gave, which is kept; Ok exactly where it gave none.
     ///
     /// # Errors
     ///
-    /// That error, at the place up to which was read when this first met it, and `NoMemory`.
+    /// That error, at the place up to which was read when a call first met it, and `NoMemory`.
     pub fn check_source_error(&mut self) -> Result<(), ScanError>
         ensures told { TellsError self.new.source_error result }
         ensures kind { option_map spec.refused_kind self.new.source_error
@@ -162,11 +163,31 @@ impl<'input, T: BorrowedInput<'input>> Scanner<'input, T> {
         ensures left { T.left self.new.items.cursor.input ≤ T.left self.old.items.cursor.input }
         ensures origin { Gave (T.origin self.old.items.cursor.input) (T.origin self.new.items.cursor.input) }
     {
+        self.ask_source();
+        self.tell_source_error()
+    }
+
+    /// Asks the source for its error, which is kept where none is.
+    fn ask_source(&mut self)
+        ensures first { KeepsFirst self.old.source_error (error_given (T.origin self.old.items.cursor.input))
+            self.old.items.cursor.place self.new.source_error }
+        ensures kind { option_map spec.refused_kind self.new.source_error
+            ≡ spec.first_kind self.old.source_error (error_given (T.origin self.old.items.cursor.input)) }
+        ensures kept { (h : Here) → Stands T.unread self.old.items.cursor h → self.new.source_error
+            ≡ spec.first_error self.old.source_error (error_given (T.origin self.old.items.cursor.input)) (mark_of h) }
+        ensures known { (m : TokenState) → StandsIn T.unread self.old m → StandsIn T.unread self.new m }
+        ensures rest { self.new
+            ≡ record self.old { items = self.new.items; source_error = self.new.source_error } }
+        ensures items { self.new.items ≡ record (self.old.items) { cursor = self.new.items.cursor } }
+        ensures here { GoesTo T.unread self.old.items.cursor self.new.items.cursor (λ h. h) }
+        ensures place { self.new.items.cursor.place ≡ self.old.items.cursor.place }
+        ensures left { T.left self.new.items.cursor.input ≤ T.left self.old.items.cursor.input }
+        ensures origin { Gave (T.origin self.old.items.cursor.input) (T.origin self.new.items.cursor.input) }
+    {
         let mark = self.items.mark();
         let given = self.items.take_source_error();
         let kept = self.source_error.take();
         self.source_error = first_error(kept, given, mark);
-        self.tell_source_error()
     }
 
     /// The source's error, where one is kept.
@@ -179,62 +200,89 @@ impl<'input, T: BorrowedInput<'input>> Scanner<'input, T> {
         }
     }
 
-    /// The next token; none behind the end of the stream, and behind an error.
+    /// The error of the source, where one is kept. A copy stays, and want of memory where there is none for that.
+    fn give_source_error(&mut self) -> Option<ScanError>
+        ensures given { result ≡ self.old.source_error }
+        ensures kept { KeepsCopy result self.new.source_error }
+        ensures known { (m : TokenState) → StandsIn T.unread self.old m → StandsIn T.unread self.new m }
+        ensures rest { self.new ≡ record self.old { source_error = self.new.source_error } }
+    {
+        match self.source_error.take() {
+            None => None,
+            Some(error) => {
+                self.source_error = Some(copy_of(self.alloc, &error));
+                Some(error)
+            }
+        }
+    }
+
+    /// The next token; none behind the end of the stream, and behind an error. The first error of the input's source
+    /// stands in the place of whatever was read up to it.
     ///
     /// # Errors
     ///
     /// What is wrong with the input there, by the kinds of `docs/FAULTS.md`, and `NoMemory`.
     pub fn next_queued(&mut self) -> Result<Option<Token<'input>>, ScanError>
-        ensures known { (m : TokenState) → StandsIn T.unread self.old m → GivesTo (option_map plain_token) result
-            (StandsIn T.unread self.new) (steps.next_token self.old.items.options m) }
+        ensures known { (m : TokenState) → StandsIn T.unread self.old m
+            → UnlessFailed T.origin self.old self.new (λ e. result ≡ Err e)
+            (GivesTo (option_map plain_token) result (StandsIn T.unread self.new)
+            (steps.next_token self.old.items.options m)) }
+        ensures source { self.old.failed ≡ false → UnlessFailed T.origin self.old self.new
+            (λ e. (result ≡ Err e) × KeepsCopy (Some e) self.new.source_error)
+            (GivesStart self.old.first result × (self.new.source_error ≡ None)) }
         ensures ended { IfOk result (λ t. self.new.ended
             ≡ (self.old.ended || spec.is_end (option_map plain_token t))) }
-        ensures failed { IfErr result (λ e. (self.new.failed ≡ true)
-            × (self.new.failed_in_directive ≡ spec.is_of_directive e.kind)) }
+        ensures started { IfOk result (λ t. self.old.failed ≡ false → self.new.first ≡ None) }
+        ensures failed { IfErr result (λ e. StopsBy self.old self.new e.kind) }
         ensures going { IfOk result (λ t. self.new.failed_in_directive ≡ self.old.failed_in_directive) }
-        ensures source { (self.new.comments ≡ self.old.comments) × (self.new.source_error ≡ self.old.source_error) }
+        ensures comments { self.new.comments ≡ self.old.comments }
         ensures over { self.old.failed ≡ true → (result ≡ Ok None) × (self.new ≡ self.old) }
         ensures options { self.new.items.options ≡ self.old.items.options }
-        ensures moves { Moves T.left T.origin self.old.items.cursor self.new.items.cursor }
+        ensures moves { MovesAsked T.left T.origin self.old self.new }
     {
         if self.failed {
             return Ok(None);
         }
-        match self.first {
-            Some(start) => {
-                self.first = None;
-                Ok(Some(Token::new(Span::empty(start), TokenType::StreamStart)))
-            }
-            None => self.later_token(),
-        }
-    }
-
-    /// The next token behind the start of the stream.
-    fn later_token(&mut self) -> Result<Option<Token<'input>>, ScanError>
-        ensures known { (m : TokenState) → StandsIn T.unread self.old m → self.old.first ≡ None
-            → GivesTo (option_map plain_token) result (StandsIn T.unread self.new)
-            (steps.next_token self.old.items.options m) }
-        ensures ended { IfOk result (λ t. self.new.ended
-            ≡ (self.old.ended || spec.is_end (option_map plain_token t))) }
-        ensures failed { IfErr result (λ e. (self.new.failed ≡ true)
-            × (self.new.failed_in_directive ≡ spec.is_of_directive e.kind)) }
-        ensures going { IfOk result (λ t. self.new.failed_in_directive ≡ self.old.failed_in_directive) }
-        ensures source { (self.new.comments ≡ self.old.comments) × (self.new.source_error ≡ self.old.source_error) }
-        ensures options { self.new.items.options ≡ self.old.items.options }
-        ensures moves { Moves T.left T.origin self.old.items.cursor self.new.items.cursor }
-    {
-        match self.settle() {
+        match self.ready() {
             Ok(()) => Ok(self.take_token()),
             Err(error) => {
-                self.failed = true;
-                self.failed_in_directive = is_of_directive(error.kind());
+                self.stop(&error);
                 Err(error)
             }
         }
     }
 
-    /// The oldest token that waits goes.
+    /// Gives nothing more, for an error.
+    fn stop(&mut self, error: &ScanError)
+        ensures { self.new ≡ record self.old {
+          failed = true;
+          failed_in_directive = spec.is_of_directive (error.now.kind);
+        } }
+    {
+        self.failed = true;
+        self.failed_in_directive = is_of_directive(error.kind());
+    }
+
+    /// The start of the stream, or else the oldest token that waits, goes.
     fn take_token(&mut self) -> Option<Token<'input>>
+        ensures known { (m : TokenState) → StandsIn T.unread self.old m
+            → TakesToken T.unread (option_map plain_token result) self.new m }
+        ensures start { GivesStart self.old.first (Ok result) }
+        ensures ended { self.new.ended ≡ (self.old.ended || spec.is_end (option_map plain_token result)) }
+        ensures rest { self.new
+            ≡ record self.old { first = None; writer = self.new.writer; ended = self.new.ended } }
+    {
+        match self.first {
+            Some(start) => {
+                self.first = None;
+                Some(Token::new(Span::empty(start), TokenType::StreamStart))
+            }
+            None => self.pop_token(),
+        }
+    }
+
+    /// The oldest token that waits goes.
+    fn pop_token(&mut self) -> Option<Token<'input>>
         ensures first { option_map plain_token result ≡ slice_get self.old.writer.waiting 0 }
         ensures rest { self.new ≡ record self.old {
           writer = record (self.old.writer) { waiting = drop 1 self.old.writer.waiting };
@@ -244,6 +292,39 @@ impl<'input, T: BorrowedInput<'input>> Scanner<'input, T> {
         let token = self.writer.pop();
         self.ended = ends_stream(self.ended, &token);
         token
+    }
+
+    /// Turns until a token waits, or nothing is left, or the error of the source in the place of all that.
+    fn ready(&mut self) -> Result<(), ScanError>
+        ensures known { (m : TokenState) → StandsIn T.unread self.old m
+            → UnlessFailed T.origin self.old self.new (λ e. result ≡ Err e)
+            (GivesTo spec.no_tokens result (StandsIn T.unread self.new) (steps.settle self.old.items.options m)) }
+        ensures source { UnlessFailed T.origin self.old self.new
+            (λ e. (result ≡ Err e) × KeepsCopy (Some e) self.new.source_error)
+            (IfErr result (λ e. self.old.first ≡ None) × (self.new.source_error ≡ None)) }
+        ensures keeps { Keeps (record self.old { source_error = self.new.source_error }) self.new }
+        ensures moves { MovesAsked T.left T.origin self.old self.new }
+    {
+        let settled = self.settle_behind_start();
+        self.ask_source();
+        match self.give_source_error() {
+            None => settled,
+            Some(error) => Err(error),
+        }
+    }
+
+    /// As `settle`, once the start of the stream was given; before, that waits.
+    fn settle_behind_start(&mut self) -> Result<(), ScanError>
+        ensures known { (m : TokenState) → StandsIn T.unread self.old m
+            → GivesTo spec.no_tokens result (StandsIn T.unread self.new) (steps.settle self.old.items.options m) }
+        ensures start { IfErr result (λ e. self.old.first ≡ None) }
+        ensures keeps { Keeps self.old self.new }
+        ensures moves { Moves T.left T.origin self.old.items.cursor self.new.items.cursor }
+    {
+        match self.first {
+            Some(_) => Ok(()),
+            None => self.settle(),
+        }
     }
 
     /// Turns until a token waits, or nothing is left.
@@ -362,6 +443,16 @@ fn is_of_directive(kind: &ErrorKind) -> bool
     of_any || of_tag
 }
 
+/// A copy of an error, or want of memory.
+fn copy_of(alloc: Global, error: &ScanError) -> ScanError
+    ensures { KeepsCopy (Some error.now) (Some result) }
+{
+    match error.try_clone(alloc) {
+        Ok(copy) => copy,
+        Err(error) => ScanError::from(error),
+    }
+}
+
 /// The error that is kept, or the one that was given at a place.
 fn first_error(kept: Option<ScanError>, given: Option<ErrorKind>, mark: Marker) -> Option<ScanError>
     ensures { result ≡ spec.first_error kept (option_map kind_of given) mark }
@@ -382,11 +473,7 @@ impl<'input, T: BorrowedInput<'input>> Iterator for Scanner<'input, T> {
     ghost next_gives = { λ p r q. StepsTo T.unread T.left T.origin p r q };
 
     fn next(&mut self) -> Option<Result<Token<'input>, ScanError>> {
-        match self.next_queued() {
-            Ok(None) => None,
-            Ok(Some(token)) => Some(Ok(token)),
-            Err(error) => Some(Err(error)),
-        }
+        self.next_queued().transpose()
     }
 }
 

@@ -13,7 +13,7 @@ returns-clause-ran g c =
     let written = g.W.Sink.written c.args.sink.now in
     let after = g.W.Sink.written c.run_once.new.sink in
     let once = c.run_once.ensures in
-    record {
+    λ other. record {
       ended = once.ended;
       read_fault = once.read_fault;
       write_fault = once.write_fault;

@@ -1,23 +1,53 @@
-use Rattle.std.proofs.Common.{◌≡◌, refl, sym, subst}
-use Rattle.granit_scan.specs.Scanning.{Scanning, StandsIn}
-use Rattle.granit_scan.specs.TokenViews.{StartOfStream, marked, plain_token}
-use Rattle.granit_scan.proofs.StateLemmas.{tells_start}
+use Rattle.std.proofs.Common.{Some, Ok, sym, ap, subst, ◌∙◌}
+use Rattle.std.specs.Prelude.{Option}
+use Rattle.granit_base.specs.Place.{Mark}
+use Rattle.granit_cursor.specs.declared.token.Token.{Token}
+use Rattle.granit_error.specs.Refused.{Refused}
+use Rattle.granit_scan.specs.Scanning.{GivesStart, KeepsCopy, Scanning}
+use Rattle.granit_scan.proofs.SourceLemmas.{failed_on, fails_as, moves_on, no_start}
+use Rattle.granit_scan.proofs.StateLemmas.{gives_token, next_fails}
 use Rattle.granit_scan.proofs.scanner.Scanner.next_queued.Goals as goal
 
-pub returns-in-Some-clause-known : goal.returns-in-Some-clause-known
-returns-in-Some-clause-known g c = λ m at.
-    let unread = g.T.Input.unread in
-    let inside : Scanning g.row.T.Denot = record {
-      items = c.self.inside.items;
-      writer = c.self.inside.writer;
-      first = c.self.inside.first;
-      ended = c.self.inside.ended;
-      failed = c.self.inside.failed;
-      failed_in_directive = c.self.inside.failed_in_directive;
-      comments = c.self.inside.comments;
-      source_error = c.self.inside.source_error;
-    } in
-    let here = subst (λ (s : Scanning g.row.T.Denot). StandsIn unread s m) (sym c.self.view_is) at in
-    let told : plain_token c.new.result ≡ marked StartOfStream c.in-Some.start =
-    rw c.new.ensures (rw c.empty.ensures refl) in
-    tells_start unread inside m here c.args.self.now.items.options c.in-Some.start c.new.result c.in-Some.is told
+pub returns-in-Ok-clause-known : goal.returns-in-Ok-clause-known
+returns-in-Ok-clause-known g c = λ m at.
+    let same = ap (λ (s : Scanning g.row.T.Denot). s.items) c.take_token.ensures.rest in
+    failed_on g.T.Input.origin c.args.self.now c.ready.new.self c.take_token.new.self same (λ e no. absurd cc)
+    (gives_token g.T.Input.unread c.in-Ok.field-0 c.args.self.now.items.options m c.ready.new.self
+    c.take_token.new.self c.take_token.result c.take_token.ensures.known) (c.in-Ok.ensures.known m at)
+
+pub returns-in-Ok-clause-source : goal.returns-in-Ok-clause-source
+returns-in-Ok-clause-source g c = λ going.
+    let same = ap (λ (s : Scanning g.row.T.Denot). s.items) c.take_token.ensures.rest in
+    let kept = ap (λ (s : Scanning g.row.T.Denot). s.source_error) c.take_token.ensures.rest in
+    let start = subst (λ (first : Option Mark). GivesStart first (Ok c.take_token.result)) c.in-Ok.ensures.keeps.first
+    c.take_token.ensures.start in
+    failed_on g.T.Input.origin c.args.self.now c.ready.new.self c.take_token.new.self same
+    (λ e no. absurd (let is = no.0 in cc)) (λ none. (start, kept ∙ none.1)) c.in-Ok.ensures.source
+
+pub returns-in-Ok-clause-moves : goal.returns-in-Ok-clause-moves
+returns-in-Ok-clause-moves g c =
+    moves_on g.T.Input.left g.T.Input.origin c.args.self.now c.ready.new.self c.take_token.new.self
+    (ap (λ (s : Scanning g.row.T.Denot). s.items) c.take_token.ensures.rest) c.in-Ok.ensures.moves
+
+pub returns-in-Err-clause-known : goal.returns-in-Err-clause-known
+returns-in-Err-clause-known g c = λ m at.
+    let same = ap (λ (s : Scanning g.row.T.Denot). s.items) c.stop.ensures in
+    failed_on g.T.Input.origin c.args.self.now c.ready.new.self c.stop.new.self same
+    (λ e is. fails_as (Unit {0}) (Option Token) c.in-Err.error e is)
+    (next_fails g.T.Input.unread c.args.self.now.items.options m c.in-Err.error) (c.in-Err.ensures.known m at)
+
+pub returns-in-Err-clause-source : goal.returns-in-Err-clause-source
+returns-in-Err-clause-source g c = λ going.
+    let same = ap (λ (s : Scanning g.row.T.Denot). s.items) c.stop.ensures in
+    let kept = ap (λ (s : Scanning g.row.T.Denot). s.source_error) c.stop.ensures in
+    failed_on g.T.Input.origin c.args.self.now c.ready.new.self c.stop.new.self same
+    (λ e is. (
+      fails_as (Unit {0}) (Option Token) c.in-Err.error e is.0,
+      subst (λ (r : Option Refused). KeepsCopy (Some e) r) (sym kept) is.1,
+    ))
+    (λ none. (no_start c.args.self.now.first c.in-Err.error none.0, kept ∙ none.1)) c.in-Err.ensures.source
+
+pub returns-in-Err-clause-moves : goal.returns-in-Err-clause-moves
+returns-in-Err-clause-moves g c =
+    moves_on g.T.Input.left g.T.Input.origin c.args.self.now c.ready.new.self c.stop.new.self
+    (ap (λ (s : Scanning g.row.T.Denot). s.items) c.stop.ensures) c.in-Err.ensures.moves

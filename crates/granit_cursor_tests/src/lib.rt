@@ -1,0 +1,5 @@
+//! Tests of granit_cursor by its public calls.
+#![tactic(auto)]
+
+#[cfg(test)]
+mod cursor;

@@ -1,0 +1,94 @@
+use Rattle.std.proofs.Common.{◌≡◌, ◌∙◌, [], ◌∷◌, Some, Err, true, false, sym, subst}
+use Rattle.std.specs.Prelude.{⊤}
+use Rattle.granit_base.specs.declared.place.Span.{Span}
+use Rattle.granit_error.specs.OptionsData.{OptionsData}
+use Rattle.granit_event.specs.declared.event.Event.{Event}
+use Rattle.granit_event.specs.Events.{plain_event}
+use Rattle.granit_parser.proofs.FirstLemmas.{first_is_last, first_is_refused, goes_behind, over_nowhere, tries_behind}
+use Rattle.granit_parser.proofs.FirstLemmas.{try_refused}
+use Rattle.granit_parser.proofs.MetLemmas.{try_tells, over_tells, rest_tells}
+use Rattle.granit_parser.proofs.parser.Parser.try_load.Goals as goal
+use Rattle.granit_parser.specs.Receiving.{IsPlaceOf, TriesRest, is_last, scanned}
+use Rattle.granit_receivers.proofs.TakingLemmas.{took_one}
+use Rattle.granit_receivers.specs.Taking.{Told, Took}
+
+pub returns-in-Some-clause-known : goal.returns-in-Some-clause-known
+returns-in-Some-clause-known g c = λ m at.
+    absurd (over_nowhere g.T.Input.unread c.args.self.now m c.in-Some.ensures.over at)
+
+pub returns-in_err-event-clause-known : goal.returns-in_err-event-clause-known
+returns-in_err-event-clause-known g c =
+    let r = g.R.TrySpannedEventReceiver in
+    let told : Told = record { events = r.taken c.args.recv.now; places = r.spans c.args.recv.now } in
+    λ m at.
+    try_refused g.T.Input.unread g.T.Input.origin c.args.self.now.stepper.scanner.options c.args.multi m told
+    c.first_event.new.self
+    c.in_err-event.field-0.0 (c.in_err-event.ensures.known m at) c.from_residual.result c.from_residual.ensures.1
+
+pub returns-in-Err-clause-known : goal.returns-in-Err-clause-known
+returns-in-Err-clause-known g c =
+    let r = g.R.TrySpannedEventReceiver in
+    let o = c.args.self.now.stepper.scanner.options in
+    let place = IsPlaceOf g.T.Input.unread c.first_event.new.self.stepper.scanner.cursor in
+    let x : Event × Span = (c.in_ok-event.event, c.in_ok-event.span) in
+    let old : Told = record { events = r.taken c.args.recv.now; places = r.spans c.args.recv.now } in
+    let new : Told = record { events = r.taken c.on_event.new.self; places = r.spans c.on_event.new.self } in
+    λ m at.
+    let first = c.in_ok-event.ensures.known m at in (
+      x ∷ [],
+      took_one old new x c.in-Err.ensures.events c.in-Err.ensures.places,
+      (first.0, first.1, first_is_refused o c.args.multi place m first.0 x first.2),
+    )
+
+pub returns-then-last-clause-known : goal.returns-then-last-clause-known
+returns-then-last-clause-known g c =
+    let r = g.R.TrySpannedEventReceiver in
+    let o = c.args.self.now.stepper.scanner.options in
+    let place = IsPlaceOf g.T.Input.unread c.first_event.new.self.stepper.scanner.cursor in
+    let x : Event × Span = (c.in_ok-event.event, c.in_ok-event.span) in
+    let old : Told = record { events = r.taken c.args.recv.now; places = r.spans c.args.recv.now } in
+    let new : Told = record { events = r.taken c.on_event.new.self; places = r.spans c.on_event.new.self } in
+    let last : is_last c.args.multi (plain_event x).kind ≡ true = sym c.is_last-last.ensures ∙ c.if-last.true in
+    λ m at.
+    let first = c.in_ok-event.ensures.known m at in (
+      x ∷ [],
+      took_one old new x c.on_event.ensures.events c.on_event.ensures.places,
+      (first.0, first.1, first_is_last o c.args.multi place m first.0 x last first.2),
+    )
+
+pub returns-clause-known : goal.returns-clause-known
+returns-clause-known g c =
+    let r = g.R.TrySpannedEventReceiver in
+    let o = c.args.self.now.stepper.scanner.options in
+    let place = IsPlaceOf g.T.Input.unread c.first_event.new.self.stepper.scanner.cursor in
+    let x : Event × Span = (c.in_ok-event.event, c.in_ok-event.span) in
+    let old : Told = record { events = r.taken c.args.recv.now; places = r.spans c.args.recv.now } in
+    let mid : Told = record { events = r.taken c.on_event.new.self; places = r.spans c.on_event.new.self } in
+    let new : Told = record { events = r.taken c.try_rest.new.recv; places = r.spans c.try_rest.new.recv } in
+    let more : is_last c.args.multi (plain_event x).kind ≡ false = sym c.is_last-last.ensures ∙ c.if-last.false in
+    λ m at.
+    let first = c.in_ok-event.ensures.known m at in
+    tries_behind g.T.Input.unread g.T.Input.origin o c.args.multi m first.0 x old mid new c.try_rest.new.self more
+    (goes_behind o c.args.multi place m first.0 (plain_event x) more first.2)
+    (took_one old mid x c.on_event.ensures.events c.on_event.ensures.places) c.try_rest.result
+    (subst (λ (q : OptionsData). TriesRest g.T.Input.unread g.T.Input.origin q c.args.multi first.0 (Took mid new)
+    c.try_rest.new.self c.try_rest.result) c.in_ok-event.ensures.options
+    (c.try_rest.ensures.known first.0 first.1))
+
+pub returns-in-Some-clause-source : goal.returns-in-Some-clause-source
+returns-in-Some-clause-source g c =
+    over_tells g.T.Input.left g.T.Input.origin c.args.self.now.stepper {X = ⊤} c.args.self.now.peeked
+    (Some (Err c.in-Some.error)) c.args.self.now.stepper.scanner.cursor c.in-Some.ensures.over.failed
+
+pub returns-in_err-event-clause-source : goal.returns-in_err-event-clause-source
+returns-in_err-event-clause-source g c =
+    try_tells g.T.Input.left g.T.Input.origin c.args.self.now.stepper c.args.self.now.peeked c.in_err-event.field-0.0
+    c.first_event.new.self.stepper.scanner.cursor c.from_residual.result c.from_residual.ensures.1
+    c.in_err-event.ensures.source
+
+pub returns-clause-source : goal.returns-clause-source
+returns-clause-source g c =
+    rest_tells g.T.Input.left g.T.Input.origin c.args.self.now.stepper c.args.self.now.peeked
+    (c.in_ok-event.event, c.in_ok-event.span) c.first_event.new.self (scanned c.try_rest.result)
+    c.try_rest.new.self.stepper.scanner.cursor c.in_ok-event.ensures.source c.in_ok-event.ensures.moves
+    c.in_ok-event.ensures.peeked c.try_rest.ensures.source

@@ -1,0 +1,171 @@
+use Rattle.std.proofs.Common.{◌≡◌, ◌∙◌, Result, Ok, Err, Some, None, ap, true, false, refl, rules, subst, sym}
+use Rattle.granit_base.specs.declared.place.Span.{Span}
+use Rattle.granit_error.specs.Refused.{Refused}
+use Rattle.granit_event.specs.declared.event.Event.{Event}
+use Rattle.granit_event.specs.Events.{plain_event}
+use Rattle.granit_parser.proofs.GatherLemmas.{TookOr}
+use Rattle.granit_parser.proofs.MetLemmas.{met_behind, quiet_first, quiet_on, unmet}
+use Rattle.granit_parser.proofs.SendLemmas.{sent_none, sent_event, sent_last, sent_all, sent_fault, sent_no_more}
+use Rattle.granit_parser.proofs.SendLemmas.{sent_refused}
+use Rattle.granit_parser.proofs.SourceLemmas.{goes_giving, moves_behind}
+use Rattle.granit_parser.proofs.parser.Parser.try_rest.Goals as goal
+use Rattle.granit_parser.specs.Parsing.{Keeps}
+use Rattle.granit_parser.specs.Receiving.{is_last}
+use Rattle.granit_receivers.proofs.TakingLemmas.{took_one}
+use Rattle.granit_receivers.specs.Taking.{Told}
+
+pub events-init : goal.events-init
+events-init g c = let r = g.R.TrySpannedEventReceiver in record {
+  sent = sent_none g.T.Input.unread c.args.self.now c.args.multi
+      (record { events = r.taken c.args.recv.now; places = r.spans c.args.recv.now });
+  same = refl;
+  given = refl;
+  errors = refl;
+  moves = search rules;
+  quiet = λ none. quiet_first g.T.Input.origin c.args.self.now none;
+}
+
+pub returns-in-None-clause-known : goal.returns-in-None-clause-known
+returns-in-None-clause-known g c =
+    let r = g.R.TrySpannedEventReceiver in
+    sent_all g.T.Input.unread g.T.Input.origin c.args.self.now c.events.self c.next_event.new.self c.args.multi
+    (record { events = r.taken c.args.recv.now; places = r.spans c.args.recv.now })
+    (record { events = r.taken c.events.recv; places = r.spans c.events.recv })
+    (record { events = r.taken c.events.recv; places = r.spans c.events.recv })
+    c.events.invariant.same c.events.invariant.sent c.in-None.ensures.known
+
+pub returns-in-Err-clause-known : goal.returns-in-Err-clause-known
+returns-in-Err-clause-known g c =
+    let r = g.R.TrySpannedEventReceiver in
+    let x : Event × Span = (c.in-Some-Ok.event, c.in-Some-Ok.span) in
+    let old : Told = record { events = r.taken c.args.recv.now; places = r.spans c.args.recv.now } in
+    let mid : Told = record { events = r.taken c.events.recv; places = r.spans c.events.recv } in
+    let new : Told = record { events = r.taken c.on_event.new.self; places = r.spans c.on_event.new.self } in
+    sent_refused g.T.Input.unread g.T.Input.origin c.args.self.now c.events.self c.next_event.new.self c.args.multi
+    old mid new
+    c.events.invariant.same c.events.invariant.sent (λ mark. ⊥) x
+    (subst (λ (y : Result (Event × Span) Refused). TookOr g.T.Input.unread g.T.Input.origin c.events.self (Some y)
+    c.next_event.new.self)
+    c.in-Some-Ok.field-0-is c.in-Some-Ok.ensures.known)
+    (took_one mid new x c.in-Err.ensures.events c.in-Err.ensures.places)
+
+pub returns-then-last-clause-known : goal.returns-then-last-clause-known
+returns-then-last-clause-known g c =
+    let r = g.R.TrySpannedEventReceiver in
+    let x : Event × Span = (c.in-Some-Ok.event, c.in-Some-Ok.span) in
+    let old : Told = record { events = r.taken c.args.recv.now; places = r.spans c.args.recv.now } in
+    let mid : Told = record { events = r.taken c.events.recv; places = r.spans c.events.recv } in
+    let new : Told = record { events = r.taken c.on_event.new.self; places = r.spans c.on_event.new.self } in
+    let last : is_last c.args.multi (plain_event x).kind ≡ true = sym c.is_last-last.ensures ∙ c.if-last.true in
+    sent_last g.T.Input.unread g.T.Input.origin c.args.self.now c.events.self c.next_event.new.self c.args.multi old
+    mid new c.events.invariant.same c.events.invariant.sent x
+    (subst (λ (y : Result (Event × Span) Refused). TookOr g.T.Input.unread g.T.Input.origin c.events.self (Some y)
+    c.next_event.new.self)
+    c.in-Some-Ok.field-0-is c.in-Some-Ok.ensures.known)
+    last
+    (took_one mid new x c.on_event.ensures.events c.on_event.ensures.places)
+
+pub events-preserved : goal.events-preserved
+events-preserved g c =
+    let r = g.R.TrySpannedEventReceiver in
+    let x : Event × Span = (c.in-Some-Ok.event, c.in-Some-Ok.span) in
+    let old : Told = record { events = r.taken c.args.recv.now; places = r.spans c.args.recv.now } in
+    let mid : Told = record { events = r.taken c.events.recv; places = r.spans c.events.recv } in
+    let new : Told = record { events = r.taken c.on_event.new.self; places = r.spans c.on_event.new.self } in
+    let more : is_last c.args.multi (plain_event x).kind ≡ false = sym c.is_last-last.ensures ∙ c.if-last.false in
+    record {
+      sent =
+          sent_event g.T.Input.unread g.T.Input.origin c.args.self.now c.events.self c.next_event.new.self
+          c.args.multi old mid new c.events.invariant.same c.events.invariant.sent x
+          (subst
+          (λ (y : Result (Event × Span) Refused). TookOr g.T.Input.unread g.T.Input.origin c.events.self (Some y)
+          c.next_event.new.self)
+          c.in-Some-Ok.field-0-is c.in-Some-Ok.ensures.known)
+          more
+          (took_one mid new x c.on_event.ensures.events c.on_event.ensures.places);
+      same = c.in-Some-Ok.ensures.options ∙ c.events.invariant.same;
+      given =
+          subst (λ (y : Result (Event × Span) Refused). Keeps (Some y) c.events.self.given c.next_event.new.self.given)
+          c.in-Some-Ok.field-0-is c.in-Some-Ok.ensures.given ∙ c.events.invariant.given;
+      errors = c.in_default.ensures.same ∙ c.events.invariant.errors;
+      moves = moves_behind g.T.Input.left g.T.Input.origin (Some c.in-Some-Ok.field-0) (Some (Ok x))
+          c.args.self.now.stepper.scanner.cursor c.events.self c.next_event.new.self (ap Some c.in-Some-Ok.field-0-is)
+          c.in-Some-Ok.ensures.seen c.in-Some-Ok.ensures.moves c.events.invariant.moves;
+      quiet = quiet_on g.T.Input.left g.T.Input.origin c.args.self.now c.events.self c.next_event.new.self
+          c.events.invariant.quiet c.events.invariant.moves (Some c.in-Some-Ok.field-0) x
+          (ap Some c.in-Some-Ok.field-0-is) c.in-Some-Ok.ensures.source c.in-Some-Ok.ensures.over
+          c.in-Some-Ok.ensures.peeked;
+    }
+
+pub returns-in-None-clause-moves : goal.returns-in-None-clause-moves
+returns-in-None-clause-moves g c =
+    moves_behind g.T.Input.left g.T.Input.origin None None c.args.self.now.stepper.scanner.cursor c.events.self
+    c.next_event.new.self refl c.in-None.ensures.seen c.in-None.ensures.moves c.events.invariant.moves
+
+pub returns-in-Some-Err-clause-moves : goal.returns-in-Some-Err-clause-moves
+returns-in-Some-Err-clause-moves g c =
+    moves_behind g.T.Input.left g.T.Input.origin (Some c.in-Some-Err.field-0) (Some (Err c.in-Some-Err.error))
+    c.args.self.now.stepper.scanner.cursor c.events.self c.next_event.new.self (ap Some c.in-Some-Err.field-0-is)
+    c.in-Some-Err.ensures.seen c.in-Some-Err.ensures.moves c.events.invariant.moves
+
+pub returns-then-last-clause-moves : goal.returns-then-last-clause-moves
+returns-then-last-clause-moves g c =
+    moves_behind g.T.Input.left g.T.Input.origin (Some c.in-Some-Ok.field-0)
+    (Some (Ok (c.in-Some-Ok.event, c.in-Some-Ok.span))) c.args.self.now.stepper.scanner.cursor c.events.self
+    c.next_event.new.self (ap Some c.in-Some-Ok.field-0-is) c.in-Some-Ok.ensures.seen c.in-Some-Ok.ensures.moves
+    c.events.invariant.moves
+
+pub returns-clause-moves : goal.returns-clause-moves
+returns-clause-moves g c =
+    rw c.run_out.ensures.same (c.events.invariant.moves.0, goes_giving _ _ c.events.invariant.moves.1)
+
+pub returns-in-Some-Err-clause-known : goal.returns-in-Some-Err-clause-known
+returns-in-Some-Err-clause-known g c =
+    let r = g.R.TrySpannedEventReceiver in
+    let old : Told = record { events = r.taken c.args.recv.now; places = r.spans c.args.recv.now } in
+    let mid : Told = record { events = r.taken c.events.recv; places = r.spans c.events.recv } in
+    sent_fault g.T.Input.unread g.T.Input.origin c.args.self.now c.events.self c.next_event.new.self c.args.multi old
+    mid
+    mid c.events.invariant.same c.events.invariant.sent c.in-Some-Err.error
+    (subst (λ (y : Result (Event × Span) Refused). TookOr g.T.Input.unread g.T.Input.origin c.events.self (Some y)
+    c.next_event.new.self) c.in-Some-Err.field-0-is c.in-Some-Err.ensures.known)
+
+pub returns-clause-known : goal.returns-clause-known
+returns-clause-known g c =
+    let r = g.R.TrySpannedEventReceiver in
+    let old : Told = record { events = r.taken c.args.recv.now; places = r.spans c.args.recv.now } in
+    let mid : Told = record { events = r.taken c.events.recv; places = r.spans c.events.recv } in
+    sent_no_more g.T.Input.unread g.T.Input.origin c.args.self.now c.events.self c.run_out.new.self c.args.multi old mid
+    mid c.events.invariant.same c.events.invariant.sent c.run_out.result c.run_out.ensures.kind
+
+pub returns-in-None-clause-source : goal.returns-in-None-clause-source
+returns-in-None-clause-source g c =
+    met_behind g.T.Input.left g.T.Input.origin c.args.self.now c.events.self c.next_event.new.self
+    c.events.invariant.quiet c.events.invariant.moves None None refl c.in-None.ensures.source
+    c.in-None.ensures.over
+
+pub returns-in-Some-Err-clause-source : goal.returns-in-Some-Err-clause-source
+returns-in-Some-Err-clause-source g c =
+    met_behind g.T.Input.left g.T.Input.origin c.args.self.now c.events.self c.next_event.new.self
+    c.events.invariant.quiet c.events.invariant.moves (Some c.in-Some-Err.field-0) (Some (Err c.in-Some-Err.error))
+    (ap Some c.in-Some-Err.field-0-is) c.in-Some-Err.ensures.source
+    c.in-Some-Err.ensures.over
+
+pub returns-then-last-clause-source : goal.returns-then-last-clause-source
+returns-then-last-clause-source g c =
+    met_behind g.T.Input.left g.T.Input.origin c.args.self.now c.events.self c.next_event.new.self
+    c.events.invariant.quiet c.events.invariant.moves (Some c.in-Some-Ok.field-0)
+    (Some (Ok (c.in-Some-Ok.event, c.in-Some-Ok.span))) (ap Some c.in-Some-Ok.field-0-is) c.in-Some-Ok.ensures.source
+    c.in-Some-Ok.ensures.over
+
+pub returns-in-Err-clause-source : goal.returns-in-Err-clause-source
+returns-in-Err-clause-source g c =
+    met_behind g.T.Input.left g.T.Input.origin c.args.self.now c.events.self c.next_event.new.self
+    c.events.invariant.quiet c.events.invariant.moves (Some c.in-Some-Ok.field-0)
+    (Some (Ok (c.in-Some-Ok.event, c.in-Some-Ok.span))) (ap Some c.in-Some-Ok.field-0-is) c.in-Some-Ok.ensures.source
+    c.in-Some-Ok.ensures.over
+
+pub returns-clause-source : goal.returns-clause-source
+returns-clause-source g c = λ none f met before fresh.
+    absurd (unmet g.T.Input.left g.T.Input.origin c.args.self.now c.events.self c.run_out.new.self
+    c.events.invariant.quiet c.events.invariant.moves c.run_out.ensures.same none f met before fresh)

@@ -1,0 +1,20 @@
+use Rattle.std.proofs.Common.{◌≡◌, None}
+use Rattle.granit_cursor.specs.Reading.{Moves}
+use Rattle.granit_parser.proofs.MetLemmas.{Quiet}
+use Rattle.granit_parser.proofs.SendLemmas.{SentFirst}
+use Rattle.granit_parser.proofs.parser.Parser.try_rest.Given as goal
+
+abbrev pub invariant-events : goal.invariant-events
+invariant-events g l = record {
+  sent : SentFirst g.T.Input.unread l.fn.self l.self l.multi
+      (record {
+        events = g.R.TrySpannedEventReceiver.taken l.fn.recv;
+        places = g.R.TrySpannedEventReceiver.spans l.fn.recv;
+      })
+      (record { events = g.R.TrySpannedEventReceiver.taken l.recv; places = g.R.TrySpannedEventReceiver.spans l.recv });
+  same : l.self.stepper.scanner.options ≡ l.fn.self.stepper.scanner.options;
+  given : l.self.given ≡ l.fn.self.given;
+  errors : g.R.TrySpannedEventReceiver.errors l.recv ≡ g.R.TrySpannedEventReceiver.errors l.fn.recv;
+  moves : Moves g.T.Input.left g.T.Input.origin l.fn.self.stepper.scanner.cursor l.self.stepper.scanner.cursor;
+  quiet : l.fn.self.peeked ≡ None → Quiet g.T.Input.origin l.fn.self l.self;
+}

@@ -1,0 +1,161 @@
+-- What `load` and `try_load` send to a receiver.
+use Rattle.std.specs.Prelude.{◌≡◌, ◌⊎◌, ℕ, Bool, true, false, not, List, [], ◌∷◌, ◌++◌, Option, Some, None}
+use Rattle.std.specs.Prelude.{Result, Ok, Err, IfOk, IfErr}
+use Rattle.granit_base.specs.Place.{Mark, Unread}
+use Rattle.granit_base.specs.declared.place.Span.{Span}
+use Rattle.granit_cursor.specs.Reading.{Reading, Stands}
+use Rattle.granit_error.specs.OptionsData.{OptionsData}
+use Rattle.granit_error.specs.Refused.{Refused}
+use Rattle.granit_event.specs.declared.event.Event.{Event}
+use Rattle.granit_event.specs.Events.{plain_event, plain_events}
+use Rattle.granit_input.specs.Origin.{Origin}
+use Rattle.granit_lexemes.specs.Here.{Here, mark_of}
+use Rattle.granit_lexemes.specs.Outcome.{Fault, Fails}
+use Rattle.granit_lexemes.specs.PlainEvent.{PlainEvent, EventKind, StreamEnd, DocumentEnd, event_on}
+use Rattle.granit_parser.specs.Parsing.{IsKept, Parsing, StandsAt}
+use Rattle.granit_parser.specs.Sources.{IsSourceError}
+use Rattle.granit_receivers.specs.Counts.{Rose}
+use Rattle.granit_receivers.specs.declared.error.TryLoadError.{TryLoadError}
+use Rattle.granit_receivers.specs.declared.error.TryLoadError.TheVariants.{Scan, Receiver}
+use Rattle.granit_steps.specs.Steps.{StepState, next_event}
+
+-- whether an event is the last that is sent: the end of the stream, or of a document where one is all that is wanted
+abbrev pub is_last : (multi : Bool) → EventKind → Bool
+is_last multi StreamEnd = true
+is_last multi DocumentEnd = not multi
+is_last multi kind = false
+
+-- one by one these events are given from a state up to another one, and none of them is the last that is sent
+pub data GoesOn (o : OptionsData) (multi : Bool) : StepState → List PlainEvent → StepState → Type 0 where
+  none_sent : {m : StepState} → GoesOn o multi m [] m
+  sent_on : {m next after : StepState} {e : PlainEvent} {es : List PlainEvent} → next_event o m ≡ Ok (Some e, next)
+      → is_last multi e.kind ≡ false → GoesOn o multi next es after → GoesOn o multi m (e ∷ es) after
+
+-- all that is sent from a state on, and the state behind it: up to the last, or until nothing is left
+pub data Sends (o : OptionsData) (multi : Bool) : StepState → List PlainEvent → StepState → Type 0 where
+  none_left : {m after : StepState} → next_event o m ≡ Ok (None, after) → Sends o multi m [] after
+  sends_last : {m after : StepState} {e : PlainEvent} → next_event o m ≡ Ok (Some e, after)
+      → is_last multi e.kind ≡ true → Sends o multi m (e ∷ []) after
+  sends_on : {m next after : StepState} {e : PlainEvent} {es : List PlainEvent} → next_event o m ≡ Ok (Some e, next)
+      → is_last multi e.kind ≡ false → Sends o multi next es after → Sends o multi m (e ∷ es) after
+
+-- the same where at least one event is sent: where nothing is left, the end of the stream comes once more
+pub data SendsSome (o : OptionsData) (multi : Bool) (IsPlace : Mark → Type 0)
+    : StepState → List PlainEvent → StepState → Type 0 where
+  end_again : {m after : StepState} {mark : Mark} → next_event o m ≡ Ok (None, after) → IsPlace mark
+      → SendsSome o multi IsPlace m (event_on StreamEnd mark ∷ []) after
+  sends_some : {m next after : StepState} {e : PlainEvent} {es : List PlainEvent}
+      → next_event o m ≡ Ok (Some e, next) → Sends o multi m es after → SendsSome o multi IsPlace m es after
+
+-- what is sent up to an event that the receiver refuses, and the state behind that event
+pub data SendsUpTo (o : OptionsData) (multi : Bool) (IsPlace : Mark → Type 0)
+    : StepState → List PlainEvent → StepState → Type 0 where
+  up_to_end_again : {m after : StepState} {mark : Mark} → next_event o m ≡ Ok (None, after) → IsPlace mark
+      → SendsUpTo o multi IsPlace m (event_on StreamEnd mark ∷ []) after
+  up_to_this : {m next after : StepState} {e : PlainEvent} {es : List PlainEvent} → GoesOn o multi m es next
+      → next_event o next ≡ Ok (Some e, after) → SendsUpTo o multi IsPlace m (es ++ (e ∷ [])) after
+
+-- the place up to which a cursor is known to have read
+abbrev pub IsPlaceOf : {I : Type 0} → (I → Unread → Type 0) → Reading I → Mark → Type 0
+IsPlaceOf unread r mark = (h : Here) → Stands unread r h → mark ≡ mark_of h
+
+-- ---- what is answered, by what the receiver took and where the parser then stands
+
+-- a refusal comes behind events that were sent: the machine's, unless memory ran out, or the error of the source
+abbrev pub RefusesBehind : {I : Type 0} → (I → Origin) → OptionsData → Bool → StepState
+    → (List (Event × Span) → Type 0) → Reading I → Refused → Type 0
+RefusesBehind origin o multi m Takes at e =
+    (xs : List (Event × Span)) × Takes xs
+    × ((n : StepState) × GoesOn o multi m (plain_events xs) n
+    × (Fails e (next_event o n) ⊎ IsSourceError (origin at.input) at.place e))
+
+-- these events were sent, and the parser stands behind them
+abbrev pub StandsBehind : {I : Type 0} → (I → Unread → Type 0) → (List (Event × Span) → Type 0) → Parsing I
+    → (List PlainEvent → StepState → Type 0) → Type 0
+StandsBehind unread Takes p Sent =
+    (xs : List (Event × Span)) × Takes xs
+    × ((after : StepState) × StandsAt unread p after × Sent (plain_events xs) after)
+
+-- what is sent behind the first event
+abbrev pub LoadsRest : {I X : Type 0} → (I → Unread → Type 0) → (I → Origin) → OptionsData → Bool → StepState
+    → (List (Event × Span) → Type 0) → Parsing I → Result X Refused → Type 0
+LoadsRest unread origin o multi m Takes p (Ok x) = StandsBehind unread Takes p (Sends o multi m)
+LoadsRest unread origin o multi m Takes p (Err e) = RefusesBehind origin o multi m Takes p.stepper.scanner.cursor e
+
+-- what is sent in all
+abbrev pub Loads : {I X : Type 0} → (I → Unread → Type 0) → (I → Origin) → OptionsData → Bool → StepState
+    → (List (Event × Span) → Type 0) → Parsing I → Result X Refused → Type 0
+Loads unread origin o multi m Takes p (Ok x) =
+    StandsBehind unread Takes p (SendsSome o multi (IsPlaceOf unread p.stepper.scanner.cursor) m)
+Loads unread origin o multi m Takes p (Err e) = RefusesBehind origin o multi m Takes p.stepper.scanner.cursor e
+
+-- the same where the receiver may refuse an event, the last one that it took
+abbrev pub TriesRest : {I X E : Type 0} → (I → Unread → Type 0) → (I → Origin) → OptionsData → Bool → StepState
+    → (List (Event × Span) → Type 0) → Parsing I → Result X (TryLoadError E) → Type 0
+TriesRest unread origin o multi m Takes p (Ok x) = StandsBehind unread Takes p (Sends o multi m)
+TriesRest unread origin o multi m Takes p (Err (Scan e)) =
+    RefusesBehind origin o multi m Takes p.stepper.scanner.cursor e
+TriesRest unread origin o multi m Takes p (Err (Receiver e)) =
+    StandsBehind unread Takes p (SendsUpTo o multi (λ mark. ⊥) m)
+
+abbrev pub Tries : {I X E : Type 0} → (I → Unread → Type 0) → (I → Origin) → OptionsData → Bool → StepState
+    → (List (Event × Span) → Type 0) → Parsing I → Result X (TryLoadError E) → Type 0
+Tries unread origin o multi m Takes p (Ok x) =
+    StandsBehind unread Takes p (SendsSome o multi (IsPlaceOf unread p.stepper.scanner.cursor) m)
+Tries unread origin o multi m Takes p (Err (Scan e)) = RefusesBehind origin o multi m Takes p.stepper.scanner.cursor e
+Tries unread origin o multi m Takes p (Err (Receiver e)) =
+    StandsBehind unread Takes p (SendsUpTo o multi (IsPlaceOf unread p.stepper.scanner.cursor) m)
+
+-- a count of a receiver's errors rose where it gave one, and is else as before
+abbrev pub CountsErrors : {X E : Type 0} → (old new : ℕ) → Result X (TryLoadError E) → Type 0
+CountsErrors old new (Ok x) = new ≡ old
+CountsErrors old new (Err (Scan e)) = new ≡ old
+CountsErrors old new (Err (Receiver e)) = Rose old new
+
+-- what the parser itself answered, where it didn't end by the receiver's refusal
+abbrev pub scanned : {X E : Type 0} → Result X (TryLoadError E) → Option (Result X Refused)
+scanned (Ok x) = Some (Ok x)
+scanned (Err (Scan e)) = Some (Err e)
+scanned (Err (Receiver e)) = None
+
+-- ---- refusals
+
+-- the same refusal, or want of memory
+abbrev pub GivesAgain : {X : Type 0} → Refused → Result X Refused → Type 0
+GivesAgain e r = IfOk r (λ x. ⊥) × IfErr r (λ f. IsKept e f)
+
+-- what was given, as it is given again
+abbrev pub KeptAgain : Option Refused → Option Refused → Type 0
+KeptAgain None r = r ≡ None
+KeptAgain (Some e) r = (f : Refused) × (r ≡ Some f) × IsKept e f
+
+-- a refusal is kept, and behind anything else none is
+abbrev pub KeepsRefusal : {X : Type 0} → Result X Refused → Option Refused → Type 0
+KeepsRefusal (Ok x) given = given ≡ None
+KeepsRefusal (Err e) given = (kept : Refused) × (given ≡ Some kept) × IsKept e kept
+
+-- the end of the stream, at the place up to which was read
+abbrev pub IsEndAt : {I : Type 0} → (I → Unread → Type 0) → Reading I → Event × Span → Type 0
+IsEndAt unread r x = (mark : Mark) × IsPlaceOf unread r mark × (plain_event x ≡ event_on StreamEnd mark)
+
+-- the first event that is sent is the machine's next, or, where it has none, the end of the stream at the place up to
+-- which was read; a refusal is the machine's, or the error of the source
+abbrev pub GivesFirst : {I : Type 0} → (I → Unread → Type 0) → (I → Origin) → Parsing I
+    → Result (Option PlainEvent × StepState) Fault → Result (Event × Span) Refused → Type 0
+GivesFirst unread origin p given (Ok x) =
+    (after : StepState) × StandsAt unread p after
+    × ((given ≡ Ok (Some (plain_event x), after))
+    ⊎ ((given ≡ Ok (None, after)) × IsEndAt unread p.stepper.scanner.cursor x))
+GivesFirst unread origin p given (Err e) =
+    Fails e given ⊎ IsSourceError (origin p.stepper.scanner.cursor.input) p.stepper.scanner.cursor.place e
+
+-- the same of a sending that the receiver may end: what it refuses is not kept
+abbrev pub KeepsScan : {X E : Type 0} → Result X (TryLoadError E) → Option Refused → Type 0
+KeepsScan (Ok x) given = given ≡ None
+KeepsScan (Err (Scan e)) given = (kept : Refused) × (given ≡ Some kept) × IsKept e kept
+KeepsScan (Err (Receiver e)) given = given ≡ None
+
+abbrev pub ScansAgain : {X E : Type 0} → Refused → Result X (TryLoadError E) → Type 0
+ScansAgain e (Ok x) = ⊥
+ScansAgain e (Err (Scan f)) = IsKept e f
+ScansAgain e (Err (Receiver f)) = ⊥

@@ -1,0 +1,10 @@
+//! What takes the events of a parser: receivers with and without places, which may refuse an event or not.
+#![tactic(auto)]
+
+mod error;
+mod receiver;
+
+pub use error::{ParseResult, TryLoadError};
+pub use receiver::{
+    EventReceiver, SpannedEventReceiver, TryEventReceiver, TrySpannedEventReceiver,
+};

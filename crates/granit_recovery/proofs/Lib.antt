@@ -1,0 +1,12 @@
+mod BoundaryLaws
+mod DropLaws
+mod FaultLaws
+mod FollowLaws
+mod IdLaws
+mod IdLemmas
+mod IdSteps
+mod LevelLaws
+mod PlaceLaws
+mod RecoveryLaws
+mod SkipLaws
+mod TurnLaws

@@ -1,0 +1,76 @@
+-- Places stay counted over what is dropped.
+use Rattle.std.proofs.Common.{◌≡◌, ℕ, zero, suc, Bool, true, false, ◌&&◌, ◌==◌, List, [], ◌∷◌, length, refl, sym, ap}
+use Rattle.std.proofs.Common.{◌∙◌, arith, subst}
+use Rattle.std.specs.Prelude.{if◌then◌else◌}
+use Rattle.std.proofs.lemmas.Bool.Decides.{nat_tests}
+use Rattle.granit_base.specs.Classes.{is_bom}
+use Rattle.granit_base.specs.Place.{first}
+use Rattle.granit_lexemes.specs.Here.{Here, next_char, step}
+use Rattle.granit_lexemes.specs.Moves.{past_prefix_mark, steps}
+use Rattle.granit_reading.proofs.Counting.{stepped_on, marked_on}
+use Rattle.granit_steps.proofs.Futures.{and_right}
+use Rattle.granit_recovery.proofs.BoundaryLaws.{finds_next}
+use Rattle.granit_recovery.specs.Boundary.{Boundary, over_dropped, next_boundary}
+use Rattle.granit_recovery.specs.BoundaryPlace.{place_of, IsCounted}
+use Rattle.granit_recovery.specs.NextBoundary.{Stands, stands_start, stands_end, stands_text_end, Next, next_here}
+use Rattle.granit_recovery.specs.NextBoundary.{next_behind}
+
+if_true : (b : Bool) (g h : Here) → b ≡ true → (if b then g else h) ≡ g
+if_true true g h e = refl
+if_true false g h e = absurd (cc)
+
+empty_step : (h : Here) → h.unread.text ≡ [] → step h ≡ h
+unfolding step
+empty_step h e = if_true (length h.unread.text == 0) h _ (ap (λ (t : List ℕ). length t == 0) e)
+
+counted_by : (x text : List ℕ) (h : Here) → h.unread.text ≡ text → IsCounted x h → IsCounted x (step h)
+counted_by x [] h e c = subst (IsCounted x) (sym (empty_step h e)) c
+counted_by x (d ∷ t) h e c = record {
+  index = suc c.index;
+  marks = c.marks;
+  counted = stepped_on x c.marks c.index d t h e c.counted;
+}
+
+counted_step : (x : List ℕ) (h : Here) → IsCounted x h → IsCounted x (step h)
+counted_step x h c = counted_by x h.unread.text h refl c
+
+counted_steps : (x : List ℕ) (n : ℕ) (h : Here) → IsCounted x h → IsCounted x (steps n h)
+unfolding steps
+counted_steps x zero h c = c
+counted_steps x (suc n) h c = counted_steps x n (step h) (counted_step x h c)
+
+bom_is : (c : ℕ) → is_bom c ≡ true → c ≡ 0xFEFF
+unfolding is_bom
+bom_is c e = grind (arith, nat_tests)
+
+marked_by : (x text : List ℕ) (h : Here) → h.unread.text ≡ text → next_char h ≡ 0xFEFF → IsCounted x h
+    → IsCounted x (past_prefix_mark h)
+marked_by x [] h e bom c = absurd (let f : 0 ≡ 0xFEFF = ap first (sym e) ∙ bom in cc)
+marked_by x (d ∷ t) h e bom c =
+    let f : d ≡ 0xFEFF = ap first (sym e) ∙ bom in
+    record {
+      index = suc c.index;
+      marks = c.index ∷ c.marks;
+      counted = marked_on x c.marks c.index t h (e ∙ ap (λ d. d ∷ t) f) c.counted;
+    }
+
+dropped_by : (b : Bool) (x : List ℕ) (h : Here) → (h.place.column == 0 && is_bom (next_char h)) ≡ b → IsCounted x h
+    → IsCounted x (if b then past_prefix_mark h else step h)
+dropped_by true x h e c =
+    marked_by x h.unread.text h refl (bom_is (next_char h) (and_right (h.place.column == 0) (is_bom (next_char h)) e)) c
+dropped_by false x h e c = counted_step x h c
+
+stands_counted : (x : List ℕ) (h : Here) (b : Boundary) → Stands h b → IsCounted x h → IsCounted x (place_of b)
+stands_counted x h b (stands_start behind column text separated) c = c
+stands_counted x h b (stands_end line behind column text separated finishes ends) c =
+    counted_steps x (length line) (steps 3 h) (counted_steps x 3 h c)
+stands_counted x h b (stands_text_end text) c = c
+
+next_counted : (x : List ℕ) (h : Here) (b : Boundary) → Next h b → IsCounted x h → IsCounted x (place_of b)
+next_counted x h b (next_here p) c = stands_counted x h b p c
+next_counted x h b (next_behind none more) c =
+    next_counted x (over_dropped h) b more (dropped_by (h.place.column == 0 && is_bom (next_char h)) x h refl c)
+
+-- the boundary stands at a counted place
+pub boundary_counted : (x : List ℕ) (h : Here) → IsCounted x h → IsCounted x (place_of (next_boundary h))
+boundary_counted x h c = next_counted x h (next_boundary h) (finds_next h) c

@@ -1,0 +1,344 @@
+-- What recovery leaves: a stream goes on, ids aren't given again, and a refusal stays.
+use Rattle.std.proofs.Common.{◌≡◌, ℕ, zero, suc, Bool, true, false, ◌||◌, ◌⊎◌, inl, inr, List, [], ◌∷◌, Option}
+use Rattle.std.proofs.Common.{Some, None, is_some, Result, Ok, Err, refl, sym, ap, subst, ◌∙◌}
+use Rattle.std.specs.Prelude.{if◌then◌else◌}
+use Rattle.granit_error.specs.OptionsData.{OptionsData}
+use Rattle.granit_lexemes.specs.Here.{mark_of, start_of}
+use Rattle.granit_lexemes.specs.Outcome.{Fault}
+use Rattle.granit_lexemes.specs.Pieces.{turns, pieces}
+use Rattle.granit_lexemes.specs.PlainEvent.{PlainEvent, EventKind, event_on, StreamStart, StreamEnd, DocumentStart}
+use Rattle.granit_lexemes.specs.PlainEvent.{DocumentEnd}
+use Rattle.granit_lexemes.specs.PlainEvent.{Alias, UnresolvedAlias, Anchor, Comment, Scalar, SequenceStart, SequenceEnd}
+use Rattle.granit_lexemes.specs.PlainEvent.{MappingStart, MappingEnd}
+use Rattle.granit_recovery.proofs.LevelLaws.{Open, in_stream, event_keeps, document_leaves, can_close}
+use Rattle.granit_recovery.proofs.SkipLaws.{Known, known_start, known_along, Resumes, resumes, silent, Good}
+use Rattle.granit_recovery.proofs.SkipLaws.{start_along}
+use Rattle.granit_recovery.proofs.SkipLaws.{fault_skipped, document_skipped}
+use Rattle.granit_recovery.proofs.TurnLaws.{Along, Told, NextAlong, next_along, failing_along}
+use Rattle.granit_recovery.specs.Calls.{Calls, noted, failing_in, failing, Given, given_by, next_call}
+use Rattle.granit_recovery.specs.Recovery.{resumed, skipped_by, skipped, starts_by, looked_by, answered, recovered}
+use Rattle.granit_recovery.specs.Recovery.{extra_of, recover_with, recover}
+use Rattle.granit_recovery.specs.Streams.{GoesOn, Gives, gives_none, gives_next, Reached, reached_start, reached_call}
+use Rattle.granit_recovery.specs.Streams.{reached_recovery}
+use Rattle.granit_steps.specs.Levels.{Level, InStream, and_then, behind_event, behind_events}
+use Rattle.granit_steps.specs.Steps.{StepState, step_turn, step_size, next_event, steps_start}
+
+-- ---- one event
+
+abbrev NextKnown : Result (Option PlainEvent × StepState) Fault → Type 0
+NextKnown (Ok (Some e, t)) = Known t × (e.kind ≡ DocumentEnd → Along (InStream ∷ []) t)
+NextKnown (Ok (None, t)) = Unit {0}
+NextKnown (Err f) = Unit {0}
+
+told_known : (ls : List Level) (r : Result (Option PlainEvent × StepState) Fault) → Open ls → NextAlong ls r
+    → NextKnown r
+told_known ls (Ok (Some e, t)) p n = (
+  known_along (event_keeps e.kind ls n.behind p n.first) n.along,
+  λ is. subst (λ ks. Along ks t)
+      (document_leaves ls n.behind p (ap (λ k. behind_event k ls) (sym is) ∙ n.first)) n.along,
+)
+told_known ls (Ok (None, t)) p n = tt
+told_known ls (Err f) p n = tt
+
+start_next : (o : OptionsData) (text : List ℕ) → NextKnown (next_event o (steps_start text))
+unfolding next_event pieces turns step_turn
+start_next o text = (known_along in_stream (start_along text), λ e. absurd (cc))
+
+next_known : (o : OptionsData) (s : StepState) → Known s → NextKnown (next_event o s)
+next_known o s (known_start text e) = subst (λ s. NextKnown (next_event o s)) (sym e) (start_next o text)
+next_known o s (known_along {ls = ls} p a) = told_known ls (next_event o s) p (next_along o ls s a)
+
+start_fails : (o : OptionsData) (n : ℕ) (text : List ℕ) → failing_in o n (steps_start text) ≡ steps_start text
+unfolding step_turn
+start_fails o zero text = refl
+start_fails o (suc n) text = refl
+
+failing_known : (o : OptionsData) (s : StepState) → Known s → Known (failing o s)
+failing_known o s (known_start text e) = known_start text
+    (ap (failing o) e ∙ start_fails o (suc (step_size (steps_start text))) text)
+failing_known o s (known_along {ls = ls} p a) = known_along p (failing_along o ls (suc (step_size s)) s a)
+
+-- ---- a parser between its calls
+
+record CallsKnown (o : OptionsData) (c : Calls) : Type 0 where
+  known : Known c.steps
+  between : c.fault ≡ None → c.between ≡ true → (c.over ≡ true) ⊎ Resumes o c.steps
+
+-- behind an event that is no end, a stream goes on as before it
+stays_along : (o : OptionsData) (e : PlainEvent) (s t : StepState) → next_event o s ≡ Ok (Some e, t)
+    → ((ks : List Level) → behind_event e.kind (InStream ∷ []) ≡ Some ks → ks ≡ InStream ∷ []) → Resumes o s
+    → Resumes o t
+stays_along o e s t is same (silent none) = absurd (none e t is)
+stays_along o e s t is same (resumes a) =
+    let n : Told (InStream ∷ []) e t = subst (NextAlong (InStream ∷ [])) is (next_along o (InStream ∷ []) s a) in
+    resumes (subst (λ ks. Along ks t) (same n.behind n.first) n.along)
+
+-- whether a kind changes what is open in a stream outside of documents
+abbrev is_outer : EventKind → Bool
+is_outer (DocumentStart explicit version) = true
+is_outer StreamEnd = true
+is_outer kind = false
+
+outside_stays : (kind : EventKind) (ks : List Level) → is_outer kind ≡ false
+    → behind_event kind (InStream ∷ []) ≡ Some ks → ks ≡ InStream ∷ []
+outside_stays StreamStart ks n e = absurd (cc)
+outside_stays StreamEnd ks n e = absurd (cc)
+outside_stays (DocumentStart explicit version) ks n e = absurd (cc)
+outside_stays DocumentEnd ks n e = absurd (cc)
+outside_stays (Alias n) ks f e = absurd (cc)
+outside_stays (UnresolvedAlias name) ks n e = absurd (cc)
+outside_stays (Anchor n name) ks f e = cc
+outside_stays (Comment text placement) ks n e = cc
+outside_stays (Scalar text style anchor tag) ks n e = absurd (cc)
+outside_stays (SequenceStart style anchor tag) ks n e = absurd (cc)
+outside_stays SequenceEnd ks n e = absurd (cc)
+outside_stays (MappingStart style anchor tag) ks n e = absurd (cc)
+outside_stays MappingEnd ks n e = absurd (cc)
+
+abbrev Outside : OptionsData → Calls → StepState → Type 0
+Outside o c t = (c.over ≡ true) ⊎ Resumes o t
+
+kept_outside : (o : OptionsData) (e : PlainEvent) (c : Calls) (t : StepState) → next_event o c.steps ≡ Ok (Some e, t)
+    → is_outer e.kind ≡ false → Outside o c c.steps → Outside o c t
+kept_outside o e c t is inner (inl over) = inl over
+kept_outside o e c t is inner (inr r) =
+    inr (stays_along o e c.steps t is (λ ks f. outside_stays e.kind ks inner f) r)
+
+given_between : (o : OptionsData) (kind : EventKind) (e : PlainEvent) (c : Calls) (t : StepState) → e.kind ≡ kind
+    → next_event o c.steps ≡ Ok (Some e, t) → (e.kind ≡ DocumentEnd → Along (InStream ∷ []) t)
+    → (c.between ≡ true → Outside o c c.steps)
+    → (noted kind (record c { steps = t })).between ≡ true → Outside o (noted kind (record c { steps = t })) t
+given_between o (DocumentStart explicit version) e c t k is ended before b = absurd (cc)
+given_between o DocumentEnd e c t k is ended before b = inr (resumes (ended k))
+given_between o StreamEnd e c t k is ended before b = inl refl
+given_between o kind e c t k is ended before b = kept_outside o e c t is (ap is_outer k) (before b)
+
+pub noted_steps : (kind : EventKind) (c : Calls) → (noted kind c).steps ≡ c.steps
+noted_steps (DocumentStart explicit version) c = refl
+noted_steps DocumentEnd c = refl
+noted_steps StreamEnd c = refl
+noted_steps kind c = refl
+
+noted_fault : (kind : EventKind) (c : Calls) → (noted kind c).fault ≡ c.fault
+noted_fault (DocumentStart explicit version) c = refl
+noted_fault DocumentEnd c = refl
+noted_fault StreamEnd c = refl
+noted_fault kind c = refl
+
+given_known : (o : OptionsData) (c : Calls) (r : Result (Option PlainEvent × StepState) Fault)
+    → next_event o c.steps ≡ r → NextKnown r → CallsKnown o c → CallsKnown o (given_by o c r).1
+given_known o c (Ok (Some e, t)) is n k = record {
+  known = subst Known (sym (noted_steps e.kind (record c { steps = t }))) n.0;
+  between = λ f b. subst (Outside o (noted e.kind (record c { steps = t })))
+      (sym (noted_steps e.kind (record c { steps = t })))
+      (given_between o e.kind e c t refl is n.1 (k.between (sym (noted_fault e.kind (record c { steps = t })) ∙ f)) b);
+}
+given_known o c (Ok (None, t)) is n k = k
+given_known o c (Err f) is n k = record { known = failing_known o c.steps k.known; between = λ g b. absurd (cc) }
+
+call_by : (b : Bool) (o : OptionsData) (c : Calls) → CallsKnown o c
+    → CallsKnown o (if b then (None, c) else given_by o c (next_event o c.steps)).1
+call_by true o c k = k
+call_by false o c k = given_known o c (next_event o c.steps) refl (next_known o c.steps k.known) k
+
+call_known : (o : OptionsData) (c : Calls) → CallsKnown o c → CallsKnown o (next_call o c).1
+unfolding next_call
+call_known o c k = call_by ((c.over || is_some c.fault) || is_some c.refusal) o c k
+
+-- ---- recovery
+
+starts_known : (o : OptionsData) (kind : EventKind) (c : Calls) → CallsKnown o c → CallsKnown o (starts_by kind c)
+starts_known o (DocumentStart explicit version) c k = record { known = k.known; between = λ f b. absurd (cc) }
+starts_known o kind c k = k
+
+looked_known : (o : OptionsData) (c : Calls) (x : Given × Calls) → CallsKnown o c → CallsKnown o x.1
+    → CallsKnown o (looked_by c x)
+looked_known o c (Some (Ok e), after) k n = starts_known o e.kind c k
+looked_known o c (Some (Err f), after) k n = n
+looked_known o c (None, after) k n = k
+
+skipped_good : (o : OptionsData) (fault : Option Fault) (between : Bool) (c : Calls) → c.fault ≡ fault
+    → c.between ≡ between → c.over ≡ false → CallsKnown o c → Good o (skipped_by o fault between c.steps)
+skipped_good o (Some f) between c fault b over k = fault_skipped o f c.steps
+skipped_good o None false c fault b over k = document_skipped o c.steps k.known
+skipped_good o None true c fault b over k = by (k.between fault b)
+  where
+    by : Outside o c c.steps → Good o c.steps
+    by (inl e) = absurd (cc)
+    by (inr r) = record { known = k.known; resumed = r }
+
+-- what an answer leaves
+record Answers (o : OptionsData) (x : Result Bool Fault × Calls) : Type 0 where
+  calls : CallsKnown o x.1
+  goes : (follows : Bool) → x.0 ≡ Ok follows → Outside o x.1 x.1.steps
+
+answered_by : (o : OptionsData) (r : Result Bool Fault) (s : StepState) → Good o s → Answers o (answered r (resumed s))
+answered_by o (Ok true) s g = record {
+  calls = record { known = g.known; between = λ f b. absurd (cc) };
+  goes = λ follows e. inr g.resumed;
+}
+answered_by o (Ok false) s g = record {
+  calls = record { known = g.known; between = λ f b. inr g.resumed };
+  goes = λ follows e. inr g.resumed;
+}
+answered_by o (Err f) s g = record {
+  calls = record { known = g.known; between = λ f b. absurd (cc) };
+  goes = λ follows e. absurd (cc);
+}
+
+recovers_by : (b : Bool) (o : OptionsData) (extra : ℕ) (c : Calls) → c.over ≡ b → CallsKnown o c
+    → Answers o (if b then (Ok false, c) else recovered o extra (skipped o c))
+recovers_by true o extra c over k = record { calls = k; goes = λ follows e. inl over }
+recovers_by false o extra c over k =
+    answered_by o _ (skipped_by o c.fault c.between c.steps)
+    (skipped_good o c.fault c.between c refl refl over k)
+
+with_answers : (o : OptionsData) (looked : Bool) (refusal : Option Fault) (c : Calls) → CallsKnown o c
+    → Answers o (recover_with o looked refusal c)
+with_answers o looked (Some f) c k = record { calls = k; goes = λ follows e. absurd (cc) }
+with_answers o true None c k =
+    let d = looked_by c (next_call o c) in
+    recovers_by d.over o (extra_of d (next_call o c).0) d refl
+    (looked_known o c (next_call o c) k (call_known o c k))
+with_answers o false None c k = recovers_by c.over o 0 c refl k
+
+recover_answers : (o : OptionsData) (looked : Bool) (c : Calls) → CallsKnown o c
+    → Answers o (recover o looked c)
+unfolding recover
+recover_answers o looked c k = with_answers o looked c.refusal c k
+
+-- ---- whatever was called
+
+reached_known : (o : OptionsData) (c : Calls) → Reached o c → CallsKnown o c
+reached_known o c (reached_start text) = record { known = known_start text refl; between = λ f b. absurd (cc) }
+reached_known o c (reached_call {c = d} r) = call_known o d (reached_known o d r)
+reached_known o c (reached_recovery {c = d} looked r) =
+    (recover_answers o looked d (reached_known o d r)).calls
+
+pub record Called (o : OptionsData) (c : Calls) (e : PlainEvent) (after : Calls) : Type 0 where
+  pub steps : StepState
+  pub event : next_event o c.steps ≡ Ok (Some e, steps)
+  pub leaves : after.steps ≡ steps
+  pub not_over : c.over ≡ false
+
+pub first_same : {A B : Type 0} → (x y : A × B) → x ≡ y → x.0 ≡ y.0
+first_same x y e = ap (λ z. z.0) e
+
+pub second_same : {A B : Type 0} → (x y : A × B) → x ≡ y → x.1 ≡ y.1
+second_same x y e = ap (λ z. z.1) e
+
+called_of : (o : OptionsData) (c after : Calls) (e : PlainEvent) (r : Result (Option PlainEvent × StepState) Fault)
+    → next_event o c.steps ≡ r → c.over ≡ false → given_by o c r ≡ (Some (Ok e), after) → Called o c e after
+called_of o c after e (Ok (Some x, t)) is going g =
+    let same : x ≡ e = let f = first_same _ _ g in cc in
+    record {
+      steps = t;
+      event = is ∙ ap (λ y. Ok (Some y, t)) same;
+      leaves = ap (λ (d : Calls). d.steps) (sym (second_same _ _ g)) ∙ noted_steps x.kind (record c { steps = t });
+      not_over = going;
+    }
+called_of o c after e (Ok (None, t)) is going g = absurd (let f = first_same _ _ g in cc)
+called_of o c after e (Err f) is going g = absurd (let f = first_same _ _ g in cc)
+
+not_left : (a b c : Bool) → ((a || b) || c) ≡ false → a ≡ false
+not_left true b c e = e
+not_left false b c e = refl
+
+called_by : (b : Bool) (o : OptionsData) (c after : Calls) (e : PlainEvent)
+    → ((c.over || is_some c.fault) || is_some c.refusal) ≡ b
+    → (if b then (None, c) else given_by o c (next_event o c.steps)) ≡ (Some (Ok e), after) → Called o c e after
+called_by true o c after e is g = absurd (let f = first_same _ _ g in cc)
+called_by false o c after e is g = called_of o c after e (next_event o c.steps) refl
+    (not_left c.over (is_some c.fault) (is_some c.refusal) is) g
+
+pub called : (o : OptionsData) (c after : Calls) (e : PlainEvent) → next_call o c ≡ (Some (Ok e), after)
+    → Called o c e after
+unfolding next_call
+called o c after e g = called_by ((c.over || is_some c.fault) || is_some c.refusal) o c after e refl g
+
+-- events of a state along a stream may come
+record Comes (es : List PlainEvent) (ls : List Level) : Type 0 where
+  behind : List Level
+  all : behind_events es ls ≡ Some behind
+
+gives_along : (o : OptionsData) (c d : Calls) (es : List PlainEvent) (ls : List Level) → Along ls c.steps
+    → Gives o c es d → Comes es ls
+gives_along o c d es ls a gives_none = record { behind = ls; all = refl }
+gives_along o c d es ls a (gives_next {after = after} {e = e} {es = rest} g more) =
+    let x = called o c after e g in
+    let n : Told ls e x.steps = subst (NextAlong ls) x.event (next_along o ls c.steps a) in
+    let r = gives_along o after d rest n.behind (subst (Along n.behind) (sym x.leaves) n.along) more in
+    record { behind = r.behind; all = ap (λ y. and_then y (behind_events rest)) n.first ∙ r.all }
+
+ends_at_once : GoesOn []
+ends_at_once = record { more = event_on StreamEnd (mark_of (start_of [])) ∷ []; balanced = refl }
+
+goes_on : (o : OptionsData) (c d : Calls) (es : List PlainEvent) → Outside o c c.steps → Gives o c es d → GoesOn es
+goes_on o c d es (inr (resumes a)) g =
+    let r = gives_along o c d es (InStream ∷ []) a g in
+    let x = can_close (mark_of (start_of [])) es (InStream ∷ []) r.behind in_stream r.all in
+    record { more = x.more; balanced = x.all }
+goes_on o c d es (inr (silent none)) gives_none = ends_at_once
+goes_on o c d es (inr (silent none)) (gives_next {after = after} {e = e} g more) =
+    let x = called o c after e g in absurd (none e x.steps x.event)
+goes_on o c d es (inl over) gives_none = ends_at_once
+goes_on o c d es (inl over) (gives_next {after = after} {e = e} g more) =
+    let x = called o c after e g in absurd (let n = x.not_over in cc)
+
+-- behind an answer of recovery a stream goes on
+pub recovered_goes_on : (o : OptionsData) (looked follows : Bool) (c d e : Calls) (es : List PlainEvent)
+    → Reached o c → recover o looked c ≡ (Ok follows, d) → Gives o d es e → GoesOn es
+recovered_goes_on o looked follows c d e es r is g =
+    let a = recover_answers o looked c (reached_known o c r) in
+    let x = a.goes follows (first_same _ _ is) in
+    goes_on o d e es (subst (λ (z : Calls). Outside o z z.steps) (second_same _ _ is) x) g
+
+-- ---- refusals and ends
+
+refused_with : (o : OptionsData) (looked : Bool) (f : Fault) (c : Calls) → c.refusal ≡ Some f
+    → recover o looked c ≡ (Err f, c)
+unfolding recover
+refused_with o looked f c e = ap (λ r. recover_with o looked r c) e
+
+refusal_of : (r : Result Bool Fault) (c d : Calls) (f : Fault) → answered r c ≡ (Err f, d) → d.refusal ≡ Some f
+refusal_of (Ok true) c d f e = absurd (let g = first_same _ _ e in cc)
+refusal_of (Ok false) c d f e = absurd (let g = first_same _ _ e in cc)
+refusal_of (Err x) c d f e =
+    let same : x ≡ f = let g = first_same _ _ e in cc in
+    ap (λ (z : Calls). z.refusal) (sym (second_same _ _ e)) ∙ ap (λ y. Some y) same
+
+refusal_if : (b : Bool) (o : OptionsData) (extra : ℕ) (c s d : Calls) (f : Fault)
+    → (if b then (Ok false, c) else recovered o extra s) ≡ (Err f, d) → d.refusal ≡ Some f
+refusal_if true o extra c s d f e = absurd (let g = first_same _ _ e in cc)
+refusal_if false o extra c s d f e = refusal_of _ s d f e
+
+refusal_with : (o : OptionsData) (looked : Bool) (refusal : Option Fault) (c d : Calls) (f : Fault)
+    → c.refusal ≡ refusal → recover_with o looked refusal c ≡ (Err f, d) → d.refusal ≡ Some f
+refusal_with o looked (Some x) c d f r e =
+    let same : x ≡ f = let g = first_same _ _ e in cc in
+    ap (λ (z : Calls). z.refusal) (sym (second_same _ _ e)) ∙ r ∙ ap (λ y. Some y) same
+refusal_with o true None c d f r e = refusal_if (looked_by c (next_call o c)).over o _ _ _ d f e
+refusal_with o false None c d f r e = refusal_if c.over o 0 c (skipped o c) d f e
+
+refusal_left : (o : OptionsData) (looked : Bool) (c d : Calls) (f : Fault)
+    → recover o looked c ≡ (Err f, d) → d.refusal ≡ Some f
+unfolding recover
+refusal_left o looked c d f e = refusal_with o looked c.refusal c d f refl e
+
+-- a refusal of recovery is answered again
+pub refused_again : (o : OptionsData) (looked peeked : Bool) (c d : Calls) (f : Fault)
+    → recover o looked c ≡ (Err f, d) → recover o peeked d ≡ (Err f, d)
+refused_again o looked peeked c d f e = refused_with o peeked f d (refusal_left o looked c d f e)
+
+or_true : (b : Bool) → (b || true) ≡ true
+or_true true = refl
+or_true false = refl
+
+-- and no event follows it
+pub refused_none : (o : OptionsData) (looked : Bool) (c d : Calls) (f : Fault)
+    → recover o looked c ≡ (Err f, d) → next_call o d ≡ (None, d)
+unfolding next_call
+refused_none o looked c d f e =
+    ap (λ b. if b then (None, d) else given_by o d (next_event o d.steps))
+    (ap (λ r. (d.over || is_some d.fault) || is_some r) (refusal_left o looked c d f e)
+    ∙ or_true (d.over || is_some d.fault))

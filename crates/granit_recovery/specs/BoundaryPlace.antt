@@ -1,0 +1,16 @@
+-- Where a boundary stands in a text: at a counted place.
+use Rattle.std.specs.Prelude.{ℕ, List}
+use Rattle.granit_language.specs.Counting.{CountedHere}
+use Rattle.granit_lexemes.specs.Here.{Here}
+use Rattle.granit_recovery.specs.Boundary.{Boundary, AtStart, PastEnd, AtTextEnd}
+
+abbrev pub place_of : Boundary → Here
+place_of (AtStart h) = h
+place_of (PastEnd h) = h
+place_of (AtTextEnd h) = h
+
+-- a reader stands at some index of a text, where the byte-order marks at some indices count no column
+pub record IsCounted (x : List ℕ) (h : Here) : Type 0 where
+  pub index : ℕ
+  pub marks : List ℕ
+  pub counted : CountedHere x marks index h

@@ -1,0 +1,94 @@
+-- Where reading goes on behind a fault: at the first boundary among what was read and not used, or in the text.
+use Rattle.std.specs.Prelude.{suc, Bool, true, false, ◌==◌, ◌&&◌, ◌||◌, not, nat_lt, List, [], ◌∷◌}
+use Rattle.std.specs.Prelude.{Option, Some, None}
+use Rattle.granit_base.specs.Classes.{is_break}
+use Rattle.granit_lexemes.specs.Here.{Here, next_char, mark_of, text_len}
+use Rattle.granit_lexemes.specs.Lexeme as lexemes
+use Rattle.granit_lexemes.specs.Lexeme.{LexemeKind, Lexeme, Item, OfLexeme, OfComment}
+use Rattle.granit_lexemes.specs.Moves.{steps}
+use Rattle.granit_machine.specs.Frames.{Fresh, ParserState}
+use Rattle.granit_machine.specs.Laid.{Laid, laid_start}
+use Rattle.granit_machine.specs.Lexing.{FlaggedItem}
+use Rattle.granit_machine.specs.ReaderState.{lexeme_to}
+use Rattle.granit_recovery.specs.Boundary.{Boundary, AtStart, PastEnd, AtTextEnd, next_boundary}
+use Rattle.granit_steps.specs.Steps.{StepState, unflagged}
+
+-- what a lexeme that was read and not used is as a boundary: its line must be finished, and a NUL separates nothing
+abbrev pub is_boundary : Here → LexemeKind → Lexeme → Bool
+is_boundary h lexemes.DocumentStart l =
+    not ((l.end.place.index == h.place.index && next_char h == 0) && not (text_len h == 0))
+is_boundary h lexemes.DocumentEnd l =
+    nat_lt l.end.place.line h.place.line || (text_len h == 0 || is_break (next_char h))
+is_boundary h lexemes.StreamEnd l = true
+is_boundary h kind l = false
+
+abbrev pub lexeme_or : Bool → Lexeme → Option Lexeme → Option Lexeme
+lexeme_or true l later = Some l
+lexeme_or false l later = later
+
+-- the first boundary among items
+abbrev pub boundary_of : Here → Item → Option Lexeme → Option Lexeme
+boundary_of h (OfComment c) later = later
+boundary_of h (OfLexeme l) later = lexeme_or (is_boundary h l.kind l) l later
+
+abbrev pub read_boundary : Here → List FlaggedItem → Option Lexeme
+read_boundary h [] = None
+read_boundary h (i ∷ is) = boundary_of h i.item (read_boundary h is)
+
+-- nothing is open, and the numbers of lexemes go on
+abbrev pub laid_anew : (may_prefix : Bool) → Laid → Laid
+laid_anew may_prefix l = record laid_start { number = suc l.number; may_prefix = may_prefix }
+
+-- the document is dropped with its anchors and tags; numbers of anchors go on
+abbrev pub dropped : ParserState → ParserState
+dropped p = record {
+  frames = [];
+  stage = Fresh;
+  last_end = p.last_end;
+  count = p.count;
+  names = [];
+  handles = [];
+  waiting = None;
+  given = [];
+}
+
+-- reading goes on here, with these items first
+abbrev pub anew : (may_prefix : Bool) → List FlaggedItem → Here → StepState → StepState
+anew may_prefix items h s = record {
+  reading = record {
+    reader = record { here = h; laid = laid_anew may_prefix s.reading.reader.laid };
+    ended = false;
+    fault = None;
+  };
+  queue = items;
+  parser = dropped s.parser;
+  pending = [];
+}
+
+-- a `---` that was found in what was dropped
+abbrev pub start_found : Here → StepState → Lexeme
+start_found h s =
+    lexeme_to false lexemes.DocumentStart (mark_of (steps 3 h)) h (laid_anew false s.reading.reader.laid)
+
+-- whether the boundary is a `---`, and the state there
+abbrev pub at_boundary : StepState → Boundary → Bool × StepState
+at_boundary s (AtStart h) = (true, anew false (unflagged (OfLexeme (start_found h s)) ∷ []) (steps 3 h) s)
+at_boundary s (PastEnd h) = (false, anew true [] h s)
+at_boundary s (AtTextEnd h) = (false, anew false [] h s)
+
+abbrev pub without_columns : Lexeme → Lexeme
+without_columns l = record l { ends_column = false }
+
+abbrev pub at_lexeme : StepState → LexemeKind → Lexeme → Bool × StepState
+at_lexeme s lexemes.DocumentStart l =
+    (true, anew false (unflagged (OfLexeme (without_columns l)) ∷ []) s.reading.reader.here s)
+at_lexeme s lexemes.DocumentEnd l = (false, anew true [] s.reading.reader.here s)
+at_lexeme s kind l = (false, anew false [] s.reading.reader.here s)
+
+abbrev pub at_found : StepState → Option Lexeme → Bool × StepState
+at_found s (Some l) = at_lexeme s l.kind l
+at_found s None = at_boundary s (next_boundary s.reading.reader.here)
+
+-- the next boundary behind a fault, first among what was read and not used
+unfoldable pub behind_fault : StepState → Bool × StepState
+behind_fault s = at_found s (read_boundary s.reading.reader.here s.queue)

@@ -1,0 +1,3 @@
+pub mod Replaying
+pub mod Resolving
+pub mod Sending

@@ -1,0 +1,54 @@
+use Rattle.std.proofs.Common.{refl, ap}
+use Rattle.granit_scan.specs.Scanning.{Scanning}
+use Rattle.granit_scan.proofs.SourceLemmas.{lands_on, ready_fails, ready_gives, ready_moves}
+use Rattle.granit_scan.proofs.scanner.Scanner.ready.Goals as goal
+
+pub returns-in-None-clause-known : goal.returns-in-None-clause-known
+returns-in-None-clause-known g c = λ m at.
+    ready_gives g.T.Input.origin c.args.self.now c.settle_behind_start-settled.new.self c.ask_source.new.self
+    c.give_source_error.new.self c.settle_behind_start-settled.ensures.keeps.source_error
+    c.settle_behind_start-settled.ensures.moves.1 c.ask_source.ensures.origin c.ask_source.ensures.place
+    c.ask_source.ensures.first (ap (λ (s : Scanning g.row.T.Denot). s.items) c.in-None.ensures.rest)
+    _ _ c.in-None.ensures.given
+    (lands_on c.settle_behind_start-settled.result _ _ _ (λ n stands. c.in-None.ensures.known n
+    (c.ask_source.ensures.known n stands)) (c.settle_behind_start-settled.ensures.known m at))
+
+pub returns-in-None-clause-source : goal.returns-in-None-clause-source
+returns-in-None-clause-source g c =
+    ready_gives g.T.Input.origin c.args.self.now c.settle_behind_start-settled.new.self c.ask_source.new.self
+    c.give_source_error.new.self c.settle_behind_start-settled.ensures.keeps.source_error
+    c.settle_behind_start-settled.ensures.moves.1 c.ask_source.ensures.origin c.ask_source.ensures.place
+    c.ask_source.ensures.first (ap (λ (s : Scanning g.row.T.Denot). s.items) c.in-None.ensures.rest)
+    _ _ c.in-None.ensures.given (c.settle_behind_start-settled.ensures.start, c.in-None.ensures.kept)
+
+pub returns-in-None-clause-moves : goal.returns-in-None-clause-moves
+returns-in-None-clause-moves g c =
+    ready_moves g.T.Input.origin c.args.self.now c.settle_behind_start-settled.new.self c.ask_source.new.self
+    c.give_source_error.new.self c.settle_behind_start-settled.ensures.keeps.source_error
+    c.settle_behind_start-settled.ensures.moves.1 c.ask_source.ensures.origin c.ask_source.ensures.place
+    c.ask_source.ensures.first (ap (λ (s : Scanning g.row.T.Denot). s.items) c.in-None.ensures.rest)
+    g.T.Input.left c.settle_behind_start-settled.ensures.moves.0 c.ask_source.ensures.left
+
+pub returns-in-Some-clause-known : goal.returns-in-Some-clause-known
+returns-in-Some-clause-known g c = λ m at.
+    ready_fails g.T.Input.origin c.args.self.now c.settle_behind_start-settled.new.self c.ask_source.new.self
+    c.give_source_error.new.self c.settle_behind_start-settled.ensures.keeps.source_error
+    c.settle_behind_start-settled.ensures.moves.1 c.ask_source.ensures.origin c.ask_source.ensures.place
+    c.ask_source.ensures.first (ap (λ (s : Scanning g.row.T.Denot). s.items) c.in-Some.ensures.rest) _ _ c.in-Some.error
+    c.in-Some.ensures.given refl
+
+pub returns-in-Some-clause-source : goal.returns-in-Some-clause-source
+returns-in-Some-clause-source g c =
+    ready_fails g.T.Input.origin c.args.self.now c.settle_behind_start-settled.new.self c.ask_source.new.self
+    c.give_source_error.new.self c.settle_behind_start-settled.ensures.keeps.source_error
+    c.settle_behind_start-settled.ensures.moves.1 c.ask_source.ensures.origin c.ask_source.ensures.place
+    c.ask_source.ensures.first (ap (λ (s : Scanning g.row.T.Denot). s.items) c.in-Some.ensures.rest) _ _ c.in-Some.error
+    c.in-Some.ensures.given (refl, c.in-Some.ensures.kept)
+
+pub returns-in-Some-clause-moves : goal.returns-in-Some-clause-moves
+returns-in-Some-clause-moves g c =
+    ready_moves g.T.Input.origin c.args.self.now c.settle_behind_start-settled.new.self c.ask_source.new.self
+    c.give_source_error.new.self c.settle_behind_start-settled.ensures.keeps.source_error
+    c.settle_behind_start-settled.ensures.moves.1 c.ask_source.ensures.origin c.ask_source.ensures.place
+    c.ask_source.ensures.first (ap (λ (s : Scanning g.row.T.Denot). s.items) c.in-Some.ensures.rest)
+    g.T.Input.left c.settle_behind_start-settled.ensures.moves.0 c.ask_source.ensures.left
