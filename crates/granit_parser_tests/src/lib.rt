@@ -6,6 +6,4 @@ mod failing;
 #[cfg(test)]
 mod parser;
 #[cfg(test)]
-mod receive;
-#[cfg(test)]
 mod round_trip;

@@ -69,27 +69,48 @@ fn told(alloc: Global, text: &str, count: usize) -> Result<String, Fail> {
     letters(alloc, &mut scanner, count)
 }
 
+/// The same of five texts, the last one longer.
+fn all_told(alloc: Global) -> Result<[String; 5], Fail> {
+    Ok([
+        told(alloc, "", 3)?,
+        told(alloc, "a", 3)?,
+        told(alloc, "[", 3)?,
+        told(alloc, "]", 3)?,
+        told(alloc, "- a\n- b: 01234567890123456789\n", 11)?,
+    ])
+}
+
 #[test]
 fn an_error_takes_the_place_of_a_token(rt: HostRuntime) -> Result<(), Fail> {
-    assert_eq!(rt; told(rt.alloc(), "", 3)?.as_str(), "S!.");
-    assert_eq!(rt; told(rt.alloc(), "a", 3)?.as_str(), "S!.");
-    assert_eq!(rt; told(rt.alloc(), "[", 3)?.as_str(), "S!.");
-    assert_eq!(rt; told(rt.alloc(), "]", 3)?.as_str(), "S!.");
-    assert_eq!(rt;
-        told(rt.alloc(), "- a\n- b: 01234567890123456789\n", 11)?.as_str(),
-        "Stttttttt!."
-    );
+    let [nothing, word, bracket, closer, long] = all_told(rt.alloc())?;
+    let short = [
+        nothing.as_str(),
+        word.as_str(),
+        bracket.as_str(),
+        closer.as_str(),
+    ];
+    assert_eq!(rt; short, ["S!.", "S!.", "S!.", "S!."]);
+    assert_eq!(rt; long.as_str(), "Stttttttt!.");
     Ok(())
+}
+
+/// The letters of a string's tokens, whether the stream has started and ended, and whether no error is told.
+fn of_a_string(alloc: Global) -> Result<(String, [bool; 3]), Fail> {
+    let mut scanner = Scanner::new(alloc, StrInput::new("a: b"));
+    let said = letters(alloc, &mut scanner, 9)?;
+    let edges = [
+        scanner.stream_started(),
+        scanner.stream_ended(),
+        scanner.check_source_error().is_ok(),
+    ];
+    Ok((said, edges))
 }
 
 #[test]
 fn a_string_has_no_error(rt: HostRuntime) -> Result<(), Fail> {
-    let mut scanner = Scanner::new(rt.alloc(), StrInput::new("a: b"));
-    let said = letters(rt.alloc(), &mut scanner, 9)?;
+    let (said, edges) = of_a_string(rt.alloc())?;
     assert_eq!(rt; said.as_str(), "Stttttts.");
-    let ended = (scanner.stream_started(), scanner.stream_ended());
-    assert_eq!(rt; ended, (true, true));
-    assert!(rt; scanner.check_source_error().is_ok());
+    assert_eq!(rt; edges, [true, true, true]);
     Ok(())
 }
 
@@ -101,35 +122,53 @@ fn refusal<'a, T: BorrowedInput<'a>>(scanner: &mut Scanner<'a, T>) -> Option<Sca
     scanner.next_queued().err()
 }
 
-/// The kind of an error, its character, line and column from 1.
-fn place(error: &ScanError) -> (u8, usize, usize, usize) {
-    let at = error.marker();
-    let column = at.col().saturating_add(1);
-    (error.kind().number(), at.index(), at.line(), column)
+/// The kind of an error, its character, line and column from 1; nothing but 0 where there is none.
+fn place(given: Option<ScanError>) -> (u8, usize, usize, usize) {
+    match given {
+        None => (0, 0, 0, 0),
+        Some(error) => {
+            let at = error.marker();
+            let column = at.col().saturating_add(1);
+            (error.kind().number(), at.index(), at.line(), column)
+        }
+    }
+}
+
+/// Where an error stands as it is given, and as it is told behind that.
+fn places(alloc: Global) -> Result<[(u8, usize, usize, usize); 2], Fail> {
+    let mut scanner = Scanner::new(alloc, failing(alloc, "[", too_long())?);
+    let given = place(refusal(&mut scanner));
+    let kept = place(scanner.check_source_error().err());
+    Ok([given, kept])
 }
 
 #[test]
 fn where_an_error_stands(rt: HostRuntime) -> Result<(), Fail> {
-    let mut scanner = Scanner::new(rt.alloc(), failing(rt.alloc(), "[", too_long())?);
-    let given = refusal(&mut scanner);
-    assert_eq!(rt; given.map(|e| place(&e)), Some((80, 1, 1, 2)));
-    let kept = scanner.check_source_error().err();
-    assert_eq!(rt; kept.map(|e| place(&e)), Some((80, 1, 1, 2)));
-    assert!(rt; scanner.next().is_none());
+    assert_eq!(rt; places(rt.alloc())?, [(80, 1, 1, 2), (80, 1, 1, 2)]);
     Ok(())
 }
 
-#[test]
-fn an_error_keeps_its_message(rt: HostRuntime) -> Result<(), Fail> {
-    let alloc = rt.alloc();
+/// Whether an error that is given is one of a kind.
+fn is_kind(given: Option<ScanError>, kind: &ErrorKind) -> bool {
+    match given {
+        None => false,
+        Some(error) => error.kind() == kind,
+    }
+}
+
+/// Whether the error of an iterator is given with its message.
+fn keeps_message(alloc: Global) -> Result<bool, Fail> {
     let kind = ErrorKind::InputDecoding {
         message: OwnedText::from_str(alloc, "bad")?,
     };
     let copy = kind.try_clone(alloc)?;
     let mut scanner = Scanner::new(alloc, failing(alloc, "a", kind)?);
-    let given = refusal(&mut scanner);
-    assert!(rt; matches!(&given, Some(error) if *error.kind() == copy));
-    assert_eq!(rt; given.map(|e| place(&e)), Some((79, 1, 1, 2)));
+    Ok(is_kind(refusal(&mut scanner), &copy))
+}
+
+#[test]
+fn an_error_keeps_its_message(rt: HostRuntime) -> Result<(), Fail> {
+    assert!(rt; keeps_message(rt.alloc())?);
     Ok(())
 }
 
