@@ -1,5 +1,5 @@
-//! Tests of the receivers of granit_parser by its public calls. They stand here since a crate with tests is proved twice,
-//! and apart from the other tests of granit_parser since each check is dear.
+//! Tests of what granit_parser sends to receivers, by its public calls. They stand here since a crate with tests is
+//! proved twice, and apart from the other tests of granit_parser since each check is dear.
 #![tactic(auto)]
 
 #[cfg(test)]
