@@ -1,5 +1,0 @@
-//! Tests of granit_scan by its public calls.
-#![tactic(auto)]
-
-#[cfg(test)]
-mod failing;
