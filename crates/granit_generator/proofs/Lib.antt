@@ -1,4 +1,5 @@
 pub mod BlockLemmas
+pub mod CountLemmas
 pub mod FitLemmas
 pub mod MakingLemmas
 pub mod NameLemmas

@@ -1,5 +1,5 @@
 //! How many nodes trees have. The walk is plain recursion, so the call stack bounds the depth.
-ghost use Rattle.std.specs.Prelude.{◌≡◌, ◌+◌, IfOk};
+ghost use Rattle.std.specs.Prelude.{◌≡◌, ◌+◌, ◌≤◌, ◌^◌, IfOk, IfErr};
 ghost use Rattle.granit_generator.specs.NodeCount as plain;
 ghost use Rattle.granit_model.specs.TreeView.{plain_tree};
 
@@ -7,7 +7,8 @@ use granit_base::NoMemory;
 use granit_model::{PairList, Tree, TreeList};
 
 fn sum(a: usize, b: usize) -> Result<usize, NoMemory>
-    ensures { IfOk result (λ n. n ≡ a + b) }
+    ensures counted { IfOk result (λ n. n ≡ a + b) }
+    ensures full { IfErr result (λ _. 2 ^ 64 ≤ a + b) }
 {
     a.checked_add(b).ok_or(NoMemory)
 }
@@ -16,11 +17,12 @@ fn sum(a: usize, b: usize) -> Result<usize, NoMemory>
 ///
 /// # Errors
 ///
-/// `NoMemory` alone: no memory holds more than a `usize` counts.
+/// `NoMemory` alone, and only where they are more than a `usize` counts: no memory holds so many.
 #[cycle(counting)]
-#[tactic(auto, using(granit_model::proofs::TreeLemmas::trees_more, crate::proofs::BlockLemmas::tree_in_list))]
+#[tactic(auto, using(crate::proofs::CountLemmas::tree_passed))]
 pub fn node_count(trees: &TreeList) -> Result<usize, NoMemory>
-    ensures { IfOk result (λ n. n ≡ plain.trees_nodes trees.now) }
+    ensures counted { IfOk result (λ n. n ≡ plain.trees_nodes trees.now) }
+    ensures full { IfErr result (λ _. 2 ^ 64 ≤ plain.trees_nodes trees.now) }
 {
     let mut count: usize = 0;
     for tree in trees.as_slice() {
@@ -31,7 +33,8 @@ pub fn node_count(trees: &TreeList) -> Result<usize, NoMemory>
 
 #[cycle(counting)]
 fn tree_count(tree: &Tree) -> Result<usize, NoMemory>
-    ensures { IfOk result (λ n. n ≡ plain.tree_nodes (plain_tree tree.now)) }
+    ensures counted { IfOk result (λ n. n ≡ plain.tree_nodes (plain_tree tree.now)) }
+    ensures full { IfErr result (λ _. 2 ^ 64 ≤ plain.tree_nodes (plain_tree tree.now)) }
 {
     match tree {
         Tree::Alias(_) | Tree::Scalar(_, _) => Ok(1),
@@ -41,9 +44,10 @@ fn tree_count(tree: &Tree) -> Result<usize, NoMemory>
 }
 
 #[cycle(counting)]
-#[tactic(auto, using(granit_model::proofs::TreeLemmas::pairs_more, crate::proofs::BlockLemmas::pair_in_list))]
+#[tactic(auto, using(crate::proofs::CountLemmas::pair_passed))]
 fn pair_count(pairs: &PairList) -> Result<usize, NoMemory>
-    ensures { IfOk result (λ n. n ≡ plain.pairs_nodes pairs.now) }
+    ensures counted { IfOk result (λ n. n ≡ plain.pairs_nodes pairs.now) }
+    ensures full { IfErr result (λ _. 2 ^ 64 ≤ plain.pairs_nodes pairs.now) }
 {
     let mut count: usize = 0;
     for pair in pairs.as_slice() {
