@@ -1,5 +1,5 @@
 -- What a call that reads a comment gives.
-use Rattle.std.proofs.Common.{◌≡◌, ℕ, suc, ◌+◌, Bool, cond, List, [], ◌∷◌, ◌++◌, take, ◌⊎◌, Result, Ok, Err, IfOk}
+use Rattle.std.proofs.Common.{◌≡◌, ℕ, suc, ◌+◌, Bool, cond, List, [], ◌∷◌, take, ◌⊎◌, Result, Ok, Err, IfOk}
 use Rattle.std.proofs.Common.{IfErr, refl, sym, ap, ap₂, ◌∙◌, subst, arith}
 use Rattle.std.specs.List.{prefix_len}
 use Rattle.granit_base.specs.Written.{Written}

@@ -3,3 +3,4 @@ pub mod GivenLemmas
 pub mod MoveLemmas
 pub mod SourceLemmas
 pub mod TrimLemmas
+pub mod WordLemmas

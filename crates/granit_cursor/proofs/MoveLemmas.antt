@@ -5,9 +5,8 @@ use Rattle.std.proofs.Common.{refl, sym, ap, ◌∙◌, subst, arith}
 use Rattle.std.specs.Prelude.{String, string_bytes}
 use Rattle.std.specs.Str.{chars}
 use Rattle.std.specs.declared.alloc.Global.{Global}
-use Rattle.std.proofs.lemmas.Bool.{and_parts, or_parts, not-true, cases_Bool, eqb-true}
+use Rattle.std.proofs.lemmas.Bool.{and_parts, cases_Bool, eqb-true}
 use Rattle.std.proofs.lemmas.Bool.Decides.{nat_tests}
-use Rattle.std.proofs.lemmas.List.{drop-drop}
 use Rattle.std.proofs.lemmas.Str.{chars-nil}
 use Rattle.granit_base.specs.Classes.{is_alpha, is_word_char, is_digit, is_yaml_non_space, is_yaml_non_break}
 use Rattle.granit_base.specs.Classes.{is_printable, is_bom, is_blank, is_break, is_breakz, is_blank_or_breakz}
@@ -79,7 +78,7 @@ run_begins test n (c ∷ cs) fits =
     ]
 
 -- the rest of a run behind its first character
-run_rest : (test : List ℕ → Bool) (n : ℕ) (h : Here) → n ≤ run_length test (drop 1 h.unread.text)
+pub run_rest : (test : List ℕ → Bool) (n : ℕ) (h : Here) → n ≤ run_length test (drop 1 h.unread.text)
     → n ≤ run_length test (step h).unread.text
 run_rest test n h more = rw (step_text h) more
 
@@ -104,8 +103,8 @@ run_along test (suc n) h line fits =
 abbrev pub Shows : (List ℕ → Bool) → Type 0
 Shows test = (text : List ℕ) → test text ≡ true → (ends_line text ≡ false) × (is_quiet (first text) ≡ false)
 
-step_shows : (h : Here) → 0 < length h.unread.text → ends_line h.unread.text ≡ false → is_quiet (next_char h) ≡ false
-    → ((step h).begins_line ≡ false) × ((step h).tab ≡ None)
+pub step_shows : (h : Here) → 0 < length h.unread.text → ends_line h.unread.text ≡ false
+    → is_quiet (next_char h) ≡ false → ((step h).begins_line ≡ false) × ((step h).tab ≡ None)
 unfolding step begins_behind tab_behind
 step_shows h some line shown = rw (not_none (length h.unread.text) some, line, shown) (refl, refl)
 
@@ -370,7 +369,7 @@ stands_at unread r s h is k = subst (λ q. Stands unread q h) (sym is) k
 
 module _ {I : Type 0} (unread : I → Unread → Type 0) (test : List ℕ → Bool) (n : ℕ) (old new : Reading I)
     (h : Here) where
-  along_stands : Along n h (steps n h) → Stands unread old h → unread new.input (past n h.unread)
+  pub along_stands : Along n h (steps n h) → Stands unread old h → unread new.input (past n h.unread)
       → new.place ≡ moved n old.place → unread new.input (steps n h).unread × ((steps n h).place ≡ new.place)
   along_stands a k known place = (subst (unread new.input) (sym a.unread) known, a.place ∙ ap (moved n) k.1 ∙ sym place)
 

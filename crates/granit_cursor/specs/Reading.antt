@@ -1,6 +1,6 @@
 -- What contracts see of a cursor, and what a reader gives for whatever is known to be left.
-use Rattle.std.specs.Prelude.{◌≡◌, ◌⊎◌, ℕ, ◌+◌, ◌≤◌, Bool, ◌&&◌, if◌then◌else◌, List, [], ◌++◌, take, Option, is_some}
-use Rattle.std.specs.Prelude.{Result, Ok, Err, IfOk, IfErr}
+use Rattle.std.specs.Prelude.{◌≡◌, ◌⊎◌, ℕ, ◌+◌, ◌≤◌, Bool, true, ◌&&◌, if◌then◌else◌, List, [], ◌++◌, take, Option}
+use Rattle.std.specs.Prelude.{is_some, Result, Ok, Err, IfOk, IfErr}
 use Rattle.std.specs.Borrow.{Bor}
 use Rattle.std.specs.Str.{chars}
 use Rattle.granit_base.specs.Place.{Place, Mark, Unread}
@@ -125,3 +125,8 @@ abbrev pub TakesText : (List ℕ → Bool) → Here → Result Written Refused �
 TakesText test h (Ok text) Lands =
     (n : ℕ) × StepsRun test h n Lands × (text ≡ as_spelled h (take n h.unread.text))
 TakesText test h (Err e) Lands = e.kind ≡ NoMemory
+
+-- where the input lends what is there, no refusal is for want of memory
+abbrev pub LendsWithoutMemory : {I X : Type 0} → (I → Unread → Type 0) → Reading I → Result X Refused → Type 0
+LendsWithoutMemory unread old result =
+    (h : Here) → Stands unread old h → h.unread.lends ≡ true → IfErr result (λ e. ¬ (e.kind ≡ NoMemory))

@@ -5,7 +5,7 @@ ghost use Rattle.granit_input.specs.Runs.{starts, is_line_char};
 ghost use Rattle.granit_lexemes.specs.Comment as spec;
 ghost use Rattle.granit_lexemes.specs.Here.{Here, next_char};
 ghost use Rattle.granit_cursor.specs.Reading.{Stands, Moves, Wherever, ReadsAs, AnswersAs, RefusedFor, coded};
-ghost use Rattle.granit_cursor.specs.Reading.{Inside, TakesText};
+ghost use Rattle.granit_cursor.specs.Reading.{Inside, LendsWithoutMemory, TakesText};
 ghost use Rattle.granit_cursor.specs.Tokens.{IsCommentKind};
 ghost use Rattle.granit_cursor.specs.Tokens.{placed, comment_token};
 
@@ -25,8 +25,9 @@ use std::alloc::Global;
 ///
 /// # Errors
 ///
-/// `NoMemory`, and `UnexpectedCharacter` at the first character on the line that isn't printable. A NUL
-/// in the text is one. `InputSlicingUnavailable`, where the input refuses to lend what it could.
+/// `UnexpectedCharacter` at the first character on the line that isn't printable. A NUL in the text is one.
+/// `NoMemory`, only where the text isn't lent. `InputSlicingUnavailable`, where the input refuses to lend what it
+/// could.
 pub fn scan_comment<'input, T: BorrowedInput<'input>>(
     alloc: Global,
     cursor: &mut Cursor<T>,
@@ -35,6 +36,7 @@ pub fn scan_comment<'input, T: BorrowedInput<'input>>(
     ensures here { ReadsAs T.unread cursor.old cursor.new result (λ h. coded comment_token (spec.comment h)) }
     ensures comment { AnswersAs T.unread cursor.old cursor.new result comment_token spec.StandsComment }
     ensures cause { RefusedFor T.unread cursor.old result spec.Spoils }
+    ensures lent { LendsWithoutMemory T.unread cursor.old result }
     ensures kinds { IfErr result (λ e. IsCommentKind e.kind) }
     ensures moves { Moves T.left T.origin cursor.old cursor.new }
 {
@@ -72,6 +74,7 @@ pub fn read_comment<'input, T: BorrowedInput<'input>>(
     cursor: &mut Cursor<T>,
 ) -> Result<Token<'input>, ScanError>
     ensures here { ReadsAs T.unread cursor.old cursor.new result (λ h. coded comment_token (spec.comment h)) }
+    ensures lent { LendsWithoutMemory T.unread cursor.old result }
     ensures kinds { IfErr result (λ e. IsCommentKind e.kind) }
     ensures moves { Moves T.left T.origin cursor.old cursor.new }
 {
@@ -92,6 +95,7 @@ fn comment_text<'input, T: BorrowedInput<'input>>(
 ) -> Result<Text<'input>, ScanError>
     ensures here { Wherever T.unread cursor.old cursor.new (λ h Lands.
         TakesText (starts is_line_char) h result (Inside Lands)) }
+    ensures lent { LendsWithoutMemory T.unread cursor.old result }
     ensures kinds { IfErr result (λ e. (e.kind ≡ NoMemory) ⊎ (e.kind ≡ InputSlicingUnavailable)) }
     ensures moves { Moves T.left T.origin cursor.old cursor.new }
 {

@@ -11,7 +11,8 @@ ghost use Rattle.granit_base.specs.Written.{string_chars};
 ghost use Rattle.granit_error.specs.Kinds.{kind_of};
 ghost use Rattle.granit_input.specs.Chunks.{Extends};
 ghost use Rattle.granit_input.specs.Origin.{error_given, Gave, LentBetween};
-ghost use Rattle.granit_input.specs.Runs.{starts, is_line_char, is_non_breakz, is_quoted_char};
+ghost use Rattle.granit_input.specs.Runs.{starts, is_line_char, is_non_breakz, is_plain_word, is_quoted_char};
+ghost use Rattle.granit_input.specs.Runs.{is_quoted_word};
 ghost use Rattle.granit_base.specs.PlainContent.{is_content};
 ghost use Rattle.granit_input.specs.White.{is_skipped};
 ghost use Rattle.granit_input.specs.declared.whitespace.SkipTabs.TheVariants.{No};
@@ -283,6 +284,73 @@ impl<T: Input> Cursor<T> {
         self.begins_line = still_begins(self.begins_line, taken);
         self.tab = still_tab(self.tab, taken);
         taken
+    }
+
+    /// Consumes words of a plain scalar, with a space between each two; how many characters.
+    pub fn skip_plain_words(&mut self, in_flow: bool) -> usize
+        ensures here { Wherever T.unread self.old self.new (λ h Lands.
+            StepsRun (is_plain_word in_flow) h result Lands) }
+        ensures takes { Takes T.left T.window self.old self.new result }
+        ensures moves { Moves T.left T.origin self.old self.new }
+    {
+        let (_, taken) = self.input.skip_run(Run::PlainWords(in_flow), usize::MAX);
+        self.index += taken;
+        self.col += taken;
+        self.begins_line = still_begins(self.begins_line, taken);
+        self.tab = still_tab(self.tab, taken);
+        taken
+    }
+
+    /// The same, and appends them. Its error is `NoMemory` alone, and what the text held stays in front.
+    pub fn fetch_plain_words(&mut self, out: &mut String, in_flow: bool) -> Result<usize, NoMemory>
+        ensures here { Wherever T.unread self.old self.new (λ h Lands.
+            FetchesSteps (is_plain_word in_flow) h result Lands (string_chars out.old) (string_chars out.new)) }
+        ensures kept { Extends (string_chars out.old) (string_chars out.new) }
+        ensures takes { IfOk result (λ count. Takes T.left T.window self.old self.new count) }
+        ensures moves { Moves T.left T.origin self.old self.new }
+    {
+        let (_, taken) = self
+            .input
+            .fetch_run(out, Run::PlainWords(in_flow), usize::MAX)?;
+        self.index += taken;
+        self.col += taken;
+        self.begins_line = still_begins(self.begins_line, taken);
+        self.tab = still_tab(self.tab, taken);
+        Ok(taken)
+    }
+
+    /// Consumes words of characters that stand for themselves in quotes, with a space between each two; how many
+    /// characters.
+    pub fn skip_quoted_words(&mut self, single: bool) -> usize
+        ensures here { Wherever T.unread self.old self.new (λ h Lands.
+            StepsRun (is_quoted_word single) h result Lands) }
+        ensures takes { Takes T.left T.window self.old self.new result }
+        ensures moves { Moves T.left T.origin self.old self.new }
+    {
+        let (_, taken) = self.input.skip_run(Run::QuotedWords(single), usize::MAX);
+        self.index += taken;
+        self.col += taken;
+        self.begins_line = still_begins(self.begins_line, taken);
+        self.tab = still_tab(self.tab, taken);
+        taken
+    }
+
+    /// The same, and appends them. Its error is `NoMemory` alone, and what the text held stays in front.
+    pub fn fetch_quoted_words(&mut self, out: &mut String, single: bool) -> Result<usize, NoMemory>
+        ensures here { Wherever T.unread self.old self.new (λ h Lands.
+            FetchesSteps (is_quoted_word single) h result Lands (string_chars out.old) (string_chars out.new)) }
+        ensures kept { Extends (string_chars out.old) (string_chars out.new) }
+        ensures takes { IfOk result (λ count. Takes T.left T.window self.old self.new count) }
+        ensures moves { Moves T.left T.origin self.old self.new }
+    {
+        let (_, taken) = self
+            .input
+            .fetch_run(out, Run::QuotedWords(single), usize::MAX)?;
+        self.index += taken;
+        self.col += taken;
+        self.begins_line = still_begins(self.begins_line, taken);
+        self.tab = still_tab(self.tab, taken);
+        Ok(taken)
     }
 
     /// Where in its source the input stands, where it has one.

@@ -89,6 +89,28 @@ fn cursors_take_runs_of_a_class(rt: HostRuntime) {
 }
 
 #[test]
+fn cursors_take_words_of_plain_scalars(rt: HostRuntime) {
+    let mut out = String::new(rt.alloc());
+    let mut cursor = Cursor::new(StrInput::new("a b: c d #"));
+    let skipped = cursor.skip_plain_words(false);
+    cursor.step();
+    let fetched = cursor.fetch_plain_words(&mut out, false).ok();
+    let seen = (skipped, fetched, out.as_str(), told(&cursor));
+    assert_eq!(rt; seen, (3, Some(4), " c d", (1, 8, false, None)));
+}
+
+#[test]
+fn cursors_take_words_of_quoted_scalars(rt: HostRuntime) {
+    let mut out = String::new(rt.alloc());
+    let mut cursor = Cursor::new(StrInput::new("é b' c\" d\\  "));
+    let skipped = cursor.skip_quoted_words(false);
+    cursor.step();
+    let fetched = cursor.fetch_quoted_words(&mut out, true).ok();
+    let seen = (skipped, fetched, out.as_str(), told(&cursor));
+    assert_eq!(rt; seen, (6, Some(3), " d\\", (1, 10, false, None)));
+}
+
+#[test]
 fn cursors_lend_runs_of_quoted_characters(rt: HostRuntime) {
     let mut cursor = Cursor::new(StrInput::new("éa'b c\\d\"\n"));
     assert_eq!(rt; cursor.take_quoted_scalar_chunk(true), ("éa", 2));

@@ -1,7 +1,9 @@
 pub mod AppendLemmas
+pub mod AsciiLemmas
 pub mod HoldsLemmas
 pub mod LendLemmas
 pub mod OriginLemmas
+pub mod PrintableLemmas
 pub mod QuotedLemmas
 pub mod RunLemmas
 pub mod StringLemmas

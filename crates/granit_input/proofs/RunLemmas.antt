@@ -7,11 +7,12 @@ use Rattle.granit_base.specs.Classes.{is_alpha, is_word_char, is_digit, is_blank
 use Rattle.granit_base.specs.Classes.{is_breakz, is_z, is_flow, is_printable, is_yaml_non_space, is_yaml_non_break}
 use Rattle.granit_base.specs.Classes.{is_bom}
 use Rattle.granit_input.specs.Runs.{run_length, run_test, class_test, is_quoted_ascii, is_quoted_char}
-use Rattle.granit_input.specs.Chunks.{TakesFront}
+use Rattle.granit_input.specs.Chunks.{FrontOf, TakesFront}
 use Rattle.granit_input.specs.declared.class.Class.{Class}
 use Rattle.granit_input.specs.declared.class.Class.TheVariants.{Alpha, NonSpace, Blank, Printable, NonBreakz}
 use Rattle.granit_input.specs.declared.class.Run.{Run}
 use Rattle.granit_input.specs.declared.class.Run.TheVariants.{Of, Plain, Quoted, QuotedAscii}
+use Rattle.granit_input.specs.declared.class.Run.TheVariants.{PlainWords, QuotedWords}
 
 -- no run takes NUL
 pub class_nul : (k : Class) → class_test k 0 ≡ false
@@ -78,6 +79,10 @@ run_nul (Quoted true) = refl
 run_nul (Quoted false) = refl
 run_nul (QuotedAscii true) = refl
 run_nul (QuotedAscii false) = refl
+run_nul (PlainWords true) = refl
+run_nul (PlainWords false) = refl
+run_nul (QuotedWords true) = refl
+run_nul (QuotedWords false) = refl
 
 -- ---- the length of a run
 
@@ -116,6 +121,14 @@ front_more test text count nul front go =
     let more : run_length test (drop count text) ≡ suc (run_length test (drop (count + 1) text)) = goes
     ∙ ap (λ (t : List ℕ). suc (run_length test t)) next in
     record { rest = omega (arith, front.rest, more) }
+
+-- so many more
+pub front_on : (test : List ℕ → Bool) (text : List ℕ) (m n : ℕ) → IsFront test text m → FrontOf test (drop m text) n
+    → IsFront test text (m + n)
+front_on test text m n front more =
+    let next : run_length test (drop n (drop m text)) ≡ run_length test (drop (m + n) text) = ap (run_length test)
+    (drop-drop n m text) in
+    record { rest = omega (arith, front.rest, more, next) }
 
 pub front_whole : (test : List ℕ → Bool) (text : List ℕ) (count : ℕ) → IsFront test text count
     → test (drop count text) ≡ false → count ≡ run_length test text

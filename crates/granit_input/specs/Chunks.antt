@@ -1,5 +1,5 @@
 -- What the calls over runs take.
-use Rattle.std.specs.Prelude.{◌≡◌, ◌≤◌, ℕ, ◌++◌, Bool, true, false, List, length, take, Result, Ok, Err}
+use Rattle.std.specs.Prelude.{◌≡◌, ◌≤◌, ℕ, ◌+◌, ◌++◌, Bool, true, false, List, length, take, drop, Result, Ok, Err}
 use Rattle.granit_base.specs.Place.{Unread}
 use Rattle.granit_input.specs.Unread.{past}
 use Rattle.granit_input.specs.Runs.{run_length}
@@ -7,6 +7,10 @@ use Rattle.granit_input.specs.Runs.{run_length}
 -- the whole run was taken, and counted
 abbrev pub SkipsRun : (List ℕ → Bool) → Unread → ℕ → (Unread → Type 0) → Type 0
 SkipsRun test u count Lands = (count ≡ run_length test u.text) × Lands (past count u)
+
+-- so many characters of the run were taken
+abbrev pub FrontOf : (List ℕ → Bool) → List ℕ → ℕ → Type 0
+FrontOf test text count = count + run_length test (drop count text) ≡ run_length test text
 
 -- what stood there still stands in front
 pub record Extends (before : List ℕ) (after : List ℕ) : Type 0 where

@@ -1,6 +1,7 @@
 -- A text that was cut.
-use Rattle.std.specs.Prelude.{◌≡◌, ℕ, ◌-◌, ◌++◌, List, length, take, drop}
-use Rattle.std.specs.Str.{chars, encode_utf8_all}
+use Rattle.std.specs.Prelude.{◌≡◌, ℕ, ◌-◌, ◌≤◌, ◌++◌, Bool, true, List, length, take, drop}
+use Rattle.std.specs.Str.{chars, encode_utf8_all, is_utf8}
+use Rattle.granit_input.specs.Chunks.{FrontOf}
 
 -- in front of the rest stands the UTF-8 of so many characters
 abbrev pub SpellsFront : List ℕ → ℕ → List ℕ → Type 0
@@ -9,3 +10,11 @@ SpellsFront text count rest = text ≡ encode_utf8_all (take count (chars text))
 -- the last n bytes
 abbrev pub last_bytes : ℕ → List ℕ → List ℕ
 last_bytes n text = drop (length text - n) text
+
+-- so many bytes in front are characters of a run
+pub record IsAsciiFront (test : List ℕ → Bool) (text : List ℕ) (count : ℕ) : Type 0 where
+  pub within : count ≤ length text
+  pub utf8 : is_utf8 (drop count text) ≡ true
+  pub front : FrontOf test (chars text) count
+  pub rest : chars (drop count text) ≡ drop count (chars text)
+  pub bytes : SpellsFront text count (drop count text)

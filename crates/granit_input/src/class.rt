@@ -1,7 +1,9 @@
 //! The classes of characters that runs are made of.
-ghost use Rattle.std.specs.Prelude.{◌≡◌, ◌∷◌};
+ghost use Rattle.std.specs.Prelude.{◌≡◌, ◌<◌, ◌==◌, ◌&&◌, not, ◌∷◌, ℕ, List, true};
 ghost use Rattle.std.specs.Str.{chars};
-ghost use Rattle.granit_input.specs.Runs.{class_test, is_quoted_ascii, is_quoted_char, run_test};
+ghost use Rattle.granit_input.specs.Runs.{begins_word, class_test, is_plain_ascii, is_quoted_ascii, is_quoted_char};
+ghost use Rattle.granit_input.specs.Runs.{run_test};
+ghost use Rattle.granit_base.specs.Place.{first};
 ghost use Rattle.granit_base.specs.PlainContent.{plain_goes_on};
 
 use granit_base::{
@@ -36,10 +38,15 @@ pub enum Run {
     Quoted(bool),
     /// Those of them from `!` to `~`.
     QuotedAscii(bool),
+    /// Those of a plain scalar, and a space between two words of it, with whether it stands in flow.
+    PlainWords(bool),
+    /// Those of a quoted scalar, and a space between two words of it, with whether its quotes are single.
+    QuotedWords(bool),
 }
 
 impl Class {
     /// Whether a character is in the class.
+    #[inline(always)]
     pub fn contains(self, c: char) -> bool
         ensures { result ≡ class_test self c }
     {
@@ -66,8 +73,63 @@ impl Run {
             }
             Run::Quoted(single) => is_quoted(c, single),
             Run::QuotedAscii(single) => is_quoted_ascii(c, single),
+            Run::PlainWords(in_flow) => {
+                let next = if c == ':' || c == ' ' {
+                    nth_char(after, 0)
+                } else {
+                    ' '
+                };
+                (!is_blank_or_breakz(c) && goes_on(c, next, in_flow))
+                    || c == ' ' && begins_word(next, in_flow)
+            }
+            Run::QuotedWords(single) => {
+                is_quoted(c, single) || c == ' ' && is_quoted(nth_char(after, 0), single)
+            }
         }
     }
+
+    /// Whether a run surely takes a character of ASCII; behind a space that is seen by `next`, if not NUL.
+    #[inline(always)]
+    pub(crate) fn takes_ascii(self, c: char, next: char) -> bool
+        ensures { (after : List ℕ) → result ≡ true
+            → (c ≡ 0x20 → 0 < next → next < 0x80 → first after ≡ next) → run_test self (c ∷ after) ≡ true }
+    {
+        match self {
+            Run::Of(class) => class.contains(c),
+            Run::Plain(in_flow) => is_plain_ascii(c, in_flow),
+            Run::Quoted(single) => is_quoted_ascii(c, single),
+            Run::QuotedAscii(single) => is_quoted_ascii(c, single),
+            Run::PlainWords(in_flow) => {
+                is_plain_ascii(c, in_flow) || c == ' ' && begins_ascii_word(next, in_flow)
+            }
+            Run::QuotedWords(single) => {
+                is_quoted_ascii(c, single) || c == ' ' && is_quoted_ascii(next, single)
+            }
+        }
+    }
+}
+
+/// Whether a character from `!` to `~` is content of a plain scalar, whatever follows it.
+#[inline(always)]
+fn is_plain_ascii(c: char, in_flow: bool) -> bool
+    ensures { result ≡ is_plain_ascii in_flow c }
+{
+    c.is_ascii_graphic() && c != ':' && !(in_flow && is_flow(c))
+}
+
+/// Whether such a character is content behind a space too.
+#[inline(always)]
+fn begins_ascii_word(c: char, in_flow: bool) -> bool
+    ensures { result ≡ (not (c == 0x23) && is_plain_ascii in_flow c) }
+{
+    c != '#' && is_plain_ascii(c, in_flow)
+}
+
+/// Whether a character behind a space is content of a plain scalar, whatever follows it.
+pub(crate) fn begins_word(c: char, in_flow: bool) -> bool
+    ensures { result ≡ begins_word in_flow c }
+{
+    !is_blank_or_breakz(c) && c != '#' && goes_on(c, ' ', in_flow)
 }
 
 /// Whether a character with `next` behind it doesn't end a plain scalar as an indicator.
@@ -79,6 +141,7 @@ pub(crate) fn goes_on(c: char, next: char, in_flow: bool) -> bool
 }
 
 /// Whether a character from `!` to `~` stands for itself in quotes.
+#[inline(always)]
 pub(crate) fn is_quoted_ascii(c: char, single: bool) -> bool
     ensures { result ≡ is_quoted_ascii single c }
 {

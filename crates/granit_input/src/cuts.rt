@@ -1,14 +1,17 @@
 //! Parts of a string.
-ghost use Rattle.std.specs.Prelude.{◌≡◌, ◌≤◌, ℕ, ◌++◌, Some, take, drop, true};
+ghost use Rattle.std.specs.Prelude.{◌≡◌, ◌≤◌, ◌<◌, ℕ, ◌+◌, ◌++◌, ◌∷◌, List, Some, length, take, drop, slice_index};
+ghost use Rattle.std.specs.Prelude.{not, true};
+ghost use Rattle.std.specs.List.{find};
 ghost use Rattle.std.specs.Str.{chars, encode_utf8_all, is_utf8};
-ghost use Rattle.granit_input.specs.Chunks.{TakesFront};
-ghost use Rattle.granit_input.specs.Cuts.{SpellsFront};
+ghost use Rattle.granit_base.specs.Classes.{is_printable};
+ghost use Rattle.granit_input.specs.Chunks.{FrontOf, TakesFront};
+ghost use Rattle.granit_input.specs.Cuts.{SpellsFront, IsAsciiFront};
 ghost use Rattle.granit_input.specs.Origin.{PartOf};
 ghost use Rattle.granit_input.specs.Runs.{run_test};
 ghost use Rattle.granit_input.specs.White.{holds};
 
-use crate::class::Run;
-use granit_base::split_first_char;
+use crate::class::{Class, Run};
+use granit_base::{is_printable, split_first_char};
 
 /// What follows so many characters, or nothing where there are fewer.
 pub fn behind(s: &str, count: usize) -> &str
@@ -44,10 +47,97 @@ pub fn past_run(s: &str, run: Run, limit: usize) -> (bool, usize, &str)
         if !run.takes(c, after) {
             return (true, count, rest);
         }
-        rest = after;
-        count += 1;
+        let (more, behind) = past_ascii(after, run, limit - count - 1);
+        rest = behind;
+        count += 1 + more;
     }
     (false, count, rest)
+}
+
+/// What follows characters of ASCII that a run takes, at most `limit`, behind how many these are.
+fn past_ascii(s: &str, run: Run, limit: usize) -> (usize, &str)
+    ensures front { FrontOf (run_test run) (chars s.now) result.0 }
+    ensures limit { result.0 ≤ limit }
+    ensures text { chars result.1.now ≡ drop result.0 (chars s.now) }
+    ensures bytes { SpellsFront s.now result.0 result.1.now }
+    ensures utf8 { is_utf8 result.1.now ≡ true }
+{
+    let count = ascii_count(s, run, limit);
+    (count, &s[count..])
+}
+
+/// How many characters of ASCII a run takes in front, at most `limit`. A run that is often long has a loop of its
+/// own, since what counts is carried out here.
+fn ascii_count(s: &str, run: Run, limit: usize) -> usize
+    ensures front { IsAsciiFront (run_test run) s.now result }
+    ensures limit { result ≤ limit }
+{
+    match run {
+        Run::Of(Class::Printable) => ascii_front(s, Run::Of(Class::Printable), limit),
+        Run::PlainWords(true) => ascii_front(s, Run::PlainWords(true), limit),
+        Run::PlainWords(false) => ascii_front(s, Run::PlainWords(false), limit),
+        Run::QuotedWords(true) => ascii_front(s, Run::QuotedWords(true), limit),
+        Run::QuotedWords(false) => ascii_front(s, Run::QuotedWords(false), limit),
+        _ => ascii_front(s, run, limit),
+    }
+}
+
+/// The same, carried out where it is called.
+#[inline(always)]
+fn ascii_front(s: &str, run: Run, limit: usize) -> usize
+    ensures front { IsAsciiFront (run_test run) s.now result }
+    ensures limit { result ≤ limit }
+{
+    let bytes = s.as_bytes();
+    let end = limit.min(bytes.len());
+    let mut count = 0;
+    'front: while count < end {
+        if !takes_byte(bytes, count, run) {
+            return count;
+        }
+        count += 1;
+    }
+    count
+}
+
+/// Whether a run surely takes the character of ASCII at a place.
+#[inline(always)]
+fn takes_byte(bytes: &[u8], at: usize, run: Run) -> bool
+    requires { at < length bytes.now }
+    ensures low { result ≡ true → slice_index bytes.now at < 0x80 }
+    ensures takes { (after : List ℕ) → result ≡ true → chars (drop (at + 1) bytes.now) ≡ after
+        → is_utf8 (drop (at + 1) bytes.now) ≡ true → run_test run (slice_index bytes.now at ∷ after) ≡ true }
+{
+    let byte = bytes[at];
+    let next = behind_space(bytes, at, byte);
+    byte < 0x80 && run.takes_ascii(byte as char, next as char)
+}
+
+/// The byte behind a place where a space stands, and else 0.
+#[inline(always)]
+fn behind_space(bytes: &[u8], at: usize, byte: u8) -> u8
+    requires { at < length bytes.now }
+    ensures { 0 < result → (at + 1 < length bytes.now) × (result ≡ slice_index bytes.now (at + 1)) }
+{
+    if byte == b' ' && at + 1 < bytes.len() {
+        return bytes[at + 1];
+    }
+    0
+}
+
+/// The first character that isn't printable.
+pub fn find_unprintable(s: &str) -> Option<char>
+    ensures { result ≡ find (λ c. not (is_printable c)) (chars s.now) }
+{
+    let mut rest = s;
+    'found: while let Some((c, after)) = split_first_char(rest) {
+        if !is_printable(c) {
+            return Some(c);
+        }
+        let (_, behind) = past_ascii(after, Run::Of(Class::Printable), usize::MAX);
+        rest = behind;
+    }
+    None
 }
 
 /// What stands in front of the rest of a string.

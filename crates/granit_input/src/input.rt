@@ -21,7 +21,7 @@ ghost use Rattle.granit_input.specs.Looks.{begins_with_2, begins_with_3, is_docu
 ghost use Rattle.granit_input.specs.Looks.{is_document_indicator, ReadsNonBreakz};
 ghost use Rattle.granit_input.specs.White.{holds, SkipsBlanks, SkipsWhite};
 
-use crate::class::{Class, Run, goes_on, is_quoted, is_quoted_ascii};
+use crate::class::{Class, Run, begins_word, goes_on, is_quoted, is_quoted_ascii};
 use crate::whitespace::{SkipTabs, WhitespaceResult};
 use granit_base::{
     NoMemory, is_alpha, is_blank, is_blank_or_breakz, is_break, is_breakz, is_digit, is_flow,
@@ -322,6 +322,18 @@ pub trait Input: Drop {
             Run::QuotedAscii(single) => {
                 let c = self.look_ch();
                 is_quoted_ascii(c, single)
+            }
+            Run::PlainWords(in_flow) => {
+                self.lookahead(2);
+                let c = self.peek();
+                let next = self.peek_nth(1);
+                (!is_blank_or_breakz(c) && goes_on(c, next, in_flow))
+                    || c == ' ' && begins_word(next, in_flow)
+            }
+            Run::QuotedWords(single) => {
+                self.lookahead(2);
+                let c = self.peek();
+                is_quoted(c, single) || c == ' ' && is_quoted(self.peek_nth(1), single)
             }
         }
     }

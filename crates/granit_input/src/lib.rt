@@ -10,6 +10,7 @@ mod whitespace;
 
 pub use borrowed::BorrowedInput;
 pub use class::{Class, Run};
+pub use cuts::find_unprintable;
 pub use input::Input;
 pub use str_input::StrInput;
 pub use whitespace::{SkipTabs, WhitespaceResult};

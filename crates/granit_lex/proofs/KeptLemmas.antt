@@ -1,14 +1,14 @@
 -- What stands for itself in front of a quoted scalar, taken without a turn for each character.
 use Rattle.std.proofs.Common.{◌≡◌, ℕ, zero, suc, ◌+◌, ◌≤◌, ◌<◌, ◌==◌, Bool, true, false, not, ◌&&◌, ◌||◌, cond}
-use Rattle.std.proofs.Common.{List, [], ◌∷◌, ◌++◌, length, take, drop, map, Some, Result, Ok, Err}
+use Rattle.std.proofs.Common.{List, [], ◌∷◌, ◌++◌, length, take, drop, slice_index, map, Some, Result, Ok, Err}
 use Rattle.std.proofs.Common.{refl, sym, ap, ap₂, ◌∙◌, append_assoc, arith, inl, inr}
-use Rattle.std.proofs.lemmas.Bool.{and_parts, cases_Bool, eqb-true}
+use Rattle.std.proofs.lemmas.Bool.{and_parts, cases_Bool, eqb-true, or_parts}
 use Rattle.std.proofs.lemmas.Bool.Decides.{nat_tests}
 use Rattle.std.proofs.lemmas.List.{append-nil}
 use Rattle.granit_base.specs.Classes.{is_blank, is_break, is_gap, is_printable}
 use Rattle.granit_base.specs.Place.{Mark, Unread, first}
 use Rattle.granit_base.specs.Written.{Written}
-use Rattle.granit_input.specs.Runs.{run_length, starts, is_quoted_char}
+use Rattle.granit_input.specs.Runs.{run_length, starts, is_quoted_char, is_quoted_word}
 use Rattle.granit_lexemes.specs.Here.{Here, text_len, next_char, mark_of, step}
 use Rattle.granit_lexemes.specs.LayoutData.{LayoutData}
 use Rattle.granit_lexemes.specs.Moves.{steps}
@@ -21,35 +21,50 @@ use Rattle.granit_lexemes.proofs.HereLemmas.{step_text, not_empty}
 use Rattle.granit_scalars.proofs.Comments.{steps_text, none_dropped}
 use Rattle.granit_cursor.specs.Reading.{Reading, Stands}
 use Rattle.granit_cursor.proofs.MoveLemmas.{run_begins, steps_twice, KeepsLine, keeps_line}
+use Rattle.granit_cursor.proofs.WordLemmas.{whole_rest}
 use Rattle.granit_lex.specs.QuotedCode.{quoted_state, quoted_whole, quoted_ahead, content_read}
 use Rattle.granit_lex.specs.QuotedCode.{nothing_taken as begun, kept_char, kept_chars, copied_scalar, passed_scalar}
 use Rattle.granit_lex.specs.Taken.{QuotedTaken}
 use Rattle.granit_lex.specs.declared.quoted.Ahead.TheVariants.{Blank, End}
+use Rattle.granit_lex.proofs.PlainLemmas.{none_taken}
 use Rattle.granit_lex.proofs.QuotedLemmas.{over_gap, over_content, at_end, quoted_begins}
 
 -- ---- what the runs take
 
--- a character that stands for itself is one of content or a blank
-abbrev pub Inside : (ℕ → Bool) → Bool → Type 0
-Inside test single = (c : ℕ) → test c ≡ true → is_kept single c ≡ true
+-- a character that stands for itself is one of a word, a space between two words, or a blank
+abbrev pub Inside : (List ℕ → Bool) → Bool → Type 0
+Inside test single = (text : List ℕ) → test text ≡ true → is_kept single (first text) ≡ true
 
-pub quoted_inside : (single : Bool) → Inside (is_quoted_char single) single
+quoted_inside : (single : Bool) (c : ℕ) → is_quoted_char single c ≡ true → is_kept single c ≡ true
 unfolding is_blank is_break is_gap is_printable is_literal
 quoted_inside true c y = grind (arith, nat_tests)
 quoted_inside false c y = grind (arith, nat_tests)
 
-pub blank_inside : (single : Bool) → Inside is_blank single
-blank_inside single c y = ap (λ b. b || is_literal single c) y
+space_inside : (single : Bool) (c : ℕ) → (c == 0x20) ≡ true → is_kept single c ≡ true
+unfolding is_blank
+space_inside single c y = let is : c ≡ 0x20 = eqb-true c 0x20 y in rw is refl
 
-pub none_kept : (single : Bool) (c : ℕ) → is_quoted_char single c ≡ false → is_blank c ≡ false
+pub words_inside : (single : Bool) → Inside (is_quoted_word single) single
+words_inside single text y =
+    elim (cases_Bool (is_quoted_char single (first text))) [
+      | inl char ↦ quoted_inside single (first text) char
+      | inr other ↦ (
+          let space : (first text == 0x20 && is_quoted_char single (slice_index text 1)) ≡ true = rw other at y in
+          space_inside single (first text) (and_parts _ _ space).0)
+    ]
+
+pub blank_inside : (single : Bool) → Inside (starts is_blank) single
+blank_inside single text y = ap (λ b. b || is_literal single (first text)) y
+
+none_kept : (single : Bool) (c : ℕ) → is_quoted_char single c ≡ false → is_blank c ≡ false
     → is_kept single c ≡ false
 unfolding is_blank is_break is_gap is_printable is_literal
 none_kept true c y z = grind (arith, nat_tests)
 none_kept false c y z = grind (arith, nat_tests)
 
 -- a front that passes a narrower test
-pub part_run : (test : ℕ → Bool) (single : Bool) → Inside test single → (n : ℕ) (text : List ℕ)
-    → n ≤ run_length (starts test) text
+pub part_run : (test : List ℕ → Bool) (single : Bool) → Inside test single → (n : ℕ) (text : List ℕ)
+    → n ≤ run_length test text
     → run_length (starts (is_kept single)) text ≡ n + run_length (starts (is_kept single)) (drop n text)
 unfolding run_length
 part_run test single inside zero [] fits = refl
@@ -57,25 +72,31 @@ part_run test single inside zero (c ∷ cs) fits = let e : run_length (starts (i
     ≡ 0 + run_length (starts (is_kept single)) (c ∷ cs) = omega arith in e
 part_run test single inside (suc n) [] fits = absurd (omega arith)
 part_run test single inside (suc n) (c ∷ cs) fits =
-    let b = run_begins (starts test) n (c ∷ cs) fits in
-    let more : n ≤ run_length (starts test) cs = b.more in
+    let b = run_begins test n (c ∷ cs) fits in
+    let more : n ≤ run_length test cs = b.more in
     let rest = part_run test single inside n cs more in
-    rw (inside c b.passes) (let e : suc (run_length (starts (is_kept single)) cs)
+    let kept : is_kept single c ≡ true = inside (c ∷ cs) b.passes in
+    rw kept (let e : suc (run_length (starts (is_kept single)) cs)
     ≡ suc n + run_length (starts (is_kept single)) (drop n cs) = omega (arith, rest) in e)
 
-none_by : (single : Bool) (c : ℕ) (cs : List ℕ) (q b : Bool) → is_quoted_char single c ≡ q → is_blank c ≡ b
-    → cond q (suc (run_length (starts (is_quoted_char single)) cs)) 0 ≡ 0
+pub words_fit : (single : Bool) (n : ℕ) (text : List ℕ) → n ≡ run_length (is_quoted_word single) text
+    → n ≤ run_length (starts (is_kept single)) text
+words_fit single n text whole =
+    omega (arith, part_run (is_quoted_word single) single (words_inside single) n text (omega (arith, whole)))
+
+none_by : (single : Bool) (c : ℕ) (cs : List ℕ) (q b : Bool) → is_quoted_word single (c ∷ cs) ≡ q → is_blank c ≡ b
+    → cond q (suc (run_length (is_quoted_word single) cs)) 0 ≡ 0
     → cond b (suc (run_length (starts is_blank) cs)) 0 ≡ 0 → is_kept single c ≡ false
 none_by single c cs true b y z p q = absurd (omega (arith, p))
 none_by single c cs false true y z p q = absurd (omega (arith, q))
-none_by single c cs false false y z p q = none_kept single c y z
+none_by single c cs false false y z p q = none_kept single c (or_parts _ _ y).0 z
 
--- where neither a character of content nor a blank stands, none is kept
-none_run : (single : Bool) (text : List ℕ) → run_length (starts (is_quoted_char single)) text ≡ 0
+-- where neither a word nor a blank stands, none is kept
+none_run : (single : Bool) (text : List ℕ) → run_length (is_quoted_word single) text ≡ 0
     → run_length (starts is_blank) text ≡ 0 → run_length (starts (is_kept single)) text ≡ 0
 unfolding run_length
 none_run single [] p q = refl
-none_run single (c ∷ cs) p q = rw (none_by single c cs (is_quoted_char single c) (is_blank c) refl refl p q) refl
+none_run single (c ∷ cs) p q = rw (none_by single c cs (is_quoted_word single (c ∷ cs)) (is_blank c) refl refl p q) refl
 
 pub stands_none : {I : Type 0} (unread : I → Unread → Type 0) (r : Reading I) (h : Here) → Stands unread r h
     → Stands unread r (steps 0 h)
@@ -91,7 +112,7 @@ run_none single h = omega arith
 pub run_goes : (single : Bool) (h : Here) (m a b : ℕ)
     → run_length (starts (is_kept single)) h.unread.text
     ≡ m + run_length (starts (is_kept single)) (steps m h).unread.text
-    → a ≡ run_length (starts (is_quoted_char single)) (steps m h).unread.text
+    → a ≡ run_length (is_quoted_word single) (steps m h).unread.text
     → b ≡ run_length (starts is_blank) (steps a (steps m h)).unread.text
     → run_length (starts (is_kept single)) h.unread.text
     ≡ (m + a + b) + run_length (starts (is_kept single)) (steps b (steps a (steps m h))).unread.text
@@ -100,17 +121,17 @@ run_goes single h m a b so_far content blanks =
     let g = steps m h in
     let i = steps a g in
     let one : run_length kept g.unread.text ≡ a + run_length kept i.unread.text =
-    part_run (is_quoted_char single) single (quoted_inside single) a g.unread.text (omega (arith, content))
+    part_run (is_quoted_word single) single (words_inside single) a g.unread.text (omega (arith, content))
     ∙ ap (λ (t : List ℕ). a + run_length kept t) (sym (steps_text a g)) in
     let two : run_length kept i.unread.text ≡ b + run_length kept (steps b i).unread.text =
-    part_run is_blank single (blank_inside single) b i.unread.text (omega (arith, blanks))
+    part_run (starts is_blank) single (blank_inside single) b i.unread.text (omega (arith, blanks))
     ∙ ap (λ (t : List ℕ). b + run_length kept t) (sym (steps_text b i)) in
     omega (arith, so_far, one, two)
 
 pub run_whole : (single : Bool) (h : Here) (m a b : ℕ)
     → run_length (starts (is_kept single)) h.unread.text
     ≡ m + run_length (starts (is_kept single)) (steps m h).unread.text
-    → a ≡ run_length (starts (is_quoted_char single)) (steps m h).unread.text
+    → a ≡ run_length (is_quoted_word single) (steps m h).unread.text
     → b ≡ run_length (starts is_blank) (steps a (steps m h)).unread.text → a ≡ 0 → b ≡ 0
     → m + a + b ≡ run_length (starts (is_kept single)) h.unread.text
 run_whole single h m a b so_far content blanks no_content no_blanks =
@@ -278,6 +299,77 @@ kept_more (d ∷ cs) p c = kept_more cs (kept_char p d) c
 pub as_they_are : (cs : List ℕ) → cs ≡ map (λ c. c) cs
 as_they_are [] = refl
 as_they_are (c ∷ cs) = ap (λ (ds : List ℕ). c ∷ ds) (as_they_are cs)
+
+quoted_solid : (single : Bool) (c : ℕ) → is_quoted_char single c ≡ true → is_blank c ≡ false
+unfolding is_blank is_printable
+quoted_solid true c y = grind (arith, nat_tests)
+quoted_solid false c y = grind (arith, nat_tests)
+
+word_some : (single : Bool) (text : List ℕ) → is_quoted_word single text ≡ true
+    → 0 < run_length (is_quoted_word single) text
+unfolding run_length
+word_some true [] y = absurd cc
+word_some false [] y = absurd cc
+word_some single (c ∷ cs) y = rw y (omega arith)
+
+same_taken : (q : QuotedTaken) (value pending : List ℕ) {on escaped : Bool} → q.value ≡ value → q.pending ≡ pending
+    → q.on_new_line ≡ on → q.escaped ≡ escaped
+    → q ≡ record { value = value; pending = pending; on_new_line = on; escaped = escaped }
+same_taken q value pending v p o e = rw (← v, ← p, ← o, ← e) refl
+
+kept_escaped : (cs : List ℕ) (p : QuotedTaken) → (kept_chars p cs).escaped ≡ p.escaped
+kept_escaped [] p = refl
+kept_escaped (c ∷ cs) p = kept_escaped cs (kept_char p c) ∙ escaped_kept p c
+
+-- behind the last of so many words no blank is pending
+module _ (single : Bool) where
+  words_end : (n : ℕ) (p : QuotedTaken) (text : List ℕ) → (n ≡ 0 → p.pending ≡ [])
+      → n ≡ run_length (is_quoted_word single) text → (kept_chars p (take n text)).pending ≡ []
+  unfolding run_length
+  words_end zero p text none whole =
+      ap (λ (t : List ℕ). (kept_chars p t).pending) (none_taken text) ∙ none refl
+  words_end (suc n) p [] none whole = absurd (omega (arith, whole))
+  words_end (suc n) p (c ∷ cs) none whole =
+      let b = run_begins (is_quoted_word single) n (c ∷ cs) (omega (arith, whole)) in
+      let rest = whole_rest (is_quoted_word single) n (c ∷ cs) whole in
+      words_end n (kept_char p c) cs (λ z. last_shows p c cs (is_quoted_char single c) refl b.passes (sym z ∙ rest))
+      rest
+    where
+      last_shows : (p : QuotedTaken) (c : ℕ) (cs : List ℕ) (q : Bool) → is_quoted_char single c ≡ q
+          → is_quoted_word single (c ∷ cs) ≡ true → 0 ≡ run_length (is_quoted_word single) cs
+          → (kept_char p c).pending ≡ []
+      last_shows p c cs true y passes over = rw (quoted_solid single c y) refl
+      last_shows p c cs false y passes over = absurd (
+          let space : (c == 0x20 && is_quoted_char single (first cs)) ≡ true = rw y at passes in
+          let char = (and_parts (c == 0x20) (is_quoted_char single (first cs)) space).1 in
+          let next : is_quoted_word single cs ≡ true =
+          ap (λ (b : Bool). b || (first cs == 0x20 && is_quoted_char single (slice_index cs 1))) char in
+          omega (arith, over, word_some single cs next))
+
+  pub words_kept : (n : ℕ) (p : QuotedTaken) (text : List ℕ) → p.pending ≡ []
+      → n ≡ run_length (is_quoted_word single) text
+      → kept_chars p (take n text) ≡ record p { value = p.value ++ take n text }
+  words_kept n p text none whole =
+      let q = kept_chars p (take n text) in
+      let end = words_end n p text (λ _. none) whole in
+      let value : q.value ≡ p.value ++ take n text = sym (append-nil q.value)
+      ∙ ap (λ (t : List ℕ). q.value ++ t) (sym end) ∙ joins (take n text) p
+      ∙ ap (λ (t : List ℕ). (p.value ++ t) ++ take n text) none
+      ∙ ap (λ (t : List ℕ). t ++ take n text) (append-nil p.value) in
+      same_taken q (p.value ++ take n text) p.pending value (end ∙ sym none) (kept_line (take n text) p)
+      (kept_escaped (take n text) p)
+
+-- so many characters of words were appended to what is held
+pub words_taken : (single : Bool) (at : LayoutData) (start : Mark) (q p : QuotedTaken) (n : ℕ) (h : Here)
+    → p.pending ≡ [] → p.on_new_line ≡ false → p.escaped ≡ false
+    → n ≡ run_length (is_quoted_word single) h.unread.text → q.value ≡ p.value ++ take n h.unread.text
+    → q.pending ≡ p.pending → q.on_new_line ≡ p.on_new_line → q.escaped ≡ p.escaped
+    → quoted_whole single at start q (steps n h) ≡ quoted_whole single at start p h
+words_taken single at start q p n h none line escaped whole value pending on escapes =
+    ap (λ (r : QuotedTaken). quoted_whole single at start r (steps n h))
+    (same_taken q (p.value ++ take n h.unread.text) p.pending value pending on escapes
+    ∙ sym (words_kept single n p h.unread.text none whole))
+    ∙ kept_whole single at start n p h line escaped (words_fit single n h.unread.text whole)
 
 -- ---- the scalar behind what was passed
 

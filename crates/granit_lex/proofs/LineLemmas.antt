@@ -1,34 +1,38 @@
 -- The first line of a plain scalar, taken without a turn for each blank.
-use Rattle.std.proofs.Common.{◌≡◌, ℕ, zero, suc, ◌+◌, ◌<◌, ◌≤◌, ◌==◌, Bool, true, false, not, ◌&&◌, List, []}
-use Rattle.std.proofs.Common.{◌∷◌, ◌++◌, length, take, drop, Ok, refl, sym, ap, ◌∙◌}
+use Rattle.std.proofs.Common.{◌≡◌, ℕ, zero, suc, ◌+◌, ◌<◌, ◌≤◌, ◌==◌, Bool, true, false, not, ◌&&◌, ◌||◌, List, []}
+use Rattle.std.proofs.Common.{◌∷◌, ◌++◌, length, take, drop, slice_index, Result, Ok, refl, sym, ap, ap₂, ◌∙◌}
 use Rattle.std.proofs.Common.{append_assoc, nat_lt, inl, inr, subst, arith}
 use Rattle.std.proofs.Math.Bool.{and-false}
 use Rattle.std.proofs.Math.Seq.{take-add}
 use Rattle.std.proofs.lemmas.List.{append-nil, length-take-le}
-use Rattle.std.proofs.lemmas.Bool.{cases_Bool}
+use Rattle.std.proofs.lemmas.Bool.{and_parts, cases_Bool, eqb-true, not-true, or_parts}
 use Rattle.std.proofs.lemmas.Bool.Decides.{nat_tests}
 use Rattle.granit_base.specs.Classes.{is_blank, is_break, is_breakz, is_blank_or_breakz, is_z}
 use Rattle.granit_base.specs.Place.{Mark, Place, Unread, first}
 use Rattle.granit_base.specs.PlainContent.{is_content}
 use Rattle.granit_input.proofs.RunLemmas.{run_within}
 use Rattle.granit_input.proofs.UnreadLemmas.{past_none, past_text, past_twice}
-use Rattle.granit_input.specs.Runs.{run_length, starts}
+use Rattle.granit_input.specs.Runs.{begins_word, is_plain_word, run_length, starts}
 use Rattle.granit_input.specs.Unread.{past}
 use Rattle.granit_lexemes.specs.Basics.{past_break}
 use Rattle.granit_lexemes.specs.Here.{Here, next_char, mark_of, step}
 use Rattle.granit_lexemes.specs.LayoutData.{LayoutData}
 use Rattle.granit_lexemes.specs.Moves.{steps}
 use Rattle.granit_lexemes.specs.Pieces.{with_front}
-use Rattle.granit_lexemes.specs.PlainScalar.{meets_comment, on_blank, on_break, on_content, plain_turn}
-use Rattle.granit_lexemes.specs.PlainScalar.{plain_len}
+use Rattle.granit_lexemes.specs.Outcome.{Fault}
+use Rattle.granit_lexemes.specs.PlainScalar.{PlainState, between, meets_comment, on_blank, on_break, on_content}
+use Rattle.granit_lexemes.specs.PlainScalar.{plain_len, plain_turn}
 use Rattle.granit_lexemes.proofs.HereLemmas.{step_text}
 use Rattle.granit_lexemes.proofs.PieceLemmas.{with_front-nil, with_front-with_front, pieces_more, pieces_done}
 use Rattle.granit_scalars.proofs.Comments.{none_dropped, steps_text}
 use Rattle.granit_scalars.proofs.PlainTurns.{plain_shortens}
-use Rattle.granit_cursor.proofs.MoveLemmas.{Along, moved, blank_line, plain_shows, run_along, run_begins}
+use Rattle.granit_cursor.proofs.MoveLemmas.{Along, moved, blank_line, run_along, run_begins}
+use Rattle.granit_cursor.proofs.WordLemmas.{first_of, joined_line, plain_joins, whole_rest, word_next}
 use Rattle.granit_lex.specs.LineCode.{LinePassed, PassesWord, line_state, broken_state, continues}
-use Rattle.granit_lex.specs.PlainCode.{inside, plain_rest}
-use Rattle.granit_lex.proofs.PlainLemmas.{apart, content_run, none_taken, take_suc}
+use Rattle.granit_lex.specs.PlainCode.{ahead_of, inside, plain_rest, plain_state, plain_whole}
+use Rattle.granit_lex.specs.Taken.{PlainTaken}
+use Rattle.granit_lex.specs.declared.plain.Ahead.TheVariants.{Content}
+use Rattle.granit_lex.proofs.PlainLemmas.{apart, none_taken, take_suc, turn_is}
 
 -- ---- along a line
 
@@ -70,10 +74,11 @@ left_along unread input n h now a known = subst (unread input) a.unread known
 
 -- on over blanks and content
 pub along_word : (in_flow : Bool) (k n : ℕ) (h : Here) → k ≤ run_length (starts is_blank) h.unread.text
-    → n ≤ run_length (is_content in_flow) (steps k h).unread.text → Along (k + n) h (steps n (steps k h))
+    → n ≤ run_length (is_plain_word in_flow) (steps k h).unread.text → Along (k + n) h (steps n (steps k h))
 along_word in_flow k n h blanks content =
     along_more k n h (steps k h) (steps n (steps k h)) (run_along (starts is_blank) k h blank_line blanks)
-    (run_along (is_content in_flow) n (steps k h) (λ text passes. (plain_shows in_flow text passes).0) content)
+    (run_along (is_plain_word in_flow) n (steps k h) (joined_line (is_plain_word in_flow) (plain_joins in_flow))
+    content)
 
 -- a run that was taken whole has ended
 pub run_over : (test : List ℕ → Bool) (n : ℕ) (text : List ℕ) → test [] ≡ false → n ≡ run_length test text
@@ -100,7 +105,7 @@ pub word_stopped : (in_flow : Bool) (h : Here) (blank : Bool) → (next_char h =
 word_stopped in_flow h blank met = ap (λ b. is_content in_flow h.unread.text && not b) met
     ∙ and-false (is_content in_flow h.unread.text)
 
-no_content_at_end : (in_flow : Bool) → is_content in_flow [] ≡ false
+no_content_at_end : (in_flow : Bool) → is_plain_word in_flow [] ≡ false
 unfolding is_blank_or_breakz is_breakz is_blank is_break is_z
 no_content_at_end in_flow = refl
 
@@ -108,7 +113,7 @@ no_content_at_end in_flow = refl
 pub word_passed : (in_flow : Bool) (h : Here) (blank : Bool) (k n : ℕ) (Lands : Here → Type 0)
     → k ≡ run_length (starts is_blank) h.unread.text → blank ≡ not (k == 0)
     → (next_char (steps k h) == 0x23 && blank) ≡ false
-    → n ≡ run_length (is_content in_flow) (steps k h).unread.text → Lands (steps n (steps k h))
+    → n ≡ run_length (is_plain_word in_flow) (steps k h).unread.text → Lands (steps n (steps k h))
     → (content : Bool) → nat_lt 0 n ≡ content → PassesWord in_flow h blank content Lands
 unfolding steps
 word_passed in_flow h blank k n Lands blanks is none whole lands true some =
@@ -116,15 +121,44 @@ word_passed in_flow h blank k n Lands blanks is none whole lands true some =
 word_passed in_flow h blank k n Lands blanks is none whole lands false some =
     let b = steps k h in
     let zero_taken : n ≡ 0 = grind (arith, nat_tests) in
-    let ends : is_content in_flow b.unread.text ≡ false = ap (is_content in_flow) (sym (none_dropped b.unread.text))
-    ∙ ap (λ (m : ℕ). is_content in_flow (drop m b.unread.text)) (sym zero_taken)
-    ∙ run_over (is_content in_flow) n b.unread.text (no_content_at_end in_flow) whole in (
+    let test = is_plain_word in_flow in
+    let over : test b.unread.text ≡ false = ap test (sym (none_dropped b.unread.text))
+    ∙ ap (λ (m : ℕ). test (drop m b.unread.text)) (sym zero_taken)
+    ∙ run_over test n b.unread.text (no_content_at_end in_flow) whole in
+    let ends : is_content in_flow b.unread.text ≡ false = (or_parts _ _ over).0 in (
       k,
       blanks,
       is,
       ap (λ b. b && not (next_char (steps k h) == 0x23 && blank)) ends,
       subst (λ (m : ℕ). Lands (steps m b)) zero_taken lands,
     )
+
+-- a space in such a run, behind which its next word begins
+record SpaceGoes (in_flow : Bool) (text : List ℕ) : Type 0 where
+  blank : is_blank (first text) ≡ true
+  solid : (first (drop 1 text) == 0x23) ≡ false
+  more : 0 < run_length (is_plain_word in_flow) (drop 1 text)
+
+run_some : (test : List ℕ → Bool) (text : List ℕ) → test [] ≡ false → test text ≡ true → 0 < run_length test text
+unfolding run_length
+run_some test [] nul y = absurd cc
+run_some test (c ∷ cs) nul y = rw y (omega arith)
+
+space_goes : (in_flow : Bool) (text : List ℕ) → is_content in_flow text ≡ false → is_plain_word in_flow text ≡ true
+    → SpaceGoes in_flow text
+unfolding is_blank
+space_goes in_flow text other passes =
+    let space : (first text == 0x20 && begins_word in_flow (slice_index text 1)) ≡ true = rw other at passes in
+    let p = and_parts (first text == 0x20) (begins_word in_flow (slice_index text 1)) space in
+    let is : first text ≡ 0x20 = eqb-true (first text) 0x20 p.0 in
+    let apart = and_parts _ _ (and_parts _ _ p.1).1 in
+    let next : is_plain_word in_flow (drop 1 text) ≡ true = ap (λ b. b || (first (drop 1 text) == 0x20
+    && begins_word in_flow (slice_index (drop 1 text) 1))) (word_next in_flow text p.1) in
+    record {
+      blank = rw is refl;
+      solid = ap (λ (c : ℕ). c == 0x23) (first_of text) ∙ not-true (slice_index text 1 == 0x23) apart.0;
+      more = run_some (is_plain_word in_flow) (drop 1 text) (no_content_at_end in_flow) next;
+    }
 
 -- ---- turn by turn
 
@@ -165,25 +199,79 @@ module _ (at : LayoutData) (start : Mark) where
       pieces_more plain_len (plain_turn at start) (plain_shortens at start) (line_state end pending h)
       (inside (step h)) (pending ++ next_char h ∷ []) (rw (a.0, a.1, n, y) refl)
 
-  -- a stretch of content behind blanks
-  content_stretch : (end : Mark) (pending : List ℕ) (h : Here) (n : ℕ) → 0 < n
-      → n ≤ run_length (is_content at.in_flow) h.unread.text → meets_comment (line_state end pending h) ≡ false
+  pub line_begins : (h : Here) → plain_rest at start (inside h)
+      ≡ with_front (take 0 h.unread.text) (plain_rest at start (inside h))
+  line_begins h =
+      sym (with_front-nil (plain_rest at start (inside h)))
+      ∙ ap (λ (t : List ℕ). with_front t (plain_rest at start (inside h))) (sym (none_taken h.unread.text))
+
+  -- words behind blanks, or where nothing was read since the last content
+  words_stretch : (n : ℕ) (end : Mark) (pending : List ℕ) (h : Here)
+      → (n ≡ 0 → (pending ≡ []) × (end ≡ mark_of h))
+      → n ≡ run_length (is_plain_word at.in_flow) h.unread.text → meets_comment (line_state end pending h) ≡ false
       → plain_rest at start (line_state end pending h)
       ≡ with_front (pending ++ take n h.unread.text) (plain_rest at start (inside (steps n h)))
   unfolding steps
-  content_stretch end pending h zero some fits none = absurd (omega (arith, some))
-  content_stretch end pending h (suc n) some fits none =
-      let b = run_begins (is_content at.in_flow) n h.unread.text fits in
-      let more : n ≤ run_length (is_content at.in_flow) (step h).unread.text = rw (step_text h) b.more in
+  words_stretch zero end pending h none whole met =
+      let e = none refl in
+      rw (e.0, e.1) (line_begins h)
+  words_stretch (suc n) end pending h none whole met =
+      let test = is_plain_word at.in_flow in
+      let b = run_begins test n h.unread.text (omega (arith, whole)) in
+      let rest : n ≡ run_length test (step h).unread.text = whole_rest test n h.unread.text whole
+      ∙ ap (run_length test) (sym (step_text h)) in
+      let taken : next_char h ∷ take n (step h).unread.text ≡ take (suc n) h.unread.text =
+      ap (λ (t : List ℕ). next_char h ∷ take n t) (step_text h) ∙ take_suc n h.unread.text b.some in
       let front = pending ++ next_char h ∷ [] in
+      let there = plain_rest at start (inside (steps n (step h))) in
+      let joined : front ++ take n (step h).unread.text ≡ pending ++ take (suc n) h.unread.text =
+      append_assoc pending (next_char h ∷ []) (take n (step h).unread.text)
+      ∙ ap (λ (t : List ℕ). pending ++ t) taken in
+      elim (cases_Bool (is_content at.in_flow h.unread.text)) [
+        | inl content ↦
+            content_turn end pending h content met
+            ∙ ap (with_front front) (words_stretch n (mark_of (step h)) [] (step h) (λ _. (refl, refl)) rest
+            (and-false (next_char (step h) == 0x23)))
+            ∙ with_front-with_front front (take n (step h).unread.text) there
+            ∙ ap (λ (t : List ℕ). with_front t there) joined
+        | inr other ↦
+            let s = space_goes at.in_flow h.unread.text other b.passes in
+            let some : 0 < n = omega (arith, s.more, rest, ap (run_length test) (step_text h)) in
+            blank_turn end pending h s.blank
+            ∙ words_stretch n end front (step h) (λ z. absurd (omega (arith, z, some))) rest
+            (ap (λ (c : Bool). c && (false || (not false && not (length front == 0))))
+            (ap (λ (t : List ℕ). first t == 0x23) (step_text h) ∙ s.solid))
+            ∙ ap (λ (t : List ℕ). with_front t there) joined
+      ]
+
+  words_run : (n : ℕ) (g : Here) → n ≡ run_length (is_plain_word at.in_flow) g.unread.text
+      → plain_rest at start (inside g) ≡ with_front (take n g.unread.text) (plain_rest at start (inside (steps n g)))
+  words_run n g whole =
+      words_stretch n (mark_of g) [] g (λ _. (refl, refl)) whole (and-false (next_char g == 0x23))
+
+  -- a turn that takes words
+  pub words_go : (p q : PlainTaken) (h : Here) (n : ℕ)
+      → ahead_of at (plain_state p h) ≡ Content → n ≡ run_length (is_plain_word at.in_flow) (step h).unread.text
+      → q.value ≡ ((p.value ++ between (plain_state p h)) ++ next_char h ∷ []) ++ take n (step h).unread.text
+      → plain_state q (steps n (step h)) ≡ inside (steps n (step h))
+      → plain_whole at start q (steps n (step h)) ≡ plain_whole at start p h
+  unfolding on_content
+  words_go p q h n is count value state =
+      let s = plain_state p h in
+      let v = p.value in
+      let front = between s ++ next_char h ∷ [] in
+      let run = take n (step h).unread.text in
       let rest = plain_rest at start (inside (steps n (step h))) in
-      content_turn end pending h b.passes none
-      ∙ ap (with_front front) (content_run at start n (step h) more)
-      ∙ with_front-with_front front (take n (step h).unread.text) rest
-      ∙ ap (λ (t : List ℕ). with_front t rest)
-      (append_assoc pending (next_char h ∷ []) (take n (step h).unread.text)
-      ∙ ap (λ (t : List ℕ). pending ++ t)
-      (ap (λ (t : List ℕ). next_char h ∷ take n t) (step_text h) ∙ take_suc n h.unread.text b.some))
+      let more = pieces_more plain_len (plain_turn at start) (plain_shortens at start) s (inside (step h)) front
+      (turn_is at start s Content is) in
+      let whole : plain_whole at start p h ≡ with_front ((v ++ front) ++ run) rest =
+      ap (with_front v) (more ∙ ap (with_front front) (words_run n (step h) count))
+      ∙ with_front-with_front v front (with_front run rest)
+      ∙ with_front-with_front (v ++ front) run rest in
+      let grouped : q.value ≡ (v ++ front) ++ run = value
+      ∙ ap (λ (cs : List ℕ). cs ++ run) (append_assoc v (between s) (next_char h ∷ [])) in
+      ap₂ (λ (w : List ℕ) (r : Result (List ℕ × PlainState) Fault). with_front w r) grouped
+      (ap (plain_rest at start) state) ∙ sym whole
 
   -- where a `#` behind blanks is a comment
   meets_as : (end : Mark) (k : ℕ) (g h : Here) (blank : Bool) → k ≤ run_length (starts is_blank) g.unread.text
@@ -194,17 +282,11 @@ module _ (at : LayoutData) (start : Mark) where
       let all : length (take k g.unread.text) ≡ k = length-take-le k g.unread.text (omega (arith, fits, within)) in
       ap (λ (m : ℕ). next_char h == 0x23 && not (m == 0)) all ∙ ap (λ b. next_char h == 0x23 && b) (sym is)
 
-  pub line_begins : (h : Here) → plain_rest at start (inside h)
-      ≡ with_front (take 0 h.unread.text) (plain_rest at start (inside h))
-  line_begins h =
-      sym (with_front-nil (plain_rest at start (inside h)))
-      ∙ ap (λ (t : List ℕ). with_front t (plain_rest at start (inside h))) (sym (none_taken h.unread.text))
-
   -- on over blanks and the content behind them, so many characters behind a scalar's start
   pub word_goes : (h g : Here) (m k n : ℕ) (blank : Bool)
       → plain_rest at start (inside h) ≡ with_front (take m h.unread.text) (plain_rest at start (inside g))
       → Along m h g → k ≤ run_length (starts is_blank) g.unread.text → blank ≡ not (k == 0) → 0 < n
-      → n ≤ run_length (is_content at.in_flow) (steps k g).unread.text
+      → n ≡ run_length (is_plain_word at.in_flow) (steps k g).unread.text
       → (next_char (steps k g) == 0x23 && blank) ≡ false
       → plain_rest at start (inside h) ≡ with_front (take (m + (k + n)) h.unread.text)
       (plain_rest at start (inside (steps n (steps k g))))
@@ -213,7 +295,7 @@ module _ (at : LayoutData) (start : Mark) where
       let rest = plain_rest at start (inside (steps n b)) in
       let word : plain_rest at start (inside g) ≡ with_front (take (k + n) g.unread.text) rest =
       blank_run k (mark_of g) [] g blanks
-      ∙ content_stretch (mark_of g) (take k g.unread.text) b n some fits
+      ∙ words_stretch n (mark_of g) (take k g.unread.text) b (λ z. absurd (omega (arith, z, some))) fits
       (meets_as (mark_of g) k g b blank blanks is ∙ none)
       ∙ ap (λ (t : List ℕ). with_front t rest)
       (ap (λ (t : List ℕ). take k g.unread.text ++ take n t) (steps_text k g) ∙ sym (take-add k n g.unread.text)) in

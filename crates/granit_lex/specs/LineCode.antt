@@ -7,7 +7,7 @@ use Rattle.granit_base.specs.Classes.{is_blank, is_break}
 use Rattle.granit_base.specs.Place.{Mark}
 use Rattle.granit_base.specs.PlainContent.{is_content}
 use Rattle.granit_base.specs.Written.{Written}
-use Rattle.granit_input.specs.Runs.{run_length, starts}
+use Rattle.granit_input.specs.Runs.{is_plain_word, run_length, starts}
 use Rattle.granit_lexemes.specs.Basics.{owned, past_break}
 use Rattle.granit_lexemes.specs.Here.{Here, next_char}
 use Rattle.granit_lexemes.specs.LayoutData.{LayoutData}
@@ -30,11 +30,11 @@ broken_state end h = record { here = h; end = end; pending = []; on_new_line = t
 abbrev pub continues : (in_flow blank : Bool) → Here → Bool
 continues in_flow blank h = is_content in_flow h.unread.text && not (next_char h == 0x23 && blank)
 
--- The blanks were passed, and the content behind them where it goes on there.
+-- The blanks were passed, and words of content behind them where it goes on there.
 abbrev pub PassesWord : (in_flow : Bool) → Here → (blank content : Bool) → (Here → Type 0) → Type 0
 PassesWord in_flow h blank true Lands =
     (k n : ℕ) × (k ≡ run_length (starts is_blank) h.unread.text) × (blank ≡ not (k == 0)) × (0 < n)
-    × (n ≡ run_length (is_content in_flow) (steps k h).unread.text)
+    × (n ≡ run_length (is_plain_word in_flow) (steps k h).unread.text)
     × ((next_char (steps k h) == 0x23 && blank) ≡ false) × Lands (steps n (steps k h))
 PassesWord in_flow h blank false Lands =
     (k : ℕ) × (k ≡ run_length (starts is_blank) h.unread.text) × (blank ≡ not (k == 0))

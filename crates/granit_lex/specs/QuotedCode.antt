@@ -168,6 +168,14 @@ TakesContent (Ok u) Lands old s p given =
     × (p.value ≡ (old ++ between_quoted s) ++ added x) × (quoted_state p now ≡ quoted_at (escapes x) now)
 TakesContent (Err e) Lands old s p given = Fails e given
 
+-- Where nothing was read since the last content, the same whole is read behind what was taken.
+abbrev pub GoesWords : {U E : Type 0} → Bool → (old new : QuotedTaken) → Here → Result U E → (Here → Type 0) → Type 0
+GoesWords single old new h (Ok u) Lands =
+    old.pending ≡ [] → old.on_new_line ≡ false
+    → (now : Here) × Lands now × ((at : LayoutData) (start : Mark)
+    → quoted_whole single at start new now ≡ quoted_whole single at start old h)
+GoesWords single old new h (Err e) Lands = Unit {0}
+
 -- a turn goes on with the same whole, or that is all of it
 abbrev pub QuotedTurnsTo : Bool → LayoutData → Mark → Result Bool Refused → (Here → Type 0) → QuotedTaken
     → Result (List ℕ × QuotedState) Fault → Type 0

@@ -42,7 +42,7 @@ fn pass_word<T: Input>(cursor: &mut Cursor<T>, in_flow: bool) -> (bool, bool)
     if meets_comment(cursor, blank) {
         return (blank, false);
     }
-    let (_, taken) = cursor.skip_plain_scalar_chunk(usize::MAX, in_flow);
+    let taken = cursor.skip_plain_words(in_flow);
     (blank, taken > 0)
 }
 

@@ -5,7 +5,7 @@ ghost use Rattle.std.specs.Str.{chars};
 ghost use Rattle.granit_base.specs.Classes as class;
 ghost use Rattle.granit_error.specs.FaultKind.{NoMemory as OutOfMemory, PlainScalarStartsWithDashFlowIndicator};
 ghost use Rattle.granit_error.specs.FaultKind.{TabInPlainScalar, UnexpectedCharacter};
-ghost use Rattle.granit_input.specs.Runs.{run_length};
+ghost use Rattle.granit_input.specs.Runs.{is_plain_word, run_length};
 ghost use Rattle.granit_base.specs.PlainContent.{is_content};
 ghost use Rattle.granit_lexemes.specs.Here.{Here, next_char, mark_of, step};
 ghost use Rattle.granit_lexemes.specs.Basics as basics;
@@ -22,14 +22,14 @@ ghost use Rattle.granit_lex.specs.PlainCode.{cuts_at, ended_plain, copied_plain}
 
 use crate::line::{Line, pass_line};
 use granit_base::{
-    Marker, NoMemory, ScalarStyle, Span, Text, find_non_printable, is_at_end, is_blank,
-    is_blank_or_breakz, is_break, is_flow, is_printable, is_z, push_char, push_text,
+    Marker, NoMemory, ScalarStyle, Span, Text, is_at_end, is_blank, is_blank_or_breakz, is_break,
+    is_flow, is_printable, is_z, push_char, push_text,
 };
 use granit_cursor::{
     Cursor, Layout, Lexed, Token, TokenType, drop_blanks, lending_offset, past_break,
 };
 use granit_error::{ErrorKind, ScanError};
-use granit_input::{BorrowedInput, Input};
+use granit_input::{BorrowedInput, Input, find_unprintable};
 use std::alloc::Global;
 use std::marker::Model;
 
@@ -124,7 +124,7 @@ fn ends_before_line<T: Input>(cursor: &Cursor<T>, at: &Layout) -> bool
 }
 
 /// What stands next.
-#[tactic(auto, using(granit_input::proofs::RunLemmas::blank_some, granit_input::proofs::RunLemmas::break_some, granit_input::proofs::RunLemmas::blank_or_breakz_some))]
+#[tactic(auto, using(granit_input::proofs::RunLemmas::not_nul))]
 fn look_ahead<T: Input>(cursor: &mut Cursor<T>, at: &Layout, parts: &PlainParts) -> Ahead
     ensures here { Wherever T.unread cursor.old cursor.new (λ h Lands. Lands h
         × (result ≡ ahead_of (layout_data at.now) (plain_state parts.now h))) }
@@ -212,14 +212,14 @@ fn push_between(parts: &mut PlainParts) -> Result<(), NoMemory>
     push_text(&mut parts.value, parts.pending.as_str())
 }
 
-/// A stretch of content on, behind what stands for the blanks and breaks before it.
+/// Words of content on, behind what stands for the blanks and breaks before it.
 fn take_content<T: Input>(
     cursor: &mut Cursor<T>,
     in_flow: bool,
     parts: &mut PlainParts,
 ) -> Result<(), NoMemory>
     ensures here { Wherever T.unread cursor.old cursor.new (λ h Lands. OnOk result ((n : ℕ)
-        × (n ≡ run_length (is_content in_flow) (step h).unread.text) × Lands (steps n (step h))
+        × (n ≡ run_length (is_plain_word in_flow) (step h).unread.text) × Lands (steps n (step h))
         × (parts.new.value ≡ ((parts.old.value ++ spec.between (plain_state parts.old h))
         ++ next_char h ∷ []) ++ take n (step h).unread.text)
         × (plain_state parts.new (steps n (step h)) ≡ inside (steps n (step h))))) }
@@ -230,7 +230,7 @@ fn take_content<T: Input>(
     cursor.look(1);
     push_char(&mut parts.value, cursor.input().peek())?;
     cursor.step();
-    cursor.fetch_plain_scalar_chunk(&mut parts.value, usize::MAX, in_flow)?;
+    cursor.fetch_plain_words(&mut parts.value, in_flow)?;
     parts.end = cursor.mark();
     parts.pending.clear();
     parts.on_new_line = false;
@@ -340,7 +340,7 @@ fn finish_plain<'input, T: Input>(
     ensures kinds { IfErr result (λ e. (c : ℕ) × (e.kind ≡ UnexpectedCharacter c)) }
     ensures moves { Moves T.left T.origin cursor.old cursor.new }
 {
-    if let Some(character) = find_non_printable(text.as_str()) {
+    if let Some(character) = find_unprintable(text.as_str()) {
         return Err(ScanError::from_kind(start, ErrorKind::UnexpectedCharacter { character }));
     }
     cursor.look(1);

@@ -16,8 +16,9 @@ ghost use Rattle.granit_cursor.specs.Reading.{StepsRun};
 ghost use Rattle.granit_cursor.specs.Tokens.{layout_data};
 ghost use Rattle.granit_lex.specs.QuotedCode.{quoted_lexed, quoted_with, asked, IsQuotedFault, quoted_state};
 ghost use Rattle.granit_lex.specs.QuotedCode.{quoted_whole, quoted_ahead, content_read, SeesTo, SeesSome, TakesContent};
-ghost use Rattle.granit_lex.specs.QuotedCode.{added, escapes, QuotedTurnsTo, QuotedPartsTo, IsQuotedKind, kept_char};
-ghost use Rattle.granit_lex.specs.QuotedCode.{kept_chars, nothing_taken, PassesKept, copied_scalar, passed_scalar};
+ghost use Rattle.granit_lex.specs.QuotedCode.{added, escapes, GoesWords, QuotedTurnsTo, QuotedPartsTo, IsQuotedKind};
+ghost use Rattle.granit_lex.specs.QuotedCode.{kept_char, kept_chars, nothing_taken, PassesKept};
+ghost use Rattle.granit_lex.specs.QuotedCode.{copied_scalar, passed_scalar};
 
 use crate::escape::escape;
 use granit_base::{
@@ -146,7 +147,7 @@ fn is_closing<T: Input>(cursor: &Cursor<T>, single: bool) -> bool
 }
 
 /// What stands next, or why it is refused.
-#[tactic(auto, unfolding(crate::specs::QuotedCode::quoted_ahead), using(granit_input::proofs::RunLemmas::blank_some, granit_input::proofs::RunLemmas::break_some))]
+#[tactic(auto, unfolding(crate::specs::QuotedCode::quoted_ahead), using(granit_input::proofs::RunLemmas::not_nul))]
 fn look_ahead<T: Input>(
     cursor: &mut Cursor<T>,
     single: bool,
@@ -310,7 +311,24 @@ fn take_content<T: Input>(
     Ok(())
 }
 
-/// On over a blank, a break or a character of content; false at the closing quote.
+/// On over words of characters that stand for themselves, directly behind content.
+fn take_words<T: Input>(
+    cursor: &mut Cursor<T>,
+    single: bool,
+    parts: &mut QuotedParts,
+) -> Result<(), NoMemory>
+    ensures here { Wherever T.unread cursor.old cursor.new (λ h Lands.
+        GoesWords single parts.old parts.new h result Lands) }
+    ensures moves { Moves T.left T.origin cursor.old cursor.new }
+{
+    if parts.escaped {
+        return Ok(());
+    }
+    cursor.fetch_quoted_words(&mut parts.value, single)?;
+    Ok(())
+}
+
+/// On over a blank, a break or content; false at the closing quote.
 fn take_turn<T: Input>(
     cursor: &mut Cursor<T>,
     single: bool,
@@ -335,6 +353,7 @@ fn take_turn<T: Input>(
         }
         Ahead::Content => {
             take_content(cursor, single, start, parts)?;
+            take_words(cursor, single, parts)?;
             Ok(true)
         }
         Ahead::End => Ok(false),
@@ -523,7 +542,7 @@ fn skip_kept<T: Input>(cursor: &mut Cursor<T>, single: bool)
     ensures moves { Moves T.left T.origin cursor.old cursor.new }
 {
     'kept: loop {
-        let content = cursor.skip_quoted(single);
+        let content = cursor.skip_quoted_words(single);
         let blanks = cursor.skip_while_blank();
         if is_nothing(content, blanks) {
             return;

@@ -1,7 +1,7 @@
 //! Anchors and aliases are read (YAML 1.2.2, 6.9.2 and 7.1).
 ghost use Rattle.std.specs.Prelude.{◌≡◌, IfErr};
 ghost use Rattle.granit_base.specs.Written.{Written};
-ghost use Rattle.granit_cursor.specs.Reading.{Stands, Moves, ReadsAs, AnswersAs, RefusedFor, coded};
+ghost use Rattle.granit_cursor.specs.Reading.{Stands, Moves, ReadsAs, AnswersAs, LendsWithoutMemory, RefusedFor, coded};
 ghost use Rattle.granit_error.specs.FaultKind.{NoMemory as OutOfMemory};
 ghost use Rattle.granit_lexemes.specs.Here.{Here, next_char};
 ghost use Rattle.granit_lexemes.specs.NameExtent.{AnswersName, RefusesName};
@@ -21,8 +21,8 @@ use std::alloc::Global;
 ///
 /// # Errors
 ///
-/// `NoMemory`, and at the sign `MissingAnchorOrAliasName` where no character of a name follows it.
-/// `InputSlicingUnavailable`, where the input refuses to lend what it could.
+/// At the sign `MissingAnchorOrAliasName` where no character of a name follows it. `NoMemory`, only where the name
+/// isn't lent. `InputSlicingUnavailable`, where the input refuses to lend what it could.
 pub fn scan_anchor<'input, T: BorrowedInput<'input>>(
     alloc: Global,
     cursor: &mut Cursor<T>,
@@ -34,6 +34,7 @@ pub fn scan_anchor<'input, T: BorrowedInput<'input>>(
     ensures cause { RefusedFor T.unread cursor.old result RefusesName }
     ensures answered { (h : Here) (name : Written) (after : Here) → Stands T.unread cursor.old h
         → AnswersName h name after → IfErr result (λ e. e.kind ≡ OutOfMemory) }
+    ensures lent { LendsWithoutMemory T.unread cursor.old result }
     ensures kinds { IfErr result (λ e. IsNameKind e.kind) }
     ensures moves { Moves T.left T.origin cursor.old cursor.new }
 {
@@ -47,6 +48,7 @@ fn read_name<'input, T: BorrowedInput<'input>>(
     alias: bool,
 ) -> Result<Token<'input>, ScanError>
     ensures here { ReadsAs T.unread cursor.old cursor.new result (λ h. coded (name_token alias) (placed_at name_at h)) }
+    ensures lent { LendsWithoutMemory T.unread cursor.old result }
     ensures kinds { IfErr result (λ e. IsNameKind e.kind) }
     ensures moves { Moves T.left T.origin cursor.old cursor.new }
 {

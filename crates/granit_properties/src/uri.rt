@@ -74,7 +74,7 @@ pub fn spend(
 }
 
 /// The byte that `%` and two hexadecimal digits spell.
-#[tactic(auto, unfolding(granit_lexemes::specs::Tags::escaped_byte, granit_lexemes::specs::Moves::steps), using(crate::proofs::UriLemmas::byte_of_digits))]
+#[tactic(auto, unfolding(granit_lexemes::specs::Tags::escaped_byte), using(crate::proofs::UriLemmas::byte_of_digits))]
 fn escaped_byte<T: Input>(
     cursor: &mut Cursor<T>,
     start: Marker,

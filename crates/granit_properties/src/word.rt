@@ -1,7 +1,7 @@
 //! Words: characters of a class, taken one by one.
 ghost use Rattle.std.specs.Prelude.{◌≡◌, ◌⊎◌, ◌++◌, IfErr, OnOk};
 ghost use Rattle.granit_base.specs.Written.{string_chars};
-ghost use Rattle.granit_cursor.specs.Reading.{GoesTo, Moves, Wherever};
+ghost use Rattle.granit_cursor.specs.Reading.{GoesTo, LendsWithoutMemory, Moves, Wherever};
 ghost use Rattle.granit_error.specs.FaultKind.{InputSlicingUnavailable, NoMemory as OutOfMemory};
 ghost use Rattle.granit_lexemes.specs.Basics.{text_up_to};
 ghost use Rattle.granit_lexemes.specs.Here.{past};
@@ -81,13 +81,15 @@ fn skip_word<T: Input>(cursor: &mut Cursor<T>, word: Word)
 ///
 /// # Errors
 ///
-/// `NoMemory`, and `InputSlicingUnavailable`, where the input refuses to lend what it could.
+/// `NoMemory`, only where the text isn't lent, and `InputSlicingUnavailable`, where the input refuses to lend what it
+/// could.
 pub fn word_text<'input, T: BorrowedInput<'input>>(
     alloc: Global,
     cursor: &mut Cursor<T>,
     word: Word,
 ) -> Result<Text<'input>, ScanError>
     ensures here { Wherever T.unread cursor.old cursor.new (λ h Lands. TakesWord (word_test word) h result Lands) }
+    ensures lent { LendsWithoutMemory T.unread cursor.old result }
     ensures kinds { IfErr result (λ e. (e.kind ≡ OutOfMemory) ⊎ (e.kind ≡ InputSlicingUnavailable)) }
     ensures moves { Moves T.left T.origin cursor.old cursor.new }
 {

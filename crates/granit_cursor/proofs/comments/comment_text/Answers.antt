@@ -1,9 +1,8 @@
-use Rattle.std.proofs.Common.{◌≡◌, take, refl, sym, ap, ap₂, subst, ◌∙◌}
+use Rattle.std.proofs.Common.{sym, ap, subst, ◌∙◌}
 use Rattle.std.specs.Str.{chars}
 use Rattle.std.proofs.lemmas.Str.{chars-nil}
-use Rattle.granit_base.specs.Written.{Written, string_chars}
+use Rattle.granit_base.specs.Written.{string_chars}
 use Rattle.granit_input.specs.Runs.{starts, is_line_char}
-use Rattle.granit_lexemes.specs.Moves.{steps}
 use Rattle.granit_cursor.proofs.MoveLemmas.{char_line}
 use Rattle.granit_cursor.proofs.SourceLemmas.{found_lends, not_found_lends, spelled_on, run_behind, lent_run, own_run}
 use Rattle.granit_cursor.proofs.comments.comment_text.Goals as goal
@@ -48,3 +47,10 @@ returns-in_ok-fetch_while_non_breakz-in-None-clause-here g c = λ h k.
       c.owned.ensures ∙ own_run h n (string_chars c.new-text.result) _ none
           (ap chars c.new-text.ensures.bytes ∙ chars-nil) taken.1,
     )
+
+pub returns-in_err-fetch_while_non_breakz-in-None-clause-lent :
+    goal.returns-in_err-fetch_while_non_breakz-in-None-clause-lent
+returns-in_err-fetch_while_non_breakz-in-None-clause-lent g c = λ h k lends. absurd (
+    let none = not_found_lends (g.T.Input.left c.args.cursor.now.input) (g.T.Input.origin c.args.cursor.now.input)
+    h.unread (g.met.T.Input.agrees c.args.cursor.now.input h.unread k.0)
+    (sym c.in-None.is ∙ c.lending_offset.ensures h k) in cc)

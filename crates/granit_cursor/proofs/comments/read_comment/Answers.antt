@@ -1,6 +1,7 @@
-use Rattle.std.proofs.Common.{refl, sym}
+use Rattle.std.proofs.Common.{refl, sym, ◌∙◌}
 use Rattle.std.proofs.lemmas.Result.{err_from_is_err_and}
 use Rattle.granit_lexemes.specs.Here.{step}
+use Rattle.granit_lexemes.proofs.HereLemmas.{step_lends}
 use Rattle.granit_cursor.proofs.CommentLemmas.{behind_text, comment_fails, comment_given, text_of}
 use Rattle.granit_cursor.proofs.comments.read_comment.Goals as goal
 
@@ -42,3 +43,14 @@ returns-clause-here g c = λ h k.
             sym k.2,
           ) refl),
     )
+
+pub returns-in_err-text-clause-lent : goal.returns-in_err-text-clause-lent
+returns-in_err-text-clause-lent g c = λ h k lends.
+    let p = err_from_is_err_and c.from_residual.result c.from_residual.ensures.1 in
+    rw (p.1, p.2) (c.in_err-text.ensures.lent (step h) (c.step.ensures.here h k) (step_lends h ∙ lends))
+
+pub returns-in_err-behind_comment-clause-lent : goal.returns-in_err-behind_comment-clause-lent
+returns-in_err-behind_comment-clause-lent g c = λ h k lends.
+    let p = err_from_is_err_and c.from_residual-in_err-behind_comment.result
+    c.from_residual-in_err-behind_comment.ensures.1 in
+    rw (p.1, p.2) (λ wanted. let is = c.in_err-behind_comment.ensures.kinds.1 in cc)

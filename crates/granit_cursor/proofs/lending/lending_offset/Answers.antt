@@ -1,5 +1,4 @@
-use Rattle.std.proofs.Common.{◌≡◌, false, is_some, sym, ap, subst, ◌∙◌}
-use Rattle.granit_lexemes.specs.Here.{Here}
+use Rattle.std.proofs.Common.{is_some, sym, ap, ◌∙◌}
 use Rattle.granit_cursor.proofs.SourceLemmas.{empty_lent, silent_lends, none_lends, some_lends}
 use Rattle.granit_cursor.proofs.lending.lending_offset.Goals as goal
 

@@ -1,4 +1,4 @@
-use Rattle.std.proofs.Common.{◌≡◌, false, take, is_some, IfSome, sym, ap, subst, ◌∙◌}
+use Rattle.std.proofs.Common.{◌≡◌, false, take, is_some, IfSome, ap, subst}
 use Rattle.std.specs.Str.{chars}
 use Rattle.granit_input.specs.Unread.{past}
 use Rattle.granit_cursor.proofs.SourceLemmas.{lent_here}

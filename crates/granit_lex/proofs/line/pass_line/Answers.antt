@@ -71,7 +71,7 @@ line-preserved g c = record {
         along,
         word_goes (layout_data c.args.at.now) c.args.start h now m word.0 word.1 c.pass_word-blank.result.0 told.4
             told.3
-            (omega (arith, word.2)) word.3 word.4 (omega (arith, word.5)) word.6,
+            (omega (arith, word.2)) word.3 word.4 word.5 word.6,
         c.in-Ok.ensures.here h.unread (m + (word.0 + word.1)) on.0 on.1 from behind,
         c.mark-line.ensures.here (steps word.1 (steps word.0 now)) word.7,
       );

@@ -1,6 +1,4 @@
-use Rattle.std.proofs.Common.{◌≡◌, ◌<◌, ◌-◌, ◌^◌, ℕ, List, [], ◌∷◌, ◌++◌, take, refl, ap, ap₂, ◌∙◌, arith}
-use Rattle.granit_base.specs.PlainContent.{is_content}
-use Rattle.granit_input.proofs.RunLemmas.{front_all, run_within}
+use Rattle.std.proofs.Common.{◌≡◌, ℕ, List, [], ◌∷◌, ◌++◌, take, refl, ap, ap₂, ◌∙◌}
 use Rattle.granit_lexemes.specs.Here.{next_char, step}
 use Rattle.granit_lexemes.specs.Moves.{steps}
 use Rattle.granit_cursor.proofs.MoveLemmas.{cleared}
@@ -13,16 +11,12 @@ returns-clause-here g c = λ h k.
     let looked = c.look.ensures.here h k in
     let seen : c.peek.result ≡ next_char h = c.peek.ensures.value h.unread (rw c.input.ensures looked.0) in
     let stepped = c.step.ensures.here h looked in
-    let taken = c.in_ok-fetch_plain_scalar_chunk.ensures.here (step h) stepped in
-    let n = c.in_ok-fetch_plain_scalar_chunk.field-0.1 in
-    let agrees = g.met.T.Input.agrees c.step.new.self.input (step h).unread stepped.0 in
-    let short = g.met.T.Input.short c.step.new.self.input in
-    let within = run_within (is_content c.args.in_flow) (step h).unread.text in
-    let few : n < 2 ^ 64 - 1 = omega (arith, taken.0.0.fits, within, agrees.bounded, short) in
+    let taken = c.in_ok-fetch_plain_words.ensures.here (step h) stepped in
+    let n = c.in_ok-fetch_plain_words.field-0 in
     let end = c.mark-parts-inside.ensures.here (steps n (step h)) taken.0.1 in
     let none = cleared c.clear.new.self c.clear.ensures.bytes in (
       n,
-      front_all (is_content c.args.in_flow) (step h).unread.text _ _ n taken.0.0 few,
+      taken.0.0,
       taken.0.1,
       taken.1 ∙ ap (λ (cs : List ℕ). cs ++ take n (step h).unread.text)
           (c.in_ok-push_char.ensures.appended ∙ ap₂ (λ (v : List ℕ) (x : ℕ). v ++ x ∷ []) between seen),

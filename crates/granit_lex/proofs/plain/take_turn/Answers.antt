@@ -6,7 +6,8 @@ use Rattle.granit_lexemes.specs.PlainScalar.{PlainState}
 use Rattle.granit_lex.specs.PlainCode.{plain_state, ahead_of}
 use Rattle.granit_cursor.specs.Tokens.{layout_data}
 use Rattle.granit_lex.specs.declared.plain.Ahead.TheVariants.{Blank, Break, Tab, Content, End}
-use Rattle.granit_lex.proofs.PlainLemmas.{gap_goes, content_goes, turn_ends, turn_refused}
+use Rattle.granit_lex.proofs.LineLemmas.{words_go}
+use Rattle.granit_lex.proofs.PlainLemmas.{gap_goes, turn_ends, turn_refused}
 use Rattle.granit_lex.proofs.plain.take_turn.Goals as goal
 
 pub returns-in_ok-take_blank-in-Blank-clause-here : goal.returns-in_ok-take_blank-in-Blank-clause-here
@@ -43,7 +44,7 @@ returns-in_ok-take_content-in-Content-clause-here g c = λ h k.
     let taken = c.in_ok-take_content-in-Content.ensures.here h looked.0 in (
       steps taken.0 (step h),
       taken.2,
-      content_goes (layout_data c.args.at.now) c.args.start c.args.parts.now
+      words_go (layout_data c.args.at.now) c.args.start c.args.parts.now
           c.take_content.new.parts h taken.0 is taken.1 taken.3 taken.4,
     )
 

@@ -18,8 +18,8 @@ kept-init g c = record {
 pub returns-then-is_nothing-clause-here : goal.returns-then-is_nothing-clause-here
 returns-then-is_nothing-clause-here g c = λ h k.
     let told = c.kept.invariant.told h k in
-    let content = c.skip_quoted-content.ensures.here (steps told.0 h) told.1 in
-    let a = c.skip_quoted-content.result in
+    let content = c.skip_quoted_words-content.ensures.here (steps told.0 h) told.1 in
+    let a = c.skip_quoted_words-content.result in
     let blanks = c.skip_while_blank-blanks.ensures.here (steps a (steps told.0 h)) content.1 in
     let b = c.skip_while_blank-blanks.result in
     let none = nothing_taken a b (sym c.is_nothing.ensures ∙ c.if-is_nothing.true) in (
@@ -33,26 +33,26 @@ returns-then-is_nothing-clause-here g c = λ h k.
 pub returns-then-is_nothing-clause-moves : goal.returns-then-is_nothing-clause-moves
 returns-then-is_nothing-clause-moves g c =
     let kept = c.kept.invariant.moves in
-    let a = c.skip_quoted-content.ensures.moves in
+    let a = c.skip_quoted_words-content.ensures.moves in
     let b = c.skip_while_blank-blanks.ensures.moves in
     (omega (arith, kept.0, a.0, b.0), goes_on _ _ _ kept.1 (goes_on _ _ _ a.1 b.1))
 
 pub kept-smaller : goal.kept-smaller
 kept-smaller g c =
-    let some = something_taken c.skip_quoted-content.result c.skip_while_blank-blanks.result
+    let some = something_taken c.skip_quoted_words-content.result c.skip_while_blank-blanks.result
     (sym c.is_nothing.ensures ∙ c.if-is_nothing.false) in
-    omega (arith, some, c.skip_quoted-content.ensures.takes.0, c.skip_while_blank-blanks.ensures.takes.0)
+    omega (arith, some, c.skip_quoted_words-content.ensures.takes.0, c.skip_while_blank-blanks.ensures.takes.0)
 
 pub kept-preserved : goal.kept-preserved
 kept-preserved g c =
     let kept = c.kept.invariant.moves in
-    let m = c.skip_quoted-content.ensures.moves in
+    let m = c.skip_quoted_words-content.ensures.moves in
     let n = c.skip_while_blank-blanks.ensures.moves in
     record {
       told = λ h k.
           let told = c.kept.invariant.told h k in
-          let content = c.skip_quoted-content.ensures.here (steps told.0 h) told.1 in
-          let a = c.skip_quoted-content.result in
+          let content = c.skip_quoted_words-content.ensures.here (steps told.0 h) told.1 in
+          let a = c.skip_quoted_words-content.result in
           let blanks = c.skip_while_blank-blanks.ensures.here (steps a (steps told.0 h)) content.1 in
           let b = c.skip_while_blank-blanks.result in (
             told.0 + a + b,

@@ -53,15 +53,18 @@ returns-in_ok-take_break-in-Break-clause-here g c = λ h k.
           c.in_ok-take_break-in-Break.ensures.value,
     )
 
-pub returns-in_ok-take_content-in-Content-clause-here : goal.returns-in_ok-take_content-in-Content-clause-here
-returns-in_ok-take_content-in-Content-clause-here g c = λ h k.
+pub returns-in_ok-take_words-in-Content-clause-here : goal.returns-in_ok-take_words-in-Content-clause-here
+returns-in_ok-take_words-in-Content-clause-here g c = λ h k.
+    let at = layout_data c.args.at.now in
     let looked = c.in_ok-look_ahead.ensures.here h k in
-    let is : quoted_ahead c.args.single (layout_data c.args.at.now) c.args.start (quoted_state c.args.parts.now h)
+    let is : quoted_ahead c.args.single at c.args.start (quoted_state c.args.parts.now h)
     ≡ Ok Content = looked.1 ∙ ap (λ (a : Ahead). Ok a) c.in-Content.is in
-    let taken = c.in_ok-take_content-in-Content.ensures.here h looked.0 in (
-      taken.0,
-      taken.2,
-      over_content c.args.single (layout_data c.args.at.now) c.args.start c.args.parts.now
+    let taken = c.in_ok-take_content-in-Content.ensures.here h looked.0 in
+    let words = c.in_ok-take_words-in-Content.ensures.here taken.0 taken.2
+    (ap (λ (s : QuotedState). s.pending) taken.5) (ap (λ (s : QuotedState). s.on_new_line) taken.5) in (
+      words.0,
+      words.1,
+      words.2 at c.args.start ∙ over_content c.args.single at c.args.start c.args.parts.now
           c.take_content.new.parts h taken.0 taken.1 is taken.3 taken.4 taken.5,
     )
 

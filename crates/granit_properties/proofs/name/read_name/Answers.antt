@@ -2,6 +2,7 @@ use Rattle.std.proofs.Common.{◌≡◌, ◌==◌, ℕ, List, true, false, lengt
 use Rattle.std.proofs.lemmas.Result.{err_from_is_err_and}
 use Rattle.granit_base.specs.Written.{Written}
 use Rattle.granit_lexemes.specs.Here.{step}
+use Rattle.granit_lexemes.proofs.HereLemmas.{step_lends}
 use Rattle.granit_properties.proofs.NameLemmas.{past_name, name_fails, name_given}
 use Rattle.granit_properties.proofs.name.read_name.Goals as goal
 
@@ -33,3 +34,11 @@ returns-clause-here g c = λ h k.
       name_given c.args.alias h name c.new-2.result taken.1 some
           (rw (c.new-2.ensures, c.new.ensures, start, end, c.name_type-token_type.ensures) refl),
     )
+
+pub returns-in_err-name-clause-lent : goal.returns-in_err-name-clause-lent
+returns-in_err-name-clause-lent g c = λ h k lends.
+    let p = err_from_is_err_and c.from_residual.result c.from_residual.ensures.1 in
+    rw (p.1, p.2) (c.in_err-name.ensures.lent (step h) (c.step.ensures.here h k) (step_lends h ∙ lends))
+
+pub returns-then-is_at_end-clause-lent : goal.returns-then-is_at_end-clause-lent
+returns-then-is_at_end-clause-lent g c = λ h k lends. rw c.from_kind.ensures (λ wanted. cc)

@@ -43,3 +43,9 @@ returns-in_ok-take_word-in-None-clause-here g c = λ h k.
       c.owned.ensures ∙ own_word h (past (word_test c.args.word) h) (string_chars c.new-text.result) _ none
           (ap chars c.new-text.ensures.bytes ∙ chars-nil) taken.1,
     )
+
+pub returns-in_err-take_word-in-None-clause-lent : goal.returns-in_err-take_word-in-None-clause-lent
+returns-in_err-take_word-in-None-clause-lent g c = λ h k lends. absurd (
+    let none = not_found_lends (g.T.Input.left c.args.cursor.now.input) (g.T.Input.origin c.args.cursor.now.input)
+    h.unread (g.met.T.Input.agrees c.args.cursor.now.input h.unread k.0)
+    (sym c.in-None.is ∙ c.lending_offset.ensures h k) in cc)

@@ -1,4 +1,4 @@
-use Rattle.std.proofs.Common.{refl, le_of_eq}
+use Rattle.std.proofs.Common.{refl}
 use Rattle.granit_cursor.proofs.MoveLemmas.{stands_at, lands_tabs}
 use Rattle.granit_cursor.proofs.cursor.Cursor.skip_from_tab.Goals as goal
 

@@ -1,4 +1,4 @@
-use Rattle.std.proofs.Common.{◌≡◌, ◌-◌, ◌^◌, refl, arith}
+use Rattle.std.proofs.Common.{◌-◌, ◌^◌, refl, arith}
 use Rattle.granit_input.specs.Runs.{starts, is_quoted_char}
 use Rattle.granit_cursor.proofs.MoveLemmas.{stands_at, lands, quoted_shows}
 use Rattle.granit_cursor.proofs.SourceLemmas.{whole_run}

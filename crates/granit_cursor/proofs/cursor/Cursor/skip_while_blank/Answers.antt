@@ -1,5 +1,5 @@
-use Rattle.std.proofs.Common.{◌≡◌, sym, ap, ◌∙◌, subst}
-use Rattle.granit_lexemes.specs.Here.{Here, next_char}
+use Rattle.std.proofs.Common.{◌≡◌, ◌∙◌, subst}
+use Rattle.granit_lexemes.specs.Here.{next_char}
 use Rattle.granit_lexemes.specs.Moves.{steps}
 use Rattle.granit_cursor.specs.Reading.{Stands}
 use Rattle.granit_cursor.proofs.MoveLemmas.{stands_at, spaces_alone, spaces_more, steps_twice}

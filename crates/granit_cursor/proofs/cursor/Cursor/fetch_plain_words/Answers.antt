@@ -1,0 +1,26 @@
+use Rattle.std.proofs.Common.{◌-◌, ◌^◌, refl, arith}
+use Rattle.granit_input.specs.Runs.{is_plain_word}
+use Rattle.granit_input.specs.declared.class.Run.TheVariants.{PlainWords}
+use Rattle.granit_input.proofs.RunLemmas.{run_nul}
+use Rattle.granit_cursor.proofs.MoveLemmas.{stands_at}
+use Rattle.granit_cursor.proofs.SourceLemmas.{whole_run}
+use Rattle.granit_cursor.proofs.WordLemmas.{lands_joined, plain_joins}
+use Rattle.granit_cursor.proofs.cursor.Cursor.fetch_plain_words.Goals as goal
+
+pub returns-clause-here : goal.returns-clause-here
+returns-clause-here g c = λ h k.
+    let test = is_plain_word c.args.in_flow in
+    let nul = run_nul (PlainWords c.args.in_flow) in
+    let stood = stands_at g.T.Input.unread _ _ h c.self.view_is k in
+    let taken = c.in_ok-taken.ensures.fetches h.unread stood.0 in
+    let n = c.in_ok-taken.taken in
+    let whole = whole_run test h.unread.text (g.T.Input.left c.self.inside.input) n (2 ^ 64 - 1)
+    c.in_ok-taken.field-0-0 (omega (arith, c.in_ok-taken.ensures.moves.0))
+    (g.met.T.Input.short c.self.inside.input) (omega arith) c.in_ok-taken.ensures.few taken.0 in (
+      (
+        whole,
+        lands_joined g.T.Input.unread test n _ _ h (plain_joins c.args.in_flow) nul whole
+            stood taken.1 refl c.still_begins-self-inside.ensures c.still_tab-self-inside.ensures,
+      ),
+      taken.2,
+    )

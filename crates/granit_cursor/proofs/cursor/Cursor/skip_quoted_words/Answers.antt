@@ -1,0 +1,23 @@
+use Rattle.std.proofs.Common.{◌-◌, ◌^◌, refl, arith}
+use Rattle.granit_input.specs.Runs.{is_quoted_word}
+use Rattle.granit_input.specs.declared.class.Run.TheVariants.{QuotedWords}
+use Rattle.granit_input.proofs.RunLemmas.{run_nul}
+use Rattle.granit_cursor.proofs.MoveLemmas.{stands_at}
+use Rattle.granit_cursor.proofs.SourceLemmas.{whole_run}
+use Rattle.granit_cursor.proofs.WordLemmas.{lands_joined, quoted_joins}
+use Rattle.granit_cursor.proofs.cursor.Cursor.skip_quoted_words.Goals as goal
+
+pub returns-clause-here : goal.returns-clause-here
+returns-clause-here g c = λ h k.
+    let test = is_quoted_word c.args.single in
+    let nul = run_nul (QuotedWords c.args.single) in
+    let stood = stands_at g.T.Input.unread _ _ h c.self.view_is k in
+    let taken = c.skip_run-taken.ensures.skips h.unread stood.0 in
+    let n = c.skip_run-taken.result.1 in
+    let whole = whole_run test h.unread.text (g.T.Input.left c.self.inside.input) n (2 ^ 64 - 1)
+    c.skip_run-taken.result.0 (omega (arith, c.skip_run-taken.ensures.moves.0))
+    (g.met.T.Input.short c.self.inside.input) (omega arith) c.skip_run-taken.ensures.few taken.0 in (
+      whole,
+      lands_joined g.T.Input.unread test n _ _ h (quoted_joins c.args.single) nul whole
+          stood taken.1 refl c.still_begins-self-inside.ensures c.still_tab-self-inside.ensures,
+    )

@@ -1,0 +1,32 @@
+use Rattle.std.proofs.Common.{◌≡◌, ◌+◌, ◌<◌, ℕ, true, List, ◌∷◌, length, drop, slice_index, subst, refl, arith}
+use Rattle.std.specs.Str.{chars, is_utf8}
+use Rattle.std.proofs.lemmas.Str.{is_utf8-from_IsUtf8}
+use Rattle.granit_input.specs.Runs.{run_test}
+use Rattle.granit_input.proofs.AsciiLemmas.{ascii_none, ascii_more, utf8_after}
+use Rattle.granit_input.proofs.RunLemmas.{run_nul}
+use Rattle.granit_input.proofs.cuts.ascii_front.Goals as goal
+
+pub front-init : goal.front-init
+front-init c = record {
+  front = ascii_none (run_test c.args.run) c.args.s.now (is_utf8-from_IsUtf8 c.args.s.now c.utf8.s);
+  limit = omega arith;
+}
+
+pub front-preserved : goal.front-preserved
+front-preserved c =
+    let test = run_test c.args.run in
+    let i = c.front.count in
+    let so_far = c.front.invariant.front in
+    let held = c.if-not-takes_byte.false in
+    let same = c.as_bytes-bytes.ensures.value in
+    let low = subst (λ (s : List ℕ). slice_index s i < 0x80) same (c.takes_byte.ensures.low held) in
+    let takes = subst (λ (s : List ℕ). chars (drop (i + 1) s) ≡ chars (drop (i + 1) c.args.s.now)
+    → is_utf8 (drop (i + 1) s) ≡ true → test (slice_index s i ∷ chars (drop (i + 1) c.args.s.now)) ≡ true) same
+    (c.takes_byte.ensures.takes (chars (drop (i + 1) c.args.s.now)) held) in
+    let within : i < length c.args.s.now =
+    omega (arith, c.front-test.true, c.min-end.ensures, c.as_bytes-bytes.ensures.len) in
+    record {
+      front = ascii_more test c.args.s.now i (run_nul c.args.run) so_far within low
+          (takes refl (utf8_after test c.args.s.now i so_far within low));
+      limit = omega arith;
+    }
