@@ -10,7 +10,9 @@ use Rattle.granit_lexemes.specs.declared.layout.LastLexeme.{LastLexeme}
 use Rattle.granit_machine.specs.Gaps.{over_gap_char, begins_gap, GapRead, no_more_adjacent}
 use Rattle.granit_machine.specs.Laid.{Laid}
 use Rattle.granit_machine.specs.ReaderState.{ReaderState, Read}
-use Rattle.granit_items.specs.ItemViews.{note_view}
+use Rattle.granit_items.specs.ItemViews.{note_view, lexeme_items, found_items}
+use Rattle.granit_items.specs.declared.item.Found.{Found}
+use Rattle.granit_items.specs.declared.item.Lexeme.{Lexeme}
 use Rattle.granit_content.specs.declared.lexeme.Start.{Start}
 use Rattle.granit_content.specs.declared.tail.Tail.{Tail}
 use Rattle.granit_content.specs.declared.tail.Tail.TheVariants as tails
@@ -27,6 +29,13 @@ abbrev pub ReadsItems : {I X : Type 0} → (I → Unread → Type 0) → (asked 
     → (X → List Item) → Result X Refused → (Here → Read) → Type 0
 ReadsItems unread asked old new laid view result given =
     (h : Here) → Stands unread old h → GivesTo view result (IsAt unread new laid) (coded (incoming asked) (given h))
+
+-- what a call that returns nothing has found, as items: a lexeme, or all that a read gives
+abbrev pub lexeme_in : Option Lexeme → Unit {0} → List Item
+lexeme_in found = λ _. lexeme_items found
+
+abbrev pub found_in : Found → Unit {0} → List Item
+found_in found = λ _. found_items found
 
 -- ---- a comment behind a lexeme
 

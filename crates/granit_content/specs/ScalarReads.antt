@@ -15,10 +15,8 @@ use Rattle.granit_machine.specs.Gaps.{gap}
 use Rattle.granit_machine.specs.Laid.{Laid}
 use Rattle.granit_machine.specs.NodeLexemes as nodes
 use Rattle.granit_machine.specs.ReaderState.{ReaderState, Read, lexeme_to, with_tail}
-use Rattle.granit_items.specs.ItemViews.{found_items}
 use Rattle.granit_content.specs.KindViews.{kind_of_type, note_of_token}
 use Rattle.granit_content.specs.Reads.{IsAt, Seen, seen, noted, behind_seen}
-use Rattle.granit_items.specs.declared.item.Found.{Found}
 
 -- what a scalar is told, where comments are asked for or not
 abbrev pub asking : Bool → LayoutData → LayoutData
@@ -52,7 +50,7 @@ with_seen items s r =
 -- wherever the cursor is known to stand, the gap there is read behind items
 abbrev pub GapBehind : {I : Type 0} → (I → Unread → Type 0) → OptionsData → (old new : Reading I)
     → (before after : Laid)
-    → List Item → Result Found Refused → Type 0
-GapBehind unread o old new before after items result =
-    (h : Here) → Stands unread old h → GivesTo found_items result (IsAt unread new after)
+    → List Item → (Unit {0} → List Item) → Result (Unit {0}) Refused → Type 0
+GapBehind unread o old new before after items found result =
+    (h : Here) → Stands unread old h → GivesTo found result (IsAt unread new after)
     (coded (seen o.emit_comments) (gap o h before) >>= λ x. with_seen items x.0 x.1)

@@ -3,15 +3,15 @@ ghost use Rattle.std.specs.Prelude.{◌≡◌, ◌<◌, ◌^◌, Ok};
 ghost use Rattle.granit_cursor.specs.Reading.{Moves, Stands, Wherever};
 ghost use Rattle.granit_lexemes.specs.Here.{Here, step};
 ghost use Rattle.granit_machine.specs.ReaderState as spec;
-ghost use Rattle.granit_items.specs.ItemViews.{kind_view, note_view, lexeme_view, alone};
-ghost use Rattle.granit_content.specs.Reads.{IsStart, ReadsItems, behind_seen, noted, tail_view};
+ghost use Rattle.granit_items.specs.ItemViews.{kind_view, lexeme_view, lexeme_items};
+ghost use Rattle.granit_content.specs.Reads.{IsStart, ReadsItems, behind_seen, lexeme_in, noted, tail_view};
 
 use crate::tail::{Tail, tail_at};
 use granit_base::Marker;
 use granit_cursor::Cursor;
 use granit_error::ScanError;
 use granit_input::{BorrowedInput, Input};
-use granit_items::{Lexeme, LexemeKind, Note};
+use granit_items::{Lexeme, LexemeKind};
 use granit_layout::Layouts;
 use granit_lexemes::LastLexeme;
 use std::alloc::Global;
@@ -84,23 +84,22 @@ pub fn give<'input>(
     layouts: &mut Layouts,
     lexeme: Lexeme<'input>,
     last: LastLexeme,
-) -> Lexeme<'input>
+    found: &mut Option<Lexeme<'input>>,
+)
     requires room { layouts.old.number < 2 ^ 63 }
     ensures { (h : Here) → spec.given (lexeme_view lexeme.entry) last h layouts.old
-        ≡ Ok (alone result, record { here = h; laid = layouts.new }) }
+        ≡ Ok (lexeme_items found.new, record { here = h; laid = layouts.new }) }
 {
     layouts.count_lexeme(last);
-    lexeme
+    *found = Some(lexeme);
 }
 
 /// The lexeme with a tail.
-pub fn with_tail<'input>(lexeme: Lexeme<'input>, tail: Tail<'input>) -> Lexeme<'input>
+pub fn with_tail<'input>(mut lexeme: Lexeme<'input>, tail: Tail<'input>) -> Lexeme<'input>
     ensures { lexeme_view result ≡ spec.with_tail (lexeme_view lexeme.entry) (noted (tail_view tail.entry)) }
 {
-    Lexeme {
-        tail: tail.into_note(),
-        ..lexeme
-    }
+    lexeme.tail = tail.into_note();
+    lexeme
 }
 
 /// Behind a closer a value may stand at once, unless a comment does.
@@ -125,13 +124,15 @@ pub fn tailed<'input, T: BorrowedInput<'input>>(
     layouts: &mut Layouts,
     lexeme: Lexeme<'input>,
     last: LastLexeme,
-) -> Result<Lexeme<'input>, ScanError>
+    found: &mut Option<Lexeme<'input>>,
+) -> Result<(), ScanError>
     requires room { layouts.old.number < 2 ^ 63 }
-    ensures here { ReadsItems T.unread asked at.old at.new layouts.new alone result
-        (λ h. spec.tailed (lexeme_view lexeme.entry) last h layouts.old) }
+    ensures here { ReadsItems T.unread asked at.old at.new layouts.new
+        (lexeme_in found.new) result (λ h. spec.tailed (lexeme_view lexeme.entry) last h layouts.old) }
     ensures moves { Moves T.left T.origin at.old at.new }
 {
     let tail = tail_at(alloc, at, asked)?;
     let last = behind_tail(last, &tail);
-    Ok(give(layouts, with_tail(lexeme, tail), last))
+    give(layouts, with_tail(lexeme, tail), last, found);
+    Ok(())
 }

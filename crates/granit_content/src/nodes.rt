@@ -5,9 +5,9 @@ ghost use Rattle.granit_error.specs.OptionsView.{options_of};
 ghost use Rattle.granit_lexemes.specs.Here.{Here, next_char, mark_of};
 ghost use Rattle.granit_machine.specs.NodeLexemes as spec;
 ghost use Rattle.granit_machine.specs.ReaderState as machine;
-ghost use Rattle.granit_items.specs.ItemViews.{lexeme_view, alone};
+ghost use Rattle.granit_items.specs.ItemViews.{lexeme_view};
 ghost use Rattle.granit_content.specs.KindViews.{kind_of_type};
-ghost use Rattle.granit_content.specs.Reads.{IsStart, ReadsItems};
+ghost use Rattle.granit_content.specs.Reads.{IsStart, ReadsItems, lexeme_in};
 
 use crate::kinds::lexeme_kind;
 use crate::lexeme::{Start, give, lexeme_to, start_of};
@@ -30,17 +30,19 @@ pub fn alias_lexeme<'input, T: BorrowedInput<'input>>(
     at: &mut Cursor<T>,
     layouts: &mut Layouts,
     ends: bool,
-) -> Result<Lexeme<'input>, ScanError>
+    found: &mut Option<Lexeme<'input>>,
+) -> Result<(), ScanError>
     requires sign { (h : Here) → Stands T.unread at.old h → next_char h ≡ 0x2A }
     requires room { layouts.old.number < 2 ^ 63 }
-    ensures here { (asked : Bool) → ReadsItems T.unread asked at.old at.new layouts.new alone result
-        (λ h. spec.alias_lexeme ends h layouts.old) }
+    ensures here { (asked : Bool) → ReadsItems T.unread asked at.old at.new layouts.new
+        (lexeme_in found.new) result (λ h. spec.alias_lexeme ends h layouts.old) }
     ensures moves { Moves T.left T.origin at.old at.new }
 {
     let start = start_of(at);
     let token = scan_anchor(alloc, at, true)?;
     let lexeme = token_lexeme(alloc, at, layouts, ends, start, token);
-    Ok(give(layouts, lexeme, LastLexeme::Another))
+    give(layouts, lexeme, LastLexeme::Another, found);
+    Ok(())
 }
 
 /// The anchor that begins here with its `&`.
@@ -54,18 +56,20 @@ pub fn anchor_lexeme<'input, T: BorrowedInput<'input>>(
     at: &mut Cursor<T>,
     layouts: &mut Layouts,
     ends: bool,
-) -> Result<Lexeme<'input>, ScanError>
+    found: &mut Option<Lexeme<'input>>,
+) -> Result<(), ScanError>
     requires sign { (h : Here) → Stands T.unread at.old h → next_char h ≡ 0x26 }
     requires room { layouts.old.number < 2 ^ 63 }
-    ensures here { (asked : Bool) → ReadsItems T.unread asked at.old at.new layouts.new alone result
-        (λ h. spec.anchor_lexeme (options_of options.now) ends h layouts.old) }
+    ensures here { (asked : Bool) → ReadsItems T.unread asked at.old at.new layouts.new
+        (lexeme_in found.new) result (λ h. spec.anchor_lexeme (options_of options.now) ends h layouts.old) }
     ensures moves { Moves T.left T.origin at.old at.new }
 {
     let start = start_of(at);
     let last = layouts.last_of_property(options);
     let token = scan_anchor(alloc, at, false)?;
     let lexeme = token_lexeme(alloc, at, layouts, ends, start, token);
-    Ok(give(layouts, lexeme, last))
+    give(layouts, lexeme, last, found);
+    Ok(())
 }
 
 /// The tag that begins here with its `!`.
@@ -79,18 +83,20 @@ pub fn tag_lexeme<'input, T: BorrowedInput<'input>>(
     at: &mut Cursor<T>,
     layouts: &mut Layouts,
     ends: bool,
-) -> Result<Lexeme<'input>, ScanError>
+    found: &mut Option<Lexeme<'input>>,
+) -> Result<(), ScanError>
     requires sign { (h : Here) → Stands T.unread at.old h → next_char h ≡ 0x21 }
     requires room { layouts.old.number < 2 ^ 63 }
-    ensures here { (asked : Bool) → ReadsItems T.unread asked at.old at.new layouts.new alone result
-        (λ h. spec.tag_lexeme (options_of options.now) ends h layouts.old) }
+    ensures here { (asked : Bool) → ReadsItems T.unread asked at.old at.new layouts.new
+        (lexeme_in found.new) result (λ h. spec.tag_lexeme (options_of options.now) ends h layouts.old) }
     ensures moves { Moves T.left T.origin at.old at.new }
 {
     let start = start_of(at);
     let last = layouts.last_of_property(options);
     let token = scan_tag(alloc, at, layouts.is_in_flow())?;
     let lexeme = token_lexeme(alloc, at, layouts, ends, start, token);
-    Ok(give(layouts, lexeme, last))
+    give(layouts, lexeme, last, found);
+    Ok(())
 }
 
 /// The lexeme from there to here that a token tells.

@@ -9,9 +9,9 @@ ghost use Rattle.granit_lexemes.specs.Here.{Here, next_char};
 ghost use Rattle.granit_lexemes.specs.QuotedScalar.{quote_char};
 ghost use Rattle.granit_machine.specs.Laid.{is_in_flow};
 ghost use Rattle.granit_machine.specs.NodeLexemes as spec;
-ghost use Rattle.granit_items.specs.ItemViews.{note_view, lexeme_view, alone, found_items};
+ghost use Rattle.granit_items.specs.ItemViews.{note_view, lexeme_view, lexeme_items};
 ghost use Rattle.granit_content.specs.KindViews.{note_of_token};
-ghost use Rattle.granit_content.specs.Reads.{IsStart, ReadsItems};
+ghost use Rattle.granit_content.specs.Reads.{IsStart, ReadsItems, found_in, lexeme_in};
 ghost use Rattle.granit_content.specs.ScalarReads.{lexed_as, block_as, GapBehind};
 
 use crate::gaps::gap;
@@ -38,12 +38,13 @@ pub fn plain_lexeme<'input, T: BorrowedInput<'input>>(
     at: &mut Cursor<T>,
     layouts: &mut Layouts,
     ends: bool,
-) -> Result<Lexeme<'input>, ScanError>
+    found: &mut Option<Lexeme<'input>>,
+) -> Result<(), ScanError>
     requires content { (h : Here) → Stands T.unread at.old h
         → is_content (is_in_flow layouts.old) h.unread.text ≡ true }
     requires room { layouts.old.number < 2 ^ 63 }
-    ensures here { ReadsItems T.unread (options_of options.now).emit_comments at.old at.new layouts.new alone result
-        (λ h. spec.plain_lexeme (options_of options.now) ends h layouts.old) }
+    ensures here { ReadsItems T.unread (options_of options.now).emit_comments at.old at.new layouts.new
+        (lexeme_in found.new) result (λ h. spec.plain_lexeme (options_of options.now) ends h layouts.old) }
     ensures moves { Moves T.left T.origin at.old at.new }
 {
     let start = start_of(at);
@@ -52,7 +53,8 @@ pub fn plain_lexeme<'input, T: BorrowedInput<'input>>(
     let cut = read.cut_by_comment;
     let lexeme = scalar_lexeme(alloc, layouts, ends, start, read);
     layouts.behind_plain_scalar(cut);
-    Ok(give(layouts, lexeme, LastLexeme::Another))
+    give(layouts, lexeme, LastLexeme::Another, found);
+    Ok(())
 }
 
 /// The block scalar that begins here with its `|`, where it is literal, or its `>`.
@@ -67,11 +69,12 @@ pub fn block_lexeme<'input, T: BorrowedInput<'input>>(
     layouts: &mut Layouts,
     literal: bool,
     ends: bool,
-) -> Result<Lexeme<'input>, ScanError>
+    found: &mut Option<Lexeme<'input>>,
+) -> Result<(), ScanError>
     requires sign { (h : Here) → Stands T.unread at.old h → next_char h ≡ block_indicator literal }
     requires room { layouts.old.number < 2 ^ 63 }
-    ensures here { ReadsItems T.unread (options_of options.now).emit_comments at.old at.new layouts.new alone result
-        (λ h. spec.block_lexeme literal ends h layouts.old) }
+    ensures here { ReadsItems T.unread (options_of options.now).emit_comments at.old at.new layouts.new
+        (lexeme_in found.new) result (λ h. spec.block_lexeme literal ends h layouts.old) }
     ensures moves { Moves T.left T.origin at.old at.new }
 {
     let start = start_of(at);
@@ -79,7 +82,8 @@ pub fn block_lexeme<'input, T: BorrowedInput<'input>>(
     let read = scan_block_scalar(alloc, at, literal, &layout)?;
     let lexeme = shown_lexeme(alloc, layouts, ends, start, read);
     layouts.unroll();
-    Ok(give(layouts, lexeme, LastLexeme::Another))
+    give(layouts, lexeme, LastLexeme::Another, found);
+    Ok(())
 }
 
 /// The quoted scalar that begins here with its quote, single or double, and the comment behind it on its last line.
@@ -90,18 +94,20 @@ fn quoted_lexeme<'input, T: BorrowedInput<'input>>(
     layouts: &mut Layouts,
     single: bool,
     ends: bool,
-) -> Result<Lexeme<'input>, ScanError>
+    found: &mut Option<Lexeme<'input>>,
+) -> Result<(), ScanError>
     requires sign { (h : Here) → Stands T.unread at.old h → next_char h ≡ quote_char single }
     requires room { layouts.old.number < 2 ^ 63 }
-    ensures here { ReadsItems T.unread (options_of options.now).emit_comments at.old at.new layouts.new alone result
-        (λ h. spec.quoted_lexeme (options_of options.now) single ends h layouts.old) }
+    ensures here { ReadsItems T.unread (options_of options.now).emit_comments at.old at.new layouts.new
+        (lexeme_in found.new) result (λ h. spec.quoted_lexeme (options_of options.now) single ends h layouts.old) }
     ensures moves { Moves T.left T.origin at.old at.new }
 {
     let start = start_of(at);
     let layout = layouts.layout(options, start.mark.col(), options.emit_comments);
     let read = scan_quoted_scalar(alloc, at, single, &layout)?;
     let lexeme = scalar_lexeme(alloc, layouts, ends, start, read);
-    Ok(give(layouts, lexeme, LastLexeme::Adjacent))
+    give(layouts, lexeme, LastLexeme::Adjacent, found);
+    Ok(())
 }
 
 /// A quoted scalar, and the gap behind it, up to and with a comment.
@@ -116,15 +122,16 @@ pub fn quoted_and_gap<'input, T: BorrowedInput<'input>>(
     layouts: &mut Layouts,
     single: bool,
     ends: bool,
-) -> Result<Found<'input>, ScanError>
+    found: &mut Found<'input>,
+) -> Result<(), ScanError>
     requires sign { (h : Here) → Stands T.unread at.old h → next_char h ≡ quote_char single }
     requires room { layouts.old.number < 2 ^ 63 }
-    ensures here { ReadsItems T.unread (options_of options.now).emit_comments at.old at.new layouts.new found_items
-        result (λ h. spec.quoted_and_gap (options_of options.now) single ends h layouts.old) }
+    ensures here { ReadsItems T.unread (options_of options.now).emit_comments at.old at.new layouts.new
+        (found_in found.new) result (λ h. spec.quoted_and_gap (options_of options.now) single ends h layouts.old) }
     ensures moves { Moves T.left T.origin at.old at.new }
 {
-    let lexeme = quoted_lexeme(alloc, options, at, layouts, single, ends)?;
-    with_gap(alloc, options, at, layouts, lexeme)
+    quoted_lexeme(alloc, options, at, layouts, single, ends, &mut found.lexeme)?;
+    with_gap(alloc, options, at, layouts, found)
 }
 
 /// A quoted scalar that was read, and the gap behind it; a value may stand at once behind that, unless a comment does.
@@ -133,18 +140,16 @@ fn with_gap<'input, T: BorrowedInput<'input>>(
     options: &Options,
     at: &mut Cursor<T>,
     layouts: &mut Layouts,
-    lexeme: Lexeme<'input>,
-) -> Result<Found<'input>, ScanError>
+    found: &mut Found<'input>,
+) -> Result<(), ScanError>
     ensures here { GapBehind T.unread (options_of options.now) at.old at.new layouts.old layouts.new
-        (alone lexeme.entry) result }
+        (lexeme_items found.old.lexeme) (found_in found.new) result }
     ensures moves { Moves T.left T.origin at.old at.new }
 {
     let tail = gap(alloc, options, at, layouts)?;
     layouts.set_last(behind_tail(LastLexeme::Adjacent, &tail));
-    Ok(Found {
-        lexeme: Some(lexeme),
-        note: tail.into_note(),
-    })
+    found.note = tail.into_note();
+    Ok(())
 }
 
 /// The lexeme from there to the end of a token, with the comment that was read behind it.
@@ -159,16 +164,10 @@ pub fn scalar_lexeme<'input>(
 {
     let tail = noted(read.comment);
     let (span, token_type) = read.token.into_parts();
-    Lexeme {
-        tail,
-        ..lexeme_to(
-            layouts,
-            ends,
-            lexeme_kind(alloc, token_type),
-            start,
-            span.end,
-        )
-    }
+    let kind = lexeme_kind(alloc, token_type);
+    let mut lexeme = lexeme_to(layouts, ends, kind, start, span.end);
+    lexeme.tail = tail;
+    lexeme
 }
 
 /// The same of a block scalar, whose token shows where its content stands.
@@ -182,11 +181,10 @@ fn shown_lexeme<'input>(
     ensures { (h : Here) → IsStart start h → lexeme_view result ≡ block_as ends read.entry h layouts.now }
 {
     let span = read.token.span();
-    Lexeme {
-        shown_start: span.start,
-        indent: span.indent,
-        ..scalar_lexeme(alloc, layouts, ends, start, read)
-    }
+    let mut lexeme = scalar_lexeme(alloc, layouts, ends, start, read);
+    lexeme.shown_start = span.start;
+    lexeme.indent = span.indent;
+    lexeme
 }
 
 fn noted<'input>(comment: Option<Token<'input>>) -> Option<Note<'input>>

@@ -1,12 +1,16 @@
 -- The comment behind a lexeme is taken as such unless that is a `-`.
-use Rattle.std.proofs.Common.{◌≡◌, ℕ, Option, Some, None, Ok, refl}
+use Rattle.std.proofs.Common.{◌≡◌, ℕ, Bool, true, false, Option, Some, None, Result, Ok, Err, refl, ap, ◌∙◌}
 use Rattle.std.specs.Prelude.{if◌then◌else◌}
+use Rattle.granit_error.specs.OptionsData.{OptionsData}
 use Rattle.granit_lexemes.specs.Comment.{CommentRead}
 use Rattle.granit_lexemes.specs.Lexeme as lexemes
 use Rattle.granit_lexemes.specs.Lexeme.{LexemeKind}
 use Rattle.granit_machine.specs.Frames.{ParserState}
-use Rattle.granit_machine.specs.Parser.{take_tail}
-use Rattle.granit_feed.specs.Tails.{is_dash, tail_taken}
+use Rattle.granit_lexemes.specs.Outcome.{Fault, ◌>>=◌}
+use Rattle.granit_machine.specs.Closing.{close}
+use Rattle.granit_machine.specs.Parser.{take_lexeme, take_tail, take_token}
+use Rattle.granit_machine.specs.TokenSort.{Token}
+use Rattle.granit_feed.specs.Tails.{is_dash, tail_taken, takes_tail}
 
 pub tail_of : (kind : LexemeKind) (tail : Option CommentRead) (next : Option ℕ) (p : ParserState)
     → take_tail kind tail next p ≡ (if is_dash kind then Ok p else tail_taken tail next p)
@@ -37,3 +41,21 @@ tail_of (lexemes.Tag handle suffix) None next p = refl
 tail_of (lexemes.Tag handle suffix) (Some c) next p = refl
 tail_of (lexemes.Scalar style text) None next p = refl
 tail_of (lexemes.Scalar style text) (Some c) next p = refl
+
+untaken : (dash : Bool) (tail : Option CommentRead) (next : Option ℕ) (p : ParserState) → takes_tail dash tail ≡ false
+    → (if dash then Ok p else tail_taken tail next p) ≡ Ok p
+untaken true tail next p none = refl
+untaken false None next p none = refl
+untaken false (Some c) next p none = search
+
+then_ok : {A : Type 0} (r : Result A Fault) (f : A → Result A Fault) → ((x : A) → f x ≡ Ok x) → (r >>= f) ≡ r
+then_ok (Ok x) f same = same x
+then_ok (Err e) f same = refl
+
+-- where no comment is taken behind it, a lexeme is taken by its token alone
+pub without_tail : (o : OptionsData) (t : Token) (next : Option ℕ) (p : ParserState)
+    → takes_tail (is_dash t.lexeme.kind) t.lexeme.tail ≡ false
+    → take_lexeme o t next p ≡ (close o t p >>= take_token o t)
+without_tail o t next p none =
+    then_ok (close o t p >>= take_token o t) (take_tail t.lexeme.kind t.lexeme.tail next)
+    (λ q. tail_of t.lexeme.kind t.lexeme.tail next q ∙ untaken (is_dash t.lexeme.kind) t.lexeme.tail next q none)

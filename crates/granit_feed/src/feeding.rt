@@ -107,7 +107,15 @@ fn take_tail<'input>(
     }
 }
 
-fn take_lexeme<'input>(
+/// Whether a comment is taken behind a lexeme.
+fn takes_tail(lexeme: &Lexeme<'_>) -> bool
+    ensures { result ≡ tails.takes_tail (tails.is_dash (kind_view lexeme.now.kind))
+        (option_map note_view lexeme.now.tail) }
+{
+    lexeme.tail.is_some() && !is_dash(&lexeme.kind)
+}
+
+fn take_tailed<'input>(
     state: &mut ParserState<'input>,
     alloc: Global,
     options: &Options,
@@ -121,6 +129,25 @@ fn take_lexeme<'input>(
     state.close(options, token)?;
     take_token(state, alloc, options, token)?;
     take_tail(state, tail, next_line)
+}
+
+// Most lexemes have no tail, and need no room for one.
+#[tactic(auto, using(crate::proofs::TailLemmas::without_tail))]
+fn take_lexeme<'input>(
+    state: &mut ParserState<'input>,
+    alloc: Global,
+    options: &Options,
+    token: &mut Token<'input>,
+    next_line: Option<usize>,
+) -> Result<(), ScanError>
+    ensures { LeavesIfRoom result state.new (spec.take_lexeme (options_of options.now)
+        (machine_token token.old) next_line state.old) }
+{
+    if takes_tail(&token.lexeme) {
+        return take_tailed(state, alloc, options, token, next_line);
+    }
+    state.close(options, token)?;
+    take_token(state, alloc, options, token)
 }
 
 /// Takes an item, of which it is told whether a simple key begins with it, and the line of the next token: its

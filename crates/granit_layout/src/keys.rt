@@ -34,7 +34,7 @@ pub(crate) fn is_column(block_column: Option<usize>, column: usize) -> bool
 
 /// Whether a key began too far before a mark, or outside flow on an earlier line (YAML 1.2.2, 7.4.2).
 #[tactic(auto, unfolding(granit_machine::specs::PossibleKeys::is_stale))]
-fn is_stale(options: &Options, in_flow: bool, mark: Marker, key: &PossibleKey) -> bool
+pub(crate) fn is_stale(options: &Options, in_flow: bool, mark: Marker, key: &PossibleKey) -> bool
     ensures { result ≡ keys.is_stale (options_of options.now) in_flow mark key.now }
 {
     mark.index().saturating_sub(key.start.index()) > options.simple_key_max_lookahead
@@ -57,26 +57,6 @@ pub(crate) fn fresh_key(
                 return None;
             }
             Some(key)
-        }
-    }
-}
-
-/// A key that reading has left behind.
-pub(crate) fn stale_key(
-    options: &Options,
-    in_flow: bool,
-    mark: Marker,
-    key: Option<PossibleKey>,
-) -> Option<PossibleKey>
-    ensures { result ≡ keys.stale_key (options_of options.now) in_flow mark key }
-{
-    match key {
-        None => None,
-        Some(key) => {
-            if is_stale(options, in_flow, mark, &key) {
-                return Some(key);
-            }
-            None
         }
     }
 }

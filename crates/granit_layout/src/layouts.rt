@@ -14,12 +14,12 @@ ghost use Rattle.granit_machine.specs.PossibleKeys as keys;
 ghost use Rattle.granit_machine.specs.ReaderState as reader;
 ghost use Rattle.granit_machine.specs.StreamLexemes as streams;
 ghost use Rattle.granit_machine.specs.Leaving.{Leaves, LeavesIfRoom};
+ghost use Rattle.granit_layout.specs.StaleKeys.{without_stale_key};
 
 use crate::brackets::Brackets;
 use crate::columns::Columns;
 use crate::keys::{
-    fresh_key, is_column, is_left, is_of, is_wide_at, key_goes_on, refuse_required, stale_key,
-    tab_column,
+    is_column, is_left, is_of, is_stale, is_wide_at, key_goes_on, refuse_required, tab_column,
 };
 use crate::last::{is_dash, is_indicator, is_opener, is_question, no_more_adjacent};
 use granit_base::{Marker, NoMemory};
@@ -253,11 +253,27 @@ impl Layouts {
     pub fn drop_stale(&mut self, options: &Options, mark: Marker) -> Result<(), ScanError>
         ensures { Leaves result self.new (keys.without_stale (options_of options.now) mark self.old) }
     {
-        let in_flow = self.is_in_flow();
-        refuse_required(stale_key(options, in_flow, mark, self.key))?;
-        self.key = fresh_key(options, in_flow, mark, self.key);
+        self.refresh_key(options, mark)?;
         self.brackets.refresh(options, mark);
         Ok(())
+    }
+
+    /// Without the possible key outside brackets, where reading has left it behind.
+    fn refresh_key(&mut self, options: &Options, mark: Marker) -> Result<(), ScanError>
+        ensures { Leaves result self.new (without_stale_key (options_of options.now) mark self.old) }
+    {
+        let in_flow = self.is_in_flow();
+        match &self.key {
+            None => Ok(()),
+            Some(key) => {
+                if !is_stale(options, in_flow, mark, key) {
+                    return Ok(());
+                }
+                refuse_required(Some(*key))?;
+                self.key = None;
+                Ok(())
+            }
+        }
     }
 
     /// Whether a key, a `-`, a `?` or a `:` without key may stand at a place, by whether only white space stands

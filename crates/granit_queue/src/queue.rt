@@ -58,14 +58,13 @@ impl<'input> Queue<'input> {
     /// # Errors
     ///
     /// `NoMemory` alone.
-    pub fn push_found(&mut self, found: Found<'input>) -> Result<(), NoMemory>
-        ensures { OnOk result (self.new ≡ spec.pushed self.old (found_items found.entry)) }
+    pub fn push_found(&mut self, found: &mut Found<'input>) -> Result<(), NoMemory>
+        ensures { OnOk result (self.new ≡ spec.pushed self.old (found_items found.old)) }
     {
-        let Found { lexeme, note } = found;
-        if let Some(lexeme) = lexeme {
+        if let Some(lexeme) = found.lexeme.take() {
             self.push(Item::Lexeme(lexeme))?;
         }
-        if let Some(note) = note {
+        if let Some(note) = found.note.take() {
             self.push(Item::Note(note))?;
         }
         Ok(())

@@ -1,6 +1,7 @@
 -- One read, as the code makes it.
-use Rattle.std.proofs.Common.{◌≡◌, ℕ, Bool, true, false, List, [], ◌∷◌, Option, Some, None, Result, Ok, Err, refl, sym}
-use Rattle.std.proofs.Common.{ap, ◌∙◌}
+use Rattle.std.proofs.Common.{◌≡◌, ℕ, Bool, true, false, List, [], ◌∷◌, ◌++◌, Option, Some, None, Result, Ok, Err}
+use Rattle.std.proofs.Common.{refl, sym, ap, subst, ◌∙◌}
+use Rattle.granit_base.specs.Place.{Unread}
 use Rattle.granit_error.specs.OptionsData.{OptionsData}
 use Rattle.granit_error.specs.Refused.{Refused}
 use Rattle.granit_lexemes.specs.Comment.{CommentRead}
@@ -9,6 +10,7 @@ use Rattle.granit_lexemes.specs.Lexeme.{Item, OfComment}
 use Rattle.granit_lexemes.specs.Outcome.{Fault, ◌>>=◌}
 use Rattle.granit_machine.specs.Gaps.{gap}
 use Rattle.granit_machine.specs.Laid.{Laid}
+use Rattle.granit_machine.specs.Leaving.{Leaves}
 use Rattle.granit_machine.specs.LexemeSort.{PlacedSort, OpenSign, CloseSign, CommaSign, DashSign, QuestionSign}
 use Rattle.granit_machine.specs.LexemeSort.{ColonSign, AliasSign, AnchorSign, TagSign, BlockSign, QuoteSign, StrayMark}
 use Rattle.granit_machine.specs.LexemeSort.{NoSign, PlainSign}
@@ -16,10 +18,27 @@ use Rattle.granit_machine.specs.PossibleKeys.{without_stale}
 use Rattle.granit_machine.specs.Reader.{lexeme_of, is_strict_outside, lexeme_in_column, read_behind, read}
 use Rattle.granit_machine.specs.ReaderState.{ReaderState, Read}
 use Rattle.granit_steps.specs.Steps.{incoming}
-use Rattle.granit_cursor.specs.Reading.{coded}
-use Rattle.granit_content.specs.Reads.{Passed, Kept, seen}
+use Rattle.granit_cursor.specs.Reading.{Reading, GivesTo, coded}
+use Rattle.granit_items.specs.ItemViews.{lexeme_items, note_items}
+use Rattle.granit_items.specs.declared.item.Found.{Found}
+use Rattle.granit_items.specs.declared.item.Lexeme.{Lexeme}
+use Rattle.granit_items.specs.declared.item.Note.{Note}
+use Rattle.granit_content.specs.Reads.{IsAt, ReadsItems, Passed, Kept, found_in, lexeme_in, seen}
 use Rattle.granit_reader.specs.Reads.{reader_at}
 use Rattle.granit_reader.specs.SortViews.{noded_by, begun}
+
+-- ---- a lexeme with no comment behind it
+
+only_lexeme : (x : Option Lexeme) (n : Option Note) → n ≡ None → lexeme_items x ≡ lexeme_items x ++ note_items n
+only_lexeme None n none = rw none refl
+only_lexeme (Some x) n none = rw none refl
+
+-- where no comment was found, a lexeme is all that was
+pub found_alone : (f : Found) (r : Result (Unit {0}) Refused) (Lands : ReaderState → Type 0) (given : Read)
+    → f.note ≡ None → GivesTo (lexeme_in f.lexeme) r Lands given → GivesTo (found_in f) r Lands given
+found_alone f r Lands given none found =
+    subst (λ (view : Unit {0} → List Item). GivesTo view r Lands given)
+    (ap {B = Unit {0} → List Item} (λ (xs : List Item) (u : Unit {0}). xs) (only_lexeme f.lexeme f.note none)) found
 
 -- ---- a lexeme that stands in a column
 
@@ -65,7 +84,7 @@ note_kept o true (Some d) c s is = let same : c
 -- ---- one read, by its parts
 
 module _ (o : OptionsData) (s : ReaderState) where
-  pub read_given : (t : Option CommentRead) (one two : ReaderState) (items : List Item) (l : Laid)
+  read_given : (t : Option CommentRead) (one two : ReaderState) (items : List Item) (l : Laid)
       → gap o s.here s.laid ≡ Ok (t, one) → read_behind o t one ≡ Ok (items, two)
       → without_stale o (mark_of two.here) two.laid ≡ Ok l → read o s ≡ Ok (items, reader_at two.here l)
   unfolding read
@@ -80,8 +99,23 @@ module _ (o : OptionsData) (s : ReaderState) where
   unfolding read
   behind_refused t one e first second = rw (first, second) refl
 
-  pub stale_refused : (t : Option CommentRead) (one two : ReaderState) (items : List Item) (e : Refused)
+  stale_refused : (t : Option CommentRead) (one two : ReaderState) (items : List Item) (e : Refused)
       → gap o s.here s.laid ≡ Ok (t, one) → read_behind o t one ≡ Ok (items, two)
       → without_stale o (mark_of two.here) two.laid ≡ Err e → read o s ≡ Err e
   unfolding read
   stale_refused t one two items e first second third = rw (first, second, third) refl
+
+  -- whether keys that were left behind may go or not
+  pub read_left : (asked : Bool) (t : Option CommentRead) (one two : ReaderState) (items found : List Item)
+      (Lands : ReaderState → Type 0) (r : Result (Unit {0}) Refused) (l : Laid) → gap o s.here s.laid ≡ Ok (t, one)
+      → read_behind o t one ≡ Ok (items, two) → incoming asked items ≡ found
+      → Leaves r l (without_stale o (mark_of two.here) two.laid) → Lands (reader_at two.here l)
+      → GivesTo (λ _. found) r Lands (coded (incoming asked) (read o s))
+  read_left asked t one two items found Lands (Ok u) l first second same third lands = (
+    reader_at two.here l,
+    lands,
+    ap (coded (incoming asked)) (read_given t one two items l first second third)
+        ∙ ap (λ (xs : List Item). Ok (xs, reader_at two.here l)) same,
+  )
+  read_left asked t one two items found Lands (Err e) l first second same third lands = λ other.
+      ap (coded (incoming asked)) (stale_refused t one two items e first second third)

@@ -1,4 +1,3 @@
-pub mod IndicatorReads
 pub mod Reads
 pub mod SortViews
 pub mod Turns

@@ -1,24 +1,25 @@
 -- What a turn of the code gives, by the machine's turn.
-use Rattle.std.specs.Prelude.{◌≡◌, Bool, false, Option, None, Some, Result, Ok, Err}
-use Rattle.std.specs.Option.{option_map}
+use Rattle.std.specs.Prelude.{◌≡◌, Bool, false, List, Option, None, Some, Result, Ok, Err}
 use Rattle.granit_error.specs.FaultKind.{NoMemory}
 use Rattle.granit_error.specs.Refused.{Refused}
+use Rattle.granit_lexemes.specs.Lexeme.{Item}
 use Rattle.granit_machine.specs.Reader.{LexState, LexTurn}
 use Rattle.granit_machine.specs.ReaderState.{ReaderState}
-use Rattle.granit_steps.specs.Steps.{incoming}
+use Rattle.granit_steps.specs.Steps.{incoming, items_of}
 use Rattle.granit_cursor.specs.Reading.{coded}
-use Rattle.granit_items.specs.ItemViews.{found_items}
-use Rattle.granit_items.specs.declared.item.Found.{Found}
 
 abbrev pub before_turn : Bool → ReaderState → LexState
 before_turn ended s = record { reader = s; ended = ended; fault = None }
 
--- what a read brings, without the comments that aren't asked for, or nothing behind the end; where the code refuses,
--- the machine stops before this read, with that fault, unless memory ran out
-abbrev pub TurnTo : (asked : Bool) → Result (Option Found) Refused → (ReaderState → Type 0) → (ended : Bool)
-    → (before : ReaderState) → LexTurn → Type 0
-TurnTo asked (Ok x) Lands ended before given =
-    (after : ReaderState) × Lands after
-    × (coded (option_map (incoming asked)) given ≡ Ok (option_map found_items x, before_turn ended after))
-TurnTo asked (Err e) Lands ended before given =
+-- what a turn brings, without the comments that aren't asked for; behind the end nothing
+abbrev pub turn_items : (asked : Bool) → Option (List Item) → List Item
+turn_items asked x = incoming asked (items_of x)
+
+-- the items that a read found are those that a turn brings; where the code refuses, the machine stops before this
+-- read, with that fault, unless memory ran out
+abbrev pub TurnTo : (asked : Bool) → Result (Unit {0}) Refused → (found : List Item) → (ReaderState → Type 0)
+    → (ended : Bool) → (before : ReaderState) → LexTurn → Type 0
+TurnTo asked (Ok u) found Lands ended before given =
+    (after : ReaderState) × Lands after × (coded (turn_items asked) given ≡ Ok (found, before_turn ended after))
+TurnTo asked (Err e) found Lands ended before given =
     (e.kind ≡ NoMemory → ⊥) → given ≡ Ok (None, record { reader = before; ended = false; fault = Some e })

@@ -1,12 +1,8 @@
 //! The reader: one lexeme after another, each with its tail, and comments (YAML 1.2.2, chapters 6 to 9).
 #![tactic(auto)]
 
-mod colon;
-mod flow;
-mod indicators;
 mod read;
 mod sort;
-mod stream;
 mod turn;
 
 pub use granit_items::{Found, KeyStart, Lexeme, LexemeKind, Note};

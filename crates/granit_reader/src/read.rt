@@ -1,5 +1,5 @@
 //! One read: a comment, or a lexeme with its tail.
-ghost use Rattle.std.specs.Prelude.{◌≡◌, ◌<◌, ◌≤◌, ◌^◌, Bool, false, Option};
+ghost use Rattle.std.specs.Prelude.{◌≡◌, ◌<◌, ◌≤◌, ◌^◌, Bool, false, Option, None};
 ghost use Rattle.granit_base.specs.Classes.{is_gap};
 ghost use Rattle.granit_cursor.specs.Reading.{Moves, Stands};
 ghost use Rattle.granit_error.specs.FaultKind as faults;
@@ -11,25 +11,23 @@ ghost use Rattle.granit_lexemes.specs.Outcome.{fault_at};
 ghost use Rattle.granit_machine.specs.Laid.{is_in_flow};
 ghost use Rattle.granit_machine.specs.Reader as spec;
 ghost use Rattle.granit_content.specs.declared.tail.Tail.TheVariants.{Nothing};
-ghost use Rattle.granit_items.specs.ItemViews.{found_items};
-ghost use Rattle.granit_content.specs.Reads.{ReadsItems, seen, tail_view};
-ghost use Rattle.granit_reader.specs.Reads.{only_lexeme, reader_at};
+ghost use Rattle.granit_content.specs.Reads.{ReadsItems, found_in, seen, tail_view};
+ghost use Rattle.granit_reader.specs.Reads.{reader_at};
 ghost use Rattle.granit_reader.specs.SortViews as sorts;
 ghost use Rattle.granit_reader.specs.SortViews.{PlacedFits, SortFits, placed_view, sort_view};
 
-use crate::colon::colon;
-use crate::flow::{closer, comma, opener};
-use crate::indicators::{dash, question};
 use crate::sort::{LexemeSort, PlacedSort, sort_at};
-use crate::stream::{directive, document_end, document_start, text_end};
 use granit_content::{
     Tail, alias_lexeme, anchor_lexeme, block_lexeme, gap, plain_lexeme, quoted_and_gap, tag_lexeme,
 };
 use granit_cursor::Cursor;
 use granit_error::{ErrorKind, Options, ScanError};
 use granit_input::{BorrowedInput, Input};
-use granit_items::{Found, Lexeme};
+use granit_items::Found;
 use granit_layout::{Layouts, is_adjacent};
+use granit_signs::{
+    closer, colon, comma, dash, directive, document_end, document_start, opener, question, text_end,
+};
 use std::alloc::Global;
 
 /// One read: a comment, or a lexeme with its tail.
@@ -39,16 +37,18 @@ pub(crate) fn read<'input, T: BorrowedInput<'input>>(
     options: &Options,
     at: &mut Cursor<T>,
     layouts: &mut Layouts,
-) -> Result<Found<'input>, ScanError>
+    found: &mut Found<'input>,
+) -> Result<(), ScanError>
     requires room { layouts.old.number < 2 ^ 63 }
-    ensures here { ReadsItems T.unread (options_of options.now).emit_comments at.old at.new layouts.new found_items
-        result (λ h. spec.read (options_of options.now) (reader_at h layouts.old)) }
+    requires no_lexeme { found.old.lexeme ≡ None }
+    requires no_note { found.old.note ≡ None }
+    ensures here { ReadsItems T.unread (options_of options.now).emit_comments at.old at.new layouts.new
+        (found_in found.new) result (λ h. spec.read (options_of options.now) (reader_at h layouts.old)) }
     ensures moves { Moves T.left T.origin at.old at.new }
 {
     let note = gap(alloc, options, at, layouts)?;
-    let found = behind_gap(alloc, options, at, layouts, note)?;
-    layouts.drop_stale(options, at.mark())?;
-    Ok(found)
+    behind_gap(alloc, options, at, layouts, note, found)?;
+    layouts.drop_stale(options, at.mark())
 }
 
 /// Behind a gap: its comment, or a lexeme.
@@ -58,28 +58,28 @@ fn behind_gap<'input, T: BorrowedInput<'input>>(
     at: &mut Cursor<T>,
     layouts: &mut Layouts,
     note: Tail<'input>,
-) -> Result<Found<'input>, ScanError>
+    found: &mut Found<'input>,
+) -> Result<(), ScanError>
     requires clear { note ≡ Nothing → (h : Here) → Stands T.unread at.old h → is_gap (here.next_char h) ≡ false }
     requires window { note ≡ Nothing → 4 ≤ T.window at.old.input }
     requires room { layouts.old.number < 2 ^ 63 }
+    requires no_lexeme { found.old.lexeme ≡ None }
+    requires no_note { found.old.note ≡ None }
     ensures here { (t : Option CommentRead) → tail_view note.entry ≡ seen (options_of options.now).emit_comments t
-        → ReadsItems T.unread (options_of options.now).emit_comments at.old at.new layouts.new found_items
-        result (λ h. spec.read_behind (options_of options.now) t (reader_at h layouts.old)) }
+        → ReadsItems T.unread (options_of options.now).emit_comments at.old at.new layouts.new
+        (found_in found.new) result (λ h. spec.read_behind (options_of options.now) t (reader_at h layouts.old)) }
     ensures moves { Moves T.left T.origin at.old at.new }
 {
     match note {
         Tail::Nothing => {
             layouts.drop_stale(options, at.mark())?;
-            lexeme(alloc, options, at, layouts)
+            lexeme(alloc, options, at, layouts, found)
         }
-        Tail::Passed => Ok(Found {
-            lexeme: None,
-            note: None,
-        }),
-        Tail::Kept(note) => Ok(Found {
-            lexeme: None,
-            note: Some(note),
-        }),
+        Tail::Passed => Ok(()),
+        Tail::Kept(note) => {
+            found.note = Some(note);
+            Ok(())
+        }
     }
 }
 
@@ -89,16 +89,18 @@ fn lexeme<'input, T: BorrowedInput<'input>>(
     options: &Options,
     at: &mut Cursor<T>,
     layouts: &mut Layouts,
-) -> Result<Found<'input>, ScanError>
+    found: &mut Found<'input>,
+) -> Result<(), ScanError>
     requires clear { (h : Here) → Stands T.unread at.old h → is_gap (here.next_char h) ≡ false }
     requires window { 4 ≤ T.window at.old.input }
     requires room { layouts.old.number < 2 ^ 63 }
-    ensures here { ReadsItems T.unread (options_of options.now).emit_comments at.old at.new layouts.new found_items
-        result (λ h. spec.lexeme (options_of options.now) h layouts.old) }
+    requires no_note { found.old.note ≡ None }
+    ensures here { ReadsItems T.unread (options_of options.now).emit_comments at.old at.new layouts.new
+        (found_in found.new) result (λ h. spec.lexeme (options_of options.now) h layouts.old) }
     ensures moves { Moves T.left T.origin at.old at.new }
 {
     let sort = sort_at(at, layouts.is_in_flow(), is_adjacent(layouts.last()));
-    lexeme_by(alloc, options, at, layouts, sort)
+    lexeme_by(alloc, options, at, layouts, sort, found)
 }
 
 /// The lexeme of a sort.
@@ -109,25 +111,27 @@ fn lexeme_by<'input, T: BorrowedInput<'input>>(
     at: &mut Cursor<T>,
     layouts: &mut Layouts,
     sort: LexemeSort,
-) -> Result<Found<'input>, ScanError>
+    found: &mut Found<'input>,
+) -> Result<(), ScanError>
     requires fits { (h : Here) → Stands T.unread at.old h → SortFits (is_in_flow layouts.old) (sort_view sort) h }
     requires room { layouts.old.number < 2 ^ 63 }
-    ensures here { ReadsItems T.unread (options_of options.now).emit_comments at.old at.new layouts.new found_items
-        result (λ h. spec.lexeme_by (options_of options.now) (sort_view sort) h layouts.old) }
+    requires no_note { found.old.note ≡ None }
+    ensures here { ReadsItems T.unread (options_of options.now).emit_comments at.old at.new layouts.new
+        (found_in found.new) result (λ h. spec.lexeme_by (options_of options.now) (sort_view sort) h layouts.old) }
     ensures moves { Moves T.left T.origin at.old at.new }
 {
     let asked = options.emit_comments;
     match sort {
-        LexemeSort::TextEnd => only(text_end(asked, at, layouts)),
-        LexemeSort::StartMark => only(document_start(asked, at, layouts)),
-        LexemeSort::EndMark => only(document_end(alloc, asked, at, layouts)),
+        LexemeSort::TextEnd => text_end(asked, at, layouts, &mut found.lexeme),
+        LexemeSort::StartMark => document_start(asked, at, layouts, &mut found.lexeme),
+        LexemeSort::EndMark => document_end(alloc, asked, at, layouts, &mut found.lexeme),
         LexemeSort::Unprintable => Err(unexpected(at)),
-        LexemeSort::DirectiveSign => only(directive(alloc, options, at, layouts)),
+        LexemeSort::DirectiveSign => directive(alloc, options, at, layouts, &mut found.lexeme),
         LexemeSort::Placed(sort) => {
             let column = at.mark().col();
             let ends = layouts.ends_at(column);
             layouts.close_at(column);
-            lexeme_in_column(alloc, options, at, layouts, sort, ends)
+            lexeme_in_column(alloc, options, at, layouts, sort, ends, found)
         }
     }
 }
@@ -141,18 +145,21 @@ fn lexeme_in_column<'input, T: BorrowedInput<'input>>(
     layouts: &mut Layouts,
     sort: PlacedSort,
     ends: bool,
-) -> Result<Found<'input>, ScanError>
+    found: &mut Found<'input>,
+) -> Result<(), ScanError>
     requires fits { (h : Here) → Stands T.unread at.old h → PlacedFits (is_in_flow layouts.old) (placed_view sort) h }
     requires room { layouts.old.number < 2 ^ 63 }
-    ensures here { ReadsItems T.unread (options_of options.now).emit_comments at.old at.new layouts.new found_items
-        result (λ h. spec.lexeme_in_column (options_of options.now) (placed_view sort) ends h layouts.old) }
+    requires no_note { found.old.note ≡ None }
+    ensures here { ReadsItems T.unread (options_of options.now).emit_comments at.old at.new layouts.new
+        (found_in found.new) result
+        (λ h. spec.lexeme_in_column (options_of options.now) (placed_view sort) ends h layouts.old) }
     ensures moves { Moves T.left T.origin at.old at.new }
 {
     if is_strict_outside(options, layouts, at.mark().col()) {
         return Err(ScanError::from_kind(at.mark(), ErrorKind::InvalidIndentation));
     }
     begin_node(at, layouts, sort);
-    lexeme_of(alloc, options, at, layouts, sort, ends)
+    lexeme_of(alloc, options, at, layouts, sort, ends, found)
 }
 
 /// Whether a line that begins in a column is left of its block, where lines in flow are indented too.
@@ -183,43 +190,63 @@ fn lexeme_of<'input, T: BorrowedInput<'input>>(
     layouts: &mut Layouts,
     sort: PlacedSort,
     ends: bool,
-) -> Result<Found<'input>, ScanError>
+    found: &mut Found<'input>,
+) -> Result<(), ScanError>
     requires fits { (h : Here) → Stands T.unread at.old h → PlacedFits (is_in_flow layouts.old) (placed_view sort) h }
     requires room { layouts.old.number < 2 ^ 63 }
-    ensures here { ReadsItems T.unread (options_of options.now).emit_comments at.old at.new layouts.new found_items
-        result (λ h. sorts.begun (options_of options.now) (placed_view sort) ends h layouts.old) }
+    requires no_note { found.old.note ≡ None }
+    ensures here { ReadsItems T.unread (options_of options.now).emit_comments at.old at.new layouts.new
+        (found_in found.new) result (λ h. sorts.begun (options_of options.now) (placed_view sort) ends h layouts.old) }
     ensures moves { Moves T.left T.origin at.old at.new }
 {
     match sort {
-        PlacedSort::OpenSign(bracket) => only(opener(alloc, options, at, layouts, bracket, ends)),
-        PlacedSort::CloseSign(bracket) => only(closer(alloc, options, at, layouts, bracket, ends)),
-        PlacedSort::CommaSign => only(comma(alloc, options, at, layouts, ends)),
-        PlacedSort::DashSign => only(dash(alloc, options, at, layouts, ends)),
-        PlacedSort::QuestionSign => only(question(alloc, options, at, layouts, ends)),
-        PlacedSort::ColonSign => only(colon(alloc, options, at, layouts, ends)),
-        PlacedSort::AliasSign => only(alias_lexeme(alloc, at, layouts, ends)),
-        PlacedSort::AnchorSign => only(anchor_lexeme(alloc, options, at, layouts, ends)),
-        PlacedSort::TagSign => only(tag_lexeme(alloc, options, at, layouts, ends)),
-        PlacedSort::BlockSign(literal) => only(block_lexeme(
-            alloc, options, at, layouts, literal, ends,
-        )),
-        PlacedSort::QuoteSign(single) => quoted_and_gap(alloc, options, at, layouts, single, ends),
+        PlacedSort::OpenSign(bracket) => opener(
+            alloc,
+            options,
+            at,
+            layouts,
+            bracket,
+            ends,
+            &mut found.lexeme,
+        ),
+        PlacedSort::CloseSign(bracket) => closer(
+            alloc,
+            options,
+            at,
+            layouts,
+            bracket,
+            ends,
+            &mut found.lexeme,
+        ),
+        PlacedSort::CommaSign => comma(alloc, options, at, layouts, ends, &mut found.lexeme),
+        PlacedSort::DashSign => dash(alloc, options, at, layouts, ends, &mut found.lexeme),
+        PlacedSort::QuestionSign => question(alloc, options, at, layouts, ends, &mut found.lexeme),
+        PlacedSort::ColonSign => colon(alloc, options, at, layouts, ends, &mut found.lexeme),
+        PlacedSort::AliasSign => alias_lexeme(alloc, at, layouts, ends, &mut found.lexeme),
+        PlacedSort::AnchorSign => anchor_lexeme(
+            alloc,
+            options,
+            at,
+            layouts,
+            ends,
+            &mut found.lexeme,
+        ),
+        PlacedSort::TagSign => tag_lexeme(alloc, options, at, layouts, ends, &mut found.lexeme),
+        PlacedSort::BlockSign(literal) => block_lexeme(
+            alloc,
+            options,
+            at,
+            layouts,
+            literal,
+            ends,
+            &mut found.lexeme,
+        ),
+        PlacedSort::QuoteSign(single) => quoted_and_gap(
+            alloc, options, at, layouts, single, ends, found,
+        ),
         PlacedSort::StrayMark => Err(ScanError::from_kind(at.mark(), ErrorKind::BomInsideDocument)),
         PlacedSort::NoSign => Err(unexpected(at)),
-        PlacedSort::PlainSign => only(plain_lexeme(alloc, options, at, layouts, ends)),
-    }
-}
-
-/// A lexeme with no comment behind it.
-fn only<'input>(read: Result<Lexeme<'input>, ScanError>) -> Result<Found<'input>, ScanError>
-    ensures { result ≡ only_lexeme read.entry }
-{
-    match read {
-        Ok(lexeme) => Ok(Found {
-            lexeme: Some(lexeme),
-            note: None,
-        }),
-        Err(error) => Err(error),
+        PlacedSort::PlainSign => plain_lexeme(alloc, options, at, layouts, ends, &mut found.lexeme),
     }
 }
 

@@ -1,5 +1,5 @@
 //! All reads, one after another.
-ghost use Rattle.std.specs.Prelude.{◌≡◌, ◌<◌, ◌^◌};
+ghost use Rattle.std.specs.Prelude.{◌≡◌, ◌<◌, ◌^◌, None};
 ghost use Rattle.granit_cursor.specs.Reading.{Moves, Stands};
 ghost use Rattle.granit_error.specs.OptionsView.{options_of};
 ghost use Rattle.granit_lexemes.specs.Here.{Here};
@@ -28,19 +28,22 @@ pub fn next_found<'input, T: BorrowedInput<'input>>(
     at: &mut Cursor<T>,
     layouts: &mut Layouts,
     ended: &mut bool,
-) -> Result<Option<Found<'input>>, ScanError>
+    found: &mut Found<'input>,
+) -> Result<(), ScanError>
     requires room { layouts.old.number < 2 ^ 63 }
+    requires no_lexeme { found.old.lexeme ≡ None }
+    requires no_note { found.old.note ≡ None }
     ensures here { (h : Here) → Stands T.unread at.old h → TurnTo (options_of options.now).emit_comments result
-        (IsAt T.unread at.new layouts.new) ended.new (reader_at h layouts.old)
+        (found_items found.new) (IsAt T.unread at.new layouts.new) ended.new (reader_at h layouts.old)
         (spec.lex_turn (options_of options.now) (before_turn ended.old (reader_at h layouts.old))) }
     ensures moves { Moves T.left T.origin at.old at.new }
 {
     if *ended {
-        return Ok(None);
+        return Ok(());
     }
-    let found = read(alloc, options, at, layouts)?;
-    *ended = is_end(&found);
-    Ok(Some(found))
+    read(alloc, options, at, layouts, found)?;
+    *ended = is_end(found);
+    Ok(())
 }
 
 /// Whether the end of the text was read.

@@ -2,6 +2,7 @@
 use granit_cursor::Cursor;
 use granit_error::Options;
 use granit_input::StrInput;
+use granit_items::Found;
 use granit_layout::Layouts;
 use granit_reader::next_found;
 use std::alloc::Global;
@@ -19,15 +20,41 @@ fn counted(alloc: Global, text: &str) -> Option<(usize, usize)> {
         if layouts.number() > 100 {
             return None;
         }
-        let turn = next_found(alloc, &options, &mut cursor, &mut layouts, &mut ended);
-        let Some(found) = turn.ok()? else {
-            return Some((lexemes, comments));
+        let is_over = ended;
+        let mut found = Found {
+            lexeme: None,
+            note: None,
         };
+        next_found(
+            alloc,
+            &options,
+            &mut cursor,
+            &mut layouts,
+            &mut ended,
+            &mut found,
+        )
+        .ok()?;
         if found.lexeme.is_some() {
             lexemes = lexemes.saturating_add(1);
         }
         if found.note.is_some() {
             comments = comments.saturating_add(1);
+        }
+        if is_over {
+            return Some((lexemes, comments));
+        }
+    }
+    None
+}
+
+/// The text of the first row of which others were counted.
+fn first_otherwise<'a>(
+    alloc: Global,
+    rows: &[(&'a str, Option<(usize, usize)>)],
+) -> Option<&'a str> {
+    for &(text, wanted) in rows {
+        if counted(alloc, text) != wanted {
+            return Some(text);
         }
     }
     None
@@ -36,20 +63,14 @@ fn counted(alloc: Global, text: &str) -> Option<(usize, usize)> {
 #[test]
 fn lexemes_of_each_kind(rt: HostRuntime) {
     let rows = [
-        ("", 1, 0),
-        ("# a\n", 1, 1),
-        ("%YAML 1.2 # a\n---\nb: [c, 'd'] # e\n...\n", 11, 0),
-        ("- &a !b \"c\" # d\n# e\n- *a\n- |\n f\n", 9, 1),
-        ("? a\n: {b: c}\n", 9, 0),
+        ("", Some((1, 0))),
+        ("# a\n", Some((1, 1))),
+        ("%YAML 1.2 # a\n---\nb: [c, 'd'] # e\n...\n", Some((11, 0))),
+        ("- &a !b \"c\" # d\n# e\n- *a\n- |\n f\n", Some((9, 1))),
+        ("? a\n: {b: c}\n", Some((9, 0))),
+        ("[a", None),
+        ("a: b: c", None),
+        ("a: - b", None),
     ];
-    for (text, lexemes, comments) in rows {
-        assert_eq!(rt;
-            counted(rt.alloc(), text),
-            Some((lexemes, comments)),
-            "at {text}"
-        );
-    }
-    for text in ["[a", "a: b: c", "a: - b"] {
-        assert_eq!(rt; counted(rt.alloc(), text), None, "at {text}");
-    }
+    assert_eq!(rt; first_otherwise(rt.alloc(), &rows), None);
 }

@@ -1,13 +1,10 @@
 -- One more read of a scanner.
 use Rattle.std.proofs.Common.{◌≡◌, ℕ, Bool, true, false, List, [], ◌∷◌, take, Option, Some, None, Result, Ok, Err, refl}
 use Rattle.std.proofs.Common.{sym, ap, subst, ◌∙◌}
-use Rattle.std.specs.Option.{option_map}
 use Rattle.granit_base.specs.Place.{Unread}
 use Rattle.granit_error.specs.FaultKind.{FaultKind, NoMemory}
 use Rattle.granit_error.specs.OptionsData.{OptionsData}
 use Rattle.granit_error.specs.Refused.{Refused}
-use Rattle.granit_items.specs.ItemViews.{found_items}
-use Rattle.granit_items.specs.declared.item.Found.{Found}
 use Rattle.granit_lexemes.specs.Lexeme.{Item}
 use Rattle.granit_machine.specs.Laid.{Laid}
 use Rattle.granit_machine.specs.Lexing.{FlaggedItem}
@@ -15,7 +12,7 @@ use Rattle.granit_machine.specs.Machine.{settled}
 use Rattle.granit_machine.specs.Reader.{LexState, lex_turn}
 use Rattle.granit_content.specs.Reads.{IsAt}
 use Rattle.granit_reader.specs.Reads.{reader_at}
-use Rattle.granit_reader.specs.Turns.{TurnTo, before_turn}
+use Rattle.granit_reader.specs.Turns.{TurnTo, before_turn, turn_items}
 use Rattle.granit_content.proofs.CodedLemmas.{coded_back}
 use Rattle.granit_scanner.specs.Scans.{Scanning, Known, KnownBy, ReadsOn, TakesRead, front_goes, is_done, may_front_go}
 use Rattle.granit_scanner.specs.Scans.{wants_memory}
@@ -31,16 +28,6 @@ goes_less : (b : Bool) (l : Laid) (q : List FlaggedItem) → front_goes b l q �
 goes_less b l [] e = refl
 goes_less true l (i ∷ is) e = absurd cc
 goes_less false l (i ∷ is) e = e
-
-same_items : (asked : Bool) (y : Option (List Item)) (items : List Item) → option_map (incoming asked) y ≡ Some items
-    → incoming asked (items_of y) ≡ items
-same_items asked None items e = absurd cc
-same_items asked (Some xs) items e = cc
-
-no_items : (asked : Bool) (y : Option (List Item)) (q : List FlaggedItem) → option_map (incoming asked) y ≡ None
-    → pushed q (incoming asked (items_of y)) ≡ q
-no_items asked None q e = pushed_nil asked q
-no_items asked (Some xs) q e = absurd cc
 
 module _ {I : Type 0} (unread : I → Unread → Type 0) (s : Scanning I) (l : LexState) (q : List FlaggedItem) where
   abbrev before : LexState
@@ -70,48 +57,39 @@ module _ {I : Type 0} (unread : I → Unread → Type 0) (s : Scanning I) (l : L
     waiting : q ≡ mid.queue
     waiting = queue_by s.fault (no_fault unread s l q k none) k ∙ sym same_queue
 
-    came : (x : Option Found) (y : Option (List Item))
-        → option_map (incoming o.emit_comments) y ≡ option_map found_items x
-        → pushed q (incoming o.emit_comments (items_of y)) ≡ pushed q (items_of (option_map found_items x))
-    came None y is = no_items o.emit_comments y q is
-    came (Some found) y is = ap (pushed q) (same_items o.emit_comments y (found_items found) is)
-
     -- a read that gives something, or nothing behind the end
-    given_by : (x : Option Found)
-        → after ≡ record mid { queue = pushed mid.queue (items_of (option_map found_items x)) }
-        → TurnTo o.emit_comments (Ok x) (IsAt unread mid.cursor mid.laid) mid.ended (reader_at l.reader.here s.laid)
-        (lex_turn o before)
+    given_by : (items : List Item) → after ≡ record mid { queue = pushed mid.queue items }
+        → TurnTo o.emit_comments (Ok tt) items (IsAt unread mid.cursor mid.laid) mid.ended
+        (reader_at l.reader.here s.laid) (lex_turn o before)
         → ReadsOn unread o after l q
-    given_by x is given =
+    given_by items is given =
         let asked = o.emit_comments in
-        let back = coded_back (option_map (incoming asked)) (lex_turn o before) (option_map found_items x)
-        (before_turn mid.ended given.0) given.2 in
+        let back = coded_back (turn_items asked) (lex_turn o before) items (before_turn mid.ended given.0) given.2 in
         let later : LexState = before_turn mid.ended given.0 in
         let left : List FlaggedItem = pushed q (incoming asked (items_of back.0)) in
         let fault : after.fault ≡ None = ap (λ (r : Scanning I). r.fault) is ∙ same_fault
         ∙ no_fault unread s l q k none in
         let known : KnownBy unread None after later left =
         subst (λ (r : Scanning I). KnownBy unread None r later left) (sym is)
-        (given.1, refl, refl, queue_again x back.0 back.2) in (
+        (given.1, refl, refl, queue_again back.0 back.2) in (
           (back.0, later),
           sym turns_alike ∙ back.1,
           subst (λ (f : Option Refused). KnownBy unread f after later left) (sym fault) known,
         )
       where
-        queue_again : (x : Option Found) (y : Option (List Item))
-            → option_map (incoming o.emit_comments) y ≡ option_map found_items x
-            → pushed q (incoming o.emit_comments (items_of y)) ≡ pushed mid.queue (items_of (option_map found_items x))
-        queue_again x y e = came x y e
-            ∙ ap (λ (w : List FlaggedItem). pushed w (items_of (option_map found_items x))) waiting
+        queue_again : (y : Option (List Item)) → turn_items o.emit_comments y ≡ items
+            → pushed q (incoming o.emit_comments (items_of y)) ≡ pushed mid.queue items
+        queue_again y e = ap (pushed q) e ∙ ap (λ (w : List FlaggedItem). pushed w items) waiting
 
     -- a read that fails
-    failed_by : (e : Refused) (free : ℕ) → after ≡ record mid { fault = Some e; queue = take free mid.queue }
+    failed_by : (e : Refused) (items : List Item) (free : ℕ)
+        → after ≡ record mid { fault = Some e; queue = take free mid.queue }
         → wants_memory e.kind ≡ false
         → take free mid.queue ≡ settled s.laid mid.queue
-        → TurnTo o.emit_comments (Err e) (IsAt unread mid.cursor mid.laid) mid.ended (reader_at l.reader.here s.laid)
-        (lex_turn o before)
+        → TurnTo o.emit_comments (Err e) items (IsAt unread mid.cursor mid.laid) mid.ended
+        (reader_at l.reader.here s.laid) (lex_turn o before)
         → ReadsOn unread o after l q
-    failed_by e free is other frees given =
+    failed_by e items free is other frees given =
         let stopped : LexState = record { reader = reader_at l.reader.here s.laid; ended = false; fault = Some e } in
         let left : List FlaggedItem = pushed q (incoming o.emit_comments []) in
         let kept : settled s.laid left ≡ take free mid.queue =
@@ -124,14 +102,15 @@ module _ {I : Type 0} (unread : I → Unread → Type 0) (s : Scanning I) (l : L
         )
 
     -- one more read, whatever it gives
-    pub read_taken : (read : Result (Option Found) Refused) (free : ℕ) → TakesRead read free mid after
+    pub read_taken : (read : Result (Unit {0}) Refused) (items : List Item) (free : ℕ)
+        → TakesRead read items free mid after
         → may_front_go l q ≡ false
         → (front_goes false s.laid s.queue ≡ false → take free s.queue ≡ settled s.laid s.queue)
-        → TurnTo o.emit_comments read (IsAt unread mid.cursor mid.laid) mid.ended (reader_at l.reader.here s.laid)
-        (lex_turn o before)
+        → TurnTo o.emit_comments read items (IsAt unread mid.cursor mid.laid) mid.ended
+        (reader_at l.reader.here s.laid) (lex_turn o before)
         → ReadsOn unread o after l q
-    read_taken (Ok x) free is waits frees given = given_by x is given
-    read_taken (Err e) free is waits frees given =
+    read_taken (Ok u) items free is waits frees given = given_by items is given
+    read_taken (Err e) items free is waits frees given =
         let free_now : take free mid.queue ≡ settled s.laid mid.queue =
         rw same_queue (frees (goes_less (is_done s) s.laid s.queue (known_goes unread s l q k ∙ waits))) in
-        failed_by e free is.0 is.1 free_now given
+        failed_by e items free is.0 is.1 free_now given

@@ -1,14 +1,11 @@
 -- What contracts see of a scanner, and in which state of the machine it is known to be.
 use Rattle.std.specs.Prelude.{◌≡◌, ℕ, Bool, false, ◌==◌, ◌&&◌, ◌||◌, not, if◌then◌else◌, List, [], ◌∷◌, drop, take}
 use Rattle.std.specs.Prelude.{Option, Some, None, is_some, Result, Ok, Err}
-use Rattle.std.specs.Option.{option_map}
 use Rattle.granit_base.specs.Place.{Unread}
 use Rattle.granit_cursor.specs.Reading.{Reading}
 use Rattle.granit_error.specs.FaultKind.{FaultKind, NoMemory, fault_number}
 use Rattle.granit_error.specs.OptionsData.{OptionsData}
 use Rattle.granit_error.specs.Refused.{Refused}
-use Rattle.granit_items.specs.ItemViews.{found_items}
-use Rattle.granit_items.specs.declared.item.Found.{Found}
 use Rattle.granit_lexemes.specs.Lexeme.{Item}
 use Rattle.granit_machine.specs.Laid.{Laid}
 use Rattle.granit_machine.specs.Lexing.{FlaggedItem}
@@ -93,7 +90,8 @@ ReadsOn unread o s l q =
     × Known unread s x.1 (pushed q (incoming o.emit_comments (items_of x.0)))
 
 -- what a read leaves: what it found comes behind what waits, and before a fault so many items stay
-abbrev pub TakesRead : {I : Type 0} → Result (Option Found) Refused → (free : ℕ) → (old new : Scanning I) → Type 0
-TakesRead (Ok x) free old new = new ≡ record old { queue = pushed old.queue (items_of (option_map found_items x)) }
-TakesRead (Err e) free old new =
+abbrev pub TakesRead : {I : Type 0} → Result (Unit {0}) Refused → (found : List Item) → (free : ℕ)
+    → (old new : Scanning I) → Type 0
+TakesRead (Ok u) found free old new = new ≡ record old { queue = pushed old.queue found }
+TakesRead (Err e) found free old new =
     (new ≡ record old { fault = Some e; queue = take free old.queue }) × (wants_memory e.kind ≡ false)

@@ -153,14 +153,19 @@ impl<'input, T: BorrowedInput<'input>> Scanner<'input, T> {
             return Err(NoMemory);
         }
         let free = self.free_count();
+        let mut found: Found<'input> = Found {
+            lexeme: None,
+            note: None,
+        };
         let read = next_found(
             alloc,
             &self.options,
             &mut self.cursor,
             &mut self.layouts,
             &mut self.ended,
+            &mut found,
         );
-        self.take_read(read, free)
+        self.take_read(read, &mut found, free)
     }
 
     /// The fault of the read that failed, which is then given.
@@ -225,16 +230,16 @@ impl<'input, T: Input> Scanner<'input, T> {
     /// What a read found waits behind the other items; before a fault so many of them stay.
     fn take_read(
         &mut self,
-        read: Result<Option<Found<'input>>, ScanError>,
+        read: Result<(), ScanError>,
+        found: &mut Found<'input>,
         free: usize,
     ) -> Result<(), NoMemory>
-        ensures taken { OnOk result (TakesRead read.entry free self.old self.new) }
+        ensures taken { OnOk result (TakesRead read (found_items found.old) free self.old self.new) }
         ensures cursor { self.new.cursor ≡ self.old.cursor }
         ensures options { self.new.options ≡ self.old.options }
     {
         match read {
-            Ok(None) => Ok(()),
-            Ok(Some(found)) => self.queue.push_found(found),
+            Ok(()) => self.queue.push_found(found),
             Err(error) => self.keep(error, free),
         }
     }

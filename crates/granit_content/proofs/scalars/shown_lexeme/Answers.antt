@@ -9,7 +9,7 @@ returns c = λ h begun.
     let read = c.args.read in
     let span = c.span-span.result in
     ap (λ (x : Lexeme). record x { shown = record { start = span.start; end = x.shown.end }; indent = span.indent })
-    (c.scalar_lexeme.ensures h begun)
+    (c.scalar_lexeme-lexeme.ensures h begun)
     ∙ ap (λ (s : Span). record (lexed_as c.args.ends read h c.args.layouts.now) {
       shown =
           record { start = s.start; end = read.token.span.end };

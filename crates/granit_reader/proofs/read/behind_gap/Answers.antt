@@ -10,10 +10,12 @@ pub returns-in-Passed-clause-here : goal.returns-in-Passed-clause-here
 returns-in-Passed-clause-here g c = λ t is h k.
     let o = options_of c.args.options.now in
     let s = reader_at h c.args.layouts.now in
-    (s, (k, refl), note_passed o o.emit_comments t s (sym (ap tail_view c.in-Passed.is) ∙ is))
+    let given = note_passed o o.emit_comments t s (sym (ap tail_view c.in-Passed.is) ∙ is) in
+    (s, (k, refl), rw (c.requires.no_lexeme, c.requires.no_note) given)
 
 pub returns-in-Kept-clause-here : goal.returns-in-Kept-clause-here
 returns-in-Kept-clause-here g c = λ t is h k.
     let o = options_of c.args.options.now in
     let s = reader_at h c.args.layouts.now in
-    (s, (k, refl), note_kept o o.emit_comments t (note_view c.in-Kept.note) s (sym (ap tail_view c.in-Kept.is) ∙ is))
+    let given = note_kept o o.emit_comments t (note_view c.in-Kept.note) s (sym (ap tail_view c.in-Kept.is) ∙ is) in
+    (s, (k, refl), rw c.requires.no_lexeme given)

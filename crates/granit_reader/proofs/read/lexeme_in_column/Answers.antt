@@ -5,8 +5,7 @@ use Rattle.granit_machine.specs.Reader.{is_strict_outside}
 use Rattle.granit_machine.specs.ReaderState.{Read}
 use Rattle.granit_steps.specs.Steps.{incoming}
 use Rattle.granit_cursor.specs.Reading.{GivesTo, coded}
-use Rattle.granit_items.specs.ItemViews.{found_items}
-use Rattle.granit_content.specs.Reads.{IsAt}
+use Rattle.granit_content.specs.Reads.{IsAt, found_in}
 use Rattle.granit_reader.specs.SortViews.{placed_view}
 use Rattle.granit_reader.proofs.ReadLemmas.{placed_read}
 use Rattle.granit_reader.proofs.read.lexeme_in_column.Goals as goal
@@ -21,6 +20,6 @@ returns-clause-here g c = λ h k.
     ∙ c.if-is_strict_outside.false in
     let is = placed_read o (placed_view c.args.sort) c.args.ends h c.args.layouts.now c.begin_node.new.layouts inside
     (c.begin_node.ensures.here h k) in
-    subst (λ (r : Read). GivesTo found_items c.lexeme_of.result
+    subst (λ (r : Read). GivesTo (found_in c.lexeme_of.new.found) c.lexeme_of.result
     (IsAt g.T.Input.unread c.lexeme_of.new.at c.lexeme_of.new.layouts) (coded (incoming o.emit_comments) r))
     (sym is) (c.lexeme_of.ensures.here h k)

@@ -1,19 +1,20 @@
-use Rattle.std.proofs.Common.{◌≡◌, ◌∙◌, List, Ok, refl, sym, ap, ap₂}
+use Rattle.std.proofs.Common.{◌≡◌, ◌∙◌, Result, refl, sym, ap, ap₂, subst}
 use Rattle.std.proofs.lemmas.Result.{err_from_is_err_and}
 use Rattle.granit_base.specs.Place.{Mark}
 use Rattle.granit_error.specs.OptionsView.{options_of}
-use Rattle.granit_lexemes.specs.Lexeme.{Item}
+use Rattle.granit_lexemes.specs.Outcome.{Fault}
 use Rattle.granit_machine.specs.Gaps.{gap}
 use Rattle.granit_machine.specs.Laid.{Laid}
+use Rattle.granit_machine.specs.Leaving.{Leaves}
 use Rattle.granit_machine.specs.PossibleKeys.{without_stale}
 use Rattle.granit_machine.specs.Reader.{read_behind}
 use Rattle.granit_steps.specs.Steps.{incoming}
 use Rattle.granit_cursor.specs.Reading.{coded}
 use Rattle.granit_items.specs.ItemViews.{found_items}
-use Rattle.granit_content.specs.Reads.{seen, tail_view}
+use Rattle.granit_content.specs.Reads.{IsAt, seen, tail_view}
 use Rattle.granit_reader.specs.Reads.{reader_at}
 use Rattle.granit_content.proofs.CodedLemmas.{coded_back, coded_fails}
-use Rattle.granit_reader.proofs.ReadLemmas.{read_given, gap_refused, behind_refused, stale_refused}
+use Rattle.granit_reader.proofs.ReadLemmas.{read_left, gap_refused, behind_refused}
 use Rattle.granit_reader.proofs.read.read.Goals as goal
 
 pub returns-in_err-note-clause-here : goal.returns-in_err-note-clause-here
@@ -26,36 +27,19 @@ returns-in_err-note-clause-here g c = λ h k.
     (gap_refused o s e (coded_fails (seen o.emit_comments) (gap o h s.laid) e (c.in_err-note.ensures.here h k)
     other)))
 
-pub returns-in_err-found-clause-here : goal.returns-in_err-found-clause-here
-returns-in_err-found-clause-here g c = λ h k.
+pub returns-in_err-behind_gap-clause-here : goal.returns-in_err-behind_gap-clause-here
+returns-in_err-behind_gap-clause-here g c = λ h k.
     let o = options_of c.args.options.now in
     let s = reader_at h c.args.layouts.now in
-    let e = c.in_err-found.field-0.0 in
-    let p = err_from_is_err_and c.from_residual-in_err-found.result c.from_residual-in_err-found.ensures.1 in
+    let e = c.in_err-behind_gap.field-0.0 in
+    let p = err_from_is_err_and c.from_residual-in_err-behind_gap.result c.from_residual-in_err-behind_gap.ensures.1 in
     let one = c.in_ok-note.ensures.here h k in
     let note = coded_back (seen o.emit_comments) (gap o h s.laid) (tail_view c.in_ok-note.note) one.0 one.2 in
     let two = coded_fails (incoming o.emit_comments) (read_behind o note.0 (reader_at one.0.here c.gap.new.layouts)) e
-    (c.in_err-found.ensures.here note.0 (sym note.2) one.0.here one.1.0) in
+    (c.in_err-behind_gap.ensures.here note.0 (sym note.2) one.0.here one.1.0) in
     rw (p.1, p.2) (λ other. ap (coded (incoming o.emit_comments))
     (behind_refused o s note.0 one.0 e note.1
     (ap (λ (l : Laid). read_behind o note.0 (reader_at one.0.here l)) one.1.1 ∙ two other)))
-
-pub returns-in_err-drop_stale-clause-here : goal.returns-in_err-drop_stale-clause-here
-returns-in_err-drop_stale-clause-here g c = λ h k.
-    let o = options_of c.args.options.now in
-    let s = reader_at h c.args.layouts.now in
-    let e = c.in_err-drop_stale.field-0.0 in
-    let p = err_from_is_err_and c.from_residual-in_err-drop_stale.result c.from_residual-in_err-drop_stale.ensures.1 in
-    let one = c.in_ok-note.ensures.here h k in
-    let note = coded_back (seen o.emit_comments) (gap o h s.laid) (tail_view c.in_ok-note.note) one.0 one.2 in
-    let two = c.in_ok-found.ensures.here note.0 (sym note.2) one.0.here one.1.0 in
-    let items = coded_back (incoming o.emit_comments) (read_behind o note.0 (reader_at one.0.here c.gap.new.layouts))
-    (found_items c.in_ok-found.found) two.0 two.2 in
-    let stale = ap₂ (λ (m : Mark) (l : Laid). without_stale o m l) (sym (c.mark.ensures.here two.0.here two.1.0))
-    two.1.1 ∙ c.in_err-drop_stale.ensures in
-    rw (p.1, p.2) (λ other. ap (coded (incoming o.emit_comments))
-    (stale_refused o s note.0 one.0 two.0 items.0 e note.1
-    (ap (λ (l : Laid). read_behind o note.0 (reader_at one.0.here l)) one.1.1 ∙ items.1) stale))
 
 pub returns-clause-here : goal.returns-clause-here
 returns-clause-here g c = λ h k.
@@ -63,15 +47,14 @@ returns-clause-here g c = λ h k.
     let s = reader_at h c.args.layouts.now in
     let one = c.in_ok-note.ensures.here h k in
     let note = coded_back (seen o.emit_comments) (gap o h s.laid) (tail_view c.in_ok-note.note) one.0 one.2 in
-    let two = c.in_ok-found.ensures.here note.0 (sym note.2) one.0.here one.1.0 in
+    let two = c.in_ok-behind_gap.ensures.here note.0 (sym note.2) one.0.here one.1.0 in
+    let found = found_items c.behind_gap.new.found in
     let items = coded_back (incoming o.emit_comments) (read_behind o note.0 (reader_at one.0.here c.gap.new.layouts))
-    (found_items c.in_ok-found.found) two.0 two.2 in
-    let stale = ap₂ (λ (m : Mark) (l : Laid). without_stale o m l) (sym (c.mark.ensures.here two.0.here two.1.0))
-    two.1.1 ∙ c.in_ok-drop_stale.ensures in
-    let after = reader_at two.0.here c.drop_stale.new.self in (
-      after,
-      (two.1.0, refl),
-      ap (coded (incoming o.emit_comments)) (read_given o s note.0 one.0 two.0 items.0 c.drop_stale.new.self note.1
-          (ap (λ (l : Laid). read_behind o note.0 (reader_at one.0.here l)) one.1.1 ∙ items.1) stale)
-          ∙ ap (λ (xs : List Item). Ok (xs, after)) items.2,
-    )
+    found two.0 two.2 in
+    let same = ap₂ (λ (m : Mark) (l : Laid). without_stale o m l) (sym (c.mark.ensures.here two.0.here two.1.0))
+    two.1.1 in
+    let stale = subst (λ (q : Result Laid Fault). Leaves c.drop_stale.result c.drop_stale.new.self q) (sym same)
+    c.drop_stale.ensures in
+    read_left o s o.emit_comments note.0 one.0 two.0 items.0 found
+    (IsAt g.T.Input.unread c.behind_gap.new.at c.drop_stale.new.self) c.drop_stale.result c.drop_stale.new.self note.1
+    (ap (λ (l : Laid). read_behind o note.0 (reader_at one.0.here l)) one.1.1 ∙ items.1) items.2 stale (two.1.0, refl)

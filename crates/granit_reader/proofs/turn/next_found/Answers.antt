@@ -14,25 +14,25 @@ pub returns-then-ended-clause-here : goal.returns-then-ended-clause-here
 returns-then-ended-clause-here g c = λ h k.
     let o = options_of c.args.options.now in
     let s = reader_at h c.args.layouts.now in
-    (s, (k, refl), rw c.if-ended.true (turn_ended o s o.emit_comments))
+    (s, (k, refl), rw (c.if-ended.true, c.requires.no_lexeme, c.requires.no_note) (turn_ended o s o.emit_comments))
 
-pub returns-in_err-found-clause-here : goal.returns-in_err-found-clause-here
-returns-in_err-found-clause-here g c = λ h k.
+pub returns-in_err-read-clause-here : goal.returns-in_err-read-clause-here
+returns-in_err-read-clause-here g c = λ h k.
     let o = options_of c.args.options.now in
     let s = reader_at h c.args.layouts.now in
-    let e = c.in_err-found.field-0.0 in
+    let e = c.in_err-read.field-0.0 in
     let p = err_from_is_err_and c.from_residual.result c.from_residual.ensures.1 in
     rw (p.1, p.2, c.if-ended.false) (λ other. turn_refused o s e
-    (coded_fails (incoming o.emit_comments) (read o s) e (c.in_err-found.ensures.here h k) other))
+    (coded_fails (incoming o.emit_comments) (read o s) e (c.in_err-read.ensures.here h k) other))
 
 pub returns-clause-here : goal.returns-clause-here
 returns-clause-here g c = λ h k.
     let o = options_of c.args.options.now in
     let s = reader_at h c.args.layouts.now in
-    let one = c.in_ok-found.ensures.here h k in
-    let items = coded_back (incoming o.emit_comments) (read o s) (found_items c.in_ok-found.found) one.0 one.2 in (
+    let one = c.in_ok-read.ensures.here h k in
+    let items = coded_back (incoming o.emit_comments) (read o s) (found_items c.read.new.found) one.0 one.2 in (
       one.0,
       one.1,
       rw (c.if-ended.false, c.is_end.ensures)
-          (turn_given o s o.emit_comments items.0 (found_items c.in_ok-found.found) one.0 items.1 items.2),
+          (turn_given o s o.emit_comments items.0 (found_items c.read.new.found) one.0 items.1 items.2),
     )

@@ -1,6 +1,7 @@
 use Rattle.std.proofs.Common.{◌≡◌, false, take, refl, sym, subst}
 use Rattle.std.proofs.lemmas.Result.{on_ok_weaker}
 use Rattle.granit_error.specs.OptionsView.{options_of}
+use Rattle.granit_items.specs.ItemViews.{found_items}
 use Rattle.granit_machine.specs.Machine.{settled}
 use Rattle.granit_scanner.specs.Scans.{Scanning, Known, ReadsOn, front_goes}
 use Rattle.granit_scanner.proofs.ReadingLemmas.{stands, read_taken}
@@ -33,6 +34,7 @@ returns-clause-known g c = λ l q k none waits.
     → take free r.queue ≡ settled r.laid r.queue) (sym c.self.view_is) c.free_count-free.ensures in
     on_ok_weaker c.take_read.result
     (λ took. subst (λ r. ReadsOn unread r.options c.take_read.new.self l q) c.self.view_is
-    (read_taken unread inside l q o known none mid c.take_read.new.self refl refl c.next_found-read.result free took
-    waits frees (c.next_found-read.ensures.here l.reader.here at.0)))
+    (read_taken unread inside l q o known none mid c.take_read.new.self refl refl c.next_found-read.result
+    (found_items c.next_found-read.new.found) free took waits frees
+    (c.next_found-read.ensures.here l.reader.here at.0)))
     c.take_read.ensures.taken

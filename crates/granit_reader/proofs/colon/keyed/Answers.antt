@@ -1,4 +1,0 @@
-use Rattle.granit_reader.proofs.colon.keyed.Goals as goal
-
-pub returns : goal.returns
-returns c = λ after. rw (c.key_given.ensures, c.forget_key.ensures) at (c.give.ensures after)

@@ -1,0 +1,4 @@
+pub mod DirectiveLemmas
+pub mod FlowLemmas
+pub mod IndicatorLemmas
+pub mod StreamLemmas

@@ -1,0 +1,43 @@
+use Rattle.std.proofs.Common.{refl, sym, ap, subst, ◌∙◌}
+use Rattle.std.proofs.lemmas.Result.{err_from_is_err_and}
+use Rattle.granit_cursor.specs.Reading.{GivesTo}
+use Rattle.granit_error.specs.OptionsView.{options_of}
+use Rattle.granit_lexemes.specs.Here.{step}
+use Rattle.granit_lexemes.specs.Lexeme.{Lexeme}
+use Rattle.granit_machine.specs.PossibleKeys.{top_key}
+use Rattle.granit_machine.specs.ReaderState.{Read, with_tail}
+use Rattle.granit_items.specs.ItemViews.{lexeme_view}
+use Rattle.granit_content.specs.Reads.{IsAt, lexeme_in, noted, tail_view}
+use Rattle.granit_content.proofs.CodedLemmas.{gives_lands}
+use Rattle.granit_signs.proofs.IndicatorLemmas.{colon_tailed, colon_fails, colon_same}
+use Rattle.granit_signs.proofs.values.colon.Goals as goal
+
+pub returns-in_err-tail-clause-here : goal.returns-in_err-tail-clause-here
+returns-in_err-tail-clause-here g c = λ h k.
+    let p = err_from_is_err_and c.from_residual.result c.from_residual.ensures.1 in
+    let o = options_of c.args.options.now in
+    let looked = c.look.ensures.here h k in
+    let fits = sym (c.is_before_flow.ensures h looked) ∙ c.if-is_before_flow.false in
+    let signed = c.sign-lexeme.ensures.here h looked in
+    rw (p.1, p.2) (colon_fails o.emit_comments o c.args.ends h c.args.layouts.now fits c.in_err-tail.field-0.0
+    (c.in_err-tail.ensures.here (step h) signed.0))
+
+pub returns-clause-here : goal.returns-clause-here
+returns-clause-here g c = λ h k.
+    let o = options_of c.args.options.now in
+    let looked = c.look.ensures.here h k in
+    let fits = sym (c.is_before_flow.ensures h looked) ∙ c.if-is_before_flow.false in
+    let signed = c.sign-lexeme.ensures.here h looked in
+    let tail = c.in_ok-tail.ensures.here (step h) signed.0 in
+    let allowed = rw (c.begins_line.ensures ∙ sym looked.2, c.tab.ensures ∙ sym looked.3) at
+    c.is_allowed-allowed.ensures in
+    let seen = tail_view c.in_ok-tail.tail in
+    let tailed = c.with_tail.ensures ∙ ap (λ (x : Lexeme). with_tail x (noted seen)) signed.1 in
+    let whole = colon_tailed o.emit_comments o c.args.ends h c.args.layouts.now fits seen tail.0 tail.2
+    ∙ sym (colon_same o (top_key c.args.layouts.now) (lexeme_view c.with_tail.result) _ c.mark-mark.result _
+    c.is_allowed-allowed.result _ tail.0 c.args.layouts.now tailed (c.mark-mark.ensures.here h looked) allowed) in
+    subst (λ (r : Read). GivesTo (lexeme_in c.colon_by_key.new.found) c.colon_by_key.result
+    (IsAt g.T.Input.unread c.colon_tail.new.at c.colon_by_key.new.layouts) r) (sym whole)
+    (gives_lands (lexeme_in c.colon_by_key.new.found) c.colon_by_key.result
+    (IsAt g.T.Input.unread c.colon_tail.new.at c.colon_by_key.new.layouts)
+    (record { here = tail.0; laid = c.colon_by_key.new.layouts }) _ (tail.1, refl) (c.colon_by_key.ensures tail.0))

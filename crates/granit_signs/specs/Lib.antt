@@ -1,0 +1,2 @@
+pub mod IndicatorReads
+pub mod StreamReads

@@ -1,0 +1,265 @@
+//! `-` and `?` (YAML 1.2.2, 7.4.2 and 8.2).
+ghost use Rattle.std.specs.Prelude.{◌≡◌, ◌<◌, ◌≤◌, ◌^◌, ◌==◌, ◌&&◌, not, None, Ok, IfOk};
+ghost use Rattle.granit_cursor.specs.Reading.{GivesTo, Moves, Stands, Wherever};
+ghost use Rattle.granit_error.specs.OptionsView.{options_of};
+ghost use Rattle.granit_lexemes.specs.Here.{Here, text_len, next_char, step};
+ghost use Rattle.granit_lexemes.specs.Lexeme.{Question};
+ghost use Rattle.granit_lexemes.specs.declared.layout.LastLexeme.TheVariants.{Another};
+ghost use Rattle.granit_machine.specs.IndicatorLexemes as spec;
+ghost use Rattle.granit_machine.specs.PossibleKeys.{forgets_key};
+ghost use Rattle.granit_machine.specs.ReaderState.{sign_lexeme, given};
+ghost use Rattle.granit_signs.specs.IndicatorReads.{question_from};
+ghost use Rattle.granit_items.specs.ItemViews.{lexeme_items, lexeme_view};
+ghost use Rattle.granit_content.specs.Reads.{IsAt, ReadsItems, lexeme_in, noted, tail_view};
+
+use granit_base::{Marker, NoMemory, is_blank_or_breakz, is_break, is_flow};
+use granit_content::{Tail, comment_at, give, leading_tab, past_gap, sign, tail_at, with_tail};
+use granit_cursor::Cursor;
+use granit_error::{ErrorKind, Options, ScanError};
+use granit_input::{BorrowedInput, Input};
+use granit_items::{Lexeme, LexemeKind};
+use granit_layout::Layouts;
+use granit_lexemes::LastLexeme;
+use std::alloc::Global;
+
+/// A `-` with its tail, where an entry of a block sequence may begin.
+///
+/// # Errors
+///
+/// `BlockEntryInFlowCollection`, `BlockSequenceEntryNotAllowed` where none may, `InvalidBlockEntryWhitespace`
+/// before another `-` behind a tab, and those of `Layouts::enter` and `tail_at`.
+#[tactic(auto, unfolding(granit_machine::specs::IndicatorLexemes::dash))]
+pub fn dash<'input, T: BorrowedInput<'input>>(
+    alloc: Global,
+    options: &Options,
+    at: &mut Cursor<T>,
+    layouts: &mut Layouts,
+    ends: bool,
+    found: &mut Option<Lexeme<'input>>,
+) -> Result<(), ScanError>
+    requires room { layouts.old.number < 2 ^ 63 }
+    ensures here { ReadsItems T.unread (options_of options.now).emit_comments at.old at.new layouts.new
+        (lexeme_in found.new) result (λ h. spec.dash (options_of options.now) ends h layouts.old) }
+    ensures moves { Moves T.left T.origin at.old at.new }
+{
+    let mark = at.mark();
+    if layouts.is_in_flow() {
+        return Err(ScanError::from_kind(mark, ErrorKind::BlockEntryInFlowCollection));
+    }
+    if !layouts.is_allowed(at.begins_line(), at.tab()) {
+        return Err(ScanError::from_kind(mark, ErrorKind::BlockSequenceEntryNotAllowed));
+    }
+    let lexeme = sign(at, layouts, ends, LexemeKind::Dash);
+    let column = column_of(mark)?;
+    layouts.enter(options, column, mark)?;
+    dash_up_to(alloc, options.emit_comments, at, layouts, lexeme, found)
+}
+
+/// The column of a mark. No text is so long that it passes what a cursor reaches.
+pub(crate) fn column_of(mark: Marker) -> Result<usize, NoMemory>
+    ensures column { IfOk result (λ n. n ≡ mark.place.column) }
+    ensures small { IfOk result (λ n. n < 2 ^ 63) }
+{
+    let column = mark.col();
+    if column > isize::MAX as usize {
+        return Err(NoMemory);
+    }
+    Ok(column)
+}
+
+/// A `-` that began an entry and ends here.
+fn dash_up_to<'input, T: BorrowedInput<'input>>(
+    alloc: Global,
+    asked: bool,
+    at: &mut Cursor<T>,
+    layouts: &mut Layouts,
+    lexeme: Lexeme<'input>,
+    found: &mut Option<Lexeme<'input>>,
+) -> Result<(), ScanError>
+    requires room { layouts.old.number < 2 ^ 63 }
+    ensures here { ReadsItems T.unread asked at.old at.new layouts.new
+        (lexeme_in found.new) result (λ h. spec.dash_up_to (lexeme_view lexeme.entry) h layouts.old) }
+    ensures moves { Moves T.left T.origin at.old at.new }
+{
+    let tail = tail_at(alloc, at, asked)?;
+    behind_dash(at, layouts, lexeme, tail, found)
+}
+
+/// Behind a `-` and its tail, where no `-` may stand behind a tab.
+#[tactic(auto, unfolding(granit_machine::specs::IndicatorLexemes::behind_dash))]
+fn behind_dash<'input, T: Input>(
+    at: &mut Cursor<T>,
+    layouts: &mut Layouts,
+    lexeme: Lexeme<'input>,
+    tail: Tail<'input>,
+    found: &mut Option<Lexeme<'input>>,
+) -> Result<(), ScanError>
+    requires room { layouts.old.number < 2 ^ 63 }
+    ensures here { (h : Here) → Stands T.unread at.old h → GivesTo (lexeme_in found.new) result
+        (IsAt T.unread at.new layouts.new)
+        (spec.behind_dash (lexeme_view lexeme.entry) layouts.old (noted (tail_view tail.entry)) h) }
+    ensures moves { Moves T.left T.origin at.old at.new }
+{
+    at.look(2);
+    let mark = at.mark();
+    if is_tabbed_dash(at) {
+        return Err(ScanError::from_kind(mark, ErrorKind::InvalidBlockEntryWhitespace));
+    }
+    let wide = is_before_break(at);
+    layouts.widen_if(wide);
+    layouts.forget_key();
+    give(
+        layouts,
+        ended(lexeme, tail, mark),
+        LastLexeme::BehindDash,
+        found,
+    );
+    Ok(())
+}
+
+/// Whether another `-` stands here behind a tab.
+#[tactic(auto, unfolding(granit_machine::specs::IndicatorLexemes::is_tabbed_dash))]
+fn is_tabbed_dash<T: Input>(at: &Cursor<T>) -> bool
+    requires window { 2 ≤ T.window at.now.input }
+    ensures { (h : Here) → Stands T.unread at.now h → result ≡ spec.is_tabbed_dash h }
+{
+    at.tab().is_some() && at.input().peek() == '-' && is_blank_or_breakz(at.input().peek_nth(1))
+}
+
+/// Whether a break or a flow indicator stands here.
+fn is_before_break<T: Input>(at: &Cursor<T>) -> bool
+    requires window { 1 ≤ T.window at.now.input }
+    ensures { (h : Here) → Stands T.unread at.now h → result ≡ spec.is_before_break h }
+{
+    let c = at.input().peek();
+    is_break(c) || is_flow(c)
+}
+
+/// The lexeme with its tail, up to there.
+fn ended<'input>(lexeme: Lexeme<'input>, tail: Tail<'input>, end: Marker) -> Lexeme<'input>
+    ensures { lexeme_view result
+        ≡ record (lexeme_view lexeme.entry) { tail = noted (tail_view tail.entry); end = end } }
+{
+    let mut lexeme = with_tail(lexeme, tail);
+    lexeme.end = end;
+    lexeme
+}
+
+/// A `?`, outside flow with the gap behind it, up to and with a comment.
+///
+/// # Errors
+///
+/// `MappingKeyNotAllowed` where no key may begin, `ExpectedWhitespace` before a NUL, and those of `Layouts::enter`,
+/// `Layouts::refuse_tab` and `comment_at`.
+#[tactic(auto, unfolding(granit_machine::specs::IndicatorLexemes::question))]
+pub fn question<'input, T: BorrowedInput<'input>>(
+    alloc: Global,
+    options: &Options,
+    at: &mut Cursor<T>,
+    layouts: &mut Layouts,
+    ends: bool,
+    found: &mut Option<Lexeme<'input>>,
+) -> Result<(), ScanError>
+    requires room { layouts.old.number < 2 ^ 63 }
+    ensures here { ReadsItems T.unread (options_of options.now).emit_comments at.old at.new layouts.new
+        (lexeme_in found.new) result (λ h. spec.question (options_of options.now) ends h layouts.old) }
+    ensures moves { Moves T.left T.origin at.old at.new }
+{
+    let mark = at.mark();
+    if layouts.is_in_flow() {
+        flow_question(at, layouts, ends, found);
+        return Ok(());
+    }
+    if !layouts.is_allowed(at.begins_line(), at.tab()) {
+        return Err(ScanError::from_kind(mark, ErrorKind::MappingKeyNotAllowed));
+    }
+    let lexeme = sign(at, layouts, ends, LexemeKind::Question);
+    let column = column_of(mark)?;
+    layouts.enter(options, column, mark)?;
+    behind_question(alloc, options, at, layouts, lexeme, found)
+}
+
+/// A `?` in flow.
+fn flow_question<'input, T: Input>(
+    at: &mut Cursor<T>,
+    layouts: &mut Layouts,
+    ends: bool,
+    found: &mut Option<Lexeme<'input>>,
+)
+    requires room { layouts.old.number < 2 ^ 63 }
+    ensures here { Wherever T.unread at.old at.new (λ h Lands. Lands (step h)
+        × (given (sign_lexeme ends Question h layouts.old) Another (step h) (forgets_key layouts.old)
+        ≡ Ok (lexeme_items found.new, record { here = step h; laid = layouts.new }))) }
+    ensures moves { Moves T.left T.origin at.old at.new }
+{
+    let lexeme = sign(at, layouts, ends, LexemeKind::Question);
+    layouts.forget_key();
+    give(layouts, lexeme, LastLexeme::Another, found);
+}
+
+/// Behind a `?` that began an entry, where no NUL may stand.
+fn behind_question<'input, T: BorrowedInput<'input>>(
+    alloc: Global,
+    options: &Options,
+    at: &mut Cursor<T>,
+    layouts: &mut Layouts,
+    lexeme: Lexeme<'input>,
+    found: &mut Option<Lexeme<'input>>,
+) -> Result<(), ScanError>
+    requires room { layouts.old.number < 2 ^ 63 }
+    ensures here { (lexeme_view lexeme.entry).tail ≡ None → ReadsItems T.unread (options_of options.now).emit_comments
+        at.old at.new layouts.new
+        (lexeme_in found.new) result
+        (λ h. question_from (options_of options.now) (lexeme_view lexeme.entry) h layouts.old) }
+    ensures moves { Moves T.left T.origin at.old at.new }
+{
+    at.look(1);
+    if is_nul(at) {
+        return Err(ScanError::from_kind(at.mark(), ErrorKind::ExpectedWhitespace));
+    }
+    layouts.behind_question();
+    past_gap(at, false);
+    question_up_to(alloc, options, at, layouts, lexeme, found)
+}
+
+/// Whether a NUL stands here.
+fn is_nul<T: Input>(at: &Cursor<T>) -> bool
+    requires window { 1 ≤ T.window at.now.input }
+    ensures { (h : Here) → Stands T.unread at.now h → result ≡ (next_char h == 0x00 && not (text_len h == 0)) }
+{
+    at.input().peek() == '\0' && !at.input().next_is_z()
+}
+
+/// Behind the blanks and breaks behind a `?`: a comment, or what the key may begin at.
+#[tactic(auto, unfolding(granit_machine::specs::IndicatorLexemes::question_up_to))]
+fn question_up_to<'input, T: BorrowedInput<'input>>(
+    alloc: Global,
+    options: &Options,
+    at: &mut Cursor<T>,
+    layouts: &mut Layouts,
+    lexeme: Lexeme<'input>,
+    found: &mut Option<Lexeme<'input>>,
+) -> Result<(), ScanError>
+    requires room { layouts.old.number < 2 ^ 63 }
+    requires window { 1 ≤ T.window at.old.input }
+    ensures here { (lexeme_view lexeme.entry).tail ≡ None → ReadsItems T.unread (options_of options.now).emit_comments
+        at.old at.new layouts.new
+        (lexeme_in found.new) result
+        (λ h. spec.question_up_to (options_of options.now) (lexeme_view lexeme.entry) h layouts.old) }
+    ensures moves { Moves T.left T.origin at.old at.new }
+{
+    if at.input().peek() == '#' {
+        let note = comment_at(alloc, at, options.emit_comments)?;
+        give(
+            layouts,
+            with_tail(lexeme, note),
+            LastLexeme::BehindQuestion,
+            found,
+        );
+        return Ok(());
+    }
+    let tab = leading_tab(at);
+    layouts.refuse_tab(options, at.mark(), tab)?;
+    give(layouts, lexeme, LastLexeme::BehindQuestion, found);
+    Ok(())
+}

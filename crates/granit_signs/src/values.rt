@@ -1,0 +1,195 @@
+//! `:` (YAML 1.2.2, 7.4.2 and 8.2.2).
+ghost use Rattle.std.specs.Prelude.{◌≡◌, ◌<◌, ◌≤◌, ◌^◌, ◌&&◌, not, slice_index, Ok};
+ghost use Rattle.granit_cursor.specs.Reading.{GivesTo, Moves, Stands, Wherever, coded};
+ghost use Rattle.granit_error.specs.OptionsView.{options_of};
+ghost use Rattle.granit_lexemes.specs.Here.{Here};
+ghost use Rattle.granit_lexemes.specs.Outcome.{Gives};
+ghost use Rattle.granit_machine.specs.IndicatorLexemes as spec;
+ghost use Rattle.granit_machine.specs.Laid.{is_adjacent};
+ghost use Rattle.granit_machine.specs.PossibleKeys as keys;
+ghost use Rattle.granit_signs.specs.IndicatorReads.{with_key, bare_by, keyed_by, colon_by};
+ghost use Rattle.granit_items.specs.ItemViews.{lexeme_items, lexeme_view};
+ghost use Rattle.granit_content.specs.Reads.{ReadsItems, lexeme_in, seen, tail_view};
+
+use crate::indicators::column_of;
+use granit_base::{Marker, is_blank};
+use granit_content::{Tail, give, sign, tail_at, with_tail};
+use granit_cursor::Cursor;
+use granit_error::{ErrorKind, Options, ScanError};
+use granit_input::{BorrowedInput, Input};
+use granit_items::{KeyStart, Lexeme, LexemeKind};
+use granit_layout::{Layouts, is_adjacent};
+use granit_lexemes::{LastLexeme, PossibleKey};
+use std::alloc::Global;
+
+/// A `:` with its tail, and the simple key before it.
+///
+/// # Errors
+///
+/// `FlowMappingValueAdjacentCollection` before a bracket where no value may stand at once, `InvalidColonPlacement` too
+/// far below its key, `MappingValueNotAllowed` where none may stand without key, and those of `Layouts::enter_pair` and
+/// `tail_at`.
+#[tactic(auto, unfolding(granit_machine::specs::IndicatorLexemes::colon))]
+pub fn colon<'input, T: BorrowedInput<'input>>(
+    alloc: Global,
+    options: &Options,
+    at: &mut Cursor<T>,
+    layouts: &mut Layouts,
+    ends: bool,
+    found: &mut Option<Lexeme<'input>>,
+) -> Result<(), ScanError>
+    requires room { layouts.old.number < 2 ^ 63 }
+    ensures here { ReadsItems T.unread (options_of options.now).emit_comments at.old at.new layouts.new
+        (lexeme_in found.new) result (λ h. spec.colon (options_of options.now) ends h layouts.old) }
+    ensures moves { Moves T.left T.origin at.old at.new }
+{
+    at.look(2);
+    let mark = at.mark();
+    if is_before_flow(at, layouts) {
+        return Err(ScanError::from_kind(mark, ErrorKind::FlowMappingValueAdjacentCollection));
+    }
+    let allowed = layouts.is_allowed(at.begins_line(), at.tab());
+    let lexeme = sign(at, layouts, ends, LexemeKind::Colon);
+    let tail = colon_tail(alloc, at, options.emit_comments)?;
+    colon_by_key(
+        options,
+        layouts,
+        with_tail(lexeme, tail),
+        mark,
+        allowed,
+        found,
+    )
+}
+
+/// Whether a flow collection stands directly behind a `:` where no value may stand at once.
+fn is_before_flow<T: Input>(at: &Cursor<T>, layouts: &Layouts) -> bool
+    requires window { 2 ≤ T.window at.now.input }
+    ensures { (h : Here) → Stands T.unread at.now h → result
+        ≡ (not (is_adjacent layouts.now.last) && spec.opens_flow (slice_index h.unread.text 1)) }
+{
+    !is_adjacent(layouts.last()) && opens_flow(at.input().peek_nth(1))
+}
+
+/// Whether a bracket opens a collection.
+fn opens_flow(c: char) -> bool
+    ensures { result ≡ spec.opens_flow c }
+{
+    c == '[' || c == '{'
+}
+
+/// The tail of a `:` that ends here, where a blank follows it.
+#[tactic(auto, unfolding(granit_machine::specs::IndicatorLexemes::colon_tail))]
+fn colon_tail<'input, T: BorrowedInput<'input>>(
+    alloc: Global,
+    at: &mut Cursor<T>,
+    asked: bool,
+) -> Result<Tail<'input>, ScanError>
+    ensures here { Wherever T.unread at.old at.new (λ h Lands.
+        GivesTo tail_view result Lands (coded (seen asked) (spec.colon_tail h))) }
+    ensures moves { Moves T.left T.origin at.old at.new }
+{
+    at.look(1);
+    if is_blank(at.input().peek()) {
+        return tail_at(alloc, at, asked);
+    }
+    Ok(Tail::Nothing)
+}
+
+/// A `:` at a mark with its tail: behind its key, or with none where such a one is allowed.
+fn colon_by_key<'input>(
+    options: &Options,
+    layouts: &mut Layouts,
+    lexeme: Lexeme<'input>,
+    mark: Marker,
+    allowed: bool,
+    found: &mut Option<Lexeme<'input>>,
+) -> Result<(), ScanError>
+    requires room { layouts.old.number < 2 ^ 63 }
+    ensures { (after : Here) → Gives (lexeme_in found.new) result (record { here = after; laid = layouts.new })
+        (colon_by (options_of options.now) (keys.top_key layouts.old) (lexeme_view lexeme.entry) mark allowed after
+        layouts.old) }
+{
+    match layouts.top_key() {
+        Some(key) => keyed_colon(options, layouts, lexeme, mark, key, found),
+        None => bare_colon(options, layouts, lexeme, mark, allowed, found),
+    }
+}
+
+/// A `:` behind its key.
+fn keyed_colon<'input>(
+    options: &Options,
+    layouts: &mut Layouts,
+    lexeme: Lexeme<'input>,
+    mark: Marker,
+    key: PossibleKey,
+    found: &mut Option<Lexeme<'input>>,
+) -> Result<(), ScanError>
+    requires room { layouts.old.number < 2 ^ 63 }
+    ensures { (after : Here) → Gives (lexeme_in found.new) result (record { here = after; laid = layouts.new })
+        (keyed_by (options_of options.now) key (lexeme_view lexeme.entry) mark after layouts.old) }
+{
+    if layouts.is_far_below(mark, &key) {
+        return Err(ScanError::from_kind(mark, ErrorKind::InvalidColonPlacement));
+    }
+    if layouts.is_in_flow() {
+        keyed(layouts, lexeme, &key, found);
+        return Ok(());
+    }
+    let column = column_of(key.start)?;
+    layouts.enter_pair(options, column, key.start)?;
+    keyed(layouts, lexeme, &key, found);
+    Ok(())
+}
+
+/// The lexeme of a `:` with its key.
+fn keyed<'input>(
+    layouts: &mut Layouts,
+    lexeme: Lexeme<'input>,
+    key: &PossibleKey,
+    found: &mut Option<Lexeme<'input>>,
+)
+    requires room { layouts.old.number < 2 ^ 63 }
+    ensures { (after : Here) → spec.keyed_given (with_key key.now (lexeme_view lexeme.entry)) after layouts.old
+        ≡ Ok (lexeme_items found.new, record { here = after; laid = layouts.new }) }
+{
+    layouts.forget_key();
+    give(layouts, key_given(lexeme, key), LastLexeme::Another, found);
+}
+
+/// The lexeme with its key.
+fn key_given<'input>(mut lexeme: Lexeme<'input>, key: &PossibleKey) -> Lexeme<'input>
+    ensures { lexeme_view result ≡ with_key key.now (lexeme_view lexeme.entry) }
+{
+    let start = KeyStart {
+        number: key.number,
+        start: key.start,
+    };
+    lexeme.key = Some(start);
+    lexeme
+}
+
+/// A `:` without a key.
+fn bare_colon<'input>(
+    options: &Options,
+    layouts: &mut Layouts,
+    lexeme: Lexeme<'input>,
+    mark: Marker,
+    allowed: bool,
+    found: &mut Option<Lexeme<'input>>,
+) -> Result<(), ScanError>
+    requires room { layouts.old.number < 2 ^ 63 }
+    ensures { (after : Here) → Gives (lexeme_in found.new) result (record { here = after; laid = layouts.new })
+        (bare_by (options_of options.now) (lexeme_view lexeme.entry) mark allowed after layouts.old) }
+{
+    if layouts.is_in_flow() {
+        give(layouts, lexeme, LastLexeme::Another, found);
+        return Ok(());
+    }
+    if !allowed {
+        return Err(ScanError::from_kind(mark, ErrorKind::MappingValueNotAllowed));
+    }
+    let column = column_of(mark)?;
+    layouts.enter_pair(options, column, mark)?;
+    give(layouts, lexeme, LastLexeme::BehindBareColon, found);
+    Ok(())
+}
