@@ -28,42 +28,80 @@ fn directive_at<'a>(
     Some(scan_directive(alloc, cursor, options))
 }
 
-/// Whether a text begins with that directive, which ends there, and where reading then stands.
-fn has(alloc: Global, text: &str, wanted: TokenType<'_>, end: usize, stands: usize) -> bool {
-    let mut cursor = Cursor::new(StrInput::new(text));
-    let Some(Ok(found)) = directive_at(alloc, &mut cursor, &Options::default()) else {
-        return false;
-    };
-    *found.token.token_type() == wanted
+/// Whether that is the token, which ends there, with a comment behind it or without one.
+fn is_found(found: &Lexed<'_>, wanted: &TokenType<'_>, end: usize, has_comment: bool) -> bool {
+    *found.token.token_type() == *wanted
         && found.token.span().end.index() == end
-        && cursor.mark().index() == stands
-        && found.comment.is_some() == (stands > end)
+        && found.comment.is_some() == has_comment
+}
+
+/// Whether a text begins with that directive, which ends there, and where reading then stands.
+fn has(alloc: Global, text: &str, wanted: &TokenType<'_>, end: usize, stands: usize) -> bool {
+    let mut cursor = Cursor::new(StrInput::new(text));
+    match directive_at(alloc, &mut cursor, &Options::default()) {
+        Some(Ok(found)) => {
+            is_found(&found, wanted, end, stands > end) && cursor.mark().index() == stands
+        }
+        _ => false,
+    }
 }
 
 /// The number of a fault's kind, and the index of its mark.
-fn told(alloc: Global, text: &str, options: Options) -> Option<(u8, usize)> {
+fn place(error: &ScanError) -> (u8, usize) {
+    (error.kind().number(), error.marker().index())
+}
+
+/// The same of the directive that a text begins with.
+fn told(alloc: Global, text: &str, options: &Options) -> Option<(u8, usize)> {
     let mut cursor = Cursor::new(StrInput::new(text));
-    let error = directive_at(alloc, &mut cursor, &options)?.err()?;
-    Some((error.kind().number(), error.marker().index()))
+    match directive_at(alloc, &mut cursor, options) {
+        Some(Err(error)) => Some(place(&error)),
+        _ => None,
+    }
+}
+
+/// The first text that has no such version.
+fn without_version(
+    alloc: Global,
+    rows: [(&'static str, u32, u32, usize, usize); 4],
+) -> Option<&'static str> {
+    for (text, major, minor, end, stands) in rows {
+        let wanted = TokenType::VersionDirective(major, minor);
+        if !has(alloc, text, &wanted, end, stands) {
+            return Some(text);
+        }
+    }
+    None
 }
 
 #[test]
-fn versions_and_handles(rt: HostRuntime) {
-    let versions = [
+fn versions(rt: HostRuntime) {
+    let rows = [
         ("%YAML 1.2", 1, 2, 9, 9),
         ("%YAML 1.2 # c\n---", 1, 2, 9, 13),
         ("%YAML 123456789.012345678", 123456789, 12345678, 25, 25),
         ("%YAML 1.10\n---", 1, 10, 10, 10),
     ];
-    for (text, major, minor, end, stands) in versions {
-        let wanted = TokenType::VersionDirective(major, minor);
-        assert_eq!(rt;
-            has(rt.alloc(), text, wanted, end, stands),
-            true,
-            "at {text}"
-        );
+    assert_eq!(rt; without_version(rt.alloc(), rows), None);
+}
+
+/// A text, a handle and its prefix, where they end and where reading then stands.
+type HandleRow = (&'static str, &'static str, &'static str, usize, usize);
+
+/// The first text that has no such handle.
+fn without_handle(alloc: Global, rows: [HandleRow; 6]) -> Option<&'static str> {
+    for (text, handle, prefix, end, stands) in rows {
+        let wanted = TokenType::TagDirective(Text::borrowed(handle), Text::borrowed(prefix));
+        if !has(alloc, text, &wanted, end, stands) {
+            return Some(text);
+        }
     }
-    let handles = [
+    None
+}
+
+#[test]
+fn handles(rt: HostRuntime) {
+    let rows = [
         (
             "%TAG !m! tag:yaml.org,2002:i",
             "!m!",
@@ -77,14 +115,7 @@ fn versions_and_handles(rt: HostRuntime) {
         ("%TAG !e! a%C3%A9 #c", "!e!", "a\u{e9}", 16, 19),
         ("%TAG ! a#c", "!", "a#c", 10, 10),
     ];
-    for (text, handle, prefix, end, stands) in handles {
-        let wanted = TokenType::TagDirective(Text::borrowed(handle), Text::borrowed(prefix));
-        assert_eq!(rt;
-            has(rt.alloc(), text, wanted, end, stands),
-            true,
-            "at {text}"
-        );
-    }
+    assert_eq!(rt; without_handle(rt.alloc(), rows), None);
 }
 
 /// Two words of a reserved directive.
@@ -95,24 +126,38 @@ fn words(alloc: Global, first: &str, second: &str) -> Result<TextList, NoMemory>
     Ok(list)
 }
 
+/// Whether a text begins with a reserved directive `a` of these words.
+fn has_words(alloc: Global, row: HandleRow) -> Result<bool, NoMemory> {
+    let (text, first, second, end, stands) = row;
+    let list = words(alloc, first, second)?;
+    let wanted = TokenType::ReservedDirective(Text::borrowed("a"), list);
+    Ok(has(alloc, text, &wanted, end, stands))
+}
+
 #[test]
 fn reserved(rt: HostRuntime) -> Result<(), Fail> {
-    let rows = [
-        ("%a b  c", "b", "c", 7, 7),
-        ("%a b#c d", "b#c", "d", 8, 8),
-        ("%a b c #d", "b", "c", 7, 9),
-        ("%a \u{e9} c  \n---", "\u{e9}", "c", 8, 8),
+    let alloc = rt.alloc();
+    let has = [
+        has_words(alloc, ("%a b  c", "b", "c", 7, 7))?,
+        has_words(alloc, ("%a b#c d", "b#c", "d", 8, 8))?,
+        has_words(alloc, ("%a b c #d", "b", "c", 7, 9))?,
+        has_words(alloc, ("%a \u{e9} c  \n---", "\u{e9}", "c", 8, 8))?,
     ];
-    for (text, first, second, end, stands) in rows {
-        let list = words(rt.alloc(), first, second)?;
-        let wanted = TokenType::ReservedDirective(Text::borrowed("a"), list);
-        assert_eq!(rt;
-            has(rt.alloc(), text, wanted, end, stands),
-            true,
-            "at {text}"
-        );
-    }
+    assert_eq!(rt; has, [true; 4]);
     Ok(())
+}
+
+/// A text, how many bytes and words are allowed, the kind of the fault and the index of its mark.
+type RefusedRow = (&'static str, usize, usize, u8, usize);
+
+/// The first text that isn't refused so.
+fn not_refused(alloc: Global, rows: [RefusedRow; 20]) -> Option<&'static str> {
+    for (text, bytes, words, kind, index) in rows {
+        if told(alloc, text, &limits(bytes, words)) != Some((kind, index)) {
+            return Some(text);
+        }
+    }
+    None
 }
 
 #[test]
@@ -139,16 +184,18 @@ fn refused(rt: HostRuntime) {
         ("%YAML 1.2#c", 99, 9, 73, 9),
         ("%a b #\u{1}", 99, 9, 76, 6),
     ];
-    for (text, bytes, words, kind, index) in rows {
-        assert_eq!(rt;
-            told(rt.alloc(), text, limits(bytes, words)),
-            Some((kind, index)),
-            "at {text}"
-        );
-    }
+    assert_eq!(rt; not_refused(rt.alloc(), rows), None);
+}
+
+#[test]
+fn at_the_limits(rt: HostRuntime) {
+    let alloc = rt.alloc();
     let mut none = Options::default();
     none.disallow_directives = true;
-    assert_eq!(rt; told(rt.alloc(), "%YAML 1.2", none), Some((14, 0)));
-    assert_eq!(rt; told(rt.alloc(), "%F a b", limits(99, 2)), None);
-    assert_eq!(rt; told(rt.alloc(), "%TAG !a! b", limits(9, 2)), None);
+    let faults = [
+        told(alloc, "%YAML 1.2", &none),
+        told(alloc, "%F a b", &limits(99, 2)),
+        told(alloc, "%TAG !a! b", &limits(9, 2)),
+    ];
+    assert_eq!(rt; faults, [Some((14, 0)), None, None]);
 }

@@ -34,14 +34,16 @@ fn tag_at<'a>(
 }
 
 /// Whether that token ends there, and the cursor stands there.
-fn is_token(token: &Token<'_>, wanted: TokenType<'_>, end: usize, stands: usize) -> bool {
-    *token.token_type() == wanted && token.span().end.index() == end && stands == end
+fn is_token(token: &Token<'_>, wanted: &TokenType<'_>, end: usize, stands: usize) -> bool {
+    *token.token_type() == *wanted && token.span().end.index() == end && stands == end
 }
 
 /// The number of a fault's kind, and the index of its mark.
 fn told(read: Option<Result<Token<'_>, ScanError>>) -> Option<(u8, usize)> {
-    let error = read?.err()?;
-    Some((error.kind().number(), error.marker().index()))
+    match read {
+        Some(Err(error)) => Some((error.kind().number(), error.marker().index())),
+        _ => None,
+    }
 }
 
 /// Whether the name of that anchor or alias is lent.
@@ -53,57 +55,69 @@ fn is_lent(token: &Token<'_>) -> bool {
     }
 }
 
-/// Whether a text begins with an anchor of that name, which ends there and is lent.
+/// Whether a text begins with that anchor or alias, which ends there and is lent.
+fn has_name(alloc: Global, text: &str, wanted: &TokenType<'_>, end: usize) -> bool {
+    let mut cursor = Cursor::new(StrInput::new(text));
+    match name_at(alloc, &mut cursor) {
+        Some(Ok(token)) => {
+            is_lent(&token) && is_token(&token, wanted, end, cursor.mark().index())
+        }
+        _ => false,
+    }
+}
+
+/// Whether a text begins with an anchor of that name.
 fn has_anchor(alloc: Global, text: &str, name: &str, end: usize) -> bool {
-    let mut cursor = Cursor::new(StrInput::new(text));
-    let Some(Ok(token)) = name_at(alloc, &mut cursor) else {
-        return false;
-    };
-    let wanted = TokenType::Anchor(Text::borrowed(name));
-    is_lent(&token) && is_token(&token, wanted, end, cursor.mark().index())
+    has_name(alloc, text, &TokenType::Anchor(Text::borrowed(name)), end)
 }
 
-/// Whether a text begins with an alias of that name, which ends there and is lent.
+/// Whether a text begins with an alias of that name.
 fn has_alias(alloc: Global, text: &str, name: &str, end: usize) -> bool {
-    let mut cursor = Cursor::new(StrInput::new(text));
-    let Some(Ok(token)) = name_at(alloc, &mut cursor) else {
-        return false;
-    };
-    let wanted = TokenType::Alias(Text::borrowed(name));
-    is_lent(&token) && is_token(&token, wanted, end, cursor.mark().index())
+    has_name(alloc, text, &TokenType::Alias(Text::borrowed(name)), end)
 }
 
-/// Whether a text begins with a tag of that handle and suffix, which ends there.
-fn has_tag(
-    alloc: Global,
-    text: &str,
-    in_flow: bool,
-    handle: &str,
-    suffix: &str,
-    end: usize,
-) -> bool {
+/// The fault of the name that a text begins with.
+fn name_fault(alloc: Global, text: &str) -> Option<(u8, usize)> {
     let mut cursor = Cursor::new(StrInput::new(text));
-    let Some(Ok(token)) = tag_at(alloc, &mut cursor, in_flow) else {
-        return false;
-    };
-    let wanted = TokenType::Tag(Text::borrowed(handle), Text::borrowed(suffix));
-    is_token(&token, wanted, end, cursor.mark().index())
+    told(name_at(alloc, &mut cursor))
 }
 
 #[test]
 fn names(rt: HostRuntime) {
-    let rows = [
-        ("&a:b-c!d e", "a:b-c!d", 8),
-        ("&a,b", "a", 2),
-        ("&\u{e9} c", "\u{e9}", 2),
-        ("&a", "a", 2),
+    let alloc = rt.alloc();
+    let has = [
+        has_anchor(alloc, "&a:b-c!d e", "a:b-c!d", 8),
+        has_anchor(alloc, "&a,b", "a", 2),
+        has_anchor(alloc, "&\u{e9} c", "\u{e9}", 2),
+        has_anchor(alloc, "&a", "a", 2),
+        has_alias(alloc, "*a ", "a", 2),
     ];
-    for (text, name, end) in rows {
-        assert_eq!(rt; has_anchor(rt.alloc(), text, name, end), true, "at {text}");
+    let fault = name_fault(alloc, "& a");
+    assert_eq!(rt; (has, fault), ([true; 5], Some((63, 0))));
+}
+
+/// A text, whether it is inside brackets, a handle and a suffix, and where they end.
+type TagRow = (&'static str, bool, &'static str, &'static str, usize);
+
+/// Whether a text begins with a tag of that handle and suffix, which ends there.
+fn has_tag(alloc: Global, row: TagRow) -> bool {
+    let (text, in_flow, handle, suffix, end) = row;
+    let mut cursor = Cursor::new(StrInput::new(text));
+    let wanted = TokenType::Tag(Text::borrowed(handle), Text::borrowed(suffix));
+    match tag_at(alloc, &mut cursor, in_flow) {
+        Some(Ok(token)) => is_token(&token, &wanted, end, cursor.mark().index()),
+        _ => false,
     }
-    assert_eq!(rt; has_alias(rt.alloc(), "*a ", "a", 2), true);
-    let mut none = Cursor::new(StrInput::new("& a"));
-    assert_eq!(rt; told(name_at(rt.alloc(), &mut none)), Some((63, 0)));
+}
+
+/// The first text that has no such tag.
+fn without_tag(alloc: Global, rows: [TagRow; 9]) -> Option<&'static str> {
+    for row in rows {
+        if !has_tag(alloc, row) {
+            return Some(row.0);
+        }
+    }
+    None
 }
 
 #[test]
@@ -119,13 +133,23 @@ fn tags(rt: HostRuntime) {
         ("!a,b", true, "!", "a", 2),
         ("!]", true, "", "!", 1),
     ];
-    for (text, in_flow, handle, suffix, end) in rows {
-        assert_eq!(rt;
-            has_tag(rt.alloc(), text, in_flow, handle, suffix, end),
-            true,
-            "at {text}"
-        );
+    assert_eq!(rt; without_tag(rt.alloc(), rows), None);
+}
+
+/// The fault of the tag that a text begins with.
+fn tag_fault(alloc: Global, text: &str) -> Option<(u8, usize)> {
+    let mut cursor = Cursor::new(StrInput::new(text));
+    told(tag_at(alloc, &mut cursor, false))
+}
+
+/// The first text that isn't refused with that kind at its beginning.
+fn not_refused(alloc: Global, rows: [(&'static str, u8); 10]) -> Option<&'static str> {
+    for (text, kind) in rows {
+        if tag_fault(alloc, text) != Some((kind, 0)) {
+            return Some(text);
+        }
     }
+    None
 }
 
 #[test]
@@ -142,12 +166,5 @@ fn refused_tags(rt: HostRuntime) {
         ("!%C0%80 a", 62),
         ("!%ED%A0%80 a", 62),
     ];
-    for (text, kind) in rows {
-        let mut cursor = Cursor::new(StrInput::new(text));
-        assert_eq!(rt;
-            told(tag_at(rt.alloc(), &mut cursor, false)),
-            Some((kind, 0)),
-            "at {text}"
-        );
-    }
+    assert_eq!(rt; not_refused(rt.alloc(), rows), None);
 }

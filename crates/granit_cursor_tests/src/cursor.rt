@@ -3,10 +3,14 @@ use granit_base::{Marker, OwnedText, Placement, Span, Text, TextList};
 use granit_cursor::{
     Comment, Cursor, Token, TokenType, past_blanks, past_break, scan_comment, skip_comment,
 };
+use granit_error::ScanError;
 use granit_input::{Input, StrInput};
 use std::alloc::Global;
 use std::convert::AsStr;
 use std::test::Fail;
+
+/// A line and a column, whether the line begins there, and the index of the tab before it.
+type Told = (usize, usize, bool, Option<usize>);
 
 /// The character behind the next, over any input.
 fn second<T: Input>(cursor: &mut Cursor<T>) -> char {
@@ -25,67 +29,174 @@ fn skip_mark<T: Input>(cursor: &mut Cursor<T>) -> bool {
     true
 }
 
-/// The line and the column of a cursor, whether its line begins there, and the index of the tab before it.
-fn told<T: Input>(cursor: &Cursor<T>) -> (usize, usize, bool, Option<usize>) {
+/// What a cursor tells of its place.
+fn told<T: Input>(cursor: &Cursor<T>) -> Told {
     let mark = cursor.mark();
     let tab = cursor.tab().map(|tab| tab.index());
     (mark.line(), mark.col(), cursor.begins_line(), tab)
 }
 
+/// The same a character further on.
+fn stepped<T: Input>(cursor: &mut Cursor<T>) -> Told {
+    cursor.step();
+    told(cursor)
+}
+
+/// The same behind each of five characters.
+fn walked<T: Input>(cursor: &mut Cursor<T>) -> [Told; 5] {
+    [
+        stepped(cursor),
+        stepped(cursor),
+        stepped(cursor),
+        stepped(cursor),
+        stepped(cursor),
+    ]
+}
+
+/// The byte offset of a cursor, and whether its source has no error.
+fn ended<T: Input>(cursor: &mut Cursor<T>) -> (Option<usize>, bool) {
+    (
+        cursor.mark().byte_offset(),
+        cursor.take_source_error().is_none(),
+    )
+}
+
+/// A mark is passed, and ten characters behind it, the last of which aren't there.
+fn places() -> (bool, Told, [[Told; 5]; 2], (Option<usize>, bool)) {
+    let mut cursor = Cursor::new(StrInput::new("\u{feff}é\t\r\n\t\rc \n"));
+    (
+        skip_mark(&mut cursor),
+        told(&cursor),
+        [walked(&mut cursor), walked(&mut cursor)],
+        ended(&mut cursor),
+    )
+}
+
 #[test]
 fn cursors_tell_their_place(rt: HostRuntime) {
-    let mut cursor = Cursor::new(StrInput::new("\u{feff}é\t\r\n\t\rc \n"));
-    assert_eq!(rt; skip_mark(&mut cursor), true);
-    assert_eq!(rt; told(&cursor), (1, 0, true, None));
-    let places = [
+    let first = [
         (1, 1, false, None),
         (1, 2, false, Some(2)),
         (1, 3, false, Some(2)),
         (2, 0, true, None),
         (2, 1, true, Some(5)),
+    ];
+    let then = [
         (3, 0, true, None),
         (3, 1, false, None),
         (3, 2, false, None),
         (4, 0, true, None),
         (4, 0, true, None),
     ];
-    for place in places {
-        cursor.step();
-        assert_eq!(rt; told(&cursor), place);
-    }
-    assert_eq!(rt; cursor.mark().byte_offset(), Some(13));
-    assert_eq!(rt; cursor.take_source_error().is_none(), true);
+    assert_eq!(rt;
+        places(),
+        (true, (1, 0, true, None), [first, then], (Some(13), true))
+    );
+}
+
+/// Blanks are passed: how many, and where they end.
+fn blanks<T: Input>(cursor: &mut Cursor<T>) -> (usize, Told) {
+    let count = cursor.skip_while_blank();
+    (count, told(cursor))
+}
+
+/// A chunk of a plain scalar is taken: what that answers, and where it ends.
+fn chunk<T: Input>(
+    cursor: &mut Cursor<T>,
+    out: &mut String,
+) -> Result<((bool, usize), Told), Fail> {
+    let fetched = cursor.fetch_plain_scalar_chunk(out, 16, false)?;
+    Ok((fetched, told(cursor)))
+}
+
+/// The rest of a line is taken, and then that of a line of a block scalar.
+fn rests<T: Input>(cursor: &mut Cursor<T>, out: &mut String) -> Result<(usize, usize), Fail> {
+    let line = cursor.fetch_while_non_breakz(out)?;
+    Ok((line, cursor.fetch_block_scalar_line(out)?))
+}
+
+/// Runs of a line, one behind the other.
+fn line_runs(
+    cursor: &mut Cursor<StrInput<'_>>,
+    out: &mut String,
+) -> Result<((usize, Told), ((bool, usize), Told), char, (usize, usize)), Fail> {
+    Ok((
+        blanks(cursor),
+        chunk(cursor, out)?,
+        second(cursor),
+        rests(cursor, out)?,
+    ))
 }
 
 #[test]
-fn cursors_take_runs_of_a_line(rt: HostRuntime) {
+fn cursors_take_runs_of_a_line(rt: HostRuntime) -> Result<(), Fail> {
     let mut out = String::new(rt.alloc());
     let mut cursor = Cursor::new(StrInput::new(" \t \tab: c\u{7f}d\r\n"));
-    assert_eq!(rt; cursor.skip_while_blank(), 4);
-    assert_eq!(rt; told(&cursor), (1, 4, true, Some(1)));
-    let fetched = cursor.fetch_plain_scalar_chunk(&mut out, 16, false);
-    assert_eq!(rt; fetched.ok(), Some((true, 2)));
-    assert_eq!(rt; told(&cursor), (1, 6, false, None));
-    assert_eq!(rt; second(&mut cursor), ' ');
-    assert_eq!(rt; cursor.fetch_while_non_breakz(&mut out).ok(), Some(2));
-    assert_eq!(rt; cursor.fetch_block_scalar_line(&mut out).ok(), Some(2));
-    assert_eq!(rt; out.as_str(), "ab c\u{7f}d");
+    let runs = line_runs(&mut cursor, &mut out)?;
+    let wanted = (
+        (4, (1, 4, true, Some(1))),
+        ((true, 2), (1, 6, false, None)),
+        ' ',
+        (2, 2),
+    );
+    assert_eq!(rt; (runs, out.as_str()), (wanted, "ab c\u{7f}d"));
+    Ok(())
+}
+
+/// A break and blanks are passed; where they end.
+fn indented<T: Input>(cursor: &mut Cursor<T>) -> Told {
+    past_break(cursor);
+    past_blanks(cursor);
+    told(cursor)
+}
+
+/// Letters are taken.
+fn letters<T: Input>(cursor: &mut Cursor<T>, out: &mut String) -> Result<usize, Fail> {
+    Ok(cursor.fetch_while_is_alpha(out)?)
+}
+
+/// What is no blank is taken; how much it is, and where it ends.
+fn no_blanks<T: Input>(cursor: &mut Cursor<T>, out: &mut String) -> Result<(usize, Told), Fail> {
+    let count = cursor.fetch_while_is_yaml_non_space(out)?;
+    Ok((count, told(cursor)))
+}
+
+/// Runs of a class, one behind the other.
+fn class_runs(
+    cursor: &mut Cursor<StrInput<'_>>,
+    out: &mut String,
+) -> Result<(Told, usize, (bool, usize), (usize, Told)), Fail> {
+    Ok((
+        indented(cursor),
+        letters(cursor, out)?,
+        cursor.skip_plain_scalar_chunk(1, true),
+        no_blanks(cursor, out)?,
+    ))
 }
 
 #[test]
-fn cursors_take_runs_of_a_class(rt: HostRuntime) {
+fn cursors_take_runs_of_a_class(rt: HostRuntime) -> Result<(), Fail> {
     let mut out = String::new(rt.alloc());
     let mut cursor = Cursor::new(StrInput::new("\r\n  x_é!"));
-    past_break(&mut cursor);
-    past_blanks(&mut cursor);
-    assert_eq!(rt; told(&cursor), (2, 2, true, None));
-    assert_eq!(rt; cursor.fetch_while_is_alpha(&mut out).ok(), Some(2));
-    assert_eq!(rt; cursor.skip_plain_scalar_chunk(1, true), (false, 1));
-    assert_eq!(rt;
-        cursor.fetch_while_is_yaml_non_space(&mut out).ok(),
-        Some(1)
-    );
-    assert_eq!(rt; told(&cursor), (2, 6, false, None));
+    let wanted = ((2, 2, true, None), 2, (false, 1), (1, (2, 6, false, None)));
+    assert_eq!(rt; class_runs(&mut cursor, &mut out)?, wanted);
+    Ok(())
+}
+
+/// Whether a run of quoted characters is lent as that text, of so many characters.
+fn lends(cursor: &mut Cursor<StrInput<'_>>, single: bool, text: &str, count: usize) -> bool {
+    let (lent, taken) = cursor.take_quoted_scalar_chunk(single);
+    lent == text && taken == count
+}
+
+/// Three runs of quoted characters, the byte offset behind the first, and where the last ends.
+fn quoted() -> ([bool; 3], Option<usize>, Told) {
+    let mut cursor = Cursor::new(StrInput::new("éa'b c\\d\"\n"));
+    let first = lends(&mut cursor, true, "éa", 2);
+    let offset = cursor.mark().byte_offset();
+    let second = lends(&mut cursor, false, "'b", 2);
+    let third = lends(&mut cursor, false, "", 0);
+    ([first, second, third], offset, told(&cursor))
 }
 
 #[test]
@@ -112,12 +223,7 @@ fn cursors_take_words_of_quoted_scalars(rt: HostRuntime) {
 
 #[test]
 fn cursors_lend_runs_of_quoted_characters(rt: HostRuntime) {
-    let mut cursor = Cursor::new(StrInput::new("éa'b c\\d\"\n"));
-    assert_eq!(rt; cursor.take_quoted_scalar_chunk(true), ("éa", 2));
-    assert_eq!(rt; cursor.mark().byte_offset(), Some(3));
-    assert_eq!(rt; cursor.take_quoted_scalar_chunk(false), ("'b", 2));
-    assert_eq!(rt; cursor.take_quoted_scalar_chunk(false), ("", 0));
-    assert_eq!(rt; told(&cursor), (1, 4, false, None));
+    assert_eq!(rt; quoted(), ([true; 3], Some(3), (1, 4, false, None)));
 }
 
 /// The comment that begins here, where one does.
@@ -130,78 +236,122 @@ fn comment_at<'a>(alloc: Global, cursor: &mut Cursor<StrInput<'a>>) -> Option<To
 }
 
 /// Whether the text of a comment is lent.
-fn is_lent(alloc: Global, token: &Option<Token<'_>>) -> bool {
-    let Some(token) = token else {
-        return false;
-    };
+fn is_comment_lent(alloc: Global, comment: &Comment<'_>) -> bool {
+    match comment.try_clone(alloc) {
+        Ok(copy) => copy.into_text().is_borrowed(),
+        Err(_) => false,
+    }
+}
+
+/// Whether that of a token is, which is a comment.
+fn is_lent(alloc: Global, token: &Token<'_>) -> bool {
     match token.token_type() {
-        TokenType::Comment(comment) => match comment.try_clone(alloc) {
-            Ok(copy) => copy.into_text().is_borrowed(),
-            Err(_) => false,
-        },
+        TokenType::Comment(comment) => is_comment_lent(alloc, comment),
         _ => false,
     }
 }
 
+/// The token of a comment, from the third character to the sixth.
+fn comment_token<'a>(text: &'a str, placement: Placement) -> Token<'a> {
+    let comment = Comment::new(Text::borrowed(text)).with_placement(placement);
+    let span = Span::new(Marker::new(2, 1, 2), Marker::new(5, 1, 5));
+    Token::new(span, TokenType::Comment(comment))
+}
+
+/// Over a character and blanks; the comment that begins behind them.
+fn comment_behind<'a>(alloc: Global, cursor: &mut Cursor<StrInput<'a>>) -> Option<Token<'a>> {
+    cursor.step();
+    past_blanks(cursor);
+    comment_at(alloc, cursor)
+}
+
+/// Whether that comment is lent, whether it is as wanted, and where it ends.
+fn comment_of(
+    alloc: Global,
+    source: &str,
+    text: &str,
+    placement: Placement,
+) -> Option<(bool, bool, Told)> {
+    let mut cursor = Cursor::new(StrInput::new(source));
+    let token = comment_behind(alloc, &mut cursor)?;
+    Some((
+        is_lent(alloc, &token),
+        token == comment_token(text, placement),
+        told(&cursor),
+    ))
+}
+
 /// The number of the kind by which a comment is refused, and the index of its mark.
+fn place(error: &ScanError) -> (u8, usize) {
+    (error.kind().number(), error.marker().index())
+}
+
+/// The same of the comment that begins here, where one does.
 fn refused(cursor: &mut Cursor<StrInput<'_>>) -> Option<(u8, usize)> {
     cursor.look(1);
     if cursor.input().peek() != '#' {
         return None;
     }
-    let error = skip_comment(cursor).err()?;
-    Some((error.kind().number(), error.marker().index()))
+    match skip_comment(cursor) {
+        Ok(_) => None,
+        Err(error) => Some(place(&error)),
+    }
 }
 
 #[test]
 fn comments_tell_whether_they_are_right(rt: HostRuntime) {
-    for (text, placement) in [
-        ("\t # b\r\n", Placement::Free),
-        ("a #\té\n", Placement::Right),
-    ] {
-        let mut cursor = Cursor::new(StrInput::new(text));
-        cursor.step();
-        past_blanks(&mut cursor);
-        let token = comment_at(rt.alloc(), &mut cursor);
-        let text = if placement == Placement::Free {
-            " b"
-        } else {
-            "\té"
-        };
-        let comment = Comment::new(Text::borrowed(text)).with_placement(placement);
-        let span = Span::new(Marker::new(2, 1, 2), Marker::new(5, 1, 5));
-        assert_eq!(rt; is_lent(rt.alloc(), &token), true);
-        assert_eq!(rt;
-            token == Some(Token::new(span, TokenType::Comment(comment))),
-            true
-        );
-        assert_eq!(rt; told(&cursor), (1, 5, false, None));
-    }
+    let alloc = rt.alloc();
+    let told = [
+        comment_of(alloc, "\t # b\r\n", " b", Placement::Free),
+        comment_of(alloc, "a #\té\n", "\té", Placement::Right),
+    ];
+    let wanted = Some((true, true, (1, 5, false, None)));
+    assert_eq!(rt; told, [wanted, wanted]);
+}
+
+#[test]
+fn comments_are_refused(rt: HostRuntime) {
     let mut cursor = Cursor::new(StrInput::new("# a\0b"));
     assert_eq!(rt; refused(&mut cursor), Some((76, 3)));
+}
+
+/// Whether the texts of a comment are these: trimmed, by its two names, and of a copy, which is lent.
+fn has_texts(alloc: Global, comment: &Comment<'_>, trimmed: &str) -> Result<[bool; 4], Fail> {
+    let copy = comment.try_clone(alloc)?;
+    Ok([
+        comment.trimmed_text() == trimmed,
+        comment.as_str() == comment.text(),
+        copy == *comment,
+        copy.into_text().is_borrowed(),
+    ])
 }
 
 #[test]
 fn comments_are_cloned(rt: HostRuntime) -> Result<(), Fail> {
     let comment = Comment::new(Text::borrowed(" \u{a0}é c\t")).with_placement(Placement::Right);
-    assert_eq!(rt; comment.trimmed_text(), "é c");
-    assert_eq!(rt; comment.as_str(), comment.text());
-    let copy = comment.try_clone(rt.alloc())?;
-    assert_eq!(rt; copy == comment, true);
-    assert_eq!(rt; copy.into_text().is_borrowed(), true);
+    assert_eq!(rt; has_texts(rt.alloc(), &comment, "é c")?, [true; 4]);
     Ok(())
+}
+
+/// The token of a reserved directive with one word.
+fn directive(alloc: Global) -> Result<Token<'static>, Fail> {
+    let mut parameters = TextList::new(alloc);
+    parameters.push(OwnedText::from_str(alloc, "b")?)?;
+    let token_type = TokenType::ReservedDirective(Text::borrowed("a"), parameters);
+    Ok(Token::new(Span::empty(Marker::new(3, 1, 3)), token_type))
+}
+
+/// Whether a copy is the same, the index of its span, and whether its parts are the same.
+fn copied(alloc: Global, token: &Token<'_>) -> Result<(bool, usize, bool), Fail> {
+    let copy = token.try_clone(alloc)?;
+    let same = copy == *token;
+    let (span, token_type) = copy.into_parts();
+    Ok((same, span.start.index(), token_type == *token.token_type()))
 }
 
 #[test]
 fn tokens_are_cloned(rt: HostRuntime) -> Result<(), Fail> {
-    let mut parameters = TextList::new(rt.alloc());
-    parameters.push(OwnedText::from_str(rt.alloc(), "b")?)?;
-    let directive = TokenType::ReservedDirective(Text::borrowed("a"), parameters);
-    let token = Token::new(Span::empty(Marker::new(3, 1, 3)), directive);
-    let copy = token.try_clone(rt.alloc())?;
-    assert_eq!(rt; copy == token, true);
-    let (span, token_type) = copy.into_parts();
-    assert_eq!(rt; span.start.index(), 3);
-    assert_eq!(rt; token_type == *token.token_type(), true);
+    let token = directive(rt.alloc())?;
+    assert_eq!(rt; copied(rt.alloc(), &token)?, (true, 3, true));
     Ok(())
 }

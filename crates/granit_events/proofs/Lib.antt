@@ -1,11 +1,5 @@
 pub mod AnswerLemmas
-pub mod AskLemmas
 pub mod Known
-pub mod NumberLemmas
-pub mod PlaceLemmas
-pub mod PushLemmas
-pub mod QuotingLemmas
 pub mod Reaching
 pub mod RunLemmas
 pub mod UnderstoodLemmas
-pub mod WordLemmas

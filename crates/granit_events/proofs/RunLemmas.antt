@@ -10,8 +10,8 @@ use Rattle.granit_lexemes.specs.PlainEvent.{PlainEvent}
 use Rattle.granit_events.specs.Came.{most_bytes, CameWhole, CameTooMany}
 use Rattle.granit_events.specs.Ended.{AreRight, AreWrongAt, Answers, Ended, EndedWhole, CallsFor, IsOrYields}
 use Rattle.granit_events.specs.Ended.{SayOptions, machine_answer}
-use Rattle.granit_events.specs.Words.{spelled}
-use Rattle.granit_events.proofs.WordLemmas as words_of
+use Rattle.granit_words.specs.Words.{spelled}
+use Rattle.granit_words.proofs.WordLemmas as words_of
 use Rattle.granit_events.specs.Inputs.{Took, Responds}
 use Rattle.granit_events.specs.Output.{WholeOutput, CutOutput}
 use Rattle.granit_events.specs.Wrote.{WroteFront}

@@ -25,9 +25,9 @@ use Rattle.granit_events.specs.Ended.{Ended, Fixes, CallsFor, IsOrYields, SayOpt
 use Rattle.granit_events.specs.Output.{WholeOutput}
 use Rattle.granit_events.specs.Understood.{PrintsReading, PrintsFault, CanRead, HasCause, HasEvents, HasKnownEvents}
 use Rattle.granit_events.specs.Understood.{HasBlockText, PrintsAlike, of_trees, of_json}
-use Rattle.granit_events.specs.Words.{spelled}
+use Rattle.granit_words.specs.Words.{spelled}
 use Rattle.granit_events.proofs.RunLemmas.{whole_bytes}
-use Rattle.granit_events.proofs.WordLemmas.{say_one}
+use Rattle.granit_words.proofs.WordLemmas.{say_one}
 use Rattle.granit_events.specs.declared.status.Status.{Status}
 use Rattle.granit_events.specs.declared.status.Status.TheVariants as status
 

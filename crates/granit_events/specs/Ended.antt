@@ -11,8 +11,8 @@ use Rattle.granit_lexemes.specs.Line.{event_lines, fault_line}
 use Rattle.granit_lexemes.specs.Outcome.{Fault}
 use Rattle.granit_lexemes.specs.PlainEvent.{PlainEvent}
 use Rattle.granit_machine.specs.Machine.{run}
-use Rattle.granit_events.specs.Words.{Say, spelled, usage_line}
-use Rattle.granit_events.specs.Words as grammar
+use Rattle.granit_words.specs.Words.{Say, spelled, usage_line}
+use Rattle.granit_words.specs.Words as grammar
 use Rattle.granit_events.specs.Came.{most_bytes, CameWhole, CameTooMany}
 use Rattle.granit_events.specs.declared.status.Status.{Status}
 use Rattle.granit_events.specs.declared.status.Status.TheVariants as status

@@ -2,7 +2,7 @@
 use Rattle.std.specs.Prelude.{◌≡◌, ℕ, List, Option}
 use Rattle.granit_base.specs.Written.{Written}
 use Rattle.granit_error.specs.OptionsView.{options_of}
-use Rattle.granit_events.specs.Words.{usage_line}
+use Rattle.granit_words.specs.Words.{usage_line}
 use Rattle.granit_events.specs.Came.{CameWhole, CameTooMany}
 use Rattle.granit_events.specs.Ended.{AreRight, AreWrongAt, Answers, SayOptions, too_long_line}
 use Rattle.granit_events.specs.declared.input.Input.{Input}

@@ -5,10 +5,8 @@ pub mod Ended
 pub mod Inputs
 pub mod Memory
 pub mod Output
-pub mod Pieces
 pub mod Ran
 pub mod SelfTest
 pub mod Tested
 pub mod Understood
-pub mod Words
 pub mod Wrote

@@ -6,8 +6,9 @@ use Rattle.granit_events.specs.Counts.{Rose}
 use Rattle.granit_events.specs.Ended.{Fixes, IsOrYields}
 use Rattle.granit_events.specs.Output.{CutOutput, WholeOutput}
 use Rattle.granit_events.specs.Ran.{End}
-use Rattle.granit_events.specs.SelfTest.{Ask, AskWrongAt, Calls}
-use Rattle.granit_events.specs.Words.{spelled}
+use Rattle.granit_events.specs.SelfTest.{Calls}
+use Rattle.granit_words.specs.Asking.{Ask, AskWrongAt}
+use Rattle.granit_words.specs.Words.{spelled}
 use Rattle.granit_events.specs.declared.status.Status.{Status}
 use Rattle.granit_events.specs.declared.status.Status.TheVariants as status
 

@@ -3,7 +3,7 @@ ghost use Rattle.std.specs.Prelude.{◌≡◌, Err, IfOk, OnOk, OnErr};
 ghost use Rattle.std.specs.Io.KnownBytes.{Appends};
 ghost use Rattle.granit_error.specs.OptionsView.{options_of};
 ghost use Rattle.granit_lexemes.specs.Line.{fault_line};
-ghost use Rattle.granit_events.specs.Words.{usage_line};
+ghost use Rattle.granit_words.specs.Words.{usage_line};
 ghost use Rattle.granit_events.specs.Counts.{Rose};
 ghost use Rattle.granit_events.specs.Ended.{Answers, is_no_memory, not_utf8_line};
 ghost use Rattle.granit_events.specs.Inputs.{Responds};
@@ -18,7 +18,7 @@ use crate::saying;
 use crate::status::Status;
 use crate::writing::write_all;
 use granit_error::{ErrorKind, Options, ScanError};
-use granit_parser::load_str;
+use granit_load::load_str;
 use std::alloc::Global;
 
 /// Whether memory ran out.

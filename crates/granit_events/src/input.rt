@@ -7,9 +7,9 @@ ghost use Rattle.granit_events.specs.declared.input.InputEnd.TheVariants as ends
 
 use crate::ends::Source;
 use crate::reading::{ReadEnd, read_all};
-use crate::words::read_words;
 use granit_base::TextList;
 use granit_error::Options;
+use granit_words::read_words;
 use std::alloc::Global;
 
 /// What came in.

@@ -2,29 +2,24 @@
 #![tactic(auto)]
 
 mod answering;
-mod asking;
 mod ends;
 mod filling;
 mod input;
 mod lines;
 mod memory;
 mod outside;
-mod places;
 mod plain;
-mod printing;
-mod quoting;
 mod reading;
 mod running;
 mod saying;
 mod status;
 mod testing;
-mod words;
 mod writing;
 
 pub use ends::{Failed, Sink, Source};
+pub use granit_lines::push_line;
 pub use memory::{MemorySink, MemorySource};
 pub use outside::{ReadSource, WriteSink};
 pub use plain::{PlainSink, PlainSource};
-pub use printing::push_line;
 pub use running::{run, run_plain};
 pub use status::Status;

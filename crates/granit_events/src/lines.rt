@@ -8,10 +8,10 @@ ghost use Rattle.granit_events.specs.Wrote.{WroteFront};
 ghost use Rattle.granit_events.specs.declared.lines.WriteEnd.TheVariants as ends;
 
 use crate::ends::{Failed, Sink};
-use crate::printing::push_line;
 use crate::writing::write_all;
 use granit_base::{NoMemory, Span};
 use granit_event::Event;
+use granit_lines::push_line;
 use std::alloc::Global;
 
 /// Why an output was not written to its end.

@@ -5,13 +5,12 @@ ghost use Rattle.granit_events.specs.Counts.{Rose};
 ghost use Rattle.granit_events.specs.Ended.{AreRight, AreWrongAt, CallsFor, Ended, Fixes, IsOrYields, ReadsAll};
 ghost use Rattle.granit_events.specs.Output.{CutOutput, WholeOutput};
 ghost use Rattle.granit_events.specs.Ran.{Ran, end_of};
-ghost use Rattle.granit_events.specs.SelfTest.{BeginSelftest};
+ghost use Rattle.granit_words.specs.Asking.{BeginSelftest};
 ghost use Rattle.granit_events.specs.Tested.{Tested};
 ghost use Rattle.granit_events.specs.declared.status.Status.{Status};
 ghost use Rattle.granit_events.specs.declared.status.Status.TheVariants as status;
 
 use crate::answering::respond;
-use crate::asking::begin_selftest;
 use crate::ends::{Sink, Source};
 use crate::input::{InputEnd, take_input};
 use crate::lines::WriteEnd;
@@ -19,6 +18,7 @@ use crate::plain::{PlainSink, PlainSource};
 use crate::status::Status;
 use crate::testing::selftest;
 use granit_base::TextList;
+use granit_words::begin_selftest;
 use std::alloc::Global;
 
 /// What `run` does on the words of `events` and on wrong ones. Its contract speaks of the plain machine; that of `run`

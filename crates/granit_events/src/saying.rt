@@ -4,12 +4,12 @@ ghost use Rattle.granit_error.specs.FaultKind.{fault_words};
 ghost use Rattle.granit_error.specs.Kinds.{kind_of};
 ghost use Rattle.granit_error.specs.Refused.{place_words};
 ghost use Rattle.granit_lexemes.specs.Line.{fault_line};
-ghost use Rattle.granit_events.specs.Words.{usage_line};
+ghost use Rattle.granit_words.specs.Words.{usage_line};
 ghost use Rattle.granit_events.specs.Ended.{not_utf8_line};
 
-use crate::printing::push_number;
 use granit_base::{Marker, NoMemory};
 use granit_error::{ErrorKind, ScanError};
+use granit_lines::push_number;
 use std::alloc::Global;
 
 /// `usage: word K`.

@@ -8,13 +8,13 @@ ghost use Rattle.granit_events.specs.SelfTest.{Calls};
 ghost use Rattle.granit_events.specs.Tested.{MayEnd};
 ghost use Rattle.granit_events.specs.declared.status.Status.TheVariants as status;
 
-use crate::asking::read_asked;
 use crate::ends::Sink;
 use crate::saying;
 use crate::status::Status;
 use crate::writing::write_all;
 use granit_base::{NoMemory, TextList};
 use granit_selftest::selftest_line;
+use granit_words::read_asked;
 use std::alloc::Global;
 
 /// The status and the line that the words call for.

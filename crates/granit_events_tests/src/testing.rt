@@ -3,8 +3,8 @@ use granit_base::{NoMemory, OwnedText, TextList};
 use granit_error::Options;
 use granit_events::{MemorySink, MemorySource, Status, run};
 use granit_generator::{node_count, trees_from};
+use granit_load::load_str;
 use granit_model::flow_text;
-use granit_parser::load_str;
 use std::alloc::Global;
 use std::test::*;
 

@@ -4,7 +4,7 @@
 use anyhow::Result;
 use granit_error::Options;
 use granit_event::Event;
-use granit_parser::load_str;
+use granit_load::load_str;
 
 const TEXT: &str = "name: granit\nreads:\n  - strings\n  - [flow, block]\n";
 

@@ -4,7 +4,7 @@ use anyhow::{Context, Result};
 use granit_base::{OwnedText, TextList};
 use granit_error::{ErrorKind, Options, ScanError};
 use granit_events::{MemorySink, MemorySource, PlainSource, WriteSink, push_line, run};
-use granit_parser::{Events, load_chars, load_fallible};
+use granit_load::{Events, load_chars, load_fallible};
 use md5::{Digest, Md5};
 use std::alloc::Global;
 

@@ -10,8 +10,8 @@ use granit_error::Options;
 use granit_event::Event;
 use granit_events::push_line;
 use granit_generator::{block_text, trees_from};
+use granit_load::{Events, load_str};
 use granit_model::flow_text;
-use granit_parser::{Events, load_str};
 use std::alloc::Global;
 use std::io::{BufRead, BufReader};
 

@@ -6,7 +6,7 @@
 use anyhow::{Context, Result};
 use granit_error::{ErrorKind, Options, ScanError};
 use granit_events::push_line;
-use granit_parser::{Events, load_chars, load_fallible, load_str};
+use granit_load::{Events, load_chars, load_fallible, load_str};
 use serde_json::Value;
 use std::alloc::Global;
 use std::io::{BufRead, BufReader};

@@ -12,15 +12,25 @@ fn joined(high: u32, low: u32) -> Option<char> {
 }
 
 #[test]
-fn letters_and_halves_stand_for_characters(rt: HostRuntime) {
-    assert_eq!(rt; letter_value('N'), Some('\u{85}'));
-    assert_eq!(rt; letter_value('\t'), Some('\t'));
-    assert_eq!(rt; letter_value('x'), None);
-    assert_eq!(rt; digit_count('u'), Some(4));
-    assert_eq!(rt; digit_count('X'), None);
-    assert_eq!(rt; is_low_surrogate(0xDFFF), true);
-    assert_eq!(rt; is_low_surrogate(0xDBFF), false);
-    assert_eq!(rt; joined(0xD83D, 0xDE00), Some('\u{1F600}'));
-    assert_eq!(rt; joined(0xD83D, 0xD83D), None);
-    assert_eq!(rt; joined(0xDE00, 0xDE00), None);
+fn letters_stand_for_characters(rt: HostRuntime) {
+    let values = [letter_value('N'), letter_value('\t'), letter_value('x')];
+    let counts = [digit_count('u'), digit_count('X')];
+    assert_eq!(rt;
+        (values, counts),
+        ([Some('\u{85}'), Some('\t'), None], [Some(4), None])
+    );
+}
+
+#[test]
+fn halves_stand_for_characters(rt: HostRuntime) {
+    let low = [is_low_surrogate(0xDFFF), is_low_surrogate(0xDBFF)];
+    let characters = [
+        joined(0xD83D, 0xDE00),
+        joined(0xD83D, 0xD83D),
+        joined(0xDE00, 0xDE00),
+    ];
+    assert_eq!(rt;
+        (low, characters),
+        ([true, false], [Some('\u{1F600}'), None, None])
+    );
 }

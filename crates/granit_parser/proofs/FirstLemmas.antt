@@ -13,7 +13,8 @@ use Rattle.granit_lexemes.specs.Outcome.{Fails}
 use Rattle.granit_lexemes.specs.PlainEvent.{PlainEvent, StreamEnd, event_on}
 use Rattle.granit_parser.specs.Parsing.{IsOver, Next, Parsing, StandsAt, StandsBefore}
 use Rattle.granit_parser.specs.Receiving.{none_sent, sent_on, sends_last, sends_on, SendsSome, end_again}
-use Rattle.granit_parser.specs.Receiving.{sends_some, SendsUpTo, up_to_end_again, up_to_this, IsPlaceOf, is_last}
+use Rattle.granit_parser.specs.Receiving.{sends_some, SendsUpTo, up_to_end_again, up_to_this, IsPlaceOf}
+use Rattle.granit_receivers.specs.Sending.{is_last}
 use Rattle.granit_parser.specs.Receiving.{Loads, LoadsRest, RefusesBehind, Tries, TriesRest}
 use Rattle.granit_parser.specs.Sources.{IsSourceError}
 use Rattle.granit_receivers.proofs.TakingLemmas.{took_more, took_none}

@@ -1,9 +1,6 @@
 pub mod FirstLemmas
-pub mod GatherLemmas
-pub mod LoadLemmas
 pub mod MetLemmas
 pub mod SendLemmas
 pub mod SourceLemmas
 pub mod StartLaws
-pub mod StreamLemmas
 pub mod TextLemmas

@@ -1,6 +1,6 @@
 -- Events that are sent one behind the other.
 use Rattle.std.proofs.Common.{◌≡◌, Bool, true, false, List, [], ◌∷◌, ◌++◌, Some, None, Ok, Err, sym}
-use Rattle.std.proofs.Common.{inl, inr, subst}
+use Rattle.std.proofs.Common.{◌⊎◌, inl, inr, subst}
 use Rattle.std.proofs.lemmas.List.{append-nil, map-append}
 use Rattle.granit_base.specs.Place.{Unread, Mark}
 use Rattle.granit_base.specs.declared.place.Span.{Span}
@@ -11,10 +11,11 @@ use Rattle.granit_event.specs.declared.event.Event.{Event}
 use Rattle.granit_event.specs.Events.{plain_event, plain_events}
 use Rattle.granit_input.specs.Origin.{Origin}
 use Rattle.granit_lexemes.specs.PlainEvent.{PlainEvent}
-use Rattle.granit_parser.proofs.GatherLemmas.{TookOr}
 use Rattle.granit_parser.proofs.SourceLemmas.{never_told}
-use Rattle.granit_parser.specs.Parsing.{Parsing, StandsAt}
-use Rattle.granit_parser.specs.Receiving.{GoesOn, none_sent, sent_on, Sends, none_left, sends_last, sends_on, is_last}
+use Rattle.granit_parser.specs.Parsing.{GivesNext, Next, Parsing, StandsAt}
+use Rattle.granit_parser.specs.Receiving.{GoesOn, none_sent, sent_on, Sends, none_left, sends_last, sends_on}
+use Rattle.granit_receivers.specs.Sending.{is_last}
+use Rattle.granit_parser.specs.Sources.{TellsSource}
 use Rattle.granit_parser.specs.Receiving.{SendsUpTo, up_to_this, StandsBehind, RefusesBehind}
 use Rattle.granit_receivers.proofs.TakingLemmas.{took_none, took_more}
 use Rattle.granit_receivers.specs.Taking.{Told, Took}
@@ -35,6 +36,14 @@ sends_behind none_sent sends = sends
 sends_behind (sent_on first not_last rest) sends = sends_on first not_last (sends_behind rest sends)
 
 -- ---- in the code
+
+-- what a call gives: what the machine's step gives, or the error of the source
+abbrev pub TookOr : {I : Type 0} → (I → Unread → Type 0) → (I → Origin) → (now : Parsing I) → Next → (after : Parsing I)
+    → Type 0
+TookOr unread origin now r after =
+    (m : StepState) → StandsAt unread now m
+    → GivesNext r (StandsAt unread after) (next_event now.stepper.scanner.options m)
+    ⊎ TellsSource origin r after.stepper.scanner.cursor
 
 abbrev pub both : (xs ys : List (Event × Span)) → plain_events (xs ++ ys) ≡ plain_events xs ++ plain_events ys
 both xs ys = map-append plain_event xs ys

@@ -1,7 +1,7 @@
 -- Why calls give and leave what they do where the source of an input may fail.
 use Rattle.std.proofs.Common.{◌≡◌, ◌≤◌, ℕ, Bool, true, false, ◌||◌, Option, Some, None, Result, Ok, Err, is_some, ◌⊎◌}
 use Rattle.std.proofs.Common.{inl, inr, [], refl, sym, ap, subst, ◌∙◌, le_refl, le_trans}
-use Rattle.std.specs.Prelude.{if◌then◌else◌, IfErr, IfSome}
+use Rattle.std.specs.Prelude.{if◌then◌else◌, IfSome}
 use Rattle.std.specs.Option.{option_map}
 use Rattle.granit_base.specs.Place.{Place, Unread}
 use Rattle.granit_cursor.specs.Reading.{Moves, Reading}
@@ -238,15 +238,7 @@ moves_behind left origin r s a now after same seen moves first =
     (subst (λ (x : Next). MovesUnless left origin x now.stepper.scanner.cursor after.stepper.scanner.cursor) same
     (moved left origin r now.peeked now.stepper after.stepper seen moves))
 
-pub for_any : {V A : Type 0} (r : Result V Refused) → A → IfErr r (λ e. A)
-for_any (Ok v) a = tt
-for_any (Err e) a = a
-
 -- no source failed
 pub never_told : {A : Type 0} → A ⊎ ⊥ → A
 never_told (inl a) = a
 never_told (inr e) = absurd e
-
-pub never_failed : {A : Type 0} (o : Origin) (at : Place) (e : Refused) → o.error ≡ None → A ⊎ IsSourceError o at e → A
-never_failed o at e none (inl a) = a
-never_failed o at e none (inr failed) = absurd (let is : None ≡ Some e.kind = sym none ∙ failed.kind in cc)

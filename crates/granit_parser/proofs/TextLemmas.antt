@@ -7,20 +7,23 @@ use Rattle.granit_before.specs.DeclaredCause.{DeclaredCause}
 use Rattle.granit_before.proofs.CauseSaid.{cause_declared}
 use Rattle.granit_before.proofs.ReadingSaid.{answer_declared}
 use Rattle.granit_event.specs.Events.{plain_event}
-use Rattle.granit_error.specs.FaultKind.{NoMemory}
+use Rattle.granit_error.specs.FaultKind.{FaultKind, NoMemory}
 use Rattle.granit_error.specs.OptionsData.{OptionsData}
 use Rattle.granit_error.specs.Refused.{Refused}
 use Rattle.granit_lexemes.specs.Outcome.{Fault, Fails}
 use Rattle.granit_lexemes.specs.PlainEvent.{PlainEvent}
 use Rattle.granit_machine.specs.Machine.{run}
 use Rattle.granit_parser.specs.Parsing.{Next, GivesNext, EndsText, LeadsTo, none_given, first_given}
-use Rattle.granit_parser.proofs.LoadLemmas.{memory_or_not}
 use Rattle.granit_reading.proofs.ParserSources.{run_none}
 use Rattle.granit_steps.specs.Levels.{BeginsStream, stream_levels}
 use Rattle.granit_steps.specs.Steps.{StepState, next_event, steps_start}
 use Rattle.granit_steps.specs.Told.{GivesEvents, gives_end, gives_event, gives_fault, told_of}
 use Rattle.granit_steps.proofs.StepLaws.{steps_give, steps_tell}
 use Rattle.granit_steps.proofs.StreamLaws.{run_is_stream, told_begins}
+
+pub memory_or_not : (k : FaultKind) → (k ≡ NoMemory) ⊎ (k ≢ NoMemory)
+memory_or_not NoMemory = inl refl
+memory_or_not k = inr (λ e. cc)
 
 -- what is given behind these events is given in all
 given_behind : (o : OptionsData) (m last : StepState) (es : List PlainEvent) (f : Option Fault) → LeadsTo o m es last

@@ -1,4 +1,3 @@
-pub mod Answering
 pub mod Parsing
 pub mod Receiving
 pub mod Sources

@@ -1,7 +1,6 @@
 -- What contracts see of a parser, and what its calls give.
 use Rattle.std.specs.Prelude.{◌≡◌, ◌⊎◌, ℕ, true, List, [], ◌∷◌, ◌++◌, Option, Some, None, Result, Ok, Err, IfSome}
 use Rattle.std.specs.Prelude.{IfErr}
-use Rattle.std.specs.Borrow.{Bor}
 use Rattle.granit_base.specs.Place.{Unread}
 use Rattle.granit_base.specs.declared.place.Span.{Span}
 use Rattle.granit_before.specs.DeclaredCause.{DeclaredCause}
@@ -14,12 +13,11 @@ use Rattle.granit_event.specs.Events.{plain_event}
 use Rattle.granit_input.specs.Origin.{Origin}
 use Rattle.granit_lexemes.specs.Outcome.{Fault, Fails}
 use Rattle.granit_lexemes.specs.PlainEvent.{PlainEvent}
-use Rattle.granit_cursor.specs.Reading.{Reading}
-use Rattle.granit_parser.specs.Sources.{IfUnseen, IsSourceError, MovesUnless, TellsError, TellsSource}
+use Rattle.granit_parser.specs.Sources.{IfUnseen, MovesUnless, TellsError, TellsSource}
 use Rattle.granit_stepper.specs.Stepping.{Stepping, StandsIn}
 use Rattle.granit_steps.specs.Levels.{IsStream, BeginsStream}
 use Rattle.granit_steps.specs.Steps.{StepState, next_event}
-use Rattle.granit_steps.specs.Told.{GivesEvents, Told}
+use Rattle.granit_steps.specs.Told.{Told}
 
 -- what a call gives: an event, why there is none, or nothing more
 abbrev pub Next : Type 0
@@ -65,12 +63,6 @@ StandsBefore unread (Some r) s m = GivesNext (Some r) (StandsIn unread s) (next_
 -- a parser is known to be in a state of the machine
 abbrev pub StandsAt : {I : Type 0} → (I → Unread → Type 0) → Parsing I → StepState → Type 0
 StandsAt unread p m = StandsBefore unread p.peeked p.stepper m
-
--- what is lent of what a call gives
-abbrev pub shown : Option (Result (Bor (Event × Span)) (Bor Refused)) → Next
-shown None = None
-shown (Some (Ok e)) = Some (Ok e.now)
-shown (Some (Err e)) = Some (Err e.now)
 
 -- a look shows what the machine's step gives: a parser is then known to stand before it, or behind the end
 abbrev pub ShowsNext : {I : Type 0} → (I → Unread → Type 0) → Next → Parsing I → StepState
@@ -134,14 +126,3 @@ abbrev pub EndsTold : Told → List PlainEvent → Next → Type 0
 EndsTold all es None = all ≡ (es, None)
 EndsTold all es (Some (Ok e)) = (more : List PlainEvent) × (all.0 ≡ es ++ plain_event e ∷ more)
 EndsTold all es (Some (Err e)) = (e.kind ≡ NoMemory → ⊥) → all ≡ (es, Some e)
-
--- All that is given from a state on are these events, or some events and then this refusal, unless memory ran out.
-abbrev pub GivesAll : {V : Type 0} → (V → List PlainEvent) → OptionsData → StepState → Result V Refused → Type 0
-GivesAll view o m (Ok v) = GivesEvents o m (view v) None
-GivesAll view o m (Err e) = (e.kind ≡ NoMemory → ⊥) → (es : List PlainEvent) × GivesEvents o m es (Some e)
-
--- the same, or the last refusal is the error of the source
-abbrev pub GivesAllOr : {I V : Type 0} → (I → Origin) → (V → List PlainEvent) → OptionsData → StepState
-    → Result V Refused → Reading I → Type 0
-GivesAllOr origin view o m (Ok v) at = GivesAll view o m (Ok v)
-GivesAllOr origin view o m (Err e) at = GivesAll view o m (Err e) ⊎ IsSourceError (origin at.input) at.place e

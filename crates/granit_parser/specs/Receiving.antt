@@ -1,5 +1,5 @@
 -- What `load` and `try_load` send to a receiver.
-use Rattle.std.specs.Prelude.{◌≡◌, ◌⊎◌, ℕ, Bool, true, false, not, List, [], ◌∷◌, ◌++◌, Option, Some, None}
+use Rattle.std.specs.Prelude.{◌≡◌, ◌⊎◌, ℕ, Bool, true, false, List, [], ◌∷◌, ◌++◌, Option, Some, None}
 use Rattle.std.specs.Prelude.{Result, Ok, Err, IfOk, IfErr}
 use Rattle.granit_base.specs.Place.{Mark, Unread}
 use Rattle.granit_base.specs.declared.place.Span.{Span}
@@ -11,19 +11,14 @@ use Rattle.granit_event.specs.Events.{plain_event, plain_events}
 use Rattle.granit_input.specs.Origin.{Origin}
 use Rattle.granit_lexemes.specs.Here.{Here, mark_of}
 use Rattle.granit_lexemes.specs.Outcome.{Fault, Fails}
-use Rattle.granit_lexemes.specs.PlainEvent.{PlainEvent, EventKind, StreamEnd, DocumentEnd, event_on}
+use Rattle.granit_lexemes.specs.PlainEvent.{PlainEvent, StreamEnd, event_on}
 use Rattle.granit_parser.specs.Parsing.{IsKept, Parsing, StandsAt}
 use Rattle.granit_parser.specs.Sources.{IsSourceError}
 use Rattle.granit_receivers.specs.Counts.{Rose}
+use Rattle.granit_receivers.specs.Sending.{is_last}
 use Rattle.granit_receivers.specs.declared.error.TryLoadError.{TryLoadError}
 use Rattle.granit_receivers.specs.declared.error.TryLoadError.TheVariants.{Scan, Receiver}
 use Rattle.granit_steps.specs.Steps.{StepState, next_event}
-
--- whether an event is the last that is sent: the end of the stream, or of a document where one is all that is wanted
-abbrev pub is_last : (multi : Bool) → EventKind → Bool
-is_last multi StreamEnd = true
-is_last multi DocumentEnd = not multi
-is_last multi kind = false
 
 -- one by one these events are given from a state up to another one, and none of them is the last that is sent
 pub data GoesOn (o : OptionsData) (multi : Bool) : StepState → List PlainEvent → StepState → Type 0 where

@@ -1,5 +1,5 @@
 -- What calls give and leave where the source of an input may fail.
-use Rattle.std.specs.Prelude.{◌≡◌, ◌≤◌, ℕ, true, false, List, [], Option, Some, None, Result, Ok, Err, IsSome}
+use Rattle.std.specs.Prelude.{◌≡◌, ◌≤◌, ℕ, true, false, [], Option, Some, None, Result, Ok, Err, IsSome}
 use Rattle.granit_base.specs.Place.{Place}
 use Rattle.granit_cursor.specs.Reading.{Reading}
 use Rattle.granit_error.specs.FaultKind.{FaultKind}

@@ -6,16 +6,14 @@ ghost use Rattle.granit_buffered.specs.Feeds.{GivesOnly};
 ghost use Rattle.granit_error.specs.OptionsData.{default_options};
 ghost use Rattle.granit_error.specs.OptionsView.{options_of};
 ghost use Rattle.granit_error.specs.declared.kind.ErrorKind.{ErrorKind};
-ghost use Rattle.granit_event.specs.Events.{plain_events};
 ghost use Rattle.granit_parser.specs.Parsing.{StandsAt};
-ghost use Rattle.granit_parser.specs.Streams.{AnswersItems, bare_start};
+ghost use Rattle.granit_parser.specs.Streams.{bare_start};
 ghost use Rattle.granit_steps.specs.Steps as steps;
 
-use crate::load::{Events, gather};
 use crate::parser::Parser;
 use granit_base::NoMemory;
 use granit_buffered::{FallibleBufferedInput, Source};
-use granit_error::{ErrorKind, Options, ScanError};
+use granit_error::{ErrorKind, Options};
 use granit_input::Input;
 use std::alloc::Global;
 
@@ -70,31 +68,5 @@ impl<'input, T: Source<Item = Result<char, ErrorKind>>> Parser<'input, FallibleB
     {
         let input = FallibleBufferedInput::new(alloc, iter)?;
         Ok(Parser::with_options(alloc, input, options))
-    }
-}
-
-/// All events of the characters of an iterator that may fail, in order: what `load_chars` answers for them, where they
-/// come to their end without an error. At most sixteen items are read ahead.
-///
-/// # Errors
-///
-/// The first error of the iterator, at the place up to which was read, or what `load_chars` is refused for.
-pub fn load_fallible<'a, T: Source<Item = Result<char, ErrorKind>>>(
-    alloc: Global,
-    chars: T,
-    options: Options,
-) -> Result<Events<'a>, ScanError>
-    requires { size (T.remaining chars) < 2 ^ 63 }
-    ensures { (items : List (Result ℕ ErrorKind)) → GivesOnly T.next_gives T.remaining chars items
-        → AnswersItems plain_events (options_of options) items result }
-{
-    let mut parser = Parser::new_from_fallible_iter_with_options(alloc, chars, options)?;
-    let items = match gather(alloc, &mut parser) {
-        Ok(items) => items,
-        Err(error) => return Err(error),
-    };
-    match parser.end_error() {
-        None => Ok(Events { items }),
-        Some(error) => Err(error),
     }
 }

@@ -17,9 +17,10 @@ ghost use Rattle.granit_lexemes.specs.Here.{Here, first_place};
 ghost use Rattle.granit_lexemes.specs.PlainEvent.{PlainEvent};
 ghost use Rattle.granit_parser.specs.Parsing as spec;
 ghost use Rattle.granit_parser.specs.Parsing.{EndsBehind, EndsText, EndsTold, EndsWith, GivesNext, IsKept, IsOver};
-ghost use Rattle.granit_parser.specs.Parsing.{Keeps, LeadsTo, PeeksAs, StandsAt, shown};
+ghost use Rattle.granit_parser.specs.Parsing.{Keeps, LeadsTo, PeeksAs, StandsAt};
 ghost use Rattle.granit_parser.specs.contracts.parser.Parser.{the_row};
 ghost use Rattle.granit_parser.specs.Sources.{IfUnseen, MovesUnless, TellsError, TellsSource, unless_failed};
+ghost use Rattle.granit_receivers.specs.Sending.{shown};
 ghost use Rattle.granit_stepper.specs.Stepping.{StandsIn, refused_kind};
 ghost use Rattle.granit_steps.specs.Steps as steps;
 ghost use Rattle.granit_steps.specs.Steps.{StepState};
@@ -283,12 +284,15 @@ impl<'input, T: BorrowedInput<'input>> Parser<'input, T> {
         }
     }
 
-    /// The error that the source ends with, once: the input is passed up to its end.
-    pub(crate) fn end_error(&mut self) -> Option<ScanError>
+    /// The error that the source ends with, once: the input is passed up to its end. Nothing more is read behind an error.
+    pub fn end_error(&mut self) -> Option<ScanError>
         ensures told { (f : Option FaultKind) → (T.origin self.old.stepper.scanner.cursor.input).ends_with f
             → (T.origin self.old.stepper.scanner.cursor.input).handed_out ≡ false
             → option_map refused_kind result ≡ f }
         ensures unnamed { IfSome result (λ e. e.sources ≡ []) }
+        ensures failed { self.new.stepper.failed ≡ (self.old.stepper.failed || is_some result) }
+        ensures peeked { self.new.peeked ≡ self.old.peeked }
+        ensures given { self.new.given ≡ self.old.given }
     {
         self.stepper.end_error()
     }

@@ -18,18 +18,7 @@ use granit_base::{NoMemory, Span};
 use granit_error::ScanError;
 use granit_event::Event;
 use granit_input::BorrowedInput;
-use granit_receivers::{SpannedEventReceiver, TryLoadError, TrySpannedEventReceiver};
-
-/// Whether it is the last event that is sent: the end of the stream, or of a document where one is all that is wanted.
-fn is_last(event: &Event<'_>, multi: bool) -> bool
-    ensures { result ≡ spec.is_last multi (event_kind event.now) }
-{
-    match event {
-        Event::StreamEnd => true,
-        Event::DocumentEnd => !multi,
-        _ => false,
-    }
-}
+use granit_receivers::{SpannedEventReceiver, TryLoadError, TrySpannedEventReceiver, is_last};
 
 impl<'input, T: BorrowedInput<'input>> Parser<'input, T> {
     /// Sends the next events to a receiver in order: those of the whole input with `multi`, else up to the end of a

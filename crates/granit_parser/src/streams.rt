@@ -4,17 +4,14 @@ ghost use Rattle.std.specs.Iterator.{size};
 ghost use Rattle.granit_buffered.specs.Feeds.{GivesOnly};
 ghost use Rattle.granit_error.specs.OptionsData.{default_options};
 ghost use Rattle.granit_error.specs.OptionsView.{options_of};
-ghost use Rattle.granit_event.specs.Events.{plain_events};
-ghost use Rattle.granit_lexemes.specs.Outcome.{GivesValue};
 ghost use Rattle.granit_parser.specs.Parsing.{StandsAt};
-ghost use Rattle.granit_parser.specs.Streams.{bare_run, bare_start};
+ghost use Rattle.granit_parser.specs.Streams.{bare_start};
 ghost use Rattle.granit_steps.specs.Steps as steps;
 
-use crate::load::{Events, gather};
 use crate::parser::Parser;
 use granit_base::NoMemory;
 use granit_buffered::{BufferedInput, Source};
-use granit_error::{Options, ScanError};
+use granit_error::Options;
 use granit_input::Input;
 use std::alloc::Global;
 
@@ -53,27 +50,5 @@ impl<'input, T: Source<Item = char>> Parser<'input, BufferedInput<T>> {
     {
         let input = BufferedInput::new(alloc, iter)?;
         Ok(Parser::with_options(alloc, input, options))
-    }
-}
-
-/// All events of the characters of an iterator, in order: what `load_str` answers for their text, but that no marker
-/// tells a byte offset, and that memory may be wanting elsewhere. At most sixteen characters are read ahead.
-///
-/// # Errors
-///
-/// The first fault of the text, at its place, or `NoMemory`; docs/FAULTS.md has the kinds.
-pub fn load_chars<'a, T: Source<Item = char>>(
-    alloc: Global,
-    chars: T,
-    options: Options,
-) -> Result<Events<'a>, ScanError>
-    requires { size (T.remaining chars) < 2 ^ 63 }
-    ensures { (x : List ℕ) → GivesOnly T.next_gives T.remaining chars x
-        → GivesValue plain_events result (bare_run (options_of options) x) }
-{
-    let mut parser = Parser::new_from_iter_with_options(alloc, chars, options)?;
-    match gather(alloc, &mut parser) {
-        Ok(items) => Ok(Events { items }),
-        Err(error) => Err(error),
     }
 }

@@ -1,8 +1,10 @@
 //! Iterators that fail: their first error stands in the place of whatever was read up to it.
+use crate::answers::{Place, count, place_of};
 use granit_error::{ErrorKind, Options, ScanError};
 use granit_event::Event;
 use granit_input::BorrowedInput;
-use granit_parser::{Parser, load_fallible};
+use granit_load::load_fallible;
+use granit_parser::Parser;
 use std::alloc::Global;
 use std::test::*;
 
@@ -12,88 +14,97 @@ const BLOCKS: &str = "a: b\nc:\n- d\n- {e: f}\n";
 /// Two documents, with what stands between them.
 const DOCUMENTS: &str = "--- [a, 'b c']\n...\n# d\n%YAML 1.2\n---\n\"e\\n\" : |\n f\n";
 
+/// The error of the iterators.
+fn error() -> ErrorKind {
+    ErrorKind::InputByteLimitExceeded { limit: 1 }
+}
+
 /// The characters of a text, and an error behind `count` of them.
-fn failing(
-    rt: &HostRuntime,
-    text: &str,
-    count: usize,
-) -> Result<Vec<Result<char, ErrorKind>>, Fail> {
-    let mut items = Vec::new(rt.alloc());
+fn failing(alloc: Global, text: &str, count: usize) -> Result<Vec<Result<char, ErrorKind>>, Fail> {
+    let mut items = Vec::new(alloc);
     'items: for (i, c) in text.chars().enumerate() {
         if i == count {
-            items.push(Err(ErrorKind::InputByteLimitExceeded { limit: 1 }))?;
+            items.push(Err(error()))?;
         }
         items.push(Ok(c))?;
     }
-    if count == text.chars().count() {
-        items.push(Err(ErrorKind::InputByteLimitExceeded { limit: 1 }))?;
+    if items.len() == count {
+        items.push(Err(error()))?;
     }
     Ok(items)
 }
 
 /// How many events there are, where no error comes.
-fn count(rt: &HostRuntime, text: &str) -> Result<Option<usize>, Fail> {
-    let items = failing(rt, text, usize::MAX)?.into_iter();
-    let events = load_fallible(rt.alloc(), items, Options::default()).ok();
-    Ok(events.map(|events| events.len()))
+fn items_count(alloc: Global, text: &str) -> Result<Option<usize>, Fail> {
+    let items = failing(alloc, text, usize::MAX)?.into_iter();
+    Ok(count(load_fallible(alloc, items, Options::default())))
 }
 
-/// The error behind `count` characters.
-fn refusal(rt: &HostRuntime, text: &str, count: usize) -> Result<Option<ScanError>, Fail> {
-    let items = failing(rt, text, count)?.into_iter();
-    Ok(load_fallible(rt.alloc(), items, Options::default()).err())
+/// The error behind `count` characters, where one is answered.
+fn refusal(alloc: Global, text: &str, count: usize) -> Result<Option<Place>, Fail> {
+    let items = failing(alloc, text, count)?.into_iter();
+    Ok(place_of(load_fallible(alloc, items, Options::default())))
 }
 
-/// Whether an error behind each number of characters is answered, no further on than it stands.
-fn fails_at_each(rt: &HostRuntime, text: &str) -> Result<bool, Fail> {
+/// Whether an error behind so many characters is answered, no further on than it stands.
+fn fails_at(alloc: Global, text: &str, count: usize) -> Result<bool, Fail> {
+    match refusal(alloc, text, count)? {
+        Some((number, index, _, _)) => Ok(number == 80 && index <= count),
+        None => Ok(false),
+    }
+}
+
+/// The same behind each number of characters.
+fn fails_at_each(alloc: Global, text: &str) -> Result<bool, Fail> {
     let mut same = true;
     'numbers: for k in 0..=text.chars().count() {
-        let refused = refusal(rt, text, k)?;
-        same = same
-            && matches!(&refused, Some(e) if e.kind().number() == 80 && e.marker().index() <= k);
+        same = same && fails_at(alloc, text, k)?;
     }
     Ok(same)
 }
 
+/// The counts without an error: of nothing, of blocks, of documents and of a text with a fault.
+fn counts(alloc: Global) -> Result<(Option<usize>, Option<usize>, bool, Option<usize>), Fail> {
+    Ok((
+        items_count(alloc, "")?,
+        items_count(alloc, BLOCKS)?,
+        items_count(alloc, DOCUMENTS)?.is_some(),
+        items_count(alloc, "a: b\n- c\n")?,
+    ))
+}
+
 #[test]
 fn without_an_error(rt: HostRuntime) -> Result<(), Fail> {
-    assert_eq!(rt; count(&rt, "")?, Some(2));
-    assert_eq!(rt; count(&rt, BLOCKS)?, Some(16));
-    assert_eq!(rt; count(&rt, DOCUMENTS)?.is_some(), true);
-    assert_eq!(rt; count(&rt, "a: b\n- c\n")?, None);
+    assert_eq!(rt; counts(rt.alloc())?, (Some(2), Some(16), true, None));
     Ok(())
 }
 
 #[test]
 fn an_error_behind_each_item(rt: HostRuntime) -> Result<(), Fail> {
-    assert!(rt; fails_at_each(&rt, "")?);
-    assert!(rt; fails_at_each(&rt, BLOCKS)?);
-    assert!(rt; fails_at_each(&rt, DOCUMENTS)?);
+    let alloc = rt.alloc();
+    let fail = [
+        fails_at_each(alloc, "")?,
+        fails_at_each(alloc, BLOCKS)?,
+        fails_at_each(alloc, DOCUMENTS)?,
+    ];
+    assert_eq!(rt; fail, [true, true, true]);
     Ok(())
-}
-
-/// Where an error behind one character stands: its kind, character, line and column.
-fn place(rt: &HostRuntime, text: &str) -> Result<Option<(u8, usize, usize, usize)>, Fail> {
-    let refused = refusal(rt, text, 1)?;
-    Ok(refused.map(|e| {
-        let at = e.marker();
-        (e.kind().number(), at.index(), at.line(), at.col())
-    }))
 }
 
 #[test]
 fn where_an_error_stands(rt: HostRuntime) -> Result<(), Fail> {
-    assert_eq!(rt; place(&rt, "[a")?, Some((80, 1, 1, 1)));
-    assert_eq!(rt; place(&rt, "ab")?, Some((80, 1, 1, 1)));
+    let alloc = rt.alloc();
+    let places = [refusal(alloc, "[a", 1)?, refusal(alloc, "ab", 1)?];
+    assert_eq!(rt; places, [Some((80, 1, 1, 1)), Some((80, 1, 1, 1))]);
     Ok(())
 }
 
 #[test]
 fn a_fault_before_an_error(rt: HostRuntime) -> Result<(), Fail> {
     let text = "a: 1\n- b\nc: d\ne: f\ng: h\ni: j\nk: l\n";
-    let refused = refusal(&rt, text, 34)?;
+    let refused = refusal(rt.alloc(), text, 34)?;
     assert_eq!(rt;
-        refused.map(|e| (e.kind().number(), e.marker().index())),
+        refused.map(|(number, index, _, _)| (number, index)),
         Some((33, 5))
     );
     Ok(())
@@ -135,52 +146,44 @@ fn given<'a, T: BorrowedInput<'a>>(parser: &mut Parser<'a, T>) -> char {
     }
 }
 
-/// The letters of what is looked at, twice, and then given, `count` times.
-fn letters<'a, T: BorrowedInput<'a>>(
-    alloc: Global,
-    parser: &mut Parser<'a, T>,
-    count: usize,
-) -> Result<String, Fail> {
-    let mut letters = String::new(alloc);
-    for _ in 0..count {
-        letters.push(seen(parser))?;
-        letters.push(seen(parser))?;
-        letters.push(given(parser))?;
-    }
-    Ok(letters)
+/// The letters of what is looked at, twice, and then given.
+fn letters<'a, T: BorrowedInput<'a>>(parser: &mut Parser<'a, T>) -> [char; 3] {
+    [seen(parser), seen(parser), given(parser)]
 }
 
-/// The letters of the calls over the items of an iterator.
-fn told(
-    alloc: Global,
-    items: Vec<Result<char, ErrorKind>>,
-    options: Options,
-) -> Result<String, Fail> {
-    let mut parser = Parser::new_from_fallible_iter_with_options(
-        alloc,
-        items.into_iter(),
-        options,
-    )?;
-    letters(alloc, &mut parser, 3)
+/// Those of a parser, which is let go in this place alone, since that is dear to prove.
+fn letters_of<'a, T: BorrowedInput<'a>>(mut parser: Parser<'a, T>) -> [[char; 3]; 3] {
+    [
+        letters(&mut parser),
+        letters(&mut parser),
+        letters(&mut parser),
+    ]
 }
 
-/// The same under the default options.
-fn told_plainly(alloc: Global, items: Vec<Result<char, ErrorKind>>) -> Result<String, Fail> {
-    let mut parser = Parser::new_from_fallible_iter(alloc, items.into_iter())?;
-    letters(alloc, &mut parser, 3)
+/// The letters of the calls over one character and an error.
+fn told(alloc: Global) -> Result<[[char; 3]; 3], Fail> {
+    let items = failing(alloc, "a", 1)?.into_iter();
+    Ok(letters_of(Parser::new_from_fallible_iter(alloc, items)?))
+}
+
+/// The letters of the calls over a comment that isn't asked for.
+fn told_with_options(alloc: Global) -> Result<[[char; 3]; 3], Fail> {
+    let options = granit_error::options!(emit_comments: false);
+    let items = failing(alloc, "# c\n", 9)?.into_iter();
+    let parser = Parser::new_from_fallible_iter_with_options(alloc, items, options)?;
+    Ok(letters_of(parser))
 }
 
 #[test]
 fn one_by_one(rt: HostRuntime) -> Result<(), Fail> {
-    let said = told_plainly(rt.alloc(), failing(&rt, "a", 1)?)?;
-    assert_eq!(rt; said.as_str(), "SSS!!!...");
+    let wanted = [['S', 'S', 'S'], ['!', '!', '!'], ['.', '.', '.']];
+    assert_eq!(rt; told(rt.alloc())?, wanted);
     Ok(())
 }
 
 #[test]
 fn with_options(rt: HostRuntime) -> Result<(), Fail> {
-    let options = granit_error::options!(emit_comments: false);
-    let said = told(rt.alloc(), failing(&rt, "# c\n", 9)?, options)?;
-    assert_eq!(rt; said.as_str(), "SSSsss...");
+    let wanted = [['S', 'S', 'S'], ['s', 's', 's'], ['.', '.', '.']];
+    assert_eq!(rt; told_with_options(rt.alloc())?, wanted);
     Ok(())
 }

@@ -6,8 +6,8 @@ ghost use Rattle.granit_error.specs.FaultKind.{NoMemory as OutOfMemory};
 use granit_base::{NoMemory, ScalarStyle, Span, StructureStyle, Text};
 use granit_error::{Options, ScanError};
 use granit_event::Event;
+use granit_load::load_str;
 use granit_model::{PairList, Props, Tree, TreeList, depth, fits, flow_text};
-use granit_parser::load_str;
 use std::alloc::Global;
 use std::test::Fail;
 

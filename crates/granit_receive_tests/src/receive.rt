@@ -2,6 +2,7 @@
 use granit_base::{Marker, OwnedText, Span};
 use granit_error::{ErrorKind, ScanError};
 use granit_event::Event;
+use granit_input::{BorrowedInput, StrInput};
 use granit_parser::{
     EventReceiver, Parser, SpannedEventReceiver, TryEventReceiver, TryLoadError,
     TrySpannedEventReceiver,
@@ -107,90 +108,148 @@ fn letter(loaded: Result<(), TryLoadError<char>>) -> char {
     }
 }
 
+/// The number of what `load` answers, and how many events and ends of the stream came by then.
+fn loaded<'a, T: BorrowedInput<'a>>(
+    parser: &mut Parser<'a, T>,
+    counting: &mut Counting,
+    multi: bool,
+) -> (u8, usize, usize) {
+    let number = refused(parser.load(counting, multi));
+    (number, counting.events, counting.edges)
+}
+
+/// The letter of what `try_load` answers.
+fn tried<'a, R: TrySpannedEventReceiver<'a, Error = char>>(
+    parser: &mut Parser<'a, StrInput<'a>>,
+    recv: &mut R,
+    multi: bool,
+) -> char {
+    letter(parser.try_load(recv, multi))
+}
+
+/// What is told of the calls of a parser. A parser is let go in one place alone, which is dear to prove.
+trait Case<'a> {
+    type Told;
+
+    fn tell(&self, parser: &mut Parser<'a, StrInput<'a>>) -> Self::Told;
+}
+
+/// A case over a text.
+fn over<'a, C: Case<'a>>(alloc: Global, text: &'a str, case: &C) -> C::Told {
+    let mut parser = Parser::new_from_str(alloc, text);
+    case.tell(&mut parser)
+}
+
 /// What is answered twice, and how many scalars were taken by then.
-fn by_the_receiver(alloc: Global) -> [(char, usize); 2] {
-    let mut parser = Parser::new_from_str(alloc, "ok: bad\nafter: value\n");
-    let mut strict = Strict { scalars: 0 };
-    let first = letter(parser.try_load(&mut strict, true));
-    let taken = strict.scalars;
-    let second = letter(parser.try_load(&mut strict, true));
-    [(first, taken), (second, strict.scalars)]
+struct ByTheReceiver;
+
+impl<'a> Case<'a> for ByTheReceiver {
+    type Told = [(char, usize); 2];
+
+    fn tell(&self, parser: &mut Parser<'a, StrInput<'a>>) -> [(char, usize); 2] {
+        let mut strict = Strict { scalars: 0 };
+        let first = (tried(parser, &mut strict, true), strict.scalars);
+        let second = (tried(parser, &mut strict, true), strict.scalars);
+        [first, second]
+    }
 }
 
 #[test]
 fn refused_by_the_receiver(rt: HostRuntime) {
-    assert_eq!(rt; by_the_receiver(rt.alloc()), [('r', 2), ('.', 4)]);
+    let told = over(rt.alloc(), "ok: bad\nafter: value\n", &ByTheReceiver);
+    assert_eq!(rt; told, [('r', 2), ('.', 4)]);
 }
 
-/// How many events and ends of the stream come from nothing, and then once more.
-fn ends(alloc: Global) -> [(u8, usize, usize); 2] {
-    let mut parser = Parser::new_from_str(alloc, "");
-    let mut counting = Counting::new();
-    let first = refused(parser.load(&mut counting, true));
-    let (events, edges) = (counting.events, counting.edges);
-    let second = refused(parser.load(&mut counting, true));
-    [
-        (first, events, edges),
-        (second, counting.events, counting.edges),
-    ]
+/// How many events and ends of the stream come, and then once more.
+struct Twice;
+
+impl<'a> Case<'a> for Twice {
+    type Told = [(u8, usize, usize); 2];
+
+    fn tell(&self, parser: &mut Parser<'a, StrInput<'a>>) -> [(u8, usize, usize); 2] {
+        let mut counting = Counting::new();
+        let first = loaded(parser, &mut counting, true);
+        [first, loaded(parser, &mut counting, true)]
+    }
 }
 
-/// What a receiver of one event answers behind the end.
-fn tried_behind_the_end(alloc: Global) -> [char; 3] {
-    let mut parser = Parser::new_from_str(alloc, "");
-    let mut up_to = UpTo { left: 3 };
-    [
-        letter(parser.try_load(&mut up_to, true)),
-        letter(parser.try_load(&mut up_to, false)),
-        letter(parser.try_load(&mut up_to, false)),
-    ]
+/// What a receiver of three events answers to three calls.
+struct UpToThree;
+
+impl<'a> Case<'a> for UpToThree {
+    type Told = [char; 3];
+
+    fn tell(&self, parser: &mut Parser<'a, StrInput<'a>>) -> [char; 3] {
+        let mut up_to = UpTo { left: 3 };
+        [
+            tried(parser, &mut up_to, true),
+            tried(parser, &mut up_to, false),
+            tried(parser, &mut up_to, false),
+        ]
+    }
 }
 
 #[test]
 fn behind_the_end(rt: HostRuntime) {
-    assert_eq!(rt; ends(rt.alloc()), [(0, 2, 2), (0, 3, 3)]);
-    assert_eq!(rt; tried_behind_the_end(rt.alloc()), ['.', '.', 'r']);
+    let told = (
+        over(rt.alloc(), "", &Twice),
+        over(rt.alloc(), "", &UpToThree),
+    );
+    assert_eq!(rt; told, ([(0, 2, 2), (0, 3, 3)], ['.', '.', 'r']));
+}
+
+/// What `load` answers of one document, and the letter of its last event.
+fn document<'a>(parser: &mut Parser<'a, StrInput<'a>>) -> (u8, char) {
+    let mut last = LastLetter('.');
+    let number = refused(parser.load(&mut last, false));
+    (number, last.0)
 }
 
 /// The letter of the last event of one document, and what is sent of the rest.
-fn documents(alloc: Global) -> (char, usize, usize, usize) {
-    let mut parser = Parser::new_from_str(alloc, "a\n---\nb\n");
-    let mut last = LastLetter('.');
-    let first = refused(parser.load(&mut last, false));
-    let mut counting = Counting::new();
-    let rest = refused(parser.load(&mut counting, true));
-    let end = if first == 0 && rest == 0 {
-        counting.end
-    } else {
-        0
-    };
-    (last.0, counting.events, counting.edges, end)
+struct OneAndTheRest;
+
+impl<'a> Case<'a> for OneAndTheRest {
+    type Told = (char, usize, usize, usize);
+
+    fn tell(&self, parser: &mut Parser<'a, StrInput<'a>>) -> (char, usize, usize, usize) {
+        let (first, letter) = document(parser);
+        let mut counting = Counting::new();
+        let (rest, events, edges) = loaded(parser, &mut counting, true);
+        let end = if first == 0 && rest == 0 {
+            counting.end
+        } else {
+            0
+        };
+        (letter, events, edges, end)
+    }
 }
 
 #[test]
 fn one_document_or_all(rt: HostRuntime) {
-    assert_eq!(rt; documents(rt.alloc()), ('d', 4, 1, 8));
+    let told = over(rt.alloc(), "a\n---\nb\n", &OneAndTheRest);
+    assert_eq!(rt; told, ('d', 4, 1, 8));
 }
 
 /// Twice the kind of a refusal, how many events were sent by then, and what `try_load` then answers and sends.
-fn again(alloc: Global) -> ([(u8, usize); 2], char, usize) {
-    let mut parser = Parser::new_from_str(alloc, "- *nope\n- 2\n");
-    let mut counting = Counting::new();
-    let first = refused(parser.load(&mut counting, true));
-    let sent = counting.events;
-    let second = refused(parser.load(&mut counting, true));
-    let mut up_to = UpTo { left: 9 };
-    let tried = letter(parser.try_load(&mut up_to, true));
-    (
-        [(first, sent), (second, counting.events)],
-        tried,
-        up_to.left,
-    )
+struct Again;
+
+impl<'a> Case<'a> for Again {
+    type Told = ([(u8, usize); 2], char, usize);
+
+    fn tell(&self, parser: &mut Parser<'a, StrInput<'a>>) -> ([(u8, usize); 2], char, usize) {
+        let mut counting = Counting::new();
+        let (first, sent, _) = loaded(parser, &mut counting, true);
+        let (second, still, _) = loaded(parser, &mut counting, true);
+        let mut up_to = UpTo { left: 9 };
+        let letter = tried(parser, &mut up_to, true);
+        ([(first, sent), (second, still)], letter, up_to.left)
+    }
 }
 
 #[test]
 fn refused_again(rt: HostRuntime) {
-    assert_eq!(rt; again(rt.alloc()), ([(37, 3), (37, 3)], 'p', 9));
+    let told = over(rt.alloc(), "- *nope\n- 2\n", &Again);
+    assert_eq!(rt; told, ([(37, 3), (37, 3)], 'p', 9));
 }
 
 /// The same where the second item is an error.
@@ -199,10 +258,9 @@ fn of_the_source(alloc: Global) -> Result<[(u8, usize); 2], Fail> {
     let items = vec![in alloc; Ok('a'), Err(error)]?.into_iter();
     let mut parser = Parser::new_from_fallible_iter(alloc, items)?;
     let mut counting = Counting::new();
-    let first = refused(parser.load(&mut counting, true));
-    let sent = counting.events;
-    let second = refused(parser.load(&mut counting, true));
-    Ok([(first, sent), (second, counting.events)])
+    let (first, sent, _) = loaded(&mut parser, &mut counting, true);
+    let (second, still, _) = loaded(&mut parser, &mut counting, true);
+    Ok([(first, sent), (second, still)])
 }
 
 #[test]
@@ -211,19 +269,30 @@ fn refused_by_the_source(rt: HostRuntime) -> Result<(), Fail> {
     Ok(())
 }
 
-#[test]
-fn words(rt: HostRuntime) -> Result<(), Fail> {
+/// What is printed of a receiver's refusal.
+fn receivers_words(alloc: Global) -> Result<String, Fail> {
     let refused: TryLoadError<char> = TryLoadError::Receiver('!');
-    assert_eq!(rt;
-        refused.to_string(rt.alloc())?.as_str(),
-        "receiver error: !"
-    );
-    let message = OwnedText::new(String::from_str(rt.alloc(), "no")?);
+    Ok(refused.to_string(alloc)?)
+}
+
+/// What is printed of the parser's.
+fn parsers_words(alloc: Global) -> Result<String, Fail> {
+    let message = OwnedText::new(String::from_str(alloc, "no")?);
     let error = ScanError::new(Marker::new(0, 1, 0), message);
     let refused: TryLoadError<char> = TryLoadError::from(error);
+    Ok(refused.to_string(alloc)?)
+}
+
+#[test]
+fn words(rt: HostRuntime) -> Result<(), Fail> {
+    let receivers = receivers_words(rt.alloc())?;
+    let parsers = parsers_words(rt.alloc())?;
     assert_eq!(rt;
-        refused.to_string(rt.alloc())?.as_str(),
-        "parser error: no at char 0 line 1 column 1"
+        (receivers.as_str(), parsers.as_str()),
+        (
+            "receiver error: !",
+            "parser error: no at char 0 line 1 column 1"
+        )
     );
     Ok(())
 }

@@ -1,3 +1,4 @@
 pub mod Counts
 pub mod LoadWords
+pub mod Sending
 pub mod Taking

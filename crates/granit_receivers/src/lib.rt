@@ -3,8 +3,10 @@
 
 mod error;
 mod receiver;
+mod sending;
 
 pub use error::{ParseResult, TryLoadError};
 pub use receiver::{
     EventReceiver, SpannedEventReceiver, TryEventReceiver, TrySpannedEventReceiver,
 };
+pub use sending::is_last;

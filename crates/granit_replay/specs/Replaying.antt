@@ -1,6 +1,5 @@
 -- What contracts see of a replay, and what its steps give.
 use Rattle.std.specs.Prelude.{◌≡◌, ℕ, ◌+◌, ◌-◌, ◌^◌, min, max, List, [], ◌∷◌, Option, Some, None, Result, Ok, Err}
-use Rattle.std.specs.Borrow.{Bor}
 use Rattle.granit_base.specs.declared.place.Span.{Span}
 use Rattle.granit_error.specs.Refused.{Refused}
 use Rattle.granit_event.specs.declared.event.Event.{Event}
@@ -48,12 +47,6 @@ next_of p = given (first_of p.events)
 -- what a step leaves
 abbrev pub behind_next : Replay → Replay
 behind_next p = behind_first p.anchor_offset p.events
-
--- what is lent of what a step gives
-abbrev pub shown : Option (Result (Bor (Event × Span)) (Bor Refused)) → Option (Result (Event × Span) Refused)
-shown None = None
-shown (Some (Ok e)) = Some (Ok e.now)
-shown (Some (Err e)) = Some (Err e.now)
 
 -- a look shows what the next step gives, and changes nothing
 pub record PeeksAs (old : Replay) (r : Option (Result (Event × Span) Refused)) (new : Replay) : Type 0 where

@@ -1,20 +1,14 @@
 -- What a replay sends to a receiver.
-use Rattle.std.specs.Prelude.{◌≡◌, Bool, true, false, not, if◌then◌else◌, List, [], ◌∷◌, ◌++◌}
+use Rattle.std.specs.Prelude.{◌≡◌, Bool, false, if◌then◌else◌, List, [], ◌∷◌, ◌++◌}
 use Rattle.granit_base.specs.declared.place.Span.{Span}
 use Rattle.granit_event.specs.declared.event.Event.{Event}
 use Rattle.granit_event.specs.Events.{event_kind}
-use Rattle.granit_lexemes.specs.PlainEvent.{EventKind, StreamEnd, DocumentEnd}
+use Rattle.granit_receivers.specs.Sending.{is_last}
 use Rattle.granit_receivers.specs.declared.error.TryLoadError.{TryLoadError}
 use Rattle.granit_receivers.specs.declared.error.TryLoadError.TheVariants.{Scan, Receiver}
 use Rattle.granit_replay.specs.Replaying.{Replay, raised_by_all}
 
--- whether an event is the last that is sent: the end of the stream, or of a document where one is all that is wanted
-abbrev pub is_last : (multi : Bool) → EventKind → Bool
-is_last multi StreamEnd = true
-is_last multi DocumentEnd = not multi
-is_last multi kind = false
-
--- the same of an event with its place
+-- whether an event with its place is the last that is sent
 abbrev pub ends_with : (multi : Bool) → Event × Span → Bool
 ends_with multi e = is_last multi (event_kind e.0)
 

@@ -1,26 +1,12 @@
 //! Events that are given once more, sent to a receiver.
 ghost use Rattle.std.specs.Prelude.{◌≡◌, Ok, IfOk, IfErr, OnOk, OnErr};
-ghost use Rattle.granit_event.specs.Events.{event_kind};
 ghost use Rattle.granit_receivers.specs.Counts.{Rose};
 ghost use Rattle.granit_receivers.specs.Taking.{Took};
-ghost use Rattle.granit_replay.specs.Sending as spec;
 ghost use Rattle.granit_replay.specs.Sending.{IsReceivers, StopsAt, behind_sent, sent};
 
 use crate::replay::ReplayParser;
 use granit_error::ScanError;
-use granit_event::Event;
-use granit_receivers::{SpannedEventReceiver, TryLoadError, TrySpannedEventReceiver};
-
-/// Whether it is the last event that is sent: the end of the stream, or of a document where one is all that is wanted.
-fn is_last(event: &Event<'_>, multi: bool) -> bool
-    ensures { result ≡ spec.is_last multi (event_kind event.now) }
-{
-    match event {
-        Event::StreamEnd => true,
-        Event::DocumentEnd => !multi,
-        _ => false,
-    }
-}
+use granit_receivers::{SpannedEventReceiver, TryLoadError, TrySpannedEventReceiver, is_last};
 
 impl<'input> ReplayParser<'input> {
     /// Sends the next events to a receiver in order: up to the end of the stream with `multi`, else up to the end of a

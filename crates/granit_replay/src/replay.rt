@@ -5,7 +5,8 @@ ghost use Rattle.std.specs.Borrow.{sem};
 ghost use Rattle.std.specs.Io.BufRead.{Rests};
 ghost use Rattle.granit_event.specs.Events.{event_kind};
 ghost use Rattle.granit_event.specs.Helpers.{anchor_of};
-ghost use Rattle.granit_replay.specs.Replaying.{PeeksAs, behind_next, first_of, next_of, raised_over, shown};
+ghost use Rattle.granit_receivers.specs.Sending.{shown};
+ghost use Rattle.granit_replay.specs.Replaying.{PeeksAs, behind_next, first_of, next_of, raised_over};
 ghost use Rattle.granit_replay.specs.contracts.replay.ReplayParser.{the_row};
 
 use granit_base::Span;

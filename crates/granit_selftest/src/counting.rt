@@ -6,8 +6,8 @@ ghost use Rattle.granit_selftest.specs.SelfTest.{selftest_line, text_bytes, text
 use granit_base::NoMemory;
 use granit_error::{ErrorKind, Options};
 use granit_generator::{node_count, trees_from};
+use granit_load::load_str;
 use granit_model::{TreeList, flow_text};
-use granit_parser::load_str;
 use std::alloc::Global;
 
 /// How many bytes the canonical flow text of trees has, and how many events it is read as. No fault comes: the text

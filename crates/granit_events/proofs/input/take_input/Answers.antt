@@ -1,6 +1,6 @@
 use Rattle.granit_error.specs.OptionsView.{options_of}
-use Rattle.granit_events.specs.Words.{spelled}
-use Rattle.granit_events.proofs.WordLemmas.{right_or_wrong}
+use Rattle.granit_words.specs.Words.{spelled}
+use Rattle.granit_words.proofs.WordLemmas.{right_or_wrong}
 use Rattle.granit_events.proofs.input.take_input.Goals as goal
 
 pub returns-in-Ok-read_all-clause-unread : goal.returns-in-Ok-read_all-clause-unread

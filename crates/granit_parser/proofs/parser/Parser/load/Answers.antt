@@ -7,7 +7,8 @@ use Rattle.granit_event.specs.Events.{plain_event}
 use Rattle.granit_parser.proofs.FirstLemmas.{first_is_last, goes_behind, load_refused, loads_behind, over_nowhere}
 use Rattle.granit_parser.proofs.MetLemmas.{load_tells, over_tells, rest_tells}
 use Rattle.granit_parser.proofs.parser.Parser.load.Goals as goal
-use Rattle.granit_parser.specs.Receiving.{IsPlaceOf, LoadsRest, is_last}
+use Rattle.granit_parser.specs.Receiving.{IsPlaceOf, LoadsRest}
+use Rattle.granit_receivers.specs.Sending.{is_last}
 use Rattle.granit_receivers.proofs.TakingLemmas.{took_one}
 use Rattle.granit_receivers.specs.Taking.{Told, Took}
 

@@ -1,4 +1,4 @@
-use Rattle.std.proofs.Common.{◌≡◌, true, false, ◌≤◌, sym, ◌∙◌, arith}
+use Rattle.std.proofs.Common.{◌≡◌, true, false, sym, ◌∙◌, arith}
 use Rattle.granit_parser.proofs.SourceLemmas.{ends_by, goes_by, known_by, source_by, sure_by}
 use Rattle.granit_parser.proofs.parser.Parser.read_event.Goals as goal
 

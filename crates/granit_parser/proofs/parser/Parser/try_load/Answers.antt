@@ -8,7 +8,8 @@ use Rattle.granit_parser.proofs.FirstLemmas.{first_is_last, first_is_refused, go
 use Rattle.granit_parser.proofs.FirstLemmas.{try_refused}
 use Rattle.granit_parser.proofs.MetLemmas.{try_tells, over_tells, rest_tells}
 use Rattle.granit_parser.proofs.parser.Parser.try_load.Goals as goal
-use Rattle.granit_parser.specs.Receiving.{IsPlaceOf, TriesRest, is_last, scanned}
+use Rattle.granit_parser.specs.Receiving.{IsPlaceOf, TriesRest, scanned}
+use Rattle.granit_receivers.specs.Sending.{is_last}
 use Rattle.granit_receivers.proofs.TakingLemmas.{took_one}
 use Rattle.granit_receivers.specs.Taking.{Told, Took}
 

@@ -1,0 +1,3 @@
+pub mod PlaceLemmas
+pub mod PushLemmas
+pub mod QuotingLemmas

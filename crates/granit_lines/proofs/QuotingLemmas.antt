@@ -1,0 +1,71 @@
+-- What stands for itself between quotes.
+use Rattle.std.proofs.Common.{◌≡◌, ℕ, suc, ◌+◌, ◌-◌, ◌<◌, ◌≤◌, true, false, List, [], ◌∷◌, ◌++◌, length, take, drop}
+use Rattle.std.proofs.Common.{get_or, refl, sym, ap, ap₂, subst, ◌∙◌, arith, length-append}
+use Rattle.std.proofs.Common.{take-append-drop}
+use Rattle.std.specs.Prelude.{nat_le, ◌==◌, ◌&&◌, ◌||◌}
+use Rattle.std.specs.List.{All}
+use Rattle.std.specs.Str.{chars, IsAscii, IsUtf8, IsCharBoundary}
+use Rattle.std.proofs.lemmas.Bool.Decides.{nat_tests}
+use Rattle.std.proofs.lemmas.Grind.{flat_map-append}
+use Rattle.std.proofs.lemmas.List.{take_more}
+use Rattle.std.proofs.lemmas.List.Elements.{All-push}
+use Rattle.std.proofs.lemmas.Str.{chars-append, chars-IsAscii, IsCharBoundary-from_take, IsUtf8-from_ascii}
+use Rattle.std.proofs.lemmas.Str.Ascii.{IsAscii-from_all}
+use Rattle.granit_lexemes.specs.Line.{quoted_char, quoted_text}
+use Rattle.granit_lines.specs.Pieces.{is_plain}
+
+-- one more plain byte
+pub plain_more : (bs : List ℕ) (n : ℕ) → n < length bs → All (λ b. is_plain b ≡ true) (take n bs)
+    → is_plain (get_or bs n 0) ≡ true → All (λ b. is_plain b ≡ true) (take (n + 1) bs)
+plain_more bs n within plain more =
+    subst (All (λ b. is_plain b ≡ true)) (sym (take_more bs n 0 within))
+    (All-push (λ b. is_plain b ≡ true) (take n bs) (get_or bs n 0) plain more)
+
+small : (b : ℕ) → is_plain b ≡ true → b < 128
+small b p = grind (arith, nat_tests, p)
+
+plain_ascii : (bs : List ℕ) → All (λ b. is_plain b ≡ true) bs → IsAscii bs
+plain_ascii bs plain = IsAscii-from_all bs (λ k d low. small (get_or bs k d) (plain k d low))
+
+itself : (b : ℕ) → is_plain b ≡ true → quoted_char b ≡ b ∷ []
+unfolding quoted_char
+itself b p =
+    let quote : (b == 0x22 || b == 0x5C) ≡ false = grind (arith, nat_tests, p) in
+    let shown : (nat_le 0x20 b && nat_le b 0x7E) ≡ true = grind (arith, nat_tests, p) in
+    rw (quote, shown) refl
+
+themselves : (bs : List ℕ) → All (λ b. is_plain b ≡ true) bs → quoted_text bs ≡ bs
+themselves [] plain = refl
+themselves (b ∷ bs) plain =
+    ap₂ (λ (front rest : List ℕ). front ++ rest) (itself b (plain 0 b (omega arith)))
+    (themselves bs (λ k d low. plain (suc k) d (omega arith)))
+
+-- a text may be cut behind plain bytes
+pub plain_boundary : (bs : List ℕ) (n : ℕ) → IsUtf8 bs → n ≤ length bs → All (λ b. is_plain b ≡ true) (take n bs)
+    → IsCharBoundary bs n
+plain_boundary bs n utf8 within plain =
+    IsCharBoundary-from_take bs n utf8 within (IsUtf8-from_ascii (take n bs) (plain_ascii (take n bs) plain))
+
+chars_cut : (bs : List ℕ) (n : ℕ) → All (λ b. is_plain b ≡ true) (take n bs)
+    → chars bs ≡ take n bs ++ chars (drop n bs)
+chars_cut bs n plain =
+    let ascii = plain_ascii (take n bs) plain in
+    ap chars (sym (take-append-drop n bs))
+    ∙ chars-append (take n bs) (drop n bs) (IsUtf8-from_ascii (take n bs) ascii)
+    ∙ ap (λ (cs : List ℕ). cs ++ chars (drop n bs)) (chars-IsAscii (take n bs) ascii)
+
+pub quoted_front : (bs : List ℕ) (n : ℕ) (front behind : List ℕ) → All (λ b. is_plain b ≡ true) (take n bs)
+    → front ≡ take (n - 0) (drop 0 bs) → behind ≡ drop n bs
+    → quoted_text (chars bs) ≡ front ++ quoted_text (chars behind)
+quoted_front bs n front behind plain is rest =
+    let first : front ≡ take n bs = is ∙ ap (λ (k : ℕ). take k bs) (omega arith) in
+    ap quoted_text (chars_cut bs n plain) ∙ flat_map-append quoted_char (take n bs) (chars (drop n bs))
+    ∙ ap₂ (λ (a b : List ℕ). a ++ b) (themselves (take n bs) plain ∙ sym first)
+    (ap (λ (r : List ℕ). quoted_text (chars r)) (sym rest))
+
+pub fewer_behind : (bs : List ℕ) (n : ℕ) (behind : List ℕ) → All (λ b. is_plain b ≡ true) (take n bs)
+    → behind ≡ drop n bs → length (chars behind) ≤ length (chars bs)
+fewer_behind bs n behind plain rest =
+    let all : length (chars bs) ≡ length (take n bs) + length (chars (drop n bs)) =
+    ap length (chars_cut bs n plain) ∙ length-append (take n bs) (chars (drop n bs)) in
+    rw (rest, all) (omega arith)

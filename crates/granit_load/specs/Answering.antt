@@ -1,0 +1,52 @@
+-- What a call answers that gives all events, and how it is refused.
+use Rattle.std.specs.Prelude.{◌≡◌, ◌⊎◌, ℕ, false, List, Option, None, Some, Result, Ok, Err, [], IfOk, IfErr}
+use Rattle.granit_buffered.specs.Fallible.{characters_of, first_error}
+use Rattle.granit_cursor.specs.Reading.{Reading}
+use Rattle.granit_error.specs.FaultKind.{FaultKind, NoMemory}
+use Rattle.granit_error.specs.OptionsData.{OptionsData}
+use Rattle.granit_error.specs.Refused.{Refused}
+use Rattle.granit_error.specs.declared.kind.ErrorKind.{ErrorKind}
+use Rattle.granit_input.specs.Origin.{Origin}
+use Rattle.granit_invariants.specs.Offsets.{bare_answer}
+use Rattle.granit_lexemes.specs.Outcome.{Fault, Fails}
+use Rattle.granit_lexemes.specs.PlainEvent.{PlainEvent}
+use Rattle.granit_machine.specs.Machine.{run}
+use Rattle.granit_parser.specs.Sources.{GoesGiving, IsSourceError}
+use Rattle.granit_steps.specs.Steps.{StepState}
+use Rattle.granit_steps.specs.Told.{GivesEvents}
+
+-- All that is given from a state on are these events, or some events and then this refusal, unless memory ran out.
+abbrev pub GivesAll : {V : Type 0} → (V → List PlainEvent) → OptionsData → StepState → Result V Refused → Type 0
+GivesAll view o m (Ok v) = GivesEvents o m (view v) None
+GivesAll view o m (Err e) = (e.kind ≡ NoMemory → ⊥) → (es : List PlainEvent) × GivesEvents o m es (Some e)
+
+-- the same, or the last refusal is the error of the source
+abbrev pub GivesAllOr : {I V : Type 0} → (I → Origin) → (V → List PlainEvent) → OptionsData → StepState
+    → Result V Refused → Reading I → Type 0
+GivesAllOr origin view o m (Ok v) at = GivesAll view o m (Ok v)
+GivesAllOr origin view o m (Err e) at = GivesAll view o m (Err e) ⊎ IsSourceError (origin at.input) at.place e
+
+-- The same where the source ends with this error or with none: an answer only where it ends with none, and a refusal is
+-- its error, or comes before it is known how the source ends.
+abbrev pub GivesWhole : {I V : Type 0} → (I → Origin) → (V → List PlainEvent) → OptionsData → StepState
+    → Option FaultKind → Result V Refused → (old new : Reading I) → Type 0
+GivesWhole origin view o m f (Ok v) old new = (f ≡ None) × GivesEvents o m (view v) None
+GivesWhole origin view o m f (Err e) old new =
+    ((f ≡ Some e.kind) × (e.sources ≡ []))
+    ⊎ (GivesAllOr origin view o m (Err e) new × GoesGiving (origin old.input) (origin new.input))
+
+-- there is no answer: memory ran out, or the refusal is so
+abbrev pub IsRefusedAs : {V : Type 0} → Result V Refused → (Refused → Type 0) → Type 0
+IsRefusedAs r Holds = IfOk r (λ v. ⊥) × IfErr r (λ e. (e.kind ≡ NoMemory) ⊎ Holds e)
+
+-- the answer for a text, its byte offsets forgotten
+abbrev pub bare_run : OptionsData → List ℕ → Result (List PlainEvent) Fault
+bare_run o text = bare_answer (record { offsets = false; lending = false }) (run o text)
+
+-- An answer is that of the characters, where no error ends them. A refusal is the error that ends them, or the fault of
+-- the characters before it, unless memory ran out.
+abbrev pub AnswersItems : {V : Type 0} → (V → List PlainEvent) → OptionsData → List (Result ℕ ErrorKind)
+    → Result V Refused → Type 0
+AnswersItems view o items (Ok v) = (first_error items ≡ None) × (bare_run o (characters_of items) ≡ Ok (view v))
+AnswersItems view o items (Err e) =
+    ((first_error items ≡ Some e.kind) × (e.sources ≡ [])) ⊎ Fails e (bare_run o (characters_of items))
