@@ -5,9 +5,9 @@ use Rattle.std.specs.declared.process.ExitCode.{ExitCode}
 use Rattle.granit_base.specs.Written.{Written}
 use Rattle.granit_events.specs.Codes.{code_of}
 use Rattle.granit_events.specs.Ran.{End, Ran}
-use Rattle.granit_events.specs.SelfTest.{BeginSelftest}
 use Rattle.granit_events.specs.Tested.{Tested}
 use Rattle.granit_events.specs.declared.status.Status.{Status}
+use Rattle.granit_words.specs.Asking.{BeginSelftest}
 use Rattle.granit.specs.Words.{words_of}
 
 -- the status stands for what `run` did on the words behind the program's name, where the arguments are told

@@ -8,6 +8,7 @@ mod ends;
 mod frames;
 mod giving;
 mod names;
+mod offset;
 mod properties;
 mod state;
 

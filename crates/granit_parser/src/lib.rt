@@ -1,6 +1,7 @@
 //! A parser of YAML 1.2 that gives the events of a text one by one, or sends them to a receiver.
 #![tactic(auto)]
 
+mod anchors;
 mod fallible;
 mod parser;
 mod receive;

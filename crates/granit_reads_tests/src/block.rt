@@ -1,7 +1,7 @@
 //! The worked rows, which are the original's tokens and faults.
-use granit_base::{ScalarStyle, Text};
+use granit_base::{Marker, ScalarStyle};
 use granit_block::scan_block_scalar;
-use granit_cursor::{Cursor, Layout, Lexed, TokenType};
+use granit_cursor::{Cursor, Layout, Lexed, Token, TokenType};
 use granit_error::ScanError;
 use granit_input::{Input, StrInput};
 use std::alloc::Global;
@@ -18,13 +18,16 @@ fn inside(block_column: Option<usize>, comments: bool) -> Layout {
     }
 }
 
+/// What a call gives, where one was made.
+type Read<'a> = Option<Result<Lexed<'a>, ScanError>>;
+
 /// The block scalar that begins at an index of a text, where one does.
 fn scalar_at<'a>(
     alloc: Global,
     cursor: &mut Cursor<StrInput<'a>>,
     index: usize,
     at: &Layout,
-) -> Option<Result<Lexed<'a>, ScanError>> {
+) -> Read<'a> {
     'characters: for _ in 0..index {
         cursor.step();
     }
@@ -39,6 +42,29 @@ fn scalar_at<'a>(
 /// The indexes of a token's ends, its indent, and whether a break was read behind its content.
 type Places = (usize, usize, Option<usize>, bool);
 
+/// The value of a block scalar's token.
+fn value_of<'t>(token: &'t Token<'_>) -> Option<&'t str> {
+    match token.token_type() {
+        TokenType::Scalar(ScalarStyle::Literal | ScalarStyle::Folded, text) => Some(text.as_str()),
+        _ => None,
+    }
+}
+
+/// Whether a block scalar was read that has that value and those places, and ends there.
+fn says(read: &Read<'_>, value: &str, places: Places, end: Marker) -> bool {
+    let Some(Ok(lexed)) = read else {
+        return false;
+    };
+    let span = lexed.token.span();
+    let found = (
+        span.start.index(),
+        span.end.index(),
+        span.indent,
+        lexed.on_new_line,
+    );
+    found == places && span.end == end && value_of(&lexed.token) == Some(value)
+}
+
 /// Whether a block scalar at an index has that value and those places, and the cursor then stands at its end.
 fn tells(
     alloc: Global,
@@ -49,20 +75,8 @@ fn tells(
     places: Places,
 ) -> bool {
     let mut cursor = Cursor::new(StrInput::new(text));
-    let Some(Ok(lexed)) = scalar_at(alloc, &mut cursor, index, &inside(block_column, true)) else {
-        return false;
-    };
-    let span = lexed.token.span();
-    let found = (
-        span.start.index(),
-        span.end.index(),
-        span.indent,
-        lexed.on_new_line,
-    );
-    let literal = TokenType::Scalar(ScalarStyle::Literal, Text::borrowed(value));
-    let folded = TokenType::Scalar(ScalarStyle::Folded, Text::borrowed(value));
-    let said = lexed.token.token_type();
-    (*said == literal || *said == folded) && found == places && cursor.mark() == span.end
+    let read = scalar_at(alloc, &mut cursor, index, &inside(block_column, true));
+    says(&read, value, places, cursor.mark())
 }
 
 /// The text of the first row that isn't told as it says.

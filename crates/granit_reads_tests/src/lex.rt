@@ -1,6 +1,6 @@
 //! Each call once, also where no comments are asked for, and each kind of a wrong escape. The values and faults are the
 //! original's.
-use granit_base::{ScalarStyle, Text, is_blank_or_breakz};
+use granit_base::{ScalarStyle, is_blank_or_breakz};
 use granit_cursor::{Cursor, Layout, Lexed, Token, TokenType};
 use granit_error::ScanError;
 use granit_input::{Input, StrInput};
@@ -18,12 +18,11 @@ fn nested() -> Layout {
     }
 }
 
+/// What a call gives, where one was made.
+type Read<'a> = Option<Result<Lexed<'a>, ScanError>>;
+
 /// The scalar that begins here, where one does.
-fn scalar_at<'a>(
-    alloc: Global,
-    cursor: &mut Cursor<StrInput<'a>>,
-    at: &Layout,
-) -> Option<Result<Lexed<'a>, ScanError>> {
+fn scalar_at<'a>(alloc: Global, cursor: &mut Cursor<StrInput<'a>>, at: &Layout) -> Read<'a> {
     cursor.look(2);
     match cursor.input().peek() {
         '\'' => Some(scan_quoted_scalar(alloc, cursor, true, at)),
@@ -34,15 +33,24 @@ fn scalar_at<'a>(
     }
 }
 
-/// The value of the scalar at the start of a text, and where the cursor then stands.
-fn value_of(alloc: Global, text: &str, style: ScalarStyle, value: &str) -> Option<usize> {
-    let mut cursor = Cursor::new(StrInput::new(text));
-    let lexed = scalar_at(alloc, &mut cursor, &nested())?.ok()?;
-    let wanted = TokenType::Scalar(style, Text::borrowed(value));
-    if *lexed.token.token_type() != wanted || lexed.comment.is_some() {
-        return None;
+/// Whether a scalar was read that is written so and has that value, with no comment.
+fn says(read: &Read<'_>, style: ScalarStyle, value: &str) -> bool {
+    let Some(Ok(lexed)) = read else {
+        return false;
+    };
+    match lexed.token.token_type() {
+        TokenType::Scalar(found, text) => {
+            *found == style && text.as_str() == value && lexed.comment.is_none()
+        }
+        _ => false,
     }
-    Some(cursor.mark().index())
+}
+
+/// Whether the scalar at the start of a text is written so and has that value, and where the cursor then stands.
+fn told(alloc: Global, text: &str, style: ScalarStyle, value: &str) -> (bool, usize) {
+    let mut cursor = Cursor::new(StrInput::new(text));
+    let read = scalar_at(alloc, &mut cursor, &nested());
+    (says(&read, style, value), cursor.mark().index())
 }
 
 /// The number of the kind by which the scalar at the start of a text is refused, and the index of its mark.
@@ -52,14 +60,21 @@ fn refused(alloc: Global, text: &str) -> Option<(u8, usize)> {
     Some((error.kind().number(), error.marker().index()))
 }
 
-/// Whether the text of the scalar at the start of a text is lent.
-fn is_lent(alloc: Global, text: &str) -> Option<bool> {
-    let mut cursor = Cursor::new(StrInput::new(text));
-    let lexed = scalar_at(alloc, &mut cursor, &nested())?.ok()?;
+/// Whether the text of a scalar that was read is lent.
+fn is_value_lent(read: &Read<'_>) -> Option<bool> {
+    let Some(Ok(lexed)) = read else {
+        return None;
+    };
     match lexed.token.token_type() {
         TokenType::Scalar(_, text) => Some(text.is_borrowed()),
         _ => None,
     }
+}
+
+/// Whether the text of the scalar at the start of a text is lent.
+fn is_lent(alloc: Global, text: &str) -> Option<bool> {
+    let mut cursor = Cursor::new(StrInput::new(text));
+    is_value_lent(&scalar_at(alloc, &mut cursor, &nested()))
 }
 
 /// The comment behind a scalar, where one stands there.
@@ -102,7 +117,7 @@ fn first_of_another_value<'a>(
     rows: &[(&'a str, ScalarStyle, &'a str, usize)],
 ) -> Option<&'a str> {
     for &(text, style, value, stands) in rows {
-        if value_of(alloc, text, style, value) != Some(stands) {
+        if told(alloc, text, style, value) != (true, stands) {
             return Some(text);
         }
     }

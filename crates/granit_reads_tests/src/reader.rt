@@ -1,45 +1,52 @@
 //! Whole reads of small texts. What stands in the texts was counted by hand.
 use granit_cursor::Cursor;
-use granit_error::Options;
+use granit_error::{Options, ScanError};
 use granit_input::StrInput;
 use granit_items::Found;
 use granit_layout::Layouts;
 use granit_reader::next_found;
 use std::alloc::Global;
 
+/// Whether a read found a lexeme, and a comment; none where it was refused.
+fn told(read: &Result<(), ScanError>, found: &Found<'_>) -> Option<(bool, bool)> {
+    match read {
+        Ok(()) => Some((found.lexeme.is_some(), found.note.is_some())),
+        Err(_) => None,
+    }
+}
+
+/// Whether the next read finds a lexeme, and a comment; none where it is refused.
+fn read<'a>(
+    alloc: Global,
+    cursor: &mut Cursor<StrInput<'a>>,
+    layouts: &mut Layouts,
+    ended: &mut bool,
+) -> Option<(bool, bool)> {
+    if layouts.number() > 100 {
+        return None;
+    }
+    let options = Options::default();
+    let mut found: Found<'a> = Found {
+        lexeme: None,
+        note: None,
+    };
+    let read = next_found(alloc, &options, cursor, layouts, ended, &mut found);
+    told(&read, &found)
+}
+
 /// How many lexemes stand in a text, its end among them, and how many comments behind none of them; none where it is
 /// refused.
 fn counted(alloc: Global, text: &str) -> Option<(usize, usize)> {
-    let options = Options::default();
     let mut cursor = Cursor::new(StrInput::new(text));
     let mut layouts = Layouts::new(alloc);
     let mut ended = false;
     let mut lexemes: usize = 0;
     let mut comments: usize = 0;
     for _ in 0..100 {
-        if layouts.number() > 100 {
-            return None;
-        }
         let is_over = ended;
-        let mut found = Found {
-            lexeme: None,
-            note: None,
-        };
-        next_found(
-            alloc,
-            &options,
-            &mut cursor,
-            &mut layouts,
-            &mut ended,
-            &mut found,
-        )
-        .ok()?;
-        if found.lexeme.is_some() {
-            lexemes = lexemes.saturating_add(1);
-        }
-        if found.note.is_some() {
-            comments = comments.saturating_add(1);
-        }
+        let (lexeme, comment) = read(alloc, &mut cursor, &mut layouts, &mut ended)?;
+        lexemes = lexemes.saturating_add(usize::from(lexeme));
+        comments = comments.saturating_add(usize::from(comment));
         if is_over {
             return Some((lexemes, comments));
         }

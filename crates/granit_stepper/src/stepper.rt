@@ -29,7 +29,7 @@ use std::marker::Model;
 #[derive(Drop)]
 pub struct Stepper<'input, T: Input> {
     scanner: Scanner<'input, T>,
-    parser: ParserState<'input>,
+    pub(crate) parser: ParserState<'input>,
     // Where the stream starts, until that is told.
     first: Option<Marker>,
     // A call failed: nothing more is given.

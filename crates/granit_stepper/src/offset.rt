@@ -1,0 +1,28 @@
+//! The number that a next anchor gets.
+ghost use Rattle.std.specs.Prelude.{◌≡◌, ◌-◌, ◌^◌, min, suc};
+ghost use Rattle.granit_base.specs.Place.{Unread};
+ghost use Rattle.granit_stepper.specs.Offset.{with_offset};
+ghost use Rattle.granit_stepper.specs.Stepping.{StandsIn};
+ghost use Rattle.granit_steps.specs.Steps.{StepState};
+
+use crate::stepper::Stepper;
+use granit_input::Input;
+
+impl<'input, T: Input> Stepper<'input, T> {
+    /// The number that a next anchor gets, held at the greatest one.
+    pub fn anchor_offset(&self) -> usize
+        ensures { result ≡ min (suc self.now.parser.count) (2 ^ 64 - 1) }
+    {
+        self.parser.anchor_offset()
+    }
+
+    /// From now on a next anchor gets this number; 0 is as 1.
+    pub fn set_anchor_offset(&mut self, offset: usize)
+        ensures known { (m : StepState) → StandsIn T.unread self.old m
+            → StandsIn T.unread self.new (with_offset offset m) }
+        ensures rest { self.new
+            ≡ record self.old { parser = record (self.old.parser) { count = offset - 1 } } }
+    {
+        self.parser.set_anchor_offset(offset);
+    }
+}
