@@ -296,11 +296,12 @@ fn plain_scalars_are_fetched_up_to_a_count(rt: HostRuntime) {
     let mut out = String::new(rt.alloc());
     let whole = fetch_twice("a:é ", 16, &mut out);
     let part = fetch_twice("a,b", 1, &mut out);
-    let want = [
-        [Some((true, 3)), Some((true, 0))],
-        [Some((false, 1)), Some((true, 0))],
-    ];
-    assert_eq!(rt; (out.as_str(), [whole, part]), ("a:éa", want));
+    let want_whole = [Some((true, 3)), Some((true, 0))];
+    let want_part = [Some((false, 1)), Some((true, 0))];
+    assert_eq!(rt;
+        (out.as_str(), whole, part),
+        ("a:éa", want_whole, want_part)
+    );
 }
 
 #[test]
