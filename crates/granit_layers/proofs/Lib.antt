@@ -1,0 +1,3 @@
+mod NestedLemmas
+mod SendLemmas
+mod StackLemmas

@@ -1,0 +1,68 @@
+-- Events of a stack that are sent one behind the other.
+use Rattle.std.proofs.Common.{◌≡◌, ℕ, Bool, true, false, List, [], ◌∷◌, ◌++◌, Some, None, inl, inr, Ok, Err}
+use Rattle.granit_base.specs.declared.place.Span.{Span}
+use Rattle.granit_error.specs.Refused.{Refused}
+use Rattle.granit_event.specs.declared.event.Event.{Event}
+use Rattle.granit_layers.specs.Sending.{GivesOn, RunsOut, SendsAll, SendsBefore, SendsUpTo, none_given, one_given}
+use Rattle.granit_layers.specs.Stacking.{Stack, StepsTo}
+use Rattle.granit_layers.specs.Turning.{Next}
+use Rattle.granit_receivers.proofs.TakingLemmas.{took_more, took_none}
+use Rattle.granit_receivers.specs.Taking.{Told, Took}
+use Rattle.granit_replay.specs.Sending.{ends_with}
+
+module _ {S : Type 0} (steps : S → Next → S → Type 0) (offset : S → ℕ) (sets : ℕ → S → S → Type 0) (multi : Bool) where
+  -- so far these events were sent
+  pub record SentFirst (initial now : Stack S) (old new : Told) : Type 0 where
+    pub first : List (Event × Span)
+    pub gives : GivesOn steps offset sets multi initial first now
+    pub took : Took old new first
+
+  pub sent_none : (p : Stack S) (t : Told) → SentFirst p p t t
+  sent_none p t = record { first = []; gives = none_given; took = took_none t }
+
+  module _ (initial now after : Stack S) (old mid : Told) (s : SentFirst initial now old mid) where
+    -- one more is sent
+    pub sent_event : (new : Told) (e : Event × Span) → StepsTo steps offset sets now (Some (Ok e)) after
+        → ends_with multi e ≡ false → Took mid new (e ∷ []) → SentFirst initial after old new
+    sent_event new e step more takes = record {
+      first = s.first ++ e ∷ [];
+      gives = one_given s.gives step more;
+      took = took_more old mid new s.first (e ∷ []) s.took takes;
+    }
+
+    -- the last one is
+    pub sent_last : (new : Told) (e : Event × Span) → StepsTo steps offset sets now (Some (Ok e)) after
+        → ends_with multi e ≡ true → Took mid new (e ∷ []) → SendsAll steps offset sets multi (Took old new) initial
+        after
+    sent_last new e step last takes = (
+      s.first,
+      now,
+      s.gives,
+      inr (record {
+        event = e;
+        step = step;
+        last = last;
+        takes = took_more old mid new s.first (e ∷ []) s.took takes;
+      }),
+    )
+
+    -- none is left
+    pub sent_all : StepsTo steps offset sets now None after → SendsAll steps offset sets multi (Took old mid)
+        initial after
+    sent_all step = (s.first, now, s.gives, inl (record { step = step; takes = s.took }))
+
+    -- a refusal comes
+    pub sent_before : (e : Refused) → StepsTo steps offset sets now (Some (Err e)) after
+        → SendsBefore steps offset sets multi (Took old mid) initial e after
+    sent_before e step = (s.first, now, s.gives, s.took, inl step)
+
+    -- memory ran out
+    pub sent_no_more : (e : Refused) → RunsOut e after
+        → SendsBefore steps offset sets multi (Took old mid) initial e after
+    sent_no_more e out = (s.first, now, s.gives, s.took, inr out)
+
+    -- the receiver refuses one
+    pub sent_up_to : (new : Told) (e : Event × Span) → StepsTo steps offset sets now (Some (Ok e)) after
+        → Took mid new (e ∷ []) → SendsUpTo steps offset sets multi (Took old new) initial after
+    sent_up_to new e step takes =
+        (s.first, now, e, s.gives, step, took_more old mid new s.first (e ∷ []) s.took takes)

@@ -1,0 +1,5 @@
+pub mod Kinds
+pub mod Nested
+pub mod Sending
+pub mod Stacking
+pub mod Turning

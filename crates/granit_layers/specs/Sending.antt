@@ -1,0 +1,105 @@
+-- What a stack sends to a receiver.
+use Rattle.std.specs.Prelude.{◌≡◌, ◌⊎◌, ℕ, Bool, true, false, List, [], ◌∷◌, ◌++◌, Option, Some, None, Result, Ok, Err}
+use Rattle.std.specs.Prelude.{IfOk, IfErr}
+use Rattle.granit_base.specs.declared.place.Span.{Span}
+use Rattle.granit_error.specs.FaultKind.{NoMemory}
+use Rattle.granit_error.specs.Refused.{Refused}
+use Rattle.granit_event.specs.declared.event.Event.{Event}
+use Rattle.granit_layers.specs.Stacking.{IsKept, Stack, StepsTo}
+use Rattle.granit_layers.specs.Turning.{Next}
+use Rattle.granit_receivers.specs.Counts.{Rose}
+use Rattle.granit_receivers.specs.declared.error.TryLoadError.{TryLoadError}
+use Rattle.granit_receivers.specs.declared.error.TryLoadError.TheVariants.{Scan, Receiver}
+use Rattle.granit_replay.specs.Sending.{ends_with}
+
+-- the refusal that a stack ended with
+abbrev pub failure_of : Option (Result (Unit {0}) Refused) → Option Refused
+failure_of None = None
+failure_of (Some (Ok x)) = None
+failure_of (Some (Err e)) = Some e
+
+-- one by one these events are given, and none of them is the last that is sent
+pub data GivesOn {S : Type 0} (steps : S → Next → S → Type 0) (offset : S → ℕ) (sets : ℕ → S → S → Type 0)
+    (multi : Bool) : Stack S → List (Event × Span) → Stack S → Type 0 where
+  none_given : {p : Stack S} → GivesOn steps offset sets multi p [] p
+  one_given : {p mid q : Stack S} {es : List (Event × Span)} {e : Event × Span}
+      → GivesOn steps offset sets multi p es mid → StepsTo steps offset sets mid (Some (Ok e)) q
+      → ends_with multi e ≡ false → GivesOn steps offset sets multi p (es ++ e ∷ []) q
+
+-- an event is sent behind these, and it is the last
+pub record SendsLast {S : Type 0} (steps : S → Next → S → Type 0) (offset : S → ℕ) (sets : ℕ → S → S → Type 0)
+    (multi : Bool) (Takes : List (Event × Span) → Type 0) (es : List (Event × Span)) (mid new : Stack S) : Type 0 where
+  pub event : Event × Span
+  pub step : StepsTo steps offset sets mid (Some (Ok event)) new
+  pub last : ends_with multi event ≡ true
+  pub takes : Takes (es ++ event ∷ [])
+
+-- these are sent, and then nothing is left
+pub record SendsNoMore {S : Type 0} (steps : S → Next → S → Type 0) (offset : S → ℕ) (sets : ℕ → S → S → Type 0)
+    (Takes : List (Event × Span) → Type 0) (es : List (Event × Span)) (mid new : Stack S) : Type 0 where
+  pub step : StepsTo steps offset sets mid None new
+  pub takes : Takes es
+
+-- a stack ended for want of memory, in the place of what comes next
+pub record RunsOut {S : Type 0} (e : Refused) (new : Stack S) : Type 0 where
+  pub kind : e.kind ≡ NoMemory
+  pub kept : Refused
+  pub end : new.end ≡ Some (Err kept)
+  pub peeked : new.peeked ≡ None
+
+-- all is sent that comes up to the last event, or until nothing is left
+abbrev pub SendsAll : {S : Type 0} → (steps : S → Next → S → Type 0) → (offset : S → ℕ)
+    → (sets : ℕ → S → S → Type 0) → (multi : Bool) → (List (Event × Span) → Type 0) → Stack S → Stack S → Type 0
+SendsAll steps offset sets multi Takes old new =
+    (es : List (Event × Span)) × (mid : Stack _) × GivesOn steps offset sets multi old es mid
+    × (SendsNoMore steps offset sets Takes es mid new ⊎ SendsLast steps offset sets multi Takes es mid new)
+
+-- all is sent that comes before a refusal
+abbrev pub SendsBefore : {S : Type 0} → (steps : S → Next → S → Type 0) → (offset : S → ℕ)
+    → (sets : ℕ → S → S → Type 0) → (multi : Bool) → (List (Event × Span) → Type 0) → Stack S → Refused → Stack S
+    → Type 0
+SendsBefore steps offset sets multi Takes old e new =
+    (es : List (Event × Span)) × (mid : Stack _) × GivesOn steps offset sets multi old es mid × Takes es
+    × (StepsTo steps offset sets mid (Some (Err e)) new ⊎ RunsOut e new)
+
+-- all is sent that comes up to an event that the receiver refuses, which it took
+abbrev pub SendsUpTo : {S : Type 0} → (steps : S → Next → S → Type 0) → (offset : S → ℕ)
+    → (sets : ℕ → S → S → Type 0) → (multi : Bool) → (List (Event × Span) → Type 0) → Stack S → Stack S → Type 0
+SendsUpTo steps offset sets multi Takes old new =
+    (es : List (Event × Span)) × (mid : Stack _) × (e : Event × Span) × GivesOn steps offset sets multi old es mid
+    × StepsTo steps offset sets mid (Some (Ok e)) new × Takes (es ++ e ∷ [])
+
+-- what `load` sends and answers
+abbrev pub Loads : {S X : Type 0} → (steps : S → Next → S → Type 0) → (offset : S → ℕ)
+    → (sets : ℕ → S → S → Type 0) → (multi : Bool) → (List (Event × Span) → Type 0) → Stack S → Result X Refused
+    → Stack S → Type 0
+Loads steps offset sets multi Takes old (Ok x) new = SendsAll steps offset sets multi Takes old new
+Loads steps offset sets multi Takes old (Err e) new = SendsBefore steps offset sets multi Takes old e new
+
+-- what `try_load` sends and answers
+abbrev pub Tries : {S X E : Type 0} → (steps : S → Next → S → Type 0) → (offset : S → ℕ)
+    → (sets : ℕ → S → S → Type 0) → (multi : Bool) → (List (Event × Span) → Type 0) → Stack S
+    → Result X (TryLoadError E) → Stack S → Type 0
+Tries steps offset sets multi Takes old (Ok x) new = SendsAll steps offset sets multi Takes old new
+Tries steps offset sets multi Takes old (Err (Scan e)) new = SendsBefore steps offset sets multi Takes old e new
+Tries steps offset sets multi Takes old (Err (Receiver e)) new = SendsUpTo steps offset sets multi Takes old new
+
+-- the same refusal, or want of memory
+abbrev pub GivesAgain : {X : Type 0} → Refused → Result X Refused → Type 0
+GivesAgain e r = IfOk r (λ x. ⊥) × IfErr r (λ f. IsKept e f)
+
+abbrev pub ScansAgain : {X E : Type 0} → Refused → Result X (TryLoadError E) → Type 0
+ScansAgain e (Ok x) = ⊥
+ScansAgain e (Err (Scan f)) = IsKept e f
+ScansAgain e (Err (Receiver f)) = ⊥
+
+-- what was given, as it is given again
+abbrev pub KeptAgain : Option Refused → Option Refused → Type 0
+KeptAgain None r = r ≡ None
+KeptAgain (Some e) r = (f : Refused) × (r ≡ Some f) × IsKept e f
+
+-- a count of a receiver's errors rose where it gave one, and is else as before
+abbrev pub CountsErrors : {X E : Type 0} → (old new : ℕ) → Result X (TryLoadError E) → Type 0
+CountsErrors old new (Ok x) = new ≡ old
+CountsErrors old new (Err (Scan e)) = new ≡ old
+CountsErrors old new (Err (Receiver e)) = Rose old new
