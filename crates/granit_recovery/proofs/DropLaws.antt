@@ -3,14 +3,17 @@ use Rattle.std.proofs.Common.{◌≡◌, Bool, true, false, ◌||◌, [], Option
 use Rattle.std.proofs.Common.{ap, ◌∙◌}
 use Rattle.std.specs.Prelude.{if◌then◌else◌}
 use Rattle.granit_error.specs.OptionsData.{OptionsData}
+use Rattle.granit_lexemes.specs.Here.{Here}
 use Rattle.granit_lexemes.specs.Lexeme as lexemes
 use Rattle.granit_lexemes.specs.Lexeme.{LexemeKind, Lexeme}
 use Rattle.granit_lexemes.specs.Outcome.{Fault}
-use Rattle.granit_recovery.specs.Boundary.{Boundary, AtStart, PastEnd, AtTextEnd, next_boundary}
-use Rattle.granit_recovery.specs.Calls.{Calls, Given, given_by, next_call}
-use Rattle.granit_recovery.specs.Recovery.{skipped_by, skipped, looked_by, answered, recovered, extra_of, recover_with}
-use Rattle.granit_recovery.specs.Recovery.{recover}
-use Rattle.granit_recovery.specs.Restart.{dropped, at_boundary, at_lexeme, at_found, behind_fault, read_boundary}
+use Rattle.granit_restart.specs.Boundary.{Boundary, AtStart, PastEnd, AtTextEnd, next_boundary}
+use Rattle.granit_restart.specs.Calls.{Calls, Given, given_by, next_call}
+use Rattle.granit_restart.specs.Recovery.{skipped_by, skipped, looked_by, answered, recovered, extra_of, recover_with}
+use Rattle.granit_restart.specs.Recovery.{recover}
+use Rattle.granit_restart.specs.Restart.{dropped, at_boundary, at_lexeme, at_found, behind_fault, behind_fault_at}
+use Rattle.granit_restart.specs.Restart.{cursor_at, read_boundary}
+use Rattle.granit_restart.specs.Skipping.{Stops}
 use Rattle.granit_steps.specs.Steps.{StepState, next_event}
 
 -- ---- behind a fault
@@ -23,20 +26,20 @@ boundary_drops s (AtStart h) = (refl, refl)
 boundary_drops s (PastEnd h) = (refl, refl)
 boundary_drops s (AtTextEnd h) = (refl, refl)
 
-lexeme_drops : (s : StepState) (kind : LexemeKind) (l : Lexeme)
-    → Dropped s (at_lexeme s kind l).1
-lexeme_drops s lexemes.DocumentStart l = (refl, refl)
-lexeme_drops s lexemes.DocumentEnd l = (refl, refl)
-lexeme_drops s kind l = (refl, refl)
+lexeme_drops : (h : Here) (s : StepState) (kind : LexemeKind) (l : Lexeme) → Dropped s (at_lexeme h s kind l).1
+lexeme_drops h s lexemes.DocumentStart l = (refl, refl)
+lexeme_drops h s lexemes.DocumentEnd l = (refl, refl)
+lexeme_drops h s kind l = (refl, refl)
 
-found_drops : (s : StepState) (r : Option Lexeme) → Dropped s (at_found s r).1
-found_drops s (Some l) = lexeme_drops s l.kind l
-found_drops s None = boundary_drops s (next_boundary s.reading.reader.here)
+found_drops : (h : Here) (s : StepState) (r : Option Lexeme) → Dropped s (at_found h s r).1
+found_drops h s (Some l) = lexeme_drops h s l.kind l
+found_drops h s None = boundary_drops s (next_boundary h)
 
 -- frames, anchors and tags are dropped, and so is what wasn't given
-pub fault_drops : (s : StepState) → Dropped s (behind_fault s).1
-unfolding behind_fault
-fault_drops s = found_drops s (read_boundary s.reading.reader.here s.queue)
+pub fault_drops : (stop : Here) (s : StepState) → Dropped s (behind_fault stop s).1
+unfolding behind_fault_at
+fault_drops stop s =
+    let h = cursor_at stop s.reading in found_drops h s (read_boundary h s.queue)
 
 -- ---- behind a document, and behind the end
 
@@ -46,32 +49,32 @@ answered_steps (Ok false) c = refl
 answered_steps (Err f) c = refl
 
 -- directly behind a document nothing is dropped
-pub between_drops : (o : OptionsData) (c : Calls) → c.refusal ≡ None → c.fault ≡ None → c.over ≡ false
-    → c.between ≡ true → (recover o false c).1.steps ≡ c.steps
+pub between_drops : (o : OptionsData) (stops : Stops) (c : Calls) → c.refusal ≡ None → c.fault ≡ None
+    → c.over ≡ false → c.between ≡ true → (recover o stops false c).1.steps ≡ c.steps
 unfolding recover
-between_drops o c refusal fault over between =
-    ap (λ (r : Option Fault). (recover_with o false r c).1.steps) refusal
-    ∙ ap (λ b. (if b then (Ok false, c) else recovered o 0 (skipped o c)).1.steps) over
-    ∙ answered_steps _ (skipped o c)
-    ∙ ap (λ (f : Option Fault). skipped_by o f c.between c.steps) fault
-    ∙ ap (λ b. skipped_by o None b c.steps) between
+between_drops o stops c refusal fault over between =
+    ap (λ (r : Option Fault). (recover_with o stops false r c).1.steps) refusal
+    ∙ ap (λ b. (if b then (Ok false, c) else recovered o 0 (skipped o stops c)).1.steps) over
+    ∙ answered_steps _ (skipped o stops c)
+    ∙ ap (λ (f : Option Fault). skipped_by o stops f c.between c.steps) fault
+    ∙ ap (λ b. skipped_by o stops None b c.steps) between
 
 over_none : (o : OptionsData) (c : Calls) → c.over ≡ true → next_call o c ≡ (None, c)
 unfolding next_call
 over_none o c e =
     ap (λ b. if (b || is_some c.fault) || is_some c.refusal then (None, c) else given_by o c (next_event o c.steps)) e
 
-over_with : (o : OptionsData) (looked : Bool) (c : Calls) → c.over ≡ true
-    → recover_with o looked None c ≡ (Ok false, c)
-over_with o true c e =
+over_with : (o : OptionsData) (stops : Stops) (looked : Bool) (c : Calls) → c.over ≡ true
+    → recover_with o stops looked None c ≡ (Ok false, c)
+over_with o stops true c e =
     ap (λ (x : Given × Calls). if (looked_by c x).over then (Ok false, looked_by c x)
-    else recovered o (extra_of (looked_by c x) x.0) (skipped o (looked_by c x))) (over_none o c e)
-    ∙ ap (λ b. if b then (Ok false, c) else recovered o (extra_of c None) (skipped o c)) e
-over_with o false c e = ap (λ b. if b then (Ok false, c) else recovered o 0 (skipped o c)) e
+    else recovered o (extra_of (looked_by c x) x.0) (skipped o stops (looked_by c x))) (over_none o c e)
+    ∙ ap (λ b. if b then (Ok false, c) else recovered o (extra_of c None) (skipped o stops c)) e
+over_with o stops false c e = ap (λ b. if b then (Ok false, c) else recovered o 0 (skipped o stops c)) e
 
 -- behind the end of the stream nothing changes
-pub end_stays : (o : OptionsData) (looked : Bool) (c : Calls) → c.refusal ≡ None → c.over ≡ true
-    → recover o looked c ≡ (Ok false, c)
+pub end_stays : (o : OptionsData) (stops : Stops) (looked : Bool) (c : Calls) → c.refusal ≡ None → c.over ≡ true
+    → recover o stops looked c ≡ (Ok false, c)
 unfolding recover
-end_stays o looked c refusal over =
-    ap (λ (r : Option Fault). recover_with o looked r c) refusal ∙ over_with o looked c over
+end_stays o stops looked c refusal over =
+    ap (λ (r : Option Fault). recover_with o stops looked r c) refusal ∙ over_with o stops looked c over

@@ -17,14 +17,15 @@ use Rattle.granit_machine.specs.ReaderState.{ReaderState, Read}
 use Rattle.granit_reading.proofs.Answering.{Answers}
 use Rattle.granit_reading.proofs.ReadAnswers.{read_answers}
 use Rattle.granit_reading.proofs.ReadingLaw.{ReadsBy, read-is}
-use Rattle.granit_recovery.specs.Calls.{Calls, next_call}
+use Rattle.granit_restart.specs.Calls.{Calls, next_call}
 use Rattle.granit_recovery.specs.Ending.{first_by, first_event, lexeme_by, first_lexeme, OnlyGap, ends_here, ends_later}
 use Rattle.granit_recovery.specs.Ending.{EndsBy, EndsWith, EndsReading, NoneFollows}
-use Rattle.granit_recovery.specs.Following.{one_kept, past_event, past_events, past_tail, past_lexeme, past_items}
-use Rattle.granit_recovery.specs.Following.{past_read, past_reads, past_reading, item_of, document_follows}
-use Rattle.granit_recovery.specs.Header.{is_directives}
-use Rattle.granit_recovery.specs.Recovery.{resumed, skipped_by, skipped, looked_by, answered, recovered, extra_of}
-use Rattle.granit_recovery.specs.Recovery.{recover_with, recover}
+use Rattle.granit_restart.specs.Following.{one_kept, past_event, past_events, past_tail, past_lexeme, past_items}
+use Rattle.granit_restart.specs.Following.{past_read, past_reads, past_reading, item_of, document_follows}
+use Rattle.granit_restart.specs.Header.{is_directives}
+use Rattle.granit_restart.specs.Recovery.{resumed, skipped_by, skipped, looked_by, answered, recovered, extra_of}
+use Rattle.granit_restart.specs.Recovery.{recover_with, recover}
+use Rattle.granit_restart.specs.Skipping.{Stops}
 use Rattle.granit_steps.specs.Steps.{StepState, incoming}
 
 -- ---- events
@@ -309,26 +310,26 @@ answered_exact o room (Ok true) s e =
 answered_exact o room (Ok false) s e = inr (only_none o room s e)
 answered_exact o room (Err f) s e = tt
 
-exact_if : (b : Bool) (o : OptionsData) (extra : ℕ) (c : Calls) → c.over ≡ b
-    → Exact o (if b then (Ok false, c) else recovered o extra (skipped o c))
-exact_if true o extra c e = inl e
-exact_if false o extra c e = answered_exact o _ _ (skipped_by o c.fault c.between c.steps) refl
+exact_if : (b : Bool) (o : OptionsData) (stops : Stops) (extra : ℕ) (c : Calls) → c.over ≡ b
+    → Exact o (if b then (Ok false, c) else recovered o extra (skipped o stops c))
+exact_if true o stops extra c e = inl e
+exact_if false o stops extra c e = answered_exact o _ _ (skipped_by o stops c.fault c.between c.steps) refl
 
-exact_with : (o : OptionsData) (looked : Bool) (refusal : Option Fault) (c : Calls)
-    → Exact o (recover_with o looked refusal c)
-exact_with o looked (Some f) c = tt
-exact_with o true None c =
-    let d = looked_by c (next_call o c) in exact_if d.over o (extra_of d (next_call o c).0) d refl
-exact_with o false None c = exact_if c.over o 0 c refl
+exact_with : (o : OptionsData) (stops : Stops) (looked : Bool) (refusal : Option Fault) (c : Calls)
+    → Exact o (recover_with o stops looked refusal c)
+exact_with o stops looked (Some f) c = tt
+exact_with o stops true None c =
+    let d = looked_by c (next_call o c) in exact_if d.over o stops (extra_of d (next_call o c).0) d refl
+exact_with o stops false None c = exact_if c.over o stops 0 c refl
 
-exact : (o : OptionsData) (looked : Bool) (c : Calls) → Exact o (recover o looked c)
+exact : (o : OptionsData) (stops : Stops) (looked : Bool) (c : Calls) → Exact o (recover o stops looked c)
 unfolding recover
-exact o looked c = exact_with o looked c.refusal c
+exact o stops looked c = exact_with o stops looked c.refusal c
 
-pub true_is_exact : (o : OptionsData) (looked : Bool) (c d : Calls) → recover o looked c ≡ (Ok true, d)
-    → (d.over ≡ false) × (NoneFollows o d.steps → ⊥)
-true_is_exact o looked c d e = subst (Exact o) e (exact o looked c)
+pub true_is_exact : (o : OptionsData) (stops : Stops) (looked : Bool) (c d : Calls)
+    → recover o stops looked c ≡ (Ok true, d) → (d.over ≡ false) × (NoneFollows o d.steps → ⊥)
+true_is_exact o stops looked c d e = subst (Exact o) e (exact o stops looked c)
 
-pub false_is_exact : (o : OptionsData) (looked : Bool) (c d : Calls) → recover o looked c ≡ (Ok false, d)
-    → (d.over ≡ true) ⊎ NoneFollows o d.steps
-false_is_exact o looked c d e = subst (Exact o) e (exact o looked c)
+pub false_is_exact : (o : OptionsData) (stops : Stops) (looked : Bool) (c d : Calls)
+    → recover o stops looked c ≡ (Ok false, d) → (d.over ≡ true) ⊎ NoneFollows o d.steps
+false_is_exact o stops looked c d e = subst (Exact o) e (exact o stops looked c)

@@ -3,6 +3,7 @@ use Rattle.std.proofs.Common.{◌≡◌, ℕ, zero, suc, ◌<◌, ◌≤◌, Boo
 use Rattle.std.proofs.Common.{Option, Some, None, is_some, Result, Ok, Err, refl, sym, ap, subst, ◌∙◌, arith}
 use Rattle.std.specs.Prelude.{if◌then◌else◌}
 use Rattle.granit_error.specs.OptionsData.{OptionsData}
+use Rattle.granit_lexemes.specs.Here.{Here}
 use Rattle.granit_lexemes.specs.Lexeme as lexemes
 use Rattle.granit_lexemes.specs.Lexeme.{LexemeKind, Lexeme}
 use Rattle.granit_lexemes.specs.Outcome.{Fault, ◌>>=◌}
@@ -15,17 +16,18 @@ use Rattle.granit_machine.specs.Reader.{LexTurn, lex_turn}
 use Rattle.granit_recovery.proofs.IdLemmas.{Bounds, Above, IdsIn, Num}
 use Rattle.granit_recovery.proofs.IdSteps.{FedNum, feed_num}
 use Rattle.granit_recovery.proofs.RecoveryLaws.{called, noted_steps, first_same, second_same}
-use Rattle.granit_recovery.specs.Boundary.{Boundary, AtStart, PastEnd, AtTextEnd, next_boundary}
-use Rattle.granit_recovery.specs.Calls.{Calls, failing_by, failing_in, Given, given_by}
-use Rattle.granit_recovery.specs.Calls.{next_call}
-use Rattle.granit_recovery.specs.Header.{is_in_header}
+use Rattle.granit_restart.specs.Boundary.{Boundary, AtStart, PastEnd, AtTextEnd, next_boundary}
+use Rattle.granit_restart.specs.Calls.{Calls, failing_by, failing_in, Given, given_by}
+use Rattle.granit_restart.specs.Calls.{next_call}
+use Rattle.granit_restart.specs.Header.{is_in_header}
 use Rattle.granit_recovery.specs.Ids.{id_of, IdsFrom}
-use Rattle.granit_recovery.specs.Recovery.{skipped_by, skipped, starts_by, looked_by, answered, recovered}
-use Rattle.granit_recovery.specs.Recovery.{extra_of, recover_with, recover, anchor_offset}
-use Rattle.granit_recovery.specs.Restart.{at_boundary, at_lexeme, at_found, behind_fault, read_boundary}
-use Rattle.granit_recovery.specs.Skipping.{Ahead, NoEnd, BehindDocument, AtStreamEnd, ahead_by, ahead, ends_before}
-use Rattle.granit_recovery.specs.Skipping.{skip_turn, with_pending, skip_ahead, skip_in, skip, restarted}
-use Rattle.granit_recovery.specs.Skipping.{skipped_fault}
+use Rattle.granit_restart.specs.Recovery.{skipped_by, skipped, starts_by, looked_by, answered, recovered}
+use Rattle.granit_restart.specs.Recovery.{extra_of, recover_with, recover, anchor_offset}
+use Rattle.granit_restart.specs.Restart.{at_boundary, at_lexeme, at_found, behind_fault, behind_fault_at, cursor_at}
+use Rattle.granit_restart.specs.Restart.{read_boundary}
+use Rattle.granit_restart.specs.Skipping.{Ahead, NoEnd, BehindDocument, AtStreamEnd, SkipEnd, Ended, Failed, Stops}
+use Rattle.granit_restart.specs.Skipping.{ahead_by, ahead, ends_before, skip_turn, with_pending, skip_ahead, skip_in}
+use Rattle.granit_restart.specs.Skipping.{skip, restarted, skipped_fault, skipped_to}
 use Rattle.granit_recovery.specs.Streams.{Gives, gives_none, gives_next, Reached, reached_start, reached_call}
 use Rattle.granit_recovery.specs.Streams.{reached_recovery}
 use Rattle.granit_steps.specs.Steps.{StepState, Turn, with_read, read_unless, read_more, with_fed, front_turn, turn_by}
@@ -33,7 +35,7 @@ use Rattle.granit_steps.specs.Steps.{may_go, line_behind, step_turn, step_size, 
 
 -- ---- a machine's state
 
-abbrev Ids : Bounds → StepState → Type 0
+abbrev pub Ids : Bounds → StepState → Type 0
 Ids b s = Num b s.parser × IdsIn b s.parser.count s.pending
 
 abbrev TurnIds : Bounds → Turn → Type 0
@@ -103,7 +105,7 @@ settle_ids : (b : Bounds) (o : OptionsData) (s : StepState) → Ids b s → AllI
 unfolding pieces
 settle_ids b o s x = turns_ids b o _ s x
 
-abbrev NextIds : Bounds → Result (Option PlainEvent × StepState) Fault → Type 0
+abbrev pub NextIds : Bounds → Result (Option PlainEvent × StepState) Fault → Type 0
 NextIds b (Ok (Some e, t)) = Above b t.parser.count (id_of e.kind) × Ids b t
 NextIds b (Ok (None, t)) = Ids b t
 NextIds b (Err f) = Unit {0}
@@ -118,7 +120,7 @@ next_by : (b : Bounds) (r : Result (List PlainEvent × StepState) Fault) → All
 next_by b (Ok x) y = first_ids b x.1.pending x.1 y.0 y.1 y
 next_by b (Err f) y = tt
 
-next_ids : (b : Bounds) (o : OptionsData) (s : StepState) → Ids b s → NextIds b (next_event o s)
+pub next_ids : (b : Bounds) (o : OptionsData) (s : StepState) → Ids b s → NextIds b (next_event o s)
 unfolding next_event
 next_ids b o s x = next_by b (settle o s) (settle_ids b o s x)
 
@@ -147,23 +149,23 @@ boundary_ids b s (PastEnd h) f =
 boundary_ids b s (AtTextEnd h) f =
     (record { least = f.0; low = f.1; given = tt; frames = tt; held = tt }, tt)
 
-lexeme_ids : (b : Bounds) (s : StepState) (kind : LexemeKind) (l : Lexeme) → From s.parser.count b
-    → Ids b (at_lexeme s kind l).1
-lexeme_ids b s lexemes.DocumentStart l f =
+lexeme_ids : (b : Bounds) (h : Here) (s : StepState) (kind : LexemeKind) (l : Lexeme) → From s.parser.count b
+    → Ids b (at_lexeme h s kind l).1
+lexeme_ids b h s lexemes.DocumentStart l f =
     (record { least = f.0; low = f.1; given = tt; frames = tt; held = tt }, tt)
-lexeme_ids b s lexemes.DocumentEnd l f =
+lexeme_ids b h s lexemes.DocumentEnd l f =
     (record { least = f.0; low = f.1; given = tt; frames = tt; held = tt }, tt)
-lexeme_ids b s kind l f = (record { least = f.0; low = f.1; given = tt; frames = tt; held = tt }, tt)
+lexeme_ids b h s kind l f = (record { least = f.0; low = f.1; given = tt; frames = tt; held = tt }, tt)
 
-found_ids : (b : Bounds) (s : StepState) (r : Option Lexeme) → From s.parser.count b
-    → Ids b (at_found s r).1
-found_ids b s (Some l) f = lexeme_ids b s l.kind l f
-found_ids b s None f = boundary_ids b s (next_boundary s.reading.reader.here) f
+found_ids : (b : Bounds) (h : Here) (s : StepState) (r : Option Lexeme) → From s.parser.count b
+    → Ids b (at_found h s r).1
+found_ids b h s (Some l) f = lexeme_ids b h s l.kind l f
+found_ids b h s None f = boundary_ids b s (next_boundary h) f
 
 -- whatever was open is dropped
-restart_ids : (b : Bounds) (s : StepState) → From s.parser.count b → Ids b (behind_fault s).1
-unfolding behind_fault
-restart_ids b s f = found_ids b s (read_boundary s.reading.reader.here s.queue) f
+restart_ids : (b : Bounds) (stop : Here) (s : StepState) → From s.parser.count b → Ids b (behind_fault stop s).1
+unfolding behind_fault_at
+restart_ids b stop s f = let h = cursor_at stop s.reading in found_ids b h s (read_boundary h s.queue) f
 
 -- ---- skipping
 
@@ -182,62 +184,67 @@ ahead_ids : (b : Bounds) (n : ℕ) (es : List PlainEvent) → IdsIn b n es → A
 ahead_ids b n [] i = tt
 ahead_ids b n (e ∷ es) i = kind_ids b n e.kind e es (ahead es) i (ahead_ids b n es i.1)
 
--- behind a fault ids stay in bounds
-abbrev KeepsIds : Bounds → (Fault → StepState → StepState) → Type 0
-KeepsIds b fails = (f : Fault) (s : StepState) → Ids b s → Ids b (fails f s)
+from_ids : (b : Bounds) (s : StepState) → Ids b s → From s.parser.count b
+from_ids b s x = let p = x.0 in (p.least, p.low)
 
-fault_ids : (b : Bounds) (c : Bool) (fails : Fault → StepState → StepState) (f : Fault) (s : StepState)
-    → KeepsIds b fails → Ids b s → Ids b (if c then s else fails f s)
-fault_ids b true fails f s k x = x
-fault_ids b false fails f s k x = k f s x
+-- where skipping ends ids stay in bounds, and where it failed the count does
+abbrev EndIds : Bounds → SkipEnd → Type 0
+EndIds b (Ended s) = Ids b s
+EndIds b (Failed f s) = From s.parser.count b
 
-skipped_ids : (b : Bounds) (fails : Fault → StepState → StepState) (later : StepState → StepState) (s : StepState)
-    (r : Turn) → KeepsIds b fails → ((t : StepState) → Ids b t → Ids b (later t)) → Ids b s → TurnIds b r
-    → Ids b (skip_turn later fails s r)
-skipped_ids b fails later s (Ok (Some y, t)) k more x i = more t i
-skipped_ids b fails later s (Ok (None, t)) k more x i = x
-skipped_ids b fails later s (Err f) k more x i = fault_ids b (ends_before s f) fails f s k x
+fault_ids : (b : Bounds) (c : Bool) (f : Fault) (s : StepState) → Ids b s
+    → EndIds b (if c then Ended s else Failed f s)
+fault_ids b true f s x = x
+fault_ids b false f s x = from_ids b s x
 
-past_ids : (b : Bounds) (more : StepState → StepState) (s : StepState) (r : Ahead)
-    → (Ids b (with_pending [] s) → Ids b (more (with_pending [] s))) → Num b s.parser
-    → AheadIds b s.parser.count r → Ids b (skip_ahead more s r)
+skipped_ids : (b : Bounds) (later : StepState → SkipEnd) (s : StepState) (r : Turn)
+    → ((t : StepState) → Ids b t → EndIds b (later t)) → Ids b s → TurnIds b r → EndIds b (skip_turn later s r)
+skipped_ids b later s (Ok (Some y, t)) more x i = more t i
+skipped_ids b later s (Ok (None, t)) more x i = x
+skipped_ids b later s (Err f) more x i = fault_ids b (ends_before s f) f s x
+
+past_ids : (b : Bounds) (more : StepState → SkipEnd) (s : StepState) (r : Ahead)
+    → (Ids b (with_pending [] s) → EndIds b (more (with_pending [] s))) → Num b s.parser
+    → AheadIds b s.parser.count r → EndIds b (skip_ahead more s r)
 past_ids b more s NoEnd go p i = go (p, tt)
 past_ids b more s (BehindDocument es) go p i = (p, i)
 past_ids b more s (AtStreamEnd es) go p i = (p, i)
 
-skip_in_ids : (b : Bounds) (o : OptionsData) (fails : Fault → StepState → StepState) (n : ℕ) (s : StepState)
-    → KeepsIds b fails → Ids b s → Ids b (skip_in o fails n s)
-skip_in_ids b o fails zero s k x = x
-skip_in_ids b o fails (suc n) s k x =
-    past_ids b (λ t. skip_turn (skip_in o fails n) fails t (step_turn o t)) s (ahead s.pending)
-    (λ y. skipped_ids b fails (skip_in o fails n) (with_pending [] s) (step_turn o (with_pending [] s)) k
-    (λ t z. skip_in_ids b o fails n t k z) y (turn_ids b o (with_pending [] s) y)) x.0
+skip_in_ids : (b : Bounds) (o : OptionsData) (n : ℕ) (s : StepState) → Ids b s → EndIds b (skip_in o n s)
+skip_in_ids b o zero s x = x
+skip_in_ids b o (suc n) s x =
+    past_ids b (λ t. skip_turn (skip_in o n) t (step_turn o t)) s (ahead s.pending)
+    (λ y. skipped_ids b (skip_in o n) (with_pending [] s) (step_turn o (with_pending [] s))
+    (λ t z. skip_in_ids b o n t z) y (turn_ids b o (with_pending [] s) y)) x.0
     (ahead_ids b s.parser.count s.pending x.1)
 
-from_ids : (b : Bounds) (s : StepState) → Ids b s → From s.parser.count b
-from_ids b s x = let p = x.0 in (p.least, p.low)
+skip_ids : (b : Bounds) (o : OptionsData) (s : StepState) → Ids b s → EndIds b (skip o s)
+skip_ids b o s x = skip_in_ids b o (suc (step_size s)) s x
 
-restarted_keeps : (b : Bounds) → KeepsIds b restarted
-restarted_keeps b f s x = restart_ids b s (from_ids b s x)
+restarted_ids : (b : Bounds) (stop : Here) (x : SkipEnd) → EndIds b x → Ids b (restarted stop x)
+restarted_ids b stop (Ended s) i = i
+restarted_ids b stop (Failed f s) i = restart_ids b stop s i
 
-header_ids : (b : Bounds) (o : OptionsData) (c : Bool) (x : Bool × StepState) → Ids b x.1
-    → Ids b (if c then skip o restarted x.1 else x.1)
-header_ids b o true x i = skip_in_ids b o restarted (suc (step_size x.1)) x.1
-    (restarted_keeps b) i
-header_ids b o false x i = i
+header_ids : (b : Bounds) (o : OptionsData) (stop : Here) (c : Bool) (x : Bool × StepState) → Ids b x.1
+    → Ids b (if c then restarted stop (skip o x.1) else x.1)
+header_ids b o stop true x i = restarted_ids b stop (skip o x.1) (skip_ids b o x.1 i)
+header_ids b o stop false x i = i
 
-fault_skipped : (b : Bounds) (o : OptionsData) (f : Fault) (s : StepState) → From s.parser.count b
-    → Ids b (skipped_fault o f s)
-fault_skipped b o f s x =
-    header_ids b o (is_in_header o s f && (behind_fault s).0) (behind_fault s) (restart_ids b s x)
+fault_skipped : (b : Bounds) (o : OptionsData) (stops : Stops) (f : Fault) (s : StepState) → From s.parser.count b
+    → Ids b (skipped_fault o stops f s)
+fault_skipped b o stops f s x =
+    header_ids b o stops.second (is_in_header o s f && (behind_fault stops.first s).0) (behind_fault stops.first s)
+    (restart_ids b stops.first s x)
 
-by_skipped : (b : Bounds) (o : OptionsData) (fault : Option Fault) (between : Bool) (s : StepState)
-    → Ids b s → Ids b (skipped_by o fault between s)
-by_skipped b o (Some f) between s x = fault_skipped b o f s (from_ids b s x)
-by_skipped b o None true s x = x
-by_skipped b o None false s x =
-    skip_in_ids b o (skipped_fault o) (suc (step_size s)) s
-    (λ f t y. fault_skipped b o f t (from_ids b t y)) x
+to_ids : (b : Bounds) (o : OptionsData) (stops : Stops) (x : SkipEnd) → EndIds b x → Ids b (skipped_to o stops x)
+to_ids b o stops (Ended s) i = i
+to_ids b o stops (Failed f s) i = fault_skipped b o stops f s i
+
+by_skipped : (b : Bounds) (o : OptionsData) (stops : Stops) (fault : Option Fault) (between : Bool) (s : StepState)
+    → Ids b s → Ids b (skipped_by o stops fault between s)
+by_skipped b o stops (Some f) between s x = fault_skipped b o stops f s (from_ids b s x)
+by_skipped b o stops None true s x = x
+by_skipped b o stops None false s x = to_ids b o stops (skip o s) (skip_ids b o s x)
 
 -- ---- calls
 
@@ -271,25 +278,25 @@ answered_ids b (Ok true) c x = x
 answered_ids b (Ok false) c x = x
 answered_ids b (Err f) c x = x
 
-recovers_ids : (e : Bool) (b : Bounds) (o : OptionsData) (extra : ℕ) (c : Calls) → Ids b c.steps
-    → Ids b (if e then (Ok false, c) else recovered o extra (skipped o c)).1.steps
-recovers_ids true b o extra c x = x
-recovers_ids false b o extra c x =
-    answered_ids b _ (skipped o c) (by_skipped b o c.fault c.between c.steps x)
+recovers_ids : (e : Bool) (b : Bounds) (o : OptionsData) (stops : Stops) (extra : ℕ) (c : Calls) → Ids b c.steps
+    → Ids b (if e then (Ok false, c) else recovered o extra (skipped o stops c)).1.steps
+recovers_ids true b o stops extra c x = x
+recovers_ids false b o stops extra c x =
+    answered_ids b _ (skipped o stops c) (by_skipped b o stops c.fault c.between c.steps x)
 
-with_ids : (b : Bounds) (o : OptionsData) (looked : Bool) (refusal : Option Fault) (c : Calls) → Ids b c.steps
-    → Ids b (recover_with o looked refusal c).1.steps
-with_ids b o looked (Some f) c x = x
-with_ids b o true None c x =
+with_ids : (b : Bounds) (o : OptionsData) (stops : Stops) (looked : Bool) (refusal : Option Fault) (c : Calls)
+    → Ids b c.steps → Ids b (recover_with o stops looked refusal c).1.steps
+with_ids b o stops looked (Some f) c x = x
+with_ids b o stops true None c x =
     let d = looked_by c (next_call o c) in
-    recovers_ids d.over b o (extra_of d (next_call o c).0) d
+    recovers_ids d.over b o stops (extra_of d (next_call o c).0) d
     (looked_ids b c (next_call o c) x (call_ids b o c x))
-with_ids b o false None c x = recovers_ids c.over b o 0 c x
+with_ids b o stops false None c x = recovers_ids c.over b o stops 0 c x
 
-recover_ids : (b : Bounds) (o : OptionsData) (looked : Bool) (c : Calls) → Ids b c.steps
-    → Ids b (recover o looked c).1.steps
+recover_ids : (b : Bounds) (o : OptionsData) (stops : Stops) (looked : Bool) (c : Calls) → Ids b c.steps
+    → Ids b (recover o stops looked c).1.steps
 unfolding recover
-recover_ids b o looked c x = with_ids b o looked c.refusal c x
+recover_ids b o stops looked c x = with_ids b o stops looked c.refusal c x
 
 -- ---- laws
 
@@ -300,7 +307,7 @@ reached_ids : (o : OptionsData) (c : Calls) → Reached o c → Ids NoBounds c.s
 reached_ids o c (reached_start text) =
     (record { least = omega arith; low = omega arith; given = tt; frames = tt; held = tt }, (inl refl, tt))
 reached_ids o c (reached_call {c = d} r) = call_ids NoBounds o d (reached_ids o d r)
-reached_ids o c (reached_recovery {c = d} looked r) = recover_ids NoBounds o looked d (reached_ids o d r)
+reached_ids o c (reached_recovery {c = d} stops looked r) = recover_ids NoBounds o stops looked d (reached_ids o d r)
 
 -- the count is at least what it is
 abbrev AtLeast : ℕ → Bounds
@@ -331,11 +338,11 @@ calls_raise o c r =
     more_offset c.steps.parser.count (next_call o c).1.steps
     (call_ids (AtLeast c.steps.parser.count) o c (ids_now c.steps (reached_ids o c r)))
 
-pub recoveries_raise : (o : OptionsData) (looked : Bool) (c : Calls) → Reached o c
-    → anchor_offset c ≤ anchor_offset (recover o looked c).1
-recoveries_raise o looked c r =
-    more_offset c.steps.parser.count (recover o looked c).1.steps
-    (recover_ids (AtLeast c.steps.parser.count) o looked c (ids_now c.steps (reached_ids o c r)))
+pub recoveries_raise : (o : OptionsData) (stops : Stops) (looked : Bool) (c : Calls) → Reached o c
+    → anchor_offset c ≤ anchor_offset (recover o stops looked c).1
+recoveries_raise o stops looked c r =
+    more_offset c.steps.parser.count (recover o stops looked c).1.steps
+    (recover_ids (AtLeast c.steps.parser.count) o stops looked c (ids_now c.steps (reached_ids o c r)))
 
 below : (b : Bounds) (n id : ℕ) → Above b n id → id < suc n
 below b n id (inl e) = omega (arith, e)
@@ -352,7 +359,7 @@ given_below o c d e r g =
     (below NoBounds x.steps.parser.count (id_of e.kind) n.0)
 
 -- behind a fault ids are no less than the offset was
-abbrev Anew : ℕ → Bounds
+abbrev pub Anew : ℕ → Bounds
 Anew n = record { low = n; least = n }
 
 answered_anew : (b : Bounds) (r : Result Bool Fault) (c d : Calls) (follows : Bool) → answered r c ≡ (Ok follows, d)
@@ -364,16 +371,16 @@ answered_anew b r c d follows e x =
 abbrev OrOver : ℕ → Calls → Type 0
 OrOver n d = (d.over ≡ true) ⊎ Ids (Anew n) d.steps
 
-anew_if : (e : Bool) (o : OptionsData) (extra : ℕ) (c d : Calls) (f : Fault) (follows : Bool)
+anew_if : (e : Bool) (o : OptionsData) (stops : Stops) (extra : ℕ) (c d : Calls) (f : Fault) (follows : Bool)
     → c.fault ≡ Some f → c.over ≡ e
-    → (if e then (Ok false, c) else recovered o extra (skipped o c)) ≡ (Ok follows, d)
+    → (if e then (Ok false, c) else recovered o extra (skipped o stops c)) ≡ (Ok follows, d)
     → OrOver c.steps.parser.count d
-anew_if true o extra c d f follows fault over e =
+anew_if true o stops extra c d f follows fault over e =
     inl (ap (λ (z : Calls). z.over) (sym (second_same _ _ e)) ∙ over)
-anew_if false o extra c d f follows fault over e =
-    inr (answered_anew (Anew c.steps.parser.count) _ (skipped o c) d follows e
-    (subst (λ g. Ids (Anew c.steps.parser.count) (skipped_by o g c.between c.steps)) (sym fault)
-    (fault_skipped (Anew c.steps.parser.count) o f c.steps (omega arith, omega arith))))
+anew_if false o stops extra c d f follows fault over e =
+    inr (answered_anew (Anew c.steps.parser.count) _ (skipped o stops c) d follows e
+    (subst (λ g. Ids (Anew c.steps.parser.count) (skipped_by o stops g c.between c.steps)) (sym fault)
+    (fault_skipped (Anew c.steps.parser.count) o stops f c.steps (omega arith, omega arith))))
 
 or_some : (a c : Bool) → ((a || true) || c) ≡ true
 or_some true c = refl
@@ -385,21 +392,23 @@ next_none o c f e =
     ap (λ b. if b then (None, c) else given_by o c (next_event o c.steps))
     (ap (λ (g : Option Fault). (c.over || is_some g) || is_some c.refusal) e ∙ or_some c.over (is_some c.refusal))
 
-anew_with : (o : OptionsData) (looked : Bool) (refusal : Option Fault) (c d : Calls) (f : Fault) (follows : Bool)
-    → c.fault ≡ Some f → recover_with o looked refusal c ≡ (Ok follows, d) → OrOver c.steps.parser.count d
-anew_with o looked (Some g) c d f follows fault e = absurd (let h = first_same _ _ e in cc)
-anew_with o true None c d f follows fault e =
+anew_with : (o : OptionsData) (stops : Stops) (looked : Bool) (refusal : Option Fault) (c d : Calls) (f : Fault)
+    (follows : Bool) → c.fault ≡ Some f → recover_with o stops looked refusal c ≡ (Ok follows, d)
+    → OrOver c.steps.parser.count d
+anew_with o stops looked (Some g) c d f follows fault e = absurd (let h = first_same _ _ e in cc)
+anew_with o stops true None c d f follows fault e =
     let same = ap (λ (x : Given × Calls). if (looked_by c x).over then (Ok false, looked_by c x)
-    else recovered o (extra_of (looked_by c x) x.0) (skipped o (looked_by c x))) (sym (next_none o c f fault)) in
-    anew_if c.over o (extra_of c None) c d f follows fault refl (same ∙ e)
-anew_with o false None c d f follows fault e = anew_if c.over o 0 c d f follows fault refl e
+    else recovered o (extra_of (looked_by c x) x.0) (skipped o stops (looked_by c x)))
+    (sym (next_none o c f fault)) in
+    anew_if c.over o stops (extra_of c None) c d f follows fault refl (same ∙ e)
+anew_with o stops false None c d f follows fault e = anew_if c.over o stops 0 c d f follows fault refl e
 
-anew_ids : (o : OptionsData) (looked : Bool) (c d : Calls) (f : Fault) (follows : Bool) → c.fault ≡ Some f
-    → recover o looked c ≡ (Ok follows, d) → OrOver c.steps.parser.count d
+anew_ids : (o : OptionsData) (stops : Stops) (looked : Bool) (c d : Calls) (f : Fault) (follows : Bool)
+    → c.fault ≡ Some f → recover o stops looked c ≡ (Ok follows, d) → OrOver c.steps.parser.count d
 unfolding recover
-anew_ids o looked c d f follows fault e = anew_with o looked c.refusal c d f follows fault e
+anew_ids o stops looked c d f follows fault e = anew_with o stops looked c.refusal c d f follows fault e
 
-from_above : (m n id : ℕ) → Above (Anew m) n id → (id ≡ 0) ⊎ (suc m ≤ id)
+pub from_above : (m n id : ℕ) → Above (Anew m) n id → (id ≡ 0) ⊎ (suc m ≤ id)
 from_above m n id (inl e) = inl e
 from_above m n id (inr p) = inr p.0
 
@@ -421,8 +430,8 @@ gives_or o n c d es (inl over) gives_none = tt
 gives_or o n c d es (inl over) (gives_next {after = after} {e = e} g more) =
     let x = called o c after e g in absurd (let h = x.not_over in cc)
 
-pub behind_fault_from : (o : OptionsData) (looked follows : Bool) (c d after : Calls) (f : Fault)
-    (es : List PlainEvent) → c.fault ≡ Some f → recover o looked c ≡ (Ok follows, d) → Gives o d es after
+pub behind_fault_from : (o : OptionsData) (stops : Stops) (looked follows : Bool) (c d after : Calls) (f : Fault)
+    (es : List PlainEvent) → c.fault ≡ Some f → recover o stops looked c ≡ (Ok follows, d) → Gives o d es after
     → IdsFrom (anchor_offset c) es
-behind_fault_from o looked follows c d after f es fault e g =
-    gives_or o c.steps.parser.count d after es (anew_ids o looked c d f follows fault e) g
+behind_fault_from o stops looked follows c d after f es fault e g =
+    gives_or o c.steps.parser.count d after es (anew_ids o stops looked c d f follows fault e) g

@@ -27,6 +27,7 @@ use Rattle.granit_machine.specs.NodeEnds.{finish_in, finish, owed_in, owed, end_
 use Rattle.granit_machine.specs.NodeEnds.{null_node, empty_span, end_properties, begin, begin_block}
 use Rattle.granit_machine.specs.NodeEnds.{block_mapping, waits, with_top, may_be_indentless}
 use Rattle.granit_machine.specs.NodeSteps.{Stepped, alias_by, tag_prefix, anchored, tagged}
+use Rattle.granit_machine.specs.NodeSteps.{known_prefix}
 use Rattle.granit_machine.specs.NodeSteps.{block_sequence, DashRole, NextEntry, NewSequence, IndentlessSequence}
 use Rattle.granit_machine.specs.NodeSteps.{dash_room, give_tail, token_number, take_dash, first_dash, open_flow}
 use Rattle.granit_machine.specs.NodeSteps.{bare_by}
@@ -385,7 +386,7 @@ num_bare_by b o (lexemes.Scalar style text) t p x =
 num_bare_by b o (lexemes.Open bracket) t p x = num_open_flow b o bracket t p x
 num_bare_by b o (lexemes.Anchor name) t p x = num_anchored b t name (flush p) (num_flush b p x)
 num_bare_by b o (lexemes.Tag handle suffix) t p x =
-    num_behind b (tag_prefix t handle (lookup_text handle p.handles)) _
+    num_behind b (tag_prefix t handle (known_prefix o handle p)) _
     (λ prefix. num_tagged b t handle suffix prefix (flush p) (num_flush b p x))
 num_bare_by b o lexemes.Dash t p x =
     num_dash b o t (first_dash (may_be_indentless (token_number t) (below_properties p.frames))) false p x

@@ -191,10 +191,10 @@ num_version : (b : Bounds) (t : Token) (v : Option PlainVersion) (major minor : 
 num_version b t (Some v) major minor p x = tt
 num_version b t None major minor p x = search (num_if, x)
 
-num_handle : (b : Bounds) (t : Token) (version : Option PlainVersion) (handle prefix : List ℕ)
-    (known : Option (List ℕ)) (p : ParserState) → Num b p → NumR b (with_handle t version handle prefix known p)
-num_handle b t version handle prefix (Some known) p x = tt
-num_handle b t version handle prefix None p x = x
+num_handle : (b : Bounds) (o : OptionsData) (t : Token) (version : Option PlainVersion) (handle prefix : List ℕ)
+    (known : Option (List ℕ)) (p : ParserState) → Num b p → NumR b (with_handle o t version handle prefix known p)
+num_handle b o t version handle prefix (Some known) p x = tt
+num_handle b o t version handle prefix None p x = x
 
 num_open_document : (b : Bounds) (t : Token) (version : Option PlainVersion) (p : ParserState) → Num b p
     → NumR b (open_document t version p)
@@ -203,16 +203,17 @@ num_open_document b t version p x =
     let q : ParserState = record p { names = []; stage = Inside } in
     num_root_frame b true (give e q) (num_give b e q refl x)
 
-num_directive : (b : Bounds) (t : Token) (d : DirectiveKind) (version : Option PlainVersion) (p : ParserState)
-    → Num b p → NumR b (with_directive t d version p)
-num_directive b t (Version major minor) version p x = num_version b t version major minor p x
-num_directive b t (TagPrefix handle prefix) version p x =
-    num_handle b t version handle prefix (lookup_text handle p.handles) p x
-num_directive b t (Reserved name parameters) version p x = x
+num_directive : (b : Bounds) (o : OptionsData) (t : Token) (d : DirectiveKind) (version : Option PlainVersion)
+    (p : ParserState)
+    → Num b p → NumR b (with_directive o t d version p)
+num_directive b o t (Version major minor) version p x = num_version b t version major minor p x
+num_directive b o t (TagPrefix handle prefix) version p x =
+    num_handle b o t version handle prefix (lookup_text handle p.handles) p x
+num_directive b o t (Reserved name parameters) version p x = x
 
 num_directives : (b : Bounds) (o : OptionsData) (kind : LexemeKind) (t : Token) (version : Option PlainVersion)
     (p : ParserState) → Num b p → NumR b (behind_directives o kind t version p)
-num_directives b o (lexemes.Directive d) t version p x = num_directive b t d version p x
+num_directives b o (lexemes.Directive d) t version p x = num_directive b o t d version p x
 num_directives b o lexemes.DocumentStart t version p x = num_open_document b t version p x
 num_directives b o kind t version p x = tt
 
@@ -233,7 +234,7 @@ num_fresh : (b : Bounds) (o : OptionsData) (kind : LexemeKind) (t : Token) (p : 
     → NumR b (when_fresh o kind t p)
 num_fresh b o lexemes.DocumentEnd t p x = num_flush b p x
 num_fresh b o lexemes.StreamEnd t p x = num_give b (event_at events.StreamEnd t.lexeme.shown) p refl x
-num_fresh b o (lexemes.Directive d) t p x = num_directive b t d None (without_directives p) x
+num_fresh b o (lexemes.Directive d) t p x = num_directive b o t d None (without_directives p) x
 num_fresh b o lexemes.DocumentStart t p x = num_open_document b t None (record p { handles = [] }) x
 num_fresh b o kind t p x = num_begin_document b o t p x
 

@@ -1,4 +1,3 @@
-mod BoundaryLaws
 mod DropLaws
 mod FaultLaws
 mod FollowLaws
@@ -6,6 +5,7 @@ mod IdLaws
 mod IdLemmas
 mod IdSteps
 mod LevelLaws
+mod OffsetLaws
 mod PlaceLaws
 mod RecoveryLaws
 mod SkipLaws

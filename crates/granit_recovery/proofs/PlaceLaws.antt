@@ -9,11 +9,11 @@ use Rattle.granit_lexemes.specs.Here.{Here, next_char, step}
 use Rattle.granit_lexemes.specs.Moves.{past_prefix_mark, steps}
 use Rattle.granit_reading.proofs.Counting.{stepped_on, marked_on}
 use Rattle.granit_steps.proofs.Futures.{and_right}
-use Rattle.granit_recovery.proofs.BoundaryLaws.{finds_next}
-use Rattle.granit_recovery.specs.Boundary.{Boundary, over_dropped, next_boundary}
+use Rattle.granit_restart.proofs.BoundaryLaws.{finds_next}
+use Rattle.granit_restart.specs.Boundary.{Boundary, over_dropped, next_boundary}
 use Rattle.granit_recovery.specs.BoundaryPlace.{place_of, IsCounted}
-use Rattle.granit_recovery.specs.NextBoundary.{Stands, stands_start, stands_end, stands_text_end, Next, next_here}
-use Rattle.granit_recovery.specs.NextBoundary.{next_behind}
+use Rattle.granit_restart.specs.NextBoundary.{Stands, stands_start, stands_end, stands_text_end, Next, next_here}
+use Rattle.granit_restart.specs.NextBoundary.{next_behind}
 
 if_true : (b : Bool) (g h : Here) → b ≡ true → (if b then g else h) ≡ g
 if_true true g h e = refl

@@ -15,9 +15,10 @@ use Rattle.granit_recovery.proofs.SkipLaws.{Known, known_start, known_along, Res
 use Rattle.granit_recovery.proofs.SkipLaws.{start_along}
 use Rattle.granit_recovery.proofs.SkipLaws.{fault_skipped, document_skipped}
 use Rattle.granit_recovery.proofs.TurnLaws.{Along, Told, NextAlong, next_along, failing_along}
-use Rattle.granit_recovery.specs.Calls.{Calls, noted, failing_in, failing, Given, given_by, next_call}
-use Rattle.granit_recovery.specs.Recovery.{resumed, skipped_by, skipped, starts_by, looked_by, answered, recovered}
-use Rattle.granit_recovery.specs.Recovery.{extra_of, recover_with, recover}
+use Rattle.granit_restart.specs.Calls.{Calls, noted, failing_in, failing, Given, given_by, next_call}
+use Rattle.granit_restart.specs.Recovery.{resumed, skipped_by, skipped, starts_by, looked_by, answered, recovered}
+use Rattle.granit_restart.specs.Recovery.{extra_of, recover_with, recover}
+use Rattle.granit_restart.specs.Skipping.{Stops}
 use Rattle.granit_recovery.specs.Streams.{GoesOn, Gives, gives_none, gives_next, Reached, reached_start, reached_call}
 use Rattle.granit_recovery.specs.Streams.{reached_recovery}
 use Rattle.granit_steps.specs.Levels.{Level, InStream, and_then, behind_event, behind_events}
@@ -157,11 +158,12 @@ looked_known o c (Some (Ok e), after) k n = starts_known o e.kind c k
 looked_known o c (Some (Err f), after) k n = n
 looked_known o c (None, after) k n = k
 
-skipped_good : (o : OptionsData) (fault : Option Fault) (between : Bool) (c : Calls) → c.fault ≡ fault
-    → c.between ≡ between → c.over ≡ false → CallsKnown o c → Good o (skipped_by o fault between c.steps)
-skipped_good o (Some f) between c fault b over k = fault_skipped o f c.steps
-skipped_good o None false c fault b over k = document_skipped o c.steps k.known
-skipped_good o None true c fault b over k = by (k.between fault b)
+skipped_good : (o : OptionsData) (stops : Stops) (fault : Option Fault) (between : Bool) (c : Calls)
+    → c.fault ≡ fault → c.between ≡ between → c.over ≡ false → CallsKnown o c
+    → Good o (skipped_by o stops fault between c.steps)
+skipped_good o stops (Some f) between c fault b over k = fault_skipped o stops f c.steps
+skipped_good o stops None false c fault b over k = document_skipped o stops c.steps k.known
+skipped_good o stops None true c fault b over k = by (k.between fault b)
   where
     by : Outside o c c.steps → Good o c.steps
     by (inl e) = absurd (cc)
@@ -186,34 +188,34 @@ answered_by o (Err f) s g = record {
   goes = λ follows e. absurd (cc);
 }
 
-recovers_by : (b : Bool) (o : OptionsData) (extra : ℕ) (c : Calls) → c.over ≡ b → CallsKnown o c
-    → Answers o (if b then (Ok false, c) else recovered o extra (skipped o c))
-recovers_by true o extra c over k = record { calls = k; goes = λ follows e. inl over }
-recovers_by false o extra c over k =
-    answered_by o _ (skipped_by o c.fault c.between c.steps)
-    (skipped_good o c.fault c.between c refl refl over k)
+recovers_by : (b : Bool) (o : OptionsData) (stops : Stops) (extra : ℕ) (c : Calls) → c.over ≡ b → CallsKnown o c
+    → Answers o (if b then (Ok false, c) else recovered o extra (skipped o stops c))
+recovers_by true o stops extra c over k = record { calls = k; goes = λ follows e. inl over }
+recovers_by false o stops extra c over k =
+    answered_by o _ (skipped_by o stops c.fault c.between c.steps)
+    (skipped_good o stops c.fault c.between c refl refl over k)
 
-with_answers : (o : OptionsData) (looked : Bool) (refusal : Option Fault) (c : Calls) → CallsKnown o c
-    → Answers o (recover_with o looked refusal c)
-with_answers o looked (Some f) c k = record { calls = k; goes = λ follows e. absurd (cc) }
-with_answers o true None c k =
+with_answers : (o : OptionsData) (stops : Stops) (looked : Bool) (refusal : Option Fault) (c : Calls)
+    → CallsKnown o c → Answers o (recover_with o stops looked refusal c)
+with_answers o stops looked (Some f) c k = record { calls = k; goes = λ follows e. absurd (cc) }
+with_answers o stops true None c k =
     let d = looked_by c (next_call o c) in
-    recovers_by d.over o (extra_of d (next_call o c).0) d refl
+    recovers_by d.over o stops (extra_of d (next_call o c).0) d refl
     (looked_known o c (next_call o c) k (call_known o c k))
-with_answers o false None c k = recovers_by c.over o 0 c refl k
+with_answers o stops false None c k = recovers_by c.over o stops 0 c refl k
 
-recover_answers : (o : OptionsData) (looked : Bool) (c : Calls) → CallsKnown o c
-    → Answers o (recover o looked c)
+recover_answers : (o : OptionsData) (stops : Stops) (looked : Bool) (c : Calls) → CallsKnown o c
+    → Answers o (recover o stops looked c)
 unfolding recover
-recover_answers o looked c k = with_answers o looked c.refusal c k
+recover_answers o stops looked c k = with_answers o stops looked c.refusal c k
 
 -- ---- whatever was called
 
 reached_known : (o : OptionsData) (c : Calls) → Reached o c → CallsKnown o c
 reached_known o c (reached_start text) = record { known = known_start text refl; between = λ f b. absurd (cc) }
 reached_known o c (reached_call {c = d} r) = call_known o d (reached_known o d r)
-reached_known o c (reached_recovery {c = d} looked r) =
-    (recover_answers o looked d (reached_known o d r)).calls
+reached_known o c (reached_recovery {c = d} stops looked r) =
+    (recover_answers o stops looked d (reached_known o d r)).calls
 
 pub record Called (o : OptionsData) (c : Calls) (e : PlainEvent) (after : Calls) : Type 0 where
   pub steps : StepState
@@ -286,19 +288,19 @@ goes_on o c d es (inl over) (gives_next {after = after} {e = e} g more) =
     let x = called o c after e g in absurd (let n = x.not_over in cc)
 
 -- behind an answer of recovery a stream goes on
-pub recovered_goes_on : (o : OptionsData) (looked follows : Bool) (c d e : Calls) (es : List PlainEvent)
-    → Reached o c → recover o looked c ≡ (Ok follows, d) → Gives o d es e → GoesOn es
-recovered_goes_on o looked follows c d e es r is g =
-    let a = recover_answers o looked c (reached_known o c r) in
+pub recovered_goes_on : (o : OptionsData) (stops : Stops) (looked follows : Bool) (c d e : Calls)
+    (es : List PlainEvent) → Reached o c → recover o stops looked c ≡ (Ok follows, d) → Gives o d es e → GoesOn es
+recovered_goes_on o stops looked follows c d e es r is g =
+    let a = recover_answers o stops looked c (reached_known o c r) in
     let x = a.goes follows (first_same _ _ is) in
     goes_on o d e es (subst (λ (z : Calls). Outside o z z.steps) (second_same _ _ is) x) g
 
 -- ---- refusals and ends
 
-refused_with : (o : OptionsData) (looked : Bool) (f : Fault) (c : Calls) → c.refusal ≡ Some f
-    → recover o looked c ≡ (Err f, c)
+refused_with : (o : OptionsData) (stops : Stops) (looked : Bool) (f : Fault) (c : Calls) → c.refusal ≡ Some f
+    → recover o stops looked c ≡ (Err f, c)
 unfolding recover
-refused_with o looked f c e = ap (λ r. recover_with o looked r c) e
+refused_with o stops looked f c e = ap (λ r. recover_with o stops looked r c) e
 
 refusal_of : (r : Result Bool Fault) (c d : Calls) (f : Fault) → answered r c ≡ (Err f, d) → d.refusal ≡ Some f
 refusal_of (Ok true) c d f e = absurd (let g = first_same _ _ e in cc)
@@ -312,33 +314,34 @@ refusal_if : (b : Bool) (o : OptionsData) (extra : ℕ) (c s d : Calls) (f : Fau
 refusal_if true o extra c s d f e = absurd (let g = first_same _ _ e in cc)
 refusal_if false o extra c s d f e = refusal_of _ s d f e
 
-refusal_with : (o : OptionsData) (looked : Bool) (refusal : Option Fault) (c d : Calls) (f : Fault)
-    → c.refusal ≡ refusal → recover_with o looked refusal c ≡ (Err f, d) → d.refusal ≡ Some f
-refusal_with o looked (Some x) c d f r e =
+refusal_with : (o : OptionsData) (stops : Stops) (looked : Bool) (refusal : Option Fault) (c d : Calls) (f : Fault)
+    → c.refusal ≡ refusal → recover_with o stops looked refusal c ≡ (Err f, d) → d.refusal ≡ Some f
+refusal_with o stops looked (Some x) c d f r e =
     let same : x ≡ f = let g = first_same _ _ e in cc in
     ap (λ (z : Calls). z.refusal) (sym (second_same _ _ e)) ∙ r ∙ ap (λ y. Some y) same
-refusal_with o true None c d f r e = refusal_if (looked_by c (next_call o c)).over o _ _ _ d f e
-refusal_with o false None c d f r e = refusal_if c.over o 0 c (skipped o c) d f e
+refusal_with o stops true None c d f r e = refusal_if (looked_by c (next_call o c)).over o _ _ _ d f e
+refusal_with o stops false None c d f r e = refusal_if c.over o 0 c (skipped o stops c) d f e
 
-refusal_left : (o : OptionsData) (looked : Bool) (c d : Calls) (f : Fault)
-    → recover o looked c ≡ (Err f, d) → d.refusal ≡ Some f
+refusal_left : (o : OptionsData) (stops : Stops) (looked : Bool) (c d : Calls) (f : Fault)
+    → recover o stops looked c ≡ (Err f, d) → d.refusal ≡ Some f
 unfolding recover
-refusal_left o looked c d f e = refusal_with o looked c.refusal c d f refl e
+refusal_left o stops looked c d f e = refusal_with o stops looked c.refusal c d f refl e
 
 -- a refusal of recovery is answered again
-pub refused_again : (o : OptionsData) (looked peeked : Bool) (c d : Calls) (f : Fault)
-    → recover o looked c ≡ (Err f, d) → recover o peeked d ≡ (Err f, d)
-refused_again o looked peeked c d f e = refused_with o peeked f d (refusal_left o looked c d f e)
+pub refused_again : (o : OptionsData) (stops later : Stops) (looked peeked : Bool) (c d : Calls) (f : Fault)
+    → recover o stops looked c ≡ (Err f, d) → recover o later peeked d ≡ (Err f, d)
+refused_again o stops later looked peeked c d f e =
+    refused_with o later peeked f d (refusal_left o stops looked c d f e)
 
 or_true : (b : Bool) → (b || true) ≡ true
 or_true true = refl
 or_true false = refl
 
 -- and no event follows it
-pub refused_none : (o : OptionsData) (looked : Bool) (c d : Calls) (f : Fault)
-    → recover o looked c ≡ (Err f, d) → next_call o d ≡ (None, d)
+pub refused_none : (o : OptionsData) (stops : Stops) (looked : Bool) (c d : Calls) (f : Fault)
+    → recover o stops looked c ≡ (Err f, d) → next_call o d ≡ (None, d)
 unfolding next_call
-refused_none o looked c d f e =
+refused_none o stops looked c d f e =
     ap (λ b. if b then (None, d) else given_by o d (next_event o d.steps))
-    (ap (λ r. (d.over || is_some d.fault) || is_some r) (refusal_left o looked c d f e)
+    (ap (λ r. (d.over || is_some d.fault) || is_some r) (refusal_left o stops looked c d f e)
     ∙ or_true (d.over || is_some d.fault))

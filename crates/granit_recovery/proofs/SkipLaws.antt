@@ -16,13 +16,15 @@ use Rattle.granit_machine.specs.Parser.{feed}
 use Rattle.granit_machine.specs.Reader.{LexTurn, lex_turn}
 use Rattle.granit_recovery.proofs.LevelLaws.{Open, all_closed, in_stream, split, event_keeps, events_keep}
 use Rattle.granit_recovery.proofs.LevelLaws.{document_leaves, stream_leaves}
-use Rattle.granit_recovery.proofs.TurnLaws.{Along, along_stream, along_end, has_end, items, TurnAlong, step_along}
-use Rattle.granit_recovery.specs.Boundary.{Boundary, AtStart, PastEnd, AtTextEnd, next_boundary}
-use Rattle.granit_recovery.specs.Header.{is_in_header}
-use Rattle.granit_recovery.specs.Restart.{anew, at_boundary, at_lexeme, at_found, behind_fault, read_boundary}
-use Rattle.granit_recovery.specs.Skipping.{Ahead, NoEnd, BehindDocument, AtStreamEnd, ahead_by, ahead, ends_before}
-use Rattle.granit_recovery.specs.Skipping.{skip_turn, with_pending, skip_ahead, skip_in, skip, restarted}
-use Rattle.granit_recovery.specs.Skipping.{skipped_fault, skipped_document}
+use Rattle.granit_recovery.proofs.TurnLaws.{Along, along_stream, along_end, has_end, TurnAlong, step_along}
+use Rattle.granit_restart.proofs.MarkLaws.{items}
+use Rattle.granit_restart.specs.Boundary.{Boundary, AtStart, PastEnd, AtTextEnd, next_boundary}
+use Rattle.granit_restart.specs.Header.{is_in_header}
+use Rattle.granit_restart.specs.Restart.{anew, at_boundary, at_lexeme, at_found, behind_fault, behind_fault_at}
+use Rattle.granit_restart.specs.Restart.{cursor_at, read_boundary}
+use Rattle.granit_restart.specs.Skipping.{Ahead, NoEnd, BehindDocument, AtStreamEnd, SkipEnd, Ended, Failed, Stops}
+use Rattle.granit_restart.specs.Skipping.{ahead_by, ahead, ends_before, skip_turn, with_pending, skip_ahead, skip_in}
+use Rattle.granit_restart.specs.Skipping.{skip, restarted, skipped_fault, skipped_to, skipped_document}
 use Rattle.granit_steps.proofs.Nesting.{levels_of}
 use Rattle.granit_steps.proofs.StepLaws.{step_turn-Shortens}
 use Rattle.granit_steps.specs.Levels.{Level, InStream, behind_event, behind_events}
@@ -126,23 +128,20 @@ boundary_along s (AtStart h) = anew_along false _ _ s refl
 boundary_along s (PastEnd h) = anew_along true [] h s refl
 boundary_along s (AtTextEnd h) = anew_along false [] h s refl
 
-lexeme_along : (s : StepState) (kind : LexemeKind) (l : Lexeme) → l.kind ≡ kind
-    → Along (InStream ∷ []) (at_lexeme s kind l).1
-lexeme_along s lexemes.DocumentStart l e = anew_along false _ _ s
+lexeme_along : (h : Here) (s : StepState) (kind : LexemeKind) (l : Lexeme) → l.kind ≡ kind
+    → Along (InStream ∷ []) (at_lexeme h s kind l).1
+lexeme_along h s lexemes.DocumentStart l e = anew_along false _ _ s
     (ap (λ k. has_end (OfLexeme (record l { kind = k; ends_column = false }) ∷ [])) e)
-lexeme_along s lexemes.DocumentEnd l e = anew_along true [] s.reading.reader.here s refl
-lexeme_along s kind l e = anew_along false [] s.reading.reader.here s refl
+lexeme_along h s lexemes.DocumentEnd l e = anew_along true [] h s refl
+lexeme_along h s kind l e = anew_along false [] h s refl
 
-found_along : (s : StepState) (r : Option Lexeme) → Along (InStream ∷ []) (at_found s r).1
-found_along s (Some l) = lexeme_along s l.kind l refl
-found_along s None = boundary_along s (next_boundary s.reading.reader.here)
+found_along : (h : Here) (s : StepState) (r : Option Lexeme) → Along (InStream ∷ []) (at_found h s r).1
+found_along h s (Some l) = lexeme_along h s l.kind l refl
+found_along h s None = boundary_along s (next_boundary h)
 
-restart_along : (s : StepState) → Along (InStream ∷ []) (behind_fault s).1
-unfolding behind_fault
-restart_along s = found_along s (read_boundary s.reading.reader.here s.queue)
-
-restart_good : (o : OptionsData) (f : Fault) (s : StepState) → Good o (restarted f s)
-restart_good o f s = good_stream o (restarted f s) (restart_along s)
+restart_along : (stop : Here) (s : StepState) → Along (InStream ∷ []) (behind_fault stop s).1
+unfolding behind_fault_at
+restart_along stop s = let h = cursor_at stop s.reading in found_along h s (read_boundary h s.queue)
 
 -- ---- what is ahead
 
@@ -170,80 +169,86 @@ ahead_goes (x ∷ es) ls ms p e =
 
 -- ---- skipping
 
-abbrev GoodFor : OptionsData → (Fault → StepState → StepState) → Type 0
-GoodFor o fails = (f : Fault) (s : StepState) → Good o (fails f s)
+-- what a stream does where skipping ends; where it failed, all is dropped
+abbrev EndGood : OptionsData → SkipEnd → Type 0
+EndGood o (Ended s) = Good o s
+EndGood o (Failed f s) = Unit {0}
 
-abbrev SkipsGood : OptionsData → (Fault → StepState → StepState) → ℕ → Type 0
-SkipsGood o fails n = (s : StepState) → step_size s < n → Known s → Good o (skip_in o fails n s)
+abbrev SkipsGood : OptionsData → ℕ → Type 0
+SkipsGood o n = (s : StepState) → step_size s < n → Known s → EndGood o (skip_in o n s)
 
-fault_good : (b : Bool) (o : OptionsData) (fails : Fault → StepState → StepState) (s : StepState) (f : Fault)
-    → GoodFor o fails → Known s → step_turn o s ≡ Err f → Good o (if b then s else fails f s)
-fault_good true o fails s f good k e = record { known = k; resumed = failed_silent o s f e }
-fault_good false o fails s f good k e = good f s
+fault_good : (b : Bool) (o : OptionsData) (s : StepState) (f : Fault) → Known s → step_turn o s ≡ Err f
+    → EndGood o (if b then Ended s else Failed f s)
+fault_good true o s f k e = record { known = k; resumed = failed_silent o s f e }
+fault_good false o s f k e = tt
 
-turn_good : (o : OptionsData) (fails : Fault → StepState → StepState) (n : ℕ) (ls : List Level) (s : StepState)
-    (r : Turn) → GoodFor o fails → SkipsGood o fails n → Open ls → Along ls s → s.pending ≡ []
-    → step_size s < suc n → step_turn o s ≡ r → TurnAlong ls r
-    → Good o (skip_turn (skip_in o fails n) fails s r)
-turn_good o fails n ls s (Ok (Some y, t)) good more p a none h e b =
+turn_good : (o : OptionsData) (n : ℕ) (ls : List Level) (s : StepState) (r : Turn) → SkipsGood o n → Open ls
+    → Along ls s → s.pending ≡ [] → step_size s < suc n → step_turn o s ≡ r → TurnAlong ls r
+    → EndGood o (skip_turn (skip_in o n) s r)
+turn_good o n ls s (Ok (Some y, t)) more p a none h e b =
     let less = step_turn-Shortens o s t y e in more t (omega (arith, less, h)) (known_along p b)
-turn_good o fails n ls s (Ok (None, t)) good more p a none h e b =
+turn_good o n ls s (Ok (None, t)) more p a none h e b =
     record { known = known_along p a; resumed = none_silent o s t e none }
-turn_good o fails n ls s (Err f) good more p a none h e b =
-    fault_good (ends_before s f) o fails s f good (known_along p a) e
+turn_good o n ls s (Err f) more p a none h e b = fault_good (ends_before s f) o s f (known_along p a) e
 
-emptied_good : (o : OptionsData) (fails : Fault → StepState → StepState) (n : ℕ) (ls : List Level) (s : StepState)
-    → GoodFor o fails → SkipsGood o fails n → Open ls → Along ls (with_pending [] s) → step_size s < suc n
-    → Good o (skip_turn (skip_in o fails n) fails (with_pending [] s) (step_turn o (with_pending [] s)))
-emptied_good o fails n ls s good more p a h =
-    turn_good o fails n ls (with_pending [] s) (step_turn o (with_pending [] s)) good more p a refl h refl
+emptied_good : (o : OptionsData) (n : ℕ) (ls : List Level) (s : StepState) → SkipsGood o n → Open ls
+    → Along ls (with_pending [] s) → step_size s < suc n
+    → EndGood o (skip_turn (skip_in o n) (with_pending [] s) (step_turn o (with_pending [] s)))
+emptied_good o n ls s more p a h =
+    turn_good o n ls (with_pending [] s) (step_turn o (with_pending [] s)) more p a refl h refl
     (step_along o ls (with_pending [] s) a)
 
-ahead_good : (o : OptionsData) (fails : Fault → StepState → StepState) (n : ℕ) (ms : List Level) (s : StepState)
-    (r : Ahead) → GoodFor o fails → SkipsGood o fails n → Open ms
+ahead_good : (o : OptionsData) (n : ℕ) (ms : List Level) (s : StepState) (r : Ahead) → SkipsGood o n → Open ms
     → ((es : List PlainEvent) (ls : List Level) → behind_events es ls ≡ Some ms → Along ls (with_pending es s))
     → step_size s < suc n → AheadGoes ms r
-    → Good o (skip_ahead (λ t. skip_turn (skip_in o fails n) fails t (step_turn o t)) s r)
-ahead_good o fails n ms s NoEnd good more p along h goes = emptied_good o fails n ms s good more p (along [] ms refl) h
-ahead_good o fails n ms s (BehindDocument es) good more p along h goes =
+    → EndGood o (skip_ahead (λ t. skip_turn (skip_in o n) t (step_turn o t)) s r)
+ahead_good o n ms s NoEnd more p along h goes = emptied_good o n ms s more p (along [] ms refl) h
+ahead_good o n ms s (BehindDocument es) more p along h goes =
     good_stream o (with_pending es s) (along es (InStream ∷ []) goes)
-ahead_good o fails n ms s (AtStreamEnd es) good more p along h goes =
+ahead_good o n ms s (AtStreamEnd es) more p along h goes =
     good_stream o (with_pending es s) (along es (InStream ∷ []) goes)
 
-known_good : (o : OptionsData) (fails : Fault → StepState → StepState) (n : ℕ) (s : StepState) → GoodFor o fails
-    → SkipsGood o fails n → step_size s < suc n → Known s
-    → Good o (skip_ahead (λ t. skip_turn (skip_in o fails n) fails t (step_turn o t)) s (ahead s.pending))
-known_good o fails n s good more h (known_start text e) =
-    subst (λ s. Good o (skip_ahead (λ t. skip_turn (skip_in o fails n) fails t (step_turn o t)) s (ahead s.pending)))
-    (sym e) (emptied_good o fails n (InStream ∷ []) (steps_start text) good more in_stream (start_along text)
+known_good : (o : OptionsData) (n : ℕ) (s : StepState) → SkipsGood o n → step_size s < suc n → Known s
+    → EndGood o (skip_ahead (λ t. skip_turn (skip_in o n) t (step_turn o t)) s (ahead s.pending))
+known_good o n s more h (known_start text e) =
+    subst (λ s. EndGood o (skip_ahead (λ t. skip_turn (skip_in o n) t (step_turn o t)) s (ahead s.pending)))
+    (sym e) (emptied_good o n (InStream ∷ []) (steps_start text) more in_stream (start_along text)
     (subst (λ s. step_size s < suc n) e h))
-known_good o fails n s good more h (known_along {ls = ls} p (along_stream e rests w)) =
+known_good o n s more h (known_along {ls = ls} p (along_stream e rests w)) =
     let ms = levels_of s.parser.frames s.parser.stage in
-    ahead_good o fails n ms s (ahead s.pending) good more (events_keep s.pending ls ms p e)
+    ahead_good o n ms s (ahead s.pending) more (events_keep s.pending ls ms p e)
     (λ es ks g. along_stream g rests w) h (ahead_goes s.pending ls ms p e)
-known_good o fails n s good more h (known_along {ls = ls} p (along_end e over only ended)) =
-    ahead_good o fails n [] s (ahead s.pending) good more all_closed (λ es ks g. along_end g over only ended) h
+known_good o n s more h (known_along {ls = ls} p (along_end e over only ended)) =
+    ahead_good o n [] s (ahead s.pending) more all_closed (λ es ks g. along_end g over only ended) h
     (ahead_goes s.pending ls [] p e)
 
-skips_good : (o : OptionsData) (fails : Fault → StepState → StepState) (n : ℕ) → GoodFor o fails
-    → SkipsGood o fails n
-skips_good o fails zero good s h k = absurd (omega arith)
-skips_good o fails (suc n) good s h k = known_good o fails n s good (skips_good o fails n good) h k
+skips_good : (o : OptionsData) (n : ℕ) → SkipsGood o n
+skips_good o zero s h k = absurd (omega arith)
+skips_good o (suc n) s h k = known_good o n s (skips_good o n) h k
 
-skip_good : (o : OptionsData) (fails : Fault → StepState → StepState) (s : StepState) → GoodFor o fails → Known s
-    → Good o (skip o fails s)
-skip_good o fails s good k = skips_good o fails (suc (step_size s)) good s (omega arith) k
+skip_good : (o : OptionsData) (s : StepState) → Known s → EndGood o (skip o s)
+skip_good o s k = skips_good o (suc (step_size s)) s (omega arith) k
 
-header_good : (o : OptionsData) (b : Bool) (x : Bool × StepState) → Along (InStream ∷ []) x.1
-    → Good o (if b then skip o restarted x.1 else x.1)
-header_good o true x a = skip_good o restarted x.1 (restart_good o) (known_along in_stream a)
-header_good o false x a = good_stream o x.1 a
+restarted_good : (o : OptionsData) (stop : Here) (x : SkipEnd) → EndGood o x → Good o (restarted stop x)
+restarted_good o stop (Ended s) g = g
+restarted_good o stop (Failed f s) g = good_stream o (behind_fault stop s).1 (restart_along stop s)
+
+header_good : (o : OptionsData) (stop : Here) (b : Bool) (x : Bool × StepState) → Along (InStream ∷ []) x.1
+    → Good o (if b then restarted stop (skip o x.1) else x.1)
+header_good o stop true x a = restarted_good o stop (skip o x.1) (skip_good o x.1 (known_along in_stream a))
+header_good o stop false x a = good_stream o x.1 a
 
 -- behind a fault
-pub fault_skipped : (o : OptionsData) (f : Fault) (s : StepState) → Good o (skipped_fault o f s)
-fault_skipped o f s = header_good o (is_in_header o s f && (behind_fault s).0) (behind_fault s)
-    (restart_along s)
+pub fault_skipped : (o : OptionsData) (stops : Stops) (f : Fault) (s : StepState) → Good o (skipped_fault o stops f s)
+fault_skipped o stops f s =
+    header_good o stops.second (is_in_header o s f && (behind_fault stops.first s).0) (behind_fault stops.first s)
+    (restart_along stops.first s)
+
+skipped_good : (o : OptionsData) (stops : Stops) (x : SkipEnd) → EndGood o x → Good o (skipped_to o stops x)
+skipped_good o stops (Ended s) g = g
+skipped_good o stops (Failed f s) g = fault_skipped o stops f s
 
 -- behind a document
-pub document_skipped : (o : OptionsData) (s : StepState) → Known s → Good o (skipped_document o s)
-document_skipped o s k = skip_good o (skipped_fault o) s (fault_skipped o) k
+pub document_skipped : (o : OptionsData) (stops : Stops) (s : StepState) → Known s
+    → Good o (skipped_document o stops s)
+document_skipped o stops s k = skipped_good o stops (skip o s) (skip_good o s k)

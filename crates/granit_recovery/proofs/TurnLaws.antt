@@ -1,8 +1,7 @@
 -- The machine's states go along a stream: what their pending events leave open is what their frames are in, and each
 -- turn keeps that.
-use Rattle.std.proofs.Common.{◌≡◌, ℕ, zero, suc, Bool, true, false, ◌||◌, List, [], ◌∷◌, ◌++◌, map, Option, Some, None}
-use Rattle.std.proofs.Common.{Result, Ok, Err, refl, sym, ap, subst, ◌∙◌, append_assoc}
-use Rattle.std.proofs.lemmas.List.{append-nil}
+use Rattle.std.proofs.Common.{◌≡◌, ℕ, zero, suc, Bool, true, false, ◌||◌, List, [], ◌∷◌, ◌++◌, Option, Some, None}
+use Rattle.std.proofs.Common.{Result, Ok, Err, refl, sym, ap, subst, ◌∙◌}
 use Rattle.std.specs.Prelude.{if◌then◌else◌}
 use Rattle.granit_error.specs.OptionsData.{OptionsData}
 use Rattle.granit_lexemes.specs.Lexeme.{Lexeme, Item, OfLexeme, OfComment}
@@ -16,14 +15,14 @@ use Rattle.granit_machine.specs.Parser.{feed}
 use Rattle.granit_machine.specs.Reader.{behind_read, is_end, is_end_kind, lex_turn, read}
 use Rattle.granit_machine.specs.ReaderState.{Read}
 use Rattle.granit_recovery.proofs.LevelLaws.{split}
-use Rattle.granit_recovery.specs.Calls.{failing_by, failing_in}
-use Rattle.granit_recovery.specs.Following.{item_of}
+use Rattle.granit_restart.proofs.MarkLaws.{items, pushed_items}
+use Rattle.granit_restart.specs.Calls.{failing_by, failing_in}
 use Rattle.granit_steps.proofs.Futures.{pushed_nil}
 use Rattle.granit_steps.proofs.KeyReads.{possibles, Items, IsComment, Lexed, read_keys}
 use Rattle.granit_steps.proofs.Nesting.{levels_of}
 use Rattle.granit_steps.proofs.StreamNesting.{is_end_item, Rests, Over, Fed, feed_fed, comment_over}
 use Rattle.granit_steps.specs.Levels.{Level, behind_event, behind_events}
-use Rattle.granit_steps.specs.Steps.{StepState, incoming, marked_by, unflagged, pushed, may_go, line_behind, Turn}
+use Rattle.granit_steps.specs.Steps.{StepState, incoming, may_go, line_behind, Turn}
 use Rattle.granit_steps.specs.Steps.{with_read, read_unless, read_more, with_fed, feed_front, front_turn, turn_by}
 use Rattle.granit_steps.specs.Steps.{step_turn, first_pending, settle, next_event}
 
@@ -46,9 +45,6 @@ has_end (i ∷ is) = is_end_item i || has_end is
 abbrev pub Waits : (ended : Bool) → List Item → Type 0
 Waits true is = Fit is
 Waits false is = has_end is ≡ false
-
-abbrev pub items : List FlaggedItem → List Item
-items q = map item_of q
 
 or_left : (a b : Bool) → (a || b) ≡ false → a ≡ false
 or_left true b e = e
@@ -117,17 +113,6 @@ read_waits b number before [] t p = absurd p
 read_waits b number before (OfComment c ∷ []) t p = comment_waits b c
 read_waits b number before (OfComment c ∷ i ∷ is) t p = absurd p
 read_waits b number before (OfLexeme l ∷ is) t p = tail_waits b l is p.3
-
-marked_items : (i : Item) (q : List FlaggedItem)
-    → items (map (marked_by i) q ++ unflagged i ∷ []) ≡ items q ++ i ∷ []
-marked_items i [] = refl
-marked_items i (f ∷ q) = ap (λ xs. f.item ∷ xs) (marked_items i q)
-
-pushed_items : (q : List FlaggedItem) (is : List Item) → items (pushed q is) ≡ items q ++ is
-pushed_items q [] = sym (append-nil (items q))
-pushed_items q (i ∷ is) =
-    pushed_items (map (marked_by i) q ++ unflagged i ∷ []) is ∙ ap (λ xs. xs ++ is) (marked_items i q)
-    ∙ append_assoc (items q) (i ∷ []) is
 
 -- ---- states along a stream
 

@@ -2,7 +2,7 @@
 use Rattle.std.specs.Prelude.{ℕ, List}
 use Rattle.granit_language.specs.Counting.{CountedHere}
 use Rattle.granit_lexemes.specs.Here.{Here}
-use Rattle.granit_recovery.specs.Boundary.{Boundary, AtStart, PastEnd, AtTextEnd}
+use Rattle.granit_restart.specs.Boundary.{Boundary, AtStart, PastEnd, AtTextEnd}
 
 abbrev pub place_of : Boundary → Here
 place_of (AtStart h) = h

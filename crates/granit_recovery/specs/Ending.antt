@@ -7,8 +7,8 @@ use Rattle.granit_lexemes.specs.Lexeme.{LexemeKind, Item, OfLexeme, OfComment}
 use Rattle.granit_lexemes.specs.PlainEvent.{PlainEvent, EventKind, StreamEnd, Comment}
 use Rattle.granit_machine.specs.Reader.{LexState}
 use Rattle.granit_machine.specs.ReaderState.{ReaderState}
-use Rattle.granit_recovery.specs.Following.{item_of}
-use Rattle.granit_recovery.specs.Header.{is_directives}
+use Rattle.granit_restart.specs.Following.{item_of}
+use Rattle.granit_restart.specs.Header.{is_directives}
 use Rattle.granit_steps.specs.Steps.{StepState}
 
 -- the first event that is no comment

@@ -1,13 +1,5 @@
-pub mod Boundary
 pub mod BoundaryPlace
-pub mod Calls
 pub mod Ending
-pub mod Following
-pub mod Header
 pub mod Ids
-pub mod NextBoundary
-pub mod Recovery
 pub mod RecoveryRows
-pub mod Restart
-pub mod Skipping
 pub mod Streams

@@ -1,11 +1,14 @@
 -- What is printed where recovery follows each fault, or each so many events, for the worked rows.
 use Rattle.std.specs.Prelude.{ℕ, zero, suc, Bool, true, false, ◌==◌, if◌then◌else◌, List, [], ◌++◌, codes, Some, None}
 use Rattle.std.specs.Prelude.{Result, Ok, Err}
-use Rattle.granit_error.specs.OptionsData.{default_options}
+use Rattle.granit_error.specs.OptionsData.{OptionsData, default_options}
+use Rattle.granit_lexemes.specs.Here.{Here, start_of}
 use Rattle.granit_lexemes.specs.Line.{event_line, fault_line}
+use Rattle.granit_lexemes.specs.Moves.{steps}
 use Rattle.granit_lexemes.specs.Outcome.{Fault}
-use Rattle.granit_recovery.specs.Calls.{Calls, Given, calls_start, next_call}
-use Rattle.granit_recovery.specs.Recovery.{recover}
+use Rattle.granit_restart.specs.Calls.{Calls, Given, calls_start, next_call}
+use Rattle.granit_restart.specs.Recovery.{recover}
+use Rattle.granit_restart.specs.Skipping.{Stops}
 
 abbrev pub answer_line : Result Bool Fault → List ℕ
 answer_line (Ok true) = codes "proceed true\n"
@@ -16,25 +19,41 @@ abbrev pub lines_on : (Calls → List ℕ) → Result Bool Fault × Calls → Li
 lines_on later (Ok follows, c) = answer_line (Ok follows) ++ later c
 lines_on later (Err f, c) = answer_line (Err f)
 
-abbrev pub recovery_lines : (Calls → List ℕ) → Calls → List ℕ
-recovery_lines later c = lines_on later (recover default_options false c)
+abbrev pub recovery_lines : OptionsData → (Calls → Stops) → (Calls → List ℕ) → Calls → List ℕ
+recovery_lines o stops later c = lines_on later (recover o (stops c) false c)
 
 -- recovery behind each so many events, of which some were given, and behind each fault
-abbrev pub lines_by : (every given : ℕ) → (ℕ → Calls → List ℕ) → Given × Calls → List ℕ
-lines_by every given later (None, c) = []
-lines_by every given later (Some (Ok e), c) =
-    event_line e ++ (if suc given == every then recovery_lines (later 0) c else later (suc given) c)
-lines_by every given later (Some (Err f), c) = fault_line f ++ recovery_lines (later given) c
+abbrev pub lines_by : OptionsData → (Calls → Stops) → (every given : ℕ) → (ℕ → Calls → List ℕ) → Given × Calls
+    → List ℕ
+lines_by o stops every given later (None, c) = []
+lines_by o stops every given later (Some (Ok e), c) =
+    event_line e
+    ++ (if suc given == every then recovery_lines o stops (later 0) c else later (suc given) c)
+lines_by o stops every given later (Some (Err f), c) = fault_line f ++ recovery_lines o stops (later given) c
 
-abbrev pub lines_of : (every : ℕ) → ℕ → ℕ → Calls → List ℕ
-lines_of every zero given c = []
-lines_of every (suc n) given c =
-    lines_by every given (lines_of every n) (next_call default_options c)
+abbrev pub lines_of : OptionsData → (Calls → Stops) → (every : ℕ) → ℕ → ℕ → Calls → List ℕ
+lines_of o stops every zero given c = []
+lines_of o stops every (suc n) given c = lines_by o stops every given (lines_of o stops every n) (next_call o c)
+
+abbrev pub both_at : Here → Stops
+both_at h = record { first = h; second = h }
+
+-- reads that are refused stop where they began
+abbrev pub at_once : Calls → Stops
+at_once c = both_at c.steps.reading.reader.here
 
 -- the lines of thirty calls at most, with recovery behind faults
+abbrev pub recovers_under : OptionsData → List ℕ → List ℕ
+recovers_under o text = lines_of o at_once 0 30 0 (calls_start text)
+
 abbrev pub recovers : List ℕ → List ℕ
-recovers text = lines_of 0 30 0 (calls_start text)
+recovers text = recovers_under default_options text
+
+-- the same where the reads that are refused stop behind so many characters of the text
+abbrev pub recovers_from : (stop : ℕ) → List ℕ → List ℕ
+recovers_from stop text =
+    lines_of default_options (λ c. both_at (steps stop (start_of text))) 0 30 0 (calls_start text)
 
 -- and with recovery behind each so many events
 abbrev pub skips : (every : ℕ) → List ℕ → List ℕ
-skips every text = lines_of every 30 0 (calls_start text)
+skips every text = lines_of default_options at_once every 30 0 (calls_start text)

@@ -2,8 +2,9 @@
 use Rattle.std.specs.Prelude.{◌≡◌, ℕ, Bool, List, [], ◌∷◌, ◌++◌, Some, Ok}
 use Rattle.granit_error.specs.OptionsData.{OptionsData}
 use Rattle.granit_lexemes.specs.PlainEvent.{PlainEvent}
-use Rattle.granit_recovery.specs.Calls.{Calls, calls_start, next_call}
-use Rattle.granit_recovery.specs.Recovery.{recover}
+use Rattle.granit_restart.specs.Calls.{Calls, calls_start, next_call}
+use Rattle.granit_restart.specs.Recovery.{recover}
+use Rattle.granit_restart.specs.Skipping.{Stops}
 use Rattle.granit_steps.specs.Levels.{InStream, behind_events}
 
 -- events that may come in a stream behind its start, and behind which the rest of a balanced one may
@@ -17,8 +18,9 @@ pub data Gives (o : OptionsData) : Calls → List PlainEvent → Calls → Type 
   gives_next : {c d after : Calls} {e : PlainEvent} {es : List PlainEvent} → next_call o c ≡ (Some (Ok e), after)
       → Gives o after es d → Gives o c (e ∷ es) d
 
--- calls and recoveries lead there from the start of a text
+-- calls and recoveries lead there from the start of a text, wherever reads that were refused stopped
 pub data Reached (o : OptionsData) : Calls → Type 0 where
   reached_start : (text : List ℕ) → Reached o (calls_start text)
   reached_call : {c : Calls} → Reached o c → Reached o (next_call o c).1
-  reached_recovery : {c : Calls} → (looked : Bool) → Reached o c → Reached o (recover o looked c).1
+  reached_recovery : {c : Calls} → (stops : Stops) (looked : Bool) → Reached o c
+      → Reached o (recover o stops looked c).1

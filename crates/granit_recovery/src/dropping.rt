@@ -1,26 +1,28 @@
 //! What recovery drops by where the parser stands.
 ghost use Rattle.std.specs.Prelude.{◌≡◌, Bool, true, false, None, [], Ok};
 ghost use Rattle.granit_error.specs.OptionsData.{OptionsData};
-ghost use Rattle.granit_recovery.specs.Calls.{Calls};
-ghost use Rattle.granit_recovery.specs.Recovery.{recover};
-ghost use Rattle.granit_recovery.specs.Restart.{behind_fault, dropped};
+ghost use Rattle.granit_lexemes.specs.Here.{Here};
+ghost use Rattle.granit_restart.specs.Calls.{Calls};
+ghost use Rattle.granit_restart.specs.Recovery.{recover};
+ghost use Rattle.granit_restart.specs.Restart.{behind_fault, dropped};
+ghost use Rattle.granit_restart.specs.Skipping.{Stops};
 ghost use Rattle.granit_steps.specs.Steps.{StepState};
 
-/// Behind a fault the open document goes with its frames, its anchors and its tags, and so do events that
-/// weren't given.
+/// Behind a fault the open document goes with its frames, its anchors and its tags, but for handles that stay, and so
+/// do events that weren't given.
 pub fn a_fault_drops_its_document()
-    ensures { (s : StepState) → ((behind_fault s).1.parser ≡ dropped s.parser)
-        × ((behind_fault s).1.pending ≡ []) }
+    ensures { (stop : Here) (s : StepState) → ((behind_fault stop s).1.parser ≡ dropped s.parser)
+        × ((behind_fault stop s).1.pending ≡ []) }
 {}
 
 /// Directly behind the end of a document nothing is dropped.
 pub fn nothing_is_dropped_between_documents()
-    ensures { (o : OptionsData) (c : Calls) → c.refusal ≡ None → c.fault ≡ None → c.over ≡ false
-        → c.between ≡ true → (recover o false c).1.steps ≡ c.steps }
+    ensures { (o : OptionsData) (stops : Stops) (c : Calls) → c.refusal ≡ None → c.fault ≡ None
+        → c.over ≡ false → c.between ≡ true → (recover o stops false c).1.steps ≡ c.steps }
 {}
 
 /// Behind the end of the stream there is no document, and nothing changes.
 pub fn nothing_changes_behind_the_end()
-    ensures { (o : OptionsData) (looked : Bool) (c : Calls) → c.refusal ≡ None → c.over ≡ true
-        → recover o looked c ≡ (Ok false, c) }
+    ensures { (o : OptionsData) (stops : Stops) (looked : Bool) (c : Calls) → c.refusal ≡ None
+        → c.over ≡ true → recover o stops looked c ≡ (Ok false, c) }
 {}

@@ -1,18 +1,21 @@
 //! Ids of anchors aren't given again behind recovery.
-ghost use Rattle.std.specs.Prelude.{◌≡◌, ◌<◌, ◌≤◌, Bool, List, Some, Ok};
+ghost use Rattle.std.specs.Prelude.{◌≡◌, ◌<◌, ◌≤◌, ℕ, suc, Bool, List, Option, Some, Ok};
 ghost use Rattle.granit_error.specs.OptionsData.{OptionsData};
+ghost use Rattle.granit_lexemes.specs.Here.{Here};
 ghost use Rattle.granit_lexemes.specs.Outcome.{Fault};
 ghost use Rattle.granit_lexemes.specs.PlainEvent.{PlainEvent};
-ghost use Rattle.granit_recovery.specs.Calls.{Calls, next_call};
-ghost use Rattle.granit_recovery.specs.Ids.{id_of, IdsFrom};
-ghost use Rattle.granit_recovery.specs.Recovery.{recover, anchor_offset};
+ghost use Rattle.granit_restart.specs.Calls.{Calls, next_call};
+ghost use Rattle.granit_recovery.specs.Ids.{id_of, IdsFrom, counting_from};
+ghost use Rattle.granit_restart.specs.Recovery.{recover, anchor_offset};
+ghost use Rattle.granit_restart.specs.Skipping.{Stops};
 ghost use Rattle.granit_recovery.specs.Streams.{Gives, Reached};
+ghost use Rattle.granit_steps.specs.Told.{GivesEvents};
 
 /// The offset, which is the next id, never falls.
 pub fn the_offset_never_falls()
     ensures calls { (o : OptionsData) (c : Calls) → Reached o c → anchor_offset c ≤ anchor_offset (next_call o c).1 }
-    ensures recoveries { (o : OptionsData) (looked : Bool) (c : Calls) → Reached o c
-        → anchor_offset c ≤ anchor_offset (recover o looked c).1 }
+    ensures recoveries { (o : OptionsData) (stops : Stops) (looked : Bool) (c : Calls) → Reached o c
+        → anchor_offset c ≤ anchor_offset (recover o stops looked c).1 }
 {}
 
 /// Each id that is given is below the offset behind it.
@@ -23,7 +26,13 @@ pub fn ids_are_below_the_offset()
 
 /// Behind recovery from a fault ids are greater than all before: no less than the offset was.
 pub fn ids_go_on_behind_a_fault()
-    ensures { (o : OptionsData) (looked follows : Bool) (c d after : Calls) (f : Fault) (es : List PlainEvent)
-        → c.fault ≡ Some f → recover o looked c ≡ (Ok follows, d) → Gives o d es after
+    ensures { (o : OptionsData) (stops : Stops) (looked follows : Bool) (c d after : Calls) (f : Fault)
+        (es : List PlainEvent) → c.fault ≡ Some f → recover o stops looked c ≡ (Ok follows, d) → Gives o d es after
         → IdsFrom (anchor_offset c) es }
+{}
+
+/// Ids are no less than the number that a machine begins with: one more than its count.
+pub fn ids_begin_at_the_offset()
+    ensures { (o : OptionsData) (h : Here) (count : ℕ) (es : List PlainEvent) (f : Option Fault)
+        → GivesEvents o (counting_from count h) es f → IdsFrom (suc count) es }
 {}

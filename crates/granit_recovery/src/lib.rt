@@ -1,4 +1,4 @@
-//! Recovery at a document boundary as a plain function on the machine, its laws, and its worked rows.
+//! Laws of recovery at a document boundary, and its worked rows.
 #![tactic(auto)]
 
 mod answers;
@@ -10,14 +10,17 @@ mod rows;
 mod streams;
 
 pub use answers::{answers_are_exact, answers_behind_a_fault_are_exact};
-pub use boundaries::{
-    no_other_boundary_is_next, the_boundary_is_at_a_counted_place, the_next_boundary_is_found,
-};
+pub use boundaries::the_boundary_is_at_a_counted_place;
 pub use dropping::{
     a_fault_drops_its_document, nothing_changes_behind_the_end,
     nothing_is_dropped_between_documents,
 };
-pub use ids::{ids_are_below_the_offset, ids_go_on_behind_a_fault, the_offset_never_falls};
+pub use ids::{
+    ids_are_below_the_offset, ids_begin_at_the_offset, ids_go_on_behind_a_fault,
+    the_offset_never_falls,
+};
 pub use refusals::{a_refusal_is_answered_again, no_event_follows_a_refusal};
-pub use rows::{boundaries_of_texts, dropped_texts, recovered_texts, skipped_texts};
+pub use rows::{
+    boundaries_of_texts, dropped_texts, kept_texts, recovered_texts, skipped_texts, stopped_texts,
+};
 pub use streams::a_stream_goes_on_behind_recovery;

@@ -1,6 +1,7 @@
 //! Worked rows: the events of texts, with recovery behind each fault, or behind each so many events.
-ghost use Rattle.std.specs.Prelude.{◌≡◌, ◌++◌, codes};
-ghost use Rattle.granit_recovery.specs.RecoveryRows.{recovers, skips};
+ghost use Rattle.std.specs.Prelude.{◌≡◌, ◌++◌, ◌∷◌, [], codes};
+ghost use Rattle.granit_machine.specs.ExampleOptions.{tags_kept};
+ghost use Rattle.granit_recovery.specs.RecoveryRows.{recovers, recovers_from, recovers_under, skips};
 
 /// A document follows a bracket that wasn't closed, and none follows an alias that names nothing.
 pub fn recovered_texts()
@@ -55,6 +56,24 @@ pub fn boundaries_of_texts()
         ++ codes "StreamEnd 16:5:1-16:5:1\n" }
 {}
 
+/// A `---` behind a byte-order mark in column 0 that the refused read passed is no boundary, since that read counts a
+/// column for the mark; where the mark stands behind the place of the refusal it takes none.
+pub fn stopped_texts()
+    ensures passed { recovers_from 10 (codes "\"a\n" ++ (0xFEFF ∷ []) ++ codes "--- b\n\\q\"\nx\n")
+        ≡ codes "StreamStart 0:1:1-0:1:1\n"
+        ++ codes "fault 45: while parsing a quoted scalar, found unknown escape character at char 0 line 1 column 1\n"
+        ++ codes "proceed false\n"
+        ++ codes "StreamEnd 16:5:1-16:5:1\n" }
+    ensures ahead { recovers_from 3 (codes "\"\\q\n" ++ (0xFEFF ∷ []) ++ codes "--- b\n")
+        ≡ codes "StreamStart 0:1:1-0:1:1\n"
+        ++ codes "fault 45: while parsing a quoted scalar, found unknown escape character at char 0 line 1 column 1\n"
+        ++ codes "proceed true\n"
+        ++ codes "DocumentStart explicit 5:2:1-8:2:4\n"
+        ++ codes "Scalar plain \"b\" 9:2:5-10:2:6\n"
+        ++ codes "DocumentEnd 10:2:6-10:2:6\n"
+        ++ codes "StreamEnd 11:3:1-11:3:1\n" }
+{}
+
 /// What a dropped document takes along: its anchors, its tags, and its other directives.
 pub fn dropped_texts()
     ensures anchors { recovers (codes "&a x: *b\n---\n- *a\n")
@@ -87,6 +106,47 @@ pub fn dropped_texts()
         ++ codes "Scalar plain \"b\" 30:4:5-31:4:6\n"
         ++ codes "DocumentEnd 31:4:6-31:4:6\n"
         ++ codes "StreamEnd 32:5:1-32:5:1\n" }
+{}
+
+/// Where handles stay over documents, those of a dropped document do too, but for `!` and `!!`.
+pub fn kept_texts()
+    ensures stays { recovers_under tags_kept (codes "%TAG !e! t:\n--- !e!a [\n--- !e!b c\n")
+        ≡ codes "StreamStart 0:1:1-0:1:1\n"
+        ++ codes "DocumentStart explicit 12:2:1-15:2:4\n"
+        ++ codes "SequenceStart flow !\"t:\" \"a\" 21:2:10-22:2:11\n"
+        ++ codes "fault 2: unclosed bracket '[' at char 21 line 2 column 10\n"
+        ++ codes "proceed true\n"
+        ++ codes "DocumentStart explicit 23:3:1-26:3:4\n"
+        ++ codes "Scalar plain \"c\" !\"t:\" \"b\" 32:3:10-33:3:11\n"
+        ++ codes "DocumentEnd 33:3:11-33:3:11\n"
+        ++ codes "StreamEnd 34:4:1-34:4:1\n" }
+    ensures core { recovers_under tags_kept (codes "%TAG !! t:\n--- !!a [\n--- !!b c\n")
+        ≡ codes "StreamStart 0:1:1-0:1:1\n"
+        ++ codes "DocumentStart explicit 11:2:1-14:2:4\n"
+        ++ codes "SequenceStart flow !\"t:\" \"a\" 19:2:9-20:2:10\n"
+        ++ codes "fault 2: unclosed bracket '[' at char 19 line 2 column 9\n"
+        ++ codes "proceed true\n"
+        ++ codes "DocumentStart explicit 21:3:1-24:3:4\n"
+        ++ codes "Scalar plain \"c\" !\"tag:yaml.org,2002:\" \"b\" 29:3:9-30:3:10\n"
+        ++ codes "DocumentEnd 30:3:10-30:3:10\n"
+        ++ codes "StreamEnd 31:4:1-31:4:1\n" }
+    ensures directives { recovers_under tags_kept (codes "%TAG !e! t:\n%YAML 2.0\n--- a\n--- !e!b c\n")
+        ≡ codes "StreamStart 0:1:1-0:1:1\n"
+        ++ codes "fault 24: unsupported YAML major version at char 12 line 2 column 1\n"
+        ++ codes "proceed true\n"
+        ++ codes "DocumentStart explicit 28:4:1-31:4:4\n"
+        ++ codes "Scalar plain \"c\" !\"t:\" \"b\" 37:4:10-38:4:11\n"
+        ++ codes "DocumentEnd 38:4:11-38:4:11\n"
+        ++ codes "StreamEnd 39:5:1-39:5:1\n" }
+    ensures twice { recovers_under tags_kept (codes "%TAG !e! t:\n%TAG !e! u:\n--- a\n--- !e!b c\n")
+        ≡ codes "StreamStart 0:1:1-0:1:1\n"
+        ++ codes "fault 25: the TAG directive must only be given at most once per handle in the same "
+        ++ codes "document at char 12 line 2 column 1\n"
+        ++ codes "proceed true\n"
+        ++ codes "DocumentStart explicit 30:4:1-33:4:4\n"
+        ++ codes "Scalar plain \"c\" !\"t:\" \"b\" 39:4:10-40:4:11\n"
+        ++ codes "DocumentEnd 40:4:11-40:4:11\n"
+        ++ codes "StreamEnd 41:5:1-41:5:1\n" }
 {}
 
 /// Recovery where nothing failed: inside of a document, directly behind its end, and before the first one.

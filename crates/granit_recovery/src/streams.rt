@@ -2,13 +2,15 @@
 ghost use Rattle.std.specs.Prelude.{◌≡◌, Bool, List, Ok};
 ghost use Rattle.granit_error.specs.OptionsData.{OptionsData};
 ghost use Rattle.granit_lexemes.specs.PlainEvent.{PlainEvent};
-ghost use Rattle.granit_recovery.specs.Calls.{Calls};
-ghost use Rattle.granit_recovery.specs.Recovery.{recover};
+ghost use Rattle.granit_restart.specs.Calls.{Calls};
+ghost use Rattle.granit_restart.specs.Recovery.{recover};
+ghost use Rattle.granit_restart.specs.Skipping.{Stops};
 ghost use Rattle.granit_recovery.specs.Streams.{GoesOn, Gives, Reached};
 
 /// Whatever was called before: the events behind an answer of recovery begin what follows the start of a balanced
 /// stream, and none of them begins a stream.
 pub fn a_stream_goes_on_behind_recovery()
-    ensures { (o : OptionsData) (looked follows : Bool) (c d after : Calls) (es : List PlainEvent)
-        → Reached o c → recover o looked c ≡ (Ok follows, d) → Gives o d es after → GoesOn es }
+    ensures { (o : OptionsData) (stops : Stops) (looked follows : Bool) (c d after : Calls)
+        (es : List PlainEvent) → Reached o c → recover o stops looked c ≡ (Ok follows, d) → Gives o d es after
+        → GoesOn es }
 {}

@@ -46,11 +46,11 @@ use Rattle.granit_machine.specs.Reader.{lexeme_of, is_strict_outside, lexeme_in_
 use Rattle.granit_machine.specs.ReaderState.{tailed}
 use Rattle.granit_machine.specs.StreamLexemes.{end_mark_up_to}
 use Rattle.granit_steps.specs.Steps.{step_turn, next_event}
-use Rattle.granit_recovery.specs.Boundary.{next_boundary}
-use Rattle.granit_recovery.specs.Calls.{next_call}
-use Rattle.granit_recovery.specs.Following.{document_follows}
-use Rattle.granit_recovery.specs.Recovery.{recover}
-use Rattle.granit_recovery.specs.Restart.{behind_fault}
+use Rattle.granit_restart.specs.Boundary.{next_boundary}
+use Rattle.granit_restart.specs.Calls.{next_call}
+use Rattle.granit_restart.specs.Following.{document_follows}
+use Rattle.granit_restart.specs.Recovery.{recover}
+use Rattle.granit_restart.specs.Restart.{behind_fault_at}
 use Rattle.granit_recovery.proofs.rows.dropped_texts.Goals as goal
 
 pub returns-clause-anchors : goal.returns-clause-anchors
@@ -68,7 +68,7 @@ unfolding is_z is_break is_breakz is_blank is_blank_or_breakz is_digit is_hex he
     gap_ends node_event is_tabbed_dash behind_dash dash_up_to dash question_up_to question_by question keyed_colon
     bare_colon colon_tail colon lexeme_line sort_of sort_at end_node end_properties begin_block take_dash feed is_stale
     is_allowed node_key is_far_below lexeme_of is_strict_outside lexeme_in_column lexeme_by read lex_turn tailed
-    end_mark_up_to step_turn next_event digits encode chars next_boundary next_call behind_fault
+    end_mark_up_to step_turn next_event digits encode chars next_boundary next_call behind_fault_at
     document_follows recover
 returns-clause-anchors c = refl
 
@@ -87,7 +87,7 @@ unfolding is_z is_break is_breakz is_blank is_blank_or_breakz is_digit is_hex he
     gap_ends node_event is_tabbed_dash behind_dash dash_up_to dash question_up_to question_by question keyed_colon
     bare_colon colon_tail colon lexeme_line sort_of sort_at end_node end_properties begin_block take_dash feed is_stale
     is_allowed node_key is_far_below lexeme_of is_strict_outside lexeme_in_column lexeme_by read lex_turn tailed
-    end_mark_up_to step_turn next_event digits encode chars next_boundary next_call behind_fault
+    end_mark_up_to step_turn next_event digits encode chars next_boundary next_call behind_fault_at
     document_follows recover
 returns-clause-tags c = refl
 
@@ -106,6 +106,6 @@ unfolding is_z is_break is_breakz is_blank is_blank_or_breakz is_digit is_hex he
     gap_ends node_event is_tabbed_dash behind_dash dash_up_to dash question_up_to question_by question keyed_colon
     bare_colon colon_tail colon lexeme_line sort_of sort_at end_node end_properties begin_block take_dash feed is_stale
     is_allowed node_key is_far_below lexeme_of is_strict_outside lexeme_in_column lexeme_by read lex_turn tailed
-    end_mark_up_to step_turn next_event digits encode chars next_boundary next_call behind_fault
+    end_mark_up_to step_turn next_event digits encode chars next_boundary next_call behind_fault_at
     document_follows recover
 returns-clause-directives c = refl

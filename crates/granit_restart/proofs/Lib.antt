@@ -1,0 +1,7 @@
+pub mod AheadLaws
+pub mod BoundaryLaws
+pub mod LookLaws
+pub mod MarkLaws
+pub mod MarkReads
+pub mod StartLemmas
+pub mod TurnwiseLaws

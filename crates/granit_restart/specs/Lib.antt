@@ -1,0 +1,11 @@
+pub mod Ahead
+pub mod Boundary
+pub mod Calls
+pub mod Following
+pub mod Header
+pub mod Looking
+pub mod NextBoundary
+pub mod Recovery
+pub mod Restart
+pub mod Skipping
+pub mod Turned

@@ -1,0 +1,35 @@
+//! Whether another document is there may be seen by turns.
+ghost use Rattle.std.specs.Prelude.{◌≡◌, ℕ, List, Option};
+ghost use Rattle.granit_error.specs.OptionsData.{OptionsData};
+ghost use Rattle.granit_lexemes.specs.Outcome.{Fault};
+ghost use Rattle.granit_lexemes.specs.PlainEvent.{PlainEvent};
+ghost use Rattle.granit_restart.specs.Ahead.{AheadOf, AlikeEnd, AlikeNext};
+ghost use Rattle.granit_restart.specs.Following.{document_follows};
+ghost use Rattle.granit_restart.specs.Looking.{look_ahead, Outside};
+ghost use Rattle.granit_restart.specs.Skipping.{skip};
+ghost use Rattle.granit_restart.specs.Turned.{Turned};
+ghost use Rattle.granit_steps.specs.Steps.{next_event, StepState};
+ghost use Rattle.granit_steps.specs.Told.{GivesEvents};
+
+/// Between documents a look ahead by turns, which leaves what waits, answers as the text itself tells.
+pub fn a_look_tells_whether_a_document_follows()
+    ensures { (o : OptionsData) (room : ℕ) (s : StepState) → Turned o s → Outside s.parser
+        → (look_ahead o room s).0 ≡ document_follows o room s }
+{}
+
+/// A look makes turns ahead and changes nothing else: the state that it leaves gives the same events, and the same
+/// fault.
+pub fn a_look_changes_no_event()
+    ensures ahead { (o : OptionsData) (room : ℕ) (s : StepState) → AheadOf o s (look_ahead o room s).1 }
+    ensures next { (o : OptionsData) (s t : StepState) → AheadOf o s t
+        → AlikeNext o (next_event o s) (next_event o t) }
+    ensures all { (o : OptionsData) (s t : StepState) (es : List PlainEvent) (end : Option Fault) → AheadOf o s t
+        → GivesEvents o s es end → GivesEvents o t es end }
+    ensures none { (o : OptionsData) (s t : StepState) (es : List PlainEvent) (end : Option Fault) → AheadOf o s t
+        → GivesEvents o t es end → GivesEvents o s es end }
+{}
+
+/// From a state that is some turns ahead a document is skipped alike.
+pub fn skipping_ends_alike_ahead()
+    ensures { (o : OptionsData) (s t : StepState) → AheadOf o s t → AlikeEnd o (skip o s) (skip o t) }
+{}
