@@ -1,3 +1,4 @@
 mod NestedLemmas
+mod PassingLemmas
 mod SendLemmas
 mod StackLemmas

@@ -1,17 +1,18 @@
 -- Parsers on a stack.
 use Rattle.std.proofs.Common.{◌≡◌, ◌∙◌, ℕ, ◌+◌, ◌<◌, List, [], ◌∷◌, ◌++◌, length, drop, get_or, Option, Some, None}
 use Rattle.std.proofs.Common.{refl, sym}
-use Rattle.std.proofs.Common.{ap, subst, Bool, true, false, ◌==◌, inl, Result, rules, tests}
+use Rattle.std.proofs.Common.{ap, subst, Bool, true, false, ◌==◌, inl, inr, Result, rules, tests}
 use Rattle.std.proofs.Common.{if◌then◌else◌}
 use Rattle.std.proofs.lemmas.List.{at_drop_more}
 use Rattle.std.specs.Prelude.{is_some}
 use Rattle.granit_base.specs.Written.{Written}
 use Rattle.granit_base.specs.declared.place.Span.{Span}
+use Rattle.granit_error.specs.FaultKind.{NoMemory}
 use Rattle.granit_error.specs.Refused.{Refused}
 use Rattle.granit_event.specs.declared.event.Event.{Event}
 use Rattle.granit_event.specs.Events.{event_kind}
-use Rattle.granit_layers.specs.Stacking.{Answer, ComesNext, ComesOf, IsPlaced, LiesBelow, PeeksAs, Pushes, Reads}
-use Rattle.granit_layers.specs.Stacking.{Stack, TurnsLayer, TurnsOnce, Withheld, is_none_left, layer_of, layers_of}
+use Rattle.granit_layers.specs.Stacking.{Answer, ComesNext, ComesOf, IsNamed, IsPlaced, LiesBelow, PeeksAs, Pushes}
+use Rattle.granit_layers.specs.Stacking.{Reads, Stack, TurnsLayer, TurnsOnce, Withheld, is_none_left, layer_of, layers_of}
 use Rattle.granit_layers.specs.Stacking.{first_given, gives_first, is_ending, names_of, one_more}
 use Rattle.granit_layers.specs.Turning.{Next, part_of}
 use Rattle.granit_layers.specs.declared.layer.Layer.{Layer}
@@ -152,3 +153,33 @@ pub layers_kept : {S : Type 0} (p : Stack S) (e : Event × Span) → (gives_firs
 layers_kept p e =
     kept_if (is_ending p.peeked p.end) p
     (record p { peeked = first_given p.emits_comments e (part_of (event_kind e.0)) }) refl
+
+-- ---- errors
+
+pub counted : {A : Type 0} (xs : List A) (none : Bool) (n : ℕ) → none ≡ (n == 0) → n ≡ length xs → none ≡ is_none_left xs
+counted xs none n is same = is ∙ (ap (λ m. m == 0) same ∙ none_counted xs)
+
+-- a single parser's error stays as it is
+pub named_alone : {S : Type 0} (top : Option (Layer S)) (below : List (Layer S)) (e : Refused) (none : Bool)
+    → none ≡ is_none_left below → none ≡ true → IsNamed (layers_of top below) e e
+named_alone None [] e none is alone = refl
+named_alone (Some l) [] e none is alone = refl
+named_alone top (k ∷ ks) e none is alone = absurd cc
+
+module _ {S : Type 0} (e f : Refused) where
+  -- an error of one of more gets their names
+  pub named_among : (top : Option (Layer S)) (below : List (Layer S)) (none : Bool) (names : List Written)
+      → none ≡ is_none_left below → none ≡ false → LiesBelow top below → names ≡ names_of (layers_of top below)
+      → f ≡ record e { sources = names } → IsNamed (layers_of top below) e f
+  named_among top [] none names is more lies all given = absurd cc
+  named_among None (k ∷ ks) none names is more lies all given = absurd cc
+  named_among (Some l) (k ∷ ks) none names is more lies all given =
+      inl (given ∙ ap (λ ns. record e { sources = ns }) all)
+
+  -- memory may run out for them
+  pub unnamed : (top : Option (Layer S)) (below : List (Layer S)) (none : Bool)
+      → none ≡ is_none_left below → none ≡ false → LiesBelow top below → f.kind ≡ NoMemory
+      → IsNamed (layers_of top below) e f
+  unnamed top [] none is more lies out = absurd cc
+  unnamed None (k ∷ ks) none is more lies out = absurd cc
+  unnamed (Some l) (k ∷ ks) none is more lies out = inr out

@@ -1,13 +1,11 @@
 -- What a stack sends to a receiver.
 use Rattle.std.specs.Prelude.{◌≡◌, ◌⊎◌, ℕ, Bool, true, false, List, [], ◌∷◌, ◌++◌, Option, Some, None, Result, Ok, Err}
-use Rattle.std.specs.Prelude.{IfOk, IfErr}
 use Rattle.granit_base.specs.declared.place.Span.{Span}
 use Rattle.granit_error.specs.FaultKind.{NoMemory}
 use Rattle.granit_error.specs.Refused.{Refused}
 use Rattle.granit_event.specs.declared.event.Event.{Event}
-use Rattle.granit_layers.specs.Stacking.{IsKept, Stack, StepsTo}
+use Rattle.granit_layers.specs.Stacking.{Stack, StepsTo}
 use Rattle.granit_layers.specs.Turning.{Next}
-use Rattle.granit_receivers.specs.Counts.{Rose}
 use Rattle.granit_receivers.specs.declared.error.TryLoadError.{TryLoadError}
 use Rattle.granit_receivers.specs.declared.error.TryLoadError.TheVariants.{Scan, Receiver}
 use Rattle.granit_replay.specs.Sending.{ends_with}
@@ -83,23 +81,3 @@ abbrev pub Tries : {S X E : Type 0} → (steps : S → Next → S → Type 0) �
 Tries steps offset sets multi Takes old (Ok x) new = SendsAll steps offset sets multi Takes old new
 Tries steps offset sets multi Takes old (Err (Scan e)) new = SendsBefore steps offset sets multi Takes old e new
 Tries steps offset sets multi Takes old (Err (Receiver e)) new = SendsUpTo steps offset sets multi Takes old new
-
--- the same refusal, or want of memory
-abbrev pub GivesAgain : {X : Type 0} → Refused → Result X Refused → Type 0
-GivesAgain e r = IfOk r (λ x. ⊥) × IfErr r (λ f. IsKept e f)
-
-abbrev pub ScansAgain : {X E : Type 0} → Refused → Result X (TryLoadError E) → Type 0
-ScansAgain e (Ok x) = ⊥
-ScansAgain e (Err (Scan f)) = IsKept e f
-ScansAgain e (Err (Receiver f)) = ⊥
-
--- what was given, as it is given again
-abbrev pub KeptAgain : Option Refused → Option Refused → Type 0
-KeptAgain None r = r ≡ None
-KeptAgain (Some e) r = (f : Refused) × (r ≡ Some f) × IsKept e f
-
--- a count of a receiver's errors rose where it gave one, and is else as before
-abbrev pub CountsErrors : {X E : Type 0} → (old new : ℕ) → Result X (TryLoadError E) → Type 0
-CountsErrors old new (Ok x) = new ≡ old
-CountsErrors old new (Err (Scan e)) = new ≡ old
-CountsErrors old new (Err (Receiver e)) = Rose old new

@@ -1,5 +1,5 @@
 -- What contracts see of a stack of parsers, and what its calls give.
-use Rattle.std.specs.Prelude.{◌≡◌, ◌⊎◌, ℕ, max, nat_lt, Bool, true, false, if◌then◌else◌, List, [], ◌∷◌, ◌++◌, length}
+use Rattle.std.specs.Prelude.{◌≡◌, ◌⊎◌, ℕ, max, Bool, true, false, if◌then◌else◌, List, [], ◌∷◌, ◌++◌}
 use Rattle.std.specs.Prelude.{Option, Some, None, Result, Ok, Err}
 use Rattle.granit_base.specs.Written.{Written}
 use Rattle.granit_base.specs.declared.place.Span.{Span}
@@ -13,6 +13,7 @@ use Rattle.granit_layers.specs.declared.turn.Part.{Part}
 use Rattle.granit_layers.specs.declared.turn.Part.TheVariants as parts
 use Rattle.granit_layers.specs.declared.turn.Turn.{Turn}
 use Rattle.granit_layers.specs.declared.turn.Turn.TheVariants.{Gives, Withholds, Leaves, Ends, Fails}
+use Rattle.granit_receivers.specs.Kept.{IsKept}
 
 -- an event and its place, or why there is none
 abbrev pub Answer : Type 0
@@ -49,13 +50,10 @@ abbrev pub names_of : {S : Type 0} → List (Layer S) → List Written
 names_of [] = []
 names_of (l ∷ ls) = names_of ls ++ l.name ∷ []
 
--- an error with the names of a stack of two or more
-abbrev pub named : {S : Type 0} → List (Layer S) → Refused → Refused
-named ls e = if nat_lt 1 (length ls) then record e { sources = names_of ls } else e
-
--- the same, unless memory ran out
+-- an error with the names of a stack of two or more, unless memory ran out; that of a single parser stays as it is
 abbrev pub IsNamed : {S : Type 0} → List (Layer S) → Refused → Refused → Type 0
-IsNamed ls e f = (f ≡ named ls e) ⊎ (f.kind ≡ NoMemory)
+IsNamed (l ∷ k ∷ ks) e f = (f ≡ record e { sources = names_of (l ∷ k ∷ ks) }) ⊎ (f.kind ≡ NoMemory)
+IsNamed ls e f = f ≡ e
 
 -- the offset of the top parser, 0 where there is none
 abbrev pub top_offset : {S : Type 0} → (S → ℕ) → List (Layer S) → ℕ
@@ -139,10 +137,6 @@ abbrev pub Reads : {S : Type 0} → (steps : S → Next → S → Type 0) → (o
 Reads steps offset sets emits_comments old r new =
     TurnsTo steps offset sets emits_comments old r new
     ⊎ ((e : Refused) × (r ≡ Err e) × (e.kind ≡ NoMemory) × Withheld steps offset sets emits_comments old new)
-
--- a refusal as it is kept: itself, or want of memory where there was no room for it
-abbrev pub IsKept : Refused → Refused → Type 0
-IsKept e kept = (kept ≡ e) ⊎ (kept.kind ≡ NoMemory)
 
 abbrev pub EndsOn : Event × Span → Part → Option (Result (Unit {0}) Refused) → Option (Result (Unit {0}) Refused)
     → Type 0

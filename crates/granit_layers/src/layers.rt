@@ -4,7 +4,7 @@ ghost use Rattle.std.specs.Prelude.{◌≡◌, [], ◌∷◌, ◌++◌, false, N
 ghost use Rattle.std.specs.Str.{chars};
 ghost use Rattle.std.specs.Borrow.{sem};
 ghost use Rattle.std.specs.Io.BufRead.{Rests};
-ghost use Rattle.granit_layers.specs.Stacking.{ComesNext, EndsWith, IsKept, IsNamed, PeeksAs, Pushes, Reads, StepsTo};
+ghost use Rattle.granit_layers.specs.Stacking.{ComesNext, EndsWith, IsNamed, PeeksAs, Pushes, Reads, StepsTo};
 ghost use Rattle.granit_layers.specs.Stacking.{IsWithin, TurnsOnce, Uncovers, gives_first, is_ending, is_none_left};
 ghost use Rattle.granit_layers.specs.Stacking.{names_of, top_offset};
 ghost use Rattle.granit_layers.specs.contracts.layers.Layers.{the_row};
@@ -15,6 +15,7 @@ use crate::turn::{Part, Turn, bare_end, part_of};
 use granit_base::{NoMemory, OwnedText, Span, TextList};
 use granit_error::ScanError;
 use granit_event::Event;
+use granit_receivers::kept;
 use granit_replay::Refused;
 use std::alloc::Global;
 use std::collections::VecDeque;
@@ -348,16 +349,6 @@ fn names_below<S>(alloc: Global, below: &VecDeque<Layer<S>>) -> Result<TextList,
         names.push(below[left].name.try_clone(alloc)?)?;
     }
     Ok(names)
-}
-
-/// A refusal to be given again, or want of memory where there is no room for it.
-pub(crate) fn kept(alloc: Global, error: &ScanError) -> ScanError
-    ensures { IsKept error.now result }
-{
-    match error.try_clone(alloc) {
-        Ok(error) => error,
-        Err(no_memory) => ScanError::from(no_memory),
-    }
 }
 
 /// The events one by one, as `next_event` gives them.

@@ -1,14 +1,16 @@
 //! The events of a stack, sent to a receiver.
 ghost use Rattle.std.specs.Prelude.{◌≡◌, None, Some, Ok, Err, IfSome};
-ghost use Rattle.granit_layers.specs.Sending.{CountsErrors, GivesAgain, KeptAgain, Loads, RunsOut, ScansAgain, Tries};
-ghost use Rattle.granit_layers.specs.Sending.{failure_of};
+ghost use Rattle.granit_layers.specs.Sending.{Loads, RunsOut, Tries, failure_of};
+ghost use Rattle.granit_receivers.specs.Kept.{CountsErrors, GivesAgain, KeptAgain, ScansAgain};
 ghost use Rattle.granit_receivers.specs.Taking.{Took};
 
 use crate::layer::StackedParser;
-use crate::layers::{Layers, kept};
+use crate::layers::Layers;
 use granit_base::NoMemory;
 use granit_error::ScanError;
-use granit_receivers::{SpannedEventReceiver, TryLoadError, TrySpannedEventReceiver, is_last};
+use granit_receivers::{
+    SpannedEventReceiver, TryLoadError, TrySpannedEventReceiver, is_last, kept,
+};
 
 impl<'input, S: StackedParser<'input>> Layers<'input, S> {
     /// Sends the next events to a receiver in order: up to the end of the stream with `multi`, else up to the end of a

@@ -11,64 +11,72 @@ use std::test::Fail;
 /// Events that are given once more.
 type Events<'a> = Vec<(Event<'a>, Span)>;
 
-/// The empty place behind so many characters of the first line.
-fn at(index: usize) -> Span {
-    Span::empty(Marker::new(index, 1, index))
-}
+/// One document, and a comment behind it.
+const ONE: &str = "SD_d#s";
 
-/// A scalar with an anchor of that number.
-fn scalar<'a>(text: &'a str, anchor: usize) -> Event<'a> {
-    Event::Scalar(Text::borrowed(text), ScalarStyle::Plain, anchor, None)
-}
+/// A document, and the start of a second one.
+const TWO: &str = "SD_d#Ds";
 
-/// A comment.
-fn comment<'a>() -> Event<'a> {
-    Event::Comment(Text::borrowed("c"), Placement::Free)
-}
-
-/// One document of a scalar with an anchor of that number, and a comment behind it.
-fn one(alloc: Global, text: &str, anchor: usize) -> Result<Events<'_>, Fail> {
-    let events = vec![in alloc;
-        (Event::StreamStart, at(0)),
-        (Event::DocumentStart(false, None), at(0)),
-        (scalar(text, anchor), at(1)),
-        (Event::DocumentEnd, at(2)),
-        (comment(), at(3)),
-        (Event::StreamEnd, at(4)),
-    ]?;
-    Ok(events)
-}
-
-/// Two documents.
-fn two<'a>(alloc: Global) -> Result<Events<'a>, Fail> {
-    let events = vec![in alloc;
-        (Event::StreamStart, at(0)),
-        (Event::DocumentStart(false, None), at(0)),
-        (scalar("b", 0), at(1)),
-        (Event::DocumentEnd, at(2)),
-        (comment(), at(3)),
-        (Event::DocumentStart(true, None), at(4)),
-        (Event::StreamEnd, at(5)),
-    ]?;
-    Ok(events)
-}
-
-/// Puts events on a stack.
-fn put<'a>(
-    alloc: Global,
-    layers: &mut Layers<'a, ReplayParser<'a>>,
-    events: Events<'a>,
-    name: &str,
-) -> Result<(), NoMemory> {
-    let name = OwnedText::from_str(alloc, name)?;
-    match layers.push(ReplayParser::new(events, 1), name) {
-        Ok(()) => Ok(()),
-        Err(_) => Err(NoMemory),
+/// The event of a letter: `S` and `s` where the stream begins and ends, `D` and `d` a document, `#` a comment, and else
+/// a scalar with an anchor of that number.
+fn event(letter: char, text: &str, anchor: usize) -> Event<'_> {
+    match letter {
+        'S' => Event::StreamStart,
+        's' => Event::StreamEnd,
+        'D' => Event::DocumentStart(false, None),
+        'd' => Event::DocumentEnd,
+        '#' => Event::Comment(Text::borrowed("c"), Placement::Free),
+        _ => Event::Scalar(Text::borrowed(text), ScalarStyle::Plain, anchor, None),
     }
 }
 
-/// The letter of an event: its text's first, `S` and `s` where the stream begins and ends, `D` and `d` a document, `#`
-/// a comment.
+/// The empty place of the event of that number: the stream and its first document begin where the line does.
+fn at(number: usize) -> Span {
+    let index = number.saturating_sub(1);
+    Span::empty(Marker::new(index, 1, index))
+}
+
+/// The events of letters.
+fn events<'a>(
+    alloc: Global,
+    letters: &str,
+    text: &'a str,
+    anchor: usize,
+) -> Result<Events<'a>, NoMemory> {
+    let mut events = Vec::new(alloc);
+    for (number, letter) in letters.chars().enumerate() {
+        events.push((event(letter, text, anchor), at(number)))?;
+    }
+    Ok(events)
+}
+
+/// A parser that gives the events of letters, and its name, which is the text of its scalar.
+fn source<'a>(
+    alloc: Global,
+    letters: &str,
+    text: &'a str,
+    anchor: usize,
+) -> Result<(ReplayParser<'a>, OwnedText), NoMemory> {
+    let name = OwnedText::from_str(alloc, text)?;
+    let events = events(alloc, letters, text, anchor)?;
+    Ok((ReplayParser::new(events, 1), name))
+}
+
+/// Whether a parser was put on a stack.
+fn put<'a>(
+    alloc: Global,
+    layers: &mut Layers<'a, ReplayParser<'a>>,
+    letters: &str,
+    text: &'a str,
+    anchor: usize,
+) -> bool {
+    match source(alloc, letters, text, anchor) {
+        Ok((parser, name)) => layers.push(parser, name).is_ok(),
+        Err(_) => false,
+    }
+}
+
+/// The letter of an event, of a scalar the first of its text.
 fn letter(event: &Event<'_>) -> char {
     match event {
         Event::StreamStart => 'S',
@@ -103,46 +111,56 @@ fn letters<'a>(layers: &mut Layers<'a, ReplayParser<'a>>) -> [char; 10] {
 }
 
 /// One document on another one.
-fn nested(alloc: Global, emits_comments: bool) -> Result<([char; 10], usize), Fail> {
+fn nested(alloc: Global, emits_comments: bool) -> ([bool; 2], [char; 10], usize) {
     let mut layers = Layers::new(alloc, emits_comments);
-    put(alloc, &mut layers, one(alloc, "x", 3)?, "root")?;
-    put(alloc, &mut layers, one(alloc, "y", 9)?, "nested")?;
+    let below = put(alloc, &mut layers, ONE, "x", 3);
+    let above = put(alloc, &mut layers, ONE, "y", 9);
     let first = given(layers.next_event());
     let offset = layers.current_anchor_offset();
     let mut letters = letters(&mut layers);
     letters[9] = first;
-    Ok((letters, offset))
+    ([below, above], letters, offset)
 }
 
 #[test]
 fn a_document_on_another(rt: HostRuntime) -> Result<(), Fail> {
     let wanted = ['#', 'S', 'D', 'x', 'd', '#', 's', '.', '.', 'y'];
-    assert_eq!(rt; nested(rt.alloc(), true)?, (wanted, 10));
+    assert_eq!(rt; nested(rt.alloc(), true), ([true; 2], wanted, 10));
     let wanted = ['S', 'D', 'x', 'd', 's', '.', '.', '.', '.', 'y'];
-    assert_eq!(rt; nested(rt.alloc(), false)?, (wanted, 10));
+    assert_eq!(rt; nested(rt.alloc(), false), ([true; 2], wanted, 10));
     Ok(())
 }
 
-/// What is said of a second document, and whether anything comes then.
-fn second_document(alloc: Global) -> Result<String, Fail> {
+/// What is given of a second document, and the letters before and behind it.
+fn second_document(alloc: Global) -> ([char; 3], Option<ScanError>) {
     let mut layers = Layers::new(alloc, true);
-    put(alloc, &mut layers, one(alloc, "x", 0)?, "root")?;
-    put(alloc, &mut layers, two(alloc)?, "two")?;
-    let mut words = String::new(alloc);
-    words.push(given(layers.next_event()))?;
-    words.push(given(layers.next_event()))?;
-    if let Some(Err(error)) = layers.next_event() {
-        words.push_str(error.to_string(alloc)?.as_str())?;
+    let _ = put(alloc, &mut layers, ONE, "x", 0);
+    let _ = put(alloc, &mut layers, TWO, "two", 0);
+    let first = given(layers.next_event());
+    let second = given(layers.next_event());
+    let refused = refusal(layers.next_event());
+    ([first, second, given(layers.next_event())], refused)
+}
+
+/// What is refused, if anything is.
+fn refusal(next: Option<Result<(Event<'_>, Span), ScanError>>) -> Option<ScanError> {
+    match next {
+        Some(Err(error)) => Some(error),
+        _ => None,
     }
-    words.push(given(layers.next_event()))?;
-    Ok(words)
 }
 
 #[test]
 fn a_second_document(rt: HostRuntime) -> Result<(), Fail> {
+    let (letters, refused) = second_document(rt.alloc());
+    let words = match refused {
+        Some(error) => error.to_string(rt.alloc())?,
+        None => String::new(rt.alloc()),
+    };
+    assert_eq!(rt; letters, ['t', '#', '.']);
     assert_eq!(rt;
-        second_document(rt.alloc())?.as_str(),
-        "b#multiple documents not supported here\nwhile parsing root -> two at char 2 line 1 column 3."
+        words.as_str(),
+        "multiple documents not supported here\nwhile parsing x -> two at char 2 line 1 column 3"
     );
     Ok(())
 }
@@ -150,52 +168,30 @@ fn a_second_document(rt: HostRuntime) -> Result<(), Fail> {
 /// Four replays on one stack.
 type Replays<'a> = AnyKind<ReplayParser<'a>, ReplayParser<'a>, ReplayParser<'a>, ReplayParser<'a>>;
 
-/// A document each of three scalars.
-fn three<'a>(alloc: Global) -> Result<(Events<'a>, Events<'a>, Events<'a>), Fail> {
-    let first = one(alloc, "a", 0)?;
-    let second = one(alloc, "b", 0)?;
-    Ok((first, second, one(alloc, "c", 0)?))
+/// Whether a parser was put on a stack as the first of the four.
+fn put_first<'a>(alloc: Global, layers: &mut Layers<'a, Replays<'a>>, text: &'a str) -> bool {
+    match source(alloc, ONE, text, 0) {
+        Ok((parser, name)) => layers.push_first(parser, name).is_ok(),
+        Err(_) => false,
+    }
 }
 
-/// The names of three sources.
-fn names(alloc: Global) -> Result<(OwnedText, OwnedText, OwnedText), Fail> {
-    let first = OwnedText::from_str(alloc, "a")?;
-    let second = OwnedText::from_str(alloc, "b")?;
-    Ok((first, second, OwnedText::from_str(alloc, "c")?))
+/// As the second.
+fn put_second<'a>(alloc: Global, layers: &mut Layers<'a, Replays<'a>>, text: &'a str) -> bool {
+    match source(alloc, ONE, text, 0) {
+        Ok((parser, name)) => layers.push_second(parser, name).is_ok(),
+        Err(_) => false,
+    }
 }
 
-/// Whether the first was put there.
-fn put_first<'a>(
-    layers: &mut Layers<'a, Replays<'a>>,
-    events: Events<'a>,
-    name: OwnedText,
-) -> bool {
-    layers
-        .push_first(ReplayParser::new(events, 1), name)
-        .is_ok()
-}
-
-/// Whether the second was put there.
-fn put_second<'a>(
-    layers: &mut Layers<'a, Replays<'a>>,
-    events: Events<'a>,
-    name: OwnedText,
-) -> bool {
-    layers
-        .push_second(ReplayParser::new(events, 1), name)
-        .is_ok()
-}
-
-/// Whether the third was put there, with an event that comes first.
-fn put_third<'a>(
-    layers: &mut Layers<'a, Replays<'a>>,
-    events: Events<'a>,
-    name: OwnedText,
-) -> bool {
-    let current = (scalar("e", 0), at(0));
-    layers
-        .push_third_with(ReplayParser::new(events, 1), name, current)
-        .is_ok()
+/// As the third, with an event that comes first.
+fn put_third<'a>(alloc: Global, layers: &mut Layers<'a, Replays<'a>>, text: &'a str) -> bool {
+    match source(alloc, ONE, text, 0) {
+        Ok((parser, name)) => layers
+            .push_third_with(parser, name, (event('_', "e", 0), at(0)))
+            .is_ok(),
+        Err(_) => false,
+    }
 }
 
 /// The letters of the next five events.
@@ -208,37 +204,36 @@ fn five<'a>(layers: &mut Layers<'a, Replays<'a>>) -> [char; 5] {
 }
 
 /// An event that was looked at stays behind a push, unless another one is handed in with it.
-fn looked_at(alloc: Global) -> Result<([bool; 3], char, [char; 5]), Fail> {
-    let (events_a, events_b, events_c) = three(alloc)?;
-    let (name_a, name_b, name_c) = names(alloc)?;
+fn looked_at(alloc: Global) -> ([bool; 3], char, [char; 5]) {
     let mut layers: Layers<'_, Replays<'_>> = Layers::new(alloc, true);
-    let first = put_first(&mut layers, events_a, name_a);
+    let first = put_first(alloc, &mut layers, "a");
     let _ = layers.peek().is_some();
-    let second = put_second(&mut layers, events_b, name_b);
+    let second = put_second(alloc, &mut layers, "b");
     let looked = given(layers.next_event());
     let _ = layers.peek().is_some();
-    let third = put_third(&mut layers, events_c, name_c);
-    Ok(([first, second, third], looked, five(&mut layers)))
+    let third = put_third(alloc, &mut layers, "c");
+    ([first, second, third], looked, five(&mut layers))
 }
 
 #[test]
 fn what_was_looked_at(rt: HostRuntime) -> Result<(), Fail> {
     let want = ([true; 3], 'S', ['e', 'c', '#', '#', 'D']);
-    assert_eq!(rt; looked_at(rt.alloc())?, want);
+    assert_eq!(rt; looked_at(rt.alloc()), want);
     Ok(())
 }
 
 /// Nothing lies there: the stream ends, and a later push changes nothing.
-fn nothing(alloc: Global) -> Result<[char; 3], Fail> {
+fn nothing(alloc: Global) -> (bool, [char; 3]) {
     let mut layers = Layers::new(alloc, true);
     let first = given(layers.next_event());
-    put(alloc, &mut layers, one(alloc, "late", 0)?, "late")?;
-    Ok([first, given(layers.next_event()), given(layers.next())])
+    let late = put(alloc, &mut layers, ONE, "late", 0);
+    let second = given(layers.next_event());
+    (late, [first, second, given(layers.next())])
 }
 
 #[test]
 fn no_parsers(rt: HostRuntime) -> Result<(), Fail> {
-    assert_eq!(rt; nothing(rt.alloc())?, ['s', '.', '.']);
+    assert_eq!(rt; nothing(rt.alloc()), (true, ['s', '.', '.']));
     Ok(())
 }
 
@@ -266,31 +261,25 @@ impl<'input> TryEventReceiver<'input> for Strict {
     }
 }
 
-/// How many events come up to the end of a document, up to the end, and behind it; and what a receiver answers.
-fn sent(alloc: Global) -> Result<[(char, usize); 4], Fail> {
+/// What a receiver that wants no more answers, and then how many events come up to the end of a document, up to the
+/// end, and behind it.
+fn sent(alloc: Global) -> (char, [(bool, usize); 3]) {
     let mut counting = Counting { events: 0 };
     let mut layers = Layers::new(alloc, true);
-    put(alloc, &mut layers, one(alloc, "x", 0)?, "root")?;
+    let _ = put(alloc, &mut layers, ONE, "x", 0);
     let refused = match layers.try_load(&mut Strict, true) {
         Ok(()) => '.',
         Err(TryLoadError::Scan(_)) => 'p',
         Err(TryLoadError::Receiver(letter)) => letter,
     };
-    let first = layers.load(&mut counting, false).is_ok();
-    let one = (if first { 'y' } else { 'n' }, counting.events);
-    let second = layers.load(&mut counting, true).is_ok();
-    let all = (if second { 'y' } else { 'n' }, counting.events);
-    let third = layers.load(&mut counting, true).is_ok();
-    Ok([
-        (refused, 0),
-        one,
-        all,
-        (if third { 'y' } else { 'n' }, counting.events),
-    ])
+    let document = (layers.load(&mut counting, false).is_ok(), counting.events);
+    let all = (layers.load(&mut counting, true).is_ok(), counting.events);
+    let behind = (layers.load(&mut counting, true).is_ok(), counting.events);
+    (refused, [document, all, behind])
 }
 
 #[test]
 fn sent_to_a_receiver(rt: HostRuntime) -> Result<(), Fail> {
-    assert_eq!(rt; sent(rt.alloc())?, [('!', 0), ('y', 1), ('y', 3), ('y', 3)]);
+    assert_eq!(rt; sent(rt.alloc()), ('!', [(true, 1), (true, 3), (true, 3)]));
     Ok(())
 }

@@ -1,4 +1,5 @@
 pub mod Counts
+pub mod Kept
 pub mod LoadWords
 pub mod Sending
 pub mod Taking

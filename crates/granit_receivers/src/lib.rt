@@ -3,10 +3,12 @@
 
 mod error;
 mod receiver;
+mod refusals;
 mod sending;
 
 pub use error::{ParseResult, TryLoadError};
 pub use receiver::{
     EventReceiver, SpannedEventReceiver, TryEventReceiver, TrySpannedEventReceiver,
 };
+pub use refusals::kept;
 pub use sending::is_last;
