@@ -1,6 +1,7 @@
 #!/usr/bin/env python3
 """shapes.py PROGRAM WORDS..: how the instructions (valgrind's callgrind) or, without valgrind, the time of a program grow on
-texts that repeat one form, N and then 8 times N of it. Prints a line a form, and at the end those that grow faster than the text.
+texts that repeat one form, N and then 8 times N of it. Prints a line a form, with the memory that the larger text takes at the most,
+and at the end the forms that grow faster than the text.
 
 The program reads the text on standard input; e.g. shapes.py ./granit events   or   shapes.py ./granit events comments=off
 With FORMS=word,.. in the environment only forms whose names hold one of the words are tried; N=count sets N (default 2000).
@@ -124,10 +125,19 @@ def cost(command, text):
     return max(1, int(1000 * (time.monotonic() - begin)))
 
 
+def peak(command, text):
+    """The most memory that a command takes over a text, in bytes, by GNU time: a child of this process would count its memory too."""
+    with tempfile.TemporaryFile() as source:
+        source.write(text)
+        source.seek(0)
+        run = subprocess.run(['time', '-f', '%M'] + command, stdin=source, stdout=subprocess.DEVNULL, stderr=subprocess.PIPE)
+        return 1024 * int(run.stderr.split()[-1])
+
+
 def main(command):
     count = int(os.environ.get('N', '2000'))
     words = [word for word in os.environ.get('FORMS', '').split(',') if word]
-    idle = cost(command, b'')
+    idle, base = cost(command, b''), peak(command, b'')
     growing = []
     for name, text_of in FORMS.items():
         if words and not any(word in name for word in words):
@@ -140,7 +150,9 @@ def main(command):
         if growth > 1.5 and a_byte > 20:
             growing.append(name)
             mark = '  <== grows'
-        print('%-32s %9d bytes %9.1f a byte, %.2f times that of an eighth%s' % (name, len(large), a_byte, growth, mark), flush=True)
+        memory = (peak(command, large) - base) / len(large)
+        line = '%-32s %9d bytes %9.1f a byte, %.2f times that of an eighth, %.1f bytes of memory a byte%s'
+        print(line % (name, len(large), a_byte, growth, memory, mark), flush=True)
     print('grow faster than the text: ' + (', '.join(growing) or 'none'))
 
 

@@ -3,6 +3,7 @@
 
 block    block mappings with comments        flow    flow collections on one line
 pretty   flow collections over many lines    escaped double-quoted scalars with escapes
+and texts of one lexeme: plain-lines, plain-line, double-lines, single-lines, double-line, double-escapes, single-quotes, comment
 """
 import sys
 
@@ -16,8 +17,26 @@ FORMS = {
 }
 
 
+LINE = 'some words of one line of text, which goes on'
+
+# What a text of one lexeme begins with, what it repeats, and what it ends with.
+LEXEMES = {
+    'plain-lines': ('', LINE + '\n', 'end\n'),
+    'plain-line': ('', LINE + ' ', 'end\n'),
+    'double-lines': ('"', LINE + '\n', '"\n'),
+    'single-lines': ("'", LINE + '\n', "'\n"),
+    'double-line': ('"', LINE + ' ', '"\n'),
+    'double-escapes': ('"', LINE + '\\n\\t\\u00e9 ', '"\n'),
+    'single-quotes': ("'", LINE + " ''word'' ", "'\n"),
+    'comment': ('#', LINE + ' ', '\n'),
+}
+
+
 def text_of(form, size):
     """Whole entries of a form, until they have so many bytes."""
+    if form in LEXEMES:
+        head, unit, tail = LEXEMES[form]
+        return head + unit * (size // len(unit)) + tail
     entries, length, number = [], 0, 0
     while length < size:
         number += 1
@@ -29,6 +48,6 @@ def text_of(form, size):
 
 
 if __name__ == '__main__':
-    if len(sys.argv) != 3 or sys.argv[1] not in FORMS:
+    if len(sys.argv) != 3 or sys.argv[1] not in {**FORMS, **LEXEMES}:
         sys.exit(__doc__)
     sys.stdout.write(text_of(sys.argv[1], int(float(sys.argv[2]) * 1_000_000)))

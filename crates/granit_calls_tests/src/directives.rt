@@ -28,9 +28,19 @@ fn directive_at<'a>(
     Some(scan_directive(alloc, cursor, options))
 }
 
-/// Whether that is the token, which ends there, with a comment behind it or without one.
+/// Whether each text of a directive is owned.
+fn is_owned(found: &TokenType<'_>) -> bool {
+    match found {
+        TokenType::TagDirective(handle, prefix) => !handle.is_borrowed() && !prefix.is_borrowed(),
+        TokenType::ReservedDirective(name, _) => !name.is_borrowed(),
+        _ => true,
+    }
+}
+
+/// Whether that is the token, with its texts owned, which ends there, with a comment behind it or without one.
 fn is_found(found: &Lexed<'_>, wanted: &TokenType<'_>, end: usize, has_comment: bool) -> bool {
-    *found.token.token_type() == *wanted
+    is_owned(found.token.token_type())
+        && *found.token.token_type() == *wanted
         && found.token.span().end.index() == end
         && found.comment.is_some() == has_comment
 }

@@ -5,3 +5,5 @@
 mod directives;
 #[cfg(test)]
 mod properties;
+#[cfg(test)]
+mod torn;

@@ -99,13 +99,23 @@ fn names(rt: HostRuntime) {
 /// A text, whether it is inside brackets, a handle and a suffix, and where they end.
 type TagRow = (&'static str, bool, &'static str, &'static str, usize);
 
-/// Whether a text begins with a tag of that handle and suffix, which ends there.
+/// Whether both texts of that tag are owned.
+fn is_owned(token: &Token<'_>) -> bool {
+    match token.token_type() {
+        TokenType::Tag(handle, suffix) => !handle.is_borrowed() && !suffix.is_borrowed(),
+        _ => false,
+    }
+}
+
+/// Whether a text begins with a tag of that handle and suffix, which ends there and is owned.
 fn has_tag(alloc: Global, row: TagRow) -> bool {
     let (text, in_flow, handle, suffix, end) = row;
     let mut cursor = Cursor::new(StrInput::new(text));
     let wanted = TokenType::Tag(Text::borrowed(handle), Text::borrowed(suffix));
     match tag_at(alloc, &mut cursor, in_flow) {
-        Some(Ok(token)) => is_token(&token, &wanted, end, cursor.mark().index()),
+        Some(Ok(token)) => {
+            is_owned(&token) && is_token(&token, &wanted, end, cursor.mark().index())
+        }
         _ => false,
     }
 }

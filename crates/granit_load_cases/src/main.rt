@@ -1,10 +1,13 @@
 //! Reads each text of standard input, a JSON string on a line, by the three loads, and prints of each how many
-//! events it has, or its fault; `differs` where the loads don't give the same. The stored answers are those of the
-//! original with the differences of docs/DIFFERENCES.md built in, never of this program.
+//! events it has and which of their texts are lent, read from a string and from its characters, or its fault;
+//! `differs` where the loads don't give the same. The stored answers are those of the original with the differences
+//! of docs/DIFFERENCES.md built in, never of this program.
 #![tactic(auto)]
 
 use anyhow::{Context, Result};
+use granit_base::Text;
 use granit_error::{ErrorKind, Options, ScanError};
+use granit_event::Event;
 use granit_events::push_line;
 use granit_load::{Events, load_chars, load_fallible, load_str};
 use serde_json::Value;
@@ -48,6 +51,37 @@ fn agreed(alloc: Global, text: &str) -> Result<Option<String>> {
     Ok(if agree { Some(of_text) } else { None })
 }
 
+/// The text of an event, where it has one.
+fn text_of<'e, 'a>(event: &'e Event<'a>) -> Option<&'e Text<'a>> {
+    match event {
+        Event::Scalar(text, _, _, _) => Some(text),
+        Event::Comment(text, _) => Some(text),
+        Event::Anchor(_, name) => Some(name),
+        Event::UnresolvedAlias(name) => Some(name),
+        _ => None,
+    }
+}
+
+/// A letter for each text of an answer's events: `l` where it is lent, `o` where it is owned.
+fn lending(alloc: Global, loaded: Result<Events<'_>, ScanError>) -> Result<String> {
+    let mut letters = String::new(alloc);
+    for (event, _) in loaded.ok().context("read before")?.as_slice() {
+        if let Some(text) = text_of(event) {
+            letters.push(if text.is_borrowed() { 'l' } else { 'o' })?;
+        }
+    }
+    Ok(letters)
+}
+
+/// The words for a text that is read.
+fn counted(alloc: Global, text: &str, lines: &str) -> Result<String> {
+    let count = lines.lines().count();
+    let of_text = lending(alloc, load_str(alloc, text, Options::default()))?;
+    let characters = load_chars(alloc, text.chars(), Options::default());
+    let of_characters = lending(alloc, characters)?;
+    Ok(format!(in alloc; "events {count} {of_text}/{of_characters}")?)
+}
+
 fn main(rt: HostRuntime) -> Result<()> {
     let alloc = rt.alloc();
     for line in BufReader::new(alloc, rt.reader())?.lines(alloc) {
@@ -57,7 +91,7 @@ fn main(rt: HostRuntime) -> Result<()> {
         match agreed(alloc, text)? {
             None => println!(rt; "differs")?,
             Some(said) if said.starts_with("fault") => println!(rt; "{said}")?,
-            Some(said) => println!(rt; "events {}", said.lines().count())?,
+            Some(said) => println!(rt; "{}", counted(alloc, text, said.as_str())?)?,
         }
     }
     Ok(())

@@ -42,10 +42,11 @@ fn scalar_at<'a>(
 /// The indexes of a token's ends, its indent, and whether a break was read behind its content.
 type Places = (usize, usize, Option<usize>, bool);
 
-/// The value of a block scalar's token.
+/// The value of a block scalar's token, which is owned.
 fn value_of<'t>(token: &'t Token<'_>) -> Option<&'t str> {
     match token.token_type() {
-        TokenType::Scalar(ScalarStyle::Literal | ScalarStyle::Folded, text) => Some(text.as_str()),
+        TokenType::Scalar(ScalarStyle::Literal | ScalarStyle::Folded, text)
+            if !text.is_borrowed() => { Some(text.as_str()) }
         _ => None,
     }
 }

@@ -1,0 +1,54 @@
+//! The lexeme that a text begins with, by the calls that read lexemes.
+use granit_base::is_blank_or_breakz;
+use granit_cursor::{Cursor, Layout, scan_comment};
+use granit_error::ScanError;
+use granit_input::{Input, StrInput};
+use granit_lex::{scan_plain_scalar, scan_quoted_scalar};
+use std::alloc::Global;
+
+/// Nothing stands around the lexeme.
+fn outermost() -> Layout {
+    Layout {
+        block_column: None,
+        tab_column: 0,
+        in_flow: false,
+        strict: false,
+        comments: true,
+    }
+}
+
+/// Past the plain scalar that begins here, where one does.
+fn pass_plain<'a>(alloc: Global, cursor: &mut Cursor<StrInput<'a>>) -> Result<(), ScanError> {
+    let at = outermost();
+    let is_plain = !is_blank_or_breakz(cursor.input().peek())
+        && cursor.input().next_can_be_plain_scalar(at.in_flow);
+    if is_plain {
+        scan_plain_scalar(alloc, cursor, &at)?;
+    }
+    Ok(())
+}
+
+/// Past the comment, the quoted or the plain scalar that begins here, where one does.
+fn pass_lexeme<'a>(alloc: Global, cursor: &mut Cursor<StrInput<'a>>) -> Result<(), ScanError> {
+    cursor.look(2);
+    match cursor.input().peek() {
+        '#' => {
+            scan_comment(alloc, cursor)?;
+        }
+        '\'' => {
+            scan_quoted_scalar(alloc, cursor, true, &outermost())?;
+        }
+        '"' => {
+            scan_quoted_scalar(alloc, cursor, false, &outermost())?;
+        }
+        _ => pass_plain(alloc, cursor)?,
+    }
+    Ok(())
+}
+
+/// How many characters the lexeme that a text begins with has, or its fault.
+pub fn lexeme_length(alloc: Global, text: &str) -> Result<u64, ScanError> {
+    let mut cursor = Cursor::new(StrInput::new(text));
+    pass_lexeme(alloc, &mut cursor)?;
+    Ok(cursor.mark().index() as u64)
+}
