@@ -65,3 +65,6 @@ pub fresh_comes : {S : Type 0} (steps : S → Option (Result ℕ ErrorKind) → 
     → StillComes steps remaining progress t (characters_of items) (first_error items)
 fresh_comes steps remaining s t progress items same going known =
     rw (same, going) (items, known, refl, refl)
+
+-- what comes of each item, and behind the last
+pub ruleset comes = (comes_character, comes_error, comes_nothing, comes_no_more)

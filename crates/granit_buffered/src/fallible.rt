@@ -95,7 +95,7 @@ impl<T: Source<Item = Result<char, ErrorKind>>> Feed for FallibleFeed<T> {
     ghost fails = { λ s xs fault ended k.
         comes_to_its_error T.next_gives T.remaining s.progress s.iterator xs fault ended k };
 
-    #[tactic(auto, using(crate::proofs::FallibleLemmas::comes_character, crate::proofs::FallibleLemmas::comes_error, crate::proofs::FallibleLemmas::comes_nothing, crate::proofs::FallibleLemmas::comes_no_more))]
+    #[tactic(auto, using(crate::proofs::FallibleLemmas::comes))]
     fn next_char(&mut self) -> Option<char> {
         if self.progress.has_ended() {
             return None;

@@ -15,6 +15,7 @@ use Rattle.granit_machine.specs.Gaps.{past_gap, over_break_if, refuse_cut, behin
 use Rattle.granit_machine.specs.Gaps.{ready_gap, gap_ends}
 use Rattle.granit_machine.specs.Laid.{Laid}
 use Rattle.granit_machine.specs.ReaderState.{ReaderState}
+use Rattle.granit_input.proofs.RunLemmas.{blank_some, break_some}
 use Rattle.granit_cursor.specs.Reading.{coded}
 use Rattle.granit_cursor.proofs.GivenLemmas.{same_ok}
 use Rattle.granit_content.specs.Reads.{Seen, Nothing, seen, seen_comment}
@@ -130,3 +131,6 @@ pub ready_given : (asked : Bool) (o : OptionsData) (moved : Bool) (h : Here) (l 
     → coded (seen asked) (ready_gap o moved h l) ≡ Ok (Nothing, record { here = h; laid = behind_gap moved l })
 unfolding ready_gap
 ready_given asked o moved h l u v tabs cuts = rw (tabs, cuts) refl
+
+-- a blank or a break is a character
+pub ruleset gap_chars = (blank_some, break_some)

@@ -119,7 +119,7 @@ fn pass_blanks<T: Input>(at: &mut Cursor<T>, may_prefix: bool) -> bool
 }
 
 /// Over one of them; false where none stands.
-#[tactic(auto, using(granit_input::proofs::RunLemmas::blank_some, granit_input::proofs::RunLemmas::break_some), unfolding(granit_base::specs::Classes::is_gap, granit_base::specs::Classes::is_bom))]
+#[tactic(auto, using(crate::proofs::GapLemmas::gap_chars), unfolding(granit_base::specs::Classes::is_gap, granit_base::specs::Classes::is_bom))]
 fn pass_gap_char<T: Input>(at: &mut Cursor<T>, may_prefix: bool) -> bool
     ensures here { Wherever T.unread at.old at.new (λ h Lands. OverGapChar result Lands may_prefix h) }
     ensures clear { result ≡ false → (h : Here) → Stands T.unread at.new h → spec.begins_gap may_prefix h ≡ false }

@@ -213,3 +213,6 @@ core_is x s = (
   λ h. ap (option_and_then (named core_names)) (ap (behind_front core_namespace) h.0 ∙ front_is core_namespace s)
       ∙ named_finds core_names s h.1,
 )
+
+-- what follows a front in two texts
+pub ruleset behind_two = (behind_more, behind_other, behind_rest, behind_both, nothing_more)

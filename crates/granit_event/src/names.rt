@@ -21,7 +21,7 @@ fn behind_front<'a>(front: &str, text: &'a str) -> Option<&'a str>
 }
 
 /// What follows a front in two texts, the first followed by the second: what is left of each.
-#[tactic(auto, using(crate::proofs::NameLemmas::behind_more, crate::proofs::NameLemmas::behind_other, crate::proofs::NameLemmas::behind_rest, crate::proofs::NameLemmas::behind_both, crate::proofs::NameLemmas::nothing_more))]
+#[tactic(auto, using(crate::proofs::NameLemmas::behind_two))]
 pub(crate) fn behind<'a>(front: &str, first: &'a str, second: &'a str) -> Option<(&'a str, &'a str)>
     ensures joined { spec.told_pair result ≡ spec.behind_front (chars front.now) (chars first.now ++ chars second.now) }
     ensures first { IfSome result (λ p. spec.more_than (chars p.0.now)

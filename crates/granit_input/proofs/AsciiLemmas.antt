@@ -1,17 +1,17 @@
 -- Characters of ASCII in front of a text, taken as bytes.
 use Rattle.std.proofs.Common.{◌≡◌, ℕ, suc, ◌+◌, ◌<◌, ◌==◌, ◌&&◌, ◌||◌, not, Bool, true, false, List, []}
-use Rattle.std.proofs.Common.{◌∷◌, ◌++◌, length, take, drop, slice_index, refl, sym, ap, ◌∙◌, arith, drop-cons, take-add}
-use Rattle.std.proofs.Common.{append_assoc}
+use Rattle.std.proofs.Common.{◌∷◌, ◌++◌, length, take, drop, slice_index, refl, sym, ap, ◌∙◌, arith, drop-cons}
+use Rattle.std.proofs.Common.{take-add, append_assoc}
 use Rattle.std.specs.Char.{encode_utf8}
 use Rattle.std.specs.Str.{chars, encode_utf8_all, is_utf8}
 use Rattle.std.proofs.lemmas.Str.{chars_past_char, encode_ascii, encodes-append, IsUtf8-past_char, IsUtf8-from_is_utf8}
 use Rattle.std.proofs.lemmas.Str.{is_utf8-from_IsUtf8}
 use Rattle.std.proofs.lemmas.Bool.Decides.{nat_tests}
-use Rattle.granit_base.specs.Classes.{is_blank, is_blank_or_breakz, is_break, is_breakz, is_z}
+use Rattle.granit_base.specs.Classes.{is_blank, is_blank_or_breakz, is_break, is_breakz, is_printable, is_within, is_z}
 use Rattle.granit_base.specs.Place.{first}
 use Rattle.granit_base.specs.PlainContent.{is_content}
 use Rattle.granit_input.specs.Cuts.{SpellsFront, IsAsciiFront}
-use Rattle.granit_input.specs.Runs.{begins_word, is_plain_ascii, is_plain_word}
+use Rattle.granit_input.specs.Runs.{begins_word, is_line_char, is_plain_ascii, is_plain_word}
 use Rattle.granit_input.proofs.RunLemmas.{front_none, front_more}
 use Rattle.granit_input.proofs.StringLemmas.{behind_more}
 
@@ -77,6 +77,10 @@ spells_on s rest after m n text front more =
     ∙ encodes-append (take m (chars s)) (take n (chars rest))))
 
 -- ---- what a run takes of ASCII
+
+pub line_ascii : (c : ℕ) → (is_within 0x20 0x7E c || c == 0x09) ≡ true → is_line_char c ≡ true
+unfolding is_breakz is_break is_z is_printable
+line_ascii c y = grind (arith, nat_tests)
 
 pub plain_ascii : (in_flow : Bool) (c : ℕ) (after : List ℕ) → is_plain_ascii in_flow c ≡ true
     → is_content in_flow (c ∷ after) ≡ true

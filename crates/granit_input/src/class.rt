@@ -1,8 +1,9 @@
 //! The classes of characters that runs are made of.
-ghost use Rattle.std.specs.Prelude.{◌≡◌, ◌<◌, ◌==◌, ◌&&◌, not, ◌∷◌, ℕ, List, true};
+ghost use Rattle.std.specs.Prelude.{◌≡◌, ◌<◌, ◌==◌, ◌&&◌, ◌||◌, not, ◌∷◌, ℕ, List, true};
 ghost use Rattle.std.specs.Str.{chars};
 ghost use Rattle.granit_input.specs.Runs.{begins_word, class_test, is_plain_ascii, is_quoted_ascii, is_quoted_char};
 ghost use Rattle.granit_input.specs.Runs.{run_test};
+ghost use Rattle.granit_base.specs.Classes.{is_within};
 ghost use Rattle.granit_base.specs.Place.{first};
 ghost use Rattle.granit_base.specs.PlainContent.{plain_goes_on};
 
@@ -58,6 +59,18 @@ impl Class {
             Class::NonBreakz => !is_breakz(c),
         }
     }
+
+    /// Whether a character of ASCII is surely in the class.
+    #[inline(always)]
+    #[tactic(auto, using(crate::proofs::AsciiLemmas::line_ascii))]
+    fn contains_ascii(self, c: char) -> bool
+        ensures { result ≡ true → class_test self c ≡ true }
+    {
+        match self {
+            Class::Printable => is_line_ascii(c),
+            _ => self.contains(c),
+        }
+    }
 }
 
 impl Run {
@@ -95,7 +108,7 @@ impl Run {
             → (c ≡ 0x20 → 0 < next → next < 0x80 → first after ≡ next) → run_test self (c ∷ after) ≡ true }
     {
         match self {
-            Run::Of(class) => class.contains(c),
+            Run::Of(class) => class.contains_ascii(c),
             Run::Plain(in_flow) => is_plain_ascii(c, in_flow),
             Run::Quoted(single) => is_quoted_ascii(c, single),
             Run::QuotedAscii(single) => is_quoted_ascii(c, single),
@@ -107,6 +120,14 @@ impl Run {
             }
         }
     }
+}
+
+/// Whether a character of ASCII is printable, and no break.
+#[inline(always)]
+fn is_line_ascii(c: char) -> bool
+    ensures { result ≡ (is_within 0x20 0x7E c || c == 0x09) }
+{
+    (c >= ' ' && c <= '~') || c == '\t'
 }
 
 /// Whether a character from `!` to `~` is content of a plain scalar, whatever follows it.

@@ -110,7 +110,8 @@ fn takes_byte(bytes: &[u8], at: usize, run: Run) -> bool
 {
     let byte = bytes[at];
     let next = behind_space(bytes, at, byte);
-    byte < 0x80 && run.takes_ascii(byte as char, next as char)
+    let is_ascii = byte < 0x80;
+    is_ascii && run.takes_ascii(byte as char, next as char)
 }
 
 /// The byte behind a place where a space stands, and else 0.

@@ -1,13 +1,11 @@
 -- One read, as the code makes it.
-use Rattle.std.proofs.Common.{◌≡◌, ℕ, Bool, true, false, List, [], ◌∷◌, ◌++◌, Option, Some, None, Result, Ok, Err}
+use Rattle.std.proofs.Common.{◌≡◌, Bool, true, false, List, [], ◌∷◌, ◌++◌, Option, Some, None, Result, Ok, Err}
 use Rattle.std.proofs.Common.{refl, sym, ap, subst, ◌∙◌}
-use Rattle.granit_base.specs.Place.{Unread}
 use Rattle.granit_error.specs.OptionsData.{OptionsData}
 use Rattle.granit_error.specs.Refused.{Refused}
 use Rattle.granit_lexemes.specs.Comment.{CommentRead}
 use Rattle.granit_lexemes.specs.Here.{Here, mark_of}
 use Rattle.granit_lexemes.specs.Lexeme.{Item, OfComment}
-use Rattle.granit_lexemes.specs.Outcome.{Fault, ◌>>=◌}
 use Rattle.granit_machine.specs.Gaps.{gap}
 use Rattle.granit_machine.specs.Laid.{Laid}
 use Rattle.granit_machine.specs.Leaving.{Leaves}
@@ -18,12 +16,12 @@ use Rattle.granit_machine.specs.PossibleKeys.{without_stale}
 use Rattle.granit_machine.specs.Reader.{lexeme_of, is_strict_outside, lexeme_in_column, read_behind, read}
 use Rattle.granit_machine.specs.ReaderState.{ReaderState, Read}
 use Rattle.granit_steps.specs.Steps.{incoming}
-use Rattle.granit_cursor.specs.Reading.{Reading, GivesTo, coded}
+use Rattle.granit_cursor.specs.Reading.{GivesTo, coded}
 use Rattle.granit_items.specs.ItemViews.{lexeme_items, note_items}
 use Rattle.granit_items.specs.declared.item.Found.{Found}
 use Rattle.granit_items.specs.declared.item.Lexeme.{Lexeme}
 use Rattle.granit_items.specs.declared.item.Note.{Note}
-use Rattle.granit_content.specs.Reads.{IsAt, ReadsItems, Passed, Kept, found_in, lexeme_in, seen}
+use Rattle.granit_content.specs.Reads.{Passed, Kept, found_in, lexeme_in, seen}
 use Rattle.granit_reader.specs.Reads.{reader_at}
 use Rattle.granit_reader.specs.SortViews.{noded_by, begun}
 

@@ -1,6 +1,5 @@
 -- What the sort of a lexeme says of the text that it begins.
-use Rattle.std.proofs.Common.{◌≡◌, ℕ, ◌==◌, ◌&&◌, ◌||◌, not, Bool, true, false, if◌then◌else◌, ◌⊎◌, inl, inr, refl, sym}
-use Rattle.std.proofs.Common.{ap}
+use Rattle.std.proofs.Common.{◌≡◌, ℕ, ◌==◌, ◌&&◌, ◌||◌, not, Bool, true, false, inl, inr, refl}
 use Rattle.std.specs.Prelude.{slice_index}
 use Rattle.std.proofs.lemmas.Bool.{cases_Bool, and_parts, or_parts, eqb-true}
 use Rattle.granit_base.specs.Classes.{is_z, is_break, is_breakz, is_blank, is_blank_or_breakz, is_flow, is_bom, is_gap}
@@ -10,7 +9,7 @@ use Rattle.granit_block.specs.BlockCode.{block_indicator}
 use Rattle.granit_lexemes.specs.Basics.{is_document_mark}
 use Rattle.granit_lexemes.specs.Here.{Here, text_len, next_char}
 use Rattle.granit_lexemes.specs.QuotedScalar.{quote_char}
-use Rattle.granit_machine.specs.LexemeSort.{PlacedSort, LexemeSort, sort_of, sort_at}
+use Rattle.granit_machine.specs.LexemeSort.{sort_of, sort_at}
 use Rattle.granit_reader.specs.SortViews.{PlacedFits, SortFits}
 
 -- ---- content of a plain scalar

@@ -199,54 +199,28 @@ fn lexeme_of<'input, T: BorrowedInput<'input>>(
         (found_in found.new) result (λ h. sorts.begun (options_of options.now) (placed_view sort) ends h layouts.old) }
     ensures moves { Moves T.left T.origin at.old at.new }
 {
+    let lexeme = &mut found.lexeme;
     match sort {
-        PlacedSort::OpenSign(bracket) => opener(
-            alloc,
-            options,
-            at,
-            layouts,
-            bracket,
-            ends,
-            &mut found.lexeme,
-        ),
+        PlacedSort::OpenSign(bracket) => opener(alloc, options, at, layouts, bracket, ends, lexeme),
         PlacedSort::CloseSign(bracket) => closer(
-            alloc,
-            options,
-            at,
-            layouts,
-            bracket,
-            ends,
-            &mut found.lexeme,
+            alloc, options, at, layouts, bracket, ends, lexeme,
         ),
-        PlacedSort::CommaSign => comma(alloc, options, at, layouts, ends, &mut found.lexeme),
-        PlacedSort::DashSign => dash(alloc, options, at, layouts, ends, &mut found.lexeme),
-        PlacedSort::QuestionSign => question(alloc, options, at, layouts, ends, &mut found.lexeme),
-        PlacedSort::ColonSign => colon(alloc, options, at, layouts, ends, &mut found.lexeme),
-        PlacedSort::AliasSign => alias_lexeme(alloc, at, layouts, ends, &mut found.lexeme),
-        PlacedSort::AnchorSign => anchor_lexeme(
-            alloc,
-            options,
-            at,
-            layouts,
-            ends,
-            &mut found.lexeme,
-        ),
-        PlacedSort::TagSign => tag_lexeme(alloc, options, at, layouts, ends, &mut found.lexeme),
+        PlacedSort::CommaSign => comma(alloc, options, at, layouts, ends, lexeme),
+        PlacedSort::DashSign => dash(alloc, options, at, layouts, ends, lexeme),
+        PlacedSort::QuestionSign => question(alloc, options, at, layouts, ends, lexeme),
+        PlacedSort::ColonSign => colon(alloc, options, at, layouts, ends, lexeme),
+        PlacedSort::AliasSign => alias_lexeme(alloc, at, layouts, ends, lexeme),
+        PlacedSort::AnchorSign => anchor_lexeme(alloc, options, at, layouts, ends, lexeme),
+        PlacedSort::TagSign => tag_lexeme(alloc, options, at, layouts, ends, lexeme),
         PlacedSort::BlockSign(literal) => block_lexeme(
-            alloc,
-            options,
-            at,
-            layouts,
-            literal,
-            ends,
-            &mut found.lexeme,
+            alloc, options, at, layouts, literal, ends, lexeme,
         ),
         PlacedSort::QuoteSign(single) => quoted_and_gap(
             alloc, options, at, layouts, single, ends, found,
         ),
         PlacedSort::StrayMark => Err(ScanError::from_kind(at.mark(), ErrorKind::BomInsideDocument)),
         PlacedSort::NoSign => Err(unexpected(at)),
-        PlacedSort::PlainSign => plain_lexeme(alloc, options, at, layouts, ends, &mut found.lexeme),
+        PlacedSort::PlainSign => plain_lexeme(alloc, options, at, layouts, ends, lexeme),
     }
 }
 

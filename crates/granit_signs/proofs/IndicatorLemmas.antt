@@ -14,7 +14,8 @@ use Rattle.granit_lexemes.specs.Here.{Here, text_len, next_char, mark_of, step, 
 use Rattle.granit_lexemes.specs.Lexeme.{Dash, Question, Colon, Lexeme}
 use Rattle.granit_lexemes.specs.Outcome.{Fault, Fails, ◌>>=◌}
 use Rattle.granit_lexemes.specs.Tail.{tail_at}
-use Rattle.granit_lexemes.specs.declared.layout.LastLexeme.TheVariants.{BehindQuestion, Another}
+use Rattle.granit_lexemes.specs.declared.layout.LastLexeme.{LastLexeme}
+use Rattle.granit_lexemes.specs.declared.layout.LastLexeme.TheVariants.{BehindQuestion, BehindBareColon, Another}
 use Rattle.granit_lexemes.specs.declared.layout.PossibleKey.{PossibleKey}
 use Rattle.granit_machine.specs.Columns.{with_entry, with_pair}
 use Rattle.granit_machine.specs.Gaps.{begins_gap, over_gap_char, skip_gap, past_gap, leading_tab, refuse_tab}
@@ -27,6 +28,7 @@ use Rattle.granit_machine.specs.PossibleKeys.{top_key, forgets_key, is_allowed, 
 use Rattle.granit_machine.specs.ReaderState.{Read, sign_lexeme, with_tail, given}
 use Rattle.granit_steps.specs.Steps.{incoming}
 use Rattle.granit_signs.specs.IndicatorReads.{question_from, with_key, keyed_by, bare_by, colon_by}
+use Rattle.granit_signs.specs.IndicatorReads.{keyed_entry, bare_entry}
 use Rattle.granit_content.specs.Reads.{Seen, seen, seen_comment, noted}
 use Rattle.granit_content.proofs.CodedLemmas.{coded_back, coded_fails, fails_then}
 use Rattle.granit_content.proofs.HeardLemmas.{same_if, same_then}
@@ -43,6 +45,17 @@ if_false a x y failed = rw failed refl
 third : {A : Type 0} (a b : Bool) (x y z : A) → a ≡ false → b ≡ true → (if a then x else if not b then y else z) ≡ z
 third a b x y z failed held = rw (failed, held) refl
 
+then_third : {A B : Type 0} (a b : Bool) (x y z : Result A Fault) (f : A → Result B Fault)
+    → ((if a then x else if b then y else z) >>= f) ≡ (if a then x >>= f else if b then y >>= f else z >>= f)
+then_third true b x y z f = refl
+then_third false true x y z f = refl
+then_third false false x y z f = refl
+
+then_then : {A B C : Type 0} (r : Result A Fault) (f : A → B) (g : B → Result C Fault)
+    → (r >>= (λ x. Ok (f x)) >>= g) ≡ (r >>= λ x. g (f x))
+then_then (Ok x) f g = refl
+then_then (Err e) f g = refl
+
 -- ---- an entry counts no lexeme
 
 entered_number : {A : Type 0} (r : Result A Fault) (l k m : Laid) → (r >>= λ u. Ok k) ≡ Ok m → k.number ≡ l.number
@@ -50,11 +63,7 @@ entered_number : {A : Type 0} (r : Result A Fault) (l k m : Laid) → (r >>= λ 
 entered_number (Ok u) l k m is same = let e : k ≡ m = cc in sym (ap (λ (n : Laid). n.number) e) ∙ same
 entered_number (Err f) l k m is same = absurd cc
 
-pub entry_number : (o : OptionsData) (column : ℕ) (mark : Mark) (l m : Laid) → with_entry o column mark l ≡ Ok m
-    → m.number ≡ l.number
-entry_number o column mark l m is = entered_number _ l _ m is refl
-
-pub pair_number : (o : OptionsData) (column : ℕ) (mark : Mark) (l m : Laid) → with_pair o column mark l ≡ Ok m
+pair_number : (o : OptionsData) (column : ℕ) (mark : Mark) (l m : Laid) → with_pair o column mark l ≡ Ok m
     → m.number ≡ l.number
 pair_number o column mark l m is = entered_number _ l _ m is refl
 
@@ -182,7 +191,8 @@ module _ (asked : Bool) (o : OptionsData) (ends : Bool) (tail : Option CommentRe
       ≡ coded (incoming asked) (keyed_colon o ends k tail after h l)
   unfolding keyed_colon
   keyed_kept k =
-      same_if (incoming asked) (is_far_below h.place l k) _ _ _ _ refl
+      then_third (is_far_below h.place l k) (is_in_flow l) _ _ _ _
+      ∙ same_if (incoming asked) (is_far_below h.place l k) _ _ _ _ refl
       (same_if (incoming asked) (is_in_flow l) _ _ _ _
       (sym (read_seen asked (with_key k (sign_lexeme ends Colon h l)) tail after _))
       (same_then (incoming asked) (with_pair o k.start.place.column k.start l) _ _
@@ -192,9 +202,12 @@ module _ (asked : Bool) (o : OptionsData) (ends : Bool) (tail : Option CommentRe
       ≡ coded (incoming asked) (bare_colon o ends tail after h l)
   unfolding bare_colon
   bare_kept =
-      same_if (incoming asked) (is_in_flow l) _ _ _ _ (sym (read_seen asked (sign_lexeme ends Colon h l) tail after _))
+      then_third (is_in_flow l) (not (is_allowed h.begins_line h.tab l)) _ _ _ _
+      ∙ same_if (incoming asked) (is_in_flow l) _ _ _ _
+      (sym (read_seen asked (sign_lexeme ends Colon h l) tail after _))
       (same_if (incoming asked) (not (is_allowed h.begins_line h.tab l)) _ _ _ _ refl
-      (same_then (incoming asked) (with_pair o h.place.column (mark_of h) l) _ _
+      (then_then (with_pair o h.place.column (mark_of h) l) _ _
+      ∙ same_then (incoming asked) (with_pair o h.place.column (mark_of h) l) _ _
       (λ m. sym (read_seen asked (sign_lexeme ends Colon h l) tail after _))))
 
   colon_kept : (key : Option PossibleKey) → colon_by o key (tailed_sign (noted (seen asked tail))) (mark_of h)
@@ -228,26 +241,46 @@ module _ (asked : Bool) (o : OptionsData) (ends : Bool) (h : Here) (l : Laid)
 
 -- ---- a `:`, by what the code holds
 
-module _ (o : OptionsData) (k : PossibleKey) (x : Lexeme) (m : Mark) (after : Here) (l : Laid)
-    (near : is_far_below m.place l k ≡ false) where
-  pub keyed_flow : is_in_flow l ≡ true → keyed_by o k x m after l ≡ keyed_given (with_key k x) after l
-  keyed_flow flow = if_false (is_far_below m.place l k) _ _ near ∙ if_true (is_in_flow l) _ _ flow
+chosen_number : (far flow : Bool) (f : Fault) (r : Result Laid Fault) (l n : Laid)
+    → ((m : Laid) → r ≡ Ok m → m.number ≡ l.number) → (if far then Err f else if flow then Ok l else r) ≡ Ok n
+    → n.number ≡ l.number
+chosen_number true flow f r l n counts is = absurd cc
+chosen_number false true f r l n counts is = let same : l ≡ n = cc in sym (ap (λ (m : Laid). m.number) same)
+chosen_number false false f r l n counts is = counts n is
 
-  pub keyed_block : (n : Laid) → is_in_flow l ≡ false → with_pair o k.start.place.column k.start l ≡ Ok n
-      → keyed_by o k x m after l ≡ keyed_given (with_key k x) after n
-  keyed_block n flow entered =
-      if_false (is_far_below m.place l k) _ _ near ∙ if_false (is_in_flow l) _ _ flow
-      ∙ ap (λ (r : Result Laid Fault). r >>= keyed_given (with_key k x) after) entered
+-- no lexeme is counted where a `:` may stand
+pub keyed_number : (o : OptionsData) (k : PossibleKey) (m : Mark) (l n : Laid) → keyed_entry o k m l ≡ Ok n
+    → n.number ≡ l.number
+keyed_number o k m l n is =
+    chosen_number (is_far_below m.place l k) (is_in_flow l) _ (with_pair o k.start.place.column k.start l) l n
+    (λ p. pair_number o k.start.place.column k.start l p) is
 
-module _ (o : OptionsData) (x : Lexeme) (m : Mark) (allowed : Bool) (after : Here) (l : Laid) where
-  pub bare_flow : is_in_flow l ≡ true → bare_by o x m allowed after l ≡ given x Another after l
-  bare_flow flow = if_true (is_in_flow l) _ _ flow
+bare_pair : (r : Result Laid Fault) (l : Laid) (e : LastLexeme × Laid)
+    → ((m : Laid) → r ≡ Ok m → m.number ≡ l.number) → (r >>= λ n. Ok (BehindBareColon, n)) ≡ Ok e
+    → e.1.number ≡ l.number
+bare_pair (Ok m) l e counts is =
+    let same : (BehindBareColon, m) ≡ e = cc in
+    sym (ap (λ (p : LastLexeme × Laid). p.1.number) same) ∙ counts m refl
+bare_pair (Err f) l e counts is = absurd cc
 
-  pub bare_block : (n : Laid) → is_in_flow l ≡ false → allowed ≡ true → with_pair o m.place.column m l ≡ Ok n
-      → bare_by o x m allowed after l ≡ bare_given x after n
-  bare_block n flow held entered =
-      third (is_in_flow l) allowed _ _ _ flow held
-      ∙ ap (λ (r : Result Laid Fault). r >>= bare_given x after) entered
+chosen_bare : (flow held : Bool) (f : Fault) (r : Result Laid Fault) (l : Laid) (e : LastLexeme × Laid)
+    → ((m : Laid) → r ≡ Ok m → m.number ≡ l.number)
+    → (if flow then Ok (Another, l) else if not held then Err f else r >>= λ n. Ok (BehindBareColon, n)) ≡ Ok e
+    → e.1.number ≡ l.number
+chosen_bare true held f r l e counts is =
+    let same : (Another, l) ≡ e = cc in sym (ap (λ (p : LastLexeme × Laid). p.1.number) same)
+chosen_bare false false f r l e counts is = absurd cc
+chosen_bare false true f r l e counts is = bare_pair r l e counts is
+
+pub bare_number : (o : OptionsData) (m : Mark) (allowed : Bool) (l : Laid) (e : LastLexeme × Laid)
+    → bare_entry o m allowed l ≡ Ok e → e.1.number ≡ l.number
+bare_number o m allowed l e is =
+    chosen_bare (is_in_flow l) allowed _ (with_pair o m.place.column m l) l e
+    (λ p. pair_number o m.place.column m l p) is
+
+pub keyed_fits : (o : OptionsData) (k : PossibleKey) (m : Mark) (l : Laid) → is_far_below m.place l k ≡ false
+    → is_in_flow l ≡ false → keyed_entry o k m l ≡ with_pair o k.start.place.column k.start l
+keyed_fits o k m l near flow = rw (near, flow) refl
 
 pub colon_same : (o : OptionsData) (key : Option PossibleKey) (x y : Lexeme) (m n : Mark) (a b : Bool) (after : Here)
     (l : Laid) → x ≡ y → m ≡ n → a ≡ b → colon_by o key x m a after l ≡ colon_by o key y n b after l

@@ -1,5 +1,5 @@
 -- `?` and `:`, by what the code holds of them.
-use Rattle.std.specs.Prelude.{◌==◌, ◌&&◌, not, Bool, if◌then◌else◌, Option, Some, None}
+use Rattle.std.specs.Prelude.{◌==◌, ◌&&◌, not, Bool, if◌then◌else◌, Option, Some, None, Result, Ok}
 use Rattle.granit_base.specs.Classes.{is_gap}
 use Rattle.granit_base.specs.Place.{Mark}
 use Rattle.granit_error.specs.FaultKind.{InvalidColonPlacement, MappingValueNotAllowed, ExpectedWhitespace}
@@ -8,10 +8,11 @@ use Rattle.granit_lexemes.specs.Basics.{fails_at}
 use Rattle.granit_lexemes.specs.Here.{Here, text_len, next_char, mark_of, past}
 use Rattle.granit_lexemes.specs.Lexeme.{Lexeme}
 use Rattle.granit_lexemes.specs.Outcome.{Fault, ◌>>=◌}
-use Rattle.granit_lexemes.specs.declared.layout.LastLexeme.TheVariants.{Another}
+use Rattle.granit_lexemes.specs.declared.layout.LastLexeme.{LastLexeme}
+use Rattle.granit_lexemes.specs.declared.layout.LastLexeme.TheVariants.{Another, BehindBareColon}
 use Rattle.granit_lexemes.specs.declared.layout.PossibleKey.{PossibleKey}
 use Rattle.granit_machine.specs.Columns.{with_pair}
-use Rattle.granit_machine.specs.IndicatorLexemes.{behind_question, question_up_to, keyed_given, bare_given}
+use Rattle.granit_machine.specs.IndicatorLexemes.{behind_question, question_up_to, keyed_given}
 use Rattle.granit_machine.specs.Laid.{Laid, is_in_flow}
 use Rattle.granit_machine.specs.PossibleKeys.{start_of_key, is_far_below}
 use Rattle.granit_machine.specs.ReaderState.{Read, given}
@@ -25,19 +26,25 @@ question_from o x h l =
 abbrev pub with_key : PossibleKey → Lexeme → Lexeme
 with_key k x = record x { key = Some (start_of_key k) }
 
--- a `:` at a mark behind its key
-abbrev pub keyed_by : OptionsData → PossibleKey → Lexeme → Mark → (after : Here) → Laid → Read
-keyed_by o k x m after l =
+-- where a `:` at a mark may stand behind its key: in flow, or where the pair of a block mapping may
+abbrev pub keyed_entry : OptionsData → PossibleKey → Mark → Laid → Result Laid Fault
+keyed_entry o k m l =
     if is_far_below m.place l k then fails_at InvalidColonPlacement m
-    else if is_in_flow l then keyed_given (with_key k x) after l
-    else with_pair o k.start.place.column k.start l >>= keyed_given (with_key k x) after
+    else if is_in_flow l then Ok l
+    else with_pair o k.start.place.column k.start l
 
--- one without a key, where that is allowed or not
-abbrev pub bare_by : OptionsData → Lexeme → Mark → (allowed : Bool) → (after : Here) → Laid → Read
-bare_by o x m allowed after l =
-    if is_in_flow l then given x Another after l
+abbrev pub keyed_by : OptionsData → PossibleKey → Lexeme → Mark → (after : Here) → Laid → Read
+keyed_by o k x m after l = keyed_entry o k m l >>= keyed_given (with_key k x) after
+
+-- where one may stand without a key, and what it lets the next lexeme be
+abbrev pub bare_entry : OptionsData → Mark → (allowed : Bool) → Laid → Result (LastLexeme × Laid) Fault
+bare_entry o m allowed l =
+    if is_in_flow l then Ok (Another, l)
     else if not allowed then fails_at MappingValueNotAllowed m
-    else with_pair o m.place.column m l >>= bare_given x after
+    else with_pair o m.place.column m l >>= λ n. Ok (BehindBareColon, n)
+
+abbrev pub bare_by : OptionsData → Lexeme → Mark → (allowed : Bool) → (after : Here) → Laid → Read
+bare_by o x m allowed after l = bare_entry o m allowed l >>= λ e. given x e.0 after e.1
 
 abbrev pub colon_by : OptionsData → Option PossibleKey → Lexeme → Mark → (allowed : Bool) → (after : Here) → Laid → Read
 colon_by o (Some k) x m allowed after l = keyed_by o k x m after l

@@ -6,14 +6,15 @@ ghost use Rattle.granit_lexemes.specs.Here.{Here};
 ghost use Rattle.granit_lexemes.specs.Outcome.{Gives};
 ghost use Rattle.granit_machine.specs.IndicatorLexemes as spec;
 ghost use Rattle.granit_machine.specs.Laid.{is_adjacent};
+ghost use Rattle.granit_machine.specs.Leaving.{LeavesIfRoom};
 ghost use Rattle.granit_machine.specs.PossibleKeys as keys;
-ghost use Rattle.granit_signs.specs.IndicatorReads.{with_key, bare_by, keyed_by, colon_by};
+ghost use Rattle.granit_signs.specs.IndicatorReads.{with_key, bare_by, bare_entry, colon_by, keyed_by, keyed_entry};
 ghost use Rattle.granit_items.specs.ItemViews.{lexeme_items, lexeme_view};
 ghost use Rattle.granit_content.specs.Reads.{ReadsItems, lexeme_in, seen, tail_view};
 
 use crate::indicators::column_of;
 use granit_base::{Marker, is_blank};
-use granit_content::{Tail, give, sign, tail_at, with_tail};
+use granit_content::{Tail, give, lexeme_to, start_of, tail_at, with_tail};
 use granit_cursor::Cursor;
 use granit_error::{ErrorKind, Options, ScanError};
 use granit_input::{BorrowedInput, Input};
@@ -49,8 +50,11 @@ pub fn colon<'input, T: BorrowedInput<'input>>(
         return Err(ScanError::from_kind(mark, ErrorKind::FlowMappingValueAdjacentCollection));
     }
     let allowed = layouts.is_allowed(at.begins_line(), at.tab());
-    let lexeme = sign(at, layouts, ends, LexemeKind::Colon);
+    let start = start_of(at);
+    at.step();
+    let end = at.mark();
     let tail = colon_tail(alloc, at, options.emit_comments)?;
+    let lexeme = lexeme_to(layouts, ends, LexemeKind::Colon, start, end);
     colon_by_key(
         options,
         layouts,
@@ -116,6 +120,7 @@ fn colon_by_key<'input>(
 }
 
 /// A `:` behind its key.
+#[tactic(auto, using(crate::proofs::IndicatorLemmas::keyed_number))]
 fn keyed_colon<'input>(
     options: &Options,
     layouts: &mut Layouts,
@@ -128,17 +133,28 @@ fn keyed_colon<'input>(
     ensures { (after : Here) → Gives (lexeme_in found.new) result (record { here = after; laid = layouts.new })
         (keyed_by (options_of options.now) key (lexeme_view lexeme.entry) mark after layouts.old) }
 {
-    if layouts.is_far_below(mark, &key) {
+    enter_keyed(options, layouts, mark, &key)?;
+    keyed(layouts, lexeme, &key, found);
+    Ok(())
+}
+
+/// The pair of a block mapping that a `:` at a mark divides behind its key may stand here; in flow it stands anywhere.
+fn enter_keyed(
+    options: &Options,
+    layouts: &mut Layouts,
+    mark: Marker,
+    key: &PossibleKey,
+) -> Result<(), ScanError>
+    ensures { LeavesIfRoom result layouts.new (keyed_entry (options_of options.now) key.now mark layouts.old) }
+{
+    if layouts.is_far_below(mark, key) {
         return Err(ScanError::from_kind(mark, ErrorKind::InvalidColonPlacement));
     }
     if layouts.is_in_flow() {
-        keyed(layouts, lexeme, &key, found);
         return Ok(());
     }
     let column = column_of(key.start)?;
-    layouts.enter_pair(options, column, key.start)?;
-    keyed(layouts, lexeme, &key, found);
-    Ok(())
+    layouts.enter_pair(options, column, key.start)
 }
 
 /// The lexeme of a `:` with its key.
@@ -169,6 +185,7 @@ fn key_given<'input>(mut lexeme: Lexeme<'input>, key: &PossibleKey) -> Lexeme<'i
 }
 
 /// A `:` without a key.
+#[tactic(auto, using(crate::proofs::IndicatorLemmas::bare_number))]
 fn bare_colon<'input>(
     options: &Options,
     layouts: &mut Layouts,
@@ -181,15 +198,28 @@ fn bare_colon<'input>(
     ensures { (after : Here) → Gives (lexeme_in found.new) result (record { here = after; laid = layouts.new })
         (bare_by (options_of options.now) (lexeme_view lexeme.entry) mark allowed after layouts.old) }
 {
+    let last = enter_bare(options, layouts, mark, allowed)?;
+    give(layouts, lexeme, last, found);
+    Ok(())
+}
+
+/// The same of a `:` without a key, where one may stand, and what the next lexeme may be behind it.
+fn enter_bare(
+    options: &Options,
+    layouts: &mut Layouts,
+    mark: Marker,
+    allowed: bool,
+) -> Result<LastLexeme, ScanError>
+    ensures { Gives (λ last. last) result layouts.new
+        (bare_entry (options_of options.now) mark allowed layouts.old) }
+{
     if layouts.is_in_flow() {
-        give(layouts, lexeme, LastLexeme::Another, found);
-        return Ok(());
+        return Ok(LastLexeme::Another);
     }
     if !allowed {
         return Err(ScanError::from_kind(mark, ErrorKind::MappingValueNotAllowed));
     }
     let column = column_of(mark)?;
     layouts.enter_pair(options, column, mark)?;
-    give(layouts, lexeme, LastLexeme::BehindBareColon, found);
-    Ok(())
+    Ok(LastLexeme::BehindBareColon)
 }

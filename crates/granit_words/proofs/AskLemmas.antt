@@ -122,3 +122,6 @@ pub asked : (words : List Written) → At (spelled words) 0 (codes "selftest") �
     → length words ≤ 3 → Ask (spelled words) n m
 asked words a n h b m l d short =
     asked_by (spelled words) a n h b m l d (omega (arith, short, spelled_length words))
+
+-- each word that may be the first wrong one
+pub ruleset wrong_words = (wrong_first, wrong_seed, wrong_size, too_many)

@@ -48,7 +48,7 @@ fn number(words: &TextList, i: usize) -> Option<usize>
 /// # Errors
 ///
 /// The number of the first wrong word, from 1, or one past the last where a word is missing.
-#[tactic(auto, using(crate::proofs::AskLemmas::wrong_first, crate::proofs::AskLemmas::wrong_seed, crate::proofs::AskLemmas::wrong_size, crate::proofs::AskLemmas::too_many))]
+#[tactic(auto, using(crate::proofs::AskLemmas::wrong_words))]
 pub fn read_asked(words: &TextList) -> Result<(u32, u32), usize>
     ensures right { IfOk result (λ p. Ask (spelled words.now) p.0 p.1) }
     ensures wrong { IfErr result (λ k. AskWrongAt (spelled words.now) k) }

@@ -1,11 +1,10 @@
-use Rattle.std.proofs.Common.{◌≡◌, ◌∙◌, Bool, false, Ok, Some, refl, sym, ap}
+use Rattle.std.proofs.Common.{refl}
 use Rattle.std.proofs.lemmas.Result.{err_from_is_err_and}
 use Rattle.granit_error.specs.OptionsView.{options_of}
 use Rattle.granit_machine.specs.Reader.{read}
 use Rattle.granit_steps.specs.Steps.{incoming}
 use Rattle.granit_items.specs.ItemViews.{found_items}
 use Rattle.granit_reader.specs.Reads.{reader_at}
-use Rattle.granit_reader.specs.Turns.{before_turn}
 use Rattle.granit_content.proofs.CodedLemmas.{coded_back, coded_fails}
 use Rattle.granit_reader.proofs.TurnLemmas.{turn_given, turn_refused, turn_ended}
 use Rattle.granit_reader.proofs.turn.next_found.Goals as goal

@@ -18,21 +18,23 @@ returns-in_err-tail-clause-here g c = λ h k.
     let o = options_of c.args.options.now in
     let looked = c.look.ensures.here h k in
     let fits = sym (c.is_before_flow.ensures h looked) ∙ c.if-is_before_flow.false in
-    let signed = c.sign-lexeme.ensures.here h looked in
+    let on = c.step.ensures.here h looked in
     rw (p.1, p.2) (colon_fails o.emit_comments o c.args.ends h c.args.layouts.now fits c.in_err-tail.field-0.0
-    (c.in_err-tail.ensures.here (step h) signed.0))
+    (c.in_err-tail.ensures.here (step h) on))
 
 pub returns-clause-here : goal.returns-clause-here
 returns-clause-here g c = λ h k.
     let o = options_of c.args.options.now in
     let looked = c.look.ensures.here h k in
     let fits = sym (c.is_before_flow.ensures h looked) ∙ c.if-is_before_flow.false in
-    let signed = c.sign-lexeme.ensures.here h looked in
-    let tail = c.in_ok-tail.ensures.here (step h) signed.0 in
+    let on = c.step.ensures.here h looked in
+    let lexeme = rw (c.mark-end.ensures.here (step h) on) at
+    (c.lexeme_to-lexeme.ensures h (c.start_of-start.ensures h looked)) in
+    let tail = c.in_ok-tail.ensures.here (step h) on in
     let allowed = rw (c.begins_line.ensures ∙ sym looked.2, c.tab.ensures ∙ sym looked.3) at
     c.is_allowed-allowed.ensures in
     let seen = tail_view c.in_ok-tail.tail in
-    let tailed = c.with_tail.ensures ∙ ap (λ (x : Lexeme). with_tail x (noted seen)) signed.1 in
+    let tailed = c.with_tail.ensures ∙ ap (λ (x : Lexeme). with_tail x (noted seen)) lexeme in
     let whole = colon_tailed o.emit_comments o c.args.ends h c.args.layouts.now fits seen tail.0 tail.2
     ∙ sym (colon_same o (top_key c.args.layouts.now) (lexeme_view c.with_tail.result) _ c.mark-mark.result _
     c.is_allowed-allowed.result _ tail.0 c.args.layouts.now tailed (c.mark-mark.ensures.here h looked) allowed) in
