@@ -99,18 +99,19 @@ abbrev BehindView :
     Bool → lexemes.LexemeKind → Option KeyStart → Scope → lexemes.Lexeme → OptionsData → Mark → List PlainEvent →
     TreeProperties → List OpenFrame → Type 0
 BehindView b k key s l o last given p fs =
-    LimitView o (X b k key s l) (knowing s last given) (NodeOf b k key s l o last given p fs)
+    LimitView o (X b k key s l) (knowing o s last given) (NodeOf b k key s l o last given p fs)
     (want_frames fs p (terminal_kind k key) (at_of b s (at_kind l k key)))
 
 plain_behind :
     (m : PartKind) (k : lexemes.LexemeKind) (s : Scope) (l : lexemes.Lexeme) (o : OptionsData) (last : Mark)
     (given : List PlainEvent) (p : TreeProperties) (fs : List OpenFrame) (n : Result ParserState Fault) →
     (part_fits (RoomOf p fs) (at_of false s (at_kind l k None)) && joins p m) ≡ true →
-    LimitView o (On k false s l) (knowing s last given) n
+    LimitView o (On k false s l) (knowing o s last given) n
     (part_frames (stop_kind fs) fs p m (at_of false s (at_kind l k None))) →
-    LimitView o (On k false s l) (knowing s last given) n (want_frames fs p (Part m) (at_of false s (at_kind l k None)))
+    LimitView o (On k false s l) (knowing o s last given) n
+    (want_frames fs p (Part m) (at_of false s (at_kind l k None)))
 plain_behind m k s l o last given p fs n c v =
-    subst (LimitView o (On k false s l) (knowing s last given) n)
+    subst (LimitView o (On k false s l) (knowing o s last given) n)
     (sym (plain_is fs p m (at_of false s (at_kind l k None)) refl (and_left _ _ c))) v
 
 -- ---- one that begins something outside flow
@@ -134,14 +135,14 @@ key_right fs p m i q e c =
 tested_true :
     (b : Bool) (k : lexemes.LexemeKind) (key : Option KeyStart) (s : Scope) (l : lexemes.Lexeme) (o : OptionsData)
     (last : Mark) (given : List PlainEvent) (p : TreeProperties) (fs : List OpenFrame) (r : Bool) → r ≡ true →
-    LimitView o (X b k key s l) (knowing s last given)
+    LimitView o (X b k key s l) (knowing o s last given)
     (Tested r (NodeOf b k key s l o last given p fs) (stop_kind fs) (X b k key s l))
     (want_frames fs p (terminal_kind k key) (at_of b s (at_kind l k key))) →
     BehindView b k key s l o last given p fs
 tested_true b k key s l o last given p fs r e v =
     subst
     (λ r.
-    LimitView o (X b k key s l) (knowing s last given)
+    LimitView o (X b k key s l) (knowing o s last given)
     (Tested r (NodeOf b k key s l o last given p fs) (stop_kind fs) (X b k key s l))
     (want_frames fs p (terminal_kind k key) (at_of b s (at_kind l k key))))
     e v
@@ -307,9 +308,9 @@ pub behind_properties_steps :
 behind_properties_steps b k key s l o last given NoProperties fs g h f n e = absurd g
 behind_properties_steps b k key s l o last given (One r i) fs g h f n e =
     subst
-    (LimitView o (X b k key s l) (knowing s last given)
+    (LimitView o (X b k key s l) (knowing o s last given)
     (take_token o (token_of b (at_kind l k key))
-    (state_of o (InFrames (PropertiesFrame (One r i) ∷ fs)) (knowing s last given))))
+    (state_of o (InFrames (PropertiesFrame (One r i) ∷ fs)) (knowing o s last given))))
     (sym
     (continuing
     (continues_node (behind_property (frames_room fs)) (One r i) (terminal_kind k key)
@@ -321,9 +322,9 @@ behind_properties_steps b k key s l o last given (One r i) fs g h f n e =
     (behind_given b k key s l o last given (One r i) fs g h (place_or (One r i) fs g h) e (not_false _ n) f.1)
 behind_properties_steps b k key s l o last given (Two r i m j) fs g h f n e =
     subst
-    (LimitView o (X b k key s l) (knowing s last given)
+    (LimitView o (X b k key s l) (knowing o s last given)
     (take_token o (token_of b (at_kind l k key))
-    (state_of o (InFrames (PropertiesFrame (Two r i m j) ∷ fs)) (knowing s last given))))
+    (state_of o (InFrames (PropertiesFrame (Two r i m j) ∷ fs)) (knowing o s last given))))
     (sym
     (continuing
     (continues_node (behind_property (frames_room fs)) (Two r i m j) (terminal_kind k key)

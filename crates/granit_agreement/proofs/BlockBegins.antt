@@ -39,21 +39,22 @@ use Rattle.granit_agreement.proofs.Pops.{indent_none, node_head, indent_view}
 use Rattle.granit_agreement.proofs.Standing.{popped}
 
 -- the parser counts the same
-pub count_view : (fs : List OpenFrame) → machine_ends.block_count (frames_of fs) ≡ blocks_open fs
-count_view [] = refl
-count_view (DocumentFrame m ∷ fs) = count_view fs
-count_view (PropertiesFrame p ∷ fs) = count_view fs
-count_view (SequenceFrame loose c w ∷ fs) = ap suc (count_view fs)
-count_view (MappingFrame c at ∷ fs) = ap suc (count_view fs)
-count_view (FlowSequenceFrame d ∷ fs) = count_view fs
-count_view (FlowMappingFrame single at ∷ fs) = count_view fs
-count_view (FlowPairFrame at ∷ fs) = count_view fs
+pub count_view : (o : OptionsData) (fs : List OpenFrame) → machine_ends.block_count (frames_of o fs) ≡ blocks_open fs
+count_view o [] = refl
+count_view o (DocumentFrame m ∷ fs) = count_view o fs
+count_view o (PropertiesFrame p ∷ fs) = count_view o fs
+count_view o (SequenceFrame loose c w ∷ fs) = ap suc (count_view o fs)
+count_view o (MappingFrame c at ∷ fs) = ap suc (count_view o fs)
+count_view o (FlowSequenceFrame d ∷ fs) = count_view o fs
+count_view o (FlowMappingFrame single at ∷ fs) = count_view o fs
+count_view o (FlowPairFrame at ∷ fs) = count_view o fs
 
 topped_count :
-    (p : TreeProperties) (fs : List OpenFrame) → machine_ends.block_count (frames_of (topped p fs)) ≡ blocks_open fs
-topped_count NoProperties fs = count_view fs
-topped_count (One k i) fs = count_view fs
-topped_count (Two k i m j) fs = count_view fs
+    (o : OptionsData) (p : TreeProperties) (fs : List OpenFrame)
+    → machine_ends.block_count (frames_of o (topped p fs)) ≡ blocks_open fs
+topped_count o NoProperties fs = count_view o fs
+topped_count o (One k i) fs = count_view o fs
+topped_count o (Two k i m j) fs = count_view o fs
 
 pub full_limit : (n d : ℕ) → nat_le n d ≡ true → nat_le (suc d) n ≡ false
 full_limit n d e = grind (arith, nat_tests)
@@ -67,11 +68,11 @@ begun :
     (fs : List OpenFrame) (d : Beside) →
     Holes fs →
     begin o kind (empty_span m) f (state_of o (InFrames (topped p fs)) d)
-    ≡ framed f (popped fs m (HeadGiven o p kind (empty_span m) (indent_told (frames_indent fs)) d.given) d)
+    ≡ framed f (popped o fs m (HeadGiven o p kind (empty_span m) (indent_told (frames_indent fs)) d.given) d)
 begun o p kind m f fs d h =
     ap (framed f) (node_begins o p kind (empty_span m) None fs d h)
-    ∙ ap (λ i. framed f (popped fs m (HeadGiven o p kind (empty_span m) i d.given) d))
-    (indent_view fs None h ∙ indent_none (frames_indent fs))
+    ∙ ap (λ i. framed f (popped o fs m (HeadGiven o p kind (empty_span m) i d.given) d))
+    (indent_view o fs None h ∙ indent_none (frames_indent fs))
 
 abbrev pub Limited : Bool → Mark → ParserState → Result ParserState Fault
 Limited full m q = if full then Err (fault_at refused.RecursionLimitExceeded m) else Ok q
@@ -82,16 +83,16 @@ pub limited_by :
     Holes fs → nat_le o.block_nesting_limit (blocks_open fs) ≡ full →
     begin_block o kind m f (state_of o (InFrames (topped p fs)) d)
     ≡ Limited full m
-    (framed f (popped fs m (HeadGiven o p kind (empty_span m) (indent_told (frames_indent fs)) d.given) d))
+    (framed f (popped o fs m (HeadGiven o p kind (empty_span m) (indent_told (frames_indent fs)) d.given) d))
 unfolding begin_block
 limited_by o kind m f NoProperties fs d full h e =
-    ap₂ (λ b q. Limited b m q) (ap (nat_le o.block_nesting_limit) (topped_count NoProperties fs) ∙ e)
+    ap₂ (λ b q. Limited b m q) (ap (nat_le o.block_nesting_limit) (topped_count o NoProperties fs) ∙ e)
     (begun o NoProperties kind m f fs d h)
 limited_by o kind m f (One k i) fs d full h e =
-    ap₂ (λ b q. Limited b m q) (ap (nat_le o.block_nesting_limit) (topped_count (One k i) fs) ∙ e)
+    ap₂ (λ b q. Limited b m q) (ap (nat_le o.block_nesting_limit) (topped_count o (One k i) fs) ∙ e)
     (begun o (One k i) kind m f fs d h)
 limited_by o kind m f (Two k i n j) fs d full h e =
-    ap₂ (λ b q. Limited b m q) (ap (nat_le o.block_nesting_limit) (topped_count (Two k i n j) fs) ∙ e)
+    ap₂ (λ b q. Limited b m q) (ap (nat_le o.block_nesting_limit) (topped_count o (Two k i n j) fs) ∙ e)
     (begun o (Two k i n j) kind m f fs d h)
 
 -- ---- what begins
@@ -117,7 +118,7 @@ question_by :
     LimitView o (On lexemes.Question b s l) d
     (Limited full l.start
     (framed (machine.BlockMapping l.start.place.column machine.AtQuestion)
-    (popped fs l.start
+    (popped o fs l.start
     (HeadGiven o p block_mapping (empty_span l.start) (indent_told (frames_indent fs)) d.given) d)))
     (GoesTo (InFrames (MappingFrame (suc l.start.place.column) Asking ∷ fs))
     (mapping_start p (On lexemes.Question b s l) (frames_indent fs) ∷ []))
@@ -156,7 +157,7 @@ colon_by :
     LimitView o (On lexemes.Colon b s l) d
     (Limited full l.start
     (framed (machine.BlockMapping l.start.place.column machine.AtValue)
-    (popped fs l.start
+    (popped o fs l.start
     (HeadGiven o p block_mapping (empty_span l.start) (indent_told (frames_indent fs)) d.given) d))
     >>= Colons o l)
     (GoesTo (InFrames (MappingFrame (suc l.start.place.column) (Value l.start) ∷ fs))
@@ -195,7 +196,7 @@ dash_by :
     LimitView o (On lexemes.Dash b s l) d
     (Limited full l.start
     (framed (machine.BlockSequence l.start.place.column false)
-    (popped fs l.start
+    (popped o fs l.start
     (HeadGiven o p steps.block_sequence (empty_span l.start) (indent_told (frames_indent fs)) d.given) d))
     >>= Waits o l)
     (GoesTo (InFrames (SequenceFrame false (suc l.start.place.column) (Some l.end) ∷ fs))
@@ -236,7 +237,7 @@ loose_by :
     LimitView o (On lexemes.Dash b s l) d
     (LooseBy full o l
     (framed (machine.BlockSequence l.start.place.column true)
-    (popped fs l.end
+    (popped o fs l.end
     (HeadGiven o p steps.block_sequence (empty_span l.end) (indent_told (frames_indent fs)) d.given) d)))
     (GoesTo (InFrames (SequenceFrame true (suc l.start.place.column) (Some l.end) ∷ fs))
     (sequence_start p true (On lexemes.Dash b s l).at (frames_indent fs) ∷ []))
@@ -261,6 +262,6 @@ loose_begins b s l o d p fs h =
     (GoesTo (InFrames (SequenceFrame true (suc l.start.place.column) (Some l.end) ∷ fs))
     (sequence_start p true (On lexemes.Dash b s l).at (frames_indent fs) ∷ [])))
     (sym
-    (ap₂ (λ full q. LooseBy full o l q) (ap (nat_le o.block_nesting_limit) (topped_count p fs))
+    (ap₂ (λ full q. LooseBy full o l q) (ap (nat_le o.block_nesting_limit) (topped_count o p fs))
     (begun o p steps.block_sequence l.end (machine.BlockSequence l.start.place.column true) fs d h)))
     (loose_by b s l o d p fs (nat_le o.block_nesting_limit (blocks_open fs)) refl)

@@ -73,7 +73,7 @@ KeyEvent k s l p fs = mapping_start p (On k true s l) (frames_indent fs)
 abbrev KeyBare :
     OptionsData → lexemes.LexemeKind → Scope → lexemes.Lexeme → List OpenFrame → List PlainEvent →
     Result ParserState Fault
-KeyBare o k s l fs given = bare o (TokenOn k true l) (state_of o (InFrames (KeyHole l fs)) (knowing s l.start given))
+KeyBare o k s l fs given = bare o (TokenOn k true l) (state_of o (InFrames (KeyHole l fs)) (knowing o s l.start given))
 
 too_many :
     (n d : ℕ) (st : EventState) (f : Option GrammarFault) → nat_le n d ≡ true → state_count st ≡ suc d →
@@ -86,27 +86,27 @@ key_by :
     (o : OptionsData) (k : lexemes.LexemeKind) (s : Scope) (l : lexemes.Lexeme) (last : Mark) (given : List PlainEvent)
     (p : TreeProperties) (fs : List OpenFrame) (y : EventStep) (full : Bool) →
     nat_le o.block_nesting_limit (blocks_open fs) ≡ full → OneMore (blocks_open fs) y →
-    MeansView o (On k true s l) (knowing s l.start (given ++ event_told o (KeyEvent k s l p fs)))
+    MeansView o (On k true s l) (knowing o s l.start (given ++ event_told o (KeyEvent k s l p fs)))
     (KeyBare o k s l fs (given ++ event_told o (KeyEvent k s l p fs))) y →
-    LimitView o (On k true s l) (knowing s last given)
+    LimitView o (On k true s l) (knowing o s last given)
     (Limited full l.start
     (framed (machine.BlockMapping l.start.place.column machine.AtKey)
-    (popped fs l.start
+    (popped o fs l.start
     (HeadGiven o p block_mapping (empty_span l.start) (indent_told (frames_indent fs)) given)
-    (knowing s last given)))
+    (knowing o s last given)))
     >>= bare o (TokenOn k true l))
     (after_events (KeyEvent k s l p fs ∷ []) y)
 unfolding node_head
 key_by o k s l last given p fs (GoesTo st es) true e c h = (
   TooManyBlocks false,
   too_many o.block_nesting_limit (blocks_open fs) st
-      (scope_fault o.emit_unresolved_aliases (On k true s l).kind (On k true s l).at.scope) e c.0 c.1,
+      (scope_fault o (On k true s l).kind (On k true s l).at.scope) e c.0 c.1,
   refl,
 )
 key_by o k s l last given p fs (GoesTo st es) false e c h =
     event_before o (On k true s l) s l.start last given (KeyEvent k s l p fs)
     (KeyBare o k s l fs (given ++ event_told o (KeyEvent k s l p fs))) (GoesTo st es)
-    (means_limited o (On k true s l) (knowing s l.start (given ++ event_told o (KeyEvent k s l p fs)))
+    (means_limited o (On k true s l) (knowing o s l.start (given ++ event_told o (KeyEvent k s l p fs)))
     (KeyBare o k s l fs (given ++ event_told o (KeyEvent k s l p fs))) (GoesTo st es) h
     (count_flat o.block_nesting_limit (suc (blocks_open fs)) st c.0
     (free_limit o.block_nesting_limit (blocks_open fs) e)))
@@ -123,15 +123,15 @@ abbrev pub KeyNode : PartKind → lexemes.LexemeKind → Type 0
 KeyNode m k =
     (s : Scope) (l : lexemes.Lexeme) (o : OptionsData) (last : Mark) (given : List PlainEvent) (p : TreeProperties)
     (fs : List OpenFrame) (stop : GrammarFault) → Holes fs →
-    LimitView o (On k true s l) (knowing s last given)
-    (node o (TokenOn k true l) (state_of o (InFrames (topped p fs)) (knowing s last given)))
+    LimitView o (On k true s l) (knowing o s last given)
+    (node o (TokenOn k true l) (state_of o (InFrames (topped p fs)) (knowing o s last given)))
     (KeyTaken m k s l p fs stop)
 
 abbrev KeyResult :
     PartKind → lexemes.LexemeKind → Scope → lexemes.Lexeme → OptionsData → Mark → List PlainEvent → TreeProperties →
     List OpenFrame → GrammarFault → Result ParserState Fault → Type 0
 KeyResult m k s l o last given p fs stop r =
-    LimitView o (On k true s l) (knowing s last given) (r >>= bare o (TokenOn k true l)) (KeyTaken m k s l p fs stop)
+    LimitView o (On k true s l) (knowing o s last given) (r >>= bare o (TokenOn k true l)) (KeyTaken m k s l p fs stop)
 
 key_begins :
     (m : PartKind) (k : lexemes.LexemeKind) (s : Scope) (l : lexemes.Lexeme) (o : OptionsData) (last : Mark)
@@ -140,12 +140,12 @@ key_begins :
     PartsAgree true m k s l o l.start (given ++ event_told o (KeyEvent k s l p fs)) NoProperties (KeyHole l fs) stop →
     KeyResult m k s l o last given p fs stop
     (begin_block o block_mapping l.start (machine.BlockMapping l.start.place.column machine.AtKey)
-    (state_of o (InFrames (topped p fs)) (knowing s last given)))
+    (state_of o (InFrames (topped p fs)) (knowing o s last given)))
 key_begins m k s l o last given p fs stop h c e =
     subst (KeyResult m k s l o last given p fs stop)
     (sym
     (limited_by o block_mapping l.start (machine.BlockMapping l.start.place.column machine.AtKey) p fs
-    (knowing s last given) (nat_le o.block_nesting_limit (blocks_open fs)) h refl))
+    (knowing o s last given) (nat_le o.block_nesting_limit (blocks_open fs)) h refl))
     (key_by o k s l last given p fs
     (part_frames stop (KeyHole l fs) NoProperties m (at_of true s (at_kind l k None)))
     (nat_le o.block_nesting_limit (blocks_open fs)) refl c e)
@@ -237,11 +237,11 @@ pub part_limited :
     (b : Bool) (m : PartKind) (k : lexemes.LexemeKind) (s : Scope) (l : lexemes.Lexeme) (o : OptionsData) (last : Mark)
     (given : List PlainEvent) (p : TreeProperties) (fs : List OpenFrame) (stop : GrammarFault) → Holes fs →
     nat_le (blocks_open fs) o.block_nesting_limit ≡ true → PartsAgree b m k s l o last given p fs stop →
-    LimitView o (On k b s l) (knowing s last given)
-    (bare o (TokenOn k b l) (state_of o (InFrames (topped p fs)) (knowing s last given)))
+    LimitView o (On k b s l) (knowing o s last given)
+    (bare o (TokenOn k b l) (state_of o (InFrames (topped p fs)) (knowing o s last given)))
     (part_frames stop fs p m (at_of b s (at_kind l k None)))
 part_limited b m k s l o last given p fs stop h e f =
-    means_limited o (On k b s l) (knowing s last given)
-    (bare o (TokenOn k b l) (state_of o (InFrames (topped p fs)) (knowing s last given)))
+    means_limited o (On k b s l) (knowing o s last given)
+    (bare o (TokenOn k b l) (state_of o (InFrames (topped p fs)) (knowing o s last given)))
     (part_frames stop fs p m (at_of b s (at_kind l k None))) f
     (part_flat o.block_nesting_limit stop fs p m (at_of b s (at_kind l k None)) h e)

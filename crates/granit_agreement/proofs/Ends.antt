@@ -115,15 +115,15 @@ joins_anchor (Two (Tag h t) i (Anchor a) j) name g = refl
 joins_anchor (Two (Tag h t) i (Tag u v) j) name g = cc (g)
 
 joins_tag :
-    (p : TreeProperties) (handle suffix : List ℕ) → GoodProperties p →
-    is_none (properties_tag p) ≡ joins p (Property (Tag handle suffix))
-joins_tag NoProperties handle suffix g = absurd g
-joins_tag (One (Anchor a) i) handle suffix g = refl
-joins_tag (One (Tag h t) i) handle suffix g = refl
-joins_tag (Two (Anchor a) i (Anchor b) j) handle suffix g = cc (g)
-joins_tag (Two (Anchor a) i (Tag h t) j) handle suffix g = refl
-joins_tag (Two (Tag h t) i (Anchor a) j) handle suffix g = refl
-joins_tag (Two (Tag h t) i (Tag u v) j) handle suffix g = cc (g)
+    (o : OptionsData) (p : TreeProperties) (handle suffix : List ℕ) → GoodProperties p →
+    is_none (properties_tag o p) ≡ joins p (Property (Tag handle suffix))
+joins_tag o NoProperties handle suffix g = absurd g
+joins_tag o (One (Anchor a) i) handle suffix g = refl
+joins_tag o (One (Tag h t) i) handle suffix g = refl
+joins_tag o (Two (Anchor a) i (Anchor b) j) handle suffix g = cc (g)
+joins_tag o (Two (Anchor a) i (Tag h t) j) handle suffix g = refl
+joins_tag o (Two (Tag h t) i (Anchor a) j) handle suffix g = refl
+joins_tag o (Two (Tag h t) i (Tag u v) j) handle suffix g = cc (g)
 
 joins_alias : (p : TreeProperties) (name : Written) → GoodProperties p → joins p (Alias name) ≡ false
 joins_alias NoProperties name g = absurd g
@@ -142,10 +142,11 @@ joins_open (One k i) bracket g = refl
 joins_open (Two k i m j) bracket g = refl
 
 -- what going on asks, of the parser
-abbrev Asks : (right in_flow loose b : Bool) → Option KeyStart → TreeProperties → lexemes.LexemeKind → Bool
-Asks right in_flow loose b key p k =
+abbrev Asks : OptionsData → (right in_flow loose b : Bool) → Option KeyStart → TreeProperties → lexemes.LexemeKind
+    → Bool
+Asks o right in_flow loose b key p k =
     if is_key_token (token_sort b key k) && not in_flow then right
-    else goes_on_by_kind right in_flow loose (parser_properties p) (token_sort b key k) k
+    else goes_on_by_kind right in_flow loose (parser_properties o p) (token_sort b key k) k
 
 and_true : (a : Bool) → (a && true) ≡ a
 and_true true = refl
@@ -183,31 +184,33 @@ Grows r loose b p (Colon None) = r
 Grows r loose b p kind = false
 
 grows_block :
-    (r loose b : Bool) (key : Option KeyStart) (p : TreeProperties) (k : lexemes.LexemeKind) → GoodProperties p →
-    Asks r false loose b key p k ≡ Grows r loose b p (terminal_kind k key)
-grows_block r loose b key p (lexemes.Directive directive) g = refl
-grows_block r loose b key p lexemes.DocumentStart g = refl
-grows_block r loose b key p lexemes.DocumentEnd g = refl
-grows_block r loose b key p lexemes.StreamEnd g = refl
-grows_block r loose b key p (lexemes.Close brackets.Square) g = refl
-grows_block r loose b key p (lexemes.Close brackets.Curly) g = refl
-grows_block r loose b key p lexemes.Comma g = refl
-grows_block r loose b key p lexemes.Dash g = or_turn r loose
-grows_block r loose b key p lexemes.Question g = and_true r
-grows_block r loose b None p lexemes.Colon g = and_true r
-grows_block r loose b (Some n) p lexemes.Colon g = refl
-grows_block r loose true key p (lexemes.Open bracket) g = key_part r (joins p (Open bracket))
-grows_block r loose false key p (lexemes.Open bracket) g = body_part r (joins p (Open bracket)) (joins_open p bracket g)
-grows_block r loose true key p (lexemes.Alias name) g = key_part r (joins p (Alias name))
-grows_block r loose false key p (lexemes.Alias name) g = no_part r (joins p (Alias name)) (joins_alias p name g)
-grows_block r loose true key p (lexemes.Anchor name) g = key_part r (joins p (Property (Anchor name)))
-grows_block r loose false key p (lexemes.Anchor name) g =
+    (o : OptionsData) (r loose b : Bool) (key : Option KeyStart) (p : TreeProperties) (k : lexemes.LexemeKind)
+    → GoodProperties p →
+    Asks o r false loose b key p k ≡ Grows r loose b p (terminal_kind k key)
+grows_block o r loose b key p (lexemes.Directive directive) g = refl
+grows_block o r loose b key p lexemes.DocumentStart g = refl
+grows_block o r loose b key p lexemes.DocumentEnd g = refl
+grows_block o r loose b key p lexemes.StreamEnd g = refl
+grows_block o r loose b key p (lexemes.Close brackets.Square) g = refl
+grows_block o r loose b key p (lexemes.Close brackets.Curly) g = refl
+grows_block o r loose b key p lexemes.Comma g = refl
+grows_block o r loose b key p lexemes.Dash g = or_turn r loose
+grows_block o r loose b key p lexemes.Question g = and_true r
+grows_block o r loose b None p lexemes.Colon g = and_true r
+grows_block o r loose b (Some n) p lexemes.Colon g = refl
+grows_block o r loose true key p (lexemes.Open bracket) g = key_part r (joins p (Open bracket))
+grows_block o r loose false key p (lexemes.Open bracket) g = body_part r (joins p (Open bracket))
+    (joins_open p bracket g)
+grows_block o r loose true key p (lexemes.Alias name) g = key_part r (joins p (Alias name))
+grows_block o r loose false key p (lexemes.Alias name) g = no_part r (joins p (Alias name)) (joins_alias p name g)
+grows_block o r loose true key p (lexemes.Anchor name) g = key_part r (joins p (Property (Anchor name)))
+grows_block o r loose false key p (lexemes.Anchor name) g =
     plain_part r (joins p (Property (Anchor name))) (is_none (properties_anchor p)) (joins_anchor p name g)
-grows_block r loose true key p (lexemes.Tag handle suffix) g = key_part r (joins p (Property (Tag handle suffix)))
-grows_block r loose false key p (lexemes.Tag handle suffix) g =
-    plain_part r (joins p (Property (Tag handle suffix))) (is_none (properties_tag p)) (joins_tag p handle suffix g)
-grows_block r loose true key p (lexemes.Scalar style text) g = key_part r (joins p (Scalar style text))
-grows_block r loose false key p (lexemes.Scalar style text) g =
+grows_block o r loose true key p (lexemes.Tag handle suffix) g = key_part r (joins p (Property (Tag handle suffix)))
+grows_block o r loose false key p (lexemes.Tag handle suffix) g =
+    plain_part r (joins p (Property (Tag handle suffix))) (is_none (properties_tag o p)) (joins_tag o p handle suffix g)
+grows_block o r loose true key p (lexemes.Scalar style text) g = key_part r (joins p (Scalar style text))
+grows_block o r loose false key p (lexemes.Scalar style text) g =
     body_part r (joins p (Scalar style text)) (joins_scalar p style text g)
 
 -- behind the properties of a key
@@ -216,31 +219,33 @@ GrowsKey r b p (Part k) = (b && false) || ((not b && r) && joins p k)
 GrowsKey r b p kind = false
 
 grows_key :
-    (r loose b : Bool) (key : Option KeyStart) (p : TreeProperties) (k : lexemes.LexemeKind) → GoodProperties p →
-    begins_kind (terminal_kind k key) b ≡ false → Asks r false loose b key p k ≡ GrowsKey r b p (terminal_kind k key)
-grows_key r loose b key p (lexemes.Directive directive) g f = refl
-grows_key r loose b key p lexemes.DocumentStart g f = refl
-grows_key r loose b key p lexemes.DocumentEnd g f = refl
-grows_key r loose b key p lexemes.StreamEnd g f = refl
-grows_key r loose b key p (lexemes.Close brackets.Square) g f = refl
-grows_key r loose b key p (lexemes.Close brackets.Curly) g f = refl
-grows_key r loose b key p lexemes.Comma g f = refl
-grows_key r loose b key p lexemes.Dash g f = cc (f)
-grows_key r loose b key p lexemes.Question g f = cc (f)
-grows_key r loose b None p lexemes.Colon g f = cc (f)
-grows_key r loose b (Some n) p lexemes.Colon g f = refl
-grows_key r loose true key p (lexemes.Open bracket) g f = cc (f)
-grows_key r loose false key p (lexemes.Open bracket) g f = body_part r (joins p (Open bracket)) (joins_open p bracket g)
-grows_key r loose true key p (lexemes.Alias name) g f = cc (f)
-grows_key r loose false key p (lexemes.Alias name) g f = no_part r (joins p (Alias name)) (joins_alias p name g)
-grows_key r loose true key p (lexemes.Anchor name) g f = cc (f)
-grows_key r loose false key p (lexemes.Anchor name) g f =
+    (o : OptionsData) (r loose b : Bool) (key : Option KeyStart) (p : TreeProperties) (k : lexemes.LexemeKind)
+    → GoodProperties p →
+    begins_kind (terminal_kind k key) b ≡ false → Asks o r false loose b key p k ≡ GrowsKey r b p (terminal_kind k key)
+grows_key o r loose b key p (lexemes.Directive directive) g f = refl
+grows_key o r loose b key p lexemes.DocumentStart g f = refl
+grows_key o r loose b key p lexemes.DocumentEnd g f = refl
+grows_key o r loose b key p lexemes.StreamEnd g f = refl
+grows_key o r loose b key p (lexemes.Close brackets.Square) g f = refl
+grows_key o r loose b key p (lexemes.Close brackets.Curly) g f = refl
+grows_key o r loose b key p lexemes.Comma g f = refl
+grows_key o r loose b key p lexemes.Dash g f = cc (f)
+grows_key o r loose b key p lexemes.Question g f = cc (f)
+grows_key o r loose b None p lexemes.Colon g f = cc (f)
+grows_key o r loose b (Some n) p lexemes.Colon g f = refl
+grows_key o r loose true key p (lexemes.Open bracket) g f = cc (f)
+grows_key o r loose false key p (lexemes.Open bracket) g f = body_part r (joins p (Open bracket))
+    (joins_open p bracket g)
+grows_key o r loose true key p (lexemes.Alias name) g f = cc (f)
+grows_key o r loose false key p (lexemes.Alias name) g f = no_part r (joins p (Alias name)) (joins_alias p name g)
+grows_key o r loose true key p (lexemes.Anchor name) g f = cc (f)
+grows_key o r loose false key p (lexemes.Anchor name) g f =
     plain_part r (joins p (Property (Anchor name))) (is_none (properties_anchor p)) (joins_anchor p name g)
-grows_key r loose true key p (lexemes.Tag handle suffix) g f = cc (f)
-grows_key r loose false key p (lexemes.Tag handle suffix) g f =
-    plain_part r (joins p (Property (Tag handle suffix))) (is_none (properties_tag p)) (joins_tag p handle suffix g)
-grows_key r loose true key p (lexemes.Scalar style text) g f = cc (f)
-grows_key r loose false key p (lexemes.Scalar style text) g f =
+grows_key o r loose true key p (lexemes.Tag handle suffix) g f = cc (f)
+grows_key o r loose false key p (lexemes.Tag handle suffix) g f =
+    plain_part r (joins p (Property (Tag handle suffix))) (is_none (properties_tag o p)) (joins_tag o p handle suffix g)
+grows_key o r loose true key p (lexemes.Scalar style text) g f = cc (f)
+grows_key o r loose false key p (lexemes.Scalar style text) g f =
     body_part r (joins p (Scalar style text)) (joins_scalar p style text g)
 
 -- in flow
@@ -249,30 +254,31 @@ GrowsFlow b p (Part k) = (b && false) || (not b && joins p k)
 GrowsFlow b p kind = false
 
 grows_flow :
-    (loose b : Bool) (key : Option KeyStart) (p : TreeProperties) (k : lexemes.LexemeKind) → GoodProperties p →
+    (o : OptionsData) (loose b : Bool) (key : Option KeyStart) (p : TreeProperties) (k : lexemes.LexemeKind)
+    → GoodProperties p →
     is_key_part (terminal_kind k key) b ≡ false → is_dash_kind (terminal_kind k key) ≡ false →
-    Asks true true loose b key p k ≡ GrowsFlow b p (terminal_kind k key)
-grows_flow loose b key p (lexemes.Directive directive) g f d = refl
-grows_flow loose b key p lexemes.DocumentStart g f d = refl
-grows_flow loose b key p lexemes.DocumentEnd g f d = refl
-grows_flow loose b key p lexemes.StreamEnd g f d = refl
-grows_flow loose b key p (lexemes.Close brackets.Square) g f d = refl
-grows_flow loose b key p (lexemes.Close brackets.Curly) g f d = refl
-grows_flow loose b key p lexemes.Comma g f d = refl
-grows_flow loose b key p lexemes.Dash g f d = cc (d)
-grows_flow loose b key p lexemes.Question g f d = refl
-grows_flow loose b None p lexemes.Colon g f d = refl
-grows_flow loose b (Some n) p lexemes.Colon g f d = refl
-grows_flow loose true key p (lexemes.Open bracket) g f d = cc (f)
-grows_flow loose false key p (lexemes.Open bracket) g f d = sym (joins_open p bracket g)
-grows_flow loose true key p (lexemes.Alias name) g f d = cc (f)
-grows_flow loose false key p (lexemes.Alias name) g f d = sym (joins_alias p name g)
-grows_flow loose true key p (lexemes.Anchor name) g f d = cc (f)
-grows_flow loose false key p (lexemes.Anchor name) g f d = joins_anchor p name g
-grows_flow loose true key p (lexemes.Tag handle suffix) g f d = cc (f)
-grows_flow loose false key p (lexemes.Tag handle suffix) g f d = joins_tag p handle suffix g
-grows_flow loose true key p (lexemes.Scalar style text) g f d = cc (f)
-grows_flow loose false key p (lexemes.Scalar style text) g f d = sym (joins_scalar p style text g)
+    Asks o true true loose b key p k ≡ GrowsFlow b p (terminal_kind k key)
+grows_flow o loose b key p (lexemes.Directive directive) g f d = refl
+grows_flow o loose b key p lexemes.DocumentStart g f d = refl
+grows_flow o loose b key p lexemes.DocumentEnd g f d = refl
+grows_flow o loose b key p lexemes.StreamEnd g f d = refl
+grows_flow o loose b key p (lexemes.Close brackets.Square) g f d = refl
+grows_flow o loose b key p (lexemes.Close brackets.Curly) g f d = refl
+grows_flow o loose b key p lexemes.Comma g f d = refl
+grows_flow o loose b key p lexemes.Dash g f d = cc (d)
+grows_flow o loose b key p lexemes.Question g f d = refl
+grows_flow o loose b None p lexemes.Colon g f d = refl
+grows_flow o loose b (Some n) p lexemes.Colon g f d = refl
+grows_flow o loose true key p (lexemes.Open bracket) g f d = cc (f)
+grows_flow o loose false key p (lexemes.Open bracket) g f d = sym (joins_open p bracket g)
+grows_flow o loose true key p (lexemes.Alias name) g f d = cc (f)
+grows_flow o loose false key p (lexemes.Alias name) g f d = sym (joins_alias p name g)
+grows_flow o loose true key p (lexemes.Anchor name) g f d = cc (f)
+grows_flow o loose false key p (lexemes.Anchor name) g f d = joins_anchor p name g
+grows_flow o loose true key p (lexemes.Tag handle suffix) g f d = cc (f)
+grows_flow o loose false key p (lexemes.Tag handle suffix) g f d = joins_tag o p handle suffix g
+grows_flow o loose true key p (lexemes.Scalar style text) g f d = cc (f)
+grows_flow o loose false key p (lexemes.Scalar style text) g f d = sym (joins_scalar p style text g)
 
 -- the grammar's tests are these
 goes_right :
@@ -317,48 +323,50 @@ goes_flow p k i = refl
 
 -- being right of a column matters for no token of the stream
 asks_by_column :
-    (b : Bool) (key : Option KeyStart) (p : TreeProperties) (k : lexemes.LexemeKind) (col : ℕ) (under : Option ℕ)
+    (o : OptionsData) (b : Bool) (key : Option KeyStart) (p : TreeProperties) (k : lexemes.LexemeKind) (col : ℕ)
+    (under : Option ℕ)
     (in_flow loose : Bool) →
-    Asks (in_flow || is_right_of (column_of_token (token_sort b key k) col) under) in_flow loose b key p k
-    ≡ Asks (in_flow || is_right_of (Some col) under) in_flow loose b key p k
-asks_by_column b key p (lexemes.Directive directive) col under f loose = refl
-asks_by_column b key p lexemes.DocumentStart col under f loose = refl
-asks_by_column b key p lexemes.DocumentEnd col under f loose = refl
-asks_by_column b key p lexemes.StreamEnd col under f loose = refl
-asks_by_column b key p (lexemes.Close brackets.Square) col under f loose = refl
-asks_by_column b key p (lexemes.Close brackets.Curly) col under f loose = refl
-asks_by_column b key p lexemes.Comma col under f loose = refl
-asks_by_column b key p lexemes.Dash col under f loose = refl
-asks_by_column b key p lexemes.Question col under f loose = refl
-asks_by_column b None p lexemes.Colon col under f loose = refl
-asks_by_column b (Some n) p lexemes.Colon col under f loose = refl
-asks_by_column true key p (lexemes.Open bracket) col under f loose = refl
-asks_by_column false key p (lexemes.Open bracket) col under f loose = refl
-asks_by_column true key p (lexemes.Alias name) col under f loose = refl
-asks_by_column false key p (lexemes.Alias name) col under f loose = refl
-asks_by_column true key p (lexemes.Anchor name) col under f loose = refl
-asks_by_column false key p (lexemes.Anchor name) col under f loose = refl
-asks_by_column true key p (lexemes.Tag handle suffix) col under f loose = refl
-asks_by_column false key p (lexemes.Tag handle suffix) col under f loose = refl
-asks_by_column true key p (lexemes.Scalar style text) col under f loose = refl
-asks_by_column false key p (lexemes.Scalar style text) col under f loose = refl
+    Asks o (in_flow || is_right_of (column_of_token (token_sort b key k) col) under) in_flow loose b key p k
+    ≡ Asks o (in_flow || is_right_of (Some col) under) in_flow loose b key p k
+asks_by_column o b key p (lexemes.Directive directive) col under f loose = refl
+asks_by_column o b key p lexemes.DocumentStart col under f loose = refl
+asks_by_column o b key p lexemes.DocumentEnd col under f loose = refl
+asks_by_column o b key p lexemes.StreamEnd col under f loose = refl
+asks_by_column o b key p (lexemes.Close brackets.Square) col under f loose = refl
+asks_by_column o b key p (lexemes.Close brackets.Curly) col under f loose = refl
+asks_by_column o b key p lexemes.Comma col under f loose = refl
+asks_by_column o b key p lexemes.Dash col under f loose = refl
+asks_by_column o b key p lexemes.Question col under f loose = refl
+asks_by_column o b None p lexemes.Colon col under f loose = refl
+asks_by_column o b (Some n) p lexemes.Colon col under f loose = refl
+asks_by_column o true key p (lexemes.Open bracket) col under f loose = refl
+asks_by_column o false key p (lexemes.Open bracket) col under f loose = refl
+asks_by_column o true key p (lexemes.Alias name) col under f loose = refl
+asks_by_column o false key p (lexemes.Alias name) col under f loose = refl
+asks_by_column o true key p (lexemes.Anchor name) col under f loose = refl
+asks_by_column o false key p (lexemes.Anchor name) col under f loose = refl
+asks_by_column o true key p (lexemes.Tag handle suffix) col under f loose = refl
+asks_by_column o false key p (lexemes.Tag handle suffix) col under f loose = refl
+asks_by_column o true key p (lexemes.Scalar style text) col under f loose = refl
+asks_by_column o false key p (lexemes.Scalar style text) col under f loose = refl
 
 -- ---- behind properties
 
 -- at each place for a node
 going_block :
-    (room : Room) (f : Bool) (b : Bool) (s : Scope) (l : lexemes.Lexeme) (p : TreeProperties) (under : Option ℕ)
+    (o : OptionsData) (room : Room) (f : Bool) (b : Bool) (s : Scope) (l : lexemes.Lexeme) (p : TreeProperties)
+    (under : Option ℕ)
     (loose : Bool) (r : Bool) (d : Bool) →
     GoodProperties p → l.in_flow ≡ false → is_right_of (Some l.start.place.column) under ≡ r → loose ≡ d →
     continues_node room p (terminal_kind l.kind l.key) (at_of b s l) ≡ Grows r d b p (terminal_kind l.kind l.key) →
-    Asks (l.in_flow || is_right_of (column_of_token (token_sort b l.key l.kind) l.start.place.column) under) l.in_flow
+    Asks o (l.in_flow || is_right_of (column_of_token (token_sort b l.key l.kind) l.start.place.column) under) l.in_flow
     loose b l.key p l.kind
     ≡ continues_node room p (terminal_kind l.kind l.key) (at_of b s l)
-going_block room f b s l p under loose r d g flow right e h =
-    asks_by_column b l.key p l.kind l.start.place.column under l.in_flow loose
-    ∙ (ap (λ f. Asks (f || is_right_of (Some l.start.place.column) under) f loose b l.key p l.kind) flow
-    ∙ (ap₂ (λ r d. Asks r false d b l.key p l.kind) right e
-    ∙ (grows_block r d b l.key p l.kind g ∙ sym h)))
+going_block o room f b s l p under loose r d g flow right e h =
+    asks_by_column o b l.key p l.kind l.start.place.column under l.in_flow loose
+    ∙ (ap (λ f. Asks o (f || is_right_of (Some l.start.place.column) under) f loose b l.key p l.kind) flow
+    ∙ (ap₂ (λ r d. Asks o r false d b l.key p l.kind) right e
+    ∙ (grows_block o r d b l.key p l.kind g ∙ sym h)))
 
 positive_right : (col c : ℕ) → IsPositive c → is_right_of (Some col) (Some (one_less c)) ≡ nat_lt c (suc col)
 positive_right col c q = right_column col c q
@@ -371,62 +379,65 @@ zero_right : (col : ℕ) → true ≡ nat_lt 0 (suc col)
 zero_right col = grind (arith, nat_tests)
 
 going_flow :
-    (b : Bool) (s : Scope) (l : lexemes.Lexeme) (p : TreeProperties) (under : Option ℕ) (loose : Bool) →
+    (o : OptionsData) (b : Bool) (s : Scope) (l : lexemes.Lexeme) (p : TreeProperties) (under : Option ℕ) (loose : Bool)
+    →
     GoodProperties p → l.in_flow ≡ true → FairBehind Inside (terminal_of b s l) →
-    Asks (l.in_flow || is_right_of (column_of_token (token_sort b l.key l.kind) l.start.place.column) under) l.in_flow
+    Asks o (l.in_flow || is_right_of (column_of_token (token_sort b l.key l.kind) l.start.place.column) under) l.in_flow
     loose b l.key p l.kind
     ≡ continues_node Inside p (terminal_kind l.kind l.key) (at_of b s l)
-going_flow b s l p under loose g flow f =
-    asks_by_column b l.key p l.kind l.start.place.column under l.in_flow loose
-    ∙ (ap (λ f. Asks (f || is_right_of (Some l.start.place.column) under) f loose b l.key p l.kind) flow
-    ∙ (grows_flow loose b l.key p l.kind g f.0 f.1 ∙ sym (goes_flow p (terminal_kind l.kind l.key) (at_of b s l))))
+going_flow o b s l p under loose g flow f =
+    asks_by_column o b l.key p l.kind l.start.place.column under l.in_flow loose
+    ∙ (ap (λ f. Asks o (f || is_right_of (Some l.start.place.column) under) f loose b l.key p l.kind) flow
+    ∙ (grows_flow o loose b l.key p l.kind g f.0 f.1 ∙ sym (goes_flow p (terminal_kind l.kind l.key) (at_of b s l))))
 
 goes_on_same :
-    (b : Bool) (s : Scope) (l : lexemes.Lexeme) (p : TreeProperties) (fs : List OpenFrame) → GoodProperties p →
+    (o : OptionsData) (b : Bool) (s : Scope) (l : lexemes.Lexeme) (p : TreeProperties) (fs : List OpenFrame)
+    → GoodProperties p →
     Holes fs → l.in_flow ≡ frames_in_flow fs → FairBehind (behind_property (frames_room fs)) (terminal_of b s l) →
-    goes_on_with (token_of b l) (parser_properties p) (frames_of fs)
+    goes_on_with (token_of b l) (parser_properties o p) (frames_of o fs)
     ≡ continues_node (behind_property (frames_room fs)) p (terminal_kind l.kind l.key) (at_of b s l)
 unfolding goes_on_with
-goes_on_same b s l p fs g at_root flow f =
-    going_block (RightOf 0) false b s l p None false (nat_lt 0 (suc l.start.place.column)) false g flow
+goes_on_same o b s l p fs g at_root flow f =
+    going_block o (RightOf 0) false b s l p None false (nat_lt 0 (suc l.start.place.column)) false g flow
     (zero_right l.start.place.column) refl (goes_right 0 p (terminal_kind l.kind l.key) (at_of b s l))
-goes_on_same b s l p fs g (at_entry {c = c} q h) flow f =
-    going_block (RightOf c) false b s l p (Some (one_less c)) false (nat_lt c (suc l.start.place.column)) false g flow
+goes_on_same o b s l p fs g (at_entry {c = c} q h) flow f =
+    going_block o (RightOf c) false b s l p (Some (one_less c)) false (nat_lt c (suc l.start.place.column)) false g flow
     (positive_right l.start.place.column c q) refl (goes_right c p (terminal_kind l.kind l.key) (at_of b s l))
-goes_on_same b s l p fs g (at_asked {c = c} q h) flow f =
-    going_block (ValueIn c) false b s l p (Some (one_less c)) (one_less c == l.start.place.column)
+goes_on_same o b s l p fs g (at_asked {c = c} q h) flow f =
+    going_block o (ValueIn c) false b s l p (Some (one_less c)) (one_less c == l.start.place.column)
     (nat_lt c (suc l.start.place.column)) (suc l.start.place.column == c) g flow
     (positive_right l.start.place.column c q) (loose_column l.start.place.column c q)
     (goes_value c p (terminal_kind l.kind l.key) (at_of b s l))
-goes_on_same b s l p fs g (at_value {c = c} q h) flow f =
-    going_block (ValueIn c) false b s l p (Some (one_less c)) (one_less c == l.start.place.column)
+goes_on_same o b s l p fs g (at_value {c = c} q h) flow f =
+    going_block o (ValueIn c) false b s l p (Some (one_less c)) (one_less c == l.start.place.column)
     (nat_lt c (suc l.start.place.column)) (suc l.start.place.column == c) g flow
     (positive_right l.start.place.column c q) (loose_column l.start.place.column c q)
     (goes_value c p (terminal_kind l.kind l.key) (at_of b s l))
-goes_on_same b s l p fs g (at_key {c = c} q h) flow f =
-    asks_by_column b l.key p l.kind l.start.place.column (Some (one_less c)) l.in_flow false
-    ∙ (ap (λ f. Asks (f || is_right_of (Some l.start.place.column) (Some (one_less c))) f false b l.key p l.kind) flow
-    ∙ (ap (λ r. Asks r false false b l.key p l.kind) (positive_right l.start.place.column c q)
+goes_on_same o b s l p fs g (at_key {c = c} q h) flow f =
+    asks_by_column o b l.key p l.kind l.start.place.column (Some (one_less c)) l.in_flow false
+    ∙ (ap (λ f. Asks o (f || is_right_of (Some l.start.place.column) (Some (one_less c))) f false b l.key p l.kind) flow
+    ∙ (ap (λ r. Asks o r false false b l.key p l.kind) (positive_right l.start.place.column c q)
     ∙
-    (grows_key (nat_lt c (suc l.start.place.column)) false b l.key p l.kind g f
+    (grows_key o (nat_lt c (suc l.start.place.column)) false b l.key p l.kind g f
     ∙ sym (goes_key c p (terminal_kind l.kind l.key) (at_of b s l)))))
-goes_on_same b s l p fs g (at_item {fs = gs} h) flow f = going_flow b s l p (under_column (frames_of gs)) false g flow f
-goes_on_same b s l p fs g (at_curly {fs = gs} h) flow f =
-    going_flow b s l p (under_column (frames_of gs)) false g flow f
-goes_on_same b s l p fs g (curly_key {fs = gs} h) flow f =
-    going_flow b s l p (under_column (frames_of gs)) false g flow f
-goes_on_same b s l p fs g (curly_asked {fs = gs} h) flow f =
-    going_flow b s l p (under_column (frames_of gs)) false g flow f
-goes_on_same b s l p fs g (curly_value {fs = gs} h) flow f =
-    going_flow b s l p (under_column (frames_of gs)) false g flow f
-goes_on_same b s l p fs g (made_key {fs = gs} h) flow f =
-    going_flow b s l p (under_column (frames_of gs)) false g flow f
-goes_on_same b s l p fs g (made_value {fs = gs} h) flow f =
-    going_flow b s l p (under_column (frames_of gs)) false g flow f
-goes_on_same b s l p fs g (pair_asked {fs = gs} h) flow f =
-    going_flow b s l p (under_column (frames_of gs)) false g flow f
-goes_on_same b s l p fs g (pair_value {fs = gs} h) flow f =
-    going_flow b s l p (under_column (frames_of gs)) false g flow f
+goes_on_same o b s l p fs g (at_item {fs = gs} h) flow f = going_flow o b s l p (under_column (frames_of o gs)) false g
+    flow f
+goes_on_same o b s l p fs g (at_curly {fs = gs} h) flow f =
+    going_flow o b s l p (under_column (frames_of o gs)) false g flow f
+goes_on_same o b s l p fs g (curly_key {fs = gs} h) flow f =
+    going_flow o b s l p (under_column (frames_of o gs)) false g flow f
+goes_on_same o b s l p fs g (curly_asked {fs = gs} h) flow f =
+    going_flow o b s l p (under_column (frames_of o gs)) false g flow f
+goes_on_same o b s l p fs g (curly_value {fs = gs} h) flow f =
+    going_flow o b s l p (under_column (frames_of o gs)) false g flow f
+goes_on_same o b s l p fs g (made_key {fs = gs} h) flow f =
+    going_flow o b s l p (under_column (frames_of o gs)) false g flow f
+goes_on_same o b s l p fs g (made_value {fs = gs} h) flow f =
+    going_flow o b s l p (under_column (frames_of o gs)) false g flow f
+goes_on_same o b s l p fs g (pair_asked {fs = gs} h) flow f =
+    going_flow o b s l p (under_column (frames_of o gs)) false g flow f
+goes_on_same o b s l p fs g (pair_value {fs = gs} h) flow f =
+    going_flow o b s l p (under_column (frames_of o gs)) false g flow f
 
 -- ---- the frame on top
 
@@ -473,7 +484,7 @@ ends_same b s l o d st (hole (pair_asked h)) f =
 ends_same b s l o d st (hole (pair_value h)) f =
     no_or (ends_entry (token_of b l).sort || false)
     ∙ (no_or (ends_entry (token_of b l).sort) ∙ (sort_is b l.key l.kind).ends)
-ends_same b s l o d st (behind_properties {p = p} {fs = fs} g h) f = ap not (goes_on_same b s l p fs g h f.0 f.1)
+ends_same b s l o d st (behind_properties {p = p} {fs = fs} g h) f = ap not (goes_on_same o b s l p fs g h f.0 f.1)
 ends_same b s l o d st (past_entry {loose = loose} {c = c} q h) f =
     entry_over loose (ends_frame (Column b l) (one_less c))
     (is_dash_token (token_of b l).sort && is_in_column (Column b l) (one_less c)) false (terminal_of b s l) c

@@ -47,7 +47,7 @@ abbrev EndEvent : plain.EventKind → lexemes.Lexeme → PlainEvent
 EndEvent kind l = event_at kind (record { start = l.start; end = l.shown.end })
 
 abbrev P : OptionsData → Scope → Mark → List PlainEvent → List OpenFrame → ParserState
-P o s last given fs = state_of o (InFrames fs) (knowing s last given)
+P o s last given fs = state_of o (InFrames fs) (knowing o s last given)
 
 abbrev AliasKey : lexemes.Lexeme → Written → Scope → Terminal
 AliasKey l name s = terminal_of true s (at_kind l (lexemes.Alias name) None)
@@ -56,8 +56,8 @@ AliasKey l name s = terminal_of true s (at_kind l (lexemes.Alias name) None)
 alias_pair :
     (o : OptionsData) (name : Written) (s : Scope) (l : lexemes.Lexeme) (last : Mark) (given : List PlainEvent)
     (st : EventState) (es : List TreeEvent) (r : Result ParserState Fault) →
-    MeansView o (AliasKey l name s) (knowing s l.start (PairGiven l given)) r (GoesTo st es) →
-    MeansView o (AliasKey l name s) (knowing s last given) r
+    MeansView o (AliasKey l name s) (knowing o s l.start (PairGiven l given)) r (GoesTo st es) →
+    MeansView o (AliasKey l name s) (knowing o s last given) r
     (GoesTo st (pair_start (AliasKey l name s).kind (AliasKey l name s).at ∷ es))
 alias_pair o name s l last given st es (Ok p) h = h
 alias_pair o name s l last given st es (Err f) h = h
@@ -68,8 +68,8 @@ TagKey l handle suffix s = terminal_of true s (at_kind l (lexemes.Tag handle suf
 tag_pair :
     (o : OptionsData) (handle suffix : List ℕ) (s : Scope) (l : lexemes.Lexeme) (last : Mark) (given : List PlainEvent)
     (st : EventState) (es : List TreeEvent) (r : Result ParserState Fault) →
-    MeansView o (TagKey l handle suffix s) (knowing s l.start (PairGiven l given)) r (GoesTo st es) →
-    MeansView o (TagKey l handle suffix s) (knowing s last given) r
+    MeansView o (TagKey l handle suffix s) (knowing o s l.start (PairGiven l given)) r (GoesTo st es) →
+    MeansView o (TagKey l handle suffix s) (knowing o s last given) r
     (GoesTo st (pair_start (TagKey l handle suffix s).kind (TagKey l handle suffix s).at ∷ es))
 tag_pair o handle suffix s l last given st es (Ok p) h = h
 tag_pair o handle suffix s l last given st es (Err f) h = h
@@ -85,7 +85,7 @@ item_steps b lexemes.DocumentEnd key s l o last given fs h = refl
 item_steps b lexemes.StreamEnd key s l o last given fs h = refl
 item_steps b lexemes.Comma key s l o last given fs h = refl
 item_steps b (lexemes.Close brackets.Square) key s l o last given fs h = (
-  (l.shown.end, finish_view o fs l.shown.end (given ++ EndEvent plain.SequenceEnd l ∷ []) (knowing s last given) h),
+  (l.shown.end, finish_view o fs l.shown.end (given ++ EndEvent plain.SequenceEnd l ∷ []) (knowing o s last given) h),
   refl,
 )
 item_steps b (lexemes.Close brackets.Curly) key s l o last given fs h = refl
@@ -147,7 +147,7 @@ curly_steps b lexemes.StreamEnd key s l o last given fs h = refl
 curly_steps b lexemes.Comma key s l o last given fs h = refl
 curly_steps b (lexemes.Close brackets.Square) key s l o last given fs h = refl
 curly_steps b (lexemes.Close brackets.Curly) key s l o last given fs h = (
-  (l.shown.end, finish_view o fs l.shown.end (given ++ EndEvent plain.MappingEnd l ∷ []) (knowing s last given) h),
+  (l.shown.end, finish_view o fs l.shown.end (given ++ EndEvent plain.MappingEnd l ∷ []) (knowing o s last given) h),
   refl,
 )
 curly_steps b lexemes.Dash key s l o last given fs h = refl
@@ -196,7 +196,7 @@ curly_asked_steps b (lexemes.Close brackets.Curly) key s l o last given fs h = (
     l.shown.end,
     finish_view o fs l.shown.end
         (((given ++ null_at l.start ∷ []) ++ null_at l.start ∷ []) ++ EndEvent plain.MappingEnd l ∷ [])
-        (knowing s last given) h,
+        (knowing o s last given) h,
   ),
   refl,
 )
@@ -251,7 +251,7 @@ curly_value_steps w b (lexemes.Close brackets.Curly) key s l o last given fs h =
         (flushed o w o.max_buffered_comment_events
         (put (null_at w) (P o s last given (FlowMappingFrame false (Value w) ∷ fs))))
         ∙ finish_view o fs l.shown.end ((given ++ null_at w ∷ []) ++ EndEvent plain.MappingEnd l ∷ [])
-        (knowing s last given) h,
+        (knowing o s last given) h,
   ),
   refl,
 )

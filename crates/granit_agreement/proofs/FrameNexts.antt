@@ -129,18 +129,18 @@ err_next o x d s given (Err f) (StopsWith k) i h = h
 
 -- what is known is what stands declared behind it
 known_same :
-    (k : TerminalKind) (s : Scope) (a m : Mark) (g h : List PlainEvent) → is_stream_kind k ≡ false →
-    record (known_behind k (knowing s a g)) { last = m; given = h } ≡ knowing (next_scope k s) m h
-known_same (Part (Property (Anchor name))) s a m g h e = refl
-known_same (Part (Property (Tag handle suffix))) s a m g h e = refl
-known_same (Part (Alias name)) s a m g h e = refl
-known_same (Part (Scalar style text)) s a m g h e = refl
-known_same (Part (Open bracket)) s a m g h e = refl
-known_same (Directive d) s a m g h e = cc (e)
-known_same DocumentStart s a m g h e = cc (e)
-known_same DocumentEnd s a m g h e = cc (e)
-known_same TheEnd s a m g h e = cc (e)
-known_same k s a m g h e = refl
+    (o : OptionsData) (k : TerminalKind) (s : Scope) (a m : Mark) (g h : List PlainEvent) → is_stream_kind k ≡ false →
+    record (known_behind k (knowing o s a g)) { last = m; given = h } ≡ knowing o (next_scope k s) m h
+known_same o (Part (Property (Anchor name))) s a m g h e = refl
+known_same o (Part (Property (Tag handle suffix))) s a m g h e = refl
+known_same o (Part (Alias name)) s a m g h e = refl
+known_same o (Part (Scalar style text)) s a m g h e = refl
+known_same o (Part (Open bracket)) s a m g h e = refl
+known_same o (Directive d) s a m g h e = cc (e)
+known_same o DocumentStart s a m g h e = cc (e)
+known_same o DocumentEnd s a m g h e = cc (e)
+known_same o TheEnd s a m g h e = cc (e)
+known_same o k s a m g h e = refl
 
 still_pending : (k : TerminalKind) (s : Scope) → is_stream_kind k ≡ false → (next_scope k s).pending ≡ s.pending
 still_pending (Part (Property (Anchor name))) s e = refl
@@ -168,14 +168,14 @@ still_version k s e = refl
 
 pub limit_next :
     (o : OptionsData) (x : Terminal) (s : Scope) (last : Mark) (given : List PlainEvent) (r : Result ParserState Fault)
-    (y : EventStep) → LimitView o x (knowing s last given) r y → GoodStep y → is_stream_kind x.kind ≡ false →
+    (y : EventStep) → LimitView o x (knowing o s last given) r y → GoodStep y → is_stream_kind x.kind ≡ false →
     s.pending ≡ [] → s.version ≡ None → NextView o x s given r y
 limit_next o x s last given (Ok p) (GoesTo (InFrames fs) es) h (goes_well g) e q v = record {
-  beside = moved_on o x h.0.0 (give_all o es given) (knowing s last given);
+  beside = moved_on o x h.0.0 (give_all o es given) (knowing o s last given);
   is_seen = h.0.1;
   gives = refl;
   knows = (
-    known_same x.kind s last h.0.0 given (give_all o es given) e,
+    known_same o x.kind s last h.0.0 given (give_all o es given) e,
     still_pending x.kind s e ∙ q,
     still_version x.kind s e ∙ v,
   );
@@ -183,11 +183,11 @@ limit_next o x s last given (Ok p) (GoesTo (InFrames fs) es) h (goes_well g) e q
   comes = g;
 }
 limit_next o x s last given (Ok p) (GoesTo (IsRooted m) es) h (goes_well g) e q v = record {
-  beside = moved_on o x h.0.0 (give_all o es given) (knowing s last given);
+  beside = moved_on o x h.0.0 (give_all o es given) (knowing o s last given);
   is_seen = h.0.1;
   gives = refl;
   knows = (
-    known_same x.kind s last h.0.0 given (give_all o es given) e,
+    known_same o x.kind s last h.0.0 given (give_all o es given) e,
     still_pending x.kind s e ∙ q,
     still_version x.kind s e ∙ v,
   );
@@ -227,24 +227,24 @@ frame_by :
     nat_le (blocks_open fs) o.block_nesting_limit ≡ true → is_stream_kind (terminal_kind k key) ≡ stream →
     s.pending ≡ [] → s.version ≡ None →
     NextView o (X b k key s l) s given
-    (take_token o (token_of b (at_kind l k key)) (state_of o (InFrames fs) (knowing s last given)))
+    (take_token o (token_of b (at_kind l k key)) (state_of o (InFrames fs) (knowing o s last given)))
     (taken (ended_by (X b k key s l) (InFrames fs)) (X b k key s l))
 frame_by b k key s l o last given fs false g f n e t q v =
     limit_next o (X b k key s l) s last given
-    (take_token o (token_of b (at_kind l k key)) (state_of o (InFrames fs) (knowing s last given)))
+    (take_token o (token_of b (at_kind l k key)) (state_of o (InFrames fs) (knowing o s last given)))
     (taken (ended_by (X b k key s l) (InFrames fs)) (X b k key s l)) (frame_steps b k key s l o last given fs g f n e)
     (taken_well (X b k key s l) (ended_by (X b k key s l) (InFrames fs)) (closes_stand (X b k key s l) fs g) t) t q v
 frame_by b k key s l o last given fs true g f n e t q v =
-    err_next o (X b k key s l) (knowing s last given) s given
-    (take_token o (token_of b (at_kind l k key)) (state_of o (InFrames fs) (knowing s last given)))
+    err_next o (X b k key s l) (knowing o s last given) s given
+    (take_token o (token_of b (at_kind l k key)) (state_of o (InFrames fs) (knowing o s last given)))
     (taken (ended_by (X b k key s l) (InFrames fs)) (X b k key s l))
     (subst
     (λ q.
     IsErr
     (take_token o (record { lexeme = at_kind l k key; sort = q })
-    (state_of o (InFrames fs) (knowing s last given))))
+    (state_of o (InFrames fs) (knowing o s last given))))
     (sym (sort_stream (token_sort b key k) ((sort_is b key k).stream ∙ t)))
-    (stream_errs o (at_kind l k key) (X b k key s l) (knowing s last given) fs g t n))
+    (stream_errs o (at_kind l k key) (X b k key s l) (knowing o s last given) fs g t n))
     (frame_steps b k key s l o last given fs g f n e)
 
 pub frame_next :
@@ -253,7 +253,7 @@ pub frame_next :
     FairAt (X b k key s l) (InFrames fs) → frame_ends_at (X b k key s l) (InFrames fs) ≡ false →
     nat_le (blocks_open fs) o.block_nesting_limit ≡ true → s.pending ≡ [] → s.version ≡ None →
     NextView o (X b k key s l) s given
-    (take_token o (token_of b (at_kind l k key)) (state_of o (InFrames fs) (knowing s last given)))
+    (take_token o (token_of b (at_kind l k key)) (state_of o (InFrames fs) (knowing o s last given)))
     (taken (ended_by (X b k key s l) (InFrames fs)) (X b k key s l))
 frame_next b k key s l o last given fs g f n e q v =
     frame_by b k key s l o last given fs (is_stream_kind (terminal_kind k key)) g f n e refl q v

@@ -54,18 +54,18 @@ flat_step :
     Flat o.block_nesting_limit (taken (ended_by (X b k key s l) (InFrames fs)) (X b k key s l)) →
     StepsLimited b k key s l o last given fs
 flat_step b k key s l o last given fs h c =
-    means_limited o (X b k key s l) (knowing s last given)
-    (take_token o (token_of b (at_kind l k key)) (state_of o (InFrames fs) (knowing s last given)))
+    means_limited o (X b k key s l) (knowing o s last given)
+    (take_token o (token_of b (at_kind l k key)) (state_of o (InFrames fs) (knowing o s last given)))
     (taken (ended_by (X b k key s l) (InFrames fs)) (X b k key s l)) h c
 
 calm_step :
     (b : Bool) (k : lexemes.LexemeKind) (key : Option KeyStart) (s : Scope) (l : lexemes.Lexeme) (o : OptionsData)
-    (last : Mark) (given : List PlainEvent) (fs : List OpenFrame) → Steps b k key s l o (knowing s last given) fs →
+    (last : Mark) (given : List PlainEvent) (fs : List OpenFrame) → Steps b k key s l o (knowing o s last given) fs →
     Calm o (X b k key s l) (taken (ended_by (X b k key s l) (InFrames fs)) (X b k key s l)) →
     StepsLimited b k key s l o last given fs
 calm_step b k key s l o last given fs h c =
-    calm_limited o (X b k key s l) (knowing s last given)
-    (take_token o (token_of b (at_kind l k key)) (state_of o (InFrames fs) (knowing s last given)))
+    calm_limited o (X b k key s l) (knowing o s last given)
+    (take_token o (token_of b (at_kind l k key)) (state_of o (InFrames fs) (knowing o s last given)))
     (taken (ended_by (X b k key s l) (InFrames fs)) (X b k key s l)) h c
 
 -- where nothing more ends before the lexeme
@@ -110,35 +110,35 @@ frame_steps b k key s l o last given fs (behind_properties {p = p} {fs = gs} g h
 frame_steps b k key s l o last given fs (past_entry {loose = loose} {c = c} {fs = gs} p h) f n e =
     past_steps b k key s l o last given loose c gs p n e
 frame_steps b k key s l o last given fs (key_done {c = c} {fs = gs} p h) f n e =
-    calm_step b k key s l o last given fs (done.key_done_steps c b k key s l o (knowing s last given) gs h)
+    calm_step b k key s l o last given fs (done.key_done_steps c b k key s l o (knowing o s last given) gs h)
     (block_key_calm b k key s l o c gs h e)
 frame_steps b k key s l o last given fs (ask_done {c = c} {fs = gs} p h) f n e =
     mapping_steps b k key s l o last given c _ gs asked p h n e
 frame_steps b k key s l o last given fs (pair_done {c = c} {fs = gs} p h) f n e =
     mapping_steps b k key s l o last given c _ gs paired p h n e
 frame_steps b k key s l o last given fs (item_done {fs = gs} h) f n e =
-    calm_step b k key s l o last given fs (done.item_done_steps b k key s l o (knowing s last given) gs h)
+    calm_step b k key s l o last given fs (done.item_done_steps b k key s l o (knowing o s last given) gs h)
     (item_done_calm b k key s l o gs h e)
 frame_steps b k key s l o last given fs (curly_key_done {fs = gs} h) f n e =
-    calm_step b k key s l o last given fs (done.curly_key_steps b k key s l o (knowing s last given) gs h)
+    calm_step b k key s l o last given fs (done.curly_key_steps b k key s l o (knowing o s last given) gs h)
     (curly_key_done_calm b k key s l o gs h e)
 frame_steps b k key s l o last given fs (curly_ask_done {fs = gs} h) f n e =
-    calm_step b k key s l o last given fs (done.curly_asked_steps b k key s l o (knowing s last given) gs h)
+    calm_step b k key s l o last given fs (done.curly_asked_steps b k key s l o (knowing o s last given) gs h)
     (curly_ask_done_calm b k key s l o gs h e)
 frame_steps b k key s l o last given fs (curly_solo {fs = gs} h) f n e =
-    calm_step b k key s l o last given fs (done.curly_solo_steps b k key s l o (knowing s last given) gs h)
+    calm_step b k key s l o last given fs (done.curly_solo_steps b k key s l o (knowing o s last given) gs h)
     (curly_solo_calm b k key s l o gs h e)
 frame_steps b k key s l o last given fs (curly_done {fs = gs} h) f n e =
-    calm_step b k key s l o last given fs (done.curly_done_steps b k key s l o (knowing s last given) gs h)
+    calm_step b k key s l o last given fs (done.curly_done_steps b k key s l o (knowing o s last given) gs h)
     (curly_done_calm b k key s l o gs h e)
 frame_steps b k key s l o last given fs (made_key_done {fs = gs} h) f n e =
-    calm_step b k key s l o last given fs (done.made_key_steps b k key s l o (knowing s last given) gs h)
+    calm_step b k key s l o last given fs (done.made_key_steps b k key s l o (knowing o s last given) gs h)
     (made_key_done_calm b k key s l o gs h e)
 frame_steps b k key s l o last given fs (made_done {fs = gs} h) f n e =
     calm_step b k key s l o last given fs
-    (made_done_steps b k key s l o (knowing s last given) gs h (both_false _ _ n f))
+    (made_done_steps b k key s l o (knowing o s last given) gs h (both_false _ _ n f))
     (made_done_calm b k key s l o gs h e (both_false _ _ n f))
 frame_steps b k key s l o last given fs (square_ask_done {fs = gs} h) f n e =
-    calm_step b k key s l o last given fs (square_asked_steps b k key s l o (knowing s last given) gs h n)
+    calm_step b k key s l o last given fs (square_asked_steps b k key s l o (knowing o s last given) gs h n)
     (square_ask_done_calm b k key s l o gs h e n)
 frame_steps b k key s l o last given fs (square_done h) f n e = cc (n)

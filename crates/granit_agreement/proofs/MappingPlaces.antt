@@ -216,7 +216,7 @@ LastOf (Value w) x last = w
 LastOf at x last = last
 
 abbrev P : OptionsData → Scope → Mark → List PlainEvent → ℕ → PairAt → List OpenFrame → ParserState
-P o s last given c at fs = state_of o (In c at fs) (knowing s last given)
+P o s last given c at fs = state_of o (In c at fs) (knowing o s last given)
 
 owed_key :
     (o : OptionsData) (s : Scope) (x last : Mark) (given : List PlainEvent) (c : ℕ) (at : PairAt) (fs : List OpenFrame)
@@ -311,7 +311,7 @@ abbrev EntryView :
     Bool → lexemes.LexemeKind → Option KeyStart → Scope → lexemes.Lexeme → OptionsData → Mark → List PlainEvent → ℕ →
     PairAt → List OpenFrame → Type 0
 EntryView b k key s l o last given c at fs =
-    LimitView o (X b k key s l) (knowing s last given) (NextPair b k key s l o last given c at fs)
+    LimitView o (X b k key s l) (knowing o s last given) (NextPair b k key s l o last given c at fs)
     (taken (ended_by (X b k key s l) (In c at fs)) (X b k key s l))
 
 -- a simple key's first lexeme
@@ -322,7 +322,7 @@ key_follows :
     nat_le (blocks_open (MappingFrame c at ∷ fs)) o.block_nesting_limit ≡ true →
     PartsAgree true m k s l o (LastOf at l.start last) (give_all o (Before at c l.start) given) NoProperties
     (MappingFrame c Key ∷ fs) ExpectedBlockMappingKey →
-    LimitView o (On k true s l) (knowing s last given)
+    LimitView o (On k true s l) (knowing o s last given)
     (bare o (TokenOn k true l) (mapping_at (one_less c) machine.AtKey (owed l.start (P o s last given c at fs))))
     (after_events (Before at c l.start)
     (part_frames ExpectedBlockMappingKey (MappingFrame c Key ∷ fs) NoProperties m
@@ -330,7 +330,7 @@ key_follows :
 key_follows m k s l o last given c at fs w p h g f e q v =
     subst
     (λ q.
-    LimitView o (On k true s l) (knowing s last given) (bare o (TokenOn k true l) q)
+    LimitView o (On k true s l) (knowing o s last given) (bare o (TokenOn k true l) q)
     (after_events (Before at c l.start)
     (part_frames ExpectedBlockMappingKey (MappingFrame c Key ∷ fs) NoProperties m
     (at_of true s (at_kind l k None)))))
@@ -358,7 +358,7 @@ entry_given b lexemes.Dash key s l o last given c at fs w p h f e q = cc (e)
 entry_given b lexemes.Colon (Some n) s l o last given c at fs w p h f e q = cc (e)
 entry_given b lexemes.Colon None s l o last given c at fs w p h f e q =
     subst
-    (LimitView o (X b lexemes.Colon None s l) (knowing s last given)
+    (LimitView o (X b lexemes.Colon None s l) (knowing o s last given)
     (NextPair b lexemes.Colon None s l o last given c at fs))
     (sym (colon_follows (at_of b s (at_kind l lexemes.Colon None)) c at fs w f e)) (
       (ColonLast at l.start last, owed_colon b s l o last given c at fs w),
@@ -367,7 +367,7 @@ entry_given b lexemes.Colon None s l o last given c at fs w p h f e q =
     )
 entry_given b lexemes.Question key s l o last given c at fs w p h f e q =
     subst
-    (LimitView o (X b lexemes.Question key s l) (knowing s last given)
+    (LimitView o (X b lexemes.Question key s l) (knowing o s last given)
     (NextPair b lexemes.Question key s l o last given c at fs))
     (sym (entry_follows (X b lexemes.Question key s l) c at fs w f e refl))
     (events_before o (X b lexemes.Question key s l) s (LastOf at l.start last) last given (Before at c l.start)
@@ -379,7 +379,7 @@ entry_given b lexemes.Question key s l o last given c at fs w p h f e q =
 entry_given false (lexemes.Scalar style text) key s l o last given c at fs w p h f e q = cc (e)
 entry_given true (lexemes.Scalar style text) key s l o last given c at fs w p h f e q =
     subst
-    (LimitView o (X true (lexemes.Scalar style text) key s l) (knowing s last given)
+    (LimitView o (X true (lexemes.Scalar style text) key s l) (knowing o s last given)
     (NextPair true (lexemes.Scalar style text) key s l o last given c at fs))
     (sym
     (entry_follows (X true (lexemes.Scalar style text) key s l) c at fs w f e refl
@@ -393,7 +393,7 @@ entry_given true (lexemes.Scalar style text) key s l o last given c at fs w p h 
 entry_given false (lexemes.Open Square) key s l o last given c at fs w p h f e q = cc (e)
 entry_given true (lexemes.Open Square) key s l o last given c at fs w p h f e q =
     subst
-    (LimitView o (X true (lexemes.Open Square) key s l) (knowing s last given)
+    (LimitView o (X true (lexemes.Open Square) key s l) (knowing o s last given)
     (NextPair true (lexemes.Open Square) key s l o last given c at fs))
     (sym
     (entry_follows (X true (lexemes.Open Square) key s l) c at fs w f e refl
@@ -407,7 +407,7 @@ entry_given true (lexemes.Open Square) key s l o last given c at fs w p h f e q 
 entry_given false (lexemes.Open Curly) key s l o last given c at fs w p h f e q = cc (e)
 entry_given true (lexemes.Open Curly) key s l o last given c at fs w p h f e q =
     subst
-    (LimitView o (X true (lexemes.Open Curly) key s l) (knowing s last given)
+    (LimitView o (X true (lexemes.Open Curly) key s l) (knowing o s last given)
     (NextPair true (lexemes.Open Curly) key s l o last given c at fs))
     (sym
     (entry_follows (X true (lexemes.Open Curly) key s l) c at fs w f e refl
@@ -421,7 +421,7 @@ entry_given true (lexemes.Open Curly) key s l o last given c at fs w p h f e q =
 entry_given false (lexemes.Anchor name) key s l o last given c at fs w p h f e q = cc (e)
 entry_given true (lexemes.Anchor name) key s l o last given c at fs w p h f e q =
     subst
-    (LimitView o (X true (lexemes.Anchor name) key s l) (knowing s last given)
+    (LimitView o (X true (lexemes.Anchor name) key s l) (knowing o s last given)
     (NextPair true (lexemes.Anchor name) key s l o last given c at fs))
     (sym
     (entry_follows (X true (lexemes.Anchor name) key s l) c at fs w f e refl
@@ -435,7 +435,7 @@ entry_given true (lexemes.Anchor name) key s l o last given c at fs w p h f e q 
 entry_given false (lexemes.Tag handle suffix) key s l o last given c at fs w p h f e q = cc (e)
 entry_given true (lexemes.Tag handle suffix) key s l o last given c at fs w p h f e q =
     subst
-    (LimitView o (X true (lexemes.Tag handle suffix) key s l) (knowing s last given)
+    (LimitView o (X true (lexemes.Tag handle suffix) key s l) (knowing o s last given)
     (NextPair true (lexemes.Tag handle suffix) key s l o last given c at fs))
     (sym
     (entry_follows (X true (lexemes.Tag handle suffix) key s l) c at fs w f e refl
@@ -449,7 +449,7 @@ entry_given true (lexemes.Tag handle suffix) key s l o last given c at fs w p h 
 entry_given false (lexemes.Alias name) key s l o last given c at fs w p h f e q = cc (e)
 entry_given true (lexemes.Alias name) key s l o last given c at fs w p h f e q =
     subst
-    (LimitView o (X true (lexemes.Alias name) key s l) (knowing s last given)
+    (LimitView o (X true (lexemes.Alias name) key s l) (knowing o s last given)
     (NextPair true (lexemes.Alias name) key s l o last given c at fs))
     (sym
     (entry_follows (X true (lexemes.Alias name) key s l) c at fs w f e refl
@@ -472,7 +472,7 @@ abbrev RestView :
     Bool → lexemes.LexemeKind → Option KeyStart → Scope → lexemes.Lexeme → OptionsData → Mark → List PlainEvent → ℕ →
     PairAt → List OpenFrame → Type 0
 RestView b k key s l o last given c at fs =
-    LimitView o (X b k key s l) (knowing s last given) (Rest b k key s l o last given c at fs)
+    LimitView o (X b k key s l) (knowing o s last given) (Rest b k key s l o last given c at fs)
     (taken (ended_by (X b k key s l) (In c at fs)) (X b k key s l))
 
 -- the test of a node, and what is wanted
@@ -480,7 +480,7 @@ abbrev WantedView :
     Bool → lexemes.LexemeKind → Option KeyStart → Scope → lexemes.Lexeme → OptionsData → Mark → List PlainEvent → ℕ →
     PairAt → List OpenFrame → Bool → Type 0
 WantedView b k key s l o last given c at fs r =
-    LimitView o (X b k key s l) (knowing s last given)
+    LimitView o (X b k key s l) (knowing o s last given)
     (Tested r (NodeOf b k key s l o last given NoProperties (MappingFrame c at ∷ fs)) UnexpectedEofBlockMapping
     (X b k key s l))
     (want_frames (MappingFrame c at ∷ fs) NoProperties (terminal_kind k key) (at_of b s (at_kind l k key)))
@@ -543,21 +543,21 @@ rest_given :
     nat_le (blocks_open (MappingFrame c at ∷ fs)) o.block_nesting_limit ≡ true →
     RestView b k key s l o last given c at fs
 rest_given b k key s l o last given c at fs asking p h f e q =
-    subst (LimitView o (X b k key s l) (knowing s last given) (Rest b k key s l o last given c Asking fs))
+    subst (LimitView o (X b k key s l) (knowing o s last given) (Rest b k key s l o last given c Asking fs))
     (sym
     (stays_taken (stands_left (X b k key s l) c || entry_in (X b k key s l) c)
     (nothing_frames (X b k key s l) (MappingFrame c Asking ∷ fs)) (In c Asking fs) (X b k key s l)
     (both_false _ _ f e)))
     (node_asked b k key s l o last given c fs (dash_or b key k) p h q)
 rest_given b k key s l o last given c at fs (valued {w = w}) p h f e q =
-    subst (LimitView o (X b k key s l) (knowing s last given) (Rest b k key s l o last given c (Value w) fs))
+    subst (LimitView o (X b k key s l) (knowing o s last given) (Rest b k key s l o last given c (Value w) fs))
     (sym
     (stays_taken (stands_left (X b k key s l) c || entry_in (X b k key s l) c)
     (nothing_frames (X b k key s l) (MappingFrame c (Value w) ∷ fs)) (In c (Value w) fs) (X b k key s l)
     (both_false _ _ f e)))
     (node_valued b k key s l o last given c w fs (dash_or b key k) p h q)
 rest_given b k key s l o last given c at fs asked p h f e q =
-    subst (LimitView o (X b k key s l) (knowing s last given) (Rest b k key s l o last given c AskDone fs))
+    subst (LimitView o (X b k key s l) (knowing o s last given) (Rest b k key s l o last given c AskDone fs))
     (sym
     (asked_ends (X b k key s l) c fs (PastMapping (X b k key s l) fs) (stands_left (X b k key s l) c)
     (bare_in (X b k key s l) c) f (bare_no (terminal_kind k key) b (stands_in (X b k key s l) c) e)
@@ -569,7 +569,7 @@ rest_given b k key s l o last given c at fs asked p h f e q =
     e))
     refl
 rest_given b k key s l o last given c at fs paired p h f e q =
-    subst (LimitView o (X b k key s l) (knowing s last given) (Rest b k key s l o last given c Done fs))
+    subst (LimitView o (X b k key s l) (knowing o s last given) (Rest b k key s l o last given c Done fs))
     (sym
     (paired_ends (X b k key s l) c fs (PastMapping (X b k key s l) fs) (stands_left (X b k key s l) c) f
     ∙ ap
@@ -585,7 +585,7 @@ mapping_by :
     (last : Mark) (given : List PlainEvent) (c : ℕ) (at : PairAt) (fs : List OpenFrame) (entry : Bool) → Between at →
     IsPositive c → Holes fs → stands_left (X b k key s l) c ≡ false → entry_in (X b k key s l) c ≡ entry →
     nat_le (blocks_open (MappingFrame c at ∷ fs)) o.block_nesting_limit ≡ true →
-    LimitView o (X b k key s l) (knowing s last given)
+    LimitView o (X b k key s l) (knowing o s last given)
     (if entry then NextPair b k key s l o last given c at fs else Rest b k key s l o last given c at fs)
     (taken (ended_by (X b k key s l) (In c at fs)) (X b k key s l))
 mapping_by b k key s l o last given c at fs true w p h f e q = entry_given b k key s l o last given c at fs w p h f e q
@@ -600,7 +600,7 @@ pub mapping_steps :
 mapping_steps b k key s l o last given c at fs w p h f q =
     subst
     (λ r.
-    LimitView o (X b k key s l) (knowing s last given) r
+    LimitView o (X b k key s l) (knowing o s last given) r
     (taken (ended_by (X b k key s l) (In c at fs)) (X b k key s l)))
     (sym (indicator_is b k key s l o last given c at fs w p))
     (mapping_by b k key s l o last given c at fs (entry_in (X b k key s l) c) w p h f refl q)

@@ -69,7 +69,7 @@ abbrev pub NodeOf :
     Bool → lexemes.LexemeKind → Option KeyStart → Scope → lexemes.Lexeme → OptionsData → Mark → List PlainEvent →
     TreeProperties → List OpenFrame → Result ParserState Fault
 NodeOf b k key s l o last given p fs =
-    node o (token_of b (at_kind l k key)) (state_of o (InFrames (topped p fs)) (knowing s last given))
+    node o (token_of b (at_kind l k key)) (state_of o (InFrames (topped p fs)) (knowing o s last given))
 
 abbrev pub RightOfHole : lexemes.Lexeme → List OpenFrame → Bool
 RightOfHole l fs = nat_lt (hole_column fs) (suc l.start.place.column)
@@ -79,37 +79,37 @@ abbrev pub Wanted :
     Bool → lexemes.LexemeKind → Option KeyStart → Scope → lexemes.Lexeme → OptionsData → Mark → List PlainEvent →
     TreeProperties → List OpenFrame → Bool → Type 0
 Wanted b k key s l o last given p fs r =
-    LimitView o (X b k key s l) (knowing s last given)
+    LimitView o (X b k key s l) (knowing o s last given)
     (Tested r (NodeOf b k key s l o last given p fs) (stop_kind fs) (X b k key s l))
     (want_frames fs p (terminal_kind k key) (at_of b s (at_kind l k key)))
 
 plain_wanted :
     (m : PartKind) (k : lexemes.LexemeKind) (s : Scope) (l : lexemes.Lexeme) (o : OptionsData) (last : Mark)
     (given : List PlainEvent) (p : TreeProperties) (fs : List OpenFrame) (n : Result ParserState Fault) → BlockHole fs →
-    LimitView o (On k false s l) (knowing s last given) n
+    LimitView o (On k false s l) (knowing o s last given) n
     (part_frames (stop_kind fs) fs p m (at_of false s (at_kind l k None))) →
-    LimitView o (On k false s l) (knowing s last given) (Tested (RightOfHole l fs) n (stop_kind fs) (On k false s l))
+    LimitView o (On k false s l) (knowing o s last given) (Tested (RightOfHole l fs) n (stop_kind fs) (On k false s l))
     (want_frames fs p (Part m) (at_of false s (at_kind l k None)))
 plain_wanted m k s l o last given p fs n h v =
     subst
-    (LimitView o (On k false s l) (knowing s last given)
+    (LimitView o (On k false s l) (knowing o s last given)
     (Tested (RightOfHole l fs) n (stop_kind fs) (On k false s l)))
     (sym (want_plain fs p m (at_of false s (at_kind l k None)) h refl))
-    (if_view o (On k false s l) (knowing s last given) (RightOfHole l fs) n (stop_kind fs)
+    (if_view o (On k false s l) (knowing o s last given) (RightOfHole l fs) n (stop_kind fs)
     (part_frames (stop_kind fs) fs p m (at_of false s (at_kind l k None))) v)
 
 key_wanted :
     (m : PartKind) (k : lexemes.LexemeKind) (s : Scope) (l : lexemes.Lexeme) (o : OptionsData) (last : Mark)
     (given : List PlainEvent) (p : TreeProperties) (fs : List OpenFrame) (n : Result ParserState Fault) →
     BlockHole fs → terminal_kind k None ≡ Part m →
-    LimitView o (On k true s l) (knowing s last given) n (KeyTaken m k s l p fs (stop_kind fs)) →
-    LimitView o (On k true s l) (knowing s last given) (Tested (RightOfHole l fs) n (stop_kind fs) (On k true s l))
+    LimitView o (On k true s l) (knowing o s last given) n (KeyTaken m k s l p fs (stop_kind fs)) →
+    LimitView o (On k true s l) (knowing o s last given) (Tested (RightOfHole l fs) n (stop_kind fs) (On k true s l))
     (want_frames fs p (Part m) (at_of true s (at_kind l k None)))
 key_wanted m k s l o last given p fs n h e v =
     subst
-    (LimitView o (On k true s l) (knowing s last given) (Tested (RightOfHole l fs) n (stop_kind fs) (On k true s l)))
+    (LimitView o (On k true s l) (knowing o s last given) (Tested (RightOfHole l fs) n (stop_kind fs) (On k true s l)))
     (sym (want_key fs p m (at_of true s (at_kind l k None)) h refl))
-    (if_view o (On k true s l) (knowing s last given) (RightOfHole l fs) n (stop_kind fs)
+    (if_view o (On k true s l) (knowing o s last given) (RightOfHole l fs) n (stop_kind fs)
     (KeyTaken m k s l p fs (stop_kind fs)) v)
 
 -- any but a `-`
@@ -128,21 +128,21 @@ node_or b (lexemes.Close Square) key s l o last given p fs h q e j c n = cc (c)
 node_or b (lexemes.Close Curly) key s l o last given p fs h q e j c n = cc (c)
 node_or b lexemes.Dash key s l o last given p fs h q e j c n = cc (n)
 node_or b lexemes.Question key s l o last given p fs h q e j c n =
-    subst (LimitView o (X b lexemes.Question key s l) (knowing s last given)
+    subst (LimitView o (X b lexemes.Question key s l) (knowing o s last given)
     (Tested (RightOfHole l fs) (NodeOf b lexemes.Question key s l o last given p fs) (stop_kind fs)
     (X b lexemes.Question key s l)))
     (sym (want_question fs p (at_of b s (at_kind l lexemes.Question key)) q))
-    (if_view o (X b lexemes.Question key s l) (knowing s last given) (RightOfHole l fs)
+    (if_view o (X b lexemes.Question key s l) (knowing o s last given) (RightOfHole l fs)
     (NodeOf b lexemes.Question key s l o last given p fs) (stop_kind fs)
-    (asks p (X b lexemes.Question key s l) fs) (question_begins b s l o (knowing s last given) p fs h))
+    (asks p (X b lexemes.Question key s l) fs) (question_begins b s l o (knowing o s last given) p fs h))
 node_or b lexemes.Colon None s l o last given p fs h q e j c n =
-    subst (LimitView o (X b lexemes.Colon None s l) (knowing s last given)
+    subst (LimitView o (X b lexemes.Colon None s l) (knowing o s last given)
     (Tested (RightOfHole l fs) (NodeOf b lexemes.Colon None s l o last given p fs) (stop_kind fs)
     (X b lexemes.Colon None s l)))
     (sym (want_colon fs p (at_of b s (at_kind l lexemes.Colon None)) q))
-    (if_view o (X b lexemes.Colon None s l) (knowing s last given) (RightOfHole l fs)
+    (if_view o (X b lexemes.Colon None s l) (knowing o s last given) (RightOfHole l fs)
     (NodeOf b lexemes.Colon None s l o last given p fs) (stop_kind fs)
-    (colons p (X b lexemes.Colon None s l) fs) (colon_begins b s l o (knowing s last given) p fs h))
+    (colons p (X b lexemes.Colon None s l) fs) (colon_begins b s l o (knowing o s last given) p fs h))
 node_or b lexemes.Colon (Some n) s l o last given p fs h q e j c d = cc (c)
 node_or false (lexemes.Scalar style text) key s l o last given p fs h q e j c n =
     plain_wanted (Scalar style text) (lexemes.Scalar style text) s l o last given p fs
@@ -239,7 +239,7 @@ tested_by :
     Wanted b k key s l o last given p fs (r && RightOfHole l fs)
 tested_by b k key s l o last given p fs true h q e j n c = node_or b k key s l o last given p fs h q e j c n
 tested_by b k key s l o last given p fs false h q e j n c =
-    subst (LimitView o (X b k key s l) (knowing s last given) (Err (fault_of (stop_kind fs) (X b k key s l))))
+    subst (LimitView o (X b k key s l) (knowing o s last given) (Err (fault_of (stop_kind fs) (X b k key s l))))
     (sym (want_stops b k key fs p (at_of b s (at_kind l k key)) q c)) refl
 
 -- any but a `-`, where it begins a node right of the hole's column, or is refused
@@ -260,21 +260,21 @@ loose_column k (suc c) h = grind (arith, nat_tests)
 
 -- both say whether a sequence may begin in the column of its mapping
 pub loose_same :
-    (p : TreeProperties) (k : ℕ) (fs : List OpenFrame) → Holes fs → BlockHole fs →
+    (o : OptionsData) (p : TreeProperties) (k : ℕ) (fs : List OpenFrame) → Holes fs → BlockHole fs →
     loose_fits (room_behind p (frames_room fs)) (suc k)
-    ≡ may_be_indentless k (below_properties (frames_of (topped p fs)))
-loose_same NoProperties k fs h root_hole = refl
-loose_same (One r i) k fs h root_hole = refl
-loose_same (Two r i m j) k fs h root_hole = refl
-loose_same NoProperties k fs h entry_hole = refl
-loose_same (One r i) k fs h entry_hole = refl
-loose_same (Two r i m j) k fs h entry_hole = refl
-loose_same NoProperties k (MappingFrame c Asking ∷ fs) (at_asked g h) asked_hole = loose_column k c g
-loose_same (One r i) k (MappingFrame c Asking ∷ fs) (at_asked g h) asked_hole = loose_column k c g
-loose_same (Two r i m j) k (MappingFrame c Asking ∷ fs) (at_asked g h) asked_hole = loose_column k c g
-loose_same NoProperties k (MappingFrame c (Value w) ∷ fs) (at_value g h) value_hole = loose_column k c g
-loose_same (One r i) k (MappingFrame c (Value w) ∷ fs) (at_value g h) value_hole = loose_column k c g
-loose_same (Two r i m j) k (MappingFrame c (Value w) ∷ fs) (at_value g h) value_hole = loose_column k c g
+    ≡ may_be_indentless k (below_properties (frames_of o (topped p fs)))
+loose_same o NoProperties k fs h root_hole = refl
+loose_same o (One r i) k fs h root_hole = refl
+loose_same o (Two r i m j) k fs h root_hole = refl
+loose_same o NoProperties k fs h entry_hole = refl
+loose_same o (One r i) k fs h entry_hole = refl
+loose_same o (Two r i m j) k fs h entry_hole = refl
+loose_same o NoProperties k (MappingFrame c Asking ∷ fs) (at_asked g h) asked_hole = loose_column k c g
+loose_same o (One r i) k (MappingFrame c Asking ∷ fs) (at_asked g h) asked_hole = loose_column k c g
+loose_same o (Two r i m j) k (MappingFrame c Asking ∷ fs) (at_asked g h) asked_hole = loose_column k c g
+loose_same o NoProperties k (MappingFrame c (Value w) ∷ fs) (at_value g h) value_hole = loose_column k c g
+loose_same o (One r i) k (MappingFrame c (Value w) ∷ fs) (at_value g h) value_hole = loose_column k c g
+loose_same o (Two r i m j) k (MappingFrame c (Value w) ∷ fs) (at_value g h) value_hole = loose_column k c g
 
 abbrev LooseFits : lexemes.Lexeme → TreeProperties → List OpenFrame → Bool
 LooseFits l p fs = loose_fits (room_behind p (frames_room fs)) (suc l.start.place.column)
@@ -282,21 +282,21 @@ LooseFits l p fs = loose_fits (room_behind p (frames_room fs)) (suc l.start.plac
 dash_by :
     (b : Bool) (key : Option KeyStart) (s : Scope) (l : lexemes.Lexeme) (o : OptionsData) (last : Mark)
     (given : List PlainEvent) (p : TreeProperties) (fs : List OpenFrame) (loose : Bool) → Holes fs →
-    LimitView o (X b lexemes.Dash key s l) (knowing s last given)
+    LimitView o (X b lexemes.Dash key s l) (knowing o s last given)
     (Tested (loose || RightOfHole l fs)
     (take_dash o (token_of b (at_kind l lexemes.Dash key)) (first_dash loose) false
-    (state_of o (InFrames (topped p fs)) (knowing s last given)))
+    (state_of o (InFrames (topped p fs)) (knowing o s last given)))
     (stop_kind fs) (X b lexemes.Dash key s l))
     (choose loose (dashes true p (X b lexemes.Dash key s l) fs)
     (if_gives (RightOfHole l fs) (stop_kind fs) (dashes false p (X b lexemes.Dash key s l) fs)))
 unfolding take_dash
-dash_by b key s l o last given p fs true h = loose_begins b s l o (knowing s last given) p fs h
+dash_by b key s l o last given p fs true h = loose_begins b s l o (knowing o s last given) p fs h
 dash_by b key s l o last given p fs false h =
-    if_view o (X b lexemes.Dash key s l) (knowing s last given) (RightOfHole l fs)
+    if_view o (X b lexemes.Dash key s l) (knowing o s last given) (RightOfHole l fs)
     (take_dash o (token_of b (at_kind l lexemes.Dash key)) (first_dash false) false
-    (state_of o (InFrames (topped p fs)) (knowing s last given)))
+    (state_of o (InFrames (topped p fs)) (knowing o s last given)))
     (stop_kind fs) (dashes false p (X b lexemes.Dash key s l) fs)
-    (dash_begins b s l o (knowing s last given) p fs h)
+    (dash_begins b s l o (knowing o s last given) p fs h)
 
 -- a `-` in the column of its mapping, or right of the hole's column
 pub dash_tested :
@@ -306,18 +306,18 @@ pub dash_tested :
 dash_tested b key s l o last given p fs h q =
     subst
     (λ loose.
-    LimitView o (X b lexemes.Dash key s l) (knowing s last given)
+    LimitView o (X b lexemes.Dash key s l) (knowing o s last given)
     (Tested (LooseFits l p fs || RightOfHole l fs)
     (take_dash o (token_of b (at_kind l lexemes.Dash key)) (first_dash loose) false
-    (state_of o (InFrames (topped p fs)) (knowing s last given)))
+    (state_of o (InFrames (topped p fs)) (knowing o s last given)))
     (stop_kind fs) (X b lexemes.Dash key s l))
     (want_frames fs p Dash (at_of b s (at_kind l lexemes.Dash key))))
-    (loose_same p l.start.place.column fs h q)
+    (loose_same o p l.start.place.column fs h q)
     (subst
-    (LimitView o (X b lexemes.Dash key s l) (knowing s last given)
+    (LimitView o (X b lexemes.Dash key s l) (knowing o s last given)
     (Tested (LooseFits l p fs || RightOfHole l fs)
     (take_dash o (token_of b (at_kind l lexemes.Dash key)) (first_dash (LooseFits l p fs)) false
-    (state_of o (InFrames (topped p fs)) (knowing s last given)))
+    (state_of o (InFrames (topped p fs)) (knowing o s last given)))
     (stop_kind fs) (X b lexemes.Dash key s l)))
     (sym (want_dash fs p (at_of b s (at_kind l lexemes.Dash key)) q))
     (dash_by b key s l o last given p fs (LooseFits l p fs) h))

@@ -11,7 +11,7 @@ use Rattle.granit_agreement.specs.Stepping.{taken, at_kind}
 use Rattle.granit_agreement.specs.View.{Beside, item_of, state_of, waiting_of}
 use Rattle.granit_agreement.proofs.StageSteps.{none_open}
 use Rattle.granit_agreement.proofs.WholeRuns.{told_append, give_told, seen_given, Emptied, Fed, Cleared, fed_ok, fed_is}
-use Rattle.granit_agreement.proofs.WholeRuns.{seen_cleared, knows_cleared, fault_passed}
+use Rattle.granit_agreement.proofs.WholeRuns.{seen_cleared, knows_cleared, fault_passed, none_stay}
 use Rattle.granit_agreement.proofs.WholeSteps.{step_next}
 use Rattle.granit_language.specs.Seen.{Flagged, terminal_of, terminal_seen}
 use Rattle.granit_grammar.specs.EventMachine.{EventState, IsFresh, HasDirectives, IsRooted, InFrames, IsEnded, Ending}
@@ -156,7 +156,7 @@ front_lands o gs es (Err f) w e h = tt
 
 abbrev Land : OptionsData → List Flagged → Type 0
 Land o fs =
-    (s : Scope) (st : EventState) (d : Beside) (p : ParserState) → ComesTo st → Knows st s d →
+    (s : Scope) (st : EventState) (d : Beside) (p : ParserState) → ComesTo st → Knows o st s d →
     nat_le (state_count st) o.block_nesting_limit ≡ true → d.given ≡ [] → FairRun fs s st → Seen o st p d →
     Lands o (feed_all o (map item_of fs) p) (ran (scoped s (map terminal_seen fs)) st)
 
@@ -173,7 +173,7 @@ step_lands o f fs s (Ok p) (GoesTo st es) h fair ih =
     (front_lands o p.given es (feed_all o (map item_of fs) (Emptied p)) to
     (seen_given o st p h.beside h.is_seen ∙ (h.gives ∙ give_told o es []))
     (ih (next_scope x.kind s) st (Cleared h.beside) (Emptied p) h.comes
-    (knows_cleared st (next_scope x.kind s) h.beside h.knows)
+    (knows_cleared o st (next_scope x.kind s) h.beside h.knows)
     (fault_passed (nat_le (state_count st) o.block_nesting_limit) (TooManyBlocks (is_loose st)) _ h.passes) refl
     fair (seen_cleared o st p h.beside h.is_seen)))
 step_lands o f fs s (Err e) y h fair ih = tt
@@ -181,7 +181,7 @@ step_lands o f fs s (Ok p) (StopsWith k) h fair ih = absurd h
 
 one_lands :
     (o : OptionsData) (f : Flagged) (fs : List Flagged) (s : Scope) (st : EventState) (d : Beside) → Good st →
-    Knows st s d → nat_le (state_count st) o.block_nesting_limit ≡ true → d.given ≡ [] → FairRun (f ∷ fs) s st →
+    Knows o st s d → nat_le (state_count st) o.block_nesting_limit ≡ true → d.given ≡ [] → FairRun (f ∷ fs) s st →
     Land o fs →
     Lands o (feed_all o (map item_of (f ∷ fs)) (state_of o st d)) (ran (scoped s (map terminal_seen (f ∷ fs))) st)
 one_lands o f fs s st d g q e n fair ih =
@@ -292,5 +292,6 @@ fed_left o m fs gs p fair e =
     left_by o xs gs p (ran xs IsFresh) (parse xs tree_start) refl
     (follows xs tree_start begun tt (λ x more. refl))
     (subst (λ (r : FeedGiven). Lands o r (ran xs IsFresh)) e
-    (lands o fs no_scope IsFresh (record { last = m; count = 0; names = []; handles = []; given = [] }) (parser_start m)
-    is_fresh (refl, refl, refl, refl, refl) (none_open o.block_nesting_limit) refl fair refl))
+    (lands o fs no_scope IsFresh (record { last = m; count = 0; names = []; handles = []; kept = []; given = [] })
+    (parser_start m)
+    is_fresh (refl, refl, refl, refl, refl, none_stay o.keep_tags) (none_open o.block_nesting_limit) refl fair refl))

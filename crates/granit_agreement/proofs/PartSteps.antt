@@ -2,7 +2,7 @@
 use Rattle.granit_agreement.specs.Good.{Holes, at_root, at_entry, at_key, at_asked, at_value, at_item, at_curly}
 use Rattle.granit_agreement.specs.Good.{curly_key, curly_asked, curly_value, made_key, made_value, pair_asked}
 use Rattle.granit_agreement.specs.Good.{pair_value}
-use Rattle.granit_agreement.specs.Stepping.{MeansView, StepView, at_kind, knowing}
+use Rattle.granit_agreement.specs.Stepping.{MeansView, StepView, at_kind, knowing, staying}
 use Rattle.granit_agreement.specs.Steps.{PartsAgree, topped}
 use Rattle.granit_agreement.specs.View.{last_of, with_given, frames_of, Beside, state_of}
 use Rattle.granit_language.specs.Seen.{terminal_of, at_of, indent_of}
@@ -10,9 +10,9 @@ use Rattle.granit_grammar.specs.EventMachine.{OpenFrame, InFrames, frames_indent
 use Rattle.granit_language.specs.GrammarFault.{GrammarFault, UnknownAnchor, UndeclaredTagHandle}
 use Rattle.granit_language.specs.Node.{TreeProperties, NoProperties, One, Two}
 use Rattle.granit_language.specs.Room.{joins}
-use Rattle.granit_language.specs.Scope.{Scope}
+use Rattle.granit_language.specs.Scope.{Scope, entry_of}
 use Rattle.granit_language.specs.Scoping.{number_of_anchor, prefix_of, prefix_by, fault_if_none, alias_fault}
-use Rattle.granit_language.specs.Scoping.{scope_fault}
+use Rattle.granit_language.specs.Scoping.{kept_of, or_kept, scope_fault}
 use Rattle.granit_language.specs.Telling.{alias_told, or_handle, properties_anchor, properties_tag, indent_told}
 use Rattle.granit_language.specs.Telling.{anchor_told}
 use Rattle.granit_language.specs.Terminal.{Anchor, Tag, Part, Alias, Property, Scalar, Open}
@@ -25,7 +25,7 @@ use Rattle.granit_machine.specs.NodeSteps.{bare}
 use Rattle.granit_machine.specs.TokenSort.{token_of}
 use Rattle.std.proofs.Common.{◌≡◌, ℕ, Bool, true, false, List, [], ◌∷◌, ◌++◌, length, codes, refl, sym, ap, ap₂, ◌∙◌}
 use Rattle.std.proofs.Common.{subst, ◌==◌, nat_lt, Option, Some, None, Result, Ok, Err}
-use Rattle.std.specs.Prelude.{if◌then◌else◌}
+use Rattle.std.specs.Prelude.{◌&&◌, if◌then◌else◌}
 use Rattle.granit_base.specs.Place.{Mark}
 use Rattle.granit_base.specs.Written.{Written}
 use Rattle.granit_base.specs.declared.style.ScalarStyle.{ScalarStyle}
@@ -51,7 +51,7 @@ abbrev pub HeadGiven :
     OptionsData → TreeProperties → (ℕ → Option PlainTag → plain.EventKind) → Source → Option ℕ → List PlainEvent →
     List PlainEvent
 HeadGiven o p kind source indent given =
-    given ++ node_head (properties_anchor p) (properties_tag p) kind source indent
+    given ++ node_head (properties_anchor p) (properties_tag o p) kind source indent
     ∷ anchor_told o (properties_anchor p) []
 
 hole_event :
@@ -59,28 +59,28 @@ hole_event :
     (fs : List OpenFrame) (d : Beside) →
     Holes fs →
     node_event o kind source own (state_of o (InFrames fs) d)
-    ≡ popped fs source.end (HeadGiven o NoProperties kind source (key_indent (frames_of fs) own) d.given) d
+    ≡ popped o fs source.end (HeadGiven o NoProperties kind source (key_indent (frames_of o fs) own) d.given) d
 unfolding node_event node_head
 hole_event o kind source own fs d (at_root {m = None}) = refl
 hole_event o kind source own fs d (at_root {m = Some m}) = refl
 hole_event o kind source own fs d (at_entry {w = w} q h) =
-    ap (put (node_head None None kind source (key_indent (frames_of fs) own)))
+    ap (put (node_head None None kind source (key_indent (frames_of o fs) own)))
     (flushed o w o.max_buffered_comment_events (state_of o (InFrames fs) d))
 hole_event o kind source own fs d (at_key q h) = refl
 hole_event o kind source own fs d (at_asked q h) = refl
 hole_event o kind source own fs d (at_value {w = w} q h) =
-    ap (put (node_head None None kind source (key_indent (frames_of fs) own)))
+    ap (put (node_head None None kind source (key_indent (frames_of o fs) own)))
     (flushed o w o.max_buffered_comment_events (state_of o (InFrames fs) d))
 hole_event o kind source own fs d (at_item h) = refl
 hole_event o kind source own fs d (at_curly h) = refl
 hole_event o kind source own fs d (curly_key h) = refl
 hole_event o kind source own fs d (curly_asked h) = refl
 hole_event o kind source own fs d (curly_value {w = w} h) =
-    ap (put (node_head None None kind source (key_indent (frames_of fs) own)))
+    ap (put (node_head None None kind source (key_indent (frames_of o fs) own)))
     (flushed o w o.max_buffered_comment_events (state_of o (InFrames fs) d))
 hole_event o kind source own fs d (made_key h) = refl
 hole_event o kind source own fs d (made_value {w = w} h) =
-    ap (put (node_head None None kind source (key_indent (frames_of fs) own)))
+    ap (put (node_head None None kind source (key_indent (frames_of o fs) own)))
     (flushed o w o.max_buffered_comment_events (state_of o (InFrames fs) d))
 hole_event o kind source own fs d (pair_asked h) = refl
 hole_event o kind source own fs d (pair_value h) = refl
@@ -90,14 +90,14 @@ pub node_begins :
     (own : Option ℕ) (fs : List OpenFrame) (d : Beside) →
     Holes fs →
     node_event o kind source own (state_of o (InFrames (topped p fs)) d)
-    ≡ popped fs source.end (HeadGiven o p kind source (key_indent (frames_of fs) own) d.given) d
+    ≡ popped o fs source.end (HeadGiven o p kind source (key_indent (frames_of o fs) own) d.given) d
 unfolding node_event
 node_begins o NoProperties kind source own fs d h = hole_event o kind source own fs d h
 node_begins o (One k i) kind source own fs d h =
-    node_event_view o (properties_anchor (One k i)) (properties_tag (One k i)) i.shown.end kind source own fs d.last
+    node_event_view o (properties_anchor (One k i)) (properties_tag o (One k i)) i.shown.end kind source own fs d.last
     d.given d
 node_begins o (Two k i m j) kind source own fs d h =
-    node_event_view o (properties_anchor (Two k i m j)) (properties_tag (Two k i m j)) j.shown.end kind source own fs
+    node_event_view o (properties_anchor (Two k i m j)) (properties_tag o (Two k i m j)) j.shown.end kind source own fs
     d.last d.given d
 
 -- its indent
@@ -127,9 +127,9 @@ scalar_given o p style text l fs d h =
     (ap
     (λ i.
     finish
-    (popped fs l.shown.end
+    (popped o fs l.shown.end
     (HeadGiven o p (λ number tag. plain.Scalar text style number tag) l.shown i d.given) d))
-    (indent_view fs l.indent h ∙ indent_imposed (frames_indent fs) l.indent)
+    (indent_view o fs l.indent h ∙ indent_imposed (frames_indent fs) l.indent)
     ∙ finish_view o fs l.shown.end
     (HeadGiven o p (λ number tag. plain.Scalar text style number tag) l.shown
     (indent_told (imposed (frames_indent fs) (indent_of l.indent))) d.given)
@@ -141,11 +141,11 @@ pub scalar_parts :
     Holes fs → PartsAgree b (Scalar style text) (lexemes.Scalar style text) s l o last given p fs stop
 unfolding node_head
 scalar_parts b style text s l o last given NoProperties fs stop h =
-    ((l.shown.end, scalar_given o NoProperties style text l fs (knowing s last given) h), refl)
+    ((l.shown.end, scalar_given o NoProperties style text l fs (knowing o s last given) h), refl)
 scalar_parts b style text s l o last given (One k i) fs stop h =
-    ((l.shown.end, scalar_given o (One k i) style text l fs (knowing s last given) h), refl)
+    ((l.shown.end, scalar_given o (One k i) style text l fs (knowing o s last given) h), refl)
 scalar_parts b style text s l o last given (Two k i m j) fs stop h =
-    ((l.shown.end, scalar_given o (Two k i m j) style text l fs (knowing s last given) h), refl)
+    ((l.shown.end, scalar_given o (Two k i m j) style text l fs (knowing o s last given) h), refl)
 
 square_given :
     (o : OptionsData) (p : TreeProperties) (l : lexemes.Lexeme) (fs : List OpenFrame) (d : Beside) → Holes fs →
@@ -164,7 +164,7 @@ square_given o p l fs d h =
     state_of o (InFrames (flow_frame Square ∷ fs))
     (with_given l.shown.end (HeadGiven o p (λ number tag. plain.SequenceStart Flow number tag) l.shown i d.given)
     d))
-    (indent_view fs None h ∙ indent_none (frames_indent fs))
+    (indent_view o fs None h ∙ indent_none (frames_indent fs))
 
 pub square_parts :
     (b : Bool) (s : Scope) (l : lexemes.Lexeme) (o : OptionsData) (last : Mark) (given : List PlainEvent)
@@ -172,11 +172,11 @@ pub square_parts :
     Holes fs → PartsAgree b (Open Square) (lexemes.Open brackets.Square) s l o last given p fs stop
 unfolding node_head
 square_parts b s l o last given NoProperties fs stop h =
-    ((l.shown.end, square_given o NoProperties l fs (knowing s last given) h), refl)
+    ((l.shown.end, square_given o NoProperties l fs (knowing o s last given) h), refl)
 square_parts b s l o last given (One k i) fs stop h =
-    ((l.shown.end, square_given o (One k i) l fs (knowing s last given) h), refl)
+    ((l.shown.end, square_given o (One k i) l fs (knowing o s last given) h), refl)
 square_parts b s l o last given (Two k i m j) fs stop h =
-    ((l.shown.end, square_given o (Two k i m j) l fs (knowing s last given) h), refl)
+    ((l.shown.end, square_given o (Two k i m j) l fs (knowing o s last given) h), refl)
 
 curly_given :
     (o : OptionsData) (p : TreeProperties) (l : lexemes.Lexeme) (fs : List OpenFrame) (d : Beside) → Holes fs →
@@ -195,7 +195,7 @@ curly_given o p l fs d h =
     state_of o (InFrames (flow_frame Curly ∷ fs))
     (with_given l.shown.end (HeadGiven o p (λ number tag. plain.MappingStart Flow number tag) l.shown i d.given)
     d))
-    (indent_view fs None h ∙ indent_none (frames_indent fs))
+    (indent_view o fs None h ∙ indent_none (frames_indent fs))
 
 pub curly_parts :
     (b : Bool) (s : Scope) (l : lexemes.Lexeme) (o : OptionsData) (last : Mark) (given : List PlainEvent)
@@ -203,11 +203,11 @@ pub curly_parts :
     Holes fs → PartsAgree b (Open Curly) (lexemes.Open brackets.Curly) s l o last given p fs stop
 unfolding node_head
 curly_parts b s l o last given NoProperties fs stop h =
-    ((l.shown.end, curly_given o NoProperties l fs (knowing s last given) h), refl)
+    ((l.shown.end, curly_given o NoProperties l fs (knowing o s last given) h), refl)
 curly_parts b s l o last given (One k i) fs stop h =
-    ((l.shown.end, curly_given o (One k i) l fs (knowing s last given) h), refl)
+    ((l.shown.end, curly_given o (One k i) l fs (knowing o s last given) h), refl)
 curly_parts b s l o last given (Two k i m j) fs stop h =
-    ((l.shown.end, curly_given o (Two k i m j) l fs (knowing s last given) h), refl)
+    ((l.shown.end, curly_given o (Two k i m j) l fs (knowing o s last given) h), refl)
 
 -- ---- properties
 
@@ -225,7 +225,7 @@ anchor_parts b name s l o last given NoProperties fs stop (at_entry {w = w} q h)
   (
     last,
     ap (steps.anchored (token_of b (at_kind l (lexemes.Anchor name) None)) name)
-        (flushed o w o.max_buffered_comment_events (state_of o (InFrames fs) (knowing s last given))),
+        (flushed o w o.max_buffered_comment_events (state_of o (InFrames fs) (knowing o s last given))),
   ),
   refl,
 )
@@ -235,7 +235,7 @@ anchor_parts b name s l o last given NoProperties fs stop (at_value {w = w} q h)
   (
     last,
     ap (steps.anchored (token_of b (at_kind l (lexemes.Anchor name) None)) name)
-        (flushed o w o.max_buffered_comment_events (state_of o (InFrames fs) (knowing s last given))),
+        (flushed o w o.max_buffered_comment_events (state_of o (InFrames fs) (knowing o s last given))),
   ),
   refl,
 )
@@ -247,7 +247,7 @@ anchor_parts b name s l o last given NoProperties fs stop (curly_value {w = w} h
   (
     last,
     ap (steps.anchored (token_of b (at_kind l (lexemes.Anchor name) None)) name)
-        (flushed o w o.max_buffered_comment_events (state_of o (InFrames fs) (knowing s last given))),
+        (flushed o w o.max_buffered_comment_events (state_of o (InFrames fs) (knowing o s last given))),
   ),
   refl,
 )
@@ -256,7 +256,7 @@ anchor_parts b name s l o last given NoProperties fs stop (made_value {w = w} h)
   (
     last,
     ap (steps.anchored (token_of b (at_kind l (lexemes.Anchor name) None)) name)
-        (flushed o w o.max_buffered_comment_events (state_of o (InFrames fs) (knowing s last given))),
+        (flushed o w o.max_buffered_comment_events (state_of o (InFrames fs) (knowing o s last given))),
   ),
   refl,
 )
@@ -285,6 +285,37 @@ prefix_same :
 prefix_same b l handle (Some prefix) = refl
 prefix_same b l handle None = prefix_tests l handle (length handle == 2) (nat_lt 2 (length handle))
 
+-- what the parser knows of a handle is what is declared
+abbrev known_in : OptionsData → List ℕ → Scope → Option (List ℕ)
+known_in o handle s =
+    steps.or_kept o handle (lookup_text handle (ordered s.handles)) (lookup_text handle (staying o s))
+
+kept_off : (long : Bool) (p q : Option (List ℕ)) → (if long && false then p else None)
+    ≡ (if long && false then q else None)
+kept_off true p q = refl
+kept_off false p q = refl
+
+kept_found :
+    (keep : Bool) (handle : List ℕ) (all : List (List ℕ × List ℕ)) →
+    (if nat_lt 2 (length handle) && keep then lookup_text handle (if keep then ordered all else []) else None)
+    ≡ (if nat_lt 2 (length handle) && keep then entry_of handle all else None)
+kept_found true handle all =
+    ap (λ (q : Option (List ℕ)). if nat_lt 2 (length handle) && true then q else None) (found_in_order handle all)
+kept_found false handle all = kept_off (nat_lt 2 (length handle)) None (entry_of handle all)
+
+kept_same :
+    (o : OptionsData) (handle : List ℕ) (known : Option (List ℕ)) (s : Scope) →
+    steps.or_kept o handle known (lookup_text handle (staying o s)) ≡ or_kept known (kept_of o handle s)
+kept_same o handle (Some prefix) s = refl
+kept_same o handle None s = kept_found o.keep_tags handle s.all_handles
+
+known_same :
+    (o : OptionsData) (handle : List ℕ) (s : Scope) →
+    known_in o handle s ≡ or_kept (entry_of handle s.handles) (kept_of o handle s)
+known_same o handle s =
+    ap (λ q. steps.or_kept o handle q (lookup_text handle (staying o s))) (found_in_order handle s.handles)
+    ∙ kept_same o handle (entry_of handle s.handles) s
+
 abbrev TagLexeme : lexemes.Lexeme → List ℕ → List ℕ → lexemes.Lexeme
 TagLexeme l handle suffix = at_kind l (lexemes.Tag handle suffix) None
 
@@ -292,11 +323,11 @@ TagLexeme l handle suffix = at_kind l (lexemes.Tag handle suffix) None
 tag_goes :
     (b : Bool) (handle suffix : List ℕ) (s : Scope) (l : lexemes.Lexeme) (o : OptionsData) (last : Mark)
     (given : List PlainEvent) (p : TreeProperties) (fs : List OpenFrame) (stop : GrammarFault) (r : List ℕ) →
-    Holes fs → joins p (Property (Tag handle suffix)) ≡ true → prefix_of handle s ≡ Some r →
-    StepView o (terminal_of b s (TagLexeme l handle suffix)) (knowing s last given)
+    Holes fs → joins p (Property (Tag handle suffix)) ≡ true → prefix_of o handle s ≡ Some r →
+    StepView o (terminal_of b s (TagLexeme l handle suffix)) (knowing o s last given)
     (Ok
-    (steps.tagged (token_of b (TagLexeme l handle suffix)) handle suffix (or_handle handle (prefix_of handle s))
-    (flush (state_of o (InFrames (topped p fs)) (knowing s last given)))))
+    (steps.tagged (token_of b (TagLexeme l handle suffix)) handle suffix (or_handle handle (prefix_of o handle s))
+    (flush (state_of o (InFrames (topped p fs)) (knowing o s last given)))))
     (part_frames stop fs p (Property (Tag handle suffix)) (at_of b s (TagLexeme l handle suffix)))
 tag_goes b handle suffix s l o last given (One (Tag u v) i) fs stop r h e t = cc (e)
 tag_goes b handle suffix s l o last given (One (Anchor a) i) fs stop r h e t = (last, refl)
@@ -305,15 +336,15 @@ tag_goes b handle suffix s l o last given NoProperties fs stop r (at_root {m = N
 tag_goes b handle suffix s l o last given NoProperties fs stop r (at_root {m = Some m}) e t = (last_of fs last, refl)
 tag_goes b handle suffix s l o last given NoProperties fs stop r (at_entry {w = w} q h) e t = (
   last,
-  ap (steps.tagged (token_of b (TagLexeme l handle suffix)) handle suffix (or_handle handle (prefix_of handle s)))
-      (flushed o w o.max_buffered_comment_events (state_of o (InFrames fs) (knowing s last given))),
+  ap (steps.tagged (token_of b (TagLexeme l handle suffix)) handle suffix (or_handle handle (prefix_of o handle s)))
+      (flushed o w o.max_buffered_comment_events (state_of o (InFrames fs) (knowing o s last given))),
 )
 tag_goes b handle suffix s l o last given NoProperties fs stop r (at_key q h) e t = (last_of fs last, refl)
 tag_goes b handle suffix s l o last given NoProperties fs stop r (at_asked q h) e t = (last_of fs last, refl)
 tag_goes b handle suffix s l o last given NoProperties fs stop r (at_value {w = w} q h) e t = (
   last,
-  ap (steps.tagged (token_of b (TagLexeme l handle suffix)) handle suffix (or_handle handle (prefix_of handle s)))
-      (flushed o w o.max_buffered_comment_events (state_of o (InFrames fs) (knowing s last given))),
+  ap (steps.tagged (token_of b (TagLexeme l handle suffix)) handle suffix (or_handle handle (prefix_of o handle s)))
+      (flushed o w o.max_buffered_comment_events (state_of o (InFrames fs) (knowing o s last given))),
 )
 tag_goes b handle suffix s l o last given NoProperties fs stop r (at_item h) e t = (last_of fs last, refl)
 tag_goes b handle suffix s l o last given NoProperties fs stop r (at_curly h) e t = (last_of fs last, refl)
@@ -321,14 +352,14 @@ tag_goes b handle suffix s l o last given NoProperties fs stop r (curly_key h) e
 tag_goes b handle suffix s l o last given NoProperties fs stop r (curly_asked h) e t = (last_of fs last, refl)
 tag_goes b handle suffix s l o last given NoProperties fs stop r (curly_value {w = w} h) e t = (
   last,
-  ap (steps.tagged (token_of b (TagLexeme l handle suffix)) handle suffix (or_handle handle (prefix_of handle s)))
-      (flushed o w o.max_buffered_comment_events (state_of o (InFrames fs) (knowing s last given))),
+  ap (steps.tagged (token_of b (TagLexeme l handle suffix)) handle suffix (or_handle handle (prefix_of o handle s)))
+      (flushed o w o.max_buffered_comment_events (state_of o (InFrames fs) (knowing o s last given))),
 )
 tag_goes b handle suffix s l o last given NoProperties fs stop r (made_key h) e t = (last_of fs last, refl)
 tag_goes b handle suffix s l o last given NoProperties fs stop r (made_value {w = w} h) e t = (
   last,
-  ap (steps.tagged (token_of b (TagLexeme l handle suffix)) handle suffix (or_handle handle (prefix_of handle s)))
-      (flushed o w o.max_buffered_comment_events (state_of o (InFrames fs) (knowing s last given))),
+  ap (steps.tagged (token_of b (TagLexeme l handle suffix)) handle suffix (or_handle handle (prefix_of o handle s)))
+      (flushed o w o.max_buffered_comment_events (state_of o (InFrames fs) (knowing o s last given))),
 )
 tag_goes b handle suffix s l o last given NoProperties fs stop r (pair_asked h) e t = (last_of fs last, refl)
 tag_goes b handle suffix s l o last given NoProperties fs stop r (pair_value h) e t = (last_of fs last, refl)
@@ -337,18 +368,18 @@ abbrev TagMeans :
     Bool → List ℕ → List ℕ → Scope → lexemes.Lexeme → OptionsData → Mark → List PlainEvent → TreeProperties →
     List OpenFrame → GrammarFault → Result (List ℕ) Fault → Type 0
 TagMeans b handle suffix s l o last given p fs stop r =
-    MeansView o (terminal_of b s (TagLexeme l handle suffix)) (knowing s last given)
+    MeansView o (terminal_of b s (TagLexeme l handle suffix)) (knowing o s last given)
     (r
     >>= λ prefix.
     Ok
     (steps.tagged (token_of b (TagLexeme l handle suffix)) handle suffix prefix
-    (flush (state_of o (InFrames (topped p fs)) (knowing s last given)))))
+    (flush (state_of o (InFrames (topped p fs)) (knowing o s last given)))))
     (part_frames stop fs p (Property (Tag handle suffix)) (at_of b s (TagLexeme l handle suffix)))
 
 tag_means :
     (b : Bool) (handle suffix : List ℕ) (s : Scope) (l : lexemes.Lexeme) (o : OptionsData) (last : Mark)
     (given : List PlainEvent) (p : TreeProperties) (fs : List OpenFrame) (stop : GrammarFault) (r : Option (List ℕ)) →
-    Holes fs → joins p (Property (Tag handle suffix)) ≡ true → prefix_of handle s ≡ r →
+    Holes fs → joins p (Property (Tag handle suffix)) ≡ true → prefix_of o handle s ≡ r →
     TagMeans b handle suffix s l o last given p fs stop (of_prefix l r)
 tag_means b handle suffix s l o last given (One (Tag u v) i) fs stop r h e t = cc (e)
 tag_means b handle suffix s l o last given (Two k i m j) fs stop r h e t = cc (e)
@@ -359,10 +390,10 @@ tag_means b handle suffix s l o last given NoProperties fs stop None h e t =
 tag_means b handle suffix s l o last given (One (Anchor a) i) fs stop (Some r) h e t = (
   subst
       (λ prefix.
-      StepView o (terminal_of b s (TagLexeme l handle suffix)) (knowing s last given)
+      StepView o (terminal_of b s (TagLexeme l handle suffix)) (knowing o s last given)
       (Ok
       (steps.tagged (token_of b (TagLexeme l handle suffix)) handle suffix prefix
-      (flush (state_of o (InFrames (topped (One (Anchor a) i) fs)) (knowing s last given)))))
+      (flush (state_of o (InFrames (topped (One (Anchor a) i) fs)) (knowing o s last given)))))
       (part_frames stop fs (One (Anchor a) i) (Property (Tag handle suffix))
       (at_of b s (TagLexeme l handle suffix))))
       (ap (or_handle handle) t) (tag_goes b handle suffix s l o last given (One (Anchor a) i) fs stop r h e t),
@@ -371,10 +402,10 @@ tag_means b handle suffix s l o last given (One (Anchor a) i) fs stop (Some r) h
 tag_means b handle suffix s l o last given NoProperties fs stop (Some r) h e t = (
   subst
       (λ prefix.
-      StepView o (terminal_of b s (TagLexeme l handle suffix)) (knowing s last given)
+      StepView o (terminal_of b s (TagLexeme l handle suffix)) (knowing o s last given)
       (Ok
       (steps.tagged (token_of b (TagLexeme l handle suffix)) handle suffix prefix
-      (flush (state_of o (InFrames fs) (knowing s last given)))))
+      (flush (state_of o (InFrames fs) (knowing o s last given)))))
       (part_frames stop fs NoProperties (Property (Tag handle suffix)) (at_of b s (TagLexeme l handle suffix))))
       (ap (or_handle handle) t) (tag_goes b handle suffix s l o last given NoProperties fs stop r h e t),
   ap (λ r. fault_if_none r UndeclaredTagHandle) t,
@@ -388,21 +419,21 @@ pub tag_parts :
 tag_parts b handle suffix s l o last given NoProperties fs stop h e =
     subst (TagMeans b handle suffix s l o last given NoProperties fs stop)
     (sym
-    (prefix_same b (TagLexeme l handle suffix) handle (lookup_text handle (ordered s.handles))
-    ∙ ap (λ q. of_prefix l (prefix_by handle q)) (found_in_order handle s.handles)))
-    (tag_means b handle suffix s l o last given NoProperties fs stop (prefix_of handle s) h e refl)
+    (prefix_same b (TagLexeme l handle suffix) handle (known_in o handle s)
+    ∙ ap (λ q. of_prefix l (prefix_by handle q)) (known_same o handle s)))
+    (tag_means b handle suffix s l o last given NoProperties fs stop (prefix_of o handle s) h e refl)
 tag_parts b handle suffix s l o last given (One k i) fs stop h e =
     subst (TagMeans b handle suffix s l o last given (One k i) fs stop)
     (sym
-    (prefix_same b (TagLexeme l handle suffix) handle (lookup_text handle (ordered s.handles))
-    ∙ ap (λ q. of_prefix l (prefix_by handle q)) (found_in_order handle s.handles)))
-    (tag_means b handle suffix s l o last given (One k i) fs stop (prefix_of handle s) h e refl)
+    (prefix_same b (TagLexeme l handle suffix) handle (known_in o handle s)
+    ∙ ap (λ q. of_prefix l (prefix_by handle q)) (known_same o handle s)))
+    (tag_means b handle suffix s l o last given (One k i) fs stop (prefix_of o handle s) h e refl)
 tag_parts b handle suffix s l o last given (Two k i m j) fs stop h e =
     subst (TagMeans b handle suffix s l o last given (Two k i m j) fs stop)
     (sym
-    (prefix_same b (TagLexeme l handle suffix) handle (lookup_text handle (ordered s.handles))
-    ∙ ap (λ q. of_prefix l (prefix_by handle q)) (found_in_order handle s.handles)))
-    (tag_means b handle suffix s l o last given (Two k i m j) fs stop (prefix_of handle s) h e refl)
+    (prefix_same b (TagLexeme l handle suffix) handle (known_in o handle s)
+    ∙ ap (λ q. of_prefix l (prefix_by handle q)) (known_same o handle s)))
+    (tag_means b handle suffix s l o last given (Two k i m j) fs stop (prefix_of o handle s) h e refl)
 
 -- ---- aliases
 
@@ -418,8 +449,8 @@ alias_given :
 alias_given o kind l fs d h =
     ap finish (node_begins o NoProperties (λ number tag. kind) l.shown None fs d h)
     ∙
-    (ap (λ i. finish (popped fs l.shown.end (HeadGiven o NoProperties (λ number tag. kind) l.shown i d.given) d))
-    (indent_view fs None h ∙ indent_none (frames_indent fs))
+    (ap (λ i. finish (popped o fs l.shown.end (HeadGiven o NoProperties (λ number tag. kind) l.shown i d.given) d))
+    (indent_view o fs None h ∙ indent_none (frames_indent fs))
     ∙ finish_view o fs l.shown.end
     (HeadGiven o NoProperties (λ number tag. kind) l.shown (indent_told (frames_indent fs)) d.given) d h)
 
@@ -430,12 +461,12 @@ alias_told_as :
     state_of o (put_frames l.shown.end fs)
     (with_given l.shown.end
     (HeadGiven o NoProperties (λ number tag. alias_told name r) l.shown (indent_told (frames_indent fs)) given)
-    (knowing s last given))
+    (knowing o s last given))
     ≡ state_of o (put_frames l.shown.end fs)
     (with_given l.shown.end
     (HeadGiven o NoProperties (λ number tag. alias_told name (number_of_anchor name.characters s)) l.shown
     (indent_told (frames_indent fs)) given)
-    (knowing s last given))
+    (knowing o s last given))
 alias_told_as o name s r l fs last given e =
     ap
     (λ r.
@@ -443,31 +474,31 @@ alias_told_as o name s r l fs last given e =
     (with_given l.shown.end
     (HeadGiven o NoProperties (λ number tag. alias_told name r) l.shown (indent_told (frames_indent fs))
     given)
-    (knowing s last given)))
+    (knowing o s last given)))
     (sym e)
 
 abbrev AliasMeans :
     Bool → Written → Scope → lexemes.Lexeme → OptionsData → Mark → List PlainEvent → List OpenFrame → GrammarFault →
     Result ParserState Fault → Type 0
 AliasMeans b name s l o last given fs stop r =
-    MeansView o (terminal_of b s (AliasLexeme l name)) (knowing s last given) r
+    MeansView o (terminal_of b s (AliasLexeme l name)) (knowing o s last given) r
     (part_frames stop fs NoProperties (Alias name) (at_of b s (AliasLexeme l name)))
 
 alias_goes :
     (b : Bool) (name : Written) (s : Scope) (l : lexemes.Lexeme) (o : OptionsData) (last : Mark)
     (given : List PlainEvent) (fs : List OpenFrame) (stop : GrammarFault) (r : Option ℕ) →
     Holes fs → number_of_anchor name.characters s ≡ r →
-    scope_fault o.emit_unresolved_aliases (Part (Alias name)) s ≡ None →
+    scope_fault o (Part (Alias name)) s ≡ None →
     AliasMeans b name s l o last given fs stop
     (Ok
     (finish
     (node_event o (λ number tag. alias_told name r) l.shown None
-    (state_of o (InFrames fs) (knowing s last given)))))
+    (state_of o (InFrames fs) (knowing o s last given)))))
 unfolding node_head
 alias_goes b name s l o last given fs stop r h e f = (
   (
     l.shown.end,
-    alias_given o (alias_told name r) l fs (knowing s last given) h ∙ alias_told_as o name s r l fs last given e,
+    alias_given o (alias_told name r) l fs (knowing o s last given) h ∙ alias_told_as o name s r l fs last given e,
   ),
   f,
 )
@@ -480,7 +511,7 @@ alias_unknown :
     (if u then Ok
     (finish
     (node_event o (λ number tag. plain.UnresolvedAlias name) l.shown None
-    (state_of o (InFrames fs) (knowing s last given))))
+    (state_of o (InFrames fs) (knowing o s last given))))
     else Err (fault_at refused.UnknownAnchor l.shown.start))
 alias_unknown b name s l o last given fs stop true u h e =
     alias_goes b name s l o last given fs stop None h e (ap₂ (λ u r. alias_fault u r) u e)
@@ -495,7 +526,7 @@ alias_means :
     (given : List PlainEvent) (fs : List OpenFrame) (stop : GrammarFault) (r : Option ℕ) →
     Holes fs → number_of_anchor name.characters s ≡ r →
     AliasMeans b name s l o last given fs stop
-    (steps.alias_by o (token_of b (AliasLexeme l name)) name r (state_of o (InFrames fs) (knowing s last given)))
+    (steps.alias_by o (token_of b (AliasLexeme l name)) name r (state_of o (InFrames fs) (knowing o s last given)))
 alias_means b name s l o last given fs stop (Some n) h e =
     alias_goes b name s l o last given fs stop (Some n) h e
     (ap (alias_fault o.emit_unresolved_aliases) e ∙ known_alias o.emit_unresolved_aliases n)
@@ -511,6 +542,6 @@ alias_parts b name s l o last given fs stop h =
     (λ r.
     AliasMeans b name s l o last given fs stop
     (steps.alias_by o (token_of b (AliasLexeme l name)) name r
-    (state_of o (InFrames fs) (knowing s last given))))
+    (state_of o (InFrames fs) (knowing o s last given))))
     (sym (found_in_order name.characters s.names))
     (alias_means b name s l o last given fs stop (number_of_anchor name.characters s) h refl)

@@ -95,7 +95,7 @@ flushed o w room p = ap (λ given. record p { waiting = None; given = given }) (
 ended :
     (o : OptionsData) (x : Mark) (fs : List OpenFrame) (kind : plain.EventKind) (given : List PlainEvent) (d : Beside) →
     Holes fs →
-    finish (popped fs x (given ++ event_at kind (empty_span x) ∷ []) d)
+    finish (popped o fs x (given ++ event_at kind (empty_span x) ∷ []) d)
     ≡ state_of o (put_frames x fs) (with_given x (given ++ event_at kind (empty_span x) ∷ []) d)
 ended o x fs kind given d h = finish_view o fs x (given ++ event_at kind (empty_span x) ∷ []) d h
 
@@ -201,21 +201,22 @@ pops_square_done o t d fs h = finish_view o fs t (give_all o (ending_gives t (Fl
 -- ---- properties alone
 
 pub indent_view :
-    (fs : List OpenFrame) (own : Option ℕ) → Holes fs → key_indent (frames_of fs) own ≡ indent_or (frames_indent fs) own
-indent_view fs own at_root = refl
-indent_view fs own (at_entry q h) = refl
-indent_view fs own (at_key q h) = refl
-indent_view fs own (at_asked q h) = refl
-indent_view fs own (at_value q h) = refl
-indent_view fs own (at_item h) = refl
-indent_view fs own (at_curly h) = refl
-indent_view fs own (curly_key h) = refl
-indent_view fs own (curly_asked h) = refl
-indent_view fs own (curly_value h) = refl
-indent_view fs own (made_key h) = refl
-indent_view fs own (made_value h) = refl
-indent_view fs own (pair_asked h) = refl
-indent_view fs own (pair_value h) = refl
+    (o : OptionsData) (fs : List OpenFrame) (own : Option ℕ) → Holes fs →
+    key_indent (frames_of o fs) own ≡ indent_or (frames_indent fs) own
+indent_view o fs own at_root = refl
+indent_view o fs own (at_entry q h) = refl
+indent_view o fs own (at_key q h) = refl
+indent_view o fs own (at_asked q h) = refl
+indent_view o fs own (at_value q h) = refl
+indent_view o fs own (at_item h) = refl
+indent_view o fs own (at_curly h) = refl
+indent_view o fs own (curly_key h) = refl
+indent_view o fs own (curly_asked h) = refl
+indent_view o fs own (curly_value h) = refl
+indent_view o fs own (made_key h) = refl
+indent_view o fs own (made_value h) = refl
+indent_view o fs own (pair_asked h) = refl
+indent_view o fs own (pair_value h) = refl
 
 -- the anchor's event behind
 abbrev AnchorBehind : Bool → ℕ × Written × Source → List PlainEvent → List PlainEvent
@@ -253,25 +254,27 @@ node_head A T kind source indent = record {
 pub node_event_view :
     (o : OptionsData) (A : AnchorTold) (T : TagTold) (behind : Mark) (kind : ℕ → Option PlainTag → plain.EventKind)
     (source : Source) (own : Option ℕ) (fs : List OpenFrame) (last : Mark) (given : List PlainEvent) (d : Beside) →
-    node_event_by o (record { anchor = A; tag = T; end = behind }) kind source own (popped fs last given d)
-    ≡ popped fs source.end (given ++ node_head A T kind source (key_indent (frames_of fs) own) ∷ anchor_told o A []) d
+    node_event_by o (record { anchor = A; tag = T; end = behind }) kind source own (popped o fs last given d)
+    ≡ popped o fs source.end (given ++ node_head A T kind source (key_indent (frames_of o fs) own) ∷ anchor_told o A [])
+    d
 unfolding node_head
 node_event_view o None None behind kind source own fs last given d = refl
 node_event_view o None (Some t) behind kind source own fs last given d = refl
 node_event_view o (Some a) None behind kind source own fs last given d =
-    tell_view o (Some a) (node_head (Some a) None kind source (key_indent (frames_of fs) own)) (popped fs last given d)
+    tell_view o (Some a) (node_head (Some a) None kind source (key_indent (frames_of o fs) own))
+    (popped o fs last given d)
 node_event_view o (Some a) (Some t) behind kind source own fs last given d =
-    tell_view o (Some a) (node_head (Some a) (Some t) kind source (key_indent (frames_of fs) own))
-    (popped fs last given d)
+    tell_view o (Some a) (node_head (Some a) (Some t) kind source (key_indent (frames_of o fs) own))
+    (popped o fs last given d)
 
-text_same : (p : TreeProperties) → GoodProperties p → null_text (properties_tag p) ≡ alone_text p
-text_same NoProperties g = absurd g
-text_same (One (Anchor a) i) g = refl
-text_same (One (Tag h t) i) g = refl
-text_same (Two (Anchor a) i (Anchor b) j) g = cc (g)
-text_same (Two (Anchor a) i (Tag h t) j) g = refl
-text_same (Two (Tag h t) i (Anchor a) j) g = refl
-text_same (Two (Tag h t) i (Tag u v) j) g = refl
+text_same : (o : OptionsData) (p : TreeProperties) → GoodProperties p → null_text (properties_tag o p) ≡ alone_text p
+text_same o NoProperties g = absurd g
+text_same o (One (Anchor a) i) g = refl
+text_same o (One (Tag h t) i) g = refl
+text_same o (Two (Anchor a) i (Anchor b) j) g = cc (g)
+text_same o (Two (Anchor a) i (Tag h t) j) g = refl
+text_same o (Two (Tag h t) i (Anchor a) j) g = refl
+text_same o (Two (Tag h t) i (Tag u v) j) g = refl
 
 pub indent_none : (i : Option ℕ) → indent_or i None ≡ indent_told i
 indent_none None = refl
@@ -280,22 +283,23 @@ indent_none (Some c) = refl
 abbrev AloneGiven : OptionsData → TreeProperties → List ℕ → Option ℕ → List PlainEvent → List PlainEvent
 AloneGiven o p text indent given =
     given
-    ++ node_head (properties_anchor p) (properties_tag p) (plain.Scalar (lent text) Plain)
+    ++ node_head (properties_anchor p) (properties_tag o p) (plain.Scalar (lent text) Plain)
     (empty_span (properties_end p)) indent
     ∷ anchor_told o (properties_anchor p) []
 
 pops_properties :
     (o : OptionsData) (x : Mark) (d : Beside) (p : TreeProperties) (fs : List OpenFrame) → GoodProperties p → Holes fs →
-    end_properties o (parser_properties p) (state_of o (InFrames (PropertiesFrame p ∷ fs)) d)
+    end_properties o (parser_properties o p) (state_of o (InFrames (PropertiesFrame p ∷ fs)) d)
     ≡ Popped o x (PropertiesFrame p ∷ fs) d
 unfolding end_properties node_event node_head
 pops_properties o x d p fs g h =
     ap finish
-    (node_event_view o (properties_anchor p) (properties_tag p) (properties_end p) (null_node (parser_properties p))
+    (node_event_view o (properties_anchor p) (properties_tag o p) (properties_end p) (null_node (parser_properties o p))
     (empty_span (properties_end p)) None fs d.last d.given d)
     ∙
-    (ap₂ (λ text indent. finish (popped fs (properties_end p) (AloneGiven o p text indent d.given) d)) (text_same p g)
-    (indent_view fs None h ∙ indent_none (frames_indent fs))
+    (ap₂ (λ text indent. finish (popped o fs (properties_end p) (AloneGiven o p text indent d.given) d))
+    (text_same o p g)
+    (indent_view o fs None h ∙ indent_none (frames_indent fs))
     ∙ finish_view o fs (properties_end p) (AloneGiven o p (alone_text p) (indent_told (frames_indent fs)) d.given) d h)
 
 -- ---- each
@@ -303,7 +307,7 @@ pops_properties o x d p fs g h =
 pub pops :
     (b : Bool) (s : Scope) (l : lexemes.Lexeme) (o : OptionsData) (d : Beside) (fs : List OpenFrame) →
     Good (InFrames fs) → frame_ends_at (terminal_of b s l) (InFrames fs) ≡ true →
-    end_top o (token_of b l) (state_of o (InFrames fs) d) (frames_of fs) ≡ Popped o l.start fs d
+    end_top o (token_of b l) (state_of o (InFrames fs) d) (frames_of o fs) ≡ Popped o l.start fs d
 pops b s l o d fs (hole (at_root {m = None})) e = cc (e)
 pops b s l o d fs (hole (at_root {m = Some m})) e = refl
 pops b s l o d fs (hole (at_entry {loose = loose} {c = c} {w = w} {fs = gs} q h)) e =

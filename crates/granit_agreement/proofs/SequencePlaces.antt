@@ -76,7 +76,7 @@ abbrev pub RootStep :
     Bool → lexemes.LexemeKind → Option KeyStart → Scope → lexemes.Lexeme → OptionsData → Mark → List PlainEvent →
     Option Mark → Bool → Type 0
 RootStep b k key s l o last given m r =
-    LimitView o (X b k key s l) (knowing s last given)
+    LimitView o (X b k key s l) (knowing o s last given)
     (Tested r (NodeOf b k key s l o last given NoProperties (DocumentFrame m ∷ [])) UnexpectedEofBlockSequence
     (X b k key s l))
     (want_frames (DocumentFrame m ∷ []) NoProperties (terminal_kind k key) (at_of b s (at_kind l k key)))
@@ -101,9 +101,9 @@ pub root_steps :
     StepsLimited b k key s l o last given (DocumentFrame m ∷ [])
 root_steps b k key s l o last given m f e =
     subst
-    (LimitView o (X b k key s l) (knowing s last given)
+    (LimitView o (X b k key s l) (knowing o s last given)
     (take_token o (token_of b (at_kind l k key))
-    (state_of o (InFrames (DocumentFrame m ∷ [])) (knowing s last given))))
+    (state_of o (InFrames (DocumentFrame m ∷ [])) (knowing o s last given))))
     (sym
     (stays_taken (frames_empty (DocumentFrame m ∷ []) (X b k key s l))
     (nothing_frames (X b k key s l) (DocumentFrame m ∷ []))
@@ -147,7 +147,7 @@ abbrev Next :
     List OpenFrame → Result ParserState Fault
 Next b k key s l o last given loose fs =
     take_dash o (token_of b (at_kind l k key)) NextEntry loose
-    (give_empty (state_of o (InFrames fs) (knowing s last given)))
+    (give_empty (state_of o (InFrames fs) (knowing o s last given)))
 
 entry_other :
     (b : Bool) (k : lexemes.LexemeKind) (key : Option KeyStart) (s : Scope) (l : lexemes.Lexeme) (o : OptionsData)
@@ -159,9 +159,9 @@ entry_other :
 unfolding in_sequence
 entry_other b k key s l o last given loose c w fs p h n f e =
     subst
-    (LimitView o (X b k key s l) (knowing s last given)
+    (LimitView o (X b k key s l) (knowing o s last given)
     (take_token o (token_of b (at_kind l k key))
-    (state_of o (InFrames (Entry loose c w fs)) (knowing s last given))))
+    (state_of o (InFrames (Entry loose c w fs)) (knowing o s last given))))
     (sym
     (stays_taken (frames_empty (Entry loose c w fs) (X b k key s l))
     (nothing_frames (X b k key s l) (Entry loose c w fs))
@@ -170,7 +170,7 @@ entry_other b k key s l o last given loose c w fs p h n f e =
     (ap (λ d. d && stands_in (X b k key s l) c) (sym (sort_is b key k).dash ∙ n)) f)))
     (subst
     (λ r.
-    LimitView o (X b k key s l) (knowing s last given) r
+    LimitView o (X b k key s l) (knowing o s last given) r
     (want_frames (Entry loose c w fs) NoProperties (terminal_kind k key) (at_of b s (at_kind l k key))))
     (sym
     (ap₂
@@ -192,9 +192,9 @@ entry_dash_other :
 unfolding in_sequence
 entry_dash_other b key s l o last given loose c w fs p h n f =
     subst
-    (LimitView o (X b lexemes.Dash key s l) (knowing s last given)
+    (LimitView o (X b lexemes.Dash key s l) (knowing o s last given)
     (take_token o (token_of b (at_kind l lexemes.Dash key))
-    (state_of o (InFrames (Entry loose c w fs)) (knowing s last given))))
+    (state_of o (InFrames (Entry loose c w fs)) (knowing o s last given))))
     (sym
     (stays_taken (frames_empty (Entry loose c w fs) (X b lexemes.Dash key s l))
     (nothing_frames (X b lexemes.Dash key s l) (Entry loose c w fs)) (InFrames (Entry loose c w fs))
@@ -203,7 +203,7 @@ entry_dash_other b key s l o last given loose c w fs p h n f =
     (entry_in (X b lexemes.Dash key s l) c) loose n f)))
     (subst
     (λ r.
-    LimitView o (X b lexemes.Dash key s l) (knowing s last given) r
+    LimitView o (X b lexemes.Dash key s l) (knowing o s last given) r
     (want_frames (Entry loose c w fs) NoProperties (terminal_kind lexemes.Dash key)
     (at_of b s (at_kind l lexemes.Dash key))))
     (sym
@@ -260,9 +260,9 @@ entry_dash :
 unfolding in_sequence take_dash
 entry_dash b key s l o last given loose c w fs p h n e =
     subst
-    (LimitView o (X b lexemes.Dash key s l) (knowing s last given)
+    (LimitView o (X b lexemes.Dash key s l) (knowing o s last given)
     (take_token o (token_of b (at_kind l lexemes.Dash key))
-    (state_of o (InFrames (Entry loose c w fs)) (knowing s last given))))
+    (state_of o (InFrames (Entry loose c w fs)) (knowing o s last given))))
     (sym
     (goes_entry (X b lexemes.Dash key s l) loose c w fs _ _ true
     (with_event (pointed SequenceEnds l.start) (finish_frames (X b lexemes.Dash key s l) l.start fs))
@@ -276,7 +276,7 @@ entry_dash b key s l o last given loose c w fs p h n e =
     n))
     (subst
     (λ a.
-    LimitView o (X b lexemes.Dash key s l) (knowing s last given)
+    LimitView o (X b lexemes.Dash key s l) (knowing o s last given)
     (Chosen (Next b lexemes.Dash key s l o last given loose (Entry loose c w fs))
     (NodeOf b lexemes.Dash key s l o last given NoProperties (Entry loose c w fs))
     UnexpectedEofBlockSequence
@@ -285,12 +285,12 @@ entry_dash b key s l o last given loose c w fs p h n e =
     (sym (stands_same b s (at_kind l lexemes.Dash key) c p ∙ n))
     (subst
     (λ r.
-    LimitView o (X b lexemes.Dash key s l) (knowing s last given) r
+    LimitView o (X b lexemes.Dash key s l) (knowing o s last given) r
     (GoesTo (InFrames (Entry loose c l.end fs)) (null w None ∷ [])))
     (sym
     (ap₂ (λ k q. Entered o l loose k q) (column_is l.start.place.column c p n)
     (flushed o w o.max_buffered_comment_events
-    (put (null_at w) (state_of o (InFrames (Entry loose c w fs)) (knowing s last given)))))) (
+    (put (null_at w) (state_of o (InFrames (Entry loose c w fs)) (knowing o s last given)))))) (
       (w, refl),
       ap (λ f. first_fault f None)
           (count_flat o.block_nesting_limit (suc (blocks_open fs)) (InFrames (Entry loose c l.end fs)) refl e),
@@ -338,8 +338,8 @@ past_other :
 unfolding in_sequence
 past_other b k key s l o last given loose c fs n f =
     subst
-    (LimitView o (X b k key s l) (knowing s last given)
-    (take_token o (token_of b (at_kind l k key)) (state_of o (InFrames (Past loose c fs)) (knowing s last given))))
+    (LimitView o (X b k key s l) (knowing o s last given)
+    (take_token o (token_of b (at_kind l k key)) (state_of o (InFrames (Past loose c fs)) (knowing o s last given))))
     (sym
     (stays_taken (sequence_over loose c (X b k key s l))
     (with_event (pointed SequenceEnds l.start) (finish_frames (X b k key s l) l.start fs))
@@ -348,7 +348,7 @@ past_other b k key s l o last given loose c fs n f =
     ∙ no_entry (terminal_kind k key) (at_of b s (at_kind l k key)) loose c fs (sym (sort_is b key k).dash ∙ n)))
     (subst
     (λ a.
-    LimitView o (X b k key s l) (knowing s last given)
+    LimitView o (X b k key s l) (knowing o s last given)
     (if a then Next b k key s l o last given loose (Past loose c fs)
     else Err (fault_of ExpectedBlockSequenceEntry (X b k key s l)))
     (StopsWith ExpectedBlockSequenceEntry))
@@ -358,7 +358,7 @@ past_dash :
     (b : Bool) (key : Option KeyStart) (s : Scope) (l : lexemes.Lexeme) (o : OptionsData) (last : Mark)
     (given : List PlainEvent) (loose : Bool) (c : ℕ) (fs : List OpenFrame) (same : Bool) → IsPositive c →
     (suc l.start.place.column == c) ≡ same → nat_le (blocks_open (Past loose c fs)) o.block_nesting_limit ≡ true →
-    LimitView o (X b lexemes.Dash key s l) (knowing s last given)
+    LimitView o (X b lexemes.Dash key s l) (knowing o s last given)
     (if same then Next b lexemes.Dash key s l o last given loose (Past loose c fs)
     else Err (fault_of ExpectedBlockSequenceEntry (X b lexemes.Dash key s l)))
     (if_gives same ExpectedBlockSequenceEntry (GoesTo (InFrames (Entry loose c l.end fs)) []))
@@ -367,7 +367,7 @@ past_dash b key s l o last given loose c fs true p t e = (
   (
     last,
     ap (λ k. waits l.end o.max_buffered_comment_events
-        (with_top (machine.BlockSequence k loose) (state_of o (InFrames (Past loose c fs)) (knowing s last given))))
+        (with_top (machine.BlockSequence k loose) (state_of o (InFrames (Past loose c fs)) (knowing o s last given))))
         (column_is l.start.place.column c p t),
   ),
   ap (λ f. first_fault f None)
@@ -386,16 +386,16 @@ unfolding in_sequence
 past_by b k key s l o last given loose c fs (another n) p f e = past_other b k key s l o last given loose c fs n f
 past_by b lexemes.Dash key s l o last given loose c fs a_dash p f e =
     subst
-    (LimitView o (X b lexemes.Dash key s l) (knowing s last given)
+    (LimitView o (X b lexemes.Dash key s l) (knowing o s last given)
     (take_token o (token_of b (at_kind l lexemes.Dash key))
-    (state_of o (InFrames (Past loose c fs)) (knowing s last given))))
+    (state_of o (InFrames (Past loose c fs)) (knowing o s last given))))
     (sym
     (stays_taken (sequence_over loose c (X b lexemes.Dash key s l))
     (with_event (pointed SequenceEnds l.start) (finish_frames (X b lexemes.Dash key s l) l.start fs))
     (InFrames (Past loose c fs)) (X b lexemes.Dash key s l) f))
     (subst
     (λ a.
-    LimitView o (X b lexemes.Dash key s l) (knowing s last given)
+    LimitView o (X b lexemes.Dash key s l) (knowing o s last given)
     (if a then Next b lexemes.Dash key s l o last given loose (Past loose c fs)
     else Err (fault_of ExpectedBlockSequenceEntry (X b lexemes.Dash key s l)))
     (if_gives (stands_in (X b lexemes.Dash key s l) c) ExpectedBlockSequenceEntry

@@ -1,7 +1,7 @@
 -- Steps around documents: directives, marks and the end, and the first lexeme of a document without `---`.
 use Rattle.granit_agreement.specs.Good.{hole, at_root, is_fresh, directed}
 use Rattle.granit_agreement.specs.Running.{Knows, NextView}
-use Rattle.granit_agreement.specs.Stepping.{taken, LimitView, at_kind, knowing}
+use Rattle.granit_agreement.specs.Stepping.{taken, LimitView, at_kind, knowing, staying}
 use Rattle.granit_agreement.specs.View.{Beside, state_of, give_all}
 use Rattle.granit_language.specs.Seen.{terminal_kind, terminal_of, at_of, indent_of}
 use Rattle.granit_grammar.specs.EventMachine.{OpenFrame, DocumentFrame, EventState, IsFresh, HasDirectives, IsRooted}
@@ -67,7 +67,7 @@ StageView b k key s l o d st =
 
 abbrev With : OptionsData → Bool → DirectiveKind → Option KeyStart → lexemes.Lexeme → Option (ℕ × ℕ) → Beside → Stepped
 With o b c key l v d =
-    with_directive (token_of b (at_kind l (lexemes.Directive c) key)) c (version_told v)
+    with_directive o (token_of b (at_kind l (lexemes.Directive c) key)) c (version_told v)
     (state_of o (HasDirectives v) d)
 
 abbrev Then :
@@ -80,8 +80,8 @@ Then b c key s l o v d r =
 version_by :
     (b : Bool) (major minor : ℕ) (key : Option KeyStart) (s : Scope) (l : lexemes.Lexeme) (o : OptionsData) (d : Beside)
     (same : Bool) → (major == 1) ≡ same → d.count ≡ s.count → d.handles ≡ ordered s.pending → s.version ≡ None →
-    Then b (Version major minor) key s l o None d (With o b (Version major minor) key l None d)
-version_by b major minor key s l o d true e c h v =
+    d.kept ≡ staying o s → Then b (Version major minor) key s l o None d (With o b (Version major minor) key l None d)
+version_by b major minor key s l o d true e c h v k =
     subst (Then b (Version major minor) key s l o None d)
     (sym
     (ap
@@ -93,13 +93,13 @@ version_by b major minor key s l o d true e c h v =
       beside = d;
       is_seen = refl;
       gives = refl;
-      knows = (c, h, refl);
+      knows = (c, h, refl, k);
       passes =
           guarded_by o.block_nesting_limit _ _
           ∙ (ap (version_fault major) v ∙ ap (λ q. unless q (Some UnsupportedYamlMajorVersion)) e);
       comes = directed;
     })
-version_by b major minor key s l o d false e c h v =
+version_by b major minor key s l o d false e c h v k =
     subst (Then b (Version major minor) key s l o None d)
     (sym
     (ap
@@ -113,21 +113,33 @@ version_by b major minor key s l o d false e c h v =
       refl,
     )
 
+-- a handle that is declared stays, where handles do
+stays_behind :
+    (keep : Bool) (handle prefix : List ℕ) (kept all : List (List ℕ × List ℕ)) →
+    kept ≡ (if keep then ordered all else []) →
+    (if keep then remembered handle prefix kept else kept)
+    ≡ (if keep then remembered handle prefix (ordered all) else [])
+stays_behind true handle prefix kept all e = ap (remembered handle prefix) e
+stays_behind false handle prefix kept all e = e
+
 handle_by :
     (b : Bool) (handle prefix : List ℕ) (key : Option KeyStart) (s : Scope) (l : lexemes.Lexeme) (o : OptionsData)
     (v : Option (ℕ × ℕ)) (d : Beside) (known : Option (List ℕ)) → entry_of handle s.pending ≡ known →
-    d.count ≡ s.count → d.handles ≡ ordered s.pending → s.version ≡ v →
+    d.count ≡ s.count → d.handles ≡ ordered s.pending → s.version ≡ v → d.kept ≡ staying o s →
     Then b (TagPrefix handle prefix) key s l o v d
-    (with_handle (token_of b (at_kind l (lexemes.Directive (TagPrefix handle prefix)) key))
+    (with_handle o (token_of b (at_kind l (lexemes.Directive (TagPrefix handle prefix)) key))
     (version_told v) handle prefix known
     (state_of o (HasDirectives v) d))
-handle_by b handle prefix key s l o v d (Some known) e c h w =
+handle_by b handle prefix key s l o v d (Some known) e c h w k =
     (DuplicateTagDirective, guarded_by o.block_nesting_limit _ _ ∙ ap handle_fault e, refl)
-handle_by b handle prefix key s l o v d None e c h w = record {
-  beside = record d { handles = remembered handle prefix d.handles };
+handle_by b handle prefix key s l o v d None e c h w k = record {
+  beside = record d {
+    handles = remembered handle prefix d.handles;
+    kept = if o.keep_tags then remembered handle prefix d.kept else d.kept;
+  };
   is_seen = refl;
   gives = refl;
-  knows = (c, ap (remembered handle prefix) h, w);
+  knows = (c, ap (remembered handle prefix) h, w, stays_behind o.keep_tags handle prefix d.kept s.all_handles k);
   passes = guarded_by o.block_nesting_limit _ _ ∙ ap handle_fault e;
   comes = directed;
 }
@@ -135,38 +147,48 @@ handle_by b handle prefix key s l o v d None e c h w = record {
 directive_next :
     (b : Bool) (c : DirectiveKind) (key : Option KeyStart) (s : Scope) (l : lexemes.Lexeme) (o : OptionsData)
     (v : Option (ℕ × ℕ)) (d : Beside) → d.count ≡ s.count → d.handles ≡ ordered s.pending → s.version ≡ v →
-    Then b c key s l o v d (With o b c key l v d)
-directive_next b (Version major minor) key s l o None d c h w =
-    version_by b major minor key s l o d (major == 1) refl c h w
-directive_next b (Version major minor) key s l o (Some v) d c h w =
+    d.kept ≡ staying o s → Then b c key s l o v d (With o b c key l v d)
+directive_next b (Version major minor) key s l o None d c h w k =
+    version_by b major minor key s l o d (major == 1) refl c h w k
+directive_next b (Version major minor) key s l o (Some v) d c h w k =
     (DuplicateVersionDirective, guarded_by o.block_nesting_limit _ _ ∙ ap (version_fault major) w, refl)
-directive_next b (TagPrefix handle prefix) key s l o v d c h w =
+directive_next b (TagPrefix handle prefix) key s l o v d c h w k =
     subst
     (λ q.
     Then b (TagPrefix handle prefix) key s l o v d
-    (with_handle (token_of b (at_kind l (lexemes.Directive (TagPrefix handle prefix)) key))
+    (with_handle o (token_of b (at_kind l (lexemes.Directive (TagPrefix handle prefix)) key))
     (version_told v) handle prefix q
     (state_of o (HasDirectives v) d)))
     (sym (ap (lookup_text handle) h ∙ found_in_order handle s.pending))
-    (handle_by b handle prefix key s l o v d (entry_of handle s.pending) refl c h w)
-directive_next b (Reserved name parameters) key s l o v d c h w = record {
+    (handle_by b handle prefix key s l o v d (entry_of handle s.pending) refl c h w k)
+directive_next b (Reserved name parameters) key s l o v d c h w k = record {
   beside = d;
   is_seen = refl;
   gives = refl;
-  knows = (c, h, w);
+  knows = (c, h, w, k);
   passes = guarded_by o.block_nesting_limit _ _;
   comes = directed;
 }
 
 -- ---- behind directives
 
+abbrev StartedAs : lexemes.Lexeme → List PlainEvent → ℕ → (handles kept : List (List ℕ × List ℕ)) → Beside
+StartedAs l given count handles kept =
+    record { last = l.shown.end; count = count; names = []; handles = handles; kept = kept; given = given }
+
 abbrev Started : lexemes.Lexeme → Beside → List (List ℕ × List ℕ) → List PlainEvent → Beside
-Started l d handles given = record { last = l.shown.end; count = d.count; names = []; handles = handles; given = given }
+Started l d handles given = StartedAs l given d.count handles d.kept
+
+started_same :
+    (l : lexemes.Lexeme) (given : List PlainEvent) {n m : ℕ} {hs gs ks js : List (List ℕ × List ℕ)} → n ≡ m → hs ≡ gs →
+    ks ≡ js → StartedAs l given n hs ks ≡ StartedAs l given m gs js
+started_same l given {m = m} {gs = gs} {ks = ks} e h k =
+    ap₂ (λ n hs. StartedAs l given n hs ks) e h ∙ ap (StartedAs l given m gs) k
 
 pub directed_next :
     (b : Bool) (k : lexemes.LexemeKind) (key : Option KeyStart) (s : Scope) (l : lexemes.Lexeme) (o : OptionsData)
-    (v : Option (ℕ × ℕ)) (d : Beside) → Knows (HasDirectives v) s d → StageView b k key s l o d (HasDirectives v)
-directed_next b (lexemes.Directive c) key s l o v d w = directive_next b c key s l o v d w.0 w.1 w.2
+    (v : Option (ℕ × ℕ)) (d : Beside) → Knows o (HasDirectives v) s d → StageView b k key s l o d (HasDirectives v)
+directed_next b (lexemes.Directive c) key s l o v d w = directive_next b c key s l o v d w.0 w.1 w.2 w.3
 directed_next b lexemes.DocumentStart key s l o v d w =
     let given = give_all o (shown_event (DocumentStarts true v) (at_of b s (at_kind l lexemes.DocumentStart key)) ∷ [])
     d.given in
@@ -175,7 +197,7 @@ directed_next b lexemes.DocumentStart key s l o v d w =
       is_seen = refl;
       gives = refl;
       knows = (
-        ap₂ (λ n hs. record { last = l.shown.end; count = n; names = []; handles = hs; given = given }) w.0 w.1,
+        started_same l given w.0 w.1 w.3,
         refl,
         refl,
       );
@@ -199,7 +221,7 @@ directed_next b (lexemes.Scalar style text) key s l o v d w = refl
 
 pub rooted_next :
     (b : Bool) (k : lexemes.LexemeKind) (key : Option KeyStart) (s : Scope) (l : lexemes.Lexeme) (o : OptionsData)
-    (e : Mark) (d : Beside) → Knows (IsRooted e) s d → StageView b k key s l o d (IsRooted e)
+    (e : Mark) (d : Beside) → Knows o (IsRooted e) s d → StageView b k key s l o d (IsRooted e)
 rooted_next b (lexemes.Directive c) key s l o e d w = refl
 rooted_next b lexemes.DocumentStart key s l o e d w =
     let given = give_all o
@@ -211,8 +233,7 @@ rooted_next b lexemes.DocumentStart key s l o e d w =
       is_seen = refl;
       gives = refl;
       knows = (
-        ap₂ (λ n hs. record { last = l.shown.end; count = n; names = []; handles = hs; given = given })
-            (ap (λ d. d.count) w.0) (ap ordered (sym w.1)),
+        started_same l given (ap (λ d. d.count) w.0) (ap ordered (sym w.1)) (ap (λ d. d.kept) w.0),
         refl,
         refl,
       );
@@ -227,7 +248,7 @@ rooted_next b lexemes.DocumentEnd key s l o e d w = record {
   };
   is_seen = refl;
   gives = refl;
-  knows = (ap (λ d. d.count) w.0, refl, refl, refl, refl);
+  knows = (ap (λ d. d.count) w.0, refl, refl, refl, refl, ap (λ d. d.kept) w.0);
   passes = guarded_by o.block_nesting_limit _ _;
   comes = is_fresh;
 }
@@ -312,34 +333,30 @@ Begun b k key l d = record {
   count = d.count;
   names = [];
   handles = [];
+  kept = d.kept;
   given = d.given ++ BareAt b k key l ∷ [];
 }
 
+abbrev begun_as :
+    (b : Bool) (k : lexemes.LexemeKind) (key : Option KeyStart) (l : lexemes.Lexeme) (given : List PlainEvent) →
+    ℕ → List (List ℕ × ℕ) → (handles kept : List (List ℕ × List ℕ)) → Beside
+begun_as b k key l given count names handles kept = record {
+  last = (BareAt b k key l).span.end;
+  count = count;
+  names = names;
+  handles = handles;
+  kept = kept;
+  given = given ++ BareAt b k key l ∷ [];
+}
+
 begun_knows :
-    (b : Bool) (k : lexemes.LexemeKind) (key : Option KeyStart) (s : Scope) (l : lexemes.Lexeme) (d : Beside) →
-    Knows IsFresh s d →
-    Begun b k key l d ≡ knowing s (BareAt b k key l).span.end (d.given ++ BareAt b k key l ∷ [])
-begun_knows b k key s l d w =
-    ap
-    (λ n.
-    record {
-      last = (BareAt b k key l).span.end;
-      count = n;
-      names = [];
-      handles = [];
-      given = d.given ++ BareAt b k key l ∷ [];
-    })
-    w.0
-    ∙ ap₂
-    (λ ns hs.
-    record {
-      last = (BareAt b k key l).span.end;
-      count = s.count;
-      names = ns;
-      handles = hs;
-      given = d.given ++ BareAt b k key l ∷ [];
-    })
-    (ap ordered (sym w.1)) (ap ordered (sym w.2))
+    (o : OptionsData) (b : Bool) (k : lexemes.LexemeKind) (key : Option KeyStart) (s : Scope) (l : lexemes.Lexeme)
+    (d : Beside) → Knows o IsFresh s d →
+    Begun b k key l d ≡ knowing o s (BareAt b k key l).span.end (d.given ++ BareAt b k key l ∷ [])
+begun_knows o b k key s l d w =
+    ap₂ (λ n ks. begun_as b k key l d.given n [] [] ks) w.0 w.5
+    ∙ ap₂ (λ ns hs. begun_as b k key l d.given s.count ns hs (staying o s)) (ap ordered (sym w.1))
+    (ap ordered (sym w.2))
 
 err_before :
     (o : OptionsData) (x : Terminal) (d c : Beside) (f : Fault) (es : List TreeEvent) (y : EventStep) →
@@ -349,40 +366,40 @@ err_before o x d c f es (StopsWith k) h = h
 
 fresh_by :
     (b : Bool) (k : lexemes.LexemeKind) (key : Option KeyStart) (s : Scope) (l : lexemes.Lexeme) (o : OptionsData)
-    (d : Beside) (begins : Bool) → Knows IsFresh s d → begins_node (token_sort b key k) ≡ begins →
-    LimitView o (X b k key s l) (knowing s (BareAt b k key l).span.end (d.given ++ BareAt b k key l ∷ []))
-    (Tested begins (NodeFrom b k key l o (knowing s (BareAt b k key l).span.end (d.given ++ BareAt b k key l ∷ [])))
+    (d : Beside) (begins : Bool) → Knows o IsFresh s d → begins_node (token_sort b key k) ≡ begins →
+    LimitView o (X b k key s l) (knowing o s (BareAt b k key l).span.end (d.given ++ BareAt b k key l ∷ []))
+    (Tested begins (NodeFrom b k key l o (knowing o s (BareAt b k key l).span.end (d.given ++ BareAt b k key l ∷ [])))
     UnexpectedEofBlockSequence (X b k key s l))
     (want_frames Root NoProperties (terminal_kind k key) (at_of b s (at_kind l k key))) →
-    LimitView o (X b k key s l) (knowing s l.start d.given)
+    LimitView o (X b k key s l) (knowing o s l.start d.given)
     (Tested begins (NodeFrom b k key l o (Begun b k key l d)) UnexpectedEofBlockSequence (X b k key s l))
     (after_events (BareEvent b k key s l ∷ [])
     (want_frames Root NoProperties (terminal_kind k key) (at_of b s (at_kind l k key))))
 fresh_by b k key s l o d true w e h =
     subst
     (λ c.
-    LimitView o (X b k key s l) (knowing s l.start d.given) (NodeFrom b k key l o c)
+    LimitView o (X b k key s l) (knowing o s l.start d.given) (NodeFrom b k key l o c)
     (after_events (BareEvent b k key s l ∷ [])
     (want_frames Root NoProperties (terminal_kind k key) (at_of b s (at_kind l k key)))))
-    (sym (begun_knows b k key s l d w))
+    (sym (begun_knows o b k key s l d w))
     (events_before o (X b k key s l) s (BareAt b k key l).span.end l.start d.given (BareEvent b k key s l ∷ [])
-    (NodeFrom b k key l o (knowing s (BareAt b k key l).span.end (d.given ++ BareAt b k key l ∷ [])))
+    (NodeFrom b k key l o (knowing o s (BareAt b k key l).span.end (d.given ++ BareAt b k key l ∷ [])))
     (want_frames Root NoProperties (terminal_kind k key) (at_of b s (at_kind l k key)))
     (subst
     (λ es.
-    LimitView o (X b k key s l) (knowing s (BareAt b k key l).span.end (d.given ++ es))
-    (NodeFrom b k key l o (knowing s (BareAt b k key l).span.end (d.given ++ BareAt b k key l ∷ [])))
+    LimitView o (X b k key s l) (knowing o s (BareAt b k key l).span.end (d.given ++ es))
+    (NodeFrom b k key l o (knowing o s (BareAt b k key l).span.end (d.given ++ BareAt b k key l ∷ [])))
     (want_frames Root NoProperties (terminal_kind k key) (at_of b s (at_kind l k key))))
     (sym (bare_same b k key s l o e)) h))
 fresh_by b k key s l o d false w e h =
-    err_before o (X b k key s l) (knowing s (BareAt b k key l).span.end (d.given ++ BareAt b k key l ∷ []))
-    (knowing s l.start d.given) (fault_of UnexpectedEofBlockSequence (X b k key s l))
+    err_before o (X b k key s l) (knowing o s (BareAt b k key l).span.end (d.given ++ BareAt b k key l ∷ []))
+    (knowing o s l.start d.given) (fault_of UnexpectedEofBlockSequence (X b k key s l))
     (BareEvent b k key s l ∷ [])
     (want_frames Root NoProperties (terminal_kind k key) (at_of b s (at_kind l k key))) h
 
 fresh_other :
     (b : Bool) (k : lexemes.LexemeKind) (key : Option KeyStart) (s : Scope) (l : lexemes.Lexeme) (o : OptionsData)
-    (d : Beside) → Knows IsFresh s d → is_stream_kind (terminal_kind k key) ≡ false →
+    (d : Beside) → Knows o IsFresh s d → is_stream_kind (terminal_kind k key) ≡ false →
     NextView o (X b k key s l) s d.given (begin_document o (token_of b (at_kind l k key)) (state_of o IsFresh d))
     (after_events []
     (after_events (BareEvent b k key s l ∷ [])
@@ -406,16 +423,16 @@ fresh_other b k key s l o d w n =
 
 pub fresh_next :
     (b : Bool) (k : lexemes.LexemeKind) (key : Option KeyStart) (s : Scope) (l : lexemes.Lexeme) (o : OptionsData)
-    (d : Beside) → Knows IsFresh s d → StageView b k key s l o d IsFresh
+    (d : Beside) → Knows o IsFresh s d → StageView b k key s l o d IsFresh
 fresh_next b (lexemes.Directive (Version major minor)) key s l o d w =
     directive_next b (Version major minor) key s l o None (record d { names = []; handles = [] }) w.0
-    (ap ordered (sym w.3)) w.4
+    (ap ordered (sym w.3)) w.4 w.5
 fresh_next b (lexemes.Directive (TagPrefix handle prefix)) key s l o d w =
     directive_next b (TagPrefix handle prefix) key s l o None (record d { names = []; handles = [] }) w.0
-    (ap ordered (sym w.3)) w.4
+    (ap ordered (sym w.3)) w.4 w.5
 fresh_next b (lexemes.Directive (Reserved name parameters)) key s l o d w =
     directive_next b (Reserved name parameters) key s l o None (record d { names = []; handles = [] }) w.0
-    (ap ordered (sym w.3)) w.4
+    (ap ordered (sym w.3)) w.4 w.5
 fresh_next b lexemes.DocumentStart key s l o d w =
     let given = give_all o
     (shown_event (DocumentStarts true None) (at_of b s (at_kind l lexemes.DocumentStart key)) ∷ []) d.given in
@@ -424,8 +441,7 @@ fresh_next b lexemes.DocumentStart key s l o d w =
       is_seen = refl;
       gives = refl;
       knows = (
-        ap₂ (λ n hs. record { last = l.shown.end; count = n; names = []; handles = hs; given = given }) w.0
-            (ap ordered (sym w.3)),
+        started_same l given w.0 (ap ordered (sym w.3)) w.5,
         refl,
         refl,
       );
@@ -436,7 +452,7 @@ fresh_next b lexemes.DocumentEnd key s l o d w = record {
   beside = d;
   is_seen = refl;
   gives = refl;
-  knows = (w.0, refl, refl, refl, refl);
+  knows = (w.0, refl, refl, refl, refl, w.5);
   passes = guarded_by o.block_nesting_limit _ _;
   comes = is_fresh;
 }

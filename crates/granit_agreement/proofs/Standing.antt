@@ -52,21 +52,22 @@ finish_closes x e fs (pair_asked h) = refl
 finish_closes x e fs (pair_value h) = refl
 
 -- the parser where a node has just ended with an event whose end is a mark
-abbrev pub popped : List OpenFrame → Mark → List PlainEvent → Beside → ParserState
-popped fs e given b = record {
-  frames = frames_of fs;
+abbrev pub popped : OptionsData → List OpenFrame → Mark → List PlainEvent → Beside → ParserState
+popped o fs e given b = record {
+  frames = frames_of o fs;
   stage = machine.Inside;
   last_end = e;
   count = b.count;
   names = b.names;
   handles = b.handles;
+  kept = b.kept;
   waiting = None;
   given = given;
 }
 
 pub finish_view :
     (o : OptionsData) (fs : List OpenFrame) (e : Mark) (given : List PlainEvent) (b : Beside) → Holes fs →
-    finish (popped fs e given b) ≡ state_of o (put_frames e fs) (with_given e given b)
+    finish (popped o fs e given b) ≡ state_of o (put_frames e fs) (with_given e given b)
 finish_view o fs e given b at_root = refl
 finish_view o fs e given b (at_entry p h) = refl
 finish_view o fs e given b (at_key p h) = refl

@@ -20,15 +20,15 @@ use Rattle.granit_lexemes.specs.PlainEvent.{PlainEvent}
 
 -- the last event's end and what was given before a step don't matter to what is known behind it
 pub moved_same :
-    (k : TerminalKind) (s : Scope) (a b m : Mark) (g h more : List PlainEvent) →
-    record (known_behind k (knowing s a g)) { last = m; given = more }
-    ≡ record (known_behind k (knowing s b h)) { last = m; given = more }
-moved_same (Part (Property (Anchor name))) s a b m g h more = refl
-moved_same (Part (Property (Tag handle suffix))) s a b m g h more = refl
-moved_same (Part (Alias name)) s a b m g h more = refl
-moved_same (Part (Scalar style text)) s a b m g h more = refl
-moved_same (Part (Open bracket)) s a b m g h more = refl
-moved_same k s a b m g h more = refl
+    (o : OptionsData) (k : TerminalKind) (s : Scope) (a b m : Mark) (g h more : List PlainEvent) →
+    record (known_behind k (knowing o s a g)) { last = m; given = more }
+    ≡ record (known_behind k (knowing o s b h)) { last = m; given = more }
+moved_same o (Part (Property (Anchor name))) s a b m g h more = refl
+moved_same o (Part (Property (Tag handle suffix))) s a b m g h more = refl
+moved_same o (Part (Alias name)) s a b m g h more = refl
+moved_same o (Part (Scalar style text)) s a b m g h more = refl
+moved_same o (Part (Open bracket)) s a b m g h more = refl
+moved_same o k s a b m g h more = refl
 
 pub after_nothing : (y : EventStep) → after_events [] y ≡ y
 after_nothing (GoesTo st es) = refl
@@ -47,9 +47,9 @@ pub means_limited :
     (o : OptionsData) (x : Terminal) (d : Beside) (r : Result ParserState Fault) (y : EventStep) → MeansView o x d r y →
     Flat o.block_nesting_limit y → LimitView o x d r y
 means_limited o x d (Ok p) (GoesTo st es) h e =
-    (h.0, ap (λ f. first_fault f (scope_fault o.emit_unresolved_aliases x.kind x.at.scope)) e ∙ h.1)
+    (h.0, ap (λ f. first_fault f (scope_fault o x.kind x.at.scope)) e ∙ h.1)
 means_limited o x d (Err f) (GoesTo st es) h e =
-    (h.0, ap (λ f. first_fault f (scope_fault o.emit_unresolved_aliases x.kind x.at.scope)) e ∙ h.1, h.2)
+    (h.0, ap (λ f. first_fault f (scope_fault o x.kind x.at.scope)) e ∙ h.1, h.2)
 means_limited o x d (Ok p) (StopsWith k) h e = h
 means_limited o x d (Err f) (StopsWith k) h e = h
 
@@ -57,12 +57,12 @@ means_limited o x d (Err f) (StopsWith k) h e = h
 pub event_before :
     (o : OptionsData) (x : Terminal) (s : Scope) (a last : Mark) (given : List PlainEvent) (e : TreeEvent)
     (r : Result ParserState Fault) (y : EventStep) →
-    LimitView o x (knowing s a (given ++ event_told o e)) r y →
-    LimitView o x (knowing s last given) r (after_events (e ∷ []) y)
+    LimitView o x (knowing o s a (given ++ event_told o e)) r y →
+    LimitView o x (knowing o s last given) r (after_events (e ∷ []) y)
 event_before o x s a last given e (Ok p) (GoesTo st es) h = (
   (
     h.0.0,
-    h.0.1 ∙ ap (state_of o st) (moved_same x.kind s a last h.0.0 (given ++ event_told o e) given
+    h.0.1 ∙ ap (state_of o st) (moved_same o x.kind s a last h.0.0 (given ++ event_told o e) given
         (give_all o es (given ++ event_told o e))),
   ),
   h.1,
@@ -74,16 +74,16 @@ event_before o x s a last given e (Err f) (StopsWith k) h = h
 -- events were given before
 pub events_before :
     (o : OptionsData) (x : Terminal) (s : Scope) (a last : Mark) (given : List PlainEvent) (es : List TreeEvent)
-    (r : Result ParserState Fault) (y : EventStep) → LimitView o x (knowing s a (give_all o es given)) r y →
-    LimitView o x (knowing s last given) r (after_events es y)
+    (r : Result ParserState Fault) (y : EventStep) → LimitView o x (knowing o s a (give_all o es given)) r y →
+    LimitView o x (knowing o s last given) r (after_events es y)
 events_before o x s a last given es (Ok p) (GoesTo st more) h = (
   (
     h.0.0,
     h.0.1
-        ∙ ap (λ g. state_of o st (moved_on o x h.0.0 g (knowing s a (give_all o es given))))
+        ∙ ap (λ g. state_of o st (moved_on o x h.0.0 g (knowing o s a (give_all o es given))))
         (sym (give_append o es more given))
         ∙ ap (state_of o st)
-        (moved_same x.kind s a last h.0.0 (give_all o es given) given (give_all o (es ++ more) given)),
+        (moved_same o x.kind s a last h.0.0 (give_all o es given) given (give_all o (es ++ more) given)),
   ),
   h.1,
 )

@@ -23,7 +23,7 @@ use Rattle.granit_machine.specs.Parser.{take_token, take_tail, next_line, feed}
 use Rattle.granit_machine.specs.TokenSort.{token_of}
 use Rattle.std.proofs.Common.{◌≡◌, ℕ, Bool, true, false, List, [], ◌∷◌, ◌++◌, map, refl, sym, ap, ap₂, ◌∙◌, subst}
 use Rattle.std.proofs.Common.{append_assoc, Option, None, Result, Ok, Err}
-use Rattle.std.specs.Prelude.{nat_le}
+use Rattle.std.specs.Prelude.{nat_le, if◌then◌else◌}
 use Rattle.std.proofs.lemmas.List.{append-nil}
 use Rattle.granit_base.specs.Place.{Mark}
 use Rattle.granit_error.specs.OptionsData.{OptionsData}
@@ -121,12 +121,13 @@ seen_cleared o (IsRooted m) p d h = ap Emptied h
 seen_cleared o (InFrames fs) p d h = ap Emptied h
 seen_cleared o IsEnded p d h = (refl, h.1)
 
-pub knows_cleared : (st : EventState) (s : Scope) (d : Beside) → Knows st s d → Knows st s (Cleared d)
-knows_cleared IsFresh s d h = h
-knows_cleared (HasDirectives v) s d h = h
-knows_cleared (IsRooted m) s d h = (ap Cleared h.0, h.1, h.2)
-knows_cleared (InFrames fs) s d h = (ap Cleared h.0, h.1, h.2)
-knows_cleared IsEnded s d h = tt
+pub knows_cleared : (o : OptionsData) (st : EventState) (s : Scope) (d : Beside) → Knows o st s d
+    → Knows o st s (Cleared d)
+knows_cleared o IsFresh s d h = h
+knows_cleared o (HasDirectives v) s d h = h
+knows_cleared o (IsRooted m) s d h = (ap Cleared h.0, h.1, h.2)
+knows_cleared o (InFrames fs) s d h = (ap Cleared h.0, h.1, h.2)
+knows_cleared o IsEnded s d h = tt
 
 pub fault_passed :
     (b : Bool) (k : GrammarFault) (f : Option GrammarFault) → first_fault (fault_unless b k) f ≡ None → b ≡ true
@@ -150,7 +151,7 @@ Go o fs s st = guarded (whole_guard o) (scoped s (map terminal_seen fs)) st
 
 abbrev Runs : OptionsData → List Flagged → Type 0
 Runs o fs =
-    (s : Scope) (st : EventState) (d : Beside) (p : ParserState) → ComesTo st → Knows st s d →
+    (s : Scope) (st : EventState) (d : Beside) (p : ParserState) → ComesTo st → Knows o st s d →
     nat_le (state_count st) o.block_nesting_limit ≡ true → d.given ≡ [] → FairRun fs s st → Seen o st p d →
     RunView o (feed_all o (map item_of fs) p) (Go o fs s st)
 
@@ -171,7 +172,7 @@ step_run o f fs s (Ok p) (GoesTo st es) h fair ih =
     (run_front o p.given es (feed_all o (map item_of fs) (Emptied p)) (Go o fs (next_scope x.kind s) st)
     (seen_given o st p h.beside h.is_seen ∙ (h.gives ∙ give_told o es []))
     (ih (next_scope x.kind s) st (Cleared h.beside) (Emptied p) h.comes
-    (knows_cleared st (next_scope x.kind s) h.beside h.knows)
+    (knows_cleared o st (next_scope x.kind s) h.beside h.knows)
     (fault_passed (nat_le (state_count st) o.block_nesting_limit) (TooManyBlocks (is_loose st)) _ h.passes) refl
     fair (seen_cleared o st p h.beside h.is_seen))))
 step_run o f fs s (Err e) (GoesTo st es) h fair ih =
@@ -182,7 +183,7 @@ step_run o f fs s (Err e) (StopsWith k) h fair ih = h
 
 one_run :
     (o : OptionsData) (f : Flagged) (fs : List Flagged) (s : Scope) (st : EventState) (d : Beside) → Good st →
-    Knows st s d → nat_le (state_count st) o.block_nesting_limit ≡ true → d.given ≡ [] → FairRun (f ∷ fs) s st →
+    Knows o st s d → nat_le (state_count st) o.block_nesting_limit ≡ true → d.given ≡ [] → FairRun (f ∷ fs) s st →
     Runs o fs → RunView o (feed_all o (map item_of (f ∷ fs)) (state_of o st d)) (Go o (f ∷ fs) s st)
 one_run o f fs s st d g q e n fair ih =
     let x = terminal_of f.1 s f.0 in
@@ -226,11 +227,17 @@ runs o (f ∷ fs) s (InFrames gs) d p c q e n fair h =
     subst (λ p. RunView o (feed_all o (map item_of (f ∷ fs)) p) (Go o (f ∷ fs) s (InFrames gs))) (sym h)
     (one_run o f fs s (InFrames gs) d c q e n fair (runs o fs))
 
+-- before the first document no handle stays
+pub none_stay : (keep : Bool) → ◌≡◌ {A = List (List ℕ × List ℕ)} [] (if keep then [] else [])
+none_stay true = refl
+none_stay false = refl
+
 -- from the start of a stream
 pub run_agrees :
     (o : OptionsData) (m : Mark) (fs : List Flagged) → FairRun fs no_scope IsFresh →
     RunView o (feed_all o (map item_of fs) (parser_start m))
     (guarded (whole_guard o) (scoped no_scope (map terminal_seen fs)) IsFresh)
 run_agrees o m fs fair =
-    runs o fs no_scope IsFresh (record { last = m; count = 0; names = []; handles = []; given = [] }) (parser_start m)
-    is_fresh (refl, refl, refl, refl, refl) (none_open o.block_nesting_limit) refl fair refl
+    runs o fs no_scope IsFresh (record { last = m; count = 0; names = []; handles = []; kept = []; given = [] })
+    (parser_start m)
+    is_fresh (refl, refl, refl, refl, refl, none_stay o.keep_tags) (none_open o.block_nesting_limit) refl fair refl

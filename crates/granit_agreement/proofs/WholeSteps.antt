@@ -37,18 +37,19 @@ X b k key s l = terminal_of b s (at_kind l k key)
 -- ---- what closing leaves
 
 knows_closed :
-    (st cs : EventState) (s : Scope) (d : Beside) (last : Mark) (given : List PlainEvent) → Below st cs → Knows st s d →
-    Knows cs s (with_given last given d)
-knows_closed (InFrames fs) (InFrames gs) s d last given b k = (ap (with_given last given) k.0, k.1, k.2)
-knows_closed (InFrames fs) (IsRooted e) s d last given b k = (ap (with_given last given) k.0, k.1, k.2)
-knows_closed (InFrames fs) IsFresh s d last given b k = absurd b
-knows_closed (InFrames fs) (HasDirectives v) s d last given b k = absurd b
-knows_closed (InFrames fs) IsEnded s d last given b k = absurd b
-knows_closed IsFresh cs s d last given b k = subst (λ c. Knows c s (with_given last given d)) (sym b) k
-knows_closed (HasDirectives v) cs s d last given b k = subst (λ c. Knows c s (with_given last given d)) (sym b) k
-knows_closed (IsRooted e) cs s d last given b k =
-    subst (λ c. Knows c s (with_given last given d)) (sym b) (ap (with_given last given) k.0, k.1, k.2)
-knows_closed IsEnded cs s d last given b k = subst (λ c. Knows c s (with_given last given d)) (sym b) tt
+    (o : OptionsData) (st cs : EventState) (s : Scope) (d : Beside) (last : Mark) (given : List PlainEvent)
+    → Below st cs → Knows o st s d →
+    Knows o cs s (with_given last given d)
+knows_closed o (InFrames fs) (InFrames gs) s d last given b k = (ap (with_given last given) k.0, k.1, k.2)
+knows_closed o (InFrames fs) (IsRooted e) s d last given b k = (ap (with_given last given) k.0, k.1, k.2)
+knows_closed o (InFrames fs) IsFresh s d last given b k = absurd b
+knows_closed o (InFrames fs) (HasDirectives v) s d last given b k = absurd b
+knows_closed o (InFrames fs) IsEnded s d last given b k = absurd b
+knows_closed o IsFresh cs s d last given b k = subst (λ c. Knows o c s (with_given last given d)) (sym b) k
+knows_closed o (HasDirectives v) cs s d last given b k = subst (λ c. Knows o c s (with_given last given d)) (sym b) k
+knows_closed o (IsRooted e) cs s d last given b k =
+    subst (λ c. Knows o c s (with_given last given d)) (sym b) (ap (with_given last given) k.0, k.1, k.2)
+knows_closed o IsEnded cs s d last given b k = subst (λ c. Knows o c s (with_given last given d)) (sym b) tt
 
 -- the limit is kept
 kept_closed :
@@ -65,7 +66,7 @@ kept_closed n IsEnded gs b e = cc (b)
 inner_next :
     (b : Bool) (k : lexemes.LexemeKind) (key : Option KeyStart) (s : Scope) (l : lexemes.Lexeme) (o : OptionsData)
     (st cs : EventState) (d : Beside) → Below st cs → nat_le (state_count st) o.block_nesting_limit ≡ true →
-    Good cs → FairAt (X b k key s l) cs → frame_ends_at (X b k key s l) cs ≡ false → Knows cs s d →
+    Good cs → FairAt (X b k key s l) cs → frame_ends_at (X b k key s l) cs ≡ false → Knows o cs s d →
     NextView o (X b k key s l) s d.given (take_token o (token_of b (at_kind l k key)) (state_of o cs d))
     (taken (ended_by (X b k key s l) cs) (X b k key s l))
 inner_next b k key s l o st (InFrames gs) d w e g f n q =
@@ -115,7 +116,7 @@ taken_all x (e ∷ es) y =
 -- a lexeme ends what it ends, and is taken
 pub step_next :
     (b : Bool) (k : lexemes.LexemeKind) (key : Option KeyStart) (s : Scope) (l : lexemes.Lexeme) (o : OptionsData)
-    (st : EventState) (d : Beside) → Good st → Fair (X b k key s l) st → Knows st s d →
+    (st : EventState) (d : Beside) → Good st → Fair (X b k key s l) st → Knows o st s d →
     nat_le (state_count st) o.block_nesting_limit ≡ true →
     NextView o (X b k key s l) s d.given
     (close o (token_of b (at_kind l k key)) (state_of o st d) >>= take_token o (token_of b (at_kind l k key)))
@@ -141,4 +142,4 @@ step_next b k key s l o st d g f q e =
     (taken (ended_by (X b k key s l) v.closed_state) (X b k key s l))
     (inner_next b k key s l o st v.closed_state (with_given v.last (give_all o v.gives d.given) d) v.below e v.is_good
     v.is_fair v.stays
-    (knows_closed st v.closed_state s d v.last (give_all o v.gives d.given) v.below q))))
+    (knows_closed o st v.closed_state s d v.last (give_all o v.gives d.given) v.below q))))

@@ -22,19 +22,21 @@ use Rattle.granit_machine.specs.Frames.{ParserState}
 use Rattle.granit_agreement.specs.Fair.{Fair}
 use Rattle.granit_agreement.specs.Ordered.{ordered}
 use Rattle.granit_agreement.specs.Good.{Good}
-use Rattle.granit_agreement.specs.Stepping.{taken, knowing}
+use Rattle.granit_agreement.specs.Stepping.{taken, knowing, staying}
 use Rattle.granit_agreement.specs.View.{Beside, state_of, give_all}
 use Rattle.granit_language.specs.Seen.{Flagged, terminal_of}
 
 -- the parser knows what stands declared: inside a document the names and handles in force, before one what its
 -- directives declare
-abbrev pub Knows : EventState → Scope → Beside → Type 0
-Knows (InFrames fs) s d = (d ≡ knowing s d.last d.given) × (s.pending ≡ []) × (s.version ≡ None)
-Knows (IsRooted e) s d = (d ≡ knowing s d.last d.given) × (s.pending ≡ []) × (s.version ≡ None)
-Knows IsFresh s d =
+abbrev pub Knows : OptionsData → EventState → Scope → Beside → Type 0
+Knows o (InFrames fs) s d = (d ≡ knowing o s d.last d.given) × (s.pending ≡ []) × (s.version ≡ None)
+Knows o (IsRooted e) s d = (d ≡ knowing o s d.last d.given) × (s.pending ≡ []) × (s.version ≡ None)
+Knows o IsFresh s d =
     (d.count ≡ s.count) × (s.names ≡ []) × (s.handles ≡ []) × (s.pending ≡ []) × (s.version ≡ None)
-Knows (HasDirectives v) s d = (d.count ≡ s.count) × (d.handles ≡ ordered s.pending) × (s.version ≡ v)
-Knows IsEnded s d = Unit {0}
+    × (d.kept ≡ staying o s)
+Knows o (HasDirectives v) s d =
+    (d.count ≡ s.count) × (d.handles ≡ ordered s.pending) × (s.version ≡ v) × (d.kept ≡ staying o s)
+Knows o IsEnded s d = Unit {0}
 
 -- behind the end only the events count, and nothing waits
 abbrev pub Seen : OptionsData → EventState → ParserState → Beside → Type 0
@@ -52,7 +54,7 @@ pub record NextIs (o : OptionsData) (x : Terminal) (s : Scope) (events : List Pl
   pub beside : Beside
   pub is_seen : Seen o st p beside
   pub gives : beside.given ≡ events
-  pub knows : Knows st (next_scope x.kind s) beside
+  pub knows : Knows o st (next_scope x.kind s) beside
   pub passes : whole_guard o st x ≡ None
   pub comes : ComesTo st
 

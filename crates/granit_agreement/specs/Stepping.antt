@@ -1,5 +1,5 @@
 -- How a step of the parser agrees with a step of the grammar's machine, behind closing.
-use Rattle.std.specs.Prelude.{◌≡◌, suc, List, Option, Some, None, Result, Ok, Err}
+use Rattle.std.specs.Prelude.{◌≡◌, ℕ, suc, if◌then◌else◌, List, [], Option, Some, None, Result, Ok, Err}
 use Rattle.granit_base.specs.Place.{Mark}
 use Rattle.granit_error.specs.OptionsData.{OptionsData}
 use Rattle.granit_lexemes.specs.Outcome.{Fault}
@@ -30,13 +30,18 @@ known_behind kind d = d
 abbrev pub moved_on : OptionsData → Terminal → Mark → List PlainEvent → Beside → Beside
 moved_on o x last given d = record (known_behind x.kind d) { last = last; given = given }
 
+-- the handles that stay over documents
+abbrev pub staying : OptionsData → Scope → List (List ℕ × List ℕ)
+staying o s = if o.keep_tags then ordered s.all_handles else []
+
 -- what stands before a lexeme is known to the parser
-abbrev pub knowing : Scope → Mark → List PlainEvent → Beside
-knowing s last given = record {
+abbrev pub knowing : OptionsData → Scope → Mark → List PlainEvent → Beside
+knowing o s last given = record {
   last = last;
   count = s.count;
   names = ordered s.names;
   handles = ordered s.handles;
+  kept = staying o s;
   given = given;
 }
 
@@ -53,9 +58,9 @@ at_kind l k key = record l { kind = k; key = key; tail = None }
 -- the same, where the parser also stops at what means nothing
 abbrev pub MeansView : OptionsData → Terminal → Beside → Result ParserState Fault → EventStep → Type 0
 MeansView o x d (Ok p) (GoesTo st es) =
-    StepView o x d (Ok p) (GoesTo st es) × (scope_fault o.emit_unresolved_aliases x.kind x.at.scope ≡ None)
+    StepView o x d (Ok p) (GoesTo st es) × (scope_fault o x.kind x.at.scope ≡ None)
 MeansView o x d (Err f) (GoesTo st es) =
-    (k : GrammarFault) × (scope_fault o.emit_unresolved_aliases x.kind x.at.scope ≡ Some k) × (f ≡ fault_of k x)
+    (k : GrammarFault) × (scope_fault o x.kind x.at.scope ≡ Some k) × (f ≡ fault_of k x)
 MeansView o x d r s = StepView o x d r s
 
 -- the same, with the limit of block collections

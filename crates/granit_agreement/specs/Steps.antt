@@ -30,8 +30,8 @@ abbrev pub PartsAgree :
     Bool → PartKind → lexemes.LexemeKind → Scope → lexemes.Lexeme → OptionsData → Mark → List PlainEvent →
     TreeProperties → List OpenFrame → GrammarFault → Type 0
 PartsAgree b m k s l o last given p fs stop =
-    MeansView o (terminal_of b s (at_kind l k None)) (knowing s last given)
-    (bare o (token_of b (at_kind l k None)) (state_of o (InFrames (topped p fs)) (knowing s last given)))
+    MeansView o (terminal_of b s (at_kind l k None)) (knowing o s last given)
+    (bare o (token_of b (at_kind l k None)) (state_of o (InFrames (topped p fs)) (knowing o s last given)))
     (part_frames stop fs p m (at_of b s (at_kind l k None)))
 
 -- on a lexeme of a kind
@@ -48,8 +48,8 @@ abbrev pub StepsM :
     Bool → lexemes.LexemeKind → Option KeyStart → Scope → lexemes.Lexeme → OptionsData → Mark → List PlainEvent →
     List OpenFrame → Type 0
 StepsM b k key s l o last given fs =
-    MeansView o (terminal_of b s (at_kind l k key)) (knowing s last given)
-    (take_token o (token_of b (at_kind l k key)) (state_of o (InFrames fs) (knowing s last given)))
+    MeansView o (terminal_of b s (at_kind l k key)) (knowing o s last given)
+    (take_token o (token_of b (at_kind l k key)) (state_of o (InFrames fs) (knowing o s last given)))
     (taken (ended_by (terminal_of b s (at_kind l k key)) (InFrames fs)) (terminal_of b s (at_kind l k key)))
 
 -- a lexeme begins a block collection behind properties
@@ -77,6 +77,6 @@ abbrev pub StepsLimited :
     Bool → lexemes.LexemeKind → Option KeyStart → Scope → lexemes.Lexeme → OptionsData → Mark → List PlainEvent →
     List OpenFrame → Type 0
 StepsLimited b k key s l o last given fs =
-    LimitView o (terminal_of b s (at_kind l k key)) (knowing s last given)
-    (take_token o (token_of b (at_kind l k key)) (state_of o (InFrames fs) (knowing s last given)))
+    LimitView o (terminal_of b s (at_kind l k key)) (knowing o s last given)
+    (take_token o (token_of b (at_kind l k key)) (state_of o (InFrames fs) (knowing o s last given)))
     (taken (ended_by (terminal_of b s (at_kind l k key)) (InFrames fs)) (terminal_of b s (at_kind l k key)))

@@ -35,25 +35,25 @@ stage_of Solo = machine.BehindAlone
 stage_of Done = machine.BehindPair
 stage_of (Value w) = machine.AtValue
 
-abbrev pub parser_properties : TreeProperties → machine.NodeProperties
-parser_properties p = record { anchor = properties_anchor p; tag = properties_tag p; end = properties_end p }
+abbrev pub parser_properties : OptionsData → TreeProperties → machine.NodeProperties
+parser_properties o p = record { anchor = properties_anchor p; tag = properties_tag o p; end = properties_end p }
 
 abbrev pub is_explicit : Option Mark → Bool
 is_explicit None = false
 is_explicit (Some m) = true
 
-abbrev pub frame_of : OpenFrame → machine.Frame
-frame_of (DocumentFrame m) = machine.Root (is_explicit m)
-frame_of (PropertiesFrame p) = machine.WithProperties (parser_properties p)
-frame_of (SequenceFrame loose c w) = machine.BlockSequence (one_less c) loose
-frame_of (MappingFrame c at) = machine.BlockMapping (one_less c) (stage_of at)
-frame_of (FlowSequenceFrame d) = machine.FlowSequence d
-frame_of (FlowMappingFrame single at) = machine.FlowMapping single (stage_of at)
-frame_of (FlowPairFrame at) = machine.FlowPair (stage_of at)
+abbrev pub frame_of : OptionsData → OpenFrame → machine.Frame
+frame_of o (DocumentFrame m) = machine.Root (is_explicit m)
+frame_of o (PropertiesFrame p) = machine.WithProperties (parser_properties o p)
+frame_of o (SequenceFrame loose c w) = machine.BlockSequence (one_less c) loose
+frame_of o (MappingFrame c at) = machine.BlockMapping (one_less c) (stage_of at)
+frame_of o (FlowSequenceFrame d) = machine.FlowSequence d
+frame_of o (FlowMappingFrame single at) = machine.FlowMapping single (stage_of at)
+frame_of o (FlowPairFrame at) = machine.FlowPair (stage_of at)
 
-abbrev pub frames_of : List OpenFrame → List machine.Frame
-frames_of [] = []
-frames_of (f ∷ fs) = frame_of f ∷ frames_of fs
+abbrev pub frames_of : OptionsData → List OpenFrame → List machine.Frame
+frames_of o [] = []
+frames_of o (f ∷ fs) = frame_of o f ∷ frames_of o fs
 
 -- what waits is the place kept in the innermost frame
 abbrev pub waits_at : ℕ → Mark → Option Waiting
@@ -78,6 +78,7 @@ pub record Beside : Type 0 where
   pub count : ℕ
   pub names : List (List ℕ × ℕ)
   pub handles : List (List ℕ × List ℕ)
+  pub kept : List (List ℕ × List ℕ)
   pub given : List PlainEvent
 
 abbrev pub outside_of : machine.DocumentStage → Mark → Beside → ParserState
@@ -88,6 +89,7 @@ outside_of stage last b = record {
   count = b.count;
   names = b.names;
   handles = b.handles;
+  kept = b.kept;
   waiting = None;
   given = b.given;
 }
@@ -98,12 +100,13 @@ state_of o (HasDirectives v) b = outside_of (machine.Directives (version_told v)
 state_of o (IsRooted e) b = outside_of machine.BehindRoot e b
 state_of o IsEnded b = outside_of machine.Between b.last b
 state_of o (InFrames fs) b = record {
-  frames = frames_of fs;
+  frames = frames_of o fs;
   stage = machine.Inside;
   last_end = last_of fs b.last;
   count = b.count;
   names = b.names;
   handles = b.handles;
+  kept = b.kept;
   waiting = waiting_of o.max_buffered_comment_events fs;
   given = b.given;
 }

@@ -23,6 +23,6 @@ pub fn what_a_lexeme_ends()
 /// declared, or both refuse the lexeme, with one kind and mark.
 pub fn every_step_agrees()
     ensures { (b : Bool) (s : Scope) (l : Lexeme) (o : OptionsData) (st : EventState) (d : Beside) → Good st
-        → Fair (terminal_of b s l) st → Knows st s d → nat_le (state_count st) o.block_nesting_limit ≡ true
+        → Fair (terminal_of b s l) st → Knows o st s d → nat_le (state_count st) o.block_nesting_limit ≡ true
         → StepsAlike b s l o st d }
 {}

@@ -6,6 +6,7 @@ use Rattle.granit_base.specs.Place.{Mark}
 use Rattle.granit_error.specs.OptionsData.{OptionsData}
 use Rattle.granit_agreement.specs.Good.{is_fresh}
 use Rattle.granit_agreement.specs.View.{item_of}
+use Rattle.granit_agreement.proofs.WholeRuns.{none_stay}
 use Rattle.granit_agreement.proofs.StageSteps.{none_open}
 use Rattle.granit_grammar.specs.EventMachine.{IsFresh}
 use Rattle.granit_invariants.proofs.CommentLaws.{items_given}
@@ -195,9 +196,11 @@ module _ (o : OptionsData) (x : List ℕ) (front back : List Item) (s t : Reader
       ≡ Ok (but_comments gs, quiet o p) = ap (λ is. feed_all o is (parser_start m)) (sym (asked_are Fronted))
       ∙ fed in
       let l = all_go o There (lexemes_flagged Fronted) no_scope [] None false [] IsFresh
-      (record { last = m; count = 0; names = []; handles = []; given = [] }) (parser_start m) (but_comments gs)
+      (record { last = m; count = 0; names = []; handles = []; kept = []; given = [] }) (parser_start m)
+      (but_comments gs)
       (quiet o p)
-      is_fresh (refl, refl, refl, refl, refl) (none_open o.block_nesting_limit) refl (inl suits_fresh)
+      is_fresh (refl, refl, refl, refl, refl, none_stay o.keep_tags) (none_open o.block_nesting_limit) refl
+      (inl suits_fresh)
       (record { columns = refl; over = tt; sits = tt }) front_order front_keys refl tt alone in
       l.are ∙ ap (λ cs. map one_less (due_pushed Due cs)) l.says
       ∙ less_due Due (columns_of s.laid) (counts_along (lexemes_flagged Fronted) no_scope [] None tt)

@@ -166,16 +166,17 @@ next_stands x [] (Some d) may cs st after o s h =
 
 -- ---- as the parser has them
 
-frames_counted : (fs : List OpenFrame) → block_columns (frames_of fs) ≡ map one_less (open_columns fs)
-frames_counted [] = refl
-frames_counted (SequenceFrame true c w ∷ fs) = frames_counted fs
-frames_counted (SequenceFrame false c w ∷ fs) = ap (λ (ns : List ℕ). one_less c ∷ ns) (frames_counted fs)
-frames_counted (MappingFrame c at ∷ fs) = ap (λ (ns : List ℕ). one_less c ∷ ns) (frames_counted fs)
-frames_counted (DocumentFrame m ∷ fs) = frames_counted fs
-frames_counted (PropertiesFrame p ∷ fs) = frames_counted fs
-frames_counted (FlowSequenceFrame d ∷ fs) = frames_counted fs
-frames_counted (FlowMappingFrame single at ∷ fs) = frames_counted fs
-frames_counted (FlowPairFrame at ∷ fs) = frames_counted fs
+frames_counted : (o : OptionsData) (fs : List OpenFrame)
+    → block_columns (frames_of o fs) ≡ map one_less (open_columns fs)
+frames_counted o [] = refl
+frames_counted o (SequenceFrame true c w ∷ fs) = frames_counted o fs
+frames_counted o (SequenceFrame false c w ∷ fs) = ap (λ (ns : List ℕ). one_less c ∷ ns) (frames_counted o fs)
+frames_counted o (MappingFrame c at ∷ fs) = ap (λ (ns : List ℕ). one_less c ∷ ns) (frames_counted o fs)
+frames_counted o (DocumentFrame m ∷ fs) = frames_counted o fs
+frames_counted o (PropertiesFrame p ∷ fs) = frames_counted o fs
+frames_counted o (FlowSequenceFrame d ∷ fs) = frames_counted o fs
+frames_counted o (FlowMappingFrame single at ∷ fs) = frames_counted o fs
+frames_counted o (FlowPairFrame at ∷ fs) = frames_counted o fs
 
 -- behind the end only the frames count
 abbrev Shows : EventState → ParserState → Type 0
@@ -187,7 +188,7 @@ state_counted : (o : OptionsData) (st : EventState) (d : Beside) (p : ParserStat
 state_counted o IsFresh d p e h = ap (λ (p : ParserState). block_columns p.frames) e
 state_counted o (HasDirectives v) d p e h = ap (λ (p : ParserState). block_columns p.frames) e
 state_counted o (IsRooted m) d p e h = ap (λ (p : ParserState). block_columns p.frames) e
-state_counted o (InFrames fs) d p e h = ap (λ (p : ParserState). block_columns p.frames) e ∙ frames_counted fs
+state_counted o (InFrames fs) d p e h = ap (λ (p : ParserState). block_columns p.frames) e ∙ frames_counted o fs
 state_counted o IsEnded d p e h = h
 
 -- ---- the end
@@ -321,7 +322,7 @@ module _ (o : OptionsData) (z : Aim) where
   Goes fs =
       (s : Scope) (bs : List Bracket) (due : Option ℕ) (may : Bool) (cs : List ℕ) (st : EventState) (d : Beside)
       (p : ParserState) (gs : List PlainEvent) (q : ParserState) →
-      ComesTo st → Knows st s d → nat_le (state_count st) o.block_nesting_limit ≡ true → d.given ≡ []
+      ComesTo st → Knows o st s d → nat_le (state_count st) o.block_nesting_limit ≡ true → d.given ≡ []
       → (Suits bs due may st ⊎ ((st ≡ IsEnded) × (fs ≡ []))) → Stands st due cs →
       OrderedFrom fs s bs due may → KeysTo z fs s bs due cs → Seen o st p d → Shows st p
       → feed_all o (map item_of fs) p ≡ Ok (gs, q) → LandsAt z (due_along fs s bs due) q
@@ -366,13 +367,13 @@ module _ (o : OptionsData) (z : Aim) where
         go (next_scope here.kind s) (open_behind here.kind bs) (due_behind bs here.kind here.at due)
         (may_follow here.kind) (columns_behind bs here.kind here.at due cs) after (Cleared h.beside) (Emptied p) hs
         q
-        h.comes (knows_cleared after (next_scope here.kind s) h.beside h.knows)
+        h.comes (knows_cleared o after (next_scope here.kind s) h.beside h.knows)
         (fault_passed (nat_le (state_count after) o.block_nesting_limit) (TooManyBlocks (is_loose after)) _ h.passes)
         refl
         (goes_to after on) (next_stands here bs due may cs st after ordered.0 stands hold) ordered.2 keys.1
         (seen_cleared o after p h.beside h.is_seen) (shows_at after p on (ends p refl)) more
 
-    one : Good st → Knows st s d → nat_le (state_count st) o.block_nesting_limit ≡ true → d.given ≡ []
+    one : Good st → Knows o st s d → nat_le (state_count st) o.block_nesting_limit ≡ true → d.given ≡ []
         → Suits bs due may st → feed_all o (map item_of (f ∷ fs)) (state_of o st d) ≡ Ok (gs, q)
         → LandsAt z (due_along (f ∷ fs) s bs due) q
     one g k n given suits e =

@@ -94,7 +94,8 @@ pub node_starts : (o : OptionsData) (q : TreeProperties) (kind : ℕ → Option 
     (indent : Option ℕ) (es : List PlainEvent)
     → kinds_of (node_told o q kind from to indent ++ es) ≡ start_tells o q kind (kinds_of es)
 node_starts o q kind from to indent es =
-    ap (λ (ks : List EventKind). unstyled (kind (number_told (properties_anchor q)) (tag_told (properties_tag q))) ∷ ks)
+    ap (λ (ks : List EventKind). unstyled (kind (number_told (properties_anchor q)) (tag_told (properties_tag o q)))
+    ∷ ks)
     (kinds_append (anchor_told o (properties_anchor q) []) es)
 
 if_before : (v : Bool) (e : PlainEvent) (more : List EventKind)

@@ -20,7 +20,7 @@ use Rattle.granit_machine.specs.ReaderState.{ReaderState}
 pub passage_one : (o : OptionsData) (x : List ℕ) (bs : List Bracket) (cs : List ℕ) (v w : Where) (kind : LexemeKind)
     (from next : List ℕ) (s : ReaderState) (a b : Anchors) → (r : OneRead o x bs cs v w kind from next s)
     → is_end_kind kind ≡ false → next_scope (terminal_kind kind None) (scope_of a) ≡ scope_of b
-    → scope_fault o.emit_unresolved_aliases (terminal_kind kind None) (scope_of a) ≡ None
+    → scope_fault o (terminal_kind kind None) (scope_of a) ≡ None
     → Passage o s a b (λ more. terminal (terminal_kind kind None) (place_in a r.lexeme) ∷ more) r.after
 passage_one o x bs cs v w kind from next s a b r n p q =
     let l = r.lexeme in
@@ -29,7 +29,7 @@ passage_one o x bs cs v w kind from next s a b r n p q =
       lexemes = l ∷ [];
       lexed = and_lexeme l r.after r.reads (ap is_end_kind r.kind_is ∙ n) r.key_is r.tail_is no_lexeme;
       scope = ap (λ (k : TerminalKind). next_scope k (scope_of a)) same ∙ p;
-      means = (ap (λ (k : TerminalKind). scope_fault o.emit_unresolved_aliases k (scope_of a)) same ∙ q, tt);
+      means = (ap (λ (k : TerminalKind). scope_fault o k (scope_of a)) same ∙ q, tt);
       spelled = λ more. ap (λ (k : TerminalKind). terminal k (place_in a l) ∷ more) (sym same);
     }
 

@@ -51,7 +51,7 @@ node_tells o a name anchor kind more =
 abbrev pub start_tells :
     OptionsData → TreeProperties → (ℕ → Option PlainTag → EventKind) → List EventKind → List EventKind
 start_tells o q kind more =
-    unstyled (kind (number_told (properties_anchor q)) (tag_told (properties_tag q)))
+    unstyled (kind (number_told (properties_anchor q)) (tag_told (properties_tag o q)))
     ∷ (kinds_of (anchor_told o (properties_anchor q) []) ++ more)
 
 -- ---- trees

@@ -133,7 +133,7 @@ pub record PropertiesRead (o : OptionsData) (x : List ℕ) (bs : List Bracket) (
   pub placed : (room : Room) → IsPlain room → PropertiesPlaced properties room
   pub behind : (room : Room) → IsPlain room → IsPlain (room_behind properties room)
   pub anchor_is : properties_anchor properties ≡ anchor_before x a anchor own
-  pub tag_is : properties_tag properties ≡ tag_before x name (anchor_text anchor own)
+  pub tag_is : properties_tag o properties ≡ tag_before x name (anchor_text anchor own)
 
 -- a node that is read, with what is told of it
 pub record NodeRead (o : OptionsData) (x : List ℕ) (bs : List Bracket) (to rest : List ℕ) (s : ReaderState)

@@ -55,13 +55,20 @@ behind_append : (s : Scope) (xs ys : List Terminal) → scope_behind (xs ++ ys) 
 behind_append s [] ys = refl
 behind_append s (x ∷ xs) ys = behind_append (next_scope x.kind s) xs ys
 
-pub means_append : (u : Bool) (xs ys : List Terminal) → Means u xs → Means u ys → Means u (xs ++ ys)
-means_append u [] ys p q = q
-means_append u (x ∷ xs) ys p q = (p.0, means_append u xs ys p.1 q)
+pub means_append : (o : OptionsData) (xs ys : List Terminal) → Means o xs → Means o ys → Means o (xs ++ ys)
+means_append o [] ys p q = q
+means_append o (x ∷ xs) ys p q = (p.0, means_append o xs ys p.1 q)
 
 -- what stands declared
 abbrev pub scope_of : Anchors → Scope
-scope_of a = record { count = a.count; names = a.names; handles = []; pending = []; version = None }
+scope_of a = record {
+  count = a.count;
+  names = a.names;
+  handles = [];
+  pending = [];
+  version = None;
+  all_handles = [];
+}
 
 -- a lexeme as the grammar sees it behind these anchors
 abbrev pub place_in : Anchors → Lexeme → At
@@ -73,7 +80,7 @@ pub record Passage (o : OptionsData) (s : ReaderState) (a b : Anchors) (write : 
   pub lexemes : List Lexeme
   pub lexed : Lexed o s lexemes t
   pub scope : scope_behind (seen lexemes) (scope_of a) ≡ scope_of b
-  pub means : Means o.emit_unresolved_aliases (scoped (scope_of a) (seen lexemes))
+  pub means : Means o (scoped (scope_of a) (seen lexemes))
   pub spelled : (more : List Terminal) → write more ≡ scoped (scope_of a) (seen lexemes) ++ more
 
 pub passage_none : (o : OptionsData) (s : ReaderState) (a : Anchors) → Passage o s a a (λ more. more) s
@@ -94,8 +101,8 @@ passage_then o s t u a b c f g p q =
       scope = ap (λ (xs : List Terminal). scope_behind xs (scope_of a)) (seen_append p.lexemes q.lexemes)
           ∙ behind_append (scope_of a) (seen p.lexemes) (seen q.lexemes)
           ∙ ap (scope_behind (seen q.lexemes)) p.scope ∙ q.scope;
-      means = subst (Means o.emit_unresolved_aliases) (sym whole)
-          (means_append o.emit_unresolved_aliases (scoped (scope_of a) (seen p.lexemes))
+      means = subst (Means o) (sym whole)
+          (means_append o (scoped (scope_of a) (seen p.lexemes))
           (scoped (scope_of b) (seen q.lexemes)) p.means q.means);
       spelled = λ more. p.spelled (g more)
           ∙ ap (λ (xs : List Terminal). scoped (scope_of a) (seen p.lexemes) ++ xs) (q.spelled more)
@@ -108,7 +115,7 @@ pub passage_one : (o : OptionsData) (x : List ℕ) (bs : List Bracket) (kind : L
     (v : Bool)
     (s : ReaderState) (a b : Anchors) → (r : OneRead o x bs kind from to rest v s) → is_end_kind kind ≡ false
     → next_scope (terminal_kind kind None) (scope_of a) ≡ scope_of b
-    → scope_fault o.emit_unresolved_aliases (terminal_kind kind None) (scope_of a) ≡ None
+    → scope_fault o (terminal_kind kind None) (scope_of a) ≡ None
     → Passage o s a b (λ more. terminal (terminal_kind kind None) (place_in a r.lexeme) ∷ more) r.after
 passage_one o x bs kind from to rest v s a b r n p q =
     let l = r.lexeme in
@@ -118,7 +125,7 @@ passage_one o x bs kind from to rest v s a b r n p q =
       lexed = and_lexeme l r.after r.reads (ap is_end_kind r.kind_is ∙ n) r.key_is r.tail_is no_lexeme;
       scope = ap (λ (k : TerminalKind). next_scope k (scope_of a)) same ∙ p;
       means = (
-        ap (λ (k : TerminalKind). scope_fault o.emit_unresolved_aliases k (scope_of a)) same ∙ q,
+        ap (λ (k : TerminalKind). scope_fault o k (scope_of a)) same ∙ q,
         tt,
       );
       spelled = λ more. ap (λ (k : TerminalKind). terminal k (place_in a l) ∷ more) (sym same);
@@ -167,13 +174,13 @@ told_of o kind anchor tag from to indent more =
 pub node_is_told : (o : OptionsData) (x : List ℕ) (a : Anchors) (p : Properties) (q : TreeProperties)
     (kind : ℕ → Option PlainTag → EventKind) (own behind : List ℕ) (from to : Mark) (indent : Option ℕ)
     → properties_anchor q ≡ anchor_before x a p.anchor own
-    → properties_tag q ≡ tag_before x p.tag (anchor_text p.anchor own)
+    → properties_tag o q ≡ tag_before x p.tag (anchor_text p.anchor own)
     → from ≡ spot x own → to ≡ spot x behind → indent ≡ None → (more : List PlainEvent)
     → node_told o q kind from to indent ++ more ≡ node_before o x a p kind own behind more
 node_is_told o x a p q kind own behind from to indent e f g h i more =
     let anchor = anchor_before x a p.anchor own in
     let tag = tag_before x p.tag (anchor_text p.anchor own) in
-    ap (λ (r : AnchorTold). told_of o kind r (properties_tag q) from to indent more) e
+    ap (λ (r : AnchorTold). told_of o kind r (properties_tag o q) from to indent more) e
     ∙ ap (λ (r : TagTold). told_of o kind anchor r from to indent more) f
     ∙ ap (λ (m : Mark). told_of o kind anchor tag m to indent more) g
     ∙ ap (λ (m : Mark). told_of o kind anchor tag (spot x own) m indent more) h

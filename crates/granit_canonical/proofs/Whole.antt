@@ -302,8 +302,8 @@ whole_read o x roots after next a p l reads kind key tail placed within =
         spelled = stream_spells roots i ∙ p.spelled (terminal TheEnd i ∷ []) ∙ sym spelled;
         placed = stream_placed roots i placed;
         within = stream_is_within o.block_nesting_limit roots i ∙ within;
-        means = subst (Means o.emit_unresolved_aliases) (sym spelled)
-            (means_append o.emit_unresolved_aliases (scoped (scope_of no_anchors) (seen p.lexemes))
+        means = subst (Means o) (sym spelled)
+            (means_append o (scoped (scope_of no_anchors) (seen p.lexemes))
             (terminal TheEnd i ∷ []) p.means (refl, tt));
         events_are = refl;
       };

@@ -7,6 +7,7 @@ pub record OptionsData : Type 0 where
   pub emit_unresolved_aliases : Bool
   pub emit_anchor_events : Bool
   pub emit_comments : Bool
+  pub keep_tags : Bool
   pub max_buffered_comment_events : ℕ
   pub simple_key_max_lookahead : ℕ
   pub flow_nesting_limit : ℕ
@@ -21,6 +22,7 @@ default_options = record {
   emit_unresolved_aliases = false;
   emit_anchor_events = false;
   emit_comments = true;
+  keep_tags = false;
   max_buffered_comment_events = 96;
   simple_key_max_lookahead = 1024;
   flow_nesting_limit = 255;

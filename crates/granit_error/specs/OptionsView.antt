@@ -9,6 +9,7 @@ options_of o = record {
   emit_unresolved_aliases = o.emit_unresolved_aliases;
   emit_anchor_events = o.emit_anchor_events;
   emit_comments = o.emit_comments;
+  keep_tags = o.keep_tags;
   max_buffered_comment_events = o.max_buffered_comment_events;
   simple_key_max_lookahead = o.simple_key_max_lookahead;
   flow_nesting_limit = o.flow_nesting_limit;

@@ -26,6 +26,8 @@ pub struct Options {
     pub emit_anchor_events: bool,
     /// Whether comments are events.
     pub emit_comments: bool,
+    /// Whether the handles of `%TAG` but `!` and `!!` stay over documents.
+    pub keep_tags: bool,
     /// How many comments may wait for the event before them.
     pub max_buffered_comment_events: usize,
     /// How many characters may stand between a simple key's start and its `:`.
@@ -54,6 +56,7 @@ impl Default for Options {
             emit_unresolved_aliases: false,
             emit_anchor_events: false,
             emit_comments: true,
+            keep_tags: false,
             max_buffered_comment_events: 96,
             simple_key_max_lookahead: 1024,
             flow_nesting_limit: 255,
@@ -72,5 +75,12 @@ impl Options {
         ensures { self.new ≡ record self.old { emit_comments = emit_comments } }
     {
         self.emit_comments = emit_comments;
+    }
+
+    /// Says whether the handles of `%TAG` but `!` and `!!` stay over documents.
+    pub fn set_keep_tags(&mut self, keep_tags: bool)
+        ensures { self.new ≡ record self.old { keep_tags = keep_tags } }
+    {
+        self.keep_tags = keep_tags;
     }
 }

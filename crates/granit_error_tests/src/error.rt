@@ -211,9 +211,15 @@ fn options_begin_with_the_defaults(rt: HostRuntime) {
     assert_eq!(rt; limits, [7, 255, 96, 1024, 1024, 16]);
     let default = Options::default();
     assert_eq!(rt;
-        [set.emit_comments, default.strict_indentation],
-        [false, false]
+        [
+            set.emit_comments,
+            default.strict_indentation,
+            default.keep_tags
+        ],
+        [false, false, false]
     );
+    set.set_keep_tags(true);
+    set.set_keep_tags(false);
     set.set_emit_comments(true);
     assert!(rt; set == granit_error::options!(flow_nesting_limit: 7));
     assert!(rt; granit_error::options!() == default);

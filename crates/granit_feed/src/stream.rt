@@ -51,12 +51,14 @@ fn with_version<'input>(
 /// A directive that says what a handle stands for.
 fn with_handle<'input>(
     state: &mut ParserState<'input>,
+    alloc: Global,
+    options: &Options,
     handle: Text<'input>,
     prefix: Text<'input>,
     token: &Token<'input>,
     version: Option<YamlVersion>,
 ) -> Result<(), ScanError>
-    ensures { LeavesIfRoom result state.new (steps.with_directive
+    ensures { LeavesIfRoom result state.new (steps.with_directive (options_of options.now)
         (of_kind (kinds.TagPrefix handle.entry prefix.entry) token.now)
         (lexemes.TagPrefix handle.entry.characters prefix.entry.characters)
         (option_map plain_version version) state.old) }
@@ -64,7 +66,7 @@ fn with_handle<'input>(
     match state.prefix_of(&handle) {
         Some(_) => Err(token.misplaced(ErrorKind::DuplicateTagDirective)),
         None => {
-            state.remember_handle(handle, prefix)?;
+            state.remember_handle(alloc, handle, prefix, options.keep_tags)?;
             state.set_stage(DocumentStage::Directives(version));
             Ok(())
         }
@@ -92,6 +94,7 @@ fn open_document<'input>(
 /// Behind directives: another, or `---`.
 fn behind_directives<'input>(
     state: &mut ParserState<'input>,
+    alloc: Global,
     options: &Options,
     token: &mut Token<'input>,
     version: Option<YamlVersion>,
@@ -102,7 +105,9 @@ fn behind_directives<'input>(
 {
     match mem::replace(&mut token.lexeme.kind, LexemeKind::Comma) {
         LexemeKind::Version(major, minor) => with_version(state, major, minor, token, version),
-        LexemeKind::TagPrefix(handle, prefix) => with_handle(state, handle, prefix, token, version),
+        LexemeKind::TagPrefix(handle, prefix) => {
+            with_handle(state, alloc, options, handle, prefix, token, version)
+        }
         LexemeKind::Reserved(_, _) => {
             state.set_stage(DocumentStage::Directives(version));
             Ok(())
@@ -196,6 +201,7 @@ fn end_stream<'input>(
 /// What `%` begins, where no directive stands before it.
 fn first_directive<'input>(
     state: &mut ParserState<'input>,
+    alloc: Global,
     options: &Options,
     token: &mut Token<'input>,
 ) -> Result<(), ScanError>
@@ -205,7 +211,7 @@ fn first_directive<'input>(
 {
     state.forget_handles();
     state.forget_names();
-    behind_directives(state, options, token, None)
+    behind_directives(state, alloc, options, token, None)
 }
 
 /// `---` without directives.
@@ -235,9 +241,9 @@ fn when_fresh<'input>(
     match &token.lexeme.kind {
         LexemeKind::DocumentEnd => Ok(state.flush()?),
         LexemeKind::StreamEnd => Ok(end_stream(state, token)?),
-        LexemeKind::Version(_, _) => first_directive(state, options, token),
-        LexemeKind::TagPrefix(_, _) => first_directive(state, options, token),
-        LexemeKind::Reserved(_, _) => first_directive(state, options, token),
+        LexemeKind::Version(_, _) => first_directive(state, alloc, options, token),
+        LexemeKind::TagPrefix(_, _) => first_directive(state, alloc, options, token),
+        LexemeKind::Reserved(_, _) => first_directive(state, alloc, options, token),
         LexemeKind::DocumentStart => plain_document(state, token),
         LexemeKind::Open(_) => begin_document(state, alloc, options, token),
         LexemeKind::Close(_) => begin_document(state, alloc, options, token),
@@ -358,7 +364,9 @@ pub(crate) fn outside<'input>(
 {
     match state.stage() {
         DocumentStage::Fresh => when_fresh(state, alloc, options, token),
-        DocumentStage::Directives(version) => behind_directives(state, options, token, version),
+        DocumentStage::Directives(version) => behind_directives(
+            state, alloc, options, token, version,
+        ),
         DocumentStage::BehindRoot => behind_root(state, token),
         DocumentStage::Between => when_between(state, token),
         DocumentStage::Inside => Err(token.misplaced(ErrorKind::ExpectedDocumentStart)),

@@ -35,3 +35,6 @@ closing_shortens o t p ends = close_turn-Shortens o t p (end_top o t p p.frames)
 pub closed_all : (o : OptionsData) (t : Token) (p : ParserState) → ends_top t p p.frames ≡ false → close o t p ≡ Ok p
 closed_all o t p stays =
     ap (λ r. r >>= λ x. Ok x.1) (pieces_done depth (close_turn o t) p p (last_turn o t p stays))
+
+-- a turn of closing, and its end
+pub ruleset closing_turns = (closes_on, closing_shortens, closed_all)

@@ -99,3 +99,6 @@ same_frames o q kind source indent p =
       span = span_with_tag q.tag source (key_indent p.frames indent);
     } in
     told_frames o q.anchor (put e (flush_held p.waiting p)) ∙ given_frames e p.waiting p
+
+-- frames without properties
+pub ruleset bare_frames = (no_properties_below, no_properties_on)

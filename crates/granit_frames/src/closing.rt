@@ -142,7 +142,7 @@ impl<'input> ParserState<'input> {
     }
 
     /// Ends what a token ends.
-    #[tactic(auto, using(crate::proofs::CloseLemmas::closes_on, crate::proofs::CloseLemmas::closing_shortens, crate::proofs::CloseLemmas::closed_all))]
+    #[tactic(auto, using(crate::proofs::CloseLemmas::closing_turns))]
     pub fn close(&mut self, options: &Options, token: &Token<'input>) -> Result<(), NoMemory>
         ensures { OnOk result (closing.close (options_of options.now) (machine_token token.now) self.old
             ≡ Ok self.new) }

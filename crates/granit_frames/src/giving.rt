@@ -162,7 +162,7 @@ fn span_with_tag(tag: &Option<NodeTag>, start: Marker, end: Marker, indent: Opti
 // Events of nodes.
 impl<'input> ParserState<'input> {
     /// The properties of the node that begins, or none up to a place.
-    #[tactic(auto, using(crate::proofs::FrameLemmas::no_properties_below, crate::proofs::FrameLemmas::none_on_top, crate::proofs::FrameLemmas::no_properties_on))]
+    #[tactic(auto, using(crate::proofs::FrameLemmas::bare_frames, crate::proofs::FrameLemmas::none_on_top))]
     pub(crate) fn take_properties(&mut self, end: Marker) -> NodeProperties<'input>
         ensures properties { properties_view result ≡ giving.properties_on self.old.frames end }
         ensures below { self.new ≡ record self.old { frames = giving.below_properties self.old.frames } }

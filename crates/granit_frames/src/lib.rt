@@ -15,6 +15,7 @@ mod state;
 pub use frames::Frames;
 pub use giving::null_event;
 pub use granit_sorts::{Token, TokenSort, token_sort};
+pub use names::length_of;
 pub use state::{
     DocumentStage, Frame, NodeAnchor, NodeProperties, NodeTag, PairStage, ParserState, Top,
 };

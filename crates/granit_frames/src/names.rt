@@ -1,11 +1,17 @@
 //! What names and handles stand for (YAML 1.2.2, 6.8.2 and 7.1).
-ghost use Rattle.std.specs.Prelude.{◌≡◌, [], OnOk};
+ghost use Rattle.std.specs.Prelude.{◌≡◌, [], length, nat_lt, OnOk};
 ghost use Rattle.std.specs.Option.{option_map};
+ghost use Rattle.std.specs.Str.{chars};
+ghost use Rattle.granit_error.specs.OptionsView.{options_of};
 ghost use Rattle.granit_machine.specs.Entries.{lookup_text, remembered};
+ghost use Rattle.granit_machine.specs.NodeSteps.{known_prefix};
+ghost use Rattle.granit_machine.specs.StreamSteps.{declared};
 ghost use Rattle.granit_frames.specs.StateViews.{names_view, handles_view};
 
 use crate::state::ParserState;
 use granit_base::{NoMemory, Text};
+use granit_error::Options;
+use std::alloc::Global;
 use std::collections::BTreeMap;
 
 /// The number of the last anchor of a name.
@@ -34,7 +40,7 @@ pub(crate) fn remember_name<'input>(
     Ok(())
 }
 
-/// What a handle of the document's directives stands for.
+/// What a handle stands for in a map.
 fn prefix_of<'map, 'input>(
     handles: &'map BTreeMap<Text<'input>, Text<'input>>,
     handle: &Text<'input>,
@@ -63,6 +69,20 @@ fn remember_handle<'input>(
     Ok(())
 }
 
+/// How many characters a text has.
+pub fn length_of(text: &str) -> usize
+    ensures { result ≡ length (chars text.now) }
+{
+    text.chars().count()
+}
+
+/// Whether a handle is neither `!` nor `!!`.
+fn may_stay(handle: &Text<'_>) -> bool
+    ensures { result ≡ nat_lt 2 (length handle.now.characters) }
+{
+    length_of(handle.as_str()) > 2
+}
+
 impl<'input> ParserState<'input> {
     /// The number of the last anchor of a name in the document.
     pub fn number_of(&self, name: &Text<'input>) -> Option<usize>
@@ -78,20 +98,48 @@ impl<'input> ParserState<'input> {
         prefix_of(&self.handles, handle)
     }
 
-    /// From now on a handle stands for that.
+    /// What a handle stands for by the document's directives or, where handles but `!` and `!!` stay, by earlier ones.
+    pub fn known_prefix<'state>(
+        &'state self,
+        options: &Options,
+        handle: &Text<'input>,
+    ) -> Option<&'state Text<'input>>
+        ensures { option_map (λ t. t.now.characters) result
+            ≡ known_prefix (options_of options.now) handle.now.characters self.now }
+    {
+        match prefix_of(&self.handles, handle) {
+            Some(prefix) => Some(prefix),
+            None => {
+                if !may_stay(handle) || !options.keep_tags {
+                    return None;
+                }
+                prefix_of(&self.kept, handle)
+            }
+        }
+    }
+
+    /// From now on a handle stands for that, in its document or over documents.
     ///
     /// # Errors
     ///
     /// `NoMemory` alone.
     pub fn remember_handle(
         &mut self,
+        alloc: Global,
         handle: Text<'input>,
         prefix: Text<'input>,
+        stays: bool,
     ) -> Result<(), NoMemory>
-        ensures { OnOk result (self.new ≡ record self.old {
-          handles = remembered handle.entry.characters prefix.entry.characters self.old.handles;
-        }) }
+        ensures { OnOk result (self.new
+            ≡ declared stays handle.entry.characters prefix.entry.characters self.old) }
     {
+        if stays {
+            remember_handle(
+                &mut self.kept,
+                handle.try_clone(alloc)?,
+                prefix.try_clone(alloc)?,
+            )?;
+        }
         remember_handle(&mut self.handles, handle, prefix)
     }
 
@@ -102,7 +150,7 @@ impl<'input> ParserState<'input> {
         self.names.clear();
     }
 
-    /// No handle stands for anything any more.
+    /// No handle of the document stands for anything any more.
     pub fn forget_handles(&mut self)
         ensures { self.new ≡ record self.old { handles = [] } }
     {

@@ -14,7 +14,7 @@ use std::alloc::Global;
 
 impl<'input> ParserState<'input> {
     /// An anchor of the node that must come.
-    #[tactic(auto, using(crate::proofs::FrameLemmas::no_properties_below, crate::proofs::FrameLemmas::no_properties_on))]
+    #[tactic(auto, using(crate::proofs::FrameLemmas::bare_frames))]
     fn set_anchor(&mut self, anchor: NodeAnchor<'input>)
         ensures { self.new ≡ steps.with_properties
             (record (giving.properties_on self.old.frames anchor.entry.end) {
@@ -44,7 +44,7 @@ impl<'input> ParserState<'input> {
     }
 
     /// A tag of the node that must come.
-    #[tactic(auto, using(crate::proofs::FrameLemmas::no_properties_below, crate::proofs::FrameLemmas::no_properties_on))]
+    #[tactic(auto, using(crate::proofs::FrameLemmas::bare_frames))]
     fn set_tag(&mut self, tag: NodeTag)
         ensures { self.new ≡ steps.with_properties
             (record (giving.properties_on self.old.frames tag.end) {

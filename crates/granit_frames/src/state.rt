@@ -126,6 +126,8 @@ pub struct ParserState<'input> {
     pub(crate) names: BTreeMap<Text<'input>, usize>,
     /// What the handles of the document's directives stand for.
     pub(crate) handles: BTreeMap<Text<'input>, Text<'input>>,
+    /// The same of all directives so far, where handles stay over documents.
+    pub(crate) kept: BTreeMap<Text<'input>, Text<'input>>,
     pub(crate) waiting: Option<Waiting<'input>>,
     /// The events of this step so far.
     pub(crate) given: VecDeque<(Event<'input>, Span)>,
@@ -157,6 +159,7 @@ impl<'input> Model for ParserState<'input> {
       count = p.count;
       names = names_view p.names.entries;
       handles = handles_view p.handles.entries;
+      kept = handles_view p.kept.entries;
       waiting = option_map waiting_view p.waiting;
       given = plain_events p.given.items;
     } };
@@ -175,6 +178,7 @@ impl<'input> ParserState<'input> {
             count: 0,
             names: BTreeMap::new(alloc),
             handles: BTreeMap::new(alloc),
+            kept: BTreeMap::new(alloc),
             waiting: None,
             given: VecDeque::new(alloc),
         }

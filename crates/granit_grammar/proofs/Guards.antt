@@ -1,7 +1,8 @@
 -- The guarded machine answers as the event machine, but at the first lexeme that doesn't pass.
-use Rattle.std.proofs.Common.{◌≡◌, Bool, List, [], ◌∷◌, ◌++◌, refl, sym, ap, ◌∙◌, subst, append_assoc, inl, inr, Option}
+use Rattle.std.proofs.Common.{◌≡◌, List, [], ◌∷◌, ◌++◌, refl, sym, ap, ◌∙◌, subst, append_assoc, inl, inr, Option}
 use Rattle.std.proofs.Common.{Some, None}
 use Rattle.std.specs.Prelude.{◌⊎◌}
+use Rattle.granit_error.specs.OptionsData.{OptionsData}
 use Rattle.granit_grammar.specs.EventMachine.{EventState, IsEnded, Ending, ending, ended_by, EventStep, GoesTo}
 use Rattle.granit_grammar.specs.EventMachine.{StopsWith, take_frames, EventAnswer, Events, Faulty, Unfinished}
 use Rattle.granit_grammar.specs.EventMachine.{events_before, outcome_at_end, go_on, go_closed, run_events_from}
@@ -234,20 +235,21 @@ passes_second g h xs st p = passes_map (both_guards g h) h (λ st x e. (first_no
 -- ---- a guard that looks at the lexeme alone
 
 means_passes_step :
-    (u : Bool) (P : EventState → Type 0) (x : Terminal) → scope_fault u x.kind x.at.scope ≡ None →
-    ((st : EventState) → P st) → (s : EventStep) → PassesStep (scope_guard u) s x P
-means_passes_step u P x e h (GoesTo st es) = (e, h st)
-means_passes_step u P x e h (StopsWith k) = tt
+    (o : OptionsData) (P : EventState → Type 0) (x : Terminal) → scope_fault o x.kind x.at.scope ≡ None →
+    ((st : EventState) → P st) → (s : EventStep) → PassesStep (scope_guard o) s x P
+means_passes_step o P x e h (GoesTo st es) = (e, h st)
+means_passes_step o P x e h (StopsWith k) = tt
 
 means_passes_closed :
-    (u : Bool) (P : EventState → Type 0) (x : Terminal) → scope_fault u x.kind x.at.scope ≡ None →
-    ((st : EventState) → P st) → (y : Ending) → PassesClosed (scope_guard u) y x P
-means_passes_closed u P x e h (ending st es) = means_passes_step u P x e h (take_frames st x.kind x.at)
+    (o : OptionsData) (P : EventState → Type 0) (x : Terminal) → scope_fault o x.kind x.at.scope ≡ None →
+    ((st : EventState) → P st) → (y : Ending) → PassesClosed (scope_guard o) y x P
+means_passes_closed o P x e h (ending st es) = means_passes_step o P x e h (take_frames st x.kind x.at)
 
-pub means_passes : (u : Bool) (xs : List Terminal) → Means u xs → (st : EventState) → Passes (scope_guard u) xs st
-means_passes u [] m st = tt
-means_passes u (x ∷ xs) m st =
-    means_passes_closed u (Passes (scope_guard u) xs) x m.0 (means_passes u xs m.1) (ended_by x st)
+pub means_passes : (o : OptionsData) (xs : List Terminal) → Means o xs → (st : EventState)
+    → Passes (scope_guard o) xs st
+means_passes o [] m st = tt
+means_passes o (x ∷ xs) m st =
+    means_passes_closed o (Passes (scope_guard o) xs) x m.0 (means_passes o xs m.1) (ended_by x st)
 
 -- an outcome without a fault
 abbrev pub NotFaulty : EventAnswer → Type 0
@@ -260,24 +262,24 @@ drop_before es (Faulty k x) h = h
 drop_before es Unfinished h = h
 
 passes_means_step :
-    (u : Bool) (P : EventState → Type 0) (M : Type 0) (on : EventState → EventAnswer) (x : Terminal) →
+    (o : OptionsData) (P : EventState → Type 0) (M : Type 0) (on : EventState → EventAnswer) (x : Terminal) →
     ((st : EventState) → NotFaulty (on st) → P st → M) → (s : EventStep) → NotFaulty (go_on s x on) →
-    PassesStep (scope_guard u) s x P → (scope_fault u x.kind x.at.scope ≡ None) × M
-passes_means_step u P M on x h (GoesTo st es) g p = (p.0, h st (drop_before es (on st) g) p.1)
-passes_means_step u P M on x h (StopsWith k) g p = absurd g
+    PassesStep (scope_guard o) s x P → (scope_fault o x.kind x.at.scope ≡ None) × M
+passes_means_step o P M on x h (GoesTo st es) g p = (p.0, h st (drop_before es (on st) g) p.1)
+passes_means_step o P M on x h (StopsWith k) g p = absurd g
 
 passes_means_closed :
-    (u : Bool) (P : EventState → Type 0) (M : Type 0) (on : EventState → EventAnswer) (x : Terminal) →
+    (o : OptionsData) (P : EventState → Type 0) (M : Type 0) (on : EventState → EventAnswer) (x : Terminal) →
     ((st : EventState) → NotFaulty (on st) → P st → M) → (y : Ending) → NotFaulty (go_closed y x on) →
-    PassesClosed (scope_guard u) y x P → (scope_fault u x.kind x.at.scope ≡ None) × M
-passes_means_closed u P M on x h (ending st es) g p =
-    passes_means_step u P M on x h (take_frames st x.kind x.at)
+    PassesClosed (scope_guard o) y x P → (scope_fault o x.kind x.at.scope ≡ None) × M
+passes_means_closed o P M on x h (ending st es) g p =
+    passes_means_step o P M on x h (take_frames st x.kind x.at)
     (drop_before es (go_on (take_frames st x.kind x.at) x on) g) p
 
 pub passes_means :
-    (u : Bool) (xs : List Terminal) (st : EventState) → NotFaulty (run_events_from xs st) →
-    Passes (scope_guard u) xs st → Means u xs
-passes_means u [] st g p = tt
-passes_means u (x ∷ xs) st g p =
-    passes_means_closed u (Passes (scope_guard u) xs) (Means u xs) (run_events_from xs) x (passes_means u xs)
+    (o : OptionsData) (xs : List Terminal) (st : EventState) → NotFaulty (run_events_from xs st) →
+    Passes (scope_guard o) xs st → Means o xs
+passes_means o [] st g p = tt
+passes_means o (x ∷ xs) st g p =
+    passes_means_closed o (Passes (scope_guard o) xs) (Means o xs) (run_events_from xs) x (passes_means o xs)
     (ended_by x st) g p

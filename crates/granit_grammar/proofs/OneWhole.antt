@@ -1,5 +1,5 @@
 -- One cause at most has a list of lexemes, and it is the answer.
-use Rattle.std.proofs.Common.{◌≡◌, Bool, List, [], ◌∷◌, ◌++◌, refl, sym, ap, ap₂, ◌∙◌, subst, Some, None, append_assoc}
+use Rattle.std.proofs.Common.{◌≡◌, List, [], ◌∷◌, ◌++◌, refl, sym, ap, ap₂, ◌∙◌, subst, Some, None, append_assoc}
 use Rattle.std.proofs.Common.{inl, inr}
 use Rattle.std.specs.Prelude.{◌⊎◌}
 use Rattle.granit_error.specs.OptionsData.{OptionsData}
@@ -40,10 +40,10 @@ scoped_joined s [] ys = refl
 scoped_joined s (x ∷ xs) ys = ap (λ l. in_scope s x ∷ l) (scoped_joined (next_scope x.kind s) xs ys)
 
 means_there :
-    (u : Bool) (s : Scope) (front : List Terminal) (here : Terminal) (rest : List Terminal) →
-    Means u (scoped s (front ++ (here ∷ rest))) → scope_fault u here.kind (scope_behind front s) ≡ None
-means_there u s [] here rest m = m.0
-means_there u s (x ∷ front) here rest m = means_there u (next_scope x.kind s) front here rest m.1
+    (o : OptionsData) (s : Scope) (front : List Terminal) (here : Terminal) (rest : List Terminal) →
+    Means o (scoped s (front ++ (here ∷ rest))) → scope_fault o here.kind (scope_behind front s) ≡ None
+means_there o s [] here rest m = m.0
+means_there o s (x ∷ front) here rest m = means_there o (next_scope x.kind s) front here rest m.1
 
 module _ (o : OptionsData) (front : List Terminal) (here : Terminal) where
   abbrev There : Terminal
@@ -73,8 +73,8 @@ module _ (o : OptionsData) (front : List Terminal) (here : Terminal) where
       none (scoped (next_scope here.kind (scope_behind front no_scope)) rest ++ v.more)
       (subst (IsWithin o.block_nesting_limit) (joined rest v.more) v.within)
   blocks rest k (means_nothing more w c) v =
-      let a = cause_means_nothing o.emit_unresolved_aliases front here.kind k c in
-      let b = means_there o.emit_unresolved_aliases no_scope front here rest v.means in
+      let a = cause_means_nothing o front here.kind k c in
+      let b = means_there o no_scope front here rest v.means in
       cc (a, b)
 
 some_same : (k j : GrammarFault) → Some k ≡ Some j → k ≡ j
@@ -100,8 +100,8 @@ cause_one o front kind x k j (means_nothing more w c) (not_taken g) =
 cause_one o front kind x k j (means_nothing more w c) (too_many rest s none b) = absurd (none more w)
 cause_one o front kind x k j (means_nothing more w c) (means_nothing rest v d) =
     some_same k j
-    (sym (cause_means_nothing o.emit_unresolved_aliases front kind k c)
-    ∙ cause_means_nothing o.emit_unresolved_aliases front kind j d)
+    (sym (cause_means_nothing o front kind k c)
+    ∙ cause_means_nothing o front kind j d)
 
 -- ---- whole lists
 

@@ -2,12 +2,13 @@
 use Rattle.std.proofs.Common.{arith, ◌≡◌, ℕ, Bool, true, false, List, [], ◌∷◌, ◌++◌, length, refl, sym, ap, ap₂, ◌∙◌}
 use Rattle.std.proofs.Common.{inl, inr, Option, Some, None, ◌==◌, nat_lt}
 use Rattle.std.specs.Prelude.{◌⊎◌, if◌then◌else◌, codes}
+use Rattle.granit_error.specs.OptionsData.{OptionsData}
 use Rattle.granit_language.specs.Declared.{is_mark, is_anchor_of, is_handle_of, is_version, no_kind, Without, LastSince}
 use Rattle.granit_language.specs.Declared.{NoneSince, NotInForce}
 use Rattle.granit_language.specs.GrammarFault.{GrammarFault, UndeclaredTagHandle, DuplicateVersionDirective}
 use Rattle.granit_language.specs.GrammarFault.{UnsupportedYamlMajorVersion, DuplicateTagDirective}
 use Rattle.granit_language.specs.Scope.{Scope, no_scope, entry_of}
-use Rattle.granit_language.specs.Scoping.{next_scope, scope_behind, if_longer, prefix_by, number_of_anchor}
+use Rattle.granit_language.specs.Scoping.{next_scope, scope_behind, if_longer, prefix_by, or_kept, number_of_anchor}
 use Rattle.granit_language.specs.Scoping.{fault_if_none, unless, alias_fault, version_fault, handle_fault, scope_fault}
 use Rattle.granit_language.specs.Terminal.{Anchor, Tag, Alias, Property, Scalar, Open, TerminalKind, Directive}
 use Rattle.granit_language.specs.Terminal.{DocumentStart, DocumentEnd, Part, Terminal}
@@ -16,6 +17,7 @@ use Rattle.granit_lexemes.specs.Lexeme.{Version, TagPrefix, Reserved}
 use Rattle.std.proofs.lemmas.Bool.Decides.{nat_tests}
 use Rattle.granit_grammar.proofs.Declares.{Change, clears, sets, leaves, Tracks, names_track, handles_track}
 use Rattle.granit_grammar.proofs.Declares.{versions_track}
+use Rattle.granit_grammar.proofs.Kept.{none_kept}
 
 -- ---- a part of the scope that marks clear and a test sets
 
@@ -149,22 +151,23 @@ longer_none handle core e =
     (not_two (length handle) e) e
 
 pub cause_means_nothing :
-    (u : Bool) (front : List Terminal) (kind : TerminalKind) (k : GrammarFault) → ScopeCause u front kind k →
-    scope_fault u kind (scope_behind front no_scope) ≡ Some k
-cause_means_nothing u front kind k (no_anchor {name = name} off none) =
+    (o : OptionsData) (front : List Terminal) (kind : TerminalKind) (k : GrammarFault) → ScopeCause o front kind k →
+    scope_fault o kind (scope_behind front no_scope) ≡ Some k
+cause_means_nothing o front kind k (no_anchor {name = name} off none) =
     ap₂ alias_fault off
     (none_since (is_anchor_of name.characters) (number_of_anchor name.characters)
     (names_track name.characters) front refl none)
-cause_means_nothing u front kind k (no_handle {handle = handle} {suffix = suffix} long none) =
-    ap (λ p. fault_if_none (prefix_by handle p) UndeclaredTagHandle) (none_in_force handle front none)
+cause_means_nothing o front kind k (no_handle {handle = handle} {suffix = suffix} long none never) =
+    ap₂ (λ p q. fault_if_none (prefix_by handle (or_kept p q)) UndeclaredTagHandle) (none_in_force handle front none)
+    (none_kept o handle front never)
     ∙ longer_none handle (Some handle) long
-cause_means_nothing u front kind k (second_version {major = major} {minor = minor} first since) =
+cause_means_nothing o front kind k (second_version {major = major} {minor = minor} first since) =
     some_version major (scope_behind front no_scope).version
     (set_since is_version (λ s. s.version) versions_track versions_apart front first since)
-cause_means_nothing u front kind k (other_version {major = major} {minor = minor} other none) =
+cause_means_nothing o front kind k (other_version {major = major} {minor = minor} other none) =
     ap (version_fault major) (none_since is_version (λ s. s.version) versions_track front refl none)
     ∙ ap (λ b. unless b (Some UnsupportedYamlMajorVersion)) other
-cause_means_nothing u front kind k (second_handle {handle = handle} {prefix = prefix} first declared) =
+cause_means_nothing o front kind k (second_handle {handle = handle} {prefix = prefix} first declared) =
     some_handle (entry_of handle (scope_behind front no_scope).pending)
     (set_since (is_handle_of handle) (λ s. entry_of handle s.pending) (handles_track handle)
     (handles_apart handle) front

@@ -17,6 +17,7 @@ use Rattle.granit_language.specs.Node.{Stream}
 use Rattle.granit_language.specs.Placed.{StreamPlaced}
 use Rattle.granit_language.specs.Scope.{Scope, no_scope, entry_of}
 use Rattle.granit_language.specs.Scoping.{next_scope, scope_behind, in_scope, scoped, prefix_by, number_of_anchor}
+use Rattle.granit_language.specs.Scoping.{kept_of, or_kept}
 use Rattle.granit_language.specs.Scoping.{fault_if_none, unless, alias_fault, version_fault, handle_fault, scope_fault}
 use Rattle.granit_language.specs.Scoping.{Means}
 use Rattle.granit_language.specs.Terminal.{Anchor, Tag, Alias, Property, Scalar, Open, TerminalKind, Directive, Part}
@@ -37,6 +38,7 @@ use Rattle.granit_grammar.proofs.Placing.{Tells, one_cut}
 use Rattle.granit_grammar.proofs.Viable.{after_place, completed}
 use Rattle.granit_grammar.proofs.Prefixes.{events_are, streams_are_read, faults_are, never_unfinished}
 use Rattle.granit_grammar.proofs.Guards.{NotFaulty, drop_before, passes_front, passes_same, guarded_tells, TellsOf}
+use Rattle.granit_grammar.proofs.Kept.{neither, never_kept}
 use Rattle.granit_grammar.proofs.Guards.{passes_first, passes_second, passes_both, means_passes, passes_means}
 use Rattle.granit_grammar.proofs.Limit.{from_zero, passes_within, within_passes}
 use Rattle.granit_grammar.proofs.Declares.{not_named, declared_by, versioned_by, not_versioned, not_in_force}
@@ -51,13 +53,13 @@ limit_of o = o.block_nesting_limit
 
 stream_passes :
     (o : OptionsData) (xs : List Terminal) (s : Stream) → spell_stream s [] ≡ scoped no_scope xs → StreamPlaced s →
-    stream_within (limit_of o) s ≡ true → Means o.emit_unresolved_aliases (scoped no_scope xs) →
+    stream_within (limit_of o) s ≡ true → Means o (scoped no_scope xs) →
     Passes (whole_guard o) (scoped no_scope xs) IsFresh
 stream_passes o xs s e p w m =
-    passes_both (limit_guard (limit_of o)) (scope_guard o.emit_unresolved_aliases) (scoped no_scope xs) IsFresh
+    passes_both (limit_guard (limit_of o)) (scope_guard o) (scoped no_scope xs) IsFresh
     (within_passes (limit_of o) s w (scoped no_scope xs) tree_start tt refl (from_zero (limit_of o))
     (ap (λ ls. parse ls tree_start) (sym e) ∙ reads s p))
-    (means_passes o.emit_unresolved_aliases (scoped no_scope xs) m IsFresh)
+    (means_passes o (scoped no_scope xs) m IsFresh)
 
 pub whole_streams :
     (o : OptionsData) (xs : List Terminal) (es : List TreeEvent) → WholeReading o xs es → whole_run o xs ≡ Events es
@@ -91,11 +93,11 @@ events_from o xs es more (Events m) h p e same =
       within =
           passes_within (limit_of o) (ReadAs t.0) (scoped no_scope xs) tree_start tt refl
           (ap (λ ls. parse ls tree_start) (sym t.1) ∙ reads t.0 t.2)
-          (passes_first (limit_guard (limit_of o)) (scope_guard o.emit_unresolved_aliases) (scoped no_scope xs)
+          (passes_first (limit_guard (limit_of o)) (scope_guard o) (scoped no_scope xs)
           IsFresh p);
       means =
-          passes_means o.emit_unresolved_aliases (scoped no_scope xs) IsFresh (subst NotFaulty (sym ran) tt)
-          (passes_second (limit_guard (limit_of o)) (scope_guard o.emit_unresolved_aliases) (scoped no_scope xs)
+          passes_means o (scoped no_scope xs) IsFresh (subst NotFaulty (sym ran) tt)
+          (passes_second (limit_guard (limit_of o)) (scope_guard o) (scoped no_scope xs)
           IsFresh p);
       events_are = t.3;
     }
@@ -151,45 +153,47 @@ kind_unless true j k e = absurd cc
 kind_unless false j k e = cc (e)
 
 version_cause :
-    (u : Bool) (front : List Terminal) (major minor : ℕ) (v : Option (ℕ × ℕ)) (k : GrammarFault) →
+    (o : OptionsData) (front : List Terminal) (major minor : ℕ) (v : Option (ℕ × ℕ)) (k : GrammarFault) →
     (scope_behind front no_scope).version ≡ v → (b : Bool) → (major == 1) ≡ b → version_fault_by b v ≡ Some k →
-    ScopeCause u front (Directive (Version major minor)) k
-version_cause u front major minor (Some v) k s b m e =
+    ScopeCause o front (Directive (Version major minor)) k
+version_cause o front major minor (Some v) k s b m e =
     let h = versioned_by front v s
-    in subst (ScopeCause u front (Directive (Version major minor))) (some_kind e) (second_version h.0 h.1)
-version_cause u front major minor None k s false m e =
-    subst (ScopeCause u front (Directive (Version major minor))) (some_kind e) (other_version m (not_versioned front s))
-version_cause u front major minor None k s true m e = absurd cc
+    in subst (ScopeCause o front (Directive (Version major minor))) (some_kind e) (second_version h.0 h.1)
+version_cause o front major minor None k s false m e =
+    subst (ScopeCause o front (Directive (Version major minor))) (some_kind e) (other_version m (not_versioned front s))
+version_cause o front major minor None k s true m e = absurd cc
 
 handle_cause :
-    (u : Bool) (front : List Terminal) (handle prefix : List ℕ) (p : Option (List ℕ)) (k : GrammarFault) →
+    (o : OptionsData) (front : List Terminal) (handle prefix : List ℕ) (p : Option (List ℕ)) (k : GrammarFault) →
     entry_of handle (scope_behind front no_scope).pending ≡ p → handle_fault p ≡ Some k →
-    ScopeCause u front (Directive (TagPrefix handle prefix)) k
-handle_cause u front handle prefix (Some first) k s e =
-    subst (ScopeCause u front (Directive (TagPrefix handle prefix))) (some_kind e)
+    ScopeCause o front (Directive (TagPrefix handle prefix)) k
+handle_cause o front handle prefix (Some first) k s e =
+    subst (ScopeCause o front (Directive (TagPrefix handle prefix))) (some_kind e)
     (second_handle first (declared_by handle front first s))
-handle_cause u front handle prefix None k s e = absurd cc
+handle_cause o front handle prefix None k s e = absurd cc
 
 pub scope_cause :
-    (u : Bool) (front : List Terminal) (kind : TerminalKind) (k : GrammarFault) →
-    scope_fault u kind (scope_behind front no_scope) ≡ Some k → ScopeCause u front kind k
-scope_cause u front (Part (Alias name)) k e =
-    let h = unknown u (number_of_anchor name.characters (scope_behind front no_scope)) k e in
-    subst (ScopeCause u front (Part (Alias name))) (sym h.2) (no_anchor h.0 (not_named name.characters front h.1))
-scope_cause u front (Part (Property (Tag handle suffix))) k e =
-    let h = undeclared handle (entry_of handle (scope_behind front no_scope).handles) k e in
-    subst (ScopeCause u front (Part (Property (Tag handle suffix)))) (sym h.2)
-    (no_handle h.1 (not_in_force handle front h.0))
-scope_cause u front (Directive (Version major minor)) k e =
-    version_cause u front major minor (scope_behind front no_scope).version k refl (major == 1) refl
+    (o : OptionsData) (front : List Terminal) (kind : TerminalKind) (k : GrammarFault) →
+    scope_fault o kind (scope_behind front no_scope) ≡ Some k → ScopeCause o front kind k
+scope_cause o front (Part (Alias name)) k e =
+    let h = unknown o.emit_unresolved_aliases (number_of_anchor name.characters (scope_behind front no_scope)) k e in
+    subst (ScopeCause o front (Part (Alias name))) (sym h.2) (no_anchor h.0 (not_named name.characters front h.1))
+scope_cause o front (Part (Property (Tag handle suffix))) k e =
+    let s = scope_behind front no_scope in
+    let h = undeclared handle (or_kept (entry_of handle s.handles) (kept_of o handle s)) k e in
+    let n = neither (entry_of handle s.handles) (kept_of o handle s) h.0 in
+    subst (ScopeCause o front (Part (Property (Tag handle suffix)))) (sym h.2)
+    (no_handle h.1 (not_in_force handle front n.0) (never_kept o handle front h.1 n.1))
+scope_cause o front (Directive (Version major minor)) k e =
+    version_cause o front major minor (scope_behind front no_scope).version k refl (major == 1) refl
     (version_is major (scope_behind front no_scope).version ∙ e)
-scope_cause u front (Directive (TagPrefix handle prefix)) k e =
-    handle_cause u front handle prefix (entry_of handle (scope_behind front no_scope).pending) k refl e
-scope_cause u front (Part (Property (Anchor name))) k e = absurd cc
-scope_cause u front (Part (Scalar style text)) k e = absurd cc
-scope_cause u front (Part (Open bracket)) k e = absurd cc
-scope_cause u front (Directive (Reserved n p)) k e = absurd cc
-scope_cause u front kind k e = absurd cc
+scope_cause o front (Directive (TagPrefix handle prefix)) k e =
+    handle_cause o front handle prefix (entry_of handle (scope_behind front no_scope).pending) k refl e
+scope_cause o front (Part (Property (Anchor name))) k e = absurd cc
+scope_cause o front (Part (Scalar style text)) k e = absurd cc
+scope_cause o front (Part (Open bracket)) k e = absurd cc
+scope_cause o front (Directive (Reserved n p)) k e = absurd cc
+scope_cause o front kind k e = absurd cc
 
 -- ---- lexemes that are taken and that all guards let pass begin a reading
 
@@ -227,14 +231,14 @@ viable_from :
 viable_from o xs p f =
     let ls = scoped no_scope xs in
     let w = within_from (limit_of o) ls
-    (passes_first (limit_guard (limit_of o)) (scope_guard o.emit_unresolved_aliases) ls IsFresh p) f in
+    (passes_first (limit_guard (limit_of o)) (scope_guard o) ls IsFresh p) f in
     record {
       more = w.0;
       within = w.1;
       means =
-          passes_means o.emit_unresolved_aliases ls IsFresh
+          passes_means o ls IsFresh
           (drop_before (pointed StreamStarts text_start ∷ []) (run_events_from ls IsFresh) f)
-          (passes_second (limit_guard (limit_of o)) (scope_guard o.emit_unresolved_aliases) ls IsFresh p);
+          (passes_second (limit_guard (limit_of o)) (scope_guard o) ls IsFresh p);
     }
 
 -- with lexemes with which a stream begins there is no fault
@@ -336,12 +340,12 @@ guard_cause :
     (h : GuardFault (whole_guard o) (scoped no_scope xs) IsFresh k x) (t : Split no_scope xs h.front x) →
     (limit_fault (limit_of o) h.behind ≡ Some k)
     ⊎ ((limit_fault (limit_of o) h.behind ≡ None)
-    × (scope_fault o.emit_unresolved_aliases x.kind x.at.scope ≡ Some k)) →
+    × (scope_fault o x.kind x.at.scope ≡ Some k)) →
     LexemeCause o t.plain t.here.kind x k
 guard_cause o xs k x h t (inl f) =
     let v = guard_viable o (scoped no_scope xs) k x h in
     let limits = passes_first (limit_guard (limit_of o))
-    (scope_guard o.emit_unresolved_aliases) h.front IsFresh h.passes
+    (scope_guard o) h.front IsFresh h.passes
     in
     subst (LexemeCause o t.plain t.here.kind x) (sym (limit_kind (limit_of o) h.behind k f))
     (too_many v.0 (subst (λ front. IsSpelled (front ++ (x ∷ v.0))) t.front_is v.1)
@@ -354,15 +358,15 @@ guard_cause o xs k x h t (inl f) =
     (too_many_begin (whole_guard o) (limit_of o) (scoped no_scope xs) k x h limits f))))
 guard_cause o xs k x h t (inr f) =
     let limits = passes_first (limit_guard (limit_of o))
-    (scope_guard o.emit_unresolved_aliases) h.front IsFresh h.passes
+    (scope_guard o) h.front IsFresh h.passes
     in
     let w = within_from (limit_of o) (h.front ++ (x ∷ [])) (h.joined (limit_guard (limit_of o)) limits f.0)
     (guard_taken o (scoped no_scope xs) k x h) in
     means_nothing w.0
     (subst (λ front. IsWithin (limit_of o) (front ++ (x ∷ w.0))) t.front_is
     (subst (IsWithin (limit_of o)) (append_assoc h.front (x ∷ []) w.0) w.1))
-    (scope_cause o.emit_unresolved_aliases t.plain t.here.kind k
-    (subst (λ x. scope_fault o.emit_unresolved_aliases x.kind x.at.scope ≡ Some k) t.x_is f.1))
+    (scope_cause o t.plain t.here.kind k
+    (subst (λ x. scope_fault o x.kind x.at.scope ≡ Some k) t.x_is f.1))
 
 guard_fault :
     (o : OptionsData) (xs : List Terminal) (k : GrammarFault) (x : Terminal) →
@@ -378,7 +382,7 @@ guard_fault o xs k x h =
       viable = guard_before o xs k x h t;
       cause =
           guard_cause o xs k x h t
-          (first_of_two (limit_fault (limit_of o) h.behind) (scope_fault o.emit_unresolved_aliases x.kind x.at.scope) k
+          (first_of_two (limit_fault (limit_of o) h.behind) (scope_fault o x.kind x.at.scope) k
           h.fault);
     }
 

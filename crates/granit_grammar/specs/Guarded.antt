@@ -79,11 +79,11 @@ both_guards g h st x = first_fault (g st x) (h st x)
 abbrev pub limit_guard : ℕ → Guard
 limit_guard n st x = limit_fault n st
 
-abbrev pub scope_guard : Bool → Guard
-scope_guard unresolved st x = scope_fault unresolved x.kind x.at.scope
+abbrev pub scope_guard : OptionsData → Guard
+scope_guard o st x = scope_fault o x.kind x.at.scope
 
 abbrev pub whole_guard : OptionsData → Guard
-whole_guard o = both_guards (limit_guard o.block_nesting_limit) (scope_guard o.emit_unresolved_aliases)
+whole_guard o = both_guards (limit_guard o.block_nesting_limit) (scope_guard o)
 
 -- the events of lexemes, or their first fault
 abbrev pub whole_run : OptionsData → List Terminal → EventAnswer

@@ -31,6 +31,7 @@ use Rattle.granit_machine.specs.NodeEnds.{finish_in, finish, owed_in, owed, end_
 use Rattle.granit_machine.specs.NodeEnds.{null_text, null_node, empty_span, end_properties, block_count, begin}
 use Rattle.granit_machine.specs.NodeEnds.{begin_block, block_mapping, waits, with_top, may_be_indentless}
 use Rattle.granit_machine.specs.NodeSteps.{Stepped, alias_by, tag_prefix, with_properties, tagged, anchored}
+use Rattle.granit_machine.specs.NodeSteps.{known_prefix}
 use Rattle.granit_machine.specs.NodeSteps.{block_sequence, DashRole, NextEntry, NewSequence, IndentlessSequence}
 use Rattle.granit_machine.specs.NodeSteps.{dash_room, give_tail, token_number, take_dash, first_dash, open_flow}
 use Rattle.granit_machine.specs.NodeSteps.{bare_by, bare, node_by, node}
@@ -539,7 +540,7 @@ module _ (keep : Kept) where
     bare_by_bare (lexemes.Anchor name) p = alike_ok _ _
         (ap (anchored u (bare_text keep name)) (flush_bare p) ∙ anchored_bare name (flush p))
     bare_by_bare (lexemes.Tag handle suffix) p =
-        prefix_then handle (lookup_text handle p.handles) _ _
+        prefix_then handle (known_prefix o handle p) _ _
         (λ prefix. alike_ok _ _ (ap (tagged u handle suffix prefix) (flush_bare p)
         ∙ tagged_bare handle suffix prefix (flush p)))
     bare_by_bare lexemes.Dash p =

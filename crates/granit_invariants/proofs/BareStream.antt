@@ -256,8 +256,8 @@ module _ (keep : Kept) where
     with_version_bare None major minor p = alike_if keep _ _ _ _ _ _ refl (alike_ok keep _ _ refl) (refused keep _)
 
     with_handle_bare : (version : Option PlainVersion) (handle prefix : List ℕ) (known : Option (List ℕ))
-        (p : ParserState) → Alike keep (with_handle u version handle prefix known (bare_state keep p))
-        (with_handle t version handle prefix known p)
+        (p : ParserState) → Alike keep (with_handle o u version handle prefix known (bare_state keep p))
+        (with_handle o t version handle prefix known p)
     with_handle_bare version handle prefix (Some known) p = refused keep _
     with_handle_bare version handle prefix None p = alike_ok keep _ _ refl
 
@@ -269,7 +269,7 @@ module _ (keep : Kept) where
         (record p { names = []; stage = Inside })))
 
     directive_bare : (d : DirectiveKind) (version : Option PlainVersion) (p : ParserState)
-        → Alike keep (with_directive u d version (bare_state keep p)) (with_directive t d version p)
+        → Alike keep (with_directive o u d version (bare_state keep p)) (with_directive o t d version p)
     directive_bare (Version major minor) version p = with_version_bare version major minor p
     directive_bare (TagPrefix handle prefix) version p = with_handle_bare version handle prefix
         (lookup_text handle p.handles) p

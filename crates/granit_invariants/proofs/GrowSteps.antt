@@ -34,6 +34,7 @@ use Rattle.granit_machine.specs.NodeEnds.{finish_in, finish, owed_in, owed, end_
 use Rattle.granit_machine.specs.NodeEnds.{end_properties, empty_span, begin, begin_block, block_mapping, waits}
 use Rattle.granit_machine.specs.NodeEnds.{with_top, may_be_indentless, block_count}
 use Rattle.granit_machine.specs.NodeSteps.{Stepped, alias_by, tag_prefix, tagged, anchored, block_sequence, DashRole}
+use Rattle.granit_machine.specs.NodeSteps.{known_prefix}
 use Rattle.granit_machine.specs.NodeSteps.{NextEntry, NewSequence, IndentlessSequence, dash_room, give_tail}
 use Rattle.granit_machine.specs.NodeSteps.{token_number, take_dash, first_dash, open_flow, bare_by, bare, node_by, node}
 use Rattle.granit_machine.specs.TokenSort.{TokenSort, BeginsKey, BeginsNode, DashToken, QuestionToken, BareColon}
@@ -510,7 +511,7 @@ bare_by_mores o (lexemes.Open bracket) t p = mores_ok None p _ (open_flow_more o
 bare_by_mores o (lexemes.Anchor name) t p =
     mores_ok None p (anchored t name (flush p)) (same p (anchored t name (flush p)) (flush_full p))
 bare_by_mores o (lexemes.Tag handle suffix) t p =
-    mores_behind None p (tag_prefix t handle (lookup_text handle p.handles)) _
+    mores_behind None p (tag_prefix t handle (known_prefix o handle p)) _
     (λ prefix. mores_ok None p (tagged t handle suffix prefix (flush p))
     (same p (tagged t handle suffix prefix (flush p)) (flush_full p)))
 bare_by_mores o lexemes.Dash t p =

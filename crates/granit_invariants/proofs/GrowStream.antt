@@ -104,10 +104,11 @@ version_mores t (Some v) major minor p h = mores_err (TailOf t) p _
 version_mores t None major minor p h =
     mores_if (major == 1) (TailOf t) p _ _ (λ e. plain_more t p _ h (same p _ refl)) (λ e. mores_err (TailOf t) p _)
 
-handle_mores : (t : Token) (version : Option PlainVersion) (handle prefix : List ℕ) (known : Option (List ℕ))
-    (p : ParserState) → None ≡ TailOf t → Mores (TailOf t) p (with_handle t version handle prefix known p)
-handle_mores t version handle prefix (Some known) p h = mores_err (TailOf t) p _
-handle_mores t version handle prefix None p h = plain_more t p _ h (same p _ refl)
+handle_mores : (o : OptionsData) (t : Token) (version : Option PlainVersion) (handle prefix : List ℕ)
+    (known : Option (List ℕ))
+    (p : ParserState) → None ≡ TailOf t → Mores (TailOf t) p (with_handle o t version handle prefix known p)
+handle_mores o t version handle prefix (Some known) p h = mores_err (TailOf t) p _
+handle_mores o t version handle prefix None p h = plain_more t p _ h (same p _ refl)
 
 open_document_mores : (t : Token) (version : Option PlainVersion) (p : ParserState) → None ≡ TailOf t →
     Mores (TailOf t) p (open_document t version p)
@@ -121,16 +122,17 @@ open_document_mores t version p h =
       ends = tt;
     })
 
-directive_mores : (t : Token) (d : DirectiveKind) (version : Option PlainVersion) (p : ParserState) → None ≡ TailOf t →
-    Mores (TailOf t) p (with_directive t d version p)
-directive_mores t (Version major minor) version p h = version_mores t version major minor p h
-directive_mores t (TagPrefix handle prefix) version p h =
-    handle_mores t version handle prefix (lookup_text handle p.handles) p h
-directive_mores t (Reserved name parameters) version p h = plain_more t p _ h (same p _ refl)
+directive_mores : (o : OptionsData) (t : Token) (d : DirectiveKind) (version : Option PlainVersion) (p : ParserState)
+    → None ≡ TailOf t →
+    Mores (TailOf t) p (with_directive o t d version p)
+directive_mores o t (Version major minor) version p h = version_mores t version major minor p h
+directive_mores o t (TagPrefix handle prefix) version p h =
+    handle_mores o t version handle prefix (lookup_text handle p.handles) p h
+directive_mores o t (Reserved name parameters) version p h = plain_more t p _ h (same p _ refl)
 
 directives_mores : (o : OptionsData) (kind : LexemeKind) (t : Token) (version : Option PlainVersion) (p : ParserState) →
     SilentIn t kind → Mores (TailOf t) p (behind_directives o kind t version p)
-directives_mores o (lexemes.Directive d) t version p h = directive_mores t d version p h
+directives_mores o (lexemes.Directive d) t version p h = directive_mores o t d version p h
 directives_mores o lexemes.DocumentStart t version p h = open_document_mores t version p h
 directives_mores o kind t version p h = mores_err (TailOf t) p _
 
@@ -150,7 +152,7 @@ fresh_mores o lexemes.DocumentEnd t p h = plain_more t p _ h (same p _ (flush_fu
 fresh_mores o lexemes.StreamEnd t p h = plain_more t p _ h (give_more (event_at events.StreamEnd t.lexeme.shown) p)
 fresh_mores o (lexemes.Directive d) t p h =
     let q = without_directives p in
-    mores_from (TailOf t) p q (with_directive t d None q) (same p q refl) (directive_mores t d None q h)
+    mores_from (TailOf t) p q (with_directive o t d None q) (same p q refl) (directive_mores o t d None q h)
 fresh_mores o lexemes.DocumentStart t p h =
     let q : ParserState = record p { handles = [] } in
     mores_from (TailOf t) p q (open_document t None q) (same p q refl) (open_document_mores t None q h)

@@ -25,6 +25,7 @@ use Rattle.granit_machine.specs.Giving.{node_event}
 use Rattle.granit_machine.specs.NodeEnds.{owed, empty_span, begin, begin_block, block_mapping, waits, with_top}
 use Rattle.granit_machine.specs.NodeEnds.{may_be_indentless}
 use Rattle.granit_machine.specs.NodeSteps.{Stepped, alias_by, tag_prefix, tagged, anchored, block_sequence, NextEntry}
+use Rattle.granit_machine.specs.NodeSteps.{known_prefix}
 use Rattle.granit_machine.specs.NodeSteps.{NewSequence, IndentlessSequence, dash_room, give_tail, token_number}
 use Rattle.granit_machine.specs.NodeSteps.{take_dash, first_dash, open_flow, bare_by, bare, node_by, node}
 use Rattle.granit_machine.specs.Entries.{lookup_text}
@@ -271,7 +272,7 @@ bare_by_fits o (lexemes.Open bracket) t p = fits_ok o _ _ (open_flow_fits o brac
 bare_by_fits o (lexemes.Anchor name) t p = fits_ok o (anchored t name (flush p)) (anchored t name (flush (quiet o p)))
     (ap (anchored t name) (flush_quiet o p))
 bare_by_fits o (lexemes.Tag handle suffix) t p =
-    fits_behind o (tag_prefix t handle (lookup_text handle p.handles)) _ _
+    fits_behind o (tag_prefix t handle (known_prefix o handle p)) _ _
     (λ prefix. fits_ok o (tagged t handle suffix prefix (flush p))
     (tagged t handle suffix prefix (flush (quiet o p))) (ap (tagged t handle suffix prefix) (flush_quiet o p)))
 bare_by_fits o lexemes.Dash t p = first_dash_fits o t (may_be_indentless (token_number t) (below_properties p.frames))

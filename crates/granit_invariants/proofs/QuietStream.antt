@@ -18,9 +18,10 @@ use Rattle.granit_machine.specs.Frames.{Between, Waiting, ParserState}
 use Rattle.granit_machine.specs.Giving.{null_at, flush, give}
 use Rattle.granit_machine.specs.NodeEnds.{finish, empty_span}
 use Rattle.granit_machine.specs.NodeSteps.{Stepped, dash_room, node}
-use Rattle.granit_machine.specs.Entries.{lookup_text, remembered}
+use Rattle.granit_machine.specs.Entries.{lookup_text}
 use Rattle.granit_machine.specs.Parser.{take_in, take_token, placed, hold, take_comment, take_tail, take_lexeme}
-use Rattle.granit_machine.specs.StreamSteps.{at_root, with_version, with_handle, open_document, with_directive}
+use Rattle.granit_machine.specs.StreamSteps.{at_root, with_version, declared, with_handle, open_document}
+use Rattle.granit_machine.specs.StreamSteps.{with_directive}
 use Rattle.granit_machine.specs.StreamSteps.{behind_directives, bare_start, begin_document, without_directives}
 use Rattle.granit_machine.specs.StreamSteps.{when_fresh, when_between, end_document, behind_root, outside}
 use Rattle.granit_machine.specs.TokenSort.{TokenSort, BeginsNode, Token, is_dash_token, begins_pair, token_column}
@@ -122,11 +123,11 @@ version_fits o t None major minor p = fits_if o _ _ _ _ _ _ refl
 
 handle_fits : (o : OptionsData) (t : Token) (version : Option PlainVersion) (handle prefix : List ℕ)
     (known : Option (List ℕ)) (p : ParserState)
-    → Fits o t.lexeme.tail (with_handle t version handle prefix known p)
-    (with_handle (untailed_token t) version handle prefix known (quiet o p))
+    → Fits o t.lexeme.tail (with_handle o t version handle prefix known p)
+    (with_handle o (untailed_token t) version handle prefix known (quiet o p))
 handle_fits o t version handle prefix (Some known) p = refuses o _
 handle_fits o t version handle prefix None p = fits_ok o
-    (record p { handles = remembered handle prefix p.handles; stage = Directives version }) _ refl
+    (record (declared o.keep_tags handle prefix p) { stage = Directives version }) _ refl
 
 open_document_fits : (o : OptionsData) (t : Token) (version : Option PlainVersion) (p : ParserState)
     → Fits o t.lexeme.tail (open_document t version p) (open_document (untailed_token t) version (quiet o p))
@@ -137,7 +138,8 @@ open_document_fits o t version p =
     fits_ok o (root (give e r)) (root (give e (quiet o r))) (ap root (give_quiet o e r refl))
 
 directive_fits : (o : OptionsData) (t : Token) (d : DirectiveKind) (version : Option PlainVersion) (p : ParserState)
-    → Fits o t.lexeme.tail (with_directive t d version p) (with_directive (untailed_token t) d version (quiet o p))
+    → Fits o t.lexeme.tail (with_directive o t d version p)
+    (with_directive o (untailed_token t) d version (quiet o p))
 directive_fits o t (Version major minor) version p = version_fits o t version major minor p
 directive_fits o t (TagPrefix handle prefix) version p = handle_fits o t version handle prefix
     (lookup_text handle p.handles) p

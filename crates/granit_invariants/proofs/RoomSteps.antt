@@ -28,6 +28,7 @@ use Rattle.granit_machine.specs.NodeEnds.{finish_in, finish, owed, below, end_no
 use Rattle.granit_machine.specs.NodeEnds.{empty_span, begin, begin_block, block_mapping, waits, with_top}
 use Rattle.granit_machine.specs.NodeEnds.{may_be_indentless, block_count}
 use Rattle.granit_machine.specs.NodeSteps.{Stepped, alias_by, tag_prefix, tagged, anchored, block_sequence, DashRole}
+use Rattle.granit_machine.specs.NodeSteps.{known_prefix}
 use Rattle.granit_machine.specs.NodeSteps.{NextEntry, NewSequence, IndentlessSequence, dash_room, give_tail}
 use Rattle.granit_machine.specs.NodeSteps.{token_number, take_dash, first_dash, open_flow, bare_by, bare, node_by, node}
 use Rattle.granit_machine.specs.TokenSort.{TokenSort, BeginsKey, BeginsNode, DashToken, QuestionToken, BareColon}
@@ -246,7 +247,7 @@ bare_by_leaves o (lexemes.Scalar style text) t p = leaves_none _ _ (leaf_none o
 bare_by_leaves o (lexemes.Open bracket) t p = leaves_none _ _ (open_flow_none o bracket t p)
 bare_by_leaves o (lexemes.Anchor name) t p = leaves_none _ (anchored t name (flush p)) (flush_none p)
 bare_by_leaves o (lexemes.Tag handle suffix) t p =
-    leaves_behind _ (tag_prefix t handle (lookup_text handle p.handles)) _ (λ prefix e. leaves_none _
+    leaves_behind _ (tag_prefix t handle (known_prefix o handle p)) _ (λ prefix e. leaves_none _
     (tagged t handle suffix prefix (flush p)) (flush_none p))
 bare_by_leaves o lexemes.Dash t p =
     dash_leaves o t (first_dash (may_be_indentless (token_number t) (below_properties p.frames))) false p

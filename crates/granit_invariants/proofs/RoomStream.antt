@@ -20,7 +20,8 @@ use Rattle.granit_machine.specs.Frames.{Between, Waiting, ParserState}
 use Rattle.granit_machine.specs.Giving.{null_at, give}
 use Rattle.granit_machine.specs.NodeEnds.{empty_span}
 use Rattle.granit_machine.specs.Parser.{take_in, take_token}
-use Rattle.granit_machine.specs.StreamSteps.{at_root, with_version, with_handle, open_document, with_directive}
+use Rattle.granit_machine.specs.StreamSteps.{at_root, with_version, declared, with_handle, open_document}
+use Rattle.granit_machine.specs.StreamSteps.{with_directive}
 use Rattle.granit_machine.specs.StreamSteps.{behind_directives, begin_document, without_directives, when_fresh}
 use Rattle.granit_machine.specs.StreamSteps.{when_between, end_document, behind_root, outside}
 use Rattle.granit_machine.specs.TokenSort.{Token, token_sort, token_of, is_dash_token, begins_node}
@@ -77,33 +78,31 @@ version_leaves room t None major minor p e =
     (λ f. leaves_none _ (record p { stage = Directives (Some (record { major = major; minor = minor })) }) e)
     (λ f. leaves_err _ _)
 
-handle_leaves : (room : Result ℕ Fault) (t : Token) (version : Option PlainVersion) (handle prefix : List ℕ)
+handle_leaves : (room : Result ℕ Fault) (o : OptionsData) (t : Token) (version : Option PlainVersion)
+    (handle prefix : List ℕ)
     (known : Option (List ℕ)) (p : ParserState) → p.waiting ≡ None → Leaves room
-    (with_handle t version handle prefix known p)
-handle_leaves room t version handle prefix (Some known) p e = leaves_err _ _
-handle_leaves room t version handle prefix None p e = leaves_none room
-    (record p {
-      handles = Rattle.granit_machine.specs.Entries.remembered handle prefix p.handles;
-      stage = Directives
-          version;
-    }) e
+    (with_handle o t version handle prefix known p)
+handle_leaves room o t version handle prefix (Some known) p e = leaves_err _ _
+handle_leaves room o t version handle prefix None p e = leaves_none room
+    (record (declared o.keep_tags handle prefix p) { stage = Directives version }) e
 
 open_document_leaves : (room : Result ℕ Fault) (t : Token) (version : Option PlainVersion) (p : ParserState) →
     Leaves room (open_document t version p)
 open_document_leaves room t version p = leaves_none room _ (flush_none (record p { names = []; stage = Inside }))
 
-directive_leaves : (room : Result ℕ Fault) (t : Token) (d : DirectiveKind) (version : Option PlainVersion)
-    (p : ParserState) → p.waiting ≡ None → Leaves room (with_directive t d version p)
-directive_leaves room t (Version major minor) version p e = version_leaves room t version major minor p e
-directive_leaves room t (TagPrefix handle prefix) version p e =
-    handle_leaves room t version handle prefix (lookup_text handle p.handles) p e
-directive_leaves room t (Reserved name parameters) version p e =
+directive_leaves : (room : Result ℕ Fault) (o : OptionsData) (t : Token) (d : DirectiveKind)
+    (version : Option PlainVersion)
+    (p : ParserState) → p.waiting ≡ None → Leaves room (with_directive o t d version p)
+directive_leaves room o t (Version major minor) version p e = version_leaves room t version major minor p e
+directive_leaves room o t (TagPrefix handle prefix) version p e =
+    handle_leaves room o t version handle prefix (lookup_text handle p.handles) p e
+directive_leaves room o t (Reserved name parameters) version p e =
     leaves_none room (record p { stage = Directives version }) e
 
 directives_leaves : (room : Result ℕ Fault) (o : OptionsData) (kind : LexemeKind) (t : Token)
     (version : Option PlainVersion) (p : ParserState) → p.waiting ≡ None → Leaves room
     (behind_directives o kind t version p)
-directives_leaves room o (lexemes.Directive d) t version p e = directive_leaves room t d version p e
+directives_leaves room o (lexemes.Directive d) t version p e = directive_leaves room o t d version p e
 directives_leaves room o lexemes.DocumentStart t version p e = open_document_leaves room t version p
 directives_leaves room o kind t version p e = leaves_err _ _
 
@@ -120,7 +119,7 @@ fresh_leaves : (o : OptionsData) (kind : LexemeKind) (t : Token) (p : ParserStat
     Leaves (RoomBehind o t) (when_fresh o kind t p)
 fresh_leaves o lexemes.DocumentEnd t p e = leaves_none _ _ (flush_none p)
 fresh_leaves o lexemes.StreamEnd t p e = stream_end_leaves _ t p
-fresh_leaves o (lexemes.Directive d) t p e = directive_leaves _ t d None (without_directives p) e
+fresh_leaves o (lexemes.Directive d) t p e = directive_leaves _ o t d None (without_directives p) e
 fresh_leaves o lexemes.DocumentStart t p e = open_document_leaves _ t None (record p { handles = [] })
 fresh_leaves o kind t p e = begin_document_leaves o t p
 

@@ -29,6 +29,7 @@ use Rattle.granit_machine.specs.NodeEnds.{finish_in, finish, owed_in, owed, end_
 use Rattle.granit_machine.specs.NodeEnds.{null_node, empty_span, end_properties, begin, begin_block, block_mapping}
 use Rattle.granit_machine.specs.NodeEnds.{waits, with_top, may_be_indentless}
 use Rattle.granit_machine.specs.NodeSteps.{Stepped, alias_by, tag_prefix, with_properties, tagged, anchored}
+use Rattle.granit_machine.specs.NodeSteps.{known_prefix}
 use Rattle.granit_machine.specs.NodeSteps.{block_sequence, DashRole, NextEntry, NewSequence, IndentlessSequence}
 use Rattle.granit_machine.specs.NodeSteps.{dash_room, give_tail, token_number, take_dash, first_dash, open_flow}
 use Rattle.granit_machine.specs.NodeSteps.{bare_by, bare, node_by, node}
@@ -392,7 +393,7 @@ module _ (x ms : List ℕ) where
         (leaf_in o (λ number tag. events.Scalar text style number tag) t.lexeme.shown t.lexeme.indent p y.shown q)
     bare_by_in (lexemes.Open bracket) p q = ok _ (open_flow_in bracket p q)
     bare_by_in (lexemes.Anchor name) p q = ok _ (anchored_in name (flush p) (flush_in p q))
-    bare_by_in (lexemes.Tag handle suffix) p q = step_behind (tag_prefix t handle (lookup_text handle p.handles)) _
+    bare_by_in (lexemes.Tag handle suffix) p q = step_behind (tag_prefix t handle (known_prefix o handle p)) _
         (λ prefix. ok _ (tagged_in handle suffix prefix (flush p) (flush_in p q)))
     bare_by_in lexemes.Dash p q = dash_in (first_dash (may_be_indentless (token_number t) (below_properties p.frames)))
         false p q

@@ -59,7 +59,7 @@ module _ (x ms : List ℕ) where
         (no x ms _)
 
     with_handle_in : (version : Option PlainVersion) (handle prefix : List ℕ) (known : Option (List ℕ))
-        (p : ParserState) → StateIn p → StepIn (with_handle t version handle prefix known p)
+        (p : ParserState) → StateIn p → StepIn (with_handle o t version handle prefix known p)
     with_handle_in version handle prefix (Some known) p q = no x ms _
     with_handle_in version handle prefix None p q = ok x ms _
         (record { frames = q.frames; last_end = q.last_end; waiting = q.waiting; given = q.given })
@@ -72,7 +72,7 @@ module _ (x ms : List ℕ) where
         ok x ms _ (framed x ms _ _ r.frames r)
 
     directive_in : (d : DirectiveKind) (version : Option PlainVersion) (p : ParserState) → StateIn p
-        → StepIn (with_directive t d version p)
+        → StepIn (with_directive o t d version p)
     directive_in (Version major minor) version p q = with_version_in version major minor p q
     directive_in (TagPrefix handle prefix) version p q = with_handle_in version handle prefix
         (lookup_text handle p.handles) p q

@@ -26,6 +26,7 @@ use Rattle.granit_machine.specs.Giving.{null_at, with_indent, flush, give, give_
 use Rattle.granit_machine.specs.NodeEnds.{owed, empty_span, begin, begin_block, block_mapping, waits, with_top}
 use Rattle.granit_machine.specs.NodeEnds.{may_be_indentless, block_count}
 use Rattle.granit_machine.specs.NodeSteps.{Stepped, alias_by, tag_prefix, tagged, anchored, block_sequence, DashRole}
+use Rattle.granit_machine.specs.NodeSteps.{known_prefix}
 use Rattle.granit_machine.specs.NodeSteps.{NextEntry, NewSequence, IndentlessSequence, dash_room, give_tail}
 use Rattle.granit_machine.specs.NodeSteps.{token_number, take_dash, first_dash, open_flow, bare_by, bare, node_by, node}
 use Rattle.granit_machine.specs.TokenSort.{TokenSort, BeginsKey, BeginsNode, DashToken, QuestionToken, BareColon}
@@ -156,8 +157,8 @@ bare_by_tells o (lexemes.Scalar style text) t p = tells_ok _ _ (leaf_told o
     (λ number tag. events.Scalar text style number tag) t.lexeme.shown t.lexeme.indent p (λ n t. refl))
 bare_by_tells o (lexemes.Open bracket) t p = tells_ok _ _ (open_flow_told o bracket t p)
 bare_by_tells o (lexemes.Anchor name) t p = tells_ok (anchored t name (flush p)) _ (flush_told p)
-bare_by_tells o (lexemes.Tag handle suffix) t p = tells_behind (tag_prefix t handle
-    (lookup_text handle p.handles)) _ _ (λ prefix. tells_ok (tagged t handle suffix prefix (flush p)) _ (flush_told p))
+bare_by_tells o (lexemes.Tag handle suffix) t p = tells_behind (tag_prefix t handle (known_prefix o handle p)) _ _
+    (λ prefix. tells_ok (tagged t handle suffix prefix (flush p)) _ (flush_told p))
 bare_by_tells o lexemes.Dash t p = dash_tells o t (first_dash (may_be_indentless (token_number t)
     (below_properties p.frames))) false p
 bare_by_tells o lexemes.Question t p = begin_block_tells o block_mapping t.lexeme.start (BlockMapping

@@ -92,11 +92,12 @@ version_adds t (Some v) major minor p h = tells_err _ _
 version_adds t None major minor p h = tells_if (major == 1) _ _ (Added t (told p)) (λ e. plainly t p _ h refl)
     (λ e. tells_err _ _)
 
-handle_adds : (t : Token) (version : Option PlainVersion) (handle prefix : List ℕ) (known : Option (List ℕ))
+handle_adds : (o : OptionsData) (t : Token) (version : Option PlainVersion) (handle prefix : List ℕ)
+    (known : Option (List ℕ))
     (p : ParserState) → ((es : List PlainEvent) → es ≡ Added t es) → Adds t p
-    (with_handle t version handle prefix known p)
-handle_adds t version handle prefix (Some known) p h = tells_err _ _
-handle_adds t version handle prefix None p h = plainly t p _ h refl
+    (with_handle o t version handle prefix known p)
+handle_adds o t version handle prefix (Some known) p h = tells_err _ _
+handle_adds o t version handle prefix None p h = plainly t p _ h refl
 
 open_document_adds : (t : Token) (version : Option PlainVersion) (p : ParserState) → ((es : List PlainEvent) →
     es ≡ Added t es) → Adds t p (open_document t version p)
@@ -107,16 +108,16 @@ open_document_adds t version p h =
       stage = Inside;
     }) refl)
 
-directive_adds : (t : Token) (d : DirectiveKind) (version : Option PlainVersion) (p : ParserState) →
-    ((es : List PlainEvent) → es ≡ Added t es) → Adds t p (with_directive t d version p)
-directive_adds t (Version major minor) version p h = version_adds t version major minor p h
-directive_adds t (TagPrefix handle prefix) version p h = handle_adds t version handle prefix
+directive_adds : (o : OptionsData) (t : Token) (d : DirectiveKind) (version : Option PlainVersion) (p : ParserState) →
+    ((es : List PlainEvent) → es ≡ Added t es) → Adds t p (with_directive o t d version p)
+directive_adds o t (Version major minor) version p h = version_adds t version major minor p h
+directive_adds o t (TagPrefix handle prefix) version p h = handle_adds o t version handle prefix
     (lookup_text handle p.handles) p h
-directive_adds t (Reserved name parameters) version p h = plainly t p _ h refl
+directive_adds o t (Reserved name parameters) version p h = plainly t p _ h refl
 
 directives_adds : (o : OptionsData) (kind : LexemeKind) (t : Token) (version : Option PlainVersion)
     (p : ParserState) → SilentIn t kind → Adds t p (behind_directives o kind t version p)
-directives_adds o (lexemes.Directive d) t version p h = directive_adds t d version p h
+directives_adds o (lexemes.Directive d) t version p h = directive_adds o t d version p h
 directives_adds o lexemes.DocumentStart t version p h = open_document_adds t version p h
 directives_adds o kind t version p h = tells_err _ _
 
@@ -138,7 +139,7 @@ fresh_adds : (o : OptionsData) (kind : LexemeKind) (t : Token) (p : ParserState)
     (when_fresh o kind t p)
 fresh_adds o lexemes.DocumentEnd t p h = plainly t p _ h (flush_told p)
 fresh_adds o lexemes.StreamEnd t p h = plainly t p _ h (give_told (event_at events.StreamEnd t.lexeme.shown) p refl)
-fresh_adds o (lexemes.Directive d) t p h = directive_adds t d None (without_directives p) h
+fresh_adds o (lexemes.Directive d) t p h = directive_adds o t d None (without_directives p) h
 fresh_adds o lexemes.DocumentStart t p h = open_document_adds t None (record p { handles = [] }) h
 fresh_adds o kind t p h = begin_document_adds o t p
 

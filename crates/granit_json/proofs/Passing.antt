@@ -59,7 +59,7 @@ pub record Passage (o : OptionsData) (s : ReaderState) (write : List Terminal �
   pub lexemes : List Flagged
   pub lexed : Lexed o s lexemes t
   pub scope : scope_behind (seen lexemes) no_scope ≡ no_scope
-  pub means : Means o.emit_unresolved_aliases (scoped no_scope (seen lexemes))
+  pub means : Means o (scoped no_scope (seen lexemes))
   pub spelled : (more : List Terminal) → write more ≡ scoped no_scope (seen lexemes) ++ more
 
 pub passage_none : (o : OptionsData) (s : ReaderState) → Passage o s (λ more. more) s
@@ -79,8 +79,8 @@ passage_then o s t u f g p q =
       scope = ap (λ (xs : List Terminal). scope_behind xs no_scope) (seen_append p.lexemes q.lexemes)
           ∙ behind_append no_scope (seen p.lexemes) (seen q.lexemes)
           ∙ ap (scope_behind (seen q.lexemes)) p.scope ∙ q.scope;
-      means = subst (Means o.emit_unresolved_aliases) (sym whole)
-          (means_append o.emit_unresolved_aliases (scoped no_scope (seen p.lexemes))
+      means = subst (Means o) (sym whole)
+          (means_append o (scoped no_scope (seen p.lexemes))
           (scoped no_scope (seen q.lexemes)) p.means q.means);
       spelled = λ more. p.spelled (g more)
           ∙ ap (λ (xs : List Terminal). scoped no_scope (seen p.lexemes) ++ xs) (q.spelled more)
@@ -92,7 +92,7 @@ passage_then o s t u f g p q =
 pub passage_one : (o : OptionsData) (x : List ℕ) (bs : List Bracket) (kind : LexemeKind) (from to rest : List ℕ)
     (v : Bool) (s : ReaderState) → (r : OneRead o x bs kind from to rest v s) → is_end_kind kind ≡ false
     → next_scope (terminal_kind kind None) no_scope ≡ no_scope
-    → scope_fault o.emit_unresolved_aliases (terminal_kind kind None) no_scope ≡ None
+    → scope_fault o (terminal_kind kind None) no_scope ≡ None
     → Passage o s (λ more. terminal (terminal_kind kind None) (at_of false no_scope r.lexeme) ∷ more) r.after
 passage_one o x bs kind from to rest v s r n p q =
     let l = r.lexeme in
@@ -101,7 +101,7 @@ passage_one o x bs kind from to rest v s r n p q =
       lexemes = (l, false) ∷ [];
       lexed = and_lexeme l r.after r.reads (ap is_end_kind r.kind_is ∙ n) r.key_is r.tail_is no_lexeme;
       scope = ap (λ (k : TerminalKind). next_scope k no_scope) same ∙ p;
-      means = (ap (λ (k : TerminalKind). scope_fault o.emit_unresolved_aliases k no_scope) same ∙ q, tt);
+      means = (ap (λ (k : TerminalKind). scope_fault o k no_scope) same ∙ q, tt);
       spelled = λ more. ap (λ (k : TerminalKind). terminal k (at_of false no_scope l) ∷ more) (sym same);
     }
 
@@ -114,7 +114,6 @@ pub passage_name : (o : OptionsData) (x from to rest from_colon rest_colon : Lis
 passage_name o x from to rest from_colon rest_colon text bs s r q =
     let l = r.lexeme in
     let m = q.lexeme in
-    let u = o.emit_unresolved_aliases in
     let name_kind = Part (Scalar DoubleQuoted text) in
     let colon_kind = Colon (Some r.key.number) in
     let a : terminal_kind l.kind l.key ≡ name_kind = ap₂ terminal_kind r.kind_is r.key_is in
@@ -126,8 +125,8 @@ passage_name o x from to rest from_colon rest_colon text bs s r q =
           q.tail_is no_lexeme;
       scope = ap₂ (λ (k n : TerminalKind). next_scope n (next_scope k no_scope)) a b;
       means = (
-        ap (λ (k : TerminalKind). scope_fault u k no_scope) a,
-        (ap₂ (λ (k n : TerminalKind). scope_fault u n (next_scope k no_scope)) a b, tt),
+        ap (λ (k : TerminalKind). scope_fault o k no_scope) a,
+        (ap₂ (λ (k n : TerminalKind). scope_fault o n (next_scope k no_scope)) a b, tt),
       );
       spelled = λ more.
           ap₂ (λ (k n : TerminalKind). terminal k (at_of true no_scope l)

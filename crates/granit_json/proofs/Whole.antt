@@ -90,8 +90,8 @@ rooted_read o x tell source end n =
         spelled = n.passage.spelled (terminal TheEnd i ∷ []) ∙ sym spelled;
         placed = (tt, n.placed _ plain_root (terminal TheEnd i));
         within = n.within o.block_nesting_limit 0 true;
-        means = subst (Means o.emit_unresolved_aliases) (sym spelled)
-            (means_append o.emit_unresolved_aliases (scoped no_scope (seen n.passage.lexemes))
+        means = subst (Means o) (sym spelled)
+            (means_append o (scoped no_scope (seen n.passage.lexemes))
             (terminal TheEnd i ∷ []) n.passage.means (refl, tt));
         events_are = refl;
       };

@@ -1,6 +1,8 @@
 -- What stands declared at a place, said of the lexemes before it (YAML 1.2.2, 3.2.2.2, 6.8 and 6.9).
-use Rattle.std.specs.Prelude.{◌≡◌, ℕ, suc, Bool, true, false, nat_eq, List, [], ◌∷◌, ◌++◌, ◌⊎◌}
+use Rattle.std.specs.Prelude.{◌≡◌, ℕ, suc, Bool, true, false, nat_eq, nat_lt, ◌==◌, List, [], ◌∷◌, ◌++◌, length, codes}
+use Rattle.std.specs.Prelude.{◌⊎◌}
 use lib.Pointwise.{pointwise}
+use Rattle.granit_error.specs.OptionsData.{OptionsData}
 use Rattle.granit_language.specs.Terminal.{Anchor, Property, TerminalKind, Directive, DocumentStart, DocumentEnd, Part}
 use Rattle.granit_language.specs.Terminal.{Terminal}
 use Rattle.granit_lexemes.specs.Lexeme.{Version, TagPrefix}
@@ -60,6 +62,19 @@ pub record NoneBehind (test : TerminalKind → Bool) (front : List Terminal) : T
 abbrev pub NoneSince : (TerminalKind → Bool) → List Terminal → Type 0
 NoneSince test front = NoneBehind test front ⊎ Without test front
 
+-- nothing that a test finds at all
+abbrev pub Never : (TerminalKind → Bool) → List Terminal → Type 0
+Never test [] = Unit {0}
+Never test (x ∷ xs) = (test x.kind ≡ false) × Never test xs
+
+-- the last lexeme that a test finds, whatever marks stand behind it
+pub record LastEver (test : TerminalKind → Bool) (front : List Terminal) (found : Terminal) : Type 0 where
+  pub before : List Terminal
+  pub within : List Terminal
+  pub is : front ≡ before ++ (found ∷ within)
+  pub last : Never test within
+  pub found_is : test found.kind ≡ true
+
 -- The last anchor of the name in the document, n by its position among all anchors.
 pub record NamedBy (name : List ℕ) (front : List Terminal) (n : ℕ) : Type 0 where
   pub anchor : Terminal
@@ -91,3 +106,25 @@ pub record NotInForce (handle : List ℕ) (front : List Terminal) : Type 0 where
   pub is : front ≡ before ++ (mark ∷ within)
   pub last : Without no_kind within
   pub declares_not : (mark.kind ≡ DocumentEnd) ⊎ ((mark.kind ≡ DocumentStart) × NoneSince (is_handle_of handle) before)
+
+-- the last directive of the handle, of this document or of an earlier one
+pub record DeclaredEver (handle : List ℕ) (front : List Terminal) (prefix : List ℕ) : Type 0 where
+  pub directive : Terminal
+  pub other : List ℕ
+  pub directive_is : directive.kind ≡ Directive (TagPrefix other prefix)
+  pub stands : LastEver (is_handle_of handle) front directive
+
+-- What a handle stands for behind these lexemes: what its document declares; else, where handles stay over documents,
+-- what was declared last, of `!` and `!!` never; else `!!` stands for the tags that YAML itself has, and `!` and no
+-- handle for themselves (YAML 1.2.2, 6.8.2).
+pub data StandsFor (o : OptionsData) (handle : List ℕ) (front : List Terminal) : List ℕ → Type 0 where
+  by_document : {prefix : List ℕ} → InForce handle front prefix → StandsFor o handle front prefix
+  by_earlier :
+      {prefix : List ℕ} → NotInForce handle front ⊎ Without no_kind front → o.keep_tags ≡ true →
+      nat_lt 2 (length handle) ≡ true → DeclaredEver handle front prefix → StandsFor o handle front prefix
+  of_core :
+      NotInForce handle front ⊎ Without no_kind front → (length handle == 2) ≡ true →
+      StandsFor o handle front (codes "tag:yaml.org,2002:")
+  of_itself :
+      NotInForce handle front ⊎ Without no_kind front → nat_lt 2 (length handle) ≡ false →
+      StandsFor o handle front handle

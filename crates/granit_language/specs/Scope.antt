@@ -12,9 +12,11 @@ pub record Scope : Type 0 where
   -- the same, and the version, of directives whose `---` must come
   pub pending : List (List ℕ × List ℕ)
   pub version : Option (ℕ × ℕ)
+  -- what the handles of all directives so far stand for, the last first
+  pub all_handles : List (List ℕ × List ℕ)
 
 abbrev pub no_scope : Scope
-no_scope = record { count = 0; names = []; handles = []; pending = []; version = None }
+no_scope = record { count = 0; names = []; handles = []; pending = []; version = None; all_handles = [] }
 
 -- what a list says of a text: the first entry counts
 abbrev pub entry_of : {A : Type 0} → List ℕ → List (List ℕ × A) → Option A

@@ -1,7 +1,9 @@
 -- How lexemes declare, what they mean by what was declared before them, and which of them mean nothing.
-use Rattle.std.specs.Prelude.{◌≡◌, ℕ, suc, Bool, true, false, ◌==◌, nat_lt, if◌then◌else◌, List, [], ◌∷◌, length, codes}
+use Rattle.std.specs.Prelude.{◌≡◌, ℕ, suc, Bool, true, false, ◌&&◌, ◌==◌, nat_lt, if◌then◌else◌, List, [], ◌∷◌, length}
+use Rattle.std.specs.Prelude.{codes}
 use Rattle.std.specs.Prelude.{Option, Some, None}
 use Rattle.granit_base.specs.Written.{Written}
+use Rattle.granit_error.specs.OptionsData.{OptionsData}
 use Rattle.granit_language.specs.GrammarFault.{GrammarFault, DuplicateVersionDirective, UnsupportedYamlMajorVersion}
 use Rattle.granit_language.specs.GrammarFault.{DuplicateTagDirective, UnknownAnchor, UndeclaredTagHandle}
 use Rattle.granit_language.specs.Scope.{Scope, entry_of}
@@ -15,9 +17,10 @@ with_anchor_named name s = record s { count = suc s.count; names = (name.charact
 -- what stands behind a lexeme
 abbrev pub next_scope : TerminalKind → Scope → Scope
 next_scope (Directive (Version major minor)) s = record s { version = Some (major, minor) }
-next_scope (Directive (TagPrefix handle prefix)) s = record s { pending = (handle, prefix) ∷ s.pending }
-next_scope DocumentStart s = record { count = s.count; names = []; handles = s.pending; pending = []; version = None }
-next_scope DocumentEnd s = record { count = s.count; names = []; handles = []; pending = []; version = None }
+next_scope (Directive (TagPrefix handle prefix)) s =
+    record s { pending = (handle, prefix) ∷ s.pending; all_handles = (handle, prefix) ∷ s.all_handles }
+next_scope DocumentStart s = record s { names = []; handles = s.pending; pending = []; version = None }
+next_scope DocumentEnd s = record s { names = []; handles = []; pending = []; version = None }
 next_scope (Part (Property (Anchor name))) s = with_anchor_named name s
 next_scope kind s = s
 
@@ -38,13 +41,21 @@ scoped s (x ∷ xs) = in_scope s x ∷ scoped (next_scope x.kind s) xs
 abbrev pub if_longer : ℕ → Option (List ℕ) → Option (List ℕ) → Option (List ℕ)
 if_longer n a b = if n == 2 then Some (codes "tag:yaml.org,2002:") else if nat_lt 2 n then a else b
 
--- the prefix that the document declares; else that of `!!`; `!` and no handle stay; another stands for nothing
+-- the prefix that is declared; else that of `!!`; `!` and no handle stay; another stands for nothing
 abbrev pub prefix_by : List ℕ → Option (List ℕ) → Option (List ℕ)
 prefix_by handle (Some prefix) = Some prefix
 prefix_by handle None = if_longer (length handle) None (Some handle)
 
-abbrev pub prefix_of : List ℕ → Scope → Option (List ℕ)
-prefix_of handle s = prefix_by handle (entry_of handle s.handles)
+-- what a handle stood for last, where handles stay over documents; `!` and `!!` never do
+abbrev pub kept_of : OptionsData → List ℕ → Scope → Option (List ℕ)
+kept_of o handle s = if nat_lt 2 (length handle) && o.keep_tags then entry_of handle s.all_handles else None
+
+abbrev pub or_kept : Option (List ℕ) → Option (List ℕ) → Option (List ℕ)
+or_kept (Some prefix) kept = Some prefix
+or_kept None kept = kept
+
+abbrev pub prefix_of : OptionsData → List ℕ → Scope → Option (List ℕ)
+prefix_of o handle s = prefix_by handle (or_kept (entry_of handle s.handles) (kept_of o handle s))
 
 abbrev pub number_of_anchor : List ℕ → Scope → Option ℕ
 number_of_anchor name s = entry_of name s.names
@@ -70,15 +81,15 @@ abbrev pub handle_fault : Option (List ℕ) → Option GrammarFault
 handle_fault (Some known) = Some DuplicateTagDirective
 handle_fault None = None
 
--- the kind of a lexeme that means nothing, by what stands before it; whether an alias of no anchor may stay
-abbrev pub scope_fault : Bool → TerminalKind → Scope → Option GrammarFault
-scope_fault unresolved (Part (Alias name)) s = alias_fault unresolved (number_of_anchor name.characters s)
-scope_fault unresolved (Part (Property (Tag handle suffix))) s = fault_if_none (prefix_of handle s) UndeclaredTagHandle
-scope_fault unresolved (Directive (Version major minor)) s = version_fault major s.version
-scope_fault unresolved (Directive (TagPrefix handle prefix)) s = handle_fault (entry_of handle s.pending)
-scope_fault unresolved kind s = None
+-- the kind of a lexeme that means nothing, by what stands before it
+abbrev pub scope_fault : OptionsData → TerminalKind → Scope → Option GrammarFault
+scope_fault o (Part (Alias name)) s = alias_fault o.emit_unresolved_aliases (number_of_anchor name.characters s)
+scope_fault o (Part (Property (Tag handle suffix))) s = fault_if_none (prefix_of o handle s) UndeclaredTagHandle
+scope_fault o (Directive (Version major minor)) s = version_fault major s.version
+scope_fault o (Directive (TagPrefix handle prefix)) s = handle_fault (entry_of handle s.pending)
+scope_fault o kind s = None
 
 -- each lexeme means something by what stands before it
-abbrev pub Means : Bool → List Terminal → Type 0
-Means unresolved [] = Unit {0}
-Means unresolved (x ∷ xs) = (scope_fault unresolved x.kind x.at.scope ≡ None) × Means unresolved xs
+abbrev pub Means : OptionsData → List Terminal → Type 0
+Means o [] = Unit {0}
+Means o (x ∷ xs) = (scope_fault o x.kind x.at.scope ≡ None) × Means o xs

@@ -36,11 +36,11 @@ abbrev pub or_handle : List ℕ → Option (List ℕ) → List ℕ
 or_handle handle (Some prefix) = prefix
 or_handle handle None = handle
 
-abbrev pub tag_in : PropertyKind → At → TagTold → TagTold
-tag_in (Anchor name) i other = other
-tag_in (Tag handle suffix) i other =
+abbrev pub tag_in : OptionsData → PropertyKind → At → TagTold → TagTold
+tag_in o (Anchor name) i other = other
+tag_in o (Tag handle suffix) i other =
     Some (
-      record { handle = or_handle handle (prefix_of handle i.scope); suffix = suffix; original_handle = handle },
+      record { handle = or_handle handle (prefix_of o handle i.scope); suffix = suffix; original_handle = handle },
       i.shown,
     )
 
@@ -49,10 +49,10 @@ properties_anchor NoProperties = None
 properties_anchor (One k i) = anchor_in k i None
 properties_anchor (Two k i m j) = anchor_in m j (anchor_in k i None)
 
-abbrev pub properties_tag : TreeProperties → TagTold
-properties_tag NoProperties = None
-properties_tag (One k i) = tag_in k i None
-properties_tag (Two k i m j) = tag_in m j (tag_in k i None)
+abbrev pub properties_tag : OptionsData → TreeProperties → TagTold
+properties_tag o NoProperties = None
+properties_tag o (One k i) = tag_in o k i None
+properties_tag o (Two k i m j) = tag_in o m j (tag_in o k i None)
 
 abbrev pub number_told : AnchorTold → ℕ
 number_told None = 0
@@ -93,8 +93,8 @@ abbrev pub node_told :
     OptionsData → TreeProperties → (ℕ → Option PlainTag → plain.EventKind) → Mark → Mark → Option ℕ → List PlainEvent
 node_told o p kind from to indent =
     record {
-      kind = kind (number_told (properties_anchor p)) (tag_told (properties_tag p));
-      span = span_told (properties_tag p) from to (indent_told indent);
+      kind = kind (number_told (properties_anchor p)) (tag_told (properties_tag o p));
+      span = span_told (properties_tag o p) from to (indent_told indent);
     }
     ∷ anchor_told o (properties_anchor p) []
 

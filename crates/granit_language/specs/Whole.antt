@@ -2,8 +2,8 @@
 use Rattle.std.specs.Prelude.{◌≡◌, ℕ, Bool, true, false, ◌==◌, nat_lt, List, [], ◌∷◌, ◌++◌, length, ◌⊎◌}
 use Rattle.granit_base.specs.Written.{Written}
 use Rattle.granit_error.specs.OptionsData.{OptionsData}
-use Rattle.granit_language.specs.Declared.{is_anchor_of, is_version, no_kind, Without, LastSince, NoneSince, DeclaredBy}
-use Rattle.granit_language.specs.Declared.{NotInForce}
+use Rattle.granit_language.specs.Declared.{is_anchor_of, is_handle_of, is_version, no_kind, Without, LastSince, Never}
+use Rattle.granit_language.specs.Declared.{NoneSince, DeclaredBy, NotInForce}
 use Rattle.granit_language.specs.Faults.{IsSpelled, FaultAt}
 use Rattle.granit_language.specs.GrammarFault.{GrammarFault, TooManyBlocks, DuplicateVersionDirective}
 use Rattle.granit_language.specs.GrammarFault.{UnsupportedYamlMajorVersion, DuplicateTagDirective, UnknownAnchor}
@@ -27,26 +27,27 @@ pub record WholeReading (o : OptionsData) (xs : List Terminal) (es : List TreeEv
   pub spelled : spell_stream stream [] ≡ scoped no_scope xs
   pub placed : StreamPlaced stream
   pub within : stream_within o.block_nesting_limit stream ≡ true
-  pub means : Means o.emit_unresolved_aliases (scoped no_scope xs)
+  pub means : Means o (scoped no_scope xs)
   pub events_are : es ≡ stream_events stream []
 
 -- Why a lexeme behind these means nothing.
-pub data ScopeCause (unresolved : Bool) (front : List Terminal) : TerminalKind → GrammarFault → Type 0 where
+pub data ScopeCause (o : OptionsData) (front : List Terminal) : TerminalKind → GrammarFault → Type 0 where
   no_anchor :
-      {name : Written} → unresolved ≡ false → NoneSince (is_anchor_of name.characters) front →
-      ScopeCause unresolved front (Part (Alias name)) UnknownAnchor
+      {name : Written} → o.emit_unresolved_aliases ≡ false → NoneSince (is_anchor_of name.characters) front →
+      ScopeCause o front (Part (Alias name)) UnknownAnchor
   no_handle :
       {handle suffix : List ℕ} → nat_lt 2 (length handle) ≡ true → NotInForce handle front ⊎ Without no_kind front →
-      ScopeCause unresolved front (Part (Property (Tag handle suffix))) UndeclaredTagHandle
+      (o.keep_tags ≡ false) ⊎ Never (is_handle_of handle) front →
+      ScopeCause o front (Part (Property (Tag handle suffix))) UndeclaredTagHandle
   second_version :
       {major minor : ℕ} → (first : Terminal) → LastSince is_version front first →
-      ScopeCause unresolved front (Directive (Version major minor)) DuplicateVersionDirective
+      ScopeCause o front (Directive (Version major minor)) DuplicateVersionDirective
   other_version :
       {major minor : ℕ} → (major == 1) ≡ false → NoneSince is_version front →
-      ScopeCause unresolved front (Directive (Version major minor)) UnsupportedYamlMajorVersion
+      ScopeCause o front (Directive (Version major minor)) UnsupportedYamlMajorVersion
   second_handle :
       {handle prefix : List ℕ} → (first : List ℕ) → DeclaredBy handle front first →
-      ScopeCause unresolved front (Directive (TagPrefix handle prefix)) DuplicateTagDirective
+      ScopeCause o front (Directive (TagPrefix handle prefix)) DuplicateTagDirective
 
 -- a stream that keeps the limit begins so
 abbrev pub IsWithin : ℕ → List Terminal → Type 0
@@ -56,7 +57,7 @@ IsWithin n xs = (s : Stream) × (spell_stream s [] ≡ xs) × StreamPlaced s × 
 pub record Viable (o : OptionsData) (xs : List Terminal) : Type 0 where
   pub more : List Terminal
   pub within : IsWithin o.block_nesting_limit (scoped no_scope xs ++ more)
-  pub means : Means o.emit_unresolved_aliases (scoped no_scope xs)
+  pub means : Means o (scoped no_scope xs)
 
 -- The last lexeme begins a block collection: a `-` a sequence, indentless or not, another one a mapping.
 pub data BeginsBlock (xs : List Terminal) : TerminalKind → (indentless : Bool) → Type 0 where
@@ -81,7 +82,7 @@ pub data LexemeCause (o : OptionsData) (front : List Terminal) (kind : TerminalK
   means_nothing :
       {k : GrammarFault} (more : List Terminal) →
       IsWithin o.block_nesting_limit (scoped no_scope front ++ (x ∷ more)) →
-      ScopeCause o.emit_unresolved_aliases front kind k → LexemeCause o front kind x k
+      ScopeCause o front kind k → LexemeCause o front kind x k
 
 -- Lexemes with which a reading begins, and the next one, with which none goes on, for a cause.
 pub record WholeFault (o : OptionsData) (xs : List Terminal) (k : GrammarFault) (x : Terminal) : Type 0 where

@@ -1,3 +1,3 @@
-mod GatherLemmas
+pub mod GatherLemmas
 mod LoadLemmas
 mod StreamLemmas

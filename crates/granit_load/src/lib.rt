@@ -6,5 +6,5 @@ mod load;
 mod streams;
 
 pub use fallible::load_fallible;
-pub use load::{Events, load_str};
+pub use load::{Events, gather, load_str};
 pub use streams::load_chars;

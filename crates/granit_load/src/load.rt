@@ -94,7 +94,7 @@ impl<'a> Events<'a> {
 }
 
 /// All events that a parser still gives.
-pub(crate) fn gather<'a, T: BorrowedInput<'a>>(
+pub fn gather<'a, T: BorrowedInput<'a>>(
     alloc: Global,
     parser: &mut Parser<'a, T>,
 ) -> Result<Events<'a>, ScanError>

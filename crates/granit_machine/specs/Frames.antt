@@ -59,10 +59,21 @@ pub record ParserState : Type 0 where
   pub names : List (List ℕ × ℕ)
   -- the handles of the document's directives, and what they stand for
   pub handles : List (List ℕ × List ℕ)
+  -- the same of all directives so far, where handles stay over documents
+  pub kept : List (List ℕ × List ℕ)
   pub waiting : Option Waiting
   -- the events of this step so far
   pub given : List PlainEvent
 
 abbrev pub parser_start : Mark → ParserState
-parser_start m =
-    record { frames = []; stage = Fresh; last_end = m; count = 0; names = []; handles = []; waiting = None; given = [] }
+parser_start m = record {
+  frames = [];
+  stage = Fresh;
+  last_end = m;
+  count = 0;
+  names = [];
+  handles = [];
+  kept = [];
+  waiting = None;
+  given = [];
+}

@@ -1,5 +1,6 @@
 -- A lexeme where a node must stand (YAML 1.2.2, 6.9, 7.1 and 8.2).
-use Rattle.std.specs.Prelude.{ℕ, suc, ◌-◌, Bool, true, false, ◌==◌, nat_lt, nat_le, if◌then◌else◌, List, [], ◌∷◌, ◌++◌}
+use Rattle.std.specs.Prelude.{ℕ, suc, ◌-◌, Bool, true, false, ◌&&◌, ◌==◌, nat_lt, nat_le, if◌then◌else◌, List, [], ◌∷◌}
+use Rattle.std.specs.Prelude.{◌++◌}
 use Rattle.std.specs.Prelude.{length, codes, Option, Some, None, Result, Ok}
 use Rattle.granit_base.specs.Written.{Written}
 use Rattle.granit_base.specs.declared.style.Placement.TheVariants.{Right}
@@ -37,6 +38,14 @@ alias_by o t name (Some n) p = Ok (finish (node_event o (λ number tag. Alias n)
 alias_by o t name None p =
     if o.emit_unresolved_aliases then
     Ok (finish (node_event o (λ number tag. UnresolvedAlias name) t.lexeme.shown None p)) else misplaced UnknownAnchor t
+
+-- what a handle stands for by the document's directives, or by earlier ones where handles stay; `!` and `!!` never do
+abbrev pub or_kept : OptionsData → List ℕ → (known kept : Option (List ℕ)) → Option (List ℕ)
+or_kept o handle (Some prefix) kept = Some prefix
+or_kept o handle None kept = if nat_lt 2 (length handle) && o.keep_tags then kept else None
+
+abbrev pub known_prefix : OptionsData → List ℕ → ParserState → Option (List ℕ)
+known_prefix o handle p = or_kept o handle (lookup_text handle p.handles) (lookup_text handle p.kept)
 
 abbrev pub tag_prefix : Token → List ℕ → Option (List ℕ) → Result (List ℕ) Fault
 tag_prefix t handle (Some prefix) = Ok prefix
@@ -114,7 +123,7 @@ bare_by o (lexemes.Scalar style text) t p =
 bare_by o (lexemes.Open bracket) t p = Ok (open_flow o bracket t p)
 bare_by o (lexemes.Anchor name) t p = Ok (anchored t name (flush p))
 bare_by o (lexemes.Tag handle suffix) t p =
-    tag_prefix t handle (lookup_text handle p.handles) >>= λ prefix. Ok (tagged t handle suffix prefix (flush p))
+    tag_prefix t handle (known_prefix o handle p) >>= λ prefix. Ok (tagged t handle suffix prefix (flush p))
 bare_by o lexemes.Dash t p =
     take_dash o t (first_dash (may_be_indentless (token_number t) (below_properties p.frames))) false p
 bare_by o lexemes.Question t p = begin_block o block_mapping t.lexeme.start (BlockMapping (token_number t) AtQuestion) p

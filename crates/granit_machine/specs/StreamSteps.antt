@@ -1,5 +1,5 @@
 -- A lexeme around documents (YAML 1.2.2, chapter 9).
-use Rattle.std.specs.Prelude.{ℕ, true, false, ◌==◌, if◌then◌else◌, List, [], ◌∷◌, Option, Some, None, Ok}
+use Rattle.std.specs.Prelude.{ℕ, Bool, true, false, ◌==◌, if◌then◌else◌, List, [], ◌∷◌, Option, Some, None, Ok}
 use Rattle.granit_error.specs.FaultKind.{ExpectedDocumentStart, MissingDocumentEndBeforeDirective}
 use Rattle.granit_error.specs.FaultKind.{DuplicateVersionDirective, UnsupportedYamlMajorVersion, DuplicateTagDirective}
 use Rattle.granit_error.specs.FaultKind.{UnexpectedEofBlockSequence}
@@ -26,25 +26,33 @@ with_version t None major minor p =
     if major == 1 then Ok (record p { stage = Directives (Some (record { major = major; minor = minor })) })
     else misplaced UnsupportedYamlMajorVersion t
 
-abbrev pub with_handle : Token → Option PlainVersion → List ℕ → List ℕ → Option (List ℕ) → ParserState → Stepped
-with_handle t version handle prefix (Some known) p = misplaced DuplicateTagDirective t
-with_handle t version handle prefix None p =
-    Ok (record p { handles = remembered handle prefix p.handles; stage = Directives version })
+-- a handle of the document, which may stay over documents
+abbrev pub declared : Bool → List ℕ → List ℕ → ParserState → ParserState
+declared stays handle prefix p = record p {
+  handles = remembered handle prefix p.handles;
+  kept = if stays then remembered handle prefix p.kept else p.kept;
+}
+
+abbrev pub with_handle :
+    OptionsData → Token → Option PlainVersion → List ℕ → List ℕ → Option (List ℕ) → ParserState → Stepped
+with_handle o t version handle prefix (Some known) p = misplaced DuplicateTagDirective t
+with_handle o t version handle prefix None p =
+    Ok (record (declared o.keep_tags handle prefix p) { stage = Directives version })
 
 abbrev pub open_document : Token → Option PlainVersion → ParserState → Stepped
 open_document t version p =
     let q = give (event_at (DocumentStart true version) t.lexeme.shown) (record p { names = []; stage = Inside }) in
     Ok (record q { frames = Root true ∷ q.frames })
 
-abbrev pub with_directive : Token → DirectiveKind → Option PlainVersion → ParserState → Stepped
-with_directive t (Version major minor) version p = with_version t version major minor p
-with_directive t (TagPrefix handle prefix) version p =
-    with_handle t version handle prefix (lookup_text handle p.handles) p
-with_directive t (Reserved name parameters) version p = Ok (record p { stage = Directives version })
+abbrev pub with_directive : OptionsData → Token → DirectiveKind → Option PlainVersion → ParserState → Stepped
+with_directive o t (Version major minor) version p = with_version t version major minor p
+with_directive o t (TagPrefix handle prefix) version p =
+    with_handle o t version handle prefix (lookup_text handle p.handles) p
+with_directive o t (Reserved name parameters) version p = Ok (record p { stage = Directives version })
 
 -- behind directives: another, or `---`
 abbrev pub behind_directives : OptionsData → LexemeKind → Token → Option PlainVersion → ParserState → Stepped
-behind_directives o (lexemes.Directive d) t version p = with_directive t d version p
+behind_directives o (lexemes.Directive d) t version p = with_directive o t d version p
 behind_directives o lexemes.DocumentStart t version p = open_document t version p
 behind_directives o kind t version p = misplaced ExpectedDocumentStart t
 
@@ -66,7 +74,7 @@ without_directives p = record p { handles = []; names = [] }
 abbrev pub when_fresh : OptionsData → LexemeKind → Token → ParserState → Stepped
 when_fresh o lexemes.DocumentEnd t p = Ok (flush p)
 when_fresh o lexemes.StreamEnd t p = Ok (give (event_at StreamEnd t.lexeme.shown) p)
-when_fresh o (lexemes.Directive d) t p = with_directive t d None (without_directives p)
+when_fresh o (lexemes.Directive d) t p = with_directive o t d None (without_directives p)
 when_fresh o lexemes.DocumentStart t p = open_document t None (record p { handles = [] })
 when_fresh o kind t p = begin_document o t p
 

@@ -2,7 +2,8 @@
 //! what the original prints, with docs/DIFFERENCES.md built in.
 ghost use Rattle.std.specs.Prelude.{◌≡◌, [], ◌∷◌, ◌++◌, codes};
 ghost use Rattle.granit_machine.specs.Events.{prints, prints_under};
-ghost use Rattle.granit_machine.specs.ExampleOptions.{anchors_told, one_comment, strict_lines, unresolved_left};
+ghost use Rattle.granit_machine.specs.ExampleOptions.{anchors_told, one_comment, strict_lines, tags_kept};
+ghost use Rattle.granit_machine.specs.ExampleOptions.{unresolved_left};
 ghost use Rattle.granit_machine.specs.LongTexts.{last_lines, line_count, repeated};
 
 /// What is told of whole texts.
@@ -234,4 +235,45 @@ pub fn worked_options()
         ≡ (codes "StreamStart 0:1:1-0:1:1\nDocumentStart implicit 0:1:1-2:1:3\n"
         ++ codes "Scalar plain \"x\" &1 3:1:4-4:1:5\nAnchor 1 \"a\" 0:1:1-2:1:3\nDocumentEnd 4:1:5-4:1:5\n"
         ++ codes "StreamEnd 4:1:5-4:1:5\n") }
+{}
+
+/// Handles that stay over documents, and what they stand for.
+pub fn worked_tags()
+    ensures forgotten { prints (codes "%TAG !t! tag:t:\n--- !t!x a\n--- !t!y b\n")
+        ≡ (codes "fault 38: the handle wasn't declared at char 31 line 3 column 5\n") }
+    ensures stays { prints_under tags_kept (codes "%TAG !t! tag:t:\n--- !t!x a\n--- !t!y b\n")
+        ≡ (codes "StreamStart 0:1:1-0:1:1\nDocumentStart explicit 16:2:1-19:2:4\n"
+        ++ codes "Scalar plain \"a\" !\"tag:t:\" \"x\" 25:2:10-26:2:11\nDocumentEnd 26:2:11-26:2:11\n"
+        ++ codes "DocumentStart explicit 27:3:1-30:3:4\nScalar plain \"b\" !\"tag:t:\" \"y\" 36:3:10-37:3:11\n"
+        ++ codes "DocumentEnd 37:3:11-37:3:11\nStreamEnd 38:4:1-38:4:1\n") }
+    ensures core { prints_under tags_kept (codes "%TAG !! tag:e,\n--- !!x a\n--- !!y b\n")
+        ≡ (codes "StreamStart 0:1:1-0:1:1\nDocumentStart explicit 15:2:1-18:2:4\n"
+        ++ codes "Scalar plain \"a\" !\"tag:e,\" \"x\" 23:2:9-24:2:10\nDocumentEnd 24:2:10-24:2:10\n"
+        ++ codes "DocumentStart explicit 25:3:1-28:3:4\n"
+        ++ codes "Scalar plain \"b\" !\"tag:yaml.org,2002:\" \"y\" 33:3:9-34:3:10\n"
+        ++ codes "DocumentEnd 34:3:10-34:3:10\nStreamEnd 35:4:1-35:4:1\n") }
+    ensures primary { prints_under tags_kept (codes "%TAG ! tag:e,\n--- !x a\n--- !y b\n")
+        ≡ (codes "StreamStart 0:1:1-0:1:1\nDocumentStart explicit 14:2:1-17:2:4\n"
+        ++ codes "Scalar plain \"a\" !\"tag:e,\" \"x\" 21:2:8-22:2:9\nDocumentEnd 22:2:9-22:2:9\n"
+        ++ codes "DocumentStart explicit 23:3:1-26:3:4\nScalar plain \"b\" !\"!\" \"y\" 30:3:8-31:3:9\n"
+        ++ codes "DocumentEnd 31:3:9-31:3:9\nStreamEnd 32:4:1-32:4:1\n") }
+    ensures told_again { prints_under tags_kept
+        (codes "%TAG !e! one:\n--- !e!x a\n...\n%TAG !e! two:\n--- !e!y b\n...\n--- !e!z c")
+        ≡ (codes "StreamStart 0:1:1-0:1:1\nDocumentStart explicit 14:2:1-17:2:4\n"
+        ++ codes "Scalar plain \"a\" !\"one:\" \"x\" 23:2:10-24:2:11\nDocumentEnd 25:3:1-28:3:4\n"
+        ++ codes "DocumentStart explicit 43:5:1-46:5:4\nScalar plain \"b\" !\"two:\" \"y\" 52:5:10-53:5:11\n"
+        ++ codes "DocumentEnd 54:6:1-57:6:4\nDocumentStart explicit 58:7:1-61:7:4\n"
+        ++ codes "Scalar plain \"c\" !\"two:\" \"z\" 67:7:10-68:7:11\nDocumentEnd 68:7:11-68:7:11\n"
+        ++ codes "StreamEnd 68:7:11-68:7:11\n") }
+    ensures beside_another { prints_under tags_kept (codes "%TAG !e! t:\n---\n...\n%TAG !f! u:\n--- !e!a [!f!b c]\n")
+        ≡ (codes "StreamStart 0:1:1-0:1:1\nDocumentStart explicit 12:2:1-15:2:4\n"
+        ++ codes "Scalar plain \"~\" 15:2:4-15:2:4\nDocumentEnd 16:3:1-19:3:4\n"
+        ++ codes "DocumentStart explicit 32:5:1-35:5:4\nSequenceStart flow !\"t:\" \"a\" 41:5:10-42:5:11\n"
+        ++ codes "Scalar plain \"c\" !\"u:\" \"b\" 47:5:16-48:5:17\nSequenceEnd 48:5:17-49:5:18\n"
+        ++ codes "DocumentEnd 49:5:18-49:5:18\nStreamEnd 50:6:1-50:6:1\n") }
+    ensures two_handles { prints_under tags_kept (codes "%TAG !e! a\n%TAG !e! b\n---")
+        ≡ (codes "fault 25: the TAG directive must only be given at most once per handle "
+        ++ codes "in the same document at char 11 line 2 column 1\n") }
+    ensures never_told { prints_under tags_kept (codes "--- !q!x a")
+        ≡ (codes "fault 38: the handle wasn't declared at char 4 line 1 column 5\n") }
 {}

@@ -1,5 +1,5 @@
 //! A lexeme where a node must stand (YAML 1.2.2, 6.9, 7.1 and 8.2).
-ghost use Rattle.std.specs.Prelude.{◌≡◌, true, false, codes, length, None, Some, IfOk, OnOk};
+ghost use Rattle.std.specs.Prelude.{◌≡◌, true, false, codes, None, Some, IfOk, OnOk};
 ghost use Rattle.std.specs.Option.{option_map};
 ghost use Rattle.std.specs.Str.{chars};
 ghost use Rattle.granit_error.specs.OptionsView.{options_of};
@@ -18,7 +18,7 @@ ghost use Rattle.granit_machine.specs.Leaving.{LeavesIfRoom};
 use granit_base::{Marker, NoMemory, Placement, Span, StructureStyle, Text};
 use granit_error::{ErrorKind, Options, ScanError};
 use granit_event::{Event, Tag};
-use granit_frames::{Frame, PairStage, ParserState, Token, TokenSort};
+use granit_frames::{Frame, PairStage, ParserState, Token, TokenSort, length_of};
 use granit_items::{LexemeKind, Note};
 use granit_lexemes::Bracket;
 use std::alloc::Global;
@@ -80,8 +80,7 @@ fn unresolved<'input>(
 
 // Properties (YAML 1.2.2, 6.9).
 
-/// A tag of the node that must come, where a directive of the document says what its handle stands for
-/// (YAML 1.2.2, 6.8.2).
+/// A tag of the node that must come, where a directive says what its handle stands for (YAML 1.2.2, 6.8.2).
 fn tag<'input>(
     state: &mut ParserState<'input>,
     alloc: Global,
@@ -93,13 +92,13 @@ fn tag<'input>(
     ensures { LeavesIfRoom result state.new (steps.bare (options_of options.now)
         (of_kind (kinds.Tag handle.now suffix.now) token.now) state.old) }
 {
-    match state.prefix_of(handle) {
+    match state.known_prefix(options, handle) {
         Some(prefix) => {
             let tag = new_tag(alloc, prefix.as_str(), handle, suffix)?;
             Ok(state.tagged(tag, token)?)
         }
         None => {
-            let tag = new_tag(alloc, known_prefix(handle, token)?, handle, suffix)?;
+            let tag = new_tag(alloc, default_prefix(handle, token)?, handle, suffix)?;
             Ok(state.tagged(tag, token)?)
         }
     }
@@ -120,12 +119,6 @@ fn new_tag(
     Tag::with_original_handle(alloc, prefix, suffix.as_str(), handle.as_str())
 }
 
-fn length_of(text: &str) -> usize
-    ensures { result ≡ length (chars text.now) }
-{
-    text.chars().count()
-}
-
 /// The prefix of the tags that YAML itself has (YAML 1.2.2, 6.8.2.2).
 fn core_prefix<'a>() -> &'a str
     ensures { chars result.now ≡ codes "tag:yaml.org,2002:" }
@@ -133,8 +126,8 @@ fn core_prefix<'a>() -> &'a str
     "tag:yaml.org,2002:"
 }
 
-/// What a handle stands for, where no directive of the document says so (YAML 1.2.2, 6.8.2).
-fn known_prefix<'a>(handle: &'a Text<'_>, token: &Token<'_>) -> Result<&'a str, ScanError>
+/// What a handle stands for, where no directive says so (YAML 1.2.2, 6.8.2).
+fn default_prefix<'a>(handle: &'a Text<'_>, token: &Token<'_>) -> Result<&'a str, ScanError>
     ensures { GivesValue (λ s. chars s.now) result (steps.tag_prefix
         (machine_token token.now) handle.now.characters None) }
 {

@@ -1,3 +1,4 @@
+pub mod Numbers
 pub mod Parsing
 pub mod Receiving
 pub mod Sources

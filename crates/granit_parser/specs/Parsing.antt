@@ -1,5 +1,5 @@
 -- What contracts see of a parser, and what its calls give.
-use Rattle.std.specs.Prelude.{◌≡◌, ◌⊎◌, ℕ, true, List, [], ◌∷◌, ◌++◌, Option, Some, None, Result, Ok, Err, IfSome}
+use Rattle.std.specs.Prelude.{◌≡◌, ◌⊎◌, ℕ, Bool, true, List, [], ◌∷◌, ◌++◌, Option, Some, None, Result, Ok, Err, IfSome}
 use Rattle.std.specs.Prelude.{IfErr}
 use Rattle.granit_base.specs.Place.{Unread}
 use Rattle.granit_base.specs.declared.place.Span.{Span}
@@ -14,6 +14,8 @@ use Rattle.granit_input.specs.Origin.{Origin}
 use Rattle.granit_lexemes.specs.Outcome.{Fault, Fails}
 use Rattle.granit_lexemes.specs.PlainEvent.{PlainEvent}
 use Rattle.granit_parser.specs.Sources.{IfUnseen, MovesUnless, TellsError, TellsSource}
+use Rattle.granit_receivers.specs.Kept.{IsKept}
+use Rattle.granit_stepper.specs.Stepping as stepping
 use Rattle.granit_stepper.specs.Stepping.{Stepping, StandsIn}
 use Rattle.granit_steps.specs.Levels.{IsStream, BeginsStream}
 use Rattle.granit_steps.specs.Steps.{StepState, next_event}
@@ -38,15 +40,15 @@ pub record EndsBehind {I : Type 0} (r : Next) (given : Option Refused) (s : Step
   pub seen : EndsWith r s
   pub over : IfSome given (λ e. (r ≡ None) × (s.failed ≡ true))
 
--- a refusal as it is kept: itself, or want of memory where there was no room for it
-abbrev pub IsKept : Refused → Refused → Type 0
-IsKept e kept = (kept ≡ e) ⊎ (kept.kind ≡ NoMemory)
-
 -- a refusal that is given is kept, and nothing else changes what is kept
 abbrev pub Keeps : Next → (old new : Option Refused) → Type 0
 Keeps None old new = new ≡ old
 Keeps (Some (Ok e)) old new = new ≡ old
 Keeps (Some (Err e)) old new = (kept : Refused) × (new ≡ Some kept) × IsKept e kept
+
+-- the same parser, with handles that stay over documents or not
+abbrev pub keeping : {I : Type 0} → Bool → Parsing I → Parsing I
+keeping keep p = record p { stepper = stepping.keeping keep p.stepper }
 
 -- a call gives what the machine's step gives, and a state is then known in which that ends; a refusal is its fault,
 -- unless memory ran out

@@ -1,6 +1,6 @@
 -- What `load` and `try_load` send to a receiver.
-use Rattle.std.specs.Prelude.{◌≡◌, ◌⊎◌, ℕ, Bool, true, false, List, [], ◌∷◌, ◌++◌, Option, Some, None}
-use Rattle.std.specs.Prelude.{Result, Ok, Err, IfOk, IfErr}
+use Rattle.std.specs.Prelude.{◌≡◌, ◌⊎◌, Bool, true, false, List, [], ◌∷◌, ◌++◌, Option, Some, None}
+use Rattle.std.specs.Prelude.{Result, Ok, Err}
 use Rattle.granit_base.specs.Place.{Mark, Unread}
 use Rattle.granit_base.specs.declared.place.Span.{Span}
 use Rattle.granit_cursor.specs.Reading.{Reading, Stands}
@@ -12,9 +12,9 @@ use Rattle.granit_input.specs.Origin.{Origin}
 use Rattle.granit_lexemes.specs.Here.{Here, mark_of}
 use Rattle.granit_lexemes.specs.Outcome.{Fault, Fails}
 use Rattle.granit_lexemes.specs.PlainEvent.{PlainEvent, StreamEnd, event_on}
-use Rattle.granit_parser.specs.Parsing.{IsKept, Parsing, StandsAt}
+use Rattle.granit_parser.specs.Parsing.{Parsing, StandsAt}
 use Rattle.granit_parser.specs.Sources.{IsSourceError}
-use Rattle.granit_receivers.specs.Counts.{Rose}
+use Rattle.granit_receivers.specs.Kept.{IsKept}
 use Rattle.granit_receivers.specs.Sending.{is_last}
 use Rattle.granit_receivers.specs.declared.error.TryLoadError.{TryLoadError}
 use Rattle.granit_receivers.specs.declared.error.TryLoadError.TheVariants.{Scan, Receiver}
@@ -101,12 +101,6 @@ Tries unread origin o multi m Takes p (Err (Scan e)) = RefusesBehind origin o mu
 Tries unread origin o multi m Takes p (Err (Receiver e)) =
     StandsBehind unread Takes p (SendsUpTo o multi (IsPlaceOf unread p.stepper.scanner.cursor) m)
 
--- a count of a receiver's errors rose where it gave one, and is else as before
-abbrev pub CountsErrors : {X E : Type 0} → (old new : ℕ) → Result X (TryLoadError E) → Type 0
-CountsErrors old new (Ok x) = new ≡ old
-CountsErrors old new (Err (Scan e)) = new ≡ old
-CountsErrors old new (Err (Receiver e)) = Rose old new
-
 -- what the parser itself answered, where it didn't end by the receiver's refusal
 abbrev pub scanned : {X E : Type 0} → Result X (TryLoadError E) → Option (Result X Refused)
 scanned (Ok x) = Some (Ok x)
@@ -114,15 +108,6 @@ scanned (Err (Scan e)) = Some (Err e)
 scanned (Err (Receiver e)) = None
 
 -- ---- refusals
-
--- the same refusal, or want of memory
-abbrev pub GivesAgain : {X : Type 0} → Refused → Result X Refused → Type 0
-GivesAgain e r = IfOk r (λ x. ⊥) × IfErr r (λ f. IsKept e f)
-
--- what was given, as it is given again
-abbrev pub KeptAgain : Option Refused → Option Refused → Type 0
-KeptAgain None r = r ≡ None
-KeptAgain (Some e) r = (f : Refused) × (r ≡ Some f) × IsKept e f
 
 -- a refusal is kept, and behind anything else none is
 abbrev pub KeepsRefusal : {X : Type 0} → Result X Refused → Option Refused → Type 0
@@ -149,8 +134,3 @@ abbrev pub KeepsScan : {X E : Type 0} → Result X (TryLoadError E) → Option R
 KeepsScan (Ok x) given = given ≡ None
 KeepsScan (Err (Scan e)) given = (kept : Refused) × (given ≡ Some kept) × IsKept e kept
 KeepsScan (Err (Receiver e)) given = given ≡ None
-
-abbrev pub ScansAgain : {X E : Type 0} → Refused → Result X (TryLoadError E) → Type 0
-ScansAgain e (Ok x) = ⊥
-ScansAgain e (Err (Scan f)) = IsKept e f
-ScansAgain e (Err (Receiver f)) = ⊥

@@ -1,6 +1,7 @@
 //! The number that a parser's next anchor gets.
-ghost use Rattle.std.specs.Prelude.{◌≡◌, ◌-◌, ◌^◌, min, suc};
+ghost use Rattle.std.specs.Prelude.{◌≡◌};
 ghost use Rattle.granit_base.specs.Place.{Unread};
+ghost use Rattle.granit_parser.specs.Numbers.{next_number, with_number};
 ghost use Rattle.granit_stepper.specs.Offset.{with_offset};
 ghost use Rattle.granit_stepper.specs.Stepping.{StandsIn};
 ghost use Rattle.granit_steps.specs.Steps.{StepState};
@@ -11,7 +12,7 @@ use granit_input::Input;
 impl<'input, T: Input> Parser<'input, T> {
     /// The number that the next anchor gets, held at the greatest one.
     pub fn anchor_offset(&self) -> usize
-        ensures { result ≡ min (suc self.now.stepper.parser.count) (2 ^ 64 - 1) }
+        ensures { result ≡ next_number self.now }
     {
         self.stepper.anchor_offset()
     }
@@ -20,10 +21,7 @@ impl<'input, T: Input> Parser<'input, T> {
     pub fn set_anchor_offset(&mut self, offset: usize)
         ensures known { (m : StepState) → StandsIn T.unread self.old.stepper m
             → StandsIn T.unread self.new.stepper (with_offset offset m) }
-        ensures stepper { self.new.stepper ≡ record (self.old.stepper) {
-          parser = record (self.old.stepper.parser) { count = offset - 1 };
-        } }
-        ensures rest { self.new ≡ record self.old { stepper = self.new.stepper } }
+        ensures value { self.new ≡ with_number offset self.old }
     {
         self.stepper.set_anchor_offset(offset);
     }

@@ -5,7 +5,9 @@ mod anchors;
 mod fallible;
 mod parser;
 mod receive;
+mod stacked;
 mod streams;
+mod tags;
 
 pub use granit_receivers::{
     EventReceiver, ParseResult, SpannedEventReceiver, TryEventReceiver, TryLoadError,

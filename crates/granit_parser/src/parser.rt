@@ -16,7 +16,7 @@ ghost use Rattle.granit_input.specs.Strings.{Leaves};
 ghost use Rattle.granit_lexemes.specs.Here.{Here, first_place};
 ghost use Rattle.granit_lexemes.specs.PlainEvent.{PlainEvent};
 ghost use Rattle.granit_parser.specs.Parsing as spec;
-ghost use Rattle.granit_parser.specs.Parsing.{EndsBehind, EndsText, EndsTold, EndsWith, GivesNext, IsKept, IsOver};
+ghost use Rattle.granit_parser.specs.Parsing.{EndsBehind, EndsText, EndsTold, EndsWith, GivesNext, IsOver};
 ghost use Rattle.granit_parser.specs.Parsing.{Keeps, LeadsTo, PeeksAs, StandsAt};
 ghost use Rattle.granit_parser.specs.contracts.parser.Parser.{the_row};
 ghost use Rattle.granit_parser.specs.Sources.{IfUnseen, MovesUnless, TellsError, TellsSource, unless_failed};
@@ -30,6 +30,7 @@ use granit_base::Span;
 use granit_error::{Options, ScanError};
 use granit_event::Event;
 use granit_input::{BorrowedInput, Input, StrInput};
+use granit_receivers::kept;
 use granit_stepper::Stepper;
 use std::alloc::Global;
 use std::iter::FusedIterator;
@@ -62,6 +63,7 @@ impl<'input> Parser<'input, StrInput<'input>> {
     pub fn new_from_str(alloc: Global, value: &'input str) -> Parser<'input, StrInput<'input>>
         ensures start { StandsAt Leaves result (steps.steps_start (chars value.now)) }
         ensures options { result.stepper.scanner.options ≡ default_options }
+        ensures unseen { result.peeked ≡ None }
     {
         Parser::new_from_str_with_options(alloc, value, Options::default())
     }
@@ -74,6 +76,7 @@ impl<'input> Parser<'input, StrInput<'input>> {
     ) -> Parser<'input, StrInput<'input>>
         ensures start { StandsAt Leaves result (steps.steps_start (chars value.now)) }
         ensures options { result.stepper.scanner.options ≡ options_of options }
+        ensures unseen { result.peeked ≡ None }
     {
         Parser::with_options(alloc, StrInput::new(value), options)
     }
@@ -85,6 +88,7 @@ impl<'input, T: BorrowedInput<'input>> Parser<'input, T> {
         ensures start { (h : Here) → T.unread src h.unread → h.place ≡ first_place → h.begins_line ≡ true
             → h.tab ≡ None → StandsAt T.unread result (steps.start_from h) }
         ensures options { result.stepper.scanner.options ≡ default_options }
+        ensures unseen { result.peeked ≡ None }
         ensures input { result.stepper.scanner.cursor.input ≡ src }
     {
         Parser::with_options(alloc, src, Options::default())
@@ -95,6 +99,7 @@ impl<'input, T: BorrowedInput<'input>> Parser<'input, T> {
         ensures start { (h : Here) → T.unread src h.unread → h.place ≡ first_place → h.begins_line ≡ true
             → h.tab ≡ None → StandsAt T.unread result (steps.start_from h) }
         ensures options { result.stepper.scanner.options ≡ options_of options }
+        ensures unseen { result.peeked ≡ None }
         ensures input { result.stepper.scanner.cursor.input ≡ src }
     {
         Parser {
@@ -284,7 +289,8 @@ impl<'input, T: BorrowedInput<'input>> Parser<'input, T> {
         }
     }
 
-    /// The error that the source ends with, once: the input is passed up to its end. Nothing more is read behind an error.
+    /// The error that the source ends with, once: the input is passed up to its end. Nothing more is read behind an
+    /// error.
     pub fn end_error(&mut self) -> Option<ScanError>
         ensures told { (f : Option FaultKind) → (T.origin self.old.stepper.scanner.cursor.input).ends_with f
             → (T.origin self.old.stepper.scanner.cursor.input).handed_out ≡ false
@@ -308,16 +314,6 @@ fn unless_failed<'a>(
     match error {
         None => event,
         Some(error) => Some(Err(error)),
-    }
-}
-
-/// A refusal to be given again, or want of memory where there is no room for it.
-pub(crate) fn kept(alloc: Global, error: &ScanError) -> ScanError
-    ensures { IsKept error.now result }
-{
-    match error.try_clone(alloc) {
-        Ok(error) => error,
-        Err(no_memory) => ScanError::from(no_memory),
     }
 }
 

@@ -4,21 +4,24 @@ ghost use Rattle.granit_base.specs.Place.{Unread};
 ghost use Rattle.granit_error.specs.FaultKind.{NoMemory as OutOfMemory};
 ghost use Rattle.granit_error.specs.Refused.{Refused};
 ghost use Rattle.granit_event.specs.Events.{event_kind};
-ghost use Rattle.granit_parser.specs.Parsing.{IsKept, IsOver, StandsAt};
+ghost use Rattle.granit_parser.specs.Parsing.{IsOver, StandsAt};
 ghost use Rattle.granit_parser.specs.Receiving as spec;
-ghost use Rattle.granit_parser.specs.Receiving.{CountsErrors, GivesAgain, GivesFirst, KeepsRefusal, KeepsScan, Loads};
-ghost use Rattle.granit_parser.specs.Receiving.{LoadsRest, ScansAgain, Tries, TriesRest, scanned};
+ghost use Rattle.granit_parser.specs.Receiving.{GivesFirst, KeepsRefusal, KeepsScan, Loads, LoadsRest, Tries, TriesRest};
+ghost use Rattle.granit_parser.specs.Receiving.{scanned};
 ghost use Rattle.granit_parser.specs.Sources.{IfUnseen, MovesUnless, TellsError, TellsMet};
+ghost use Rattle.granit_receivers.specs.Kept.{CountsErrors, GivesAgain, KeptAgain, ScansAgain};
 ghost use Rattle.granit_receivers.specs.Taking.{Took};
 ghost use Rattle.granit_steps.specs.Steps as steps;
 ghost use Rattle.granit_steps.specs.Steps.{StepState};
 
-use crate::parser::{Parser, kept};
+use crate::parser::Parser;
 use granit_base::{NoMemory, Span};
 use granit_error::ScanError;
 use granit_event::Event;
 use granit_input::BorrowedInput;
-use granit_receivers::{SpannedEventReceiver, TryLoadError, TrySpannedEventReceiver, is_last};
+use granit_receivers::{
+    SpannedEventReceiver, TryLoadError, TrySpannedEventReceiver, is_last, kept,
+};
 
 impl<'input, T: BorrowedInput<'input>> Parser<'input, T> {
     /// Sends the next events to a receiver in order: those of the whole input with `multi`, else up to the end of a
@@ -171,7 +174,7 @@ impl<'input, T: BorrowedInput<'input>> Parser<'input, T> {
 
     /// What was refused before, again.
     fn given_again(&self) -> Option<ScanError>
-        ensures again { spec.KeptAgain self.now.given result }
+        ensures again { KeptAgain self.now.given result }
         ensures over { IfSome result (λ e. IsOver self.now) }
     {
         match &self.given {

@@ -9,3 +9,5 @@ mod failing;
 mod parser;
 #[cfg(test)]
 mod round_trip;
+#[cfg(test)]
+mod tags;

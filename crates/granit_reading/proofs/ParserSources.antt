@@ -28,6 +28,7 @@ use Rattle.granit_machine.specs.Laid.{Laid}
 use Rattle.granit_machine.specs.Machine.{asked_items, feed_all, settled, answered, run}
 use Rattle.granit_machine.specs.NodeEnds.{empty_span, begin_block, block_count, may_be_indentless}
 use Rattle.granit_machine.specs.NodeSteps.{alias_by, tag_prefix, DashRole, NextEntry, NewSequence, IndentlessSequence}
+use Rattle.granit_machine.specs.NodeSteps.{known_prefix}
 use Rattle.granit_machine.specs.NodeSteps.{dash_room, take_dash, first_dash, bare_by, bare, node_by, node, token_number}
 use Rattle.granit_machine.specs.Entries.{lookup_text}
 use Rattle.granit_machine.specs.Giving.{below_properties}
@@ -76,7 +77,7 @@ by_kind_none o (lexemes.Alias name) t p = alias_none o t name (lookup_text name.
 by_kind_none o (lexemes.Scalar style text) t p = ok_none
 by_kind_none o (lexemes.Open bracket) t p = ok_none
 by_kind_none o (lexemes.Anchor name) t p = ok_none
-by_kind_none o (lexemes.Tag handle suffix) t p = then_none (prefix_none t handle (lookup_text handle p.handles))
+by_kind_none o (lexemes.Tag handle suffix) t p = then_none (prefix_none t handle (known_prefix o handle p))
     (λ prefix. ok_none)
 by_kind_none o lexemes.Dash t p = dash_none o t
     (first_dash (may_be_indentless (token_number t) (below_properties p.frames))) false p
@@ -191,21 +192,22 @@ version_none : (t : Token) (version : Option PlainVersion) (major minor : ℕ) (
 version_none t (Some v) major minor p = err_none
 version_none t None major minor p = if_none (major == 1) ok_none err_none
 
-handle_none : (t : Token) (version : Option PlainVersion) (handle prefix : List ℕ) (known : Option (List ℕ))
-    (p : ParserState) → IsNameless (with_handle t version handle prefix known p)
-handle_none t version handle prefix (Some known) p = err_none
-handle_none t version handle prefix None p = ok_none
+handle_none : (o : OptionsData) (t : Token) (version : Option PlainVersion) (handle prefix : List ℕ)
+    (known : Option (List ℕ))
+    (p : ParserState) → IsNameless (with_handle o t version handle prefix known p)
+handle_none o t version handle prefix (Some known) p = err_none
+handle_none o t version handle prefix None p = ok_none
 
-directive_none : (t : Token) (d : DirectiveKind) (version : Option PlainVersion) (p : ParserState)
-    → IsNameless (with_directive t d version p)
-directive_none t (Version major minor) version p = version_none t version major minor p
-directive_none t (TagPrefix handle prefix) version p = handle_none t version handle prefix
+directive_none : (o : OptionsData) (t : Token) (d : DirectiveKind) (version : Option PlainVersion) (p : ParserState)
+    → IsNameless (with_directive o t d version p)
+directive_none o t (Version major minor) version p = version_none t version major minor p
+directive_none o t (TagPrefix handle prefix) version p = handle_none o t version handle prefix
     (lookup_text handle p.handles) p
-directive_none t (Reserved name parameters) version p = ok_none
+directive_none o t (Reserved name parameters) version p = ok_none
 
 directives_none : (o : OptionsData) (kind : LexemeKind) (t : Token) (version : Option PlainVersion) (p : ParserState)
     → IsNameless (behind_directives o kind t version p)
-directives_none o (lexemes.Directive d) t version p = directive_none t d version p
+directives_none o (lexemes.Directive d) t version p = directive_none o t d version p
 directives_none o lexemes.DocumentStart t version p = ok_none
 directives_none o kind t version p = err_none
 
@@ -215,7 +217,7 @@ document_none o t p = if_none (begins_node t.sort) (node_none o t _) err_none
 fresh_none : (o : OptionsData) (kind : LexemeKind) (t : Token) (p : ParserState) → IsNameless (when_fresh o kind t p)
 fresh_none o lexemes.DocumentEnd t p = ok_none
 fresh_none o lexemes.StreamEnd t p = ok_none
-fresh_none o (lexemes.Directive d) t p = directive_none t d None _
+fresh_none o (lexemes.Directive d) t p = directive_none o t d None _
 fresh_none o lexemes.DocumentStart t p = ok_none
 fresh_none o kind t p = document_none o t p
 

@@ -135,7 +135,7 @@ module _ (o : OptionsData) (x : List ℕ) where
       (same ∙ (b.is ∙ (ap (λ (more : List FlaggedItem). given ++ more) (b.all refl) ∙ append-nil given))) (n e)
 
   pub trees_answered : (s : Stream) → (r : ReadAsTrees o x s) → stream_within o.block_nesting_limit s ≡ true →
-      Means o.emit_unresolved_aliases (spell_stream s []) → (o.emit_comments ≡ true → NoneTooMany o r.items) →
+      Means o (spell_stream s []) → (o.emit_comments ≡ true → NoneTooMany o r.items) →
       (es : List PlainEvent) × (run o x ≡ Ok es) × (but_comments es ≡ events_told o (stream_events s []))
   trees_answered s r within means none =
       let lexed = all_read_whole o (start_of x) (items_of r.items) true r.state r.stand in
@@ -147,7 +147,7 @@ module _ (o : OptionsData) (x : List ℕ) where
         spelled = spelled;
         placed = r.reading.placed;
         within = within;
-        means = subst (Means o.emit_unresolved_aliases) spelled means;
+        means = subst (Means o) spelled means;
         events_are = refl;
       }) (none_told lexed.0.reader.laid r.items none same)
 

@@ -28,7 +28,7 @@ pub fn a_text_is_read_as_one_list_of_trees()
     ensures of_events { (o : OptionsData) (x : List ℕ) (es : List PlainEvent) → (d : DeclaredReading o x es) →
         ReadAsTrees o x d.reading.stream }
     ensures answered { (o : OptionsData) (x : List ℕ) (s : Stream) → (r : ReadAsTrees o x s) →
-        stream_within o.block_nesting_limit s ≡ true → Means o.emit_unresolved_aliases (spell_stream s []) →
+        stream_within o.block_nesting_limit s ≡ true → Means o (spell_stream s []) →
         (o.emit_comments ≡ true → NoneTooMany o r.items) →
         (es : List PlainEvent) × (run o x ≡ Ok es) × (but_comments es ≡ events_told o (stream_events s [])) }
 {}

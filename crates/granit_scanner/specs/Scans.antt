@@ -27,6 +27,10 @@ pub record Scanning (I : Type 0) : Type 0 where
   pub ended : Bool
   pub fault : Option Refused
 
+-- the same, with handles that stay over documents or not
+abbrev pub keeping : {I : Type 0} → Bool → Scanning I → Scanning I
+keeping keep s = record s { options = record (s.options) { keep_tags = keep } }
+
 -- ---- in which state of the machine
 
 -- before a fault only those items are kept that may go

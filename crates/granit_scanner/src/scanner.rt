@@ -101,6 +101,13 @@ impl<'input, T: BorrowedInput<'input>> Scanner<'input, T> {
         &self.options
     }
 
+    /// Says whether the handles of `%TAG` but `!` and `!!` stay over documents.
+    pub fn set_keep_tags(&mut self, keep_tags: bool)
+        ensures { self.new ≡ spec.keeping keep_tags self.old }
+    {
+        self.options.set_keep_tags(keep_tags);
+    }
+
     /// Whether nothing more is read: the end was, or a read failed.
     pub fn is_over(&self) -> bool
         ensures seen { result ≡ spec.is_done self.now }

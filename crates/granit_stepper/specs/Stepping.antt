@@ -9,6 +9,7 @@ use Rattle.granit_lexemes.specs.PlainEvent.{PlainEvent, event_on, StreamStart}
 use Rattle.granit_machine.specs.Frames.{ParserState}
 use Rattle.granit_machine.specs.Lexing.{FlaggedItem}
 use Rattle.granit_machine.specs.Parser.{feed}
+use Rattle.granit_scanner.specs.Scans as scans
 use Rattle.granit_scanner.specs.Scans.{Scanning, Known, may_front_go}
 use Rattle.granit_steps.specs.Steps.{StepState, Turn, line_behind, may_go, with_fed}
 
@@ -18,6 +19,10 @@ pub record Stepping (I : Type 0) : Type 0 where
   pub parser : ParserState
   pub first : Option Mark
   pub failed : Bool
+
+-- the same, with handles that stay over documents or not
+abbrev pub keeping : {I : Type 0} → Bool → Stepping I → Stepping I
+keeping keep s = record s { scanner = scans.keeping keep s.scanner }
 
 -- ---- in which state of the machine
 

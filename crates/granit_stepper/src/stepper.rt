@@ -69,6 +69,13 @@ impl<'input, T: BorrowedInput<'input>> Stepper<'input, T> {
         self.scanner.mark()
     }
 
+    /// Says whether the handles of `%TAG` but `!` and `!!` stay over documents.
+    pub fn set_keep_tags(&mut self, keep_tags: bool)
+        ensures { self.new ≡ spec.keeping keep_tags self.old }
+    {
+        self.scanner.set_keep_tags(keep_tags);
+    }
+
     /// Gives nothing more.
     pub fn stop(&mut self)
         ensures { self.new ≡ record self.old { failed = true } }

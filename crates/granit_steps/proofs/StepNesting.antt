@@ -23,6 +23,7 @@ use Rattle.granit_machine.specs.Giving.{null_at, with_indent, flush, give, give_
 use Rattle.granit_machine.specs.NodeEnds.{end_kind, owed, empty_span, begin, begin_block, block_mapping, waits}
 use Rattle.granit_machine.specs.NodeEnds.{with_top, may_be_indentless}
 use Rattle.granit_machine.specs.NodeSteps.{Stepped, alias_by, tag_prefix, with_properties, tagged, block_sequence}
+use Rattle.granit_machine.specs.NodeSteps.{known_prefix}
 use Rattle.granit_machine.specs.NodeSteps.{NextEntry, dash_room, give_tail, token_number, take_dash, first_dash}
 use Rattle.granit_machine.specs.NodeSteps.{open_flow, bare_by, bare, node_by, node}
 use Rattle.granit_machine.specs.Entries.{lookup_text, remembered}
@@ -218,7 +219,7 @@ bare_by_agreed a o (lexemes.Anchor name) t p fs st x =
           y.clean;
     })
 bare_by_agreed a o (lexemes.Tag handle suffix) t p fs st x =
-    agreed_behind a (tag_prefix t handle (lookup_text handle p.handles))
+    agreed_behind a (tag_prefix t handle (known_prefix o handle p))
     (λ prefix. Ok (tagged t handle suffix prefix (flush p)))
     (λ prefix. properties_agree a _ (flush p) fs st (open_flush a p fs st x))
 bare_by_agreed a o lexemes.Dash t p fs st x = first_dash_agreed a o t

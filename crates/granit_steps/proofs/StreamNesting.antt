@@ -22,10 +22,11 @@ use Rattle.granit_machine.specs.Giving.{null_at, flush, give}
 use Rattle.granit_machine.specs.Lexing.{FlaggedItem}
 use Rattle.granit_machine.specs.NodeEnds.{empty_span, under_column, may_be_indentless}
 use Rattle.granit_machine.specs.NodeSteps.{Stepped}
-use Rattle.granit_machine.specs.Entries.{lookup_text, remembered}
+use Rattle.granit_machine.specs.Entries.{lookup_text}
 use Rattle.granit_machine.specs.Parser.{take_in, take_token, placed, hold, take_comment, take_tail, take_item, feed}
 use Rattle.granit_machine.specs.Reader.{is_end_kind}
-use Rattle.granit_machine.specs.StreamSteps.{at_root, with_version, with_handle, open_document, with_directive}
+use Rattle.granit_machine.specs.StreamSteps.{at_root, with_version, declared, with_handle, open_document}
+use Rattle.granit_machine.specs.StreamSteps.{with_directive}
 use Rattle.granit_machine.specs.StreamSteps.{behind_directives, bare_start, begin_document, without_directives}
 use Rattle.granit_machine.specs.StreamSteps.{when_fresh, when_between, end_document, behind_root, outside}
 use Rattle.granit_machine.specs.TokenSort.{is_key_token, is_bare_colon, ends_entry, column_of_token, token_column}
@@ -139,12 +140,12 @@ version_agreed a t (Some v) major minor p st x = tt
 version_agreed a t None major minor p st x = let e = in_directives a (Some (record { major = major; minor = minor })) p
     st x in search (agreed_if, e)
 
-handle_agreed : (a : List Level) (t : Token) (version : Option PlainVersion) (handle prefix : List ℕ)
+handle_agreed : (a : List Level) (o : OptionsData) (t : Token) (version : Option PlainVersion) (handle prefix : List ℕ)
     (known : Option (List ℕ)) (p : ParserState) (st : DocumentStage) → Outside a p st
-    → Agreed a (with_handle t version handle prefix known p)
-handle_agreed a t version handle prefix (Some known) p st x = tt
-handle_agreed a t version handle prefix None p st x =
-    agrees a (record p { handles = remembered handle prefix p.handles; stage = Directives version }) []
+    → Agreed a (with_handle o t version handle prefix known p)
+handle_agreed a o t version handle prefix (Some known) p st x = tt
+handle_agreed a o t version handle prefix None p st x =
+    agrees a (record (declared o.keep_tags handle prefix p) { stage = Directives version }) []
     (Directives version) (record { left = x.left; frames = x.frames; stage = refl; held = x.held }) tt
 
 -- a document that begins with an event
@@ -163,16 +164,17 @@ open_document_agreed a t version p st x =
     true (record p { names = []; stage = Inside }) Inside (λ ls. refl)
     (record { left = x.left; frames = x.frames; stage = refl; held = x.held })) tt
 
-directive_agreed : (a : List Level) (t : Token) (d : DirectiveKind) (version : Option PlainVersion) (p : ParserState)
-    (st : DocumentStage) → Outside a p st → Agreed a (with_directive t d version p)
-directive_agreed a t (Version major minor) version p st x = version_agreed a t version major minor p st x
-directive_agreed a t (TagPrefix handle prefix) version p st x = handle_agreed a t version handle prefix
+directive_agreed : (a : List Level) (o : OptionsData) (t : Token) (d : DirectiveKind) (version : Option PlainVersion)
+    (p : ParserState)
+    (st : DocumentStage) → Outside a p st → Agreed a (with_directive o t d version p)
+directive_agreed a o t (Version major minor) version p st x = version_agreed a t version major minor p st x
+directive_agreed a o t (TagPrefix handle prefix) version p st x = handle_agreed a o t version handle prefix
     (lookup_text handle p.handles) p st x
-directive_agreed a t (Reserved name parameters) version p st x = in_directives a version p st x
+directive_agreed a o t (Reserved name parameters) version p st x = in_directives a version p st x
 
 directives_agreed : (a : List Level) (o : OptionsData) (kind : LexemeKind) (t : Token) (version : Option PlainVersion)
     (p : ParserState) (st : DocumentStage) → Outside a p st → Agreed a (behind_directives o kind t version p)
-directives_agreed a o (lexemes.Directive d) t version p st x = directive_agreed a t d version p st x
+directives_agreed a o (lexemes.Directive d) t version p st x = directive_agreed a o t d version p st x
 directives_agreed a o lexemes.DocumentStart t version p st x = open_document_agreed a t version p st x
 directives_agreed a o kind t version p st x = tt
 
@@ -229,7 +231,7 @@ fresh_after : (a : List Level) (o : OptionsData) (kind : LexemeKind) (t : Token)
     → t.lexeme.kind ≡ kind → Outside a p Fresh → After (is_end_kind kind) a (when_fresh o kind t p)
 fresh_after a o lexemes.DocumentEnd t p e x = flush_agrees a p Fresh x
 fresh_after a o lexemes.StreamEnd t p e x = stream_ended a t p Fresh x
-fresh_after a o (lexemes.Directive d) t p e x = directive_agreed a t d None (without_directives p) Fresh
+fresh_after a o (lexemes.Directive d) t p e x = directive_agreed a o t d None (without_directives p) Fresh
     (forgotten a p Fresh x)
 fresh_after a o lexemes.DocumentStart t p e x = open_document_agreed a t None (record p { handles = [] }) Fresh
     (no_handles a p Fresh x)

@@ -4,7 +4,8 @@ use Rattle.granit_error.specs.Refused.{Refused}
 use Rattle.granit_event.specs.declared.event.Event.{Event}
 use Rattle.granit_event.specs.Events.{plain_event}
 use Rattle.granit_parser.proofs.MetLemmas.{met_behind, quiet_first, quiet_on, unmet}
-use Rattle.granit_parser.proofs.SendLemmas.{TookOr, sent_none, sent_event, sent_last, sent_all, sent_fault, sent_no_more}
+use Rattle.granit_parser.proofs.SendLemmas.{TookOr, sent_none, sent_event, sent_last, sent_all, sent_fault}
+use Rattle.granit_parser.proofs.SendLemmas.{sent_no_more}
 use Rattle.granit_parser.proofs.SourceLemmas.{goes_giving, moves_behind}
 use Rattle.granit_parser.proofs.parser.Parser.load_rest.Goals as goal
 use Rattle.granit_parser.specs.Parsing.{Keeps}
