@@ -20,6 +20,7 @@ fn outermost() -> Layout {
 /// Past the plain scalar that begins here, where one does.
 fn pass_plain<'a>(alloc: Global, cursor: &mut Cursor<StrInput<'a>>) -> Result<(), ScanError> {
     let at = outermost();
+    cursor.look(2);
     let is_plain = !is_blank_or_breakz(cursor.input().peek())
         && cursor.input().next_can_be_plain_scalar(at.in_flow);
     if is_plain {
