@@ -56,7 +56,7 @@ pub(crate) fn read_body<T: Input>(
     ensures here { Wherever T.unread cursor.old cursor.new (λ h Lands.
         GivesTo content_data result Lands (spec.block_body literal (header_data header) at.now.block_column start h)) }
     ensures kinds { IfErr result (λ e. IsBlockKind e.kind) }
-    ensures moves { Moves T.left T.origin cursor.old cursor.new }
+    ensures moves { Moves T.unread T.left T.origin cursor.old cursor.new }
 {
     refuse_unprintable(cursor)?;
     cursor.look(1);
@@ -84,7 +84,7 @@ fn read_lines<T: Input>(
         GivesTo content_data result Lands (spec.block_lines literal (header_data header) broken at.now.block_column
         start h)) }
     ensures kinds { IfErr result (λ e. IsBlockKind e.kind) }
-    ensures moves { Moves T.left T.origin cursor.old cursor.new }
+    ensures moves { Moves T.unread T.left T.origin cursor.old cursor.new }
 {
     refuse_unprintable(cursor)?;
     cursor.look(1);
@@ -117,7 +117,7 @@ fn read_content<T: Input>(
         → GivesTo content_data result Lands (spec.content_lines frame.literal (chomping_data frame.chomping)
         frame.broken at.now.block_column column frame.start (line_feeds k) h)) }
     ensures kinds { IfErr result (λ e. IsBlockKind e.kind) }
-    ensures moves { Moves T.left T.origin cursor.old cursor.new }
+    ensures moves { Moves T.unread T.left T.origin cursor.old cursor.new }
 {
     refuse_unprintable(cursor)?;
     cursor.look(4);
@@ -198,7 +198,7 @@ fn read_text<T: Input>(
         (k : ℕ) → string_chars empty ≡ line_feeds k
         → GivesTo content_data result Lands (text_given frame.literal (chomping_data frame.chomping) column k h)) }
     ensures kinds { IfErr result (λ e. IsBlockKind e.kind) }
-    ensures moves { Moves T.left T.origin cursor.old cursor.new }
+    ensures moves { Moves T.unread T.left T.origin cursor.old cursor.new }
 {
     let shown = cursor.mark();
     let mut lines = Lines {
@@ -289,7 +289,7 @@ fn end_text<T: Input>(
         GivesTo content_data result Lands (spec.behind_block (chomping_data chomping) shown.place.column shown
         (string_chars lines.value) (block_state lines h))) }
     ensures kinds { IfErr result (λ e. IsBlockKind e.kind) }
-    ensures moves { Moves T.left T.origin cursor.old cursor.new }
+    ensures moves { Moves T.unread T.left T.origin cursor.old cursor.new }
 {
     let mut lines = lines;
     cursor.look(1);

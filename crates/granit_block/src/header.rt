@@ -50,7 +50,7 @@ fn read_indicator<T: Input>(
     ensures here { Wherever T.unread cursor.old cursor.new (λ h Lands.
         GivesTo header_data result Lands (spec.header_sign start (header_data header) h)) }
     ensures kinds { IfErr result (λ e. IsBlockKind e.kind) }
-    ensures moves { Moves T.left T.origin cursor.old cursor.new }
+    ensures moves { Moves T.unread T.left T.origin cursor.old cursor.new }
 {
     cursor.look(1);
     let c = cursor.input().peek();
@@ -87,7 +87,7 @@ pub(crate) fn read_header<T: Input>(cursor: &mut Cursor<T>) -> Result<Header, Sc
     ensures here { Wherever T.unread cursor.old cursor.new (λ h Lands.
         GivesTo header_data result Lands (spec.block_header h)) }
     ensures kinds { IfErr result (λ e. IsBlockKind e.kind) }
-    ensures moves { Moves T.left T.origin cursor.old cursor.new }
+    ensures moves { Moves T.unread T.left T.origin cursor.old cursor.new }
 {
     let start = cursor.mark();
     cursor.step();
@@ -107,7 +107,7 @@ pub(crate) fn read_tail<'input, T: BorrowedInput<'input>>(
 ) -> Result<Option<Token<'input>>, ScanError>
     ensures here { ReadsAs T.unread cursor.old cursor.new result (noted_tail (layout_data at.now)) }
     ensures kinds { IfErr result (λ e. IsBlockKind e.kind) }
-    ensures moves { Moves T.left T.origin cursor.old cursor.new }
+    ensures moves { Moves T.unread T.left T.origin cursor.old cursor.new }
 {
     let blanks = cursor.skip_while_blank();
     cursor.look(1);
@@ -129,7 +129,7 @@ fn read_note<'input, T: BorrowedInput<'input>>(
 ) -> Result<Option<Token<'input>>, ScanError>
     ensures here { ReadsAs T.unread cursor.old cursor.new result (note_at (layout_data at.now)) }
     ensures kinds { IfErr result (λ e. IsBlockKind e.kind) }
-    ensures moves { Moves T.left T.origin cursor.old cursor.new }
+    ensures moves { Moves T.unread T.left T.origin cursor.old cursor.new }
 {
     if at.comments {
         let comment = read_comment(alloc, cursor)?;

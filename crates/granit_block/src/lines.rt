@@ -31,7 +31,7 @@ pub(crate) struct Lines {
 pub(crate) fn refuse_unprintable<T: Input>(cursor: &mut Cursor<T>) -> Result<(), ScanError>
     ensures here { Wherever T.unread cursor.old cursor.new (λ h Lands. IsClear result Lands h) }
     ensures kinds { IfErr result (λ e. IsBlockKind e.kind) }
-    ensures moves { Moves T.left T.origin cursor.old cursor.new }
+    ensures moves { Moves T.unread T.left T.origin cursor.old cursor.new }
 {
     cursor.look(1);
     let character = cursor.input().peek();
@@ -70,7 +70,7 @@ fn take_content<T: Input>(
         TakesLine literal column result Lands (string_chars lines.old.value) (block_state lines.old h) lines.new) }
     ensures left { OnOk result (0 < T.left cursor.old.input → T.left cursor.new.input < T.left cursor.old.input) }
     ensures kinds { IfErr result (λ e. IsBlockKind e.kind) }
-    ensures moves { Moves T.left T.origin cursor.old cursor.new }
+    ensures moves { Moves T.unread T.left T.origin cursor.old cursor.new }
 {
     cursor.look(1);
     let blank = is_blank(cursor.input().peek());
@@ -118,7 +118,7 @@ fn take_line<T: Input>(
         LineTurnsTo literal column result Lands lines.new (block_whole literal column lines.old h)) }
     ensures left { Shrinks result (T.left cursor.old.input) (T.left cursor.new.input) }
     ensures kinds { IfErr result (λ e. IsBlockKind e.kind) }
-    ensures moves { Moves T.left T.origin cursor.old cursor.new }
+    ensures moves { Moves T.unread T.left T.origin cursor.old cursor.new }
 {
     cursor.look(1);
     if is_outside(cursor, column) {
@@ -143,7 +143,7 @@ pub(crate) fn past_lines<T: Input>(
     ensures here { Wherever T.unread cursor.old cursor.new (λ h Lands.
         LinesTo result Lands lines.new (block_whole literal column lines.old h)) }
     ensures kinds { IfErr result (λ e. IsBlockKind e.kind) }
-    ensures moves { Moves T.left T.origin cursor.old cursor.new }
+    ensures moves { Moves T.unread T.left T.origin cursor.old cursor.new }
 {
     'lines: while take_line(cursor, literal, column, lines)? {}
     Ok(())

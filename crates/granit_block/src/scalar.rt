@@ -48,7 +48,7 @@ pub fn scan_block_scalar<'input, T: BorrowedInput<'input>>(
     ensures answered { (h : Here) (given : spec.BlockGiven) (after : Here) → Stands T.unread cursor.old h
         → extent.AnswersBlock literal at.now.block_column h given after → IfErr result (λ e. e.kind ≡ NoMemory) }
     ensures kinds { IfErr result (λ e. IsBlockKind e.kind) }
-    ensures moves { Moves T.left T.origin cursor.old cursor.new }
+    ensures moves { Moves T.unread T.left T.origin cursor.old cursor.new }
 {
     read_block(alloc, cursor, literal, at)
 }
@@ -61,7 +61,7 @@ fn read_block<'input, T: BorrowedInput<'input>>(
 ) -> Result<Lexed<'input>, ScanError>
     ensures here { ReadsAs T.unread cursor.old cursor.new result (block_chained (layout_data at.now) literal) }
     ensures kinds { IfErr result (λ e. IsBlockKind e.kind) }
-    ensures moves { Moves T.left T.origin cursor.old cursor.new }
+    ensures moves { Moves T.unread T.left T.origin cursor.old cursor.new }
 {
     let start = cursor.mark();
     let header = read_header(cursor)?;

@@ -15,7 +15,7 @@ use granit_input::Input;
 /// Over the spaces that stand here.
 fn past_spaces<T: Input>(cursor: &mut Cursor<T>)
     ensures here { GoesTo T.unread cursor.old cursor.new (past spec.is_space) }
-    ensures moves { Moves T.left T.origin cursor.old cursor.new }
+    ensures moves { Moves T.unread T.left T.origin cursor.old cursor.new }
 {
     cursor.look(1);
     'spaces: while cursor.input().peek() == ' ' {
@@ -27,7 +27,7 @@ fn past_spaces<T: Input>(cursor: &mut Cursor<T>)
 /// Over the spaces left of a column.
 fn indent<T: Input>(cursor: &mut Cursor<T>, column: u128)
     ensures here { GoesTo T.unread cursor.old cursor.new (indented column) }
-    ensures moves { Moves T.left T.origin cursor.old cursor.new }
+    ensures moves { Moves T.unread T.left T.origin cursor.old cursor.new }
 {
     cursor.look(1);
     'spaces: while (cursor.mark().col() as u128) < column && cursor.input().peek() == ' ' {
@@ -47,7 +47,7 @@ fn take_empty_line<T: Input>(
     ensures here { Wherever T.unread cursor.old cursor.new (λ h Lands.
         EmptyTurnsTo column result Lands (string_chars empty.new) (empty_whole column (string_chars empty.old) h)) }
     ensures left { Shrinks result (T.left cursor.old.input) (T.left cursor.new.input) }
-    ensures moves { Moves T.left T.origin cursor.old cursor.new }
+    ensures moves { Moves T.unread T.left T.origin cursor.old cursor.new }
 {
     indent(cursor, column);
     cursor.look(1);
@@ -67,7 +67,7 @@ pub(crate) fn past_empty_lines<T: Input>(
 ) -> Result<(), NoMemory>
     ensures here { Wherever T.unread cursor.old cursor.new (λ h Lands.
         EmptiesTo result Lands (string_chars empty.new) (empty_whole column (string_chars empty.old) h)) }
-    ensures moves { Moves T.left T.origin cursor.old cursor.new }
+    ensures moves { Moves T.unread T.left T.origin cursor.old cursor.new }
 {
     'lines: while take_empty_line(cursor, column, empty)? {}
     Ok(())
@@ -83,7 +83,7 @@ fn take_leading_line<T: Input>(
     ensures here { Wherever T.unread cursor.old cursor.new (λ h Lands.
         WidthGiven result Lands (string_chars empty.old) (string_chars empty.new) h) }
     ensures left { ShrinksIf result (T.left cursor.old.input) (T.left cursor.new.input) }
-    ensures moves { Moves T.left T.origin cursor.old cursor.new }
+    ensures moves { Moves T.unread T.left T.origin cursor.old cursor.new }
 {
     past_spaces(cursor);
     cursor.look(1);
@@ -104,7 +104,7 @@ fn past_leading_lines<T: Input>(
 ) -> Result<usize, NoMemory>
     ensures here { Wherever T.unread cursor.old cursor.new (λ h Lands.
         WidestGiven result Lands (string_chars empty.old) (string_chars empty.new) h) }
-    ensures moves { Moves T.left T.origin cursor.old cursor.new }
+    ensures moves { Moves T.unread T.left T.origin cursor.old cursor.new }
 {
     let mut widest = 0;
     'lines: while let Some(width) = take_leading_line(cursor, empty)? {
@@ -131,7 +131,7 @@ pub(crate) fn find_column<T: Input>(
 ) -> Result<u128, NoMemory>
     ensures here { Wherever T.unread cursor.old cursor.new (λ h Lands.
         FindsColumn block_column digit result Lands (string_chars empty.old) (string_chars empty.new) h) }
-    ensures moves { Moves T.left T.origin cursor.old cursor.new }
+    ensures moves { Moves T.unread T.left T.origin cursor.old cursor.new }
 {
     match digit {
         Some(digit) => {

@@ -26,7 +26,7 @@ pub enum Boundary {
 /// that blanks and a comment may follow, or the end, and that too.
 pub fn pass_to_boundary<T: Input>(cursor: &mut Cursor<T>) -> Boundary
     ensures here { Wherever T.unread cursor.old cursor.new (λ h Lands. FoundAs Lands result (next_boundary h)) }
-    ensures moves { Moves T.left T.origin cursor.old cursor.new }
+    ensures moves { Moves T.unread T.left T.origin cursor.old cursor.new }
 {
     'passed: loop {
         if let Some(boundary) = pass_some(cursor) {
@@ -39,7 +39,7 @@ pub fn pass_to_boundary<T: Input>(cursor: &mut Cursor<T>) -> Boundary
 fn pass_some<T: Input>(cursor: &mut Cursor<T>) -> Option<Boundary>
     ensures here { Wherever T.unread cursor.old cursor.new (λ h Lands. PassesTo Lands result h) }
     ensures less { result ≡ None → T.left cursor.new.input < T.left cursor.old.input }
-    ensures moves { Moves T.left T.origin cursor.old cursor.new }
+    ensures moves { Moves T.unread T.left T.origin cursor.old cursor.new }
 {
     cursor.look(4);
     if cursor.input().next_is_z() {
@@ -60,7 +60,7 @@ fn pass_inside<T: Input>(cursor: &mut Cursor<T>)
     requires inside { (cursor.old.place.column == 0) ≡ false }
     ensures here { Wherever T.unread cursor.old cursor.new (λ h Lands. PassesTo Lands None h) }
     ensures less { T.left cursor.new.input < T.left cursor.old.input }
-    ensures moves { Moves T.left T.origin cursor.old cursor.new }
+    ensures moves { Moves T.unread T.left T.origin cursor.old cursor.new }
 {
     if cursor.skip_quoted(true) == 0 {
         cursor.step();
@@ -75,7 +75,7 @@ fn begin_line<T: Input>(cursor: &mut Cursor<T>) -> Option<Boundary>
     requires column { cursor.old.place.column ≡ 0 }
     ensures here { Wherever T.unread cursor.old cursor.new (λ h Lands. PassesTo Lands result h) }
     ensures less { result ≡ None → T.left cursor.new.input < T.left cursor.old.input }
-    ensures moves { Moves T.left T.origin cursor.old cursor.new }
+    ensures moves { Moves T.unread T.left T.origin cursor.old cursor.new }
 {
     if is_bom(cursor.input().peek()) {
         cursor.step_prefix_mark();
@@ -98,7 +98,7 @@ fn pass_start<T: Input>(cursor: &mut Cursor<T>) -> Option<Boundary>
     requires column { cursor.old.place.column ≡ 0 }
     ensures here { Wherever T.unread cursor.old cursor.new (λ h Lands. PassesTo Lands result h) }
     ensures less { result ≡ None → T.left cursor.new.input < T.left cursor.old.input }
-    ensures moves { Moves T.left T.origin cursor.old cursor.new }
+    ensures moves { Moves T.unread T.left T.origin cursor.old cursor.new }
 {
     let mark = cursor.mark();
     let begins_line = cursor.begins_line();
@@ -117,7 +117,7 @@ fn pass_end<T: Input>(cursor: &mut Cursor<T>) -> Option<Boundary>
     requires column { cursor.old.place.column ≡ 0 }
     ensures here { Wherever T.unread cursor.old cursor.new (λ h Lands. PassesTo Lands result h) }
     ensures less { result ≡ None → T.left cursor.new.input < T.left cursor.old.input }
-    ensures moves { Moves T.left T.origin cursor.old cursor.new }
+    ensures moves { Moves T.unread T.left T.origin cursor.old cursor.new }
 {
     pass_three(cursor);
     if !is_separated(cursor) {
@@ -135,7 +135,7 @@ fn pass_three<T: Input>(cursor: &mut Cursor<T>)
     requires { 1 ≤ T.left cursor.old.input }
     ensures here { GoesTo T.unread cursor.old cursor.new (steps 3) }
     ensures less { T.left cursor.new.input < T.left cursor.old.input }
-    ensures moves { Moves T.left T.origin cursor.old cursor.new }
+    ensures moves { Moves T.unread T.left T.origin cursor.old cursor.new }
 {
     cursor.step();
     cursor.step();

@@ -14,7 +14,7 @@ use granit_input::Input;
 pub(crate) fn is_separated<T: Input>(cursor: &mut Cursor<T>) -> bool
     ensures value { (h : Here) → Stands T.unread cursor.old h → result ≡ spec.is_separated h.unread.text }
     ensures here { GoesTo T.unread cursor.old cursor.new (λ h. h) }
-    ensures moves { Moves T.left T.origin cursor.old cursor.new }
+    ensures moves { Moves T.unread T.left T.origin cursor.old cursor.new }
 {
     cursor.look(1);
     if cursor.input().next_is_z() {
@@ -30,7 +30,7 @@ fn line_ends<T: Input>(cursor: &mut Cursor<T>) -> bool
     ensures here { GoesTo T.unread cursor.old cursor.new (λ h. h) }
     ensures window { 1 ≤ T.window cursor.new.input }
     ensures some { result ≡ false → 1 ≤ T.left cursor.new.input }
-    ensures moves { Moves T.left T.origin cursor.old cursor.new }
+    ensures moves { Moves T.unread T.left T.origin cursor.old cursor.new }
 {
     cursor.look(1);
     cursor.input().next_is_z() || is_break(cursor.input().peek())
@@ -40,7 +40,7 @@ fn line_ends<T: Input>(cursor: &mut Cursor<T>) -> bool
 pub(crate) fn line_finishes<T: Input>(cursor: &mut Cursor<T>) -> bool
     ensures here { Wherever T.unread cursor.old cursor.new (λ h Lands.
         FinishesTo spec.finished_line Lands result h) }
-    ensures moves { Moves T.left T.origin cursor.old cursor.new }
+    ensures moves { Moves T.unread T.left T.origin cursor.old cursor.new }
 {
     'blanks: loop {
         if line_ends(cursor) {
@@ -62,7 +62,7 @@ pub(crate) fn line_finishes<T: Input>(cursor: &mut Cursor<T>) -> bool
 fn note_finishes<T: Input>(cursor: &mut Cursor<T>) -> bool
     ensures here { Wherever T.unread cursor.old cursor.new (λ h Lands.
         FinishesTo spec.past_note Lands result h) }
-    ensures moves { Moves T.left T.origin cursor.old cursor.new }
+    ensures moves { Moves T.unread T.left T.origin cursor.old cursor.new }
 {
     'note: loop {
         if line_ends(cursor) {

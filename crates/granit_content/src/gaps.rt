@@ -35,7 +35,7 @@ pub fn gap<'input, T: BorrowedInput<'input>>(
     ensures clear { IfOk result (λ t. t ≡ Nothing → (h : Here) → Stands T.unread at.new h
         → is_gap (next_char h) ≡ false) }
     ensures window { IfOk result (λ t. t ≡ Nothing → 4 ≤ T.window at.new.input) }
-    ensures moves { Moves T.left T.origin at.old at.new }
+    ensures moves { Moves T.unread T.left T.origin at.old at.new }
 {
     let may_prefix = layouts.takes_prefix();
     let moved = begins_gap(at, may_prefix);
@@ -57,7 +57,7 @@ fn noted_gap<'input, T: BorrowedInput<'input>>(
     ensures here { ReadsGap T.unread asked at.old at.new layouts.new result (λ h. spec.noted_gap h layouts.old) }
     ensures number { IfOk result (λ t. layouts.new.number ≡ layouts.old.number) }
     ensures some { IfOk result (λ t. t ≡ Nothing → ⊥) }
-    ensures moves { Moves T.left T.origin at.old at.new }
+    ensures moves { Moves T.unread T.left T.origin at.old at.new }
 {
     let note = comment_at(alloc, at, asked)?;
     over_break_if(at);
@@ -89,7 +89,7 @@ fn ready_gap<'input, T: Input>(
 #[tactic(auto, unfolding(granit_base::specs::Classes::is_gap))]
 fn begins_gap<T: Input>(at: &mut Cursor<T>, may_prefix: bool) -> bool
     ensures here { Wherever T.unread at.old at.new (λ h Lands. Lands h × (result ≡ spec.begins_gap may_prefix h)) }
-    ensures moves { Moves T.left T.origin at.old at.new }
+    ensures moves { Moves T.unread T.left T.origin at.old at.new }
 {
     at.look(1);
     let c = at.input().peek();
@@ -101,7 +101,7 @@ pub fn past_gap<T: Input>(at: &mut Cursor<T>, may_prefix: bool)
     ensures here { GoesTo T.unread at.old at.new (spec.past_gap may_prefix) }
     ensures clear { (h : Here) → Stands T.unread at.new h → spec.begins_gap may_prefix h ≡ false }
     ensures window { 4 ≤ T.window at.new.input }
-    ensures moves { Moves T.left T.origin at.old at.new }
+    ensures moves { Moves T.unread T.left T.origin at.old at.new }
 {
     'gap: while pass_blanks(at, may_prefix) {}
 }
@@ -112,7 +112,7 @@ fn pass_blanks<T: Input>(at: &mut Cursor<T>, may_prefix: bool) -> bool
     ensures clear { result ≡ false → (h : Here) → Stands T.unread at.new h → spec.begins_gap may_prefix h ≡ false }
     ensures window { result ≡ false → 4 ≤ T.window at.new.input }
     ensures left { result ≡ true → T.left at.new.input < T.left at.old.input }
-    ensures moves { Moves T.left T.origin at.old at.new }
+    ensures moves { Moves T.unread T.left T.origin at.old at.new }
 {
     past_blanks(at);
     pass_gap_char(at, may_prefix)
@@ -125,7 +125,7 @@ fn pass_gap_char<T: Input>(at: &mut Cursor<T>, may_prefix: bool) -> bool
     ensures clear { result ≡ false → (h : Here) → Stands T.unread at.new h → spec.begins_gap may_prefix h ≡ false }
     ensures window { result ≡ false → 4 ≤ T.window at.new.input }
     ensures left { result ≡ true → T.left at.new.input < T.left at.old.input }
-    ensures moves { Moves T.left T.origin at.old at.new }
+    ensures moves { Moves T.unread T.left T.origin at.old at.new }
 {
     at.look(4);
     let c = at.input().peek();
@@ -144,7 +144,7 @@ fn pass_gap_char<T: Input>(at: &mut Cursor<T>, may_prefix: bool) -> bool
 #[tactic(auto, unfolding(granit_machine::specs::Gaps::over_break_if))]
 pub fn over_break_if<T: Input>(at: &mut Cursor<T>)
     ensures here { GoesTo T.unread at.old at.new spec.over_break_if }
-    ensures moves { Moves T.left T.origin at.old at.new }
+    ensures moves { Moves T.unread T.left T.origin at.old at.new }
 {
     at.look(1);
     if is_break(at.input().peek()) {

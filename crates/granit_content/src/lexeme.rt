@@ -72,7 +72,7 @@ pub fn sign<'input, T: Input>(
 ) -> Lexeme<'input>
     ensures here { Wherever T.unread at.old at.new (λ h Lands. Lands (step h)
         × (lexeme_view result ≡ spec.sign_lexeme ends (kind_view kind.entry) h layouts.now)) }
-    ensures moves { Moves T.left T.origin at.old at.new }
+    ensures moves { Moves T.unread T.left T.origin at.old at.new }
 {
     let start = start_of(at);
     at.step();
@@ -129,7 +129,7 @@ pub fn tailed<'input, T: BorrowedInput<'input>>(
     requires room { layouts.old.number < 2 ^ 63 }
     ensures here { ReadsItems T.unread asked at.old at.new layouts.new
         (lexeme_in found.new) result (λ h. spec.tailed (lexeme_view lexeme.entry) last h layouts.old) }
-    ensures moves { Moves T.left T.origin at.old at.new }
+    ensures moves { Moves T.unread T.left T.origin at.old at.new }
 {
     let tail = tail_at(alloc, at, asked)?;
     let last = behind_tail(last, &tail);

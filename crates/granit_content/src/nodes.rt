@@ -36,7 +36,7 @@ pub fn alias_lexeme<'input, T: BorrowedInput<'input>>(
     requires room { layouts.old.number < 2 ^ 63 }
     ensures here { (asked : Bool) → ReadsItems T.unread asked at.old at.new layouts.new
         (lexeme_in found.new) result (λ h. spec.alias_lexeme ends h layouts.old) }
-    ensures moves { Moves T.left T.origin at.old at.new }
+    ensures moves { Moves T.unread T.left T.origin at.old at.new }
 {
     let start = start_of(at);
     let token = scan_anchor(alloc, at, true)?;
@@ -62,7 +62,7 @@ pub fn anchor_lexeme<'input, T: BorrowedInput<'input>>(
     requires room { layouts.old.number < 2 ^ 63 }
     ensures here { (asked : Bool) → ReadsItems T.unread asked at.old at.new layouts.new
         (lexeme_in found.new) result (λ h. spec.anchor_lexeme (options_of options.now) ends h layouts.old) }
-    ensures moves { Moves T.left T.origin at.old at.new }
+    ensures moves { Moves T.unread T.left T.origin at.old at.new }
 {
     let start = start_of(at);
     let last = layouts.last_of_property(options);
@@ -89,7 +89,7 @@ pub fn tag_lexeme<'input, T: BorrowedInput<'input>>(
     requires room { layouts.old.number < 2 ^ 63 }
     ensures here { (asked : Bool) → ReadsItems T.unread asked at.old at.new layouts.new
         (lexeme_in found.new) result (λ h. spec.tag_lexeme (options_of options.now) ends h layouts.old) }
-    ensures moves { Moves T.left T.origin at.old at.new }
+    ensures moves { Moves T.unread T.left T.origin at.old at.new }
 {
     let start = start_of(at);
     let last = layouts.last_of_property(options);

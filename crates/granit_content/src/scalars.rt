@@ -45,7 +45,7 @@ pub fn plain_lexeme<'input, T: BorrowedInput<'input>>(
     requires room { layouts.old.number < 2 ^ 63 }
     ensures here { ReadsItems T.unread (options_of options.now).emit_comments at.old at.new layouts.new
         (lexeme_in found.new) result (λ h. spec.plain_lexeme (options_of options.now) ends h layouts.old) }
-    ensures moves { Moves T.left T.origin at.old at.new }
+    ensures moves { Moves T.unread T.left T.origin at.old at.new }
 {
     let start = start_of(at);
     let layout = layouts.layout(options, start.mark.col(), options.emit_comments);
@@ -75,7 +75,7 @@ pub fn block_lexeme<'input, T: BorrowedInput<'input>>(
     requires room { layouts.old.number < 2 ^ 63 }
     ensures here { ReadsItems T.unread (options_of options.now).emit_comments at.old at.new layouts.new
         (lexeme_in found.new) result (λ h. spec.block_lexeme literal ends h layouts.old) }
-    ensures moves { Moves T.left T.origin at.old at.new }
+    ensures moves { Moves T.unread T.left T.origin at.old at.new }
 {
     let start = start_of(at);
     let layout = layouts.layout(options, start.mark.col(), options.emit_comments);
@@ -100,7 +100,7 @@ fn quoted_lexeme<'input, T: BorrowedInput<'input>>(
     requires room { layouts.old.number < 2 ^ 63 }
     ensures here { ReadsItems T.unread (options_of options.now).emit_comments at.old at.new layouts.new
         (lexeme_in found.new) result (λ h. spec.quoted_lexeme (options_of options.now) single ends h layouts.old) }
-    ensures moves { Moves T.left T.origin at.old at.new }
+    ensures moves { Moves T.unread T.left T.origin at.old at.new }
 {
     let start = start_of(at);
     let layout = layouts.layout(options, start.mark.col(), options.emit_comments);
@@ -128,7 +128,7 @@ pub fn quoted_and_gap<'input, T: BorrowedInput<'input>>(
     requires room { layouts.old.number < 2 ^ 63 }
     ensures here { ReadsItems T.unread (options_of options.now).emit_comments at.old at.new layouts.new
         (found_in found.new) result (λ h. spec.quoted_and_gap (options_of options.now) single ends h layouts.old) }
-    ensures moves { Moves T.left T.origin at.old at.new }
+    ensures moves { Moves T.unread T.left T.origin at.old at.new }
 {
     quoted_lexeme(alloc, options, at, layouts, single, ends, &mut found.lexeme)?;
     with_gap(alloc, options, at, layouts, found)
@@ -144,7 +144,7 @@ fn with_gap<'input, T: BorrowedInput<'input>>(
 ) -> Result<(), ScanError>
     ensures here { GapBehind T.unread (options_of options.now) at.old at.new layouts.old layouts.new
         (lexeme_items found.old.lexeme) (found_in found.new) result }
-    ensures moves { Moves T.left T.origin at.old at.new }
+    ensures moves { Moves T.unread T.left T.origin at.old at.new }
 {
     let tail = gap(alloc, options, at, layouts)?;
     layouts.set_last(behind_tail(LastLexeme::Adjacent, &tail));

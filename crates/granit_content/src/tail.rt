@@ -51,7 +51,7 @@ pub fn tail_at<'input, T: BorrowedInput<'input>>(
 ) -> Result<Tail<'input>, ScanError>
     ensures here { Wherever T.unread at.old at.new (λ h Lands.
         GivesTo tail_view result Lands (coded (seen asked) (spec.tail_at h))) }
-    ensures moves { Moves T.left T.origin at.old at.new }
+    ensures moves { Moves T.unread T.left T.origin at.old at.new }
 {
     let blanks = at.skip_while_blank();
     at.look(1);
@@ -78,7 +78,7 @@ pub fn comment_at<'input, T: BorrowedInput<'input>>(
     ensures here { Wherever T.unread at.old at.new (λ h Lands.
         GivesTo tail_view result Lands (coded (seen_comment asked) (comments.comment h))) }
     ensures some { IfOk result (λ t. t ≡ Nothing → ⊥) }
-    ensures moves { Moves T.left T.origin at.old at.new }
+    ensures moves { Moves T.unread T.left T.origin at.old at.new }
 {
     if asked {
         let token = read_comment(alloc, at)?;

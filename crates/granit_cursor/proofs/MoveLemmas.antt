@@ -367,17 +367,27 @@ pub stands_at : {I : Type 0} (unread : I → Unread → Type 0) (r s : Reading I
     → Stands unread s h
 stands_at unread r s h is k = subst (λ q. Stands unread q h) (sym is) k
 
-module _ {I : Type 0} (unread : I → Unread → Type 0) (test : List ℕ → Bool) (n : ℕ) (old new : Reading I)
+-- what of a cursor tells where it stands
+pub record Spot (I : Type 0) : Type 0 where
+  pub input : I
+  pub place : Place
+  pub begins_line : Bool
+  pub tab : Option Mark
+
+abbrev pub StandsAt : {I : Type 0} → (I → Unread → Type 0) → Spot I → Here → Type 0
+StandsAt unread s h = unread s.input h.unread × (h.place ≡ s.place) × (h.begins_line ≡ s.begins_line) × (h.tab ≡ s.tab)
+
+module _ {I : Type 0} (unread : I → Unread → Type 0) (test : List ℕ → Bool) (n : ℕ) (old new : Spot I)
     (h : Here) where
-  pub along_stands : Along n h (steps n h) → Stands unread old h → unread new.input (past n h.unread)
+  pub along_stands : Along n h (steps n h) → StandsAt unread old h → unread new.input (past n h.unread)
       → new.place ≡ moved n old.place → unread new.input (steps n h).unread × ((steps n h).place ≡ new.place)
   along_stands a k known place = (subst (unread new.input) (sym a.unread) known, a.place ∙ ap (moved n) k.1 ∙ sym place)
 
   -- behind characters that show
-  pub lands : Shows test → n ≤ run_length test h.unread.text → Stands unread old h → unread new.input (past n h.unread)
-      → new.place ≡ moved n old.place
+  pub lands : Shows test → n ≤ run_length test h.unread.text → StandsAt unread old h
+      → unread new.input (past n h.unread) → new.place ≡ moved n old.place
       → new.begins_line ≡ (old.begins_line && n == 0) → new.tab ≡ (if n == 0 then old.tab else None)
-      → Stands unread new (steps n h)
+      → StandsAt unread new (steps n h)
   lands shows fits k known place begins tab =
       let a = along_stands (run_along test n h (λ text passes. (shows text passes).0) fits) k known place in
       let s = shown test n h shows fits in (
@@ -389,18 +399,18 @@ module _ {I : Type 0} (unread : I → Unread → Type 0) (test : List ℕ → Bo
       )
 
   -- behind the characters of a line that is begun with them
-  pub lands_inside : KeepsLine test → n ≤ run_length test h.unread.text → Stands unread old h
+  pub lands_inside : KeepsLine test → n ≤ run_length test h.unread.text → StandsAt unread old h
       → unread new.input (past n h.unread) → new.place ≡ moved n old.place
-      → new.begins_line ≡ false → new.tab ≡ None → Stands unread new (mid_line (steps n h))
+      → new.begins_line ≡ false → new.tab ≡ None → StandsAt unread new (mid_line (steps n h))
   lands_inside line fits k known place begins tab =
       let a = along_stands (run_along test n h line fits) k known place in
       (a.0, a.1, sym begins, sym tab)
 
 pub lands_spaces :
-    {I : Type 0} (unread : I → Unread → Type 0) (n : ℕ) (old new : Reading I) (h : Here)
-    → n ≤ run_length (starts is_space) h.unread.text → Stands unread old h
+    {I : Type 0} (unread : I → Unread → Type 0) (n : ℕ) (old new : Spot I) (h : Here)
+    → n ≤ run_length (starts is_space) h.unread.text → StandsAt unread old h
     → unread new.input (past n h.unread) → new.place ≡ moved n old.place → new.begins_line ≡ old.begins_line
-    → new.tab ≡ old.tab → Stands unread new (steps n h)
+    → new.tab ≡ old.tab → StandsAt unread new (steps n h)
 lands_spaces unread n old new h fits k known place begins tab =
     let a = along_stands unread (starts is_space) n old new h (run_along (starts is_space) n h space_line fits) k known
     place in
@@ -408,10 +418,10 @@ lands_spaces unread n old new h fits k known place begins tab =
     (a.0, a.1, s.0 ∙ k.2 ∙ sym begins, s.1 ∙ k.3 ∙ sym tab)
 
 pub lands_tabs :
-    {I : Type 0} (unread : I → Unread → Type 0) (n : ℕ) (old new : Reading I) (h : Here) → next_char h ≡ 0x09
-    → n ≡ run_length (starts is_blank) h.unread.text → Stands unread old h
+    {I : Type 0} (unread : I → Unread → Type 0) (n : ℕ) (old new : Spot I) (h : Here) → next_char h ≡ 0x09
+    → n ≡ run_length (starts is_blank) h.unread.text → StandsAt unread old h
     → unread new.input (past n h.unread) → new.place ≡ moved n old.place → new.begins_line ≡ old.begins_line
-    → new.tab ≡ first_tab h.tab (mark_of h) → Stands unread new (steps n h)
+    → new.tab ≡ first_tab h.tab (mark_of h) → StandsAt unread new (steps n h)
 lands_tabs unread n old new h is fits k known place begins tab =
     let a = along_stands unread (starts is_blank) n old new h
     (run_along (starts is_blank) n h blank_line (omega (arith, fits))) k known place in
@@ -424,10 +434,10 @@ mark_some [] is = absurd cc
 mark_some (c ∷ cs) is = omega arith
 
 pub mark_lands :
-    {I : Type 0} (unread : I → Unread → Type 0) (old new : Reading I) (h : Here) → next_char h ≡ 0xFEFF
-    → Stands unread old h → unread new.input (past 1 h.unread)
+    {I : Type 0} (unread : I → Unread → Type 0) (old new : Spot I) (h : Here) → next_char h ≡ 0xFEFF
+    → StandsAt unread old h → unread new.input (past 1 h.unread)
     → new.place ≡ record { index = old.place.index + 1; line = old.place.line; column = old.place.column }
-    → new.begins_line ≡ old.begins_line → new.tab ≡ old.tab → Stands unread new (past_prefix_mark h)
+    → new.begins_line ≡ old.begins_line → new.tab ≡ old.tab → StandsAt unread new (past_prefix_mark h)
 unfolding past_prefix_mark
 mark_lands unread old new h mark k known place begins tab = (
   subst (unread new.input) (past_one h.unread (mark_some h.unread.text mark)) known,

@@ -11,9 +11,8 @@ use Rattle.granit_input.specs.Unread.{past}
 use Rattle.granit_lexemes.specs.Here.{Here, is_quiet, next_char, step}
 use Rattle.granit_lexemes.specs.Moves.{steps}
 use Rattle.granit_lexemes.proofs.HereLemmas.{step_text}
-use Rattle.granit_cursor.specs.Reading.{Reading, Stands}
 use Rattle.granit_cursor.proofs.MoveLemmas.{KeepsLine, moved, plain_shows, quoted_shows, run_along}
-use Rattle.granit_cursor.proofs.MoveLemmas.{run_begins, step_shows, along_stands}
+use Rattle.granit_cursor.proofs.MoveLemmas.{run_begins, step_shows, Spot, StandsAt, along_stands}
 
 -- no character that passes ends a line, and each shows or has another that passes behind it
 pub record Joins (test : List ℕ → Bool) (text : List ℕ) : Type 0 where
@@ -86,11 +85,11 @@ joined test (suc n) h joins nul whole =
 
 -- behind such a run
 pub lands_joined :
-    {I : Type 0} (unread : I → Unread → Type 0) (test : List ℕ → Bool) (n : ℕ) (old new : Reading I) (h : Here)
-    → JoinsAll test → test [] ≡ false → n ≡ run_length test h.unread.text → Stands unread old h
+    {I : Type 0} (unread : I → Unread → Type 0) (test : List ℕ → Bool) (n : ℕ) (old new : Spot I) (h : Here)
+    → JoinsAll test → test [] ≡ false → n ≡ run_length test h.unread.text → StandsAt unread old h
     → unread new.input (past n h.unread) → new.place ≡ moved n old.place
     → new.begins_line ≡ (old.begins_line && n == 0) → new.tab ≡ (if n == 0 then old.tab else None)
-    → Stands unread new (steps n h)
+    → StandsAt unread new (steps n h)
 lands_joined unread test n old new h joins nul whole k known place begins tab =
     let a = along_stands unread test n old new h
     (run_along test n h (joined_line test joins) (omega (arith, whole))) k known place in

@@ -13,6 +13,7 @@ use Rattle.granit_input.specs.Runs.{run_length}
 use Rattle.granit_lexemes.specs.Basics.{as_spelled}
 use Rattle.granit_lexemes.specs.Here.{Here, mid_line}
 use Rattle.granit_lexemes.specs.Moves.{steps}
+use Rattle.granit_lexemes.specs.Onward.{Onward}
 use Rattle.granit_lexemes.specs.Outcome.{Fault, Fails, ◌>>=◌}
 
 -- an input, the place up to which it was read, and what stands before that on its line
@@ -21,14 +22,25 @@ pub record Reading (I : Type 0) : Type 0 where
   pub place : Place
   pub begins_line : Bool
   pub tab : Option Mark
+  -- whether memory ran out in the midst of a run, so that it isn't known how much of it was taken
+  pub lost : Bool
 
 -- a cursor is known to stand there
 abbrev pub Stands : {I : Type 0} → (I → Unread → Type 0) → Reading I → Here → Type 0
 Stands unread r h = unread r.input h.unread × (h.place ≡ r.place) × (h.begins_line ≡ r.begins_line) × (h.tab ≡ r.tab)
 
--- no more is left than before, and where it comes from is as before
-abbrev pub Moves : {I : Type 0} → (I → ℕ) → (I → Origin) → Reading I → Reading I → Type 0
-Moves left origin old new = (left new.input ≤ left old.input) × Goes (origin old.input) (origin new.input)
+-- a cursor is known to stand at a place onward from there, or it is lost
+unfoldable pub CameOn : {I : Type 0} → (I → Unread → Type 0) → Here → Reading I → Type 0
+CameOn unread start r = ((at : Here) × Onward start at × Stands unread r at) ⊎ (r.lost ≡ true)
+
+-- where it came on before, it came on behind a call, whatever the call answers
+abbrev pub GoesOnward : {I : Type 0} → (I → Unread → Type 0) → Reading I → Reading I → Type 0
+GoesOnward unread old new = (start : Here) → CameOn unread start old → CameOn unread start new
+
+-- no more is left than before, where it comes from is as before, and the cursor goes on if it goes anywhere
+abbrev pub Moves : {I : Type 0} → (I → Unread → Type 0) → (I → ℕ) → (I → Origin) → Reading I → Reading I → Type 0
+Moves unread left origin old new =
+    (left new.input ≤ left old.input) × Goes (origin old.input) (origin new.input) × GoesOnward unread old new
 
 -- wherever a cursor is known to stand, this holds of what is there and of where it then stands
 abbrev pub Wherever : {I : Type 0} → (I → Unread → Type 0) → Reading I → Reading I
@@ -96,10 +108,11 @@ abbrev pub FetchesFrontSteps : {E : Type 0} → (List ℕ → Bool) → Here →
 FetchesFrontSteps test h asked result Lands before after =
     IfOk result (λ r. StepsFront test h asked r Lands × (after ≡ before ++ take r.1 h.unread.text))
 
--- so many characters were taken: as many fewer are left, and the window is smaller by no more than these
+-- So many characters were taken: as many fewer are left, and the window is smaller by no more than these. The cursor
+-- is lost only where it was.
 abbrev pub Takes : {I : Type 0} → (I → ℕ) → (I → ℕ) → Reading I → Reading I → ℕ → Type 0
 Takes left window old new count =
-    (left new.input + count ≤ left old.input) × (window old.input ≤ window new.input + count)
+    (left new.input + count ≤ left old.input) × (window old.input ≤ window new.input + count) × (new.lost ≡ old.lost)
 
 -- whether an input has a source, and tells where in it what is left begins
 abbrev pub has_source : Origin → Bool

@@ -38,7 +38,7 @@ pub fn scan_comment<'input, T: BorrowedInput<'input>>(
     ensures cause { RefusedFor T.unread cursor.old result spec.Spoils }
     ensures lent { LendsWithoutMemory T.unread cursor.old result }
     ensures kinds { IfErr result (λ e. IsCommentKind e.kind) }
-    ensures moves { Moves T.left T.origin cursor.old cursor.new }
+    ensures moves { Moves T.unread T.left T.origin cursor.old cursor.new }
 {
     read_comment(alloc, cursor)
 }
@@ -58,7 +58,7 @@ pub fn skip_comment<'input, T: BorrowedInput<'input>>(
     ensures cause { (h : Here) → Stands T.unread cursor.old h
         → IfErr result (λ e. spec.Spoils h e.kind e.mark × (e.sources ≡ [])) }
     ensures kinds { IfErr result (λ e. (c : ℕ) × (e.kind ≡ UnexpectedCharacter c)) }
-    ensures moves { Moves T.left T.origin cursor.old cursor.new }
+    ensures moves { Moves T.unread T.left T.origin cursor.old cursor.new }
 {
     pass_comment(cursor)
 }
@@ -76,7 +76,7 @@ pub fn read_comment<'input, T: BorrowedInput<'input>>(
     ensures here { ReadsAs T.unread cursor.old cursor.new result (λ h. coded comment_token (spec.comment h)) }
     ensures lent { LendsWithoutMemory T.unread cursor.old result }
     ensures kinds { IfErr result (λ e. IsCommentKind e.kind) }
-    ensures moves { Moves T.left T.origin cursor.old cursor.new }
+    ensures moves { Moves T.unread T.left T.origin cursor.old cursor.new }
 {
     let start = cursor.mark();
     let placement = placement(!cursor.begins_line());
@@ -97,7 +97,7 @@ fn comment_text<'input, T: BorrowedInput<'input>>(
         TakesText (starts is_line_char) h result (Inside Lands)) }
     ensures lent { LendsWithoutMemory T.unread cursor.old result }
     ensures kinds { IfErr result (λ e. (e.kind ≡ NoMemory) ⊎ (e.kind ≡ InputSlicingUnavailable)) }
-    ensures moves { Moves T.left T.origin cursor.old cursor.new }
+    ensures moves { Moves T.unread T.left T.origin cursor.old cursor.new }
 {
     match lending_offset(cursor) {
         Some(start) => {
@@ -135,7 +135,7 @@ fn placement(is_right: bool) -> Placement
 pub fn pass_comment<T: Input>(cursor: &mut Cursor<T>) -> Result<(), ScanError>
     ensures here { ReadsAs T.unread cursor.old cursor.new result spec.skipped_comment }
     ensures kinds { IfErr result (λ e. (c : ℕ) × (e.kind ≡ UnexpectedCharacter c)) }
-    ensures moves { Moves T.left T.origin cursor.old cursor.new }
+    ensures moves { Moves T.unread T.left T.origin cursor.old cursor.new }
 {
     cursor.step();
     cursor.skip_while_non_breakz();
@@ -147,7 +147,7 @@ pub fn pass_comment<T: Input>(cursor: &mut Cursor<T>) -> Result<(), ScanError>
 fn behind_comment<T: Input>(cursor: &mut Cursor<T>) -> Result<(), ScanError>
     ensures here { ReadsAs T.unread cursor.old cursor.new result spec.behind_comment }
     ensures kinds { IfErr result (λ e. (c : ℕ) × (e.kind ≡ UnexpectedCharacter c)) }
-    ensures moves { Moves T.left T.origin cursor.old cursor.new }
+    ensures moves { Moves T.unread T.left T.origin cursor.old cursor.new }
 {
     cursor.look(1);
     let character = cursor.input().peek();

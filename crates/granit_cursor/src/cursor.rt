@@ -10,7 +10,7 @@ ghost use Rattle.granit_base.specs.Place as place;
 ghost use Rattle.granit_base.specs.Written.{string_chars};
 ghost use Rattle.granit_error.specs.Kinds.{kind_of};
 ghost use Rattle.granit_input.specs.Chunks.{Extends};
-ghost use Rattle.granit_input.specs.Origin.{error_given, Gave, LentBetween};
+ghost use Rattle.granit_input.specs.Origin.{error_given, Gave, Goes, LentBetween};
 ghost use Rattle.granit_input.specs.Runs.{starts, is_line_char, is_non_breakz, is_plain_word, is_quoted_char};
 ghost use Rattle.granit_input.specs.Runs.{is_quoted_word};
 ghost use Rattle.granit_base.specs.PlainContent.{is_content};
@@ -19,8 +19,8 @@ ghost use Rattle.granit_input.specs.declared.whitespace.SkipTabs.TheVariants.{No
 ghost use Rattle.granit_lexemes.specs.Here as spec;
 ghost use Rattle.granit_lexemes.specs.Here.{Here, first_place, mark_of, next_char, step};
 ghost use Rattle.granit_lexemes.specs.Moves.{past_prefix_mark};
-ghost use Rattle.granit_cursor.specs.Reading.{Stands, Moves, Takes, Wherever, GoesTo, Inside, StepsRun, StepsFront};
-ghost use Rattle.granit_cursor.specs.Reading.{FetchesSteps, FetchesFrontSteps, LendsSteps, has_source};
+ghost use Rattle.granit_cursor.specs.Reading.{Stands, GoesOnward, Moves, Takes, Wherever, GoesTo, Inside, StepsRun};
+ghost use Rattle.granit_cursor.specs.Reading.{StepsFront, FetchesSteps, FetchesFrontSteps, LendsSteps, has_source};
 ghost use Rattle.granit_cursor.specs.contracts.cursor.Cursor.{the_row};
 
 use granit_base::{Marker, NoMemory};
@@ -40,6 +40,8 @@ pub struct Cursor<T: Input> {
     begins_line: bool,
     /// The first tab of the blanks directly before it on its line.
     tab: Option<Marker>,
+    /// Whether memory ran out in the midst of a run, so that it isn't known how much of it was taken.
+    lost: bool,
 }
 
 impl<T: Input> Model for Cursor<T> {
@@ -53,6 +55,7 @@ impl<T: Input> Model for Cursor<T> {
       place = record { index = c.index; line = c.line; column = c.col };
       begins_line = c.begins_line;
       tab = c.tab;
+      lost = c.lost;
     } };
 
     // no text is longer than memory, so no place passes `usize`
@@ -62,7 +65,8 @@ impl<T: Input> Model for Cursor<T> {
 impl<T: Input> Cursor<T> {
     /// At the start of an input.
     pub fn new(input: T) -> Cursor<T>
-        ensures { result ≡ record { input = input; place = first_place; begins_line = true; tab = None } }
+        ensures { result
+            ≡ record { input = input; place = first_place; begins_line = true; tab = None; lost = false } }
     {
         Cursor {
             input,
@@ -71,6 +75,7 @@ impl<T: Input> Cursor<T> {
             col: 0,
             begins_line: true,
             tab: None,
+            lost: false,
         }
     }
 
@@ -97,6 +102,13 @@ impl<T: Input> Cursor<T> {
         self.tab
     }
 
+    /// Whether it isn't known where it stands, since memory ran out in the midst of a run.
+    pub fn is_lost(&self) -> bool
+        ensures { result ≡ self.now.lost }
+    {
+        self.lost
+    }
+
     /// The input, for looking.
     pub fn input(&self) -> &T
         ensures { result.now ≡ self.now.input }
@@ -109,19 +121,32 @@ impl<T: Input> Cursor<T> {
         ensures here { GoesTo T.unread self.old self.new (λ h. h) }
         ensures place { self.new.place ≡ self.old.place }
         ensures window { max (min count 8) (T.window self.old.input) ≤ T.window self.new.input }
-        ensures moves { Moves T.left T.origin self.old self.new }
+        ensures lost { self.new.lost ≡ self.old.lost }
+        ensures moves { Moves T.unread T.left T.origin self.old self.new }
     {
         self.input.lookahead(count);
     }
 
     /// Consumes the next character, if there is one, and moves the place: a line ends with LF, and with
     /// CR that no LF follows (YAML 1.2.2, 5.4).
-    #[tactic(auto, unfolding(granit_lexemes::specs::Here::step, granit_lexemes::specs::Here::begins_behind), using(granit_input::proofs::UnreadLemmas::past_one))]
     pub fn step(&mut self)
         ensures here { GoesTo T.unread self.old self.new step }
         ensures left { T.left self.new.input ≤ T.left self.old.input - 1 }
         ensures window { T.window self.old.input ≤ T.window self.new.input + 1 }
-        ensures moves { Moves T.left T.origin self.old self.new }
+        ensures lost { self.new.lost ≡ self.old.lost }
+        ensures moves { Moves T.unread T.left T.origin self.old self.new }
+    {
+        self.take_one();
+    }
+
+    /// The same, by what is known of it.
+    #[tactic(auto, unfolding(granit_lexemes::specs::Here::step, granit_lexemes::specs::Here::begins_behind), using(granit_input::proofs::UnreadLemmas::past_one))]
+    fn take_one(&mut self)
+        ensures here { GoesTo T.unread self.old self.new step }
+        ensures left { T.left self.new.input ≤ T.left self.old.input - 1 }
+        ensures window { T.window self.old.input ≤ T.window self.new.input + 1 }
+        ensures origin { Goes (T.origin self.old.input) (T.origin self.new.input) }
+        ensures lost { self.new.lost ≡ self.old.lost }
     {
         self.input.lookahead(2);
         if self.input.next_is_z() {
@@ -176,7 +201,8 @@ impl<T: Input> Cursor<T> {
         ensures here { GoesTo T.unread self.old self.new past_prefix_mark }
         ensures left { T.left self.new.input ≤ T.left self.old.input - 1 }
         ensures window { T.window self.old.input ≤ T.window self.new.input + 1 }
-        ensures moves { Moves T.left T.origin self.old self.new }
+        ensures lost { self.new.lost ≡ self.old.lost }
+        ensures moves { Moves T.unread T.left T.origin self.old self.new }
     {
         self.input.lookahead(1);
         if self.input.next_is_z() {
@@ -194,6 +220,8 @@ impl<T: Input> Cursor<T> {
         ensures left { T.left self.new.input ≤ T.left self.old.input }
         ensures window { T.window self.old.input ≤ T.window self.new.input }
         ensures origin { Gave (T.origin self.old.input) (T.origin self.new.input) }
+        ensures lost { self.new.lost ≡ self.old.lost }
+        ensures onward { GoesOnward T.unread self.old self.new }
     {
         self.input.take_source_error()
     }
@@ -214,11 +242,14 @@ impl<T: Input> Cursor<T> {
         ensures few { IfOk result (λ r. r.0 ≡ false → count ≤ r.1) }
         ensures limit { IfOk result (λ r. r.1 ≤ count) }
         ensures takes { IfOk result (λ r. Takes T.left T.window self.old self.new r.1) }
-        ensures moves { Moves T.left T.origin self.old self.new }
+        ensures moves { Moves T.unread T.left T.origin self.old self.new }
     {
+        let lost = self.lost;
+        self.lost = true;
         let (ended, taken) = self
             .input
             .fetch_plain_scalar_chunk(out, count, flow_level_gt_0)?;
+        self.lost = lost;
         self.index += taken;
         self.col += taken;
         self.begins_line = still_begins(self.begins_line, taken);
@@ -233,7 +264,7 @@ impl<T: Input> Cursor<T> {
         ensures few { result.0 ≡ false → count ≤ result.1 }
         ensures limit { result.1 ≤ count }
         ensures takes { Takes T.left T.window self.old self.new result.1 }
-        ensures moves { Moves T.left T.origin self.old self.new }
+        ensures moves { Moves T.unread T.left T.origin self.old self.new }
     {
         let (ended, taken) = self.input.skip_plain_scalar_chunk(count, flow_level_gt_0);
         self.index += taken;
@@ -252,7 +283,7 @@ impl<T: Input> Cursor<T> {
             LendsSteps (T.origin self.old.input) (starts (is_quoted_char single)) h
             (chars result.0.now) result.1 Lands))
             × Takes T.left T.window self.old new result.1
-            × Moves T.left T.origin self.old new)) }
+            × Moves T.unread T.left T.origin self.old new)) }
     {
         match self.source_offset() {
             Some(start) => {
@@ -276,7 +307,7 @@ impl<T: Input> Cursor<T> {
         ensures here { Wherever T.unread self.old self.new (λ h Lands.
             StepsRun (starts (is_quoted_char single)) h result Lands) }
         ensures takes { Takes T.left T.window self.old self.new result }
-        ensures moves { Moves T.left T.origin self.old self.new }
+        ensures moves { Moves T.unread T.left T.origin self.old self.new }
     {
         let (_, taken) = self.input.skip_run(Run::Quoted(single), usize::MAX);
         self.index += taken;
@@ -291,7 +322,7 @@ impl<T: Input> Cursor<T> {
         ensures here { Wherever T.unread self.old self.new (λ h Lands.
             StepsRun (is_plain_word in_flow) h result Lands) }
         ensures takes { Takes T.left T.window self.old self.new result }
-        ensures moves { Moves T.left T.origin self.old self.new }
+        ensures moves { Moves T.unread T.left T.origin self.old self.new }
     {
         let (_, taken) = self.input.skip_run(Run::PlainWords(in_flow), usize::MAX);
         self.index += taken;
@@ -307,11 +338,14 @@ impl<T: Input> Cursor<T> {
             FetchesSteps (is_plain_word in_flow) h result Lands (string_chars out.old) (string_chars out.new)) }
         ensures kept { Extends (string_chars out.old) (string_chars out.new) }
         ensures takes { IfOk result (λ count. Takes T.left T.window self.old self.new count) }
-        ensures moves { Moves T.left T.origin self.old self.new }
+        ensures moves { Moves T.unread T.left T.origin self.old self.new }
     {
+        let lost = self.lost;
+        self.lost = true;
         let (_, taken) = self
             .input
             .fetch_run(out, Run::PlainWords(in_flow), usize::MAX)?;
+        self.lost = lost;
         self.index += taken;
         self.col += taken;
         self.begins_line = still_begins(self.begins_line, taken);
@@ -325,7 +359,7 @@ impl<T: Input> Cursor<T> {
         ensures here { Wherever T.unread self.old self.new (λ h Lands.
             StepsRun (is_quoted_word single) h result Lands) }
         ensures takes { Takes T.left T.window self.old self.new result }
-        ensures moves { Moves T.left T.origin self.old self.new }
+        ensures moves { Moves T.unread T.left T.origin self.old self.new }
     {
         let (_, taken) = self.input.skip_run(Run::QuotedWords(single), usize::MAX);
         self.index += taken;
@@ -341,11 +375,14 @@ impl<T: Input> Cursor<T> {
             FetchesSteps (is_quoted_word single) h result Lands (string_chars out.old) (string_chars out.new)) }
         ensures kept { Extends (string_chars out.old) (string_chars out.new) }
         ensures takes { IfOk result (λ count. Takes T.left T.window self.old self.new count) }
-        ensures moves { Moves T.left T.origin self.old self.new }
+        ensures moves { Moves T.unread T.left T.origin self.old self.new }
     {
+        let lost = self.lost;
+        self.lost = true;
         let (_, taken) = self
             .input
             .fetch_run(out, Run::QuotedWords(single), usize::MAX)?;
+        self.lost = lost;
         self.index += taken;
         self.col += taken;
         self.begins_line = still_begins(self.begins_line, taken);
@@ -379,9 +416,12 @@ impl<T: Input> Cursor<T> {
             FetchesSteps (starts is_alpha) h result Lands (string_chars out.old) (string_chars out.new)) }
         ensures kept { Extends (string_chars out.old) (string_chars out.new) }
         ensures takes { IfOk result (λ count. Takes T.left T.window self.old self.new count) }
-        ensures moves { Moves T.left T.origin self.old self.new }
+        ensures moves { Moves T.unread T.left T.origin self.old self.new }
     {
+        let lost = self.lost;
+        self.lost = true;
         let taken = self.input.fetch_while_is_alpha(out)?;
+        self.lost = lost;
         self.index += taken;
         self.col += taken;
         self.begins_line = still_begins(self.begins_line, taken);
@@ -396,9 +436,12 @@ impl<T: Input> Cursor<T> {
             FetchesSteps (starts is_yaml_non_space) h result Lands (string_chars out.old) (string_chars out.new)) }
         ensures kept { Extends (string_chars out.old) (string_chars out.new) }
         ensures takes { IfOk result (λ count. Takes T.left T.window self.old self.new count) }
-        ensures moves { Moves T.left T.origin self.old self.new }
+        ensures moves { Moves T.unread T.left T.origin self.old self.new }
     {
+        let lost = self.lost;
+        self.lost = true;
         let taken = self.input.fetch_while_is_yaml_non_space(out)?;
+        self.lost = lost;
         self.index += taken;
         self.col += taken;
         self.begins_line = still_begins(self.begins_line, taken);
@@ -413,9 +456,12 @@ impl<T: Input> Cursor<T> {
             FetchesSteps (starts is_non_breakz) h result (Inside Lands) (string_chars out.old) (string_chars out.new)) }
         ensures kept { Extends (string_chars out.old) (string_chars out.new) }
         ensures takes { IfOk result (λ count. Takes T.left T.window self.old self.new count) }
-        ensures moves { Moves T.left T.origin self.old self.new }
+        ensures moves { Moves T.unread T.left T.origin self.old self.new }
     {
+        let lost = self.lost;
+        self.lost = true;
         let taken = self.input.fetch_block_scalar_line(out)?;
+        self.lost = lost;
         self.index += taken;
         self.col += taken;
         self.begins_line = false;
@@ -428,7 +474,7 @@ impl<T: Input> Cursor<T> {
         ensures here { Wherever T.unread self.old self.new (λ h Lands.
             StepsRun (starts is_line_char) h result (Inside Lands)) }
         ensures takes { Takes T.left T.window self.old self.new result }
-        ensures moves { Moves T.left T.origin self.old self.new }
+        ensures moves { Moves T.unread T.left T.origin self.old self.new }
     {
         let taken = self.input.skip_while_non_breakz();
         self.index += taken;
@@ -445,11 +491,14 @@ impl<T: Input> Cursor<T> {
             FetchesSteps (starts is_line_char) h result (Inside Lands) (string_chars out.old) (string_chars out.new)) }
         ensures kept { Extends (string_chars out.old) (string_chars out.new) }
         ensures takes { IfOk result (λ count. Takes T.left T.window self.old self.new count) }
-        ensures moves { Moves T.left T.origin self.old self.new }
+        ensures moves { Moves T.unread T.left T.origin self.old self.new }
     {
+        let lost = self.lost;
+        self.lost = true;
         let (_, taken) = self
             .input
             .fetch_run(out, Run::Of(Class::Printable), usize::MAX)?;
+        self.lost = lost;
         self.index += taken;
         self.col += taken;
         self.begins_line = false;
@@ -461,7 +510,7 @@ impl<T: Input> Cursor<T> {
     pub fn skip_while_blank(&mut self) -> usize
         ensures here { Wherever T.unread self.old self.new (λ h Lands. StepsRun (starts is_blank) h result Lands) }
         ensures takes { Takes T.left T.window self.old self.new result }
-        ensures moves { Moves T.left T.origin self.old self.new }
+        ensures moves { Moves T.unread T.left T.origin self.old self.new }
     {
         let spaces = self.skip_spaces();
         self.look(1);
@@ -476,7 +525,7 @@ impl<T: Input> Cursor<T> {
         ensures here { Wherever T.unread self.old self.new (λ h Lands.
             StepsRun (starts (is_skipped No)) h result Lands) }
         ensures takes { Takes T.left T.window self.old self.new result }
-        ensures moves { Moves T.left T.origin self.old self.new }
+        ensures moves { Moves T.unread T.left T.origin self.old self.new }
     {
         let (taken, _) = self.input.skip_ws_to_eol_blanks(SkipTabs::No);
         self.index += taken;
@@ -489,7 +538,7 @@ impl<T: Input> Cursor<T> {
         requires { (h : Here) → Stands T.unread self.old h → next_char h ≡ 0x09 }
         ensures here { Wherever T.unread self.old self.new (λ h Lands. StepsRun (starts is_blank) h result Lands) }
         ensures takes { Takes T.left T.window self.old self.new result }
-        ensures moves { Moves T.left T.origin self.old self.new }
+        ensures moves { Moves T.unread T.left T.origin self.old self.new }
     {
         let tab = self.first_tab();
         self.tab = Some(tab);

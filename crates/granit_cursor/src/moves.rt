@@ -22,7 +22,7 @@ pub fn drop_blanks(blanks: &mut String)
 pub fn past_break<T: Input>(cursor: &mut Cursor<T>)
     ensures here { GoesTo T.unread cursor.old cursor.new spec.past_break }
     ensures left { T.left cursor.new.input ≤ T.left cursor.old.input - 1 }
-    ensures moves { Moves T.left T.origin cursor.old cursor.new }
+    ensures moves { Moves T.unread T.left T.origin cursor.old cursor.new }
 {
     cursor.look(2);
     if cursor.input().next_2_are('\r', '\n') {
@@ -36,7 +36,7 @@ pub fn past_break<T: Input>(cursor: &mut Cursor<T>)
 /// Behind the blanks that stand here.
 pub fn past_blanks<T: Input>(cursor: &mut Cursor<T>)
     ensures here { GoesTo T.unread cursor.old cursor.new (past is_blank) }
-    ensures moves { Moves T.left T.origin cursor.old cursor.new }
+    ensures moves { Moves T.unread T.left T.origin cursor.old cursor.new }
 {
     cursor.skip_while_blank();
 }

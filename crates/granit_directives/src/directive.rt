@@ -53,7 +53,7 @@ pub fn scan_directive<'input, T: BorrowedInput<'input>>(
         → extent.AnswersDirective (options_of options.now) h read after
         → IfErr result (λ e. e.kind ≡ OutOfMemory) }
     ensures kinds { IfErr result (λ e. IsDirectiveKind e.kind) }
-    ensures moves { Moves T.left T.origin cursor.old cursor.new }
+    ensures moves { Moves T.unread T.left T.origin cursor.old cursor.new }
 {
     read_directive(alloc, cursor, options)
 }
@@ -67,7 +67,7 @@ fn read_directive<'input, T: BorrowedInput<'input>>(
     ensures here { ReadsAs T.unread cursor.old cursor.new result
         (λ h. coded (directive_lexed options.now.emit_comments) (spec.directive (options_of options.now) h)) }
     ensures kinds { IfErr result (λ e. IsDirectiveKind e.kind) }
-    ensures moves { Moves T.left T.origin cursor.old cursor.new }
+    ensures moves { Moves T.unread T.left T.origin cursor.old cursor.new }
 {
     let start = cursor.mark();
     if options.disallow_directives {
@@ -129,7 +129,7 @@ fn directive_of<'input, T: Input>(
         (spec.directive_of (options_of options.now) (budget_of (Some options.now.max_directive_bytes) name.left)
         start (string_chars name.text) h)) }
     ensures kinds { IfErr result (λ e. IsDirectiveKind e.kind) }
-    ensures moves { Moves T.left T.origin cursor.old cursor.new }
+    ensures moves { Moves T.unread T.left T.origin cursor.old cursor.new }
 {
     if is_yaml(name.text.as_str()) {
         let version = version_directive(cursor, start)?;
@@ -154,7 +154,7 @@ fn directive_at<'input, T: Input>(
         → GivesTo (λ t. t) result (Stands T.unread cursor.new)
         (coded kind_type (spec.directive_at (options_of options.now) h)) }
     ensures kinds { IfErr result (λ e. IsDirectiveKind e.kind) }
-    ensures moves { Moves T.left T.origin cursor.old cursor.new }
+    ensures moves { Moves T.unread T.left T.origin cursor.old cursor.new }
 {
     cursor.step();
     let name_start = cursor.mark();

@@ -46,7 +46,7 @@ fn take_parameter<T: Input>(
     ensures owned { all_owned parts.old.list → all_owned parts.new.list }
     ensures left { UriTurnTakes result (T.left cursor.old.input) (T.left cursor.new.input) }
     ensures kinds { IfErr result (λ e. IsDirectiveKind e.kind) }
-    ensures moves { Moves T.left T.origin cursor.old cursor.new }
+    ensures moves { Moves T.unread T.left T.origin cursor.old cursor.new }
 {
     let blanks = count_blanks(cursor);
     cursor.look(1);
@@ -80,7 +80,7 @@ pub(crate) fn read_parameters<T: Input>(
     ensures here { Wherever T.unread cursor.old cursor.new (λ h Lands.
         ParametersTo (options_of options.now) start left result Lands h) }
     ensures kinds { IfErr result (λ e. IsDirectiveKind e.kind) }
-    ensures moves { Moves T.left T.origin cursor.old cursor.new }
+    ensures moves { Moves T.unread T.left T.origin cursor.old cursor.new }
 {
     let mut parts = ParameterParts {
         list: TextList::new(alloc),

@@ -34,7 +34,7 @@ fn blanks_within<T: Input>(
     ensures here { Wherever T.unread cursor.old cursor.new (λ h Lands.
         GivesTo (budget_of (Some limit)) result Lands (spec.blanks_within (budget_of (Some limit) left) start h)) }
     ensures kinds { IfErr result (λ e. IsDirectiveKind e.kind) }
-    ensures moves { Moves T.left T.origin cursor.old cursor.new }
+    ensures moves { Moves T.unread T.left T.origin cursor.old cursor.new }
 {
     let blanks = count_blanks(cursor);
     let mut rest = left;
@@ -46,7 +46,7 @@ fn blanks_within<T: Input>(
 fn closes_handle<T: Input>(cursor: &mut Cursor<T>, text: &mut String) -> Result<bool, NoMemory>
     ensures here { Wherever T.unread cursor.old cursor.new (λ h Lands.
         ClosesTo result Lands (string_chars text.old) (string_chars text.new) h) }
-    ensures moves { Moves T.left T.origin cursor.old cursor.new }
+    ensures moves { Moves T.unread T.left T.origin cursor.old cursor.new }
 {
     cursor.look(1);
     if cursor.input().peek() != '!' {
@@ -79,7 +79,7 @@ fn spelled_handle<T: Input>(
 ) -> Result<SpelledHandle, NoMemory>
     ensures here { (h : Here) → Stands T.unread cursor.old h → next_char h ≡ 0x21
         → SpellsTo result (Stands T.unread cursor.new) h }
-    ensures moves { Moves T.left T.origin cursor.old cursor.new }
+    ensures moves { Moves T.unread T.left T.origin cursor.old cursor.new }
 {
     let mut text = bang(alloc)?;
     cursor.step();
@@ -113,7 +113,7 @@ fn handle_at<T: Input>(
     ensures here { Wherever T.unread cursor.old cursor.new (λ h Lands.
         HandleTo limit result Lands h (spec.handle_at (budget_of (Some limit) left) start h)) }
     ensures kinds { IfErr result (λ e. IsDirectiveKind e.kind) }
-    ensures moves { Moves T.left T.origin cursor.old cursor.new }
+    ensures moves { Moves T.unread T.left T.origin cursor.old cursor.new }
 {
     cursor.look(1);
     if cursor.input().peek() != '!' {
@@ -144,7 +144,7 @@ fn prefix_rest<T: Input>(
         GivesTo prefix_read result Lands
         (prefix_rest start (budget_of (Some limit) handle.left) (string_chars handle.text) (string_chars front) h)) }
     ensures kinds { IfErr result (λ e. IsDirectiveKind e.kind) }
-    ensures moves { Moves T.left T.origin cursor.old cursor.new }
+    ensures moves { Moves T.unread T.left T.origin cursor.old cursor.new }
 {
     let parts = read_uri(
         alloc,
@@ -178,7 +178,7 @@ fn prefix_at<T: Input>(
         GivesTo prefix_read result Lands
         (spec.prefix_at (budget_of (Some limit) handle.left) start (string_chars handle.text) h)) }
     ensures kinds { IfErr result (λ e. IsDirectiveKind e.kind) }
-    ensures moves { Moves T.left T.origin cursor.old cursor.new }
+    ensures moves { Moves T.unread T.left T.origin cursor.old cursor.new }
 {
     cursor.look(1);
     let c = cursor.input().peek();
@@ -210,7 +210,7 @@ pub(crate) fn tag_directive<T: Input>(
     ensures here { Wherever T.unread cursor.old cursor.new (λ h Lands.
         GivesTo prefix_read result Lands (spec.tag_directive (budget_of (Some limit) left) start h)) }
     ensures kinds { IfErr result (λ e. IsDirectiveKind e.kind) }
-    ensures moves { Moves T.left T.origin cursor.old cursor.new }
+    ensures moves { Moves T.unread T.left T.origin cursor.old cursor.new }
 {
     let left = blanks_within(cursor, start, limit, left)?;
     let handle = handle_at(alloc, cursor, start, limit, left)?;

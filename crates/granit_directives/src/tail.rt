@@ -20,7 +20,7 @@ fn comment_here<'input, T: BorrowedInput<'input>>(
 ) -> Result<Option<Token<'input>>, ScanError>
     ensures here { ReadsAs T.unread cursor.old cursor.new result (comment_if_asked comments) }
     ensures kinds { IfErr result (λ e. IsDirectiveKind e.kind) }
-    ensures moves { Moves T.left T.origin cursor.old cursor.new }
+    ensures moves { Moves T.unread T.left T.origin cursor.old cursor.new }
 {
     if comments {
         let comment = read_comment(alloc, cursor)?;
@@ -48,7 +48,7 @@ pub(crate) fn directive_tail<'input, T: BorrowedInput<'input>>(
     ensures here { (kind : DirectiveKind) → reserved ≡ spec.is_reserved kind
         → ReadsAs T.unread cursor.old cursor.new result (asked_tail comments kind) }
     ensures kinds { IfErr result (λ e. IsDirectiveKind e.kind) }
-    ensures moves { Moves T.left T.origin cursor.old cursor.new }
+    ensures moves { Moves T.unread T.left T.origin cursor.old cursor.new }
 {
     cursor.look(1);
     if begins_at_once(reserved, cursor.input().peek()) {

@@ -37,7 +37,7 @@ fn version_number<T: Input>(cursor: &mut Cursor<T>, start: Marker) -> Result<u32
     ensures here { Wherever T.unread cursor.old cursor.new (λ h Lands.
         GivesTo (λ n. n) result Lands (spec.version_number start h)) }
     ensures kinds { IfErr result (λ e. IsDirectiveKind e.kind) }
-    ensures moves { Moves T.left T.origin cursor.old cursor.new }
+    ensures moves { Moves T.unread T.left T.origin cursor.old cursor.new }
 {
     let mut number: u32 = 0;
     let mut count: u32 = 0;
@@ -62,7 +62,7 @@ fn minor_number<T: Input>(cursor: &mut Cursor<T>, start: Marker) -> Result<u32, 
     ensures here { Wherever T.unread cursor.old cursor.new (λ h Lands.
         GivesTo (λ n. n) result Lands (spec.minor_number start h)) }
     ensures kinds { IfErr result (λ e. IsDirectiveKind e.kind) }
-    ensures moves { Moves T.left T.origin cursor.old cursor.new }
+    ensures moves { Moves T.unread T.left T.origin cursor.old cursor.new }
 {
     cursor.look(1);
     if cursor.input().peek() != '.' {
@@ -80,7 +80,7 @@ pub(crate) fn version_directive<T: Input>(
     ensures here { Wherever T.unread cursor.old cursor.new (λ h Lands.
         GivesTo version_read result Lands (spec.version_directive start h)) }
     ensures kinds { IfErr result (λ e. IsDirectiveKind e.kind) }
-    ensures moves { Moves T.left T.origin cursor.old cursor.new }
+    ensures moves { Moves T.unread T.left T.origin cursor.old cursor.new }
 {
     past_blanks(cursor);
     let major = version_number(cursor, start)?;

@@ -27,7 +27,7 @@ pub(crate) fn count_blanks<T: Input>(cursor: &mut Cursor<T>) -> usize
     ensures here { Wherever T.unread cursor.old cursor.new (λ h Lands.
         (result ≡ count_up_to h (past is_blank h)) × Lands (past is_blank h)) }
     ensures left { T.left cursor.new.input + result ≤ T.left cursor.old.input }
-    ensures moves { Moves T.left T.origin cursor.old cursor.new }
+    ensures moves { Moves T.unread T.left T.origin cursor.old cursor.new }
 {
     cursor.skip_while_blank()
 }
@@ -49,7 +49,7 @@ pub(crate) fn word_within<T: Input>(
 ) -> Result<WordText, ScanError>
     ensures here { Wherever T.unread cursor.old cursor.new (λ h Lands. WordTo limit left start result Lands h) }
     ensures kinds { IfErr result (λ e. IsDirectiveKind e.kind) }
-    ensures moves { Moves T.left T.origin cursor.old cursor.new }
+    ensures moves { Moves T.unread T.left T.origin cursor.old cursor.new }
 {
     let mut text = empty_text(alloc);
     take_word(cursor, Word::NonSpace, &mut text)?;

@@ -35,7 +35,7 @@ fn digits<T: Input>(
     requires { count ≤ 8 }
     ensures here { ReadsAs T.unread cursor.old cursor.new result (spec.digits_or (hex_refusal second) start count 0) }
     ensures kinds { IfErr result (λ e. IsQuotedFault e.kind) }
-    ensures moves { Moves T.left T.origin cursor.old cursor.new }
+    ensures moves { Moves T.unread T.left T.origin cursor.old cursor.new }
 {
     let mut number: u32 = 0;
     'digits: for i in 0..count {
@@ -60,7 +60,7 @@ fn second_half<T: Input>(
     requires { IsTrue (decoding.is_high high) }
     ensures here { ReadsAs T.unread cursor.old cursor.new result (spec.second_half_or start high) }
     ensures kinds { IfErr result (λ e. IsQuotedFault e.kind) }
-    ensures moves { Moves T.left T.origin cursor.old cursor.new }
+    ensures moves { Moves T.unread T.left T.origin cursor.old cursor.new }
 {
     cursor.look(2);
     if cursor.input().peek() == '\\' && cursor.input().peek_nth(1) == 'u' {
@@ -85,7 +85,7 @@ fn numbered<T: Input>(
 ) -> Result<char, ScanError>
     ensures here { ReadsAs T.unread cursor.old cursor.new result (spec.numbered_or start count number) }
     ensures kinds { IfErr result (λ e. IsQuotedFault e.kind) }
-    ensures moves { Moves T.left T.origin cursor.old cursor.new }
+    ensures moves { Moves T.unread T.left T.origin cursor.old cursor.new }
 {
     match char::from_u32(number) {
         Some(c) => Ok(c),
@@ -102,7 +102,7 @@ fn numbered<T: Input>(
 pub(crate) fn escape<T: Input>(cursor: &mut Cursor<T>, start: Marker) -> Result<char, ScanError>
     ensures here { ReadsAs T.unread cursor.old cursor.new result (spec.escape_or start) }
     ensures kinds { IfErr result (λ e. IsQuotedFault e.kind) }
-    ensures moves { Moves T.left T.origin cursor.old cursor.new }
+    ensures moves { Moves T.unread T.left T.origin cursor.old cursor.new }
 {
     cursor.look(1);
     let letter = cursor.input().peek();

@@ -26,7 +26,7 @@ pub(crate) struct Line<'input> {
 fn meets_comment<T: Input>(cursor: &mut Cursor<T>, blank: bool) -> bool
     ensures here { Wherever T.unread cursor.old cursor.new (λ h Lands.
         Lands h × (result ≡ (next_char h == 0x23 && blank))) }
-    ensures moves { Moves T.left T.origin cursor.old cursor.new }
+    ensures moves { Moves T.unread T.left T.origin cursor.old cursor.new }
 {
     cursor.look(1);
     cursor.input().peek() == '#' && blank
@@ -36,7 +36,7 @@ fn meets_comment<T: Input>(cursor: &mut Cursor<T>, blank: bool) -> bool
 fn pass_word<T: Input>(cursor: &mut Cursor<T>, in_flow: bool) -> (bool, bool)
     ensures here { Wherever T.unread cursor.old cursor.new (λ h Lands. PassesWord in_flow h result.0 result.1 Lands) }
     ensures left { WordTakes result.1 (T.left cursor.old.input) (T.left cursor.new.input) }
-    ensures moves { Moves T.left T.origin cursor.old cursor.new }
+    ensures moves { Moves T.unread T.left T.origin cursor.old cursor.new }
 {
     let blank = cursor.skip_while_blank() > 0;
     if meets_comment(cursor, blank) {
@@ -57,7 +57,7 @@ pub(crate) fn pass_line<'input, T: BorrowedInput<'input>>(
         h.unread.lends ≡ true → Some from ≡ h.unread.offset → start ≡ mark_of h
         → PassesLine (layout_data at.now) start h result Lands) }
     ensures kinds { IfErr result (λ e. e.kind ≡ InputSlicingUnavailable) }
-    ensures moves { Moves T.left T.origin cursor.old cursor.new }
+    ensures moves { Moves T.unread T.left T.origin cursor.old cursor.new }
 {
     let mut line = Line {
         front: "",

@@ -58,7 +58,7 @@ pub fn scan_plain_scalar<'input, T: BorrowedInput<'input>>(
     ensures answered { (h : Here) (read : spec.PlainRead) (after : Here) → Stands T.unread cursor.old h
         → extent.AnswersPlain (layout_data at.now) h read after → IfErr result (λ e. e.kind ≡ OutOfMemory) }
     ensures kinds { IfErr result (λ e. IsPlainKind e.kind) }
-    ensures moves { Moves T.left T.origin cursor.old cursor.new }
+    ensures moves { Moves T.unread T.left T.origin cursor.old cursor.new }
 {
     read_plain(alloc, cursor, at)
 }
@@ -129,7 +129,7 @@ fn look_ahead<T: Input>(cursor: &mut Cursor<T>, at: &Layout, parts: &PlainParts)
     ensures here { Wherever T.unread cursor.old cursor.new (λ h Lands. Lands h
         × (result ≡ ahead_of (layout_data at.now) (plain_state parts.now h))) }
     ensures some { TakesSome result (0 < T.left cursor.new.input) }
-    ensures moves { Moves T.left T.origin cursor.old cursor.new }
+    ensures moves { Moves T.unread T.left T.origin cursor.old cursor.new }
 {
     cursor.look(4);
     let c = cursor.input().peek();
@@ -165,7 +165,7 @@ fn take_blank<T: Input>(
         × (plain_state parts.new (step h) ≡ spec.on_blank (layout_data at.now) (plain_state parts.old h)))) }
     ensures value { parts.new.value ≡ parts.old.value }
     ensures left { OnOk result (T.left cursor.new.input ≤ T.left cursor.old.input - 1) }
-    ensures moves { Moves T.left T.origin cursor.old cursor.new }
+    ensures moves { Moves T.unread T.left T.origin cursor.old cursor.new }
 {
     cursor.look(1);
     let c = cursor.input().peek();
@@ -187,7 +187,7 @@ fn take_break<T: Input>(cursor: &mut Cursor<T>, parts: &mut PlainParts) -> Resul
         × (plain_state parts.new (basics.past_break h) ≡ spec.on_break (plain_state parts.old h)))) }
     ensures value { parts.new.value ≡ parts.old.value }
     ensures left { OnOk result (T.left cursor.new.input ≤ T.left cursor.old.input - 1) }
-    ensures moves { Moves T.left T.origin cursor.old cursor.new }
+    ensures moves { Moves T.unread T.left T.origin cursor.old cursor.new }
 {
     if parts.on_new_line {
         push_char(&mut parts.pending, '\n')?;
@@ -224,7 +224,7 @@ fn take_content<T: Input>(
         ++ next_char h ∷ []) ++ take n (step h).unread.text)
         × (plain_state parts.new (steps n (step h)) ≡ inside (steps n (step h))))) }
     ensures left { OnOk result (T.left cursor.new.input ≤ T.left cursor.old.input - 1) }
-    ensures moves { Moves T.left T.origin cursor.old cursor.new }
+    ensures moves { Moves T.unread T.left T.origin cursor.old cursor.new }
 {
     push_between(parts)?;
     cursor.look(1);
@@ -253,7 +253,7 @@ fn take_turn<T: Input>(
     ensures tab { (h : Here) → Stands T.unread cursor.old h
         → ahead_of (layout_data at.now) (plain_state parts.old h) ≡ Tab
         → IfErr result (λ e. e.kind ≡ TabInPlainScalar) }
-    ensures moves { Moves T.left T.origin cursor.old cursor.new }
+    ensures moves { Moves T.unread T.left T.origin cursor.old cursor.new }
 {
     match look_ahead(cursor, at, parts) {
         Ahead::Blank => {
@@ -296,7 +296,7 @@ fn plain_parts<T: Input>(
     ensures here { Wherever T.unread cursor.old cursor.new (λ h Lands.
         PartsTo result Lands (plain_whole (layout_data at.now) start parts h)) }
     ensures kinds { IfErr result (λ e. (e.kind ≡ OutOfMemory) ⊎ (e.kind ≡ TabInPlainScalar)) }
-    ensures moves { Moves T.left T.origin cursor.old cursor.new }
+    ensures moves { Moves T.unread T.left T.origin cursor.old cursor.new }
 {
     let mut parts = parts;
     'turns: while take_turn(cursor, at, start, &mut parts)? {}
@@ -338,7 +338,7 @@ fn finish_plain<'input, T: Input>(
     ensures here { ReadsAs T.unread cursor.old cursor.new result (λ h. coded plain_lexed
         (ended_plain (layout_data at.now) start text.entry ended.now.end ended.now.on_new_line ended.now.cuts h)) }
     ensures kinds { IfErr result (λ e. (c : ℕ) × (e.kind ≡ UnexpectedCharacter c)) }
-    ensures moves { Moves T.left T.origin cursor.old cursor.new }
+    ensures moves { Moves T.unread T.left T.origin cursor.old cursor.new }
 {
     if let Some(character) = find_unprintable(text.as_str()) {
         return Err(ScanError::from_kind(start, ErrorKind::UnexpectedCharacter { character }));
@@ -386,7 +386,7 @@ fn text_of_lines<'input>(
 fn at_break<T: Input>(cursor: &mut Cursor<T>) -> bool
     ensures here { Wherever T.unread cursor.old cursor.new (λ h Lands.
         Lands h × (result ≡ class.is_break (next_char h))) }
-    ensures moves { Moves T.left T.origin cursor.old cursor.new }
+    ensures moves { Moves T.unread T.left T.origin cursor.old cursor.new }
 {
     cursor.look(1);
     is_break(cursor.input().peek())
@@ -403,7 +403,7 @@ fn read_passed<'input, T: Input>(
     ensures here { ReadsAs T.unread cursor.old cursor.new result (λ h. coded plain_lexed
         (line_scalar (layout_data at.now) start (chars line.now.front.now) line.now.end line.now.blank h)) }
     ensures kinds { IfErr result (λ e. IsPlainKind e.kind) }
-    ensures moves { Moves T.left T.origin cursor.old cursor.new }
+    ensures moves { Moves T.unread T.left T.origin cursor.old cursor.new }
 {
     if !at_break(cursor) {
         let ended = PlainEnd {
@@ -430,7 +430,7 @@ fn read_copied<'input, T: Input>(
     ensures here { Wherever T.unread cursor.old cursor.new (λ h Lands. start ≡ mark_of h
         → GivesTo (λ x. x) result Lands (coded plain_lexed (copied_plain (layout_data at.now) h))) }
     ensures kinds { IfErr result (λ e. IsPlainKind e.kind) }
-    ensures moves { Moves T.left T.origin cursor.old cursor.new }
+    ensures moves { Moves T.unread T.left T.origin cursor.old cursor.new }
 {
     let parts = plain_parts(cursor, at, start, no_parts(alloc, start, false))?;
     let ended = end_of(&parts);
@@ -441,7 +441,7 @@ fn read_copied<'input, T: Input>(
 fn at_flow_dash<T: Input>(cursor: &mut Cursor<T>, at: &Layout) -> bool
     ensures here { Wherever T.unread cursor.old cursor.new (λ h Lands.
         Lands h × (result ≡ extent.is_flow_dash (layout_data at.now) h.unread.text)) }
-    ensures moves { Moves T.left T.origin cursor.old cursor.new }
+    ensures moves { Moves T.unread T.left T.origin cursor.old cursor.new }
 {
     cursor.look(2);
     at.in_flow && cursor.input().peek() == '-' && is_flow(cursor.input().peek_nth(1))
@@ -456,7 +456,7 @@ fn read_plain<'input, T: BorrowedInput<'input>>(
     ensures here { ReadsAs T.unread cursor.old cursor.new result (λ h.
         coded plain_lexed (spec.plain_scalar (layout_data at.now) h)) }
     ensures kinds { IfErr result (λ e. IsPlainKind e.kind) }
-    ensures moves { Moves T.left T.origin cursor.old cursor.new }
+    ensures moves { Moves T.unread T.left T.origin cursor.old cursor.new }
 {
     let start = cursor.mark();
     if at_flow_dash(cursor, at) {

@@ -64,7 +64,7 @@ pub fn scan_quoted_scalar<'input, T: BorrowedInput<'input>>(
     ensures answered { (h : Here) (read : spec.QuotedRead) (after : Here) → Stands T.unread cursor.old h
         → extent.AnswersQuoted single (layout_data at.now) h read after → IfErr result (λ e. e.kind ≡ OutOfMemory) }
     ensures kinds { IfErr result (λ e. IsQuotedKind e.kind) }
-    ensures moves { Moves T.left T.origin cursor.old cursor.new }
+    ensures moves { Moves T.unread T.left T.origin cursor.old cursor.new }
 {
     read_quoted(alloc, cursor, single, at)
 }
@@ -159,7 +159,7 @@ fn look_ahead<T: Input>(
         × SeesTo result (quoted_ahead single (layout_data at.now) start (quoted_state parts.now h))) }
     ensures some { SeesSome result (0 < T.left cursor.new.input) }
     ensures kinds { IfErr result (λ e. IsQuotedFault e.kind) }
-    ensures moves { Moves T.left T.origin cursor.old cursor.new }
+    ensures moves { Moves T.unread T.left T.origin cursor.old cursor.new }
 {
     cursor.look(4);
     let character = cursor.input().peek();
@@ -200,7 +200,7 @@ fn take_blank<T: Input>(cursor: &mut Cursor<T>, parts: &mut QuotedParts) -> Resu
         × (quoted_state parts.new (step h) ≡ spec.over_blank (quoted_state parts.old h)))) }
     ensures value { parts.new.value ≡ parts.old.value }
     ensures left { OnOk result (T.left cursor.new.input ≤ T.left cursor.old.input - 1) }
-    ensures moves { Moves T.left T.origin cursor.old cursor.new }
+    ensures moves { Moves T.unread T.left T.origin cursor.old cursor.new }
 {
     cursor.look(1);
     let c = cursor.input().peek();
@@ -218,7 +218,7 @@ fn take_break<T: Input>(cursor: &mut Cursor<T>, parts: &mut QuotedParts) -> Resu
         × (quoted_state parts.new (basics.past_break h) ≡ spec.over_break (quoted_state parts.old h)))) }
     ensures value { parts.new.value ≡ parts.old.value }
     ensures left { OnOk result (T.left cursor.new.input ≤ T.left cursor.old.input - 1) }
-    ensures moves { Moves T.left T.origin cursor.old cursor.new }
+    ensures moves { Moves T.unread T.left T.origin cursor.old cursor.new }
 {
     if parts.on_new_line {
         push_char(&mut parts.pending, '\n')?;
@@ -252,7 +252,7 @@ fn read_content<T: Input>(
     ensures here { ReadsAs T.unread cursor.old cursor.new result (content_read single start) }
     ensures left { OnOk result (T.left cursor.new.input ≤ T.left cursor.old.input - 1) }
     ensures kinds { IfErr result (λ e. IsQuotedFault e.kind) }
-    ensures moves { Moves T.left T.origin cursor.old cursor.new }
+    ensures moves { Moves T.unread T.left T.origin cursor.old cursor.new }
 {
     cursor.look(2);
     let c = cursor.input().peek();
@@ -304,7 +304,7 @@ fn take_content<T: Input>(
         parts.old.value (quoted_state parts.old h) parts.new (content_read single start h)) }
     ensures left { OnOk result (T.left cursor.new.input ≤ T.left cursor.old.input - 1) }
     ensures kinds { IfErr result (λ e. IsQuotedKind e.kind) }
-    ensures moves { Moves T.left T.origin cursor.old cursor.new }
+    ensures moves { Moves T.unread T.left T.origin cursor.old cursor.new }
 {
     let content = read_content(cursor, single, start)?;
     push_content(parts, content)?;
@@ -319,7 +319,7 @@ fn take_words<T: Input>(
 ) -> Result<(), NoMemory>
     ensures here { Wherever T.unread cursor.old cursor.new (λ h Lands.
         GoesWords single parts.old parts.new h result Lands) }
-    ensures moves { Moves T.left T.origin cursor.old cursor.new }
+    ensures moves { Moves T.unread T.left T.origin cursor.old cursor.new }
 {
     if parts.escaped {
         return Ok(());
@@ -340,7 +340,7 @@ fn take_turn<T: Input>(
         result Lands parts.new (quoted_whole single (layout_data at.now) start parts.old h)) }
     ensures left { TurnTakes result (T.left cursor.old.input) (T.left cursor.new.input) }
     ensures kinds { IfErr result (λ e. IsQuotedKind e.kind) }
-    ensures moves { Moves T.left T.origin cursor.old cursor.new }
+    ensures moves { Moves T.unread T.left T.origin cursor.old cursor.new }
 {
     match look_ahead(cursor, single, at, start, parts)? {
         Ahead::Blank => {
@@ -407,7 +407,7 @@ fn quoted_parts<T: Input>(
     ensures here { Wherever T.unread cursor.old cursor.new (λ h Lands.
         QuotedPartsTo result Lands (quoted_whole single (layout_data at.now) start parts h)) }
     ensures kinds { IfErr result (λ e. IsQuotedKind e.kind) }
-    ensures moves { Moves T.left T.origin cursor.old cursor.new }
+    ensures moves { Moves T.unread T.left T.origin cursor.old cursor.new }
 {
     let mut parts = parts;
     'turns: while take_turn(cursor, single, at, start, &mut parts)? {}
@@ -471,7 +471,7 @@ fn behind_quoted<'input, T: Input>(
     ensures here { ReadsAs T.unread cursor.old cursor.new result (λ h. coded (quoted_lexed single)
         (spec.behind_quoted single (layout_data at.now) start text.entry end h)) }
     ensures kinds { IfErr result (λ e. IsQuotedFault e.kind) }
-    ensures moves { Moves T.left T.origin cursor.old cursor.new }
+    ensures moves { Moves T.unread T.left T.origin cursor.old cursor.new }
 {
     cursor.look(1);
     let character = cursor.input().peek();
@@ -496,7 +496,7 @@ fn comment_behind<'input, T: BorrowedInput<'input>>(
 ) -> Result<Option<Token<'input>>, ScanError>
     ensures here { ReadsAs T.unread cursor.old cursor.new result (asked (layout_data at.now)) }
     ensures kinds { IfErr result (λ e. IsQuotedKind e.kind) }
-    ensures moves { Moves T.left T.origin cursor.old cursor.new }
+    ensures moves { Moves T.unread T.left T.origin cursor.old cursor.new }
 {
     if at.comments {
         let comment = read_comment(alloc, cursor)?;
@@ -519,7 +519,7 @@ fn quoted_tail<'input, T: BorrowedInput<'input>>(
     ensures here { ReadsAs T.unread cursor.old cursor.new result (λ h. coded (quoted_lexed single)
         (spec.quoted_tail single (layout_data at.now) start text.entry h)) }
     ensures kinds { IfErr result (λ e. IsQuotedKind e.kind) }
-    ensures moves { Moves T.left T.origin cursor.old cursor.new }
+    ensures moves { Moves T.unread T.left T.origin cursor.old cursor.new }
 {
     cursor.look(1);
     let end = cursor.mark();
@@ -539,7 +539,7 @@ fn quoted_tail<'input, T: BorrowedInput<'input>>(
 fn skip_kept<T: Input>(cursor: &mut Cursor<T>, single: bool)
     ensures here { Wherever T.unread cursor.old cursor.new (λ h Lands.
         (n : ℕ) × StepsRun (starts (spec.is_kept single)) h n Lands) }
-    ensures moves { Moves T.left T.origin cursor.old cursor.new }
+    ensures moves { Moves T.unread T.left T.origin cursor.old cursor.new }
 {
     'kept: loop {
         let content = cursor.skip_quoted_words(single);
@@ -564,7 +564,7 @@ fn pass_kept<'input, T: BorrowedInput<'input>>(
 ) -> Result<Option<&'input str>, ScanError>
     ensures here { Wherever T.unread cursor.old cursor.new (λ h Lands. PassesKept single h result Lands) }
     ensures kinds { IfErr result (λ e. e.kind ≡ InputSlicingUnavailable) }
-    ensures moves { Moves T.left T.origin cursor.old cursor.new }
+    ensures moves { Moves T.unread T.left T.origin cursor.old cursor.new }
 {
     match lending_offset(cursor) {
         Some(start) => {
@@ -582,7 +582,7 @@ fn pass_kept<'input, T: BorrowedInput<'input>>(
 fn at_closing<T: Input>(cursor: &mut Cursor<T>, single: bool) -> bool
     ensures here { Wherever T.unread cursor.old cursor.new (λ h Lands.
         Lands h × (result ≡ spec.is_closing single h.unread.text)) }
-    ensures moves { Moves T.left T.origin cursor.old cursor.new }
+    ensures moves { Moves T.unread T.left T.origin cursor.old cursor.new }
 {
     cursor.look(4);
     is_closing(cursor, single)
@@ -600,7 +600,7 @@ fn read_copied<'input, T: BorrowedInput<'input>>(
     ensures here { ReadsAs T.unread cursor.old cursor.new result (λ h. coded (quoted_lexed single)
         (copied_scalar single (layout_data at.now) start (chars front.now) h)) }
     ensures kinds { IfErr result (λ e. IsQuotedKind e.kind) }
-    ensures moves { Moves T.left T.origin cursor.old cursor.new }
+    ensures moves { Moves T.unread T.left T.origin cursor.old cursor.new }
 {
     let behind = parts_behind(alloc, front)?;
     let mut parts = quoted_parts(cursor, single, at, start, behind)?;
@@ -622,7 +622,7 @@ fn read_passed<'input, T: BorrowedInput<'input>>(
     ensures here { ReadsAs T.unread cursor.old cursor.new result (λ h. coded (quoted_lexed single)
         (passed_scalar single (layout_data at.now) start (chars front.now) h)) }
     ensures kinds { IfErr result (λ e. IsQuotedKind e.kind) }
-    ensures moves { Moves T.left T.origin cursor.old cursor.new }
+    ensures moves { Moves T.unread T.left T.origin cursor.old cursor.new }
 {
     if at_closing(cursor, single) {
         cursor.step();
@@ -640,7 +640,7 @@ fn read_quoted<'input, T: BorrowedInput<'input>>(
     ensures here { ReadsAs T.unread cursor.old cursor.new result (λ h.
         coded (quoted_lexed single) (spec.quoted_scalar single (layout_data at.now) h)) }
     ensures kinds { IfErr result (λ e. IsQuotedKind e.kind) }
-    ensures moves { Moves T.left T.origin cursor.old cursor.new }
+    ensures moves { Moves T.unread T.left T.origin cursor.old cursor.new }
 {
     let start = cursor.mark();
     cursor.step();

@@ -18,6 +18,7 @@ pub mod Line
 pub mod LinesExtent
 pub mod Moves
 pub mod NameExtent
+pub mod Onward
 pub mod Outcome
 pub mod Pieces
 pub mod Place

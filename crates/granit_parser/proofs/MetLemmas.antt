@@ -3,6 +3,7 @@ use Rattle.std.proofs.Common.{◌≡◌, ℕ, Bool, true, false, true≢false, O
 use Rattle.std.proofs.Common.{refl, sym, ap, subst, ◌∙◌}
 use Rattle.std.specs.Result.{IsErrAnd}
 use Rattle.granit_base.specs.declared.place.Span.{Span}
+use Rattle.granit_base.specs.Place.{Unread}
 use Rattle.granit_cursor.specs.Reading.{Moves, Reading}
 use Rattle.granit_error.specs.FaultKind.{FaultKind}
 use Rattle.granit_error.specs.Refused.{Refused}
@@ -47,9 +48,9 @@ pub record Quiet {I : Type 0} (origin : I → Origin) (initial now : Parsing I) 
       → (origin initial.stepper.scanner.cursor.input).handed_out ≡ false
       → (origin now.stepper.scanner.cursor.input).error ≡ None
 
-module _ {I : Type 0} (left : I → ℕ) (origin : I → Origin) (initial now after : Parsing I)
-    (quiet : initial.peeked ≡ None → Quiet origin initial now)
-    (moved : Moves left origin initial.stepper.scanner.cursor now.stepper.scanner.cursor) where
+module _ {I : Type 0} (unread : I → Unread → Type 0) (left : I → ℕ) (origin : I → Origin)
+    (initial now after : Parsing I) (quiet : initial.peeked ≡ None → Quiet origin initial now)
+    (moved : Moves unread left origin initial.stepper.scanner.cursor now.stepper.scanner.cursor) where
   module _ (r s : Next) (same : r ≡ s)
       (tells : IfUnseen now.peeked (TellsError origin now.stepper r after.stepper.scanner.cursor))
       (over : IsOver now → (r ≡ None) × (after ≡ now)) where

@@ -223,18 +223,20 @@ moved left origin r (Some x) old new seen moves =
     rw seen.1 (le_refl _, goes_unless r (origin old.scanner.cursor.input) _ (goes_nowhere _))
 
 -- calls one behind the other
-pub moves_on : {I X : Type 0} (left : I → ℕ) (origin : I → Origin) (r : Option (Result X Refused)) (a b c : Reading I)
-    → Moves left origin a b → MovesUnless left origin r b c → MovesUnless left origin r a c
-moves_on left origin None a b c first next = (le_trans next.0 first.0, goes_on _ _ _ first.1 next.1)
-moves_on left origin (Some (Ok x)) a b c first next = (le_trans next.0 first.0, goes_on _ _ _ first.1 next.1)
-moves_on left origin (Some (Err e)) a b c first next = (le_trans next.0 first.0, giving_on _ _ _ first.1 next.1)
+pub moves_on : {I X : Type 0} (unread : I → Unread → Type 0) (left : I → ℕ) (origin : I → Origin)
+    (r : Option (Result X Refused)) (a b c : Reading I)
+    → Moves unread left origin a b → MovesUnless left origin r b c → MovesUnless left origin r a c
+moves_on unread left origin None a b c first next = (le_trans next.0 first.0, goes_on _ _ _ first.1 next.1)
+moves_on unread left origin (Some (Ok x)) a b c first next = (le_trans next.0 first.0, goes_on _ _ _ first.1 next.1)
+moves_on unread left origin (Some (Err e)) a b c first next = (le_trans next.0 first.0, giving_on _ _ _ first.1 next.1)
 
-pub moves_behind : {I : Type 0} (left : I → ℕ) (origin : I → Origin) (r s : Next) (a : Reading I)
-    (now after : Parsing I) → r ≡ s → IfSome now.peeked (λ x. (r ≡ Some x) × (after.stepper ≡ now.stepper))
+pub moves_behind : {I : Type 0} (unread : I → Unread → Type 0) (left : I → ℕ) (origin : I → Origin) (r s : Next)
+    (a : Reading I) (now after : Parsing I) → r ≡ s
+    → IfSome now.peeked (λ x. (r ≡ Some x) × (after.stepper ≡ now.stepper))
     → IfUnseen now.peeked (MovesUnless left origin r now.stepper.scanner.cursor after.stepper.scanner.cursor)
-    → Moves left origin a now.stepper.scanner.cursor → MovesUnless left origin s a after.stepper.scanner.cursor
-moves_behind left origin r s a now after same seen moves first =
-    moves_on left origin s a now.stepper.scanner.cursor after.stepper.scanner.cursor first
+    → Moves unread left origin a now.stepper.scanner.cursor → MovesUnless left origin s a after.stepper.scanner.cursor
+moves_behind unread left origin r s a now after same seen moves first =
+    moves_on unread left origin s a now.stepper.scanner.cursor after.stepper.scanner.cursor first
     (subst (λ (x : Next). MovesUnless left origin x now.stepper.scanner.cursor after.stepper.scanner.cursor) same
     (moved left origin r now.peeked now.stepper after.stepper seen moves))
 

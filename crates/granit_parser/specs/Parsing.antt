@@ -5,6 +5,7 @@ use Rattle.granit_base.specs.Place.{Unread}
 use Rattle.granit_base.specs.declared.place.Span.{Span}
 use Rattle.granit_before.specs.DeclaredCause.{DeclaredCause}
 use Rattle.granit_before.specs.DeclaredReading.{DeclaredReading}
+use Rattle.granit_cursor.specs.Reading.{GoesOnward}
 use Rattle.granit_error.specs.FaultKind.{NoMemory}
 use Rattle.granit_error.specs.OptionsData.{OptionsData}
 use Rattle.granit_error.specs.Refused.{Refused}
@@ -91,6 +92,7 @@ pub record PeeksAs {I : Type 0} (unread : I → Unread → Type 0) (left : I →
   pub over : IsOver old → new ≡ old
   pub options : new.stepper.scanner.options ≡ old.stepper.scanner.options
   pub moves : IfUnseen old.peeked (MovesUnless left origin r old.stepper.scanner.cursor new.stepper.scanner.cursor)
+  pub onward : GoesOnward unread old.stepper.scanner.cursor new.stepper.scanner.cursor
 
 -- a step gives what the machine's step gives, what was looked at, and behind a refusal nothing
 pub record StepsTo {I : Type 0} (unread : I → Unread → Type 0) (left : I → ℕ) (origin : I → Origin) (p : Parsing I)
@@ -106,6 +108,7 @@ pub record StepsTo {I : Type 0} (unread : I → Unread → Type 0) (left : I →
   pub over : IsOver p → (r ≡ None) × (q ≡ p)
   pub options : q.stepper.scanner.options ≡ p.stepper.scanner.options
   pub moves : IfUnseen p.peeked (MovesUnless left origin r p.stepper.scanner.cursor q.stepper.scanner.cursor)
+  pub onward : GoesOnward unread p.stepper.scanner.cursor q.stepper.scanner.cursor
 
 -- one by one these events are given, from a state up to another one
 pub data LeadsTo (o : OptionsData) : StepState → List PlainEvent → StepState → Type 0 where

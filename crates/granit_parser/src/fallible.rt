@@ -1,5 +1,5 @@
 //! Iterators of characters that may fail, which are read into events.
-ghost use Rattle.std.specs.Prelude.{◌≡◌, ℕ, ◌<◌, ◌^◌, false, List, Result, IfOk};
+ghost use Rattle.std.specs.Prelude.{◌≡◌, ℕ, ◌<◌, ◌^◌, false, List, None, Result, IfOk};
 ghost use Rattle.std.specs.Iterator.{size};
 ghost use Rattle.granit_buffered.specs.Fallible.{characters_of, first_error};
 ghost use Rattle.granit_buffered.specs.Feeds.{GivesOnly};
@@ -39,6 +39,7 @@ impl<'input, T: Source<Item = Result<char, ErrorKind>>> Parser<'input, FallibleB
         ensures fresh { IfOk result (λ p.
             (⟦<FallibleBufferedInput<T> as Input>⟧.origin p.stepper.scanner.cursor.input).handed_out ≡ false) }
         ensures options { IfOk result (λ p. p.stepper.scanner.options ≡ default_options) }
+        ensures unseen { IfOk result (λ p. p.peeked ≡ None) }
     {
         Parser::new_from_fallible_iter_with_options(alloc, iter, Options::default())
     }
@@ -65,6 +66,7 @@ impl<'input, T: Source<Item = Result<char, ErrorKind>>> Parser<'input, FallibleB
         ensures fresh { IfOk result (λ p.
             (⟦<FallibleBufferedInput<T> as Input>⟧.origin p.stepper.scanner.cursor.input).handed_out ≡ false) }
         ensures options { IfOk result (λ p. p.stepper.scanner.options ≡ options_of options) }
+        ensures unseen { IfOk result (λ p. p.peeked ≡ None) }
     {
         let input = FallibleBufferedInput::new(alloc, iter)?;
         Ok(Parser::with_options(alloc, input, options))

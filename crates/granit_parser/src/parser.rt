@@ -7,6 +7,7 @@ ghost use Rattle.std.specs.Borrow.{sem};
 ghost use Rattle.std.specs.Io.BufRead.{Rests};
 ghost use Rattle.std.specs.Str.{chars};
 ghost use Rattle.granit_base.specs.Place.{Unread};
+ghost use Rattle.granit_cursor.specs.Reading.{GoesOnward};
 ghost use Rattle.granit_cursor.specs.Reading.{Moves};
 ghost use Rattle.granit_error.specs.FaultKind.{FaultKind};
 ghost use Rattle.granit_error.specs.OptionsData.{default_options};
@@ -143,6 +144,7 @@ impl<'input, T: BorrowedInput<'input>> Parser<'input, T> {
         ensures options { self.new.stepper.scanner.options ≡ self.old.stepper.scanner.options }
         ensures moves { IfUnseen self.old.peeked (MovesUnless T.left T.origin result
             self.old.stepper.scanner.cursor self.new.stepper.scanner.cursor) }
+        ensures onward { GoesOnward T.unread self.old.stepper.scanner.cursor self.new.stepper.scanner.cursor }
     {
         self.take_event()
     }
@@ -162,6 +164,7 @@ impl<'input, T: BorrowedInput<'input>> Parser<'input, T> {
         ensures options { self.new.stepper.scanner.options ≡ self.old.stepper.scanner.options }
         ensures moves { IfUnseen self.old.peeked (MovesUnless T.left T.origin result
             self.old.stepper.scanner.cursor self.new.stepper.scanner.cursor) }
+        ensures onward { GoesOnward T.unread self.old.stepper.scanner.cursor self.new.stepper.scanner.cursor }
     {
         let next = if self.peeked.is_none() {
             self.read_event()
@@ -235,6 +238,7 @@ impl<'input, T: BorrowedInput<'input>> Parser<'input, T> {
         ensures options { self.new.stepper.scanner.options ≡ self.old.stepper.scanner.options }
         ensures moves { MovesUnless T.left T.origin result self.old.stepper.scanner.cursor
             self.new.stepper.scanner.cursor }
+        ensures onward { GoesOnward T.unread self.old.stepper.scanner.cursor self.new.stepper.scanner.cursor }
     {
         if self.has_failed() {
             return None;
@@ -266,6 +270,7 @@ impl<'input, T: BorrowedInput<'input>> Parser<'input, T> {
         ensures left { T.left self.new.stepper.scanner.cursor.input ≤ T.left self.old.stepper.scanner.cursor.input }
         ensures origin { Gave (T.origin self.old.stepper.scanner.cursor.input)
             (T.origin self.new.stepper.scanner.cursor.input) }
+        ensures onward { GoesOnward T.unread self.old.stepper.scanner.cursor self.new.stepper.scanner.cursor }
     {
         self.stepper.take_source_error()
     }
@@ -280,7 +285,7 @@ impl<'input, T: BorrowedInput<'input>> Parser<'input, T> {
         ensures refused { EndsWith result self.new.stepper }
         ensures over { self.old.stepper.failed ≡ true → (result ≡ None) × (self.new ≡ self.old) }
         ensures options { self.new.stepper.scanner.options ≡ self.old.stepper.scanner.options }
-        ensures moves { Moves T.left T.origin self.old.stepper.scanner.cursor self.new.stepper.scanner.cursor }
+        ensures moves { Moves T.unread T.left T.origin self.old.stepper.scanner.cursor self.new.stepper.scanner.cursor }
     {
         match self.stepper.next_event(self.alloc) {
             Ok(None) => None,
@@ -289,16 +294,26 @@ impl<'input, T: BorrowedInput<'input>> Parser<'input, T> {
         }
     }
 
+    /// Whether it isn't known where reading stands, since memory ran out in the midst of a run.
+    pub fn is_lost(&self) -> bool
+        ensures { result ≡ self.now.stepper.scanner.cursor.lost }
+    {
+        self.stepper.is_lost()
+    }
+
     /// The error that the source ends with, once: the input is passed up to its end. Nothing more is read behind an
     /// error.
     pub fn end_error(&mut self) -> Option<ScanError>
         ensures told { (f : Option FaultKind) → (T.origin self.old.stepper.scanner.cursor.input).ends_with f
             → (T.origin self.old.stepper.scanner.cursor.input).handed_out ≡ false
             → option_map refused_kind result ≡ f }
-        ensures unnamed { IfSome result (λ e. e.sources ≡ []) }
+        ensures place { IfSome result (λ e. (e.mark.place ≡ self.new.stepper.scanner.cursor.place)
+            × (e.sources ≡ [])) }
         ensures failed { self.new.stepper.failed ≡ (self.old.stepper.failed || is_some result) }
+        ensures options { self.new.stepper.scanner.options ≡ self.old.stepper.scanner.options }
         ensures peeked { self.new.peeked ≡ self.old.peeked }
         ensures given { self.new.given ≡ self.old.given }
+        ensures onward { GoesOnward T.unread self.old.stepper.scanner.cursor self.new.stepper.scanner.cursor }
     {
         self.stepper.end_error()
     }

@@ -1,13 +1,14 @@
 //! The events of an input, sent to a receiver.
 ghost use Rattle.std.specs.Prelude.{◌≡◌, None, Some, IfOk, IfSome};
 ghost use Rattle.granit_base.specs.Place.{Unread};
+ghost use Rattle.granit_cursor.specs.Reading.{GoesOnward};
 ghost use Rattle.granit_error.specs.FaultKind.{NoMemory as OutOfMemory};
 ghost use Rattle.granit_error.specs.Refused.{Refused};
 ghost use Rattle.granit_event.specs.Events.{event_kind};
 ghost use Rattle.granit_parser.specs.Parsing.{IsOver, StandsAt};
 ghost use Rattle.granit_parser.specs.Receiving as spec;
-ghost use Rattle.granit_parser.specs.Receiving.{GivesFirst, KeepsRefusal, KeepsScan, Loads, LoadsRest, Tries, TriesRest};
-ghost use Rattle.granit_parser.specs.Receiving.{scanned};
+ghost use Rattle.granit_parser.specs.Receiving.{GivesFirst, KeepsRefusal, KeepsScan, Loads, LoadsRest, Tries};
+ghost use Rattle.granit_parser.specs.Receiving.{TriesRest, scanned};
 ghost use Rattle.granit_parser.specs.Sources.{IfUnseen, MovesUnless, TellsError, TellsMet};
 ghost use Rattle.granit_receivers.specs.Kept.{CountsErrors, GivesAgain, KeptAgain, ScansAgain};
 ghost use Rattle.granit_receivers.specs.Taking.{Took};
@@ -49,6 +50,7 @@ impl<'input, T: BorrowedInput<'input>> Parser<'input, T> {
         ensures options { self.new.stepper.scanner.options ≡ self.old.stepper.scanner.options }
         ensures moves { MovesUnless T.left T.origin (Some result) self.old.stepper.scanner.cursor
             self.new.stepper.scanner.cursor }
+        ensures onward { GoesOnward T.unread self.old.stepper.scanner.cursor self.new.stepper.scanner.cursor }
     {
         if let Some(error) = self.given_again() {
             return Err(error);
@@ -79,6 +81,7 @@ impl<'input, T: BorrowedInput<'input>> Parser<'input, T> {
         ensures options { self.new.stepper.scanner.options ≡ self.old.stepper.scanner.options }
         ensures moves { MovesUnless T.left T.origin (Some result) self.old.stepper.scanner.cursor
             self.new.stepper.scanner.cursor }
+        ensures onward { GoesOnward T.unread self.old.stepper.scanner.cursor self.new.stepper.scanner.cursor }
     {
         'events: for _ in 0..u64::MAX {
             match self.next_event() {
@@ -120,6 +123,7 @@ impl<'input, T: BorrowedInput<'input>> Parser<'input, T> {
         ensures options { self.new.stepper.scanner.options ≡ self.old.stepper.scanner.options }
         ensures moves { MovesUnless T.left T.origin (scanned result) self.old.stepper.scanner.cursor
             self.new.stepper.scanner.cursor }
+        ensures onward { GoesOnward T.unread self.old.stepper.scanner.cursor self.new.stepper.scanner.cursor }
     {
         if let Some(error) = self.given_again() {
             return Err(TryLoadError::Scan(error));
@@ -153,6 +157,7 @@ impl<'input, T: BorrowedInput<'input>> Parser<'input, T> {
         ensures options { self.new.stepper.scanner.options ≡ self.old.stepper.scanner.options }
         ensures moves { MovesUnless T.left T.origin (scanned result) self.old.stepper.scanner.cursor
             self.new.stepper.scanner.cursor }
+        ensures onward { GoesOnward T.unread self.old.stepper.scanner.cursor self.new.stepper.scanner.cursor }
     {
         'events: for _ in 0..u64::MAX {
             match self.next_event() {
@@ -194,6 +199,7 @@ impl<'input, T: BorrowedInput<'input>> Parser<'input, T> {
         ensures options { self.new.stepper.scanner.options ≡ self.old.stepper.scanner.options }
         ensures moves { MovesUnless T.left T.origin (Some result) self.old.stepper.scanner.cursor
             self.new.stepper.scanner.cursor }
+        ensures onward { GoesOnward T.unread self.old.stepper.scanner.cursor self.new.stepper.scanner.cursor }
     {
         match self.next_event() {
             None => Ok((Event::StreamEnd, Span::empty(self.stepper.mark()))),

@@ -36,7 +36,7 @@ pub fn scan_anchor<'input, T: BorrowedInput<'input>>(
         → AnswersName h name after → IfErr result (λ e. e.kind ≡ OutOfMemory) }
     ensures lent { LendsWithoutMemory T.unread cursor.old result }
     ensures kinds { IfErr result (λ e. IsNameKind e.kind) }
-    ensures moves { Moves T.left T.origin cursor.old cursor.new }
+    ensures moves { Moves T.unread T.left T.origin cursor.old cursor.new }
 {
     read_name(alloc, cursor, alias)
 }
@@ -50,7 +50,7 @@ fn read_name<'input, T: BorrowedInput<'input>>(
     ensures here { ReadsAs T.unread cursor.old cursor.new result (λ h. coded (name_token alias) (placed_at name_at h)) }
     ensures lent { LendsWithoutMemory T.unread cursor.old result }
     ensures kinds { IfErr result (λ e. IsNameKind e.kind) }
-    ensures moves { Moves T.left T.origin cursor.old cursor.new }
+    ensures moves { Moves T.unread T.left T.origin cursor.old cursor.new }
 {
     let start = cursor.mark();
     cursor.step();

@@ -42,7 +42,7 @@ pub fn scan_tag<'input, T: BorrowedInput<'input>>(
     ensures answered { (h : Here) (tag : spec.TagRead) (after : Here) → Stands T.unread cursor.old h
         → extent.AnswersTag in_flow h tag after → IfErr result (λ e. e.kind ≡ OutOfMemory) }
     ensures kinds { IfErr result (λ e. IsTagKind e.kind) }
-    ensures moves { Moves T.left T.origin cursor.old cursor.new }
+    ensures moves { Moves T.unread T.left T.origin cursor.old cursor.new }
 {
     read_tag(alloc, cursor, in_flow)
 }
@@ -56,7 +56,7 @@ fn read_tag<'input, T: Input>(
     ensures here { ReadsAs T.unread cursor.old cursor.new result
         (λ h. coded tag_token (placed_at (spec.tag_at in_flow) h)) }
     ensures kinds { IfErr result (λ e. IsTagKind e.kind) }
-    ensures moves { Moves T.left T.origin cursor.old cursor.new }
+    ensures moves { Moves T.unread T.left T.origin cursor.old cursor.new }
 {
     let start = cursor.mark();
     let tag = tag_at(alloc, cursor, in_flow, start)?;
@@ -113,7 +113,7 @@ fn tag_text<T: Input>(
     ensures here { Wherever T.unread cursor.old cursor.new
         (λ h Lands. GivesTo string_chars result Lands (spelled_tag uri start (string_chars text) h)) }
     ensures kinds { IfErr result (λ e. IsTagKind e.kind) }
-    ensures moves { Moves T.left T.origin cursor.old cursor.new }
+    ensures moves { Moves T.unread T.left T.origin cursor.old cursor.new }
 {
     let parts = read_uri(alloc, cursor, uri, start, None, text, 0)?;
     Ok(parts.value)
@@ -132,7 +132,7 @@ fn finish_tag<T: Input>(
         GivesTo tag_read result Lands (spec.tag_ends in_flow start
         (spec.tag_of (string_chars handle) (string_chars suffix)) h)) }
     ensures kinds { IfErr result (λ e. IsTagKind e.kind) }
-    ensures moves { Moves T.left T.origin cursor.old cursor.new }
+    ensures moves { Moves T.unread T.left T.origin cursor.old cursor.new }
 {
     cursor.look(1);
     let c = cursor.input().peek();
@@ -152,7 +152,7 @@ fn verbatim<T: Input>(
     ensures here { Wherever T.unread cursor.old cursor.new (λ h Lands.
         GivesTo tag_read result Lands (verbatim_rest in_flow start h)) }
     ensures kinds { IfErr result (λ e. IsTagKind e.kind) }
-    ensures moves { Moves T.left T.origin cursor.old cursor.new }
+    ensures moves { Moves T.unread T.left T.origin cursor.old cursor.new }
 {
     let suffix = tag_text(alloc, cursor, Uri::Whole, start, empty_text(alloc))?;
     if is_at_end(suffix.as_str()) {
@@ -177,7 +177,7 @@ fn named<T: Input>(
     ensures here { Wherever T.unread cursor.old cursor.new (λ h Lands.
         GivesTo tag_read result Lands (named_rest in_flow start (string_chars handle) h)) }
     ensures kinds { IfErr result (λ e. IsTagKind e.kind) }
-    ensures moves { Moves T.left T.origin cursor.old cursor.new }
+    ensures moves { Moves T.unread T.left T.origin cursor.old cursor.new }
 {
     let suffix = tag_text(alloc, cursor, Uri::Tag, start, empty_text(alloc))?;
     if is_at_end(suffix.as_str()) {
@@ -197,7 +197,7 @@ fn short<T: Input>(
     ensures here { Wherever T.unread cursor.old cursor.new (λ h Lands.
         GivesTo tag_read result Lands (short_rest in_flow start (string_chars word) h)) }
     ensures kinds { IfErr result (λ e. IsTagKind e.kind) }
-    ensures moves { Moves T.left T.origin cursor.old cursor.new }
+    ensures moves { Moves T.unread T.left T.origin cursor.old cursor.new }
 {
     let suffix = tag_text(alloc, cursor, Uri::Tag, start, word)?;
     let sign = bang(alloc)?;
@@ -217,7 +217,7 @@ fn tag_at<T: Input>(
     ensures here { Wherever T.unread cursor.old cursor.new
         (λ h Lands. GivesTo tag_read result Lands (spec.tag_at in_flow h)) }
     ensures kinds { IfErr result (λ e. IsTagKind e.kind) }
-    ensures moves { Moves T.left T.origin cursor.old cursor.new }
+    ensures moves { Moves T.unread T.left T.origin cursor.old cursor.new }
 {
     cursor.look(2);
     let verbatim_next = cursor.input().peek_nth(1) == '<';

@@ -86,7 +86,7 @@ fn escaped_byte<T: Input>(
         (spec.escaped_byte start (uri_at h (budget_of limit left.old)))) }
     ensures left { OnOk result (T.left cursor.new.input ≤ T.left cursor.old.input - 1) }
     ensures kinds { IfErr result (λ e. IsUriKind limit e.kind) }
-    ensures moves { Moves T.left T.origin cursor.old cursor.new }
+    ensures moves { Moves T.unread T.left T.origin cursor.old cursor.new }
 {
     cursor.look(3);
     let high = cursor.input().peek_nth(1);
@@ -135,7 +135,7 @@ fn trailing_bytes<T: Input>(
         (spec.trailing_bytes start count parts.old.bytes.items (uri_at h (budget_of limit parts.old.left)))) }
     ensures value { string_chars parts.new.value ≡ string_chars parts.old.value }
     ensures kinds { IfErr result (λ e. IsUriKind limit e.kind) }
-    ensures moves { Moves T.left T.origin cursor.old cursor.new }
+    ensures moves { Moves T.unread T.left T.origin cursor.old cursor.new }
 {
     'bytes: for i in 0..count {
         let byte = escaped_byte(cursor, start, limit, &mut parts.left)?;
@@ -176,7 +176,7 @@ fn take_escaped<T: Input>(
         (escaped_char start (uri_at h (budget_of limit parts.old.left)))) }
     ensures left { OnOk result (T.left cursor.new.input ≤ T.left cursor.old.input - 1) }
     ensures kinds { IfErr result (λ e. IsUriKind limit e.kind) }
-    ensures moves { Moves T.left T.origin cursor.old cursor.new }
+    ensures moves { Moves T.unread T.left T.origin cursor.old cursor.new }
 {
     let lead = escaped_byte(cursor, start, limit, &mut parts.left)?;
     match bytes_behind(lead) {
@@ -203,7 +203,7 @@ fn take_itself<T: Input>(
         (own_char start (uri_at h (budget_of limit parts.old.left)))) }
     ensures left { OnOk result (T.left cursor.new.input ≤ T.left cursor.old.input - 1) }
     ensures kinds { IfErr result (λ e. IsUriKind limit e.kind) }
-    ensures moves { Moves T.left T.origin cursor.old cursor.new }
+    ensures moves { Moves T.unread T.left T.origin cursor.old cursor.new }
 {
     cursor.look(1);
     let c = cursor.input().peek();
@@ -225,7 +225,7 @@ fn take_turn<T: Input>(
         UriGoesOn uri start limit result Lands parts.new (uri_whole uri start limit parts.old h)) }
     ensures left { UriTurnTakes result (T.left cursor.old.input) (T.left cursor.new.input) }
     ensures kinds { IfErr result (λ e. IsUriKind limit e.kind) }
-    ensures moves { Moves T.left T.origin cursor.old cursor.new }
+    ensures moves { Moves T.unread T.left T.origin cursor.old cursor.new }
 {
     cursor.look(1);
     let c = cursor.input().peek();
@@ -259,7 +259,7 @@ pub fn read_uri<T: Input>(
         UriTo limit result Lands (with_front (string_chars value)
         (spec.decoded (uri_test uri) start (budget_of limit left) h))) }
     ensures kinds { IfErr result (λ e. IsUriKind limit e.kind) }
-    ensures moves { Moves T.left T.origin cursor.old cursor.new }
+    ensures moves { Moves T.unread T.left T.origin cursor.old cursor.new }
 {
     let mut parts = UriParts {
         value,

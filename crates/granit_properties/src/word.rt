@@ -49,7 +49,7 @@ pub fn take_word<T: Input>(
     ensures here { Wherever T.unread cursor.old cursor.new (λ h Lands.
         OnOk result (Lands (past (word_test word) h)
         × (string_chars out.new ≡ string_chars out.old ++ text_up_to h (past (word_test word) h)))) }
-    ensures moves { Moves T.left T.origin cursor.old cursor.new }
+    ensures moves { Moves T.unread T.left T.origin cursor.old cursor.new }
 {
     'word: loop {
         cursor.look(1);
@@ -65,7 +65,7 @@ pub fn take_word<T: Input>(
 /// On over the characters of a word.
 fn skip_word<T: Input>(cursor: &mut Cursor<T>, word: Word)
     ensures here { GoesTo T.unread cursor.old cursor.new (past (word_test word)) }
-    ensures moves { Moves T.left T.origin cursor.old cursor.new }
+    ensures moves { Moves T.unread T.left T.origin cursor.old cursor.new }
 {
     'word: loop {
         cursor.look(1);
@@ -91,7 +91,7 @@ pub fn word_text<'input, T: BorrowedInput<'input>>(
     ensures here { Wherever T.unread cursor.old cursor.new (λ h Lands. TakesWord (word_test word) h result Lands) }
     ensures lent { LendsWithoutMemory T.unread cursor.old result }
     ensures kinds { IfErr result (λ e. (e.kind ≡ OutOfMemory) ⊎ (e.kind ≡ InputSlicingUnavailable)) }
-    ensures moves { Moves T.left T.origin cursor.old cursor.new }
+    ensures moves { Moves T.unread T.left T.origin cursor.old cursor.new }
 {
     match lending_offset(cursor) {
         Some(start) => {

@@ -44,7 +44,7 @@ pub(crate) fn read<'input, T: BorrowedInput<'input>>(
     requires no_note { found.old.note ≡ None }
     ensures here { ReadsItems T.unread (options_of options.now).emit_comments at.old at.new layouts.new
         (found_in found.new) result (λ h. spec.read (options_of options.now) (reader_at h layouts.old)) }
-    ensures moves { Moves T.left T.origin at.old at.new }
+    ensures moves { Moves T.unread T.left T.origin at.old at.new }
 {
     let note = gap(alloc, options, at, layouts)?;
     behind_gap(alloc, options, at, layouts, note, found)?;
@@ -68,7 +68,7 @@ fn behind_gap<'input, T: BorrowedInput<'input>>(
     ensures here { (t : Option CommentRead) → tail_view note.entry ≡ seen (options_of options.now).emit_comments t
         → ReadsItems T.unread (options_of options.now).emit_comments at.old at.new layouts.new
         (found_in found.new) result (λ h. spec.read_behind (options_of options.now) t (reader_at h layouts.old)) }
-    ensures moves { Moves T.left T.origin at.old at.new }
+    ensures moves { Moves T.unread T.left T.origin at.old at.new }
 {
     match note {
         Tail::Nothing => {
@@ -97,7 +97,7 @@ fn lexeme<'input, T: BorrowedInput<'input>>(
     requires no_note { found.old.note ≡ None }
     ensures here { ReadsItems T.unread (options_of options.now).emit_comments at.old at.new layouts.new
         (found_in found.new) result (λ h. spec.lexeme (options_of options.now) h layouts.old) }
-    ensures moves { Moves T.left T.origin at.old at.new }
+    ensures moves { Moves T.unread T.left T.origin at.old at.new }
 {
     let sort = sort_at(at, layouts.is_in_flow(), is_adjacent(layouts.last()));
     lexeme_by(alloc, options, at, layouts, sort, found)
@@ -118,7 +118,7 @@ fn lexeme_by<'input, T: BorrowedInput<'input>>(
     requires no_note { found.old.note ≡ None }
     ensures here { ReadsItems T.unread (options_of options.now).emit_comments at.old at.new layouts.new
         (found_in found.new) result (λ h. spec.lexeme_by (options_of options.now) (sort_view sort) h layouts.old) }
-    ensures moves { Moves T.left T.origin at.old at.new }
+    ensures moves { Moves T.unread T.left T.origin at.old at.new }
 {
     let asked = options.emit_comments;
     match sort {
@@ -153,7 +153,7 @@ fn lexeme_in_column<'input, T: BorrowedInput<'input>>(
     ensures here { ReadsItems T.unread (options_of options.now).emit_comments at.old at.new layouts.new
         (found_in found.new) result
         (λ h. spec.lexeme_in_column (options_of options.now) (placed_view sort) ends h layouts.old) }
-    ensures moves { Moves T.left T.origin at.old at.new }
+    ensures moves { Moves T.unread T.left T.origin at.old at.new }
 {
     if is_strict_outside(options, layouts, at.mark().col()) {
         return Err(ScanError::from_kind(at.mark(), ErrorKind::InvalidIndentation));
@@ -197,7 +197,7 @@ fn lexeme_of<'input, T: BorrowedInput<'input>>(
     requires no_note { found.old.note ≡ None }
     ensures here { ReadsItems T.unread (options_of options.now).emit_comments at.old at.new layouts.new
         (found_in found.new) result (λ h. sorts.begun (options_of options.now) (placed_view sort) ends h layouts.old) }
-    ensures moves { Moves T.left T.origin at.old at.new }
+    ensures moves { Moves T.unread T.left T.origin at.old at.new }
 {
     let lexeme = &mut found.lexeme;
     match sort {
@@ -228,7 +228,7 @@ fn lexeme_of<'input, T: BorrowedInput<'input>>(
 fn unexpected<T: Input>(at: &mut Cursor<T>) -> ScanError
     ensures here { (h : Here) → Stands T.unread at.old h
         → result ≡ fault_at (faults.UnexpectedCharacter (here.next_char h)) (here.mark_of h) }
-    ensures moves { Moves T.left T.origin at.old at.new }
+    ensures moves { Moves T.unread T.left T.origin at.old at.new }
 {
     let mark = at.mark();
     at.look(1);

@@ -36,7 +36,7 @@ pub fn next_found<'input, T: BorrowedInput<'input>>(
     ensures here { (h : Here) → Stands T.unread at.old h → TurnTo (options_of options.now).emit_comments result
         (found_items found.new) (IsAt T.unread at.new layouts.new) ended.new (reader_at h layouts.old)
         (spec.lex_turn (options_of options.now) (before_turn ended.old (reader_at h layouts.old))) }
-    ensures moves { Moves T.left T.origin at.old at.new }
+    ensures moves { Moves T.unread T.left T.origin at.old at.new }
 {
     if *ended {
         return Ok(());

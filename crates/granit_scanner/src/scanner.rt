@@ -2,6 +2,7 @@
 ghost use Rattle.std.specs.Prelude.{◌≡◌, ◌≤◌, true, false, [], drop, take, None, Some, slice_get, OnOk};
 ghost use Rattle.std.specs.Option.{option_map};
 ghost use Rattle.granit_base.specs.Place.{Unread};
+ghost use Rattle.granit_cursor.specs.Reading.{GoesOnward};
 ghost use Rattle.granit_cursor.specs.Reading.{GoesTo, Moves, Stands};
 ghost use Rattle.granit_error.specs.Kinds.{kind_of};
 ghost use Rattle.granit_error.specs.OptionsView.{options_of};
@@ -94,6 +95,13 @@ impl<'input, T: BorrowedInput<'input>> Scanner<'input, T> {
         self.cursor.mark()
     }
 
+    /// Whether it isn't known where reading stands, since memory ran out in the midst of a run.
+    pub fn is_lost(&self) -> bool
+        ensures { result ≡ self.now.cursor.lost }
+    {
+        self.cursor.is_lost()
+    }
+
     /// How the input is read.
     pub fn options(&self) -> &Options
         ensures { options_of result.now ≡ self.now.options }
@@ -151,7 +159,7 @@ impl<'input, T: BorrowedInput<'input>> Scanner<'input, T> {
         ensures known { (l : LexState) (q : _) → Known T.unread self.old l q → l.fault ≡ None
             → spec.may_front_go l q ≡ false → OnOk result (ReadsOn T.unread self.old.options self.new l q) }
         ensures options { self.new.options ≡ self.old.options }
-        ensures moves { Moves T.left T.origin self.old.cursor self.new.cursor }
+        ensures moves { Moves T.unread T.left T.origin self.old.cursor self.new.cursor }
     {
         if self.fault.is_some() {
             return Ok(());
@@ -193,6 +201,7 @@ impl<'input, T: BorrowedInput<'input>> Scanner<'input, T> {
         ensures rest { self.new ≡ record self.old { cursor = self.new.cursor } }
         ensures left { T.left self.new.cursor.input ≤ T.left self.old.cursor.input }
         ensures origin { Gave (T.origin self.old.cursor.input) (T.origin self.new.cursor.input) }
+        ensures onward { GoesOnward T.unread self.old.cursor self.new.cursor }
     {
         self.cursor.take_source_error()
     }
@@ -201,7 +210,7 @@ impl<'input, T: BorrowedInput<'input>> Scanner<'input, T> {
     pub fn pass_rest(&mut self)
         ensures ended { (T.origin self.new.cursor.input).knows_end ≡ true }
         ensures rest { self.new ≡ record self.old { cursor = self.new.cursor } }
-        ensures moves { Moves T.left T.origin self.old.cursor self.new.cursor }
+        ensures moves { Moves T.unread T.left T.origin self.old.cursor self.new.cursor }
     {
         pass_all(&mut self.cursor);
     }
@@ -210,7 +219,7 @@ impl<'input, T: BorrowedInput<'input>> Scanner<'input, T> {
 /// Passes all that is left, up to the end.
 fn pass_all<T: Input>(cursor: &mut Cursor<T>)
     ensures ended { (T.origin cursor.new.input).knows_end ≡ true }
-    ensures moves { Moves T.left T.origin cursor.old cursor.new }
+    ensures moves { Moves T.unread T.left T.origin cursor.old cursor.new }
 {
     'all: loop {
         cursor.look(1);

@@ -40,7 +40,7 @@ pub fn dash<'input, T: BorrowedInput<'input>>(
     requires room { layouts.old.number < 2 ^ 63 }
     ensures here { ReadsItems T.unread (options_of options.now).emit_comments at.old at.new layouts.new
         (lexeme_in found.new) result (λ h. spec.dash (options_of options.now) ends h layouts.old) }
-    ensures moves { Moves T.left T.origin at.old at.new }
+    ensures moves { Moves T.unread T.left T.origin at.old at.new }
 {
     let mark = at.mark();
     if layouts.is_in_flow() {
@@ -79,7 +79,7 @@ fn dash_up_to<'input, T: BorrowedInput<'input>>(
     requires room { layouts.old.number < 2 ^ 63 }
     ensures here { ReadsItems T.unread asked at.old at.new layouts.new
         (lexeme_in found.new) result (λ h. spec.dash_up_to (lexeme_view lexeme.entry) h layouts.old) }
-    ensures moves { Moves T.left T.origin at.old at.new }
+    ensures moves { Moves T.unread T.left T.origin at.old at.new }
 {
     let tail = tail_at(alloc, at, asked)?;
     behind_dash(at, layouts, lexeme, tail, found)
@@ -98,7 +98,7 @@ fn behind_dash<'input, T: Input>(
     ensures here { (h : Here) → Stands T.unread at.old h → GivesTo (lexeme_in found.new) result
         (IsAt T.unread at.new layouts.new)
         (spec.behind_dash (lexeme_view lexeme.entry) layouts.old (noted (tail_view tail.entry)) h) }
-    ensures moves { Moves T.left T.origin at.old at.new }
+    ensures moves { Moves T.unread T.left T.origin at.old at.new }
 {
     at.look(2);
     let mark = at.mark();
@@ -163,7 +163,7 @@ pub fn question<'input, T: BorrowedInput<'input>>(
     requires room { layouts.old.number < 2 ^ 63 }
     ensures here { ReadsItems T.unread (options_of options.now).emit_comments at.old at.new layouts.new
         (lexeme_in found.new) result (λ h. spec.question (options_of options.now) ends h layouts.old) }
-    ensures moves { Moves T.left T.origin at.old at.new }
+    ensures moves { Moves T.unread T.left T.origin at.old at.new }
 {
     let mark = at.mark();
     if layouts.is_in_flow() {
@@ -190,7 +190,7 @@ fn flow_question<'input, T: Input>(
     ensures here { Wherever T.unread at.old at.new (λ h Lands. Lands (step h)
         × (given (sign_lexeme ends Question h layouts.old) Another (step h) (forgets_key layouts.old)
         ≡ Ok (lexeme_items found.new, record { here = step h; laid = layouts.new }))) }
-    ensures moves { Moves T.left T.origin at.old at.new }
+    ensures moves { Moves T.unread T.left T.origin at.old at.new }
 {
     let lexeme = sign(at, layouts, ends, LexemeKind::Question);
     layouts.forget_key();
@@ -211,7 +211,7 @@ fn behind_question<'input, T: BorrowedInput<'input>>(
         at.old at.new layouts.new
         (lexeme_in found.new) result
         (λ h. question_from (options_of options.now) (lexeme_view lexeme.entry) h layouts.old) }
-    ensures moves { Moves T.left T.origin at.old at.new }
+    ensures moves { Moves T.unread T.left T.origin at.old at.new }
 {
     at.look(1);
     if is_nul(at) {
@@ -246,7 +246,7 @@ fn question_up_to<'input, T: BorrowedInput<'input>>(
         at.old at.new layouts.new
         (lexeme_in found.new) result
         (λ h. spec.question_up_to (options_of options.now) (lexeme_view lexeme.entry) h layouts.old) }
-    ensures moves { Moves T.left T.origin at.old at.new }
+    ensures moves { Moves T.unread T.left T.origin at.old at.new }
 {
     if at.input().peek() == '#' {
         let note = comment_at(alloc, at, options.emit_comments)?;

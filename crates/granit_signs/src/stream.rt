@@ -34,7 +34,7 @@ pub fn text_end<'input, T: Input>(
     requires room { layouts.old.number < 2 ^ 63 }
     ensures here { ReadsItems T.unread asked at.old at.new layouts.new
         (lexeme_in found.new) result (λ h. spec.text_end h layouts.old) }
-    ensures moves { Moves T.left T.origin at.old at.new }
+    ensures moves { Moves T.unread T.left T.origin at.old at.new }
 {
     layouts.refuse_open()?;
     let start = start_of(at);
@@ -55,7 +55,7 @@ pub fn text_end<'input, T: Input>(
 #[tactic(auto, unfolding(granit_lexemes::specs::Moves::steps))]
 fn past_mark<T: Input>(at: &mut Cursor<T>)
     ensures here { GoesTo T.unread at.old at.new (steps 3) }
-    ensures moves { Moves T.left T.origin at.old at.new }
+    ensures moves { Moves T.unread T.left T.origin at.old at.new }
 {
     at.step();
     at.step();
@@ -73,7 +73,7 @@ fn start_mark<'input, T: Input>(
     requires room { layouts.old.number < 2 ^ 63 }
     ensures here { ReadsItems T.unread asked at.old at.new layouts.new (lexeme_in found.new) (Ok tt)
         (λ h. spec.start_mark ends h layouts.old) }
-    ensures moves { Moves T.left T.origin at.old at.new }
+    ensures moves { Moves T.unread T.left T.origin at.old at.new }
 {
     let start = start_of(at);
     past_mark(at);
@@ -96,7 +96,7 @@ pub fn document_start<'input, T: Input>(
     requires room { layouts.old.number < 2 ^ 63 }
     ensures here { ReadsItems T.unread asked at.old at.new layouts.new
         (lexeme_in found.new) result (λ h. view.document_start h layouts.old) }
-    ensures moves { Moves T.left T.origin at.old at.new }
+    ensures moves { Moves T.unread T.left T.origin at.old at.new }
 {
     layouts.refuse_open()?;
     let ends = layouts.ends_all();
@@ -120,7 +120,7 @@ pub fn document_end<'input, T: BorrowedInput<'input>>(
     requires room { layouts.old.number < 2 ^ 63 }
     ensures here { ReadsItems T.unread asked at.old at.new layouts.new
         (lexeme_in found.new) result (λ h. view.document_end h layouts.old) }
-    ensures moves { Moves T.left T.origin at.old at.new }
+    ensures moves { Moves T.unread T.left T.origin at.old at.new }
 {
     layouts.refuse_open()?;
     let ends = layouts.ends_all();
@@ -140,7 +140,7 @@ fn end_mark<'input, T: BorrowedInput<'input>>(
     requires room { layouts.old.number < 2 ^ 63 }
     ensures here { ReadsItems T.unread asked at.old at.new layouts.new
         (lexeme_in found.new) result (λ h. spec.end_mark ends h layouts.old) }
-    ensures moves { Moves T.left T.origin at.old at.new }
+    ensures moves { Moves T.unread T.left T.origin at.old at.new }
 {
     let start = start_of(at);
     past_mark(at);
@@ -156,7 +156,7 @@ fn end_mark<'input, T: BorrowedInput<'input>>(
 /// Behind a `...` and its tail, the line ends.
 fn refuse_more<T: Input>(at: &mut Cursor<T>) -> Result<(), ScanError>
     ensures here { Wherever T.unread at.old at.new (λ h Lands. Lands h × (result ≡ view.refuse_more h)) }
-    ensures moves { Moves T.left T.origin at.old at.new }
+    ensures moves { Moves T.unread T.left T.origin at.old at.new }
 {
     at.look(1);
     if is_breakz(at.input().peek()) {
@@ -182,7 +182,7 @@ pub fn directive<'input, T: BorrowedInput<'input>>(
     ensures here { ReadsItems T.unread (options_of options.now).emit_comments at.old at.new layouts.new
         (lexeme_in found.new) result
         (λ h. spec.directive_lexeme (options_of options.now) (ends_all layouts.old) h (closed_all layouts.old)) }
-    ensures moves { Moves T.left T.origin at.old at.new }
+    ensures moves { Moves T.unread T.left T.origin at.old at.new }
 {
     let ends = layouts.ends_all();
     layouts.close_all();

@@ -42,7 +42,7 @@ pub fn colon<'input, T: BorrowedInput<'input>>(
     requires room { layouts.old.number < 2 ^ 63 }
     ensures here { ReadsItems T.unread (options_of options.now).emit_comments at.old at.new layouts.new
         (lexeme_in found.new) result (λ h. spec.colon (options_of options.now) ends h layouts.old) }
-    ensures moves { Moves T.left T.origin at.old at.new }
+    ensures moves { Moves T.unread T.left T.origin at.old at.new }
 {
     at.look(2);
     let mark = at.mark();
@@ -90,7 +90,7 @@ fn colon_tail<'input, T: BorrowedInput<'input>>(
 ) -> Result<Tail<'input>, ScanError>
     ensures here { Wherever T.unread at.old at.new (λ h Lands.
         GivesTo tail_view result Lands (coded (seen asked) (spec.colon_tail h))) }
-    ensures moves { Moves T.left T.origin at.old at.new }
+    ensures moves { Moves T.unread T.left T.origin at.old at.new }
 {
     at.look(1);
     if is_blank(at.input().peek()) {

@@ -5,7 +5,7 @@ use Rattle.std.specs.List.{slice_get}
 use Rattle.std.specs.Option.{option_map}
 use Rattle.granit_base.specs.Place.{Mark, Unread}
 use Rattle.granit_base.specs.declared.place.Span.{Span}
-use Rattle.granit_cursor.specs.Reading.{GivesTo}
+use Rattle.granit_cursor.specs.Reading.{GivesTo, Stands}
 use Rattle.granit_error.specs.OptionsData.{OptionsData}
 use Rattle.granit_error.specs.Refused.{Refused}
 use Rattle.granit_event.specs.Events.{plain_event}
@@ -217,3 +217,13 @@ module _ {I : Type 0} (unread : I → Unread → Type 0) where
   pub next_fails : (o : OptionsData) (m : StepState) (e : Refused) → Fails e (settle o m) → Fails e (next_event o m)
   unfolding next_event
   next_fails o m e fails = λ other. rw (fails other) refl
+
+-- before anything was read it is known where the cursor stands
+module _ {I : Type 0} (unread : I → Unread → Type 0) (s : Stepping I) (h : Here) where
+  first_by : (fault : Option Refused) → KnownBy unread fault s.scanner (lex_start h) []
+      → Stands unread s.scanner.cursor h
+  first_by None known = known.0.0
+  first_by (Some f) known = let clash : None ≡ Some f = known.1 in absurd (cc)
+
+  pub stands_first : StandsIn unread s (start_from h) → Stands unread s.scanner.cursor h
+  stands_first at = first_by s.scanner.fault at.reading

@@ -2,6 +2,7 @@
 ghost use Rattle.std.specs.Prelude.{◌≡◌, ◌≤◌, ◌||◌, [], true, false, Option, None, Ok, IfErr, IfSome, is_some};
 ghost use Rattle.std.specs.Option.{option_map};
 ghost use Rattle.granit_base.specs.Place.{Unread};
+ghost use Rattle.granit_cursor.specs.Reading.{GoesOnward};
 ghost use Rattle.granit_cursor.specs.Reading.{GivesTo, Moves, Stands};
 ghost use Rattle.granit_error.specs.FaultKind.{FaultKind};
 ghost use Rattle.granit_error.specs.OptionsView.{options_of};
@@ -69,6 +70,13 @@ impl<'input, T: BorrowedInput<'input>> Stepper<'input, T> {
         self.scanner.mark()
     }
 
+    /// Whether it isn't known where reading stands, since memory ran out in the midst of a run.
+    pub fn is_lost(&self) -> bool
+        ensures { result ≡ self.now.scanner.cursor.lost }
+    {
+        self.scanner.is_lost()
+    }
+
     /// Says whether the handles of `%TAG` but `!` and `!!` stay over documents.
     pub fn set_keep_tags(&mut self, keep_tags: bool)
         ensures { self.new ≡ spec.keeping keep_tags self.old }
@@ -94,7 +102,7 @@ impl<'input, T: BorrowedInput<'input>> Stepper<'input, T> {
         ensures failed { IfErr result (λ e. self.new.failed ≡ true) }
         ensures over { self.old.failed ≡ true → (result ≡ Ok None) × (self.new ≡ self.old) }
         ensures options { self.new.scanner.options ≡ self.old.scanner.options }
-        ensures moves { Moves T.left T.origin self.old.scanner.cursor self.new.scanner.cursor }
+        ensures moves { Moves T.unread T.left T.origin self.old.scanner.cursor self.new.scanner.cursor }
     {
         if self.failed {
             return Ok(None);
@@ -126,6 +134,7 @@ impl<'input, T: BorrowedInput<'input>> Stepper<'input, T> {
         ensures options { self.new.scanner.options ≡ self.old.scanner.options }
         ensures left { T.left self.new.scanner.cursor.input ≤ T.left self.old.scanner.cursor.input }
         ensures origin { Gave (T.origin self.old.scanner.cursor.input) (T.origin self.new.scanner.cursor.input) }
+        ensures onward { GoesOnward T.unread self.old.scanner.cursor self.new.scanner.cursor }
     {
         let mark = self.scanner.mark();
         let kind = self.scanner.take_source_error()?;
@@ -138,8 +147,10 @@ impl<'input, T: BorrowedInput<'input>> Stepper<'input, T> {
         ensures told { (f : Option FaultKind) → (T.origin self.old.scanner.cursor.input).ends_with f
             → (T.origin self.old.scanner.cursor.input).handed_out ≡ false
             → option_map spec.refused_kind result ≡ f }
-        ensures unnamed { IfSome result (λ e. e.sources ≡ []) }
+        ensures place { IfSome result (λ e. (e.mark.place ≡ self.new.scanner.cursor.place) × (e.sources ≡ [])) }
         ensures failed { self.new.failed ≡ (self.old.failed || is_some result) }
+        ensures options { self.new.scanner.options ≡ self.old.scanner.options }
+        ensures onward { GoesOnward T.unread self.old.scanner.cursor self.new.scanner.cursor }
     {
         self.pass_rest();
         self.take_source_error()
@@ -149,7 +160,9 @@ impl<'input, T: BorrowedInput<'input>> Stepper<'input, T> {
     fn pass_rest(&mut self)
         ensures ended { (T.origin self.new.scanner.cursor.input).knows_end ≡ true }
         ensures failed { self.new.failed ≡ self.old.failed }
+        ensures options { self.new.scanner.options ≡ self.old.scanner.options }
         ensures goes { Goes (T.origin self.old.scanner.cursor.input) (T.origin self.new.scanner.cursor.input) }
+        ensures onward { GoesOnward T.unread self.old.scanner.cursor self.new.scanner.cursor }
     {
         self.scanner.pass_rest();
     }
@@ -161,7 +174,7 @@ impl<'input, T: BorrowedInput<'input>> Stepper<'input, T> {
             (steps.next_event self.old.scanner.options m) }
         ensures failed { IfErr result (λ e. self.new.failed ≡ true) }
         ensures options { self.new.scanner.options ≡ self.old.scanner.options }
-        ensures moves { Moves T.left T.origin self.old.scanner.cursor self.new.scanner.cursor }
+        ensures moves { Moves T.unread T.left T.origin self.old.scanner.cursor self.new.scanner.cursor }
     {
         match self.settle(alloc) {
             Ok(()) => Ok(self.parser.pop_event()),
@@ -177,7 +190,7 @@ impl<'input, T: BorrowedInput<'input>> Stepper<'input, T> {
         ensures known { (m : StepState) → StandsIn T.unread self.old m → self.old.first ≡ None
             → GivesTo spec.no_events result (StandsIn T.unread self.new) (steps.settle self.old.scanner.options m) }
         ensures keeps { Keeps self.old self.new }
-        ensures moves { Moves T.left T.origin self.old.scanner.cursor self.new.scanner.cursor }
+        ensures moves { Moves T.unread T.left T.origin self.old.scanner.cursor self.new.scanner.cursor }
     {
         // Over an input of which nothing is known no number falls with each turn, so the turns are counted.
         'turns: for _ in 0..u64::MAX {
@@ -194,7 +207,7 @@ impl<'input, T: BorrowedInput<'input>> Stepper<'input, T> {
         ensures known { (m : StepState) → StandsIn T.unread self.old m → self.old.first ≡ None
             → GivesTo spec.turn_view result (StandsIn T.unread self.new) (steps.step_turn self.old.scanner.options m) }
         ensures keeps { Keeps self.old self.new }
-        ensures moves { Moves T.left T.origin self.old.scanner.cursor self.new.scanner.cursor }
+        ensures moves { Moves T.unread T.left T.origin self.old.scanner.cursor self.new.scanner.cursor }
     {
         if self.parser.has_event() {
             return Ok(false);
@@ -248,7 +261,7 @@ impl<'input, T: BorrowedInput<'input>> Stepper<'input, T> {
             → GivesTo spec.turn_view result (StandsIn T.unread self.new)
             (steps.read_more self.old.scanner.options m.reading.ended m) }
         ensures keeps { Keeps self.old self.new }
-        ensures moves { Moves T.left T.origin self.old.scanner.cursor self.new.scanner.cursor }
+        ensures moves { Moves T.unread T.left T.origin self.old.scanner.cursor self.new.scanner.cursor }
     {
         if self.scanner.is_over() {
             return self.end();

@@ -10,7 +10,7 @@ invariant-lines g l = record {
   told : (h : Here) → Stands g.T.Input.unread l.fn.cursor h
       → (now : Here) × Stands g.T.Input.unread l.cursor now
       × (empty_whole l.column (string_chars l.empty) now ≡ empty_whole l.column (string_chars l.fn.empty) h);
-  moves : Moves g.T.Input.left g.T.Input.origin l.fn.cursor l.cursor;
+  moves : Moves g.T.Input.unread g.T.Input.left g.T.Input.origin l.fn.cursor l.cursor;
 }
 
 abbrev pub decreases-lines : goal.decreases-lines

@@ -25,6 +25,7 @@ lines-preserved g c =
         omega (arith, kept.0, c.in_ok-width.ensures.moves.0),
         goes_on _ _ _ kept.1
             c.in_ok-width.ensures.moves.1,
+        λ start before. c.in_ok-width.ensures.moves.2 start (kept.2 start before),
       );
     }
 

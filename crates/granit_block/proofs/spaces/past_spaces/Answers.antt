@@ -24,6 +24,7 @@ spaces-preserved g c =
       moves = (
         omega (arith, kept.0, c.step.ensures.moves.0, c.look-in-spaces.ensures.moves.0),
         goes_on _ _ _ kept.1 (goes_on _ _ _ c.step.ensures.moves.1 c.look-in-spaces.ensures.moves.1),
+        λ start before. c.look-in-spaces.ensures.moves.2 start (c.step.ensures.moves.2 start (kept.2 start before)),
       );
     }
 

@@ -9,7 +9,7 @@ invariant-spaces g l = record {
   told : (h : Here) → Stands g.T.Input.unread l.fn.cursor h
       → (now : Here) × Stands g.T.Input.unread l.cursor now × (past is_space now ≡ past is_space h);
   window : 1 ≤ g.T.Input.window l.cursor.input;
-  moves : Moves g.T.Input.left g.T.Input.origin l.fn.cursor l.cursor;
+  moves : Moves g.T.Input.unread g.T.Input.left g.T.Input.origin l.fn.cursor l.cursor;
 }
 
 abbrev pub decreases-spaces : goal.decreases-spaces

@@ -8,7 +8,7 @@ abbrev pub invariant-passed : goal.invariant-passed
 invariant-passed g l = record {
   told : (h : Here) → Stands g.T.Input.unread l.fn.cursor h
       → (now : Here) × Stands g.T.Input.unread l.cursor now × (next_boundary now ≡ next_boundary h);
-  moves : Moves g.T.Input.left g.T.Input.origin l.fn.cursor l.cursor;
+  moves : Moves g.T.Input.unread g.T.Input.left g.T.Input.origin l.fn.cursor l.cursor;
 }
 
 abbrev pub decreases-passed : goal.decreases-passed

@@ -51,5 +51,7 @@ blanks-preserved g c =
       moves = (
         omega (arith, kept.0, c.line_ends.ensures.moves.0, c.step-in-blanks.ensures.moves.0),
         goes_on _ _ _ kept.1 (goes_on _ _ _ c.line_ends.ensures.moves.1 c.step-in-blanks.ensures.moves.1),
+        λ start before.
+            c.step-in-blanks.ensures.moves.2 start (c.line_ends.ensures.moves.2 start (kept.2 start before)),
       );
     }

@@ -10,7 +10,7 @@ invariant-blanks g l = record {
   told : (h : Here) → Stands g.T.Input.unread l.fn.cursor h
       → (now : Here) × Stands g.T.Input.unread l.cursor now
       × ((finished_line now.unread.text now ≡ finished_line h.unread.text h) × Within h now);
-  moves : Moves g.T.Input.left g.T.Input.origin l.fn.cursor l.cursor;
+  moves : Moves g.T.Input.unread g.T.Input.left g.T.Input.origin l.fn.cursor l.cursor;
 }
 
 abbrev pub decreases-blanks : goal.decreases-blanks

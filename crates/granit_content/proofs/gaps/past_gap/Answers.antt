@@ -20,7 +20,11 @@ gap-preserved g c = record {
         gap_goes c.args.may_prefix blanks over.1
             ∙ gap_behind_blanks c.args.may_prefix x.0 ∙ x.2,
       );
-  moves = (omega arith, goes_on _ _ _ c.gap.invariant.moves.1 c.pass_blanks.ensures.moves.1);
+  moves = (
+    omega arith,
+    goes_on _ _ _ c.gap.invariant.moves.1 c.pass_blanks.ensures.moves.1,
+    λ start before. c.pass_blanks.ensures.moves.2 start (c.gap.invariant.moves.2 start before),
+  );
 }
 
 pub returns-clause-here : goal.returns-clause-here

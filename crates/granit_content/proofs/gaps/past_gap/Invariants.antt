@@ -9,7 +9,7 @@ invariant-gap g l = record {
   told : (h : Here) → Stands g.T.Input.unread l.fn.at h
       → (now : Here) × Stands g.T.Input.unread l.at now
       × (spec.past_gap l.may_prefix now ≡ spec.past_gap l.may_prefix h);
-  moves : Moves g.T.Input.left g.T.Input.origin l.fn.at l.at;
+  moves : Moves g.T.Input.unread g.T.Input.left g.T.Input.origin l.fn.at l.at;
 }
 
 abbrev pub decreases-gap : goal.decreases-gap

@@ -16,7 +16,7 @@ invariant-parameters g l = record {
       ≡ pieces parameters_len (parameter_turn (options_of l.options) l.start)
       (record { here = h; budget = budget_of (Some l.options.max_directive_bytes) l.fn.left; count = 0 }));
   owned : all_owned l.parts.list;
-  moves : Moves g.T.Input.left g.T.Input.origin l.fn.cursor l.cursor;
+  moves : Moves g.T.Input.unread g.T.Input.left g.T.Input.origin l.fn.cursor l.cursor;
 }
 
 abbrev pub decreases-parameters : goal.decreases-parameters

@@ -10,7 +10,7 @@ invariant-digits g l = record {
       × Digits h now l.count l.number;
   few : l.count ≤ 9;
   fits : l.number < 10 ^ l.count;
-  moves : Moves g.T.Input.left g.T.Input.origin l.fn.cursor l.cursor;
+  moves : Moves g.T.Input.unread g.T.Input.left g.T.Input.origin l.fn.cursor l.cursor;
 }
 
 abbrev pub decreases-digits : goal.decreases-digits

@@ -61,6 +61,7 @@ digits-preserved g c =
         omega (arith, kept.0, c.look.ensures.moves.0, c.step.ensures.moves.0),
         goes_on _ _ _ kept.1
             (goes_on _ _ _ c.look.ensures.moves.1 c.step.ensures.moves.1),
+        λ start before. c.step.ensures.moves.2 start (c.look.ensures.moves.2 start (kept.2 start before)),
       );
     }
 

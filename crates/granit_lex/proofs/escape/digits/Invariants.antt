@@ -12,5 +12,5 @@ invariant-digits g l = record {
       × (digits_or (hex_refusal l.second) l.start (l.count - l.i) l.number now
       ≡ digits_or (hex_refusal l.second) l.start l.count 0 h);
   fits : l.number < 16 ^ l.i;
-  moves : Moves g.T.Input.left g.T.Input.origin l.fn.cursor l.cursor;
+  moves : Moves g.T.Input.unread g.T.Input.left g.T.Input.origin l.fn.cursor l.cursor;
 }

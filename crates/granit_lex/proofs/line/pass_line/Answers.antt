@@ -20,7 +20,7 @@ line-init g c = record {
     chars-nil ∙ sym (none_taken h.unread.text),
     start,
   );
-  moves = (omega arith, goes_nowhere _);
+  moves = (omega arith, goes_nowhere _, λ start before. before);
 }
 
 pub returns-then-not-content-clause-here : goal.returns-then-not-content-clause-here
@@ -78,5 +78,5 @@ line-preserved g c = record {
   moves =
       let old = c.line.invariant.moves in
       let new = c.pass_word-blank.ensures.moves in
-      (omega (arith, old.0, new.0), goes_on _ _ _ old.1 new.1);
+      (omega (arith, old.0, new.0), goes_on _ _ _ old.1 new.1, λ start before. new.2 start (old.2 start before));
 }

@@ -16,7 +16,7 @@ invariant-line g l = record {
       × (plain_rest (layout_data l.at) l.fn.start (inside h)
       ≡ with_front (take m h.unread.text) (plain_rest (layout_data l.at) l.fn.start (inside now)))
       × (chars l.line.front.now ≡ take m h.unread.text) × (l.line.end ≡ mark_of now);
-  moves : Moves g.T.Input.left g.T.Input.origin l.fn.cursor l.cursor;
+  moves : Moves g.T.Input.unread g.T.Input.left g.T.Input.origin l.fn.cursor l.cursor;
 }
 
 abbrev pub decreases-line : goal.decreases-line

@@ -10,7 +10,7 @@ invariant-turns g l = record {
   told : (h : Here) → Stands g.T.Input.unread l.fn.cursor h
       → (now : Here) × Stands g.T.Input.unread l.cursor now
       × (plain_whole (layout_data l.at) l.start l.parts now ≡ plain_whole (layout_data l.at) l.start l.fn.parts h);
-  moves : Moves g.T.Input.left g.T.Input.origin l.fn.cursor l.cursor;
+  moves : Moves g.T.Input.unread g.T.Input.left g.T.Input.origin l.fn.cursor l.cursor;
 }
 
 abbrev pub decreases-turns : goal.decreases-turns

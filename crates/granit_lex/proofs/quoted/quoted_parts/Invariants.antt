@@ -11,7 +11,7 @@ invariant-turns g l = record {
       → (now : Here) × Stands g.T.Input.unread l.cursor now
       × (quoted_whole l.single (layout_data l.at) l.start l.parts now
       ≡ quoted_whole l.single (layout_data l.at) l.start l.fn.parts h);
-  moves : Moves g.T.Input.left g.T.Input.origin l.fn.cursor l.cursor;
+  moves : Moves g.T.Input.unread g.T.Input.left g.T.Input.origin l.fn.cursor l.cursor;
 }
 
 abbrev pub decreases-turns : goal.decreases-turns

@@ -12,7 +12,7 @@ use Rattle.granit_lex.proofs.quoted.skip_kept.Goals as goal
 pub kept-init : goal.kept-init
 kept-init g c = record {
   told = λ h k. (0, stands_none g.T.Input.unread c.args.cursor.now h k, run_none c.args.single h);
-  moves = (omega arith, goes_nowhere _);
+  moves = (omega arith, goes_nowhere _, λ start before. before);
 }
 
 pub returns-then-is_nothing-clause-here : goal.returns-then-is_nothing-clause-here
@@ -34,8 +34,11 @@ pub returns-then-is_nothing-clause-moves : goal.returns-then-is_nothing-clause-m
 returns-then-is_nothing-clause-moves g c =
     let kept = c.kept.invariant.moves in
     let a = c.skip_quoted_words-content.ensures.moves in
-    let b = c.skip_while_blank-blanks.ensures.moves in
-    (omega (arith, kept.0, a.0, b.0), goes_on _ _ _ kept.1 (goes_on _ _ _ a.1 b.1))
+    let b = c.skip_while_blank-blanks.ensures.moves in (
+      omega (arith, kept.0, a.0, b.0),
+      goes_on _ _ _ kept.1 (goes_on _ _ _ a.1 b.1),
+      λ start before. b.2 start (a.2 start (kept.2 start before)),
+    )
 
 pub kept-smaller : goal.kept-smaller
 kept-smaller g c =
@@ -61,5 +64,9 @@ kept-preserved g c =
                 ≡ (told.0 + a + b) + run_length (starts (is_kept c.args.single)) i.unread.text)
                 (steps_thrice told.0 a b h) (run_goes c.args.single h told.0 a b told.2 content.0 blanks.0),
           );
-      moves = (omega (arith, kept.0, m.0, n.0), goes_on _ _ _ kept.1 (goes_on _ _ _ m.1 n.1));
+      moves = (
+        omega (arith, kept.0, m.0, n.0),
+        goes_on _ _ _ kept.1 (goes_on _ _ _ m.1 n.1),
+        λ start before. n.2 start (m.2 start (kept.2 start before)),
+      );
     }

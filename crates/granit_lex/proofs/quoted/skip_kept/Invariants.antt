@@ -12,7 +12,7 @@ invariant-kept g l = record {
       → (m : ℕ) × Stands g.T.Input.unread l.cursor (steps m h)
       × (run_length (starts (is_kept l.single)) h.unread.text
       ≡ m + run_length (starts (is_kept l.single)) (steps m h).unread.text);
-  moves : Moves g.T.Input.left g.T.Input.origin l.fn.cursor l.cursor;
+  moves : Moves g.T.Input.unread g.T.Input.left g.T.Input.origin l.fn.cursor l.cursor;
 }
 
 abbrev pub decreases-kept : goal.decreases-kept

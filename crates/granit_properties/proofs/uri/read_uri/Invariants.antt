@@ -13,7 +13,7 @@ invariant-turns g l = record {
       → (now : Here) × Stands g.T.Input.unread l.cursor now
       × (uri_whole l.uri l.start l.limit l.parts now
       ≡ with_front (string_chars l.fn.value) (decoded (uri_test l.uri) l.start (budget_of l.limit l.fn.left) h));
-  moves : Moves g.T.Input.left g.T.Input.origin l.fn.cursor l.cursor;
+  moves : Moves g.T.Input.unread g.T.Input.left g.T.Input.origin l.fn.cursor l.cursor;
 }
 
 abbrev pub decreases-turns : goal.decreases-turns

@@ -44,7 +44,11 @@ bytes-preserved g c =
                 (sym (state_is read.0 (budget_of c.args.limit c.escaped_byte.new.left) read.1.1)) ∙ on) ∙ told.2,
           );
       value = c.bytes.invariant.value;
-      moves = (omega (arith, kept.0, c.in_ok-byte.ensures.moves.0), goes_on _ _ _ kept.1 c.in_ok-byte.ensures.moves.1);
+      moves = (
+        omega (arith, kept.0, c.in_ok-byte.ensures.moves.0),
+        goes_on _ _ _ kept.1 c.in_ok-byte.ensures.moves.1,
+        λ start before. c.in_ok-byte.ensures.moves.2 start (kept.2 start before),
+      );
     }
 
 pub returns-clause-here : goal.returns-clause-here

@@ -13,5 +13,5 @@ invariant-bytes g l = record {
       × (trailing_bytes l.start (l.count - l.i) l.parts.bytes.items (uri_at now (budget_of l.limit l.parts.left))
       ≡ trailing_bytes l.start l.count l.fn.parts.bytes.items (uri_at h (budget_of l.limit l.fn.parts.left)));
   value : string_chars l.parts.value ≡ string_chars l.fn.parts.value;
-  moves : Moves g.T.Input.left g.T.Input.origin l.fn.cursor l.cursor;
+  moves : Moves g.T.Input.unread g.T.Input.left g.T.Input.origin l.fn.cursor l.cursor;
 }

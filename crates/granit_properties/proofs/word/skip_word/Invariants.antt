@@ -8,7 +8,7 @@ abbrev pub invariant-word : goal.invariant-word
 invariant-word g l = record {
   told : (h : Here) → Stands g.T.Input.unread l.fn.cursor h
       → (now : Here) × Stands g.T.Input.unread l.cursor now × (past (word_test l.word) now ≡ past (word_test l.word) h);
-  moves : Moves g.T.Input.left g.T.Input.origin l.fn.cursor l.cursor;
+  moves : Moves g.T.Input.unread g.T.Input.left g.T.Input.origin l.fn.cursor l.cursor;
 }
 
 abbrev pub decreases-word : goal.decreases-word

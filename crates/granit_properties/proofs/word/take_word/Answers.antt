@@ -7,7 +7,10 @@ use Rattle.granit_properties.proofs.WordLemmas.{no_nul, some_char, run_on, run_e
 use Rattle.granit_properties.proofs.word.take_word.Goals as goal
 
 pub word-init : goal.word-init
-word-init g c = record { told = λ h k. (h, k, refl, refl); moves = (omega arith, goes_nowhere _) }
+word-init g c = record {
+  told = λ h k. (h, k, refl, refl);
+  moves = (omega arith, goes_nowhere _, λ start before. before);
+}
 
 pub returns-then-not-takes-clause-here : goal.returns-then-not-takes-clause-here
 returns-then-not-takes-clause-here g c = λ h k.
@@ -26,13 +29,19 @@ returns-then-not-takes-clause-here g c = λ h k.
 
 pub returns-then-not-takes-clause-moves : goal.returns-then-not-takes-clause-moves
 returns-then-not-takes-clause-moves g c =
-    let kept = c.word.invariant.moves in
-    (omega (arith, kept.0, c.look.ensures.moves.0), goes_on _ _ _ kept.1 c.look.ensures.moves.1)
+    let kept = c.word.invariant.moves in (
+      omega (arith, kept.0, c.look.ensures.moves.0),
+      goes_on _ _ _ kept.1 c.look.ensures.moves.1,
+      λ start before. c.look.ensures.moves.2 start (kept.2 start before),
+    )
 
 pub returns-in_err-push_char-clause-moves : goal.returns-in_err-push_char-clause-moves
 returns-in_err-push_char-clause-moves g c =
-    let kept = c.word.invariant.moves in
-    (omega (arith, kept.0, c.look.ensures.moves.0), goes_on _ _ _ kept.1 c.look.ensures.moves.1)
+    let kept = c.word.invariant.moves in (
+      omega (arith, kept.0, c.look.ensures.moves.0),
+      goes_on _ _ _ kept.1 c.look.ensures.moves.1,
+      λ start before. c.look.ensures.moves.2 start (kept.2 start before),
+    )
 
 pub word-smaller : goal.word-smaller
 word-smaller g c =
@@ -63,5 +72,6 @@ word-preserved g c =
         omega (arith, kept.0, c.look.ensures.moves.0, c.step.ensures.moves.0),
         goes_on _ _ _ kept.1
             (goes_on _ _ _ c.look.ensures.moves.1 c.step.ensures.moves.1),
+        λ start before. c.step.ensures.moves.2 start (c.look.ensures.moves.2 start (kept.2 start before)),
       );
     }

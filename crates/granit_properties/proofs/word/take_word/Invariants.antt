@@ -12,7 +12,7 @@ invariant-word g l = record {
       → (now : Here) × Stands g.T.Input.unread l.cursor now × (past (word_test l.word) now ≡ past (word_test l.word) h)
       × (string_chars l.out ++ text_up_to now (past (word_test l.word) now)
       ≡ string_chars l.fn.out ++ text_up_to h (past (word_test l.word) h));
-  moves : Moves g.T.Input.left g.T.Input.origin l.fn.cursor l.cursor;
+  moves : Moves g.T.Input.unread g.T.Input.left g.T.Input.origin l.fn.cursor l.cursor;
 }
 
 abbrev pub decreases-word : goal.decreases-word

@@ -1,6 +1,7 @@
-use Rattle.std.proofs.Common.{refl}
+use Rattle.std.proofs.Common.{refl, sym, ap, arith}
 use Rattle.granit_base.specs.PlainContent.{is_content}
 use Rattle.granit_cursor.proofs.MoveLemmas.{stands_at, lands, plain_shows}
+use Rattle.granit_cursor.proofs.OnwardLemmas.{run_on, lost_on}
 use Rattle.granit_cursor.proofs.cursor.Cursor.fetch_plain_scalar_chunk.Goals as goal
 
 pub returns-clause-here : goal.returns-clause-here
@@ -14,4 +15,21 @@ returns-clause-here g c = λ h k.
             c.still_tab-self-inside.ensures,
       ),
       taken.2,
+    )
+
+pub returns-clause-moves : goal.returns-clause-moves
+returns-clause-moves g c =
+    let same = sym (ap (λ r. r.input) c.self.view_is) in (
+      rw same (omega (arith, c.in_ok-ended.ensures.moves.0)),
+      rw same c.in_ok-ended.ensures.moves.2,
+      run_on g.T.Input.unread _ _ (ap (λ r. r.lost) c.self.view_is) c.in_ok-ended.taken
+          (λ h k. (returns-clause-here g c h k).0.1),
+    )
+
+pub returns-in_err-ended-clause-moves : goal.returns-in_err-ended-clause-moves
+returns-in_err-ended-clause-moves g c =
+    let same = sym (ap (λ r. r.input) c.self.view_is) in (
+      rw same (omega (arith, c.in_err-ended.ensures.moves.0)),
+      rw same c.in_err-ended.ensures.moves.2,
+      lost_on g.T.Input.unread _ _ refl,
     )

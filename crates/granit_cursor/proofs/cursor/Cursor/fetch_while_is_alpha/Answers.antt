@@ -1,7 +1,8 @@
-use Rattle.std.proofs.Common.{refl, le_of_eq}
+use Rattle.std.proofs.Common.{refl, le_of_eq, sym, ap, arith}
 use Rattle.granit_base.specs.Classes.{is_alpha}
 use Rattle.granit_input.specs.Runs.{starts}
 use Rattle.granit_cursor.proofs.MoveLemmas.{stands_at, lands, alpha_shows}
+use Rattle.granit_cursor.proofs.OnwardLemmas.{run_on, lost_on}
 use Rattle.granit_cursor.proofs.cursor.Cursor.fetch_while_is_alpha.Goals as goal
 
 pub returns-clause-here : goal.returns-clause-here
@@ -14,4 +15,21 @@ returns-clause-here g c = λ h k.
             taken.1 refl c.still_begins-self-inside.ensures c.still_tab-self-inside.ensures,
       ),
       taken.2,
+    )
+
+pub returns-clause-moves : goal.returns-clause-moves
+returns-clause-moves g c =
+    let same = sym (ap (λ r. r.input) c.self.view_is) in (
+      rw same (omega (arith, c.in_ok-taken.ensures.moves.0)),
+      rw same c.in_ok-taken.ensures.moves.2,
+      run_on g.T.Input.unread _ _ (ap (λ r. r.lost) c.self.view_is) c.in_ok-taken.taken
+          (λ h k. (returns-clause-here g c h k).0.1),
+    )
+
+pub returns-in_err-taken-clause-moves : goal.returns-in_err-taken-clause-moves
+returns-in_err-taken-clause-moves g c =
+    let same = sym (ap (λ r. r.input) c.self.view_is) in (
+      rw same (omega (arith, c.in_err-taken.ensures.moves.0)),
+      rw same c.in_err-taken.ensures.moves.2,
+      lost_on g.T.Input.unread _ _ refl,
     )

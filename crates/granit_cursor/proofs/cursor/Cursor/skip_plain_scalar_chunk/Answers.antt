@@ -1,6 +1,7 @@
-use Rattle.std.proofs.Common.{refl}
+use Rattle.std.proofs.Common.{refl, sym, ap, arith}
 use Rattle.granit_base.specs.PlainContent.{is_content}
 use Rattle.granit_cursor.proofs.MoveLemmas.{stands_at, lands, plain_shows}
+use Rattle.granit_cursor.proofs.OnwardLemmas.{run_on}
 use Rattle.granit_cursor.proofs.cursor.Cursor.skip_plain_scalar_chunk.Goals as goal
 
 pub returns-clause-here : goal.returns-clause-here
@@ -11,4 +12,13 @@ returns-clause-here g c = λ h k.
       lands g.T.Input.unread (is_content c.args.flow_level_gt_0) c.skip_plain_scalar_chunk-ended.result.1 _ _ h
           (plain_shows c.args.flow_level_gt_0) taken.0.fits stood taken.1 refl c.still_begins-self-inside.ensures
           c.still_tab-self-inside.ensures,
+    )
+
+pub returns-clause-moves : goal.returns-clause-moves
+returns-clause-moves g c =
+    let same = sym (ap (λ r. r.input) c.self.view_is) in (
+      rw same (omega (arith, c.skip_plain_scalar_chunk-ended.ensures.moves.0)),
+      rw same c.skip_plain_scalar_chunk-ended.ensures.moves.2,
+      run_on g.T.Input.unread _ _ (ap (λ r. r.lost) c.self.view_is) c.skip_plain_scalar_chunk-ended.result.1
+          (λ h k. (returns-clause-here g c h k).1),
     )

@@ -1,10 +1,11 @@
-use Rattle.std.proofs.Common.{◌-◌, ◌^◌, refl, arith}
+use Rattle.std.proofs.Common.{◌-◌, ◌^◌, refl, arith, sym, ap}
 use Rattle.granit_input.specs.Runs.{is_plain_word}
 use Rattle.granit_input.specs.declared.class.Run.TheVariants.{PlainWords}
 use Rattle.granit_input.proofs.RunLemmas.{run_nul}
 use Rattle.granit_cursor.proofs.MoveLemmas.{stands_at}
 use Rattle.granit_cursor.proofs.SourceLemmas.{whole_run}
 use Rattle.granit_cursor.proofs.WordLemmas.{lands_joined, plain_joins}
+use Rattle.granit_cursor.proofs.OnwardLemmas.{run_on}
 use Rattle.granit_cursor.proofs.cursor.Cursor.skip_plain_words.Goals as goal
 
 pub returns-clause-here : goal.returns-clause-here
@@ -20,4 +21,13 @@ returns-clause-here g c = λ h k.
       whole,
       lands_joined g.T.Input.unread test n _ _ h (plain_joins c.args.in_flow) nul whole
           stood taken.1 refl c.still_begins-self-inside.ensures c.still_tab-self-inside.ensures,
+    )
+
+pub returns-clause-moves : goal.returns-clause-moves
+returns-clause-moves g c =
+    let same = sym (ap (λ r. r.input) c.self.view_is) in (
+      rw same (omega (arith, c.skip_run-taken.ensures.moves.0)),
+      rw same c.skip_run-taken.ensures.moves.2,
+      run_on g.T.Input.unread _ _ (ap (λ r. r.lost) c.self.view_is) c.skip_run-taken.result.1
+          (λ h k. (returns-clause-here g c h k).1),
     )

@@ -7,6 +7,7 @@ use Rattle.granit_input.specs.Unread.{past}
 use Rattle.granit_input.proofs.OriginLemmas.{goes_nowhere}
 use Rattle.granit_lexemes.specs.Moves.{steps}
 use Rattle.granit_cursor.proofs.MoveLemmas.{stands_at, lands, quoted_shows}
+use Rattle.granit_cursor.proofs.OnwardLemmas.{run_on}
 use Rattle.granit_cursor.proofs.SourceLemmas.{none_found, some_found, lent_since, whole_run}
 use Rattle.granit_cursor.proofs.cursor.Cursor.take_quoted_scalar_chunk.Goals as goal
 
@@ -43,8 +44,21 @@ returns-in-Some-source_since g c =
                     (quoted_shows c.args.single) taken.0.fits stood taken.1 refl c.still_begins-self-inside.ensures
                     c.still_tab-self-inside.ensures;
               },
-          (rw same (omega (arith, c.skip_run-taken.ensures.moves.0)), rw same c.skip_run-taken.ensures.moves.1),
-          (rw same (omega (arith, c.skip_run-taken.ensures.moves.0)), goes),
+          (
+            rw same (omega (arith, c.skip_run-taken.ensures.moves.0)),
+            rw same c.skip_run-taken.ensures.moves.1,
+            ap (λ r. r.lost) c.self.view_is,
+          ),
+          (
+            rw same (omega (arith, c.skip_run-taken.ensures.moves.0)),
+            goes,
+            run_on g.T.Input.unread _ _ (ap (λ r. r.lost) c.self.view_is) n (λ h k.
+                let stood = stands_at g.T.Input.unread _ _ h c.self.view_is k in
+                let taken = c.skip_run-taken.ensures.skips h.unread stood.0 in
+                lands g.T.Input.unread (starts (is_quoted_char c.args.single)) n _ _ h
+                (quoted_shows c.args.single) taken.0.fits stood taken.1 refl c.still_begins-self-inside.ensures
+                c.still_tab-self-inside.ensures),
+          ),
         ),
       ),
       record { rests = tt },
@@ -73,8 +87,21 @@ returns-in-None-source_since g c =
               c.in-Some.start c.source_since.result goes before after there.0 there.1
               (c.source_since.ensures (past n h.unread) taken.1) in
               let none : is_some c.source_since.result ≡ false = ap is_some c.in-None-source_since.is in cc),
-          (rw same (omega (arith, c.skip_run-taken.ensures.moves.0)), rw same c.skip_run-taken.ensures.moves.1),
-          (rw same (omega (arith, c.skip_run-taken.ensures.moves.0)), goes),
+          (
+            rw same (omega (arith, c.skip_run-taken.ensures.moves.0)),
+            rw same c.skip_run-taken.ensures.moves.1,
+            ap (λ r. r.lost) c.self.view_is,
+          ),
+          (
+            rw same (omega (arith, c.skip_run-taken.ensures.moves.0)),
+            goes,
+            run_on g.T.Input.unread _ _ (ap (λ r. r.lost) c.self.view_is) n (λ h k.
+                let stood = stands_at g.T.Input.unread _ _ h c.self.view_is k in
+                let taken = c.skip_run-taken.ensures.skips h.unread stood.0 in
+                lands g.T.Input.unread (starts (is_quoted_char c.args.single)) n _ _ h
+                (quoted_shows c.args.single) taken.0.fits stood taken.1 refl c.still_begins-self-inside.ensures
+                c.still_tab-self-inside.ensures),
+          ),
         ),
       ),
       record { rests = tt },
@@ -92,8 +119,8 @@ returns-in-None g c = (
           (g.met.T.Input.agrees c.args.self.now.input h.unread k.0)
           (sym c.in-None.is ∙ c.source_offset.ensures h.unread k.0) in
           record { counted = rw none refl; text = chars-nil; lands = k },
-      (omega arith, omega arith),
-      (omega arith, goes_nowhere _),
+      (omega arith, omega arith, refl),
+      (omega arith, goes_nowhere _, λ start before. before),
     ),
   ),
   record { rests = tt },

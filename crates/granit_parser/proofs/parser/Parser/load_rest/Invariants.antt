@@ -11,6 +11,7 @@ invariant-events g l = record {
       (record { events = g.R.SpannedEventReceiver.taken l.recv; places = g.R.SpannedEventReceiver.spans l.recv });
   same : l.self.stepper.scanner.options ≡ l.fn.self.stepper.scanner.options;
   given : l.self.given ≡ l.fn.self.given;
-  moves : Moves g.T.Input.left g.T.Input.origin l.fn.self.stepper.scanner.cursor l.self.stepper.scanner.cursor;
+  moves : Moves g.T.Input.unread g.T.Input.left g.T.Input.origin l.fn.self.stepper.scanner.cursor
+      l.self.stepper.scanner.cursor;
   quiet : l.fn.self.peeked ≡ None → Quiet g.T.Input.origin l.fn.self l.self;
 }

@@ -88,10 +88,14 @@ events-preserved g c =
           subst (λ (y : Result (Event × Span) Refused). Keeps (Some y) c.events.self.given c.next_event.new.self.given)
           c.in-Some-Ok.field-0-is c.in-Some-Ok.ensures.given ∙ c.events.invariant.given;
       errors = c.in_default.ensures.same ∙ c.events.invariant.errors;
-      moves = moves_behind g.T.Input.left g.T.Input.origin (Some c.in-Some-Ok.field-0) (Some (Ok x))
+      moves =
+          let more = moves_behind g.T.Input.unread g.T.Input.left g.T.Input.origin
+          (Some c.in-Some-Ok.field-0) (Some (Ok x))
           c.args.self.now.stepper.scanner.cursor c.events.self c.next_event.new.self (ap Some c.in-Some-Ok.field-0-is)
-          c.in-Some-Ok.ensures.seen c.in-Some-Ok.ensures.moves c.events.invariant.moves;
-      quiet = quiet_on g.T.Input.left g.T.Input.origin c.args.self.now c.events.self c.next_event.new.self
+          c.in-Some-Ok.ensures.seen c.in-Some-Ok.ensures.moves c.events.invariant.moves in
+          (more.0, more.1, λ start before. c.in-Some-Ok.ensures.onward start (c.events.invariant.moves.2 start before));
+      quiet = quiet_on g.T.Input.unread g.T.Input.left g.T.Input.origin
+          c.args.self.now c.events.self c.next_event.new.self
           c.events.invariant.quiet c.events.invariant.moves (Some c.in-Some-Ok.field-0) x
           (ap Some c.in-Some-Ok.field-0-is) c.in-Some-Ok.ensures.source c.in-Some-Ok.ensures.over
           c.in-Some-Ok.ensures.peeked;
@@ -99,18 +103,20 @@ events-preserved g c =
 
 pub returns-in-None-clause-moves : goal.returns-in-None-clause-moves
 returns-in-None-clause-moves g c =
-    moves_behind g.T.Input.left g.T.Input.origin None None c.args.self.now.stepper.scanner.cursor c.events.self
+    moves_behind g.T.Input.unread g.T.Input.left g.T.Input.origin
+    None None c.args.self.now.stepper.scanner.cursor c.events.self
     c.next_event.new.self refl c.in-None.ensures.seen c.in-None.ensures.moves c.events.invariant.moves
 
 pub returns-in-Some-Err-clause-moves : goal.returns-in-Some-Err-clause-moves
 returns-in-Some-Err-clause-moves g c =
-    moves_behind g.T.Input.left g.T.Input.origin (Some c.in-Some-Err.field-0) (Some (Err c.in-Some-Err.error))
+    moves_behind g.T.Input.unread g.T.Input.left g.T.Input.origin
+    (Some c.in-Some-Err.field-0) (Some (Err c.in-Some-Err.error))
     c.args.self.now.stepper.scanner.cursor c.events.self c.next_event.new.self (ap Some c.in-Some-Err.field-0-is)
     c.in-Some-Err.ensures.seen c.in-Some-Err.ensures.moves c.events.invariant.moves
 
 pub returns-then-last-clause-moves : goal.returns-then-last-clause-moves
 returns-then-last-clause-moves g c =
-    moves_behind g.T.Input.left g.T.Input.origin (Some c.in-Some-Ok.field-0)
+    moves_behind g.T.Input.unread g.T.Input.left g.T.Input.origin (Some c.in-Some-Ok.field-0)
     (Some (Ok (c.in-Some-Ok.event, c.in-Some-Ok.span))) c.args.self.now.stepper.scanner.cursor c.events.self
     c.next_event.new.self (ap Some c.in-Some-Ok.field-0-is) c.in-Some-Ok.ensures.seen c.in-Some-Ok.ensures.moves
     c.events.invariant.moves
@@ -140,32 +146,32 @@ returns-clause-known g c =
 
 pub returns-in-None-clause-source : goal.returns-in-None-clause-source
 returns-in-None-clause-source g c =
-    met_behind g.T.Input.left g.T.Input.origin c.args.self.now c.events.self c.next_event.new.self
+    met_behind g.T.Input.unread g.T.Input.left g.T.Input.origin c.args.self.now c.events.self c.next_event.new.self
     c.events.invariant.quiet c.events.invariant.moves None None refl c.in-None.ensures.source
     c.in-None.ensures.over
 
 pub returns-in-Some-Err-clause-source : goal.returns-in-Some-Err-clause-source
 returns-in-Some-Err-clause-source g c =
-    met_behind g.T.Input.left g.T.Input.origin c.args.self.now c.events.self c.next_event.new.self
+    met_behind g.T.Input.unread g.T.Input.left g.T.Input.origin c.args.self.now c.events.self c.next_event.new.self
     c.events.invariant.quiet c.events.invariant.moves (Some c.in-Some-Err.field-0) (Some (Err c.in-Some-Err.error))
     (ap Some c.in-Some-Err.field-0-is) c.in-Some-Err.ensures.source
     c.in-Some-Err.ensures.over
 
 pub returns-then-last-clause-source : goal.returns-then-last-clause-source
 returns-then-last-clause-source g c =
-    met_behind g.T.Input.left g.T.Input.origin c.args.self.now c.events.self c.next_event.new.self
+    met_behind g.T.Input.unread g.T.Input.left g.T.Input.origin c.args.self.now c.events.self c.next_event.new.self
     c.events.invariant.quiet c.events.invariant.moves (Some c.in-Some-Ok.field-0)
     (Some (Ok (c.in-Some-Ok.event, c.in-Some-Ok.span))) (ap Some c.in-Some-Ok.field-0-is) c.in-Some-Ok.ensures.source
     c.in-Some-Ok.ensures.over
 
 pub returns-in-Err-clause-source : goal.returns-in-Err-clause-source
 returns-in-Err-clause-source g c =
-    met_behind g.T.Input.left g.T.Input.origin c.args.self.now c.events.self c.next_event.new.self
+    met_behind g.T.Input.unread g.T.Input.left g.T.Input.origin c.args.self.now c.events.self c.next_event.new.self
     c.events.invariant.quiet c.events.invariant.moves (Some c.in-Some-Ok.field-0)
     (Some (Ok (c.in-Some-Ok.event, c.in-Some-Ok.span))) (ap Some c.in-Some-Ok.field-0-is) c.in-Some-Ok.ensures.source
     c.in-Some-Ok.ensures.over
 
 pub returns-clause-source : goal.returns-clause-source
 returns-clause-source g c = λ none f met before fresh.
-    absurd (unmet g.T.Input.left g.T.Input.origin c.args.self.now c.events.self c.run_out.new.self
+    absurd (unmet g.T.Input.unread g.T.Input.left g.T.Input.origin c.args.self.now c.events.self c.run_out.new.self
     c.events.invariant.quiet c.events.invariant.moves c.run_out.ensures.same none f met before fresh)
