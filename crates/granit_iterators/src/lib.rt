@@ -68,6 +68,8 @@ pub fn read_items(
     ensures ends { IfOk result (λ s.
         (⟦<FallibleBufferedInput<IntoIter<Result<char, ErrorKind>>> as Input>⟧.origin s).ends_with
         (first_error list.items)) }
+    ensures fresh { IfOk result (λ s.
+        (⟦<FallibleBufferedInput<IntoIter<Result<char, ErrorKind>>> as Input>⟧.origin s).handed_out ≡ false) }
 {
     FallibleBufferedInput::new(alloc, items(list))
 }

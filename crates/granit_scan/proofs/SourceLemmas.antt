@@ -2,7 +2,7 @@
 use Rattle.std.proofs.Common.{◌≡◌, ◌≤◌, ℕ, Bool, true, false, ◌||◌, List, Option, Some, None, Result, Ok, Err}
 use Rattle.std.proofs.Common.{is_some, refl, sym, ap, subst, ◌∙◌, arith}
 use Rattle.std.specs.Option.{option_map}
-use Rattle.std.specs.Prelude.{if◌then◌else◌}
+use Rattle.std.specs.Prelude.{if◌then◌else◌, IfOk, IfErr}
 use Rattle.std.specs.Result.{result_transpose}
 use Rattle.granit_base.specs.Place.{Mark, Place, Unread}
 use Rattle.granit_cursor.specs.Reading.{GivesTo}
@@ -12,7 +12,8 @@ use Rattle.granit_error.specs.Refused.{Refused}
 use Rattle.granit_input.specs.Origin.{Origin, Goes, Gave, error_given}
 use Rattle.granit_lexemes.specs.Outcome.{Fault}
 use Rattle.granit_scan.specs.Scanning.{Asks, GivesNext, GivesStart, KeepsCopy, KeepsFirst, MovesAsked, Scanning}
-use Rattle.granit_scan.specs.Scanning.{StandsIn, StepsTo, Unless, UnlessFailed, error_since, first_error, no_tokens}
+use Rattle.granit_scan.specs.Scanning.{StandsIn, StepsTo, StopsBy, TellsOf, Unless, UnlessFailed, error_since}
+use Rattle.granit_scan.specs.Scanning.{first_error, is_end, no_tokens}
 use Rattle.granit_scan.specs.TokenSteps.{TokenState, next_token}
 use Rattle.granit_scan.specs.TokenViews.{PlainToken, plain_token}
 use Rattle.granit_scanner.specs.Scans as scans
@@ -160,19 +161,34 @@ step_gives (Ok None) Lands given gives = gives
 step_gives (Ok (Some t)) Lands given gives = gives
 step_gives (Err e) Lands given gives = gives
 
+-- and tells of the stream what that tells
+pub step_tells : {I : Type 0} (s t : Scanning I) (q : Result (Option Token) Refused)
+    → IfOk q (λ x. s.failed ≡ false → t.first ≡ None)
+    → IfOk q (λ x. t.ended ≡ (s.ended || is_end (option_map plain_token x)))
+    → IfOk q (λ x. t.failed_in_directive ≡ s.failed_in_directive) → IfErr q (λ e. StopsBy s t e.kind)
+    → TellsOf s t (result_transpose q)
+step_tells s t (Ok None) started ended going stops =
+    record { started = started; ended = ended; in_directive = going }
+step_tells s t (Ok (Some x)) started ended going stops =
+    record { started = started; ended = ended; in_directive = going }
+step_tells s t (Err e) started ended going stops = stops
+
 pub steps_to : {I : Type 0} (unread : I → Unread → Type 0) (left : I → ℕ) (origin : I → Origin) (s t : Scanning I)
     (q : Result (Option Token) Refused)
     → ((m : TokenState) → StandsIn unread s m → UnlessFailed origin s t (λ e. q ≡ Err e)
     (GivesTo (option_map plain_token) q (StandsIn unread t) (next_token s.items.options m)))
     → (s.failed ≡ false → UnlessFailed origin s t (λ e. (q ≡ Err e) × KeepsCopy (Some e) t.source_error)
     (GivesStart s.first q × (t.source_error ≡ None)))
+    → TellsOf s t (result_transpose q) → t.comments ≡ s.comments
     → (s.failed ≡ true → (q ≡ Ok None) × (t ≡ s)) → t.items.options ≡ s.items.options → MovesAsked left origin s t
     → StepsTo unread left origin s (result_transpose q) t
-steps_to unread left origin s t q known source over options moves = record {
+steps_to unread left origin s t q known source told comments over options moves = record {
   known = λ m at. failed_on origin s t t refl (λ e is. ap result_transpose is)
       (step_gives q (StandsIn unread t) (next_token s.items.options m)) (known m at);
   source = λ going. failed_on origin s t t refl (λ e is. (ap result_transpose is.0, is.1)) (λ given. given.1)
       (source going);
+  told = told;
+  comments = comments;
   over = λ failed. let was = over failed in (ap result_transpose was.0, was.1);
   options = options;
   moves = moves;

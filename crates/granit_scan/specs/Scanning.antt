@@ -188,12 +188,26 @@ GivesNext None Lands given = (after : TokenState) × Lands after × (given ≡ O
 GivesNext (Some (Ok t)) Lands given = (after : TokenState) × Lands after × (given ≡ Ok (Some (plain_token t), after))
 GivesNext (Some (Err e)) Lands given = Fails e given
 
+-- a call gave a token, or there is none: nothing failed, and the start and the end of the stream are told once given
+pub record GoesOn {I : Type 0} (old new : Scanning I) (t : Option PlainToken) : Type 0 where
+  pub started : old.failed ≡ false → new.first ≡ None
+  pub ended : new.ended ≡ (old.ended || is_end t)
+  pub in_directive : new.failed_in_directive ≡ old.failed_in_directive
+
+-- what is told of the stream behind a step
+abbrev pub TellsOf : {I : Type 0} → (old new : Scanning I) → Next → Type 0
+TellsOf old new None = GoesOn old new None
+TellsOf old new (Some (Ok t)) = GoesOn old new (Some (plain_token t))
+TellsOf old new (Some (Err e)) = StopsBy old new e.kind
+
 pub record StepsTo {I : Type 0} (unread : I → Unread → Type 0) (left : I → ℕ) (origin : I → Origin) (s : Scanning I)
     (r : Next) (t : Scanning I) : Type 0 where
   pub known : (m : TokenState) → StandsIn unread s m → UnlessFailed origin s t (λ e. r ≡ Some (Err e))
       (GivesNext r (StandsIn unread t) (next_token s.items.options m))
   pub source : s.failed ≡ false → UnlessFailed origin s t
       (λ e. (r ≡ Some (Err e)) × KeepsCopy (Some e) t.source_error) (t.source_error ≡ None)
+  pub told : TellsOf s t r
+  pub comments : t.comments ≡ s.comments
   pub over : s.failed ≡ true → (r ≡ None) × (t ≡ s)
   pub options : t.items.options ≡ s.items.options
   pub moves : MovesAsked left origin s t

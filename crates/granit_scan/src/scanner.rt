@@ -77,6 +77,7 @@ impl<'input, T: BorrowedInput<'input>> Scanner<'input, T> {
         ensures ended { result.ended ≡ false }
         ensures comments { result.comments ≡ false → (u : Unread) → T.unread input u → holds 0x23 u.text ≡ false }
         ensures source { result.source_error ≡ None }
+        ensures directive { result.failed_in_directive ≡ false }
     {
         Scanner::with_options(alloc, input, Options::default())
     }
@@ -91,6 +92,7 @@ impl<'input, T: BorrowedInput<'input>> Scanner<'input, T> {
             → (u : Unread) → T.unread input u → holds 0x23 u.text ≡ false }
         ensures unasked { options.emit_comments ≡ false → result.comments ≡ false }
         ensures source { result.source_error ≡ None }
+        ensures directive { result.failed_in_directive ≡ false }
     {
         let comments = options.emit_comments && input.may_contain_comments();
         let items = ItemScanner::new(alloc, input, options);
@@ -319,7 +321,7 @@ impl<'input, T: BorrowedInput<'input>> Scanner<'input, T> {
             → GivesTo spec.no_tokens result (StandsIn T.unread self.new) (steps.settle self.old.items.options m) }
         ensures start { IfErr result (λ e. self.old.first ≡ None) }
         ensures keeps { Keeps self.old self.new }
-        ensures moves { Moves T.left T.origin self.old.items.cursor self.new.items.cursor }
+        ensures moves { Moves T.unread T.left T.origin self.old.items.cursor self.new.items.cursor }
     {
         match self.first {
             Some(_) => Ok(()),
@@ -332,7 +334,7 @@ impl<'input, T: BorrowedInput<'input>> Scanner<'input, T> {
         ensures known { (m : TokenState) → StandsIn T.unread self.old m → self.old.first ≡ None
             → GivesTo spec.no_tokens result (StandsIn T.unread self.new) (steps.settle self.old.items.options m) }
         ensures keeps { Keeps self.old self.new }
-        ensures moves { Moves T.left T.origin self.old.items.cursor self.new.items.cursor }
+        ensures moves { Moves T.unread T.left T.origin self.old.items.cursor self.new.items.cursor }
     {
         // Over an input of which nothing is known no number falls with each turn, so the turns are counted.
         'turns: for _ in 0..u64::MAX {
@@ -349,7 +351,7 @@ impl<'input, T: BorrowedInput<'input>> Scanner<'input, T> {
         ensures known { (m : TokenState) → StandsIn T.unread self.old m → self.old.first ≡ None
             → GivesTo spec.turn_view result (StandsIn T.unread self.new) (steps.token_turn self.old.items.options m) }
         ensures keeps { Keeps self.old self.new }
-        ensures moves { Moves T.left T.origin self.old.items.cursor self.new.items.cursor }
+        ensures moves { Moves T.unread T.left T.origin self.old.items.cursor self.new.items.cursor }
     {
         if !self.writer.is_empty() {
             return Ok(false);
@@ -397,7 +399,7 @@ impl<'input, T: BorrowedInput<'input>> Scanner<'input, T> {
             → GivesTo spec.turn_view result (StandsIn T.unread self.new)
             (steps.read_more self.old.items.options m.reading.ended m) }
         ensures keeps { Keeps self.old self.new }
-        ensures moves { Moves T.left T.origin self.old.items.cursor self.new.items.cursor }
+        ensures moves { Moves T.unread T.left T.origin self.old.items.cursor self.new.items.cursor }
     {
         if self.items.is_over() {
             return self.end();

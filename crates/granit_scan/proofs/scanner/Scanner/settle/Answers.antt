@@ -30,5 +30,9 @@ turns-preserved g c =
           c.turns.invariant.alike turned;
       keeps = keeps_both c.args.self.now c.turns.self c.turn.new.self c.turns.invariant.keeps
           c.in_ok-turn.ensures.keeps;
-      moves = (omega (arith, moved.0, more.0), goes_on _ _ _ moved.1 more.1);
+      moves = (
+        omega (arith, moved.0, more.0),
+        goes_on _ _ _ moved.1 more.1,
+        λ start before. more.2 start (moved.2 start before),
+      );
     }

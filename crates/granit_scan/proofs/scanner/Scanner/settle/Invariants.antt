@@ -7,5 +7,5 @@ abbrev pub invariant-turns : goal.invariant-turns
 invariant-turns g l = record {
   alike : SettlesAlike g.T.Input.unread l.fn.self l.self;
   keeps : Keeps l.fn.self l.self;
-  moves : Moves g.T.Input.left g.T.Input.origin l.fn.self.items.cursor l.self.items.cursor;
+  moves : Moves g.T.Input.unread g.T.Input.left g.T.Input.origin l.fn.self.items.cursor l.self.items.cursor;
 }

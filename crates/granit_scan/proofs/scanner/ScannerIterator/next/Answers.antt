@@ -1,6 +1,6 @@
 use Rattle.std.proofs.Common.{sym, subst}
 use Rattle.granit_scan.specs.Scanning.{Next, StepsTo}
-use Rattle.granit_scan.proofs.SourceLemmas.{steps_to}
+use Rattle.granit_scan.proofs.SourceLemmas.{step_tells, steps_to}
 use Rattle.granit_scan.proofs.scanner.ScannerIterator.next.Goals as goal
 
 pub returns-clause-steps : goal.returns-clause-steps
@@ -10,4 +10,6 @@ returns-clause-steps g c =
     subst (λ (r : Next). StepsTo g.T.Input.unread g.T.Input.left g.T.Input.origin c.args.self.now r new)
     (sym c.transpose.ensures)
     (steps_to g.T.Input.unread g.T.Input.left g.T.Input.origin c.args.self.now new c.next_queued.result
-    of.known of.source of.over of.options of.moves)
+    of.known of.source
+    (step_tells c.args.self.now new c.next_queued.result of.started of.ended of.going of.failed) of.comments
+    of.over of.options of.moves)
