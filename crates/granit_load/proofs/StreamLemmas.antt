@@ -1,19 +1,23 @@
 -- What the calls give of an iterator's characters is the run of their text, without byte offsets.
-use Rattle.std.proofs.Common.{◌≡◌, ℕ, List, Option, Some, None, false, Result, Ok, Err, sym, subst, ◌∙◌, inl, inr}
+use Rattle.std.proofs.Common.{◌≡◌, ℕ, List, [], Option, Some, None, Bool, true, false, Result, Ok, Err, sym, subst}
+use Rattle.std.proofs.Common.{◌⊎◌, ◌∙◌, inl, inr}
+use Rattle.granit_base.specs.Place.{Unread}
 use Rattle.granit_buffered.specs.Fallible.{characters_of, first_error}
-use Rattle.granit_cursor.specs.Reading.{Reading}
-use Rattle.granit_error.specs.FaultKind.{NoMemory}
+use Rattle.granit_cursor.specs.Reading.{Reading, CameOn, GoesOnward, Stands}
+use Rattle.granit_error.specs.FaultKind.{FaultKind, NoMemory}
 use Rattle.granit_error.specs.OptionsData.{OptionsData}
 use Rattle.granit_error.specs.Refused.{Refused}
 use Rattle.granit_error.specs.declared.kind.ErrorKind.{ErrorKind}
 use Rattle.granit_input.specs.Origin.{Origin}
 use Rattle.granit_invariants.proofs.BareRun.{run_bare}
-use Rattle.granit_lexemes.specs.Here.{start_of}
+use Rattle.granit_lexemes.specs.Here.{Here, start_of}
+use Rattle.granit_lexemes.specs.Onward.{Onward}
 use Rattle.granit_lexemes.specs.Outcome.{Fault, Fails, GivesValue}
 use Rattle.granit_lexemes.specs.PlainEvent.{PlainEvent}
-use Rattle.granit_steps.specs.Steps.{start_from}
+use Rattle.granit_steps.specs.Steps.{StepState, start_from}
 use Rattle.granit_steps.specs.Told.{GivesEvents, answer}
-use Rattle.granit_load.specs.Answering.{AnswersItems, GivesAllOr, GivesWhole, bare_run}
+use Rattle.granit_load.specs.Answering.{AnswersItems, GivesAllOr, GivesWhole, IsPlacedFrom, IsPlacedOn, IsPlacedOr}
+use Rattle.granit_load.specs.Answering.{bare_run}
 use Rattle.granit_load.proofs.GatherLemmas.{never_failed}
 use Rattle.granit_parser.specs.Sources.{GoesGiving, IsSourceError}
 use Rattle.granit_parser.specs.Streams.{bare_start}
@@ -45,19 +49,59 @@ bare_given_of origin view o p x same (Ok v) at g none = bare_answer_of o p x (vi
 bare_given_of origin view o p x same (Err e) at g none =
     bare_fault_of o p x e same (never_failed (origin at.input) at.place e (none at.input) g)
 
--- and where one may: an error that it gave is the first of the items
-pub items_of : {I V : Type 0} (origin : I → Origin) (view : V → List PlainEvent) (o p : OptionsData)
-    (items : List (Result ℕ ErrorKind)) → p ≡ o → (r : Result V Refused) (old new : Reading I)
-    → GivesWhole origin view p (start_from (bare_start (characters_of items))) (first_error items) r old new
-    → ((e : Refused) → GoesGiving (origin old.input) (origin new.input)
-    → IsSourceError (origin new.input) new.place e → first_error items ≡ Some e.kind)
+-- ---- a source that may fail
+
+module _ {I V : Type 0} (unread : I → Unread → Type 0) (origin : I → Origin) (view : V → List PlainEvent)
+    (old new : Reading I) where
+  -- where a cursor isn't lost, the place up to which it read is onward from wherever it came on
+  placed_on : (e : Refused) → GoesOnward unread old new → new.lost ≡ false → e.mark.place ≡ new.place
+      → IsPlacedOn unread old e
+  unfolding CameOn
+  placed_on e goes kept place start before = from (goes start before)
+    where
+      from : ((at : Here) × Onward start at × Stands unread new at) ⊎ (new.lost ≡ true) → IsPlacedFrom start e
+      from (inl k) = (k.0, k.1, place ∙ sym k.2.1)
+      from (inr lost) = absurd (let is : false ≡ true = sym kept ∙ lost in cc)
+
+  module _ (o : OptionsData) (m : StepState) (f : Option FaultKind) (e r : Refused) where
+    -- the error with which the source ends
+    pub ended_whole : (lost : Bool) → IsPlacedOr lost e r → lost ≡ new.lost → GoesOnward unread old new
+        → f ≡ Some e.kind → (e.mark.place ≡ new.place) × (e.sources ≡ [])
+        → GivesWhole unread origin view o m f (Err r) old new
+    ended_whole true none is goes ends place = inl (λ other. absurd (other none))
+    ended_whole false same is goes ends place =
+        subst (λ (x : Refused). GivesWhole unread origin view o m f (Err x) old new) (sym same)
+        (inr (inl ends, place.1, placed_on e goes (sym is) place.0))
+
+    -- a refusal that came before it was known how the source ends
+    pub refused_whole : (lost : Bool) → IsPlacedOr lost e r → lost ≡ new.lost → GoesOnward unread old new
+        → GivesAllOr origin view o m (Err e) new → GoesGiving (origin old.input) (origin new.input)
+        → GivesWhole unread origin view o m f (Err r) old new
+    refused_whole true none is goes given moved = inl (λ other. absurd (other none))
+    refused_whole false same is goes given moved =
+        subst (λ (x : Refused). GivesWhole unread origin view o m f (Err x) old new) (sym same) (elim given [
+          | inl gives ↦ inl gives
+          | inr failed ↦ inr (inr (failed.kind, moved), failed.unnamed, placed_on e goes (sym is) failed.place)
+        ])
+
+-- an error that a source gave is the first of the items
+pub items_of : {I V : Type 0} (unread : I → Unread → Type 0) (origin : I → Origin) (view : V → List PlainEvent)
+    (o p : OptionsData) (items : List (Result ℕ ErrorKind)) → p ≡ o → (r : Result V Refused) (old new : Reading I)
+    → GivesWhole unread origin view p (start_from (bare_start (characters_of items))) (first_error items) r old new
+    → CameOn unread (bare_start (characters_of items)) old
+    → ((k : FaultKind) → GoesGiving (origin old.input) (origin new.input) → (origin new.input).error ≡ Some k
+    → first_error items ≡ Some k)
     → AnswersItems view o items r
-items_of origin view o p items same (Ok v) old new g source =
+items_of unread origin view o p items same (Ok v) old new g came source =
     (g.0, bare_answer_of o p (characters_of items) (view v) same g.1)
-items_of origin view o p items same (Err e) old new g source = elim g [
-  | inl ended ↦ inl ended
-  | inr before ↦ elim before.0 [
-    | inl gives ↦ inr (bare_fault_of o p (characters_of items) e same gives)
-    | inr failed ↦ inl (source e before.1 failed, failed.unnamed)
-  ]
+items_of unread origin view o p items same (Err e) old new g came source = elim g [
+  | inl gives ↦ inr (bare_fault_of o p (characters_of items) e same gives)
+  | inr given ↦ inl (
+    elim given.0 [
+      | inl ended ↦ ended
+      | inr failed ↦ source e.kind failed.1 failed.0
+    ],
+    given.1,
+    given.2 (bare_start (characters_of items)) came,
+  )
 ]

@@ -6,11 +6,12 @@ ghost use Rattle.granit_error.specs.FaultKind.{FaultKind};
 ghost use Rattle.granit_error.specs.OptionsView.{options_of};
 ghost use Rattle.granit_error.specs.declared.kind.ErrorKind.{ErrorKind};
 ghost use Rattle.granit_event.specs.Events.{plain_events};
-ghost use Rattle.granit_load.specs.Answering.{AnswersItems, GivesWhole};
+ghost use Rattle.granit_load.specs.Answering.{AnswersItems, GivesWhole, IsPlacedOr};
 ghost use Rattle.granit_parser.specs.Parsing.{StandsAt};
 ghost use Rattle.granit_steps.specs.Steps.{StepState};
 
 use crate::load::{Events, gather};
+use granit_base::NoMemory;
 use granit_buffered::Source;
 use granit_error::{ErrorKind, Options, ScanError};
 use granit_input::BorrowedInput;
@@ -25,16 +26,27 @@ fn gather_whole<'a, T: BorrowedInput<'a>>(
     ensures { (m : StepState) (f : Option FaultKind) → StandsAt T.unread parser.old m
         → (T.origin parser.old.stepper.scanner.cursor.input).ends_with f
         → (T.origin parser.old.stepper.scanner.cursor.input).handed_out ≡ false
-        → GivesWhole T.origin plain_events parser.old.stepper.scanner.options m f result
+        → GivesWhole T.unread T.origin plain_events parser.old.stepper.scanner.options m f result
         parser.old.stepper.scanner.cursor parser.new.stepper.scanner.cursor }
 {
     let events = match gather(alloc, parser) {
         Ok(events) => events,
-        Err(error) => return Err(error),
+        Err(error) => return Err(placed(error, parser.is_lost())),
     };
     match parser.end_error() {
         None => Ok(events),
-        Some(error) => Err(error),
+        Some(error) => Err(placed(error, parser.is_lost())),
+    }
+}
+
+/// An error where the place up to which was read is known, and else want of memory, by which that got lost.
+fn placed(error: ScanError, is_lost: bool) -> ScanError
+    ensures { IsPlacedOr is_lost error result }
+{
+    if is_lost {
+        ScanError::from(NoMemory)
+    } else {
+        error
     }
 }
 

@@ -7,6 +7,7 @@ ghost use Rattle.granit_before.specs.DeclaredCause.{DeclaredCause};
 ghost use Rattle.granit_before.specs.DeclaredReading.{DeclaredReading};
 ghost use Rattle.granit_block_layout.specs.Alike.{kinds_of};
 ghost use Rattle.granit_canonical.specs.Canonical.{canonical_events};
+ghost use Rattle.granit_cursor.specs.Reading.{GoesOnward};
 ghost use Rattle.granit_comments.specs.TextComments.{TellsComments, ToldUnasked};
 ghost use Rattle.granit_error.specs.FaultKind.{NoMemory as OutOfMemory};
 ghost use Rattle.granit_error.specs.OptionsView.{options_of};
@@ -105,6 +106,7 @@ pub fn gather<'a, T: BorrowedInput<'a>>(
         (T.origin parser.new.stepper.scanner.cursor.input)) }
     ensures failed { IfErr result (λ e. GoesGiving (T.origin parser.old.stepper.scanner.cursor.input)
         (T.origin parser.new.stepper.scanner.cursor.input)) }
+    ensures onward { GoesOnward T.unread parser.old.stepper.scanner.cursor parser.new.stepper.scanner.cursor }
 {
     let mut items = Vec::new(alloc);
     'events: for _ in 0..u64::MAX {

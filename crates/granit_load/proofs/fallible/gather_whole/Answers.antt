@@ -1,4 +1,6 @@
 use Rattle.std.proofs.Common.{inl, inr, sym, ◌∙◌}
+use Rattle.granit_event.specs.Events.{plain_events}
+use Rattle.granit_load.proofs.StreamLemmas.{ended_whole, refused_whole}
 use Rattle.granit_load.proofs.fallible.gather_whole.Goals as goal
 
 pub returns-in-None : goal.returns-in-None
@@ -11,10 +13,15 @@ returns-in-None g c = λ m f at ends fresh.
 pub returns : goal.returns
 returns g c = λ m f at ends fresh.
     let goes = c.in-Ok.ensures.goes in
-    inl (
-      sym (c.in-Some.ensures.told f (goes.ends_with f ends) (goes.handed_out ∙ fresh)),
-      c.in-Some.ensures.unnamed,
-    )
+    ended_whole g.T.Input.unread g.T.Input.origin plain_events c.args.parser.now.stepper.scanner.cursor
+    c.end_error.new.self.stepper.scanner.cursor c.args.parser.now.stepper.scanner.options m f c.in-Some.error
+    c.placed-in-Some.result c.is_lost-in-Some.result c.placed-in-Some.ensures c.is_lost-in-Some.ensures
+    (λ start before. c.in-Some.ensures.onward start (c.in-Ok.ensures.onward start before))
+    (sym (c.in-Some.ensures.told f (goes.ends_with f ends) (goes.handed_out ∙ fresh))) c.in-Some.ensures.place
 
 pub returns-in-Err : goal.returns-in-Err
-returns-in-Err g c = λ m f at ends fresh. inr (c.in-Err.ensures.known m at, c.in-Err.ensures.failed)
+returns-in-Err g c = λ m f at ends fresh.
+    refused_whole g.T.Input.unread g.T.Input.origin plain_events c.args.parser.now.stepper.scanner.cursor
+    c.gather.new.parser.stepper.scanner.cursor c.args.parser.now.stepper.scanner.options m f c.in-Err.error
+    c.placed.result c.is_lost.result c.placed.ensures c.is_lost.ensures
+    c.in-Err.ensures.onward (c.in-Err.ensures.known m at) c.in-Err.ensures.failed

@@ -21,6 +21,7 @@ events-init g c = record {
   gave = search rules;
   same = refl;
   goes = goes_nowhere _;
+  onward = λ start before. before;
 }
 
 pub returns-in-None-clause-known : goal.returns-in-None-clause-known
@@ -78,4 +79,5 @@ events-preserved g c =
           (sym (grown ∙ map-append plain_event c.events.items.items _)) one;
       same = c.in-Some-Ok.ensures.options ∙ c.events.invariant.same;
       goes = goes_on _ _ _ c.events.invariant.goes moved;
+      onward = λ start before. c.in-Some-Ok.ensures.onward start (c.events.invariant.onward start before);
     }

@@ -1,4 +1,5 @@
 use Rattle.std.proofs.Common.{◌≡◌}
+use Rattle.granit_cursor.specs.Reading.{GoesOnward}
 use Rattle.granit_event.specs.Events.{plain_events}
 use Rattle.granit_input.specs.Origin.{Goes}
 use Rattle.granit_load.proofs.GatherLemmas.{GaveFirst}
@@ -10,4 +11,5 @@ invariant-events g l = record {
   same : l.parser.stepper.scanner.options ≡ l.fn.parser.stepper.scanner.options;
   goes : Goes (g.T.Input.origin l.fn.parser.stepper.scanner.cursor.input)
       (g.T.Input.origin l.parser.stepper.scanner.cursor.input);
+  onward : GoesOnward g.T.Input.unread l.fn.parser.stepper.scanner.cursor l.parser.stepper.scanner.cursor;
 }
