@@ -34,8 +34,8 @@ mapped f (Some a) b is = (a, refl, cc)
 none_first : (gs xs : Events) → Some [] ≡ Some gs → xs ≡ gs ++ xs
 none_first gs xs is = let none : gs ≡ [] = cc in subst (λ (hs : Events). xs ≡ hs ++ xs) (sym none) refl
 
-one_first : (e x : Event × Span) (gs xs : Events) → Some (e ∷ []) ≡ Some gs → ◌≡◌ {A = Option Answer} (Some (Ok x)) (Some (Ok e))
-    → x ∷ xs ≡ gs ++ xs
+one_first : (e x : Event × Span) (gs xs : Events) → Some (e ∷ []) ≡ Some gs
+    → ◌≡◌ {A = Option Answer} (Some (Ok x)) (Some (Ok e)) → x ∷ xs ≡ gs ++ xs
 one_first e x gs xs is same =
     let all : gs ≡ x ∷ [] = cc in subst (λ (hs : Events). x ∷ xs ≡ hs ++ xs) (sym all) refl
 
@@ -245,7 +245,8 @@ module _ {S : Type 0} (steps : S → Next → S → Type 0) (offset : S → ℕ)
     comes_through p q name r k ks xs layers one calls = seen p q name r k ks p.peeked xs layers one refl calls
 
 -- a parser of several kinds, where it is a replay
-pub fourth_replays : {A B C : Type 0} (a : A → Next → A → Type 0) (b : B → Next → B → Type 0) (c : C → Next → C → Type 0)
+pub fourth_replays : {A B C : Type 0} (a : A → Next → A → Type 0) (b : B → Next → B → Type 0)
+    (c : C → Next → C → Type 0)
     → Replays (StepsAny a b c (λ p r q. (r ≡ next_of p) × (q ≡ behind_next p))) Fourth
 fourth_replays a b c p r (First q) step = absurd step
 fourth_replays a b c p r (Second q) step = absurd step

@@ -12,8 +12,8 @@ use Rattle.granit_error.specs.Refused.{Refused}
 use Rattle.granit_event.specs.declared.event.Event.{Event}
 use Rattle.granit_event.specs.Events.{event_kind}
 use Rattle.granit_layers.specs.Stacking.{Answer, ComesNext, ComesOf, IsNamed, IsPlaced, LiesBelow, PeeksAs, Pushes}
-use Rattle.granit_layers.specs.Stacking.{Reads, Stack, TurnsLayer, TurnsOnce, Withheld, is_none_left, layer_of, layers_of}
-use Rattle.granit_layers.specs.Stacking.{first_given, gives_first, is_ending, names_of, one_more}
+use Rattle.granit_layers.specs.Stacking.{Reads, Stack, TurnsLayer, TurnsOnce, Withheld, first_given, gives_first}
+use Rattle.granit_layers.specs.Stacking.{is_ending, is_none_left, layer_of, layers_of, names_of, one_more}
 use Rattle.granit_layers.specs.Turning.{Next, part_of}
 use Rattle.granit_layers.specs.declared.layer.Layer.{Layer}
 use Rattle.granit_layers.specs.declared.turn.Turn.{Turn}
@@ -156,7 +156,8 @@ layers_kept p e =
 
 -- ---- errors
 
-pub counted : {A : Type 0} (xs : List A) (none : Bool) (n : ℕ) → none ≡ (n == 0) → n ≡ length xs → none ≡ is_none_left xs
+pub counted : {A : Type 0} (xs : List A) (none : Bool) (n : ℕ) → none ≡ (n == 0) → n ≡ length xs
+    → none ≡ is_none_left xs
 counted xs none n is same = is ∙ (ap (λ m. m == 0) same ∙ none_counted xs)
 
 -- a single parser's error stays as it is

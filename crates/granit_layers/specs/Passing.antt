@@ -66,5 +66,5 @@ abbrev pub ReplayComesThrough : {S : Type 0} → (steps : S → Next → S → T
 ReplayComesThrough steps offset sets again =
     (p q : Stack _) (name : Written) (r : Replay) (k : Layer _) (ks : List (Layer _)) (given : List (Event × Span))
     → p.layers ≡ layer_of (again r) name ∷ k ∷ ks → IsOneDocument false r.events → Calls steps offset sets p given q
-    → Passes steps offset sets p.emits_comments (k ∷ ks) (held p.peeked ++ those_through p.emits_comments r.events) given
-    q.layers
+    → Passes steps offset sets p.emits_comments (k ∷ ks)
+    (held p.peeked ++ those_through p.emits_comments r.events) given q.layers

@@ -265,7 +265,7 @@ impl<'input, S: StackedParser<'input>> Layers<'input, S> {
     }
 
     /// Reads the next event, where none was looked at.
-    fn look_on(&mut self)
+    pub fn look_on(&mut self)
         ensures { PeeksAs S.steps S.offset_of S.sets_offset self.old self.new.peeked self.new }
     {
         if self.peeked.is_none() && self.end.is_none() {
@@ -282,8 +282,8 @@ impl<'input, S: StackedParser<'input>> Layers<'input, S> {
         self.peeked = Some(next);
     }
 
-    /// What was looked at.
-    fn look(&self) -> Option<Result<&(Event<'input>, Span), &ScanError>>
+    /// What was looked at and not taken.
+    pub fn look(&self) -> Option<Result<&(Event<'input>, Span), &ScanError>>
         ensures { shown result ≡ self.now.peeked }
     {
         match &self.peeked {

@@ -300,7 +300,7 @@ recover_ids b o stops looked c x = with_ids b o stops looked c.refusal c x
 
 -- ---- laws
 
-abbrev NoBounds : Bounds
+abbrev pub NoBounds : Bounds
 NoBounds = record { low = 0; least = 0 }
 
 reached_ids : (o : OptionsData) (c : Calls) → Reached o c → Ids NoBounds c.steps
@@ -310,10 +310,10 @@ reached_ids o c (reached_call {c = d} r) = call_ids NoBounds o d (reached_ids o 
 reached_ids o c (reached_recovery {c = d} stops looked r) = recover_ids NoBounds o stops looked d (reached_ids o d r)
 
 -- the count is at least what it is
-abbrev AtLeast : ℕ → Bounds
+abbrev pub AtLeast : ℕ → Bounds
 AtLeast n = record { low = 0; least = n }
 
-ids_now : (s : StepState) → Ids NoBounds s → Ids (AtLeast s.parser.count) s
+pub ids_now : (s : StepState) → Ids NoBounds s → Ids (AtLeast s.parser.count) s
 ids_now s x =
     let p = x.0 in (
       record {

@@ -5,10 +5,11 @@ ghost use Rattle.granit_lexemes.specs.Here.{Here};
 ghost use Rattle.granit_lexemes.specs.Outcome.{Fault};
 ghost use Rattle.granit_lexemes.specs.PlainEvent.{PlainEvent};
 ghost use Rattle.granit_restart.specs.Calls.{Calls, next_call};
-ghost use Rattle.granit_recovery.specs.Ids.{id_of, IdsFrom, counting_from};
+ghost use Rattle.granit_recovery.specs.Ids.{Counted, id_of, id_told, IdsFrom, counting_from};
 ghost use Rattle.granit_restart.specs.Recovery.{recover, anchor_offset};
 ghost use Rattle.granit_restart.specs.Skipping.{Stops};
 ghost use Rattle.granit_recovery.specs.Streams.{Gives, Reached};
+ghost use Rattle.granit_steps.specs.Steps.{StepState, next_event};
 ghost use Rattle.granit_steps.specs.Told.{GivesEvents};
 
 /// The offset, which is the next id, never falls.
@@ -35,4 +36,11 @@ pub fn ids_go_on_behind_a_fault()
 pub fn ids_begin_at_the_offset()
     ensures { (o : OptionsData) (h : Here) (count : ℕ) (es : List PlainEvent) (f : Option Fault)
         → GivesEvents o (counting_from count h) es f → IdsFrom (suc count) es }
+{}
+
+/// A step gives no id above the count that it leaves, which is no less than before.
+pub fn ids_are_counted()
+    ensures { (o : OptionsData) (m after : StepState) (r : Option PlainEvent) → Counted o m
+        → next_event o m ≡ Ok (r, after)
+        → (m.parser.count ≤ after.parser.count) × (id_told r ≤ after.parser.count) }
 {}

@@ -16,7 +16,7 @@ pub use dropping::{
     nothing_is_dropped_between_documents,
 };
 pub use ids::{
-    ids_are_below_the_offset, ids_begin_at_the_offset, ids_go_on_behind_a_fault,
+    ids_are_below_the_offset, ids_are_counted, ids_begin_at_the_offset, ids_go_on_behind_a_fault,
     the_offset_never_falls,
 };
 pub use refusals::{a_refusal_is_answered_again, no_event_follows_a_refusal};
