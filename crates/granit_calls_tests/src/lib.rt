@@ -5,5 +5,3 @@
 mod directives;
 #[cfg(test)]
 mod properties;
-#[cfg(test)]
-mod torn;

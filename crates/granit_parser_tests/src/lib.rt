@@ -1,13 +1,11 @@
-//! Tests of granit_parser by its public calls, and of trees that are written as canonical text and read back.
+//! Tests of granit_parser by its public calls.
 #![tactic(auto)]
 
 #[cfg(test)]
-mod answers;
-#[cfg(test)]
 mod failing;
 #[cfg(test)]
-mod parser;
+mod letters;
 #[cfg(test)]
-mod round_trip;
+mod parser;
 #[cfg(test)]
 mod tags;

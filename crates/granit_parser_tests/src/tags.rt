@@ -1,7 +1,7 @@
+//! Handles that stay over documents.
 use granit_base::Span;
-use granit_error::{Options, ScanError, options};
+use granit_error::ScanError;
 use granit_event::Event;
-use granit_load::load_str;
 use granit_parser::Parser;
 use std::test::*;
 
@@ -38,10 +38,4 @@ fn handles_over_documents(rt: HostRuntime) {
     assert_eq!(rt; prefixes(&rt, KEPT, false).as_str(), "t:?");
     assert_eq!(rt; prefixes(&rt, KEPT, true).as_str(), "t:t:");
     assert_eq!(rt; prefixes(&rt, CORE, true).as_str(), "t:tag:yaml.org,2002:");
-}
-
-#[test]
-fn handles_by_the_option(rt: HostRuntime) {
-    assert!(rt; load_str(rt.alloc(), KEPT, Options::default()).is_err());
-    assert!(rt; load_str(rt.alloc(), KEPT, options!(keep_tags: true)).is_ok());
 }

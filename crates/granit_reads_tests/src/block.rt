@@ -93,6 +93,16 @@ fn first_untold<'a>(
     None
 }
 
+/// The text of the first row whose scalar behind a key in column 0, `k: `, isn't told as it says.
+fn first_untold_value<'a>(alloc: Global, rows: &[(&'a str, &'a str, Places)]) -> Option<&'a str> {
+    for &(text, value, places) in rows {
+        if !tells(alloc, text, 3, Some(0), value, places) {
+            return Some(text);
+        }
+    }
+    None
+}
+
 /// The number of the kind by which a block scalar at an index is refused, and the index of its mark.
 fn refused(
     alloc: Global,
@@ -141,67 +151,36 @@ fn worked_block_scalars(rt: HostRuntime) {
 
 #[test]
 fn headers_of_block_scalars(rt: HostRuntime) {
-    let rows = [
-        ("k: |\n a\n", 3, Some(0), "a\n", (6, 8, Some(1), true)),
-        ("k: |1\n  a\n", 3, Some(0), " a\n", (7, 10, Some(1), true)),
-        ("k: |-2\n   a\n", 3, Some(0), " a", (9, 12, Some(2), true)),
-        (
-            "k: |2+\n   a\n\n",
-            3,
-            Some(0),
-            " a\n\n",
-            (9, 13, Some(2), true),
-        ),
-        (
-            "k: >+1\n  a\n b\n",
-            3,
-            Some(0),
-            " a\nb\n",
-            (8, 14, Some(1), true),
-        ),
-        ("k: | #c\n a\n", 3, Some(0), "a\n", (9, 11, Some(1), true)),
-        ("k: |- \t#c", 3, Some(0), "", (3, 9, None, false)),
-        ("k: |  \n a\n", 3, Some(0), "a\n", (8, 10, Some(1), true)),
-        (
-            "k: |\r\n a\r\n b\r\n",
-            3,
-            Some(0),
-            "a\nb\n",
-            (7, 14, Some(1), true),
-        ),
-        ("k: |\r a\r", 3, Some(0), "a\n", (6, 8, Some(1), true)),
-        ("k: |", 3, Some(0), "", (3, 4, None, false)),
-        ("k: |+  ", 3, Some(0), "", (3, 7, None, false)),
-        ("|2\n  a\n", 0, None, "a\n", (5, 7, Some(2), true)),
+    let values = [
+        ("k: |\n a\n", "a\n", (6, 8, Some(1), true)),
+        ("k: |1\n  a\n", " a\n", (7, 10, Some(1), true)),
+        ("k: |-2\n   a\n", " a", (9, 12, Some(2), true)),
+        ("k: |2+\n   a\n\n", " a\n\n", (9, 13, Some(2), true)),
+        ("k: >+1\n  a\n b\n", " a\nb\n", (8, 14, Some(1), true)),
+        ("k: | #c\n a\n", "a\n", (9, 11, Some(1), true)),
+        ("k: |- \t#c", "", (3, 9, None, false)),
+        ("k: |  \n a\n", "a\n", (8, 10, Some(1), true)),
+        ("k: |\r\n a\r\n b\r\n", "a\nb\n", (7, 14, Some(1), true)),
+        ("k: |\r a\r", "a\n", (6, 8, Some(1), true)),
+        ("k: |", "", (3, 4, None, false)),
+        ("k: |+  ", "", (3, 7, None, false)),
     ];
+    assert_eq!(rt; first_untold_value(rt.alloc(), &values), None);
+    let rows = [("|2\n  a\n", 0, None, "a\n", (5, 7, Some(2), true))];
     assert_eq!(rt; first_untold(rt.alloc(), &rows), None);
 }
 
 #[test]
 fn columns_of_block_scalars(rt: HostRuntime) {
+    let values = [
+        ("k: |\n \n  a\n", "\na\n", (9, 11, Some(2), true)),
+        ("k: |\n  \n  a\n", "\na\n", (10, 12, Some(2), true)),
+        ("k: |\n   a\n  b: c\n", "a\n", (8, 12, Some(3), true)),
+        ("k: |\n  a\n \n   \n", "a\n\n \n", (7, 15, Some(2), true)),
+    ];
+    assert_eq!(rt; first_untold_value(rt.alloc(), &values), None);
     let rows = [
-        (
-            "k: |\n \n  a\n",
-            3,
-            Some(0),
-            "\na\n",
-            (9, 11, Some(2), true),
-        ),
-        (
-            "k: |\n  \n  a\n",
-            3,
-            Some(0),
-            "\na\n",
-            (10, 12, Some(2), true),
-        ),
         ("|\na\nb\n", 0, None, "a\nb\n", (2, 6, Some(0), true)),
-        (
-            "k: |\n   a\n  b: c\n",
-            3,
-            Some(0),
-            "a\n",
-            (8, 12, Some(3), true),
-        ),
         (
             "- k: |\n    a\n  l: b\n",
             5,
@@ -215,13 +194,6 @@ fn columns_of_block_scalars(rt: HostRuntime) {
             Some(2),
             " a\nb\n",
             (11, 19, Some(3), true),
-        ),
-        (
-            "k: |\n  a\n \n   \n",
-            3,
-            Some(0),
-            "a\n\n \n",
-            (7, 15, Some(2), true),
         ),
         ("--- |\na\n---\nb\n", 4, None, "a\n", (6, 8, Some(0), true)),
         (
@@ -239,96 +211,48 @@ fn columns_of_block_scalars(rt: HostRuntime) {
 
 #[test]
 fn folds_of_block_scalars(rt: HostRuntime) {
-    let rows = [
-        (
-            "k: >\n a\n\n b\n",
-            3,
-            Some(0),
-            "a\nb\n",
-            (6, 12, Some(1), true),
-        ),
-        (
-            "k: >\n a\n\n\n b\n",
-            3,
-            Some(0),
-            "a\n\nb\n",
-            (6, 13, Some(1), true),
-        ),
+    let values = [
+        ("k: >\n a\n\n b\n", "a\nb\n", (6, 12, Some(1), true)),
+        ("k: >\n a\n\n\n b\n", "a\n\nb\n", (6, 13, Some(1), true)),
         (
             "k: >\n a\n\n  b\n\n c\n",
-            3,
-            Some(0),
             "a\n\n b\n\nc\n",
             (6, 17, Some(1), true),
         ),
         (
             "k: >\n a\n \tb\n c\n",
-            3,
-            Some(0),
             "a\n\tb\nc\n",
             (6, 15, Some(1), true),
         ),
-        (
-            "k: >1\n\n  a\n b\n",
-            3,
-            Some(0),
-            "\n a\nb\n",
-            (8, 14, Some(1), true),
-        ),
+        ("k: >1\n\n  a\n b\n", "\n a\nb\n", (8, 14, Some(1), true)),
         (
             "k: >\r\n a\r\n\r\n b\r\n c",
-            3,
-            Some(0),
             "a\nb c\n",
             (7, 18, Some(1), false),
         ),
-        (
-            "k: >\n a \n b\n",
-            3,
-            Some(0),
-            "a  b\n",
-            (6, 12, Some(1), true),
-        ),
+        ("k: >\n a \n b\n", "a  b\n", (6, 12, Some(1), true)),
     ];
-    assert_eq!(rt; first_untold(rt.alloc(), &rows), None);
+    assert_eq!(rt; first_untold_value(rt.alloc(), &values), None);
 }
 
 #[test]
 fn endings_of_block_scalars(rt: HostRuntime) {
-    let rows = [
-        ("k: |\n a\n\n\n", 3, Some(0), "a\n", (6, 10, Some(1), true)),
-        ("k: |-\n a\n\n\n", 3, Some(0), "a", (7, 11, Some(1), true)),
-        (
-            "k: |+\n a\n\n\n",
-            3,
-            Some(0),
-            "a\n\n\n",
-            (7, 11, Some(1), true),
-        ),
-        ("k: |\n a", 3, Some(0), "a\n", (6, 7, Some(1), false)),
-        ("k: |-\n a", 3, Some(0), "a", (7, 8, Some(1), false)),
-        ("k: |+\n a\n ", 3, Some(0), "a\n", (7, 10, Some(1), true)),
-        (
-            "k: |+\n a\n\n ",
-            3,
-            Some(0),
-            "a\n\n",
-            (7, 11, Some(1), true),
-        ),
-        ("k: |\n", 3, Some(0), "", (3, 5, None, true)),
-        ("k: |+\n\n\n", 3, Some(0), "\n\n", (3, 8, None, true)),
-        ("k: |+\n ", 3, Some(0), "\n", (3, 7, None, true)),
-        ("k: |+\n\n\n  ", 3, Some(0), "\n\n", (3, 10, None, true)),
-        ("k: |+\n\nl: b\n", 3, Some(0), "\n", (7, 7, None, true)),
-        (
-            "k: |\n \u{3000}\n",
-            3,
-            Some(0),
-            "\u{3000}\n",
-            (6, 8, None, true),
-        ),
+    let values = [
+        ("k: |\n a\n\n\n", "a\n", (6, 10, Some(1), true)),
+        ("k: |-\n a\n\n\n", "a", (7, 11, Some(1), true)),
+        ("k: |+\n a\n\n\n", "a\n\n\n", (7, 11, Some(1), true)),
+        ("k: |\n a", "a\n", (6, 7, Some(1), false)),
+        ("k: |-\n a", "a", (7, 8, Some(1), false)),
+        ("k: |+\n a\n ", "a\n", (7, 10, Some(1), true)),
+        ("k: |+\n a\n\n ", "a\n\n", (7, 11, Some(1), true)),
+        ("k: |\n", "", (3, 5, None, true)),
+        ("k: |+\n\n\n", "\n\n", (3, 8, None, true)),
+        ("k: |+\n ", "\n", (3, 7, None, true)),
+        ("k: |+\n\n\n  ", "\n\n", (3, 10, None, true)),
+        ("k: |+\n\nl: b\n", "\n", (7, 7, None, true)),
+        ("k: |\n \u{3000}\n", "\u{3000}\n", (6, 8, None, true)),
     ];
-    assert_eq!(rt; first_untold(rt.alloc(), &rows), None);
+    assert_eq!(rt; first_untold_value(rt.alloc(), &values), None);
 }
 
 #[test]

@@ -1,7 +1,7 @@
 -- What reading goes on leaves of an input that lends from elsewhere.
 use Rattle.std.proofs.Common.{refl}
 use Rattle.granit_input.specs.Origin.{Origin, Goes, Gave}
-use Rattle.granit_calls_tests.specs.Torn.{of_torn}
+use Rattle.granit_custom_input_tests.specs.Torn.{of_torn}
 
 pub torn_goes : (old new lends : Origin) → Goes old new → Goes (of_torn old lends) (of_torn new lends)
 torn_goes old new lends goes = record {

@@ -18,7 +18,7 @@ pub struct Torn<T: Input, L: Input> {
 }
 
 impl<T: Input, L: Input> Input for Torn<T, L> {
-    ghost use Rattle.granit_calls_tests.specs.Torn.{of_torn};
+    ghost use Rattle.granit_custom_input_tests.specs.Torn.{of_torn};
 
     ghost unread = { λ s u. ⊥ };
 

@@ -1,0 +1,5 @@
+//! Tests of calls over an input of one's own.
+#![tactic(auto)]
+
+#[cfg(test)]
+mod torn;
