@@ -1,3 +1,4 @@
+mod AskLaws
 mod DropLaws
 mod FaultLaws
 mod FollowLaws
@@ -5,8 +6,12 @@ mod IdLaws
 mod IdLemmas
 mod IdSteps
 mod LevelLaws
+mod MarkRefusals
 mod OffsetLaws
 mod PlaceLaws
 mod RecoveryLaws
+mod SeatLaws
+mod SeatSteps
 mod SkipLaws
 mod TurnLaws
+mod TurnedLaws

@@ -9,7 +9,7 @@ use Rattle.granit_machine.specs.Giving.{anchor_number}
 use Rattle.granit_recovery.proofs.IdLaws.{Anew, AtLeast, Ids, NextIds, NoBounds, from_above, ids_now, next_ids}
 use Rattle.granit_recovery.proofs.IdLemmas.{Above, Bounds, FrameIds, HeldIds, IdsIn}
 use Rattle.granit_recovery.specs.Ids.{Counted, IdsFrom, counted_more, counted_start, counted_step, counting_from, id_of}
-use Rattle.granit_recovery.specs.Ids.{id_told, with_count}
+use Rattle.granit_recovery.specs.Ids.{id_told}
 use Rattle.granit_steps.specs.Steps.{StepState, next_event}
 use Rattle.granit_steps.specs.Told.{GivesEvents, gives_end, gives_event, gives_fault}
 

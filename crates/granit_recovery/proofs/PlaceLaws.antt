@@ -5,8 +5,9 @@ use Rattle.std.specs.Prelude.{if◌then◌else◌}
 use Rattle.std.proofs.lemmas.Bool.Decides.{nat_tests}
 use Rattle.granit_base.specs.Classes.{is_bom}
 use Rattle.granit_base.specs.Place.{first}
-use Rattle.granit_lexemes.specs.Here.{Here, next_char, step}
+use Rattle.granit_lexemes.specs.Here.{Here, mid_line, next_char, step}
 use Rattle.granit_lexemes.specs.Moves.{past_prefix_mark, steps}
+use Rattle.granit_lexemes.specs.Onward.{Onward, there, stepped, over_mark, begun}
 use Rattle.granit_reading.proofs.Counting.{stepped_on, marked_on}
 use Rattle.granit_steps.proofs.Futures.{and_right}
 use Rattle.granit_restart.proofs.BoundaryLaws.{finds_next}
@@ -74,3 +75,25 @@ next_counted x h b (next_behind none more) c =
 -- the boundary stands at a counted place
 pub boundary_counted : (x : List ℕ) (h : Here) → IsCounted x h → IsCounted x (place_of (next_boundary h))
 boundary_counted x h c = next_counted x h (next_boundary h) (finds_next h) c
+
+-- ---- where reading came to
+
+mid_counted : (x : List ℕ) (h : Here) → IsCounted x h → IsCounted x (mid_line h)
+mid_counted x h c = record {
+  index = c.index;
+  marks = c.marks;
+  counted = record { text = c.counted.text; mark = c.counted.mark; below = c.counted.below };
+}
+
+-- a place that reading came to is counted where the one it began at is
+pub onward_counted : (x : List ℕ) (start at : Here) → Onward start at → IsCounted x start → IsCounted x at
+onward_counted x start at there c = c
+onward_counted x start at (stepped {at = before} p) c = counted_step x before (onward_counted x start before p c)
+onward_counted x start at (over_mark {at = before} p bom column) c =
+    marked_by x before.unread.text before refl bom (onward_counted x start before p c)
+onward_counted x start at (begun {at = before} p) c = mid_counted x before (onward_counted x start before p c)
+
+-- and so is the boundary behind it
+pub boundary_onward : (x : List ℕ) (start at : Here) → Onward start at → IsCounted x start
+    → IsCounted x (place_of (next_boundary at))
+boundary_onward x start at p c = boundary_counted x at (onward_counted x start at p c)

@@ -11,7 +11,8 @@ use Rattle.granit_lexemes.specs.PlainEvent.{DocumentEnd}
 use Rattle.granit_lexemes.specs.PlainEvent.{Alias, UnresolvedAlias, Anchor, Comment, Scalar, SequenceStart, SequenceEnd}
 use Rattle.granit_lexemes.specs.PlainEvent.{MappingStart, MappingEnd}
 use Rattle.granit_recovery.proofs.LevelLaws.{Open, in_stream, event_keeps, document_leaves, can_close}
-use Rattle.granit_recovery.proofs.SkipLaws.{Known, known_start, known_along, Resumes, resumes, silent, Good}
+use Rattle.granit_recovery.proofs.SkipLaws.{comes_fault, comes_none, failed_silent, none_silent}
+use Rattle.granit_recovery.proofs.SkipLaws.{Known, known_start, known_along, Resumes, resumes, Good}
 use Rattle.granit_recovery.proofs.SkipLaws.{start_along}
 use Rattle.granit_recovery.proofs.SkipLaws.{fault_skipped, document_skipped}
 use Rattle.granit_recovery.proofs.TurnLaws.{Along, Told, NextAlong, next_along, failing_along}
@@ -61,15 +62,16 @@ failing_known o s (known_along {ls = ls} p a) = known_along p (failing_along o l
 
 -- ---- a parser between its calls
 
-record CallsKnown (o : OptionsData) (c : Calls) : Type 0 where
-  known : Known c.steps
-  between : c.fault ≡ None → c.between ≡ true → (c.over ≡ true) ⊎ Resumes o c.steps
+pub record CallsKnown (o : OptionsData) (c : Calls) : Type 0 where
+  pub known : Known c.steps
+  pub between : c.fault ≡ None → c.between ≡ true → (c.over ≡ true) ⊎ Resumes o c.steps
 
 -- behind an event that is no end, a stream goes on as before it
 stays_along : (o : OptionsData) (e : PlainEvent) (s t : StepState) → next_event o s ≡ Ok (Some e, t)
     → ((ks : List Level) → behind_event e.kind (InStream ∷ []) ≡ Some ks → ks ≡ InStream ∷ []) → Resumes o s
     → Resumes o t
-stays_along o e s t is same (silent none) = absurd (none e t is)
+stays_along o e s t is same (comes_none {t = u} none turn) = absurd (none_silent o s u turn none e t is)
+stays_along o e s t is same (comes_fault f none turn before) = absurd (failed_silent o s f turn e t is)
 stays_along o e s t is same (resumes a) =
     let n : Told (InStream ∷ []) e t = subst (NextAlong (InStream ∷ [])) is (next_along o (InStream ∷ []) s a) in
     resumes (subst (λ ks. Along ks t) (same n.behind n.first) n.along)
@@ -142,7 +144,7 @@ call_by : (b : Bool) (o : OptionsData) (c : Calls) → CallsKnown o c
 call_by true o c k = k
 call_by false o c k = given_known o c (next_event o c.steps) refl (next_known o c.steps k.known) k
 
-call_known : (o : OptionsData) (c : Calls) → CallsKnown o c → CallsKnown o (next_call o c).1
+pub call_known : (o : OptionsData) (c : Calls) → CallsKnown o c → CallsKnown o (next_call o c).1
 unfolding next_call
 call_known o c k = call_by ((c.over || is_some c.fault) || is_some c.refusal) o c k
 
@@ -152,13 +154,13 @@ starts_known : (o : OptionsData) (kind : EventKind) (c : Calls) → CallsKnown o
 starts_known o (DocumentStart explicit version) c k = record { known = k.known; between = λ f b. absurd (cc) }
 starts_known o kind c k = k
 
-looked_known : (o : OptionsData) (c : Calls) (x : Given × Calls) → CallsKnown o c → CallsKnown o x.1
+pub looked_known : (o : OptionsData) (c : Calls) (x : Given × Calls) → CallsKnown o c → CallsKnown o x.1
     → CallsKnown o (looked_by c x)
 looked_known o c (Some (Ok e), after) k n = starts_known o e.kind c k
 looked_known o c (Some (Err f), after) k n = n
 looked_known o c (None, after) k n = k
 
-skipped_good : (o : OptionsData) (stops : Stops) (fault : Option Fault) (between : Bool) (c : Calls)
+pub skipped_good : (o : OptionsData) (stops : Stops) (fault : Option Fault) (between : Bool) (c : Calls)
     → c.fault ≡ fault → c.between ≡ between → c.over ≡ false → CallsKnown o c
     → Good o (skipped_by o stops fault between c.steps)
 skipped_good o stops (Some f) between c fault b over k = fault_skipped o stops f c.steps
@@ -211,7 +213,7 @@ recover_answers o stops looked c k = with_answers o stops looked c.refusal c k
 
 -- ---- whatever was called
 
-reached_known : (o : OptionsData) (c : Calls) → Reached o c → CallsKnown o c
+pub reached_known : (o : OptionsData) (c : Calls) → Reached o c → CallsKnown o c
 reached_known o c (reached_start text) = record { known = known_start text refl; between = λ f b. absurd (cc) }
 reached_known o c (reached_call {c = d} r) = call_known o d (reached_known o d r)
 reached_known o c (reached_recovery {c = d} stops looked r) =
@@ -280,9 +282,12 @@ goes_on o c d es (inr (resumes a)) g =
     let r = gives_along o c d es (InStream ∷ []) a g in
     let x = can_close (mark_of (start_of [])) es (InStream ∷ []) r.behind in_stream r.all in
     record { more = x.more; balanced = x.all }
-goes_on o c d es (inr (silent none)) gives_none = ends_at_once
-goes_on o c d es (inr (silent none)) (gives_next {after = after} {e = e} g more) =
-    let x = called o c after e g in absurd (none e x.steps x.event)
+goes_on o c d es (inr (comes_none none turn)) gives_none = ends_at_once
+goes_on o c d es (inr (comes_fault f none turn before)) gives_none = ends_at_once
+goes_on o c d es (inr (comes_none {t = t} none turn)) (gives_next {after = after} {e = e} g more) =
+    let x = called o c after e g in absurd (none_silent o c.steps t turn none e x.steps x.event)
+goes_on o c d es (inr (comes_fault f none turn before)) (gives_next {after = after} {e = e} g more) =
+    let x = called o c after e g in absurd (failed_silent o c.steps f turn e x.steps x.event)
 goes_on o c d es (inl over) gives_none = ends_at_once
 goes_on o c d es (inl over) (gives_next {after = after} {e = e} g more) =
     let x = called o c after e g in absurd (let n = x.not_over in cc)

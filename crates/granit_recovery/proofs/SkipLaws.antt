@@ -39,10 +39,11 @@ pub data Known (s : StepState) : Type 0 where
   known_start : (text : List ℕ) → s ≡ steps_start text → Known s
   known_along : {ls : List Level} → Open ls → Along ls s → Known s
 
--- a stream goes on behind its start, or no event comes
+-- a stream goes on behind its start, or no event comes: nothing is left, or the next document fails at once
 pub data Resumes (o : OptionsData) (s : StepState) : Type 0 where
   resumes : Along (InStream ∷ []) s → Resumes o s
-  silent : ((e : PlainEvent) (t : StepState) → next_event o s ≡ Ok (Some e, t) → ⊥) → Resumes o s
+  comes_none : {t : StepState} → s.pending ≡ [] → step_turn o s ≡ Ok (None, t) → Resumes o s
+  comes_fault : (f : Fault) → s.pending ≡ [] → step_turn o s ≡ Err f → ends_before s f ≡ true → Resumes o s
 
 pub record Good (o : OptionsData) (s : StepState) : Type 0 where
   pub known : Known s
@@ -52,7 +53,8 @@ good_stream : (o : OptionsData) (s : StepState) → Along (InStream ∷ []) s �
 good_stream o s a = record { known = known_along in_stream a; resumed = resumes a }
 
 pub start_along : (text : List ℕ) → Along (InStream ∷ []) (with_pending [] (steps_start text))
-start_along text = along_stream refl (record { given = refl; fine = tt; held = tt }) refl
+start_along text =
+    along_stream refl (record { given = refl; fine = tt; held = tt }) (record { calm = tt; sits = tt }) refl
 
 -- ---- turns that give nothing
 
@@ -64,8 +66,9 @@ next_is : (o : OptionsData) (s : StepState) → next_event o s ≡ NextBy o s (s
 unfolding next_event pieces turns
 next_is o s = refl
 
-failed_silent : (o : OptionsData) (s : StepState) (f : Fault) → step_turn o s ≡ Err f → Resumes o s
-failed_silent o s f e = silent (λ x t n. absurd (let g = sym (next_is o s ∙ ap (NextBy o s) e) ∙ n in cc))
+pub failed_silent : (o : OptionsData) (s : StepState) (f : Fault) → step_turn o s ≡ Err f → (e : PlainEvent)
+    (t : StepState) → next_event o s ≡ Ok (Some e, t) → ⊥
+failed_silent o s f e x t n = let g = sym (next_is o s ∙ ap (NextBy o s) e) ∙ n in cc
 
 -- a turn of which nothing comes changes nothing
 abbrev NoneTurn : StepState → Turn → Type 0
@@ -110,18 +113,20 @@ abbrev event_in : Result (Option PlainEvent × StepState) Fault → Option Plain
 event_in (Ok x) = x.0
 event_in (Err f) = None
 
-none_silent : (o : OptionsData) (s t : StepState) → step_turn o s ≡ Ok (None, t) → s.pending ≡ [] → Resumes o s
-none_silent o s t e none = silent (λ x u n. absurd
-    (let same : t ≡ s = subst (NoneTurn s) e (none_turn o s) in
+pub none_silent : (o : OptionsData) (s t : StepState) → step_turn o s ≡ Ok (None, t) → s.pending ≡ [] → (e : PlainEvent)
+    (u : StepState) → next_event o s ≡ Ok (Some e, u) → ⊥
+none_silent o s t e none x u n =
+    let same : t ≡ s = subst (NoneTurn s) e (none_turn o s) in
     let left : t.pending ≡ [] = ap (λ (v : StepState). v.pending) same ∙ none in
     let g : NextBy o s (Ok (None, t)) ≡ Ok (None, t) = ap (λ es. Ok (first_pending es t)) left in
-    let h = ap event_in (sym g ∙ sym (next_is o s ∙ ap (NextBy o s) e) ∙ n) in cc))
+    let h = ap event_in (sym g ∙ sym (next_is o s ∙ ap (NextBy o s) e) ∙ n) in cc
 
 -- ---- behind a fault
 
 anew_along : (may_prefix : Bool) (q : List FlaggedItem) (h : Here) (s : StepState) → has_end (items q) ≡ false
     → Along (InStream ∷ []) (anew may_prefix q h s)
-anew_along may_prefix q h s e = along_stream refl (record { given = refl; fine = tt; held = tt }) e
+anew_along may_prefix q h s e =
+    along_stream refl (record { given = refl; fine = tt; held = tt }) (record { calm = tt; sits = tt }) e
 
 boundary_along : (s : StepState) (b : Boundary) → Along (InStream ∷ []) (at_boundary s b).1
 boundary_along s (AtStart h) = anew_along false _ _ s refl
@@ -177,10 +182,10 @@ EndGood o (Failed f s) = Unit {0}
 abbrev SkipsGood : OptionsData → ℕ → Type 0
 SkipsGood o n = (s : StepState) → step_size s < n → Known s → EndGood o (skip_in o n s)
 
-fault_good : (b : Bool) (o : OptionsData) (s : StepState) (f : Fault) → Known s → step_turn o s ≡ Err f
-    → EndGood o (if b then Ended s else Failed f s)
-fault_good true o s f k e = record { known = k; resumed = failed_silent o s f e }
-fault_good false o s f k e = tt
+fault_good : (b : Bool) (o : OptionsData) (s : StepState) (f : Fault) → ends_before s f ≡ b → Known s
+    → s.pending ≡ [] → step_turn o s ≡ Err f → EndGood o (if b then Ended s else Failed f s)
+fault_good true o s f before k none e = record { known = k; resumed = comes_fault f none e before }
+fault_good false o s f before k none e = tt
 
 turn_good : (o : OptionsData) (n : ℕ) (ls : List Level) (s : StepState) (r : Turn) → SkipsGood o n → Open ls
     → Along ls s → s.pending ≡ [] → step_size s < suc n → step_turn o s ≡ r → TurnAlong ls r
@@ -188,8 +193,9 @@ turn_good : (o : OptionsData) (n : ℕ) (ls : List Level) (s : StepState) (r : T
 turn_good o n ls s (Ok (Some y, t)) more p a none h e b =
     let less = step_turn-Shortens o s t y e in more t (omega (arith, less, h)) (known_along p b)
 turn_good o n ls s (Ok (None, t)) more p a none h e b =
-    record { known = known_along p a; resumed = none_silent o s t e none }
-turn_good o n ls s (Err f) more p a none h e b = fault_good (ends_before s f) o s f (known_along p a) e
+    record { known = known_along p a; resumed = comes_none none e }
+turn_good o n ls s (Err f) more p a none h e b =
+    fault_good (ends_before s f) o s f refl (known_along p a) none e
 
 emptied_good : (o : OptionsData) (n : ℕ) (ls : List Level) (s : StepState) → SkipsGood o n → Open ls
     → Along ls (with_pending [] s) → step_size s < suc n
@@ -214,10 +220,10 @@ known_good o n s more h (known_start text e) =
     subst (λ s. EndGood o (skip_ahead (λ t. skip_turn (skip_in o n) t (step_turn o t)) s (ahead s.pending)))
     (sym e) (emptied_good o n (InStream ∷ []) (steps_start text) more in_stream (start_along text)
     (subst (λ s. step_size s < suc n) e h))
-known_good o n s more h (known_along {ls = ls} p (along_stream e rests w)) =
+known_good o n s more h (known_along {ls = ls} p (along_stream e rests seats w)) =
     let ms = levels_of s.parser.frames s.parser.stage in
     ahead_good o n ms s (ahead s.pending) more (events_keep s.pending ls ms p e)
-    (λ es ks g. along_stream g rests w) h (ahead_goes s.pending ls ms p e)
+    (λ es ks g. along_stream g rests seats w) h (ahead_goes s.pending ls ms p e)
 known_good o n s more h (known_along {ls = ls} p (along_end e over only ended)) =
     ahead_good o n [] s (ahead s.pending) more all_closed (λ es ks g. along_end g over only ended) h
     (ahead_goes s.pending ls [] p e)

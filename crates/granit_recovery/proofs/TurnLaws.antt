@@ -15,6 +15,7 @@ use Rattle.granit_machine.specs.Parser.{feed}
 use Rattle.granit_machine.specs.Reader.{behind_read, is_end, is_end_kind, lex_turn, read}
 use Rattle.granit_machine.specs.ReaderState.{Read}
 use Rattle.granit_recovery.proofs.LevelLaws.{split}
+use Rattle.granit_recovery.proofs.SeatSteps.{feed_seats, FedSeats, Seats}
 use Rattle.granit_restart.proofs.MarkLaws.{items, pushed_items}
 use Rattle.granit_restart.specs.Calls.{failing_by, failing_in}
 use Rattle.granit_steps.proofs.Futures.{pushed_nil}
@@ -119,7 +120,7 @@ read_waits b number before (OfLexeme l ∷ is) t p = tail_waits b l is p.3
 -- from what these levels leave open on: in the stream, or behind its end
 pub data Along (ls : List Level) (s : StepState) : Type 0 where
   along_stream : behind_events s.pending ls ≡ Some (levels_of s.parser.frames s.parser.stage) → Rests s.parser
-      → Waits s.reading.ended (items s.queue) → Along ls s
+      → Seats s.parser → Waits s.reading.ended (items s.queue) → Along ls s
   along_end : behind_events s.pending ls ≡ Some [] → Over s.parser → OnlyComments (items s.queue)
       → s.reading.ended ≡ true → Along ls s
 
@@ -134,13 +135,14 @@ same_some ls ms e = cc
 
 fed_stream : (ls : List Level) (s : StepState) (i : FlaggedItem) (is : List FlaggedItem) (b : Bool)
     (r : Result (List PlainEvent × ParserState) Fault) → is_end_item i.item ≡ b
-    → Waits s.reading.ended (i.item ∷ items is) → Fed b ls r → TurnAlong ls (r >>= λ x. Ok (Some [], with_fed s is x))
-fed_stream ls s i is false (Ok x) e w f =
-    along_stream f.0 f.1 (waits_rest s.reading.ended i.item (items is) e w)
-fed_stream ls s i is true (Ok x) e w f =
+    → Waits s.reading.ended (i.item ∷ items is) → Fed b ls r → FedSeats b r
+    → TurnAlong ls (r >>= λ x. Ok (Some [], with_fed s is x))
+fed_stream ls s i is false (Ok x) e w f seats =
+    along_stream f.0 f.1 seats (waits_rest s.reading.ended i.item (items is) e w)
+fed_stream ls s i is true (Ok x) e w f seats =
     let c = waits_end s.reading.ended i.item (items is) e w in along_end f.0 f.1 c.0 c.1
-fed_stream ls s i is false (Err g) e w f = tt
-fed_stream ls s i is true (Err g) e w f = tt
+fed_stream ls s i is false (Err g) e w f seats = tt
+fed_stream ls s i is true (Err g) e w f seats = tt
 
 fed_end : (ls : List Level) (s : StepState) (is : List FlaggedItem) (r : Result (List PlainEvent × ParserState) Fault)
     → ls ≡ [] → OnlyComments (items is) → s.reading.ended ≡ true → Fed true [] r
@@ -159,13 +161,14 @@ comment_fed o (OfComment c) b is next p only over = comment_over o c b next p ov
 
 front_along : (o : OptionsData) (ls : List Level) (s : StepState) (i : FlaggedItem) (is : List FlaggedItem)
     → s.pending ≡ [] → s.queue ≡ i ∷ is → Along ls s → TurnAlong ls (feed_front o i is s)
-front_along o ls s i is none queue (along_stream p r w) =
+front_along o ls s i is none queue (along_stream p r seats w) =
     let e : ls ≡ levels_of s.parser.frames s.parser.stage = same_some ls
     (levels_of s.parser.frames s.parser.stage) (ap (λ es. behind_events es ls) (sym none) ∙ p) in
     fed_stream ls s i is (is_end_item i.item) (feed o i (line_behind s.reading is) s.parser) refl
     (subst (λ q. Waits s.reading.ended (items q)) queue w)
     (subst (λ ks. Fed (is_end_item i.item) ks (feed o i (line_behind s.reading is) s.parser)) (sym e)
     (feed_fed o i (line_behind s.reading is) s.parser r))
+    (feed_seats o i (line_behind s.reading is) s.parser r.fine seats)
 front_along o ls s i is none queue (along_end p over only ended) =
     let e : ls ≡ [] = same_some ls [] (ap (λ es. behind_events es ls) (sym none) ∙ p) in
     let all : OnlyComments (i.item ∷ items is) = subst (λ q. OnlyComments (items q)) queue only in
@@ -178,12 +181,12 @@ read_along : (o : OptionsData) (ls : List Level) (s : StepState) (r : Read) → 
     → Lexed s.reading.reader.laid.number (possibles s.reading.reader.laid) r
     → TurnAlong ls (behind_read r s.reading.reader >>= λ x. Ok (Some [], with_read o s x))
 read_along o ls s r (along_end p over only ended) e lexed = absurd (cc)
-read_along o ls s (Err f) (along_stream p rests w) e lexed =
+read_along o ls s (Err f) (along_stream p rests seats w) e lexed =
     let none : has_end (items s.queue) ≡ false = subst (λ b. Waits b (items s.queue)) e w in
-    along_stream p rests (ap (λ q. has_end (items q)) (pushed_nil o.emit_comments s.queue) ∙ none)
-read_along o ls s (Ok x) (along_stream p rests w) e lexed =
+    along_stream p rests seats (ap (λ q. has_end (items q)) (pushed_nil o.emit_comments s.queue) ∙ none)
+read_along o ls s (Ok x) (along_stream p rests seats w) e lexed =
     let none : has_end (items s.queue) ≡ false = subst (λ b. Waits b (items s.queue)) e w in
-    along_stream p rests (subst (Waits (is_end x.0)) (sym (pushed_items s.queue (incoming o.emit_comments x.0)))
+    along_stream p rests seats (subst (Waits (is_end x.0)) (sym (pushed_items s.queue (incoming o.emit_comments x.0)))
     (waits_behind (is_end x.0) (items s.queue) (incoming o.emit_comments x.0) none
     (read_waits o.emit_comments s.reading.reader.laid.number (possibles s.reading.reader.laid) x.0 x.1.laid lexed)))
 
@@ -266,9 +269,9 @@ NextAlong ls (Err f) = Unit {0}
 first_along : (ls : List Level) (es : List PlainEvent) (s : StepState) → s.pending ≡ es → Along ls s
     → NextAlong ls (Ok (first_pending es s))
 first_along ls [] s is a = a
-first_along ls (e ∷ es) s is (along_stream p rests w) =
+first_along ls (e ∷ es) s is (along_stream p rests seats w) =
     let x = split e es ls (levels_of s.parser.frames s.parser.stage) (ap (λ es. behind_events es ls) (sym is) ∙ p) in
-    record { behind = x.behind; first = x.first; along = along_stream x.rest rests w }
+    record { behind = x.behind; first = x.first; along = along_stream x.rest rests seats w }
 first_along ls (e ∷ es) s is (along_end p over only ended) =
     let x = split e es ls [] (ap (λ es. behind_events es ls) (sym is) ∙ p) in
     record { behind = x.behind; first = x.first; along = along_end x.rest over only ended }

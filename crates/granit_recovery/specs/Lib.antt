@@ -1,3 +1,4 @@
+pub mod Asking
 pub mod BoundaryPlace
 pub mod Ending
 pub mod Ids

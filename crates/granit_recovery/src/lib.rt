@@ -2,6 +2,7 @@
 #![tactic(auto)]
 
 mod answers;
+mod asking;
 mod boundaries;
 mod dropping;
 mod ids;
@@ -10,7 +11,10 @@ mod rows;
 mod streams;
 
 pub use answers::{answers_are_exact, answers_behind_a_fault_are_exact};
-pub use boundaries::the_boundary_is_at_a_counted_place;
+pub use asking::a_look_tells_where_recovery_asks;
+pub use boundaries::{
+    the_boundary_behind_a_read_is_at_a_counted_place, the_boundary_is_at_a_counted_place,
+};
 pub use dropping::{
     a_fault_drops_its_document, nothing_changes_behind_the_end,
     nothing_is_dropped_between_documents,

@@ -1,5 +1,6 @@
 pub mod AheadLaws
 pub mod BoundaryLaws
+pub mod EndLaws
 pub mod LookLaws
 pub mod MarkLaws
 pub mod MarkReads

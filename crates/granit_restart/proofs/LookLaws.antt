@@ -105,7 +105,7 @@ told_kind (Comment text placement) (suc n) m told past x more e = more n e
 told_kind StreamEnd room m told past x more e = same_told (Ok false) x e
 told_kind kind room m told past x more e = same_told (Ok true) x e
 
-told_past : (room : ℕ) (es : List PlainEvent) (more : ℕ → Result Bool Fault) (x : Result Bool Fault)
+pub told_past : (room : ℕ) (es : List PlainEvent) (more : ℕ → Result Bool Fault) (x : Result Bool Fault)
     → told_by room es ≡ Some x → past_events room es more ≡ x
 told_past room [] more x e = absurd (cc)
 told_past room (d ∷ es) more x e = told_kind d.kind room d.span.start _ _ x (λ n. told_past n es more x) e
@@ -118,12 +118,12 @@ record KeptBy (room : ℕ) (kind : EventKind) (m : Mark) (es : List PlainEvent) 
       → past_event room kind m (λ n. past_events n (es ++ fs) more) ≡ past_events left fs more
   told : (fs : List PlainEvent) → told_event room kind m (λ n. told_by n (es ++ fs)) ≡ told_by left fs
 
-record Kept (room : ℕ) (es : List PlainEvent) : Type 0 where
-  left : ℕ
-  past : (more : ℕ → Result Bool Fault) → past_events room es more ≡ more left
-  behind : (fs : List PlainEvent) (more : ℕ → Result Bool Fault)
+pub record Kept (room : ℕ) (es : List PlainEvent) : Type 0 where
+  pub left : ℕ
+  pub past : (more : ℕ → Result Bool Fault) → past_events room es more ≡ more left
+  pub behind : (fs : List PlainEvent) (more : ℕ → Result Bool Fault)
       → past_events room (es ++ fs) more ≡ past_events left fs more
-  told : (fs : List PlainEvent) → told_by room (es ++ fs) ≡ told_by left fs
+  pub told : (fs : List PlainEvent) → told_by room (es ++ fs) ≡ told_by left fs
 
 kept_kind : (kind : EventKind) (room : ℕ) (m : Mark) (es : List PlainEvent)
     → ((n : ℕ) → told_by n es ≡ None → Kept n es) → told_event room kind m (λ n. told_by n es) ≡ None
@@ -134,7 +134,7 @@ kept_kind (Comment text placement) (suc n) m es more e =
 kept_kind StreamEnd room m es more e = absurd (cc)
 kept_kind kind room m es more e = absurd (cc)
 
-kept : (room : ℕ) (es : List PlainEvent) → told_by room es ≡ None → Kept room es
+pub kept : (room : ℕ) (es : List PlainEvent) → told_by room es ≡ None → Kept room es
 kept room [] e =
     record { left = room; past = λ more. refl; behind = λ fs more. refl; told = λ fs. refl }
 kept room (d ∷ es) e =
@@ -144,7 +144,7 @@ kept room (d ∷ es) e =
 -- ---- what an item tells that is fed between documents
 
 -- what the definition tells is what the events and what is left tell, or what these tell at once
-data Looks (v : Result Bool Fault) (left : ℕ) (more : ℕ → Result Bool Fault) (es : List PlainEvent)
+pub data Looks (v : Result Bool Fault) (left : ℕ) (more : ℕ → Result Bool Fault) (es : List PlainEvent)
     (q : ParserState) : Type 0 where
   looks_on : Outside q → v ≡ past_events left es more → Looks v left more es q
   looks_start : ((room : ℕ) → told_by room es ≡ Some (Ok true)) → v ≡ Ok true → Looks v left more es q
@@ -290,10 +290,10 @@ module _ (o : OptionsData) where
   enough_reads (suc n) (suc k) l room h g = enough_read n k l room (lex_turn o l) (enough_reads n k) h g refl
 
   -- what the items that wait and what is left tell
-  abbrev Asked : StepState → ℕ → Result Bool Fault
+  abbrev pub Asked : StepState → ℕ → Result Bool Fault
   Asked s left = past_items left (items s.queue) (past_reading o s.reading s.reading.fault)
 
-  abbrev TurnLooks : Result Bool Fault → ℕ → Turn → Type 0
+  abbrev pub TurnLooks : Result Bool Fault → ℕ → Turn → Type 0
   TurnLooks v left (Ok (Some y, t)) = Looks v left (Asked t) t.pending t.parser
   TurnLooks v left (Ok (None, t)) = v ≡ Ok false
   TurnLooks v left (Err f) = v ≡ Ok true
@@ -431,7 +431,7 @@ module _ (o : OptionsData) where
   queue_looks s (i ∷ is) left queue p out =
       front_looks (may_go s.reading i is) s i is left queue refl p out
 
-  turn_looks : (s : StepState) (left : ℕ) → Sound s → Outside s.parser
+  pub turn_looks : (s : StepState) (left : ℕ) → Sound s → Outside s.parser
       → TurnLooks (Asked s left) left (step_turn o (with_pending [] s))
   unfolding step_turn
   turn_looks s left p out = queue_looks s s.queue left refl p out
@@ -443,8 +443,8 @@ module _ (o : OptionsData) where
       → (look_in o room n s).0 ≡ past_events room s.pending (Asked s)
 
   -- events that tell are enough for a look
-  told_look : (room n : ℕ) (s : StepState) (x : Result Bool Fault) → step_size s < n → told_by room s.pending ≡ Some x
-      → (look_in o room n s).0 ≡ x
+  pub told_look : (room n : ℕ) (s : StepState) (x : Result Bool Fault) → step_size s < n
+      → told_by room s.pending ≡ Some x → (look_in o room n s).0 ≡ x
   told_look room zero s x h e = absurd (omega arith)
   told_look room (suc n) s x h e = ap (λ told. (look_by o (look_in o room n) s told).0) e
 
@@ -501,12 +501,25 @@ module _ (o : OptionsData) where
   look_right room (suc n) s sound out h =
       told_right room n s (told_by room s.pending) refl (look_right room n) sound out h
 
+  -- where no directive was read, what waits and what is left tell
+  pub follows_says : (room : ℕ) (s : StepState) → is_directives s.parser.stage ≡ false
+      → document_follows o room s ≡ past_events room s.pending (Asked s)
+  unfolding document_follows
+  follows_says room s e =
+      events_alike room s.pending _ (Asked s) (λ left. ap (λ b. if b then Ok true else Asked s left) e)
+
+  -- and what waits alone, where it tells
+  pub follows_told : (room : ℕ) (s : StepState) (x : Result Bool Fault) → told_by room s.pending ≡ Some x
+      → document_follows o room s ≡ x
+  unfolding document_follows
+  follows_told room s x e = told_past room s.pending _ x e
+
+  pub outside_stage : (s : StepState) → Outside s.parser → is_directives s.parser.stage ≡ false
+  outside_stage s out = ap (λ (p : ParserState). is_directives p.stage) out
+
   -- a look tells whether another document is there
   pub look_tells : (room : ℕ) (s : StepState) → Turned o s → Outside s.parser
       → (look_ahead o room s).0 ≡ document_follows o room s
-  unfolding document_follows
   look_tells room s turned out =
       look_right room (suc (step_size s)) s (turned_sound o s turned) out (omega arith)
-      ∙ events_alike room s.pending (Asked s) _
-      (λ left. sym (ap (λ b. if b then Ok true else Asked s left)
-      (ap (λ (p : ParserState). is_directives p.stage) out)))
+      ∙ sym (follows_says room s (outside_stage s out))

@@ -1,9 +1,10 @@
 //! Whether another document is there may be seen by turns.
-ghost use Rattle.std.specs.Prelude.{◌≡◌, ℕ, List, Option};
+ghost use Rattle.std.specs.Prelude.{◌≡◌, ℕ, List, Option, Some, Ok, Err};
 ghost use Rattle.granit_error.specs.OptionsData.{OptionsData};
 ghost use Rattle.granit_lexemes.specs.Outcome.{Fault};
 ghost use Rattle.granit_lexemes.specs.PlainEvent.{PlainEvent};
-ghost use Rattle.granit_restart.specs.Ahead.{AheadOf, AlikeEnd, AlikeNext};
+ghost use Rattle.granit_restart.specs.Ahead.{AheadOf, AlikeNext, ComesLast, NoneComes};
+ghost use Rattle.granit_restart.specs.Calls.{failing};
 ghost use Rattle.granit_restart.specs.Following.{document_follows};
 ghost use Rattle.granit_restart.specs.Looking.{look_ahead, Outside};
 ghost use Rattle.granit_restart.specs.Skipping.{skip};
@@ -29,7 +30,18 @@ pub fn a_look_changes_no_event()
         → GivesEvents o t es end → GivesEvents o s es end }
 {}
 
-/// From a state that is some turns ahead a document is skipped alike.
+/// From a state that is some turns ahead a document is skipped to the same state, and the same turn fails.
 pub fn skipping_ends_alike_ahead()
-    ensures { (o : OptionsData) (s t : StepState) → AheadOf o s t → AlikeEnd o (skip o s) (skip o t) }
+    ensures skip { (o : OptionsData) (s t : StepState) → AheadOf o s t → skip o s ≡ skip o t }
+    ensures fault { (o : OptionsData) (s t : StepState) (f : Fault) → AheadOf o s t → next_event o s ≡ Err f
+        → failing o s ≡ failing o t }
+{}
+
+/// Where no document comes, a look from wherever an earlier one led answers as the text itself tells, and it stays so
+/// behind each comment.
+pub fn no_document_comes_behind_a_look()
+    ensures look { (o : OptionsData) (room : ℕ) (s t : StepState) → NoneComes o s → AheadOf o s t
+        → (look_ahead o room t).0 ≡ document_follows o room s }
+    ensures next { (o : OptionsData) (s after : StepState) (e : PlainEvent) → NoneComes o s
+        → next_event o s ≡ Ok (Some e, after) → ComesLast o s e after }
 {}
