@@ -1,0 +1,85 @@
+-- What comes of an include.
+use Rattle.std.proofs.Common.{◌≡◌, ◌∙◌, ℕ, suc, ◌≤◌, ◌-◌, ◌⊎◌, inl, inr, List, [], ◌∷◌, Option, Some, None, Result}
+use Rattle.std.proofs.Common.{Ok, ap, arith, false}
+use Rattle.std.specs.Str.{chars}
+use Rattle.granit_base.specs.Written.{Written, string_chars}
+use Rattle.granit_error.specs.OptionsData.{OptionsData}
+use Rattle.granit_error.specs.Refused.{Refused}
+use Rattle.granit_layers.specs.Kinds.{SetsAny}
+use Rattle.granit_layers.specs.Passing.{ReplayComesThrough}
+use Rattle.granit_layers.specs.Stacking.{layer_of}
+use Rattle.granit_layers.specs.Turning.{Next}
+use Rattle.granit_layers.specs.declared.kinds.AnyKind.TheVariants.{First, Second, Third, Fourth}
+use Rattle.granit_lexemes.specs.Here.{Here, start_of}
+use Rattle.granit_lexemes.specs.Outcome.{Fault}
+use Rattle.granit_lexemes.specs.PlainEvent.{PlainEvent}
+use Rattle.granit_parser.specs.Streams.{bare_start}
+use Rattle.granit_recovery.specs.Ids.{IdsFrom, counting_from, id_of}
+use Rattle.granit_replay.specs.Replaying.{Replay}
+use Rattle.granit_replay.specs.declared.resolver.Included.{Included}
+use Rattle.granit_replay.specs.declared.resolver.Included.TheVariants.{Owned, Borrowed}
+use Rattle.granit_stack.specs.Coming.{IncludeComesThrough}
+use Rattle.granit_stack.specs.Including.{ReadsText, replayed}
+use Rattle.granit_steps.specs.Told.{GivesEvents}
+
+-- ---- ids
+
+-- the law on ids of a machine that has just begun
+abbrev BeginIds : Type 0
+BeginIds = (o : OptionsData) (h : Here) (count : ℕ) (es : List PlainEvent) (f : Option Fault)
+    → GivesEvents o (counting_from count h) es f → IdsFrom (suc count) es
+
+from_less : (m n : ℕ) (es : List PlainEvent) → m ≤ n → IdsFrom n es → IdsFrom m es
+from_less m n [] less ids = tt
+from_less m n (e ∷ es) less ids = (one ids.0, from_less m n es less ids.1)
+  where
+    one : (id_of e.kind ≡ 0) ⊎ (n ≤ id_of e.kind) → (id_of e.kind ≡ 0) ⊎ (m ≤ id_of e.kind)
+    one (inl none) = inl none
+    one (inr more) = inr (omega arith)
+
+text_ids : BeginIds → (o : OptionsData) (n : ℕ) (text : Included) (p : Replay) → ReadsText o (Some n) text (Ok p)
+    → IdsFrom n (replayed p)
+text_ids law o n (Borrowed text) p reads =
+    from_less n (suc (n - 1)) (replayed p) (omega arith)
+    (law o (start_of (chars text.now)) (n - 1) (replayed p) None reads.0)
+text_ids law o n (Owned text) p reads =
+    from_less n (suc (n - 1)) (replayed p) (omega arith)
+    (law o (bare_start (string_chars text)) (n - 1) (replayed p) None reads.0)
+
+-- ---- parsers of several kinds
+
+-- the number of a replay is set, and nothing else
+abbrev Resets : {S : Type 0} → (ℕ → S → S → Type 0) → (Replay → S) → Type 0
+Resets sets again = (n : ℕ) (p : Replay) (q : _) → sets n (again p) q → q ≡ again (record p { anchor_offset = n })
+
+pub fourth_resets : {A B C : Type 0} (a : ℕ → A → A → Type 0) (b : ℕ → B → B → Type 0) (c : ℕ → C → C → Type 0)
+    → Resets (SetsAny a b c (λ n p q. q ≡ record p { anchor_offset = n })) Fourth
+fourth_resets a b c n p (First q) set = absurd set
+fourth_resets a b c n p (Second q) set = absurd set
+fourth_resets a b c n p (Third q) set = absurd set
+fourth_resets a b c n p (Fourth q) set = ap Fourth set
+
+-- ---- an include
+
+module _ {S R : Type 0} (steps : S → Next → S → Type 0) (offset : S → ℕ) (sets : ℕ → S → S → Type 0)
+    (above : S → ℕ → ℕ) (again : Replay → S) (answers : R → List ℕ → Result Included Refused → R → Type 0)
+    (errors : R → ℕ) where
+  pub include_comes : BeginIds → ReplayComesThrough steps offset sets again → Resets sets again
+      → IncludeComesThrough steps offset sets above again answers errors
+  include_comes ids comes resets o k ks new resolver after name include =
+      let read = include.2 in
+      let r = read.0 in
+      let pushed = read.2 in
+      let title : Written = record { characters = name; is_borrowed = false } in
+      let n : ℕ = above (again r) (offset k.parser) in
+      let placed = resets n r pushed.0 pushed.1 in
+      let lies = pushed.2 ∙ ap (λ (q : S). layer_of q title ∷ k ∷ ks) placed in
+      record {
+        text = include.0;
+        found = include.1;
+        events = r;
+        read = read.1;
+        ids = text_ids ids o (offset k.parser) include.0 r read.1;
+        comes = λ one p q given at calls.
+            comes p q title (record r { anchor_offset = n }) k ks given (at ∙ lies) one calls;
+      }

@@ -1,0 +1,227 @@
+-- A small text is read, and a stack includes it.
+use Rattle.std.proofs.Common.{◌≡◌, ℕ, zero, suc, ◌<◌, ◌≤◌, false, List, [], ◌∷◌, Option, Some, None, Result, Ok, Err}
+use Rattle.std.proofs.Common.{arith, max, refl, sym, subst}
+use Rattle.std.specs.Borrow.{Bor}
+use Rattle.std.specs.Option.{option_map}
+use Rattle.std.specs.Prelude.{codes}
+use Rattle.granit_base.specs.Written.{Written}
+use Rattle.granit_base.specs.declared.place.Span.{Span}
+use Rattle.granit_error.specs.OptionsData.{OptionsData, default_options}
+use Rattle.granit_event.specs.declared.event.Event.{Event}
+use Rattle.granit_event.specs.Events.{plain_events}
+use Rattle.granit_layers.specs.Kinds.{SetsAny, StepsAny, number_of, number_over}
+use Rattle.granit_layers.specs.Stacking.{TurnsOnce, is_none_left}
+use Rattle.granit_layers.specs.Turning.{Next, turn_of}
+use Rattle.granit_layers.specs.declared.kinds.AnyKind.{AnyKind}
+use Rattle.granit_layers.specs.declared.kinds.AnyKind.TheVariants.{Fourth}
+use Rattle.granit_layers.specs.declared.layer.Layer.{Layer}
+use Rattle.granit_layers.specs.declared.turn.Turn.TheVariants.{Gives, Withholds, Leaves}
+use Rattle.granit_lexemes.specs.Outcome.{Fault}
+use Rattle.granit_lexemes.specs.PlainEvent.{PlainEvent, plain_span}
+use Rattle.granit_replay.specs.Replaying.{Replay, behind_next, next_of, raised_by}
+use Rattle.granit_replay.specs.declared.resolver.Included.TheVariants.{Borrowed}
+use Rattle.granit_stack.specs.Examples.{mark_at, named, small_events, small_layer, small_life, small_replay}
+use Rattle.granit_stack.specs.Examples.{small_text}
+use Rattle.granit_stack.specs.Fresh.{Happens, is_given, is_pushed, is_quiet, last_number, nothing}
+use Rattle.granit_stack.specs.Including.{ReadsText}
+use Rattle.granit_stack.specs.Life.{UnreadAny}
+use Rattle.granit_stepper.specs.Offset.{with_offset}
+use Rattle.granit_steps.specs.Steps.{StepState, steps_start}
+use Rattle.granit_steps.specs.Told.{GivesEvents, gives_end, gives_event}
+use lib.Utf8.{encode}
+use Rattle.std.specs.Fmt.{digits}
+use Rattle.std.specs.Str.{chars}
+use Rattle.granit_base.specs.Classes.{is_z, is_break, is_breakz, is_blank, is_blank_or_breakz, is_digit, is_hex}
+use Rattle.granit_base.specs.Classes.{hex_value, is_word_char, is_alpha, is_flow, is_bom, is_printable}
+use Rattle.granit_base.specs.Classes.{is_yaml_non_break, is_yaml_non_space, is_anchor_char, is_uri_sign, is_uri_char}
+use Rattle.granit_base.specs.Classes.{is_tag_char, is_gap}
+use Rattle.granit_lexemes.specs.Here.{begins_behind, tab_behind, step, past}
+use Rattle.granit_lexemes.specs.Moves.{steps, past_prefix_mark}
+use Rattle.granit_lexemes.specs.Basics.{past_break}
+use Rattle.granit_lexemes.specs.Pieces.{turns, pieces}
+use Rattle.granit_lexemes.specs.Decoding.{letter_value, digit_count, is_high, is_low}
+use Rattle.granit_lexemes.specs.Line.{quoted_char, event_line}
+use Rattle.granit_lexemes.specs.Comment.{behind_comment, skipped_comment, comment}
+use Rattle.granit_lexemes.specs.Tail.{tail_behind}
+use Rattle.granit_lexemes.specs.PlainScalar.{on_content, on_blank, on_break, plain_turn, behind_plain, plain_scalar}
+use Rattle.granit_lexemes.specs.QuotedScalar.{is_closing, digits_or, second_half_or, numbered_or, escape_or}
+use Rattle.granit_lexemes.specs.QuotedScalar.{is_strictly_left, is_loosely_left, over_blank, over_break, quoted_content}
+use Rattle.granit_lexemes.specs.QuotedScalar.{quoted_turn, may_trail, behind_quoted, quoted_tail, quoted_scalar}
+use Rattle.granit_lexemes.specs.Tags.{escaped_byte, bytes_behind, trailing_bytes, uri_turn, tag_ends, tag_at, name_at}
+use Rattle.granit_lexemes.specs.Directive.{version_number, minor_number, handle_by, handle_at, prefix_at}
+use Rattle.granit_lexemes.specs.Directive.{parameter_behind, directive_of, directive_at, directive_tail}
+use Rattle.granit_lexemes.specs.Directive.{directive_up_to, directive}
+use Rattle.granit_lexemes.specs.BlockHeader.{header_sign, block_header, leading_turn, content_column}
+use Rattle.granit_lexemes.specs.BlockScalar.{over_spaces, empty_turn, line_up_to, block_turn, is_white, behind_block}
+use Rattle.granit_lexemes.specs.BlockScalar.{content_lines, block_lines, block_body, block_scalar}
+use Rattle.granit_machine.specs.BlockSteps.{in_sequence, behind_indicator}
+use Rattle.granit_machine.specs.Closing.{goes_on_with, close_turn}
+use Rattle.granit_machine.specs.Columns.{refuse_column, entered_columns}
+use Rattle.granit_machine.specs.Events.{wide_line}
+use Rattle.granit_machine.specs.FlowLexemes.{opener, closes}
+use Rattle.granit_machine.specs.Gaps.{refuse_tab_at, past_gap, over_break_if, goes_on_behind, noted_gap, ready_gap}
+use Rattle.granit_machine.specs.Gaps.{gap_ends}
+use Rattle.granit_machine.specs.Giving.{node_event}
+use Rattle.granit_machine.specs.IndicatorLexemes.{is_tabbed_dash, behind_dash, dash_up_to, dash, question_up_to}
+use Rattle.granit_machine.specs.IndicatorLexemes.{question_by, question, keyed_colon, bare_colon, colon_tail, colon}
+use Rattle.granit_machine.specs.Items.{lexeme_line}
+use Rattle.granit_machine.specs.LexemeSort.{sort_of, sort_at}
+use Rattle.granit_machine.specs.NodeEnds.{end_node, end_properties, begin_block}
+use Rattle.granit_machine.specs.NodeSteps.{take_dash}
+use Rattle.granit_machine.specs.Parser.{feed}
+use Rattle.granit_machine.specs.PossibleKeys.{is_stale, is_allowed, node_key, is_far_below}
+use Rattle.granit_machine.specs.Reader.{lexeme_of, is_strict_outside, lexeme_in_column, lexeme_by, read, lex_turn}
+use Rattle.granit_machine.specs.ReaderState.{tailed}
+use Rattle.granit_machine.specs.StreamLexemes.{end_mark_up_to}
+use Rattle.granit_steps.specs.Steps.{step_turn, next_event}
+
+-- ---- all that is given, by so many steps
+
+abbrev collected : Result (Option PlainEvent × StepState) Fault → (StepState → Option (List PlainEvent))
+    → Option (List PlainEvent)
+collected (Ok (None, t)) more = Some []
+collected (Ok (Some e, t)) more = option_map (λ es. e ∷ es) (more t)
+collected (Err f) more = None
+
+abbrev all_given : OptionsData → ℕ → StepState → Option (List PlainEvent)
+all_given o zero s = None
+all_given o (suc n) s = collected (next_event o s) (all_given o n)
+
+by_step : (o : OptionsData) (n : ℕ) (s : StepState) (r : Result (Option PlainEvent × StepState) Fault)
+    (es : List PlainEvent)
+    → ((t : StepState) (xs : List PlainEvent) → all_given o n t ≡ Some xs → GivesEvents o t xs None)
+    → next_event o s ≡ r → collected r (all_given o n) ≡ Some es → GivesEvents o s es None
+by_step o n s (Ok (None, t)) es more is all =
+    let none : es ≡ [] = cc in subst (λ (xs : List PlainEvent). GivesEvents o s xs None) (sym none) (gives_end is)
+by_step o n s (Ok (Some e, t)) es more is all = behind (all_given o n t) refl all
+  where
+    behind : (x : Option (List PlainEvent)) → all_given o n t ≡ x → option_map (λ xs. e ∷ xs) x ≡ Some es
+        → GivesEvents o s es None
+    behind None same told = absurd cc
+    behind (Some xs) same told =
+        let whole : es ≡ e ∷ xs = cc in
+        subst (λ (ys : List PlainEvent). GivesEvents o s ys None) (sym whole) (gives_event is (more t xs same))
+by_step o n s (Err f) es more is all = absurd cc
+
+gives_all : (o : OptionsData) (n : ℕ) (s : StepState) (es : List PlainEvent) → all_given o n s ≡ Some es
+    → GivesEvents o s es None
+gives_all o zero s es all = absurd cc
+gives_all o (suc n) s es all = by_step o n s (next_event o s) es (gives_all o n) refl all
+
+small_told : all_given default_options 12 (with_offset 2 (steps_start small_text))
+    ≡ Some (plain_events (small_events 2))
+unfolding is_z is_break is_breakz is_blank is_blank_or_breakz is_digit is_hex hex_value is_word_char is_alpha is_flow
+    is_bom is_printable is_yaml_non_break is_yaml_non_space is_anchor_char is_uri_sign is_uri_char is_tag_char is_gap
+    begins_behind tab_behind step past steps past_prefix_mark past_break turns pieces letter_value digit_count is_high
+    is_low quoted_char event_line behind_comment skipped_comment comment tail_behind on_content on_blank on_break
+    plain_turn behind_plain plain_scalar is_closing digits_or second_half_or numbered_or escape_or is_strictly_left
+    is_loosely_left over_blank over_break quoted_content quoted_turn may_trail behind_quoted quoted_tail quoted_scalar
+    escaped_byte bytes_behind trailing_bytes uri_turn tag_ends tag_at name_at version_number minor_number handle_by
+    handle_at prefix_at parameter_behind directive_of directive_at directive_tail directive_up_to directive header_sign
+    block_header leading_turn content_column over_spaces empty_turn line_up_to block_turn is_white behind_block
+    content_lines block_lines block_body block_scalar in_sequence behind_indicator goes_on_with close_turn refuse_column
+    entered_columns wide_line opener closes refuse_tab_at past_gap over_break_if goes_on_behind noted_gap ready_gap
+    gap_ends node_event is_tabbed_dash behind_dash dash_up_to dash question_up_to question_by question keyed_colon
+    bare_colon colon_tail colon lexeme_line sort_of sort_at end_node end_properties begin_block take_dash feed is_stale
+    is_allowed node_key is_far_below lexeme_of is_strict_outside lexeme_in_column lexeme_by read lex_turn tailed
+    end_mark_up_to step_turn next_event digits encode chars
+small_told = refl
+
+pub small_read : (text : Bor (List ℕ)) → chars text.now ≡ small_text
+    → ReadsText default_options (Some 2) (Borrowed text) (Ok (small_replay 2))
+small_read text is = (
+  subst (λ (x : List ℕ).
+      GivesEvents default_options (with_offset 2 (steps_start x)) (plain_events (small_events 2)) None) (sym is)
+      (gives_all default_options 12 (with_offset 2 (steps_start small_text)) (plain_events (small_events 2))
+      small_told),
+  refl,
+)
+
+-- ---- a stack
+
+module _ {A B C : Type 0} (steps_a : A → Next → A → Type 0) (steps_b : B → Next → B → Type 0)
+    (steps_c : C → Next → C → Type 0) (offset_a : A → ℕ) (offset_b : B → ℕ) (offset_c : C → ℕ)
+    (sets_a : ℕ → A → A → Type 0) (sets_b : ℕ → B → B → Type 0) (sets_c : ℕ → C → C → Type 0)
+    (above_a : A → ℕ → ℕ) (above_b : B → ℕ → ℕ) (above_c : C → ℕ → ℕ) (unread_a : A → Type 0)
+    (unread_b : B → Type 0) (unread_c : C → Type 0) where
+  abbrev Kind : Type 0
+  Kind = AnyKind A B C Replay
+
+  abbrev Steps : Kind → Next → Kind → Type 0
+  Steps = StepsAny steps_a steps_b steps_c (λ (p : Replay) r q. (r ≡ next_of p) × (q ≡ behind_next p))
+
+  abbrev number : Kind → ℕ
+  number = number_of offset_a offset_b offset_c (λ (p : Replay). p.anchor_offset)
+
+  abbrev Sets : ℕ → Kind → Kind → Type 0
+  Sets = SetsAny sets_a sets_b sets_c (λ n (p : Replay) q. q ≡ record p { anchor_offset = n })
+
+  abbrev above : Kind → ℕ → ℕ
+  above = number_over above_a above_b above_c (λ (p : Replay) below. max p.anchor_offset below)
+
+  abbrev Fresh : Kind → Type 0
+  Fresh = UnreadAny unread_a unread_b unread_c (λ (p : Replay). Unit {0})
+
+  abbrev replaying : Written → Option Span → List (Event × Span) → ℕ → Layer Kind
+  replaying name ended es n = record {
+    name = name;
+    parser = Fourth (record { events = es; anchor_offset = n });
+    ended = ended;
+  }
+
+  module _ (name : Written) (ended : Option Span) (n : ℕ) (e : Event × Span) (es : List (Event × Span)) where
+    gives : (ls : List (Layer Kind)) → Gives e ≡ turn_of (is_none_left ls) false ended (Some (Ok e))
+        → TurnsOnce Steps number Sets false (replaying name ended (e ∷ es) n ∷ ls) (Some (Ok e))
+        (replaying name ended es (raised_by n e) ∷ ls)
+    gives ls turns = (
+      Gives e,
+      replaying name ended es (raised_by n e),
+      record { given = Some (Ok e); step = (refl, refl); turns = turns; name = refl; ended = refl },
+      (refl, refl),
+    )
+
+    withholds : (end : Option Span) (ls : List (Layer Kind))
+        → Withholds end ≡ turn_of (is_none_left ls) false ended (Some (Ok e))
+        → TurnsOnce Steps number Sets false (replaying name ended (e ∷ es) n ∷ ls) None
+        (replaying name end es (raised_by n e) ∷ ls)
+    withholds end ls turns = (
+      Withholds end,
+      replaying name end es (raised_by n e),
+      record { given = Some (Ok e); step = (refl, refl); turns = turns; name = refl; ended = refl },
+      (refl, refl),
+    )
+
+    leaves : (k : Layer Kind) (ks : List (Layer Kind)) (q : Kind)
+        → Leaves ≡ turn_of false false ended (Some (Ok e)) → Sets (max (number k.parser) (raised_by n e)) k.parser q
+        → TurnsOnce Steps number Sets false (replaying name ended (e ∷ es) n ∷ k ∷ ks) None
+        (record k { parser = q } ∷ ks)
+    leaves k ks q turns sets = (
+      Leaves,
+      replaying name ended es (raised_by n e),
+      record { given = Some (Ok e); step = (refl, refl); turns = turns; name = refl; ended = refl },
+      (refl, (q, sets, refl)),
+    )
+
+  small_number : (n : ℕ) → n ≤ 3 → n < last_number
+  small_number n less = omega arith
+
+  pub small_happens : Happens Steps number Sets above false Fresh [] small_life (small_layer 6 3 ∷ [])
+  small_happens =
+      let end : Span = plain_span (mark_at 7 2 0) (mark_at 7 2 0) in
+      is_pushed (Fourth (record { events = small_events 1; anchor_offset = 1 })) (named (codes "root")) tt
+      (λ n. omega arith) (_, refl, refl) (small_number 1 (omega arith))
+      (is_given (gives _ _ _ _ _ _ refl) (small_number 1 (omega arith))
+      (is_given (gives _ _ _ _ _ _ refl) (small_number 1 (omega arith))
+      (is_given (gives _ _ _ _ _ _ refl) (small_number 1 (omega arith))
+      (is_given (gives _ _ _ _ _ _ refl) (small_number 2 (omega arith))
+      (is_pushed (Fourth (small_replay 2)) (named (codes "small")) tt (λ n. omega arith) (_, refl, refl)
+      (small_number 3 (omega arith))
+      (is_quiet (withholds _ _ _ _ _ None _ refl) (small_number 3 (omega arith))
+      (is_quiet (withholds _ _ _ _ _ None _ refl) (small_number 3 (omega arith))
+      (is_given (gives _ _ _ _ _ _ refl) (small_number 3 (omega arith))
+      (is_given (gives _ _ _ _ _ _ refl) (small_number 3 (omega arith))
+      (is_given (gives _ _ _ _ _ _ refl) (small_number 3 (omega arith))
+      (is_quiet (withholds _ _ _ _ _ (Some end) _ refl) (small_number 3 (omega arith))
+      (is_quiet (leaves _ _ _ _ _ _ _ _ refl refl) (small_number 3 (omega arith))
+      (is_given (gives _ _ _ _ _ _ refl) (small_number 3 (omega arith))
+      (is_given (gives _ _ _ _ _ _ refl) (small_number 3 (omega arith)) nothing))))))))))))))

@@ -1,0 +1,4 @@
+use Rattle.granit_stack.proofs.stack.IncludeStack.try_load.Goals as goal
+
+pub returns-clause-sent : goal.returns-clause-sent
+returns-clause-sent g c = rw (← c.self.view_is) c.try_load.ensures.sent

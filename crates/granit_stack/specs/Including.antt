@@ -1,0 +1,83 @@
+-- What an include comes to.
+use Rattle.std.specs.Prelude.{◌≡◌, ◌⊎◌, ℕ, false, List, [], ◌∷◌, Option, Some, None, Result, Ok, Err}
+use Rattle.std.specs.Prelude.{IfOk, OnOk, OnErr}
+use Rattle.std.specs.Str.{chars}
+use Rattle.granit_base.specs.Written.{string_chars}
+use Rattle.granit_error.specs.OptionsData.{OptionsData}
+use Rattle.granit_error.specs.Refused.{Refused}
+use Rattle.granit_event.specs.Events.{plain_events}
+use Rattle.granit_layers.specs.Stacking.{IsWithin, Pushes}
+use Rattle.granit_layers.specs.declared.layer.Layer.{Layer}
+use Rattle.granit_lexemes.specs.PlainEvent.{PlainEvent}
+use Rattle.granit_load.specs.Answering.{GivesAll}
+use Rattle.granit_parser.specs.Streams.{bare_start}
+use Rattle.granit_receivers.specs.Counts.{Rose}
+use Rattle.granit_replay.specs.Replaying.{Replay, raised_by_all}
+use Rattle.granit_replay.specs.Resolving.{missing_resolver}
+use Rattle.granit_replay.specs.declared.resolver.Included.{Included}
+use Rattle.granit_replay.specs.declared.resolver.Included.TheVariants.{Owned, Borrowed}
+use Rattle.granit_stepper.specs.Offset.{with_offset}
+use Rattle.granit_steps.specs.Steps.{StepState, start_from, steps_start}
+
+-- What is answered for a name: there is nobody to ask, or it is the resolver's answer, whose errors are counted.
+abbrev pub Resolves : {R : Type 0} → (answers : R → List ℕ → Result Included Refused → R → Type 0) → (errors : R → ℕ)
+    → Option R → List ℕ → Result Included Refused → Option R → Type 0
+Resolves answers errors None name answer new = (answer ≡ Err missing_resolver) × (new ≡ None)
+Resolves answers errors (Some r) name answer new =
+    (q : _) × (new ≡ Some q) × answers r name answer q × OnOk answer (errors q ≡ errors r)
+    × OnErr answer (Rose (errors r) (errors q))
+
+-- the machine before a text that is included: a text of its own is read by its characters, without byte offsets
+abbrev pub start_of_text : Included → StepState
+start_of_text (Borrowed text) = steps_start (chars text.now)
+start_of_text (Owned text) = start_from (bare_start (string_chars text))
+
+-- above another parser its anchors are numbered from there on
+abbrev pub numbered : Option ℕ → StepState → StepState
+numbered None m = m
+numbered (Some offset) m = with_offset offset m
+
+abbrev pub replayed : Replay → List PlainEvent
+replayed p = plain_events p.events
+
+-- the number of the first anchor
+abbrev pub first_number : Option ℕ → ℕ
+first_number None = 1
+first_number (Some offset) = offset
+
+-- All events of the text, with a number for a next anchor that is past all of theirs; or its fault, unless memory ran
+-- out.
+abbrev pub ReadsText : OptionsData → (above : Option ℕ) → Included → Result Replay Refused → Type 0
+ReadsText o above text r =
+    GivesAll replayed o (numbered above (start_of_text text)) r
+    × IfOk r (λ p. p.anchor_offset ≡ raised_by_all (first_number above) p.events)
+
+-- the number of the top parser
+abbrev pub number_above : {S : Type 0} → (S → ℕ) → List (Layer S) → Option ℕ
+number_above offset [] = None
+number_above offset (l ∷ ls) = Some (offset l.parser)
+
+-- An include without names in its refusals: the text is found, read whole, and its events are put on the stack; or it
+-- isn't found, can't be read, or memory ran out.
+abbrev pub Includes : {S R : Type 0} → (offset : S → ℕ) → (sets : ℕ → S → S → Type 0) → (above : S → ℕ → ℕ)
+    → (again : Replay → S) → (answers : R → List ℕ → Result Included Refused → R → Type 0) → (errors : R → ℕ)
+    → OptionsData → List (Layer S) → Option R → List ℕ → Result (Unit {0}) Refused → List (Layer S) → Option R → Type 0
+Includes offset sets above again answers errors o old resolver name (Ok x) new after =
+    (text : Included) × Resolves answers errors resolver name (Ok text) after
+    × ((p : Replay) × ReadsText o (number_above offset old) text (Ok p)
+    × Pushes offset sets above old (again p) (record { characters = name; is_borrowed = false }) new)
+Includes offset sets above again answers errors o old resolver name (Err e) new after =
+    (new ≡ old)
+    × (Resolves answers errors resolver name (Err e) after
+    ⊎ ((text : Included) × Resolves answers errors resolver name (Ok text) after
+    × ReadsText o (number_above offset old) text (Err e)))
+
+-- the same, its refusals with the names of the stack and the include's
+abbrev pub IncludesNamed : {S R : Type 0} → (offset : S → ℕ) → (sets : ℕ → S → S → Type 0) → (above : S → ℕ → ℕ)
+    → (again : Replay → S) → (answers : R → List ℕ → Result Included Refused → R → Type 0) → (errors : R → ℕ)
+    → OptionsData → List (Layer S) → Option R → List ℕ → Result (Unit {0}) Refused → List (Layer S) → Option R → Type 0
+IncludesNamed offset sets above again answers errors o old resolver name (Ok x) new after =
+    Includes offset sets above again answers errors o old resolver name (Ok x) new after
+IncludesNamed offset sets above again answers errors o old resolver name (Err f) new after =
+    (e : Refused) × IsWithin old name e f
+    × Includes offset sets above again answers errors o old resolver name (Err e) new after

@@ -1,0 +1,64 @@
+//! That what the laws ask for is met: a small text, and a stack in which it is included.
+ghost use Rattle.std.specs.Prelude.{◌≡◌, ℕ, false, List, [], ◌∷◌, None, Some, Ok, ⊤};
+ghost use Rattle.std.specs.Borrow.{Bor};
+ghost use Rattle.std.specs.Str.{chars};
+ghost use Rattle.granit_error.specs.OptionsData.{default_options};
+ghost use Rattle.granit_layers.specs.Nested.{IsOneDocument};
+ghost use Rattle.granit_layers.specs.Stacking.{layer_of};
+ghost use Rattle.granit_layers.specs.declared.kinds.AnyKind.TheVariants.{Fourth};
+ghost use Rattle.granit_lexemes.specs.Here.{Here};
+ghost use Rattle.granit_parser.specs.Parsing.{Parsing, StandsAt};
+ghost use Rattle.granit_replay.specs.declared.resolver.Included.TheVariants.{Borrowed};
+ghost use Rattle.granit_stack.specs.Examples.{named, small_events, small_layer, small_life, small_replay, small_text};
+ghost use Rattle.granit_stack.specs.Fresh.{Happens};
+ghost use Rattle.granit_stack.specs.Including.{Includes, ReadsText};
+ghost use Rattle.granit_stack.specs.Life.{IsUnread, UnreadAny};
+ghost use Rattle.granit_steps.specs.Steps.{start_from};
+
+use crate::laws::AnyParser;
+use granit_input::BorrowedInput;
+use granit_layers::{AnyKind, StackedParser};
+use granit_replay::{ReplayParser, Resolver};
+
+/// Of a parser as it is made nothing was read.
+pub fn a_new_parser_is_unread<'input, T: BorrowedInput<'input>>()
+    ensures { (p : Parsing T) (h : Here) → StandsAt T.unread p (start_from h) → p.peeked ≡ None
+        → IsUnread T.unread p }
+{}
+
+/// The text has one document, and what is read of it above a parser with the number 2 are its events.
+pub fn a_small_text_is_read()
+    ensures one_document { IsOneDocument false (small_events 2) }
+    ensures read { (text : Bor (List ℕ)) → chars text.now ≡ small_text
+        → ReadsText default_options (Some 2) (Borrowed text) (Ok (small_replay 2)) }
+{}
+
+/// Where a resolver answers the text, it may be included.
+pub fn a_small_text_is_included<'input, A, B, C, R>()
+where
+    A: StackedParser<'input>,
+    B: StackedParser<'input>,
+    C: StackedParser<'input>,
+    R: Resolver<'input>,
+    ensures { (name : List ℕ) (text : Bor (List ℕ)) (r q : R) → chars text.now ≡ small_text
+        → R.answers r name (Ok (Borrowed text)) q → R.errors q ≡ R.errors r
+        → Includes ⟦<AnyKind<A, B, C, ReplayParser<'input>> as StackedParser<'input>>⟧.offset_of
+        ⟦<AnyKind<A, B, C, ReplayParser<'input>> as StackedParser<'input>>⟧.sets_offset
+        ⟦<AnyKind<A, B, C, ReplayParser<'input>> as StackedParser<'input>>⟧.offset_over Fourth R.answers R.errors
+        default_options (small_layer 4 2 ∷ []) (Some r) name (Ok tt)
+        (layer_of (Fourth (small_replay 2)) (named name) ∷ small_layer 4 2 ∷ []) (Some q) }
+{}
+
+/// A stack may give the events of the text, those of the text included in itself, and then go on.
+pub fn a_stack_includes_a_small_text<'input, X, Y, Z>()
+where
+    X: BorrowedInput<'input>,
+    Y: BorrowedInput<'input>,
+    Z: BorrowedInput<'input>,
+    ensures { Happens ⟦<AnyParser<'input, X, Y, Z> as StackedParser<'input>>⟧.steps
+        ⟦<AnyParser<'input, X, Y, Z> as StackedParser<'input>>⟧.offset_of
+        ⟦<AnyParser<'input, X, Y, Z> as StackedParser<'input>>⟧.sets_offset
+        ⟦<AnyParser<'input, X, Y, Z> as StackedParser<'input>>⟧.offset_over false
+        (UnreadAny (IsUnread X.unread) (IsUnread Y.unread) (IsUnread Z.unread) (λ p. ⊤)) [] small_life
+        (small_layer 6 3 ∷ []) }
+{}

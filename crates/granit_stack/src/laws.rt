@@ -1,0 +1,57 @@
+//! What follows for includes.
+ghost use Rattle.std.specs.Prelude.{⊤};
+ghost use Rattle.granit_layers.specs.declared.kinds.AnyKind.TheVariants.{Fourth};
+ghost use Rattle.granit_stack.specs.Coming.{IncludeComesThrough};
+ghost use Rattle.granit_stack.specs.Fresh.{IdsAreNew};
+ghost use Rattle.granit_stack.specs.Life.{IsUnread, UnreadAny};
+
+use granit_input::BorrowedInput;
+use granit_layers::{AnyKind, StackedParser, a_replay_comes_through};
+use granit_parser::Parser;
+use granit_recovery::{ids_are_counted, ids_begin_at_the_offset};
+use granit_replay::{ReplayParser, Resolver};
+
+/// An include that is answered comes through: its anchors have ids from the number of the parser below it on, and where
+/// it has at most one document, steps of the stack give exactly its events but for the beginnings and ends of its
+/// stream and its document, and comments only where they are asked for, behind what was looked at.
+pub fn an_include_comes_through<'input, A, B, C, R>()
+where
+    A: StackedParser<'input>,
+    B: StackedParser<'input>,
+    C: StackedParser<'input>,
+    R: Resolver<'input>,
+    ensures { IncludeComesThrough
+        ⟦<AnyKind<A, B, C, ReplayParser<'input>> as StackedParser<'input>>⟧.steps
+        ⟦<AnyKind<A, B, C, ReplayParser<'input>> as StackedParser<'input>>⟧.offset_of
+        ⟦<AnyKind<A, B, C, ReplayParser<'input>> as StackedParser<'input>>⟧.sets_offset
+        ⟦<AnyKind<A, B, C, ReplayParser<'input>> as StackedParser<'input>>⟧.offset_over Fourth R.answers R.errors }
+{
+    ids_begin_at_the_offset();
+    a_replay_comes_through::<A, B, C>();
+}
+
+/// A parser over one of three kinds of inputs, or events that are given once more.
+pub(crate) type AnyParser<'input, X, Y, Z> = AnyKind<
+    Parser<'input, X>,
+    Parser<'input, Y>,
+    Parser<'input, Z>,
+    ReplayParser<'input>,
+>;
+
+/// The number of the top parser is above all ids that a stack gave, as long as it isn't the greatest: of parsers of
+/// which nothing was read when they were pushed, and of events that are given once more. So the ids of an include are
+/// new.
+pub fn ids_are_new<'input, X, Y, Z>()
+where
+    X: BorrowedInput<'input>,
+    Y: BorrowedInput<'input>,
+    Z: BorrowedInput<'input>,
+    ensures { IdsAreNew
+        ⟦<AnyParser<'input, X, Y, Z> as StackedParser<'input>>⟧.steps
+        ⟦<AnyParser<'input, X, Y, Z> as StackedParser<'input>>⟧.offset_of
+        ⟦<AnyParser<'input, X, Y, Z> as StackedParser<'input>>⟧.sets_offset
+        ⟦<AnyParser<'input, X, Y, Z> as StackedParser<'input>>⟧.offset_over
+        (UnreadAny (IsUnread X.unread) (IsUnread Y.unread) (IsUnread Z.unread) (λ p. ⊤)) }
+{
+    ids_are_counted();
+}
