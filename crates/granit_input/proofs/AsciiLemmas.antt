@@ -103,7 +103,7 @@ ascii_below : (in_flow : Bool) (c : ℕ) → (not (c == 0x23) && is_plain_ascii 
 ascii_below true c y = (grind (arith, nat_tests), grind (arith, nat_tests))
 ascii_below false c y = (grind (arith, nat_tests), grind (arith, nat_tests))
 
-either : (a b : Bool) → b ≡ true → (a || b) ≡ true
+pub either : (a b : Bool) → b ≡ true → (a || b) ≡ true
 either true b y = refl
 either false b y = y
 

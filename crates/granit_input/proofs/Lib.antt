@@ -1,6 +1,7 @@
 pub mod AppendLemmas
 pub mod AsciiLemmas
 pub mod HoldsLemmas
+pub mod LaneLemmas
 pub mod LendLemmas
 pub mod OriginLemmas
 pub mod PrintableLemmas

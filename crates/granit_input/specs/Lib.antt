@@ -1,5 +1,6 @@
 pub mod Chunks
 pub mod Cuts
+pub mod Lanes
 pub mod Laws
 pub mod Looks
 pub mod Origin

@@ -11,6 +11,7 @@ ghost use Rattle.granit_input.specs.Runs.{run_test};
 ghost use Rattle.granit_input.specs.White.{holds};
 
 use crate::class::{Class, Run};
+use crate::lanes::{LANES, taken_at};
 use granit_base::{is_printable, split_first_char};
 
 /// What follows so many characters, or nothing where there are fewer.
@@ -73,24 +74,45 @@ fn ascii_count(s: &str, run: Run, limit: usize) -> usize
     ensures limit { result ≤ limit }
 {
     match run {
-        Run::Of(Class::Printable) => ascii_front(s, Run::Of(Class::Printable), limit),
-        Run::PlainWords(true) => ascii_front(s, Run::PlainWords(true), limit),
-        Run::PlainWords(false) => ascii_front(s, Run::PlainWords(false), limit),
-        Run::QuotedWords(true) => ascii_front(s, Run::QuotedWords(true), limit),
-        Run::QuotedWords(false) => ascii_front(s, Run::QuotedWords(false), limit),
-        _ => ascii_front(s, run, limit),
+        Run::Of(Class::Printable) => ascii_lanes(s, Run::Of(Class::Printable), limit),
+        Run::PlainWords(true) => ascii_lanes(s, Run::PlainWords(true), limit),
+        Run::PlainWords(false) => ascii_lanes(s, Run::PlainWords(false), limit),
+        Run::QuotedWords(true) => ascii_lanes(s, Run::QuotedWords(true), limit),
+        Run::QuotedWords(false) => ascii_lanes(s, Run::QuotedWords(false), limit),
+        _ => ascii_front(s, run, limit, 0),
     }
 }
 
-/// The same, carried out where it is called.
+/// The same, sixteen at a time as long as there are more, carried out where it is called.
 #[inline(always)]
-fn ascii_front(s: &str, run: Run, limit: usize) -> usize
+fn ascii_lanes(s: &str, run: Run, limit: usize) -> usize
     ensures front { IsAsciiFront (run_test run) s.now result }
     ensures limit { result ≤ limit }
 {
     let bytes = s.as_bytes();
     let end = limit.min(bytes.len());
     let mut count = 0;
+    'lanes: while end - count > LANES {
+        let taken = taken_at(bytes, count, run);
+        count += taken;
+        if taken < LANES {
+            return count;
+        }
+    }
+    ascii_front(s, run, limit, count)
+}
+
+/// The same behind characters that were counted, carried out where it is called.
+#[inline(always)]
+fn ascii_front(s: &str, run: Run, limit: usize, counted: usize) -> usize
+    requires counted { IsAsciiFront (run_test run) s.now counted }
+    requires within { counted ≤ limit }
+    ensures front { IsAsciiFront (run_test run) s.now result }
+    ensures limit { result ≤ limit }
+{
+    let bytes = s.as_bytes();
+    let end = limit.min(bytes.len());
+    let mut count = counted;
     'front: while count < end {
         if !takes_byte(bytes, count, run) {
             return count;

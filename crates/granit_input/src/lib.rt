@@ -5,6 +5,7 @@ mod borrowed;
 mod class;
 mod cuts;
 mod input;
+mod lanes;
 mod str_input;
 mod whitespace;
 

@@ -1,15 +1,14 @@
 use Rattle.std.proofs.Common.{◌≡◌, ◌+◌, ◌<◌, ℕ, true, List, ◌∷◌, length, drop, slice_index, subst, refl, arith}
 use Rattle.std.specs.Str.{chars, is_utf8}
-use Rattle.std.proofs.lemmas.Str.{is_utf8-from_IsUtf8}
 use Rattle.granit_input.specs.Runs.{run_test}
-use Rattle.granit_input.proofs.AsciiLemmas.{ascii_none, ascii_more, utf8_after}
+use Rattle.granit_input.proofs.AsciiLemmas.{ascii_more, utf8_after}
 use Rattle.granit_input.proofs.RunLemmas.{run_nul}
 use Rattle.granit_input.proofs.cuts.ascii_front.Goals as goal
 
 pub front-init : goal.front-init
 front-init c = record {
-  front = ascii_none (run_test c.args.run) c.args.s.now (is_utf8-from_IsUtf8 c.args.s.now c.utf8.s);
-  limit = omega arith;
+  front = c.requires.counted;
+  limit = omega (arith, c.requires.within, c.requires.counted.within, c.min-end.ensures, c.as_bytes-bytes.ensures.len);
 }
 
 pub front-preserved : goal.front-preserved

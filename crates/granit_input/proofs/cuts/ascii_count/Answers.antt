@@ -1,0 +1,8 @@
+use Rattle.std.proofs.lemmas.Str.{is_utf8-from_IsUtf8}
+use Rattle.granit_input.specs.Runs.{run_test}
+use Rattle.granit_input.proofs.AsciiLemmas.{ascii_none}
+use Rattle.granit_input.proofs.cuts.ascii_count.Goals as goal
+
+pub ascii_front-requires-clause-counted : goal.ascii_front-requires-clause-counted
+ascii_front-requires-clause-counted c =
+    ascii_none (run_test c.args.run) c.args.s.now (is_utf8-from_IsUtf8 c.args.s.now c.utf8.s)

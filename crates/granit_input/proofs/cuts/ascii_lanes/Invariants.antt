@@ -1,0 +1,13 @@
+use Rattle.std.proofs.Common.{◌≤◌, ◌-◌}
+use Rattle.granit_input.specs.Cuts.{IsAsciiFront}
+use Rattle.granit_input.specs.Runs.{run_test}
+use Rattle.granit_input.proofs.cuts.ascii_lanes.Given as goal
+
+abbrev pub invariant-lanes : goal.invariant-lanes
+invariant-lanes l = record {
+  front : IsAsciiFront (run_test l.run) l.s l.count;
+  limit : l.count ≤ l.end;
+}
+
+abbrev pub decreases-lanes : goal.decreases-lanes
+decreases-lanes l = l.end - l.count

@@ -1,0 +1,27 @@
+use Rattle.std.proofs.Common.{ℕ, ◌+◌, ◌==◌, ◌&&◌, not}
+use Rattle.std.specs.Simd.Lanes.{chunk}
+use Rattle.granit_input.specs.Runs.{is_plain_ascii, is_plain_word}
+use Rattle.granit_input.proofs.LaneLemmas.{both_are, taken_each, taken_few, words_are, words_sure}
+use Rattle.granit_input.proofs.lanes.plain_words_at.Goals as goal
+
+pub returns-clause-few : goal.returns-clause-few
+returns-clause-few c =
+    let f = c.args.in_flow in
+    let here = chunk c.args.at 16 c.args.bytes.now in
+    let next = chunk (c.args.at + 1) 16 c.args.bytes.now in
+    let begins = both_are (λ (n : ℕ). not (n == 0x23)) (is_plain_ascii f) next c.except-others.ensures
+    c.plain-begins.ensures in
+    taken_few (is_plain_word f) _ (words_sure f) c.args.bytes.now c.args.at _ _ c.requires
+    (words_are (is_plain_ascii f) (λ (n : ℕ). not (n == 0x23) && is_plain_ascii f n) here next c.plain-words.ensures
+    c.equal-spaces.ensures begins) c.front.ensures
+
+pub returns-clause-each : goal.returns-clause-each
+returns-clause-each c =
+    let f = c.args.in_flow in
+    let here = chunk c.args.at 16 c.args.bytes.now in
+    let next = chunk (c.args.at + 1) 16 c.args.bytes.now in
+    let begins = both_are (λ (n : ℕ). not (n == 0x23)) (is_plain_ascii f) next c.except-others.ensures
+    c.plain-begins.ensures in
+    taken_each (is_plain_word f) _ (words_sure f) c.args.bytes.now c.args.at _ _ c.requires
+    (words_are (is_plain_ascii f) (λ (n : ℕ). not (n == 0x23) && is_plain_ascii f n) here next c.plain-words.ensures
+    c.equal-spaces.ensures begins) c.front.ensures
