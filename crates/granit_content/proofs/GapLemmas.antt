@@ -132,5 +132,9 @@ pub ready_given : (asked : Bool) (o : OptionsData) (moved : Bool) (h : Here) (l 
 unfolding ready_gap
 ready_given asked o moved h l u v tabs cuts = rw (tabs, cuts) refl
 
--- a blank or a break is a character
-pub ruleset gap_chars = (blank_some, break_some)
+pub mark_is : (c : ℕ) → is_bom c ≡ (c == 0xFEFF)
+unfolding is_bom
+mark_is c = refl
+
+-- a blank or a break is a character, and a byte-order mark this one
+pub ruleset gap_chars = (blank_some, break_some, mark_is)

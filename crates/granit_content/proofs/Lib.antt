@@ -3,6 +3,7 @@ pub mod GapLemmas
 pub mod HeardLemmas
 pub mod ItemLemmas
 pub mod KindLemmas
+pub mod MemoryLemmas
 pub mod NodeLemmas
 pub mod QuotedGapLemmas
 pub mod ScalarLemmas

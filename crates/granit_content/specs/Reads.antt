@@ -1,7 +1,8 @@
 -- What contracts see of a reader: a cursor, and what the lexemes so far left.
-use Rattle.std.specs.Prelude.{◌≡◌, Bool, true, false, List, Option, Some, None, Result}
+use Rattle.std.specs.Prelude.{◌≡◌, Bool, true, false, List, Option, Some, None, Result, IfErr}
 use Rattle.granit_base.specs.Place.{Unread}
 use Rattle.granit_cursor.specs.Reading.{Reading, Stands, GivesTo, coded}
+use Rattle.granit_error.specs.FaultKind.{NoMemory}
 use Rattle.granit_error.specs.Refused.{Refused}
 use Rattle.granit_lexemes.specs.Comment.{CommentRead}
 use Rattle.granit_lexemes.specs.Here.{Here, mark_of}
@@ -29,6 +30,10 @@ abbrev pub ReadsItems : {I X : Type 0} → (I → Unread → Type 0) → (asked 
     → (X → List Item) → Result X Refused → (Here → Read) → Type 0
 ReadsItems unread asked old new laid view result given =
     (h : Here) → Stands unread old h → GivesTo view result (IsAt unread new laid) (coded (incoming asked) (given h))
+
+-- no refusal is want of memory
+abbrev pub NeverWants : {X : Type 0} → Result X Refused → Type 0
+NeverWants r = IfErr r (λ e. e.kind ≡ NoMemory → ⊥)
 
 -- what a call that returns nothing has found, as items: a lexeme, or all that a read gives
 abbrev pub lexeme_in : Option Lexeme → Unit {0} → List Item

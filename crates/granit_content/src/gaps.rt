@@ -6,7 +6,7 @@ ghost use Rattle.granit_error.specs.OptionsView.{options_of};
 ghost use Rattle.granit_lexemes.specs.Here.{Here, next_char, past};
 ghost use Rattle.granit_machine.specs.Gaps as spec;
 ghost use Rattle.granit_content.specs.declared.tail.Tail.TheVariants.{Nothing};
-ghost use Rattle.granit_content.specs.Reads.{OverGapChar, ReadsGap};
+ghost use Rattle.granit_content.specs.Reads.{NeverWants, OverGapChar, ReadsGap};
 
 use crate::tail::{Tail, comment_at};
 use granit_base::{Marker, is_blank, is_blank_or_breakz, is_bom, is_break, is_breakz};
@@ -32,6 +32,7 @@ pub fn gap<'input, T: BorrowedInput<'input>>(
     ensures here { ReadsGap T.unread (options_of options.now).emit_comments at.old at.new layouts.new result
         (λ h. spec.gap (options_of options.now) h layouts.old) }
     ensures number { IfOk result (λ t. layouts.new.number ≡ layouts.old.number) }
+    ensures memory { (options_of options.now).emit_comments ≡ false → NeverWants result }
     ensures clear { IfOk result (λ t. t ≡ Nothing → (h : Here) → Stands T.unread at.new h
         → is_gap (next_char h) ≡ false) }
     ensures window { IfOk result (λ t. t ≡ Nothing → 4 ≤ T.window at.new.input) }
@@ -57,6 +58,7 @@ fn noted_gap<'input, T: BorrowedInput<'input>>(
     ensures here { ReadsGap T.unread asked at.old at.new layouts.new result (λ h. spec.noted_gap h layouts.old) }
     ensures number { IfOk result (λ t. layouts.new.number ≡ layouts.old.number) }
     ensures some { IfOk result (λ t. t ≡ Nothing → ⊥) }
+    ensures memory { asked ≡ false → NeverWants result }
     ensures moves { Moves T.unread T.left T.origin at.old at.new }
 {
     let note = comment_at(alloc, at, asked)?;
@@ -74,6 +76,7 @@ fn ready_gap<'input, T: Input>(
     moved: bool,
 ) -> Result<Tail<'input>, ScanError>
     requires window { 4 ≤ T.window at.now.input }
+    ensures memory { NeverWants result }
     ensures number { IfOk result (λ t. layouts.new.number ≡ layouts.old.number) }
     ensures here { ReadsGap T.unread (options_of options.now).emit_comments at.now at.now layouts.new result
         (λ h. spec.ready_gap (options_of options.now) moved h layouts.old) }
@@ -119,7 +122,7 @@ fn pass_blanks<T: Input>(at: &mut Cursor<T>, may_prefix: bool) -> bool
 }
 
 /// Over one of them; false where none stands.
-#[tactic(auto, using(crate::proofs::GapLemmas::gap_chars), unfolding(granit_base::specs::Classes::is_gap, granit_base::specs::Classes::is_bom))]
+#[tactic(auto, using(crate::proofs::GapLemmas::gap_chars), unfolding(granit_base::specs::Classes::is_gap))]
 fn pass_gap_char<T: Input>(at: &mut Cursor<T>, may_prefix: bool) -> bool
     ensures here { Wherever T.unread at.old at.new (λ h Lands. OverGapChar result Lands may_prefix h) }
     ensures clear { result ≡ false → (h : Here) → Stands T.unread at.new h → spec.begins_gap may_prefix h ≡ false }
@@ -166,7 +169,8 @@ pub fn leading_tab<T: Input>(at: &Cursor<T>) -> Option<Marker>
 /// Refuses what would go on with a plain scalar that a comment cut short.
 fn refuse_cut<T: Input>(at: &Cursor<T>, layouts: &Layouts) -> Result<(), ScanError>
     requires window { 4 ≤ T.window at.now.input }
-    ensures { (h : Here) → Stands T.unread at.now h → result ≡ spec.refuse_cut layouts.now h }
+    ensures here { (h : Here) → Stands T.unread at.now h → result ≡ spec.refuse_cut layouts.now h }
+    ensures memory { NeverWants result }
 {
     match layouts.cut() {
         None => Ok(()),

@@ -1,10 +1,10 @@
 //! What all lexemes share.
-ghost use Rattle.std.specs.Prelude.{◌≡◌, ◌<◌, ◌^◌, Ok};
+ghost use Rattle.std.specs.Prelude.{◌≡◌, ◌<◌, ◌^◌, false, Ok};
 ghost use Rattle.granit_cursor.specs.Reading.{Moves, Stands, Wherever};
 ghost use Rattle.granit_lexemes.specs.Here.{Here, step};
 ghost use Rattle.granit_machine.specs.ReaderState as spec;
 ghost use Rattle.granit_items.specs.ItemViews.{kind_view, lexeme_view, lexeme_items};
-ghost use Rattle.granit_content.specs.Reads.{IsStart, ReadsItems, behind_seen, lexeme_in, noted, tail_view};
+ghost use Rattle.granit_content.specs.Reads.{IsStart, NeverWants, ReadsItems, behind_seen, lexeme_in, noted, tail_view};
 
 use crate::tail::{Tail, tail_at};
 use granit_base::Marker;
@@ -129,6 +129,7 @@ pub fn tailed<'input, T: BorrowedInput<'input>>(
     requires room { layouts.old.number < 2 ^ 63 }
     ensures here { ReadsItems T.unread asked at.old at.new layouts.new
         (lexeme_in found.new) result (λ h. spec.tailed (lexeme_view lexeme.entry) last h layouts.old) }
+    ensures memory { asked ≡ false → NeverWants result }
     ensures moves { Moves T.unread T.left T.origin at.old at.new }
 {
     let tail = tail_at(alloc, at, asked)?;

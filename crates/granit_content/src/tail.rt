@@ -1,12 +1,12 @@
 //! What stands behind a lexeme on its line: blanks, and a comment that they part from it (YAML 1.2.2, 6.6).
-ghost use Rattle.std.specs.Prelude.{◌≡◌, IfOk};
+ghost use Rattle.std.specs.Prelude.{◌≡◌, false, IfOk};
 ghost use Rattle.std.specs.Option.{option_map};
 ghost use Rattle.granit_cursor.specs.Reading.{Moves, Wherever, GivesTo, coded};
 ghost use Rattle.granit_lexemes.specs.Comment as comments;
 ghost use Rattle.granit_lexemes.specs.Tail as spec;
 ghost use Rattle.granit_items.specs.ItemViews.{note_view};
 ghost use Rattle.granit_content.specs.declared.tail.Tail.TheVariants.{Nothing};
-ghost use Rattle.granit_content.specs.Reads.{noted, seen, seen_comment, tail_view};
+ghost use Rattle.granit_content.specs.Reads.{NeverWants, noted, seen, seen_comment, tail_view};
 
 use crate::kinds::note;
 use granit_cursor::{Cursor, pass_comment, read_comment};
@@ -51,6 +51,7 @@ pub fn tail_at<'input, T: BorrowedInput<'input>>(
 ) -> Result<Tail<'input>, ScanError>
     ensures here { Wherever T.unread at.old at.new (λ h Lands.
         GivesTo tail_view result Lands (coded (seen asked) (spec.tail_at h))) }
+    ensures memory { asked ≡ false → NeverWants result }
     ensures moves { Moves T.unread T.left T.origin at.old at.new }
 {
     let blanks = at.skip_while_blank();
@@ -78,6 +79,7 @@ pub fn comment_at<'input, T: BorrowedInput<'input>>(
     ensures here { Wherever T.unread at.old at.new (λ h Lands.
         GivesTo tail_view result Lands (coded (seen_comment asked) (comments.comment h))) }
     ensures some { IfOk result (λ t. t ≡ Nothing → ⊥) }
+    ensures memory { asked ≡ false → NeverWants result }
     ensures moves { Moves T.unread T.left T.origin at.old at.new }
 {
     if asked {

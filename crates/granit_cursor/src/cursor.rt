@@ -140,7 +140,7 @@ impl<T: Input> Cursor<T> {
     }
 
     /// The same, by what is known of it.
-    #[tactic(auto, unfolding(granit_lexemes::specs::Here::step, granit_lexemes::specs::Here::begins_behind), using(granit_input::proofs::UnreadLemmas::past_one))]
+    #[tactic(auto, unfolding(granit_lexemes::specs::Here::step), using(granit_input::proofs::UnreadLemmas::past_one))]
     fn take_one(&mut self)
         ensures here { GoesTo T.unread self.old self.new step }
         ensures left { T.left self.new.input ≤ T.left self.old.input - 1 }

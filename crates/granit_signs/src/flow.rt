@@ -1,12 +1,12 @@
 //! Brackets and `,` (YAML 1.2.2, 7.4).
-ghost use Rattle.std.specs.Prelude.{◌≡◌, ◌<◌, ◌^◌, []};
+ghost use Rattle.std.specs.Prelude.{◌≡◌, ◌<◌, ◌^◌, false, []};
 ghost use Rattle.granit_cursor.specs.Reading.{Moves};
 ghost use Rattle.granit_error.specs.FaultKind as faults;
 ghost use Rattle.granit_error.specs.OptionsView.{options_of};
 ghost use Rattle.granit_lexemes.specs.Lexeme as lexemes;
 ghost use Rattle.granit_machine.specs.FlowLexemes as spec;
 ghost use Rattle.granit_machine.specs.Laid as laid;
-ghost use Rattle.granit_content.specs.Reads.{ReadsItems, lexeme_in};
+ghost use Rattle.granit_content.specs.Reads.{NeverWants, ReadsItems, lexeme_in};
 
 use granit_content::{sign, tailed};
 use granit_cursor::Cursor;
@@ -69,6 +69,7 @@ pub fn comma<'input, T: BorrowedInput<'input>>(
     requires room { layouts.old.number < 2 ^ 63 }
     ensures here { ReadsItems T.unread (options_of options.now).emit_comments at.old at.new layouts.new
         (lexeme_in found.new) result (λ h. spec.comma ends h layouts.old) }
+    ensures memory { (options_of options.now).emit_comments ≡ false → NeverWants result }
     ensures moves { Moves T.unread T.left T.origin at.old at.new }
 {
     let last = layouts.last_of_comma();
@@ -103,6 +104,7 @@ pub fn closer<'input, T: BorrowedInput<'input>>(
     requires room { layouts.old.number < 2 ^ 63 }
     ensures here { ReadsItems T.unread (options_of options.now).emit_comments at.old at.new layouts.new
         (lexeme_in found.new) result (λ h. spec.closer bracket ends h layouts.old) }
+    ensures memory { (options_of options.now).emit_comments ≡ false → NeverWants result }
     ensures moves { Moves T.unread T.left T.origin at.old at.new }
 {
     match layouts.top_bracket() {

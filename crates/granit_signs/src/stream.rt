@@ -1,5 +1,5 @@
 //! The end, document marks and directives (YAML 1.2.2, 6.8 and 9.1).
-ghost use Rattle.std.specs.Prelude.{◌≡◌, ◌<◌, ◌^◌, Ok};
+ghost use Rattle.std.specs.Prelude.{◌≡◌, ◌<◌, ◌^◌, false, Ok};
 ghost use Rattle.granit_cursor.specs.Reading.{GoesTo, Moves, Stands, Wherever};
 ghost use Rattle.granit_error.specs.OptionsView.{options_of};
 ghost use Rattle.granit_lexemes.specs.Here.{Here, next_char};
@@ -7,7 +7,7 @@ ghost use Rattle.granit_lexemes.specs.Moves.{steps};
 ghost use Rattle.granit_machine.specs.Columns.{closed_all, ends_all};
 ghost use Rattle.granit_machine.specs.StreamLexemes as spec;
 ghost use Rattle.granit_signs.specs.StreamReads as view;
-ghost use Rattle.granit_content.specs.Reads.{ReadsItems, lexeme_in};
+ghost use Rattle.granit_content.specs.Reads.{NeverWants, ReadsItems, lexeme_in};
 
 use granit_base::is_breakz;
 use granit_content::{give, lexeme_to, over_break_if, scalar_lexeme, start_of, tail_at, with_tail};
@@ -34,6 +34,7 @@ pub fn text_end<'input, T: Input>(
     requires room { layouts.old.number < 2 ^ 63 }
     ensures here { ReadsItems T.unread asked at.old at.new layouts.new
         (lexeme_in found.new) result (λ h. spec.text_end h layouts.old) }
+    ensures memory { NeverWants result }
     ensures moves { Moves T.unread T.left T.origin at.old at.new }
 {
     layouts.refuse_open()?;
@@ -96,6 +97,7 @@ pub fn document_start<'input, T: Input>(
     requires room { layouts.old.number < 2 ^ 63 }
     ensures here { ReadsItems T.unread asked at.old at.new layouts.new
         (lexeme_in found.new) result (λ h. view.document_start h layouts.old) }
+    ensures memory { NeverWants result }
     ensures moves { Moves T.unread T.left T.origin at.old at.new }
 {
     layouts.refuse_open()?;
@@ -120,6 +122,7 @@ pub fn document_end<'input, T: BorrowedInput<'input>>(
     requires room { layouts.old.number < 2 ^ 63 }
     ensures here { ReadsItems T.unread asked at.old at.new layouts.new
         (lexeme_in found.new) result (λ h. view.document_end h layouts.old) }
+    ensures memory { asked ≡ false → NeverWants result }
     ensures moves { Moves T.unread T.left T.origin at.old at.new }
 {
     layouts.refuse_open()?;
@@ -140,6 +143,7 @@ fn end_mark<'input, T: BorrowedInput<'input>>(
     requires room { layouts.old.number < 2 ^ 63 }
     ensures here { ReadsItems T.unread asked at.old at.new layouts.new
         (lexeme_in found.new) result (λ h. spec.end_mark ends h layouts.old) }
+    ensures memory { asked ≡ false → NeverWants result }
     ensures moves { Moves T.unread T.left T.origin at.old at.new }
 {
     let start = start_of(at);
@@ -156,6 +160,7 @@ fn end_mark<'input, T: BorrowedInput<'input>>(
 /// Behind a `...` and its tail, the line ends.
 fn refuse_more<T: Input>(at: &mut Cursor<T>) -> Result<(), ScanError>
     ensures here { Wherever T.unread at.old at.new (λ h Lands. Lands h × (result ≡ view.refuse_more h)) }
+    ensures memory { NeverWants result }
     ensures moves { Moves T.unread T.left T.origin at.old at.new }
 {
     at.look(1);
