@@ -8,8 +8,8 @@ use Rattle.granit_events.specs.declared.status.Status.{Status}
 use Rattle.granit_events.specs.declared.status.Status.TheVariants as status
 
 -- the status and the output that the words call for
-abbrev pub Calls : List Written → Status → List ℕ → Type 0
-Calls words status.Done output = (seed : ℕ) × (size : ℕ) × Ask (spelled words) seed size
+abbrev pub SelfTests : List Written → Status → List ℕ → Type 0
+SelfTests words status.Done output = (seed : ℕ) × (size : ℕ) × Ask (spelled words) seed size
     × (output ≡ selftest_line seed size)
-Calls words status.Usage output = (k : ℕ) × AskWrongAt (spelled words) k × (output ≡ usage_line k)
-Calls words _ output = ⊥
+SelfTests words status.Usage output = (k : ℕ) × AskWrongAt (spelled words) k × (output ≡ usage_line k)
+SelfTests words _ output = ⊥

@@ -6,7 +6,7 @@ use Rattle.granit_events.specs.Counts.{Rose}
 use Rattle.granit_events.specs.Ended.{Fixes, IsOrYields}
 use Rattle.granit_events.specs.Output.{CutOutput, WholeOutput}
 use Rattle.granit_events.specs.Ran.{End}
-use Rattle.granit_events.specs.SelfTest.{Calls}
+use Rattle.granit_events.specs.SelfTest.{SelfTests}
 use Rattle.granit_words.specs.Asking.{Ask, AskWrongAt}
 use Rattle.granit_words.specs.Words.{spelled}
 use Rattle.granit_events.specs.declared.status.Status.{Status}
@@ -25,9 +25,9 @@ MayEnd _ = ⊥
 pub record Tested (words : List Written) (source source_after sink sink_after : End) (ended_as : Status) : Type 0 where
   -- each status names its cause and fixes the output; a failed sink has a front of it, want of memory leaves none
   pub may : MayEnd ended_as
-  pub ended : Fixes ended_as → WholeOutput (Calls words) sink.bytes sink_after.bytes ended_as
+  pub ended : Fixes ended_as → WholeOutput (SelfTests words) sink.bytes sink_after.bytes ended_as
   pub write_fault : ended_as ≡ status.WriteFault
-      → CutOutput (Calls words) sink.bytes sink_after.bytes × Rose sink.faults sink_after.faults
+      → CutOutput (SelfTests words) sink.bytes sink_after.bytes × Rose sink.faults sink_after.faults
   pub no_memory : ended_as ≡ status.NoMemory → Keeps sink.bytes sink_after.bytes
   pub sink_count : (ended_as ≡ status.WriteFault → ⊥) → sink_after.faults ≡ sink.faults
   pub unread : source_after ≡ source

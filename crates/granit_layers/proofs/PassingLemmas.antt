@@ -9,7 +9,7 @@ use Rattle.granit_event.specs.declared.event.Event.{Event}
 use Rattle.granit_layers.proofs.NestedLemmas.{one_document}
 use Rattle.granit_layers.specs.Kinds.{StepsAny}
 use Rattle.granit_layers.specs.Nested.{IsOneDocument, given_above, given_from, those_through}
-use Rattle.granit_layers.specs.Passing.{Calls, GivesBelow, GivesFirstOf, Passes, ReplayComesThrough, Replays, Turns}
+use Rattle.granit_layers.specs.Passing.{StackRun, GivesBelow, GivesFirstOf, Passes, ReplayComesThrough, Replays, Turns}
 use Rattle.granit_layers.specs.Passing.{giving_turn, held, no_call, no_turn, one_call, quiet_turn}
 use Rattle.granit_layers.specs.Stacking.{Answer, ComesNext, ComesOf, Stack, TurnsOnce, TurnsTo, Uncovers, Withheld}
 use Rattle.granit_layers.specs.Stacking.{layer_of, none_yet, one_more}
@@ -195,7 +195,7 @@ module _ {S : Type 0} (steps : S → Next → S → Type 0) (offset : S → ℕ)
   emits_on emits now old new xs same turns = subst (λ b. Turns steps offset sets b old xs new) same turns
 
   -- steps of a stack at which nothing was looked at are turns
-  calls_turn : (p q : Stack S) (xs : Events) → p.peeked ≡ None → Calls steps offset sets p xs q
+  calls_turn : (p q : Stack S) (xs : Events) → p.peeked ≡ None → StackRun steps offset sets p xs q
       → Turns steps offset sets p.emits_comments p.layers xs q.layers
   calls_turn p q xs none no_call = no_turn
   calls_turn p q xs none (one_call {mid = mid} {e = e} {es = es} step more) =
@@ -209,7 +209,7 @@ module _ {S : Type 0} (steps : S → Next → S → Type 0) (offset : S → ℕ)
     -- where nothing was looked at
     unseen : (p q : Stack S) (name : Written) (r : Replay) (k : Layer S) (ks : List (Layer S)) (emits : Bool)
         (xs : Events) → p.layers ≡ layer_of (again r) name ∷ k ∷ ks → IsOneDocument false r.events → p.peeked ≡ None
-        → p.emits_comments ≡ emits → Calls steps offset sets p xs q
+        → p.emits_comments ≡ emits → StackRun steps offset sets p xs q
         → Passes steps offset sets emits (k ∷ ks) (those_through emits r.events) xs q.layers
     unseen p q name r k ks emits xs layers one none same calls =
         through steps offset sets emits again replays k ks p.layers q.layers xs r None (those_through emits r.events)
@@ -227,7 +227,7 @@ module _ {S : Type 0} (steps : S → Next → S → Type 0) (offset : S → ℕ)
 
     seen : (p q : Stack S) (name : Written) (r : Replay) (k : Layer S) (ks : List (Layer S)) (peeked : Option Answer)
         (xs : Events) → p.layers ≡ layer_of (again r) name ∷ k ∷ ks → IsOneDocument false r.events → p.peeked ≡ peeked
-        → Calls steps offset sets p xs q
+        → StackRun steps offset sets p xs q
         → Passes steps offset sets p.emits_comments (k ∷ ks) (held peeked ++ those_through p.emits_comments r.events) xs
         q.layers
     seen p q name r k ks None xs layers one is calls =

@@ -26,12 +26,12 @@ pub data Turns {S : Type 0} (steps : S → Next → S → Type 0) (offset : S �
       → Turns steps offset sets emits_comments mid es new → Turns steps offset sets emits_comments old (e ∷ es) new
 
 -- steps of a stack, one behind the other, and the events that they give
-pub data Calls {S : Type 0} (steps : S → Next → S → Type 0) (offset : S → ℕ) (sets : ℕ → S → S → Type 0)
+pub data StackRun {S : Type 0} (steps : S → Next → S → Type 0) (offset : S → ℕ) (sets : ℕ → S → S → Type 0)
     : Stack S → List (Event × Span) → Stack S → Type 0 where
-  no_call : {p : Stack S} → Calls steps offset sets p [] p
+  no_call : {p : Stack S} → StackRun steps offset sets p [] p
   one_call : {p mid q : Stack S} {e : Event × Span} {es : List (Event × Span)}
-      → StepsTo steps offset sets p (Some (Ok e)) mid → Calls steps offset sets mid es q
-      → Calls steps offset sets p (e ∷ es) q
+      → StepsTo steps offset sets p (Some (Ok e)) mid → StackRun steps offset sets mid es q
+      → StackRun steps offset sets p (e ∷ es) q
 
 -- the event that was looked at and not taken
 abbrev pub held : Option Answer → List (Event × Span)
@@ -65,6 +65,6 @@ abbrev pub ReplayComesThrough : {S : Type 0} → (steps : S → Next → S → T
     → (sets : ℕ → S → S → Type 0) → (again : Replay → S) → Type 0
 ReplayComesThrough steps offset sets again =
     (p q : Stack _) (name : Written) (r : Replay) (k : Layer _) (ks : List (Layer _)) (given : List (Event × Span))
-    → p.layers ≡ layer_of (again r) name ∷ k ∷ ks → IsOneDocument false r.events → Calls steps offset sets p given q
+    → p.layers ≡ layer_of (again r) name ∷ k ∷ ks → IsOneDocument false r.events → StackRun steps offset sets p given q
     → Passes steps offset sets p.emits_comments (k ∷ ks)
     (held p.peeked ++ those_through p.emits_comments r.events) given q.layers
