@@ -11,7 +11,7 @@ use Rattle.granit_lexemes.specs.Comment.{CommentRead}
 use Rattle.granit_lexemes.specs.Lexeme as lexemes
 use Rattle.granit_lexemes.specs.Lexeme.{LexemeKind, Item, OfLexeme, OfComment}
 use Rattle.granit_lexemes.specs.Outcome.{Fault, ◌>>=◌}
-use Rattle.granit_lexemes.specs.PlainEvent.{PlainEvent, EventKind, Comment}
+use Rattle.granit_lexemes.specs.PlainEvent.{PlainEvent, PlainVersion, EventKind, Comment}
 use Rattle.granit_machine.specs.Frames.{DocumentStage, Frame, Root, WithProperties, BlockSequence, BlockMapping}
 use Rattle.granit_machine.specs.Frames.{FlowSequence, FlowMapping, FlowPair, Fresh, Directives, Inside, BehindRoot}
 use Rattle.granit_machine.specs.Frames.{Between, ParserState, Waiting}
@@ -19,6 +19,7 @@ use Rattle.granit_machine.specs.Lexing.{FlaggedItem}
 use Rattle.granit_machine.specs.Machine.{is_settled}
 use Rattle.granit_machine.specs.Parser.{feed}
 use Rattle.granit_machine.specs.Reader.{lex_turn, LexTurn}
+use Rattle.granit_recovery.proofs.HeaderShapes.{Among}
 use Rattle.granit_recovery.proofs.MarkRefusals.{comment_not, ends_document, EndsDocument, feed_not, FedNotStart}
 use Rattle.granit_recovery.proofs.RecoveryLaws.{call_known, CallsKnown, looked_known, reached_known}
 use Rattle.granit_recovery.proofs.RecoveryLaws.{skipped_good}
@@ -88,9 +89,12 @@ module _ (o : OptionsData) where
   fine_none (FlowPair at ∷ fs) stage fine e = absurd (cc)
 
   -- between documents, or among directives
-  data Stands (p : ParserState) : Type 0 where
-    stands_outside : Outside p → Stands p
-    stands_directives : is_directives p.stage ≡ true → Stands p
+  pub data Stood (p : ParserState) : Type 0 where
+    stands_outside : Outside p → Stood p
+    stands_directives : Among p → Stood p
+
+  pub among_stage : (p : ParserState) → Among p → is_directives p.stage ≡ true
+  among_stage p a = ap (λ (q : ParserState). is_directives q.stage) a.1
 
   outside_of : (p : ParserState) → p.frames ≡ [] → p.stage ≡ Fresh → p.waiting ≡ None → p.given ≡ [] → Outside p
   outside_of p frames stage waiting given =
@@ -99,22 +103,34 @@ module _ (o : OptionsData) where
       ∙ ap (λ w. record p { frames = []; stage = Fresh; waiting = w }) waiting
       ∙ ap (λ es. record p { frames = []; stage = Fresh; waiting = None; given = es }) given
 
+  among_of : (p : ParserState) (v : Option PlainVersion) → p.frames ≡ [] → p.stage ≡ Directives v → p.waiting ≡ None
+      → p.given ≡ [] → Among p
+  among_of p v frames stage waiting given = (
+    v,
+    ap (λ fs. record p { frames = fs }) frames
+        ∙ ap (λ st. record p { frames = []; stage = st }) stage
+        ∙ ap (λ w. record p { frames = []; stage = Directives v; waiting = w }) waiting
+        ∙ ap (λ es. record p { frames = []; stage = Directives v; waiting = None; given = es }) given,
+  )
+
   calm_none : (w : Option Waiting) → CalmBy [] w → w ≡ None
   calm_none None c = refl
   calm_none (Some w) c = absurd c
 
   stands_by : (p : ParserState) (stage : DocumentStage) → p.stage ≡ stage → p.frames ≡ [] → p.given ≡ [] → Calm p
-      → SitsBy [] stage → levels_of [] stage ≡ InStream ∷ [] → Stands p
+      → SitsBy [] stage → levels_of [] stage ≡ InStream ∷ [] → Stood p
   stands_by p Fresh is frames given calm sits e =
       let none = calm_none p.waiting (subst (λ fs. CalmBy fs p.waiting) frames calm) in
       stands_outside (outside_of p frames is none given)
-  stands_by p (Directives version) is frames given calm sits e = stands_directives (ap is_directives is)
+  stands_by p (Directives version) is frames given calm sits e =
+      let none = calm_none p.waiting (subst (λ fs. CalmBy fs p.waiting) frames calm) in
+      stands_directives (among_of p version frames is none given)
   stands_by p BehindRoot is frames given calm sits e = absurd (cc)
   stands_by p Inside is frames given calm sits e = absurd sits
   stands_by p Between is frames given calm sits e = absurd sits
 
   stands : (p : ParserState) → p.given ≡ [] → Fine p.frames → Seats p → levels_of p.frames p.stage ≡ InStream ∷ []
-      → Stands p
+      → Stood p
   stands p given fine seats e =
       let frames = fine_none p.frames p.stage fine e in
       stands_by p p.stage refl frames given seats.calm (subst (λ fs. SitsBy fs p.stage) frames seats.sits)
@@ -141,29 +157,30 @@ module _ (o : OptionsData) where
       ap (λ told. (look_by o later s told).0) e
       ∙ ap (λ b. (if b then (Ok true, s) else look_behind later s (turn_ahead o s)).0) stage
 
-  directives_follow : (s : StepState) (room : ℕ) → told_by room s.pending ≡ None → is_directives s.parser.stage ≡ true
-      → document_follows o room s ≡ Ok true
+  pub directives_follow : (s : StepState) (room : ℕ) → told_by room s.pending ≡ None
+      → is_directives s.parser.stage ≡ true → document_follows o room s ≡ Ok true
   unfolding document_follows
   directives_follow s room e stage =
       let k = kept room s.pending e in
       k.past (λ left. if is_directives s.parser.stage then Ok true else Asked o s left)
       ∙ ap (λ b. if b then Ok true else Asked o s k.left) stage
 
-  both_tell : (s : StepState) (room : ℕ) → Turned o s → told_by room s.pending ≡ None → Stands s.parser
+  both_tell : (s : StepState) (room : ℕ) → Turned o s → told_by room s.pending ≡ None → Stood s.parser
       → (look_ahead o room s).0 ≡ document_follows o room s
   both_tell s room turned e (stands_outside out) = look_tells o room s turned out
-  both_tell s room turned e (stands_directives stage) =
+  both_tell s room turned e (stands_directives a) =
+      let stage = among_stage s.parser a in
       directives_look s room e stage ∙ sym (directives_follow s room e stage)
 
-  both_none : (s : StepState) (room : ℕ) → Turned o s → told_by room s.pending ≡ None → Stands s.parser
+  both_none : (s : StepState) (room : ℕ) → Turned o s → told_by room s.pending ≡ None → Stood s.parser
       → document_follows o room s ≡ Ok false → NoneComes o s
   both_none s room turned e (stands_outside out) none = end_left room turned out none
-  both_none s room turned e (stands_directives stage) none =
-      absurd (let f = sym (directives_follow s room e stage) ∙ none in cc)
+  both_none s room turned e (stands_directives a) none =
+      absurd (let f = sym (directives_follow s room e (among_stage s.parser a)) ∙ none in cc)
 
   -- along a stream
 
-  along_stands : (s : StepState) → Along (InStream ∷ []) s → OnlyNotes s.pending → Stands s.parser
+  pub along_stands : (s : StepState) → Along (InStream ∷ []) s → OnlyNotes s.pending → Stood s.parser
   along_stands s (along_stream e rests seats waits) notes =
       stands s.parser rests.given rests.fine seats
       (let f = sym (notes_levels s.pending (InStream ∷ []) notes) ∙ e in same_levels _ _ (sym f))

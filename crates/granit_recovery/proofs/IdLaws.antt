@@ -143,19 +143,19 @@ From n b = (b.least ≤ n) × (b.low ≤ n)
 boundary_ids : (b : Bounds) (s : StepState) (x : Boundary) → From s.parser.count b
     → Ids b (at_boundary s x).1
 boundary_ids b s (AtStart h) f =
-    (record { least = f.0; low = f.1; given = tt; frames = tt; held = tt }, tt)
+    (record { least = f.0; low = f.1; given = tt; frames = tt; held = tt; follow = tt }, tt)
 boundary_ids b s (PastEnd h) f =
-    (record { least = f.0; low = f.1; given = tt; frames = tt; held = tt }, tt)
+    (record { least = f.0; low = f.1; given = tt; frames = tt; held = tt; follow = tt }, tt)
 boundary_ids b s (AtTextEnd h) f =
-    (record { least = f.0; low = f.1; given = tt; frames = tt; held = tt }, tt)
+    (record { least = f.0; low = f.1; given = tt; frames = tt; held = tt; follow = tt }, tt)
 
 lexeme_ids : (b : Bounds) (h : Here) (s : StepState) (kind : LexemeKind) (l : Lexeme) → From s.parser.count b
     → Ids b (at_lexeme h s kind l).1
 lexeme_ids b h s lexemes.DocumentStart l f =
-    (record { least = f.0; low = f.1; given = tt; frames = tt; held = tt }, tt)
+    (record { least = f.0; low = f.1; given = tt; frames = tt; held = tt; follow = tt }, tt)
 lexeme_ids b h s lexemes.DocumentEnd l f =
-    (record { least = f.0; low = f.1; given = tt; frames = tt; held = tt }, tt)
-lexeme_ids b h s kind l f = (record { least = f.0; low = f.1; given = tt; frames = tt; held = tt }, tt)
+    (record { least = f.0; low = f.1; given = tt; frames = tt; held = tt; follow = tt }, tt)
+lexeme_ids b h s kind l f = (record { least = f.0; low = f.1; given = tt; frames = tt; held = tt; follow = tt }, tt)
 
 found_ids : (b : Bounds) (h : Here) (s : StepState) (r : Option Lexeme) → From s.parser.count b
     → Ids b (at_found h s r).1
@@ -305,7 +305,7 @@ NoBounds = record { low = 0; least = 0 }
 
 reached_ids : (o : OptionsData) (c : Calls) → Reached o c → Ids NoBounds c.steps
 reached_ids o c (reached_start text) =
-    (record { least = omega arith; low = omega arith; given = tt; frames = tt; held = tt }, (inl refl, tt))
+    (record { least = omega arith; low = omega arith; given = tt; frames = tt; held = tt; follow = tt }, (inl refl, tt))
 reached_ids o c (reached_call {c = d} r) = call_ids NoBounds o d (reached_ids o d r)
 reached_ids o c (reached_recovery {c = d} stops looked r) = recover_ids NoBounds o stops looked d (reached_ids o d r)
 
@@ -322,6 +322,7 @@ ids_now s x =
         given = same s.parser.count s.parser.given p.given;
         frames = p.frames;
         held = p.held;
+        follow = p.follow;
       },
       x.1,
     )

@@ -33,11 +33,11 @@ use Rattle.granit_machine.specs.StreamSteps.{behind_directives, bare_start, begi
 use Rattle.granit_machine.specs.StreamSteps.{when_fresh, when_between, end_document, behind_root, outside}
 use Rattle.granit_machine.specs.TokenSort.{TokenSort, BeginsKey, BeginsNode, QuestionToken, BareColon}
 use Rattle.granit_machine.specs.TokenSort.{KeyedColon, CommaToken, SequenceCloser, MappingCloser, Token, token_of}
+use Rattle.granit_recovery.proofs.AnchorOrder.{Follow, follow_append, follow_one, none_told, number_told}
 use Rattle.granit_recovery.proofs.IdLemmas.{Bounds, IdsIn, FrameIds, HeldIds, Num, NumR, ids_append}
 use Rattle.granit_recovery.proofs.IdLemmas.{num_flush, num_give, num_empty, num_finish, num_owed, num_end_node}
 use Rattle.granit_recovery.proofs.IdLemmas.{num_end_properties, num_if, num_then, num_waits, num_top, num_dash}
 use Rattle.granit_recovery.proofs.IdLemmas.{num_bare, num_node, num_null, with_frames}
-use Rattle.granit_recovery.specs.Ids.{id_of}
 
 -- ---- in a block collection
 
@@ -217,7 +217,7 @@ num_directives b o (lexemes.Directive d) t version p x = num_directive b o t d v
 num_directives b o lexemes.DocumentStart t version p x = num_open_document b t version p x
 num_directives b o kind t version p x = tt
 
-bare_start_id : (sort : TokenSort) (t : Token) → id_of (bare_start sort t).kind ≡ 0
+bare_start_id : (sort : TokenSort) (t : Token) → number_told (bare_start sort t).kind ≡ 0
 bare_start_id BeginsNode t = refl
 bare_start_id sort t = refl
 
@@ -331,23 +331,31 @@ num_close b o t p x = closed_num b (pieces depth (close_turn o t) p) (num_turns 
 
 -- ---- comments and items
 
-num_hold : (b : Bounds) (c : CommentRead) (e : PlainEvent) (w : Option Waiting) (p : ParserState) → id_of e.kind ≡ 0
-    → HeldIds b p.count w → Num b p → NumR b (hold c e w p)
-num_hold b c e None p none h x = record {
-  least = x.least;
-  low = x.low;
-  given = ids_append b p.count p.given (e ∷ []) x.given (inl none, tt);
-  frames = x.frames;
-  held = x.held;
-}
+num_hold : (b : Bounds) (c : CommentRead) (e : PlainEvent) (w : Option Waiting) (p : ParserState)
+    → number_told e.kind ≡ 0 → HeldIds b p.count w → Num b p → NumR b (hold c e w p)
+num_hold b c e None p none h x =
+    let n = none_told e.kind none in
+    record {
+      least = x.least;
+      low = x.low;
+      given = ids_append b p.count p.given (e ∷ []) x.given (inl n.0, tt);
+      frames = x.frames;
+      held = x.held;
+      follow = follow_append false p.given (e ∷ []) x.follow (follow_one e n.1);
+    }
 num_hold b c e (Some w) p none h x =
+    let n = none_told e.kind none in
     let v : Waiting = record w { room = w.room - 1; held = w.held ++ e ∷ [] } in
     let y : Num b (record p { waiting = Some v }) = record {
       least = x.least;
       low = x.low;
       given = x.given;
       frames = x.frames;
-      held = ids_append b p.count w.held (e ∷ []) h (inl none, tt);
+      held = (
+        ids_append b p.count w.held (e ∷ []) h.0 (inl n.0, tt),
+        follow_append false w.held (e ∷ []) h.1 (follow_one e n.1),
+      );
+      follow = x.follow;
     } in
     search (num_if, y)
 
@@ -371,14 +379,17 @@ num_item b o (OfLexeme l) flag next p x =
     (num_then b (close o t p) (take_token o t) (num_close b o t p x) (λ q y. num_take_in b o q.frames t q y))
     (λ q y. num_tail b l.kind l.tail next q y)
 
--- the events of an item, and the state behind it
+-- the events of an item, in which an anchor's stands directly behind its node's first, and the state behind it
 abbrev pub FedNum : Bounds → Result (List PlainEvent × ParserState) Fault → Type 0
-FedNum b (Ok x) = IdsIn b x.1.count x.0 × Num b x.1
+FedNum b (Ok x) = IdsIn b x.1.count x.0 × Num b x.1 × Follow false x.0
 FedNum b (Err f) = Unit {0}
 
 fed_num : (b : Bounds) (r : Stepped) → NumR b r → FedNum b (r >>= λ q. Ok (q.given, record q { given = [] }))
-fed_num b (Ok q) x =
-    (x.given, record { least = x.least; low = x.low; given = tt; frames = x.frames; held = x.held })
+fed_num b (Ok q) x = (
+  x.given,
+  record { least = x.least; low = x.low; given = tt; frames = x.frames; held = x.held; follow = tt },
+  x.follow,
+)
 fed_num b (Err f) x = tt
 
 pub feed_num : (b : Bounds) (o : OptionsData) (i : FlaggedItem) (next : Option ℕ) (p : ParserState) → Num b p

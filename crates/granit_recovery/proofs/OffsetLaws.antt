@@ -25,7 +25,8 @@ pub begun_from : (o : OptionsData) (h : Here) (count : ℕ) (es : List PlainEven
     → GivesEvents o (counting_from count h) es f → IdsFrom (suc count) es
 begun_from o h count es f gives =
     given_from o count (counting_from count h) es f
-    (record { least = omega arith; low = omega arith; given = tt; frames = tt; held = tt }, (inl refl, tt)) gives
+    (record { least = omega arith; low = omega arith; given = tt; frames = tt; held = tt; follow = tt }, (inl refl, tt))
+    gives
 
 -- ---- where the count is raised between steps
 
@@ -45,11 +46,11 @@ frames_up b m n (f ∷ fs) less x = frames_up b m n fs less x
 
 held_up : (b : Bounds) (m n : ℕ) (w : Option Waiting) → m ≤ n → HeldIds b m w → HeldIds b n w
 held_up b m n None less x = tt
-held_up b m n (Some w) less x = ids_up b m n w.held less x
+held_up b m n (Some w) less x = (ids_up b m n w.held less x.0, x.1)
 
 counted_ids : (o : OptionsData) (m : StepState) → Counted o m → Ids NoBounds m
 counted_ids o m (counted_start count h) =
-    (record { least = omega arith; low = omega arith; given = tt; frames = tt; held = tt }, (inl refl, tt))
+    (record { least = omega arith; low = omega arith; given = tt; frames = tt; held = tt; follow = tt }, (inl refl, tt))
 counted_ids o m (counted_step {m = before} {r = None} c is) =
     let n : NextIds NoBounds (Ok (None, m)) =
     subst (NextIds NoBounds) is (next_ids NoBounds o before (counted_ids o before c)) in
@@ -67,6 +68,7 @@ counted_ids o m (counted_more {m = before} count c less) =
         given = ids_up NoBounds before.parser.count count before.parser.given less p.given;
         frames = frames_up NoBounds before.parser.count count before.parser.frames less p.frames;
         held = held_up NoBounds before.parser.count count before.parser.waiting less p.held;
+        follow = p.follow;
       },
       ids_up NoBounds before.parser.count count before.pending less x.1,
     )

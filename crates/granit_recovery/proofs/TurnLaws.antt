@@ -47,11 +47,11 @@ abbrev pub Waits : (ended : Bool) → List Item → Type 0
 Waits true is = Fit is
 Waits false is = has_end is ≡ false
 
-or_left : (a b : Bool) → (a || b) ≡ false → a ≡ false
+pub or_left : (a b : Bool) → (a || b) ≡ false → a ≡ false
 or_left true b e = e
 or_left false b e = refl
 
-or_right : (a b : Bool) → (a || b) ≡ false → b ≡ false
+pub or_right : (a b : Bool) → (a || b) ≡ false → b ≡ false
 or_right true b e = absurd (cc)
 or_right false b e = e
 
@@ -76,7 +76,7 @@ fit_behind (x ∷ xs) ys e f = (
   fit_behind xs ys (or_right (is_end_item x) (has_end xs) e) f,
 )
 
-none_behind : (xs ys : List Item) → has_end xs ≡ false → has_end ys ≡ false → has_end (xs ++ ys) ≡ false
+pub none_behind : (xs ys : List Item) → has_end xs ≡ false → has_end ys ≡ false → has_end (xs ++ ys) ≡ false
 none_behind [] ys e f = f
 none_behind (x ∷ xs) ys e f =
     both_false (is_end_item x) (has_end (xs ++ ys)) (or_left (is_end_item x) (has_end xs) e)
@@ -108,7 +108,7 @@ comment_waits : (b : Bool) (c : _) → Waits false (incoming b (OfComment c ∷ 
 comment_waits true c = refl
 comment_waits false c = refl
 
-read_waits : (b : Bool) (number : ℕ) (before : List ℕ) (is : List Item) (t : Laid) → Items number before is t
+pub read_waits : (b : Bool) (number : ℕ) (before : List ℕ) (is : List Item) (t : Laid) → Items number before is t
     → Waits (is_end is) (incoming b is)
 read_waits b number before [] t p = absurd p
 read_waits b number before (OfComment c ∷ []) t p = comment_waits b c

@@ -4,6 +4,7 @@
 mod answers;
 mod asking;
 mod boundaries;
+mod documents;
 mod dropping;
 mod ids;
 mod refusals;
@@ -11,9 +12,13 @@ mod rows;
 mod streams;
 
 pub use answers::{answers_are_exact, answers_behind_a_fault_are_exact};
-pub use asking::a_look_tells_where_recovery_asks;
+pub use asking::{a_comment_takes_room_where_recovery_asks, a_look_tells_where_recovery_asks};
 pub use boundaries::{
     the_boundary_behind_a_read_is_at_a_counted_place, the_boundary_is_at_a_counted_place,
+};
+pub use documents::{
+    a_text_with_one_start_is_one_document, at_most_one_start_is_one_document,
+    events_stand_strictly, worked_documents,
 };
 pub use dropping::{
     a_fault_drops_its_document, nothing_changes_behind_the_end,
