@@ -1,6 +1,6 @@
 -- What the laws of the plain machine say of an answer of the code.
 use Rattle.std.proofs.Common.{◌≡◌, ◌≢◌, ℕ, List, [], Option, Some, None, Result, Ok, Err, ◌⊎◌, inl, inr}
-use Rattle.std.proofs.Common.{refl, sym, ap, subst, ◌∙◌, ◌≤◌}
+use Rattle.std.proofs.Common.{false, refl, sym, ap, subst, ◌∙◌, ◌≤◌}
 use Rattle.std.specs.Prelude.{IfOk, IfErr}
 use Rattle.granit_answers.proofs.CommentsCaused.{any_fault_caused}
 use Rattle.granit_answers.proofs.OneCause.{answer_reads, cause_answered, reading_answered}
@@ -16,7 +16,6 @@ use Rattle.granit_canonical.proofs.Laws.{canonical_is_read}
 use Rattle.granit_comments.specs.TextComments.{TellsComments, ToldUnasked}
 use Rattle.granit_comments.proofs.Told.{comments_told}
 use Rattle.granit_comments.proofs.Unasked.{told_unasked}
-use Rattle.granit_cursor.specs.Reading.{Reading}
 use Rattle.granit_error.specs.FaultKind.{NoMemory}
 use Rattle.granit_error.specs.OptionsData.{OptionsData}
 use Rattle.granit_error.specs.Refused.{Refused}
@@ -37,11 +36,12 @@ use Rattle.granit_model.specs.Characters.{HasCharacters}
 use Rattle.granit_model.specs.FlowText.{flow_characters}
 use Rattle.granit_model.specs.Tree.{DocumentsFit, PlainTrees, trees_depth}
 use Rattle.granit_load.specs.Answering.{GivesAllOr, IsRefusedAs}
-use Rattle.granit_load.proofs.GatherLemmas.{never_failed}
+use Rattle.granit_load.proofs.GatherLemmas.{never_failed, never_numbered}
 use Rattle.granit_parser.proofs.TextLemmas.{memory_or_not}
 use Rattle.granit_reading.proofs.ParserSources.{run_none}
 use Rattle.granit_readings.specs.ReadAsTrees.{TellsTrees}
 use Rattle.granit_readings.proofs.ReadOnce.{answer_trees}
+use Rattle.granit_stepper.specs.Stepping.{Stepping}
 use Rattle.granit_steps.specs.Levels.{IsStream}
 use Rattle.granit_steps.specs.Steps.{steps_start}
 use Rattle.granit_steps.specs.Told.{GivesEvents}
@@ -73,11 +73,12 @@ module _ (o : OptionsData) (x : List ℕ) where
 
   -- where no source fails
   pub given_of : {I V : Type 0} (origin : I → Origin) (view : V → List PlainEvent) (p : OptionsData) → p ≡ o
-      → (r : Result V Refused) (at : Reading I) → GivesAllOr origin view p (steps_start x) r at
+      → (r : Result V Refused) (s : Stepping I) → s.renumbered ≡ false → GivesAllOr origin view p (steps_start x) r s
       → ((i : I) → (origin i).error ≡ None) → GivesValue view r (run o x)
-  given_of origin view p same (Ok v) at g none = answer_of p (view v) same g
-  given_of origin view p same (Err e) at g none =
-      fault_of p e same (never_failed (origin at.input) at.place e (none at.input) g)
+  given_of origin view p same (Ok v) s never g none = answer_of p (view v) same g
+  given_of origin view p same (Err e) s never g none =
+      fault_of p e same (never_failed (origin s.scanner.cursor.input) s.scanner.cursor.place e
+      (none s.scanner.cursor.input) (never_numbered s.renumbered never g))
 
 module _ {V : Type 0} (view : V → List PlainEvent) (o : OptionsData) (x : List ℕ) where
   -- ---- an answer

@@ -14,11 +14,12 @@ use Rattle.granit_lexemes.specs.Here.{Here, start_of}
 use Rattle.granit_lexemes.specs.Onward.{Onward}
 use Rattle.granit_lexemes.specs.Outcome.{Fault, Fails, GivesValue}
 use Rattle.granit_lexemes.specs.PlainEvent.{PlainEvent}
+use Rattle.granit_stepper.specs.Stepping.{Stepping}
 use Rattle.granit_steps.specs.Steps.{StepState, start_from}
 use Rattle.granit_steps.specs.Told.{GivesEvents, answer}
-use Rattle.granit_load.specs.Answering.{AnswersItems, GivesAllOr, GivesWhole, IsPlacedFrom, IsPlacedOn, IsPlacedOr}
-use Rattle.granit_load.specs.Answering.{bare_run}
-use Rattle.granit_load.proofs.GatherLemmas.{never_failed}
+use Rattle.granit_load.specs.Answering.{AnswersItems, GivesAll, GivesAllOr, GivesWhole, IsPlacedFrom, IsPlacedOn}
+use Rattle.granit_load.specs.Answering.{IsPlacedOr, bare_run}
+use Rattle.granit_load.proofs.GatherLemmas.{never_failed, never_numbered}
 use Rattle.granit_parser.specs.Sources.{GoesGiving, IsSourceError}
 use Rattle.granit_parser.specs.Streams.{bare_start}
 use Rattle.granit_parser.proofs.StartLaws.{calls_give}
@@ -43,11 +44,13 @@ bare_fault_of o p x e same gives = λ other.
 
 -- where no source fails
 pub bare_given_of : {I V : Type 0} (origin : I → Origin) (view : V → List PlainEvent) (o p : OptionsData) (x : List ℕ)
-    → p ≡ o → (r : Result V Refused) (at : Reading I) → GivesAllOr origin view p (start_from (bare_start x)) r at
+    → p ≡ o → (r : Result V Refused) (s : Stepping I) → s.renumbered ≡ false
+    → GivesAllOr origin view p (start_from (bare_start x)) r s
     → ((i : I) → (origin i).error ≡ None) → GivesValue view r (bare_run o x)
-bare_given_of origin view o p x same (Ok v) at g none = bare_answer_of o p x (view v) same g
-bare_given_of origin view o p x same (Err e) at g none =
-    bare_fault_of o p x e same (never_failed (origin at.input) at.place e (none at.input) g)
+bare_given_of origin view o p x same (Ok v) s never g none = bare_answer_of o p x (view v) same g
+bare_given_of origin view o p x same (Err e) s never g none =
+    bare_fault_of o p x e same (never_failed (origin s.scanner.cursor.input) s.scanner.cursor.place e
+    (none s.scanner.cursor.input) (never_numbered s.renumbered never g))
 
 -- ---- a source that may fail
 
@@ -75,7 +78,8 @@ module _ {I V : Type 0} (unread : I → Unread → Type 0) (origin : I → Origi
 
     -- a refusal that came before it was known how the source ends
     pub refused_whole : (lost : Bool) → IsPlacedOr lost e r → lost ≡ new.lost → GoesOnward unread old new
-        → GivesAllOr origin view o m (Err e) new → GoesGiving (origin old.input) (origin new.input)
+        → GivesAll view o m (Err e) ⊎ IsSourceError (origin new.input) new.place e
+        → GoesGiving (origin old.input) (origin new.input)
         → GivesWhole unread origin view o m f (Err r) old new
     refused_whole true none is goes given moved = inl (λ other. absurd (other none))
     refused_whole false same is goes given moved =

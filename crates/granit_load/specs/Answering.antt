@@ -15,8 +15,11 @@ use Rattle.granit_lexemes.specs.Onward.{Onward}
 use Rattle.granit_lexemes.specs.Outcome.{Fault, Fails}
 use Rattle.granit_lexemes.specs.PlainEvent.{PlainEvent}
 use Rattle.granit_machine.specs.Machine.{run}
+use Rattle.granit_parser.specs.Parsing.{LeadsTo}
 use Rattle.granit_parser.specs.Sources.{GoesGiving, IsSourceError}
 use Rattle.granit_parser.specs.Streams.{bare_start}
+use Rattle.granit_stepper.specs.Numbers.{NoNumberLeft}
+use Rattle.granit_stepper.specs.Stepping.{Stepping}
 use Rattle.granit_steps.specs.Steps.{StepState}
 use Rattle.granit_steps.specs.Told.{GivesEvents}
 
@@ -25,11 +28,18 @@ abbrev pub GivesAll : {V : Type 0} → (V → List PlainEvent) → OptionsData �
 GivesAll view o m (Ok v) = GivesEvents o m (view v) None
 GivesAll view o m (Err e) = (e.kind ≡ NoMemory → ⊥) → (es : List PlainEvent) × GivesEvents o m es (Some e)
 
--- the same, or the last refusal is the error of the source
+-- behind some events no number is left for an anchor
+abbrev pub LacksNumber : OptionsData → StepState → Refused → Type 0
+LacksNumber o m e = (es : List PlainEvent) × (n : StepState) × LeadsTo o m es n × NoNumberLeft o n e
+
+-- the same, or the last refusal is the error of the source, or says that no number is left for an anchor, where one was
+-- ever set
 abbrev pub GivesAllOr : {I V : Type 0} → (I → Origin) → (V → List PlainEvent) → OptionsData → StepState
-    → Result V Refused → Reading I → Type 0
-GivesAllOr origin view o m (Ok v) at = GivesAll view o m (Ok v)
-GivesAllOr origin view o m (Err e) at = GivesAll view o m (Err e) ⊎ IsSourceError (origin at.input) at.place e
+    → Result V Refused → Stepping I → Type 0
+GivesAllOr origin view o m (Ok v) s = GivesAll view o m (Ok v)
+GivesAllOr origin view o m (Err e) s =
+    (GivesAll view o m (Err e) ⊎ IsSourceError (origin s.scanner.cursor.input) s.scanner.cursor.place e)
+    ⊎ ((s.renumbered ≡ true) × LacksNumber o m e)
 
 -- a refusal stands at a place to which reading may have come from there
 abbrev pub IsPlacedFrom : Here → Refused → Type 0

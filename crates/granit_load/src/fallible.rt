@@ -26,6 +26,7 @@ fn gather_whole<'a, T: BorrowedInput<'a>>(
     ensures { (m : StepState) (f : Option FaultKind) → StandsAt T.unread parser.old m
         → (T.origin parser.old.stepper.scanner.cursor.input).ends_with f
         → (T.origin parser.old.stepper.scanner.cursor.input).handed_out ≡ false
+        → parser.old.stepper.renumbered ≡ false
         → GivesWhole T.unread T.origin plain_events parser.old.stepper.scanner.options m f result
         parser.old.stepper.scanner.cursor parser.new.stepper.scanner.cursor }
 {

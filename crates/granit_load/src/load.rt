@@ -100,8 +100,8 @@ pub fn gather<'a, T: BorrowedInput<'a>>(
     parser: &mut Parser<'a, T>,
 ) -> Result<Events<'a>, ScanError>
     ensures known { (m : StepState) → StandsAt T.unread parser.old m
-        → GivesAllOr T.origin plain_events parser.old.stepper.scanner.options m result
-        parser.new.stepper.scanner.cursor }
+        → GivesAllOr T.origin plain_events parser.old.stepper.scanner.options m result parser.new.stepper }
+    ensures renumbered { parser.new.stepper.renumbered ≡ parser.old.stepper.renumbered }
     ensures goes { IfOk result (λ v. Goes (T.origin parser.old.stepper.scanner.cursor.input)
         (T.origin parser.new.stepper.scanner.cursor.input)) }
     ensures failed { IfErr result (λ e. GoesGiving (T.origin parser.old.stepper.scanner.cursor.input)

@@ -9,14 +9,12 @@ use Rattle.granit_error.specs.Refused.{Refused}
 use Rattle.granit_event.specs.declared.event.Event.{Event}
 use Rattle.granit_event.specs.Events.{plain_event, plain_events}
 use Rattle.granit_input.specs.Origin.{Origin}
-use Rattle.granit_lexemes.specs.Outcome.{Fails}
 use Rattle.granit_lexemes.specs.PlainEvent.{PlainEvent, StreamEnd, event_on}
 use Rattle.granit_parser.specs.Parsing.{IsOver, Next, Parsing, StandsAt, StandsBefore}
 use Rattle.granit_parser.specs.Receiving.{none_sent, sent_on, sends_last, sends_on, SendsSome, end_again}
 use Rattle.granit_parser.specs.Receiving.{sends_some, SendsUpTo, up_to_end_again, up_to_this, IsPlaceOf}
 use Rattle.granit_receivers.specs.Sending.{is_last}
-use Rattle.granit_parser.specs.Receiving.{Loads, LoadsRest, RefusesBehind, Tries, TriesRest}
-use Rattle.granit_parser.specs.Sources.{IsSourceError}
+use Rattle.granit_parser.specs.Receiving.{Loads, LoadsRest, RefusesBehind, RefusesIn, Tries, TriesRest}
 use Rattle.granit_receivers.proofs.TakingLemmas.{took_more, took_none}
 use Rattle.granit_receivers.specs.Taking.{Told, Took}
 use Rattle.granit_receivers.specs.declared.error.TryLoadError.{TryLoadError}
@@ -116,13 +114,10 @@ module _ {I : Type 0} (unread : I → Unread → Type 0) (origin : I → Origin)
 
 -- a refusal comes first
 module _ {I : Type 0} (unread : I → Unread → Type 0) (origin : I → Origin) (o : OptionsData) (multi : Bool)
-    (m : StepState) (told : Told) (p : Parsing I) (e : Refused)
-    (fails : Fails e (next_event o m)
-    ⊎ IsSourceError (origin p.stepper.scanner.cursor.input) p.stepper.scanner.cursor.place e) where
-  nothing_sent : (f : Refused) → f ≡ e
-      → RefusesBehind origin o multi m (Took told told) p.stepper.scanner.cursor f
+    (m : StepState) (told : Told) (p : Parsing I) (e : Refused) (fails : RefusesIn origin o m p e) where
+  nothing_sent : (f : Refused) → f ≡ e → RefusesBehind origin o multi m (Took told told) p f
   nothing_sent f is =
-      subst (λ (g : Refused). RefusesBehind origin o multi m (Took told told) p.stepper.scanner.cursor g) (sym is)
+      subst (λ (g : Refused). RefusesBehind origin o multi m (Took told told) p g) (sym is)
       ([], took_none told, (m, none_sent, fails))
 
   pub load_refused : {X : Type 0} (r : Result X Refused) → IsErrAnd r (λ f. f ≡ e)

@@ -1,6 +1,6 @@
 -- Events that are sent one behind the other.
 use Rattle.std.proofs.Common.{◌≡◌, Bool, true, false, List, [], ◌∷◌, ◌++◌, Some, None, Ok, Err, sym}
-use Rattle.std.proofs.Common.{◌⊎◌, inl, inr, subst}
+use Rattle.std.proofs.Common.{◌⊎◌, inl, subst}
 use Rattle.std.proofs.lemmas.List.{append-nil, map-append}
 use Rattle.granit_base.specs.Place.{Unread, Mark}
 use Rattle.granit_base.specs.declared.place.Span.{Span}
@@ -16,7 +16,7 @@ use Rattle.granit_parser.specs.Parsing.{GivesNext, Next, Parsing, StandsAt}
 use Rattle.granit_parser.specs.Receiving.{GoesOn, none_sent, sent_on, Sends, none_left, sends_last, sends_on}
 use Rattle.granit_receivers.specs.Sending.{is_last}
 use Rattle.granit_parser.specs.Sources.{TellsSource}
-use Rattle.granit_parser.specs.Receiving.{SendsUpTo, up_to_this, StandsBehind, RefusesBehind}
+use Rattle.granit_parser.specs.Receiving.{SendsUpTo, up_to_this, StandsBehind, RefusesBehind, RefusesIn}
 use Rattle.granit_receivers.proofs.TakingLemmas.{took_none, took_more}
 use Rattle.granit_receivers.specs.Taking.{Told, Took}
 use Rattle.granit_steps.specs.Steps.{StepState, next_event}
@@ -42,7 +42,7 @@ abbrev pub TookOr : {I : Type 0} → (I → Unread → Type 0) → (I → Origin
     → Type 0
 TookOr unread origin now r after =
     (m : StepState) → StandsAt unread now m
-    → GivesNext r (StandsAt unread after) (next_event now.stepper.scanner.options m)
+    → GivesNext r (StandsAt unread after) after.stepper.renumbered now.stepper.scanner.options m
     ⊎ TellsSource origin r after.stepper.scanner.cursor
 
 abbrev pub both : (xs ys : List (Event × Span)) → plain_events (xs ++ ys) ≡ plain_events xs ++ plain_events ys
@@ -149,24 +149,15 @@ module _ {I : Type 0} (unread : I → Unread → Type 0) (origin : I → Origin)
   -- a refusal follows
   pub sent_fault : (e : Refused) → TookOr unread origin now (Some (Err e)) after → (m : StepState)
       → StandsAt unread initial m
-      → RefusesBehind origin initial.stepper.scanner.options multi m (Took old mid) after.stepper.scanner.cursor e
+      → RefusesBehind origin initial.stepper.scanner.options multi m (Took old mid) after e
   sent_fault e took m at =
-      let n = s.stands m at in (
-        s.sent,
-        s.took,
-        (
-          n.0,
-          n.2,
-          elim (took n.0 n.1) [
-            | inl fails ↦ inl (λ other. subst (λ (o : OptionsData). next_event o n.0 ≡ Err e) same (fails other))
-            | inr told ↦ inr told
-          ],
-        ),
-      )
+      let n = s.stands m at in
+      let refuses = subst (λ (o : OptionsData). RefusesIn origin o n.0 after e) same (took n.0 n.1) in
+      (s.sent, s.took, (n.0, n.2, refuses))
 
   -- memory runs out
   pub sent_no_more : (e : Refused) → e.kind ≡ NoMemory → (m : StepState) → StandsAt unread initial m
-      → RefusesBehind origin initial.stepper.scanner.options multi m (Took old mid) after.stepper.scanner.cursor e
+      → RefusesBehind origin initial.stepper.scanner.options multi m (Took old mid) after e
   sent_no_more e is m at =
       let n = s.stands m at in
-      (s.sent, s.took, (n.0, n.2, inl (λ other. absurd (other is))))
+      (s.sent, s.took, (n.0, n.2, inl (inl (λ other. absurd (other is)))))

@@ -6,11 +6,10 @@ use Rattle.std.specs.Option.{option_map}
 use Rattle.granit_base.specs.Place.{Place, Unread}
 use Rattle.granit_cursor.specs.Reading.{Moves, Reading}
 use Rattle.granit_error.specs.FaultKind.{FaultKind}
+use Rattle.granit_error.specs.OptionsData.{OptionsData}
 use Rattle.granit_error.specs.Refused.{Refused}
 use Rattle.granit_input.specs.Origin.{Origin, Goes, Gave, error_given}
 use Rattle.granit_input.proofs.OriginLemmas.{goes_nowhere, goes_on}
-use Rattle.granit_lexemes.specs.Outcome.{Fault}
-use Rattle.granit_lexemes.specs.PlainEvent.{PlainEvent}
 use Rattle.granit_parser.specs.Parsing.{EndsBehind, EndsWith, GivesNext, Next, Parsing}
 use Rattle.granit_parser.specs.Sources.{GoesGiving, GoesUnless, IfUnseen, IsSourceError, MovesUnless, TellsError}
 use Rattle.granit_parser.specs.Sources.{TellsSource, unless_failed}
@@ -124,11 +123,11 @@ module _ (a b c : Origin) (goes : Goes a b) (gave : Gave b c) where
 -- ---- what calls give
 
 -- where it then stands
-pub lands_on : (r : Next) (Here There : StepState → Type 0) (given : Result (Option PlainEvent × StepState) Fault)
-    → ((m : StepState) → Here m → There m) → GivesNext r Here given → GivesNext r There given
-lands_on None Here There given on g = (g.0, on g.0 g.1, g.2)
-lands_on (Some (Ok e)) Here There given on g = (g.0, on g.0 g.1, g.2)
-lands_on (Some (Err e)) Here There given on g = g
+pub lands_on : (r : Next) (Here There : StepState → Type 0) (renumbered : Bool) (o : OptionsData) (m : StepState)
+    → ((n : StepState) → Here n → There n) → GivesNext r Here renumbered o m → GivesNext r There renumbered o m
+lands_on None Here There renumbered o m on g = (g.0, on g.0 g.1, g.2)
+lands_on (Some (Ok e)) Here There renumbered o m on g = (g.0, on g.0 g.1, g.2)
+lands_on (Some (Err e)) Here There renumbered o m on g = g
 
 or_true : (b : Bool) → (b || true) ≡ true
 or_true true = refl
@@ -155,28 +154,33 @@ behind_on r (Some e) s t error same behind = record {
 module _ {I : Type 0} (unread : I → Unread → Type 0) (origin : I → Origin) (old mid new : Stepping I)
     (goes : Goes (origin old.scanner.cursor.input) (origin mid.scanner.cursor.input))
     (gave : Gave (origin mid.scanner.cursor.input) (origin new.scanner.cursor.input)) where
-  pub known_by : (error : Option Refused) (r : Next) (given : Result (Option PlainEvent × StepState) Fault)
+  landed : (r : Next) (b : Bool) (o : OptionsData) (m : StepState) → new.renumbered ≡ b
+      → ((n : StepState) → StandsIn unread mid n → StandsIn unread new n)
+      → GivesNext r (StandsIn unread mid) b o m → GivesNext r (StandsIn unread new) new.renumbered o m
+  landed r b o m same on gives =
+      subst (λ (c : Bool). GivesNext r (StandsIn unread new) c o m) (sym same)
+      (lands_on r (StandsIn unread mid) (StandsIn unread new) b o m on gives)
+
+  pub known_by : (error : Option Refused) (r : Next) (b : Bool) (o : OptionsData) (m : StepState) → new.renumbered ≡ b
       → option_map refused_kind error ≡ error_given (origin mid.scanner.cursor.input)
       → IfSome error (λ e. (e.mark.place ≡ new.scanner.cursor.place) × (e.sources ≡ []))
       → ((m : StepState) → StandsIn unread mid m → error ≡ None → StandsIn unread new m)
-      → GivesNext r (StandsIn unread mid) given
-      → GivesNext (unless_failed r error) (StandsIn unread new) given
+      → GivesNext r (StandsIn unread mid) b o m
+      → GivesNext (unless_failed r error) (StandsIn unread new) new.renumbered o m
       ⊎ TellsSource origin (unless_failed r error) new.scanner.cursor
-  known_by None r given is placed on gives =
-      inl (lands_on r (StandsIn unread mid) (StandsIn unread new) given (λ m at. on m at refl) gives)
-  known_by (Some e) r given is placed on gives = inr (source_tells (origin old.scanner.cursor.input)
+  known_by None r b o m same is placed on gives = inl (landed r b o m same (λ n at. on n at refl) gives)
+  known_by (Some e) r b o m same is placed on gives = inr (source_tells (origin old.scanner.cursor.input)
       (origin mid.scanner.cursor.input) (origin new.scanner.cursor.input) goes gave e new.scanner.cursor.place is
       placed.0 placed.1)
 
-  pub sure_by : (error : Option Refused) (r : Next) (given : Result (Option PlainEvent × StepState) Fault)
+  pub sure_by : (error : Option Refused) (r : Next) (b : Bool) (o : OptionsData) (m : StepState) → new.renumbered ≡ b
       → option_map refused_kind error ≡ error_given (origin mid.scanner.cursor.input)
       → ((m : StepState) → StandsIn unread mid m → error ≡ None → StandsIn unread new m)
       → (origin new.scanner.cursor.input).error ≡ None
-      → GivesNext r (StandsIn unread mid) given
-      → GivesNext (unless_failed r error) (StandsIn unread new) given
-  sure_by None r given is on none gives =
-      lands_on r (StandsIn unread mid) (StandsIn unread new) given (λ m at. on m at refl) gives
-  sure_by (Some e) r given is on none gives =
+      → GivesNext r (StandsIn unread mid) b o m
+      → GivesNext (unless_failed r error) (StandsIn unread new) new.renumbered o m
+  sure_by None r b o m same is on none gives = landed r b o m same (λ n at. on n at refl) gives
+  sure_by (Some e) r b o m same is on none gives =
       let met = given_met (origin mid.scanner.cursor.input) e.kind is in
       absurd (let no : None ≡ Some e.kind = sym none ∙ gave.error ∙ met in cc)
 

@@ -1,6 +1,6 @@
 -- What the calls give one by one from any beginning is what the run from there answers.
 use Rattle.std.proofs.Common.{◌≡◌, ℕ, zero, suc, ◌<◌, List, [], ◌∷◌, Option, Some, None, Result, Ok, Err}
-use Rattle.std.proofs.Common.{refl, sym, ap, subst, ◌∙◌, arith}
+use Rattle.std.proofs.Common.{refl, sym, ap, subst, ◌∙◌, inl, inr, Bool, arith}
 use Rattle.std.proofs.lemmas.List.{append-nil}
 use Rattle.granit_base.specs.Place.{Mark}
 use Rattle.granit_error.specs.OptionsData.{OptionsData}
@@ -184,13 +184,15 @@ module _ (o : OptionsData) where
     told_all : (f : Option Fault) → future o m ≡ ([], f) → told_from o h ≡ (es, f)
     told_all f is = told_behind_them ([], f) is ∙ ap (λ (xs : List PlainEvent). (xs, f)) (append-nil es)
 
-    pub ends_told : (r : Next) (Lands : StepState → Type 0) → GivesNext r Lands (next_event o m)
-        → EndsTold (told_from o h) es r
-    ends_told None Lands g = told_all None (next_is (Ok (None, g.0)) g.2).1
-    ends_told (Some (Ok e)) Lands g = (
+    pub ends_told : (r : Next) (Lands : StepState → Type 0) (renumbered : Bool) → GivesNext r Lands renumbered o m
+        → EndsTold (told_from o h) o es renumbered m r
+    ends_told None Lands renumbered g = told_all None (next_is (Ok (None, g.0)) g.2).1
+    ends_told (Some (Ok e)) Lands renumbered g = (
       (future o g.0).0,
       ap (λ (x : Told). x.0)
           (told_behind_them (before_told (plain_event e ∷ []) (future o g.0))
           (next_is (Ok (Some (plain_event e), g.0)) g.2).1),
     )
-    ends_told (Some (Err e)) Lands g = λ other. told_all (Some e) (next_is (Err e) (g other))
+    ends_told (Some (Err e)) Lands renumbered (inl fails) =
+        inl (λ other. told_all (Some e) (next_is (Err e) (fails other)))
+    ends_told (Some (Err e)) Lands renumbered (inr left) = inr left

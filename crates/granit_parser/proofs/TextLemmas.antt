@@ -1,6 +1,6 @@
 -- What the laws of the plain machine say of the calls that give a text's events one by one.
 use Rattle.std.proofs.Common.{◌≡◌, ◌≢◌, ℕ, List, [], ◌∷◌, ◌++◌, Option, Some, None, Result, Ok, Err, ◌⊎◌, inl, inr}
-use Rattle.std.proofs.Common.{refl, sym, ap, ap₂, ◌∙◌, subst, append_assoc}
+use Rattle.std.proofs.Common.{Bool, refl, sym, ap, ap₂, ◌∙◌, subst, append_assoc}
 use Rattle.granit_answers.proofs.CommentsCaused.{any_fault_caused}
 use Rattle.granit_answers.proofs.OneCause.{answer_reads}
 use Rattle.granit_before.specs.DeclaredCause.{DeclaredCause}
@@ -33,7 +33,7 @@ given_behind o m last es f (first_given {next = next} {es = rest} is leads) more
     gives_event is (given_behind o next last rest f leads more)
 
 -- one event more is given
-leads_more : (o : OptionsData) {m last after : StepState} {es : List PlainEvent} {e : PlainEvent} →
+pub leads_more : (o : OptionsData) {m last after : StepState} {es : List PlainEvent} {e : PlainEvent} →
     LeadsTo o m es last → next_event o last ≡ Ok (Some e, after) → LeadsTo o m (es ++ e ∷ []) after
 leads_more o none_given is = first_given is none_given
 leads_more o (first_given was leads) is = first_given was (leads_more o leads is)
@@ -90,10 +90,18 @@ module _ (o : OptionsData) (x : List ℕ) (es : List PlainEvent) (m : StepState)
         BeginsStream (es ++ e ∷ [])
     event_begins e after is = front_begins o x (es ++ e ∷ []) after (leads_more o leads is)
 
-    pub ends_text : (r : Next) (Lands : StepState → Type 0) → GivesNext r Lands (next_event o m) → EndsText o x es r
-    ends_text None Lands g =
+    pub ends_text : (r : Next) (Lands : StepState → Type 0) (renumbered : Bool) → GivesNext r Lands renumbered o m
+        → EndsText o x es renumbered m r
+    ends_text None Lands renumbered g =
         let answer : run o x ≡ Ok es =
         steps_give o x es None (given_behind o (steps_start x) m es None leads (gives_end g.2)) in
         (answer_declared o x es (answer_reads o x es answer), run_is_stream o x es answer)
-    ends_text (Some (Ok e)) Lands g = event_begins (plain_event e) g.0 g.2
-    ends_text (Some (Err e)) Lands g = (begins_stream, caused e (memory_or_not e.kind) g)
+    ends_text (Some (Ok e)) Lands renumbered g = event_begins (plain_event e) g.0 g.2
+    ends_text (Some (Err e)) Lands renumbered (inl fails) = (
+      begins_stream,
+      elim (caused e (memory_or_not e.kind) fails) [
+        | inl is ↦ inl is
+        | inr cause ↦ inr (inl cause)
+      ],
+    )
+    ends_text (Some (Err e)) Lands renumbered (inr left) = (begins_stream, inr (inr left))

@@ -12,10 +12,11 @@ use Rattle.granit_error.specs.Refused.{Refused}
 use Rattle.granit_event.specs.declared.event.Event.{Event}
 use Rattle.granit_event.specs.Events.{plain_event}
 use Rattle.granit_input.specs.Origin.{Origin}
-use Rattle.granit_lexemes.specs.Outcome.{Fault, Fails}
+use Rattle.granit_lexemes.specs.Outcome.{Fails}
 use Rattle.granit_lexemes.specs.PlainEvent.{PlainEvent}
 use Rattle.granit_parser.specs.Sources.{IfUnseen, MovesUnless, TellsError, TellsSource}
 use Rattle.granit_receivers.specs.Kept.{IsKept}
+use Rattle.granit_stepper.specs.Numbers.{RefusesNumber}
 use Rattle.granit_stepper.specs.Stepping as stepping
 use Rattle.granit_stepper.specs.Stepping.{Stepping, StandsIn}
 use Rattle.granit_steps.specs.Levels.{IsStream, BeginsStream}
@@ -52,26 +53,26 @@ abbrev pub keeping : {I : Type 0} → Bool → Parsing I → Parsing I
 keeping keep p = record p { stepper = stepping.keeping keep p.stepper }
 
 -- a call gives what the machine's step gives, and a state is then known in which that ends; a refusal is its fault,
--- unless memory ran out
-abbrev pub GivesNext : Next → (StepState → Type 0) → Result (Option PlainEvent × StepState) Fault → Type 0
-GivesNext None Lands given = (after : StepState) × Lands after × (given ≡ Ok (None, after))
-GivesNext (Some (Ok e)) Lands given = (after : StepState) × Lands after × (given ≡ Ok (Some (plain_event e), after))
-GivesNext (Some (Err e)) Lands given = Fails e given
+-- unless memory ran out, or says that no number is left for an anchor
+abbrev pub GivesNext : Next → (StepState → Type 0) → (renumbered : Bool) → OptionsData → StepState → Type 0
+GivesNext None Lands renumbered o m = (after : StepState) × Lands after × (next_event o m ≡ Ok (None, after))
+GivesNext (Some (Ok e)) Lands renumbered o m =
+    (after : StepState) × Lands after × (next_event o m ≡ Ok (Some (plain_event e), after))
+GivesNext (Some (Err e)) Lands renumbered o m = Fails e (next_event o m) ⊎ RefusesNumber renumbered o m e
 
 -- a state of the machine in which a stepper is known to be, or out of which what was looked at led it
 abbrev pub StandsBefore : {I : Type 0} → (I → Unread → Type 0) → Next → Stepping I → StepState → Type 0
 StandsBefore unread None s m = StandsIn unread s m
-StandsBefore unread (Some r) s m = GivesNext (Some r) (StandsIn unread s) (next_event s.scanner.options m)
+StandsBefore unread (Some r) s m = GivesNext (Some r) (StandsIn unread s) s.renumbered s.scanner.options m
 
 -- a parser is known to be in a state of the machine
 abbrev pub StandsAt : {I : Type 0} → (I → Unread → Type 0) → Parsing I → StepState → Type 0
 StandsAt unread p m = StandsBefore unread p.peeked p.stepper m
 
 -- a look shows what the machine's step gives: a parser is then known to stand before it, or behind the end
-abbrev pub ShowsNext : {I : Type 0} → (I → Unread → Type 0) → Next → Parsing I → StepState
-    → Result (Option PlainEvent × StepState) Fault → Type 0
-ShowsNext unread None p m given = GivesNext None (StandsAt unread p) given
-ShowsNext unread (Some r) p m given = StandsAt unread p m
+abbrev pub ShowsNext : {I : Type 0} → (I → Unread → Type 0) → Next → Parsing I → OptionsData → StepState → Type 0
+ShowsNext unread None p o m = GivesNext None (StandsAt unread p) p.stepper.renumbered o m
+ShowsNext unread (Some r) p o m = StandsAt unread p m
 
 -- a parser gives nothing more
 pub record IsOver {I : Type 0} (p : Parsing I) : Type 0 where
@@ -84,13 +85,14 @@ pub record PeeksAs {I : Type 0} (unread : I → Unread → Type 0) (left : I →
   pub shown : r ≡ new.peeked
   pub known : (m : StepState) → StandsAt unread old m
       → (origin new.stepper.scanner.cursor.input).error ≡ None
-      → ShowsNext unread r new m (next_event old.stepper.scanner.options m)
+      → ShowsNext unread r new old.stepper.scanner.options m
   pub source : IfUnseen old.peeked (TellsError origin old.stepper r new.stepper.scanner.cursor)
   pub seen : IfSome old.peeked (λ x. new ≡ old)
   pub given : new.given ≡ old.given
   pub refused : EndsWith r new.stepper
   pub over : IsOver old → new ≡ old
   pub options : new.stepper.scanner.options ≡ old.stepper.scanner.options
+  pub renumbered : new.stepper.renumbered ≡ old.stepper.renumbered
   pub moves : IfUnseen old.peeked (MovesUnless left origin r old.stepper.scanner.cursor new.stepper.scanner.cursor)
   pub onward : GoesOnward unread old.stepper.scanner.cursor new.stepper.scanner.cursor
 
@@ -98,7 +100,7 @@ pub record PeeksAs {I : Type 0} (unread : I → Unread → Type 0) (left : I →
 pub record StepsTo {I : Type 0} (unread : I → Unread → Type 0) (left : I → ℕ) (origin : I → Origin) (p : Parsing I)
     (r : Next) (q : Parsing I) : Type 0 where
   pub known : (m : StepState) → StandsAt unread p m
-      → GivesNext r (StandsAt unread q) (next_event p.stepper.scanner.options m)
+      → GivesNext r (StandsAt unread q) q.stepper.renumbered p.stepper.scanner.options m
       ⊎ TellsSource origin r q.stepper.scanner.cursor
   pub source : IfUnseen p.peeked (TellsError origin p.stepper r q.stepper.scanner.cursor)
   pub seen : IfSome p.peeked (λ x. (r ≡ Some x) × (q.stepper ≡ p.stepper))
@@ -107,6 +109,7 @@ pub record StepsTo {I : Type 0} (unread : I → Unread → Type 0) (left : I →
   pub refused : EndsWith r q.stepper
   pub over : IsOver p → (r ≡ None) × (q ≡ p)
   pub options : q.stepper.scanner.options ≡ p.stepper.scanner.options
+  pub renumbered : q.stepper.renumbered ≡ p.stepper.renumbered
   pub moves : IfUnseen p.peeked (MovesUnless left origin r p.stepper.scanner.cursor q.stepper.scanner.cursor)
   pub onward : GoesOnward unread p.stepper.scanner.cursor q.stepper.scanner.cursor
 
@@ -116,18 +119,21 @@ pub data LeadsTo (o : OptionsData) : StepState → List PlainEvent → StepState
   first_given : {m next last : StepState} {e : PlainEvent} {es : List PlainEvent}
       → next_event o m ≡ Ok (Some e, next) → LeadsTo o next es last → LeadsTo o m (e ∷ es) last
 
--- Behind these events of a text: where there is nothing more, they are the events of its reading, a whole stream; an
--- event goes on with what begins a stream; and a refusal, behind such events, is for want of memory or a cause of the
--- text, and names no source.
-abbrev pub EndsText : OptionsData → List ℕ → List PlainEvent → Next → Type 0
-EndsText o x es None = DeclaredReading o x es × IsStream es
-EndsText o x es (Some (Ok e)) = BeginsStream (es ++ plain_event e ∷ [])
-EndsText o x es (Some (Err e)) =
-    BeginsStream es × ((e.kind ≡ NoMemory) ⊎ (DeclaredCause o x e × (e.sources ≡ [])))
+-- Behind these events of a text, in that state: where there is nothing more, they are the events of its reading, a
+-- whole stream; an event goes on with what begins a stream; and a refusal, behind such events, is for want of memory,
+-- or a cause of the text that names no source, or says that no number is left for an anchor.
+abbrev pub EndsText : OptionsData → List ℕ → List PlainEvent → (renumbered : Bool) → StepState → Next → Type 0
+EndsText o x es renumbered m None = DeclaredReading o x es × IsStream es
+EndsText o x es renumbered m (Some (Ok e)) = BeginsStream (es ++ plain_event e ∷ [])
+EndsText o x es renumbered m (Some (Err e)) =
+    BeginsStream es
+    × ((e.kind ≡ NoMemory) ⊎ ((DeclaredCause o x e × (e.sources ≡ [])) ⊎ RefusesNumber renumbered o m e))
 
--- Behind these events of all that is told from a beginning: where there is nothing more, they are all; an event is the
--- next one, so that with each one fewer is left; and a refusal is what ends them, unless memory ran out.
-abbrev pub EndsTold : Told → List PlainEvent → Next → Type 0
-EndsTold all es None = all ≡ (es, None)
-EndsTold all es (Some (Ok e)) = (more : List PlainEvent) × (all.0 ≡ es ++ plain_event e ∷ more)
-EndsTold all es (Some (Err e)) = (e.kind ≡ NoMemory → ⊥) → all ≡ (es, Some e)
+-- Behind these events of all that is told from a beginning, in that state: where there is nothing more, they are all;
+-- an event is the next one, so that with each one fewer is left; and a refusal is what ends them, unless memory ran
+-- out, or says that no number is left for an anchor.
+abbrev pub EndsTold : Told → OptionsData → List PlainEvent → (renumbered : Bool) → StepState → Next → Type 0
+EndsTold all o es renumbered m None = all ≡ (es, None)
+EndsTold all o es renumbered m (Some (Ok e)) = (more : List PlainEvent) × (all.0 ≡ es ++ plain_event e ∷ more)
+EndsTold all o es renumbered m (Some (Err e)) =
+    ((e.kind ≡ NoMemory → ⊥) → all ≡ (es, Some e)) ⊎ RefusesNumber renumbered o m e

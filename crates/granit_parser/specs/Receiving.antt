@@ -10,7 +10,7 @@ use Rattle.granit_event.specs.declared.event.Event.{Event}
 use Rattle.granit_event.specs.Events.{plain_event, plain_events}
 use Rattle.granit_input.specs.Origin.{Origin}
 use Rattle.granit_lexemes.specs.Here.{Here, mark_of}
-use Rattle.granit_lexemes.specs.Outcome.{Fault, Fails}
+use Rattle.granit_lexemes.specs.Outcome.{Fails}
 use Rattle.granit_lexemes.specs.PlainEvent.{PlainEvent, StreamEnd, event_on}
 use Rattle.granit_parser.specs.Parsing.{Parsing, StandsAt}
 use Rattle.granit_parser.specs.Sources.{IsSourceError}
@@ -18,6 +18,7 @@ use Rattle.granit_receivers.specs.Kept.{IsKept}
 use Rattle.granit_receivers.specs.Sending.{is_last}
 use Rattle.granit_receivers.specs.declared.error.TryLoadError.{TryLoadError}
 use Rattle.granit_receivers.specs.declared.error.TryLoadError.TheVariants.{Scan, Receiver}
+use Rattle.granit_stepper.specs.Numbers.{RefusesNumber}
 use Rattle.granit_steps.specs.Steps.{StepState, next_event}
 
 -- one by one these events are given from a state up to another one, and none of them is the last that is sent
@@ -56,13 +57,19 @@ IsPlaceOf unread r mark = (h : Here) → Stands unread r h → mark ≡ mark_of 
 
 -- ---- what is answered, by what the receiver took and where the parser then stands
 
--- a refusal comes behind events that were sent: the machine's, unless memory ran out, or the error of the source
+-- a refusal in a state: the machine's, unless memory ran out, or that no number is left for an anchor, or the error of
+-- the source
+abbrev pub RefusesIn : {I : Type 0} → (I → Origin) → OptionsData → StepState → Parsing I → Refused → Type 0
+RefusesIn origin o m p e =
+    (Fails e (next_event o m) ⊎ RefusesNumber p.stepper.renumbered o m e)
+    ⊎ IsSourceError (origin p.stepper.scanner.cursor.input) p.stepper.scanner.cursor.place e
+
+-- a refusal comes behind events that were sent
 abbrev pub RefusesBehind : {I : Type 0} → (I → Origin) → OptionsData → Bool → StepState
-    → (List (Event × Span) → Type 0) → Reading I → Refused → Type 0
-RefusesBehind origin o multi m Takes at e =
+    → (List (Event × Span) → Type 0) → Parsing I → Refused → Type 0
+RefusesBehind origin o multi m Takes p e =
     (xs : List (Event × Span)) × Takes xs
-    × ((n : StepState) × GoesOn o multi m (plain_events xs) n
-    × (Fails e (next_event o n) ⊎ IsSourceError (origin at.input) at.place e))
+    × ((n : StepState) × GoesOn o multi m (plain_events xs) n × RefusesIn origin o n p e)
 
 -- these events were sent, and the parser stands behind them
 abbrev pub StandsBehind : {I : Type 0} → (I → Unread → Type 0) → (List (Event × Span) → Type 0) → Parsing I
@@ -75,21 +82,20 @@ StandsBehind unread Takes p Sent =
 abbrev pub LoadsRest : {I X : Type 0} → (I → Unread → Type 0) → (I → Origin) → OptionsData → Bool → StepState
     → (List (Event × Span) → Type 0) → Parsing I → Result X Refused → Type 0
 LoadsRest unread origin o multi m Takes p (Ok x) = StandsBehind unread Takes p (Sends o multi m)
-LoadsRest unread origin o multi m Takes p (Err e) = RefusesBehind origin o multi m Takes p.stepper.scanner.cursor e
+LoadsRest unread origin o multi m Takes p (Err e) = RefusesBehind origin o multi m Takes p e
 
 -- what is sent in all
 abbrev pub Loads : {I X : Type 0} → (I → Unread → Type 0) → (I → Origin) → OptionsData → Bool → StepState
     → (List (Event × Span) → Type 0) → Parsing I → Result X Refused → Type 0
 Loads unread origin o multi m Takes p (Ok x) =
     StandsBehind unread Takes p (SendsSome o multi (IsPlaceOf unread p.stepper.scanner.cursor) m)
-Loads unread origin o multi m Takes p (Err e) = RefusesBehind origin o multi m Takes p.stepper.scanner.cursor e
+Loads unread origin o multi m Takes p (Err e) = RefusesBehind origin o multi m Takes p e
 
 -- the same where the receiver may refuse an event, the last one that it took
 abbrev pub TriesRest : {I X E : Type 0} → (I → Unread → Type 0) → (I → Origin) → OptionsData → Bool → StepState
     → (List (Event × Span) → Type 0) → Parsing I → Result X (TryLoadError E) → Type 0
 TriesRest unread origin o multi m Takes p (Ok x) = StandsBehind unread Takes p (Sends o multi m)
-TriesRest unread origin o multi m Takes p (Err (Scan e)) =
-    RefusesBehind origin o multi m Takes p.stepper.scanner.cursor e
+TriesRest unread origin o multi m Takes p (Err (Scan e)) = RefusesBehind origin o multi m Takes p e
 TriesRest unread origin o multi m Takes p (Err (Receiver e)) =
     StandsBehind unread Takes p (SendsUpTo o multi (λ mark. ⊥) m)
 
@@ -97,7 +103,7 @@ abbrev pub Tries : {I X E : Type 0} → (I → Unread → Type 0) → (I → Ori
     → (List (Event × Span) → Type 0) → Parsing I → Result X (TryLoadError E) → Type 0
 Tries unread origin o multi m Takes p (Ok x) =
     StandsBehind unread Takes p (SendsSome o multi (IsPlaceOf unread p.stepper.scanner.cursor) m)
-Tries unread origin o multi m Takes p (Err (Scan e)) = RefusesBehind origin o multi m Takes p.stepper.scanner.cursor e
+Tries unread origin o multi m Takes p (Err (Scan e)) = RefusesBehind origin o multi m Takes p e
 Tries unread origin o multi m Takes p (Err (Receiver e)) =
     StandsBehind unread Takes p (SendsUpTo o multi (IsPlaceOf unread p.stepper.scanner.cursor) m)
 
@@ -119,15 +125,14 @@ abbrev pub IsEndAt : {I : Type 0} → (I → Unread → Type 0) → Reading I �
 IsEndAt unread r x = (mark : Mark) × IsPlaceOf unread r mark × (plain_event x ≡ event_on StreamEnd mark)
 
 -- the first event that is sent is the machine's next, or, where it has none, the end of the stream at the place up to
--- which was read; a refusal is the machine's, or the error of the source
-abbrev pub GivesFirst : {I : Type 0} → (I → Unread → Type 0) → (I → Origin) → Parsing I
-    → Result (Option PlainEvent × StepState) Fault → Result (Event × Span) Refused → Type 0
-GivesFirst unread origin p given (Ok x) =
+-- which was read
+abbrev pub GivesFirst : {I : Type 0} → (I → Unread → Type 0) → (I → Origin) → Parsing I → OptionsData → StepState
+    → Result (Event × Span) Refused → Type 0
+GivesFirst unread origin p o m (Ok x) =
     (after : StepState) × StandsAt unread p after
-    × ((given ≡ Ok (Some (plain_event x), after))
-    ⊎ ((given ≡ Ok (None, after)) × IsEndAt unread p.stepper.scanner.cursor x))
-GivesFirst unread origin p given (Err e) =
-    Fails e given ⊎ IsSourceError (origin p.stepper.scanner.cursor.input) p.stepper.scanner.cursor.place e
+    × ((next_event o m ≡ Ok (Some (plain_event x), after))
+    ⊎ ((next_event o m ≡ Ok (None, after)) × IsEndAt unread p.stepper.scanner.cursor x))
+GivesFirst unread origin p o m (Err e) = RefusesIn origin o m p e
 
 -- the same of a sending that the receiver may end: what it refuses is not kept
 abbrev pub KeepsScan : {X E : Type 0} → Result X (TryLoadError E) → Option Refused → Type 0

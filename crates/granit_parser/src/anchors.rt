@@ -17,7 +17,8 @@ impl<'input, T: Input> Parser<'input, T> {
         self.stepper.anchor_offset()
     }
 
-    /// From now on the next anchor that is read gets this number; 0 is as 1. What was looked at stays as it is.
+    /// From now on the next anchor that is read gets this number; 0 is as 1, and the greatest one is left to none. What
+    /// was looked at stays as it is.
     pub fn set_anchor_offset(&mut self, offset: usize)
         ensures known { (m : StepState) → StandsIn T.unread self.old.stepper m
             → StandsIn T.unread self.new.stepper (with_offset offset m) }

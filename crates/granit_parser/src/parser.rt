@@ -65,6 +65,7 @@ impl<'input> Parser<'input, StrInput<'input>> {
         ensures start { StandsAt Leaves result (steps.steps_start (chars value.now)) }
         ensures options { result.stepper.scanner.options ≡ default_options }
         ensures unseen { result.peeked ≡ None }
+        ensures renumbered { result.stepper.renumbered ≡ false }
     {
         Parser::new_from_str_with_options(alloc, value, Options::default())
     }
@@ -78,6 +79,7 @@ impl<'input> Parser<'input, StrInput<'input>> {
         ensures start { StandsAt Leaves result (steps.steps_start (chars value.now)) }
         ensures options { result.stepper.scanner.options ≡ options_of options }
         ensures unseen { result.peeked ≡ None }
+        ensures renumbered { result.stepper.renumbered ≡ false }
     {
         Parser::with_options(alloc, StrInput::new(value), options)
     }
@@ -90,6 +92,7 @@ impl<'input, T: BorrowedInput<'input>> Parser<'input, T> {
             → h.tab ≡ None → StandsAt T.unread result (steps.start_from h) }
         ensures options { result.stepper.scanner.options ≡ default_options }
         ensures unseen { result.peeked ≡ None }
+        ensures renumbered { result.stepper.renumbered ≡ false }
         ensures input { result.stepper.scanner.cursor.input ≡ src }
     {
         Parser::with_options(alloc, src, Options::default())
@@ -101,6 +104,7 @@ impl<'input, T: BorrowedInput<'input>> Parser<'input, T> {
             → h.tab ≡ None → StandsAt T.unread result (steps.start_from h) }
         ensures options { result.stepper.scanner.options ≡ options_of options }
         ensures unseen { result.peeked ≡ None }
+        ensures renumbered { result.stepper.renumbered ≡ false }
         ensures input { result.stepper.scanner.cursor.input ≡ src }
     {
         Parser {
@@ -116,25 +120,29 @@ impl<'input, T: BorrowedInput<'input>> Parser<'input, T> {
     /// The contract: from a state of the plain machine it gives what that gives (`known`). Behind the first events of a
     /// text, an event goes on with what begins a stream, a refusal is a cause of the text, and where nothing more
     /// comes, they are the events of its reading, a whole stream (`text`). Each event takes one of the finite list that
-    /// is told of the input, so there are no more of them (`told`). The first error of the input's source stands in the
-    /// place of all that was read up to it (`source`). A refusal that is given is kept (`given`).
+    /// is told of the input, so there are no more of them (`told`). Where the number of a next anchor was ever set, an
+    /// anchor that would get the greatest one is refused instead; a parser that is known to stand in a state has given
+    /// none that number. The first error of the input's source stands in the place of all that was read up to it
+    /// (`source`). A refusal that is given is kept (`given`).
     ///
     /// # Errors
     ///
-    /// What is wrong with the input there, by the kinds of `docs/FAULTS.md`, and `NoMemory`.
+    /// What is wrong with the input there, by the kinds of `docs/FAULTS.md`, `AnchorCountOverflow` at an anchor for
+    /// which no number is left, and `NoMemory`.
     pub fn next_event(&mut self) -> Option<Result<(Event<'input>, Span), ScanError>>
         ensures known { (m : StepState) → StandsAt T.unread self.old m → GivesNext result (StandsAt T.unread self.new)
-            (steps.next_event self.old.stepper.scanner.options m)
+            self.new.stepper.renumbered self.old.stepper.scanner.options m
             ⊎ TellsSource T.origin result self.new.stepper.scanner.cursor }
         ensures source { IfUnseen self.old.peeked (TellsError T.origin self.old.stepper result
             self.new.stepper.scanner.cursor) }
         ensures text { (x : List ℕ) (es : List PlainEvent) (m : StepState) → StandsAt T.unread self.old m
             → LeadsTo self.old.stepper.scanner.options (steps.steps_start x) es m
-            → EndsText self.old.stepper.scanner.options x es result
+            → EndsText self.old.stepper.scanner.options x es self.new.stepper.renumbered m result
             ⊎ TellsSource T.origin result self.new.stepper.scanner.cursor }
         ensures told { (h : Here) (es : List PlainEvent) (m : StepState) → StandsAt T.unread self.old m
             → LeadsTo self.old.stepper.scanner.options (steps.start_from h) es m
-            → EndsTold (told_from self.old.stepper.scanner.options h) es result
+            → EndsTold (told_from self.old.stepper.scanner.options h) self.old.stepper.scanner.options es
+            self.new.stepper.renumbered m result
             ⊎ TellsSource T.origin result self.new.stepper.scanner.cursor }
         ensures peeked { self.new.peeked ≡ None }
         ensures given { Keeps result self.old.given self.new.given }
@@ -142,6 +150,7 @@ impl<'input, T: BorrowedInput<'input>> Parser<'input, T> {
         ensures refused { EndsWith result self.new.stepper }
         ensures over { IsOver self.old → (result ≡ None) × (self.new ≡ self.old) }
         ensures options { self.new.stepper.scanner.options ≡ self.old.stepper.scanner.options }
+        ensures renumbered { self.new.stepper.renumbered ≡ self.old.stepper.renumbered }
         ensures moves { IfUnseen self.old.peeked (MovesUnless T.left T.origin result
             self.old.stepper.scanner.cursor self.new.stepper.scanner.cursor) }
         ensures onward { GoesOnward T.unread self.old.stepper.scanner.cursor self.new.stepper.scanner.cursor }
@@ -152,7 +161,7 @@ impl<'input, T: BorrowedInput<'input>> Parser<'input, T> {
     /// What was looked at, or the next event.
     fn take_event(&mut self) -> Option<Result<(Event<'input>, Span), ScanError>>
         ensures known { (m : StepState) → StandsAt T.unread self.old m → GivesNext result (StandsAt T.unread self.new)
-            (steps.next_event self.old.stepper.scanner.options m)
+            self.new.stepper.renumbered self.old.stepper.scanner.options m
             ⊎ TellsSource T.origin result self.new.stepper.scanner.cursor }
         ensures source { IfUnseen self.old.peeked (TellsError T.origin self.old.stepper result
             self.new.stepper.scanner.cursor) }
@@ -162,6 +171,7 @@ impl<'input, T: BorrowedInput<'input>> Parser<'input, T> {
         ensures refused { EndsWith result self.new.stepper }
         ensures over { IsOver self.old → (result ≡ None) × (self.new ≡ self.old) }
         ensures options { self.new.stepper.scanner.options ≡ self.old.stepper.scanner.options }
+        ensures renumbered { self.new.stepper.renumbered ≡ self.old.stepper.renumbered }
         ensures moves { IfUnseen self.old.peeked (MovesUnless T.left T.origin result
             self.old.stepper.scanner.cursor self.new.stepper.scanner.cursor) }
         ensures onward { GoesOnward T.unread self.old.stepper.scanner.cursor self.new.stepper.scanner.cursor }
@@ -224,18 +234,19 @@ impl<'input, T: BorrowedInput<'input>> Parser<'input, T> {
     fn read_event(&mut self) -> Option<Result<(Event<'input>, Span), ScanError>>
         ensures known { (m : StepState) → StandsIn T.unread self.old.stepper m
             → GivesNext result (StandsIn T.unread self.new.stepper)
-            (steps.next_event self.old.stepper.scanner.options m)
+            self.new.stepper.renumbered self.old.stepper.scanner.options m
             ⊎ TellsSource T.origin result self.new.stepper.scanner.cursor }
         ensures sure { (m : StepState) → StandsIn T.unread self.old.stepper m
             → (T.origin self.new.stepper.scanner.cursor.input).error ≡ None
             → GivesNext result (StandsIn T.unread self.new.stepper)
-            (steps.next_event self.old.stepper.scanner.options m) }
+            self.new.stepper.renumbered self.old.stepper.scanner.options m }
         ensures source { TellsError T.origin self.old.stepper result self.new.stepper.scanner.cursor }
         ensures peeked { self.new.peeked ≡ self.old.peeked }
         ensures given { self.new.given ≡ self.old.given }
         ensures refused { EndsWith result self.new.stepper }
         ensures over { self.old.stepper.failed ≡ true → (result ≡ None) × (self.new ≡ self.old) }
         ensures options { self.new.stepper.scanner.options ≡ self.old.stepper.scanner.options }
+        ensures renumbered { self.new.stepper.renumbered ≡ self.old.stepper.renumbered }
         ensures moves { MovesUnless T.left T.origin result self.old.stepper.scanner.cursor
             self.new.stepper.scanner.cursor }
         ensures onward { GoesOnward T.unread self.old.stepper.scanner.cursor self.new.stepper.scanner.cursor }
@@ -267,6 +278,7 @@ impl<'input, T: BorrowedInput<'input>> Parser<'input, T> {
         ensures kept { self.new.given ≡ self.old.given }
         ensures failed { self.new.stepper.failed ≡ (self.old.stepper.failed || is_some result) }
         ensures options { self.new.stepper.scanner.options ≡ self.old.stepper.scanner.options }
+        ensures renumbered { self.new.stepper.renumbered ≡ self.old.stepper.renumbered }
         ensures left { T.left self.new.stepper.scanner.cursor.input ≤ T.left self.old.stepper.scanner.cursor.input }
         ensures origin { Gave (T.origin self.old.stepper.scanner.cursor.input)
             (T.origin self.new.stepper.scanner.cursor.input) }
@@ -279,12 +291,13 @@ impl<'input, T: BorrowedInput<'input>> Parser<'input, T> {
     fn step_event(&mut self) -> Option<Result<(Event<'input>, Span), ScanError>>
         ensures known { (m : StepState) → StandsIn T.unread self.old.stepper m
             → GivesNext result (StandsIn T.unread self.new.stepper)
-            (steps.next_event self.old.stepper.scanner.options m) }
+            self.old.stepper.renumbered self.old.stepper.scanner.options m }
         ensures peeked { self.new.peeked ≡ self.old.peeked }
         ensures given { self.new.given ≡ self.old.given }
         ensures refused { EndsWith result self.new.stepper }
         ensures over { self.old.stepper.failed ≡ true → (result ≡ None) × (self.new ≡ self.old) }
         ensures options { self.new.stepper.scanner.options ≡ self.old.stepper.scanner.options }
+        ensures renumbered { self.new.stepper.renumbered ≡ self.old.stepper.renumbered }
         ensures moves { Moves T.unread T.left T.origin self.old.stepper.scanner.cursor self.new.stepper.scanner.cursor }
     {
         match self.stepper.next_event(self.alloc) {
@@ -311,6 +324,7 @@ impl<'input, T: BorrowedInput<'input>> Parser<'input, T> {
             × (e.sources ≡ [])) }
         ensures failed { self.new.stepper.failed ≡ (self.old.stepper.failed || is_some result) }
         ensures options { self.new.stepper.scanner.options ≡ self.old.stepper.scanner.options }
+        ensures renumbered { self.new.stepper.renumbered ≡ self.old.stepper.renumbered }
         ensures peeked { self.new.peeked ≡ self.old.peeked }
         ensures given { self.new.given ≡ self.old.given }
         ensures onward { GoesOnward T.unread self.old.stepper.scanner.cursor self.new.stepper.scanner.cursor }

@@ -12,7 +12,6 @@ ghost use Rattle.granit_parser.specs.Receiving.{TriesRest, scanned};
 ghost use Rattle.granit_parser.specs.Sources.{IfUnseen, MovesUnless, TellsError, TellsMet};
 ghost use Rattle.granit_receivers.specs.Kept.{CountsErrors, GivesAgain, KeptAgain, ScansAgain};
 ghost use Rattle.granit_receivers.specs.Taking.{Took};
-ghost use Rattle.granit_steps.specs.Steps as steps;
 ghost use Rattle.granit_steps.specs.Steps.{StepState};
 
 use crate::parser::Parser;
@@ -48,6 +47,7 @@ impl<'input, T: BorrowedInput<'input>> Parser<'input, T> {
         ensures peeked { self.new.peeked ≡ None }
         ensures given { self.old.given ≡ None → KeepsRefusal result self.new.given }
         ensures options { self.new.stepper.scanner.options ≡ self.old.stepper.scanner.options }
+        ensures renumbered { self.new.stepper.renumbered ≡ self.old.stepper.renumbered }
         ensures moves { MovesUnless T.left T.origin (Some result) self.old.stepper.scanner.cursor
             self.new.stepper.scanner.cursor }
         ensures onward { GoesOnward T.unread self.old.stepper.scanner.cursor self.new.stepper.scanner.cursor }
@@ -79,6 +79,7 @@ impl<'input, T: BorrowedInput<'input>> Parser<'input, T> {
         ensures peeked { self.new.peeked ≡ None }
         ensures given { self.old.given ≡ None → KeepsRefusal result self.new.given }
         ensures options { self.new.stepper.scanner.options ≡ self.old.stepper.scanner.options }
+        ensures renumbered { self.new.stepper.renumbered ≡ self.old.stepper.renumbered }
         ensures moves { MovesUnless T.left T.origin (Some result) self.old.stepper.scanner.cursor
             self.new.stepper.scanner.cursor }
         ensures onward { GoesOnward T.unread self.old.stepper.scanner.cursor self.new.stepper.scanner.cursor }
@@ -121,6 +122,7 @@ impl<'input, T: BorrowedInput<'input>> Parser<'input, T> {
         ensures given { self.old.given ≡ None → KeepsScan result self.new.given }
         ensures errors { CountsErrors (R.errors recv.old) (R.errors recv.new) result }
         ensures options { self.new.stepper.scanner.options ≡ self.old.stepper.scanner.options }
+        ensures renumbered { self.new.stepper.renumbered ≡ self.old.stepper.renumbered }
         ensures moves { MovesUnless T.left T.origin (scanned result) self.old.stepper.scanner.cursor
             self.new.stepper.scanner.cursor }
         ensures onward { GoesOnward T.unread self.old.stepper.scanner.cursor self.new.stepper.scanner.cursor }
@@ -155,6 +157,7 @@ impl<'input, T: BorrowedInput<'input>> Parser<'input, T> {
         ensures given { self.old.given ≡ None → KeepsScan result self.new.given }
         ensures errors { CountsErrors (R.errors recv.old) (R.errors recv.new) result }
         ensures options { self.new.stepper.scanner.options ≡ self.old.stepper.scanner.options }
+        ensures renumbered { self.new.stepper.renumbered ≡ self.old.stepper.renumbered }
         ensures moves { MovesUnless T.left T.origin (scanned result) self.old.stepper.scanner.cursor
             self.new.stepper.scanner.cursor }
         ensures onward { GoesOnward T.unread self.old.stepper.scanner.cursor self.new.stepper.scanner.cursor }
@@ -191,12 +194,13 @@ impl<'input, T: BorrowedInput<'input>> Parser<'input, T> {
     /// The first event to be sent: the next one, or the end of the stream once more.
     fn first_event(&mut self) -> Result<(Event<'input>, Span), ScanError>
         ensures known { (m : StepState) → StandsAt T.unread self.old m → GivesFirst T.unread T.origin self.new
-            (steps.next_event self.old.stepper.scanner.options m) result }
+            self.old.stepper.scanner.options m result }
         ensures source { IfUnseen self.old.peeked (TellsError T.origin self.old.stepper (Some result)
             self.new.stepper.scanner.cursor) }
         ensures peeked { self.new.peeked ≡ None }
         ensures given { self.old.given ≡ None → KeepsRefusal result self.new.given }
         ensures options { self.new.stepper.scanner.options ≡ self.old.stepper.scanner.options }
+        ensures renumbered { self.new.stepper.renumbered ≡ self.old.stepper.renumbered }
         ensures moves { MovesUnless T.left T.origin (Some result) self.old.stepper.scanner.cursor
             self.new.stepper.scanner.cursor }
         ensures onward { GoesOnward T.unread self.old.stepper.scanner.cursor self.new.stepper.scanner.cursor }
@@ -214,6 +218,7 @@ impl<'input, T: BorrowedInput<'input>> Parser<'input, T> {
         ensures over { IsOver self.new }
         ensures given { (e : Refused) × (self.new.given ≡ Some e) × (e.kind ≡ OutOfMemory) }
         ensures same { self.new.stepper.scanner ≡ self.old.stepper.scanner }
+        ensures renumbered { self.new.stepper.renumbered ≡ self.old.stepper.renumbered }
     {
         self.peeked = None;
         self.stepper.stop();

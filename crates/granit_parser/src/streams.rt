@@ -1,5 +1,5 @@
 //! Iterators of characters that are read into events.
-ghost use Rattle.std.specs.Prelude.{◌≡◌, ℕ, ◌<◌, ◌^◌, List, None, IfOk};
+ghost use Rattle.std.specs.Prelude.{◌≡◌, ℕ, ◌<◌, ◌^◌, false, List, None, IfOk};
 ghost use Rattle.std.specs.Iterator.{size};
 ghost use Rattle.granit_buffered.specs.Feeds.{GivesOnly};
 ghost use Rattle.granit_error.specs.OptionsData.{default_options};
@@ -30,6 +30,7 @@ impl<'input, T: Source<Item = char>> Parser<'input, BufferedInput<T>> {
             → StandsAt ⟦<BufferedInput<T> as Input>⟧.unread p (steps.start_from (bare_start x))) }
         ensures options { IfOk result (λ p. p.stepper.scanner.options ≡ default_options) }
         ensures unseen { IfOk result (λ p. p.peeked ≡ None) }
+        ensures renumbered { IfOk result (λ p. p.stepper.renumbered ≡ false) }
     {
         Parser::new_from_iter_with_options(alloc, iter, Options::default())
     }
@@ -49,6 +50,7 @@ impl<'input, T: Source<Item = char>> Parser<'input, BufferedInput<T>> {
             → StandsAt ⟦<BufferedInput<T> as Input>⟧.unread p (steps.start_from (bare_start x))) }
         ensures options { IfOk result (λ p. p.stepper.scanner.options ≡ options_of options) }
         ensures unseen { IfOk result (λ p. p.peeked ≡ None) }
+        ensures renumbered { IfOk result (λ p. p.stepper.renumbered ≡ false) }
     {
         let input = BufferedInput::new(alloc, iter)?;
         Ok(Parser::with_options(alloc, input, options))

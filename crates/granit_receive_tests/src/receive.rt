@@ -12,14 +12,14 @@ use std::test::Fail;
 
 /// How many events came, how many of them begin or end the stream, and where the last one ends.
 #[derive(Drop)]
-struct Counting {
+pub struct Counting {
     events: usize,
     edges: usize,
     end: usize,
 }
 
 impl Counting {
-    fn new() -> Counting {
+    pub fn new() -> Counting {
         Counting {
             events: 0,
             edges: 0,
@@ -109,7 +109,7 @@ fn letter(loaded: Result<(), TryLoadError<char>>) -> char {
 }
 
 /// The number of what `load` answers, and how many events and ends of the stream came by then.
-fn loaded<'a, T: BorrowedInput<'a>>(
+pub fn loaded<'a, T: BorrowedInput<'a>>(
     parser: &mut Parser<'a, T>,
     counting: &mut Counting,
     multi: bool,
@@ -128,14 +128,14 @@ fn tried<'a, R: TrySpannedEventReceiver<'a, Error = char>>(
 }
 
 /// What is told of the calls of a parser. A parser is let go in one place alone, which is dear to prove.
-trait Case<'a> {
+pub trait Case<'a> {
     type Told;
 
     fn tell(&self, parser: &mut Parser<'a, StrInput<'a>>) -> Self::Told;
 }
 
 /// A case over a text.
-fn over<'a, C: Case<'a>>(alloc: Global, text: &'a str, case: &C) -> C::Told {
+pub fn over<'a, C: Case<'a>>(alloc: Global, text: &'a str, case: &C) -> C::Told {
     let mut parser = Parser::new_from_str(alloc, text);
     case.tell(&mut parser)
 }

@@ -1,5 +1,1 @@
-mod ComingLemmas
-mod ExampleLemmas
-mod FreshLemmas
-mod LifeLemmas
 mod ReadLemmas

@@ -1,12 +1,12 @@
 -- A text that is included is read whole.
 use Rattle.std.proofs.Common.{◌≡◌, ℕ, true, false, List, [], ◌∷◌, Option, Some, None, Result, Err, refl, sym, subst}
+use Rattle.std.proofs.Common.{◌∙◌, ap, inl, inr, true≢false}
 use Rattle.std.specs.Borrow.{Bor}
 use Rattle.std.specs.Prelude.{IfOk, String}
 use Rattle.std.specs.Str.{chars}
 use Rattle.std.specs.declared.alloc.Global.{Global}
 use Rattle.granit_base.specs.Written.{string_chars}
 use Rattle.granit_base.specs.declared.place.Span.{Span}
-use Rattle.granit_cursor.specs.Reading.{Reading}
 use Rattle.granit_error.specs.OptionsData.{OptionsData}
 use Rattle.granit_error.specs.Refused.{Refused}
 use Rattle.granit_event.specs.declared.event.Event.{Event}
@@ -15,13 +15,16 @@ use Rattle.granit_input.specs.Origin.{Origin}
 use Rattle.granit_layers.specs.Stacking.{is_none_left, top_offset}
 use Rattle.granit_layers.specs.declared.layer.Layer.{Layer}
 use Rattle.granit_load.proofs.GatherLemmas.{never_failed}
-use Rattle.granit_load.specs.Answering.{GivesAll, GivesAllOr}
+use Rattle.granit_load.specs.Answering.{GivesAllOr, LacksNumber}
 use Rattle.granit_parser.specs.Streams.{bare_start}
 use Rattle.granit_replay.specs.Replaying.{Replay, raised_by_all}
 use Rattle.granit_replay.specs.declared.resolver.Included.{Included}
 use Rattle.granit_replay.specs.declared.resolver.Included.TheVariants.{Owned, Borrowed}
-use Rattle.granit_stack.specs.Including.{ReadsText, first_number, number_above, numbered, replayed}
+use Rattle.granit_stack.specs.Including.{FailsAbove, GivesAllAbove, ReadsText, first_number, number_above, numbered}
+use Rattle.granit_stack.specs.Including.{numbered_out, start_of_text, with_fault}
+use Rattle.granit_stepper.specs.Stepping.{Stepping}
 use Rattle.granit_steps.specs.Steps.{StepState, start_from, steps_start}
+use Rattle.granit_steps.specs.Told.{GivesEvents}
 
 -- ---- the number of the top parser
 
@@ -35,36 +38,58 @@ pub number_some : {S : Type 0} (offset : S → ℕ) (ls : List (Layer S)) → is
 number_some offset [] some = absurd cc
 number_some offset (l ∷ ls) some = refl
 
+pub number_kept : {S : Type 0} (offset : S → ℕ) (n : Option ℕ) (ls ms : List (Layer S)) → n ≡ number_above offset ls
+    → ls ≡ ms → n ≡ number_above offset ms
+number_kept offset n ls ms is same = is ∙ ap (λ (x : List (Layer _)). number_above offset x) same
+
 -- ---- all events of a parser
 
--- a source without errors is refused as the machine says
-pub fails_all : {I : Type 0} (origin : I → Origin) (o p : OptionsData) (m : StepState) (e : Refused) (at : Reading I)
-    → p ≡ o → ((i : I) → (origin i).error ≡ None)
-    → GivesAllOr {V = List (Event × Span)} origin plain_events p m (Err e) at → GivesAll replayed o m (Err e)
-fails_all origin o p m e at options none gives =
-    subst (λ (q : OptionsData). GivesAll replayed q m (Err e)) options
-    (never_failed (origin at.input) at.place e (none at.input) gives)
+-- a source without errors is refused as the machine says, or no number is left
+module _ {I : Type 0} (origin : I → Origin) (o p : OptionsData) (above : Option ℕ) (m : StepState) (e : Refused)
+    (s : Stepping I) (options : p ≡ o) (none : (i : I) → (origin i).error ≡ None)
+    (never : above ≡ None → s.renumbered ≡ false) where
+  above_some : (a : Option ℕ) → above ≡ a → s.renumbered ≡ true → (offset : ℕ) × (above ≡ Some offset)
+  above_some (Some offset) is set = (offset, is)
+  above_some None is set = absurd (true≢false (sym set ∙ never is))
+
+  pub fails_all : GivesAllOr {V = List (Event × Span)} origin plain_events p m (Err e) s
+      → GivesAllAbove o above m (Err e)
+  fails_all (inl gives) never =
+      let ends = never_failed (origin s.scanner.cursor.input) s.scanner.cursor.place e (none s.scanner.cursor.input)
+      gives never in
+      with_fault ends.0 (subst (λ (q : OptionsData). GivesEvents q m ends.0 (Some e)) options ends.1)
+  fails_all (inr left) never =
+      let some = above_some above refl left.0 in
+      numbered_out some.0 some.1 (subst (λ (q : OptionsData). LacksNumber q m e) options left.1)
+
+-- what ends a text is the same by whatever names its options and the number above are known
+pub fails_alike : (o p : OptionsData) (above below : Option ℕ) (text : Included) (e : Refused) → p ≡ o → above ≡ below
+    → FailsAbove p above (numbered above (start_of_text text)) e
+    → FailsAbove o below (numbered below (start_of_text text)) e
+fails_alike o p above below text e options number fails =
+    subst (λ (q : OptionsData). FailsAbove q below (numbered below (start_of_text text)) e) options
+    (subst (λ (n : Option ℕ). FailsAbove p n (numbered n (start_of_text text)) e) number fails)
 
 -- ---- the events of a text
 
 module _ (o : OptionsData) (above : Option ℕ) (text : Included) (r : Result Replay Refused)
     (number : IfOk r (λ (p : Replay). p.anchor_offset ≡ raised_by_all (first_number above) p.events)) where
   pub reads_lent : (p : OptionsData) (lent : Bor (List ℕ)) → text ≡ Borrowed lent → p ≡ o
-      → GivesAll replayed p (numbered above (steps_start (chars lent.now))) r → ReadsText o above text r
+      → GivesAllAbove p above (numbered above (steps_start (chars lent.now))) r → ReadsText o above text r
   reads_lent p lent is options gives =
       subst (λ (t : Included). ReadsText o above t r) (sym is) (
-        subst (λ (q : OptionsData). GivesAll replayed q (numbered above (steps_start (chars lent.now))) r) options
+        subst (λ (q : OptionsData). GivesAllAbove q above (numbered above (steps_start (chars lent.now))) r) options
             gives,
         number,
       )
 
   pub reads_own : (p : OptionsData) (own : String Global) (bytes : List ℕ) → text ≡ Owned own → p ≡ o
       → chars bytes ≡ string_chars own
-      → GivesAll replayed p (numbered above (start_from (bare_start (chars bytes)))) r → ReadsText o above text r
+      → GivesAllAbove p above (numbered above (start_from (bare_start (chars bytes)))) r → ReadsText o above text r
   reads_own p own bytes is options same gives =
       subst (λ (t : Included). ReadsText o above t r) (sym is) (
-        subst (λ (x : List ℕ). GivesAll replayed o (numbered above (start_from (bare_start x))) r) same
+        subst (λ (x : List ℕ). GivesAllAbove o above (numbered above (start_from (bare_start x))) r) same
             (subst (λ (q : OptionsData).
-            GivesAll replayed q (numbered above (start_from (bare_start (chars bytes)))) r) options gives),
+            GivesAllAbove q above (numbered above (start_from (bare_start (chars bytes)))) r) options gives),
         number,
       )

@@ -3,13 +3,14 @@ use Rattle.std.specs.Prelude.{◌≡◌, ◌⊎◌, ℕ, false, List, [], ◌∷
 use Rattle.std.specs.Prelude.{IfOk, OnOk, OnErr}
 use Rattle.std.specs.Str.{chars}
 use Rattle.granit_base.specs.Written.{string_chars}
+use Rattle.granit_error.specs.FaultKind.{NoMemory}
 use Rattle.granit_error.specs.OptionsData.{OptionsData}
 use Rattle.granit_error.specs.Refused.{Refused}
 use Rattle.granit_event.specs.Events.{plain_events}
 use Rattle.granit_layers.specs.Stacking.{IsWithin, Pushes}
 use Rattle.granit_layers.specs.declared.layer.Layer.{Layer}
 use Rattle.granit_lexemes.specs.PlainEvent.{PlainEvent}
-use Rattle.granit_load.specs.Answering.{GivesAll}
+use Rattle.granit_load.specs.Answering.{GivesAll, LacksNumber}
 use Rattle.granit_parser.specs.Streams.{bare_start}
 use Rattle.granit_receivers.specs.Counts.{Rose}
 use Rattle.granit_replay.specs.Replaying.{Replay, raised_by_all}
@@ -18,6 +19,7 @@ use Rattle.granit_replay.specs.declared.resolver.Included.{Included}
 use Rattle.granit_replay.specs.declared.resolver.Included.TheVariants.{Owned, Borrowed}
 use Rattle.granit_stepper.specs.Offset.{with_offset}
 use Rattle.granit_steps.specs.Steps.{StepState, start_from, steps_start}
+use Rattle.granit_steps.specs.Told.{GivesEvents}
 
 -- What is answered for a name: there is nobody to ask, or it is the resolver's answer, whose errors are counted.
 abbrev pub Resolves : {R : Type 0} → (answers : R → List ℕ → Result Included Refused → R → Type 0) → (errors : R → ℕ)
@@ -45,11 +47,22 @@ abbrev pub first_number : Option ℕ → ℕ
 first_number None = 1
 first_number (Some offset) = offset
 
--- All events of the text, with a number for a next anchor that is past all of theirs; or its fault, unless memory ran
--- out.
+-- What ends a text: its fault; or above another parser, whose number the text goes on with, that no number is left for
+-- an anchor.
+pub data FailsAbove (o : OptionsData) (above : Option ℕ) (m : StepState) (e : Refused) : Type 0 where
+  with_fault : (es : List PlainEvent) → GivesEvents o m es (Some e) → FailsAbove o above m e
+  numbered_out : (offset : ℕ) → above ≡ Some offset → LacksNumber o m e → FailsAbove o above m e
+
+-- all events from a state on, or what ends them, unless memory ran out
+abbrev pub GivesAllAbove : OptionsData → (above : Option ℕ) → StepState → Result Replay Refused → Type 0
+GivesAllAbove o above m (Ok p) = GivesAll replayed o m (Ok p)
+GivesAllAbove o above m (Err e) = (e.kind ≡ NoMemory → ⊥) → FailsAbove o above m e
+
+-- All events of the text, with a number for a next anchor that is past all of theirs; or its fault, or that no number
+-- is left for one of its anchors, unless memory ran out.
 abbrev pub ReadsText : OptionsData → (above : Option ℕ) → Included → Result Replay Refused → Type 0
 ReadsText o above text r =
-    GivesAll replayed o (numbered above (start_of_text text)) r
+    GivesAllAbove o above (numbered above (start_of_text text)) r
     × IfOk r (λ p. p.anchor_offset ≡ raised_by_all (first_number above) p.events)
 
 -- the number of the top parser

@@ -1,16 +1,15 @@
 //! Texts that are included.
-ghost use Rattle.std.specs.Prelude.{◌≡◌, ◌⊎◌, None, Option, Some, IfOk, IfSome, OnErr};
+ghost use Rattle.std.specs.Prelude.{◌≡◌, ◌⊎◌, false, None, Option, Some, IfOk, IfSome, OnErr};
 ghost use Rattle.std.specs.Str.{chars};
 ghost use Rattle.granit_error.specs.OptionsView.{options_of};
 ghost use Rattle.granit_event.specs.Events.{event_kind};
 ghost use Rattle.granit_event.specs.Helpers.{anchor_of};
 ghost use Rattle.granit_layers.specs.Stacking.{IsWithin};
 ghost use Rattle.granit_layers.specs.declared.kinds.AnyKind.TheVariants.{Fourth};
-ghost use Rattle.granit_load.specs.Answering.{GivesAll};
 ghost use Rattle.granit_parser.specs.Parsing.{StandsAt};
 ghost use Rattle.granit_replay.specs.Replaying.{raised_by_all, raised_over};
-ghost use Rattle.granit_stack.specs.Including.{Includes, IncludesNamed, ReadsText, Resolves, first_number, numbered};
-ghost use Rattle.granit_stack.specs.Including.{replayed};
+ghost use Rattle.granit_stack.specs.Including.{GivesAllAbove, Includes, IncludesNamed, ReadsText, Resolves};
+ghost use Rattle.granit_stack.specs.Including.{first_number, numbered};
 ghost use Rattle.granit_stack.specs.Including as spec;
 ghost use Rattle.granit_steps.specs.Steps.{StepState};
 
@@ -177,7 +176,8 @@ fn replay_of<'input, T: BorrowedInput<'input>>(
     requires unseen { parser.peeked ≡ None }
     requires whole { (input : _) → (T.origin input).error ≡ None }
     ensures known { (m : StepState) → StandsAt T.unread parser.entry m
-        → GivesAll replayed parser.entry.stepper.scanner.options (numbered above m) result }
+        → parser.entry.stepper.renumbered ≡ false
+        → GivesAllAbove parser.entry.stepper.scanner.options above (numbered above m) result }
     ensures number { IfOk result (λ p. p.anchor_offset ≡ raised_by_all (first_number above) p.events) }
 {
     let mut parser = parser;
@@ -220,6 +220,7 @@ fn number_from<'input, T: BorrowedInput<'input>>(
     requires { parser.old.peeked ≡ None }
     ensures known { (m : StepState) → StandsAt T.unread parser.old m → StandsAt T.unread parser.new (numbered above m) }
     ensures options { parser.new.stepper.scanner.options ≡ parser.old.stepper.scanner.options }
+    ensures renumbered { above ≡ None → parser.new.stepper.renumbered ≡ parser.old.stepper.renumbered }
 {
     match above {
         None => {}

@@ -1,3 +1,4 @@
+pub mod NumberLemmas
 pub mod SettleLemmas
 pub mod StateLemmas
 pub mod TurnLemmas

@@ -1,6 +1,6 @@
 -- A stepper that is known to be in a state of the machine.
-use Rattle.std.proofs.Common.{◌≡◌, ℕ, Bool, true, false, ◌||◌, List, [], ◌∷◌, ◌++◌, drop, Option, Some, None, is_some}
-use Rattle.std.proofs.Common.{Result, Ok, Err, refl, sym, ap, subst, ◌∙◌}
+use Rattle.std.proofs.Common.{◌≡◌, ℕ, ◌<◌, ◌-◌, ◌^◌, Bool, true, false, ◌||◌, List, [], ◌∷◌, ◌++◌, drop, Option, Some}
+use Rattle.std.proofs.Common.{None, is_some, Result, Ok, Err, refl, sym, ap, subst, ◌∙◌, ◌⊎◌, inl, inr}
 use Rattle.std.specs.List.{slice_get}
 use Rattle.std.specs.Option.{option_map}
 use Rattle.granit_base.specs.Place.{Mark, Unread}
@@ -19,6 +19,8 @@ use Rattle.granit_machine.specs.Lexing.{FlaggedItem, lex_start}
 use Rattle.granit_machine.specs.Parser.{feed, take_item}
 use Rattle.granit_machine.specs.Reader.{LexState}
 use Rattle.granit_scanner.specs.Scans.{Scanning, Known, KnownBy, ReadsOn, TakesOldest, may_front_go}
+use Rattle.granit_stepper.proofs.NumberLemmas.{numberless, some_number}
+use Rattle.granit_stepper.specs.Numbers.{GetsLast, IsNumberless, RefusesNumber, anchor_start}
 use Rattle.granit_stepper.specs.Stepping.{Stepping, StandsIn, TakesFree, feed_item, first_events, no_events, turn_view}
 use Rattle.granit_stepper.proofs.TurnLemmas.{turn_waits_on}
 use Rattle.granit_steps.specs.Steps.{StepState, first_pending, is_over, next_event, read_more, read_unless, settle}
@@ -63,6 +65,7 @@ module _ {I : Type 0} (unread : I → Unread → Type 0) where
     parser = ap (λ (p : ParserState). record p { given = [] }) (sym parser);
     pending = sym (ap (λ (x : Option Mark). first_events x ++ s.parser.given) first
         ∙ ap (λ (p : ParserState). event_on StreamStart (mark_of h) ∷ p.given) parser);
+    numbers = subst (λ (p : ParserState). p.count < 2 ^ 64 - 1) (sym parser) some_number;
   }
 
   module _ (s : Stepping I) (m : StepState) (at : StandsIn unread s m) where
@@ -83,7 +86,13 @@ module _ {I : Type 0} (unread : I → Unread → Type 0) where
           front,
           goes,
           refl,
-          record { going = at.going; reading = given.1; parser = at.parser; pending = at.pending },
+          record {
+            going = at.going;
+            reading = given.1;
+            parser = at.parser;
+            pending = at.pending;
+            numbers = at.numbers;
+          },
         )
 
     pub takes_free : (sc : Scanning I) (r : Option (FlaggedItem × Option ℕ)) → may_front_go m.reading m.queue ≡ true
@@ -103,9 +112,9 @@ module _ {I : Type 0} (unread : I → Unread → Type 0) where
 
     -- the parser takes an item
     pub feeds : (o : OptionsData) (x : FlaggedItem × Option ℕ) (p : ParserState) → s.first ≡ None → m.pending ≡ []
-        → take_item o x.0.item x.0.begins_key x.1 s.parser ≡ Ok p
+        → take_item o x.0.item x.0.begins_key x.1 s.parser ≡ Ok p → p.count < 2 ^ 64 - 1
         → GivesTo turn_view (Ok true) (StandsIn unread (record s { parser = p })) (feed_item o x m)
-    feeds o x p told none is =
+    feeds o x p told none is numbers =
         let after : StepState = with_fed m m.queue (p.given, record p { given = [] }) in (
           after,
           record {
@@ -113,6 +122,7 @@ module _ {I : Type 0} (unread : I → Unread → Type 0) where
             reading = at.reading;
             parser = refl;
             pending = sym (ap (λ (y : Option Mark). first_events y ++ p.given) told);
+            numbers = numbers;
           },
           rw (fed_as o x told none, is) refl,
         )
@@ -121,6 +131,15 @@ module _ {I : Type 0} (unread : I → Unread → Type 0) where
     pub feed_fails : (o : OptionsData) (x : FlaggedItem × Option ℕ) (e : Refused) → s.first ≡ None → m.pending ≡ []
         → Fails e (take_item o x.0.item x.0.begins_key x.1 s.parser) → Fails e (feed_item o x m)
     feed_fails o x e told none fails = λ other. rw (fed_as o x told none, fails other) refl
+
+    -- or gives the greatest number by it
+    pub feeds_last : (o : OptionsData) (x : FlaggedItem × Option ℕ) (p : ParserState) (start : Option Mark)
+        (e : Refused) → s.first ≡ None → m.pending ≡ [] → take_item o x.0.item x.0.begins_key x.1 s.parser ≡ Ok p
+        → p.count ≡ 2 ^ 64 - 1 → start ≡ anchor_start x.0.item → IsNumberless s.renumbered start e
+        → Fails e (feed_item o x m) ⊎ ((s.renumbered ≡ true) × GetsLast o x m.parser e)
+    feeds_last o x p start e told none is last at_start why =
+        numberless o x m.parser (p.given, record p { given = [] }) (rw (fed_as o x told none, is) refl) last
+        (feed_item o x m) s.renumbered start e at_start why
 
     -- ---- a read
 
@@ -139,7 +158,13 @@ module _ {I : Type 0} (unread : I → Unread → Type 0) where
     ends o none over =
         let known = ended_by s.scanner.fault none at.reading over in (
           m,
-          record { going = at.going; reading = known.1; parser = at.parser; pending = at.pending },
+          record {
+            going = at.going;
+            reading = known.1;
+            parser = at.parser;
+            pending = at.pending;
+            numbers = at.numbers;
+          },
           ap
               (λ (b : Bool). read_more o b m) known.0,
         )
@@ -165,7 +190,13 @@ module _ {I : Type 0} (unread : I → Unread → Type 0) where
     reads o sc going given =
         let ended = going_ended m.reading.ended (is_some m.reading.fault) going in (
           with_read o m given.0,
-          record { going = at.going; reading = given.2; parser = at.parser; pending = at.pending },
+          record {
+            going = at.going;
+            reading = given.2;
+            parser = at.parser;
+            pending = at.pending;
+            numbers = at.numbers;
+          },
           ap (λ (b : Bool). read_more o b m) ended
               ∙ ap (λ (x : Option Refused). read_unless o x m) (no_fault_yet going)
               ∙ rw (given.1) refl,
@@ -184,7 +215,7 @@ module _ {I : Type 0} (unread : I → Unread → Type 0) where
         let pending = waits_first start first in
         let still = turn_waits_on o m (event_on StreamStart start) s.parser.given pending in (
           record m { pending = s.parser.given },
-          record { going = at.going; reading = at.reading; parser = at.parser; pending = refl },
+          record { going = at.going; reading = at.reading; parser = at.parser; pending = refl; numbers = at.numbers },
           next_is o m m (pieces_done step_size (step_turn o) m m still)
               ∙ ap (λ (es : List PlainEvent). Ok (slice_get es 0, record m { pending = drop 1 es })) pending
               ∙ ap (λ (x : PlainEvent). Ok (Some x, record m { pending = s.parser.given })) (sym told),
@@ -207,6 +238,7 @@ module _ {I : Type 0} (unread : I → Unread → Type 0) where
           parser = at.parser ∙ sym (ap (λ (q : ParserState). record q { given = [] }) rest);
           pending = ap (drop 1) pending ∙ sym (ap (λ (q : ParserState). q.given) rest)
               ∙ sym (ap (λ (x : Option Mark). first_events x ++ p.given) told);
+          numbers = subst (λ (q : ParserState). q.count < 2 ^ 64 - 1) (sym rest) at.numbers;
         },
         next_is o m after settled.2
             ∙ ap (λ (x : Option PlainEvent). Ok (x, record after { pending = drop 1 after.pending }))
@@ -214,9 +246,15 @@ module _ {I : Type 0} (unread : I → Unread → Type 0) where
       )
 
   -- or nothing is, where turns fail
-  pub next_fails : (o : OptionsData) (m : StepState) (e : Refused) → Fails e (settle o m) → Fails e (next_event o m)
+  fails_on : (o : OptionsData) (m : StepState) (e : Refused) → Fails e (settle o m) → Fails e (next_event o m)
   unfolding next_event
-  next_fails o m e fails = λ other. rw (fails other) refl
+  fails_on o m e fails = λ other. rw (fails other) refl
+
+  pub next_fails : (renumbered : Bool) (o : OptionsData) (m : StepState) (e : Refused)
+      → Fails e (settle o m) ⊎ RefusesNumber renumbered o m e
+      → Fails e (next_event o m) ⊎ RefusesNumber renumbered o m e
+  next_fails renumbered o m e (inl fails) = inl (fails_on o m e fails)
+  next_fails renumbered o m e (inr left) = inr left
 
 -- before anything was read it is known where the cursor stands
 module _ {I : Type 0} (unread : I → Unread → Type 0) (s : Stepping I) (h : Here) where

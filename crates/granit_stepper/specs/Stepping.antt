@@ -1,5 +1,5 @@
 -- What contracts see of a stepper, and in which state of the machine it is known to be.
-use Rattle.std.specs.Prelude.{◌≡◌, ℕ, Bool, true, false, List, [], ◌∷◌, ◌++◌, Option, Some, None, Ok}
+use Rattle.std.specs.Prelude.{◌≡◌, ◌<◌, ◌-◌, ◌^◌, ℕ, Bool, true, false, List, [], ◌∷◌, ◌++◌, Option, Some, None, Ok}
 use Rattle.granit_base.specs.Place.{Mark, Unread}
 use Rattle.granit_error.specs.FaultKind.{FaultKind}
 use Rattle.granit_error.specs.OptionsData.{OptionsData}
@@ -13,12 +13,14 @@ use Rattle.granit_scanner.specs.Scans as scans
 use Rattle.granit_scanner.specs.Scans.{Scanning, Known, may_front_go}
 use Rattle.granit_steps.specs.Steps.{StepState, Turn, line_behind, may_go, with_fed}
 
--- a scanner, the parser's state, where the stream starts if that isn't told yet, and whether a call failed
+-- a scanner, the parser's state, where the stream starts if that isn't told yet, whether a call failed, and whether the
+-- number of a next anchor was ever set
 pub record Stepping (I : Type 0) : Type 0 where
   pub scanner : Scanning I
   pub parser : ParserState
   pub first : Option Mark
   pub failed : Bool
+  pub renumbered : Bool
 
 -- the same, with handles that stay over documents or not
 abbrev pub keeping : {I : Type 0} → Bool → Stepping I → Stepping I
@@ -30,17 +32,20 @@ abbrev pub first_events : Option Mark → List PlainEvent
 first_events None = []
 first_events (Some m) = event_on StreamStart m ∷ []
 
--- a stepper is known to be in a state of the machine: no call failed, and what wasn't given yet waits in the parser
+-- a stepper is known to be in a state of the machine: no call failed, what wasn't given yet waits in the parser, and no
+-- anchor got the greatest number
 pub record StandsIn {I : Type 0} (unread : I → Unread → Type 0) (s : Stepping I) (m : StepState) : Type 0 where
   pub going : s.failed ≡ false
   pub reading : Known unread s.scanner m.reading m.queue
   pub parser : m.parser ≡ record (s.parser) { given = [] }
   pub pending : m.pending ≡ first_events s.first ++ s.parser.given
+  pub numbers : s.parser.count < 2 ^ 64 - 1
 
 -- what no turn changes
 pub record Keeps {I : Type 0} (old new : Stepping I) : Type 0 where
   pub first : new.first ≡ old.first
   pub failed : new.failed ≡ old.failed
+  pub renumbered : new.renumbered ≡ old.renumbered
   pub options : new.scanner.options ≡ old.scanner.options
 
 -- ---- what the source gave

@@ -1,5 +1,5 @@
 //! The number that a next anchor gets.
-ghost use Rattle.std.specs.Prelude.{◌≡◌, ◌-◌, ◌^◌, min, suc};
+ghost use Rattle.std.specs.Prelude.{◌≡◌, ◌-◌, ◌^◌, min, suc, true};
 ghost use Rattle.granit_base.specs.Place.{Unread};
 ghost use Rattle.granit_stepper.specs.Offset.{with_offset};
 ghost use Rattle.granit_stepper.specs.Stepping.{StandsIn};
@@ -16,13 +16,16 @@ impl<'input, T: Input> Stepper<'input, T> {
         self.parser.anchor_offset()
     }
 
-    /// From now on a next anchor gets this number; 0 is as 1.
+    /// From now on a next anchor gets this number; 0 is as 1, and the greatest one is left to none.
     pub fn set_anchor_offset(&mut self, offset: usize)
         ensures known { (m : StepState) → StandsIn T.unread self.old m
             → StandsIn T.unread self.new (with_offset offset m) }
-        ensures rest { self.new
-            ≡ record self.old { parser = record (self.old.parser) { count = offset - 1 } } }
+        ensures rest { self.new ≡ record self.old {
+          parser = record (self.old.parser) { count = offset - 1 };
+          renumbered = true;
+        } }
     {
         self.parser.set_anchor_offset(offset);
+        self.renumbered = true;
     }
 }

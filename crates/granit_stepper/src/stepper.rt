@@ -9,18 +9,22 @@ ghost use Rattle.granit_error.specs.OptionsView.{options_of};
 ghost use Rattle.granit_event.specs.Events.{plain_event};
 ghost use Rattle.granit_input.specs.Origin.{error_given, Gave, Goes};
 ghost use Rattle.granit_lexemes.specs.Here.{Here, first_place, mark_of};
+ghost use Rattle.granit_items.specs.ItemViews.{item_view, kind_view};
 ghost use Rattle.granit_scanner.specs.Scans.{front_view, may_front_go};
+ghost use Rattle.granit_stepper.specs.Numbers as numbers;
+ghost use Rattle.granit_stepper.specs.Numbers.{GetsLast, GivesOr, IsNumberless, RefusesNumber};
 ghost use Rattle.granit_stepper.specs.Stepping as spec;
 ghost use Rattle.granit_stepper.specs.Stepping.{Keeps, StandsIn, TakesFree};
 ghost use Rattle.granit_steps.specs.Steps as steps;
 ghost use Rattle.granit_steps.specs.Steps.{StepState};
 
 use granit_base::{Marker, NoMemory, Span};
-use granit_error::{Options, ScanError};
+use granit_error::{ErrorKind, Options, ScanError};
 use granit_event::Event;
 use granit_feed::feed;
 use granit_frames::ParserState;
 use granit_input::{BorrowedInput, Input};
+use granit_items::{Item, LexemeKind};
 use granit_queue::Queued;
 use granit_scanner::{Front, Scanner};
 use std::alloc::Global;
@@ -35,6 +39,8 @@ pub struct Stepper<'input, T: Input> {
     first: Option<Marker>,
     // A call failed: nothing more is given.
     failed: bool,
+    // The number of a next anchor was set.
+    pub(crate) renumbered: bool,
 }
 
 impl<'input, T: Input> Model for Stepper<'input, T> {
@@ -42,7 +48,13 @@ impl<'input, T: Input> Model for Stepper<'input, T> {
 
     ghost Value = { Stepping T };
 
-    ghost view = { λ s. record { scanner = s.scanner; parser = s.parser; first = s.first; failed = s.failed } };
+    ghost view = { λ s. record {
+      scanner = s.scanner;
+      parser = s.parser;
+      first = s.first;
+      failed = s.failed;
+      renumbered = s.renumbered;
+    } };
 }
 
 impl<'input, T: BorrowedInput<'input>> Stepper<'input, T> {
@@ -52,6 +64,7 @@ impl<'input, T: BorrowedInput<'input>> Stepper<'input, T> {
             → h.tab ≡ None → StandsIn T.unread result (steps.start_from h) }
         ensures options { result.scanner.options ≡ options_of options }
         ensures input { result.scanner.cursor.input ≡ input }
+        ensures renumbered { result.renumbered ≡ false }
     {
         let scanner = Scanner::new(alloc, input, options);
         let start = scanner.mark();
@@ -60,6 +73,7 @@ impl<'input, T: BorrowedInput<'input>> Stepper<'input, T> {
             parser: ParserState::new(alloc, start),
             first: Some(start),
             failed: false,
+            renumbered: false,
         }
     }
 
@@ -95,13 +109,16 @@ impl<'input, T: BorrowedInput<'input>> Stepper<'input, T> {
     ///
     /// # Errors
     ///
-    /// What is wrong with the input there, by the kinds of `docs/FAULTS.md`, and `NoMemory`.
+    /// What is wrong with the input there, by the kinds of `docs/FAULTS.md`, `AnchorCountOverflow` at an anchor for
+    /// which no number is left, and `NoMemory`.
     pub fn next_event(&mut self, alloc: Global) -> Result<Option<(Event<'input>, Span)>, ScanError>
-        ensures known { (m : StepState) → StandsIn T.unread self.old m → GivesTo (option_map plain_event) result
-            (StandsIn T.unread self.new) (steps.next_event self.old.scanner.options m) }
+        ensures known { (m : StepState) → StandsIn T.unread self.old m → GivesOr (option_map plain_event) result
+            (StandsIn T.unread self.new) (steps.next_event self.old.scanner.options m)
+            (RefusesNumber self.old.renumbered self.old.scanner.options m) }
         ensures failed { IfErr result (λ e. self.new.failed ≡ true) }
         ensures over { self.old.failed ≡ true → (result ≡ Ok None) × (self.new ≡ self.old) }
         ensures options { self.new.scanner.options ≡ self.old.scanner.options }
+        ensures renumbered { self.new.renumbered ≡ self.old.renumbered }
         ensures moves { Moves T.unread T.left T.origin self.old.scanner.cursor self.new.scanner.cursor }
     {
         if self.failed {
@@ -132,6 +149,7 @@ impl<'input, T: BorrowedInput<'input>> Stepper<'input, T> {
         ensures known { (m : StepState) → StandsIn T.unread self.old m → result ≡ None → StandsIn T.unread self.new m }
         ensures failed { self.new.failed ≡ (self.old.failed || is_some result) }
         ensures options { self.new.scanner.options ≡ self.old.scanner.options }
+        ensures renumbered { self.new.renumbered ≡ self.old.renumbered }
         ensures left { T.left self.new.scanner.cursor.input ≤ T.left self.old.scanner.cursor.input }
         ensures origin { Gave (T.origin self.old.scanner.cursor.input) (T.origin self.new.scanner.cursor.input) }
         ensures onward { GoesOnward T.unread self.old.scanner.cursor self.new.scanner.cursor }
@@ -150,6 +168,7 @@ impl<'input, T: BorrowedInput<'input>> Stepper<'input, T> {
         ensures place { IfSome result (λ e. (e.mark.place ≡ self.new.scanner.cursor.place) × (e.sources ≡ [])) }
         ensures failed { self.new.failed ≡ (self.old.failed || is_some result) }
         ensures options { self.new.scanner.options ≡ self.old.scanner.options }
+        ensures renumbered { self.new.renumbered ≡ self.old.renumbered }
         ensures onward { GoesOnward T.unread self.old.scanner.cursor self.new.scanner.cursor }
     {
         self.pass_rest();
@@ -161,6 +180,7 @@ impl<'input, T: BorrowedInput<'input>> Stepper<'input, T> {
         ensures ended { (T.origin self.new.scanner.cursor.input).knows_end ≡ true }
         ensures failed { self.new.failed ≡ self.old.failed }
         ensures options { self.new.scanner.options ≡ self.old.scanner.options }
+        ensures renumbered { self.new.renumbered ≡ self.old.renumbered }
         ensures goes { Goes (T.origin self.old.scanner.cursor.input) (T.origin self.new.scanner.cursor.input) }
         ensures onward { GoesOnward T.unread self.old.scanner.cursor self.new.scanner.cursor }
     {
@@ -170,10 +190,12 @@ impl<'input, T: BorrowedInput<'input>> Stepper<'input, T> {
     /// The next event behind the start of the stream.
     fn later_event(&mut self, alloc: Global) -> Result<Option<(Event<'input>, Span)>, ScanError>
         ensures known { (m : StepState) → StandsIn T.unread self.old m → self.old.first ≡ None
-            → GivesTo (option_map plain_event) result (StandsIn T.unread self.new)
-            (steps.next_event self.old.scanner.options m) }
+            → GivesOr (option_map plain_event) result (StandsIn T.unread self.new)
+            (steps.next_event self.old.scanner.options m)
+            (RefusesNumber self.old.renumbered self.old.scanner.options m) }
         ensures failed { IfErr result (λ e. self.new.failed ≡ true) }
         ensures options { self.new.scanner.options ≡ self.old.scanner.options }
+        ensures renumbered { self.new.renumbered ≡ self.old.renumbered }
         ensures moves { Moves T.unread T.left T.origin self.old.scanner.cursor self.new.scanner.cursor }
     {
         match self.settle(alloc) {
@@ -188,7 +210,8 @@ impl<'input, T: BorrowedInput<'input>> Stepper<'input, T> {
     /// Turns until an event waits, or nothing is left.
     fn settle(&mut self, alloc: Global) -> Result<(), ScanError>
         ensures known { (m : StepState) → StandsIn T.unread self.old m → self.old.first ≡ None
-            → GivesTo spec.no_events result (StandsIn T.unread self.new) (steps.settle self.old.scanner.options m) }
+            → GivesOr spec.no_events result (StandsIn T.unread self.new) (steps.settle self.old.scanner.options m)
+            (RefusesNumber self.new.renumbered self.old.scanner.options m) }
         ensures keeps { Keeps self.old self.new }
         ensures moves { Moves T.unread T.left T.origin self.old.scanner.cursor self.new.scanner.cursor }
     {
@@ -205,7 +228,8 @@ impl<'input, T: BorrowedInput<'input>> Stepper<'input, T> {
     /// nothing is left.
     fn turn(&mut self, alloc: Global) -> Result<bool, ScanError>
         ensures known { (m : StepState) → StandsIn T.unread self.old m → self.old.first ≡ None
-            → GivesTo spec.turn_view result (StandsIn T.unread self.new) (steps.step_turn self.old.scanner.options m) }
+            → GivesOr spec.turn_view result (StandsIn T.unread self.new) (steps.step_turn self.old.scanner.options m)
+            (RefusesNumber self.new.renumbered self.old.scanner.options m) }
         ensures keeps { Keeps self.old self.new }
         ensures moves { Moves T.unread T.left T.origin self.old.scanner.cursor self.new.scanner.cursor }
     {
@@ -233,16 +257,19 @@ impl<'input, T: BorrowedInput<'input>> Stepper<'input, T> {
         }
     }
 
-    /// The parser takes an item.
+    /// The parser takes an item; no anchor may get the greatest number by it.
     fn take_item(&mut self, alloc: Global, front: Front<'input>) -> Result<bool, ScanError>
         ensures known { (m : StepState) → StandsIn T.unread self.old m → self.old.first ≡ None → m.pending ≡ []
-            → GivesTo spec.turn_view result (StandsIn T.unread self.new)
-            (spec.feed_item self.old.scanner.options (front_view front.entry) m) }
+            → GivesOr spec.turn_view result (StandsIn T.unread self.new)
+            (spec.feed_item self.old.scanner.options (front_view front.entry) m)
+            (λ e. (self.new.renumbered ≡ true)
+            × GetsLast self.old.scanner.options (front_view front.entry) m.parser e) }
         ensures keeps { Keeps self.old self.new }
         ensures scanner { self.new.scanner ≡ self.old.scanner }
     {
         let Front { queued, next_line } = front;
         let Queued { item, begins_key } = queued;
+        let anchor = anchor_start(&item);
         let options = self.scanner.options();
         feed(
             &mut self.parser,
@@ -252,7 +279,27 @@ impl<'input, T: BorrowedInput<'input>> Stepper<'input, T> {
             begins_key,
             next_line,
         )?;
+        if self.parser.is_numbered_out() {
+            return Err(self.numberless(anchor));
+        }
         Ok(true)
+    }
+
+    /// Why an anchor may not have the greatest number: none is left behind it, or, where no number was ever set, there
+    /// would be more anchors than memory holds.
+    fn numberless(&self, anchor: Option<Marker>) -> ScanError
+        ensures { IsNumberless self.now.renumbered anchor result }
+    {
+        match anchor {
+            Some(start) => {
+                if self.renumbered {
+                    ScanError::from_kind(start, ErrorKind::AnchorCountOverflow)
+                } else {
+                    ScanError::from(NoMemory)
+                }
+            }
+            None => ScanError::from(NoMemory),
+        }
     }
 
     /// One more read, or the fault of the one before; false behind the end.
@@ -283,4 +330,26 @@ impl<'input, T: BorrowedInput<'input>> Stepper<'input, T> {
             Some(fault) => Err(fault),
         }
     }
+}
+
+/// Where an anchor begins; none of another item.
+fn anchor_start(item: &Item<'_>) -> Option<Marker>
+    ensures { result ≡ numbers.anchor_start (item_view item.now) }
+{
+    match item {
+        Item::Lexeme(lexeme) => {
+            if is_anchor(&lexeme.kind) {
+                Some(lexeme.shown_start)
+            } else {
+                None
+            }
+        }
+        Item::Note(_) => None,
+    }
+}
+
+fn is_anchor(kind: &LexemeKind<'_>) -> bool
+    ensures { result ≡ numbers.is_anchor (kind_view kind.now) }
+{
+    matches!(kind, LexemeKind::Anchor(_))
 }

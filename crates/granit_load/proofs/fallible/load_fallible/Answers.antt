@@ -19,7 +19,8 @@ returns g c = λ items known.
     c.in_ok-parser.ensures.options c.gather_whole.result parser.stepper.scanner.cursor
     c.gather_whole.new.parser.stepper.scanner.cursor
     (c.gather_whole.ensures (start_from (bare_start (characters_of items))) (first_error items)
-    (c.in_ok-parser.ensures.start items known) ends c.in_ok-parser.ensures.fresh) came
+    (c.in_ok-parser.ensures.start items known) ends c.in_ok-parser.ensures.fresh
+    c.in_ok-parser.ensures.renumbered) came
     (λ k goes failed.
     let feed = c.gather_whole.new.parser.stepper.scanner.cursor.input.feed in
     let kept = goes.ends_with (first_error items) ends in

@@ -1,4 +1,4 @@
-use Rattle.std.proofs.Common.{◌≡◌, ◌++◌, ℕ, List, map, Some, None, Result, Ok, Err, refl, rules, ap, sym, subst, ◌∙◌}
+use Rattle.std.proofs.Common.{◌≡◌, ◌++◌, ℕ, List, map, Some, None, Result, Ok, Err, refl, ap, sym, subst, ◌∙◌}
 use Rattle.std.proofs.lemmas.List.{map-append}
 use Rattle.std.specs.Prelude.{IfSome}
 use Rattle.granit_base.specs.declared.place.Span.{Span}
@@ -10,7 +10,7 @@ use Rattle.granit_input.proofs.OriginLemmas.{goes_nowhere, goes_on}
 use Rattle.granit_lexemes.specs.PlainEvent.{PlainEvent}
 use Rattle.granit_parser.specs.Parsing.{Parsing}
 use Rattle.granit_parser.specs.Sources.{GoesUnless, IfUnseen, MovesUnless}
-use Rattle.granit_load.proofs.GatherLemmas.{GaveFirst, gave_all, gave_event, gave_refusal}
+use Rattle.granit_load.proofs.GatherLemmas.{GaveFirst, gave_all, gave_event, gave_none, gave_refusal}
 use Rattle.granit_parser.proofs.SendLemmas.{TookOr}
 use Rattle.granit_load.proofs.GatherLemmas.{for_any, took_event}
 use Rattle.granit_parser.proofs.SourceLemmas.{giving_on, goes_giving, moves_seen, never_told}
@@ -18,8 +18,10 @@ use Rattle.granit_load.proofs.load.gather.Goals as goal
 
 pub events-init : goal.events-init
 events-init g c = record {
-  gave = search rules;
+  gave = subst (λ (es : List PlainEvent). GaveFirst g.T.Input.unread c.args.parser.now c.args.parser.now es)
+      (sym (ap plain_events c.new-items.ensures.items)) (gave_none g.T.Input.unread c.args.parser.now);
   same = refl;
+  renumbered = refl;
   goes = goes_nowhere _;
   onward = λ start before. before;
 }
@@ -37,7 +39,7 @@ returns-in-None-clause-goes g c = goes_on _ _ _ c.events.invariant.goes (moves_s
 pub returns-in-Some-Err-clause-known : goal.returns-in-Some-Err-clause-known
 returns-in-Some-Err-clause-known g c = gave_refusal g.T.Input.unread c.args.parser.now c.events.parser
     c.next_event.new.self (plain_events c.events.items.items) c.events.invariant.same c.events.invariant.gave
-    g.T.Input.origin c.in-Some-Err.error
+    plain_events g.T.Input.origin c.in-Some-Err.error
     (subst (λ (r : Result (Event × Span) Refused). TookOr g.T.Input.unread g.T.Input.origin c.events.parser (Some r)
     c.next_event.new.self) c.in-Some-Err.field-0-is c.in-Some-Err.ensures.known)
 
@@ -78,6 +80,7 @@ events-preserved g c =
       gave = subst (λ (es : List PlainEvent). GaveFirst g.T.Input.unread c.args.parser.now c.next_event.new.self es)
           (sym (grown ∙ map-append plain_event c.events.items.items _)) one;
       same = c.in-Some-Ok.ensures.options ∙ c.events.invariant.same;
+      renumbered = c.in-Some-Ok.ensures.renumbered ∙ c.events.invariant.renumbered;
       goes = goes_on _ _ _ c.events.invariant.goes moved;
       onward = λ start before. c.in-Some-Ok.ensures.onward start (c.events.invariant.onward start before);
     }

@@ -9,6 +9,7 @@ abbrev pub invariant-events : goal.invariant-events
 invariant-events g l = record {
   gave : GaveFirst g.T.Input.unread l.fn.parser l.parser (plain_events l.items.items);
   same : l.parser.stepper.scanner.options ≡ l.fn.parser.stepper.scanner.options;
+  renumbered : l.parser.stepper.renumbered ≡ l.fn.parser.stepper.renumbered;
   goes : Goes (g.T.Input.origin l.fn.parser.stepper.scanner.cursor.input)
       (g.T.Input.origin l.parser.stepper.scanner.cursor.input);
   onward : GoesOnward g.T.Input.unread l.fn.parser.stepper.scanner.cursor l.parser.stepper.scanner.cursor;

@@ -12,7 +12,8 @@ returns-in-Borrowed c =
     reads_lent (options_of c.args.options) c.args.above c.args.text c.replay_of.result c.replay_of.ensures.number _
     lent c.in-Borrowed.is
     c.new_from_str_with_options.ensures.options
-    (c.replay_of.ensures.known (steps_start (chars lent.now)) c.new_from_str_with_options.ensures.start)
+    (c.replay_of.ensures.known (steps_start (chars lent.now)) c.new_from_str_with_options.ensures.start
+    c.new_from_str_with_options.ensures.renumbered)
 
 pub returns-in-Ok : goal.returns-in-Ok
 returns-in-Ok c =
@@ -21,4 +22,4 @@ returns-in-Ok c =
     c.replay_of-in-Ok.ensures.number _ c.in-Owned.text
     c.as_str.result.now c.in-Owned.is c.in-Ok.ensures.options (ap chars c.as_str.ensures.value)
     (c.replay_of-in-Ok.ensures.known (start_from (bare_start text))
-    (c.in-Ok.ensures.start text c.characters-characters.ensures.gives))
+    (c.in-Ok.ensures.start text c.characters-characters.ensures.gives) c.in-Ok.ensures.renumbered)

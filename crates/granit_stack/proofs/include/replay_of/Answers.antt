@@ -1,9 +1,12 @@
+use Rattle.std.proofs.Common.{◌∙◌}
 use Rattle.granit_stack.proofs.ReadLemmas.{fails_all}
 use Rattle.granit_stack.specs.Including.{numbered}
 use Rattle.granit_stack.proofs.include.replay_of.Goals as goal
 
 pub returns-clause-known : goal.returns-clause-known
-returns-clause-known g c = λ m at.
+returns-clause-known g c = λ m at fresh.
     let n = numbered c.args.above m in
-    fails_all g.T.Input.origin _ _ n c.in-Err.error c.gather.new.parser.stepper.scanner.cursor
-    c.number_from.ensures.options c.requires.whole (c.in-Err.ensures.known n (c.number_from.ensures.known m at))
+    fails_all g.T.Input.origin _ _ c.args.above n c.in-Err.error c.gather.new.parser.stepper
+    c.number_from.ensures.options c.requires.whole
+    (λ none. c.gather.ensures.renumbered ∙ c.number_from.ensures.renumbered none ∙ fresh)
+    (c.in-Err.ensures.known n (c.number_from.ensures.known m at))

@@ -18,6 +18,7 @@ events-init g c = let r = g.R.SpannedEventReceiver in record {
   sent = sent_none g.T.Input.unread c.args.self.now c.args.multi
       (record { events = r.taken c.args.recv.now; places = r.spans c.args.recv.now });
   same = refl;
+  renumbered = refl;
   given = refl;
   moves = search rules;
   quiet = λ none. quiet_first g.T.Input.origin c.args.self.now none;
@@ -67,6 +68,7 @@ events-preserved g c =
           more
           (took_one mid new x c.on_event.ensures.events c.on_event.ensures.places);
       same = c.in-Some-Ok.ensures.options ∙ c.events.invariant.same;
+      renumbered = c.in-Some-Ok.ensures.renumbered ∙ c.events.invariant.renumbered;
       given =
           subst (λ (y : Result (Event × Span) Refused). Keeps (Some y) c.events.self.given c.next_event.new.self.given)
           c.in-Some-Ok.field-0-is c.in-Some-Ok.ensures.given ∙ c.events.invariant.given;

@@ -10,6 +10,7 @@ invariant-events g l = record {
       (record { events = g.R.SpannedEventReceiver.taken l.fn.recv; places = g.R.SpannedEventReceiver.spans l.fn.recv })
       (record { events = g.R.SpannedEventReceiver.taken l.recv; places = g.R.SpannedEventReceiver.spans l.recv });
   same : l.self.stepper.scanner.options ≡ l.fn.self.stepper.scanner.options;
+  renumbered : l.self.stepper.renumbered ≡ l.fn.self.stepper.renumbered;
   given : l.self.given ≡ l.fn.self.given;
   moves : Moves g.T.Input.unread g.T.Input.left g.T.Input.origin l.fn.self.stepper.scanner.cursor
       l.self.stepper.scanner.cursor;

@@ -18,14 +18,18 @@ pub returns-clause-known : goal.returns-clause-known
 returns-clause-known g c = λ m at. rw c.unless_failed.ensures (known_by g.T.Input.unread g.T.Input.origin
     c.args.self.now.stepper c.step_event-event.new.self.stepper c.take_source_error-error.new.self.stepper
     c.step_event-event.ensures.moves.1 c.take_source_error-error.ensures.origin c.take_source_error-error.result
-    c.step_event-event.result _ c.take_source_error-error.ensures.given c.take_source_error-error.ensures.place
+    c.step_event-event.result c.args.self.now.stepper.renumbered c.args.self.now.stepper.scanner.options m
+    (c.take_source_error-error.ensures.renumbered ∙ c.step_event-event.ensures.renumbered)
+    c.take_source_error-error.ensures.given c.take_source_error-error.ensures.place
     c.take_source_error-error.ensures.known (c.step_event-event.ensures.known m at))
 
 pub returns-clause-sure : goal.returns-clause-sure
 returns-clause-sure g c = λ m at none. rw c.unless_failed.ensures (sure_by g.T.Input.unread g.T.Input.origin
     c.args.self.now.stepper c.step_event-event.new.self.stepper c.take_source_error-error.new.self.stepper
     c.step_event-event.ensures.moves.1 c.take_source_error-error.ensures.origin c.take_source_error-error.result
-    c.step_event-event.result _ c.take_source_error-error.ensures.given c.take_source_error-error.ensures.known none
+    c.step_event-event.result c.args.self.now.stepper.renumbered c.args.self.now.stepper.scanner.options m
+    (c.take_source_error-error.ensures.renumbered ∙ c.step_event-event.ensures.renumbered)
+    c.take_source_error-error.ensures.given c.take_source_error-error.ensures.known none
     (c.step_event-event.ensures.known m at))
 
 pub returns-clause-source : goal.returns-clause-source

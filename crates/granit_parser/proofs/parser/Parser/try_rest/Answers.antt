@@ -19,6 +19,7 @@ events-init g c = let r = g.R.TrySpannedEventReceiver in record {
   sent = sent_none g.T.Input.unread c.args.self.now c.args.multi
       (record { events = r.taken c.args.recv.now; places = r.spans c.args.recv.now });
   same = refl;
+  renumbered = refl;
   given = refl;
   errors = refl;
   moves = search rules;
@@ -84,6 +85,7 @@ events-preserved g c =
           more
           (took_one mid new x c.on_event.ensures.events c.on_event.ensures.places);
       same = c.in-Some-Ok.ensures.options ∙ c.events.invariant.same;
+      renumbered = c.in-Some-Ok.ensures.renumbered ∙ c.events.invariant.renumbered;
       given =
           subst (λ (y : Result (Event × Span) Refused). Keeps (Some y) c.events.self.given c.next_event.new.self.given)
           c.in-Some-Ok.field-0-is c.in-Some-Ok.ensures.given ∙ c.events.invariant.given;

@@ -13,6 +13,7 @@ invariant-events g l = record {
       })
       (record { events = g.R.TrySpannedEventReceiver.taken l.recv; places = g.R.TrySpannedEventReceiver.spans l.recv });
   same : l.self.stepper.scanner.options ≡ l.fn.self.stepper.scanner.options;
+  renumbered : l.self.stepper.renumbered ≡ l.fn.self.stepper.renumbered;
   given : l.self.given ≡ l.fn.self.given;
   errors : g.R.TrySpannedEventReceiver.errors l.recv ≡ g.R.TrySpannedEventReceiver.errors l.fn.recv;
   moves : Moves g.T.Input.unread g.T.Input.left g.T.Input.origin l.fn.self.stepper.scanner.cursor

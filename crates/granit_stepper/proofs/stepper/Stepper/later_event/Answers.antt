@@ -1,5 +1,7 @@
-use Rattle.std.proofs.Common.{◌≡◌, None, Ok, sym, ap, subst, ◌∙◌}
+use Rattle.std.proofs.Common.{◌≡◌, ◌⊎◌, Bool, None, Ok, sym, ap, subst, ◌∙◌}
 use Rattle.granit_cursor.specs.Reading.{GivesTo}
+use Rattle.granit_lexemes.specs.Outcome.{Fails}
+use Rattle.granit_stepper.specs.Numbers.{RefusesNumber}
 use Rattle.granit_stepper.specs.Stepping.{Stepping, StandsIn, no_events}
 use Rattle.granit_stepper.proofs.StateLemmas.{gives_next, next_fails}
 use Rattle.granit_stepper.proofs.stepper.Stepper.later_event.Goals as goal
@@ -13,6 +15,7 @@ returns-in-Ok-clause-known g c = λ m at told.
       parser = c.self.inside.parser;
       first = c.self.inside.first;
       failed = c.self.inside.failed;
+      renumbered = c.self.inside.renumbered;
     } in
     let o = c.args.self.now.scanner.options in
     let first = ap (λ (s : Stepping g.row.T.Denot). s.first) c.self.view_is ∙ c.in-Ok.ensures.keeps.first ∙ told in
@@ -24,4 +27,8 @@ returns-in-Ok-clause-known g c = λ m at told.
 
 pub returns-in-Err-clause-known : goal.returns-in-Err-clause-known
 returns-in-Err-clause-known g c = λ m at told.
-    next_fails g.T.Input.unread c.args.self.now.scanner.options m c.in-Err.error (c.in-Err.ensures.known m at told)
+    let o = c.args.self.now.scanner.options in
+    let e = c.in-Err.error in
+    next_fails g.T.Input.unread c.args.self.now.renumbered o m e
+    (subst (λ (b : Bool). Fails e (settle o m) ⊎ RefusesNumber b o m e) c.in-Err.ensures.keeps.renumbered
+    (c.in-Err.ensures.known m at told))

@@ -14,6 +14,7 @@ returns-in-Some-clause-known g c = λ m at.
       parser = c.self.inside.parser;
       first = c.self.inside.first;
       failed = c.self.inside.failed;
+      renumbered = c.self.inside.renumbered;
     } in
     let here = subst (λ (s : Stepping g.row.T.Denot). StandsIn unread s m) (sym c.self.view_is) at in
     let told : plain_event (events.StreamStart, c.empty.result) ≡ event_on StreamStart c.in-Some.start =

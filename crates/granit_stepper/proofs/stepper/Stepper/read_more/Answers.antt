@@ -14,6 +14,7 @@ returns-clause-known g c = λ m at waits.
       parser = c.self.inside.parser;
       first = c.self.inside.first;
       failed = c.self.inside.failed;
+      renumbered = c.self.inside.renumbered;
     } in
     let after = c.read_on.new.self in
     let here : StandsIn unread inside m = subst

@@ -1,8 +1,16 @@
 use Rattle.std.proofs.Common.{◌≡◌, Bool, true, false, Ok, subst, arith}
 use Rattle.std.proofs.lemmas.Result.{err_from_is_err_and}
-use Rattle.granit_input.proofs.OriginLemmas.{goes_on}
-use Rattle.granit_stepper.proofs.SettleLemmas.{Turned, alike_done, alike_fails, alike_more, keeps_both}
+use Rattle.granit_input.proofs.OriginLemmas.{goes_nowhere, goes_on}
+use Rattle.granit_stepper.proofs.SettleLemmas.{Turned, alike_done, alike_fails, alike_first, alike_more, keeps_both}
+use Rattle.granit_stepper.proofs.SettleLemmas.{keeps_itself}
 use Rattle.granit_stepper.proofs.stepper.Stepper.settle.Goals as goal
+
+pub turns-init : goal.turns-init
+turns-init g c = record {
+  alike = alike_first g.T.Input.unread c.args.self.now;
+  keeps = keeps_itself c.args.self.now;
+  moves = (omega arith, goes_nowhere _, λ start before. before);
+}
 
 pub returns-in_err-turn-clause-known : goal.returns-in_err-turn-clause-known
 returns-in_err-turn-clause-known g c = λ m at told.

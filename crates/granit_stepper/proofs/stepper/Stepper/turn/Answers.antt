@@ -3,7 +3,9 @@ use Rattle.granit_cursor.specs.Reading.{GivesTo}
 use Rattle.granit_error.specs.OptionsData.{OptionsData}
 use Rattle.granit_lexemes.specs.PlainEvent.{PlainEvent}
 use Rattle.granit_scanner.specs.Scans.{front_view}
+use Rattle.granit_stepper.specs.Numbers.{GetsLast, GivesOr, RefusesNumber}
 use Rattle.granit_stepper.specs.Stepping.{Stepping, StandsIn, feed_item, turn_view}
+use Rattle.granit_stepper.proofs.NumberLemmas.{gives_or, turn_or}
 use Rattle.granit_stepper.proofs.StateLemmas.{waiting}
 use Rattle.granit_stepper.proofs.TurnLemmas.{none_given, some_given, turn_feeds, turn_reads, turn_waits}
 use Rattle.granit_stepper.proofs.stepper.Stepper.turn.Goals as goal
@@ -34,10 +36,12 @@ returns-in-Some-clause-known g c = λ m at told.
     let behind : StepState = record m { queue = free.0 } in
     let fed = c.take_item.ensures.known behind free.4 (c.in-Some.ensures.keeps.first ∙ told) pending in
     let same = subst
-    (λ (p : OptionsData). GivesTo turn_view c.take_item.result (StandsIn unread after) (feed_item p x behind))
-    c.in-Some.ensures.keeps.options fed in
-    subst (λ (r : Turn). GivesTo turn_view c.take_item.result (StandsIn unread after) r)
-    (sym (turn_feeds o m x free.0 pending free.1 free.2 free.3)) same
+    (λ (p : OptionsData). GivesOr turn_view c.take_item.result (StandsIn unread after) (feed_item p x behind)
+    (λ e. (after.renumbered ≡ true) × GetsLast p x m.parser e)) c.in-Some.ensures.keeps.options fed in
+    subst (λ (r : Turn). GivesOr turn_view c.take_item.result (StandsIn unread after) r
+    (RefusesNumber after.renumbered o m)) (sym (turn_feeds o m x free.0 pending free.1 free.2 free.3))
+    (turn_or o m x free.0 pending free.1 free.2 free.3 turn_view c.take_item.result (StandsIn unread after)
+    after.renumbered (feed_item o x behind) same)
 
 pub returns-in-None-clause-known : goal.returns-in-None-clause-known
 returns-in-None-clause-known g c = λ m at told.
@@ -53,5 +57,7 @@ returns-in-None-clause-known g c = λ m at told.
     let same = subst
     (λ (p : OptionsData). GivesTo turn_view c.read_more.result (StandsIn unread after) (read_more p m.reading.ended m))
     c.in-None.ensures.keeps.options read in
-    subst (λ (r : Turn). GivesTo turn_view c.read_more.result (StandsIn unread after) r)
-    (sym (turn_reads o m pending free.0)) same
+    subst (λ (r : Turn). GivesOr turn_view c.read_more.result (StandsIn unread after) r
+    (RefusesNumber after.renumbered o m)) (sym (turn_reads o m pending free.0))
+    (gives_or turn_view c.read_more.result (StandsIn unread after) (read_more o m.reading.ended m)
+    (RefusesNumber after.renumbered o m) same)

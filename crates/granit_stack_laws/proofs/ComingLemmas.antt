@@ -18,7 +18,8 @@ use Rattle.granit_recovery.specs.Ids.{IdsFrom, counting_from, id_of}
 use Rattle.granit_replay.specs.Replaying.{Replay}
 use Rattle.granit_replay.specs.declared.resolver.Included.{Included}
 use Rattle.granit_replay.specs.declared.resolver.Included.TheVariants.{Owned, Borrowed}
-use Rattle.granit_stack.specs.Coming.{IncludeComesThrough}
+use Rattle.granit_stack_laws.proofs.SingleLemmas.{OneStart, single}
+use Rattle.granit_stack_laws.specs.Coming.{IncludeComesThrough}
 use Rattle.granit_stack.specs.Including.{ReadsText, replayed}
 use Rattle.granit_steps.specs.Told.{GivesEvents}
 
@@ -64,9 +65,9 @@ fourth_resets a b c n p (Fourth q) set = ap Fourth set
 module _ {S R : Type 0} (steps : S → Next → S → Type 0) (offset : S → ℕ) (sets : ℕ → S → S → Type 0)
     (above : S → ℕ → ℕ) (again : Replay → S) (answers : R → List ℕ → Result Included Refused → R → Type 0)
     (errors : R → ℕ) where
-  pub include_comes : BeginIds → ReplayComesThrough steps offset sets again → Resets sets again
+  pub include_comes : BeginIds → OneStart → ReplayComesThrough steps offset sets again → Resets sets again
       → IncludeComesThrough steps offset sets above again answers errors
-  include_comes ids comes resets o k ks new resolver after name include =
+  include_comes ids start comes resets o k ks new resolver after name include =
       let read = include.2 in
       let r = read.0 in
       let pushed = read.2 in
@@ -81,5 +82,6 @@ module _ {S R : Type 0} (steps : S → Next → S → Type 0) (offset : S → �
         read = read.1;
         ids = text_ids ids o (offset k.parser) include.0 r read.1;
         comes = λ one p q given at calls.
-            comes p q title (record r { anchor_offset = n }) k ks given (at ∙ lies) one calls;
+            comes p q title (record r { anchor_offset = n }) k ks given (at ∙ lies)
+            (single start o (Some (offset k.parser)) include.0 r read.1 one) calls;
       }

@@ -1,15 +1,16 @@
 -- What comes of an include.
-use Rattle.std.specs.Prelude.{◌≡◌, ℕ, List, ◌∷◌, ◌++◌, false, Option, Some, Result, Ok}
+use Rattle.std.specs.Prelude.{◌≡◌, ◌≤◌, ℕ, List, ◌∷◌, ◌++◌, Option, Some, Result, Ok}
 use Rattle.granit_base.specs.declared.place.Span.{Span}
 use Rattle.granit_error.specs.OptionsData.{OptionsData}
 use Rattle.granit_error.specs.Refused.{Refused}
 use Rattle.granit_event.specs.declared.event.Event.{Event}
-use Rattle.granit_layers.specs.Nested.{IsOneDocument, those_through}
-use Rattle.granit_layers.specs.Passing.{Calls, Passes, held}
+use Rattle.granit_layers.specs.Nested.{those_through}
+use Rattle.granit_layers.specs.Passing.{StackRun, Passes, held}
 use Rattle.granit_layers.specs.Stacking.{Stack}
 use Rattle.granit_layers.specs.Turning.{Next}
 use Rattle.granit_layers.specs.declared.layer.Layer.{Layer}
 use Rattle.granit_recovery.specs.Ids.{IdsFrom}
+use Rattle.granit_recovery.specs.OneDocument.{document_starts}
 use Rattle.granit_replay.specs.Replaying.{Replay}
 use Rattle.granit_replay.specs.declared.resolver.Included.{Included}
 use Rattle.granit_stack.specs.Including.{Includes, ReadsText, Resolves, replayed}
@@ -24,10 +25,10 @@ pub record IncludedText {S R : Type 0} (steps : S → Next → S → Type 0) (of
   pub read : ReadsText o (Some (offset k.parser)) text (Ok events)
   -- its anchors have ids that the parser below it hasn't given
   pub ids : IdsFrom (offset k.parser) (replayed events)
-  -- where it has at most one document, steps of the stack give what was looked at, then exactly what comes through of
-  -- it, and then what the parsers below give
-  pub comes : IsOneDocument false events.events → (p q : Stack S) (given : List (Event × Span)) → p.layers ≡ new
-      → Calls steps offset sets p given q
+  -- where at most one of its events starts a document, steps of the stack give what was looked at, then exactly what
+  -- comes through of it, and then what the parsers below give
+  pub comes : document_starts (replayed events) ≤ 1 → (p q : Stack S) (given : List (Event × Span)) → p.layers ≡ new
+      → StackRun steps offset sets p given q
       → Passes steps offset sets p.emits_comments (k ∷ ks)
       (held p.peeked ++ those_through p.emits_comments events.events) given q.layers
 

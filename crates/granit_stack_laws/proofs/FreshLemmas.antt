@@ -13,8 +13,9 @@ use Rattle.granit_layers.specs.declared.turn.Part.{Part}
 use Rattle.granit_layers.specs.declared.turn.Part.TheVariants as parts
 use Rattle.granit_layers.specs.declared.turn.Turn.{Turn}
 use Rattle.granit_layers.specs.declared.turn.Turn.TheVariants.{Gives, Withholds, Leaves, Ends, Fails}
-use Rattle.granit_stack.specs.Fresh.{Happens, IdBelow, IdsBelow, Numbering, is_given, is_pushed, is_quiet, last_number}
-use Rattle.granit_stack.specs.Fresh.{nothing}
+use Rattle.granit_stack_laws.specs.Fresh.{Happens, IdBelow, IdsBelow, Numbering, is_given, is_pushed}
+use Rattle.granit_stack_laws.specs.Fresh.{is_quiet, last_number}
+use Rattle.granit_stack_laws.specs.Fresh.{nothing}
 
 -- ---- what comes of a step
 

@@ -1,6 +1,6 @@
-use Rattle.granit_stack.proofs.FreshLemmas.{ids_are_below}
-use Rattle.granit_stack.proofs.LifeLemmas.{any_numbers, parser_numbers, replay_numbers}
-use Rattle.granit_stack.proofs.laws.ids_are_new.Goals as goal
+use Rattle.granit_stack_laws.proofs.FreshLemmas.{ids_are_below}
+use Rattle.granit_stack_laws.proofs.LifeLemmas.{any_numbers, parser_numbers, replay_numbers}
+use Rattle.granit_stack_laws.proofs.laws.ids_are_new.Goals as goal
 
 pub returns : goal.returns
 returns g c = λ emits new es life.

@@ -1,19 +1,36 @@
 //! What follows for includes.
-ghost use Rattle.std.specs.Prelude.{⊤};
+ghost use Rattle.std.specs.Prelude.{◌≤◌, ℕ, false, Ok, Option, ⊤};
+ghost use Rattle.granit_error.specs.OptionsData.{OptionsData};
+ghost use Rattle.granit_layers.specs.Nested.{IsOneDocument};
 ghost use Rattle.granit_layers.specs.declared.kinds.AnyKind.TheVariants.{Fourth};
-ghost use Rattle.granit_stack.specs.Coming.{IncludeComesThrough};
-ghost use Rattle.granit_stack.specs.Fresh.{IdsAreNew};
-ghost use Rattle.granit_stack.specs.Life.{IsUnread, UnreadAny};
+ghost use Rattle.granit_recovery.specs.OneDocument.{document_starts};
+ghost use Rattle.granit_replay.specs.Replaying.{Replay};
+ghost use Rattle.granit_replay.specs.declared.resolver.Included.{Included};
+ghost use Rattle.granit_stack_laws.specs.Coming.{IncludeComesThrough};
+ghost use Rattle.granit_stack_laws.specs.Fresh.{IdsAreNew};
+ghost use Rattle.granit_stack.specs.Including.{ReadsText, replayed};
+ghost use Rattle.granit_stack_laws.specs.Life.{IsUnread, UnreadAny};
 
 use granit_input::BorrowedInput;
 use granit_layers::{AnyKind, StackedParser, a_replay_comes_through};
 use granit_parser::Parser;
-use granit_recovery::{ids_are_counted, ids_begin_at_the_offset};
+use granit_recovery::{
+    a_text_with_one_start_is_one_document, ids_are_counted, ids_begin_at_the_offset,
+};
 use granit_replay::{ReplayParser, Resolver};
 
+/// A text that is read whole, above a parser or not, has at most one document where at most one of its events starts
+/// one.
+pub fn a_text_with_one_start_has_one_document()
+    ensures { (o : OptionsData) (above : Option ℕ) (text : Included) (p : Replay) → ReadsText o above text (Ok p)
+        → document_starts (replayed p) ≤ 1 → IsOneDocument false p.events }
+{
+    a_text_with_one_start_is_one_document();
+}
+
 /// An include that is answered comes through: its anchors have ids from the number of the parser below it on, and where
-/// it has at most one document, steps of the stack give exactly its events but for the beginnings and ends of its
-/// stream and its document, and comments only where they are asked for, behind what was looked at.
+/// at most one of its events starts a document, steps of the stack give exactly its events but for the beginnings and
+/// ends of its stream and its document, and comments only where they are asked for, behind what was looked at.
 pub fn an_include_comes_through<'input, A, B, C, R>()
 where
     A: StackedParser<'input>,
@@ -27,6 +44,7 @@ where
         ⟦<AnyKind<A, B, C, ReplayParser<'input>> as StackedParser<'input>>⟧.offset_over Fourth R.answers R.errors }
 {
     ids_begin_at_the_offset();
+    a_text_with_one_start_is_one_document();
     a_replay_comes_through::<A, B, C>();
 }
 

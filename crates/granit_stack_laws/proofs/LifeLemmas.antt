@@ -22,8 +22,8 @@ use Rattle.granit_parser.specs.Parsing.{Parsing, StandsAt, StandsBefore, StepsTo
 use Rattle.granit_recovery.specs.Ids.{Counted, counted_more, counted_start, counted_step, counting_from, id_of, id_told}
 use Rattle.granit_recovery.specs.Ids.{with_count}
 use Rattle.granit_replay.specs.Replaying.{Replay, behind_next, next_of, raised_by, raised_over}
-use Rattle.granit_stack.specs.Fresh.{IdBelow, Numbering, last_number}
-use Rattle.granit_stack.specs.Life.{IsUnread, UnreadAny}
+use Rattle.granit_stack_laws.specs.Fresh.{IdBelow, Numbering, last_number}
+use Rattle.granit_stack_laws.specs.Life.{IsUnread, UnreadAny}
 use Rattle.granit_stepper.specs.Stepping.{Stepping, StandsIn}
 use Rattle.granit_steps.specs.Steps.{StepState, next_event}
 
@@ -45,6 +45,9 @@ reaches n m top is small = omega arith
 
 less_one : (n m count top : ℕ) → min (suc count) top ≤ n → m ≡ min (suc (n - 1)) top → m < top → count ≤ n - 1
 less_one n m count top less is small = omega arith
+
+within : (n m top : ℕ) → m ≡ min (suc (n - 1)) top → m < top → n - 1 < top
+within n m top is small = omega arith
 
 module _ {I : Type 0} (unread : I → Unread → Type 0) (left : I → ℕ) (origin : I → Origin) (law : StepsCount) where
   pub record IsCounted (p : Parsing I) : Type 0 where
@@ -102,19 +105,21 @@ module _ {I : Type 0} (unread : I → Unread → Type 0) (left : I → ℕ) (ori
       went p q None gives.0 g gives.1 gives.2 step.none step.options
 
   -- a number is set
-  set_in : (s : Stepping I) (m : StepState) (count : ℕ) → StandsIn unread s m
-      → StandsIn unread (record s { parser = record (s.parser) { count = count } }) (with_count count m)
-  set_in s m count x = record {
+  set_in : (s : Stepping I) (m : StepState) (count : ℕ) → count < last_number → StandsIn unread s m
+      → StandsIn unread (record s { parser = record (s.parser) { count = count }; renumbered = true })
+      (with_count count m)
+  set_in s m count small x = record {
     going = x.going;
     reading = x.reading;
     parser = ap (λ (p : ParserState). record p { count = count }) x.parser;
     pending = x.pending;
+    numbers = small;
   }
 
-  set_as : (n : ℕ) (p q : Parsing I) (m after : StepState) → q ≡ with_number n p → p.peeked ≡ None
-      → after ≡ with_count (n - 1) m → StandsIn unread p.stepper m → Counted p.stepper.scanner.options after
-      → IsCounted q
-  set_as n p q m after set unseen is stands counted = record {
+  set_as : (n : ℕ) (p q : Parsing I) (m after : StepState) → n - 1 < last_number → q ≡ with_number n p
+      → p.peeked ≡ None → after ≡ with_count (n - 1) m → StandsIn unread p.stepper m
+      → Counted p.stepper.scanner.options after → IsCounted q
+  set_as n p q m after small set unseen is stands counted = record {
     state = after;
     counted =
         subst (λ (x : OptionsData). Counted x after)
@@ -122,7 +127,7 @@ module _ {I : Type 0} (unread : I → Unread → Type 0) (left : I → ℕ) (ori
     stands =
         subst (λ (x : StepState). StandsIn unread q.stepper x) (sym is)
         (subst (λ (s : Stepping I). StandsIn unread s (with_count (n - 1) m))
-        (sym (ap (λ (x : Parsing I). x.stepper) set)) (set_in p.stepper m (n - 1) stands));
+        (sym (ap (λ (x : Parsing I). x.stepper) set)) (set_in p.stepper m (n - 1) small stands));
     unseen = ap (λ (x : Parsing I). x.peeked) set ∙ unseen;
   }
 
@@ -147,12 +152,13 @@ module _ {I : Type 0} (unread : I → Unread → Type 0) (left : I → ℕ) (ori
         let low : p.stepper.parser.count ≤ n - 1 =
         less_one n (next_number q) p.stepper.parser.count last_number less is small in
         let more : g.state.parser.count ≤ n - 1 = omega arith in (
-          set_as n p q g.state (with_count (n - 1) g.state) set g.unseen refl g.stands
-              (counted_more (n - 1) g.counted more),
+          set_as n p q g.state (with_count (n - 1) g.state) (within n (next_number q) last_number is small) set
+              g.unseen refl g.stands (counted_more (n - 1) g.counted more),
           reaches n (next_number q) last_number is small,
         );
     begins = λ n p q u set small. (
-      set_as n p q (counting_from u.count u.start) (counting_from (n - 1) u.start) set u.unseen refl u.stands
+      set_as n p q (counting_from u.count u.start) (counting_from (n - 1) u.start)
+          (within n (next_number q) last_number (numbered_as n p q set) small) set u.unseen refl u.stands
           (counted_start (n - 1) u.start),
       reaches n (next_number q) last_number (numbered_as n p q set) small,
     );

@@ -8,11 +8,13 @@ ghost use Rattle.granit_layers.specs.Stacking.{layer_of};
 ghost use Rattle.granit_layers.specs.declared.kinds.AnyKind.TheVariants.{Fourth};
 ghost use Rattle.granit_lexemes.specs.Here.{Here};
 ghost use Rattle.granit_parser.specs.Parsing.{Parsing, StandsAt};
+ghost use Rattle.granit_recovery.specs.OneDocument.{document_starts};
 ghost use Rattle.granit_replay.specs.declared.resolver.Included.TheVariants.{Borrowed};
-ghost use Rattle.granit_stack.specs.Examples.{named, small_events, small_layer, small_life, small_replay, small_text};
-ghost use Rattle.granit_stack.specs.Fresh.{Happens};
-ghost use Rattle.granit_stack.specs.Including.{Includes, ReadsText};
-ghost use Rattle.granit_stack.specs.Life.{IsUnread, UnreadAny};
+ghost use Rattle.granit_stack_laws.specs.Examples.{named, small_events, small_layer, small_life};
+ghost use Rattle.granit_stack_laws.specs.Examples.{small_replay, small_text};
+ghost use Rattle.granit_stack_laws.specs.Fresh.{Happens};
+ghost use Rattle.granit_stack.specs.Including.{Includes, ReadsText, replayed};
+ghost use Rattle.granit_stack_laws.specs.Life.{IsUnread, UnreadAny};
 ghost use Rattle.granit_steps.specs.Steps.{start_from};
 
 use crate::laws::AnyParser;
@@ -26,9 +28,11 @@ pub fn a_new_parser_is_unread<'input, T: BorrowedInput<'input>>()
         → IsUnread T.unread p }
 {}
 
-/// The text has one document, and what is read of it above a parser with the number 2 are its events.
+/// The text has one document, and what is read of it above a parser with the number 2 are its events, of which one
+/// starts a document.
 pub fn a_small_text_is_read()
     ensures one_document { IsOneDocument false (small_events 2) }
+    ensures one_start { document_starts (replayed (small_replay 2)) ≡ 1 }
     ensures read { (text : Bor (List ℕ)) → chars text.now ≡ small_text
         → ReadsText default_options (Some 2) (Borrowed text) (Ok (small_replay 2)) }
 {}

@@ -20,11 +20,11 @@ use Rattle.granit_lexemes.specs.Outcome.{Fault}
 use Rattle.granit_lexemes.specs.PlainEvent.{PlainEvent, plain_span}
 use Rattle.granit_replay.specs.Replaying.{Replay, behind_next, next_of, raised_by}
 use Rattle.granit_replay.specs.declared.resolver.Included.TheVariants.{Borrowed}
-use Rattle.granit_stack.specs.Examples.{mark_at, named, small_events, small_layer, small_life, small_replay}
-use Rattle.granit_stack.specs.Examples.{small_text}
-use Rattle.granit_stack.specs.Fresh.{Happens, is_given, is_pushed, is_quiet, last_number, nothing}
+use Rattle.granit_stack_laws.specs.Examples.{mark_at, named, small_events, small_layer, small_life, small_replay}
+use Rattle.granit_stack_laws.specs.Examples.{small_text}
+use Rattle.granit_stack_laws.specs.Fresh.{Happens, is_given, is_pushed, is_quiet, last_number, nothing}
 use Rattle.granit_stack.specs.Including.{ReadsText}
-use Rattle.granit_stack.specs.Life.{UnreadAny}
+use Rattle.granit_stack_laws.specs.Life.{UnreadAny}
 use Rattle.granit_stepper.specs.Offset.{with_offset}
 use Rattle.granit_steps.specs.Steps.{StepState, steps_start}
 use Rattle.granit_steps.specs.Told.{GivesEvents, gives_end, gives_event}

@@ -1,0 +1,5 @@
+mod ComingLemmas
+mod ExampleLemmas
+mod FreshLemmas
+mod LifeLemmas
+mod SingleLemmas
