@@ -1,2 +1,3 @@
 pub mod GivingLemmas
+pub mod HandleLemmas
 pub mod TailLemmas

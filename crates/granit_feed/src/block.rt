@@ -32,8 +32,9 @@ pub(crate) fn in_sequence<'input>(
     column: usize,
     indentless: bool,
 ) -> Result<(), ScanError>
-    ensures { LeavesIfRoom result state.new (steps.in_sequence (options_of options.now)
+    ensures leaves { LeavesIfRoom result state.new (steps.in_sequence (options_of options.now)
         (machine_token token.old) column indentless state.old) }
+    ensures kept { state.new.kept ≡ state.old.kept }
 {
     if token.sort.is_dash() && token.is_in_column(column) {
         state.give_empty()?;
@@ -55,7 +56,8 @@ fn mapping_at<'input>(
     column: usize,
     stage: PairStage,
 ) -> Result<(), NoMemory>
-    ensures { OnOk result (state.new ≡ steps.mapping_at column (pair_view stage) state.old) }
+    ensures leaves { OnOk result (state.new ≡ steps.mapping_at column (pair_view stage) state.old) }
+    ensures kept { state.new.kept ≡ state.old.kept }
 {
     state.flush()?;
     state.with_top(Frame::BlockMapping(column, stage))
@@ -69,8 +71,9 @@ fn mapping_colon<'input>(
     token: &Token<'input>,
     column: usize,
 ) -> Result<(), NoMemory>
-    ensures { OnOk result (state.new ≡ steps.mapping_colon (options_of options.now)
+    ensures leaves { OnOk result (state.new ≡ steps.mapping_colon (options_of options.now)
         (machine_token token.now) column state.old) }
+    ensures kept { state.new.kept ≡ state.old.kept }
 {
     mapping_at(state, column, PairStage::AtValue)?;
     state.waits(
@@ -89,8 +92,9 @@ fn bare_colon_in_mapping<'input>(
     column: usize,
     stage: PairStage,
 ) -> Result<(), NoMemory>
-    ensures { OnOk result (state.new ≡ steps.bare_colon_in_mapping (options_of options.now)
+    ensures leaves { OnOk result (state.new ≡ steps.bare_colon_in_mapping (options_of options.now)
         (machine_token token.now) column (pair_view stage) state.old) }
+    ensures kept { state.new.kept ≡ state.old.kept }
 {
     let start = token.lexeme.start;
     match stage {
@@ -116,8 +120,9 @@ fn colon_behind_pair<'input>(
     token: &Token<'input>,
     column: usize,
 ) -> Result<(), NoMemory>
-    ensures { OnOk result (state.new ≡ steps.bare_colon_in_mapping (options_of options.now)
+    ensures leaves { OnOk result (state.new ≡ steps.bare_colon_in_mapping (options_of options.now)
         (machine_token token.now) column machine.BeforePair state.old) }
+    ensures kept { state.new.kept ≡ state.old.kept }
 {
     let start = token.lexeme.start;
     state.owed(start)?;
@@ -133,8 +138,9 @@ fn pair_colon<'input>(
     column: usize,
     stage: PairStage,
 ) -> Result<(), ScanError>
-    ensures { LeavesIfRoom result state.new (steps.next_pair (options_of options.now)
+    ensures leaves { LeavesIfRoom result state.new (steps.next_pair (options_of options.now)
         (machine_token token.now) column (pair_view stage) sorts.BareColon state.old) }
+    ensures kept { state.new.kept ≡ state.old.kept }
 {
     bare_colon_in_mapping(state, alloc, options, token, column, stage)?;
     Ok(())
@@ -149,8 +155,9 @@ fn next_pair<'input>(
     column: usize,
     stage: PairStage,
 ) -> Result<(), ScanError>
-    ensures { LeavesIfRoom result state.new (steps.next_pair (options_of options.now)
+    ensures leaves { LeavesIfRoom result state.new (steps.next_pair (options_of options.now)
         (machine_token token.old) column (pair_view stage) (sort_view token.old.sort) state.old) }
+    ensures kept { state.new.kept ≡ state.old.kept }
 {
     match token.sort {
         TokenSort::BeginsKey => {
@@ -183,8 +190,9 @@ fn behind_indicator<'input>(
     column: usize,
     stage: PairStage,
 ) -> Result<(), ScanError>
-    ensures { LeavesIfRoom result state.new (steps.behind_indicator (options_of options.now)
+    ensures leaves { LeavesIfRoom result state.new (steps.behind_indicator (options_of options.now)
         (machine_token token.old) column (pair_view stage) state.old) }
+    ensures kept { state.new.kept ≡ state.old.kept }
 {
     if token.sort.begins_pair() && token.is_in_column(column) {
         return next_pair(state, alloc, options, token, column, stage);
@@ -206,8 +214,9 @@ fn at_block_key<'input>(
     options: &Options,
     token: &mut Token<'input>,
 ) -> Result<(), ScanError>
-    ensures { LeavesIfRoom result state.new (steps.at_block_key (options_of options.now) (machine_token token.old)
-        (sort_view token.old.sort) state.old) }
+    ensures leaves { LeavesIfRoom result state.new (steps.at_block_key (options_of options.now)
+        (machine_token token.old) (sort_view token.old.sort) state.old) }
+    ensures kept { state.new.kept ≡ state.old.kept }
 {
     match token.sort {
         TokenSort::BeginsNode => bare(state, alloc, options, token),
@@ -230,8 +239,9 @@ fn behind_block_key<'input>(
     token: &Token<'input>,
     column: usize,
 ) -> Result<(), ScanError>
-    ensures { LeavesIfRoom result state.new (steps.behind_block_key (options_of options.now)
+    ensures leaves { LeavesIfRoom result state.new (steps.behind_block_key (options_of options.now)
         (machine_token token.now) column (sort_view token.now.sort) state.old) }
+    ensures kept { state.new.kept ≡ state.old.kept }
 {
     match token.sort {
         TokenSort::KeyedColon => Ok(mapping_colon(state, alloc, options, token, column)?),
@@ -255,8 +265,9 @@ pub(crate) fn in_mapping<'input>(
     column: usize,
     stage: PairStage,
 ) -> Result<(), ScanError>
-    ensures { LeavesIfRoom result state.new (steps.in_mapping (options_of options.now)
+    ensures leaves { LeavesIfRoom result state.new (steps.in_mapping (options_of options.now)
         (machine_token token.old) column (pair_view stage) state.old) }
+    ensures kept { state.new.kept ≡ state.old.kept }
 {
     match stage {
         PairStage::AtKey => at_block_key(state, alloc, options, token),

@@ -1,9 +1,11 @@
 //! One item: the events that it gives, and what it leaves.
-ghost use Rattle.std.specs.Prelude.{◌≡◌, IfOk};
+ghost use Rattle.std.specs.Prelude.{◌≡◌, [], false, IfOk};
 ghost use Rattle.std.specs.Option.{option_map};
 ghost use Rattle.granit_error.specs.OptionsView.{options_of};
 ghost use Rattle.granit_sorts.specs.SortViews.{machine_token};
+ghost use Rattle.granit_feed.specs.Handles.{holds_directive, is_directive, KeepsIfRefused};
 ghost use Rattle.granit_feed.specs.Tails as tails;
+ghost use Rattle.granit_frames.specs.Outside.{NoneWaitsOutside};
 ghost use Rattle.granit_items.specs.ItemViews.{item_view, kind_view, note_view};
 ghost use Rattle.granit_machine.specs.Leaving.{LeavesIfRoom};
 ghost use Rattle.granit_machine.specs.Parser as spec;
@@ -26,8 +28,11 @@ fn take_token<'input>(
     options: &Options,
     token: &mut Token<'input>,
 ) -> Result<(), ScanError>
-    ensures { LeavesIfRoom result state.new (spec.take_token (options_of options.now)
+    ensures leaves { LeavesIfRoom result state.new (spec.take_token (options_of options.now)
         (machine_token token.old) state.old) }
+    ensures kept { is_directive (kind_view token.old.lexeme.kind) ≡ false → state.new.kept ≡ state.old.kept }
+    ensures refused { KeepsIfRefused result state.old state.new }
+    ensures inside { (state.old.frames ≡ [] → ⊥) → state.new.kept ≡ state.old.kept }
 {
     match state.top() {
         Top::Outside => outside(state, alloc, options, token),
@@ -61,7 +66,12 @@ fn clone_note<'input>(alloc: Global, note: &Note<'input>) -> Result<Note<'input>
     })
 }
 
-fn clone_tail<'input>(
+/// The comment behind a lexeme once more.
+///
+/// # Errors
+///
+/// `NoMemory` alone.
+pub fn clone_tail<'input>(
     alloc: Global,
     tail: &Option<Note<'input>>,
 ) -> Result<Option<Note<'input>>, NoMemory>
@@ -99,7 +109,9 @@ fn take_tail<'input>(
     tail: Option<Note<'input>>,
     next_line: Option<usize>,
 ) -> Result<(), ScanError>
-    ensures { LeavesIfRoom result state.new (tails.tail_taken (option_map note_view tail.entry) next_line state.old) }
+    ensures leaves { LeavesIfRoom result state.new (tails.tail_taken
+        (option_map note_view tail.entry) next_line state.old) }
+    ensures kept { state.new.kept ≡ state.old.kept }
 {
     match tail {
         None => Ok(()),
@@ -122,8 +134,10 @@ fn take_tailed<'input>(
     token: &mut Token<'input>,
     next_line: Option<usize>,
 ) -> Result<(), ScanError>
-    ensures { LeavesIfRoom result state.new (spec.take_lexeme (options_of options.now)
+    ensures leaves { LeavesIfRoom result state.new (spec.take_lexeme (options_of options.now)
         (machine_token token.old) next_line state.old) }
+    ensures kept { is_directive (kind_view token.old.lexeme.kind) ≡ false → state.new.kept ≡ state.old.kept }
+    ensures refused { NoneWaitsOutside state.old → KeepsIfRefused result state.old state.new }
 {
     let tail = tail_behind(alloc, &token.lexeme)?;
     state.close(options, token)?;
@@ -140,8 +154,10 @@ fn take_lexeme<'input>(
     token: &mut Token<'input>,
     next_line: Option<usize>,
 ) -> Result<(), ScanError>
-    ensures { LeavesIfRoom result state.new (spec.take_lexeme (options_of options.now)
+    ensures leaves { LeavesIfRoom result state.new (spec.take_lexeme (options_of options.now)
         (machine_token token.old) next_line state.old) }
+    ensures kept { is_directive (kind_view token.old.lexeme.kind) ≡ false → state.new.kept ≡ state.old.kept }
+    ensures refused { NoneWaitsOutside state.old → KeepsIfRefused result state.old state.new }
 {
     if takes_tail(&token.lexeme) {
         return take_tailed(state, alloc, options, token, next_line);
@@ -155,7 +171,8 @@ fn take_lexeme<'input>(
 ///
 /// # Errors
 ///
-/// What is wrong with it there, and `NoMemory`; nothing is said of the state from then on.
+/// What is wrong with it there, and `NoMemory`; of the state from then on it is said only that the handles that stay
+/// over documents are as before.
 pub fn feed<'input>(
     state: &mut ParserState<'input>,
     alloc: Global,
@@ -164,8 +181,10 @@ pub fn feed<'input>(
     begins_key: bool,
     next_line: Option<usize>,
 ) -> Result<(), ScanError>
-    ensures { LeavesIfRoom result state.new (spec.take_item (options_of options.now)
+    ensures fed { LeavesIfRoom result state.new (spec.take_item (options_of options.now)
         (item_view item.entry) begins_key next_line state.old) }
+    ensures kept { holds_directive (item_view item.entry) ≡ false → state.new.kept ≡ state.old.kept }
+    ensures refused { NoneWaitsOutside state.old → KeepsIfRefused result state.old state.new }
 {
     match item {
         Item::Note(note) => state.take_comment(note, next_line),

@@ -23,7 +23,8 @@ fn close_flow<'input>(
     state: &mut ParserState<'input>,
     token: &Token<'input>,
 ) -> Result<(), NoMemory>
-    ensures { OnOk result (state.new ≡ steps.close_flow (machine_token token.now) state.old) }
+    ensures leaves { OnOk result (state.new ≡ steps.close_flow (machine_token token.now) state.old) }
+    ensures kept { state.new.kept ≡ state.old.kept }
 {
     let start = token.lexeme.start;
     state.end_node(start, start, token.lexeme.shown_end)
@@ -34,7 +35,8 @@ fn flow_at<'input>(
     single: bool,
     stage: PairStage,
 ) -> Result<(), NoMemory>
-    ensures { OnOk result (state.new ≡ steps.flow_at single (pair_view stage) state.old) }
+    ensures leaves { OnOk result (state.new ≡ steps.flow_at single (pair_view stage) state.old) }
+    ensures kept { state.new.kept ≡ state.old.kept }
 {
     state.flush()?;
     state.with_top(Frame::FlowMapping(single, stage))
@@ -48,8 +50,9 @@ fn flow_colon<'input>(
     token: &Token<'input>,
     single: bool,
 ) -> Result<(), NoMemory>
-    ensures { OnOk result (state.new ≡ steps.flow_colon (options_of options.now)
+    ensures leaves { OnOk result (state.new ≡ steps.flow_colon (options_of options.now)
         (machine_token token.now) single state.old) }
+    ensures kept { state.new.kept ≡ state.old.kept }
 {
     flow_at(state, single, PairStage::AtValue)?;
     state.waits(
@@ -67,8 +70,9 @@ fn null_colon<'input>(
     token: &Token<'input>,
     single: bool,
 ) -> Result<(), NoMemory>
-    ensures { OnOk result (state.new ≡ steps.flow_colon (options_of options.now) (machine_token token.now) single
+    ensures leaves { OnOk result (state.new ≡ steps.flow_colon (options_of options.now) (machine_token token.now) single
         (giving.give (giving.null_at token.now.lexeme.start) state.old)) }
+    ensures kept { state.new.kept ≡ state.old.kept }
 {
     state.give_null(token.lexeme.start)?;
     flow_colon(state, alloc, options, token, single)
@@ -83,7 +87,9 @@ fn begin_pair<'input>(
     frame: Frame,
 ) -> Result<(), NoMemory>
     requires bare { has_properties state.old.frames ≡ false }
-    ensures { OnOk result (state.new ≡ steps.begin_pair (machine_token token.now) end (frame_view frame) state.old) }
+    ensures leaves { OnOk result (state.new ≡ steps.begin_pair (machine_token token.now) end
+        (frame_view frame) state.old) }
+    ensures kept { state.new.kept ≡ state.old.kept }
 {
     let event = Event::MappingStart(StructureStyle::Flow, 0, None);
     state.give(event, Span::new(token.lexeme.start, end))?;
@@ -99,8 +105,9 @@ fn at_entry<'input>(
     token: &mut Token<'input>,
 ) -> Result<(), ScanError>
     requires bare { has_properties state.old.frames ≡ false }
-    ensures { LeavesIfRoom result state.new (steps.at_entry (options_of options.now) (machine_token token.old)
+    ensures leaves { LeavesIfRoom result state.new (steps.at_entry (options_of options.now) (machine_token token.old)
         (sort_view token.old.sort) state.old) }
+    ensures kept { state.new.kept ≡ state.old.kept }
 {
     let start = token.lexeme.start;
     match token.sort {
@@ -142,8 +149,9 @@ fn behind_flow_entry<'input>(
     state: &mut ParserState<'input>,
     token: &Token<'input>,
 ) -> Result<(), ScanError>
-    ensures { LeavesIfRoom result state.new (steps.behind_entry_of (machine_token token.now)
+    ensures leaves { LeavesIfRoom result state.new (steps.behind_entry_of (machine_token token.now)
         (sort_view token.now.sort) state.old) }
+    ensures kept { state.new.kept ≡ state.old.kept }
 {
     match token.sort {
         TokenSort::SequenceCloser => Ok(close_flow(state, token)?),
@@ -167,8 +175,9 @@ pub(crate) fn in_flow_sequence<'input>(
     behind_entry: bool,
 ) -> Result<(), ScanError>
     requires bare { has_properties state.old.frames ≡ false }
-    ensures { LeavesIfRoom result state.new (steps.in_flow_sequence (options_of options.now)
+    ensures leaves { LeavesIfRoom result state.new (steps.in_flow_sequence (options_of options.now)
         (machine_token token.old) behind_entry state.old) }
+    ensures kept { state.new.kept ≡ state.old.kept }
 {
     if behind_entry {
         behind_flow_entry(state, token)
@@ -185,8 +194,9 @@ fn behind_comma<'input>(
     token: &Token<'input>,
     single: bool,
 ) -> Result<(), NoMemory>
-    ensures { OnOk result (state.new ≡ steps.flow_at single machine.BeforePair
+    ensures leaves { OnOk result (state.new ≡ steps.flow_at single machine.BeforePair
         (ends.owed token.now.lexeme.start state.old)) }
+    ensures kept { state.new.kept ≡ state.old.kept }
 {
     state.owed(token.lexeme.start)?;
     flow_at(state, single, PairStage::BeforePair)
@@ -200,8 +210,9 @@ fn before_pair<'input>(
     token: &mut Token<'input>,
     single: bool,
 ) -> Result<(), ScanError>
-    ensures { LeavesIfRoom result state.new (steps.in_flow_mapping_by (options_of options.now)
+    ensures leaves { LeavesIfRoom result state.new (steps.in_flow_mapping_by (options_of options.now)
         (machine_token token.old) single machine.BeforePair (sort_view token.old.sort) state.old) }
+    ensures kept { state.new.kept ≡ state.old.kept }
 {
     match token.sort {
         TokenSort::MappingCloser => Ok(close_flow(state, token)?),
@@ -230,8 +241,9 @@ fn at_flow_key<'input>(
     token: &mut Token<'input>,
     single: bool,
 ) -> Result<(), ScanError>
-    ensures { LeavesIfRoom result state.new (steps.in_flow_mapping_by (options_of options.now)
+    ensures leaves { LeavesIfRoom result state.new (steps.in_flow_mapping_by (options_of options.now)
         (machine_token token.old) single machine.AtKey (sort_view token.old.sort) state.old) }
+    ensures kept { state.new.kept ≡ state.old.kept }
 {
     match token.sort {
         TokenSort::BeginsNode => bare(state, alloc, options, token),
@@ -261,8 +273,9 @@ fn behind_flow_key<'input>(
     token: &Token<'input>,
     single: bool,
 ) -> Result<(), ScanError>
-    ensures { LeavesIfRoom result state.new (steps.in_flow_mapping_by (options_of options.now)
+    ensures leaves { LeavesIfRoom result state.new (steps.in_flow_mapping_by (options_of options.now)
         (machine_token token.now) single machine.BehindKey (sort_view token.now.sort) state.old) }
+    ensures kept { state.new.kept ≡ state.old.kept }
 {
     match token.sort {
         TokenSort::KeyedColon => Ok(flow_colon(state, alloc, options, token, single)?),
@@ -286,8 +299,9 @@ fn at_flow_question<'input>(
     token: &mut Token<'input>,
     single: bool,
 ) -> Result<(), ScanError>
-    ensures { LeavesIfRoom result state.new (steps.in_flow_mapping_by (options_of options.now)
+    ensures leaves { LeavesIfRoom result state.new (steps.in_flow_mapping_by (options_of options.now)
         (machine_token token.old) single machine.AtQuestion (sort_view token.old.sort) state.old) }
+    ensures kept { state.new.kept ≡ state.old.kept }
 {
     match token.sort {
         TokenSort::MappingCloser => Ok(close_flow(state, token)?),
@@ -315,8 +329,9 @@ fn behind_flow_question<'input>(
     token: &Token<'input>,
     single: bool,
 ) -> Result<(), ScanError>
-    ensures { LeavesIfRoom result state.new (steps.in_flow_mapping_by (options_of options.now)
+    ensures leaves { LeavesIfRoom result state.new (steps.in_flow_mapping_by (options_of options.now)
         (machine_token token.now) single machine.BehindQuestion (sort_view token.now.sort) state.old) }
+    ensures kept { state.new.kept ≡ state.old.kept }
 {
     match token.sort {
         TokenSort::MappingCloser => Ok(close_flow(state, token)?),
@@ -340,8 +355,9 @@ fn at_flow_value<'input>(
     token: &mut Token<'input>,
     single: bool,
 ) -> Result<(), ScanError>
-    ensures { LeavesIfRoom result state.new (steps.in_flow_mapping_by (options_of options.now)
+    ensures leaves { LeavesIfRoom result state.new (steps.in_flow_mapping_by (options_of options.now)
         (machine_token token.old) single machine.AtValue (sort_view token.old.sort) state.old) }
+    ensures kept { state.new.kept ≡ state.old.kept }
 {
     match token.sort {
         TokenSort::MappingCloser => Ok(close_flow(state, token)?),
@@ -368,8 +384,9 @@ fn behind_alone<'input>(
     token: &Token<'input>,
     single: bool,
 ) -> Result<(), ScanError>
-    ensures { LeavesIfRoom result state.new (steps.in_flow_mapping_by (options_of options.now)
+    ensures leaves { LeavesIfRoom result state.new (steps.in_flow_mapping_by (options_of options.now)
         (machine_token token.now) single machine.BehindAlone (sort_view token.now.sort) state.old) }
+    ensures kept { state.new.kept ≡ state.old.kept }
 {
     match token.sort {
         TokenSort::MappingCloser => Ok(close_flow(state, token)?),
@@ -392,8 +409,9 @@ fn behind_flow_pair<'input>(
     token: &Token<'input>,
     single: bool,
 ) -> Result<(), ScanError>
-    ensures { LeavesIfRoom result state.new (steps.in_flow_mapping_by (options_of options.now)
+    ensures leaves { LeavesIfRoom result state.new (steps.in_flow_mapping_by (options_of options.now)
         (machine_token token.now) single machine.BehindPair (sort_view token.now.sort) state.old) }
+    ensures kept { state.new.kept ≡ state.old.kept }
 {
     match token.sort {
         TokenSort::MappingCloser => Ok(close_flow(state, token)?),
@@ -417,8 +435,9 @@ pub(crate) fn in_flow_mapping<'input>(
     single: bool,
     stage: PairStage,
 ) -> Result<(), ScanError>
-    ensures { LeavesIfRoom result state.new (steps.in_flow_mapping_by (options_of options.now)
+    ensures leaves { LeavesIfRoom result state.new (steps.in_flow_mapping_by (options_of options.now)
         (machine_token token.old) single (pair_view stage) (sort_view token.old.sort) state.old) }
+    ensures kept { state.new.kept ≡ state.old.kept }
 {
     match stage {
         PairStage::BeforePair => before_pair(state, alloc, options, token, single),
@@ -440,8 +459,9 @@ pub(crate) fn in_flow_pair<'input>(
     token: &mut Token<'input>,
     stage: PairStage,
 ) -> Result<(), ScanError>
-    ensures { LeavesIfRoom result state.new (steps.in_flow_pair (options_of options.now) (machine_token token.old)
-        (pair_view stage) (sort_view token.old.sort) state.old) }
+    ensures leaves { LeavesIfRoom result state.new (steps.in_flow_pair (options_of options.now)
+        (machine_token token.old) (pair_view stage) (sort_view token.old.sort) state.old) }
+    ensures kept { state.new.kept ≡ state.old.kept }
 {
     match stage {
         PairStage::BehindQuestion => Ok(state.with_top(Frame::FlowPair(PairStage::AtValue))?),
@@ -461,8 +481,9 @@ fn node_of_pair<'input>(
     options: &Options,
     token: &mut Token<'input>,
 ) -> Result<(), ScanError>
-    ensures { LeavesIfRoom result state.new (steps.in_flow_pair (options_of options.now)
+    ensures leaves { LeavesIfRoom result state.new (steps.in_flow_pair (options_of options.now)
         (machine_token token.old) machine.AtValue (sort_view token.old.sort) state.old) }
+    ensures kept { state.new.kept ≡ state.old.kept }
 {
     match token.sort {
         TokenSort::BeginsNode => bare(state, alloc, options, token),

@@ -5,6 +5,8 @@ ghost use Rattle.granit_error.specs.OptionsView.{options_of};
 ghost use Rattle.granit_event.specs.Events.{plain_version};
 ghost use Rattle.granit_sorts.specs.SortViews.{machine_token, of_kind, sort_view};
 ghost use Rattle.granit_frames.specs.StateViews.{stage_view};
+ghost use Rattle.granit_feed.specs.Handles.{is_directive, KeepsIfRefused};
+ghost use Rattle.granit_items.specs.ItemViews.{kind_view};
 ghost use Rattle.granit_items.specs.declared.item.LexemeKind.TheVariants as kinds;
 ghost use Rattle.granit_lexemes.specs.Lexeme as lexemes;
 ghost use Rattle.granit_lexemes.specs.PlainEvent as plain;
@@ -33,8 +35,9 @@ fn with_version<'input>(
     token: &Token<'input>,
     version: Option<YamlVersion>,
 ) -> Result<(), ScanError>
-    ensures { LeavesIfRoom result state.new (steps.with_version (machine_token token.now)
+    ensures leaves { LeavesIfRoom result state.new (steps.with_version (machine_token token.now)
         (option_map plain_version version) major minor state.old) }
+    ensures kept { state.new.kept ≡ state.old.kept }
 {
     match version {
         Some(_) => Err(token.misplaced(ErrorKind::DuplicateVersionDirective)),
@@ -58,10 +61,11 @@ fn with_handle<'input>(
     token: &Token<'input>,
     version: Option<YamlVersion>,
 ) -> Result<(), ScanError>
-    ensures { LeavesIfRoom result state.new (steps.with_directive (options_of options.now)
+    ensures leaves { LeavesIfRoom result state.new (steps.with_directive (options_of options.now)
         (of_kind (kinds.TagPrefix handle.entry prefix.entry) token.now)
         (lexemes.TagPrefix handle.entry.characters prefix.entry.characters)
         (option_map plain_version version) state.old) }
+    ensures refused { KeepsIfRefused result state.old state.new }
 {
     match state.prefix_of(&handle) {
         Some(_) => Err(token.misplaced(ErrorKind::DuplicateTagDirective)),
@@ -81,8 +85,9 @@ fn open_document<'input>(
     version: Option<YamlVersion>,
 ) -> Result<(), ScanError>
     requires outer { state.old.frames ≡ [] }
-    ensures { LeavesIfRoom result state.new (steps.open_document (machine_token token.now)
+    ensures leaves { LeavesIfRoom result state.new (steps.open_document (machine_token token.now)
         (option_map plain_version version) state.old) }
+    ensures kept { state.new.kept ≡ state.old.kept }
 {
     state.forget_names();
     state.set_stage(DocumentStage::Inside);
@@ -100,8 +105,10 @@ fn behind_directives<'input>(
     version: Option<YamlVersion>,
 ) -> Result<(), ScanError>
     requires outer { state.old.frames ≡ [] }
-    ensures { LeavesIfRoom result state.new (steps.behind_directives (options_of options.now)
+    ensures leaves { LeavesIfRoom result state.new (steps.behind_directives (options_of options.now)
         (machine_token token.old).lexeme.kind (machine_token token.old) (option_map plain_version version) state.old) }
+    ensures kept { is_directive (kind_view token.old.lexeme.kind) ≡ false → state.new.kept ≡ state.old.kept }
+    ensures refused { KeepsIfRefused result state.old state.new }
 {
     match mem::replace(&mut token.lexeme.kind, LexemeKind::Comma) {
         LexemeKind::Version(major, minor) => with_version(state, major, minor, token, version),
@@ -156,8 +163,9 @@ pub(crate) fn at_root<'input>(
     options: &Options,
     token: &mut Token<'input>,
 ) -> Result<(), ScanError>
-    ensures { LeavesIfRoom result state.new (steps.at_root (options_of options.now)
+    ensures leaves { LeavesIfRoom result state.new (steps.at_root (options_of options.now)
         (machine_token token.old) state.old) }
+    ensures kept { state.new.kept ≡ state.old.kept }
 {
     if !token.sort.begins_node() {
         return Err(token.misplaced(ErrorKind::UnexpectedEofBlockSequence));
@@ -174,8 +182,9 @@ fn begin_document<'input>(
     token: &mut Token<'input>,
 ) -> Result<(), ScanError>
     requires outer { state.old.frames ≡ [] }
-    ensures { LeavesIfRoom result state.new (steps.begin_document (options_of options.now)
+    ensures leaves { LeavesIfRoom result state.new (steps.begin_document (options_of options.now)
         (machine_token token.old) state.old) }
+    ensures kept { state.new.kept ≡ state.old.kept }
 {
     if !token.sort.begins_node() {
         return Err(token.misplaced(ErrorKind::UnexpectedEofBlockSequence));
@@ -192,8 +201,9 @@ fn end_stream<'input>(
     state: &mut ParserState<'input>,
     token: &Token<'input>,
 ) -> Result<(), NoMemory>
-    ensures { OnOk result (state.new ≡ giving.give (plain.event_at plain.StreamEnd
+    ensures leaves { OnOk result (state.new ≡ giving.give (plain.event_at plain.StreamEnd
         (machine_token token.now).lexeme.shown) state.old) }
+    ensures kept { state.new.kept ≡ state.old.kept }
 {
     state.give(Event::StreamEnd, token.span())
 }
@@ -206,8 +216,9 @@ fn first_directive<'input>(
     token: &mut Token<'input>,
 ) -> Result<(), ScanError>
     requires outer { state.old.frames ≡ [] }
-    ensures { LeavesIfRoom result state.new (steps.behind_directives (options_of options.now)
+    ensures leaves { LeavesIfRoom result state.new (steps.behind_directives (options_of options.now)
         (machine_token token.old).lexeme.kind (machine_token token.old) None (steps.without_directives state.old)) }
+    ensures refused { KeepsIfRefused result state.old state.new }
 {
     state.forget_handles();
     state.forget_names();
@@ -220,8 +231,9 @@ fn plain_document<'input>(
     token: &Token<'input>,
 ) -> Result<(), ScanError>
     requires outer { state.old.frames ≡ [] }
-    ensures { LeavesIfRoom result state.new (steps.open_document (machine_token token.now) None
+    ensures leaves { LeavesIfRoom result state.new (steps.open_document (machine_token token.now) None
         (record state.old { handles = [] })) }
+    ensures kept { state.new.kept ≡ state.old.kept }
 {
     state.forget_handles();
     open_document(state, token, None)
@@ -235,8 +247,10 @@ fn when_fresh<'input>(
     token: &mut Token<'input>,
 ) -> Result<(), ScanError>
     requires outer { state.old.frames ≡ [] }
-    ensures { LeavesIfRoom result state.new (steps.when_fresh (options_of options.now)
+    ensures leaves { LeavesIfRoom result state.new (steps.when_fresh (options_of options.now)
         (machine_token token.old).lexeme.kind (machine_token token.old) state.old) }
+    ensures kept { is_directive (kind_view token.old.lexeme.kind) ≡ false → state.new.kept ≡ state.old.kept }
+    ensures refused { KeepsIfRefused result state.old state.new }
 {
     match &token.lexeme.kind {
         LexemeKind::DocumentEnd => Ok(state.flush()?),
@@ -264,8 +278,9 @@ fn when_between<'input>(
     token: &Token<'input>,
 ) -> Result<(), ScanError>
     requires outer { state.old.frames ≡ [] }
-    ensures { LeavesIfRoom result state.new (steps.when_between (machine_token token.now).lexeme.kind
+    ensures leaves { LeavesIfRoom result state.new (steps.when_between (machine_token token.now).lexeme.kind
         (machine_token token.now) state.old) }
+    ensures kept { state.new.kept ≡ state.old.kept }
 {
     match &token.lexeme.kind {
         LexemeKind::Version(_, _) => Err(token.misplaced(
@@ -299,8 +314,9 @@ fn end_document<'input>(
     span: Span,
     stage: DocumentStage,
 ) -> Result<(), NoMemory>
-    ensures { OnOk result (state.new ≡ steps.end_document (record { start = span.start; end = span.end })
+    ensures leaves { OnOk result (state.new ≡ steps.end_document (record { start = span.start; end = span.end })
         (stage_view stage) state.old) }
+    ensures kept { state.new.kept ≡ state.old.kept }
 {
     state.give(Event::DocumentEnd, Span::new(span.start, span.end))?;
     state.forget_handles();
@@ -315,8 +331,9 @@ fn behind_unended<'input>(
     token: &Token<'input>,
 ) -> Result<(), ScanError>
     requires outer { state.old.frames ≡ [] }
-    ensures { LeavesIfRoom result state.new (steps.when_between (machine_token token.now).lexeme.kind
+    ensures leaves { LeavesIfRoom result state.new (steps.when_between (machine_token token.now).lexeme.kind
         (machine_token token.now) (steps.end_document (empty_span state.old.last_end) machine.Between state.old)) }
+    ensures kept { state.new.kept ≡ state.old.kept }
 {
     end_document(state, Span::empty(state.last_end()), DocumentStage::Between)?;
     when_between(state, token)
@@ -328,8 +345,9 @@ fn behind_root<'input>(
     token: &Token<'input>,
 ) -> Result<(), ScanError>
     requires outer { state.old.frames ≡ [] }
-    ensures { LeavesIfRoom result state.new (steps.behind_root (machine_token token.now).lexeme.kind
+    ensures leaves { LeavesIfRoom result state.new (steps.behind_root (machine_token token.now).lexeme.kind
         (machine_token token.now) state.old) }
+    ensures kept { state.new.kept ≡ state.old.kept }
 {
     match &token.lexeme.kind {
         LexemeKind::DocumentEnd => Ok(end_document(state, token.span(), DocumentStage::Fresh)?),
@@ -359,8 +377,10 @@ pub(crate) fn outside<'input>(
     token: &mut Token<'input>,
 ) -> Result<(), ScanError>
     requires outer { state.old.frames ≡ [] }
-    ensures { LeavesIfRoom result state.new (steps.outside (options_of options.now) state.old.stage
+    ensures leaves { LeavesIfRoom result state.new (steps.outside (options_of options.now) state.old.stage
         (machine_token token.old) state.old) }
+    ensures kept { is_directive (kind_view token.old.lexeme.kind) ≡ false → state.new.kept ≡ state.old.kept }
+    ensures refused { KeepsIfRefused result state.old state.new }
 {
     match state.stage() {
         DocumentStage::Fresh => when_fresh(state, alloc, options, token),

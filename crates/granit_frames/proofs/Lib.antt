@@ -1,3 +1,4 @@
 pub mod CloseLemmas
 pub mod EntryLemmas
 pub mod FrameLemmas
+pub mod WaitLemmas

@@ -1,2 +1,3 @@
+pub mod Outside
 pub mod StateViews
 pub mod TopViews

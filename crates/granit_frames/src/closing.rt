@@ -2,6 +2,7 @@
 ghost use Rattle.std.specs.Prelude.{◌≡◌, Ok, OnOk};
 ghost use Rattle.granit_error.specs.OptionsView.{options_of};
 ghost use Rattle.granit_sorts.specs.SortViews.{sort_view, machine_token};
+ghost use Rattle.granit_frames.specs.Outside.{NoneWaitsOutside};
 ghost use Rattle.granit_frames.specs.StateViews.{pair_view, frames_view, properties_view};
 ghost use Rattle.granit_machine.specs.Closing as closing;
 
@@ -122,8 +123,9 @@ impl<'input> ParserState<'input> {
 
     /// The innermost unfinished node ends before a token.
     fn end_top(&mut self, options: &Options, token: &Token<'input>) -> Result<(), NoMemory>
-        ensures { OnOk result (self.new
+        ensures leaves { OnOk result (self.new
             ≡ closing.end_top (options_of options.now) (machine_token token.now) self.old self.old.frames) }
+        ensures kept { self.new.kept ≡ self.old.kept }
     {
         let start = token.lexeme.start;
         match self.top() {
@@ -144,8 +146,10 @@ impl<'input> ParserState<'input> {
     /// Ends what a token ends.
     #[tactic(auto, using(crate::proofs::CloseLemmas::closing_turns))]
     pub fn close(&mut self, options: &Options, token: &Token<'input>) -> Result<(), NoMemory>
-        ensures { OnOk result (closing.close (options_of options.now) (machine_token token.now) self.old
+        ensures leaves { OnOk result (closing.close (options_of options.now) (machine_token token.now) self.old
             ≡ Ok self.new) }
+        ensures outside { OnOk result (NoneWaitsOutside self.old → NoneWaitsOutside self.new) }
+        ensures kept { self.new.kept ≡ self.old.kept }
     {
         'tops: while self.ends_top(token) {
             self.end_top(options, token)?;

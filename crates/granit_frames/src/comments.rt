@@ -63,7 +63,8 @@ impl<'input> ParserState<'input> {
         note: Note<'input>,
         next_line: Option<usize>,
     ) -> Result<(), ScanError>
-        ensures { LeavesIfRoom result self.new (spec.take_comment (note_view note.entry) next_line self.old) }
+        ensures leaves { LeavesIfRoom result self.new (spec.take_comment (note_view note.entry) next_line self.old) }
+        ensures kept { self.new.kept ≡ self.old.kept }
     {
         let placement = placed(&note, next_line);
         let Note {

@@ -49,7 +49,8 @@ impl<'input> ParserState<'input> {
 
     /// Another frame in the place of the innermost.
     pub fn with_top(&mut self, frame: Frame) -> Result<(), NoMemory>
-        ensures { OnOk result (self.new ≡ ends.with_top (frame_view frame) self.old) }
+        ensures leaves { OnOk result (self.new ≡ ends.with_top (frame_view frame) self.old) }
+        ensures kept { self.new.kept ≡ self.old.kept }
     {
         match self.properties.take() {
             None => self.frames.replace(frame),
@@ -59,7 +60,8 @@ impl<'input> ParserState<'input> {
 
     /// The node at the open place is finished.
     pub fn finish(&mut self) -> Result<(), NoMemory>
-        ensures { OnOk result (self.new ≡ ends.finish self.old) }
+        ensures leaves { OnOk result (self.new ≡ ends.finish self.old) }
+        ensures kept { self.new.kept ≡ self.old.kept }
     {
         match self.top() {
             Top::Outside => Ok(()),
@@ -85,7 +87,8 @@ impl<'input> ParserState<'input> {
 
     /// The empty nodes of the pair that ends before a place, or goes on there with no `:`.
     pub fn owed(&mut self, mark: Marker) -> Result<(), NoMemory>
-        ensures { OnOk result (self.new ≡ ends.owed mark self.old) }
+        ensures leaves { OnOk result (self.new ≡ ends.owed mark self.old) }
+        ensures kept { self.new.kept ≡ self.old.kept }
     {
         match self.top() {
             Top::Outside => Ok(()),
@@ -107,8 +110,9 @@ impl<'input> ParserState<'input> {
         column: usize,
         stage: PairStage,
     ) -> Result<(), NoMemory>
-        ensures { (below : _) → OnOk result (self.new
+        ensures leaves { (below : _) → OnOk result (self.new
             ≡ ends.owed_in (spec.BlockMapping column (pair_view stage) ∷ below) mark self.old) }
+        ensures kept { self.new.kept ≡ self.old.kept }
     {
         match stage {
             PairStage::BeforePair => Ok(()),
@@ -126,8 +130,9 @@ impl<'input> ParserState<'input> {
     }
 
     fn owed_in_flow(&mut self, mark: Marker, stage: PairStage) -> Result<(), NoMemory>
-        ensures { (single : _) (below : _) → OnOk result (self.new
+        ensures leaves { (single : _) (below : _) → OnOk result (self.new
             ≡ ends.owed_in (spec.FlowMapping single (pair_view stage) ∷ below) mark self.old) }
+        ensures kept { self.new.kept ≡ self.old.kept }
     {
         match stage {
             PairStage::BeforePair => Ok(()),
@@ -145,8 +150,9 @@ impl<'input> ParserState<'input> {
     }
 
     fn owed_in_pair(&mut self, mark: Marker, stage: PairStage) -> Result<(), NoMemory>
-        ensures { (below : _) → OnOk result (self.new
+        ensures leaves { (below : _) → OnOk result (self.new
             ≡ ends.owed_in (spec.FlowPair (pair_view stage) ∷ below) mark self.old) }
+        ensures kept { self.new.kept ≡ self.old.kept }
     {
         match stage {
             PairStage::BeforePair => Ok(()),
@@ -182,7 +188,8 @@ impl<'input> ParserState<'input> {
     /// The innermost collection ends before a place, with an event of a span.
     #[tactic(auto, unfolding(granit_machine::specs::NodeEnds::end_node))]
     pub fn end_node(&mut self, mark: Marker, start: Marker, end: Marker) -> Result<(), NoMemory>
-        ensures { OnOk result (self.new ≡ ends.end_node mark (record { start = start; end = end }) self.old) }
+        ensures leaves { OnOk result (self.new ≡ ends.end_node mark (record { start = start; end = end }) self.old) }
+        ensures kept { self.new.kept ≡ self.old.kept }
     {
         self.owed(mark)?;
         let event = self.end_event();
@@ -194,8 +201,9 @@ impl<'input> ParserState<'input> {
     /// The node of properties stays empty.
     #[tactic(auto, unfolding(granit_machine::specs::NodeEnds::end_properties))]
     pub(crate) fn end_properties(&mut self, options: &Options) -> Result<(), NoMemory>
-        ensures { OnOk result (self.new ≡ ends.end_properties (options_of options.now)
+        ensures leaves { OnOk result (self.new ≡ ends.end_properties (options_of options.now)
             (giving.properties_on self.old.frames self.old.last_end) self.old) }
+        ensures kept { self.new.kept ≡ self.old.kept }
     {
         match self.top() {
             Top::Outside => self.end_empty(options, null_event(), self.last_end),
@@ -214,8 +222,9 @@ impl<'input> ParserState<'input> {
         event: Event<'input>,
         mark: Marker,
     ) -> Result<(), NoMemory>
-        ensures { OnOk result (self.new ≡ ends.finish (giving.node_event (options_of options.now)
+        ensures leaves { OnOk result (self.new ≡ ends.finish (giving.node_event (options_of options.now)
             (bears (event_kind event.entry)) (ends.empty_span mark) None self.old)) }
+        ensures kept { self.new.kept ≡ self.old.kept }
     {
         self.node_event(options, event, mark, mark, None)?;
         self.finish()
@@ -244,7 +253,8 @@ impl<'input> ParserState<'input> {
     #[tactic(auto, using(crate::proofs::FrameLemmas::pushed_frame))]
     pub fn push_frame(&mut self, frame: Frame) -> Result<(), NoMemory>
         requires bare { has_properties self.old.frames ≡ false }
-        ensures { OnOk result (self.new ≡ record self.old { frames = frame_view frame ∷ self.old.frames }) }
+        ensures leaves { OnOk result (self.new ≡ record self.old { frames = frame_view frame ∷ self.old.frames }) }
+        ensures kept { self.new.kept ≡ self.old.kept }
     {
         self.frames.push(frame)
     }
@@ -258,8 +268,9 @@ impl<'input> ParserState<'input> {
         end: Marker,
         frame: Frame,
     ) -> Result<(), NoMemory>
-        ensures { OnOk result (self.new ≡ ends.begin (options_of options.now) (bears (event_kind event.entry))
+        ensures leaves { OnOk result (self.new ≡ ends.begin (options_of options.now) (bears (event_kind event.entry))
             (record { start = start; end = end }) (frame_view frame) self.old) }
+        ensures kept { self.new.kept ≡ self.old.kept }
     {
         self.node_event(options, event, start, end, None)?;
         self.push_frame(frame)
@@ -278,8 +289,9 @@ impl<'input> ParserState<'input> {
         mark: Marker,
         frame: Frame,
     ) -> Result<(), ScanError>
-        ensures { LeavesIfRoom result self.new (ends.begin_block (options_of options.now)
+        ensures leaves { LeavesIfRoom result self.new (ends.begin_block (options_of options.now)
             (bears (event_kind event.entry)) mark (frame_view frame) self.old) }
+        ensures kept { self.new.kept ≡ self.old.kept }
     {
         if options.block_nesting_limit <= self.block_count() {
             return Err(ScanError::from_kind(mark, ErrorKind::RecursionLimitExceeded));
@@ -290,7 +302,8 @@ impl<'input> ParserState<'input> {
 
     /// A `-` or `:` waits for its node.
     pub fn waits(&mut self, alloc: Global, mark: Marker, room: usize) -> Result<(), NoMemory>
-        ensures { OnOk result (self.new ≡ ends.waits mark room self.old) }
+        ensures leaves { OnOk result (self.new ≡ ends.waits mark room self.old) }
+        ensures kept { self.new.kept ≡ self.old.kept }
     {
         self.flush()?;
         self.waiting = Some(Waiting {

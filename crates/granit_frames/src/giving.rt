@@ -23,8 +23,9 @@ pub fn null_event<'input>() -> Event<'input>
 impl<'input> ParserState<'input> {
     /// One more event of this step.
     pub fn add_event(&mut self, event: Event<'input>, span: Span) -> Result<(), NoMemory>
-        ensures { OnOk result (self.new
+        ensures leaves { OnOk result (self.new
             ≡ record self.old { given = self.old.given ++ plain_event (event.entry, span) ∷ [] }) }
+        ensures kept { self.new.kept ≡ self.old.kept }
     {
         self.given.push_back((event, span))?;
         Ok(())
@@ -32,7 +33,8 @@ impl<'input> ParserState<'input> {
 
     /// Gives the held comments.
     pub fn flush(&mut self) -> Result<(), NoMemory>
-        ensures { OnOk result (self.new ≡ giving.flush self.old) }
+        ensures leaves { OnOk result (self.new ≡ giving.flush self.old) }
+        ensures kept { self.new.kept ≡ self.old.kept }
     {
         match self.waiting.take() {
             None => Ok(()),
@@ -45,7 +47,8 @@ impl<'input> ParserState<'input> {
 
     /// Gives an event.
     pub(crate) fn put(&mut self, event: Event<'input>, span: Span) -> Result<(), NoMemory>
-        ensures { OnOk result (self.new ≡ giving.put (plain_event (event.entry, span)) self.old) }
+        ensures leaves { OnOk result (self.new ≡ giving.put (plain_event (event.entry, span)) self.old) }
+        ensures kept { self.new.kept ≡ self.old.kept }
     {
         self.last_end = span.end;
         self.add_event(event, span)
@@ -53,7 +56,8 @@ impl<'input> ParserState<'input> {
 
     /// Gives an event behind the held comments.
     pub fn give(&mut self, event: Event<'input>, span: Span) -> Result<(), NoMemory>
-        ensures { OnOk result (self.new ≡ giving.give (plain_event (event.entry, span)) self.old) }
+        ensures leaves { OnOk result (self.new ≡ giving.give (plain_event (event.entry, span)) self.old) }
+        ensures kept { self.new.kept ≡ self.old.kept }
     {
         self.flush()?;
         self.put(event, span)
@@ -61,7 +65,8 @@ impl<'input> ParserState<'input> {
 
     /// Gives an empty node behind the held comments.
     pub fn give_null(&mut self, mark: Marker) -> Result<(), NoMemory>
-        ensures { OnOk result (self.new ≡ giving.give (giving.null_at mark) self.old) }
+        ensures leaves { OnOk result (self.new ≡ giving.give (giving.null_at mark) self.old) }
+        ensures kept { self.new.kept ≡ self.old.kept }
     {
         self.give(null_event(), Span::empty(mark))
     }
@@ -83,7 +88,8 @@ impl<'input> ParserState<'input> {
 
     /// Gives the empty node of what waits, before the held comments.
     pub fn give_empty(&mut self) -> Result<(), NoMemory>
-        ensures { OnOk result (self.new ≡ giving.give_empty self.old) }
+        ensures leaves { OnOk result (self.new ≡ giving.give_empty self.old) }
+        ensures kept { self.new.kept ≡ self.old.kept }
     {
         match &self.waiting {
             None => Ok(()),
@@ -194,8 +200,9 @@ impl<'input> ParserState<'input> {
         options: &Options,
         anchor: Option<NodeAnchor<'input>>,
     ) -> Result<(), NoMemory>
-        ensures { OnOk result (self.new
+        ensures leaves { OnOk result (self.new
             ≡ giving.tell_anchor (options_of options.now) (option_map anchor_view anchor.entry) self.old) }
+        ensures kept { self.new.kept ≡ self.old.kept }
     {
         match anchor {
             None => Ok(()),
@@ -218,9 +225,10 @@ impl<'input> ParserState<'input> {
         end: Marker,
         indent: Option<usize>,
     ) -> Result<(), NoMemory>
-        ensures { OnOk result (self.new ≡ giving.node_event_by (options_of options.now)
+        ensures leaves { OnOk result (self.new ≡ giving.node_event_by (options_of options.now)
             (properties_view properties.entry) (bears (event_kind event.entry))
             (record { start = start; end = end }) indent self.old) }
+        ensures kept { self.new.kept ≡ self.old.kept }
     {
         let NodeProperties {
             anchor,
@@ -247,6 +255,7 @@ impl<'input> ParserState<'input> {
         ensures event { OnOk result (self.new ≡ giving.node_event (options_of options.now)
             (bears (event_kind event.entry)) (record { start = start; end = end }) indent self.old) }
         ensures bare { OnOk result (has_properties self.new.frames ≡ false) }
+        ensures kept { self.new.kept ≡ self.old.kept }
     {
         let properties = self.take_properties(end);
         self.node_event_by(options, properties, event, start, end, indent)

@@ -4,6 +4,7 @@
 
 mod closing;
 mod comments;
+mod dropping;
 mod ends;
 mod frames;
 mod giving;

@@ -84,7 +84,8 @@ impl<'input> ParserState<'input> {
         name: Text<'input>,
         token: &Token<'input>,
     ) -> Result<(), NoMemory>
-        ensures { OnOk result (self.new ≡ steps.anchored (machine_token token.now) name.entry self.old) }
+        ensures leaves { OnOk result (self.new ≡ steps.anchored (machine_token token.now) name.entry self.old) }
+        ensures kept { self.new.kept ≡ self.old.kept }
     {
         // A count past `usize` would want more memory than there is.
         let Some(number) = self.count.checked_add(1) else {
@@ -107,9 +108,10 @@ impl<'input> ParserState<'input> {
     ///
     /// `NoMemory` alone.
     pub fn tagged(&mut self, tag: Tag, token: &Token<'input>) -> Result<(), NoMemory>
-        ensures { OnOk result (self.new
+        ensures leaves { OnOk result (self.new
             ≡ steps.tagged (machine_token token.now) tag.original_handle tag.suffix tag.handle
             (giving.flush self.old)) }
+        ensures kept { self.new.kept ≡ self.old.kept }
     {
         self.flush()?;
         self.set_tag(NodeTag {

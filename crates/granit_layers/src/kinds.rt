@@ -1,8 +1,9 @@
 //! Parsers of several kinds on one stack.
-use crate::layer::StackedParser;
+use crate::layer::{FromReplay, StackedParser};
 use granit_base::Span;
 use granit_error::ScanError;
 use granit_event::Event;
+use granit_replay::ReplayParser;
 
 /// A parser of one of four kinds.
 #[derive(Debug, Drop)]
@@ -68,5 +69,21 @@ where
             AnyKind::Third(parser) => parser.offset_above(below),
             AnyKind::Fourth(parser) => parser.offset_above(below),
         }
+    }
+}
+
+/// Events that are given once more are of the fourth kind.
+impl<'input, A, B, C> FromReplay<'input> for AnyKind<A, B, C, ReplayParser<'input>>
+where
+    A: StackedParser<'input>,
+    B: StackedParser<'input>,
+    C: StackedParser<'input>,
+{
+    ghost use Rattle.granit_layers.specs.declared.kinds.AnyKind.TheVariants.{Fourth};
+
+    ghost again = { Fourth };
+
+    fn from_replay(replay: ReplayParser<'input>) -> Self {
+        AnyKind::Fourth(replay)
     }
 }

@@ -2,11 +2,13 @@
 ghost use Rattle.std.specs.Prelude.{◌≡◌, ℕ, max};
 ghost use Rattle.granit_layers.specs.Stacking.{TurnsLayer, layer_of};
 ghost use Rattle.granit_layers.specs.Turning.{Next};
+ghost use Rattle.granit_replay.specs.Replaying.{Replay};
 
 use crate::turn::{Turn, turn_of};
 use granit_base::{OwnedText, Span};
 use granit_error::ScanError;
 use granit_event::Event;
+use granit_replay::ReplayParser;
 
 /// A parser that a stack can hold.
 pub trait StackedParser<'input>: Drop {
@@ -37,6 +39,16 @@ pub trait StackedParser<'input>: Drop {
     /// The number that a next anchor gets where it is pushed on a parser with that number.
     fn offset_above(&self, below: usize) -> usize
         ensures { result ≡ offset_over self.now below };
+}
+
+/// A parser of a stack that can be events which are given once more.
+pub trait FromReplay<'input>: StackedParser<'input> {
+    /// The parser that gives those events.
+    ghost again: { Replay → Self };
+
+    /// The parser that gives those events.
+    fn from_replay(replay: ReplayParser<'input>) -> Self
+        ensures { result ≡ again replay.entry };
 }
 
 /// A parser of a stack.

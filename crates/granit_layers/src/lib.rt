@@ -12,5 +12,5 @@ mod turn;
 
 pub use kinds::AnyKind;
 pub use laws::{a_replay_comes_through, one_document_comes_through};
-pub use layer::{Layer, StackedParser};
+pub use layer::{FromReplay, Layer, StackedParser};
 pub use layers::Layers;

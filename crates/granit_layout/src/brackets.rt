@@ -84,6 +84,14 @@ impl Brackets {
         self.list.pop();
     }
 
+    /// No one any more.
+    pub(crate) fn clear(&mut self)
+        ensures { self.new ≡ [] }
+    {
+        self.list.clear();
+        self.order = KeyOrder::new();
+    }
+
     /// The key in the innermost one, or the one outside all.
     pub(crate) fn key(&self, outside: Option<PossibleKey>) -> Option<PossibleKey>
         ensures { result ≡ keys.key_in self.now outside }

@@ -1,5 +1,7 @@
 //! The state that the lexemes so far leave to a reader.
-ghost use Rattle.std.specs.Prelude.{◌≡◌, ◌<◌, ◌^◌, ◌&&◌, ◌||◌, false, not, drop, length, slice_get, OnOk};
+ghost use Rattle.std.specs.Prelude.{◌≡◌, ◌<◌, ◌^◌, ◌&&◌, ◌||◌, true, false, not, drop, length, slice_get, Ok, IfErr};
+ghost use Rattle.std.specs.Prelude.{OnOk};
+ghost use Rattle.granit_error.specs.FaultKind as faults;
 ghost use Rattle.granit_error.specs.OptionsView.{options_of};
 ghost use Rattle.granit_cursor.specs.Tokens.{layout_data};
 ghost use Rattle.granit_lexemes.specs.LayoutData as layout;
@@ -14,6 +16,7 @@ ghost use Rattle.granit_machine.specs.PossibleKeys as keys;
 ghost use Rattle.granit_machine.specs.ReaderState as reader;
 ghost use Rattle.granit_machine.specs.StreamLexemes as streams;
 ghost use Rattle.granit_machine.specs.Leaving.{Leaves, LeavesIfRoom};
+ghost use Rattle.granit_layout.specs.Opening.{opens_column};
 ghost use Rattle.granit_layout.specs.StaleKeys.{without_stale_key};
 
 use crate::brackets::Brackets;
@@ -356,12 +359,15 @@ impl Layouts {
 
     #[tactic(auto, unfolding(granit_machine::specs::Columns::entered_columns))]
     fn place_entry(&mut self, column: usize) -> Result<(), NoMemory>
-        requires small { column < 2 ^ 63 }
-        ensures { OnOk result (self.new ≡ columns.entered column self.old) }
+        ensures entered { OnOk result (self.new ≡ columns.entered column self.old) }
+        ensures memory { laid.is_column (laid.block_column self.old) column ≡ true → result ≡ Ok tt }
     {
         if is_column(self.block_column(), column) {
             self.columns.renew();
             return Ok(());
+        }
+        if column > isize::MAX as usize {
+            return Err(NoMemory);
         }
         self.columns.push(column)
     }
@@ -370,10 +376,12 @@ impl Layouts {
     ///
     /// # Errors
     ///
-    /// `RecursionLimitExceeded` at the mark, where as many columns are open as may be, and `NoMemory`.
+    /// `RecursionLimitExceeded` at the mark, where as many columns are open as may be, and `NoMemory`, also in a column
+    /// that no text reaches.
     pub fn enter(&mut self, options: &Options, column: usize, mark: Marker) -> Result<(), ScanError>
-        requires small { column < 2 ^ 63 }
-        ensures { LeavesIfRoom result self.new (columns.with_entry (options_of options.now) column mark self.old) }
+        ensures left { LeavesIfRoom result self.new (columns.with_entry (options_of options.now) column mark self.old) }
+        ensures memory { opens_column (options_of options.now) column self.old.columns ≡ false
+            → IfErr result (λ e. e.kind ≡ faults.NoMemory → ⊥) }
     {
         self.refuse_column(options, column, mark)?;
         self.place_entry(column)?;
@@ -391,8 +399,9 @@ impl Layouts {
         column: usize,
         mark: Marker,
     ) -> Result<(), ScanError>
-        requires small { column < 2 ^ 63 }
-        ensures { LeavesIfRoom result self.new (columns.with_pair (options_of options.now) column mark self.old) }
+        ensures left { LeavesIfRoom result self.new (columns.with_pair (options_of options.now) column mark self.old) }
+        ensures memory { opens_column (options_of options.now) column self.old.columns ≡ false
+            → IfErr result (λ e. e.kind ≡ faults.NoMemory → ⊥) }
     {
         self.refuse_column(options, column, mark)?;
         self.place_entry(column)?;
@@ -513,6 +522,21 @@ impl Layouts {
         self.number += 1;
         self.last = last;
         self.may_prefix = false;
+    }
+
+    /// Nothing is open any more, and so many lexemes were read; whether a byte-order mark may stand in front of a
+    /// document is told.
+    pub fn begin_anew(&mut self, number: usize, may_prefix: bool)
+        ensures { self.new ≡ record laid.laid_start { number = number; may_prefix = may_prefix } }
+    {
+        self.number = number;
+        self.key = None;
+        self.brackets.clear();
+        self.columns.clear();
+        self.rolled = false;
+        self.last = LastLexeme::Another;
+        self.cut = None;
+        self.may_prefix = may_prefix;
     }
 
     /// The end was read.

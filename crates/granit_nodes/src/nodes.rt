@@ -34,8 +34,9 @@ fn leaf<'input>(
     token: &Token<'input>,
     indent: Option<usize>,
 ) -> Result<(), NoMemory>
-    ensures { OnOk result (state.new ≡ ends.finish (giving.node_event (options_of options.now)
+    ensures leaves { OnOk result (state.new ≡ ends.finish (giving.node_event (options_of options.now)
         (bears (event_kind event.entry)) (machine_token token.now).lexeme.shown indent state.old)) }
+    ensures kept { state.new.kept ≡ state.old.kept }
 {
     state.node_event(
         options,
@@ -53,8 +54,9 @@ fn alias<'input>(
     name: Text<'input>,
     token: &Token<'input>,
 ) -> Result<(), ScanError>
-    ensures { LeavesIfRoom result state.new (steps.bare (options_of options.now)
+    ensures leaves { LeavesIfRoom result state.new (steps.bare (options_of options.now)
         (of_kind (kinds.Alias name.entry) token.now) state.old) }
+    ensures kept { state.new.kept ≡ state.old.kept }
 {
     match state.number_of(&name) {
         Some(number) => Ok(leaf(state, options, Event::Alias(number), token, None)?),
@@ -69,8 +71,9 @@ fn unresolved<'input>(
     name: Text<'input>,
     token: &Token<'input>,
 ) -> Result<(), ScanError>
-    ensures { LeavesIfRoom result state.new (steps.alias_by (options_of options.now)
+    ensures leaves { LeavesIfRoom result state.new (steps.alias_by (options_of options.now)
         (machine_token token.now) name.entry None state.old) }
+    ensures kept { state.new.kept ≡ state.old.kept }
 {
     if !options.emit_unresolved_aliases {
         return Err(token.misplaced(ErrorKind::UnknownAnchor));
@@ -89,8 +92,9 @@ fn tag<'input>(
     suffix: &Text<'input>,
     token: &Token<'input>,
 ) -> Result<(), ScanError>
-    ensures { LeavesIfRoom result state.new (steps.bare (options_of options.now)
+    ensures leaves { LeavesIfRoom result state.new (steps.bare (options_of options.now)
         (of_kind (kinds.Tag handle.now suffix.now) token.now) state.old) }
+    ensures kept { state.new.kept ≡ state.old.kept }
 {
     match state.known_prefix(options, handle) {
         Some(prefix) => {
@@ -163,7 +167,8 @@ fn give_tail<'input>(
     state: &mut ParserState<'input>,
     tail: Option<Note<'input>>,
 ) -> Result<(), NoMemory>
-    ensures { OnOk result (state.new ≡ steps.give_tail (option_map note_view tail.entry) state.old) }
+    ensures leaves { OnOk result (state.new ≡ steps.give_tail (option_map note_view tail.entry) state.old) }
+    ensures kept { state.new.kept ≡ state.old.kept }
 {
     match tail {
         None => Ok(()),
@@ -184,8 +189,9 @@ pub fn next_dash<'input>(
     token: &mut Token<'input>,
     indentless: bool,
 ) -> Result<(), ScanError>
-    ensures { LeavesIfRoom result state.new (steps.take_dash (options_of options.now)
+    ensures leaves { LeavesIfRoom result state.new (steps.take_dash (options_of options.now)
         (machine_token token.old) steps.NextEntry indentless state.old) }
+    ensures kept { state.new.kept ≡ state.old.kept }
 {
     let room = dash_room(options, &token.lexeme.tail)?;
     give_tail(state, token.lexeme.tail.take())?;
@@ -200,8 +206,9 @@ fn begin_sequence<'input>(
     mark: Marker,
     frame: Frame,
 ) -> Result<(), ScanError>
-    ensures { LeavesIfRoom result state.new (ends.begin_block (options_of options.now) steps.block_sequence mark
+    ensures leaves { LeavesIfRoom result state.new (ends.begin_block (options_of options.now) steps.block_sequence mark
         (frame_view frame) state.old) }
+    ensures kept { state.new.kept ≡ state.old.kept }
 {
     let event = Event::SequenceStart(StructureStyle::Block, 0, None);
     state.begin_block(options, event, mark, frame)
@@ -215,8 +222,9 @@ fn new_dash<'input>(
     options: &Options,
     token: &mut Token<'input>,
 ) -> Result<(), ScanError>
-    ensures { LeavesIfRoom result state.new (steps.take_dash (options_of options.now)
+    ensures leaves { LeavesIfRoom result state.new (steps.take_dash (options_of options.now)
         (of_kind kinds.Dash token.old) steps.NewSequence false state.old) }
+    ensures kept { state.new.kept ≡ state.old.kept }
 {
     let start = token.lexeme.start;
     begin_sequence(
@@ -237,8 +245,9 @@ fn begin_indentless<'input>(
     mark: Marker,
     column: usize,
 ) -> Result<(), NoMemory>
-    ensures { OnOk result (state.new ≡ ends.begin (options_of options.now) steps.block_sequence
+    ensures leaves { OnOk result (state.new ≡ ends.begin (options_of options.now) steps.block_sequence
         (ends.empty_span mark) (machine.BlockSequence column true) state.old) }
+    ensures kept { state.new.kept ≡ state.old.kept }
 {
     let event = Event::SequenceStart(StructureStyle::Block, 0, None);
     state.begin(
@@ -258,8 +267,9 @@ fn indentless_dash<'input>(
     options: &Options,
     token: &mut Token<'input>,
 ) -> Result<(), ScanError>
-    ensures { LeavesIfRoom result state.new (steps.take_dash (options_of options.now)
+    ensures leaves { LeavesIfRoom result state.new (steps.take_dash (options_of options.now)
         (of_kind kinds.Dash token.old) steps.IndentlessSequence false state.old) }
+    ensures kept { state.new.kept ≡ state.old.kept }
 {
     let end = token.lexeme.end;
     if options.block_nesting_limit <= state.block_count() {
@@ -279,8 +289,9 @@ fn first_dash<'input>(
     options: &Options,
     token: &mut Token<'input>,
 ) -> Result<(), ScanError>
-    ensures { LeavesIfRoom result state.new (steps.bare (options_of options.now)
+    ensures leaves { LeavesIfRoom result state.new (steps.bare (options_of options.now)
         (of_kind kinds.Dash token.old) state.old) }
+    ensures kept { state.new.kept ≡ state.old.kept }
 {
     let is_indentless = state.may_be_indentless(token.lexeme.start.col());
     dash(state, alloc, options, token, is_indentless)
@@ -293,8 +304,9 @@ fn dash<'input>(
     token: &mut Token<'input>,
     is_indentless: bool,
 ) -> Result<(), ScanError>
-    ensures { LeavesIfRoom result state.new (steps.take_dash (options_of options.now) (of_kind kinds.Dash token.old)
-        (steps.first_dash is_indentless) false state.old) }
+    ensures leaves { LeavesIfRoom result state.new (steps.take_dash (options_of options.now)
+        (of_kind kinds.Dash token.old) (steps.first_dash is_indentless) false state.old) }
+    ensures kept { state.new.kept ≡ state.old.kept }
 {
     if is_indentless {
         indentless_dash(state, alloc, options, token)
@@ -311,8 +323,9 @@ fn open_flow<'input>(
     bracket: Bracket,
     token: &Token<'input>,
 ) -> Result<(), NoMemory>
-    ensures { OnOk result (state.new ≡ steps.open_flow (options_of options.now) bracket
+    ensures leaves { OnOk result (state.new ≡ steps.open_flow (options_of options.now) bracket
         (machine_token token.now) state.old) }
+    ensures kept { state.new.kept ≡ state.old.kept }
 {
     let start = token.lexeme.shown_start;
     let end = token.lexeme.shown_end;
@@ -341,9 +354,10 @@ fn begin_mapping<'input>(
     token: &Token<'input>,
     stage: PairStage,
 ) -> Result<(), ScanError>
-    ensures { LeavesIfRoom result state.new (ends.begin_block
+    ensures leaves { LeavesIfRoom result state.new (ends.begin_block
         (options_of options.now) ends.block_mapping token.now.lexeme.start
         (machine.BlockMapping token.now.lexeme.start.place.column (pair_view stage)) state.old) }
+    ensures kept { state.new.kept ≡ state.old.kept }
 {
     state.begin_block(
         options,
@@ -360,8 +374,9 @@ fn first_colon<'input>(
     options: &Options,
     token: &Token<'input>,
 ) -> Result<(), ScanError>
-    ensures { LeavesIfRoom result state.new (steps.bare (options_of options.now)
+    ensures leaves { LeavesIfRoom result state.new (steps.bare (options_of options.now)
         (of_kind kinds.Colon token.now) state.old) }
+    ensures kept { state.new.kept ≡ state.old.kept }
 {
     let start = token.lexeme.start;
     begin_mapping(state, options, token, PairStage::AtValue)?;
@@ -377,7 +392,9 @@ pub fn bare<'input>(
     options: &Options,
     token: &mut Token<'input>,
 ) -> Result<(), ScanError>
-    ensures { LeavesIfRoom result state.new (steps.bare (options_of options.now) (machine_token token.old) state.old) }
+    ensures leaves { LeavesIfRoom result state.new (steps.bare (options_of options.now)
+        (machine_token token.old) state.old) }
+    ensures kept { state.new.kept ≡ state.old.kept }
 {
     match mem::replace(&mut token.lexeme.kind, LexemeKind::Comma) {
         LexemeKind::Alias(name) => alias(state, options, name, token),
@@ -418,7 +435,9 @@ pub fn node<'input>(
     options: &Options,
     token: &mut Token<'input>,
 ) -> Result<(), ScanError>
-    ensures { LeavesIfRoom result state.new (steps.node (options_of options.now) (machine_token token.old) state.old) }
+    ensures leaves { LeavesIfRoom result state.new (steps.node (options_of options.now)
+        (machine_token token.old) state.old) }
+    ensures kept { state.new.kept ≡ state.old.kept }
 {
     match token.sort {
         TokenSort::BeginsKey => {

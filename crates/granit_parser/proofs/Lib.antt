@@ -1,6 +1,15 @@
+pub mod AnswerLemmas
+pub mod CallLemmas
+pub mod DropLemmas
+pub mod DroppedLemmas
 pub mod FirstLemmas
+pub mod GoesLemmas
+pub mod InLemmas
+mod KeepLemmas
 pub mod MetLemmas
 pub mod PlaceLemmas
+pub mod ProceedLemmas
+pub mod RecoverLemmas
 pub mod SendLemmas
 pub mod SourceLemmas
 pub mod StartLaws

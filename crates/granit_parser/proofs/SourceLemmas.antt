@@ -8,13 +8,21 @@ use Rattle.granit_cursor.specs.Reading.{Moves, Reading}
 use Rattle.granit_error.specs.FaultKind.{FaultKind}
 use Rattle.granit_error.specs.OptionsData.{OptionsData}
 use Rattle.granit_error.specs.Refused.{Refused}
+use Rattle.granit_event.specs.Events.{plain_event}
+use Rattle.granit_input.specs.Origin as origins
 use Rattle.granit_input.specs.Origin.{Origin, Goes, Gave, error_given}
+use Rattle.granit_lexemes.specs.PlainEvent.{PlainEvent}
 use Rattle.granit_input.proofs.OriginLemmas.{goes_nowhere, goes_on}
 use Rattle.granit_parser.specs.Parsing.{EndsBehind, EndsWith, GivesNext, Next, Parsing}
+use Rattle.granit_parser.specs.Recovering as calls
+use Rattle.granit_parser.specs.Recovering.{FailsAt, ReadsNext, SeenBy, SeenNext}
 use Rattle.granit_parser.specs.Sources.{GoesGiving, GoesUnless, IfUnseen, IsSourceError, MovesUnless, TellsError}
 use Rattle.granit_parser.specs.Sources.{TellsSource, unless_failed}
+use Rattle.granit_restart.specs.Ahead.{AheadOf, NoneComes}
+use Rattle.granit_restart.specs.Calls.{Calls, noted}
+use Rattle.granit_stepper.specs.Refusals.{HoldsRefusal, RefusedIn}
 use Rattle.granit_stepper.specs.Stepping.{StandsIn, Stepping, refused_kind}
-use Rattle.granit_steps.specs.Steps.{StepState}
+use Rattle.granit_steps.specs.Steps.{StepState, next_event}
 
 -- ---- what is handed out
 
@@ -248,3 +256,59 @@ moves_behind unread left origin r s a now after same seen moves first =
 pub never_told : {A : Type 0} → A ⊎ ⊥ → A
 never_told (inl a) = a
 never_told (inr e) = absurd e
+
+-- ---- where the machine's calls led
+
+module _ {I : Type 0} (unread : I → Unread → Type 0) (mid new : Stepping I)
+    (options : new.scanner.options ≡ mid.scanner.options) (renumbered : new.renumbered ≡ mid.renumbered)
+    (first : new.first ≡ mid.first) (failed : new.failed ≡ (mid.failed || false))
+    (known : (m : StepState) → StandsIn unread mid m → StandsIn unread new m)
+    (held : (m : StepState) → HoldsRefusal unread mid m → HoldsRefusal unread new m)
+    (refused : (m : StepState) (e : Refused) → RefusedIn unread mid m e → RefusedIn unread new m e) where
+  pub goes_kept : (c : Calls) → calls.Goes unread mid c → calls.Goes unread new c
+  goes_kept c g = record {
+    steps = g.steps;
+    ahead = subst (λ o. AheadOf o c.steps g.steps) (sym options) g.ahead;
+    stands = elim g.stands [
+      | inl at ↦ inl (known g.steps at)
+      | inr held_there ↦ inr (held g.steps held_there)
+    ];
+    between = λ b. subst (λ o. (g.steps ≡ c.steps) ⊎ NoneComes o c.steps) (sym options) (g.between b);
+    told = λ b. first ∙ g.told b;
+  }
+
+  next_kept : (e : PlainEvent) (c : Calls) → SeenNext unread mid e c → SeenNext unread new e c
+  next_kept e c s = record {
+    steps = s.steps;
+    next = subst (λ o. next_event o c.steps ≡ Ok (Some e, s.steps)) (sym options) s.next;
+    goes = goes_kept (noted e.kind (record c { steps = s.steps })) s.goes;
+  }
+
+  pub seen_kept : (r : Next) (c : Calls) → SeenBy unread r mid c → SeenBy unread r new c
+  seen_kept None c g = goes_kept c g
+  seen_kept (Some (Ok x)) c s = next_kept (plain_event x) c s
+  seen_kept (Some (Err e)) c s = s
+
+  pub reads_kept : (r : Next) (c : Calls) → ReadsNext unread r mid c → ReadsNext unread r new c
+  reads_kept None c s = (s.0, subst (λ o. next_event o c.steps ≡ Ok (None, s.0)) (sym options) s.1)
+  reads_kept (Some (Ok x)) c s = next_kept (plain_event x) c s
+  reads_kept (Some (Err e)) c s = λ other.
+      let x = s other in (
+        x.0,
+        record { refused = refused x.0 e x.1.refused; failed = failed ∙ ap (λ b. b || false) x.1.failed },
+        subst (λ o. FailsAt new.renumbered o x.0 c e) (sym options)
+            (subst (λ b. FailsAt b mid.scanner.options x.0 c e) (sym renumbered) x.2),
+      )
+
+module _ {I : Type 0} (unread : I → Unread → Type 0) (origin : I → Origin) (old mid new : Stepping I)
+    (goes : origins.Goes (origin old.scanner.cursor.input) (origin mid.scanner.cursor.input))
+    (gave : Gave (origin mid.scanner.cursor.input) (origin new.scanner.cursor.input)) where
+  pub reads_by : (error : Option Refused) (r : Next) (c : Calls)
+      → option_map refused_kind error ≡ error_given (origin mid.scanner.cursor.input)
+      → IfSome error (λ e. (e.mark.place ≡ new.scanner.cursor.place) × (e.sources ≡ []))
+      → (error ≡ None → ReadsNext unread r mid c → ReadsNext unread r new c) → ReadsNext unread r mid c
+      → ReadsNext unread (unless_failed r error) new c ⊎ TellsSource origin (unless_failed r error) new.scanner.cursor
+  reads_by None r c is placed on reads = inl (on refl reads)
+  reads_by (Some e) r c is placed on reads = inr (source_tells (origin old.scanner.cursor.input)
+      (origin mid.scanner.cursor.input) (origin new.scanner.cursor.input) goes gave e new.scanner.cursor.place is
+      placed.0 placed.1)

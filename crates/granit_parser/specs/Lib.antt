@@ -1,5 +1,6 @@
 pub mod Numbers
 pub mod Parsing
 pub mod Receiving
+pub mod Recovering
 pub mod Sources
 pub mod Streams

@@ -27,11 +27,20 @@ use Rattle.granit_steps.specs.Told.{Told}
 abbrev pub Next : Type 0
 Next = Option (Result (Event × Span) Refused)
 
--- a stepper, what was looked at and not taken, and the refusal that was given
+-- an event, why there is none, or nothing more, as the stepper says it
+abbrev pub next_view : {X : Type 0} → Result (Option X) Refused → Option (Result X Refused)
+next_view (Ok None) = None
+next_view (Ok (Some x)) = Some (Ok x)
+next_view (Err e) = Some (Err e)
+
+-- a stepper, what was looked at and not taken, the refusal that was given, whether the end of a document was the last
+-- that was given, comments aside, and whether that of the stream was
 pub record Parsing (I : Type 0) : Type 0 where
   pub stepper : Stepping I
   pub peeked : Next
   pub given : Option Refused
+  pub between : Bool
+  pub over : Bool
 
 -- where this is a refusal, it is the last that is given: a parser that has nothing looked at is then over
 abbrev pub EndsWith : {I : Type 0} → Next → Stepping I → Type 0

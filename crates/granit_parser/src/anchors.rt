@@ -7,9 +7,9 @@ ghost use Rattle.granit_stepper.specs.Stepping.{StandsIn};
 ghost use Rattle.granit_steps.specs.Steps.{StepState};
 
 use crate::parser::Parser;
-use granit_input::Input;
+use granit_input::BorrowedInput;
 
-impl<'input, T: Input> Parser<'input, T> {
+impl<'input, T: BorrowedInput<'input>> Parser<'input, T> {
     /// The number that the next anchor gets, held at the greatest one.
     pub fn anchor_offset(&self) -> usize
         ensures { result ≡ next_number self.now }

@@ -5,6 +5,7 @@ mod anchors;
 mod fallible;
 mod parser;
 mod receive;
+mod recovery;
 mod stacked;
 mod streams;
 mod tags;

@@ -10,6 +10,7 @@ ghost use Rattle.granit_base.specs.Place.{Unread};
 ghost use Rattle.granit_cursor.specs.Reading.{GoesOnward};
 ghost use Rattle.granit_cursor.specs.Reading.{Moves};
 ghost use Rattle.granit_error.specs.FaultKind.{FaultKind};
+ghost use Rattle.granit_error.specs.Refused.{Refused};
 ghost use Rattle.granit_error.specs.OptionsData.{default_options};
 ghost use Rattle.granit_error.specs.OptionsView.{options_of};
 ghost use Rattle.granit_input.specs.Origin.{Gave, error_given};
@@ -18,10 +19,15 @@ ghost use Rattle.granit_lexemes.specs.Here.{Here, first_place};
 ghost use Rattle.granit_lexemes.specs.PlainEvent.{PlainEvent};
 ghost use Rattle.granit_parser.specs.Parsing as spec;
 ghost use Rattle.granit_parser.specs.Parsing.{EndsBehind, EndsText, EndsTold, EndsWith, GivesNext, IsOver};
-ghost use Rattle.granit_parser.specs.Parsing.{Keeps, LeadsTo, PeeksAs, StandsAt};
+ghost use Rattle.granit_parser.specs.Parsing.{Keeps, LeadsTo, PeeksAs, StandsAt, next_view};
+ghost use Rattle.granit_parser.specs.Recovering.{GivesCall, Goes, IsClosed, IsOpen, ParserIn, PeeksIn, ReadsNext};
+ghost use Rattle.granit_parser.specs.Recovering.{SeenBy};
 ghost use Rattle.granit_parser.specs.contracts.parser.Parser.{the_row};
 ghost use Rattle.granit_parser.specs.Sources.{IfUnseen, MovesUnless, TellsError, TellsSource, unless_failed};
 ghost use Rattle.granit_receivers.specs.Sending.{shown};
+ghost use Rattle.granit_recovery.specs.Streams.{Reached, calls_from};
+ghost use Rattle.granit_restart.specs.Calls.{Calls, calls_start};
+ghost use Rattle.granit_stepper.specs.Refusals.{HoldsRefusal, RefusedIn};
 ghost use Rattle.granit_stepper.specs.Stepping.{StandsIn, refused_kind};
 ghost use Rattle.granit_steps.specs.Steps as steps;
 ghost use Rattle.granit_steps.specs.Steps.{StepState};
@@ -31,7 +37,7 @@ use granit_base::Span;
 use granit_error::{Options, ScanError};
 use granit_event::Event;
 use granit_input::{BorrowedInput, Input, StrInput};
-use granit_receivers::kept;
+use granit_recovery::calls_go_by_turns;
 use granit_stepper::Stepper;
 use std::alloc::Global;
 use std::iter::FusedIterator;
@@ -46,6 +52,10 @@ pub struct Parser<'input, T: Input> {
     pub(crate) peeked: Option<Result<(Event<'input>, Span), ScanError>>,
     // The refusal that was given.
     pub(crate) given: Option<ScanError>,
+    // The end of a document was the last that was given, comments aside, or recovery told that no other comes.
+    pub(crate) between: bool,
+    // The end of the stream was given.
+    pub(crate) over: bool,
 }
 
 impl<'input, T: Input> Model for Parser<'input, T> {
@@ -53,7 +63,13 @@ impl<'input, T: Input> Model for Parser<'input, T> {
 
     ghost Value = { Parsing T };
 
-    ghost view = { λ p. record { stepper = p.stepper; peeked = p.peeked; given = p.given } };
+    ghost view = { λ p. record {
+      stepper = p.stepper;
+      peeked = p.peeked;
+      given = p.given;
+      between = p.between;
+      over = p.over;
+    } };
 
     // nothing is read behind a refusal
     ghost invariant = { λ p. EndsBehind p.peeked p.given p.stepper };
@@ -63,6 +79,7 @@ impl<'input> Parser<'input, StrInput<'input>> {
     /// Before a string, read with the default options.
     pub fn new_from_str(alloc: Global, value: &'input str) -> Parser<'input, StrInput<'input>>
         ensures start { StandsAt Leaves result (steps.steps_start (chars value.now)) }
+        ensures calls { ParserIn Leaves result (calls_start (chars value.now)) }
         ensures options { result.stepper.scanner.options ≡ default_options }
         ensures unseen { result.peeked ≡ None }
         ensures renumbered { result.stepper.renumbered ≡ false }
@@ -77,6 +94,7 @@ impl<'input> Parser<'input, StrInput<'input>> {
         options: Options,
     ) -> Parser<'input, StrInput<'input>>
         ensures start { StandsAt Leaves result (steps.steps_start (chars value.now)) }
+        ensures calls { ParserIn Leaves result (calls_start (chars value.now)) }
         ensures options { result.stepper.scanner.options ≡ options_of options }
         ensures unseen { result.peeked ≡ None }
         ensures renumbered { result.stepper.renumbered ≡ false }
@@ -90,6 +108,8 @@ impl<'input, T: BorrowedInput<'input>> Parser<'input, T> {
     pub fn new(alloc: Global, src: T) -> Parser<'input, T>
         ensures start { (h : Here) → T.unread src h.unread → h.place ≡ first_place → h.begins_line ≡ true
             → h.tab ≡ None → StandsAt T.unread result (steps.start_from h) }
+        ensures calls { (h : Here) → T.unread src h.unread → h.place ≡ first_place → h.begins_line ≡ true
+            → h.tab ≡ None → ParserIn T.unread result (calls_from h) }
         ensures options { result.stepper.scanner.options ≡ default_options }
         ensures unseen { result.peeked ≡ None }
         ensures renumbered { result.stepper.renumbered ≡ false }
@@ -102,6 +122,8 @@ impl<'input, T: BorrowedInput<'input>> Parser<'input, T> {
     pub fn with_options(alloc: Global, src: T, options: Options) -> Parser<'input, T>
         ensures start { (h : Here) → T.unread src h.unread → h.place ≡ first_place → h.begins_line ≡ true
             → h.tab ≡ None → StandsAt T.unread result (steps.start_from h) }
+        ensures calls { (h : Here) → T.unread src h.unread → h.place ≡ first_place → h.begins_line ≡ true
+            → h.tab ≡ None → ParserIn T.unread result (calls_from h) }
         ensures options { result.stepper.scanner.options ≡ options_of options }
         ensures unseen { result.peeked ≡ None }
         ensures renumbered { result.stepper.renumbered ≡ false }
@@ -112,6 +134,8 @@ impl<'input, T: BorrowedInput<'input>> Parser<'input, T> {
             stepper: Stepper::new(alloc, src, options),
             peeked: None,
             given: None,
+            between: false,
+            over: false,
         }
     }
 
@@ -144,6 +168,10 @@ impl<'input, T: BorrowedInput<'input>> Parser<'input, T> {
             → EndsTold (told_from self.old.stepper.scanner.options h) self.old.stepper.scanner.options es
             self.new.stepper.renumbered m result
             ⊎ TellsSource T.origin result self.new.stepper.scanner.cursor }
+        ensures calls { (c : Calls) → Reached self.old.stepper.scanner.options c → IsOpen c
+            → ParserIn T.unread self.old c
+            → GivesCall T.unread result self.new c ⊎ TellsSource T.origin result self.new.stepper.scanner.cursor }
+        ensures closed { (c : Calls) → IsClosed c → ParserIn T.unread self.old c → ParserIn T.unread self.new c }
         ensures peeked { self.new.peeked ≡ None }
         ensures given { Keeps result self.old.given self.new.given }
         ensures seen { IfSome self.old.peeked (λ r. (result ≡ Some r) × (self.new.stepper ≡ self.old.stepper)) }
@@ -155,18 +183,26 @@ impl<'input, T: BorrowedInput<'input>> Parser<'input, T> {
             self.old.stepper.scanner.cursor self.new.stepper.scanner.cursor) }
         ensures onward { GoesOnward T.unread self.old.stepper.scanner.cursor self.new.stepper.scanner.cursor }
     {
-        self.take_event()
+        let next = self.take_event();
+        self.note(&next);
+        next
     }
 
     /// What was looked at, or the next event.
     fn take_event(&mut self) -> Option<Result<(Event<'input>, Span), ScanError>>
-        ensures known { (m : StepState) → StandsAt T.unread self.old m → GivesNext result (StandsAt T.unread self.new)
+        ensures known { (m : StepState) → StandsAt T.unread self.old m
+            → GivesNext result (StandsIn T.unread self.new.stepper)
             self.new.stepper.renumbered self.old.stepper.scanner.options m
+            ⊎ TellsSource T.origin result self.new.stepper.scanner.cursor }
+        ensures calls { (c : Calls) → Reached self.old.stepper.scanner.options c
+            → SeenBy T.unread self.old.peeked self.old.stepper c → ReadsNext T.unread result self.new.stepper c
             ⊎ TellsSource T.origin result self.new.stepper.scanner.cursor }
         ensures source { IfUnseen self.old.peeked (TellsError T.origin self.old.stepper result
             self.new.stepper.scanner.cursor) }
         ensures peeked { self.new.peeked ≡ None }
-        ensures given { Keeps result self.old.given self.new.given }
+        ensures given { self.new.given ≡ self.old.given }
+        ensures between { self.new.between ≡ self.old.between }
+        ensures going { self.new.over ≡ self.old.over }
         ensures seen { IfSome self.old.peeked (λ r. (result ≡ Some r) × (self.new.stepper ≡ self.old.stepper)) }
         ensures refused { EndsWith result self.new.stepper }
         ensures over { IsOver self.old → (result ≡ None) × (self.new ≡ self.old) }
@@ -176,15 +212,11 @@ impl<'input, T: BorrowedInput<'input>> Parser<'input, T> {
             self.old.stepper.scanner.cursor self.new.stepper.scanner.cursor) }
         ensures onward { GoesOnward T.unread self.old.stepper.scanner.cursor self.new.stepper.scanner.cursor }
     {
-        let next = if self.peeked.is_none() {
+        if self.peeked.is_none() {
             self.read_event()
         } else {
             self.peeked.take()
-        };
-        if let Some(Err(error)) = &next {
-            self.given = Some(kept(self.alloc, error));
         }
-        next
     }
 
     /// What the next call of `next_event` gives, which gives it all the same; none behind the end of the stream, and
@@ -195,7 +227,8 @@ impl<'input, T: BorrowedInput<'input>> Parser<'input, T> {
     /// As `next_event`, lent as often as asked.
     pub fn peek(&mut self) -> Option<Result<&(Event<'input>, Span), &ScanError>>
         ensures* { sem 𝓛 (Rests (the_row (record { mir = named 1; lft = [] }) T.row T.Input) self.entry (λ new.
-            PeeksAs T.unread T.left T.origin self.old (shown result) new)) }
+            PeeksAs T.unread T.left T.origin self.old (shown result) new
+            × PeeksIn T.unread T.origin self.old (shown result) new)) }
     {
         self.look_on();
         self.look()
@@ -203,7 +236,8 @@ impl<'input, T: BorrowedInput<'input>> Parser<'input, T> {
 
     /// Reads the next event, where none was looked at.
     fn look_on(&mut self)
-        ensures { PeeksAs T.unread T.left T.origin self.old self.new.peeked self.new }
+        ensures peeks { PeeksAs T.unread T.left T.origin self.old self.new.peeked self.new }
+        ensures calls { PeeksIn T.unread T.origin self.old self.new.peeked self.new }
     {
         if self.peeked.is_none() {
             let next = self.read_event();
@@ -240,9 +274,14 @@ impl<'input, T: BorrowedInput<'input>> Parser<'input, T> {
             → (T.origin self.new.stepper.scanner.cursor.input).error ≡ None
             → GivesNext result (StandsIn T.unread self.new.stepper)
             self.new.stepper.renumbered self.old.stepper.scanner.options m }
+        ensures calls { (c : Calls) → Reached self.old.stepper.scanner.options c → Goes T.unread self.old.stepper c
+            → ReadsNext T.unread result self.new.stepper c
+            ⊎ TellsSource T.origin result self.new.stepper.scanner.cursor }
         ensures source { TellsError T.origin self.old.stepper result self.new.stepper.scanner.cursor }
         ensures peeked { self.new.peeked ≡ self.old.peeked }
         ensures given { self.new.given ≡ self.old.given }
+        ensures between { self.new.between ≡ self.old.between }
+        ensures going { self.new.over ≡ self.old.over }
         ensures refused { EndsWith result self.new.stepper }
         ensures over { self.old.stepper.failed ≡ true → (result ≡ None) × (self.new ≡ self.old) }
         ensures options { self.new.stepper.scanner.options ≡ self.old.stepper.scanner.options }
@@ -260,22 +299,29 @@ impl<'input, T: BorrowedInput<'input>> Parser<'input, T> {
     }
 
     /// Whether nothing more is given.
-    fn has_failed(&self) -> bool
+    pub(crate) fn has_failed(&self) -> bool
         ensures { result ≡ self.now.stepper.failed }
     {
         self.stepper.has_failed()
     }
 
     /// The first error of the source, once, at the place up to which was read. Nothing more is given then.
-    fn take_source_error(&mut self) -> Option<ScanError>
+    pub(crate) fn take_source_error(&mut self) -> Option<ScanError>
         ensures given { option_map refused_kind result
             ≡ error_given (T.origin self.old.stepper.scanner.cursor.input) }
         ensures place { IfSome result (λ e. (e.mark.place ≡ self.new.stepper.scanner.cursor.place)
             × (e.sources ≡ [])) }
         ensures known { (m : StepState) → StandsIn T.unread self.old.stepper m → result ≡ None
             → StandsIn T.unread self.new.stepper m }
+        ensures held { (m : StepState) → HoldsRefusal T.unread self.old.stepper m → result ≡ None
+            → HoldsRefusal T.unread self.new.stepper m }
+        ensures refused { (m : StepState) (e : Refused) → RefusedIn T.unread self.old.stepper m e → result ≡ None
+            → RefusedIn T.unread self.new.stepper m e }
+        ensures first { self.new.stepper.first ≡ self.old.stepper.first }
         ensures peeked { self.new.peeked ≡ self.old.peeked }
         ensures kept { self.new.given ≡ self.old.given }
+        ensures between { self.new.between ≡ self.old.between }
+        ensures going { self.new.over ≡ self.old.over }
         ensures failed { self.new.stepper.failed ≡ (self.old.stepper.failed || is_some result) }
         ensures options { self.new.stepper.scanner.options ≡ self.old.stepper.scanner.options }
         ensures renumbered { self.new.stepper.renumbered ≡ self.old.stepper.renumbered }
@@ -292,19 +338,20 @@ impl<'input, T: BorrowedInput<'input>> Parser<'input, T> {
         ensures known { (m : StepState) → StandsIn T.unread self.old.stepper m
             → GivesNext result (StandsIn T.unread self.new.stepper)
             self.old.stepper.renumbered self.old.stepper.scanner.options m }
+        ensures calls { (c : Calls) → Reached self.old.stepper.scanner.options c → Goes T.unread self.old.stepper c
+            → ReadsNext T.unread result self.new.stepper c }
         ensures peeked { self.new.peeked ≡ self.old.peeked }
         ensures given { self.new.given ≡ self.old.given }
+        ensures between { self.new.between ≡ self.old.between }
+        ensures going { self.new.over ≡ self.old.over }
         ensures refused { EndsWith result self.new.stepper }
         ensures over { self.old.stepper.failed ≡ true → (result ≡ None) × (self.new ≡ self.old) }
         ensures options { self.new.stepper.scanner.options ≡ self.old.stepper.scanner.options }
         ensures renumbered { self.new.stepper.renumbered ≡ self.old.stepper.renumbered }
         ensures moves { Moves T.unread T.left T.origin self.old.stepper.scanner.cursor self.new.stepper.scanner.cursor }
     {
-        match self.stepper.next_event(self.alloc) {
-            Ok(None) => None,
-            Ok(Some(event)) => Some(Ok(event)),
-            Err(error) => Some(Err(error)),
-        }
+        calls_go_by_turns();
+        next_of(self.stepper.next_event(self.alloc))
     }
 
     /// Whether it isn't known where reading stands, since memory ran out in the midst of a run.
@@ -330,6 +377,18 @@ impl<'input, T: BorrowedInput<'input>> Parser<'input, T> {
         ensures onward { GoesOnward T.unread self.old.stepper.scanner.cursor self.new.stepper.scanner.cursor }
     {
         self.stepper.end_error()
+    }
+}
+
+fn next_of<'a>(
+    event: Result<Option<(Event<'a>, Span)>, ScanError>,
+) -> Option<Result<(Event<'a>, Span), ScanError>>
+    ensures { result ≡ next_view event.entry }
+{
+    match event {
+        Ok(None) => None,
+        Ok(Some(event)) => Some(Ok(event)),
+        Err(error) => Some(Err(error)),
     }
 }
 

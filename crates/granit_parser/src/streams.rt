@@ -5,7 +5,9 @@ ghost use Rattle.granit_buffered.specs.Feeds.{GivesOnly};
 ghost use Rattle.granit_error.specs.OptionsData.{default_options};
 ghost use Rattle.granit_error.specs.OptionsView.{options_of};
 ghost use Rattle.granit_parser.specs.Parsing.{StandsAt};
+ghost use Rattle.granit_parser.specs.Recovering.{ParserIn};
 ghost use Rattle.granit_parser.specs.Streams.{bare_start};
+ghost use Rattle.granit_recovery.specs.Streams.{calls_from};
 ghost use Rattle.granit_steps.specs.Steps as steps;
 
 use crate::parser::Parser;
@@ -28,6 +30,8 @@ impl<'input, T: Source<Item = char>> Parser<'input, BufferedInput<T>> {
         requires { size (T.remaining iter) < 2 ^ 63 }
         ensures start { IfOk result (λ p. (x : List ℕ) → GivesOnly T.next_gives T.remaining iter x
             → StandsAt ⟦<BufferedInput<T> as Input>⟧.unread p (steps.start_from (bare_start x))) }
+        ensures calls { IfOk result (λ p. (x : List ℕ) → GivesOnly T.next_gives T.remaining iter x
+            → ParserIn ⟦<BufferedInput<T> as Input>⟧.unread p (calls_from (bare_start x))) }
         ensures options { IfOk result (λ p. p.stepper.scanner.options ≡ default_options) }
         ensures unseen { IfOk result (λ p. p.peeked ≡ None) }
         ensures renumbered { IfOk result (λ p. p.stepper.renumbered ≡ false) }
@@ -48,6 +52,8 @@ impl<'input, T: Source<Item = char>> Parser<'input, BufferedInput<T>> {
         requires { size (T.remaining iter) < 2 ^ 63 }
         ensures start { IfOk result (λ p. (x : List ℕ) → GivesOnly T.next_gives T.remaining iter x
             → StandsAt ⟦<BufferedInput<T> as Input>⟧.unread p (steps.start_from (bare_start x))) }
+        ensures calls { IfOk result (λ p. (x : List ℕ) → GivesOnly T.next_gives T.remaining iter x
+            → ParserIn ⟦<BufferedInput<T> as Input>⟧.unread p (calls_from (bare_start x))) }
         ensures options { IfOk result (λ p. p.stepper.scanner.options ≡ options_of options) }
         ensures unseen { IfOk result (λ p. p.peeked ≡ None) }
         ensures renumbered { IfOk result (λ p. p.stepper.renumbered ≡ false) }

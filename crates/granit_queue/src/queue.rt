@@ -1,5 +1,5 @@
 //! Items that were read and not yet taken.
-ghost use Rattle.std.specs.Prelude.{◌≡◌, ◌||◌, true, [], ◌∷◌, map, Some, slice_get, drop, take, OnOk};
+ghost use Rattle.std.specs.Prelude.{◌≡◌, ◌||◌, ◌==◌, true, [], ◌∷◌, length, map, Some, slice_get, drop, take, OnOk};
 ghost use Rattle.std.specs.Option.{option_copied, option_map};
 ghost use Rattle.granit_items.specs.ItemViews.{found_items, item_view, key_view};
 ghost use Rattle.granit_queue.specs.QueueViews.{flags_of, is_numbered, queue_view, queued_view};
@@ -82,6 +82,20 @@ impl<'input> Queue<'input> {
         ensures { option_map queued_view (option_copied result) ≡ slice_get self.now older }
     {
         self.items.get(older)
+    }
+
+    /// How many items wait.
+    pub fn len(&self) -> usize
+        ensures { result ≡ length self.now }
+    {
+        self.items.len()
+    }
+
+    /// Whether none waits.
+    pub fn is_empty(&self) -> bool
+        ensures { result ≡ (length self.now == 0) }
+    {
+        self.items.is_empty()
     }
 
     /// The oldest item goes.

@@ -1,3 +1,5 @@
+pub mod MeetLemmas
+pub mod MemoryLemmas
 pub mod ReadLemmas
 pub mod SortLemmas
 pub mod TurnLemmas

@@ -1,5 +1,5 @@
 //! One read: a comment, or a lexeme with its tail.
-ghost use Rattle.std.specs.Prelude.{◌≡◌, ◌<◌, ◌≤◌, ◌^◌, Bool, false, Option, None};
+ghost use Rattle.std.specs.Prelude.{◌≡◌, ◌<◌, ◌≤◌, ◌^◌, Bool, false, Option, None, Ok};
 ghost use Rattle.granit_base.specs.Classes.{is_gap};
 ghost use Rattle.granit_cursor.specs.Reading.{Moves, Stands};
 ghost use Rattle.granit_error.specs.FaultKind as faults;
@@ -8,14 +8,22 @@ ghost use Rattle.granit_lexemes.specs.Comment.{CommentRead};
 ghost use Rattle.granit_lexemes.specs.Here as here;
 ghost use Rattle.granit_lexemes.specs.Here.{Here};
 ghost use Rattle.granit_lexemes.specs.Outcome.{fault_at};
+ghost use Rattle.granit_machine.specs.Gaps as gaps;
 ghost use Rattle.granit_machine.specs.Laid.{is_in_flow};
+ghost use Rattle.granit_machine.specs.LexemeSort as lexeme_sorts;
 ghost use Rattle.granit_machine.specs.Reader as spec;
 ghost use Rattle.granit_content.specs.declared.tail.Tail.TheVariants.{Nothing};
+ghost use Rattle.granit_reader.specs.Meets.{MeetsBehind, UnlessMemory, behind_met};
+ghost use Rattle.granit_reader.specs.declared.met.Met.TheVariants as mets;
+ghost use Rattle.granit_restart.specs.Header.{directive_sort};
 ghost use Rattle.granit_content.specs.Reads.{ReadsItems, found_in, seen, tail_view};
 ghost use Rattle.granit_reader.specs.Reads.{reader_at};
 ghost use Rattle.granit_reader.specs.SortViews as sorts;
 ghost use Rattle.granit_reader.specs.SortViews.{PlacedFits, SortFits, placed_view, sort_view};
+ghost use Rattle.granit_reader.specs.WithoutMemory.{NeverWantsAt, read_takes_none, behind_takes_none};
+ghost use Rattle.granit_reader.specs.WithoutMemory.{lexeme_takes_none, sort_takes_none, placed_takes_none};
 
+use crate::met::{Met, met_by};
 use crate::sort::{LexemeSort, PlacedSort, sort_at};
 use granit_content::{
     Tail, alias_lexeme, anchor_lexeme, block_lexeme, gap, plain_lexeme, quoted_and_gap, tag_lexeme,
@@ -25,9 +33,8 @@ use granit_error::{ErrorKind, Options, ScanError};
 use granit_input::{BorrowedInput, Input};
 use granit_items::Found;
 use granit_layout::{Layouts, is_adjacent};
-use granit_signs::{
-    closer, colon, comma, dash, directive, document_end, document_start, opener, question, text_end,
-};
+use granit_marks::{closer, comma, directive, document_end, document_start, opener, text_end};
+use granit_signs::{colon, dash, question};
 use std::alloc::Global;
 
 /// One read: a comment, or a lexeme with its tail.
@@ -38,16 +45,22 @@ pub(crate) fn read<'input, T: BorrowedInput<'input>>(
     at: &mut Cursor<T>,
     layouts: &mut Layouts,
     found: &mut Found<'input>,
+    met: &mut Met,
 ) -> Result<(), ScanError>
     requires room { layouts.old.number < 2 ^ 63 }
     requires no_lexeme { found.old.lexeme ≡ None }
     requires no_note { found.old.note ≡ None }
     ensures here { ReadsItems T.unread (options_of options.now).emit_comments at.old at.new layouts.new
         (found_in found.new) result (λ h. spec.read (options_of options.now) (reader_at h layouts.old)) }
+    ensures met { (h : Here) → Stands T.unread at.old h → UnlessMemory result
+        (MeetsBehind (options_of options.now) met.new (gaps.gap (options_of options.now) h layouts.old)) }
+    ensures memory { NeverWantsAt T.unread (options_of options.now).emit_comments at.old result
+        (λ h. read_takes_none (options_of options.now) (reader_at h layouts.old)) }
     ensures moves { Moves T.unread T.left T.origin at.old at.new }
 {
+    *met = Met::Nothing;
     let note = gap(alloc, options, at, layouts)?;
-    behind_gap(alloc, options, at, layouts, note, found)?;
+    behind_gap(alloc, options, at, layouts, note, found, met)?;
     layouts.drop_stale(options, at.mark())
 }
 
@@ -59,21 +72,29 @@ fn behind_gap<'input, T: BorrowedInput<'input>>(
     layouts: &mut Layouts,
     note: Tail<'input>,
     found: &mut Found<'input>,
+    met: &mut Met,
 ) -> Result<(), ScanError>
     requires clear { note ≡ Nothing → (h : Here) → Stands T.unread at.old h → is_gap (here.next_char h) ≡ false }
     requires window { note ≡ Nothing → 4 ≤ T.window at.old.input }
     requires room { layouts.old.number < 2 ^ 63 }
     requires no_lexeme { found.old.lexeme ≡ None }
     requires no_note { found.old.note ≡ None }
+    requires unmet { met.old ≡ mets.Nothing }
     ensures here { (t : Option CommentRead) → tail_view note.entry ≡ seen (options_of options.now).emit_comments t
         → ReadsItems T.unread (options_of options.now).emit_comments at.old at.new layouts.new
         (found_in found.new) result (λ h. spec.read_behind (options_of options.now) t (reader_at h layouts.old)) }
+    ensures met { (t : Option CommentRead) → tail_view note.entry ≡ seen (options_of options.now).emit_comments t
+        → (h : Here) → Stands T.unread at.old h → UnlessMemory result
+        (MeetsBehind (options_of options.now) met.new (Ok (t, reader_at h layouts.old))) }
+    ensures memory { (t : Option CommentRead) → tail_view note.entry ≡ seen (options_of options.now).emit_comments t
+        → NeverWantsAt T.unread (options_of options.now).emit_comments at.old result
+        (λ h. behind_takes_none (options_of options.now) t (reader_at h layouts.old)) }
     ensures moves { Moves T.unread T.left T.origin at.old at.new }
 {
     match note {
         Tail::Nothing => {
             layouts.drop_stale(options, at.mark())?;
-            lexeme(alloc, options, at, layouts, found)
+            lexeme(alloc, options, at, layouts, found, met)
         }
         Tail::Passed => Ok(()),
         Tail::Kept(note) => {
@@ -90,6 +111,7 @@ fn lexeme<'input, T: BorrowedInput<'input>>(
     at: &mut Cursor<T>,
     layouts: &mut Layouts,
     found: &mut Found<'input>,
+    met: &mut Met,
 ) -> Result<(), ScanError>
     requires clear { (h : Here) → Stands T.unread at.old h → is_gap (here.next_char h) ≡ false }
     requires window { 4 ≤ T.window at.old.input }
@@ -97,9 +119,14 @@ fn lexeme<'input, T: BorrowedInput<'input>>(
     requires no_note { found.old.note ≡ None }
     ensures here { ReadsItems T.unread (options_of options.now).emit_comments at.old at.new layouts.new
         (found_in found.new) result (λ h. spec.lexeme (options_of options.now) h layouts.old) }
+    ensures met { (h : Here) → Stands T.unread at.old h → (before : Bool)
+        → behind_met met.new before ≡ directive_sort before (lexeme_sorts.sort_at (is_in_flow layouts.old) false h) }
+    ensures memory { NeverWantsAt T.unread (options_of options.now).emit_comments at.old result
+        (λ h. lexeme_takes_none (options_of options.now) h layouts.old) }
     ensures moves { Moves T.unread T.left T.origin at.old at.new }
 {
     let sort = sort_at(at, layouts.is_in_flow(), is_adjacent(layouts.last()));
+    *met = met_by(sort);
     lexeme_by(alloc, options, at, layouts, sort, found)
 }
 
@@ -118,6 +145,8 @@ fn lexeme_by<'input, T: BorrowedInput<'input>>(
     requires no_note { found.old.note ≡ None }
     ensures here { ReadsItems T.unread (options_of options.now).emit_comments at.old at.new layouts.new
         (found_in found.new) result (λ h. spec.lexeme_by (options_of options.now) (sort_view sort) h layouts.old) }
+    ensures memory { NeverWantsAt T.unread (options_of options.now).emit_comments at.old result
+        (λ h. sort_takes_none (options_of options.now) (sort_view sort) h layouts.old) }
     ensures moves { Moves T.unread T.left T.origin at.old at.new }
 {
     let asked = options.emit_comments;
@@ -153,6 +182,8 @@ fn lexeme_in_column<'input, T: BorrowedInput<'input>>(
     ensures here { ReadsItems T.unread (options_of options.now).emit_comments at.old at.new layouts.new
         (found_in found.new) result
         (λ h. spec.lexeme_in_column (options_of options.now) (placed_view sort) ends h layouts.old) }
+    ensures memory { NeverWantsAt T.unread (options_of options.now).emit_comments at.old result
+        (λ h. placed_takes_none (options_of options.now) (placed_view sort) h layouts.old) }
     ensures moves { Moves T.unread T.left T.origin at.old at.new }
 {
     if is_strict_outside(options, layouts, at.mark().col()) {
@@ -197,6 +228,8 @@ fn lexeme_of<'input, T: BorrowedInput<'input>>(
     requires no_note { found.old.note ≡ None }
     ensures here { ReadsItems T.unread (options_of options.now).emit_comments at.old at.new layouts.new
         (found_in found.new) result (λ h. sorts.begun (options_of options.now) (placed_view sort) ends h layouts.old) }
+    ensures memory { NeverWantsAt T.unread (options_of options.now).emit_comments at.old result
+        (λ h. placed_takes_none (options_of options.now) (placed_view sort) h layouts.old) }
     ensures moves { Moves T.unread T.left T.origin at.old at.new }
 {
     let lexeme = &mut found.lexeme;
@@ -228,6 +261,7 @@ fn lexeme_of<'input, T: BorrowedInput<'input>>(
 fn unexpected<T: Input>(at: &mut Cursor<T>) -> ScanError
     ensures here { (h : Here) → Stands T.unread at.old h
         → result ≡ fault_at (faults.UnexpectedCharacter (here.next_char h)) (here.mark_of h) }
+    ensures memory { result.kind ≡ faults.NoMemory → ⊥ }
     ensures moves { Moves T.unread T.left T.origin at.old at.new }
 {
     let mark = at.mark();

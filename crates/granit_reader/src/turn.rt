@@ -1,14 +1,19 @@
 //! All reads, one after another.
-ghost use Rattle.std.specs.Prelude.{◌≡◌, ◌<◌, ◌^◌, None};
+ghost use Rattle.std.specs.Prelude.{◌≡◌, ◌<◌, ◌^◌, None, IfErr};
 ghost use Rattle.granit_cursor.specs.Reading.{Moves, Stands};
+ghost use Rattle.granit_error.specs.FaultKind.{NoMemory};
 ghost use Rattle.granit_error.specs.OptionsView.{options_of};
 ghost use Rattle.granit_lexemes.specs.Here.{Here};
+ghost use Rattle.granit_machine.specs.Gaps.{gap};
 ghost use Rattle.granit_machine.specs.Reader as spec;
 ghost use Rattle.granit_items.specs.ItemViews.{found_items};
 ghost use Rattle.granit_content.specs.Reads.{IsAt};
+ghost use Rattle.granit_reader.specs.Meets.{MeetsBehind};
 ghost use Rattle.granit_reader.specs.Reads.{reader_at};
 ghost use Rattle.granit_reader.specs.Turns.{TurnTo, before_turn};
+ghost use Rattle.granit_reader.specs.WithoutMemory.{NeverWantsAt, turn_takes_none};
 
+use crate::met::Met;
 use crate::read::read;
 use granit_cursor::Cursor;
 use granit_error::{Options, ScanError};
@@ -29,6 +34,7 @@ pub fn next_found<'input, T: BorrowedInput<'input>>(
     layouts: &mut Layouts,
     ended: &mut bool,
     found: &mut Found<'input>,
+    met: &mut Met,
 ) -> Result<(), ScanError>
     requires room { layouts.old.number < 2 ^ 63 }
     requires no_lexeme { found.old.lexeme ≡ None }
@@ -36,12 +42,16 @@ pub fn next_found<'input, T: BorrowedInput<'input>>(
     ensures here { (h : Here) → Stands T.unread at.old h → TurnTo (options_of options.now).emit_comments result
         (found_items found.new) (IsAt T.unread at.new layouts.new) ended.new (reader_at h layouts.old)
         (spec.lex_turn (options_of options.now) (before_turn ended.old (reader_at h layouts.old))) }
+    ensures met { (h : Here) → Stands T.unread at.old h → IfErr result (λ e. (e.kind ≡ NoMemory → ⊥)
+        → MeetsBehind (options_of options.now) met.new (gap (options_of options.now) h layouts.old)) }
+    ensures memory { NeverWantsAt T.unread (options_of options.now).emit_comments at.old result
+        (λ h. turn_takes_none (options_of options.now) (before_turn ended.old (reader_at h layouts.old))) }
     ensures moves { Moves T.unread T.left T.origin at.old at.new }
 {
     if *ended {
         return Ok(());
     }
-    read(alloc, options, at, layouts, found)?;
+    read(alloc, options, at, layouts, found, met)?;
     *ended = is_end(found);
     Ok(())
 }

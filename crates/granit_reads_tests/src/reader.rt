@@ -4,7 +4,7 @@ use granit_error::{Options, ScanError};
 use granit_input::StrInput;
 use granit_items::Found;
 use granit_layout::Layouts;
-use granit_reader::next_found;
+use granit_reader::{Met, next_found};
 use std::alloc::Global;
 
 /// Whether a read found a lexeme, and a comment; none where it was refused.
@@ -30,7 +30,10 @@ fn read<'a>(
         lexeme: None,
         note: None,
     };
-    let read = next_found(alloc, &options, cursor, layouts, ended, &mut found);
+    let mut met = Met::Nothing;
+    let read = next_found(
+        alloc, &options, cursor, layouts, ended, &mut found, &mut met,
+    );
     told(&read, &found)
 }
 

@@ -357,7 +357,7 @@ module _ (o : OptionsData) where
 
   known_follows : (s : StepState) (room : ℕ) (f : Fault) → Known s → s.pending ≡ [] → step_turn o s ≡ Err f
       → ends_before s f ≡ true → document_follows o room s ≡ Ok true
-  known_follows s room f (known_start text is) pending e before =
+  known_follows s room f (known_start h is) pending e before =
       absurd (let g = sym (ap (λ (t : StepState). t.pending) is) ∙ pending in cc)
   known_follows s room f (known_along {ls = ls} p a) pending e before = fault_follows ls s room f a pending e before
 

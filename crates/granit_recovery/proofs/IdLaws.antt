@@ -304,7 +304,7 @@ abbrev pub NoBounds : Bounds
 NoBounds = record { low = 0; least = 0 }
 
 reached_ids : (o : OptionsData) (c : Calls) → Reached o c → Ids NoBounds c.steps
-reached_ids o c (reached_start text) =
+reached_ids o c (reached_start h) =
     (record { least = omega arith; low = omega arith; given = tt; frames = tt; held = tt; follow = tt }, (inl refl, tt))
 reached_ids o c (reached_call {c = d} r) = call_ids NoBounds o d (reached_ids o d r)
 reached_ids o c (reached_recovery {c = d} stops looked r) = recover_ids NoBounds o stops looked d (reached_ids o d r)

@@ -3,7 +3,7 @@ use Rattle.std.proofs.Common.{◌≡◌, ℕ, zero, suc, Bool, true, false, ◌|
 use Rattle.std.proofs.Common.{Some, None, is_some, Result, Ok, Err, refl, sym, ap, subst, ◌∙◌}
 use Rattle.std.specs.Prelude.{if◌then◌else◌}
 use Rattle.granit_error.specs.OptionsData.{OptionsData}
-use Rattle.granit_lexemes.specs.Here.{mark_of, start_of}
+use Rattle.granit_lexemes.specs.Here.{Here, mark_of, start_of}
 use Rattle.granit_lexemes.specs.Outcome.{Fault}
 use Rattle.granit_lexemes.specs.Pieces.{turns, pieces}
 use Rattle.granit_lexemes.specs.PlainEvent.{PlainEvent, EventKind, event_on, StreamStart, StreamEnd, DocumentStart}
@@ -23,7 +23,7 @@ use Rattle.granit_restart.specs.Skipping.{Stops}
 use Rattle.granit_recovery.specs.Streams.{GoesOn, Gives, gives_none, gives_next, Reached, reached_start, reached_call}
 use Rattle.granit_recovery.specs.Streams.{reached_recovery}
 use Rattle.granit_steps.specs.Levels.{Level, InStream, and_then, behind_event, behind_events}
-use Rattle.granit_steps.specs.Steps.{StepState, step_turn, step_size, next_event, steps_start}
+use Rattle.granit_steps.specs.Steps.{StepState, step_turn, step_size, next_event, start_from}
 
 -- ---- one event
 
@@ -42,22 +42,22 @@ told_known ls (Ok (Some e, t)) p n = (
 told_known ls (Ok (None, t)) p n = tt
 told_known ls (Err f) p n = tt
 
-start_next : (o : OptionsData) (text : List ℕ) → NextKnown (next_event o (steps_start text))
+start_next : (o : OptionsData) (h : Here) → NextKnown (next_event o (start_from h))
 unfolding next_event pieces turns step_turn
-start_next o text = (known_along in_stream (start_along text), λ e. absurd (cc))
+start_next o h = (known_along in_stream (start_along h), λ e. absurd (cc))
 
 next_known : (o : OptionsData) (s : StepState) → Known s → NextKnown (next_event o s)
-next_known o s (known_start text e) = subst (λ s. NextKnown (next_event o s)) (sym e) (start_next o text)
+next_known o s (known_start h e) = subst (λ s. NextKnown (next_event o s)) (sym e) (start_next o h)
 next_known o s (known_along {ls = ls} p a) = told_known ls (next_event o s) p (next_along o ls s a)
 
-start_fails : (o : OptionsData) (n : ℕ) (text : List ℕ) → failing_in o n (steps_start text) ≡ steps_start text
+start_fails : (o : OptionsData) (n : ℕ) (h : Here) → failing_in o n (start_from h) ≡ start_from h
 unfolding step_turn
-start_fails o zero text = refl
-start_fails o (suc n) text = refl
+start_fails o zero h = refl
+start_fails o (suc n) h = refl
 
 failing_known : (o : OptionsData) (s : StepState) → Known s → Known (failing o s)
-failing_known o s (known_start text e) = known_start text
-    (ap (failing o) e ∙ start_fails o (suc (step_size (steps_start text))) text)
+failing_known o s (known_start h e) = known_start h
+    (ap (failing o) e ∙ start_fails o (suc (step_size (start_from h))) h)
 failing_known o s (known_along {ls = ls} p a) = known_along p (failing_along o ls (suc (step_size s)) s a)
 
 -- ---- a parser between its calls
@@ -214,7 +214,7 @@ recover_answers o stops looked c k = with_answers o stops looked c.refusal c k
 -- ---- whatever was called
 
 pub reached_known : (o : OptionsData) (c : Calls) → Reached o c → CallsKnown o c
-reached_known o c (reached_start text) = record { known = known_start text refl; between = λ f b. absurd (cc) }
+reached_known o c (reached_start h) = record { known = known_start h refl; between = λ f b. absurd (cc) }
 reached_known o c (reached_call {c = d} r) = call_known o d (reached_known o d r)
 reached_known o c (reached_recovery {c = d} stops looked r) =
     (recover_answers o stops looked d (reached_known o d r)).calls

@@ -30,13 +30,13 @@ use Rattle.granit_steps.proofs.StepLaws.{step_turn-Shortens}
 use Rattle.granit_steps.specs.Levels.{Level, InStream, behind_event, behind_events}
 use Rattle.granit_steps.specs.Steps.{StepState, Turn, with_read, read_unless, read_more, with_fed}
 use Rattle.granit_steps.specs.Steps.{front_turn, turn_by, may_go, line_behind, step_turn, step_size, first_pending}
-use Rattle.granit_steps.specs.Steps.{next_event, steps_start}
+use Rattle.granit_steps.specs.Steps.{next_event, start_from}
 
 -- ---- what may be known of a state
 
 -- nothing was given of a text yet, or what was given leaves these levels open
 pub data Known (s : StepState) : Type 0 where
-  known_start : (text : List ℕ) → s ≡ steps_start text → Known s
+  known_start : (h : Here) → s ≡ start_from h → Known s
   known_along : {ls : List Level} → Open ls → Along ls s → Known s
 
 -- a stream goes on behind its start, or no event comes: nothing is left, or the next document fails at once
@@ -52,8 +52,8 @@ pub record Good (o : OptionsData) (s : StepState) : Type 0 where
 good_stream : (o : OptionsData) (s : StepState) → Along (InStream ∷ []) s → Good o s
 good_stream o s a = record { known = known_along in_stream a; resumed = resumes a }
 
-pub start_along : (text : List ℕ) → Along (InStream ∷ []) (with_pending [] (steps_start text))
-start_along text =
+pub start_along : (h : Here) → Along (InStream ∷ []) (with_pending [] (start_from h))
+start_along h =
     along_stream refl (record { given = refl; fine = tt; held = tt }) (record { calm = tt; sits = tt }) refl
 
 -- ---- turns that give nothing
@@ -216,9 +216,9 @@ ahead_good o n ms s (AtStreamEnd es) more p along h goes =
 
 known_good : (o : OptionsData) (n : ℕ) (s : StepState) → SkipsGood o n → step_size s < suc n → Known s
     → EndGood o (skip_ahead (λ t. skip_turn (skip_in o n) t (step_turn o t)) s (ahead s.pending))
-known_good o n s more h (known_start text e) =
+known_good o n s more h (known_start from e) =
     subst (λ s. EndGood o (skip_ahead (λ t. skip_turn (skip_in o n) t (step_turn o t)) s (ahead s.pending)))
-    (sym e) (emptied_good o n (InStream ∷ []) (steps_start text) more in_stream (start_along text)
+    (sym e) (emptied_good o n (InStream ∷ []) (start_from from) more in_stream (start_along from)
     (subst (λ s. step_size s < suc n) e h))
 known_good o n s more h (known_along {ls = ls} p (along_stream e rests seats w)) =
     let ms = levels_of s.parser.frames s.parser.stage in

@@ -4,7 +4,7 @@ use Rattle.std.proofs.Common.{Option, Some}
 use Rattle.std.proofs.Common.{None, Result, Ok, Err, refl, sym, subst}
 use Rattle.std.specs.Prelude.{if◌then◌else◌}
 use Rattle.granit_error.specs.OptionsData.{OptionsData}
-use Rattle.granit_lexemes.specs.Here.{Here, start_of}
+use Rattle.granit_lexemes.specs.Here.{Here}
 use Rattle.granit_lexemes.specs.Outcome.{Fault, ◌>>=◌}
 use Rattle.granit_lexemes.specs.Pieces.{with_front}
 use Rattle.granit_lexemes.specs.PlainEvent.{PlainEvent, EventKind, DocumentStart}
@@ -184,6 +184,6 @@ module _ (o : OptionsData) where
   recover_turned stops looked c turned = recover_by_turned stops looked c.refusal c turned
 
   pub reached_turned : (c : Calls) → Reached o c → Turned o c.steps
-  reached_turned c (reached_start text) = turned_start (start_of text)
+  reached_turned c (reached_start h) = turned_start h
   reached_turned c (reached_call {c = d} r) = call_turned d (reached_turned d r)
   reached_turned c (reached_recovery {c = d} stops looked r) = recover_turned stops looked d (reached_turned d r)

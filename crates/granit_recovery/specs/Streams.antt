@@ -1,11 +1,13 @@
 -- What calls give one by one between recoveries, and how a stream goes on behind one.
-use Rattle.std.specs.Prelude.{◌≡◌, ℕ, Bool, List, [], ◌∷◌, ◌++◌, Some, Ok}
+use Rattle.std.specs.Prelude.{◌≡◌, Bool, false, List, [], ◌∷◌, ◌++◌, Some, None, Ok}
 use Rattle.granit_error.specs.OptionsData.{OptionsData}
+use Rattle.granit_lexemes.specs.Here.{Here}
 use Rattle.granit_lexemes.specs.PlainEvent.{PlainEvent}
-use Rattle.granit_restart.specs.Calls.{Calls, calls_start, next_call}
+use Rattle.granit_restart.specs.Calls.{Calls, next_call}
 use Rattle.granit_restart.specs.Recovery.{recover}
 use Rattle.granit_restart.specs.Skipping.{Stops}
 use Rattle.granit_steps.specs.Levels.{InStream, behind_events}
+use Rattle.granit_steps.specs.Steps.{start_from}
 
 -- events that may come in a stream behind its start, and behind which the rest of a balanced one may
 pub record GoesOn (es : List PlainEvent) : Type 0 where
@@ -18,9 +20,13 @@ pub data Gives (o : OptionsData) : Calls → List PlainEvent → Calls → Type 
   gives_next : {c d after : Calls} {e : PlainEvent} {es : List PlainEvent} → next_call o c ≡ (Some (Ok e), after)
       → Gives o after es d → Gives o c (e ∷ es) d
 
+-- before all calls, where a text begins
+abbrev pub calls_from : Here → Calls
+calls_from h = record { steps = start_from h; between = false; over = false; fault = None; refusal = None }
+
 -- calls and recoveries lead there from the start of a text, wherever reads that were refused stopped
 pub data Reached (o : OptionsData) : Calls → Type 0 where
-  reached_start : (text : List ℕ) → Reached o (calls_start text)
+  reached_start : (h : Here) → Reached o (calls_from h)
   reached_call : {c : Calls} → Reached o c → Reached o (next_call o c).1
   reached_recovery : {c : Calls} → (stops : Stops) (looked : Bool) → Reached o c
       → Reached o (recover o stops looked c).1

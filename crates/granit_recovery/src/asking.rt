@@ -9,6 +9,7 @@ ghost use Rattle.granit_restart.specs.Calls.{Calls, next_call};
 ghost use Rattle.granit_restart.specs.Following.{document_follows};
 ghost use Rattle.granit_restart.specs.Recovery.{looked_by, skipped};
 ghost use Rattle.granit_restart.specs.Skipping.{Stops};
+ghost use Rattle.granit_restart.specs.Turned.{Turned};
 ghost use Rattle.granit_steps.specs.Steps.{next_event, StepState};
 
 /// Whatever was called before, and whether the next event was looked at or not: no node is open there but where the
@@ -34,4 +35,9 @@ pub fn a_comment_takes_room_where_recovery_asks()
         → is_note e.kind ≡ true
         → document_follows o (suc room) (skipped o stops (looked_by c (next_call o c))).steps
         ≡ document_follows o room after }
+{}
+
+/// Whatever was called before: turns and restarts behind faults lead there.
+pub fn calls_go_by_turns()
+    ensures { (o : OptionsData) (c : Calls) → Reached o c → Turned o c.steps }
 {}

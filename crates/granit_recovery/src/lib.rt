@@ -12,7 +12,9 @@ mod rows;
 mod streams;
 
 pub use answers::{answers_are_exact, answers_behind_a_fault_are_exact};
-pub use asking::{a_comment_takes_room_where_recovery_asks, a_look_tells_where_recovery_asks};
+pub use asking::{
+    a_comment_takes_room_where_recovery_asks, a_look_tells_where_recovery_asks, calls_go_by_turns,
+};
 pub use boundaries::{
     the_boundary_behind_a_read_is_at_a_counted_place, the_boundary_is_at_a_counted_place,
 };

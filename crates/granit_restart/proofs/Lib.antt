@@ -2,6 +2,8 @@ pub mod AheadLaws
 pub mod BoundaryLaws
 pub mod EndLaws
 pub mod LookLaws
+pub mod LookShift
+pub mod LookTurns
 pub mod MarkLaws
 pub mod MarkReads
 pub mod StartLemmas

@@ -1,3 +1,4 @@
+pub mod RecoveryLemmas
 pub mod SettleLemmas
 pub mod Shortening
 pub mod SourceLemmas

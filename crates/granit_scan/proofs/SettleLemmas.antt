@@ -4,9 +4,11 @@ use Rattle.std.proofs.Common.{◌∙◌}
 use Rattle.granit_base.specs.Place.{Unread}
 use Rattle.granit_cursor.specs.Reading.{GivesTo}
 use Rattle.granit_error.specs.OptionsData.{OptionsData}
+use Rattle.granit_error.specs.FaultKind.{NoMemory}
 use Rattle.granit_error.specs.Refused.{Refused}
 use Rattle.granit_lexemes.specs.Outcome.{Fails}
 use Rattle.granit_lexemes.proofs.PieceLemmas.{pieces_done, pieces_fails, pieces_more, with_front-nil}
+use Rattle.granit_scan.specs.Recovering.{RefusedIn, Rests, TurnsTo, no_turn, turned_on}
 use Rattle.granit_scan.specs.Scanning.{Scanning, StandsIn, Keeps, turn_view, no_tokens}
 use Rattle.granit_scan.specs.TokenSteps.{TokenState, settle, token_size, token_turn}
 use Rattle.granit_scan.proofs.Shortening.{token_turn-Shortens}
@@ -37,6 +39,7 @@ keeps_itself s = record {
   ended = refl;
   failed = refl;
   failed_in_directive = refl;
+  wants_memory = refl;
   comments = refl;
   source_error = refl;
   options = refl;
@@ -48,6 +51,7 @@ keeps_both a b c x y = record {
   ended = y.ended ∙ x.ended;
   failed = y.failed ∙ x.failed;
   failed_in_directive = y.failed_in_directive ∙ x.failed_in_directive;
+  wants_memory = y.wants_memory ∙ x.wants_memory;
   comments = y.comments ∙ x.comments;
   source_error = y.source_error ∙ x.source_error;
   options = y.options ∙ x.options;
@@ -87,3 +91,39 @@ module _ {I : Type 0} (unread : I → Unread → Type 0) (initial now after : Sc
       let is : token_turn o n.0 ≡ Err e = subst (λ (p : OptionsData). token_turn p n.0 ≡ Err e) keeps.options
       (t other) in
       sym n.2 ∙ pieces_fails token_size (token_turn o) n.0 e is
+
+-- ---- where turns lead
+
+abbrev pub Leads : {I : Type 0} → (I → Unread → Type 0) → (initial now : Scanning I) → Type 0
+Leads unread initial now =
+    (m : TokenState) → StandsIn unread initial m → initial.first ≡ None
+    → (n : TokenState) × StandsIn unread now n × TurnsTo initial.items.options m n
+
+pub no_turn_made : (o : OptionsData) (m : TokenState) → TurnsTo o m m
+no_turn_made o m = no_turn
+
+pub leads_first : {I : Type 0} (unread : I → Unread → Type 0) (s : Scanning I) → Leads unread s s
+leads_first unread s = λ m at none. (m, at, no_turn)
+
+module _ {I : Type 0} (unread : I → Unread → Type 0) (initial now after : Scanning I) (keeps : Keeps initial now)
+    (leads : Leads unread initial now) where
+  pub leads_more : Turned unread now (Ok true) after → Leads unread initial after
+  leads_more turns = λ m at none.
+      let o = initial.items.options in
+      let n = leads m at none in
+      let t = turns n.0 n.1 (keeps.first ∙ none) in
+      let is : token_turn o n.0 ≡ Ok (Some [], t.0) = subst
+      (λ (p : OptionsData). token_turn p n.0 ≡ Ok (Some [], t.0)) keeps.options t.2 in
+      (t.0, t.1, turned_on n.2 is)
+
+  pub leads_fails : (e : Refused) → Turned unread now (Err e) after
+      → ((m : TokenState) → StandsIn unread now m → (e.kind ≡ NoMemory → ⊥) → Rests unread after m)
+      → (m : TokenState) → StandsIn unread initial m → initial.first ≡ None → (e.kind ≡ NoMemory → ⊥)
+      → RefusedIn unread initial.items.options after m e
+  leads_fails e turns rested = λ m at none other.
+      let o = initial.items.options in
+      let n = leads m at none in
+      let t : Fails e (token_turn now.items.options n.0) = turns n.0 n.1 (keeps.first ∙ none) in
+      let is : token_turn o n.0 ≡ Err e = subst (λ (p : OptionsData). token_turn p n.0 ≡ Err e) keeps.options
+      (t other) in
+      record { at = n.0; turns = n.2; fails = is; rests = rested n.0 n.1 other }

@@ -1,4 +1,6 @@
 pub mod Following
+pub mod Marks
+pub mod Recovering
 pub mod Scanning
 pub mod TokenSteps
 pub mod TokensTold

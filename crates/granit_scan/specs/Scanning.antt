@@ -13,11 +13,12 @@ use Rattle.granit_scan.specs.Following.{Writing}
 use Rattle.granit_scan.specs.TokenSteps.{TokenState, next_token}
 use Rattle.granit_scan.specs.TokenViews.{PlainToken, TokenKind, StartOfStream, EndOfStream, marked, plain_token}
 use Rattle.granit_scanner.specs.Scans as scans
-use Rattle.granit_scanner.specs.Scans.{Known, may_front_go}
+use Rattle.granit_scanner.specs.Scans.{Known, may_front_go, wants_memory}
 use Rattle.granit_steps.specs.Steps.{may_go}
 
 -- a scanner of items, what was written of them, where the stream starts if that isn't told yet, whether its end was
--- given, whether a call failed, and in a directive; whether comments may come, and what the source gave
+-- given, whether a call failed, in a directive and for want of memory; whether comments may come, and what the source
+-- gave
 pub record Scanning (I : Type 0) : Type 0 where
   pub items : scans.Scanning I
   pub writer : Writing
@@ -25,6 +26,7 @@ pub record Scanning (I : Type 0) : Type 0 where
   pub ended : Bool
   pub failed : Bool
   pub failed_in_directive : Bool
+  pub wants_memory : Bool
   pub comments : Bool
   pub source_error : Option Refused
 
@@ -47,6 +49,7 @@ pub record Keeps {I : Type 0} (old new : Scanning I) : Type 0 where
   pub ended : new.ended ≡ old.ended
   pub failed : new.failed ≡ old.failed
   pub failed_in_directive : new.failed_in_directive ≡ old.failed_in_directive
+  pub wants_memory : new.wants_memory ≡ old.wants_memory
   pub comments : new.comments ≡ old.comments
   pub source_error : new.source_error ≡ old.source_error
   pub options : new.items.options ≡ old.items.options
@@ -135,8 +138,13 @@ MovesAsked left origin old new =
 pub record StopsBy {I : Type 0} (old new : Scanning I) (kind : FaultKind) : Type 0 where
   pub failed : new.failed ≡ true
   pub in_directive : new.failed_in_directive ≡ is_of_directive kind
+  pub memory : new.wants_memory ≡ wants_memory kind
   pub first : new.first ≡ old.first
   pub ended : new.ended ≡ old.ended
+
+-- nothing failed, and neither the start nor the end of the stream is to be told
+abbrev pub revived : {I : Type 0} → Scanning I → Scanning I
+revived s = record s { first = None; ended = false; failed = false; failed_in_directive = false }
 
 -- ---- turns
 

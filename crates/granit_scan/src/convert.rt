@@ -1,7 +1,9 @@
 //! The tokens of lexemes and comments.
 ghost use Rattle.std.specs.Prelude.{◌≡◌};
+ghost use Rattle.std.specs.Option.{option_map};
 ghost use Rattle.granit_cursor.specs.Tokens.{placed};
 ghost use Rattle.granit_items.specs.ItemViews.{kind_view, lexeme_view, note_view};
+ghost use Rattle.granit_scan.specs.Marks as marks;
 ghost use Rattle.granit_scan.specs.TokenViews.{comment_shown, kind_shown, plain_token, shown_span, token_kind};
 
 use granit_base::{Placement, Span};
@@ -69,4 +71,42 @@ fn placement(is_right: bool) -> Placement
     } else {
         Placement::Free
     }
+}
+
+/// What a token marks: the start or the end of a document, or the end of the stream.
+pub(crate) fn mark_of<'input>(token: &Token<'_>) -> Option<LexemeKind<'input>>
+    ensures { option_map kind_view result ≡ marks.marked_by (token_kind token.now.token_type) }
+{
+    match token.token_type() {
+        TokenType::DocumentStart => Some(LexemeKind::DocumentStart),
+        TokenType::DocumentEnd => Some(LexemeKind::DocumentEnd),
+        TokenType::StreamEnd => Some(LexemeKind::StreamEnd),
+        _ => None,
+    }
+}
+
+/// The comment of a token.
+pub(crate) fn note_of<'input>(token: Token<'input>) -> Option<Note<'input>>
+    ensures { option_map note_view result ≡ marks.comment_of (plain_token token.entry) }
+{
+    let (span, what) = token.into_parts();
+    match what {
+        TokenType::Comment(comment) => {
+            let is_right = is_right(comment.placement());
+            Some(Note {
+                text: comment.into_text(),
+                start: span.start,
+                end: span.end,
+                is_right,
+            })
+        }
+        _ => None,
+    }
+}
+
+/// Whether a comment stands behind something on its line.
+fn is_right(placement: Placement) -> bool
+    ensures { result ≡ marks.is_right placement }
+{
+    matches!(placement, Placement::Right)
 }

@@ -4,6 +4,7 @@
 mod convert;
 pub mod laws;
 mod pairs;
+mod recovery;
 mod scanner;
 mod waiting;
 mod writer;

@@ -32,6 +32,13 @@ impl Pairs {
         }
     }
 
+    /// No bracket is open any more.
+    pub(crate) fn clear(&mut self)
+        ensures { self.new ≡ [] }
+    {
+        self.list.clear();
+    }
+
     fn top(&self) -> Option<bool>
         ensures { result ≡ slice_get self.now 0 }
     {

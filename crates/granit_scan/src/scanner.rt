@@ -3,21 +3,24 @@ ghost use Rattle.std.specs.Prelude.{◌≡◌, ◌≤◌, ◌||◌, [], true, fa
 ghost use Rattle.std.specs.Prelude.{IfErr, IfOk};
 ghost use Rattle.std.specs.Option.{option_map};
 ghost use Rattle.granit_base.specs.Place.{Unread};
-ghost use Rattle.granit_cursor.specs.Reading.{GivesTo, GoesTo, Moves, Stands};
+ghost use Rattle.granit_cursor.specs.Reading.{GivesTo, GoesOnward, GoesTo, Moves, Stands};
+ghost use Rattle.granit_error.specs.FaultKind as faults;
 ghost use Rattle.granit_error.specs.Kinds.{kind_of};
 ghost use Rattle.granit_error.specs.OptionsData.{default_options};
 ghost use Rattle.granit_error.specs.OptionsView.{options_of};
 ghost use Rattle.granit_input.specs.Origin.{error_given, Gave};
 ghost use Rattle.granit_input.specs.White.{holds};
 ghost use Rattle.granit_lexemes.specs.Here.{Here, first_place, mark_of};
+ghost use Rattle.granit_machine.specs.Reader.{LexState};
 ghost use Rattle.granit_queue.specs.QueueViews.{queued_view};
+ghost use Rattle.granit_scan.specs.Recovering.{RefusesIn, RestsIn};
 ghost use Rattle.granit_scan.specs.Scanning as spec;
 ghost use Rattle.granit_scan.specs.Scanning.{GivesStart, Keeps, KeepsCopy, KeepsFirst, MovesAsked, StandsIn, StopsBy};
 ghost use Rattle.granit_scan.specs.Scanning.{TakesFree, TakesToken, TellsError, UnlessFailed};
 ghost use Rattle.granit_scan.specs.TokenSteps as steps;
 ghost use Rattle.granit_scan.specs.TokenSteps.{TokenState};
 ghost use Rattle.granit_scan.specs.TokenViews.{plain_token};
-ghost use Rattle.granit_scanner.specs.Scans.{may_front_go};
+ghost use Rattle.granit_scanner.specs.Scans.{Known, may_front_go, wants_memory};
 ghost use Rattle.granit_steps.specs.Steps.{is_over};
 
 use crate::writer::Writer;
@@ -35,16 +38,18 @@ use std::marker::Model;
 #[derive(Drop)]
 pub struct Scanner<'input, T: Input> {
     alloc: Global,
-    items: ItemScanner<'input, T>,
-    writer: Writer<'input>,
+    pub(crate) items: ItemScanner<'input, T>,
+    pub(crate) writer: Writer<'input>,
     // Where the stream starts, until that is told.
-    first: Option<Marker>,
+    pub(crate) first: Option<Marker>,
     // The end of the stream was given.
-    ended: bool,
+    pub(crate) ended: bool,
     // A call failed: nothing more is given.
-    failed: bool,
+    pub(crate) failed: bool,
     // It failed in a directive, as its kind says.
-    failed_in_directive: bool,
+    pub(crate) failed_in_directive: bool,
+    // It failed for want of memory: nothing more is ever given.
+    pub(crate) wants_memory: bool,
     // Comments are asked for, and the input may hold some.
     comments: bool,
     // What the input's source gave, where it was asked.
@@ -63,6 +68,7 @@ impl<'input, T: Input> Model for Scanner<'input, T> {
       ended = s.ended;
       failed = s.failed;
       failed_in_directive = s.failed_in_directive;
+      wants_memory = s.wants_memory;
       comments = s.comments;
       source_error = s.source_error;
     } };
@@ -105,6 +111,7 @@ impl<'input, T: BorrowedInput<'input>> Scanner<'input, T> {
             ended: false,
             failed: false,
             failed_in_directive: false,
+            wants_memory: false,
             comments,
             source_error: None,
         }
@@ -170,7 +177,7 @@ impl<'input, T: BorrowedInput<'input>> Scanner<'input, T> {
     }
 
     /// Asks the source for its error, which is kept where none is.
-    fn ask_source(&mut self)
+    pub(crate) fn ask_source(&mut self)
         ensures first { KeepsFirst self.old.source_error (error_given (T.origin self.old.items.cursor.input))
             self.old.items.cursor.place self.new.source_error }
         ensures kind { option_map spec.refused_kind self.new.source_error
@@ -178,10 +185,13 @@ impl<'input, T: BorrowedInput<'input>> Scanner<'input, T> {
         ensures kept { (h : Here) → Stands T.unread self.old.items.cursor h → self.new.source_error
             ≡ spec.first_error self.old.source_error (error_given (T.origin self.old.items.cursor.input)) (mark_of h) }
         ensures known { (m : TokenState) → StandsIn T.unread self.old m → StandsIn T.unread self.new m }
+        ensures reading { (l : LexState) (q : _) → Known T.unread self.old.items l q
+            → Known T.unread self.new.items l q }
         ensures rest { self.new
             ≡ record self.old { items = self.new.items; source_error = self.new.source_error } }
         ensures items { self.new.items ≡ record (self.old.items) { cursor = self.new.items.cursor } }
         ensures here { GoesTo T.unread self.old.items.cursor self.new.items.cursor (λ h. h) }
+        ensures onward { GoesOnward T.unread self.old.items.cursor self.new.items.cursor }
         ensures place { self.new.items.cursor.place ≡ self.old.items.cursor.place }
         ensures left { T.left self.new.items.cursor.input ≤ T.left self.old.items.cursor.input }
         ensures origin { Gave (T.origin self.old.items.cursor.input) (T.origin self.new.items.cursor.input) }
@@ -203,7 +213,7 @@ impl<'input, T: BorrowedInput<'input>> Scanner<'input, T> {
     }
 
     /// The error of the source, where one is kept. A copy stays, and want of memory where there is none for that.
-    fn give_source_error(&mut self) -> Option<ScanError>
+    pub(crate) fn give_source_error(&mut self) -> Option<ScanError>
         ensures given { result ≡ self.old.source_error }
         ensures kept { KeepsCopy result self.new.source_error }
         ensures known { (m : TokenState) → StandsIn T.unread self.old m → StandsIn T.unread self.new m }
@@ -229,6 +239,9 @@ impl<'input, T: BorrowedInput<'input>> Scanner<'input, T> {
             → UnlessFailed T.origin self.old self.new (λ e. result ≡ Err e)
             (GivesTo (option_map plain_token) result (StandsIn T.unread self.new)
             (steps.next_token self.old.items.options m)) }
+        ensures refused { (m : TokenState) → StandsIn T.unread self.old m
+            → UnlessFailed T.origin self.old self.new (λ e. Unit {0})
+            (RefusesIn T.unread self.old.items.options result self.new m) }
         ensures source { self.old.failed ≡ false → UnlessFailed T.origin self.old self.new
             (λ e. (result ≡ Err e) × KeepsCopy (Some e) self.new.source_error)
             (GivesStart self.old.first result × (self.new.source_error ≡ None)) }
@@ -255,14 +268,16 @@ impl<'input, T: BorrowedInput<'input>> Scanner<'input, T> {
     }
 
     /// Gives nothing more, for an error.
-    fn stop(&mut self, error: &ScanError)
+    pub(crate) fn stop(&mut self, error: &ScanError)
         ensures { self.new ≡ record self.old {
           failed = true;
           failed_in_directive = spec.is_of_directive (error.now.kind);
+          wants_memory = wants_memory (error.now.kind);
         } }
     {
         self.failed = true;
         self.failed_in_directive = is_of_directive(error.kind());
+        self.wants_memory = error.kind().number() == ErrorKind::NoMemory.number();
     }
 
     /// The start of the stream, or else the oldest token that waits, goes.
@@ -301,6 +316,9 @@ impl<'input, T: BorrowedInput<'input>> Scanner<'input, T> {
         ensures known { (m : TokenState) → StandsIn T.unread self.old m
             → UnlessFailed T.origin self.old self.new (λ e. result ≡ Err e)
             (GivesTo spec.no_tokens result (StandsIn T.unread self.new) (steps.settle self.old.items.options m)) }
+        ensures refused { (m : TokenState) → StandsIn T.unread self.old m
+            → UnlessFailed T.origin self.old self.new (λ e. Unit {0})
+            (RefusesIn T.unread self.old.items.options result self.new m) }
         ensures source { UnlessFailed T.origin self.old self.new
             (λ e. (result ≡ Err e) × KeepsCopy (Some e) self.new.source_error)
             (IfErr result (λ e. self.old.first ≡ None) × (self.new.source_error ≡ None)) }
@@ -319,6 +337,8 @@ impl<'input, T: BorrowedInput<'input>> Scanner<'input, T> {
     fn settle_behind_start(&mut self) -> Result<(), ScanError>
         ensures known { (m : TokenState) → StandsIn T.unread self.old m
             → GivesTo spec.no_tokens result (StandsIn T.unread self.new) (steps.settle self.old.items.options m) }
+        ensures refused { (m : TokenState) → StandsIn T.unread self.old m
+            → RefusesIn T.unread self.old.items.options result self.new m }
         ensures start { IfErr result (λ e. self.old.first ≡ None) }
         ensures keeps { Keeps self.old self.new }
         ensures moves { Moves T.unread T.left T.origin self.old.items.cursor self.new.items.cursor }
@@ -330,9 +350,12 @@ impl<'input, T: BorrowedInput<'input>> Scanner<'input, T> {
     }
 
     /// Turns until a token waits, or nothing is left.
+    #[tactic(auto, using(crate::proofs::SettleLemmas::leads_first, crate::proofs::SettleLemmas::no_turn_made))]
     fn settle(&mut self) -> Result<(), ScanError>
         ensures known { (m : TokenState) → StandsIn T.unread self.old m → self.old.first ≡ None
             → GivesTo spec.no_tokens result (StandsIn T.unread self.new) (steps.settle self.old.items.options m) }
+        ensures refused { (m : TokenState) → StandsIn T.unread self.old m → self.old.first ≡ None
+            → RefusesIn T.unread self.old.items.options result self.new m }
         ensures keeps { Keeps self.old self.new }
         ensures moves { Moves T.unread T.left T.origin self.old.items.cursor self.new.items.cursor }
     {
@@ -350,6 +373,7 @@ impl<'input, T: BorrowedInput<'input>> Scanner<'input, T> {
     fn turn(&mut self) -> Result<bool, ScanError>
         ensures known { (m : TokenState) → StandsIn T.unread self.old m → self.old.first ≡ None
             → GivesTo spec.turn_view result (StandsIn T.unread self.new) (steps.token_turn self.old.items.options m) }
+        ensures refused { (m : TokenState) → StandsIn T.unread self.old m → RestsIn T.unread result self.new m }
         ensures keeps { Keeps self.old self.new }
         ensures moves { Moves T.unread T.left T.origin self.old.items.cursor self.new.items.cursor }
     {
@@ -384,6 +408,7 @@ impl<'input, T: BorrowedInput<'input>> Scanner<'input, T> {
         ensures known { (m : TokenState) → StandsIn T.unread self.old m → self.old.first ≡ None → m.pending ≡ []
             → GivesTo spec.turn_view result (StandsIn T.unread self.new)
             (Ok (spec.turn_view true, steps.with_written (queued_view queued.entry) m.queue m)) }
+        ensures refused { IfErr result (λ e. e.kind ≡ faults.NoMemory) }
         ensures keeps { Keeps self.old self.new }
         ensures items { self.new.items ≡ self.old.items }
     {
@@ -398,6 +423,7 @@ impl<'input, T: BorrowedInput<'input>> Scanner<'input, T> {
         ensures known { (m : TokenState) → StandsIn T.unread self.old m → may_front_go m.reading m.queue ≡ false
             → GivesTo spec.turn_view result (StandsIn T.unread self.new)
             (steps.read_more self.old.items.options m.reading.ended m) }
+        ensures refused { (m : TokenState) → StandsIn T.unread self.old m → RestsIn T.unread result self.new m }
         ensures keeps { Keeps self.old self.new }
         ensures moves { Moves T.unread T.left T.origin self.old.items.cursor self.new.items.cursor }
     {
@@ -413,6 +439,7 @@ impl<'input, T: BorrowedInput<'input>> Scanner<'input, T> {
         ensures known { (m : TokenState) → StandsIn T.unread self.old m → is_over m.reading ≡ true
             → GivesTo spec.turn_view result (StandsIn T.unread self.new)
             (steps.read_more self.old.items.options m.reading.ended m) }
+        ensures refused { (m : TokenState) → StandsIn T.unread self.old m → RestsIn T.unread result self.new m }
         ensures keeps { Keeps self.old self.new }
         ensures cursor { self.new.items.cursor ≡ self.old.items.cursor }
     {

@@ -1,10 +1,14 @@
 //! The tokens that are made and not yet given.
 ghost use Rattle.std.specs.Prelude.{◌≡◌, ◌==◌, [], ◌∷◌, ◌++◌, length, replicate, drop, slice_get, OnOk};
 ghost use Rattle.std.specs.Option.{option_map};
+ghost use Rattle.granit_items.specs.ItemViews.{kind_view, lexeme_view, note_view};
+ghost use Rattle.granit_scan.specs.Marks as marks;
 ghost use Rattle.granit_scan.specs.TokenViews.{CollectionEnd, inserted_if, marked, plain_token, token_kind};
 
+use crate::convert::{mark_of, note_of};
 use granit_base::{Marker, NoMemory, Span};
 use granit_cursor::{Token, TokenType};
+use granit_items::{Lexeme, LexemeKind, Note};
 use std::alloc::Global;
 use std::collections::VecDeque;
 use std::marker::Model;
@@ -32,6 +36,13 @@ impl<'input> Waiting<'input> {
         Waiting {
             tokens: VecDeque::new(alloc),
         }
+    }
+
+    /// None waits any more.
+    pub(crate) fn clear(&mut self)
+        ensures { self.new ≡ [] }
+    {
+        self.tokens.clear();
     }
 
     /// Whether none waits.
@@ -82,5 +93,65 @@ impl<'input> Waiting<'input> {
             self.push(Token::new(Span::empty(mark), TokenType::BlockEnd))?;
         }
         Ok(())
+    }
+
+    /// The first mark of a document, or of the end, from a token that was handed back on, with the comment behind it;
+    /// of what waits some goes.
+    pub(crate) fn take_mark(&mut self, handed: Option<Token<'input>>) -> Option<Lexeme<'input>>
+        ensures { option_map lexeme_view result
+            ≡ marks.mark_in (marks.handed (option_map plain_token handed.entry) ++ self.old) }
+    {
+        match handed {
+            None => self.pop_mark(),
+            Some(token) => match mark_of(&token) {
+                None => self.pop_mark(),
+                Some(kind) => Some(self.with_note(kind, token.span())),
+            },
+        }
+    }
+
+    fn pop_mark(&mut self) -> Option<Lexeme<'input>>
+        ensures { option_map lexeme_view result ≡ marks.mark_in self.old }
+    {
+        'tokens: loop {
+            match self.pop() {
+                None => return None,
+                Some(token) => {
+                    if let Some(kind) = mark_of(&token) {
+                        return Some(self.with_note(kind, token.span()));
+                    }
+                }
+            }
+        }
+    }
+
+    /// A mark with the comment that waits behind it.
+    fn with_note(&mut self, kind: LexemeKind<'input>, span: Span) -> Lexeme<'input>
+        ensures { lexeme_view result ≡ marks.mark_at (kind_view kind.entry) span (marks.tail_in self.old) }
+    {
+        Lexeme {
+            number: 0,
+            kind,
+            start: span.start,
+            shown_start: span.start,
+            shown_end: span.end,
+            end: span.end,
+            indent: None,
+            in_flow: false,
+            begins_line: true,
+            follows_indicator: false,
+            ends_column: false,
+            key: None,
+            tail: self.pop_note(),
+        }
+    }
+
+    fn pop_note(&mut self) -> Option<Note<'input>>
+        ensures { option_map note_view result ≡ marks.tail_in self.old }
+    {
+        match self.pop() {
+            None => None,
+            Some(token) => note_of(token),
+        }
     }
 }

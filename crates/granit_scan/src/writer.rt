@@ -1,8 +1,9 @@
 //! Items are written as tokens.
-ghost use Rattle.std.specs.Prelude.{◌≡◌, ◌==◌, length, drop, slice_get, OnOk};
+ghost use Rattle.std.specs.Prelude.{◌≡◌, ◌==◌, ◌++◌, length, drop, slice_get, OnOk};
 ghost use Rattle.std.specs.Option.{option_map};
 ghost use Rattle.granit_items.specs.ItemViews.{item_view, kind_view, lexeme_view, note_view};
 ghost use Rattle.granit_scan.specs.Following as spec;
+ghost use Rattle.granit_scan.specs.Marks as marks;
 ghost use Rattle.granit_scan.specs.TokenViews.{plain_token};
 ghost use Rattle.granit_steps.specs.Tokens as tokens;
 
@@ -57,6 +58,16 @@ impl<'input> Writer<'input> {
         }
     }
 
+    /// Nothing is open any more, and no token waits.
+    pub(crate) fn begin_anew(&mut self)
+        ensures { self.new ≡ spec.writing_start }
+    {
+        self.layouts.begin_anew(0, true);
+        self.pairs.clear();
+        self.in_header = false;
+        self.waiting.clear();
+    }
+
     /// Whether the directives of a document are being written.
     pub(crate) fn in_header(&self) -> bool
         ensures { result ≡ self.now.following.in_header }
@@ -77,6 +88,14 @@ impl<'input> Writer<'input> {
         ensures rest { self.new ≡ record self.old { waiting = drop 1 self.old.waiting } }
     {
         self.waiting.pop()
+    }
+
+    /// The first mark of a document, or of the end, from a token that was handed back on; of what waits some goes.
+    pub(crate) fn take_mark(&mut self, handed: Option<Token<'input>>) -> Option<Lexeme<'input>>
+        ensures { option_map lexeme_view result
+            ≡ marks.mark_in (marks.handed (option_map plain_token handed.entry) ++ self.old.waiting) }
+    {
+        self.waiting.take_mark(handed)
     }
 
     /// An item is written; whether a simple key begins with it is told.

@@ -1,16 +1,21 @@
 -- A scanner that is known to be in a state of the machine.
 use Rattle.std.proofs.Common.{◌≡◌, Bool, true, false, ◌&&◌, ◌||◌, not, List, [], ◌∷◌, drop, Option, Some, None, is_some}
-use Rattle.std.proofs.Common.{refl, sym, ap, ◌∙◌}
+use Rattle.std.proofs.Common.{length, refl, sym, ap, ◌∙◌}
+use Rattle.std.specs.Prelude.{if◌then◌else◌}
 use Rattle.std.specs.List.{slice_get}
 use Rattle.std.specs.Option.{option_map}
 use Rattle.granit_base.specs.Place.{Unread}
+use Rattle.granit_cursor.specs.Reading.{GoesOnward, Reading, Stands}
 use Rattle.granit_error.specs.Refused.{Refused}
+use Rattle.granit_lexemes.specs.Here.{Here}
 use Rattle.granit_machine.specs.Laid.{Laid}
 use Rattle.granit_machine.specs.Lexing.{FlaggedItem}
 use Rattle.granit_machine.specs.Machine.{front_if, is_settled, settled}
 use Rattle.granit_machine.specs.Reader.{LexState}
 use Rattle.granit_scanner.specs.Scans.{Scanning, Known, KnownBy, TakesOldest, front_goes, is_done, line_next}
-use Rattle.granit_scanner.specs.Scans.{may_front_go}
+use Rattle.granit_reader.specs.Meets.{behind_met}
+use Rattle.granit_restart.specs.Header.{directive_behind, ends_in_directive}
+use Rattle.granit_scanner.specs.Scans.{may_front_go, unsettled}
 use Rattle.granit_steps.specs.Steps.{asks_next, is_next_settled, is_over, line_behind, may_go}
 
 or_true : (b : Bool) → (b || true) ≡ true
@@ -50,12 +55,56 @@ kept_goes l laid f (i ∷ rest) end is =
     (not (asks_next i.item) || is_next_settled l.reader.laid rest)))
 
 -- what may go is kept
-goes_kept : (l : LexState) (f : Refused) (i : FlaggedItem) (is : List FlaggedItem) → l.ended ≡ false → l.fault ≡ Some f
-    → may_go l i is ≡ true → settled l.reader.laid (i ∷ is) ≡ i ∷ settled l.reader.laid is
+pub goes_kept : (l : LexState) (f : Refused) (i : FlaggedItem) (is : List FlaggedItem) → l.ended ≡ false
+    → l.fault ≡ Some f → may_go l i is ≡ true → settled l.reader.laid (i ∷ is) ≡ i ∷ settled l.reader.laid is
 goes_kept l f i is end failed goes =
     ap (λ (b : Bool). front_if b i (settled l.reader.laid is))
     (sym (goes_if (is_settled l.reader.laid i.item) l.reader.laid i (settled l.reader.laid is))
     ∙ kept_goes l l.reader.laid f (i ∷ is) end failed ∙ goes)
+
+-- and what may not go stays behind it
+unsettled_behind : (l : LexState) (f : Refused) (i : FlaggedItem) (is : List FlaggedItem) → l.ended ≡ false
+    → l.fault ≡ Some f → may_go l i is ≡ true
+    → unsettled l.reader.laid (i ∷ is) ≡ unsettled l.reader.laid is
+unsettled_behind l f i is end failed goes =
+    ap (λ (qs : List FlaggedItem). drop (length qs) (i ∷ is)) (goes_kept l f i is end failed goes)
+
+-- what may go, and what may not
+ends_front : (b : Bool) (before : Bool) (l : Laid) (i : FlaggedItem) (is : List FlaggedItem)
+    → ((c : Bool) → ends_in_directive c is ≡ ends_in_directive (ends_in_directive c (settled l is)) (unsettled l is))
+    → ends_in_directive before (i ∷ is)
+    ≡ ends_in_directive (ends_in_directive before (front_if b i (settled l is)))
+    (drop (length (front_if b i (settled l is))) (i ∷ is))
+ends_front true before l i is more = more (directive_behind before i.item)
+ends_front false before l i is more = refl
+
+pub ends_both : (before : Bool) (l : Laid) (q : List FlaggedItem)
+    → ends_in_directive before q ≡ ends_in_directive (ends_in_directive before (settled l q)) (unsettled l q)
+ends_both before l [] = refl
+ends_both before l (i ∷ is) = ends_front (is_settled l i.item) before l i is (λ c. ends_both c l is)
+
+-- ---- another cursor
+
+-- a scanner whose cursor stands where it stood
+module _ {I : Type 0} (unread : I → Unread → Type 0) (s : Scanning I) (to : Reading I) (l : LexState)
+    (q : List FlaggedItem) (here : (h : Here) → Stands unread s.cursor h → Stands unread to h)
+    (onward : GoesOnward unread s.cursor to) where
+  pub moved_by : (f : Option Refused) → KnownBy unread f s l q → KnownBy unread f (record s { cursor = to }) l q
+  moved_by None k = ((here l.reader.here k.0.0, k.0.1), k.1, k.2, k.3)
+  moved_by (Some f) k = (
+    k.0,
+    k.1,
+    k.2,
+    record {
+      number = k.3.number;
+      onward = onward l.reader.here k.3.onward;
+      held = k.3.held;
+      met = k.3.met;
+    },
+  )
+
+  pub known_moved : Known unread s l q → Known unread (record s { cursor = to }) l q
+  known_moved k = moved_by s.fault k
 
 module _ {I : Type 0} (unread : I → Unread → Type 0) (s : Scanning I) (l : LexState) where
   over_by : (q : List FlaggedItem) (f : Option Refused) → KnownBy unread f s l q → (s.ended || is_some f) ≡ is_over l
@@ -97,7 +146,17 @@ module _ {I : Type 0} (unread : I → Unread → Type 0) (s : Scanning I) (l : L
       → may_go l i is ≡ true
       → KnownBy unread f without_first l is
   rest_kept None i is k goes = (k.0, k.1, k.2, ap (drop 1) k.3)
-  rest_kept (Some f) i is k goes = (k.0, k.1, ap (drop 1) (sym (goes_kept l f i is k.0 k.1 goes) ∙ k.2))
+  rest_kept (Some f) i is k goes = (
+    k.0,
+    k.1,
+    ap (drop 1) (sym (goes_kept l f i is k.0 k.1 goes) ∙ k.2),
+    record {
+      number = k.3.number;
+      onward = k.3.onward;
+      held = λ before. k.3.held before ∙ ap (ends_in_directive before) (unsettled_behind l f i is k.0 k.1 goes);
+      met = k.3.met;
+    },
+  )
 
   first_kept : (f : Option Refused) (i : FlaggedItem) (is : List FlaggedItem) → KnownBy unread f s l (i ∷ is)
       → may_go l i is ≡ true
@@ -112,3 +171,20 @@ module _ {I : Type 0} (unread : I → Unread → Type 0) (s : Scanning I) (l : L
   taken [] k goes = cc
   taken (i ∷ is) k goes =
       (rw (first_kept s.fault i is k goes, line_kept s.fault i is k goes) refl, rest_kept s.fault i is k goes)
+
+  -- ---- whether the last lexeme is a directive
+
+  last_by : (q : List FlaggedItem) (before : Bool) (f : Option Refused) → KnownBy unread f s l q
+      → (if is_some f then behind_met s.held (ends_in_directive before s.queue) else ends_in_directive before s.queue)
+      ≡ ends_in_directive before q
+  last_by q before None k = ap (ends_in_directive before) (sym k.3)
+  last_by q before (Some f) k =
+      k.3.held (ends_in_directive before s.queue)
+      ∙ ap (λ (w : List FlaggedItem). ends_in_directive (ends_in_directive before w) (unsettled l.reader.laid q))
+      (sym k.2)
+      ∙ sym (ends_both before l.reader.laid q)
+
+  pub known_last : (q : List FlaggedItem) (before : Bool) → Known unread s l q
+      → (if is_some s.fault then behind_met s.held (ends_in_directive before s.queue)
+      else ends_in_directive before s.queue) ≡ ends_in_directive before q
+  known_last q before k = last_by q before s.fault k

@@ -1,3 +1,4 @@
 pub mod FrontLemmas
 pub mod KnownLemmas
 pub mod ReadingLemmas
+pub mod RestartLemmas

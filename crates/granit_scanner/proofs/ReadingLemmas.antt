@@ -1,21 +1,29 @@
 -- One more read of a scanner.
-use Rattle.std.proofs.Common.{◌≡◌, ℕ, Bool, true, false, List, [], ◌∷◌, take, Option, Some, None, Result, Ok, Err, refl}
-use Rattle.std.proofs.Common.{sym, ap, subst, ◌∙◌}
+use Rattle.std.proofs.Common.{◌≡◌, ℕ, zero, suc, Bool, true, false, List, [], ◌∷◌, drop, length, take, Option, Some}
+use Rattle.std.proofs.Common.{None, Result, Ok, Err, inl, refl, sym, ap, subst, ◌∙◌}
+use Rattle.std.specs.Prelude.{IfErr}
 use Rattle.granit_base.specs.Place.{Unread}
+use Rattle.granit_cursor.specs.Reading.{CameOn, GoesOnward, Reading, Stands}
 use Rattle.granit_error.specs.FaultKind.{FaultKind, NoMemory}
 use Rattle.granit_error.specs.OptionsData.{OptionsData}
 use Rattle.granit_error.specs.Refused.{Refused}
+use Rattle.granit_lexemes.specs.Here.{Here}
 use Rattle.granit_lexemes.specs.Lexeme.{Item}
-use Rattle.granit_machine.specs.Laid.{Laid}
+use Rattle.granit_lexemes.specs.Onward.{there}
+use Rattle.granit_machine.specs.Gaps.{gap}
+use Rattle.granit_machine.specs.Laid.{Laid, laid_start}
 use Rattle.granit_machine.specs.Lexing.{FlaggedItem}
 use Rattle.granit_machine.specs.Machine.{settled}
 use Rattle.granit_machine.specs.Reader.{LexState, lex_turn}
 use Rattle.granit_content.specs.Reads.{IsAt}
+use Rattle.granit_reader.specs.Meets.{MeetsBehind}
 use Rattle.granit_reader.specs.Reads.{reader_at}
 use Rattle.granit_reader.specs.Turns.{TurnTo, before_turn, turn_items}
 use Rattle.granit_content.proofs.CodedLemmas.{coded_back}
-use Rattle.granit_scanner.specs.Scans.{Scanning, Known, KnownBy, ReadsOn, TakesRead, front_goes, is_done, may_front_go}
-use Rattle.granit_scanner.specs.Scans.{wants_memory}
+use Rattle.granit_reader.specs.declared.met.Met.{Met}
+use Rattle.granit_restart.specs.Header.{ends_in_directive}
+use Rattle.granit_scanner.specs.Scans.{KeepsBefore, Known, KnownBy, ReadsOn, Scanning, TakesRead, TellsLast, front_goes}
+use Rattle.granit_scanner.specs.Scans.{is_done, may_front_go, unsettled, wants_memory}
 use Rattle.granit_scanner.proofs.KnownLemmas.{known_goes, no_fault}
 use Rattle.granit_steps.specs.Steps.{incoming, items_of, pushed}
 use Rattle.granit_steps.proofs.Futures.{pushed_nil}
@@ -28,6 +36,18 @@ goes_less : (b : Bool) (l : Laid) (q : List FlaggedItem) → front_goes b l q �
 goes_less b l [] e = refl
 goes_less true l (i ∷ is) e = absurd cc
 goes_less false l (i ∷ is) e = e
+
+drop_taken : (n : ℕ) (q : List FlaggedItem) → drop (length (take n q)) q ≡ drop n q
+drop_taken zero [] = refl
+drop_taken zero (i ∷ is) = refl
+drop_taken (suc n) [] = refl
+drop_taken (suc n) (i ∷ is) = drop_taken n is
+
+-- where a cursor stands it came on to
+pub comes_here : {I : Type 0} (unread : I → Unread → Type 0) (r : Reading I) (h : Here) → Stands unread r h
+    → CameOn unread h r
+unfolding CameOn
+comes_here unread r h k = inl (h, there, k)
 
 module _ {I : Type 0} (unread : I → Unread → Type 0) (s : Scanning I) (l : LexState) (q : List FlaggedItem) where
   abbrev before : LexState
@@ -81,36 +101,59 @@ module _ {I : Type 0} (unread : I → Unread → Type 0) (s : Scanning I) (l : L
             → pushed q (incoming o.emit_comments (items_of y)) ≡ pushed mid.queue items
         queue_again y e = ap (pushed q) e ∙ ap (λ (w : List FlaggedItem). pushed w items) waiting
 
-    -- a read that fails
-    failed_by : (e : Refused) (items : List Item) (free : ℕ)
-        → after ≡ record mid { fault = Some e; queue = take free mid.queue }
-        → wants_memory e.kind ≡ false
-        → take free mid.queue ≡ settled s.laid mid.queue
-        → TurnTo o.emit_comments (Err e) items (IsAt unread mid.cursor mid.laid) mid.ended
-        (reader_at l.reader.here s.laid) (lex_turn o before)
-        → ReadsOn unread o after l q
-    failed_by e items free is other frees given =
-        let stopped : LexState = record { reader = reader_at l.reader.here s.laid; ended = false; fault = Some e } in
-        let left : List FlaggedItem = pushed q (incoming o.emit_comments []) in
-        let kept : settled s.laid left ≡ take free mid.queue =
-        ap (settled s.laid) (pushed_nil o.emit_comments q ∙ waiting) ∙ sym frees in
-        let facts : KnownBy unread (Some e) (record mid { fault = Some e; queue = take free mid.queue }) stopped left =
-        (refl, refl, kept) in (
-          (None, stopped),
-          sym turns_alike ∙ given (wants_none e.kind other),
-          subst (λ (r : Scanning I). Known unread r stopped left) (sym is) facts,
-        )
+    -- a read that fails: where the lexemes before it are as many, and what it met is told
+    module _ (number : ℕ) (met : Met) (counted : number ≡ s.laid.number)
+        (goes : GoesOnward unread s.cursor mid.cursor) where
+      abbrev Meets : Refused → Type 0
+      Meets e = (e.kind ≡ NoMemory → ⊥) → MeetsBehind mid.options met (gap mid.options l.reader.here s.laid)
 
-    -- one more read, whatever it gives
-    pub read_taken : (read : Result (Unit {0}) Refused) (items : List Item) (free : ℕ)
-        → TakesRead read items free mid after
-        → may_front_go l q ≡ false
-        → (front_goes false s.laid s.queue ≡ false → take free s.queue ≡ settled s.laid s.queue)
-        → TurnTo o.emit_comments read items (IsAt unread mid.cursor mid.laid) mid.ended
-        (reader_at l.reader.here s.laid) (lex_turn o before)
-        → ReadsOn unread o after l q
-    read_taken (Ok u) items free is waits frees given = given_by items is given
-    read_taken (Err e) items free is waits frees given =
-        let free_now : take free mid.queue ≡ settled s.laid mid.queue =
-        rw same_queue (frees (goes_less (is_done s) s.laid s.queue (known_goes unread s l q k ∙ waits))) in
-        failed_by e items free is.0 is.1 free_now given
+      failed_by : (e : Refused) (items : List Item) (free : ℕ) → KeepsBefore e free number met mid after
+          → wants_memory e.kind ≡ false → TellsLast after.held (drop free mid.queue) → Meets e
+          → take free mid.queue ≡ settled s.laid mid.queue
+          → TurnTo o.emit_comments (Err e) items (IsAt unread mid.cursor mid.laid) mid.ended
+          (reader_at l.reader.here s.laid) (lex_turn o before)
+          → ReadsOn unread o after l q
+      failed_by e items free is other last meets frees given =
+          let stopped : LexState = record { reader = reader_at l.reader.here s.laid; ended = false; fault = Some e } in
+          let left : List FlaggedItem = pushed q (incoming o.emit_comments []) in
+          let same : left ≡ mid.queue = pushed_nil o.emit_comments q ∙ waiting in
+          let kept : settled s.laid left ≡ take free mid.queue = ap (settled s.laid) same ∙ sym frees in
+          let rest : drop free mid.queue ≡ unsettled s.laid left = sym (drop_taken free mid.queue)
+          ∙ ap (λ (w : List FlaggedItem). drop (length w) mid.queue) (sym kept)
+          ∙ ap (drop (length (settled s.laid left))) (sym same) in
+          let facts : KnownBy unread (Some e) (record mid {
+            laid = record laid_start { number = number; may_prefix = false };
+            queue = take free mid.queue;
+            fault = Some e;
+            met = met;
+            held = after.held;
+          }) stopped left = (
+            refl,
+            refl,
+            kept,
+            record {
+              number = counted;
+              onward = goes l.reader.here (comes_here unread s.cursor l.reader.here (stands k none).0);
+              held = λ b. last b ∙ ap (ends_in_directive b) rest;
+              met = meets (wants_none e.kind other);
+            },
+          ) in (
+            (None, stopped),
+            sym turns_alike ∙ given (wants_none e.kind other),
+            subst (λ (r : Scanning I). Known unread r stopped left) (sym is) facts,
+          )
+
+      -- one more read, whatever it gives
+      pub read_taken : (read : Result (Unit {0}) Refused) (items : List Item) (free : ℕ)
+          → TakesRead read items free number met mid after
+          → may_front_go l q ≡ false
+          → (front_goes false s.laid s.queue ≡ false → take free s.queue ≡ settled s.laid s.queue)
+          → IfErr read Meets
+          → TurnTo o.emit_comments read items (IsAt unread mid.cursor mid.laid) mid.ended
+          (reader_at l.reader.here s.laid) (lex_turn o before)
+          → ReadsOn unread o after l q
+      read_taken (Ok u) items free is waits frees meets given = given_by items is given
+      read_taken (Err e) items free is waits frees meets given =
+          let free_now : take free mid.queue ≡ settled s.laid mid.queue =
+          rw same_queue (frees (goes_less (is_done s) s.laid s.queue (known_goes unread s l q k ∙ waits))) in
+          failed_by e items free is.0 is.1 is.2 meets free_now given

@@ -1,24 +1,29 @@
 -- What contracts see of a scanner, and in which state of the machine it is known to be.
 use Rattle.std.specs.Prelude.{◌≡◌, ℕ, Bool, false, ◌==◌, ◌&&◌, ◌||◌, not, if◌then◌else◌, List, [], ◌∷◌, drop, take}
-use Rattle.std.specs.Prelude.{Option, Some, None, is_some, Result, Ok, Err}
+use Rattle.std.specs.Prelude.{length, Option, Some, None, is_some, Result, Ok, Err}
 use Rattle.granit_base.specs.Place.{Unread}
-use Rattle.granit_cursor.specs.Reading.{Reading}
+use Rattle.granit_cursor.specs.Reading.{CameOn, Reading}
 use Rattle.granit_error.specs.FaultKind.{FaultKind, NoMemory, fault_number}
 use Rattle.granit_error.specs.OptionsData.{OptionsData}
 use Rattle.granit_error.specs.Refused.{Refused}
 use Rattle.granit_lexemes.specs.Lexeme.{Item}
-use Rattle.granit_machine.specs.Laid.{Laid}
+use Rattle.granit_machine.specs.Gaps.{gap}
+use Rattle.granit_machine.specs.Laid.{Laid, laid_start}
 use Rattle.granit_machine.specs.Lexing.{FlaggedItem}
 use Rattle.granit_machine.specs.Machine.{is_settled, settled}
 use Rattle.granit_machine.specs.Parser.{line_of_item, next_line}
 use Rattle.granit_machine.specs.Reader.{LexState, lex_turn}
 use Rattle.granit_queue.specs.QueueViews.{queued_view}
 use Rattle.granit_content.specs.Reads.{IsAt}
+use Rattle.granit_reader.specs.Meets.{MeetsBehind, behind_met}
+use Rattle.granit_reader.specs.declared.met.Met.{Met}
+use Rattle.granit_restart.specs.Header.{ends_in_directive}
 use Rattle.granit_scanner.specs.declared.scanner.Front.{Front}
 use Rattle.granit_steps.specs.Steps.{asks_next, free_items, incoming, is_next_settled, items_of, line_behind, may_go}
 use Rattle.granit_steps.specs.Steps.{pushed}
 
--- a cursor, what the lexemes so far left, the options, the items that wait, and how reading ended
+-- a cursor, what the lexemes so far left, the options, the items that wait, how reading ended, and of a read that
+-- failed what it had met, and the last lexeme among the items that may not go before it
 pub record Scanning (I : Type 0) : Type 0 where
   pub cursor : Reading I
   pub laid : Laid
@@ -26,6 +31,8 @@ pub record Scanning (I : Type 0) : Type 0 where
   pub queue : List FlaggedItem
   pub ended : Bool
   pub fault : Option Refused
+  pub met : Met
+  pub held : Met
 
 -- the same, with handles that stay over documents or not
 abbrev pub keeping : {I : Type 0} → Bool → Scanning I → Scanning I
@@ -33,12 +40,27 @@ keeping keep s = record s { options = record (s.options) { keep_tags = keep } }
 
 -- ---- in which state of the machine
 
+-- the items behind those that may go before a fault
+abbrev pub unsettled : Laid → List FlaggedItem → List FlaggedItem
+unsettled l q = drop (length (settled l q)) q
+
+-- What is known of a scanner whose read failed: the machine stands before that read, the cursor came on from there, and
+-- it is told whether the items that may not go end in a directive, and whether the read stands among directives, by
+-- whether what is before does.
+pub record BehindFault {I : Type 0} (unread : I → Unread → Type 0) (s : Scanning I) (l : LexState)
+    (q : List FlaggedItem) : Type 0 where
+  pub number : s.laid.number ≡ l.reader.laid.number
+  pub onward : CameOn unread l.reader.here s.cursor
+  pub held : (before : Bool) → behind_met s.held before ≡ ends_in_directive before (unsettled l.reader.laid q)
+  pub met : MeetsBehind s.options s.met (gap s.options l.reader.here l.reader.laid)
+
 -- before a fault only those items are kept that may go
 abbrev pub KnownBy : {I : Type 0} → (I → Unread → Type 0) → Option Refused → Scanning I → LexState → List FlaggedItem
     → Type 0
 KnownBy unread None s l q = IsAt unread s.cursor s.laid l.reader × (l.ended ≡ s.ended) × (l.fault ≡ None)
     × (q ≡ s.queue)
 KnownBy unread (Some f) s l q = (l.ended ≡ false) × (l.fault ≡ Some f) × (settled l.reader.laid q ≡ s.queue)
+    × BehindFault unread s l q
 
 -- a scanner is known to be where reading stands, with those items
 abbrev pub Known : {I : Type 0} → (I → Unread → Type 0) → Scanning I → LexState → List FlaggedItem → Type 0
@@ -93,9 +115,24 @@ ReadsOn unread o s l q =
     (x : Option (List Item) × LexState) × (lex_turn o l ≡ Ok x)
     × Known unread s x.1 (pushed q (incoming o.emit_comments (items_of x.0)))
 
+-- a read failed: so many items stay, nothing is open, and so many lexemes were read before it
+abbrev pub KeepsBefore : {I : Type 0} → Refused → (free number : ℕ) → Met → (old new : Scanning I) → Type 0
+KeepsBefore e free number met old new =
+    new ≡ record old {
+      laid = record laid_start { number = number; may_prefix = false };
+      queue = take free old.queue;
+      fault = Some e;
+      met = met;
+      held = new.held;
+    }
+
+-- the last lexeme of these items is told
+abbrev pub TellsLast : Met → List FlaggedItem → Type 0
+TellsLast last items = (before : Bool) → behind_met last before ≡ ends_in_directive before items
+
 -- what a read leaves: what it found comes behind what waits, and before a fault so many items stay
-abbrev pub TakesRead : {I : Type 0} → Result (Unit {0}) Refused → (found : List Item) → (free : ℕ)
+abbrev pub TakesRead : {I : Type 0} → Result (Unit {0}) Refused → (found : List Item) → (free number : ℕ) → Met
     → (old new : Scanning I) → Type 0
-TakesRead (Ok u) found free old new = new ≡ record old { queue = pushed old.queue found }
-TakesRead (Err e) found free old new =
-    (new ≡ record old { fault = Some e; queue = take free old.queue }) × (wants_memory e.kind ≡ false)
+TakesRead (Ok u) found free number met old new = new ≡ record old { queue = pushed old.queue found }
+TakesRead (Err e) found free number met old new =
+    KeepsBefore e free number met old new × (wants_memory e.kind ≡ false) × TellsLast new.held (drop free old.queue)

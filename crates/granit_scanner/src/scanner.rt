@@ -1,11 +1,12 @@
 //! Items in order, each as soon as nothing behind it can change what it is.
-ghost use Rattle.std.specs.Prelude.{◌≡◌, ◌≤◌, true, false, [], drop, take, None, Some, slice_get, OnOk};
+ghost use Rattle.std.specs.Prelude.{◌≡◌, ◌≤◌, true, false, [], drop, take, Option, None, Some, slice_get, OnOk};
 ghost use Rattle.std.specs.Option.{option_map};
 ghost use Rattle.granit_base.specs.Place.{Unread};
 ghost use Rattle.granit_cursor.specs.Reading.{GoesOnward};
 ghost use Rattle.granit_cursor.specs.Reading.{GoesTo, Moves, Stands};
 ghost use Rattle.granit_error.specs.Kinds.{kind_of};
 ghost use Rattle.granit_error.specs.OptionsView.{options_of};
+ghost use Rattle.granit_error.specs.Refused.{Refused};
 ghost use Rattle.granit_input.specs.Origin.{error_given, Gave};
 ghost use Rattle.granit_items.specs.ItemViews.{found_items, item_view};
 ghost use Rattle.granit_lexemes.specs.Here.{Here, first_place, mark_of};
@@ -15,9 +16,11 @@ ghost use Rattle.granit_machine.specs.Machine.{is_settled, settled};
 ghost use Rattle.granit_machine.specs.Reader.{LexState};
 ghost use Rattle.granit_queue.specs.QueueViews.{queued_view};
 ghost use Rattle.granit_scanner.specs.Scans as spec;
-ghost use Rattle.granit_scanner.specs.Scans.{Known, ReadsOn, TakesOldest, TakesRead};
+ghost use Rattle.granit_scanner.specs.Scans.{KeepsBefore, Known, KnownBy, ReadsOn};
+ghost use Rattle.granit_scanner.specs.Scans.{TakesOldest, TakesRead, TellsLast};
 ghost use Rattle.granit_steps.specs.Steps as steps;
 
+use crate::last::last_behind;
 use granit_base::{Marker, NoMemory};
 use granit_cursor::Cursor;
 use granit_error::{ErrorKind, Options, ScanError};
@@ -25,12 +28,12 @@ use granit_input::{BorrowedInput, Input};
 use granit_items::{Found, Item};
 use granit_layout::Layouts;
 use granit_queue::{Queue, Queued, asks_next, line_of};
-use granit_reader::next_found;
+use granit_reader::{Met, next_found};
 use std::alloc::Global;
 use std::marker::Model;
 
 /// More lexemes than this stand in no text.
-const MOST_LEXEMES: usize = 0x7FFF_FFFF_FFFF_FFFF;
+pub(crate) const MOST_LEXEMES: usize = 0x7FFF_FFFF_FFFF_FFFF;
 
 /// An item that is final, and the line by which its comment is placed.
 #[derive(Drop)]
@@ -44,13 +47,17 @@ pub struct Front<'input> {
 /// An input that is read into items, which wait until nothing behind them can change what they are.
 #[derive(Drop)]
 pub struct Scanner<'input, T: Input> {
-    cursor: Cursor<T>,
-    layouts: Layouts,
-    options: Options,
-    queue: Queue<'input>,
-    ended: bool,
+    pub(crate) cursor: Cursor<T>,
+    pub(crate) layouts: Layouts,
+    pub(crate) options: Options,
+    pub(crate) queue: Queue<'input>,
+    pub(crate) ended: bool,
     // Of a read that failed: no other is made, and of the items that waited those are left that may go.
-    fault: Option<ScanError>,
+    pub(crate) fault: Option<ScanError>,
+    // What it had met.
+    pub(crate) met: Met,
+    // The last lexeme among the items that may not go.
+    pub(crate) held: Met,
 }
 
 impl<'input, T: Input> Model for Scanner<'input, T> {
@@ -66,6 +73,8 @@ impl<'input, T: Input> Model for Scanner<'input, T> {
       queue = s.queue;
       ended = s.ended;
       fault = s.fault;
+      met = s.met;
+      held = s.held;
     } };
 }
 
@@ -84,6 +93,8 @@ impl<'input, T: BorrowedInput<'input>> Scanner<'input, T> {
             queue: Queue::new(alloc),
             ended: false,
             fault: None,
+            met: Met::Nothing,
+            held: Met::Nothing,
         }
     }
 
@@ -164,7 +175,8 @@ impl<'input, T: BorrowedInput<'input>> Scanner<'input, T> {
         if self.fault.is_some() {
             return Ok(());
         }
-        if self.layouts.number() > MOST_LEXEMES {
+        let number = self.layouts.number();
+        if number > MOST_LEXEMES {
             return Err(NoMemory);
         }
         let free = self.free_count();
@@ -172,6 +184,7 @@ impl<'input, T: BorrowedInput<'input>> Scanner<'input, T> {
             lexeme: None,
             note: None,
         };
+        let mut met = Met::Nothing;
         let read = next_found(
             alloc,
             &self.options,
@@ -179,8 +192,9 @@ impl<'input, T: BorrowedInput<'input>> Scanner<'input, T> {
             &mut self.layouts,
             &mut self.ended,
             &mut found,
+            &mut met,
         );
-        self.take_read(read, &mut found, free)
+        self.take_read(read, &mut found, free, number, met)
     }
 
     /// The fault of the read that failed, which is then given.
@@ -196,6 +210,8 @@ impl<'input, T: BorrowedInput<'input>> Scanner<'input, T> {
     pub fn take_source_error(&mut self) -> Option<ErrorKind>
         ensures given { option_map kind_of result ≡ error_given (T.origin self.old.cursor.input) }
         ensures known { (l : LexState) (q : _) → Known T.unread self.old l q → Known T.unread self.new l q }
+        ensures known_by { (f : Option Refused) (l : LexState) (q : _) → KnownBy T.unread f self.old l q
+            → KnownBy T.unread f self.new l q }
         ensures here { GoesTo T.unread self.old.cursor self.new.cursor (λ h. h) }
         ensures place { self.new.cursor.place ≡ self.old.cursor.place }
         ensures rest { self.new ≡ record self.old { cursor = self.new.cursor } }
@@ -249,29 +265,40 @@ impl<'input, T: Input> Scanner<'input, T> {
         read: Result<(), ScanError>,
         found: &mut Found<'input>,
         free: usize,
+        number: usize,
+        met: Met,
     ) -> Result<(), NoMemory>
-        ensures taken { OnOk result (TakesRead read (found_items found.old) free self.old self.new) }
+        ensures taken { OnOk result (TakesRead read (found_items found.old) free number met self.old self.new) }
         ensures cursor { self.new.cursor ≡ self.old.cursor }
         ensures options { self.new.options ≡ self.old.options }
     {
         match read {
             Ok(()) => self.queue.push_found(found),
-            Err(error) => self.keep(error, free),
+            Err(error) => self.keep(error, free, number, met),
         }
     }
 
-    /// A read failed: of the items that wait so many may go.
-    fn keep(&mut self, error: ScanError, free: usize) -> Result<(), NoMemory>
-        ensures kept { OnOk result (self.new
-            ≡ record self.old { fault = Some error; queue = take free self.old.queue }) }
+    /// A read failed: of the items that wait so many may go, and so many lexemes were read before it.
+    fn keep(
+        &mut self,
+        error: ScanError,
+        free: usize,
+        number: usize,
+        met: Met,
+    ) -> Result<(), NoMemory>
+        ensures kept { OnOk result (KeepsBefore error free number met self.old self.new) }
         ensures found { OnOk result (spec.wants_memory error.kind ≡ false) }
+        ensures held { OnOk result (TellsLast self.new.held (drop free self.old.queue)) }
         ensures cursor { self.new.cursor ≡ self.old.cursor }
         ensures options { self.new.options ≡ self.old.options }
     {
         if error.kind().number() == ErrorKind::NoMemory.number() {
             return Err(NoMemory);
         }
+        self.met = met;
+        self.held = last_behind(&self.queue, free);
         self.queue.truncate(free);
+        self.layouts.begin_anew(number, false);
         self.fault = Some(error);
         Ok(())
     }

@@ -1,6 +1,6 @@
 -- `-`, `?` and `:` are what the code gives.
-use Rattle.std.proofs.Common.{◌≡◌, ℕ, suc, ◌==◌, ◌&&◌, ◌||◌, Bool, true, false, not, nat_lt, if◌then◌else◌, List, []}
-use Rattle.std.proofs.Common.{◌∷◌, drop, length, slice_index, Option, Some, None, Result, Ok, Err, refl, sym, ap, subst}
+use Rattle.std.proofs.Common.{◌≡◌, ℕ, ◌==◌, ◌&&◌, ◌||◌, Bool, true, false, not, nat_lt, if◌then◌else◌, List, []}
+use Rattle.std.proofs.Common.{◌∷◌, drop, length, slice_index, Option, Some, None, Result, Ok, Err, refl, sym, ap}
 use Rattle.std.proofs.Common.{◌∙◌, arith}
 use Rattle.std.proofs.lemmas.Bool.Decides.{nat_tests}
 use Rattle.granit_base.specs.Classes.{is_gap}
@@ -18,14 +18,14 @@ use Rattle.granit_lexemes.specs.declared.layout.LastLexeme.{LastLexeme}
 use Rattle.granit_lexemes.specs.declared.layout.LastLexeme.TheVariants.{BehindQuestion, BehindBareColon, Another}
 use Rattle.granit_lexemes.specs.declared.layout.PossibleKey.{PossibleKey}
 use Rattle.granit_machine.specs.Columns.{with_entry, with_pair}
-use Rattle.granit_machine.specs.Gaps.{begins_gap, over_gap_char, skip_gap, past_gap, leading_tab, refuse_tab}
+use Rattle.granit_machine.specs.Gaps.{begins_gap, skip_gap, past_gap, leading_tab, refuse_tab}
 use Rattle.granit_machine.specs.IndicatorLexemes.{is_tabbed_dash, behind_dash, dash_up_to, dash, question_noted}
 use Rattle.granit_machine.specs.IndicatorLexemes.{behind_question, question_up_to, nul_behind, question_by, question}
-use Rattle.granit_machine.specs.IndicatorLexemes.{keyed_given, keyed_colon, bare_given, bare_colon, colon_by_key}
+use Rattle.granit_machine.specs.IndicatorLexemes.{keyed_colon, bare_colon, colon_by_key}
 use Rattle.granit_machine.specs.IndicatorLexemes.{colon_tail, opens_flow, colon}
 use Rattle.granit_machine.specs.Laid.{Laid, is_in_flow, is_adjacent}
 use Rattle.granit_machine.specs.PossibleKeys.{top_key, forgets_key, is_allowed, is_far_below}
-use Rattle.granit_machine.specs.ReaderState.{Read, sign_lexeme, with_tail, given}
+use Rattle.granit_machine.specs.ReaderState.{sign_lexeme, with_tail, given}
 use Rattle.granit_steps.specs.Steps.{incoming}
 use Rattle.granit_signs.specs.IndicatorReads.{question_from, with_key, keyed_by, bare_by, colon_by}
 use Rattle.granit_signs.specs.IndicatorReads.{keyed_entry, bare_entry}

@@ -1,4 +1,1 @@
-pub mod DirectiveLemmas
-pub mod FlowLemmas
 pub mod IndicatorLemmas
-pub mod StreamLemmas

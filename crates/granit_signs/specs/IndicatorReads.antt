@@ -1,5 +1,5 @@
--- `?` and `:`, by what the code holds of them.
-use Rattle.std.specs.Prelude.{◌==◌, ◌&&◌, not, Bool, if◌then◌else◌, Option, Some, None, Result, Ok}
+-- `-`, `?` and `:`, by what the code holds of them.
+use Rattle.std.specs.Prelude.{ℕ, ◌==◌, ◌&&◌, not, Bool, true, if◌then◌else◌, Option, Some, None, Result, Ok}
 use Rattle.granit_base.specs.Classes.{is_gap}
 use Rattle.granit_base.specs.Place.{Mark}
 use Rattle.granit_error.specs.FaultKind.{InvalidColonPlacement, MappingValueNotAllowed, ExpectedWhitespace}
@@ -49,3 +49,19 @@ bare_by o x m allowed after l = bare_entry o m allowed l >>= λ e. given x e.0 a
 abbrev pub colon_by : OptionsData → Option PossibleKey → Lexeme → Mark → (allowed : Bool) → (after : Here) → Laid → Read
 colon_by o (Some k) x m allowed after l = keyed_by o k x m after l
 colon_by o None x m allowed after l = bare_by o x m allowed after l
+
+-- ---- where memory may be wanted
+
+-- whether an entry of a block collection begins, for which a column may be opened
+abbrev pub begins_entry : (allowed : Bool) → Laid → Bool
+begins_entry allowed l = not (is_in_flow l) && allowed
+
+-- the same of a `:`, which is always allowed behind its key
+abbrev pub begins_pair : Option PossibleKey → (allowed : Bool) → Laid → Bool
+begins_pair (Some k) allowed l = begins_entry true l
+begins_pair None allowed l = begins_entry allowed l
+
+-- the column of the pair that a `:` in a column divides
+abbrev pub pair_column : Option PossibleKey → ℕ → ℕ
+pair_column (Some k) column = k.start.place.column
+pair_column None column = column

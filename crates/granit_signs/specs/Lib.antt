@@ -1,2 +1,1 @@
 pub mod IndicatorReads
-pub mod StreamReads

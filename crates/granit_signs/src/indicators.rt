@@ -1,18 +1,19 @@
 //! `-` and `?` (YAML 1.2.2, 7.4.2 and 8.2).
-ghost use Rattle.std.specs.Prelude.{◌≡◌, ◌<◌, ◌≤◌, ◌^◌, ◌==◌, ◌&&◌, not, None, Ok, IfOk};
+ghost use Rattle.std.specs.Prelude.{◌≡◌, ◌<◌, ◌≤◌, ◌^◌, ◌==◌, ◌&&◌, not, false, None, Ok};
 ghost use Rattle.granit_cursor.specs.Reading.{GivesTo, Moves, Stands, Wherever};
 ghost use Rattle.granit_error.specs.OptionsView.{options_of};
 ghost use Rattle.granit_lexemes.specs.Here.{Here, text_len, next_char, step};
 ghost use Rattle.granit_lexemes.specs.Lexeme.{Question};
 ghost use Rattle.granit_lexemes.specs.declared.layout.LastLexeme.TheVariants.{Another};
+ghost use Rattle.granit_layout.specs.Opening.{opens_column};
 ghost use Rattle.granit_machine.specs.IndicatorLexemes as spec;
-ghost use Rattle.granit_machine.specs.PossibleKeys.{forgets_key};
+ghost use Rattle.granit_machine.specs.PossibleKeys.{forgets_key, is_allowed};
 ghost use Rattle.granit_machine.specs.ReaderState.{sign_lexeme, given};
-ghost use Rattle.granit_signs.specs.IndicatorReads.{question_from};
+ghost use Rattle.granit_signs.specs.IndicatorReads.{begins_entry, question_from};
 ghost use Rattle.granit_items.specs.ItemViews.{lexeme_items, lexeme_view};
-ghost use Rattle.granit_content.specs.Reads.{IsAt, ReadsItems, lexeme_in, noted, tail_view};
+ghost use Rattle.granit_content.specs.Reads.{IsAt, NeverWants, ReadsItems, lexeme_in, noted, tail_view};
 
-use granit_base::{Marker, NoMemory, is_blank_or_breakz, is_break, is_flow};
+use granit_base::{Marker, is_blank_or_breakz, is_break, is_flow};
 use granit_content::{Tail, comment_at, give, leading_tab, past_gap, sign, tail_at, with_tail};
 use granit_cursor::Cursor;
 use granit_error::{ErrorKind, Options, ScanError};
@@ -40,6 +41,10 @@ pub fn dash<'input, T: BorrowedInput<'input>>(
     requires room { layouts.old.number < 2 ^ 63 }
     ensures here { ReadsItems T.unread (options_of options.now).emit_comments at.old at.new layouts.new
         (lexeme_in found.new) result (λ h. spec.dash (options_of options.now) ends h layouts.old) }
+    ensures memory { begins_entry (is_allowed at.old.begins_line at.old.tab layouts.old) layouts.old ≡ false
+        → NeverWants result }
+    ensures column { (options_of options.now).emit_comments ≡ false
+        → opens_column (options_of options.now) at.old.place.column layouts.old.columns ≡ false → NeverWants result }
     ensures moves { Moves T.unread T.left T.origin at.old at.new }
 {
     let mark = at.mark();
@@ -50,21 +55,8 @@ pub fn dash<'input, T: BorrowedInput<'input>>(
         return Err(ScanError::from_kind(mark, ErrorKind::BlockSequenceEntryNotAllowed));
     }
     let lexeme = sign(at, layouts, ends, LexemeKind::Dash);
-    let column = column_of(mark)?;
-    layouts.enter(options, column, mark)?;
+    layouts.enter(options, mark.col(), mark)?;
     dash_up_to(alloc, options.emit_comments, at, layouts, lexeme, found)
-}
-
-/// The column of a mark. No text is so long that it passes what a cursor reaches.
-pub(crate) fn column_of(mark: Marker) -> Result<usize, NoMemory>
-    ensures column { IfOk result (λ n. n ≡ mark.place.column) }
-    ensures small { IfOk result (λ n. n < 2 ^ 63) }
-{
-    let column = mark.col();
-    if column > isize::MAX as usize {
-        return Err(NoMemory);
-    }
-    Ok(column)
 }
 
 /// A `-` that began an entry and ends here.
@@ -79,6 +71,7 @@ fn dash_up_to<'input, T: BorrowedInput<'input>>(
     requires room { layouts.old.number < 2 ^ 63 }
     ensures here { ReadsItems T.unread asked at.old at.new layouts.new
         (lexeme_in found.new) result (λ h. spec.dash_up_to (lexeme_view lexeme.entry) h layouts.old) }
+    ensures memory { asked ≡ false → NeverWants result }
     ensures moves { Moves T.unread T.left T.origin at.old at.new }
 {
     let tail = tail_at(alloc, at, asked)?;
@@ -98,6 +91,7 @@ fn behind_dash<'input, T: Input>(
     ensures here { (h : Here) → Stands T.unread at.old h → GivesTo (lexeme_in found.new) result
         (IsAt T.unread at.new layouts.new)
         (spec.behind_dash (lexeme_view lexeme.entry) layouts.old (noted (tail_view tail.entry)) h) }
+    ensures memory { NeverWants result }
     ensures moves { Moves T.unread T.left T.origin at.old at.new }
 {
     at.look(2);
@@ -163,6 +157,10 @@ pub fn question<'input, T: BorrowedInput<'input>>(
     requires room { layouts.old.number < 2 ^ 63 }
     ensures here { ReadsItems T.unread (options_of options.now).emit_comments at.old at.new layouts.new
         (lexeme_in found.new) result (λ h. spec.question (options_of options.now) ends h layouts.old) }
+    ensures memory { begins_entry (is_allowed at.old.begins_line at.old.tab layouts.old) layouts.old ≡ false
+        → NeverWants result }
+    ensures column { (options_of options.now).emit_comments ≡ false
+        → opens_column (options_of options.now) at.old.place.column layouts.old.columns ≡ false → NeverWants result }
     ensures moves { Moves T.unread T.left T.origin at.old at.new }
 {
     let mark = at.mark();
@@ -174,8 +172,7 @@ pub fn question<'input, T: BorrowedInput<'input>>(
         return Err(ScanError::from_kind(mark, ErrorKind::MappingKeyNotAllowed));
     }
     let lexeme = sign(at, layouts, ends, LexemeKind::Question);
-    let column = column_of(mark)?;
-    layouts.enter(options, column, mark)?;
+    layouts.enter(options, mark.col(), mark)?;
     behind_question(alloc, options, at, layouts, lexeme, found)
 }
 
@@ -211,6 +208,7 @@ fn behind_question<'input, T: BorrowedInput<'input>>(
         at.old at.new layouts.new
         (lexeme_in found.new) result
         (λ h. question_from (options_of options.now) (lexeme_view lexeme.entry) h layouts.old) }
+    ensures memory { (options_of options.now).emit_comments ≡ false → NeverWants result }
     ensures moves { Moves T.unread T.left T.origin at.old at.new }
 {
     at.look(1);
@@ -246,6 +244,7 @@ fn question_up_to<'input, T: BorrowedInput<'input>>(
         at.old at.new layouts.new
         (lexeme_in found.new) result
         (λ h. spec.question_up_to (options_of options.now) (lexeme_view lexeme.entry) h layouts.old) }
+    ensures memory { (options_of options.now).emit_comments ≡ false → NeverWants result }
     ensures moves { Moves T.unread T.left T.origin at.old at.new }
 {
     if at.input().peek() == '#' {

@@ -1,13 +1,8 @@
-//! Signs: brackets, `,`, `-`, `?` and `:`, document marks, directives, and the end of a text, each as a lexeme with its
-//! tail (YAML 1.2.2, chapters 6 to 9).
+//! Indicators: `-`, `?` and `:`, each as a lexeme with its tail (YAML 1.2.2, 7.4 and 8.2).
 #![tactic(auto)]
 
-mod flow;
 mod indicators;
-mod stream;
 mod values;
 
-pub use flow::{closer, comma, opener};
 pub use indicators::{dash, question};
-pub use stream::{directive, document_end, document_start, text_end};
 pub use values::colon;

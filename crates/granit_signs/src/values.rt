@@ -1,18 +1,19 @@
 //! `:` (YAML 1.2.2, 7.4.2 and 8.2.2).
-ghost use Rattle.std.specs.Prelude.{◌≡◌, ◌<◌, ◌≤◌, ◌^◌, ◌&&◌, not, slice_index, Ok};
+ghost use Rattle.std.specs.Prelude.{◌≡◌, ◌<◌, ◌≤◌, ◌^◌, ◌&&◌, not, slice_index, true, false, Ok};
 ghost use Rattle.granit_cursor.specs.Reading.{GivesTo, Moves, Stands, Wherever, coded};
 ghost use Rattle.granit_error.specs.OptionsView.{options_of};
 ghost use Rattle.granit_lexemes.specs.Here.{Here};
 ghost use Rattle.granit_lexemes.specs.Outcome.{Gives};
+ghost use Rattle.granit_layout.specs.Opening.{opens_column};
 ghost use Rattle.granit_machine.specs.IndicatorLexemes as spec;
-ghost use Rattle.granit_machine.specs.Laid.{is_adjacent};
+ghost use Rattle.granit_machine.specs.Laid.{is_adjacent, is_in_flow};
 ghost use Rattle.granit_machine.specs.Leaving.{LeavesIfRoom};
 ghost use Rattle.granit_machine.specs.PossibleKeys as keys;
-ghost use Rattle.granit_signs.specs.IndicatorReads.{with_key, bare_by, bare_entry, colon_by, keyed_by, keyed_entry};
+ghost use Rattle.granit_signs.specs.IndicatorReads.{bare_by, bare_entry, begins_entry, begins_pair, colon_by};
+ghost use Rattle.granit_signs.specs.IndicatorReads.{keyed_by, keyed_entry, pair_column, with_key};
 ghost use Rattle.granit_items.specs.ItemViews.{lexeme_items, lexeme_view};
-ghost use Rattle.granit_content.specs.Reads.{ReadsItems, lexeme_in, seen, tail_view};
+ghost use Rattle.granit_content.specs.Reads.{NeverWants, ReadsItems, lexeme_in, seen, tail_view};
 
-use crate::indicators::column_of;
 use granit_base::{Marker, is_blank};
 use granit_content::{Tail, give, lexeme_to, start_of, tail_at, with_tail};
 use granit_cursor::Cursor;
@@ -42,14 +43,19 @@ pub fn colon<'input, T: BorrowedInput<'input>>(
     requires room { layouts.old.number < 2 ^ 63 }
     ensures here { ReadsItems T.unread (options_of options.now).emit_comments at.old at.new layouts.new
         (lexeme_in found.new) result (λ h. spec.colon (options_of options.now) ends h layouts.old) }
+    ensures memory { (options_of options.now).emit_comments ≡ false
+        → begins_pair (keys.top_key layouts.old) (keys.is_allowed at.old.begins_line at.old.tab layouts.old) layouts.old
+        ≡ false → NeverWants result }
+    ensures column { (options_of options.now).emit_comments ≡ false → opens_column (options_of options.now)
+        (pair_column (keys.top_key layouts.old) at.old.place.column) layouts.old.columns ≡ false → NeverWants result }
     ensures moves { Moves T.unread T.left T.origin at.old at.new }
 {
+    let allowed = layouts.is_allowed(at.begins_line(), at.tab());
     at.look(2);
     let mark = at.mark();
     if is_before_flow(at, layouts) {
         return Err(ScanError::from_kind(mark, ErrorKind::FlowMappingValueAdjacentCollection));
     }
-    let allowed = layouts.is_allowed(at.begins_line(), at.tab());
     let start = start_of(at);
     at.step();
     let end = at.mark();
@@ -90,6 +96,7 @@ fn colon_tail<'input, T: BorrowedInput<'input>>(
 ) -> Result<Tail<'input>, ScanError>
     ensures here { Wherever T.unread at.old at.new (λ h Lands.
         GivesTo tail_view result Lands (coded (seen asked) (spec.colon_tail h))) }
+    ensures memory { asked ≡ false → NeverWants result }
     ensures moves { Moves T.unread T.left T.origin at.old at.new }
 {
     at.look(1);
@@ -109,9 +116,12 @@ fn colon_by_key<'input>(
     found: &mut Option<Lexeme<'input>>,
 ) -> Result<(), ScanError>
     requires room { layouts.old.number < 2 ^ 63 }
-    ensures { (after : Here) → Gives (lexeme_in found.new) result (record { here = after; laid = layouts.new })
+    ensures here { (after : Here) → Gives (lexeme_in found.new) result (record { here = after; laid = layouts.new })
         (colon_by (options_of options.now) (keys.top_key layouts.old) (lexeme_view lexeme.entry) mark allowed after
         layouts.old) }
+    ensures memory { begins_pair (keys.top_key layouts.old) allowed layouts.old ≡ false → NeverWants result }
+    ensures column { opens_column (options_of options.now) (pair_column (keys.top_key layouts.old) mark.place.column)
+        layouts.old.columns ≡ false → NeverWants result }
 {
     match layouts.top_key() {
         Some(key) => keyed_colon(options, layouts, lexeme, mark, key, found),
@@ -130,8 +140,11 @@ fn keyed_colon<'input>(
     found: &mut Option<Lexeme<'input>>,
 ) -> Result<(), ScanError>
     requires room { layouts.old.number < 2 ^ 63 }
-    ensures { (after : Here) → Gives (lexeme_in found.new) result (record { here = after; laid = layouts.new })
+    ensures here { (after : Here) → Gives (lexeme_in found.new) result (record { here = after; laid = layouts.new })
         (keyed_by (options_of options.now) key (lexeme_view lexeme.entry) mark after layouts.old) }
+    ensures memory { is_in_flow layouts.old ≡ true → NeverWants result }
+    ensures column { opens_column (options_of options.now) key.start.place.column layouts.old.columns ≡ false
+        → NeverWants result }
 {
     enter_keyed(options, layouts, mark, &key)?;
     keyed(layouts, lexeme, &key, found);
@@ -145,7 +158,10 @@ fn enter_keyed(
     mark: Marker,
     key: &PossibleKey,
 ) -> Result<(), ScanError>
-    ensures { LeavesIfRoom result layouts.new (keyed_entry (options_of options.now) key.now mark layouts.old) }
+    ensures here { LeavesIfRoom result layouts.new (keyed_entry (options_of options.now) key.now mark layouts.old) }
+    ensures memory { is_in_flow layouts.old ≡ true → NeverWants result }
+    ensures column { opens_column (options_of options.now) key.now.start.place.column layouts.old.columns ≡ false
+        → NeverWants result }
 {
     if layouts.is_far_below(mark, key) {
         return Err(ScanError::from_kind(mark, ErrorKind::InvalidColonPlacement));
@@ -153,8 +169,7 @@ fn enter_keyed(
     if layouts.is_in_flow() {
         return Ok(());
     }
-    let column = column_of(key.start)?;
-    layouts.enter_pair(options, column, key.start)
+    layouts.enter_pair(options, key.start.col(), key.start)
 }
 
 /// The lexeme of a `:` with its key.
@@ -195,8 +210,11 @@ fn bare_colon<'input>(
     found: &mut Option<Lexeme<'input>>,
 ) -> Result<(), ScanError>
     requires room { layouts.old.number < 2 ^ 63 }
-    ensures { (after : Here) → Gives (lexeme_in found.new) result (record { here = after; laid = layouts.new })
+    ensures here { (after : Here) → Gives (lexeme_in found.new) result (record { here = after; laid = layouts.new })
         (bare_by (options_of options.now) (lexeme_view lexeme.entry) mark allowed after layouts.old) }
+    ensures memory { begins_entry allowed layouts.old ≡ false → NeverWants result }
+    ensures column { opens_column (options_of options.now) mark.place.column layouts.old.columns ≡ false
+        → NeverWants result }
 {
     let last = enter_bare(options, layouts, mark, allowed)?;
     give(layouts, lexeme, last, found);
@@ -210,8 +228,11 @@ fn enter_bare(
     mark: Marker,
     allowed: bool,
 ) -> Result<LastLexeme, ScanError>
-    ensures { Gives (λ last. last) result layouts.new
+    ensures here { Gives (λ last. last) result layouts.new
         (bare_entry (options_of options.now) mark allowed layouts.old) }
+    ensures memory { begins_entry allowed layouts.old ≡ false → NeverWants result }
+    ensures column { opens_column (options_of options.now) mark.place.column layouts.old.columns ≡ false
+        → NeverWants result }
 {
     if layouts.is_in_flow() {
         return Ok(LastLexeme::Another);
@@ -219,7 +240,6 @@ fn enter_bare(
     if !allowed {
         return Err(ScanError::from_kind(mark, ErrorKind::MappingValueNotAllowed));
     }
-    let column = column_of(mark)?;
-    layouts.enter_pair(options, column, mark)?;
+    layouts.enter_pair(options, mark.col(), mark)?;
     Ok(LastLexeme::BehindBareColon)
 }

@@ -3,6 +3,7 @@ use Rattle.std.proofs.Common.{◌≡◌, ℕ, true, false, List, [], ◌∷◌, 
 use Rattle.std.proofs.Common.{◌∙◌, ap, inl, inr, true≢false}
 use Rattle.std.specs.Borrow.{Bor}
 use Rattle.std.specs.Prelude.{IfOk, String}
+use Rattle.std.specs.Option.{unwrap_or}
 use Rattle.std.specs.Str.{chars}
 use Rattle.std.specs.declared.alloc.Global.{Global}
 use Rattle.granit_base.specs.Written.{string_chars}
@@ -41,6 +42,10 @@ number_some offset (l ∷ ls) some = refl
 pub number_kept : {S : Type 0} (offset : S → ℕ) (n : Option ℕ) (ls ms : List (Layer S)) → n ≡ number_above offset ls
     → ls ≡ ms → n ≡ number_above offset ms
 number_kept offset n ls ms is same = is ∙ ap (λ (x : List (Layer _)). number_above offset x) same
+
+pub unwrapped : (above : Option ℕ) → unwrap_or above 1 ≡ first_number above
+unwrapped None = refl
+unwrapped (Some offset) = refl
 
 -- ---- all events of a parser
 

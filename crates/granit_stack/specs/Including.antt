@@ -17,6 +17,7 @@ use Rattle.granit_replay.specs.Replaying.{Replay, raised_by_all}
 use Rattle.granit_replay.specs.Resolving.{missing_resolver}
 use Rattle.granit_replay.specs.declared.resolver.Included.{Included}
 use Rattle.granit_replay.specs.declared.resolver.Included.TheVariants.{Owned, Borrowed}
+use Rattle.granit_stack.specs.Stacked.{Stacked}
 use Rattle.granit_stepper.specs.Offset.{with_offset}
 use Rattle.granit_steps.specs.Steps.{StepState, start_from, steps_start}
 use Rattle.granit_steps.specs.Told.{GivesEvents}
@@ -70,27 +71,35 @@ abbrev pub number_above : {S : Type 0} → (S → ℕ) → List (Layer S) → Op
 number_above offset [] = None
 number_above offset (l ∷ ls) = Some (offset l.parser)
 
+-- What is told of the parsers of a stack, and of who finds includes: the number of a next anchor, what setting it
+-- leaves, and to what it is set above another parser; the parser that gives events once more; what may be answered for
+-- a name; and how many errors were answered.
+pub record Handling (S R : Type 0) : Type 1 where
+  pub offset_of : S → ℕ
+  pub sets_offset : ℕ → S → S → Type 0
+  pub offset_over : S → ℕ → ℕ
+  pub again : Replay → S
+  pub answers : R → List ℕ → Result Included Refused → R → Type 0
+  pub errors : R → ℕ
+
 -- An include without names in its refusals: the text is found, read whole, and its events are put on the stack; or it
--- isn't found, can't be read, or memory ran out.
-abbrev pub Includes : {S R : Type 0} → (offset : S → ℕ) → (sets : ℕ → S → S → Type 0) → (above : S → ℕ → ℕ)
-    → (again : Replay → S) → (answers : R → List ℕ → Result Included Refused → R → Type 0) → (errors : R → ℕ)
-    → OptionsData → List (Layer S) → Option R → List ℕ → Result (Unit {0}) Refused → List (Layer S) → Option R → Type 0
-Includes offset sets above again answers errors o old resolver name (Ok x) new after =
-    (text : Included) × Resolves answers errors resolver name (Ok text) after
-    × ((p : Replay) × ReadsText o (number_above offset old) text (Ok p)
-    × Pushes offset sets above old (again p) (record { characters = name; is_borrowed = false }) new)
-Includes offset sets above again answers errors o old resolver name (Err e) new after =
-    (new ≡ old)
-    × (Resolves answers errors resolver name (Err e) after
-    ⊎ ((text : Included) × Resolves answers errors resolver name (Ok text) after
-    × ReadsText o (number_above offset old) text (Err e)))
+-- isn't found, can't be read, or memory ran out, and the parsers are as before.
+abbrev pub Includes : {S R : Type 0} → Handling S R → Stacked S R → (name : List ℕ) → Result (Unit {0}) Refused
+    → Stacked S R → Type 0
+Includes h old name (Ok x) new =
+    (text : Included) × Resolves h.answers h.errors old.resolver name (Ok text) new.resolver
+    × ((p : Replay) × ReadsText old.options (number_above h.offset_of old.stack.layers) text (Ok p)
+    × Pushes h.offset_of h.sets_offset h.offset_over old.stack.layers (h.again p)
+    (record { characters = name; is_borrowed = false }) new.stack.layers)
+Includes h old name (Err e) new =
+    (new.stack.layers ≡ old.stack.layers)
+    × (Resolves h.answers h.errors old.resolver name (Err e) new.resolver
+    ⊎ ((text : Included) × Resolves h.answers h.errors old.resolver name (Ok text) new.resolver
+    × ReadsText old.options (number_above h.offset_of old.stack.layers) text (Err e)))
 
 -- the same, its refusals with the names of the stack and the include's
-abbrev pub IncludesNamed : {S R : Type 0} → (offset : S → ℕ) → (sets : ℕ → S → S → Type 0) → (above : S → ℕ → ℕ)
-    → (again : Replay → S) → (answers : R → List ℕ → Result Included Refused → R → Type 0) → (errors : R → ℕ)
-    → OptionsData → List (Layer S) → Option R → List ℕ → Result (Unit {0}) Refused → List (Layer S) → Option R → Type 0
-IncludesNamed offset sets above again answers errors o old resolver name (Ok x) new after =
-    Includes offset sets above again answers errors o old resolver name (Ok x) new after
-IncludesNamed offset sets above again answers errors o old resolver name (Err f) new after =
-    (e : Refused) × IsWithin old name e f
-    × Includes offset sets above again answers errors o old resolver name (Err e) new after
+abbrev pub IncludesNamed : {S R : Type 0} → Handling S R → Stacked S R → (name : List ℕ) → Result (Unit {0}) Refused
+    → Stacked S R → Type 0
+IncludesNamed h old name (Ok x) new = Includes h old name (Ok x) new
+IncludesNamed h old name (Err f) new =
+    (e : Refused) × IsWithin old.stack.layers name e f × Includes h old name (Err e) new

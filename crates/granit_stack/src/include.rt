@@ -5,7 +5,6 @@ ghost use Rattle.granit_error.specs.OptionsView.{options_of};
 ghost use Rattle.granit_event.specs.Events.{event_kind};
 ghost use Rattle.granit_event.specs.Helpers.{anchor_of};
 ghost use Rattle.granit_layers.specs.Stacking.{IsWithin};
-ghost use Rattle.granit_layers.specs.declared.kinds.AnyKind.TheVariants.{Fourth};
 ghost use Rattle.granit_parser.specs.Parsing.{StandsAt};
 ghost use Rattle.granit_replay.specs.Replaying.{raised_by_all, raised_over};
 ghost use Rattle.granit_stack.specs.Including.{GivesAllAbove, Includes, IncludesNamed, ReadsText, Resolves};
@@ -19,17 +18,15 @@ use granit_error::{ErrorKind, Options, ScanError};
 use granit_event::Event;
 use granit_input::BorrowedInput;
 use granit_iterators::characters;
-use granit_layers::{AnyKind, StackedParser};
+use granit_layers::{FromReplay, StackedParser};
 use granit_load::gather;
 use granit_parser::Parser;
 use granit_replay::{Included, ReplayParser, Resolver};
 use std::alloc::Global;
 
-impl<'input, A, B, C, R> IncludeStack<'input, A, B, C, ReplayParser<'input>, R>
+impl<'input, S, R> IncludeStack<'input, S, R>
 where
-    A: StackedParser<'input>,
-    B: StackedParser<'input>,
-    C: StackedParser<'input>,
+    S: FromReplay<'input>,
     R: Resolver<'input> + Drop,
 {
     /// Finds a text by its name, reads it whole, and puts its events on the stack. Its anchors get numbers behind those
@@ -43,11 +40,15 @@ where
     pub fn push_include(&mut self, include_str: &str) -> Result<(), ScanError>
         requires ready { IfSome self.old.resolver R.ready }
         ensures again { IfSome self.new.resolver R.ready }
-        ensures included { IncludesNamed ⟦<AnyKind<A, B, C, ReplayParser<'input>> as StackedParser<'input>>⟧.offset_of
-            ⟦<AnyKind<A, B, C, ReplayParser<'input>> as StackedParser<'input>>⟧.sets_offset
-            ⟦<AnyKind<A, B, C, ReplayParser<'input>> as StackedParser<'input>>⟧.offset_over Fourth R.answers R.errors
-            self.old.options self.old.stack.layers self.old.resolver (chars include_str.now) result
-            self.new.stack.layers self.new.resolver }
+        ensures included { IncludesNamed (record {
+          offset_of = S.offset_of;
+          sets_offset = S.sets_offset;
+          offset_over = S.offset_over;
+          again = S.again;
+          answers = R.answers;
+          errors = R.errors;
+        }) self.old
+            (chars include_str.now) result self.new }
         ensures same { self.new ≡ record self.old {
           stack = record (self.old.stack) { layers = self.new.stack.layers };
           resolver = self.new.resolver;
@@ -63,11 +64,15 @@ where
     fn include(&mut self, name: &str) -> Result<(), ScanError>
         requires ready { IfSome self.old.resolver R.ready }
         ensures again { IfSome self.new.resolver R.ready }
-        ensures included { Includes ⟦<AnyKind<A, B, C, ReplayParser<'input>> as StackedParser<'input>>⟧.offset_of
-            ⟦<AnyKind<A, B, C, ReplayParser<'input>> as StackedParser<'input>>⟧.sets_offset
-            ⟦<AnyKind<A, B, C, ReplayParser<'input>> as StackedParser<'input>>⟧.offset_over Fourth R.answers R.errors
-            self.old.options self.old.stack.layers self.old.resolver (chars name.now) result self.new.stack.layers
-            self.new.resolver }
+        ensures included { Includes (record {
+          offset_of = S.offset_of;
+          sets_offset = S.sets_offset;
+          offset_over = S.offset_over;
+          again = S.again;
+          answers = R.answers;
+          errors = R.errors;
+        }) self.old
+            (chars name.now) result self.new }
         ensures same { self.new ≡ record self.old {
           stack = record (self.old.stack) { layers = self.new.stack.layers };
           resolver = self.new.resolver;
@@ -85,7 +90,7 @@ where
             Ok(name) => name,
             Err(no_memory) => return Err(ScanError::from(no_memory)),
         };
-        match self.push_replay_parser(replay, name) {
+        match self.layers.push(S::from_replay(replay), name) {
             Ok(()) => Ok(()),
             Err(_) => Err(ScanError::from(NoMemory)),
         }
@@ -112,18 +117,15 @@ where
     }
 }
 
-impl<'input, A, B, C, D, R> IncludeStack<'input, A, B, C, D, R>
+impl<'input, S, R> IncludeStack<'input, S, R>
 where
-    A: StackedParser<'input>,
-    B: StackedParser<'input>,
-    C: StackedParser<'input>,
-    D: StackedParser<'input>,
+    S: StackedParser<'input>,
     R: Drop,
 {
     /// The number of the top parser.
     fn number_above(&self) -> Option<usize>
         ensures { result ≡ spec.number_above
-            ⟦<AnyKind<A, B, C, D> as StackedParser<'input>>⟧.offset_of
+            S.offset_of
             self.now.stack.layers }
     {
         if self.layers.is_empty() {

@@ -9,7 +9,7 @@ use granit_event::Event;
 use granit_layers::{AnyKind, StackedParser};
 use granit_replay::{Refused, ReplayParser};
 
-impl<'input, A, B, C, D, R> IncludeStack<'input, A, B, C, D, R>
+impl<'input, A, B, C, D, R> IncludeStack<'input, AnyKind<A, B, C, D>, R>
 where
     A: StackedParser<'input>,
     B: StackedParser<'input>,
@@ -98,7 +98,7 @@ where
     }
 }
 
-impl<'input, A, B, C, R> IncludeStack<'input, A, B, C, ReplayParser<'input>, R>
+impl<'input, A, B, C, R> IncludeStack<'input, AnyKind<A, B, C, ReplayParser<'input>>, R>
 where
     A: StackedParser<'input>,
     B: StackedParser<'input>,

@@ -25,22 +25,20 @@ use std::alloc::Global;
 use std::iter::FusedIterator;
 use std::marker::Model;
 
-/// Parsers of four kinds on a stack, of which the top one gives the events; and who finds includes. Texts that are
-/// included are parsers of the fourth kind, which are events that were read before.
+/// Parsers on a stack, of which the top one gives the events; and who finds includes.
 #[derive(Drop)]
-pub struct IncludeStack<'input, A, B, C, D, R> {
+pub struct IncludeStack<'input, S, R> {
     pub(crate) alloc: Global,
     pub(crate) options: Options,
-    pub(crate) layers: Layers<'input, AnyKind<A, B, C, D>>,
+    pub(crate) layers: Layers<'input, S>,
     pub(crate) resolver: Option<R>,
 }
 
-impl<'input, A, B, C, D, R> Model for IncludeStack<'input, A, B, C, D, R> {
+impl<'input, S, R> Model for IncludeStack<'input, S, R> {
     ghost use Rattle.granit_error.specs.OptionsView.{options_of};
-    ghost use Rattle.granit_layers.specs.declared.kinds.AnyKind.{AnyKind};
     ghost use Rattle.granit_stack.specs.Stacked.{Stacked};
 
-    ghost Value = { Stacked (AnyKind A B C D) R };
+    ghost Value = { Stacked S R };
 
     ghost view = { λ p. record { stack = p.layers; options = options_of p.options; resolver = p.resolver } };
 }
@@ -48,26 +46,25 @@ impl<'input, A, B, C, D, R> Model for IncludeStack<'input, A, B, C, D, R> {
 /// A stack of parsers over strings, over iterators of characters and over inputs of the caller's.
 pub type ParserStack<'input, I, T, R> = IncludeStack<
     'input,
-    Parser<'input, StrInput<'input>>,
-    Parser<'input, BufferedInput<I>>,
-    Parser<'input, T>,
-    ReplayParser<'input>,
+    AnyKind<
+        Parser<'input, StrInput<'input>>,
+        Parser<'input, BufferedInput<I>>,
+        Parser<'input, T>,
+        ReplayParser<'input>,
+    >,
     R,
 >;
 
 /// A stack of parsers over strings.
 pub type StrStack<'input, R> = ParserStack<'input, NoChars, StrInput<'input>, R>;
 
-impl<'input, A, B, C, D, R> IncludeStack<'input, A, B, C, D, R>
+impl<'input, S, R> IncludeStack<'input, S, R>
 where
-    A: StackedParser<'input>,
-    B: StackedParser<'input>,
-    C: StackedParser<'input>,
-    D: StackedParser<'input>,
+    S: StackedParser<'input>,
     R: Drop,
 {
     /// No parsers, and nobody who finds includes; what is included is read with the default options.
-    pub fn new(alloc: Global) -> IncludeStack<'input, A, B, C, D, R>
+    pub fn new(alloc: Global) -> IncludeStack<'input, S, R>
         ensures { result ≡ record {
           stack = record { layers = []; emits_comments = true; peeked = None; end = None };
           options = default_options;
@@ -78,7 +75,7 @@ where
     }
 
     /// No parsers, and nobody who finds includes; what is included is read with these options.
-    pub fn with_options(alloc: Global, options: Options) -> IncludeStack<'input, A, B, C, D, R>
+    pub fn with_options(alloc: Global, options: Options) -> IncludeStack<'input, S, R>
         ensures { result ≡ record {
           stack = record { layers = []; emits_comments = options.emit_comments; peeked = None; end = None };
           options = options_of options;
@@ -103,7 +100,7 @@ where
     /// The number that a next anchor gets of the top parser; 0 where there is none.
     pub fn current_anchor_offset(&self) -> usize
         ensures { result ≡ top_offset
-            ⟦<AnyKind<A, B, C, D> as StackedParser<'input>>⟧.offset_of self.now.stack.layers }
+            S.offset_of self.now.stack.layers }
     {
         self.layers.current_anchor_offset()
     }
@@ -125,10 +122,10 @@ where
     ///
     /// As `next_event`, lent as often as asked.
     pub fn peek(&mut self) -> Option<Result<&(Event<'input>, Span), &ScanError>>
-        ensures* { sem 𝓛 (Rests (the_row (record { mir = named 1; lft = [] }) A.row B.row C.row D.row R.row) self.entry
-            (λ new. PeeksAs ⟦<AnyKind<A, B, C, D> as StackedParser<'input>>⟧.steps
-            ⟦<AnyKind<A, B, C, D> as StackedParser<'input>>⟧.offset_of
-            ⟦<AnyKind<A, B, C, D> as StackedParser<'input>>⟧.sets_offset self.old.stack
+        ensures* { sem 𝓛 (Rests (the_row (record { mir = named 1; lft = [] }) S.row R.row) self.entry
+            (λ new. PeeksAs S.steps
+            S.offset_of
+            S.sets_offset self.old.stack
             (shown result) new.stack
             × (new ≡ record self.old { stack = new.stack }))) }
     {
@@ -138,9 +135,9 @@ where
 
     /// Reads the next event, where none was looked at.
     fn look_on(&mut self)
-        ensures looks { PeeksAs ⟦<AnyKind<A, B, C, D> as StackedParser<'input>>⟧.steps
-            ⟦<AnyKind<A, B, C, D> as StackedParser<'input>>⟧.offset_of
-            ⟦<AnyKind<A, B, C, D> as StackedParser<'input>>⟧.sets_offset self.old.stack self.new.stack.peeked
+        ensures looks { PeeksAs S.steps
+            S.offset_of
+            S.sets_offset self.old.stack self.new.stack.peeked
             self.new.stack }
         ensures same { self.new ≡ record self.old { stack = self.new.stack } }
     {
@@ -161,9 +158,9 @@ where
     /// What the top parser is refused, by the names of the stack; or that a source goes on behind its document; or
     /// `NoMemory`.
     pub fn next_event(&mut self) -> Option<Result<(Event<'input>, Span), ScanError>>
-        ensures step { StepsTo ⟦<AnyKind<A, B, C, D> as StackedParser<'input>>⟧.steps
-            ⟦<AnyKind<A, B, C, D> as StackedParser<'input>>⟧.offset_of
-            ⟦<AnyKind<A, B, C, D> as StackedParser<'input>>⟧.sets_offset self.old.stack result
+        ensures step { StepsTo S.steps
+            S.offset_of
+            S.sets_offset self.old.stack result
             self.new.stack }
         ensures same { self.new ≡ record self.old { stack = self.new.stack } }
     {
@@ -182,9 +179,9 @@ where
         multi: bool,
     ) -> Result<(), ScanError>
         ensures sent { failure_of self.old.stack.end ≡ None
-            → Loads ⟦<AnyKind<A, B, C, D> as StackedParser<'input>>⟧.steps
-            ⟦<AnyKind<A, B, C, D> as StackedParser<'input>>⟧.offset_of
-            ⟦<AnyKind<A, B, C, D> as StackedParser<'input>>⟧.sets_offset multi
+            → Loads S.steps
+            S.offset_of
+            S.sets_offset multi
             (Took (record { events = V.taken recv.old; places = V.spans recv.old })
             (record { events = V.taken recv.new; places = V.spans recv.new }))
             self.old.stack result self.new.stack }
@@ -206,9 +203,9 @@ where
         multi: bool,
     ) -> Result<(), TryLoadError<V::Error>>
         ensures sent { failure_of self.old.stack.end ≡ None
-            → Tries ⟦<AnyKind<A, B, C, D> as StackedParser<'input>>⟧.steps
-            ⟦<AnyKind<A, B, C, D> as StackedParser<'input>>⟧.offset_of
-            ⟦<AnyKind<A, B, C, D> as StackedParser<'input>>⟧.sets_offset multi
+            → Tries S.steps
+            S.offset_of
+            S.sets_offset multi
             (Took (record { events = V.taken recv.old; places = V.spans recv.old })
             (record { events = V.taken recv.new; places = V.spans recv.new }))
             self.old.stack result self.new.stack }
@@ -222,12 +219,9 @@ where
 }
 
 /// The events one by one, as `next_event` gives them.
-impl<'input, A, B, C, D, R> Iterator for IncludeStack<'input, A, B, C, D, R>
+impl<'input, S, R> Iterator for IncludeStack<'input, S, R>
 where
-    A: StackedParser<'input>,
-    B: StackedParser<'input>,
-    C: StackedParser<'input>,
-    D: StackedParser<'input>,
+    S: StackedParser<'input>,
     R: Drop,
 {
     type Item = Result<(Event<'input>, Span), ScanError>;
@@ -235,9 +229,9 @@ where
     ghost use Rattle.std.specs.Prelude.{◌≡◌};
     ghost use Rattle.granit_layers.specs.Stacking.{StepsTo};
 
-    ghost next_gives = { λ p r q. StepsTo ⟦<AnyKind<A, B, C, D> as StackedParser<'input>>⟧.steps
-        ⟦<AnyKind<A, B, C, D> as StackedParser<'input>>⟧.offset_of
-        ⟦<AnyKind<A, B, C, D> as StackedParser<'input>>⟧.sets_offset p.stack r q.stack
+    ghost next_gives = { λ p r q. StepsTo S.steps
+        S.offset_of
+        S.sets_offset p.stack r q.stack
         × (q ≡ record p { stack = q.stack }) };
 
     fn next(&mut self) -> Option<Result<(Event<'input>, Span), ScanError>> {
@@ -245,11 +239,8 @@ where
     }
 }
 
-impl<'input, A, B, C, D, R> FusedIterator for IncludeStack<'input, A, B, C, D, R>
+impl<'input, S, R> FusedIterator for IncludeStack<'input, S, R>
 where
-    A: StackedParser<'input>,
-    B: StackedParser<'input>,
-    C: StackedParser<'input>,
-    D: StackedParser<'input>,
+    S: StackedParser<'input>,
     R: Drop,
 {}

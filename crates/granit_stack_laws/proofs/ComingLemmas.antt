@@ -1,14 +1,14 @@
 -- What comes of an include.
-use Rattle.std.proofs.Common.{◌≡◌, ◌∙◌, ℕ, suc, ◌≤◌, ◌-◌, ◌⊎◌, inl, inr, List, [], ◌∷◌, Option, Some, None, Result}
-use Rattle.std.proofs.Common.{Ok, ap, arith, false}
+use Rattle.std.proofs.Common.{◌≡◌, ◌∙◌, ℕ, suc, ◌≤◌, ◌-◌, ◌⊎◌, inl, inr, List, [], ◌∷◌, Option, Some, None}
+use Rattle.std.proofs.Common.{◌<◌, Ok, sym, ap, arith, false, subst}
 use Rattle.std.specs.Str.{chars}
 use Rattle.granit_base.specs.Written.{Written, string_chars}
 use Rattle.granit_error.specs.OptionsData.{OptionsData}
-use Rattle.granit_error.specs.Refused.{Refused}
 use Rattle.granit_layers.specs.Kinds.{SetsAny}
 use Rattle.granit_layers.specs.Passing.{ReplayComesThrough}
-use Rattle.granit_layers.specs.Stacking.{layer_of}
+use Rattle.granit_layers.specs.Stacking.{Pushes, layer_of}
 use Rattle.granit_layers.specs.Turning.{Next}
+use Rattle.granit_layers.specs.declared.layer.Layer.{Layer}
 use Rattle.granit_layers.specs.declared.kinds.AnyKind.TheVariants.{First, Second, Third, Fourth}
 use Rattle.granit_lexemes.specs.Here.{Here, start_of}
 use Rattle.granit_lexemes.specs.Outcome.{Fault}
@@ -19,8 +19,11 @@ use Rattle.granit_replay.specs.Replaying.{Replay}
 use Rattle.granit_replay.specs.declared.resolver.Included.{Included}
 use Rattle.granit_replay.specs.declared.resolver.Included.TheVariants.{Owned, Borrowed}
 use Rattle.granit_stack_laws.proofs.SingleLemmas.{OneStart, single}
+use Rattle.granit_stack_laws.proofs.LifeLemmas.{all_below}
 use Rattle.granit_stack_laws.specs.Coming.{IncludeComesThrough}
-use Rattle.granit_stack.specs.Including.{ReadsText, replayed}
+use Rattle.granit_stack_laws.specs.Fresh.{IdsBelow, last_number}
+use Rattle.granit_stack.specs.Including.{Handling, ReadsText, number_above, replayed}
+use Rattle.granit_stack.specs.Stacked.{Stacked}
 use Rattle.granit_steps.specs.Told.{GivesEvents}
 
 -- ---- ids
@@ -62,26 +65,30 @@ fourth_resets a b c n p (Fourth q) set = ap Fourth set
 
 -- ---- an include
 
-module _ {S R : Type 0} (steps : S → Next → S → Type 0) (offset : S → ℕ) (sets : ℕ → S → S → Type 0)
-    (above : S → ℕ → ℕ) (again : Replay → S) (answers : R → List ℕ → Result Included Refused → R → Type 0)
-    (errors : R → ℕ) where
-  pub include_comes : BeginIds → OneStart → ReplayComesThrough steps offset sets again → Resets sets again
-      → IncludeComesThrough steps offset sets above again answers errors
-  include_comes ids start comes resets o k ks new resolver after name include =
-      let read = include.2 in
-      let r = read.0 in
-      let pushed = read.2 in
+module _ {S R : Type 0} (steps : S → Next → S → Type 0) (h : Handling S R) where
+  pub include_comes : BeginIds → OneStart → ReplayComesThrough steps h.offset_of h.sets_offset h.again
+      → Resets h.sets_offset h.again → IncludeComesThrough steps h
+  include_comes ids start comes resets old new k ks name above include =
+      let r = include.2.0 in
       let title : Written = record { characters = name; is_borrowed = false } in
-      let n : ℕ = above (again r) (offset k.parser) in
-      let placed = resets n r pushed.0 pushed.1 in
-      let lies = pushed.2 ∙ ap (λ (q : S). layer_of q title ∷ k ∷ ks) placed in
+      let read : ReadsText old.options (Some (h.offset_of k.parser)) include.0 (Ok r) = subst
+      (λ (ls : List (Layer S)). ReadsText old.options (number_above h.offset_of ls) include.0 (Ok r)) above
+      include.2.1 in
+      let pushed : Pushes h.offset_of h.sets_offset h.offset_over (k ∷ ks) (h.again r) title new.stack.layers = subst
+      (λ (ls : List (Layer S)). Pushes h.offset_of h.sets_offset h.offset_over ls (h.again r) title new.stack.layers)
+      above include.2.2 in
+      let n : ℕ = h.offset_over (h.again r) (h.offset_of k.parser) in
+      let lies = pushed.2 ∙ ap (λ (q : S). layer_of q title ∷ k ∷ ks) (resets n r pushed.0 pushed.1) in
       record {
         text = include.0;
         found = include.1;
         events = r;
-        read = read.1;
-        ids = text_ids ids o (offset k.parser) include.0 r read.1;
+        read = read;
+        ids = text_ids ids old.options (h.offset_of k.parser) include.0 r read;
+        below = λ small.
+            subst (λ (m : ℕ). IdsBelow m r.events) (sym read.1)
+            (all_below r.events (h.offset_of k.parser) (subst (λ (m : ℕ). m < last_number) read.1 small));
         comes = λ one p q given at calls.
             comes p q title (record r { anchor_offset = n }) k ks given (at ∙ lies)
-            (single start o (Some (offset k.parser)) include.0 r read.1 one) calls;
+            (single start old.options (Some (h.offset_of k.parser)) include.0 r read one) calls;
       }

@@ -57,7 +57,7 @@ of_step b emits ended (Some (Err f)) = refl
 
 -- ---- numbers
 
-below_more : (m n : ℕ) (e : Event × Span) → m ≤ n → IdBelow m e → IdBelow n e
+pub below_more : (m n : ℕ) (e : Event × Span) → m ≤ n → IdBelow m e → IdBelow n e
 below_more m n e less (inl none) = inl none
 below_more m n e less (inr id) = inr (omega arith)
 

@@ -21,8 +21,10 @@ use Rattle.granit_parser.specs.Numbers.{next_number, with_number}
 use Rattle.granit_parser.specs.Parsing.{Parsing, StandsAt, StandsBefore, StepsTo}
 use Rattle.granit_recovery.specs.Ids.{Counted, counted_more, counted_start, counted_step, counting_from, id_of, id_told}
 use Rattle.granit_recovery.specs.Ids.{with_count}
-use Rattle.granit_replay.specs.Replaying.{Replay, behind_next, next_of, raised_by, raised_over}
-use Rattle.granit_stack_laws.specs.Fresh.{IdBelow, Numbering, last_number}
+use Rattle.granit_replay.specs.Replaying.{Replay, behind_next, next_of, raised_by, raised_by_all}
+use Rattle.granit_replay.specs.Replaying.{raised_over}
+use Rattle.granit_stack_laws.proofs.FreshLemmas.{below_more}
+use Rattle.granit_stack_laws.specs.Fresh.{IdBelow, IdsBelow, Numbering, last_number}
 use Rattle.granit_stack_laws.specs.Life.{IsUnread, UnreadAny}
 use Rattle.granit_stepper.specs.Stepping.{Stepping, StandsIn}
 use Rattle.granit_steps.specs.Steps.{StepState, next_event}
@@ -114,6 +116,7 @@ module _ {I : Type 0} (unread : I → Unread → Type 0) (left : I → ℕ) (ori
     parser = ap (λ (p : ParserState). record p { count = count }) x.parser;
     pending = x.pending;
     numbers = small;
+    none_ahead = x.none_ahead;
   }
 
   set_as : (n : ℕ) (p q : Parsing I) (m after : StepState) → n - 1 < last_number → q ≡ with_number n p
@@ -191,6 +194,22 @@ kind_below kind n small = inl refl
 raised_least : (anchor : Option ℕ) (n : ℕ) → n ≤ raised_over anchor n
 raised_least None n = omega arith
 raised_least (Some id) n = omega arith
+
+raised_by_least : (es : List (Event × Span)) (n : ℕ) → n ≤ raised_by_all n es
+raised_by_least [] n = omega arith
+raised_by_least (e ∷ es) n =
+    let first : n ≤ raised_by n e = raised_least (anchor_of (event_kind e.0)) n in
+    let rest : raised_by n e ≤ raised_by_all (raised_by n e) es = raised_by_least es (raised_by n e) in omega arith
+
+-- a number past all anchors of events is above their ids
+pub all_below : (es : List (Event × Span)) (n : ℕ) → raised_by_all n es < last_number
+    → IdsBelow (raised_by_all n es) es
+all_below [] n small = tt
+all_below (e ∷ es) n small =
+    let m = raised_by n e in
+    let least : m ≤ raised_by_all m es = raised_by_least es m in
+    let low : m < last_number = omega arith in
+    (below_more m (raised_by_all m es) e least (kind_below (event_kind e.0) n low), all_below es m small)
 
 abbrev Always : Replay → Type 0
 Always p = Unit {0}

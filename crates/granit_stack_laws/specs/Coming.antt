@@ -1,8 +1,6 @@
 -- What comes of an include.
-use Rattle.std.specs.Prelude.{◌≡◌, ◌≤◌, ℕ, List, ◌∷◌, ◌++◌, Option, Some, Result, Ok}
+use Rattle.std.specs.Prelude.{◌≡◌, ◌≤◌, ◌<◌, ℕ, List, ◌∷◌, ◌++◌, Some, Ok}
 use Rattle.granit_base.specs.declared.place.Span.{Span}
-use Rattle.granit_error.specs.OptionsData.{OptionsData}
-use Rattle.granit_error.specs.Refused.{Refused}
 use Rattle.granit_event.specs.declared.event.Event.{Event}
 use Rattle.granit_layers.specs.Nested.{those_through}
 use Rattle.granit_layers.specs.Passing.{StackRun, Passes, held}
@@ -13,30 +11,30 @@ use Rattle.granit_recovery.specs.Ids.{IdsFrom}
 use Rattle.granit_recovery.specs.OneDocument.{document_starts}
 use Rattle.granit_replay.specs.Replaying.{Replay}
 use Rattle.granit_replay.specs.declared.resolver.Included.{Included}
-use Rattle.granit_stack.specs.Including.{Includes, ReadsText, Resolves, replayed}
+use Rattle.granit_stack_laws.specs.Fresh.{IdsBelow, last_number}
+use Rattle.granit_stack.specs.Including.{Handling, Includes, ReadsText, Resolves, replayed}
+use Rattle.granit_stack.specs.Stacked.{Stacked}
 
 -- the text of an include above a parser, as it was found and read
-pub record IncludedText {S R : Type 0} (steps : S → Next → S → Type 0) (offset : S → ℕ) (sets : ℕ → S → S → Type 0)
-    (answers : R → List ℕ → Result Included Refused → R → Type 0) (errors : R → ℕ) (o : OptionsData) (k : Layer S)
-    (ks new : List (Layer S)) (resolver after : Option R) (name : List ℕ) : Type 0 where
+pub record IncludedText {S R : Type 0} (steps : S → Next → S → Type 0) (h : Handling S R) (old : Stacked S R)
+    (k : Layer S) (ks : List (Layer S)) (name : List ℕ) (new : Stacked S R) : Type 0 where
   pub text : Included
-  pub found : Resolves answers errors resolver name (Ok text) after
+  pub found : Resolves h.answers h.errors old.resolver name (Ok text) new.resolver
   pub events : Replay
-  pub read : ReadsText o (Some (offset k.parser)) text (Ok events)
+  pub read : ReadsText old.options (Some (h.offset_of k.parser)) text (Ok events)
   -- its anchors have ids that the parser below it hasn't given
-  pub ids : IdsFrom (offset k.parser) (replayed events)
+  pub ids : IdsFrom (h.offset_of k.parser) (replayed events)
+  -- the number that a next anchor gets then is above them all, as long as it isn't the greatest
+  pub below : events.anchor_offset < last_number → IdsBelow events.anchor_offset events.events
   -- where at most one of its events starts a document, steps of the stack give what was looked at, then exactly what
   -- comes through of it, and then what the parsers below give
-  pub comes : document_starts (replayed events) ≤ 1 → (p q : Stack S) (given : List (Event × Span)) → p.layers ≡ new
-      → StackRun steps offset sets p given q
-      → Passes steps offset sets p.emits_comments (k ∷ ks)
+  pub comes : document_starts (replayed events) ≤ 1 → (p q : Stack S) (given : List (Event × Span))
+      → p.layers ≡ new.stack.layers → StackRun steps h.offset_of h.sets_offset p given q
+      → Passes steps h.offset_of h.sets_offset p.emits_comments (k ∷ ks)
       (held p.peeked ++ those_through p.emits_comments events.events) given q.layers
 
--- an include that is answered comes through
-abbrev pub IncludeComesThrough : {S R : Type 0} → (steps : S → Next → S → Type 0) → (offset : S → ℕ)
-    → (sets : ℕ → S → S → Type 0) → (above : S → ℕ → ℕ) → (again : Replay → S)
-    → (answers : R → List ℕ → Result Included Refused → R → Type 0) → (errors : R → ℕ) → Type 0
-IncludeComesThrough steps offset sets above again answers errors =
-    (o : OptionsData) (k : Layer _) (ks new : List (Layer _)) (resolver after : Option _) (name : List ℕ)
-    → Includes offset sets above again answers errors o (k ∷ ks) resolver name (Ok tt) new after
-    → IncludedText steps offset sets answers errors o k ks new resolver after name
+-- an include that is answered above a parser comes through
+abbrev pub IncludeComesThrough : {S R : Type 0} → (steps : S → Next → S → Type 0) → Handling S R → Type 0
+IncludeComesThrough steps h =
+    (old new : Stacked _ _) (k : Layer _) (ks : List (Layer _)) (name : List ℕ) → old.stack.layers ≡ k ∷ ks
+    → Includes h old name (Ok tt) new → IncludedText steps h old k ks name new

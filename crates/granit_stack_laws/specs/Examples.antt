@@ -5,6 +5,7 @@ use Rattle.granit_base.specs.Written.{Written}
 use Rattle.granit_base.specs.declared.place.Span.{Span}
 use Rattle.granit_base.specs.declared.style.ScalarStyle.TheVariants.{Plain}
 use Rattle.granit_base.specs.declared.style.StructureStyle.TheVariants.{Block}
+use Rattle.granit_error.specs.OptionsData.{default_options}
 use Rattle.granit_event.specs.declared.event.Event.{Event}
 use Rattle.granit_event.specs.declared.event.Event.TheVariants.{StreamStart, StreamEnd, DocumentStart, DocumentEnd}
 use Rattle.granit_event.specs.declared.event.Event.TheVariants.{Scalar, SequenceStart, SequenceEnd}
@@ -15,6 +16,7 @@ use Rattle.granit_layers.specs.declared.kinds.AnyKind.TheVariants.{Fourth}
 use Rattle.granit_layers.specs.declared.layer.Layer.{Layer}
 use Rattle.granit_lexemes.specs.PlainEvent.{plain_span}
 use Rattle.granit_replay.specs.Replaying.{Replay}
+use Rattle.granit_stack.specs.Stacked.{Stacked}
 
 -- a list of one entry with an anchor
 abbrev pub small_text : List ℕ
@@ -53,6 +55,14 @@ named name = record { characters = name; is_borrowed = false }
 abbrev pub small_layer : {A B C : Type 0} → (given number : ℕ) → Layer (AnyKind A B C Replay)
 small_layer given number =
     layer_of (Fourth (record { events = drop given (small_events 1); anchor_offset = number })) (named (codes "root"))
+
+-- a stack of these parsers, of which nothing was looked at, with somebody who finds includes
+abbrev pub lone : {S R : Type 0} → List (Layer S) → R → Stacked S R
+lone layers resolver = record {
+  stack = record { layers = layers; emits_comments = false; peeked = None; end = None };
+  options = default_options;
+  resolver = Some resolver;
+}
 
 -- what a stack gives that includes the text behind the scalar of the same text
 abbrev pub small_life : List (Event × Span)

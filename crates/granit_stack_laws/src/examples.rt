@@ -10,7 +10,7 @@ ghost use Rattle.granit_lexemes.specs.Here.{Here};
 ghost use Rattle.granit_parser.specs.Parsing.{Parsing, StandsAt};
 ghost use Rattle.granit_recovery.specs.OneDocument.{document_starts};
 ghost use Rattle.granit_replay.specs.declared.resolver.Included.TheVariants.{Borrowed};
-ghost use Rattle.granit_stack_laws.specs.Examples.{named, small_events, small_layer, small_life};
+ghost use Rattle.granit_stack_laws.specs.Examples.{lone, named, small_events, small_layer, small_life};
 ghost use Rattle.granit_stack_laws.specs.Examples.{small_replay, small_text};
 ghost use Rattle.granit_stack_laws.specs.Fresh.{Happens};
 ghost use Rattle.granit_stack.specs.Including.{Includes, ReadsText, replayed};
@@ -46,11 +46,15 @@ where
     R: Resolver<'input>,
     ensures { (name : List ℕ) (text : Bor (List ℕ)) (r q : R) → chars text.now ≡ small_text
         → R.answers r name (Ok (Borrowed text)) q → R.errors q ≡ R.errors r
-        → Includes ⟦<AnyKind<A, B, C, ReplayParser<'input>> as StackedParser<'input>>⟧.offset_of
-        ⟦<AnyKind<A, B, C, ReplayParser<'input>> as StackedParser<'input>>⟧.sets_offset
-        ⟦<AnyKind<A, B, C, ReplayParser<'input>> as StackedParser<'input>>⟧.offset_over Fourth R.answers R.errors
-        default_options (small_layer 4 2 ∷ []) (Some r) name (Ok tt)
-        (layer_of (Fourth (small_replay 2)) (named name) ∷ small_layer 4 2 ∷ []) (Some q) }
+        → Includes (record {
+          offset_of = ⟦<AnyKind<A, B, C, ReplayParser<'input>> as StackedParser<'input>>⟧.offset_of;
+          sets_offset = ⟦<AnyKind<A, B, C, ReplayParser<'input>> as StackedParser<'input>>⟧.sets_offset;
+          offset_over = ⟦<AnyKind<A, B, C, ReplayParser<'input>> as StackedParser<'input>>⟧.offset_over;
+          again = Fourth;
+          answers = R.answers;
+          errors = R.errors;
+        }) (lone (small_layer 4 2 ∷ []) r) name (Ok tt)
+        (lone (layer_of (Fourth (small_replay 2)) (named name) ∷ small_layer 4 2 ∷ []) q) }
 {}
 
 /// A stack may give the events of the text, those of the text included in itself, and then go on.

@@ -39,9 +39,14 @@ where
     R: Resolver<'input>,
     ensures { IncludeComesThrough
         ⟦<AnyKind<A, B, C, ReplayParser<'input>> as StackedParser<'input>>⟧.steps
-        ⟦<AnyKind<A, B, C, ReplayParser<'input>> as StackedParser<'input>>⟧.offset_of
-        ⟦<AnyKind<A, B, C, ReplayParser<'input>> as StackedParser<'input>>⟧.sets_offset
-        ⟦<AnyKind<A, B, C, ReplayParser<'input>> as StackedParser<'input>>⟧.offset_over Fourth R.answers R.errors }
+        (record {
+          offset_of = ⟦<AnyKind<A, B, C, ReplayParser<'input>> as StackedParser<'input>>⟧.offset_of;
+          sets_offset = ⟦<AnyKind<A, B, C, ReplayParser<'input>> as StackedParser<'input>>⟧.sets_offset;
+          offset_over = ⟦<AnyKind<A, B, C, ReplayParser<'input>> as StackedParser<'input>>⟧.offset_over;
+          again = Fourth;
+          answers = R.answers;
+          errors = R.errors;
+        }) }
 {
     ids_begin_at_the_offset();
     a_text_with_one_start_is_one_document();

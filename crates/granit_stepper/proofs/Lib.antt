@@ -1,4 +1,14 @@
+pub mod AheadLemmas
+pub mod CalmLemmas
+pub mod FaultLemmas
+pub mod HeaderLemmas
+pub mod ItemLemmas
+pub mod LookLemmas
 pub mod NumberLemmas
+pub mod PassLemmas
+pub mod RefusalLemmas
 pub mod SettleLemmas
+pub mod SkipLemmas
 pub mod StateLemmas
 pub mod TurnLemmas
+pub mod WaitingLemmas

@@ -123,7 +123,7 @@ module _ (o : OptionsData) (m : StepState) (x : FlaggedItem × Option ℕ) (is :
     (none : m.pending ≡ []) (front : m.queue ≡ x.0 ∷ is) (goes : may_go m.reading x.0 is ≡ true)
     (line : x.1 ≡ line_behind m.reading is) where
   -- the turn that takes the anchor
-  last_turn : (e : Refused) → GetsLast o x m.parser e → NoNumberLeft o m e
+  pub last_turn : (e : Refused) → GetsLast o x m.parser e → NoNumberLeft o m e
   last_turn e g = record {
     before = m;
     turns = no_turn;

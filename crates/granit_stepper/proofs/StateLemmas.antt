@@ -1,6 +1,6 @@
 -- A stepper that is known to be in a state of the machine.
 use Rattle.std.proofs.Common.{◌≡◌, ℕ, ◌<◌, ◌-◌, ◌^◌, Bool, true, false, ◌||◌, List, [], ◌∷◌, ◌++◌, drop, Option, Some}
-use Rattle.std.proofs.Common.{None, is_some, Result, Ok, Err, refl, sym, ap, subst, ◌∙◌, ◌⊎◌, inl, inr}
+use Rattle.std.proofs.Common.{None, is_some, Ok, Err, refl, sym, ap, subst, ◌∙◌, ◌⊎◌, inl, inr}
 use Rattle.std.specs.List.{slice_get}
 use Rattle.std.specs.Option.{option_map}
 use Rattle.granit_base.specs.Place.{Mark, Unread}
@@ -17,7 +17,6 @@ use Rattle.granit_lexemes.proofs.PieceLemmas.{pieces_done}
 use Rattle.granit_machine.specs.Frames.{ParserState, parser_start}
 use Rattle.granit_machine.specs.Lexing.{FlaggedItem, lex_start}
 use Rattle.granit_machine.specs.Parser.{feed, take_item}
-use Rattle.granit_machine.specs.Reader.{LexState}
 use Rattle.granit_scanner.specs.Scans.{Scanning, Known, KnownBy, ReadsOn, TakesOldest, may_front_go}
 use Rattle.granit_stepper.proofs.NumberLemmas.{numberless, some_number}
 use Rattle.granit_stepper.specs.Numbers.{GetsLast, IsNumberless, RefusesNumber, anchor_start}
@@ -57,15 +56,16 @@ next_is o m after is = rw is (ap Ok (first_is after.pending after refl))
 
 module _ {I : Type 0} (unread : I → Unread → Type 0) where
   pub starts : (s : Stepping I) (h : Here) → Known unread s.scanner (lex_start h) []
-      → s.parser ≡ parser_start (mark_of h)
-      → s.first ≡ Some (mark_of h) → s.failed ≡ false → StandsIn unread s (start_from h)
-  starts s h known parser first going = record {
+      → s.parser ≡ parser_start (mark_of h) → s.first ≡ Some (mark_of h) → s.failed ≡ false → s.ahead ≡ None
+      → StandsIn unread s (start_from h)
+  starts s h known parser first going none_ahead = record {
     going = going;
     reading = known;
     parser = ap (λ (p : ParserState). record p { given = [] }) (sym parser);
     pending = sym (ap (λ (x : Option Mark). first_events x ++ s.parser.given) first
         ∙ ap (λ (p : ParserState). event_on StreamStart (mark_of h) ∷ p.given) parser);
     numbers = subst (λ (p : ParserState). p.count < 2 ^ 64 - 1) (sym parser) some_number;
+    none_ahead = none_ahead;
   }
 
   module _ (s : Stepping I) (m : StepState) (at : StandsIn unread s m) where
@@ -92,6 +92,7 @@ module _ {I : Type 0} (unread : I → Unread → Type 0) where
             parser = at.parser;
             pending = at.pending;
             numbers = at.numbers;
+            none_ahead = at.none_ahead;
           },
         )
 
@@ -99,8 +100,8 @@ module _ {I : Type 0} (unread : I → Unread → Type 0) where
         → TakesOldest unread r sc m.reading m.queue → TakesFree unread r (record s { scanner = sc }) m
     takes_free sc r goes given = free_by sc m.queue r refl goes given
 
-    nothing_given : s.first ≡ None → m.pending ≡ [] → m.parser ≡ s.parser
-    nothing_given told none = at.parser ∙ same_given s.parser (sym (waiting told) ∙ none)
+    pub nothing_waits : s.first ≡ None → m.pending ≡ [] → m.parser ≡ s.parser
+    nothing_waits told none = at.parser ∙ same_given s.parser (sym (waiting told) ∙ none)
 
     fed_as : (o : OptionsData) (x : FlaggedItem × Option ℕ) → s.first ≡ None → m.pending ≡ []
         → feed o x.0 x.1 m.parser ≡ (take_item o x.0.item x.0.begins_key x.1 s.parser >>= λ q. Ok
@@ -108,7 +109,7 @@ module _ {I : Type 0} (unread : I → Unread → Type 0) where
     unfolding feed
     fed_as o x told none =
         ap (λ (p : ParserState). take_item o x.0.item x.0.begins_key x.1 p >>= λ q. Ok
-        (q.given, record q { given = [] })) (nothing_given told none)
+        (q.given, record q { given = [] })) (nothing_waits told none)
 
     -- the parser takes an item
     pub feeds : (o : OptionsData) (x : FlaggedItem × Option ℕ) (p : ParserState) → s.first ≡ None → m.pending ≡ []
@@ -123,6 +124,7 @@ module _ {I : Type 0} (unread : I → Unread → Type 0) where
             parser = refl;
             pending = sym (ap (λ (y : Option Mark). first_events y ++ p.given) told);
             numbers = numbers;
+            none_ahead = at.none_ahead;
           },
           rw (fed_as o x told none, is) refl,
         )
@@ -164,6 +166,7 @@ module _ {I : Type 0} (unread : I → Unread → Type 0) where
             parser = at.parser;
             pending = at.pending;
             numbers = at.numbers;
+            none_ahead = at.none_ahead;
           },
           ap
               (λ (b : Bool). read_more o b m) known.0,
@@ -196,6 +199,7 @@ module _ {I : Type 0} (unread : I → Unread → Type 0) where
             parser = at.parser;
             pending = at.pending;
             numbers = at.numbers;
+            none_ahead = at.none_ahead;
           },
           ap (λ (b : Bool). read_more o b m) ended
               ∙ ap (λ (x : Option Refused). read_unless o x m) (no_fault_yet going)
@@ -215,7 +219,14 @@ module _ {I : Type 0} (unread : I → Unread → Type 0) where
         let pending = waits_first start first in
         let still = turn_waits_on o m (event_on StreamStart start) s.parser.given pending in (
           record m { pending = s.parser.given },
-          record { going = at.going; reading = at.reading; parser = at.parser; pending = refl; numbers = at.numbers },
+          record {
+            going = at.going;
+            reading = at.reading;
+            parser = at.parser;
+            pending = refl;
+            numbers = at.numbers;
+            none_ahead = at.none_ahead;
+          },
           next_is o m m (pieces_done step_size (step_turn o) m m still)
               ∙ ap (λ (es : List PlainEvent). Ok (slice_get es 0, record m { pending = drop 1 es })) pending
               ∙ ap (λ (x : PlainEvent). Ok (Some x, record m { pending = s.parser.given })) (sym told),
@@ -239,6 +250,7 @@ module _ {I : Type 0} (unread : I → Unread → Type 0) where
           pending = ap (drop 1) pending ∙ sym (ap (λ (q : ParserState). q.given) rest)
               ∙ sym (ap (λ (x : Option Mark). first_events x ++ p.given) told);
           numbers = subst (λ (q : ParserState). q.count < 2 ^ 64 - 1) (sym rest) at.numbers;
+          none_ahead = at.none_ahead;
         },
         next_is o m after settled.2
             ∙ ap (λ (x : Option PlainEvent). Ok (x, record after { pending = drop 1 after.pending }))

@@ -1,3 +1,5 @@
 pub mod Numbers
 pub mod Offset
+pub mod Recovering
+pub mod Refusals
 pub mod Stepping

@@ -1,5 +1,6 @@
 -- Anchors for which no number is left.
-use Rattle.std.specs.Prelude.{◌≡◌, ◌⊎◌, ℕ, ◌-◌, ◌^◌, Bool, true, false, List, [], ◌∷◌, Option, Some, None, Result, Ok}
+use Rattle.std.specs.Prelude.{◌≡◌, ◌<◌, ◌⊎◌, ℕ, ◌-◌, ◌^◌, Bool, true, false, List, [], ◌∷◌, Option, Some, None, Result}
+use Rattle.std.specs.Prelude.{Ok}
 use Rattle.std.specs.Prelude.{Err}
 use Rattle.granit_base.specs.Place.{Mark}
 use Rattle.granit_base.specs.Written.{Written}
@@ -12,6 +13,7 @@ use Rattle.granit_lexemes.specs.PlainEvent.{PlainEvent}
 use Rattle.granit_machine.specs.Frames.{ParserState}
 use Rattle.granit_machine.specs.Lexing.{FlaggedItem}
 use Rattle.granit_machine.specs.Parser.{feed}
+use Rattle.granit_stepper.specs.Stepping.{Stepping}
 use Rattle.granit_steps.specs.Steps.{StepState, step_turn}
 
 -- ---- in the machine
@@ -81,3 +83,10 @@ abbrev pub IsNumberless : (renumbered : Bool) → Option Mark → Refused → Ty
 IsNumberless true (Some start) e = e ≡ fault_at AnchorCountOverflow start
 IsNumberless true None e = e.kind ≡ NoMemory
 IsNumberless false start e = e.kind ≡ NoMemory
+
+-- what was answered, unless the greatest number was given
+abbrev pub UnlessNumberless : {I : Type 0} → Stepping I → (fed : Result (Unit {0}) Refused) → Option Mark
+    → Result (Unit {0}) Refused → Type 0
+UnlessNumberless s fed start (Ok u) = (fed ≡ Ok u) × (s.parser.count < 2 ^ 64 - 1)
+UnlessNumberless s fed start (Err e) =
+    (fed ≡ Err e) ⊎ ((fed ≡ Ok tt) × (s.parser.count ≡ 2 ^ 64 - 1) × IsNumberless s.renumbered start e)

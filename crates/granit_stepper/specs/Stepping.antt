@@ -11,16 +11,19 @@ use Rattle.granit_machine.specs.Lexing.{FlaggedItem}
 use Rattle.granit_machine.specs.Parser.{feed}
 use Rattle.granit_scanner.specs.Scans as scans
 use Rattle.granit_scanner.specs.Scans.{Scanning, Known, may_front_go}
+use Rattle.granit_stepper.specs.declared.refusal.Refusal.{Refusal}
 use Rattle.granit_steps.specs.Steps.{StepState, Turn, line_behind, may_go, with_fed}
 
--- a scanner, the parser's state, where the stream starts if that isn't told yet, whether a call failed, and whether the
--- number of a next anchor was ever set
+-- a scanner, the parser's state, where the stream starts if that isn't told yet, whether a call failed, whether the
+-- number of a next anchor was ever set, the refusal of a turn that was made ahead, and where the last one was refused
 pub record Stepping (I : Type 0) : Type 0 where
   pub scanner : Scanning I
   pub parser : ParserState
   pub first : Option Mark
   pub failed : Bool
   pub renumbered : Bool
+  pub ahead : Option Refused
+  pub refusal : Option Refusal
 
 -- the same, with handles that stay over documents or not
 abbrev pub keeping : {I : Type 0} → Bool → Stepping I → Stepping I
@@ -32,14 +35,15 @@ abbrev pub first_events : Option Mark → List PlainEvent
 first_events None = []
 first_events (Some m) = event_on StreamStart m ∷ []
 
--- a stepper is known to be in a state of the machine: no call failed, what wasn't given yet waits in the parser, and no
--- anchor got the greatest number
+-- a stepper is known to be in a state of the machine: no call failed and no turn that was made ahead, what wasn't given
+-- yet waits in the parser, and no anchor got the greatest number
 pub record StandsIn {I : Type 0} (unread : I → Unread → Type 0) (s : Stepping I) (m : StepState) : Type 0 where
   pub going : s.failed ≡ false
   pub reading : Known unread s.scanner m.reading m.queue
   pub parser : m.parser ≡ record (s.parser) { given = [] }
   pub pending : m.pending ≡ first_events s.first ++ s.parser.given
   pub numbers : s.parser.count < 2 ^ 64 - 1
+  pub none_ahead : s.ahead ≡ None
 
 -- what no turn changes
 pub record Keeps {I : Type 0} (old new : Stepping I) : Type 0 where

@@ -2,6 +2,8 @@
 #![tactic(auto)]
 
 mod offset;
+mod recovery;
+mod refusal;
 mod stepper;
 
 pub use stepper::Stepper;

@@ -6,9 +6,9 @@ ghost use Rattle.granit_stepper.specs.Stepping.{StandsIn};
 ghost use Rattle.granit_steps.specs.Steps.{StepState};
 
 use crate::stepper::Stepper;
-use granit_input::Input;
+use granit_input::BorrowedInput;
 
-impl<'input, T: Input> Stepper<'input, T> {
+impl<'input, T: BorrowedInput<'input>> Stepper<'input, T> {
     /// The number that a next anchor gets, held at the greatest one.
     pub fn anchor_offset(&self) -> usize
         ensures { result ≡ min (suc self.now.parser.count) (2 ^ 64 - 1) }
@@ -27,5 +27,12 @@ impl<'input, T: Input> Stepper<'input, T> {
     {
         self.parser.set_anchor_offset(offset);
         self.renumbered = true;
+    }
+
+    /// How many comments may be kept.
+    pub fn max_comments(&self) -> usize
+        ensures { result ≡ self.now.scanner.options.max_buffered_comment_events }
+    {
+        self.scanner.options().max_buffered_comment_events
     }
 }

@@ -1,23 +1,30 @@
 //! An input that is read into events, one for each call.
-ghost use Rattle.std.specs.Prelude.{◌≡◌, ◌≤◌, ◌||◌, [], true, false, Option, None, Ok, IfErr, IfSome, is_some};
+ghost use Rattle.std.specs.Prelude.{◌≡◌, ◌≤◌, ◌||◌, [], true, false, Option, None, Ok, Err, IfErr, IfSome, is_some};
 ghost use Rattle.std.specs.Option.{option_map};
 ghost use Rattle.granit_base.specs.Place.{Unread};
 ghost use Rattle.granit_cursor.specs.Reading.{GoesOnward};
 ghost use Rattle.granit_cursor.specs.Reading.{GivesTo, Moves, Stands};
 ghost use Rattle.granit_error.specs.FaultKind.{FaultKind};
+ghost use Rattle.granit_error.specs.Refused.{Refused};
 ghost use Rattle.granit_error.specs.OptionsView.{options_of};
 ghost use Rattle.granit_event.specs.Events.{plain_event};
+ghost use Rattle.granit_frames.specs.Outside.{NoneWaitsOutside};
 ghost use Rattle.granit_input.specs.Origin.{error_given, Gave, Goes};
 ghost use Rattle.granit_lexemes.specs.Here.{Here, first_place, mark_of};
 ghost use Rattle.granit_items.specs.ItemViews.{item_view, kind_view};
+ghost use Rattle.granit_restart.specs.Turned.{Turned};
 ghost use Rattle.granit_scanner.specs.Scans.{front_view, may_front_go};
 ghost use Rattle.granit_stepper.specs.Numbers as numbers;
-ghost use Rattle.granit_stepper.specs.Numbers.{GetsLast, GivesOr, IsNumberless, RefusesNumber};
+ghost use Rattle.granit_stepper.specs.Numbers.{GetsLast, GivesOr, IsNumberless, RefusesNumber, UnlessNumberless};
+ghost use Rattle.granit_stepper.specs.Refusals.{GivesAhead, HoldsRefusal, RefusedIn, RefusesIn, RefusesItem};
+ghost use Rattle.granit_stepper.specs.Refusals.{RefusesLater, SettlesAhead, TurnsAhead};
+ghost use Rattle.granit_stepper.specs.Refusals as refusals;
 ghost use Rattle.granit_stepper.specs.Stepping as spec;
 ghost use Rattle.granit_stepper.specs.Stepping.{Keeps, StandsIn, TakesFree};
 ghost use Rattle.granit_steps.specs.Steps as steps;
 ghost use Rattle.granit_steps.specs.Steps.{StepState};
 
+use crate::refusal::{Before, Refusal, is_mark};
 use granit_base::{Marker, NoMemory, Span};
 use granit_error::{ErrorKind, Options, ScanError};
 use granit_event::Event;
@@ -33,14 +40,18 @@ use std::marker::Model;
 /// An input that is read into events, one for each call.
 #[derive(Drop)]
 pub struct Stepper<'input, T: Input> {
-    scanner: Scanner<'input, T>,
+    pub(crate) scanner: Scanner<'input, T>,
     pub(crate) parser: ParserState<'input>,
     // Where the stream starts, until that is told.
-    first: Option<Marker>,
+    pub(crate) first: Option<Marker>,
     // A call failed: nothing more is given.
-    failed: bool,
+    pub(crate) failed: bool,
     // The number of a next anchor was set.
     pub(crate) renumbered: bool,
+    // The refusal of a turn that was made ahead.
+    pub(crate) ahead: Option<ScanError>,
+    // Where the last turn was refused, and what stood before it.
+    pub(crate) refusal: Option<Refusal<'input>>,
 }
 
 impl<'input, T: Input> Model for Stepper<'input, T> {
@@ -54,6 +65,8 @@ impl<'input, T: Input> Model for Stepper<'input, T> {
       first = s.first;
       failed = s.failed;
       renumbered = s.renumbered;
+      ahead = s.ahead;
+      refusal = s.refusal;
     } };
 }
 
@@ -74,6 +87,8 @@ impl<'input, T: BorrowedInput<'input>> Stepper<'input, T> {
             first: Some(start),
             failed: false,
             renumbered: false,
+            ahead: None,
+            refusal: None,
         }
     }
 
@@ -115,6 +130,11 @@ impl<'input, T: BorrowedInput<'input>> Stepper<'input, T> {
         ensures known { (m : StepState) → StandsIn T.unread self.old m → GivesOr (option_map plain_event) result
             (StandsIn T.unread self.new) (steps.next_event self.old.scanner.options m)
             (RefusesNumber self.old.renumbered self.old.scanner.options m) }
+        ensures refused { (m : StepState) → StandsIn T.unread self.old m → Turned self.old.scanner.options m
+            → RefusesLater T.unread self.old.scanner.options result self.new m }
+        ensures ahead { (m : StepState) → HoldsRefusal T.unread self.old m
+            → GivesAhead T.unread (option_map plain_event) result self.new m }
+        ensures first { self.old.failed ≡ false → self.new.first ≡ None }
         ensures failed { IfErr result (λ e. self.new.failed ≡ true) }
         ensures over { self.old.failed ≡ true → (result ≡ Ok None) × (self.new ≡ self.old) }
         ensures options { self.new.scanner.options ≡ self.old.scanner.options }
@@ -147,6 +167,12 @@ impl<'input, T: BorrowedInput<'input>> Stepper<'input, T> {
         ensures here { (h : Here) → Stands T.unread self.old.scanner.cursor h
             → IfSome result (λ e. e.mark ≡ mark_of h) }
         ensures known { (m : StepState) → StandsIn T.unread self.old m → result ≡ None → StandsIn T.unread self.new m }
+        ensures refused { (m : StepState) (e : Refused) → RefusedIn T.unread self.old m e → result ≡ None
+            → RefusedIn T.unread self.new m e }
+        ensures held { (m : StepState) → HoldsRefusal T.unread self.old m → result ≡ None
+            → HoldsRefusal T.unread self.new m }
+        ensures first { self.new.first ≡ self.old.first }
+        ensures ended { self.new.refusal ≡ self.old.refusal }
         ensures failed { self.new.failed ≡ (self.old.failed || is_some result) }
         ensures options { self.new.scanner.options ≡ self.old.scanner.options }
         ensures renumbered { self.new.renumbered ≡ self.old.renumbered }
@@ -193,6 +219,11 @@ impl<'input, T: BorrowedInput<'input>> Stepper<'input, T> {
             → GivesOr (option_map plain_event) result (StandsIn T.unread self.new)
             (steps.next_event self.old.scanner.options m)
             (RefusesNumber self.old.renumbered self.old.scanner.options m) }
+        ensures refused { (m : StepState) → StandsIn T.unread self.old m → self.old.first ≡ None
+            → Turned self.old.scanner.options m → RefusesLater T.unread self.old.scanner.options result self.new m }
+        ensures ahead { (m : StepState) → HoldsRefusal T.unread self.old m
+            → GivesAhead T.unread (option_map plain_event) result self.new m }
+        ensures first { self.new.first ≡ self.old.first }
         ensures failed { IfErr result (λ e. self.new.failed ≡ true) }
         ensures options { self.new.scanner.options ≡ self.old.scanner.options }
         ensures renumbered { self.new.renumbered ≡ self.old.renumbered }
@@ -212,6 +243,25 @@ impl<'input, T: BorrowedInput<'input>> Stepper<'input, T> {
         ensures known { (m : StepState) → StandsIn T.unread self.old m → self.old.first ≡ None
             → GivesOr spec.no_events result (StandsIn T.unread self.new) (steps.settle self.old.scanner.options m)
             (RefusesNumber self.new.renumbered self.old.scanner.options m) }
+        ensures refused { (m : StepState) → StandsIn T.unread self.old m → self.old.first ≡ None
+            → Turned self.old.scanner.options m → RefusesLater T.unread self.old.scanner.options result self.new m }
+        ensures ahead { SettlesAhead result self.old self.new }
+        ensures keeps { Keeps self.old self.new }
+        ensures moves { Moves T.unread T.left T.origin self.old.scanner.cursor self.new.scanner.cursor }
+    {
+        if self.turn(alloc)? {
+            return self.settle_on(alloc);
+        }
+        Ok(())
+    }
+
+    /// The same behind a turn.
+    fn settle_on(&mut self, alloc: Global) -> Result<(), ScanError>
+        ensures known { (m : StepState) → StandsIn T.unread self.old m → self.old.first ≡ None
+            → GivesOr spec.no_events result (StandsIn T.unread self.new) (steps.settle self.old.scanner.options m)
+            (RefusesNumber self.new.renumbered self.old.scanner.options m) }
+        ensures refused { (m : StepState) → StandsIn T.unread self.old m → self.old.first ≡ None
+            → Turned self.old.scanner.options m → RefusesLater T.unread self.old.scanner.options result self.new m }
         ensures keeps { Keeps self.old self.new }
         ensures moves { Moves T.unread T.left T.origin self.old.scanner.cursor self.new.scanner.cursor }
     {
@@ -228,14 +278,49 @@ impl<'input, T: BorrowedInput<'input>> Stepper<'input, T> {
     /// nothing is left.
     fn turn(&mut self, alloc: Global) -> Result<bool, ScanError>
         ensures known { (m : StepState) → StandsIn T.unread self.old m → self.old.first ≡ None
-            → GivesOr spec.turn_view result (StandsIn T.unread self.new) (steps.step_turn self.old.scanner.options m)
+            → GivesOr spec.turn_view result (StandsIn T.unread self.new)
+            (steps.step_turn self.old.scanner.options m)
             (RefusesNumber self.new.renumbered self.old.scanner.options m) }
+        ensures refused { (m : StepState) → StandsIn T.unread self.old m → self.old.first ≡ None
+            → NoneWaitsOutside m.parser → RefusesIn T.unread result self.new m }
+        ensures ahead { TurnsAhead result self.old self.new }
         ensures keeps { Keeps self.old self.new }
         ensures moves { Moves T.unread T.left T.origin self.old.scanner.cursor self.new.scanner.cursor }
     {
         if self.parser.has_event() {
             return Ok(false);
         }
+        self.advance(alloc)
+    }
+
+    /// The same where no event waits. A turn that was made ahead and refused is refused by it.
+    pub(crate) fn advance(&mut self, alloc: Global) -> Result<bool, ScanError>
+        ensures known { (m : StepState) → StandsIn T.unread self.old m → self.old.first ≡ None → m.pending ≡ []
+            → GivesOr spec.turn_view result (StandsIn T.unread self.new)
+            (steps.step_turn self.old.scanner.options m)
+            (RefusesNumber self.new.renumbered self.old.scanner.options m) }
+        ensures refused { (m : StepState) → StandsIn T.unread self.old m → self.old.first ≡ None → m.pending ≡ []
+            → NoneWaitsOutside m.parser → RefusesIn T.unread result self.new m }
+        ensures ahead { IfSome self.old.ahead (λ f. (result ≡ Err f) × (self.new ≡ record self.old { ahead = None })) }
+        ensures keeps { Keeps self.old self.new }
+        ensures moves { Moves T.unread T.left T.origin self.old.scanner.cursor self.new.scanner.cursor }
+    {
+        match self.ahead.take() {
+            Some(error) => Err(error),
+            None => self.advance_on(alloc),
+        }
+    }
+
+    fn advance_on(&mut self, alloc: Global) -> Result<bool, ScanError>
+        ensures known { (m : StepState) → StandsIn T.unread self.old m → self.old.first ≡ None → m.pending ≡ []
+            → GivesOr spec.turn_view result (StandsIn T.unread self.new)
+            (steps.step_turn self.old.scanner.options m)
+            (RefusesNumber self.new.renumbered self.old.scanner.options m) }
+        ensures refused { (m : StepState) → StandsIn T.unread self.old m → self.old.first ≡ None → m.pending ≡ []
+            → NoneWaitsOutside m.parser → RefusesIn T.unread result self.new m }
+        ensures keeps { Keeps self.old self.new }
+        ensures moves { Moves T.unread T.left T.origin self.old.scanner.cursor self.new.scanner.cursor }
+    {
         match self.take_free() {
             Some(front) => self.take_item(alloc, front),
             None => self.read_more(alloc),
@@ -257,32 +342,107 @@ impl<'input, T: BorrowedInput<'input>> Stepper<'input, T> {
         }
     }
 
-    /// The parser takes an item; no anchor may get the greatest number by it.
+    /// The parser takes an item; no anchor may get the greatest number by it. Where it is refused it gives no event.
     fn take_item(&mut self, alloc: Global, front: Front<'input>) -> Result<bool, ScanError>
         ensures known { (m : StepState) → StandsIn T.unread self.old m → self.old.first ≡ None → m.pending ≡ []
             → GivesOr spec.turn_view result (StandsIn T.unread self.new)
             (spec.feed_item self.old.scanner.options (front_view front.entry) m)
             (λ e. (self.new.renumbered ≡ true)
             × GetsLast self.old.scanner.options (front_view front.entry) m.parser e) }
+        ensures refused { (m : StepState) → StandsIn T.unread self.old m → self.old.first ≡ None → m.pending ≡ []
+            → NoneWaitsOutside m.parser → RefusesItem T.unread (front_view front.entry) result self.new m }
+        ensures keeps { Keeps self.old self.new }
+        ensures scanner { self.new.scanner ≡ self.old.scanner }
+    {
+        if is_mark(&front.queued.item) {
+            return self.take_mark(alloc, front);
+        }
+        self.take_other(alloc, front)
+    }
+
+    /// The same of any item, of which a mark is kept for what comes of its refusal.
+    fn take_mark(&mut self, alloc: Global, front: Front<'input>) -> Result<bool, ScanError>
+        ensures known { (m : StepState) → StandsIn T.unread self.old m → self.old.first ≡ None → m.pending ≡ []
+            → GivesOr spec.turn_view result (StandsIn T.unread self.new)
+            (spec.feed_item self.old.scanner.options (front_view front.entry) m)
+            (λ e. (self.new.renumbered ≡ true)
+            × GetsLast self.old.scanner.options (front_view front.entry) m.parser e) }
+        ensures refused { (m : StepState) → StandsIn T.unread self.old m → self.old.first ≡ None → m.pending ≡ []
+            → NoneWaitsOutside m.parser → RefusesItem T.unread (front_view front.entry) result self.new m }
+        ensures keeps { Keeps self.old self.new }
+        ensures scanner { self.new.scanner ≡ self.old.scanner }
+    {
+        let Front { queued, next_line } = front;
+        let Queued {
+            item,
+            begins_key: begins,
+        } = queued;
+        let anchor = anchor_start(&item);
+        let refusal = Refusal::at_item(alloc, &self.parser, &item)?;
+        let options = self.scanner.options();
+        let fed = feed(&mut self.parser, alloc, options, item, begins, next_line);
+        match self.unless_numberless(fed, anchor) {
+            Ok(()) => {
+                drop(refusal);
+                Ok(true)
+            }
+            Err(error) => {
+                self.parser.drop_events();
+                self.refusal = refusal.by(&error);
+                Err(error)
+            }
+        }
+    }
+
+    /// The same of an item that is no mark.
+    fn take_other(&mut self, alloc: Global, front: Front<'input>) -> Result<bool, ScanError>
+        requires { refusals.mark_in (front_view front).0.item ≡ None }
+        ensures known { (m : StepState) → StandsIn T.unread self.old m → self.old.first ≡ None → m.pending ≡ []
+            → GivesOr spec.turn_view result (StandsIn T.unread self.new)
+            (spec.feed_item self.old.scanner.options (front_view front.entry) m)
+            (λ e. (self.new.renumbered ≡ true)
+            × GetsLast self.old.scanner.options (front_view front.entry) m.parser e) }
+        ensures refused { (m : StepState) → StandsIn T.unread self.old m → self.old.first ≡ None → m.pending ≡ []
+            → NoneWaitsOutside m.parser → RefusesItem T.unread (front_view front.entry) result self.new m }
         ensures keeps { Keeps self.old self.new }
         ensures scanner { self.new.scanner ≡ self.old.scanner }
     {
         let Front { queued, next_line } = front;
         let Queued { item, begins_key } = queued;
         let anchor = anchor_start(&item);
+        let before = Before::at_item(&self.parser, &item);
         let options = self.scanner.options();
-        feed(
+        let fed = feed(
             &mut self.parser,
             alloc,
             options,
             item,
             begins_key,
             next_line,
-        )?;
+        );
+        match self.unless_numberless(fed, anchor) {
+            Ok(()) => Ok(true),
+            Err(error) => {
+                self.parser.drop_events();
+                self.refusal = before.by(&error);
+                Err(error)
+            }
+        }
+    }
+
+    /// What was answered, unless an anchor got the greatest number by it.
+    fn unless_numberless(
+        &self,
+        fed: Result<(), ScanError>,
+        anchor: Option<Marker>,
+    ) -> Result<(), ScanError>
+        ensures { UnlessNumberless self.now fed anchor result }
+    {
+        fed?;
         if self.parser.is_numbered_out() {
             return Err(self.numberless(anchor));
         }
-        Ok(true)
+        Ok(())
     }
 
     /// Why an anchor may not have the greatest number: none is left behind it, or, where no number was ever set, there
@@ -307,6 +467,8 @@ impl<'input, T: BorrowedInput<'input>> Stepper<'input, T> {
         ensures known { (m : StepState) → StandsIn T.unread self.old m → may_front_go m.reading m.queue ≡ false
             → GivesTo spec.turn_view result (StandsIn T.unread self.new)
             (steps.read_more self.old.scanner.options m.reading.ended m) }
+        ensures refused { (m : StepState) → StandsIn T.unread self.old m → self.old.first ≡ None → m.pending ≡ []
+            → may_front_go m.reading m.queue ≡ false → RefusesIn T.unread result self.new m }
         ensures keeps { Keeps self.old self.new }
         ensures moves { Moves T.unread T.left T.origin self.old.scanner.cursor self.new.scanner.cursor }
     {
@@ -322,12 +484,17 @@ impl<'input, T: BorrowedInput<'input>> Stepper<'input, T> {
         ensures known { (m : StepState) → StandsIn T.unread self.old m → steps.is_over m.reading ≡ true
             → GivesTo spec.turn_view result (StandsIn T.unread self.new)
             (steps.read_more self.old.scanner.options m.reading.ended m) }
+        ensures refused { (m : StepState) → StandsIn T.unread self.old m → self.old.first ≡ None → m.pending ≡ []
+            → may_front_go m.reading m.queue ≡ false → RefusesIn T.unread result self.new m }
         ensures keeps { Keeps self.old self.new }
         ensures cursor { self.new.scanner.cursor ≡ self.old.scanner.cursor }
     {
         match self.scanner.take_fault() {
             None => Ok(false),
-            Some(fault) => Err(fault),
+            Some(fault) => {
+                self.refusal = Some(Refusal::at_read(&self.parser));
+                Err(fault)
+            }
         }
     }
 }

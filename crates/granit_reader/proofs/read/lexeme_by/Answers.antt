@@ -1,5 +1,12 @@
+use Rattle.std.proofs.Common.{◌≡◌, ◌∙◌, ℕ, true, false, sym, ap, subst}
+use Rattle.granit_base.specs.Place.{Mark}
+use Rattle.granit_error.specs.OptionsView.{options_of}
+use Rattle.granit_machine.specs.Columns.{closed_at}
+use Rattle.granit_machine.specs.Laid.{Laid}
 use Rattle.granit_machine.specs.Reader.{lexeme_by}
 use Rattle.granit_items.specs.declared.item.Found.{Found}
+use Rattle.granit_reader.specs.SortViews.{placed_view}
+use Rattle.granit_reader.specs.WithoutMemory.{placed_takes_none}
 use Rattle.granit_reader.proofs.ReadLemmas.{found_alone}
 use Rattle.granit_reader.proofs.read.lexeme_by.Goals as goal
 
@@ -30,3 +37,21 @@ returns-in-DirectiveSign-clause-here g c = λ h k.
     let found : Found = record { lexeme = c.directive.new.found; note = c.args.found.now.note } in
     let read = c.directive.ensures.here h k in
     rw c.in-DirectiveSign.is (found_alone found c.directive.result _ _ c.requires.no_note read)
+
+-- ---- memory
+
+pub returns-in-EndMark-clause-memory : goal.returns-in-EndMark-clause-memory
+returns-in-EndMark-clause-memory g c = λ unasked h k none. c.document_end.ensures.memory unasked
+
+pub returns-in-DirectiveSign-clause-memory : goal.returns-in-DirectiveSign-clause-memory
+returns-in-DirectiveSign-clause-memory g c = λ unasked h k none.
+    let some : false ≡ true = rw c.in-DirectiveSign.is at none in absurd cc
+
+pub returns-in-Placed-clause-memory : goal.returns-in-Placed-clause-memory
+returns-in-Placed-clause-memory g c = λ unasked h k none.
+    let column : c.col-column.result ≡ h.place.column = c.col-column.ensures
+    ∙ ap (λ (m : Mark). m.place.column) (c.mark.ensures.here h k) in
+    let closed = c.close_at.ensures ∙ ap (λ (n : ℕ). closed_at n c.args.layouts.now) column in
+    c.lexeme_in_column.ensures.memory unasked h k (subst (λ (l : Laid).
+    placed_takes_none (options_of c.args.options.now) (placed_view c.in-Placed.sort) h l ≡ true) (sym closed)
+    (rw c.in-Placed.is at none))

@@ -1,12 +1,15 @@
-use Rattle.std.proofs.Common.{◌≡◌, ◌∙◌, ℕ, false, sym, ap, subst}
+use Rattle.std.proofs.Common.{◌≡◌, ◌∙◌, ℕ, true, false, sym, ap, subst}
 use Rattle.granit_base.specs.Place.{Mark}
 use Rattle.granit_error.specs.OptionsView.{options_of}
+use Rattle.granit_machine.specs.Laid.{Laid}
 use Rattle.granit_machine.specs.Reader.{is_strict_outside}
 use Rattle.granit_machine.specs.ReaderState.{Read}
 use Rattle.granit_steps.specs.Steps.{incoming}
 use Rattle.granit_cursor.specs.Reading.{GivesTo, coded}
 use Rattle.granit_content.specs.Reads.{IsAt, found_in}
 use Rattle.granit_reader.specs.SortViews.{placed_view}
+use Rattle.granit_reader.specs.WithoutMemory.{placed_takes_none}
+use Rattle.granit_reader.proofs.MemoryLemmas.{begins_no_node}
 use Rattle.granit_reader.proofs.ReadLemmas.{placed_read}
 use Rattle.granit_reader.proofs.read.lexeme_in_column.Goals as goal
 
@@ -23,3 +26,10 @@ returns-clause-here g c = λ h k.
     subst (λ (r : Read). GivesTo (found_in c.lexeme_of.new.found) c.lexeme_of.result
     (IsAt g.T.Input.unread c.lexeme_of.new.at c.lexeme_of.new.layouts) (coded (incoming o.emit_comments) r))
     (sym is) (c.lexeme_of.ensures.here h k)
+
+pub returns-clause-memory : goal.returns-clause-memory
+returns-clause-memory g c = λ unasked h k none.
+    let same = c.begin_node.ensures.here h k
+    ∙ begins_no_node (options_of c.args.options.now) (placed_view c.args.sort) h c.args.layouts.now none in
+    c.lexeme_of.ensures.memory unasked h k (subst (λ (l : Laid).
+    placed_takes_none (options_of c.args.options.now) (placed_view c.args.sort) h l ≡ true) (sym same) none)

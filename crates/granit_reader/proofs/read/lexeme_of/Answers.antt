@@ -1,5 +1,7 @@
+use Rattle.std.proofs.Common.{◌≡◌, true, false, inl, inr}
 use Rattle.granit_error.specs.OptionsView.{options_of}
 use Rattle.granit_items.specs.declared.item.Found.{Found}
+use Rattle.granit_reader.proofs.MemoryLemmas.{no_entry, no_pair}
 use Rattle.granit_reader.proofs.ReadLemmas.{found_alone}
 use Rattle.granit_reader.proofs.read.lexeme_of.Goals as goal
 
@@ -68,3 +70,71 @@ returns-in-PlainSign-clause-here g c = λ h k.
     let found : Found = record { lexeme = c.plain_lexeme.new.found; note = c.args.found.now.note } in
     let read = c.plain_lexeme.ensures.here h k in
     rw c.in-PlainSign.is (found_alone found c.plain_lexeme.result _ _ c.requires.no_note read)
+
+-- ---- memory
+
+pub returns-in-OpenSign-clause-memory : goal.returns-in-OpenSign-clause-memory
+returns-in-OpenSign-clause-memory g c = λ unasked h k none.
+    let some : false ≡ true = rw c.in-OpenSign.is at none in absurd cc
+
+pub returns-in-AliasSign-clause-memory : goal.returns-in-AliasSign-clause-memory
+returns-in-AliasSign-clause-memory g c = λ unasked h k none.
+    let some : false ≡ true = rw c.in-AliasSign.is at none in absurd cc
+
+pub returns-in-AnchorSign-clause-memory : goal.returns-in-AnchorSign-clause-memory
+returns-in-AnchorSign-clause-memory g c = λ unasked h k none.
+    let some : false ≡ true = rw c.in-AnchorSign.is at none in absurd cc
+
+pub returns-in-TagSign-clause-memory : goal.returns-in-TagSign-clause-memory
+returns-in-TagSign-clause-memory g c = λ unasked h k none.
+    let some : false ≡ true = rw c.in-TagSign.is at none in absurd cc
+
+pub returns-in-BlockSign-clause-memory : goal.returns-in-BlockSign-clause-memory
+returns-in-BlockSign-clause-memory g c = λ unasked h k none.
+    let some : false ≡ true = rw c.in-BlockSign.is at none in absurd cc
+
+pub returns-in-QuoteSign-clause-memory : goal.returns-in-QuoteSign-clause-memory
+returns-in-QuoteSign-clause-memory g c = λ unasked h k none.
+    let some : false ≡ true = rw c.in-QuoteSign.is at none in absurd cc
+
+pub returns-in-PlainSign-clause-memory : goal.returns-in-PlainSign-clause-memory
+returns-in-PlainSign-clause-memory g c = λ unasked h k none.
+    let some : false ≡ true = rw c.in-PlainSign.is at none in absurd cc
+
+pub returns-in-CloseSign-clause-memory : goal.returns-in-CloseSign-clause-memory
+returns-in-CloseSign-clause-memory g c = λ unasked h k none.
+    c.closer.ensures.memory unasked
+
+pub returns-in-CommaSign-clause-memory : goal.returns-in-CommaSign-clause-memory
+returns-in-CommaSign-clause-memory g c = λ unasked h k none.
+    c.comma.ensures.memory unasked
+
+pub returns-in-DashSign-clause-memory : goal.returns-in-DashSign-clause-memory
+returns-in-DashSign-clause-memory g c = λ unasked h k none.
+    let r = c.args.at.now in
+    let opens = no_entry (options_of c.args.options.now) h r.place r.begins_line r.tab c.args.layouts.now k.1 k.2 k.3
+    (rw c.in-DashSign.is at none) in
+    elim opens [
+      | inl begins ↦ c.dash.ensures.memory begins
+      | inr column ↦ c.dash.ensures.column unasked column
+    ]
+
+pub returns-in-QuestionSign-clause-memory : goal.returns-in-QuestionSign-clause-memory
+returns-in-QuestionSign-clause-memory g c = λ unasked h k none.
+    let r = c.args.at.now in
+    let opens = no_entry (options_of c.args.options.now) h r.place r.begins_line r.tab c.args.layouts.now k.1 k.2 k.3
+    (rw c.in-QuestionSign.is at none) in
+    elim opens [
+      | inl begins ↦ c.question.ensures.memory begins
+      | inr column ↦ c.question.ensures.column unasked column
+    ]
+
+pub returns-in-ColonSign-clause-memory : goal.returns-in-ColonSign-clause-memory
+returns-in-ColonSign-clause-memory g c = λ unasked h k none.
+    let r = c.args.at.now in
+    let opens = no_pair (options_of c.args.options.now) h r.place r.begins_line r.tab c.args.layouts.now k.1 k.2 k.3
+    (rw c.in-ColonSign.is at none) in
+    elim opens [
+      | inl begins ↦ c.colon.ensures.memory unasked begins
+      | inr column ↦ c.colon.ensures.column unasked column
+    ]

@@ -35,3 +35,13 @@ returns-clause-here g c = λ h k.
       rw (c.if-ended.false, c.is_end.ensures)
           (turn_given o s o.emit_comments items.0 (found_items c.read.new.found) one.0 items.1 items.2),
     )
+
+pub returns-in_err-read-clause-met : goal.returns-in_err-read-clause-met
+returns-in_err-read-clause-met g c = λ h k.
+    let p = err_from_is_err_and c.from_residual.result c.from_residual.ensures.1 in
+    rw (p.1, p.2) (c.in_err-read.ensures.met h k)
+
+pub returns-in_err-read-clause-memory : goal.returns-in_err-read-clause-memory
+returns-in_err-read-clause-memory g c = λ unasked h k none.
+    let p = err_from_is_err_and c.from_residual.result c.from_residual.ensures.1 in
+    rw (p.1, p.2) (c.in_err-read.ensures.memory unasked h k (rw c.if-ended.false at none))

@@ -1,4 +1,5 @@
 use Rattle.std.proofs.Common.{sym, ap, subst, refl, ◌∙◌}
+use Rattle.std.proofs.lemmas.Result.{err_from_is_err_and}
 use Rattle.granit_base.specs.Place.{Mark}
 use Rattle.granit_cursor.specs.Reading.{GivesTo, coded}
 use Rattle.granit_error.specs.OptionsView.{options_of}
@@ -34,11 +35,16 @@ returns-clause-here g c = λ h k.
     let flow = sym c.is_in_flow.ensures ∙ c.if-is_in_flow.false in
     let allowed = sym (rw (c.begins_line.ensures ∙ sym k.2, c.tab.ensures ∙ sym k.3) at c.is_allowed.ensures)
     ∙ c.if-not-is_allowed.false in
-    let column = c.in_ok-column.ensures.column ∙ ap (λ (m : Mark). m.place.column) mark in
-    let entered = rw (column, mark) at c.in_ok-enter.ensures in
+    let column = c.col.ensures ∙ ap (λ (m : Mark). m.place.column) mark in
+    let entered = rw (column, mark) at c.in_ok-enter.ensures.left in
     let is = question_entered o c.args.ends h l c.enter.new.self flow allowed entered
     ∙ ap (λ (x : Lexeme). question_from o x (step h) c.enter.new.self) (sym signed.1) in
     subst (λ (r : Read). GivesTo (lexeme_in c.behind_question.new.found) c.behind_question.result
     (IsAt g.T.Input.unread c.behind_question.new.at c.behind_question.new.layouts)
     (coded (incoming o.emit_comments) r)) (sym is)
     (c.behind_question.ensures.here (ap (λ (x : Lexeme). x.tail) signed.1) (step h) signed.0)
+
+pub returns-in_err-enter-clause-column : goal.returns-in_err-enter-clause-column
+returns-in_err-enter-clause-column g c = λ unasked none.
+    let p = err_from_is_err_and c.from_residual.result c.from_residual.ensures.1 in
+    rw (p.1, p.2) (c.in_err-enter.ensures.memory (rw (c.col.ensures, c.mark-mark.ensures.place) none))

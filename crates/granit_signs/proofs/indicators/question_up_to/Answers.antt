@@ -1,9 +1,11 @@
 use Rattle.std.proofs.Common.{◌≡◌, ◌==◌, ◌∙◌, true, false, refl, sym, arith}
 use Rattle.std.proofs.lemmas.Bool.Decides.{nat_tests}
+use Rattle.std.proofs.lemmas.Result.{err_from_is_err_and}
 use Rattle.granit_error.specs.OptionsView.{options_of}
 use Rattle.granit_lexemes.specs.Here.{next_char}
 use Rattle.granit_items.specs.ItemViews.{lexeme_view}
 use Rattle.granit_content.specs.Reads.{tail_view}
+use Rattle.granit_content.proofs.MemoryLemmas.{tab_refused}
 use Rattle.granit_signs.proofs.IndicatorLemmas.{question_with_note, question_ready}
 use Rattle.granit_signs.proofs.indicators.question_up_to.Goals as goal
 
@@ -18,6 +20,13 @@ returns-then-peek-eq35-clause-here g c = λ none h k.
       question_with_note o.emit_comments o (lexeme_view c.args.lexeme) h c.args.layouts.now
           (tail_view c.in_ok-note.note) note.0 hash note.2 ∙ rw c.with_tail.ensures at (c.give.ensures note.0),
     )
+
+pub returns-in_err-refuse_tab-clause-memory : goal.returns-in_err-refuse_tab-clause-memory
+returns-in_err-refuse_tab-clause-memory g c = λ unasked.
+    let at = c.from_residual-in_err-refuse_tab in
+    let p = err_from_is_err_and at.result at.ensures.1 in
+    rw (p.1, p.2) (tab_refused (options_of c.args.options.now) c.args.layouts.now c.mark.result c.leading_tab-tab.result
+    _ c.in_err-refuse_tab.ensures)
 
 pub returns-clause-here : goal.returns-clause-here
 returns-clause-here g c = λ none h k.

@@ -6,8 +6,8 @@ use Rattle.granit_machine.specs.ReaderState.{given}
 use Rattle.granit_items.specs.ItemViews.{lexeme_view}
 use Rattle.granit_signs.proofs.values.bare_colon.Goals as goal
 
-pub returns : goal.returns
-returns c = λ after.
+pub returns-clause-here : goal.returns-clause-here
+returns-clause-here c = λ after.
     ap (λ (r : Result (LastLexeme × Laid) Fault). r >>= λ e. given (lexeme_view c.args.lexeme) e.0 after e.1)
-    c.in_ok-last.ensures
+    c.in_ok-last.ensures.here
     ∙ c.give.ensures after

@@ -31,7 +31,7 @@ returns-clause-here g c = λ h k.
     let lexeme = rw (c.mark-end.ensures.here (step h) on) at
     (c.lexeme_to-lexeme.ensures h (c.start_of-start.ensures h looked)) in
     let tail = c.in_ok-tail.ensures.here (step h) on in
-    let allowed = rw (c.begins_line.ensures ∙ sym looked.2, c.tab.ensures ∙ sym looked.3) at
+    let allowed = rw (c.begins_line.ensures ∙ sym k.2, c.tab.ensures ∙ sym k.3) at
     c.is_allowed-allowed.ensures in
     let seen = tail_view c.in_ok-tail.tail in
     let tailed = c.with_tail.ensures ∙ ap (λ (x : Lexeme). with_tail x (noted seen)) lexeme in
@@ -42,4 +42,12 @@ returns-clause-here g c = λ h k.
     (IsAt g.T.Input.unread c.colon_tail.new.at c.colon_by_key.new.layouts) r) (sym whole)
     (gives_lands (lexeme_in c.colon_by_key.new.found) c.colon_by_key.result
     (IsAt g.T.Input.unread c.colon_tail.new.at c.colon_by_key.new.layouts)
-    (record { here = tail.0; laid = c.colon_by_key.new.layouts }) _ (tail.1, refl) (c.colon_by_key.ensures tail.0))
+    (record { here = tail.0; laid = c.colon_by_key.new.layouts }) _ (tail.1, refl) (c.colon_by_key.ensures.here tail.0))
+
+pub returns-clause-memory : goal.returns-clause-memory
+returns-clause-memory g c = λ unasked none. c.colon_by_key.ensures.memory
+    (rw (c.is_allowed-allowed.ensures, c.begins_line.ensures, c.tab.ensures) none)
+
+pub returns-clause-column : goal.returns-clause-column
+returns-clause-column g c = λ unasked none. c.colon_by_key.ensures.column
+    (rw (c.mark-mark.ensures.place, c.look.ensures.place) none)

@@ -1,7 +1,3 @@
-use Rattle.std.proofs.Common.{max}
-use Rattle.granit_layers.specs.Kinds.{number_over}
-use Rattle.granit_layers.specs.declared.kinds.AnyKind.TheVariants.{Fourth}
-use Rattle.granit_replay.specs.Replaying.{Replay}
 use Rattle.granit_stack_laws.proofs.ComingLemmas.{fourth_resets, include_comes}
 use Rattle.granit_stack_laws.proofs.laws.an_include_comes_through.Goals as goal
 
@@ -10,8 +6,6 @@ returns g c =
     let a = g.A.StackedParser in
     let b = g.B.StackedParser in
     let d = g.C.StackedParser in
-    include_comes _ _ _ (number_over a.offset_over b.offset_over d.offset_over
-    (λ (p : Replay) below. max p.anchor_offset below)) Fourth g.R.Resolver.answers g.R.Resolver.errors
-    c.ids_begin_at_the_offset.ensures c.a_text_with_one_start_is_one_document.ensures
+    include_comes _ _ c.ids_begin_at_the_offset.ensures c.a_text_with_one_start_is_one_document.ensures
     c.a_replay_comes_through.ensures
     (fourth_resets a.sets_offset b.sets_offset d.sets_offset)

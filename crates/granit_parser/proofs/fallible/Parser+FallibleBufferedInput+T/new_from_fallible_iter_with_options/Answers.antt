@@ -13,3 +13,8 @@ returns-clause-ends g c = λ items known. rw c.with_options.ensures.input (c.in_
 
 pub returns-clause-fresh : goal.returns-clause-fresh
 returns-clause-fresh g c = rw c.with_options.ensures.input c.in_ok-input.ensures.fresh
+
+pub returns-clause-calls : goal.returns-clause-calls
+returns-clause-calls g c = λ items known.
+    c.with_options.ensures.calls (bare_start (characters_of items)) (c.in_ok-input.ensures.read items known) refl refl
+    refl

@@ -6,3 +6,7 @@ use Rattle.granit_parser.proofs.parser.Parser+StrInput.new_from_str_with_options
 pub returns-clause-start : goal.returns-clause-start
 returns-clause-start c =
     c.with_options.ensures.start (start_of (chars c.args.value.now)) c.new.ensures.unread refl refl refl
+
+pub returns-clause-calls : goal.returns-clause-calls
+returns-clause-calls c =
+    c.with_options.ensures.calls (start_of (chars c.args.value.now)) c.new.ensures.unread refl refl refl

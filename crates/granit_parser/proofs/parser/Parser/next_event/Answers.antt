@@ -1,20 +1,53 @@
-use Rattle.std.proofs.Common.{inl, inr}
+use Rattle.std.proofs.Common.{◌≡◌, inl, inr, ap, subst, sym, ◌∙◌}
+use Rattle.granit_parser.proofs.InLemmas.{call_gives, closed_stays, noted_none, open_seen}
 use Rattle.granit_parser.proofs.StartLaws.{ends_told}
 use Rattle.granit_parser.proofs.TextLemmas.{ends_text}
 use Rattle.granit_parser.proofs.parser.Parser.next_event.Goals as goal
+use Rattle.granit_parser.specs.Parsing.{Parsing}
+use Rattle.granit_parser.specs.Recovering.{ReadsNext, notes_between, notes_over}
+use Rattle.granit_parser.specs.Sources.{TellsSource}
+use Rattle.granit_stepper.specs.Stepping.{Stepping}
 
 pub returns-clause-text : goal.returns-clause-text
-returns-clause-text g c = λ x es m stands leads.
-    elim (c.take_event.ensures.known m stands) [
-      | inl gives ↦ inl (ends_text c.args.self.now.stepper.scanner.options x es m leads c.take_event.result _
-          c.take_event.new.self.stepper.renumbered gives)
+returns-clause-text g c = λ x es m stands leads. rw c.note.ensures.rest
+    (elim (c.take_event-next.ensures.known m stands) [
+      | inl gives ↦ inl (ends_text c.args.self.now.stepper.scanner.options x es m leads c.take_event-next.result _
+          c.take_event-next.new.self.stepper.renumbered gives)
       | inr told ↦ inr told
-    ]
+    ])
 
 pub returns-clause-told : goal.returns-clause-told
-returns-clause-told g c = λ h es m stands leads.
-    elim (c.take_event.ensures.known m stands) [
-      | inl gives ↦ inl (ends_told c.args.self.now.stepper.scanner.options h es m leads c.take_event.result _
-          c.take_event.new.self.stepper.renumbered gives)
+returns-clause-told g c = λ h es m stands leads. rw c.note.ensures.rest
+    (elim (c.take_event-next.ensures.known m stands) [
+      | inl gives ↦ inl (ends_told c.args.self.now.stepper.scanner.options h es m leads c.take_event-next.result _
+          c.take_event-next.new.self.stepper.renumbered gives)
       | inr told ↦ inr told
+    ])
+
+pub returns-clause-calls : goal.returns-clause-calls
+returns-clause-calls g c = λ calls reached is at.
+    let p = c.args.self.now in
+    let t = c.take_event-next in
+    let q = c.note.new.self in
+    let same = ap (λ (x : Parsing _). x.stepper) c.note.ensures.rest in
+    elim (t.ensures.calls calls reached (open_seen g.T.Input.unread p calls is at)) [
+      | inl reads ↦ inl (call_gives g.T.Input.unread t.result q calls p.between p.over is (at.between is) at.over
+          (subst (λ (s : Stepping _). ReadsNext g.T.Input.unread t.result s calls) (sym same) reads)
+          (ap (λ (x : Parsing _). x.peeked) c.note.ensures.rest ∙ t.ensures.peeked)
+          (c.note.ensures.between ∙ ap (notes_between t.result) t.ensures.between)
+          (c.note.ensures.over ∙ ap (notes_over t.result) t.ensures.going))
+      | inr told ↦ inr (subst (λ (s : Stepping _). TellsSource g.T.Input.origin t.result s.scanner.cursor) (sym same)
+          told)
     ]
+
+pub returns-clause-closed : goal.returns-clause-closed
+returns-clause-closed g c = λ calls closed at.
+    let t = c.take_event-next in
+    let q = c.note.new.self in
+    closed_stays g.T.Input.unread c.args.self.now q calls closed at t.result
+    (λ over. let x = t.ensures.over over in
+    noted_none c.args.self.now t.new.self q t.result x.0 x.1 c.note.ensures.rest c.note.ensures.between
+    c.note.ensures.over c.note.ensures.given)
+    (rw c.note.ensures.rest t.ensures.seen)
+    (ap (λ (x : Parsing _). x.peeked) c.note.ensures.rest ∙ t.ensures.peeked)
+    (c.note.ensures.over ∙ ap (notes_over t.result) t.ensures.going)

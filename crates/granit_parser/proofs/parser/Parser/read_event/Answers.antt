@@ -1,5 +1,7 @@
-use Rattle.std.proofs.Common.{◌≡◌, true, false, sym, ◌∙◌, arith}
-use Rattle.granit_parser.proofs.SourceLemmas.{ends_by, goes_by, known_by, source_by, sure_by}
+use Rattle.std.proofs.Common.{◌≡◌, true, false, sym, ap, ◌∙◌, ◌||◌, arith, Option, is_some}
+use Rattle.granit_error.specs.Refused.{Refused}
+use Rattle.granit_parser.proofs.GoesLemmas.{stands_going}
+use Rattle.granit_parser.proofs.SourceLemmas.{ends_by, goes_by, known_by, reads_by, reads_kept, source_by, sure_by}
 use Rattle.granit_parser.proofs.parser.Parser.read_event.Goals as goal
 
 pub returns-then-has_failed-clause-known : goal.returns-then-has_failed-clause-known
@@ -13,6 +15,25 @@ returns-then-has_failed-clause-sure g c = λ m at none.
 pub returns-then-has_failed-clause-source : goal.returns-then-has_failed-clause-source
 returns-then-has_failed-clause-source g c = λ f met fresh going.
     absurd (let no : true ≡ false = sym c.if-has_failed.true ∙ c.has_failed.ensures ∙ going in cc)
+
+pub returns-then-has_failed-clause-calls : goal.returns-then-has_failed-clause-calls
+returns-then-has_failed-clause-calls g c = λ calls reached goes.
+    absurd (let no : true ≡ false = sym c.if-has_failed.true ∙ c.has_failed.ensures
+    ∙ stands_going g.T.Input.unread c.args.self.now.stepper goes.steps goes.stands in cc)
+
+pub returns-clause-calls : goal.returns-clause-calls
+returns-clause-calls g c = λ calls reached goes.
+    let error = c.take_source_error-error in
+    let event = c.step_event-event in
+    rw c.unless_failed.ensures (reads_by g.T.Input.unread g.T.Input.origin
+    c.args.self.now.stepper event.new.self.stepper error.new.self.stepper event.ensures.moves.1 error.ensures.origin
+    error.result event.result calls error.ensures.given error.ensures.place
+    (λ none. reads_kept g.T.Input.unread event.new.self.stepper error.new.self.stepper error.ensures.options
+    error.ensures.renumbered error.ensures.first
+    (error.ensures.failed ∙ ap (λ (e : Option Refused). event.new.self.stepper.failed || is_some e) none)
+    (λ m at. error.ensures.known m at none) (λ m at. error.ensures.held m at none)
+    (λ m e at. error.ensures.refused m e at none) event.result calls)
+    (event.ensures.calls calls reached goes))
 
 pub returns-clause-known : goal.returns-clause-known
 returns-clause-known g c = λ m at. rw c.unless_failed.ensures (known_by g.T.Input.unread g.T.Input.origin

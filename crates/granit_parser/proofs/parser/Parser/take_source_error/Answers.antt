@@ -1,6 +1,13 @@
+use Rattle.std.proofs.Common.{subst, sym}
 use Rattle.granit_parser.proofs.SourceLemmas.{behind_on}
 use Rattle.granit_parser.proofs.parser.Parser.take_source_error.Goals as goal
+use Rattle.granit_parser.specs.Parsing.{Parsing}
+use Rattle.granit_stepper.specs.Stepping.{StandsIn}
 
 pub invariant_of-self : goal.invariant_of-self
 invariant_of-self g c = behind_on c.self.inside.peeked c.self.inside.given c.self.inside.stepper
     c.take_source_error.new.self c.take_source_error.result c.take_source_error.ensures.failed c.self.invariant
+
+pub returns-clause-known : goal.returns-clause-known
+returns-clause-known g c = λ m at none. c.take_source_error.ensures.known m
+    (subst (λ (p : Parsing _). StandsIn g.T.Input.unread p.stepper m) (sym c.self.view_is) at) none

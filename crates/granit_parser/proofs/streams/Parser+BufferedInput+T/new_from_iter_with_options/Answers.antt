@@ -5,3 +5,7 @@ use Rattle.granit_parser.proofs.streams.Parser+BufferedInput+T.new_from_iter_wit
 pub returns-clause-start : goal.returns-clause-start
 returns-clause-start g c = λ x known.
     c.with_options.ensures.start (bare_start x) (c.in_ok-input.ensures.read x known) refl refl refl
+
+pub returns-clause-calls : goal.returns-clause-calls
+returns-clause-calls g c = λ x known.
+    c.with_options.ensures.calls (bare_start x) (c.in_ok-input.ensures.read x known) refl refl refl

@@ -4,6 +4,7 @@ use Rattle.granit_base.specs.Place.{Mark}
 use Rattle.granit_cursor.specs.declared.token.Token.{Token}
 use Rattle.granit_error.specs.Refused.{Refused}
 use Rattle.granit_scan.specs.Scanning.{GivesStart, KeepsCopy, Scanning}
+use Rattle.granit_scan.proofs.RecoveryLemmas.{refused_stays, rests_alike}
 use Rattle.granit_scan.proofs.SourceLemmas.{failed_on, fails_as, moves_on, no_start}
 use Rattle.granit_scan.proofs.StateLemmas.{gives_token, next_fails}
 use Rattle.granit_scan.proofs.scanner.Scanner.next_queued.Goals as goal
@@ -51,3 +52,22 @@ pub returns-in-Err-clause-moves : goal.returns-in-Err-clause-moves
 returns-in-Err-clause-moves g c =
     moves_on g.T.Input.left g.T.Input.origin c.args.self.now c.ready.new.self c.stop.new.self
     (ap (λ (s : Scanning g.row.T.Denot). s.items) c.stop.ensures) c.in-Err.ensures.moves
+
+pub returns-in-Ok-clause-refused : goal.returns-in-Ok-clause-refused
+returns-in-Ok-clause-refused g c = λ m at.
+    let same = ap (λ (s : Scanning g.row.T.Denot). s.items) c.take_token.ensures.rest in
+    failed_on g.T.Input.origin c.args.self.now c.ready.new.self c.take_token.new.self same (λ e u. u) (λ u. u)
+    (c.in-Ok.ensures.refused m at)
+
+pub returns-in-Err-clause-refused : goal.returns-in-Err-clause-refused
+returns-in-Err-clause-refused g c = λ m at.
+    let is = c.stop.ensures in
+    let same = ap (λ (s : Scanning g.row.T.Denot). s.items) is in
+    failed_on g.T.Input.origin c.args.self.now c.ready.new.self c.stop.new.self same (λ e u. u)
+    (refused_stays g.T.Input.unread c.args.self.now.items.options c.ready.new.self c.stop.new.self m
+    (λ n r. rests_alike g.T.Input.unread c.ready.new.self c.stop.new.self n
+    (ap (λ (s : Scanning g.row.T.Denot). s.items.cursor) is) (ap (λ (s : Scanning g.row.T.Denot). s.items.laid) is)
+    (ap (λ (s : Scanning g.row.T.Denot). s.items.queue) is) (ap (λ (s : Scanning g.row.T.Denot). s.first) is)
+    (ap (λ (s : Scanning g.row.T.Denot). s.writer) is) r)
+    (Unit {0}) (Option Token) c.in-Err.error)
+    (c.in-Err.ensures.refused m at)

@@ -1,7 +1,8 @@
 use Rattle.std.proofs.Common.{◌≡◌, Bool, true, false, Ok, subst, arith}
 use Rattle.std.proofs.lemmas.Result.{err_from_is_err_and}
 use Rattle.granit_input.proofs.OriginLemmas.{goes_on}
-use Rattle.granit_scan.proofs.SettleLemmas.{Turned, alike_done, alike_fails, alike_more, keeps_both}
+use Rattle.granit_scan.proofs.SettleLemmas.{Turned, alike_done, alike_fails, alike_more, keeps_both, leads_fails}
+use Rattle.granit_scan.proofs.SettleLemmas.{leads_more}
 use Rattle.granit_scan.proofs.scanner.Scanner.settle.Goals as goal
 
 pub returns-in_err-turn-clause-known : goal.returns-in_err-turn-clause-known
@@ -9,6 +10,12 @@ returns-in_err-turn-clause-known g c = λ m at told.
     let p = err_from_is_err_and c.from_residual.result c.from_residual.ensures.1 in
     rw (p.1, p.2) (alike_fails g.T.Input.unread c.args.self.now c.turns.self c.turn.new.self c.turns.invariant.keeps
     c.turns.invariant.alike c.in_err-turn.field-0.0 c.in_err-turn.ensures.known m at told)
+
+pub returns-in_err-turn-clause-refused : goal.returns-in_err-turn-clause-refused
+returns-in_err-turn-clause-refused g c = λ m at told.
+    let p = err_from_is_err_and c.from_residual.result c.from_residual.ensures.1 in
+    rw (p.1, p.2) (leads_fails g.T.Input.unread c.args.self.now c.turns.self c.turn.new.self c.turns.invariant.keeps
+    c.turns.invariant.leads c.in_err-turn.field-0.0 c.in_err-turn.ensures.known c.in_err-turn.ensures.refused m at told)
 
 pub returns-then-not-branch-clause-known : goal.returns-then-not-branch-clause-known
 returns-then-not-branch-clause-known g c =
@@ -28,6 +35,8 @@ turns-preserved g c =
     record {
       alike = alike_more g.T.Input.unread c.args.self.now c.turns.self c.turn.new.self c.turns.invariant.keeps
           c.turns.invariant.alike turned;
+      leads = leads_more g.T.Input.unread c.args.self.now c.turns.self c.turn.new.self c.turns.invariant.keeps
+          c.turns.invariant.leads turned;
       keeps = keeps_both c.args.self.now c.turns.self c.turn.new.self c.turns.invariant.keeps
           c.in_ok-turn.ensures.keeps;
       moves = (

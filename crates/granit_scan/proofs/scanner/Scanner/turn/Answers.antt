@@ -5,6 +5,7 @@ use Rattle.granit_queue.specs.QueueViews.{queued_view}
 use Rattle.granit_scan.specs.Scanning.{Scanning, StandsIn, turn_view}
 use Rattle.granit_scan.specs.TokenSteps.{TokenState, TokenTurn, read_more}
 use Rattle.granit_scan.specs.TokenViews.{PlainToken}
+use Rattle.granit_scan.proofs.RecoveryLemmas.{memory_rests}
 use Rattle.granit_scan.proofs.StateLemmas.{waiting}
 use Rattle.granit_scan.proofs.TurnLemmas.{none_waits, turn_reads, turn_waits, turn_writes}
 use Rattle.granit_scan.proofs.scanner.Scanner.turn.Goals as goal
@@ -54,3 +55,11 @@ returns-in-None-clause-known g c = λ m at told.
     c.in-None.ensures.keeps.options read in
     subst (λ (r : TokenTurn). GivesTo turn_view c.read_more.result (StandsIn unread after) r)
     (sym (turn_reads o m pending free.0)) same
+
+pub returns-in-Some-clause-refused : goal.returns-in-Some-clause-refused
+returns-in-Some-clause-refused g c = λ m at.
+    memory_rests g.T.Input.unread c.write_item.result c.write_item.new.self m c.write_item.ensures.refused
+
+pub returns-in-None-clause-refused : goal.returns-in-None-clause-refused
+returns-in-None-clause-refused g c = λ m at.
+    c.read_more.ensures.refused m (c.in-None.ensures.known m at).1

@@ -14,6 +14,7 @@ returns-clause-known g c = λ m at told none.
       ended = c.self.inside.ended;
       failed = c.self.inside.failed;
       failed_in_directive = c.self.inside.failed_in_directive;
+      wants_memory = c.self.inside.wants_memory;
       comments = c.self.inside.comments;
       source_error = c.self.inside.source_error;
     } in

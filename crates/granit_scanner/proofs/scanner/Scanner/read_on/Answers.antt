@@ -18,6 +18,8 @@ returns-clause-known g c = λ l q k none waits.
       queue = c.self.inside.queue;
       ended = c.self.inside.ended;
       fault = c.self.inside.fault;
+      met = c.self.inside.met;
+      held = c.self.inside.held;
     } in
     let mid : Scanning _ = record {
       cursor = c.next_found-read.new.at;
@@ -26,15 +28,20 @@ returns-clause-known g c = λ l q k none waits.
       queue = c.self.inside.queue;
       ended = c.next_found-read.new.ended;
       fault = c.self.inside.fault;
+      met = c.self.inside.met;
+      held = c.self.inside.held;
     } in
     let free = c.free_count-free.result in
     let known : Known unread inside l q = subst (λ r. Known unread r l q) (sym c.self.view_is) k in
     let at = stands unread inside l q known none in
     let frees = subst (λ r. front_goes false r.laid r.queue ≡ false
     → take free r.queue ≡ settled r.laid r.queue) (sym c.self.view_is) c.free_count-free.ensures in
+    -- what the read met, behind the gap before which it began
+    let meets = c.next_found-read.ensures.met l.reader.here at.0 in
     on_ok_weaker c.take_read.result
     (λ took. subst (λ r. ReadsOn unread r.options c.take_read.new.self l q) c.self.view_is
-    (read_taken unread inside l q o known none mid c.take_read.new.self refl refl c.next_found-read.result
-    (found_items c.next_found-read.new.found) free took waits frees
+    (read_taken unread inside l q o known none mid c.take_read.new.self refl refl c.number-number.result
+    c.next_found-read.new.met c.number-number.ensures c.next_found-read.ensures.moves.2 c.next_found-read.result
+    (found_items c.next_found-read.new.found) free took waits frees meets
     (c.next_found-read.ensures.here l.reader.here at.0)))
     c.take_read.ensures.taken

@@ -1,8 +1,11 @@
-use Rattle.std.proofs.Common.{◌≡◌, ◌⊎◌, Bool, None, Ok, sym, ap, subst, ◌∙◌}
+use Rattle.std.proofs.Common.{◌⊎◌, Bool, Ok, Err, sym, ap, subst, ◌∙◌}
 use Rattle.granit_cursor.specs.Reading.{GivesTo}
 use Rattle.granit_lexemes.specs.Outcome.{Fails}
 use Rattle.granit_stepper.specs.Numbers.{RefusesNumber}
+use Rattle.granit_stepper.specs.Refusals.{RefusedIn, SettlesAhead}
 use Rattle.granit_stepper.specs.Stepping.{Stepping, StandsIn, no_events}
+use Rattle.granit_stepper.proofs.AheadLemmas.{gives_error, gives_event}
+use Rattle.granit_stepper.proofs.RefusalLemmas.{refused_failed}
 use Rattle.granit_stepper.proofs.StateLemmas.{gives_next, next_fails}
 use Rattle.granit_stepper.proofs.stepper.Stepper.later_event.Goals as goal
 use Rattle.granit_steps.specs.Steps.{settle}
@@ -16,6 +19,8 @@ returns-in-Ok-clause-known g c = λ m at told.
       first = c.self.inside.first;
       failed = c.self.inside.failed;
       renumbered = c.self.inside.renumbered;
+      ahead = c.self.inside.ahead;
+      refusal = c.self.inside.refusal;
     } in
     let o = c.args.self.now.scanner.options in
     let first = ap (λ (s : Stepping g.row.T.Denot). s.first) c.self.view_is ∙ c.in-Ok.ensures.keeps.first ∙ told in
@@ -32,3 +37,50 @@ returns-in-Err-clause-known g c = λ m at told.
     next_fails g.T.Input.unread c.args.self.now.renumbered o m e
     (subst (λ (b : Bool). Fails e (settle o m) ⊎ RefusesNumber b o m e) c.in-Err.ensures.keeps.renumbered
     (c.in-Err.ensures.known m at told))
+
+pub returns-in-Err-clause-refused : goal.returns-in-Err-clause-refused
+returns-in-Err-clause-refused g c = λ m at told turned other.
+    let unread = g.T.Input.unread in
+    let inside : Stepping g.row.T.Denot = record {
+      scanner = c.self.inside.scanner;
+      parser = c.self.inside.parser;
+      first = c.self.inside.first;
+      failed = c.self.inside.failed;
+      renumbered = c.self.inside.renumbered;
+      ahead = c.self.inside.ahead;
+      refusal = c.self.inside.refusal;
+    } in
+    let n = c.in-Err.ensures.refused m at told turned other in
+    let here = subst (λ (s : Stepping g.row.T.Denot). RefusedIn unread s n.0 c.in-Err.error) (sym c.self.view_is) n.2 in
+    (n.0, n.1, refused_failed unread inside n.0 c.in-Err.error here)
+
+pub returns-in-Ok-clause-ahead : goal.returns-in-Ok-clause-ahead
+returns-in-Ok-clause-ahead g c = λ m h.
+    let inside : Stepping g.row.T.Denot = record {
+      scanner = c.self.inside.scanner;
+      parser = c.self.inside.parser;
+      first = c.self.inside.first;
+      failed = c.self.inside.failed;
+      renumbered = c.self.inside.renumbered;
+      ahead = c.self.inside.ahead;
+      refusal = c.self.inside.refusal;
+    } in
+    let given = subst (λ (s : Stepping g.row.T.Denot). SettlesAhead (Ok c.in-Ok.field-0) c.args.self.now s)
+    (sym c.self.view_is) c.in-Ok.ensures.ahead in
+    gives_event g.T.Input.unread c.args.self.now m h inside c.in-Ok.field-0 c.pop_event.result
+    c.pop_event.new.self given c.pop_event.ensures.first c.pop_event.ensures.rest
+
+pub returns-in-Err-clause-ahead : goal.returns-in-Err-clause-ahead
+returns-in-Err-clause-ahead g c = λ m h.
+    let inside : Stepping g.row.T.Denot = record {
+      scanner = c.self.inside.scanner;
+      parser = c.self.inside.parser;
+      first = c.self.inside.first;
+      failed = c.self.inside.failed;
+      renumbered = c.self.inside.renumbered;
+      ahead = c.self.inside.ahead;
+      refusal = c.self.inside.refusal;
+    } in
+    let given = subst (λ (s : Stepping g.row.T.Denot). SettlesAhead (Err c.in-Err.error) c.args.self.now s)
+    (sym c.self.view_is) c.in-Err.ensures.ahead in
+    gives_error g.T.Input.unread c.args.self.now m h inside c.in-Err.error given

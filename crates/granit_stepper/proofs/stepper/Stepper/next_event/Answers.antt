@@ -1,4 +1,4 @@
-use Rattle.std.proofs.Common.{◌≡◌, Some, refl, sym, ap, subst, ◌∙◌}
+use Rattle.std.proofs.Common.{◌≡◌, Some, refl, sym, subst}
 use Rattle.granit_event.specs.declared.event.Event.TheVariants as events
 use Rattle.granit_event.specs.Events.{plain_event}
 use Rattle.granit_lexemes.specs.PlainEvent.{event_on, StreamStart}
@@ -15,6 +15,8 @@ returns-in-Some-clause-known g c = λ m at.
       first = c.self.inside.first;
       failed = c.self.inside.failed;
       renumbered = c.self.inside.renumbered;
+      ahead = c.self.inside.ahead;
+      refusal = c.self.inside.refusal;
     } in
     let here = subst (λ (s : Stepping g.row.T.Denot). StandsIn unread s m) (sym c.self.view_is) at in
     let told : plain_event (events.StreamStart, c.empty.result) ≡ event_on StreamStart c.in-Some.start =

@@ -15,6 +15,8 @@ returns-clause-known g c = λ m at waits.
       first = c.self.inside.first;
       failed = c.self.inside.failed;
       renumbered = c.self.inside.renumbered;
+      ahead = c.self.inside.ahead;
+      refusal = c.self.inside.refusal;
     } in
     let after = c.read_on.new.self in
     let here : StandsIn unread inside m = subst

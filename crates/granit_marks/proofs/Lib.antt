@@ -1,0 +1,3 @@
+pub mod DirectiveLemmas
+pub mod FlowLemmas
+pub mod StreamLemmas

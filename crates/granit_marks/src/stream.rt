@@ -1,0 +1,201 @@
+//! The end, document marks and directives (YAML 1.2.2, 6.8 and 9.1).
+ghost use Rattle.std.specs.Prelude.{◌≡◌, ◌<◌, ◌^◌, false, Ok};
+ghost use Rattle.granit_cursor.specs.Reading.{GoesTo, Moves, Stands, Wherever};
+ghost use Rattle.granit_error.specs.OptionsView.{options_of};
+ghost use Rattle.granit_lexemes.specs.Here.{Here, next_char};
+ghost use Rattle.granit_lexemes.specs.Moves.{steps};
+ghost use Rattle.granit_machine.specs.Columns.{closed_all, ends_all};
+ghost use Rattle.granit_machine.specs.StreamLexemes as spec;
+ghost use Rattle.granit_marks.specs.StreamReads as view;
+ghost use Rattle.granit_content.specs.Reads.{NeverWants, ReadsItems, lexeme_in};
+
+use granit_base::is_breakz;
+use granit_content::{give, lexeme_to, over_break_if, scalar_lexeme, start_of, tail_at, with_tail};
+use granit_cursor::Cursor;
+use granit_directives::scan_directive;
+use granit_error::{ErrorKind, Options, ScanError};
+use granit_input::{BorrowedInput, Input};
+use granit_items::{Lexeme, LexemeKind};
+use granit_layout::Layouts;
+use granit_lexemes::LastLexeme;
+use std::alloc::Global;
+
+/// The end of the text, where no bracket is open.
+///
+/// # Errors
+///
+/// Those of `Layouts::refuse_open` and `Layouts::drop_key`.
+pub fn text_end<'input, T: Input>(
+    asked: bool,
+    at: &mut Cursor<T>,
+    layouts: &mut Layouts,
+    found: &mut Option<Lexeme<'input>>,
+) -> Result<(), ScanError>
+    requires room { layouts.old.number < 2 ^ 63 }
+    ensures here { ReadsItems T.unread asked at.old at.new layouts.new
+        (lexeme_in found.new) result (λ h. spec.text_end h layouts.old) }
+    ensures memory { NeverWants result }
+    ensures moves { Moves T.unread T.left T.origin at.old at.new }
+{
+    layouts.refuse_open()?;
+    let start = start_of(at);
+    let lexeme = lexeme_to(
+        layouts,
+        layouts.ends_all(),
+        LexemeKind::StreamEnd,
+        start,
+        start.mark,
+    );
+    layouts.drop_key()?;
+    layouts.behind_end();
+    *found = Some(lexeme);
+    Ok(())
+}
+
+/// Over the three characters of a document mark.
+#[tactic(auto, unfolding(granit_lexemes::specs::Moves::steps))]
+fn past_mark<T: Input>(at: &mut Cursor<T>)
+    ensures here { GoesTo T.unread at.old at.new (steps 3) }
+    ensures moves { Moves T.unread T.left T.origin at.old at.new }
+{
+    at.step();
+    at.step();
+    at.step();
+}
+
+/// `---`.
+fn start_mark<'input, T: Input>(
+    asked: bool,
+    at: &mut Cursor<T>,
+    layouts: &mut Layouts,
+    ends: bool,
+    found: &mut Option<Lexeme<'input>>,
+)
+    requires room { layouts.old.number < 2 ^ 63 }
+    ensures here { ReadsItems T.unread asked at.old at.new layouts.new (lexeme_in found.new) (Ok tt)
+        (λ h. spec.start_mark ends h layouts.old) }
+    ensures moves { Moves T.unread T.left T.origin at.old at.new }
+{
+    let start = start_of(at);
+    past_mark(at);
+    let lexeme = lexeme_to(layouts, ends, LexemeKind::DocumentStart, start, at.mark());
+    layouts.forget_key();
+    give(layouts, lexeme, LastLexeme::Another, found);
+}
+
+/// `---` where no bracket is open, which ends all columns.
+///
+/// # Errors
+///
+/// Those of `Layouts::refuse_open`.
+pub fn document_start<'input, T: Input>(
+    asked: bool,
+    at: &mut Cursor<T>,
+    layouts: &mut Layouts,
+    found: &mut Option<Lexeme<'input>>,
+) -> Result<(), ScanError>
+    requires room { layouts.old.number < 2 ^ 63 }
+    ensures here { ReadsItems T.unread asked at.old at.new layouts.new
+        (lexeme_in found.new) result (λ h. view.document_start h layouts.old) }
+    ensures memory { NeverWants result }
+    ensures moves { Moves T.unread T.left T.origin at.old at.new }
+{
+    layouts.refuse_open()?;
+    let ends = layouts.ends_all();
+    layouts.close_all();
+    start_mark(asked, at, layouts, ends, found);
+    Ok(())
+}
+
+/// `...` with its tail where no bracket is open, which ends all columns.
+///
+/// # Errors
+///
+/// `InvalidDocumentEnd` where the line goes on, and those of `Layouts::refuse_open` and `tail_at`.
+pub fn document_end<'input, T: BorrowedInput<'input>>(
+    alloc: Global,
+    asked: bool,
+    at: &mut Cursor<T>,
+    layouts: &mut Layouts,
+    found: &mut Option<Lexeme<'input>>,
+) -> Result<(), ScanError>
+    requires room { layouts.old.number < 2 ^ 63 }
+    ensures here { ReadsItems T.unread asked at.old at.new layouts.new
+        (lexeme_in found.new) result (λ h. view.document_end h layouts.old) }
+    ensures memory { asked ≡ false → NeverWants result }
+    ensures moves { Moves T.unread T.left T.origin at.old at.new }
+{
+    layouts.refuse_open()?;
+    let ends = layouts.ends_all();
+    layouts.close_all();
+    end_mark(alloc, asked, at, layouts, ends, found)
+}
+
+/// `...` with its tail, behind which the line ends.
+fn end_mark<'input, T: BorrowedInput<'input>>(
+    alloc: Global,
+    asked: bool,
+    at: &mut Cursor<T>,
+    layouts: &mut Layouts,
+    ends: bool,
+    found: &mut Option<Lexeme<'input>>,
+) -> Result<(), ScanError>
+    requires room { layouts.old.number < 2 ^ 63 }
+    ensures here { ReadsItems T.unread asked at.old at.new layouts.new
+        (lexeme_in found.new) result (λ h. spec.end_mark ends h layouts.old) }
+    ensures memory { asked ≡ false → NeverWants result }
+    ensures moves { Moves T.unread T.left T.origin at.old at.new }
+{
+    let start = start_of(at);
+    past_mark(at);
+    let end = at.mark();
+    let tail = tail_at(alloc, at, asked)?;
+    refuse_more(at)?;
+    let lexeme = lexeme_to(layouts, ends, LexemeKind::DocumentEnd, start, end);
+    layouts.behind_end_mark();
+    *found = Some(with_tail(lexeme, tail));
+    Ok(())
+}
+
+/// Behind a `...` and its tail, the line ends.
+fn refuse_more<T: Input>(at: &mut Cursor<T>) -> Result<(), ScanError>
+    ensures here { Wherever T.unread at.old at.new (λ h Lands. Lands h × (result ≡ view.refuse_more h)) }
+    ensures memory { NeverWants result }
+    ensures moves { Moves T.unread T.left T.origin at.old at.new }
+{
+    at.look(1);
+    if is_breakz(at.input().peek()) {
+        return Ok(());
+    }
+    Err(ScanError::from_kind(at.mark(), ErrorKind::InvalidDocumentEnd))
+}
+
+/// A directive with its tail and its break, which ends all columns.
+///
+/// # Errors
+///
+/// Those of `scan_directive`.
+pub fn directive<'input, T: BorrowedInput<'input>>(
+    alloc: Global,
+    options: &Options,
+    at: &mut Cursor<T>,
+    layouts: &mut Layouts,
+    found: &mut Option<Lexeme<'input>>,
+) -> Result<(), ScanError>
+    requires sign { (h : Here) → Stands T.unread at.old h → next_char h ≡ 0x25 }
+    requires room { layouts.old.number < 2 ^ 63 }
+    ensures here { ReadsItems T.unread (options_of options.now).emit_comments at.old at.new layouts.new
+        (lexeme_in found.new) result
+        (λ h. spec.directive_lexeme (options_of options.now) (ends_all layouts.old) h (closed_all layouts.old)) }
+    ensures moves { Moves T.unread T.left T.origin at.old at.new }
+{
+    let ends = layouts.ends_all();
+    layouts.close_all();
+    let start = start_of(at);
+    let read = scan_directive(alloc, at, options)?;
+    over_break_if(at);
+    let lexeme = scalar_lexeme(alloc, layouts, ends, start, read);
+    layouts.behind_directive();
+    *found = Some(lexeme);
+    Ok(())
+}

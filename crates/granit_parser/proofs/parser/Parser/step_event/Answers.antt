@@ -1,0 +1,32 @@
+use Rattle.std.proofs.Common.{refl, ap, subst, sym, ◌∙◌}
+use Rattle.granit_parser.proofs.GoesLemmas.{ends_view, gives_view, goes_reads}
+use Rattle.granit_parser.proofs.parser.Parser.step_event.Goals as goal
+use Rattle.granit_parser.specs.Parsing.{Parsing, next_view}
+use Rattle.granit_parser.specs.Recovering.{Goes}
+use Rattle.granit_recovery.specs.Streams.{Reached}
+use Rattle.granit_stepper.specs.Stepping.{StandsIn}
+
+pub returns-clause-known : goal.returns-clause-known
+returns-clause-known g c = λ m at. rw (← c.self.view_is, c.next_of.ensures)
+    (gives_view c.next_event.result _ c.self.inside.stepper.renumbered c.self.inside.stepper.scanner.options m
+    (c.next_event.ensures.known m
+    (subst (λ (p : Parsing _). StandsIn g.T.Input.unread p.stepper m) (sym c.self.view_is) at)))
+
+pub returns-clause-calls : goal.returns-clause-calls
+returns-clause-calls g c = λ calls reached goes. rw c.next_of.ensures
+    (goes_reads g.T.Input.unread c.self.inside.stepper c.next_event.new.self
+    c.self.inside.stepper.scanner.options refl c.next_event.ensures.options calls
+    (subst (λ (p : Parsing _). Goes g.T.Input.unread p.stepper calls) (sym c.self.view_is) goes) c.next_event.result
+    c.next_event.ensures.failed c.next_event.ensures.renumbered c.next_event.ensures.known
+    c.next_event.ensures.refused c.next_event.ensures.ahead c.next_event.ensures.first
+    (c.calls_go_by_turns.ensures c.self.inside.stepper.scanner.options calls
+    (subst (λ (p : Parsing _). Reached p.stepper.scanner.options calls) (sym c.self.view_is) reached)))
+
+pub returns-clause-refused : goal.returns-clause-refused
+returns-clause-refused g c = rw c.next_of.ensures
+    (ends_view c.next_event.result c.next_event.new.self c.next_event.ensures.failed)
+
+pub returns-clause-over : goal.returns-clause-over
+returns-clause-over g c = λ failed.
+    let over = c.next_event.ensures.over (ap (λ (p : Parsing _). p.stepper.failed) c.self.view_is ∙ failed) in
+    (c.next_of.ensures ∙ ap next_view over.0, rw (← c.self.view_is, over.1) refl)

@@ -1,0 +1,302 @@
+-- A parser between its calls, where the machine's calls lead: what contracts on recovery say.
+use Rattle.std.specs.Prelude.{◌≡◌, ◌⊎◌, ◌||◌, ℕ, suc, is_some, Bool, true, false, [], Option, Some, None}
+use Rattle.std.specs.Prelude.{Result, Ok, Err, IfOk}
+use Rattle.granit_base.specs.Place.{Unread}
+use Rattle.granit_error.specs.FaultKind.{NoMemory}
+use Rattle.granit_error.specs.OptionsData.{OptionsData}
+use Rattle.granit_error.specs.Refused.{Refused}
+use Rattle.granit_event.specs.Events.{plain_event}
+use Rattle.granit_input.specs.Origin.{Origin}
+use Rattle.granit_lexemes.specs.Here.{Here}
+use Rattle.granit_lexemes.specs.Outcome.{Fault}
+use Rattle.granit_lexemes.specs.PlainEvent.{Comment, DocumentEnd, DocumentStart, EventKind, PlainEvent, StreamEnd}
+use Rattle.granit_parser.specs.Parsing.{Next, Parsing}
+use Rattle.granit_parser.specs.declared.recovery.Seen.{Seen}
+use Rattle.granit_parser.specs.declared.recovery.Seen.TheVariants as seens
+use Rattle.granit_receivers.specs.Kept.{IsKept}
+use Rattle.granit_recovery.specs.Asking.{LookTells}
+use Rattle.granit_recovery.specs.Streams.{Reached}
+use Rattle.granit_restart.specs.Ahead.{AheadOf, NoneComes, is_note}
+use Rattle.granit_restart.specs.Calls.{Calls, failing, next_call, noted}
+use Rattle.granit_restart.specs.Following.{document_follows}
+use Rattle.granit_restart.specs.Recovery.{answered, comment_of, recover, recovered, resumed}
+use Rattle.granit_restart.specs.Restart.{behind_fault}
+use Rattle.granit_restart.specs.Skipping.{Ended, Stops, skip, skipped_fault, with_pending}
+use Rattle.granit_restart.specs.Turned.{Turned}
+use Rattle.granit_stepper.specs.Numbers.{RefusesNumber}
+use Rattle.granit_stepper.specs.Recovering.{DropsOn}
+use Rattle.granit_stepper.specs.Refusals.{RefusedIn, StandsAhead}
+use Rattle.granit_stepper.specs.Stepping.{Stepping}
+use Rattle.granit_steps.specs.Steps.{StepState, next_event}
+
+-- ---- where a stepper is
+
+-- No call failed: a stepper is where calls led, or some turns ahead of it. Directly behind a document it is ahead only
+-- where no other comes.
+pub record Goes {I : Type 0} (unread : I → Unread → Type 0) (s : Stepping I) (c : Calls) : Type 0 where
+  pub steps : StepState
+  pub ahead : AheadOf s.scanner.options c.steps steps
+  pub stands : StandsAhead unread s steps
+  pub between : c.between ≡ true → (steps ≡ c.steps) ⊎ NoneComes s.scanner.options c.steps
+  pub told : c.between ≡ true → s.first ≡ None
+
+-- a call failed: the turn that failed is known
+pub record Failed {I : Type 0} (unread : I → Unread → Type 0) (s : Stepping I) (m : StepState) (f : Fault) : Type 0
+  where
+    pub refused : RefusedIn unread s m f
+    pub failed : s.failed ≡ true
+
+-- ---- where a parser is
+
+-- an event was looked at: the next call gives it, and the stepper is where that call leads
+pub record SeenNext {I : Type 0} (unread : I → Unread → Type 0) (s : Stepping I) (e : PlainEvent) (c : Calls) : Type 0
+  where
+    pub steps : StepState
+    pub next : next_event s.scanner.options c.steps ≡ Ok (Some e, steps)
+    pub goes : Goes unread s (noted e.kind (record c { steps = steps }))
+
+-- no event was looked at
+abbrev pub SeenNone : Next → Type 0
+SeenNone None = Unit {0}
+SeenNone (Some (Ok x)) = ⊥
+SeenNone (Some (Err e)) = Unit {0}
+
+-- nothing, or an event, was looked at; a fault that was looked at counts as given
+abbrev pub SeenBy : {I : Type 0} → (I → Unread → Type 0) → Next → Stepping I → Calls → Type 0
+SeenBy unread None s c = Goes unread s c
+SeenBy unread (Some (Ok x)) s c = SeenNext unread s (plain_event x) c
+SeenBy unread (Some (Err e)) s c = ⊥
+
+abbrev pub StaysBy : {I : Type 0} → (I → Unread → Type 0) → Option Fault → Next → Stepping I → Calls → Type 0
+StaysBy unread None seen s c = SeenBy unread seen s c
+StaysBy unread (Some f) seen s c = SeenNone seen × Failed unread s c.steps f
+
+-- recovery itself was refused, which it answers from then on
+pub record GaveUp {I : Type 0} (p : Parsing I) (f : Fault) : Type 0 where
+  pub seen : p.peeked ≡ None
+  pub failed : p.stepper.failed ≡ true
+  pub refusal : p.stepper.refusal ≡ None
+  pub kept : Refused
+  pub given : p.given ≡ Some kept
+  pub is_kept : IsKept f kept
+
+abbrev pub AnswersBy : {I : Type 0} → (I → Unread → Type 0) → (refusal : Option Fault) → Parsing I → Calls → Type 0
+AnswersBy unread None p c = StaysBy unread c.fault p.peeked p.stepper c
+AnswersBy unread (Some f) p c = GaveUp p f
+
+-- no call failed, recovery wasn't refused, and the end of the stream wasn't given
+pub record IsOpen (c : Calls) : Type 0 where
+  pub over : c.over ≡ false
+  pub fault : c.fault ≡ None
+  pub refusal : c.refusal ≡ None
+
+-- no call gives an event any more
+abbrev pub IsClosed : Calls → Type 0
+IsClosed c = ((c.over || is_some c.fault) || is_some c.refusal) ≡ true
+
+-- A parser is where the machine's calls led. Behind the end of the stream no more is asked.
+pub record ParserIn {I : Type 0} (unread : I → Unread → Type 0) (p : Parsing I) (c : Calls) : Type 0 where
+  pub over : p.over ≡ c.over
+  pub between : IsOpen c → p.between ≡ c.between
+  pub ended : c.over ≡ true → c.refusal ≡ None
+  pub stays : c.over ≡ false → AnswersBy unread c.refusal p c
+
+-- ---- what a call gives
+
+-- a call failed in that state
+abbrev pub failed_in : StepState → Fault → Calls → Calls
+failed_in m f c = record c { steps = m; fault = Some f }
+
+-- Which turn failed: the machine's, behind the turns that lead there, or the next anchor would get the greatest number.
+abbrev pub FailsAt : (renumbered : Bool) → OptionsData → StepState → Calls → Refused → Type 0
+FailsAt renumbered o m c e =
+    ((next_event o c.steps ≡ Err e) × (m ≡ failing o c.steps))
+    ⊎ ((t : StepState) × AheadOf o c.steps t × RefusesNumber renumbered o t e)
+
+-- what a read gives: the event of the next call, with the stepper where that leads, or its fault, unless memory ran out
+-- or an anchor would get the greatest number
+abbrev pub ReadsNext : {I : Type 0} → (I → Unread → Type 0) → Next → Stepping I → Calls → Type 0
+ReadsNext unread None s c = (t : StepState) × (next_event s.scanner.options c.steps ≡ Ok (None, t))
+ReadsNext unread (Some (Ok x)) s c = SeenNext unread s (plain_event x) c
+ReadsNext unread (Some (Err e)) s c = (e.kind ≡ NoMemory → ⊥) → (m : StepState) × Failed unread s m e
+    × FailsAt s.renumbered s.scanner.options m c e
+
+-- a call gives what the machine's call gives, and leads where that leads
+abbrev pub GivesCall : {I : Type 0} → (I → Unread → Type 0) → Next → Parsing I → Calls → Type 0
+GivesCall unread None p c = (next_call p.stepper.scanner.options c).0 ≡ None
+GivesCall unread (Some (Ok x)) p c = (d : Calls)
+    × (next_call p.stepper.scanner.options c ≡ (Some (Ok (plain_event x)), d)) × ParserIn unread p d
+GivesCall unread (Some (Err e)) p c = (e.kind ≡ NoMemory → ⊥) → (m : StepState)
+    × FailsAt p.stepper.renumbered p.stepper.scanner.options m c e × ParserIn unread p (failed_in m e c)
+
+-- a look leads nowhere but where it shows a fault, which then counts as given
+abbrev pub ShowsCall : {I : Type 0} → (I → Unread → Type 0) → Next → Parsing I → Calls → Type 0
+ShowsCall unread None p c = (next_call p.stepper.scanner.options c).0 ≡ None
+ShowsCall unread (Some (Ok x)) p c = ParserIn unread p c
+ShowsCall unread (Some (Err e)) p c = (e.kind ≡ NoMemory → ⊥) → (m : StepState)
+    × FailsAt p.stepper.renumbered p.stepper.scanner.options m c e × ParserIn unread p (failed_in m e c)
+
+-- what a look leaves where the machine's calls led
+pub record PeeksIn {I : Type 0} (unread : I → Unread → Type 0) (origin : I → Origin) (old : Parsing I) (r : Next)
+    (new : Parsing I) : Type 0 where
+  pub calls : (c : Calls) → Reached old.stepper.scanner.options c → IsOpen c → ParserIn unread old c
+      → (origin new.stepper.scanner.cursor.input).error ≡ None → ShowsCall unread r new c
+  pub closed : (c : Calls) → IsClosed c → ParserIn unread old c → ParserIn unread new c
+
+-- ---- recovery
+
+-- what recovery comes by: events that were looked at, turns by which documents are dropped, restarts behind faults, and
+-- turns made ahead
+pub data ComesBy (o : OptionsData) (m : StepState) : StepState → Type 0 where
+  comes_here : ComesBy o m m
+  comes_seen : {n k : StepState} {e : PlainEvent} → ComesBy o m n → next_event o n ≡ Ok (Some e, k) → ComesBy o m k
+  comes_dropping : {n k : StepState} → ComesBy o m n → DropsOn o n k → ComesBy o m k
+  comes_ended : {n k : StepState} → ComesBy o m n → skip o n ≡ Ended k → ComesBy o m k
+  comes_behind : {n : StepState} (stops : Stops) (e : Fault) → ComesBy o m n → ComesBy o m (skipped_fault o stops e n)
+  comes_anew : {n : StepState} (stop : Here) → ComesBy o m n → ComesBy o m (behind_fault stop n).1
+  comes_ahead : {n k : StepState} → ComesBy o m n → AheadOf o n k → ComesBy o m k
+  comes_bare : {n : StepState} → ComesBy o m n → ComesBy o m (with_pending [] n)
+
+-- an anchor on the way would get the greatest number
+abbrev pub MeetsNumber : (renumbered : Bool) → OptionsData → StepState → Type 0
+MeetsNumber renumbered o m = (n : StepState) × (e : Refused) × ComesBy o m n × RefusesNumber renumbered o n e
+
+-- what was looked at, as far as recovery asks
+abbrev pub seen_kind : EventKind → Seen
+seen_kind (Comment text placement) = seens.Comment
+seen_kind (DocumentStart explicit version) = seens.DocumentStart
+seen_kind DocumentEnd = seens.DocumentEnd
+seen_kind StreamEnd = seens.StreamEnd
+seen_kind kind = seens.Another
+
+abbrev pub seen_in : Next → Seen
+seen_in None = seens.Nothing
+seen_in (Some (Ok x)) = seen_kind (plain_event x).kind
+seen_in (Some (Err e)) = seens.Nothing
+
+abbrev pub starts : Seen → Bool
+starts seens.DocumentStart = true
+starts seen = false
+
+abbrev pub ends : Seen → Bool
+ends seens.DocumentEnd = true
+ends seen = false
+
+abbrev pub ends_stream : Seen → Bool
+ends_stream seens.StreamEnd = true
+ends_stream seen = false
+
+-- whether what was looked at tells that another document is there: any event but a comment
+abbrev pub tells : Seen → Bool
+tells seens.Nothing = false
+tells seens.Comment = false
+tells seen = true
+
+-- what is noted where an event is given: whether the end of a document is the last, comments aside, and whether that of
+-- the stream was given
+abbrev pub between_behind : EventKind → Bool → Bool
+between_behind (DocumentStart explicit version) between = false
+between_behind DocumentEnd between = true
+between_behind kind between = between
+
+abbrev pub over_behind : EventKind → Bool → Bool
+over_behind StreamEnd over = true
+over_behind kind over = over
+
+abbrev pub notes_between : Next → Bool → Bool
+notes_between None between = between
+notes_between (Some (Ok x)) between = between_behind (plain_event x).kind between
+notes_between (Some (Err e)) between = between
+
+abbrev pub notes_over : Next → Bool → Bool
+notes_over None over = over
+notes_over (Some (Ok x)) over = over_behind (plain_event x).kind over
+notes_over (Some (Err e)) over = over
+
+-- what recovery answers and where it leads, by where reads that were refused stopped
+abbrev pub Recovers : {I : Type 0} → (I → Unread → Type 0) → (looked : Bool) → Result Bool Refused → Parsing I → Calls
+    → Type 0
+Recovers unread looked r p c = (stops : Stops) × (d : Calls)
+    × (recover p.stepper.scanner.options stops looked c ≡ (r, d)) × ParserIn unread p d
+
+-- the end of the stream that was looked at stays, and nothing changes
+abbrev pub SeesEnd : {I : Type 0} → Result Bool Refused → (old new : Parsing I) → Type 0
+SeesEnd r old new = (seen_in old.peeked ≡ seens.StreamEnd) × (r ≡ Ok false) × (new ≡ old)
+
+-- recovery is that of the machine's calls, unless an anchor on the way would get the greatest number
+abbrev pub Proceeds : {I : Type 0} → (I → Unread → Type 0) → Result Bool Refused → (old new : Parsing I) → Calls
+    → Type 0
+Proceeds unread r old new c =
+    (Recovers unread (is_some old.peeked) r new c ⊎ SeesEnd r old new)
+    ⊎ MeetsNumber new.stepper.renumbered new.stepper.scanner.options c.steps
+
+-- ---- on the way
+
+-- nothing was looked at, and another document is asked for where calls led to directly behind one
+abbrev pub asking : StepState → Calls
+asking m = record (resumed m) { between = true }
+
+-- recovery asks there, where so many comments more may be kept
+pub record AsksAt (o : OptionsData) (looked : Bool) (c : Calls) (extra : ℕ) (m : StepState) : Type 0 where
+  pub stops : Stops
+  pub recovers : recover o stops looked c ≡ recovered o extra (resumed m)
+  pub tells : LookTells o m
+  pub comes : ComesBy o c.steps m
+
+-- by the event that was looked at and stays: behind a comment there is room for one fewer, and any other tells
+pub data SeenTells (o : OptionsData) (m after : StepState) : EventKind → Type 0 where
+  seen_comment : {kind : EventKind} → is_note kind ≡ true
+      → ((room : ℕ) → document_follows o (suc room) m ≡ document_follows o room after) → LookTells o after
+      → SeenTells o m after kind
+  seen_other : {kind : EventKind} → is_note kind ≡ false
+      → ((room : ℕ) → document_follows o room m ≡ Ok true) → SeenTells o m after kind
+
+-- the same where nothing, or an event, was looked at and stays
+pub record AsksNow {I : Type 0} (unread : I → Unread → Type 0) (looked : Bool) (s : Stepping I) (c : Calls) : Type 0
+  where
+    pub steps : StepState
+    pub asks : AsksAt s.scanner.options looked c 0 steps
+    pub goes : Goes unread s (asking steps)
+    pub turned : Turned s.scanner.options goes.steps
+
+pub record AsksBefore {I : Type 0} (unread : I → Unread → Type 0) (looked : Bool) (s : Stepping I) (e : PlainEvent)
+    (c : Calls) : Type 0 where
+  pub steps : StepState
+  pub asks : AsksAt s.scanner.options looked c (comment_of e.kind) steps
+  pub seen : SeenNext unread s e (asking steps)
+  pub turned : Turned s.scanner.options seen.goes.steps
+  pub tells : SeenTells s.scanner.options steps seen.steps e.kind
+
+abbrev pub AsksBy : {I : Type 0} → (I → Unread → Type 0) → (looked : Bool) → Next → Stepping I → Calls → Type 0
+AsksBy unread looked None s c = AsksNow unread looked s c
+AsksBy unread looked (Some (Ok x)) s c = AsksBefore unread looked s (plain_event x) c
+AsksBy unread looked (Some (Err e)) s c = ⊥
+
+abbrev pub Skips : {I : Type 0} → (I → Unread → Type 0) → (looked : Bool) → Parsing I → Calls → Type 0
+Skips unread looked p c =
+    AsksBy unread looked p.peeked p.stepper c ⊎ MeetsNumber p.stepper.renumbered p.stepper.scanner.options c.steps
+
+-- where the answer leads
+pub record AnswersIn {I : Type 0} (unread : I → Unread → Type 0) (looked : Bool) (r : Result Bool Refused)
+    (p : Parsing I) (c : Calls) : Type 0 where
+  pub stops : Stops
+  pub steps : StepState
+  pub recovers : recover p.stepper.scanner.options stops looked c ≡ answered r (resumed steps)
+  pub seen : IfOk r (λ follows. SeenBy unread p.peeked p.stepper (answered r (resumed steps)).1)
+
+abbrev pub Follows : {I : Type 0} → (I → Unread → Type 0) → (looked : Bool) → Result Bool Refused → Parsing I → Calls
+    → Type 0
+Follows unread looked r p c =
+    AnswersIn unread looked r p c ⊎ MeetsNumber p.stepper.renumbered p.stepper.scanner.options c.steps
+
+-- the same of the calls that aren't given up: a refusal leaves what it leaves
+abbrev pub EndsIn : {I : Type 0} → (I → Unread → Type 0) → Result Bool Refused → Parsing I → Calls → Type 0
+EndsIn unread (Ok follows) p d = ParserIn unread p d
+EndsIn unread (Err e) p d = (d.over ≡ false) × (d.refusal ≡ Some e)
+
+abbrev pub Ends : {I : Type 0} → (I → Unread → Type 0) → Result Bool Refused → (old new : Parsing I) → Calls → Type 0
+Ends unread r old new c =
+    (((stops : Stops) × (d : Calls)
+    × (recover new.stepper.scanner.options stops (is_some old.peeked) c ≡ (r, d)) × EndsIn unread r new d)
+    ⊎ SeesEnd r old new)
+    ⊎ MeetsNumber new.stepper.renumbered new.stepper.scanner.options c.steps

@@ -1,0 +1,314 @@
+//! Recovery at a document boundary.
+ghost use Rattle.std.specs.Prelude.{◌≡◌, ◌⊎◌, ◌&&◌, not, true, false, None, Some, Ok, IfErr, IfOk, IfSome};
+ghost use Rattle.std.specs.Prelude.{is_some, OnOk};
+ghost use Rattle.granit_cursor.specs.Reading.{GoesOnward, Moves};
+ghost use Rattle.granit_error.specs.FaultKind.{NoMemory as OutOfMemory};
+ghost use Rattle.granit_event.specs.Events.{event_kind};
+ghost use Rattle.granit_parser.specs.Parsing.{EndsWith, Keeps};
+ghost use Rattle.granit_parser.specs.Recovering as spec;
+ghost use Rattle.granit_parser.specs.Recovering.{AsksBy, Ends, Follows, GaveUp, ParserIn, Proceeds, SeenBy, Skips};
+ghost use Rattle.granit_parser.specs.Recovering.{between_behind, notes_between, notes_over};
+ghost use Rattle.granit_parser.specs.Recovering.{over_behind, seen_in, seen_kind};
+ghost use Rattle.granit_parser.specs.Sources.{IsSourceError, TellsSource};
+ghost use Rattle.granit_parser.specs.declared.recovery.Seen.TheVariants as seens;
+ghost use Rattle.granit_reader.specs.Meets.{UnlessMemory};
+ghost use Rattle.granit_receivers.specs.Kept.{GivesAgain, IsKept};
+ghost use Rattle.granit_recovery.specs.Streams.{Reached};
+ghost use Rattle.granit_restart.specs.Calls.{Calls};
+
+use crate::parser::Parser;
+use granit_base::{NoMemory, Span};
+use granit_error::ScanError;
+use granit_event::Event;
+use granit_input::BorrowedInput;
+use granit_receivers::kept;
+use granit_recovery::{
+    a_comment_takes_room_where_recovery_asks, a_look_tells_where_recovery_asks, calls_go_by_turns,
+    nothing_changes_behind_the_end,
+};
+
+/// What comes next.
+type Next<'input> = Option<Result<(Event<'input>, Span), ScanError>>;
+
+/// What was looked at, as far as recovery asks.
+#[derive(Clone, Copy)]
+pub(crate) enum Seen {
+    /// Nothing, or a refusal.
+    Nothing,
+    Comment,
+    DocumentStart,
+    DocumentEnd,
+    StreamEnd,
+    Another,
+}
+
+impl<'input, T: BorrowedInput<'input>> Parser<'input, T> {
+    /// Drops a document, or what is left of the open one, and tells whether another is there: behind a refusal that was
+    /// given or looked at the open document, directly behind the end of a document none, else the open or the next one.
+    ///
+    /// The contract: where the machine's calls led, it is their recovery (`known`). Want of memory, an error of the
+    /// source and a refusal of recovery itself are given again by each further call (`again`).
+    ///
+    /// # Errors
+    ///
+    /// The error of the source, `TooManyComments` where more comments come before the next document than may be kept,
+    /// and `NoMemory`. Each further call answers that again, and nothing more is given.
+    pub fn proceed_next_document(&mut self) -> Result<bool, ScanError>
+        ensures known { (c : Calls) → Reached self.old.stepper.scanner.options c → ParserIn T.unread self.old c
+            → UnlessMemory result (Proceeds T.unread result self.old self.new c
+            ⊎ TellsSource T.origin (Some result) self.new.stepper.scanner.cursor) }
+        ensures again { self.old.over ≡ false → self.old.stepper.failed ≡ true → self.old.stepper.refusal ≡ None
+            → IfSome self.old.given (λ e. GivesAgain e result) }
+        ensures refused { IfErr result (λ e. GaveUp self.new e) }
+        ensures over { self.old.over ≡ true → (result ≡ Ok false) × (self.new ≡ self.old) }
+        ensures options { self.new.stepper.scanner.options ≡ self.old.stepper.scanner.options }
+        ensures renumbered { self.new.stepper.renumbered ≡ self.old.stepper.renumbered }
+        ensures onward { GoesOnward T.unread self.old.stepper.scanner.cursor self.new.stepper.scanner.cursor }
+    {
+        match self.proceed() {
+            Ok(follows) => Ok(follows),
+            Err(error) => {
+                self.give_up(&error);
+                Err(error)
+            }
+        }
+    }
+
+    /// Nothing more is given, and each further call of recovery answers this again.
+    fn give_up(&mut self, error: &ScanError)
+        ensures gone { GaveUp self.new error.now }
+        ensures scanner { self.new.stepper.scanner ≡ self.old.stepper.scanner }
+        ensures renumbered { self.new.stepper.renumbered ≡ self.old.stepper.renumbered }
+        ensures over { self.new.over ≡ self.old.over }
+    {
+        self.peeked = None;
+        self.stepper.give_up();
+        self.given = Some(kept(self.alloc, error));
+    }
+
+    fn proceed(&mut self) -> Result<bool, ScanError>
+        ensures known { (c : Calls) → Reached self.old.stepper.scanner.options c → ParserIn T.unread self.old c
+            → UnlessMemory result (Ends T.unread result self.old self.new c
+            ⊎ TellsSource T.origin (Some result) self.new.stepper.scanner.cursor) }
+        ensures again { self.old.over ≡ false → self.old.stepper.failed ≡ true → self.old.stepper.refusal ≡ None
+            → IfSome self.old.given (λ e. GivesAgain e result) }
+        ensures over { self.old.over ≡ true → (result ≡ Ok false) × (self.new ≡ self.old) }
+        ensures refused { IfErr result (λ e. self.new.over ≡ false) }
+        ensures options { self.new.stepper.scanner.options ≡ self.old.stepper.scanner.options }
+        ensures renumbered { self.new.stepper.renumbered ≡ self.old.stepper.renumbered }
+        ensures onward { GoesOnward T.unread self.old.stepper.scanner.cursor self.new.stepper.scanner.cursor }
+    {
+        nothing_changes_behind_the_end();
+        if self.over {
+            return Ok(false);
+        }
+        if self.cannot_recover() {
+            return Err(self.refused());
+        }
+        if ends_stream(self.seen()) {
+            return Ok(false);
+        }
+        self.skip()?;
+        let follows = self.follows()?;
+        self.answer(follows)
+    }
+
+    /// Whether a refusal was given or looked at behind which reading doesn't go on.
+    fn cannot_recover(&self) -> bool
+        ensures { result ≡ (self.now.stepper.failed && not (is_some self.now.stepper.refusal)) }
+    {
+        self.stepper.has_failed() && !self.stepper.can_recover()
+    }
+
+    /// The answer, or the error of the source in its place.
+    fn answer(&mut self, follows: bool) -> Result<bool, ScanError>
+        ensures known { (d : Calls) → SeenBy T.unread self.old.peeked self.old.stepper d
+            → IfOk result (λ r. SeenBy T.unread self.new.peeked self.new.stepper d) }
+        ensures answer { IfOk result (λ r. (r ≡ follows) × (self.new.between ≡ not follows)) }
+        ensures source { IfErr result (λ e. IsSourceError (T.origin self.new.stepper.scanner.cursor.input)
+            self.new.stepper.scanner.cursor.place e) }
+        ensures going { self.new.over ≡ self.old.over }
+        ensures options { self.new.stepper.scanner.options ≡ self.old.stepper.scanner.options }
+        ensures renumbered { self.new.stepper.renumbered ≡ self.old.stepper.renumbered }
+        ensures onward { GoesOnward T.unread self.old.stepper.scanner.cursor self.new.stepper.scanner.cursor }
+    {
+        match self.take_source_error() {
+            Some(error) => Err(error),
+            None => {
+                self.note_answer(follows);
+                Ok(follows)
+            }
+        }
+    }
+
+    /// Where no other document is there, that counts as directly behind one.
+    fn note_answer(&mut self, follows: bool)
+        ensures { self.new ≡ record self.old { between = not follows } }
+    {
+        self.between = !follows;
+    }
+
+    /// The refusal that was given, or that was looked at.
+    fn refused(&mut self) -> ScanError
+        ensures given { IfSome self.old.given (λ e. IsKept e result) }
+        ensures rest { self.new ≡ record self.old { peeked = self.new.peeked } }
+    {
+        match &self.given {
+            Some(error) => kept(self.alloc, error),
+            None => match self.peeked.take() {
+                Some(Err(error)) => error,
+                _ => ScanError::from(NoMemory),
+            },
+        }
+    }
+
+    /// Drops what is to be dropped. Directly behind a document what was looked at stays, but for the start of another.
+    fn skip(&mut self) -> Result<(), ScanError>
+        ensures known { (c : Calls) → Reached self.old.stepper.scanner.options c → ParserIn T.unread self.old c
+            → c.over ≡ false → c.refusal ≡ None → (seen_in self.old.peeked ≡ seens.StreamEnd → ⊥)
+            → OnOk result (Skips T.unread (is_some self.old.peeked) self.new c) }
+        ensures memory { IfErr result (λ e. e.kind ≡ OutOfMemory) }
+        ensures going { self.new.over ≡ self.old.over }
+        ensures options { self.new.stepper.scanner.options ≡ self.old.stepper.scanner.options }
+        ensures renumbered { self.new.stepper.renumbered ≡ self.old.stepper.renumbered }
+        ensures moves { Moves T.unread T.left T.origin self.old.stepper.scanner.cursor self.new.stepper.scanner.cursor }
+    {
+        a_look_tells_where_recovery_asks();
+        a_comment_takes_room_where_recovery_asks();
+        calls_go_by_turns();
+        if self.has_failed() {
+            self.forget_refusal();
+            return self.stepper.skip_fault(self.alloc);
+        }
+        let seen = self.seen();
+        if self.stays(seen) {
+            return Ok(());
+        }
+        self.forget();
+        if ends(seen) {
+            return Ok(());
+        }
+        self.stepper.skip_document(self.alloc)
+    }
+
+    /// Whether nothing is to be dropped.
+    fn stays(&self, seen: Seen) -> bool
+        ensures { result ≡ (self.now.between && not (spec.starts seen)) }
+    {
+        self.between && !starts(seen)
+    }
+
+    /// What was looked at is dropped.
+    fn forget(&mut self)
+        ensures { self.new ≡ record self.old { peeked = None } }
+    {
+        self.peeked = None;
+    }
+
+    /// So is a refusal.
+    fn forget_refusal(&mut self)
+        ensures { self.new ≡ record self.old { peeked = None; given = None } }
+    {
+        self.peeked = None;
+        self.given = None;
+    }
+
+    /// Whether another document is there, where nothing but what was looked at is between.
+    fn follows(&mut self) -> Result<bool, ScanError>
+        ensures known { (looked : _) (c : Calls) → AsksBy T.unread looked self.old.peeked self.old.stepper c
+            → UnlessMemory result (Follows T.unread looked result self.new c) }
+        ensures going { self.new.over ≡ self.old.over }
+        ensures options { self.new.stepper.scanner.options ≡ self.old.stepper.scanner.options }
+        ensures renumbered { self.new.stepper.renumbered ≡ self.old.stepper.renumbered }
+        ensures moves { Moves T.unread T.left T.origin self.old.stepper.scanner.cursor self.new.stepper.scanner.cursor }
+    {
+        if tells(self.seen()) {
+            return Ok(true);
+        }
+        let room = self.stepper.max_comments();
+        self.stepper.document_follows(self.alloc, room)
+    }
+
+    fn seen(&self) -> Seen
+        ensures { result ≡ seen_in self.now.peeked }
+    {
+        match &self.peeked {
+            None => Seen::Nothing,
+            Some(Ok((event, _))) => seen_of(event),
+            Some(Err(_)) => Seen::Nothing,
+        }
+    }
+
+    /// Notes what is given: a refusal is kept.
+    pub(crate) fn note(&mut self, next: &Next<'input>)
+        requires seen { self.old.peeked ≡ None }
+        requires ends { EndsWith next.now self.old.stepper }
+        ensures between { self.new.between ≡ notes_between next.now self.old.between }
+        ensures over { self.new.over ≡ notes_over next.now self.old.over }
+        ensures given { Keeps next.now self.old.given self.new.given }
+        ensures rest { self.new ≡ record self.old {
+          given = self.new.given;
+          between = self.new.between;
+          over = self.new.over;
+        } }
+    {
+        match next {
+            None => {}
+            Some(Ok((event, _))) => self.note_event(event),
+            Some(Err(error)) => self.given = Some(kept(self.alloc, error)),
+        }
+    }
+
+    fn note_event(&mut self, event: &Event<'input>)
+        ensures between { self.new.between ≡ between_behind (event_kind event.now) self.old.between }
+        ensures over { self.new.over ≡ over_behind (event_kind event.now) self.old.over }
+        ensures rest { self.new ≡ record self.old { between = self.new.between; over = self.new.over } }
+    {
+        match event {
+            Event::DocumentStart(_, _) => self.between = false,
+            Event::DocumentEnd => self.between = true,
+            Event::StreamEnd => self.over = true,
+            _ => {}
+        }
+    }
+}
+
+fn seen_of(event: &Event<'_>) -> Seen
+    ensures { result ≡ seen_kind (event_kind event.now) }
+{
+    match event {
+        Event::Comment(_, _) => Seen::Comment,
+        Event::DocumentStart(_, _) => Seen::DocumentStart,
+        Event::DocumentEnd => Seen::DocumentEnd,
+        Event::StreamEnd => Seen::StreamEnd,
+        _ => Seen::Another,
+    }
+}
+
+fn starts(seen: Seen) -> bool
+    ensures { result ≡ spec.starts seen }
+{
+    matches!(seen, Seen::DocumentStart)
+}
+
+fn ends(seen: Seen) -> bool
+    ensures { result ≡ spec.ends seen }
+{
+    matches!(seen, Seen::DocumentEnd)
+}
+
+fn ends_stream(seen: Seen) -> bool
+    ensures { result ≡ spec.ends_stream seen }
+{
+    matches!(seen, Seen::StreamEnd)
+}
+
+/// Whether what was looked at tells that another document is there.
+fn tells(seen: Seen) -> bool
+    ensures { result ≡ spec.tells seen }
+{
+    matches!(
+        seen,
+        Seen::DocumentStart | Seen::DocumentEnd | Seen::StreamEnd | Seen::Another
+    )
+}

@@ -1,0 +1,24 @@
+-- What a read came to behind its gap, as recovery asks.
+use Rattle.std.specs.Prelude.{◌≡◌, Bool, true, false, Result, Ok, Err}
+use Rattle.granit_error.specs.FaultKind.{NoMemory}
+use Rattle.granit_error.specs.OptionsData.{OptionsData}
+use Rattle.granit_error.specs.Refused.{Refused}
+use Rattle.granit_machine.specs.Gaps.{GapRead}
+use Rattle.granit_restart.specs.Header.{directive_read}
+use Rattle.granit_reader.specs.declared.met.Met.{Met}
+use Rattle.granit_reader.specs.declared.met.Met.TheVariants as mets
+
+-- whether a read stands among directives, by whether what stands before it does
+abbrev pub behind_met : Met → Bool → Bool
+behind_met mets.Nothing before = before
+behind_met mets.Directive before = true
+behind_met mets.Another before = false
+
+-- what was met behind this gap is what the definition finds there
+abbrev pub MeetsBehind : OptionsData → Met → GapRead → Type 0
+MeetsBehind o met given = (before : Bool) → behind_met met before ≡ directive_read o before given
+
+-- unless memory ran out
+abbrev pub UnlessMemory : {X : Type 0} → Result X Refused → Type 0 → Type 0
+UnlessMemory (Ok x) Holds = Holds
+UnlessMemory (Err e) Holds = (e.kind ≡ NoMemory → ⊥) → Holds

@@ -1,0 +1,96 @@
+-- Tokens that mark where a document starts or ends, or the end of the stream, and where tokens go on behind a boundary.
+use Rattle.std.specs.Prelude.{Bool, true, false, List, [], ◌∷◌, ◌++◌, Option, Some, None}
+use Rattle.granit_base.specs.declared.place.Span.{Span}
+use Rattle.granit_base.specs.declared.style.Placement.{Placement}
+use Rattle.granit_base.specs.declared.style.Placement.TheVariants.{Right}
+use Rattle.granit_lexemes.specs.Comment.{CommentRead}
+use Rattle.granit_lexemes.specs.Here.{Here}
+use Rattle.granit_lexemes.specs.Lexeme as lexemes
+use Rattle.granit_lexemes.specs.Lexeme.{Lexeme, LexemeKind, OfLexeme}
+use Rattle.granit_machine.specs.Lexing.{FlaggedItem}
+use Rattle.granit_restart.specs.Restart.{behind_fault}
+use Rattle.granit_scan.specs.Following.{following_start}
+use Rattle.granit_scan.specs.TokenSteps.{TokenState}
+use Rattle.granit_scan.specs.TokenViews.{Comment, DocumentEnd, DocumentStart, EndOfStream, PlainToken, TokenKind}
+use Rattle.granit_steps.specs.Steps.{StepState, start_from, unflagged}
+use Rattle.granit_steps.specs.Told.{parsers_items}
+
+-- ---- marks
+
+abbrev pub marked_by : TokenKind → Option LexemeKind
+marked_by DocumentStart = Some lexemes.DocumentStart
+marked_by DocumentEnd = Some lexemes.DocumentEnd
+marked_by EndOfStream = Some lexemes.StreamEnd
+marked_by kind = None
+
+abbrev pub is_right : Placement → Bool
+is_right Right = true
+is_right placement = false
+
+abbrev comment_by : TokenKind → Span → Option CommentRead
+comment_by (Comment text placement) s =
+    Some (record { text = text; source = record { start = s.start; end = s.end }; is_right = is_right placement })
+comment_by kind s = None
+
+-- the comment that a token is
+abbrev pub comment_of : PlainToken → Option CommentRead
+comment_of t = comment_by t.kind t.span
+
+-- the comment behind a mark is the token behind it
+abbrev pub tail_in : List PlainToken → Option CommentRead
+tail_in [] = None
+tail_in (t ∷ ts) = comment_of t
+
+-- a mark as a lexeme; no lexeme that is read later has its number
+abbrev pub mark_at : LexemeKind → Span → Option CommentRead → Lexeme
+mark_at kind s tail = record {
+  number = 0;
+  kind = kind;
+  start = s.start;
+  shown = record { start = s.start; end = s.end };
+  end = s.end;
+  indent = None;
+  in_flow = false;
+  begins_line = true;
+  follows_indicator = false;
+  ends_column = false;
+  key = None;
+  tail = tail;
+}
+
+abbrev pub mark_or : Option LexemeKind → Span → List PlainToken → Option Lexeme → Option Lexeme
+mark_or None s ts later = later
+mark_or (Some kind) s ts later = Some (mark_at kind s (tail_in ts))
+
+-- the first mark among tokens
+abbrev pub mark_in : List PlainToken → Option Lexeme
+mark_in [] = None
+mark_in (t ∷ ts) = mark_or (marked_by t.kind) t.span ts (mark_in ts)
+
+-- a token that was handed back stands before those that wait
+abbrev pub handed : Option PlainToken → List PlainToken
+handed None = []
+handed (Some t) = t ∷ []
+
+abbrev pub mark_items : Option Lexeme → List FlaggedItem
+mark_items None = []
+mark_items (Some l) = unflagged (OfLexeme l) ∷ []
+
+-- ---- where tokens go on
+
+-- items are read and wait as the steps have them, before a fault those that may go; a mark that was written is the
+-- first of them again
+abbrev pub unwritten : List PlainToken → TokenState → StepState
+unwritten ts m = record (start_from m.reading.reader.here) {
+  reading = m.reading;
+  queue = mark_items (mark_in ts) ++ parsers_items m.reading.reader.laid m.reading.fault m.queue;
+}
+
+-- nothing is open, and no token waits
+abbrev pub resumed : StepState → TokenState
+resumed s = record { reading = s.reading; queue = s.queue; following = following_start; pending = [] }
+
+-- The next boundary: first among a token that was handed back, the tokens and the items that wait, or else in the text
+-- behind where reading stands, or where a read that was refused stopped.
+unfoldable pub proceeded : (stop : Here) → Option PlainToken → TokenState → TokenState
+proceeded stop t m = resumed (behind_fault stop (unwritten (handed t ++ m.pending) m)).1

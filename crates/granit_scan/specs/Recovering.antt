@@ -1,0 +1,57 @@
+-- What recovery needs to know of a scanner, and where it then stands.
+use Rattle.std.specs.Prelude.{◌≡◌, ◌++◌, List, Option, Some, None, Result, Ok, Err}
+use Rattle.granit_base.specs.Place.{Unread}
+use Rattle.granit_cursor.specs.Reading.{CameOn, Reading, Stands}
+use Rattle.granit_error.specs.FaultKind.{NoMemory}
+use Rattle.granit_error.specs.OptionsData.{OptionsData}
+use Rattle.granit_error.specs.Refused.{Refused}
+use Rattle.granit_lexemes.specs.Here.{Here}
+use Rattle.granit_lexemes.specs.Onward.{Onward}
+use Rattle.granit_lexemes.specs.Outcome.{Fault}
+use Rattle.granit_scan.specs.Marks.{proceeded}
+use Rattle.granit_scan.specs.Scanning.{Scanning, StandsIn, first_tokens}
+use Rattle.granit_scan.specs.TokenSteps.{TokenState, token_turn}
+use Rattle.granit_scan.specs.TokenViews.{PlainToken}
+use Rattle.granit_steps.specs.Told.{parsers_items}
+
+-- a cursor is where reading stands, or came on from there where a read was refused
+abbrev pub CameBy : {I : Type 0} → (I → Unread → Type 0) → Option Fault → Here → Reading I → Type 0
+CameBy unread None h r = Stands unread r h
+CameBy unread (Some f) h r = CameOn unread h r
+
+-- Whether a call failed or not: where the cursor is, how many lexemes were read, and what was read and not given.
+pub record Rests {I : Type 0} (unread : I → Unread → Type 0) (s : Scanning I) (m : TokenState) : Type 0 where
+  pub came : CameBy unread m.reading.fault m.reading.reader.here s.items.cursor
+  pub number : s.items.laid.number ≡ m.reading.reader.laid.number
+  pub queue : parsers_items m.reading.reader.laid m.reading.fault m.queue ≡ s.items.queue
+  pub pending : m.pending ≡ first_tokens s.first ++ s.writer.waiting
+
+-- turns lead from a state to another
+pub data TurnsTo (o : OptionsData) : TokenState → TokenState → Type 0 where
+  no_turn : {m : TokenState} → TurnsTo o m m
+  turned_on : {m n after : TokenState} {given : Option (List PlainToken)} → TurnsTo o m n
+      → token_turn o n ≡ Ok (given, after) → TurnsTo o m after
+
+-- a turn fails in a state to which others lead, and a scanner rests there
+pub record RefusedIn {I : Type 0} (unread : I → Unread → Type 0) (o : OptionsData) (s : Scanning I) (m : TokenState)
+    (e : Refused) : Type 0 where
+  pub at : TokenState
+  pub turns : TurnsTo o m at
+  pub fails : token_turn o at ≡ Err e
+  pub rests : Rests unread s at
+
+-- unless memory ran out
+abbrev pub RefusesIn : {I X : Type 0} → (I → Unread → Type 0) → OptionsData → Result X Refused → Scanning I
+    → TokenState → Type 0
+RefusesIn unread o (Ok x) s m = Unit {0}
+RefusesIn unread o (Err e) s m = (e.kind ≡ NoMemory → ⊥) → RefusedIn unread o s m e
+
+-- the same for the one turn that is made
+abbrev pub RestsIn : {I X : Type 0} → (I → Unread → Type 0) → Result X Refused → Scanning I → TokenState → Type 0
+RestsIn unread (Ok x) s m = Unit {0}
+RestsIn unread (Err e) s m = (e.kind ≡ NoMemory → ⊥) → Rests unread s m
+
+-- a scanner is in the state at the next boundary, for some place where a read that was refused may have stopped
+abbrev pub Proceeds : {I : Type 0} → (I → Unread → Type 0) → Option PlainToken → TokenState → Scanning I → Type 0
+Proceeds unread t m s =
+    (stop : Here) × Onward m.reading.reader.here stop × StandsIn unread s (proceeded stop t m)

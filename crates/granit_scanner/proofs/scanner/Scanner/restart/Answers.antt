@@ -1,0 +1,33 @@
+use Rattle.std.proofs.Common.{◌≡◌, ◌++◌, Bool, None, Some, sym, subst, ◌∙◌}
+use Rattle.std.specs.Prelude.{IfOk}
+use Rattle.granit_cursor.specs.Reading.{Stands}
+use Rattle.granit_items.specs.ItemViews.{lexeme_view}
+use Rattle.granit_restart.specs.Restart.{read_boundary}
+use Rattle.granit_scanner.specs.Restarts.{Restarts, front_items}
+use Rattle.granit_scanner.proofs.RestartLemmas.{goes_by}
+use Rattle.granit_scanner.proofs.scanner.Scanner.restart.Goals as goal
+use Rattle.granit_steps.specs.Steps.{StepState}
+
+pub returns-in-Some-clause-known : goal.returns-in-Some-clause-known
+returns-in-Some-clause-known g c = λ s h k number same.
+    let unread = g.T.Input.unread in
+    let stands = subst (λ r. Stands unread r.cursor h) (sym c.self.view_is) k in
+    let here = c.look.ensures.here h stands in
+    let counted = subst (λ r. r.laid.number ≡ s.reading.reader.laid.number) (sym c.self.view_is) number in
+    let waits = subst (λ r. read_boundary h s.queue ≡ read_boundary h (front_items c.args.front ++ r.queue))
+    (sym c.self.view_is) same in
+    let is = goes_by h s (Some (lexeme_view c.in-Some.lexeme)) (waits ∙ sym (c.in-Some.ensures h here)) in
+    subst (λ (x : Bool × StepState). IfOk c.restart_at.result (Restarts unread x c.restart_at.new.self)) (sym is)
+    (c.restart_at.ensures.known s h here counted)
+
+pub returns-in-None-clause-known : goal.returns-in-None-clause-known
+returns-in-None-clause-known g c = λ s h k number same.
+    let unread = g.T.Input.unread in
+    let stands = subst (λ r. Stands unread r.cursor h) (sym c.self.view_is) k in
+    let here = c.look.ensures.here h stands in
+    let counted = subst (λ r. r.laid.number ≡ s.reading.reader.laid.number) (sym c.self.view_is) number in
+    let waits = subst (λ r. read_boundary h s.queue ≡ read_boundary h (front_items c.args.front ++ r.queue))
+    (sym c.self.view_is) same in
+    let is = goes_by h s None (waits ∙ sym (c.in-None.ensures h here)) in
+    subst (λ (x : Bool × StepState). IfOk c.restart_behind.result (Restarts unread x c.restart_behind.new.self))
+    (sym is) (c.restart_behind.ensures.known s h here counted)

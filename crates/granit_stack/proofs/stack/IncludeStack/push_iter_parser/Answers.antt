@@ -1,4 +1,0 @@
-use Rattle.granit_stack.proofs.stack.IncludeStack.push_iter_parser.Goals as goal
-
-pub returns-clause-pushed : goal.returns-clause-pushed
-returns-clause-pushed g c = rw (← c.self.view_is) c.push_second.ensures.pushed

@@ -1,0 +1,57 @@
+use Rattle.std.proofs.Common.{◌≡◌, true, sym, subst, ◌∙◌}
+use Rattle.granit_cursor.specs.Reading.{GivesTo}
+use Rattle.granit_error.specs.OptionsData.{OptionsData}
+use Rattle.granit_scanner.specs.Scans.{front_view}
+use Rattle.granit_stepper.specs.Numbers.{GetsLast, GivesOr, RefusesNumber}
+use Rattle.granit_stepper.specs.Stepping.{StandsIn, feed_item, turn_view}
+use Rattle.granit_stepper.proofs.NumberLemmas.{gives_or, turn_or}
+use Rattle.granit_stepper.proofs.RefusalLemmas.{item_refuses_in}
+use Rattle.granit_stepper.proofs.TurnLemmas.{turn_feeds, turn_reads}
+use Rattle.granit_stepper.proofs.stepper.Stepper.advance_on.Goals as goal
+use Rattle.granit_steps.specs.Steps.{StepState, Turn, read_more}
+
+pub returns-in-Some-clause-known : goal.returns-in-Some-clause-known
+returns-in-Some-clause-known g c = λ m at told pending.
+    let unread = g.T.Input.unread in
+    let o = c.args.self.now.scanner.options in
+    let x = front_view c.in-Some.front in
+    let after = c.take_item.new.self in
+    let free = c.in-Some.ensures.known m at in
+    let behind : StepState = record m { queue = free.0 } in
+    let fed = c.take_item.ensures.known behind free.4 (c.in-Some.ensures.keeps.first ∙ told) pending in
+    let same = subst
+    (λ (p : OptionsData). GivesOr turn_view c.take_item.result (StandsIn unread after) (feed_item p x behind)
+    (λ e. (after.renumbered ≡ true) × GetsLast p x m.parser e)) c.in-Some.ensures.keeps.options fed in
+    subst (λ (r : Turn). GivesOr turn_view c.take_item.result (StandsIn unread after) r
+    (RefusesNumber after.renumbered o m)) (sym (turn_feeds o m x free.0 pending free.1 free.2 free.3))
+    (turn_or o m x free.0 pending free.1 free.2 free.3 turn_view c.take_item.result (StandsIn unread after)
+    after.renumbered (feed_item o x behind) same)
+
+pub returns-in-None-clause-known : goal.returns-in-None-clause-known
+returns-in-None-clause-known g c = λ m at told pending.
+    let unread = g.T.Input.unread in
+    let o = c.args.self.now.scanner.options in
+    let after = c.read_more.new.self in
+    let free = c.in-None.ensures.known m at in
+    let read = c.read_more.ensures.known m free.1 free.0 in
+    let same = subst
+    (λ (p : OptionsData). GivesTo turn_view c.read_more.result (StandsIn unread after) (read_more p m.reading.ended m))
+    c.in-None.ensures.keeps.options read in
+    subst (λ (r : Turn). GivesOr turn_view c.read_more.result (StandsIn unread after) r
+    (RefusesNumber after.renumbered o m)) (sym (turn_reads o m pending free.0))
+    (gives_or turn_view c.read_more.result (StandsIn unread after) (read_more o m.reading.ended m)
+    (RefusesNumber after.renumbered o m) same)
+
+pub returns-in-Some-clause-refused : goal.returns-in-Some-clause-refused
+returns-in-Some-clause-refused g c = λ m at told pending calm.
+    let unread = g.T.Input.unread in
+    let x = front_view c.in-Some.front in
+    let free = c.in-Some.ensures.known m at in
+    let behind : StepState = record m { queue = free.0 } in
+    item_refuses_in unread c.take_item.new.self m pending x free.0 free.1 free.2 free.3 c.take_item.result
+    (c.take_item.ensures.refused behind free.4 (c.in-Some.ensures.keeps.first ∙ told) pending calm)
+
+pub returns-in-None-clause-refused : goal.returns-in-None-clause-refused
+returns-in-None-clause-refused g c = λ m at told pending calm.
+    let free = c.in-None.ensures.known m at in
+    c.read_more.ensures.refused m free.1 (c.in-None.ensures.keeps.first ∙ told) pending free.0

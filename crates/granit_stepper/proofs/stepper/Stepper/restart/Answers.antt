@@ -1,0 +1,24 @@
+use Rattle.std.proofs.Common.{Option, sym, subst, ◌∙◌}
+use Rattle.granit_restart.specs.Turned.{Turned}
+use Rattle.granit_stepper.specs.Refusals.{RefusedIn}
+use Rattle.granit_stepper.specs.Stepping.{Stepping}
+use Rattle.granit_stepper.specs.declared.refusal.Refusal.{Refusal}
+use Rattle.granit_stepper.proofs.stepper.Stepper.restart.Goals as goal
+
+pub returns-in-Some-clause-known : goal.returns-in-Some-clause-known
+returns-in-Some-clause-known g c = λ m e refused turned.
+    let unread = g.T.Input.unread in
+    let inside : Stepping g.row.T.Denot = record {
+      scanner = c.self.inside.scanner;
+      parser = c.self.inside.parser;
+      first = c.self.inside.first;
+      failed = c.self.inside.failed;
+      renumbered = c.self.inside.renumbered;
+      ahead = c.self.inside.ahead;
+      refusal = c.self.inside.refusal;
+    } in
+    let here = subst (λ (s : Stepping g.row.T.Denot). RefusedIn unread s m e) (sym c.self.view_is) refused in
+    c.restart_behind.ensures.known m e
+    (subst (λ (r : Option Refusal). RefusedIn unread (record inside { refusal = r }) m e)
+    (sym c.take.ensures.value ∙ c.in-Some.is) here)
+    (subst (λ (s : Stepping g.row.T.Denot). Turned s.scanner.options m) (sym c.self.view_is) turned)

@@ -1,0 +1,23 @@
+use Rattle.std.proofs.Common.{Some, refl, sym, subst, ◌∙◌}
+use Rattle.granit_stepper.proofs.RefusalLemmas.{restarts_behind}
+use Rattle.granit_stepper.specs.Refusals.{RefusedIn}
+use Rattle.granit_stepper.specs.Stepping.{Stepping}
+use Rattle.granit_stepper.proofs.stepper.Stepper.restart_behind.Goals as goal
+
+pub returns-clause-known : goal.returns-clause-known
+returns-clause-known g c = λ m e refused turned.
+    let unread = g.T.Input.unread in
+    let inside : Stepping g.row.T.Denot = record {
+      scanner = c.self.inside.scanner;
+      parser = c.self.inside.parser;
+      first = c.self.inside.first;
+      failed = c.self.inside.failed;
+      renumbered = c.self.inside.renumbered;
+      ahead = c.self.inside.ahead;
+      refusal = Some c.args.refusal;
+    } in
+    let here = subst (λ (s : Stepping g.row.T.Denot). RefusedIn unread (record s { refusal = Some c.args.refusal }) m e)
+    (sym c.self.view_is) refused in
+    restarts_behind unread inside m e here c.args.refusal refl c.args.self.now.scanner.options turned
+    (sym c.is_lost.ensures ∙ c.if-is_lost.false) _ c.in_ok-starts.starts c.in_ok-starts.ensures.known
+    c.drop_document.ensures refl refl refl

@@ -1,0 +1,58 @@
+use Rattle.std.proofs.Common.{◌≡◌, ◌∙◌, Bool, true, false, Ok, subst, arith}
+use Rattle.std.proofs.lemmas.Result.{err_from_is_err_and}
+use Rattle.granit_input.proofs.OriginLemmas.{goes_nowhere, goes_on}
+use Rattle.granit_stepper.proofs.CalmLemmas.{nothing_waits_outside, turns_turned}
+use Rattle.granit_stepper.proofs.SettleLemmas.{Turned, alike_done, alike_fails, alike_first, alike_more, keeps_both}
+use Rattle.granit_stepper.proofs.SettleLemmas.{keeps_itself}
+use Rattle.granit_stepper.proofs.stepper.Stepper.settle_on.Goals as goal
+
+pub turns-init : goal.turns-init
+turns-init g c = record {
+  alike = alike_first g.T.Input.unread c.args.self.now;
+  keeps = keeps_itself c.args.self.now;
+  moves = (omega arith, goes_nowhere _, λ start before. before);
+}
+
+pub returns-in_err-turn-clause-known : goal.returns-in_err-turn-clause-known
+returns-in_err-turn-clause-known g c = λ m at told.
+    let p = err_from_is_err_and c.from_residual.result c.from_residual.ensures.1 in
+    rw (p.1, p.2) (alike_fails g.T.Input.unread c.args.self.now c.turns.self c.turn.new.self c.turns.invariant.keeps
+    c.turns.invariant.alike c.in_err-turn.field-0.0 c.in_err-turn.ensures.known m at told)
+
+pub returns-in_err-turn-clause-refused : goal.returns-in_err-turn-clause-refused
+returns-in_err-turn-clause-refused g c = λ m at told turned.
+    let p = err_from_is_err_and c.from_residual.result c.from_residual.ensures.1 in
+    let n = c.turns.invariant.alike m at told in
+    rw (p.1, p.2) (λ other. (
+      n.0,
+      n.3,
+      c.in_err-turn.ensures.refused n.0 n.1 (c.turns.invariant.keeps.first ∙ told)
+          (nothing_waits_outside c.args.self.now.scanner.options n.0 (turns_turned turned n.3)) other,
+    ))
+
+pub returns-then-not-branch-clause-known : goal.returns-then-not-branch-clause-known
+returns-then-not-branch-clause-known g c =
+    let stops : c.in_ok-turn.field-0 ≡ false = c.if-not-branch.true in
+    let turned = subst
+    (λ (b : Bool). Turned g.T.Input.unread c.turns.self (Ok b) c.turn.new.self) stops c.in_ok-turn.ensures.known in
+    alike_done g.T.Input.unread c.args.self.now c.turns.self c.turn.new.self c.turns.invariant.keeps
+    c.turns.invariant.alike (tt {0}) turned
+
+pub turns-preserved : goal.turns-preserved
+turns-preserved g c =
+    let goes : c.in_ok-turn.field-0 ≡ true = c.if-not-branch.false in
+    let turned = subst
+    (λ (b : Bool). Turned g.T.Input.unread c.turns.self (Ok b) c.turn.new.self) goes c.in_ok-turn.ensures.known in
+    let moved = c.turns.invariant.moves in
+    let more = c.in_ok-turn.ensures.moves in
+    record {
+      alike = alike_more g.T.Input.unread c.args.self.now c.turns.self c.turn.new.self c.turns.invariant.keeps
+          c.turns.invariant.alike turned;
+      keeps = keeps_both c.args.self.now c.turns.self c.turn.new.self c.turns.invariant.keeps
+          c.in_ok-turn.ensures.keeps;
+      moves = (
+        omega (arith, moved.0, more.0),
+        goes_on _ _ _ moved.1 more.1,
+        λ start before. more.2 start (moved.2 start before),
+      );
+    }
