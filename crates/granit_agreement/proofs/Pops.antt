@@ -4,7 +4,7 @@ use Rattle.std.proofs.Common.{Some, None}
 use Rattle.std.specs.Prelude.{if◌then◌else◌}
 use Rattle.std.proofs.lemmas.List.{append-nil}
 use Rattle.granit_base.specs.Place.{Mark}
-use Rattle.granit_base.specs.Written.{Written}
+use Rattle.granit_base.specs.Written.{Written, lent}
 use Rattle.granit_base.specs.declared.style.ScalarStyle.TheVariants.{Plain}
 use Rattle.granit_error.specs.OptionsData.{OptionsData}
 use Rattle.granit_lexemes.specs.Source.{Source}
@@ -32,7 +32,7 @@ use Rattle.granit_language.specs.TreeEvents.{alone_text, SequenceEnds, MappingEn
 use Rattle.granit_language.specs.TreeEvents.{alone_event, properties_end}
 use Rattle.granit_machine.specs.Closing.{end_top}
 use Rattle.granit_machine.specs.Frames.{ParserState}
-use Rattle.granit_machine.specs.Giving.{lent, put, flush_held, null_at, key_indent, tell_anchor, node_event_by}
+use Rattle.granit_machine.specs.Giving.{put, flush_held, null_at, key_indent, tell_anchor, node_event_by}
 use Rattle.granit_machine.specs.Giving.{node_event}
 use Rattle.granit_machine.specs.NodeEnds.{null_text, finish, end_by, end_node, end_properties, null_node, empty_span}
 use Rattle.granit_machine.specs.TokenSort.{token_of}

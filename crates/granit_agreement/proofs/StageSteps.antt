@@ -71,8 +71,8 @@ With o b c key l v d =
     (state_of o (HasDirectives v) d)
 
 abbrev Then :
-    Bool → DirectiveKind → Option KeyStart → Scope → lexemes.Lexeme → OptionsData → Option (ℕ × ℕ) → Beside → Stepped →
-    Type 0
+    Bool → DirectiveKind → Option KeyStart → Scope → lexemes.Lexeme → OptionsData → Option (ℕ × ℕ) → Beside →
+    Stepped → Type 0
 Then b c key s l o v d r =
     NextView o (X b (lexemes.Directive c) key s l) s d.given r
     (take_frames (HasDirectives v) (Directive c) (at_of b s (at_kind l (lexemes.Directive c) key)))

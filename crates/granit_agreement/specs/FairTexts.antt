@@ -2,25 +2,17 @@
 use Rattle.std.specs.Prelude.{ℕ, Bool, true, false, ◌&&◌, List, [], ◌∷◌, Result, Ok, Err}
 use Rattle.granit_error.specs.OptionsData.{OptionsData}
 use Rattle.granit_lexemes.specs.Here.{start_of}
-use Rattle.granit_lexemes.specs.Lexeme.{Item, OfLexeme, OfComment}
+use Rattle.granit_lexemes.specs.Lexeme.{Item}
 use Rattle.granit_lexemes.specs.Outcome.{Fault}
 use Rattle.granit_language.specs.Scope.{no_scope}
 use Rattle.granit_grammar.specs.EventMachine.{IsFresh}
-use Rattle.granit_machine.specs.Lexing.{FlaggedItem, flagged, lex}
+use Rattle.granit_machine.specs.Lexing.{lex}
 use Rattle.granit_machine.specs.Reader.{LexState}
 use Rattle.granit_agreement.specs.FairTest.{fair_run}
-use Rattle.granit_language.specs.Seen.{Flagged}
-
-abbrev pub with_item : Item → Bool → List Flagged → List Flagged
-with_item (OfLexeme l) b fs = (l, b) ∷ fs
-with_item (OfComment c) b fs = fs
-
-abbrev pub only_lexemes : List FlaggedItem → List Flagged
-only_lexemes [] = []
-only_lexemes (i ∷ is) = with_item i.item i.begins_key (only_lexemes is)
+use Rattle.granit_language.specs.Seen.{read_lexemes}
 
 abbrev pub fair_read : Result (List Item × LexState) Fault → Bool
-fair_read (Ok x) = fair_run (only_lexemes (flagged x.0)) no_scope IsFresh
+fair_read (Ok x) = fair_run (read_lexemes x.0) no_scope IsFresh
 fair_read (Err f) = false
 
 abbrev pub fair_text : OptionsData → List ℕ → Bool

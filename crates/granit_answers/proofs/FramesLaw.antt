@@ -16,7 +16,7 @@ use Rattle.granit_language.specs.Reached.{Reached}
 use Rattle.granit_language.specs.Scope.{Scope, no_scope}
 use Rattle.granit_language.specs.Scoping.{next_scope}
 use Rattle.granit_language.specs.Seen.{Flagged, terminal_of, lexemes_flagged, read_lexemes}
-use Rattle.granit_language.specs.Telling.{one_less}
+use Rattle.granit_language.specs.Telling.{one_less, indent_told}
 use Rattle.granit_language.specs.Terminal.{TerminalKind, TheEnd, Colon, Part, At, edge}
 use Rattle.granit_lexemes.specs.Here.{start_of}
 use Rattle.granit_lexemes.specs.Lexeme.{Lexeme, Item, OfLexeme, OfComment}
@@ -30,7 +30,7 @@ use Rattle.granit_reading.proofs.Choosing.{Chosen}
 use Rattle.granit_reading.proofs.ColumnsKept.{chosen, unless_top}
 use Rattle.granit_reading.proofs.Counting.{start_at}
 use Rattle.granit_reading.proofs.Holding.{held}
-use Rattle.granit_answers.specs.FrameColumns.{block_columns, flag_before, flagged_before, due_along, counted_from_0}
+use Rattle.granit_answers.specs.FrameColumns.{block_columns, flag_before, flagged_before, due_along}
 use Rattle.granit_answers.specs.FrameColumns.{other_columns, beside_column, with_due}
 use Rattle.granit_answers.specs.Order.{open_behind, due_if, due_behind, may_follow, EndsThere, OrderedFrom}
 use Rattle.granit_answers.proofs.Answered.{asked_are}
@@ -139,7 +139,7 @@ beside_less c (n ∷ ns) = on (n == c) refl
         ∙ ap (λ (ns : List ℕ). n ∷ ns) (one_less_all ns)
 
 less_due : (due : Option ℕ) (ns : List ℕ) → Counts due
-    → map one_less (due_pushed due (map suc ns)) ≡ with_due (counted_from_0 due) ns
+    → map one_less (due_pushed due (map suc ns)) ≡ with_due (indent_told due) ns
 less_due None ns p = one_less_all ns
 less_due (Some zero) ns p = absurd p
 less_due (Some (suc c)) ns p = ap (λ (ns : List ℕ). c ∷ ns) (beside_less c ns)
@@ -189,7 +189,7 @@ module _ (o : OptionsData) (x : List ℕ) (front back : List Item) (s t : Reader
 
   pub frames_law : (m : Mark) (gs : List PlainEvent) (p : ParserState)
       → feed_all o Fronted (parser_start m) ≡ Ok (gs, p)
-      → block_columns p.frames ≡ with_due (counted_from_0 Due) (columns_of s.laid)
+      → block_columns p.frames ≡ with_due (indent_told Due) (columns_of s.laid)
   frames_law m gs p e =
       let fed = items_given o Fronted (parser_start m) p gs refl e in
       let alone : feed_all o (map item_of (lexemes_flagged Fronted)) (parser_start m)

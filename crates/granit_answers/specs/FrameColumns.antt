@@ -3,7 +3,6 @@ use Rattle.std.specs.Prelude.{ℕ, Bool, true, false, ◌==◌, ◌||◌, List, 
 use Rattle.granit_language.specs.Scope.{Scope}
 use Rattle.granit_language.specs.Scoping.{next_scope}
 use Rattle.granit_language.specs.Seen.{Flagged, terminal_of}
-use Rattle.granit_language.specs.Telling.{one_less}
 use Rattle.granit_lexemes.specs.Lexeme.{Item}
 use Rattle.granit_lexemes.specs.declared.layout.Bracket.{Bracket}
 use Rattle.granit_lexemes.specs.declared.layout.PossibleKey.{PossibleKey}
@@ -64,7 +63,3 @@ due_along [] s bs due = due
 due_along (f ∷ fs) s bs due =
     due_along fs (next_scope (terminal_of f.1 s f.0).kind s) (open_behind (terminal_of f.1 s f.0).kind bs)
     (due_behind bs (terminal_of f.1 s f.0).kind (terminal_of f.1 s f.0).at due)
-
-abbrev pub counted_from_0 : Option ℕ → Option ℕ
-counted_from_0 None = None
-counted_from_0 (Some c) = Some (one_less c)

@@ -6,6 +6,7 @@ ghost use Rattle.granit_language.specs.OpenColumns.{columns_of};
 ghost use Rattle.granit_language.specs.Reached.{Reached};
 ghost use Rattle.granit_language.specs.Scope.{no_scope};
 ghost use Rattle.granit_language.specs.Seen.{lexemes_flagged};
+ghost use Rattle.granit_language.specs.Telling.{indent_told};
 ghost use Rattle.granit_lexemes.specs.Here.{start_of};
 ghost use Rattle.granit_lexemes.specs.Lexeme.{Item};
 ghost use Rattle.granit_lexemes.specs.PlainEvent.{PlainEvent};
@@ -14,7 +15,7 @@ ghost use Rattle.granit_machine.specs.Lexing.{flagged, flagging};
 ghost use Rattle.granit_machine.specs.Machine.{feed_all};
 ghost use Rattle.granit_machine.specs.ReaderState.{ReaderState, reader_start};
 ghost use Rattle.granit_answers.specs.ColumnTexts.{all_columns_agree};
-ghost use Rattle.granit_answers.specs.FrameColumns.{block_columns, counted_from_0, due_along, flagged_before, with_due};
+ghost use Rattle.granit_answers.specs.FrameColumns.{block_columns, due_along, flagged_before, with_due};
 
 /// Where the items of a text up to a place are fed with the flags that they have in the whole, the parser's block
 /// collections stand in the open columns that the reader keeps there, innermost first; sequences in the column of their
@@ -27,7 +28,7 @@ pub fn open_columns_are_frames()
         → Reached o s back t →
         (m : Mark) (gs : List PlainEvent) (p : ParserState)
         → feed_all o (flagged_before front (flagging back).1) (parser_start m) ≡ Ok (gs, p) →
-        block_columns p.frames ≡ with_due (counted_from_0
+        block_columns p.frames ≡ with_due (indent_told
         (due_along (lexemes_flagged (flagged_before front (flagging back).1)) no_scope [] None))
         (columns_of s.laid) }
 {}

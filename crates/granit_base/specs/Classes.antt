@@ -22,6 +22,10 @@ is_blank c = c == 0x20 || c == 0x09
 unfoldable pub is_blank_or_breakz : ℕ → Bool
 is_blank_or_breakz c = is_blank c || is_breakz c
 
+-- any character but breaks and NUL
+abbrev pub is_non_breakz : ℕ → Bool
+is_non_breakz c = not (is_breakz c)
+
 -- a decimal digit (5.6)
 unfoldable pub is_digit : ℕ → Bool
 is_digit c = is_within 0x30 0x39 c

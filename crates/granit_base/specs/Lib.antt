@@ -1,4 +1,5 @@
 pub mod Classes
+pub mod Counts
 pub mod Place
 pub mod PlainContent
 pub mod Spans

@@ -1,5 +1,5 @@
 -- What contracts see of a text.
-use Rattle.std.specs.Prelude.{ℕ, Bool, List, nat_eq, String}
+use Rattle.std.specs.Prelude.{true, ℕ, Bool, List, nat_eq, String}
 use Rattle.std.specs.declared.alloc.Global.{Global}
 use Rattle.std.specs.Str.{chars}
 use Rattle.std.specs.Ordering.{nat_cmp}
@@ -12,6 +12,14 @@ use lib.Pointwise.{pointwise}
 pub record Written : Type 0 where
   pub characters : List ℕ
   pub is_borrowed : Bool
+
+-- a text that is borrowed
+abbrev pub lent : List ℕ → Written
+lent text = record { characters = text; is_borrowed = true }
+
+-- two lists of characters are the same
+abbrev pub same_text : List ℕ → List ℕ → Bool
+same_text a b = pointwise nat_eq a b
 
 -- two texts are equal where their characters are
 abbrev pub same_characters : Written → Written → Bool

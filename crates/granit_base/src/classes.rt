@@ -1,5 +1,5 @@
 //! The classes of characters.
-ghost use Rattle.std.specs.Prelude.{◌≡◌, IsTrue, not};
+ghost use Rattle.std.specs.Prelude.{◌≡◌, ◌==◌, ◌||◌, IsTrue, not};
 ghost use Rattle.std.specs.List.{find};
 ghost use Rattle.std.specs.Str.{chars};
 ghost use Rattle.granit_base.specs.Classes as class;
@@ -97,7 +97,16 @@ pub fn is_bom(c: char) -> bool
 pub fn is_printable(c: char) -> bool
     ensures { result ≡ class.is_printable c }
 {
-    matches!(c, '\t' | '\n' | '\r' | '\u{20}'..='\u{7e}' | '\u{85}' | '\u{a0}'..='\u{d7ff}' | '\u{e000}'..='\u{fffd}' | '\u{10000}'..='\u{10ffff}')
+    matches!(c, '\t' | '\n' | '\r' | '\u{20}'..='\u{7e}') || is_printable_wide(c)
+}
+
+/// What is printable beyond ASCII.
+fn is_printable_wide(c: char) -> bool
+    ensures { result
+        ≡ ((c == 0x85 || class.is_within 0xA0 0xD7FF c)
+        || (class.is_within 0xE000 0xFFFD c || class.is_within 0x10000 0x10FFFF c)) }
+{
+    matches!(c, '\u{85}' | '\u{a0}'..='\u{d7ff}' | '\u{e000}'..='\u{fffd}' | '\u{10000}'..='\u{10ffff}')
 }
 
 /// A printable character but breaks and the byte-order mark (YAML 1.2.2, 5.4).

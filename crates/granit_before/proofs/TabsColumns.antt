@@ -8,7 +8,7 @@ use Rattle.granit_base.specs.Place.{Mark, first}
 use Rattle.granit_language.specs.Before.{in_front, behind_colon, behind_question_sign}
 use Rattle.granit_language.specs.OpenColumns.{EntryOf, IsEntry, Has, AtMost}
 use Rattle.granit_lexemes.specs.Here.{Here, mark_of}
-use Rattle.granit_lexemes.specs.Lexeme.{LexemeKind, Dash, KeyStart, Lexeme}
+use Rattle.granit_lexemes.specs.Lexeme.{LexemeKind, Dash, KeyStart, Lexeme, is_opener_kind}
 use Rattle.granit_lexemes.specs.declared.layout.OpenBracket.{OpenBracket}
 use Rattle.granit_lexemes.specs.declared.layout.OpenColumn.{OpenColumn}
 use Rattle.granit_lexemes.specs.declared.layout.PossibleKey.{PossibleKey}
@@ -25,7 +25,7 @@ use Rattle.granit_reading.proofs.Moving.{left_open}
 use Rattle.granit_reading.proofs.Telling.{SaysOf}
 use Rattle.granit_before.proofs.TabsInnermost.{asks_kind, no_asks, no_colon, columns_in}
 use Rattle.granit_before.proofs.TabsLeft.{left_of, Styled, flow_tabs, placed_columns, outer_columns, front_flow}
-use Rattle.granit_before.specs.Tabs.{ends_sign, AsksFurther, is_opener_kind, IsWideColumn}
+use Rattle.granit_before.specs.Tabs.{ends_sign, AsksFurther, IsWideColumn}
 
 -- ---- columns, each right of those around it, and whether each is wide
 

@@ -10,7 +10,7 @@ use Rattle.granit_language.specs.OpenColumns.{is_outer_kind, IsOpenColumn, Leave
 use Rattle.granit_language.specs.OpenColumns.{ColumnsSay}
 use Rattle.granit_lexemes.specs.Here.{Here, mark_of}
 use Rattle.granit_lexemes.specs.LayoutData.{is_left}
-use Rattle.granit_lexemes.specs.Lexeme.{LexemeKind, StreamEnd, Open, Dash, Colon, Lexeme}
+use Rattle.granit_lexemes.specs.Lexeme.{LexemeKind, StreamEnd, Open, Dash, Colon, Lexeme, is_opener_kind}
 use Rattle.granit_lexemes.specs.declared.layout.OpenColumn.{OpenColumn}
 use Rattle.granit_machine.specs.Columns.{chosen_columns, up_to_column}
 use Rattle.granit_machine.specs.IndicatorLexemes.{is_before_break}
@@ -23,7 +23,7 @@ use Rattle.granit_machine.specs.PossibleKeys.{top_key}
 use Rattle.granit_reading.proofs.Telling.{SaysOf}
 use Rattle.granit_before.proofs.TabsLeft.{left_of, Styled, flow_tabs, placed_columns, placed_rolled, outer_rolled}
 use Rattle.granit_before.proofs.TabsLeft.{front_flow, question_rolled, colon_rolled}
-use Rattle.granit_before.specs.Tabs.{ends_sign, AsksFurther, is_opener_kind, keeps_in_flow}
+use Rattle.granit_before.specs.Tabs.{ends_sign, AsksFurther, keeps_in_flow}
 use Rattle.granit_before.specs.Tabs.{keeps_outside, RightOfColumns, StillSo, in_flow, outside, at_end, IndentsFurther}
 use Rattle.granit_before.specs.Tabs.{behind_sign, behind_opener, still_so}
 

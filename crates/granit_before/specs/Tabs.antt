@@ -6,8 +6,8 @@ use Rattle.granit_base.specs.declared.style.ScalarStyle.{ScalarStyle}
 use Rattle.granit_base.specs.declared.style.ScalarStyle.TheVariants.{SingleQuoted, DoubleQuoted}
 use Rattle.granit_error.specs.OptionsData.{OptionsData}
 use Rattle.granit_language.specs.OpenColumns.{IsEntry, IsOpenColumn, LeavesOpen}
-use Rattle.granit_lexemes.specs.Lexeme.{LexemeKind, Directive, DocumentStart, DocumentEnd, StreamEnd, Open, Dash}
-use Rattle.granit_lexemes.specs.Lexeme.{Question, Colon, Anchor, Tag, Scalar, Lexeme}
+use Rattle.granit_lexemes.specs.Lexeme.{LexemeKind, Directive, DocumentStart, DocumentEnd, StreamEnd, Dash}
+use Rattle.granit_lexemes.specs.Lexeme.{Question, Colon, Anchor, Tag, Scalar, Lexeme, is_opener_kind}
 use Rattle.granit_lexemes.specs.declared.layout.OpenColumn.{OpenColumn}
 use Rattle.granit_before.specs.Openers.{IsInside}
 
@@ -28,10 +28,6 @@ pub record BlockColon (x : Lexeme) : Type 0 where
 
 abbrev pub AsksFurther : (text : List ℕ) → Lexeme → Type 0
 AsksFurther text x = BlockColon x ⊎ BareDash text x
-
-abbrev pub is_opener_kind : LexemeKind → Bool
-is_opener_kind (Open bracket) = true
-is_opener_kind kind = false
 
 -- ---- the innermost column
 

@@ -2,14 +2,14 @@
 use Rattle.std.proofs.Common.{◌≡◌, ℕ, ◌-◌, ◌≤◌, ◌==◌, Bool, true, false, List, [], ◌++◌, length, take, Some, None, Ok}
 use Rattle.std.proofs.Common.{Err, refl, sym, ap, ap₂, ◌∙◌, append_assoc, arith}
 use Rattle.std.proofs.lemmas.List.{length-drop}
-use Rattle.granit_base.specs.Classes.{is_blank}
+use Rattle.granit_base.specs.Classes.{is_blank, is_non_breakz}
 use Rattle.granit_base.specs.Written.{string_chars}
 use Rattle.granit_error.specs.FaultKind.{UnexpectedCharacter}
 use Rattle.granit_error.specs.Refused.{Refused}
-use Rattle.granit_input.specs.Runs.{run_length, starts, is_non_breakz}
+use Rattle.granit_input.specs.Runs.{run_length, starts}
 use Rattle.granit_input.proofs.RunLemmas.{run_within}
 use Rattle.granit_lexemes.specs.Basics.{past_break, count_up_to, text_up_to}
-use Rattle.granit_lexemes.specs.BlockScalar.{BlockState, between_lines, empty_lines, line_up_to, is_block_char}
+use Rattle.granit_lexemes.specs.BlockScalar.{BlockState, between_lines, empty_lines, line_up_to}
 use Rattle.granit_lexemes.specs.BlockScalar.{block_turn, block_len}
 use Rattle.granit_lexemes.specs.Here.{Here, text_len, next_char, mark_of, mid_line, past}
 use Rattle.granit_lexemes.specs.LinesExtent.{is_clear}
@@ -51,7 +51,7 @@ run_text test n h is = ap (λ (m : ℕ). take m h.unread.text) (sym (run_count t
 
 -- where a line ends
 abbrev pub line_end : Here → Here
-line_end h = mid_line (past is_block_char h)
+line_end h = mid_line (past is_non_breakz h)
 
 pub line_lands : (n : ℕ) (h : Here) → n ≡ run_length (starts is_non_breakz) h.unread.text
     → mid_line (steps n h) ≡ line_end h

@@ -2,6 +2,7 @@
 use Rattle.std.specs.Prelude.{◌≡◌, ℕ, ◌<◌, ◌≤◌, ◌||◌, ◌&&◌, ◌==◌, not, Bool, true, false, List, [], ◌∷◌, ◌++◌, length}
 use Rattle.std.specs.Prelude.{if◌then◌else◌, Option, Some, None, is_some, Result, Ok, Err}
 use Rattle.std.specs.Option.{option_map}
+use Rattle.granit_base.specs.Classes.{is_non_breakz}
 use Rattle.granit_base.specs.Place.{Mark}
 use Rattle.granit_base.specs.Written.{string_chars}
 use Rattle.granit_error.specs.FaultKind.{FaultKind, InputSlicingUnavailable, NoMemory, ZeroBlockScalarIndent}
@@ -12,7 +13,7 @@ use Rattle.granit_error.specs.Refused.{Refused}
 use Rattle.granit_lexemes.specs.Basics.{owned, is_document_mark}
 use Rattle.granit_lexemes.specs.BlockHeader as spec
 use Rattle.granit_lexemes.specs.BlockHeader.{BlockHeader, block_header, leading_turn, greatest, content_column}
-use Rattle.granit_lexemes.specs.BlockScalar.{BlockState, BlockRead, BlockGiven, empty_lines, line_up_to, is_block_char}
+use Rattle.granit_lexemes.specs.BlockScalar.{BlockState, BlockRead, BlockGiven, empty_lines, line_up_to}
 use Rattle.granit_lexemes.specs.BlockScalar.{block_turn, block_len, block_style, block_body, block_scalar, behind_block}
 use Rattle.granit_lexemes.specs.BlockScalar.{kept}
 use Rattle.granit_lexemes.specs.BlockValue.{line_feeds}
@@ -98,11 +99,6 @@ tail_read at literal start header given =
 
 abbrev pub block_chained : LayoutData → Bool → Here → Result (Lexed × Here) Fault
 block_chained at literal h = block_header h >>= λ x. tail_read at literal (mark_of h) x.0 (noted_tail at x.1)
-
--- the indicator of its style
-abbrev pub block_indicator : Bool → ℕ
-block_indicator true = 0x7C
-block_indicator false = 0x3E
 
 -- the kinds that a block scalar is refused by
 abbrev pub IsBlockKind : FaultKind → Type 0
@@ -191,10 +187,10 @@ abbrev pub TakesLine : Bool → ℕ → Result (Unit {0}) Refused → (Here → 
     → Type 0
 TakesLine literal column (Ok u) Lands old s l =
     (now : Here) × (piece : List ℕ) × Lands now
-    × (line_up_to literal column s (mid_line (past is_block_char s.here)) ≡ Ok (Some piece, block_state l now))
+    × (line_up_to literal column s (mid_line (past is_non_breakz s.here)) ≡ Ok (Some piece, block_state l now))
     × (string_chars l.value ≡ old ++ piece)
 TakesLine literal column (Err e) Lands old s l =
-    Fails e (line_up_to literal column s (mid_line (past is_block_char s.here)))
+    Fails e (line_up_to literal column s (mid_line (past is_non_breakz s.here)))
 
 -- a turn goes on with the same whole, or that is all of it
 abbrev pub LineTurnsTo : Bool → ℕ → Result Bool Refused → (Here → Type 0) → Lines → Result (List ℕ × BlockState) Fault

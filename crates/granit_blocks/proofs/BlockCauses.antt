@@ -3,7 +3,7 @@ use Rattle.std.proofs.Common.{◌≡◌, ℕ, zero, suc, ◌==◌, Bool, true, f
 use Rattle.std.proofs.Common.{Option, Some, None, Result, Ok, Err, refl, sym, ap, ap₂, ◌∙◌, arith}
 use Rattle.std.specs.Prelude.{is_none, nat_lt}
 use Rattle.std.proofs.lemmas.Bool.Decides.{nat_tests}
-use Rattle.granit_base.specs.Classes.{is_break, is_digit, is_printable}
+use Rattle.granit_base.specs.Classes.{is_break, is_digit, is_printable, is_non_breakz}
 use Rattle.granit_base.specs.Place.{Mark, first}
 use Rattle.granit_error.specs.FaultKind.{FaultKind, ZeroBlockScalarIndent, InvalidBlockScalarHeader}
 use Rattle.granit_error.specs.FaultKind.{TabAtBlockScalarStart, InvalidBlockScalarIndent, CommentNotSeparated}
@@ -22,7 +22,7 @@ use Rattle.granit_scalars.proofs.Nameless.{comment_none}
 use Rattle.granit_scalars.proofs.QuotedEscapes.{over_text}
 use Rattle.granit_lexemes.specs.BlockHeader.{Chomping, Strip, Clip, Keep, BlockHeader, chomping_of, header_sign}
 use Rattle.granit_lexemes.specs.BlockHeader.{block_header}
-use Rattle.granit_lexemes.specs.BlockScalar.{BlockState, is_between, is_block_char, block_turn, block_len, line_up_to}
+use Rattle.granit_lexemes.specs.BlockScalar.{BlockState, is_between, block_turn, block_len, line_up_to}
 use Rattle.granit_lexemes.specs.BlockScalar.{block_lines, block_body, block_scalar}
 use Rattle.granit_lexemes.specs.Tail.{tail_at}
 use Rattle.granit_lexemes.specs.BlockExtent.{BlockFront, RefusesBlock, zero_digit, hash_touches, in_comment}
@@ -238,7 +238,7 @@ begun : (block : Option ℕ) {column : ℕ} {place : Here} {cs : List ℕ} {g : 
     → Begun block column place
 begun block {column} {place} l = record {
   clear = printable_clear place l.printable;
-  some = has_text is_block_char
+  some = has_text is_non_breakz
       no_block_nul place l.begins;
   right = at_column_not_between block column place l.is_at;
 }
@@ -285,14 +285,14 @@ strange_base_if literal column s c false o =
 inside_base : (literal : Bool) {column : ℕ} (s : BlockState) {cs : List ℕ} {g : Here} → IsLine column s.here cs g
     → is_clear g ≡ false → RunsInto (lines_from literal column s) (strange_at g) g
 inside_base literal {column} s {cs} {g} l c =
-    let m = has_text is_block_char no_block_nul s.here l.begins in
+    let m = has_text is_non_breakz no_block_nul s.here l.begins in
     fails (pieces_fails block_len (block_turn literal column) s (strange_at g) (
     block_turn_is literal column s
     ∙ ap (λ (o : Bool). turn_on literal column s o (is_clear s.here) (is_mark column s.here))
     (not_out column s.here m l.is_at)
     ∙ ap₂ (turn_on literal column s false) (printable_clear s.here l.printable) l.no_mark
     ∙ ap (λ (i : Here). line_up_to literal column s (mid_line i))
-    (past_is is_block_char no_block_nul cs s.here g l.spans l.each l.ends)
+    (past_is is_non_breakz no_block_nul cs s.here g l.spans l.each l.ends)
     ∙ line_up_to_is literal column s (mid_line g)
     ∙ ap₂ (line_on literal column s (text_up_to s.here g) (mid_line g))
     (either_no (text_len g == 0) (is_printable (next_char g)) c).0 c))

@@ -4,7 +4,7 @@ use Rattle.std.proofs.Common.{◌++◌, length, Option, Some, None, Result, Ok, 
 use Rattle.std.specs.Prelude.{if◌then◌else◌}
 use Rattle.std.proofs.lemmas.Bool.{cond-false}
 use Rattle.std.proofs.lemmas.Bool.Decides.{nat_tests}
-use Rattle.granit_base.specs.Classes.{is_blank, is_break, is_breakz, is_z, is_printable}
+use Rattle.granit_base.specs.Classes.{is_blank, is_break, is_breakz, is_z, is_printable, is_non_breakz}
 use Rattle.granit_base.specs.Place.{first}
 use Rattle.granit_error.specs.FaultKind.{UnexpectedCharacter}
 use Rattle.granit_lexemes.specs.Here.{Here, text_len, next_char, mark_of, mid_line, past}
@@ -13,7 +13,7 @@ use Rattle.granit_lexemes.specs.Pieces.{Shortens}
 use Rattle.granit_lexemes.specs.Basics.{fails_at, past_break, is_document_mark, text_up_to}
 use Rattle.granit_lexemes.proofs.HereLemmas.{not_empty}
 use Rattle.granit_scalars.proofs.Stepping.{seen, is_break_nul}
-use Rattle.granit_lexemes.specs.BlockScalar.{BlockState, between_lines, empty_lines, is_block_char, line_up_to}
+use Rattle.granit_lexemes.specs.BlockScalar.{BlockState, between_lines, empty_lines, line_up_to}
 use Rattle.granit_lexemes.specs.BlockScalar.{block_turn, block_len}
 use Rattle.granit_lexemes.specs.BlockMoves.{Crosses, Breaks}
 use Rattle.granit_lexemes.specs.BlockValue.{line_feeds, line_gap, begins_blank}
@@ -24,7 +24,7 @@ use Rattle.granit_blocks.proofs.Moving.{breaks_first, break_shorter, spaces_len}
 use Rattle.granit_blocks.proofs.Leading.{EmptyReads, empty_reads, empties_are}
 use Rattle.granit_scalars.proofs.QuotedReads.{no_text}
 
-pub no_block_nul : is_block_char 0 ≡ false
+pub no_block_nul : is_non_breakz 0 ≡ false
 unfolding is_breakz is_break is_z
 no_block_nul = refl
 
@@ -97,10 +97,10 @@ line_less h {g = g} n le (by_break {i = i} b e) =
 line_less h {g = g} n le (by_end e) = let z : text_len g
     ≡ 0 = ap (λ (l : List ℕ). length l) e in grind (arith, nat_tests)
 
-first_of_line : (cs : List ℕ) (h after : Here) → Crosses h cs after → is_block_char (next_char h) ≡ true
-    → is_block_char (next_char after) ≡ false → first cs ≡ next_char h
-first_of_line [] h after s y n = absurd (let e : is_block_char (next_char h)
-    ≡ is_block_char (next_char after) = ap (λ (l : List ℕ). is_block_char (first l)) s.text in cc)
+first_of_line : (cs : List ℕ) (h after : Here) → Crosses h cs after → is_non_breakz (next_char h) ≡ true
+    → is_non_breakz (next_char after) ≡ false → first cs ≡ next_char h
+first_of_line [] h after s y n = absurd (let e : is_non_breakz (next_char h)
+    ≡ is_non_breakz (next_char after) = ap (λ (l : List ℕ). is_non_breakz (first l)) s.text in cc)
 first_of_line (c ∷ cs) h after s y n = sym (ap first s.text)
 
 -- a line begins with the character that stands there
@@ -147,12 +147,12 @@ not_not : (b : Bool) → not b ≡ false → b ≡ true
 not_not true e = refl
 not_not false e = absurd cc
 
-line_char : (c : ℕ) → is_printable c ≡ true → is_break c ≡ false → is_block_char c ≡ true
+line_char : (c : ℕ) → is_printable c ≡ true → is_break c ≡ false → is_non_breakz c ≡ true
 unfolding is_breakz is_break is_z is_printable
 line_char c p n = grind (arith, nat_tests)
 
 -- a clear end of a line is a break
-line_ends : (h : Here) → is_block_char (next_char h) ≡ false → (text_len h == 0) ≡ false → is_clear h ≡ true
+line_ends : (h : Here) → is_non_breakz (next_char h) ≡ false → (text_len h == 0) ≡ false → is_clear h ≡ true
     → is_break (next_char h) ≡ true
 unfolding is_breakz is_break is_z is_printable
 line_ends h n m y = let p = both_clear (text_len h == 0) (is_printable (next_char h)) m y in grind (arith, nat_tests)
@@ -191,7 +191,7 @@ abbrev pub turn_on : Bool → ℕ → BlockState → (out clear mark : Bool) →
 turn_on literal column s out clear mark =
     if out then Ok (None, s)
     else (if clear then (if mark then Ok (None, s) else line_up_to literal column s
-    (mid_line (past is_block_char s.here))) else fails_at (UnexpectedCharacter (next_char s.here)) (mark_of s.here))
+    (mid_line (past is_non_breakz s.here))) else fails_at (UnexpectedCharacter (next_char s.here)) (mark_of s.here))
 
 abbrev pub is_out : ℕ → Here → Bool
 is_out column h = text_len h == 0 || not (h.place.column == column)
@@ -207,7 +207,7 @@ block_turn_is literal column s = refl
 
 -- ---- what a turn does
 
-line_of : (column : ℕ) (s : BlockState) (g : Here) (p : Past is_block_char s.here g) → (text_len s.here == 0) ≡ false
+line_of : (column : ℕ) (s : BlockState) (g : Here) (p : Past is_non_breakz s.here g) → (text_len s.here == 0) ≡ false
     → (s.here.place.column == column) ≡ true → is_clear s.here ≡ true → is_mark column s.here ≡ false
     → is_break (next_char s.here) ≡ false → IsLine column s.here p.characters g
 line_of column s g p n at c m b =
@@ -243,7 +243,7 @@ turned_break literal column s cs g n le l b (Ok (empty, after)) r =
 turned_break literal column s cs g n le l b (Err f) r = absurd r
 
 turned_line : (literal : Bool) (column : ℕ) (s : BlockState) (cs : List ℕ) (g : Here) → (text_len s.here == 0) ≡ false
-    → text_len g ≤ text_len s.here → is_block_char (next_char g) ≡ false
+    → text_len g ≤ text_len s.here → is_non_breakz (next_char g) ≡ false
     → (is_break (next_char s.here) ≡ false → IsLine column s.here cs g)
     → (met clear : Bool) → (text_len g == 0) ≡ met → is_clear g ≡ clear
     → BlockTurned literal column s (line_on literal column s cs (mid_line g) met clear)
@@ -261,8 +261,8 @@ turned_on literal column s true clear mark o c m = stops (or_left (is_out column
 turned_on literal column s false false mark o c m = at_strange c
 turned_on literal column s false true true o c m = stops (or_true (is_out column s.here) (is_mark column s.here) m)
 turned_on literal column s false true false o c m =
-    let g = past is_block_char s.here in
-    let p = past_reads is_block_char no_block_nul s.here in
+    let g = past is_non_breakz s.here in
+    let p = past_reads is_non_breakz no_block_nul s.here in
     let d = either_no (text_len s.here == 0) (not (s.here.place.column == column)) o in
     let at = not_not (s.here.place.column == column) d.1 in
     subst (BlockTurned literal column s) (sym
@@ -352,7 +352,7 @@ pub line_taken : (literal : Bool) (column k : ℕ) (before : Option Bool) (was :
 line_taken literal column k before was {h} {cs} {g} {j} {n} l b =
     let s = state_at h k before was in
     let r = behind literal column s cs b in
-    let m = has_text is_block_char no_block_nul h l.begins in
+    let m = has_text is_non_breakz no_block_nul h l.begins in
     let blank : is_blank (next_char h) ≡ begins_blank cs = ap is_blank (sym (line_first l)) in
     record {
       broken = r.broken;
@@ -360,7 +360,7 @@ line_taken literal column k before was {h} {cs} {g} {j} {n} l b =
           ∙ ap (λ (o : Bool). turn_on literal column s o (is_clear h) (is_mark column h)) (not_out column h m l.is_at)
           ∙ ap₂ (turn_on literal column s false) (printable_clear h l.printable) l.no_mark
           ∙ ap (λ (i : Here). line_up_to literal column s (mid_line i))
-          (past_is is_block_char no_block_nul cs h g l.spans l.each l.ends)
+          (past_is is_non_breakz no_block_nul cs h g l.spans l.each l.ends)
           ∙ line_up_to_is literal column s (mid_line g)
           ∙ ap (λ (ds : List ℕ). line_on literal column s ds (mid_line g) (text_len g == 0) (is_clear g))
           (text_of h cs g l.spans)

@@ -8,7 +8,7 @@ use Rattle.granit_canonical.proofs.Whole.{AreBare, BareRead, flagged_bare, items
 use Rattle.granit_canonical.specs.Canonical.{canonical_events}
 use Rattle.granit_error.specs.OptionsData.{OptionsData}
 use Rattle.granit_invariants.specs.CommentEvents.{comment_events, only_comments, tail_events}
-use Rattle.granit_invariants.specs.Quiet.{but_comments, tells_comment}
+use Rattle.granit_invariants.specs.Quiet.{but_comments}
 use Rattle.granit_language.specs.CommentRows.{AreComments, RowTooLong, tail_comments}
 use Rattle.granit_language.specs.Telling.{events_told}
 use Rattle.granit_language.specs.TextFault.{NoneTold}
@@ -17,7 +17,7 @@ use Rattle.granit_lexemes.specs.Comment.{CommentRead}
 use Rattle.granit_lexemes.specs.Here.{start_of}
 use Rattle.granit_lexemes.specs.Lexeme.{Item, Lexeme, LexemeKind, OfComment, OfLexeme}
 use Rattle.granit_lexemes.specs.Outcome.{Fault}
-use Rattle.granit_lexemes.specs.PlainEvent.{PlainEvent}
+use Rattle.granit_lexemes.specs.PlainEvent.{PlainEvent, is_note}
 use Rattle.granit_machine.specs.Laid.{Laid}
 use Rattle.granit_machine.specs.Lexing.{FlaggedItem, flagged, lex}
 use Rattle.granit_machine.specs.Machine.{run}
@@ -84,7 +84,7 @@ no_events (l ∷ ls) b = quiet l.kind l.tail (next_line (unflagged ls)) (comment
 
 all_others : (es : List PlainEvent) → only_comments es ≡ [] → but_comments es ≡ es
 all_others [] h = refl
-all_others (e ∷ es) h = by (tells_comment e.kind) (λ g. all_others es g) h
+all_others (e ∷ es) h = by (is_note e.kind) (λ g. all_others es g) h
   where
     by : (v : Bool) → (only_comments es ≡ [] → but_comments es ≡ es)
         → cond v (e ∷ only_comments es) (only_comments es) ≡ []

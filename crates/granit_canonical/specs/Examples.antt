@@ -1,6 +1,6 @@
 -- The trees of the worked examples.
-use Rattle.std.specs.Prelude.{ℕ, true, List, [], ◌∷◌, Some, None, codes}
-use Rattle.granit_error.specs.OptionsData.{OptionsData, default_options}
+use Rattle.std.specs.Prelude.{ℕ, List, [], ◌∷◌, Some, None, codes}
+use Rattle.granit_error.specs.OptionsData.{OptionsData}
 use Rattle.granit_canonical.specs.Canonical.{canonical_events}
 use Rattle.granit_lexemes.specs.Line.{event_lines}
 use Rattle.granit_model.specs.Tree.{PlainTree, AliasOf, ScalarOf, SequenceOf, MappingOf, PlainTrees, NoTrees}
@@ -9,10 +9,6 @@ use Rattle.granit_model.specs.Tree.{AfterTrees, PlainPairs, NoPairs, AfterPairs}
 -- what is printed for documents that are read from their own canonical text
 abbrev pub lines_of : OptionsData → PlainTrees → List ℕ
 lines_of o ts = event_lines (canonical_events o ts)
-
--- where anchors are told
-abbrev pub telling_anchors : OptionsData
-telling_anchors = record default_options { emit_anchor_events = true }
 
 abbrev scalar : List ℕ → PlainTree
 scalar text = ScalarOf (record { tag = None; anchor = None }) text

@@ -1,7 +1,8 @@
 //! Worked examples of canonical flow text, by computation: the text, and the lines that the original
 //! crate prints for it.
 ghost use Rattle.std.specs.Prelude.{◌++◌, ◌≡◌, codes};
-ghost use Rattle.granit_canonical.specs.Examples.{documents_tree, lines_of, names_tree, pairs_tree, telling_anchors};
+ghost use Rattle.granit_machine.specs.ExampleOptions.{anchors_told};
+ghost use Rattle.granit_canonical.specs.Examples.{documents_tree, lines_of, names_tree, pairs_tree};
 ghost use Rattle.granit_canonical.specs.Examples.{worked_tree};
 ghost use Rattle.granit_error.specs.OptionsData.{default_options};
 ghost use Rattle.granit_model.specs.Characters.{HasCharacters};
@@ -55,7 +56,7 @@ pub fn canonical_examples()
         ++ codes "Scalar double \"\" &5 98:2:12-100:2:14\nAlias 5 102:2:16-104:2:18\n"
         ++ codes "Alias 4 106:2:20-108:2:22\nSequenceEnd 108:2:22-109:2:23\nDocumentEnd 109:2:23-109:2:23\n"
         ++ codes "StreamEnd 110:3:1-110:3:1\n") }
-    ensures anchors { lines_of telling_anchors names_tree
+    ensures anchors { lines_of anchors_told names_tree
         ≡ (codes "StreamStart 0:1:1-0:1:1\nDocumentStart explicit 0:1:1-3:1:4\n"
         ++ codes "SequenceStart flow &1 7:1:8-8:1:9\nAnchor 1 \"a\" 4:1:5-6:1:7\nAlias 1 8:1:9-10:1:11\n"
         ++ codes "Scalar double \"x\" &2 !\"\" \"\\u{e9}_ %:,./-\\u{1f600}\" 51:1:52-54:1:55\n"

@@ -15,11 +15,11 @@ use Rattle.granit_invariants.proofs.PlacementLaw.{one_placement, placed_is}
 use Rattle.granit_invariants.specs.CommentEvents.{comment_event, comment_events, item_events, only_comments}
 use Rattle.granit_invariants.specs.CommentEvents.{tail_events}
 use Rattle.granit_invariants.specs.CommentPlaces.{tail_event}
-use Rattle.granit_invariants.specs.Quiet.{but_comments, tells_comment}
+use Rattle.granit_invariants.specs.Quiet.{but_comments}
 use Rattle.granit_lexemes.specs.Comment.{CommentRead}
 use Rattle.granit_lexemes.specs.Here.{start_of}
 use Rattle.granit_lexemes.specs.Lexeme.{Dash, Item, Lexeme, LexemeKind, OfComment, OfLexeme}
-use Rattle.granit_lexemes.specs.PlainEvent.{PlainEvent}
+use Rattle.granit_lexemes.specs.PlainEvent.{PlainEvent, is_note}
 use Rattle.granit_machine.specs.Lexing.{FlaggedItem, flagged, lex}
 use Rattle.granit_machine.specs.Machine.{run}
 use Rattle.granit_machine.specs.Parser.{next_line, placed}
@@ -55,9 +55,9 @@ tells_each (i ∷ is) = tells_item i.item i.begins_key is (comment_events is) (t
 
 none_among : (es : List PlainEvent) → only_comments (but_comments es) ≡ []
 none_among [] = refl
-none_among (e ∷ es) = by (tells_comment e.kind) refl (none_among es)
+none_among (e ∷ es) = by (is_note e.kind) refl (none_among es)
   where
-    by : (v : Bool) → tells_comment e.kind ≡ v → only_comments (but_comments es) ≡ []
+    by : (v : Bool) → is_note e.kind ≡ v → only_comments (but_comments es) ≡ []
         → only_comments (cond (not v) (e ∷ but_comments es) (but_comments es)) ≡ []
     by true q n = n
     by false q n = ap (λ v. cond v (e ∷ only_comments (but_comments es)) (only_comments (but_comments es))) q ∙ n

@@ -1,6 +1,7 @@
 -- A quoted scalar and the gap behind it.
 use Rattle.std.proofs.Common.{◌≡◌, Bool, true, false, List, [], ◌∷◌, ◌++◌, map, Option, Some, None, Result, Ok, Err}
 use Rattle.std.proofs.Common.{refl, sym, ap, ◌∙◌}
+use Rattle.std.specs.Global.{Box}
 use Rattle.std.specs.List.{filter}
 use Rattle.std.specs.Option.{option_map}
 use Rattle.granit_cursor.specs.Reading.{coded}
@@ -19,7 +20,7 @@ use Rattle.granit_machine.specs.NodeLexemes as nodes
 use Rattle.granit_machine.specs.ReaderState.{ReaderState, Read}
 use Rattle.granit_steps.specs.Steps.{incoming}
 use Rattle.granit_items.specs.ItemViews as view
-use Rattle.granit_items.specs.ItemViews.{note_view}
+use Rattle.granit_items.specs.ItemViews.{boxed_view}
 use Rattle.granit_content.specs.Reads.{Seen, seen, noted, behind_seen}
 use Rattle.granit_content.specs.ScalarReads.{with_seen}
 use Rattle.granit_items.specs.declared.item.Note.{Note}
@@ -27,12 +28,12 @@ use Rattle.granit_content.proofs.CodedLemmas.{coded_back, coded_fails, fails_the
 
 -- ---- as it is given
 
-note_items_are : (note : Option Note) → nodes.note_items (option_map note_view note) ≡ view.note_items note
+note_items_are : (note : Option (Box Note)) → nodes.note_items (option_map boxed_view note) ≡ view.note_items note
 note_items_are None = refl
 note_items_are (Some n) = refl
 
-pub seen_given : (items : List Item) (t : Seen) (note : Option Note) (s : ReaderState) (before after : Laid)
-    → option_map note_view note ≡ noted t → s.laid ≡ before → after ≡ record before { last = behind_seen Adjacent t }
+pub seen_given : (items : List Item) (t : Seen) (note : Option (Box Note)) (s : ReaderState) (before after : Laid)
+    → option_map boxed_view note ≡ noted t → s.laid ≡ before → after ≡ record before { last = behind_seen Adjacent t }
     → with_seen items t s ≡ Ok (items ++ view.note_items note, record { here = s.here; laid = after })
 seen_given items t note s before after is same left =
     let there = ap nodes.note_items (sym is) ∙ note_items_are note in

@@ -3,7 +3,7 @@ use Rattle.std.proofs.Common.{◌≡◌, Bool, true, false, Option, Some, None, 
 use Rattle.std.specs.Option.{option_map}
 use Rattle.granit_block.specs.BlockCode.{asked_note, block_lexed, block_lexed_at}
 use Rattle.granit_cursor.specs.Reading.{coded}
-use Rattle.granit_cursor.specs.Tokens.{placed, comment_token}
+use Rattle.granit_cursor.specs.Tokens.{placed, comment_token, is_right_placed}
 use Rattle.granit_cursor.specs.declared.token.Lexed.{Lexed}
 use Rattle.granit_error.specs.OptionsData.{OptionsData}
 use Rattle.granit_error.specs.Refused.{Refused}
@@ -24,7 +24,7 @@ use Rattle.granit_machine.specs.NodeLexemes as nodes
 use Rattle.granit_machine.specs.PossibleKeys.{layout_of}
 use Rattle.granit_machine.specs.ReaderState.{Read, lexeme_to, given}
 use Rattle.granit_steps.specs.Steps.{incoming}
-use Rattle.granit_content.specs.KindViews.{is_right_placed, note_of_token}
+use Rattle.granit_content.specs.KindViews.{note_of_token}
 use Rattle.granit_content.specs.Reads.{seen, noted, kept}
 use Rattle.granit_content.specs.ScalarReads.{asking, lexed_as, block_as}
 use Rattle.granit_content.proofs.CodedLemmas.{coded_at_back, coded_back, coded_fails, coded_twice, fails_then}

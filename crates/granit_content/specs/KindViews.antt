@@ -1,7 +1,6 @@
 -- What the tokens of the calls that read lexemes say.
 use Rattle.std.specs.Prelude.{[], ◌∷◌, map, Option, Some, None}
-use Rattle.granit_base.specs.declared.style.Placement.{Placement}
-use Rattle.granit_base.specs.declared.style.Placement.TheVariants.{Right}
+use Rattle.granit_cursor.specs.Tokens.{is_right_placed}
 use Rattle.granit_cursor.specs.declared.token.Token.{Token}
 use Rattle.granit_cursor.specs.declared.token.TokenType.{TokenType}
 use Rattle.granit_cursor.specs.declared.token.TokenType.TheVariants as tokens
@@ -9,7 +8,7 @@ use Rattle.granit_lexemes.specs.Comment.{CommentRead}
 use Rattle.granit_lexemes.specs.Lexeme as spec
 use Rattle.granit_lexemes.specs.Source.{Source}
 use Rattle.granit_items.specs.ItemViews.{characters_of}
-use Rattle.std.specs.Prelude.{Bool, true, false}
+use Rattle.std.specs.Prelude.{true, false}
 
 -- What a token's lexeme is. What a scanner inserts, and a comment, is no lexeme: it is seen as a directive without a
 -- name, which no text spells.
@@ -23,10 +22,6 @@ kind_of_type (tokens.Anchor name) = spec.Anchor name
 kind_of_type (tokens.Tag handle suffix) = spec.Tag handle.characters suffix.characters
 kind_of_type (tokens.Scalar style text) = spec.Scalar style text
 kind_of_type other = spec.Directive (spec.Reserved [] [])
-
-abbrev pub is_right_placed : Placement → Bool
-is_right_placed Right = true
-is_right_placed other = false
 
 -- What a comment's token says. Another token is seen as a comment that holds nothing, not even its `#`.
 abbrev pub note_of_type : TokenType → Source → CommentRead

@@ -11,7 +11,7 @@ use Rattle.granit_lexemes.specs.declared.layout.LastLexeme.{LastLexeme}
 use Rattle.granit_machine.specs.Gaps.{over_gap_char, begins_gap, GapRead, no_more_adjacent}
 use Rattle.granit_machine.specs.Laid.{Laid}
 use Rattle.granit_machine.specs.ReaderState.{ReaderState, Read}
-use Rattle.granit_items.specs.ItemViews.{note_view, lexeme_items, found_items}
+use Rattle.granit_items.specs.ItemViews.{boxed_view, lexeme_items, found_items}
 use Rattle.granit_items.specs.declared.item.Found.{Found}
 use Rattle.granit_items.specs.declared.item.Lexeme.{Lexeme}
 use Rattle.granit_content.specs.declared.lexeme.Start.{Start}
@@ -60,7 +60,7 @@ seen_comment asked c = seen asked (Some c)
 abbrev pub tail_view : Tail → Seen
 tail_view tails.Nothing = Nothing
 tail_view tails.Passed = Passed
-tail_view (tails.Kept n) = Kept (note_view n)
+tail_view (tails.Kept n) = Kept (boxed_view n)
 
 -- the comment that is kept
 abbrev pub noted : Seen → Option CommentRead

@@ -6,6 +6,8 @@ use Rattle.granit_error.specs.OptionsData.{OptionsData}
 use Rattle.granit_error.specs.Refused.{Refused}
 use Rattle.granit_cursor.specs.Reading.{Reading, Stands, GivesTo, coded}
 use Rattle.granit_cursor.specs.declared.token.Lexed.{Lexed}
+use Rattle.granit_cursor.specs.declared.token.Token.{Token}
+use Rattle.granit_lexemes.specs.Comment.{CommentRead}
 use Rattle.granit_lexemes.specs.Here.{Here}
 use Rattle.granit_lexemes.specs.LayoutData.{LayoutData}
 use Rattle.granit_lexemes.specs.Lexeme.{Lexeme, Item, OfComment}
@@ -22,18 +24,28 @@ use Rattle.granit_content.specs.Reads.{IsAt, Seen, seen, noted, behind_seen}
 abbrev pub asking : Bool → LayoutData → LayoutData
 asking asked at = record at { comments = asked }
 
--- the lexeme from here to the end of a scalar, with the comment that was read behind it
-abbrev pub lexed_as : Bool → Lexed → Here → Laid → Lexeme
-lexed_as ends read h l =
-    with_tail (lexeme_to ends (kind_of_type read.token.token_type) read.token.span.end h l)
-    (option_map note_of_token read.comment)
+-- the lexeme from here to the end of a token, with a tail
+abbrev pub token_as : Bool → Token → Option CommentRead → Here → Laid → Lexeme
+token_as ends token tail h l =
+    with_tail (lexeme_to ends (kind_of_type token.token_type) token.span.end h l) tail
 
 -- the same of a block scalar, whose token shows where its content stands
-abbrev pub block_as : Bool → Lexed → Here → Laid → Lexeme
-block_as ends read h l = record (lexed_as ends read h l) {
-  shown = record { start = read.token.span.start; end = read.token.span.end };
-  indent = read.token.span.indent;
+abbrev pub shown_as : Bool → Token → Option CommentRead → Here → Laid → Lexeme
+shown_as ends token tail h l = record (token_as ends token tail h l) {
+  shown = record { start = token.span.start; end = token.span.end };
+  indent = token.span.indent;
 }
+
+-- the comment that was read behind a lexeme
+abbrev pub tail_of : Lexed → Option CommentRead
+tail_of read = option_map note_of_token read.comment
+
+-- a scalar and a block scalar as lexemes, with the comment that was read behind them
+abbrev pub lexed_as : Bool → Lexed → Here → Laid → Lexeme
+lexed_as ends read h l = token_as ends read.token (tail_of read) h l
+
+abbrev pub block_as : Bool → Lexed → Here → Laid → Lexeme
+block_as ends read h l = shown_as ends read.token (tail_of read) h l
 
 -- behind items, what is seen in the gap; a value may stand at once behind that, unless a comment does
 abbrev pub with_seen : List Item → Seen → ReaderState → Read

@@ -1,6 +1,7 @@
 //! Tokens of the calls that read lexemes, as parts of items.
 ghost use Rattle.std.specs.Prelude.{◌≡◌, []};
 ghost use Rattle.granit_lexemes.specs.Lexeme as lexemes;
+ghost use Rattle.granit_cursor.specs.Tokens as tokens;
 ghost use Rattle.granit_items.specs.ItemViews as view;
 ghost use Rattle.granit_content.specs.KindViews as spec;
 
@@ -75,7 +76,7 @@ pub(crate) fn note<'input>(token: Token<'input>) -> Note<'input>
 }
 
 fn is_right(placement: Placement) -> bool
-    ensures { result ≡ spec.is_right_placed placement }
+    ensures { result ≡ tokens.is_right_placed placement }
 {
     matches!(placement, Placement::Right)
 }

@@ -1,6 +1,6 @@
 //! Aliases and properties (YAML 1.2.2, 6.9 and 7.1).
 ghost use Rattle.std.specs.Prelude.{◌≡◌, ◌<◌, ◌^◌, Bool};
-ghost use Rattle.granit_cursor.specs.Reading.{Moves, Stands};
+ghost use Rattle.granit_cursor.specs.Reading.{LendsWithoutMemory, Moves, Stands};
 ghost use Rattle.granit_error.specs.OptionsView.{options_of};
 ghost use Rattle.granit_lexemes.specs.Here.{Here, next_char, mark_of};
 ghost use Rattle.granit_machine.specs.NodeLexemes as spec;
@@ -36,6 +36,7 @@ pub fn alias_lexeme<'input, T: BorrowedInput<'input>>(
     requires room { layouts.old.number < 2 ^ 63 }
     ensures here { (asked : Bool) → ReadsItems T.unread asked at.old at.new layouts.new
         (lexeme_in found.new) result (λ h. spec.alias_lexeme ends h layouts.old) }
+    ensures lent { LendsWithoutMemory T.unread at.old result }
     ensures moves { Moves T.unread T.left T.origin at.old at.new }
 {
     let start = start_of(at);
@@ -62,6 +63,7 @@ pub fn anchor_lexeme<'input, T: BorrowedInput<'input>>(
     requires room { layouts.old.number < 2 ^ 63 }
     ensures here { (asked : Bool) → ReadsItems T.unread asked at.old at.new layouts.new
         (lexeme_in found.new) result (λ h. spec.anchor_lexeme (options_of options.now) ends h layouts.old) }
+    ensures lent { LendsWithoutMemory T.unread at.old result }
     ensures moves { Moves T.unread T.left T.origin at.old at.new }
 {
     let start = start_of(at);

@@ -1,22 +1,23 @@
 //! Scalars (YAML 1.2.2, 7.3 and 8.1).
-ghost use Rattle.std.specs.Prelude.{◌≡◌, ◌<◌, ◌^◌, true};
+ghost use Rattle.std.specs.Prelude.{◌≡◌, ◌<◌, ◌^◌, true, None, IfOk, IsOk};
 ghost use Rattle.std.specs.Option.{option_map};
 ghost use Rattle.granit_base.specs.PlainContent.{is_content};
-ghost use Rattle.granit_block.specs.BlockCode.{block_indicator};
 ghost use Rattle.granit_cursor.specs.Reading.{Moves, Stands};
 ghost use Rattle.granit_error.specs.OptionsView.{options_of};
+ghost use Rattle.granit_lexemes.specs.BlockScalar.{block_indicator};
 ghost use Rattle.granit_lexemes.specs.Here.{Here, next_char};
 ghost use Rattle.granit_lexemes.specs.QuotedScalar.{quote_char};
 ghost use Rattle.granit_machine.specs.Laid.{is_in_flow};
 ghost use Rattle.granit_machine.specs.NodeLexemes as spec;
-ghost use Rattle.granit_items.specs.ItemViews.{note_view, lexeme_view, lexeme_items};
+ghost use Rattle.granit_items.specs.ItemViews.{boxed_view, lexeme_view, lexeme_items};
 ghost use Rattle.granit_content.specs.KindViews.{note_of_token};
 ghost use Rattle.granit_content.specs.Reads.{IsStart, ReadsItems, found_in, lexeme_in};
-ghost use Rattle.granit_content.specs.ScalarReads.{lexed_as, block_as, GapBehind};
+ghost use Rattle.granit_content.specs.ScalarReads.{shown_as, token_as, GapBehind};
 
 use crate::gaps::gap;
 use crate::kinds::{lexeme_kind, note};
 use crate::lexeme::{Start, behind_tail, give, lexeme_to, start_of};
+use granit_base::NoMemory;
 use granit_block::scan_block_scalar;
 use granit_cursor::{Cursor, Lexed, Token};
 use granit_error::{Options, ScanError};
@@ -51,7 +52,8 @@ pub fn plain_lexeme<'input, T: BorrowedInput<'input>>(
     let layout = layouts.layout(options, start.mark.col(), options.emit_comments);
     let read = scan_plain_scalar(alloc, at, &layout)?;
     let cut = read.cut_by_comment;
-    let lexeme = scalar_lexeme(alloc, layouts, ends, start, read);
+    let tail = kept_note(alloc, read.comment)?;
+    let lexeme = scalar_lexeme(alloc, layouts, ends, start, read.token, tail);
     layouts.behind_plain_scalar(cut);
     give(layouts, lexeme, LastLexeme::Another, found);
     Ok(())
@@ -80,7 +82,8 @@ pub fn block_lexeme<'input, T: BorrowedInput<'input>>(
     let start = start_of(at);
     let layout = layouts.layout(options, start.mark.col(), options.emit_comments);
     let read = scan_block_scalar(alloc, at, literal, &layout)?;
-    let lexeme = shown_lexeme(alloc, layouts, ends, start, read);
+    let tail = kept_note(alloc, read.comment)?;
+    let lexeme = shown_lexeme(alloc, layouts, ends, start, read.token, tail);
     layouts.unroll();
     give(layouts, lexeme, LastLexeme::Another, found);
     Ok(())
@@ -105,7 +108,8 @@ fn quoted_lexeme<'input, T: BorrowedInput<'input>>(
     let start = start_of(at);
     let layout = layouts.layout(options, start.mark.col(), options.emit_comments);
     let read = scan_quoted_scalar(alloc, at, single, &layout)?;
-    let lexeme = scalar_lexeme(alloc, layouts, ends, start, read);
+    let tail = kept_note(alloc, read.comment)?;
+    let lexeme = scalar_lexeme(alloc, layouts, ends, start, read.token, tail);
     give(layouts, lexeme, LastLexeme::Adjacent, found);
     Ok(())
 }
@@ -152,18 +156,19 @@ fn with_gap<'input, T: BorrowedInput<'input>>(
     Ok(())
 }
 
-/// The lexeme from there to the end of a token, with the comment that was read behind it.
+/// The lexeme from there to the end of a token, with its tail.
 pub fn scalar_lexeme<'input>(
     alloc: Global,
     layouts: &Layouts,
     ends: bool,
     start: Start,
-    read: Lexed<'input>,
+    token: Token<'input>,
+    tail: Option<Box<Note<'input>>>,
 ) -> Lexeme<'input>
-    ensures { (h : Here) → IsStart start h → lexeme_view result ≡ lexed_as ends read.entry h layouts.now }
+    ensures { (h : Here) → IsStart start h → lexeme_view result
+        ≡ token_as ends token.entry (option_map boxed_view tail.entry) h layouts.now }
 {
-    let tail = noted(read.comment);
-    let (span, token_type) = read.token.into_parts();
+    let (span, token_type) = token.into_parts();
     let kind = lexeme_kind(alloc, token_type);
     let mut lexeme = lexeme_to(layouts, ends, kind, start, span.end);
     lexeme.tail = tail;
@@ -176,22 +181,33 @@ fn shown_lexeme<'input>(
     layouts: &Layouts,
     ends: bool,
     start: Start,
-    read: Lexed<'input>,
+    token: Token<'input>,
+    tail: Option<Box<Note<'input>>>,
 ) -> Lexeme<'input>
-    ensures { (h : Here) → IsStart start h → lexeme_view result ≡ block_as ends read.entry h layouts.now }
+    ensures { (h : Here) → IsStart start h → lexeme_view result
+        ≡ shown_as ends token.entry (option_map boxed_view tail.entry) h layouts.now }
 {
-    let span = read.token.span();
-    let mut lexeme = scalar_lexeme(alloc, layouts, ends, start, read);
+    let span = token.span();
+    let mut lexeme = scalar_lexeme(alloc, layouts, ends, start, token, tail);
     lexeme.shown_start = span.start;
     lexeme.indent = span.indent;
     lexeme
 }
 
-fn noted<'input>(comment: Option<Token<'input>>) -> Option<Note<'input>>
-    ensures { option_map note_view result ≡ option_map note_of_token comment.entry }
+/// The comment that was read behind a scalar or a directive, as a tail.
+///
+/// # Errors
+///
+/// `NoMemory` alone, where there is one.
+pub fn kept_note<'input>(
+    alloc: Global,
+    comment: Option<Token<'input>>,
+) -> Result<Option<Box<Note<'input>>>, NoMemory>
+    ensures kept { IfOk result (λ t. option_map boxed_view t ≡ option_map note_of_token comment.entry) }
+    ensures none { comment.entry ≡ None → IsOk result }
 {
     match comment {
-        None => None,
-        Some(token) => Some(note(token)),
+        None => Ok(None),
+        Some(token) => Ok(Some(Box::new(alloc, note(token))?)),
     }
 }

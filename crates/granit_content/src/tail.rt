@@ -4,7 +4,7 @@ ghost use Rattle.std.specs.Option.{option_map};
 ghost use Rattle.granit_cursor.specs.Reading.{Moves, Wherever, GivesTo, coded};
 ghost use Rattle.granit_lexemes.specs.Comment as comments;
 ghost use Rattle.granit_lexemes.specs.Tail as spec;
-ghost use Rattle.granit_items.specs.ItemViews.{note_view};
+ghost use Rattle.granit_items.specs.ItemViews.{boxed_view};
 ghost use Rattle.granit_content.specs.declared.tail.Tail.TheVariants.{Nothing};
 ghost use Rattle.granit_content.specs.Reads.{NeverWants, noted, seen, seen_comment, tail_view};
 
@@ -23,13 +23,13 @@ pub enum Tail<'input> {
     /// There is one, which isn't asked for.
     Passed,
     /// This one.
-    Kept(Note<'input>),
+    Kept(Box<Note<'input>>),
 }
 
 impl<'input> Tail<'input> {
     /// The comment, where it is kept.
-    pub(crate) fn into_note(self) -> Option<Note<'input>>
-        ensures { option_map note_view result ≡ noted (tail_view self.entry) }
+    pub(crate) fn into_note(self) -> Option<Box<Note<'input>>>
+        ensures { option_map boxed_view result ≡ noted (tail_view self.entry) }
     {
         match self {
             Tail::Nothing => None,
@@ -84,7 +84,7 @@ pub fn comment_at<'input, T: BorrowedInput<'input>>(
 {
     if asked {
         let token = read_comment(alloc, at)?;
-        return Ok(Tail::Kept(note(token)));
+        return Ok(Tail::Kept(Box::new(alloc, note(token))?));
     }
     pass_comment(at)?;
     Ok(Tail::Passed)

@@ -10,10 +10,11 @@ use Rattle.std.proofs.lemmas.Bool.Decides.{nat_tests}
 use Rattle.std.proofs.lemmas.Str.{chars-nil}
 use Rattle.granit_base.specs.Classes.{is_alpha, is_word_char, is_digit, is_yaml_non_space, is_yaml_non_break}
 use Rattle.granit_base.specs.Classes.{is_printable, is_bom, is_blank, is_break, is_breakz, is_blank_or_breakz}
+use Rattle.granit_base.specs.Classes.{is_non_breakz}
 use Rattle.granit_base.specs.Place.{Place, Mark, Unread, first, ends_line}
 use Rattle.granit_base.specs.Written.{string_chars}
 use Rattle.granit_input.specs.Unread.{past}
-use Rattle.granit_input.specs.Runs.{run_length, starts, is_line_char, is_non_breakz, is_quoted_char}
+use Rattle.granit_input.specs.Runs.{run_length, starts, is_line_char, is_quoted_char}
 use Rattle.granit_base.specs.PlainContent.{is_content}
 use Rattle.granit_input.specs.White.{is_skipped}
 use Rattle.granit_input.specs.declared.whitespace.SkipTabs.TheVariants.{No}

@@ -1,6 +1,6 @@
 -- What contracts see of a cursor, and what a reader gives for whatever is known to be left.
-use Rattle.std.specs.Prelude.{◌≡◌, ◌⊎◌, ℕ, ◌+◌, ◌≤◌, Bool, true, ◌&&◌, if◌then◌else◌, List, [], ◌++◌, take, Option}
-use Rattle.std.specs.Prelude.{is_some, Result, Ok, Err, IfOk, IfErr}
+use Rattle.std.specs.Prelude.{◌≡◌, ◌⊎◌, ℕ, ◌+◌, ◌<◌, ◌≤◌, Bool, true, false, ◌&&◌, if◌then◌else◌, List, [], ◌++◌}
+use Rattle.std.specs.Prelude.{take, Option, is_some, Result, Ok, Err, IfOk, IfErr}
 use Rattle.std.specs.Borrow.{Bor}
 use Rattle.std.specs.Str.{chars}
 use Rattle.granit_base.specs.Place.{Place, Mark, Unread}
@@ -143,3 +143,9 @@ TakesText test h (Err e) Lands = e.kind ≡ NoMemory
 abbrev pub LendsWithoutMemory : {I X : Type 0} → (I → Unread → Type 0) → Reading I → Result X Refused → Type 0
 LendsWithoutMemory unread old result =
     (h : Here) → Stands unread old h → h.unread.lends ≡ true → IfErr result (λ e. ¬ (e.kind ≡ NoMemory))
+
+-- a turn that goes on took a character
+abbrev pub TurnTakes : {E : Type 0} → Result Bool E → ℕ → ℕ → Type 0
+TurnTakes (Ok true) old new = new < old
+TurnTakes (Ok false) old new = new ≤ old
+TurnTakes (Err e) old new = new ≤ old

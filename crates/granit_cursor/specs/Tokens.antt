@@ -46,3 +46,7 @@ layout_data l = record {
 abbrev pub IsCommentKind : FaultKind → Type 0
 IsCommentKind kind =
     (kind ≡ NoMemory) ⊎ ((kind ≡ InputSlicingUnavailable) ⊎ ((c : ℕ) × (kind ≡ UnexpectedCharacter c)))
+
+abbrev pub is_right_placed : Placement → Bool
+is_right_placed Right = true
+is_right_placed other = false

@@ -5,6 +5,7 @@ ghost use Rattle.granit_base.specs.Written.{string_chars};
 ghost use Rattle.granit_cursor.specs.Reading.{Stands, Moves, Wherever, GivesTo, ReadsAs, AnswersAs, RefusedFor, coded};
 ghost use Rattle.granit_error.specs.FaultKind.{NoMemory as OutOfMemory};
 ghost use Rattle.granit_error.specs.OptionsView.{options_of};
+ghost use Rattle.granit_base.specs.Written as written;
 ghost use Rattle.granit_lexemes.specs.Directive as spec;
 ghost use Rattle.granit_lexemes.specs.DirectiveExtent as extent;
 ghost use Rattle.granit_lexemes.specs.Here.{Here, mark_of, next_char};
@@ -97,21 +98,21 @@ fn is_reserved(kind: &TokenType<'_>) -> bool
 
 /// Whether a name is that one.
 fn is_name(name: &str, wanted: &str) -> bool
-    ensures { result ≡ spec.is_name (chars name.now) (chars wanted.now) }
+    ensures { result ≡ written.same_text (chars name.now) (chars wanted.now) }
 {
     Text::borrowed(name) == Text::borrowed(wanted)
 }
 
 /// Whether a name is `YAML`.
 fn is_yaml(name: &str) -> bool
-    ensures { result ≡ spec.is_name (chars name.now) (codes "YAML") }
+    ensures { result ≡ written.same_text (chars name.now) (codes "YAML") }
 {
     is_name(name, "YAML")
 }
 
 /// Whether a name is `TAG`.
 fn is_tag(name: &str) -> bool
-    ensures { result ≡ spec.is_name (chars name.now) (codes "TAG") }
+    ensures { result ≡ written.same_text (chars name.now) (codes "TAG") }
 {
     is_name(name, "TAG")
 }

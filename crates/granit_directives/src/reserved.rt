@@ -2,12 +2,11 @@
 //! caller tells.
 ghost use Rattle.std.specs.Prelude.{◌≡◌, ◌==◌, ◌||◌, IfErr, Some};
 ghost use Rattle.granit_base.specs.Classes as class;
-ghost use Rattle.granit_cursor.specs.Reading.{Moves, Wherever};
+ghost use Rattle.granit_cursor.specs.Reading.{Moves, Wherever, TurnTakes};
 ghost use Rattle.granit_error.specs.OptionsView.{options_of};
 ghost use Rattle.granit_lexemes.specs.Directive as spec;
 ghost use Rattle.granit_directives.specs.DirectiveCode.{IsDirectiveKind};
 ghost use Rattle.granit_directives.specs.ReservedCode.{ParametersGo, ParametersTo, all_owned, parameters_whole};
-ghost use Rattle.granit_properties.specs.UriCode.{UriTurnTakes};
 
 use crate::words::{count_blanks, word_within};
 use granit_base::{Marker, OwnedText, TextList, is_blank_or_breakz};
@@ -44,7 +43,7 @@ fn take_parameter<T: Input>(
         ParametersGo (options_of options.now) start result Lands parts.new
         (parameters_whole (options_of options.now) start parts.old h)) }
     ensures owned { all_owned parts.old.list → all_owned parts.new.list }
-    ensures left { UriTurnTakes result (T.left cursor.old.input) (T.left cursor.new.input) }
+    ensures left { TurnTakes result (T.left cursor.old.input) (T.left cursor.new.input) }
     ensures kinds { IfErr result (λ e. IsDirectiveKind e.kind) }
     ensures moves { Moves T.unread T.left T.origin cursor.old cursor.new }
 {

@@ -1,6 +1,6 @@
 -- Why a text is refused, as plain data, with the number and the printed words of each kind. A text is seen as its
 -- characters.
-use Rattle.std.specs.Prelude.{ℕ, List, ◌++◌, codes}
+use Rattle.std.specs.Prelude.{ℕ, Bool, ◌==◌, List, ◌++◌, codes}
 use Rattle.std.specs.Fmt.{decimal}
 use Rattle.std.specs.Char.{encode_utf8}
 use Rattle.std.specs.Char.Escape.{escape_default}
@@ -310,3 +310,7 @@ fault_words InvalidSimpleKey = codes "simple key is no longer valid"
 fault_words InvalidFlowScalarIndent = codes "invalid indentation in flow construct"
 fault_words InvalidMappingValueWhitespace = codes "':' must be followed by a valid YAML whitespace"
 fault_words UnexpectedEndOfPlainScalar = codes "unexpected end of plain scalar"
+
+-- want of memory, which no text causes
+abbrev pub wants_memory : FaultKind → Bool
+wants_memory kind = fault_number kind == fault_number NoMemory

@@ -65,3 +65,6 @@ same_refused_equiv =
     (and_equiv (and_equiv (on_equiv (λ r. r.mark.place.index) nat_eq_equiv)
     (on_equiv (λ r. r.mark.place.line) nat_eq_equiv)) (on_equiv (λ r. r.mark.place.column) nat_eq_equiv)))
     (on_equiv (λ r. r.sources) (lists_equiv (on_equiv (λ t. t.characters) nat_list_eq_equiv)))
+
+abbrev pub refused_kind : Refused → FaultKind
+refused_kind e = e.kind

@@ -11,8 +11,8 @@ use Rattle.std.proofs.lemmas.Bool.{eqb-true, eqb-false, eq-eqb}
 use Rattle.std.proofs.lemmas.Bool.Decides.{same_from_decides}
 use Rattle.std.proofs.lemmas.List.{append_cancel_left}
 use Rattle.std.proofs.lemmas.Str.{encodes-append, encodes-chars, chars-append, IsUtf8-append}
-use Rattle.granit_base.specs.Written.{Written}
-use Rattle.granit_event.specs.Names.{told, same_text, behind_front, core_namespace, core_names, name_or, named}
+use Rattle.granit_base.specs.Written.{Written, same_text}
+use Rattle.granit_event.specs.Names.{told, behind_front, core_namespace, core_names, name_or, named}
 use Rattle.granit_event.specs.Names.{core_suffix_of, more_than, goes_on, lent_unless}
 
 -- ---- a front, and what follows it

@@ -1,15 +1,11 @@
 -- The name of a tag: its handle followed by its suffix, and what the calls of a tag answer of it.
-use Rattle.std.specs.Prelude.{ℕ, Bool, true, false, ◌==◌, ◌&&◌, not, if◌then◌else◌, nat_eq, List, [], ◌∷◌, ◌++◌, codes}
+use Rattle.std.specs.Prelude.{ℕ, Bool, true, false, ◌==◌, ◌&&◌, not, if◌then◌else◌, List, [], ◌∷◌, ◌++◌, codes}
 use Rattle.std.specs.Prelude.{Option, Some, None}
 use Rattle.std.specs.Borrow.{Bor}
 use Rattle.std.specs.Option.{option_map, option_and_then}
 use Rattle.std.specs.Str.{chars}
-use Rattle.granit_base.specs.Written.{Written}
+use Rattle.granit_base.specs.Written.{Written, same_text}
 use Rattle.granit_lexemes.specs.PlainEvent.{PlainTag}
-use lib.Pointwise.{pointwise}
-
-abbrev pub same_text : List ℕ → List ℕ → Bool
-same_text a b = pointwise nat_eq a b
 
 -- the characters of a text, where there is one
 abbrev pub told : Option (Bor (List ℕ)) → Option (List ℕ)

@@ -1,6 +1,7 @@
 //! The name of a tag: its handle followed by its suffix.
 ghost use Rattle.std.specs.Prelude.{◌≡◌, ◌&&◌, not, false, [], ◌++◌, codes, IfSome, IfOk};
 ghost use Rattle.std.specs.Str.{chars};
+ghost use Rattle.granit_base.specs.Written as written;
 ghost use Rattle.granit_event.specs.Names as spec;
 
 use granit_base::{NoMemory, OwnedText, Text, is_at_end};
@@ -8,7 +9,7 @@ use std::alloc::Global;
 
 /// Whether two texts have the same characters.
 pub(crate) fn same_text(a: &str, b: &str) -> bool
-    ensures { result ≡ spec.same_text (chars a.now) (chars b.now) }
+    ensures { result ≡ written.same_text (chars a.now) (chars b.now) }
 {
     Text::borrowed(a) == Text::borrowed(b)
 }
@@ -42,7 +43,7 @@ pub(crate) fn behind<'a>(front: &str, first: &'a str, second: &'a str) -> Option
 /// Whether a name is one text followed by another.
 #[tactic(auto, using(crate::proofs::NameLemmas::joined_other, crate::proofs::NameLemmas::joined_left))]
 fn is_joined(name: &str, first: &str, second: &str) -> bool
-    ensures { result ≡ spec.same_text (chars first.now ++ chars second.now) (chars name.now) }
+    ensures { result ≡ written.same_text (chars first.now ++ chars second.now) (chars name.now) }
 {
     match behind_front(first, name) {
         None => false,
@@ -130,8 +131,8 @@ pub(crate) fn verbatim(alloc: Global, suffix: &str) -> Result<OwnedText, NoMemor
 /// Whether a handle is that of a verbatim tag: it is empty, and the suffix isn't `!` (YAML 1.2.2,
 /// 6.9.1).
 pub(crate) fn is_verbatim(original_handle: &str, suffix: &str) -> bool
-    ensures { result ≡ (spec.same_text (chars original_handle.now) []
-        && not (spec.same_text (chars suffix.now) (codes "!"))) }
+    ensures { result ≡ (written.same_text (chars original_handle.now) []
+        && not (written.same_text (chars suffix.now) (codes "!"))) }
 {
     same_text(original_handle, "") && !same_text(suffix, "!")
 }

@@ -6,7 +6,7 @@ use Rattle.std.specs.Fmt.{decimal}
 use Rattle.std.specs.Str.{chars, IsUtf8}
 use Rattle.std.specs.Str.Lossy.{utf8_valid_len}
 use Rattle.std.specs.Io.KnownBytes.{Appends, Keeps}
-use Rattle.granit_error.specs.FaultKind.{FaultKind, NoMemory, fault_number, fault_words}
+use Rattle.granit_error.specs.FaultKind.{FaultKind, NoMemory, fault_number, fault_words, wants_memory}
 use Rattle.granit_error.specs.Refused.{place_words}
 use Rattle.granit_lexemes.specs.Line.{event_line, event_lines, fault_line}
 use Rattle.granit_lexemes.specs.Outcome.{Fault}
@@ -14,7 +14,7 @@ use Rattle.granit_error.specs.OptionsData.{OptionsData}
 use Rattle.granit_lexemes.specs.PlainEvent.{PlainEvent}
 use Rattle.granit_steps.specs.Levels.{IsStream}
 use Rattle.granit_steps.proofs.StreamLaws.{run_is_stream}
-use Rattle.granit_events.specs.Ended.{Answers, machine_answer, not_utf8_line, is_no_memory}
+use Rattle.granit_events.specs.Ended.{Answers, machine_answer, not_utf8_line}
 use Rattle.granit_events.specs.Output.{CutOutput, WholeOutput}
 use Rattle.granit_events.specs.Wrote.{WroteFront}
 use Rattle.granit_events.specs.declared.status.Status.TheVariants as status
@@ -89,5 +89,5 @@ pub cut_nothing : (o : OptionsData) (text : List ℕ) (a b : Option (List ℕ)) 
     → CutOutput (Answers o text) a b
 cut_nothing o text a b u k = cut_some o text a b u k (machine_answer o text) refl
 
-pub is_other : (k : FaultKind) → is_no_memory k ≡ false → k ≡ NoMemory → ⊥
-is_other k h e = let t : is_no_memory k ≡ true = ap is_no_memory e in cc
+pub is_other : (k : FaultKind) → wants_memory k ≡ false → k ≡ NoMemory → ⊥
+is_other k h e = let t : wants_memory k ≡ true = ap wants_memory e in cc

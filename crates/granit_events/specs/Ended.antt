@@ -1,11 +1,11 @@
 -- What words and bytes call for: a status, and the output that it fixes.
-use Rattle.std.specs.Prelude.{◌≡◌, Bool, ℕ, ◌==◌, ◌<◌, ◌≤◌, List, ◌++◌, length, codes, Option, Result}
+use Rattle.std.specs.Prelude.{◌≡◌, ℕ, ◌<◌, ◌≤◌, List, ◌++◌, length, codes, Option, Result}
 use Rattle.std.specs.Prelude.{Ok, Err}
 use Rattle.std.specs.Fmt.{decimal}
 use Rattle.std.specs.Str.{chars, IsUtf8}
 use Rattle.std.specs.Str.Lossy.{utf8_valid_len}
 use Rattle.granit_base.specs.Written.{Written}
-use Rattle.granit_error.specs.FaultKind.{FaultKind, NoMemory, fault_number}
+use Rattle.granit_error.specs.FaultKind.{NoMemory}
 use Rattle.granit_error.specs.OptionsData.{OptionsData}
 use Rattle.granit_lexemes.specs.Line.{event_lines, fault_line}
 use Rattle.granit_lexemes.specs.Outcome.{Fault}
@@ -95,7 +95,3 @@ IsOrYields wanted status.ReadFault = Unit {0}
 IsOrYields wanted status.WriteFault = Unit {0}
 IsOrYields wanted status.NoMemory = Unit {0}
 IsOrYields wanted s = s ≡ wanted
-
--- want of memory, which no text causes
-abbrev pub is_no_memory : FaultKind → Bool
-is_no_memory kind = fault_number kind == fault_number NoMemory

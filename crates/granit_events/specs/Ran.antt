@@ -1,12 +1,12 @@
 -- What a run does with words, a source and a sink.
 use Rattle.std.specs.Prelude.{◌≡◌, ◌⊎◌, ℕ, List, Option, Some}
 use Rattle.std.specs.Io.KnownBytes.{Appends, IsAtEnd, Keeps}
+use Rattle.granit_base.specs.Counts.{Rose}
 use Rattle.granit_base.specs.Written.{Written}
 use Rattle.granit_lexemes.specs.Line.{event_lines, fault_line}
 use Rattle.granit_lexemes.specs.Outcome.{Fault}
 use Rattle.granit_lexemes.specs.PlainEvent.{PlainEvent}
 use Rattle.granit_model.specs.Tree.{PlainTrees}
-use Rattle.granit_events.specs.Counts.{Rose}
 use Rattle.granit_events.specs.Ended.{AreRight, AreWrongAt, CallsFor, Ended, Fixes, IsOrYields, ReadsAll}
 use Rattle.granit_events.specs.Output.{CutOutput, WholeOutput}
 use Rattle.granit_events.specs.Understood.{CanRead, HasBlockText, HasCause, HasEvents, PrintsAlike, PrintsFault}

@@ -1,8 +1,8 @@
 -- What a run does on words that begin with `selftest`.
 use Rattle.std.specs.Prelude.{◌≡◌, ℕ, List}
 use Rattle.std.specs.Io.KnownBytes.{Keeps}
+use Rattle.granit_base.specs.Counts.{Rose}
 use Rattle.granit_base.specs.Written.{Written}
-use Rattle.granit_events.specs.Counts.{Rose}
 use Rattle.granit_events.specs.Ended.{Fixes, IsOrYields}
 use Rattle.granit_events.specs.Output.{CutOutput, WholeOutput}
 use Rattle.granit_events.specs.Ran.{End}

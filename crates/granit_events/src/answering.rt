@@ -1,11 +1,12 @@
 //! What is printed for the whole bytes of an input.
 ghost use Rattle.std.specs.Prelude.{◌≡◌, Err, IfOk, OnOk, OnErr};
 ghost use Rattle.std.specs.Io.KnownBytes.{Appends};
+ghost use Rattle.granit_base.specs.Counts.{Rose};
+ghost use Rattle.granit_error.specs.FaultKind.{wants_memory};
 ghost use Rattle.granit_error.specs.OptionsView.{options_of};
 ghost use Rattle.granit_lexemes.specs.Line.{fault_line};
 ghost use Rattle.granit_words.specs.Words.{usage_line};
-ghost use Rattle.granit_events.specs.Counts.{Rose};
-ghost use Rattle.granit_events.specs.Ended.{Answers, is_no_memory, not_utf8_line};
+ghost use Rattle.granit_events.specs.Ended.{Answers, not_utf8_line};
 ghost use Rattle.granit_events.specs.Inputs.{Responds};
 ghost use Rattle.granit_events.specs.Output.{CutOutput, WholeOutput};
 ghost use Rattle.granit_events.specs.Wrote.{WroteFront};
@@ -23,7 +24,7 @@ use std::alloc::Global;
 
 /// Whether memory ran out.
 fn ran_out(error: &ScanError) -> bool
-    ensures { result ≡ is_no_memory error.now.kind }
+    ensures { result ≡ wants_memory error.now.kind }
 {
     error.kind().number() == ErrorKind::NoMemory.number()
 }

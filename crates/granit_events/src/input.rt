@@ -1,6 +1,6 @@
 //! What comes in: the words, and the bytes of a source where the words are right.
 ghost use Rattle.std.specs.Prelude.{◌≡◌, ℕ, Err, IfOk, OnOk, OnErr};
-ghost use Rattle.granit_events.specs.Counts.{Rose};
+ghost use Rattle.granit_base.specs.Counts.{Rose};
 ghost use Rattle.granit_events.specs.Ended.{AreRight, AreWrongAt};
 ghost use Rattle.granit_events.specs.Inputs.{Took};
 ghost use Rattle.granit_events.specs.declared.input.InputEnd.TheVariants as ends;

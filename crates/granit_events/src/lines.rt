@@ -1,9 +1,9 @@
 //! The lines of events, written piece by piece.
-ghost use Rattle.std.specs.Prelude.{◌≡◌, List, ℕ, ◌++◌, Err, string_bytes, OnOk, OnErr};
+ghost use Rattle.std.specs.Prelude.{◌≡◌, List, ℕ, ◌++◌, Err, OnOk, OnErr};
 ghost use Rattle.std.specs.Io.KnownBytes.{Appends};
+ghost use Rattle.granit_base.specs.Counts.{Rose};
 ghost use Rattle.granit_lexemes.specs.Line.{event_lines};
 ghost use Rattle.granit_event.specs.Events.{plain_events};
-ghost use Rattle.granit_events.specs.Counts.{Rose};
 ghost use Rattle.granit_events.specs.Wrote.{WroteFront};
 ghost use Rattle.granit_events.specs.declared.lines.WriteEnd.TheVariants as ends;
 
@@ -41,17 +41,17 @@ impl From<NoMemory> for WriteEnd {
 const FULL: usize = 32_768;
 
 /// Hands the buffer to the sink, and empties it, where it is full.
-fn pass_on<W: Sink>(sink: &mut W, out: &mut String) -> Result<(), Failed>
-    ensures passed { OnOk result ((piece : List ℕ) × (string_bytes out.old ≡ piece ++ string_bytes out.new)
+fn pass_on<W: Sink>(sink: &mut W, out: &mut Vec<u8>) -> Result<(), Failed>
+    ensures passed { OnOk result ((piece : List ℕ) × (out.old.items ≡ piece ++ out.new.items)
         × Appends (W.written sink.old) (W.written sink.new) piece) }
     ensures same { OnOk result (W.faults sink.new ≡ W.faults sink.old) }
-    ensures front { OnErr result (WroteFront (W.written sink.old) (W.written sink.new) (string_bytes out.old)) }
+    ensures front { OnErr result (WroteFront (W.written sink.old) (W.written sink.new) out.old.items) }
     ensures failed { OnErr result (Rose (W.faults sink.old) (W.faults sink.new)) }
 {
     if out.len() < FULL {
         return Ok(());
     }
-    write_all(sink, out.as_bytes())?;
+    write_all(sink, out.as_slice())?;
     out.clear();
     Ok(())
 }
@@ -75,11 +75,11 @@ pub fn write_events<W: Sink>(
     ensures failed { result ≡ Err ends.Failed → Rose (W.faults sink.old) (W.faults sink.new) }
     ensures no_memory { result ≡ Err ends.NoMemory → W.faults sink.new ≡ W.faults sink.old }
 {
-    let mut out = String::new(alloc);
+    let mut out = Vec::new(alloc);
     'events: for (event, span) in events {
         push_line(&mut out, event, span)?;
         pass_on(sink, &mut out)?;
     }
-    write_all(sink, out.as_bytes())?;
+    write_all(sink, out.as_slice())?;
     Ok(())
 }

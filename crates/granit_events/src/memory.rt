@@ -3,7 +3,8 @@ ghost use Rattle.std.specs.Prelude.{◌≡◌, ◌+◌, ◌-◌, ◌<◌, ◌≤
 ghost use Rattle.std.specs.Prelude.{OnOk, OnErr, MatchResult};
 ghost use Rattle.std.specs.Io.{ReadsAtMost, WritesAtMost};
 ghost use Rattle.std.specs.Io.KnownBytes.{ReadConsumes, WriteAppends};
-ghost use Rattle.granit_events.specs.Counts.{Rose, next_count, held};
+ghost use Rattle.granit_base.specs.Counts.{next_count, Rose};
+ghost use Rattle.granit_events.specs.Counts.{held};
 ghost use Rattle.granit_events.specs.Memory.{is_among};
 
 use crate::ends::{Failed, Sink, Source};

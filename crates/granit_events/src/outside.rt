@@ -2,7 +2,7 @@
 ghost use Rattle.std.specs.Prelude.{◌≡◌, ◌^◌, ◌<◌, ◌≤◌, length, IfOk, OnOk, OnErr};
 ghost use Rattle.std.specs.Io.{ReadsAtMost, WritesAtMost};
 ghost use Rattle.std.specs.Io.KnownBytes.{ReadConsumes, WriteAppends};
-ghost use Rattle.granit_events.specs.Counts.{Rose, next_count};
+ghost use Rattle.granit_base.specs.Counts.{next_count, Rose};
 
 use crate::ends::{Failed, Sink, Source};
 use std::io::{Read, Write};

@@ -1,7 +1,7 @@
 //! The whole input.
 ghost use Rattle.std.specs.Prelude.{◌≡◌, ℕ, List, Err, IfOk, OnOk};
+ghost use Rattle.granit_base.specs.Counts.{Rose};
 ghost use Rattle.granit_events.specs.Came.{CameWhole, CameTooMany};
-ghost use Rattle.granit_events.specs.Counts.{Rose};
 ghost use Rattle.granit_events.specs.declared.reading.ReadEnd.TheVariants as ends;
 
 use crate::ends::{Failed, Source};

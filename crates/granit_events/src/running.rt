@@ -1,7 +1,7 @@
 //! All that the program does.
 ghost use Rattle.std.specs.Prelude.{◌≡◌, ℕ, ◌⊎◌, List, Some};
 ghost use Rattle.std.specs.Io.KnownBytes.{IsAtEnd, Keeps};
-ghost use Rattle.granit_events.specs.Counts.{Rose};
+ghost use Rattle.granit_base.specs.Counts.{Rose};
 ghost use Rattle.granit_events.specs.Ended.{AreRight, AreWrongAt, CallsFor, Ended, Fixes, IsOrYields, ReadsAll};
 ghost use Rattle.granit_events.specs.Output.{CutOutput, WholeOutput};
 ghost use Rattle.granit_events.specs.Ran.{Ran, end_of};

@@ -9,7 +9,6 @@ ghost use Rattle.granit_events.specs.Ended.{not_utf8_line};
 
 use granit_base::{Marker, NoMemory};
 use granit_error::{ErrorKind, ScanError};
-use granit_lines::push_number;
 use std::alloc::Global;
 
 /// `usage: word K`.
@@ -17,7 +16,7 @@ pub fn usage(alloc: Global, number: usize) -> Result<String, NoMemory>
     ensures { IfOk result (λ s. string_bytes s ≡ usage_line number) }
 {
     let mut out = String::from_str(alloc, "usage: word ")?;
-    push_number(&mut out, number)?;
+    write!(out, "{number}")?;
     out.push_str("\n")?;
     Ok(out)
 }
@@ -27,7 +26,7 @@ pub fn not_utf8(alloc: Global, valid: usize) -> Result<String, NoMemory>
     ensures { IfOk result (λ s. string_bytes s ≡ not_utf8_line valid) }
 {
     let mut out = String::from_str(alloc, "not UTF-8 after ")?;
-    push_number(&mut out, valid)?;
+    write!(out, "{valid}")?;
     out.push_str(" bytes\n")?;
     Ok(out)
 }
@@ -49,7 +48,8 @@ pub fn fault(alloc: Global, error: &ScanError) -> Result<String, NoMemory>
 {
     let mut out = String::from_str(alloc, "fault ")?;
     let kind = error.kind();
-    push_number(&mut out, kind.number() as usize)?;
+    let number = kind.number();
+    write!(out, "{number}")?;
     out.push_str(": ")?;
     push_words_and_place(&mut out, kind, error.marker())?;
     out.push_str("\n")?;

@@ -1,7 +1,7 @@
 //! What is printed on the words `selftest SEED SIZE`.
 ghost use Rattle.std.specs.Prelude.{◌≡◌, IfOk, string_bytes};
 ghost use Rattle.std.specs.Io.KnownBytes.{Keeps};
-ghost use Rattle.granit_events.specs.Counts.{Rose};
+ghost use Rattle.granit_base.specs.Counts.{Rose};
 ghost use Rattle.granit_events.specs.Ended.{Fixes};
 ghost use Rattle.granit_events.specs.Output.{CutOutput, WholeOutput};
 ghost use Rattle.granit_events.specs.SelfTest.{SelfTests};

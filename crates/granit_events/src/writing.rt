@@ -1,7 +1,7 @@
 //! The whole of a piece of output.
 ghost use Rattle.std.specs.Prelude.{◌≡◌, OnOk, OnErr};
 ghost use Rattle.std.specs.Io.KnownBytes.{Appends};
-ghost use Rattle.granit_events.specs.Counts.{Rose};
+ghost use Rattle.granit_base.specs.Counts.{Rose};
 ghost use Rattle.granit_events.specs.Wrote.{WroteFront};
 
 use crate::ends::{Failed, Sink};

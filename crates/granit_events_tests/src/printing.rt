@@ -11,8 +11,8 @@ fn line(
     event: &Event,
     start: (usize, usize, usize),
     end: (usize, usize, usize),
-) -> Result<String, NoMemory> {
-    let mut out = String::new(alloc);
+) -> Result<Vec<u8>, NoMemory> {
+    let mut out = Vec::new(alloc);
     let span = Span::new(
         Marker::new(start.0, start.1, start.2),
         Marker::new(end.0, end.1, end.2),
@@ -49,7 +49,10 @@ fn lines_of_streams_and_aliases(rt: HostRuntime) -> Result<(), Fail> {
         ),
     ];
     for (event, start, end, want) in &rows {
-        assert_eq!(rt; line(alloc, event, *start, *end)?.as_str(), *want);
+        assert_eq!(rt;
+            line(alloc, event, *start, *end)?.as_slice(),
+            want.as_bytes()
+        );
     }
     Ok(())
 }
@@ -84,7 +87,10 @@ fn lines_of_documents(rt: HostRuntime) -> Result<(), Fail> {
         ),
     ];
     for (event, start, end, want) in &rows {
-        assert_eq!(rt; line(alloc, event, *start, *end)?.as_str(), *want);
+        assert_eq!(rt;
+            line(alloc, event, *start, *end)?.as_slice(),
+            want.as_bytes()
+        );
     }
     Ok(())
 }
@@ -125,7 +131,10 @@ fn lines_of_collections(rt: HostRuntime) -> Result<(), Fail> {
         ),
     ];
     for (event, start, end, want) in &rows {
-        assert_eq!(rt; line(alloc, event, *start, *end)?.as_str(), *want);
+        assert_eq!(rt;
+            line(alloc, event, *start, *end)?.as_slice(),
+            want.as_bytes()
+        );
     }
     Ok(())
 }
@@ -158,7 +167,10 @@ fn lines_of_properties(rt: HostRuntime) -> Result<(), Fail> {
         ),
     ];
     for (event, want) in &rows {
-        assert_eq!(rt; line(alloc, event, (0, 1, 0), (2, 1, 2))?.as_str(), *want);
+        assert_eq!(rt;
+            line(alloc, event, (0, 1, 0), (2, 1, 2))?.as_slice(),
+            want.as_bytes()
+        );
     }
     Ok(())
 }
@@ -185,7 +197,10 @@ fn lines_of_comments(rt: HostRuntime) -> Result<(), Fail> {
         ),
     ];
     for (event, want) in &rows {
-        assert_eq!(rt; line(alloc, event, (0, 1, 0), (2, 1, 2))?.as_str(), *want);
+        assert_eq!(rt;
+            line(alloc, event, (0, 1, 0), (2, 1, 2))?.as_slice(),
+            want.as_bytes()
+        );
     }
     Ok(())
 }
@@ -212,7 +227,10 @@ fn lines_of_scalars(rt: HostRuntime) -> Result<(), Fail> {
         ),
     ];
     for (event, want) in &rows {
-        assert_eq!(rt; line(alloc, event, (0, 1, 0), (2, 1, 2))?.as_str(), *want);
+        assert_eq!(rt;
+            line(alloc, event, (0, 1, 0), (2, 1, 2))?.as_slice(),
+            want.as_bytes()
+        );
     }
     Ok(())
 }

@@ -7,7 +7,7 @@ use Rattle.granit_error.specs.OptionsData.{OptionsData}
 use Rattle.granit_error.specs.Refused.{Refused}
 use Rattle.granit_lexemes.specs.Comment.{CommentRead}
 use Rattle.granit_lexemes.specs.Lexeme as lexemes
-use Rattle.granit_lexemes.specs.Lexeme.{DirectiveKind, Version, TagPrefix, Reserved, LexemeKind}
+use Rattle.granit_lexemes.specs.Lexeme.{DirectiveKind, Version, TagPrefix, Reserved, LexemeKind, is_directive}
 use Rattle.granit_lexemes.specs.Outcome.{Fault}
 use Rattle.granit_lexemes.specs.PlainEvent.{PlainEvent, PlainVersion}
 use Rattle.granit_machine.specs.Entries.{lookup_text}
@@ -21,7 +21,7 @@ use Rattle.granit_machine.specs.StreamSteps.{behind_directives, behind_root, end
 use Rattle.granit_machine.specs.StreamSteps.{when_fresh, with_directive, with_handle, with_version, without_directives}
 use Rattle.granit_machine.specs.TokenSort.{Token}
 use Rattle.granit_frames.specs.Outside.{NoneWaitsOutside}
-use Rattle.granit_feed.specs.Handles.{is_directive, KeepsIfRefused}
+use Rattle.granit_feed.specs.Handles.{KeepsIfRefused}
 use Rattle.granit_feed.specs.Tails.{tail_taken}
 
 -- what waits in the state that a step leaves, where it leaves one

@@ -1,14 +1,10 @@
 -- The handles that stay over documents: which items leave them alone.
-use Rattle.std.specs.Prelude.{◌≡◌, Bool, true, false, Result, Err}
+use Rattle.std.specs.Prelude.{◌≡◌, Bool, false, Result, Err}
 use Rattle.granit_error.specs.FaultKind.{NoMemory}
 use Rattle.granit_error.specs.Refused.{Refused}
-use Rattle.granit_lexemes.specs.Lexeme as lexemes
-use Rattle.granit_lexemes.specs.Lexeme.{Item, LexemeKind, OfComment, OfLexeme}
+use Rattle.granit_lexemes.specs.Lexeme.{Item, OfComment, OfLexeme}
+pub use Rattle.granit_lexemes.specs.Lexeme.{is_directive}
 use Rattle.granit_machine.specs.Frames.{ParserState}
-
-abbrev pub is_directive : LexemeKind → Bool
-is_directive (lexemes.Directive d) = true
-is_directive kind = false
 
 abbrev pub holds_directive : Item → Bool
 holds_directive (OfLexeme l) = is_directive l.kind

@@ -2,7 +2,7 @@
 ghost use Rattle.std.specs.Prelude.{◌≡◌, OnOk};
 ghost use Rattle.granit_error.specs.OptionsView.{options_of};
 ghost use Rattle.granit_sorts.specs.SortViews.{machine_token, sort_view};
-ghost use Rattle.granit_frames.specs.StateViews.{pair_view};
+ghost use Rattle.granit_nesting.specs.FrameViews.{pair_view};
 ghost use Rattle.granit_machine.specs.BlockSteps as steps;
 ghost use Rattle.granit_machine.specs.Frames as machine;
 ghost use Rattle.granit_machine.specs.TokenSort as sorts;

@@ -2,11 +2,12 @@
 ghost use Rattle.std.specs.Prelude.{◌≡◌, [], false, IfOk};
 ghost use Rattle.std.specs.Option.{option_map};
 ghost use Rattle.granit_error.specs.OptionsView.{options_of};
+ghost use Rattle.granit_lexemes.specs.Lexeme.{is_directive};
 ghost use Rattle.granit_sorts.specs.SortViews.{machine_token};
-ghost use Rattle.granit_feed.specs.Handles.{holds_directive, is_directive, KeepsIfRefused};
+ghost use Rattle.granit_feed.specs.Handles.{holds_directive, KeepsIfRefused};
 ghost use Rattle.granit_feed.specs.Tails as tails;
 ghost use Rattle.granit_frames.specs.Outside.{NoneWaitsOutside};
-ghost use Rattle.granit_items.specs.ItemViews.{item_view, kind_view, note_view};
+ghost use Rattle.granit_items.specs.ItemViews.{boxed_view, item_view, kind_view};
 ghost use Rattle.granit_machine.specs.Leaving.{LeavesIfRoom};
 ghost use Rattle.granit_machine.specs.Parser as spec;
 
@@ -73,13 +74,13 @@ fn clone_note<'input>(alloc: Global, note: &Note<'input>) -> Result<Note<'input>
 /// `NoMemory` alone.
 pub fn clone_tail<'input>(
     alloc: Global,
-    tail: &Option<Note<'input>>,
-) -> Result<Option<Note<'input>>, NoMemory>
-    ensures { IfOk result (λ t. t ≡ tail.now) }
+    tail: &Option<Box<Note<'input>>>,
+) -> Result<Option<Box<Note<'input>>>, NoMemory>
+    ensures { IfOk result (λ t. option_map boxed_view t ≡ option_map boxed_view tail.now) }
 {
     match tail {
         None => Ok(None),
-        Some(note) => Ok(Some(clone_note(alloc, note)?)),
+        Some(note) => Ok(Some(Box::new(alloc, clone_note(alloc, note)?)?)),
     }
 }
 
@@ -94,9 +95,9 @@ fn is_dash(kind: &LexemeKind<'_>) -> bool
 fn tail_behind<'input>(
     alloc: Global,
     lexeme: &Lexeme<'input>,
-) -> Result<Option<Note<'input>>, NoMemory>
+) -> Result<Option<Box<Note<'input>>>, NoMemory>
     ensures { IfOk result (λ tail. (next : _) (p : _) → spec.take_tail (kind_view lexeme.now.kind)
-        (option_map note_view lexeme.now.tail) next p ≡ tails.tail_taken (option_map note_view tail) next p) }
+        (option_map boxed_view lexeme.now.tail) next p ≡ tails.tail_taken (option_map boxed_view tail) next p) }
 {
     if is_dash(&lexeme.kind) {
         return Ok(None);
@@ -106,23 +107,23 @@ fn tail_behind<'input>(
 
 fn take_tail<'input>(
     state: &mut ParserState<'input>,
-    tail: Option<Note<'input>>,
+    tail: Option<Box<Note<'input>>>,
     next_line: Option<usize>,
 ) -> Result<(), ScanError>
     ensures leaves { LeavesIfRoom result state.new (tails.tail_taken
-        (option_map note_view tail.entry) next_line state.old) }
+        (option_map boxed_view tail.entry) next_line state.old) }
     ensures kept { state.new.kept ≡ state.old.kept }
 {
     match tail {
         None => Ok(()),
-        Some(note) => state.take_comment(note, next_line),
+        Some(note) => state.take_comment(Box::into_inner(note), next_line),
     }
 }
 
 /// Whether a comment is taken behind a lexeme.
 fn takes_tail(lexeme: &Lexeme<'_>) -> bool
     ensures { result ≡ tails.takes_tail (tails.is_dash (kind_view lexeme.now.kind))
-        (option_map note_view lexeme.now.tail) }
+        (option_map boxed_view lexeme.now.tail) }
 {
     lexeme.tail.is_some() && !is_dash(&lexeme.kind)
 }
@@ -139,7 +140,7 @@ fn take_tailed<'input>(
     ensures kept { is_directive (kind_view token.old.lexeme.kind) ≡ false → state.new.kept ≡ state.old.kept }
     ensures refused { NoneWaitsOutside state.old → KeepsIfRefused result state.old state.new }
 {
-    let tail = tail_behind(alloc, &token.lexeme)?;
+    let tail: Option<Box<Note<'input>>> = tail_behind(alloc, &token.lexeme)?;
     state.close(options, token)?;
     take_token(state, alloc, options, token)?;
     take_tail(state, tail, next_line)

@@ -2,7 +2,8 @@
 ghost use Rattle.std.specs.Prelude.{◌≡◌, false, OnOk};
 ghost use Rattle.granit_error.specs.OptionsView.{options_of};
 ghost use Rattle.granit_sorts.specs.SortViews.{machine_token, sort_view};
-ghost use Rattle.granit_frames.specs.StateViews.{frame_view, pair_view, has_properties};
+ghost use Rattle.granit_frames.specs.StateViews.{has_properties};
+ghost use Rattle.granit_nesting.specs.FrameViews.{frame_view, pair_view};
 ghost use Rattle.granit_machine.specs.FlowSteps as steps;
 ghost use Rattle.granit_machine.specs.Frames as machine;
 ghost use Rattle.granit_machine.specs.Giving as giving;

@@ -1,7 +1,6 @@
--- Frames with the innermost at the end, and how many of them are block collections.
-use Rattle.std.proofs.Common.{◌≡◌, ℕ, ◌≤◌, Bool, true, false, if◌then◌else◌, List, [], ◌∷◌, ◌++◌, length, reverse}
-use Rattle.std.proofs.Common.{Option, Some, None, refl, ◌∙◌, arith}
-use Rattle.std.proofs.lemmas.List.{length-reverse, length-map}
+-- Frames with the properties of a node inside them.
+use Rattle.std.proofs.Common.{◌≡◌, ℕ, Bool, true, false, if◌then◌else◌, List, [], ◌∷◌, ◌++◌, Option, Some, None, refl}
+use Rattle.std.proofs.Common.{◌∙◌}
 use Rattle.granit_base.specs.Place.{Mark}
 use Rattle.granit_base.specs.Written.{Written}
 use Rattle.granit_error.specs.OptionsData.{OptionsData}
@@ -11,26 +10,11 @@ use Rattle.granit_machine.specs.Frames as spec
 use Rattle.granit_machine.specs.Giving.{no_properties, properties_on, below_properties, anchor_number, tag_value}
 use Rattle.granit_machine.specs.Giving.{span_with_tag, key_indent, tell_anchor, flush_held, put, node_event_by}
 use Rattle.granit_machine.specs.NodeEnds.{block_count}
-use Rattle.granit_frames.specs.declared.state.Frame.{Frame}
 use Rattle.granit_frames.specs.declared.state.NodeProperties.{NodeProperties}
-use Rattle.granit_frames.specs.declared.state.Frame.TheVariants as frames
-use Rattle.granit_frames.specs.StateViews.{frame_view, frames_view, all_frames, has_properties}
-
-counted_frames : (fs : List spec.Frame) → block_count fs ≤ length fs
-counted_frames [] = omega arith
-counted_frames (spec.Root explicit ∷ fs) = let more = counted_frames fs in omega arith
-counted_frames (spec.WithProperties q ∷ fs) = let more = counted_frames fs in omega arith
-counted_frames (spec.BlockSequence column indentless ∷ fs) = let more = counted_frames fs in omega arith
-counted_frames (spec.BlockMapping column stage ∷ fs) = let more = counted_frames fs in omega arith
-counted_frames (spec.FlowSequence behind_entry ∷ fs) = let more = counted_frames fs in omega arith
-counted_frames (spec.FlowMapping single stage ∷ fs) = let more = counted_frames fs in omega arith
-counted_frames (spec.FlowPair stage ∷ fs) = let more = counted_frames fs in omega arith
-
--- no more block collections than frames
-pub blocks_fit : (fs : List Frame) → block_count (frames_view (reverse fs)) ≤ length fs
-blocks_fit fs =
-    let all : length (frames_view (reverse fs)) ≡ length fs = length-map (reverse fs) frame_view ∙ length-reverse fs in
-    let some = counted_frames (frames_view (reverse fs)) in omega arith
+use Rattle.granit_frames.specs.StateViews.{all_frames, has_properties}
+use Rattle.granit_nesting.specs.declared.frames.Frame.{Frame}
+use Rattle.granit_nesting.specs.declared.frames.Frame.TheVariants as frames
+use Rattle.granit_nesting.specs.FrameViews.{frame_view, frames_view}
 
 -- the properties of a node that must come are no frame
 pub no_properties_below : (fs : List Frame) → below_properties (frames_view fs) ≡ frames_view fs

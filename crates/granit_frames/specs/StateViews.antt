@@ -1,40 +1,19 @@
 -- What the code's parser keeps, as the machine's parser has it.
-use Rattle.std.specs.Prelude.{ℕ, Bool, true, false, List, [], ◌∷◌, map, reverse, Option, Some, None}
-use Rattle.std.specs.Borrow.{Bor}
+use Rattle.std.specs.Prelude.{ℕ, Bool, true, false, List, ◌∷◌, map, Option, Some, None}
 use Rattle.std.specs.Option.{option_map}
 use Rattle.granit_base.specs.Written.{Written}
 use Rattle.granit_event.specs.Events.{plain_events, plain_version}
 use Rattle.granit_lexemes.specs.Source.{Source}
 use Rattle.granit_lexemes.specs.PlainEvent.{PlainTag, EventKind, Scalar, SequenceStart, MappingStart}
 use Rattle.granit_machine.specs.Frames as spec
-use Rattle.granit_frames.specs.declared.state.PairStage.{PairStage}
-use Rattle.granit_frames.specs.declared.state.PairStage.TheVariants as stages
-use Rattle.granit_frames.specs.declared.state.Frame.{Frame}
-use Rattle.granit_frames.specs.declared.state.Frame.TheVariants as frames
+use Rattle.granit_nesting.specs.declared.frames.Frame.{Frame}
+use Rattle.granit_nesting.specs.FrameViews.{frames_view}
 use Rattle.granit_frames.specs.declared.state.DocumentStage.{DocumentStage}
 use Rattle.granit_frames.specs.declared.state.DocumentStage.TheVariants as documents
 use Rattle.granit_frames.specs.declared.state.NodeAnchor.{NodeAnchor}
 use Rattle.granit_frames.specs.declared.state.NodeTag.{NodeTag}
 use Rattle.granit_frames.specs.declared.state.NodeProperties.{NodeProperties}
 use Rattle.granit_frames.specs.declared.state.Waiting.{Waiting}
-
-abbrev pub pair_view : PairStage → spec.PairStage
-pair_view stages.BeforePair = spec.BeforePair
-pair_view stages.AtKey = spec.AtKey
-pair_view stages.BehindKey = spec.BehindKey
-pair_view stages.AtQuestion = spec.AtQuestion
-pair_view stages.BehindQuestion = spec.BehindQuestion
-pair_view stages.AtValue = spec.AtValue
-pair_view stages.BehindAlone = spec.BehindAlone
-pair_view stages.BehindPair = spec.BehindPair
-
-abbrev pub frame_view : Frame → spec.Frame
-frame_view (frames.Root explicit) = spec.Root explicit
-frame_view (frames.BlockSequence column indentless) = spec.BlockSequence column indentless
-frame_view (frames.BlockMapping column stage) = spec.BlockMapping column (pair_view stage)
-frame_view (frames.FlowSequence behind_entry) = spec.FlowSequence behind_entry
-frame_view (frames.FlowMapping single stage) = spec.FlowMapping single (pair_view stage)
-frame_view (frames.FlowPair stage) = spec.FlowPair (pair_view stage)
 
 abbrev pub anchor_view : NodeAnchor → ℕ × Written × Source
 anchor_view a = (a.number, a.name, record { start = a.start; end = a.end })
@@ -44,14 +23,6 @@ tag_view t = (t.tag, record { start = t.start; end = t.end })
 
 abbrev pub properties_view : NodeProperties → spec.NodeProperties
 properties_view q = record { anchor = option_map anchor_view q.anchor; tag = option_map tag_view q.tag; end = q.end }
-
-abbrev pub frames_view : List Frame → List spec.Frame
-frames_view fs = map frame_view fs
-
--- a frame and those around it, the innermost last
-abbrev pub split_view : Option (Frame × Bor (List Frame)) → List Frame
-split_view None = []
-split_view (Some s) = s.0 ∷ reverse s.1.now
 
 -- the innermost first, and properties inside all frames
 abbrev pub all_frames : Option NodeProperties → List Frame → List spec.Frame

@@ -1,21 +1,24 @@
 //! How nodes end and collections begin.
 ghost use Rattle.std.specs.Prelude.{◌≡◌, ◌∷◌, false, None, OnOk};
 ghost use Rattle.std.specs.Option.{option_map};
+ghost use Rattle.granit_base.specs.Written.{lent};
 ghost use Rattle.granit_base.specs.declared.style.ScalarStyle.TheVariants.{Plain};
 ghost use Rattle.granit_error.specs.OptionsView.{options_of};
 ghost use Rattle.granit_event.specs.Events.{event_kind};
-ghost use Rattle.granit_frames.specs.StateViews.{frame_view, pair_view, tag_view, bears, has_properties};
+ghost use Rattle.granit_frames.specs.StateViews.{tag_view, bears, has_properties};
 ghost use Rattle.granit_lexemes.specs.PlainEvent as plain;
 ghost use Rattle.granit_machine.specs.Frames as spec;
 ghost use Rattle.granit_machine.specs.Giving as giving;
 ghost use Rattle.granit_machine.specs.Leaving.{LeavesIfRoom};
 ghost use Rattle.granit_machine.specs.NodeEnds as ends;
+ghost use Rattle.granit_nesting.specs.FrameViews.{frame_view, pair_view};
 
 use crate::giving::null_event;
-use crate::state::{DocumentStage, Frame, NodeTag, PairStage, ParserState, Top, Waiting};
+use crate::state::{DocumentStage, NodeTag, ParserState, Top, Waiting};
 use granit_base::{Marker, NoMemory, ScalarStyle, Span, Text};
 use granit_error::{ErrorKind, Options, ScanError};
 use granit_event::Event;
+use granit_nesting::{Frame, PairStage};
 use std::alloc::Global;
 use std::collections::VecDeque;
 
@@ -318,7 +321,7 @@ impl<'input> ParserState<'input> {
 /// The empty node of a tag.
 fn null_of<'input>(tag: &Option<NodeTag>) -> Event<'input>
     ensures { event_kind result
-        ≡ plain.Scalar (giving.lent (ends.null_text (option_map tag_view tag.now))) Plain 0 None }
+        ≡ plain.Scalar (lent (ends.null_text (option_map tag_view tag.now))) Plain 0 None }
 {
     match tag {
         None => null_event(),

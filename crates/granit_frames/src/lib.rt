@@ -6,17 +6,14 @@ mod closing;
 mod comments;
 mod dropping;
 mod ends;
-mod frames;
 mod giving;
 mod names;
 mod offset;
 mod properties;
 mod state;
 
-pub use frames::Frames;
 pub use giving::null_event;
+pub use granit_nesting::{Frame, Frames, PairStage};
 pub use granit_sorts::{Token, TokenSort, token_sort};
 pub use names::length_of;
-pub use state::{
-    DocumentStage, Frame, NodeAnchor, NodeProperties, NodeTag, PairStage, ParserState, Top,
-};
+pub use state::{DocumentStage, NodeAnchor, NodeProperties, NodeTag, ParserState, Top};

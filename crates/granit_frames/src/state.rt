@@ -4,50 +4,12 @@ ghost use Rattle.granit_frames.specs.StateViews.{stage_view};
 ghost use Rattle.granit_frames.specs.TopViews.{top_view};
 ghost use Rattle.granit_machine.specs.Frames.{parser_start};
 
-use crate::frames::Frames;
 use granit_base::{Marker, Span, Text};
 use granit_event::{Event, Tag, YamlVersion};
+use granit_nesting::{Frame, Frames};
 use std::alloc::Global;
 use std::collections::{BTreeMap, VecDeque};
 use std::marker::Model;
-
-/// Where a pair of a mapping stands (YAML 1.2.2, 7.4.2 and 8.2.2).
-#[derive(Clone, Copy, Debug, PartialEq, Eq)]
-pub enum PairStage {
-    /// Before its key.
-    BeforePair,
-    /// At a simple key.
-    AtKey,
-    /// Behind a simple key.
-    BehindKey,
-    /// Behind `?`.
-    AtQuestion,
-    /// Behind the key of a `?`.
-    BehindQuestion,
-    /// Behind `:`.
-    AtValue,
-    /// Behind a node without `:`.
-    BehindAlone,
-    /// Behind its value.
-    BehindPair,
-}
-
-/// An unfinished node.
-#[derive(Clone, Copy, Debug, PartialEq, Eq)]
-pub enum Frame {
-    /// A document whose root must come; whether `---` was written.
-    Root(bool),
-    /// A sequence in a column; whether it stands in the column of its mapping.
-    BlockSequence(usize, bool),
-    /// A mapping in a column.
-    BlockMapping(usize, PairStage),
-    /// A sequence in brackets; whether it stands behind an entry.
-    FlowSequence(bool),
-    /// A mapping in brackets, or the pair that a `:` makes in a sequence.
-    FlowMapping(bool, PairStage),
-    /// The pair that a `?` makes in a sequence.
-    FlowPair(PairStage),
-}
 
 /// Where a stream stands around its documents (YAML 1.2.2, 9.2).
 #[derive(Clone, Copy, Debug, PartialEq, Eq)]

@@ -2,6 +2,7 @@
 use Rattle.std.proofs.Common.{◌≡◌, ℕ, Bool, true, false, List, [], ◌∷◌, refl, subst, ◌&&◌, not, Option, Some, None}
 use Rattle.granit_base.specs.Written.{Written}
 use Rattle.granit_base.specs.declared.style.ScalarStyle.{ScalarStyle}
+use Rattle.granit_language.specs.Fitting.{with_inner_key}
 use Rattle.granit_language.specs.Node.{TreeProperties, NoProperties, One, Two, Node, AliasNode, ScalarNode, Alone, Flow}
 use Rattle.granit_language.specs.Node.{Sequence, Mapping, Content, Nothing, Just, Entries, Entry, EntryLead, NoEntry}
 use Rattle.granit_language.specs.Node.{AfterEntry, Pairs, Through, PairLead, NoPair, AfterPair, Pair, WithColon}
@@ -13,7 +14,7 @@ use Rattle.granit_language.specs.Placed.{PropertiesPlaced, SomeProperties, pair_
 use Rattle.granit_language.specs.Placed.{EntriesPlaced, EntryLeadPlaced, PairsPlaced, PairLeadPlaced, PairPlaced}
 use Rattle.granit_language.specs.Placed.{LeftPlaced, FlowPlaced, LastPlaced, ItemPlaced, BeforePlaced, DirectivesPlaced}
 use Rattle.granit_language.specs.Placed.{StartPlaced, RootedPlaced, StreamPlaced}
-use Rattle.granit_language.specs.Reading.{set_key, KeysFit, NodeNamed, ContentNamed, EntriesNamed, EntryLeadNamed}
+use Rattle.granit_language.specs.Reading.{KeysFit, NodeNamed, ContentNamed, EntriesNamed, EntryLeadNamed}
 use Rattle.granit_language.specs.Reading.{PairsNamed, PairLeadNamed, PairNamed, LeftNamed, FlowNamed, LastNamed}
 use Rattle.granit_language.specs.Reading.{ItemNamed, BeforeNamed, DirectivesNamed, StartNamed, RootedNamed, StreamNamed}
 use Rattle.granit_language.specs.Room.{Holder, BlockIn, FlowIn, Room, RightOf, ValueIn, KeyIn, BehindKey, ItemIn}
@@ -78,14 +79,14 @@ value_no_key (FlowIn bracket) = tt
 
 -- flags
 drop_flag :
-    (b : Bool) (n : ℕ) (ks : List (Option ℕ)) (rest : List Terminal) → b ≡ false → KeysFit (set_key b n ks) rest →
-    KeysFit ks rest
-drop_flag b n ks rest e g = subst (λ b. KeysFit (set_key b n ks) rest) e g
+    (b : Bool) (n : ℕ) (ks : List (Option ℕ)) (rest : List Terminal) → b ≡ false →
+    KeysFit (with_inner_key b n ks) rest → KeysFit ks rest
+drop_flag b n ks rest e g = subst (λ b. KeysFit (with_inner_key b n ks) rest) e g
 
 keep_flag :
     (b : Bool) (n : ℕ) (k : Option ℕ) (ks : List (Option ℕ)) (rest : List Terminal) → b ≡ true →
-    KeysFit (set_key b n (k ∷ ks)) rest → KeysFit (Some n ∷ ks) rest
-keep_flag b n k ks rest e g = subst (λ b. KeysFit (set_key b n (k ∷ ks)) rest) e g
+    KeysFit (with_inner_key b n (k ∷ ks)) rest → KeysFit (Some n ∷ ks) rest
+keep_flag b n k ks rest e g = subst (λ b. KeysFit (with_inner_key b n (k ∷ ks)) rest) e g
 
 -- properties
 properties_pass :
@@ -149,13 +150,13 @@ key_opener :
     KeysFit (None ∷ Some f.at.number ∷ ks) rest
 key_opener NoProperties h f bracket i k ks rest b q e g =
     subst (λ f. f.at.begins_key ≡ true → KeysFit (None ∷ Some f.at.number ∷ ks) rest) e
-    (λ b. subst (λ b. KeysFit (None ∷ set_key b i.number (k ∷ ks)) rest) b g.1) b
+    (λ b. subst (λ b. KeysFit (None ∷ with_inner_key b i.number (k ∷ ks)) rest) b g.1) b
 key_opener (One m j) h f bracket i k ks rest b q e g =
-    subst (λ b. KeysFit (None ∷ set_key b i.number (Some f.at.number ∷ ks)) rest)
+    subst (λ b. KeysFit (None ∷ with_inner_key b i.number (Some f.at.number ∷ ks)) rest)
     (fits_no_flag (behind_property (KeyIn h f)) (Open bracket) i (behind_no_key (KeyIn h f)) e)
     (key_properties (One m j) h f k ks (terminal (Part (Open bracket)) i ∷ rest) b tt q g).1
 key_opener (Two m j n d) h f bracket i k ks rest b q e g =
-    subst (λ b. KeysFit (None ∷ set_key b i.number (Some f.at.number ∷ ks)) rest)
+    subst (λ b. KeysFit (None ∷ with_inner_key b i.number (Some f.at.number ∷ ks)) rest)
     (fits_no_flag (behind_property (KeyIn h f)) (Open bracket) i (behind_no_key (KeyIn h f)) e)
     (key_properties (Two m j n d) h f k ks (terminal (Part (Open bracket)) i ∷ rest) b tt q g).1
 
@@ -165,7 +166,7 @@ opener_pass :
     NoKeyRoom room → PropertiesPlaced p room → PartFits (room_behind p room) (Open bracket) i →
     KeysFit (k ∷ ks) (spell_properties p (terminal (Part (Open bracket)) i ∷ rest)) → KeysFit (None ∷ k ∷ ks) rest
 opener_pass p room bracket i k ks rest r f e g =
-    subst (λ b. KeysFit (None ∷ set_key b i.number (k ∷ ks)) rest) (body_pass p room (Open bracket) i r e)
+    subst (λ b. KeysFit (None ∷ with_inner_key b i.number (k ∷ ks)) rest) (body_pass p room (Open bracket) i r e)
     (properties_pass p room k ks (terminal (Part (Open bracket)) i ∷ rest) r f g).1
 
 -- the named parts, and what is left

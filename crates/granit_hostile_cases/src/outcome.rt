@@ -75,25 +75,23 @@ fn bytewise(alloc: Global, words: &TextList, text: &str, room: usize) -> Result<
 
 /// What the program says of an answer.
 fn answered(alloc: Global, loaded: Result<Events<'_>, ScanError>) -> Result<Outcome> {
-    let mut out = String::new(alloc);
+    let mut written = Vec::new(alloc);
     let code = match loaded {
         Err(error) => {
-            writeln!(out, "fault {}: {error}", error.kind().number())?;
+            let line = format!(in alloc; "fault {}: {error}\n", error.kind().number())?;
+            written.extend_from_slice(line.as_bytes())?;
             1
         }
         Ok(events) => {
             for (event, span) in events.as_slice() {
-                push_line(&mut out, event, span)
+                push_line(&mut written, event, span)
                     .ok()
                     .context("no memory for a line")?;
             }
             0
         }
     };
-    Ok(Outcome {
-        code,
-        written: Vec::from_slice(alloc, out.as_bytes())?,
-    })
+    Ok(Outcome { code, written })
 }
 
 /// A text's characters, and the same as items of an iterator that may fail.

@@ -3,7 +3,7 @@ use Rattle.std.specs.Prelude.{ℕ, zero, suc, ◌==◌, ◌&&◌, ◌||◌, not,
 use Rattle.granit_base.specs.Place.{first}
 use Rattle.granit_base.specs.PlainContent.{is_content, plain_goes_on}
 use Rattle.granit_base.specs.Classes.{is_within, is_alpha, is_blank, is_breakz, is_blank_or_breakz, is_flow}
-use Rattle.granit_base.specs.Classes.{is_printable, is_yaml_non_space}
+use Rattle.granit_base.specs.Classes.{is_printable, is_yaml_non_space, is_non_breakz}
 use Rattle.granit_input.specs.declared.class.Class.{Class}
 use Rattle.granit_input.specs.declared.class.Class.TheVariants.{Alpha, NonSpace, Blank, Printable, NonBreakz}
 use Rattle.granit_input.specs.declared.class.Run.{Run}
@@ -22,10 +22,6 @@ starts test text = test (first text)
 -- a printable character but breaks and NUL
 abbrev pub is_line_char : ℕ → Bool
 is_line_char c = not (is_breakz c) && is_printable c
-
--- any character but breaks and NUL
-abbrev pub is_non_breakz : ℕ → Bool
-is_non_breakz c = not (is_breakz c)
 
 -- whether the first character, which may be a blank, doesn't end a plain scalar as an indicator
 abbrev pub can_be_plain : Bool → List ℕ → Bool

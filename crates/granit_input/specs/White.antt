@@ -1,10 +1,11 @@
 -- White space up to the end of a line, and a comment behind it.
 use Rattle.std.specs.Prelude.{◌≡◌, ℕ, ◌+◌, ◌==◌, ◌||◌, Bool, false, if◌then◌else◌, List, [], ◌∷◌, take, drop, Result}
 use Rattle.std.specs.Prelude.{Ok, Err}
+use Rattle.granit_base.specs.Classes.{is_non_breakz}
 use Rattle.granit_base.specs.Place.{Unread, first}
 use Rattle.granit_error.specs.declared.kind.ErrorKind.{ErrorKind}
 use Rattle.granit_error.specs.declared.kind.ErrorKind.TheVariants.{CommentNotSeparated}
-use Rattle.granit_input.specs.Runs.{run_length, starts, is_non_breakz}
+use Rattle.granit_input.specs.Runs.{run_length, starts}
 use Rattle.granit_input.specs.Unread.{past}
 use Rattle.granit_input.specs.declared.whitespace.SkipTabs.{SkipTabs}
 use Rattle.granit_input.specs.declared.whitespace.SkipTabs.TheVariants.{Yes, No}

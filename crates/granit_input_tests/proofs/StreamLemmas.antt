@@ -4,8 +4,9 @@ use Rattle.std.proofs.Common.{refl, append_assoc, arith}
 use Rattle.std.specs.Iterator.{Count}
 use Rattle.granit_base.specs.Place.{Unread}
 use Rattle.granit_input.specs.Origin.{Goes}
-use Rattle.granit_input_tests.specs.Stream.{StillGives, Holds, of_stream}
+use Rattle.granit_input_tests.specs.Stream.{Holds, of_stream}
 use Rattle.granit_input.specs.Unread.{past}
+use Rattle.granit_buffered.specs.Feeds.{StillGives}
 
 pub rest_some : {S : Type 0} (steps : S → Option ℕ → S → Type 0) (remaining : S → Count) (done : Bool) (s t : S) (c : ℕ)
     (xs : List ℕ) → done ≡ false

@@ -1,27 +1,14 @@
 -- A stream: what its iterator gives is known, its end is not until it was asked for, and no offset is told.
-use Rattle.std.specs.Prelude.{◌≡◌, ℕ, ◌<◌, Bool, true, false, ◌&&◌, if◌then◌else◌, List, [], ◌∷◌, ◌++◌, length, Option}
+use Rattle.std.specs.Prelude.{◌≡◌, ℕ, Bool, false, ◌&&◌, if◌then◌else◌, List, ◌++◌, Option}
 use Rattle.std.specs.Prelude.{Some, None}
-use Rattle.std.specs.Iterator.{Count, size}
+use Rattle.std.specs.Iterator.{Count}
 use Rattle.granit_error.specs.FaultKind.{UnexpectedEof}
+use Rattle.granit_buffered.specs.Feeds.{StillGives}
 use Rattle.granit_input.specs.Origin.{Origin}
 
--- every run from s gives these items and no others, and no bound falls below what is left
-abbrev pub GivesOnly : {S : Type 0} → (S → Option ℕ → S → Type 0) → (S → Count) → S → List ℕ → Type 0
-GivesOnly steps remaining s [] = (r : _) (t : _) → steps s r t → r ≡ None
-GivesOnly steps remaining s (x ∷ xs) = (length xs < size (remaining s))
-    × ((r : _) (t : _) → steps s r t → (r ≡ Some x) × GivesOnly steps remaining t xs)
-
--- the same of an iterator that is asked only until it has ended
-abbrev pub StillGives : {S : Type 0} → (S → Option ℕ → S → Type 0) → (S → Count) → Bool → S → List ℕ → Type 0
-StillGives steps remaining true s xs = xs ≡ []
-StillGives steps remaining false s xs = GivesOnly steps remaining s xs
-
-abbrev pub still_left : Bool → Count → ℕ
-still_left true left = 0
-still_left false left = size left
-
 -- the text is what is held, and what the iterator still gives
-abbrev pub Holds : {S : Type 0} → (S → Option ℕ → S → Type 0) → (S → Count) → Bool → S → List ℕ → List ℕ → Type 0
+abbrev pub Holds :
+    {S : Type 0} → (S → Option ℕ → S → Type 0) → (S → Count) → Bool → S → List ℕ → List ℕ → Type 0
 Holds steps remaining done s front text = (rest : List ℕ) × (text ≡ front ++ rest)
     × StillGives steps remaining done s rest
 

@@ -8,7 +8,8 @@ use Rattle.std.proofs.lemmas.List.{length-append}
 use Rattle.std.specs.Iterator.{Count}
 use Rattle.granit_base.specs.Place.{Unread}
 use Rattle.granit_input.specs.Origin.{Agrees}
-use Rattle.granit_input_tests.specs.Stream.{StillGives, Holds, still_left, of_stream}
+use Rattle.granit_input_tests.specs.Stream.{Holds, of_stream}
+use Rattle.granit_buffered.specs.Feeds.{StillGives, still_left}
 
 rest_bounded : {S : Type 0} (steps : S → Option ℕ → S → Type 0) (remaining : S → Count) (done : Bool) (s : S)
     (xs : List ℕ)

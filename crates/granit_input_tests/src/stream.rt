@@ -6,8 +6,9 @@ ghost use Rattle.std.specs.Char.{IsScalar};
 ghost use Rattle.std.specs.Iterator.{IsFinite, size};
 ghost use Rattle.circular_buffer.specs.Buffer.{buffer};
 ghost use Rattle.granit_base.specs.Place.{Unread, first};
-ghost use Rattle.granit_input_tests.specs.Stream.{GivesOnly, StillGives, Holds, still_left};
+ghost use Rattle.granit_input_tests.specs.Stream.{Holds};
 ghost use Rattle.granit_input.specs.Unread.{past};
+ghost use Rattle.granit_buffered.specs.Feeds.{GivesOnly, StillGives, still_left};
 
 use circular_buffer::HeapCircularBuffer;
 use granit_base::{NoMemory, is_breakz};

@@ -6,6 +6,7 @@ use Rattle.std.specs.Option.{option_map}
 use Rattle.std.specs.Char.{encode_utf8}
 use Rattle.std.specs.Prelude.{is_none, length, slice_index, if◌then◌else◌}
 use Rattle.granit_base.specs.Classes.{is_z, is_printable, is_blank, is_break, is_hex, hex_value, is_digit}
+use Rattle.granit_base.specs.Classes.{is_non_breakz}
 use Rattle.granit_base.specs.Place.{Mark, first, past_first, place_after, ends_line}
 use Rattle.granit_base.specs.Written.{Written}
 use Rattle.granit_error.specs.FaultKind.{FaultKind}
@@ -16,7 +17,7 @@ use Rattle.granit_lexemes.specs.BlockHeader.{Chomping, BlockHeader, is_space, re
 use Rattle.granit_lexemes.specs.BlockHeader.{block_header, leading_turn, content_column, chomping_of, margin_of}
 use Rattle.granit_lexemes.specs.BlockHeader.{greatest}
 use Rattle.granit_lexemes.specs.BlockScalar.{over_spaces, indented, empty_turn, empty_lines, BlockState, between_lines}
-use Rattle.granit_lexemes.specs.BlockScalar.{is_block_char, line_up_to, block_turn, block_len, BlockRead, last_break}
+use Rattle.granit_lexemes.specs.BlockScalar.{line_up_to, block_turn, block_len, BlockRead, last_break}
 use Rattle.granit_lexemes.specs.BlockScalar.{kept, block_read, behind_block, no_content, is_between, content_lines}
 use Rattle.granit_lexemes.specs.BlockScalar.{block_lines, block_body, BlockGiven, block_scalar}
 use Rattle.granit_lexemes.specs.Comment.{CommentRead, is_comment_char, past_comment, behind_comment, skipped_comment}
@@ -653,8 +654,8 @@ module _ (keep : Kept) where
       (refuse_same f s.here _ _ (same_if f (column == 0 && is_document_mark s.here.unread.text) _ _ _ _
       (gives bare_block None s _ refl)
       (same_at f (λ (g : Here). line_up_to literal column (bare_block s) (mid_line g))
-      (past is_block_char (bare_here keep s.here)) (bare_here keep (past is_block_char s.here)) _
-      (past_bare is_block_char s.here) (line_same literal column s (mid_line (past is_block_char s.here))))))
+      (past is_non_breakz (bare_here keep s.here)) (bare_here keep (past is_non_breakz s.here)) _
+      (past_bare is_non_breakz s.here) (line_same literal column s (mid_line (past is_non_breakz s.here))))))
 
   behind_block_same : (chomping : Chomping) (column : ℕ) (shown : Mark) (text : List ℕ) (s : BlockState)
       → Same on_block (behind_block chomping column (bare_mark keep shown) text (bare_block s))

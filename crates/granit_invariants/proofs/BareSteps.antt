@@ -6,7 +6,7 @@ use Rattle.std.proofs.lemmas.Bool.Decides.{nat_tests}
 use Rattle.std.specs.Prelude.{nat_lt, nat_le, codes, length, if◌then◌else◌}
 use Rattle.std.proofs.lemmas.List.{map-append}
 use Rattle.granit_base.specs.Place.{Mark}
-use Rattle.granit_base.specs.Written.{Written}
+use Rattle.granit_base.specs.Written.{Written, lent}
 use Rattle.granit_base.specs.declared.style.Placement.TheVariants.{Right}
 use Rattle.granit_base.specs.declared.style.ScalarStyle.TheVariants.{Plain}
 use Rattle.granit_base.specs.declared.style.StructureStyle.TheVariants.{Flow}
@@ -24,7 +24,7 @@ use Rattle.granit_lexemes.specs.Source.{Source}
 use Rattle.granit_machine.specs.Frames.{BeforePair, AtKey, AtQuestion, BehindQuestion, AtValue, BehindAlone}
 use Rattle.granit_machine.specs.Frames.{NodeProperties, Frame, Root, WithProperties, BlockSequence, BlockMapping}
 use Rattle.granit_machine.specs.Frames.{FlowSequence, FlowMapping, FlowPair, Waiting, ParserState}
-use Rattle.granit_machine.specs.Giving.{lent, null_at, with_indent, flush_held, flush, put, give, empty_by, give_empty}
+use Rattle.granit_machine.specs.Giving.{null_at, with_indent, flush_held, flush, put, give, empty_by, give_empty}
 use Rattle.granit_machine.specs.Giving.{properties_on, below_properties, key_indent, anchor_number, tag_value}
 use Rattle.granit_machine.specs.Giving.{span_with_tag, tell_anchor, node_event_by, node_event}
 use Rattle.granit_machine.specs.NodeEnds.{finish_in, finish, owed_in, owed, end_kind, below, end_by, end_node}

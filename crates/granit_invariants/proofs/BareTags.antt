@@ -6,7 +6,7 @@ use Rattle.std.specs.Str.{chars, encode_utf8_all}
 use Rattle.granit_base.specs.Classes.{is_blank, is_blank_or_breakz, is_breakz, is_hex, hex_value, is_digit, is_alpha}
 use Rattle.granit_base.specs.Classes.{is_uri_char, is_tag_char, is_anchor_char, is_yaml_non_space, is_within}
 use Rattle.granit_base.specs.Place.{Mark}
-use Rattle.granit_base.specs.Written.{Written}
+use Rattle.granit_base.specs.Written.{Written, same_text}
 use Rattle.granit_error.specs.FaultKind as kinds
 use Rattle.granit_error.specs.OptionsData.{OptionsData}
 use Rattle.granit_lexemes.specs.Basics.{text_up_to, count_up_to}
@@ -15,7 +15,7 @@ use Rattle.granit_lexemes.specs.Directive.{word_up_to, digits_value, number_up_t
 use Rattle.granit_lexemes.specs.Directive.{version_directive, blanks_within, ends_handle, behind_word, handle_by}
 use Rattle.granit_lexemes.specs.Directive.{handle_at, prefix_ends, prefix_at, behind_handle_at, tag_directive}
 use Rattle.granit_lexemes.specs.Directive.{ParameterState, parameter_behind, parameter_turn, parameters_len}
-use Rattle.granit_lexemes.specs.Directive.{reserved_directive, is_name, directive_of, behind_name, directive_at}
+use Rattle.granit_lexemes.specs.Directive.{reserved_directive, directive_of, behind_name, directive_at}
 use Rattle.granit_lexemes.specs.Directive.{is_reserved, DirectiveRead, directive_tail, directive_read, directive_up_to}
 use Rattle.granit_lexemes.specs.Directive.{directive}
 use Rattle.granit_lexemes.specs.Here.{Here, next_char, mark_of, step, past}
@@ -387,8 +387,8 @@ module _ (keep : Kept) where
       (directive_of o budget start name h)
   unfolding directive_of
   directive_of_same o budget start name h =
-      same_if keep (on_here keep) (is_name name (codes "YAML")) _ _ _ _ (version_same start h)
-      (same_if keep (on_here keep) (is_name name (codes "TAG")) _ _ _ _ (tag_directive_same budget start h)
+      same_if keep (on_here keep) (same_text name (codes "YAML")) _ _ _ _ (version_same start h)
+      (same_if keep (on_here keep) (same_text name (codes "TAG")) _ _ _ _ (tag_directive_same budget start h)
       (reserved_same o budget start name h))
 
   behind_name_same : (o : OptionsData) (start : Mark) (h : Here) (x : Option Budget × Here)

@@ -13,7 +13,7 @@ use Rattle.granit_lexemes.specs.Lexeme.{LexemeKind, Lexeme, Item, OfLexeme, OfCo
 use Rattle.granit_lexemes.specs.Outcome.{Fault, fault_at, ◌>>=◌}
 use Rattle.granit_lexemes.specs.Pieces.{with_front}
 use Rattle.granit_lexemes.specs.PlainEvent as events
-use Rattle.granit_lexemes.specs.PlainEvent.{PlainEvent, EventKind}
+use Rattle.granit_lexemes.specs.PlainEvent.{PlainEvent, EventKind, is_note}
 use Rattle.granit_machine.specs.Closing.{close}
 use Rattle.granit_machine.specs.Frames.{Frame, Waiting, ParserState}
 use Rattle.granit_machine.specs.Giving.{null_at}
@@ -25,7 +25,7 @@ use Rattle.granit_machine.specs.TokenSort.{token_of}
 use Rattle.granit_invariants.specs.CommentEvents.{comment_event, comment_events, held_of, only_comments}
 use Rattle.granit_invariants.specs.CommentPlaces.{IsAnchor, AreAnchors, StartsSequence, StandsBehind, directly}
 use Rattle.granit_invariants.specs.CommentPlaces.{behind_empty, before_start, StandsAmong, tail_event}
-use Rattle.granit_invariants.specs.Quiet.{tells_comment, but_comments, quiet, waits_alone}
+use Rattle.granit_invariants.specs.Quiet.{but_comments, quiet, waits_alone}
 use Rattle.granit_invariants.proofs.CommentLaws.{FedBy, CommentFed, lexeme_fed, comment_fed}
 use Rattle.granit_invariants.proofs.GrowSteps.{full, MayBegin, EndsWith, Base, Grown, GrowsBy, dash_tail}
 use Rattle.granit_invariants.proofs.GrowStream.{token_grows}
@@ -190,7 +190,7 @@ moved : (p q : ParserState) (w : Option Waiting) → q.waiting ≡ w → q.frame
 moved p q w n f c = subst (λ w. CalmBy q.frames w) (sym n) (subst (λ fs. CalmBy fs w) (sym f) c)
 
 held_settled : (e : PlainEvent) (p : ParserState) (given : List PlainEvent) (q : ParserState) →
-    tells_comment e.kind ≡ true →
+    is_note e.kind ≡ true →
     Calm p → but_comments (held_of p.waiting) ≡ [] → Holds e p given q → Settled q
 held_settled e p given q k c s (at_once n g m f d) =
     record { clean = d; calm = moved p q None m f tt; silent = ap (λ w. but_comments (held_of w)) m }
@@ -560,7 +560,7 @@ anchors_told (e ∷ es) a =
     ap (λ b. cond (not b) (e ∷ but_comments es) (but_comments es)) (one e.kind a.0)
     ∙ ap (λ es. e ∷ es) (anchors_told es a.1)
   where
-    one : (kind : EventKind) → IsAnchor kind → tells_comment kind ≡ false
+    one : (kind : EventKind) → IsAnchor kind → is_note kind ≡ false
     one (events.Anchor number name) a = refl
     one kind a = absurd a
 
@@ -570,7 +570,7 @@ begun_told (e ∷ es) b =
     ap (λ b. cond (not b) (e ∷ but_comments es) (but_comments es)) (one e.kind b.0)
     ∙ ap (λ es. e ∷ es) (anchors_told es b.1)
   where
-    one : (kind : EventKind) → StartsSequence kind → tells_comment kind ≡ false
+    one : (kind : EventKind) → StartsSequence kind → is_note kind ≡ false
     one (events.SequenceStart style number tag) a = refl
     one kind a = absurd a
 
@@ -579,7 +579,7 @@ anchors_silent [] a = refl
 anchors_silent (e ∷ es) a =
     ap (λ b. cond b (e ∷ only_comments es) (only_comments es)) (one e.kind a.0) ∙ anchors_silent es a.1
   where
-    one : (kind : EventKind) → IsAnchor kind → tells_comment kind ≡ false
+    one : (kind : EventKind) → IsAnchor kind → is_note kind ≡ false
     one (events.Anchor number name) a = refl
     one kind a = absurd a
 
@@ -588,7 +588,7 @@ begun_silent [] b = refl
 begun_silent (e ∷ es) b =
     ap (λ b. cond b (e ∷ only_comments es) (only_comments es)) (one e.kind b.0) ∙ anchors_silent es b.1
   where
-    one : (kind : EventKind) → StartsSequence kind → tells_comment kind ≡ false
+    one : (kind : EventKind) → StartsSequence kind → is_note kind ≡ false
     one (events.SequenceStart style number tag) a = refl
     one kind a = absurd a
 
@@ -608,7 +608,7 @@ module _ (o : OptionsData) (p : ParserState) (front : List FlaggedItem) (l : Lex
   tail_same : (d : CommentRead) → l.tail ≡ Some d → d ≡ c
   tail_same d e = cc (e, tail_is)
 
-  told_comment : (kind : LexemeKind) → tells_comment (tail_event kind c (next_line back)).kind ≡ true
+  told_comment : (kind : LexemeKind) → is_note (tail_event kind c (next_line back)).kind ≡ true
   told_comment lexemes.Dash = refl
   told_comment kind = refl
 

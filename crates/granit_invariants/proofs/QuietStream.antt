@@ -8,7 +8,7 @@ use Rattle.granit_lexemes.specs.Comment.{CommentRead}
 use Rattle.granit_lexemes.specs.Lexeme.{DirectiveKind, Version, TagPrefix, Reserved, LexemeKind, Dash}
 use Rattle.granit_lexemes.specs.Outcome.{Fault, ◌>>=◌}
 use Rattle.granit_lexemes.specs.Pieces.{with_front, then_more, turns, pieces}
-use Rattle.granit_lexemes.specs.PlainEvent.{PlainEvent, PlainVersion, event_at}
+use Rattle.granit_lexemes.specs.PlainEvent.{PlainEvent, PlainVersion, event_at, is_note}
 use Rattle.granit_lexemes.specs.Source.{Source}
 use Rattle.granit_machine.specs.Closing.{goes_on_with, ends_top, token_start, end_top, Closing, close_turn, depth}
 use Rattle.granit_machine.specs.Closing.{close}
@@ -28,7 +28,7 @@ use Rattle.granit_machine.specs.TokenSort.{TokenSort, BeginsNode, Token, is_dash
 use Rattle.granit_machine.specs.TokenSort.{is_in_column, ends_frame}
 use Rattle.granit_lexemes.specs.PlainEvent as events
 use Rattle.granit_lexemes.specs.Lexeme as lexemes
-use Rattle.granit_invariants.specs.Quiet.{tells_comment, quiet}
+use Rattle.granit_invariants.specs.Quiet.{quiet}
 use Rattle.granit_invariants.proofs.Quieting.{untold_last, flush_quiet, give_quiet, null_quiet, waits_none}
 use Rattle.granit_invariants.proofs.Quieting.{finish_quiet, end_node_quiet, end_properties_quiet}
 use Rattle.granit_invariants.proofs.QuietSteps.{FitsBy, Fits, Alike, alike_ok, alike_err, fits_ok, refuses, fits_if}
@@ -152,7 +152,7 @@ directives_fits o (lexemes.Directive d) t version p = directive_fits o t d versi
 directives_fits o lexemes.DocumentStart t version p = open_document_fits o t version p
 directives_fits o kind t version p = refuses o _
 
-bare_start_tells : (sort : TokenSort) (t : Token) → tells_comment (bare_start sort t).kind ≡ false
+bare_start_tells : (sort : TokenSort) (t : Token) → is_note (bare_start sort t).kind ≡ false
 bare_start_tells BeginsNode t = refl
 bare_start_tells sort t = refl
 
@@ -243,7 +243,7 @@ Stays o p (Ok q) = quiet o q ≡ quiet o p
 Stays o p (Err f) = f.kind ≡ TooManyComments
 
 hold_stays : (o : OptionsData) (c : CommentRead) (e : PlainEvent) (w : Option Waiting) (p : ParserState)
-    → tells_comment e.kind ≡ true → Stays o (record p { waiting = w }) (hold c e w (record p { waiting = w }))
+    → is_note e.kind ≡ true → Stays o (record p { waiting = w }) (hold c e w (record p { waiting = w }))
 hold_stays o c e None p h = ap (λ es. record (quiet o p) { waiting = None; given = es }) (untold_last p.given e h)
 hold_stays o c e (Some w) p h = on (w.room == 0)
   where

@@ -8,7 +8,7 @@ use Rattle.std.proofs.lemmas.List.Elements.{filter-append}
 use Rattle.granit_base.specs.Place.{Mark}
 use Rattle.granit_base.specs.Written.{Written}
 use Rattle.granit_error.specs.OptionsData.{OptionsData}
-use Rattle.granit_lexemes.specs.PlainEvent.{PlainEvent, PlainTag, EventKind, event_at, Anchor}
+use Rattle.granit_lexemes.specs.PlainEvent.{PlainEvent, PlainTag, EventKind, event_at, Anchor, is_note}
 use Rattle.granit_lexemes.specs.Source.{Source}
 use Rattle.granit_machine.specs.Frames.{AtQuestion, BehindQuestion, AtValue, BehindAlone, NodeProperties, Frame, Root}
 use Rattle.granit_machine.specs.Frames.{WithProperties, BlockSequence, BlockMapping, FlowSequence, FlowMapping}
@@ -18,24 +18,24 @@ use Rattle.granit_machine.specs.Giving.{properties_on, below_properties, key_ind
 use Rattle.granit_machine.specs.Giving.{span_with_tag, tell_anchor, node_event}
 use Rattle.granit_machine.specs.NodeEnds.{finish_in, finish, owed_in, owed, end_kind, below, end_by, end_node}
 use Rattle.granit_machine.specs.NodeEnds.{null_node, empty_span, end_properties, begin, waits}
-use Rattle.granit_invariants.specs.Quiet.{tells_comment, but_comments, waits_alone, quiet}
+use Rattle.granit_invariants.specs.Quiet.{but_comments, waits_alone, quiet}
 
 -- ---- events
 
-told_one : (e : PlainEvent) → tells_comment e.kind ≡ false → but_comments (e ∷ []) ≡ e ∷ []
+told_one : (e : PlainEvent) → is_note e.kind ≡ false → but_comments (e ∷ []) ≡ e ∷ []
 told_one e h = ap (λ b. cond (not b) (e ∷ []) []) h
 
-untold_one : (e : PlainEvent) → tells_comment e.kind ≡ true → but_comments (e ∷ []) ≡ []
+untold_one : (e : PlainEvent) → is_note e.kind ≡ true → but_comments (e ∷ []) ≡ []
 untold_one e h = ap (λ b. cond (not b) (e ∷ []) []) h
 
 pub but_append : (xs ys : List PlainEvent) → but_comments (xs ++ ys) ≡ but_comments xs ++ but_comments ys
-but_append xs ys = filter-append (λ e. not (tells_comment e.kind)) xs ys
+but_append xs ys = filter-append (λ e. not (is_note e.kind)) xs ys
 
-told_last : (xs : List PlainEvent) (e : PlainEvent) → tells_comment e.kind ≡ false
+told_last : (xs : List PlainEvent) (e : PlainEvent) → is_note e.kind ≡ false
     → but_comments xs ++ e ∷ [] ≡ but_comments (xs ++ e ∷ [])
 told_last xs e h = ap (λ ys. but_comments xs ++ ys) (sym (told_one e h)) ∙ sym (but_append xs (e ∷ []))
 
-pub untold_last : (xs : List PlainEvent) (e : PlainEvent) → tells_comment e.kind ≡ true
+pub untold_last : (xs : List PlainEvent) (e : PlainEvent) → is_note e.kind ≡ true
     → but_comments (xs ++ e ∷ []) ≡ but_comments xs
 untold_last xs e h = but_append xs (e ∷ []) ∙ ap (λ ys. but_comments xs ++ ys) (untold_one e h)
     ∙ append-nil (but_comments xs)
@@ -50,15 +50,15 @@ flush_by o (Some w) p = ap (λ es. record p { waiting = None; given = es }) (sym
 pub flush_quiet : (o : OptionsData) (p : ParserState) → flush (quiet o p) ≡ quiet o (flush p)
 flush_quiet o p = flush_by o p.waiting p
 
-add_quiet : (o : OptionsData) (e : PlainEvent) (p : ParserState) → tells_comment e.kind ≡ false
+add_quiet : (o : OptionsData) (e : PlainEvent) (p : ParserState) → is_note e.kind ≡ false
     → record (quiet o p) { given = but_comments p.given ++ e ∷ [] } ≡ quiet o (record p { given = p.given ++ e ∷ [] })
 add_quiet o e p h = ap (λ es. record (quiet o p) { given = es }) (told_last p.given e h)
 
-put_quiet : (o : OptionsData) (e : PlainEvent) (p : ParserState) → tells_comment e.kind ≡ false
+put_quiet : (o : OptionsData) (e : PlainEvent) (p : ParserState) → is_note e.kind ≡ false
     → put e (quiet o p) ≡ quiet o (put e p)
 put_quiet o e p h = ap (λ es. record (quiet o p) { last_end = e.span.end; given = es }) (told_last p.given e h)
 
-pub give_quiet : (o : OptionsData) (e : PlainEvent) (p : ParserState) → tells_comment e.kind ≡ false
+pub give_quiet : (o : OptionsData) (e : PlainEvent) (p : ParserState) → is_note e.kind ≡ false
     → give e (quiet o p) ≡ quiet o (give e p)
 give_quiet o e p h = ap (put e) (flush_quiet o p) ∙ put_quiet o e (flush p) h
 
@@ -95,7 +95,7 @@ anchor_quiet o (Some a) p = told o.emit_anchor_events
 
 -- no event of a node is a comment
 abbrev pub NodeKind : (ℕ → Option PlainTag → EventKind) → Type 0
-NodeKind kind = (n : ℕ) (t : Option PlainTag) → tells_comment (kind n t) ≡ false
+NodeKind kind = (n : ℕ) (t : Option PlainTag) → is_note (kind n t) ≡ false
 
 pub node_quiet : (o : OptionsData) (kind : ℕ → Option PlainTag → EventKind) (source : Source) (indent : Option ℕ)
     (p : ParserState) → NodeKind kind → node_event o kind source indent (quiet o p)
@@ -147,8 +147,8 @@ waits_quiet o m room p = ap (λ (q : ParserState). record q {
 
 -- ---- what ends
 
-two_nulls : (o : OptionsData) (e f : PlainEvent) (p : ParserState) → tells_comment e.kind ≡ false
-    → tells_comment f.kind ≡ false → give f (give e (quiet o p)) ≡ quiet o (give f (give e p))
+two_nulls : (o : OptionsData) (e f : PlainEvent) (p : ParserState) → is_note e.kind ≡ false
+    → is_note f.kind ≡ false → give f (give e (quiet o p)) ≡ quiet o (give f (give e p))
 two_nulls o e f p h k = ap (give f) (give_quiet o e p h) ∙ give_quiet o f (give e p) k
 
 owed_by : (o : OptionsData) (fs : List Frame) (m : Mark) (p : ParserState)
@@ -170,7 +170,7 @@ owed_by o fs m p = refl
 pub owed_quiet : (o : OptionsData) (m : Mark) (p : ParserState) → owed m (quiet o p) ≡ quiet o (owed m p)
 owed_quiet o m p = owed_by o p.frames m p
 
-pub end_kind_tells : (fs : List Frame) → tells_comment (end_kind fs) ≡ false
+pub end_kind_tells : (fs : List Frame) → is_note (end_kind fs) ≡ false
 end_kind_tells (BlockSequence column indentless ∷ fs) = refl
 end_kind_tells (FlowSequence behind_entry ∷ fs) = refl
 end_kind_tells fs = refl

@@ -11,7 +11,7 @@ use Rattle.granit_lexemes.specs.Lexeme as lexemes
 use Rattle.granit_lexemes.specs.Lexeme.{LexemeKind, Lexeme, Item, OfLexeme, OfComment}
 use Rattle.granit_lexemes.specs.Outcome.{Fault, fault_at, ◌>>=◌}
 use Rattle.granit_lexemes.specs.Pieces.{with_front}
-use Rattle.granit_lexemes.specs.PlainEvent.{PlainEvent}
+use Rattle.granit_lexemes.specs.PlainEvent.{PlainEvent, is_note}
 use Rattle.granit_machine.specs.Frames.{Frame, Waiting, ParserState}
 use Rattle.granit_machine.specs.Lexing.{FlaggedItem}
 use Rattle.granit_machine.specs.Machine.{untailed, asked_items, feed_all}
@@ -22,7 +22,7 @@ use Rattle.granit_machine.specs.TokenSort.{token_of}
 use Rattle.granit_invariants.specs.CommentEvents.{comment_event}
 use Rattle.granit_invariants.specs.RefusedRows.{RefusesRow}
 use Rattle.granit_language.specs.CommentRows.{AreComments, tail_comments}
-use Rattle.granit_invariants.specs.Quiet.{tells_comment, but_comments, quiet, waits_alone}
+use Rattle.granit_invariants.specs.Quiet.{but_comments, quiet, waits_alone}
 use Rattle.granit_invariants.proofs.Quieting.{untold_last}
 use Rattle.granit_invariants.proofs.QuietSteps.{FitsBy, untailed_token}
 use Rattle.granit_invariants.proofs.QuietStream.{token_fits}
@@ -274,7 +274,7 @@ module _ (o : OptionsData) (start : ParserState) (before : List FlaggedItem) whe
   comment_rows :
       (c : CommentRead) (b : Bool) (is : List FlaggedItem) (e : PlainEvent) (p : ParserState) (w : Option Waiting) →
       p.waiting ≡ w →
-      tells_comment e.kind ≡ true → Behind o start before p →
+      is_note e.kind ≡ true → Behind o start before p →
       StepRows o start before (record { item = OfComment c; begins_key = b }) is (handed (hold c e w p))
   comment_rows c b is e p None n t h =
       record {
@@ -450,7 +450,7 @@ module _ (o : OptionsData) (start : ParserState) (before : List FlaggedItem) (l 
 
   held_rows : (p q : ParserState) (events : List PlainEvent) (c : CommentRead) (e : PlainEvent) (w : Option Waiting) →
       feed_all o (asked_items false before) start ≡ Ok (events, p) →
-      bare_step o b l p ≡ Ok (quiet o q) → l.tail ≡ Some c → tells_comment e.kind ≡ true → q.waiting ≡ w →
+      bare_step o b l p ≡ Ok (quiet o q) → l.tail ≡ Some c → is_note e.kind ≡ true → q.waiting ≡ w →
       FreshBy (Ok o.max_buffered_comment_events) q.frames w → LexemeRows o start before l b is (hold c e w q)
   held_rows p q events c e None d f t k n h =
       record {

@@ -11,7 +11,7 @@ use Rattle.granit_lexemes.specs.Lexeme.{OfLexeme, OfComment}
 use Rattle.granit_lexemes.specs.Outcome.{Fault, ◌>>=◌}
 use Rattle.granit_lexemes.specs.Pieces.{with_front, pieces}
 use Rattle.granit_lexemes.specs.PlainEvent as events
-use Rattle.granit_lexemes.specs.PlainEvent.{PlainEvent, PlainVersion, event_at}
+use Rattle.granit_lexemes.specs.PlainEvent.{PlainEvent, PlainVersion, event_at, is_note}
 use Rattle.granit_lexemes.specs.Source.{Source}
 use Rattle.granit_scalars.proofs.Turning.{Carries, pieces_hold}
 use Rattle.granit_machine.proofs.ClosingLemmas.{close_turn-Shortens}
@@ -34,7 +34,6 @@ use Rattle.granit_machine.specs.TokenSort.{TokenSort, BeginsNode, BareColon, Tok
 use Rattle.granit_machine.specs.TokenSort.{is_bare_colon, begins_node}
 use Rattle.granit_invariants.specs.CommentEvents.{only_comments, held_of, comment_event, tail_events, item_events}
 use Rattle.granit_invariants.specs.CommentEvents.{comment_events}
-use Rattle.granit_invariants.specs.Quiet.{tells_comment}
 use Rattle.granit_invariants.proofs.Telling.{only_append, told, flush_told, give_told, finish_told, end_node_told}
 use Rattle.granit_invariants.proofs.Telling.{end_properties_told, with_tail_of}
 use Rattle.granit_invariants.proofs.TellSteps.{Tells, tells_ok, tells_err, tells_if, tells_then, adds, Added, Sorted}
@@ -121,7 +120,7 @@ directives_adds o (lexemes.Directive d) t version p h = directive_adds o t d ver
 directives_adds o lexemes.DocumentStart t version p h = open_document_adds t version p h
 directives_adds o kind t version p h = tells_err _ _
 
-bare_start_tells : (sort : TokenSort) (t : Token) → tells_comment (bare_start sort t).kind ≡ false
+bare_start_tells : (sort : TokenSort) (t : Token) → is_note (bare_start sort t).kind ≡ false
 bare_start_tells BeginsNode t = refl
 bare_start_tells sort t = refl
 

@@ -9,7 +9,7 @@ use Rattle.granit_base.specs.Written.{Written}
 use Rattle.granit_base.specs.declared.style.Placement.TheVariants.{Right}
 use Rattle.granit_error.specs.OptionsData.{OptionsData}
 use Rattle.granit_lexemes.specs.Comment.{CommentRead}
-use Rattle.granit_lexemes.specs.PlainEvent.{PlainEvent, PlainTag, EventKind, event_at, Anchor}
+use Rattle.granit_lexemes.specs.PlainEvent.{PlainEvent, PlainTag, EventKind, event_at, Anchor, is_note}
 use Rattle.granit_lexemes.specs.Source.{Source}
 use Rattle.granit_machine.specs.Frames.{AtQuestion, BehindQuestion, AtValue, BehindAlone, NodeProperties, Frame, Root}
 use Rattle.granit_machine.specs.Frames.{WithProperties, BlockSequence, BlockMapping, FlowSequence, FlowMapping}
@@ -21,18 +21,17 @@ use Rattle.granit_machine.specs.NodeEnds.{finish_in, finish, owed_in, owed, end_
 use Rattle.granit_machine.specs.NodeEnds.{empty_span, end_properties, begin, waits}
 use Rattle.granit_machine.specs.NodeSteps.{give_tail}
 use Rattle.granit_invariants.specs.CommentEvents.{only_comments, held_of, comment_event}
-use Rattle.granit_invariants.specs.Quiet.{tells_comment}
 use Rattle.granit_invariants.proofs.Quieting.{NodeKind, end_kind_tells}
 
 -- ---- lists of events
 
 pub only_append : (xs ys : List PlainEvent) → only_comments (xs ++ ys) ≡ only_comments xs ++ only_comments ys
-only_append xs ys = filter-append (λ e. tells_comment e.kind) xs ys
+only_append xs ys = filter-append (λ e. is_note e.kind) xs ys
 
-silent_one : (e : PlainEvent) → tells_comment e.kind ≡ false → only_comments (e ∷ []) ≡ []
+silent_one : (e : PlainEvent) → is_note e.kind ≡ false → only_comments (e ∷ []) ≡ []
 silent_one e h = ap (λ b. cond b (e ∷ []) []) h
 
-silent_last : (xs : List PlainEvent) (e : PlainEvent) → tells_comment e.kind ≡ false → only_comments
+silent_last : (xs : List PlainEvent) (e : PlainEvent) → is_note e.kind ≡ false → only_comments
     (xs ++ e ∷ []) ≡ only_comments xs
 silent_last xs e h = only_append xs (e ∷ []) ∙ (ap (λ es. only_comments xs ++ es) (silent_one e h) ∙ append-nil
     (only_comments xs))
@@ -51,10 +50,10 @@ flush_by (Some w) p = append-nil (only_comments (p.given ++ w.held)) ∙ only_ap
 pub flush_told : (p : ParserState) → told (flush p) ≡ told p
 flush_told p = flush_by p.waiting p
 
-pub put_told : (e : PlainEvent) (p : ParserState) → tells_comment e.kind ≡ false → told (put e p) ≡ told p
+pub put_told : (e : PlainEvent) (p : ParserState) → is_note e.kind ≡ false → told (put e p) ≡ told p
 put_told e p h = ap (λ es. es ++ only_comments (held_of p.waiting)) (silent_last p.given e h)
 
-pub give_told : (e : PlainEvent) (p : ParserState) → tells_comment e.kind ≡ false → told (give e p) ≡ told p
+pub give_told : (e : PlainEvent) (p : ParserState) → is_note e.kind ≡ false → told (give e p) ≡ told p
 give_told e p h = put_told e (flush p) h ∙ flush_told p
 
 empty_told_by : (w : Option Waiting) (p : ParserState) → told (empty_by w p) ≡ told p
@@ -124,7 +123,7 @@ waits_by m room (Some w) p = append-nil (only_comments (p.given ++ w.held)) ∙ 
 pub waits_told : (m : Mark) (room : ℕ) (p : ParserState) → told (waits m room p) ≡ told p
 waits_told m room p = waits_by m room p.waiting p
 
-two_nulls : (m : Mark) (e : PlainEvent) (p : ParserState) → tells_comment e.kind ≡ false → told (give (null_at m)
+two_nulls : (m : Mark) (e : PlainEvent) (p : ParserState) → is_note e.kind ≡ false → told (give (null_at m)
     (give e p)) ≡ told p
 two_nulls m e p h = give_told (null_at m) (give e p) refl ∙ give_told e p h
 

@@ -3,17 +3,16 @@ use Rattle.std.specs.Prelude.{ℕ, List, [], ◌∷◌, ◌++◌, Option, Some, 
 use Rattle.std.specs.List.{filter}
 use Rattle.granit_base.specs.declared.style.Placement.{Placement}
 use Rattle.granit_base.specs.declared.style.Placement.TheVariants.{Right}
-use Rattle.granit_invariants.specs.Quiet.{tells_comment}
 use Rattle.granit_lexemes.specs.Comment.{CommentRead}
 use Rattle.granit_lexemes.specs.Lexeme.{LexemeKind, Dash, Item, OfLexeme, OfComment}
-use Rattle.granit_lexemes.specs.PlainEvent.{PlainEvent, event_at, Comment}
+use Rattle.granit_lexemes.specs.PlainEvent.{PlainEvent, event_at, Comment, is_note}
 use Rattle.granit_machine.specs.Frames.{Waiting}
 use Rattle.granit_machine.specs.Lexing.{FlaggedItem}
 use Rattle.granit_machine.specs.Parser.{next_line, placed}
 
 -- the comments of events
 abbrev pub only_comments : List PlainEvent → List PlainEvent
-only_comments es = filter (λ e. tells_comment e.kind) es
+only_comments es = filter (λ e. is_note e.kind) es
 
 -- what is held where a node must come
 abbrev pub held_of : Option Waiting → List PlainEvent

@@ -1,17 +1,13 @@
 -- What is left where no comment is told: of events, of the parser's state, and of the options.
-use Rattle.std.specs.Prelude.{ℕ, Bool, true, false, not, List, Option, Some, None}
+use Rattle.std.specs.Prelude.{ℕ, Bool, not, List, Option, Some, None}
 use Rattle.std.specs.List.{filter}
 use Rattle.granit_error.specs.OptionsData.{OptionsData}
-use Rattle.granit_lexemes.specs.PlainEvent.{PlainEvent, EventKind, Comment}
+use Rattle.granit_lexemes.specs.PlainEvent.{PlainEvent, is_note}
 use Rattle.granit_machine.specs.Frames.{Waiting, ParserState}
-
-abbrev pub tells_comment : EventKind → Bool
-tells_comment (Comment text placement) = true
-tells_comment kind = false
 
 -- events without the comments
 abbrev pub but_comments : List PlainEvent → List PlainEvent
-but_comments es = filter (λ e. not (tells_comment e.kind)) es
+but_comments es = filter (λ e. not (is_note e.kind)) es
 
 -- what waits, as it is where no comment came behind it
 abbrev pub waits_alone : ℕ → Option Waiting → Option Waiting

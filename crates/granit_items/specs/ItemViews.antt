@@ -1,5 +1,6 @@
 -- What the code's items say.
 use Rattle.std.specs.Prelude.{ℕ, List, [], ◌∷◌, ◌++◌, map, Option, Some, None}
+use Rattle.std.specs.Global.{Box}
 use Rattle.std.specs.Option.{option_map}
 use Rattle.granit_base.specs.Written.{Written}
 use Rattle.granit_lexemes.specs.Comment.{CommentRead}
@@ -38,6 +39,9 @@ kind_view (kinds.Scalar style text) = spec.Scalar style text
 abbrev pub note_view : Note → CommentRead
 note_view n = record { text = n.text; source = record { start = n.start; end = n.end }; is_right = n.is_right }
 
+abbrev pub boxed_view : Box Note → CommentRead
+boxed_view b = note_view b.value
+
 abbrev pub key_view : KeyStart → spec.KeyStart
 key_view k = record { number = k.number; start = k.start }
 
@@ -54,7 +58,7 @@ lexeme_view l = record {
   follows_indicator = l.follows_indicator;
   ends_column = l.ends_column;
   key = option_map key_view l.key;
-  tail = option_map note_view l.tail;
+  tail = option_map boxed_view l.tail;
 }
 
 -- a lexeme as the items of a read
@@ -65,9 +69,9 @@ abbrev pub lexeme_items : Option Lexeme → List spec.Item
 lexeme_items None = []
 lexeme_items (Some l) = alone l
 
-abbrev pub note_items : Option Note → List spec.Item
+abbrev pub note_items : Option (Box Note) → List spec.Item
 note_items None = []
-note_items (Some n) = spec.OfComment (note_view n) ∷ []
+note_items (Some n) = spec.OfComment (boxed_view n) ∷ []
 
 -- what a read gives, as items
 abbrev pub found_items : Found → List spec.Item

@@ -89,8 +89,8 @@ pub struct Lexeme<'input> {
     pub ends_column: bool,
     /// Of a `:`, the simple key before it.
     pub key: Option<KeyStart>,
-    /// The comment behind it on its line, where comments are asked for.
-    pub tail: Option<Note<'input>>,
+    /// The comment behind it on its line, where comments are asked for; few have one, so it stands apart.
+    pub tail: Option<Box<Note<'input>>>,
 }
 
 /// What one read gives: a lexeme, a comment, a quoted scalar and the comment in the gap behind it, or nothing where
@@ -100,7 +100,7 @@ pub struct Found<'input> {
     /// The lexeme.
     pub lexeme: Option<Lexeme<'input>>,
     /// The comment, which stands behind the lexeme.
-    pub note: Option<Note<'input>>,
+    pub note: Option<Box<Note<'input>>>,
 }
 
 /// A lexeme with its tail, or a comment that is no lexeme's tail.

@@ -8,7 +8,7 @@ use Rattle.granit_answers.proofs.OneCause.{answer_reads, reading_answered, unask
 use Rattle.granit_base.specs.Classes.{is_printable}
 use Rattle.granit_error.specs.OptionsData.{OptionsData}
 use Rattle.granit_invariants.specs.CommentEvents.{comment_events, item_events, only_comments, tail_events}
-use Rattle.granit_invariants.specs.Quiet.{but_comments, tells_comment}
+use Rattle.granit_invariants.specs.Quiet.{but_comments}
 use Rattle.granit_json.proofs.Passing.{Flags, flagged_is, flagged_of, flags_name, items_of, no_flag, unflagged}
 use Rattle.granit_json.proofs.Whole.{TextRead, text_read}
 use Rattle.granit_json.specs.Json.{Json, depth}
@@ -22,7 +22,7 @@ use Rattle.granit_lexemes.specs.Gap.{Each}
 use Rattle.granit_lexemes.specs.Here.{start_of}
 use Rattle.granit_lexemes.specs.Lexeme.{Item, OfComment, OfLexeme}
 use Rattle.granit_lexemes.specs.Outcome.{Fault}
-use Rattle.granit_lexemes.specs.PlainEvent.{PlainEvent}
+use Rattle.granit_lexemes.specs.PlainEvent.{PlainEvent, is_note}
 use Rattle.granit_machine.specs.Laid.{Laid}
 use Rattle.granit_machine.specs.Lexing.{FlaggedItem, flagged, lex}
 use Rattle.granit_machine.specs.Machine.{run}
@@ -87,7 +87,7 @@ no_events (i ∷ is) b = by i.item b.0 (no_events is b.1)
 
 all_others : (es : List PlainEvent) → only_comments es ≡ [] → but_comments es ≡ es
 all_others [] h = refl
-all_others (e ∷ es) h = by (tells_comment e.kind) (λ g. all_others es g) h
+all_others (e ∷ es) h = by (is_note e.kind) (λ g. all_others es g) h
   where
     by : (v : Bool) → (only_comments es ≡ [] → but_comments es ≡ es)
         → cond v (e ∷ only_comments es) (only_comments es) ≡ []

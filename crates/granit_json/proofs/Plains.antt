@@ -11,6 +11,7 @@ use Rattle.granit_base.specs.Classes.{is_printable, is_z}
 use Rattle.granit_base.specs.Place.{Mark, first}
 use Rattle.granit_base.specs.Place.{ends_line}
 use Rattle.granit_base.specs.PlainContent.{is_content}
+use Rattle.granit_base.specs.Written.{lent}
 use Rattle.granit_base.specs.declared.style.ScalarStyle.TheVariants.{Plain}
 use Rattle.granit_canonical.proofs.Calm.{Calm, Fine, Shape, calm_closed, calm_noded, shape_flow, stands_inside}
 use Rattle.granit_canonical.proofs.Places.{Held, directly, marked, past_all}
@@ -20,7 +21,6 @@ use Rattle.granit_canonical.proofs.Taking.{Taken, begins_text, is_mark, passed_a
 use Rattle.granit_error.specs.OptionsData.{OptionsData}
 use Rattle.granit_json.proofs.Bares.{Sound, is_bare, is_bare_start, no_digit_dash}
 use Rattle.granit_json.proofs.Gaps.{Ends, at_end, at_sign, ends_start, gap_breaks, mark_prints}
-use Rattle.granit_json.specs.JsonEvents.{bare_text}
 use Rattle.granit_language.specs.Before.{behind, in_front}
 use Rattle.granit_language.specs.Begins.{Begins, ReservedChar, ThreeStand, other, sign}
 use Rattle.granit_language.specs.Reached.{ends_column_by}
@@ -275,7 +275,7 @@ module _ (o : OptionsData) (x : List ℕ) where
   -- the scalar as a lexeme, with all that stands behind it up to the next
   pub takes_bare : (bs : List Bracket) (chars g rest : List ℕ) (t : ReaderState) → Sound chars → IsGap g → Ends bs rest
       → Held x t.here → t.here.unread.text ≡ chars ++ (g ++ rest) → Calm bs t.laid → Fine bs t.laid.last
-      → Taken o x bs (Placed PlainSign) (Scalar Plain (bare_text chars)) (chars ++ (g ++ rest)) (g ++ rest) rest false t
+      → Taken o x bs (Placed PlainSign) (Scalar Plain (lent chars)) (chars ++ (g ++ rest)) (g ++ rest) rest false t
   takes_bare bs chars g rest t sound i ff held e c f =
       let h = t.here in
       let st = ends_start ff in

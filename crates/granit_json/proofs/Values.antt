@@ -7,6 +7,7 @@ use Rattle.std.proofs.Math.Nat.{le-max_left, le-max_right}
 use Rattle.std.specs.Prelude.{None, Some}
 use Rattle.granit_base.specs.Classes.{is_printable}
 use Rattle.granit_base.specs.Place.{Mark}
+use Rattle.granit_base.specs.Written.{lent}
 use Rattle.granit_base.specs.declared.style.ScalarStyle.TheVariants.{DoubleQuoted, Plain}
 use Rattle.granit_canonical.proofs.Calm.{Calm, Fine, fine_as}
 use Rattle.granit_canonical.proofs.Nodes.{closer_starts, comma_starts, quote_starts}
@@ -28,7 +29,7 @@ use Rattle.granit_json.proofs.Strings.{each_behind, each_front}
 use Rattle.granit_json.specs.Json.{Elements, Json, Members}
 use Rattle.granit_json.specs.Json.{depth, elements_depth, members_depth}
 use Rattle.granit_json.specs.JsonEvents.{element_events, first_source, member_events, members_events, part_events}
-use Rattle.granit_json.specs.JsonEvents.{bare_text, scalar_of, string_text, value_events}
+use Rattle.granit_json.specs.JsonEvents.{scalar_of, string_text, value_events}
 use Rattle.granit_json.specs.JsonText.{ElementNamesFit, ElementsText, MemberNamesFit, MemberText, MembersText}
 use Rattle.granit_json.specs.JsonText.{NameFits, NamesFit, PartText, ValueNamesFit, ValueText, bare, elements, member}
 use Rattle.granit_json.specs.JsonText.{members, next_element, next_member, no_elements, no_members, one_element}
@@ -156,11 +157,11 @@ module _ (o : OptionsData) (x : List ℕ) (prints : Each is_printable x) where
         let own = chars ++ (g ++ rest) in
         let same : from ≡ own = e ∙ ap (λ (l : List ℕ). chars ++ l) w in
         let here = subst (λ (l : List ℕ). Before x l s.here) same before in
-        let r = reads_one o x bs bs (sorts.Placed sorts.PlainSign) (lexemes.Scalar Plain (bare_text chars)) own
+        let r = reads_one o x bs bs (sorts.Placed sorts.PlainSign) (lexemes.Scalar Plain (lent chars)) own
         (g ++ rest) rest false s here calm (sound_starts chars (g ++ rest) (sound chars b))
         (λ t h e c q. takes_bare o x bs chars g rest t (sound chars b) i ends h e c
         (fine_as bs s.laid.last t.laid.last q fine)) in
-        scalar_read o x Plain (bare_text chars) bs own (g ++ rest) rest from to s r (sym same) (sym w)
+        scalar_read o x Plain (lent chars) bs own (g ++ rest) rest from to s r (sym same) (sym w)
     value_read (no_elements {from = from} {to = to} white is e) bs g rest s i w ends deep fit before calm fine =
         flow_read o x Square bs from (white ++ 0x5D ∷ to) g to rest (lone_front Square white to (whites_gap white is)) s
         (λ es. es) e w i (ends_start ends) (omega (arith, deep)) before calm fine

@@ -1,7 +1,7 @@
 -- The events of a JSON text, each where its text stands in the whole.
 use Rattle.std.specs.List.{list_all}
-use Rattle.std.specs.Prelude.{ℕ, true, false, List, [], ◌∷◌, ◌++◌, None}
-use Rattle.granit_base.specs.Written.{Written}
+use Rattle.std.specs.Prelude.{ℕ, false, List, [], ◌∷◌, ◌++◌, None}
+use Rattle.granit_base.specs.Written.{Written, lent}
 use Rattle.granit_base.specs.declared.style.ScalarStyle.{ScalarStyle}
 use Rattle.granit_base.specs.declared.style.ScalarStyle.TheVariants.{DoubleQuoted, Plain}
 use Rattle.granit_base.specs.declared.style.StructureStyle.TheVariants.{Flow}
@@ -21,10 +21,6 @@ use Rattle.granit_lexemes.specs.Source.{Source}
 abbrev pub string_text : (source characters : List ℕ) → Written
 string_text source characters = record { characters = characters; is_borrowed = list_all is_unescaped source }
 
--- that of a number or a name, which is lent
-abbrev pub bare_text : (characters : List ℕ) → Written
-bare_text characters = record { characters = characters; is_borrowed = true }
-
 -- a scalar and the start of a collection without anchor and tag
 abbrev pub scalar_of : ScalarStyle → Written → EventKind
 scalar_of style written = Scalar written style 0 None
@@ -41,7 +37,7 @@ abbrev mutual
   value_events x (text {characters = characters} {from = from} {to = to} source s e) more =
       event_at (scalar_of DoubleQuoted (string_text source characters)) (stretch x from to) ∷ more
   value_events x (bare {characters = characters} {from = from} {to = to} b e) more =
-      event_at (scalar_of Plain (bare_text characters)) (stretch x from to) ∷ more
+      event_at (scalar_of Plain (lent characters)) (stretch x from to) ∷ more
   value_events x (no_elements {from = from} {to = to} white w e) more =
       event_at array_start (stretch x from (white ++ 0x5D ∷ to))
       ∷ event_at SequenceEnd (stretch x (0x5D ∷ to) to) ∷ more

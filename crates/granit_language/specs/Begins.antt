@@ -2,6 +2,7 @@
 use Rattle.std.specs.Prelude.{◌≡◌, ◌≢◌, ℕ, ◌||◌, ◌&&◌, Bool, true, false, List, [], ◌∷◌, ◌⊎◌}
 use Rattle.granit_base.specs.Classes.{is_blank_or_breakz, is_flow, is_printable}
 use Rattle.granit_base.specs.Place.{first}
+use Rattle.granit_lexemes.specs.BlockScalar.{block_indicator}
 use Rattle.granit_lexemes.specs.Lexeme.{opener_char, closer_char}
 use Rattle.granit_lexemes.specs.declared.layout.Bracket.{Bracket}
 use Rattle.granit_lexemes.specs.QuotedScalar.{quote_char}
@@ -9,11 +10,6 @@ use Rattle.granit_machine.specs.LexemeSort.{PlacedSort, OpenSign, CloseSign, Com
 use Rattle.granit_machine.specs.LexemeSort.{ColonSign, AliasSign, AnchorSign, TagSign, BlockSign, QuoteSign, StrayMark}
 use Rattle.granit_machine.specs.LexemeSort.{NoSign, PlainSign, LexemeSort, TextEnd, StartMark, EndMark, Unprintable}
 use Rattle.granit_machine.specs.LexemeSort.{DirectiveSign, Placed}
-
--- `|` or `>`
-abbrev pub block_char : Bool → ℕ
-block_char true = 0x7C
-block_char false = 0x3E
 
 -- `@`, a backquote, `%`, `|` or `>`, which begin no plain scalar (5.3)
 abbrev pub ReservedChar : ℕ → Type 0
@@ -36,10 +32,10 @@ pub data SignBegins (in_flow adjacent : Bool) (next : ℕ) : (c : ℕ) → Place
   anchor : SignBegins in_flow adjacent next 0x26 AnchorSign
   tag : SignBegins in_flow adjacent next 0x21 TagSign
   block : (literal : Bool) → in_flow ≡ false
-      → SignBegins in_flow adjacent next (block_char literal) (BlockSign literal)
+      → SignBegins in_flow adjacent next (block_indicator literal) (BlockSign literal)
   quote : (single : Bool) → SignBegins in_flow adjacent next (quote_char single) (QuoteSign single)
   stray : SignBegins in_flow adjacent next 0xFEFF StrayMark
-  nothing : {c : ℕ} → ReservedChar c → (in_flow ≡ false → (literal : Bool) → c ≢ block_char literal)
+  nothing : {c : ℕ} → ReservedChar c → (in_flow ≡ false → (literal : Bool) → c ≢ block_indicator literal)
       → SignBegins in_flow adjacent next c NoSign
   other : {c : ℕ} → is_flow c ≡ false → (c ≡ 0x2D → is_blank_or_breakz next ≡ false)
       → (c ≡ 0x3F → is_blank_or_breakz next ≡ false) → (c ≡ 0x3A → parts_colon in_flow adjacent next ≡ false)

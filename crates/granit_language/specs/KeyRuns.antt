@@ -3,8 +3,8 @@ use Rattle.std.specs.Prelude.{◌≡◌, ℕ, ◌+◌, ◌==◌, Bool, true, fal
 use Rattle.std.specs.Prelude.{◌⊎◌, Option, Some, None}
 use Rattle.granit_base.specs.Place.{Mark}
 use Rattle.granit_error.specs.OptionsData.{OptionsData}
-use Rattle.granit_lexemes.specs.Lexeme.{LexemeKind, Open, Comma, Dash, Question, Colon, KeyStart, Lexeme, Item}
-use Rattle.granit_lexemes.specs.Lexeme.{OfLexeme, OfComment}
+use Rattle.granit_lexemes.specs.Lexeme.{LexemeKind, Open, Comma, Question, Colon, KeyStart, Lexeme, Item}
+use Rattle.granit_lexemes.specs.Lexeme.{OfLexeme, OfComment, is_entry_dash}
 use Rattle.granit_language.specs.Fitting.{Role, OfNode, Opens, Closes, role_of}
 
 abbrev pub role : Lexeme → Role
@@ -54,10 +54,6 @@ opens_entry kind in_flow = false
 abbrev pub follows_opener : List Lexeme → Bool
 follows_opener [] = false
 follows_opener (x ∷ xs) = opens_entry x.kind x.in_flow
-
-abbrev pub is_entry_dash : LexemeKind → Bool
-is_entry_dash Dash = true
-is_entry_dash kind = false
 
 abbrev pub follows_dash : List Lexeme → Bool
 follows_dash [] = false

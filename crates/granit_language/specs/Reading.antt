@@ -1,5 +1,6 @@
 -- What a reading asks of the lexemes alone, beside a placed stream that spells them.
-use Rattle.std.specs.Prelude.{◌≡◌, ℕ, Bool, true, false, ◌||◌, not, ◌==◌, List, [], ◌∷◌, Option, Some, None}
+use Rattle.std.specs.Prelude.{◌≡◌, ℕ, Bool, true, ◌||◌, not, ◌==◌, List, [], ◌∷◌, Option, Some, None}
+use Rattle.granit_language.specs.Fitting.{with_inner_key, outer_keys, without_inner_key, is_inner_key}
 use Rattle.granit_language.specs.Node.{Node, AliasNode, ScalarNode, Alone, Flow, Sequence, Mapping, Content, Nothing}
 use Rattle.granit_language.specs.Node.{Just, Entries, Entry, EntryLead, NoEntry, AfterEntry, Pairs, Through, PairLead}
 use Rattle.granit_language.specs.Node.{NoPair, AfterPair, Pair, WithColon, AskOnly, Left, SimpleKey, Asked, NoKey}
@@ -25,32 +26,15 @@ abbrev pub LinesFit : List Terminal → Type 0
 LinesFit [] = Unit {0}
 LinesFit (x ∷ xs) = (line_fits x ≡ true) × LinesFit xs
 
--- the numbers of the lexemes that begin a simple key, at each bracket depth the last one whose `:` must come
-abbrev pub set_key : Bool → ℕ → List (Option ℕ) → List (Option ℕ)
-set_key true n (k ∷ ks) = Some n ∷ ks
-set_key b n ks = ks
-
-abbrev pub closed : List (Option ℕ) → List (Option ℕ)
-closed [] = []
-closed (k ∷ ks) = ks
-
-abbrev pub no_key_now : List (Option ℕ) → List (Option ℕ)
-no_key_now [] = []
-no_key_now (k ∷ ks) = None ∷ ks
-
 abbrev pub keys_next : TerminalKind → At → List (Option ℕ) → List (Option ℕ)
-keys_next (Part (Open bracket)) i ks = None ∷ set_key i.begins_key i.number ks
-keys_next (Part k) i ks = set_key i.begins_key i.number ks
-keys_next (Close bracket) i ks = closed ks
-keys_next (Colon (Some n)) i ks = no_key_now ks
+keys_next (Part (Open bracket)) i ks = None ∷ with_inner_key i.begins_key i.number ks
+keys_next (Part k) i ks = with_inner_key i.begins_key i.number ks
+keys_next (Close bracket) i ks = outer_keys ks
+keys_next (Colon (Some n)) i ks = without_inner_key ks
 keys_next kind i ks = ks
 
-abbrev pub names_key : ℕ → List (Option ℕ) → Bool
-names_key n (Some m ∷ ks) = n == m
-names_key n ks = false
-
 abbrev pub key_fits : TerminalKind → List (Option ℕ) → Bool
-key_fits (Colon (Some n)) ks = names_key n ks
+key_fits (Colon (Some n)) ks = is_inner_key n ks
 key_fits kind ks = true
 
 -- each `:` names the last lexeme at its depth that begins a simple key

@@ -1,7 +1,7 @@
 -- The events of trees: a recursion on the tree alone. Properties stand in an event as they are; numbers of anchors and
 -- resolved tags are a matter of scope.
 use Rattle.std.specs.Prelude.{ℕ, codes, Bool, true, false, List, [], ◌∷◌, Option, Some, None}
-use Rattle.granit_base.specs.Written.{Written}
+use Rattle.granit_base.specs.Written.{Written, lent}
 use Rattle.granit_base.specs.declared.style.ScalarStyle.TheVariants.{Plain}
 use Rattle.granit_base.specs.declared.style.ScalarStyle.{ScalarStyle}
 use Rattle.granit_base.specs.Place.{Mark}
@@ -46,13 +46,9 @@ pointed k x = tree_event k x x None
 abbrev pub shown_event : TreeEventKind → At → TreeEvent
 shown_event k i = tree_event k i.shown.start i.shown.end None
 
--- the text of an empty node, which is lent
-abbrev pub empty_text : List ℕ → Written
-empty_text text = record { characters = text; is_borrowed = true }
-
 -- nothing
 abbrev pub null : Mark → Option ℕ → TreeEvent
-null x indent = tree_event (ScalarIs NoProperties Plain (empty_text (codes "~"))) x x indent
+null x indent = tree_event (ScalarIs NoProperties Plain (lent (codes "~"))) x x indent
 
 -- the indent that a block mapping gives its keys, or a scalar's own
 abbrev pub imposed : Option ℕ → Option ℕ → Option ℕ
@@ -79,7 +75,7 @@ alone_text (One k i) = choose (is_tag k) [] (codes "~")
 alone_text (Two k i m j) = []
 
 abbrev pub alone_event : TreeProperties → Option ℕ → TreeEvent
-alone_event p indent = tree_event (ScalarIs p Plain (empty_text (alone_text p))) (properties_end p) (properties_end p)
+alone_event p indent = tree_event (ScalarIs p Plain (lent (alone_text p))) (properties_end p) (properties_end p)
     indent
 
 abbrev pub scalar_event : TreeProperties → ScalarStyle → Written → At → Option ℕ → TreeEvent

@@ -73,17 +73,18 @@ where
 }
 
 /// Events that are given once more are of the fourth kind.
-impl<'input, A, B, C> FromReplay<'input> for AnyKind<A, B, C, ReplayParser<'input>>
+impl<'input, A, B, C, D> FromReplay<'input> for AnyKind<A, B, C, D>
 where
     A: StackedParser<'input>,
     B: StackedParser<'input>,
     C: StackedParser<'input>,
+    D: FromReplay<'input>,
 {
     ghost use Rattle.granit_layers.specs.declared.kinds.AnyKind.TheVariants.{Fourth};
 
-    ghost again = { Fourth };
+    ghost again = { λ replay. Fourth (D.again replay) };
 
     fn from_replay(replay: ReplayParser<'input>) -> Self {
-        AnyKind::Fourth(replay)
+        AnyKind::Fourth(D::from_replay(replay))
     }
 }

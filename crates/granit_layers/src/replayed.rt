@@ -1,5 +1,5 @@
 //! Events that are given once more, on a stack.
-use crate::layer::StackedParser;
+use crate::layer::{FromReplay, StackedParser};
 use granit_base::Span;
 use granit_error::ScanError;
 use granit_event::Event;
@@ -32,5 +32,14 @@ impl<'input> StackedParser<'input> for ReplayParser<'input> {
 
     fn offset_above(&self, below: usize) -> usize {
         self.anchor_offset().max(below)
+    }
+}
+
+/// Events that are given once more are a parser of a stack as they are.
+impl<'input> FromReplay<'input> for ReplayParser<'input> {
+    ghost again = { λ replay. replay };
+
+    fn from_replay(replay: ReplayParser<'input>) -> Self {
+        replay
     }
 }

@@ -47,8 +47,8 @@ fn are_alike(one: &[(Event<'_>, Span)], other: &[(Event<'_>, Span)]) -> bool {
 }
 
 /// The lines of events.
-fn lines(alloc: Global, events: &[(Event<'_>, Span)]) -> Result<String> {
-    let mut out = String::new(alloc);
+fn lines(alloc: Global, events: &[(Event<'_>, Span)]) -> Result<Vec<u8>> {
+    let mut out = Vec::new(alloc);
     for (event, span) in events {
         push_line(&mut out, event, span)
             .ok()
@@ -76,9 +76,10 @@ fn answer(alloc: Global, seed: u32, size: u32) -> Result<String> {
         "not alike"
     };
     let mut out = lines(alloc, flow.as_slice())?;
-    out.push_str(lines(alloc, block.as_slice())?.as_str())?;
-    out.push_str(alike)?;
-    Ok(out)
+    out.extend_from_slice(&lines(alloc, block.as_slice())?)?;
+    out.extend_from_slice(alike.as_bytes())?;
+    let text = str::from_utf8(&out).ok().context("lines are text")?;
+    Ok(String::from_str(alloc, text)?)
 }
 
 fn main(rt: HostRuntime) -> Result<()> {

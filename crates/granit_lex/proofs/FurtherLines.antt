@@ -9,7 +9,7 @@ use Rattle.std.proofs.lemmas.Bool.Decides.{nat_tests}
 use Rattle.std.proofs.lemmas.List.{append-nil}
 use Rattle.granit_base.specs.Classes.{is_break}
 use Rattle.granit_base.specs.Place.{Mark, Place, first, ends_line}
-use Rattle.granit_base.specs.Written.{Written}
+use Rattle.granit_base.specs.Written.{Written, lent}
 use Rattle.granit_lexemes.specs.Basics.{past_break, unprintable, only_printable, owned, lent_if}
 use Rattle.granit_lexemes.specs.Here.{Here, next_char, mark_of, step}
 use Rattle.granit_lexemes.specs.LayoutData.{LayoutData}
@@ -22,7 +22,7 @@ use Rattle.granit_lexemes.proofs.HereLemmas.{step_lends, step_text}
 use Rattle.granit_scalars.proofs.PlainTurns.{Turned, past_a_blank, past_a_break, at_a_comment, at_a_tab, at_a_line}
 use Rattle.granit_scalars.proofs.PlainTurns.{past_content, at_no_content, turned}
 use Rattle.granit_scalars.proofs.Stepping.{seen, second_of, is_break_nul}
-use Rattle.granit_lex.specs.LineCode.{LinePassed, line_state, broken_state, lent, text_of_lines, line_scalar}
+use Rattle.granit_lex.specs.LineCode.{LinePassed, line_state, broken_state, text_of_lines, line_scalar}
 use Rattle.granit_lex.specs.PlainCode.{plain_rest, plain_whole, nothing_taken, cuts_at, ended_plain, ended_by}
 use Rattle.granit_lex.specs.PlainCode.{copied_plain}
 use Rattle.granit_lex.specs.Taken.{PlainTaken}

@@ -21,7 +21,7 @@ use Rattle.granit_lexemes.specs.Moves.{steps}
 use Rattle.granit_lexemes.specs.Pieces.{with_front}
 use Rattle.granit_lexemes.specs.Outcome.{Fault}
 use Rattle.granit_lexemes.specs.PlainScalar.{PlainState, between, meets_comment, on_blank, on_break, on_content}
-use Rattle.granit_lexemes.specs.PlainScalar.{plain_len, plain_turn}
+use Rattle.granit_lexemes.specs.PlainScalar.{plain_len, plain_turn, plain_start}
 use Rattle.granit_lexemes.proofs.HereLemmas.{step_text}
 use Rattle.granit_lexemes.proofs.PieceLemmas.{with_front-nil, with_front-with_front, pieces_more, pieces_done}
 use Rattle.granit_scalars.proofs.Comments.{none_dropped, steps_text}
@@ -29,7 +29,7 @@ use Rattle.granit_scalars.proofs.PlainTurns.{plain_shortens}
 use Rattle.granit_cursor.proofs.MoveLemmas.{Along, moved, blank_line, run_along, run_begins}
 use Rattle.granit_cursor.proofs.WordLemmas.{first_of, joined_line, plain_joins, whole_rest, word_next}
 use Rattle.granit_lex.specs.LineCode.{LinePassed, PassesWord, line_state, broken_state, continues}
-use Rattle.granit_lex.specs.PlainCode.{ahead_of, inside, plain_rest, plain_state, plain_whole}
+use Rattle.granit_lex.specs.PlainCode.{ahead_of, plain_rest, plain_state, plain_whole}
 use Rattle.granit_lex.specs.Taken.{PlainTaken}
 use Rattle.granit_lex.specs.declared.plain.Ahead.TheVariants.{Content}
 use Rattle.granit_lex.proofs.PlainLemmas.{apart, none_taken, take_suc, turn_is}
@@ -192,25 +192,25 @@ module _ (at : LayoutData) (start : Mark) where
   content_turn : (end : Mark) (pending : List ℕ) (h : Here) → is_content at.in_flow h.unread.text ≡ true
       → meets_comment (line_state end pending h) ≡ false
       → plain_rest at start (line_state end pending h)
-      ≡ with_front (pending ++ next_char h ∷ []) (plain_rest at start (inside (step h)))
+      ≡ with_front (pending ++ next_char h ∷ []) (plain_rest at start (plain_start (step h)))
   unfolding plain_turn on_content
   content_turn end pending h y n =
       let a = apart at.in_flow h.unread.text y in
       pieces_more plain_len (plain_turn at start) (plain_shortens at start) (line_state end pending h)
-      (inside (step h)) (pending ++ next_char h ∷ []) (rw (a.0, a.1, n, y) refl)
+      (plain_start (step h)) (pending ++ next_char h ∷ []) (rw (a.0, a.1, n, y) refl)
 
-  pub line_begins : (h : Here) → plain_rest at start (inside h)
-      ≡ with_front (take 0 h.unread.text) (plain_rest at start (inside h))
+  pub line_begins : (h : Here) → plain_rest at start (plain_start h)
+      ≡ with_front (take 0 h.unread.text) (plain_rest at start (plain_start h))
   line_begins h =
-      sym (with_front-nil (plain_rest at start (inside h)))
-      ∙ ap (λ (t : List ℕ). with_front t (plain_rest at start (inside h))) (sym (none_taken h.unread.text))
+      sym (with_front-nil (plain_rest at start (plain_start h)))
+      ∙ ap (λ (t : List ℕ). with_front t (plain_rest at start (plain_start h))) (sym (none_taken h.unread.text))
 
   -- words behind blanks, or where nothing was read since the last content
   words_stretch : (n : ℕ) (end : Mark) (pending : List ℕ) (h : Here)
       → (n ≡ 0 → (pending ≡ []) × (end ≡ mark_of h))
       → n ≡ run_length (is_plain_word at.in_flow) h.unread.text → meets_comment (line_state end pending h) ≡ false
       → plain_rest at start (line_state end pending h)
-      ≡ with_front (pending ++ take n h.unread.text) (plain_rest at start (inside (steps n h)))
+      ≡ with_front (pending ++ take n h.unread.text) (plain_rest at start (plain_start (steps n h)))
   unfolding steps
   words_stretch zero end pending h none whole met =
       let e = none refl in
@@ -223,7 +223,7 @@ module _ (at : LayoutData) (start : Mark) where
       let taken : next_char h ∷ take n (step h).unread.text ≡ take (suc n) h.unread.text =
       ap (λ (t : List ℕ). next_char h ∷ take n t) (step_text h) ∙ take_suc n h.unread.text b.some in
       let front = pending ++ next_char h ∷ [] in
-      let there = plain_rest at start (inside (steps n (step h))) in
+      let there = plain_rest at start (plain_start (steps n (step h))) in
       let joined : front ++ take n (step h).unread.text ≡ pending ++ take (suc n) h.unread.text =
       append_assoc pending (next_char h ∷ []) (take n (step h).unread.text)
       ∙ ap (λ (t : List ℕ). pending ++ t) taken in
@@ -245,7 +245,8 @@ module _ (at : LayoutData) (start : Mark) where
       ]
 
   words_run : (n : ℕ) (g : Here) → n ≡ run_length (is_plain_word at.in_flow) g.unread.text
-      → plain_rest at start (inside g) ≡ with_front (take n g.unread.text) (plain_rest at start (inside (steps n g)))
+      → plain_rest at start (plain_start g)
+      ≡ with_front (take n g.unread.text) (plain_rest at start (plain_start (steps n g)))
   words_run n g whole =
       words_stretch n (mark_of g) [] g (λ _. (refl, refl)) whole (and-false (next_char g == 0x23))
 
@@ -253,7 +254,7 @@ module _ (at : LayoutData) (start : Mark) where
   pub words_go : (p q : PlainTaken) (h : Here) (n : ℕ)
       → ahead_of at (plain_state p h) ≡ Content → n ≡ run_length (is_plain_word at.in_flow) (step h).unread.text
       → q.value ≡ ((p.value ++ between (plain_state p h)) ++ next_char h ∷ []) ++ take n (step h).unread.text
-      → plain_state q (steps n (step h)) ≡ inside (steps n (step h))
+      → plain_state q (steps n (step h)) ≡ plain_start (steps n (step h))
       → plain_whole at start q (steps n (step h)) ≡ plain_whole at start p h
   unfolding on_content
   words_go p q h n is count value state =
@@ -261,8 +262,8 @@ module _ (at : LayoutData) (start : Mark) where
       let v = p.value in
       let front = between s ++ next_char h ∷ [] in
       let run = take n (step h).unread.text in
-      let rest = plain_rest at start (inside (steps n (step h))) in
-      let more = pieces_more plain_len (plain_turn at start) (plain_shortens at start) s (inside (step h)) front
+      let rest = plain_rest at start (plain_start (steps n (step h))) in
+      let more = pieces_more plain_len (plain_turn at start) (plain_shortens at start) s (plain_start (step h)) front
       (turn_is at start s Content is) in
       let whole : plain_whole at start p h ≡ with_front ((v ++ front) ++ run) rest =
       ap (with_front v) (more ∙ ap (with_front front) (words_run n (step h) count))
@@ -284,16 +285,16 @@ module _ (at : LayoutData) (start : Mark) where
 
   -- on over blanks and the content behind them, so many characters behind a scalar's start
   pub word_goes : (h g : Here) (m k n : ℕ) (blank : Bool)
-      → plain_rest at start (inside h) ≡ with_front (take m h.unread.text) (plain_rest at start (inside g))
+      → plain_rest at start (plain_start h) ≡ with_front (take m h.unread.text) (plain_rest at start (plain_start g))
       → Along m h g → k ≤ run_length (starts is_blank) g.unread.text → blank ≡ not (k == 0) → 0 < n
       → n ≡ run_length (is_plain_word at.in_flow) (steps k g).unread.text
       → (next_char (steps k g) == 0x23 && blank) ≡ false
-      → plain_rest at start (inside h) ≡ with_front (take (m + (k + n)) h.unread.text)
-      (plain_rest at start (inside (steps n (steps k g))))
+      → plain_rest at start (plain_start h) ≡ with_front (take (m + (k + n)) h.unread.text)
+      (plain_rest at start (plain_start (steps n (steps k g))))
   word_goes h g m k n blank so_far along blanks is some fits none =
       let b = steps k g in
-      let rest = plain_rest at start (inside (steps n b)) in
-      let word : plain_rest at start (inside g) ≡ with_front (take (k + n) g.unread.text) rest =
+      let rest = plain_rest at start (plain_start (steps n b)) in
+      let word : plain_rest at start (plain_start g) ≡ with_front (take (k + n) g.unread.text) rest =
       blank_run k (mark_of g) [] g blanks
       ∙ words_stretch n (mark_of g) (take k g.unread.text) b (λ z. absurd (omega (arith, z, some))) fits
       (meets_as (mark_of g) k g b blank blanks is ∙ none)
@@ -331,7 +332,7 @@ module _ (at : LayoutData) (start : Mark) where
 
   -- no content goes on behind the blanks, so many characters behind a scalar's start
   pub line_over : (h g : Here) (m k : ℕ) (blank : Bool)
-      → plain_rest at start (inside h) ≡ with_front (take m h.unread.text) (plain_rest at start (inside g))
+      → plain_rest at start (plain_start h) ≡ with_front (take m h.unread.text) (plain_rest at start (plain_start g))
       → Along m h g → k ≡ run_length (starts is_blank) g.unread.text → blank ≡ not (k == 0)
       → continues at.in_flow blank (steps k g) ≡ false
       → LinePassed at start h (take m h.unread.text) (mark_of g) blank (steps k g)
@@ -344,7 +345,7 @@ module _ (at : LayoutData) (start : Mark) where
       let all : length pending ≡ k = length-take-le k g.unread.text (omega (arith, fits, within)) in
       let solid : is_blank (next_char b) ≡ false = ap (λ (t : List ℕ). is_blank (first t)) (steps_text k g)
       ∙ run_over (starts is_blank) k g.unread.text no_blank_at_end whole in
-      let read : plain_rest at start (inside h)
+      let read : plain_rest at start (plain_start h)
       ≡ with_front front (plain_rest at start (line_state (mark_of g) pending b)) =
       so_far ∙ ap (with_front front) (blank_run k (mark_of g) [] g fits) in
       let here = run_along (starts is_blank) k g blank_line fits in

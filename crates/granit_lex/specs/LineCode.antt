@@ -6,7 +6,7 @@ use Rattle.std.specs.Str.{chars}
 use Rattle.granit_base.specs.Classes.{is_blank, is_break}
 use Rattle.granit_base.specs.Place.{Mark}
 use Rattle.granit_base.specs.PlainContent.{is_content}
-use Rattle.granit_base.specs.Written.{Written}
+use Rattle.granit_base.specs.Written.{Written, lent}
 use Rattle.granit_input.specs.Runs.{is_plain_word, run_length, starts}
 use Rattle.granit_lexemes.specs.Basics.{owned, past_break}
 use Rattle.granit_lexemes.specs.Here.{Here, next_char}
@@ -64,10 +64,6 @@ abbrev pub PassesLine : {E : Type 0} → LayoutData → Mark → Here → Result
 PassesLine at start h (Ok line) Lands =
     (now : Here) × Lands now × LinePassed at start h (chars line.front.now) line.end line.blank now
 PassesLine at start h (Err e) Lands = ⊥
-
--- a text that is lent
-abbrev pub lent : List ℕ → Written
-lent text = record { characters = text; is_borrowed = true }
 
 -- the text of a scalar by its first line and what is read behind it: the line itself where it stands on one
 abbrev pub text_of_lines : (start end : Mark) → (front further : List ℕ) → Written

@@ -1,5 +1,5 @@
 -- How the code reads a plain scalar: a stretch of content a turn.
-use Rattle.std.specs.Prelude.{◌≡◌, ℕ, ◌<◌, ◌≤◌, ◌==◌, Bool, true, false, ◌&&◌, ◌||◌, not, if◌then◌else◌, List, []}
+use Rattle.std.specs.Prelude.{◌≡◌, ℕ, ◌==◌, Bool, true, false, ◌&&◌, ◌||◌, not, if◌then◌else◌, List, []}
 use Rattle.std.specs.Prelude.{◌∷◌, ◌++◌, length, Option, Some, None, Result, Ok, Err}
 use Rattle.granit_base.specs.Classes.{is_blank, is_break, is_z, is_printable}
 use Rattle.granit_base.specs.Place.{Mark}
@@ -41,10 +41,6 @@ plain_state p h = record {
   left_tab = p.left_tab;
 }
 
--- directly behind a character of content
-abbrev pub inside : Here → PlainState
-inside h = record { here = h; end = mark_of h; pending = []; on_new_line = false; left_tab = false }
-
 -- what is read from a state on
 abbrev pub plain_rest : LayoutData → Mark → PlainState → Result (List ℕ × PlainState) Fault
 plain_rest at start s = pieces plain_len (plain_turn at start) s
@@ -77,12 +73,6 @@ abbrev pub TakesSome : Ahead → Type 0 → Type 0
 TakesSome Tab some = Unit {0}
 TakesSome End some = Unit {0}
 TakesSome _ some = some
-
--- a turn that goes on took a character
-abbrev pub TurnTakes : {E : Type 0} → Result Bool E → ℕ → ℕ → Type 0
-TurnTakes (Ok true) old new = new < old
-TurnTakes (Ok false) old new = new ≤ old
-TurnTakes (Err e) old new = new ≤ old
 
 -- a turn goes on with the same whole, or that is all of it
 abbrev pub TurnsTo : LayoutData → Mark → Result Bool Refused → (Here → Type 0) → PlainTaken

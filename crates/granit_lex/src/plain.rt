@@ -7,17 +7,20 @@ ghost use Rattle.granit_error.specs.FaultKind.{NoMemory as OutOfMemory, PlainSca
 ghost use Rattle.granit_error.specs.FaultKind.{TabInPlainScalar, UnexpectedCharacter};
 ghost use Rattle.granit_input.specs.Runs.{is_plain_word, run_length};
 ghost use Rattle.granit_base.specs.PlainContent.{is_content};
+ghost use Rattle.granit_base.specs.Written.{lent};
 ghost use Rattle.granit_lexemes.specs.Here.{Here, next_char, mark_of, step};
 ghost use Rattle.granit_lexemes.specs.Basics as basics;
 ghost use Rattle.granit_lexemes.specs.Moves.{steps};
 ghost use Rattle.granit_lexemes.specs.PlainExtent as extent;
 ghost use Rattle.granit_lexemes.specs.PlainScalar as spec;
+ghost use Rattle.granit_lexemes.specs.PlainScalar.{plain_start};
 ghost use Rattle.granit_cursor.specs.Reading.{Stands, Moves, Wherever, ReadsAs, AnswersAs, RefusedFor, GivesTo, coded};
+ghost use Rattle.granit_cursor.specs.Reading.{TurnTakes};
 ghost use Rattle.granit_cursor.specs.Tokens.{layout_data};
 ghost use Rattle.granit_lex.specs.declared.plain.Ahead.TheVariants.{Tab};
-ghost use Rattle.granit_lex.specs.LineCode.{lent, line_scalar};
-ghost use Rattle.granit_lex.specs.PlainCode.{plain_lexed, plain_state, inside, plain_whole, ahead_of, nothing_taken};
-ghost use Rattle.granit_lex.specs.PlainCode.{TakesSome, TurnTakes, TurnsTo, PartsTo, IsPlainKind};
+ghost use Rattle.granit_lex.specs.LineCode.{line_scalar};
+ghost use Rattle.granit_lex.specs.PlainCode.{plain_lexed, plain_state, plain_whole, ahead_of, nothing_taken};
+ghost use Rattle.granit_lex.specs.PlainCode.{TakesSome, TurnsTo, PartsTo, IsPlainKind};
 ghost use Rattle.granit_lex.specs.PlainCode.{cuts_at, ended_plain, copied_plain};
 
 use crate::line::{Line, pass_line};
@@ -222,7 +225,7 @@ fn take_content<T: Input>(
         × (n ≡ run_length (is_plain_word in_flow) (step h).unread.text) × Lands (steps n (step h))
         × (parts.new.value ≡ ((parts.old.value ++ spec.between (plain_state parts.old h))
         ++ next_char h ∷ []) ++ take n (step h).unread.text)
-        × (plain_state parts.new (steps n (step h)) ≡ inside (steps n (step h))))) }
+        × (plain_state parts.new (steps n (step h)) ≡ plain_start (steps n (step h))))) }
     ensures left { OnOk result (T.left cursor.new.input ≤ T.left cursor.old.input - 1) }
     ensures moves { Moves T.unread T.left T.origin cursor.old cursor.new }
 {

@@ -2,7 +2,7 @@
 use Rattle.std.specs.List.{list_all}
 use Rattle.std.specs.Prelude.{ℕ, zero, suc, ◌-◌, Bool, true, false, ◌==◌, ◌&&◌, ◌||◌, not, nat_lt, if◌then◌else◌, List}
 use Rattle.std.specs.Prelude.{[], ◌∷◌, ◌++◌, length, Option, Some, None, is_none, is_some, Result, Ok}
-use Rattle.granit_base.specs.Classes.{is_within, is_blank, is_break, is_breakz}
+use Rattle.granit_base.specs.Classes.{is_within, is_blank, is_break, is_non_breakz}
 use Rattle.granit_base.specs.Place.{Mark}
 use Rattle.granit_base.specs.Written.{Written}
 use Rattle.granit_base.specs.declared.style.ScalarStyle.TheVariants.{Literal, Folded}
@@ -55,10 +55,6 @@ between_lines literal (Some before) blank empty =
     if not literal && not (before || blank) then (if length empty == 0 then 0x20 ∷ [] else empty)
     else 0x0A ∷ empty
 
--- a character of a line of content
-abbrev pub is_block_char : ℕ → Bool
-is_block_char c = not (is_breakz c)
-
 -- a line of content that goes up to a place, and the empty lines behind it
 unfoldable pub line_up_to : Bool → ℕ → BlockState → Here → Result (Option (List ℕ) × BlockState) Fault
 line_up_to literal column s after =
@@ -73,7 +69,7 @@ block_turn literal column s =
     if text_len s.here == 0 || not (s.here.place.column == column) then Ok (None, s)
     else refuse_unprintable s.here (
     if column == 0 && is_document_mark s.here.unread.text then Ok (None, s)
-    else line_up_to literal column s (mid_line (past is_block_char s.here)))
+    else line_up_to literal column s (mid_line (past is_non_breakz s.here)))
 
 abbrev pub block_len : BlockState → ℕ
 block_len s = text_len s.here
@@ -172,3 +168,8 @@ unfoldable pub block_scalar : (literal : Bool) → (block : Option ℕ) → Here
 block_scalar literal block h =
     block_header h >>= λ x. tail_at x.1 >>= λ y. block_body literal x.0 block (mark_of h) y.1 >>= λ z.
     Ok (record { read = z.0; noted = y.0 }, z.1)
+
+-- the indicator of its style: `|` or `>`
+abbrev pub block_indicator : Bool → ℕ
+block_indicator true = 0x7C
+block_indicator false = 0x3E

@@ -1,11 +1,11 @@
 -- Directives, word by word (YAML 1.2.2, 6.8).
-use Rattle.std.specs.Prelude.{ℕ, ◌+◌, ◌-◌, ◌*◌, Bool, true, false, ◌==◌, ◌&&◌, ◌||◌, not, nat_lt, nat_le, nat_eq}
+use Rattle.std.specs.Prelude.{ℕ, ◌+◌, ◌-◌, ◌*◌, Bool, true, false, ◌==◌, ◌&&◌, ◌||◌, not, nat_lt, nat_le}
 use Rattle.std.specs.Prelude.{if◌then◌else◌, List, [], ◌∷◌, length, codes, Option, Some, None, Result, Ok}
 use Rattle.std.specs.Str.{encode_utf8_all}
-use lib.Pointwise.{pointwise}
 use Rattle.granit_base.specs.Classes.{is_blank, is_breakz, is_blank_or_breakz, is_digit, is_alpha, is_uri_char}
 use Rattle.granit_base.specs.Classes.{is_tag_char, is_yaml_non_space}
 use Rattle.granit_base.specs.Place.{Mark}
+use Rattle.granit_base.specs.Written.{same_text}
 use Rattle.granit_error.specs.FaultKind.{DirectiveDisallowed, InvalidDirectiveTerminator, MissingDirectiveName}
 use Rattle.granit_error.specs.FaultKind.{InvalidDirectiveName, TooManyReservedDirectiveParams, MissingYamlVersion}
 use Rattle.granit_error.specs.FaultKind.{MissingYamlVersionSeparator, YamlVersionTooLong, ExpectedTagBang}
@@ -130,13 +130,10 @@ reserved_directive o budget start name h =
 
 -- ---- any directive
 
-abbrev pub is_name : List ℕ → List ℕ → Bool
-is_name a b = pointwise nat_eq a b
-
 unfoldable pub directive_of : OptionsData → Option Budget → Mark → List ℕ → Here → Result (DirectiveKind × Here) Fault
 directive_of o budget start name h =
-    if is_name name (codes "YAML") then version_directive start h
-    else if is_name name (codes "TAG") then tag_directive budget start h
+    if same_text name (codes "YAML") then version_directive start h
+    else if same_text name (codes "TAG") then tag_directive budget start h
     else reserved_directive o budget start name h
 
 -- a name that goes up to a place

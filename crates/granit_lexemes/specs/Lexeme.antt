@@ -1,5 +1,5 @@
 -- The lexemes of the whole language, and what a reader gives: lexemes and comments.
-use Rattle.std.specs.Prelude.{ℕ, Bool, List, Option}
+use Rattle.std.specs.Prelude.{ℕ, Bool, true, false, List, Option}
 use Rattle.granit_base.specs.Place.{Mark}
 use Rattle.granit_base.specs.Written.{Written}
 use Rattle.granit_base.specs.declared.style.ScalarStyle.{ScalarStyle}
@@ -38,6 +38,19 @@ pub data LexemeKind : Type 0 where
   Alias Anchor : (name : Written) → LexemeKind
   Tag : (handle suffix : List ℕ) → LexemeKind
   Scalar : (style : ScalarStyle) (text : Written) → LexemeKind
+
+abbrev pub is_directive : LexemeKind → Bool
+is_directive (Directive d) = true
+is_directive kind = false
+
+-- the `-` of an entry of a block sequence
+abbrev pub is_entry_dash : LexemeKind → Bool
+is_entry_dash Dash = true
+is_entry_dash kind = false
+
+abbrev pub is_opener_kind : LexemeKind → Bool
+is_opener_kind (Open bracket) = true
+is_opener_kind kind = false
 
 -- where the simple key of a `:` begins, and the number of its first lexeme
 pub record KeyStart : Type 0 where

@@ -2,11 +2,10 @@
 -- 8.1.1.1 and 8.1.2).
 use Rattle.std.specs.Prelude.{◌≡◌, ℕ, zero, suc, ◌+◌, max, Bool, true, false, ◌==◌, ◌&&◌, ◌||◌, not, List, [], ◌∷◌}
 use Rattle.std.specs.Prelude.{Option, Some, None}
-use Rattle.granit_base.specs.Classes.{is_break, is_printable}
+use Rattle.granit_base.specs.Classes.{is_break, is_printable, is_non_breakz}
 use Rattle.granit_lexemes.specs.Basics.{is_document_mark}
 use Rattle.granit_lexemes.specs.BlockHeader.{margin_of, outer_of, greatest}
 use Rattle.granit_lexemes.specs.BlockMoves.{Crosses, Breaks, AllSpaces, Spaces}
-use Rattle.granit_lexemes.specs.BlockScalar.{is_block_char}
 use Rattle.granit_lexemes.specs.Gap.{Each}
 use Rattle.granit_lexemes.specs.Here.{Here, text_len, next_char, mid_line}
 
@@ -41,9 +40,9 @@ pub record BlockLine : Type 0 where
 -- Content at the content's column, which is no document mark in column 0, goes up to a break, a NUL or the end.
 pub record IsLine (column : ℕ) (h : Here) (cs : List ℕ) (after : Here) : Type 0 where
   pub spans : Crosses h cs after
-  pub each : Each is_block_char cs
-  pub ends : is_block_char (next_char after) ≡ false
-  pub begins : is_block_char (next_char h) ≡ true
+  pub each : Each is_non_breakz cs
+  pub ends : is_non_breakz (next_char after) ≡ false
+  pub begins : is_non_breakz (next_char h) ≡ true
   pub printable : is_printable (next_char h) ≡ true
   pub is_at : h.place.column ≡ column
   pub no_mark : (column == 0 && is_document_mark h.unread.text) ≡ false

@@ -1,5 +1,5 @@
 -- Events as plain data: texts by their characters, spans with plain marks.
-use Rattle.std.specs.Prelude.{ℕ, ◌^◌, Bool, nat_lt, if◌then◌else◌, List, Option, None}
+use Rattle.std.specs.Prelude.{ℕ, ◌^◌, Bool, true, false, nat_lt, if◌then◌else◌, List, Option, None}
 use Rattle.granit_base.specs.Place.{Mark}
 use Rattle.granit_base.specs.Written.{Written}
 use Rattle.granit_base.specs.declared.place.Span.{Span}
@@ -53,3 +53,8 @@ event_on kind mark = record { kind = kind; span = plain_span mark mark }
 -- how many characters a span says that a tag has: 0 where 32 bits are too few
 abbrev pub told_length : ℕ → ℕ
 told_length n = if nat_lt n (2 ^ 32) then n else 0
+
+-- a comment
+abbrev pub is_note : EventKind → Bool
+is_note (Comment text placement) = true
+is_note kind = false

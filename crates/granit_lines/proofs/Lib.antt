@@ -1,3 +1,4 @@
+pub mod HexLemmas
 pub mod PlaceLemmas
 pub mod PushLemmas
 pub mod QuotingLemmas

@@ -5,4 +5,4 @@ mod places;
 mod printing;
 mod quoting;
 
-pub use printing::{push_line, push_number};
+pub use printing::push_line;

@@ -1,5 +1,5 @@
 //! Printed parts of lines, at the end of a buffer.
-ghost use Rattle.std.specs.Prelude.{◌≡◌, ◌++◌, string_bytes, OnOk};
+ghost use Rattle.std.specs.Prelude.{◌≡◌, ◌++◌, codes, OnOk};
 ghost use Rattle.std.specs.Fmt.{decimal};
 ghost use Rattle.std.specs.Option.{option_map};
 ghost use Rattle.std.specs.Str.{chars};
@@ -13,33 +13,49 @@ use granit_base::{NoMemory, Placement, ScalarStyle, Span, StructureStyle, Text};
 use granit_event::{Event, Tag, YamlVersion};
 use itoa::Buffer;
 
-/// A number in decimal digits.
-pub fn push_number(out: &mut String, n: usize) -> Result<(), NoMemory>
-    ensures { OnOk result (string_bytes out.new ≡ string_bytes out.old ++ decimal n) }
+fn push_word(out: &mut Vec<u8>, word: &str) -> Result<(), NoMemory>
+    ensures { OnOk result (out.new.items ≡ out.old.items ++ word.now) }
 {
-    let mut digits = Buffer::new();
-    out.push_str(digits.format(n))?;
+    out.extend_from_slice(word.as_bytes())?;
     Ok(())
 }
 
-fn style_word(style: ScalarStyle) -> &'static str
-    ensures { result.now ≡ line.style_word style }
+/// A number in decimal digits.
+fn push_number(out: &mut Vec<u8>, n: usize) -> Result<(), NoMemory>
+    ensures { OnOk result (out.new.items ≡ out.old.items ++ decimal n) }
+{
+    let mut digits = Buffer::new();
+    push_word(out, digits.format(n))
+}
+
+/// What stands in front of a scalar's text.
+fn scalar_words(style: ScalarStyle) -> &'static str
+    ensures { result.now ≡ (codes "Scalar " ++ line.style_word style) ++ codes " " }
 {
     match style {
-        ScalarStyle::Plain => "plain",
-        ScalarStyle::SingleQuoted => "single",
-        ScalarStyle::DoubleQuoted => "double",
-        ScalarStyle::Literal => "literal",
-        ScalarStyle::Folded => "folded",
+        ScalarStyle::Plain => "Scalar plain ",
+        ScalarStyle::SingleQuoted => "Scalar single ",
+        ScalarStyle::DoubleQuoted => "Scalar double ",
+        ScalarStyle::Literal => "Scalar literal ",
+        ScalarStyle::Folded => "Scalar folded ",
     }
 }
 
-fn structure_word(style: StructureStyle) -> &'static str
-    ensures { result.now ≡ line.structure_word style }
+fn sequence_words(style: StructureStyle) -> &'static str
+    ensures { result.now ≡ codes "SequenceStart " ++ line.structure_word style }
 {
     match style {
-        StructureStyle::Block => "block",
-        StructureStyle::Flow => "flow",
+        StructureStyle::Block => "SequenceStart block",
+        StructureStyle::Flow => "SequenceStart flow",
+    }
+}
+
+fn mapping_words(style: StructureStyle) -> &'static str
+    ensures { result.now ≡ codes "MappingStart " ++ line.structure_word style }
+{
+    match style {
+        StructureStyle::Block => "MappingStart block",
+        StructureStyle::Flow => "MappingStart flow",
     }
 }
 
@@ -61,144 +77,132 @@ fn placement_word(placement: Placement) -> &'static str
 }
 
 /// The version that a directive names, where there is one.
-fn push_version(out: &mut String, version: &Option<YamlVersion>) -> Result<(), NoMemory>
-    ensures { OnOk result (string_bytes out.new
-        ≡ string_bytes out.old ++ line.version_words (option_map plain_version version.now)) }
+fn push_version(out: &mut Vec<u8>, version: &Option<YamlVersion>) -> Result<(), NoMemory>
+    ensures { OnOk result (out.new.items
+        ≡ out.old.items ++ line.version_words (option_map plain_version version.now)) }
 {
     if let Some(version) = version {
-        out.push_str(" ")?;
+        push_word(out, " ")?;
         push_number(out, version.major as usize)?;
-        out.push_str(".")?;
+        push_word(out, ".")?;
         push_number(out, version.minor as usize)?;
     }
     Ok(())
 }
 
 /// The number of a node's anchor, where it has one.
-fn push_anchor(out: &mut String, anchor: usize) -> Result<(), NoMemory>
-    ensures { OnOk result (string_bytes out.new ≡ string_bytes out.old ++ line.anchor_words anchor) }
+fn push_anchor(out: &mut Vec<u8>, anchor: usize) -> Result<(), NoMemory>
+    ensures { OnOk result (out.new.items ≡ out.old.items ++ line.anchor_words anchor) }
 {
     if anchor != 0 {
-        out.push_str(" &")?;
+        push_word(out, " &")?;
         push_number(out, anchor)?;
     }
     Ok(())
 }
 
 /// A node's tag, where it has one.
-fn push_tag(out: &mut String, tag: &Option<Tag>) -> Result<(), NoMemory>
-    ensures { OnOk result (string_bytes out.new ≡ string_bytes out.old ++ line.tag_words tag.now) }
+fn push_tag(out: &mut Vec<u8>, tag: &Option<Tag>) -> Result<(), NoMemory>
+    ensures { OnOk result (out.new.items ≡ out.old.items ++ line.tag_words tag.now) }
 {
     if let Some(tag) = tag {
-        out.push_str(" !")?;
+        push_word(out, " !")?;
         push_in_quotes(out, tag.handle())?;
-        out.push_str(" ")?;
+        push_word(out, " ")?;
         push_in_quotes(out, tag.suffix())?;
     }
     Ok(())
 }
 
 /// The anchor and the tag of a node, where it has them.
-fn push_properties(out: &mut String, anchor: usize, tag: &Option<Tag>) -> Result<(), NoMemory>
-    ensures { OnOk result (string_bytes out.new ≡ string_bytes out.old ++ line.property_words anchor tag.now) }
+fn push_properties(out: &mut Vec<u8>, anchor: usize, tag: &Option<Tag>) -> Result<(), NoMemory>
+    ensures { OnOk result (out.new.items ≡ out.old.items ++ line.property_words anchor tag.now) }
 {
     push_anchor(out, anchor)?;
     push_tag(out, tag)
 }
 
 fn push_scalar(
-    out: &mut String,
+    out: &mut Vec<u8>,
     text: &Text,
     style: ScalarStyle,
     anchor: usize,
     tag: &Option<Tag>,
 ) -> Result<(), NoMemory>
-    ensures { OnOk result (string_bytes out.new
-        ≡ string_bytes out.old ++ line.event_words (plain.Scalar text.now style anchor tag.now)) }
+    ensures { OnOk result (out.new.items
+        ≡ out.old.items ++ line.event_words (plain.Scalar text.now style anchor tag.now)) }
 {
-    out.push_str("Scalar ")?;
-    out.push_str(style_word(style))?;
-    out.push_str(" ")?;
+    push_word(out, scalar_words(style))?;
     push_in_quotes(out, text.as_str())?;
     push_properties(out, anchor, tag)
 }
 
 /// The start of a collection.
 fn push_start(
-    out: &mut String,
-    word: &str,
-    style: StructureStyle,
+    out: &mut Vec<u8>,
+    words: &str,
     anchor: usize,
     tag: &Option<Tag>,
 ) -> Result<(), NoMemory>
-    ensures { OnOk result (string_bytes out.new
-        ≡ string_bytes out.old ++ ((word.now ++ line.structure_word style) ++ line.property_words anchor tag.now)) }
+    ensures { OnOk result (out.new.items ≡ out.old.items ++ (words.now ++ line.property_words anchor tag.now)) }
 {
-    out.push_str(word)?;
-    out.push_str(structure_word(style))?;
+    push_word(out, words)?;
     push_properties(out, anchor, tag)
 }
 
 fn push_document_start(
-    out: &mut String,
+    out: &mut Vec<u8>,
     explicit: bool,
     version: &Option<YamlVersion>,
 ) -> Result<(), NoMemory>
-    ensures { OnOk result (string_bytes out.new
-        ≡ string_bytes out.old ++ line.event_words
+    ensures { OnOk result (out.new.items
+        ≡ out.old.items ++ line.event_words
         (plain.DocumentStart explicit (option_map plain_version version.now))) }
 {
-    out.push_str("DocumentStart ")?;
-    out.push_str(explicit_word(explicit))?;
+    push_word(out, "DocumentStart ")?;
+    push_word(out, explicit_word(explicit))?;
     push_version(out, version)
 }
 
-fn push_alias(out: &mut String, anchor: usize) -> Result<(), NoMemory>
-    ensures { OnOk result (string_bytes out.new ≡ string_bytes out.old ++ line.event_words (plain.Alias anchor)) }
+fn push_alias(out: &mut Vec<u8>, anchor: usize) -> Result<(), NoMemory>
+    ensures { OnOk result (out.new.items ≡ out.old.items ++ line.event_words (plain.Alias anchor)) }
 {
-    out.push_str("Alias ")?;
+    push_word(out, "Alias ")?;
     push_number(out, anchor)
 }
 
 /// An anchor that is told beside its node.
-fn push_named(out: &mut String, anchor: usize, name: &Text) -> Result<(), NoMemory>
-    ensures { OnOk result (string_bytes out.new
-        ≡ string_bytes out.old ++ line.event_words (plain.Anchor anchor name.now)) }
+fn push_named(out: &mut Vec<u8>, anchor: usize, name: &Text) -> Result<(), NoMemory>
+    ensures { OnOk result (out.new.items
+        ≡ out.old.items ++ line.event_words (plain.Anchor anchor name.now)) }
 {
-    out.push_str("Anchor ")?;
+    push_word(out, "Anchor ")?;
     push_number(out, anchor)?;
-    out.push_str(" ")?;
+    push_word(out, " ")?;
     push_in_quotes(out, name.as_str())
 }
 
-fn push_unresolved(out: &mut String, name: &Text) -> Result<(), NoMemory>
-    ensures { OnOk result (string_bytes out.new
-        ≡ string_bytes out.old ++ line.event_words (plain.UnresolvedAlias name.now)) }
+fn push_unresolved(out: &mut Vec<u8>, name: &Text) -> Result<(), NoMemory>
+    ensures { OnOk result (out.new.items
+        ≡ out.old.items ++ line.event_words (plain.UnresolvedAlias name.now)) }
 {
-    out.push_str("UnresolvedAlias ")?;
+    push_word(out, "UnresolvedAlias ")?;
     push_in_quotes(out, name.as_str())
 }
 
-fn push_comment(out: &mut String, text: &Text, placement: Placement) -> Result<(), NoMemory>
-    ensures { OnOk result (string_bytes out.new
-        ≡ string_bytes out.old ++ line.event_words (plain.Comment text.now placement)) }
+fn push_comment(out: &mut Vec<u8>, text: &Text, placement: Placement) -> Result<(), NoMemory>
+    ensures { OnOk result (out.new.items
+        ≡ out.old.items ++ line.event_words (plain.Comment text.now placement)) }
 {
-    out.push_str("Comment ")?;
-    out.push_str(placement_word(placement))?;
-    out.push_str(" ")?;
+    push_word(out, "Comment ")?;
+    push_word(out, placement_word(placement))?;
+    push_word(out, " ")?;
     push_in_quotes(out, text.as_str())
 }
 
-fn push_word(out: &mut String, word: &str) -> Result<(), NoMemory>
-    ensures { OnOk result (string_bytes out.new ≡ string_bytes out.old ++ word.now) }
-{
-    out.push_str(word)?;
-    Ok(())
-}
-
 /// An event without its span.
-fn push_event(out: &mut String, event: &Event) -> Result<(), NoMemory>
-    ensures { OnOk result (string_bytes out.new ≡ string_bytes out.old ++ line.event_words (event_kind event.now)) }
+fn push_event(out: &mut Vec<u8>, event: &Event) -> Result<(), NoMemory>
+    ensures { OnOk result (out.new.items ≡ out.old.items ++ line.event_words (event_kind event.now)) }
 {
     match event {
         Event::StreamStart => push_word(out, "StreamStart"),
@@ -211,11 +215,11 @@ fn push_event(out: &mut String, event: &Event) -> Result<(), NoMemory>
         Event::Comment(text, placement) => push_comment(out, text, *placement),
         Event::Scalar(text, style, anchor, tag) => push_scalar(out, text, *style, *anchor, tag),
         Event::SequenceStart(style, anchor, tag) => {
-            push_start(out, "SequenceStart ", *style, *anchor, tag)
+            push_start(out, sequence_words(*style), *anchor, tag)
         }
         Event::SequenceEnd => push_word(out, "SequenceEnd"),
         Event::MappingStart(style, anchor, tag) => {
-            push_start(out, "MappingStart ", *style, *anchor, tag)
+            push_start(out, mapping_words(*style), *anchor, tag)
         }
         Event::MappingEnd => push_word(out, "MappingEnd"),
     }
@@ -223,9 +227,9 @@ fn push_event(out: &mut String, event: &Event) -> Result<(), NoMemory>
 
 /// The line of an event.
 #[tactic(auto, unfolding(granit_lexemes::specs::Line::event_line))]
-pub fn push_line(out: &mut String, event: &Event, span: &Span) -> Result<(), NoMemory>
-    ensures { OnOk result (string_bytes out.new
-        ≡ string_bytes out.old ++ line.event_line (plain_event (event.now, span.now))) }
+pub fn push_line(out: &mut Vec<u8>, event: &Event, span: &Span) -> Result<(), NoMemory>
+    ensures { OnOk result (out.new.items
+        ≡ out.old.items ++ line.event_line (plain_event (event.now, span.now))) }
 {
     push_event(out, event)?;
     push_span(out, span)

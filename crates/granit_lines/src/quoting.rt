@@ -1,30 +1,32 @@
 //! Texts between quotes.
-ghost use Rattle.std.specs.Prelude.{◌≡◌, ◌≤◌, ◌++◌, length, take, true, string_bytes, OnOk};
+ghost use Rattle.std.specs.Prelude.{◌≡◌, ◌<◌, ◌≤◌, ◌^◌, ◌++◌, length, take, drop, true, false, OnOk};
+ghost use Rattle.std.specs.Fmt.{digit_glyph, digits_onto, radix_digits};
 ghost use Rattle.std.specs.List.{All};
 ghost use Rattle.std.specs.Str.{chars};
 ghost use Rattle.granit_lexemes.specs.Line as line;
 ghost use Rattle.granit_lines.specs.Pieces.{is_plain};
 
+use crate::places::push_behind;
 use granit_base::{NoMemory, is_at_end, split_first_char};
 
 /// A text in its quotes.
-pub fn push_in_quotes(out: &mut String, text: &str) -> Result<(), NoMemory>
-    ensures { OnOk result (string_bytes out.new ≡ string_bytes out.old ++ line.in_quotes (chars text.now)) }
+pub fn push_in_quotes(out: &mut Vec<u8>, text: &str) -> Result<(), NoMemory>
+    ensures { OnOk result (out.new.items ≡ out.old.items ++ line.in_quotes (chars text.now)) }
 {
-    out.push_str("\"")?;
+    out.push(b'"')?;
     push_quoted(out, text)?;
-    out.push_str("\"")?;
+    out.push(b'"')?;
     Ok(())
 }
 
 /// A text between quotes, without them.
-fn push_quoted(out: &mut String, text: &str) -> Result<(), NoMemory>
-    ensures { OnOk result (string_bytes out.new ≡ string_bytes out.old ++ line.quoted_text (chars text.now)) }
+fn push_quoted(out: &mut Vec<u8>, text: &str) -> Result<(), NoMemory>
+    ensures { OnOk result (out.new.items ≡ out.old.items ++ line.quoted_text (chars text.now)) }
 {
     let mut rest = text;
     'pieces: while !is_at_end(rest) {
         let (plain, behind) = split_plain(rest);
-        out.push_str(plain)?;
+        out.extend_from_slice(plain.as_bytes())?;
         match split_first_char(behind) {
             None => return Ok(()),
             Some((c, after)) => {
@@ -65,22 +67,57 @@ fn is_plain_byte(byte: u8) -> bool
 
 /// A character between quotes.
 #[tactic(auto, unfolding(granit_lexemes::specs::Line::quoted_char))]
-fn push_quoted_char(out: &mut String, c: char) -> Result<(), NoMemory>
-    ensures { OnOk result (string_bytes out.new ≡ string_bytes out.old ++ line.quoted_char c) }
+fn push_quoted_char(out: &mut Vec<u8>, c: char) -> Result<(), NoMemory>
+    ensures { OnOk result (out.new.items ≡ out.old.items ++ line.quoted_char c) }
 {
     match c {
         '"' | '\\' => {
-            out.push('\\')?;
-            out.push(c)?;
+            out.push(b'\\')?;
+            out.push(c as u8)?;
         }
-        ' '..='~' => out.push(c)?,
-        '\n' => out.push_str("\\n")?,
-        '\r' => out.push_str("\\r")?,
-        '\t' => out.push_str("\\t")?,
+        ' '..='~' => out.push(c as u8)?,
+        '\n' => out.extend_from_slice(b"\\n")?,
+        '\r' => out.extend_from_slice(b"\\r")?,
+        '\t' => out.extend_from_slice(b"\\t")?,
         _ => {
-            let code = c as u32;
-            write!(out, "\\u{{{code:x}}}")?;
+            out.extend_from_slice(b"\\u{")?;
+            push_hex(out, c as u32)?;
+            out.push(b'}')?;
         }
     }
     Ok(())
+}
+
+/// A number in hexadecimal digits.
+fn push_hex(out: &mut Vec<u8>, n: u32) -> Result<(), NoMemory>
+    ensures { OnOk result (out.new.items ≡ out.old.items ++ radix_digits 16 false n) }
+{
+    let mut digits = [0; 8];
+    let start = put_hex(&mut digits, 8, n);
+    push_behind(out, &digits, start)
+}
+
+/// The same at the end of a buffer's front; where they begin.
+#[tactic(auto, using(crate::proofs::HexLemmas::digit_less))]
+fn put_hex(digits: &mut [u8], end: usize, n: u32) -> usize
+    requires room { (0 < end) × (end ≤ length digits.old) × (n < 16 ^ end) }
+    ensures within { result ≤ end }
+    ensures put { drop result digits.new ≡ digits_onto end 16 false n (drop end digits.old) }
+{
+    let at = end - 1;
+    digits[at] = hex_digit(n % 16);
+    if n < 16 {
+        return at;
+    }
+    put_hex(digits, at, n / 16)
+}
+
+fn hex_digit(digit: u32) -> u8
+    requires { digit < 16 }
+    ensures { result ≡ digit_glyph false digit }
+{
+    if digit < 10 {
+        return b'0' + digit as u8;
+    }
+    b'a' + (digit - 10) as u8
 }

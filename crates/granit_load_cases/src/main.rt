@@ -16,7 +16,7 @@ use std::io::{BufRead, BufReader};
 
 /// The lines of an answer's events, or the line of its fault.
 fn answer(alloc: Global, loaded: Result<Events<'_>, ScanError>) -> Result<String> {
-    let mut out = String::new(alloc);
+    let mut out = Vec::new(alloc);
     match loaded {
         Err(error) => Ok(format!(in alloc; "fault {}: {error}", error.kind().number())?),
         Ok(events) => {
@@ -25,7 +25,8 @@ fn answer(alloc: Global, loaded: Result<Events<'_>, ScanError>) -> Result<String
                     .ok()
                     .context("no memory for a line")?;
             }
-            Ok(out)
+            let text = str::from_utf8(&out).ok().context("lines are text")?;
+            Ok(String::from_str(alloc, text)?)
         }
     }
 }

@@ -1,13 +1,13 @@
 -- Reading block scalars never goes back.
 use Rattle.std.proofs.Common.{ℕ, zero, suc, ◌-◌, ◌≤◌, ◌==◌, Bool, true, false, List, ◌++◌, Option, Some, None, Result}
 use Rattle.std.proofs.Common.{Ok}
-use Rattle.granit_base.specs.Classes.{is_blank}
+use Rattle.granit_base.specs.Classes.{is_blank, is_non_breakz}
 use Rattle.granit_base.specs.Place.{Mark}
 use Rattle.granit_lexemes.specs.Basics.{past_break, only_printable, unprintable, text_up_to}
 use Rattle.granit_lexemes.specs.BlockHeader.{Chomping, BlockHeader, header_sign, block_header, content_column}
 use Rattle.granit_lexemes.specs.BlockHeader.{chomping_of}
 use Rattle.granit_lexemes.specs.BlockScalar.{over_spaces, indented, empty_turn, empty_lines, BlockState, between_lines}
-use Rattle.granit_lexemes.specs.BlockScalar.{is_block_char, line_up_to, block_turn, block_len, last_break, kept}
+use Rattle.granit_lexemes.specs.BlockScalar.{line_up_to, block_turn, block_len, last_break, kept}
 use Rattle.granit_lexemes.specs.BlockScalar.{block_read, behind_block, content_lines, block_lines, block_body}
 use Rattle.granit_lexemes.specs.BlockScalar.{block_scalar}
 use Rattle.granit_lexemes.specs.Here.{Here, text_len, next_char, step, mid_line, past, mark_of}
@@ -69,8 +69,8 @@ block_turn-fits : (literal : Bool) (column n : ℕ) (s : BlockState) → block_l
     → Fits block_len n (block_turn literal column s)
 unfolding block_turn
 block_turn-fits literal column n s p =
-    let e = line_up_to-fits literal column n s (mid_line (past is_block_char s.here))
-    (past-fits is_block_char n s.here p) in
+    let e = line_up_to-fits literal column n s (mid_line (past is_non_breakz s.here))
+    (past-fits is_non_breakz n s.here p) in
     search (fits_if, e, p)
 
 pub only_printable-fits : {A S : Type 0} (size : S → ℕ) (n : ℕ) (o : Option ℕ) (m : Mark) (r : Result (A × S) Fault)

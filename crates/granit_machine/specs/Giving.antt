@@ -1,7 +1,7 @@
 -- How events are given: behind held comments, and with the properties of their node.
-use Rattle.std.specs.Prelude.{ℕ, true, ◌-◌, if◌then◌else◌, List, [], ◌∷◌, ◌++◌, codes, Option, Some, None}
+use Rattle.std.specs.Prelude.{ℕ, ◌-◌, if◌then◌else◌, List, [], ◌∷◌, ◌++◌, codes, Option, Some, None}
 use Rattle.granit_base.specs.Place.{Mark}
-use Rattle.granit_base.specs.Written.{Written}
+use Rattle.granit_base.specs.Written.{Written, lent}
 use Rattle.granit_base.specs.declared.place.Span.{Span}
 use Rattle.granit_base.specs.declared.style.ScalarStyle.TheVariants.{Plain}
 use Rattle.granit_error.specs.OptionsData.{OptionsData}
@@ -10,10 +10,6 @@ use Rattle.granit_lexemes.specs.Source.{Source}
 use Rattle.granit_lexemes.specs.PlainEvent.{PlainEvent, PlainTag, EventKind, event_at, event_on, Anchor, Scalar}
 use Rattle.granit_machine.specs.Frames.{AtKey, AtQuestion, NodeProperties, Frame, WithProperties, BlockMapping, Waiting}
 use Rattle.granit_machine.specs.Frames.{ParserState}
-
--- the text of an empty node is lent from the program
-abbrev pub lent : List ℕ → Written
-lent text = record { characters = text; is_borrowed = true }
 
 abbrev pub null_kind : EventKind
 null_kind = Scalar (lent (codes "~")) Plain 0 None

@@ -2,6 +2,7 @@
 use Rattle.std.specs.Prelude.{ℕ, suc, Bool, true, false, ◌==◌, nat_le, if◌then◌else◌, List, [], ◌∷◌, codes, Option}
 use Rattle.std.specs.Prelude.{Some, None, Result, Ok}
 use Rattle.granit_base.specs.Place.{Mark}
+use Rattle.granit_base.specs.Written.{lent}
 use Rattle.granit_base.specs.declared.style.ScalarStyle.TheVariants.{Plain}
 use Rattle.granit_base.specs.declared.style.StructureStyle.TheVariants.{Block}
 use Rattle.granit_error.specs.FaultKind.{RecursionLimitExceeded}
@@ -14,7 +15,7 @@ use Rattle.granit_lexemes.specs.Basics.{fails_at}
 use Rattle.granit_machine.specs.Frames.{PairStage, BeforePair, AtKey, BehindKey, AtQuestion, BehindQuestion, AtValue}
 use Rattle.granit_machine.specs.Frames.{BehindAlone, BehindPair, NodeProperties, Frame, Root, BlockSequence}
 use Rattle.granit_machine.specs.Frames.{BlockMapping, FlowSequence, FlowMapping, FlowPair, BehindRoot, ParserState}
-use Rattle.granit_machine.specs.Giving.{lent, null_at, with_indent, flush, give, give_empty, node_event}
+use Rattle.granit_machine.specs.Giving.{null_at, with_indent, flush, give, give_empty, node_event}
 
 abbrev pub finished_stage : PairStage → PairStage
 finished_stage BeforePair = BehindAlone

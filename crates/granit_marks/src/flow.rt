@@ -1,5 +1,5 @@
 //! Brackets and `,` (YAML 1.2.2, 7.4).
-ghost use Rattle.std.specs.Prelude.{◌≡◌, ◌<◌, ◌^◌, false, []};
+ghost use Rattle.std.specs.Prelude.{◌≡◌, ◌<◌, ◌≤◌, ◌^◌, false, [], length};
 ghost use Rattle.granit_cursor.specs.Reading.{Moves};
 ghost use Rattle.granit_error.specs.FaultKind as faults;
 ghost use Rattle.granit_error.specs.OptionsView.{options_of};
@@ -21,7 +21,7 @@ use std::alloc::Global;
 ///
 /// # Errors
 ///
-/// `RecursionLimitExceeded` where none may, `NoMemory`, and those of `tailed`.
+/// `RecursionLimitExceeded` where none may, before memory is asked for; `NoMemory`, and those of `tailed`.
 pub fn opener<'input, T: BorrowedInput<'input>>(
     alloc: Global,
     options: &Options,
@@ -34,13 +34,14 @@ pub fn opener<'input, T: BorrowedInput<'input>>(
     requires room { layouts.old.number < 2 ^ 63 }
     ensures here { ReadsItems T.unread (options_of options.now).emit_comments at.old at.new layouts.new
         (lexeme_in found.new) result (λ h. spec.opener (options_of options.now) bracket ends h layouts.old) }
+    ensures memory { (options_of options.now).flow_nesting_limit ≤ length layouts.old.brackets → NeverWants result }
     ensures moves { Moves T.unread T.left T.origin at.old at.new }
 {
     let mark = at.mark();
     if options.flow_nesting_limit <= layouts.depth() {
         return Err(ScanError::from_kind(mark, ErrorKind::RecursionLimitExceeded));
     }
-    let lexeme = sign(at, layouts, ends, LexemeKind::Open(bracket));
+    let lexeme: Lexeme<'input> = sign(at, layouts, ends, LexemeKind::Open(bracket));
     layouts.open(bracket, mark)?;
     tailed(
         alloc,
@@ -73,7 +74,7 @@ pub fn comma<'input, T: BorrowedInput<'input>>(
     ensures moves { Moves T.unread T.left T.origin at.old at.new }
 {
     let last = layouts.last_of_comma();
-    let lexeme = sign(at, layouts, ends, LexemeKind::Comma);
+    let lexeme: Lexeme<'input> = sign(at, layouts, ends, LexemeKind::Comma);
     layouts.drop_key()?;
     tailed(
         alloc,
@@ -113,7 +114,7 @@ pub fn closer<'input, T: BorrowedInput<'input>>(
             if !is_same(innermost.bracket, bracket) {
                 return Err(mismatched(innermost, bracket));
             }
-            let lexeme = sign(at, layouts, ends, LexemeKind::Close(bracket));
+            let lexeme: Lexeme<'input> = sign(at, layouts, ends, LexemeKind::Close(bracket));
             layouts.close();
             tailed(
                 alloc,

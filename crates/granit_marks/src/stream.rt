@@ -10,7 +10,9 @@ ghost use Rattle.granit_marks.specs.StreamReads as view;
 ghost use Rattle.granit_content.specs.Reads.{NeverWants, ReadsItems, lexeme_in};
 
 use granit_base::is_breakz;
-use granit_content::{give, lexeme_to, over_break_if, scalar_lexeme, start_of, tail_at, with_tail};
+use granit_content::{
+    give, kept_note, lexeme_to, over_break_if, scalar_lexeme, start_of, tail_at, with_tail,
+};
 use granit_cursor::Cursor;
 use granit_directives::scan_directive;
 use granit_error::{ErrorKind, Options, ScanError};
@@ -174,7 +176,7 @@ fn refuse_more<T: Input>(at: &mut Cursor<T>) -> Result<(), ScanError>
 ///
 /// # Errors
 ///
-/// Those of `scan_directive`.
+/// Those of `scan_directive`, and `NoMemory`.
 pub fn directive<'input, T: BorrowedInput<'input>>(
     alloc: Global,
     options: &Options,
@@ -194,7 +196,8 @@ pub fn directive<'input, T: BorrowedInput<'input>>(
     let start = start_of(at);
     let read = scan_directive(alloc, at, options)?;
     over_break_if(at);
-    let lexeme = scalar_lexeme(alloc, layouts, ends, start, read);
+    let tail = kept_note(alloc, read.comment)?;
+    let lexeme = scalar_lexeme(alloc, layouts, ends, start, read.token, tail);
     layouts.behind_directive();
     *found = Some(lexeme);
     Ok(())

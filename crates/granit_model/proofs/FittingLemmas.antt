@@ -12,13 +12,14 @@ use Rattle.std.proofs.lemmas.Bool.{and_parts, and_from}
 use mathlib.Core.Bool.{true≢false}
 use lib.Pointwise.{pointwise_decides}
 use Rattle.granit_base.specs.Classes.{is_anchor_char}
+use Rattle.granit_base.specs.Written.{same_text}
 use Rattle.granit_model.specs.declared.fitting.Mention.{Mention}
 use Rattle.granit_model.specs.declared.fitting.Mention.TheVariants.{Anchor, Alias}
 use Rattle.granit_model.specs.Tree.{Properties, PlainTree, AliasOf, ScalarOf, SequenceOf, MappingOf, PlainTrees}
 use Rattle.granit_model.specs.Tree.{NoTrees, AfterTrees, PlainPairs, NoPairs, AfterPairs, with_anchor, behind_tree}
 use Rattle.granit_model.specs.Tree.{behind_trees, behind_pairs, IsAnchorName, PropertiesFit, TreeFits, TreesFit}
 use Rattle.granit_model.specs.Tree.{PairsFit, DocumentsFit}
-use Rattle.granit_model.specs.FirstMention.{same_name, or_else, mention_as, anchor_mention, mention_in_tree}
+use Rattle.granit_model.specs.FirstMention.{or_else, mention_as, anchor_mention, mention_in_tree}
 use Rattle.granit_model.specs.FirstMention.{mention_in_trees, mention_in_pairs, by_anchor, is_anchor_name, tag_fits}
 use Rattle.granit_model.specs.FirstMention.{anchor_fits, properties_fit, tree_fits, trees_fit, pairs_fit, documents_fit}
 
@@ -53,8 +54,8 @@ abbrev mutual
 abbrev first : List ℕ → List Mark → Option Mention
 first n [] = None
 first n (TagAt tag ∷ ms) = first n ms
-first n (AnchorAt a ∷ ms) = or_else (mention_as Anchor (same_name a n)) (first n ms)
-first n (AliasAt a ∷ ms) = or_else (mention_as Alias (same_name a n)) (first n ms)
+first n (AnchorAt a ∷ ms) = or_else (mention_as Anchor (same_text a n)) (first n ms)
+first n (AliasAt a ∷ ms) = or_else (mention_as Alias (same_text a n)) (first n ms)
 
 or_else_or_else : (a b c : Option Mention) → or_else (or_else a b) c ≡ or_else a (or_else b c)
 or_else_or_else None b c = refl
@@ -179,7 +180,7 @@ module _ (root : PlainTree) where
 
 -- the same, where an alias's name must be among the known ones
 abbrev has : List ℕ → List (List ℕ) → Bool
-has n known = list_any (same_name n) known
+has n known = list_any (same_text n) known
 
 abbrev fit : List (List ℕ) → List Mark → Bool
 fit known [] = true
@@ -187,7 +188,7 @@ fit known (TagAt tag ∷ ms) = not (length tag == 0) && fit known ms
 fit known (AnchorAt a ∷ ms) = is_anchor_name a && fit (a ∷ known) ms
 fit known (AliasAt a ∷ ms) = has a known && fit known ms
 
-same_decides : (a b : List ℕ) → (same_name a b ≡ true → a ≡ b) × (a ≡ b → same_name a b ≡ true)
+same_decides : (a b : List ℕ) → (same_text a b ≡ true → a ≡ b) × (a ≡ b → same_text a b ≡ true)
 same_decides = pointwise_decides (λ x y. (eqb-true x y, eq-eqb x y))
 
 abbrev known_or_first : List (List ℕ) → List Mark → List ℕ → Bool
@@ -225,16 +226,16 @@ fit_is_pass known (AnchorAt a ∷ ms) =
     ap (λ b. is_anchor_name a && b)
     (fit_is_pass (a ∷ known) ms
     ∙ pass_alike (known_or_first (a ∷ known) ms) (known_or_first known (AnchorAt a ∷ ms)) ms
-    (λ n. joined_anchor (same_name a n) (same_name n a) (has n known) (first n ms) (nat_list_eq_equiv.symm n a)))
+    (λ n. joined_anchor (same_text a n) (same_text n a) (has n known) (first n ms) (nat_list_eq_equiv.symm n a)))
 fit_is_pass known (AliasAt a ∷ ms) =
     let later : has a known ≡ true → fit known ms ≡ pass (known_or_first known (AliasAt a ∷ ms)) ms =
     λ h. fit_is_pass known ms
     ∙ pass_alike (known_or_first known ms) (known_or_first known (AliasAt a ∷ ms)) ms
-    (λ n. joined_alias (same_name a n) (has n known) (first n ms)
+    (λ n. joined_alias (same_text a n) (has n known) (first n ms)
     (λ e. subst (λ m. has m known ≡ true) ((same_decides a n).0 e) h)) in
     under (has a known) (fit known ms) (pass (known_or_first known (AliasAt a ∷ ms)) ms) later
     ∙ ap (λ b. b && pass (known_or_first known (AliasAt a ∷ ms)) ms)
-    (sym (alias_itself (same_name a a) (has a known) (first a ms) (nat_list_eq_equiv.refl a)))
+    (sym (alias_itself (same_text a a) (has a known) (first a ms) (nat_list_eq_equiv.refl a)))
 
 -- the test of a document
 document_fits : (t : PlainTree) → fit [] (marks t []) ≡ tree_fits t t
@@ -255,7 +256,7 @@ test_not_empty (x ∷ xs) h = grind (arith, nat_tests)
 
 found_known : (a : List ℕ) (known : List (List ℕ)) → has a known ≡ true → Contains known a
 found_known a known h =
-    let any = Any-from_list_any (same_name a) known h in
+    let any = Any-from_list_any (same_text a) known h in
     (any.0, any.2, subst (λ x. slice_index_or known any.0 x ≡ x) (sym ((same_decides a any.1).0 any.4)) any.3)
 
 anchor_named : (a : List ℕ) → is_anchor_name a ≡ true → IsAnchorName a

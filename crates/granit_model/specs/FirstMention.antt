@@ -1,15 +1,12 @@
 -- How fitting is tested with no memory: each alias's name must be mentioned first, in its document, by an anchor.
-use Rattle.std.specs.Prelude.{ℕ, Bool, true, false, not, ◌&&◌, ◌==◌, nat_eq, List, length, Option, Some, None}
+use Rattle.std.specs.Prelude.{ℕ, Bool, true, false, not, ◌&&◌, ◌==◌, List, length, Option, Some, None}
 use Rattle.std.specs.List.{list_all}
-use lib.Pointwise.{pointwise}
 use Rattle.granit_base.specs.Classes.{is_anchor_char}
+use Rattle.granit_base.specs.Written.{same_text}
 use Rattle.granit_model.specs.declared.fitting.Mention.{Mention}
 use Rattle.granit_model.specs.declared.fitting.Mention.TheVariants.{Anchor, Alias}
 use Rattle.granit_model.specs.Tree.{Properties, PlainTree, AliasOf, ScalarOf, SequenceOf, MappingOf, PlainTrees}
 use Rattle.granit_model.specs.Tree.{NoTrees, AfterTrees, PlainPairs, NoPairs, AfterPairs}
-
-abbrev pub same_name : List ℕ → List ℕ → Bool
-same_name a b = pointwise nat_eq a b
 
 -- the first of two mentions
 abbrev pub or_else : Option Mention → Option Mention → Option Mention
@@ -22,12 +19,12 @@ mention_as m false = None
 
 abbrev pub anchor_mention : List ℕ → Option (List ℕ) → Option Mention
 anchor_mention name None = None
-anchor_mention name (Some anchor) = mention_as Anchor (same_name anchor name)
+anchor_mention name (Some anchor) = mention_as Anchor (same_text anchor name)
 
 -- the first mention of a name in a tree
 abbrev mutual
   pub mention_in_tree : List ℕ → PlainTree → Option Mention
-  mention_in_tree name (AliasOf n) = mention_as Alias (same_name n name)
+  mention_in_tree name (AliasOf n) = mention_as Alias (same_text n name)
   mention_in_tree name (ScalarOf p text) = anchor_mention name p.anchor
   mention_in_tree name (SequenceOf p entries) = or_else (anchor_mention name p.anchor) (mention_in_trees name entries)
   mention_in_tree name (MappingOf p pairs) = or_else (anchor_mention name p.anchor) (mention_in_pairs name pairs)

@@ -7,6 +7,7 @@ use Rattle.std.proofs.lemmas.Bool.Decides.{nat_tests}
 use Rattle.std.specs.Cmp.Lexicographic.{bytes_decides}
 use Rattle.granit_base.specs.Classes.{is_blank_or_breakz, is_yaml_non_space}
 use Rattle.granit_base.specs.Place.{Mark, first}
+use Rattle.granit_base.specs.Written.{same_text}
 use Rattle.granit_error.specs.FaultKind.{FaultKind, MissingDirectiveName, InvalidDirectiveName}
 use Rattle.granit_error.specs.FaultKind.{DirectiveByteLimitExceeded}
 use Rattle.granit_error.specs.OptionsData.{OptionsData}
@@ -18,7 +19,7 @@ use Rattle.granit_lexemes.proofs.HereLemmas.{not_empty}
 use Rattle.granit_scalars.proofs.QuotedEscapes.{text_behind, over_text}
 use Rattle.granit_scalars.proofs.Stepping.{seen, over-append}
 use Rattle.granit_lexemes.specs.Directive.{word_up_to, version_directive, tag_directive, ParameterState}
-use Rattle.granit_lexemes.specs.Directive.{reserved_directive, is_name, directive_of, behind_name, directive_at}
+use Rattle.granit_lexemes.specs.Directive.{reserved_directive, directive_of, behind_name, directive_at}
 use Rattle.granit_lexemes.specs.Lexeme.{DirectiveKind, Reserved}
 use Rattle.granit_lexemes.specs.Tags.{Budget, spent}
 use Rattle.granit_lexemes.specs.DirectiveExtent.{bytes_of, All, DirectiveName, DirectiveNameStands, VersionStands}
@@ -49,16 +50,16 @@ with_place g l = Ok (l, g)
 
 -- ---- which directive a name makes
 
-name_same : (a b : List ℕ) → is_name a b ≡ true → a ≡ b
+name_same : (a b : List ℕ) → same_text a b ≡ true → a ≡ b
 name_same a b e = (bytes_decides a b).0 e
 
-other_name : (a b : List ℕ) → is_name a b ≡ false → a ≢ b
+other_name : (a b : List ℕ) → same_text a b ≡ false → a ≢ b
 other_name a b e z = let t = (bytes_decides a b).1 z in cc
 
-name_differs : (a b : List ℕ) → a ≢ b → is_name a b ≡ false
-name_differs a b n = by (is_name a b) refl
+name_differs : (a b : List ℕ) → a ≢ b → same_text a b ≡ false
+name_differs a b n = by (same_text a b) refl
   where
-    by : (v : Bool) → is_name a b ≡ v → is_name a b ≡ false
+    by : (v : Bool) → same_text a b ≡ v → same_text a b ≡ false
     by false p = p
     by true p = absurd (n (name_same a b p))
 
@@ -126,22 +127,23 @@ module _ (o : OptionsData) (h : Here) (name : List ℕ) where
     tag_went e r (limit_first f l all) =
         (long_handle e f (omega arith), λ kind w. let k = all kind w in omega arith, refl, refl)
 
-    tag_if : name ≢ codes "YAML" → (v : Bool) → is_name name (codes "TAG") ≡ v
+    tag_if : name ≢ codes "YAML" → (v : Bool) → same_text name (codes "TAG") ≡ v
         → Went (if v then tag_directive left (mark_of h) place else reserved_directive o left (mark_of h) name place)
     tag_if n true e = tag_went (name_same name (codes "TAG") e) _
         (tag_firsts (mark_of h) o.max_directive_bytes room place)
     tag_if n false e = words_went n (other_name name (codes "TAG") e) _
         (words_read o (mark_of h) o.max_directive_bytes room place)
 
-    yaml_if : (v : Bool) → is_name name (codes "YAML") ≡ v
-        → Went (if v then version_directive (mark_of h) place else if is_name name (codes "TAG") then tag_directive left
-        (mark_of h) place else reserved_directive o left (mark_of h) name place)
+    yaml_if : (v : Bool) → same_text name (codes "YAML") ≡ v
+        → Went (if v then version_directive (mark_of h) place
+        else if same_text name (codes "TAG") then tag_directive left (mark_of h) place
+        else reserved_directive o left (mark_of h) name place)
     yaml_if true e = version_went (name_same name (codes "YAML") e) _ (version_reads (mark_of h) place)
-    yaml_if false e = tag_if (other_name name (codes "YAML") e) (is_name name (codes "TAG")) refl
+    yaml_if false e = tag_if (other_name name (codes "YAML") e) (same_text name (codes "TAG")) refl
 
     name_went : Went (directive_of o left (mark_of h) name place)
     unfolding directive_of
-    name_went = yaml_if (is_name name (codes "YAML")) refl
+    name_went = yaml_if (same_text name (codes "YAML")) refl
 
   -- ---- the name
 
@@ -266,20 +268,20 @@ module _ (o : OptionsData) (h : Here) (name rest : List ℕ) (s : DirectiveNameS
 pub yaml_of : (o : OptionsData) (l : Option Budget) (start : Mark) (name : List ℕ) (g : Here) → name ≡ codes "YAML"
     → directive_of o l start name g ≡ version_directive start g
 unfolding directive_of
-yaml_of o l start name g e = cond-true (is_name name (codes "YAML")) _ _ ((bytes_decides name (codes "YAML")).1 e)
+yaml_of o l start name g e = cond-true (same_text name (codes "YAML")) _ _ ((bytes_decides name (codes "YAML")).1 e)
 
 pub prefix_of : (o : OptionsData) (l : Option Budget) (start : Mark) (name : List ℕ) (g : Here) → name ≡ codes "TAG"
     → directive_of o l start name g ≡ tag_directive l start g
 unfolding directive_of
 prefix_of o l start name g e =
-    cond-false (is_name name (codes "YAML")) _ _ (ap (λ (n : List ℕ). is_name n (codes "YAML")) e)
-    ∙ cond-true (is_name name (codes "TAG")) _ _ ((bytes_decides name (codes "TAG")).1 e)
+    cond-false (same_text name (codes "YAML")) _ _ (ap (λ (n : List ℕ). same_text n (codes "YAML")) e)
+    ∙ cond-true (same_text name (codes "TAG")) _ _ ((bytes_decides name (codes "TAG")).1 e)
 
 pub reserved_of : (o : OptionsData) (l : Option Budget) (start : Mark) (name : List ℕ) (g : Here) → name ≢ codes "YAML"
     → name ≢ codes "TAG" → directive_of o l start name g ≡ reserved_directive o l start name g
 unfolding directive_of
-reserved_of o l start name g n m = cond-false (is_name name (codes "YAML")) _ _ (name_differs name (codes "YAML") n)
-    ∙ cond-false (is_name name (codes "TAG")) _ _ (name_differs name (codes "TAG") m)
+reserved_of o l start name g n m = cond-false (same_text name (codes "YAML")) _ _ (name_differs name (codes "YAML") n)
+    ∙ cond-false (same_text name (codes "TAG")) _ _ (name_differs name (codes "TAG") m)
 
 goes_is : (o : OptionsData) (h : Here) (name rest source : List ℕ) (kind : DirectiveKind)
     → DirectiveNameStands o h name rest → Continues o name rest source kind

@@ -232,7 +232,9 @@ below : (c : ℕ) → (c < 55296) ⊎ ((57344 ≤ c) × (c < 1114112)) → c < 1
 below c (inl h) = omega arith
 below c (inr h) = h.1
 
-rows_by : (c : ℕ) → c < 1114112 → (c < 128) ⊎ (128 ≤ c) → (c < 2048) ⊎ (2048 ≤ c) → (c < 65536) ⊎ (65536 ≤ c) → Rows c
+rows_by :
+    (c : ℕ) → c < 1114112 → (c < 128) ⊎ (128 ≤ c) → (c < 2048) ⊎ (2048 ≤ c) → (c < 65536) ⊎ (65536 ≤ c) →
+    Rows c
 rows_by c top (inl h) _ _ = record {
   lead = c;
   more = [];

@@ -5,8 +5,9 @@ ghost use Rattle.std.specs.Str.{chars};
 ghost use Rattle.granit_error.specs.OptionsView.{options_of};
 ghost use Rattle.granit_event.specs.Events.{event_kind};
 ghost use Rattle.granit_sorts.specs.SortViews.{machine_token, of_kind};
-ghost use Rattle.granit_frames.specs.StateViews.{frame_view, pair_view, bears};
-ghost use Rattle.granit_items.specs.ItemViews.{note_view};
+ghost use Rattle.granit_frames.specs.StateViews.{bears};
+ghost use Rattle.granit_nesting.specs.FrameViews.{frame_view, pair_view};
+ghost use Rattle.granit_items.specs.ItemViews.{boxed_view};
 ghost use Rattle.granit_items.specs.declared.item.LexemeKind.TheVariants as kinds;
 ghost use Rattle.granit_lexemes.specs.Outcome.{GivesValue};
 ghost use Rattle.granit_machine.specs.Frames as machine;
@@ -147,8 +148,8 @@ fn default_prefix<'a>(handle: &'a Text<'_>, token: &Token<'_>) -> Result<&'a str
 }
 
 /// The room for comments behind a `-`, of which its tail takes one.
-fn dash_room(options: &Options, tail: &Option<Note<'_>>) -> Result<usize, ScanError>
-    ensures { GivesValue (λ n. n) result (steps.dash_room (options_of options.now) (option_map note_view tail.now)) }
+fn dash_room(options: &Options, tail: &Option<Box<Note<'_>>>) -> Result<usize, ScanError>
+    ensures { GivesValue (λ n. n) result (steps.dash_room (options_of options.now) (option_map boxed_view tail.now)) }
 {
     match tail {
         None => Ok(options.max_buffered_comment_events),
@@ -165,14 +166,15 @@ fn dash_room(options: &Options, tail: &Option<Note<'_>>) -> Result<usize, ScanEr
 
 fn give_tail<'input>(
     state: &mut ParserState<'input>,
-    tail: Option<Note<'input>>,
+    tail: Option<Box<Note<'input>>>,
 ) -> Result<(), NoMemory>
-    ensures leaves { OnOk result (state.new ≡ steps.give_tail (option_map note_view tail.entry) state.old) }
+    ensures leaves { OnOk result (state.new ≡ steps.give_tail (option_map boxed_view tail.entry) state.old) }
     ensures kept { state.new.kept ≡ state.old.kept }
 {
     match tail {
         None => Ok(()),
         Some(note) => {
+            let note = Box::into_inner(note);
             state.flush()?;
             let span = Span::new(note.start, note.end);
             state.add_event(Event::Comment(note.text, Placement::Right), span)

@@ -1,19 +1,19 @@
 -- What a parser answers where recovery asks, and where it then is.
-use Rattle.std.proofs.Common.{◌≡◌, ◌⊎◌, inl, inr, ℕ, suc, ◌+◌, Bool, true, false, is_some, List, [], Option, Some, None}
+use Rattle.std.proofs.Common.{◌≡◌, ◌⊎◌, inl, inr, ℕ, ◌+◌, Bool, true, false, [], Some, None}
 use Rattle.std.proofs.Common.{Result, Ok, Err, refl, sym, ap, subst, ◌∙◌, arith}
 use Rattle.std.specs.Prelude.{IfOk}
 use Rattle.granit_base.specs.Place.{Unread}
 use Rattle.granit_base.specs.declared.place.Span.{Span}
-use Rattle.granit_error.specs.FaultKind.{NoMemory}
 use Rattle.granit_error.specs.OptionsData.{OptionsData}
 use Rattle.granit_error.specs.Refused.{Refused}
 use Rattle.granit_event.specs.declared.event.Event.{Event}
 use Rattle.granit_event.specs.Events.{plain_event}
 use Rattle.granit_lexemes.specs.Outcome.{Fault}
-use Rattle.granit_lexemes.specs.PlainEvent.{PlainEvent, EventKind, DocumentStart, DocumentEnd, StreamEnd, Comment}
+use Rattle.granit_lexemes.specs.PlainEvent.{EventKind, DocumentStart, DocumentEnd, StreamEnd, Comment}
 use Rattle.granit_parser.proofs.CallLemmas.{further}
 use Rattle.granit_parser.proofs.DropLemmas.{goes_same}
-use Rattle.granit_parser.proofs.GoesLemmas.{noted_steps}
+use Rattle.granit_parser.proofs.GoesLemmas.{note_keeps, noted_steps}
+use Rattle.granit_parser.proofs.RecoverLemmas.{answered_steps}
 use Rattle.granit_parser.specs.Parsing.{Next, Parsing}
 use Rattle.granit_parser.specs.Recovering as spec
 use Rattle.granit_parser.specs.Recovering.{AnswersIn, AsksAt, AsksBefore, AsksBy, AsksNow, ComesBy, Follows, Goes}
@@ -41,10 +41,6 @@ use Rattle.granit_steps.specs.Steps.{StepState, next_event}
 note_room : (kind : EventKind) → is_note kind ≡ true → comment_of kind ≡ 1
 note_room (Comment text placement) e = refl
 note_room kind e = absurd (cc)
-
-note_noted : (kind : EventKind) (c : Calls) → is_note kind ≡ true → noted kind c ≡ c
-note_noted (Comment text placement) c e = refl
-note_noted kind c e = absurd (cc)
 
 other_room : (kind : EventKind) → is_note kind ≡ false → comment_of kind ≡ 0
 other_room (Comment text placement) e = absurd (cc)
@@ -111,11 +107,6 @@ module _ {I : Type 0} (unread : I → Unread → Type 0) (new : Stepping I) (o :
     told = λ b. first;
   }
 
-  answered_steps : (r : Result Bool Fault) (m : StepState) → (answered r (resumed m)).1.steps ≡ m
-  answered_steps (Ok true) m = refl
-  answered_steps (Ok false) m = refl
-  answered_steps (Err f) m = refl
-
   answered_between : (r : Result Bool Fault) (m : StepState) → (answered r (resumed m)).1.between ≡ true → r ≡ Ok false
   answered_between (Ok true) m b = absurd (let f : false ≡ true = b in cc)
   answered_between (Ok false) m b = refl
@@ -179,7 +170,7 @@ module _ {I : Type 0} (unread : I → Unread → Type 0) (new : Stepping I) (o :
         let after = a.seen.steps in
         let room = o.max_buffered_comment_events in
         let kept : noted e.kind (record (asking m) { steps = after }) ≡ record (asking m) { steps = after } =
-        note_noted e.kind (record (asking m) { steps = after }) note in
+        note_keeps e.kind (record (asking m) { steps = after }) note in
         let steps = ap (λ (d : Calls). d.steps) kept in
         let between = ap (λ (d : Calls). d.between) kept in
         let g = a.seen.goes in
@@ -210,7 +201,7 @@ module _ {I : Type 0} (unread : I → Unread → Type 0) (new : Stepping I) (o :
                   next = subst (λ o. next_event o (answered r (resumed m)).1.steps ≡ Ok (Some e, after)) (sym same)
                       (subst (λ m. next_event o m ≡ Ok (Some e, after)) (sym (answered_steps r m)) next);
                   goes = subst (Goes unread new)
-                      (sym (note_noted e.kind (record ((answered r (resumed m)).1) { steps = after }) note))
+                      (sym (note_keeps e.kind (record ((answered r (resumed m)).1) { steps = after }) note))
                       (goes_behind after room r (record ((answered r (resumed m)).1) { steps = after }) l tells
                       (first ∙ g.told between) refl (answered_between r m));
                 })));
@@ -291,7 +282,7 @@ module _ {I : Type 0} (unread : I → Unread → Type 0) (looked : Bool) (c : Ca
           let e = plain_event x in
           let note = untold e.kind told in
           let between = ap (λ (d : Calls). d.between)
-          (note_noted e.kind (record (asking a.steps) { steps = a.seen.steps }) note) in
+          (note_keeps e.kind (record (asking a.steps) { steps = a.seen.steps }) note) in
           unless_map r (looks a.seen.goes.steps a.seen.goes.stands (a.seen.goes.told between) a.turned)
           (note_answers unread q.stepper p.stepper.scanner.options options looked c p.stepper refl first q refl x is r a
           note a.tells)

@@ -1,18 +1,17 @@
 -- What a parser drops where the machine's calls led, and where it then asks whether another document is there.
-use Rattle.std.proofs.Common.{◌≡◌, ◌⊎◌, inl, inr, ℕ, suc, ◌+◌, Bool, true, false, not, ◌&&◌, is_some, List, []}
+use Rattle.std.proofs.Common.{◌≡◌, ◌⊎◌, inl, inr, ℕ, suc, ◌+◌, Bool, true, false, not, ◌&&◌, is_some}
 use Rattle.std.proofs.Common.{Option, Some}
 use Rattle.std.proofs.Common.{None, Result, Ok, Err, refl, sym, ap, subst, ◌∙◌}
 use Rattle.std.specs.Prelude.{IfErr, IfOk, IfSome, OnOk}
 use Rattle.granit_base.specs.Place.{Unread}
-use Rattle.granit_base.specs.declared.place.Span.{Span}
 use Rattle.granit_error.specs.OptionsData.{OptionsData}
 use Rattle.granit_error.specs.Refused.{Refused}
-use Rattle.granit_event.specs.declared.event.Event.{Event}
 use Rattle.granit_event.specs.Events.{plain_event}
 use Rattle.granit_lexemes.specs.Outcome.{Fault}
 use Rattle.granit_lexemes.specs.PlainEvent.{PlainEvent, EventKind, DocumentStart, DocumentEnd, StreamEnd, Comment}
 use Rattle.granit_parser.proofs.CallLemmas.{ahead_turned, comes, ends, skip_over, skip_to_end}
 use Rattle.granit_parser.proofs.GoesLemmas.{note_keeps, noted_steps, stands_going}
+use Rattle.granit_parser.proofs.RecoverLemmas.{answered_steps, any_stops}
 use Rattle.granit_parser.proofs.RecoverLemmas.{asks_dropped, asks_fault, asks_here, asks_on, asks_seen, begins}
 use Rattle.granit_parser.proofs.RecoverLemmas.{look_other, seen_call, skipped_here, skipped_on, skipped_to_fault}
 use Rattle.granit_parser.proofs.RecoverLemmas.{starts_between, starts_fault, starts_over, starts_steps}
@@ -23,7 +22,6 @@ use Rattle.granit_parser.specs.Recovering.{MeetsNumber, ParserIn, SeenBy, SeenNe
 use Rattle.granit_parser.specs.Recovering.{comes_ahead, comes_anew, comes_dropping, comes_here, comes_seen}
 use Rattle.granit_parser.specs.Recovering.{comes_behind, comes_ended}
 use Rattle.granit_parser.specs.Recovering.{seen_comment, seen_in, seen_kind, seen_other}
-use Rattle.granit_parser.specs.declared.recovery.Seen.{Seen}
 use Rattle.granit_parser.specs.declared.recovery.Seen.TheVariants as seens
 use Rattle.granit_recovery.specs.Asking.{LookTells}
 use Rattle.granit_recovery.specs.Streams.{Reached, reached_call, reached_recovery}
@@ -31,15 +29,15 @@ use Rattle.granit_restart.proofs.AheadLaws.{skip_alike}
 use Rattle.granit_restart.specs.Ahead.{AheadOf, NoneComes, is_note, not_ahead}
 use Rattle.granit_restart.specs.Calls.{Calls, next_call, noted}
 use Rattle.granit_restart.specs.Following.{document_follows}
-use Rattle.granit_restart.specs.Recovery.{answered, comment_of, looked_by, recover, recovered, resumed}
+use Rattle.granit_restart.specs.Recovery.{comment_of, looked_by, recover, recovered, resumed}
 use Rattle.granit_restart.specs.Recovery.{skipped, starts_by}
 use Rattle.granit_restart.specs.Restart.{behind_fault}
-use Rattle.granit_restart.specs.Skipping.{Ended, Failed as failed_there, SkipEnd, Stops, skip, skipped_document}
+use Rattle.granit_restart.specs.Skipping.{Ended, Failed as failed_there, Stops, skip, skipped_document}
 use Rattle.granit_restart.specs.Skipping.{skipped_fault, skipped_to}
-use Rattle.granit_restart.specs.Turned.{Turned, turned_on}
+use Rattle.granit_restart.specs.Turned.{Turned}
 use Rattle.granit_stepper.specs.Numbers.{RefusesNumber}
 use Rattle.granit_stepper.specs.Recovering.{DropsOn, SkipsDocument, SkipsFault}
-use Rattle.granit_stepper.specs.Refusals.{RefusedIn, StandsAhead}
+use Rattle.granit_stepper.specs.Refusals.{StandsAhead}
 use Rattle.granit_stepper.specs.Stepping.{Stepping}
 use Rattle.granit_steps.specs.Steps.{StepState, next_event}
 
@@ -65,10 +63,6 @@ TakesRoom o = (stops : Stops) (c : Calls) (e : PlainEvent) (after : StepState) (
 abbrev pub GoByTurns : OptionsData → Type 0
 GoByTurns o = (c : Calls) → Reached o c → Turned o c.steps
 
--- where refused reads stopped, if none is asked for
-abbrev any_stops : Calls → Stops
-any_stops c = record { first = c.steps.reading.reader.here; second = c.steps.reading.reader.here }
-
 module _ {I : Type 0} (unread : I → Unread → Type 0) where
   -- only the steps matter, and whether the end of a document was the last
   pub goes_same : (s : Stepping I) (c d : Calls) → c.steps ≡ d.steps → (d.between ≡ true → c.between ≡ true)
@@ -91,11 +85,6 @@ module _ {I : Type 0} (unread : I → Unread → Type 0) where
   }
 
   -- the state in which recovery asks is one that turns and restarts lead to
-  answered_steps : (r : Result Bool Fault) (m : StepState) → (answered r (resumed m)).1.steps ≡ m
-  answered_steps (Ok true) m = refl
-  answered_steps (Ok false) m = refl
-  answered_steps (Err f) m = refl
-
   asks_turned : (o : OptionsData) (stops : Stops) (looked : Bool) (c : Calls) (m : StepState) → Reached o c
       → GoByTurns o → recover o stops looked c ≡ recovered o 0 (resumed m) → Turned o m
   asks_turned o stops looked c m reached by_turns recovers =
@@ -245,10 +234,6 @@ ends_not kind e other = refl
 noted_end : (kind : EventKind) (c : Calls) → kind ≡ DocumentEnd → (noted kind c).between ≡ true
 noted_end kind c e = ap (λ k. (noted k c).between) e
 
-note_noted : (kind : EventKind) (c : Calls) → is_note kind ≡ true → noted kind c ≡ c
-note_noted (Comment text placement) c e = refl
-note_noted kind c e = absurd (cc)
-
 dropped_by : (b : Bool) (kind : EventKind) → (b && not (spec.starts (seen_kind kind))) ≡ false
     → (b ≡ false) ⊎ (begins kind ≡ true)
 dropped_by false kind e = inl refl
@@ -319,7 +304,7 @@ module _ {I : Type 0} (unread : I → Unread → Type 0) (p : Parsing I) (c : Ca
       behind_tells note =
           let d = (next_call o c).1 in
           let is : d ≡ record c { steps = n.steps } =
-          behind ∙ note_noted e.kind (record c { steps = n.steps }) note in
+          behind ∙ note_keeps e.kind (record c { steps = n.steps }) note in
           subst (LookTells o)
           (ap (λ (d : Calls). d.steps) (skipped_here o stops d (ap (λ (d : Calls). d.fault) is ∙ fault)
           (ap (λ (d : Calls). d.between) is ∙ between_is true between)) ∙ ap (λ (d : Calls). d.steps) is)

@@ -1,5 +1,5 @@
 -- A stepper goes where the machine's calls lead.
-use Rattle.std.proofs.Common.{◌≡◌, ◌⊎◌, inl, inr, Bool, true, false, ◌||◌, is_some, List, [], ◌∷◌, Option, Some, None}
+use Rattle.std.proofs.Common.{◌≡◌, ◌⊎◌, inl, inr, Bool, true, false, List, [], ◌∷◌, Option, Some, None}
 use Rattle.std.proofs.Common.{Result, Ok, Err, refl, sym, ap, subst, ◌∙◌}
 use Rattle.std.specs.Option.{option_map}
 use Rattle.std.specs.Prelude.{IfErr}
@@ -15,6 +15,7 @@ use Rattle.granit_lexemes.specs.PlainEvent.{PlainEvent, EventKind, DocumentStart
 use Rattle.granit_parser.proofs.CallLemmas.{ahead_turned, next_exact}
 use Rattle.granit_parser.specs.Parsing.{EndsWith, GivesNext, next_view}
 use Rattle.granit_parser.specs.Recovering.{Failed, FailsAt, Goes, ReadsNext, SeenNext}
+use Rattle.granit_parser.specs.Sources.{NeverRevives}
 use Rattle.granit_lexemes.proofs.PieceLemmas.{pieces_fails}
 use Rattle.granit_restart.proofs.AheadLaws.{failing_alike, first_of, next_alike, turn_next, waits_next}
 use Rattle.granit_restart.proofs.EndLaws.{next_none}
@@ -23,7 +24,7 @@ use Rattle.granit_restart.specs.Ahead.{AheadOf, AlikeNext, ComesLast, NoneComes,
 use Rattle.granit_restart.specs.Calls.{Calls, failing, noted}
 use Rattle.granit_restart.specs.Skipping.{with_pending}
 use Rattle.granit_restart.specs.Turned.{Turned}
-use Rattle.granit_stepper.specs.Numbers.{GivesOr, NoNumberLeft, RefusesNumber, TurnsTo, no_turn, one_turn}
+use Rattle.granit_stepper.specs.Numbers.{GivesOr, RefusesNumber, TurnsTo, no_turn, one_turn}
 use Rattle.granit_stepper.specs.Refusals.{GivesAhead, HoldsRefusal, RefusedIn, RefusesLater, StandsAhead}
 use Rattle.granit_stepper.specs.Stepping.{StandsIn, Stepping}
 use Rattle.granit_steps.specs.Steps.{StepState, next_event, step_size, step_turn}
@@ -35,6 +36,11 @@ noted_steps (DocumentStart explicit version) c = refl
 noted_steps DocumentEnd c = refl
 noted_steps StreamEnd c = refl
 noted_steps kind c = refl
+
+-- a comment leaves what was noted
+pub note_keeps : (kind : EventKind) (c : Calls) → is_note kind ≡ true → noted kind c ≡ c
+note_keeps (Comment text placement) c note = refl
+note_keeps kind c note = absurd (cc)
 
 abbrev Stepped : Type 0
 Stepped = Result (Option PlainEvent × StepState) Fault
@@ -81,11 +87,6 @@ module _ (o : OptionsData) where
       note_between e.kind c t next behind e refl p here there old note (between refl)
   any_between false c t next behind e other p here there old between =
       inl (same_behind (sym there ∙ next_exact o c.steps t next e p other here))
-
-  -- a comment leaves what was noted
-  pub note_keeps : (kind : EventKind) (c : Calls) → is_note kind ≡ true → noted kind c ≡ c
-  note_keeps (Comment text placement) c note = refl
-  note_keeps kind c note = absurd (cc)
 
   -- the states behind the next event, from where calls led and from ahead
   pub record Behind (c : Calls) (e : PlainEvent) (behind : StepState) : Type 0 where
@@ -219,7 +220,7 @@ module _ {I : Type 0} (unread : I → Unread → Type 0) where
         let is : d.steps ≡ y.next = noted_steps e.kind (record c { steps = y.next }) in
         let between : d.between ≡ true → (w.behind ≡ y.next) ⊎ NoneComes o y.next =
         λ b. any_between o (is_note e.kind) c g.steps y.next w.behind e refl going_ahead y.here w.there going_between
-        (λ note. ap (λ (d : Calls). d.between) (sym (note_keeps o e.kind (record c { steps = y.next }) note)) ∙ b) in
+        (λ note. ap (λ (d : Calls). d.between) (sym (note_keeps e.kind (record c { steps = y.next }) note)) ∙ b) in
         record {
           steps = y.next;
           next = subst (λ o. next_event o c.steps ≡ Ok (Some e, y.next)) (sym after) y.here;
@@ -384,6 +385,12 @@ pub gives_view : (r : Result (Option (Event × Span)) Refused) (Lands : StepStat
 gives_view (Ok None) Lands renumbered o m g = g
 gives_view (Ok (Some x)) Lands renumbered o m g = g
 gives_view (Err e) Lands renumbered o m g = g
+
+pub lost_view : {I : Type 0} (r : Result (Option (Event × Span)) Refused) (s : Stepping I)
+    → IfErr r (λ e. e.kind ≡ NoMemory → s.refusal ≡ None) → NeverRevives (next_view r) s
+lost_view (Ok None) s lost = tt
+lost_view (Ok (Some x)) s lost = tt
+lost_view (Err e) s lost = lost
 
 pub ends_view : {I : Type 0} (r : Result (Option (Event × Span)) Refused) (s : Stepping I)
     → IfErr r (λ e. s.failed ≡ true) → EndsWith (next_view r) s

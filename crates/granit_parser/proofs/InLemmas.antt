@@ -22,7 +22,7 @@ use Rattle.granit_parser.specs.Recovering.{AnswersBy, Failed, FailsAt, GaveUp, G
 use Rattle.granit_parser.specs.Recovering.{ParserIn, ReadsNext, SeenBy, SeenNext, SeenNone, ShowsCall, StaysBy}
 use Rattle.granit_parser.specs.Recovering.{between_behind, failed_in, notes_between, notes_over}
 use Rattle.granit_parser.specs.Recovering.{PeeksIn, over_behind}
-use Rattle.granit_parser.specs.Sources.{IfUnseen, MovesUnless, TellsError, TellsSource}
+use Rattle.granit_parser.specs.Sources.{IfUnseen, MovesUnless, NeverRecovers, TellsError, TellsSource}
 use Rattle.granit_recovery.specs.Streams.{Reached, calls_from}
 use Rattle.granit_restart.specs.Ahead.{not_ahead}
 use Rattle.granit_restart.specs.Calls.{Calls, given_by, next_call, noted}
@@ -254,6 +254,7 @@ module _ {I : Type 0} (unread : I → Unread → Type 0) where
     calls = λ c reached opened at none. subst (λ (r : Next). ShowsCall unread r p c) (sym is)
         (shows_seen p x c at (subst (λ (r : Next). SeenBy unread r p.stepper c) is (open_seen p c opened at)));
     closed = λ c closed at. at;
+    lost = subst (λ (w : Next). IfUnseen w (NeverRecovers origin p.stepper p.peeked p.stepper)) (sym is) tt;
   }
 
   pub peeks_seen : (origin : I → Origin) (p : Parsing I) → is_some p.peeked ≡ true → PeeksIn unread origin p p.peeked p
@@ -300,14 +301,16 @@ module _ {I : Type 0} (unread : I → Unread → Type 0) where
     -- else it shows what is read
     pub peeks_read : ((c : Calls) → Reached p.stepper.scanner.options c → Goes unread p.stepper c
         → ReadsNext unread r q.stepper c ⊎ TellsSource origin r q.stepper.scanner.cursor)
-        → PeeksIn unread origin p q.peeked q
-    peeks_read reads = record {
+        → NeverRecovers origin p.stepper r q.stepper → PeeksIn unread origin p q.peeked q
+    peeks_read reads lost = record {
       calls = λ c reached opened at free. subst (λ (w : Next). ShowsCall unread w q c) (sym seen)
           (elim (reads c reached (subst (λ (w : Next). SeenBy unread w p.stepper c) none (open_seen p c opened at))) [
             | inl read ↦ call_shows r q c opened read seen (between ∙ at.between opened) (over ∙ at.over)
             | inr source ↦ absurd (told_free origin r q.stepper.scanner.cursor source free)
           ]);
       closed = λ c closed at. closed_by c.over c refl closed at;
+      lost = subst (λ (w : Next). IfUnseen w (NeverRecovers origin p.stepper q.peeked q.stepper)) (sym none)
+          (subst (λ (w : Next). NeverRecovers origin p.stepper w q.stepper) (sym seen) lost);
     }
 
   -- ---- before all calls

@@ -1,5 +1,7 @@
+pub mod AloneLemmas
 pub mod AnswerLemmas
 pub mod CallLemmas
+mod ChangeLemmas
 pub mod DropLemmas
 pub mod DroppedLemmas
 pub mod FirstLemmas

@@ -8,10 +8,10 @@ use Rattle.granit_error.specs.OptionsData.{OptionsData}
 use Rattle.granit_error.specs.Refused.{Refused}
 use Rattle.granit_input.specs.Origin.{Origin}
 use Rattle.granit_lexemes.specs.Outcome.{Fault}
-use Rattle.granit_parser.proofs.AnswerLemmas.{unless_map}
 use Rattle.granit_parser.proofs.DropLemmas.{seen_going}
 use Rattle.granit_parser.proofs.InLemmas.{goes_in}
-use Rattle.granit_parser.specs.Parsing.{Next, Parsing}
+use Rattle.granit_parser.proofs.RecoverLemmas.{any_stops}
+use Rattle.granit_parser.specs.Parsing.{Parsing}
 use Rattle.granit_parser.specs.Recovering as spec
 use Rattle.granit_parser.specs.Recovering.{AnswersBy, AnswersIn, AsksBy, Ends, EndsIn, Follows, GaveUp, IsOpen}
 use Rattle.granit_parser.specs.Recovering.{MeetsNumber, ParserIn, Proceeds, SeenBy, Skips, StaysBy, seen_in}
@@ -23,7 +23,6 @@ use Rattle.granit_receivers.specs.Kept.{GivesAgain, IsKept}
 use Rattle.granit_restart.specs.Calls.{Calls}
 use Rattle.granit_restart.specs.Recovery.{answered, recover, recover_with, resumed}
 use Rattle.granit_restart.specs.Skipping.{Stops}
-use Rattle.granit_stepper.specs.Stepping.{Stepping}
 
 pub is_end : (s : Seen) → spec.ends_stream s ≡ true → s ≡ seens.StreamEnd
 is_end seens.StreamEnd e = refl
@@ -63,9 +62,6 @@ module _ {I : Type 0} (unread : I → Unread → Type 0) where
   again_is f kept e (inl same) (inl is) other = sym same ∙ sym is
   again_is f kept e (inr memory) (inl is) other =
       absurd (other (ap (λ (x : Refused). x.kind) is ∙ memory))
-
-  pub any_stops : Calls → Stops
-  any_stops c = record { first = c.steps.reading.reader.here; second = c.steps.reading.reader.here }
 
   pub again_ends : (p q : Parsing I) (c : Calls) (e : Refused) → ParserIn unread p c → c.over ≡ false
       → (p.stepper.failed && not (is_some p.stepper.refusal)) ≡ true → IfSome p.given (λ g. IsKept g e)

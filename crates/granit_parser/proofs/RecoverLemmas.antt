@@ -1,32 +1,23 @@
 -- What recovery makes of a parser that is where the machine's calls led.
-use Rattle.std.proofs.Common.{◌≡◌, ◌⊎◌, inl, inr, ℕ, suc, ◌+◌, Bool, true, false, ◌||◌, is_some, List, [], ◌∷◌, ◌++◌}
-use Rattle.std.proofs.Common.{Option, Some, None, Result, Ok, Err, refl, sym, ap, subst, ◌∙◌, arith}
-use Rattle.std.specs.Prelude.{if◌then◌else◌, OnOk}
-use Rattle.granit_base.specs.Place.{Unread}
+use Rattle.std.proofs.Common.{◌≡◌, ◌⊎◌, inl, inr, ℕ, Bool, true, false, ◌||◌, is_some, List, [], ◌∷◌}
+use Rattle.std.proofs.Common.{Option, Some, None, Result, Ok, Err, refl, sym, ap, subst, ◌∙◌}
+use Rattle.std.specs.Prelude.{if◌then◌else◌}
 use Rattle.granit_error.specs.OptionsData.{OptionsData}
-use Rattle.granit_error.specs.Refused.{Refused}
-use Rattle.granit_event.specs.Events.{plain_event}
 use Rattle.granit_lexemes.specs.Outcome.{Fault}
-use Rattle.granit_lexemes.specs.PlainEvent.{PlainEvent, EventKind, DocumentStart, DocumentEnd, StreamEnd, Comment}
-use Rattle.granit_parser.proofs.CallLemmas.{Comes, ahead_turned, call_going, comes, comes_on, ends, further, skip_over}
-use Rattle.granit_parser.proofs.CallLemmas.{skip_to_end, waits}
-use Rattle.granit_parser.proofs.GoesLemmas.{noted_steps}
-use Rattle.granit_parser.specs.Recovering.{AsksAt}
-use Rattle.granit_recovery.specs.Asking.{LookTells}
-use Rattle.granit_restart.proofs.AheadLaws.{look_is_ahead}
-use Rattle.granit_restart.proofs.EndLaws as end_laws
+use Rattle.granit_lexemes.specs.PlainEvent.{PlainEvent, EventKind, DocumentStart, StreamEnd, Comment}
+use Rattle.granit_parser.proofs.CallLemmas.{Comes, call_going, comes_on}
+use Rattle.granit_parser.proofs.CallLemmas.{waits}
 use Rattle.granit_restart.proofs.LookTurns as look_turns
-use Rattle.granit_restart.specs.Ahead.{AheadOf, NoneComes, is_note, not_ahead}
+use Rattle.granit_restart.specs.Ahead.{is_note}
 use Rattle.granit_restart.specs.Calls.{Calls, Given, given_by, next_call, noted}
-use Rattle.granit_restart.specs.Following.{document_follows}
 use Rattle.granit_restart.specs.Header.{is_directives}
-use Rattle.granit_restart.specs.Looking.{Look, behind_waiting, look_ahead, look_behind, look_by}
+use Rattle.granit_restart.specs.Looking.{Look, behind_waiting, look_ahead, look_behind}
 use Rattle.granit_restart.specs.Looking.{told_by, told_event, turn_ahead}
-use Rattle.granit_restart.specs.Recovery.{answered, comment_looked_at, comment_of, extra_of, looked_by, recover}
+use Rattle.granit_restart.specs.Recovery.{answered, comment_of, extra_of, looked_by, recover}
 use Rattle.granit_restart.specs.Recovery.{recover_with, recovered, resumed, skipped, skipped_by, starts_by}
-use Rattle.granit_restart.specs.Skipping.{Ended, Failed, SkipEnd, Stops, skip, skipped_document, skipped_fault}
-use Rattle.granit_restart.specs.Skipping.{skipped_to, with_pending}
-use Rattle.granit_steps.specs.Steps.{StepState, Turn, next_event, step_turn}
+use Rattle.granit_restart.specs.Skipping.{Stops, skipped_document, skipped_fault}
+use Rattle.granit_restart.specs.Skipping.{with_pending}
+use Rattle.granit_steps.specs.Steps.{StepState, next_event, step_turn}
 
 -- ---- what was looked at
 
@@ -56,6 +47,15 @@ pub starts_between : (kind : EventKind) (c : Calls) → (c.between ≡ false) �
 starts_between (DocumentStart explicit version) c e = refl
 starts_between kind c (inl none) = none
 starts_between kind c (inr begun) = absurd (cc)
+
+-- where refused reads stopped, if none is asked for
+abbrev pub any_stops : Calls → Stops
+any_stops c = record { first = c.steps.reading.reader.here; second = c.steps.reading.reader.here }
+
+pub answered_steps : (r : Result Bool Fault) (m : StepState) → (answered r (resumed m)).1.steps ≡ m
+answered_steps (Ok true) m = refl
+answered_steps (Ok false) m = refl
+answered_steps (Err f) m = refl
 
 module _ (o : OptionsData) (stops : Stops) where
   -- ---- where recovery asks

@@ -17,7 +17,7 @@ use Rattle.granit_parser.specs.Parsing.{EndsBehind, EndsWith, GivesNext, Next, P
 use Rattle.granit_parser.specs.Recovering as calls
 use Rattle.granit_parser.specs.Recovering.{FailsAt, ReadsNext, SeenBy, SeenNext}
 use Rattle.granit_parser.specs.Sources.{GoesGiving, GoesUnless, IfUnseen, IsSourceError, MovesUnless, TellsError}
-use Rattle.granit_parser.specs.Sources.{TellsSource, unless_failed}
+use Rattle.granit_parser.specs.Sources.{NeverRecovers, NeverRevives, TellsSource, unless_failed}
 use Rattle.granit_restart.specs.Ahead.{AheadOf, NoneComes}
 use Rattle.granit_restart.specs.Calls.{Calls, noted}
 use Rattle.granit_stepper.specs.Refusals.{HoldsRefusal, RefusedIn}
@@ -148,6 +148,12 @@ ends_on None s t error same ends = tt
 ends_on (Some (Ok e)) s t error same ends = tt
 ends_on (Some (Err e)) s t error same ends = rw (same, ends) refl
 
+pub revives_on : {I : Type 0} (r : Next) (s t : Stepping I) → t.refusal ≡ s.refusal → NeverRevives r s
+    → NeverRevives r t
+revives_on None s t same lost = tt
+revives_on (Some (Ok e)) s t same lost = tt
+revives_on (Some (Err e)) s t same lost = λ none. same ∙ lost none
+
 -- and what is kept of it holds on
 pub behind_on : {I : Type 0} (r : Next) (given : Option Refused) (s t : Stepping I) (error : Option Refused)
     → t.failed ≡ (s.failed || is_some error) → EndsBehind r given s → EndsBehind r given t
@@ -201,6 +207,21 @@ module _ {I : Type 0} (unread : I → Unread → Type 0) (origin : I → Origin)
   source_by (Some e) r is placed = λ f met fresh going. source_tells (origin old.scanner.cursor.input)
       (origin mid.scanner.cursor.input) (origin new.scanner.cursor.input) goes gave e new.scanner.cursor.place is
       placed.0 placed.1
+
+  pub lost_by : (error : Option Refused) (r : Next)
+      → option_map refused_kind error ≡ error_given (origin mid.scanner.cursor.input)
+      → new.failed ≡ (mid.failed || is_some error) → IfSome error (λ e. new.refusal ≡ None)
+      → (error ≡ None → new.refusal ≡ mid.refusal) → NeverRevives r mid
+      → NeverRecovers origin old (unless_failed r error) new
+  lost_by None r is failed lost kept memory = record {
+    source = λ f met fresh going. absurd (never_silent (origin old.scanner.cursor.input)
+        (origin mid.scanner.cursor.input) (origin new.scanner.cursor.input) goes gave f (sym is) met fresh);
+    memory = revives_on r mid new (kept refl) memory;
+  }
+  lost_by (Some e) r is failed lost kept memory = record {
+    source = λ f met fresh going. (failed ∙ or_true mid.failed, lost);
+    memory = λ none. lost;
+  }
 
   pub goes_by : (error : Option Refused) (r : Next)
       → option_map refused_kind error ≡ error_given (origin mid.scanner.cursor.input)

@@ -26,7 +26,8 @@ memory_or_not NoMemory = inl refl
 memory_or_not k = inr (λ e. cc)
 
 -- what is given behind these events is given in all
-given_behind : (o : OptionsData) (m last : StepState) (es : List PlainEvent) (f : Option Fault) → LeadsTo o m es last
+pub given_behind : (o : OptionsData) (m last : StepState) (es : List PlainEvent) (f : Option Fault)
+    → LeadsTo o m es last
     → GivesEvents o last [] f → GivesEvents o m es f
 given_behind o m last es f none_given more = more
 given_behind o m last es f (first_given {next = next} {es = rest} is leads) more =
@@ -47,7 +48,7 @@ one_step {a = a} {b = b} {s = s} {t = t} e =
     (ap (λ (x : Option PlainEvent × StepState). x.0) p, ap (λ (x : Option PlainEvent × StepState). x.1) p)
 
 -- what is given in all begins with what is given up to a state
-leads_front : (o : OptionsData) (m last : StepState) (es all : List PlainEvent) (f : Option Fault) →
+pub leads_front : (o : OptionsData) (m last : StepState) (es all : List PlainEvent) (f : Option Fault) →
     LeadsTo o m es last → GivesEvents o m all f → (more : List PlainEvent) × (all ≡ es ++ more)
 leads_front o m last [] all f none_given g = (all, refl)
 leads_front o m last (e ∷ es) all f (first_given is leads) (gives_end over) =

@@ -2,16 +2,15 @@
 use Rattle.std.specs.Prelude.{◌≡◌, ◌⊎◌, ℕ, Bool, true, List, [], ◌∷◌, ◌++◌, Option, Some, None, Result, Ok, Err, IfSome}
 use Rattle.std.specs.Prelude.{IfErr}
 use Rattle.granit_base.specs.Place.{Unread}
-use Rattle.granit_base.specs.declared.place.Span.{Span}
 use Rattle.granit_before.specs.DeclaredCause.{DeclaredCause}
 use Rattle.granit_before.specs.DeclaredReading.{DeclaredReading}
 use Rattle.granit_cursor.specs.Reading.{GoesOnward}
 use Rattle.granit_error.specs.FaultKind.{NoMemory}
 use Rattle.granit_error.specs.OptionsData.{OptionsData}
 use Rattle.granit_error.specs.Refused.{Refused}
-use Rattle.granit_event.specs.declared.event.Event.{Event}
 use Rattle.granit_event.specs.Events.{plain_event}
 use Rattle.granit_input.specs.Origin.{Origin}
+pub use Rattle.granit_layers.specs.Turning.{Next}
 use Rattle.granit_lexemes.specs.Outcome.{Fails}
 use Rattle.granit_lexemes.specs.PlainEvent.{PlainEvent}
 use Rattle.granit_parser.specs.Sources.{IfUnseen, MovesUnless, TellsError, TellsSource}
@@ -22,10 +21,6 @@ use Rattle.granit_stepper.specs.Stepping.{Stepping, StandsIn}
 use Rattle.granit_steps.specs.Levels.{IsStream, BeginsStream}
 use Rattle.granit_steps.specs.Steps.{StepState, next_event}
 use Rattle.granit_steps.specs.Told.{Told}
-
--- what a call gives: an event, why there is none, or nothing more
-abbrev pub Next : Type 0
-Next = Option (Result (Event × Span) Refused)
 
 -- an event, why there is none, or nothing more, as the stepper says it
 abbrev pub next_view : {X : Type 0} → Result (Option X) Refused → Option (Result X Refused)
@@ -68,6 +63,10 @@ GivesNext None Lands renumbered o m = (after : StepState) × Lands after × (nex
 GivesNext (Some (Ok e)) Lands renumbered o m =
     (after : StepState) × Lands after × (next_event o m ≡ Ok (Some (plain_event e), after))
 GivesNext (Some (Err e)) Lands renumbered o m = Fails e (next_event o m) ⊎ RefusesNumber renumbered o m e
+
+-- what the step from a state gives, and a state is then known in which that leaves the stepper
+abbrev pub StepsBy : {I : Type 0} → (I → Unread → Type 0) → Next → (old new : Stepping I) → StepState → Type 0
+StepsBy unread r old new m = GivesNext r (StandsIn unread new) new.renumbered old.scanner.options m
 
 -- a state of the machine in which a stepper is known to be, or out of which what was looked at led it
 abbrev pub StandsBefore : {I : Type 0} → (I → Unread → Type 0) → Next → Stepping I → StepState → Type 0

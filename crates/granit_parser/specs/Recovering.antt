@@ -11,11 +11,12 @@ use Rattle.granit_lexemes.specs.Here.{Here}
 use Rattle.granit_lexemes.specs.Outcome.{Fault}
 use Rattle.granit_lexemes.specs.PlainEvent.{Comment, DocumentEnd, DocumentStart, EventKind, PlainEvent, StreamEnd}
 use Rattle.granit_parser.specs.Parsing.{Next, Parsing}
+use Rattle.granit_parser.specs.Sources.{IfUnseen, NeverRecovers, TellsSource}
 use Rattle.granit_parser.specs.declared.recovery.Seen.{Seen}
 use Rattle.granit_parser.specs.declared.recovery.Seen.TheVariants as seens
 use Rattle.granit_receivers.specs.Kept.{IsKept}
 use Rattle.granit_recovery.specs.Asking.{LookTells}
-use Rattle.granit_recovery.specs.Streams.{Reached}
+use Rattle.granit_recovery.specs.Streams.{EarlyOf, Reached}
 use Rattle.granit_restart.specs.Ahead.{AheadOf, NoneComes, is_note}
 use Rattle.granit_restart.specs.Calls.{Calls, failing, next_call, noted}
 use Rattle.granit_restart.specs.Following.{document_follows}
@@ -70,6 +71,12 @@ SeenBy unread (Some (Err e)) s c = ⊥
 abbrev pub StaysBy : {I : Type 0} → (I → Unread → Type 0) → Option Fault → Next → Stepping I → Calls → Type 0
 StaysBy unread None seen s c = SeenBy unread seen s c
 StaysBy unread (Some f) seen s c = SeenNone seen × Failed unread s c.steps f
+
+-- a refusal that was looked at and not taken is what recovery answers, where it is refused
+abbrev pub GivesSeen : Next → Result Bool Refused → Type 0
+GivesSeen None r = Unit {0}
+GivesSeen (Some (Ok x)) r = Unit {0}
+GivesSeen (Some (Err e)) r = r ≡ Err e
 
 -- recovery itself was refused, which it answers from then on
 pub record GaveUp {I : Type 0} (p : Parsing I) (f : Fault) : Type 0 where
@@ -129,6 +136,14 @@ GivesCall unread (Some (Ok x)) p c = (d : Calls)
 GivesCall unread (Some (Err e)) p c = (e.kind ≡ NoMemory → ⊥) → (m : StepState)
     × FailsAt p.stepper.renumbered p.stepper.scanner.options m c e × ParserIn unread p (failed_in m e c)
 
+-- what a step of the iterator gives and leaves where the machine's calls led
+pub record CallsTo {I : Type 0} (unread : I → Unread → Type 0) (origin : I → Origin) (old : Parsing I) (r : Next)
+    (new : Parsing I) : Type 0 where
+  pub calls : (c : Calls) → Reached old.stepper.scanner.options c → IsOpen c → ParserIn unread old c
+      → GivesCall unread r new c ⊎ TellsSource origin r new.stepper.scanner.cursor
+  pub closed : (c : Calls) → IsClosed c → ParserIn unread old c → ParserIn unread new c
+  pub lost : IfUnseen old.peeked (NeverRecovers origin old.stepper r new.stepper)
+
 -- a look leads nowhere but where it shows a fault, which then counts as given
 abbrev pub ShowsCall : {I : Type 0} → (I → Unread → Type 0) → Next → Parsing I → Calls → Type 0
 ShowsCall unread None p c = (next_call p.stepper.scanner.options c).0 ≡ None
@@ -142,6 +157,20 @@ pub record PeeksIn {I : Type 0} (unread : I → Unread → Type 0) (origin : I �
   pub calls : (c : Calls) → Reached old.stepper.scanner.options c → IsOpen c → ParserIn unread old c
       → (origin new.stepper.scanner.cursor.input).error ≡ None → ShowsCall unread r new c
   pub closed : (c : Calls) → IsClosed c → ParserIn unread old c → ParserIn unread new c
+  pub lost : IfUnseen old.peeked (NeverRecovers origin old.stepper r new.stepper)
+
+-- ---- another option, or another number
+
+-- Between calls the state of the machine is changed. What was looked at, or what recovery's look read, was read before:
+-- turns made early lead there.
+pub record ChangesIn {I : Type 0} (unread : I → Unread → Type 0) (o : OptionsData) (change : StepState → StepState)
+    (p : Parsing I) (c : Calls) : Type 0 where
+  pub steps : StepState
+  pub early : EarlyOf o c.steps steps
+  pub stands : ParserIn unread p (record c { steps = change steps })
+
+abbrev pub unchanged : StepState → StepState
+unchanged m = m
 
 -- ---- recovery
 

@@ -1,8 +1,8 @@
 -- What calls give and leave where the source of an input may fail.
-use Rattle.std.specs.Prelude.{◌≡◌, ◌≤◌, ℕ, true, false, [], Option, Some, None, Result, Ok, Err, IsSome}
+use Rattle.std.specs.Prelude.{◌≡◌, ◌≤◌, ℕ, true, false, [], Option, Some, None, Result, Ok, Err, IfErr, IfSome, IsSome}
 use Rattle.granit_base.specs.Place.{Place}
 use Rattle.granit_cursor.specs.Reading.{Reading}
-use Rattle.granit_error.specs.FaultKind.{FaultKind}
+use Rattle.granit_error.specs.FaultKind.{FaultKind, NoMemory}
 use Rattle.granit_error.specs.Refused.{Refused}
 use Rattle.granit_input.specs.Origin.{Origin, Goes}
 use Rattle.granit_stepper.specs.Stepping.{Stepping}
@@ -34,6 +34,18 @@ abbrev pub TellsError : {I X : Type 0} → (I → Origin) → Stepping I → Opt
 TellsError origin old r at =
     (f : FaultKind) → (origin at.input).error ≡ Some f → (origin old.scanner.cursor.input).handed_out ≡ false
     → old.failed ≡ false → TellsSource origin r at
+
+-- where a call gave want of memory, recovery is refused
+abbrev pub NeverRevives : {I X : Type 0} → Option (Result X Refused) → Stepping I → Type 0
+NeverRevives r new = IfSome r (λ x. IfErr x (λ e. e.kind ≡ NoMemory → new.refusal ≡ None))
+
+-- Behind the first error of a source nothing is read any more, and recovery is refused, as it is behind want of memory.
+pub record NeverRecovers {I X : Type 0} (origin : I → Origin) (old : Stepping I) (r : Option (Result X Refused))
+    (new : Stepping I) : Type 0 where
+  pub source : (f : FaultKind) → (origin new.scanner.cursor.input).error ≡ Some f
+      → (origin old.scanner.cursor.input).handed_out ≡ false → old.failed ≡ false
+      → (new.failed ≡ true) × (new.refusal ≡ None)
+  pub memory : NeverRevives r new
 
 -- the same of calls one behind the other, where there was no error before
 abbrev pub TellsMet : {I X : Type 0} → (I → Origin) → Reading I → Option (Result X Refused) → Reading I → Type 0

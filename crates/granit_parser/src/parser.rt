@@ -18,17 +18,21 @@ ghost use Rattle.granit_input.specs.Strings.{Leaves};
 ghost use Rattle.granit_lexemes.specs.Here.{Here, first_place};
 ghost use Rattle.granit_lexemes.specs.PlainEvent.{PlainEvent};
 ghost use Rattle.granit_parser.specs.Parsing as spec;
+ghost use Rattle.granit_parser.specs.Alone.{EndsAlone};
 ghost use Rattle.granit_parser.specs.Parsing.{EndsBehind, EndsText, EndsTold, EndsWith, GivesNext, IsOver};
-ghost use Rattle.granit_parser.specs.Parsing.{Keeps, LeadsTo, PeeksAs, StandsAt, next_view};
+ghost use Rattle.granit_parser.specs.Parsing.{Keeps, LeadsTo, PeeksAs, StandsAt, StepsBy, next_view};
 ghost use Rattle.granit_parser.specs.Recovering.{GivesCall, Goes, IsClosed, IsOpen, ParserIn, PeeksIn, ReadsNext};
 ghost use Rattle.granit_parser.specs.Recovering.{SeenBy};
 ghost use Rattle.granit_parser.specs.contracts.parser.Parser.{the_row};
-ghost use Rattle.granit_parser.specs.Sources.{IfUnseen, MovesUnless, TellsError, TellsSource, unless_failed};
+ghost use Rattle.granit_parser.specs.Sources.{IfUnseen, MovesUnless, NeverRecovers, NeverRevives, TellsError};
+ghost use Rattle.granit_parser.specs.Sources.{TellsSource, unless_failed};
 ghost use Rattle.granit_receivers.specs.Sending.{shown};
 ghost use Rattle.granit_recovery.specs.Streams.{Reached, calls_from};
 ghost use Rattle.granit_restart.specs.Calls.{Calls, calls_start};
 ghost use Rattle.granit_stepper.specs.Refusals.{HoldsRefusal, RefusedIn};
 ghost use Rattle.granit_stepper.specs.Stepping.{StandsIn, refused_kind};
+ghost use Rattle.granit_shifted.specs.Alone.{TellsAlone};
+ghost use Rattle.granit_shifted.specs.Shift.{Shift};
 ghost use Rattle.granit_steps.specs.Steps as steps;
 ghost use Rattle.granit_steps.specs.Steps.{StepState};
 ghost use Rattle.granit_steps.specs.Told.{told_from};
@@ -143,11 +147,13 @@ impl<'input, T: BorrowedInput<'input>> Parser<'input, T> {
     ///
     /// The contract: from a state of the plain machine it gives what that gives (`known`). Behind the first events of a
     /// text, an event goes on with what begins a stream, a refusal is a cause of the text, and where nothing more
-    /// comes, they are the events of its reading, a whole stream (`text`). Each event takes one of the finite list that
-    /// is told of the input, so there are no more of them (`told`). Where the number of a next anchor was ever set, an
-    /// anchor that would get the greatest one is refused instead; a parser that is known to stand in a state has given
-    /// none that number. The first error of the input's source stands in the place of all that was read up to it
-    /// (`source`). A refusal that is given is kept (`given`).
+    /// comes, they are the events of its reading, a whole stream (`text`). Behind a boundary the same is said of the
+    /// text that is left there, by its places there (`alone`; that behind each fault all is told so is a law of
+    /// granit_shifted). Each event takes one of the finite list that is told of the input, so there are no more of them
+    /// (`told`). Where the number of a next anchor was ever set, an anchor that would get the greatest one is refused
+    /// instead; a parser that is known to stand in a state has given none that number. The first error of the input's
+    /// source stands in the place of all that was read up to it (`source`), and behind it recovery is refused (`lost`).
+    /// A refusal that is given is kept (`given`).
     ///
     /// # Errors
     ///
@@ -159,9 +165,16 @@ impl<'input, T: BorrowedInput<'input>> Parser<'input, T> {
             ⊎ TellsSource T.origin result self.new.stepper.scanner.cursor }
         ensures source { IfUnseen self.old.peeked (TellsError T.origin self.old.stepper result
             self.new.stepper.scanner.cursor) }
+        ensures lost { IfUnseen self.old.peeked (NeverRecovers T.origin self.old.stepper result
+            self.new.stepper) }
         ensures text { (x : List ℕ) (es : List PlainEvent) (m : StepState) → StandsAt T.unread self.old m
             → LeadsTo self.old.stepper.scanner.options (steps.steps_start x) es m
             → EndsText self.old.stepper.scanner.options x es self.new.stepper.renumbered m result
+            ⊎ TellsSource T.origin result self.new.stepper.scanner.cursor }
+        ensures alone { (x : List ℕ) (shift : Shift) (s : StepState) (es : List PlainEvent) (m : StepState)
+            → TellsAlone self.old.stepper.scanner.options x shift s → StandsAt T.unread self.old m
+            → LeadsTo self.old.stepper.scanner.options s es m
+            → EndsAlone self.old.stepper.scanner.options x shift es self.new.stepper.renumbered m result
             ⊎ TellsSource T.origin result self.new.stepper.scanner.cursor }
         ensures told { (h : Here) (es : List PlainEvent) (m : StepState) → StandsAt T.unread self.old m
             → LeadsTo self.old.stepper.scanner.options (steps.start_from h) es m
@@ -191,14 +204,15 @@ impl<'input, T: BorrowedInput<'input>> Parser<'input, T> {
     /// What was looked at, or the next event.
     fn take_event(&mut self) -> Option<Result<(Event<'input>, Span), ScanError>>
         ensures known { (m : StepState) → StandsAt T.unread self.old m
-            → GivesNext result (StandsIn T.unread self.new.stepper)
-            self.new.stepper.renumbered self.old.stepper.scanner.options m
+            → StepsBy T.unread result self.old.stepper self.new.stepper m
             ⊎ TellsSource T.origin result self.new.stepper.scanner.cursor }
         ensures calls { (c : Calls) → Reached self.old.stepper.scanner.options c
             → SeenBy T.unread self.old.peeked self.old.stepper c → ReadsNext T.unread result self.new.stepper c
             ⊎ TellsSource T.origin result self.new.stepper.scanner.cursor }
         ensures source { IfUnseen self.old.peeked (TellsError T.origin self.old.stepper result
             self.new.stepper.scanner.cursor) }
+        ensures lost { IfUnseen self.old.peeked (NeverRecovers T.origin self.old.stepper result
+            self.new.stepper) }
         ensures peeked { self.new.peeked ≡ None }
         ensures given { self.new.given ≡ self.old.given }
         ensures between { self.new.between ≡ self.old.between }
@@ -267,17 +281,16 @@ impl<'input, T: BorrowedInput<'input>> Parser<'input, T> {
     /// The next event of the input, or the error of its source in the place of whatever was read up to that.
     fn read_event(&mut self) -> Option<Result<(Event<'input>, Span), ScanError>>
         ensures known { (m : StepState) → StandsIn T.unread self.old.stepper m
-            → GivesNext result (StandsIn T.unread self.new.stepper)
-            self.new.stepper.renumbered self.old.stepper.scanner.options m
+            → StepsBy T.unread result self.old.stepper self.new.stepper m
             ⊎ TellsSource T.origin result self.new.stepper.scanner.cursor }
         ensures sure { (m : StepState) → StandsIn T.unread self.old.stepper m
             → (T.origin self.new.stepper.scanner.cursor.input).error ≡ None
-            → GivesNext result (StandsIn T.unread self.new.stepper)
-            self.new.stepper.renumbered self.old.stepper.scanner.options m }
+            → StepsBy T.unread result self.old.stepper self.new.stepper m }
         ensures calls { (c : Calls) → Reached self.old.stepper.scanner.options c → Goes T.unread self.old.stepper c
             → ReadsNext T.unread result self.new.stepper c
             ⊎ TellsSource T.origin result self.new.stepper.scanner.cursor }
         ensures source { TellsError T.origin self.old.stepper result self.new.stepper.scanner.cursor }
+        ensures lost { NeverRecovers T.origin self.old.stepper result self.new.stepper }
         ensures peeked { self.new.peeked ≡ self.old.peeked }
         ensures given { self.new.given ≡ self.old.given }
         ensures between { self.new.between ≡ self.old.between }
@@ -317,6 +330,8 @@ impl<'input, T: BorrowedInput<'input>> Parser<'input, T> {
             → HoldsRefusal T.unread self.new.stepper m }
         ensures refused { (m : StepState) (e : Refused) → RefusedIn T.unread self.old.stepper m e → result ≡ None
             → RefusedIn T.unread self.new.stepper m e }
+        ensures lost { IfSome result (λ e. self.new.stepper.refusal ≡ None) }
+        ensures ended { result ≡ None → self.new.stepper.refusal ≡ self.old.stepper.refusal }
         ensures first { self.new.stepper.first ≡ self.old.stepper.first }
         ensures peeked { self.new.peeked ≡ self.old.peeked }
         ensures kept { self.new.given ≡ self.old.given }
@@ -344,6 +359,7 @@ impl<'input, T: BorrowedInput<'input>> Parser<'input, T> {
         ensures given { self.new.given ≡ self.old.given }
         ensures between { self.new.between ≡ self.old.between }
         ensures going { self.new.over ≡ self.old.over }
+        ensures lost { NeverRevives result self.new.stepper }
         ensures refused { EndsWith result self.new.stepper }
         ensures over { self.old.stepper.failed ≡ true → (result ≡ None) × (self.new ≡ self.old) }
         ensures options { self.new.stepper.scanner.options ≡ self.old.stepper.scanner.options }
@@ -410,8 +426,9 @@ impl<'input, T: BorrowedInput<'input>> Iterator for Parser<'input, T> {
     type Item = Result<(Event<'input>, Span), ScanError>;
 
     ghost use Rattle.granit_parser.specs.Parsing.{StepsTo};
+    ghost use Rattle.granit_parser.specs.Recovering.{CallsTo};
 
-    ghost next_gives = { λ p r q. StepsTo T.unread T.left T.origin p r q };
+    ghost next_gives = { λ p r q. StepsTo T.unread T.left T.origin p r q × CallsTo T.unread T.origin p r q };
 
     fn next(&mut self) -> Option<Result<(Event<'input>, Span), ScanError>> {
         self.next_event()

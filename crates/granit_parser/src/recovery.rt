@@ -1,12 +1,13 @@
 //! Recovery at a document boundary.
-ghost use Rattle.std.specs.Prelude.{◌≡◌, ◌⊎◌, ◌&&◌, not, true, false, None, Some, Ok, IfErr, IfOk, IfSome};
+ghost use Rattle.std.specs.Prelude.{◌≡◌, ◌⊎◌, ◌&&◌, not, true, false, None, Some, Ok, Err, IfErr, IfOk, IfSome};
 ghost use Rattle.std.specs.Prelude.{is_some, OnOk};
 ghost use Rattle.granit_cursor.specs.Reading.{GoesOnward, Moves};
 ghost use Rattle.granit_error.specs.FaultKind.{NoMemory as OutOfMemory};
 ghost use Rattle.granit_event.specs.Events.{event_kind};
 ghost use Rattle.granit_parser.specs.Parsing.{EndsWith, Keeps};
 ghost use Rattle.granit_parser.specs.Recovering as spec;
-ghost use Rattle.granit_parser.specs.Recovering.{AsksBy, Ends, Follows, GaveUp, ParserIn, Proceeds, SeenBy, Skips};
+ghost use Rattle.granit_parser.specs.Recovering.{AsksBy, Ends, Follows, GaveUp, GivesSeen, ParserIn, Proceeds};
+ghost use Rattle.granit_parser.specs.Recovering.{SeenBy, Skips};
 ghost use Rattle.granit_parser.specs.Recovering.{between_behind, notes_between, notes_over};
 ghost use Rattle.granit_parser.specs.Recovering.{over_behind, seen_in, seen_kind};
 ghost use Rattle.granit_parser.specs.Sources.{IsSourceError, TellsSource};
@@ -47,7 +48,8 @@ impl<'input, T: BorrowedInput<'input>> Parser<'input, T> {
     /// given or looked at the open document, directly behind the end of a document none, else the open or the next one.
     ///
     /// The contract: where the machine's calls led, it is their recovery (`known`). Want of memory, an error of the
-    /// source and a refusal of recovery itself are given again by each further call (`again`).
+    /// source and a refusal of recovery itself are given again by each further call (`again`, and `seen` where it was
+    /// looked at and not taken).
     ///
     /// # Errors
     ///
@@ -59,6 +61,8 @@ impl<'input, T: BorrowedInput<'input>> Parser<'input, T> {
             ⊎ TellsSource T.origin (Some result) self.new.stepper.scanner.cursor) }
         ensures again { self.old.over ≡ false → self.old.stepper.failed ≡ true → self.old.stepper.refusal ≡ None
             → IfSome self.old.given (λ e. GivesAgain e result) }
+        ensures seen { self.old.over ≡ false → self.old.stepper.failed ≡ true → self.old.stepper.refusal ≡ None
+            → self.old.given ≡ None → GivesSeen self.old.peeked result }
         ensures refused { IfErr result (λ e. GaveUp self.new e) }
         ensures over { self.old.over ≡ true → (result ≡ Ok false) × (self.new ≡ self.old) }
         ensures options { self.new.stepper.scanner.options ≡ self.old.stepper.scanner.options }
@@ -92,6 +96,8 @@ impl<'input, T: BorrowedInput<'input>> Parser<'input, T> {
             ⊎ TellsSource T.origin (Some result) self.new.stepper.scanner.cursor) }
         ensures again { self.old.over ≡ false → self.old.stepper.failed ≡ true → self.old.stepper.refusal ≡ None
             → IfSome self.old.given (λ e. GivesAgain e result) }
+        ensures seen { self.old.over ≡ false → self.old.stepper.failed ≡ true → self.old.stepper.refusal ≡ None
+            → self.old.given ≡ None → GivesSeen self.old.peeked result }
         ensures over { self.old.over ≡ true → (result ≡ Ok false) × (self.new ≡ self.old) }
         ensures refused { IfErr result (λ e. self.new.over ≡ false) }
         ensures options { self.new.stepper.scanner.options ≡ self.old.stepper.scanner.options }
@@ -151,6 +157,7 @@ impl<'input, T: BorrowedInput<'input>> Parser<'input, T> {
     /// The refusal that was given, or that was looked at.
     fn refused(&mut self) -> ScanError
         ensures given { IfSome self.old.given (λ e. IsKept e result) }
+        ensures seen { self.old.given ≡ None → GivesSeen self.old.peeked (Err result) }
         ensures rest { self.new ≡ record self.old { peeked = self.new.peeked } }
     {
         match &self.given {

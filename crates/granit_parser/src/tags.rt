@@ -1,18 +1,33 @@
 //! Whether a parser keeps what handles stand for over documents.
 ghost use Rattle.std.specs.Prelude.{◌≡◌, None};
 ghost use Rattle.granit_parser.specs.Parsing.{StandsAt, keeping};
+ghost use Rattle.granit_parser.specs.Recovering.{ChangesIn, IsClosed, IsOpen, ParserIn, unchanged};
+ghost use Rattle.granit_recovery.specs.Streams.{Reached};
+ghost use Rattle.granit_restart.specs.Calls.{Calls};
 ghost use Rattle.granit_steps.specs.Steps.{StepState};
 
 use crate::parser::Parser;
 use granit_input::BorrowedInput;
+use granit_recovery::calls_go_by_turns;
 
 impl<'input, T: BorrowedInput<'input>> Parser<'input, T> {
     /// Whether the handles of `%TAG` but `!` and `!!` stay over documents: sets the option `keep_tags` of this parser.
+    ///
+    /// The contract: where the machine's calls led, they go on from there under that option (`there`), also where turns
+    /// were made early, unless such a turn was refused (`calls`).
     pub fn keep_tags(self, value: bool) -> Parser<'input, T>
         ensures set { result ≡ keeping value self.entry }
         ensures known { (m : StepState) → self.entry.peeked ≡ None → StandsAt T.unread self.entry m
             → StandsAt T.unread result m }
+        ensures calls { (c : Calls) → Reached self.entry.stepper.scanner.options c → IsOpen c
+            → self.entry.stepper.ahead ≡ None → ParserIn T.unread self.entry c
+            → ChangesIn T.unread self.entry.stepper.scanner.options unchanged result c }
+        ensures there { (c : Calls) → IsOpen c → self.entry.peeked ≡ None → StandsAt T.unread self.entry c.steps
+            → ParserIn T.unread self.entry c → ParserIn T.unread result c }
+        ensures closed { (c : Calls) → IsClosed c → c.fault ≡ None → ParserIn T.unread self.entry c
+            → ParserIn T.unread result c }
     {
+        calls_go_by_turns();
         let mut parser = self;
         parser.stepper.set_keep_tags(value);
         parser

@@ -1,5 +1,5 @@
 -- How the code reads the characters of a URI: a character a turn.
-use Rattle.std.specs.Prelude.{◌≡◌, ℕ, ◌<◌, ◌≤◌, Bool, true, false, List, [], ◌∷◌, ◌++◌, Option, Some, None, Result, Ok}
+use Rattle.std.specs.Prelude.{◌≡◌, ℕ, Bool, true, false, List, [], ◌∷◌, ◌++◌, Option, Some, None, Result, Ok}
 use Rattle.std.specs.Prelude.{Err}
 use Rattle.std.specs.Str.{chars}
 use Rattle.granit_base.specs.Classes.{is_uri_char, is_tag_char}
@@ -80,12 +80,6 @@ UriGoesOn uri start limit (Ok true) Lands p before = (now : Here) × Lands now
 UriGoesOn uri start limit (Ok false) Lands p before =
     (now : Here) × Lands now × (before ≡ Ok (string_chars p.value, uri_at now (budget_of limit p.left)))
 UriGoesOn uri start limit (Err e) Lands p before = Fails e before
-
--- a turn that goes on took a character
-abbrev pub UriTurnTakes : {E : Type 0} → Result Bool E → ℕ → ℕ → Type 0
-UriTurnTakes (Ok true) old new = new < old
-UriTurnTakes (Ok false) old new = new ≤ old
-UriTurnTakes (Err e) old new = new ≤ old
 
 -- the kinds that a URI is refused by
 abbrev pub IsUriKind : (limit : Option ℕ) → FaultKind → Type 0

@@ -3,12 +3,12 @@
 ghost use Rattle.std.specs.Prelude.{◌≡◌, ◌≤◌, ◌-◌, Option, ℕ, IfErr, OnOk};
 ghost use Rattle.granit_base.specs.Classes as class;
 ghost use Rattle.granit_base.specs.Written.{string_chars};
-ghost use Rattle.granit_cursor.specs.Reading.{Stands, Moves, Wherever, GivesTo};
+ghost use Rattle.granit_cursor.specs.Reading.{Stands, Moves, Wherever, GivesTo, TurnTakes};
 ghost use Rattle.granit_lexemes.specs.Outcome.{GivesValue};
 ghost use Rattle.granit_lexemes.specs.Pieces.{with_front};
 ghost use Rattle.granit_lexemes.specs.Tags as spec;
 ghost use Rattle.granit_properties.specs.UriCode.{AppendsUri, UriGoesOn, SpellsUri, TrailsTo, UriTo, escaped_char};
-ghost use Rattle.granit_properties.specs.UriCode.{own_char, IsUriKind, LandsUri, UriTurnTakes, budget_of, uri_at};
+ghost use Rattle.granit_properties.specs.UriCode.{own_char, IsUriKind, LandsUri, budget_of, uri_at};
 ghost use Rattle.granit_properties.specs.UriCode.{uri_test, uri_whole};
 
 use granit_base::{Marker, as_hex, is_hex, is_tag_char, is_uri_char, push_char, push_text};
@@ -223,7 +223,7 @@ fn take_turn<T: Input>(
 ) -> Result<bool, ScanError>
     ensures here { Wherever T.unread cursor.old cursor.new (λ h Lands.
         UriGoesOn uri start limit result Lands parts.new (uri_whole uri start limit parts.old h)) }
-    ensures left { UriTurnTakes result (T.left cursor.old.input) (T.left cursor.new.input) }
+    ensures left { TurnTakes result (T.left cursor.old.input) (T.left cursor.new.input) }
     ensures kinds { IfErr result (λ e. IsUriKind limit e.kind) }
     ensures moves { Moves T.unread T.left T.origin cursor.old cursor.new }
 {

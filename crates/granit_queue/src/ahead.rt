@@ -1,7 +1,7 @@
 //! What is asked of the items behind another.
 ghost use Rattle.std.specs.Prelude.{◌≡◌, ◌||◌, if◌then◌else◌, Some, None};
 ghost use Rattle.std.specs.Option.{option_map};
-ghost use Rattle.granit_items.specs.ItemViews.{item_view, kind_view, lexeme_view, note_view};
+ghost use Rattle.granit_items.specs.ItemViews.{boxed_view, item_view, kind_view, lexeme_view};
 ghost use Rattle.granit_machine.specs.Parser as parser;
 ghost use Rattle.granit_steps.specs.Steps as spec;
 
@@ -18,8 +18,8 @@ pub fn asks_next(item: &Item<'_>) -> bool
     }
 }
 
-fn is_open(tail: &Option<Note<'_>>) -> bool
-    ensures { result ≡ spec.is_open_comment (option_map note_view tail.now) }
+fn is_open(tail: &Option<Box<Note<'_>>>) -> bool
+    ensures { result ≡ spec.is_open_comment (option_map boxed_view tail.now) }
 {
     match tail {
         None => false,

@@ -1,5 +1,6 @@
 //! Items that were read and not yet taken.
-ghost use Rattle.std.specs.Prelude.{◌≡◌, ◌||◌, ◌==◌, true, [], ◌∷◌, length, map, Some, slice_get, drop, take, OnOk};
+ghost use Rattle.std.specs.Prelude.{◌≡◌, ◌||◌, ◌==◌, true, false, [], ◌∷◌, length, map, Some, OnOk};
+ghost use Rattle.std.specs.Prelude.{slice_get, drop, take};
 ghost use Rattle.std.specs.Option.{option_copied, option_map};
 ghost use Rattle.granit_items.specs.ItemViews.{found_items, item_view, key_view};
 ghost use Rattle.granit_queue.specs.QueueViews.{flags_of, is_numbered, queue_view, queued_view};
@@ -61,19 +62,7 @@ impl<'input> Queue<'input> {
     pub fn push_found(&mut self, found: &mut Found<'input>) -> Result<(), NoMemory>
         ensures { OnOk result (self.new ≡ spec.pushed self.old (found_items found.old)) }
     {
-        if let Some(lexeme) = found.lexeme.take() {
-            self.push(Item::Lexeme(lexeme))?;
-        }
-        if let Some(note) = found.note.take() {
-            self.push(Item::Note(note))?;
-        }
-        Ok(())
-    }
-
-    fn push(&mut self, item: Item<'input>) -> Result<(), NoMemory>
-        ensures { OnOk result (self.new ≡ spec.pushed self.old (item_view item.entry ∷ [])) }
-    {
-        push_item(&mut self.items, &mut self.numbers, item)
+        push_all(&mut self.items, &mut self.numbers, found)
     }
 
     /// The item behind so many older ones.
@@ -115,22 +104,47 @@ impl<'input> Queue<'input> {
     }
 }
 
-fn push_item<'input>(
+fn push_all<'input>(
     items: &mut VecDeque<Queued<'input>>,
     numbers: &mut Numbers,
-    item: Item<'input>,
+    found: &mut Found<'input>,
 ) -> Result<(), NoMemory>
     requires rising { Rising numbers.old (queue_view items.old.items) }
     ensures pushed { OnOk result (queue_view items.new.items
-        ≡ spec.pushed (queue_view items.old.items) (item_view item.entry ∷ [])) }
+        ≡ spec.pushed (queue_view items.old.items) (found_items found.old)) }
     ensures rising { Rising numbers.new (queue_view items.new.items) }
 {
-    mark_by(items, numbers.rises, &item);
-    numbers.push(&item);
-    items.push_back(Queued {
-        item,
-        begins_key: false,
-    })?;
+    // No `:` was read behind what was found.
+    let begins_key = false;
+    if let Some(lexeme) = found.lexeme.take() {
+        let item = Item::Lexeme(lexeme);
+        push(items, numbers, Queued { item, begins_key })?;
+    }
+    if let Some(note) = found.note.take() {
+        let note = Item::Note(Box::into_inner(note));
+        let queued = Queued {
+            item: note,
+            begins_key,
+        };
+        push(items, numbers, queued)?;
+    }
+    Ok(())
+}
+
+fn push<'input>(
+    items: &mut VecDeque<Queued<'input>>,
+    numbers: &mut Numbers,
+    queued: Queued<'input>,
+) -> Result<(), NoMemory>
+    requires unflagged { queued.begins_key ≡ false }
+    requires rising { Rising numbers.old (queue_view items.old.items) }
+    ensures pushed { OnOk result (queue_view items.new.items
+        ≡ spec.pushed (queue_view items.old.items) (item_view queued.entry.item ∷ [])) }
+    ensures rising { Rising numbers.new (queue_view items.new.items) }
+{
+    mark_by(items, numbers.rises, &queued.item);
+    numbers.push(&queued.item);
+    items.push_back(queued)?;
     Ok(())
 }
 

@@ -1,6 +1,7 @@
 -- Where a read takes no memory, by its parts.
-use Rattle.std.proofs.Common.{◌≡◌, Bool, true, false, ◌&&◌, not, if◌then◌else◌, Option, Some, None, Result, Ok, Err}
-use Rattle.std.proofs.Common.{◌⊎◌, inl, inr, refl, sym, ap, subst, ◌∙◌}
+use Rattle.std.proofs.Common.{◌≡◌, ℕ, ◌≤◌, Bool, true, false, ◌&&◌, not, nat_le, if◌then◌else◌, List, [], ◌∷◌, length}
+use Rattle.std.proofs.Common.{Option, Some, None, Result, Ok, Err, ◌⊎◌, inl, inr, refl, sym, ap, subst, ◌∙◌, arith}
+use Rattle.std.proofs.lemmas.Bool.Decides.{nat_tests}
 use Rattle.granit_base.specs.Place.{Mark, Place}
 use Rattle.granit_error.specs.FaultKind.{SimpleKeyExpected}
 use Rattle.granit_error.specs.OptionsData.{OptionsData}
@@ -9,6 +10,7 @@ use Rattle.granit_lexemes.specs.Basics.{fails_at}
 use Rattle.granit_lexemes.specs.Comment.{CommentRead}
 use Rattle.granit_lexemes.specs.Here.{Here, mark_of}
 use Rattle.granit_lexemes.specs.Outcome.{Fault, ◌>>=◌}
+use Rattle.granit_lexemes.specs.declared.layout.OpenBracket.{OpenBracket}
 use Rattle.granit_lexemes.specs.declared.layout.PossibleKey.{PossibleKey}
 use Rattle.granit_layout.specs.Opening.{opens_column}
 use Rattle.granit_machine.specs.Gaps.{gap}
@@ -17,7 +19,8 @@ use Rattle.granit_machine.specs.Leaving.{Leaves}
 use Rattle.granit_machine.specs.LexemeSort.{PlacedSort, OpenSign, CloseSign, CommaSign, DashSign, QuestionSign}
 use Rattle.granit_machine.specs.LexemeSort.{ColonSign, AliasSign, AnchorSign, TagSign, BlockSign, QuoteSign, StrayMark}
 use Rattle.granit_machine.specs.LexemeSort.{NoSign, PlainSign}
-use Rattle.granit_machine.specs.PossibleKeys.{is_allowed, stale_key, refuse_required, top_key, without_stale}
+use Rattle.granit_machine.specs.PossibleKeys.{is_allowed, keyed_brackets, node_key, stale_key, refuse_required}
+use Rattle.granit_machine.specs.PossibleKeys.{top_key, without_stale}
 use Rattle.granit_machine.specs.ReaderState.{ReaderState}
 use Rattle.granit_content.specs.Reads.{Nothing, NeverWants, seen}
 use Rattle.granit_reader.specs.Reads.{reader_at}
@@ -49,23 +52,34 @@ module _ (o : OptionsData) (h : Here) (place : Place) (begins_line : Bool) (tab 
       rw (first, second, third) at (neither (begins_pair (top_key l) (is_allowed h.begins_line h.tab l) l)
       (opens_column o (pair_column (top_key l) h.place.column) l.columns) none)
 
--- a lexeme that takes none begins no node
-pub begins_no_node : (o : OptionsData) (sort : PlacedSort) (h : Here) (l : Laid) → placed_takes_none o sort h l ≡ true
-    → noded_by sort h l ≡ l
-begins_no_node o (OpenSign bracket) h l none = absurd cc
-begins_no_node o (CloseSign bracket) h l none = refl
-begins_no_node o CommaSign h l none = refl
-begins_no_node o DashSign h l none = refl
-begins_no_node o QuestionSign h l none = refl
-begins_no_node o ColonSign h l none = refl
-begins_no_node o AliasSign h l none = absurd cc
-begins_no_node o AnchorSign h l none = absurd cc
-begins_no_node o TagSign h l none = absurd cc
-begins_no_node o (BlockSign literal) h l none = absurd cc
-begins_no_node o (QuoteSign single) h l none = absurd cc
-begins_no_node o StrayMark h l none = refl
-begins_no_node o NoSign h l none = refl
-begins_no_node o PlainSign h l none = absurd cc
+-- a test of a limit, as it is
+pub at_least : (m n : ℕ) → nat_le m n ≡ true → m ≤ n
+at_least m n is = grind (arith, nat_tests)
+
+-- where a node begins, as many brackets are open as before
+same_depth : (key : Option PossibleKey) (bs : List OpenBracket) → length (keyed_brackets key bs) ≡ length bs
+same_depth key [] = refl
+same_depth key (b ∷ bs) = refl
+
+-- a lexeme that takes none takes none where its node has begun; but for a bracket it begins none
+pub noded_takes_none : (o : OptionsData) (sort : PlacedSort) (h : Here) (l : Laid)
+    → placed_takes_none o sort h l ≡ true → placed_takes_none o sort h (noded_by sort h l) ≡ true
+noded_takes_none o (OpenSign bracket) h l none =
+    ap (nat_le o.flow_nesting_limit)
+    (same_depth (node_key false (is_allowed h.begins_line h.tab l) (mark_of h) l) l.brackets) ∙ none
+noded_takes_none o (CloseSign bracket) h l none = none
+noded_takes_none o CommaSign h l none = none
+noded_takes_none o DashSign h l none = none
+noded_takes_none o QuestionSign h l none = none
+noded_takes_none o ColonSign h l none = none
+noded_takes_none o AliasSign h l none = none
+noded_takes_none o AnchorSign h l none = none
+noded_takes_none o TagSign h l none = absurd cc
+noded_takes_none o (BlockSign literal) h l none = absurd cc
+noded_takes_none o (QuoteSign single) h l none = absurd cc
+noded_takes_none o StrayMark h l none = none
+noded_takes_none o NoSign h l none = none
+noded_takes_none o PlainSign h l none = absurd cc
 
 -- ---- keys that reading has left behind
 

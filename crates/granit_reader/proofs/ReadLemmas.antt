@@ -1,6 +1,7 @@
 -- One read, as the code makes it.
 use Rattle.std.proofs.Common.{◌≡◌, Bool, true, false, List, [], ◌∷◌, ◌++◌, Option, Some, None, Result, Ok, Err}
 use Rattle.std.proofs.Common.{refl, sym, ap, subst, ◌∙◌}
+use Rattle.std.specs.Global.{Box}
 use Rattle.granit_error.specs.OptionsData.{OptionsData}
 use Rattle.granit_error.specs.Refused.{Refused}
 use Rattle.granit_lexemes.specs.Comment.{CommentRead}
@@ -27,7 +28,8 @@ use Rattle.granit_reader.specs.SortViews.{noded_by, begun}
 
 -- ---- a lexeme with no comment behind it
 
-only_lexeme : (x : Option Lexeme) (n : Option Note) → n ≡ None → lexeme_items x ≡ lexeme_items x ++ note_items n
+only_lexeme : (x : Option Lexeme) (n : Option (Box Note)) → n ≡ None
+    → lexeme_items x ≡ lexeme_items x ++ note_items n
 only_lexeme None n none = rw none refl
 only_lexeme (Some x) n none = rw none refl
 

@@ -5,8 +5,8 @@ use Rattle.std.proofs.lemmas.Bool.{cases_Bool, and_parts, or_parts, eqb-true}
 use Rattle.granit_base.specs.Classes.{is_z, is_break, is_breakz, is_blank, is_blank_or_breakz, is_flow, is_bom, is_gap}
 use Rattle.granit_base.specs.Classes.{is_printable}
 use Rattle.granit_base.specs.PlainContent.{is_content}
-use Rattle.granit_block.specs.BlockCode.{block_indicator}
 use Rattle.granit_lexemes.specs.Basics.{is_document_mark}
+use Rattle.granit_lexemes.specs.BlockScalar.{block_indicator}
 use Rattle.granit_lexemes.specs.Here.{Here, text_len, next_char}
 use Rattle.granit_lexemes.specs.QuotedScalar.{quote_char}
 use Rattle.granit_machine.specs.LexemeSort.{sort_of, sort_at}

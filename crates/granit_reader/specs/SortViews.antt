@@ -1,10 +1,10 @@
 -- Which lexeme a text begins with, as the code has it.
 use Rattle.std.specs.Prelude.{◌≡◌, Bool, true, false, if◌then◌else◌}
 use Rattle.granit_base.specs.PlainContent.{is_content}
-use Rattle.granit_block.specs.BlockCode.{block_indicator}
 use Rattle.granit_error.specs.FaultKind.{BomInsideDocument}
 use Rattle.granit_error.specs.OptionsData.{OptionsData}
 use Rattle.granit_lexemes.specs.Basics.{fails_at}
+use Rattle.granit_lexemes.specs.BlockScalar.{block_indicator}
 use Rattle.granit_lexemes.specs.Here.{Here, next_char, mark_of}
 use Rattle.granit_lexemes.specs.QuotedScalar.{quote_char}
 use Rattle.granit_machine.specs.FlowLexemes.{opener, closer, comma}

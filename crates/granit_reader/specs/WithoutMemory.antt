@@ -1,6 +1,7 @@
--- Which reads take no memory, where comments aren't asked for: those that open no bracket and no column, and read no
--- text that may be one of its own.
-use Rattle.std.specs.Prelude.{◌≡◌, Bool, true, false, ◌&&◌, ◌||◌, not, Option, Some, None, Result, Ok, Err}
+-- Which reads take no memory, where comments aren't asked for: those that open no bracket and no column, a bracket that
+-- is one too many among them, and read no text that may be one of its own. A name that the input lends is none.
+use Rattle.std.specs.Prelude.{◌≡◌, Bool, true, false, ◌&&◌, ◌||◌, not, nat_le, length, Option, Some, None, Result}
+use Rattle.std.specs.Prelude.{Ok, Err}
 use Rattle.granit_base.specs.Place.{Unread}
 use Rattle.granit_cursor.specs.Reading.{Reading, Stands}
 use Rattle.granit_error.specs.OptionsData.{OptionsData}
@@ -11,8 +12,9 @@ use Rattle.granit_lexemes.specs.Outcome.{Fault}
 use Rattle.granit_machine.specs.Columns.{closed_at}
 use Rattle.granit_machine.specs.Gaps.{gap}
 use Rattle.granit_machine.specs.Laid.{Laid, is_adjacent, is_in_flow}
-use Rattle.granit_machine.specs.LexemeSort.{PlacedSort, CloseSign, CommaSign, DashSign, QuestionSign, ColonSign}
-use Rattle.granit_machine.specs.LexemeSort.{StrayMark, NoSign, LexemeSort, DirectiveSign, Placed, sort_at}
+use Rattle.granit_machine.specs.LexemeSort.{PlacedSort, OpenSign, CloseSign, CommaSign, DashSign}
+use Rattle.granit_machine.specs.LexemeSort.{QuestionSign, ColonSign, AliasSign, AnchorSign, StrayMark, NoSign}
+use Rattle.granit_machine.specs.LexemeSort.{LexemeSort, DirectiveSign, Placed, sort_at}
 use Rattle.granit_machine.specs.PossibleKeys.{is_allowed, top_key, without_stale}
 use Rattle.granit_machine.specs.Reader.{LexState}
 use Rattle.granit_machine.specs.ReaderState.{ReaderState}
@@ -33,11 +35,14 @@ pair_opens o h l =
     && opens_column o (pair_column (top_key l) h.place.column) l.columns
 
 abbrev pub placed_takes_none : OptionsData → PlacedSort → Here → Laid → Bool
+placed_takes_none o (OpenSign bracket) h l = nat_le o.flow_nesting_limit (length l.brackets)
 placed_takes_none o (CloseSign bracket) h l = true
 placed_takes_none o CommaSign h l = true
 placed_takes_none o DashSign h l = not (entry_opens o h l)
 placed_takes_none o QuestionSign h l = not (entry_opens o h l)
 placed_takes_none o ColonSign h l = not (pair_opens o h l)
+placed_takes_none o AliasSign h l = h.unread.lends
+placed_takes_none o AnchorSign h l = h.unread.lends
 placed_takes_none o StrayMark h l = true
 placed_takes_none o NoSign h l = true
 placed_takes_none o other h l = false

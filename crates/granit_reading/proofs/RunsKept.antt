@@ -7,7 +7,7 @@ use Rattle.granit_error.specs.OptionsData.{OptionsData}
 use Rattle.granit_lexemes.specs.Comment.{CommentRead}
 use Rattle.granit_lexemes.specs.Here.{Here, is_quiet, mark_of}
 use Rattle.granit_lexemes.specs.Lexeme.{LexemeKind, Comma, Question, Colon, KeyStart, Lexeme, Item}
-use Rattle.granit_lexemes.specs.Lexeme.{OfLexeme, OfComment}
+use Rattle.granit_lexemes.specs.Lexeme.{OfLexeme, OfComment, is_entry_dash}
 use Rattle.granit_machine.specs.Columns.{entered}
 use Rattle.granit_machine.specs.IndicatorLexemes.{widened_if, is_before_break}
 use Rattle.granit_machine.specs.Laid.{Laid, is_opener, is_dash, is_indicator, is_question, is_nonempty, is_in_flow}
@@ -32,7 +32,7 @@ use Rattle.granit_language.specs.Begins.{SignBegins, Begins, sign}
 use Rattle.granit_language.specs.Begins as begins
 use Rattle.granit_language.specs.Fitting.{OfNode, Opens, Closes, Other, role_of}
 use Rattle.granit_language.specs.KeyRuns.{role, WholeBrackets, whole_none, whole_other, whole_pair, Run, part_begins}
-use Rattle.granit_language.specs.KeyRuns.{part_joins, whole_begins, whole_joins, opens_entry, is_entry_dash}
+use Rattle.granit_language.specs.KeyRuns.{part_joins, whole_begins, whole_joins, opens_entry}
 use Rattle.granit_language.specs.KeyRuns.{is_key_sign, MayBeKey, too_far, no_run, no_key}
 use Rattle.granit_language.specs.KeyRuns.{ColonSays, ColonsSay}
 use Rattle.granit_language.specs.HeldSaid.{Now, no_run_now, run_now, Lead, lead_begins, lead_joins, Leads, Pending}

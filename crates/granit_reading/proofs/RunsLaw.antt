@@ -7,7 +7,7 @@ use Rattle.granit_base.specs.Place.{Mark}
 use Rattle.granit_error.specs.OptionsData.{OptionsData}
 use Rattle.granit_lexemes.specs.Here.{Here, mark_of}
 use Rattle.granit_lexemes.specs.LayoutData.{is_left}
-use Rattle.granit_lexemes.specs.Lexeme.{LexemeKind, Open, Comma, Dash, KeyStart, Lexeme}
+use Rattle.granit_lexemes.specs.Lexeme.{LexemeKind, Open, Comma, Dash, KeyStart, Lexeme, is_entry_dash}
 use Rattle.granit_lexemes.specs.Place.{one_more_if, line_ends}
 use Rattle.granit_machine.specs.Laid.{Laid, is_opener, is_dash, is_indicator, is_in_flow, block_column}
 use Rattle.granit_lexemes.specs.declared.layout.PossibleKey.{PossibleKey}
@@ -17,7 +17,7 @@ use Rattle.granit_machine.specs.PossibleKeys.{key_goes_on, node_key}
 use Rattle.granit_language.specs.Fitting.{OfNode, Closes, role_of}
 use Rattle.granit_language.specs.KeyRuns.{NoRun, joins_run, BeginsRun, Run, part_begins}
 use Rattle.granit_language.specs.KeyRuns.{part_joins, whole_begins, whole_joins, opens_entry, follows_opener}
-use Rattle.granit_language.specs.KeyRuns.{is_entry_dash, follows_dash, NoTabBehind, MayBeKey, too_far}
+use Rattle.granit_language.specs.KeyRuns.{follows_dash, NoTabBehind, MayBeKey, too_far}
 use Rattle.granit_language.specs.HeldSaid.{Holds, Now, no_run_now, run_now, lead_begins, lead_joins, Leads}
 use Rattle.granit_language.specs.HeldSaid.{Pending, Around, Depths, LastSays}
 use Rattle.granit_reading.proofs.Counting.{At, Further}

@@ -6,12 +6,13 @@ use Rattle.std.proofs.lemmas.Bool.{cond-true, cond-false, and_parts, or_parts}
 use Rattle.granit_base.specs.Classes.{is_blank_or_breakz, is_flow, is_printable, is_bom, is_break}
 use Rattle.granit_base.specs.Place.{first}
 use Rattle.granit_lexemes.specs.Basics.{is_document_mark}
+use Rattle.granit_lexemes.specs.BlockScalar.{block_indicator}
 use Rattle.granit_lexemes.specs.Here.{Here}
 use Rattle.granit_lexemes.specs.declared.layout.Bracket.TheVariants.{Square, Curly}
 use Rattle.granit_lexemes.proofs.HereLemmas.{not_empty}
 use Rattle.granit_machine.specs.LexemeSort.{PlacedSort, NoSign, PlainSign, LexemeSort, TextEnd, StartMark, EndMark}
 use Rattle.granit_machine.specs.LexemeSort.{Unprintable, DirectiveSign, Placed, sort_of, sort_at}
-use Rattle.granit_language.specs.Begins.{block_char, ReservedChar, parts_colon, SignBegins, opens, closes, comma, dash}
+use Rattle.granit_language.specs.Begins.{ReservedChar, parts_colon, SignBegins, opens, closes, comma, dash}
 use Rattle.granit_language.specs.Begins.{question, colon, alias, anchor, tag, block, quote, stray, nothing, other}
 use Rattle.granit_language.specs.Begins.{ThreeStand, NoMark, Begins, at_end, dashes, dots, unprintable, directive, sign}
 use Rattle.granit_reading.proofs.Sorting.{same, some_of, three, three_stand}
@@ -43,7 +44,7 @@ module _ (in_flow adjacent : Bool) (next : ℕ) where
   Sorts c s = sort_of in_flow adjacent c next ≡ s
 
   -- a character that is reserved and begins no block scalar
-  reserved_answers : (c : ℕ) → ReservedChar c → (in_flow ≡ false → (literal : Bool) → c ≢ block_char literal)
+  reserved_answers : (c : ℕ) → ReservedChar c → (in_flow ≡ false → (literal : Bool) → c ≢ block_indicator literal)
       → Sorts c NoSign
   unfolding sort_of is_bom
   reserved_answers c (inl (inl e)) n = subst (λ c. Sorts c NoSign) (sym e) refl

@@ -6,6 +6,7 @@ use Rattle.std.specs.Prelude.{if◌then◌else◌, slice_index}
 use Rattle.std.proofs.lemmas.Bool.Decides.{nat_tests}
 use Rattle.granit_base.specs.Classes.{is_blank_or_breakz, is_flow, is_printable, is_bom}
 use Rattle.granit_base.specs.Place.{first}
+use Rattle.granit_lexemes.specs.BlockScalar.{block_indicator}
 use Rattle.granit_lexemes.specs.Here.{Here}
 use Rattle.granit_lexemes.specs.declared.layout.Bracket.TheVariants.{Square, Curly}
 use Rattle.granit_lexemes.specs.Basics.{is_document_mark}
@@ -14,7 +15,7 @@ use Rattle.granit_machine.specs.LexemeSort.{PlacedSort, LexemeSort, TextEnd, Sta
 use Rattle.granit_machine.specs.LexemeSort.{DirectiveSign, Placed, OpenSign, CloseSign, CommaSign, DashSign}
 use Rattle.granit_machine.specs.LexemeSort.{QuestionSign, ColonSign, AliasSign, AnchorSign, TagSign, BlockSign}
 use Rattle.granit_machine.specs.LexemeSort.{QuoteSign, StrayMark, sort_of, sort_at}
-use Rattle.granit_language.specs.Begins.{block_char, ReservedChar, parts_colon, SignBegins, opens, closes, comma, dash}
+use Rattle.granit_language.specs.Begins.{ReservedChar, parts_colon, SignBegins, opens, closes, comma, dash}
 use Rattle.granit_language.specs.Begins.{question, colon, alias, anchor, tag, block, quote, stray, nothing, other}
 use Rattle.granit_language.specs.Begins.{ThreeStand, NoMark, Begins, at_end, dashes, dots, unprintable, directive, sign}
 
@@ -103,7 +104,7 @@ module _ (in_flow adjacent : Bool) (next : ℕ) where
   quote_at c false e held = at_char c 0x22 (QuoteSign false) held (quote false)
 
   not_block : (c : ℕ) → ((c == 0x7C || c == 0x3E) && not in_flow) ≡ false → in_flow ≡ false → (literal : Bool)
-      → c ≢ block_char literal
+      → c ≢ block_indicator literal
   not_block c e out true p = absurd (let n : (c == 0x7C)
       ≡ true = grind (arith, nat_tests, p) in let z = rw (n, out) at e in cc)
   not_block c e out false p = absurd (let n : (c == 0x3E) ≡ true = grind (arith, nat_tests, p) in let m : (c == 0x7C)

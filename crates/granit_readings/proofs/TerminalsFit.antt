@@ -1,12 +1,12 @@
 -- The lexemes of flagged items that fit are terminals that fit.
-use Rattle.std.proofs.Common.{◌≡◌, ℕ, Bool, true, false, List, [], ◌∷◌, map, Option, Some, None, refl, sym, ap, ◌∙◌}
+use Rattle.std.proofs.Common.{◌≡◌, ℕ, Bool, true, List, [], ◌∷◌, map, Option, Some, None, refl, sym, ◌∙◌}
 use Rattle.std.proofs.Common.{subst, ◌||◌, not}
 use Rattle.granit_error.specs.OptionsData.{OptionsData}
-use Rattle.granit_language.specs.Fitting.{role_of, role_fits, is_inner_key, keys_behind, with_inner_key, outer_keys}
-use Rattle.granit_language.specs.Fitting.{without_inner_key, item_fits, behind_item, ItemKeysFit}
+use Rattle.granit_language.specs.Fitting.{role_of, role_fits, keys_behind}
+use Rattle.granit_language.specs.Fitting.{item_fits, behind_item, ItemKeysFit}
 use Rattle.granit_language.specs.Fitting.{begins_entry, item_stands, ItemLinesFit}
 use Rattle.granit_language.specs.Reached.{Reached}
-use Rattle.granit_language.specs.Reading.{begins_kind, LinesFit, set_key, closed, no_key_now, keys_next, names_key}
+use Rattle.granit_language.specs.Reading.{begins_kind, LinesFit, keys_next}
 use Rattle.granit_language.specs.Reading.{key_fits, KeysFit}
 use Rattle.granit_language.specs.Scope.{Scope, no_scope}
 use Rattle.granit_language.specs.Scoping.{next_scope, scoped}
@@ -73,24 +73,6 @@ seen_lines (i ∷ is) p =
 
 -- ---- keys
 
-same_key : (flag : Bool) (n : ℕ) (ks : List (Option ℕ)) → with_inner_key flag n ks ≡ set_key flag n ks
-same_key true n [] = refl
-same_key true n (k ∷ ks) = refl
-same_key false n ks = refl
-
-same_outer : (ks : List (Option ℕ)) → outer_keys ks ≡ closed ks
-same_outer [] = refl
-same_outer (k ∷ ks) = refl
-
-same_without : (ks : List (Option ℕ)) → without_inner_key ks ≡ no_key_now ks
-same_without [] = refl
-same_without (k ∷ ks) = refl
-
-same_name : (n : ℕ) (ks : List (Option ℕ)) → is_inner_key n ks ≡ names_key n ks
-same_name n [] = refl
-same_name n (None ∷ ks) = refl
-same_name n (Some m ∷ ks) = refl
-
 same_fit : (kind : lexemes.LexemeKind) (key : Option KeyStart) (ks : List (Option ℕ)) →
     role_fits (role_of kind key) ks ≡ key_fits (terminal_kind kind key) ks
 same_fit (lexemes.Directive directive) key ks = refl
@@ -103,7 +85,7 @@ same_fit lexemes.Comma key ks = refl
 same_fit lexemes.Dash key ks = refl
 same_fit lexemes.Question key ks = refl
 same_fit lexemes.Colon None ks = refl
-same_fit lexemes.Colon (Some k) ks = same_name k.number ks
+same_fit lexemes.Colon (Some k) ks = refl
 same_fit (lexemes.Alias name) key ks = refl
 same_fit (lexemes.Anchor name) key ks = refl
 same_fit (lexemes.Tag handle suffix) key ks = refl
@@ -115,17 +97,17 @@ same_next (lexemes.Directive directive) key i ks = refl
 same_next lexemes.DocumentStart key i ks = refl
 same_next lexemes.DocumentEnd key i ks = refl
 same_next lexemes.StreamEnd key i ks = refl
-same_next (lexemes.Open bracket) key i ks = ap (λ (ks : List (Option ℕ)). None ∷ ks) (same_key i.begins_key i.number ks)
-same_next (lexemes.Close bracket) key i ks = same_outer ks
+same_next (lexemes.Open bracket) key i ks = refl
+same_next (lexemes.Close bracket) key i ks = refl
 same_next lexemes.Comma key i ks = refl
 same_next lexemes.Dash key i ks = refl
 same_next lexemes.Question key i ks = refl
 same_next lexemes.Colon None i ks = refl
-same_next lexemes.Colon (Some k) i ks = same_without ks
-same_next (lexemes.Alias name) key i ks = same_key i.begins_key i.number ks
-same_next (lexemes.Anchor name) key i ks = same_key i.begins_key i.number ks
-same_next (lexemes.Tag handle suffix) key i ks = same_key i.begins_key i.number ks
-same_next (lexemes.Scalar style text) key i ks = same_key i.begins_key i.number ks
+same_next lexemes.Colon (Some k) i ks = refl
+same_next (lexemes.Alias name) key i ks = refl
+same_next (lexemes.Anchor name) key i ks = refl
+same_next (lexemes.Tag handle suffix) key i ks = refl
+same_next (lexemes.Scalar style text) key i ks = refl
 
 seen_key : (i : Item) (flag : Bool) (ks : List (Option ℕ)) (more : List Terminal) → item_fits i ks ≡ true →
     KeysFit (behind_item i flag ks) more → KeysFit ks (map_seen i flag more)

@@ -1,8 +1,8 @@
 -- Refusals that are kept, to be given again.
 use Rattle.std.specs.Prelude.{◌≡◌, ◌⊎◌, ℕ, Option, Some, None, Result, Ok, Err, IfOk, IfErr}
+use Rattle.granit_base.specs.Counts.{Rose}
 use Rattle.granit_error.specs.FaultKind.{NoMemory}
 use Rattle.granit_error.specs.Refused.{Refused}
-use Rattle.granit_receivers.specs.Counts.{Rose}
 use Rattle.granit_receivers.specs.declared.error.TryLoadError.{TryLoadError}
 use Rattle.granit_receivers.specs.declared.error.TryLoadError.TheVariants.{Scan, Receiver}
 

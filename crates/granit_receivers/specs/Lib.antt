@@ -1,4 +1,3 @@
-pub mod Counts
 pub mod Kept
 pub mod LoadWords
 pub mod Sending

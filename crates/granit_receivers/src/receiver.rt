@@ -1,8 +1,8 @@
 //! Receivers of events.
 ghost use Rattle.std.specs.Prelude.{◌≡◌, ℕ, ◌≤◌, List, [], ◌∷◌, Option, None, OnOk, OnErr};
+ghost use Rattle.granit_base.specs.Counts.{last_count, Rose};
 ghost use Rattle.granit_base.specs.declared.place.Span as place;
 ghost use Rattle.granit_event.specs.declared.event.Event as event;
-ghost use Rattle.granit_receivers.specs.Counts.{Rose, last_count};
 ghost use Rattle.granit_receivers.specs.Taking.{Grows};
 
 use granit_base::Span;

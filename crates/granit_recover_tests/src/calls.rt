@@ -93,7 +93,18 @@ fn row<'a, T: BorrowedInput<'a>>(parser: &mut Parser<'a, T>, call: Call) -> Row 
 
 /// What eight calls over a text give.
 pub(crate) fn rows(alloc: Global, text: &str, options: Options, calls: [Call; 8]) -> [Row; 8] {
-    let mut parser = Parser::new_from_str_with_options(alloc, text, options);
+    rows_of(
+        Parser::new_from_str_with_options(alloc, text, options),
+        calls,
+    )
+}
+
+/// What eight calls of a parser give.
+pub(crate) fn rows_of<'a, T: BorrowedInput<'a>>(
+    parser: Parser<'a, T>,
+    calls: [Call; 8],
+) -> [Row; 8] {
+    let mut parser = parser;
     [
         row(&mut parser, calls[0]),
         row(&mut parser, calls[1]),

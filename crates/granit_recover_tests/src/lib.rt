@@ -5,3 +5,5 @@
 mod calls;
 #[cfg(test)]
 mod rows;
+#[cfg(test)]
+mod sourced;

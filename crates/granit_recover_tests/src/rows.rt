@@ -182,6 +182,11 @@ fn before_a_document(rt: HostRuntime) {
             NOTHING
         ]
     );
+}
+
+/// Where no document is left, recovery says so.
+#[test]
+fn behind_the_last_document(rt: HostRuntime) {
     assert_eq!(rt;
         told(
             &rt,

@@ -1,57 +1,46 @@
 -- Where recovery asks whether another document is there, a look ahead tells it: the end waits, no node is open, or the
 -- next turn fails.
-use Rattle.std.proofs.Common.{◌≡◌, ℕ, suc, ◌&&◌, ◌||◌, is_some, Bool, true, false, not, List, [], ◌∷◌}
+use Rattle.std.proofs.Common.{◌≡◌, ℕ, suc, Bool, true, false, List, [], ◌∷◌}
 use Rattle.std.proofs.Common.{Option, Some}
 use Rattle.std.proofs.Common.{None, Result, Ok, Err, refl, sym, ap, subst, ◌∙◌, arith}
-use Rattle.std.proofs.lemmas.Bool.{and_parts}
 use Rattle.std.specs.Prelude.{if◌then◌else◌}
 use Rattle.granit_error.specs.OptionsData.{OptionsData}
 use Rattle.granit_invariants.proofs.RoomSteps.{Calm, CalmBy}
-use Rattle.granit_lexemes.specs.Comment.{CommentRead}
-use Rattle.granit_lexemes.specs.Lexeme as lexemes
-use Rattle.granit_lexemes.specs.Lexeme.{LexemeKind, Item, OfLexeme, OfComment}
-use Rattle.granit_lexemes.specs.Outcome.{Fault, ◌>>=◌}
+use Rattle.granit_lexemes.specs.Outcome.{Fault}
 use Rattle.granit_lexemes.specs.PlainEvent.{PlainEvent, PlainVersion, EventKind, Comment}
 use Rattle.granit_machine.specs.Frames.{DocumentStage, Frame, Root, WithProperties, BlockSequence, BlockMapping}
 use Rattle.granit_machine.specs.Frames.{FlowSequence, FlowMapping, FlowPair, Fresh, Directives, Inside, BehindRoot}
 use Rattle.granit_machine.specs.Frames.{Between, ParserState, Waiting}
-use Rattle.granit_machine.specs.Lexing.{FlaggedItem}
-use Rattle.granit_machine.specs.Machine.{is_settled}
-use Rattle.granit_machine.specs.Parser.{feed}
-use Rattle.granit_machine.specs.Reader.{lex_turn, LexTurn}
 use Rattle.granit_recovery.proofs.HeaderShapes.{Among}
-use Rattle.granit_recovery.proofs.MarkRefusals.{comment_not, ends_document, EndsDocument, feed_not, FedNotStart}
 use Rattle.granit_recovery.proofs.RecoveryLaws.{call_known, CallsKnown, looked_known, reached_known}
 use Rattle.granit_recovery.proofs.RecoveryLaws.{skipped_good}
+use Rattle.granit_recovery.proofs.RestLaws.{known_follows, queue_none, turn_is}
 use Rattle.granit_recovery.proofs.SeatLaws.{SitsBy}
 use Rattle.granit_recovery.proofs.SeatSteps.{Seats}
-use Rattle.granit_recovery.proofs.SkipLaws.{comes_fault, comes_none, Known, known_along}
-use Rattle.granit_recovery.proofs.SkipLaws.{known_start, Resumes}
+use Rattle.granit_recovery.proofs.SkipLaws.{comes_fault, comes_none, Known}
+use Rattle.granit_recovery.proofs.SkipLaws.{Resumes}
 use Rattle.granit_recovery.proofs.SkipLaws.{resumes}
-use Rattle.granit_recovery.proofs.TurnLaws.{Along, along_end, along_stream, OnlyComments}
+use Rattle.granit_recovery.proofs.TurnLaws.{Along, along_end, along_stream}
 use Rattle.granit_recovery.specs.Asking.{LookTells}
 use Rattle.granit_recovery.specs.Streams.{Reached}
-use Rattle.granit_restart.proofs.AheadLaws.{given_in, notes_told}
+use Rattle.granit_restart.proofs.AheadLaws.{notes_told}
 use Rattle.granit_restart.proofs.EndLaws.{given_follows, given_look}
-use Rattle.granit_restart.proofs.LookLaws.{Asked, follows_says, follows_told, kept, look_tells, told_look}
-use Rattle.granit_restart.proofs.MarkLaws.{items, Sound, turned_sound}
+use Rattle.granit_restart.proofs.LookLaws.{Asked, follows_told, kept, look_tells, told_look}
+use Rattle.granit_restart.proofs.MarkLaws.{Sound, turned_sound}
 use Rattle.granit_restart.specs.Ahead.{all_given, end_left, end_waits, is_note, NoneComes, OnlyNotes}
 use Rattle.granit_restart.specs.Calls.{Calls, next_call}
-use Rattle.granit_restart.specs.Following.{document_follows, past_events, past_items, past_lexeme, past_reading}
-use Rattle.granit_restart.specs.Header.{front_goes, is_directives, is_start_expected, takes_front}
+use Rattle.granit_restart.specs.Following.{document_follows}
+use Rattle.granit_restart.specs.Header.{is_directives}
 use Rattle.granit_restart.specs.Looking.{behind_waiting, look_ahead, look_behind, look_by, look_in, Outside}
 use Rattle.granit_restart.specs.Looking.{told_by, turn_ahead}
 use Rattle.granit_restart.specs.Recovery.{looked_by, skipped}
 use Rattle.granit_restart.specs.Skipping.{ends_before}
-use Rattle.granit_restart.specs.Skipping.{is_within}
 use Rattle.granit_restart.specs.Skipping.{Stops, with_pending}
 use Rattle.granit_restart.specs.Turned.{Turned}
 use Rattle.granit_steps.proofs.Futures.{Ready}
 use Rattle.granit_steps.proofs.Nesting.{Clean, Fine, levels_of}
 use Rattle.granit_steps.specs.Levels.{and_then, behind_event, behind_events, InStream, Level}
-use Rattle.granit_steps.specs.Steps.{feed_front, front_turn, line_behind, may_go, read_more}
-use Rattle.granit_steps.specs.Steps.{asks_next, is_next_settled, read_unless, with_read}
-use Rattle.granit_steps.specs.Steps.{StepState, step_size, step_turn, Turn, turn_by, with_fed}
+use Rattle.granit_steps.specs.Steps.{StepState, step_size, step_turn}
 use Rattle.granit_recovery.proofs.TurnedLaws.{call_turned, looked_turned, reached_turned, skipped_by_turned}
 
 module _ (o : OptionsData) where
@@ -204,53 +193,6 @@ module _ (o : OptionsData) where
 
   -- where all was read and given
 
-  abbrev behind_read : StepState → LexTurn → Turn
-  behind_read s r = r >>= λ x. Ok (Some [], with_read o s x)
-
-  abbrev behind_fed : StepState → List FlaggedItem → Result (List PlainEvent × ParserState) Fault → Turn
-  behind_fed s is r = r >>= λ x. Ok (Some [], with_fed s is x)
-
-  read_some : (s : StepState) (r : LexTurn) (t : StepState) → behind_read s r ≡ Ok (None, t) → ⊥
-  read_some s (Ok x) t e = let f : Some [] ≡ None = ap (given_in o) e in cc
-  read_some s (Err f) t e = cc
-
-  unless_some : (s : StepState) (fault : Option Fault) (t : StepState) → read_unless o fault s ≡ Ok (None, t) → ⊥
-  unless_some s (Some f) t e = cc
-  unless_some s None t e = read_some s (lex_turn o s.reading) t e
-
-  more_ended : (b : Bool) (s t : StepState) → s.reading.ended ≡ b → read_more o b s ≡ Ok (None, t)
-      → s.reading.ended ≡ true
-  more_ended true s t is e = is
-  more_ended false s t is e = absurd (unless_some s s.reading.fault t e)
-
-  fed_some : (s : StepState) (is : List FlaggedItem) (r : Result (List PlainEvent × ParserState) Fault) (t : StepState)
-      → behind_fed s is r ≡ Ok (None, t) → ⊥
-  fed_some s is (Ok x) t e = let f : Some [] ≡ None = ap (given_in o) e in cc
-  fed_some s is (Err f) t e = cc
-
-  goes_at_end : (s : StepState) (i : FlaggedItem) (is : List FlaggedItem) → may_go s.reading i is ≡ false
-      → s.reading.ended ≡ true → ⊥
-  goes_at_end s i is e ended =
-      let f : true ≡ false =
-      ap (λ b. b || (is_settled s.reading.reader.laid i.item
-      && (is_some s.reading.fault || (not (asks_next i.item) || is_next_settled s.reading.reader.laid is))))
-      (sym ended) ∙ e in
-      cc
-
-  front_none : (b : Bool) (s t : StepState) (i : FlaggedItem) (is : List FlaggedItem) → may_go s.reading i is ≡ b
-      → front_turn b o i is s ≡ Ok (None, t) → ⊥
-  front_none true s t i is goes e = fed_some s is (feed o i (line_behind s.reading is) s.parser) t e
-  front_none false s t i is goes e = goes_at_end s i is goes (more_ended s.reading.ended s t refl e)
-
-  queue_none : (q : List FlaggedItem) (s t : StepState) → turn_by o [] q s ≡ Ok (None, t)
-      → (q ≡ []) × (s.reading.ended ≡ true)
-  queue_none [] s t e = (refl, more_ended s.reading.ended s t refl e)
-  queue_none (i ∷ is) s t e = absurd (front_none (may_go s.reading i is) s t i is refl e)
-
-  turn_is : (s : StepState) → s.pending ≡ [] → step_turn o s ≡ turn_by o [] s.queue s
-  unfolding step_turn
-  turn_is s none = ap (λ es. turn_by o es s.queue s) none
-
   none_by : (b : Bool) (s : StepState) (room : ℕ) → is_directives s.parser.stage ≡ b → s.pending ≡ []
       → s.queue ≡ [] → s.reading.ended ≡ true → s.reading.fault ≡ None
       → (look_ahead o room s).0 ≡ document_follows o room s
@@ -269,7 +211,7 @@ module _ (o : OptionsData) where
 
   read_tells : (s t : StepState) → Turned o s → s.pending ≡ [] → step_turn o s ≡ Ok (None, t) → LookTells o s
   read_tells s t turned pending e =
-      let x = queue_none s.queue s t (sym (turn_is s pending) ∙ e) in
+      let x = queue_none o s.queue s t (sym (turn_is o s pending) ∙ e) in
       let sound : Sound s = turned_sound o s turned in
       let ready : Ready s.reading s.queue = sound.ready in
       let fault = ready.one_end x.1 in
@@ -290,83 +232,12 @@ module _ (o : OptionsData) where
       ∙ ap (λ b. (if b then (Ok true, s) else look_behind later s (turn_ahead o s)).0) stage
       ∙ ap (λ r. (look_behind later s (behind_waiting s.pending r)).0) (ap (step_turn o) same ∙ e)
 
-  refused : (s : StepState) (is : List FlaggedItem) (r : Result (List PlainEvent × ParserState) Fault) (f : Fault)
-      → FedNotStart r → behind_fed s is r ≡ Err f → is_start_expected f ≡ true → ⊥
-  refused s is (Ok x) f none e start = cc
-  refused s is (Err g) f none e start =
-      let same : g ≡ f = cc in let t = sym none ∙ ap is_start_expected same ∙ start in cc
-
-  other_follows : (kind : LexemeKind) (tail : Option CommentRead) (room : ℕ) (more : ℕ → Result Bool Fault)
-      → ends_document kind ≡ false → past_lexeme room kind tail more ≡ Ok true
-  other_follows lexemes.DocumentEnd tail room more e = absurd (cc)
-  other_follows lexemes.StreamEnd tail room more e = absurd (cc)
-  other_follows kind tail room more e = refl
-
-  lexeme_follows : (b : Bool) (kind : LexemeKind) (tail : Option CommentRead) (room : ℕ)
-      (more : ℕ → Result Bool Fault) → ends_document kind ≡ b → (ends_document kind ≡ true → ⊥)
-      → past_lexeme room kind tail more ≡ Ok true
-  lexeme_follows true kind tail room more e never = absurd (never e)
-  lexeme_follows false kind tail room more e never = other_follows kind tail room more e
-
-  item_follows : (i : Item) (is : List Item) (room : ℕ) (more : ℕ → Result Bool Fault) → (EndsDocument i → ⊥)
-      → past_items room (i ∷ is) more ≡ Ok true
-  item_follows (OfComment c) is room more never = absurd (never tt)
-  item_follows (OfLexeme l) is room more never =
-      lexeme_follows (ends_document l.kind) l.kind l.tail room _ refl never
-
-  only_front : (i : Item) (is : List Item) → OnlyComments (i ∷ is) → (c : CommentRead) × (i ≡ OfComment c)
-  only_front (OfComment c) is only = (c, refl)
-  only_front (OfLexeme l) is only = absurd only
-
-  -- the item in front is no comment, and no end of a document
-  front_other : (ls : List Level) (s : StepState) (i : FlaggedItem) (is : List FlaggedItem) (f : Fault) → Along ls s
-      → s.queue ≡ i ∷ is → feed_front o i is s ≡ Err f → is_start_expected f ≡ true
-      → is_within s.parser.stage ≡ true → EndsDocument i.item → ⊥
-  front_other ls s i is f (along_stream p rests seats waits) queue e start within ends =
-      refused s is (feed o i (line_behind s.reading is) s.parser) f
-      (feed_not o i (line_behind s.reading is) s.parser ends rests.fine seats.sits within) e start
-  front_other ls s i is f (along_end p over only ended) queue e start within ends =
-      let x = only_front i.item (items is) (subst (λ q. OnlyComments (items q)) queue only) in
-      refused s is (feed o i (line_behind s.reading is) s.parser) f
-      (subst (λ y. FedNotStart (feed o (record { item = y; begins_key = i.begins_key }) (line_behind s.reading is)
-      s.parser)) (sym x.1) (comment_not o x.0 i.begins_key (line_behind s.reading is) s.parser)) e start
-
-  queue_follows : (q : List FlaggedItem) (ls : List Level) (s : StepState) (room : ℕ) (f : Fault) → Along ls s
-      → s.queue ≡ q → turn_by o [] q s ≡ Err f → front_goes s q ≡ true → is_start_expected f ≡ true
-      → is_within s.parser.stage ≡ true
-      → past_items room (items q) (past_reading o s.reading s.reading.fault) ≡ Ok true
-  queue_follows [] ls s room f a queue e goes start within = absurd (cc)
-  queue_follows (i ∷ is) ls s room f a queue e goes start within =
-      item_follows i.item (items is) room (past_reading o s.reading s.reading.fault)
-      (front_other ls s i is f a queue (ap (λ b. front_turn b o i is s) (sym goes) ∙ e) start within)
-
-  within_other : (stage : DocumentStage) → is_within stage ≡ true → is_directives stage ≡ false
-  within_other Inside e = refl
-  within_other BehindRoot e = refl
-  within_other Fresh e = absurd (cc)
-  within_other (Directives version) e = absurd (cc)
-  within_other Between e = absurd (cc)
-
-  fault_follows : (ls : List Level) (s : StepState) (room : ℕ) (f : Fault) → Along ls s → s.pending ≡ []
-      → step_turn o s ≡ Err f → ends_before s f ≡ true → document_follows o room s ≡ Ok true
-  fault_follows ls s room f a pending e before =
-      let all = and_parts (takes_front s && is_start_expected f) (is_within s.parser.stage) before in
-      let two = and_parts (takes_front s) (is_start_expected f) all.0 in
-      follows_says o room s (within_other s.parser.stage all.1) ∙ ap (λ es. past_events room es (Asked o s)) pending
-      ∙ queue_follows s.queue ls s room f a refl (sym (turn_is s pending) ∙ e) two.0 two.1 all.1
-
-  known_follows : (s : StepState) (room : ℕ) (f : Fault) → Known s → s.pending ≡ [] → step_turn o s ≡ Err f
-      → ends_before s f ≡ true → document_follows o room s ≡ Ok true
-  known_follows s room f (known_start h is) pending e before =
-      absurd (let g = sym (ap (λ (t : StepState). t.pending) is) ∙ pending in cc)
-  known_follows s room f (known_along {ls = ls} p a) pending e before = fault_follows ls s room f a pending e before
-
   fault_tells : (s : StepState) (f : Fault) → Known s → s.pending ≡ [] → step_turn o s ≡ Err f
       → ends_before s f ≡ true → LookTells o s
   fault_tells s f known pending e before = record {
     tells = λ room. fault_look s room f (is_directives s.parser.stage) pending e refl
-        ∙ sym (known_follows s room f known pending e before);
-    none = λ room none. absurd (let g = sym (known_follows s room f known pending e before) ∙ none in cc);
+        ∙ sym (known_follows o s room f known pending e before);
+    none = λ room none. absurd (let g = sym (known_follows o s room f known pending e before) ∙ none in cc);
   }
 
   -- ---- where recovery asks
@@ -379,7 +250,7 @@ module _ (o : OptionsData) where
   good_tells s turned known (comes_none {t = t} pending e) = read_tells s t turned pending e
   good_tells s turned known (comes_fault f pending e before) = fault_tells s f known pending e before
 
-  asks : (stops : Stops) (c : Calls) → CallsKnown o c → Turned o c.steps → c.over ≡ false
+  asks : (stops : Stops) (c : Calls) → CallsKnown c → Turned o c.steps → c.over ≡ false
       → LookTells o (skipped o stops c).steps
   asks stops c known turned over =
       let g = skipped_good o stops c.fault c.between c refl refl over known in

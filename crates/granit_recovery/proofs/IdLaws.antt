@@ -9,18 +9,19 @@ use Rattle.granit_lexemes.specs.Lexeme.{LexemeKind, Lexeme}
 use Rattle.granit_lexemes.specs.Outcome.{Fault, ◌>>=◌}
 use Rattle.granit_lexemes.specs.Pieces.{with_front, then_more, turns, pieces}
 use Rattle.granit_lexemes.specs.PlainEvent.{PlainEvent, EventKind, StreamEnd, DocumentStart, DocumentEnd}
-use Rattle.granit_machine.specs.Frames.{ParserState}
+use Rattle.granit_machine.specs.Frames.{Frame, ParserState, Waiting, WithProperties}
+use Rattle.granit_machine.specs.Giving.{anchor_number}
 use Rattle.granit_machine.specs.Lexing.{FlaggedItem}
 use Rattle.granit_machine.specs.Parser.{feed}
 use Rattle.granit_machine.specs.Reader.{LexTurn, lex_turn}
-use Rattle.granit_recovery.proofs.IdLemmas.{Bounds, Above, IdsIn, Num}
+use Rattle.granit_recovery.proofs.IdLemmas.{Bounds, Above, FrameIds, HeldIds, ids_append, IdsIn, Num}
 use Rattle.granit_recovery.proofs.IdSteps.{FedNum, feed_num}
 use Rattle.granit_recovery.proofs.RecoveryLaws.{called, noted_steps, first_same, second_same}
 use Rattle.granit_restart.specs.Boundary.{Boundary, AtStart, PastEnd, AtTextEnd, next_boundary}
 use Rattle.granit_restart.specs.Calls.{Calls, failing_by, failing_in, Given, given_by}
 use Rattle.granit_restart.specs.Calls.{next_call}
 use Rattle.granit_restart.specs.Header.{is_in_header}
-use Rattle.granit_recovery.specs.Ids.{id_of, IdsFrom}
+use Rattle.granit_recovery.specs.Ids.{id_of, IdsFrom, NeverSetBack}
 use Rattle.granit_restart.specs.Recovery.{skipped_by, skipped, starts_by, looked_by, answered, recovered}
 use Rattle.granit_restart.specs.Recovery.{extra_of, recover_with, recover, anchor_offset}
 use Rattle.granit_restart.specs.Restart.{at_boundary, at_lexeme, at_found, behind_fault, behind_fault_at, cursor_at}
@@ -29,7 +30,10 @@ use Rattle.granit_restart.specs.Skipping.{Ahead, NoEnd, BehindDocument, AtStream
 use Rattle.granit_restart.specs.Skipping.{ahead_by, ahead, ends_before, skip_turn, with_pending, skip_ahead, skip_in}
 use Rattle.granit_restart.specs.Skipping.{skip, restarted, skipped_fault, skipped_to}
 use Rattle.granit_recovery.specs.Streams.{Gives, gives_none, gives_next, Reached, reached_start, reached_call}
-use Rattle.granit_recovery.specs.Streams.{reached_recovery}
+use Rattle.granit_recovery.specs.Streams.{EarlyOf, not_early, reached_counting, reached_early, reached_keeping}
+use Rattle.granit_recovery.specs.Streams.{reached_recovery, turn_early}
+use Rattle.granit_restart.proofs.AheadLaws.{one, OneTurn}
+use Rattle.granit_restart.specs.Turned.{with_count}
 use Rattle.granit_steps.specs.Steps.{StepState, Turn, with_read, read_unless, read_more, with_fed, front_turn, turn_by}
 use Rattle.granit_steps.specs.Steps.{may_go, line_behind, step_turn, step_size, first_pending, settle, next_event}
 
@@ -303,12 +307,6 @@ recover_ids b o stops looked c x = with_ids b o stops looked c.refusal c x
 abbrev pub NoBounds : Bounds
 NoBounds = record { low = 0; least = 0 }
 
-reached_ids : (o : OptionsData) (c : Calls) → Reached o c → Ids NoBounds c.steps
-reached_ids o c (reached_start h) =
-    (record { least = omega arith; low = omega arith; given = tt; frames = tt; held = tt; follow = tt }, (inl refl, tt))
-reached_ids o c (reached_call {c = d} r) = call_ids NoBounds o d (reached_ids o d r)
-reached_ids o c (reached_recovery {c = d} stops looked r) = recover_ids NoBounds o stops looked d (reached_ids o d r)
-
 -- the count is at least what it is
 abbrev pub AtLeast : ℕ → Bounds
 AtLeast n = record { low = 0; least = n }
@@ -330,32 +328,102 @@ ids_now s x =
     same : (n : ℕ) (es : List PlainEvent) → IdsIn NoBounds n es → IdsIn (AtLeast s.parser.count) n es
     same n es i = i
 
+-- ---- where the count is raised between steps
+
+above_up : (b : Bounds) (m n id : ℕ) → m ≤ n → Above b m id → Above b n id
+above_up b m n id less (inl none) = inl none
+above_up b m n id less (inr x) = let h = x.1 in inr (x.0, omega (arith, h))
+
+ids_up : (b : Bounds) (m n : ℕ) (es : List PlainEvent) → m ≤ n → IdsIn b m es → IdsIn b n es
+ids_up b m n [] less x = tt
+ids_up b m n (e ∷ es) less x = (above_up b m n (id_of e.kind) less x.0, ids_up b m n es less x.1)
+
+frames_up : (b : Bounds) (m n : ℕ) (fs : List Frame) → m ≤ n → FrameIds b m fs → FrameIds b n fs
+frames_up b m n [] less x = tt
+frames_up b m n (WithProperties q ∷ fs) less x =
+    (above_up b m n (anchor_number q.anchor) less x.0, frames_up b m n fs less x.1)
+frames_up b m n (f ∷ fs) less x = frames_up b m n fs less x
+
+held_up : (b : Bounds) (m n : ℕ) (w : Option Waiting) → m ≤ n → HeldIds b m w → HeldIds b n w
+held_up b m n None less x = tt
+held_up b m n (Some w) less x = (ids_up b m n w.held less x.0, x.1)
+
+pub ids_counting : (count : ℕ) (s : StepState) → s.parser.count ≤ count → Ids NoBounds s
+    → Ids NoBounds (with_count count s)
+ids_counting count s less x =
+    let p = x.0 in (
+      record {
+        least = omega arith;
+        low = omega arith;
+        given = ids_up NoBounds s.parser.count count s.parser.given less p.given;
+        frames = frames_up NoBounds s.parser.count count s.parser.frames less p.frames;
+        held = held_up NoBounds s.parser.count count s.parser.waiting less p.held;
+        follow = p.follow;
+      },
+      ids_up NoBounds s.parser.count count s.pending less x.1,
+    )
+
+-- ---- turns that are made early
+
+one_ids : (o : OptionsData) (s t : StepState) → OneTurn o s t → Ids NoBounds s → Ids NoBounds t
+one_ids o s t x ids =
+    let none = with_pending [] s in
+    let now : Ids NoBounds x.behind = subst (TurnIds NoBounds) x.turn (turn_ids NoBounds o none (ids.0, tt)) in
+    let least = AtLeast s.parser.count in
+    let more : Ids least x.behind =
+    subst (TurnIds least) x.turn (turn_ids least o none (ids_now none (ids.0, tt))) in
+    let counts = more.0 in
+    subst (Ids NoBounds) (sym x.is) (
+      now.0,
+      ids_append NoBounds x.behind.parser.count s.pending x.behind.pending
+          (ids_up NoBounds s.parser.count x.behind.parser.count s.pending counts.least ids.1) now.1,
+    )
+
+early_ids : (o : OptionsData) (s t : StepState) → EarlyOf o s t → Ids NoBounds s → Ids NoBounds t
+early_ids o s t not_early ids = ids
+early_ids o s t (turn_early {t = u} {given = given} p e) ids =
+    one_ids o u t (one o u t given e) (early_ids o s u p ids)
+
+-- ---- whatever was called
+
+reached_ids : (o : OptionsData) (c : Calls) (r : Reached o c) → NeverSetBack r → Ids NoBounds c.steps
+reached_ids o c (reached_start h) never =
+    (record { least = omega arith; low = omega arith; given = tt; frames = tt; held = tt; follow = tt }, (inl refl, tt))
+reached_ids o c (reached_call {c = d} r) never = call_ids NoBounds o d (reached_ids o d r never)
+reached_ids o c (reached_recovery {c = d} stops looked r) never =
+    recover_ids NoBounds o stops looked d (reached_ids o d r never)
+reached_ids o c (reached_early {c = d} {t = t} r early) never = early_ids o d.steps t early (reached_ids o d r never)
+reached_ids o c (reached_counting {c = d} count r) never =
+    ids_counting count d.steps never.0 (reached_ids o d r never.1)
+reached_ids o c (reached_keeping keep r) never = reached_ids (record o { keep_tags = keep }) c r never
+
 more_offset : (n : ℕ) (s : StepState) → Ids (AtLeast n) s → suc n ≤ suc s.parser.count
 more_offset n s x = let p = x.0 in let l = p.least in omega (arith, l)
 
 -- the offset never falls
-pub calls_raise : (o : OptionsData) (c : Calls) → Reached o c → anchor_offset c ≤ anchor_offset (next_call o c).1
-calls_raise o c r =
+pub calls_raise : (o : OptionsData) (c : Calls) (r : Reached o c) → NeverSetBack r
+    → anchor_offset c ≤ anchor_offset (next_call o c).1
+calls_raise o c r never =
     more_offset c.steps.parser.count (next_call o c).1.steps
-    (call_ids (AtLeast c.steps.parser.count) o c (ids_now c.steps (reached_ids o c r)))
+    (call_ids (AtLeast c.steps.parser.count) o c (ids_now c.steps (reached_ids o c r never)))
 
-pub recoveries_raise : (o : OptionsData) (stops : Stops) (looked : Bool) (c : Calls) → Reached o c
-    → anchor_offset c ≤ anchor_offset (recover o stops looked c).1
-recoveries_raise o stops looked c r =
+pub recoveries_raise : (o : OptionsData) (stops : Stops) (looked : Bool) (c : Calls) (r : Reached o c)
+    → NeverSetBack r → anchor_offset c ≤ anchor_offset (recover o stops looked c).1
+recoveries_raise o stops looked c r never =
     more_offset c.steps.parser.count (recover o stops looked c).1.steps
-    (recover_ids (AtLeast c.steps.parser.count) o stops looked c (ids_now c.steps (reached_ids o c r)))
+    (recover_ids (AtLeast c.steps.parser.count) o stops looked c (ids_now c.steps (reached_ids o c r never)))
 
 below : (b : Bounds) (n id : ℕ) → Above b n id → id < suc n
 below b n id (inl e) = omega (arith, e)
 below b n id (inr p) = let h = p.1 in omega (arith, h)
 
 -- an id that is given is below it
-pub given_below : (o : OptionsData) (c d : Calls) (e : PlainEvent) → Reached o c → next_call o c ≡ (Some (Ok e), d)
-    → id_of e.kind < anchor_offset d
-given_below o c d e r g =
+pub given_below : (o : OptionsData) (c d : Calls) (e : PlainEvent) (r : Reached o c) → NeverSetBack r
+    → next_call o c ≡ (Some (Ok e), d) → id_of e.kind < anchor_offset d
+given_below o c d e r never g =
     let x = called o c d e g in
     let n : NextIds NoBounds (Ok (Some e, x.steps)) =
-    subst (NextIds NoBounds) x.event (next_ids NoBounds o c.steps (reached_ids o c r)) in
+    subst (NextIds NoBounds) x.event (next_ids NoBounds o c.steps (reached_ids o c r never)) in
     subst (λ (s : StepState). id_of e.kind < suc s.parser.count) (sym x.leaves)
     (below NoBounds x.steps.parser.count (id_of e.kind) n.0)
 

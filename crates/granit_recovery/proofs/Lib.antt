@@ -16,6 +16,7 @@ mod OffsetLaws
 mod OneLaws
 mod PlaceLaws
 mod RecoveryLaws
+mod RestLaws
 mod SeatLaws
 mod SeatSteps
 mod SkipLaws

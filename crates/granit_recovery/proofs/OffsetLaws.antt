@@ -1,13 +1,12 @@
 -- Ids of a machine that has just begun.
-use Rattle.std.proofs.Common.{◌≡◌, ℕ, suc, ◌≤◌, List, [], ◌∷◌, Option, Some, None, Ok, inl, inr, refl, subst, arith}
+use Rattle.std.proofs.Common.{◌≡◌, ℕ, suc, ◌≤◌, List, Option, Some, None, Ok, inl, inr, refl, subst, arith}
 use Rattle.granit_error.specs.OptionsData.{OptionsData}
 use Rattle.granit_lexemes.specs.Here.{Here}
 use Rattle.granit_lexemes.specs.Outcome.{Fault}
 use Rattle.granit_lexemes.specs.PlainEvent.{PlainEvent}
-use Rattle.granit_machine.specs.Frames.{Frame, WithProperties, Waiting}
-use Rattle.granit_machine.specs.Giving.{anchor_number}
-use Rattle.granit_recovery.proofs.IdLaws.{Anew, AtLeast, Ids, NextIds, NoBounds, from_above, ids_now, next_ids}
-use Rattle.granit_recovery.proofs.IdLemmas.{Above, Bounds, FrameIds, HeldIds, IdsIn}
+use Rattle.granit_recovery.proofs.IdLaws.{Anew, AtLeast, Ids, NextIds, NoBounds, from_above, ids_counting, ids_now}
+use Rattle.granit_recovery.proofs.IdLaws.{next_ids}
+use Rattle.granit_recovery.proofs.IdLemmas.{Above, Bounds}
 use Rattle.granit_recovery.specs.Ids.{Counted, IdsFrom, counted_more, counted_start, counted_step, counting_from, id_of}
 use Rattle.granit_recovery.specs.Ids.{id_told}
 use Rattle.granit_steps.specs.Steps.{StepState, next_event}
@@ -28,26 +27,6 @@ begun_from o h count es f gives =
     (record { least = omega arith; low = omega arith; given = tt; frames = tt; held = tt; follow = tt }, (inl refl, tt))
     gives
 
--- ---- where the count is raised between steps
-
-above_up : (b : Bounds) (m n id : ℕ) → m ≤ n → Above b m id → Above b n id
-above_up b m n id less (inl none) = inl none
-above_up b m n id less (inr x) = let h = x.1 in inr (x.0, omega (arith, h))
-
-ids_up : (b : Bounds) (m n : ℕ) (es : List PlainEvent) → m ≤ n → IdsIn b m es → IdsIn b n es
-ids_up b m n [] less x = tt
-ids_up b m n (e ∷ es) less x = (above_up b m n (id_of e.kind) less x.0, ids_up b m n es less x.1)
-
-frames_up : (b : Bounds) (m n : ℕ) (fs : List Frame) → m ≤ n → FrameIds b m fs → FrameIds b n fs
-frames_up b m n [] less x = tt
-frames_up b m n (WithProperties q ∷ fs) less x =
-    (above_up b m n (anchor_number q.anchor) less x.0, frames_up b m n fs less x.1)
-frames_up b m n (f ∷ fs) less x = frames_up b m n fs less x
-
-held_up : (b : Bounds) (m n : ℕ) (w : Option Waiting) → m ≤ n → HeldIds b m w → HeldIds b n w
-held_up b m n None less x = tt
-held_up b m n (Some w) less x = (ids_up b m n w.held less x.0, x.1)
-
 counted_ids : (o : OptionsData) (m : StepState) → Counted o m → Ids NoBounds m
 counted_ids o m (counted_start count h) =
     (record { least = omega arith; low = omega arith; given = tt; frames = tt; held = tt; follow = tt }, (inl refl, tt))
@@ -59,19 +38,7 @@ counted_ids o m (counted_step {m = before} {r = Some e} c is) =
     let n : NextIds NoBounds (Ok (Some e, m)) =
     subst (NextIds NoBounds) is (next_ids NoBounds o before (counted_ids o before c)) in
     n.1
-counted_ids o m (counted_more {m = before} count c less) =
-    let x = counted_ids o before c in
-    let p = x.0 in (
-      record {
-        least = omega arith;
-        low = omega arith;
-        given = ids_up NoBounds before.parser.count count before.parser.given less p.given;
-        frames = frames_up NoBounds before.parser.count count before.parser.frames less p.frames;
-        held = held_up NoBounds before.parser.count count before.parser.waiting less p.held;
-        follow = p.follow;
-      },
-      ids_up NoBounds before.parser.count count before.pending less x.1,
-    )
+counted_ids o m (counted_more {m = before} count c less) = ids_counting count before less (counted_ids o before c)
 
 told : (b : Bounds) (n id : ℕ) → Above b n id → id ≤ n
 told b n id (inl none) = omega arith

@@ -1,29 +1,33 @@
 -- What recovery leaves: a stream goes on, ids aren't given again, and a refusal stays.
-use Rattle.std.proofs.Common.{◌≡◌, ℕ, zero, suc, Bool, true, false, ◌||◌, ◌⊎◌, inl, inr, List, [], ◌∷◌, Option}
+use Rattle.std.proofs.Common.{◌≡◌, ℕ, zero, suc, ◌+◌, Bool, true, false, ◌||◌, ◌⊎◌, inl, inr, List, [], ◌∷◌, Option}
 use Rattle.std.proofs.Common.{Some, None, is_some, Result, Ok, Err, refl, sym, ap, subst, ◌∙◌}
 use Rattle.std.specs.Prelude.{if◌then◌else◌}
 use Rattle.granit_error.specs.OptionsData.{OptionsData}
-use Rattle.granit_lexemes.specs.Here.{Here, mark_of, start_of}
+use Rattle.granit_lexemes.specs.Here.{mark_of, start_of}
 use Rattle.granit_lexemes.specs.Outcome.{Fault}
-use Rattle.granit_lexemes.specs.Pieces.{turns, pieces}
 use Rattle.granit_lexemes.specs.PlainEvent.{PlainEvent, EventKind, event_on, StreamStart, StreamEnd, DocumentStart}
 use Rattle.granit_lexemes.specs.PlainEvent.{DocumentEnd}
 use Rattle.granit_lexemes.specs.PlainEvent.{Alias, UnresolvedAlias, Anchor, Comment, Scalar, SequenceStart, SequenceEnd}
 use Rattle.granit_lexemes.specs.PlainEvent.{MappingStart, MappingEnd}
 use Rattle.granit_recovery.proofs.LevelLaws.{Open, in_stream, event_keeps, document_leaves, can_close}
+use Rattle.granit_recovery.proofs.RestLaws.{AtRest, count_known, count_rests, done_turn, early_known}
+use Rattle.granit_recovery.proofs.RestLaws.{early_rests, none_rests, rest_resumes, rests_along, rests_done}
 use Rattle.granit_recovery.proofs.SkipLaws.{comes_fault, comes_none, failed_silent, none_silent}
 use Rattle.granit_recovery.proofs.SkipLaws.{Known, known_start, known_along, Resumes, resumes, Good}
-use Rattle.granit_recovery.proofs.SkipLaws.{start_along}
+use Rattle.granit_recovery.proofs.SkipLaws.{start_known}
 use Rattle.granit_recovery.proofs.SkipLaws.{fault_skipped, document_skipped}
 use Rattle.granit_recovery.proofs.TurnLaws.{Along, Told, NextAlong, next_along, failing_along}
-use Rattle.granit_restart.specs.Calls.{Calls, noted, failing_in, failing, Given, given_by, next_call}
+use Rattle.granit_restart.specs.Calls.{Calls, noted, failing_by, failing_in, failing, Given, given_by, next_call}
 use Rattle.granit_restart.specs.Recovery.{resumed, skipped_by, skipped, starts_by, looked_by, answered, recovered}
 use Rattle.granit_restart.specs.Recovery.{extra_of, recover_with, recover}
-use Rattle.granit_restart.specs.Skipping.{Stops}
+use Rattle.granit_restart.proofs.AheadLaws.{waits_next}
+use Rattle.granit_restart.specs.Following.{document_follows}
+use Rattle.granit_restart.specs.Turned.{with_count}
+use Rattle.granit_restart.specs.Skipping.{Stops, with_pending}
 use Rattle.granit_recovery.specs.Streams.{GoesOn, Gives, gives_none, gives_next, Reached, reached_start, reached_call}
-use Rattle.granit_recovery.specs.Streams.{reached_recovery}
+use Rattle.granit_recovery.specs.Streams.{EarlyOf, reached_counting, reached_early, reached_keeping, reached_recovery}
 use Rattle.granit_steps.specs.Levels.{Level, InStream, and_then, behind_event, behind_events}
-use Rattle.granit_steps.specs.Steps.{StepState, step_turn, step_size, next_event, start_from}
+use Rattle.granit_steps.specs.Steps.{StepState, step_turn, step_size, next_event, turn_by}
 
 -- ---- one event
 
@@ -42,39 +46,47 @@ told_known ls (Ok (Some e, t)) p n = (
 told_known ls (Ok (None, t)) p n = tt
 told_known ls (Err f) p n = tt
 
-start_next : (o : OptionsData) (h : Here) → NextKnown (next_event o (start_from h))
-unfolding next_event pieces turns step_turn
-start_next o h = (known_along in_stream (start_along h), λ e. absurd (cc))
+start_next : (o : OptionsData) (s : StepState) (e : PlainEvent) (es : List PlainEvent) → e.kind ≡ StreamStart
+    → s.pending ≡ e ∷ es → Along (InStream ∷ []) (with_pending es s) → NextKnown (next_event o s)
+start_next o s e es kind waits a =
+    subst NextKnown (sym (ap (λ xs. next_event o (with_pending xs s)) waits ∙ waits_next o s e es))
+    (known_along in_stream a, λ is. absurd (let f = sym kind ∙ is in cc))
 
 next_known : (o : OptionsData) (s : StepState) → Known s → NextKnown (next_event o s)
-next_known o s (known_start h e) = subst (λ s. NextKnown (next_event o s)) (sym e) (start_next o h)
+next_known o s (known_start e es kind waits a) = start_next o s e es kind waits a
 next_known o s (known_along {ls = ls} p a) = told_known ls (next_event o s) p (next_along o ls s a)
 
-start_fails : (o : OptionsData) (n : ℕ) (h : Here) → failing_in o n (start_from h) ≡ start_from h
+-- where an event waits no turn fails
+waits_turn : (o : OptionsData) (s : StepState) (e : PlainEvent) (es : List PlainEvent) → s.pending ≡ e ∷ es
+    → step_turn o s ≡ Ok (None, s)
 unfolding step_turn
-start_fails o zero h = refl
-start_fails o (suc n) h = refl
+waits_turn o s e es waits = ap (λ xs. turn_by o xs s.queue s) waits
+
+failing_waits : (o : OptionsData) (n : ℕ) (s : StepState) (e : PlainEvent) (es : List PlainEvent) → s.pending ≡ e ∷ es
+    → failing_in o n s ≡ s
+failing_waits o zero s e es waits = refl
+failing_waits o (suc n) s e es waits = ap (failing_by (failing_in o n) s) (waits_turn o s e es waits)
 
 failing_known : (o : OptionsData) (s : StepState) → Known s → Known (failing o s)
-failing_known o s (known_start h e) = known_start h
-    (ap (failing o) e ∙ start_fails o (suc (step_size (start_from h))) h)
+failing_known o s (known_start e es kind waits a) =
+    subst Known (sym (failing_waits o (suc (step_size s)) s e es waits)) (known_start e es kind waits a)
 failing_known o s (known_along {ls = ls} p a) = known_along p (failing_along o ls (suc (step_size s)) s a)
 
 -- ---- a parser between its calls
 
-pub record CallsKnown (o : OptionsData) (c : Calls) : Type 0 where
+pub record CallsKnown (c : Calls) : Type 0 where
   pub known : Known c.steps
-  pub between : c.fault ≡ None → c.between ≡ true → (c.over ≡ true) ⊎ Resumes o c.steps
+  pub between : c.fault ≡ None → c.between ≡ true → (c.over ≡ true) ⊎ AtRest c.steps
 
 -- behind an event that is no end, a stream goes on as before it
 stays_along : (o : OptionsData) (e : PlainEvent) (s t : StepState) → next_event o s ≡ Ok (Some e, t)
-    → ((ks : List Level) → behind_event e.kind (InStream ∷ []) ≡ Some ks → ks ≡ InStream ∷ []) → Resumes o s
-    → Resumes o t
-stays_along o e s t is same (comes_none {t = u} none turn) = absurd (none_silent o s u turn none e t is)
-stays_along o e s t is same (comes_fault f none turn before) = absurd (failed_silent o s f turn e t is)
-stays_along o e s t is same (resumes a) =
+    → ((ks : List Level) → behind_event e.kind (InStream ∷ []) ≡ Some ks → ks ≡ InStream ∷ []) → AtRest s
+    → AtRest t
+stays_along o e s t is same (rests_done none queue ended) =
+    absurd (none_silent o s s (done_turn o s none queue ended) none e t is)
+stays_along o e s t is same (rests_along a) =
     let n : Told (InStream ∷ []) e t = subst (NextAlong (InStream ∷ [])) is (next_along o (InStream ∷ []) s a) in
-    resumes (subst (λ ks. Along ks t) (same n.behind n.first) n.along)
+    rests_along (subst (λ ks. Along ks t) (same n.behind n.first) n.along)
 
 -- whether a kind changes what is open in a stream outside of documents
 abbrev is_outer : EventKind → Bool
@@ -98,23 +110,23 @@ outside_stays SequenceEnd ks n e = absurd (cc)
 outside_stays (MappingStart style anchor tag) ks n e = absurd (cc)
 outside_stays MappingEnd ks n e = absurd (cc)
 
-abbrev Outside : OptionsData → Calls → StepState → Type 0
-Outside o c t = (c.over ≡ true) ⊎ Resumes o t
+abbrev Resting : Calls → StepState → Type 0
+Resting c t = (c.over ≡ true) ⊎ AtRest t
 
-kept_outside : (o : OptionsData) (e : PlainEvent) (c : Calls) (t : StepState) → next_event o c.steps ≡ Ok (Some e, t)
-    → is_outer e.kind ≡ false → Outside o c c.steps → Outside o c t
-kept_outside o e c t is inner (inl over) = inl over
-kept_outside o e c t is inner (inr r) =
+kept_resting : (o : OptionsData) (e : PlainEvent) (c : Calls) (t : StepState) → next_event o c.steps ≡ Ok (Some e, t)
+    → is_outer e.kind ≡ false → Resting c c.steps → Resting c t
+kept_resting o e c t is inner (inl over) = inl over
+kept_resting o e c t is inner (inr r) =
     inr (stays_along o e c.steps t is (λ ks f. outside_stays e.kind ks inner f) r)
 
 given_between : (o : OptionsData) (kind : EventKind) (e : PlainEvent) (c : Calls) (t : StepState) → e.kind ≡ kind
     → next_event o c.steps ≡ Ok (Some e, t) → (e.kind ≡ DocumentEnd → Along (InStream ∷ []) t)
-    → (c.between ≡ true → Outside o c c.steps)
-    → (noted kind (record c { steps = t })).between ≡ true → Outside o (noted kind (record c { steps = t })) t
+    → (c.between ≡ true → Resting c c.steps)
+    → (noted kind (record c { steps = t })).between ≡ true → Resting (noted kind (record c { steps = t })) t
 given_between o (DocumentStart explicit version) e c t k is ended before b = absurd (cc)
-given_between o DocumentEnd e c t k is ended before b = inr (resumes (ended k))
+given_between o DocumentEnd e c t k is ended before b = inr (rests_along (ended k))
 given_between o StreamEnd e c t k is ended before b = inl refl
-given_between o kind e c t k is ended before b = kept_outside o e c t is (ap is_outer k) (before b)
+given_between o kind e c t k is ended before b = kept_resting o e c t is (ap is_outer k) (before b)
 
 pub noted_steps : (kind : EventKind) (c : Calls) → (noted kind c).steps ≡ c.steps
 noted_steps (DocumentStart explicit version) c = refl
@@ -129,76 +141,81 @@ noted_fault StreamEnd c = refl
 noted_fault kind c = refl
 
 given_known : (o : OptionsData) (c : Calls) (r : Result (Option PlainEvent × StepState) Fault)
-    → next_event o c.steps ≡ r → NextKnown r → CallsKnown o c → CallsKnown o (given_by o c r).1
+    → next_event o c.steps ≡ r → NextKnown r → CallsKnown c → CallsKnown (given_by o c r).1
 given_known o c (Ok (Some e, t)) is n k = record {
   known = subst Known (sym (noted_steps e.kind (record c { steps = t }))) n.0;
-  between = λ f b. subst (Outside o (noted e.kind (record c { steps = t })))
+  between = λ f b. subst (Resting (noted e.kind (record c { steps = t })))
       (sym (noted_steps e.kind (record c { steps = t })))
       (given_between o e.kind e c t refl is n.1 (k.between (sym (noted_fault e.kind (record c { steps = t })) ∙ f)) b);
 }
 given_known o c (Ok (None, t)) is n k = k
 given_known o c (Err f) is n k = record { known = failing_known o c.steps k.known; between = λ g b. absurd (cc) }
 
-call_by : (b : Bool) (o : OptionsData) (c : Calls) → CallsKnown o c
-    → CallsKnown o (if b then (None, c) else given_by o c (next_event o c.steps)).1
+call_by : (b : Bool) (o : OptionsData) (c : Calls) → CallsKnown c
+    → CallsKnown (if b then (None, c) else given_by o c (next_event o c.steps)).1
 call_by true o c k = k
 call_by false o c k = given_known o c (next_event o c.steps) refl (next_known o c.steps k.known) k
 
-pub call_known : (o : OptionsData) (c : Calls) → CallsKnown o c → CallsKnown o (next_call o c).1
+pub call_known : (o : OptionsData) (c : Calls) → CallsKnown c → CallsKnown (next_call o c).1
 unfolding next_call
 call_known o c k = call_by ((c.over || is_some c.fault) || is_some c.refusal) o c k
 
 -- ---- recovery
 
-starts_known : (o : OptionsData) (kind : EventKind) (c : Calls) → CallsKnown o c → CallsKnown o (starts_by kind c)
+starts_known : (o : OptionsData) (kind : EventKind) (c : Calls) → CallsKnown c → CallsKnown (starts_by kind c)
 starts_known o (DocumentStart explicit version) c k = record { known = k.known; between = λ f b. absurd (cc) }
 starts_known o kind c k = k
 
-pub looked_known : (o : OptionsData) (c : Calls) (x : Given × Calls) → CallsKnown o c → CallsKnown o x.1
-    → CallsKnown o (looked_by c x)
+pub looked_known : (o : OptionsData) (c : Calls) (x : Given × Calls) → CallsKnown c → CallsKnown x.1
+    → CallsKnown (looked_by c x)
 looked_known o c (Some (Ok e), after) k n = starts_known o e.kind c k
 looked_known o c (Some (Err f), after) k n = n
 looked_known o c (None, after) k n = k
 
 pub skipped_good : (o : OptionsData) (stops : Stops) (fault : Option Fault) (between : Bool) (c : Calls)
-    → c.fault ≡ fault → c.between ≡ between → c.over ≡ false → CallsKnown o c
+    → c.fault ≡ fault → c.between ≡ between → c.over ≡ false → CallsKnown c
     → Good o (skipped_by o stops fault between c.steps)
 skipped_good o stops (Some f) between c fault b over k = fault_skipped o stops f c.steps
 skipped_good o stops None false c fault b over k = document_skipped o stops c.steps k.known
 skipped_good o stops None true c fault b over k = by (k.between fault b)
   where
-    by : Outside o c c.steps → Good o c.steps
+    by : Resting c c.steps → Good o c.steps
     by (inl e) = absurd (cc)
-    by (inr r) = record { known = k.known; resumed = r }
+    by (inr r) = record { known = k.known; resumed = rest_resumes o c.steps r }
+
+-- behind an answer a stream goes on, or nothing comes
+abbrev Outside : OptionsData → Calls → StepState → Type 0
+Outside o c t = (c.over ≡ true) ⊎ Resumes o t
 
 -- what an answer leaves
 record Answers (o : OptionsData) (x : Result Bool Fault × Calls) : Type 0 where
-  calls : CallsKnown o x.1
+  calls : CallsKnown x.1
   goes : (follows : Bool) → x.0 ≡ Ok follows → Outside o x.1 x.1.steps
 
-answered_by : (o : OptionsData) (r : Result Bool Fault) (s : StepState) → Good o s → Answers o (answered r (resumed s))
-answered_by o (Ok true) s g = record {
+answered_by : (o : OptionsData) (room : ℕ) (s : StepState) (r : Result Bool Fault) → document_follows o room s ≡ r
+    → Good o s → Answers o (answered r (resumed s))
+answered_by o room s (Ok true) is g = record {
   calls = record { known = g.known; between = λ f b. absurd (cc) };
   goes = λ follows e. inr g.resumed;
 }
-answered_by o (Ok false) s g = record {
-  calls = record { known = g.known; between = λ f b. inr g.resumed };
+answered_by o room s (Ok false) is g = record {
+  calls = record { known = g.known; between = λ f b. inr (none_rests o s room g.known g.resumed is) };
   goes = λ follows e. inr g.resumed;
 }
-answered_by o (Err f) s g = record {
+answered_by o room s (Err f) is g = record {
   calls = record { known = g.known; between = λ f b. absurd (cc) };
   goes = λ follows e. absurd (cc);
 }
 
-recovers_by : (b : Bool) (o : OptionsData) (stops : Stops) (extra : ℕ) (c : Calls) → c.over ≡ b → CallsKnown o c
+recovers_by : (b : Bool) (o : OptionsData) (stops : Stops) (extra : ℕ) (c : Calls) → c.over ≡ b → CallsKnown c
     → Answers o (if b then (Ok false, c) else recovered o extra (skipped o stops c))
 recovers_by true o stops extra c over k = record { calls = k; goes = λ follows e. inl over }
 recovers_by false o stops extra c over k =
-    answered_by o _ (skipped_by o stops c.fault c.between c.steps)
+    answered_by o (o.max_buffered_comment_events + extra) (skipped_by o stops c.fault c.between c.steps) _ refl
     (skipped_good o stops c.fault c.between c refl refl over k)
 
 with_answers : (o : OptionsData) (stops : Stops) (looked : Bool) (refusal : Option Fault) (c : Calls)
-    → CallsKnown o c → Answers o (recover_with o stops looked refusal c)
+    → CallsKnown c → Answers o (recover_with o stops looked refusal c)
 with_answers o stops looked (Some f) c k = record { calls = k; goes = λ follows e. absurd (cc) }
 with_answers o stops true None c k =
     let d = looked_by c (next_call o c) in
@@ -206,18 +223,40 @@ with_answers o stops true None c k =
     (looked_known o c (next_call o c) k (call_known o c k))
 with_answers o stops false None c k = recovers_by c.over o stops 0 c refl k
 
-recover_answers : (o : OptionsData) (stops : Stops) (looked : Bool) (c : Calls) → CallsKnown o c
+recover_answers : (o : OptionsData) (stops : Stops) (looked : Bool) (c : Calls) → CallsKnown c
     → Answers o (recover o stops looked c)
 unfolding recover
 recover_answers o stops looked c k = with_answers o stops looked c.refusal c k
 
+-- ---- between calls
+
+resting_by : (c : Calls) (s t : StepState) → (AtRest s → AtRest t) → Resting c s → Resting c t
+resting_by c s t rests (inl over) = inl over
+resting_by c s t rests (inr rest) = inr (rests rest)
+
+early_calls : (o : OptionsData) (c : Calls) (t : StepState) → EarlyOf o c.steps t → CallsKnown c
+    → CallsKnown (record c { steps = t })
+early_calls o c t early k = record {
+  known = early_known o c.steps t early k.known;
+  between = λ f b. resting_by c c.steps t (early_rests o c.steps t early) (k.between f b);
+}
+
+counting_calls : (count : ℕ) (c : Calls) → CallsKnown c → CallsKnown (record c { steps = with_count count c.steps })
+counting_calls count c k = record {
+  known = count_known count c.steps k.known;
+  between = λ f b. resting_by c c.steps (with_count count c.steps) (count_rests count c.steps) (k.between f b);
+}
+
 -- ---- whatever was called
 
-pub reached_known : (o : OptionsData) (c : Calls) → Reached o c → CallsKnown o c
-reached_known o c (reached_start h) = record { known = known_start h refl; between = λ f b. absurd (cc) }
+pub reached_known : (o : OptionsData) (c : Calls) → Reached o c → CallsKnown c
+reached_known o c (reached_start h) = record { known = start_known h; between = λ f b. absurd (cc) }
 reached_known o c (reached_call {c = d} r) = call_known o d (reached_known o d r)
 reached_known o c (reached_recovery {c = d} stops looked r) =
     (recover_answers o stops looked d (reached_known o d r)).calls
+reached_known o c (reached_early {c = d} {t = t} r early) = early_calls o d t early (reached_known o d r)
+reached_known o c (reached_counting {c = d} count r) = counting_calls count d (reached_known o d r)
+reached_known o c (reached_keeping keep r) = reached_known (record o { keep_tags = keep }) c r
 
 pub record Called (o : OptionsData) (c : Calls) (e : PlainEvent) (after : Calls) : Type 0 where
   pub steps : StepState

@@ -4,12 +4,12 @@ use Rattle.std.proofs.Common.{Result}
 use Rattle.std.proofs.Common.{Ok, Err, refl, sym, ap, subst, ◌∙◌, arith}
 use Rattle.std.specs.Prelude.{if◌then◌else◌}
 use Rattle.granit_error.specs.OptionsData.{OptionsData}
-use Rattle.granit_lexemes.specs.Here.{Here}
+use Rattle.granit_lexemes.specs.Here.{Here, mark_of}
 use Rattle.granit_lexemes.specs.Lexeme as lexemes
 use Rattle.granit_lexemes.specs.Lexeme.{LexemeKind, Lexeme, OfLexeme}
 use Rattle.granit_lexemes.specs.Outcome.{Fault, ◌>>=◌}
 use Rattle.granit_lexemes.specs.Pieces.{then_more, turns, pieces}
-use Rattle.granit_lexemes.specs.PlainEvent.{PlainEvent, EventKind, StreamEnd, DocumentEnd}
+use Rattle.granit_lexemes.specs.PlainEvent.{PlainEvent, EventKind, event_on, StreamStart, StreamEnd, DocumentEnd}
 use Rattle.granit_machine.specs.Frames.{ParserState}
 use Rattle.granit_machine.specs.Lexing.{FlaggedItem}
 use Rattle.granit_machine.specs.Parser.{feed}
@@ -34,9 +34,10 @@ use Rattle.granit_steps.specs.Steps.{next_event, start_from}
 
 -- ---- what may be known of a state
 
--- nothing was given of a text yet, or what was given leaves these levels open
+-- the stream's start waits in front of what leaves a stream open, or what was given leaves these levels open
 pub data Known (s : StepState) : Type 0 where
-  known_start : (h : Here) → s ≡ start_from h → Known s
+  known_start : (e : PlainEvent) (es : List PlainEvent) → e.kind ≡ StreamStart → s.pending ≡ e ∷ es
+      → Along (InStream ∷ []) (with_pending es s) → Known s
   known_along : {ls : List Level} → Open ls → Along ls s → Known s
 
 -- a stream goes on behind its start, or no event comes: nothing is left, or the next document fails at once
@@ -52,9 +53,10 @@ pub record Good (o : OptionsData) (s : StepState) : Type 0 where
 good_stream : (o : OptionsData) (s : StepState) → Along (InStream ∷ []) s → Good o s
 good_stream o s a = record { known = known_along in_stream a; resumed = resumes a }
 
-pub start_along : (h : Here) → Along (InStream ∷ []) (with_pending [] (start_from h))
-start_along h =
-    along_stream refl (record { given = refl; fine = tt; held = tt }) (record { calm = tt; sits = tt }) refl
+pub start_known : (h : Here) → Known (start_from h)
+start_known h =
+    known_start (event_on StreamStart (mark_of h)) [] refl refl
+    (along_stream refl (record { given = refl; fine = tt; held = tt }) (record { calm = tt; sits = tt }) refl)
 
 -- ---- turns that give nothing
 
@@ -214,19 +216,29 @@ ahead_good o n ms s (BehindDocument es) more p along h goes =
 ahead_good o n ms s (AtStreamEnd es) more p along h goes =
     good_stream o (with_pending es s) (along es (InStream ∷ []) goes)
 
-known_good : (o : OptionsData) (n : ℕ) (s : StepState) → SkipsGood o n → step_size s < suc n → Known s
+along_good : (o : OptionsData) (n : ℕ) (ls : List Level) (s : StepState) → SkipsGood o n → step_size s < suc n
+    → Open ls → Along ls s
     → EndGood o (skip_ahead (λ t. skip_turn (skip_in o n) t (step_turn o t)) s (ahead s.pending))
-known_good o n s more h (known_start from e) =
-    subst (λ s. EndGood o (skip_ahead (λ t. skip_turn (skip_in o n) t (step_turn o t)) s (ahead s.pending)))
-    (sym e) (emptied_good o n (InStream ∷ []) (start_from from) more in_stream (start_along from)
-    (subst (λ s. step_size s < suc n) e h))
-known_good o n s more h (known_along {ls = ls} p (along_stream e rests seats w)) =
+along_good o n ls s more h p (along_stream e rests seats w) =
     let ms = levels_of s.parser.frames s.parser.stage in
     ahead_good o n ms s (ahead s.pending) more (events_keep s.pending ls ms p e)
     (λ es ks g. along_stream g rests seats w) h (ahead_goes s.pending ls ms p e)
-known_good o n s more h (known_along {ls = ls} p (along_end e over only ended)) =
+along_good o n ls s more h p (along_end e over only ended) =
     ahead_good o n [] s (ahead s.pending) more all_closed (λ es ks g. along_end g over only ended) h
     (ahead_goes s.pending ls [] p e)
+
+start_ahead : (kind : EventKind) (e : PlainEvent) (es : List PlainEvent) → kind ≡ StreamStart
+    → ahead_by kind e es (ahead es) ≡ ahead es
+start_ahead StreamStart e es is = refl
+start_ahead kind e es is = absurd (cc)
+
+known_good : (o : OptionsData) (n : ℕ) (s : StepState) → SkipsGood o n → step_size s < suc n → Known s
+    → EndGood o (skip_ahead (λ t. skip_turn (skip_in o n) t (step_turn o t)) s (ahead s.pending))
+known_good o n s more h (known_start e es kind waits a) =
+    subst (λ (x : Ahead). EndGood o (skip_ahead (λ t. skip_turn (skip_in o n) t (step_turn o t)) s x))
+    (sym (ap ahead waits ∙ start_ahead e.kind e es kind))
+    (along_good o n (InStream ∷ []) (with_pending es s) more h in_stream a)
+known_good o n s more h (known_along {ls = ls} p a) = along_good o n ls s more h p a
 
 skips_good : (o : OptionsData) (n : ℕ) → SkipsGood o n
 skips_good o zero s h k = absurd (omega arith)

@@ -1,5 +1,5 @@
 -- Calls and recoveries lead to states to which turns and restarts lead.
-use Rattle.std.proofs.Common.{◌≡◌, ℕ, zero, suc, ◌&&◌, ◌||◌, is_some, Bool, true, false, List, [], ◌∷◌}
+use Rattle.std.proofs.Common.{◌≡◌, ℕ, zero, suc, ◌&&◌, ◌||◌, is_some, Bool, true, false, List, [], ◌∷◌, ◌++◌}
 use Rattle.std.proofs.Common.{Option, Some}
 use Rattle.std.proofs.Common.{None, Result, Ok, Err, refl, sym, subst}
 use Rattle.std.specs.Prelude.{if◌then◌else◌}
@@ -9,7 +9,9 @@ use Rattle.granit_lexemes.specs.Outcome.{Fault, ◌>>=◌}
 use Rattle.granit_lexemes.specs.Pieces.{with_front}
 use Rattle.granit_lexemes.specs.PlainEvent.{PlainEvent, EventKind, DocumentStart}
 use Rattle.granit_recovery.proofs.RecoveryLaws.{noted_steps}
-use Rattle.granit_recovery.specs.Streams.{Reached, reached_call, reached_recovery, reached_start}
+use Rattle.granit_recovery.specs.Streams.{EarlyOf, not_early, Reached, reached_call, reached_counting, reached_early}
+use Rattle.granit_recovery.specs.Streams.{reached_keeping, reached_recovery, reached_start, turn_early}
+use Rattle.granit_restart.proofs.AheadLaws.{one, OneTurn}
 use Rattle.granit_restart.specs.Calls.{Calls, failing_by, failing_in, Given, given_by, next_call}
 use Rattle.granit_restart.specs.Header.{is_in_header}
 use Rattle.granit_restart.specs.Recovery.{answered, extra_of, looked_by, recover, recover_with, recovered, skipped}
@@ -18,7 +20,8 @@ use Rattle.granit_restart.specs.Restart.{behind_fault, cursor_at}
 use Rattle.granit_restart.specs.Skipping.{ahead, Ahead, AtStreamEnd, BehindDocument, Ended, ends_before, Failed}
 use Rattle.granit_restart.specs.Skipping.{NoEnd, restarted, skip, skip_ahead, skip_in, skip_turn, SkipEnd}
 use Rattle.granit_restart.specs.Skipping.{skipped_fault, skipped_to, Stops, with_pending}
-use Rattle.granit_restart.specs.Turned.{Turned, turned_anew, turned_on, turned_start, turned_with}
+use Rattle.granit_restart.specs.Turned.{Turned, turned_anew, turned_counting, turned_keeping, turned_on, turned_start}
+use Rattle.granit_restart.specs.Turned.{turned_with}
 use Rattle.granit_scalars.proofs.Turning.{Carries, pieces_hold}
 use Rattle.granit_steps.proofs.StepLaws.{step_turn-Shortens}
 use Rattle.granit_steps.specs.Steps.{first_pending, next_event}
@@ -178,12 +181,27 @@ module _ (o : OptionsData) where
       (looked_turned c (next_call o c) turned (call_turned c turned))
   recover_by_turned stops false None c turned = recovers_turned c.over stops 0 c turned
 
-  recover_turned : (stops : Stops) (looked : Bool) (c : Calls) → Turned o c.steps
+  pub recover_turned : (stops : Stops) (looked : Bool) (c : Calls) → Turned o c.steps
       → Turned o (recover o stops looked c).1.steps
   unfolding recover
   recover_turned stops looked c turned = recover_by_turned stops looked c.refusal c turned
 
-  pub reached_turned : (c : Calls) → Reached o c → Turned o c.steps
-  reached_turned c (reached_start h) = turned_start h
-  reached_turned c (reached_call {c = d} r) = call_turned d (reached_turned d r)
-  reached_turned c (reached_recovery {c = d} stops looked r) = recover_turned stops looked d (reached_turned d r)
+  one_turned : (s t : StepState) → OneTurn o s t → Turned o s → Turned o t
+  one_turned s t x turned =
+      subst (Turned o) (sym x.is)
+      (turned_with (s.pending ++ x.behind.pending) (turned_on (turned_with [] turned) x.turn))
+
+  early_turned : (s t : StepState) → EarlyOf o s t → Turned o s → Turned o t
+  early_turned s t not_early turned = turned
+  early_turned s t (turn_early {t = u} {given = given} p e) turned =
+      one_turned u t (one o u t given e) (early_turned s u p turned)
+
+pub reached_turned : (o : OptionsData) (c : Calls) → Reached o c → Turned o c.steps
+reached_turned o c (reached_start h) = turned_start h
+reached_turned o c (reached_call {c = d} r) = call_turned o d (reached_turned o d r)
+reached_turned o c (reached_recovery {c = d} stops looked r) =
+    recover_turned o stops looked d (reached_turned o d r)
+reached_turned o c (reached_early {c = d} {t = t} r early) = early_turned o d.steps t early (reached_turned o d r)
+reached_turned o c (reached_counting {c = d} count r) = turned_counting count (reached_turned o d r)
+reached_turned o c (reached_keeping keep r) =
+    turned_keeping keep (reached_turned (record o { keep_tags = keep }) c r)

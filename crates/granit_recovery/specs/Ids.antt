@@ -4,6 +4,10 @@ use Rattle.granit_error.specs.OptionsData.{OptionsData}
 use Rattle.granit_lexemes.specs.Here.{Here, mark_of}
 use Rattle.granit_lexemes.specs.PlainEvent.{PlainEvent, EventKind, Anchor, Scalar, SequenceStart, MappingStart}
 use Rattle.granit_machine.specs.Frames.{parser_start}
+use Rattle.granit_recovery.specs.Streams.{Reached, reached_call, reached_counting, reached_early, reached_keeping}
+use Rattle.granit_recovery.specs.Streams.{reached_recovery, reached_start}
+use Rattle.granit_restart.specs.Turned.{with_count}
+use Rattle.granit_restart.specs.Calls.{Calls}
 use Rattle.granit_steps.specs.Steps.{StepState, next_event, start_from}
 
 -- the id that an event gives an anchor; 0 means none
@@ -23,9 +27,6 @@ IdsFrom offset (e ∷ es) = ((id_of e.kind ≡ 0) ⊎ (offset ≤ id_of e.kind))
 abbrev pub counting_from : ℕ → Here → StepState
 counting_from count h = record (start_from h) { parser = record (parser_start (mark_of h)) { count = count } }
 
-abbrev pub with_count : ℕ → StepState → StepState
-with_count count m = record m { parser = record (m.parser) { count = count } }
-
 -- A machine that began with some count, made steps, and whose count was perhaps raised between them.
 pub data Counted (o : OptionsData) : StepState → Type 0 where
   counted_start : (count : ℕ) (h : Here) → Counted o (counting_from count h)
@@ -37,3 +38,12 @@ pub data Counted (o : OptionsData) : StepState → Type 0 where
 abbrev pub id_told : Option PlainEvent → ℕ
 id_told None = 0
 id_told (Some e) = id_of e.kind
+
+-- on the way there the number of a next anchor was never set back
+abbrev pub NeverSetBack : {o : OptionsData} {c : Calls} → Reached o c → Type 0
+NeverSetBack (reached_start h) = Unit {0}
+NeverSetBack (reached_call r) = NeverSetBack r
+NeverSetBack (reached_recovery stops looked r) = NeverSetBack r
+NeverSetBack (reached_early r early) = NeverSetBack r
+NeverSetBack (reached_counting {c = c} count r) = (c.steps.parser.count ≤ count) × NeverSetBack r
+NeverSetBack (reached_keeping keep r) = NeverSetBack r

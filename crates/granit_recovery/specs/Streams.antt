@@ -1,13 +1,15 @@
 -- What calls give one by one between recoveries, and how a stream goes on behind one.
-use Rattle.std.specs.Prelude.{◌≡◌, Bool, false, List, [], ◌∷◌, ◌++◌, Some, None, Ok}
+use Rattle.std.specs.Prelude.{◌≡◌, ℕ, Bool, false, List, [], ◌∷◌, ◌++◌, Some, None, Ok}
 use Rattle.granit_error.specs.OptionsData.{OptionsData}
 use Rattle.granit_lexemes.specs.Here.{Here}
 use Rattle.granit_lexemes.specs.PlainEvent.{PlainEvent}
 use Rattle.granit_restart.specs.Calls.{Calls, next_call}
+use Rattle.granit_restart.specs.Looking.{turn_ahead}
 use Rattle.granit_restart.specs.Recovery.{recover}
 use Rattle.granit_restart.specs.Skipping.{Stops}
+use Rattle.granit_restart.specs.Turned.{with_count}
 use Rattle.granit_steps.specs.Levels.{InStream, behind_events}
-use Rattle.granit_steps.specs.Steps.{start_from}
+use Rattle.granit_steps.specs.Steps.{StepState, start_from}
 
 -- events that may come in a stream behind its start, and behind which the rest of a balanced one may
 pub record GoesOn (es : List PlainEvent) : Type 0 where
@@ -24,9 +26,23 @@ pub data Gives (o : OptionsData) : Calls → List PlainEvent → Calls → Type 
 abbrev pub calls_from : Here → Calls
 calls_from h = record { steps = start_from h; between = false; over = false; fault = None; refusal = None }
 
--- calls and recoveries lead there from the start of a text, wherever reads that were refused stopped
-pub data Reached (o : OptionsData) : Calls → Type 0 where
-  reached_start : (h : Here) → Reached o (calls_from h)
-  reached_call : {c : Calls} → Reached o c → Reached o (next_call o c).1
-  reached_recovery : {c : Calls} → (stops : Stops) (looked : Bool) → Reached o c
+-- turns that are made while events wait lead there; what they give comes behind those
+pub data EarlyOf (o : OptionsData) (s : StepState) : StepState → Type 0 where
+  not_early : EarlyOf o s s
+  turn_early : {t u : StepState} {given : List PlainEvent} → EarlyOf o s t → turn_ahead o t ≡ Ok (Some given, u)
+      → EarlyOf o s u
+
+-- Calls and recoveries lead there from the start of a text, wherever reads that were refused stopped. Between them
+-- turns may be made early, and the number of the last anchor be set.
+pub data Reached : OptionsData → Calls → Type 0 where
+  reached_start : {o : OptionsData} → (h : Here) → Reached o (calls_from h)
+  reached_call : {o : OptionsData} {c : Calls} → Reached o c → Reached o (next_call o c).1
+  reached_recovery : {o : OptionsData} {c : Calls} → (stops : Stops) (looked : Bool) → Reached o c
       → Reached o (recover o stops looked c).1
+  reached_early : {o : OptionsData} {c : Calls} {t : StepState} → Reached o c → EarlyOf o c.steps t
+      → Reached o (record c { steps = t })
+  reached_counting : {o : OptionsData} {c : Calls} → (count : ℕ) → Reached o c
+      → Reached o (record c { steps = with_count count c.steps })
+  -- up to there with handles that stay over documents, or without
+  reached_keeping : {o : OptionsData} {c : Calls} → (keep : Bool) → Reached (record o { keep_tags = keep }) c
+      → Reached o c

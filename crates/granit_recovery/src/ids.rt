@@ -5,24 +5,25 @@ ghost use Rattle.granit_lexemes.specs.Here.{Here};
 ghost use Rattle.granit_lexemes.specs.Outcome.{Fault};
 ghost use Rattle.granit_lexemes.specs.PlainEvent.{PlainEvent};
 ghost use Rattle.granit_restart.specs.Calls.{Calls, next_call};
-ghost use Rattle.granit_recovery.specs.Ids.{Counted, id_of, id_told, IdsFrom, counting_from};
+ghost use Rattle.granit_recovery.specs.Ids.{Counted, id_of, id_told, IdsFrom, NeverSetBack, counting_from};
 ghost use Rattle.granit_restart.specs.Recovery.{recover, anchor_offset};
 ghost use Rattle.granit_restart.specs.Skipping.{Stops};
 ghost use Rattle.granit_recovery.specs.Streams.{Gives, Reached};
 ghost use Rattle.granit_steps.specs.Steps.{StepState, next_event};
 ghost use Rattle.granit_steps.specs.Told.{GivesEvents};
 
-/// The offset, which is the next id, never falls.
+/// The offset, which is the next id, never falls, where it was never set back.
 pub fn the_offset_never_falls()
-    ensures calls { (o : OptionsData) (c : Calls) → Reached o c → anchor_offset c ≤ anchor_offset (next_call o c).1 }
-    ensures recoveries { (o : OptionsData) (stops : Stops) (looked : Bool) (c : Calls) → Reached o c
-        → anchor_offset c ≤ anchor_offset (recover o stops looked c).1 }
+    ensures calls { (o : OptionsData) (c : Calls) (r : Reached o c) → NeverSetBack r
+        → anchor_offset c ≤ anchor_offset (next_call o c).1 }
+    ensures recoveries { (o : OptionsData) (stops : Stops) (looked : Bool) (c : Calls) (r : Reached o c)
+        → NeverSetBack r → anchor_offset c ≤ anchor_offset (recover o stops looked c).1 }
 {}
 
-/// Each id that is given is below the offset behind it.
+/// Each id that is given is below the offset behind it, where that was never set back.
 pub fn ids_are_below_the_offset()
-    ensures { (o : OptionsData) (c d : Calls) (e : PlainEvent) → Reached o c → next_call o c ≡ (Some (Ok e), d)
-        → id_of e.kind < anchor_offset d }
+    ensures { (o : OptionsData) (c d : Calls) (e : PlainEvent) (r : Reached o c) → NeverSetBack r
+        → next_call o c ≡ (Some (Ok e), d) → id_of e.kind < anchor_offset d }
 {}
 
 /// Behind recovery from a fault ids are greater than all before: no less than the offset was.

@@ -12,22 +12,23 @@ use serde_json::Value;
 use std::alloc::Global;
 use std::io::{BufRead, BufReader};
 
-fn fault_line(alloc: Global, out: &mut String, error: &ScanError) -> Result<()> {
-    out.push_str(format!(in alloc; "fault {}: {error}\n", error.kind().number())?.as_str())?;
+fn fault_line(alloc: Global, out: &mut Vec<u8>, error: &ScanError) -> Result<()> {
+    let line = format!(in alloc; "fault {}: {error}\n", error.kind().number())?;
+    out.extend_from_slice(line.as_bytes())?;
     Ok(())
 }
 
 /// The line of what recovery answers; whether the text goes on.
 fn recovery_line<'a, T: BorrowedInput<'a>>(
     alloc: Global,
-    out: &mut String,
+    out: &mut Vec<u8>,
     parser: &mut Parser<'a, T>,
 ) -> Result<bool> {
     match &parser.proceed_next_document() {
-        Ok(true) => out.push_str("proceed true\n")?,
-        Ok(false) => out.push_str("proceed false\n")?,
+        Ok(true) => out.extend_from_slice(b"proceed true\n")?,
+        Ok(false) => out.extend_from_slice(b"proceed false\n")?,
         Err(error) => {
-            out.push_str("proceed ")?;
+            out.extend_from_slice(b"proceed ")?;
             fault_line(alloc, out, error)?;
             return Ok(false);
         }
@@ -38,7 +39,7 @@ fn recovery_line<'a, T: BorrowedInput<'a>>(
 /// The lines of what comes next; whether the text goes on.
 fn next_lines<'a, T: BorrowedInput<'a>>(
     alloc: Global,
-    out: &mut String,
+    out: &mut Vec<u8>,
     parser: &mut Parser<'a, T>,
 ) -> Result<bool> {
     match &parser.next_event() {
@@ -57,8 +58,8 @@ fn next_lines<'a, T: BorrowedInput<'a>>(
 }
 
 /// The lines of a text.
-fn recovered(alloc: Global, text: &str) -> Result<String> {
-    let mut out = String::new(alloc);
+fn recovered(alloc: Global, text: &str) -> Result<Vec<u8>> {
+    let mut out = Vec::new(alloc);
     let mut parser = Parser::new_from_str(alloc, text);
     'events: for _ in 0..1_000_000 {
         if !next_lines(alloc, &mut out, &mut parser)? {
@@ -74,7 +75,9 @@ fn main(rt: HostRuntime) -> Result<()> {
         let line = line?;
         let value = Value::from_str(alloc, line.as_str()).context("reading a case")?;
         let text = value.as_str().context("a case is a string")?;
-        println!(rt; "{}", recovered(alloc, text)?)?;
+        let lines = recovered(alloc, text)?;
+        let lines = str::from_utf8(&lines).ok().context("lines are text")?;
+        println!(rt; "{lines}")?;
     }
     Ok(())
 }

@@ -1,6 +1,6 @@
 //! Events that are given once more, sent to a receiver.
 ghost use Rattle.std.specs.Prelude.{◌≡◌, Ok, IfOk, IfErr, OnOk, OnErr};
-ghost use Rattle.granit_receivers.specs.Counts.{Rose};
+ghost use Rattle.granit_base.specs.Counts.{Rose};
 ghost use Rattle.granit_receivers.specs.Taking.{Took};
 ghost use Rattle.granit_replay.specs.Sending.{IsReceivers, StopsAt, behind_sent, sent};
 

@@ -1,8 +1,8 @@
 //! Who finds the text of an include by its name.
 ghost use Rattle.std.specs.Prelude.{◌≡◌, ℕ, ◌≤◌, List, Result, Err, OnOk, OnErr, ⊤};
 ghost use Rattle.std.specs.Str.{chars};
+ghost use Rattle.granit_base.specs.Counts.{last_count, Rose};
 ghost use Rattle.granit_error.specs.Refused.{Refused};
-ghost use Rattle.granit_receivers.specs.Counts.{Rose, last_count};
 ghost use Rattle.granit_replay.specs.Resolving.{missing_resolver};
 ghost use Rattle.granit_replay.specs.declared.resolver.Included.{Included};
 

@@ -25,6 +25,7 @@ use Rattle.granit_restart.specs.Following.{item_of, past_lexeme}
 use Rattle.granit_restart.specs.Restart.{anew, at_boundary, at_found, at_lexeme, behind_fault_at, boundary_of}
 use Rattle.granit_restart.specs.Restart.{is_boundary, laid_anew, lexeme_or, read_boundary}
 use Rattle.granit_restart.specs.Turned.{Turned, turned_start, turned_on, turned_with, turned_anew}
+use Rattle.granit_restart.specs.Turned.{turned_counting, turned_keeping}
 use Rattle.granit_steps.proofs.Futures.{AllOld, IsReady, pushed_nil, Ready, turn_keeps, TurnKeeps}
 use Rattle.granit_steps.proofs.Queues.{IsOld}
 use Rattle.granit_steps.proofs.StepLaws.{never_possible_again}
@@ -252,6 +253,9 @@ turned_sound o s (turned_on {s = before} p e) = subst TurnSound e (turn_sound o 
 turned_sound o s (turned_with {s = before} es p) =
     let x = turned_sound o before p in record { ready = x.ready; marked = x.marked }
 turned_sound o s (turned_anew {s = before} h p) = restart_sound h before (turned_sound o before p)
+turned_sound o s (turned_counting {s = before} count p) =
+    let x = turned_sound o before p in record { ready = x.ready; marked = x.marked }
+turned_sound o s (turned_keeping keep p) = turned_sound (record o { keep_tags = keep }) s p
 
 -- ---- the boundary among what may go
 

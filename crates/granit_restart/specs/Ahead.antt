@@ -1,18 +1,15 @@
 -- A state of the machine that is some turns ahead of another, each made while no event waited but comments: what these
 -- gave waits. And a state from which no document comes.
-use Rattle.std.specs.Prelude.{◌≡◌, ◌⊎◌, ℕ, suc, Bool, true, false, List, [], ◌∷◌, Some, None, Result, Ok, Err, Option}
+use Rattle.std.specs.Prelude.{◌≡◌, ◌⊎◌, ℕ, suc, true, false, List, [], ◌∷◌, Some, None, Result, Ok, Err, Option}
 use Rattle.granit_error.specs.OptionsData.{OptionsData}
 use Rattle.granit_lexemes.specs.Outcome.{Fault}
-use Rattle.granit_lexemes.specs.PlainEvent.{PlainEvent, EventKind, StreamEnd, Comment}
+use Rattle.granit_lexemes.specs.PlainEvent.{PlainEvent, StreamEnd}
+pub use Rattle.granit_lexemes.specs.PlainEvent.{is_note}
 use Rattle.granit_restart.specs.Following.{document_follows}
 use Rattle.granit_restart.specs.Header.{is_directives}
 use Rattle.granit_restart.specs.Looking.{told_by, turn_ahead, Outside}
 use Rattle.granit_restart.specs.Turned.{Turned}
 use Rattle.granit_steps.specs.Steps.{StepState}
-
-abbrev pub is_note : EventKind → Bool
-is_note (Comment text placement) = true
-is_note kind = false
 
 abbrev pub OnlyNotes : List PlainEvent → Type 0
 OnlyNotes [] = Unit {0}

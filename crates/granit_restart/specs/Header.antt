@@ -4,8 +4,8 @@ use Rattle.std.specs.Prelude.{Result, Ok, Err}
 use Rattle.granit_error.specs.FaultKind.{ExpectedDocumentStart, fault_number}
 use Rattle.granit_error.specs.OptionsData.{OptionsData}
 use Rattle.granit_lexemes.specs.Here.{Here, mark_of}
-use Rattle.granit_lexemes.specs.Lexeme as lexemes
-use Rattle.granit_lexemes.specs.Lexeme.{LexemeKind, Item, OfLexeme, OfComment}
+use Rattle.granit_lexemes.specs.Lexeme.{Item, OfLexeme, OfComment}
+pub use Rattle.granit_lexemes.specs.Lexeme.{is_directive}
 use Rattle.granit_lexemes.specs.Outcome.{Fault}
 use Rattle.granit_machine.specs.Frames.{DocumentStage, Fresh, Directives}
 use Rattle.granit_machine.specs.Gaps.{GapRead, gap}
@@ -15,10 +15,6 @@ use Rattle.granit_machine.specs.LexemeSort.{LexemeSort, TextEnd, StartMark, EndM
 use Rattle.granit_machine.specs.LexemeSort.{sort_at}
 use Rattle.granit_machine.specs.PossibleKeys.{without_stale}
 use Rattle.granit_steps.specs.Steps.{StepState, may_go}
-
-abbrev pub is_directive : LexemeKind → Bool
-is_directive (lexemes.Directive d) = true
-is_directive kind = false
 
 abbrev pub is_directives : DocumentStage → Bool
 is_directives (Directives version) = true

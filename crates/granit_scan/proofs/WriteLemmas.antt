@@ -8,14 +8,14 @@ use Rattle.granit_base.specs.Place.{Mark}
 use Rattle.granit_cursor.specs.declared.token.Token.{Token}
 use Rattle.granit_error.specs.OptionsData.{OptionsData}
 use Rattle.granit_lexemes.specs.Lexeme.{LexemeKind, Directive, DocumentStart, DocumentEnd, StreamEnd, Dash, Question}
-use Rattle.granit_lexemes.specs.Lexeme.{Colon, KeyStart, Lexeme, OfLexeme}
+use Rattle.granit_lexemes.specs.Lexeme.{Colon, KeyStart, Lexeme, OfLexeme, is_entry_dash}
 use Rattle.granit_lexemes.specs.Outcome.{Fault, ◌>>=◌}
 use Rattle.granit_lexemes.specs.declared.layout.LastLexeme.{LastLexeme}
 use Rattle.granit_lexemes.specs.declared.layout.OpenBracket.{OpenBracket}
 use Rattle.granit_machine.specs.Columns.{entered, refuse_column, with_entry}
 use Rattle.granit_machine.specs.Laid.{Laid, block_column, in_square, is_column, is_nonempty, is_opener}
 use Rattle.granit_scan.specs.Following.{Writing, adds, before_tokens, begins_mapping_by, inserted_before}
-use Rattle.granit_scan.specs.Following.{header_behind, is_dash_kind, is_new_at, left_behind, laid_behind, start_tokens}
+use Rattle.granit_scan.specs.Following.{header_behind, is_new_at, left_behind, laid_behind, start_tokens}
 use Rattle.granit_scan.specs.Following.{with_ends, with_own, with_start, wrote}
 use Rattle.granit_scan.specs.TokenViews as views
 use Rattle.granit_scan.specs.TokenViews.{PlainToken, inserted_if, insertion_kind, kind_shown, marked, plain_token}
@@ -78,10 +78,10 @@ no_start b l w e =
 
 pub some_start : (b : Bool) (l : Lexeme) (w : Writing) → true ≡ is_new_at l.start.place.column w.following.laid
     → adds (inserted_if (begins_mapping_by l.kind l.key b) views.MappingStart l.start)
-    (adds (inserted_if (is_dash_kind l.kind) views.SequenceStart l.start) w) ≡ with_start b l w
+    (adds (inserted_if (is_entry_dash l.kind) views.SequenceStart l.start) w) ≡ with_start b l w
 some_start b l w e =
     ap (λ (ts : List PlainToken). record w { waiting = ts }) (append_assoc w.waiting
-    (inserted_if (is_dash_kind l.kind) views.SequenceStart l.start)
+    (inserted_if (is_entry_dash l.kind) views.SequenceStart l.start)
     (inserted_if (begins_mapping_by l.kind l.key b) views.MappingStart l.start))
     ∙ ap (λ (new : Bool). adds (start_tokens new b l) w) e
 
@@ -130,7 +130,7 @@ mapping_shown : (b : Bool) (m : Mark)
 mapping_shown b m = shown_if b BlockMappingStart m
 
 start_by : (kind : LexemeKind) (key : Option KeyStart) (b : Bool) (m : Mark)
-    → inserted_if (is_dash_kind kind) views.SequenceStart m
+    → inserted_if (is_entry_dash kind) views.SequenceStart m
     ++ inserted_if (begins_mapping_by kind key b) views.MappingStart m
     ≡ shown_tokens (block_start b kind key true m)
 start_by Dash key b m = refl

@@ -4,7 +4,7 @@ use Rattle.std.specs.Prelude.{replicate, Option, Some, None, is_none}
 use Rattle.granit_base.specs.Place.{Mark}
 use Rattle.granit_lexemes.specs.Comment.{CommentRead}
 use Rattle.granit_lexemes.specs.Lexeme.{LexemeKind, Directive, StreamEnd, KeyStart, Open, Close, Comma, Dash, Question}
-use Rattle.granit_lexemes.specs.Lexeme.{Colon, Lexeme, Item, OfLexeme, OfComment}
+use Rattle.granit_lexemes.specs.Lexeme.{Colon, Lexeme, Item, OfLexeme, OfComment, is_entry_dash}
 use Rattle.granit_lexemes.specs.declared.layout.LastLexeme.{LastLexeme}
 use Rattle.granit_lexemes.specs.declared.layout.LastLexeme.TheVariants.{Opener, Another}
 use Rattle.granit_machine.specs.Columns.{entered}
@@ -113,10 +113,6 @@ with_ends l w =
 abbrev pub is_new_at : ℕ → Laid → Bool
 is_new_at column s = not (is_in_flow s) && not (is_column (block_column s) column)
 
-abbrev pub is_dash_kind : LexemeKind → Bool
-is_dash_kind Dash = true
-is_dash_kind kind = false
-
 -- whether a block mapping begins in a new column
 abbrev pub begins_mapping_by : LexemeKind → Option KeyStart → Bool → Bool
 begins_mapping_by Dash key begins_key = false
@@ -126,7 +122,7 @@ begins_mapping_by kind key begins_key = begins_key
 
 abbrev pub start_tokens : (new : Bool) → Bool → Lexeme → List PlainToken
 start_tokens true begins_key l =
-    inserted_if (is_dash_kind l.kind) views.SequenceStart l.start
+    inserted_if (is_entry_dash l.kind) views.SequenceStart l.start
     ++ inserted_if (begins_mapping_by l.kind l.key begins_key) views.MappingStart l.start
 start_tokens false begins_key l = []
 

@@ -1,14 +1,13 @@
 -- Tokens that mark where a document starts or ends, or the end of the stream, and where tokens go on behind a boundary.
-use Rattle.std.specs.Prelude.{Bool, true, false, List, [], ◌∷◌, ◌++◌, Option, Some, None}
+use Rattle.std.specs.Prelude.{true, false, List, [], ◌∷◌, ◌++◌, Option, Some, None}
 use Rattle.granit_base.specs.declared.place.Span.{Span}
-use Rattle.granit_base.specs.declared.style.Placement.{Placement}
-use Rattle.granit_base.specs.declared.style.Placement.TheVariants.{Right}
 use Rattle.granit_lexemes.specs.Comment.{CommentRead}
 use Rattle.granit_lexemes.specs.Here.{Here}
 use Rattle.granit_lexemes.specs.Lexeme as lexemes
 use Rattle.granit_lexemes.specs.Lexeme.{Lexeme, LexemeKind, OfLexeme}
 use Rattle.granit_machine.specs.Lexing.{FlaggedItem}
 use Rattle.granit_restart.specs.Restart.{behind_fault}
+use Rattle.granit_cursor.specs.Tokens.{is_right_placed}
 use Rattle.granit_scan.specs.Following.{following_start}
 use Rattle.granit_scan.specs.TokenSteps.{TokenState}
 use Rattle.granit_scan.specs.TokenViews.{Comment, DocumentEnd, DocumentStart, EndOfStream, PlainToken, TokenKind}
@@ -23,13 +22,13 @@ marked_by DocumentEnd = Some lexemes.DocumentEnd
 marked_by EndOfStream = Some lexemes.StreamEnd
 marked_by kind = None
 
-abbrev pub is_right : Placement → Bool
-is_right Right = true
-is_right placement = false
-
 abbrev comment_by : TokenKind → Span → Option CommentRead
 comment_by (Comment text placement) s =
-    Some (record { text = text; source = record { start = s.start; end = s.end }; is_right = is_right placement })
+    Some (record {
+      text = text;
+      source = record { start = s.start; end = s.end };
+      is_right = is_right_placed placement;
+    })
 comment_by kind s = None
 
 -- the comment that a token is

@@ -1,15 +1,16 @@
 -- What recovery needs to know of a scanner, and where it then stands.
-use Rattle.std.specs.Prelude.{◌≡◌, ◌++◌, List, Option, Some, None, Result, Ok, Err}
+use Rattle.std.specs.Prelude.{◌≡◌, ◌++◌, List, Option, Some, None, Result, Ok, Err, IfOk}
 use Rattle.granit_base.specs.Place.{Unread}
 use Rattle.granit_cursor.specs.Reading.{CameOn, Reading, Stands}
 use Rattle.granit_error.specs.FaultKind.{NoMemory}
 use Rattle.granit_error.specs.OptionsData.{OptionsData}
 use Rattle.granit_error.specs.Refused.{Refused}
+use Rattle.granit_input.specs.Origin.{Origin}
 use Rattle.granit_lexemes.specs.Here.{Here}
 use Rattle.granit_lexemes.specs.Onward.{Onward}
 use Rattle.granit_lexemes.specs.Outcome.{Fault}
 use Rattle.granit_scan.specs.Marks.{proceeded}
-use Rattle.granit_scan.specs.Scanning.{Scanning, StandsIn, first_tokens}
+use Rattle.granit_scan.specs.Scanning.{Scanning, StandsIn, UnlessFailed, first_tokens}
 use Rattle.granit_scan.specs.TokenSteps.{TokenState, token_turn}
 use Rattle.granit_scan.specs.TokenViews.{PlainToken}
 use Rattle.granit_steps.specs.Told.{parsers_items}
@@ -55,3 +56,9 @@ RestsIn unread (Err e) s m = (e.kind ≡ NoMemory → ⊥) → Rests unread s m
 abbrev pub Proceeds : {I : Type 0} → (I → Unread → Type 0) → Option PlainToken → TokenState → Scanning I → Type 0
 Proceeds unread t m s =
     (stop : Here) × Onward m.reading.reader.here stop × StandsIn unread s (proceeded stop t m)
+
+-- a call of recovery leads there, unless memory runs out or the source fails
+abbrev pub ProceedsUnless : {I : Type 0} → (I → Unread → Type 0) → (I → Origin) → Result (Unit {0}) Refused
+    → Option PlainToken → TokenState → (old new : Scanning I) → Type 0
+ProceedsUnless unread origin r t m old new =
+    UnlessFailed origin old new (λ e. r ≡ Err e) (IfOk r (λ x. Proceeds unread t m new))

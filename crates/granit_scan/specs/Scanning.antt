@@ -78,9 +78,6 @@ first_error (Some e) given m = Some e
 first_error None (Some kind) m = Some (record { kind = kind; mark = m; sources = [] })
 first_error None None m = None
 
-abbrev pub refused_kind : Refused → FaultKind
-refused_kind e = e.kind
-
 -- its kind
 abbrev pub first_kind : Option Refused → (given : Option FaultKind) → Option FaultKind
 first_kind (Some e) given = Some e.kind
@@ -188,10 +185,10 @@ is_end None = false
 is_end (Some t) = is_end_kind t.kind
 
 -- a step of the iterator gives what the machine's step gives; a refusal is its fault, unless memory ran out
-abbrev pub Next : Type 0
-Next = Option (Result Token Refused)
+abbrev pub NextToken : Type 0
+NextToken = Option (Result Token Refused)
 
-abbrev pub GivesNext : Next → (TokenState → Type 0) → Result (Option PlainToken × TokenState) Fault → Type 0
+abbrev pub GivesNext : NextToken → (TokenState → Type 0) → Result (Option PlainToken × TokenState) Fault → Type 0
 GivesNext None Lands given = (after : TokenState) × Lands after × (given ≡ Ok (None, after))
 GivesNext (Some (Ok t)) Lands given = (after : TokenState) × Lands after × (given ≡ Ok (Some (plain_token t), after))
 GivesNext (Some (Err e)) Lands given = Fails e given
@@ -203,13 +200,13 @@ pub record GoesOn {I : Type 0} (old new : Scanning I) (t : Option PlainToken) : 
   pub in_directive : new.failed_in_directive ≡ old.failed_in_directive
 
 -- what is told of the stream behind a step
-abbrev pub TellsOf : {I : Type 0} → (old new : Scanning I) → Next → Type 0
+abbrev pub TellsOf : {I : Type 0} → (old new : Scanning I) → NextToken → Type 0
 TellsOf old new None = GoesOn old new None
 TellsOf old new (Some (Ok t)) = GoesOn old new (Some (plain_token t))
 TellsOf old new (Some (Err e)) = StopsBy old new e.kind
 
 pub record StepsTo {I : Type 0} (unread : I → Unread → Type 0) (left : I → ℕ) (origin : I → Origin) (s : Scanning I)
-    (r : Next) (t : Scanning I) : Type 0 where
+    (r : NextToken) (t : Scanning I) : Type 0 where
   pub known : (m : TokenState) → StandsIn unread s m → UnlessFailed origin s t (λ e. r ≡ Some (Err e))
       (GivesNext r (StandsIn unread t) (next_token s.items.options m))
   pub source : s.failed ≡ false → UnlessFailed origin s t

@@ -1,7 +1,7 @@
 //! The tokens of lexemes and comments.
 ghost use Rattle.std.specs.Prelude.{◌≡◌};
 ghost use Rattle.std.specs.Option.{option_map};
-ghost use Rattle.granit_cursor.specs.Tokens.{placed};
+ghost use Rattle.granit_cursor.specs.Tokens.{is_right_placed, placed};
 ghost use Rattle.granit_items.specs.ItemViews.{kind_view, lexeme_view, note_view};
 ghost use Rattle.granit_scan.specs.Marks as marks;
 ghost use Rattle.granit_scan.specs.TokenViews.{comment_shown, kind_shown, plain_token, shown_span, token_kind};
@@ -106,7 +106,7 @@ pub(crate) fn note_of<'input>(token: Token<'input>) -> Option<Note<'input>>
 
 /// Whether a comment stands behind something on its line.
 fn is_right(placement: Placement) -> bool
-    ensures { result ≡ marks.is_right placement }
+    ensures { result ≡ is_right_placed placement }
 {
     matches!(placement, Placement::Right)
 }

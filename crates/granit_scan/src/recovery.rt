@@ -3,7 +3,7 @@ ghost use Rattle.std.specs.Prelude.{◌≡◌, true, false, IfErr, IfOk, IfSome}
 ghost use Rattle.std.specs.Option.{option_map};
 ghost use Rattle.granit_cursor.specs.Reading.{Moves};
 ghost use Rattle.granit_error.specs.FaultKind as faults;
-ghost use Rattle.granit_scan.specs.Recovering.{Proceeds, Rests};
+ghost use Rattle.granit_scan.specs.Recovering.{Proceeds, ProceedsUnless, Rests};
 ghost use Rattle.granit_scan.specs.Scanning as spec;
 ghost use Rattle.granit_scan.specs.Scanning.{Keeps, KeepsCopy, MovesAsked, StandsIn, StopsBy, UnlessFailed};
 ghost use Rattle.granit_scan.specs.TokenSteps.{TokenState};
@@ -14,6 +14,7 @@ use granit_base::NoMemory;
 use granit_cursor::Token;
 use granit_error::ScanError;
 use granit_input::BorrowedInput;
+use granit_items::Lexeme;
 
 impl<'input, T: BorrowedInput<'input>> Scanner<'input, T> {
     /// Goes on at the next document boundary: a `---`, a `...` that is passed with its line, or the end. It may be the
@@ -27,12 +28,10 @@ impl<'input, T: BorrowedInput<'input>> Scanner<'input, T> {
     pub fn proceed_next_document(&mut self, token: Option<Token<'input>>) -> Result<(), ScanError>
         ensures known { (m : TokenState) → Rests T.unread self.old m
             → IfSome token.entry (λ t. self.old.first ≡ None)
-            → UnlessFailed T.origin self.old self.new (λ e. result ≡ Err e)
-            (IfOk result (λ x. Proceeds T.unread (option_map plain_token token.entry) m self.new)) }
+            → ProceedsUnless T.unread T.origin result (option_map plain_token token.entry) m self.old self.new }
         ensures standing { (m : TokenState) → StandsIn T.unread self.old m
             → IfSome token.entry (λ t. self.old.first ≡ None)
-            → UnlessFailed T.origin self.old self.new (λ e. result ≡ Err e)
-            (IfOk result (λ x. Proceeds T.unread (option_map plain_token token.entry) m self.new)) }
+            → ProceedsUnless T.unread T.origin result (option_map plain_token token.entry) m self.old self.new }
         ensures source { UnlessFailed T.origin self.old self.new
             (λ e. (result ≡ Err e) × KeepsCopy (Some e) self.new.source_error)
             (IfErr result (λ e. e.kind ≡ faults.NoMemory) × (self.new.source_error ≡ None)) }
@@ -102,7 +101,7 @@ impl<'input, T: BorrowedInput<'input>> Scanner<'input, T> {
         if self.items.is_lost() {
             return Err(ScanError::from(NoMemory));
         }
-        let mark = self.writer.take_mark(token);
+        let mark: Option<Lexeme<'input>> = self.writer.take_mark(self.alloc, token)?;
         self.items.restart(mark)?;
         self.writer.begin_anew();
         Ok(())

@@ -8,6 +8,7 @@ ghost use Rattle.granit_error.specs.FaultKind as faults;
 ghost use Rattle.granit_error.specs.Kinds.{kind_of};
 ghost use Rattle.granit_error.specs.OptionsData.{default_options};
 ghost use Rattle.granit_error.specs.OptionsView.{options_of};
+ghost use Rattle.granit_error.specs.Refused.{refused_kind};
 ghost use Rattle.granit_input.specs.Origin.{error_given, Gave};
 ghost use Rattle.granit_input.specs.White.{holds};
 ghost use Rattle.granit_lexemes.specs.Here.{Here, first_place, mark_of};
@@ -37,7 +38,7 @@ use std::marker::Model;
 /// An input that is read into tokens, one for each call.
 #[derive(Drop)]
 pub struct Scanner<'input, T: Input> {
-    alloc: Global,
+    pub(crate) alloc: Global,
     pub(crate) items: ItemScanner<'input, T>,
     pub(crate) writer: Writer<'input>,
     // Where the stream starts, until that is told.
@@ -160,7 +161,7 @@ impl<'input, T: BorrowedInput<'input>> Scanner<'input, T> {
     /// That error, at the place up to which was read when a call first met it, and `NoMemory`.
     pub fn check_source_error(&mut self) -> Result<(), ScanError>
         ensures told { TellsError self.new.source_error result }
-        ensures kind { option_map spec.refused_kind self.new.source_error
+        ensures kind { option_map refused_kind self.new.source_error
             ≡ spec.first_kind self.old.source_error (error_given (T.origin self.old.items.cursor.input)) }
         ensures kept { (h : Here) → Stands T.unread self.old.items.cursor h → self.new.source_error
             ≡ spec.first_error self.old.source_error (error_given (T.origin self.old.items.cursor.input)) (mark_of h) }
@@ -180,7 +181,7 @@ impl<'input, T: BorrowedInput<'input>> Scanner<'input, T> {
     pub(crate) fn ask_source(&mut self)
         ensures first { KeepsFirst self.old.source_error (error_given (T.origin self.old.items.cursor.input))
             self.old.items.cursor.place self.new.source_error }
-        ensures kind { option_map spec.refused_kind self.new.source_error
+        ensures kind { option_map refused_kind self.new.source_error
             ≡ spec.first_kind self.old.source_error (error_given (T.origin self.old.items.cursor.input)) }
         ensures kept { (h : Here) → Stands T.unread self.old.items.cursor h → self.new.source_error
             ≡ spec.first_error self.old.source_error (error_given (T.origin self.old.items.cursor.input)) (mark_of h) }

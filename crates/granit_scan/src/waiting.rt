@@ -1,7 +1,7 @@
 //! The tokens that are made and not yet given.
-ghost use Rattle.std.specs.Prelude.{◌≡◌, ◌==◌, [], ◌∷◌, ◌++◌, length, replicate, drop, slice_get, OnOk};
+ghost use Rattle.std.specs.Prelude.{◌≡◌, ◌==◌, [], ◌∷◌, ◌++◌, length, replicate, drop, slice_get, Some, IfOk, OnOk};
 ghost use Rattle.std.specs.Option.{option_map};
-ghost use Rattle.granit_items.specs.ItemViews.{kind_view, lexeme_view, note_view};
+ghost use Rattle.granit_items.specs.ItemViews.{boxed_view, kind_view, lexeme_view, note_view};
 ghost use Rattle.granit_scan.specs.Marks as marks;
 ghost use Rattle.granit_scan.specs.TokenViews.{CollectionEnd, inserted_if, marked, plain_token, token_kind};
 
@@ -97,28 +97,36 @@ impl<'input> Waiting<'input> {
 
     /// The first mark of a document, or of the end, from a token that was handed back on, with the comment behind it;
     /// of what waits some goes.
-    pub(crate) fn take_mark(&mut self, handed: Option<Token<'input>>) -> Option<Lexeme<'input>>
-        ensures { option_map lexeme_view result
-            ≡ marks.mark_in (marks.handed (option_map plain_token handed.entry) ++ self.old) }
+    ///
+    /// # Errors
+    ///
+    /// `NoMemory` alone.
+    pub(crate) fn take_mark(
+        &mut self,
+        alloc: Global,
+        handed: Option<Token<'input>>,
+    ) -> Result<Option<Lexeme<'input>>, NoMemory>
+        ensures { IfOk result (λ m. option_map lexeme_view m
+            ≡ marks.mark_in (marks.handed (option_map plain_token handed.entry) ++ self.old)) }
     {
         match handed {
-            None => self.pop_mark(),
+            None => self.pop_mark(alloc),
             Some(token) => match mark_of(&token) {
-                None => self.pop_mark(),
-                Some(kind) => Some(self.with_note(kind, token.span())),
+                None => self.pop_mark(alloc),
+                Some(kind) => self.with_note(alloc, kind, token.span()),
             },
         }
     }
 
-    fn pop_mark(&mut self) -> Option<Lexeme<'input>>
-        ensures { option_map lexeme_view result ≡ marks.mark_in self.old }
+    fn pop_mark(&mut self, alloc: Global) -> Result<Option<Lexeme<'input>>, NoMemory>
+        ensures { IfOk result (λ m. option_map lexeme_view m ≡ marks.mark_in self.old) }
     {
         'tokens: loop {
             match self.pop() {
-                None => return None,
+                None => return Ok(None),
                 Some(token) => {
                     if let Some(kind) = mark_of(&token) {
-                        return Some(self.with_note(kind, token.span()));
+                        return self.with_note(alloc, kind, token.span());
                     }
                 }
             }
@@ -126,10 +134,17 @@ impl<'input> Waiting<'input> {
     }
 
     /// A mark with the comment that waits behind it.
-    fn with_note(&mut self, kind: LexemeKind<'input>, span: Span) -> Lexeme<'input>
-        ensures { lexeme_view result ≡ marks.mark_at (kind_view kind.entry) span (marks.tail_in self.old) }
+    fn with_note(
+        &mut self,
+        alloc: Global,
+        kind: LexemeKind<'input>,
+        span: Span,
+    ) -> Result<Option<Lexeme<'input>>, NoMemory>
+        ensures { IfOk result (λ m. option_map lexeme_view m
+            ≡ Some (marks.mark_at (kind_view kind.entry) span (marks.tail_in self.old))) }
     {
-        Lexeme {
+        let tail = self.pop_note(alloc)?;
+        Ok(Some(Lexeme {
             number: 0,
             kind,
             start: span.start,
@@ -142,16 +157,28 @@ impl<'input> Waiting<'input> {
             follows_indicator: false,
             ends_column: false,
             key: None,
-            tail: self.pop_note(),
-        }
+            tail,
+        }))
     }
 
-    fn pop_note(&mut self) -> Option<Note<'input>>
-        ensures { option_map note_view result ≡ marks.tail_in self.old }
+    fn pop_note(&mut self, alloc: Global) -> Result<Option<Box<Note<'input>>>, NoMemory>
+        ensures { IfOk result (λ t. option_map boxed_view t ≡ marks.tail_in self.old) }
     {
         match self.pop() {
-            None => None,
-            Some(token) => note_of(token),
+            None => Ok(None),
+            Some(token) => boxed(alloc, note_of(token)),
         }
+    }
+}
+
+fn boxed<'input>(
+    alloc: Global,
+    note: Option<Note<'input>>,
+) -> Result<Option<Box<Note<'input>>>, NoMemory>
+    ensures { IfOk result (λ t. option_map boxed_view t ≡ option_map note_view note.entry) }
+{
+    match note {
+        None => Ok(None),
+        Some(note) => Ok(Some(Box::new(alloc, note)?)),
     }
 }

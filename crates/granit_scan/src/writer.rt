@@ -1,7 +1,8 @@
 //! Items are written as tokens.
-ghost use Rattle.std.specs.Prelude.{◌≡◌, ◌==◌, ◌++◌, length, drop, slice_get, OnOk};
+ghost use Rattle.std.specs.Prelude.{◌≡◌, ◌==◌, ◌++◌, length, drop, slice_get, IfOk, OnOk};
 ghost use Rattle.std.specs.Option.{option_map};
-ghost use Rattle.granit_items.specs.ItemViews.{item_view, kind_view, lexeme_view, note_view};
+ghost use Rattle.granit_items.specs.ItemViews.{boxed_view, item_view, kind_view, lexeme_view};
+ghost use Rattle.granit_lexemes.specs.Lexeme.{is_entry_dash};
 ghost use Rattle.granit_scan.specs.Following as spec;
 ghost use Rattle.granit_scan.specs.Marks as marks;
 ghost use Rattle.granit_scan.specs.TokenViews.{plain_token};
@@ -91,11 +92,19 @@ impl<'input> Writer<'input> {
     }
 
     /// The first mark of a document, or of the end, from a token that was handed back on; of what waits some goes.
-    pub(crate) fn take_mark(&mut self, handed: Option<Token<'input>>) -> Option<Lexeme<'input>>
-        ensures { option_map lexeme_view result
-            ≡ marks.mark_in (marks.handed (option_map plain_token handed.entry) ++ self.old.waiting) }
+    ///
+    /// # Errors
+    ///
+    /// `NoMemory` alone.
+    pub(crate) fn take_mark(
+        &mut self,
+        alloc: Global,
+        handed: Option<Token<'input>>,
+    ) -> Result<Option<Lexeme<'input>>, NoMemory>
+        ensures { IfOk result (λ m. option_map lexeme_view m
+            ≡ marks.mark_in (marks.handed (option_map plain_token handed.entry) ++ self.old.waiting)) }
     {
-        self.waiting.take_mark(handed)
+        self.waiting.take_mark(alloc, handed)
     }
 
     /// An item is written; whether a simple key begins with it is told.
@@ -292,12 +301,12 @@ impl<'input> Writer<'input> {
         self.write_tail(tail)
     }
 
-    fn write_tail(&mut self, tail: Option<Note<'input>>) -> Result<(), NoMemory>
-        ensures { OnOk result (self.new ≡ spec.with_tail (option_map note_view tail.entry) self.old) }
+    fn write_tail(&mut self, tail: Option<Box<Note<'input>>>) -> Result<(), NoMemory>
+        ensures { OnOk result (self.new ≡ spec.with_tail (option_map boxed_view tail.entry) self.old) }
     {
         match tail {
             None => Ok(()),
-            Some(note) => self.waiting.push(note_token(note)),
+            Some(note) => self.waiting.push(note_token(Box::into_inner(note))),
         }
     }
 }
@@ -328,7 +337,7 @@ fn header_behind(kind: &LexemeKind<'_>, before: bool) -> bool
 
 /// Whether a lexeme is a `-`.
 fn is_dash(lexeme: &Lexeme<'_>) -> bool
-    ensures { result ≡ spec.is_dash_kind (kind_view lexeme.now.kind) }
+    ensures { result ≡ is_entry_dash (kind_view lexeme.now.kind) }
 {
     matches!(lexeme.kind, LexemeKind::Dash)
 }

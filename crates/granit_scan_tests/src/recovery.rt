@@ -136,6 +136,11 @@ fn at_a_token(rt: HostRuntime) {
             NOTHING
         ]
     );
+}
+
+/// So is one with nothing but its document behind it, or none at all.
+#[test]
+fn at_a_last_token(rt: HostRuntime) {
     assert_eq!(rt;
         told(rt.alloc(), "a\n...\nb\n", 'd'),
         [('=', 6, 7), ('s', 8, 8), NOTHING, NOTHING, NOTHING, NOTHING]

@@ -1,9 +1,9 @@
 -- What contracts see of a scanner, and in which state of the machine it is known to be.
-use Rattle.std.specs.Prelude.{◌≡◌, ℕ, Bool, false, ◌==◌, ◌&&◌, ◌||◌, not, if◌then◌else◌, List, [], ◌∷◌, drop, take}
+use Rattle.std.specs.Prelude.{◌≡◌, ℕ, Bool, false, ◌&&◌, ◌||◌, not, if◌then◌else◌, List, [], ◌∷◌, drop, take}
 use Rattle.std.specs.Prelude.{length, Option, Some, None, is_some, Result, Ok, Err}
 use Rattle.granit_base.specs.Place.{Unread}
 use Rattle.granit_cursor.specs.Reading.{CameOn, Reading}
-use Rattle.granit_error.specs.FaultKind.{FaultKind, NoMemory, fault_number}
+pub use Rattle.granit_error.specs.FaultKind.{wants_memory}
 use Rattle.granit_error.specs.OptionsData.{OptionsData}
 use Rattle.granit_error.specs.Refused.{Refused}
 use Rattle.granit_lexemes.specs.Lexeme.{Item}
@@ -104,9 +104,6 @@ TakesOldest unread given s l [] = ⊥
 TakesOldest unread given s l (i ∷ is) = (given ≡ Some (i, line_behind l is)) × Known unread s l is
 
 -- ---- what is read
-
-abbrev pub wants_memory : FaultKind → Bool
-wants_memory kind = fault_number kind == fault_number NoMemory
 
 -- the machine's turn, and its items came into the queue
 abbrev pub ReadsOn : {I : Type 0} → (I → Unread → Type 0) → OptionsData → Scanning I → LexState → List FlaggedItem

@@ -118,7 +118,7 @@ impl<'input, T: BorrowedInput<'input>> Scanner<'input, T> {
                 let start = Start { mark, begins_line };
                 let end = self.cursor.mark();
                 let kind = LexemeKind::DocumentStart;
-                let lexeme = lexeme_to(&self.layouts, false, kind, start, end);
+                let lexeme: Lexeme<'input> = lexeme_to(&self.layouts, false, kind, start, end);
                 self.put_front(Lexeme { number, ..lexeme })?;
                 Ok(true)
             }

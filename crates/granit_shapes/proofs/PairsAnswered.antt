@@ -5,15 +5,15 @@ use Rattle.granit_answers.proofs.OneCause.{answer_reads}
 use Rattle.granit_answers.specs.Answers.{AnswersReading}
 use Rattle.granit_base.specs.declared.place.Span.{Span}
 use Rattle.granit_error.specs.OptionsData.{OptionsData}
-use Rattle.granit_invariants.specs.Quiet.{tells_comment, but_comments}
+use Rattle.granit_invariants.specs.Quiet.{but_comments}
 use Rattle.granit_language.specs.Telling.{events_told}
-use Rattle.granit_lexemes.specs.PlainEvent.{PlainEvent, EventKind, Comment}
+use Rattle.granit_lexemes.specs.PlainEvent.{PlainEvent, EventKind, Comment, is_note}
 use Rattle.granit_machine.specs.Machine.{run}
 use Rattle.granit_shapes.proofs.PairsInTrees.{stream_pairs}
 use Rattle.granit_shapes.specs.Turns.{NextNode, event_passed, passed_then, events_passed, InPairs}
 
 comment_aside : (k : EventKind) (s : Span) (es : List PlainEvent) (ns : List NextNode)
-    → events_passed (if not (tells_comment k) then record { kind = k; span = s } ∷ es else es) ns
+    → events_passed (if not (is_note k) then record { kind = k; span = s } ∷ es else es) ns
     ≡ passed_then (event_passed k ns) (events_passed es)
 comment_aside (Comment text placement) s es ns = refl
 comment_aside kind s es ns = refl

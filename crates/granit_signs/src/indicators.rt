@@ -54,7 +54,7 @@ pub fn dash<'input, T: BorrowedInput<'input>>(
     if !layouts.is_allowed(at.begins_line(), at.tab()) {
         return Err(ScanError::from_kind(mark, ErrorKind::BlockSequenceEntryNotAllowed));
     }
-    let lexeme = sign(at, layouts, ends, LexemeKind::Dash);
+    let lexeme: Lexeme<'input> = sign(at, layouts, ends, LexemeKind::Dash);
     layouts.enter(options, mark.col(), mark)?;
     dash_up_to(alloc, options.emit_comments, at, layouts, lexeme, found)
 }
@@ -171,7 +171,7 @@ pub fn question<'input, T: BorrowedInput<'input>>(
     if !layouts.is_allowed(at.begins_line(), at.tab()) {
         return Err(ScanError::from_kind(mark, ErrorKind::MappingKeyNotAllowed));
     }
-    let lexeme = sign(at, layouts, ends, LexemeKind::Question);
+    let lexeme: Lexeme<'input> = sign(at, layouts, ends, LexemeKind::Question);
     layouts.enter(options, mark.col(), mark)?;
     behind_question(alloc, options, at, layouts, lexeme, found)
 }

@@ -2,6 +2,7 @@
 use Rattle.std.specs.Prelude.{◌≡◌, ◌⊎◌, ℕ, false, List, [], ◌∷◌, Option, Some, None, Result, Ok, Err}
 use Rattle.std.specs.Prelude.{IfOk, OnOk, OnErr}
 use Rattle.std.specs.Str.{chars}
+use Rattle.granit_base.specs.Counts.{Rose}
 use Rattle.granit_base.specs.Written.{string_chars}
 use Rattle.granit_error.specs.FaultKind.{NoMemory}
 use Rattle.granit_error.specs.OptionsData.{OptionsData}
@@ -12,7 +13,6 @@ use Rattle.granit_layers.specs.declared.layer.Layer.{Layer}
 use Rattle.granit_lexemes.specs.PlainEvent.{PlainEvent}
 use Rattle.granit_load.specs.Answering.{GivesAll, LacksNumber}
 use Rattle.granit_parser.specs.Streams.{bare_start}
-use Rattle.granit_receivers.specs.Counts.{Rose}
 use Rattle.granit_replay.specs.Replaying.{Replay, raised_by_all}
 use Rattle.granit_replay.specs.Resolving.{missing_resolver}
 use Rattle.granit_replay.specs.declared.resolver.Included.{Included}

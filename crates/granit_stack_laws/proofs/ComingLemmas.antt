@@ -2,6 +2,7 @@
 use Rattle.std.proofs.Common.{◌≡◌, ◌∙◌, ℕ, suc, ◌≤◌, ◌-◌, ◌⊎◌, inl, inr, List, [], ◌∷◌, Option, Some, None}
 use Rattle.std.proofs.Common.{◌<◌, Ok, sym, ap, arith, false, subst}
 use Rattle.std.specs.Str.{chars}
+use Rattle.granit_base.specs.Counts.{last_count}
 use Rattle.granit_base.specs.Written.{Written, string_chars}
 use Rattle.granit_error.specs.OptionsData.{OptionsData}
 use Rattle.granit_layers.specs.Kinds.{SetsAny}
@@ -21,7 +22,7 @@ use Rattle.granit_replay.specs.declared.resolver.Included.TheVariants.{Owned, Bo
 use Rattle.granit_stack_laws.proofs.SingleLemmas.{OneStart, single}
 use Rattle.granit_stack_laws.proofs.LifeLemmas.{all_below}
 use Rattle.granit_stack_laws.specs.Coming.{IncludeComesThrough}
-use Rattle.granit_stack_laws.specs.Fresh.{IdsBelow, last_number}
+use Rattle.granit_stack_laws.specs.Fresh.{IdsBelow}
 use Rattle.granit_stack.specs.Including.{Handling, ReadsText, number_above, replayed}
 use Rattle.granit_stack.specs.Stacked.{Stacked}
 use Rattle.granit_steps.specs.Told.{GivesEvents}
@@ -87,7 +88,7 @@ module _ {S R : Type 0} (steps : S → Next → S → Type 0) (h : Handling S R)
         ids = text_ids ids old.options (h.offset_of k.parser) include.0 r read;
         below = λ small.
             subst (λ (m : ℕ). IdsBelow m r.events) (sym read.1)
-            (all_below r.events (h.offset_of k.parser) (subst (λ (m : ℕ). m < last_number) read.1 small));
+            (all_below r.events (h.offset_of k.parser) (subst (λ (m : ℕ). m < last_count) read.1 small));
         comes = λ one p q given at calls.
             comes p q title (record r { anchor_offset = n }) k ks given (at ∙ lies)
             (single start old.options (Some (h.offset_of k.parser)) include.0 r read one) calls;

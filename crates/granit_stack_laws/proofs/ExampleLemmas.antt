@@ -4,6 +4,7 @@ use Rattle.std.proofs.Common.{arith, max, refl, sym, subst}
 use Rattle.std.specs.Borrow.{Bor}
 use Rattle.std.specs.Option.{option_map}
 use Rattle.std.specs.Prelude.{codes}
+use Rattle.granit_base.specs.Counts.{last_count}
 use Rattle.granit_base.specs.Written.{Written}
 use Rattle.granit_base.specs.declared.place.Span.{Span}
 use Rattle.granit_error.specs.OptionsData.{OptionsData, default_options}
@@ -22,7 +23,7 @@ use Rattle.granit_replay.specs.Replaying.{Replay, behind_next, next_of, raised_b
 use Rattle.granit_replay.specs.declared.resolver.Included.TheVariants.{Borrowed}
 use Rattle.granit_stack_laws.specs.Examples.{mark_at, named, small_events, small_layer, small_life, small_replay}
 use Rattle.granit_stack_laws.specs.Examples.{small_text}
-use Rattle.granit_stack_laws.specs.Fresh.{Happens, is_given, is_pushed, is_quiet, last_number, nothing}
+use Rattle.granit_stack_laws.specs.Fresh.{Happens, is_given, is_pushed, is_quiet, nothing}
 use Rattle.granit_stack.specs.Including.{ReadsText}
 use Rattle.granit_stack_laws.specs.Life.{UnreadAny}
 use Rattle.granit_stepper.specs.Offset.{with_offset}
@@ -202,7 +203,7 @@ module _ {A B C : Type 0} (steps_a : A → Next → A → Type 0) (steps_b : B �
       (refl, (q, sets, refl)),
     )
 
-  small_number : (n : ℕ) → n ≤ 3 → n < last_number
+  small_number : (n : ℕ) → n ≤ 3 → n < last_count
   small_number n less = omega arith
 
   pub small_happens : Happens Steps number Sets above false Fresh [] small_life (small_layer 6 3 ∷ [])

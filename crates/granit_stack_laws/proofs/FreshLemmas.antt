@@ -1,6 +1,7 @@
 -- The number of the top parser is above all ids that a stack gave.
 use Rattle.std.proofs.Common.{◌≡◌, ◌⊎◌, inl, inr, ℕ, ◌<◌, ◌≤◌, max, Bool, true, false, List, [], ◌∷◌, Option}
 use Rattle.std.proofs.Common.{Some, None, Ok, Err, refl, sym, subst, arith}
+use Rattle.granit_base.specs.Counts.{last_count}
 use Rattle.granit_base.specs.Written.{Written}
 use Rattle.granit_base.specs.declared.place.Span.{Span}
 use Rattle.granit_event.specs.declared.event.Event.{Event}
@@ -14,7 +15,7 @@ use Rattle.granit_layers.specs.declared.turn.Part.TheVariants as parts
 use Rattle.granit_layers.specs.declared.turn.Turn.{Turn}
 use Rattle.granit_layers.specs.declared.turn.Turn.TheVariants.{Gives, Withholds, Leaves, Ends, Fails}
 use Rattle.granit_stack_laws.specs.Fresh.{Happens, IdBelow, IdsBelow, Numbering, is_given, is_pushed}
-use Rattle.granit_stack_laws.specs.Fresh.{is_quiet, last_number}
+use Rattle.granit_stack_laws.specs.Fresh.{is_quiet}
 use Rattle.granit_stack_laws.specs.Fresh.{nothing}
 
 -- ---- what comes of a step
@@ -70,7 +71,7 @@ module _ {S : Type 0} (steps : S → Next → S → Type 0) (offset : S → ℕ)
   -- a step that isn't refused
   abbrev Stepped : Next → ℕ → S → Type 0
   Stepped None n q = Good q × (n ≤ offset q)
-  Stepped (Some (Ok e)) n q = Good q × (n ≤ offset q) × (offset q < last_number → IdBelow (offset q) e)
+  Stepped (Some (Ok e)) n q = Good q × (n ≤ offset q) × (offset q < last_count → IdBelow (offset q) e)
   Stepped (Some (Err f)) n q = Unit {0}
 
   stepped : (p q : S) (r : Next) → Good p → steps p r q → Stepped r (offset p) q
@@ -90,7 +91,7 @@ module _ {S : Type 0} (steps : S → Next → S → Type 0) (offset : S → ℕ)
     given : IdGiven r (offset k.parser)
 
   abbrev Held : Layer S → Type 0
-  Held k = offset k.parser < last_number
+  Held k = offset k.parser < last_count
 
   -- the parser stays on top
   stays : (n : ℕ) (r : Option Answer) (l k : Layer S) (ls ks : List (Layer S)) → k ∷ ks ≡ l ∷ ls → Good l.parser
@@ -111,7 +112,7 @@ module _ {S : Type 0} (steps : S → Next → S → Type 0) (offset : S → ℕ)
   uncovers n l k [] ks left all number small = absurd cc
   uncovers n l k (m ∷ ms) ks left all number small =
       let top : k ≡ record m { parser = left.0 } = let e = left.2 in cc in
-      let held : offset left.0 < last_number = subst Held top small in
+      let held : offset left.0 < last_count = subst Held top small in
       let least : offset m.parser ≤ max (offset m.parser) (offset l.parser) = omega arith in
       let set = good.raises (max (offset m.parser) (offset l.parser)) m.parser left.0 all.0 least left.1 held in
       let more : max (offset m.parser) (offset l.parser) ≤ offset left.0 = set.1 in
@@ -182,14 +183,14 @@ module _ {S : Type 0} (steps : S → Next → S → Type 0) (offset : S → ℕ)
       small once.3
 
   pushed : (old mid : List (Layer S)) (p : S) (name : Written) → AllGood old → Unread p → ((n : ℕ) → n ≤ above p n)
-      → Pushes offset sets above old p name mid → top_offset offset mid < last_number
+      → Pushes offset sets above old p name mid → top_offset offset mid < last_count
       → AllGood mid × (top_offset offset old ≤ top_offset offset mid)
   pushed [] mid p name all unread more pushes small =
       (subst AllGood (sym pushes.2) (subst Good (sym pushes.1) (good.alone p unread), tt), omega arith)
   pushed (l ∷ ls) mid p name all unread more pushes small =
       let n = offset l.parser in
-      let held : offset pushes.0 < last_number =
-      subst (λ (ks : List (Layer S)). top_offset offset ks < last_number) pushes.2 small in
+      let held : offset pushes.0 < last_count =
+      subst (λ (ks : List (Layer S)). top_offset offset ks < last_count) pushes.2 small in
       let set = good.begins (above p n) p pushes.0 unread pushes.1 held in
       let low : n ≤ above p n = more n in
       let high : above p n ≤ offset pushes.0 = set.1 in

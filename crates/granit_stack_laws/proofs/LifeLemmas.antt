@@ -2,7 +2,9 @@
 use Rattle.std.proofs.Common.{◌≡◌, ◌∙◌, ◌⊎◌, inl, inr, ℕ, suc, ◌+◌, ◌-◌, ◌<◌, ◌≤◌, ◌==◌, min, max, Bool, true}
 use Rattle.std.proofs.Common.{false, List, [], ◌∷◌, Option, Some, None, Ok, refl, sym, ap, subst, arith}
 use Rattle.std.proofs.lemmas.Bool.Decides.{Decides-eqb}
+use Rattle.std.specs.Option.{option_map}
 use Rattle.std.specs.Prelude.{if◌then◌else◌}
+use Rattle.granit_base.specs.Counts.{last_count}
 use Rattle.granit_base.specs.Place.{Unread}
 use Rattle.granit_base.specs.declared.place.Span.{Span}
 use Rattle.granit_error.specs.OptionsData.{OptionsData}
@@ -20,12 +22,14 @@ use Rattle.granit_parser.proofs.SourceLemmas.{never_told}
 use Rattle.granit_parser.specs.Numbers.{next_number, with_number}
 use Rattle.granit_parser.specs.Parsing.{Parsing, StandsAt, StandsBefore, StepsTo}
 use Rattle.granit_recovery.specs.Ids.{Counted, counted_more, counted_start, counted_step, counting_from, id_of, id_told}
-use Rattle.granit_recovery.specs.Ids.{with_count}
+use Rattle.granit_restart.specs.Turned.{with_count}
 use Rattle.granit_replay.specs.Replaying.{Replay, behind_next, next_of, raised_by, raised_by_all}
 use Rattle.granit_replay.specs.Replaying.{raised_over}
 use Rattle.granit_stack_laws.proofs.FreshLemmas.{below_more}
-use Rattle.granit_stack_laws.specs.Fresh.{IdBelow, IdsBelow, Numbering, last_number}
+use Rattle.granit_stack_laws.specs.Fresh.{IdBelow, IdsBelow, Numbering}
 use Rattle.granit_stack_laws.specs.Life.{IsUnread, UnreadAny}
+use Rattle.granit_stepper.specs.Refusals.{recounted}
+use Rattle.granit_stepper.specs.declared.refusal.Refusal.{Refusal}
 use Rattle.granit_stepper.specs.Stepping.{Stepping, StandsIn}
 use Rattle.granit_steps.specs.Steps.{StepState, next_event}
 
@@ -107,10 +111,11 @@ module _ {I : Type 0} (unread : I → Unread → Type 0) (left : I → ℕ) (ori
       went p q None gives.0 g gives.1 gives.2 step.none step.options
 
   -- a number is set
-  set_in : (s : Stepping I) (m : StepState) (count : ℕ) → count < last_number → StandsIn unread s m
-      → StandsIn unread (record s { parser = record (s.parser) { count = count }; renumbered = true })
+  set_in : (s : Stepping I) (m : StepState) (count : ℕ) (r : Option Refusal) → count < last_count
+      → StandsIn unread s m
+      → StandsIn unread (record s { parser = record (s.parser) { count = count }; renumbered = true; refusal = r })
       (with_count count m)
-  set_in s m count small x = record {
+  set_in s m count r small x = record {
     going = x.going;
     reading = x.reading;
     parser = ap (λ (p : ParserState). record p { count = count }) x.parser;
@@ -119,7 +124,7 @@ module _ {I : Type 0} (unread : I → Unread → Type 0) (left : I → ℕ) (ori
     none_ahead = x.none_ahead;
   }
 
-  set_as : (n : ℕ) (p q : Parsing I) (m after : StepState) → n - 1 < last_number → q ≡ with_number n p
+  set_as : (n : ℕ) (p q : Parsing I) (m after : StepState) → n - 1 < last_count → q ≡ with_number n p
       → p.peeked ≡ None → after ≡ with_count (n - 1) m → StandsIn unread p.stepper m
       → Counted p.stepper.scanner.options after → IsCounted q
   set_as n p q m after small set unseen is stands counted = record {
@@ -130,11 +135,12 @@ module _ {I : Type 0} (unread : I → Unread → Type 0) (left : I → ℕ) (ori
     stands =
         subst (λ (x : StepState). StandsIn unread q.stepper x) (sym is)
         (subst (λ (s : Stepping I). StandsIn unread s (with_count (n - 1) m))
-        (sym (ap (λ (x : Parsing I). x.stepper) set)) (set_in p.stepper m (n - 1) small stands));
+        (sym (ap (λ (x : Parsing I). x.stepper) set)) (set_in p.stepper m (n - 1)
+        (option_map (recounted n) p.stepper.refusal) small stands));
     unseen = ap (λ (x : Parsing I). x.peeked) set ∙ unseen;
   }
 
-  numbered_as : (n : ℕ) (p q : Parsing I) → q ≡ with_number n p → next_number q ≡ min (suc (n - 1)) last_number
+  numbered_as : (n : ℕ) (p q : Parsing I) → q ≡ with_number n p → next_number q ≡ min (suc (n - 1)) last_count
   numbered_as n p q set = ap next_number set
 
   pub parser_numbers : Numbering (StepsTo unread left origin) next_number (λ n p q. q ≡ with_number n p) IsCounted
@@ -142,28 +148,28 @@ module _ {I : Type 0} (unread : I → Unread → Type 0) (left : I → ℕ) (ori
   parser_numbers = record {
     gives = λ p q e g step.
         let w = steps_on p q e g step in
-        (w.counted, min_more p.stepper.parser.count q.stepper.parser.count last_number w.count);
+        (w.counted, min_more p.stepper.parser.count q.stepper.parser.count last_count w.count);
     ids = λ p q e g step small.
         let w = steps_on p q e g step in
-        inr (below_next (id_of (event_kind e.0)) q.stepper.parser.count last_number w.id small);
+        inr (below_next (id_of (event_kind e.0)) q.stepper.parser.count last_count w.id small);
     ends = λ p q g step.
         let w = steps_out p q g step in
-        (w.counted, min_more p.stepper.parser.count q.stepper.parser.count last_number w.count);
+        (w.counted, min_more p.stepper.parser.count q.stepper.parser.count last_count w.count);
     raises = λ n p q g less set small.
         let is = numbered_as n p q set in
         let same : g.state.parser.count ≡ p.stepper.parser.count = count_of p.stepper g.state g.stands in
         let low : p.stepper.parser.count ≤ n - 1 =
-        less_one n (next_number q) p.stepper.parser.count last_number less is small in
+        less_one n (next_number q) p.stepper.parser.count last_count less is small in
         let more : g.state.parser.count ≤ n - 1 = omega arith in (
-          set_as n p q g.state (with_count (n - 1) g.state) (within n (next_number q) last_number is small) set
+          set_as n p q g.state (with_count (n - 1) g.state) (within n (next_number q) last_count is small) set
               g.unseen refl g.stands (counted_more (n - 1) g.counted more),
-          reaches n (next_number q) last_number is small,
+          reaches n (next_number q) last_count is small,
         );
     begins = λ n p q u set small. (
       set_as n p q (counting_from u.count u.start) (counting_from (n - 1) u.start)
-          (within n (next_number q) last_number (numbered_as n p q set) small) set u.unseen refl u.stands
+          (within n (next_number q) last_count (numbered_as n p q set) small) set u.unseen refl u.stands
           (counted_start (n - 1) u.start),
-      reaches n (next_number q) last_number (numbered_as n p q set) small,
+      reaches n (next_number q) last_count (numbered_as n p q set) small,
     );
     alone = λ p u. record {
       state = counting_from u.count u.start;
@@ -178,12 +184,12 @@ module _ {I : Type 0} (unread : I → Unread → Type 0) (left : I → ℕ) (ori
 below_raised : (id n top : ℕ) → max n (min (id + 1) top) < top → id < max n (min (id + 1) top)
 below_raised id n top small = omega arith
 
-by_zero : (b : Bool) (id n : ℕ) → (id == 0) ≡ b → raised_over (if b then None else Some id) n < last_number
+by_zero : (b : Bool) (id n : ℕ) → (id == 0) ≡ b → raised_over (if b then None else Some id) n < last_count
     → (id ≡ 0) ⊎ (id < raised_over (if b then None else Some id) n)
 by_zero true id n is small = inl ((Decides-eqb id 0).0 is)
-by_zero false id n is small = inr (below_raised id n last_number small)
+by_zero false id n is small = inr (below_raised id n last_count small)
 
-kind_below : (kind : EventKind) (n : ℕ) → raised_over (anchor_of kind) n < last_number
+kind_below : (kind : EventKind) (n : ℕ) → raised_over (anchor_of kind) n < last_count
     → (id_of kind ≡ 0) ⊎ (id_of kind < raised_over (anchor_of kind) n)
 kind_below (Anchor id name) n small = by_zero (id == 0) id n refl small
 kind_below (Scalar text style id tag) n small = by_zero (id == 0) id n refl small
@@ -202,13 +208,13 @@ raised_by_least (e ∷ es) n =
     let rest : raised_by n e ≤ raised_by_all (raised_by n e) es = raised_by_least es (raised_by n e) in omega arith
 
 -- a number past all anchors of events is above their ids
-pub all_below : (es : List (Event × Span)) (n : ℕ) → raised_by_all n es < last_number
+pub all_below : (es : List (Event × Span)) (n : ℕ) → raised_by_all n es < last_count
     → IdsBelow (raised_by_all n es) es
 all_below [] n small = tt
 all_below (e ∷ es) n small =
     let m = raised_by n e in
     let least : m ≤ raised_by_all m es = raised_by_least es m in
-    let low : m < last_number = omega arith in
+    let low : m < last_count = omega arith in
     (below_more m (raised_by_all m es) e least (kind_below (event_kind e.0) n low), all_below es m small)
 
 abbrev Always : Replay → Type 0
@@ -238,7 +244,7 @@ replay_numbers = record {
   ids = λ p q e g step small.
       let is = replay_gives p.events p.anchor_offset q e step.0 step.1 in
       subst (λ (m : ℕ). IdBelow m e) (sym is)
-      (kind_below (event_kind e.0) p.anchor_offset (subst (λ (m : ℕ). m < last_number) is small));
+      (kind_below (event_kind e.0) p.anchor_offset (subst (λ (m : ℕ). m < last_count) is small));
   ends = λ p q g step.
       let is = replay_ends p.events p.anchor_offset q step.0 step.1 in
       (tt, subst (λ (m : ℕ). p.anchor_offset ≤ m) (sym is) (omega arith));
@@ -284,7 +290,7 @@ module _ {A B C D : Type 0} (steps_a : A → Next → A → Type 0) (steps_b : B
   any_gives (Fourth p) (Fourth q) e g step = d.gives p q e g step
   any_gives p q e g step = absurd step
 
-  any_ids : (p q : Kind) (e : Event × Span) → GoodAny p → Steps p (Some (Ok e)) q → number q < last_number
+  any_ids : (p q : Kind) (e : Event × Span) → GoodAny p → Steps p (Some (Ok e)) q → number q < last_count
       → IdBelow (number q) e
   any_ids (First p) (First q) e g step small = a.ids p q e g step small
   any_ids (Second p) (Second q) e g step small = b.ids p q e g step small
@@ -299,7 +305,7 @@ module _ {A B C D : Type 0} (steps_a : A → Next → A → Type 0) (steps_b : B
   any_ends (Fourth p) (Fourth q) g step = d.ends p q g step
   any_ends p q g step = absurd step
 
-  any_raises : (n : ℕ) (p q : Kind) → GoodAny p → number p ≤ n → Sets n p q → number q < last_number
+  any_raises : (n : ℕ) (p q : Kind) → GoodAny p → number p ≤ n → Sets n p q → number q < last_count
       → GoodAny q × (n ≤ number q)
   any_raises n (First p) (First q) g less set small = a.raises n p q g less set small
   any_raises n (Second p) (Second q) g less set small = b.raises n p q g less set small
@@ -307,7 +313,7 @@ module _ {A B C D : Type 0} (steps_a : A → Next → A → Type 0) (steps_b : B
   any_raises n (Fourth p) (Fourth q) g less set small = d.raises n p q g less set small
   any_raises n p q g less set small = absurd set
 
-  any_begins : (n : ℕ) (p q : Kind) → Fresh p → Sets n p q → number q < last_number → GoodAny q × (n ≤ number q)
+  any_begins : (n : ℕ) (p q : Kind) → Fresh p → Sets n p q → number q < last_count → GoodAny q × (n ≤ number q)
   any_begins n (First p) (First q) u set small = a.begins n p q u set small
   any_begins n (Second p) (Second q) u set small = b.begins n p q u set small
   any_begins n (Third p) (Third q) u set small = c.begins n p q u set small

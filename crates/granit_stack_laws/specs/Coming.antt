@@ -1,5 +1,6 @@
 -- What comes of an include.
 use Rattle.std.specs.Prelude.{◌≡◌, ◌≤◌, ◌<◌, ℕ, List, ◌∷◌, ◌++◌, Some, Ok}
+use Rattle.granit_base.specs.Counts.{last_count}
 use Rattle.granit_base.specs.declared.place.Span.{Span}
 use Rattle.granit_event.specs.declared.event.Event.{Event}
 use Rattle.granit_layers.specs.Nested.{those_through}
@@ -11,7 +12,7 @@ use Rattle.granit_recovery.specs.Ids.{IdsFrom}
 use Rattle.granit_recovery.specs.OneDocument.{document_starts}
 use Rattle.granit_replay.specs.Replaying.{Replay}
 use Rattle.granit_replay.specs.declared.resolver.Included.{Included}
-use Rattle.granit_stack_laws.specs.Fresh.{IdsBelow, last_number}
+use Rattle.granit_stack_laws.specs.Fresh.{IdsBelow}
 use Rattle.granit_stack.specs.Including.{Handling, Includes, ReadsText, Resolves, replayed}
 use Rattle.granit_stack.specs.Stacked.{Stacked}
 
@@ -25,7 +26,7 @@ pub record IncludedText {S R : Type 0} (steps : S → Next → S → Type 0) (h 
   -- its anchors have ids that the parser below it hasn't given
   pub ids : IdsFrom (h.offset_of k.parser) (replayed events)
   -- the number that a next anchor gets then is above them all, as long as it isn't the greatest
-  pub below : events.anchor_offset < last_number → IdsBelow events.anchor_offset events.events
+  pub below : events.anchor_offset < last_count → IdsBelow events.anchor_offset events.events
   -- where at most one of its events starts a document, steps of the stack give what was looked at, then exactly what
   -- comes through of it, and then what the parsers below give
   pub comes : document_starts (replayed events) ≤ 1 → (p q : Stack S) (given : List (Event × Span))

@@ -6,6 +6,7 @@ use Rattle.std.specs.List.{slice_get}
 use Rattle.std.specs.Option.{option_map}
 use Rattle.granit_base.specs.Place.{Unread}
 use Rattle.granit_base.specs.declared.place.Span.{Span}
+use Rattle.granit_error.specs.FaultKind.{NoMemory}
 use Rattle.granit_error.specs.Refused.{Refused}
 use Rattle.granit_event.specs.Events.{plain_event}
 use Rattle.granit_event.specs.declared.event.Event.{Event}
@@ -93,6 +94,7 @@ module _ {I : Type 0} (unread : I → Unread → Type 0) (s : Stepping I) (m : S
         error = h.error;
         ahead = h.ahead;
         going = h.going;
+        other = h.other;
         refused = refused_with unread s m h.error es p s.ahead s.failed parser h.refused;
       } in (
         e,
@@ -121,6 +123,17 @@ module _ {I : Type 0} (unread : I → Unread → Type 0) (s : Stepping I) (m : S
             (subst (λ (f : Refused). RefusedIn unread (record s { ahead = None; failed = true }) m f) (sym same) here),
       )
   error_by e (x ∷ es) is given = absurd (let clash = given.0 in cc)
+
+  other_by : (e : Refused) (es : List PlainEvent) → SettlesBy (Some h.error) es (Err e) s mid → e.kind ≡ NoMemory → ⊥
+  other_by e [] given is =
+      let both = given.0 in
+      let same : e ≡ h.error = cc in
+      h.other (sym (ap (λ (f : Refused). f.kind) same) ∙ is)
+  other_by e (x ∷ es) given is = absurd (let clash = given.0 in cc)
+
+  -- which is no want of memory
+  pub error_other : (e : Refused) → SettlesAhead (Err e) s mid → e.kind ≡ NoMemory → ⊥
+  error_other e given = other_by e s.parser.given (held_by (Err e) given)
 
   pub gives_error : (e : Refused) → SettlesAhead (Err e) s mid
       → (m.pending ≡ []) × RefusedIn unread (record mid { failed = true }) m e

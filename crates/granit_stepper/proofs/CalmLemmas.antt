@@ -20,7 +20,8 @@ use Rattle.granit_machine.specs.NodeSteps.{Stepped}
 use Rattle.granit_machine.specs.Parser.{feed, hold, placed, take_comment, take_item, take_tail, take_token}
 use Rattle.granit_machine.specs.Reader.{lex_turn}
 use Rattle.granit_machine.specs.TokenSort.{token_of}
-use Rattle.granit_restart.specs.Turned.{Turned, turned_anew, turned_on, turned_start, turned_with}
+use Rattle.granit_restart.specs.Turned.{Turned, turned_anew, turned_counting, turned_keeping, turned_on}
+use Rattle.granit_restart.specs.Turned.{turned_start, turned_with}
 use Rattle.granit_stepper.proofs.RefusalLemmas.{restart_drops}
 use Rattle.granit_stepper.specs.Numbers.{TurnsTo, no_turn, one_turn}
 use Rattle.granit_steps.specs.Steps.{StepState, Turn, front_turn, line_behind, may_go, read_more, read_unless}
@@ -126,6 +127,8 @@ turned_calm o s (turned_on {s = before} turned is) =
 turned_calm o s (turned_with {s = before} es turned) = turned_calm o before turned
 turned_calm o s (turned_anew {s = before} h turned) =
     subst Calm (sym (restart_drops h before).0) tt
+turned_calm o s (turned_counting {s = before} count turned) = turned_calm o before turned
+turned_calm o s (turned_keeping keep turned) = turned_calm (record o { keep_tags = keep }) s turned
 
 none_by : (fs : List Frame) (w : Option Waiting) → fs ≡ [] → CalmBy fs w → w ≡ None
 none_by fs None is calm = refl

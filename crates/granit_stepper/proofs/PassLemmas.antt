@@ -112,6 +112,7 @@ module _ {I : Type 0} (unread : I → Unread → Type 0) where
     error = h.error;
     ahead = h.ahead;
     going = h.going;
+    other = h.other;
     refused = refused_with unread s m h.error es p s.ahead s.failed is h.refused;
   })
 
@@ -266,11 +267,11 @@ module _ {I : Type 0} (unread : I → Unread → Type 0) (o : OptionsData) (s : 
   pub skips_met : (ends : Bool) → MetIn unread e new (with_pending [] k.at) ends → Skips unread o ends new m
   skips_met true given =
       let here = with_pending [] k.at in
-      elim (fails_in here given.3) [
+      elim (fails_in here given.4) [
         | inl fails ↦ (
           here,
           fails_as true given.0 fails,
-          inr (record { error = e; ahead = given.1; going = given.2; refused = given.3 }),
+          inr (record { error = e; ahead = given.1; going = given.2; other = given.3; refused = given.4 }),
         )
         | inr left ↦
             absurd (let clash : true ≡ false = not_last new.renumbered o here here e left given.0 in cc)

@@ -463,6 +463,7 @@ module _ {I : Type 0} (unread : I → Unread → Type 0) (s : Stepping I) (sc : 
     error = h.error;
     ahead = h.ahead;
     going = h.going;
+    other = h.other;
     refused = refused_moved m h.error h.refused;
   }
 

@@ -1,6 +1,7 @@
 -- Where a stepper goes on behind a refusal, and what is dropped and looked at.
 use Rattle.std.specs.Prelude.{◌≡◌, ◌⊎◌, ℕ, Bool, true, false, List, [], Option, Some, None, Result, Ok}
 use Rattle.granit_base.specs.Place.{Unread}
+use Rattle.granit_error.specs.FaultKind.{NoMemory}
 use Rattle.granit_error.specs.OptionsData.{OptionsData}
 use Rattle.granit_error.specs.Refused.{Refused}
 use Rattle.granit_lexemes.specs.Here.{Here}
@@ -67,7 +68,8 @@ Skips unread o false s m =
 
 -- a refusal on the way: it is the next document's, and kept, or the open document's
 abbrev pub MetIn : {I : Type 0} → (I → Unread → Type 0) → Refused → Stepping I → StepState → (ends : Bool) → Type 0
-MetIn unread e s m true = (ends_before m e ≡ true) × (s.ahead ≡ Some e) × (s.failed ≡ false) × RefusedIn unread s m e
+MetIn unread e s m true = (ends_before m e ≡ true) × (s.ahead ≡ Some e) × (s.failed ≡ false)
+    × (e.kind ≡ NoMemory → ⊥) × RefusedIn unread s m e
 MetIn unread e s m false = (ends_before m e ≡ false) × RefusedIn unread s m e
 
 -- a place to which the cursor came where the machine's skipping failed, if it did

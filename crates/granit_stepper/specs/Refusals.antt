@@ -65,6 +65,10 @@ IsBeforeItem p i r =
 abbrev pub IsBeforeRead : ParserState → Refusal → Type 0
 IsBeforeRead p r = IsBefore p r × (r.takes_front ≡ false) × (r.front ≡ None)
 
+-- the same, behind which a next anchor gets this number; 0 is as 1
+abbrev pub recounted : ℕ → Refusal → Refusal
+recounted offset r = record r { count = offset - 1 }
+
 -- ---- what is asked of it
 
 abbrev pub is_within : DocumentStage → Bool
@@ -172,6 +176,7 @@ pub record HoldsRefusal {I : Type 0} (unread : I → Unread → Type 0) (s : Ste
   pub error : Refused
   pub ahead : s.ahead ≡ Some error
   pub going : s.failed ≡ false
+  pub other : error.kind ≡ NoMemory → ⊥
   pub refused : RefusedIn unread s m error
 
 -- a stepper is in a state of the machine, or a turn made ahead was refused there

@@ -1,9 +1,9 @@
 -- What contracts see of a stepper, and in which state of the machine it is known to be.
 use Rattle.std.specs.Prelude.{◌≡◌, ◌<◌, ◌-◌, ◌^◌, ℕ, Bool, true, false, List, [], ◌∷◌, ◌++◌, Option, Some, None, Ok}
 use Rattle.granit_base.specs.Place.{Mark, Unread}
-use Rattle.granit_error.specs.FaultKind.{FaultKind}
 use Rattle.granit_error.specs.OptionsData.{OptionsData}
 use Rattle.granit_error.specs.Refused.{Refused}
+pub use Rattle.granit_error.specs.Refused.{refused_kind}
 use Rattle.granit_lexemes.specs.Outcome.{◌>>=◌}
 use Rattle.granit_lexemes.specs.PlainEvent.{PlainEvent, event_on, StreamStart}
 use Rattle.granit_machine.specs.Frames.{ParserState}
@@ -51,11 +51,6 @@ pub record Keeps {I : Type 0} (old new : Stepping I) : Type 0 where
   pub failed : new.failed ≡ old.failed
   pub renumbered : new.renumbered ≡ old.renumbered
   pub options : new.scanner.options ≡ old.scanner.options
-
--- ---- what the source gave
-
-abbrev pub refused_kind : Refused → FaultKind
-refused_kind e = e.kind
 
 -- ---- turns
 

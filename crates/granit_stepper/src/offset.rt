@@ -1,7 +1,9 @@
 //! The number that a next anchor gets.
 ghost use Rattle.std.specs.Prelude.{◌≡◌, ◌-◌, ◌^◌, min, suc, true};
+ghost use Rattle.std.specs.Option.{option_map};
 ghost use Rattle.granit_base.specs.Place.{Unread};
 ghost use Rattle.granit_stepper.specs.Offset.{with_offset};
+ghost use Rattle.granit_stepper.specs.Refusals.{recounted};
 ghost use Rattle.granit_stepper.specs.Stepping.{StandsIn};
 ghost use Rattle.granit_steps.specs.Steps.{StepState};
 
@@ -16,17 +18,22 @@ impl<'input, T: BorrowedInput<'input>> Stepper<'input, T> {
         self.parser.anchor_offset()
     }
 
-    /// From now on a next anchor gets this number; 0 is as 1, and the greatest one is left to none.
+    /// From now on a next anchor gets this number, behind a refusal too; 0 is as 1, and the greatest one is left to
+    /// none.
     pub fn set_anchor_offset(&mut self, offset: usize)
         ensures known { (m : StepState) → StandsIn T.unread self.old m
             → StandsIn T.unread self.new (with_offset offset m) }
         ensures rest { self.new ≡ record self.old {
           parser = record (self.old.parser) { count = offset - 1 };
           renumbered = true;
+          refusal = option_map (recounted offset) self.old.refusal;
         } }
     {
         self.parser.set_anchor_offset(offset);
         self.renumbered = true;
+        if let Some(refusal) = &mut self.refusal {
+            refusal.set_anchor_offset(offset);
+        }
     }
 
     /// How many comments may be kept.

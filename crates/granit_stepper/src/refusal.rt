@@ -77,6 +77,13 @@ impl Before {
 }
 
 impl<'input> Refusal<'input> {
+    /// Where reading goes on behind it a next anchor gets this number; 0 is as 1.
+    pub(crate) fn set_anchor_offset(&mut self, offset: usize)
+        ensures { self.new ≡ spec.recounted offset self.old }
+    {
+        self.count = offset.saturating_sub(1);
+    }
+
     /// Before the parser takes an item.
     pub(crate) fn at_item(
         alloc: Global,

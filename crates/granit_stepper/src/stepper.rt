@@ -4,6 +4,7 @@ ghost use Rattle.std.specs.Option.{option_map};
 ghost use Rattle.granit_base.specs.Place.{Unread};
 ghost use Rattle.granit_cursor.specs.Reading.{GoesOnward};
 ghost use Rattle.granit_cursor.specs.Reading.{GivesTo, Moves, Stands};
+ghost use Rattle.granit_error.specs.FaultKind as faults;
 ghost use Rattle.granit_error.specs.FaultKind.{FaultKind};
 ghost use Rattle.granit_error.specs.Refused.{Refused};
 ghost use Rattle.granit_error.specs.OptionsView.{options_of};
@@ -24,7 +25,7 @@ ghost use Rattle.granit_stepper.specs.Stepping.{Keeps, StandsIn, TakesFree};
 ghost use Rattle.granit_steps.specs.Steps as steps;
 ghost use Rattle.granit_steps.specs.Steps.{StepState};
 
-use crate::refusal::{Before, Refusal, is_mark};
+use crate::refusal::{Before, Refusal, is_mark, wants_memory};
 use granit_base::{Marker, NoMemory, Span};
 use granit_error::{ErrorKind, Options, ScanError};
 use granit_event::Event;
@@ -136,6 +137,7 @@ impl<'input, T: BorrowedInput<'input>> Stepper<'input, T> {
             → GivesAhead T.unread (option_map plain_event) result self.new m }
         ensures first { self.old.failed ≡ false → self.new.first ≡ None }
         ensures failed { IfErr result (λ e. self.new.failed ≡ true) }
+        ensures lost { IfErr result (λ e. e.kind ≡ faults.NoMemory → self.new.refusal ≡ None) }
         ensures over { self.old.failed ≡ true → (result ≡ Ok None) × (self.new ≡ self.old) }
         ensures options { self.new.scanner.options ≡ self.old.scanner.options }
         ensures renumbered { self.new.renumbered ≡ self.old.renumbered }
@@ -160,7 +162,8 @@ impl<'input, T: BorrowedInput<'input>> Stepper<'input, T> {
         self.failed
     }
 
-    /// The first error of the input's source, once, at the place up to which was read. Nothing more is given then.
+    /// The first error of the input's source, once, at the place up to which was read. Nothing more is given then, and
+    /// recovery is refused.
     pub fn take_source_error(&mut self) -> Option<ScanError>
         ensures given { option_map spec.refused_kind result ≡ error_given (T.origin self.old.scanner.cursor.input) }
         ensures place { IfSome result (λ e. (e.mark.place ≡ self.new.scanner.cursor.place) × (e.sources ≡ [])) }
@@ -172,7 +175,8 @@ impl<'input, T: BorrowedInput<'input>> Stepper<'input, T> {
         ensures held { (m : StepState) → HoldsRefusal T.unread self.old m → result ≡ None
             → HoldsRefusal T.unread self.new m }
         ensures first { self.new.first ≡ self.old.first }
-        ensures ended { self.new.refusal ≡ self.old.refusal }
+        ensures ended { result ≡ None → self.new.refusal ≡ self.old.refusal }
+        ensures lost { IfSome result (λ e. self.new.refusal ≡ None) }
         ensures failed { self.new.failed ≡ (self.old.failed || is_some result) }
         ensures options { self.new.scanner.options ≡ self.old.scanner.options }
         ensures renumbered { self.new.renumbered ≡ self.old.renumbered }
@@ -183,6 +187,7 @@ impl<'input, T: BorrowedInput<'input>> Stepper<'input, T> {
         let mark = self.scanner.mark();
         let kind = self.scanner.take_source_error()?;
         self.failed = true;
+        self.refusal = None;
         Some(ScanError::from_kind(mark, kind))
     }
 
@@ -225,6 +230,7 @@ impl<'input, T: BorrowedInput<'input>> Stepper<'input, T> {
             → GivesAhead T.unread (option_map plain_event) result self.new m }
         ensures first { self.new.first ≡ self.old.first }
         ensures failed { IfErr result (λ e. self.new.failed ≡ true) }
+        ensures lost { IfErr result (λ e. e.kind ≡ faults.NoMemory → self.new.refusal ≡ None) }
         ensures options { self.new.scanner.options ≡ self.old.scanner.options }
         ensures renumbered { self.new.renumbered ≡ self.old.renumbered }
         ensures moves { Moves T.unread T.left T.origin self.old.scanner.cursor self.new.scanner.cursor }
@@ -232,10 +238,20 @@ impl<'input, T: BorrowedInput<'input>> Stepper<'input, T> {
         match self.settle(alloc) {
             Ok(()) => Ok(self.parser.pop_event()),
             Err(error) => {
-                self.failed = true;
+                self.fail(&error);
                 Err(error)
             }
         }
+    }
+
+    /// Nothing more is given, and behind a want of memory recovery is refused.
+    fn fail(&mut self, error: &ScanError)
+        ensures kept { (error.now.kind ≡ faults.NoMemory → ⊥) → self.new ≡ record self.old { failed = true } }
+        ensures lost { error.now.kind ≡ faults.NoMemory → self.new.refusal ≡ None }
+        ensures rest { self.new ≡ record self.old { failed = true; refusal = self.new.refusal } }
+    {
+        self.failed = true;
+        self.refusal = unless_memory(self.refusal.take(), error);
     }
 
     /// Turns until an event waits, or nothing is left.
@@ -305,9 +321,21 @@ impl<'input, T: BorrowedInput<'input>> Stepper<'input, T> {
         ensures keeps { Keeps self.old self.new }
         ensures moves { Moves T.unread T.left T.origin self.old.scanner.cursor self.new.scanner.cursor }
     {
+        match self.ahead {
+            Some(_) => self.refuse_ahead(),
+            None => self.advance_on(alloc),
+        }
+    }
+
+    /// The turn that was made ahead is refused, if there was one.
+    fn refuse_ahead(&mut self) -> Result<bool, ScanError>
+        ensures ahead { IfSome self.old.ahead (λ f. (result ≡ Err f) × (self.new ≡ record self.old { ahead = None })) }
+        ensures keeps { Keeps self.old self.new }
+        ensures moves { Moves T.unread T.left T.origin self.old.scanner.cursor self.new.scanner.cursor }
+    {
         match self.ahead.take() {
             Some(error) => Err(error),
-            None => self.advance_on(alloc),
+            None => Ok(false),
         }
     }
 
@@ -497,6 +525,17 @@ impl<'input, T: BorrowedInput<'input>> Stepper<'input, T> {
             }
         }
     }
+}
+
+/// A refusal behind which reading may go on: none where memory ran out.
+fn unless_memory<'input>(
+    refusal: Option<Refusal<'input>>,
+    error: &ScanError,
+) -> Option<Refusal<'input>>
+    ensures kept { (error.now.kind ≡ faults.NoMemory → ⊥) → result ≡ refusal.entry }
+    ensures lost { error.now.kind ≡ faults.NoMemory → result ≡ None }
+{
+    if wants_memory(error) { None } else { refusal }
 }
 
 /// Where an anchor begins; none of another item.

@@ -7,6 +7,7 @@ use Rattle.granit_error.specs.OptionsData.{OptionsData}
 use Rattle.granit_lexemes.specs.Comment.{CommentRead}
 use Rattle.granit_lexemes.specs.Here.{start_of}
 use Rattle.granit_lexemes.specs.Lexeme.{LexemeKind, Dash, Question, Colon, KeyStart, Lexeme, OfLexeme, OfComment}
+use Rattle.granit_lexemes.specs.Place.{one_more_if}
 use Rattle.granit_machine.specs.Items.{has_key}
 use Rattle.granit_machine.specs.Laid.{Laid}
 use Rattle.granit_machine.specs.Lexing.{Flagging, is_nearest, others, and_key, flag_lexeme, flagging, lex_start}
@@ -19,7 +20,6 @@ use Rattle.granit_steps.specs.Tokens.{block_start, begins_single, ends_single, t
 use Rattle.granit_steps.specs.Tokens.{StateItem, item_in, tokens, lex_states, text_tokens}
 use Rattle.granit_tokens.proofs.ReadTokens.{HasOwnKeys, SameFlags, begun_there, flags_on, flags_noted}
 use Rattle.granit_tokens.proofs.TextTokens.{Holds, states_hold, text_flags, given}
-use Rattle.granit_tokens.specs.Balanced.{one_more_if}
 use Rattle.granit_tokens.specs.Keys.{is_key_sign, is_keyed_kind, is_keyed_value, key_signs, keyed_values}
 
 -- ---- counts of lists one behind the other

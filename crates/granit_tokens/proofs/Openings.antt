@@ -4,15 +4,16 @@ use Rattle.std.proofs.Common.{◌⊎◌, inl, inr, refl, sym, ap, ◌∙◌, sub
 use Rattle.granit_base.specs.Place.{Mark}
 use Rattle.granit_lexemes.specs.Lexeme.{LexemeKind, Directive, DocumentStart, DocumentEnd, StreamEnd, Open, Close}
 use Rattle.granit_lexemes.specs.Lexeme.{Comma}
-use Rattle.granit_lexemes.specs.Lexeme.{Dash, Question, Colon, Alias, Anchor, Tag, Scalar, Lexeme}
+use Rattle.granit_lexemes.specs.Lexeme.{Dash, Question, Colon, Alias, Anchor, Tag, Scalar, Lexeme, is_opener_kind}
+use Rattle.granit_lexemes.specs.Place.{one_more_if}
 use Rattle.granit_lexemes.specs.declared.layout.Bracket.{Bracket}
 use Rattle.granit_lexemes.specs.declared.layout.Bracket.TheVariants.{Square, Curly}
 use Rattle.granit_steps.specs.Tokens.{Insertion, BlockEnd, BlockMappingStart, BlockSequenceStart, KeySign, PairStart}
 use Rattle.granit_steps.specs.Tokens.{PairEnd, ScanToken, Inserted, Own, Noted}
 use Rattle.granit_tokens.specs.Balanced.{Encloses, block_mapping, block_sequence, single_pair, in_brackets, is_beside}
 use Rattle.granit_tokens.specs.Balanced.{BalancedTo, nothing_more, one_beside, enclosed, Balanced, is_start}
-use Rattle.granit_tokens.specs.Balanced.{BeginsBalanced, all_ended, one_open, one_more_if, block_starts, block_ends}
-use Rattle.granit_tokens.specs.Balanced.{is_beside_kind, is_start_kind, starts_block, ends_block}
+use Rattle.granit_tokens.specs.Balanced.{BeginsBalanced, all_ended, one_open, block_starts, block_ends}
+use Rattle.granit_tokens.specs.Balanced.{is_beside_kind, starts_block, ends_block}
 
 pub data Opening : Type 0 where
   OfBlock OfPair : Opening
@@ -164,7 +165,7 @@ quiet_steps x kind k q st after e = stays (ap is_beside_kind k ∙ q) (some_same
 own_steps : (x : Lexeme) (kind : LexemeKind) → x.kind ≡ kind → (st after : Openings)
     → kind_passed kind st ≡ Some after → Steps (Own x) st after
 own_steps x (Open bracket) k st after e =
-    opens (OfBracket bracket) k (ap is_start_kind k) (sym (some_same (OfBracket bracket ∷ st) after e))
+    opens (OfBracket bracket) k (ap is_opener_kind k) (sym (some_same (OfBracket bracket ∷ st) after e))
 own_steps x (Close bracket) k st after e = close_steps x bracket k st after e
 own_steps x (Directive d) k st after e = quiet_steps x (Directive d) k refl st after e
 own_steps x DocumentStart k st after e = quiet_steps x DocumentStart k refl st after e

@@ -1,6 +1,6 @@
 -- What balances passes the stack, so what doesn't pass doesn't balance.
 use Rattle.std.proofs.Common.{◌≡◌, true, List, [], ◌∷◌, Some, refl, ap, ◌∙◌}
-use Rattle.granit_lexemes.specs.Lexeme.{LexemeKind, Open, Close}
+use Rattle.granit_lexemes.specs.Lexeme.{LexemeKind, Open, Close, is_opener_kind}
 use Rattle.granit_lexemes.specs.declared.layout.Bracket.{Bracket}
 use Rattle.granit_lexemes.specs.declared.layout.Bracket.TheVariants.{Square, Curly}
 use Rattle.granit_steps.specs.Tokens.{BlockMappingStart, BlockSequenceStart, KeySign, PairStart}
@@ -9,7 +9,7 @@ use Rattle.granit_tokens.proofs.Openings.{OfBlock, OfPair, OfBracket, Openings, 
 use Rattle.granit_tokens.proofs.Openings.{token_passed, and_then, passed}
 use Rattle.granit_tokens.specs.Balanced.{Encloses, block_mapping, block_sequence, single_pair, in_brackets, is_beside}
 use Rattle.granit_tokens.specs.Balanced.{is_beside_kind, BalancedTo, nothing_more, one_beside, enclosed, Balanced}
-use Rattle.granit_tokens.specs.Balanced.{is_start_kind, is_start, BeginsBalanced, all_ended, one_open}
+use Rattle.granit_tokens.specs.Balanced.{is_start, BeginsBalanced, all_ended, one_open}
 
 quiet_passed : (kind : LexemeKind) (st : Openings) → is_beside_kind kind ≡ true → kind_passed kind st ≡ Some st
 quiet_passed (Open bracket) st e = absurd cc
@@ -51,7 +51,7 @@ balanced_passes ts p = through ts [] p []
 abbrev Passes : List ScanToken → Openings → Type 0
 Passes ts st = (last : Openings) × (passed ts st ≡ Some last)
 
-start_kind : (kind : LexemeKind) (st : Openings) → is_start_kind kind ≡ true
+start_kind : (kind : LexemeKind) (st : Openings) → is_opener_kind kind ≡ true
     → (after : Openings) × (kind_passed kind st ≡ Some after)
 start_kind (Open bracket) st e = (OfBracket bracket ∷ st, refl)
 start_kind kind st e = absurd cc

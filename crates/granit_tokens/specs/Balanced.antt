@@ -1,7 +1,8 @@
 -- How the starts and the ends among a scanner's tokens belong together.
-use Rattle.std.specs.Prelude.{◌≡◌, ℕ, suc, Bool, true, false, List, [], ◌∷◌}
+use Rattle.std.specs.Prelude.{◌≡◌, ℕ, Bool, true, false, List, [], ◌∷◌}
 use Rattle.granit_base.specs.Place.{Mark}
-use Rattle.granit_lexemes.specs.Lexeme.{LexemeKind, Open, Close, Lexeme}
+use Rattle.granit_lexemes.specs.Lexeme.{LexemeKind, Open, Close, Lexeme, is_opener_kind}
+use Rattle.granit_lexemes.specs.Place.{one_more_if}
 use Rattle.granit_lexemes.specs.declared.layout.Bracket.{Bracket}
 use Rattle.granit_steps.specs.Tokens.{BlockEnd, BlockMappingStart, BlockSequenceStart, KeySign, PairStart}
 use Rattle.granit_steps.specs.Tokens.{PairEnd, ScanToken, Inserted, Own, Noted}
@@ -38,17 +39,12 @@ pub data BalancedTo : List ScanToken → List ScanToken → Type 0 where
 abbrev pub Balanced : List ScanToken → Type 0
 Balanced ts = BalancedTo ts []
 
--- whether it is a start
-abbrev pub is_start_kind : LexemeKind → Bool
-is_start_kind (Open bracket) = true
-is_start_kind kind = false
-
 abbrev pub is_start : ScanToken → Bool
 is_start (Inserted BlockMappingStart m) = true
 is_start (Inserted BlockSequenceStart m) = true
 is_start (Inserted PairStart m) = true
 is_start (Inserted what m) = false
-is_start (Own x) = is_start_kind x.kind
+is_start (Own x) = is_opener_kind x.kind
 is_start (Noted c) = false
 
 -- Balanced but for some starts that have no end yet.
@@ -67,10 +63,6 @@ starts_block t = false
 abbrev pub ends_block : ScanToken → Bool
 ends_block (Inserted BlockEnd m) = true
 ends_block t = false
-
-abbrev pub one_more_if : Bool → ℕ → ℕ
-one_more_if true n = suc n
-one_more_if false n = n
 
 abbrev pub block_starts : List ScanToken → ℕ
 block_starts [] = 0

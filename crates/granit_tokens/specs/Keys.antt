@@ -1,9 +1,9 @@
 -- The keys that are inserted among a scanner's tokens, and the `:` that have keys.
 use Rattle.std.specs.Prelude.{ℕ, Bool, true, false, List, [], ◌∷◌, Option}
 use Rattle.granit_lexemes.specs.Lexeme.{LexemeKind, Colon, KeyStart}
+use Rattle.granit_lexemes.specs.Place.{one_more_if}
 use Rattle.granit_machine.specs.Items.{has_key}
 use Rattle.granit_steps.specs.Tokens.{KeySign, ScanToken, Inserted, Own}
-use Rattle.granit_tokens.specs.Balanced.{one_more_if}
 
 abbrev pub is_key_sign : ScanToken → Bool
 is_key_sign (Inserted KeySign m) = true

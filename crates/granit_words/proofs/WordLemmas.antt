@@ -255,8 +255,10 @@ below_or_above (suc (suc (suc zero))) = inl (omega arith)
 below_or_above (suc (suc (suc (suc zero)))) = inl (omega arith)
 below_or_above (suc (suc (suc (suc (suc k))))) = inr (omega arith)
 
-neither : (s : Setting) (w : List ℕ) → ((s : Setting) → option_of s < 5 → IsSaidBy s w → ⊥)
-    → ((s : Setting) → 5 ≤ option_of s → IsSaidBy s w → ⊥) → (option_of s < 5) ⊎ (5 ≤ option_of s) → IsSaidBy s w → ⊥
+neither :
+    (s : Setting) (w : List ℕ) → ((s : Setting) → option_of s < 5 → IsSaidBy s w → ⊥) →
+    ((s : Setting) → 5 ≤ option_of s → IsSaidBy s w → ⊥) → (option_of s < 5) ⊎ (5 ≤ option_of s) →
+    IsSaidBy s w → ⊥
 neither s w a b (inl l) h = a s l h
 neither s w a b (inr l) h = b s l h
 

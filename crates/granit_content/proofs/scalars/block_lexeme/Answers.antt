@@ -1,10 +1,11 @@
-use Rattle.std.proofs.Common.{ℕ, refl, sym, ap, ◌∙◌}
+use Rattle.std.proofs.Common.{ℕ, Option, refl, sym, ap, ◌∙◌}
 use Rattle.granit_base.specs.Place.{Mark}
 use Rattle.granit_block.specs.BlockCode.{block_lexed_at}
 use Rattle.granit_error.specs.OptionsView.{options_of}
 use Rattle.granit_lexemes.specs.LayoutData.{LayoutData}
+use Rattle.granit_lexemes.specs.Comment.{CommentRead}
 use Rattle.granit_machine.specs.PossibleKeys.{layout_of}
-use Rattle.granit_content.specs.ScalarReads.{asking}
+use Rattle.granit_content.specs.ScalarReads.{asking, shown_as}
 use Rattle.granit_content.proofs.ScalarLemmas.{block_items}
 use Rattle.granit_content.proofs.scalars.block_lexeme.Goals as goal
 
@@ -15,9 +16,12 @@ returns-clause-here g c = λ h k.
     let told = c.layout-layout.ensures ∙ ap (λ (n : ℕ). asking o.emit_comments (layout_of o n c.args.layouts.now))
     (c.col.ensures ∙ ap (λ (m : Mark). m.place.column) (sym begun.0)) in
     let read = c.in_ok-read.ensures.here h k in
-    let is = ap (λ (at : LayoutData). block_lexed_at at c.args.literal h) (sym told) ∙ read.2 in (
+    let is = ap (λ (at : LayoutData). block_lexed_at at c.args.literal h) (sym told) ∙ read.2 in
+    let lexeme = c.shown_lexeme-lexeme.ensures h begun
+    ∙ ap (λ (t : Option CommentRead). shown_as c.args.ends c.in_ok-read.read.token t h c.args.layouts.now)
+    c.in_ok-tail.ensures.kept in (
       record { here = read.0; laid = c.give.new.layouts },
       (read.1, refl),
       block_items o o.emit_comments c.args.ends h c.args.layouts.now c.in_ok-read.read read.0 c.args.literal is
-          ∙ rw (c.shown_lexeme-lexeme.ensures h begun, c.unroll.ensures) at (c.give.ensures read.0),
+          ∙ rw (lexeme, c.unroll.ensures) at (c.give.ensures read.0),
     )

@@ -1,9 +1,10 @@
-use Rattle.std.proofs.Common.{ℕ, refl, sym, ap, ◌∙◌}
+use Rattle.std.proofs.Common.{ℕ, Option, refl, sym, ap, ◌∙◌}
 use Rattle.std.proofs.lemmas.Result.{err_from_is_err_and}
 use Rattle.granit_base.specs.Place.{Mark}
 use Rattle.granit_error.specs.OptionsView.{options_of}
+use Rattle.granit_lexemes.specs.Comment.{CommentRead}
 use Rattle.granit_machine.specs.PossibleKeys.{layout_of}
-use Rattle.granit_content.specs.ScalarReads.{asking}
+use Rattle.granit_content.specs.ScalarReads.{asking, token_as}
 use Rattle.granit_content.proofs.ScalarLemmas.{quoted_items, quoted_fails}
 use Rattle.granit_content.proofs.scalars.quoted_lexeme.Goals as goal
 
@@ -23,9 +24,12 @@ returns-clause-here g c = λ h k.
     let begun = c.start_of-start.ensures h k in
     let told = c.layout-layout.ensures ∙ ap (λ (n : ℕ). asking o.emit_comments (layout_of o n c.args.layouts.now))
     (c.col.ensures ∙ ap (λ (m : Mark). m.place.column) (sym begun.0)) in
-    let read = rw told at (c.in_ok-read.ensures.here h k) in (
+    let read = rw told at (c.in_ok-read.ensures.here h k) in
+    let lexeme = c.scalar_lexeme-lexeme.ensures h begun
+    ∙ ap (λ (t : Option CommentRead). token_as c.args.ends c.in_ok-read.read.token t h c.args.layouts.now)
+    c.in_ok-tail.ensures.kept in (
       record { here = read.0; laid = c.give.new.layouts },
       (read.1, refl),
       quoted_items o o.emit_comments c.args.ends h c.args.layouts.now c.in_ok-read.read read.0 c.args.single read.2
-          ∙ rw (c.scalar_lexeme-lexeme.ensures h begun) at (c.give.ensures read.0),
+          ∙ rw (lexeme) at (c.give.ensures read.0),
     )

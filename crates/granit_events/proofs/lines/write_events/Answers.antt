@@ -39,7 +39,7 @@ returns-in_err-push_line-clause-front g c =
 pub returns-in_err-write_all-clause-front : goal.returns-in_err-write_all-clause-front
 returns-in_err-write_all-clause-front g c =
     let w = reaches_front _ _ _ _ _ _ c.events.invariant.reaches
-    (rw c.as_bytes.ensures.value at c.in_err-write_all.ensures.front) in
+    (rw c.as_slice.ensures.value at c.in_err-write_all.ensures.front) in
     search rules
 
 pub returns-in_err-pass_on-clause-front : goal.returns-in_err-pass_on-clause-front

@@ -1,7 +1,7 @@
 use Rattle.std.proofs.Common.{◌∷◌, List, ℕ, ap, ◌∙◌, arith}
 use Rattle.std.proofs.lemmas.List.{drop_all}
 use Rattle.granit_lexemes.specs.Line.{place_line}
-use Rattle.granit_lines.proofs.PlaceLemmas.{span_written, span_ascii}
+use Rattle.granit_lines.proofs.PlaceLemmas.{span_written}
 use Rattle.granit_lines.proofs.places.put_span.Goals as goal
 
 pub returns-clause-put : goal.returns-clause-put
@@ -10,8 +10,3 @@ returns-clause-put c =
     (c.put_byte-line_end.ensures.put
     ∙ ap (λ (xs : List ℕ). 10 ∷ xs) (drop_all 128 c.args.bytes.now (omega (arith, c.requires.room))))
     c.put_place-end.ensures.put c.put_byte-dash.ensures.put c.put_place-start.ensures.put c.put_byte.ensures.put
-
-pub returns-clause-ascii : goal.returns-clause-ascii
-returns-clause-ascii c =
-    span_ascii (place_line c.args.span.now.start.place) (place_line c.args.span.now.end.place)
-    c.put_place-start.ensures.ascii c.put_place-end.ensures.ascii

@@ -1,4 +1,4 @@
-use Rattle.std.proofs.Common.{codes, string_bytes}
+use Rattle.std.proofs.Common.{codes}
 use Rattle.std.specs.Option.{option_map}
 use Rattle.granit_lexemes.specs.Line.{explicit_word, version_words}
 use Rattle.granit_event.specs.Events.{plain_version}
@@ -7,7 +7,7 @@ use Rattle.granit_lines.proofs.printing.push_document_start.Goals as goal
 
 pub returns : goal.returns
 returns c =
-    let word = rw c.explicit_word.ensures at c.in_ok-push_str-2.ensures.bytes in
-    after_two c.push_version.result _ _ _ (string_bytes c.args.out.now) (codes "DocumentStart ")
+    let word = rw c.explicit_word.ensures at c.in_ok-push_word-2.ensures in
+    after_two c.push_version.result _ _ _ c.args.out.now.items (codes "DocumentStart ")
     (explicit_word c.args.explicit) (version_words (option_map plain_version c.args.version.now))
-    c.in_ok-push_str.ensures.bytes word c.push_version.ensures
+    c.in_ok-push_word.ensures word c.push_version.ensures

@@ -1,4 +1,4 @@
-use Rattle.std.proofs.Common.{◌≡◌, ◌++◌, length, string_bytes}
+use Rattle.std.proofs.Common.{◌≡◌, ◌++◌, length}
 use Rattle.std.specs.Str.{chars}
 use denote.Text.{Utf8}
 use denote.Shadow.{shadow}
@@ -8,7 +8,7 @@ use Rattle.granit_lines.proofs.quoting.push_quoted.Given as goal
 abbrev pub invariant-pieces : goal.invariant-pieces
 invariant-pieces l = record {
   utf8 : shadow (Utf8 l.rest);
-  told : string_bytes l.out ++ quoted_text (chars l.rest) ≡ string_bytes l.fn.out ++ quoted_text (chars l.text);
+  told : l.out.items ++ quoted_text (chars l.rest) ≡ l.fn.out.items ++ quoted_text (chars l.text);
 }
 
 abbrev pub decreases-pieces : goal.decreases-pieces

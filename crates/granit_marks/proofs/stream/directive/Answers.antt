@@ -1,8 +1,10 @@
-use Rattle.std.proofs.Common.{◌∙◌, refl}
+use Rattle.std.proofs.Common.{◌∙◌, refl, ap, Option}
 use Rattle.std.proofs.lemmas.Result.{err_from_is_err_and}
 use Rattle.granit_error.specs.OptionsView.{options_of}
+use Rattle.granit_lexemes.specs.Comment.{CommentRead}
 use Rattle.granit_machine.specs.Columns.{ends_all, closed_all}
 use Rattle.granit_machine.specs.Gaps.{over_break_if}
+use Rattle.granit_content.specs.ScalarReads.{token_as}
 use Rattle.granit_marks.proofs.DirectiveLemmas.{directive_items, directive_fails}
 use Rattle.granit_marks.proofs.stream.directive.Goals as goal
 
@@ -21,7 +23,9 @@ returns-clause-here g c = λ h k.
     let read = c.in_ok-read.ensures.here h k in
     let on = c.over_break_if.ensures.here read.0 read.1 in
     let lexeme = rw (c.ends_all-ends.ensures, c.close_all.ensures) at
-    (c.scalar_lexeme-lexeme.ensures h (c.start_of-start.ensures h k)) in (
+    (c.scalar_lexeme-lexeme.ensures h (c.start_of-start.ensures h k)
+    ∙ ap (λ (t : Option CommentRead). token_as c.ends_all-ends.result c.in_ok-read.read.token t h c.close_all.new.self)
+    c.in_ok-tail.ensures.kept) in (
       record { here = over_break_if read.0; laid = c.behind_directive.new.self },
       (on, refl),
       directive_items o o.emit_comments (ends_all l) h (closed_all l) c.in_ok-read.read read.0 read.2

@@ -3,7 +3,7 @@ use Rattle.std.proofs.lemmas.Result.{err_from_is_err_and}
 use Rattle.granit_base.specs.Place.{Mark}
 use Rattle.granit_error.specs.OptionsView.{options_of}
 use Rattle.granit_machine.specs.PossibleKeys.{without_stale}
-use Rattle.granit_items.specs.ItemViews.{note_view}
+use Rattle.granit_items.specs.ItemViews.{boxed_view}
 use Rattle.granit_content.specs.Reads.{tail_view}
 use Rattle.granit_reader.specs.Reads.{reader_at}
 use Rattle.granit_reader.proofs.MeetLemmas.{meets_kept, meets_lexeme, meets_passed, meets_stale, unless_memory}
@@ -22,7 +22,7 @@ pub returns-in-Kept-clause-here : goal.returns-in-Kept-clause-here
 returns-in-Kept-clause-here g c = λ t is h k.
     let o = options_of c.args.options.now in
     let s = reader_at h c.args.layouts.now in
-    let given = note_kept o o.emit_comments t (note_view c.in-Kept.note) s (sym (ap tail_view c.in-Kept.is) ∙ is) in
+    let given = note_kept o o.emit_comments t (boxed_view c.in-Kept.note) s (sym (ap tail_view c.in-Kept.is) ∙ is) in
     (s, (k, refl), rw c.requires.no_lexeme given)
 
 pub returns-in-Passed-clause-met : goal.returns-in-Passed-clause-met
@@ -34,7 +34,7 @@ returns-in-Passed-clause-met g c = λ t is h k.
 pub returns-in-Kept-clause-met : goal.returns-in-Kept-clause-met
 returns-in-Kept-clause-met g c = λ t is h k.
     let o = options_of c.args.options.now in
-    rw c.requires.unmet (meets_kept o o.emit_comments t (note_view c.in-Kept.note) (reader_at h c.args.layouts.now)
+    rw c.requires.unmet (meets_kept o o.emit_comments t (boxed_view c.in-Kept.note) (reader_at h c.args.layouts.now)
     (sym (ap tail_view c.in-Kept.is) ∙ is))
 
 pub returns-in_err-drop_stale-in-Nothing-clause-met : goal.returns-in_err-drop_stale-in-Nothing-clause-met

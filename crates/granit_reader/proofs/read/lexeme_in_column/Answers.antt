@@ -9,7 +9,7 @@ use Rattle.granit_cursor.specs.Reading.{GivesTo, coded}
 use Rattle.granit_content.specs.Reads.{IsAt, found_in}
 use Rattle.granit_reader.specs.SortViews.{placed_view}
 use Rattle.granit_reader.specs.WithoutMemory.{placed_takes_none}
-use Rattle.granit_reader.proofs.MemoryLemmas.{begins_no_node}
+use Rattle.granit_reader.proofs.MemoryLemmas.{noded_takes_none}
 use Rattle.granit_reader.proofs.ReadLemmas.{placed_read}
 use Rattle.granit_reader.proofs.read.lexeme_in_column.Goals as goal
 
@@ -29,7 +29,7 @@ returns-clause-here g c = λ h k.
 
 pub returns-clause-memory : goal.returns-clause-memory
 returns-clause-memory g c = λ unasked h k none.
-    let same = c.begin_node.ensures.here h k
-    ∙ begins_no_node (options_of c.args.options.now) (placed_view c.args.sort) h c.args.layouts.now none in
-    c.lexeme_of.ensures.memory unasked h k (subst (λ (l : Laid).
-    placed_takes_none (options_of c.args.options.now) (placed_view c.args.sort) h l ≡ true) (sym same) none)
+    let o = options_of c.args.options.now in
+    let sort = placed_view c.args.sort in
+    c.lexeme_of.ensures.memory unasked h k (subst (λ (l : Laid). placed_takes_none o sort h l ≡ true)
+    (sym (c.begin_node.ensures.here h k)) (noded_takes_none o sort h c.args.layouts.now none))

@@ -1,7 +1,7 @@
 use Rattle.std.proofs.Common.{◌≡◌, true, false, inl, inr}
 use Rattle.granit_error.specs.OptionsView.{options_of}
 use Rattle.granit_items.specs.declared.item.Found.{Found}
-use Rattle.granit_reader.proofs.MemoryLemmas.{no_entry, no_pair}
+use Rattle.granit_reader.proofs.MemoryLemmas.{at_least, no_entry, no_pair}
 use Rattle.granit_reader.proofs.ReadLemmas.{found_alone}
 use Rattle.granit_reader.proofs.read.lexeme_of.Goals as goal
 
@@ -75,15 +75,15 @@ returns-in-PlainSign-clause-here g c = λ h k.
 
 pub returns-in-OpenSign-clause-memory : goal.returns-in-OpenSign-clause-memory
 returns-in-OpenSign-clause-memory g c = λ unasked h k none.
-    let some : false ≡ true = rw c.in-OpenSign.is at none in absurd cc
+    c.opener.ensures.memory (at_least _ _ (rw c.in-OpenSign.is at none))
 
 pub returns-in-AliasSign-clause-memory : goal.returns-in-AliasSign-clause-memory
 returns-in-AliasSign-clause-memory g c = λ unasked h k none.
-    let some : false ≡ true = rw c.in-AliasSign.is at none in absurd cc
+    c.alias_lexeme.ensures.lent h k (rw c.in-AliasSign.is at none)
 
 pub returns-in-AnchorSign-clause-memory : goal.returns-in-AnchorSign-clause-memory
 returns-in-AnchorSign-clause-memory g c = λ unasked h k none.
-    let some : false ≡ true = rw c.in-AnchorSign.is at none in absurd cc
+    c.anchor_lexeme.ensures.lent h k (rw c.in-AnchorSign.is at none)
 
 pub returns-in-TagSign-clause-memory : goal.returns-in-TagSign-clause-memory
 returns-in-TagSign-clause-memory g c = λ unasked h k none.

@@ -1,7 +1,8 @@
 use Rattle.std.proofs.Common.{◌≡◌, ◌<◌, ℕ, drop, subst, sym, ap, ◌∙◌, ◌-◌, ◌^◌, refl, arith}
+use Rattle.granit_base.specs.Classes.{is_non_breakz}
 use Rattle.granit_base.specs.Place.{first}
 use Rattle.granit_input.specs.Unread.{past}
-use Rattle.granit_input.specs.Runs.{run_length, starts, is_non_breakz}
+use Rattle.granit_input.specs.Runs.{run_length, starts}
 use Rattle.granit_input.specs.White.{comment_length}
 use Rattle.granit_input.proofs.RunLemmas.{front_all}
 use Rattle.granit_input.proofs.UnreadLemmas.{past_text, past_twice}

@@ -1,6 +1,7 @@
 use Rattle.std.proofs.Common.{◌≡◌, ◌-◌, ◌+◌, ◌≤◌, ℕ, List, length, true}
-use Rattle.granit_input_tests.specs.Stream.{Holds, still_left}
+use Rattle.granit_input_tests.specs.Stream.{Holds}
 use Rattle.granit_input_tests.proofs.stream.Stream.fill.Given as goal
+use Rattle.granit_buffered.specs.Feeds.{still_left}
 
 abbrev pub invariant-fill : goal.invariant-fill
 invariant-fill g l = record {

@@ -1,9 +1,10 @@
 use Rattle.std.proofs.Common.{◌-◌, ◌≡◌, ◌+◌, ◌≤◌, length, min, None, false}
 use Rattle.granit_base.specs.Place.{Unread}
 use Rattle.granit_input.specs.Origin.{Goes}
-use Rattle.granit_input_tests.specs.Stream.{Holds, still_left, of_stream}
+use Rattle.granit_input_tests.specs.Stream.{Holds, of_stream}
 use Rattle.granit_input.specs.Unread.{past}
 use Rattle.granit_input_tests.proofs.stream.StreamInput.skip_n.Given as goal
+use Rattle.granit_buffered.specs.Feeds.{still_left}
 
 abbrev pub invariant-taken : goal.invariant-taken
 invariant-taken g l = record {

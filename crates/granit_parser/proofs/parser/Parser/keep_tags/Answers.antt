@@ -1,6 +1,8 @@
-use Rattle.std.proofs.Common.{◌≡◌, ◌∙◌, None, sym, ap, subst}
+use Rattle.std.proofs.Common.{◌∙◌, refl, sym, ap, subst}
+use Rattle.granit_parser.proofs.ChangeLemmas.{changed_in, changed_there}
 use Rattle.granit_parser.proofs.KeepLemmas.{stands_alike}
 use Rattle.granit_parser.specs.Parsing.{Next, Parsing, StandsBefore}
+use Rattle.granit_parser.specs.Recovering.{unchanged}
 use Rattle.granit_stepper.specs.Stepping.{StandsIn, Stepping, keeping}
 use Rattle.granit_parser.proofs.parser.Parser.keep_tags.Goals as goal
 
@@ -14,3 +16,38 @@ returns-clause-known g c = λ m none at.
     subst (λ (next : Next). StandsBefore unread next c.set_keep_tags.new.self m) (sym seen)
     (subst (λ (s : Stepping _). StandsIn unread s m) (sym left)
     (stands_alike unread c.args.value c.args.self.stepper m before))
+
+pub returns-clause-calls : goal.returns-clause-calls
+returns-clause-calls g c = λ calls reached opened none at.
+    let unread = g.T.Input.unread in
+    let p = c.args.self in
+    let view = c.parser.view_is in
+    let left = c.set_keep_tags.ensures ∙ ap (λ (p : Parsing _). keeping c.args.value p.stepper) view in
+    changed_in unread unchanged p (record {
+      stepper = c.set_keep_tags.new.self;
+      peeked = c.parser.inside.peeked;
+      given = c.parser.inside.given;
+      between = c.parser.inside.between;
+      over = c.parser.inside.over;
+    }) (λ m at. subst (λ (s : Stepping _). StandsIn unread s m) (sym left)
+    (stands_alike unread c.args.value p.stepper m at))
+    (λ es m. refl) (ap (λ (p : Parsing _). p.peeked) view) (ap (λ (s : Stepping _). s.first) left)
+    (ap (λ (p : Parsing _). p.between) view) (ap (λ (p : Parsing _). p.over) view) none calls
+    (c.calls_go_by_turns.ensures p.stepper.scanner.options calls reached) opened at
+
+pub returns-clause-there : goal.returns-clause-there
+returns-clause-there g c = λ calls opened unseen stands at.
+    let unread = g.T.Input.unread in
+    let p = c.args.self in
+    let view = c.parser.view_is in
+    let left = c.set_keep_tags.ensures ∙ ap (λ (p : Parsing _). keeping c.args.value p.stepper) view in
+    changed_there unread unchanged p (record {
+      stepper = c.set_keep_tags.new.self;
+      peeked = c.parser.inside.peeked;
+      given = c.parser.inside.given;
+      between = c.parser.inside.between;
+      over = c.parser.inside.over;
+    }) (λ m at. subst (λ (s : Stepping _). StandsIn unread s m) (sym left)
+    (stands_alike unread c.args.value p.stepper m at))
+    (λ es m. refl) (ap (λ (p : Parsing _). p.peeked) view) (ap (λ (s : Stepping _). s.first) left)
+    (ap (λ (p : Parsing _). p.between) view) (ap (λ (p : Parsing _). p.over) view) calls opened unseen stands at

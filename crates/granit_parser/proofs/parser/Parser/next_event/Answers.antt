@@ -1,4 +1,5 @@
 use Rattle.std.proofs.Common.{◌≡◌, inl, inr, ap, subst, sym, ◌∙◌}
+use Rattle.granit_parser.proofs.AloneLemmas.{ends_alone}
 use Rattle.granit_parser.proofs.InLemmas.{call_gives, closed_stays, noted_none, open_seen}
 use Rattle.granit_parser.proofs.StartLaws.{ends_told}
 use Rattle.granit_parser.proofs.TextLemmas.{ends_text}
@@ -13,6 +14,14 @@ returns-clause-text g c = λ x es m stands leads. rw c.note.ensures.rest
     (elim (c.take_event-next.ensures.known m stands) [
       | inl gives ↦ inl (ends_text c.args.self.now.stepper.scanner.options x es m leads c.take_event-next.result _
           c.take_event-next.new.self.stepper.renumbered gives)
+      | inr told ↦ inr told
+    ])
+
+pub returns-clause-alone : goal.returns-clause-alone
+returns-clause-alone g c = λ x shift s es m tells stands leads. rw c.note.ensures.rest
+    (elim (c.take_event-next.ensures.known m stands) [
+      | inl gives ↦ inl (ends_alone c.args.self.now.stepper.scanner.options x shift s tells es m leads
+          c.take_event-next.result _ c.take_event-next.new.self.stepper.renumbered gives)
       | inr told ↦ inr told
     ])
 

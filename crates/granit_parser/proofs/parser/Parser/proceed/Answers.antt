@@ -1,7 +1,8 @@
-use Rattle.std.proofs.Common.{◌≡◌, inl, inr, Bool, true, false, not, ◌&&◌, is_some, ap, sym, subst, refl, ◌∙◌}
+use Rattle.std.proofs.Common.{◌≡◌, inl, Bool, true, false, not, ◌&&◌, is_some, ap, sym, ◌∙◌}
 use Rattle.std.proofs.lemmas.Result.{err_from_is_err_and}
-use Rattle.granit_parser.proofs.ProceedLemmas.{again_ends, answer_ends, any_stops, gives_again, not_end, not_given_up}
+use Rattle.granit_parser.proofs.ProceedLemmas.{again_ends, answer_ends, gives_again, not_end, not_given_up}
 use Rattle.granit_parser.proofs.ProceedLemmas.{over_ends, refused_ends}
+use Rattle.granit_parser.proofs.RecoverLemmas.{any_stops}
 use Rattle.granit_parser.proofs.parser.Parser.proceed.Goals as goal
 use Rattle.granit_parser.specs.Parsing.{Parsing}
 use Rattle.granit_parser.specs.Recovering as spec
@@ -12,7 +13,7 @@ returns-then-self-clause-known g c = λ calls reached at.
     let ended : calls.over ≡ true = sym at.over ∙ sym (ap (λ (x : Parsing _). x.over) c.self.view_is)
     ∙ c.if-self.true in
     inl (over_ends g.T.Input.unread p calls at (c.nothing_changes_behind_the_end.ensures p.stepper.scanner.options
-    (any_stops g.T.Input.unread calls) (is_some p.peeked) calls (at.ended ended) ended))
+    (any_stops calls) (is_some p.peeked) calls (at.ended ended) ended))
 
 pub returns-then-cannot_recover-clause-known : goal.returns-then-cannot_recover-clause-known
 returns-then-cannot_recover-clause-known g c = λ calls reached at other.
@@ -24,6 +25,9 @@ returns-then-cannot_recover-clause-known g c = λ calls reached at other.
 pub returns-then-cannot_recover-clause-again : goal.returns-then-cannot_recover-clause-again
 returns-then-cannot_recover-clause-again g c = λ over failed none.
     gives_again Bool c.args.self.now.given c.refused.result c.refused.ensures.given
+
+pub returns-then-cannot_recover-clause-seen : goal.returns-then-cannot_recover-clause-seen
+returns-then-cannot_recover-clause-seen g c = λ over failed none given. c.refused.ensures.seen given
 
 pub returns-in_err-follows-clause-known : goal.returns-in_err-follows-clause-known
 returns-in_err-follows-clause-known g c = λ calls reached at.

@@ -1,7 +1,8 @@
 use Rattle.std.proofs.Common.{◌≡◌, true, false, sym, ap, ◌∙◌, ◌||◌, arith, Option, is_some}
 use Rattle.granit_error.specs.Refused.{Refused}
 use Rattle.granit_parser.proofs.GoesLemmas.{stands_going}
-use Rattle.granit_parser.proofs.SourceLemmas.{ends_by, goes_by, known_by, reads_by, reads_kept, source_by, sure_by}
+use Rattle.granit_parser.proofs.SourceLemmas.{ends_by, goes_by, known_by, lost_by, reads_by, reads_kept, source_by}
+use Rattle.granit_parser.proofs.SourceLemmas.{sure_by}
 use Rattle.granit_parser.proofs.parser.Parser.read_event.Goals as goal
 
 pub returns-then-has_failed-clause-known : goal.returns-then-has_failed-clause-known
@@ -15,6 +16,13 @@ returns-then-has_failed-clause-sure g c = λ m at none.
 pub returns-then-has_failed-clause-source : goal.returns-then-has_failed-clause-source
 returns-then-has_failed-clause-source g c = λ f met fresh going.
     absurd (let no : true ≡ false = sym c.if-has_failed.true ∙ c.has_failed.ensures ∙ going in cc)
+
+pub returns-then-has_failed-clause-lost : goal.returns-then-has_failed-clause-lost
+returns-then-has_failed-clause-lost g c = record {
+  source = λ f met fresh going.
+      absurd (let no : true ≡ false = sym c.if-has_failed.true ∙ c.has_failed.ensures ∙ going in cc);
+  memory = tt;
+}
 
 pub returns-then-has_failed-clause-calls : goal.returns-then-has_failed-clause-calls
 returns-then-has_failed-clause-calls g c = λ calls reached goes.
@@ -58,6 +66,13 @@ returns-clause-source g c = rw c.unless_failed.ensures (source_by g.T.Input.unre
     c.args.self.now.stepper c.step_event-event.new.self.stepper c.take_source_error-error.new.self.stepper
     c.step_event-event.ensures.moves.1 c.take_source_error-error.ensures.origin c.take_source_error-error.result
     c.step_event-event.result c.take_source_error-error.ensures.given c.take_source_error-error.ensures.place)
+
+pub returns-clause-lost : goal.returns-clause-lost
+returns-clause-lost g c = rw c.unless_failed.ensures (lost_by g.T.Input.unread g.T.Input.origin
+    c.args.self.now.stepper c.step_event-event.new.self.stepper c.take_source_error-error.new.self.stepper
+    c.step_event-event.ensures.moves.1 c.take_source_error-error.ensures.origin c.take_source_error-error.result
+    c.step_event-event.result c.take_source_error-error.ensures.given c.take_source_error-error.ensures.failed
+    c.take_source_error-error.ensures.lost c.take_source_error-error.ensures.ended c.step_event-event.ensures.lost)
 
 pub returns-clause-refused : goal.returns-clause-refused
 returns-clause-refused g c = rw c.unless_failed.ensures (ends_by c.take_source_error-error.result

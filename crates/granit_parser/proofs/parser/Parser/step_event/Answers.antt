@@ -1,5 +1,5 @@
 use Rattle.std.proofs.Common.{refl, ap, subst, sym, ◌∙◌}
-use Rattle.granit_parser.proofs.GoesLemmas.{ends_view, gives_view, goes_reads}
+use Rattle.granit_parser.proofs.GoesLemmas.{ends_view, gives_view, goes_reads, lost_view}
 use Rattle.granit_parser.proofs.parser.Parser.step_event.Goals as goal
 use Rattle.granit_parser.specs.Parsing.{Parsing, next_view}
 use Rattle.granit_parser.specs.Recovering.{Goes}
@@ -25,6 +25,10 @@ returns-clause-calls g c = λ calls reached goes. rw c.next_of.ensures
 pub returns-clause-refused : goal.returns-clause-refused
 returns-clause-refused g c = rw c.next_of.ensures
     (ends_view c.next_event.result c.next_event.new.self c.next_event.ensures.failed)
+
+pub returns-clause-lost : goal.returns-clause-lost
+returns-clause-lost g c = rw c.next_of.ensures
+    (lost_view c.next_event.result c.next_event.new.self c.next_event.ensures.lost)
 
 pub returns-clause-over : goal.returns-clause-over
 returns-clause-over g c = λ failed.

@@ -24,5 +24,5 @@ returns-clause-known g c = λ m rests told.
     let given = subst (λ (s : Scanning g.row.T.Denot). IfSome c.args.token (λ t. s.first ≡ None)) (sym c.self.view_is)
     told in
     proceeds unread inside m here (sym c.is_lost.ensures ∙ c.if-is_lost.false) c.args.token given
-    c.take_mark-mark.result c.take_mark-mark.ensures c.in_ok-restart.field-0 after c.in_ok-restart.ensures.known
+    c.in_ok-mark.mark c.in_ok-mark.ensures c.in_ok-restart.field-0 after c.in_ok-restart.ensures.known
     c.begin_anew.ensures

@@ -6,13 +6,14 @@ pub returns-clause-known : goal.returns-clause-known
 returns-clause-known g c = λ m going fails.
     let s = c.args.self.now in
     let e = c.args.error in
-    let refused = fails (not_memory e.kind (sym c.wants_memory.ensures ∙ c.if-wants_memory.false)) in
+    let other = not_memory e.kind (sym c.wants_memory.ensures ∙ c.if-wants_memory.false) in
     rw c.hold.ensures (
       refl,
       record {
         error = e;
         ahead = refl;
         going = going;
-        refused = refused_ahead g.T.Input.unread s m e (Some e) refused;
+        other = other;
+        refused = refused_ahead g.T.Input.unread s m e (Some e) (fails other);
       },
     )

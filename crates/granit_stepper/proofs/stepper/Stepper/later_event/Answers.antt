@@ -4,7 +4,7 @@ use Rattle.granit_lexemes.specs.Outcome.{Fails}
 use Rattle.granit_stepper.specs.Numbers.{RefusesNumber}
 use Rattle.granit_stepper.specs.Refusals.{RefusedIn, SettlesAhead}
 use Rattle.granit_stepper.specs.Stepping.{Stepping, StandsIn, no_events}
-use Rattle.granit_stepper.proofs.AheadLemmas.{gives_error, gives_event}
+use Rattle.granit_stepper.proofs.AheadLemmas.{error_other, gives_error, gives_event}
 use Rattle.granit_stepper.proofs.RefusalLemmas.{refused_failed}
 use Rattle.granit_stepper.proofs.StateLemmas.{gives_next, next_fails}
 use Rattle.granit_stepper.proofs.stepper.Stepper.later_event.Goals as goal
@@ -41,18 +41,13 @@ returns-in-Err-clause-known g c = λ m at told.
 pub returns-in-Err-clause-refused : goal.returns-in-Err-clause-refused
 returns-in-Err-clause-refused g c = λ m at told turned other.
     let unread = g.T.Input.unread in
-    let inside : Stepping g.row.T.Denot = record {
-      scanner = c.self.inside.scanner;
-      parser = c.self.inside.parser;
-      first = c.self.inside.first;
-      failed = c.self.inside.failed;
-      renumbered = c.self.inside.renumbered;
-      ahead = c.self.inside.ahead;
-      refusal = c.self.inside.refusal;
-    } in
-    let n = c.in-Err.ensures.refused m at told turned other in
-    let here = subst (λ (s : Stepping g.row.T.Denot). RefusedIn unread s n.0 c.in-Err.error) (sym c.self.view_is) n.2 in
-    (n.0, n.1, refused_failed unread inside n.0 c.in-Err.error here)
+    let e = c.in-Err.error in
+    let n = c.in-Err.ensures.refused m at told turned other in (
+      n.0,
+      n.1,
+      subst (λ (s : Stepping g.row.T.Denot). RefusedIn unread s n.0 e) (sym (c.fail.ensures.kept other))
+          (refused_failed unread c.settle.new.self n.0 e n.2),
+    )
 
 pub returns-in-Ok-clause-ahead : goal.returns-in-Ok-clause-ahead
 returns-in-Ok-clause-ahead g c = λ m h.
@@ -72,15 +67,9 @@ returns-in-Ok-clause-ahead g c = λ m h.
 
 pub returns-in-Err-clause-ahead : goal.returns-in-Err-clause-ahead
 returns-in-Err-clause-ahead g c = λ m h.
-    let inside : Stepping g.row.T.Denot = record {
-      scanner = c.self.inside.scanner;
-      parser = c.self.inside.parser;
-      first = c.self.inside.first;
-      failed = c.self.inside.failed;
-      renumbered = c.self.inside.renumbered;
-      ahead = c.self.inside.ahead;
-      refusal = c.self.inside.refusal;
-    } in
-    let given = subst (λ (s : Stepping g.row.T.Denot). SettlesAhead (Err c.in-Err.error) c.args.self.now s)
-    (sym c.self.view_is) c.in-Err.ensures.ahead in
-    gives_error g.T.Input.unread c.args.self.now m h inside c.in-Err.error given
+    let unread = g.T.Input.unread in
+    let e = c.in-Err.error in
+    let given = c.in-Err.ensures.ahead in
+    let other = error_other unread c.args.self.now m h c.settle.new.self e given in
+    let is = gives_error unread c.args.self.now m h c.settle.new.self e given in
+    (is.0, subst (λ (s : Stepping g.row.T.Denot). RefusedIn unread s m e) (sym (c.fail.ensures.kept other)) is.1)

@@ -7,11 +7,13 @@ pub returns-then-branch-clause-known : goal.returns-then-branch-clause-known
 returns-then-branch-clause-known g c = λ m going fails.
     let s = c.args.self.now in
     let e = c.args.error in
-    let refused = fails (not_memory e.kind (sym c.wants_memory.ensures ∙ c.if-wants_memory.false)) in
+    let other = not_memory e.kind (sym c.wants_memory.ensures ∙ c.if-wants_memory.false) in
+    let refused = fails other in
     rw c.hold.ensures (
       sym (c.in_ok-ends_before.ensures.known m e refused) ∙ c.if-branch.true,
       refl,
       going,
+      other,
       refused_ahead g.T.Input.unread s m e (Some e) refused,
     )
 

@@ -1,7 +1,7 @@
 use Rattle.std.proofs.Common.{◌≡◌, length, reverse}
 use Rattle.granit_machine.specs.NodeEnds.{under_column}
-use Rattle.granit_frames.specs.StateViews.{frames_view}
-use Rattle.granit_frames.proofs.frames.innermost_column.Given as goal
+use Rattle.granit_nesting.specs.FrameViews.{frames_view}
+use Rattle.granit_nesting.proofs.frames.innermost_column.Given as goal
 
 abbrev pub invariant-frames : goal.invariant-frames
 invariant-frames l = under_column (frames_view (reverse l.rest)) ≡ under_column (frames_view (reverse l.fn.frames))

@@ -1,14 +1,51 @@
 //! The unfinished nodes, but for the properties of one.
 ghost use Rattle.std.specs.Prelude.{◌≡◌, ◌<◌, ◌&&◌, ◌==◌, [], ◌∷◌, reverse, length, drop, IfSome, OnOk};
-ghost use Rattle.granit_frames.specs.StateViews.{pair_view, frames_view, split_view};
 ghost use Rattle.granit_machine.specs.Frames as spec;
 ghost use Rattle.granit_machine.specs.Giving as giving;
 ghost use Rattle.granit_machine.specs.NodeEnds as ends;
+ghost use Rattle.granit_nesting.specs.FrameViews.{pair_view, frames_view, split_view};
 
-use crate::state::{Frame, PairStage};
 use granit_base::NoMemory;
 use std::alloc::Global;
 use std::marker::Model;
+
+/// Where a pair of a mapping stands (YAML 1.2.2, 7.4.2 and 8.2.2).
+#[derive(Clone, Copy, Debug, PartialEq, Eq)]
+pub enum PairStage {
+    /// Before its key.
+    BeforePair,
+    /// At a simple key.
+    AtKey,
+    /// Behind a simple key.
+    BehindKey,
+    /// Behind `?`.
+    AtQuestion,
+    /// Behind the key of a `?`.
+    BehindQuestion,
+    /// Behind `:`.
+    AtValue,
+    /// Behind a node without `:`.
+    BehindAlone,
+    /// Behind its value.
+    BehindPair,
+}
+
+/// An unfinished node.
+#[derive(Clone, Copy, Debug, PartialEq, Eq)]
+pub enum Frame {
+    /// A document whose root must come; whether `---` was written.
+    Root(bool),
+    /// A sequence in a column; whether it stands in the column of its mapping.
+    BlockSequence(usize, bool),
+    /// A mapping in a column.
+    BlockMapping(usize, PairStage),
+    /// A sequence in brackets; whether it stands behind an entry.
+    FlowSequence(bool),
+    /// A mapping in brackets, or the pair that a `:` makes in a sequence.
+    FlowMapping(bool, PairStage),
+    /// The pair that a `?` makes in a sequence.
+    FlowPair(PairStage),
+}
 
 /// The unfinished nodes, the innermost last.
 #[derive(Drop)]
@@ -20,9 +57,9 @@ pub struct Frames {
 
 impl Model for Frames {
     ghost use Rattle.std.specs.Prelude.{◌≡◌, List, reverse};
-    ghost use Rattle.granit_frames.specs.declared.state.Frame.{Frame};
-    ghost use Rattle.granit_frames.specs.StateViews.{frames_view};
     ghost use Rattle.granit_machine.specs.NodeEnds.{block_count};
+    ghost use Rattle.granit_nesting.specs.declared.frames.Frame.{Frame};
+    ghost use Rattle.granit_nesting.specs.FrameViews.{frames_view};
 
     ghost Value = { List Frame };
 
@@ -32,7 +69,8 @@ impl Model for Frames {
 }
 
 impl Frames {
-    pub(crate) fn new(alloc: Global) -> Frames
+    /// None.
+    pub fn new(alloc: Global) -> Frames
         ensures { result ≡ [] }
     {
         Frames {
@@ -42,22 +80,26 @@ impl Frames {
     }
 
     /// How many of them are block collections.
-    pub(crate) fn block_count(&self) -> usize
+    pub fn block_count(&self) -> usize
         ensures { result ≡ ends.block_count (frames_view self.now) }
     {
         self.blocks
     }
 
     /// The innermost one, and those around it.
-    pub(crate) fn split(&self) -> Option<(Frame, &[Frame])>
+    pub fn split(&self) -> Option<(Frame, &[Frame])>
         ensures { self.now ≡ split_view result }
     {
         split_frames(&self.list)
     }
 
     /// One more.
-    #[tactic(auto, using(crate::proofs::FrameLemmas::blocks_fit))]
-    pub(crate) fn push(&mut self, frame: Frame) -> Result<(), NoMemory>
+    ///
+    /// # Errors
+    ///
+    /// `NoMemory` alone.
+    #[tactic(auto, using(crate::proofs::CountLemmas::blocks_fit))]
+    pub fn push(&mut self, frame: Frame) -> Result<(), NoMemory>
         ensures { OnOk result (self.new ≡ frame ∷ self.old) }
     {
         self.list.push(frame)?;
@@ -73,7 +115,7 @@ impl Frames {
     }
 
     /// Without the innermost one.
-    pub(crate) fn pop(&mut self)
+    pub fn pop(&mut self)
         ensures { self.new ≡ drop 1 self.old }
     {
         match self.list.pop() {
@@ -88,7 +130,11 @@ impl Frames {
     }
 
     /// Another one in the place of the innermost.
-    pub(crate) fn replace(&mut self, frame: Frame) -> Result<(), NoMemory>
+    ///
+    /// # Errors
+    ///
+    /// `NoMemory` alone.
+    pub fn replace(&mut self, frame: Frame) -> Result<(), NoMemory>
         ensures { OnOk result (self.new ≡ frame ∷ drop 1 self.old) }
     {
         self.pop();
@@ -96,7 +142,7 @@ impl Frames {
     }
 
     /// Whether a sequence may begin in the column of its mapping (YAML 1.2.2, 8.2.2).
-    pub(crate) fn may_be_indentless(&self, column: usize) -> bool
+    pub fn may_be_indentless(&self, column: usize) -> bool
         ensures { result ≡ ends.may_be_indentless column (frames_view self.now) }
     {
         match self.split() {
@@ -111,14 +157,14 @@ impl Frames {
     }
 
     /// The column that a node must stand right of.
-    pub(crate) fn under_column(&self) -> Option<usize>
+    pub fn under_column(&self) -> Option<usize>
         ensures { result ≡ ends.under_column (frames_view self.now) }
     {
         innermost_column(&self.list)
     }
 
     /// The column that the first event of a key of a block mapping tells, else its own.
-    pub(crate) fn key_indent(&self, own: Option<usize>) -> Option<usize>
+    pub fn key_indent(&self, own: Option<usize>) -> Option<usize>
         ensures { result ≡ giving.key_indent (frames_view self.now) own }
     {
         match self.list.last().copied() {

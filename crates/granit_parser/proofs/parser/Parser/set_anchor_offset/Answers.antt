@@ -1,0 +1,43 @@
+use Rattle.std.proofs.Common.{refl, ap, subst, ◌∙◌}
+use Rattle.granit_parser.proofs.ChangeLemmas.{changed_in, changed_there}
+use Rattle.granit_parser.specs.Parsing.{Parsing}
+use Rattle.granit_stepper.specs.Offset.{with_offset}
+use Rattle.granit_stepper.specs.Stepping.{StandsIn, Stepping}
+use Rattle.granit_steps.specs.Steps.{StepState}
+use Rattle.granit_parser.proofs.parser.Parser.set_anchor_offset.Goals as goal
+
+pub returns-clause-calls : goal.returns-clause-calls
+returns-clause-calls g c = λ calls reached opened none at.
+    let unread = g.T.Input.unread in
+    let p = c.args.self.now in
+    let view = c.self.view_is in
+    let change = with_offset c.args.offset in
+    changed_in unread change p (record {
+      stepper = c.set_anchor_offset.new.self;
+      peeked = c.self.inside.peeked;
+      given = c.self.inside.given;
+      between = c.self.inside.between;
+      over = c.self.inside.over;
+    }) (subst (λ (p : Parsing _). (m : StepState) → StandsIn unread p.stepper m
+    → StandsIn unread c.set_anchor_offset.new.self (change m)) view c.set_anchor_offset.ensures.known)
+    (λ es m. refl) (ap (λ (p : Parsing _). p.peeked) view)
+    (ap (λ (s : Stepping _). s.first) c.set_anchor_offset.ensures.rest ∙ ap (λ (p : Parsing _). p.stepper.first) view)
+    (ap (λ (p : Parsing _). p.between) view) (ap (λ (p : Parsing _). p.over) view) none calls
+    (c.calls_go_by_turns.ensures p.stepper.scanner.options calls reached) opened at
+
+pub returns-clause-there : goal.returns-clause-there
+returns-clause-there g c = λ calls opened unseen stands at.
+    let unread = g.T.Input.unread in
+    let view = c.self.view_is in
+    let change = with_offset c.args.offset in
+    changed_there unread change c.args.self.now (record {
+      stepper = c.set_anchor_offset.new.self;
+      peeked = c.self.inside.peeked;
+      given = c.self.inside.given;
+      between = c.self.inside.between;
+      over = c.self.inside.over;
+    }) (subst (λ (p : Parsing _). (m : StepState) → StandsIn unread p.stepper m
+    → StandsIn unread c.set_anchor_offset.new.self (change m)) view c.set_anchor_offset.ensures.known)
+    (λ es m. refl) (ap (λ (p : Parsing _). p.peeked) view)
+    (ap (λ (s : Stepping _). s.first) c.set_anchor_offset.ensures.rest ∙ ap (λ (p : Parsing _). p.stepper.first) view)
+    (ap (λ (p : Parsing _). p.between) view) (ap (λ (p : Parsing _). p.over) view) calls opened unseen stands at

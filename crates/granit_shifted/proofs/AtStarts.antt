@@ -1,0 +1,186 @@
+-- From a `---` on the text that is left is read as it is alone.
+use Rattle.std.proofs.Common.{◌≡◌, ℕ, suc, ◌≤◌, Bool, true, false, List, [], ◌∷◌, Option, Some, None, Result, Ok, refl}
+use Rattle.std.proofs.Common.{sym, ap, ap₂, ◌∙◌, subst}
+use Rattle.granit_base.specs.Place.{Mark}
+use Rattle.granit_error.specs.OptionsData.{OptionsData}
+use Rattle.granit_lexemes.specs.Here.{Here, mark_of}
+use Rattle.granit_lexemes.specs.Comment.{CommentRead}
+use Rattle.granit_lexemes.specs.Lexeme.{DocumentStart, KeyStart, Lexeme, LexemeKind, Item, OfLexeme}
+use Rattle.granit_lexemes.specs.Source.{Source}
+use Rattle.granit_lexemes.specs.Moves.{steps}
+use Rattle.granit_lexemes.specs.Outcome.{Fault, ◌>>=◌}
+use Rattle.granit_lexemes.specs.Pieces.{then_more, turns, pieces}
+use Rattle.granit_lexemes.specs.PlainEvent.{PlainEvent}
+use Rattle.granit_machine.specs.Closing.{close_turn}
+use Rattle.granit_machine.specs.Frames.{ParserState}
+use Rattle.granit_machine.specs.Parser.{feed}
+use Rattle.granit_machine.specs.Reader.{lex_turn, behind_read}
+use Rattle.granit_machine.specs.ReaderState.{Read}
+use Rattle.granit_restart.proofs.AheadLaws.{turn_next}
+use Rattle.granit_restart.specs.Boundary.{AtStart, is_separated}
+use Rattle.granit_restart.specs.Restart.{at_boundary, dropped, start_found}
+use Rattle.granit_steps.specs.Steps.{StepState, Turn, first_pending, incoming, next_event, step_size, step_turn}
+use Rattle.granit_steps.specs.Steps.{pushed, unflagged, with_read}
+use Rattle.granit_steps.specs.Told.{GivesEvents, told_of}
+use Rattle.granit_shifted.proofs.AloneStates.{seen_first, afresh, gives_from, own_gives}
+use Rattle.granit_shifted.proofs.LineGaps.{Seen, here_at, laid_at}
+use Rattle.granit_shifted.proofs.Outer.{both_fresh, fresh_at}
+use Rattle.granit_shifted.proofs.OuterSteps.{alike, same_reading, gives_alike, reading_at}
+use Rattle.granit_shifted.proofs.StartReads.{marked, start_lexeme, start_read, three_alike}
+use Rattle.granit_shifted.specs.Alone.{TellsAlone, behind_first, shift_to}
+use Rattle.granit_shifted.specs.Shift.{KeptFits, moved_events, moved_fault_of}
+
+-- a `---` was read that ends there
+abbrev pub start_state : ℕ → Here → Lexeme → ParserState → StepState
+start_state number k l p = record {
+  reading = reading_at k (laid_at (suc number) false) None;
+  queue = unflagged (OfLexeme l) ∷ [];
+  parser = p;
+  pending = [];
+}
+
+-- a `---` with that span, whatever else is told of it
+abbrev pub as_start : Lexeme → Source → Lexeme
+as_start y shown = record y { kind = DocumentStart; shown = shown; key = None; tail = None }
+
+as_it_is : (y : Lexeme) (shown : Source) → y.kind ≡ DocumentStart → y.key ≡ None → y.tail ≡ None → y.shown ≡ shown
+    → as_start y shown ≡ y
+as_it_is y shown kind key tail e =
+    ap₂ (λ (kind : LexemeKind) (shown : Source). record y { kind = kind; shown = shown; key = None; tail = None })
+    (sym kind) (sym e)
+    ∙ ap₂ (λ (key : Option KeyStart) (tail : Option CommentRead). record y { key = key; tail = tail }) (sym key)
+    (sym tail)
+
+asked : (b : Bool) (l : Lexeme)
+    → incoming b (OfLexeme (record l { tail = None }) ∷ []) ≡ OfLexeme (record l { tail = None }) ∷ []
+asked true l = refl
+asked false l = refl
+
+module _ (o : OptionsData) where
+  -- all else is of no matter
+  begins_turn : (number : ℕ) (k : Here) (x y : Lexeme) (shown : Source) (p : ParserState) (m : Mark)
+      → step_turn o (start_state number k (as_start x shown) (fresh_at m p))
+      ≡ step_turn o (start_state number k (as_start y shown) (fresh_at m p))
+  unfolding step_turn feed pieces turns close_turn
+  begins_turn number k x y shown p m = refl
+
+  abbrev event_by : ℕ → Turn → Result (Option PlainEvent × StepState) Fault
+  event_by n r = r >>= (λ x. then_more (turns (step_turn o) n) x.0 x.1) >>= λ x. Ok (first_pending x.1.pending x.1)
+
+  begins_next : (number : ℕ) (k : Here) (x y : Lexeme) (shown : Source) (p : ParserState) (m : Mark)
+      → next_event o (start_state number k (as_start x shown) (fresh_at m p))
+      ≡ next_event o (start_state number k (as_start y shown) (fresh_at m p))
+  unfolding next_event pieces turns
+  begins_next number k x y shown p m =
+      ap (event_by (step_size (start_state number k (as_start x shown) (fresh_at m p))))
+      (begins_turn number k x y shown p m)
+
+  -- the text alone reads its `---`
+  own_turn : (number : ℕ) (behind : List ℕ) (offset : Option ℕ) (lends : Bool) (i n : ℕ) (p : ParserState) (m : Mark)
+      → is_separated behind ≡ true
+      → step_turn o (record {
+        reading = reading_at (here_at (marked behind) offset lends i n seen_first) (laid_at number true) None;
+        queue = [];
+        parser = fresh_at m p;
+        pending = [];
+      })
+      ≡ Ok (
+        Some [],
+        start_state number (steps 3 (here_at (marked behind) offset lends i n seen_first))
+            (start_lexeme number (here_at (marked behind) offset lends i n seen_first)) (fresh_at m p),
+      )
+  unfolding step_turn lex_turn
+  own_turn number behind offset lends i n p m e =
+      let h = here_at (marked behind) offset lends i n seen_first in
+      let s : StepState = record {
+        reading = reading_at h (laid_at number true) None;
+        queue = [];
+        parser = fresh_at m p;
+        pending = [];
+      } in
+      ap (λ (r : Read). behind_read r s.reading.reader >>= λ x. Ok (Some [], with_read o s x))
+      (start_read o number behind offset lends i n e)
+      ∙ ap (λ (is : List Item). let x : Turn = Ok (
+        Some [],
+        record {
+          reading = reading_at (steps 3 h) (laid_at (suc number) false) None;
+          queue = pushed [] is;
+          parser = fresh_at m p;
+          pending = [];
+        },
+      ) in x) (asked o.emit_comments (start_lexeme number h))
+
+  -- and it goes on as behind a `---` that was read here
+  abbrev in_first_column : Bool → Option Mark → Seen
+  in_first_column begins tab = record { column = 0; begins_line = begins; tab = tab }
+
+  start_gives : (number : ℕ) (behind : List ℕ) (offset : Option ℕ) (lends : Bool) (i n : ℕ) (begins : Bool)
+      (tab : Option Mark) (p : ParserState) (m : Mark) (es : List PlainEvent) (f : Option Fault)
+      → is_separated behind ≡ true
+      → GivesEvents o (record {
+        reading = reading_at (here_at (marked behind) offset lends i n seen_first) (laid_at number true) None;
+        queue = [];
+        parser = fresh_at m p;
+        pending = [];
+      }) es f
+      → (k : Here) → k ≡ steps 3 (here_at (marked behind) offset lends i n (in_first_column begins tab)) → (last : Mark)
+      → (y : Lexeme) → y.kind ≡ DocumentStart → y.key ≡ None → y.tail ≡ None
+      → y.shown ≡ record {
+        start = mark_of (here_at (marked behind) offset lends i n (in_first_column begins tab));
+        end = mark_of k;
+      }
+      → GivesEvents o (start_state number k y (fresh_at last p)) es f
+  start_gives number behind offset lends i n begins tab p m es f e gives k is last y kind key tail shown =
+      let own = here_at (marked behind) offset lends i n seen_first in
+      let span : Source = record { start = mark_of own; end = mark_of k } in
+      let x : Lexeme = record (start_lexeme number own) { shown = span; end = mark_of k } in
+      let same : steps 3 own ≡ k = three_alike behind offset lends i n seen_first (in_first_column begins tab) refl
+      ∙ sym is in
+      let read = gives_from o _ (start_state number (steps 3 own) (start_lexeme number own) (fresh_at m p)) es f
+      (turn_next o _ _ [] (own_turn number behind offset lends i n p m e)) gives in
+      let moved = subst (λ (k : Here). GivesEvents o (start_state number k (record (start_lexeme number own) {
+        shown = record { start = mark_of own; end = mark_of k };
+        end = mark_of k;
+      }) (fresh_at m p)) es f) same read in
+      let ended = gives_alike o _ (start_state number k x (fresh_at last p)) es f
+      (alike (same_reading _) (both_fresh m last p) _ []) moved in
+      subst (λ (y : Lexeme). GivesEvents o (start_state number k y (fresh_at last p)) es f)
+      (as_it_is y span kind key tail shown)
+      (gives_from o _ _ es f (begins_next number k x y span p last) ended)
+
+  -- ---- a `---` that waits
+
+  pub waits_tells : (s : StepState) (h k : Here) (y : Lexeme) (behind : List ℕ) → 1 ≤ h.place.line → h.place.column ≡ 0
+      → h.unread.text ≡ marked behind → is_separated behind ≡ true
+      → KeptFits o (shift_to s.reading.reader.laid.number h s.parser) → k ≡ steps 3 h → y.kind ≡ DocumentStart
+      → y.key ≡ None → y.tail ≡ None → y.shown ≡ record { start = mark_of h; end = mark_of k }
+      → TellsAlone o h.unread.text (shift_to s.reading.reader.laid.number h s.parser)
+      (start_state s.reading.reader.laid.number k y (dropped s.parser))
+  waits_tells s h k y behind some column text separated fits is kind key tail shown =
+      let number = s.reading.reader.laid.number in
+      let shift = shift_to number h s.parser in
+      let at = λ (text : List ℕ) (column : ℕ). here_at text h.unread.offset h.unread.lends h.place.index h.place.line
+      (record { column = column; begins_line = h.begins_line; tab = h.tab }) in
+      let es = moved_events shift (behind_first (told_of o h.unread.text).0) in
+      let f = moved_fault_of shift (told_of o h.unread.text).1 in
+      let told = subst (λ (text : List ℕ). GivesEvents o (record {
+        reading = reading_at (here_at text h.unread.offset h.unread.lends h.place.index h.place.line seen_first)
+            (laid_at number true) None;
+        queue = [];
+        parser = fresh_at (mark_of (afresh h)) (dropped s.parser);
+        pending = [];
+      }) es f) text (own_gives o number h s.parser some fits) in
+      let there : h ≡ at (marked behind) 0 = ap₂ at text column in
+      start_gives number behind h.unread.offset h.unread.lends h.place.index h.place.line h.begins_line h.tab
+      (dropped s.parser) (mark_of (afresh h)) es f separated told k (is ∙ ap (steps 3) there) s.parser.last_end y kind
+      key tail (shown ∙ ap (λ (h : Here). let span : Source = record { start = mark_of h; end = mark_of k } in span)
+      there)
+
+  -- ---- the boundary
+
+  pub start_tells : (s : StepState) (h : Here) (behind : List ℕ) → 1 ≤ h.place.line → h.place.column ≡ 0
+      → h.unread.text ≡ marked behind → is_separated behind ≡ true
+      → KeptFits o (shift_to s.reading.reader.laid.number h s.parser)
+      → TellsAlone o h.unread.text (shift_to s.reading.reader.laid.number h s.parser) (at_boundary s (AtStart h)).1
+  start_tells s h behind some column text separated fits =
+      waits_tells s h (steps 3 h) (start_found h s) behind some column text separated fits refl refl refl refl refl

@@ -1,0 +1,6 @@
+pub mod Alone
+pub mod Found
+pub mod Led
+pub mod Moved
+pub mod MovedLines
+pub mod Shift
