@@ -8,6 +8,7 @@ pub mod LedLaws
 pub mod LineGaps
 pub mod StartWaits
 pub mod StartsRead
+pub mod MovedBlocks
 pub mod MovedEvents
 pub mod MovedLaid
 pub mod MovedLexemes

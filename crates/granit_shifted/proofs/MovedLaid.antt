@@ -33,7 +33,8 @@ use Rattle.granit_shifted.specs.Shift.{moved_bracket, moved_laid, moved_reader, 
 use Rattle.granit_shifted.specs.Shift.{moved_possible_key}
 use Rattle.granit_shifted.proofs.Sums.{sum_lt, sum_lt_more, sum_eq_suc, sum_more}
 use Rattle.granit_shifted.proofs.MovedLexemes.{Same, same_ok, same_no, same_if, same_then, same_at, step_moved}
-use Rattle.granit_shifted.proofs.MovedLexemes.{offset_moved, break_moved, if_here, on_comment, comment_same, itself}
+use Rattle.granit_shifted.proofs.MovedBlocks.{itself}
+use Rattle.granit_shifted.proofs.MovedLexemes.{offset_moved, break_moved, if_here, on_comment, comment_same}
 
 module _ (shift : Shift) where
   -- ---- brackets and keys

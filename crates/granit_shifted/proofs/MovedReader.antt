@@ -66,8 +66,9 @@ use Rattle.granit_shifted.specs.Shift.{moved_possible_key}
 use Rattle.granit_shifted.proofs.Sums.{sum_suc}
 use Rattle.granit_shifted.proofs.MovedLexemes.{Same, same_ok, same_no, same_if, same_then, same_at, step_moved}
 use Rattle.granit_shifted.proofs.MovedLexemes.{steps_moved, past_moved, on_here, on_comment, on_tail, comment_same}
-use Rattle.granit_shifted.proofs.MovedLexemes.{tail_same, on_plain, plain_same, on_quoted, quoted_same, on_given}
-use Rattle.granit_shifted.proofs.MovedLexemes.{block_same, itself, same_then_from}
+use Rattle.granit_shifted.proofs.MovedBlocks.{block_same, itself, on_given}
+use Rattle.granit_shifted.proofs.MovedLexemes.{tail_same, on_plain, plain_same, on_quoted, quoted_same}
+use Rattle.granit_shifted.proofs.MovedLexemes.{same_then_from}
 use Rattle.granit_shifted.proofs.MovedTags.{tag_same, name_same, on_directive, directive_same, on_name}
 use Rattle.granit_shifted.proofs.MovedLaid.{flow_moved, top_moved, forgets_moved, drop_same, stale_same, allowed_moved}
 use Rattle.granit_shifted.proofs.MovedLaid.{noded_moved, far_moved, layout_moved, entry_same, pair_same}

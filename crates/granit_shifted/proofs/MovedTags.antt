@@ -28,7 +28,8 @@ use Rattle.granit_lexemes.specs.Tags.{behind_verbatim, behind_handle, short_tag,
 use Rattle.granit_shifted.specs.Shift.{moved_mark, moved_source, moved_here, moved_tail, Shift, moved_text}
 use Rattle.granit_shifted.proofs.MovedLexemes.{Same, same_ok, same_no, same_if, same_then, same_at, on_state}
 use Rattle.granit_shifted.proofs.MovedLexemes.{pieces_same, step_moved, steps_moved, past_moved, if_here, on_here}
-use Rattle.granit_shifted.proofs.MovedLexemes.{on_tail, some_comment, tail_same, itself}
+use Rattle.granit_shifted.proofs.MovedBlocks.{itself}
+use Rattle.granit_shifted.proofs.MovedLexemes.{on_tail, some_comment, tail_same}
 
 module _ (shift : Shift) where
   -- ---- escapes
