@@ -4,7 +4,7 @@
 # run past a second a megabyte for each way.
 # usage: bench/fuzz.sh SECONDS OTHER_PROGRAM [FOUND_FILE [SEED [PROGRAM]]]
 #   OTHER_PROGRAM batch events WORDS..  reads a JSON string a line, and writes a line {"status": NUMBER, "out": TEXT} for each
-#   PROGRAM                             the built granit_hostile_cases; without it, it is built first
+#   PROGRAM                             the built granit_cases; without it, it is built first
 set -eu
 seconds="${1:?usage: bench/fuzz.sh SECONDS OTHER_PROGRAM [FOUND_FILE [SEED [PROGRAM]]]}"
 other="${2:?usage: bench/fuzz.sh SECONDS OTHER_PROGRAM [FOUND_FILE [SEED [PROGRAM]]]}"
@@ -13,9 +13,9 @@ seed="${4:-1}"
 top="$(cd "$(dirname "${BASH_SOURCE[0]}")/.." && pwd)"
 program="${5:-}"
 if [ -z "$program" ]; then
-    folder="$top/crates/granit_hostile_cases"
+    folder="$top/crates/granit_cases"
     (cd "$folder" && rt run </dev/null >/dev/null)
-    program="$(find "$folder/out" -maxdepth 3 -type f -name granit_hostile_cases -perm -u+x | head -n 1)"
+    program="$(find "$folder/out" -maxdepth 3 -type f -name granit_cases -perm -u+x | head -n 1)"
 fi
 exec python3 - "$seconds" "$other" "$found" "$seed" "$program" "$top/crates" <<'PYTHON'
 import hashlib, json, random, re, resource, subprocess, sys, time
@@ -33,8 +33,10 @@ LIMITS = ['max-comments', 'key-lookahead', 'flow-limit', 'block-limit', 'directi
 def stored():
     """The texts of the stored cases."""
     texts = []
-    for crate in ('granit_cases', 'granit_load_cases', 'granit_scan_cases'):
+    for crate in ('granit_cases', 'granit_token_cases'):
         for line in open(f'{crates}/{crate}/stdin', encoding='utf-8'):
+            if not line.startswith(('run\t', 'loads\t', 'recovery\t', 'tokens\t')):
+                continue
             text = json.loads(line.rstrip('\n').split('\t')[-1])
             if text and len(text) < 20_000:
                 texts.append(text)
@@ -107,7 +109,7 @@ def mutant(texts):
 
 def ours(words, texts):
     """A line for each text; `ended` where the program didn't end by itself, or took too long."""
-    lines = ''.join(f'events {words}\t{json.dumps([text])}\n' for text in texts).encode()
+    lines = ''.join(f'hostile\tevents {words}\t{json.dumps([text])}\n' for text in texts).encode()
     most = 3 + 4 * len(lines) // 1_000_000
     limit = lambda: resource.setrlimit(resource.RLIMIT_CPU, (most, most + 1))
     ran = subprocess.run([program], input=lines, stdout=subprocess.PIPE, stderr=subprocess.DEVNULL, preexec_fn=limit)

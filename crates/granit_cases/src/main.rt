@@ -1,47 +1,46 @@
-//! Runs each case of standard input, the words of the program and a text as a JSON string on a line with a tab between,
-//! and prints what the program prints for it and the status. The stored lines are those of the original with the
-//! differences of docs/DIFFERENCES.md built in, and those of `selftest` are of another program, never of this one.
+//! Answers each case of standard input, a line that begins with its kind and a tab: a run of the program (`run`), the
+//! three loads (`loads`), recovery behind each fault (`recovery`), a hostile text in every way that a text is read
+//! (`hostile`), the canonical texts of trees (`trees`). The stored answers are those of the original with the
+//! differences of docs/DIFFERENCES.md built in, and those of `selftest` and of trees are of other programs, never of
+//! this one.
 #![tactic(auto)]
 
+mod hostile;
+mod lines;
+mod loads;
+mod options;
+mod outcome;
+mod recovery;
+mod runs;
+mod texts;
+mod trees;
+
 use anyhow::{Context, Result};
-use granit_base::{OwnedText, TextList};
-use granit_events::{PlainSource, WriteSink, run};
-use serde_json::Value;
 use std::alloc::Global;
 use std::io::{BufRead, BufReader};
 
-/// The words of a case.
-fn case_words(alloc: Global, line: &str) -> Result<TextList> {
-    let mut words = TextList::new(alloc);
-    for word in line.split_whitespace() {
-        OwnedText::from_str(alloc, word)
-            .and_then(|word| words.push(word))
-            .ok()
-            .context("no memory for a word")?;
+/// What is printed of a case.
+fn answer(alloc: Global, kind: &str, case: &str) -> Result<String> {
+    match kind {
+        "hostile" => hostile::answer(alloc, case),
+        "loads" => loads::answer(alloc, case),
+        "recovery" => recovery::answer(alloc, case),
+        "run" => runs::answer(alloc, case),
+        "trees" => trees::answer(alloc, case),
+        _ => None.context("a case begins with its kind"),
     }
-    Ok(words)
-}
-
-/// The text of a case.
-fn case_text(alloc: Global, line: &str) -> Result<Vec<u8>> {
-    let value = Value::from_str(alloc, line).context("reading a case")?;
-    let text = value.as_str().context("a case is a string")?;
-    Ok(Vec::from_slice(alloc, text.as_bytes())?)
 }
 
 fn main(rt: HostRuntime) -> Result<()> {
     let alloc = rt.alloc();
     for line in BufReader::new(alloc, rt.reader())?.lines(alloc) {
         let line = line?;
-        let (words, text) = line
+        let (kind, case) = line
             .as_str()
             .split_once('\t')
-            .context("a case is words and a text")?;
-        let words = case_words(alloc, words)?;
-        let mut source = PlainSource::new(case_text(alloc, text)?);
-        let mut sink = WriteSink::new(rt.stdout());
-        let status = run(alloc, &words, &mut source, &mut sink).code();
-        println!(rt; "status {status}")?;
+            .context("a case is its kind and what to do")?;
+        let said = answer(alloc, kind, case)?;
+        println!(rt; "{said}")?;
     }
     Ok(())
 }

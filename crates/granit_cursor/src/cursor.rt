@@ -154,8 +154,7 @@ impl<T: Input> Cursor<T> {
         }
         let c = self.input.peek();
         let breaks = ends_line(&self.input);
-        let tab = self.tab_behind(c, breaks);
-        self.tab = tab;
+        self.note_tab(c, breaks);
         self.begins_line = breaks || is_quiet(c) && self.begins_line;
         self.input.skip();
         self.index += 1;
@@ -167,19 +166,21 @@ impl<T: Input> Cursor<T> {
         }
     }
 
-    /// The first tab of the blanks before the next place, by the character between.
+    /// Keeps the first tab of the blanks before the next place, by the character between.
     #[tactic(auto, unfolding(granit_lexemes::specs::Here::tab_behind))]
-    fn tab_behind(&self, c: char, breaks: bool) -> Option<Marker>
-        ensures { (h : Here) → Stands T.unread self.now h → c ≡ next_char h
-            → breaks ≡ place.ends_line h.unread.text → result ≡ spec.tab_behind h }
+    fn note_tab(&mut self, c: char, breaks: bool)
+        ensures same { self.new ≡ record self.old { tab = self.new.tab } }
+        ensures tab { (h : Here) → Stands T.unread self.old h → c ≡ next_char h
+            → breaks ≡ place.ends_line h.unread.text → self.new.tab ≡ spec.tab_behind h }
     {
         if breaks || !is_quiet(c) {
-            return None;
+            self.tab = None;
+            return;
         }
-        if c == '\t' {
-            return Some(self.first_tab());
+        if c == '\t' && self.tab.is_none() {
+            let mark = self.mark();
+            self.tab = Some(mark);
         }
-        self.tab
     }
 
     /// The first tab of the blanks before the next place, where the next character is a tab.
@@ -253,7 +254,7 @@ impl<T: Input> Cursor<T> {
         self.index += taken;
         self.col += taken;
         self.begins_line = still_begins(self.begins_line, taken);
-        self.tab = still_tab(self.tab, taken);
+        drop_tab(&mut self.tab, taken);
         Ok((ended, taken))
     }
 
@@ -270,7 +271,7 @@ impl<T: Input> Cursor<T> {
         self.index += taken;
         self.col += taken;
         self.begins_line = still_begins(self.begins_line, taken);
-        self.tab = still_tab(self.tab, taken);
+        drop_tab(&mut self.tab, taken);
         (ended, taken)
     }
 
@@ -291,7 +292,7 @@ impl<T: Input> Cursor<T> {
                 self.index += taken;
                 self.col += taken;
                 self.begins_line = still_begins(self.begins_line, taken);
-                self.tab = still_tab(self.tab, taken);
+                drop_tab(&mut self.tab, taken);
                 match self.source_since(start) {
                     Some(text) => (text, taken),
                     None => ("", taken),
@@ -313,7 +314,7 @@ impl<T: Input> Cursor<T> {
         self.index += taken;
         self.col += taken;
         self.begins_line = still_begins(self.begins_line, taken);
-        self.tab = still_tab(self.tab, taken);
+        drop_tab(&mut self.tab, taken);
         taken
     }
 
@@ -328,7 +329,7 @@ impl<T: Input> Cursor<T> {
         self.index += taken;
         self.col += taken;
         self.begins_line = still_begins(self.begins_line, taken);
-        self.tab = still_tab(self.tab, taken);
+        drop_tab(&mut self.tab, taken);
         taken
     }
 
@@ -349,7 +350,7 @@ impl<T: Input> Cursor<T> {
         self.index += taken;
         self.col += taken;
         self.begins_line = still_begins(self.begins_line, taken);
-        self.tab = still_tab(self.tab, taken);
+        drop_tab(&mut self.tab, taken);
         Ok(taken)
     }
 
@@ -365,7 +366,7 @@ impl<T: Input> Cursor<T> {
         self.index += taken;
         self.col += taken;
         self.begins_line = still_begins(self.begins_line, taken);
-        self.tab = still_tab(self.tab, taken);
+        drop_tab(&mut self.tab, taken);
         taken
     }
 
@@ -386,7 +387,7 @@ impl<T: Input> Cursor<T> {
         self.index += taken;
         self.col += taken;
         self.begins_line = still_begins(self.begins_line, taken);
-        self.tab = still_tab(self.tab, taken);
+        drop_tab(&mut self.tab, taken);
         Ok(taken)
     }
 
@@ -425,7 +426,7 @@ impl<T: Input> Cursor<T> {
         self.index += taken;
         self.col += taken;
         self.begins_line = still_begins(self.begins_line, taken);
-        self.tab = still_tab(self.tab, taken);
+        drop_tab(&mut self.tab, taken);
         Ok(taken)
     }
 
@@ -445,7 +446,7 @@ impl<T: Input> Cursor<T> {
         self.index += taken;
         self.col += taken;
         self.begins_line = still_begins(self.begins_line, taken);
-        self.tab = still_tab(self.tab, taken);
+        drop_tab(&mut self.tab, taken);
         Ok(taken)
     }
 
@@ -572,9 +573,11 @@ fn still_begins(begins_line: bool, taken: usize) -> bool
     begins_line && taken == 0
 }
 
-/// The tab directly before the place, behind so many characters that are neither blanks nor breaks.
-fn still_tab(tab: Option<Marker>, taken: usize) -> Option<Marker>
-    ensures { result ≡ (if taken == 0 then tab else None) }
+/// No tab stands directly behind characters, so many of them, that are neither blanks nor breaks.
+fn drop_tab(tab: &mut Option<Marker>, taken: usize)
+    ensures { tab.new ≡ (if taken == 0 then tab.old else None) }
 {
-    if taken == 0 { tab } else { None }
+    if taken > 0 {
+        *tab = None;
+    }
 }

@@ -1,8 +1,6 @@
-//! Each call once, and what no clause says.
+//! Places, comments and tokens, and what no clause says; what runs take stands in granit_token_cases.
 use granit_base::{Marker, OwnedText, Placement, Span, Text, TextList};
-use granit_cursor::{
-    Comment, Cursor, Token, TokenType, past_blanks, past_break, scan_comment, skip_comment,
-};
+use granit_cursor::{Comment, Cursor, Token, TokenType, past_blanks, scan_comment, skip_comment};
 use granit_error::ScanError;
 use granit_input::{Input, StrInput};
 use std::alloc::Global;
@@ -11,13 +9,6 @@ use std::test::Fail;
 
 /// A line and a column, whether the line begins there, and the index of the tab before it.
 type Told = (usize, usize, bool, Option<usize>);
-
-/// The character behind the next, over any input.
-fn second<T: Input>(cursor: &mut Cursor<T>) -> char {
-    cursor.look(4);
-    cursor.step();
-    cursor.input().peek()
-}
 
 /// Over the byte-order mark that stands here, where one does.
 fn skip_mark<T: Input>(cursor: &mut Cursor<T>) -> bool {
@@ -92,138 +83,6 @@ fn cursors_tell_their_place(rt: HostRuntime) {
         places(),
         (true, (1, 0, true, None), [first, then], (Some(13), true))
     );
-}
-
-/// Blanks are passed: how many, and where they end.
-fn blanks<T: Input>(cursor: &mut Cursor<T>) -> (usize, Told) {
-    let count = cursor.skip_while_blank();
-    (count, told(cursor))
-}
-
-/// A chunk of a plain scalar is taken: what that answers, and where it ends.
-fn chunk<T: Input>(
-    cursor: &mut Cursor<T>,
-    out: &mut String,
-) -> Result<((bool, usize), Told), Fail> {
-    let fetched = cursor.fetch_plain_scalar_chunk(out, 16, false)?;
-    Ok((fetched, told(cursor)))
-}
-
-/// The rest of a line is taken, and then that of a line of a block scalar.
-fn rests<T: Input>(cursor: &mut Cursor<T>, out: &mut String) -> Result<(usize, usize), Fail> {
-    let line = cursor.fetch_while_non_breakz(out)?;
-    Ok((line, cursor.fetch_block_scalar_line(out)?))
-}
-
-/// Runs of a line, one behind the other.
-fn line_runs(
-    cursor: &mut Cursor<StrInput<'_>>,
-    out: &mut String,
-) -> Result<((usize, Told), ((bool, usize), Told), char, (usize, usize)), Fail> {
-    Ok((
-        blanks(cursor),
-        chunk(cursor, out)?,
-        second(cursor),
-        rests(cursor, out)?,
-    ))
-}
-
-#[test]
-fn cursors_take_runs_of_a_line(rt: HostRuntime) -> Result<(), Fail> {
-    let mut out = String::new(rt.alloc());
-    let mut cursor = Cursor::new(StrInput::new(" \t \tab: c\u{7f}d\r\n"));
-    let runs = line_runs(&mut cursor, &mut out)?;
-    let wanted = (
-        (4, (1, 4, true, Some(1))),
-        ((true, 2), (1, 6, false, None)),
-        ' ',
-        (2, 2),
-    );
-    assert_eq!(rt; (runs, out.as_str()), (wanted, "ab c\u{7f}d"));
-    Ok(())
-}
-
-/// A break and blanks are passed; where they end.
-fn indented<T: Input>(cursor: &mut Cursor<T>) -> Told {
-    past_break(cursor);
-    past_blanks(cursor);
-    told(cursor)
-}
-
-/// Letters are taken.
-fn letters<T: Input>(cursor: &mut Cursor<T>, out: &mut String) -> Result<usize, Fail> {
-    Ok(cursor.fetch_while_is_alpha(out)?)
-}
-
-/// What is no blank is taken; how much it is, and where it ends.
-fn no_blanks<T: Input>(cursor: &mut Cursor<T>, out: &mut String) -> Result<(usize, Told), Fail> {
-    let count = cursor.fetch_while_is_yaml_non_space(out)?;
-    Ok((count, told(cursor)))
-}
-
-/// Runs of a class, one behind the other.
-fn class_runs(
-    cursor: &mut Cursor<StrInput<'_>>,
-    out: &mut String,
-) -> Result<(Told, usize, (bool, usize), (usize, Told)), Fail> {
-    Ok((
-        indented(cursor),
-        letters(cursor, out)?,
-        cursor.skip_plain_scalar_chunk(1, true),
-        no_blanks(cursor, out)?,
-    ))
-}
-
-#[test]
-fn cursors_take_runs_of_a_class(rt: HostRuntime) -> Result<(), Fail> {
-    let mut out = String::new(rt.alloc());
-    let mut cursor = Cursor::new(StrInput::new("\r\n  x_é!"));
-    let wanted = ((2, 2, true, None), 2, (false, 1), (1, (2, 6, false, None)));
-    assert_eq!(rt; class_runs(&mut cursor, &mut out)?, wanted);
-    Ok(())
-}
-
-/// Whether a run of quoted characters is lent as that text, of so many characters.
-fn lends(cursor: &mut Cursor<StrInput<'_>>, single: bool, text: &str, count: usize) -> bool {
-    let (lent, taken) = cursor.take_quoted_scalar_chunk(single);
-    lent == text && taken == count
-}
-
-/// Three runs of quoted characters, the byte offset behind the first, and where the last ends.
-fn quoted() -> ([bool; 3], Option<usize>, Told) {
-    let mut cursor = Cursor::new(StrInput::new("éa'b c\\d\"\n"));
-    let first = lends(&mut cursor, true, "éa", 2);
-    let offset = cursor.mark().byte_offset();
-    let second = lends(&mut cursor, false, "'b", 2);
-    let third = lends(&mut cursor, false, "", 0);
-    ([first, second, third], offset, told(&cursor))
-}
-
-#[test]
-fn cursors_take_words_of_plain_scalars(rt: HostRuntime) {
-    let mut out = String::new(rt.alloc());
-    let mut cursor = Cursor::new(StrInput::new("a b: c d #"));
-    let skipped = cursor.skip_plain_words(false);
-    cursor.step();
-    let fetched = cursor.fetch_plain_words(&mut out, false).ok();
-    let seen = (skipped, fetched, out.as_str(), told(&cursor));
-    assert_eq!(rt; seen, (3, Some(4), " c d", (1, 8, false, None)));
-}
-
-#[test]
-fn cursors_take_words_of_quoted_scalars(rt: HostRuntime) {
-    let mut out = String::new(rt.alloc());
-    let mut cursor = Cursor::new(StrInput::new("é b' c\" d\\  "));
-    let skipped = cursor.skip_quoted_words(false);
-    cursor.step();
-    let fetched = cursor.fetch_quoted_words(&mut out, true).ok();
-    let seen = (skipped, fetched, out.as_str(), told(&cursor));
-    assert_eq!(rt; seen, (6, Some(3), " d\\", (1, 10, false, None)));
-}
-
-#[test]
-fn cursors_lend_runs_of_quoted_characters(rt: HostRuntime) {
-    assert_eq!(rt; quoted(), ([true; 3], Some(3), (1, 4, false, None)));
 }
 
 /// The comment that begins here, where one does.

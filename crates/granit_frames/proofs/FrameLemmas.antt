@@ -86,3 +86,6 @@ same_frames o q kind source indent p =
 
 -- frames without properties
 pub ruleset bare_frames = (no_properties_below, no_properties_on)
+
+-- frames where a node begins
+pub ruleset at_node = (same_frames, no_properties_below, no_properties_on, none_on_top)

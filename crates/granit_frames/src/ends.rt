@@ -44,9 +44,9 @@ impl<'input> ParserState<'input> {
     fn drop_top(&mut self)
         ensures { self.new ≡ record self.old { frames = ends.below self.old.frames } }
     {
-        match self.properties.take() {
+        match &self.properties {
             None => self.frames.pop(),
-            Some(_) => {}
+            Some(_) => self.properties = None,
         }
     }
 
@@ -55,9 +55,12 @@ impl<'input> ParserState<'input> {
         ensures leaves { OnOk result (self.new ≡ ends.with_top (frame_view frame) self.old) }
         ensures kept { self.new.kept ≡ self.old.kept }
     {
-        match self.properties.take() {
+        match &self.properties {
             None => self.frames.replace(frame),
-            Some(_) => self.frames.push(frame),
+            Some(_) => {
+                self.properties = None;
+                self.frames.push(frame)
+            }
         }
     }
 

@@ -27,12 +27,24 @@ impl<'input> ParserState<'input> {
             ≡ record self.old { given = self.old.given ++ plain_event (event.entry, span) ∷ [] }) }
         ensures kept { self.new.kept ≡ self.old.kept }
     {
-        self.given.push_back((event, span))?;
+        self.given.reserve(1)?;
+        self.given.push_back_reserved((event, span));
         Ok(())
     }
 
     /// Gives the held comments.
     pub fn flush(&mut self) -> Result<(), NoMemory>
+        ensures leaves { OnOk result (self.new ≡ giving.flush self.old) }
+        ensures kept { self.new.kept ≡ self.old.kept }
+    {
+        match &self.waiting {
+            None => Ok(()),
+            Some(_) => self.flush_held(),
+        }
+    }
+
+    /// The same where something waits, which seldom is so.
+    fn flush_held(&mut self) -> Result<(), NoMemory>
         ensures leaves { OnOk result (self.new ≡ giving.flush self.old) }
         ensures kept { self.new.kept ≡ self.old.kept }
     {
@@ -59,8 +71,12 @@ impl<'input> ParserState<'input> {
         ensures leaves { OnOk result (self.new ≡ giving.give (plain_event (event.entry, span)) self.old) }
         ensures kept { self.new.kept ≡ self.old.kept }
     {
+        // no call between: each would copy the event twice
         self.flush()?;
-        self.put(event, span)
+        self.last_end = span.end;
+        self.given.reserve(1)?;
+        self.given.push_back_reserved((event, span));
+        Ok(())
     }
 
     /// Gives an empty node behind the held comments.
@@ -120,6 +136,42 @@ fn bearing<'input>(event: Event<'input>, number: usize, tag: Option<Tag>) -> Eve
         Event::SequenceEnd => Event::SequenceEnd,
         Event::MappingStart(style, _, _) => Event::MappingStart(style, number, tag),
         Event::MappingEnd => Event::MappingEnd,
+    }
+}
+
+/// The event without an anchor and a tag.
+fn bear_none(event: &mut Event<'_>)
+    ensures { event_kind event.new ≡ bears (event_kind event.old) 0 None }
+{
+    match event {
+        Event::Scalar(_, _, number, _) => *number = 0,
+        Event::SequenceStart(_, number, _) => *number = 0,
+        Event::MappingStart(_, number, _) => *number = 0,
+        Event::StreamStart => {}
+        Event::StreamEnd => {}
+        Event::DocumentStart(_, _) => {}
+        Event::DocumentEnd => {}
+        Event::Alias(_) => {}
+        Event::Anchor(_, _) => {}
+        Event::UnresolvedAlias(_) => {}
+        Event::Comment(_, _) => {}
+        Event::SequenceEnd => {}
+        Event::MappingEnd => {}
+    }
+    match event {
+        Event::Scalar(_, _, _, tag) => *tag = None,
+        Event::SequenceStart(_, _, tag) => *tag = None,
+        Event::MappingStart(_, _, tag) => *tag = None,
+        Event::StreamStart => {}
+        Event::StreamEnd => {}
+        Event::DocumentStart(_, _) => {}
+        Event::DocumentEnd => {}
+        Event::Alias(_) => {}
+        Event::Anchor(_, _) => {}
+        Event::UnresolvedAlias(_) => {}
+        Event::Comment(_, _) => {}
+        Event::SequenceEnd => {}
+        Event::MappingEnd => {}
     }
 }
 
@@ -243,7 +295,7 @@ impl<'input> ParserState<'input> {
     }
 
     /// A node's first event with its properties, and its anchor's event.
-    #[tactic(auto, unfolding(granit_machine::specs::Giving::node_event), using(crate::proofs::FrameLemmas::same_frames))]
+    #[tactic(auto, unfolding(granit_machine::specs::Giving::node_event), using(crate::proofs::FrameLemmas::at_node))]
     pub fn node_event(
         &mut self,
         options: &Options,
@@ -257,7 +309,32 @@ impl<'input> ParserState<'input> {
         ensures bare { OnOk result (has_properties self.new.frames ≡ false) }
         ensures kept { self.new.kept ≡ self.old.kept }
     {
-        let properties = self.take_properties(end);
-        self.node_event_by(options, properties, event, start, end, indent)
+        match &self.properties {
+            None => self.bare_event(event, start, end, indent),
+            Some(_) => {
+                let properties = self.take_properties(end);
+                self.node_event_by(options, properties, event, start, end, indent)
+            }
+        }
+    }
+
+    /// A node's first event, where no properties stand before it.
+    fn bare_event(
+        &mut self,
+        mut event: Event<'input>,
+        start: Marker,
+        end: Marker,
+        indent: Option<usize>,
+    ) -> Result<(), NoMemory>
+        ensures leaves { OnOk result (self.new ≡ giving.give (record {
+          kind = bears (event_kind event.entry) 0 None;
+          span = giving.span_with_tag None (record { start = start; end = end })
+              (giving.key_indent self.old.frames indent);
+        }) self.old) }
+        ensures kept { self.new.kept ≡ self.old.kept }
+    {
+        let column = self.key_indent(indent);
+        bear_none(&mut event);
+        self.give(event, Span::new(start, end).with_indent(column))
     }
 }

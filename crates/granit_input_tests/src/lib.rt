@@ -1,7 +1,10 @@
-//! Tests of granit_input by its public calls, and a second input: a stream that reads ahead and tells no offset.
+//! Tests of granit_input and granit_buffered by their public calls, and a second input: a stream that reads ahead and
+//! tells no offset.
 #![tactic(auto)]
 
 #[cfg(test)]
 mod calls;
+#[cfg(test)]
+mod iterators;
 #[cfg(test)]
 mod stream;

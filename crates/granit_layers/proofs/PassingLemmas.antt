@@ -9,8 +9,8 @@ use Rattle.granit_event.specs.declared.event.Event.{Event}
 use Rattle.granit_layers.proofs.NestedLemmas.{one_document}
 use Rattle.granit_layers.specs.Kinds.{StepsAny}
 use Rattle.granit_layers.specs.Nested.{IsOneDocument, given_above, given_from, those_through}
-use Rattle.granit_layers.specs.Passing.{StackRun, GivesBelow, GivesFirstOf, Passes, ReplayComesThrough, Replays, Turns}
-use Rattle.granit_layers.specs.Passing.{giving_turn, held, no_call, no_turn, one_call, quiet_turn}
+use Rattle.granit_layers.specs.Passing.{StackRun, GivesBelow, GivesFirstOf, LooksAreTurns, Passes, ReplayComesThrough}
+use Rattle.granit_layers.specs.Passing.{Replays, Turns, giving_turn, held, no_call, no_turn, one_call, quiet_turn}
 use Rattle.granit_layers.specs.Stacking.{Answer, ComesNext, ComesOf, Stack, TurnsOnce, TurnsTo, Uncovers, Withheld}
 use Rattle.granit_layers.specs.Stacking.{layer_of, none_yet, one_more}
 use Rattle.granit_layers.specs.Turning.{Next, ended_behind, turn_of}
@@ -59,7 +59,9 @@ module _ {S : Type 0} (steps : S → Next → S → Type 0) (offset : S → ℕ)
   comes_turns None None old new e none (x, is, inl turns) =
       let same : x ≡ Ok e = cc in subst (λ (a : Answer). TurnsTo steps offset sets emits old a new) same turns
   comes_turns None None old new e none (x, is, inr out) =
-      let h = out.1 in let same : ◌≡◌ {A = Option Answer} (Some (Ok e)) (Some (Err out.0)) = is ∙ ap Some h in absurd cc
+      let h = out.refused in
+      let same : ◌≡◌ {A = Option Answer} (Some (Ok e)) (Some (Err out.error)) = is ∙ ap Some h in
+      absurd cc
   comes_turns None (Some x) old new e none comes = let h = comes.0 in absurd cc
   comes_turns (Some y) end old new e none comes = absurd cc
 
@@ -195,7 +197,7 @@ module _ {S : Type 0} (steps : S → Next → S → Type 0) (offset : S → ℕ)
   emits_on emits now old new xs same turns = subst (λ b. Turns steps offset sets b old xs new) same turns
 
   -- steps of a stack at which nothing was looked at are turns
-  calls_turn : (p q : Stack S) (xs : Events) → p.peeked ≡ None → StackRun steps offset sets p xs q
+  pub calls_turn : (p q : Stack S) (xs : Events) → p.peeked ≡ None → StackRun steps offset sets p xs q
       → Turns steps offset sets p.emits_comments p.layers xs q.layers
   calls_turn p q xs none no_call = no_turn
   calls_turn p q xs none (one_call {mid = mid} {e = e} {es = es} step more) =
@@ -204,6 +206,25 @@ module _ {S : Type 0} (steps : S → Next → S → Type 0) (offset : S → ℕ)
       behind_withheld steps offset sets p.emits_comments p.layers t.0 q.layers (e ∷ es) t.1
       (giving_turn t.2 (emits_on p.emits_comments mid.emits_comments mid.layers q.layers es step.emits_comments
       (calls_turn mid q es step.peeked more)))
+
+  -- what was looked at comes next, of whatever end
+  seen_next : (emits : Bool) (peeked : Option Answer) (end : Option (Result (Unit {0}) Refused)) (x : Answer)
+      (old new : List (Layer S)) (r : Option Answer) → peeked ≡ Some x
+      → ComesNext steps offset sets emits peeked end old r new → (r ≡ Some x) × (new ≡ old)
+  seen_next emits None end x old new r is comes = absurd cc
+  seen_next emits (Some y) end x old new r is comes = (comes.0 ∙ is, comes.1)
+
+  -- so are looks
+  pub looks_turn : LooksAreTurns steps offset sets
+  looks_turn p q t e r none look step =
+      let turns =
+      comes_turns steps offset sets p.emits_comments p.peeked p.end p.layers q.layers e none look.gives in
+      let next = seen_next q.emits_comments q.peeked q.end (Ok e) q.layers t.layers r look.peeked step.gives in (
+        behind_withheld steps offset sets p.emits_comments p.layers turns.0 q.layers (e ∷ []) turns.1
+            (giving_turn turns.2 no_turn),
+        next.0,
+        next.1,
+      )
 
   module _ (again : Replay → S) (replays : Replays steps again) where
     -- where nothing was looked at

@@ -2,9 +2,10 @@
 use Rattle.std.proofs.Common.{◌≡◌, ◌∙◌, ℕ, ◌+◌, ◌<◌, List, [], ◌∷◌, ◌++◌, length, drop, get_or, Option, Some, None}
 use Rattle.std.proofs.Common.{refl, sym}
 use Rattle.std.proofs.Common.{ap, subst, Bool, true, false, ◌==◌, inl, inr, Result, rules, tests}
-use Rattle.std.proofs.Common.{if◌then◌else◌}
+use Rattle.std.proofs.Common.{Err, if◌then◌else◌}
 use Rattle.std.proofs.lemmas.List.{at_drop_more}
 use Rattle.std.specs.Prelude.{is_some}
+use Rattle.granit_base.specs.Counts.{last_count}
 use Rattle.granit_base.specs.Written.{Written}
 use Rattle.granit_base.specs.declared.place.Span.{Span}
 use Rattle.granit_error.specs.FaultKind.{NoMemory}
@@ -13,7 +14,7 @@ use Rattle.granit_event.specs.declared.event.Event.{Event}
 use Rattle.granit_event.specs.Events.{event_kind}
 use Rattle.granit_layers.specs.Stacking.{Answer, ComesNext, ComesOf, IsNamed, IsPlaced, LiesBelow, PeeksAs, Pushes}
 use Rattle.granit_layers.specs.Stacking.{Reads, Stack, TurnsLayer, TurnsOnce, Withheld, first_given, gives_first}
-use Rattle.granit_layers.specs.Stacking.{is_ending, is_none_left, layer_of, layers_of, names_of, one_more}
+use Rattle.granit_layers.specs.Stacking.{is_ending, is_none_left, layer_of, layers_of, names_of, one_more, turns_in}
 use Rattle.granit_layers.specs.Turning.{Next, part_of}
 use Rattle.granit_layers.specs.declared.layer.Layer.{Layer}
 use Rattle.granit_layers.specs.declared.turn.Turn.{Turn}
@@ -71,20 +72,41 @@ turned steps offset sets emits_comments (Some t) below l k turn is_bottom n r ne
       comes,
     )
 
+-- so many turns that give nothing
+pub record WithheldTimes {S : Type 0} (steps : S → Next → S → Type 0) (offset : S → ℕ) (sets : ℕ → S → S → Type 0)
+    (emits : Bool) (n : ℕ) (old new : List (Layer S)) : Type 0 where
+  pub turns : Withheld steps offset sets emits old new
+  pub counted : turns_in turns ≡ n
+
 -- one more turn gives nothing
 pub withheld_more : {S : Type 0} (steps : S → Next → S → Type 0) (offset : S → ℕ) (sets : ℕ → S → S → Type 0)
-    (emits now : Bool) (old mid new : List (Layer S)) → now ≡ emits → Withheld steps offset sets emits old mid
-    → TurnsOnce steps offset sets now mid None new → Withheld steps offset sets emits old new
-withheld_more steps offset sets emits now old mid new same before turns =
-    one_more before (subst (λ b. TurnsOnce steps offset sets b mid None new) same turns)
+    (emits now : Bool) (n : ℕ) (old mid new : List (Layer S)) → now ≡ emits
+    → WithheldTimes steps offset sets emits n old mid → TurnsOnce steps offset sets now mid None new
+    → WithheldTimes steps offset sets emits (n + 1) old new
+withheld_more steps offset sets emits now n old mid new same before turns = record {
+  turns = one_more before.turns (subst (λ b. TurnsOnce steps offset sets b mid None new) same turns);
+  counted = ap (λ m. m + 1) before.counted;
+}
+
+-- too many do
+pub withheld_long : {S : Type 0} (steps : S → Next → S → Type 0) (offset : S → ℕ) (sets : ℕ → S → S → Type 0)
+    (emits : Bool) (n : ℕ) (old new : List (Layer S)) (e : Refused) → WithheldTimes steps offset sets emits n old new
+    → n ≡ last_count → e.kind ≡ NoMemory → Reads steps offset sets emits old (Err e) new
+withheld_long steps offset sets emits n old new e before all kind = inr (record {
+  error = e;
+  refused = refl;
+  kind = kind;
+  turns = before.turns;
+  counted = before.counted ∙ all;
+})
 
 -- one gives something
 pub reads_first : {S : Type 0} (steps : S → Next → S → Type 0) (offset : S → ℕ) (sets : ℕ → S → S → Type 0)
-    (emits now : Bool) (old mid new : List (Layer S)) (r : Answer) → now ≡ emits
-    → Withheld steps offset sets emits old mid → TurnsOnce steps offset sets now mid (Some r) new
+    (emits now : Bool) (n : ℕ) (old mid new : List (Layer S)) (r : Answer) → now ≡ emits
+    → WithheldTimes steps offset sets emits n old mid → TurnsOnce steps offset sets now mid (Some r) new
     → Reads steps offset sets emits old r new
-reads_first steps offset sets emits now old mid new r same before turns =
-    inl (mid, before, subst (λ b. TurnsOnce steps offset sets b mid (Some r) new) same turns)
+reads_first steps offset sets emits now n old mid new r same before turns =
+    inl (mid, before.turns, subst (λ b. TurnsOnce steps offset sets b mid (Some r) new) same turns)
 
 -- a stack with these parsers
 abbrev with_layers : {S : Type 0} → Stack S → List (Layer S) → Stack S

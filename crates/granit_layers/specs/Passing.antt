@@ -4,7 +4,7 @@ use Rattle.granit_base.specs.Written.{Written}
 use Rattle.granit_base.specs.declared.place.Span.{Span}
 use Rattle.granit_event.specs.declared.event.Event.{Event}
 use Rattle.granit_layers.specs.Nested.{IsOneDocument, those_through}
-use Rattle.granit_layers.specs.Stacking.{Answer, Stack, StepsTo, TurnsOnce, Uncovers, layer_of}
+use Rattle.granit_layers.specs.Stacking.{Answer, PeeksAs, Stack, StepsTo, TurnsOnce, Uncovers, layer_of}
 use Rattle.granit_layers.specs.Turning.{Next}
 use Rattle.granit_layers.specs.declared.layer.Layer.{Layer}
 use Rattle.granit_replay.specs.Replaying.{Replay, behind_next, next_of}
@@ -32,6 +32,21 @@ pub data StackRun {S : Type 0} (steps : S → Next → S → Type 0) (offset : S
   one_call : {p mid q : Stack S} {e : Event × Span} {es : List (Event × Span)}
       → StepsTo steps offset sets p (Some (Ok e)) mid → StackRun steps offset sets mid es q
       → StackRun steps offset sets p (e ∷ es) q
+
+-- calls of a stack that give events, where nothing was looked at, are turns that give them
+abbrev pub CallsAreTurns : {S : Type 0} → (steps : S → Next → S → Type 0) → (offset : S → ℕ)
+    → (sets : ℕ → S → S → Type 0) → Type 0
+CallsAreTurns steps offset sets =
+    (p q : Stack _) (given : List (Event × Span)) → p.peeked ≡ None → StackRun steps offset sets p given q
+    → Turns steps offset sets p.emits_comments p.layers given q.layers
+
+-- a look at an event is turns that give it, and the call that then gives it is none
+abbrev pub LooksAreTurns : {S : Type 0} → (steps : S → Next → S → Type 0) → (offset : S → ℕ)
+    → (sets : ℕ → S → S → Type 0) → Type 0
+LooksAreTurns steps offset sets =
+    (p q t : Stack _) (e : Event × Span) (r : Option Answer) → p.peeked ≡ None
+    → PeeksAs steps offset sets p (Some (Ok e)) q → StepsTo steps offset sets q r t
+    → Turns steps offset sets p.emits_comments p.layers (e ∷ []) q.layers × (r ≡ Some (Ok e)) × (t.layers ≡ q.layers)
 
 -- the event that was looked at and not taken
 abbrev pub held : Option Answer → List (Event × Span)

@@ -1,5 +1,7 @@
 -- What a stack sends to a receiver.
-use Rattle.std.specs.Prelude.{◌≡◌, ◌⊎◌, ℕ, Bool, true, false, List, [], ◌∷◌, ◌++◌, Option, Some, None, Result, Ok, Err}
+use Rattle.std.specs.Prelude.{◌≡◌, ◌⊎◌, ℕ, Bool, true, false, List, [], ◌∷◌, ◌++◌, length, Option, Some, None}
+use Rattle.std.specs.Prelude.{Result, Ok, Err}
+use Rattle.granit_base.specs.Counts.{last_count}
 use Rattle.granit_base.specs.declared.place.Span.{Span}
 use Rattle.granit_error.specs.FaultKind.{NoMemory}
 use Rattle.granit_error.specs.Refused.{Refused}
@@ -39,11 +41,11 @@ pub record SendsNoMore {S : Type 0} (steps : S → Next → S → Type 0) (offse
   pub takes : Takes es
 
 -- a stack ended for want of memory, in the place of what comes next
-pub record RunsOut {S : Type 0} (e : Refused) (new : Stack S) : Type 0 where
+pub record RunsOut {S : Type 0} (old : Stack S) (e : Refused) (new : Stack S) : Type 0 where
   pub kind : e.kind ≡ NoMemory
   pub kept : Refused
-  pub end : new.end ≡ Some (Err kept)
-  pub peeked : new.peeked ≡ None
+  pub kept_kind : kept.kind ≡ NoMemory
+  pub ended : new ≡ record old { peeked = None; end = Some (Err kept) }
 
 -- all is sent that comes up to the last event, or until nothing is left
 abbrev pub SendsAll : {S : Type 0} → (steps : S → Next → S → Type 0) → (offset : S → ℕ)
@@ -52,13 +54,13 @@ SendsAll steps offset sets multi Takes old new =
     (es : List (Event × Span)) × (mid : Stack _) × GivesOn steps offset sets multi old es mid
     × (SendsNoMore steps offset sets Takes es mid new ⊎ SendsLast steps offset sets multi Takes es mid new)
 
--- all is sent that comes before a refusal
+-- all is sent that comes before a refusal, or 2^64 - 1 events are
 abbrev pub SendsBefore : {S : Type 0} → (steps : S → Next → S → Type 0) → (offset : S → ℕ)
     → (sets : ℕ → S → S → Type 0) → (multi : Bool) → (List (Event × Span) → Type 0) → Stack S → Refused → Stack S
     → Type 0
 SendsBefore steps offset sets multi Takes old e new =
     (es : List (Event × Span)) × (mid : Stack _) × GivesOn steps offset sets multi old es mid × Takes es
-    × (StepsTo steps offset sets mid (Some (Err e)) new ⊎ RunsOut e new)
+    × (StepsTo steps offset sets mid (Some (Err e)) new ⊎ (RunsOut mid e new × (length es ≡ last_count)))
 
 -- all is sent that comes up to an event that the receiver refuses, which it took
 abbrev pub SendsUpTo : {S : Type 0} → (steps : S → Next → S → Type 0) → (offset : S → ℕ)

@@ -1,6 +1,7 @@
 -- What contracts see of a stack of parsers, and what its calls give.
-use Rattle.std.specs.Prelude.{◌≡◌, ◌⊎◌, ℕ, max, Bool, true, false, if◌then◌else◌, List, [], ◌∷◌, ◌++◌}
+use Rattle.std.specs.Prelude.{◌≡◌, ◌⊎◌, ℕ, ◌+◌, max, Bool, true, false, if◌then◌else◌, List, [], ◌∷◌, ◌++◌}
 use Rattle.std.specs.Prelude.{Option, Some, None, Result, Ok, Err}
+use Rattle.granit_base.specs.Counts.{last_count}
 use Rattle.granit_base.specs.Written.{Written}
 use Rattle.granit_base.specs.declared.place.Span.{Span}
 use Rattle.granit_error.specs.FaultKind.{NoMemory}
@@ -124,6 +125,12 @@ pub data Withheld {S : Type 0} (steps : S → Next → S → Type 0) (offset : S
   one_more : {old mid new : List (Layer S)} → Withheld steps offset sets emits_comments old mid
       → TurnsOnce steps offset sets emits_comments mid None new → Withheld steps offset sets emits_comments old new
 
+-- how many these are
+abbrev pub turns_in : {S : Type 0} {steps : S → Next → S → Type 0} {offset : S → ℕ} {sets : ℕ → S → S → Type 0}
+    {emits_comments : Bool} {old new : List (Layer S)} → Withheld steps offset sets emits_comments old new → ℕ
+turns_in none_yet = 0
+turns_in (one_more before turn) = turns_in before + 1
+
 -- turns up to the first that gives something
 abbrev pub TurnsTo : {S : Type 0} → (steps : S → Next → S → Type 0) → (offset : S → ℕ)
     → (sets : ℕ → S → S → Type 0) → (emits_comments : Bool) → List (Layer S) → Answer → List (Layer S) → Type 0
@@ -131,12 +138,21 @@ TurnsTo steps offset sets emits_comments old r new =
     (mid : List (Layer _)) × Withheld steps offset sets emits_comments old mid
     × TurnsOnce steps offset sets emits_comments mid (Some r) new
 
--- the same, or memory ran out
+-- for want of memory nothing more is given: 2^64 - 1 turns gave nothing
+pub record TurnsTooLong {S : Type 0} (steps : S → Next → S → Type 0) (offset : S → ℕ) (sets : ℕ → S → S → Type 0)
+    (emits_comments : Bool) (old : List (Layer S)) (r : Answer) (new : List (Layer S)) : Type 0 where
+  pub error : Refused
+  pub refused : r ≡ Err error
+  pub kind : error.kind ≡ NoMemory
+  pub turns : Withheld steps offset sets emits_comments old new
+  pub counted : turns_in turns ≡ last_count
+
+-- the same, or there are too many
 abbrev pub Reads : {S : Type 0} → (steps : S → Next → S → Type 0) → (offset : S → ℕ)
     → (sets : ℕ → S → S → Type 0) → (emits_comments : Bool) → List (Layer S) → Answer → List (Layer S) → Type 0
 Reads steps offset sets emits_comments old r new =
     TurnsTo steps offset sets emits_comments old r new
-    ⊎ ((e : Refused) × (r ≡ Err e) × (e.kind ≡ NoMemory) × Withheld steps offset sets emits_comments old new)
+    ⊎ TurnsTooLong steps offset sets emits_comments old r new
 
 abbrev pub EndsOn : Event × Span → Part → Option (Result (Unit {0}) Refused) → Option (Result (Unit {0}) Refused)
     → Type 0

@@ -1,6 +1,6 @@
 //! Parsers that lie on one another.
 ghost use mir.Syntax.{named};
-ghost use Rattle.std.specs.Prelude.{◌≡◌, [], ◌∷◌, ◌++◌, false, None, Some, OnOk, IfOk, IfErr};
+ghost use Rattle.std.specs.Prelude.{◌≡◌, [], ◌∷◌, ◌++◌, false, None, Some, OnOk, OnErr, IfOk, IfErr};
 ghost use Rattle.std.specs.Str.{chars};
 ghost use Rattle.std.specs.Borrow.{sem};
 ghost use Rattle.std.specs.Io.BufRead.{Rests};
@@ -70,13 +70,14 @@ impl<'input, S: StackedParser<'input>> Layers<'input, S> {
     ///
     /// # Errors
     ///
-    /// For want of memory alone: the parser and its name come back.
+    /// For want of memory alone, and above another parser alone: the parser and its name come back.
     pub fn push(&mut self, parser: S, name: OwnedText) -> Result<(), Refused<S>>
         ensures pushed { OnOk result (Pushes S.offset_of S.sets_offset S.offset_over self.old.layers parser name
             self.new.layers) }
         ensures same { OnOk result (self.new ≡ record self.old { layers = self.new.layers }) }
         ensures refused { IfErr result (λ r. (r.parser ≡ parser) × (r.name ≡ name)
             × (self.new ≡ self.old)) }
+        ensures above { OnErr result (is_none_left self.old.layers ≡ false) }
     {
         match self.top.take() {
             None => {
@@ -299,7 +300,7 @@ impl<'input, S: StackedParser<'input>> Layers<'input, S> {
             self.new.layers }
         ensures same { self.new ≡ record self.old { layers = self.new.layers } }
     {
-        'turns: for _ in 0..u64::MAX {
+        'turns: for _count in 0..u64::MAX {
             if let Some(next) = self.turn() {
                 return next;
             }

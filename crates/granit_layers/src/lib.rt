@@ -11,6 +11,6 @@ mod replayed;
 mod turn;
 
 pub use kinds::AnyKind;
-pub use laws::{a_replay_comes_through, one_document_comes_through};
+pub use laws::{a_replay_comes_through, calls_are_turns, one_document_comes_through};
 pub use layer::{FromReplay, Layer, StackedParser};
 pub use layers::Layers;

@@ -33,7 +33,7 @@ impl<'input, S: StackedParser<'input>> Layers<'input, S> {
         if let Some(error) = self.given_again() {
             return Err(error);
         }
-        'events: for _ in 0..u64::MAX {
+        'events: for _count in 0..u64::MAX {
             match self.next_event() {
                 None => return Ok(()),
                 Some(Err(error)) => return Err(error),
@@ -69,7 +69,7 @@ impl<'input, S: StackedParser<'input>> Layers<'input, S> {
         if let Some(error) = self.given_again() {
             return Err(TryLoadError::Scan(error));
         }
-        'events: for _ in 0..u64::MAX {
+        'events: for _count in 0..u64::MAX {
             match self.next_event() {
                 None => return Ok(()),
                 Some(Err(error)) => return Err(TryLoadError::Scan(error)),
@@ -99,7 +99,7 @@ impl<'input, S: StackedParser<'input>> Layers<'input, S> {
 
     /// Gives nothing more, for want of memory.
     fn run_out(&mut self) -> ScanError
-        ensures { RunsOut result self.new }
+        ensures { RunsOut self.old result self.new }
     {
         self.peeked = None;
         self.end = Some(Err(ScanError::from(NoMemory)));

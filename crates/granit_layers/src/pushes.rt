@@ -1,6 +1,6 @@
 //! Parsers of several kinds that are put on one stack.
-ghost use Rattle.std.specs.Prelude.{◌≡◌, OnOk, IfErr};
-ghost use Rattle.granit_layers.specs.Stacking.{Pushes, gives_first};
+ghost use Rattle.std.specs.Prelude.{◌≡◌, false, OnOk, OnErr, IfErr};
+ghost use Rattle.granit_layers.specs.Stacking.{Pushes, gives_first, is_none_left};
 ghost use Rattle.granit_layers.specs.declared.kinds.AnyKind.TheVariants.{First, Second, Third, Fourth};
 
 use crate::kinds::AnyKind;
@@ -21,7 +21,7 @@ where
     ///
     /// # Errors
     ///
-    /// For want of memory alone: the parser and its name come back.
+    /// For want of memory alone, and above another parser alone: the parser and its name come back.
     pub fn push_first(&mut self, parser: A, name: OwnedText) -> Result<(), Refused<A>>
         ensures pushed { OnOk result (Pushes ⟦<AnyKind<A, B, C, D> as StackedParser<'input>>⟧.offset_of
             ⟦<AnyKind<A, B, C, D> as StackedParser<'input>>⟧.sets_offset
@@ -29,6 +29,7 @@ where
             self.new.layers) }
         ensures same { OnOk result (self.new ≡ record self.old { layers = self.new.layers }) }
         ensures refused { IfErr result (λ r. (r.parser ≡ parser) × (r.name ≡ name) × (self.new ≡ self.old)) }
+        ensures above { OnErr result (is_none_left self.old.layers ≡ false) }
     {
         match self.push(AnyKind::First(parser), name) {
             Ok(()) => Ok(()),
@@ -43,7 +44,7 @@ where
     ///
     /// # Errors
     ///
-    /// For want of memory alone: the parser and its name come back.
+    /// For want of memory alone, and above another parser alone: the parser and its name come back.
     pub fn push_second(&mut self, parser: B, name: OwnedText) -> Result<(), Refused<B>>
         ensures pushed { OnOk result (Pushes ⟦<AnyKind<A, B, C, D> as StackedParser<'input>>⟧.offset_of
             ⟦<AnyKind<A, B, C, D> as StackedParser<'input>>⟧.sets_offset
@@ -51,6 +52,7 @@ where
             self.new.layers) }
         ensures same { OnOk result (self.new ≡ record self.old { layers = self.new.layers }) }
         ensures refused { IfErr result (λ r. (r.parser ≡ parser) × (r.name ≡ name) × (self.new ≡ self.old)) }
+        ensures above { OnErr result (is_none_left self.old.layers ≡ false) }
     {
         match self.push(AnyKind::Second(parser), name) {
             Ok(()) => Ok(()),
@@ -65,7 +67,7 @@ where
     ///
     /// # Errors
     ///
-    /// For want of memory alone: the parser and its name come back.
+    /// For want of memory alone, and above another parser alone: the parser and its name come back.
     pub fn push_third(&mut self, parser: C, name: OwnedText) -> Result<(), Refused<C>>
         ensures pushed { OnOk result (Pushes ⟦<AnyKind<A, B, C, D> as StackedParser<'input>>⟧.offset_of
             ⟦<AnyKind<A, B, C, D> as StackedParser<'input>>⟧.sets_offset
@@ -73,6 +75,7 @@ where
             self.new.layers) }
         ensures same { OnOk result (self.new ≡ record self.old { layers = self.new.layers }) }
         ensures refused { IfErr result (λ r. (r.parser ≡ parser) × (r.name ≡ name) × (self.new ≡ self.old)) }
+        ensures above { OnErr result (is_none_left self.old.layers ≡ false) }
     {
         match self.push(AnyKind::Third(parser), name) {
             Ok(()) => Ok(()),
@@ -87,7 +90,7 @@ where
     ///
     /// # Errors
     ///
-    /// For want of memory alone: the parser and its name come back.
+    /// For want of memory alone, and above another parser alone: the parser and its name come back.
     pub fn push_fourth(&mut self, parser: D, name: OwnedText) -> Result<(), Refused<D>>
         ensures pushed { OnOk result (Pushes ⟦<AnyKind<A, B, C, D> as StackedParser<'input>>⟧.offset_of
             ⟦<AnyKind<A, B, C, D> as StackedParser<'input>>⟧.sets_offset
@@ -95,6 +98,7 @@ where
             self.new.layers) }
         ensures same { OnOk result (self.new ≡ record self.old { layers = self.new.layers }) }
         ensures refused { IfErr result (λ r. (r.parser ≡ parser) × (r.name ≡ name) × (self.new ≡ self.old)) }
+        ensures above { OnErr result (is_none_left self.old.layers ≡ false) }
     {
         match self.push(AnyKind::Fourth(parser), name) {
             Ok(()) => Ok(()),
@@ -109,7 +113,7 @@ where
     ///
     /// # Errors
     ///
-    /// For want of memory alone: the parser, the event and the name come back.
+    /// For want of memory alone, and above another parser alone: the parser, the event and the name come back.
     pub fn push_third_with(
         &mut self,
         parser: C,
@@ -124,6 +128,7 @@ where
             ≡ record (gives_first self.old current.entry) { layers = self.new.layers }) }
         ensures refused { IfErr result (λ r. (r.parser ≡ (parser, current.entry)) × (r.name ≡ name)
             × (self.new ≡ self.old)) }
+        ensures above { OnErr result (is_none_left self.old.layers ≡ false) }
     {
         match self.push_third(parser, name) {
             Ok(()) => {

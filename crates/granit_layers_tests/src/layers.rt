@@ -1,4 +1,5 @@
 //! Parsers that lie on one another.
+use crate::letters::letter;
 use granit_base::{Marker, NoMemory, OwnedText, Placement, ScalarStyle, Span, Text};
 use granit_error::ScanError;
 use granit_event::Event;
@@ -73,22 +74,6 @@ fn put<'a>(
     match source(alloc, letters, text, anchor) {
         Ok((parser, name)) => layers.push(parser, name).is_ok(),
         Err(_) => false,
-    }
-}
-
-/// The letter of an event, of a scalar the first of its text.
-fn letter(event: &Event<'_>) -> char {
-    match event {
-        Event::StreamStart => 'S',
-        Event::StreamEnd => 's',
-        Event::DocumentStart(_, _) => 'D',
-        Event::DocumentEnd => 'd',
-        Event::Comment(_, _) => '#',
-        Event::Scalar(text, _, _, _) => match text.as_str().chars().next() {
-            Some(first) => first,
-            None => '_',
-        },
-        _ => '-',
     }
 }
 

@@ -1,4 +1,5 @@
 pub mod ColumnLemmas
+pub mod KeyLemmas
 pub mod ListLemmas
 pub mod OpeningLemmas
 pub mod RisingLemmas

@@ -1,3 +1,4 @@
+pub mod Heads
 pub mod Opening
 pub mod Rising
 pub mod StaleKeys

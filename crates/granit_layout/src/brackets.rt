@@ -5,8 +5,9 @@ ghost use Rattle.granit_error.specs.OptionsView.{options_of};
 ghost use Rattle.granit_machine.specs.Laid as laid;
 ghost use Rattle.granit_machine.specs.PossibleKeys as keys;
 ghost use Rattle.granit_layout.specs.Rising.{Rising};
+ghost use Rattle.granit_layout.specs.declared.rising.KeyOrder.{KeyOrder};
 
-use crate::keys::{fresh_key, is_of, reaches};
+use crate::keys::{is_fresh, is_of, reaches};
 use crate::rising::KeyOrder;
 use granit_base::{Marker, NoMemory};
 use granit_error::Options;
@@ -93,26 +94,33 @@ impl Brackets {
     }
 
     /// The key in the innermost one, or the one outside all.
-    pub(crate) fn key(&self, outside: Option<PossibleKey>) -> Option<PossibleKey>
-        ensures { result ≡ keys.key_in self.now outside }
+    pub(crate) fn key<'a>(&'a self, outside: &'a Option<PossibleKey>) -> &'a Option<PossibleKey>
+        ensures { result.now ≡ keys.key_in self.now outside.now }
     {
         match self.list.last() {
             None => outside,
-            Some(innermost) => innermost.key,
+            Some(innermost) => &innermost.key,
         }
     }
 
     /// Another key in the innermost one, if one is open.
-    pub(crate) fn set_key(&mut self, key: Option<PossibleKey>)
-        ensures { self.new ≡ keys.keyed_brackets key self.old }
+    pub(crate) fn set_key(&mut self, key: &Option<PossibleKey>)
+        ensures { self.new ≡ keys.keyed_brackets key.now self.old }
     {
         set_innermost(&mut self.list, &mut self.order, key);
     }
 
+    /// No key in the innermost one.
+    pub(crate) fn forget_key(&mut self)
+        ensures { self.new ≡ keys.keyed_brackets None self.old }
+    {
+        forget_innermost(&mut self.list);
+    }
+
     /// Without the keys that reading has left behind.
     #[tactic(auto, using(crate::proofs::ListLemmas::map_reversed))]
-    pub(crate) fn refresh(&mut self, options: &Options, mark: Marker)
-        ensures { self.new ≡ map (keys.fresh_bracket (options_of options.now) mark) self.old }
+    pub(crate) fn refresh(&mut self, options: &Options, mark: &Marker)
+        ensures { self.new ≡ map (keys.fresh_bracket (options_of options.now) mark.now) self.old }
     {
         if self.order.rises {
             refresh_outermost(&mut self.list, &mut self.order, options, mark);
@@ -134,9 +142,9 @@ impl Brackets {
     }
 }
 
-fn set_innermost(brackets: &mut Vec<OpenBracket>, order: &mut KeyOrder, key: Option<PossibleKey>)
+fn set_innermost(brackets: &mut Vec<OpenBracket>, order: &mut KeyOrder, key: &Option<PossibleKey>)
     requires rising { Rising order.old brackets.old.items }
-    ensures key { reverse brackets.new.items ≡ keys.keyed_brackets key (reverse brackets.old.items) }
+    ensures key { reverse brackets.new.items ≡ keys.keyed_brackets key.now (reverse brackets.old.items) }
     ensures rising { Rising order.new brackets.new.items }
 {
     let depth = brackets.len();
@@ -144,14 +152,25 @@ fn set_innermost(brackets: &mut Vec<OpenBracket>, order: &mut KeyOrder, key: Opt
         return;
     }
     let innermost = depth - 1;
-    order.set_key(innermost, brackets[innermost].key, &key);
-    brackets[innermost].key = key;
+    order.set_key(innermost, &brackets[innermost].key, key);
+    brackets[innermost].key = *key;
+}
+
+fn forget_innermost(brackets: &mut Vec<OpenBracket>)
+    ensures key { reverse brackets.new.items ≡ keys.keyed_brackets None (reverse brackets.old.items) }
+    ensures rising { (o : KeyOrder) → Rising o brackets.old.items → Rising o brackets.new.items }
+{
+    let depth = brackets.len();
+    if depth == 0 {
+        return;
+    }
+    brackets[depth - 1].key = None;
 }
 
 fn any_of(number: usize, brackets: &[OpenBracket]) -> bool
     ensures { result ≡ list_any (λ b. keys.is_of number b.key) brackets.now }
 {
-    brackets.iter().any(|open| is_of(number, open.key))
+    brackets.iter().any(|open| is_of(number, &open.key))
 }
 
 /// The same where keys rise: no key behind one of a later lexeme is asked.
@@ -161,18 +180,26 @@ fn begins_at(number: usize, order: &KeyOrder, brackets: &[OpenBracket]) -> bool
     ensures { result ≡ list_any (λ b. keys.is_of number b.key) brackets.now }
 {
     'brackets: for i in order.first..brackets.len() {
-        if reaches(number, brackets[i].key) {
-            return is_of(number, brackets[i].key);
+        if reaches(number, &brackets[i].key) {
+            return is_of(number, &brackets[i].key);
         }
     }
     false
 }
 
-fn refresh_all(brackets: &mut Vec<OpenBracket>, options: &Options, mark: Marker)
-    ensures { brackets.new.items ≡ map (keys.fresh_bracket (options_of options.now) mark) brackets.old.items }
+fn refresh_all(brackets: &mut Vec<OpenBracket>, options: &Options, mark: &Marker)
+    ensures { brackets.new.items ≡ map (keys.fresh_bracket (options_of options.now) mark.now) brackets.old.items }
 {
     'brackets: for i in 0..brackets.len() {
-        brackets[i].key = fresh_key(options, true, mark, brackets[i].key);
+        refresh_one(&mut brackets[i].key, options, mark);
+    }
+}
+
+fn refresh_one(key: &mut Option<PossibleKey>, options: &Options, mark: &Marker)
+    ensures { key.new ≡ keys.fresh_key (options_of options.now) true mark.now key.old }
+{
+    if !is_fresh(options, true, mark, key) {
+        *key = None;
     }
 }
 
@@ -181,15 +208,15 @@ fn refresh_outermost(
     brackets: &mut Vec<OpenBracket>,
     order: &mut KeyOrder,
     options: &Options,
-    mark: Marker,
+    mark: &Marker,
 )
     requires rising { Rising order.old brackets.old.items }
     requires rises { order.old.rises ≡ true }
-    ensures fresh { brackets.new.items ≡ map (keys.fresh_bracket (options_of options.now) mark) brackets.old.items }
+    ensures fresh { brackets.new.items ≡ map (keys.fresh_bracket (options_of options.now) mark.now) brackets.old.items }
     ensures rising { Rising order.new brackets.new.items }
 {
     'brackets: while order.first < brackets.len() {
-        if fresh_key(options, true, mark, brackets[order.first].key).is_some() {
+        if is_fresh(options, true, mark, &brackets[order.first].key) {
             return;
         }
         brackets[order.first].key = None;

@@ -1,5 +1,5 @@
 //! Possible keys (YAML 1.2.2, 7.4.2 and 8.2.2).
-ghost use Rattle.std.specs.Prelude.{◌≡◌, ◌<◌, ◌^◌};
+ghost use Rattle.std.specs.Prelude.{◌≡◌, ◌<◌, ◌^◌, true, is_some};
 ghost use Rattle.std.specs.Option.{ForSome};
 ghost use Rattle.granit_error.specs.OptionsView.{options_of};
 ghost use Rattle.granit_lexemes.specs.LayoutData as layout;
@@ -34,36 +34,32 @@ pub(crate) fn is_column(block_column: Option<usize>, column: usize) -> bool
 
 /// Whether a key began too far before a mark, or outside flow on an earlier line (YAML 1.2.2, 7.4.2).
 #[tactic(auto, unfolding(granit_machine::specs::PossibleKeys::is_stale))]
-pub(crate) fn is_stale(options: &Options, in_flow: bool, mark: Marker, key: &PossibleKey) -> bool
-    ensures { result ≡ keys.is_stale (options_of options.now) in_flow mark key.now }
+pub(crate) fn is_stale(options: &Options, in_flow: bool, mark: &Marker, key: &PossibleKey) -> bool
+    ensures { result ≡ keys.is_stale (options_of options.now) in_flow mark.now key.now }
 {
     mark.index().saturating_sub(key.start.index()) > options.simple_key_max_lookahead
         || !in_flow && key.start.line() < mark.line()
 }
 
-/// A key, unless reading has left it behind.
-pub(crate) fn fresh_key(
+/// Whether there is a key that reading has not left behind.
+pub(crate) fn is_fresh(
     options: &Options,
     in_flow: bool,
-    mark: Marker,
-    key: Option<PossibleKey>,
-) -> Option<PossibleKey>
-    ensures { result ≡ keys.fresh_key (options_of options.now) in_flow mark key }
+    mark: &Marker,
+    key: &Option<PossibleKey>,
+) -> bool
+    ensures fresh { result ≡ is_some (keys.fresh_key (options_of options.now) in_flow mark.now key.now) }
+    ensures stays { result ≡ true → keys.fresh_key (options_of options.now) in_flow mark.now key.now ≡ key.now }
 {
     match key {
-        None => None,
-        Some(key) => {
-            if is_stale(options, in_flow, mark, &key) {
-                return None;
-            }
-            Some(key)
-        }
+        None => false,
+        Some(key) => !is_stale(options, in_flow, mark, key),
     }
 }
 
 /// Refuses a key that has to get a `:` and gets none (YAML 1.2.2, 8.2.2).
-pub(crate) fn refuse_required(key: Option<PossibleKey>) -> Result<(), ScanError>
-    ensures { result ≡ keys.refuse_required key }
+pub(crate) fn refuse_required(key: &Option<PossibleKey>) -> Result<(), ScanError>
+    ensures { result ≡ keys.refuse_required key.now }
 {
     match key {
         None => Ok(()),
@@ -99,8 +95,8 @@ pub(crate) fn key_goes_on(
     }
 }
 
-pub(crate) fn is_of(number: usize, key: Option<PossibleKey>) -> bool
-    ensures { result ≡ keys.is_of number key }
+pub(crate) fn is_of(number: usize, key: &Option<PossibleKey>) -> bool
+    ensures { result ≡ keys.is_of number key.now }
 {
     match key {
         None => false,
@@ -109,8 +105,8 @@ pub(crate) fn is_of(number: usize, key: Option<PossibleKey>) -> bool
 }
 
 /// Whether a key begins with the lexeme of a number or with a later one.
-pub(crate) fn reaches(number: usize, key: Option<PossibleKey>) -> bool
-    ensures { result ≡ is_from number key }
+pub(crate) fn reaches(number: usize, key: &Option<PossibleKey>) -> bool
+    ensures { result ≡ is_from number key.now }
 {
     match key {
         None => false,

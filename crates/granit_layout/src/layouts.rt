@@ -16,6 +16,7 @@ ghost use Rattle.granit_machine.specs.PossibleKeys as keys;
 ghost use Rattle.granit_machine.specs.ReaderState as reader;
 ghost use Rattle.granit_machine.specs.StreamLexemes as streams;
 ghost use Rattle.granit_machine.specs.Leaving.{Leaves, LeavesIfRoom};
+ghost use Rattle.granit_layout.specs.Heads.{is_headed};
 ghost use Rattle.granit_layout.specs.Opening.{opens_column};
 ghost use Rattle.granit_layout.specs.StaleKeys.{without_stale_key};
 
@@ -215,24 +216,28 @@ impl Layouts {
     pub fn top_key(&self) -> Option<PossibleKey>
         ensures { result ≡ keys.top_key self.now }
     {
-        self.brackets.key(self.key)
+        *self.brackets.key(&self.key)
     }
 
-    fn set_top_key(&mut self, key: Option<PossibleKey>)
-        ensures { self.new ≡ keys.with_top_key key self.old }
+    fn set_top_key(&mut self, key: &Option<PossibleKey>)
+        ensures { self.new ≡ keys.with_top_key key.now self.old }
     {
         if self.is_in_flow() {
             self.brackets.set_key(key);
             return;
         }
-        self.key = key;
+        self.key = *key;
     }
 
     /// The innermost key is forgotten.
     pub fn forget_key(&mut self)
         ensures { self.new ≡ keys.forgets_key self.old }
     {
-        self.set_top_key(None);
+        if self.is_in_flow() {
+            self.brackets.forget_key();
+            return;
+        }
+        self.key = None;
     }
 
     /// Without the innermost key, which gets no `:`.
@@ -243,7 +248,7 @@ impl Layouts {
     pub fn drop_key(&mut self) -> Result<(), ScanError>
         ensures { Leaves result self.new (keys.drop_key self.old) }
     {
-        refuse_required(self.top_key())?;
+        refuse_required(self.brackets.key(&self.key))?;
         self.forget_key();
         Ok(())
     }
@@ -256,14 +261,14 @@ impl Layouts {
     pub fn drop_stale(&mut self, options: &Options, mark: Marker) -> Result<(), ScanError>
         ensures { Leaves result self.new (keys.without_stale (options_of options.now) mark self.old) }
     {
-        self.refresh_key(options, mark)?;
-        self.brackets.refresh(options, mark);
+        self.refresh_key(options, &mark)?;
+        self.brackets.refresh(options, &mark);
         Ok(())
     }
 
     /// Without the possible key outside brackets, where reading has left it behind.
-    fn refresh_key(&mut self, options: &Options, mark: Marker) -> Result<(), ScanError>
-        ensures { Leaves result self.new (without_stale_key (options_of options.now) mark self.old) }
+    fn refresh_key(&mut self, options: &Options, mark: &Marker) -> Result<(), ScanError>
+        ensures { Leaves result self.new (without_stale_key (options_of options.now) mark.now self.old) }
     {
         let in_flow = self.is_in_flow();
         match &self.key {
@@ -272,7 +277,7 @@ impl Layouts {
                 if !is_stale(options, in_flow, mark, key) {
                     return Ok(());
                 }
-                refuse_required(Some(*key))?;
+                refuse_required(&self.key)?;
                 self.key = None;
                 Ok(())
             }
@@ -292,6 +297,7 @@ impl Layouts {
     }
 
     /// A lexeme of a node stands at a mark, a property or not.
+    #[tactic(auto, unfolding(granit_machine::specs::PossibleKeys::node_key), using(crate::proofs::KeyLemmas::headless))]
     pub fn begin_node(
         &mut self,
         property: bool,
@@ -301,34 +307,43 @@ impl Layouts {
     )
         ensures { self.new ≡ keys.with_node property (keys.is_allowed begins_line tab self.old) mark self.old }
     {
-        let allowed = self.is_allowed(begins_line, tab);
-        let key = self.node_key(property, allowed, mark);
-        self.set_top_key(key);
+        if self.is_allowed(begins_line, tab) {
+            let key = Some(self.new_key(property, mark));
+            self.set_top_key(&key);
+        } else if self.has_head() {
+            let key = key_goes_on(property, self.is_left(mark.col()), self.top_key());
+            self.set_top_key(&key);
+        }
     }
 
-    #[tactic(auto, unfolding(granit_machine::specs::PossibleKeys::node_key))]
-    fn node_key(&self, property: bool, allowed: bool, mark: Marker) -> Option<PossibleKey>
-        ensures { result ≡ keys.node_key property allowed mark self.now }
+    fn new_key(&self, property: bool, mark: Marker) -> PossibleKey
+        ensures { result ≡ keys.new_key property mark self.now }
     {
         let block_column = self.block_column();
-        let is_low = is_left(block_column, mark.col());
-        if allowed {
-            return Some(PossibleKey {
-                number: self.number,
-                start: mark,
-                is_required: !self.is_in_flow() && is_column(block_column, mark.col()),
-                is_low,
-                is_head: property,
-            });
+        PossibleKey {
+            number: self.number,
+            start: mark,
+            is_required: !self.is_in_flow() && is_column(block_column, mark.col()),
+            is_low: is_left(block_column, mark.col()),
+            is_head: property,
         }
-        key_goes_on(property, is_low, self.top_key())
+    }
+
+    /// Whether only properties stand behind the start of the innermost key.
+    fn has_head(&self) -> bool
+        ensures { result ≡ is_headed (keys.top_key self.now) }
+    {
+        match self.brackets.key(&self.key) {
+            None => false,
+            Some(key) => key.is_head,
+        }
     }
 
     /// Whether a possible key begins with the lexeme of a number, in any bracket.
     pub fn is_possible(&self, number: usize) -> bool
         ensures { result ≡ keys.is_possible number self.now }
     {
-        is_of(number, self.key) || self.brackets.is_possible(number)
+        is_of(number, &self.key) || self.brackets.is_possible(number)
     }
 
     /// Whether a `:` at a mark on a later line than its key is refused.

@@ -35,10 +35,10 @@ impl KeyOrder {
     pub(crate) fn set_key(
         &mut self,
         innermost: usize,
-        old: Option<PossibleKey>,
+        old: &Option<PossibleKey>,
         new: &Option<PossibleKey>,
     )
-        ensures { self.new ≡ rising.with_key innermost old new.now self.old }
+        ensures { self.new ≡ rising.with_key innermost old.now new.now self.old }
     {
         match new {
             None => {}
@@ -46,8 +46,8 @@ impl KeyOrder {
         }
     }
 
-    fn set_new(&mut self, innermost: usize, old: Option<PossibleKey>, new: &PossibleKey)
-        ensures { self.new ≡ rising.with_new innermost old new.now self.old }
+    fn set_new(&mut self, innermost: usize, old: &Option<PossibleKey>, new: &PossibleKey)
+        ensures { self.new ≡ rising.with_new innermost old.now new.now self.old }
     {
         self.rises = self.rises && (is_behind(self.number, self.index, new) || goes_on(old, new));
         self.first = self.first.min(innermost);
@@ -64,8 +64,8 @@ fn is_behind(number: usize, index: usize, key: &PossibleKey) -> bool
 }
 
 /// Whether a key stands in the place of one that it is not before.
-fn goes_on(old: Option<PossibleKey>, new: &PossibleKey) -> bool
-    ensures { result ≡ rising.goes_on old new.now }
+fn goes_on(old: &Option<PossibleKey>, new: &PossibleKey) -> bool
+    ensures { result ≡ rising.goes_on old.now new.now }
 {
     match old {
         None => false,

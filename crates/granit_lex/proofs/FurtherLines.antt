@@ -41,7 +41,7 @@ line_after true p = omega arith
 line_after false p = omega arith
 
 -- no step leads to an earlier line
-step_line : (h : Here) → h.place.line ≤ (step h).place.line
+pub step_line : (h : Here) → h.place.line ≤ (step h).place.line
 unfolding step
 step_line h = line_of (length h.unread.text == 0) h _ h.place.line (omega arith)
     (line_after (ends_line h.unread.text) h.place)
@@ -97,17 +97,18 @@ break_line h y = by (next_char h == 0x0D && slice_index h.unread.text 1 == 0x0A)
 -- ---- what is read from a state on
 
 -- It is lent where what stands there is; and behind a line, it is nothing or ends on a later one.
-record Behind (line : ℕ) (s : PlainState) (value : List ℕ) (last : PlainState) : Type 0 where
+pub record Behind (line : ℕ) (s : PlainState) (value : List ℕ) (last : PlainState) : Type 0 where
   lends : last.here.unread.lends ≡ s.here.unread.lends
-  later : line < s.here.place.line → line < s.end.place.line → line < last.end.place.line
+  pub reaches : s.here.place.line ≤ last.here.place.line
+  pub later : line < s.here.place.line → line < s.end.place.line → line < last.end.place.line
   grown : line < s.here.place.line → (value ≡ []) ⊎ (line < last.end.place.line)
 
-abbrev BehindTo : ℕ → PlainState → Result (List ℕ × PlainState) Fault → Type 0
+abbrev pub BehindTo : ℕ → PlainState → Result (List ℕ × PlainState) Fault → Type 0
 BehindTo line s (Ok (value, last)) = Behind line s value last
 BehindTo line s (Err f) = Unit {0}
 
 nothing : (line : ℕ) (s : PlainState) → Behind line s [] s
-nothing line s = record { lends = refl; later = λ p q. q; grown = λ p. inl refl }
+nothing line s = record { lends = refl; reaches = omega arith; later = λ p q. q; grown = λ p. inl refl }
 
 -- on over a blank or a break
 gap_behind : (line : ℕ) (s after : PlainState) (r : Result (List ℕ × PlainState) Fault) → after.end ≡ s.end
@@ -115,6 +116,7 @@ gap_behind : (line : ℕ) (s after : PlainState) (r : Result (List ℕ × PlainS
     → BehindTo line after r → BehindTo line s (with_front [] r)
 gap_behind line s after (Ok (value, last)) end on lends b = record {
   lends = b.lends ∙ lends;
+  reaches = omega (arith, on, b.reaches);
   later = λ p q. b.later (omega (arith, p, on)) (subst (λ (m : Mark). line < m.place.line) (sym end) q);
   grown = λ p. b.grown (omega (arith, p, on));
 }
@@ -128,6 +130,7 @@ content_behind line s front (Ok (value, last)) b =
     let on = step_line s.here in
     record {
       lends = b.lends ∙ step_lends s.here;
+      reaches = omega (arith, on, b.reaches);
       later = λ p q. b.later (omega (arith, p, on)) (omega (arith, p, on));
       grown = λ p. inr (b.later (omega (arith, p, on)) (omega (arith, p, on)));
     }
@@ -139,7 +142,7 @@ unfolding on_blank
 blank_at at s true e = rw e (refl, refl)
 blank_at at s false e = rw e (refl, refl)
 
-break_at : (s : PlainState) (b : Bool) → s.on_new_line ≡ b
+pub break_at : (s : PlainState) (b : Bool) → s.on_new_line ≡ b
     → ((on_break s).here ≡ past_break s.here) × ((on_break s).end ≡ s.end)
 unfolding on_break
 break_at s true e = rw e (refl, refl)
@@ -186,7 +189,7 @@ turns_behind at start line zero s = nothing line s
 turns_behind at start line (suc n) s =
     turn_behind line s (plain_turn at start s) (turned at start s) n (λ after. turns_behind at start line n after)
 
-rest_behind : (at : LayoutData) (start : Mark) (line : ℕ) (s : PlainState) → BehindTo line s (plain_rest at start s)
+pub rest_behind : (at : LayoutData) (start : Mark) (line : ℕ) (s : PlainState) → BehindTo line s (plain_rest at start s)
 unfolding pieces
 rest_behind at start line s = turns_behind at start line (suc (plain_len s)) s
 

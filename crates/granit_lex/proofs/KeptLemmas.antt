@@ -437,7 +437,7 @@ and_none : (a : Bool) → (a && false) ≡ false
 and_none true = refl
 and_none false = refl
 
-text_behind : (single : Bool) (h : Here) (n : ℕ) → (steps n h).unread.text ≡ drop n h.unread.text
+pub text_behind : (single : Bool) (h : Here) (n : ℕ) → (steps n h).unread.text ≡ drop n h.unread.text
     → n ≡ run_length (starts (is_kept single)) h.unread.text
     → is_verbatim single h.unread.text ≡ is_closing single (steps n h).unread.text
 text_behind single h n drops whole = verbatim_behind single h.unread.text

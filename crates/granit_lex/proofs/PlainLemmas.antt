@@ -25,7 +25,7 @@ use Rattle.granit_lex.specs.declared.plain.Ahead.TheVariants.{Blank, Break, Tab,
 
 -- ---- one turn, by what is next
 
-abbrev next_by : (a b c d e f : Bool) → Ahead
+abbrev pub next_by : (a b c d e f : Bool) → Ahead
 next_by a b c d e f = if a then Blank else if b then Break else if c then End else if d then Tab else if e then End else
     if f then Content else End
 

@@ -1,6 +1,6 @@
 //! Plain scalars are read (YAML 1.2.2, 7.3.3).
 ghost use Rattle.std.specs.Prelude.{◌≡◌, ◌<◌, ◌≤◌, ◌-◌, ◌⊎◌, ◌==◌, ◌&&◌, ◌||◌, not, ℕ, [], ◌∷◌, ◌++◌, true, length};
-ghost use Rattle.std.specs.Prelude.{take, IfOk, IfErr, OnOk, if◌then◌else◌};
+ghost use Rattle.std.specs.Prelude.{take, IfOk, IsOk, IfErr, OnOk, if◌then◌else◌};
 ghost use Rattle.std.specs.Str.{chars};
 ghost use Rattle.granit_base.specs.Classes as class;
 ghost use Rattle.granit_error.specs.FaultKind.{NoMemory as OutOfMemory, PlainScalarStartsWithDashFlowIndicator};
@@ -22,6 +22,8 @@ ghost use Rattle.granit_lex.specs.LineCode.{line_scalar};
 ghost use Rattle.granit_lex.specs.PlainCode.{plain_lexed, plain_state, plain_whole, ahead_of, nothing_taken};
 ghost use Rattle.granit_lex.specs.PlainCode.{TakesSome, TurnsTo, PartsTo, IsPlainKind};
 ghost use Rattle.granit_lex.specs.PlainCode.{cuts_at, ended_plain, copied_plain};
+ghost use Rattle.granit_lex.specs.WithoutMemory.{EndsHere, OnlyBlanks, StaysBlank, WithoutMemoryAt};
+ghost use Rattle.granit_lex.specs.WithoutMemory.{plain_takes_none};
 
 use crate::line::{Line, pass_line};
 use granit_base::{
@@ -42,11 +44,12 @@ use std::marker::Model;
 ///
 /// # Errors
 ///
-/// `NoMemory`. At the scalar's start: `PlainScalarStartsWithDashFlowIndicator` where it begins with a `-`
-/// directly before a flow indicator, in flow; `TabInPlainScalar` where a tab that indents a further line
-/// with content stands left of where a node may stand; `UnexpectedCharacter` where it holds a character
-/// that isn't printable. `UnexpectedCharacter` where such a character stands behind it; a NUL is one.
-/// `InputSlicingUnavailable`, where the input refuses to lend what it could.
+/// `NoMemory`, unless the input lends the scalar, on one line with no empty line behind it. At the scalar's
+/// start: `PlainScalarStartsWithDashFlowIndicator` where it begins with a `-` directly before a flow indicator,
+/// in flow; `TabInPlainScalar` where a tab that indents a further line with content stands left of where a node
+/// may stand; `UnexpectedCharacter` where it holds a character that isn't printable. `UnexpectedCharacter` where
+/// such a character stands behind it; a NUL is one. `InputSlicingUnavailable`, where the input refuses to lend
+/// what it could.
 pub fn scan_plain_scalar<'input, T: BorrowedInput<'input>>(
     alloc: Global,
     cursor: &mut Cursor<T>,
@@ -61,6 +64,7 @@ pub fn scan_plain_scalar<'input, T: BorrowedInput<'input>>(
     ensures answered { (h : Here) (read : spec.PlainRead) (after : Here) → Stands T.unread cursor.old h
         → extent.AnswersPlain (layout_data at.now) h read after → IfErr result (λ e. e.kind ≡ OutOfMemory) }
     ensures kinds { IfErr result (λ e. IsPlainKind e.kind) }
+    ensures memory { WithoutMemoryAt T.unread cursor.old result (plain_takes_none (layout_data at.now)) }
     ensures moves { Moves T.unread T.left T.origin cursor.old cursor.new }
 {
     read_plain(alloc, cursor, at)
@@ -168,6 +172,7 @@ fn take_blank<T: Input>(
         × (plain_state parts.new (step h) ≡ spec.on_blank (layout_data at.now) (plain_state parts.old h)))) }
     ensures value { parts.new.value ≡ parts.old.value }
     ensures left { OnOk result (T.left cursor.new.input ≤ T.left cursor.old.input - 1) }
+    ensures memory { parts.old.on_new_line ≡ true → IsOk result }
     ensures moves { Moves T.unread T.left T.origin cursor.old cursor.new }
 {
     cursor.look(1);
@@ -256,6 +261,9 @@ fn take_turn<T: Input>(
     ensures tab { (h : Here) → Stands T.unread cursor.old h
         → ahead_of (layout_data at.now) (plain_state parts.old h) ≡ Tab
         → IfErr result (λ e. e.kind ≡ TabInPlainScalar) }
+    ensures memory { (h : Here) → Stands T.unread cursor.old h
+        → OnlyBlanks (layout_data at.now) start (plain_state parts.old h)
+        → StaysBlank start result cursor.new.place parts.new }
     ensures moves { Moves T.unread T.left T.origin cursor.old cursor.new }
 {
     match look_ahead(cursor, at, parts) {
@@ -299,6 +307,8 @@ fn plain_parts<T: Input>(
     ensures here { Wherever T.unread cursor.old cursor.new (λ h Lands.
         PartsTo result Lands (plain_whole (layout_data at.now) start parts h)) }
     ensures kinds { IfErr result (λ e. (e.kind ≡ OutOfMemory) ⊎ (e.kind ≡ TabInPlainScalar)) }
+    ensures memory { (h : Here) → Stands T.unread cursor.old h
+        → OnlyBlanks (layout_data at.now) start (plain_state parts h) → IfErr result (λ e. ¬ (e.kind ≡ OutOfMemory)) }
     ensures moves { Moves T.unread T.left T.origin cursor.old cursor.new }
 {
     let mut parts = parts;
@@ -373,8 +383,9 @@ fn text_of_lines<'input>(
     front: &'input str,
     further: &str,
 ) -> Result<Text<'input>, NoMemory>
-    ensures { IfOk result (λ t. t ≡ (if is_one_line then lent (chars front.now)
+    ensures text { IfOk result (λ t. t ≡ (if is_one_line then lent (chars front.now)
         else basics.owned (chars front.now ++ chars further.now))) }
+    ensures memory { is_one_line ≡ true → IsOk result }
 {
     if is_one_line {
         return Ok(Text::borrowed(front));
@@ -406,6 +417,8 @@ fn read_passed<'input, T: Input>(
     ensures here { ReadsAs T.unread cursor.old cursor.new result (λ h. coded plain_lexed
         (line_scalar (layout_data at.now) start (chars line.now.front.now) line.now.end line.now.blank h)) }
     ensures kinds { IfErr result (λ e. IsPlainKind e.kind) }
+    ensures memory { (h : Here) → Stands T.unread cursor.old h → start.place.line ≡ h.place.line
+        → EndsHere (layout_data at.now) start line.now.end h → IfErr result (λ e. ¬ (e.kind ≡ OutOfMemory)) }
     ensures moves { Moves T.unread T.left T.origin cursor.old cursor.new }
 {
     if !at_break(cursor) {
@@ -459,6 +472,7 @@ fn read_plain<'input, T: BorrowedInput<'input>>(
     ensures here { ReadsAs T.unread cursor.old cursor.new result (λ h.
         coded plain_lexed (spec.plain_scalar (layout_data at.now) h)) }
     ensures kinds { IfErr result (λ e. IsPlainKind e.kind) }
+    ensures memory { WithoutMemoryAt T.unread cursor.old result (plain_takes_none (layout_data at.now)) }
     ensures moves { Moves T.unread T.left T.origin cursor.old cursor.new }
 {
     let start = cursor.mark();

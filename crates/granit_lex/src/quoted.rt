@@ -1,5 +1,5 @@
 //! Quoted scalars are read (YAML 1.2.2, 7.3.1 and 7.3.2).
-ghost use Rattle.std.specs.Prelude.{◌≡◌, ◌<◌, ◌≤◌, ◌-◌, ◌⊎◌, ◌==◌, ◌&&◌, ℕ, false, ◌++◌, IfOk, IfErr, OnOk};
+ghost use Rattle.std.specs.Prelude.{◌≡◌, ◌<◌, ◌≤◌, ◌-◌, ◌⊎◌, ◌==◌, ◌&&◌, ℕ, true, false, ◌++◌, IfOk, IfErr, OnOk};
 ghost use Rattle.std.specs.Str.{chars};
 ghost use Rattle.granit_base.specs.Classes as class;
 ghost use Rattle.granit_base.specs.Written.{string_chars};
@@ -11,13 +11,14 @@ ghost use Rattle.granit_lexemes.specs.Basics as basics;
 ghost use Rattle.granit_lexemes.specs.QuotedExtent as extent;
 ghost use Rattle.granit_lexemes.specs.QuotedScalar as spec;
 ghost use Rattle.granit_cursor.specs.Reading.{Stands, Moves, Wherever, ReadsAs, AnswersAs, RefusedFor, coded};
-ghost use Rattle.granit_cursor.specs.Reading.{StepsRun, TurnTakes};
+ghost use Rattle.granit_cursor.specs.Reading.{LendsWithoutMemory, StepsRun, TurnTakes};
 ghost use Rattle.granit_cursor.specs.Tokens.{layout_data};
 ghost use Rattle.granit_lex.specs.QuotedCode.{quoted_lexed, quoted_with, asked, IsQuotedFault, quoted_state};
 ghost use Rattle.granit_lex.specs.QuotedCode.{quoted_whole, quoted_ahead, content_read, SeesTo, SeesSome, TakesContent};
 ghost use Rattle.granit_lex.specs.QuotedCode.{added, escapes, GoesWords, QuotedTurnsTo, QuotedPartsTo, IsQuotedKind};
 ghost use Rattle.granit_lex.specs.QuotedCode.{kept_char, kept_chars, nothing_taken, PassesKept};
 ghost use Rattle.granit_lex.specs.QuotedCode.{copied_scalar, passed_scalar};
+ghost use Rattle.granit_lex.specs.WithoutMemory.{WithoutMemoryAt, quoted_takes_none};
 
 use crate::escape::escape;
 use granit_base::{
@@ -40,14 +41,14 @@ use std::marker::Model;
 ///
 /// # Errors
 ///
-/// `NoMemory`. At the scalar's start: `UnclosedQuotedScalar`, `DocumentIndicatorInQuotedScalar`, and the
-/// kinds of a wrong escape, from `UnknownQuotedScalarEscape` to `InvalidUnicodeEscape`. At the character:
-/// `TabInIndentation` for a tab that indents a further line left of the tab column; `InvalidIndentation`
-/// and `InvalidQuotedScalarIndent` for content, the closing quote or the end on a further line left of
-/// where it may stand; `CommentNotSeparated` for a `#` directly behind the closing quote;
-/// `InvalidTrailingSingleQuotedScalar` and `InvalidTrailingDoubleQuotedScalar` for what may not follow;
-/// `UnexpectedCharacter` for one that isn't printable. `InputSlicingUnavailable`, where the input refuses to
-/// lend what it could.
+/// `NoMemory`, unless the input lends the scalar and nothing in it is decoded. At the scalar's start:
+/// `UnclosedQuotedScalar`, `DocumentIndicatorInQuotedScalar`, and the kinds of a wrong escape, from
+/// `UnknownQuotedScalarEscape` to `InvalidUnicodeEscape`. At the character: `TabInIndentation` for a tab that
+/// indents a further line left of the tab column; `InvalidIndentation` and `InvalidQuotedScalarIndent` for
+/// content, the closing quote or the end on a further line left of where it may stand; `CommentNotSeparated`
+/// for a `#` directly behind the closing quote; `InvalidTrailingSingleQuotedScalar` and
+/// `InvalidTrailingDoubleQuotedScalar` for what may not follow; `UnexpectedCharacter` for one that isn't
+/// printable. `InputSlicingUnavailable`, where the input refuses to lend what it could.
 pub fn scan_quoted_scalar<'input, T: BorrowedInput<'input>>(
     alloc: Global,
     cursor: &mut Cursor<T>,
@@ -63,6 +64,7 @@ pub fn scan_quoted_scalar<'input, T: BorrowedInput<'input>>(
     ensures answered { (h : Here) (read : spec.QuotedRead) (after : Here) → Stands T.unread cursor.old h
         → extent.AnswersQuoted single (layout_data at.now) h read after → IfErr result (λ e. e.kind ≡ OutOfMemory) }
     ensures kinds { IfErr result (λ e. IsQuotedKind e.kind) }
+    ensures memory { WithoutMemoryAt T.unread cursor.old result (quoted_takes_none single) }
     ensures moves { Moves T.unread T.left T.origin cursor.old cursor.new }
 {
     read_quoted(alloc, cursor, single, at)
@@ -495,6 +497,7 @@ fn comment_behind<'input, T: BorrowedInput<'input>>(
 ) -> Result<Option<Token<'input>>, ScanError>
     ensures here { ReadsAs T.unread cursor.old cursor.new result (asked (layout_data at.now)) }
     ensures kinds { IfErr result (λ e. IsQuotedKind e.kind) }
+    ensures lent { LendsWithoutMemory T.unread cursor.old result }
     ensures moves { Moves T.unread T.left T.origin cursor.old cursor.new }
 {
     if at.comments {
@@ -518,6 +521,7 @@ fn quoted_tail<'input, T: BorrowedInput<'input>>(
     ensures here { ReadsAs T.unread cursor.old cursor.new result (λ h. coded (quoted_lexed single)
         (spec.quoted_tail single (layout_data at.now) start text.entry h)) }
     ensures kinds { IfErr result (λ e. IsQuotedKind e.kind) }
+    ensures lent { LendsWithoutMemory T.unread cursor.old result }
     ensures moves { Moves T.unread T.left T.origin cursor.old cursor.new }
 {
     cursor.look(1);
@@ -621,6 +625,8 @@ fn read_passed<'input, T: BorrowedInput<'input>>(
     ensures here { ReadsAs T.unread cursor.old cursor.new result (λ h. coded (quoted_lexed single)
         (passed_scalar single (layout_data at.now) start (chars front.now) h)) }
     ensures kinds { IfErr result (λ e. IsQuotedKind e.kind) }
+    ensures memory { (h : Here) → Stands T.unread cursor.old h → h.unread.lends ≡ true
+        → spec.is_closing single h.unread.text ≡ true → IfErr result (λ e. ¬ (e.kind ≡ OutOfMemory)) }
     ensures moves { Moves T.unread T.left T.origin cursor.old cursor.new }
 {
     if at_closing(cursor, single) {
@@ -639,6 +645,7 @@ fn read_quoted<'input, T: BorrowedInput<'input>>(
     ensures here { ReadsAs T.unread cursor.old cursor.new result (λ h.
         coded (quoted_lexed single) (spec.quoted_scalar single (layout_data at.now) h)) }
     ensures kinds { IfErr result (λ e. IsQuotedKind e.kind) }
+    ensures memory { WithoutMemoryAt T.unread cursor.old result (quoted_takes_none single) }
     ensures moves { Moves T.unread T.left T.origin cursor.old cursor.new }
 {
     let start = cursor.mark();

@@ -28,7 +28,7 @@ use Rattle.granit_restart.specs.Calls.{Calls, noted}
 use Rattle.granit_restart.specs.Following.{document_follows}
 use Rattle.granit_restart.specs.Looking.{look_ahead}
 use Rattle.granit_restart.specs.Recovery.{answered, comment_of, recover, recovered, resumed}
-use Rattle.granit_restart.specs.Skipping.{with_pending}
+use Rattle.granit_restart.specs.Skipping.{Stops, with_pending}
 use Rattle.granit_restart.specs.Turned.{Turned}
 use Rattle.granit_stepper.specs.Numbers.{RefusesNumber}
 use Rattle.granit_stepper.specs.Recovering.{Looks}
@@ -116,7 +116,7 @@ module _ {I : Type 0} (unread : I → Unread → Type 0) (new : Stepping I) (o :
   if_ok (Ok x) a = a
   if_ok (Err e) a = tt
 
-  module _ (looked : Bool) (c : Calls) where
+  module _ (stops : Stops) (looked : Bool) (c : Calls) where
     number_met : (m n : StepState) (e : Refused) → ComesBy o c.steps m → AheadOf o m n
         → RefusesNumber new.renumbered o (with_pending [] n) e
         → MeetsNumber new.renumbered new.scanner.options c.steps
@@ -127,24 +127,23 @@ module _ {I : Type 0} (unread : I → Unread → Type 0) (new : Stepping I) (o :
     -- nothing was looked at
     pub none_answers : (old : Stepping I) → old.scanner.options ≡ o → new.first ≡ old.first
         → (p : Parsing I) → p.stepper ≡ new → p.peeked ≡ None → (r : Result Bool Refused)
-        → (a : AsksNow unread looked old c)
+        → (a : AsksNow unread stops looked old c)
         → Looks unread o o.max_buffered_comment_events r new a.goes.steps
-        → AnswersIn unread looked r p c ⊎ MeetsNumber new.renumbered new.scanner.options c.steps
+        → AnswersIn unread stops looked r p c ⊎ MeetsNumber new.renumbered new.scanner.options c.steps
     none_answers old before first p at unseen r a looks =
         let m = a.steps in
         let room = o.max_buffered_comment_events in
         let ahead = subst (λ o. AheadOf o m a.goes.steps) before a.goes.ahead in
         let exact = subst (λ o. (a.goes.steps ≡ m) ⊎ NoneComes o m) before (a.goes.between refl) in
         let tells = subst (λ o. LookTells o m) before a.asks.tells in
-        let recovers = subst (λ o. recover o a.asks.stops looked c ≡ recovered o 0 (resumed m)) before
+        let recovers = subst (λ o. recover o stops looked c ≡ recovered o 0 (resumed m)) before
         a.asks.recovers in
         let comes = subst (λ o. ComesBy o c.steps m) before a.asks.comes in
         elim (look_from m a.goes.steps room r ahead exact tells looks) [
           | inl l ↦ inl (record {
-            stops = a.asks.stops;
             steps = m;
-            recovers = subst (λ s. recover s.scanner.options a.asks.stops looked c ≡ answered r (resumed m)) (sym at)
-                (subst (λ o'. recover o' a.asks.stops looked c ≡ answered r (resumed m)) (sym same)
+            recovers = subst (λ s. recover s.scanner.options stops looked c ≡ answered r (resumed m)) (sym at)
+                (subst (λ o'. recover o' stops looked c ≡ answered r (resumed m)) (sym same)
                 (recovers ∙ ap (λ (n : ℕ). answered (document_follows o n m) (resumed m)) (omega arith)
                 ∙ ap (λ r. answered r (resumed m)) l.answer));
             seen = if_ok r (subst (λ s. SeenBy unread p.peeked s (answered r (resumed m)).1) (sym at)
@@ -158,10 +157,10 @@ module _ {I : Type 0} (unread : I → Unread → Type 0) (new : Stepping I) (o :
     -- a comment was looked at, and stays
     note_answers : (old : Stepping I) → old.scanner.options ≡ o → new.first ≡ old.first
         → (p : Parsing I) → p.stepper ≡ new → (x : Event × Span) → p.peeked ≡ Some (Ok x) → (r : Result Bool Refused)
-        → (a : AsksBefore unread looked old (plain_event x) c) → is_note (plain_event x).kind ≡ true
+        → (a : AsksBefore unread stops looked old (plain_event x) c) → is_note (plain_event x).kind ≡ true
         → SeenTells o a.steps a.seen.steps (plain_event x).kind
         → Looks unread o o.max_buffered_comment_events r new a.seen.goes.steps
-        → AnswersIn unread looked r p c ⊎ MeetsNumber new.renumbered new.scanner.options c.steps
+        → AnswersIn unread stops looked r p c ⊎ MeetsNumber new.renumbered new.scanner.options c.steps
     note_answers old before first p at x seen r a note (seen_other other follows) looks =
         absurd (let f = sym note ∙ other in cc)
     note_answers old before first p at x seen r a note (seen_comment same_note takes tells) looks =
@@ -182,15 +181,14 @@ module _ {I : Type 0} (unread : I → Unread → Type 0) (new : Stepping I) (o :
         ⊎ NoneComes o (noted e.kind (record (asking m) { steps = after })).steps) before (g.between between)) in
         let next : next_event o m ≡ Ok (Some e, after) =
         subst (λ o. next_event o m ≡ Ok (Some e, after)) before a.seen.next in
-        let recovers = subst (λ o. recover o a.asks.stops looked c ≡ recovered o (comment_of e.kind) (resumed m)) before
+        let recovers = subst (λ o. recover o stops looked c ≡ recovered o (comment_of e.kind) (resumed m)) before
         a.asks.recovers in
         let comes = subst (λ o. ComesBy o c.steps m) before a.asks.comes in
         elim (look_from after t room r ahead exact tells looks) [
           | inl l ↦ inl (record {
-            stops = a.asks.stops;
             steps = m;
-            recovers = subst (λ s. recover s.scanner.options a.asks.stops looked c ≡ answered r (resumed m)) (sym at)
-                (subst (λ o'. recover o' a.asks.stops looked c ≡ answered r (resumed m)) (sym same)
+            recovers = subst (λ s. recover s.scanner.options stops looked c ≡ answered r (resumed m)) (sym at)
+                (subst (λ o'. recover o' stops looked c ≡ answered r (resumed m)) (sym same)
                 (recovers ∙ ap (λ (n : ℕ). answered (document_follows o (room + n) m) (resumed m)) (note_room e.kind
                 note)
                 ∙ ap (λ (n : ℕ). answered (document_follows o n m) (resumed m)) (omega arith)
@@ -211,23 +209,22 @@ module _ {I : Type 0} (unread : I → Unread → Type 0) (new : Stepping I) (o :
 
     -- what was looked at and isn't a comment tells
     event_answers : (s : Stepping I) → s.scanner.options ≡ o → (p : Parsing I) → p.stepper ≡ s → (x : Event × Span)
-        → p.peeked ≡ Some (Ok x) → (a : AsksBefore unread looked s (plain_event x) c)
+        → p.peeked ≡ Some (Ok x) → (a : AsksBefore unread stops looked s (plain_event x) c)
         → spec.tells (seen_kind (plain_event x).kind) ≡ true → SeenTells o a.steps a.seen.steps (plain_event x).kind
-        → AnswersIn unread looked (Ok true) p c
+        → AnswersIn unread stops looked (Ok true) p c
     event_answers s before p at x seen a told (seen_comment note takes tells) =
         absurd (let f = sym told ∙ note_untold (plain_event x).kind note in cc)
     event_answers s before p at x seen a told (seen_other other follows) =
         let e = plain_event x in
         let m = a.steps in
         let room = o.max_buffered_comment_events in
-        let recovers = subst (λ o. recover o a.asks.stops looked c ≡ recovered o (comment_of e.kind) (resumed m)) before
+        let recovers = subst (λ o. recover o stops looked c ≡ recovered o (comment_of e.kind) (resumed m)) before
         a.asks.recovers in
         record {
-          stops = a.asks.stops;
           steps = m;
-          recovers = subst (λ s. recover s.scanner.options a.asks.stops looked c ≡ answered (Ok true) (resumed m))
+          recovers = subst (λ s. recover s.scanner.options stops looked c ≡ answered (Ok true) (resumed m))
               (sym at)
-              (subst (λ o'. recover o' a.asks.stops looked c ≡ answered (Ok true) (resumed m)) (sym before)
+              (subst (λ o'. recover o' stops looked c ≡ answered (Ok true) (resumed m)) (sym before)
               (recovers ∙ ap (λ r. answered r (resumed m)) (follows (room + comment_of e.kind))));
           seen = subst (λ s. SeenBy unread p.peeked s (resumed m)) (sym at)
               (subst (λ (w : Next). SeenBy unread w s (resumed m)) (sym seen) (record {
@@ -247,43 +244,44 @@ pub unless_map : {X A B : Type 0} (r : Result X Refused) → UnlessMemory r A �
 unless_map (Ok x) a f = f a
 unless_map (Err e) a f = λ other. f (a other)
 
-module _ {I : Type 0} (unread : I → Unread → Type 0) (looked : Bool) (c : Calls) where
+module _ {I : Type 0} (unread : I → Unread → Type 0) (stops : Stops) (looked : Bool) (c : Calls) where
   -- an event that was looked at tells
-  pub follows_told : (p : Parsing I) → AsksBy unread looked p.peeked p.stepper c
-      → spec.tells (seen_in p.peeked) ≡ true → Follows unread looked (Ok true) p c
+  pub follows_told : (p : Parsing I) → AsksBy unread stops looked p.peeked p.stepper c
+      → spec.tells (seen_in p.peeked) ≡ true → Follows unread stops looked (Ok true) p c
   follows_told p asks = by p.peeked refl asks
     where
-      by : (w : Next) → p.peeked ≡ w → AsksBy unread looked w p.stepper c → spec.tells (seen_in w) ≡ true
-          → Follows unread looked (Ok true) p c
+      by : (w : Next) → p.peeked ≡ w → AsksBy unread stops looked w p.stepper c → spec.tells (seen_in w) ≡ true
+          → Follows unread stops looked (Ok true) p c
       by None is a told = absurd (cc)
       by (Some (Ok x)) is a told =
-          inl (event_answers unread p.stepper p.stepper.scanner.options refl looked c p.stepper refl p refl x is a told
-          a.tells)
+          inl (event_answers unread p.stepper p.stepper.scanner.options refl stops looked c p.stepper refl p refl x
+          is a told a.tells)
       by (Some (Err e)) is a told = absurd a
 
   -- else a look tells
   pub follows_looked : (p q : Parsing I) (r : Result Bool Refused)
       → q.stepper.scanner.options ≡ p.stepper.scanner.options
-      → q.stepper.first ≡ p.stepper.first → q.peeked ≡ p.peeked → AsksBy unread looked p.peeked p.stepper c
+      → q.stepper.first ≡ p.stepper.first → q.peeked ≡ p.peeked → AsksBy unread stops looked p.peeked p.stepper c
       → spec.tells (seen_in p.peeked) ≡ false
       → ((m : StepState) → StandsAhead unread p.stepper m → p.stepper.first ≡ None
       → Turned p.stepper.scanner.options m → UnlessMemory r (Looks unread p.stepper.scanner.options
       p.stepper.scanner.options.max_buffered_comment_events r
       q.stepper m))
-      → UnlessMemory r (Follows unread looked r q c)
+      → UnlessMemory r (Follows unread stops looked r q c)
   follows_looked p q r options first peeked asks untold_by looks = by p.peeked peeked asks untold_by
     where
-      by : (w : Next) → q.peeked ≡ w → AsksBy unread looked w p.stepper c → spec.tells (seen_in w) ≡ false
-          → UnlessMemory r (Follows unread looked r q c)
+      by : (w : Next) → q.peeked ≡ w → AsksBy unread stops looked w p.stepper c → spec.tells (seen_in w) ≡ false
+          → UnlessMemory r (Follows unread stops looked r q c)
       by None is a told =
           unless_map r (looks a.goes.steps a.goes.stands (a.goes.told refl) a.turned)
-          (none_answers unread q.stepper p.stepper.scanner.options options looked c p.stepper refl first q refl is r a)
+          (none_answers unread q.stepper p.stepper.scanner.options options stops looked c p.stepper refl first q refl
+          is r a)
       by (Some (Ok x)) is a told =
           let e = plain_event x in
           let note = untold e.kind told in
           let between = ap (λ (d : Calls). d.between)
           (note_keeps e.kind (record (asking a.steps) { steps = a.seen.steps }) note) in
           unless_map r (looks a.seen.goes.steps a.seen.goes.stands (a.seen.goes.told between) a.turned)
-          (note_answers unread q.stepper p.stepper.scanner.options options looked c p.stepper refl first q refl x is r a
-          note a.tells)
+          (note_answers unread q.stepper p.stepper.scanner.options options stops looked c p.stepper refl first q refl
+          x is r a note a.tells)
       by (Some (Err e)) is a told = absurd a

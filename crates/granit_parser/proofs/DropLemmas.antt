@@ -4,6 +4,7 @@ use Rattle.std.proofs.Common.{Option, Some}
 use Rattle.std.proofs.Common.{None, Result, Ok, Err, refl, sym, ap, subst, ◌∙◌}
 use Rattle.std.specs.Prelude.{IfErr, IfOk, IfSome, OnOk}
 use Rattle.granit_base.specs.Place.{Unread}
+use Rattle.granit_cursor.specs.Reading.{Reading}
 use Rattle.granit_error.specs.OptionsData.{OptionsData}
 use Rattle.granit_error.specs.Refused.{Refused}
 use Rattle.granit_event.specs.Events.{plain_event}
@@ -11,7 +12,7 @@ use Rattle.granit_lexemes.specs.Outcome.{Fault}
 use Rattle.granit_lexemes.specs.PlainEvent.{PlainEvent, EventKind, DocumentStart, DocumentEnd, StreamEnd, Comment}
 use Rattle.granit_parser.proofs.CallLemmas.{ahead_turned, comes, ends, skip_over, skip_to_end}
 use Rattle.granit_parser.proofs.GoesLemmas.{note_keeps, noted_steps, stands_going}
-use Rattle.granit_parser.proofs.RecoverLemmas.{answered_steps, any_stops}
+use Rattle.granit_parser.proofs.RecoverLemmas.{answered_steps, any_stops, fits, fitting}
 use Rattle.granit_parser.proofs.RecoverLemmas.{asks_dropped, asks_fault, asks_here, asks_on, asks_seen, begins}
 use Rattle.granit_parser.proofs.RecoverLemmas.{look_other, seen_call, skipped_here, skipped_on, skipped_to_fault}
 use Rattle.granit_parser.proofs.RecoverLemmas.{starts_between, starts_fault, starts_over, starts_steps}
@@ -20,7 +21,7 @@ use Rattle.granit_parser.specs.Recovering as spec
 use Rattle.granit_parser.specs.Recovering.{AnswersBy, AsksAt, AsksBefore, AsksBy, AsksNow, ComesBy, Failed, Goes}
 use Rattle.granit_parser.specs.Recovering.{MeetsNumber, ParserIn, SeenBy, SeenNext, SeenTells, Skips, StaysBy, asking}
 use Rattle.granit_parser.specs.Recovering.{comes_ahead, comes_anew, comes_dropping, comes_here, comes_seen}
-use Rattle.granit_parser.specs.Recovering.{comes_behind, comes_ended}
+use Rattle.granit_parser.specs.Recovering.{StopsBy, StopsDropping, StopsIn, comes_behind, comes_ended}
 use Rattle.granit_parser.specs.Recovering.{seen_comment, seen_in, seen_kind, seen_other}
 use Rattle.granit_parser.specs.declared.recovery.Seen.TheVariants as seens
 use Rattle.granit_recovery.specs.Asking.{LookTells}
@@ -32,7 +33,7 @@ use Rattle.granit_restart.specs.Following.{document_follows}
 use Rattle.granit_restart.specs.Recovery.{comment_of, looked_by, recover, recovered, resumed}
 use Rattle.granit_restart.specs.Recovery.{skipped, starts_by}
 use Rattle.granit_restart.specs.Restart.{behind_fault}
-use Rattle.granit_restart.specs.Skipping.{Ended, Failed as failed_there, Stops, skip, skipped_document}
+use Rattle.granit_restart.specs.Skipping.{Ended, Failed as failed_there, SkipEnd, Stops, skip, skipped_document}
 use Rattle.granit_restart.specs.Skipping.{skipped_fault, skipped_to}
 use Rattle.granit_restart.specs.Turned.{Turned}
 use Rattle.granit_stepper.specs.Numbers.{RefusesNumber}
@@ -40,6 +41,12 @@ use Rattle.granit_stepper.specs.Recovering.{DropsOn, SkipsDocument, SkipsFault}
 use Rattle.granit_stepper.specs.Refusals.{StandsAhead}
 use Rattle.granit_stepper.specs.Stepping.{Stepping}
 use Rattle.granit_steps.specs.Steps.{StepState, next_event}
+
+-- recovery asks, by where refused reads stopped
+abbrev pub AsksFrom : {I : Type 0} → (I → Unread → Type 0) → (cursor : Reading I) → (looked : Bool) → Stepping I → Calls
+    → Type 0
+AsksFrom unread cursor looked s c =
+    (stops : Stops) × StopsIn unread cursor s.scanner.options stops c × AsksNow unread stops looked s c
 
 pub on_ok : {A B E : Type 0} {X : Type 0} (r : Result X E) → OnOk r A → IfOk r (λ x. B) → (C : Type 0) → (A → B → C)
     → OnOk r C
@@ -132,45 +139,59 @@ module _ {I : Type 0} (unread : I → Unread → Type 0) where
 
       module _ (o : OptionsData) (looked : Bool) (reached : Reached o c) (tells : TellsHere o) (by_turns : GoByTurns o)
           (new : Stepping I) (same : new.scanner.options ≡ o) where
-        pub fault_asks : (f : Fault) → c.fault ≡ Some f → SkipsFault unread o f new c.steps → new.first ≡ None
-            → AsksNow unread looked new c ⊎ MeetsNumber new.renumbered new.scanner.options c.steps
+        pub fault_asks : (cursor : Reading I) (f : Fault) → c.fault ≡ Some f → SkipsFault unread o cursor f new c.steps
+            → new.first ≡ None → AsksFrom unread cursor looked new c
+            ⊎ MeetsNumber new.renumbered new.scanner.options c.steps
         unfolding exactly
-        fault_asks f is (inl x) first =
+        fault_asks cursor f is (inl x) first =
             let m = skipped_fault o x.0 f c.steps in
-            inl (record {
-              steps = m;
-              asks = record {
-                stops = x.0;
-                recovers = subst (λ o'. recover o' x.0 looked c ≡ recovered o' 0 (resumed m)) (sym same)
-                    (asks_fault o x.0 looked c f refusal over is);
-                tells = subst (λ o'. LookTells o' m) (sym same) (subst (LookTells o)
-                    (ap (λ (d : Calls). d.steps) (skipped_to_fault o x.0 c f is)) (tells x.0 c reached over));
-                comes = subst (λ o'. ComesBy o' c.steps m) (sym same) (comes_behind x.0 f comes_here);
-              };
-              goes = exactly new m x.3 first;
-              turned = subst (λ o'. Turned o' m) (sym same) (asks_turned o x.0 looked c m reached by_turns
-                  (asks_fault o x.0 looked c f refusal over is));
-            })
-        fault_asks f is (inr x) first =
-            let drops = subst (λ o'. DropsOn o' (behind_fault x.0 c.steps).1 x.1) (sym same) x.3 in
-            let number = subst (λ o'. RefusesNumber new.renumbered o' x.1 x.2) (sym same) x.4 in
-            inr (x.1, x.2, comes_dropping (comes_anew x.0 comes_here) drops, number)
+            let stops : StopsBy unread cursor o x.0 c.fault c.steps =
+            subst (λ (g : Option Fault). StopsBy unread cursor o x.0 g c.steps) (sym is) (x.1, x.2) in
+            inl (
+              x.0,
+              subst (λ o'. StopsIn unread cursor o' x.0 c) (sym same) (λ over refusal. stops),
+              record {
+                steps = m;
+                asks = record {
+                  recovers = subst (λ o'. recover o' x.0 looked c ≡ recovered o' 0 (resumed m)) (sym same)
+                      (asks_fault o x.0 looked c f refusal over is);
+                  tells = subst (λ o'. LookTells o' m) (sym same) (subst (LookTells o)
+                      (ap (λ (d : Calls). d.steps) (skipped_to_fault o x.0 c f is)) (tells x.0 c reached over));
+                  comes = subst (λ o'. ComesBy o' c.steps m) (sym same) (comes_behind x.0 f comes_here);
+                };
+                goes = exactly new m x.3 first;
+                turned = subst (λ o'. Turned o' m) (sym same) (asks_turned o x.0 looked c m reached by_turns
+                    (asks_fault o x.0 looked c f refusal over is));
+              },
+            )
+        fault_asks cursor f is (inr x) first =
+            let drops = subst (λ o'. DropsOn o' (behind_fault x.0 c.steps).1 x.2) (sym same) x.4 in
+            let number = subst (λ o'. RefusesNumber new.renumbered o' x.2 x.3) (sym same) x.5 in
+            inr (x.2, x.3, comes_dropping (comes_anew x.0 comes_here) drops, number)
 
       -- ---- a document
 
-      module _ (o : OptionsData) (looked : Bool) (new : Stepping I) (same : new.scanner.options ≡ o) (t : StepState)
+      module _ (cursor : Reading I) (fault : c.fault ≡ None) (o : OptionsData) (looked : Bool) (new : Stepping I)
+          (same : new.scanner.options ≡ o) (t : StepState)
           (skips : skip o c.steps ≡ skip o t) (path : ComesBy o c.steps t)
           (recovers : (stops : Stops) → recover o stops looked c
           ≡ recovered o 0 (resumed (skipped_document o stops c.steps)))
           (tells : (stops : Stops) → LookTells o (skipped_document o stops c.steps))
           (reached : Reached o c) (by_turns : GoByTurns o) where
+        stops_fit : (stops : Stops) (r : SkipEnd) → skip o t ≡ r → StopsDropping o stops r
+            → StopsIn unread cursor new.scanner.options stops c
+        stops_fit stops r is fit =
+            let by : StopsBy unread cursor o stops c.fault c.steps =
+            subst (λ (f : Option Fault). StopsBy unread cursor o stops f c.steps) (sym fault)
+            (subst (StopsDropping o stops) (sym (skips ∙ is)) fit) in
+            subst (λ o'. StopsIn unread cursor o' stops c) (sym same) (λ over refusal. by)
+
         skipped_asks : (stops : Stops) (m : StepState) → skipped_document o stops c.steps ≡ m → ComesBy o c.steps m
-            → StandsAhead unread new m → new.first ≡ None → AsksNow unread looked new c
+            → StandsAhead unread new m → new.first ≡ None → AsksNow unread stops looked new c
         unfolding exactly
         skipped_asks stops m is comes stands first = record {
           steps = m;
           asks = record {
-            stops = stops;
             recovers = subst (λ o'. recover o' stops looked c ≡ recovered o' 0 (resumed m)) (sym same)
                 (subst (λ m. recover o stops looked c ≡ recovered o 0 (resumed m)) is (recovers stops));
             tells = subst (λ o'. LookTells o' m) (sym same) (subst (LookTells o) is (tells stops));
@@ -189,21 +210,30 @@ module _ {I : Type 0} (unread : I → Unread → Type 0) where
 
         fault_met : (n : StepState) (e : Refused) → ComesBy o c.steps n
             → (skip o t ≡ failed_there e n) ⊎ RefusesNumber new.renumbered o n e
-            → SkipsFault unread o e new n → new.first ≡ None
-            → AsksNow unread looked new c ⊎ MeetsNumber new.renumbered new.scanner.options c.steps
-        fault_met n e comes (inl fails) (inl x) first =
-            inl (skipped_asks x.0 (skipped_fault o x.0 e n) (ap (skipped_to o x.0) (skips ∙ fails))
-            (comes_behind x.0 e comes) x.3 first)
-        fault_met n e comes (inr number) (inl x) first = inr (number_met n e comes number)
-        fault_met n e comes how (inr x) first =
-            inr (number_met x.1 x.2 (comes_dropping (comes_anew x.0 comes) x.3) x.4)
+            → (later : Reading I) → SkipsFault unread o later e new n → new.first ≡ None
+            → AsksFrom unread cursor looked new c
+            ⊎ MeetsNumber new.renumbered new.scanner.options c.steps
+        fault_met n e comes (inl fails) later (inl x) first =
+            inl (
+              x.0,
+              stops_fit x.0 (failed_there e n) fails (x.1.0, x.2),
+              skipped_asks x.0 (skipped_fault o x.0 e n) (ap (skipped_to o x.0) (skips ∙ fails))
+                  (comes_behind x.0 e comes) x.3 first,
+            )
+        fault_met n e comes (inr number) later (inl x) first = inr (number_met n e comes number)
+        fault_met n e comes how later (inr x) first =
+            inr (number_met x.2 x.3 (comes_dropping (comes_anew x.0 comes) x.4) x.5)
 
-        pub document_asks : SkipsDocument unread o new t → new.first ≡ None
-            → AsksNow unread looked new c ⊎ MeetsNumber new.renumbered new.scanner.options c.steps
+        pub document_asks : SkipsDocument unread o new t → new.first ≡ None → AsksFrom unread cursor looked new c
+            ⊎ MeetsNumber new.renumbered new.scanner.options c.steps
         document_asks (inl x) first =
-            inl (skipped_asks (any_stops c) x.0 (ap (skipped_to o (any_stops c)) (skips ∙ x.1)) (comes_ended path x.1)
-            x.2 first)
-        document_asks (inr x) first = fault_met x.0 x.1 (comes_dropping path x.2) x.3 x.4 first
+            inl (
+              any_stops c,
+              stops_fit (any_stops c) (Ended x.0) x.1 tt,
+              skipped_asks (any_stops c) x.0 (ap (skipped_to o (any_stops c)) (skips ∙ x.1)) (comes_ended path x.1)
+                  x.2 first,
+            )
+        document_asks (inr x) first = fault_met x.0 x.1 (comes_dropping path x.2) x.3 x.4.0 x.4.1 first
 
 -- ---- what was looked at
 
@@ -269,8 +299,8 @@ module _ {I : Type 0} (unread : I → Unread → Type 0) (p : Parsing I) (c : Ca
   -- ---- directly behind a document
 
   module _ (between : p.between ≡ true) where
-    stops : Stops
-    stops = any_stops c
+    abbrev stops : Stops
+    stops = fitting o (skip o c.steps)
 
     here : (skipped o stops c).steps ≡ c.steps
     here = ap (λ (d : Calls). d.steps) (skipped_here o stops c fault (between_is true between))
@@ -278,12 +308,11 @@ module _ {I : Type 0} (unread : I → Unread → Type 0) (p : Parsing I) (c : Ca
     tells_here : LookTells o c.steps
     tells_here = subst (LookTells o) here (tells stops c reached over)
 
-    none_stays : Goes unread p.stepper c → GoByTurns o → AsksNow unread false p.stepper c
+    none_stays : Goes unread p.stepper c → GoByTurns o → AsksNow unread stops false p.stepper c
     unfolding goes_same
     none_stays g by_turns = record {
       steps = c.steps;
       asks = record {
-        stops = stops;
         recovers = subst (λ o'. recover o' stops false c ≡ recovered o' 0 (resumed c.steps)) (sym same)
             (asks_here o stops c refusal over fault (between_is true between));
         tells = subst (λ o'. LookTells o' c.steps) (sym same) tells_here;
@@ -321,12 +350,11 @@ module _ {I : Type 0} (unread : I → Unread → Type 0) (p : Parsing I) (c : Ca
           seen_other note (λ r. sym (tells_here.tells r) ∙ look_other o e n.steps note
           (λ is. going (ap seen_kind is)) r c.steps (comes o c.steps n.steps e (by_turns c reached) (next_in e n)))
 
-      event_stays : AsksBefore unread true p.stepper e c
+      event_stays : AsksBefore unread stops true p.stepper e c
       unfolding goes_same
       event_stays = record {
         steps = c.steps;
         asks = record {
-          stops = stops;
           recovers = subst (λ o'. recover o' stops true c ≡ recovered o' (comment_of e.kind) (resumed c.steps)) (sym
               same)
               (asks_seen o stops c refusal over fault e n.steps (next_in e n) (between_is true between) other);
@@ -354,14 +382,24 @@ module _ {I : Type 0} (unread : I → Unread → Type 0) (p : Parsing I) (c : Ca
           noted_same StreamEnd a d e = e
           noted_same kind a d e = e
 
+  fitting_in : (cursor : Reading I) → StopsIn unread cursor p.stepper.scanner.options (fitting o (skip o c.steps)) c
+  fitting_in cursor =
+      let stops = fitting o (skip o c.steps) in
+      let by : StopsBy unread cursor o stops c.fault c.steps =
+      subst (λ (f : Option Fault). StopsBy unread cursor o stops f c.steps) (sym fault) (fits o (skip o c.steps)) in
+      subst (λ o'. StopsIn unread cursor o' stops c) (sym same) (λ over refusal. by)
+
   -- what was looked at stays
-  pub all_stays : SeenBy unread p.peeked p.stepper c → p.between ≡ true → GoByTurns o → TakesRoom o
-      → spec.starts (seen_in p.peeked) ≡ false → (seen_in p.peeked ≡ seens.StreamEnd → ⊥)
-      → AsksBy unread (is_some p.peeked) p.peeked p.stepper c
-  all_stays seen between by_turns room = by p.peeked seen
+  pub all_stays : (cursor : Reading I) → SeenBy unread p.peeked p.stepper c → p.between ≡ true → GoByTurns o
+      → TakesRoom o → spec.starts (seen_in p.peeked) ≡ false → (seen_in p.peeked ≡ seens.StreamEnd → ⊥)
+      → (stops : Stops) × StopsIn unread cursor p.stepper.scanner.options stops c
+      × AsksBy unread stops (is_some p.peeked) p.peeked p.stepper c
+  all_stays cursor seen between by_turns room other going =
+      (fitting o (skip o c.steps), fitting_in cursor, by p.peeked seen other going)
     where
       by : (r : Next) → SeenBy unread r p.stepper c → spec.starts (seen_in r) ≡ false
-          → (seen_in r ≡ seens.StreamEnd → ⊥) → AsksBy unread (is_some r) r p.stepper c
+          → (seen_in r ≡ seens.StreamEnd → ⊥)
+          → AsksBy unread (fitting o (skip o c.steps)) (is_some r) r p.stepper c
       by None g other going = none_stays between g by_turns
       by (Some (Ok x)) n other going =
           event_stays between (plain_event x) n by_turns room (begins_not (plain_event x).kind other) going
@@ -369,23 +407,23 @@ module _ {I : Type 0} (unread : I → Unread → Type 0) (p : Parsing I) (c : Ca
 
   -- ---- the end of a document that was looked at goes
 
-  pub end_goes : SeenBy unread p.peeked p.stepper c → GoByTurns o
+  pub end_goes : (cursor : Reading I) → SeenBy unread p.peeked p.stepper c → GoByTurns o
       → (p.between && not (spec.starts (seen_in p.peeked))) ≡ false → spec.ends (seen_in p.peeked) ≡ true
-      → AsksNow unread (is_some p.peeked) p.stepper c
+      → AsksFrom unread cursor (is_some p.peeked) p.stepper c
   unfolding goes_same
-  end_goes seen by_turns = by p.peeked seen
+  end_goes cursor seen by_turns not_here ended =
+      (fitting o (skip o c.steps), fitting_in cursor, by p.peeked seen not_here ended)
     where
       event : (e : PlainEvent) → SeenNext unread p.stepper e c → e.kind ≡ DocumentEnd → c.between ≡ false
-          → AsksNow unread true p.stepper c
+          → AsksNow unread (fitting o (skip o c.steps)) true p.stepper c
       event e n end within =
-          let stops = any_stops c in
+          let stops = fitting o (skip o c.steps) in
           let skips : skip o c.steps ≡ Ended n.steps =
           skip_to_end o c.steps n.steps e (by_turns c reached) (next_in e n) end in
           let is : skipped_document o stops c.steps ≡ n.steps = ap (skipped_to o stops) skips in
           record {
             steps = n.steps;
             asks = record {
-              stops = stops;
               recovers = subst (λ o'. recover o' stops true c ≡ recovered o' 0 (resumed n.steps)) (sym same)
                   (subst (λ m. recover o stops true c ≡ recovered o 0 (resumed m)) is
                   (asks_dropped o stops c refusal over fault e n.steps (next_in e n) (inl within)));
@@ -406,7 +444,7 @@ module _ {I : Type 0} (unread : I → Unread → Type 0) (p : Parsing I) (c : Ca
       other_end b kind end e = within_by b (ap (λ k. b && not (spec.starts (seen_kind k))) (sym end) ∙ e)
 
       by : (r : Next) → SeenBy unread r p.stepper c → (p.between && not (spec.starts (seen_in r))) ≡ false
-          → spec.ends (seen_in r) ≡ true → AsksNow unread (is_some r) p.stepper c
+          → spec.ends (seen_in r) ≡ true → AsksNow unread (fitting o (skip o c.steps)) (is_some r) p.stepper c
       by None g not_here ended = absurd (cc)
       by (Some (Ok x)) n not_here ended =
           let end = ends_is (plain_event x).kind ended in
@@ -415,22 +453,23 @@ module _ {I : Type 0} (unread : I → Unread → Type 0) (p : Parsing I) (c : Ca
 
   -- ---- a document goes
 
-  module _ (new : Stepping I) (kept : new.scanner.options ≡ o) (first : new.first ≡ None) (by_turns : GoByTurns o)
-      (looks : TellsLooked o) where
+  module _ (cursor : Reading I) (new : Stepping I) (kept : new.scanner.options ≡ o) (first : new.first ≡ None)
+      (by_turns : GoByTurns o) (looks : TellsLooked o) where
     none_goes : (g : Goes unread p.stepper c) → p.between ≡ false → SkipsDocument unread o new g.steps
-        → AsksNow unread false new c ⊎ MeetsNumber new.renumbered new.scanner.options c.steps
+        → AsksFrom unread cursor false new c ⊎ MeetsNumber new.renumbered new.scanner.options c.steps
     none_goes g within skips =
         let b = between_is false within in
         let ahead = subst (λ o. AheadOf o c.steps g.steps) same g.ahead in
-        document_asks unread p c at over refusal o false new kept g.steps (skip_alike o c.steps g.steps ahead)
-        (comes_ahead comes_here ahead) (λ stops. asks_on o stops c refusal over fault b)
+        document_asks unread p c at over refusal cursor fault o false new kept g.steps
+        (skip_alike o c.steps g.steps ahead) (comes_ahead comes_here ahead)
+        (λ stops. asks_on o stops c refusal over fault b)
         (λ stops. subst (LookTells o) (ap (λ (d : Calls). d.steps) (skipped_on o stops c fault b))
         (tells stops c reached over)) reached by_turns skips first
 
     event_goes : (e : PlainEvent) (n : SeenNext unread p.stepper e c)
         → (p.between ≡ false) ⊎ (begins e.kind ≡ true) → ends e.kind ≡ false
         → SkipsDocument unread o new n.goes.steps
-        → AsksNow unread true new c ⊎ MeetsNumber new.renumbered new.scanner.options c.steps
+        → AsksFrom unread cursor true new c ⊎ MeetsNumber new.renumbered new.scanner.options c.steps
     event_goes e n within other skips =
         let d : Calls = noted e.kind (record c { steps = n.steps }) in
         let ahead : AheadOf o n.steps n.goes.steps =
@@ -443,7 +482,7 @@ module _ {I : Type 0} (unread : I → Unread → Type 0) (p : Parsing I) (c : Ca
         let looked : looked_by c (next_call o c) ≡ starts_by e.kind c =
         ap (looked_by c) (seen_call o (any_stops c) c refusal over fault e n.steps (next_in e n)) in
         let none : (starts_by e.kind c).between ≡ false = starts_between e.kind c inside in
-        document_asks unread p c at over refusal o true new kept n.goes.steps
+        document_asks unread p c at over refusal cursor fault o true new kept n.goes.steps
         (skip_over o c.steps n.steps e (by_turns c reached) (next_in e n) other
         ∙ skip_alike o n.steps n.goes.steps ahead)
         (comes_ahead (comes_seen comes_here (next_in e n)) ahead)
@@ -459,12 +498,14 @@ module _ {I : Type 0} (unread : I → Unread → Type 0) (p : Parsing I) (c : Ca
         → (p.between && not (spec.starts (seen_in p.peeked))) ≡ false → spec.ends (seen_in p.peeked) ≡ false
         → (seen_in p.peeked ≡ seens.StreamEnd → ⊥)
         → ((m : StepState) → StandsAhead unread p.stepper m → Turned o m → SkipsDocument unread o new m)
-        → AsksNow unread (is_some p.peeked) new c ⊎ MeetsNumber new.renumbered new.scanner.options c.steps
+        → AsksFrom unread cursor (is_some p.peeked) new c
+        ⊎ MeetsNumber new.renumbered new.scanner.options c.steps
     document_goes seen not_here other going skips = by p.peeked seen not_here other going
       where
         by : (r : Next) → SeenBy unread r p.stepper c → (p.between && not (spec.starts (seen_in r))) ≡ false
             → spec.ends (seen_in r) ≡ false → (seen_in r ≡ seens.StreamEnd → ⊥)
-            → AsksNow unread (is_some r) new c ⊎ MeetsNumber new.renumbered new.scanner.options c.steps
+            → AsksFrom unread cursor (is_some r) new c
+            ⊎ MeetsNumber new.renumbered new.scanner.options c.steps
         by None g not_here other going =
             let ahead = subst (λ o. AheadOf o c.steps g.steps) same g.ahead in
             none_goes g (within_by p.between not_here)

@@ -16,7 +16,7 @@ use Rattle.granit_lexemes.specs.Here.{Here}
 use Rattle.granit_lexemes.specs.Outcome.{Fault}
 use Rattle.granit_lexemes.specs.PlainEvent.{PlainEvent, EventKind, DocumentStart, DocumentEnd, StreamEnd}
 use Rattle.granit_parser.proofs.CallLemmas.{call_going}
-use Rattle.granit_parser.specs.Parsing.{EndsWith, GivesNext, IsOver, Keeps, Next, Parsing, PeeksAs}
+use Rattle.granit_parser.specs.Parsing.{EndsWith, GivesNext, IsOver, Keeps, Next, Parsing, PeeksAs, Starves}
 use Rattle.granit_parser.specs.Parsing.{ShowsNext, StandsBefore}
 use Rattle.granit_parser.specs.Recovering.{AnswersBy, Failed, FailsAt, GaveUp, GivesCall, Goes, IsClosed, IsOpen}
 use Rattle.granit_parser.specs.Recovering.{ParserIn, ReadsNext, SeenBy, SeenNext, SeenNone, ShowsCall, StaysBy}
@@ -44,13 +44,13 @@ noted_over DocumentEnd c v e = e
 noted_over StreamEnd c v e = refl
 noted_over kind c v e = e
 
-noted_fault : (kind : EventKind) (c : Calls) → (noted kind c).fault ≡ c.fault
+pub noted_fault : (kind : EventKind) (c : Calls) → (noted kind c).fault ≡ c.fault
 noted_fault (DocumentStart explicit version) c = refl
 noted_fault DocumentEnd c = refl
 noted_fault StreamEnd c = refl
 noted_fault kind c = refl
 
-noted_refusal : (kind : EventKind) (c : Calls) → (noted kind c).refusal ≡ c.refusal
+pub noted_refusal : (kind : EventKind) (c : Calls) → (noted kind c).refusal ≡ c.refusal
 noted_refusal (DocumentStart explicit version) c = refl
 noted_refusal DocumentEnd c = refl
 noted_refusal StreamEnd c = refl
@@ -77,14 +77,17 @@ closed_open c closed is =
 
 -- where nothing is given nothing is noted
 pub noted_none : {I : Type 0} (p t q : Parsing I) (r : Next) → r ≡ None → t ≡ p
-    → q ≡ record t { given = q.given; between = q.between; over = q.over } → q.between ≡ notes_between r t.between
-    → q.over ≡ notes_over r t.over → Keeps r t.given q.given → q ≡ p
-noted_none p t q r none same rest between over given =
+    → q ≡ record t { given = q.given; starved = q.starved; between = q.between; over = q.over }
+    → q.between ≡ notes_between r t.between → q.over ≡ notes_over r t.over → Keeps r t.given q.given
+    → Starves r t.starved q.starved → q ≡ p
+noted_none p t q r none same rest between over given starved =
     let b : q.between ≡ t.between = between ∙ ap (λ (r : Next). notes_between r t.between) none in
     let v : q.over ≡ t.over = over ∙ ap (λ (r : Next). notes_over r t.over) none in
     let g : q.given ≡ t.given = subst (λ (r : Next). Keeps r t.given q.given) none given in
+    let s : q.starved ≡ t.starved = subst (λ (r : Next). Starves r t.starved q.starved) none starved in
     rest
-    ∙ ap (λ g. record t { given = g; between = q.between; over = q.over }) g
+    ∙ ap (λ g. record t { given = g; starved = q.starved; between = q.between; over = q.over }) g
+    ∙ ap (λ s. record t { starved = s; between = q.between; over = q.over }) s
     ∙ ap (λ b. record t { between = b; over = q.over }) b
     ∙ ap (λ v. record t { over = v }) v
     ∙ same
@@ -93,6 +96,18 @@ noted_none p t q r none same rest between over given =
 pub none_seen : (w v : Next) (b : Bool) → v ≡ w → is_some v ≡ not b → b ≡ true → w ≡ None
 none_seen w None b same is none = sym same
 none_seen w (Some x) b same is none = absurd (let f = is ∙ ap not none in cc)
+
+-- a call of the machine gives something
+abbrev pub NeverNone : OptionsData → Calls → Type 0
+NeverNone o c = (next_call o c).0 ≡ None → ⊥
+
+-- so does each open call that calls lead to
+abbrev pub OpenGives : OptionsData → Type 0
+OpenGives o = (c : Calls) → Reached o c → c.over ≡ false → c.fault ≡ None → c.refusal ≡ None → NeverNone o c
+
+pub never_none : (o p : OptionsData) (c : Calls) → o ≡ p → OpenGives p → Reached p c → IsOpen c → NeverNone o c
+never_none o p c same gives reached is none =
+    gives c reached is.over is.fault is.refusal (subst (λ q. (next_call q c).0 ≡ None) same none)
 
 module _ {I : Type 0} (unread : I → Unread → Type 0) where
   -- ---- where a parser is
@@ -144,10 +159,11 @@ module _ {I : Type 0} (unread : I → Unread → Type 0) where
   -- what was read is given
   pub call_gives : (r : Next) (q : Parsing I) (c : Calls) (between over : Bool) → IsOpen c
       → between ≡ c.between → over ≡ c.over → ReadsNext unread r q.stepper c → q.peeked ≡ None
-      → q.between ≡ notes_between r between → q.over ≡ notes_over r over → GivesCall unread r q c
-  call_gives None q c between over is b v reads none noted_b noted_v =
-      call_none q.stepper.scanner.options c is reads.0 reads.1
-  call_gives (Some (Ok x)) q c between over is b v reads none noted_b noted_v =
+      → q.between ≡ notes_between r between → q.over ≡ notes_over r over → NeverNone q.stepper.scanner.options c
+      → GivesCall unread r q c
+  call_gives None q c between over is b v reads none noted_b noted_v never =
+      never (call_none q.stepper.scanner.options c is reads.0 reads.1)
+  call_gives (Some (Ok x)) q c between over is b v reads none noted_b noted_v never =
       let kind = (plain_event x).kind in
       let d : Calls = noted kind (record c { steps = reads.steps }) in (
         d,
@@ -158,7 +174,7 @@ module _ {I : Type 0} (unread : I → Unread → Type 0) where
             (noted_b ∙ noted_between kind (record c { steps = reads.steps }) between b)
             (unseen_by q d none reads.goes),
       )
-  call_gives (Some (Err e)) q c between over is b v reads none noted_b noted_v = λ other.
+  call_gives (Some (Err e)) q c between over is b v reads none noted_b noted_v never = λ other.
       let x = reads other in (
         x.0,
         x.2,
@@ -174,11 +190,12 @@ module _ {I : Type 0} (unread : I → Unread → Type 0) where
 
   -- what was read is looked at
   pub call_shows : (r : Next) (q : Parsing I) (c : Calls) → IsOpen c → ReadsNext unread r q.stepper c
-      → q.peeked ≡ r → q.between ≡ c.between → q.over ≡ c.over → ShowsCall unread r q c
-  call_shows None q c is reads seen b v = call_none q.stepper.scanner.options c is reads.0 reads.1
-  call_shows (Some (Ok x)) q c is reads seen b v =
+      → q.peeked ≡ r → q.between ≡ c.between → q.over ≡ c.over → NeverNone q.stepper.scanner.options c
+      → ShowsCall unread r q c
+  call_shows None q c is reads seen b v never = never (call_none q.stepper.scanner.options c is reads.0 reads.1)
+  call_shows (Some (Ok x)) q c is reads seen b v never =
       goes_in q c is.refusal is.fault v b (subst (λ (r : Next). SeenBy unread r q.stepper c) (sym seen) reads)
-  call_shows (Some (Err e)) q c is reads seen b v = λ other.
+  call_shows (Some (Err e)) q c is reads seen b v never = λ other.
       let x = reads other in
       (x.0, x.2, failed_at q x.0 e c is.refusal v (subst (λ (r : Next). SeenNone r) (sym seen) tt) x.1)
 
@@ -301,11 +318,13 @@ module _ {I : Type 0} (unread : I → Unread → Type 0) where
     -- else it shows what is read
     pub peeks_read : ((c : Calls) → Reached p.stepper.scanner.options c → Goes unread p.stepper c
         → ReadsNext unread r q.stepper c ⊎ TellsSource origin r q.stepper.scanner.cursor)
-        → NeverRecovers origin p.stepper r q.stepper → PeeksIn unread origin p q.peeked q
-    peeks_read reads lost = record {
+        → NeverRecovers origin p.stepper r q.stepper → q.stepper.scanner.options ≡ p.stepper.scanner.options
+        → OpenGives p.stepper.scanner.options → PeeksIn unread origin p q.peeked q
+    peeks_read reads lost same gives = record {
       calls = λ c reached opened at free. subst (λ (w : Next). ShowsCall unread w q c) (sym seen)
           (elim (reads c reached (subst (λ (w : Next). SeenBy unread w p.stepper c) none (open_seen p c opened at))) [
             | inl read ↦ call_shows r q c opened read seen (between ∙ at.between opened) (over ∙ at.over)
+                (never_none q.stepper.scanner.options p.stepper.scanner.options c same gives reached opened)
             | inr source ↦ absurd (told_free origin r q.stepper.scanner.cursor source free)
           ]);
       closed = λ c closed at. closed_by c.over c refl closed at;

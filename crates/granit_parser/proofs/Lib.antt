@@ -8,11 +8,14 @@ pub mod FirstLemmas
 pub mod GoesLemmas
 pub mod InLemmas
 mod KeepLemmas
+pub mod LedLemmas
 pub mod MetLemmas
 pub mod PlaceLemmas
 pub mod ProceedLemmas
 pub mod RecoverLemmas
+pub mod ResumedLemmas
 pub mod SendLemmas
 pub mod SourceLemmas
 pub mod StartLaws
 pub mod TextLemmas
+pub mod WantLemmas

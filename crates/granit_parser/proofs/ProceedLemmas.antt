@@ -14,7 +14,7 @@ use Rattle.granit_parser.proofs.RecoverLemmas.{any_stops}
 use Rattle.granit_parser.specs.Parsing.{Parsing}
 use Rattle.granit_parser.specs.Recovering as spec
 use Rattle.granit_parser.specs.Recovering.{AnswersBy, AnswersIn, AsksBy, Ends, EndsIn, Follows, GaveUp, IsOpen}
-use Rattle.granit_parser.specs.Recovering.{MeetsNumber, ParserIn, Proceeds, SeenBy, Skips, StaysBy, seen_in}
+use Rattle.granit_parser.specs.Recovering.{MeetsNumber, ParserIn, Proceeds, SeenBy, Skips, StaysBy, StopsIn, seen_in}
 use Rattle.granit_parser.specs.Sources.{TellsSource}
 use Rattle.granit_parser.specs.declared.recovery.Seen.{Seen}
 use Rattle.granit_parser.specs.declared.recovery.Seen.TheVariants as seens
@@ -84,6 +84,7 @@ module _ {I : Type 0} (unread : I → Unread → Type 0) where
           let same = again_is f gone.kept e gone.is_kept kept other in
           inl (inl (
             any_stops c,
+            λ over none. absurd (let clash : true ≡ false = ap is_some (sym is ∙ none) in cc),
             c,
             refusal_again q.stepper.scanner.options (any_stops c) (is_some p.peeked) c f is
                 ∙ ap (λ e. (Err e, c)) same,
@@ -100,19 +101,29 @@ module _ {I : Type 0} (unread : I → Unread → Type 0) where
       by (Some f) is gone = absurd (recovers_part p.stepper.failed p.stepper.refusal going gone.failed gone.refusal)
 
   -- behind the end of the stream nothing changes
-  pub over_ends : (p : Parsing I) (c : Calls) → ParserIn unread p c
+  pub over_ends : (p : Parsing I) (c : Calls) → ParserIn unread p c → c.over ≡ true
       → recover p.stepper.scanner.options (any_stops c) (is_some p.peeked) c ≡ (Ok false, c)
       → Ends unread (Ok false) p p c
-  over_ends p c at law = inl (inl (any_stops c, c, law, at))
+  over_ends p c at over law = inl (inl (
+    any_stops c,
+    λ going none. absurd (let clash : true ≡ false = sym over ∙ going in cc),
+    c,
+    law,
+    at,
+  ))
 
   -- ---- behind what was dropped
 
-  module _ (p mid : Parsing I) (c : Calls) (skips : Skips unread (is_some p.peeked) mid c) where
+  module _ (p mid : Parsing I) (c : Calls)
+      (skips : Skips unread p.stepper.scanner.cursor (is_some p.peeked) mid c) where
+    abbrev StopsHere : OptionsData → Stops → Type 0
+    StopsHere o stops = StopsIn unread p.stepper.scanner.cursor o stops c
+
     -- a refusal of the look
     pub refused_ends : (q : Parsing I) (e : Refused) → q.stepper.scanner.options ≡ mid.stepper.scanner.options
         → q.stepper.renumbered ≡ mid.stepper.renumbered
-        → ((looked : Bool) (c : Calls) → AsksBy unread looked mid.peeked mid.stepper c
-        → UnlessMemory {X = Bool} (Err e) (Follows unread looked (Err e) q c))
+        → ((stops : Stops) (looked : Bool) (c : Calls) → AsksBy unread stops looked mid.peeked mid.stepper c
+        → UnlessMemory {X = Bool} (Err e) (Follows unread stops looked (Err e) q c))
         → (e.kind ≡ NoMemory → ⊥) → Ends unread (Err e) p q c
     refused_ends q e options renumbered known other = by skips
       where
@@ -121,12 +132,16 @@ module _ {I : Type 0} (unread : I → Unread → Type 0) where
         met n = subst (λ o. MeetsNumber q.stepper.renumbered o c.steps) (sym options)
             (subst (λ b. MeetsNumber b mid.stepper.scanner.options c.steps) (sym renumbered) n)
 
-        answer : Follows unread (is_some p.peeked) (Err e) q c → Ends unread (Err e) p q c
-        answer (inl a) = inl (inl (a.stops, (answered (Err e) (resumed a.steps)).1, a.recovers, (refl, refl)))
-        answer (inr n) = inr n
+        answer : (stops : Stops) → StopsHere q.stepper.scanner.options stops
+            → Follows unread stops (is_some p.peeked) (Err e) q c → Ends unread (Err e) p q c
+        answer stops fit (inl a) =
+            inl (inl (stops, fit, (answered (Err e) (resumed a.steps)).1, a.recovers, (refl, refl)))
+        answer stops fit (inr n) = inr n
 
-        by : Skips unread (is_some p.peeked) mid c → Ends unread (Err e) p q c
-        by (inl asks) = answer (known (is_some p.peeked) c asks other)
+        by : Skips unread p.stepper.scanner.cursor (is_some p.peeked) mid c → Ends unread (Err e) p q c
+        by (inl asks) =
+            answer asks.0 (subst (λ o. StopsHere o asks.0) (sym options) asks.1)
+            (known asks.0 (is_some p.peeked) c asks.2 other)
         by (inr n) = inr (met n)
 
     answered_in : (follows : Bool) (q : Parsing I) (m : _) → q.over ≡ false → q.between ≡ not follows
@@ -142,8 +157,8 @@ module _ {I : Type 0} (unread : I → Unread → Type 0) where
         → was.stepper.renumbered ≡ mid.stepper.renumbered
         → q.stepper.scanner.options ≡ was.stepper.scanner.options
         → q.stepper.renumbered ≡ was.stepper.renumbered → q.over ≡ false
-        → ((looked : Bool) (c : Calls) → AsksBy unread looked mid.peeked mid.stepper c
-        → Follows unread looked (Ok follows) was c)
+        → ((stops : Stops) (looked : Bool) (c : Calls) → AsksBy unread stops looked mid.peeked mid.stepper c
+        → Follows unread stops looked (Ok follows) was c)
         → ((d : Calls) → SeenBy unread was.peeked was.stepper d
         → IfOk r (λ x. SeenBy unread q.peeked q.stepper d))
         → IfOk r (λ x. (x ≡ follows) × (q.between ≡ not follows))
@@ -162,15 +177,17 @@ module _ {I : Type 0} (unread : I → Unread → Type 0) where
         met_before n = subst (λ o. MeetsNumber was.stepper.renumbered o c.steps) (sym o1)
             (subst (λ b. MeetsNumber b mid.stepper.scanner.options c.steps) (sym b1) n)
 
-        ends_with : (x : Bool) → x ≡ follows → AnswersIn unread (is_some p.peeked) (Ok follows) was c
+        ends_with : (x : Bool) → x ≡ follows → (stops : Stops) → StopsHere was.stepper.scanner.options stops
+            → AnswersIn unread stops (is_some p.peeked) (Ok follows) was c
             → ((d : Calls) → SeenBy unread was.peeked was.stepper d → SeenBy unread q.peeked q.stepper d)
             → q.between ≡ not follows → Ends unread (Ok x) p q c
-        ends_with x is a on between =
+        ends_with x is stops fit a on between =
             let d = (answered (Ok follows) (resumed a.steps)).1 in
             subst (λ (x : Bool). Ends unread (Ok x) p q c) (sym is) (inl (inl (
-              a.stops,
+              stops,
+              subst (λ o. StopsHere o stops) (sym o2) fit,
               d,
-              subst (λ o. recover o a.stops (is_some p.peeked) c ≡ (Ok follows, d)) (sym o2)
+              subst (λ o. recover o stops (is_some p.peeked) c ≡ (Ok follows, d)) (sym o2)
                   (a.recovers ∙ answer_is follows a.steps),
               answered_in follows q a.steps over between (on d a.seen),
             )))
@@ -180,9 +197,9 @@ module _ {I : Type 0} (unread : I → Unread → Type 0) where
             answer_is true m = refl
             answer_is false m = refl
 
-        by : Skips unread (is_some p.peeked) mid c → Ends unread (Ok x) p q c
-        by (inl asks) = elim (known (is_some p.peeked) c asks) [
-          | inl a ↦ ends_with x answer.0 a kept answer.1
+        by : Skips unread p.stepper.scanner.cursor (is_some p.peeked) mid c → Ends unread (Ok x) p q c
+        by (inl asks) = elim (known asks.0 (is_some p.peeked) c asks.2) [
+          | inl a ↦ ends_with x answer.0 asks.0 (subst (λ o. StopsHere o asks.0) (sym o1) asks.1) a kept answer.1
           | inr n ↦ inr (met n)
         ]
         by (inr n) = inr (met (met_before n))
@@ -195,13 +212,14 @@ module _ {I : Type 0} (unread : I → Unread → Type 0) where
   given_up p mid q c e gone over same scanner renumbered (inl (inl x)) =
       inl (inl (
         x.0,
-        x.1,
-        subst (λ s. recover s.options x.0 (is_some p.peeked) c ≡ (Err e, x.1)) (sym scanner) x.2,
+        subst (λ s. StopsIn unread p.stepper.scanner.cursor s.options x.0 c) (sym scanner) x.1,
+        x.2,
+        subst (λ s. recover s.options x.0 (is_some p.peeked) c ≡ (Err e, x.2)) (sym scanner) x.3,
         record {
-          over = same ∙ over ∙ sym x.3.0;
-          between = λ is. absurd (let f = sym x.3.1 ∙ is.refusal in cc);
-          ended = λ b. absurd (let f = sym x.3.0 ∙ b in cc);
-          stays = λ b. subst (λ r. AnswersBy unread r q x.1) (sym x.3.1) gone;
+          over = same ∙ over ∙ sym x.4.0;
+          between = λ is. absurd (let f = sym x.4.1 ∙ is.refusal in cc);
+          ended = λ b. absurd (let f = sym x.4.0 ∙ b in cc);
+          stays = λ b. subst (λ r. AnswersBy unread r q x.2) (sym x.4.1) gone;
         },
       ))
   given_up p mid q c e gone over same scanner renumbered (inl (inr sees)) = absurd (let f = sees.1 in cc)

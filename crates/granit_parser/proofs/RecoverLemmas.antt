@@ -3,10 +3,12 @@ use Rattle.std.proofs.Common.{◌≡◌, ◌⊎◌, inl, inr, ℕ, Bool, true, f
 use Rattle.std.proofs.Common.{Option, Some, None, Result, Ok, Err, refl, sym, ap, subst, ◌∙◌}
 use Rattle.std.specs.Prelude.{if◌then◌else◌}
 use Rattle.granit_error.specs.OptionsData.{OptionsData}
+use Rattle.granit_lexemes.specs.Onward as onward
 use Rattle.granit_lexemes.specs.Outcome.{Fault}
 use Rattle.granit_lexemes.specs.PlainEvent.{PlainEvent, EventKind, DocumentStart, StreamEnd, Comment}
 use Rattle.granit_parser.proofs.CallLemmas.{Comes, call_going, comes_on}
 use Rattle.granit_parser.proofs.CallLemmas.{waits}
+use Rattle.granit_parser.specs.Recovering.{StopsDropping}
 use Rattle.granit_restart.proofs.LookTurns as look_turns
 use Rattle.granit_restart.specs.Ahead.{is_note}
 use Rattle.granit_restart.specs.Calls.{Calls, Given, given_by, next_call, noted}
@@ -15,8 +17,10 @@ use Rattle.granit_restart.specs.Looking.{Look, behind_waiting, look_ahead, look_
 use Rattle.granit_restart.specs.Looking.{told_by, told_event, turn_ahead}
 use Rattle.granit_restart.specs.Recovery.{answered, comment_of, extra_of, looked_by, recover}
 use Rattle.granit_restart.specs.Recovery.{recover_with, recovered, resumed, skipped, skipped_by, starts_by}
-use Rattle.granit_restart.specs.Skipping.{Stops, skipped_document, skipped_fault}
+use Rattle.granit_restart.specs.Restart.{behind_fault}
+use Rattle.granit_restart.specs.Skipping.{Ended, Failed, SkipEnd, Stops, skip, skipped_document, skipped_fault}
 use Rattle.granit_restart.specs.Skipping.{with_pending}
+use Rattle.granit_stepper.proofs.FaultLemmas.{no_stop, stops_nowhere}
 use Rattle.granit_steps.specs.Steps.{StepState, next_event, step_turn}
 
 -- ---- what was looked at
@@ -51,6 +55,19 @@ starts_between kind c (inr begun) = absurd (cc)
 -- where refused reads stopped, if none is asked for
 abbrev pub any_stops : Calls → Stops
 any_stops c = record { first = c.steps.reading.reader.here; second = c.steps.reading.reader.here }
+
+-- stops that fit where nothing failed before
+pub fitting : OptionsData → SkipEnd → Stops
+fitting o (Ended n) = record { first = n.reading.reader.here; second = n.reading.reader.here }
+fitting o (Failed e n) = record {
+  first = n.reading.reader.here;
+  second = no_stop (skip o (behind_fault n.reading.reader.here n).1);
+}
+
+pub fits : (o : OptionsData) (r : SkipEnd) → StopsDropping o (fitting o r) r
+unfolding fitting
+fits o (Ended n) = tt
+fits o (Failed e n) = (onward.there, stops_nowhere (skip o (behind_fault n.reading.reader.here n).1))
 
 pub answered_steps : (r : Result Bool Fault) (m : StepState) → (answered r (resumed m)).1.steps ≡ m
 answered_steps (Ok true) m = refl

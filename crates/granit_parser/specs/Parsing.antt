@@ -1,11 +1,11 @@
 -- What contracts see of a parser, and what its calls give.
-use Rattle.std.specs.Prelude.{◌≡◌, ◌⊎◌, ℕ, Bool, true, List, [], ◌∷◌, ◌++◌, Option, Some, None, Result, Ok, Err, IfSome}
-use Rattle.std.specs.Prelude.{IfErr}
+use Rattle.std.specs.Prelude.{◌≡◌, ◌⊎◌, ℕ, Bool, true, false, List, [], ◌∷◌, ◌++◌, Option, Some, None, Result, Ok, Err}
+use Rattle.std.specs.Prelude.{IfErr, IfSome}
 use Rattle.granit_base.specs.Place.{Unread}
 use Rattle.granit_before.specs.DeclaredCause.{DeclaredCause}
 use Rattle.granit_before.specs.DeclaredReading.{DeclaredReading}
 use Rattle.granit_cursor.specs.Reading.{GoesOnward}
-use Rattle.granit_error.specs.FaultKind.{NoMemory}
+use Rattle.granit_error.specs.FaultKind.{NoMemory, wants_memory}
 use Rattle.granit_error.specs.OptionsData.{OptionsData}
 use Rattle.granit_error.specs.Refused.{Refused}
 use Rattle.granit_event.specs.Events.{plain_event}
@@ -28,12 +28,13 @@ next_view (Ok None) = None
 next_view (Ok (Some x)) = Some (Ok x)
 next_view (Err e) = Some (Err e)
 
--- a stepper, what was looked at and not taken, the refusal that was given, whether the end of a document was the last
--- that was given, comments aside, and whether that of the stream was
+-- a stepper, what was looked at and not taken, the refusal that was given, whether a call gave it for want of memory,
+-- whether the end of a document was the last that was given, comments aside, and whether that of the stream was
 pub record Parsing (I : Type 0) : Type 0 where
   pub stepper : Stepping I
   pub peeked : Next
   pub given : Option Refused
+  pub starved : Bool
   pub between : Bool
   pub over : Bool
 
@@ -51,6 +52,17 @@ abbrev pub Keeps : Next → (old new : Option Refused) → Type 0
 Keeps None old new = new ≡ old
 Keeps (Some (Ok e)) old new = new ≡ old
 Keeps (Some (Err e)) old new = (kept : Refused) × (new ≡ Some kept) × IsKept e kept
+
+-- where nothing was refused, no call gave want of memory
+abbrev pub StarvedBy : (starved : Bool) → (given : Option Refused) → Type 0
+StarvedBy starved None = starved ≡ false
+StarvedBy starved (Some e) = Unit {0}
+
+-- a refusal that is given tells whether it is want of memory, and nothing else changes that
+abbrev pub Starves : Next → (old new : Bool) → Type 0
+Starves None old new = new ≡ old
+Starves (Some (Ok e)) old new = new ≡ old
+Starves (Some (Err e)) old new = new ≡ wants_memory e.kind
 
 -- the same parser, with handles that stay over documents or not
 abbrev pub keeping : {I : Type 0} → Bool → Parsing I → Parsing I

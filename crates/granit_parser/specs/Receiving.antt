@@ -1,9 +1,11 @@
 -- What `load` and `try_load` send to a receiver.
-use Rattle.std.specs.Prelude.{◌≡◌, ◌⊎◌, Bool, true, false, List, [], ◌∷◌, ◌++◌, Option, Some, None}
-use Rattle.std.specs.Prelude.{Result, Ok, Err}
+use Rattle.std.specs.Prelude.{◌≡◌, ◌≤◌, ◌⊎◌, Bool, true, false, List, [], ◌∷◌, ◌++◌, length, Option, Some, None}
+use Rattle.std.specs.Prelude.{Result, Ok, Err, IfErr, IfSome}
+use Rattle.granit_base.specs.Counts.{last_count}
 use Rattle.granit_base.specs.Place.{Mark, Unread}
 use Rattle.granit_base.specs.declared.place.Span.{Span}
 use Rattle.granit_cursor.specs.Reading.{Reading, Stands}
+use Rattle.granit_error.specs.FaultKind.{NoMemory}
 use Rattle.granit_error.specs.OptionsData.{OptionsData}
 use Rattle.granit_error.specs.Refused.{Refused}
 use Rattle.granit_event.specs.declared.event.Event.{Event}
@@ -13,11 +15,14 @@ use Rattle.granit_lexemes.specs.Here.{Here, mark_of}
 use Rattle.granit_lexemes.specs.Outcome.{Fails}
 use Rattle.granit_lexemes.specs.PlainEvent.{PlainEvent, StreamEnd, event_on}
 use Rattle.granit_parser.specs.Parsing.{Parsing, StandsAt}
+use Rattle.granit_parser.specs.Recovering.{FailsAt, GivesCall, ParserIn, failed_in}
 use Rattle.granit_parser.specs.Sources.{IsSourceError}
 use Rattle.granit_receivers.specs.Kept.{IsKept}
 use Rattle.granit_receivers.specs.Sending.{is_last}
 use Rattle.granit_receivers.specs.declared.error.TryLoadError.{TryLoadError}
 use Rattle.granit_receivers.specs.declared.error.TryLoadError.TheVariants.{Scan, Receiver}
+use Rattle.granit_recovery.specs.Streams.{Gives}
+use Rattle.granit_restart.specs.Calls.{Calls}
 use Rattle.granit_stepper.specs.Numbers.{RefusesNumber}
 use Rattle.granit_steps.specs.Steps.{StepState, next_event}
 
@@ -120,6 +125,16 @@ abbrev pub KeepsRefusal : {X : Type 0} → Result X Refused → Option Refused �
 KeepsRefusal (Ok x) given = given ≡ None
 KeepsRefusal (Err e) given = (kept : Refused) × (given ≡ Some kept) × IsKept e kept
 
+-- as many events were taken as are sent at most
+abbrev pub TakesMost : (List (Event × Span) → Type 0) → Type 0
+TakesMost Takes = (xs : List (Event × Span)) × Takes xs × (last_count ≤ length xs)
+
+-- memory is wanted only where a call of the parser gave that, or behind as many events as are sent at most
+abbrev pub WantsOnly : {X : Type 0} → (starved : Bool) → (List (Event × Span) → Type 0) → Option (Result X Refused)
+    → Type 0
+WantsOnly starved Takes r =
+    IfSome r (λ x. IfErr x (λ e. e.kind ≡ NoMemory → (starved ≡ true) ⊎ TakesMost Takes))
+
 -- the end of the stream, at the place up to which was read
 abbrev pub IsEndAt : {I : Type 0} → (I → Unread → Type 0) → Reading I → Event × Span → Type 0
 IsEndAt unread r x = (mark : Mark) × IsPlaceOf unread r mark × (plain_event x ≡ event_on StreamEnd mark)
@@ -139,3 +154,50 @@ abbrev pub KeepsScan : {X E : Type 0} → Result X (TryLoadError E) → Option R
 KeepsScan (Ok x) given = given ≡ None
 KeepsScan (Err (Scan e)) given = (kept : Refused) × (given ≡ Some kept) × IsKept e kept
 KeepsScan (Err (Receiver e)) given = given ≡ None
+
+-- ---- where the machine's calls led
+
+-- none of these is the last that is sent
+abbrev pub NoneLast : (multi : Bool) → List PlainEvent → Type 0
+NoneLast multi [] = Unit {0}
+NoneLast multi (e ∷ es) = (is_last multi e.kind ≡ false) × NoneLast multi es
+
+-- what was sent ends by an event in front of which none is the last that is sent; where all was sent, it is
+pub record EndsSending (multi all : Bool) (es : List PlainEvent) : Type 0 where
+  pub front : List PlainEvent
+  pub event : PlainEvent
+  pub is : es ≡ front ++ (event ∷ [])
+  pub before : NoneLast multi front
+  pub last : all ≡ true → is_last multi event.kind ≡ true
+
+-- calls gave what was sent, one by one, up to the last that is sent, or up to one that the receiver refused, and the
+-- parser is where they led
+abbrev pub CallsLed : {I : Type 0} → (I → Unread → Type 0) → OptionsData → (multi all : Bool)
+    → (List (Event × Span) → Type 0) → Parsing I → Calls → Type 0
+CallsLed unread o multi all Takes p c =
+    (xs : List (Event × Span)) × Takes xs × EndsSending multi all (plain_events xs)
+    × ((d : Calls) × Gives o c (plain_events xs) d × ParserIn unread p d)
+
+-- the call behind what was sent failed, unless memory ran out or the source failed
+abbrev pub CallsFailed : {I : Type 0} → (I → Unread → Type 0) → (I → Origin) → OptionsData → (multi : Bool)
+    → (List (Event × Span) → Type 0) → Parsing I → Calls → Refused → Type 0
+CallsFailed unread origin o multi Takes p c e =
+    ((e.kind ≡ NoMemory → ⊥) → (xs : List (Event × Span)) × Takes xs × NoneLast multi (plain_events xs)
+    × ((d : Calls) × Gives o c (plain_events xs) d
+    × ((m : StepState) × FailsAt p.stepper.renumbered o m d e × ParserIn unread p (failed_in m e d))))
+    ⊎ IsSourceError (origin p.stepper.scanner.cursor.input) p.stepper.scanner.cursor.place e
+
+-- by what the parser itself answered, if it did
+abbrev pub CallsLeave : {I X : Type 0} → (I → Unread → Type 0) → (I → Origin) → OptionsData → (multi : Bool)
+    → (List (Event × Span) → Type 0) → Option (Result X Refused) → Parsing I → Calls → Type 0
+CallsLeave unread origin o multi Takes None p c = CallsLed unread o multi false Takes p c
+CallsLeave unread origin o multi Takes (Some (Ok x)) p c = CallsLed unread o multi true Takes p c
+CallsLeave unread origin o multi Takes (Some (Err e)) p c = CallsFailed unread origin o multi Takes p c e
+
+-- the first event that is sent is that of the next call
+abbrev pub FirstCall : {I : Type 0} → (I → Unread → Type 0) → (I → Origin) → Result (Event × Span) Refused → Parsing I
+    → Calls → Type 0
+FirstCall unread origin (Ok x) p c = GivesCall unread (Some (Ok x)) p c
+FirstCall unread origin (Err e) p c =
+    GivesCall unread (Some (Err e)) p c
+    ⊎ IsSourceError (origin p.stepper.scanner.cursor.input) p.stepper.scanner.cursor.place e

@@ -1,13 +1,16 @@
 -- A parser between its calls, where the machine's calls lead: what contracts on recovery say.
 use Rattle.std.specs.Prelude.{◌≡◌, ◌⊎◌, ◌||◌, ℕ, suc, is_some, Bool, true, false, [], Option, Some, None}
 use Rattle.std.specs.Prelude.{Result, Ok, Err, IfOk}
+pub use Rattle.granit_alone.specs.Behind.{IsOpen}
 use Rattle.granit_base.specs.Place.{Unread}
+use Rattle.granit_cursor.specs.Reading.{Reading}
 use Rattle.granit_error.specs.FaultKind.{NoMemory}
 use Rattle.granit_error.specs.OptionsData.{OptionsData}
 use Rattle.granit_error.specs.Refused.{Refused}
 use Rattle.granit_event.specs.Events.{plain_event}
 use Rattle.granit_input.specs.Origin.{Origin}
 use Rattle.granit_lexemes.specs.Here.{Here}
+use Rattle.granit_lexemes.specs.Onward.{Onward}
 use Rattle.granit_lexemes.specs.Outcome.{Fault}
 use Rattle.granit_lexemes.specs.PlainEvent.{Comment, DocumentEnd, DocumentStart, EventKind, PlainEvent, StreamEnd}
 use Rattle.granit_parser.specs.Parsing.{Next, Parsing}
@@ -22,10 +25,11 @@ use Rattle.granit_restart.specs.Calls.{Calls, failing, next_call, noted}
 use Rattle.granit_restart.specs.Following.{document_follows}
 use Rattle.granit_restart.specs.Recovery.{answered, comment_of, recover, recovered, resumed}
 use Rattle.granit_restart.specs.Restart.{behind_fault}
-use Rattle.granit_restart.specs.Skipping.{Ended, Stops, skip, skipped_fault, with_pending}
+use Rattle.granit_restart.specs.Skipping as skipping
+use Rattle.granit_restart.specs.Skipping.{Ended, SkipEnd, Stops, skip, skipped_fault, with_pending}
 use Rattle.granit_restart.specs.Turned.{Turned}
 use Rattle.granit_stepper.specs.Numbers.{RefusesNumber}
-use Rattle.granit_stepper.specs.Recovering.{DropsOn}
+use Rattle.granit_stepper.specs.Recovering.{DropsOn, StopsAt, StopsBehind}
 use Rattle.granit_stepper.specs.Refusals.{RefusedIn, StandsAhead}
 use Rattle.granit_stepper.specs.Stepping.{Stepping}
 use Rattle.granit_steps.specs.Steps.{StepState, next_event}
@@ -91,12 +95,6 @@ abbrev pub AnswersBy : {I : Type 0} → (I → Unread → Type 0) → (refusal :
 AnswersBy unread None p c = StaysBy unread c.fault p.peeked p.stepper c
 AnswersBy unread (Some f) p c = GaveUp p f
 
--- no call failed, recovery wasn't refused, and the end of the stream wasn't given
-pub record IsOpen (c : Calls) : Type 0 where
-  pub over : c.over ≡ false
-  pub fault : c.fault ≡ None
-  pub refusal : c.refusal ≡ None
-
 -- no call gives an event any more
 abbrev pub IsClosed : Calls → Type 0
 IsClosed c = ((c.over || is_some c.fault) || is_some c.refusal) ≡ true
@@ -128,9 +126,9 @@ ReadsNext unread (Some (Ok x)) s c = SeenNext unread s (plain_event x) c
 ReadsNext unread (Some (Err e)) s c = (e.kind ≡ NoMemory → ⊥) → (m : StepState) × Failed unread s m e
     × FailsAt s.renumbered s.scanner.options m c e
 
--- a call gives what the machine's call gives, and leads where that leads
+-- a call gives what the machine's call gives, which is never nothing, and leads where that leads
 abbrev pub GivesCall : {I : Type 0} → (I → Unread → Type 0) → Next → Parsing I → Calls → Type 0
-GivesCall unread None p c = (next_call p.stepper.scanner.options c).0 ≡ None
+GivesCall unread None p c = ⊥
 GivesCall unread (Some (Ok x)) p c = (d : Calls)
     × (next_call p.stepper.scanner.options c ≡ (Some (Ok (plain_event x)), d)) × ParserIn unread p d
 GivesCall unread (Some (Err e)) p c = (e.kind ≡ NoMemory → ⊥) → (m : StepState)
@@ -146,7 +144,7 @@ pub record CallsTo {I : Type 0} (unread : I → Unread → Type 0) (origin : I �
 
 -- a look leads nowhere but where it shows a fault, which then counts as given
 abbrev pub ShowsCall : {I : Type 0} → (I → Unread → Type 0) → Next → Parsing I → Calls → Type 0
-ShowsCall unread None p c = (next_call p.stepper.scanner.options c).0 ≡ None
+ShowsCall unread None p c = ⊥
 ShowsCall unread (Some (Ok x)) p c = ParserIn unread p c
 ShowsCall unread (Some (Err e)) p c = (e.kind ≡ NoMemory → ⊥) → (m : StepState)
     × FailsAt p.stepper.renumbered p.stepper.scanner.options m c e × ParserIn unread p (failed_in m e c)
@@ -242,11 +240,29 @@ notes_over None over = over
 notes_over (Some (Ok x)) over = over_behind (plain_event x).kind over
 notes_over (Some (Err e)) over = over
 
+-- places to which the cursor came where a turn failed by which a document is dropped, if one did
+abbrev pub StopsDropping : OptionsData → Stops → SkipEnd → Type 0
+StopsDropping o stops (Ended n) = Unit {0}
+StopsDropping o stops (skipping.Failed e n) =
+    Onward n.reading.reader.here stops.first × StopsBehind (skip o (behind_fault stops.first n).1) stops.second
+
+-- behind a fault that was given the first is where the cursor stands
+abbrev pub StopsBy : {I : Type 0} → (I → Unread → Type 0) → (cursor : Reading I) → OptionsData → Stops → Option Fault
+    → StepState → Type 0
+StopsBy unread cursor o stops None m = StopsDropping o stops (skip o m)
+StopsBy unread cursor o stops (Some f) m =
+    StopsAt unread cursor m stops.first × StopsBehind (skip o (behind_fault stops.first m).1) stops.second
+
+-- where refused reads stopped, as far as recovery goes by it
+abbrev pub StopsIn : {I : Type 0} → (I → Unread → Type 0) → (cursor : Reading I) → OptionsData → Stops → Calls → Type 0
+StopsIn unread cursor o stops c =
+    c.over ≡ false → c.refusal ≡ None → StopsBy unread cursor o stops c.fault c.steps
+
 -- what recovery answers and where it leads, by where reads that were refused stopped
-abbrev pub Recovers : {I : Type 0} → (I → Unread → Type 0) → (looked : Bool) → Result Bool Refused → Parsing I → Calls
-    → Type 0
-Recovers unread looked r p c = (stops : Stops) × (d : Calls)
-    × (recover p.stepper.scanner.options stops looked c ≡ (r, d)) × ParserIn unread p d
+abbrev pub Recovers : {I : Type 0} → (I → Unread → Type 0) → (cursor : Reading I) → (looked : Bool)
+    → Result Bool Refused → Parsing I → Calls → Type 0
+Recovers unread cursor looked r p c = (stops : Stops) × StopsIn unread cursor p.stepper.scanner.options stops c
+    × (d : Calls) × (recover p.stepper.scanner.options stops looked c ≡ (r, d)) × ParserIn unread p d
 
 -- the end of the stream that was looked at stays, and nothing changes
 abbrev pub SeesEnd : {I : Type 0} → Result Bool Refused → (old new : Parsing I) → Type 0
@@ -256,7 +272,7 @@ SeesEnd r old new = (seen_in old.peeked ≡ seens.StreamEnd) × (r ≡ Ok false)
 abbrev pub Proceeds : {I : Type 0} → (I → Unread → Type 0) → Result Bool Refused → (old new : Parsing I) → Calls
     → Type 0
 Proceeds unread r old new c =
-    (Recovers unread (is_some old.peeked) r new c ⊎ SeesEnd r old new)
+    (Recovers unread old.stepper.scanner.cursor (is_some old.peeked) r new c ⊎ SeesEnd r old new)
     ⊎ MeetsNumber new.stepper.renumbered new.stepper.scanner.options c.steps
 
 -- ---- on the way
@@ -266,11 +282,11 @@ abbrev pub asking : StepState → Calls
 asking m = record (resumed m) { between = true }
 
 -- recovery asks there, where so many comments more may be kept
-pub record AsksAt (o : OptionsData) (looked : Bool) (c : Calls) (extra : ℕ) (m : StepState) : Type 0 where
-  pub stops : Stops
-  pub recovers : recover o stops looked c ≡ recovered o extra (resumed m)
-  pub tells : LookTells o m
-  pub comes : ComesBy o c.steps m
+pub record AsksAt (o : OptionsData) (stops : Stops) (looked : Bool) (c : Calls) (extra : ℕ) (m : StepState) : Type 0
+  where
+    pub recovers : recover o stops looked c ≡ recovered o extra (resumed m)
+    pub tells : LookTells o m
+    pub comes : ComesBy o c.steps m
 
 -- by the event that was looked at and stays: behind a comment there is room for one fewer, and any other tells
 pub data SeenTells (o : OptionsData) (m after : StepState) : EventKind → Type 0 where
@@ -281,42 +297,44 @@ pub data SeenTells (o : OptionsData) (m after : StepState) : EventKind → Type 
       → ((room : ℕ) → document_follows o room m ≡ Ok true) → SeenTells o m after kind
 
 -- the same where nothing, or an event, was looked at and stays
-pub record AsksNow {I : Type 0} (unread : I → Unread → Type 0) (looked : Bool) (s : Stepping I) (c : Calls) : Type 0
-  where
-    pub steps : StepState
-    pub asks : AsksAt s.scanner.options looked c 0 steps
-    pub goes : Goes unread s (asking steps)
-    pub turned : Turned s.scanner.options goes.steps
-
-pub record AsksBefore {I : Type 0} (unread : I → Unread → Type 0) (looked : Bool) (s : Stepping I) (e : PlainEvent)
+pub record AsksNow {I : Type 0} (unread : I → Unread → Type 0) (stops : Stops) (looked : Bool) (s : Stepping I)
     (c : Calls) : Type 0 where
   pub steps : StepState
-  pub asks : AsksAt s.scanner.options looked c (comment_of e.kind) steps
+  pub asks : AsksAt s.scanner.options stops looked c 0 steps
+  pub goes : Goes unread s (asking steps)
+  pub turned : Turned s.scanner.options goes.steps
+
+pub record AsksBefore {I : Type 0} (unread : I → Unread → Type 0) (stops : Stops) (looked : Bool) (s : Stepping I)
+    (e : PlainEvent) (c : Calls) : Type 0 where
+  pub steps : StepState
+  pub asks : AsksAt s.scanner.options stops looked c (comment_of e.kind) steps
   pub seen : SeenNext unread s e (asking steps)
   pub turned : Turned s.scanner.options seen.goes.steps
   pub tells : SeenTells s.scanner.options steps seen.steps e.kind
 
-abbrev pub AsksBy : {I : Type 0} → (I → Unread → Type 0) → (looked : Bool) → Next → Stepping I → Calls → Type 0
-AsksBy unread looked None s c = AsksNow unread looked s c
-AsksBy unread looked (Some (Ok x)) s c = AsksBefore unread looked s (plain_event x) c
-AsksBy unread looked (Some (Err e)) s c = ⊥
+abbrev pub AsksBy : {I : Type 0} → (I → Unread → Type 0) → Stops → (looked : Bool) → Next → Stepping I → Calls → Type 0
+AsksBy unread stops looked None s c = AsksNow unread stops looked s c
+AsksBy unread stops looked (Some (Ok x)) s c = AsksBefore unread stops looked s (plain_event x) c
+AsksBy unread stops looked (Some (Err e)) s c = ⊥
 
-abbrev pub Skips : {I : Type 0} → (I → Unread → Type 0) → (looked : Bool) → Parsing I → Calls → Type 0
-Skips unread looked p c =
-    AsksBy unread looked p.peeked p.stepper c ⊎ MeetsNumber p.stepper.renumbered p.stepper.scanner.options c.steps
+abbrev pub Skips : {I : Type 0} → (I → Unread → Type 0) → (cursor : Reading I) → (looked : Bool) → Parsing I → Calls
+    → Type 0
+Skips unread cursor looked p c =
+    ((stops : Stops) × StopsIn unread cursor p.stepper.scanner.options stops c
+    × AsksBy unread stops looked p.peeked p.stepper c)
+    ⊎ MeetsNumber p.stepper.renumbered p.stepper.scanner.options c.steps
 
 -- where the answer leads
-pub record AnswersIn {I : Type 0} (unread : I → Unread → Type 0) (looked : Bool) (r : Result Bool Refused)
-    (p : Parsing I) (c : Calls) : Type 0 where
-  pub stops : Stops
+pub record AnswersIn {I : Type 0} (unread : I → Unread → Type 0) (stops : Stops) (looked : Bool)
+    (r : Result Bool Refused) (p : Parsing I) (c : Calls) : Type 0 where
   pub steps : StepState
   pub recovers : recover p.stepper.scanner.options stops looked c ≡ answered r (resumed steps)
   pub seen : IfOk r (λ follows. SeenBy unread p.peeked p.stepper (answered r (resumed steps)).1)
 
-abbrev pub Follows : {I : Type 0} → (I → Unread → Type 0) → (looked : Bool) → Result Bool Refused → Parsing I → Calls
-    → Type 0
-Follows unread looked r p c =
-    AnswersIn unread looked r p c ⊎ MeetsNumber p.stepper.renumbered p.stepper.scanner.options c.steps
+abbrev pub Follows : {I : Type 0} → (I → Unread → Type 0) → Stops → (looked : Bool) → Result Bool Refused → Parsing I
+    → Calls → Type 0
+Follows unread stops looked r p c =
+    AnswersIn unread stops looked r p c ⊎ MeetsNumber p.stepper.renumbered p.stepper.scanner.options c.steps
 
 -- the same of the calls that aren't given up: a refusal leaves what it leaves
 abbrev pub EndsIn : {I : Type 0} → (I → Unread → Type 0) → Result Bool Refused → Parsing I → Calls → Type 0
@@ -325,7 +343,7 @@ EndsIn unread (Err e) p d = (d.over ≡ false) × (d.refusal ≡ Some e)
 
 abbrev pub Ends : {I : Type 0} → (I → Unread → Type 0) → Result Bool Refused → (old new : Parsing I) → Calls → Type 0
 Ends unread r old new c =
-    (((stops : Stops) × (d : Calls)
+    (((stops : Stops) × StopsIn unread old.stepper.scanner.cursor new.stepper.scanner.options stops c × (d : Calls)
     × (recover new.stepper.scanner.options stops (is_some old.peeked) c ≡ (r, d)) × EndsIn unread r new d)
     ⊎ SeesEnd r old new)
     ⊎ MeetsNumber new.stepper.renumbered new.stepper.scanner.options c.steps

@@ -9,7 +9,7 @@ ghost use Rattle.std.specs.Str.{chars};
 ghost use Rattle.granit_base.specs.Place.{Unread};
 ghost use Rattle.granit_cursor.specs.Reading.{GoesOnward};
 ghost use Rattle.granit_cursor.specs.Reading.{Moves};
-ghost use Rattle.granit_error.specs.FaultKind.{FaultKind};
+ghost use Rattle.granit_error.specs.FaultKind.{FaultKind, wants_memory};
 ghost use Rattle.granit_error.specs.Refused.{Refused};
 ghost use Rattle.granit_error.specs.OptionsData.{default_options};
 ghost use Rattle.granit_error.specs.OptionsView.{options_of};
@@ -20,15 +20,18 @@ ghost use Rattle.granit_lexemes.specs.PlainEvent.{PlainEvent};
 ghost use Rattle.granit_parser.specs.Parsing as spec;
 ghost use Rattle.granit_parser.specs.Alone.{EndsAlone};
 ghost use Rattle.granit_parser.specs.Parsing.{EndsBehind, EndsText, EndsTold, EndsWith, GivesNext, IsOver};
-ghost use Rattle.granit_parser.specs.Parsing.{Keeps, LeadsTo, PeeksAs, StandsAt, StepsBy, next_view};
+ghost use Rattle.granit_parser.specs.Parsing.{Keeps, LeadsTo, PeeksAs, StandsAt, Starves, StepsBy, next_view};
 ghost use Rattle.granit_parser.specs.Recovering.{GivesCall, Goes, IsClosed, IsOpen, ParserIn, PeeksIn, ReadsNext};
-ghost use Rattle.granit_parser.specs.Recovering.{SeenBy};
+ghost use Rattle.granit_parser.specs.Recovering.{SeenBy, notes_between, notes_over};
+ghost use Rattle.granit_parser.specs.Resuming.{Resumed, ResumesCall};
 ghost use Rattle.granit_parser.specs.contracts.parser.Parser.{the_row};
 ghost use Rattle.granit_parser.specs.Sources.{IfUnseen, MovesUnless, NeverRecovers, NeverRevives, TellsError};
 ghost use Rattle.granit_parser.specs.Sources.{TellsSource, unless_failed};
+ghost use Rattle.granit_receivers.specs.Kept.{IsKept};
 ghost use Rattle.granit_receivers.specs.Sending.{shown};
 ghost use Rattle.granit_recovery.specs.Streams.{Reached, calls_from};
 ghost use Rattle.granit_restart.specs.Calls.{Calls, calls_start};
+ghost use Rattle.granit_restart.specs.Skipping.{Stops};
 ghost use Rattle.granit_stepper.specs.Refusals.{HoldsRefusal, RefusedIn};
 ghost use Rattle.granit_stepper.specs.Stepping.{StandsIn, refused_kind};
 ghost use Rattle.granit_shifted.specs.Alone.{TellsAlone};
@@ -38,10 +41,11 @@ ghost use Rattle.granit_steps.specs.Steps.{StepState};
 ghost use Rattle.granit_steps.specs.Told.{told_from};
 
 use granit_base::Span;
-use granit_error::{Options, ScanError};
+use granit_error::{ErrorKind, Options, ScanError};
 use granit_event::Event;
 use granit_input::{BorrowedInput, Input, StrInput};
-use granit_recovery::calls_go_by_turns;
+use granit_receivers::kept;
+use granit_recovery::{an_open_call_gives_something, calls_go_by_turns};
 use granit_stepper::Stepper;
 use std::alloc::Global;
 use std::iter::FusedIterator;
@@ -52,10 +56,12 @@ use std::marker::Model;
 pub struct Parser<'input, T: Input> {
     pub(crate) alloc: Global,
     pub(crate) stepper: Stepper<'input, T>,
-    // What was looked at and not taken.
-    pub(crate) peeked: Option<Result<(Event<'input>, Span), ScanError>>,
+    // What was looked at and not taken. No other file can put anything there.
+    peeked: Option<Result<(Event<'input>, Span), ScanError>>,
     // The refusal that was given.
     pub(crate) given: Option<ScanError>,
+    // A call gave it, for want of memory. No other file can say so.
+    starved: bool,
     // The end of a document was the last that was given, comments aside, or recovery told that no other comes.
     pub(crate) between: bool,
     // The end of the stream was given.
@@ -63,7 +69,7 @@ pub struct Parser<'input, T: Input> {
 }
 
 impl<'input, T: Input> Model for Parser<'input, T> {
-    ghost use Rattle.granit_parser.specs.Parsing.{EndsBehind, Parsing};
+    ghost use Rattle.granit_parser.specs.Parsing.{EndsBehind, Parsing, StarvedBy};
 
     ghost Value = { Parsing T };
 
@@ -71,12 +77,13 @@ impl<'input, T: Input> Model for Parser<'input, T> {
       stepper = p.stepper;
       peeked = p.peeked;
       given = p.given;
+      starved = p.starved;
       between = p.between;
       over = p.over;
     } };
 
-    // nothing is read behind a refusal
-    ghost invariant = { λ p. EndsBehind p.peeked p.given p.stepper };
+    // nothing is read behind a refusal, and without one no memory was wanted
+    ghost invariant = { λ p. EndsBehind p.peeked p.given p.stepper × StarvedBy p.starved p.given };
 }
 
 impl<'input> Parser<'input, StrInput<'input>> {
@@ -138,6 +145,7 @@ impl<'input, T: BorrowedInput<'input>> Parser<'input, T> {
             stepper: Stepper::new(alloc, src, options),
             peeked: None,
             given: None,
+            starved: false,
             between: false,
             over: false,
         }
@@ -148,12 +156,13 @@ impl<'input, T: BorrowedInput<'input>> Parser<'input, T> {
     /// The contract: from a state of the plain machine it gives what that gives (`known`). Behind the first events of a
     /// text, an event goes on with what begins a stream, a refusal is a cause of the text, and where nothing more
     /// comes, they are the events of its reading, a whole stream (`text`). Behind a boundary the same is said of the
-    /// text that is left there, by its places there (`alone`; that behind each fault all is told so is a law of
-    /// granit_shifted). Each event takes one of the finite list that is told of the input, so there are no more of them
-    /// (`told`). Where the number of a next anchor was ever set, an anchor that would get the greatest one is refused
-    /// instead; a parser that is known to stand in a state has given none that number. The first error of the input's
-    /// source stands in the place of all that was read up to it (`source`), and behind it recovery is refused (`lost`).
-    /// A refusal that is given is kept (`given`).
+    /// text that is left there, by its places there (`alone`), and of the calls behind a recovery from a fault, of
+    /// which each gives something (`resumed`). Each event takes one of the finite list that is told of the input, so
+    /// there are no more of them (`told`). Where the number of a next anchor was ever set, an anchor that would get the
+    /// greatest one is refused instead; a parser that is known to stand in a state has given none that number. The
+    /// first error of the input's source stands in the place of all that was read up to it (`source`), and behind it
+    /// recovery is refused (`lost`). A refusal that is given is kept (`given`), and marked where it is want of memory
+    /// (`starved`).
     ///
     /// # Errors
     ///
@@ -184,9 +193,14 @@ impl<'input, T: BorrowedInput<'input>> Parser<'input, T> {
         ensures calls { (c : Calls) → Reached self.old.stepper.scanner.options c → IsOpen c
             → ParserIn T.unread self.old c
             → GivesCall T.unread result self.new c ⊎ TellsSource T.origin result self.new.stepper.scanner.cursor }
+        ensures resumed { (stops : Stops) (c e : Calls) (es : List PlainEvent)
+            → Resumed self.old.stepper.scanner.options stops c es e → IsOpen e → ParserIn T.unread self.old e
+            → ResumesCall T.unread self.old.stepper.scanner.options stops c es result self.new e
+            ⊎ TellsSource T.origin result self.new.stepper.scanner.cursor }
         ensures closed { (c : Calls) → IsClosed c → ParserIn T.unread self.old c → ParserIn T.unread self.new c }
         ensures peeked { self.new.peeked ≡ None }
         ensures given { Keeps result self.old.given self.new.given }
+        ensures starved { Starves result self.old.starved self.new.starved }
         ensures seen { IfSome self.old.peeked (λ r. (result ≡ Some r) × (self.new.stepper ≡ self.old.stepper)) }
         ensures refused { EndsWith result self.new.stepper }
         ensures over { IsOver self.old → (result ≡ None) × (self.new ≡ self.old) }
@@ -196,9 +210,52 @@ impl<'input, T: BorrowedInput<'input>> Parser<'input, T> {
             self.old.stepper.scanner.cursor self.new.stepper.scanner.cursor) }
         ensures onward { GoesOnward T.unread self.old.stepper.scanner.cursor self.new.stepper.scanner.cursor }
     {
+        an_open_call_gives_something();
         let next = self.take_event();
         self.note(&next);
         next
+    }
+
+    /// Notes what is given: a refusal is kept.
+    fn note(&mut self, next: &Option<Result<(Event<'input>, Span), ScanError>>)
+        requires seen { self.old.peeked ≡ None }
+        requires ends { EndsWith next.now self.old.stepper }
+        ensures between { self.new.between ≡ notes_between next.now self.old.between }
+        ensures over { self.new.over ≡ notes_over next.now self.old.over }
+        ensures given { Keeps next.now self.old.given self.new.given }
+        ensures starved { Starves next.now self.old.starved self.new.starved }
+        ensures rest { self.new ≡ record self.old {
+          given = self.new.given;
+          starved = self.new.starved;
+          between = self.new.between;
+          over = self.new.over;
+        } }
+    {
+        match next {
+            None => {}
+            Some(Ok((event, _))) => self.note_event(event),
+            Some(Err(error)) => self.note_refusal(error),
+        }
+    }
+
+    fn note_refusal(&mut self, error: &ScanError)
+        requires seen { self.old.peeked ≡ None }
+        requires ends { self.old.stepper.failed ≡ true }
+        ensures given { (kept : Refused) × (self.new.given ≡ Some kept) × IsKept error.now kept }
+        ensures starved { self.new.starved ≡ wants_memory error.now.kind }
+        ensures rest { self.new ≡ record self.old { given = self.new.given; starved = self.new.starved } }
+    {
+        self.given = Some(kept(self.alloc, error));
+        self.starved = wants_memory(error);
+    }
+
+    /// A refusal is forgotten, whether it was given or looked at.
+    pub(crate) fn forget_refusal(&mut self)
+        ensures { self.new ≡ record self.old { peeked = None; given = None; starved = false } }
+    {
+        self.peeked = None;
+        self.given = None;
+        self.starved = false;
     }
 
     /// What was looked at, or the next event.
@@ -215,6 +272,7 @@ impl<'input, T: BorrowedInput<'input>> Parser<'input, T> {
             self.new.stepper) }
         ensures peeked { self.new.peeked ≡ None }
         ensures given { self.new.given ≡ self.old.given }
+        ensures starved { self.new.starved ≡ self.old.starved }
         ensures between { self.new.between ≡ self.old.between }
         ensures going { self.new.over ≡ self.old.over }
         ensures seen { IfSome self.old.peeked (λ r. (result ≡ Some r) × (self.new.stepper ≡ self.old.stepper)) }
@@ -253,6 +311,7 @@ impl<'input, T: BorrowedInput<'input>> Parser<'input, T> {
         ensures peeks { PeeksAs T.unread T.left T.origin self.old self.new.peeked self.new }
         ensures calls { PeeksIn T.unread T.origin self.old self.new.peeked self.new }
     {
+        an_open_call_gives_something();
         if self.peeked.is_none() {
             let next = self.read_event();
             self.put_ahead(next);
@@ -265,6 +324,28 @@ impl<'input, T: BorrowedInput<'input>> Parser<'input, T> {
         ensures { self.new ≡ record self.old { peeked = next.entry } }
     {
         self.peeked = next;
+    }
+
+    /// What was looked at, which stays.
+    pub(crate) fn looked_at(&self) -> &Option<Result<(Event<'input>, Span), ScanError>>
+        ensures { result.now ≡ self.now.peeked }
+    {
+        &self.peeked
+    }
+
+    /// What was looked at, which goes.
+    pub(crate) fn take_seen(&mut self) -> Option<Result<(Event<'input>, Span), ScanError>>
+        ensures seen { result ≡ self.old.peeked }
+        ensures rest { self.new ≡ record self.old { peeked = None } }
+    {
+        self.peeked.take()
+    }
+
+    /// What was looked at is dropped.
+    pub(crate) fn forget(&mut self)
+        ensures { self.new ≡ record self.old { peeked = None } }
+    {
+        self.peeked = None;
     }
 
     /// What was looked at.
@@ -293,6 +374,7 @@ impl<'input, T: BorrowedInput<'input>> Parser<'input, T> {
         ensures lost { NeverRecovers T.origin self.old.stepper result self.new.stepper }
         ensures peeked { self.new.peeked ≡ self.old.peeked }
         ensures given { self.new.given ≡ self.old.given }
+        ensures starved { self.new.starved ≡ self.old.starved }
         ensures between { self.new.between ≡ self.old.between }
         ensures going { self.new.over ≡ self.old.over }
         ensures refused { EndsWith result self.new.stepper }
@@ -335,6 +417,7 @@ impl<'input, T: BorrowedInput<'input>> Parser<'input, T> {
         ensures first { self.new.stepper.first ≡ self.old.stepper.first }
         ensures peeked { self.new.peeked ≡ self.old.peeked }
         ensures kept { self.new.given ≡ self.old.given }
+        ensures starved { self.new.starved ≡ self.old.starved }
         ensures between { self.new.between ≡ self.old.between }
         ensures going { self.new.over ≡ self.old.over }
         ensures failed { self.new.stepper.failed ≡ (self.old.stepper.failed || is_some result) }
@@ -357,6 +440,7 @@ impl<'input, T: BorrowedInput<'input>> Parser<'input, T> {
             → ReadsNext T.unread result self.new.stepper c }
         ensures peeked { self.new.peeked ≡ self.old.peeked }
         ensures given { self.new.given ≡ self.old.given }
+        ensures starved { self.new.starved ≡ self.old.starved }
         ensures between { self.new.between ≡ self.old.between }
         ensures going { self.new.over ≡ self.old.over }
         ensures lost { NeverRevives result self.new.stepper }
@@ -390,6 +474,7 @@ impl<'input, T: BorrowedInput<'input>> Parser<'input, T> {
         ensures renumbered { self.new.stepper.renumbered ≡ self.old.stepper.renumbered }
         ensures peeked { self.new.peeked ≡ self.old.peeked }
         ensures given { self.new.given ≡ self.old.given }
+        ensures starved { self.new.starved ≡ self.old.starved }
         ensures onward { GoesOnward T.unread self.old.stepper.scanner.cursor self.new.stepper.scanner.cursor }
     {
         self.stepper.end_error()
@@ -406,6 +491,12 @@ fn next_of<'a>(
         Ok(Some(event)) => Some(Ok(event)),
         Err(error) => Some(Err(error)),
     }
+}
+
+fn wants_memory(error: &ScanError) -> bool
+    ensures { result ≡ wants_memory error.now.kind }
+{
+    error.kind().number() == ErrorKind::NoMemory.number()
 }
 
 /// An event, or the error of the source in its place.

@@ -1,17 +1,20 @@
 //! The events of an input, sent to a receiver.
-ghost use Rattle.std.specs.Prelude.{◌≡◌, None, Some, IfOk, IfSome};
+ghost use Rattle.std.specs.Prelude.{◌≡◌, None, Some, false, true, IfErr, IfOk, IfSome};
 ghost use Rattle.granit_base.specs.Place.{Unread};
 ghost use Rattle.granit_cursor.specs.Reading.{GoesOnward};
 ghost use Rattle.granit_error.specs.FaultKind.{NoMemory as OutOfMemory};
 ghost use Rattle.granit_error.specs.Refused.{Refused};
 ghost use Rattle.granit_event.specs.Events.{event_kind};
-ghost use Rattle.granit_parser.specs.Parsing.{IsOver, StandsAt};
+ghost use Rattle.granit_parser.specs.Parsing.{IsOver, StandsAt, StarvedBy};
 ghost use Rattle.granit_parser.specs.Receiving as spec;
-ghost use Rattle.granit_parser.specs.Receiving.{GivesFirst, KeepsRefusal, KeepsScan, Loads, LoadsRest, Tries};
-ghost use Rattle.granit_parser.specs.Receiving.{TriesRest, scanned};
+ghost use Rattle.granit_parser.specs.Receiving.{CallsLeave, FirstCall, GivesFirst, KeepsRefusal, KeepsScan, Loads};
+ghost use Rattle.granit_parser.specs.Receiving.{LoadsRest, Tries, TriesRest, WantsOnly, scanned};
+ghost use Rattle.granit_parser.specs.Recovering.{IsOpen, ParserIn};
 ghost use Rattle.granit_parser.specs.Sources.{IfUnseen, MovesUnless, TellsError, TellsMet};
 ghost use Rattle.granit_receivers.specs.Kept.{CountsErrors, GivesAgain, KeptAgain, ScansAgain};
 ghost use Rattle.granit_receivers.specs.Taking.{Took};
+ghost use Rattle.granit_recovery.specs.Streams.{Reached};
+ghost use Rattle.granit_restart.specs.Calls.{Calls};
 ghost use Rattle.granit_steps.specs.Steps.{StepState};
 
 use crate::parser::Parser;
@@ -40,12 +43,22 @@ impl<'input, T: BorrowedInput<'input>> Parser<'input, T> {
             → Loads T.unread T.origin self.old.stepper.scanner.options multi m
             (Took (record { events = R.taken recv.old; places = R.spans recv.old })
             (record { events = R.taken recv.new; places = R.spans recv.new })) self.new result }
+        ensures calls { (c : Calls) → Reached self.old.stepper.scanner.options c → IsOpen c
+            → ParserIn T.unread self.old c
+            → CallsLeave T.unread T.origin self.old.stepper.scanner.options multi
+            (Took (record { events = R.taken recv.old; places = R.spans recv.old })
+            (record { events = R.taken recv.new; places = R.spans recv.new }))
+            (Some result) self.new c }
         ensures again { IfSome self.old.given (λ e. GivesAgain e result × (recv.new ≡ recv.old)
             × (self.new ≡ self.old)) }
         ensures source { IfUnseen self.old.peeked (TellsError T.origin self.old.stepper (Some result)
             self.new.stepper.scanner.cursor) }
         ensures peeked { self.new.peeked ≡ None }
         ensures given { self.old.given ≡ None → KeepsRefusal result self.new.given }
+        ensures memory { self.old.given ≡ None → (self.old.starved ≡ false) × WantsOnly self.new.starved
+            (Took (record { events = R.taken recv.old; places = R.spans recv.old })
+            (record { events = R.taken recv.new; places = R.spans recv.new }))
+            (Some result) }
         ensures options { self.new.stepper.scanner.options ≡ self.old.stepper.scanner.options }
         ensures renumbered { self.new.stepper.renumbered ≡ self.old.stepper.renumbered }
         ensures moves { MovesUnless T.left T.origin (Some result) self.old.stepper.scanner.cursor
@@ -74,17 +87,27 @@ impl<'input, T: BorrowedInput<'input>> Parser<'input, T> {
             → LoadsRest T.unread T.origin self.old.stepper.scanner.options multi m
             (Took (record { events = R.taken recv.old; places = R.spans recv.old })
             (record { events = R.taken recv.new; places = R.spans recv.new })) self.new result }
+        ensures calls { (c : Calls) → Reached self.old.stepper.scanner.options c → IsOpen c
+            → ParserIn T.unread self.old c
+            → CallsLeave T.unread T.origin self.old.stepper.scanner.options multi
+            (Took (record { events = R.taken recv.old; places = R.spans recv.old })
+            (record { events = R.taken recv.new; places = R.spans recv.new }))
+            (Some result) self.new c }
         ensures source { self.old.peeked ≡ None → TellsMet T.origin self.old.stepper.scanner.cursor (Some result)
             self.new.stepper.scanner.cursor }
         ensures peeked { self.new.peeked ≡ None }
         ensures given { self.old.given ≡ None → KeepsRefusal result self.new.given }
+        ensures memory { WantsOnly self.new.starved
+            (Took (record { events = R.taken recv.old; places = R.spans recv.old })
+            (record { events = R.taken recv.new; places = R.spans recv.new }))
+            (Some result) }
         ensures options { self.new.stepper.scanner.options ≡ self.old.stepper.scanner.options }
         ensures renumbered { self.new.stepper.renumbered ≡ self.old.stepper.renumbered }
         ensures moves { MovesUnless T.left T.origin (Some result) self.old.stepper.scanner.cursor
             self.new.stepper.scanner.cursor }
         ensures onward { GoesOnward T.unread self.old.stepper.scanner.cursor self.new.stepper.scanner.cursor }
     {
-        'events: for _ in 0..u64::MAX {
+        'events: for _sent in 0..u64::MAX {
             match self.next_event() {
                 None => return Ok(()),
                 Some(Err(error)) => return Err(error),
@@ -114,6 +137,12 @@ impl<'input, T: BorrowedInput<'input>> Parser<'input, T> {
             → Tries T.unread T.origin self.old.stepper.scanner.options multi m
             (Took (record { events = R.taken recv.old; places = R.spans recv.old })
             (record { events = R.taken recv.new; places = R.spans recv.new })) self.new result }
+        ensures calls { (c : Calls) → Reached self.old.stepper.scanner.options c → IsOpen c
+            → ParserIn T.unread self.old c
+            → CallsLeave T.unread T.origin self.old.stepper.scanner.options multi
+            (Took (record { events = R.taken recv.old; places = R.spans recv.old })
+            (record { events = R.taken recv.new; places = R.spans recv.new }))
+            (scanned result) self.new c }
         ensures again { IfSome self.old.given (λ e. ScansAgain e result × (recv.new ≡ recv.old)
             × (self.new ≡ self.old)) }
         ensures source { IfUnseen self.old.peeked (TellsError T.origin self.old.stepper (scanned result)
@@ -121,6 +150,10 @@ impl<'input, T: BorrowedInput<'input>> Parser<'input, T> {
         ensures peeked { self.new.peeked ≡ None }
         ensures given { self.old.given ≡ None → KeepsScan result self.new.given }
         ensures errors { CountsErrors (R.errors recv.old) (R.errors recv.new) result }
+        ensures memory { self.old.given ≡ None → (self.old.starved ≡ false) × WantsOnly self.new.starved
+            (Took (record { events = R.taken recv.old; places = R.spans recv.old })
+            (record { events = R.taken recv.new; places = R.spans recv.new }))
+            (scanned result) }
         ensures options { self.new.stepper.scanner.options ≡ self.old.stepper.scanner.options }
         ensures renumbered { self.new.stepper.renumbered ≡ self.old.stepper.renumbered }
         ensures moves { MovesUnless T.left T.origin (scanned result) self.old.stepper.scanner.cursor
@@ -151,18 +184,28 @@ impl<'input, T: BorrowedInput<'input>> Parser<'input, T> {
             → TriesRest T.unread T.origin self.old.stepper.scanner.options multi m
             (Took (record { events = R.taken recv.old; places = R.spans recv.old })
             (record { events = R.taken recv.new; places = R.spans recv.new })) self.new result }
+        ensures calls { (c : Calls) → Reached self.old.stepper.scanner.options c → IsOpen c
+            → ParserIn T.unread self.old c
+            → CallsLeave T.unread T.origin self.old.stepper.scanner.options multi
+            (Took (record { events = R.taken recv.old; places = R.spans recv.old })
+            (record { events = R.taken recv.new; places = R.spans recv.new }))
+            (scanned result) self.new c }
         ensures source { self.old.peeked ≡ None → TellsMet T.origin self.old.stepper.scanner.cursor (scanned result)
             self.new.stepper.scanner.cursor }
         ensures peeked { self.new.peeked ≡ None }
         ensures given { self.old.given ≡ None → KeepsScan result self.new.given }
         ensures errors { CountsErrors (R.errors recv.old) (R.errors recv.new) result }
+        ensures memory { WantsOnly self.new.starved
+            (Took (record { events = R.taken recv.old; places = R.spans recv.old })
+            (record { events = R.taken recv.new; places = R.spans recv.new }))
+            (scanned result) }
         ensures options { self.new.stepper.scanner.options ≡ self.old.stepper.scanner.options }
         ensures renumbered { self.new.stepper.renumbered ≡ self.old.stepper.renumbered }
         ensures moves { MovesUnless T.left T.origin (scanned result) self.old.stepper.scanner.cursor
             self.new.stepper.scanner.cursor }
         ensures onward { GoesOnward T.unread self.old.stepper.scanner.cursor self.new.stepper.scanner.cursor }
     {
-        'events: for _ in 0..u64::MAX {
+        'events: for _tried in 0..u64::MAX {
             match self.next_event() {
                 None => return Ok(()),
                 Some(Err(error)) => return Err(TryLoadError::Scan(error)),
@@ -184,6 +227,7 @@ impl<'input, T: BorrowedInput<'input>> Parser<'input, T> {
     fn given_again(&self) -> Option<ScanError>
         ensures again { KeptAgain self.now.given result }
         ensures over { IfSome result (λ e. IsOver self.now) }
+        ensures starved { StarvedBy self.now.starved self.now.given }
     {
         match &self.given {
             None => None,
@@ -195,10 +239,13 @@ impl<'input, T: BorrowedInput<'input>> Parser<'input, T> {
     fn first_event(&mut self) -> Result<(Event<'input>, Span), ScanError>
         ensures known { (m : StepState) → StandsAt T.unread self.old m → GivesFirst T.unread T.origin self.new
             self.old.stepper.scanner.options m result }
+        ensures calls { (c : Calls) → Reached self.old.stepper.scanner.options c → IsOpen c
+            → ParserIn T.unread self.old c → FirstCall T.unread T.origin result self.new c }
         ensures source { IfUnseen self.old.peeked (TellsError T.origin self.old.stepper (Some result)
             self.new.stepper.scanner.cursor) }
         ensures peeked { self.new.peeked ≡ None }
         ensures given { self.old.given ≡ None → KeepsRefusal result self.new.given }
+        ensures memory { IfErr result (λ e. e.kind ≡ OutOfMemory → self.new.starved ≡ true) }
         ensures options { self.new.stepper.scanner.options ≡ self.old.stepper.scanner.options }
         ensures renumbered { self.new.stepper.renumbered ≡ self.old.stepper.renumbered }
         ensures moves { MovesUnless T.left T.origin (Some result) self.old.stepper.scanner.cursor
@@ -220,7 +267,7 @@ impl<'input, T: BorrowedInput<'input>> Parser<'input, T> {
         ensures same { self.new.stepper.scanner ≡ self.old.stepper.scanner }
         ensures renumbered { self.new.stepper.renumbered ≡ self.old.stepper.renumbered }
     {
-        self.peeked = None;
+        self.forget();
         self.stepper.stop();
         self.given = Some(ScanError::from(NoMemory));
         ScanError::from(NoMemory)

@@ -4,12 +4,10 @@ ghost use Rattle.std.specs.Prelude.{is_some, OnOk};
 ghost use Rattle.granit_cursor.specs.Reading.{GoesOnward, Moves};
 ghost use Rattle.granit_error.specs.FaultKind.{NoMemory as OutOfMemory};
 ghost use Rattle.granit_event.specs.Events.{event_kind};
-ghost use Rattle.granit_parser.specs.Parsing.{EndsWith, Keeps};
 ghost use Rattle.granit_parser.specs.Recovering as spec;
 ghost use Rattle.granit_parser.specs.Recovering.{AsksBy, Ends, Follows, GaveUp, GivesSeen, ParserIn, Proceeds};
 ghost use Rattle.granit_parser.specs.Recovering.{SeenBy, Skips};
-ghost use Rattle.granit_parser.specs.Recovering.{between_behind, notes_between, notes_over};
-ghost use Rattle.granit_parser.specs.Recovering.{over_behind, seen_in, seen_kind};
+ghost use Rattle.granit_parser.specs.Recovering.{between_behind, over_behind, seen_in, seen_kind};
 ghost use Rattle.granit_parser.specs.Sources.{IsSourceError, TellsSource};
 ghost use Rattle.granit_parser.specs.declared.recovery.Seen.TheVariants as seens;
 ghost use Rattle.granit_reader.specs.Meets.{UnlessMemory};
@@ -18,7 +16,7 @@ ghost use Rattle.granit_recovery.specs.Streams.{Reached};
 ghost use Rattle.granit_restart.specs.Calls.{Calls};
 
 use crate::parser::Parser;
-use granit_base::{NoMemory, Span};
+use granit_base::NoMemory;
 use granit_error::ScanError;
 use granit_event::Event;
 use granit_input::BorrowedInput;
@@ -27,9 +25,6 @@ use granit_recovery::{
     a_comment_takes_room_where_recovery_asks, a_look_tells_where_recovery_asks, calls_go_by_turns,
     nothing_changes_behind_the_end,
 };
-
-/// What comes next.
-type Next<'input> = Option<Result<(Event<'input>, Span), ScanError>>;
 
 /// What was looked at, as far as recovery asks.
 #[derive(Clone, Copy)]
@@ -85,7 +80,7 @@ impl<'input, T: BorrowedInput<'input>> Parser<'input, T> {
         ensures renumbered { self.new.stepper.renumbered ≡ self.old.stepper.renumbered }
         ensures over { self.new.over ≡ self.old.over }
     {
-        self.peeked = None;
+        self.forget();
         self.stepper.give_up();
         self.given = Some(kept(self.alloc, error));
     }
@@ -162,7 +157,7 @@ impl<'input, T: BorrowedInput<'input>> Parser<'input, T> {
     {
         match &self.given {
             Some(error) => kept(self.alloc, error),
-            None => match self.peeked.take() {
+            None => match self.take_seen() {
                 Some(Err(error)) => error,
                 _ => ScanError::from(NoMemory),
             },
@@ -173,7 +168,7 @@ impl<'input, T: BorrowedInput<'input>> Parser<'input, T> {
     fn skip(&mut self) -> Result<(), ScanError>
         ensures known { (c : Calls) → Reached self.old.stepper.scanner.options c → ParserIn T.unread self.old c
             → c.over ≡ false → c.refusal ≡ None → (seen_in self.old.peeked ≡ seens.StreamEnd → ⊥)
-            → OnOk result (Skips T.unread (is_some self.old.peeked) self.new c) }
+            → OnOk result (Skips T.unread self.old.stepper.scanner.cursor (is_some self.old.peeked) self.new c) }
         ensures memory { IfErr result (λ e. e.kind ≡ OutOfMemory) }
         ensures going { self.new.over ≡ self.old.over }
         ensures options { self.new.stepper.scanner.options ≡ self.old.stepper.scanner.options }
@@ -205,25 +200,11 @@ impl<'input, T: BorrowedInput<'input>> Parser<'input, T> {
         self.between && !starts(seen)
     }
 
-    /// What was looked at is dropped.
-    fn forget(&mut self)
-        ensures { self.new ≡ record self.old { peeked = None } }
-    {
-        self.peeked = None;
-    }
-
-    /// So is a refusal.
-    fn forget_refusal(&mut self)
-        ensures { self.new ≡ record self.old { peeked = None; given = None } }
-    {
-        self.peeked = None;
-        self.given = None;
-    }
-
     /// Whether another document is there, where nothing but what was looked at is between.
     fn follows(&mut self) -> Result<bool, ScanError>
-        ensures known { (looked : _) (c : Calls) → AsksBy T.unread looked self.old.peeked self.old.stepper c
-            → UnlessMemory result (Follows T.unread looked result self.new c) }
+        ensures known { (stops : _) (looked : _) (c : Calls)
+            → AsksBy T.unread stops looked self.old.peeked self.old.stepper c
+            → UnlessMemory result (Follows T.unread stops looked result self.new c) }
         ensures going { self.new.over ≡ self.old.over }
         ensures options { self.new.stepper.scanner.options ≡ self.old.stepper.scanner.options }
         ensures renumbered { self.new.stepper.renumbered ≡ self.old.stepper.renumbered }
@@ -239,34 +220,15 @@ impl<'input, T: BorrowedInput<'input>> Parser<'input, T> {
     fn seen(&self) -> Seen
         ensures { result ≡ seen_in self.now.peeked }
     {
-        match &self.peeked {
+        match self.looked_at() {
             None => Seen::Nothing,
             Some(Ok((event, _))) => seen_of(event),
             Some(Err(_)) => Seen::Nothing,
         }
     }
 
-    /// Notes what is given: a refusal is kept.
-    pub(crate) fn note(&mut self, next: &Next<'input>)
-        requires seen { self.old.peeked ≡ None }
-        requires ends { EndsWith next.now self.old.stepper }
-        ensures between { self.new.between ≡ notes_between next.now self.old.between }
-        ensures over { self.new.over ≡ notes_over next.now self.old.over }
-        ensures given { Keeps next.now self.old.given self.new.given }
-        ensures rest { self.new ≡ record self.old {
-          given = self.new.given;
-          between = self.new.between;
-          over = self.new.over;
-        } }
-    {
-        match next {
-            None => {}
-            Some(Ok((event, _))) => self.note_event(event),
-            Some(Err(error)) => self.given = Some(kept(self.alloc, error)),
-        }
-    }
-
-    fn note_event(&mut self, event: &Event<'input>)
+    /// Notes where an event that is given leads.
+    pub(crate) fn note_event(&mut self, event: &Event<'input>)
         ensures between { self.new.between ≡ between_behind (event_kind event.now) self.old.between }
         ensures over { self.new.over ≡ over_behind (event_kind event.now) self.old.over }
         ensures rest { self.new ≡ record self.old { between = self.new.between; over = self.new.over } }

@@ -8,4 +8,6 @@ mod letters;
 #[cfg(test)]
 mod parser;
 #[cfg(test)]
+mod recovery;
+#[cfg(test)]
 mod tags;

@@ -144,7 +144,8 @@ fn push<'input>(
 {
     mark_by(items, numbers.rises, &queued.item);
     numbers.push(&queued.item);
-    items.push_back(queued)?;
+    items.reserve(1)?;
+    items.push_back_reserved(queued);
     Ok(())
 }
 

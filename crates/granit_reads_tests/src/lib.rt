@@ -1,8 +1,6 @@
-//! Tests of granit_lex, granit_block and granit_reader by their public calls.
+//! Tests of granit_lex and granit_reader by their public calls; the values of lexemes stand in granit_token_cases.
 #![tactic(auto)]
 
-#[cfg(test)]
-mod block;
 #[cfg(test)]
 mod lex;
 #[cfg(test)]

@@ -1,25 +1,27 @@
 mod AnchorOrder
 mod AskLaws
 mod DropLaws
-mod EndFeeds
-mod EndReads
+pub mod EndFeeds
+pub mod EndReads
 mod FaultLaws
 mod FollowLaws
 mod HeaderShapes
 mod IdLaws
 mod IdLemmas
 mod IdSteps
+mod LeftLaws
+mod LeftTurns
 mod LevelLaws
 mod MarkRefusals
 mod NoteLaws
 mod OffsetLaws
 mod OneLaws
 mod PlaceLaws
-mod RecoveryLaws
-mod RestLaws
+pub mod RecoveryLaws
+pub mod RestLaws
 mod SeatLaws
 mod SeatSteps
 mod SkipLaws
-mod TidyLaws
-mod TurnLaws
+pub mod TidyLaws
+pub mod TurnLaws
 mod TurnedLaws

@@ -62,8 +62,8 @@ waits_turn : (o : OptionsData) (s : StepState) (e : PlainEvent) (es : List Plain
 unfolding step_turn
 waits_turn o s e es waits = ap (λ xs. turn_by o xs s.queue s) waits
 
-failing_waits : (o : OptionsData) (n : ℕ) (s : StepState) (e : PlainEvent) (es : List PlainEvent) → s.pending ≡ e ∷ es
-    → failing_in o n s ≡ s
+pub failing_waits : (o : OptionsData) (n : ℕ) (s : StepState) (e : PlainEvent) (es : List PlainEvent)
+    → s.pending ≡ e ∷ es → failing_in o n s ≡ s
 failing_waits o zero s e es waits = refl
 failing_waits o (suc n) s e es waits = ap (failing_by (failing_in o n) s) (waits_turn o s e es waits)
 

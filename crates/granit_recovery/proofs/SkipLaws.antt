@@ -146,7 +146,7 @@ found_along : (h : Here) (s : StepState) (r : Option Lexeme) → Along (InStream
 found_along h s (Some l) = lexeme_along h s l.kind l refl
 found_along h s None = boundary_along s (next_boundary h)
 
-restart_along : (stop : Here) (s : StepState) → Along (InStream ∷ []) (behind_fault stop s).1
+pub restart_along : (stop : Here) (s : StepState) → Along (InStream ∷ []) (behind_fault stop s).1
 unfolding behind_fault_at
 restart_along stop s = let h = cursor_at stop s.reading in found_along h s (read_boundary h s.queue)
 
@@ -227,7 +227,7 @@ along_good o n ls s more h p (along_end e over only ended) =
     ahead_good o n [] s (ahead s.pending) more all_closed (λ es ks g. along_end g over only ended) h
     (ahead_goes s.pending ls [] p e)
 
-start_ahead : (kind : EventKind) (e : PlainEvent) (es : List PlainEvent) → kind ≡ StreamStart
+pub start_ahead : (kind : EventKind) (e : PlainEvent) (es : List PlainEvent) → kind ≡ StreamStart
     → ahead_by kind e es (ahead es) ≡ ahead es
 start_ahead StreamStart e es is = refl
 start_ahead kind e es is = absurd (cc)

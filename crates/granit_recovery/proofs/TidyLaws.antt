@@ -3,6 +3,7 @@ use Rattle.std.proofs.Common.{◌≡◌, ◌⊎◌, inl, inr, ℕ, zero, suc, Bo
 use Rattle.std.proofs.Common.{Some, None, Result, Ok, Err, refl, sym, ap, subst, ◌∙◌, arith}
 use Rattle.std.specs.Prelude.{if◌then◌else◌}
 use Rattle.granit_error.specs.OptionsData.{OptionsData}
+use Rattle.granit_lexemes.proofs.PieceLemmas.{pieces_done}
 use Rattle.granit_lexemes.specs.Here.{Here, mark_of}
 use Rattle.granit_lexemes.specs.Lexeme.{Lexeme, Item, OfLexeme, OfComment}
 use Rattle.granit_lexemes.specs.Outcome.{Fault, ◌>>=◌}
@@ -20,15 +21,14 @@ use Rattle.granit_recovery.proofs.EndReads.{Alone, read_end}
 use Rattle.granit_recovery.proofs.IdLaws.{NoBounds}
 use Rattle.granit_recovery.proofs.IdLemmas.{Num}
 use Rattle.granit_recovery.proofs.IdSteps.{FedNum, feed_num}
-use Rattle.granit_recovery.proofs.LevelLaws.{event_keeps, in_stream, Open, split}
+use Rattle.granit_recovery.proofs.LevelLaws.{event_keeps, in_stream, Open, split, stream_leaves}
 use Rattle.granit_recovery.proofs.OneLaws.{Inside, node_inside, strict_first}
 use Rattle.granit_recovery.proofs.RecoveryLaws.{first_same, second_same}
-use Rattle.granit_recovery.proofs.SkipLaws.{none_silent}
+use Rattle.granit_recovery.proofs.RestLaws.{done_turn}
 use Rattle.granit_recovery.proofs.TurnLaws.{Along, along_end, along_stream, has_end, next_along, NextAlong, none_behind}
 use Rattle.granit_recovery.proofs.TurnLaws.{OnlyComments, or_left, or_right, read_waits, Told, Waits}
 use Rattle.granit_recovery.specs.Ids.{counting_from}
 use Rattle.granit_recovery.specs.OneDocument.{BehindStart, strict_events, StandStrictly}
-use Rattle.granit_restart.proofs.EndLaws.{given_turn}
 use Rattle.granit_restart.proofs.MarkLaws.{items, pushed_items}
 use Rattle.granit_restart.specs.Skipping.{with_pending}
 use Rattle.granit_steps.proofs.Futures.{pushed_nil}
@@ -37,20 +37,20 @@ use Rattle.granit_steps.proofs.Nesting.{base_levels, levels_of}
 use Rattle.granit_steps.proofs.StreamNesting.{is_end_item}
 use Rattle.granit_steps.specs.Levels.{and_then, behind_event, behind_events, InStream, Level}
 use Rattle.granit_steps.specs.Steps.{feed_front, first_pending, front_turn, incoming, line_behind, may_go, next_event}
-use Rattle.granit_steps.specs.Steps.{read_more, read_unless, settle, step_turn, StepState, Turn, turn_by}
+use Rattle.granit_steps.specs.Steps.{read_more, read_unless, settle, step_size, step_turn, StepState, Turn, turn_by}
 use Rattle.granit_steps.specs.Steps.{with_fed, with_read}
 use Rattle.granit_steps.specs.Told.{GivesEvents, gives_end, gives_event, gives_fault}
 
 -- ---- the end among items that wait
 
 -- the end was read and waits last, without a comment; or none waits
-abbrev Last : (ended : Bool) → List Item → Type 0
+abbrev pub Last : (ended : Bool) → List Item → Type 0
 Last true [] = ⊥
 Last true (i ∷ is) =
     ((is_end_item i ≡ true) × (is ≡ []) × Untailed i) ⊎ ((is_end_item i ≡ false) × Last true is)
 Last false is = has_end is ≡ false
 
-last_behind : (ended : Bool) (xs ys : List Item) → has_end xs ≡ false → Last ended ys → Last ended (xs ++ ys)
+pub last_behind : (ended : Bool) (xs ys : List Item) → has_end xs ≡ false → Last ended ys → Last ended (xs ++ ys)
 last_behind true [] ys e l = l
 last_behind true (x ∷ xs) ys e l =
     inr (or_left (is_end_item x) (has_end xs) e, last_behind true xs ys (or_right (is_end_item x) (has_end xs) e) l)
@@ -61,7 +61,7 @@ end_comes : (b : Bool) (l : Lexeme) → is_end_kind l.kind ≡ true → l.tail �
 end_comes true l e none = inl (e, refl, none)
 end_comes false l e none = inl (e, refl, refl)
 
-read_last : (b : Bool) (number : ℕ) (before : List ℕ) (is : List Item) (t : Laid) → Items number before is t
+pub read_last : (b : Bool) (number : ℕ) (before : List ℕ) (is : List Item) (t : Laid) → Items number before is t
     → (is_end is ≡ true → Alone is) → Last (is_end is) (incoming b is)
 read_last b number before is t p alone = by (is_end is) refl
   where
@@ -105,7 +105,7 @@ TurnTidy behind (Err f) = Unit {0}
 
 -- ---- an item is fed
 
-items_none : (q : List FlaggedItem) → items q ≡ [] → q ≡ []
+pub items_none : (q : List FlaggedItem) → items q ≡ [] → q ≡ []
 items_none [] e = refl
 items_none (i ∷ is) e = absurd (cc)
 
@@ -304,24 +304,39 @@ comments_last (OfLexeme x ∷ is) only l = only
 comments_last (OfComment c ∷ is) only (inl l) = let f = l.0 in cc
 comments_last (OfComment c ∷ is) only (inr l) = comments_last is only l.1
 
-none_left : (o : OptionsData) (s t : StepState) (e : PlainEvent) → s.pending ≡ [] → s.queue ≡ []
-    → s.reading.ended ≡ true → next_event o s ≡ Ok (Some e, t) → ⊥
-none_left o s t e pending queue ended is =
-    let same : with_pending [] s ≡ s = ap (λ es. with_pending es s) (sym pending) in
-    none_silent o s s (subst (λ u. step_turn o u ≡ Ok (None, u)) same (given_turn o s queue ended)) pending e t is
+-- nothing is left behind the end of the stream
+record AllGiven (s : StepState) : Type 0 where
+  pending : s.pending ≡ []
+  queue : s.queue ≡ []
+  ended : s.reading.ended ≡ true
 
-over_silent : (o : OptionsData) (s t : StepState) (e : PlainEvent) → behind_events s.pending [] ≡ Some []
-    → OnlyComments (items s.queue) → s.reading.ended ≡ true → EndWaits s → next_event o s ≡ Ok (Some e, t) → ⊥
-over_silent o s t e left only ended (still l) is =
-    comments_last (items s.queue) only (subst (λ b. Last b (items s.queue)) ended l)
-over_silent o s t e left only ended (passed queue end c) is =
-    none_left o s t e (closed_none s.pending [] left c) queue ended is
+over_left : (s : StepState) → behind_events s.pending [] ≡ Some [] → OnlyComments (items s.queue)
+    → s.reading.ended ≡ true → EndWaits s → AllGiven s
+over_left s left only ended (still l) =
+    absurd (comments_last (items s.queue) only (subst (λ b. Last b (items s.queue)) ended l))
+over_left s left only ended (passed queue end c) =
+    record { pending = closed_none s.pending [] left c; queue = queue; ended = end }
+
+none_left : (s : StepState) → Along [] s → EndWaits s → AllGiven s
+none_left s (along_stream left rests seats waits) w =
+    absurd (levels_some s.parser.frames s.parser.stage (left_none s.pending [] _ refl left))
+none_left s (along_end left over only ended) w = over_left s left only ended w
+
+given_next : (o : OptionsData) (s : StepState) → AllGiven s → next_event o s ≡ Ok (None, s)
+unfolding next_event
+given_next o s g =
+    ap (λ r. r >>= λ x. Ok (first_pending x.1.pending x.1))
+    (pieces_done step_size (step_turn o) s s (done_turn o s g.pending g.queue g.ended))
+    ∙ ap (λ es. Ok (first_pending es s)) g.pending
+
+abbrev event_in : Result (Option PlainEvent × StepState) Fault → Option PlainEvent
+event_in (Ok x) = x.0
+event_in (Err f) = None
 
 silent : (o : OptionsData) (s t : StepState) (e : PlainEvent) → Along [] s → EndWaits s
     → next_event o s ≡ Ok (Some e, t) → ⊥
-silent o s t e (along_stream left rests seats waits) w is =
-    levels_some s.parser.frames s.parser.stage (left_none s.pending [] _ refl left)
-silent o s t e (along_end left over only ended) w is = over_silent o s t e left only ended w is
+silent o s t e a w is =
+    let f : None ≡ Some e = ap event_in (sym (given_next o s (none_left s a w)) ∙ is) in cc
 
 -- ---- all events
 
@@ -377,3 +392,40 @@ begun_strict o h count es f (gives_event {after = after} {e = e} {es = rest} is 
     let r = given_strict o (Begun count h) rest f (InStream ∷ []) false (begun_along count h) in_stream
     (begun_tidy count h) (λ y. absurd (cc)) (subst (λ s. GivesEvents o s rest f) (sym state) more) in
     subst (λ (x : PlainEvent). BehindStart x.kind rest) event (r.left, r.all)
+
+-- ---- the end of the stream is the last that is told
+
+ends_told : (o : OptionsData) (s : StepState) (f : Option Fault) (rest : List PlainEvent) → AllGiven s
+    → GivesEvents o s rest f → (rest ≡ []) × (f ≡ None)
+ends_told o s f rest g (gives_end is) = (refl, refl)
+ends_told o s f rest g (gives_fault is) = absurd (let e = sym (given_next o s g) ∙ is in cc)
+ends_told o s f rest g (gives_event {after = after} {e = e} is more) =
+    absurd (let x : None ≡ Some e = ap event_in (sym (given_next o s g) ∙ is) in cc)
+
+-- nothing comes behind it
+none_behind_end : (o : OptionsData) (s : StepState) (f : Option Fault) (ls : List Level) (behind : Bool)
+    (front rest : List PlainEvent) (end : PlainEvent) → Along ls s → Open ls → Tidy behind s → end.kind ≡ StreamEnd
+    → GivesEvents o s (front ++ end ∷ rest) f → (rest ≡ []) × (f ≡ None)
+none_behind_end o s f ls behind [] rest end a p x kind (gives_event {after = after} is more) =
+    let n : Told ls end after = subst (NextAlong ls) is (next_along o ls s a) in
+    let t : NextTidy behind (Ok (Some end, after)) = subst (NextTidy behind) is (next_tidy o behind s x) in
+    let left : behind_event StreamEnd ls ≡ Some n.behind =
+    ap (λ k. behind_event k ls) (sym kind) ∙ n.first in
+    let none : n.behind ≡ [] = (stream_leaves ls n.behind p left).1 in
+    ends_told o after f rest (none_left after (subst (λ ls. Along ls after) none n.along) t.1.ends) more
+none_behind_end o s f ls behind (e ∷ front) rest end a p x kind (gives_event {after = after} is more) =
+    let n : Told ls e after = subst (NextAlong ls) is (next_along o ls s a) in
+    let t : NextTidy behind (Ok (Some e, after)) = subst (NextTidy behind) is (next_tidy o behind s x) in
+    none_behind_end o after f n.behind (is_node e.kind) front rest end n.along
+    (event_keeps e.kind ls n.behind p n.first) t.1 kind more
+
+pub begun_ends : (o : OptionsData) (h : Here) (count : ℕ) (start end : PlainEvent) (front rest : List PlainEvent)
+    (f : Option Fault) → end.kind ≡ StreamEnd → GivesEvents o (counting_from count h) (start ∷ (front ++ end ∷ rest)) f
+    → (rest ≡ []) × (f ≡ None)
+begun_ends o h count start end front rest f kind (gives_event {after = after} is more) =
+    let same = sym (started o count h) ∙ is in
+    let pair : ◌≡◌ {A = Option PlainEvent × StepState} (Some (event_on StreamStart (mark_of h)), Begun count h)
+    (Some start, after) = cc in
+    none_behind_end o (Begun count h) f (InStream ∷ []) false front rest end (begun_along count h) in_stream
+    (begun_tidy count h) kind
+    (subst (λ s. GivesEvents o s (front ++ end ∷ rest) f) (sym (second_same _ _ pair)) more)

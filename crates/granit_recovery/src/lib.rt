@@ -34,4 +34,4 @@ pub use refusals::{a_refusal_is_answered_again, no_event_follows_a_refusal};
 pub use rows::{
     boundaries_of_texts, dropped_texts, kept_texts, recovered_texts, skipped_texts, stopped_texts,
 };
-pub use streams::a_stream_goes_on_behind_recovery;
+pub use streams::{a_stream_goes_on_behind_recovery, an_open_call_gives_something};

@@ -54,11 +54,11 @@ front_is (Some x) l is = ap mark_items is
 
 module _ {I : Type 0} (unread : I → Unread → Type 0) (s : Scanning I) (m : TokenState) where
   stops_by : (f : Option Refused) → CameBy unread f m.reading.reader.here s.items.cursor → s.items.cursor.lost ≡ false
-      → (stop : Here) × Onward m.reading.reader.here stop
-      × Stands unread s.items.cursor (if is_some f then stop else m.reading.reader.here)
+      → (stop : Here) × Onward m.reading.reader.here stop × Stands unread s.items.cursor stop
+      × ((if is_some f then stop else m.reading.reader.here) ≡ stop)
   unfolding CameOn
-  stops_by None came found = (m.reading.reader.here, there, came)
-  stops_by (Some f) (inl k) found = k
+  stops_by None came found = (m.reading.reader.here, there, came, refl)
+  stops_by (Some f) (inl k) found = (k.0, k.1, k.2, refl)
   stops_by (Some f) (inr lost) found = absurd (let clash : true ≡ false = sym lost ∙ found in cc)
 
   -- ---- at the boundary
@@ -88,14 +88,17 @@ module _ {I : Type 0} (unread : I → Unread → Type 0) (s : Scanning I) (m : T
         → s.items.laid.number ≡ n.reading.reader.laid.number
         → read_boundary h n.queue ≡ read_boundary h (front_items front ++ s.items.queue)
         → Restarts unread (behind_fault_at h n) after.items starts)
-        → after.writer ≡ writing_start → Proceeds unread (option_map plain_token t) m (revived after)
+        → after.writer ≡ writing_start
+        → Proceeds unread s.items.cursor (option_map plain_token t) m (revived after)
     unfolding proceeded tokens
     proceeds starts after restarts anew =
         let at = stops_by m.reading.fault rests.came found in
-        let known = restarts (unwritten tokens m) (cursor_at at.0 m.reading) at.2 rests.number
+        let stands = subst (Stands unread s.items.cursor) (sym at.3) at.2 in
+        let known = restarts (unwritten tokens m) (cursor_at at.0 m.reading) stands rests.number
         (waits (cursor_at at.0 m.reading)) in (
           at.0,
           at.1,
+          at.2,
           record {
             going = refl;
             reading = known.1;
@@ -105,27 +108,29 @@ module _ {I : Type 0} (unread : I → Unread → Type 0) (s : Scanning I) (m : T
         )
 
 -- what doesn't move the scanner leaves it there
-module _ {I : Type 0} (unread : I → Unread → Type 0) (t : Option PlainToken) (m : TokenState) where
-  stands_still : (mid new : Scanning I)
-      → ((l : LexState) (q : List FlaggedItem) → Known unread mid.items l q → Known unread new.items l q)
-      → new.writer ≡ mid.writer → Proceeds unread t m (revived mid) → Proceeds unread t m (revived new)
-  stands_still mid new known same at = (
-    at.0,
-    at.1,
-    record {
-      going = refl;
-      reading = known _ _ at.2.reading;
-      following = at.2.following ∙ sym (ap (λ (w : Writing). w.following) same);
-      pending = at.2.pending ∙ sym (ap (λ (w : Writing). w.waiting) same);
-    },
-  )
+module _ {I : Type 0} (unread : I → Unread → Type 0) (cursor : Reading I) (t : Option PlainToken) (m : TokenState)
+  where
+    stands_still : (mid new : Scanning I)
+        → ((l : LexState) (q : List FlaggedItem) → Known unread mid.items l q → Known unread new.items l q)
+        → new.writer ≡ mid.writer → Proceeds unread cursor t m (revived mid) → Proceeds unread cursor t m (revived new)
+    stands_still mid new known same at = (
+      at.0,
+      at.1,
+      at.2,
+      record {
+        going = refl;
+        reading = known _ _ at.3.reading;
+        following = at.3.following ∙ sym (ap (λ (w : Writing). w.following) same);
+        pending = at.3.pending ∙ sym (ap (λ (w : Writing). w.waiting) same);
+      },
+    )
 
-  pub proceeds_still : {U : Type 0} (r : Result U Refused) (mid new : Scanning I)
-      → ((l : LexState) (q : List FlaggedItem) → Known unread mid.items l q → Known unread new.items l q)
-      → new.writer ≡ mid.writer → IfOk r (λ x. Proceeds unread t m (revived mid))
-      → IfOk r (λ x. Proceeds unread t m (revived new))
-  proceeds_still (Ok u) mid new known same at = stands_still mid new known same at
-  proceeds_still (Err e) mid new known same at = at
+    pub proceeds_still : {U : Type 0} (r : Result U Refused) (mid new : Scanning I)
+        → ((l : LexState) (q : List FlaggedItem) → Known unread mid.items l q → Known unread new.items l q)
+        → new.writer ≡ mid.writer → IfOk r (λ x. Proceeds unread cursor t m (revived mid))
+        → IfOk r (λ x. Proceeds unread cursor t m (revived new))
+    proceeds_still (Ok u) mid new known same at = stands_still mid new known same at
+    proceeds_still (Err e) mid new known same at = at
 
 -- of a scanner that goes on all is known that recovery asks for
 module _ {I : Type 0} (unread : I → Unread → Type 0) (s : Scanning I) (m : TokenState) (at : StandsIn unread s m) where

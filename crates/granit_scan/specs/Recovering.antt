@@ -52,13 +52,15 @@ abbrev pub RestsIn : {I X : Type 0} → (I → Unread → Type 0) → Result X R
 RestsIn unread (Ok x) s m = Unit {0}
 RestsIn unread (Err e) s m = (e.kind ≡ NoMemory → ⊥) → Rests unread s m
 
--- a scanner is in the state at the next boundary, for some place where a read that was refused may have stopped
-abbrev pub Proceeds : {I : Type 0} → (I → Unread → Type 0) → Option PlainToken → TokenState → Scanning I → Type 0
-Proceeds unread t m s =
-    (stop : Here) × Onward m.reading.reader.here stop × StandsIn unread s (proceeded stop t m)
+-- a scanner is in the state at the next boundary behind where the cursor stands, onward of where reading does
+abbrev pub Proceeds : {I : Type 0} → (I → Unread → Type 0) → (cursor : Reading I) → Option PlainToken → TokenState
+    → Scanning I → Type 0
+Proceeds unread cursor t m s =
+    (stop : Here) × Onward m.reading.reader.here stop × Stands unread cursor stop
+    × StandsIn unread s (proceeded stop t m)
 
 -- a call of recovery leads there, unless memory runs out or the source fails
 abbrev pub ProceedsUnless : {I : Type 0} → (I → Unread → Type 0) → (I → Origin) → Result (Unit {0}) Refused
     → Option PlainToken → TokenState → (old new : Scanning I) → Type 0
 ProceedsUnless unread origin r t m old new =
-    UnlessFailed origin old new (λ e. r ≡ Err e) (IfOk r (λ x. Proceeds unread t m new))
+    UnlessFailed origin old new (λ e. r ≡ Err e) (IfOk r (λ x. Proceeds unread old.items.cursor t m new))

@@ -69,7 +69,8 @@ impl<'input, T: BorrowedInput<'input>> Scanner<'input, T> {
         ensures known { (m : TokenState) → Rests T.unread self.old m
             → IfSome token.entry (λ t. self.old.first ≡ None)
             → UnlessFailed T.origin self.old self.new (λ e. result ≡ Err e)
-            (IfOk result (λ x. Proceeds T.unread (option_map plain_token token.entry) m (spec.revived self.new))) }
+            (IfOk result (λ x. Proceeds T.unread self.old.items.cursor (option_map plain_token token.entry) m
+            (spec.revived self.new))) }
         ensures source { UnlessFailed T.origin self.old self.new
             (λ e. (result ≡ Err e) × KeepsCopy (Some e) self.new.source_error)
             (IfErr result (λ e. e.kind ≡ faults.NoMemory) × (self.new.source_error ≡ None)) }
@@ -89,7 +90,8 @@ impl<'input, T: BorrowedInput<'input>> Scanner<'input, T> {
     fn restart(&mut self, token: Option<Token<'input>>) -> Result<(), ScanError>
         ensures known { (m : TokenState) → Rests T.unread self.old m
             → IfSome token.entry (λ t. self.old.first ≡ None)
-            → IfOk result (λ x. Proceeds T.unread (option_map plain_token token.entry) m (spec.revived self.new)) }
+            → IfOk result (λ x. Proceeds T.unread self.old.items.cursor (option_map plain_token token.entry) m
+            (spec.revived self.new)) }
         ensures refused { IfErr result (λ e. e.kind ≡ faults.NoMemory) }
         ensures over { self.old.wants_memory ≡ true → IfOk result (λ x. ⊥) }
         ensures keeps { Keeps self.old self.new }

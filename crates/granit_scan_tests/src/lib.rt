@@ -1,5 +1,7 @@
-//! Tests of granit_scan by its public calls.
+//! Tests of granit_properties and granit_scan by their public calls; directives stand in granit_token_cases.
 #![tactic(auto)]
 
+#[cfg(test)]
+mod properties;
 #[cfg(test)]
 mod recovery;

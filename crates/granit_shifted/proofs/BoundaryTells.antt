@@ -37,24 +37,24 @@ behind_line : (b : Bool) (p : Place) → IsLine p
 behind_line true p some = omega (arith, some)
 behind_line false p some = some
 
-stepped : (b : Bool) (h g : Here) → IsCounted h → IsCounted g → IsCounted (if b then h else g)
+pub stepped : (b : Bool) (h g : Here) → IsCounted h → IsCounted g → IsCounted (if b then h else g)
 stepped true h g p q = p
 stepped false h g p q = q
 
-step_counted : (h : Here) → IsCounted h → IsCounted (step h)
+pub step_counted : (h : Here) → IsCounted h → IsCounted (step h)
 unfolding step
 step_counted h some = stepped (length h.unread.text == 0) h _ some (behind_line (ends_line h.unread.text) h.place some)
 
-steps_counted : (n : ℕ) (h : Here) → IsCounted h → IsCounted (steps n h)
+pub steps_counted : (n : ℕ) (h : Here) → IsCounted h → IsCounted (steps n h)
 unfolding steps
 steps_counted zero h some = some
 steps_counted (suc n) h some = steps_counted n (step h) (step_counted h some)
 
-mark_counted : (h : Here) → IsCounted h → IsCounted (past_prefix_mark h)
+pub mark_counted : (h : Here) → IsCounted h → IsCounted (past_prefix_mark h)
 unfolding past_prefix_mark
 mark_counted h some = some
 
-dropped_counted : (h : Here) → IsCounted h → IsCounted (over_dropped h)
+pub dropped_counted : (h : Here) → IsCounted h → IsCounted (over_dropped h)
 dropped_counted h some = stepped (h.place.column == 0 && is_bom (next_char h)) (past_prefix_mark h) (step h)
     (mark_counted h some) (step_counted h some)
 

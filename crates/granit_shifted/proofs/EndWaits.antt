@@ -32,7 +32,7 @@ use Rattle.granit_steps.proofs.Futures.{pushed_nil}
 use Rattle.granit_steps.specs.Steps.{StepState, Turn, front_turn, incoming, line_behind, may_go, pushed, read_more}
 use Rattle.granit_steps.specs.Steps.{read_unless}
 use Rattle.granit_steps.specs.Steps.{step_turn, turn_by, with_fed, with_read}
-use Rattle.granit_shifted.proofs.StartWaits.{or_left, or_right}
+use Rattle.granit_shifted.proofs.MarkWaits.{or_left, or_right}
 
 abbrev pub ends : Item → Bool
 ends (OfLexeme l) = is_end_kind l.kind

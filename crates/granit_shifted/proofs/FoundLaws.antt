@@ -1,13 +1,12 @@
 -- The `---` that is found among what was read is the one that waits, and reading stands behind it.
-use Rattle.std.proofs.Common.{◌||◌, ◌≡◌, ℕ, Bool, true, false, List, [], ◌∷◌, ◌++◌, Option, Some, None}
-use Rattle.std.proofs.Common.{Ok, Err, refl, sym, ap, subst, ◌∙◌}
+use Rattle.std.proofs.Common.{◌||◌, ◌≡◌, ℕ, Bool, true, false, List, [], ◌∷◌, Option, Some, None}
+use Rattle.std.proofs.Common.{Ok, Err, refl, ap, subst, ◌∙◌}
 use Rattle.granit_error.specs.OptionsData.{OptionsData}
 use Rattle.granit_lexemes.specs.Here.{Here}
 use Rattle.granit_lexemes.specs.Lexeme.{Lexeme, LexemeKind, Item, OfLexeme, OfComment}
 use Rattle.granit_lexemes.specs.Lexeme as lexemes
 use Rattle.granit_lexemes.specs.Moves.{steps}
 use Rattle.granit_machine.specs.Lexing.{FlaggedItem}
-use Rattle.granit_machine.specs.Reader.{LexState}
 use Rattle.granit_restart.proofs.BoundaryLaws.{finds_next}
 use Rattle.granit_restart.proofs.MarkLaws.{Sound, TurnSound, items, restart_sound, turn_sound}
 use Rattle.granit_restart.specs.Boundary.{Boundary, AtStart, PastEnd, AtTextEnd, is_separated, next_boundary}
@@ -21,69 +20,12 @@ use Rattle.granit_machine.specs.Reader.{is_end_kind}
 use Rattle.granit_steps.proofs.Futures.{Ready}
 use Rattle.granit_shifted.proofs.EndWaits.{EndLast, TurnEnds, any_ends, ends, not_ended, or_one, turn_ends}
 use Rattle.granit_shifted.proofs.StartReads.{parted}
-use Rattle.granit_shifted.proofs.StartWaits.{StartLast, none_waits, one_waits, TurnLast, turn_last, or_left, or_right}
-use Rattle.granit_shifted.proofs.StartsRead.{any_starts, is_start, starts}
+use Rattle.granit_shifted.proofs.FoundMarks.{cursor_there, cursor_waiting}
+use Rattle.granit_shifted.proofs.MarkWaits.{none_waits, one_waits}
+use Rattle.granit_shifted.proofs.StartWaits.{StartLast, TurnLast, turn_last}
+use Rattle.granit_shifted.proofs.StartsRead.{is_start}
 use Rattle.granit_shifted.specs.Found.{StartRead}
-use Rattle.granit_shifted.specs.Led.{Led, led_start, led_on, led_with, led_anew}
-
--- ---- what is found
-
-found_or : (b : Bool) (x l : Lexeme) (later : Option Lexeme) → is_start x.kind ≡ false
-    → (later ≡ Some l → is_start l.kind ≡ false) → lexeme_or b x later ≡ Some l → is_start l.kind ≡ false
-found_or true x l later bare more e = let same : x ≡ l = cc in subst (λ (y : Lexeme). is_start y.kind ≡ false) same bare
-found_or false x l later bare more e = more e
-
-found_of : (h : Here) (i : Item) (l : Lexeme) (later : Option Lexeme) → starts i ≡ false
-    → (later ≡ Some l → is_start l.kind ≡ false) → boundary_of h i later ≡ Some l → is_start l.kind ≡ false
-found_of h (OfLexeme x) l later bare more e = found_or (is_boundary h x.kind x) x l later bare more e
-found_of h (OfComment c) l later bare more e = more e
-
--- none of them begins a document
-found_other : (h : Here) (q : List FlaggedItem) (l : Lexeme) → any_starts (items q) ≡ false
-    → read_boundary h q ≡ Some l → is_start l.kind ≡ false
-found_other h [] l bare e = absurd (cc)
-found_other h (i ∷ is) l bare e = found_of h i.item l (read_boundary h is)
-    (or_left (starts i.item) (any_starts (items is)) bare)
-    (found_other h is l (or_right (starts i.item) (any_starts (items is)) bare)) e
-
-last_or : (b : Bool) (x l : Lexeme) → lexeme_or b x None ≡ Some l → x ≡ l
-last_or true x l e = cc
-last_or false x l e = absurd (cc)
-
--- or the last one does
-behind_or : (b : Bool) (y x l : Lexeme) (later : Option Lexeme) → is_start y.kind ≡ false → is_start l.kind ≡ true
-    → (later ≡ Some l → x ≡ l) → lexeme_or b y later ≡ Some l → x ≡ l
-behind_or true y x l later bare begins more e =
-    absurd (let same : y ≡ l = cc in
-    let false_true : is_start l.kind ≡ false = subst (λ (y : Lexeme). is_start y.kind ≡ false) same bare in cc)
-behind_or false y x l later bare begins more e = more e
-
-behind_of : (h : Here) (i : Item) (x l : Lexeme) (later : Option Lexeme) → starts i ≡ false → is_start l.kind ≡ true
-    → (later ≡ Some l → x ≡ l) → boundary_of h i later ≡ Some l → x ≡ l
-behind_of h (OfLexeme y) x l later bare begins more e = behind_or (is_boundary h y.kind y) y x l later bare begins more
-    e
-behind_of h (OfComment c) x l later bare begins more e = more e
-
-found_last : (h : Here) (front : List FlaggedItem) (x l : Lexeme) (flag : Bool) → any_starts (items front) ≡ false
-    → is_start l.kind ≡ true
-    → read_boundary h (front ++ record { item = OfLexeme x; begins_key = flag } ∷ []) ≡ Some l → x ≡ l
-found_last h [] x l flag bare begins e = last_or (is_boundary h x.kind x) x l e
-found_last h (g ∷ gs) x l flag bare begins e =
-    behind_of h g.item x l (read_boundary h (gs ++ record { item = OfLexeme x; begins_key = flag } ∷ []))
-    (or_left (starts g.item) (any_starts (items gs)) bare) begins
-    (found_last h gs x l flag (or_right (starts g.item) (any_starts (items gs)) bare) begins) e
-
-pub record Waited (l : LexState) (x : Lexeme) : Type 0 where
-  pub stands : StartRead l.reader.here x
-  pub fault : l.fault ≡ None
-
-pub found_start : (h : Here) (l : LexState) (q : List FlaggedItem) (x : Lexeme) → StartLast l q
-    → read_boundary h q ≡ Some x → is_start x.kind ≡ true → Waited l x
-found_start h l q x (none_waits bare) e begins = absurd (let other = found_other h q x bare e in cc)
-found_start h l q x (one_waits w fault) e begins =
-    let same : w.lexeme ≡ x = found_last h w.front w.lexeme x w.flag w.before begins
-    (ap (read_boundary h) (sym w.are) ∙ e) in
-    record { stands = subst (StartRead l.reader.here) same w.stands; fault = fault }
+use Rattle.granit_shifted.specs.Led.{Led, led_start, led_on, led_with, led_anew, led_keeping}
 
 -- ---- each state that is led to
 
@@ -165,18 +107,10 @@ lexeme_last h s l lexemes.DocumentStart stands = one_waits (record {
 lexeme_last h s l lexemes.DocumentEnd stands = none_waits refl
 lexeme_last h s l kind stands = none_waits refl
 
--- without a refused read the cursor is where reading stands
-cursor_there : (stop : Here) (l : LexState) → l.fault ≡ None → cursor_at stop l ≡ l.reader.here
-cursor_there stop l e =
-    ap (λ (f : Option _). Rattle.std.specs.Prelude.if◌then◌else◌ {A = Here} (Rattle.std.specs.Prelude.is_some f) stop
-    l.reader.here) e
-
 pub cursor_start : (stop : Here) (s : StepState) (l : Lexeme) → Holds s
     → read_boundary (cursor_at stop s.reading) s.queue ≡ Some l → is_start l.kind ≡ true
     → StartRead (cursor_at stop s.reading) l
-cursor_start stop s l holds e begins =
-    let w = found_start (cursor_at stop s.reading) s.reading s.queue l holds.last e begins in
-    subst (λ (h : Here). StartRead h l) (sym (cursor_there stop s.reading w.fault)) w.stands
+cursor_start stop s l holds e begins = cursor_waiting is_start StartRead stop s.reading s.queue l holds.last e begins
 
 found_holds : (stop : Here) (s : StepState) (r : Option Lexeme) → Holds s
     → read_boundary (cursor_at stop s.reading) s.queue ≡ r
@@ -263,3 +197,4 @@ led_holds o s (led_with {s = before} p es led) =
       ends = holds.ends;
     }
 led_holds o s (led_anew {s = before} stop led) = restart_holds stop before (led_holds o before led)
+led_holds o s (led_keeping keep led) = led_holds (record o { keep_tags = keep }) s led

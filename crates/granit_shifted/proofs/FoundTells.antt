@@ -43,7 +43,7 @@ found_of : (h : Here) (i : Item) (l : Lexeme) (later : Option Lexeme)
 found_of h (OfLexeme x) l later more e = is_found h (is_boundary h x.kind x) x l later refl more e
 found_of h (OfComment c) l later more e = more e
 
-found_boundary : (h : Here) (q : List FlaggedItem) (l : Lexeme) → read_boundary h q ≡ Some l
+pub found_boundary : (h : Here) (q : List FlaggedItem) (l : Lexeme) → read_boundary h q ≡ Some l
     → is_boundary h l.kind l ≡ true
 found_boundary h [] l e = absurd (cc)
 found_boundary h (i ∷ is) l e = found_of h i.item l (read_boundary h is) (found_boundary h is l) e

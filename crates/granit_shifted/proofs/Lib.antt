@@ -3,9 +3,12 @@ pub mod AtStarts
 pub mod BoundaryTells
 pub mod EndWaits
 pub mod FoundLaws
+pub mod FoundMarks
 pub mod FoundTells
+pub mod KeptLaws
 pub mod LedLaws
 pub mod LineGaps
+pub mod MarkWaits
 pub mod StartWaits
 pub mod StartsRead
 pub mod MovedBlocks

@@ -1,275 +1,45 @@
 -- A `---` that waits is the last item that was read, and nothing is read before it is used.
-use Rattle.std.proofs.Common.{◌≡◌, Bool, true, false, ◌||◌, ◌&&◌, not, List, [], ◌∷◌, ◌++◌, Option, Some, None, Result}
-use Rattle.std.proofs.Common.{Ok}
-use Rattle.std.proofs.Common.{Err, refl, ap, subst, ◌∙◌, map}
-use Rattle.std.specs.Prelude.{if◌then◌else◌}
+use Rattle.std.proofs.Common.{◌≡◌, true, List, refl, ap}
 use Rattle.granit_error.specs.OptionsData.{OptionsData}
 use Rattle.granit_lexemes.specs.Here.{Here}
-use Rattle.granit_lexemes.specs.Lexeme.{Lexeme, LexemeKind, Item, OfLexeme, OfComment}
 use Rattle.granit_lexemes.specs.Lexeme as lexemes
-use Rattle.granit_lexemes.specs.Outcome.{Fault, ◌>>=◌}
-use Rattle.granit_lexemes.specs.PlainEvent.{PlainEvent}
-use Rattle.granit_machine.specs.Frames.{ParserState}
-use Rattle.granit_machine.specs.Laid.{Laid}
+use Rattle.granit_lexemes.specs.Lexeme.{Lexeme, LexemeKind}
 use Rattle.granit_machine.specs.Lexing.{FlaggedItem}
-use Rattle.granit_machine.specs.Machine.{is_settled}
-use Rattle.granit_machine.specs.Parser.{feed}
-use Rattle.granit_machine.specs.Reader.{LexState, behind_read, lex_turn, read}
-use Rattle.granit_machine.specs.ReaderState.{Read, ReaderState}
-use Rattle.granit_restart.proofs.MarkLaws.{MarksSettled, items, pushed_items}
-use Rattle.granit_restart.proofs.MarkReads.{any_marks, is_mark, marks}
-use Rattle.granit_steps.proofs.Futures.{pushed_nil}
-use Rattle.granit_steps.specs.Steps.{StepState, asks_next, incoming, is_next_settled, line_behind, marked_by, may_go}
-use Rattle.granit_steps.specs.Steps.{pushed}
-use Rattle.granit_steps.specs.Steps.{Turn, front_turn, read_more, read_unless, step_turn, turn_by}
-use Rattle.granit_steps.specs.Steps.{with_fed, with_read}
-use Rattle.granit_shifted.proofs.StartsRead.{StartsIn, no_start, one_start, any_starts, is_start, read_start, starts}
+use Rattle.granit_machine.specs.Reader.{LexState}
+use Rattle.granit_restart.proofs.MarkLaws.{MarksSettled, items}
+use Rattle.granit_restart.proofs.MarkReads.{is_mark}
+use Rattle.granit_steps.specs.Steps.{StepState, Turn, is_open_comment, step_turn}
+use Rattle.granit_shifted.proofs.MarkWaits as waiting
+use Rattle.granit_shifted.proofs.MarkWaits.{WaitsLast}
+use Rattle.granit_shifted.proofs.StartsRead.{is_start, read_start}
 use Rattle.granit_shifted.specs.Found.{StartRead}
 
--- it waits behind other items
-pub record StartWaits (h : Here) (q : List FlaggedItem) : Type 0 where
-  pub front : List FlaggedItem
-  pub lexeme : Lexeme
-  pub flag : Bool
-  pub are : q ≡ front ++ record { item = OfLexeme lexeme; begins_key = flag } ∷ []
-  pub before : any_starts (items front) ≡ false
-  pub stands : StartRead h lexeme
-
-pub data StartLast (l : LexState) (q : List FlaggedItem) : Type 0 where
-  none_waits : any_starts (items q) ≡ false → StartLast l q
-  one_waits : StartWaits l.reader.here q → l.fault ≡ None → StartLast l q
-
--- ---- what comes in
-
-pub or_right : (a b : Bool) → (a || b) ≡ false → b ≡ false
-or_right true b e = absurd (cc)
-or_right false b e = e
-
-pub or_left : (a b : Bool) → (a || b) ≡ false → a ≡ false
-or_left true b e = e
-or_left false b e = refl
-
-starts_joined : (xs ys : List Item) → any_starts xs ≡ false → any_starts (xs ++ ys) ≡ any_starts ys
-starts_joined [] ys e = refl
-starts_joined (x ∷ xs) ys e =
-    ap (λ (b : Bool). b || any_starts (xs ++ ys)) (or_left (starts x) (any_starts xs) e)
-    ∙ starts_joined xs ys (or_right (starts x) (any_starts xs) e)
-
-asked_starts : (b : Bool) (is : List Item) → any_starts (incoming b is) ≡ any_starts is
-asked_starts true is = refl
-asked_starts false [] = refl
-asked_starts false (OfLexeme l ∷ is) = ap (λ c. is_start l.kind || c) (asked_starts false is)
-asked_starts false (OfComment c ∷ is) = asked_starts false is
-
-marked_same : (i : Item) (q : List FlaggedItem) → items (map (marked_by i) q) ≡ items q
-marked_same i [] = refl
-marked_same i (f ∷ q) = ap (λ (is : List Item). f.item ∷ is) (marked_same i q)
-
--- ---- one turn
+abbrev pub StartLast : LexState → List FlaggedItem → Type 0
+StartLast l q = WaitsLast is_start StartRead l q
 
 abbrev pub TurnLast : Turn → Type 0
-TurnLast (Ok x) = StartLast x.1.reading x.1.queue
-TurnLast (Err f) = Unit {0}
+TurnLast r = waiting.TurnLast is_start StartRead r
 
-tail_of : List FlaggedItem → List FlaggedItem
-tail_of [] = []
-tail_of (f ∷ q) = q
+untailed : (h : Here) (x : Lexeme) → StartRead h x → StartRead h (record x { tail = Rattle.std.proofs.Common.None })
+untailed h x r = record {
+  place = r.place;
+  behind = r.behind;
+  column = r.column;
+  text = r.text;
+  parted = r.parted;
+  kind = r.kind;
+  untailed = refl;
+  keyless = r.keyless;
+  shown = r.shown;
+  end = r.end;
+  reaches = r.reaches;
+}
 
-rest_by : (l : LexState) (i : FlaggedItem) (is front : List FlaggedItem) (x : Lexeme) (flag : Bool)
-    → i ∷ is ≡ front ++ record { item = OfLexeme x; begins_key = flag } ∷ [] → any_starts (items front) ≡ false
-    → StartRead l.reader.here x → l.fault ≡ None → StartLast l is
-unfolding tail_of
-rest_by l i is [] x flag are before stands fault =
-    none_waits (ap (λ (q : List FlaggedItem). any_starts (items q)) (ap tail_of are))
-rest_by l i is (g ∷ gs) x flag are before stands fault = one_waits (record {
-  front = gs;
-  lexeme = x;
-  flag = flag;
-  are = ap tail_of are;
-  before = or_right (starts g.item) (any_starts (items gs)) before;
-  stands = stands;
-}) fault
+marked : (k : LexemeKind) → is_start k ≡ true → is_mark k ≡ true
+marked lexemes.DocumentStart e = refl
+marked k e = absurd (cc)
 
-rest_last : (l : LexState) (i : FlaggedItem) (is : List FlaggedItem) → StartLast l (i ∷ is) → StartLast l is
-rest_last l i is (none_waits e) = none_waits (or_right (starts i.item) (any_starts (items is)) e)
-rest_last l i is (one_waits w fault) = rest_by l i is w.front w.lexeme w.flag w.are w.before w.stands fault
-
-fed_last : (s : StepState) (i : FlaggedItem) (is : List FlaggedItem)
-    (r : Result (List PlainEvent × ParserState) Fault) → s.queue ≡ i ∷ is → StartLast s.reading s.queue
-    → TurnLast (r >>= λ x. Ok (Some [], with_fed s is x))
-fed_last s i is (Ok x) queue p = rest_last s.reading i is (subst (StartLast s.reading) queue p)
-fed_last s i is (Err f) queue p = tt
-
--- ---- a read
-
-asked_start : (b : Bool) (h : Here) (x : Lexeme) → StartRead h x
-    → (y : Lexeme) × (incoming b (OfLexeme x ∷ []) ≡ OfLexeme y ∷ []) × StartRead h y
-asked_start true h x stands = (x, refl, stands)
-asked_start false h x stands = (
-  record x { tail = None },
-  refl,
-  record {
-    place = stands.place;
-    behind = stands.behind;
-    column = stands.column;
-    text = stands.text;
-    parted = stands.parted;
-    kind = stands.kind;
-    untailed = refl;
-    keyless = stands.keyless;
-    shown = stands.shown;
-    end = stands.end;
-    reaches = stands.reaches;
-  },
-)
-
-module _ (o : OptionsData) where
-  came_in : (s : StepState) (is : List Item) (after : ReaderState) (ended : Bool) → any_starts (items s.queue) ≡ false
-      → StartsIn after.here is
-      → StartLast (record { reader = after; ended = ended; fault = None })
-      (pushed s.queue (incoming o.emit_comments is))
-  came_in s is after ended none (no_start e) =
-      none_waits (ap any_starts (pushed_items s.queue (incoming o.emit_comments is))
-      ∙ starts_joined (items s.queue) (incoming o.emit_comments is) none ∙ asked_starts o.emit_comments is ∙ e)
-  came_in s is after ended none (one_start {x = x} stands) =
-      let y = asked_start o.emit_comments after.here x stands in
-      let i = OfLexeme y.0 in
-      one_waits (record {
-        front = map (marked_by i) s.queue;
-        lexeme = y.0;
-        flag = false;
-        are = ap (pushed s.queue) y.1;
-        before = ap any_starts (marked_same i s.queue) ∙ none;
-        stands = y.2;
-      }) refl
-
-  nothing_came : (s : StepState) (l : LexState) → any_starts (items s.queue) ≡ false
-      → StartLast l (pushed s.queue (incoming o.emit_comments []))
-  nothing_came s l none = none_waits (ap (λ (q : List FlaggedItem). any_starts (items q))
-      (pushed_nil o.emit_comments s.queue) ∙ none)
-
-  read_last : (s : StepState) (r : Read) → read o s.reading.reader ≡ r → any_starts (items s.queue) ≡ false
-      → TurnLast (behind_read r s.reading.reader >>= λ x. Ok (Some [], with_read o s x))
-  read_last s (Ok x) is none = came_in s x.0 x.1 _ none (read_start o s.reading.reader x.1 x.0 is)
-  read_last s (Err f) is none = nothing_came s _ none
-
-  lexed_last : (b : Bool) (s : StepState) → any_starts (items s.queue) ≡ false
-      → TurnLast ((if b then Ok (None, s.reading) else behind_read (read o s.reading.reader) s.reading.reader)
-      >>= λ x. Ok (Some [], with_read o s x))
-  lexed_last true s none = nothing_came s s.reading none
-  lexed_last false s none = read_last s (read o s.reading.reader) refl none
-
-  unless_last : (f : Option Fault) (s : StepState) → any_starts (items s.queue) ≡ false
-      → TurnLast (read_unless o f s)
-  unfolding lex_turn
-  unless_last (Some f) s none = tt
-  unless_last None s none = lexed_last s.reading.ended s none
-
-  more_last : (b : Bool) (s : StepState) → StartLast s.reading s.queue
-      → (b ≡ false → any_starts (items s.queue) ≡ false) → TurnLast (read_more o b s)
-  more_last true s p none = p
-  more_last false s p none = unless_last s.reading.fault s (none refl)
-
-  -- ---- what waits goes before the next read
-
-  start_marks : (is : List Item) → any_starts is ≡ true → any_marks is ≡ true
-  start_marks [] e = absurd (cc)
-  start_marks (i ∷ is) e = on (starts i) (marks i) (any_starts is) (any_marks is) (is_one i) (start_marks is) e
-    where
-      on : (a b c d : Bool) → (a ≡ true → b ≡ true) → (c ≡ true → d ≡ true) → (a || c) ≡ true → (b || d) ≡ true
-      on true b c d f g e = ap (λ (b : Bool). b || d) (f refl)
-      on false true c d f g e = refl
-      on false false c d f g e = g e
-
-      is_one : (i : Item) → starts i ≡ true → marks i ≡ true
-      is_one (OfLexeme l) e = kind l.kind e
-        where
-          kind : (k : LexemeKind) → is_start k ≡ true → is_mark k ≡ true
-          kind lexemes.DocumentStart e = refl
-          kind k e = absurd (cc)
-      is_one (OfComment c) e = absurd (cc)
-
-  start_in : (h : Here) (q front : List FlaggedItem) (x : Lexeme) (flag : Bool)
-      → q ≡ front ++ record { item = OfLexeme x; begins_key = flag } ∷ [] → StartRead h x → any_marks (items q) ≡ true
-  start_in h q [] x flag are stands =
-      start_marks (items q) (ap (λ (q : List FlaggedItem). any_starts (items q)) are
-      ∙ ap (λ (k : LexemeKind). is_start k || false) stands.kind)
-  start_in h q (g ∷ gs) x flag are stands =
-      ap (λ (q : List FlaggedItem). any_marks (items q)) are
-      ∙ on (marks g.item) (start_in h (gs ++ record { item = OfLexeme x; begins_key = flag } ∷ []) gs x flag refl
-      stands)
-    where
-      on : (b : Bool) → any_marks (items (gs ++ record { item = OfLexeme x; begins_key = flag } ∷ [])) ≡ true
-          → (b || any_marks (items (gs ++ record { item = OfLexeme x; begins_key = flag } ∷ []))) ≡ true
-      on true e = refl
-      on false e = e
-
-  goes : (a b c d : Bool) → b ≡ true → d ≡ true → (a || (b && (c || d))) ≡ true
-  goes true b c d e f = refl
-  goes false b c d e f = ap (λ (b : Bool). b && (c || d)) e ∙ on c f
-    where
-      on : (c : Bool) → d ≡ true → (c || d) ≡ true
-      on true f = refl
-      on false f = f
-
-  next_goes : (l : Laid) (q gs : List FlaggedItem) (x : Lexeme) (flag : Bool) (h : Here)
-      → q ≡ gs ++ record { item = OfLexeme x; begins_key = flag } ∷ [] → StartRead h x → MarksSettled l (items q)
-      → is_next_settled l q ≡ true
-  next_goes l [] [] x flag h are stands settled = absurd (cc)
-  next_goes l [] (g ∷ gs) x flag h are stands settled = absurd (cc)
-  next_goes l (j ∷ js) gs x flag h are stands settled = settled.0 (start_in h (j ∷ js) gs x flag are stands)
-
-  front_of : FlaggedItem → List FlaggedItem → FlaggedItem
-  front_of i [] = i
-  front_of i (f ∷ q) = f
-
-  asks_not : (i : FlaggedItem) (is front : List FlaggedItem) (l : Laid) (x : Lexeme) (flag : Bool) (h : Here)
-      → i ∷ is ≡ front ++ record { item = OfLexeme x; begins_key = flag } ∷ [] → StartRead h x
-      → MarksSettled l (items is) → (not (asks_next i.item) || is_next_settled l is) ≡ true
-  unfolding front_of tail_of
-  asks_not i is [] l x flag h are stands settled =
-      let first : i ≡ record { item = OfLexeme x; begins_key = flag } = ap (front_of i) are in
-      ap (λ (f : FlaggedItem). not (asks_next f.item) || is_next_settled l is) first
-      ∙ ap (λ tail. not (Rattle.granit_steps.specs.Steps.is_open_comment tail) || is_next_settled l is) stands.untailed
-  asks_not i is (g ∷ gs) l x flag h are stands settled =
-      on (not (asks_next i.item)) (next_goes l is gs x flag h (ap tail_of are) stands settled)
-    where
-      on : (b : Bool) → is_next_settled l is ≡ true → (b || is_next_settled l is) ≡ true
-      on true e = refl
-      on false e = e
-
-  waits_go : (l : LexState) (i : FlaggedItem) (is : List FlaggedItem) → StartWaits l.reader.here (i ∷ is)
-      → MarksSettled l.reader.laid (items (i ∷ is)) → may_go l i is ≡ true
-  waits_go l i is w settled =
-      goes l.ended (is_settled l.reader.laid i.item) (Rattle.std.specs.Prelude.is_some l.fault)
-      (not (asks_next i.item) || is_next_settled l.reader.laid is)
-      (settled.0 (start_in l.reader.here (i ∷ is) w.front w.lexeme w.flag w.are w.stands))
-      (asks_not i is w.front l.reader.laid w.lexeme w.flag l.reader.here w.are w.stands settled.1)
-
-  none_left : (l : LexState) (i : FlaggedItem) (is : List FlaggedItem) → StartLast l (i ∷ is)
-      → MarksSettled l.reader.laid (items (i ∷ is)) → may_go l i is ≡ false → any_starts (items (i ∷ is)) ≡ false
-  none_left l i is (none_waits e) settled stays = e
-  none_left l i is (one_waits w fault) settled stays = absurd (let goes = waits_go l i is w settled in cc)
-
-  -- ---- a turn
-
-  front_last : (b : Bool) (i : FlaggedItem) (is : List FlaggedItem) (s : StepState) → s.queue ≡ i ∷ is
-      → may_go s.reading i is ≡ b → StartLast s.reading s.queue → MarksSettled s.reading.reader.laid (items s.queue)
-      → TurnLast (front_turn b o i is s)
-  front_last true i is s queue goes p settled = fed_last s i is (feed o i (line_behind s.reading is) s.parser) queue p
-  front_last false i is s queue stays p settled =
-      more_last s.reading.ended s p (λ e. ap (λ (q : List FlaggedItem). any_starts (items q)) queue
-      ∙ none_left s.reading i is (subst (StartLast s.reading) queue p)
-      (subst (λ (q : List FlaggedItem). MarksSettled s.reading.reader.laid (items q)) queue settled) stays)
-
-  by_last : (es : List PlainEvent) (q : List FlaggedItem) (s : StepState) → s.queue ≡ q → StartLast s.reading s.queue
-      → MarksSettled s.reading.reader.laid (items s.queue) → TurnLast (turn_by o es q s)
-  by_last (e ∷ es) q s queue p settled = p
-  by_last [] [] s queue p settled =
-      more_last s.reading.ended s p (λ e. ap (λ (q : List FlaggedItem). any_starts (items q)) queue)
-  by_last [] (i ∷ is) s queue p settled = front_last (may_go s.reading i is) i is s queue refl p settled
-
-  pub turn_last : (s : StepState) → StartLast s.reading s.queue → MarksSettled s.reading.reader.laid (items s.queue)
-      → TurnLast (step_turn o s)
-  unfolding step_turn
-  turn_last s p settled = by_last s.pending s.queue s refl p settled
+pub turn_last : (o : OptionsData) (s : StepState) → StartLast s.reading s.queue
+    → MarksSettled s.reading.reader.laid (items s.queue) → TurnLast (step_turn o s)
+turn_last o = waiting.turn_last is_start StartRead untailed marked (λ h x r. ap is_start r.kind)
+    (λ h x r. ap is_open_comment r.untailed) o (read_start o)

@@ -20,6 +20,7 @@ use Rattle.granit_machine.specs.ReaderState.{ReaderState}
 use Rattle.granit_reading.proofs.Answering.{Answers}
 use Rattle.granit_reading.proofs.ReadingLaw.{read-is, ReadsBy}
 use Rattle.granit_reading.proofs.Telling.{SaysOf, telling}
+use Rattle.granit_shifted.proofs.MarkWaits.{any_of, none_in, of_sort, one_in, OneIn}
 use Rattle.granit_shifted.specs.Found.{StartRead}
 
 abbrev pub is_start : LexemeKind → Bool
@@ -27,17 +28,14 @@ is_start lexemes.DocumentStart = true
 is_start kind = false
 
 abbrev pub starts : Item → Bool
-starts (OfLexeme l) = is_start l.kind
-starts (OfComment c) = false
+starts i = of_sort is_start StartRead i
 
 abbrev pub any_starts : List Item → Bool
-any_starts [] = false
-any_starts (i ∷ is) = starts i || any_starts is
+any_starts is = any_of is_start StartRead is
 
 -- items without a `---`, or one alone
-pub data StartsIn (after : Here) : List Item → Type 0 where
-  no_start : {items : List Item} → any_starts items ≡ false → StartsIn after items
-  one_start : {x : Lexeme} → StartRead after x → StartsIn after (OfLexeme x ∷ [])
+abbrev pub StartsIn : Here → List Item → Type 0
+StartsIn after is = OneIn is_start StartRead after is
 
 or_false : (b : Bool) → b ≡ false → (b || false) ≡ false
 or_false true e = e
@@ -76,7 +74,7 @@ start_at : (o : OptionsData) (ends : Bool) (h : Here) (l : Laid) (items : List I
     (in_flow adjacent : Bool) → Begins in_flow adjacent h.place.column h.unread.text StartMark
     → GivenOne o ends StartMark h l items after → StartsIn after.here items
 start_at o ends h l (OfLexeme x ∷ []) after in_flow adjacent (dashes stands) p =
-    one_start (record {
+    one_in (record {
       place = h;
       behind = stands.1;
       column = stands.0;
@@ -103,13 +101,13 @@ by_sort o at behind items StartMark b given =
 by_sort o at behind items sort b given =
     let t = telling o (ends_column_by sort (freshened o at)) at.here (in_front sort at.here (freshened o at).laid) sort
     items behind given in
-    no_start (ap any_starts t.are ∙ other_sort at.here (in_front sort at.here (freshened o at).laid) t.lexeme t.note
+    none_in (ap any_starts t.are ∙ other_sort at.here (in_front sort at.here (freshened o at).laid) t.lexeme t.note
     sort
     t.says (λ e. absurd (cc)))
 
 reads_start : (o : OptionsData) (s after : ReaderState) (items : List Item) → Reads o s items after
     → StartsIn after.here items
-reads_start o s after items (of_comment at g k) = no_start refl
+reads_start o s after items (of_comment at g k) = none_in refl
 reads_start o s after items (of_lexeme at behind sort comes given keys) =
     by_sort o at behind items sort comes.begins given.1
 

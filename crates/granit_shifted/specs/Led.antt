@@ -1,5 +1,5 @@
 -- The states to which turns and restarts behind faults lead, and what is told behind such a restart.
-use Rattle.std.specs.Prelude.{◌≡◌, ℕ, List, Option, Some, None, Ok}
+use Rattle.std.specs.Prelude.{◌≡◌, ℕ, Bool, List, Option, Some, None, Ok}
 use Rattle.granit_error.specs.OptionsData.{OptionsData}
 use Rattle.granit_lexemes.specs.Here.{Here}
 use Rattle.granit_lexemes.specs.Lexeme as lexemes
@@ -13,14 +13,17 @@ use Rattle.granit_steps.specs.Steps.{StepState, start_from, step_turn}
 use Rattle.granit_shifted.specs.Alone.{TellsBehind}
 use Rattle.granit_shifted.specs.Found.{StartRead}
 
-pub data Led (o : OptionsData) : StepState → Type 0 where
-  led_start : (h : Here) → Led o (start_from h)
-  led_on : {s t : StepState} {given : Option (List PlainEvent)} → Led o s → step_turn o s ≡ Ok (given, t) → Led o t
+pub data Led : OptionsData → StepState → Type 0 where
+  led_start : {o : OptionsData} → (h : Here) → Led o (start_from h)
+  led_on : {o : OptionsData} {s t : StepState} {given : Option (List PlainEvent)} → Led o s
+      → step_turn o s ≡ Ok (given, t) → Led o t
   -- whatever events wait, and whatever the parser is told, as an offset of anchors
-  led_with : {s : StepState} → (p : ParserState) (es : List PlainEvent) → Led o s
+  led_with : {o : OptionsData} {s : StepState} → (p : ParserState) (es : List PlainEvent) → Led o s
       → Led o (record s { parser = p; pending = es })
   -- wherever a refused read stopped
-  led_anew : {s : StepState} → (stop : Here) → Led o s → Led o (behind_fault stop s).1
+  led_anew : {o : OptionsData} {s : StepState} → (stop : Here) → Led o s → Led o (behind_fault stop s).1
+  -- up to there with handles that stay over documents, or without
+  led_keeping : {o : OptionsData} {s : StepState} → (keep : Bool) → Led (record o { keep_tags = keep }) s → Led o s
 
 -- behind a mark that was read and not used: from its place on where it is a `---`, or from where reading stands, where
 -- the line of a `...` ends or the text does

@@ -4,3 +4,4 @@ pub mod Led
 pub mod Moved
 pub mod MovedLines
 pub mod Shift
+pub mod Stopping

@@ -1,6 +1,6 @@
 //! Parsers that are put on a stack.
-ghost use Rattle.std.specs.Prelude.{◌≡◌, OnOk, IfErr};
-ghost use Rattle.granit_layers.specs.Stacking.{Pushes, gives_first};
+ghost use Rattle.std.specs.Prelude.{◌≡◌, false, OnOk, OnErr, IfErr};
+ghost use Rattle.granit_layers.specs.Stacking.{Pushes, gives_first, is_none_left};
 ghost use Rattle.granit_layers.specs.declared.kinds.AnyKind.TheVariants.{First, Second, Third, Fourth};
 
 use crate::stack::IncludeStack;
@@ -21,7 +21,7 @@ where
     ///
     /// # Errors
     ///
-    /// For want of memory alone: the parser and its name come back.
+    /// For want of memory alone, and above another parser alone: the parser and its name come back.
     pub fn push_str_parser(&mut self, parser: A, name: OwnedText) -> Result<(), Refused<A>>
         ensures pushed { OnOk result (Pushes
             ⟦<AnyKind<A, B, C, D> as StackedParser<'input>>⟧.offset_of
@@ -31,6 +31,7 @@ where
         ensures same { OnOk result (self.new
             ≡ record self.old { stack = record (self.old.stack) { layers = self.new.stack.layers } }) }
         ensures refused { IfErr result (λ r. (r.parser ≡ parser) × (r.name ≡ name) × (self.new ≡ self.old)) }
+        ensures above { OnErr result (is_none_left self.old.stack.layers ≡ false) }
     {
         self.layers.push_first(parser, name)
     }
@@ -39,7 +40,7 @@ where
     ///
     /// # Errors
     ///
-    /// For want of memory alone: the parser and its name come back.
+    /// For want of memory alone, and above another parser alone: the parser and its name come back.
     pub fn push_iter_parser(&mut self, parser: B, name: OwnedText) -> Result<(), Refused<B>>
         ensures pushed { OnOk result (Pushes
             ⟦<AnyKind<A, B, C, D> as StackedParser<'input>>⟧.offset_of
@@ -49,6 +50,7 @@ where
         ensures same { OnOk result (self.new
             ≡ record self.old { stack = record (self.old.stack) { layers = self.new.stack.layers } }) }
         ensures refused { IfErr result (λ r. (r.parser ≡ parser) × (r.name ≡ name) × (self.new ≡ self.old)) }
+        ensures above { OnErr result (is_none_left self.old.stack.layers ≡ false) }
     {
         self.layers.push_second(parser, name)
     }
@@ -57,7 +59,7 @@ where
     ///
     /// # Errors
     ///
-    /// For want of memory alone: the parser and its name come back.
+    /// For want of memory alone, and above another parser alone: the parser and its name come back.
     pub fn push_custom_parser(&mut self, parser: C, name: OwnedText) -> Result<(), Refused<C>>
         ensures pushed { OnOk result (Pushes
             ⟦<AnyKind<A, B, C, D> as StackedParser<'input>>⟧.offset_of
@@ -67,6 +69,7 @@ where
         ensures same { OnOk result (self.new
             ≡ record self.old { stack = record (self.old.stack) { layers = self.new.stack.layers } }) }
         ensures refused { IfErr result (λ r. (r.parser ≡ parser) × (r.name ≡ name) × (self.new ≡ self.old)) }
+        ensures above { OnErr result (is_none_left self.old.stack.layers ≡ false) }
     {
         self.layers.push_third(parser, name)
     }
@@ -76,7 +79,7 @@ where
     ///
     /// # Errors
     ///
-    /// For want of memory alone: the parser, the event and the name come back.
+    /// For want of memory alone, and above another parser alone: the parser, the event and the name come back.
     pub fn push_custom_parser_with_current(
         &mut self,
         parser: C,
@@ -93,6 +96,7 @@ where
         }) }
         ensures refused { IfErr result (λ r. (r.parser ≡ (parser, current.entry)) × (r.name ≡ name)
             × (self.new ≡ self.old)) }
+        ensures above { OnErr result (is_none_left self.old.stack.layers ≡ false) }
     {
         self.layers.push_third_with(parser, name, current)
     }
@@ -109,7 +113,7 @@ where
     ///
     /// # Errors
     ///
-    /// For want of memory alone: the parser and its name come back.
+    /// For want of memory alone, and above another parser alone: the parser and its name come back.
     pub fn push_replay_parser(
         &mut self,
         parser: ReplayParser<'input>,
@@ -123,6 +127,7 @@ where
         ensures same { OnOk result (self.new
             ≡ record self.old { stack = record (self.old.stack) { layers = self.new.stack.layers } }) }
         ensures refused { IfErr result (λ r. (r.parser ≡ parser.entry) × (r.name ≡ name) × (self.new ≡ self.old)) }
+        ensures above { OnErr result (is_none_left self.old.stack.layers ≡ false) }
     {
         self.layers.push_fourth(parser, name)
     }

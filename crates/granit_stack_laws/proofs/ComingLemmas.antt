@@ -24,13 +24,12 @@ use Rattle.granit_stack_laws.proofs.LifeLemmas.{all_below}
 use Rattle.granit_stack_laws.specs.Coming.{IncludeComesThrough}
 use Rattle.granit_stack_laws.specs.Fresh.{IdsBelow}
 use Rattle.granit_stack.specs.Including.{Handling, ReadsText, number_above, replayed}
-use Rattle.granit_stack.specs.Stacked.{Stacked}
 use Rattle.granit_steps.specs.Told.{GivesEvents}
 
 -- ---- ids
 
 -- the law on ids of a machine that has just begun
-abbrev BeginIds : Type 0
+abbrev pub BeginIds : Type 0
 BeginIds = (o : OptionsData) (h : Here) (count : ℕ) (es : List PlainEvent) (f : Option Fault)
     → GivesEvents o (counting_from count h) es f → IdsFrom (suc count) es
 
@@ -42,7 +41,7 @@ from_less m n (e ∷ es) less ids = (one ids.0, from_less m n es less ids.1)
     one (inl none) = inl none
     one (inr more) = inr (omega arith)
 
-text_ids : BeginIds → (o : OptionsData) (n : ℕ) (text : Included) (p : Replay) → ReadsText o (Some n) text (Ok p)
+pub text_ids : BeginIds → (o : OptionsData) (n : ℕ) (text : Included) (p : Replay) → ReadsText o (Some n) text (Ok p)
     → IdsFrom n (replayed p)
 text_ids law o n (Borrowed text) p reads =
     from_less n (suc (n - 1)) (replayed p) (omega arith)

@@ -1,17 +1,19 @@
 -- A small text is read, and a stack includes it.
-use Rattle.std.proofs.Common.{◌≡◌, ℕ, zero, suc, ◌<◌, ◌≤◌, false, List, [], ◌∷◌, Option, Some, None, Result, Ok, Err}
-use Rattle.std.proofs.Common.{arith, max, refl, sym, subst}
+use Rattle.std.proofs.Common.{◌≡◌, ℕ, zero, suc, false, List, [], ◌∷◌, ◌++◌, Option, Some, None, Result, Ok, Err}
+use Rattle.std.proofs.Common.{arith, inl, max, refl, sym, subst}
 use Rattle.std.specs.Borrow.{Bor}
 use Rattle.std.specs.Option.{option_map}
-use Rattle.std.specs.Prelude.{codes}
-use Rattle.granit_base.specs.Counts.{last_count}
+use Rattle.std.specs.Prelude.{codes, take}
 use Rattle.granit_base.specs.Written.{Written}
 use Rattle.granit_base.specs.declared.place.Span.{Span}
 use Rattle.granit_error.specs.OptionsData.{OptionsData, default_options}
+use Rattle.granit_error.specs.Refused.{Refused}
 use Rattle.granit_event.specs.declared.event.Event.{Event}
 use Rattle.granit_event.specs.Events.{plain_events}
 use Rattle.granit_layers.specs.Kinds.{SetsAny, StepsAny, number_of, number_over}
-use Rattle.granit_layers.specs.Stacking.{TurnsOnce, is_none_left}
+use Rattle.granit_layers.specs.Passing.{StackRun, no_call, one_call}
+use Rattle.granit_layers.specs.Stacking.{EndsWith, Stack, StepsTo, TurnsOnce, Withheld, is_none_left, layer_of}
+use Rattle.granit_layers.specs.Stacking.{none_yet, one_more}
 use Rattle.granit_layers.specs.Turning.{Next, turn_of}
 use Rattle.granit_layers.specs.declared.kinds.AnyKind.{AnyKind}
 use Rattle.granit_layers.specs.declared.kinds.AnyKind.TheVariants.{Fourth}
@@ -20,12 +22,14 @@ use Rattle.granit_layers.specs.declared.turn.Turn.TheVariants.{Gives, Withholds,
 use Rattle.granit_lexemes.specs.Outcome.{Fault}
 use Rattle.granit_lexemes.specs.PlainEvent.{PlainEvent, plain_span}
 use Rattle.granit_replay.specs.Replaying.{Replay, behind_next, next_of, raised_by}
+use Rattle.granit_replay.specs.declared.resolver.Included.{Included}
 use Rattle.granit_replay.specs.declared.resolver.Included.TheVariants.{Borrowed}
-use Rattle.granit_stack_laws.specs.Examples.{mark_at, named, small_events, small_layer, small_life, small_replay}
-use Rattle.granit_stack_laws.specs.Examples.{small_text}
-use Rattle.granit_stack_laws.specs.Fresh.{Happens, is_given, is_pushed, is_quiet, nothing}
-use Rattle.granit_stack.specs.Including.{ReadsText}
-use Rattle.granit_stack_laws.specs.Life.{UnreadAny}
+use Rattle.granit_stack_laws.specs.Examples.{lone, mark_at, named, running, small_end, small_events, small_layer}
+use Rattle.granit_stack_laws.specs.Examples.{small_life, small_replay, small_text}
+use Rattle.granit_stack_laws.specs.Fresh.{Happens, is_included, is_next, is_pushed, nothing}
+use Rattle.granit_stack.specs.Including.{Handling, Includes, ReadsText}
+use Rattle.granit_stack.specs.Stacked.{Stacked}
+use Rattle.granit_stack_laws.specs.Life.{IsNumbered, UnreadAny}
 use Rattle.granit_stepper.specs.Offset.{with_offset}
 use Rattle.granit_steps.specs.Steps.{StepState, steps_start}
 use Rattle.granit_steps.specs.Told.{GivesEvents, gives_end, gives_event}
@@ -161,7 +165,7 @@ module _ {A B C : Type 0} (steps_a : A → Next → A → Type 0) (steps_b : B �
   above = number_over above_a above_b above_c (λ (p : Replay) below. max p.anchor_offset below)
 
   abbrev Fresh : Kind → Type 0
-  Fresh = UnreadAny unread_a unread_b unread_c (λ (p : Replay). Unit {0})
+  Fresh = UnreadAny unread_a unread_b unread_c IsNumbered
 
   abbrev replaying : Written → Option Span → List (Event × Span) → ℕ → Layer Kind
   replaying name ended es n = record {
@@ -203,26 +207,78 @@ module _ {A B C : Type 0} (steps_a : A → Next → A → Type 0) (steps_b : B �
       (refl, (q, sets, refl)),
     )
 
-  small_number : (n : ℕ) → n ≤ 3 → n < last_count
-  small_number n less = omega arith
+  -- turns that give an event in the end are a call
+  calls : {old mid new : List (Layer Kind)} {e : Event × Span} → Withheld Steps number Sets false old mid
+      → TurnsOnce Steps number Sets false mid (Some (Ok e)) new → EndsWith (Some (Ok e)) None None
+      → StepsTo Steps number Sets (running old) (Some (Ok e)) (running new)
+  calls {mid = mid} {e = e} quiet turn ends = record {
+    gives = (Ok e, refl, inl (mid, quiet, turn));
+    peeked = refl;
+    end = ends;
+    emits_comments = refl;
+  }
 
-  pub small_happens : Happens Steps number Sets above false Fresh [] small_life (small_layer 6 3 ∷ [])
-  small_happens =
+  pub small_comes : (name : List ℕ) → StackRun Steps number Sets
+      (running (layer_of (Fourth (small_replay 2)) (named name) ∷ small_layer 4 2 ∷ [])) small_end
+      (running (small_layer 6 3 ∷ []))
+  small_comes name =
       let end : Span = plain_span (mark_at 7 2 0) (mark_at 7 2 0) in
-      is_pushed (Fourth (record { events = small_events 1; anchor_offset = 1 })) (named (codes "root")) tt
-      (λ n. omega arith) (_, refl, refl) (small_number 1 (omega arith))
-      (is_given (gives _ _ _ _ _ _ refl) (small_number 1 (omega arith))
-      (is_given (gives _ _ _ _ _ _ refl) (small_number 1 (omega arith))
-      (is_given (gives _ _ _ _ _ _ refl) (small_number 1 (omega arith))
-      (is_given (gives _ _ _ _ _ _ refl) (small_number 2 (omega arith))
-      (is_pushed (Fourth (small_replay 2)) (named (codes "small")) tt (λ n. omega arith) (_, refl, refl)
-      (small_number 3 (omega arith))
-      (is_quiet (withholds _ _ _ _ _ None _ refl) (small_number 3 (omega arith))
-      (is_quiet (withholds _ _ _ _ _ None _ refl) (small_number 3 (omega arith))
-      (is_given (gives _ _ _ _ _ _ refl) (small_number 3 (omega arith))
-      (is_given (gives _ _ _ _ _ _ refl) (small_number 3 (omega arith))
-      (is_given (gives _ _ _ _ _ _ refl) (small_number 3 (omega arith))
-      (is_quiet (withholds _ _ _ _ _ (Some end) _ refl) (small_number 3 (omega arith))
-      (is_quiet (leaves _ _ _ _ _ _ _ _ refl refl) (small_number 3 (omega arith))
-      (is_given (gives _ _ _ _ _ _ refl) (small_number 3 (omega arith))
-      (is_given (gives _ _ _ _ _ _ refl) (small_number 3 (omega arith)) nothing))))))))))))))
+      one_call (calls (one_more (one_more none_yet (withholds _ _ _ _ _ None _ refl)) (withholds _ _ _ _ _ None _ refl))
+      (gives _ _ _ _ _ _ refl) refl)
+      (one_call (calls none_yet (gives _ _ _ _ _ _ refl) refl)
+      (one_call (calls none_yet (gives _ _ _ _ _ _ refl) refl)
+      (one_call (calls (one_more (one_more none_yet (withholds _ _ _ _ _ (Some end) _ refl))
+      (leaves _ _ _ _ _ _ _ _ refl refl)) (gives _ _ _ _ _ _ refl) refl)
+      (one_call (calls none_yet (gives _ _ _ _ _ _ refl) refl) no_call))))
+
+  small_begins : StackRun Steps number Sets (running (small_layer 0 1 ∷ [])) (take 4 (small_events 1))
+      (running (small_layer 4 2 ∷ []))
+  small_begins =
+      one_call (calls none_yet (gives _ _ _ _ _ _ refl) refl)
+      (one_call (calls none_yet (gives _ _ _ _ _ _ refl) refl)
+      (one_call (calls none_yet (gives _ _ _ _ _ _ refl) refl)
+      (one_call (calls none_yet (gives _ _ _ _ _ _ refl) refl) no_call)))
+
+  module _ {R : Type 0} (answers : R → List ℕ → Result Included Refused → R → Type 0) (errors : R → ℕ) where
+    abbrev handling : Handling Kind R
+    handling = record {
+      offset_of = number;
+      sets_offset = Sets;
+      offset_over = above;
+      again = Fourth;
+      answers = answers;
+      errors = errors;
+    }
+
+    abbrev Lives : Stacked Kind R → List (Event × Span) → Stacked Kind R → Type 0
+    Lives = Happens Steps handling Fresh
+
+    -- calls of `next_event` come first
+    runs_on : (p s : Stack Kind) (o : OptionsData) (r : Option R) (q : Stacked Kind R) (es xs : List (Event × Span))
+        → StackRun Steps number Sets p es s → Lives (record { stack = s; options = o; resolver = r }) xs q
+        → Lives (record { stack = p; options = o; resolver = r }) (es ++ xs) q
+    runs_on p s o r q es xs no_call more = more
+    runs_on p s o r q es xs (one_call {mid = mid} {e = e} {es = rest} step run) more =
+        is_next (Some (Ok e)) step (runs_on mid s o r q rest xs run more)
+
+    small_begun : (r : R) (q : Stacked Kind R) (xs : List (Event × Span)) → Lives (lone (small_layer 4 2 ∷ []) r) xs q
+        → Lives (lone [] r) (take 4 (small_events 1) ++ xs) q
+    small_begun r q xs more =
+        is_pushed (Fourth (record { events = small_events 1; anchor_offset = 1 })) (named (codes "root")) (omega arith)
+        (_, refl, refl) refl (runs_on _ _ _ _ q (take 4 (small_events 1)) xs small_begins more)
+
+    pub small_before : (r : R) → Lives (lone [] r) (take 4 (small_events 1)) (lone (small_layer 4 2 ∷ []) r)
+    small_before r = small_begun r (lone (small_layer 4 2 ∷ []) r) [] nothing
+
+    module _ (name : List ℕ) (text : Bor (List ℕ)) (r q : R) (is : chars text.now ≡ small_text)
+        (found : answers r name (Ok (Borrowed text)) q) (same : errors q ≡ errors r) where
+      pub small_included : Includes handling (lone (small_layer 4 2 ∷ []) r) name (Ok tt)
+          (lone (layer_of (Fourth (small_replay 2)) (named name) ∷ small_layer 4 2 ∷ []) q)
+      small_included =
+          (Borrowed text, (q, refl, found, same, tt), (small_replay 2, small_read text is, (_, refl, refl)))
+
+      pub small_lives : Lives (lone [] r) small_life (lone (small_layer 6 3 ∷ []) q)
+      small_lives =
+          small_begun r (lone (small_layer 6 3 ∷ []) q) small_end
+          (is_included name (Ok tt) small_included refl
+          (runs_on _ _ _ _ (lone (small_layer 6 3 ∷ []) q) small_end [] (small_comes name) nothing))

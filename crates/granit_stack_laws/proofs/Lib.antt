@@ -1,3 +1,4 @@
+mod CallLemmas
 mod ComingLemmas
 mod ExampleLemmas
 mod FreshLemmas

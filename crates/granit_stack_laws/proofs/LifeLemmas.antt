@@ -12,7 +12,7 @@ use Rattle.granit_event.specs.declared.event.Event.{Event}
 use Rattle.granit_event.specs.Events.{event_kind, plain_event}
 use Rattle.granit_event.specs.Helpers.{anchor_of}
 use Rattle.granit_input.specs.Origin.{Origin}
-use Rattle.granit_layers.specs.Kinds.{SetsAny, StepsAny, number_of}
+use Rattle.granit_layers.specs.Kinds.{SetsAny, StepsAny, number_of, number_over}
 use Rattle.granit_layers.specs.Turning.{Next}
 use Rattle.granit_layers.specs.declared.kinds.AnyKind.{AnyKind}
 use Rattle.granit_layers.specs.declared.kinds.AnyKind.TheVariants.{First, Second, Third, Fourth}
@@ -27,7 +27,7 @@ use Rattle.granit_replay.specs.Replaying.{Replay, behind_next, next_of, raised_b
 use Rattle.granit_replay.specs.Replaying.{raised_over}
 use Rattle.granit_stack_laws.proofs.FreshLemmas.{below_more}
 use Rattle.granit_stack_laws.specs.Fresh.{IdBelow, IdsBelow, Numbering}
-use Rattle.granit_stack_laws.specs.Life.{IsUnread, UnreadAny}
+use Rattle.granit_stack_laws.specs.Life.{IsNumbered, IsUnread, UnreadAny}
 use Rattle.granit_stepper.specs.Refusals.{recounted}
 use Rattle.granit_stepper.specs.declared.refusal.Refusal.{Refusal}
 use Rattle.granit_stepper.specs.Stepping.{Stepping, StandsIn}
@@ -46,14 +46,17 @@ min_more a b top less = omega arith
 below_next : (id count top : ℕ) → id ≤ count → min (suc count) top < top → id < min (suc count) top
 below_next id count top less small = omega arith
 
-reaches : (n m top : ℕ) → m ≡ min (suc (n - 1)) top → m < top → n ≤ m
-reaches n m top is small = omega arith
+reaches : (n m top : ℕ) → m ≡ min (suc (n - 1)) top → n ≤ top → n ≤ m
+reaches n m top is most = omega arith
 
-less_one : (n m count top : ℕ) → min (suc count) top ≤ n → m ≡ min (suc (n - 1)) top → m < top → count ≤ n - 1
-less_one n m count top less is small = omega arith
+less_one : (n count top : ℕ) → min (suc count) top ≤ n → count < top → count ≤ n - 1
+less_one n count top less small = omega arith
 
-within : (n m top : ℕ) → m ≡ min (suc (n - 1)) top → m < top → n - 1 < top
-within n m top is small = omega arith
+within : (n top : ℕ) → 0 < top → n ≤ top → n - 1 < top
+within n top some most = omega arith
+
+at_most : (a top : ℕ) → min (suc a) top ≤ top
+at_most a top = omega arith
 
 module _ {I : Type 0} (unread : I → Unread → Type 0) (left : I → ℕ) (origin : I → Origin) (law : StepsCount) where
   pub record IsCounted (p : Parsing I) : Type 0 where
@@ -143,9 +146,19 @@ module _ {I : Type 0} (unread : I → Unread → Type 0) (left : I → ℕ) (ori
   numbered_as : (n : ℕ) (p q : Parsing I) → q ≡ with_number n p → next_number q ≡ min (suc (n - 1)) last_count
   numbered_as n p q set = ap next_number set
 
-  pub parser_numbers : Numbering (StepsTo unread left origin) next_number (λ n p q. q ≡ with_number n p) IsCounted
-      (IsUnread unread)
+  -- a number of 64 bits is set
+  set_to : (n : ℕ) (p q : Parsing I) (m after : StepState) → n ≤ last_count → q ≡ with_number n p → p.peeked ≡ None
+      → after ≡ with_count (n - 1) m → StandsIn unread p.stepper m → Counted p.stepper.scanner.options after
+      → IsCounted q × (n ≤ next_number q)
+  set_to n p q m after most set unseen is stands counted = (
+    set_as n p q m after (within n last_count (omega arith) most) set unseen is stands counted,
+    reaches n (next_number q) last_count (numbered_as n p q set) most,
+  )
+
+  pub parser_numbers : Numbering (StepsTo unread left origin) next_number (λ n p q. q ≡ with_number n p)
+      (λ p below. below) IsCounted (IsUnread unread)
   parser_numbers = record {
+    bound = λ p g. at_most p.stepper.parser.count last_count;
     gives = λ p q e g step.
         let w = steps_on p q e g step in
         (w.counted, min_more p.stepper.parser.count q.stepper.parser.count last_count w.count);
@@ -155,22 +168,17 @@ module _ {I : Type 0} (unread : I → Unread → Type 0) (left : I → ℕ) (ori
     ends = λ p q g step.
         let w = steps_out p q g step in
         (w.counted, min_more p.stepper.parser.count q.stepper.parser.count last_count w.count);
-    raises = λ n p q g less set small.
-        let is = numbered_as n p q set in
+    raises = λ n p q g less most set.
         let same : g.state.parser.count ≡ p.stepper.parser.count = count_of p.stepper g.state g.stands in
         let low : p.stepper.parser.count ≤ n - 1 =
-        less_one n (next_number q) p.stepper.parser.count last_count less is small in
-        let more : g.state.parser.count ≤ n - 1 = omega arith in (
-          set_as n p q g.state (with_count (n - 1) g.state) (within n (next_number q) last_count is small) set
-              g.unseen refl g.stands (counted_more (n - 1) g.counted more),
-          reaches n (next_number q) last_count is small,
-        );
-    begins = λ n p q u set small. (
-      set_as n p q (counting_from u.count u.start) (counting_from (n - 1) u.start)
-          (within n (next_number q) last_count (numbered_as n p q set) small) set u.unseen refl u.stands
-          (counted_start (n - 1) u.start),
-      reaches n (next_number q) last_count (numbered_as n p q set) small,
-    );
+        less_one n p.stepper.parser.count last_count less g.stands.numbers in
+        let more : g.state.parser.count ≤ n - 1 = omega arith in
+        set_to n p q g.state (with_count (n - 1) g.state) most set g.unseen refl g.stands
+        (counted_more (n - 1) g.counted more);
+    begins = λ n p q u most set.
+        set_to n p q (counting_from u.count u.start) (counting_from (n - 1) u.start) most set u.unseen refl u.stands
+        (counted_start (n - 1) u.start);
+    lies = λ n p u most. (omega arith, most);
     alone = λ p u. record {
       state = counting_from u.count u.start;
       counted = counted_start u.count u.start;
@@ -217,8 +225,14 @@ all_below (e ∷ es) n small =
     let low : m < last_count = omega arith in
     (below_more m (raised_by_all m es) e least (kind_below (event_kind e.0) n low), all_below es m small)
 
-abbrev Always : Replay → Type 0
-Always p = Unit {0}
+raised_most : (anchor : Option ℕ) (n : ℕ) → n ≤ last_count → raised_over anchor n ≤ last_count
+raised_most None n most = most
+raised_most (Some id) n most = omega arith
+
+pub raised_by_all_most : (es : List (Event × Span)) (n : ℕ) → n ≤ last_count → raised_by_all n es ≤ last_count
+raised_by_all_most [] n most = most
+raised_by_all_most (e ∷ es) n most =
+    raised_by_all_most es (raised_by n e) (raised_most (anchor_of (event_kind e.0)) n most)
 
 replay_gives : (es : List (Event × Span)) (n : ℕ) (q : Replay) (e : Event × Span)
     → ◌≡◌ {A = Next} (Some (Ok e)) (next_of (record { events = es; anchor_offset = n }))
@@ -234,24 +248,30 @@ replay_ends [] n q given behind = ap (λ (r : Replay). r.anchor_offset) behind
 replay_ends (x ∷ xs) n q given behind = absurd cc
 
 pub replay_numbers : Numbering (λ (p : Replay) (r : Next) (q : Replay). (r ≡ next_of p) × (q ≡ behind_next p))
-    (λ p. p.anchor_offset) (λ n p q. q ≡ record p { anchor_offset = n }) Always Always
+    (λ p. p.anchor_offset) (λ n p q. q ≡ record p { anchor_offset = n }) (λ p below. max p.anchor_offset below)
+    IsNumbered IsNumbered
 replay_numbers = record {
+  bound = λ p g. g;
   gives = λ p q e g step.
       let is = replay_gives p.events p.anchor_offset q e step.0 step.1 in
-      let least : p.anchor_offset ≤ raised_by p.anchor_offset e =
-      raised_least (anchor_of (event_kind e.0)) p.anchor_offset in
-      (tt, subst (λ (m : ℕ). p.anchor_offset ≤ m) (sym is) least);
+      let anchor = anchor_of (event_kind e.0) in (
+        subst (λ (m : ℕ). m ≤ last_count) (sym is) (raised_most anchor p.anchor_offset g),
+        subst (λ (m : ℕ). p.anchor_offset ≤ m) (sym is) (raised_least anchor p.anchor_offset),
+      );
   ids = λ p q e g step small.
       let is = replay_gives p.events p.anchor_offset q e step.0 step.1 in
       subst (λ (m : ℕ). IdBelow m e) (sym is)
       (kind_below (event_kind e.0) p.anchor_offset (subst (λ (m : ℕ). m < last_count) is small));
   ends = λ p q g step.
       let is = replay_ends p.events p.anchor_offset q step.0 step.1 in
-      (tt, subst (λ (m : ℕ). p.anchor_offset ≤ m) (sym is) (omega arith));
-  raises = λ n p q g less set small.
-      (tt, subst (λ (m : ℕ). n ≤ m) (sym (ap (λ (r : Replay). r.anchor_offset) set)) (omega arith));
-  begins = λ n p q g set small.
-      (tt, subst (λ (m : ℕ). n ≤ m) (sym (ap (λ (r : Replay). r.anchor_offset) set)) (omega arith));
+      (subst (λ (m : ℕ). m ≤ last_count) (sym is) g, subst (λ (m : ℕ). p.anchor_offset ≤ m) (sym is) (omega arith));
+  raises = λ n p q g less most set.
+      let is : q.anchor_offset ≡ n = ap (λ (r : Replay). r.anchor_offset) set in
+      (subst (λ (m : ℕ). m ≤ last_count) (sym is) most, subst (λ (m : ℕ). n ≤ m) (sym is) (omega arith));
+  begins = λ n p q g most set.
+      let is : q.anchor_offset ≡ n = ap (λ (r : Replay). r.anchor_offset) set in
+      (subst (λ (m : ℕ). m ≤ last_count) (sym is) most, subst (λ (m : ℕ). n ≤ m) (sym is) (omega arith));
+  lies = λ n p g most. (omega arith, omega arith);
   alone = λ p g. g;
 }
 
@@ -260,11 +280,13 @@ replay_numbers = record {
 module _ {A B C D : Type 0} (steps_a : A → Next → A → Type 0) (steps_b : B → Next → B → Type 0)
     (steps_c : C → Next → C → Type 0) (steps_d : D → Next → D → Type 0) (offset_a : A → ℕ) (offset_b : B → ℕ)
     (offset_c : C → ℕ) (offset_d : D → ℕ) (sets_a : ℕ → A → A → Type 0) (sets_b : ℕ → B → B → Type 0)
-    (sets_c : ℕ → C → C → Type 0) (sets_d : ℕ → D → D → Type 0) (good_a unread_a : A → Type 0)
-    (good_b unread_b : B → Type 0) (good_c unread_c : C → Type 0) (good_d unread_d : D → Type 0)
-    (a : Numbering steps_a offset_a sets_a good_a unread_a) (b : Numbering steps_b offset_b sets_b good_b unread_b)
-    (c : Numbering steps_c offset_c sets_c good_c unread_c)
-    (d : Numbering steps_d offset_d sets_d good_d unread_d) where
+    (sets_c : ℕ → C → C → Type 0) (sets_d : ℕ → D → D → Type 0) (above_a : A → ℕ → ℕ) (above_b : B → ℕ → ℕ)
+    (above_c : C → ℕ → ℕ) (above_d : D → ℕ → ℕ) (good_a unread_a : A → Type 0) (good_b unread_b : B → Type 0)
+    (good_c unread_c : C → Type 0) (good_d unread_d : D → Type 0)
+    (a : Numbering steps_a offset_a sets_a above_a good_a unread_a)
+    (b : Numbering steps_b offset_b sets_b above_b good_b unread_b)
+    (c : Numbering steps_c offset_c sets_c above_c good_c unread_c)
+    (d : Numbering steps_d offset_d sets_d above_d good_d unread_d) where
   abbrev Kind : Type 0
   Kind = AnyKind A B C D
 
@@ -276,6 +298,9 @@ module _ {A B C D : Type 0} (steps_a : A → Next → A → Type 0) (steps_b : B
 
   abbrev number : Kind → ℕ
   number = number_of offset_a offset_b offset_c offset_d
+
+  abbrev above : Kind → ℕ → ℕ
+  above = number_over above_a above_b above_c above_d
 
   abbrev GoodAny : Kind → Type 0
   GoodAny = UnreadAny good_a good_b good_c good_d
@@ -305,20 +330,32 @@ module _ {A B C D : Type 0} (steps_a : A → Next → A → Type 0) (steps_b : B
   any_ends (Fourth p) (Fourth q) g step = d.ends p q g step
   any_ends p q g step = absurd step
 
-  any_raises : (n : ℕ) (p q : Kind) → GoodAny p → number p ≤ n → Sets n p q → number q < last_count
-      → GoodAny q × (n ≤ number q)
-  any_raises n (First p) (First q) g less set small = a.raises n p q g less set small
-  any_raises n (Second p) (Second q) g less set small = b.raises n p q g less set small
-  any_raises n (Third p) (Third q) g less set small = c.raises n p q g less set small
-  any_raises n (Fourth p) (Fourth q) g less set small = d.raises n p q g less set small
-  any_raises n p q g less set small = absurd set
+  any_bound : (p : Kind) → GoodAny p → number p ≤ last_count
+  any_bound (First p) g = a.bound p g
+  any_bound (Second p) g = b.bound p g
+  any_bound (Third p) g = c.bound p g
+  any_bound (Fourth p) g = d.bound p g
 
-  any_begins : (n : ℕ) (p q : Kind) → Fresh p → Sets n p q → number q < last_count → GoodAny q × (n ≤ number q)
-  any_begins n (First p) (First q) u set small = a.begins n p q u set small
-  any_begins n (Second p) (Second q) u set small = b.begins n p q u set small
-  any_begins n (Third p) (Third q) u set small = c.begins n p q u set small
-  any_begins n (Fourth p) (Fourth q) u set small = d.begins n p q u set small
-  any_begins n p q u set small = absurd set
+  any_raises : (n : ℕ) (p q : Kind) → GoodAny p → number p ≤ n → n ≤ last_count → Sets n p q
+      → GoodAny q × (n ≤ number q)
+  any_raises n (First p) (First q) g less most set = a.raises n p q g less most set
+  any_raises n (Second p) (Second q) g less most set = b.raises n p q g less most set
+  any_raises n (Third p) (Third q) g less most set = c.raises n p q g less most set
+  any_raises n (Fourth p) (Fourth q) g less most set = d.raises n p q g less most set
+  any_raises n p q g less most set = absurd set
+
+  any_begins : (n : ℕ) (p q : Kind) → Fresh p → n ≤ last_count → Sets n p q → GoodAny q × (n ≤ number q)
+  any_begins n (First p) (First q) u most set = a.begins n p q u most set
+  any_begins n (Second p) (Second q) u most set = b.begins n p q u most set
+  any_begins n (Third p) (Third q) u most set = c.begins n p q u most set
+  any_begins n (Fourth p) (Fourth q) u most set = d.begins n p q u most set
+  any_begins n p q u most set = absurd set
+
+  any_lies : (n : ℕ) (p : Kind) → Fresh p → n ≤ last_count → (n ≤ above p n) × (above p n ≤ last_count)
+  any_lies n (First p) u most = a.lies n p u most
+  any_lies n (Second p) u most = b.lies n p u most
+  any_lies n (Third p) u most = c.lies n p u most
+  any_lies n (Fourth p) u most = d.lies n p u most
 
   any_alone : (p : Kind) → Fresh p → GoodAny p
   any_alone (First p) u = a.alone p u
@@ -326,12 +363,14 @@ module _ {A B C D : Type 0} (steps_a : A → Next → A → Type 0) (steps_b : B
   any_alone (Third p) u = c.alone p u
   any_alone (Fourth p) u = d.alone p u
 
-  pub any_numbers : Numbering Steps number Sets GoodAny Fresh
+  pub any_numbers : Numbering Steps number Sets above GoodAny Fresh
   any_numbers = record {
+    bound = any_bound;
     gives = any_gives;
     ids = any_ids;
     ends = any_ends;
     raises = any_raises;
     begins = any_begins;
+    lies = any_lies;
     alone = any_alone;
   }

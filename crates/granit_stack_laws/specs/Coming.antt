@@ -1,18 +1,18 @@
 -- What comes of an include.
-use Rattle.std.specs.Prelude.{◌≡◌, ◌≤◌, ◌<◌, ℕ, List, ◌∷◌, ◌++◌, Some, Ok}
+use Rattle.std.specs.Prelude.{◌≡◌, ◌≤◌, ◌<◌, ℕ, false, List, [], ◌∷◌, ◌++◌, None, Some, Ok}
 use Rattle.granit_base.specs.Counts.{last_count}
 use Rattle.granit_base.specs.declared.place.Span.{Span}
 use Rattle.granit_event.specs.declared.event.Event.{Event}
 use Rattle.granit_layers.specs.Nested.{those_through}
 use Rattle.granit_layers.specs.Passing.{StackRun, Passes, held}
-use Rattle.granit_layers.specs.Stacking.{Stack}
+use Rattle.granit_layers.specs.Stacking.{Stack, is_ending}
 use Rattle.granit_layers.specs.Turning.{Next}
 use Rattle.granit_layers.specs.declared.layer.Layer.{Layer}
 use Rattle.granit_recovery.specs.Ids.{IdsFrom}
 use Rattle.granit_recovery.specs.OneDocument.{document_starts}
 use Rattle.granit_replay.specs.Replaying.{Replay}
 use Rattle.granit_replay.specs.declared.resolver.Included.{Included}
-use Rattle.granit_stack_laws.specs.Fresh.{IdsBelow}
+use Rattle.granit_stack_laws.specs.Fresh.{AreNew, Happens, IdsBelow}
 use Rattle.granit_stack.specs.Including.{Handling, Includes, ReadsText, Resolves, replayed}
 use Rattle.granit_stack.specs.Stacked.{Stacked}
 
@@ -39,3 +39,14 @@ abbrev pub IncludeComesThrough : {S R : Type 0} → (steps : S → Next → S �
 IncludeComesThrough steps h =
     (old new : Stacked _ _) (k : Layer _) (ks : List (Layer _)) (name : List ℕ) → old.stack.layers ≡ k ∷ ks
     → Includes h old name (Ok tt) new → IncludedText steps h old k ks name new
+
+-- Whatever was called of a stack since it held no parser: where it hasn't ended and isn't seen to end, the ids of each
+-- text that is then read to be included above a parser are above all ids of events that were given or looked at before.
+abbrev pub IncludesAreNew : {S R : Type 0} → (steps : S → Next → S → Type 0) → Handling S R → (Unread : S → Type 0)
+    → Type 0
+IncludesAreNew steps h Unread =
+    (first old : Stacked _ _) (given : List (Event × Span)) (k : Layer _) (ks : List (Layer _)) (text : Included)
+    (events : Replay) → first.stack.layers ≡ [] → first.stack.peeked ≡ None → Happens steps h Unread first given old
+    → is_ending old.stack.peeked old.stack.end ≡ false → old.stack.layers ≡ k ∷ ks
+    → ReadsText old.options (Some (h.offset_of k.parser)) text (Ok events)
+    → AreNew (given ++ held old.stack.peeked) events.events

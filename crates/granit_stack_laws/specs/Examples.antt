@@ -10,7 +10,7 @@ use Rattle.granit_event.specs.declared.event.Event.{Event}
 use Rattle.granit_event.specs.declared.event.Event.TheVariants.{StreamStart, StreamEnd, DocumentStart, DocumentEnd}
 use Rattle.granit_event.specs.declared.event.Event.TheVariants.{Scalar, SequenceStart, SequenceEnd}
 use Rattle.granit_layers.specs.Nested.{those_through}
-use Rattle.granit_layers.specs.Stacking.{layer_of}
+use Rattle.granit_layers.specs.Stacking.{Stack, layer_of}
 use Rattle.granit_layers.specs.declared.kinds.AnyKind.{AnyKind}
 use Rattle.granit_layers.specs.declared.kinds.AnyKind.TheVariants.{Fourth}
 use Rattle.granit_layers.specs.declared.layer.Layer.{Layer}
@@ -56,16 +56,22 @@ abbrev pub small_layer : {A B C : Type 0} → (given number : ℕ) → Layer (An
 small_layer given number =
     layer_of (Fourth (record { events = drop given (small_events 1); anchor_offset = number })) (named (codes "root"))
 
--- a stack of these parsers, of which nothing was looked at, with somebody who finds includes
+-- a stack of these parsers, of which nothing was looked at
+abbrev pub running : {S : Type 0} → List (Layer S) → Stack S
+running layers = record { layers = layers; emits_comments = false; peeked = None; end = None }
+
+-- the same, with somebody who finds includes
 abbrev pub lone : {S R : Type 0} → List (Layer S) → R → Stacked S R
 lone layers resolver = record {
-  stack = record { layers = layers; emits_comments = false; peeked = None; end = None };
+  stack = running layers;
   options = default_options;
   resolver = Some resolver;
 }
 
+-- what a stack gives behind the text's inclusion: what comes through of it, and then the ends of the text below
+abbrev pub small_end : List (Event × Span)
+small_end = those_through false (small_events 2) ++ take 2 (drop 4 (small_events 1))
+
 -- what a stack gives that includes the text behind the scalar of the same text
 abbrev pub small_life : List (Event × Span)
-small_life =
-    take 4 (small_events 1)
-    ++ (those_through false (small_events 2) ++ take 2 (drop 4 (small_events 1)))
+small_life = take 4 (small_events 1) ++ small_end

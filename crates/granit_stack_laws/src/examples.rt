@@ -1,20 +1,21 @@
 //! That what the laws ask for is met: a small text, and a stack in which it is included.
-ghost use Rattle.std.specs.Prelude.{◌≡◌, ℕ, false, List, [], ◌∷◌, None, Some, Ok, ⊤};
+ghost use Rattle.std.specs.Prelude.{◌≡◌, ℕ, false, List, [], ◌∷◌, None, Some, Ok, take};
 ghost use Rattle.std.specs.Borrow.{Bor};
 ghost use Rattle.std.specs.Str.{chars};
 ghost use Rattle.granit_error.specs.OptionsData.{default_options};
 ghost use Rattle.granit_layers.specs.Nested.{IsOneDocument};
+ghost use Rattle.granit_layers.specs.Passing.{StackRun};
 ghost use Rattle.granit_layers.specs.Stacking.{layer_of};
 ghost use Rattle.granit_layers.specs.declared.kinds.AnyKind.TheVariants.{Fourth};
 ghost use Rattle.granit_lexemes.specs.Here.{Here};
 ghost use Rattle.granit_parser.specs.Parsing.{Parsing, StandsAt};
 ghost use Rattle.granit_recovery.specs.OneDocument.{document_starts};
 ghost use Rattle.granit_replay.specs.declared.resolver.Included.TheVariants.{Borrowed};
-ghost use Rattle.granit_stack_laws.specs.Examples.{lone, named, small_events, small_layer, small_life};
-ghost use Rattle.granit_stack_laws.specs.Examples.{small_replay, small_text};
+ghost use Rattle.granit_stack_laws.specs.Examples.{lone, named, running, small_end, small_events, small_layer};
+ghost use Rattle.granit_stack_laws.specs.Examples.{small_life, small_replay, small_text};
 ghost use Rattle.granit_stack_laws.specs.Fresh.{Happens};
 ghost use Rattle.granit_stack.specs.Including.{Includes, ReadsText, replayed};
-ghost use Rattle.granit_stack_laws.specs.Life.{IsUnread, UnreadAny};
+ghost use Rattle.granit_stack_laws.specs.Life.{IsNumbered, IsUnread, UnreadAny};
 ghost use Rattle.granit_steps.specs.Steps.{start_from};
 
 use crate::laws::AnyParser;
@@ -57,16 +58,51 @@ where
         (lone (layer_of (Fourth (small_replay 2)) (named name) ∷ small_layer 4 2 ∷ []) q) }
 {}
 
-/// A stack may give the events of the text, those of the text included in itself, and then go on.
-pub fn a_stack_includes_a_small_text<'input, X, Y, Z>()
+/// Behind its inclusion calls of `next_event` may give what comes through of the text, and then what the parser below
+/// gives.
+pub fn a_small_text_comes_through<'input, A, B, C>()
+where
+    A: StackedParser<'input>,
+    B: StackedParser<'input>,
+    C: StackedParser<'input>,
+    ensures { (name : List ℕ) → StackRun
+        ⟦<AnyKind<A, B, C, ReplayParser<'input>> as StackedParser<'input>>⟧.steps
+        ⟦<AnyKind<A, B, C, ReplayParser<'input>> as StackedParser<'input>>⟧.offset_of
+        ⟦<AnyKind<A, B, C, ReplayParser<'input>> as StackedParser<'input>>⟧.sets_offset
+        (running (layer_of (Fourth (small_replay 2)) (named name) ∷ small_layer 4 2 ∷ [])) small_end
+        (running (small_layer 6 3 ∷ [])) }
+{}
+
+/// Where a resolver answers the text, a stack may give the first events of the text, include the text in itself, give
+/// what comes through of it, and then go on.
+pub fn a_stack_includes_a_small_text<'input, X, Y, Z, R>()
 where
     X: BorrowedInput<'input>,
     Y: BorrowedInput<'input>,
     Z: BorrowedInput<'input>,
-    ensures { Happens ⟦<AnyParser<'input, X, Y, Z> as StackedParser<'input>>⟧.steps
-        ⟦<AnyParser<'input, X, Y, Z> as StackedParser<'input>>⟧.offset_of
-        ⟦<AnyParser<'input, X, Y, Z> as StackedParser<'input>>⟧.sets_offset
-        ⟦<AnyParser<'input, X, Y, Z> as StackedParser<'input>>⟧.offset_over false
-        (UnreadAny (IsUnread X.unread) (IsUnread Y.unread) (IsUnread Z.unread) (λ p. ⊤)) [] small_life
-        (small_layer 6 3 ∷ []) }
+    R: Resolver<'input>,
+    ensures before { (r : R) → Happens ⟦<AnyParser<'input, X, Y, Z> as StackedParser<'input>>⟧.steps
+        (record {
+          offset_of = ⟦<AnyParser<'input, X, Y, Z> as StackedParser<'input>>⟧.offset_of;
+          sets_offset = ⟦<AnyParser<'input, X, Y, Z> as StackedParser<'input>>⟧.sets_offset;
+          offset_over = ⟦<AnyParser<'input, X, Y, Z> as StackedParser<'input>>⟧.offset_over;
+          again = Fourth;
+          answers = R.answers;
+          errors = R.errors;
+        })
+        (UnreadAny (IsUnread X.unread) (IsUnread Y.unread) (IsUnread Z.unread) IsNumbered)
+        (lone [] r) (take 4 (small_events 1)) (lone (small_layer 4 2 ∷ []) r) }
+    ensures life { (name : List ℕ) (text : Bor (List ℕ)) (r q : R) → chars text.now ≡ small_text
+        → R.answers r name (Ok (Borrowed text)) q → R.errors q ≡ R.errors r
+        → Happens ⟦<AnyParser<'input, X, Y, Z> as StackedParser<'input>>⟧.steps
+        (record {
+          offset_of = ⟦<AnyParser<'input, X, Y, Z> as StackedParser<'input>>⟧.offset_of;
+          sets_offset = ⟦<AnyParser<'input, X, Y, Z> as StackedParser<'input>>⟧.sets_offset;
+          offset_over = ⟦<AnyParser<'input, X, Y, Z> as StackedParser<'input>>⟧.offset_over;
+          again = Fourth;
+          answers = R.answers;
+          errors = R.errors;
+        })
+        (UnreadAny (IsUnread X.unread) (IsUnread Y.unread) (IsUnread Z.unread) IsNumbered)
+        (lone [] r) small_life (lone (small_layer 6 3 ∷ []) q) }
 {}

@@ -1,15 +1,14 @@
 //! What follows for includes.
-ghost use Rattle.std.specs.Prelude.{◌≤◌, ℕ, false, Ok, Option, ⊤};
+ghost use Rattle.std.specs.Prelude.{◌≤◌, ℕ, false, Ok, Option};
 ghost use Rattle.granit_error.specs.OptionsData.{OptionsData};
 ghost use Rattle.granit_layers.specs.Nested.{IsOneDocument};
 ghost use Rattle.granit_layers.specs.declared.kinds.AnyKind.TheVariants.{Fourth};
 ghost use Rattle.granit_recovery.specs.OneDocument.{document_starts};
 ghost use Rattle.granit_replay.specs.Replaying.{Replay};
 ghost use Rattle.granit_replay.specs.declared.resolver.Included.{Included};
-ghost use Rattle.granit_stack_laws.specs.Coming.{IncludeComesThrough};
-ghost use Rattle.granit_stack_laws.specs.Fresh.{IdsAreNew};
+ghost use Rattle.granit_stack_laws.specs.Coming.{IncludeComesThrough, IncludesAreNew};
 ghost use Rattle.granit_stack.specs.Including.{ReadsText, replayed};
-ghost use Rattle.granit_stack_laws.specs.Life.{IsUnread, UnreadAny};
+ghost use Rattle.granit_stack_laws.specs.Life.{IsNumbered, IsUnread, UnreadAny};
 
 use granit_input::BorrowedInput;
 use granit_layers::{AnyKind, StackedParser, a_replay_comes_through};
@@ -61,20 +60,29 @@ pub(crate) type AnyParser<'input, X, Y, Z> = AnyKind<
     ReplayParser<'input>,
 >;
 
-/// The number of the top parser is above all ids that a stack gave, as long as it isn't the greatest: of parsers of
-/// which nothing was read when they were pushed, and of events that are given once more. So the ids of an include are
-/// new.
-pub fn ids_are_new<'input, X, Y, Z>()
+/// Whatever was called of a stack since it held no parser, as long as it hasn't ended and isn't seen to end: each id of
+/// a text that is then read to be included above a parser is greater than all ids of events that the stack gave before
+/// or shows, unless it is the greatest number of 64 bits. The calls are `next_event`, `peek`, `push_include`, pushes of
+/// parsers of which nothing was read and of events that are given once more, and such as leave the parsers as they
+/// were; whatever they answer.
+pub fn includes_are_new<'input, X, Y, Z, R>()
 where
     X: BorrowedInput<'input>,
     Y: BorrowedInput<'input>,
     Z: BorrowedInput<'input>,
-    ensures { IdsAreNew
+    R: Resolver<'input>,
+    ensures { IncludesAreNew
         ⟦<AnyParser<'input, X, Y, Z> as StackedParser<'input>>⟧.steps
-        ⟦<AnyParser<'input, X, Y, Z> as StackedParser<'input>>⟧.offset_of
-        ⟦<AnyParser<'input, X, Y, Z> as StackedParser<'input>>⟧.sets_offset
-        ⟦<AnyParser<'input, X, Y, Z> as StackedParser<'input>>⟧.offset_over
-        (UnreadAny (IsUnread X.unread) (IsUnread Y.unread) (IsUnread Z.unread) (λ p. ⊤)) }
+        (record {
+          offset_of = ⟦<AnyParser<'input, X, Y, Z> as StackedParser<'input>>⟧.offset_of;
+          sets_offset = ⟦<AnyParser<'input, X, Y, Z> as StackedParser<'input>>⟧.sets_offset;
+          offset_over = ⟦<AnyParser<'input, X, Y, Z> as StackedParser<'input>>⟧.offset_over;
+          again = Fourth;
+          answers = R.answers;
+          errors = R.errors;
+        })
+        (UnreadAny (IsUnread X.unread) (IsUnread Y.unread) (IsUnread Z.unread) IsNumbered) }
 {
     ids_are_counted();
+    ids_begin_at_the_offset();
 }

@@ -9,10 +9,10 @@ use granit_stack::IncludeStack;
 use std::alloc::Global;
 
 /// A stack of parsers of four kinds.
-type Stack<'input, A, B, C, D> = IncludeStack<'input, AnyKind<A, B, C, D>, Texts>;
+pub(crate) type Stack<'input, A, B, C, D> = IncludeStack<'input, AnyKind<A, B, C, D>, Texts>;
 
 /// Whether a parser over a string was put on a stack.
-fn put_string<'input, A, B, C, D>(
+pub(crate) fn put_string<'input, A, B, C, D>(
     alloc: Global,
     stack: &mut Stack<'input, A, B, C, D>,
     parser: A,
@@ -196,8 +196,8 @@ where
     IncludeStack::new(alloc)
 }
 
-/// The number of a next anchor behind the next event, and what comes then.
-fn behind_one<'input, A, B, C, D>(stack: Stack<'input, A, B, C, D>) -> (usize, Told)
+/// What a stack gives.
+fn all_of<'input, A, B, C, D>(stack: Stack<'input, A, B, C, D>) -> Told
 where
     A: StackedParser<'input>,
     B: StackedParser<'input>,
@@ -205,8 +205,7 @@ where
     D: StackedParser<'input>,
 {
     let mut stack = stack;
-    pass(&mut stack, 1);
-    (stack.current_anchor_offset(), tell(&mut stack))
+    tell(&mut stack)
 }
 
 /// Of events that are given once more.
@@ -214,7 +213,7 @@ pub(crate) fn of_events<'input, A, B, C>(
     alloc: Global,
     events: ReplayParser<'input>,
     name: OwnedText,
-) -> (usize, Told)
+) -> Told
 where
     A: StackedParser<'input>,
     B: StackedParser<'input>,
@@ -222,5 +221,5 @@ where
 {
     let mut stack = empty::<A, B, C, ReplayParser<'input>>(alloc);
     let _ = stack.push_replay_parser(events, name).is_ok();
-    behind_one(stack)
+    all_of(stack)
 }

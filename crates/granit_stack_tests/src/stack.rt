@@ -5,9 +5,11 @@ use crate::pushes::{
 };
 use crate::told::{Told, nothing};
 use granit_base::{Marker, OwnedText, ScalarStyle, Span, Text};
+use granit_error::Options;
 use granit_event::Event;
 use granit_input::StrInput;
 use granit_layers::StackedParser;
+use granit_load::load_str;
 use granit_parser::Parser;
 use granit_replay::ReplayParser;
 use std::alloc::Global;
@@ -99,27 +101,32 @@ fn of_an_event_above<'input>(alloc: Global, text: &'input str, first: &'input st
     )
 }
 
-/// What a stack gives of an event that is put on it.
-fn of_an_event<'input>(alloc: Global, text: &'input str) -> Result<(usize, Told), Fail> {
-    let events = ReplayParser::new(vec![in alloc; scalar(text, 7)]?, 1);
+/// What a stack gives of the events of a text; nothing where there are none.
+fn of_a_replay<'input>(alloc: Global, text: &'input str) -> Result<Told, Fail> {
     let name = OwnedText::from_str(alloc, "events")?;
-    Ok(of_events::<Events<'input>, Events<'input>, Events<'input>>(alloc, events, name))
+    match load_str(alloc, text, Options::default()) {
+        Ok(events) => Ok(of_events::<Events<'input>, Events<'input>, Events<'input>>(
+            alloc,
+            ReplayParser::new(events.into_vec(), 1),
+            name,
+        )),
+        Err(_) => Ok(nothing()),
+    }
 }
 
 #[test]
 fn each_push_on_an_empty_stack(rt: HostRuntime) -> Result<(), Fail> {
     let (string, _) = of_a_string(rt.alloc(), "- x");
-    let (characters, _) = of_the_characters(rt.alloc(), "c");
-    let (input, _) = of_an_input(rt.alloc(), "i");
-    let (next, (event, _)) = of_an_event(rt.alloc(), "e")?;
+    let (characters, _) = of_the_characters(rt.alloc(), "x");
+    let (input, _) = of_an_input(rt.alloc(), "x");
+    let (replay, _) = of_a_replay(rt.alloc(), "x")?;
     let wanted = [
         ['S', 'D', '[', 'x', ']', 'd', 's', '.', '.', '.'],
-        ['S', 'D', 'c', 'd', 's', '.', '.', '.', '.', '.'],
-        ['S', 'D', 'i', 'd', 's', '.', '.', '.', '.', '.'],
-        ['s', '.', '.', '.', '.', '.', '.', '.', '.', '.'],
+        ['S', 'D', 'x', 'd', 's', '.', '.', '.', '.', '.'],
+        ['S', 'D', 'x', 'd', 's', '.', '.', '.', '.', '.'],
+        ['S', 'D', 'x', 'd', 's', '.', '.', '.', '.', '.'],
     ];
-    assert_eq!(rt; [string, characters, input, event], wanted);
-    assert_eq!(rt; next, 8);
+    assert_eq!(rt; [string, characters, input, replay], wanted);
     Ok(())
 }
 

@@ -42,6 +42,14 @@ pub(crate) fn given(next: Option<Result<(Event<'_>, Span), ScanError>>) -> (char
     }
 }
 
+/// What is refused, if anything is.
+pub(crate) fn refusal(next: Option<Result<(Event<'_>, Span), ScanError>>) -> Option<ScanError> {
+    match next {
+        Some(Err(error)) => Some(error),
+        _ => None,
+    }
+}
+
 /// The next events.
 pub(crate) fn tell<'input, S: StackedParser<'input>>(
     stack: &mut IncludeStack<'input, S, Texts>,

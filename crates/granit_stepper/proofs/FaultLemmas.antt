@@ -3,6 +3,7 @@ use Rattle.std.proofs.Common.{◌≡◌, Bool, true, false, ◌&&◌, sym, ap, s
 use Rattle.std.proofs.Common.{◌∙◌, inl, inr}
 use Rattle.std.specs.Prelude.{if◌then◌else◌}
 use Rattle.granit_base.specs.Place.{Unread}
+use Rattle.granit_cursor.specs.Reading.{Reading}
 use Rattle.granit_error.specs.OptionsData.{OptionsData}
 use Rattle.granit_error.specs.Refused.{Refused}
 use Rattle.granit_lexemes.specs.Here.{Here}
@@ -23,11 +24,11 @@ restarts_turned o stop m turned = turned_anew (cursor_at stop m.reading) turned
 -- ---- a document behind directives
 
 -- where nothing stopped
-no_stop : SkipEnd → Here
+pub no_stop : SkipEnd → Here
 no_stop (Ended n) = n.reading.reader.here
 no_stop (Failed f n) = n.reading.reader.here
 
-stops_nowhere : (r : SkipEnd) → StopsBehind r (no_stop r)
+pub stops_nowhere : (r : SkipEnd) → StopsBehind r (no_stop r)
 unfolding no_stop
 stops_nowhere (Ended n) = tt
 stops_nowhere (Failed f n) = there
@@ -41,11 +42,11 @@ module _ {I : Type 0} (unread : I → Unread → Type 0) (o : OptionsData) (s : 
   )
 
   pub header_failed : (mid : Stepping I) → s.renumbered ≡ mid.renumbered → (given : Skips unread o false mid m)
-      → (starts : Bool) → RestartsIn unread starts s given.0 → SkipsHeader unread o s m
-  header_failed mid renumbered given starts goes = elim given.3 [
+      → (cursor : Reading I) (starts : Bool) → RestartsIn unread cursor starts s given.0 → SkipsHeader unread o s m
+  header_failed mid renumbered given cursor starts goes = elim given.3 [
     | inl failed ↦ inl (
       goes.0,
-      subst (λ (r : SkipEnd). StopsBehind r goes.0) (sym failed) goes.1,
+      subst (λ (r : SkipEnd). StopsBehind r goes.0) (sym failed) goes.1.0,
       subst (StandsAhead unread s) (sym (ap (restarted goes.0) failed)) (inl goes.3),
     )
     | inr left ↦ inr (
@@ -53,13 +54,13 @@ module _ {I : Type 0} (unread : I → Unread → Type 0) (o : OptionsData) (s : 
       given.1,
       given.2,
       subst (λ (b : Bool). RefusesNumber b o given.0 given.1) (sym renumbered) left,
-      (starts, goes),
+      (cursor, starts, goes),
     )
   ]
 
   pub document_failed : (mid : Stepping I) → s.renumbered ≡ mid.renumbered → (given : Skips unread o false mid m)
-      → SkipsFault unread o given.1 s given.0 → SkipsDocument unread o s m
-  document_failed mid renumbered given fault = inr (
+      → (cursor : Reading I) → SkipsFault unread o cursor given.1 s given.0 → SkipsDocument unread o s m
+  document_failed mid renumbered given cursor fault = inr (
     given.0,
     given.1,
     given.2,
@@ -67,20 +68,21 @@ module _ {I : Type 0} (unread : I → Unread → Type 0) (o : OptionsData) (s : 
       | inl failed ↦ inl failed
       | inr left ↦ inr (subst (λ (b : Bool). RefusesNumber b o given.0 given.1) (sym renumbered) left)
     ],
-    fault,
+    (cursor, fault),
   )
 
 -- ---- a refusal
 
 module _ {I : Type 0} (unread : I → Unread → Type 0) (o : OptionsData) (s : Stepping I) (m : StepState) (e : Refused)
-    (in_header starts : Bool) (header : in_header ≡ is_in_header o m e) where
+    (cursor : Reading I) (in_header starts : Bool) (header : in_header ≡ is_in_header o m e) where
   no_header : (stop : Here) → starts ≡ (behind_fault stop m).0 → (in_header && starts) ≡ false
       → (is_in_header o m e && (behind_fault stop m).0) ≡ false
   no_header stop is other =
       ap (λ (b : Bool). b && (behind_fault stop m).0) (sym header) ∙ ap (λ (b : Bool). in_header && b) (sym is) ∙ other
 
   -- no document is dropped behind it
-  pub fault_alone : RestartsIn unread starts s m → (in_header && starts) ≡ false → SkipsFault unread o e s m
+  pub fault_alone : RestartsIn unread cursor starts s m → (in_header && starts) ≡ false
+      → SkipsFault unread o cursor e s m
   fault_alone goes other =
       let x = behind_fault goes.0 m in
       let second = no_stop (skip o x.1) in
@@ -93,8 +95,9 @@ module _ {I : Type 0} (unread : I → Unread → Type 0) (o : OptionsData) (s : 
       )
 
   -- its document is
-  pub fault_in_header : (mid : Stepping I) (goes : RestartsIn unread starts mid m) → (in_header && starts) ≡ true
-      → SkipsHeader unread o s (behind_fault goes.0 m).1 → SkipsFault unread o e s m
+  pub fault_in_header : (mid : Stepping I) (goes : RestartsIn unread cursor starts mid m)
+      → (in_header && starts) ≡ true → SkipsHeader unread o s (behind_fault goes.0 m).1
+      → SkipsFault unread o cursor e s m
   fault_in_header mid goes is (inl given) =
       let x = behind_fault goes.0 m in
       let here : (is_in_header o m e && x.0) ≡ true =
@@ -106,4 +109,4 @@ module _ {I : Type 0} (unread : I → Unread → Type 0) (o : OptionsData) (s : 
         subst (StandsAhead unread s)
             (sym (ap (λ (b : Bool). if b then restarted given.0 (skip o x.1) else x.1) here)) given.2,
       )
-  fault_in_header mid goes is (inr left) = inr (goes.0, left.0, left.1, left.2, left.3, left.4)
+  fault_in_header mid goes is (inr left) = inr (goes.0, goes.1, left.0, left.1, left.2, left.3, left.4)

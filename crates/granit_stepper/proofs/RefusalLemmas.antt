@@ -205,7 +205,8 @@ module _ {I : Type 0} (unread : I → Unread → Type 0) (s : Stepping I) (m : S
         count = refused.refusal.count;
         kept = s.parser.kept;
       }
-      → new.first ≡ None → new.failed ≡ false → new.ahead ≡ None → RestartsIn unread starts new m
+      → new.first ≡ None → new.failed ≡ false → new.ahead ≡ None
+      → RestartsIn unread s.scanner.cursor starts new m
   restarts at new starts goes parser first going none_ahead =
       let x = behind_fault_at at.stop m in
       let is : behind_fault at.stop m ≡ x = ap (λ (h : Here). behind_fault_at h m) at.at in
@@ -223,7 +224,7 @@ module _ {I : Type 0} (unread : I → Unread → Type 0) (s : Stepping I) (m : S
         none_ahead = none_ahead;
       } in (
         at.stop,
-        at.onward,
+        (at.onward, at.stands),
         goes.0 ∙ ap (λ (y : Bool × StepState). y.0) (sym is),
         subst (λ (y : Bool × StepState). StandsIn unread new y.1) (sym is) stands,
       )
@@ -240,7 +241,7 @@ pub restarts_behind : {I : Type 0} (unread : I → Unread → Type 0) (s : Stepp
     → read_boundary h n.queue ≡ read_boundary h (front_items r.front ++ s.scanner.queue)
     → Restarts unread (behind_fault_at h n) new.scanner starts)
     → new.parser ≡ record (parser_start r.last_end) { count = r.count; kept = s.parser.kept } → new.first ≡ None
-    → new.failed ≡ false → new.ahead ≡ None → RestartsIn unread starts new m
+    → new.failed ≡ false → new.ahead ≡ None → RestartsIn unread s.scanner.cursor starts new m
 restarts_behind unread s m e refused r is o turned found new starts goes parser first going none_ahead =
     let at = stops unread s m e refused found in
     let same : refused.refusal ≡ r = same_refusal refused.refusal r (sym refused.is_kept ∙ is) in

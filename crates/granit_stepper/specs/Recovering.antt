@@ -1,6 +1,7 @@
 -- Where a stepper goes on behind a refusal, and what is dropped and looked at.
 use Rattle.std.specs.Prelude.{◌≡◌, ◌⊎◌, ℕ, Bool, true, false, List, [], Option, Some, None, Result, Ok}
 use Rattle.granit_base.specs.Place.{Unread}
+use Rattle.granit_cursor.specs.Reading.{Reading, Stands}
 use Rattle.granit_error.specs.FaultKind.{NoMemory}
 use Rattle.granit_error.specs.OptionsData.{OptionsData}
 use Rattle.granit_error.specs.Refused.{Refused}
@@ -42,11 +43,15 @@ DropsTo (AtStreamEnd left) found es = (found ≡ true) × (es ≡ left)
 
 -- ---- where reading goes on
 
--- It goes on at the next boundary behind where the cursor stood, onward of where the machine reads; whether a `---`
--- comes next is told.
-abbrev pub RestartsIn : {I : Type 0} → (I → Unread → Type 0) → Bool → Stepping I → StepState → Type 0
-RestartsIn unread starts s m =
-    (stop : Here) × Onward m.reading.reader.here stop × (starts ≡ (behind_fault stop m).0)
+-- the place where a cursor stands, onward of where the machine reads
+abbrev pub StopsAt : {I : Type 0} → (I → Unread → Type 0) → Reading I → StepState → Here → Type 0
+StopsAt unread cursor m stop = Onward m.reading.reader.here stop × Stands unread cursor stop
+
+-- It goes on at the next boundary behind where the cursor stood; whether a `---` comes next is told.
+abbrev pub RestartsIn : {I : Type 0} → (I → Unread → Type 0) → (cursor : Reading I) → Bool → Stepping I → StepState
+    → Type 0
+RestartsIn unread cursor starts s m =
+    (stop : Here) × StopsAt unread cursor m stop × (starts ≡ (behind_fault stop m).0)
     × StandsIn unread s (behind_fault stop m).1
 
 -- ---- what is dropped
@@ -78,29 +83,32 @@ StopsBehind (Ended n) stop = Unit {0}
 StopsBehind (Failed e n) stop = Onward n.reading.reader.here stop
 
 -- the document behind directives that were refused is dropped as the machine does, by where a refused read stopped,
--- unless an anchor of it got the greatest number
+-- unless an anchor of it got the greatest number, wherever the cursor then stood
 abbrev pub SkipsHeader : {I : Type 0} → (I → Unread → Type 0) → OptionsData → Stepping I → StepState → Type 0
-SkipsHeader unread o s m =
+SkipsHeader {I = I} unread o s m =
     ((stop : Here) × StopsBehind (skip o m) stop × StandsAhead unread s (restarted stop (skip o m)))
     ⊎ ((n : StepState) × (e : Refused) × DropsOn o m n × RefusesNumber s.renumbered o n e
-    × ((starts : Bool) × RestartsIn unread starts s n))
+    × ((cursor : Reading I) × (starts : Bool) × RestartsIn unread cursor starts s n))
 
--- where it goes on behind a refusal: as the machine does, by where refused reads stopped, unless an anchor of the
--- document that is dropped got the greatest number
-abbrev pub SkipsFault : {I : Type 0} → (I → Unread → Type 0) → OptionsData → Refused → Stepping I → StepState → Type 0
-SkipsFault unread o e s m =
-    ((stops : Stops) × Onward m.reading.reader.here stops.first
+-- Where it goes on behind a refusal: as the machine does, by where refused reads stopped, unless an anchor of the
+-- document that is dropped got the greatest number. The first of them stopped where the cursor stood.
+abbrev pub SkipsFault : {I : Type 0} → (I → Unread → Type 0) → OptionsData → (cursor : Reading I) → Refused
+    → Stepping I → StepState → Type 0
+SkipsFault {I = I} unread o cursor e s m =
+    ((stops : Stops) × StopsAt unread cursor m stops.first
     × StopsBehind (skip o (behind_fault stops.first m).1) stops.second
     × StandsAhead unread s (skipped_fault o stops e m))
-    ⊎ ((stop : Here) × (n : StepState) × (f : Refused) × DropsOn o (behind_fault stop m).1 n
-    × RefusesNumber s.renumbered o n f × ((starts : Bool) × RestartsIn unread starts s n))
+    ⊎ ((stop : Here) × StopsAt unread cursor m stop × (n : StepState) × (f : Refused)
+    × DropsOn o (behind_fault stop m).1 n × RefusesNumber s.renumbered o n f
+    × ((later : Reading I) × (starts : Bool) × RestartsIn unread later starts s n))
 
--- the same of a document, or of what is left of the open one
+-- the same of a document, or of what is left of the open one, wherever the cursor stood when that was refused
 abbrev pub SkipsDocument : {I : Type 0} → (I → Unread → Type 0) → OptionsData → Stepping I → StepState → Type 0
-SkipsDocument unread o s m =
+SkipsDocument {I = I} unread o s m =
     ((n : StepState) × (skip o m ≡ Ended n) × StandsAhead unread s n)
     ⊎ ((n : StepState) × (e : Refused) × DropsOn o m n
-    × ((skip o m ≡ Failed e n) ⊎ RefusesNumber s.renumbered o n e) × SkipsFault unread o e s n)
+    × ((skip o m ≡ Failed e n) ⊎ RefusesNumber s.renumbered o n e)
+    × ((cursor : Reading I) × SkipsFault unread o cursor e s n))
 
 -- ---- what is looked at
 

@@ -76,7 +76,8 @@ impl<'input, T: BorrowedInput<'input>> Stepper<'input, T> {
     pub fn skip_fault(&mut self, alloc: Global) -> Result<(), ScanError>
         ensures known { (m : StepState) (e : Refused) → RefusedIn T.unread self.old m e
             → Turned self.old.scanner.options m
-            → OnOk result (SkipsFault T.unread self.old.scanner.options e self.new m) }
+            → OnOk result
+            (SkipsFault T.unread self.old.scanner.options self.old.scanner.cursor e self.new m) }
         ensures memory { IfErr result (λ e. e.kind ≡ faults.NoMemory) }
         ensures first { IfOk result (λ x. self.new.first ≡ None) }
         ensures options { self.new.scanner.options ≡ self.old.scanner.options }
@@ -251,7 +252,8 @@ impl<'input, T: BorrowedInput<'input>> Stepper<'input, T> {
     /// Goes on at the next boundary; whether a `---` comes next.
     fn restart(&mut self, alloc: Global) -> Result<bool, ScanError>
         ensures known { (m : StepState) (e : Refused) → RefusedIn T.unread self.old m e
-            → Turned self.old.scanner.options m → IfOk result (λ starts. RestartsIn T.unread starts self.new m) }
+            → Turned self.old.scanner.options m
+            → IfOk result (λ starts. RestartsIn T.unread self.old.scanner.cursor starts self.new m) }
         ensures memory { IfErr result (λ e. e.kind ≡ faults.NoMemory) }
         ensures first { IfOk result (λ x. self.new.first ≡ None) }
         ensures options { self.new.scanner.options ≡ self.old.scanner.options }
@@ -267,7 +269,8 @@ impl<'input, T: BorrowedInput<'input>> Stepper<'input, T> {
     fn restart_behind(&mut self, alloc: Global, refusal: Refusal<'input>) -> Result<bool, ScanError>
         ensures known { (m : StepState) (e : Refused)
             → RefusedIn T.unread (record self.old { refusal = Some refusal.entry }) m e
-            → Turned self.old.scanner.options m → IfOk result (λ starts. RestartsIn T.unread starts self.new m) }
+            → Turned self.old.scanner.options m
+            → IfOk result (λ starts. RestartsIn T.unread self.old.scanner.cursor starts self.new m) }
         ensures memory { IfErr result (λ e. e.kind ≡ faults.NoMemory) }
         ensures first { IfOk result (λ x. self.new.first ≡ None) }
         ensures options { self.new.scanner.options ≡ self.old.scanner.options }

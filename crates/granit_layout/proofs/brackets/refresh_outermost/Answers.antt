@@ -7,9 +7,9 @@ use Rattle.granit_machine.specs.PossibleKeys.{fresh_bracket, fresh_key}
 use Rattle.granit_layout.proofs.RisingLemmas.{none_left, passed, outermost_stays, outermost_goes}
 use Rattle.granit_layout.proofs.brackets.refresh_outermost.Goals as goal
 
-pub returns-then-is_some-clause-fresh : goal.returns-then-is_some-clause-fresh
-returns-then-is_some-clause-fresh c =
-    sym (outermost_stays (options_of c.args.options.now) c.args.mark c.brackets.order c.brackets.brackets.items
+pub returns-then-is_fresh-clause-fresh : goal.returns-then-is_fresh-clause-fresh
+returns-then-is_fresh-clause-fresh c =
+    sym (outermost_stays (options_of c.args.options.now) c.args.mark.now c.brackets.order c.brackets.brackets.items
     c.index.result.now c.brackets.invariant.rising c.brackets.invariant.rises (search rules) (search rules)
     (search rules)) ∙ c.brackets.invariant.told
 
@@ -23,11 +23,11 @@ brackets-preserved c =
     ∙ get_or_default c.brackets.brackets.items c.brackets.order.first c.index.result.now there within
     ∙ sym c.index_mut.ensures.value in
     record {
-      told = map-set_same (fresh_bracket o c.args.mark) c.brackets.brackets.items c.brackets.order.first
+      told = map-set_same (fresh_bracket o c.args.mark.now) c.brackets.brackets.items c.brackets.order.first
           (record there { key = None }) there
-          (outermost_goes o c.args.mark c.brackets.brackets.items c.brackets.order.first there there within
+          (outermost_goes o c.args.mark.now c.brackets.brackets.items c.brackets.order.first there there within
           c.index_mut.ensures.value
-          (subst (λ (b : OpenBracket). is_some (fresh_key o true c.args.mark b.key) ≡ false) same (search rules)))
+          (subst (λ (b : OpenBracket). is_some (fresh_key o true c.args.mark.now b.key) ≡ false) same (search rules)))
           ∙ c.brackets.invariant.told;
       rising = passed c.brackets.order c.brackets.brackets.items there c.index_mut.ensures.value within
           c.brackets.invariant.rising;
@@ -36,5 +36,5 @@ brackets-preserved c =
 
 pub returns-clause-fresh : goal.returns-clause-fresh
 returns-clause-fresh c =
-    sym (none_left (options_of c.args.options.now) c.args.mark c.brackets.order c.brackets.brackets.items
+    sym (none_left (options_of c.args.options.now) c.args.mark.now c.brackets.order c.brackets.brackets.items
     c.brackets.invariant.rising (search rules)) ∙ c.brackets.invariant.told

@@ -1,6 +1,7 @@
-use Rattle.std.proofs.Common.{◌≡◌}
+use Rattle.std.proofs.Common.{◌≡◌, ◌<◌, true}
 use Rattle.granit_lexemes.specs.Here.{Here}
-use Rattle.granit_lex.specs.PlainCode.{plain_whole}
+use Rattle.granit_lex.specs.PlainCode.{plain_state, plain_whole}
+use Rattle.granit_lex.specs.WithoutMemory.{OnlyBlanks}
 use Rattle.granit_cursor.specs.Reading.{Stands, Moves}
 use Rattle.granit_cursor.specs.Tokens.{layout_data}
 use Rattle.granit_lex.proofs.plain.plain_parts.Given as goal
@@ -10,6 +11,9 @@ invariant-turns g l = record {
   told : (h : Here) → Stands g.T.Input.unread l.fn.cursor h
       → (now : Here) × Stands g.T.Input.unread l.cursor now
       × (plain_whole (layout_data l.at) l.start l.parts now ≡ plain_whole (layout_data l.at) l.start l.fn.parts h);
+  blanks : (h : Here) → Stands g.T.Input.unread l.fn.cursor h
+      → OnlyBlanks (layout_data l.at) l.start (plain_state l.fn.parts h)
+      → (l.parts.on_new_line ≡ true) × (l.start.place.line < l.cursor.place.line);
   moves : Moves g.T.Input.unread g.T.Input.left g.T.Input.origin l.fn.cursor l.cursor;
 }
 

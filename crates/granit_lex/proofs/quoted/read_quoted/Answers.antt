@@ -1,9 +1,11 @@
+use Rattle.std.proofs.Common.{◌∙◌}
 use Rattle.std.proofs.lemmas.Str.{chars-nil}
 use Rattle.granit_lexemes.specs.Here.{step}
 use Rattle.granit_lexemes.specs.Moves.{steps}
 use Rattle.granit_scalars.proofs.Comments.{steps_text}
 use Rattle.granit_cursor.specs.Tokens.{layout_data}
 use Rattle.granit_lex.proofs.KeptLemmas.{passed_is, copied_is}
+use Rattle.granit_lex.proofs.MemoryLemmas.{closing_next, quoted_lent, steps_lends}
 use Rattle.granit_lex.proofs.quoted.read_quoted.Goals as goal
 
 pub returns-in-Ok-Some-clause-here : goal.returns-in-Ok-Some-clause-here
@@ -25,3 +27,17 @@ returns-in-Ok-None-clause-here g c = λ h k.
 
 pub returns-in-Err-clause-here : goal.returns-in-Err-clause-here
 returns-in-Err-clause-here g c = λ h k. absurd (c.in-Err.ensures.here (step h) (c.step.ensures.here h k))
+
+pub returns-in-Ok-Some-clause-memory : goal.returns-in-Ok-Some-clause-memory
+returns-in-Ok-Some-clause-memory g c = λ h k none.
+    let passed = rw c.in-Ok-Some.field-0-is at (c.in-Ok-Some.ensures.here (step h)
+    (c.step.ensures.here h k)) in
+    let n = passed.0 in
+    c.read_passed.ensures.memory (steps n (step h)) passed.2
+    (steps_lends n (step h) ∙ quoted_lent c.args.single h none) (closing_next c.args.single h n none passed.1)
+
+pub returns-in-Ok-None-clause-memory : goal.returns-in-Ok-None-clause-memory
+returns-in-Ok-None-clause-memory g c = λ h k none. absurd (
+    let passed = rw c.in-Ok-None.field-0-is at (c.in-Ok-None.ensures.here (step h)
+    (c.step.ensures.here h k)) in
+    let lends = quoted_lent c.args.single h none in cc)

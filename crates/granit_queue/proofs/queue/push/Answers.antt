@@ -7,8 +7,8 @@ use Rattle.granit_queue.specs.declared.rising.Numbers.{Numbers}
 use Rattle.granit_queue.proofs.RisingLemmas.{flagged, noted, pushed}
 use Rattle.granit_queue.proofs.queue.push.Goals as goal
 
-pub returns-in_err-push_back-clause-rising : goal.returns-in_err-push_back-clause-rising
-returns-in_err-push_back-clause-rising c =
+pub returns-in_err-reserve-clause-rising : goal.returns-in_err-reserve-clause-rising
+returns-in_err-reserve-clause-rising c =
     let item = item_view c.args.queued.item in
     let marked = subst (Rising c.args.numbers.now) (sym c.mark_by.ensures)
     (flagged c.args.numbers.now item (queue_view c.args.items.now.items) c.requires.rising) in

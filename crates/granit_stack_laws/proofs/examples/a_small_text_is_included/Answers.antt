@@ -1,9 +1,11 @@
-use Rattle.std.proofs.Common.{refl}
-use Rattle.granit_replay.specs.declared.resolver.Included.TheVariants.{Borrowed}
-use Rattle.granit_stack_laws.proofs.ExampleLemmas.{small_read}
-use Rattle.granit_stack_laws.specs.Examples.{small_replay}
+use Rattle.granit_stack_laws.proofs.ExampleLemmas.{small_included}
 use Rattle.granit_stack_laws.proofs.examples.a_small_text_is_included.Goals as goal
 
 pub returns : goal.returns
-returns g c = λ name text r q is answers same.
-    (Borrowed text, (q, refl, answers, same, tt), (small_replay 2, small_read text is, (_, refl, refl)))
+returns g c =
+    let a = g.A.StackedParser in
+    let b = g.B.StackedParser in
+    let d = g.C.StackedParser in
+    small_included a.steps b.steps d.steps a.offset_of b.offset_of d.offset_of a.sets_offset b.sets_offset d.sets_offset
+    a.offset_over b.offset_over d.offset_over (λ p. Unit {0}) (λ p. Unit {0}) (λ p. Unit {0}) g.R.Resolver.answers
+    g.R.Resolver.errors

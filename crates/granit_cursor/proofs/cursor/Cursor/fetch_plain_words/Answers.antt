@@ -21,7 +21,7 @@ returns-clause-here g c = λ h k.
       (
         whole,
         lands_joined g.T.Input.unread test n _ _ h (plain_joins c.args.in_flow) nul whole
-            stood taken.1 refl c.still_begins-self-inside.ensures c.still_tab-self-inside.ensures,
+            stood taken.1 refl c.still_begins-self-inside.ensures c.drop_tab.ensures,
       ),
       taken.2,
     )

@@ -12,7 +12,7 @@ returns-clause-here g c = λ h k.
       (
         taken.0,
         lands g.T.Input.unread (starts is_alpha) c.in_ok-taken.taken _ _ h alpha_shows (le_of_eq taken.0) stood
-            taken.1 refl c.still_begins-self-inside.ensures c.still_tab-self-inside.ensures,
+            taken.1 refl c.still_begins-self-inside.ensures c.drop_tab.ensures,
       ),
       taken.2,
     )

@@ -11,7 +11,7 @@ returns-clause-here g c = λ h k.
       taken.0,
       lands g.T.Input.unread (is_content c.args.flow_level_gt_0) c.skip_plain_scalar_chunk-ended.result.1 _ _ h
           (plain_shows c.args.flow_level_gt_0) taken.0.fits stood taken.1 refl c.still_begins-self-inside.ensures
-          c.still_tab-self-inside.ensures,
+          c.drop_tab.ensures,
     )
 
 pub returns-clause-moves : goal.returns-clause-moves

@@ -14,7 +14,7 @@ returns-clause-here g c = λ h k.
           (2 ^ 64 - 1) c.skip_run-taken.result.0 (omega (arith, c.skip_run-taken.ensures.moves.0))
           (g.met.T.Input.short c.self.inside.input) (omega arith) c.skip_run-taken.ensures.few taken.0,
       lands g.T.Input.unread (starts (is_quoted_char c.args.single)) n _ _ h (quoted_shows c.args.single)
-          taken.0.fits stood taken.1 refl c.still_begins-self-inside.ensures c.still_tab-self-inside.ensures,
+          taken.0.fits stood taken.1 refl c.still_begins-self-inside.ensures c.drop_tab.ensures,
     )
 
 pub returns-clause-moves : goal.returns-clause-moves

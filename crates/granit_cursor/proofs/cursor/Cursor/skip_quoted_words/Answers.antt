@@ -20,7 +20,7 @@ returns-clause-here g c = λ h k.
     (g.met.T.Input.short c.self.inside.input) (omega arith) c.skip_run-taken.ensures.few taken.0 in (
       whole,
       lands_joined g.T.Input.unread test n _ _ h (quoted_joins c.args.single) nul whole
-          stood taken.1 refl c.still_begins-self-inside.ensures c.still_tab-self-inside.ensures,
+          stood taken.1 refl c.still_begins-self-inside.ensures c.drop_tab.ensures,
     )
 
 pub returns-clause-moves : goal.returns-clause-moves

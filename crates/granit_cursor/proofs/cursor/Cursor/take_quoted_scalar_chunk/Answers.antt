@@ -42,7 +42,7 @@ returns-in-Some-source_since g c =
                     c.in-Some-source_since.is lent.1;
                 lands = lands g.T.Input.unread (starts (is_quoted_char c.args.single)) n _ _ h
                     (quoted_shows c.args.single) taken.0.fits stood taken.1 refl c.still_begins-self-inside.ensures
-                    c.still_tab-self-inside.ensures;
+                    c.drop_tab.ensures;
               },
           (
             rw same (omega (arith, c.skip_run-taken.ensures.moves.0)),
@@ -57,7 +57,7 @@ returns-in-Some-source_since g c =
                 let taken = c.skip_run-taken.ensures.skips h.unread stood.0 in
                 lands g.T.Input.unread (starts (is_quoted_char c.args.single)) n _ _ h
                 (quoted_shows c.args.single) taken.0.fits stood taken.1 refl c.still_begins-self-inside.ensures
-                c.still_tab-self-inside.ensures),
+                c.drop_tab.ensures),
           ),
         ),
       ),
@@ -100,7 +100,7 @@ returns-in-None-source_since g c =
                 let taken = c.skip_run-taken.ensures.skips h.unread stood.0 in
                 lands g.T.Input.unread (starts (is_quoted_char c.args.single)) n _ _ h
                 (quoted_shows c.args.single) taken.0.fits stood taken.1 refl c.still_begins-self-inside.ensures
-                c.still_tab-self-inside.ensures),
+                c.drop_tab.ensures),
           ),
         ),
       ),

@@ -1,4 +1,5 @@
-use Rattle.std.proofs.Common.{◌≡◌, ◌∙◌, Some, true, false, Result, Ok, Err, subst, sym}
+use Rattle.std.proofs.Common.{◌≡◌, ◌∙◌, Some, true, false, Result, Ok, Err, subst, sym, arith}
+use Rattle.granit_base.specs.Counts.{last_count}
 use Rattle.granit_base.specs.declared.place.Span.{Span}
 use Rattle.granit_error.specs.Refused.{Refused}
 use Rattle.granit_event.specs.declared.event.Event.{Event}
@@ -25,7 +26,7 @@ returns-in-None-clause-sent g c =
     let s = g.S.StackedParser in
     let old : Told = (record { events = r.taken c.args.recv.now; places = r.spans c.args.recv.now }) in
     let mid : Told = (record { events = r.taken c.events.recv; places = r.spans c.events.recv }) in
-    λ going. sent_all s.steps s.offset_of s.sets_offset c.args.multi c.args.self.now c.events.self
+    λ going. sent_all s.steps s.offset_of s.sets_offset c.args.multi c.events._count c.args.self.now c.events.self
     c.next_event.new.self old mid c.events.invariant
     c.in-None.ensures
 
@@ -39,7 +40,7 @@ returns-in-Some-Err-clause-sent g c =
     c.next_event.new.self =
     subst (λ (x : Result (Event × Span) Refused). StepsTo s.steps s.offset_of s.sets_offset c.events.self (Some x)
     c.next_event.new.self) c.in-Some-Err.field-0-is c.in-Some-Err.ensures in
-    λ going. sent_before s.steps s.offset_of s.sets_offset c.args.multi c.args.self.now c.events.self
+    λ going. sent_before s.steps s.offset_of s.sets_offset c.args.multi c.events._count c.args.self.now c.events.self
     c.next_event.new.self old mid c.events.invariant
     c.in-Some-Err.error step
 
@@ -55,7 +56,7 @@ returns-then-last-clause-sent g c =
     subst (λ (x : Result (Event × Span) Refused). StepsTo s.steps s.offset_of s.sets_offset c.events.self (Some x)
     c.next_event.new.self) c.in-Some-Ok.field-0-is c.in-Some-Ok.ensures in
     let last : ends_with c.args.multi e ≡ true = sym c.is_last-last.ensures ∙ c.if-last.true in
-    λ going. sent_last s.steps s.offset_of s.sets_offset c.args.multi c.args.self.now c.events.self
+    λ going. sent_last s.steps s.offset_of s.sets_offset c.args.multi c.events._count c.args.self.now c.events.self
     c.next_event.new.self old mid c.events.invariant new
     e step last (took_one mid new e c.on_event.ensures.events c.on_event.ensures.places)
 
@@ -71,8 +72,9 @@ events-preserved g c =
     subst (λ (x : Result (Event × Span) Refused). StepsTo s.steps s.offset_of s.sets_offset c.events.self (Some x)
     c.next_event.new.self) c.in-Some-Ok.field-0-is c.in-Some-Ok.ensures in
     let more : ends_with c.args.multi e ≡ false = sym c.is_last-last.ensures ∙ c.if-last.false in
-    sent_event s.steps s.offset_of s.sets_offset c.args.multi c.args.self.now c.events.self c.next_event.new.self old
-    mid c.events.invariant new
+    sent_event s.steps s.offset_of s.sets_offset c.args.multi c.events._count c.args.self.now c.events.self
+    c.next_event.new.self
+    old mid c.events.invariant new
     e step more (took_one mid new e c.on_event.ensures.events c.on_event.ensures.places)
 
 pub returns-clause-sent : goal.returns-clause-sent
@@ -81,6 +83,9 @@ returns-clause-sent g c =
     let s = g.S.StackedParser in
     let old : Told = (record { events = r.taken c.args.recv.now; places = r.spans c.args.recv.now }) in
     let mid : Told = (record { events = r.taken c.events.recv; places = r.spans c.events.recv }) in
-    λ going. sent_no_more s.steps s.offset_of s.sets_offset c.args.multi c.args.self.now c.events.self
+    let least = c.events-test.false in
+    let most = c.events.auto._count-end in
+    let all : c.events._count ≡ last_count = omega arith in
+    λ going. sent_no_more s.steps s.offset_of s.sets_offset c.args.multi c.events._count c.args.self.now c.events.self
     c.run_out.new.self old mid c.events.invariant
-    c.run_out.result c.run_out.ensures
+    c.run_out.result c.run_out.ensures all

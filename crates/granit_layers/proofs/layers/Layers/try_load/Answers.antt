@@ -1,4 +1,5 @@
-use Rattle.std.proofs.Common.{◌≡◌, ◌∙◌, Some, true, false, Result, Ok, Err, refl, subst, sym}
+use Rattle.std.proofs.Common.{◌≡◌, ◌∙◌, Some, true, false, Result, Ok, Err, refl, subst, sym, arith}
+use Rattle.granit_base.specs.Counts.{last_count}
 use Rattle.granit_base.specs.declared.place.Span.{Span}
 use Rattle.granit_error.specs.Refused.{Refused}
 use Rattle.granit_event.specs.declared.event.Event.{Event}
@@ -29,7 +30,7 @@ returns-in-None-clause-sent g c =
     let s = g.S.StackedParser in
     let old : Told = (record { events = r.taken c.args.recv.now; places = r.spans c.args.recv.now }) in
     let mid : Told = (record { events = r.taken c.events.recv; places = r.spans c.events.recv }) in
-    λ going. sent_all s.steps s.offset_of s.sets_offset c.args.multi c.args.self.now c.events.self
+    λ going. sent_all s.steps s.offset_of s.sets_offset c.args.multi c.events._count c.args.self.now c.events.self
     c.next_event.new.self old mid c.events.invariant.sent
     c.in-None.ensures
 
@@ -43,7 +44,7 @@ returns-in-Some-Err-clause-sent g c =
     c.next_event.new.self =
     subst (λ (x : Result (Event × Span) Refused). StepsTo s.steps s.offset_of s.sets_offset c.events.self (Some x)
     c.next_event.new.self) c.in-Some-Err.field-0-is c.in-Some-Err.ensures in
-    λ going. sent_before s.steps s.offset_of s.sets_offset c.args.multi c.args.self.now c.events.self
+    λ going. sent_before s.steps s.offset_of s.sets_offset c.args.multi c.events._count c.args.self.now c.events.self
     c.next_event.new.self old mid c.events.invariant.sent
     c.in-Some-Err.error step
 
@@ -58,7 +59,7 @@ returns-in-Err-clause-sent g c =
     let step : StepsTo s.steps s.offset_of s.sets_offset c.events.self (Some (Ok e)) c.next_event.new.self =
     subst (λ (x : Result (Event × Span) Refused). StepsTo s.steps s.offset_of s.sets_offset c.events.self (Some x)
     c.next_event.new.self) c.in-Some-Ok.field-0-is c.in-Some-Ok.ensures in
-    λ going. sent_up_to s.steps s.offset_of s.sets_offset c.args.multi c.args.self.now c.events.self
+    λ going. sent_up_to s.steps s.offset_of s.sets_offset c.args.multi c.events._count c.args.self.now c.events.self
     c.next_event.new.self old mid c.events.invariant.sent new
     e step (took_one mid new e c.in-Err.ensures.events c.in-Err.ensures.places)
 
@@ -74,7 +75,7 @@ returns-then-last-clause-sent g c =
     subst (λ (x : Result (Event × Span) Refused). StepsTo s.steps s.offset_of s.sets_offset c.events.self (Some x)
     c.next_event.new.self) c.in-Some-Ok.field-0-is c.in-Some-Ok.ensures in
     let last : ends_with c.args.multi e ≡ true = sym c.is_last-last.ensures ∙ c.if-last.true in
-    λ going. sent_last s.steps s.offset_of s.sets_offset c.args.multi c.args.self.now c.events.self
+    λ going. sent_last s.steps s.offset_of s.sets_offset c.args.multi c.events._count c.args.self.now c.events.self
     c.next_event.new.self old mid c.events.invariant.sent new
     e step last (took_one mid new e c.on_event.ensures.events c.on_event.ensures.places)
 
@@ -91,7 +92,7 @@ events-preserved g c =
     c.next_event.new.self) c.in-Some-Ok.field-0-is c.in-Some-Ok.ensures in
     let more : ends_with c.args.multi e ≡ false = sym c.is_last-last.ensures ∙ c.if-last.false in
     record {
-      sent = sent_event s.steps s.offset_of s.sets_offset c.args.multi c.args.self.now c.events.self
+      sent = sent_event s.steps s.offset_of s.sets_offset c.args.multi c.events._count c.args.self.now c.events.self
           c.next_event.new.self old mid c.events.invariant.sent new
           e step more (took_one mid new e c.on_event.ensures.events c.on_event.ensures.places);
       errors = c.in_default-on_event.ensures.same ∙ c.events.invariant.errors;
@@ -103,6 +104,9 @@ returns-clause-sent g c =
     let s = g.S.StackedParser in
     let old : Told = (record { events = r.taken c.args.recv.now; places = r.spans c.args.recv.now }) in
     let mid : Told = (record { events = r.taken c.events.recv; places = r.spans c.events.recv }) in
-    λ going. sent_no_more s.steps s.offset_of s.sets_offset c.args.multi c.args.self.now c.events.self
+    let least = c.events-test.false in
+    let most = c.events.auto._count-end in
+    let all : c.events._count ≡ last_count = omega arith in
+    λ going. sent_no_more s.steps s.offset_of s.sets_offset c.args.multi c.events._count c.args.self.now c.events.self
     c.run_out.new.self old mid c.events.invariant.sent
-    c.run_out.result c.run_out.ensures
+    c.run_out.result c.run_out.ensures all

@@ -27,6 +27,7 @@ returns-clause-calls g c = λ calls reached opened none at.
       stepper = c.set_keep_tags.new.self;
       peeked = c.parser.inside.peeked;
       given = c.parser.inside.given;
+      starved = c.parser.inside.starved;
       between = c.parser.inside.between;
       over = c.parser.inside.over;
     }) (λ m at. subst (λ (s : Stepping _). StandsIn unread s m) (sym left)
@@ -45,6 +46,7 @@ returns-clause-there g c = λ calls opened unseen stands at.
       stepper = c.set_keep_tags.new.self;
       peeked = c.parser.inside.peeked;
       given = c.parser.inside.given;
+      starved = c.parser.inside.starved;
       between = c.parser.inside.between;
       over = c.parser.inside.over;
     }) (λ m at. subst (λ (s : Stepping _). StandsIn unread s m) (sym left)

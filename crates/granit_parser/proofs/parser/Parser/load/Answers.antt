@@ -5,7 +5,9 @@ use Rattle.granit_error.specs.OptionsData.{OptionsData}
 use Rattle.granit_event.specs.declared.event.Event.{Event}
 use Rattle.granit_event.specs.Events.{plain_event}
 use Rattle.granit_parser.proofs.FirstLemmas.{first_is_last, goes_behind, load_refused, loads_behind, over_nowhere}
+use Rattle.granit_parser.proofs.LedLemmas.{first_led, leaves_behind, load_failed, over_closed}
 use Rattle.granit_parser.proofs.MetLemmas.{load_tells, over_tells, rest_tells}
+use Rattle.granit_parser.proofs.WantLemmas.{given_nothing, load_wants, wants_behind, was_fed}
 use Rattle.granit_parser.proofs.parser.Parser.load.Goals as goal
 use Rattle.granit_parser.specs.Receiving.{IsPlaceOf, LoadsRest}
 use Rattle.granit_receivers.specs.Sending.{is_last}
@@ -77,3 +79,75 @@ returns-clause-source g c =
     (c.in_ok-event.event, c.in_ok-event.span) c.first_event.new.self (Some c.load_rest.result)
     c.load_rest.new.self.stepper.scanner.cursor c.in_ok-event.ensures.source c.in_ok-event.ensures.moves
     c.in_ok-event.ensures.peeked c.load_rest.ensures.source
+
+pub returns-in-Some-clause-calls : goal.returns-in-Some-clause-calls
+returns-in-Some-clause-calls g c = λ calls reached is at.
+    absurd (over_closed g.T.Input.unread c.args.self.now calls c.in-Some.ensures.over is at)
+
+pub returns-in_err-event-clause-calls : goal.returns-in_err-event-clause-calls
+returns-in_err-event-clause-calls g c = λ calls reached is at.
+    let r = g.R.SpannedEventReceiver in
+    let told : Told = record { events = r.taken c.args.recv.now; places = r.spans c.args.recv.now } in
+    load_failed g.T.Input.unread g.T.Input.origin c.args.self.now.stepper.scanner.options calls c.first_event.new.self
+    c.in_err-event.ensures.options c.args.multi told c.in_err-event.field-0.0
+    (c.in_err-event.ensures.calls calls reached is at) c.from_residual.result c.from_residual.ensures.1
+
+pub returns-then-last-clause-calls : goal.returns-then-last-clause-calls
+returns-then-last-clause-calls g c = λ calls reached is at.
+    let r = g.R.SpannedEventReceiver in
+    let x : Event × Span = (c.in_ok-event.event, c.in_ok-event.span) in
+    let old : Told = record { events = r.taken c.args.recv.now; places = r.spans c.args.recv.now } in
+    let new : Told = record { events = r.taken c.on_event.new.self; places = r.spans c.on_event.new.self } in
+    let last : is_last c.args.multi (plain_event x).kind ≡ true = sym c.is_last-last.ensures ∙ c.if-last.true in
+    first_led g.T.Input.unread g.T.Input.origin c.args.self.now.stepper.scanner.options calls c.first_event.new.self
+    c.in_ok-event.ensures.options c.args.multi true old new x (λ e. last)
+    (c.in_ok-event.ensures.calls calls reached is at)
+    (took_one old new x c.on_event.ensures.events c.on_event.ensures.places)
+
+pub returns-clause-calls : goal.returns-clause-calls
+returns-clause-calls g c = λ calls reached is at.
+    let r = g.R.SpannedEventReceiver in
+    let x : Event × Span = (c.in_ok-event.event, c.in_ok-event.span) in
+    let old : Told = record { events = r.taken c.args.recv.now; places = r.spans c.args.recv.now } in
+    let mid : Told = record { events = r.taken c.on_event.new.self; places = r.spans c.on_event.new.self } in
+    let new : Told = record { events = r.taken c.load_rest.new.recv; places = r.spans c.load_rest.new.recv } in
+    let more : is_last c.args.multi (plain_event x).kind ≡ false = sym c.is_last-last.ensures ∙ c.if-last.false in
+    leaves_behind g.T.Input.unread g.T.Input.origin c.args.self.now.stepper.scanner.options calls
+    c.first_event.new.self c.in_ok-event.ensures.options c.args.multi old mid new x more
+    (took_one old mid x c.on_event.ensures.events c.on_event.ensures.places) c.load_rest.new.self
+    (Some c.load_rest.result) (c.in_ok-event.ensures.calls calls reached is at) reached is
+    c.load_rest.ensures.calls
+
+pub returns-in-Some-clause-memory : goal.returns-in-Some-clause-memory
+returns-in-Some-clause-memory g c = λ none.
+    absurd (given_nothing c.args.self.now.given c.in-Some.error c.in-Some.ensures.again none)
+
+pub returns-in_err-event-clause-memory : goal.returns-in_err-event-clause-memory
+returns-in_err-event-clause-memory g c =
+    let r = g.R.SpannedEventReceiver in
+    let told : Told = record { events = r.taken c.args.recv.now; places = r.spans c.args.recv.now } in
+    λ none. (
+      was_fed c.args.self.now.given c.args.self.now.starved c.given_again.ensures.starved none,
+      load_wants c.in_err-event.field-0.0 c.first_event.new.self.starved (Took told told)
+          c.in_err-event.ensures.memory c.from_residual.result c.from_residual.ensures.1,
+    )
+
+pub returns-clause-memory : goal.returns-clause-memory
+returns-clause-memory g c =
+    let r = g.R.SpannedEventReceiver in
+    let x : Event × Span = (c.in_ok-event.event, c.in_ok-event.span) in
+    let old : Told = record { events = r.taken c.args.recv.now; places = r.spans c.args.recv.now } in
+    let mid : Told = record { events = r.taken c.on_event.new.self; places = r.spans c.on_event.new.self } in
+    let new : Told = record { events = r.taken c.load_rest.new.recv; places = r.spans c.load_rest.new.recv } in
+    λ none. (
+      was_fed c.args.self.now.given c.args.self.now.starved c.given_again.ensures.starved none,
+      wants_behind c.load_rest.new.self.starved old mid new x
+          (took_one old mid x c.on_event.ensures.events c.on_event.ensures.places) (Some c.load_rest.result)
+          c.load_rest.ensures.memory,
+    )
+
+pub returns-then-last-clause-memory : goal.returns-then-last-clause-memory
+returns-then-last-clause-memory g c = λ none. (
+  was_fed c.args.self.now.given c.args.self.now.starved c.given_again.ensures.starved none,
+  tt,
+)

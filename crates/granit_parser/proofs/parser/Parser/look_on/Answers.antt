@@ -25,4 +25,5 @@ returns-then-is_none-clause-calls g c =
     (record (t.new.self) { peeked = t.result }) t.result none refl t.ensures.between t.ensures.going
     (λ failed. let x = t.ensures.over failed in
     ap (λ (q : Parsing _). record q { peeked = t.result }) x.1
-    ∙ ap (λ (w : Next). record p { peeked = w }) (x.0 ∙ sym none)) t.ensures.calls t.ensures.lost)
+    ∙ ap (λ (w : Next). record p { peeked = w }) (x.0 ∙ sym none)) t.ensures.calls t.ensures.lost
+    t.ensures.options (c.an_open_call_gives_something.ensures p.stepper.scanner.options))

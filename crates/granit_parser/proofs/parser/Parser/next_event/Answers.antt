@@ -1,6 +1,7 @@
 use Rattle.std.proofs.Common.{◌≡◌, inl, inr, ap, subst, sym, ◌∙◌}
 use Rattle.granit_parser.proofs.AloneLemmas.{ends_alone}
-use Rattle.granit_parser.proofs.InLemmas.{call_gives, closed_stays, noted_none, open_seen}
+use Rattle.granit_parser.proofs.InLemmas.{call_gives, closed_stays, never_none, noted_none, open_seen}
+use Rattle.granit_parser.proofs.ResumedLemmas.{resumed_reached, resumes}
 use Rattle.granit_parser.proofs.StartLaws.{ends_told}
 use Rattle.granit_parser.proofs.TextLemmas.{ends_text}
 use Rattle.granit_parser.proofs.parser.Parser.next_event.Goals as goal
@@ -44,9 +45,23 @@ returns-clause-calls g c = λ calls reached is at.
           (subst (λ (s : Stepping _). ReadsNext g.T.Input.unread t.result s calls) (sym same) reads)
           (ap (λ (x : Parsing _). x.peeked) c.note.ensures.rest ∙ t.ensures.peeked)
           (c.note.ensures.between ∙ ap (notes_between t.result) t.ensures.between)
-          (c.note.ensures.over ∙ ap (notes_over t.result) t.ensures.going))
+          (c.note.ensures.over ∙ ap (notes_over t.result) t.ensures.going)
+          (never_none q.stepper.scanner.options p.stepper.scanner.options calls
+          (ap (λ (s : Stepping _). s.scanner.options) same ∙ t.ensures.options)
+          (c.an_open_call_gives_something.ensures p.stepper.scanner.options) reached is))
       | inr told ↦ inr (subst (λ (s : Stepping _). TellsSource g.T.Input.origin t.result s.scanner.cursor) (sym same)
           told)
+    ]
+
+pub returns-clause-resumed : goal.returns-clause-resumed
+returns-clause-resumed g c = λ stops failed calls es r is at.
+    let o = c.args.self.now.stepper.scanner.options in
+    let same = ap (λ (x : Parsing _). x.stepper.scanner.options) c.note.ensures.rest
+    ∙ c.take_event-next.ensures.options in
+    elim (returns-clause-calls g c calls (resumed_reached o stops failed calls es r) is at) [
+      | inl given ↦ inl (resumes g.T.Input.unread o stops failed calls es r is c.note.new.self same
+          c.take_event-next.result given)
+      | inr told ↦ inr told
     ]
 
 pub returns-clause-closed : goal.returns-clause-closed
@@ -56,7 +71,7 @@ returns-clause-closed g c = λ calls closed at.
     closed_stays g.T.Input.unread c.args.self.now q calls closed at t.result
     (λ over. let x = t.ensures.over over in
     noted_none c.args.self.now t.new.self q t.result x.0 x.1 c.note.ensures.rest c.note.ensures.between
-    c.note.ensures.over c.note.ensures.given)
+    c.note.ensures.over c.note.ensures.given c.note.ensures.starved)
     (rw c.note.ensures.rest t.ensures.seen)
     (ap (λ (x : Parsing _). x.peeked) c.note.ensures.rest ∙ t.ensures.peeked)
     (c.note.ensures.over ∙ ap (notes_over t.result) t.ensures.going)

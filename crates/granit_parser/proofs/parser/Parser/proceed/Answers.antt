@@ -12,7 +12,7 @@ returns-then-self-clause-known g c = λ calls reached at.
     let p = c.args.self.now in
     let ended : calls.over ≡ true = sym at.over ∙ sym (ap (λ (x : Parsing _). x.over) c.self.view_is)
     ∙ c.if-self.true in
-    inl (over_ends g.T.Input.unread p calls at (c.nothing_changes_behind_the_end.ensures p.stepper.scanner.options
+    inl (over_ends g.T.Input.unread p calls at ended (c.nothing_changes_behind_the_end.ensures p.stepper.scanner.options
     (any_stops calls) (is_some p.peeked) calls (at.ended ended) ended))
 
 pub returns-then-cannot_recover-clause-known : goal.returns-then-cannot_recover-clause-known

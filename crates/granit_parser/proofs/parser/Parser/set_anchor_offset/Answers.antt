@@ -16,6 +16,7 @@ returns-clause-calls g c = λ calls reached opened none at.
       stepper = c.set_anchor_offset.new.self;
       peeked = c.self.inside.peeked;
       given = c.self.inside.given;
+      starved = c.self.inside.starved;
       between = c.self.inside.between;
       over = c.self.inside.over;
     }) (subst (λ (p : Parsing _). (m : StepState) → StandsIn unread p.stepper m
@@ -34,6 +35,7 @@ returns-clause-there g c = λ calls opened unseen stands at.
       stepper = c.set_anchor_offset.new.self;
       peeked = c.self.inside.peeked;
       given = c.self.inside.given;
+      starved = c.self.inside.starved;
       between = c.self.inside.between;
       over = c.self.inside.over;
     }) (subst (λ (p : Parsing _). (m : StepState) → StandsIn unread p.stepper m

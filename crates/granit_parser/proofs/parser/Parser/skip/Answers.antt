@@ -14,6 +14,7 @@ returns-then-has_failed-clause-known g c = λ calls reached at over refusal end.
       stepper = c.skip_fault.new.self;
       peeked = c.self.inside.peeked;
       given = c.self.inside.given;
+      starved = c.self.inside.starved;
       between = c.self.inside.between;
       over = c.self.inside.over;
     })
@@ -50,6 +51,7 @@ returns-clause-known g c = λ calls reached at over refusal end.
       stepper = c.skip_document.new.self;
       peeked = c.self-2.inside.peeked;
       given = c.self-2.inside.given;
+      starved = c.self-2.inside.starved;
       between = c.self-2.inside.between;
       over = c.self-2.inside.over;
     }) c.skip_document.ensures.options (ap (λ (x : Parsing _). x.peeked) same)

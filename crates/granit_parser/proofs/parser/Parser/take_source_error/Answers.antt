@@ -5,8 +5,11 @@ use Rattle.granit_parser.specs.Parsing.{Parsing}
 use Rattle.granit_stepper.specs.Stepping.{StandsIn}
 
 pub invariant_of-self : goal.invariant_of-self
-invariant_of-self g c = behind_on c.self.inside.peeked c.self.inside.given c.self.inside.stepper
-    c.take_source_error.new.self c.take_source_error.result c.take_source_error.ensures.failed c.self.invariant
+invariant_of-self g c = (
+  behind_on c.self.inside.peeked c.self.inside.given c.self.inside.stepper c.take_source_error.new.self
+      c.take_source_error.result c.take_source_error.ensures.failed c.self.invariant.0,
+  c.self.invariant.1,
+)
 
 pub returns-clause-known : goal.returns-clause-known
 returns-clause-known g c = λ m at none. c.take_source_error.ensures.known m

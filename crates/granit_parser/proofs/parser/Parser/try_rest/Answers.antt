@@ -1,23 +1,30 @@
 use Rattle.std.proofs.Common.{◌≡◌, ◌∙◌, Result, Ok, Err, Some, None, ap, true, false, refl, rules, subst, sym}
+use Rattle.std.proofs.Common.{arith, inl, inr}
 use Rattle.granit_base.specs.declared.place.Span.{Span}
 use Rattle.granit_error.specs.Refused.{Refused}
 use Rattle.granit_event.specs.declared.event.Event.{Event}
 use Rattle.granit_event.specs.Events.{plain_event}
+use Rattle.granit_parser.proofs.LedLemmas.{CalledOr, led_event, led_fault, led_last, led_no_more, led_none, led_nowhere}
+use Rattle.granit_parser.proofs.LedLemmas.{unasked}
 use Rattle.granit_parser.proofs.MetLemmas.{met_behind, quiet_first, quiet_on, unmet}
 use Rattle.granit_parser.proofs.SendLemmas.{TookOr, sent_none, sent_event, sent_last, sent_all, sent_fault}
 use Rattle.granit_parser.proofs.SendLemmas.{sent_no_more}
 use Rattle.granit_parser.proofs.SendLemmas.{sent_refused}
 use Rattle.granit_parser.proofs.SourceLemmas.{goes_giving, moves_behind}
+use Rattle.granit_parser.proofs.WantLemmas.{counts_all, counts_more, counts_none, starves_by}
 use Rattle.granit_parser.proofs.parser.Parser.try_rest.Goals as goal
 use Rattle.granit_parser.specs.Parsing.{Keeps}
 use Rattle.granit_receivers.specs.Sending.{is_last}
 use Rattle.granit_receivers.proofs.TakingLemmas.{took_one}
-use Rattle.granit_receivers.specs.Taking.{Told}
+use Rattle.granit_receivers.specs.Taking.{Told, Took}
 
 pub events-init : goal.events-init
 events-init g c = let r = g.R.TrySpannedEventReceiver in record {
   sent = sent_none g.T.Input.unread c.args.self.now c.args.multi
       (record { events = r.taken c.args.recv.now; places = r.spans c.args.recv.now });
+  led = λ calls reached is at. led_nowhere g.T.Input.unread c.args.self.now.stepper.scanner.options c.args.multi calls
+      c.args.self.now (record { events = r.taken c.args.recv.now; places = r.spans c.args.recv.now }) reached is at;
+  counted = counts_none (record { events = r.taken c.args.recv.now; places = r.spans c.args.recv.now });
   same = refl;
   renumbered = refl;
   given = refl;
@@ -83,6 +90,15 @@ events-preserved g c =
           c.next_event.new.self)
           c.in-Some-Ok.field-0-is c.in-Some-Ok.ensures.known)
           more
+          (took_one mid new x c.on_event.ensures.events c.on_event.ensures.places);
+      led = λ calls reached is at.
+          led_event g.T.Input.unread g.T.Input.origin c.args.self.now.stepper.scanner.options calls c.events.self
+          c.next_event.new.self c.args.multi old mid new c.events.invariant.same
+          (c.in-Some-Ok.ensures.options ∙ c.events.invariant.same) (c.events.invariant.led calls reached is at) x
+          (subst (λ (y : Result (Event × Span) Refused). CalledOr g.T.Input.unread g.T.Input.origin c.events.self
+          (Some y) c.next_event.new.self) c.in-Some-Ok.field-0-is c.in-Some-Ok.ensures.calls)
+          more (took_one mid new x c.on_event.ensures.events c.on_event.ensures.places);
+      counted = counts_more c.events._tried old mid new x c.events.invariant.counted
           (took_one mid new x c.on_event.ensures.events c.on_event.ensures.places);
       same = c.in-Some-Ok.ensures.options ∙ c.events.invariant.same;
       renumbered = c.in-Some-Ok.ensures.renumbered ∙ c.events.invariant.renumbered;
@@ -177,3 +193,74 @@ pub returns-clause-source : goal.returns-clause-source
 returns-clause-source g c = λ none f met before fresh.
     absurd (unmet g.T.Input.unread g.T.Input.left g.T.Input.origin c.args.self.now c.events.self c.run_out.new.self
     c.events.invariant.quiet c.events.invariant.moves c.run_out.ensures.same none f met before fresh)
+
+pub returns-in-None-clause-calls : goal.returns-in-None-clause-calls
+returns-in-None-clause-calls g c = λ calls reached is at.
+    let r = g.R.TrySpannedEventReceiver in
+    let old : Told = record { events = r.taken c.args.recv.now; places = r.spans c.args.recv.now } in
+    let mid : Told = record { events = r.taken c.events.recv; places = r.spans c.events.recv } in
+    led_none g.T.Input.unread g.T.Input.origin c.args.self.now.stepper.scanner.options calls c.events.self
+    c.next_event.new.self c.args.multi old mid mid c.events.invariant.same
+    (c.in-None.ensures.options ∙ c.events.invariant.same) (c.events.invariant.led calls reached is at)
+    true c.in-None.ensures.calls
+
+pub returns-in-Some-Err-clause-calls : goal.returns-in-Some-Err-clause-calls
+returns-in-Some-Err-clause-calls g c = λ calls reached is at.
+    let r = g.R.TrySpannedEventReceiver in
+    let old : Told = record { events = r.taken c.args.recv.now; places = r.spans c.args.recv.now } in
+    let mid : Told = record { events = r.taken c.events.recv; places = r.spans c.events.recv } in
+    led_fault g.T.Input.unread g.T.Input.origin c.args.self.now.stepper.scanner.options calls c.events.self
+    c.next_event.new.self c.args.multi old mid mid c.events.invariant.same
+    (c.in-Some-Err.ensures.options ∙ c.events.invariant.same) (c.events.invariant.led calls reached is at)
+    c.in-Some-Err.error
+    (subst (λ (y : Result (Event × Span) Refused). CalledOr g.T.Input.unread g.T.Input.origin c.events.self (Some y)
+    c.next_event.new.self) c.in-Some-Err.field-0-is c.in-Some-Err.ensures.calls)
+
+pub returns-then-last-clause-calls : goal.returns-then-last-clause-calls
+returns-then-last-clause-calls g c = λ calls reached is at.
+    let r = g.R.TrySpannedEventReceiver in
+    let old : Told = record { events = r.taken c.args.recv.now; places = r.spans c.args.recv.now } in
+    let mid : Told = record { events = r.taken c.events.recv; places = r.spans c.events.recv } in
+    let x : Event × Span = (c.in-Some-Ok.event, c.in-Some-Ok.span) in
+    let new : Told = record { events = r.taken c.on_event.new.self; places = r.spans c.on_event.new.self } in
+    let last : is_last c.args.multi (plain_event x).kind ≡ true = sym c.is_last-last.ensures ∙ c.if-last.true in
+    led_last g.T.Input.unread g.T.Input.origin c.args.self.now.stepper.scanner.options calls c.events.self
+    c.next_event.new.self c.args.multi old mid new c.events.invariant.same
+    (c.in-Some-Ok.ensures.options ∙ c.events.invariant.same) (c.events.invariant.led calls reached is at) x
+    (subst (λ (y : Result (Event × Span) Refused). CalledOr g.T.Input.unread g.T.Input.origin c.events.self (Some y)
+    c.next_event.new.self) c.in-Some-Ok.field-0-is c.in-Some-Ok.ensures.calls)
+    (took_one mid new x c.on_event.ensures.events c.on_event.ensures.places) true (λ e. last)
+
+pub returns-in-Err-clause-calls : goal.returns-in-Err-clause-calls
+returns-in-Err-clause-calls g c = λ calls reached is at.
+    let r = g.R.TrySpannedEventReceiver in
+    let old : Told = record { events = r.taken c.args.recv.now; places = r.spans c.args.recv.now } in
+    let mid : Told = record { events = r.taken c.events.recv; places = r.spans c.events.recv } in
+    let x : Event × Span = (c.in-Some-Ok.event, c.in-Some-Ok.span) in
+    let new : Told = record { events = r.taken c.on_event.new.self; places = r.spans c.on_event.new.self } in
+    led_last g.T.Input.unread g.T.Input.origin c.args.self.now.stepper.scanner.options calls c.events.self
+    c.next_event.new.self c.args.multi old mid new c.events.invariant.same
+    (c.in-Some-Ok.ensures.options ∙ c.events.invariant.same) (c.events.invariant.led calls reached is at) x
+    (subst (λ (y : Result (Event × Span) Refused). CalledOr g.T.Input.unread g.T.Input.origin c.events.self (Some y)
+    c.next_event.new.self) c.in-Some-Ok.field-0-is c.in-Some-Ok.ensures.calls)
+    (took_one mid new x c.in-Err.ensures.events c.in-Err.ensures.places) false unasked
+
+pub returns-clause-calls : goal.returns-clause-calls
+returns-clause-calls g c = λ calls reached is at.
+    let r = g.R.TrySpannedEventReceiver in
+    led_no_more g.T.Input.unread g.T.Input.origin c.args.self.now.stepper.scanner.options c.args.multi
+    (Took (record { events = r.taken c.args.recv.now; places = r.spans c.args.recv.now })
+    (record { events = r.taken c.events.recv; places = r.spans c.events.recv })) c.run_out.new.self calls
+    c.run_out.result c.run_out.ensures.kind
+
+pub returns-in-Some-Err-clause-memory : goal.returns-in-Some-Err-clause-memory
+returns-in-Some-Err-clause-memory g c = λ wants. inl (starves_by c.in-Some-Err.field-0 c.in-Some-Err.error
+    c.in-Some-Err.field-0-is c.events.self.starved c.next_event.new.self.starved c.in-Some-Err.ensures.starved wants)
+
+pub returns-clause-memory : goal.returns-clause-memory
+returns-clause-memory g c =
+    let r = g.R.TrySpannedEventReceiver in
+    let old : Told = record { events = r.taken c.args.recv.now; places = r.spans c.args.recv.now } in
+    let mid : Told = record { events = r.taken c.events.recv; places = r.spans c.events.recv } in
+    let all = c.events-test.false in
+    λ wants. inr (counts_all c.events._tried old mid c.events.invariant.counted (omega arith))

@@ -19,7 +19,8 @@ returns-in-None-clause-known g c = λ m rests told.
     c.restart-restarted.ensures.moves.1 c.ask_source.ensures.origin c.ask_source.ensures.place
     c.ask_source.ensures.first (ap (λ (s : Scanning g.row.T.Denot). s.items) c.in-None.ensures.rest)
     _ _ c.in-None.ensures.given
-    (proceeds_still unread (option_map plain_token c.args.token) m c.restart-restarted.result
+    (proceeds_still unread c.args.self.now.items.cursor (option_map plain_token c.args.token) m
+    c.restart-restarted.result
     c.restart-restarted.new.self c.give_source_error.new.self
     (λ l q known. subst (λ (i : scans.Scanning g.row.T.Denot). Known unread i l q) (sym items)
     (c.ask_source.ensures.reading l q known))

@@ -13,7 +13,8 @@ returns-in-Ok-clause-known g c = λ m here told.
     let same = ap (λ (s : Scanning g.row.T.Denot). s.items) c.revive.ensures in
     failed_on g.T.Input.origin c.args.self.now c.proceed.new.self c.revive.new.self same (λ e no. absurd cc)
     (λ there. subst (λ (s : Scanning g.row.T.Denot).
-    Proceeds g.T.Input.unread (option_map plain_token c.args.token) m s) (sym c.revive.ensures) there)
+    Proceeds g.T.Input.unread c.args.self.now.items.cursor (option_map plain_token c.args.token) m s)
+    (sym c.revive.ensures) there)
     (c.in-Ok.ensures.known m here told)
 
 pub returns-in-Ok-clause-standing : goal.returns-in-Ok-clause-standing
@@ -21,7 +22,8 @@ returns-in-Ok-clause-standing g c = λ m at told.
     let same = ap (λ (s : Scanning g.row.T.Denot). s.items) c.revive.ensures in
     failed_on g.T.Input.origin c.args.self.now c.proceed.new.self c.revive.new.self same (λ e no. absurd cc)
     (λ there. subst (λ (s : Scanning g.row.T.Denot).
-    Proceeds g.T.Input.unread (option_map plain_token c.args.token) m s) (sym c.revive.ensures) there)
+    Proceeds g.T.Input.unread c.args.self.now.items.cursor (option_map plain_token c.args.token) m s)
+    (sym c.revive.ensures) there)
     (c.in-Ok.ensures.known m (rests g.T.Input.unread c.args.self.now m at) told)
 
 pub returns-in-Ok-clause-source : goal.returns-in-Ok-clause-source

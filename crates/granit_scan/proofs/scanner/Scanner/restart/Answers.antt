@@ -1,7 +1,9 @@
 use Rattle.std.proofs.Common.{◌≡◌, sym, subst, ◌∙◌, None}
 use Rattle.std.specs.Prelude.{IfSome}
-use Rattle.granit_scan.specs.Recovering.{Rests}
-use Rattle.granit_scan.specs.Scanning.{Scanning}
+use Rattle.std.specs.Option.{option_map}
+use Rattle.granit_scan.specs.Recovering.{Proceeds, Rests}
+use Rattle.granit_scan.specs.Scanning.{Scanning, revived}
+use Rattle.granit_scan.specs.TokenViews.{plain_token}
 use Rattle.granit_scan.proofs.RecoveryLemmas.{proceeds}
 use Rattle.granit_scan.proofs.scanner.Scanner.restart.Goals as goal
 
@@ -23,6 +25,8 @@ returns-clause-known g c = λ m rests told.
     let here = subst (λ (s : Scanning g.row.T.Denot). Rests unread s m) (sym c.self.view_is) rests in
     let given = subst (λ (s : Scanning g.row.T.Denot). IfSome c.args.token (λ t. s.first ≡ None)) (sym c.self.view_is)
     told in
-    proceeds unread inside m here (sym c.is_lost.ensures ∙ c.if-is_lost.false) c.args.token given
+    subst (λ (s : Scanning g.row.T.Denot).
+    Proceeds unread s.items.cursor (option_map plain_token c.args.token) m (revived after)) c.self.view_is
+    (proceeds unread inside m here (sym c.is_lost.ensures ∙ c.if-is_lost.false) c.args.token given
     c.in_ok-mark.mark c.in_ok-mark.ensures c.in_ok-restart.field-0 after c.in_ok-restart.ensures.known
-    c.begin_anew.ensures
+    c.begin_anew.ensures)

@@ -1,5 +1,7 @@
 use Rattle.std.proofs.Common.{Option, sym, subst, ◌∙◌}
+use Rattle.std.specs.Prelude.{IfOk}
 use Rattle.granit_restart.specs.Turned.{Turned}
+use Rattle.granit_stepper.specs.Recovering.{RestartsIn}
 use Rattle.granit_stepper.specs.Refusals.{RefusedIn}
 use Rattle.granit_stepper.specs.Stepping.{Stepping}
 use Rattle.granit_stepper.specs.declared.refusal.Refusal.{Refusal}
@@ -18,7 +20,9 @@ returns-in-Some-clause-known g c = λ m e refused turned.
       refusal = c.self.inside.refusal;
     } in
     let here = subst (λ (s : Stepping g.row.T.Denot). RefusedIn unread s m e) (sym c.self.view_is) refused in
-    c.restart_behind.ensures.known m e
+    let given = c.restart_behind.ensures.known m e
     (subst (λ (r : Option Refusal). RefusedIn unread (record inside { refusal = r }) m e)
     (sym c.take.ensures.value ∙ c.in-Some.is) here)
-    (subst (λ (s : Stepping g.row.T.Denot). Turned s.scanner.options m) (sym c.self.view_is) turned)
+    (subst (λ (s : Stepping g.row.T.Denot). Turned s.scanner.options m) (sym c.self.view_is) turned) in
+    subst (λ (s : Stepping g.row.T.Denot). IfOk c.restart_behind.result
+    (λ starts. RestartsIn unread s.scanner.cursor starts c.restart_behind.new.self m)) c.self.view_is given

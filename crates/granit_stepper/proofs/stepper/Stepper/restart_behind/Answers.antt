@@ -1,5 +1,6 @@
-use Rattle.std.proofs.Common.{Some, refl, sym, subst, ◌∙◌}
+use Rattle.std.proofs.Common.{None, Some, false, refl, sym, subst, ◌∙◌}
 use Rattle.granit_stepper.proofs.RefusalLemmas.{restarts_behind}
+use Rattle.granit_stepper.specs.Recovering.{RestartsIn}
 use Rattle.granit_stepper.specs.Refusals.{RefusedIn}
 use Rattle.granit_stepper.specs.Stepping.{Stepping}
 use Rattle.granit_stepper.proofs.stepper.Stepper.restart_behind.Goals as goal
@@ -18,6 +19,17 @@ returns-clause-known g c = λ m e refused turned.
     } in
     let here = subst (λ (s : Stepping g.row.T.Denot). RefusedIn unread (record s { refusal = Some c.args.refusal }) m e)
     (sym c.self.view_is) refused in
-    restarts_behind unread inside m e here c.args.refusal refl c.args.self.now.scanner.options turned
-    (sym c.is_lost.ensures ∙ c.if-is_lost.false) _ c.in_ok-starts.starts c.in_ok-starts.ensures.known
-    c.drop_document.ensures refl refl refl
+    let new : Stepping g.row.T.Denot = record {
+      scanner = c.restart.new.self;
+      parser = c.drop_document.new.self;
+      first = None;
+      failed = false;
+      renumbered = c.self.inside.renumbered;
+      ahead = None;
+      refusal = c.self.inside.refusal;
+    } in
+    subst (λ (s : Stepping g.row.T.Denot). RestartsIn unread s.scanner.cursor c.in_ok-starts.starts new m)
+    c.self.view_is
+    (restarts_behind unread inside m e here c.args.refusal refl c.args.self.now.scanner.options turned
+    (sym c.is_lost.ensures ∙ c.if-is_lost.false) new c.in_ok-starts.starts c.in_ok-starts.ensures.known
+    c.drop_document.ensures refl refl refl)

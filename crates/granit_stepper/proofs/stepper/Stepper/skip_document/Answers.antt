@@ -26,7 +26,7 @@ returns-else-branch-clause-known g c = λ m stands turned.
     let behind = subst (λ (p : OptionsData). Turned p given.0) (sym c.in_ok-pass_document.ensures.options)
     (drops_turned o turned given.2) in
     on_ok_weaker c.skip_fault.result
-    (λ fault. document_failed g.T.Input.unread o new m mid c.skip_fault.ensures.renumbered given
-    (subst (λ (p : OptionsData). SkipsFault g.T.Input.unread p given.1 new given.0)
+    (λ fault. document_failed g.T.Input.unread o new m mid c.skip_fault.ensures.renumbered given mid.scanner.cursor
+    (subst (λ (p : OptionsData). SkipsFault g.T.Input.unread p mid.scanner.cursor given.1 new given.0)
     c.in_ok-pass_document.ensures.options fault))
     (c.skip_fault.ensures.known given.0 given.1 given.4 behind)

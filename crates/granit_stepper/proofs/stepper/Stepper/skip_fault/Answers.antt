@@ -21,7 +21,7 @@ returns-then-starts-clause-known g c = λ m e refused turned.
     let behind = subst (λ (p : OptionsData). Turned p next) (sym c.in_ok-starts.ensures.options)
     (restarts_turned o goes.0 m turned) in
     on_ok_weaker c.skip_header.result
-    (λ given. fault_in_header unread o new m e c.is_in_header-in_header.result starts
+    (λ given. fault_in_header unread o new m e c.args.self.now.scanner.cursor c.is_in_header-in_header.result starts
     (c.is_in_header-in_header.ensures m e refused) mid goes is
     (subst (λ (p : OptionsData). SkipsHeader unread p new next) c.in_ok-starts.ensures.options given))
     (c.skip_header.ensures.known next goes.3 behind)
@@ -34,5 +34,6 @@ returns-clause-known g c = λ m e refused turned.
       | inl both ↦ ap (λ (b : Bool). b && starts) both.0 ∙ both.1
       | inr none ↦ ap (λ (b : Bool). b && starts) none
     ] in
-    fault_alone g.T.Input.unread c.args.self.now.scanner.options c.restart.new.self m e header starts
+    fault_alone g.T.Input.unread c.args.self.now.scanner.options c.restart.new.self m e
+    c.args.self.now.scanner.cursor header starts
     (c.is_in_header-in_header.ensures m e refused) (c.in_ok-starts.ensures.known m e refused turned) other

@@ -25,5 +25,6 @@ returns-clause-known g c = λ m at turned.
     (c.in_ok-pass_document.ensures.known m (inl at) turned) in
     let behind = subst (λ (p : OptionsData). Turned p given.0) (sym c.in_ok-pass_document.ensures.options)
     (drops_turned o turned given.2) in
-    header_failed g.T.Input.unread o new m mid c.in_ok-restart.ensures.renumbered given c.in_ok-restart.field-0
+    header_failed g.T.Input.unread o new m mid c.in_ok-restart.ensures.renumbered given mid.scanner.cursor
+    c.in_ok-restart.field-0
     (c.in_ok-restart.ensures.known given.0 given.1 given.4 behind)

@@ -1,0 +1,9 @@
+pub mod AloneLaws
+pub mod CallSteps
+pub mod DropGives
+pub mod EndMarks
+pub mod FaultLaws
+pub mod LineLaws
+pub mod LineReads
+pub mod RestTold
+pub mod SkipTold

@@ -1,0 +1,36 @@
+//! The text of a case.
+use anyhow::{Context, Result};
+use serde_json::Value;
+use std::alloc::Global;
+
+/// The text that a JSON string says.
+pub fn string(alloc: Global, case: &str) -> Result<String> {
+    let value = Value::from_str(alloc, case).context("reading a case")?;
+    let text = value.as_str().context("a case is a string")?;
+    Ok(String::from_str(alloc, text)?)
+}
+
+fn push_piece(text: &mut String, piece: &Value) -> Result<()> {
+    if let Some(once) = piece.as_str() {
+        text.push_str(once)?;
+        return Ok(());
+    }
+    let string = piece.get(0).and_then(Value::as_str);
+    let string = string.context("a pair begins with a string")?;
+    let times = piece.get(1).and_then(Value::as_u64);
+    for _ in 0..times.context("a pair ends with a number")? {
+        text.push_str(string)?;
+    }
+    Ok(())
+}
+
+/// The text that a JSON list says: of strings, or of pairs of a string and how often it stands there.
+pub fn joined(alloc: Global, case: &str) -> Result<String> {
+    let value = Value::from_str(alloc, case).context("reading a case")?;
+    let pieces = value.as_array().context("a text is a list")?;
+    let mut text = String::new(alloc);
+    for piece in pieces {
+        push_piece(&mut text, piece)?;
+    }
+    Ok(text)
+}
