@@ -1,5 +1,5 @@
 #!/usr/bin/env bash
-# Tries the edits of bench/edits, which the prover must refuse as it must those of crates/*/must-fail: one edit of each crate stands in
+# Tries the edits of bench/edits, which the prover must refuse as it must those of crates/*/must-fail: those that say most stand in
 # the gate, since an edit costs what its crate costs to load; the others stand here.
 # usage: bench/edits.sh [--applies] [CRATE..]
 #   --applies   only looks whether each edit can be applied: its old text stands exactly once
