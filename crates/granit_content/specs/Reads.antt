@@ -11,7 +11,7 @@ use Rattle.granit_lexemes.specs.declared.layout.LastLexeme.{LastLexeme}
 use Rattle.granit_machine.specs.Gaps.{over_gap_char, begins_gap, GapRead, no_more_adjacent}
 use Rattle.granit_machine.specs.Laid.{Laid}
 use Rattle.granit_machine.specs.ReaderState.{ReaderState, Read}
-use Rattle.granit_items.specs.ItemViews.{boxed_view, lexeme_items, found_items}
+use Rattle.granit_items.specs.ItemViews.{alone, boxed_view, found_items}
 use Rattle.granit_items.specs.declared.item.Found.{Found}
 use Rattle.granit_items.specs.declared.item.Lexeme.{Lexeme}
 use Rattle.granit_content.specs.declared.lexeme.Start.{Start}
@@ -36,8 +36,8 @@ abbrev pub NeverWants : {X : Type 0} → Result X Refused → Type 0
 NeverWants r = IfErr r (λ e. e.kind ≡ NoMemory → ⊥)
 
 -- what a call that returns nothing has found, as items: a lexeme, or all that a read gives
-abbrev pub lexeme_in : Option Lexeme → Unit {0} → List Item
-lexeme_in found = λ _. lexeme_items found
+abbrev pub lexeme_in : Lexeme → Unit {0} → List Item
+lexeme_in found = λ _. alone found
 
 abbrev pub found_in : Found → Unit {0} → List Item
 found_in found = λ _. found_items found

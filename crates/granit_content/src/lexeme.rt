@@ -1,9 +1,9 @@
 //! What all lexemes share.
-ghost use Rattle.std.specs.Prelude.{◌≡◌, ◌<◌, ◌^◌, false, Ok};
+ghost use Rattle.std.specs.Prelude.{◌≡◌, ◌<◌, ◌^◌, false};
 ghost use Rattle.granit_cursor.specs.Reading.{Moves, Stands, Wherever};
 ghost use Rattle.granit_lexemes.specs.Here.{Here, step};
 ghost use Rattle.granit_machine.specs.ReaderState as spec;
-ghost use Rattle.granit_items.specs.ItemViews.{kind_view, lexeme_view, lexeme_items};
+ghost use Rattle.granit_items.specs.ItemViews.{kind_view, lexeme_view};
 ghost use Rattle.granit_content.specs.Reads.{IsStart, NeverWants, ReadsItems, behind_seen, lexeme_in, noted, tail_view};
 
 use crate::tail::{Tail, tail_at};
@@ -35,32 +35,31 @@ pub fn start_of<T: Input>(at: &Cursor<T>) -> Start
     }
 }
 
-/// The lexeme from there to a mark; whether it ends a column is told.
-pub fn lexeme_to<'input>(
+/// The lexeme from there to a mark is written where one has room; whether it ends a column is told.
+pub fn write_lexeme<'input>(
+    found: &mut Lexeme<'input>,
     layouts: &Layouts,
     ends: bool,
     kind: LexemeKind<'input>,
-    start: Start,
+    start: &Start,
     end: Marker,
-) -> Lexeme<'input>
-    ensures { (h : Here) → IsStart start h
-        → lexeme_view result ≡ spec.lexeme_to ends (kind_view kind.entry) end h layouts.now }
+)
+    ensures { (h : Here) → IsStart start.now h
+        → lexeme_view found.new ≡ spec.lexeme_to ends (kind_view kind.entry) end h layouts.now }
 {
-    Lexeme {
-        number: layouts.number(),
-        kind,
-        start: start.mark,
-        shown_start: start.mark,
-        shown_end: end,
-        end,
-        indent: None,
-        in_flow: layouts.is_in_flow(),
-        begins_line: start.begins_line,
-        follows_indicator: layouts.follows_indicator(),
-        ends_column: ends,
-        key: None,
-        tail: None,
-    }
+    found.number = layouts.number();
+    found.kind = kind;
+    found.start = start.mark;
+    found.shown_start = start.mark;
+    found.shown_end = end;
+    found.end = end;
+    found.indent = None;
+    found.in_flow = layouts.is_in_flow();
+    found.begins_line = start.begins_line;
+    found.follows_indicator = layouts.follows_indicator();
+    found.ends_column = ends;
+    found.key = None;
+    found.tail = None;
 }
 
 /// A lexeme of one character, which is read.
@@ -69,37 +68,22 @@ pub fn sign<'input, T: Input>(
     layouts: &Layouts,
     ends: bool,
     kind: LexemeKind<'input>,
-) -> Lexeme<'input>
+    found: &mut Lexeme<'input>,
+)
     ensures here { Wherever T.unread at.old at.new (λ h Lands. Lands (step h)
-        × (lexeme_view result ≡ spec.sign_lexeme ends (kind_view kind.entry) h layouts.now)) }
+        × (lexeme_view found.new ≡ spec.sign_lexeme ends (kind_view kind.entry) h layouts.now)) }
     ensures moves { Moves T.unread T.left T.origin at.old at.new }
 {
     let start = start_of(at);
     at.step();
-    lexeme_to(layouts, ends, kind, start, at.mark())
+    write_lexeme(found, layouts, ends, kind, &start, at.mark());
 }
 
-/// A lexeme is read that lets this be the next one.
-pub fn give<'input>(
-    layouts: &mut Layouts,
-    lexeme: Lexeme<'input>,
-    last: LastLexeme,
-    found: &mut Option<Lexeme<'input>>,
-)
-    requires room { layouts.old.number < 2 ^ 63 }
-    ensures { (h : Here) → spec.given (lexeme_view lexeme.entry) last h layouts.old
-        ≡ Ok (lexeme_items found.new, record { here = h; laid = layouts.new }) }
+/// The lexeme gets a tail.
+pub fn put_tail<'input>(found: &mut Lexeme<'input>, tail: Tail<'input>)
+    ensures { lexeme_view found.new ≡ spec.with_tail (lexeme_view found.old) (noted (tail_view tail.entry)) }
 {
-    layouts.count_lexeme(last);
-    *found = Some(lexeme);
-}
-
-/// The lexeme with a tail.
-pub fn with_tail<'input>(mut lexeme: Lexeme<'input>, tail: Tail<'input>) -> Lexeme<'input>
-    ensures { lexeme_view result ≡ spec.with_tail (lexeme_view lexeme.entry) (noted (tail_view tail.entry)) }
-{
-    lexeme.tail = tail.into_note();
-    lexeme
+    found.tail = tail.into_note();
 }
 
 /// Behind a closer a value may stand at once, unless a comment does.
@@ -112,7 +96,7 @@ pub(crate) fn behind_tail(last: LastLexeme, tail: &Tail<'_>) -> LastLexeme
     }
 }
 
-/// A lexeme that ends here, with its tail.
+/// The lexeme, which ends here, gets its tail.
 ///
 /// # Errors
 ///
@@ -122,18 +106,18 @@ pub fn tailed<'input, T: BorrowedInput<'input>>(
     asked: bool,
     at: &mut Cursor<T>,
     layouts: &mut Layouts,
-    lexeme: Lexeme<'input>,
     last: LastLexeme,
-    found: &mut Option<Lexeme<'input>>,
+    found: &mut Lexeme<'input>,
 ) -> Result<(), ScanError>
     requires room { layouts.old.number < 2 ^ 63 }
     ensures here { ReadsItems T.unread asked at.old at.new layouts.new
-        (lexeme_in found.new) result (λ h. spec.tailed (lexeme_view lexeme.entry) last h layouts.old) }
+        (lexeme_in found.new) result (λ h. spec.tailed (lexeme_view found.old) last h layouts.old) }
     ensures memory { asked ≡ false → NeverWants result }
     ensures moves { Moves T.unread T.left T.origin at.old at.new }
 {
     let tail = tail_at(alloc, at, asked)?;
     let last = behind_tail(last, &tail);
-    give(layouts, with_tail(lexeme, tail), last, found);
+    put_tail(found, tail);
+    layouts.count_lexeme(last);
     Ok(())
 }

@@ -10,7 +10,7 @@ ghost use Rattle.granit_content.specs.KindViews.{kind_of_type};
 ghost use Rattle.granit_content.specs.Reads.{IsStart, ReadsItems, lexeme_in};
 
 use crate::kinds::lexeme_kind;
-use crate::lexeme::{Start, give, lexeme_to, start_of};
+use crate::lexeme::{Start, start_of, write_lexeme};
 use granit_cursor::{Cursor, Token};
 use granit_error::{Options, ScanError};
 use granit_input::{BorrowedInput, Input};
@@ -30,7 +30,7 @@ pub fn alias_lexeme<'input, T: BorrowedInput<'input>>(
     at: &mut Cursor<T>,
     layouts: &mut Layouts,
     ends: bool,
-    found: &mut Option<Lexeme<'input>>,
+    found: &mut Lexeme<'input>,
 ) -> Result<(), ScanError>
     requires sign { (h : Here) → Stands T.unread at.old h → next_char h ≡ 0x2A }
     requires room { layouts.old.number < 2 ^ 63 }
@@ -41,8 +41,8 @@ pub fn alias_lexeme<'input, T: BorrowedInput<'input>>(
 {
     let start = start_of(at);
     let token = scan_anchor(alloc, at, true)?;
-    let lexeme = token_lexeme(alloc, at, layouts, ends, start, token);
-    give(layouts, lexeme, LastLexeme::Another, found);
+    token_lexeme(alloc, at, layouts, ends, &start, token, found);
+    layouts.count_lexeme(LastLexeme::Another);
     Ok(())
 }
 
@@ -57,7 +57,7 @@ pub fn anchor_lexeme<'input, T: BorrowedInput<'input>>(
     at: &mut Cursor<T>,
     layouts: &mut Layouts,
     ends: bool,
-    found: &mut Option<Lexeme<'input>>,
+    found: &mut Lexeme<'input>,
 ) -> Result<(), ScanError>
     requires sign { (h : Here) → Stands T.unread at.old h → next_char h ≡ 0x26 }
     requires room { layouts.old.number < 2 ^ 63 }
@@ -69,8 +69,8 @@ pub fn anchor_lexeme<'input, T: BorrowedInput<'input>>(
     let start = start_of(at);
     let last = layouts.last_of_property(options);
     let token = scan_anchor(alloc, at, false)?;
-    let lexeme = token_lexeme(alloc, at, layouts, ends, start, token);
-    give(layouts, lexeme, last, found);
+    token_lexeme(alloc, at, layouts, ends, &start, token, found);
+    layouts.count_lexeme(last);
     Ok(())
 }
 
@@ -85,7 +85,7 @@ pub fn tag_lexeme<'input, T: BorrowedInput<'input>>(
     at: &mut Cursor<T>,
     layouts: &mut Layouts,
     ends: bool,
-    found: &mut Option<Lexeme<'input>>,
+    found: &mut Lexeme<'input>,
 ) -> Result<(), ScanError>
     requires sign { (h : Here) → Stands T.unread at.old h → next_char h ≡ 0x21 }
     requires room { layouts.old.number < 2 ^ 63 }
@@ -96,29 +96,25 @@ pub fn tag_lexeme<'input, T: BorrowedInput<'input>>(
     let start = start_of(at);
     let last = layouts.last_of_property(options);
     let token = scan_tag(alloc, at, layouts.is_in_flow())?;
-    let lexeme = token_lexeme(alloc, at, layouts, ends, start, token);
-    give(layouts, lexeme, last, found);
+    token_lexeme(alloc, at, layouts, ends, &start, token, found);
+    layouts.count_lexeme(last);
     Ok(())
 }
 
-/// The lexeme from there to here that a token tells.
+/// The lexeme from there to here that a token tells is written.
 fn token_lexeme<'input, T: Input>(
     alloc: Global,
     at: &Cursor<T>,
     layouts: &Layouts,
     ends: bool,
-    start: Start,
+    start: &Start,
     token: Token<'input>,
-) -> Lexeme<'input>
-    ensures { (h after : Here) → IsStart start h → Stands T.unread at.now after → lexeme_view result
+    found: &mut Lexeme<'input>,
+)
+    ensures { (h after : Here) → IsStart start.now h → Stands T.unread at.now after → lexeme_view found.new
         ≡ machine.lexeme_to ends (kind_of_type token.entry.token_type) (mark_of after) h layouts.now }
 {
     let (_, token_type) = token.into_parts();
-    lexeme_to(
-        layouts,
-        ends,
-        lexeme_kind(alloc, token_type),
-        start,
-        at.mark(),
-    )
+    let kind = lexeme_kind(alloc, token_type);
+    write_lexeme(found, layouts, ends, kind, start, at.mark());
 }

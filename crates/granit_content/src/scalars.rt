@@ -1,5 +1,5 @@
 //! Scalars (YAML 1.2.2, 7.3 and 8.1).
-ghost use Rattle.std.specs.Prelude.{◌≡◌, ◌<◌, ◌^◌, true, None, IfOk, IsOk};
+ghost use Rattle.std.specs.Prelude.{◌≡◌, ◌<◌, ◌^◌, true, None, IfOk, IsOk, OnOk};
 ghost use Rattle.std.specs.Option.{option_map};
 ghost use Rattle.granit_base.specs.PlainContent.{is_content};
 ghost use Rattle.granit_cursor.specs.Reading.{Moves, Stands};
@@ -9,22 +9,24 @@ ghost use Rattle.granit_lexemes.specs.Here.{Here, next_char};
 ghost use Rattle.granit_lexemes.specs.QuotedScalar.{quote_char};
 ghost use Rattle.granit_machine.specs.Laid.{is_in_flow};
 ghost use Rattle.granit_machine.specs.NodeLexemes as spec;
-ghost use Rattle.granit_items.specs.ItemViews.{boxed_view, lexeme_view, lexeme_items};
+ghost use Rattle.granit_machine.specs.ReaderState.{with_tail};
+ghost use Rattle.granit_lex.specs.QuotedCode.{remark_token};
+ghost use Rattle.granit_items.specs.ItemViews.{boxed_view, filled_items, lexeme_view};
 ghost use Rattle.granit_content.specs.KindViews.{note_of_token};
 ghost use Rattle.granit_content.specs.Reads.{IsStart, ReadsItems, found_in, lexeme_in};
 ghost use Rattle.granit_content.specs.ScalarReads.{shown_as, token_as, GapBehind};
 
 use crate::gaps::gap;
 use crate::kinds::{lexeme_kind, note};
-use crate::lexeme::{Start, behind_tail, give, lexeme_to, start_of};
-use granit_base::NoMemory;
+use crate::lexeme::{Start, behind_tail, start_of, write_lexeme};
+use granit_base::{NoMemory, ScalarStyle};
 use granit_block::scan_block_scalar;
-use granit_cursor::{Cursor, Lexed, Token};
+use granit_cursor::{Cursor, Token};
 use granit_error::{Options, ScanError};
 use granit_input::BorrowedInput;
-use granit_items::{Found, Lexeme, Note};
+use granit_items::{Found, Lexeme, LexemeKind, Note};
 use granit_layout::Layouts;
-use granit_lex::{scan_plain_scalar, scan_quoted_scalar};
+use granit_lex::{PlainScalar, QuotedScalar, Remark, quoted_style, read_plain, read_quoted};
 use granit_lexemes::LastLexeme;
 use std::alloc::Global;
 
@@ -32,14 +34,14 @@ use std::alloc::Global;
 ///
 /// # Errors
 ///
-/// Those of `scan_plain_scalar`.
+/// Those of `read_plain`.
 pub fn plain_lexeme<'input, T: BorrowedInput<'input>>(
     alloc: Global,
     options: &Options,
     at: &mut Cursor<T>,
     layouts: &mut Layouts,
     ends: bool,
-    found: &mut Option<Lexeme<'input>>,
+    found: &mut Lexeme<'input>,
 ) -> Result<(), ScanError>
     requires content { (h : Here) → Stands T.unread at.old h
         → is_content (is_in_flow layouts.old) h.unread.text ≡ true }
@@ -50,12 +52,12 @@ pub fn plain_lexeme<'input, T: BorrowedInput<'input>>(
 {
     let start = start_of(at);
     let layout = layouts.layout(options, start.mark.col(), options.emit_comments);
-    let read = scan_plain_scalar(alloc, at, &layout)?;
-    let cut = read.cut_by_comment;
-    let tail = kept_note(alloc, read.comment)?;
-    let lexeme = scalar_lexeme(alloc, layouts, ends, start, read.token, tail);
-    layouts.behind_plain_scalar(cut);
-    give(layouts, lexeme, LastLexeme::Another, found);
+    let mut read: PlainScalar<'input> = PlainScalar::room(start.mark);
+    read_plain(alloc, at, &layout, &mut read)?;
+    let kind = LexemeKind::Scalar(ScalarStyle::Plain, read.text);
+    write_lexeme(found, layouts, ends, kind, &start, read.end);
+    layouts.behind_plain_scalar(read.cut_by_comment);
+    layouts.count_lexeme(LastLexeme::Another);
     Ok(())
 }
 
@@ -71,7 +73,7 @@ pub fn block_lexeme<'input, T: BorrowedInput<'input>>(
     layouts: &mut Layouts,
     literal: bool,
     ends: bool,
-    found: &mut Option<Lexeme<'input>>,
+    found: &mut Lexeme<'input>,
 ) -> Result<(), ScanError>
     requires sign { (h : Here) → Stands T.unread at.old h → next_char h ≡ block_indicator literal }
     requires room { layouts.old.number < 2 ^ 63 }
@@ -83,9 +85,9 @@ pub fn block_lexeme<'input, T: BorrowedInput<'input>>(
     let layout = layouts.layout(options, start.mark.col(), options.emit_comments);
     let read = scan_block_scalar(alloc, at, literal, &layout)?;
     let tail = kept_note(alloc, read.comment)?;
-    let lexeme = shown_lexeme(alloc, layouts, ends, start, read.token, tail);
+    shown_lexeme(alloc, layouts, ends, &start, read.token, tail, found);
     layouts.unroll();
-    give(layouts, lexeme, LastLexeme::Another, found);
+    layouts.count_lexeme(LastLexeme::Another);
     Ok(())
 }
 
@@ -97,7 +99,7 @@ fn quoted_lexeme<'input, T: BorrowedInput<'input>>(
     layouts: &mut Layouts,
     single: bool,
     ends: bool,
-    found: &mut Option<Lexeme<'input>>,
+    found: &mut Lexeme<'input>,
 ) -> Result<(), ScanError>
     requires sign { (h : Here) → Stands T.unread at.old h → next_char h ≡ quote_char single }
     requires room { layouts.old.number < 2 ^ 63 }
@@ -107,18 +109,41 @@ fn quoted_lexeme<'input, T: BorrowedInput<'input>>(
 {
     let start = start_of(at);
     let layout = layouts.layout(options, start.mark.col(), options.emit_comments);
-    let read = scan_quoted_scalar(alloc, at, single, &layout)?;
-    let tail = kept_note(alloc, read.comment)?;
-    let lexeme = scalar_lexeme(alloc, layouts, ends, start, read.token, tail);
-    give(layouts, lexeme, LastLexeme::Adjacent, found);
+    let mut read: QuotedScalar<'input> = QuotedScalar::room(start.mark);
+    read_quoted(alloc, at, single, &layout, &mut read)?;
+    let kind = LexemeKind::Scalar(quoted_style(single), read.text);
+    write_lexeme(found, layouts, ends, kind, &start, read.end);
+    put_comment(alloc, &mut read.comment, found)?;
+    layouts.count_lexeme(LastLexeme::Adjacent);
     Ok(())
+}
+
+/// The comment behind a scalar becomes its lexeme's tail.
+fn put_comment<'input>(
+    alloc: Global,
+    comment: &mut Option<Remark<'input>>,
+    found: &mut Lexeme<'input>,
+) -> Result<(), NoMemory>
+    ensures { OnOk result (lexeme_view found.new
+        ≡ with_tail (lexeme_view found.old) (option_map note_of_token (option_map remark_token comment.old))) }
+{
+    match comment.take() {
+        None => {
+            found.tail = None;
+            Ok(())
+        }
+        Some(remark) => {
+            found.tail = Some(Box::new(alloc, note(remark.into_token()))?);
+            Ok(())
+        }
+    }
 }
 
 /// A quoted scalar, and the gap behind it, up to and with a comment.
 ///
 /// # Errors
 ///
-/// Those of `scan_quoted_scalar` and of `gap`.
+/// Those of `read_quoted` and of `gap`.
 pub fn quoted_and_gap<'input, T: BorrowedInput<'input>>(
     alloc: Global,
     options: &Options,
@@ -134,6 +159,7 @@ pub fn quoted_and_gap<'input, T: BorrowedInput<'input>>(
         (found_in found.new) result (λ h. spec.quoted_and_gap (options_of options.now) single ends h layouts.old) }
     ensures moves { Moves T.unread T.left T.origin at.old at.new }
 {
+    found.filled = true;
     quoted_lexeme(alloc, options, at, layouts, single, ends, &mut found.lexeme)?;
     with_gap(alloc, options, at, layouts, found)
 }
@@ -147,7 +173,7 @@ fn with_gap<'input, T: BorrowedInput<'input>>(
     found: &mut Found<'input>,
 ) -> Result<(), ScanError>
     ensures here { GapBehind T.unread (options_of options.now) at.old at.new layouts.old layouts.new
-        (lexeme_items found.old.lexeme) (found_in found.new) result }
+        (filled_items found.old.filled found.old.lexeme.value) (found_in found.new) result }
     ensures moves { Moves T.unread T.left T.origin at.old at.new }
 {
     let tail = gap(alloc, options, at, layouts)?;
@@ -156,23 +182,23 @@ fn with_gap<'input, T: BorrowedInput<'input>>(
     Ok(())
 }
 
-/// The lexeme from there to the end of a token, with its tail.
+/// The lexeme from there to the end of a token is written, with its tail.
 pub fn scalar_lexeme<'input>(
     alloc: Global,
     layouts: &Layouts,
     ends: bool,
-    start: Start,
+    start: &Start,
     token: Token<'input>,
     tail: Option<Box<Note<'input>>>,
-) -> Lexeme<'input>
-    ensures { (h : Here) → IsStart start h → lexeme_view result
+    found: &mut Lexeme<'input>,
+)
+    ensures { (h : Here) → IsStart start.now h → lexeme_view found.new
         ≡ token_as ends token.entry (option_map boxed_view tail.entry) h layouts.now }
 {
     let (span, token_type) = token.into_parts();
     let kind = lexeme_kind(alloc, token_type);
-    let mut lexeme = lexeme_to(layouts, ends, kind, start, span.end);
-    lexeme.tail = tail;
-    lexeme
+    write_lexeme(found, layouts, ends, kind, start, span.end);
+    found.tail = tail;
 }
 
 /// The same of a block scalar, whose token shows where its content stands.
@@ -180,18 +206,18 @@ fn shown_lexeme<'input>(
     alloc: Global,
     layouts: &Layouts,
     ends: bool,
-    start: Start,
+    start: &Start,
     token: Token<'input>,
     tail: Option<Box<Note<'input>>>,
-) -> Lexeme<'input>
-    ensures { (h : Here) → IsStart start h → lexeme_view result
+    found: &mut Lexeme<'input>,
+)
+    ensures { (h : Here) → IsStart start.now h → lexeme_view found.new
         ≡ shown_as ends token.entry (option_map boxed_view tail.entry) h layouts.now }
 {
     let span = token.span();
-    let mut lexeme = scalar_lexeme(alloc, layouts, ends, start, token, tail);
-    lexeme.shown_start = span.start;
-    lexeme.indent = span.indent;
-    lexeme
+    scalar_lexeme(alloc, layouts, ends, start, token, tail, found);
+    found.shown_start = span.start;
+    found.indent = span.indent;
 }
 
 /// The comment that was read behind a scalar or a directive, as a tail.

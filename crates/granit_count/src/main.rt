@@ -34,6 +34,24 @@ fn of_characters(alloc: Global, text: &str) -> Result<Result<u64, ScanError>> {
     Ok(count_events(&mut parser.ok().context("no memory to read ahead")?))
 }
 
+/// How many events come from the string, or the fault.
+fn of_string(alloc: Global, text: &str) -> Result<u64, ScanError> {
+    let mut parser = Parser::new_from_str(alloc, text);
+    count_events(&mut parser)
+}
+
+/// How many tokens come from the string, or the fault.
+fn of_tokens(alloc: Global, text: &str) -> Result<u64, ScanError> {
+    let mut scanner = Scanner::new(alloc, StrInput::new(text));
+    count_tokens(&mut scanner)
+}
+
+/// How many events all items have, or the fault.
+fn of_items(alloc: Global, text: &str) -> Result<Result<u64, ScanError>> {
+    let list = items(item_list(alloc, text)?);
+    Ok(count_all(load_fallible(alloc, list, Options::default())))
+}
+
 /// How many events or tokens a text has as that word reads it, or its fault.
 fn counted(alloc: Global, word: &str, text: &str) -> Result<Result<u64, ScanError>> {
     let options = Options::default();
@@ -41,14 +59,11 @@ fn counted(alloc: Global, word: &str, text: &str) -> Result<Result<u64, ScanErro
         "characters" => of_characters(alloc, text),
         "load_str" => Ok(count_all(load_str(alloc, text, options))),
         "load_chars" => Ok(count_all(load_chars(alloc, characters(text), options))),
-        "load_fallible" => {
-            let list = items(item_list(alloc, text)?);
-            Ok(count_all(load_fallible(alloc, list, options)))
-        }
-        "tokens" => Ok(count_tokens(&mut Scanner::new(alloc, StrInput::new(text)))),
+        "load_fallible" => of_items(alloc, text),
+        "tokens" => Ok(of_tokens(alloc, text)),
         "lexeme" => Ok(lexeme_length(alloc, text)),
         "nothing" => Ok(Ok(text.len() as u64)),
-        _ => Ok(count_events(&mut Parser::new_from_str(alloc, text))),
+        _ => Ok(of_string(alloc, text)),
     }
 }
 

@@ -18,7 +18,7 @@ use granit_base::{NoMemory, Span};
 use granit_error::{Options, ScanError};
 use granit_event::Event;
 use granit_frames::{Frame, ParserState, Token, Top, token_sort};
-use granit_items::{Item, Lexeme, LexemeKind, Note};
+use granit_items::{Item, Lexeme, LexemeKind, Note, Rooms};
 use granit_nodes::node;
 use std::alloc::Global;
 
@@ -31,7 +31,7 @@ fn take_token<'input>(
 ) -> Result<(), ScanError>
     ensures leaves { LeavesIfRoom result state.new (spec.take_token (options_of options.now)
         (machine_token token.old) state.old) }
-    ensures kept { is_directive (kind_view token.old.lexeme.kind) ≡ false → state.new.kept ≡ state.old.kept }
+    ensures kept { is_directive (kind_view token.old.lexeme.value.kind) ≡ false → state.new.kept ≡ state.old.kept }
     ensures refused { KeepsIfRefused result state.old state.new }
     ensures inside { (state.old.frames ≡ [] → ⊥) → state.new.kept ≡ state.old.kept }
 {
@@ -137,7 +137,7 @@ fn take_tailed<'input>(
 ) -> Result<(), ScanError>
     ensures leaves { LeavesIfRoom result state.new (spec.take_lexeme (options_of options.now)
         (machine_token token.old) next_line state.old) }
-    ensures kept { is_directive (kind_view token.old.lexeme.kind) ≡ false → state.new.kept ≡ state.old.kept }
+    ensures kept { is_directive (kind_view token.old.lexeme.value.kind) ≡ false → state.new.kept ≡ state.old.kept }
     ensures refused { NoneWaitsOutside state.old → KeepsIfRefused result state.old state.new }
 {
     let tail: Option<Box<Note<'input>>> = tail_behind(alloc, &token.lexeme)?;
@@ -157,7 +157,7 @@ fn take_lexeme<'input>(
 ) -> Result<(), ScanError>
     ensures leaves { LeavesIfRoom result state.new (spec.take_lexeme (options_of options.now)
         (machine_token token.old) next_line state.old) }
-    ensures kept { is_directive (kind_view token.old.lexeme.kind) ≡ false → state.new.kept ≡ state.old.kept }
+    ensures kept { is_directive (kind_view token.old.lexeme.value.kind) ≡ false → state.new.kept ≡ state.old.kept }
     ensures refused { NoneWaitsOutside state.old → KeepsIfRefused result state.old state.new }
 {
     if takes_tail(&token.lexeme) {
@@ -168,7 +168,7 @@ fn take_lexeme<'input>(
 }
 
 /// Takes an item, of which it is told whether a simple key begins with it, and the line of the next token: its
-/// events are given behind those that weren't taken yet.
+/// events are given behind those that weren't taken yet. A lexeme leaves its room to others.
 ///
 /// # Errors
 ///
@@ -181,6 +181,7 @@ pub fn feed<'input>(
     item: Item<'input>,
     begins_key: bool,
     next_line: Option<usize>,
+    rooms: &mut Rooms<'input>,
 ) -> Result<(), ScanError>
     ensures fed { LeavesIfRoom result state.new (spec.take_item (options_of options.now)
         (item_view item.entry) begins_key next_line state.old) }
@@ -188,11 +189,13 @@ pub fn feed<'input>(
     ensures refused { NoneWaitsOutside state.old → KeepsIfRefused result state.old state.new }
 {
     match item {
-        Item::Note(note) => state.take_comment(note, next_line),
+        Item::Note(note) => state.take_comment(Box::into_inner(note), next_line),
         Item::Lexeme(lexeme) => {
             let sort = token_sort(begins_key, &lexeme);
             let mut token = Token { lexeme, sort };
-            take_lexeme(state, alloc, options, &mut token, next_line)
+            let fed = take_lexeme(state, alloc, options, &mut token, next_line);
+            rooms.keep(token.lexeme);
+            fed
         }
     }
 }

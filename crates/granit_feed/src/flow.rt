@@ -72,7 +72,7 @@ fn null_colon<'input>(
     single: bool,
 ) -> Result<(), NoMemory>
     ensures leaves { OnOk result (state.new ≡ steps.flow_colon (options_of options.now) (machine_token token.now) single
-        (giving.give (giving.null_at token.now.lexeme.start) state.old)) }
+        (giving.give (giving.null_at token.now.lexeme.value.start) state.old)) }
     ensures kept { state.new.kept ≡ state.old.kept }
 {
     state.give_null(token.lexeme.start)?;
@@ -196,7 +196,7 @@ fn behind_comma<'input>(
     single: bool,
 ) -> Result<(), NoMemory>
     ensures leaves { OnOk result (state.new ≡ steps.flow_at single machine.BeforePair
-        (ends.owed token.now.lexeme.start state.old)) }
+        (ends.owed token.now.lexeme.value.start state.old)) }
     ensures kept { state.new.kept ≡ state.old.kept }
 {
     state.owed(token.lexeme.start)?;

@@ -108,7 +108,7 @@ fn behind_directives<'input>(
     requires outer { state.old.frames ≡ [] }
     ensures leaves { LeavesIfRoom result state.new (steps.behind_directives (options_of options.now)
         (machine_token token.old).lexeme.kind (machine_token token.old) (option_map plain_version version) state.old) }
-    ensures kept { is_directive (kind_view token.old.lexeme.kind) ≡ false → state.new.kept ≡ state.old.kept }
+    ensures kept { is_directive (kind_view token.old.lexeme.value.kind) ≡ false → state.new.kept ≡ state.old.kept }
     ensures refused { KeepsIfRefused result state.old state.new }
 {
     match mem::replace(&mut token.lexeme.kind, LexemeKind::Comma) {
@@ -250,7 +250,7 @@ fn when_fresh<'input>(
     requires outer { state.old.frames ≡ [] }
     ensures leaves { LeavesIfRoom result state.new (steps.when_fresh (options_of options.now)
         (machine_token token.old).lexeme.kind (machine_token token.old) state.old) }
-    ensures kept { is_directive (kind_view token.old.lexeme.kind) ≡ false → state.new.kept ≡ state.old.kept }
+    ensures kept { is_directive (kind_view token.old.lexeme.value.kind) ≡ false → state.new.kept ≡ state.old.kept }
     ensures refused { KeepsIfRefused result state.old state.new }
 {
     match &token.lexeme.kind {
@@ -380,7 +380,7 @@ pub(crate) fn outside<'input>(
     requires outer { state.old.frames ≡ [] }
     ensures leaves { LeavesIfRoom result state.new (steps.outside (options_of options.now) state.old.stage
         (machine_token token.old) state.old) }
-    ensures kept { is_directive (kind_view token.old.lexeme.kind) ≡ false → state.new.kept ≡ state.old.kept }
+    ensures kept { is_directive (kind_view token.old.lexeme.value.kind) ≡ false → state.new.kept ≡ state.old.kept }
     ensures refused { KeepsIfRefused result state.old state.new }
 {
     match state.stage() {

@@ -67,6 +67,23 @@ impl<'input> ParserState<'input> {
         Ok(())
     }
 
+    /// The events that weren't taken yet move behind those of a list.
+    ///
+    /// # Errors
+    ///
+    /// `NoMemory` alone.
+    pub fn move_events(
+        &mut self,
+        events: &mut VecDeque<(Event<'input>, Span)>,
+    ) -> Result<(), NoMemory>
+        ensures moved { OnOk result (plain_events events.new.items
+            ≡ plain_events events.old.items ++ self.old.given) }
+        ensures rest { OnOk result (self.new ≡ record self.old { given = [] }) }
+    {
+        events.append(&mut self.given)?;
+        Ok(())
+    }
+
     /// Only these events weren't taken yet.
     pub fn set_events(&mut self, events: VecDeque<(Event<'input>, Span)>)
         ensures { self.new ≡ record self.old { given = plain_events events.entry.items } }

@@ -118,35 +118,15 @@ impl<'input> ParserState<'input> {
     }
 }
 
-/// The event of a node, with the number of its anchor and its tag.
-fn bearing<'input>(event: Event<'input>, number: usize, tag: Option<Tag>) -> Event<'input>
-    ensures { event_kind result ≡ bears (event_kind event.entry) number tag }
+/// The number of its anchor and its tag stand in a node's event.
+fn bear(event: &mut Event<'_>, number: usize, tag: Option<Tag>)
+    ensures { event_kind event.new ≡ bears (event_kind event.old) number tag }
 {
+    // in place: taken apart and made anew, an event is copied in each of thirteen arms
     match event {
-        Event::StreamStart => Event::StreamStart,
-        Event::StreamEnd => Event::StreamEnd,
-        Event::DocumentStart(explicit, version) => Event::DocumentStart(explicit, version),
-        Event::DocumentEnd => Event::DocumentEnd,
-        Event::Alias(anchor) => Event::Alias(anchor),
-        Event::Anchor(anchor, name) => Event::Anchor(anchor, name),
-        Event::UnresolvedAlias(name) => Event::UnresolvedAlias(name),
-        Event::Comment(text, placement) => Event::Comment(text, placement),
-        Event::Scalar(text, style, _, _) => Event::Scalar(text, style, number, tag),
-        Event::SequenceStart(style, _, _) => Event::SequenceStart(style, number, tag),
-        Event::SequenceEnd => Event::SequenceEnd,
-        Event::MappingStart(style, _, _) => Event::MappingStart(style, number, tag),
-        Event::MappingEnd => Event::MappingEnd,
-    }
-}
-
-/// The event without an anchor and a tag.
-fn bear_none(event: &mut Event<'_>)
-    ensures { event_kind event.new ≡ bears (event_kind event.old) 0 None }
-{
-    match event {
-        Event::Scalar(_, _, number, _) => *number = 0,
-        Event::SequenceStart(_, number, _) => *number = 0,
-        Event::MappingStart(_, number, _) => *number = 0,
+        Event::Scalar(_, _, anchor, _) => *anchor = number,
+        Event::SequenceStart(_, anchor, _) => *anchor = number,
+        Event::MappingStart(_, anchor, _) => *anchor = number,
         Event::StreamStart => {}
         Event::StreamEnd => {}
         Event::DocumentStart(_, _) => {}
@@ -159,9 +139,9 @@ fn bear_none(event: &mut Event<'_>)
         Event::MappingEnd => {}
     }
     match event {
-        Event::Scalar(_, _, _, tag) => *tag = None,
-        Event::SequenceStart(_, _, tag) => *tag = None,
-        Event::MappingStart(_, _, tag) => *tag = None,
+        Event::Scalar(_, _, _, place) => *place = tag,
+        Event::SequenceStart(_, _, place) => *place = tag,
+        Event::MappingStart(_, _, place) => *place = tag,
         Event::StreamStart => {}
         Event::StreamEnd => {}
         Event::DocumentStart(_, _) => {}
@@ -272,7 +252,7 @@ impl<'input> ParserState<'input> {
         &mut self,
         options: &Options,
         properties: NodeProperties<'input>,
-        event: Event<'input>,
+        mut event: Event<'input>,
         start: Marker,
         end: Marker,
         indent: Option<usize>,
@@ -290,7 +270,8 @@ impl<'input> ParserState<'input> {
         let column = self.key_indent(indent);
         let span = span_with_tag(&tag, start, end, column);
         let number = anchor_number(&anchor);
-        self.give(bearing(event, number, tag_value(tag)), span)?;
+        bear(&mut event, number, tag_value(tag));
+        self.give(event, span)?;
         self.tell_anchor(options, anchor)
     }
 
@@ -334,7 +315,7 @@ impl<'input> ParserState<'input> {
         ensures kept { self.new.kept ≡ self.old.kept }
     {
         let column = self.key_indent(indent);
-        bear_none(&mut event);
+        bear(&mut event, 0, None);
         self.give(event, Span::new(start, end).with_indent(column))
     }
 }

@@ -1,5 +1,5 @@
 -- What the code's items say.
-use Rattle.std.specs.Prelude.{ℕ, List, [], ◌∷◌, ◌++◌, map, Option, Some, None}
+use Rattle.std.specs.Prelude.{Bool, true, false, ℕ, List, [], ◌∷◌, ◌++◌, map, Option, Some, None}
 use Rattle.std.specs.Global.{Box}
 use Rattle.std.specs.Option.{option_map}
 use Rattle.granit_base.specs.Written.{Written}
@@ -61,22 +61,26 @@ lexeme_view l = record {
   tail = option_map boxed_view l.tail;
 }
 
+abbrev pub boxed_lexeme : Box Lexeme → spec.Lexeme
+boxed_lexeme b = lexeme_view b.value
+
 -- a lexeme as the items of a read
 abbrev pub alone : Lexeme → List spec.Item
 alone l = spec.OfLexeme (lexeme_view l) ∷ []
-
-abbrev pub lexeme_items : Option Lexeme → List spec.Item
-lexeme_items None = []
-lexeme_items (Some l) = alone l
 
 abbrev pub note_items : Option (Box Note) → List spec.Item
 note_items None = []
 note_items (Some n) = spec.OfComment (boxed_view n) ∷ []
 
+-- the lexeme that was read, where one was
+abbrev pub filled_items : (filled : Bool) → Lexeme → List spec.Item
+filled_items true l = alone l
+filled_items false l = []
+
 -- what a read gives, as items
 abbrev pub found_items : Found → List spec.Item
-found_items f = lexeme_items f.lexeme ++ note_items f.note
+found_items f = filled_items f.filled f.lexeme.value ++ note_items f.note
 
 abbrev pub item_view : Item → spec.Item
-item_view (items.Lexeme l) = spec.OfLexeme (lexeme_view l)
-item_view (items.Note n) = spec.OfComment (note_view n)
+item_view (items.Lexeme l) = spec.OfLexeme (boxed_lexeme l)
+item_view (items.Note n) = spec.OfComment (boxed_view n)

@@ -93,12 +93,36 @@ pub struct Lexeme<'input> {
     pub tail: Option<Box<Note<'input>>>,
 }
 
+impl<'input> Lexeme<'input> {
+    /// Room for a lexeme, which is written into it.
+    pub fn room() -> Lexeme<'input> {
+        let mark = Marker::new(0, 0, 0);
+        Lexeme {
+            number: 0,
+            kind: LexemeKind::Comma,
+            start: mark,
+            shown_start: mark,
+            shown_end: mark,
+            end: mark,
+            indent: None,
+            in_flow: false,
+            begins_line: false,
+            follows_indicator: false,
+            ends_column: false,
+            key: None,
+            tail: None,
+        }
+    }
+}
+
 /// What one read gives: a lexeme, a comment, a quoted scalar and the comment in the gap behind it, or nothing where
 /// a comment isn't asked for.
 #[derive(Drop)]
 pub struct Found<'input> {
-    /// The lexeme.
-    pub lexeme: Option<Lexeme<'input>>,
+    /// Whether a lexeme was read.
+    pub filled: bool,
+    /// The lexeme, or room for one.
+    pub lexeme: Box<Lexeme<'input>>,
     /// The comment, which stands behind the lexeme.
     pub note: Option<Box<Note<'input>>>,
 }
@@ -107,7 +131,7 @@ pub struct Found<'input> {
 #[derive(Drop)]
 pub enum Item<'input> {
     /// A lexeme.
-    Lexeme(Lexeme<'input>),
+    Lexeme(Box<Lexeme<'input>>),
     /// A comment.
-    Note(Note<'input>),
+    Note(Box<Note<'input>>),
 }

@@ -2,5 +2,7 @@
 #![tactic(auto)]
 
 mod item;
+mod rooms;
 
 pub use item::{Found, Item, KeyStart, Lexeme, LexemeKind, Note};
+pub use rooms::Rooms;

@@ -22,7 +22,7 @@ use Rattle.granit_lexemes.proofs.HereLemmas.{step_lends, step_text}
 use Rattle.granit_scalars.proofs.PlainTurns.{Turned, past_a_blank, past_a_break, at_a_comment, at_a_tab, at_a_line}
 use Rattle.granit_scalars.proofs.PlainTurns.{past_content, at_no_content, turned}
 use Rattle.granit_scalars.proofs.Stepping.{seen, second_of, is_break_nul}
-use Rattle.granit_lex.specs.LineCode.{LinePassed, line_state, broken_state, text_of_lines, line_scalar}
+use Rattle.granit_lex.specs.LineCode.{LinePassed, line_state, broken_state, text_of_lines, further_scalar, line_scalar}
 use Rattle.granit_lex.specs.PlainCode.{plain_rest, plain_whole, nothing_taken, cuts_at, ended_plain, ended_by}
 use Rattle.granit_lex.specs.PlainCode.{copied_plain}
 use Rattle.granit_lex.specs.Taken.{PlainTaken}
@@ -303,15 +303,15 @@ copied_by at h start p is none =
     (sym (plain_begins at start (nothing_taken start false) h refl)
     ∙ ap (λ (q : PlainTaken). plain_whole at start q h) (sym none))
 
-pub broken_by : (at : LayoutData) (start : Mark) (front : List ℕ) (end : Mark) (blank : Bool) (h : Here)
-    (p : PlainTaken) → is_break (next_char h) ≡ true → p ≡ nothing_taken end true
-    → line_scalar at start front end blank h ≡ (plain_whole at start p (past_break h)
+pub further_by : (at : LayoutData) (start : Mark) (front : List ℕ) (end : Mark) (h : Here) (p : PlainTaken)
+    → p ≡ nothing_taken end true
+    → further_scalar at start front end h ≡ (plain_whole at start p h
     >>= ended_by at start (λ further last. text_of_lines start last front further))
-broken_by at start front end blank h p y none = rw y
-    (ap (λ (r : Result (List ℕ × PlainState) Fault). r
+further_by at start front end h p none =
+    ap (λ (r : Result (List ℕ × PlainState) Fault). r
     >>= ended_by at start (λ further last. text_of_lines start last front further))
-    (sym (plain_begins at start (nothing_taken end true) (past_break h) refl)
-    ∙ ap (λ (q : PlainTaken). plain_whole at start q (past_break h)) (sym none)))
+    (sym (plain_begins at start (nothing_taken end true) h refl)
+    ∙ ap (λ (q : PlainTaken). plain_whole at start q h) (sym none))
 
 pub ended_same : (at : LayoutData) (start : Mark) (h : Here) (t u : Written) (e f : Mark) (l m c d : Bool) → t ≡ u
     → e ≡ f → l ≡ m → c ≡ d → ended_plain at start t e l c h ≡ ended_plain at start u f m d h

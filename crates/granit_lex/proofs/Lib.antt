@@ -5,3 +5,4 @@ pub mod LineLemmas
 pub mod MemoryLemmas
 pub mod PlainLemmas
 pub mod QuotedLemmas
+pub mod RemarkLemmas

@@ -114,13 +114,18 @@ blank_stays at s is = rw is refl
 -- ---- the whole scalar
 
 -- a further line is begun
-pub broken_blank : (at : LayoutData) (start end : Mark) (p : PlainTaken) (h : Here) → p ≡ nothing_taken end true
-    → start.place.line ≡ h.place.line → is_break (next_char h) ≡ true → EndsHere at start end h
-    → OnlyBlanks at start (plain_state p (past_break h))
-broken_blank at start end p h none here y ends =
+pub broken_blank : (at : LayoutData) (start end : Mark) (h : Here) → start.place.line ≡ h.place.line
+    → is_break (next_char h) ≡ true → EndsHere at start end h
+    → OnlyBlanks at start (broken_state end (past_break h))
+broken_blank at start end h here y ends =
     let on = break_line h y in
-    subst (λ (q : PlainTaken). OnlyBlanks at start (plain_state q (past_break h))) (sym none)
     (refl, omega (arith, on, here), ends y)
+
+-- nothing of it is taken yet
+pub begun_blank : (at : LayoutData) (start end : Mark) (p : PlainTaken) (h : Here) → p ≡ nothing_taken end true
+    → OnlyBlanks at start (broken_state end h) → OnlyBlanks at start (plain_state p h)
+begun_blank at start end p h none blanks =
+    subst (λ (q : PlainTaken). OnlyBlanks at start (plain_state q h)) (sym none) blanks
 
 -- what was taken so far, where all of it blanks
 pub still_blank : (at : LayoutData) (start : Mark) (p q : PlainTaken) (h now : Here)

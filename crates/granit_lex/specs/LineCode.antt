@@ -69,11 +69,17 @@ PassesLine at start h (Err e) Lands = ⊥
 abbrev pub text_of_lines : (start end : Mark) → (front further : List ℕ) → Written
 text_of_lines start end front further = if is_one_line start end then lent front else owned (front ++ further)
 
+-- a scalar whose first line and the break behind it were passed
+abbrev pub further_scalar : LayoutData → (start : Mark) → (front : List ℕ) → (end : Mark) → Here
+    → Result (PlainRead × Here) Fault
+further_scalar at start front end h =
+    plain_rest at start (broken_state end h)
+    >>= ended_by at start (λ further behind. text_of_lines start behind front further)
+
 -- a scalar whose first line was passed
 abbrev pub line_scalar : LayoutData → (start : Mark) → (front : List ℕ) → (end : Mark) → (blank : Bool) → Here
     → Result (PlainRead × Here) Fault
 line_scalar at start front end blank h =
     if is_break (next_char h)
-    then (plain_rest at start (broken_state end (past_break h))
-    >>= ended_by at start (λ further behind. text_of_lines start behind front further))
+    then further_scalar at start front end (past_break h)
     else ended_plain at start (lent front) end false blank h

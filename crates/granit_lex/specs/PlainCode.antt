@@ -20,12 +20,22 @@ use Rattle.granit_cursor.specs.Tokens.{scalar_token}
 use Rattle.granit_cursor.specs.declared.token.Lexed.{Lexed}
 use Rattle.granit_lex.specs.Taken.{PlainTaken}
 use Rattle.granit_lex.specs.declared.plain.Ahead.{Ahead}
+use Rattle.granit_lex.specs.declared.plain.PlainScalar.{PlainScalar}
 use Rattle.granit_lex.specs.declared.plain.Ahead.TheVariants.{Blank, Break, Tab, Content, End}
 
 -- a plain scalar, behind which no comment is read
 abbrev pub plain_lexed : PlainRead → Lexed
 plain_lexed r = record {
   token = scalar_token Plain r.text r.source;
+  comment = None;
+  cut_by_comment = r.cut_by_comment;
+  on_new_line = r.on_new_line;
+}
+
+-- the same by what was read of a scalar that begins there
+abbrev pub plain_from : Mark → PlainScalar → Lexed
+plain_from start r = record {
+  token = scalar_token Plain r.text (record { start = start; end = r.end });
   comment = None;
   cut_by_comment = r.cut_by_comment;
   on_new_line = r.on_new_line;

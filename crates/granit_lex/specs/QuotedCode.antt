@@ -30,8 +30,11 @@ use Rattle.granit_lexemes.specs.QuotedScalar.{quoted_at, over_blank, over_break,
 use Rattle.granit_cursor.specs.Tokens.{comment_token, scalar_token}
 use Rattle.granit_cursor.specs.declared.token.Lexed.{Lexed}
 use Rattle.granit_cursor.specs.declared.token.Token.{Token}
+use Rattle.granit_cursor.specs.declared.token.TokenType.TheVariants as tokens
 use Rattle.granit_lex.specs.Taken.{QuotedTaken}
 use Rattle.granit_lex.specs.declared.quoted.Ahead.{Ahead}
+use Rattle.granit_lex.specs.declared.quoted.QuotedScalar.{QuotedScalar}
+use Rattle.granit_lex.specs.declared.quoted.Remark.{Remark}
 use Rattle.granit_lex.specs.declared.quoted.Ahead.TheVariants.{Blank, Break, Content, End}
 
 -- a quoted scalar, with the comment behind it
@@ -51,6 +54,14 @@ quoted_with single start text end noted = record {
   cut_by_comment = None;
   on_new_line = false;
 }
+
+-- a comment by its token
+abbrev pub remark_token : Remark → Token
+remark_token r = record { span = r.span; token_type = tokens.Comment r.comment }
+
+-- the same by what was read of a scalar that begins there
+abbrev pub quoted_from : Bool → Mark → QuotedScalar → Lexed
+quoted_from single start r = quoted_with single start r.text r.end (option_map remark_token r.comment)
 
 -- the comment that begins here, where comments are asked for
 abbrev pub asked : LayoutData → Here → Result (Option Token × Here) Fault

@@ -9,5 +9,5 @@ mod quoted;
 pub use granit_cursor::{
     Comment, Cursor, Layout, Lexed, Token, TokenType, scan_comment, skip_comment,
 };
-pub use plain::scan_plain_scalar;
-pub use quoted::scan_quoted_scalar;
+pub use plain::{PlainScalar, read_plain, scan_plain_scalar};
+pub use quoted::{QuotedScalar, Remark, quoted_style, read_quoted, scan_quoted_scalar};

@@ -18,9 +18,9 @@ ghost use Rattle.granit_cursor.specs.Reading.{Stands, Moves, Wherever, ReadsAs, 
 ghost use Rattle.granit_cursor.specs.Reading.{TurnTakes};
 ghost use Rattle.granit_cursor.specs.Tokens.{layout_data};
 ghost use Rattle.granit_lex.specs.declared.plain.Ahead.TheVariants.{Tab};
-ghost use Rattle.granit_lex.specs.LineCode.{line_scalar};
-ghost use Rattle.granit_lex.specs.PlainCode.{plain_lexed, plain_state, plain_whole, ahead_of, nothing_taken};
-ghost use Rattle.granit_lex.specs.PlainCode.{TakesSome, TurnsTo, PartsTo, IsPlainKind};
+ghost use Rattle.granit_lex.specs.LineCode.{broken_state, further_scalar, line_scalar};
+ghost use Rattle.granit_lex.specs.PlainCode.{plain_from, plain_lexed, plain_state, plain_whole, ahead_of};
+ghost use Rattle.granit_lex.specs.PlainCode.{nothing_taken, TakesSome, TurnsTo, PartsTo, IsPlainKind};
 ghost use Rattle.granit_lex.specs.PlainCode.{cuts_at, ended_plain, copied_plain};
 ghost use Rattle.granit_lex.specs.WithoutMemory.{EndsHere, OnlyBlanks, StaysBlank, WithoutMemoryAt};
 ghost use Rattle.granit_lex.specs.WithoutMemory.{plain_takes_none};
@@ -67,7 +67,65 @@ pub fn scan_plain_scalar<'input, T: BorrowedInput<'input>>(
     ensures memory { WithoutMemoryAt T.unread cursor.old result (plain_takes_none (layout_data at.now)) }
     ensures moves { Moves T.unread T.left T.origin cursor.old cursor.new }
 {
-    read_plain(alloc, cursor, at)
+    lexed_plain(alloc, cursor, at)
+}
+
+/// The same, with what a reader needs.
+fn lexed_plain<'input, T: BorrowedInput<'input>>(
+    alloc: Global,
+    cursor: &mut Cursor<T>,
+    at: &Layout,
+) -> Result<Lexed<'input>, ScanError>
+    ensures here { ReadsAs T.unread cursor.old cursor.new result (λ h.
+        coded plain_lexed (spec.plain_scalar (layout_data at.now) h)) }
+    ensures kinds { IfErr result (λ e. IsPlainKind e.kind) }
+    ensures memory { WithoutMemoryAt T.unread cursor.old result (plain_takes_none (layout_data at.now)) }
+    ensures moves { Moves T.unread T.left T.origin cursor.old cursor.new }
+{
+    let start = cursor.mark();
+    let mut read = PlainScalar::room(start);
+    match read_plain(alloc, cursor, at, &mut read) {
+        Ok(()) => Ok(read.into_lexed(start)),
+        Err(e) => Err(e),
+    }
+}
+
+/// A plain scalar, of which its caller knows where it begins.
+#[derive(Drop)]
+pub struct PlainScalar<'input> {
+    /// Its value.
+    pub text: Text<'input>,
+    /// The place behind its last character.
+    pub end: Marker,
+    /// The place of the `#` that ended it outside flow.
+    pub cut_by_comment: Option<Marker>,
+    /// Whether a break was read behind it, and nothing but blanks behind that.
+    pub on_new_line: bool,
+}
+
+impl<'input> PlainScalar<'input> {
+    /// Room for a scalar, which is read into it.
+    pub fn room(start: Marker) -> PlainScalar<'input> {
+        PlainScalar {
+            text: Text::borrowed(""),
+            end: start,
+            cut_by_comment: None,
+            on_new_line: false,
+        }
+    }
+
+    /// The scalar as a token that begins there.
+    fn into_lexed(self, start: Marker) -> Lexed<'input>
+        ensures { result ≡ plain_from start self.entry }
+    {
+        let span = Span::new(start, self.end);
+        Lexed {
+            token: Token::new(span, TokenType::Scalar(ScalarStyle::Plain, self.text)),
+            comment: None,
+            cut_by_comment: self.cut_by_comment,
+            on_new_line: self.on_new_line,
+        }
+    }
 }
 
 /// What was read of a plain scalar.
@@ -345,15 +403,16 @@ fn finish_plain<'input, T: Input>(
     cursor: &mut Cursor<T>,
     at: &Layout,
     start: Marker,
-    ended: &PlainEnd,
-    text: Text<'input>,
-) -> Result<Lexed<'input>, ScanError>
-    ensures here { ReadsAs T.unread cursor.old cursor.new result (λ h. coded plain_lexed
-        (ended_plain (layout_data at.now) start text.entry ended.now.end ended.now.on_new_line ended.now.cuts h)) }
+    cuts: bool,
+    read: &mut PlainScalar<'input>,
+) -> Result<(), ScanError>
+    ensures here { Wherever T.unread cursor.old cursor.new (λ h Lands.
+        GivesTo (λ _. plain_from start read.new) result Lands (coded plain_lexed
+        (ended_plain (layout_data at.now) start read.old.text read.old.end read.old.on_new_line cuts h))) }
     ensures kinds { IfErr result (λ e. (c : ℕ) × (e.kind ≡ UnexpectedCharacter c)) }
     ensures moves { Moves T.unread T.left T.origin cursor.old cursor.new }
 {
-    if let Some(character) = find_unprintable(text.as_str()) {
+    if let Some(character) = find_unprintable(read.text.as_str()) {
         return Err(ScanError::from_kind(start, ErrorKind::UnexpectedCharacter { character }));
     }
     cursor.look(1);
@@ -364,16 +423,9 @@ fn finish_plain<'input, T: Input>(
             ErrorKind::UnexpectedCharacter { character },
         ));
     }
-    let cut = !at.in_flow && character == '#' && ended.cuts;
-    let cut_by_comment = if cut { Some(cursor.mark()) } else { None };
-    let span = Span::new(start, ended.end);
-    let token_type = TokenType::Scalar(ScalarStyle::Plain, text);
-    Ok(Lexed {
-        token: Token::new(span, token_type),
-        comment: None,
-        cut_by_comment,
-        on_new_line: ended.on_new_line,
-    })
+    let cut = !at.in_flow && character == '#' && cuts;
+    read.cut_by_comment = if cut { Some(cursor.mark()) } else { None };
+    Ok(())
 }
 
 /// The text of a scalar by the content of its first line and of the further ones.
@@ -413,27 +465,52 @@ fn read_passed<'input, T: Input>(
     at: &Layout,
     start: Marker,
     line: &Line<'input>,
-) -> Result<Lexed<'input>, ScanError>
-    ensures here { ReadsAs T.unread cursor.old cursor.new result (λ h. coded plain_lexed
-        (line_scalar (layout_data at.now) start (chars line.now.front.now) line.now.end line.now.blank h)) }
+    read: &mut PlainScalar<'input>,
+) -> Result<(), ScanError>
+    ensures here { Wherever T.unread cursor.old cursor.new (λ h Lands.
+        GivesTo (λ _. plain_from start read.new) result Lands (coded plain_lexed
+        (line_scalar (layout_data at.now) start (chars line.now.front.now) line.now.end line.now.blank h))) }
     ensures kinds { IfErr result (λ e. IsPlainKind e.kind) }
     ensures memory { (h : Here) → Stands T.unread cursor.old h → start.place.line ≡ h.place.line
         → EndsHere (layout_data at.now) start line.now.end h → IfErr result (λ e. ¬ (e.kind ≡ OutOfMemory)) }
     ensures moves { Moves T.unread T.left T.origin cursor.old cursor.new }
 {
     if !at_break(cursor) {
-        let ended = PlainEnd {
-            end: line.end,
-            on_new_line: false,
-            cuts: line.blank,
-        };
-        return finish_plain(cursor, at, start, &ended, Text::borrowed(line.front));
+        read.text = Text::borrowed(line.front);
+        read.end = line.end;
+        read.on_new_line = false;
+        return finish_plain(cursor, at, start, line.blank, read);
     }
     past_break(cursor);
+    read_further(alloc, cursor, at, start, line, read)
+}
+
+/// A scalar whose first line and the break behind it were passed.
+fn read_further<'input, T: Input>(
+    alloc: Global,
+    cursor: &mut Cursor<T>,
+    at: &Layout,
+    start: Marker,
+    line: &Line<'input>,
+    read: &mut PlainScalar<'input>,
+) -> Result<(), ScanError>
+    ensures here { Wherever T.unread cursor.old cursor.new (λ h Lands.
+        GivesTo (λ _. plain_from start read.new) result Lands (coded plain_lexed
+        (further_scalar (layout_data at.now) start (chars line.now.front.now) line.now.end h))) }
+    ensures kinds { IfErr result (λ e. IsPlainKind e.kind) }
+    ensures memory { (h : Here) → Stands T.unread cursor.old h
+        → OnlyBlanks (layout_data at.now) start (broken_state line.now.end h)
+        → IfErr result (λ e. ¬ (e.kind ≡ OutOfMemory)) }
+    ensures moves { Moves T.unread T.left T.origin cursor.old cursor.new }
+{
     let parts = plain_parts(cursor, at, start, no_parts(alloc, line.end, true))?;
     let is_one_line = start.line() == parts.end.line();
     let text = text_of_lines(alloc, is_one_line, line.front, parts.value.as_str())?;
-    finish_plain(cursor, at, start, &end_of(&parts), text)
+    let ended = end_of(&parts);
+    read.text = text;
+    read.end = ended.end;
+    read.on_new_line = ended.on_new_line;
+    finish_plain(cursor, at, start, ended.cuts, read)
 }
 
 /// A scalar whose text is copied.
@@ -442,15 +519,20 @@ fn read_copied<'input, T: Input>(
     cursor: &mut Cursor<T>,
     at: &Layout,
     start: Marker,
-) -> Result<Lexed<'input>, ScanError>
+    read: &mut PlainScalar<'input>,
+) -> Result<(), ScanError>
     ensures here { Wherever T.unread cursor.old cursor.new (λ h Lands. start ≡ mark_of h
-        → GivesTo (λ x. x) result Lands (coded plain_lexed (copied_plain (layout_data at.now) h))) }
+        → GivesTo (λ _. plain_from start read.new) result Lands (coded plain_lexed
+        (copied_plain (layout_data at.now) h))) }
     ensures kinds { IfErr result (λ e. IsPlainKind e.kind) }
     ensures moves { Moves T.unread T.left T.origin cursor.old cursor.new }
 {
     let parts = plain_parts(cursor, at, start, no_parts(alloc, start, false))?;
     let ended = end_of(&parts);
-    finish_plain(cursor, at, start, &ended, Text::owned(parts.value))
+    read.text = Text::owned(parts.value);
+    read.end = ended.end;
+    read.on_new_line = ended.on_new_line;
+    finish_plain(cursor, at, start, ended.cuts, read)
 }
 
 /// Whether a `-` directly before a flow indicator is next, in flow.
@@ -463,14 +545,21 @@ fn at_flow_dash<T: Input>(cursor: &mut Cursor<T>, at: &Layout) -> bool
     at.in_flow && cursor.input().peek() == '-' && is_flow(cursor.input().peek_nth(1))
 }
 
+/// The plain scalar that begins here is read into a place that has room for it.
+///
+/// # Errors
+///
+/// Those of `scan_plain_scalar`.
 #[tactic(auto, unfolding(granit_lexemes::specs::PlainScalar::plain_scalar))]
-fn read_plain<'input, T: BorrowedInput<'input>>(
+pub fn read_plain<'input, T: BorrowedInput<'input>>(
     alloc: Global,
     cursor: &mut Cursor<T>,
     at: &Layout,
-) -> Result<Lexed<'input>, ScanError>
-    ensures here { ReadsAs T.unread cursor.old cursor.new result (λ h.
-        coded plain_lexed (spec.plain_scalar (layout_data at.now) h)) }
+    read: &mut PlainScalar<'input>,
+) -> Result<(), ScanError>
+    ensures here { Wherever T.unread cursor.old cursor.new (λ h Lands.
+        GivesTo (λ _. plain_from (mark_of h) read.new) result Lands
+        (coded plain_lexed (spec.plain_scalar (layout_data at.now) h))) }
     ensures kinds { IfErr result (λ e. IsPlainKind e.kind) }
     ensures memory { WithoutMemoryAt T.unread cursor.old result (plain_takes_none (layout_data at.now)) }
     ensures moves { Moves T.unread T.left T.origin cursor.old cursor.new }
@@ -481,9 +570,9 @@ fn read_plain<'input, T: BorrowedInput<'input>>(
     }
     match lending_offset(cursor) {
         Some(from) => match pass_line(cursor, at, start, from) {
-            Ok(line) => read_passed(alloc, cursor, at, start, &line),
+            Ok(line) => read_passed(alloc, cursor, at, start, &line, read),
             Err(e) => Err(e),
         },
-        None => read_copied(alloc, cursor, at, start),
+        None => read_copied(alloc, cursor, at, start, read),
     }
 }

@@ -1,19 +1,22 @@
 //! Quoted scalars are read (YAML 1.2.2, 7.3.1 and 7.3.2).
-ghost use Rattle.std.specs.Prelude.{◌≡◌, ◌<◌, ◌≤◌, ◌-◌, ◌⊎◌, ◌==◌, ◌&&◌, ℕ, true, false, ◌++◌, IfOk, IfErr, OnOk};
+ghost use Rattle.std.specs.Prelude.{◌≡◌, ◌<◌, ◌≤◌, ◌-◌, ◌⊎◌, ◌==◌, ◌&&◌, ℕ, true, false, ◌++◌, IfOk, IfErr, OnOk, Some};
+ghost use Rattle.std.specs.Option.{option_map};
 ghost use Rattle.std.specs.Str.{chars};
 ghost use Rattle.granit_base.specs.Classes as class;
 ghost use Rattle.granit_base.specs.Written.{string_chars};
 ghost use Rattle.granit_error.specs.FaultKind.{InputSlicingUnavailable, NoMemory as OutOfMemory};
 ghost use Rattle.granit_input.specs.Runs.{starts};
 ghost use Rattle.granit_error.specs.Kinds.{kind_of};
-ghost use Rattle.granit_lexemes.specs.Here.{Here, next_char, past, step};
+ghost use Rattle.granit_lexemes.specs.Here.{Here, mark_of, next_char, past, step};
 ghost use Rattle.granit_lexemes.specs.Basics as basics;
+ghost use Rattle.granit_lexemes.specs.Comment.{CommentRead};
 ghost use Rattle.granit_lexemes.specs.QuotedExtent as extent;
 ghost use Rattle.granit_lexemes.specs.QuotedScalar as spec;
 ghost use Rattle.granit_cursor.specs.Reading.{Stands, Moves, Wherever, ReadsAs, AnswersAs, RefusedFor, coded};
-ghost use Rattle.granit_cursor.specs.Reading.{LendsWithoutMemory, StepsRun, TurnTakes};
-ghost use Rattle.granit_cursor.specs.Tokens.{layout_data};
-ghost use Rattle.granit_lex.specs.QuotedCode.{quoted_lexed, quoted_with, asked, IsQuotedFault, quoted_state};
+ghost use Rattle.granit_cursor.specs.Reading.{GivesTo, LendsWithoutMemory, StepsRun, TurnTakes};
+ghost use Rattle.granit_cursor.specs.Tokens.{comment_token, layout_data};
+ghost use Rattle.granit_lex.specs.QuotedCode.{quoted_from, quoted_lexed, asked, IsQuotedFault, quoted_state};
+ghost use Rattle.granit_lex.specs.QuotedCode.{remark_token};
 ghost use Rattle.granit_lex.specs.QuotedCode.{quoted_whole, quoted_ahead, content_read, SeesTo, SeesSome, TakesContent};
 ghost use Rattle.granit_lex.specs.QuotedCode.{added, escapes, GoesWords, QuotedTurnsTo, QuotedPartsTo, IsQuotedKind};
 ghost use Rattle.granit_lex.specs.QuotedCode.{kept_char, kept_chars, nothing_taken, PassesKept};
@@ -26,8 +29,8 @@ use granit_base::{
     push_char, push_text,
 };
 use granit_cursor::{
-    Cursor, Layout, Lexed, Token, TokenType, drop_blanks, lending_offset, lent_since, pass_comment,
-    past_blanks, past_break, read_comment,
+    Comment, Cursor, Layout, Lexed, Token, TokenType, drop_blanks, lending_offset, lent_since,
+    pass_comment, past_blanks, past_break, read_comment,
 };
 use granit_error::{ErrorKind, ScanError};
 use granit_input::{BorrowedInput, Input};
@@ -67,7 +70,105 @@ pub fn scan_quoted_scalar<'input, T: BorrowedInput<'input>>(
     ensures memory { WithoutMemoryAt T.unread cursor.old result (quoted_takes_none single) }
     ensures moves { Moves T.unread T.left T.origin cursor.old cursor.new }
 {
-    read_quoted(alloc, cursor, single, at)
+    lexed_quoted(alloc, cursor, single, at)
+}
+
+/// The same, with what a reader needs.
+fn lexed_quoted<'input, T: BorrowedInput<'input>>(
+    alloc: Global,
+    cursor: &mut Cursor<T>,
+    single: bool,
+    at: &Layout,
+) -> Result<Lexed<'input>, ScanError>
+    ensures here { ReadsAs T.unread cursor.old cursor.new result (λ h.
+        coded (quoted_lexed single) (spec.quoted_scalar single (layout_data at.now) h)) }
+    ensures kinds { IfErr result (λ e. IsQuotedKind e.kind) }
+    ensures memory { WithoutMemoryAt T.unread cursor.old result (quoted_takes_none single) }
+    ensures moves { Moves T.unread T.left T.origin cursor.old cursor.new }
+{
+    let start = cursor.mark();
+    let mut read = QuotedScalar::room(start);
+    match read_quoted(alloc, cursor, single, at, &mut read) {
+        Ok(()) => Ok(read.into_lexed(single, start)),
+        Err(e) => Err(e),
+    }
+}
+
+/// A quoted scalar, of which its caller knows where it begins.
+#[derive(Drop)]
+pub struct QuotedScalar<'input> {
+    /// Its value.
+    pub text: Text<'input>,
+    /// The place behind its closing quote.
+    pub end: Marker,
+    /// The comment behind it on its last line, where comments are asked for.
+    pub comment: Option<Remark<'input>>,
+}
+
+/// A comment, and its place; not a token, since a place for one of those takes long to drop.
+#[derive(Drop)]
+pub struct Remark<'input> {
+    /// The comment.
+    pub comment: Comment<'input>,
+    /// Where it stands.
+    pub span: Span,
+}
+
+impl<'input> Remark<'input> {
+    /// Its token.
+    pub fn into_token(self) -> Token<'input>
+        ensures { result ≡ remark_token self.entry }
+    {
+        Token::new(self.span, TokenType::Comment(self.comment))
+    }
+}
+
+/// The comment of a token; another token has none.
+fn remark_of<'input>(token: Token<'input>) -> Option<Remark<'input>>
+    ensures { (c : CommentRead) → token.entry ≡ comment_token c → option_map remark_token result ≡ Some token.entry }
+{
+    let (span, token_type) = token.into_parts();
+    match token_type {
+        TokenType::Comment(comment) => Some(Remark { comment, span }),
+        _ => None,
+    }
+}
+
+impl<'input> QuotedScalar<'input> {
+    /// Room for a scalar, which is read into it.
+    pub fn room(start: Marker) -> QuotedScalar<'input> {
+        QuotedScalar {
+            text: Text::borrowed(""),
+            end: start,
+            comment: None,
+        }
+    }
+
+    /// The scalar as a token that begins there.
+    fn into_lexed(self, single: bool, start: Marker) -> Lexed<'input>
+        ensures { result ≡ quoted_from single start self.entry }
+    {
+        let span = Span::new(start, self.end);
+        Lexed {
+            token: Token::new(span, TokenType::Scalar(quoted_style(single), self.text)),
+            comment: match self.comment {
+                None => None,
+                Some(remark) => Some(remark.into_token()),
+            },
+            cut_by_comment: None,
+            on_new_line: false,
+        }
+    }
+}
+
+/// How a quoted scalar is written.
+pub fn quoted_style(single: bool) -> ScalarStyle
+    ensures { result ≡ spec.quoted_style single }
+{
+    if single {
+        return ScalarStyle::SingleQuoted;
+    }
+    ScalarStyle::DoubleQuoted
 }
 
 /// What was read of a quoted scalar.
@@ -436,29 +537,6 @@ fn trailing_kind(single: bool) -> ErrorKind
     ErrorKind::InvalidTrailingDoubleQuotedScalar
 }
 
-/// The scalar of that text between two places, with the comment behind it.
-fn quoted_token<'input>(
-    single: bool,
-    start: Marker,
-    end: Marker,
-    text: Text<'input>,
-    comment: Option<Token<'input>>,
-) -> Lexed<'input>
-    ensures { result ≡ quoted_with single start text.entry end comment.entry }
-{
-    let style = if single {
-        ScalarStyle::SingleQuoted
-    } else {
-        ScalarStyle::DoubleQuoted
-    };
-    Lexed {
-        token: Token::new(Span::new(start, end), TokenType::Scalar(style, text)),
-        comment,
-        cut_by_comment: None,
-        on_new_line: false,
-    }
-}
-
 /// What stands behind the closing quote and blanks, where no comment begins.
 #[tactic(auto, unfolding(granit_lexemes::specs::QuotedScalar::behind_quoted))]
 fn behind_quoted<'input, T: Input>(
@@ -466,11 +544,11 @@ fn behind_quoted<'input, T: Input>(
     single: bool,
     at: &Layout,
     start: Marker,
-    text: Text<'input>,
-    end: Marker,
-) -> Result<Lexed<'input>, ScanError>
-    ensures here { ReadsAs T.unread cursor.old cursor.new result (λ h. coded (quoted_lexed single)
-        (spec.behind_quoted single (layout_data at.now) start text.entry end h)) }
+    read: &mut QuotedScalar<'input>,
+) -> Result<(), ScanError>
+    ensures here { Wherever T.unread cursor.old cursor.new (λ h Lands.
+        GivesTo (λ _. quoted_from single start read.new) result Lands (coded (quoted_lexed single)
+        (spec.behind_quoted single (layout_data at.now) start read.old.text read.old.end h))) }
     ensures kinds { IfErr result (λ e. IsQuotedFault e.kind) }
     ensures moves { Moves T.unread T.left T.origin cursor.old cursor.new }
 {
@@ -485,7 +563,8 @@ fn behind_quoted<'input, T: Input>(
             return Err(ScanError::from_kind(mark, trailing_kind(single)));
         }
     }
-    Ok(quoted_token(single, start, end, text, None))
+    read.comment = None;
+    Ok(())
 }
 
 /// The comment that begins here, where comments are asked for.
@@ -494,18 +573,22 @@ fn comment_behind<'input, T: BorrowedInput<'input>>(
     alloc: Global,
     cursor: &mut Cursor<T>,
     at: &Layout,
-) -> Result<Option<Token<'input>>, ScanError>
-    ensures here { ReadsAs T.unread cursor.old cursor.new result (asked (layout_data at.now)) }
+    comment: &mut Option<Remark<'input>>,
+) -> Result<(), ScanError>
+    ensures here { Wherever T.unread cursor.old cursor.new (λ h Lands.
+        GivesTo (λ _. option_map remark_token comment.new) result Lands (asked (layout_data at.now) h)) }
     ensures kinds { IfErr result (λ e. IsQuotedKind e.kind) }
     ensures lent { LendsWithoutMemory T.unread cursor.old result }
     ensures moves { Moves T.unread T.left T.origin cursor.old cursor.new }
 {
     if at.comments {
-        let comment = read_comment(alloc, cursor)?;
-        return Ok(Some(comment));
+        let token = read_comment(alloc, cursor)?;
+        *comment = remark_of(token);
+        return Ok(());
     }
     pass_comment(cursor)?;
-    Ok(None)
+    *comment = None;
+    Ok(())
 }
 
 /// What stands behind the closing quote: a comment, which blanks part from it, or what may follow.
@@ -516,26 +599,27 @@ fn quoted_tail<'input, T: BorrowedInput<'input>>(
     single: bool,
     at: &Layout,
     start: Marker,
-    text: Text<'input>,
-) -> Result<Lexed<'input>, ScanError>
-    ensures here { ReadsAs T.unread cursor.old cursor.new result (λ h. coded (quoted_lexed single)
-        (spec.quoted_tail single (layout_data at.now) start text.entry h)) }
+    read: &mut QuotedScalar<'input>,
+) -> Result<(), ScanError>
+    ensures here { Wherever T.unread cursor.old cursor.new (λ h Lands.
+        GivesTo (λ _. quoted_from single start read.new) result Lands (coded (quoted_lexed single)
+        (spec.quoted_tail single (layout_data at.now) start read.old.text h))) }
     ensures kinds { IfErr result (λ e. IsQuotedKind e.kind) }
     ensures lent { LendsWithoutMemory T.unread cursor.old result }
     ensures moves { Moves T.unread T.left T.origin cursor.old cursor.new }
 {
     cursor.look(1);
-    let end = cursor.mark();
     if cursor.input().peek() == '#' {
-        return Err(ScanError::from_kind(end, ErrorKind::CommentNotSeparated));
+        return Err(ScanError::from_kind(cursor.mark(), ErrorKind::CommentNotSeparated));
     }
+    read.end = cursor.mark();
     past_blanks(cursor);
     cursor.look(1);
     if cursor.input().peek() == '#' {
-        let comment = comment_behind(alloc, cursor, at)?;
-        return Ok(quoted_token(single, start, end, text, comment));
+        comment_behind(alloc, cursor, at, &mut read.comment)?;
+        return Ok(());
     }
-    behind_quoted(cursor, single, at, start, text, end)
+    behind_quoted(cursor, single, at, start, read)
 }
 
 /// On over blanks and characters that stand for themselves.
@@ -599,9 +683,11 @@ fn read_copied<'input, T: BorrowedInput<'input>>(
     at: &Layout,
     start: Marker,
     front: &str,
-) -> Result<Lexed<'input>, ScanError>
-    ensures here { ReadsAs T.unread cursor.old cursor.new result (λ h. coded (quoted_lexed single)
-        (copied_scalar single (layout_data at.now) start (chars front.now) h)) }
+    read: &mut QuotedScalar<'input>,
+) -> Result<(), ScanError>
+    ensures here { Wherever T.unread cursor.old cursor.new (λ h Lands.
+        GivesTo (λ _. quoted_from single start read.new) result Lands (coded (quoted_lexed single)
+        (copied_scalar single (layout_data at.now) start (chars front.now) h))) }
     ensures kinds { IfErr result (λ e. IsQuotedKind e.kind) }
     ensures moves { Moves T.unread T.left T.origin cursor.old cursor.new }
 {
@@ -609,7 +695,8 @@ fn read_copied<'input, T: BorrowedInput<'input>>(
     let mut parts = quoted_parts(cursor, single, at, start, behind)?;
     cursor.step();
     push_between(&mut parts)?;
-    quoted_tail(alloc, cursor, single, at, start, Text::owned(parts.value))
+    read.text = Text::owned(parts.value);
+    quoted_tail(alloc, cursor, single, at, start, read)
 }
 
 /// A scalar behind its opening quote and the characters that were passed, which are its text where the closing
@@ -621,9 +708,11 @@ fn read_passed<'input, T: BorrowedInput<'input>>(
     at: &Layout,
     start: Marker,
     front: &'input str,
-) -> Result<Lexed<'input>, ScanError>
-    ensures here { ReadsAs T.unread cursor.old cursor.new result (λ h. coded (quoted_lexed single)
-        (passed_scalar single (layout_data at.now) start (chars front.now) h)) }
+    read: &mut QuotedScalar<'input>,
+) -> Result<(), ScanError>
+    ensures here { Wherever T.unread cursor.old cursor.new (λ h Lands.
+        GivesTo (λ _. quoted_from single start read.new) result Lands (coded (quoted_lexed single)
+        (passed_scalar single (layout_data at.now) start (chars front.now) h))) }
     ensures kinds { IfErr result (λ e. IsQuotedKind e.kind) }
     ensures memory { (h : Here) → Stands T.unread cursor.old h → h.unread.lends ≡ true
         → spec.is_closing single h.unread.text ≡ true → IfErr result (λ e. ¬ (e.kind ≡ OutOfMemory)) }
@@ -631,19 +720,27 @@ fn read_passed<'input, T: BorrowedInput<'input>>(
 {
     if at_closing(cursor, single) {
         cursor.step();
-        return quoted_tail(alloc, cursor, single, at, start, Text::borrowed(front));
+        read.text = Text::borrowed(front);
+        return quoted_tail(alloc, cursor, single, at, start, read);
     }
-    read_copied(alloc, cursor, single, at, start, front)
+    read_copied(alloc, cursor, single, at, start, front, read)
 }
 
-fn read_quoted<'input, T: BorrowedInput<'input>>(
+/// The quoted scalar that begins here, and the comment behind it, are read into a place that has room for them.
+///
+/// # Errors
+///
+/// Those of `scan_quoted_scalar`.
+pub fn read_quoted<'input, T: BorrowedInput<'input>>(
     alloc: Global,
     cursor: &mut Cursor<T>,
     single: bool,
     at: &Layout,
-) -> Result<Lexed<'input>, ScanError>
-    ensures here { ReadsAs T.unread cursor.old cursor.new result (λ h.
-        coded (quoted_lexed single) (spec.quoted_scalar single (layout_data at.now) h)) }
+    read: &mut QuotedScalar<'input>,
+) -> Result<(), ScanError>
+    ensures here { Wherever T.unread cursor.old cursor.new (λ h Lands.
+        GivesTo (λ _. quoted_from single (mark_of h) read.new) result Lands
+        (coded (quoted_lexed single) (spec.quoted_scalar single (layout_data at.now) h))) }
     ensures kinds { IfErr result (λ e. IsQuotedKind e.kind) }
     ensures memory { WithoutMemoryAt T.unread cursor.old result (quoted_takes_none single) }
     ensures moves { Moves T.unread T.left T.origin cursor.old cursor.new }
@@ -651,8 +748,8 @@ fn read_quoted<'input, T: BorrowedInput<'input>>(
     let start = cursor.mark();
     cursor.step();
     match pass_kept(cursor, single) {
-        Ok(Some(front)) => read_passed(alloc, cursor, single, at, start, front),
-        Ok(None) => read_copied(alloc, cursor, single, at, start, ""),
+        Ok(Some(front)) => read_passed(alloc, cursor, single, at, start, front, read),
+        Ok(None) => read_copied(alloc, cursor, single, at, start, "", read),
         Err(e) => Err(e),
     }
 }

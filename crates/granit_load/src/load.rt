@@ -33,7 +33,7 @@ ghost use Rattle.granit_readings.specs.ReadAsTrees.{TellsTrees};
 ghost use Rattle.granit_steps.specs.Levels.{IsStream};
 ghost use Rattle.granit_steps.specs.Steps.{StepState};
 
-use granit_base::{NoMemory, Span};
+use granit_base::Span;
 use granit_error::{Options, ScanError};
 use granit_event::Event;
 use granit_input::BorrowedInput;
@@ -108,15 +108,10 @@ pub fn gather<'a, T: BorrowedInput<'a>>(
         (T.origin parser.new.stepper.scanner.cursor.input)) }
     ensures onward { GoesOnward T.unread parser.old.stepper.scanner.cursor parser.new.stepper.scanner.cursor }
 {
-    let mut items = Vec::new(alloc);
-    'events: for _ in 0..u64::MAX {
-        match parser.next_event() {
-            None => return Ok(Events { items }),
-            Some(Err(error)) => return Err(error),
-            Some(Ok(event)) => items.push(event)?,
-        }
+    match parser.gather(alloc) {
+        Ok(items) => Ok(Events { items }),
+        Err(error) => Err(error),
     }
-    Err(ScanError::from(NoMemory))
 }
 
 /// The events of a text. A parser is let go in one place alone, which is dear to prove.

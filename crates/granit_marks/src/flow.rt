@@ -29,7 +29,7 @@ pub fn opener<'input, T: BorrowedInput<'input>>(
     layouts: &mut Layouts,
     bracket: Bracket,
     ends: bool,
-    found: &mut Option<Lexeme<'input>>,
+    found: &mut Lexeme<'input>,
 ) -> Result<(), ScanError>
     requires room { layouts.old.number < 2 ^ 63 }
     ensures here { ReadsItems T.unread (options_of options.now).emit_comments at.old at.new layouts.new
@@ -41,14 +41,13 @@ pub fn opener<'input, T: BorrowedInput<'input>>(
     if options.flow_nesting_limit <= layouts.depth() {
         return Err(ScanError::from_kind(mark, ErrorKind::RecursionLimitExceeded));
     }
-    let lexeme: Lexeme<'input> = sign(at, layouts, ends, LexemeKind::Open(bracket));
+    sign(at, layouts, ends, LexemeKind::Open(bracket), found);
     layouts.open(bracket, mark)?;
     tailed(
         alloc,
         options.emit_comments,
         at,
         layouts,
-        lexeme,
         LastLexeme::Opener,
         found,
     )
@@ -65,7 +64,7 @@ pub fn comma<'input, T: BorrowedInput<'input>>(
     at: &mut Cursor<T>,
     layouts: &mut Layouts,
     ends: bool,
-    found: &mut Option<Lexeme<'input>>,
+    found: &mut Lexeme<'input>,
 ) -> Result<(), ScanError>
     requires room { layouts.old.number < 2 ^ 63 }
     ensures here { ReadsItems T.unread (options_of options.now).emit_comments at.old at.new layouts.new
@@ -74,17 +73,9 @@ pub fn comma<'input, T: BorrowedInput<'input>>(
     ensures moves { Moves T.unread T.left T.origin at.old at.new }
 {
     let last = layouts.last_of_comma();
-    let lexeme: Lexeme<'input> = sign(at, layouts, ends, LexemeKind::Comma);
+    sign(at, layouts, ends, LexemeKind::Comma, found);
     layouts.drop_key()?;
-    tailed(
-        alloc,
-        options.emit_comments,
-        at,
-        layouts,
-        lexeme,
-        last,
-        found,
-    )
+    tailed(alloc, options.emit_comments, at, layouts, last, found)
 }
 
 /// A closer of the innermost open bracket, with its tail.
@@ -100,7 +91,7 @@ pub fn closer<'input, T: BorrowedInput<'input>>(
     layouts: &mut Layouts,
     bracket: Bracket,
     ends: bool,
-    found: &mut Option<Lexeme<'input>>,
+    found: &mut Lexeme<'input>,
 ) -> Result<(), ScanError>
     requires room { layouts.old.number < 2 ^ 63 }
     ensures here { ReadsItems T.unread (options_of options.now).emit_comments at.old at.new layouts.new
@@ -114,14 +105,13 @@ pub fn closer<'input, T: BorrowedInput<'input>>(
             if !is_same(innermost.bracket, bracket) {
                 return Err(mismatched(innermost, bracket));
             }
-            let lexeme: Lexeme<'input> = sign(at, layouts, ends, LexemeKind::Close(bracket));
+            sign(at, layouts, ends, LexemeKind::Close(bracket), found);
             layouts.close();
             tailed(
                 alloc,
                 options.emit_comments,
                 at,
                 layouts,
-                lexeme,
                 LastLexeme::Adjacent,
                 found,
             )

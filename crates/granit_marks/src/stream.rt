@@ -11,7 +11,7 @@ ghost use Rattle.granit_content.specs.Reads.{NeverWants, ReadsItems, lexeme_in};
 
 use granit_base::is_breakz;
 use granit_content::{
-    give, kept_note, lexeme_to, over_break_if, scalar_lexeme, start_of, tail_at, with_tail,
+    kept_note, over_break_if, put_tail, scalar_lexeme, start_of, tail_at, write_lexeme,
 };
 use granit_cursor::Cursor;
 use granit_directives::scan_directive;
@@ -27,11 +27,11 @@ use std::alloc::Global;
 /// # Errors
 ///
 /// Those of `Layouts::refuse_open` and `Layouts::drop_key`.
-pub fn text_end<'input, T: Input>(
+pub fn text_end<T: Input>(
     asked: bool,
     at: &mut Cursor<T>,
     layouts: &mut Layouts,
-    found: &mut Option<Lexeme<'input>>,
+    found: &mut Lexeme<'_>,
 ) -> Result<(), ScanError>
     requires room { layouts.old.number < 2 ^ 63 }
     ensures here { ReadsItems T.unread asked at.old at.new layouts.new
@@ -41,16 +41,17 @@ pub fn text_end<'input, T: Input>(
 {
     layouts.refuse_open()?;
     let start = start_of(at);
-    let lexeme = lexeme_to(
+    let ends = layouts.ends_all();
+    write_lexeme(
+        found,
         layouts,
-        layouts.ends_all(),
+        ends,
         LexemeKind::StreamEnd,
-        start,
+        &start,
         start.mark,
     );
     layouts.drop_key()?;
     layouts.behind_end();
-    *found = Some(lexeme);
     Ok(())
 }
 
@@ -66,12 +67,12 @@ fn past_mark<T: Input>(at: &mut Cursor<T>)
 }
 
 /// `---`.
-fn start_mark<'input, T: Input>(
+fn start_mark<T: Input>(
     asked: bool,
     at: &mut Cursor<T>,
     layouts: &mut Layouts,
     ends: bool,
-    found: &mut Option<Lexeme<'input>>,
+    found: &mut Lexeme<'_>,
 )
     requires room { layouts.old.number < 2 ^ 63 }
     ensures here { ReadsItems T.unread asked at.old at.new layouts.new (lexeme_in found.new) (Ok tt)
@@ -80,9 +81,16 @@ fn start_mark<'input, T: Input>(
 {
     let start = start_of(at);
     past_mark(at);
-    let lexeme = lexeme_to(layouts, ends, LexemeKind::DocumentStart, start, at.mark());
+    write_lexeme(
+        found,
+        layouts,
+        ends,
+        LexemeKind::DocumentStart,
+        &start,
+        at.mark(),
+    );
     layouts.forget_key();
-    give(layouts, lexeme, LastLexeme::Another, found);
+    layouts.count_lexeme(LastLexeme::Another);
 }
 
 /// `---` where no bracket is open, which ends all columns.
@@ -90,11 +98,11 @@ fn start_mark<'input, T: Input>(
 /// # Errors
 ///
 /// Those of `Layouts::refuse_open`.
-pub fn document_start<'input, T: Input>(
+pub fn document_start<T: Input>(
     asked: bool,
     at: &mut Cursor<T>,
     layouts: &mut Layouts,
-    found: &mut Option<Lexeme<'input>>,
+    found: &mut Lexeme<'_>,
 ) -> Result<(), ScanError>
     requires room { layouts.old.number < 2 ^ 63 }
     ensures here { ReadsItems T.unread asked at.old at.new layouts.new
@@ -119,7 +127,7 @@ pub fn document_end<'input, T: BorrowedInput<'input>>(
     asked: bool,
     at: &mut Cursor<T>,
     layouts: &mut Layouts,
-    found: &mut Option<Lexeme<'input>>,
+    found: &mut Lexeme<'input>,
 ) -> Result<(), ScanError>
     requires room { layouts.old.number < 2 ^ 63 }
     ensures here { ReadsItems T.unread asked at.old at.new layouts.new
@@ -140,7 +148,7 @@ fn end_mark<'input, T: BorrowedInput<'input>>(
     at: &mut Cursor<T>,
     layouts: &mut Layouts,
     ends: bool,
-    found: &mut Option<Lexeme<'input>>,
+    found: &mut Lexeme<'input>,
 ) -> Result<(), ScanError>
     requires room { layouts.old.number < 2 ^ 63 }
     ensures here { ReadsItems T.unread asked at.old at.new layouts.new
@@ -153,9 +161,9 @@ fn end_mark<'input, T: BorrowedInput<'input>>(
     let end = at.mark();
     let tail = tail_at(alloc, at, asked)?;
     refuse_more(at)?;
-    let lexeme = lexeme_to(layouts, ends, LexemeKind::DocumentEnd, start, end);
+    write_lexeme(found, layouts, ends, LexemeKind::DocumentEnd, &start, end);
+    put_tail(found, tail);
     layouts.behind_end_mark();
-    *found = Some(with_tail(lexeme, tail));
     Ok(())
 }
 
@@ -182,7 +190,7 @@ pub fn directive<'input, T: BorrowedInput<'input>>(
     options: &Options,
     at: &mut Cursor<T>,
     layouts: &mut Layouts,
-    found: &mut Option<Lexeme<'input>>,
+    found: &mut Lexeme<'input>,
 ) -> Result<(), ScanError>
     requires sign { (h : Here) → Stands T.unread at.old h → next_char h ≡ 0x25 }
     requires room { layouts.old.number < 2 ^ 63 }
@@ -197,8 +205,7 @@ pub fn directive<'input, T: BorrowedInput<'input>>(
     let read = scan_directive(alloc, at, options)?;
     over_break_if(at);
     let tail = kept_note(alloc, read.comment)?;
-    let lexeme = scalar_lexeme(alloc, layouts, ends, start, read.token, tail);
+    scalar_lexeme(alloc, layouts, ends, &start, read.token, tail, found);
     layouts.behind_directive();
-    *found = Some(lexeme);
     Ok(())
 }

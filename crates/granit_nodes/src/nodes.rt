@@ -357,8 +357,8 @@ fn begin_mapping<'input>(
     stage: PairStage,
 ) -> Result<(), ScanError>
     ensures leaves { LeavesIfRoom result state.new (ends.begin_block
-        (options_of options.now) ends.block_mapping token.now.lexeme.start
-        (machine.BlockMapping token.now.lexeme.start.place.column (pair_view stage)) state.old) }
+        (options_of options.now) ends.block_mapping token.now.lexeme.value.start
+        (machine.BlockMapping token.now.lexeme.value.start.place.column (pair_view stage)) state.old) }
     ensures kept { state.new.kept ≡ state.old.kept }
 {
     state.begin_block(

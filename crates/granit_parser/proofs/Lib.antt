@@ -5,6 +5,7 @@ mod ChangeLemmas
 pub mod DropLemmas
 pub mod DroppedLemmas
 pub mod FirstLemmas
+pub mod GatherLemmas
 pub mod GoesLemmas
 pub mod InLemmas
 mod KeepLemmas

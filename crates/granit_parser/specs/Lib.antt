@@ -1,4 +1,5 @@
 pub mod Alone
+pub mod Gathering
 pub mod Numbers
 pub mod Parsing
 pub mod Receiving

@@ -3,6 +3,7 @@
 
 mod anchors;
 mod fallible;
+mod gathering;
 mod parser;
 mod receive;
 mod recovery;

@@ -238,7 +238,7 @@ impl<'input, T: BorrowedInput<'input>> Parser<'input, T> {
         }
     }
 
-    fn note_refusal(&mut self, error: &ScanError)
+    pub(crate) fn note_refusal(&mut self, error: &ScanError)
         requires seen { self.old.peeked ≡ None }
         requires ends { self.old.stepper.failed ≡ true }
         ensures given { (kept : Refused) × (self.new.given ≡ Some kept) × IsKept error.now kept }

@@ -260,7 +260,7 @@ impl<'input, T: BorrowedInput<'input>> Parser<'input, T> {
     }
 
     /// Gives nothing more, for want of memory.
-    fn run_out(&mut self) -> ScanError
+    pub(crate) fn run_out(&mut self) -> ScanError
         ensures kind { result.kind ≡ OutOfMemory }
         ensures over { IsOver self.new }
         ensures given { (e : Refused) × (self.new.given ≡ Some e) × (e.kind ≡ OutOfMemory) }

@@ -9,7 +9,7 @@ ghost use Rattle.granit_steps.specs.Steps as spec;
 
 use crate::rising::{Numbers, is_before};
 use granit_base::NoMemory;
-use granit_items::{Found, Item, KeyStart, LexemeKind};
+use granit_items::{Found, Item, KeyStart, Rooms};
 use std::alloc::Global;
 use std::collections::VecDeque;
 use std::marker::Model;
@@ -54,15 +54,20 @@ impl<'input> Queue<'input> {
         }
     }
 
-    /// What a read found comes behind the others; a `:` with a key flags the lexeme that begins it.
+    /// What a read found comes behind the others; a `:` with a key flags the lexeme that begins it. Where no lexeme was
+    /// read, its room is left to others.
     ///
     /// # Errors
     ///
     /// `NoMemory` alone.
-    pub fn push_found(&mut self, found: &mut Found<'input>) -> Result<(), NoMemory>
-        ensures { OnOk result (self.new ≡ spec.pushed self.old (found_items found.old)) }
+    pub fn push_found(
+        &mut self,
+        found: Found<'input>,
+        rooms: &mut Rooms<'input>,
+    ) -> Result<(), NoMemory>
+        ensures { OnOk result (self.new ≡ spec.pushed self.old (found_items found.entry)) }
     {
-        push_all(&mut self.items, &mut self.numbers, found)
+        push_all(&mut self.items, &mut self.numbers, found, rooms)
     }
 
     /// The item behind so many older ones.
@@ -107,25 +112,30 @@ impl<'input> Queue<'input> {
 fn push_all<'input>(
     items: &mut VecDeque<Queued<'input>>,
     numbers: &mut Numbers,
-    found: &mut Found<'input>,
+    found: Found<'input>,
+    rooms: &mut Rooms<'input>,
 ) -> Result<(), NoMemory>
     requires rising { Rising numbers.old (queue_view items.old.items) }
     ensures pushed { OnOk result (queue_view items.new.items
-        ≡ spec.pushed (queue_view items.old.items) (found_items found.old)) }
+        ≡ spec.pushed (queue_view items.old.items) (found_items found.entry)) }
     ensures rising { Rising numbers.new (queue_view items.new.items) }
 {
     // No `:` was read behind what was found.
     let begins_key = false;
-    if let Some(lexeme) = found.lexeme.take() {
+    let Found {
+        filled,
+        lexeme,
+        note,
+    } = found;
+    if filled {
         let item = Item::Lexeme(lexeme);
         push(items, numbers, Queued { item, begins_key })?;
+    } else {
+        rooms.keep(lexeme);
     }
-    if let Some(note) = found.note.take() {
-        let note = Item::Note(Box::into_inner(note));
-        let queued = Queued {
-            item: note,
-            begins_key,
-        };
+    if let Some(note) = note {
+        let item = Item::Note(note);
+        let queued = Queued { item, begins_key };
         push(items, numbers, queued)?;
     }
     Ok(())

@@ -18,27 +18,26 @@ use Rattle.granit_machine.specs.Reader.{lexeme_of, is_strict_outside, lexeme_in_
 use Rattle.granit_machine.specs.ReaderState.{ReaderState, Read}
 use Rattle.granit_steps.specs.Steps.{incoming}
 use Rattle.granit_cursor.specs.Reading.{GivesTo, coded}
-use Rattle.granit_items.specs.ItemViews.{lexeme_items, note_items}
-use Rattle.granit_items.specs.declared.item.Found.{Found}
+use Rattle.granit_items.specs.ItemViews.{alone, filled_items, note_items}
 use Rattle.granit_items.specs.declared.item.Lexeme.{Lexeme}
 use Rattle.granit_items.specs.declared.item.Note.{Note}
-use Rattle.granit_content.specs.Reads.{Passed, Kept, found_in, lexeme_in, seen}
+use Rattle.granit_content.specs.Reads.{Passed, Kept, lexeme_in, seen}
 use Rattle.granit_reader.specs.Reads.{reader_at}
 use Rattle.granit_reader.specs.SortViews.{noded_by, begun}
 
 -- ---- a lexeme with no comment behind it
 
-only_lexeme : (x : Option Lexeme) (n : Option (Box Note)) → n ≡ None
-    → lexeme_items x ≡ lexeme_items x ++ note_items n
-only_lexeme None n none = rw none refl
-only_lexeme (Some x) n none = rw none refl
+only_lexeme : (filled : Bool) (x : Lexeme) (n : Option (Box Note)) → filled ≡ true → n ≡ None
+    → alone x ≡ filled_items filled x ++ note_items n
+only_lexeme filled x n some none = rw (some, none) refl
 
 -- where no comment was found, a lexeme is all that was
-pub found_alone : (f : Found) (r : Result (Unit {0}) Refused) (Lands : ReaderState → Type 0) (given : Read)
-    → f.note ≡ None → GivesTo (lexeme_in f.lexeme) r Lands given → GivesTo (found_in f) r Lands given
-found_alone f r Lands given none found =
+pub found_alone : (filled : Bool) (x : Lexeme) (n : Option (Box Note)) (r : Result (Unit {0}) Refused)
+    (Lands : ReaderState → Type 0) (given : Read) → filled ≡ true → n ≡ None → GivesTo (lexeme_in x) r Lands given
+    → GivesTo (λ _. filled_items filled x ++ note_items n) r Lands given
+found_alone filled x n r Lands given some none found =
     subst (λ (view : Unit {0} → List Item). GivesTo view r Lands given)
-    (ap {B = Unit {0} → List Item} (λ (xs : List Item) (u : Unit {0}). xs) (only_lexeme f.lexeme f.note none)) found
+    (ap {B = Unit {0} → List Item} (λ (xs : List Item) (u : Unit {0}). xs) (only_lexeme filled x n some none)) found
 
 -- ---- a lexeme that stands in a column
 

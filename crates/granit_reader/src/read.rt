@@ -1,5 +1,5 @@
 //! One read: a comment, or a lexeme with its tail.
-ghost use Rattle.std.specs.Prelude.{◌≡◌, ◌<◌, ◌≤◌, ◌^◌, Bool, false, Option, None, Ok};
+ghost use Rattle.std.specs.Prelude.{◌≡◌, ◌<◌, ◌≤◌, ◌^◌, Bool, true, false, Option, None, Ok};
 ghost use Rattle.granit_base.specs.Classes.{is_gap};
 ghost use Rattle.granit_cursor.specs.Reading.{Moves, Stands};
 ghost use Rattle.granit_error.specs.FaultKind as faults;
@@ -31,7 +31,7 @@ use granit_content::{
 use granit_cursor::Cursor;
 use granit_error::{ErrorKind, Options, ScanError};
 use granit_input::{BorrowedInput, Input};
-use granit_items::Found;
+use granit_items::{Found, Lexeme};
 use granit_layout::{Layouts, is_adjacent};
 use granit_marks::{closer, comma, directive, document_end, document_start, opener, text_end};
 use granit_signs::{colon, dash, question};
@@ -48,7 +48,7 @@ pub(crate) fn read<'input, T: BorrowedInput<'input>>(
     met: &mut Met,
 ) -> Result<(), ScanError>
     requires room { layouts.old.number < 2 ^ 63 }
-    requires no_lexeme { found.old.lexeme ≡ None }
+    requires no_lexeme { found.old.filled ≡ false }
     requires no_note { found.old.note ≡ None }
     ensures here { ReadsItems T.unread (options_of options.now).emit_comments at.old at.new layouts.new
         (found_in found.new) result (λ h. spec.read (options_of options.now) (reader_at h layouts.old)) }
@@ -77,7 +77,7 @@ fn behind_gap<'input, T: BorrowedInput<'input>>(
     requires clear { note ≡ Nothing → (h : Here) → Stands T.unread at.old h → is_gap (here.next_char h) ≡ false }
     requires window { note ≡ Nothing → 4 ≤ T.window at.old.input }
     requires room { layouts.old.number < 2 ^ 63 }
-    requires no_lexeme { found.old.lexeme ≡ None }
+    requires no_lexeme { found.old.filled ≡ false }
     requires no_note { found.old.note ≡ None }
     requires unmet { met.old ≡ mets.Nothing }
     ensures here { (t : Option CommentRead) → tail_view note.entry ≡ seen (options_of options.now).emit_comments t
@@ -127,6 +127,7 @@ fn lexeme<'input, T: BorrowedInput<'input>>(
 {
     let sort = sort_at(at, layouts.is_in_flow(), is_adjacent(layouts.last()));
     *met = met_by(sort);
+    found.filled = true;
     lexeme_by(alloc, options, at, layouts, sort, found)
 }
 
@@ -142,6 +143,7 @@ fn lexeme_by<'input, T: BorrowedInput<'input>>(
 ) -> Result<(), ScanError>
     requires fits { (h : Here) → Stands T.unread at.old h → SortFits (is_in_flow layouts.old) (sort_view sort) h }
     requires room { layouts.old.number < 2 ^ 63 }
+    requires filled { found.old.filled ≡ true }
     requires no_note { found.old.note ≡ None }
     ensures here { ReadsItems T.unread (options_of options.now).emit_comments at.old at.new layouts.new
         (found_in found.new) result (λ h. spec.lexeme_by (options_of options.now) (sort_view sort) h layouts.old) }
@@ -178,6 +180,7 @@ fn lexeme_in_column<'input, T: BorrowedInput<'input>>(
 ) -> Result<(), ScanError>
     requires fits { (h : Here) → Stands T.unread at.old h → PlacedFits (is_in_flow layouts.old) (placed_view sort) h }
     requires room { layouts.old.number < 2 ^ 63 }
+    requires filled { found.old.filled ≡ true }
     requires no_note { found.old.note ≡ None }
     ensures here { ReadsItems T.unread (options_of options.now).emit_comments at.old at.new layouts.new
         (found_in found.new) result
@@ -225,6 +228,7 @@ fn lexeme_of<'input, T: BorrowedInput<'input>>(
 ) -> Result<(), ScanError>
     requires fits { (h : Here) → Stands T.unread at.old h → PlacedFits (is_in_flow layouts.old) (placed_view sort) h }
     requires room { layouts.old.number < 2 ^ 63 }
+    requires filled { found.old.filled ≡ true }
     requires no_note { found.old.note ≡ None }
     ensures here { ReadsItems T.unread (options_of options.now).emit_comments at.old at.new layouts.new
         (found_in found.new) result (λ h. sorts.begun (options_of options.now) (placed_view sort) ends h layouts.old) }
@@ -232,7 +236,7 @@ fn lexeme_of<'input, T: BorrowedInput<'input>>(
         (λ h. placed_takes_none (options_of options.now) (placed_view sort) h layouts.old) }
     ensures moves { Moves T.unread T.left T.origin at.old at.new }
 {
-    let lexeme = &mut found.lexeme;
+    let lexeme: &mut Lexeme<'input> = &mut found.lexeme;
     match sort {
         PlacedSort::OpenSign(bracket) => opener(alloc, options, at, layouts, bracket, ends, lexeme),
         PlacedSort::CloseSign(bracket) => closer(

@@ -1,5 +1,5 @@
 //! All reads, one after another.
-ghost use Rattle.std.specs.Prelude.{◌≡◌, ◌<◌, ◌^◌, None, IfErr};
+ghost use Rattle.std.specs.Prelude.{◌≡◌, ◌<◌, ◌^◌, false, None, IfErr};
 ghost use Rattle.granit_cursor.specs.Reading.{Moves, Stands};
 ghost use Rattle.granit_error.specs.FaultKind.{NoMemory};
 ghost use Rattle.granit_error.specs.OptionsView.{options_of};
@@ -37,7 +37,7 @@ pub fn next_found<'input, T: BorrowedInput<'input>>(
     met: &mut Met,
 ) -> Result<(), ScanError>
     requires room { layouts.old.number < 2 ^ 63 }
-    requires no_lexeme { found.old.lexeme ≡ None }
+    requires no_lexeme { found.old.filled ≡ false }
     requires no_note { found.old.note ≡ None }
     ensures here { (h : Here) → Stands T.unread at.old h → TurnTo (options_of options.now).emit_comments result
         (found_items found.new) (IsAt T.unread at.new layouts.new) ended.new (reader_at h layouts.old)
@@ -60,8 +60,5 @@ pub fn next_found<'input, T: BorrowedInput<'input>>(
 fn is_end(found: &Found<'_>) -> bool
     ensures { result ≡ spec.is_end (found_items found.now) }
 {
-    match &found.lexeme {
-        None => false,
-        Some(lexeme) => matches!(lexeme.kind, LexemeKind::StreamEnd),
-    }
+    found.filled && matches!(found.lexeme.kind, LexemeKind::StreamEnd)
 }

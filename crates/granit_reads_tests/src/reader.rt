@@ -2,7 +2,7 @@
 use granit_cursor::Cursor;
 use granit_error::{Options, ScanError};
 use granit_input::StrInput;
-use granit_items::Found;
+use granit_items::{Found, Rooms};
 use granit_layout::Layouts;
 use granit_reader::{Met, next_found};
 use std::alloc::Global;
@@ -10,7 +10,7 @@ use std::alloc::Global;
 /// Whether a read found a lexeme, and a comment; none where it was refused.
 fn told(read: &Result<(), ScanError>, found: &Found<'_>) -> Option<(bool, bool)> {
     match read {
-        Ok(()) => Some((found.lexeme.is_some(), found.note.is_some())),
+        Ok(()) => Some((found.filled, found.note.is_some())),
         Err(_) => None,
     }
 }
@@ -26,8 +26,10 @@ fn read<'a>(
         return None;
     }
     let options = Options::default();
+    let mut rooms = Rooms::new(alloc);
     let mut found: Found<'a> = Found {
-        lexeme: None,
+        filled: false,
+        lexeme: rooms.take().ok()?,
         note: None,
     };
     let mut met = Met::Nothing;

@@ -2,6 +2,7 @@
 use Rattle.std.proofs.Common.{◌≡◌, Bool, true, false, List, ◌++◌, Option, Some, None, is_some, Result, Ok, Err}
 use Rattle.std.proofs.Common.{refl, sym, ap, subst, ◌∙◌, inl, inr}
 use Rattle.std.specs.Prelude.{if◌then◌else◌, IfErr, IfOk, IfSome}
+use Rattle.std.specs.Global.{Box}
 use Rattle.std.specs.Option.{option_map}
 use Rattle.granit_base.specs.Place.{Mark, Unread}
 use Rattle.granit_cursor.specs.Reading.{CameOn, GoesOnward, GoesTo, Reading, Stands}
@@ -9,7 +10,7 @@ use Rattle.granit_cursor.specs.declared.token.Token.{Token}
 use Rattle.granit_error.specs.FaultKind.{NoMemory}
 use Rattle.granit_error.specs.OptionsData.{OptionsData}
 use Rattle.granit_error.specs.Refused.{Refused}
-use Rattle.granit_items.specs.ItemViews.{lexeme_view}
+use Rattle.granit_items.specs.ItemViews.{boxed_lexeme}
 use Rattle.granit_items.specs.declared.item.Lexeme as code
 use Rattle.granit_lexemes.specs.Here.{Here}
 use Rattle.granit_lexemes.specs.Lexeme.{Lexeme}
@@ -45,7 +46,7 @@ given_first : (t : Option Token) (first : Option Mark) → IfSome t (λ x. first
 given_first None first told = told
 given_first (Some t) first told = told
 
-front_is : (front : Option code.Lexeme) (l : Option Lexeme) → option_map lexeme_view front ≡ l
+front_is : (front : Option (Box code.Lexeme)) (l : Option Lexeme) → option_map boxed_lexeme front ≡ l
     → front_items front ≡ mark_items l
 front_is None l is = ap mark_items is
 front_is (Some x) l is = ap mark_items is
@@ -64,12 +65,12 @@ module _ {I : Type 0} (unread : I → Unread → Type 0) (s : Scanning I) (m : T
   -- ---- at the boundary
 
   module _ (rests : Rests unread s m) (found : s.items.cursor.lost ≡ false) (t : Option Token)
-      (told : IfSome t (λ x. s.first ≡ None)) (front : Option code.Lexeme)
-      (mark : option_map lexeme_view front ≡ mark_in (handed (option_map plain_token t) ++ s.writer.waiting)) where
+      (told : IfSome t (λ x. s.first ≡ None)) (front : Option (Box code.Lexeme))
+      (mark : option_map boxed_lexeme front ≡ mark_in (handed (option_map plain_token t) ++ s.writer.waiting)) where
     tokens : List PlainToken
     tokens = handed (option_map plain_token t) ++ m.pending
 
-    same_mark : option_map lexeme_view front ≡ mark_in tokens
+    same_mark : option_map boxed_lexeme front ≡ mark_in tokens
     unfolding tokens
     same_mark =
         mark ∙ sym (mark_behind_start (option_map plain_token t) s.first s.writer.waiting (given_first t s.first told))

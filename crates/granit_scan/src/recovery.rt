@@ -103,8 +103,8 @@ impl<'input, T: BorrowedInput<'input>> Scanner<'input, T> {
         if self.items.is_lost() {
             return Err(ScanError::from(NoMemory));
         }
-        let mark: Option<Lexeme<'input>> = self.writer.take_mark(self.alloc, token)?;
-        self.items.restart(mark)?;
+        let mark: Option<Box<Lexeme<'input>>> = self.writer.take_mark(self.alloc, token)?;
+        self.items.restart(mark, &mut self.rooms)?;
         self.writer.begin_anew();
         Ok(())
     }

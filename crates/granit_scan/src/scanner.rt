@@ -29,6 +29,7 @@ use granit_base::{Marker, NoMemory, Span};
 use granit_cursor::{Token, TokenType};
 use granit_error::{ErrorKind, Options, ScanError};
 use granit_input::{BorrowedInput, Input};
+use granit_items::Rooms;
 use granit_queue::Queued;
 use granit_scanner::{Front, Scanner as ItemScanner};
 use std::alloc::Global;
@@ -41,6 +42,8 @@ pub struct Scanner<'input, T: Input> {
     pub(crate) alloc: Global,
     pub(crate) items: ItemScanner<'input, T>,
     pub(crate) writer: Writer<'input>,
+    // Room for lexemes, which those left that were written.
+    pub(crate) rooms: Rooms<'input>,
     // Where the stream starts, until that is told.
     pub(crate) first: Option<Marker>,
     // The end of the stream was given.
@@ -108,6 +111,7 @@ impl<'input, T: BorrowedInput<'input>> Scanner<'input, T> {
             alloc,
             items,
             writer: Writer::new(alloc),
+            rooms: Rooms::new(alloc),
             first: Some(start),
             ended: false,
             failed: false,
@@ -415,7 +419,8 @@ impl<'input, T: BorrowedInput<'input>> Scanner<'input, T> {
     {
         let Queued { item, begins_key } = queued;
         let options = self.items.options();
-        self.writer.write(options, item, begins_key)?;
+        self.writer
+            .write(options, item, begins_key, &mut self.rooms)?;
         Ok(true)
     }
 
@@ -431,7 +436,7 @@ impl<'input, T: BorrowedInput<'input>> Scanner<'input, T> {
         if self.items.is_over() {
             return self.end();
         }
-        self.items.read_on(self.alloc)?;
+        self.items.read_on(self.alloc, &mut self.rooms)?;
         Ok(true)
     }
 

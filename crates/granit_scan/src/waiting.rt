@@ -1,7 +1,7 @@
 //! The tokens that are made and not yet given.
 ghost use Rattle.std.specs.Prelude.{◌≡◌, ◌==◌, [], ◌∷◌, ◌++◌, length, replicate, drop, slice_get, Some, IfOk, OnOk};
 ghost use Rattle.std.specs.Option.{option_map};
-ghost use Rattle.granit_items.specs.ItemViews.{boxed_view, kind_view, lexeme_view, note_view};
+ghost use Rattle.granit_items.specs.ItemViews.{boxed_lexeme, boxed_view, kind_view, note_view};
 ghost use Rattle.granit_scan.specs.Marks as marks;
 ghost use Rattle.granit_scan.specs.TokenViews.{CollectionEnd, inserted_if, marked, plain_token, token_kind};
 
@@ -105,8 +105,8 @@ impl<'input> Waiting<'input> {
         &mut self,
         alloc: Global,
         handed: Option<Token<'input>>,
-    ) -> Result<Option<Lexeme<'input>>, NoMemory>
-        ensures { IfOk result (λ m. option_map lexeme_view m
+    ) -> Result<Option<Box<Lexeme<'input>>>, NoMemory>
+        ensures { IfOk result (λ m. option_map boxed_lexeme m
             ≡ marks.mark_in (marks.handed (option_map plain_token handed.entry) ++ self.old)) }
     {
         match handed {
@@ -118,8 +118,8 @@ impl<'input> Waiting<'input> {
         }
     }
 
-    fn pop_mark(&mut self, alloc: Global) -> Result<Option<Lexeme<'input>>, NoMemory>
-        ensures { IfOk result (λ m. option_map lexeme_view m ≡ marks.mark_in self.old) }
+    fn pop_mark(&mut self, alloc: Global) -> Result<Option<Box<Lexeme<'input>>>, NoMemory>
+        ensures { IfOk result (λ m. option_map boxed_lexeme m ≡ marks.mark_in self.old) }
     {
         'tokens: loop {
             match self.pop() {
@@ -139,12 +139,12 @@ impl<'input> Waiting<'input> {
         alloc: Global,
         kind: LexemeKind<'input>,
         span: Span,
-    ) -> Result<Option<Lexeme<'input>>, NoMemory>
-        ensures { IfOk result (λ m. option_map lexeme_view m
+    ) -> Result<Option<Box<Lexeme<'input>>>, NoMemory>
+        ensures { IfOk result (λ m. option_map boxed_lexeme m
             ≡ Some (marks.mark_at (kind_view kind.entry) span (marks.tail_in self.old))) }
     {
         let tail = self.pop_note(alloc)?;
-        Ok(Some(Lexeme {
+        let mark = Lexeme {
             number: 0,
             kind,
             start: span.start,
@@ -158,7 +158,8 @@ impl<'input> Waiting<'input> {
             ends_column: false,
             key: None,
             tail,
-        }))
+        };
+        Ok(Some(Box::new(alloc, mark)?))
     }
 
     fn pop_note(&mut self, alloc: Global) -> Result<Option<Box<Note<'input>>>, NoMemory>

@@ -1,7 +1,7 @@
 //! Items are written as tokens.
 ghost use Rattle.std.specs.Prelude.{◌≡◌, ◌==◌, ◌++◌, length, drop, slice_get, IfOk, OnOk};
 ghost use Rattle.std.specs.Option.{option_map};
-ghost use Rattle.granit_items.specs.ItemViews.{boxed_view, item_view, kind_view, lexeme_view};
+ghost use Rattle.granit_items.specs.ItemViews.{boxed_lexeme, boxed_view, item_view, kind_view, lexeme_view};
 ghost use Rattle.granit_lexemes.specs.Lexeme.{is_entry_dash};
 ghost use Rattle.granit_scan.specs.Following as spec;
 ghost use Rattle.granit_scan.specs.Marks as marks;
@@ -14,12 +14,13 @@ use crate::waiting::Waiting;
 use granit_base::{Marker, NoMemory};
 use granit_cursor::{Token, TokenType};
 use granit_error::Options;
-use granit_items::{Item, Lexeme, LexemeKind, Note};
+use granit_items::{Item, Lexeme, LexemeKind, Note, Rooms};
 use granit_layout::{Layouts, is_opener};
 use granit_lexemes::LastLexeme;
 use granit_queue::Queued;
 use std::alloc::Global;
 use std::marker::Model;
+use std::mem;
 
 /// No column is greater in a text.
 const MOST_COLUMNS: usize = 0x7FFF_FFFF_FFFF_FFFF;
@@ -100,14 +101,14 @@ impl<'input> Writer<'input> {
         &mut self,
         alloc: Global,
         handed: Option<Token<'input>>,
-    ) -> Result<Option<Lexeme<'input>>, NoMemory>
-        ensures { IfOk result (λ m. option_map lexeme_view m
+    ) -> Result<Option<Box<Lexeme<'input>>>, NoMemory>
+        ensures { IfOk result (λ m. option_map boxed_lexeme m
             ≡ marks.mark_in (marks.handed (option_map plain_token handed.entry) ++ self.old.waiting)) }
     {
         self.waiting.take_mark(alloc, handed)
     }
 
-    /// An item is written; whether a simple key begins with it is told.
+    /// An item is written; whether a simple key begins with it is told. A lexeme leaves its room to others.
     ///
     /// # Errors
     ///
@@ -117,26 +118,31 @@ impl<'input> Writer<'input> {
         options: &Options,
         item: Item<'input>,
         begins_key: bool,
+        rooms: &mut Rooms<'input>,
     ) -> Result<(), NoMemory>
         ensures { OnOk result (self.new ≡ spec.wrote begins_key (item_view item.entry) self.old) }
     {
         match item {
-            Item::Lexeme(lexeme) => self.write_lexeme(options, lexeme, begins_key),
-            Item::Note(note) => self.waiting.push(note_token(note)),
+            Item::Lexeme(mut lexeme) => {
+                let written = self.write_lexeme(options, &mut lexeme, begins_key);
+                rooms.keep(lexeme);
+                written
+            }
+            Item::Note(note) => self.waiting.push(note_token(Box::into_inner(note))),
         }
     }
 
     fn write_lexeme(
         &mut self,
         options: &Options,
-        lexeme: Lexeme<'input>,
+        lexeme: &mut Lexeme<'input>,
         begins_key: bool,
     ) -> Result<(), NoMemory>
-        ensures { OnOk result (self.new ≡ spec.wrote_lexeme begins_key (lexeme_view lexeme.entry) self.old) }
+        ensures { OnOk result (self.new ≡ spec.wrote_lexeme begins_key (lexeme_view lexeme.old) self.old) }
     {
-        self.write_ends(&lexeme)?;
-        self.insert_before(&lexeme, begins_key)?;
-        self.follow(options, &lexeme)?;
+        self.write_ends(lexeme)?;
+        self.insert_before(lexeme, begins_key)?;
+        self.follow(options, lexeme)?;
         self.write_own(lexeme)?;
         Ok(())
     }
@@ -291,12 +297,13 @@ impl<'input> Writer<'input> {
         }
     }
 
-    /// A lexeme's own token, and that of the comment behind it.
-    fn write_own(&mut self, lexeme: Lexeme<'input>) -> Result<(), NoMemory>
-        ensures { OnOk result (self.new ≡ spec.with_own (lexeme_view lexeme.entry) self.old) }
+    /// A lexeme's own token, and that of the comment behind it, which are taken out of it.
+    fn write_own(&mut self, lexeme: &mut Lexeme<'input>) -> Result<(), NoMemory>
+        ensures { OnOk result (self.new ≡ spec.with_own (lexeme_view lexeme.old) self.old) }
     {
-        let span = own_span(&lexeme);
-        let Lexeme { kind, tail, .. } = lexeme;
+        let span = own_span(lexeme);
+        let kind = mem::replace(&mut lexeme.kind, LexemeKind::Comma);
+        let tail = lexeme.tail.take();
         self.waiting.push(Token::new(span, token_type_of(kind)))?;
         self.write_tail(tail)
     }

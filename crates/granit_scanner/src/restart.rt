@@ -2,7 +2,7 @@
 ghost use Rattle.std.specs.Prelude.{◌≡◌, ◌<◌, ◌≤◌, ◌^◌, ◌++◌, false, [], None, Some, IfOk, OnOk};
 ghost use Rattle.std.specs.Option.{option_map};
 ghost use Rattle.granit_cursor.specs.Reading.{GoesTo, Moves, Stands};
-ghost use Rattle.granit_items.specs.ItemViews.{item_view, kind_view, lexeme_view};
+ghost use Rattle.granit_items.specs.ItemViews.{boxed_lexeme, item_view, kind_view, lexeme_view};
 ghost use Rattle.granit_lexemes.specs.Here.{Here};
 ghost use Rattle.granit_reader.specs.Meets.{behind_met};
 ghost use Rattle.granit_restart.specs.Boundary.{next_boundary};
@@ -17,10 +17,10 @@ use crate::last::{is_behind, last_behind};
 use crate::scanner::{MOST_LEXEMES, Scanner};
 use granit_base::{NoMemory, is_break};
 use granit_boundary::{Boundary, pass_to_boundary};
-use granit_content::{Start, lexeme_to};
+use granit_content::{Start, write_lexeme};
 use granit_cursor::Cursor;
 use granit_input::{BorrowedInput, Input};
-use granit_items::{Found, Item, Lexeme, LexemeKind};
+use granit_items::{Found, Item, Lexeme, LexemeKind, Rooms};
 use granit_queue::Queue;
 
 impl<'input, T: BorrowedInput<'input>> Scanner<'input, T> {
@@ -30,7 +30,11 @@ impl<'input, T: BorrowedInput<'input>> Scanner<'input, T> {
     /// # Errors
     ///
     /// `NoMemory` alone.
-    pub fn restart(&mut self, front: Option<Lexeme<'input>>) -> Result<bool, NoMemory>
+    pub fn restart(
+        &mut self,
+        front: Option<Box<Lexeme<'input>>>,
+        rooms: &mut Rooms<'input>,
+    ) -> Result<bool, NoMemory>
         ensures known { (s : StepState) (h : Here) → Stands T.unread self.old.cursor h
             → self.old.laid.number ≡ s.reading.reader.laid.number
             → spec.read_boundary h s.queue ≡ spec.read_boundary h (front_items front.entry ++ self.old.queue)
@@ -43,8 +47,8 @@ impl<'input, T: BorrowedInput<'input>> Scanner<'input, T> {
         }
         self.cursor.look(1);
         match read_boundary(&self.cursor, &mut self.queue, front) {
-            Some(lexeme) => self.restart_at(lexeme),
-            None => self.restart_behind(),
+            Some(lexeme) => self.restart_at(lexeme, rooms),
+            None => self.restart_behind(rooms),
         }
     }
 
@@ -73,22 +77,24 @@ impl<'input, T: BorrowedInput<'input>> Scanner<'input, T> {
     }
 
     /// Goes on at a boundary that was read.
-    fn restart_at(&mut self, lexeme: Lexeme<'input>) -> Result<bool, NoMemory>
+    fn restart_at(
+        &mut self,
+        mut lexeme: Box<Lexeme<'input>>,
+        rooms: &mut Rooms<'input>,
+    ) -> Result<bool, NoMemory>
         requires room { self.old.laid.number < 2 ^ 63 }
         ensures known { (s : StepState) (h : Here) → Stands T.unread self.old.cursor h
             → self.old.laid.number ≡ s.reading.reader.laid.number
             → IfOk result (Restarts T.unread
-            (spec.at_lexeme h s (kind_view lexeme.entry.kind) (lexeme_view lexeme.entry)) self.new) }
+            (spec.at_lexeme h s (kind_view lexeme.entry.value.kind) (boxed_lexeme lexeme.entry)) self.new) }
         ensures options { self.new.options ≡ self.old.options }
         ensures cursor { self.new.cursor ≡ self.old.cursor }
     {
         match lexeme.kind {
             LexemeKind::DocumentStart => {
                 self.begin_anew(false);
-                self.put_front(Lexeme {
-                    ends_column: false,
-                    ..lexeme
-                })?;
+                lexeme.ends_column = false;
+                self.put_front(lexeme, rooms)?;
                 Ok(true)
             }
             LexemeKind::DocumentEnd => {
@@ -103,7 +109,7 @@ impl<'input, T: BorrowedInput<'input>> Scanner<'input, T> {
     }
 
     /// Goes on at the next boundary in the text.
-    fn restart_behind(&mut self) -> Result<bool, NoMemory>
+    fn restart_behind(&mut self, rooms: &mut Rooms<'input>) -> Result<bool, NoMemory>
         requires room { self.old.laid.number < 2 ^ 63 }
         ensures known { (s : StepState) (h : Here) → Stands T.unread self.old.cursor h
             → self.old.laid.number ≡ s.reading.reader.laid.number
@@ -113,13 +119,16 @@ impl<'input, T: BorrowedInput<'input>> Scanner<'input, T> {
     {
         match pass_to_boundary(&mut self.cursor) {
             Boundary::Start(mark, begins_line) => {
+                let mut lexeme = rooms.take()?;
                 let number = self.layouts.number();
                 self.begin_anew(false);
                 let start = Start { mark, begins_line };
                 let end = self.cursor.mark();
                 let kind = LexemeKind::DocumentStart;
-                let lexeme: Lexeme<'input> = lexeme_to(&self.layouts, false, kind, start, end);
-                self.put_front(Lexeme { number, ..lexeme })?;
+                let room: &mut Lexeme<'input> = &mut lexeme;
+                write_lexeme(room, &self.layouts, false, kind, &start, end);
+                room.number = number;
+                self.put_front(lexeme, rooms)?;
                 Ok(true)
             }
             Boundary::End => {
@@ -151,17 +160,22 @@ impl<'input, T: BorrowedInput<'input>> Scanner<'input, T> {
     }
 
     /// A lexeme waits where nothing did.
-    fn put_front(&mut self, lexeme: Lexeme<'input>) -> Result<(), NoMemory>
+    fn put_front(
+        &mut self,
+        lexeme: Box<Lexeme<'input>>,
+        rooms: &mut Rooms<'input>,
+    ) -> Result<(), NoMemory>
         requires { self.old.queue ≡ [] }
         ensures front { OnOk result (self.new ≡ record self.old { queue = front_items (Some lexeme.entry) }) }
         ensures options { self.new.options ≡ self.old.options }
         ensures cursor { self.new.cursor ≡ self.old.cursor }
     {
-        let mut found: Found<'input> = Found {
-            lexeme: Some(lexeme),
+        let found: Found<'input> = Found {
+            filled: true,
+            lexeme,
             note: None,
         };
-        self.queue.push_found(&mut found)
+        self.queue.push_found(found, rooms)
     }
 }
 
@@ -169,10 +183,10 @@ impl<'input, T: BorrowedInput<'input>> Scanner<'input, T> {
 fn read_boundary<'input, T: Input>(
     cursor: &Cursor<T>,
     queue: &mut Queue<'input>,
-    front: Option<Lexeme<'input>>,
-) -> Option<Lexeme<'input>>
+    front: Option<Box<Lexeme<'input>>>,
+) -> Option<Box<Lexeme<'input>>>
     requires { 1 ≤ T.window cursor.now.input }
-    ensures { (h : Here) → Stands T.unread cursor.now h → option_map lexeme_view result
+    ensures { (h : Here) → Stands T.unread cursor.now h → option_map boxed_lexeme result
         ≡ spec.read_boundary h (front_items front.entry ++ queue.old) }
 {
     match front {
@@ -188,10 +202,10 @@ fn read_boundary<'input, T: Input>(
 fn queued_boundary<'input, T: Input>(
     cursor: &Cursor<T>,
     queue: &mut Queue<'input>,
-) -> Option<Lexeme<'input>>
+) -> Option<Box<Lexeme<'input>>>
     requires { 1 ≤ T.window cursor.now.input }
     ensures { (h : Here) → Stands T.unread cursor.now h
-        → option_map lexeme_view result ≡ spec.read_boundary h queue.old }
+        → option_map boxed_lexeme result ≡ spec.read_boundary h queue.old }
 {
     'items: loop {
         match queue.pop() {
@@ -206,10 +220,13 @@ fn queued_boundary<'input, T: Input>(
 }
 
 /// An item that is a boundary.
-fn boundary_in<'input, T: Input>(cursor: &Cursor<T>, item: Item<'input>) -> Option<Lexeme<'input>>
+fn boundary_in<'input, T: Input>(
+    cursor: &Cursor<T>,
+    item: Item<'input>,
+) -> Option<Box<Lexeme<'input>>>
     requires { 1 ≤ T.window cursor.now.input }
     ensures { (h : Here) → Stands T.unread cursor.now h
-        → option_map lexeme_view result ≡ spec.boundary_of h (item_view item.entry) None }
+        → option_map boxed_lexeme result ≡ spec.boundary_of h (item_view item.entry) None }
 {
     match item {
         Item::Note(_) => None,

@@ -25,7 +25,7 @@ use granit_base::{Marker, NoMemory};
 use granit_cursor::Cursor;
 use granit_error::{ErrorKind, Options, ScanError};
 use granit_input::{BorrowedInput, Input};
-use granit_items::{Found, Item};
+use granit_items::{Found, Item, Rooms};
 use granit_layout::Layouts;
 use granit_queue::{Queue, Queued, asks_next, line_of};
 use granit_reader::{Met, next_found};
@@ -166,7 +166,7 @@ impl<'input, T: BorrowedInput<'input>> Scanner<'input, T> {
     /// # Errors
     ///
     /// `NoMemory` alone.
-    pub fn read_on(&mut self, alloc: Global) -> Result<(), NoMemory>
+    pub fn read_on(&mut self, alloc: Global, rooms: &mut Rooms<'input>) -> Result<(), NoMemory>
         ensures known { (l : LexState) (q : _) → Known T.unread self.old l q → l.fault ≡ None
             → spec.may_front_go l q ≡ false → OnOk result (ReadsOn T.unread self.old.options self.new l q) }
         ensures options { self.new.options ≡ self.old.options }
@@ -181,7 +181,8 @@ impl<'input, T: BorrowedInput<'input>> Scanner<'input, T> {
         }
         let free = self.free_count();
         let mut found: Found<'input> = Found {
-            lexeme: None,
+            filled: false,
+            lexeme: rooms.take()?,
             note: None,
         };
         let mut met = Met::Nothing;
@@ -194,7 +195,7 @@ impl<'input, T: BorrowedInput<'input>> Scanner<'input, T> {
             &mut found,
             &mut met,
         );
-        self.take_read(read, &mut found, free, number, met)
+        self.take_read(read, found, rooms, free, number, met)
     }
 
     /// The fault of the read that failed, which is then given.
@@ -263,17 +264,18 @@ impl<'input, T: Input> Scanner<'input, T> {
     fn take_read(
         &mut self,
         read: Result<(), ScanError>,
-        found: &mut Found<'input>,
+        found: Found<'input>,
+        rooms: &mut Rooms<'input>,
         free: usize,
         number: usize,
         met: Met,
     ) -> Result<(), NoMemory>
-        ensures taken { OnOk result (TakesRead read (found_items found.old) free number met self.old self.new) }
+        ensures taken { OnOk result (TakesRead read (found_items found.entry) free number met self.old self.new) }
         ensures cursor { self.new.cursor ≡ self.old.cursor }
         ensures options { self.new.options ≡ self.old.options }
     {
         match read {
-            Ok(()) => self.queue.push_found(found),
+            Ok(()) => self.queue.push_found(found, rooms),
             Err(error) => self.keep(error, free, number, met),
         }
     }

@@ -10,11 +10,11 @@ ghost use Rattle.granit_machine.specs.IndicatorLexemes as spec;
 ghost use Rattle.granit_machine.specs.PossibleKeys.{forgets_key, is_allowed};
 ghost use Rattle.granit_machine.specs.ReaderState.{sign_lexeme, given};
 ghost use Rattle.granit_signs.specs.IndicatorReads.{begins_entry, question_from};
-ghost use Rattle.granit_items.specs.ItemViews.{lexeme_items, lexeme_view};
+ghost use Rattle.granit_items.specs.ItemViews.{alone, lexeme_view};
 ghost use Rattle.granit_content.specs.Reads.{IsAt, NeverWants, ReadsItems, lexeme_in, noted, tail_view};
 
 use granit_base::{Marker, is_blank_or_breakz, is_break, is_flow};
-use granit_content::{Tail, comment_at, give, leading_tab, past_gap, sign, tail_at, with_tail};
+use granit_content::{Tail, comment_at, leading_tab, past_gap, put_tail, sign, tail_at};
 use granit_cursor::Cursor;
 use granit_error::{ErrorKind, Options, ScanError};
 use granit_input::{BorrowedInput, Input};
@@ -36,7 +36,7 @@ pub fn dash<'input, T: BorrowedInput<'input>>(
     at: &mut Cursor<T>,
     layouts: &mut Layouts,
     ends: bool,
-    found: &mut Option<Lexeme<'input>>,
+    found: &mut Lexeme<'input>,
 ) -> Result<(), ScanError>
     requires room { layouts.old.number < 2 ^ 63 }
     ensures here { ReadsItems T.unread (options_of options.now).emit_comments at.old at.new layouts.new
@@ -54,9 +54,9 @@ pub fn dash<'input, T: BorrowedInput<'input>>(
     if !layouts.is_allowed(at.begins_line(), at.tab()) {
         return Err(ScanError::from_kind(mark, ErrorKind::BlockSequenceEntryNotAllowed));
     }
-    let lexeme: Lexeme<'input> = sign(at, layouts, ends, LexemeKind::Dash);
+    sign(at, layouts, ends, LexemeKind::Dash, found);
     layouts.enter(options, mark.col(), mark)?;
-    dash_up_to(alloc, options.emit_comments, at, layouts, lexeme, found)
+    dash_up_to(alloc, options.emit_comments, at, layouts, found)
 }
 
 /// A `-` that began an entry and ends here.
@@ -65,17 +65,16 @@ fn dash_up_to<'input, T: BorrowedInput<'input>>(
     asked: bool,
     at: &mut Cursor<T>,
     layouts: &mut Layouts,
-    lexeme: Lexeme<'input>,
-    found: &mut Option<Lexeme<'input>>,
+    found: &mut Lexeme<'input>,
 ) -> Result<(), ScanError>
     requires room { layouts.old.number < 2 ^ 63 }
     ensures here { ReadsItems T.unread asked at.old at.new layouts.new
-        (lexeme_in found.new) result (λ h. spec.dash_up_to (lexeme_view lexeme.entry) h layouts.old) }
+        (lexeme_in found.new) result (λ h. spec.dash_up_to (lexeme_view found.old) h layouts.old) }
     ensures memory { asked ≡ false → NeverWants result }
     ensures moves { Moves T.unread T.left T.origin at.old at.new }
 {
     let tail = tail_at(alloc, at, asked)?;
-    behind_dash(at, layouts, lexeme, tail, found)
+    behind_dash(at, layouts, tail, found)
 }
 
 /// Behind a `-` and its tail, where no `-` may stand behind a tab.
@@ -83,14 +82,13 @@ fn dash_up_to<'input, T: BorrowedInput<'input>>(
 fn behind_dash<'input, T: Input>(
     at: &mut Cursor<T>,
     layouts: &mut Layouts,
-    lexeme: Lexeme<'input>,
     tail: Tail<'input>,
-    found: &mut Option<Lexeme<'input>>,
+    found: &mut Lexeme<'input>,
 ) -> Result<(), ScanError>
     requires room { layouts.old.number < 2 ^ 63 }
     ensures here { (h : Here) → Stands T.unread at.old h → GivesTo (lexeme_in found.new) result
         (IsAt T.unread at.new layouts.new)
-        (spec.behind_dash (lexeme_view lexeme.entry) layouts.old (noted (tail_view tail.entry)) h) }
+        (spec.behind_dash (lexeme_view found.old) layouts.old (noted (tail_view tail.entry)) h) }
     ensures memory { NeverWants result }
     ensures moves { Moves T.unread T.left T.origin at.old at.new }
 {
@@ -102,12 +100,8 @@ fn behind_dash<'input, T: Input>(
     let wide = is_before_break(at);
     layouts.widen_if(wide);
     layouts.forget_key();
-    give(
-        layouts,
-        ended(lexeme, tail, mark),
-        LastLexeme::BehindDash,
-        found,
-    );
+    end_at(found, tail, mark);
+    layouts.count_lexeme(LastLexeme::BehindDash);
     Ok(())
 }
 
@@ -129,14 +123,13 @@ fn is_before_break<T: Input>(at: &Cursor<T>) -> bool
     is_break(c) || is_flow(c)
 }
 
-/// The lexeme with its tail, up to there.
-fn ended<'input>(lexeme: Lexeme<'input>, tail: Tail<'input>, end: Marker) -> Lexeme<'input>
-    ensures { lexeme_view result
-        ≡ record (lexeme_view lexeme.entry) { tail = noted (tail_view tail.entry); end = end } }
+/// The lexeme gets its tail and ends there.
+fn end_at<'input>(found: &mut Lexeme<'input>, tail: Tail<'input>, end: Marker)
+    ensures { lexeme_view found.new
+        ≡ record (lexeme_view found.old) { tail = noted (tail_view tail.entry); end = end } }
 {
-    let mut lexeme = with_tail(lexeme, tail);
-    lexeme.end = end;
-    lexeme
+    put_tail(found, tail);
+    found.end = end;
 }
 
 /// A `?`, outside flow with the gap behind it, up to and with a comment.
@@ -152,7 +145,7 @@ pub fn question<'input, T: BorrowedInput<'input>>(
     at: &mut Cursor<T>,
     layouts: &mut Layouts,
     ends: bool,
-    found: &mut Option<Lexeme<'input>>,
+    found: &mut Lexeme<'input>,
 ) -> Result<(), ScanError>
     requires room { layouts.old.number < 2 ^ 63 }
     ensures here { ReadsItems T.unread (options_of options.now).emit_comments at.old at.new layouts.new
@@ -171,9 +164,9 @@ pub fn question<'input, T: BorrowedInput<'input>>(
     if !layouts.is_allowed(at.begins_line(), at.tab()) {
         return Err(ScanError::from_kind(mark, ErrorKind::MappingKeyNotAllowed));
     }
-    let lexeme: Lexeme<'input> = sign(at, layouts, ends, LexemeKind::Question);
+    sign(at, layouts, ends, LexemeKind::Question, found);
     layouts.enter(options, mark.col(), mark)?;
-    behind_question(alloc, options, at, layouts, lexeme, found)
+    behind_question(alloc, options, at, layouts, found)
 }
 
 /// A `?` in flow.
@@ -181,17 +174,17 @@ fn flow_question<'input, T: Input>(
     at: &mut Cursor<T>,
     layouts: &mut Layouts,
     ends: bool,
-    found: &mut Option<Lexeme<'input>>,
+    found: &mut Lexeme<'input>,
 )
     requires room { layouts.old.number < 2 ^ 63 }
     ensures here { Wherever T.unread at.old at.new (λ h Lands. Lands (step h)
         × (given (sign_lexeme ends Question h layouts.old) Another (step h) (forgets_key layouts.old)
-        ≡ Ok (lexeme_items found.new, record { here = step h; laid = layouts.new }))) }
+        ≡ Ok (alone found.new, record { here = step h; laid = layouts.new }))) }
     ensures moves { Moves T.unread T.left T.origin at.old at.new }
 {
-    let lexeme = sign(at, layouts, ends, LexemeKind::Question);
+    sign(at, layouts, ends, LexemeKind::Question, found);
     layouts.forget_key();
-    give(layouts, lexeme, LastLexeme::Another, found);
+    layouts.count_lexeme(LastLexeme::Another);
 }
 
 /// Behind a `?` that began an entry, where no NUL may stand.
@@ -200,14 +193,13 @@ fn behind_question<'input, T: BorrowedInput<'input>>(
     options: &Options,
     at: &mut Cursor<T>,
     layouts: &mut Layouts,
-    lexeme: Lexeme<'input>,
-    found: &mut Option<Lexeme<'input>>,
+    found: &mut Lexeme<'input>,
 ) -> Result<(), ScanError>
     requires room { layouts.old.number < 2 ^ 63 }
-    ensures here { (lexeme_view lexeme.entry).tail ≡ None → ReadsItems T.unread (options_of options.now).emit_comments
+    ensures here { (lexeme_view found.old).tail ≡ None → ReadsItems T.unread (options_of options.now).emit_comments
         at.old at.new layouts.new
         (lexeme_in found.new) result
-        (λ h. question_from (options_of options.now) (lexeme_view lexeme.entry) h layouts.old) }
+        (λ h. question_from (options_of options.now) (lexeme_view found.old) h layouts.old) }
     ensures memory { (options_of options.now).emit_comments ≡ false → NeverWants result }
     ensures moves { Moves T.unread T.left T.origin at.old at.new }
 {
@@ -217,7 +209,7 @@ fn behind_question<'input, T: BorrowedInput<'input>>(
     }
     layouts.behind_question();
     past_gap(at, false);
-    question_up_to(alloc, options, at, layouts, lexeme, found)
+    question_up_to(alloc, options, at, layouts, found)
 }
 
 /// Whether a NUL stands here.
@@ -235,30 +227,25 @@ fn question_up_to<'input, T: BorrowedInput<'input>>(
     options: &Options,
     at: &mut Cursor<T>,
     layouts: &mut Layouts,
-    lexeme: Lexeme<'input>,
-    found: &mut Option<Lexeme<'input>>,
+    found: &mut Lexeme<'input>,
 ) -> Result<(), ScanError>
     requires room { layouts.old.number < 2 ^ 63 }
     requires window { 1 ≤ T.window at.old.input }
-    ensures here { (lexeme_view lexeme.entry).tail ≡ None → ReadsItems T.unread (options_of options.now).emit_comments
+    ensures here { (lexeme_view found.old).tail ≡ None → ReadsItems T.unread (options_of options.now).emit_comments
         at.old at.new layouts.new
         (lexeme_in found.new) result
-        (λ h. spec.question_up_to (options_of options.now) (lexeme_view lexeme.entry) h layouts.old) }
+        (λ h. spec.question_up_to (options_of options.now) (lexeme_view found.old) h layouts.old) }
     ensures memory { (options_of options.now).emit_comments ≡ false → NeverWants result }
     ensures moves { Moves T.unread T.left T.origin at.old at.new }
 {
     if at.input().peek() == '#' {
         let note = comment_at(alloc, at, options.emit_comments)?;
-        give(
-            layouts,
-            with_tail(lexeme, note),
-            LastLexeme::BehindQuestion,
-            found,
-        );
+        put_tail(found, note);
+        layouts.count_lexeme(LastLexeme::BehindQuestion);
         return Ok(());
     }
     let tab = leading_tab(at);
     layouts.refuse_tab(options, at.mark(), tab)?;
-    give(layouts, lexeme, LastLexeme::BehindQuestion, found);
+    layouts.count_lexeme(LastLexeme::BehindQuestion);
     Ok(())
 }

@@ -11,11 +11,11 @@ ghost use Rattle.granit_machine.specs.Leaving.{LeavesIfRoom};
 ghost use Rattle.granit_machine.specs.PossibleKeys as keys;
 ghost use Rattle.granit_signs.specs.IndicatorReads.{bare_by, bare_entry, begins_entry, begins_pair, colon_by};
 ghost use Rattle.granit_signs.specs.IndicatorReads.{keyed_by, keyed_entry, pair_column, with_key};
-ghost use Rattle.granit_items.specs.ItemViews.{lexeme_items, lexeme_view};
+ghost use Rattle.granit_items.specs.ItemViews.{alone, lexeme_view};
 ghost use Rattle.granit_content.specs.Reads.{NeverWants, ReadsItems, lexeme_in, seen, tail_view};
 
 use granit_base::{Marker, is_blank};
-use granit_content::{Tail, give, lexeme_to, start_of, tail_at, with_tail};
+use granit_content::{Tail, put_tail, start_of, tail_at, write_lexeme};
 use granit_cursor::Cursor;
 use granit_error::{ErrorKind, Options, ScanError};
 use granit_input::{BorrowedInput, Input};
@@ -38,7 +38,7 @@ pub fn colon<'input, T: BorrowedInput<'input>>(
     at: &mut Cursor<T>,
     layouts: &mut Layouts,
     ends: bool,
-    found: &mut Option<Lexeme<'input>>,
+    found: &mut Lexeme<'input>,
 ) -> Result<(), ScanError>
     requires room { layouts.old.number < 2 ^ 63 }
     ensures here { ReadsItems T.unread (options_of options.now).emit_comments at.old at.new layouts.new
@@ -60,15 +60,9 @@ pub fn colon<'input, T: BorrowedInput<'input>>(
     at.step();
     let end = at.mark();
     let tail = colon_tail(alloc, at, options.emit_comments)?;
-    let lexeme = lexeme_to(layouts, ends, LexemeKind::Colon, start, end);
-    colon_by_key(
-        options,
-        layouts,
-        with_tail(lexeme, tail),
-        mark,
-        allowed,
-        found,
-    )
+    write_lexeme(found, layouts, ends, LexemeKind::Colon, &start, end);
+    put_tail(found, tail);
+    colon_by_key(options, layouts, mark, allowed, found)
 }
 
 /// Whether a flow collection stands directly behind a `:` where no value may stand at once.
@@ -107,47 +101,45 @@ fn colon_tail<'input, T: BorrowedInput<'input>>(
 }
 
 /// A `:` at a mark with its tail: behind its key, or with none where such a one is allowed.
-fn colon_by_key<'input>(
+fn colon_by_key(
     options: &Options,
     layouts: &mut Layouts,
-    lexeme: Lexeme<'input>,
     mark: Marker,
     allowed: bool,
-    found: &mut Option<Lexeme<'input>>,
+    found: &mut Lexeme<'_>,
 ) -> Result<(), ScanError>
     requires room { layouts.old.number < 2 ^ 63 }
     ensures here { (after : Here) → Gives (lexeme_in found.new) result (record { here = after; laid = layouts.new })
-        (colon_by (options_of options.now) (keys.top_key layouts.old) (lexeme_view lexeme.entry) mark allowed after
+        (colon_by (options_of options.now) (keys.top_key layouts.old) (lexeme_view found.old) mark allowed after
         layouts.old) }
     ensures memory { begins_pair (keys.top_key layouts.old) allowed layouts.old ≡ false → NeverWants result }
     ensures column { opens_column (options_of options.now) (pair_column (keys.top_key layouts.old) mark.place.column)
         layouts.old.columns ≡ false → NeverWants result }
 {
     match layouts.top_key() {
-        Some(key) => keyed_colon(options, layouts, lexeme, mark, key, found),
-        None => bare_colon(options, layouts, lexeme, mark, allowed, found),
+        Some(key) => keyed_colon(options, layouts, mark, key, found),
+        None => bare_colon(options, layouts, mark, allowed, found),
     }
 }
 
 /// A `:` behind its key.
 #[tactic(auto, using(crate::proofs::IndicatorLemmas::keyed_number))]
-fn keyed_colon<'input>(
+fn keyed_colon(
     options: &Options,
     layouts: &mut Layouts,
-    lexeme: Lexeme<'input>,
     mark: Marker,
     key: PossibleKey,
-    found: &mut Option<Lexeme<'input>>,
+    found: &mut Lexeme<'_>,
 ) -> Result<(), ScanError>
     requires room { layouts.old.number < 2 ^ 63 }
     ensures here { (after : Here) → Gives (lexeme_in found.new) result (record { here = after; laid = layouts.new })
-        (keyed_by (options_of options.now) key (lexeme_view lexeme.entry) mark after layouts.old) }
+        (keyed_by (options_of options.now) key (lexeme_view found.old) mark after layouts.old) }
     ensures memory { is_in_flow layouts.old ≡ true → NeverWants result }
     ensures column { opens_column (options_of options.now) key.start.place.column layouts.old.columns ≡ false
         → NeverWants result }
 {
     enter_keyed(options, layouts, mark, &key)?;
-    keyed(layouts, lexeme, &key, found);
+    keyed(layouts, &key, found);
     Ok(())
 }
 
@@ -173,51 +165,45 @@ fn enter_keyed(
 }
 
 /// The lexeme of a `:` with its key.
-fn keyed<'input>(
-    layouts: &mut Layouts,
-    lexeme: Lexeme<'input>,
-    key: &PossibleKey,
-    found: &mut Option<Lexeme<'input>>,
-)
+fn keyed(layouts: &mut Layouts, key: &PossibleKey, found: &mut Lexeme<'_>)
     requires room { layouts.old.number < 2 ^ 63 }
-    ensures { (after : Here) → spec.keyed_given (with_key key.now (lexeme_view lexeme.entry)) after layouts.old
-        ≡ Ok (lexeme_items found.new, record { here = after; laid = layouts.new }) }
+    ensures { (after : Here) → spec.keyed_given (with_key key.now (lexeme_view found.old)) after layouts.old
+        ≡ Ok (alone found.new, record { here = after; laid = layouts.new }) }
 {
     layouts.forget_key();
-    give(layouts, key_given(lexeme, key), LastLexeme::Another, found);
+    put_key(found, key);
+    layouts.count_lexeme(LastLexeme::Another);
 }
 
-/// The lexeme with its key.
-fn key_given<'input>(mut lexeme: Lexeme<'input>, key: &PossibleKey) -> Lexeme<'input>
-    ensures { lexeme_view result ≡ with_key key.now (lexeme_view lexeme.entry) }
+/// The lexeme gets its key.
+fn put_key(found: &mut Lexeme<'_>, key: &PossibleKey)
+    ensures { lexeme_view found.new ≡ with_key key.now (lexeme_view found.old) }
 {
     let start = KeyStart {
         number: key.number,
         start: key.start,
     };
-    lexeme.key = Some(start);
-    lexeme
+    found.key = Some(start);
 }
 
 /// A `:` without a key.
 #[tactic(auto, using(crate::proofs::IndicatorLemmas::bare_number))]
-fn bare_colon<'input>(
+fn bare_colon(
     options: &Options,
     layouts: &mut Layouts,
-    lexeme: Lexeme<'input>,
     mark: Marker,
     allowed: bool,
-    found: &mut Option<Lexeme<'input>>,
+    found: &mut Lexeme<'_>,
 ) -> Result<(), ScanError>
     requires room { layouts.old.number < 2 ^ 63 }
     ensures here { (after : Here) → Gives (lexeme_in found.new) result (record { here = after; laid = layouts.new })
-        (bare_by (options_of options.now) (lexeme_view lexeme.entry) mark allowed after layouts.old) }
+        (bare_by (options_of options.now) (lexeme_view found.old) mark allowed after layouts.old) }
     ensures memory { begins_entry allowed layouts.old ≡ false → NeverWants result }
     ensures column { opens_column (options_of options.now) mark.place.column layouts.old.columns ≡ false
         → NeverWants result }
 {
     let last = enter_bare(options, layouts, mark, allowed)?;
-    give(layouts, lexeme, last, found);
+    layouts.count_lexeme(last);
     Ok(())
 }
 

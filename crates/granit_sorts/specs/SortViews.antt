@@ -24,8 +24,8 @@ abbrev pub token_view : Lexeme → TokenSort → spec.Token
 token_view l sort = record { lexeme = lexeme_view l; sort = sort_view sort }
 
 abbrev pub machine_token : Token → spec.Token
-machine_token t = token_view t.lexeme t.sort
+machine_token t = token_view t.lexeme.value t.sort
 
 -- a token whose kind was taken out of it
 abbrev pub of_kind : LexemeKind → Token → spec.Token
-of_kind kind t = machine_token (record t { lexeme = record (t.lexeme) { kind = kind } })
+of_kind kind t = token_view (record (t.lexeme.value) { kind = kind }) t.sort

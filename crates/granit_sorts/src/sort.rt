@@ -41,7 +41,7 @@ pub enum TokenSort {
 #[derive(Drop)]
 pub struct Token<'input> {
     /// The lexeme.
-    pub lexeme: Lexeme<'input>,
+    pub lexeme: Box<Lexeme<'input>>,
     /// What it is to the frames.
     pub sort: TokenSort,
 }
@@ -49,14 +49,14 @@ pub struct Token<'input> {
 impl<'input> Token<'input> {
     /// A fault where it stands.
     pub fn misplaced(&self, kind: ErrorKind) -> ScanError
-        ensures { result ≡ fault_at (kind_of kind) self.now.lexeme.shown_start }
+        ensures { result ≡ fault_at (kind_of kind) self.now.lexeme.value.shown_start }
     {
         ScanError::from_kind(self.lexeme.shown_start, kind)
     }
 
     /// The span that it bears.
     pub fn span(&self) -> Span
-        ensures { result ≡ plain_span self.now.lexeme.shown_start self.now.lexeme.shown_end }
+        ensures { result ≡ plain_span self.now.lexeme.value.shown_start self.now.lexeme.value.shown_end }
     {
         Span::new(self.lexeme.shown_start, self.lexeme.shown_end)
     }

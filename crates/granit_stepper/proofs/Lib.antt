@@ -1,6 +1,7 @@
 pub mod AheadLemmas
 pub mod CalmLemmas
 pub mod FaultLemmas
+pub mod GatherLemmas
 pub mod HeaderLemmas
 pub mod ItemLemmas
 pub mod LookLemmas

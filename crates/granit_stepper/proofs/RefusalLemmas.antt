@@ -2,13 +2,14 @@
 use Rattle.std.proofs.Common.{◌≡◌, ℕ, ◌<◌, ◌-◌, ◌^◌, Bool, true, false, List, [], ◌∷◌, ◌++◌, Option, Some}
 use Rattle.std.proofs.Common.{None, is_some, Result, Ok, Err, refl, sym, ap, subst, ◌∙◌, ◌⊎◌, inl, inr}
 use Rattle.std.specs.Prelude.{if◌then◌else◌}
+use Rattle.std.specs.Global.{Box}
 use Rattle.std.specs.Option.{option_map}
 use Rattle.granit_base.specs.Place.{Mark, Unread}
 use Rattle.granit_cursor.specs.Reading.{CameOn, Reading, Stands}
 use Rattle.granit_error.specs.FaultKind.{FaultKind, NoMemory}
 use Rattle.granit_error.specs.OptionsData.{OptionsData}
 use Rattle.granit_error.specs.Refused.{Refused}
-use Rattle.granit_items.specs.ItemViews.{lexeme_view}
+use Rattle.granit_items.specs.ItemViews.{boxed_lexeme}
 use Rattle.granit_items.specs.declared.item.Lexeme as code
 use Rattle.granit_lexemes.specs.Here.{Here}
 use Rattle.granit_lexemes.specs.Lexeme as lexemes
@@ -105,19 +106,19 @@ same_some : (x y : Lexeme) → Some x ≡ Some y → x ≡ y
 same_some x y e = cc
 
 module _ (h : Here) (q : List FlaggedItem) where
-  front_is : (front : Option code.Lexeme) (l : Lexeme) → option_map lexeme_view front ≡ Some l
+  front_is : (front : Option (Box code.Lexeme)) (l : Lexeme) → option_map boxed_lexeme front ≡ Some l
       → read_boundary h (front_items front ++ q) ≡ boundary_of h (OfLexeme l) (read_boundary h q)
   front_is None l is = absurd (cc)
   front_is (Some x) l is =
-      ap (λ (y : Lexeme). boundary_of h (OfLexeme y) (read_boundary h q)) (same_some (lexeme_view x) l is)
+      ap (λ (y : Lexeme). boundary_of h (OfLexeme y) (read_boundary h q)) (same_some (boxed_lexeme x) l is)
 
-  none_front : (front : Option code.Lexeme) → option_map lexeme_view front ≡ None
+  none_front : (front : Option (Box code.Lexeme)) → option_map boxed_lexeme front ≡ None
       → read_boundary h (front_items front ++ q) ≡ read_boundary h q
   none_front None is = refl
   none_front (Some x) is = absurd (cc)
 
-  front_by : (front : Option code.Lexeme) (l : Lexeme) (kind : LexemeKind) → l.kind ≡ kind
-      → option_map lexeme_view front ≡ mark_if kind l
+  front_by : (front : Option (Box code.Lexeme)) (l : Lexeme) (kind : LexemeKind) → l.kind ≡ kind
+      → option_map boxed_lexeme front ≡ mark_if kind l
       → read_boundary h (front_items front ++ q) ≡ lexeme_or (is_boundary h kind l) l (read_boundary h q)
   front_by front l lexemes.DocumentStart named is =
       front_is front l is ∙ ap (λ (k : LexemeKind). lexeme_or (is_boundary h k l) l (read_boundary h q)) named
@@ -128,7 +129,7 @@ module _ (h : Here) (q : List FlaggedItem) where
   front_by front l kind named is = none_front front is
 
   -- a mark that was taken stands before what waits
-  pub front_reads : (front : Option code.Lexeme) (i : Item) → option_map lexeme_view front ≡ mark_in i
+  pub front_reads : (front : Option (Box code.Lexeme)) (i : Item) → option_map boxed_lexeme front ≡ mark_in i
       → read_boundary h (front_items front ++ q) ≡ boundary_of h i (read_boundary h q)
   front_reads front (OfLexeme l) is = front_by front l l.kind refl is
   front_reads front (OfComment c) is = none_front front is
@@ -192,7 +193,7 @@ module _ {I : Type 0} (unread : I → Unread → Type 0) (s : Stepping I) (m : S
       → read_boundary h m.queue ≡ read_boundary h (front_items refused.refusal.front ++ s.scanner.queue)
   failed_reads h f law =
       waits_by unread s.scanner m.reading m.queue (Some e) h f.known law
-      ∙ ap (λ (x : Option code.Lexeme). read_boundary h (front_items x ++ s.scanner.queue)) (sym f.front)
+      ∙ ap (λ (x : Option (Box code.Lexeme)). read_boundary h (front_items x ++ s.scanner.queue)) (sym f.front)
 
   pub reads_alike : (h : Here) → read_boundary h m.queue ≡ read_boundary h (settled m.reading.reader.laid m.queue)
       → read_boundary h m.queue ≡ read_boundary h (front_items refused.refusal.front ++ s.scanner.queue)

@@ -49,7 +49,7 @@ first_is : (es : List PlainEvent) (m : StepState) → m.pending ≡ es
 first_is [] m none = ap (λ (es : List PlainEvent). (None, record m { pending = es })) none
 first_is (e ∷ es) m is = refl
 
-next_is : (o : OptionsData) (m after : StepState) → settle o m ≡ Ok ([], after)
+pub next_is : (o : OptionsData) (m after : StepState) → settle o m ≡ Ok ([], after)
     → next_event o m ≡ Ok (slice_get after.pending 0, record after { pending = drop 1 after.pending })
 unfolding next_event
 next_is o m after is = rw is (ap Ok (first_is after.pending after refl))

@@ -1,3 +1,4 @@
+pub mod Gathering
 pub mod Numbers
 pub mod Offset
 pub mod Recovering

@@ -7,7 +7,7 @@ use Rattle.granit_error.specs.FaultKind.{NoMemory}
 use Rattle.granit_error.specs.OptionsData.{OptionsData}
 use Rattle.granit_error.specs.Refused.{Refused}
 use Rattle.granit_frames.specs.StateViews.{stage_view}
-use Rattle.granit_items.specs.ItemViews.{lexeme_view}
+use Rattle.granit_items.specs.ItemViews.{boxed_lexeme}
 use Rattle.granit_lexemes.specs.Lexeme as lexemes
 use Rattle.granit_lexemes.specs.Lexeme.{Item, Lexeme, LexemeKind, OfComment, OfLexeme}
 use Rattle.granit_lexemes.specs.PlainEvent.{PlainEvent}
@@ -59,7 +59,7 @@ whole b = record {
 
 abbrev pub IsBeforeItem : ParserState → Item → Refusal → Type 0
 IsBeforeItem p i r =
-    IsBefore p r × (r.takes_front ≡ true) × (option_map lexeme_view r.front ≡ mark_in i)
+    IsBefore p r × (r.takes_front ≡ true) × (option_map boxed_lexeme r.front ≡ mark_in i)
     × (r.directive ≡ directive_in i)
 
 abbrev pub IsBeforeRead : ParserState → Refusal → Type 0
@@ -106,7 +106,7 @@ pub record TookFront {I : Type 0} (unread : I → Unread → Type 0) (s : Steppi
   pub queue : m.queue ≡ item ∷ behind
   pub goes : may_go m.reading item behind ≡ true
   pub takes : r.takes_front ≡ true
-  pub front : option_map lexeme_view r.front ≡ mark_in item.item
+  pub front : option_map boxed_lexeme r.front ≡ mark_in item.item
   pub directive : r.directive ≡ directive_in item.item
   pub expects : r.expects_start ≡ is_start_expected e
   pub known : Known unread s.scanner m.reading behind

@@ -280,9 +280,9 @@ impl<'input, T: BorrowedInput<'input>> Stepper<'input, T> {
         if self.scanner.is_lost() {
             return Err(ScanError::from(NoMemory));
         }
-        let starts = self.scanner.restart(refusal.front)?;
-        self.parser
-            .drop_document(alloc, refusal.last_end, refusal.count);
+        let (last_end, count) = (refusal.last_end, refusal.count);
+        let starts = self.scanner.restart(refusal.front, &mut self.rooms)?;
+        self.parser.drop_document(alloc, last_end, count);
         self.ahead = None;
         self.first = None;
         self.failed = false;

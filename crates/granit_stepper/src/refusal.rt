@@ -3,7 +3,7 @@ ghost use Rattle.std.specs.Prelude.{◌≡◌, true, false, None, Some, IfOk};
 ghost use Rattle.std.specs.Option.{option_map};
 ghost use Rattle.granit_error.specs.FaultKind as faults;
 ghost use Rattle.granit_frames.specs.StateViews.{stage_view};
-ghost use Rattle.granit_items.specs.ItemViews.{item_view, lexeme_view};
+ghost use Rattle.granit_items.specs.ItemViews.{boxed_lexeme, item_view, lexeme_view};
 ghost use Rattle.granit_restart.specs.Header as header;
 ghost use Rattle.granit_scanner.specs.Scans.{wants_memory};
 ghost use Rattle.granit_stepper.specs.Refusals as spec;
@@ -20,7 +20,7 @@ use std::alloc::Global;
 #[derive(Drop)]
 pub(crate) struct Refusal<'input> {
     /// The item that the parser refused, where it is a mark.
-    pub(crate) front: Option<Lexeme<'input>>,
+    pub(crate) front: Option<Box<Lexeme<'input>>>,
     /// Whether the parser refused an item.
     pub(crate) takes_front: bool,
     /// Whether that is a directive, where it is a lexeme.
@@ -223,8 +223,11 @@ pub(crate) fn is_mark(item: &Item<'_>) -> bool
 }
 
 /// A mark once more.
-fn mark_in<'input>(alloc: Global, item: &Item<'input>) -> Result<Option<Lexeme<'input>>, NoMemory>
-    ensures { IfOk result (λ m. option_map lexeme_view m ≡ spec.mark_in (item_view item.now)) }
+fn mark_in<'input>(
+    alloc: Global,
+    item: &Item<'input>,
+) -> Result<Option<Box<Lexeme<'input>>>, NoMemory>
+    ensures { IfOk result (λ m. option_map boxed_lexeme m ≡ spec.mark_in (item_view item.now)) }
 {
     match item {
         Item::Note(_) => Ok(None),
@@ -235,8 +238,8 @@ fn mark_in<'input>(alloc: Global, item: &Item<'input>) -> Result<Option<Lexeme<'
 fn mark_of<'input>(
     alloc: Global,
     lexeme: &Lexeme<'input>,
-) -> Result<Option<Lexeme<'input>>, NoMemory>
-    ensures { IfOk result (λ m. option_map lexeme_view m
+) -> Result<Option<Box<Lexeme<'input>>>, NoMemory>
+    ensures { IfOk result (λ m. option_map boxed_lexeme m
         ≡ spec.mark_if (lexeme_view lexeme.now).kind (lexeme_view lexeme.now)) }
 {
     match &lexeme.kind {
@@ -251,11 +254,11 @@ fn mark_as<'input>(
     alloc: Global,
     lexeme: &Lexeme<'input>,
     kind: LexemeKind<'input>,
-) -> Result<Option<Lexeme<'input>>, NoMemory>
+) -> Result<Option<Box<Lexeme<'input>>>, NoMemory>
     requires { kind ≡ lexeme.now.kind }
-    ensures { IfOk result (λ m. option_map lexeme_view m ≡ Some (lexeme_view lexeme.now)) }
+    ensures { IfOk result (λ m. option_map boxed_lexeme m ≡ Some (lexeme_view lexeme.now)) }
 {
-    Ok(Some(Lexeme {
+    let mark = Lexeme {
         number: lexeme.number,
         kind,
         start: lexeme.start,
@@ -269,7 +272,8 @@ fn mark_as<'input>(
         ends_column: lexeme.ends_column,
         key: lexeme.key,
         tail: clone_tail(alloc, &lexeme.tail)?,
-    }))
+    };
+    Ok(Some(Box::new(alloc, mark)?))
 }
 
 /// Whether an item is a directive, where it is a lexeme.

@@ -32,7 +32,7 @@ use granit_event::Event;
 use granit_feed::feed;
 use granit_frames::ParserState;
 use granit_input::{BorrowedInput, Input};
-use granit_items::{Item, LexemeKind};
+use granit_items::{Item, LexemeKind, Rooms};
 use granit_queue::Queued;
 use granit_scanner::{Front, Scanner};
 use std::alloc::Global;
@@ -43,6 +43,8 @@ use std::marker::Model;
 pub struct Stepper<'input, T: Input> {
     pub(crate) scanner: Scanner<'input, T>,
     pub(crate) parser: ParserState<'input>,
+    // Room for lexemes, which those left that the parser took.
+    pub(crate) rooms: Rooms<'input>,
     // Where the stream starts, until that is told.
     pub(crate) first: Option<Marker>,
     // A call failed: nothing more is given.
@@ -85,6 +87,7 @@ impl<'input, T: BorrowedInput<'input>> Stepper<'input, T> {
         Stepper {
             scanner,
             parser: ParserState::new(alloc, start),
+            rooms: Rooms::new(alloc),
             first: Some(start),
             failed: false,
             renumbered: false,
@@ -245,7 +248,7 @@ impl<'input, T: BorrowedInput<'input>> Stepper<'input, T> {
     }
 
     /// Nothing more is given, and behind a want of memory recovery is refused.
-    fn fail(&mut self, error: &ScanError)
+    pub(crate) fn fail(&mut self, error: &ScanError)
         ensures kept { (error.now.kind ≡ faults.NoMemory → ⊥) → self.new ≡ record self.old { failed = true } }
         ensures lost { error.now.kind ≡ faults.NoMemory → self.new.refusal ≡ None }
         ensures rest { self.new ≡ record self.old { failed = true; refusal = self.new.refusal } }
@@ -255,7 +258,7 @@ impl<'input, T: BorrowedInput<'input>> Stepper<'input, T> {
     }
 
     /// Turns until an event waits, or nothing is left.
-    fn settle(&mut self, alloc: Global) -> Result<(), ScanError>
+    pub(crate) fn settle(&mut self, alloc: Global) -> Result<(), ScanError>
         ensures known { (m : StepState) → StandsIn T.unread self.old m → self.old.first ≡ None
             → GivesOr spec.no_events result (StandsIn T.unread self.new) (steps.settle self.old.scanner.options m)
             (RefusesNumber self.new.renumbered self.old.scanner.options m) }
@@ -408,7 +411,15 @@ impl<'input, T: BorrowedInput<'input>> Stepper<'input, T> {
         let anchor = anchor_start(&item);
         let refusal = Refusal::at_item(alloc, &self.parser, &item)?;
         let options = self.scanner.options();
-        let fed = feed(&mut self.parser, alloc, options, item, begins, next_line);
+        let fed = feed(
+            &mut self.parser,
+            alloc,
+            options,
+            item,
+            begins,
+            next_line,
+            &mut self.rooms,
+        );
         match self.unless_numberless(fed, anchor) {
             Ok(()) => {
                 drop(refusal);
@@ -447,6 +458,7 @@ impl<'input, T: BorrowedInput<'input>> Stepper<'input, T> {
             item,
             begins_key,
             next_line,
+            &mut self.rooms,
         );
         match self.unless_numberless(fed, anchor) {
             Ok(()) => Ok(true),
@@ -503,7 +515,7 @@ impl<'input, T: BorrowedInput<'input>> Stepper<'input, T> {
         if self.scanner.is_over() {
             return self.end();
         }
-        self.scanner.read_on(alloc)?;
+        self.scanner.read_on(alloc, &mut self.rooms)?;
         Ok(true)
     }
 

@@ -1,13 +1,13 @@
-use Rattle.std.proofs.Common.{refl, ◌∙◌}
+use Rattle.std.proofs.Common.{refl}
 use Rattle.granit_content.proofs.NodeLemmas.{alias_items}
 use Rattle.granit_content.proofs.nodes.alias_lexeme.Goals as goal
 
 pub returns-clause-here : goal.returns-clause-here
 returns-clause-here g c = λ asked h k.
     let token = c.in_ok-token.ensures.here h k in
-    let lexeme = c.token_lexeme-lexeme.ensures h token.0 (c.start_of-start.ensures h k) token.1 in (
-      record { here = token.0; laid = c.give.new.layouts },
+    let lexeme = c.token_lexeme.ensures h token.0 (c.start_of-start.ensures h k) token.1 in (
+      record { here = token.0; laid = c.count_lexeme.new.self },
       (token.1, refl),
-      alias_items asked c.args.ends h c.args.layouts.now c.in_ok-token.token token.0 token.2
-          ∙ rw lexeme at (c.give.ensures token.0),
+      rw (lexeme, c.count_lexeme.ensures)
+          (alias_items asked c.args.ends h c.args.layouts.now c.in_ok-token.token token.0 token.2),
     )

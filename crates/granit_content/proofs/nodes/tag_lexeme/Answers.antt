@@ -1,4 +1,4 @@
-use Rattle.std.proofs.Common.{refl, ◌∙◌}
+use Rattle.std.proofs.Common.{refl}
 use Rattle.granit_error.specs.OptionsView.{options_of}
 use Rattle.granit_content.proofs.NodeLemmas.{tag_items}
 use Rattle.granit_content.proofs.nodes.tag_lexeme.Goals as goal
@@ -6,10 +6,10 @@ use Rattle.granit_content.proofs.nodes.tag_lexeme.Goals as goal
 pub returns-clause-here : goal.returns-clause-here
 returns-clause-here g c = λ asked h k.
     let token = c.in_ok-token.ensures.here h k in
-    let lexeme = c.token_lexeme-lexeme.ensures h token.0 (c.start_of-start.ensures h k) token.1 in (
-      record { here = token.0; laid = c.give.new.layouts },
+    let lexeme = c.token_lexeme.ensures h token.0 (c.start_of-start.ensures h k) token.1 in (
+      record { here = token.0; laid = c.count_lexeme.new.self },
       (token.1, refl),
-      tag_items asked c.args.ends h c.args.layouts.now c.in_ok-token.token token.0 (options_of c.args.options.now)
-          (rw c.is_in_flow.ensures at token.2)
-          ∙ rw (lexeme, c.last_of_property-last.ensures) at (c.give.ensures token.0),
+      rw (lexeme, c.count_lexeme.ensures, c.last_of_property-last.ensures)
+          (tag_items asked c.args.ends h c.args.layouts.now c.in_ok-token.token token.0
+          (options_of c.args.options.now) (rw c.is_in_flow.ensures at token.2)),
     )

@@ -17,11 +17,11 @@ returns-clause-here g c = λ h k.
     (c.col.ensures ∙ ap (λ (m : Mark). m.place.column) (sym begun.0)) in
     let read = c.in_ok-read.ensures.here h k in
     let is = ap (λ (at : LayoutData). block_lexed_at at c.args.literal h) (sym told) ∙ read.2 in
-    let lexeme = c.shown_lexeme-lexeme.ensures h begun
+    let lexeme = c.shown_lexeme.ensures h begun
     ∙ ap (λ (t : Option CommentRead). shown_as c.args.ends c.in_ok-read.read.token t h c.args.layouts.now)
     c.in_ok-tail.ensures.kept in (
-      record { here = read.0; laid = c.give.new.layouts },
+      record { here = read.0; laid = c.count_lexeme.new.self },
       (read.1, refl),
-      block_items o o.emit_comments c.args.ends h c.args.layouts.now c.in_ok-read.read read.0 c.args.literal is
-          ∙ rw (lexeme, c.unroll.ensures) at (c.give.ensures read.0),
+      rw (lexeme, c.count_lexeme.ensures, c.unroll.ensures)
+          (block_items o o.emit_comments c.args.ends h c.args.layouts.now c.in_ok-read.read read.0 c.args.literal is),
     )

@@ -13,4 +13,4 @@ returns c = λ h begun.
     let kind = c.lexeme_kind-kind.ensures ∙ ap (λ (p : Span × TokenType). kind_of_type p.1) parts in
     let end = ap (λ (p : Span × TokenType). p.0.end) parts in
     ap (λ (x : Lexeme). record x { tail = option_map boxed_view c.args.tail })
-    (rw (kind, end) at (c.lexeme_to-lexeme.ensures h begun))
+    (rw (kind, end) at (c.write_lexeme.ensures h begun))

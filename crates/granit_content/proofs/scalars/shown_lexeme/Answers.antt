@@ -12,7 +12,7 @@ returns c = λ h begun.
     let tail = option_map boxed_view c.args.tail in
     let span = c.span-span.result in
     ap (λ (x : Lexeme). record x { shown = record { start = span.start; end = x.shown.end }; indent = span.indent })
-    (c.scalar_lexeme-lexeme.ensures h begun)
+    (c.scalar_lexeme.ensures h begun)
     ∙ ap (λ (s : Span). record (token_as c.args.ends token tail h c.args.layouts.now) {
       shown =
           record { start = s.start; end = token.span.end };

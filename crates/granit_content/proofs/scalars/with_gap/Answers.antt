@@ -1,11 +1,7 @@
 use Rattle.std.proofs.Common.{refl, ap, ◌∙◌}
 use Rattle.granit_lexemes.specs.declared.layout.LastLexeme.{LastLexeme}
-use Rattle.granit_machine.specs.Gaps.{GapRead}
-use Rattle.granit_lexemes.specs.Lexeme.{Item}
-use Rattle.granit_lexemes.specs.Outcome.{◌>>=◌}
-use Rattle.granit_items.specs.ItemViews.{lexeme_items}
+use Rattle.granit_items.specs.ItemViews.{filled_items}
 use Rattle.granit_content.specs.Reads.{tail_view}
-use Rattle.granit_content.specs.ScalarReads.{with_seen}
 use Rattle.granit_content.proofs.QuotedGapLemmas.{seen_given}
 use Rattle.granit_content.proofs.scalars.with_gap.Goals as goal
 
@@ -16,6 +12,7 @@ returns-clause-here g c = λ h k.
     c.behind_tail.ensures in (
       record { here = gap.0.here; laid = c.set_last.new.self },
       (gap.1.0, refl),
-      rw gap.2 (seen_given (lexeme_items c.args.found.now.lexeme) (tail_view c.in_ok-tail.tail) c.into_note.result gap.0
-          c.gap.new.layouts c.set_last.new.self c.into_note.ensures gap.1.1 left),
+      rw gap.2 (seen_given (filled_items c.args.found.now.filled c.args.found.now.lexeme.value)
+          (tail_view c.in_ok-tail.tail) c.into_note.result gap.0 c.gap.new.layouts c.set_last.new.self
+          c.into_note.ensures gap.1.1 left),
     )

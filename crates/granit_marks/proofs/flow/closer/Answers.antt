@@ -20,7 +20,7 @@ pub returns-else-not-is_same-clause-here : goal.returns-else-not-is_same-clause-
 returns-else-not-is_same-clause-here g c = λ h k.
     let o = options_of c.args.options.now in
     let l = c.args.layouts.now in
-    let signed = c.sign-lexeme.ensures.here h k in
+    let signed = c.sign.ensures.here h k in
     let top = sym c.top_bracket.ensures ∙ c.in-Some.is in
     let same = sym c.is_same.ensures ∙ c.if-not-is_same.false in
     let is = closer_read c.args.bracket c.in-Some.innermost l.brackets c.args.ends h l top same in

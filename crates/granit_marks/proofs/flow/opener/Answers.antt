@@ -21,7 +21,7 @@ pub returns-clause-here : goal.returns-clause-here
 returns-clause-here g c = λ h k.
     let o = options_of c.args.options.now in
     let l = c.args.layouts.now in
-    let signed = c.sign-lexeme.ensures.here h k in
+    let signed = c.sign.ensures.here h k in
     let added = rw (c.mark-mark.ensures.here h k) at c.in_ok-open.ensures in
     let is = opener_read o c.args.bracket c.args.ends h l (omega arith) in
     same_tailed (λ (r : Read). GivesTo (lexeme_in c.tailed.new.found) c.tailed.result

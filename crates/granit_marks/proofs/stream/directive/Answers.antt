@@ -23,7 +23,7 @@ returns-clause-here g c = λ h k.
     let read = c.in_ok-read.ensures.here h k in
     let on = c.over_break_if.ensures.here read.0 read.1 in
     let lexeme = rw (c.ends_all-ends.ensures, c.close_all.ensures) at
-    (c.scalar_lexeme-lexeme.ensures h (c.start_of-start.ensures h k)
+    (c.scalar_lexeme.ensures h (c.start_of-start.ensures h k)
     ∙ ap (λ (t : Option CommentRead). token_as c.ends_all-ends.result c.in_ok-read.read.token t h c.close_all.new.self)
     c.in_ok-tail.ensures.kept) in (
       record { here = over_break_if read.0; laid = c.behind_directive.new.self },

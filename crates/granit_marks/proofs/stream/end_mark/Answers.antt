@@ -23,8 +23,8 @@ returns-clause-here g c = λ h k.
     let tail = c.in_ok-tail.ensures.here (steps 3 h) on in
     let more = c.in_ok-refuse_more.ensures.here tail.0 tail.1 in
     let lexeme = rw (c.mark-end.ensures.here (steps 3 h) on) at
-    (c.lexeme_to-lexeme.ensures h (c.start_of-start.ensures h k)) in
-    let told = c.with_tail.ensures ∙ ap (λ (x : Lexeme). with_tail x (noted (tail_view c.in_ok-tail.tail))) lexeme in (
+    (c.write_lexeme.ensures h (c.start_of-start.ensures h k)) in
+    let told = c.put_tail.ensures ∙ ap (λ (x : Lexeme). with_tail x (noted (tail_view c.in_ok-tail.tail))) lexeme in (
       record { here = tail.0; laid = c.behind_end_mark.new.self },
       (more.0, refl),
       mark_seen c.args.asked c.args.ends h c.args.layouts.now (tail_view c.in_ok-tail.tail) tail.0 tail.2

@@ -16,7 +16,7 @@ lexeme_by-requires g c = λ _. (
         subst (λ (b : Bool). SortFits b (sort_view c.sort_at-sort.result) h) c.is_in_flow.ensures
         (subst (λ (s : LexemeSort). SortFits c.is_in_flow.result s h) (sym (c.sort_at-sort.ensures h k))
         (sort_fits c.is_in_flow.result c.is_adjacent.result h (c.requires.clear h k))),
-    (c.requires.room, c.requires.no_note),
+    (c.requires.room, (refl, c.requires.no_note)),
   ),
 )
 

@@ -11,7 +11,7 @@ returns-clause-here g c = λ h k.
     let left = c.forget_key.ensures ∙ ap forgets_key
     (c.widen_if.ensures ∙ ap (λ (b : Bool). widened_if b c.args.layouts.now)
     (c.is_before_break-wide.ensures h looked)) in (
-      record { here = h; laid = c.give.new.layouts },
+      record { here = h; laid = c.count_lexeme.new.self },
       (looked, refl),
-      rw none (rw (c.ended.ensures, c.mark-mark.ensures.here h looked, left) at (c.give.ensures h)),
+      rw (none, c.end_at.ensures, c.mark-mark.ensures.here h looked, c.count_lexeme.ensures, left) refl,
     )

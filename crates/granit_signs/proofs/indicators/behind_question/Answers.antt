@@ -18,6 +18,6 @@ returns-clause-here g c = λ none h k.
     subst (λ (r : Read). GivesTo (lexeme_in c.question_up_to.new.found) c.question_up_to.result
     (IsAt g.T.Input.unread c.question_up_to.new.at c.question_up_to.new.layouts)
     (coded (incoming o.emit_comments) r))
-    (sym (question_behind o (lexeme_view c.args.lexeme) h c.args.layouts.now c.behind_question.new.self fits
+    (sym (question_behind o (lexeme_view c.args.found.now) h c.args.layouts.now c.behind_question.new.self fits
     c.behind_question.ensures))
     (c.question_up_to.ensures.here none (past_gap false h) passed)

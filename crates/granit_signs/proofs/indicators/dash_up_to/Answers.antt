@@ -10,7 +10,7 @@ use Rattle.granit_signs.proofs.indicators.dash_up_to.Goals as goal
 pub returns-in_err-tail-clause-here : goal.returns-in_err-tail-clause-here
 returns-in_err-tail-clause-here g c = λ h k.
     let p = err_from_is_err_and c.from_residual.result c.from_residual.ensures.1 in
-    rw (p.1, p.2) (dash_fails c.args.asked (lexeme_view c.args.lexeme) c.args.layouts.now h c.in_err-tail.field-0.0
+    rw (p.1, p.2) (dash_fails c.args.asked (lexeme_view c.args.found.now) c.args.layouts.now h c.in_err-tail.field-0.0
     (c.in_err-tail.ensures.here h k))
 
 pub returns-clause-here : goal.returns-clause-here
@@ -18,6 +18,6 @@ returns-clause-here g c = λ h k.
     let tail = c.in_ok-tail.ensures.here h k in
     subst (λ (r : Read). GivesTo (lexeme_in c.behind_dash.new.found) c.behind_dash.result
     (IsAt g.T.Input.unread c.behind_dash.new.at c.behind_dash.new.layouts) r)
-    (sym (dash_tailed c.args.asked (lexeme_view c.args.lexeme) c.args.layouts.now h (tail_view c.in_ok-tail.tail) tail.0
-    tail.2))
+    (sym (dash_tailed c.args.asked (lexeme_view c.args.found.now) c.args.layouts.now h (tail_view c.in_ok-tail.tail)
+    tail.0 tail.2))
     (c.behind_dash.ensures.here tail.0 tail.1)

@@ -31,7 +31,7 @@ returns-clause-here g c = λ h k.
     let o = options_of c.args.options.now in
     let l = c.args.layouts.now in
     let mark = c.mark-mark.ensures.here h k in
-    let signed = c.sign-lexeme.ensures.here h k in
+    let signed = c.sign.ensures.here h k in
     let flow = sym c.is_in_flow.ensures ∙ c.if-is_in_flow.false in
     let allowed = sym (rw (c.begins_line.ensures ∙ sym k.2, c.tab.ensures ∙ sym k.3) at c.is_allowed.ensures)
     ∙ c.if-not-is_allowed.false in

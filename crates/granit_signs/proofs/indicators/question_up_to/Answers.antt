@@ -1,4 +1,4 @@
-use Rattle.std.proofs.Common.{◌≡◌, ◌==◌, ◌∙◌, true, false, refl, sym, arith}
+use Rattle.std.proofs.Common.{◌≡◌, ◌==◌, true, false, refl, sym, arith}
 use Rattle.std.proofs.lemmas.Bool.Decides.{nat_tests}
 use Rattle.std.proofs.lemmas.Result.{err_from_is_err_and}
 use Rattle.granit_error.specs.OptionsView.{options_of}
@@ -15,10 +15,10 @@ returns-then-peek-eq35-clause-here g c = λ none h k.
     let found : c.peek.result ≡ next_char h = c.peek.ensures.value h.unread (rw c.input.ensures k.0) in
     let hash : (next_char h == 0x23) ≡ true = grind (arith, nat_tests, found, c.if-peek-eq35.true) in
     let note = c.in_ok-note.ensures.here h k in (
-      record { here = note.0; laid = c.give.new.layouts },
+      record { here = note.0; laid = c.count_lexeme.new.self },
       (note.1, refl),
-      question_with_note o.emit_comments o (lexeme_view c.args.lexeme) h c.args.layouts.now
-          (tail_view c.in_ok-note.note) note.0 hash note.2 ∙ rw c.with_tail.ensures at (c.give.ensures note.0),
+      rw (c.put_tail.ensures, c.count_lexeme.ensures) (question_with_note o.emit_comments o
+          (lexeme_view c.args.found.now) h c.args.layouts.now (tail_view c.in_ok-note.note) note.0 hash note.2),
     )
 
 pub returns-in_err-refuse_tab-clause-memory : goal.returns-in_err-refuse_tab-clause-memory
@@ -34,8 +34,8 @@ returns-clause-here g c = λ none h k.
     let found : c.peek.result ≡ next_char h = c.peek.ensures.value h.unread (rw c.input.ensures k.0) in
     let hash : (next_char h == 0x23) ≡ false = grind (arith, nat_tests, found, c.if-peek-eq35.false) in
     let tabs = rw (c.mark.ensures.here h k, c.leading_tab-tab.ensures h k) at (sym c.in_ok-refuse_tab.ensures) in (
-      record { here = h; laid = c.give-2.new.layouts },
+      record { here = h; laid = c.count_lexeme-2.new.self },
       (k, refl),
-      question_ready o.emit_comments o (lexeme_view c.args.lexeme) h c.args.layouts.now hash tabs none
-          ∙ c.give-2.ensures h,
+      rw c.count_lexeme-2.ensures
+          (question_ready o.emit_comments o (lexeme_view c.args.found.now) h c.args.layouts.now hash tabs none),
     )

@@ -29,14 +29,14 @@ returns-clause-here g c = λ h k.
     let fits = sym (c.is_before_flow.ensures h looked) ∙ c.if-is_before_flow.false in
     let on = c.step.ensures.here h looked in
     let lexeme = rw (c.mark-end.ensures.here (step h) on) at
-    (c.lexeme_to-lexeme.ensures h (c.start_of-start.ensures h looked)) in
+    (c.write_lexeme.ensures h (c.start_of-start.ensures h looked)) in
     let tail = c.in_ok-tail.ensures.here (step h) on in
     let allowed = rw (c.begins_line.ensures ∙ sym k.2, c.tab.ensures ∙ sym k.3) at
     c.is_allowed-allowed.ensures in
     let seen = tail_view c.in_ok-tail.tail in
-    let tailed = c.with_tail.ensures ∙ ap (λ (x : Lexeme). with_tail x (noted seen)) lexeme in
+    let tailed = c.put_tail.ensures ∙ ap (λ (x : Lexeme). with_tail x (noted seen)) lexeme in
     let whole = colon_tailed o.emit_comments o c.args.ends h c.args.layouts.now fits seen tail.0 tail.2
-    ∙ sym (colon_same o (top_key c.args.layouts.now) (lexeme_view c.with_tail.result) _ c.mark-mark.result _
+    ∙ sym (colon_same o (top_key c.args.layouts.now) (lexeme_view c.put_tail.new.found) _ c.mark-mark.result _
     c.is_allowed-allowed.result _ tail.0 c.args.layouts.now tailed (c.mark-mark.ensures.here h looked) allowed) in
     subst (λ (r : Read). GivesTo (lexeme_in c.colon_by_key.new.found) c.colon_by_key.result
     (IsAt g.T.Input.unread c.colon_tail.new.at c.colon_by_key.new.layouts) r) (sym whole)

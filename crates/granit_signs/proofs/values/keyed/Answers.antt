@@ -1,4 +1,5 @@
+use Rattle.std.proofs.Common.{refl}
 use Rattle.granit_signs.proofs.values.keyed.Goals as goal
 
 pub returns : goal.returns
-returns c = λ after. rw (c.key_given.ensures, c.forget_key.ensures) at (c.give.ensures after)
+returns c = λ after. rw (c.put_key.ensures, c.count_lexeme.ensures, c.forget_key.ensures) refl

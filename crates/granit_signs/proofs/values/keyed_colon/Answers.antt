@@ -8,6 +8,6 @@ use Rattle.granit_signs.proofs.values.keyed_colon.Goals as goal
 
 pub returns-clause-here : goal.returns-clause-here
 returns-clause-here c = λ after.
-    ap (λ (r : Result Laid Fault). r >>= keyed_given (with_key c.args.key (lexeme_view c.args.lexeme)) after)
+    ap (λ (r : Result Laid Fault). r >>= keyed_given (with_key c.args.key (lexeme_view c.args.found.now)) after)
     c.in_ok-enter_keyed.ensures.here
     ∙ c.keyed.ensures after

@@ -6,7 +6,7 @@ use Rattle.granit_scan.proofs.writer.Writer.write_lexeme.Goals as goal
 
 pub returns : goal.returns
 returns c =
-    let l = lexeme_view c.args.lexeme in
+    let l = lexeme_view c.args.lexeme.now in
     let b = c.args.begins_key in
     c.in_ok-write_own.ensures
     ∙ ap (with_own l) (c.in_ok-follow.ensures

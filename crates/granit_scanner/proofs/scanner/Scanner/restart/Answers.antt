@@ -1,7 +1,7 @@
 use Rattle.std.proofs.Common.{◌≡◌, ◌++◌, Bool, None, Some, sym, subst, ◌∙◌}
 use Rattle.std.specs.Prelude.{IfOk}
 use Rattle.granit_cursor.specs.Reading.{Stands}
-use Rattle.granit_items.specs.ItemViews.{lexeme_view}
+use Rattle.granit_items.specs.ItemViews.{boxed_lexeme}
 use Rattle.granit_restart.specs.Restart.{read_boundary}
 use Rattle.granit_scanner.specs.Restarts.{Restarts, front_items}
 use Rattle.granit_scanner.proofs.RestartLemmas.{goes_by}
@@ -16,7 +16,7 @@ returns-in-Some-clause-known g c = λ s h k number same.
     let counted = subst (λ r. r.laid.number ≡ s.reading.reader.laid.number) (sym c.self.view_is) number in
     let waits = subst (λ r. read_boundary h s.queue ≡ read_boundary h (front_items c.args.front ++ r.queue))
     (sym c.self.view_is) same in
-    let is = goes_by h s (Some (lexeme_view c.in-Some.lexeme)) (waits ∙ sym (c.in-Some.ensures h here)) in
+    let is = goes_by h s (Some (boxed_lexeme c.in-Some.lexeme)) (waits ∙ sym (c.in-Some.ensures h here)) in
     subst (λ (x : Bool × StepState). IfOk c.restart_at.result (Restarts unread x c.restart_at.new.self)) (sym is)
     (c.restart_at.ensures.known s h here counted)
 

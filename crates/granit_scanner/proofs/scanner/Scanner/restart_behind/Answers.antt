@@ -24,8 +24,8 @@ returns-in_ok-put_front-in-Start-clause-known g c = λ s h at number.
     (next_boundary h) (c.in-Start.ensures.here h stands) (λ k marked begins lands.
     let ends = c.mark-end.ensures.here (steps 3 k)
     (subst (λ r. Stands unread r.cursor (steps 3 k)) (sym begun) lands) in
-    let is = c.lexeme_to-lexeme.ensures k (sym marked, sym begins) in
-    let front = ap (λ (i : FlaggedItem). i ∷ []) (start_is k s (lexeme_view c.lexeme_to-lexeme.result)
+    let is = c.write_lexeme.ensures k (sym marked, sym begins) in
+    let front = ap (λ (i : FlaggedItem). i ∷ []) (start_is k s (lexeme_view c.write_lexeme.new.found)
     c.number-number.result c.mark-end.result c.self-in-Start.inside.layouts is ends
     (ap (λ r. r.laid) begun ∙ same) (c.number-number.ensures ∙ counted)) in
     begun_anew unread n false (unflagged (OfLexeme (start_found k s)) ∷ []) (steps 3 k) s true

@@ -1,0 +1,150 @@
+-- All events that a parser still gives, as one list.
+use Rattle.std.proofs.Common.{◌≡◌, ℕ, Bool, true, false, ◌==◌, ◌||◌, not, List, [], ◌∷◌, ◌++◌, length, Some, None}
+use Rattle.std.proofs.Common.{Result, Ok, Err, refl, sym, ap, subst, ◌⊎◌, inl, inr}
+use Rattle.std.specs.Prelude.{IfErr, IfOk, IfSome}
+use Rattle.std.proofs.lemmas.List.{append-nil}
+use Rattle.granit_base.specs.Place.{Unread}
+use Rattle.granit_error.specs.OptionsData.{OptionsData}
+use Rattle.granit_error.specs.Refused.{Refused}
+use Rattle.granit_base.specs.declared.place.Span.{Span}
+use Rattle.granit_event.specs.declared.event.Event.{Event}
+use Rattle.granit_input.proofs.OriginLemmas.{goes_on}
+use Rattle.granit_input.specs.Origin.{Goes, Origin}
+use Rattle.granit_lexemes.specs.Outcome.{Fails}
+use Rattle.granit_lexemes.specs.PlainEvent.{PlainEvent}
+use Rattle.granit_parser.specs.Gathering.{Gathered, LeadsOut, RefusesLate}
+use Rattle.granit_parser.specs.Parsing.{LeadsTo, Next, Parsing, StandsAt, StandsBefore, none_given, first_given}
+use Rattle.granit_parser.specs.Receiving.{RefusesIn}
+use Rattle.granit_parser.proofs.SourceLemmas.{giving_on, moves_seen}
+use Rattle.granit_parser.specs.Sources.{GoesGiving, GoesUnless, IfUnseen, MovesUnless, TellsSource}
+use Rattle.granit_restart.specs.Skipping.{with_pending}
+use Rattle.granit_stepper.proofs.GatherLemmas.{settled_ends, settled_gives, waits_settled}
+use Rattle.granit_stepper.proofs.StateLemmas.{next_fails}
+use Rattle.granit_stepper.proofs.TurnLemmas.{none_given as none_waits, some_given as some_waits}
+use Rattle.granit_stepper.specs.Gathering.{GivesWaiting}
+use Rattle.granit_stepper.specs.Numbers.{RefusesNumber}
+use Rattle.granit_stepper.specs.Stepping.{Stepping, StandsIn}
+use Rattle.granit_steps.specs.Steps.{StepState, next_event, settle}
+
+-- ---- in the machine
+
+-- events are given, and others behind them
+leads_behind : (o : OptionsData) {m n after : StepState} {es fs : List PlainEvent} → LeadsTo o m es n
+    → LeadsTo o n fs after → LeadsTo o m (es ++ fs) after
+leads_behind o none_given more = more
+leads_behind o (first_given is leads) more = first_given is (leads_behind o leads more)
+
+-- all that waits is given
+waits_all : (o : OptionsData) (m : StepState) (es : List PlainEvent) → m.pending ≡ es
+    → LeadsTo o m es (with_pending [] m)
+waits_all o m [] none = subst (λ (es : List PlainEvent). LeadsTo o m [] (with_pending es m)) none none_given
+waits_all o m (e ∷ es) is =
+    first_given (settled_gives o m m e es (waits_settled o m e es is) is) (waits_all o (with_pending es m) es refl)
+
+-- where turns led to what waits
+settled_all : (o : OptionsData) (m after : StepState) (e : PlainEvent) (es : List PlainEvent)
+    → settle o m ≡ Ok ([], after)
+    → after.pending ≡ e ∷ es → LeadsTo o m (e ∷ es) (with_pending [] after)
+settled_all o m after e es settled is =
+    first_given (settled_gives o m after e es settled is) (waits_all o (with_pending es after) es refl)
+
+-- ---- in the code
+
+module _ {I : Type 0} (unread : I → Unread → Type 0) (o : OptionsData) (m : StepState) where
+  -- one event was given
+  pub gathered_first : (p : Parsing I) (e : PlainEvent) → p.peeked ≡ None → (n : StepState) → StandsAt unread p n
+      → next_event o m ≡ Ok (Some e, n) → Gathered unread o m (e ∷ []) p.stepper
+  gathered_first p e none n at is =
+      (n, first_given is none_given, subst (λ (r : Next). StandsBefore unread r p.stepper n) none at)
+
+  more_by : (n after : StepState) (s : Stepping I) (old waiting : List PlainEvent) → LeadsTo o m old n
+      → settle o n ≡ Ok ([], after) → StandsIn unread s (with_pending [] after) → after.pending ≡ waiting
+      → true ≡ not (length waiting == 0) → Gathered unread o m (old ++ waiting) s
+  more_by n after s old [] leads settled at is some =
+      absurd (let clash : true ≡ false = some_waits [] (sym some) in cc)
+  more_by n after s old (e ∷ es) leads settled at is some =
+      (with_pending [] after, leads_behind o leads (settled_all o n after e es settled is), at)
+
+  -- more was gathered
+  pub gathers_more : (now after : Stepping I) (Refuses : StepState → Refused → Type 0) (old new : List PlainEvent)
+      → ((n : StepState) → StandsIn unread now n
+      → GivesWaiting (Ok true) (StandsIn unread after) (settle o n) (Refuses n) old new)
+      → Gathered unread o m old now → Gathered unread o m new after
+  gathers_more now after Refuses old new gives before =
+      let g = gives before.0 before.2 in
+      subst (λ (es : List PlainEvent). Gathered unread o m es after) (sym g.3)
+      (more_by before.0 g.0 after old g.0.pending before.1 g.1 g.2 refl g.4)
+
+  none_by : (n after : StepState) (old waiting : List PlainEvent) → LeadsTo o m old n → settle o n ≡ Ok ([], after)
+      → after.pending ≡ waiting → false ≡ not (length waiting == 0) → LeadsOut o m (old ++ waiting)
+  none_by n after old [] leads settled is none =
+      subst (λ (es : List PlainEvent). LeadsOut o m es) (sym (append-nil old))
+      (n, leads, (with_pending [] after, settled_ends o n after settled is))
+  none_by n after old (e ∷ es) leads settled is none =
+      absurd (let clash : e ∷ es ≡ [] = none_waits (e ∷ es) (sym none) in cc)
+
+  -- nothing is left
+  pub gathers_all : (now after : Stepping I) (Refuses : StepState → Refused → Type 0) (old new : List PlainEvent)
+      → ((n : StepState) → StandsIn unread now n
+      → GivesWaiting (Ok false) (StandsIn unread after) (settle o n) (Refuses n) old new)
+      → Gathered unread o m old now → LeadsOut o m new
+  gathers_all now after Refuses old new gives before =
+      let g = gives before.0 before.2 in
+      subst (λ (es : List PlainEvent). LeadsOut o m es) (sym g.3)
+      (none_by before.0 g.0 old g.0.pending before.1 g.1 refl g.4)
+
+  refused_by : (origin : I → Origin) (n : StepState) (p : Parsing I) (e : Refused)
+      → (Fails e (settle o n) ⊎ RefusesNumber p.stepper.renumbered o n e)
+      ⊎ TellsSource {X = Bool} origin (Some (Err e)) p.stepper.scanner.cursor → RefusesIn origin o n p e
+  refused_by origin n p e (inl fails) = inl (next_fails unread p.stepper.renumbered o n e fails)
+  refused_by origin n p e (inr told) = inr told
+
+  -- a refusal follows
+  pub gathers_refusal : (origin : I → Origin) (now : Stepping I) (p : Parsing I) (e : Refused) (old : List PlainEvent)
+      → ((n : StepState) → StandsIn unread now n
+      → (Fails e (settle o n) ⊎ RefusesNumber p.stepper.renumbered o n e)
+      ⊎ TellsSource {X = Bool} origin (Some (Err e)) p.stepper.scanner.cursor)
+      → Gathered unread o m old now → RefusesLate origin o m p e
+  gathers_refusal origin now p e old fails before =
+      (old, before.0, before.1, refused_by origin before.0 p e (fails before.0 before.2))
+
+-- ---- a source that was asked behind a call
+
+pub waiting_on : {I : Type 0} (unread : I → Unread → Type 0) (r : Result Bool Refused) (mid new : Stepping I) (b : Bool)
+    (o : OptionsData) (m : StepState) (old more : List PlainEvent) → new.renumbered ≡ b
+    → ((n : StepState) → StandsIn unread mid n → StandsIn unread new n)
+    → GivesWaiting r (StandsIn unread mid) (settle o m) (RefusesNumber b o m) old more
+    → GivesWaiting r (StandsIn unread new) (settle o m) (RefusesNumber new.renumbered o m) old more
+waiting_on unread (Ok some) mid new b o m old more same on gives =
+    (gives.0, gives.1, on (with_pending [] gives.0) gives.2, gives.3, gives.4)
+waiting_on unread (Err e) mid new b o m old more same on (inl fails) = inl fails
+waiting_on unread (Err e) mid new b o m old more same on (inr left) =
+    inr (subst (λ (c : Bool). RefusesNumber c o m e) (sym same) left)
+
+pub fails_on : {I : Type 0} (r : Result Bool Refused) (mid new : Stepping I) → new.failed ≡ (mid.failed || false)
+    → IfErr r (λ e. mid.failed ≡ true) → IfErr r (λ e. new.failed ≡ true)
+fails_on (Ok some) mid new same failed = tt
+fails_on (Err e) mid new same failed = rw (same, failed) refl
+
+-- ---- where calls leave the source
+
+-- what a call leaves
+pub went : {I : Type 0} (left : I → ℕ) (origin : I → Origin) (r s : Result (Event × Span) Refused)
+    (now after : Parsing I)
+    → r ≡ s → IfSome now.peeked (λ x. (Some r ≡ Some x) × (after.stepper ≡ now.stepper))
+    → IfUnseen now.peeked (MovesUnless left origin (Some r) now.stepper.scanner.cursor after.stepper.scanner.cursor)
+    → GoesUnless (Some s) (origin now.stepper.scanner.cursor.input) (origin after.stepper.scanner.cursor.input)
+went left origin r s now after same seen moves =
+    subst (λ (x : Result (Event × Span) Refused). GoesUnless (Some x) (origin now.stepper.scanner.cursor.input)
+    (origin after.stepper.scanner.cursor.input)) same
+    (moves_seen left origin (Some r) now.peeked now.stepper after.stepper seen moves)
+
+pub went_ok : {V : Type 0} (r : Result V Refused) (a b c : Origin) → Goes a b → IfOk r (λ v. Goes b c)
+    → IfOk r (λ v. Goes a c)
+went_ok (Ok v) a b c first next = goes_on a b c first next
+went_ok (Err e) a b c first next = tt
+
+pub went_err : {V : Type 0} (r : Result V Refused) (a b c : Origin) → Goes a b → IfErr r (λ e. GoesGiving b c)
+    → IfErr r (λ e. GoesGiving a c)
+went_err (Ok v) a b c first next = tt
+went_err (Err e) a b c first next = giving_on a b c first next
