@@ -1,6 +1,6 @@
 //! Parsers that lie on one another.
 ghost use mir.Syntax.{named};
-ghost use Rattle.std.specs.Prelude.{◌≡◌, [], ◌∷◌, ◌++◌, false, None, Some, OnOk, OnErr, IfOk, IfErr};
+ghost use Rattle.std.specs.Prelude.{◌≡◌, [], ◌∷◌, ◌++◌, false, None, Some, OnOk, OnErr, IfOk, IfErr, IsOk};
 ghost use Rattle.std.specs.Str.{chars};
 ghost use Rattle.std.specs.Borrow.{sem};
 ghost use Rattle.std.specs.Io.BufRead.{Rests};
@@ -114,15 +114,19 @@ impl<'input, S: StackedParser<'input>> Layers<'input, S> {
     ///
     /// # Errors
     ///
-    /// `NoMemory` alone.
+    /// `NoMemory` alone, and none where there is no parser.
     pub fn names(&self) -> Result<TextList, NoMemory>
-        ensures { IfOk result (λ names. names ≡ names_of self.now.layers) }
+        ensures names { IfOk result (λ names. names ≡ names_of self.now.layers) }
+        ensures memory { self.now.layers ≡ [] → IsOk result }
     {
-        let mut names = names_below(self.alloc, &self.below)?;
-        if let Some(layer) = &self.top {
-            names.push(layer.name.try_clone(self.alloc)?)?;
+        match &self.top {
+            None => Ok(TextList::new(self.alloc)),
+            Some(layer) => {
+                let mut names = names_below(self.alloc, &self.below)?;
+                names.push(layer.name.try_clone(self.alloc)?)?;
+                Ok(names)
+            }
         }
-        Ok(names)
     }
 
     /// An error with the names of the stack, where it has two or more.

@@ -1,6 +1,6 @@
 //! Parsers on a stack.
 ghost use mir.Syntax.{named};
-ghost use Rattle.std.specs.Prelude.{◌≡◌, [], true, None, Some, IfOk, IfSome};
+ghost use Rattle.std.specs.Prelude.{◌≡◌, [], true, None, Some, IfOk, IfSome, IsOk};
 ghost use Rattle.std.specs.Borrow.{sem};
 ghost use Rattle.std.specs.Io.BufRead.{Rests};
 ghost use Rattle.granit_error.specs.OptionsData.{default_options};
@@ -109,9 +109,10 @@ where
     ///
     /// # Errors
     ///
-    /// `NoMemory` alone.
+    /// `NoMemory` alone, and none where there is no parser.
     pub fn stack(&self) -> Result<TextList, NoMemory>
-        ensures { IfOk result (λ names. names ≡ names_of self.now.stack.layers) }
+        ensures names { IfOk result (λ names. names ≡ names_of self.now.stack.layers) }
+        ensures memory { self.now.stack.layers ≡ [] → IsOk result }
     {
         self.layers.names()
     }

@@ -14,7 +14,7 @@ returns-in-Ok g c =
     rw (← c.self.view_is)
     (named_among c.args.error c.with_source_stack.result c.self.inside.top c.self.inside.below.items c.is_empty.result
     c.in-Ok.names (counted c.self.inside.below.items c.is_empty.result _ c.is_empty.ensures (search rules))
-    c.if-is_empty.false c.self.invariant.0 (c.in-Ok.ensures ∙ ap (λ p. names_of p.layers) (sym c.self.view_is))
+    c.if-is_empty.false c.self.invariant.0 (c.in-Ok.ensures.names ∙ ap (λ p. names_of p.layers) (sym c.self.view_is))
     c.with_source_stack.ensures)
 
 pub returns-in-Err : goal.returns-in-Err
