@@ -1,6 +1,6 @@
 -- A scalar is read where comments aren't asked for as where they are, without its comment.
-use Rattle.std.proofs.Common.{◌≡◌, ℕ, Bool, true, false, ◌==◌, ◌&&◌, not, if◌then◌else◌, List, ◌++◌, Option, Some, None}
-use Rattle.std.proofs.Common.{Result, Ok, Err, refl, sym, ap, ◌∙◌}
+use Rattle.std.proofs.Common.{◌≡◌, Bool, true, false, ◌==◌, not, if◌then◌else◌, ◌++◌, None}
+use Rattle.std.proofs.Common.{Result, Ok, Err, refl}
 use Rattle.granit_base.specs.Classes.{is_blank, is_printable}
 use Rattle.granit_base.specs.Place.{Mark}
 use Rattle.granit_base.specs.Written.{Written}
@@ -9,7 +9,7 @@ use Rattle.granit_lexemes.specs.Here.{Here, text_len, next_char, mark_of, step, 
 use Rattle.granit_lexemes.specs.LayoutData.{LayoutData}
 use Rattle.granit_lexemes.specs.Outcome.{Fault, ◌>>=◌}
 use Rattle.granit_lexemes.specs.PlainScalar.{plain_turn, on_blank, behind_plain, plain_scalar}
-use Rattle.granit_lexemes.specs.QuotedScalar.{QuotedState, QuotedRead, quoted_turn, is_strictly_left, is_loosely_left}
+use Rattle.granit_lexemes.specs.QuotedScalar.{QuotedRead, quoted_turn, is_strictly_left, is_loosely_left}
 use Rattle.granit_lexemes.specs.QuotedScalar.{quoted_at, quoted_read, asked_comment, may_trail, behind_quoted}
 use Rattle.granit_lexemes.specs.QuotedScalar.{quoted_tail, quoted_rest, between_quoted, quoted_scalar}
 use Rattle.granit_lexemes.specs.QuotedScalar.{quoted_text}

@@ -1,20 +1,20 @@
 -- What the items of a read are, where comments are asked for or not.
-use Rattle.std.proofs.Common.{◌≡◌, Bool, true, false, [], ◌∷◌, Option, Some, None, Result, Ok, Err, refl, sym, ap, ap₂}
+use Rattle.std.proofs.Common.{◌≡◌, Bool, true, false, [], ◌∷◌, Option, Some, None, Result, Ok, Err, refl, sym, ap}
 use Rattle.std.proofs.Common.{◌∙◌}
 use Rattle.granit_error.specs.Refused.{Refused}
 use Rattle.granit_lexemes.specs.Comment.{CommentRead}
 use Rattle.granit_lexemes.specs.Here.{Here}
-use Rattle.granit_lexemes.specs.Lexeme.{Lexeme, Item, OfLexeme}
+use Rattle.granit_lexemes.specs.Lexeme.{Lexeme, OfLexeme}
 use Rattle.granit_lexemes.specs.Outcome.{Fault, Fails, ◌>>=◌}
 use Rattle.granit_lexemes.specs.Tail.{tail_at}
 use Rattle.granit_lexemes.specs.declared.layout.LastLexeme.{LastLexeme}
 use Rattle.granit_lexemes.specs.declared.layout.LastLexeme.TheVariants.{Adjacent}
 use Rattle.granit_machine.specs.Laid.{Laid}
-use Rattle.granit_machine.specs.ReaderState.{Read, with_tail, read_to, given, behind_tail, tailed_by, tailed}
+use Rattle.granit_machine.specs.ReaderState.{with_tail, read_to, given, behind_tail, tailed_by, tailed}
 use Rattle.granit_steps.specs.Steps.{incoming}
 use Rattle.granit_cursor.specs.Reading.{coded}
 use Rattle.granit_cursor.proofs.GivenLemmas.{same_ok}
-use Rattle.granit_content.specs.Reads.{Seen, seen, kept, noted, behind_seen}
+use Rattle.granit_content.specs.Reads.{Seen, seen, noted, behind_seen}
 
 -- a lexeme with no tail
 pub untailed : (asked : Bool) (x : Lexeme) → x.tail ≡ None → incoming asked (OfLexeme x ∷ []) ≡ OfLexeme x ∷ []

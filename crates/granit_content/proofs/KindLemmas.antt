@@ -3,7 +3,6 @@ use Rattle.std.proofs.Common.{◌≡◌, refl}
 use Rattle.granit_cursor.specs.declared.comment.Comment.{Comment}
 use Rattle.granit_cursor.specs.declared.token.TokenType.{TokenType}
 use Rattle.granit_cursor.specs.declared.token.TokenType.TheVariants as tokens
-use Rattle.granit_lexemes.specs.Comment.{CommentRead}
 use Rattle.granit_lexemes.specs.Source.{Source}
 use Rattle.granit_content.specs.KindViews.{note_of_type}
 

@@ -1,5 +1,5 @@
 -- A quoted scalar and the gap behind it.
-use Rattle.std.proofs.Common.{◌≡◌, Bool, true, false, List, [], ◌∷◌, ◌++◌, map, Option, Some, None, Result, Ok, Err}
+use Rattle.std.proofs.Common.{◌≡◌, Bool, true, false, List, [], ◌∷◌, ◌++◌, map, Option, Some, None, Ok, Err}
 use Rattle.std.proofs.Common.{refl, sym, ap, ◌∙◌}
 use Rattle.std.specs.Global.{Box}
 use Rattle.std.specs.List.{filter}
@@ -8,9 +8,8 @@ use Rattle.granit_cursor.specs.Reading.{coded}
 use Rattle.granit_error.specs.OptionsData.{OptionsData}
 use Rattle.granit_error.specs.Refused.{Refused}
 use Rattle.granit_lexemes.specs.Comment.{CommentRead}
-use Rattle.granit_lexemes.specs.Here.{Here}
 use Rattle.granit_lexemes.specs.Lexeme.{Item, OfLexeme, OfComment}
-use Rattle.granit_lexemes.specs.Outcome.{Fault, Fails, ◌>>=◌}
+use Rattle.granit_lexemes.specs.Outcome.{Fails, ◌>>=◌}
 use Rattle.granit_lexemes.specs.declared.layout.LastLexeme.{LastLexeme}
 use Rattle.granit_lexemes.specs.declared.layout.LastLexeme.TheVariants.{Adjacent}
 use Rattle.granit_machine.specs.Gaps.{GapRead, gap}

@@ -11,13 +11,12 @@ use Rattle.granit_lex.specs.PlainCode.{plain_lexed}
 use Rattle.granit_lex.specs.QuotedCode.{quoted_lexed}
 use Rattle.granit_lexemes.specs.BlockScalar.{BlockGiven, block_scalar}
 use Rattle.granit_lexemes.specs.Comment.{CommentRead}
-use Rattle.granit_lexemes.specs.Here.{Here, mark_of}
+use Rattle.granit_lexemes.specs.Here.{Here}
 use Rattle.granit_lexemes.specs.Lexeme.{Scalar}
 use Rattle.granit_lexemes.specs.LayoutData.{LayoutData}
 use Rattle.granit_lexemes.specs.Outcome.{Fault, Fails, ◌>>=◌}
 use Rattle.granit_lexemes.specs.PlainScalar.{PlainRead, plain_scalar}
 use Rattle.granit_lexemes.specs.QuotedScalar.{QuotedRead, quoted_style, quoted_scalar}
-use Rattle.granit_lexemes.specs.declared.layout.LastLexeme.{LastLexeme}
 use Rattle.granit_lexemes.specs.declared.layout.LastLexeme.TheVariants.{Adjacent, Another}
 use Rattle.granit_machine.specs.Laid.{Laid, block_column}
 use Rattle.granit_machine.specs.NodeLexemes as nodes

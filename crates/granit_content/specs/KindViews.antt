@@ -1,5 +1,5 @@
 -- What the tokens of the calls that read lexemes say.
-use Rattle.std.specs.Prelude.{[], ◌∷◌, map, Option, Some, None}
+use Rattle.std.specs.Prelude.{[], map}
 use Rattle.granit_cursor.specs.Tokens.{is_right_placed}
 use Rattle.granit_cursor.specs.declared.token.Token.{Token}
 use Rattle.granit_cursor.specs.declared.token.TokenType.{TokenType}

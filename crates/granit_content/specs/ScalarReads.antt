@@ -1,5 +1,5 @@
 -- Scalars as lexemes, by what the calls that read them give.
-use Rattle.std.specs.Prelude.{◌≡◌, Bool, List, [], ◌∷◌, ◌++◌, Option, Some, None, Result, Ok}
+use Rattle.std.specs.Prelude.{Bool, List, ◌++◌, Option, Result, Ok}
 use Rattle.std.specs.Option.{option_map}
 use Rattle.granit_base.specs.Place.{Unread}
 use Rattle.granit_error.specs.OptionsData.{OptionsData}
@@ -10,8 +10,8 @@ use Rattle.granit_cursor.specs.declared.token.Token.{Token}
 use Rattle.granit_lexemes.specs.Comment.{CommentRead}
 use Rattle.granit_lexemes.specs.Here.{Here}
 use Rattle.granit_lexemes.specs.LayoutData.{LayoutData}
-use Rattle.granit_lexemes.specs.Lexeme.{Lexeme, Item, OfComment}
-use Rattle.granit_lexemes.specs.Outcome.{Fault, ◌>>=◌}
+use Rattle.granit_lexemes.specs.Lexeme.{Lexeme, Item}
+use Rattle.granit_lexemes.specs.Outcome.{◌>>=◌}
 use Rattle.granit_lexemes.specs.declared.layout.LastLexeme.TheVariants.{Adjacent}
 use Rattle.granit_machine.specs.Gaps.{gap}
 use Rattle.granit_machine.specs.Laid.{Laid}

@@ -5,6 +5,7 @@ ghost use Rattle.granit_cursor.specs.Reading.{Moves, Stands, Wherever, GoesTo};
 ghost use Rattle.granit_error.specs.OptionsView.{options_of};
 ghost use Rattle.granit_lexemes.specs.Here.{Here, next_char, past};
 ghost use Rattle.granit_machine.specs.Gaps as spec;
+ghost use Rattle.granit_refused.specs.Answered.{answered};
 ghost use Rattle.granit_content.specs.declared.tail.Tail.TheVariants.{Nothing};
 ghost use Rattle.granit_content.specs.Reads.{NeverWants, OverGapChar, ReadsGap};
 
@@ -14,6 +15,7 @@ use granit_cursor::{Cursor, past_blanks, past_break};
 use granit_error::{ErrorKind, Options, ScanError};
 use granit_input::{BorrowedInput, Input};
 use granit_layout::Layouts;
+use granit_refused::{Refused, refuse_at};
 use std::alloc::Global;
 
 /// The gap that begins here, up to and with a comment and its break, or up to where a lexeme may begin.
@@ -28,11 +30,13 @@ pub fn gap<'input, T: BorrowedInput<'input>>(
     options: &Options,
     at: &mut Cursor<T>,
     layouts: &mut Layouts,
-) -> Result<Tail<'input>, ScanError>
-    ensures here { ReadsGap T.unread (options_of options.now).emit_comments at.old at.new layouts.new result
+    fault: &mut Option<ScanError>,
+) -> Result<Tail<'input>, Refused>
+    ensures here { ReadsGap T.unread (options_of options.now).emit_comments at.old at.new layouts.new
+        (answered fault.new result)
         (λ h. spec.gap (options_of options.now) h layouts.old) }
     ensures number { IfOk result (λ t. layouts.new.number ≡ layouts.old.number) }
-    ensures memory { (options_of options.now).emit_comments ≡ false → NeverWants result }
+    ensures memory { (options_of options.now).emit_comments ≡ false → NeverWants (answered fault.new result) }
     ensures clear { IfOk result (λ t. t ≡ Nothing → (h : Here) → Stands T.unread at.new h
         → is_gap (next_char h) ≡ false) }
     ensures window { IfOk result (λ t. t ≡ Nothing → 4 ≤ T.window at.new.input) }
@@ -42,9 +46,9 @@ pub fn gap<'input, T: BorrowedInput<'input>>(
     let moved = begins_gap(at, may_prefix);
     past_gap(at, may_prefix);
     if at.input().peek() == '#' {
-        return noted_gap(alloc, options.emit_comments, at, layouts);
+        return noted_gap(alloc, options.emit_comments, at, layouts, fault);
     }
-    ready_gap(options, at, layouts, moved)
+    ready_gap(options, at, layouts, moved, fault)
 }
 
 /// A comment with its break.
@@ -54,14 +58,16 @@ fn noted_gap<'input, T: BorrowedInput<'input>>(
     asked: bool,
     at: &mut Cursor<T>,
     layouts: &mut Layouts,
-) -> Result<Tail<'input>, ScanError>
-    ensures here { ReadsGap T.unread asked at.old at.new layouts.new result (λ h. spec.noted_gap h layouts.old) }
+    fault: &mut Option<ScanError>,
+) -> Result<Tail<'input>, Refused>
+    ensures here { ReadsGap T.unread asked at.old at.new layouts.new (answered fault.new result)
+        (λ h. spec.noted_gap h layouts.old) }
     ensures number { IfOk result (λ t. layouts.new.number ≡ layouts.old.number) }
     ensures some { IfOk result (λ t. t ≡ Nothing → ⊥) }
-    ensures memory { asked ≡ false → NeverWants result }
+    ensures memory { asked ≡ false → NeverWants (answered fault.new result) }
     ensures moves { Moves T.unread T.left T.origin at.old at.new }
 {
-    let note = comment_at(alloc, at, asked)?;
+    let note = comment_at(alloc, at, asked, fault)?;
     over_break_if(at);
     layouts.behind_note();
     Ok(note)
@@ -74,16 +80,18 @@ fn ready_gap<'input, T: Input>(
     at: &Cursor<T>,
     layouts: &mut Layouts,
     moved: bool,
-) -> Result<Tail<'input>, ScanError>
+    fault: &mut Option<ScanError>,
+) -> Result<Tail<'input>, Refused>
     requires window { 4 ≤ T.window at.now.input }
-    ensures memory { NeverWants result }
+    ensures memory { NeverWants (answered fault.new result) }
     ensures number { IfOk result (λ t. layouts.new.number ≡ layouts.old.number) }
-    ensures here { ReadsGap T.unread (options_of options.now).emit_comments at.now at.now layouts.new result
+    ensures here { ReadsGap T.unread (options_of options.now).emit_comments at.now at.now layouts.new
+        (answered fault.new result)
         (λ h. spec.ready_gap (options_of options.now) moved h layouts.old) }
 {
     let tab = leading_tab(at);
-    layouts.refuse_tab(options, at.mark(), tab)?;
-    refuse_cut(at, layouts)?;
+    layouts.refuse_tab(options, at.mark(), tab, fault)?;
+    refuse_cut(at, layouts, fault)?;
     layouts.behind_gap(moved);
     Ok(Tail::Nothing)
 }
@@ -167,16 +175,20 @@ pub fn leading_tab<T: Input>(at: &Cursor<T>) -> Option<Marker>
 }
 
 /// Refuses what would go on with a plain scalar that a comment cut short.
-fn refuse_cut<T: Input>(at: &Cursor<T>, layouts: &Layouts) -> Result<(), ScanError>
+fn refuse_cut<T: Input>(
+    at: &Cursor<T>,
+    layouts: &Layouts,
+    fault: &mut Option<ScanError>,
+) -> Result<(), Refused>
     requires window { 4 ≤ T.window at.now.input }
-    ensures here { (h : Here) → Stands T.unread at.now h → result ≡ spec.refuse_cut layouts.now h }
-    ensures memory { NeverWants result }
+    ensures here { (h : Here) → Stands T.unread at.now h → answered fault.new result ≡ spec.refuse_cut layouts.now h }
+    ensures memory { NeverWants (answered fault.new result) }
 {
     match layouts.cut() {
         None => Ok(()),
         Some(cut) => {
             if goes_on_behind(at, layouts, cut) {
-                return Err(ScanError::from_kind(cut, ErrorKind::CommentInterceptedScalar));
+                return Err(refuse_at(fault, cut, ErrorKind::CommentInterceptedScalar));
             }
             Ok(())
         }

@@ -4,6 +4,7 @@ ghost use Rattle.granit_cursor.specs.Reading.{Moves, Stands, Wherever};
 ghost use Rattle.granit_lexemes.specs.Here.{Here, step};
 ghost use Rattle.granit_machine.specs.ReaderState as spec;
 ghost use Rattle.granit_items.specs.ItemViews.{kind_view, lexeme_view};
+ghost use Rattle.granit_refused.specs.Answered.{answered};
 ghost use Rattle.granit_content.specs.Reads.{IsStart, NeverWants, ReadsItems, behind_seen, lexeme_in, noted, tail_view};
 
 use crate::tail::{Tail, tail_at};
@@ -14,6 +15,7 @@ use granit_input::{BorrowedInput, Input};
 use granit_items::{Lexeme, LexemeKind};
 use granit_layout::Layouts;
 use granit_lexemes::LastLexeme;
+use granit_refused::Refused;
 use std::alloc::Global;
 
 /// Where a lexeme begins.
@@ -108,14 +110,16 @@ pub fn tailed<'input, T: BorrowedInput<'input>>(
     layouts: &mut Layouts,
     last: LastLexeme,
     found: &mut Lexeme<'input>,
-) -> Result<(), ScanError>
+    fault: &mut Option<ScanError>,
+) -> Result<(), Refused>
     requires room { layouts.old.number < 2 ^ 63 }
     ensures here { ReadsItems T.unread asked at.old at.new layouts.new
-        (lexeme_in found.new) result (λ h. spec.tailed (lexeme_view found.old) last h layouts.old) }
-    ensures memory { asked ≡ false → NeverWants result }
+        (lexeme_in found.new) (answered fault.new result)
+        (λ h. spec.tailed (lexeme_view found.old) last h layouts.old) }
+    ensures memory { asked ≡ false → NeverWants (answered fault.new result) }
     ensures moves { Moves T.unread T.left T.origin at.old at.new }
 {
-    let tail = tail_at(alloc, at, asked)?;
+    let tail = tail_at(alloc, at, asked, fault)?;
     let last = behind_tail(last, &tail);
     put_tail(found, tail);
     layouts.count_lexeme(last);

@@ -6,6 +6,7 @@ ghost use Rattle.granit_lexemes.specs.Here.{Here, next_char, mark_of};
 ghost use Rattle.granit_machine.specs.NodeLexemes as spec;
 ghost use Rattle.granit_machine.specs.ReaderState as machine;
 ghost use Rattle.granit_items.specs.ItemViews.{lexeme_view};
+ghost use Rattle.granit_refused.specs.Answered.{answered};
 ghost use Rattle.granit_content.specs.KindViews.{kind_of_type};
 ghost use Rattle.granit_content.specs.Reads.{IsStart, ReadsItems, lexeme_in};
 
@@ -18,6 +19,7 @@ use granit_items::Lexeme;
 use granit_layout::Layouts;
 use granit_lexemes::LastLexeme;
 use granit_properties::{scan_anchor, scan_tag};
+use granit_refused::{Refused, keep_fault};
 use std::alloc::Global;
 
 /// The alias that begins here with its `*`.
@@ -31,16 +33,17 @@ pub fn alias_lexeme<'input, T: BorrowedInput<'input>>(
     layouts: &mut Layouts,
     ends: bool,
     found: &mut Lexeme<'input>,
-) -> Result<(), ScanError>
+    fault: &mut Option<ScanError>,
+) -> Result<(), Refused>
     requires sign { (h : Here) → Stands T.unread at.old h → next_char h ≡ 0x2A }
     requires room { layouts.old.number < 2 ^ 63 }
     ensures here { (asked : Bool) → ReadsItems T.unread asked at.old at.new layouts.new
-        (lexeme_in found.new) result (λ h. spec.alias_lexeme ends h layouts.old) }
-    ensures lent { LendsWithoutMemory T.unread at.old result }
+        (lexeme_in found.new) (answered fault.new result) (λ h. spec.alias_lexeme ends h layouts.old) }
+    ensures lent { LendsWithoutMemory T.unread at.old (answered fault.new result) }
     ensures moves { Moves T.unread T.left T.origin at.old at.new }
 {
     let start = start_of(at);
-    let token = scan_anchor(alloc, at, true)?;
+    let token = keep_fault(fault, scan_anchor(alloc, at, true))?;
     token_lexeme(alloc, at, layouts, ends, &start, token, found);
     layouts.count_lexeme(LastLexeme::Another);
     Ok(())
@@ -58,17 +61,19 @@ pub fn anchor_lexeme<'input, T: BorrowedInput<'input>>(
     layouts: &mut Layouts,
     ends: bool,
     found: &mut Lexeme<'input>,
-) -> Result<(), ScanError>
+    fault: &mut Option<ScanError>,
+) -> Result<(), Refused>
     requires sign { (h : Here) → Stands T.unread at.old h → next_char h ≡ 0x26 }
     requires room { layouts.old.number < 2 ^ 63 }
     ensures here { (asked : Bool) → ReadsItems T.unread asked at.old at.new layouts.new
-        (lexeme_in found.new) result (λ h. spec.anchor_lexeme (options_of options.now) ends h layouts.old) }
-    ensures lent { LendsWithoutMemory T.unread at.old result }
+        (lexeme_in found.new) (answered fault.new result)
+        (λ h. spec.anchor_lexeme (options_of options.now) ends h layouts.old) }
+    ensures lent { LendsWithoutMemory T.unread at.old (answered fault.new result) }
     ensures moves { Moves T.unread T.left T.origin at.old at.new }
 {
     let start = start_of(at);
     let last = layouts.last_of_property(options);
-    let token = scan_anchor(alloc, at, false)?;
+    let token = keep_fault(fault, scan_anchor(alloc, at, false))?;
     token_lexeme(alloc, at, layouts, ends, &start, token, found);
     layouts.count_lexeme(last);
     Ok(())
@@ -86,16 +91,18 @@ pub fn tag_lexeme<'input, T: BorrowedInput<'input>>(
     layouts: &mut Layouts,
     ends: bool,
     found: &mut Lexeme<'input>,
-) -> Result<(), ScanError>
+    fault: &mut Option<ScanError>,
+) -> Result<(), Refused>
     requires sign { (h : Here) → Stands T.unread at.old h → next_char h ≡ 0x21 }
     requires room { layouts.old.number < 2 ^ 63 }
     ensures here { (asked : Bool) → ReadsItems T.unread asked at.old at.new layouts.new
-        (lexeme_in found.new) result (λ h. spec.tag_lexeme (options_of options.now) ends h layouts.old) }
+        (lexeme_in found.new) (answered fault.new result)
+        (λ h. spec.tag_lexeme (options_of options.now) ends h layouts.old) }
     ensures moves { Moves T.unread T.left T.origin at.old at.new }
 {
     let start = start_of(at);
     let last = layouts.last_of_property(options);
-    let token = scan_tag(alloc, at, layouts.is_in_flow())?;
+    let token = keep_fault(fault, scan_tag(alloc, at, layouts.is_in_flow()))?;
     token_lexeme(alloc, at, layouts, ends, &start, token, found);
     layouts.count_lexeme(last);
     Ok(())

@@ -13,6 +13,7 @@ ghost use Rattle.granit_machine.specs.ReaderState.{with_tail};
 ghost use Rattle.granit_lex.specs.QuotedCode.{remark_token};
 ghost use Rattle.granit_items.specs.ItemViews.{boxed_view, filled_items, lexeme_view};
 ghost use Rattle.granit_content.specs.KindViews.{note_of_token};
+ghost use Rattle.granit_refused.specs.Answered.{answered};
 ghost use Rattle.granit_content.specs.Reads.{IsStart, ReadsItems, found_in, lexeme_in};
 ghost use Rattle.granit_content.specs.ScalarReads.{shown_as, token_as, GapBehind};
 
@@ -28,6 +29,7 @@ use granit_items::{Found, Lexeme, LexemeKind, Note};
 use granit_layout::Layouts;
 use granit_lex::{PlainScalar, QuotedScalar, Remark, quoted_style, read_plain, read_quoted};
 use granit_lexemes::LastLexeme;
+use granit_refused::{Refused, keep_fault};
 use std::alloc::Global;
 
 /// The plain scalar that begins here, which reads no comment.
@@ -42,18 +44,20 @@ pub fn plain_lexeme<'input, T: BorrowedInput<'input>>(
     layouts: &mut Layouts,
     ends: bool,
     found: &mut Lexeme<'input>,
-) -> Result<(), ScanError>
+    fault: &mut Option<ScanError>,
+) -> Result<(), Refused>
     requires content { (h : Here) → Stands T.unread at.old h
         → is_content (is_in_flow layouts.old) h.unread.text ≡ true }
     requires room { layouts.old.number < 2 ^ 63 }
     ensures here { ReadsItems T.unread (options_of options.now).emit_comments at.old at.new layouts.new
-        (lexeme_in found.new) result (λ h. spec.plain_lexeme (options_of options.now) ends h layouts.old) }
+        (lexeme_in found.new) (answered fault.new result)
+        (λ h. spec.plain_lexeme (options_of options.now) ends h layouts.old) }
     ensures moves { Moves T.unread T.left T.origin at.old at.new }
 {
     let start = start_of(at);
     let layout = layouts.layout(options, start.mark.col(), options.emit_comments);
     let mut read: PlainScalar<'input> = PlainScalar::room(start.mark);
-    read_plain(alloc, at, &layout, &mut read)?;
+    read_plain(alloc, at, &layout, &mut read, fault)?;
     let kind = LexemeKind::Scalar(ScalarStyle::Plain, read.text);
     write_lexeme(found, layouts, ends, kind, &start, read.end);
     layouts.behind_plain_scalar(read.cut_by_comment);
@@ -74,16 +78,17 @@ pub fn block_lexeme<'input, T: BorrowedInput<'input>>(
     literal: bool,
     ends: bool,
     found: &mut Lexeme<'input>,
-) -> Result<(), ScanError>
+    fault: &mut Option<ScanError>,
+) -> Result<(), Refused>
     requires sign { (h : Here) → Stands T.unread at.old h → next_char h ≡ block_indicator literal }
     requires room { layouts.old.number < 2 ^ 63 }
     ensures here { ReadsItems T.unread (options_of options.now).emit_comments at.old at.new layouts.new
-        (lexeme_in found.new) result (λ h. spec.block_lexeme literal ends h layouts.old) }
+        (lexeme_in found.new) (answered fault.new result) (λ h. spec.block_lexeme literal ends h layouts.old) }
     ensures moves { Moves T.unread T.left T.origin at.old at.new }
 {
     let start = start_of(at);
     let layout = layouts.layout(options, start.mark.col(), options.emit_comments);
-    let read = scan_block_scalar(alloc, at, literal, &layout)?;
+    let read = keep_fault(fault, scan_block_scalar(alloc, at, literal, &layout))?;
     let tail = kept_note(alloc, read.comment)?;
     shown_lexeme(alloc, layouts, ends, &start, read.token, tail, found);
     layouts.unroll();
@@ -100,17 +105,19 @@ fn quoted_lexeme<'input, T: BorrowedInput<'input>>(
     single: bool,
     ends: bool,
     found: &mut Lexeme<'input>,
-) -> Result<(), ScanError>
+    fault: &mut Option<ScanError>,
+) -> Result<(), Refused>
     requires sign { (h : Here) → Stands T.unread at.old h → next_char h ≡ quote_char single }
     requires room { layouts.old.number < 2 ^ 63 }
     ensures here { ReadsItems T.unread (options_of options.now).emit_comments at.old at.new layouts.new
-        (lexeme_in found.new) result (λ h. spec.quoted_lexeme (options_of options.now) single ends h layouts.old) }
+        (lexeme_in found.new) (answered fault.new result)
+        (λ h. spec.quoted_lexeme (options_of options.now) single ends h layouts.old) }
     ensures moves { Moves T.unread T.left T.origin at.old at.new }
 {
     let start = start_of(at);
     let layout = layouts.layout(options, start.mark.col(), options.emit_comments);
     let mut read: QuotedScalar<'input> = QuotedScalar::room(start.mark);
-    read_quoted(alloc, at, single, &layout, &mut read)?;
+    read_quoted(alloc, at, single, &layout, &mut read, fault)?;
     let kind = LexemeKind::Scalar(quoted_style(single), read.text);
     write_lexeme(found, layouts, ends, kind, &start, read.end);
     put_comment(alloc, &mut read.comment, found)?;
@@ -152,16 +159,27 @@ pub fn quoted_and_gap<'input, T: BorrowedInput<'input>>(
     single: bool,
     ends: bool,
     found: &mut Found<'input>,
-) -> Result<(), ScanError>
+    fault: &mut Option<ScanError>,
+) -> Result<(), Refused>
     requires sign { (h : Here) → Stands T.unread at.old h → next_char h ≡ quote_char single }
     requires room { layouts.old.number < 2 ^ 63 }
     ensures here { ReadsItems T.unread (options_of options.now).emit_comments at.old at.new layouts.new
-        (found_in found.new) result (λ h. spec.quoted_and_gap (options_of options.now) single ends h layouts.old) }
+        (found_in found.new) (answered fault.new result)
+        (λ h. spec.quoted_and_gap (options_of options.now) single ends h layouts.old) }
     ensures moves { Moves T.unread T.left T.origin at.old at.new }
 {
     found.filled = true;
-    quoted_lexeme(alloc, options, at, layouts, single, ends, &mut found.lexeme)?;
-    with_gap(alloc, options, at, layouts, found)
+    quoted_lexeme(
+        alloc,
+        options,
+        at,
+        layouts,
+        single,
+        ends,
+        &mut found.lexeme,
+        fault,
+    )?;
+    with_gap(alloc, options, at, layouts, found, fault)
 }
 
 /// A quoted scalar that was read, and the gap behind it; a value may stand at once behind that, unless a comment does.
@@ -171,12 +189,13 @@ fn with_gap<'input, T: BorrowedInput<'input>>(
     at: &mut Cursor<T>,
     layouts: &mut Layouts,
     found: &mut Found<'input>,
-) -> Result<(), ScanError>
+    fault: &mut Option<ScanError>,
+) -> Result<(), Refused>
     ensures here { GapBehind T.unread (options_of options.now) at.old at.new layouts.old layouts.new
-        (filled_items found.old.filled found.old.lexeme.value) (found_in found.new) result }
+        (filled_items found.old.filled found.old.lexeme.value) (found_in found.new) (answered fault.new result) }
     ensures moves { Moves T.unread T.left T.origin at.old at.new }
 {
-    let tail = gap(alloc, options, at, layouts)?;
+    let tail = gap(alloc, options, at, layouts, fault)?;
     layouts.set_last(behind_tail(LastLexeme::Adjacent, &tail));
     found.note = tail.into_note();
     Ok(())

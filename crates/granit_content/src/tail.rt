@@ -5,6 +5,7 @@ ghost use Rattle.granit_cursor.specs.Reading.{Moves, Wherever, GivesTo, coded};
 ghost use Rattle.granit_lexemes.specs.Comment as comments;
 ghost use Rattle.granit_lexemes.specs.Tail as spec;
 ghost use Rattle.granit_items.specs.ItemViews.{boxed_view};
+ghost use Rattle.granit_refused.specs.Answered.{answered};
 ghost use Rattle.granit_content.specs.declared.tail.Tail.TheVariants.{Nothing};
 ghost use Rattle.granit_content.specs.Reads.{NeverWants, noted, seen, seen_comment, tail_view};
 
@@ -13,6 +14,7 @@ use granit_cursor::{Cursor, pass_comment, read_comment};
 use granit_error::{ErrorKind, ScanError};
 use granit_input::{BorrowedInput, Input};
 use granit_items::Note;
+use granit_refused::{Refused, keep_fault, refuse_at};
 use std::alloc::Global;
 
 /// A comment behind a lexeme.
@@ -48,10 +50,11 @@ pub fn tail_at<'input, T: BorrowedInput<'input>>(
     alloc: Global,
     at: &mut Cursor<T>,
     asked: bool,
-) -> Result<Tail<'input>, ScanError>
+    fault: &mut Option<ScanError>,
+) -> Result<Tail<'input>, Refused>
     ensures here { Wherever T.unread at.old at.new (λ h Lands.
-        GivesTo tail_view result Lands (coded (seen asked) (spec.tail_at h))) }
-    ensures memory { asked ≡ false → NeverWants result }
+        GivesTo tail_view (answered fault.new result) Lands (coded (seen asked) (spec.tail_at h))) }
+    ensures memory { asked ≡ false → NeverWants (answered fault.new result) }
     ensures moves { Moves T.unread T.left T.origin at.old at.new }
 {
     let blanks = at.skip_while_blank();
@@ -60,9 +63,9 @@ pub fn tail_at<'input, T: BorrowedInput<'input>>(
         return Ok(Tail::Nothing);
     }
     if blanks == 0 {
-        return Err(ScanError::from_kind(at.mark(), ErrorKind::CommentNotSeparated));
+        return Err(refuse_at(fault, at.mark(), ErrorKind::CommentNotSeparated));
     }
-    comment_at(alloc, at, asked)
+    comment_at(alloc, at, asked, fault)
 }
 
 /// The comment that begins here with its `#`.
@@ -75,17 +78,18 @@ pub fn comment_at<'input, T: BorrowedInput<'input>>(
     alloc: Global,
     at: &mut Cursor<T>,
     asked: bool,
-) -> Result<Tail<'input>, ScanError>
+    fault: &mut Option<ScanError>,
+) -> Result<Tail<'input>, Refused>
     ensures here { Wherever T.unread at.old at.new (λ h Lands.
-        GivesTo tail_view result Lands (coded (seen_comment asked) (comments.comment h))) }
+        GivesTo tail_view (answered fault.new result) Lands (coded (seen_comment asked) (comments.comment h))) }
     ensures some { IfOk result (λ t. t ≡ Nothing → ⊥) }
-    ensures memory { asked ≡ false → NeverWants result }
+    ensures memory { asked ≡ false → NeverWants (answered fault.new result) }
     ensures moves { Moves T.unread T.left T.origin at.old at.new }
 {
     if asked {
-        let token = read_comment(alloc, at)?;
+        let token = keep_fault(fault, read_comment(alloc, at))?;
         return Ok(Tail::Kept(Box::new(alloc, note(token))?));
     }
-    pass_comment(at)?;
+    keep_fault(fault, pass_comment(at))?;
     Ok(Tail::Passed)
 }

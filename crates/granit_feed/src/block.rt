@@ -1,6 +1,9 @@
 //! A lexeme in a block collection (YAML 1.2.2, 8.2).
 ghost use Rattle.std.specs.Prelude.{◌≡◌, OnOk};
 ghost use Rattle.granit_error.specs.OptionsView.{options_of};
+ghost use Rattle.granit_error.specs.FaultKind as faults;
+ghost use Rattle.granit_refused.specs.Answered.{answered, why};
+ghost use Rattle.granit_lexemes.specs.Outcome.{fault_at};
 ghost use Rattle.granit_sorts.specs.SortViews.{machine_token, sort_view};
 ghost use Rattle.granit_nesting.specs.FrameViews.{pair_view};
 ghost use Rattle.granit_machine.specs.BlockSteps as steps;
@@ -10,8 +13,9 @@ ghost use Rattle.granit_machine.specs.Leaving.{LeavesIfRoom};
 
 use granit_base::{NoMemory, Span};
 use granit_error::{ErrorKind, Options, ScanError};
-use granit_frames::{Frame, PairStage, ParserState, Token, TokenSort, null_event};
+use granit_frames::{Frame, PairStage, ParserState, Token, TokenSort, misplaced, null_event};
 use granit_nodes::{bare, next_dash, node};
+use granit_refused::Refused;
 use std::alloc::Global;
 
 /// Whether a node may stand there.
@@ -21,32 +25,40 @@ fn takes_node(stage: PairStage) -> bool
     matches!(stage, PairStage::AtQuestion | PairStage::AtValue)
 }
 
+/// No key stands there: in one place, since a match keeps room for each error that an arm makes.
+fn no_key(fault: &mut Option<ScanError>, token: &Token<'_>) -> Refused
+    ensures { why fault.new result ≡ fault_at faults.ExpectedBlockMappingKey token.now.lexeme.value.shown_start }
+{
+    misplaced(fault, token, ErrorKind::ExpectedBlockMappingKey)
+}
+
 // Sequences (YAML 1.2.2, 8.2.1).
 
 #[tactic(auto, unfolding(granit_machine::specs::BlockSteps::in_sequence))]
 pub(crate) fn in_sequence<'input>(
     state: &mut ParserState<'input>,
+    fault: &mut Option<ScanError>,
     alloc: Global,
     options: &Options,
     token: &mut Token<'input>,
     column: usize,
     indentless: bool,
-) -> Result<(), ScanError>
-    ensures leaves { LeavesIfRoom result state.new (steps.in_sequence (options_of options.now)
+) -> Result<(), Refused>
+    ensures leaves { LeavesIfRoom (answered fault.new result) state.new (steps.in_sequence (options_of options.now)
         (machine_token token.old) column indentless state.old) }
     ensures kept { state.new.kept ≡ state.old.kept }
 {
     if token.sort.is_dash() && token.is_in_column(column) {
         state.give_empty()?;
-        return next_dash(state, alloc, options, token, indentless);
+        return next_dash(state, fault, alloc, options, token, indentless);
     }
     if state.waits_for_none() {
-        return Err(token.misplaced(ErrorKind::ExpectedBlockSequenceEntry));
+        return Err(misplaced(fault, token, ErrorKind::ExpectedBlockSequenceEntry));
     }
     if token.sort.begins_node() && token.is_right_of(column) {
-        return node(state, alloc, options, token);
+        return node(state, fault, alloc, options, token);
     }
-    Err(token.misplaced(ErrorKind::UnexpectedEofBlockSequence))
+    Err(misplaced(fault, token, ErrorKind::UnexpectedEofBlockSequence))
 }
 
 // Mappings (YAML 1.2.2, 8.2.2).
@@ -132,13 +144,14 @@ fn colon_behind_pair<'input>(
 
 fn pair_colon<'input>(
     state: &mut ParserState<'input>,
+    fault: &mut Option<ScanError>,
     alloc: Global,
     options: &Options,
     token: &Token<'input>,
     column: usize,
     stage: PairStage,
-) -> Result<(), ScanError>
-    ensures leaves { LeavesIfRoom result state.new (steps.next_pair (options_of options.now)
+) -> Result<(), Refused>
+    ensures leaves { LeavesIfRoom (answered fault.new result) state.new (steps.next_pair (options_of options.now)
         (machine_token token.now) column (pair_view stage) sorts.BareColon state.old) }
     ensures kept { state.new.kept ≡ state.old.kept }
 {
@@ -149,13 +162,14 @@ fn pair_colon<'input>(
 /// The next entry, or the `:` of this one, in the mapping's column.
 fn next_pair<'input>(
     state: &mut ParserState<'input>,
+    fault: &mut Option<ScanError>,
     alloc: Global,
     options: &Options,
     token: &mut Token<'input>,
     column: usize,
     stage: PairStage,
-) -> Result<(), ScanError>
-    ensures leaves { LeavesIfRoom result state.new (steps.next_pair (options_of options.now)
+) -> Result<(), Refused>
+    ensures leaves { LeavesIfRoom (answered fault.new result) state.new (steps.next_pair (options_of options.now)
         (machine_token token.old) column (pair_view stage) (sort_view token.old.sort) state.old) }
     ensures kept { state.new.kept ≡ state.old.kept }
 {
@@ -163,20 +177,20 @@ fn next_pair<'input>(
         TokenSort::BeginsKey => {
             state.owed(token.lexeme.start)?;
             mapping_at(state, column, PairStage::AtKey)?;
-            bare(state, alloc, options, token)
+            bare(state, fault, alloc, options, token)
         }
         TokenSort::QuestionToken => {
             state.owed(token.lexeme.start)?;
             Ok(mapping_at(state, column, PairStage::AtQuestion)?)
         }
-        TokenSort::BeginsNode => pair_colon(state, alloc, options, token, column, stage),
-        TokenSort::DashToken => pair_colon(state, alloc, options, token, column, stage),
-        TokenSort::BareColon => pair_colon(state, alloc, options, token, column, stage),
-        TokenSort::KeyedColon => pair_colon(state, alloc, options, token, column, stage),
-        TokenSort::CommaToken => pair_colon(state, alloc, options, token, column, stage),
-        TokenSort::SequenceCloser => pair_colon(state, alloc, options, token, column, stage),
-        TokenSort::MappingCloser => pair_colon(state, alloc, options, token, column, stage),
-        TokenSort::OfStream => pair_colon(state, alloc, options, token, column, stage),
+        TokenSort::BeginsNode => pair_colon(state, fault, alloc, options, token, column, stage),
+        TokenSort::DashToken => pair_colon(state, fault, alloc, options, token, column, stage),
+        TokenSort::BareColon => pair_colon(state, fault, alloc, options, token, column, stage),
+        TokenSort::KeyedColon => pair_colon(state, fault, alloc, options, token, column, stage),
+        TokenSort::CommaToken => pair_colon(state, fault, alloc, options, token, column, stage),
+        TokenSort::SequenceCloser => pair_colon(state, fault, alloc, options, token, column, stage),
+        TokenSort::MappingCloser => pair_colon(state, fault, alloc, options, token, column, stage),
+        TokenSort::OfStream => pair_colon(state, fault, alloc, options, token, column, stage),
     }
 }
 
@@ -184,99 +198,113 @@ fn next_pair<'input>(
 #[tactic(auto, unfolding(granit_machine::specs::BlockSteps::behind_indicator))]
 fn behind_indicator<'input>(
     state: &mut ParserState<'input>,
+    fault: &mut Option<ScanError>,
     alloc: Global,
     options: &Options,
     token: &mut Token<'input>,
     column: usize,
     stage: PairStage,
-) -> Result<(), ScanError>
-    ensures leaves { LeavesIfRoom result state.new (steps.behind_indicator (options_of options.now)
+) -> Result<(), Refused>
+    ensures leaves { LeavesIfRoom (answered fault.new result) state.new (steps.behind_indicator (options_of options.now)
         (machine_token token.old) column (pair_view stage) state.old) }
     ensures kept { state.new.kept ≡ state.old.kept }
 {
     if token.sort.begins_pair() && token.is_in_column(column) {
-        return next_pair(state, alloc, options, token, column, stage);
+        return next_pair(state, fault, alloc, options, token, column, stage);
     }
     if !takes_node(stage) {
-        return Err(token.misplaced(ErrorKind::ExpectedBlockMappingKey));
+        return Err(misplaced(fault, token, ErrorKind::ExpectedBlockMappingKey));
     }
     if (token.sort.is_dash() && token.is_in_column(column))
         || (token.sort.begins_node() && token.is_right_of(column))
     {
-        return node(state, alloc, options, token);
+        return node(state, fault, alloc, options, token);
     }
-    Err(token.misplaced(ErrorKind::UnexpectedEofBlockMapping))
+    Err(misplaced(fault, token, ErrorKind::UnexpectedEofBlockMapping))
 }
 
 fn at_block_key<'input>(
     state: &mut ParserState<'input>,
+    fault: &mut Option<ScanError>,
     alloc: Global,
     options: &Options,
     token: &mut Token<'input>,
-) -> Result<(), ScanError>
-    ensures leaves { LeavesIfRoom result state.new (steps.at_block_key (options_of options.now)
+) -> Result<(), Refused>
+    ensures leaves { LeavesIfRoom (answered fault.new result) state.new (steps.at_block_key (options_of options.now)
         (machine_token token.old) (sort_view token.old.sort) state.old) }
     ensures kept { state.new.kept ≡ state.old.kept }
 {
     match token.sort {
-        TokenSort::BeginsNode => bare(state, alloc, options, token),
-        TokenSort::BeginsKey => Err(token.misplaced(ErrorKind::ExpectedBlockMappingKey)),
-        TokenSort::DashToken => Err(token.misplaced(ErrorKind::ExpectedBlockMappingKey)),
-        TokenSort::QuestionToken => Err(token.misplaced(ErrorKind::ExpectedBlockMappingKey)),
-        TokenSort::BareColon => Err(token.misplaced(ErrorKind::ExpectedBlockMappingKey)),
-        TokenSort::KeyedColon => Err(token.misplaced(ErrorKind::ExpectedBlockMappingKey)),
-        TokenSort::CommaToken => Err(token.misplaced(ErrorKind::ExpectedBlockMappingKey)),
-        TokenSort::SequenceCloser => Err(token.misplaced(ErrorKind::ExpectedBlockMappingKey)),
-        TokenSort::MappingCloser => Err(token.misplaced(ErrorKind::ExpectedBlockMappingKey)),
-        TokenSort::OfStream => Err(token.misplaced(ErrorKind::ExpectedBlockMappingKey)),
+        TokenSort::BeginsNode => bare(state, fault, alloc, options, token),
+        TokenSort::BeginsKey => Err(no_key(fault, token)),
+        TokenSort::DashToken => Err(no_key(fault, token)),
+        TokenSort::QuestionToken => Err(no_key(fault, token)),
+        TokenSort::BareColon => Err(no_key(fault, token)),
+        TokenSort::KeyedColon => Err(no_key(fault, token)),
+        TokenSort::CommaToken => Err(no_key(fault, token)),
+        TokenSort::SequenceCloser => Err(no_key(fault, token)),
+        TokenSort::MappingCloser => Err(no_key(fault, token)),
+        TokenSort::OfStream => Err(no_key(fault, token)),
     }
 }
 
 fn behind_block_key<'input>(
     state: &mut ParserState<'input>,
+    fault: &mut Option<ScanError>,
     alloc: Global,
     options: &Options,
     token: &Token<'input>,
     column: usize,
-) -> Result<(), ScanError>
-    ensures leaves { LeavesIfRoom result state.new (steps.behind_block_key (options_of options.now)
+) -> Result<(), Refused>
+    ensures leaves { LeavesIfRoom (answered fault.new result) state.new (steps.behind_block_key (options_of options.now)
         (machine_token token.now) column (sort_view token.now.sort) state.old) }
     ensures kept { state.new.kept ≡ state.old.kept }
 {
     match token.sort {
         TokenSort::KeyedColon => Ok(mapping_colon(state, alloc, options, token, column)?),
-        TokenSort::BeginsKey => Err(token.misplaced(ErrorKind::ExpectedBlockMappingKey)),
-        TokenSort::BeginsNode => Err(token.misplaced(ErrorKind::ExpectedBlockMappingKey)),
-        TokenSort::DashToken => Err(token.misplaced(ErrorKind::ExpectedBlockMappingKey)),
-        TokenSort::QuestionToken => Err(token.misplaced(ErrorKind::ExpectedBlockMappingKey)),
-        TokenSort::BareColon => Err(token.misplaced(ErrorKind::ExpectedBlockMappingKey)),
-        TokenSort::CommaToken => Err(token.misplaced(ErrorKind::ExpectedBlockMappingKey)),
-        TokenSort::SequenceCloser => Err(token.misplaced(ErrorKind::ExpectedBlockMappingKey)),
-        TokenSort::MappingCloser => Err(token.misplaced(ErrorKind::ExpectedBlockMappingKey)),
-        TokenSort::OfStream => Err(token.misplaced(ErrorKind::ExpectedBlockMappingKey)),
+        TokenSort::BeginsKey => Err(no_key(fault, token)),
+        TokenSort::BeginsNode => Err(no_key(fault, token)),
+        TokenSort::DashToken => Err(no_key(fault, token)),
+        TokenSort::QuestionToken => Err(no_key(fault, token)),
+        TokenSort::BareColon => Err(no_key(fault, token)),
+        TokenSort::CommaToken => Err(no_key(fault, token)),
+        TokenSort::SequenceCloser => Err(no_key(fault, token)),
+        TokenSort::MappingCloser => Err(no_key(fault, token)),
+        TokenSort::OfStream => Err(no_key(fault, token)),
     }
 }
 
 pub(crate) fn in_mapping<'input>(
     state: &mut ParserState<'input>,
+    fault: &mut Option<ScanError>,
     alloc: Global,
     options: &Options,
     token: &mut Token<'input>,
     column: usize,
     stage: PairStage,
-) -> Result<(), ScanError>
-    ensures leaves { LeavesIfRoom result state.new (steps.in_mapping (options_of options.now)
+) -> Result<(), Refused>
+    ensures leaves { LeavesIfRoom (answered fault.new result) state.new (steps.in_mapping (options_of options.now)
         (machine_token token.old) column (pair_view stage) state.old) }
     ensures kept { state.new.kept ≡ state.old.kept }
 {
     match stage {
-        PairStage::AtKey => at_block_key(state, alloc, options, token),
-        PairStage::BehindKey => behind_block_key(state, alloc, options, token, column),
-        PairStage::BeforePair => behind_indicator(state, alloc, options, token, column, stage),
-        PairStage::AtQuestion => behind_indicator(state, alloc, options, token, column, stage),
-        PairStage::BehindQuestion => behind_indicator(state, alloc, options, token, column, stage),
-        PairStage::AtValue => behind_indicator(state, alloc, options, token, column, stage),
-        PairStage::BehindAlone => behind_indicator(state, alloc, options, token, column, stage),
-        PairStage::BehindPair => behind_indicator(state, alloc, options, token, column, stage),
+        PairStage::AtKey => at_block_key(state, fault, alloc, options, token),
+        PairStage::BehindKey => behind_block_key(state, fault, alloc, options, token, column),
+        PairStage::BeforePair => behind_indicator(
+            state, fault, alloc, options, token, column, stage,
+        ),
+        PairStage::AtQuestion => behind_indicator(
+            state, fault, alloc, options, token, column, stage,
+        ),
+        PairStage::BehindQuestion => behind_indicator(
+            state, fault, alloc, options, token, column, stage,
+        ),
+        PairStage::AtValue => behind_indicator(state, fault, alloc, options, token, column, stage),
+        PairStage::BehindAlone => behind_indicator(
+            state, fault, alloc, options, token, column, stage,
+        ),
+        PairStage::BehindPair => behind_indicator(
+            state, fault, alloc, options, token, column, stage,
+        ),
     }
 }

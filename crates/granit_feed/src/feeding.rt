@@ -3,6 +3,7 @@ ghost use Rattle.std.specs.Prelude.{◌≡◌, [], false, IfOk};
 ghost use Rattle.std.specs.Option.{option_map};
 ghost use Rattle.granit_error.specs.OptionsView.{options_of};
 ghost use Rattle.granit_lexemes.specs.Lexeme.{is_directive};
+ghost use Rattle.granit_refused.specs.Answered.{answered};
 ghost use Rattle.granit_sorts.specs.SortViews.{machine_token};
 ghost use Rattle.granit_feed.specs.Handles.{holds_directive, KeepsIfRefused};
 ghost use Rattle.granit_feed.specs.Tails as tails;
@@ -20,38 +21,42 @@ use granit_event::Event;
 use granit_frames::{Frame, ParserState, Token, Top, token_sort};
 use granit_items::{Item, Lexeme, LexemeKind, Note, Rooms};
 use granit_nodes::node;
+use granit_refused::Refused;
 use std::alloc::Global;
 
 /// At the open place that closing left.
 fn take_token<'input>(
     state: &mut ParserState<'input>,
+    fault: &mut Option<ScanError>,
     alloc: Global,
     options: &Options,
     token: &mut Token<'input>,
-) -> Result<(), ScanError>
-    ensures leaves { LeavesIfRoom result state.new (spec.take_token (options_of options.now)
+) -> Result<(), Refused>
+    ensures leaves { LeavesIfRoom (answered fault.new result) state.new (spec.take_token (options_of options.now)
         (machine_token token.old) state.old) }
     ensures kept { is_directive (kind_view token.old.lexeme.value.kind) ≡ false → state.new.kept ≡ state.old.kept }
-    ensures refused { KeepsIfRefused result state.old state.new }
+    ensures refused { KeepsIfRefused (answered fault.new result) state.old state.new }
     ensures inside { (state.old.frames ≡ [] → ⊥) → state.new.kept ≡ state.old.kept }
 {
     match state.top() {
-        Top::Outside => outside(state, alloc, options, token),
-        Top::Properties(_, _) => node(state, alloc, options, token),
-        Top::In(Frame::Root(_), _) => at_root(state, alloc, options, token),
+        Top::Outside => outside(state, fault, alloc, options, token),
+        Top::Properties(_, _) => node(state, fault, alloc, options, token),
+        Top::In(Frame::Root(_), _) => at_root(state, fault, alloc, options, token),
         Top::In(Frame::BlockSequence(column, indentless), _) => {
-            in_sequence(state, alloc, options, token, column, indentless)
+            in_sequence(state, fault, alloc, options, token, column, indentless)
         }
         Top::In(Frame::BlockMapping(column, stage), _) => {
-            in_mapping(state, alloc, options, token, column, stage)
+            in_mapping(state, fault, alloc, options, token, column, stage)
         }
         Top::In(Frame::FlowSequence(behind_entry), _) => {
-            in_flow_sequence(state, alloc, options, token, behind_entry)
+            in_flow_sequence(state, fault, alloc, options, token, behind_entry)
         }
         Top::In(Frame::FlowMapping(single, stage), _) => {
-            in_flow_mapping(state, alloc, options, token, single, stage)
+            in_flow_mapping(state, fault, alloc, options, token, single, stage)
         }
-        Top::In(Frame::FlowPair(stage), _) => in_flow_pair(state, alloc, options, token, stage),
+        Top::In(Frame::FlowPair(stage), _) => in_flow_pair(
+            state, fault, alloc, options, token, stage,
+        ),
     }
 }
 
@@ -107,16 +112,17 @@ fn tail_behind<'input>(
 
 fn take_tail<'input>(
     state: &mut ParserState<'input>,
+    fault: &mut Option<ScanError>,
     tail: Option<Box<Note<'input>>>,
     next_line: Option<usize>,
-) -> Result<(), ScanError>
-    ensures leaves { LeavesIfRoom result state.new (tails.tail_taken
+) -> Result<(), Refused>
+    ensures leaves { LeavesIfRoom (answered fault.new result) state.new (tails.tail_taken
         (option_map boxed_view tail.entry) next_line state.old) }
     ensures kept { state.new.kept ≡ state.old.kept }
 {
     match tail {
         None => Ok(()),
-        Some(note) => state.take_comment(Box::into_inner(note), next_line),
+        Some(note) => state.take_comment(fault, Box::into_inner(note), next_line),
     }
 }
 
@@ -130,41 +136,43 @@ fn takes_tail(lexeme: &Lexeme<'_>) -> bool
 
 fn take_tailed<'input>(
     state: &mut ParserState<'input>,
+    fault: &mut Option<ScanError>,
     alloc: Global,
     options: &Options,
     token: &mut Token<'input>,
     next_line: Option<usize>,
-) -> Result<(), ScanError>
-    ensures leaves { LeavesIfRoom result state.new (spec.take_lexeme (options_of options.now)
+) -> Result<(), Refused>
+    ensures leaves { LeavesIfRoom (answered fault.new result) state.new (spec.take_lexeme (options_of options.now)
         (machine_token token.old) next_line state.old) }
     ensures kept { is_directive (kind_view token.old.lexeme.value.kind) ≡ false → state.new.kept ≡ state.old.kept }
-    ensures refused { NoneWaitsOutside state.old → KeepsIfRefused result state.old state.new }
+    ensures refused { NoneWaitsOutside state.old → KeepsIfRefused (answered fault.new result) state.old state.new }
 {
     let tail: Option<Box<Note<'input>>> = tail_behind(alloc, &token.lexeme)?;
     state.close(options, token)?;
-    take_token(state, alloc, options, token)?;
-    take_tail(state, tail, next_line)
+    take_token(state, fault, alloc, options, token)?;
+    take_tail(state, fault, tail, next_line)
 }
 
 // Most lexemes have no tail, and need no room for one.
 #[tactic(auto, using(crate::proofs::TailLemmas::without_tail))]
 fn take_lexeme<'input>(
     state: &mut ParserState<'input>,
+    fault: &mut Option<ScanError>,
     alloc: Global,
     options: &Options,
     token: &mut Token<'input>,
     next_line: Option<usize>,
-) -> Result<(), ScanError>
-    ensures leaves { LeavesIfRoom result state.new (spec.take_lexeme (options_of options.now)
+) -> Result<(), Refused>
+    ensures leaves { LeavesIfRoom (answered fault.new result) state.new (spec.take_lexeme (options_of options.now)
         (machine_token token.old) next_line state.old) }
     ensures kept { is_directive (kind_view token.old.lexeme.value.kind) ≡ false → state.new.kept ≡ state.old.kept }
-    ensures refused { NoneWaitsOutside state.old → KeepsIfRefused result state.old state.new }
+    ensures refused { NoneWaitsOutside state.old → KeepsIfRefused (answered fault.new result) state.old state.new }
 {
     if takes_tail(&token.lexeme) {
-        return take_tailed(state, alloc, options, token, next_line);
+        return take_tailed(state, fault, alloc, options, token, next_line);
     }
     state.close(options, token)?;
-    take_token(state, alloc, options, token)
+    take_token(state, fault, alloc, options, token)
 }
 
 /// Takes an item, of which it is told whether a simple key begins with it, and the line of the next token: its
@@ -176,24 +184,25 @@ fn take_lexeme<'input>(
 /// over documents are as before.
 pub fn feed<'input>(
     state: &mut ParserState<'input>,
+    fault: &mut Option<ScanError>,
     alloc: Global,
     options: &Options,
     item: Item<'input>,
     begins_key: bool,
     next_line: Option<usize>,
     rooms: &mut Rooms<'input>,
-) -> Result<(), ScanError>
-    ensures fed { LeavesIfRoom result state.new (spec.take_item (options_of options.now)
+) -> Result<(), Refused>
+    ensures fed { LeavesIfRoom (answered fault.new result) state.new (spec.take_item (options_of options.now)
         (item_view item.entry) begins_key next_line state.old) }
     ensures kept { holds_directive (item_view item.entry) ≡ false → state.new.kept ≡ state.old.kept }
-    ensures refused { NoneWaitsOutside state.old → KeepsIfRefused result state.old state.new }
+    ensures refused { NoneWaitsOutside state.old → KeepsIfRefused (answered fault.new result) state.old state.new }
 {
     match item {
-        Item::Note(note) => state.take_comment(Box::into_inner(note), next_line),
+        Item::Note(note) => state.take_comment(fault, Box::into_inner(note), next_line),
         Item::Lexeme(lexeme) => {
             let sort = token_sort(begins_key, &lexeme);
             let mut token = Token { lexeme, sort };
-            let fed = take_lexeme(state, alloc, options, &mut token, next_line);
+            let fed = take_lexeme(state, fault, alloc, options, &mut token, next_line);
             rooms.keep(token.lexeme);
             fed
         }

@@ -1,6 +1,9 @@
 //! A lexeme in a flow collection (YAML 1.2.2, 7.4).
 ghost use Rattle.std.specs.Prelude.{◌≡◌, false, OnOk};
 ghost use Rattle.granit_error.specs.OptionsView.{options_of};
+ghost use Rattle.granit_error.specs.FaultKind as faults;
+ghost use Rattle.granit_refused.specs.Answered.{answered, why};
+ghost use Rattle.granit_lexemes.specs.Outcome.{fault_at};
 ghost use Rattle.granit_sorts.specs.SortViews.{machine_token, sort_view};
 ghost use Rattle.granit_frames.specs.StateViews.{has_properties};
 ghost use Rattle.granit_nesting.specs.FrameViews.{frame_view, pair_view};
@@ -13,9 +16,34 @@ ghost use Rattle.granit_machine.specs.NodeEnds as ends;
 use granit_base::{Marker, NoMemory, Span, StructureStyle};
 use granit_error::{ErrorKind, Options, ScanError};
 use granit_event::Event;
-use granit_frames::{Frame, PairStage, ParserState, Token, TokenSort};
+use granit_frames::{Frame, PairStage, ParserState, Token, TokenSort, misplaced};
 use granit_nodes::bare;
+use granit_refused::Refused;
 use std::alloc::Global;
+
+// What may not stand there: each in one place, since a match keeps room for each error that an arm makes.
+
+/// No entry or key begins with it.
+fn no_entry(fault: &mut Option<ScanError>, token: &Token<'_>) -> Refused
+    ensures { why fault.new result ≡
+        fault_at faults.UnexpectedEofImplicitFlowMapping token.now.lexeme.value.shown_start }
+{
+    misplaced(fault, token, ErrorKind::UnexpectedEofImplicitFlowMapping)
+}
+
+/// It is no `,` or `]`.
+fn no_separator(fault: &mut Option<ScanError>, token: &Token<'_>) -> Refused
+    ensures { why fault.new result ≡ fault_at faults.ExpectedFlowSequenceSeparator token.now.lexeme.value.shown_start }
+{
+    misplaced(fault, token, ErrorKind::ExpectedFlowSequenceSeparator)
+}
+
+/// It is no `,` or `}`.
+fn no_pair_separator(fault: &mut Option<ScanError>, token: &Token<'_>) -> Refused
+    ensures { why fault.new result ≡ fault_at faults.ExpectedFlowMappingSeparator token.now.lexeme.value.shown_start }
+{
+    misplaced(fault, token, ErrorKind::ExpectedFlowMappingSeparator)
+}
 
 // Ends and beginnings.
 
@@ -101,12 +129,14 @@ fn begin_pair<'input>(
 
 fn at_entry<'input>(
     state: &mut ParserState<'input>,
+    fault: &mut Option<ScanError>,
     alloc: Global,
     options: &Options,
     token: &mut Token<'input>,
-) -> Result<(), ScanError>
+) -> Result<(), Refused>
     requires bare { has_properties state.old.frames ≡ false }
-    ensures leaves { LeavesIfRoom result state.new (steps.at_entry (options_of options.now) (machine_token token.old)
+    ensures leaves { LeavesIfRoom (answered fault.new result) state.new
+        (steps.at_entry (options_of options.now) (machine_token token.old)
         (sort_view token.old.sort) state.old) }
     ensures kept { state.new.kept ≡ state.old.kept }
 {
@@ -133,57 +163,57 @@ fn at_entry<'input>(
                 start,
                 Frame::FlowMapping(true, PairStage::AtKey),
             )?;
-            bare(state, alloc, options, token)
+            bare(state, fault, alloc, options, token)
         }
-        TokenSort::BeginsNode => bare(state, alloc, options, token),
-        TokenSort::DashToken => Err(token.misplaced(ErrorKind::UnexpectedEofImplicitFlowMapping)),
-        TokenSort::KeyedColon => Err(token.misplaced(ErrorKind::UnexpectedEofImplicitFlowMapping)),
-        TokenSort::CommaToken => Err(token.misplaced(ErrorKind::UnexpectedEofImplicitFlowMapping)),
-        TokenSort::MappingCloser => Err(token.misplaced(
-            ErrorKind::UnexpectedEofImplicitFlowMapping,
-        )),
-        TokenSort::OfStream => Err(token.misplaced(ErrorKind::UnexpectedEofImplicitFlowMapping)),
+        TokenSort::BeginsNode => bare(state, fault, alloc, options, token),
+        TokenSort::DashToken => Err(no_entry(fault, token)),
+        TokenSort::KeyedColon => Err(no_entry(fault, token)),
+        TokenSort::CommaToken => Err(no_entry(fault, token)),
+        TokenSort::MappingCloser => Err(no_entry(fault, token)),
+        TokenSort::OfStream => Err(no_entry(fault, token)),
     }
 }
 
 fn behind_flow_entry<'input>(
     state: &mut ParserState<'input>,
+    fault: &mut Option<ScanError>,
     token: &Token<'input>,
-) -> Result<(), ScanError>
-    ensures leaves { LeavesIfRoom result state.new (steps.behind_entry_of (machine_token token.now)
+) -> Result<(), Refused>
+    ensures leaves { LeavesIfRoom (answered fault.new result) state.new (steps.behind_entry_of (machine_token token.now)
         (sort_view token.now.sort) state.old) }
     ensures kept { state.new.kept ≡ state.old.kept }
 {
     match token.sort {
         TokenSort::SequenceCloser => Ok(close_flow(state, token)?),
         TokenSort::CommaToken => Ok(state.with_top(Frame::FlowSequence(false))?),
-        TokenSort::BeginsKey => Err(token.misplaced(ErrorKind::ExpectedFlowSequenceSeparator)),
-        TokenSort::BeginsNode => Err(token.misplaced(ErrorKind::ExpectedFlowSequenceSeparator)),
-        TokenSort::DashToken => Err(token.misplaced(ErrorKind::ExpectedFlowSequenceSeparator)),
-        TokenSort::QuestionToken => Err(token.misplaced(ErrorKind::ExpectedFlowSequenceSeparator)),
-        TokenSort::BareColon => Err(token.misplaced(ErrorKind::ExpectedFlowSequenceSeparator)),
-        TokenSort::KeyedColon => Err(token.misplaced(ErrorKind::ExpectedFlowSequenceSeparator)),
-        TokenSort::MappingCloser => Err(token.misplaced(ErrorKind::ExpectedFlowSequenceSeparator)),
-        TokenSort::OfStream => Err(token.misplaced(ErrorKind::ExpectedFlowSequenceSeparator)),
+        TokenSort::BeginsKey => Err(no_separator(fault, token)),
+        TokenSort::BeginsNode => Err(no_separator(fault, token)),
+        TokenSort::DashToken => Err(no_separator(fault, token)),
+        TokenSort::QuestionToken => Err(no_separator(fault, token)),
+        TokenSort::BareColon => Err(no_separator(fault, token)),
+        TokenSort::KeyedColon => Err(no_separator(fault, token)),
+        TokenSort::MappingCloser => Err(no_separator(fault, token)),
+        TokenSort::OfStream => Err(no_separator(fault, token)),
     }
 }
 
 pub(crate) fn in_flow_sequence<'input>(
     state: &mut ParserState<'input>,
+    fault: &mut Option<ScanError>,
     alloc: Global,
     options: &Options,
     token: &mut Token<'input>,
     behind_entry: bool,
-) -> Result<(), ScanError>
+) -> Result<(), Refused>
     requires bare { has_properties state.old.frames ≡ false }
-    ensures leaves { LeavesIfRoom result state.new (steps.in_flow_sequence (options_of options.now)
+    ensures leaves { LeavesIfRoom (answered fault.new result) state.new (steps.in_flow_sequence (options_of options.now)
         (machine_token token.old) behind_entry state.old) }
     ensures kept { state.new.kept ≡ state.old.kept }
 {
     if behind_entry {
-        behind_flow_entry(state, token)
+        behind_flow_entry(state, fault, token)
     } else {
-        at_entry(state, alloc, options, token)
+        at_entry(state, fault, alloc, options, token)
     }
 }
 
@@ -206,12 +236,14 @@ fn behind_comma<'input>(
 /// Before a key.
 fn before_pair<'input>(
     state: &mut ParserState<'input>,
+    fault: &mut Option<ScanError>,
     alloc: Global,
     options: &Options,
     token: &mut Token<'input>,
     single: bool,
-) -> Result<(), ScanError>
-    ensures leaves { LeavesIfRoom result state.new (steps.in_flow_mapping_by (options_of options.now)
+) -> Result<(), Refused>
+    ensures leaves { LeavesIfRoom (answered fault.new result) state.new
+        (steps.in_flow_mapping_by (options_of options.now)
         (machine_token token.old) single machine.BeforePair (sort_view token.old.sort) state.old) }
     ensures kept { state.new.kept ≡ state.old.kept }
 {
@@ -220,87 +252,85 @@ fn before_pair<'input>(
         TokenSort::QuestionToken => Ok(flow_at(state, single, PairStage::AtQuestion)?),
         TokenSort::BeginsKey => {
             flow_at(state, single, PairStage::AtKey)?;
-            bare(state, alloc, options, token)
+            bare(state, fault, alloc, options, token)
         },
         TokenSort::BareColon => Ok(null_colon(state, alloc, options, token, single)?),
-        TokenSort::BeginsNode => bare(state, alloc, options, token),
-        TokenSort::DashToken => Err(token.misplaced(ErrorKind::UnexpectedEofImplicitFlowMapping)),
-        TokenSort::KeyedColon => Err(token.misplaced(ErrorKind::UnexpectedEofImplicitFlowMapping)),
-        TokenSort::CommaToken => Err(token.misplaced(ErrorKind::UnexpectedEofImplicitFlowMapping)),
-        TokenSort::SequenceCloser => Err(token.misplaced(
-            ErrorKind::UnexpectedEofImplicitFlowMapping,
-        )),
-        TokenSort::OfStream => Err(token.misplaced(ErrorKind::UnexpectedEofImplicitFlowMapping)),
+        TokenSort::BeginsNode => bare(state, fault, alloc, options, token),
+        TokenSort::DashToken => Err(no_entry(fault, token)),
+        TokenSort::KeyedColon => Err(no_entry(fault, token)),
+        TokenSort::CommaToken => Err(no_entry(fault, token)),
+        TokenSort::SequenceCloser => Err(no_entry(fault, token)),
+        TokenSort::OfStream => Err(no_entry(fault, token)),
     }
 }
 
 /// At a simple key.
 fn at_flow_key<'input>(
     state: &mut ParserState<'input>,
+    fault: &mut Option<ScanError>,
     alloc: Global,
     options: &Options,
     token: &mut Token<'input>,
     single: bool,
-) -> Result<(), ScanError>
-    ensures leaves { LeavesIfRoom result state.new (steps.in_flow_mapping_by (options_of options.now)
+) -> Result<(), Refused>
+    ensures leaves { LeavesIfRoom (answered fault.new result) state.new
+        (steps.in_flow_mapping_by (options_of options.now)
         (machine_token token.old) single machine.AtKey (sort_view token.old.sort) state.old) }
     ensures kept { state.new.kept ≡ state.old.kept }
 {
     match token.sort {
-        TokenSort::BeginsNode => bare(state, alloc, options, token),
-        TokenSort::BeginsKey => Err(token.misplaced(ErrorKind::UnexpectedEofImplicitFlowMapping)),
-        TokenSort::DashToken => Err(token.misplaced(ErrorKind::UnexpectedEofImplicitFlowMapping)),
-        TokenSort::QuestionToken => Err(token.misplaced(
-            ErrorKind::UnexpectedEofImplicitFlowMapping,
-        )),
-        TokenSort::BareColon => Err(token.misplaced(ErrorKind::UnexpectedEofImplicitFlowMapping)),
-        TokenSort::KeyedColon => Err(token.misplaced(ErrorKind::UnexpectedEofImplicitFlowMapping)),
-        TokenSort::CommaToken => Err(token.misplaced(ErrorKind::UnexpectedEofImplicitFlowMapping)),
-        TokenSort::SequenceCloser => Err(token.misplaced(
-            ErrorKind::UnexpectedEofImplicitFlowMapping,
-        )),
-        TokenSort::MappingCloser => Err(token.misplaced(
-            ErrorKind::UnexpectedEofImplicitFlowMapping,
-        )),
-        TokenSort::OfStream => Err(token.misplaced(ErrorKind::UnexpectedEofImplicitFlowMapping)),
+        TokenSort::BeginsNode => bare(state, fault, alloc, options, token),
+        TokenSort::BeginsKey => Err(no_entry(fault, token)),
+        TokenSort::DashToken => Err(no_entry(fault, token)),
+        TokenSort::QuestionToken => Err(no_entry(fault, token)),
+        TokenSort::BareColon => Err(no_entry(fault, token)),
+        TokenSort::KeyedColon => Err(no_entry(fault, token)),
+        TokenSort::CommaToken => Err(no_entry(fault, token)),
+        TokenSort::SequenceCloser => Err(no_entry(fault, token)),
+        TokenSort::MappingCloser => Err(no_entry(fault, token)),
+        TokenSort::OfStream => Err(no_entry(fault, token)),
     }
 }
 
 /// Behind a simple key.
 fn behind_flow_key<'input>(
     state: &mut ParserState<'input>,
+    fault: &mut Option<ScanError>,
     alloc: Global,
     options: &Options,
     token: &Token<'input>,
     single: bool,
-) -> Result<(), ScanError>
-    ensures leaves { LeavesIfRoom result state.new (steps.in_flow_mapping_by (options_of options.now)
+) -> Result<(), Refused>
+    ensures leaves { LeavesIfRoom (answered fault.new result) state.new
+        (steps.in_flow_mapping_by (options_of options.now)
         (machine_token token.now) single machine.BehindKey (sort_view token.now.sort) state.old) }
     ensures kept { state.new.kept ≡ state.old.kept }
 {
     match token.sort {
         TokenSort::KeyedColon => Ok(flow_colon(state, alloc, options, token, single)?),
-        TokenSort::BeginsKey => Err(token.misplaced(ErrorKind::ExpectedFlowMappingSeparator)),
-        TokenSort::BeginsNode => Err(token.misplaced(ErrorKind::ExpectedFlowMappingSeparator)),
-        TokenSort::DashToken => Err(token.misplaced(ErrorKind::ExpectedFlowMappingSeparator)),
-        TokenSort::QuestionToken => Err(token.misplaced(ErrorKind::ExpectedFlowMappingSeparator)),
-        TokenSort::BareColon => Err(token.misplaced(ErrorKind::ExpectedFlowMappingSeparator)),
-        TokenSort::CommaToken => Err(token.misplaced(ErrorKind::ExpectedFlowMappingSeparator)),
-        TokenSort::SequenceCloser => Err(token.misplaced(ErrorKind::ExpectedFlowMappingSeparator)),
-        TokenSort::MappingCloser => Err(token.misplaced(ErrorKind::ExpectedFlowMappingSeparator)),
-        TokenSort::OfStream => Err(token.misplaced(ErrorKind::ExpectedFlowMappingSeparator)),
+        TokenSort::BeginsKey => Err(no_pair_separator(fault, token)),
+        TokenSort::BeginsNode => Err(no_pair_separator(fault, token)),
+        TokenSort::DashToken => Err(no_pair_separator(fault, token)),
+        TokenSort::QuestionToken => Err(no_pair_separator(fault, token)),
+        TokenSort::BareColon => Err(no_pair_separator(fault, token)),
+        TokenSort::CommaToken => Err(no_pair_separator(fault, token)),
+        TokenSort::SequenceCloser => Err(no_pair_separator(fault, token)),
+        TokenSort::MappingCloser => Err(no_pair_separator(fault, token)),
+        TokenSort::OfStream => Err(no_pair_separator(fault, token)),
     }
 }
 
 /// Behind `?`.
 fn at_flow_question<'input>(
     state: &mut ParserState<'input>,
+    fault: &mut Option<ScanError>,
     alloc: Global,
     options: &Options,
     token: &mut Token<'input>,
     single: bool,
-) -> Result<(), ScanError>
-    ensures leaves { LeavesIfRoom result state.new (steps.in_flow_mapping_by (options_of options.now)
+) -> Result<(), Refused>
+    ensures leaves { LeavesIfRoom (answered fault.new result) state.new
+        (steps.in_flow_mapping_by (options_of options.now)
         (machine_token token.old) single machine.AtQuestion (sort_view token.old.sort) state.old) }
     ensures kept { state.new.kept ≡ state.old.kept }
 {
@@ -308,29 +338,27 @@ fn at_flow_question<'input>(
         TokenSort::MappingCloser => Ok(close_flow(state, token)?),
         TokenSort::CommaToken => Ok(behind_comma(state, token, single)?),
         TokenSort::BareColon => Ok(null_colon(state, alloc, options, token, single)?),
-        TokenSort::BeginsNode => bare(state, alloc, options, token),
-        TokenSort::BeginsKey => Err(token.misplaced(ErrorKind::UnexpectedEofImplicitFlowMapping)),
-        TokenSort::DashToken => Err(token.misplaced(ErrorKind::UnexpectedEofImplicitFlowMapping)),
-        TokenSort::QuestionToken => Err(token.misplaced(
-            ErrorKind::UnexpectedEofImplicitFlowMapping,
-        )),
-        TokenSort::KeyedColon => Err(token.misplaced(ErrorKind::UnexpectedEofImplicitFlowMapping)),
-        TokenSort::SequenceCloser => Err(token.misplaced(
-            ErrorKind::UnexpectedEofImplicitFlowMapping,
-        )),
-        TokenSort::OfStream => Err(token.misplaced(ErrorKind::UnexpectedEofImplicitFlowMapping)),
+        TokenSort::BeginsNode => bare(state, fault, alloc, options, token),
+        TokenSort::BeginsKey => Err(no_entry(fault, token)),
+        TokenSort::DashToken => Err(no_entry(fault, token)),
+        TokenSort::QuestionToken => Err(no_entry(fault, token)),
+        TokenSort::KeyedColon => Err(no_entry(fault, token)),
+        TokenSort::SequenceCloser => Err(no_entry(fault, token)),
+        TokenSort::OfStream => Err(no_entry(fault, token)),
     }
 }
 
 /// Behind the key of a `?`.
 fn behind_flow_question<'input>(
     state: &mut ParserState<'input>,
+    fault: &mut Option<ScanError>,
     alloc: Global,
     options: &Options,
     token: &Token<'input>,
     single: bool,
-) -> Result<(), ScanError>
-    ensures leaves { LeavesIfRoom result state.new (steps.in_flow_mapping_by (options_of options.now)
+) -> Result<(), Refused>
+    ensures leaves { LeavesIfRoom (answered fault.new result) state.new
+        (steps.in_flow_mapping_by (options_of options.now)
         (machine_token token.now) single machine.BehindQuestion (sort_view token.now.sort) state.old) }
     ensures kept { state.new.kept ≡ state.old.kept }
 {
@@ -338,170 +366,172 @@ fn behind_flow_question<'input>(
         TokenSort::MappingCloser => Ok(close_flow(state, token)?),
         TokenSort::CommaToken => Ok(behind_comma(state, token, single)?),
         TokenSort::BareColon => Ok(flow_colon(state, alloc, options, token, single)?),
-        TokenSort::BeginsKey => Err(token.misplaced(ErrorKind::ExpectedFlowMappingSeparator)),
-        TokenSort::BeginsNode => Err(token.misplaced(ErrorKind::ExpectedFlowMappingSeparator)),
-        TokenSort::DashToken => Err(token.misplaced(ErrorKind::ExpectedFlowMappingSeparator)),
-        TokenSort::QuestionToken => Err(token.misplaced(ErrorKind::ExpectedFlowMappingSeparator)),
-        TokenSort::KeyedColon => Err(token.misplaced(ErrorKind::ExpectedFlowMappingSeparator)),
-        TokenSort::SequenceCloser => Err(token.misplaced(ErrorKind::ExpectedFlowMappingSeparator)),
-        TokenSort::OfStream => Err(token.misplaced(ErrorKind::ExpectedFlowMappingSeparator)),
+        TokenSort::BeginsKey => Err(no_pair_separator(fault, token)),
+        TokenSort::BeginsNode => Err(no_pair_separator(fault, token)),
+        TokenSort::DashToken => Err(no_pair_separator(fault, token)),
+        TokenSort::QuestionToken => Err(no_pair_separator(fault, token)),
+        TokenSort::KeyedColon => Err(no_pair_separator(fault, token)),
+        TokenSort::SequenceCloser => Err(no_pair_separator(fault, token)),
+        TokenSort::OfStream => Err(no_pair_separator(fault, token)),
     }
 }
 
 /// Behind `:`.
 fn at_flow_value<'input>(
     state: &mut ParserState<'input>,
+    fault: &mut Option<ScanError>,
     alloc: Global,
     options: &Options,
     token: &mut Token<'input>,
     single: bool,
-) -> Result<(), ScanError>
-    ensures leaves { LeavesIfRoom result state.new (steps.in_flow_mapping_by (options_of options.now)
+) -> Result<(), Refused>
+    ensures leaves { LeavesIfRoom (answered fault.new result) state.new
+        (steps.in_flow_mapping_by (options_of options.now)
         (machine_token token.old) single machine.AtValue (sort_view token.old.sort) state.old) }
     ensures kept { state.new.kept ≡ state.old.kept }
 {
     match token.sort {
         TokenSort::MappingCloser => Ok(close_flow(state, token)?),
         TokenSort::CommaToken => Ok(behind_comma(state, token, single)?),
-        TokenSort::BeginsNode => bare(state, alloc, options, token),
-        TokenSort::BeginsKey => Err(token.misplaced(ErrorKind::UnexpectedEofImplicitFlowMapping)),
-        TokenSort::DashToken => Err(token.misplaced(ErrorKind::UnexpectedEofImplicitFlowMapping)),
-        TokenSort::QuestionToken => Err(token.misplaced(
-            ErrorKind::UnexpectedEofImplicitFlowMapping,
-        )),
-        TokenSort::BareColon => Err(token.misplaced(ErrorKind::UnexpectedEofImplicitFlowMapping)),
-        TokenSort::KeyedColon => Err(token.misplaced(ErrorKind::UnexpectedEofImplicitFlowMapping)),
-        TokenSort::SequenceCloser => Err(token.misplaced(
-            ErrorKind::UnexpectedEofImplicitFlowMapping,
-        )),
-        TokenSort::OfStream => Err(token.misplaced(ErrorKind::UnexpectedEofImplicitFlowMapping)),
+        TokenSort::BeginsNode => bare(state, fault, alloc, options, token),
+        TokenSort::BeginsKey => Err(no_entry(fault, token)),
+        TokenSort::DashToken => Err(no_entry(fault, token)),
+        TokenSort::QuestionToken => Err(no_entry(fault, token)),
+        TokenSort::BareColon => Err(no_entry(fault, token)),
+        TokenSort::KeyedColon => Err(no_entry(fault, token)),
+        TokenSort::SequenceCloser => Err(no_entry(fault, token)),
+        TokenSort::OfStream => Err(no_entry(fault, token)),
     }
 }
 
 /// Behind a node without `:`.
 fn behind_alone<'input>(
     state: &mut ParserState<'input>,
+    fault: &mut Option<ScanError>,
     options: &Options,
     token: &Token<'input>,
     single: bool,
-) -> Result<(), ScanError>
-    ensures leaves { LeavesIfRoom result state.new (steps.in_flow_mapping_by (options_of options.now)
+) -> Result<(), Refused>
+    ensures leaves { LeavesIfRoom (answered fault.new result) state.new
+        (steps.in_flow_mapping_by (options_of options.now)
         (machine_token token.now) single machine.BehindAlone (sort_view token.now.sort) state.old) }
     ensures kept { state.new.kept ≡ state.old.kept }
 {
     match token.sort {
         TokenSort::MappingCloser => Ok(close_flow(state, token)?),
         TokenSort::CommaToken => Ok(behind_comma(state, token, single)?),
-        TokenSort::BeginsKey => Err(token.misplaced(ErrorKind::ExpectedFlowMappingSeparator)),
-        TokenSort::BeginsNode => Err(token.misplaced(ErrorKind::ExpectedFlowMappingSeparator)),
-        TokenSort::DashToken => Err(token.misplaced(ErrorKind::ExpectedFlowMappingSeparator)),
-        TokenSort::QuestionToken => Err(token.misplaced(ErrorKind::ExpectedFlowMappingSeparator)),
-        TokenSort::BareColon => Err(token.misplaced(ErrorKind::ExpectedFlowMappingSeparator)),
-        TokenSort::KeyedColon => Err(token.misplaced(ErrorKind::ExpectedFlowMappingSeparator)),
-        TokenSort::SequenceCloser => Err(token.misplaced(ErrorKind::ExpectedFlowMappingSeparator)),
-        TokenSort::OfStream => Err(token.misplaced(ErrorKind::ExpectedFlowMappingSeparator)),
+        TokenSort::BeginsKey => Err(no_pair_separator(fault, token)),
+        TokenSort::BeginsNode => Err(no_pair_separator(fault, token)),
+        TokenSort::DashToken => Err(no_pair_separator(fault, token)),
+        TokenSort::QuestionToken => Err(no_pair_separator(fault, token)),
+        TokenSort::BareColon => Err(no_pair_separator(fault, token)),
+        TokenSort::KeyedColon => Err(no_pair_separator(fault, token)),
+        TokenSort::SequenceCloser => Err(no_pair_separator(fault, token)),
+        TokenSort::OfStream => Err(no_pair_separator(fault, token)),
     }
 }
 
 /// Behind a value.
 fn behind_flow_pair<'input>(
     state: &mut ParserState<'input>,
+    fault: &mut Option<ScanError>,
     options: &Options,
     token: &Token<'input>,
     single: bool,
-) -> Result<(), ScanError>
-    ensures leaves { LeavesIfRoom result state.new (steps.in_flow_mapping_by (options_of options.now)
+) -> Result<(), Refused>
+    ensures leaves { LeavesIfRoom (answered fault.new result) state.new
+        (steps.in_flow_mapping_by (options_of options.now)
         (machine_token token.now) single machine.BehindPair (sort_view token.now.sort) state.old) }
     ensures kept { state.new.kept ≡ state.old.kept }
 {
     match token.sort {
         TokenSort::MappingCloser => Ok(close_flow(state, token)?),
         TokenSort::CommaToken => Ok(behind_comma(state, token, single)?),
-        TokenSort::BeginsKey => Err(token.misplaced(ErrorKind::ExpectedFlowMappingSeparator)),
-        TokenSort::BeginsNode => Err(token.misplaced(ErrorKind::ExpectedFlowMappingSeparator)),
-        TokenSort::DashToken => Err(token.misplaced(ErrorKind::ExpectedFlowMappingSeparator)),
-        TokenSort::QuestionToken => Err(token.misplaced(ErrorKind::ExpectedFlowMappingSeparator)),
-        TokenSort::BareColon => Err(token.misplaced(ErrorKind::ExpectedFlowMappingSeparator)),
-        TokenSort::KeyedColon => Err(token.misplaced(ErrorKind::ExpectedFlowMappingSeparator)),
-        TokenSort::SequenceCloser => Err(token.misplaced(ErrorKind::ExpectedFlowMappingSeparator)),
-        TokenSort::OfStream => Err(token.misplaced(ErrorKind::ExpectedFlowMappingSeparator)),
+        TokenSort::BeginsKey => Err(no_pair_separator(fault, token)),
+        TokenSort::BeginsNode => Err(no_pair_separator(fault, token)),
+        TokenSort::DashToken => Err(no_pair_separator(fault, token)),
+        TokenSort::QuestionToken => Err(no_pair_separator(fault, token)),
+        TokenSort::BareColon => Err(no_pair_separator(fault, token)),
+        TokenSort::KeyedColon => Err(no_pair_separator(fault, token)),
+        TokenSort::SequenceCloser => Err(no_pair_separator(fault, token)),
+        TokenSort::OfStream => Err(no_pair_separator(fault, token)),
     }
 }
 
 pub(crate) fn in_flow_mapping<'input>(
     state: &mut ParserState<'input>,
+    fault: &mut Option<ScanError>,
     alloc: Global,
     options: &Options,
     token: &mut Token<'input>,
     single: bool,
     stage: PairStage,
-) -> Result<(), ScanError>
-    ensures leaves { LeavesIfRoom result state.new (steps.in_flow_mapping_by (options_of options.now)
+) -> Result<(), Refused>
+    ensures leaves { LeavesIfRoom (answered fault.new result) state.new
+        (steps.in_flow_mapping_by (options_of options.now)
         (machine_token token.old) single (pair_view stage) (sort_view token.old.sort) state.old) }
     ensures kept { state.new.kept ≡ state.old.kept }
 {
     match stage {
-        PairStage::BeforePair => before_pair(state, alloc, options, token, single),
-        PairStage::AtKey => at_flow_key(state, alloc, options, token, single),
-        PairStage::BehindKey => behind_flow_key(state, alloc, options, token, single),
-        PairStage::AtQuestion => at_flow_question(state, alloc, options, token, single),
-        PairStage::BehindQuestion => behind_flow_question(state, alloc, options, token, single),
-        PairStage::AtValue => at_flow_value(state, alloc, options, token, single),
-        PairStage::BehindAlone => behind_alone(state, options, token, single),
-        PairStage::BehindPair => behind_flow_pair(state, options, token, single),
+        PairStage::BeforePair => before_pair(state, fault, alloc, options, token, single),
+        PairStage::AtKey => at_flow_key(state, fault, alloc, options, token, single),
+        PairStage::BehindKey => behind_flow_key(state, fault, alloc, options, token, single),
+        PairStage::AtQuestion => at_flow_question(state, fault, alloc, options, token, single),
+        PairStage::BehindQuestion => behind_flow_question(
+            state, fault, alloc, options, token, single,
+        ),
+        PairStage::AtValue => at_flow_value(state, fault, alloc, options, token, single),
+        PairStage::BehindAlone => behind_alone(state, fault, options, token, single),
+        PairStage::BehindPair => behind_flow_pair(state, fault, options, token, single),
     }
 }
 
 /// In the pair that a `?` makes in a sequence; what closing leaves behind its key is its `:`.
 pub(crate) fn in_flow_pair<'input>(
     state: &mut ParserState<'input>,
+    fault: &mut Option<ScanError>,
     alloc: Global,
     options: &Options,
     token: &mut Token<'input>,
     stage: PairStage,
-) -> Result<(), ScanError>
-    ensures leaves { LeavesIfRoom result state.new (steps.in_flow_pair (options_of options.now)
+) -> Result<(), Refused>
+    ensures leaves { LeavesIfRoom (answered fault.new result) state.new (steps.in_flow_pair (options_of options.now)
         (machine_token token.old) (pair_view stage) (sort_view token.old.sort) state.old) }
     ensures kept { state.new.kept ≡ state.old.kept }
 {
     match stage {
         PairStage::BehindQuestion => Ok(state.with_top(Frame::FlowPair(PairStage::AtValue))?),
-        PairStage::BeforePair => node_of_pair(state, alloc, options, token),
-        PairStage::AtKey => node_of_pair(state, alloc, options, token),
-        PairStage::BehindKey => node_of_pair(state, alloc, options, token),
-        PairStage::AtQuestion => node_of_pair(state, alloc, options, token),
-        PairStage::AtValue => node_of_pair(state, alloc, options, token),
-        PairStage::BehindAlone => node_of_pair(state, alloc, options, token),
-        PairStage::BehindPair => node_of_pair(state, alloc, options, token),
+        PairStage::BeforePair => node_of_pair(state, fault, alloc, options, token),
+        PairStage::AtKey => node_of_pair(state, fault, alloc, options, token),
+        PairStage::BehindKey => node_of_pair(state, fault, alloc, options, token),
+        PairStage::AtQuestion => node_of_pair(state, fault, alloc, options, token),
+        PairStage::AtValue => node_of_pair(state, fault, alloc, options, token),
+        PairStage::BehindAlone => node_of_pair(state, fault, alloc, options, token),
+        PairStage::BehindPair => node_of_pair(state, fault, alloc, options, token),
     }
 }
 
 fn node_of_pair<'input>(
     state: &mut ParserState<'input>,
+    fault: &mut Option<ScanError>,
     alloc: Global,
     options: &Options,
     token: &mut Token<'input>,
-) -> Result<(), ScanError>
-    ensures leaves { LeavesIfRoom result state.new (steps.in_flow_pair (options_of options.now)
+) -> Result<(), Refused>
+    ensures leaves { LeavesIfRoom (answered fault.new result) state.new (steps.in_flow_pair (options_of options.now)
         (machine_token token.old) machine.AtValue (sort_view token.old.sort) state.old) }
     ensures kept { state.new.kept ≡ state.old.kept }
 {
     match token.sort {
-        TokenSort::BeginsNode => bare(state, alloc, options, token),
-        TokenSort::BeginsKey => Err(token.misplaced(ErrorKind::UnexpectedEofImplicitFlowMapping)),
-        TokenSort::DashToken => Err(token.misplaced(ErrorKind::UnexpectedEofImplicitFlowMapping)),
-        TokenSort::QuestionToken => Err(token.misplaced(
-            ErrorKind::UnexpectedEofImplicitFlowMapping,
-        )),
-        TokenSort::BareColon => Err(token.misplaced(ErrorKind::UnexpectedEofImplicitFlowMapping)),
-        TokenSort::KeyedColon => Err(token.misplaced(ErrorKind::UnexpectedEofImplicitFlowMapping)),
-        TokenSort::CommaToken => Err(token.misplaced(ErrorKind::UnexpectedEofImplicitFlowMapping)),
-        TokenSort::SequenceCloser => Err(token.misplaced(
-            ErrorKind::UnexpectedEofImplicitFlowMapping,
-        )),
-        TokenSort::MappingCloser => Err(token.misplaced(
-            ErrorKind::UnexpectedEofImplicitFlowMapping,
-        )),
-        TokenSort::OfStream => Err(token.misplaced(ErrorKind::UnexpectedEofImplicitFlowMapping)),
+        TokenSort::BeginsNode => bare(state, fault, alloc, options, token),
+        TokenSort::BeginsKey => Err(no_entry(fault, token)),
+        TokenSort::DashToken => Err(no_entry(fault, token)),
+        TokenSort::QuestionToken => Err(no_entry(fault, token)),
+        TokenSort::BareColon => Err(no_entry(fault, token)),
+        TokenSort::KeyedColon => Err(no_entry(fault, token)),
+        TokenSort::CommaToken => Err(no_entry(fault, token)),
+        TokenSort::SequenceCloser => Err(no_entry(fault, token)),
+        TokenSort::MappingCloser => Err(no_entry(fault, token)),
+        TokenSort::OfStream => Err(no_entry(fault, token)),
     }
 }

@@ -3,6 +3,9 @@ ghost use Rattle.std.specs.Prelude.{◌≡◌, [], false, None, OnOk};
 ghost use Rattle.std.specs.Option.{option_map};
 ghost use Rattle.granit_error.specs.OptionsView.{options_of};
 ghost use Rattle.granit_event.specs.Events.{plain_version};
+ghost use Rattle.granit_error.specs.FaultKind as faults;
+ghost use Rattle.granit_refused.specs.Answered.{answered, why};
+ghost use Rattle.granit_lexemes.specs.Outcome.{fault_at};
 ghost use Rattle.granit_sorts.specs.SortViews.{machine_token, of_kind, sort_view};
 ghost use Rattle.granit_frames.specs.StateViews.{stage_view};
 ghost use Rattle.granit_feed.specs.Handles.{KeepsIfRefused};
@@ -20,31 +23,50 @@ ghost use Rattle.granit_machine.specs.StreamSteps as steps;
 use granit_base::{NoMemory, Span, Text};
 use granit_error::{ErrorKind, Options, ScanError};
 use granit_event::{Event, YamlVersion};
-use granit_frames::{DocumentStage, Frame, ParserState, Token, TokenSort};
+use granit_frames::{DocumentStage, Frame, ParserState, Token, TokenSort, misplaced};
 use granit_items::LexemeKind;
 use granit_nodes::node;
+use granit_refused::Refused;
 use std::alloc::Global;
 use std::mem;
+
+// What may not stand there: each in one place, since a match keeps room for each error that an arm makes.
+
+/// No document starts with it.
+fn no_start(fault: &mut Option<ScanError>, token: &Token<'_>) -> Refused
+    ensures { why fault.new result ≡ fault_at faults.ExpectedDocumentStart token.now.lexeme.value.shown_start }
+{
+    misplaced(fault, token, ErrorKind::ExpectedDocumentStart)
+}
+
+/// A directive, and the document before it wasn't ended.
+fn no_end(fault: &mut Option<ScanError>, token: &Token<'_>) -> Refused
+    ensures { why fault.new result ≡
+        fault_at faults.MissingDocumentEndBeforeDirective token.now.lexeme.value.shown_start }
+{
+    misplaced(fault, token, ErrorKind::MissingDocumentEndBeforeDirective)
+}
 
 // Directives (YAML 1.2.2, 6.8).
 
 /// A directive that names a version, behind others one of which may have.
 fn with_version<'input>(
     state: &mut ParserState<'input>,
+    fault: &mut Option<ScanError>,
     major: u32,
     minor: u32,
     token: &Token<'input>,
     version: Option<YamlVersion>,
-) -> Result<(), ScanError>
-    ensures leaves { LeavesIfRoom result state.new (steps.with_version (machine_token token.now)
+) -> Result<(), Refused>
+    ensures leaves { LeavesIfRoom (answered fault.new result) state.new (steps.with_version (machine_token token.now)
         (option_map plain_version version) major minor state.old) }
     ensures kept { state.new.kept ≡ state.old.kept }
 {
     match version {
-        Some(_) => Err(token.misplaced(ErrorKind::DuplicateVersionDirective)),
+        Some(_) => Err(misplaced(fault, token, ErrorKind::DuplicateVersionDirective)),
         None => {
             if major != 1 {
-                return Err(token.misplaced(ErrorKind::UnsupportedYamlMajorVersion));
+                return Err(misplaced(fault, token, ErrorKind::UnsupportedYamlMajorVersion));
             }
             state.set_stage(DocumentStage::Directives(Some(YamlVersion { major, minor })));
             Ok(())
@@ -55,21 +77,22 @@ fn with_version<'input>(
 /// A directive that says what a handle stands for.
 fn with_handle<'input>(
     state: &mut ParserState<'input>,
+    fault: &mut Option<ScanError>,
     alloc: Global,
     options: &Options,
     handle: Text<'input>,
     prefix: Text<'input>,
     token: &Token<'input>,
     version: Option<YamlVersion>,
-) -> Result<(), ScanError>
-    ensures leaves { LeavesIfRoom result state.new (steps.with_directive (options_of options.now)
+) -> Result<(), Refused>
+    ensures leaves { LeavesIfRoom (answered fault.new result) state.new (steps.with_directive (options_of options.now)
         (of_kind (kinds.TagPrefix handle.entry prefix.entry) token.now)
         (lexemes.TagPrefix handle.entry.characters prefix.entry.characters)
         (option_map plain_version version) state.old) }
-    ensures refused { KeepsIfRefused result state.old state.new }
+    ensures refused { KeepsIfRefused (answered fault.new result) state.old state.new }
 {
     match state.prefix_of(&handle) {
-        Some(_) => Err(token.misplaced(ErrorKind::DuplicateTagDirective)),
+        Some(_) => Err(misplaced(fault, token, ErrorKind::DuplicateTagDirective)),
         None => {
             state.remember_handle(alloc, handle, prefix, options.keep_tags)?;
             state.set_stage(DocumentStage::Directives(version));
@@ -82,11 +105,12 @@ fn with_handle<'input>(
 #[tactic(auto, using(crate::proofs::GivingLemmas::flush_frames))]
 fn open_document<'input>(
     state: &mut ParserState<'input>,
+    fault: &mut Option<ScanError>,
     token: &Token<'input>,
     version: Option<YamlVersion>,
-) -> Result<(), ScanError>
+) -> Result<(), Refused>
     requires outer { state.old.frames ≡ [] }
-    ensures leaves { LeavesIfRoom result state.new (steps.open_document (machine_token token.now)
+    ensures leaves { LeavesIfRoom (answered fault.new result) state.new (steps.open_document (machine_token token.now)
         (option_map plain_version version) state.old) }
     ensures kept { state.new.kept ≡ state.old.kept }
 {
@@ -100,39 +124,43 @@ fn open_document<'input>(
 /// Behind directives: another, or `---`.
 fn behind_directives<'input>(
     state: &mut ParserState<'input>,
+    fault: &mut Option<ScanError>,
     alloc: Global,
     options: &Options,
     token: &mut Token<'input>,
     version: Option<YamlVersion>,
-) -> Result<(), ScanError>
+) -> Result<(), Refused>
     requires outer { state.old.frames ≡ [] }
-    ensures leaves { LeavesIfRoom result state.new (steps.behind_directives (options_of options.now)
+    ensures leaves { LeavesIfRoom (answered fault.new result) state.new
+        (steps.behind_directives (options_of options.now)
         (machine_token token.old).lexeme.kind (machine_token token.old) (option_map plain_version version) state.old) }
     ensures kept { is_directive (kind_view token.old.lexeme.value.kind) ≡ false → state.new.kept ≡ state.old.kept }
-    ensures refused { KeepsIfRefused result state.old state.new }
+    ensures refused { KeepsIfRefused (answered fault.new result) state.old state.new }
 {
     match mem::replace(&mut token.lexeme.kind, LexemeKind::Comma) {
-        LexemeKind::Version(major, minor) => with_version(state, major, minor, token, version),
+        LexemeKind::Version(major, minor) => with_version(
+            state, fault, major, minor, token, version,
+        ),
         LexemeKind::TagPrefix(handle, prefix) => {
-            with_handle(state, alloc, options, handle, prefix, token, version)
+            with_handle(state, fault, alloc, options, handle, prefix, token, version)
         }
         LexemeKind::Reserved(_, _) => {
             state.set_stage(DocumentStage::Directives(version));
             Ok(())
         }
-        LexemeKind::DocumentStart => open_document(state, token, version),
-        LexemeKind::DocumentEnd => Err(token.misplaced(ErrorKind::ExpectedDocumentStart)),
-        LexemeKind::StreamEnd => Err(token.misplaced(ErrorKind::ExpectedDocumentStart)),
-        LexemeKind::Open(_) => Err(token.misplaced(ErrorKind::ExpectedDocumentStart)),
-        LexemeKind::Close(_) => Err(token.misplaced(ErrorKind::ExpectedDocumentStart)),
-        LexemeKind::Comma => Err(token.misplaced(ErrorKind::ExpectedDocumentStart)),
-        LexemeKind::Dash => Err(token.misplaced(ErrorKind::ExpectedDocumentStart)),
-        LexemeKind::Question => Err(token.misplaced(ErrorKind::ExpectedDocumentStart)),
-        LexemeKind::Colon => Err(token.misplaced(ErrorKind::ExpectedDocumentStart)),
-        LexemeKind::Alias(_) => Err(token.misplaced(ErrorKind::ExpectedDocumentStart)),
-        LexemeKind::Anchor(_) => Err(token.misplaced(ErrorKind::ExpectedDocumentStart)),
-        LexemeKind::Tag(_, _) => Err(token.misplaced(ErrorKind::ExpectedDocumentStart)),
-        LexemeKind::Scalar(_, _) => Err(token.misplaced(ErrorKind::ExpectedDocumentStart)),
+        LexemeKind::DocumentStart => open_document(state, fault, token, version),
+        LexemeKind::DocumentEnd => Err(no_start(fault, token)),
+        LexemeKind::StreamEnd => Err(no_start(fault, token)),
+        LexemeKind::Open(_) => Err(no_start(fault, token)),
+        LexemeKind::Close(_) => Err(no_start(fault, token)),
+        LexemeKind::Comma => Err(no_start(fault, token)),
+        LexemeKind::Dash => Err(no_start(fault, token)),
+        LexemeKind::Question => Err(no_start(fault, token)),
+        LexemeKind::Colon => Err(no_start(fault, token)),
+        LexemeKind::Alias(_) => Err(no_start(fault, token)),
+        LexemeKind::Anchor(_) => Err(no_start(fault, token)),
+        LexemeKind::Tag(_, _) => Err(no_start(fault, token)),
+        LexemeKind::Scalar(_, _) => Err(no_start(fault, token)),
     }
 }
 
@@ -160,42 +188,44 @@ fn bare_start(token: &Token<'_>) -> Span
 /// The root of a document behind its `---`.
 pub(crate) fn at_root<'input>(
     state: &mut ParserState<'input>,
+    fault: &mut Option<ScanError>,
     alloc: Global,
     options: &Options,
     token: &mut Token<'input>,
-) -> Result<(), ScanError>
-    ensures leaves { LeavesIfRoom result state.new (steps.at_root (options_of options.now)
+) -> Result<(), Refused>
+    ensures leaves { LeavesIfRoom (answered fault.new result) state.new (steps.at_root (options_of options.now)
         (machine_token token.old) state.old) }
     ensures kept { state.new.kept ≡ state.old.kept }
 {
     if !token.sort.begins_node() {
-        return Err(token.misplaced(ErrorKind::UnexpectedEofBlockSequence));
+        return Err(misplaced(fault, token, ErrorKind::UnexpectedEofBlockSequence));
     }
-    node(state, alloc, options, token)
+    node(state, fault, alloc, options, token)
 }
 
 /// A document without `---`.
 #[tactic(auto, using(crate::proofs::GivingLemmas::flush_frames))]
 fn begin_document<'input>(
     state: &mut ParserState<'input>,
+    fault: &mut Option<ScanError>,
     alloc: Global,
     options: &Options,
     token: &mut Token<'input>,
-) -> Result<(), ScanError>
+) -> Result<(), Refused>
     requires outer { state.old.frames ≡ [] }
-    ensures leaves { LeavesIfRoom result state.new (steps.begin_document (options_of options.now)
+    ensures leaves { LeavesIfRoom (answered fault.new result) state.new (steps.begin_document (options_of options.now)
         (machine_token token.old) state.old) }
     ensures kept { state.new.kept ≡ state.old.kept }
 {
     if !token.sort.begins_node() {
-        return Err(token.misplaced(ErrorKind::UnexpectedEofBlockSequence));
+        return Err(misplaced(fault, token, ErrorKind::UnexpectedEofBlockSequence));
     }
     state.forget_names();
     state.forget_handles();
     state.set_stage(DocumentStage::Inside);
     state.give(Event::DocumentStart(false, None), bare_start(token))?;
     state.push_frame(Frame::Root(false))?;
-    node(state, alloc, options, token)
+    node(state, fault, alloc, options, token)
 }
 
 fn end_stream<'input>(
@@ -212,100 +242,101 @@ fn end_stream<'input>(
 /// What `%` begins, where no directive stands before it.
 fn first_directive<'input>(
     state: &mut ParserState<'input>,
+    fault: &mut Option<ScanError>,
     alloc: Global,
     options: &Options,
     token: &mut Token<'input>,
-) -> Result<(), ScanError>
+) -> Result<(), Refused>
     requires outer { state.old.frames ≡ [] }
-    ensures leaves { LeavesIfRoom result state.new (steps.behind_directives (options_of options.now)
+    ensures leaves { LeavesIfRoom (answered fault.new result) state.new
+        (steps.behind_directives (options_of options.now)
         (machine_token token.old).lexeme.kind (machine_token token.old) None (steps.without_directives state.old)) }
-    ensures refused { KeepsIfRefused result state.old state.new }
+    ensures refused { KeepsIfRefused (answered fault.new result) state.old state.new }
 {
     state.forget_handles();
     state.forget_names();
-    behind_directives(state, alloc, options, token, None)
+    behind_directives(state, fault, alloc, options, token, None)
 }
 
 /// `---` without directives.
 fn plain_document<'input>(
     state: &mut ParserState<'input>,
+    fault: &mut Option<ScanError>,
     token: &Token<'input>,
-) -> Result<(), ScanError>
+) -> Result<(), Refused>
     requires outer { state.old.frames ≡ [] }
-    ensures leaves { LeavesIfRoom result state.new (steps.open_document (machine_token token.now) None
+    ensures leaves { LeavesIfRoom (answered fault.new result) state.new
+        (steps.open_document (machine_token token.now) None
         (record state.old { handles = [] })) }
     ensures kept { state.new.kept ≡ state.old.kept }
 {
     state.forget_handles();
-    open_document(state, token, None)
+    open_document(state, fault, token, None)
 }
 
 /// Before a document that directives may begin.
 fn when_fresh<'input>(
     state: &mut ParserState<'input>,
+    fault: &mut Option<ScanError>,
     alloc: Global,
     options: &Options,
     token: &mut Token<'input>,
-) -> Result<(), ScanError>
+) -> Result<(), Refused>
     requires outer { state.old.frames ≡ [] }
-    ensures leaves { LeavesIfRoom result state.new (steps.when_fresh (options_of options.now)
+    ensures leaves { LeavesIfRoom (answered fault.new result) state.new (steps.when_fresh (options_of options.now)
         (machine_token token.old).lexeme.kind (machine_token token.old) state.old) }
     ensures kept { is_directive (kind_view token.old.lexeme.value.kind) ≡ false → state.new.kept ≡ state.old.kept }
-    ensures refused { KeepsIfRefused result state.old state.new }
+    ensures refused { KeepsIfRefused (answered fault.new result) state.old state.new }
 {
     match &token.lexeme.kind {
         LexemeKind::DocumentEnd => Ok(state.flush()?),
         LexemeKind::StreamEnd => Ok(end_stream(state, token)?),
-        LexemeKind::Version(_, _) => first_directive(state, alloc, options, token),
-        LexemeKind::TagPrefix(_, _) => first_directive(state, alloc, options, token),
-        LexemeKind::Reserved(_, _) => first_directive(state, alloc, options, token),
-        LexemeKind::DocumentStart => plain_document(state, token),
-        LexemeKind::Open(_) => begin_document(state, alloc, options, token),
-        LexemeKind::Close(_) => begin_document(state, alloc, options, token),
-        LexemeKind::Comma => begin_document(state, alloc, options, token),
-        LexemeKind::Dash => begin_document(state, alloc, options, token),
-        LexemeKind::Question => begin_document(state, alloc, options, token),
-        LexemeKind::Colon => begin_document(state, alloc, options, token),
-        LexemeKind::Alias(_) => begin_document(state, alloc, options, token),
-        LexemeKind::Anchor(_) => begin_document(state, alloc, options, token),
-        LexemeKind::Tag(_, _) => begin_document(state, alloc, options, token),
-        LexemeKind::Scalar(_, _) => begin_document(state, alloc, options, token),
+        LexemeKind::Version(_, _) => first_directive(state, fault, alloc, options, token),
+        LexemeKind::TagPrefix(_, _) => first_directive(state, fault, alloc, options, token),
+        LexemeKind::Reserved(_, _) => first_directive(state, fault, alloc, options, token),
+        LexemeKind::DocumentStart => plain_document(state, fault, token),
+        LexemeKind::Open(_) => begin_document(state, fault, alloc, options, token),
+        LexemeKind::Close(_) => begin_document(state, fault, alloc, options, token),
+        LexemeKind::Comma => begin_document(state, fault, alloc, options, token),
+        LexemeKind::Dash => begin_document(state, fault, alloc, options, token),
+        LexemeKind::Question => begin_document(state, fault, alloc, options, token),
+        LexemeKind::Colon => begin_document(state, fault, alloc, options, token),
+        LexemeKind::Alias(_) => begin_document(state, fault, alloc, options, token),
+        LexemeKind::Anchor(_) => begin_document(state, fault, alloc, options, token),
+        LexemeKind::Tag(_, _) => begin_document(state, fault, alloc, options, token),
+        LexemeKind::Scalar(_, _) => begin_document(state, fault, alloc, options, token),
     }
 }
 
 /// Behind a document that `...` didn't end.
 fn when_between<'input>(
     state: &mut ParserState<'input>,
+    fault: &mut Option<ScanError>,
     token: &Token<'input>,
-) -> Result<(), ScanError>
+) -> Result<(), Refused>
     requires outer { state.old.frames ≡ [] }
-    ensures leaves { LeavesIfRoom result state.new (steps.when_between (machine_token token.now).lexeme.kind
+    ensures leaves { LeavesIfRoom (answered fault.new result) state.new
+        (steps.when_between (machine_token token.now).lexeme.kind
         (machine_token token.now) state.old) }
     ensures kept { state.new.kept ≡ state.old.kept }
 {
     match &token.lexeme.kind {
-        LexemeKind::Version(_, _) => Err(token.misplaced(
-            ErrorKind::MissingDocumentEndBeforeDirective,
-        )),
-        LexemeKind::TagPrefix(_, _) => Err(token.misplaced(
-            ErrorKind::MissingDocumentEndBeforeDirective,
-        )),
-        LexemeKind::Reserved(_, _) => Err(token.misplaced(
-            ErrorKind::MissingDocumentEndBeforeDirective,
-        )),
-        LexemeKind::DocumentStart => plain_document(state, token),
+        LexemeKind::Version(_, _) => Err(no_end(fault, token)),
+        LexemeKind::TagPrefix(_, _) => Err(no_end(fault, token)),
+        LexemeKind::Reserved(_, _) => Err(no_end(fault, token)),
+        LexemeKind::DocumentStart => plain_document(state, fault, token),
         LexemeKind::StreamEnd => Ok(end_stream(state, token)?),
-        LexemeKind::DocumentEnd => Err(token.misplaced(ErrorKind::ExpectedDocumentStart)),
-        LexemeKind::Open(_) => Err(token.misplaced(ErrorKind::ExpectedDocumentStart)),
-        LexemeKind::Close(_) => Err(token.misplaced(ErrorKind::ExpectedDocumentStart)),
-        LexemeKind::Comma => Err(token.misplaced(ErrorKind::ExpectedDocumentStart)),
-        LexemeKind::Dash => Err(token.misplaced(ErrorKind::ExpectedDocumentStart)),
-        LexemeKind::Question => Err(token.misplaced(ErrorKind::ExpectedDocumentStart)),
-        LexemeKind::Colon => Err(token.misplaced(ErrorKind::ExpectedDocumentStart)),
-        LexemeKind::Alias(_) => Err(token.misplaced(ErrorKind::ExpectedDocumentStart)),
-        LexemeKind::Anchor(_) => Err(token.misplaced(ErrorKind::ExpectedDocumentStart)),
-        LexemeKind::Tag(_, _) => Err(token.misplaced(ErrorKind::ExpectedDocumentStart)),
-        LexemeKind::Scalar(_, _) => Err(token.misplaced(ErrorKind::ExpectedDocumentStart)),
+        LexemeKind::DocumentEnd => Err(no_start(fault, token)),
+        LexemeKind::Open(_) => Err(no_start(fault, token)),
+        LexemeKind::Close(_) => Err(no_start(fault, token)),
+        LexemeKind::Comma => Err(no_start(fault, token)),
+        LexemeKind::Dash => Err(no_start(fault, token)),
+        LexemeKind::Question => Err(no_start(fault, token)),
+        LexemeKind::Colon => Err(no_start(fault, token)),
+        LexemeKind::Alias(_) => Err(no_start(fault, token)),
+        LexemeKind::Anchor(_) => Err(no_start(fault, token)),
+        LexemeKind::Tag(_, _) => Err(no_start(fault, token)),
+        LexemeKind::Scalar(_, _) => Err(no_start(fault, token)),
     }
 }
 
@@ -329,67 +360,73 @@ fn end_document<'input>(
 #[tactic(auto, using(crate::proofs::GivingLemmas::flush_frames))]
 fn behind_unended<'input>(
     state: &mut ParserState<'input>,
+    fault: &mut Option<ScanError>,
     token: &Token<'input>,
-) -> Result<(), ScanError>
+) -> Result<(), Refused>
     requires outer { state.old.frames ≡ [] }
-    ensures leaves { LeavesIfRoom result state.new (steps.when_between (machine_token token.now).lexeme.kind
+    ensures leaves { LeavesIfRoom (answered fault.new result) state.new
+        (steps.when_between (machine_token token.now).lexeme.kind
         (machine_token token.now) (steps.end_document (empty_span state.old.last_end) machine.Between state.old)) }
     ensures kept { state.new.kept ≡ state.old.kept }
 {
     end_document(state, Span::empty(state.last_end()), DocumentStage::Between)?;
-    when_between(state, token)
+    when_between(state, fault, token)
 }
 
 /// Behind the root of a document.
 fn behind_root<'input>(
     state: &mut ParserState<'input>,
+    fault: &mut Option<ScanError>,
     token: &Token<'input>,
-) -> Result<(), ScanError>
+) -> Result<(), Refused>
     requires outer { state.old.frames ≡ [] }
-    ensures leaves { LeavesIfRoom result state.new (steps.behind_root (machine_token token.now).lexeme.kind
+    ensures leaves { LeavesIfRoom (answered fault.new result) state.new
+        (steps.behind_root (machine_token token.now).lexeme.kind
         (machine_token token.now) state.old) }
     ensures kept { state.new.kept ≡ state.old.kept }
 {
     match &token.lexeme.kind {
         LexemeKind::DocumentEnd => Ok(end_document(state, token.span(), DocumentStage::Fresh)?),
-        LexemeKind::Version(_, _) => behind_unended(state, token),
-        LexemeKind::TagPrefix(_, _) => behind_unended(state, token),
-        LexemeKind::Reserved(_, _) => behind_unended(state, token),
-        LexemeKind::DocumentStart => behind_unended(state, token),
-        LexemeKind::StreamEnd => behind_unended(state, token),
-        LexemeKind::Open(_) => behind_unended(state, token),
-        LexemeKind::Close(_) => behind_unended(state, token),
-        LexemeKind::Comma => behind_unended(state, token),
-        LexemeKind::Dash => behind_unended(state, token),
-        LexemeKind::Question => behind_unended(state, token),
-        LexemeKind::Colon => behind_unended(state, token),
-        LexemeKind::Alias(_) => behind_unended(state, token),
-        LexemeKind::Anchor(_) => behind_unended(state, token),
-        LexemeKind::Tag(_, _) => behind_unended(state, token),
-        LexemeKind::Scalar(_, _) => behind_unended(state, token),
+        LexemeKind::Version(_, _) => behind_unended(state, fault, token),
+        LexemeKind::TagPrefix(_, _) => behind_unended(state, fault, token),
+        LexemeKind::Reserved(_, _) => behind_unended(state, fault, token),
+        LexemeKind::DocumentStart => behind_unended(state, fault, token),
+        LexemeKind::StreamEnd => behind_unended(state, fault, token),
+        LexemeKind::Open(_) => behind_unended(state, fault, token),
+        LexemeKind::Close(_) => behind_unended(state, fault, token),
+        LexemeKind::Comma => behind_unended(state, fault, token),
+        LexemeKind::Dash => behind_unended(state, fault, token),
+        LexemeKind::Question => behind_unended(state, fault, token),
+        LexemeKind::Colon => behind_unended(state, fault, token),
+        LexemeKind::Alias(_) => behind_unended(state, fault, token),
+        LexemeKind::Anchor(_) => behind_unended(state, fault, token),
+        LexemeKind::Tag(_, _) => behind_unended(state, fault, token),
+        LexemeKind::Scalar(_, _) => behind_unended(state, fault, token),
     }
 }
 
 /// Around documents.
 pub(crate) fn outside<'input>(
     state: &mut ParserState<'input>,
+    fault: &mut Option<ScanError>,
     alloc: Global,
     options: &Options,
     token: &mut Token<'input>,
-) -> Result<(), ScanError>
+) -> Result<(), Refused>
     requires outer { state.old.frames ≡ [] }
-    ensures leaves { LeavesIfRoom result state.new (steps.outside (options_of options.now) state.old.stage
+    ensures leaves { LeavesIfRoom (answered fault.new result) state.new
+        (steps.outside (options_of options.now) state.old.stage
         (machine_token token.old) state.old) }
     ensures kept { is_directive (kind_view token.old.lexeme.value.kind) ≡ false → state.new.kept ≡ state.old.kept }
-    ensures refused { KeepsIfRefused result state.old state.new }
+    ensures refused { KeepsIfRefused (answered fault.new result) state.old state.new }
 {
     match state.stage() {
-        DocumentStage::Fresh => when_fresh(state, alloc, options, token),
+        DocumentStage::Fresh => when_fresh(state, fault, alloc, options, token),
         DocumentStage::Directives(version) => behind_directives(
-            state, alloc, options, token, version,
+            state, fault, alloc, options, token, version,
         ),
-        DocumentStage::BehindRoot => behind_root(state, token),
-        DocumentStage::Between => when_between(state, token),
-        DocumentStage::Inside => Err(token.misplaced(ErrorKind::ExpectedDocumentStart)),
+        DocumentStage::BehindRoot => behind_root(state, fault, token),
+        DocumentStage::Between => when_between(state, fault, token),
+        DocumentStage::Inside => Err(misplaced(fault, token, ErrorKind::ExpectedDocumentStart)),
     }
 }

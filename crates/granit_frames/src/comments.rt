@@ -2,6 +2,7 @@
 ghost use Rattle.std.specs.Prelude.{◌≡◌, ◌<◌, ◌-◌, [], ◌∷◌, ◌++◌, Some, OnOk};
 ghost use Rattle.granit_event.specs.Events.{plain_event, plain_events};
 ghost use Rattle.granit_items.specs.ItemViews.{note_view};
+ghost use Rattle.granit_refused.specs.Answered.{answered};
 ghost use Rattle.granit_frames.specs.StateViews.{waiting_view};
 ghost use Rattle.granit_machine.specs.Leaving.{LeavesIfRoom};
 ghost use Rattle.granit_machine.specs.Parser as spec;
@@ -11,6 +12,7 @@ use granit_base::{NoMemory, Placement, Span};
 use granit_error::{ErrorKind, ScanError};
 use granit_event::Event;
 use granit_items::Note;
+use granit_refused::{Refused, refuse};
 
 /// Where a comment stands, by the line of what comes behind it.
 fn placed(note: &Note<'_>, next_line: Option<usize>) -> Placement
@@ -60,10 +62,12 @@ impl<'input> ParserState<'input> {
     /// `TooManyComments` at its start, where no more may be held.
     pub fn take_comment(
         &mut self,
+        fault: &mut Option<ScanError>,
         note: Note<'input>,
         next_line: Option<usize>,
-    ) -> Result<(), ScanError>
-        ensures leaves { LeavesIfRoom result self.new (spec.take_comment (note_view note.entry) next_line self.old) }
+    ) -> Result<(), Refused>
+        ensures leaves { LeavesIfRoom (answered fault.new result) self.new
+            (spec.take_comment (note_view note.entry) next_line self.old) }
         ensures kept { self.new.kept ≡ self.old.kept }
     {
         let placement = placed(&note, next_line);
@@ -82,7 +86,10 @@ impl<'input> ParserState<'input> {
             }
             Some(mut waiting) => {
                 if waiting.room == 0 {
-                    return Err(ScanError::from_kind(start, ErrorKind::TooManyComments));
+                    return Err(refuse(
+                        fault,
+                        ScanError::from_kind(start, ErrorKind::TooManyComments),
+                    ));
                 }
                 waiting.hold(event, span)?;
                 self.waiting = Some(waiting);

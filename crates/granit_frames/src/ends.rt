@@ -5,6 +5,7 @@ ghost use Rattle.granit_base.specs.Written.{lent};
 ghost use Rattle.granit_base.specs.declared.style.ScalarStyle.TheVariants.{Plain};
 ghost use Rattle.granit_error.specs.OptionsView.{options_of};
 ghost use Rattle.granit_event.specs.Events.{event_kind};
+ghost use Rattle.granit_refused.specs.Answered.{answered};
 ghost use Rattle.granit_frames.specs.StateViews.{tag_view, bears, has_properties};
 ghost use Rattle.granit_lexemes.specs.PlainEvent as plain;
 ghost use Rattle.granit_machine.specs.Frames as spec;
@@ -19,6 +20,7 @@ use granit_base::{Marker, NoMemory, ScalarStyle, Span, Text};
 use granit_error::{ErrorKind, Options, ScanError};
 use granit_event::Event;
 use granit_nesting::{Frame, PairStage};
+use granit_refused::{Refused, refuse};
 use std::alloc::Global;
 use std::collections::VecDeque;
 
@@ -290,17 +292,21 @@ impl<'input> ParserState<'input> {
     #[tactic(auto, unfolding(granit_machine::specs::NodeEnds::begin_block))]
     pub fn begin_block(
         &mut self,
+        fault: &mut Option<ScanError>,
         options: &Options,
         event: Event<'input>,
         mark: Marker,
         frame: Frame,
-    ) -> Result<(), ScanError>
-        ensures leaves { LeavesIfRoom result self.new (ends.begin_block (options_of options.now)
+    ) -> Result<(), Refused>
+        ensures leaves { LeavesIfRoom (answered fault.new result) self.new (ends.begin_block (options_of options.now)
             (bears (event_kind event.entry)) mark (frame_view frame) self.old) }
         ensures kept { self.new.kept ≡ self.old.kept }
     {
         if options.block_nesting_limit <= self.block_count() {
-            return Err(ScanError::from_kind(mark, ErrorKind::RecursionLimitExceeded));
+            return Err(refuse(
+                fault,
+                ScanError::from_kind(mark, ErrorKind::RecursionLimitExceeded),
+            ));
         }
         self.begin(options, event, mark, mark, frame)?;
         Ok(())

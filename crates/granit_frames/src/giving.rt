@@ -316,6 +316,13 @@ impl<'input> ParserState<'input> {
     {
         let column = self.key_indent(indent);
         bear(&mut event, 0, None);
-        self.give(event, Span::new(start, end).with_indent(column))
+        // as `give`, with no call between: it would copy the event twice
+        self.flush()?;
+        self.last_end = end;
+        self.given.reserve(1)?;
+        let mut span = Span::new(start, end);
+        span.indent = column;
+        self.given.push_back_reserved((event, span));
+        Ok(())
     }
 }

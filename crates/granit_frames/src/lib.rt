@@ -10,10 +10,12 @@ mod giving;
 mod names;
 mod offset;
 mod properties;
+mod refused;
 mod state;
 
 pub use giving::null_event;
 pub use granit_nesting::{Frame, Frames, PairStage};
 pub use granit_sorts::{Token, TokenSort, token_sort};
 pub use names::length_of;
+pub use refused::misplaced;
 pub use state::{DocumentStage, NodeAnchor, NodeProperties, NodeTag, ParserState, Top};

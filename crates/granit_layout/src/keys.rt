@@ -7,10 +7,12 @@ ghost use Rattle.granit_machine.specs.Laid as laid;
 ghost use Rattle.granit_machine.specs.PossibleKeys as keys;
 ghost use Rattle.granit_layout.specs.Rising.{is_from};
 ghost use Rattle.granit_layout.specs.Views.{is_wide_in};
+ghost use Rattle.granit_refused.specs.Answered.{answered};
 
 use granit_base::Marker;
 use granit_error::{ErrorKind, Options, ScanError};
 use granit_lexemes::{OpenColumn, PossibleKey};
+use granit_refused::{Refused, refuse_at};
 
 /// Whether a column is left of where a node may stand.
 pub(crate) fn is_left(block_column: Option<usize>, column: usize) -> bool
@@ -58,14 +60,17 @@ pub(crate) fn is_fresh(
 }
 
 /// Refuses a key that has to get a `:` and gets none (YAML 1.2.2, 8.2.2).
-pub(crate) fn refuse_required(key: &Option<PossibleKey>) -> Result<(), ScanError>
-    ensures { result ≡ keys.refuse_required key.now }
+pub(crate) fn refuse_required(
+    key: &Option<PossibleKey>,
+    fault: &mut Option<ScanError>,
+) -> Result<(), Refused>
+    ensures { answered fault.new result ≡ keys.refuse_required key.now }
 {
     match key {
         None => Ok(()),
         Some(key) => {
             if key.is_required {
-                return Err(ScanError::from_kind(key.start, ErrorKind::SimpleKeyExpected));
+                return Err(refuse_at(fault, key.start, ErrorKind::SimpleKeyExpected));
             }
             Ok(())
         }

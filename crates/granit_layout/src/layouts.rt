@@ -19,6 +19,7 @@ ghost use Rattle.granit_machine.specs.Leaving.{Leaves, LeavesIfRoom};
 ghost use Rattle.granit_layout.specs.Heads.{is_headed};
 ghost use Rattle.granit_layout.specs.Opening.{opens_column};
 ghost use Rattle.granit_layout.specs.StaleKeys.{without_stale_key};
+ghost use Rattle.granit_refused.specs.Answered.{answered};
 
 use crate::brackets::Brackets;
 use crate::columns::Columns;
@@ -30,6 +31,7 @@ use granit_base::{Marker, NoMemory};
 use granit_cursor::Layout;
 use granit_error::{ErrorKind, Options, ScanError};
 use granit_lexemes::{Bracket, LastLexeme, OpenBracket, PossibleKey};
+use granit_refused::{Refused, refuse_at};
 use std::alloc::Global;
 use std::marker::Model;
 
@@ -245,10 +247,10 @@ impl Layouts {
     /// # Errors
     ///
     /// `SimpleKeyExpected` at its start, where it has to get one.
-    pub fn drop_key(&mut self) -> Result<(), ScanError>
-        ensures { Leaves result self.new (keys.drop_key self.old) }
+    pub fn drop_key(&mut self, fault: &mut Option<ScanError>) -> Result<(), Refused>
+        ensures { Leaves (answered fault.new result) self.new (keys.drop_key self.old) }
     {
-        refuse_required(self.brackets.key(&self.key))?;
+        refuse_required(self.brackets.key(&self.key), fault)?;
         self.forget_key();
         Ok(())
     }
@@ -258,17 +260,29 @@ impl Layouts {
     /// # Errors
     ///
     /// `SimpleKeyExpected` at the start of one that has to get a `:`.
-    pub fn drop_stale(&mut self, options: &Options, mark: Marker) -> Result<(), ScanError>
-        ensures { Leaves result self.new (keys.without_stale (options_of options.now) mark self.old) }
+    pub fn drop_stale(
+        &mut self,
+        options: &Options,
+        mark: Marker,
+        fault: &mut Option<ScanError>,
+    ) -> Result<(), Refused>
+        ensures { Leaves (answered fault.new result) self.new
+            (keys.without_stale (options_of options.now) mark self.old) }
     {
-        self.refresh_key(options, &mark)?;
+        self.refresh_key(options, &mark, fault)?;
         self.brackets.refresh(options, &mark);
         Ok(())
     }
 
     /// Without the possible key outside brackets, where reading has left it behind.
-    fn refresh_key(&mut self, options: &Options, mark: &Marker) -> Result<(), ScanError>
-        ensures { Leaves result self.new (without_stale_key (options_of options.now) mark.now self.old) }
+    fn refresh_key(
+        &mut self,
+        options: &Options,
+        mark: &Marker,
+        fault: &mut Option<ScanError>,
+    ) -> Result<(), Refused>
+        ensures { Leaves (answered fault.new result) self.new
+            (without_stale_key (options_of options.now) mark.now self.old) }
     {
         let in_flow = self.is_in_flow();
         match &self.key {
@@ -277,7 +291,7 @@ impl Layouts {
                 if !is_stale(options, in_flow, mark, key) {
                     return Ok(());
                 }
-                refuse_required(&self.key)?;
+                refuse_required(&self.key, fault)?;
                 self.key = None;
                 Ok(())
             }
@@ -360,14 +374,21 @@ impl Layouts {
 // Entries of block collections (YAML 1.2.2, 8.1 and 8.2).
 impl Layouts {
     #[tactic(auto, unfolding(granit_machine::specs::Columns::refuse_column))]
-    fn refuse_column(&self, options: &Options, column: usize, mark: Marker) -> Result<(), ScanError>
-        ensures { result ≡ columns.refuse_column (options_of options.now) column mark self.now.columns }
+    fn refuse_column(
+        &self,
+        options: &Options,
+        column: usize,
+        mark: Marker,
+        fault: &mut Option<ScanError>,
+    ) -> Result<(), Refused>
+        ensures { answered fault.new result ≡ columns.refuse_column (options_of options.now) column mark
+            self.now.columns }
     {
         if is_column(self.block_column(), column) {
             return Ok(());
         }
         if options.block_nesting_limit <= self.column_count() {
-            return Err(ScanError::from_kind(mark, ErrorKind::RecursionLimitExceeded));
+            return Err(refuse_at(fault, mark, ErrorKind::RecursionLimitExceeded));
         }
         Ok(())
     }
@@ -393,12 +414,19 @@ impl Layouts {
     ///
     /// `RecursionLimitExceeded` at the mark, where as many columns are open as may be, and `NoMemory`, also in a column
     /// that no text reaches.
-    pub fn enter(&mut self, options: &Options, column: usize, mark: Marker) -> Result<(), ScanError>
-        ensures left { LeavesIfRoom result self.new (columns.with_entry (options_of options.now) column mark self.old) }
+    pub fn enter(
+        &mut self,
+        options: &Options,
+        column: usize,
+        mark: Marker,
+        fault: &mut Option<ScanError>,
+    ) -> Result<(), Refused>
+        ensures left { LeavesIfRoom (answered fault.new result) self.new
+            (columns.with_entry (options_of options.now) column mark self.old) }
         ensures memory { opens_column (options_of options.now) column self.old.columns ≡ false
-            → IfErr result (λ e. e.kind ≡ faults.NoMemory → ⊥) }
+            → IfErr (answered fault.new result) (λ e. e.kind ≡ faults.NoMemory → ⊥) }
     {
-        self.refuse_column(options, column, mark)?;
+        self.refuse_column(options, column, mark, fault)?;
         self.place_entry(column)?;
         Ok(())
     }
@@ -413,12 +441,14 @@ impl Layouts {
         options: &Options,
         column: usize,
         mark: Marker,
-    ) -> Result<(), ScanError>
-        ensures left { LeavesIfRoom result self.new (columns.with_pair (options_of options.now) column mark self.old) }
+        fault: &mut Option<ScanError>,
+    ) -> Result<(), Refused>
+        ensures left { LeavesIfRoom (answered fault.new result) self.new
+            (columns.with_pair (options_of options.now) column mark self.old) }
         ensures memory { opens_column (options_of options.now) column self.old.columns ≡ false
-            → IfErr result (λ e. e.kind ≡ faults.NoMemory → ⊥) }
+            → IfErr (answered fault.new result) (λ e. e.kind ≡ faults.NoMemory → ⊥) }
     {
-        self.refuse_column(options, column, mark)?;
+        self.refuse_column(options, column, mark, fault)?;
         self.place_entry(column)?;
         self.rolled = true;
         self.columns.widen();
@@ -512,12 +542,13 @@ impl Layouts {
     /// # Errors
     ///
     /// `UnclosedFlowCollection` at the innermost one.
-    pub fn refuse_open(&self) -> Result<(), ScanError>
-        ensures { result ≡ reader.refuse_open self.now.brackets }
+    pub fn refuse_open(&self, fault: &mut Option<ScanError>) -> Result<(), Refused>
+        ensures { answered fault.new result ≡ reader.refuse_open self.now.brackets }
     {
         match self.brackets.last() {
             None => Ok(()),
-            Some(open) => Err(ScanError::from_kind(
+            Some(open) => Err(refuse_at(
+                fault,
                 open.mark,
                 ErrorKind::UnclosedFlowCollection {
                     opener: opener_char(open.bracket),
@@ -647,18 +678,19 @@ impl Layouts {
         options: &Options,
         mark: Marker,
         tab: Option<Marker>,
-    ) -> Result<(), ScanError>
-        ensures { result ≡ gaps.refuse_tab (options_of options.now) self.now mark tab }
+        fault: &mut Option<ScanError>,
+    ) -> Result<(), Refused>
+        ensures { answered fault.new result ≡ gaps.refuse_tab (options_of options.now) self.now mark tab }
     {
         match tab {
             None => Ok(()),
             Some(tab) => {
                 if is_question(self.last) && self.is_left(tab.col()) {
-                    return Err(ScanError::from_kind(tab, ErrorKind::TabNotAllowed));
+                    return Err(refuse_at(fault, tab, ErrorKind::TabNotAllowed));
                 }
                 let further = self.rolled || self.is_in_flow() && options.strict_indentation;
                 if tab.col() < tab_column(further, self.columns.innermost()) {
-                    return Err(ScanError::from_kind(mark, ErrorKind::TabInBlockIndentation));
+                    return Err(refuse_at(fault, mark, ErrorKind::TabInBlockIndentation));
                 }
                 Ok(())
             }

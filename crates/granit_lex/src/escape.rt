@@ -5,6 +5,7 @@ ghost use Rattle.granit_lexemes.specs.Decoding as decoding;
 ghost use Rattle.granit_lexemes.specs.QuotedScalar as spec;
 ghost use Rattle.granit_cursor.specs.Reading.{Moves, ReadsAs};
 ghost use Rattle.granit_lex.specs.QuotedCode.{hex_refusal, IsQuotedFault};
+ghost use Rattle.granit_refused.specs.Answered.{answered};
 
 use granit_base::{Marker, as_hex, is_hex};
 use granit_cursor::Cursor;
@@ -13,6 +14,7 @@ use granit_input::Input;
 use granit_lexemes::{
     digit_count, is_high_surrogate, is_low_surrogate, join_surrogates, letter_value,
 };
+use granit_refused::{Refused, refuse_at};
 
 /// Why a missing digit is refused: one of a second half, or another.
 fn hex_kind(second: bool) -> ErrorKind
@@ -31,10 +33,12 @@ fn digits<T: Input>(
     start: Marker,
     second: bool,
     count: u32,
-) -> Result<u32, ScanError>
+    fault: &mut Option<ScanError>,
+) -> Result<u32, Refused>
     requires { count ≤ 8 }
-    ensures here { ReadsAs T.unread cursor.old cursor.new result (spec.digits_or (hex_refusal second) start count 0) }
-    ensures kinds { IfErr result (λ e. IsQuotedFault e.kind) }
+    ensures here { ReadsAs T.unread cursor.old cursor.new (answered fault.new result)
+        (spec.digits_or (hex_refusal second) start count 0) }
+    ensures kinds { IfErr (answered fault.new result) (λ e. IsQuotedFault e.kind) }
     ensures moves { Moves T.unread T.left T.origin cursor.old cursor.new }
 {
     let mut number: u32 = 0;
@@ -42,7 +46,7 @@ fn digits<T: Input>(
         cursor.look(1);
         let digit = cursor.input().peek();
         if !is_hex(digit) {
-            return Err(ScanError::from_kind(start, hex_kind(second)));
+            return Err(refuse_at(fault, start, hex_kind(second)));
         }
         number = number * 16 + as_hex(digit);
         cursor.step();
@@ -56,23 +60,24 @@ fn second_half<T: Input>(
     cursor: &mut Cursor<T>,
     start: Marker,
     high: u32,
-) -> Result<char, ScanError>
+    fault: &mut Option<ScanError>,
+) -> Result<char, Refused>
     requires { IsTrue (decoding.is_high high) }
-    ensures here { ReadsAs T.unread cursor.old cursor.new result (spec.second_half_or start high) }
-    ensures kinds { IfErr result (λ e. IsQuotedFault e.kind) }
+    ensures here { ReadsAs T.unread cursor.old cursor.new (answered fault.new result) (spec.second_half_or start high) }
+    ensures kinds { IfErr (answered fault.new result) (λ e. IsQuotedFault e.kind) }
     ensures moves { Moves T.unread T.left T.origin cursor.old cursor.new }
 {
     cursor.look(2);
     if cursor.input().peek() == '\\' && cursor.input().peek_nth(1) == 'u' {
         cursor.step();
         cursor.step();
-        let low = digits(cursor, start, true, 4)?;
+        let low = digits(cursor, start, true, 4, fault)?;
         return match join_surrogates(high, low) {
             Some(c) => Ok(c),
-            None => Err(ScanError::from_kind(start, ErrorKind::InvalidLowSurrogate)),
+            None => Err(refuse_at(fault, start, ErrorKind::InvalidLowSurrogate)),
         };
     }
-    Err(ScanError::from_kind(start, ErrorKind::MissingLowSurrogate))
+    Err(refuse_at(fault, start, ErrorKind::MissingLowSurrogate))
 }
 
 /// What a number of so many digits stands for.
@@ -82,26 +87,34 @@ fn numbered<T: Input>(
     start: Marker,
     count: u32,
     number: u32,
-) -> Result<char, ScanError>
-    ensures here { ReadsAs T.unread cursor.old cursor.new result (spec.numbered_or start count number) }
-    ensures kinds { IfErr result (λ e. IsQuotedFault e.kind) }
+    fault: &mut Option<ScanError>,
+) -> Result<char, Refused>
+    ensures here { ReadsAs T.unread cursor.old cursor.new (answered fault.new result)
+        (spec.numbered_or start count number) }
+    ensures kinds { IfErr (answered fault.new result) (λ e. IsQuotedFault e.kind) }
     ensures moves { Moves T.unread T.left T.origin cursor.old cursor.new }
 {
     match char::from_u32(number) {
         Some(c) => Ok(c),
-        None if count == 4 && is_high_surrogate(number) => second_half(cursor, start, number),
+        None if count == 4 && is_high_surrogate(number) => second_half(
+            cursor, start, number, fault,
+        ),
         None if count == 4 && is_low_surrogate(number) => {
-            Err(ScanError::from_kind(start, ErrorKind::UnpairedLowSurrogate))
+            Err(refuse_at(fault, start, ErrorKind::UnpairedLowSurrogate))
         }
-        None => Err(ScanError::from_kind(start, ErrorKind::InvalidUnicodeEscape)),
+        None => Err(refuse_at(fault, start, ErrorKind::InvalidUnicodeEscape)),
     }
 }
 
 /// The character that an escape stands for, from its letter on (YAML 1.2.2, 5.7).
 #[tactic(auto, unfolding(granit_lexemes::specs::QuotedScalar::escape_or))]
-pub(crate) fn escape<T: Input>(cursor: &mut Cursor<T>, start: Marker) -> Result<char, ScanError>
-    ensures here { ReadsAs T.unread cursor.old cursor.new result (spec.escape_or start) }
-    ensures kinds { IfErr result (λ e. IsQuotedFault e.kind) }
+pub(crate) fn escape<T: Input>(
+    cursor: &mut Cursor<T>,
+    start: Marker,
+    fault: &mut Option<ScanError>,
+) -> Result<char, Refused>
+    ensures here { ReadsAs T.unread cursor.old cursor.new (answered fault.new result) (spec.escape_or start) }
+    ensures kinds { IfErr (answered fault.new result) (λ e. IsQuotedFault e.kind) }
     ensures moves { Moves T.unread T.left T.origin cursor.old cursor.new }
 {
     cursor.look(1);
@@ -113,9 +126,9 @@ pub(crate) fn escape<T: Input>(cursor: &mut Cursor<T>, start: Marker) -> Result<
     match digit_count(letter) {
         Some(count) => {
             cursor.step();
-            let number = digits(cursor, start, false, count)?;
-            numbered(cursor, start, count, number)
+            let number = digits(cursor, start, false, count, fault)?;
+            numbered(cursor, start, count, number, fault)
         }
-        None => Err(ScanError::from_kind(start, ErrorKind::UnknownQuotedScalarEscape)),
+        None => Err(refuse_at(fault, start, ErrorKind::UnknownQuotedScalarEscape)),
     }
 }

@@ -5,11 +5,13 @@ ghost use Rattle.granit_lexemes.specs.Here.{next_char, mark_of};
 ghost use Rattle.granit_cursor.specs.Reading.{Moves, Wherever};
 ghost use Rattle.granit_cursor.specs.Tokens.{layout_data};
 ghost use Rattle.granit_lex.specs.LineCode.{PassesWord, WordTakes, PassesLine};
+ghost use Rattle.granit_refused.specs.Answered.{answered};
 
 use granit_base::Marker;
 use granit_cursor::{Cursor, Layout, lent_since};
 use granit_error::ScanError;
 use granit_input::{BorrowedInput, Input};
+use granit_refused::{Refused, refuse};
 
 /// The first line of a plain scalar.
 #[derive(Drop)]
@@ -52,11 +54,12 @@ pub(crate) fn pass_line<'input, T: BorrowedInput<'input>>(
     at: &Layout,
     start: Marker,
     from: usize,
-) -> Result<Line<'input>, ScanError>
+    fault: &mut Option<ScanError>,
+) -> Result<Line<'input>, Refused>
     ensures here { Wherever T.unread cursor.old cursor.new (λ h Lands.
         h.unread.lends ≡ true → Some from ≡ h.unread.offset → start ≡ mark_of h
-        → PassesLine (layout_data at.now) start h result Lands) }
-    ensures kinds { IfErr result (λ e. e.kind ≡ InputSlicingUnavailable) }
+        → PassesLine (layout_data at.now) start h (answered fault.new result) Lands) }
+    ensures kinds { IfErr (answered fault.new result) (λ e. e.kind ≡ InputSlicingUnavailable) }
     ensures moves { Moves T.unread T.left T.origin cursor.old cursor.new }
 {
     let mut line = Line {
@@ -72,7 +75,7 @@ pub(crate) fn pass_line<'input, T: BorrowedInput<'input>>(
         }
         line.front = match lent_since(cursor, from) {
             Ok(front) => front,
-            Err(e) => return Err(e),
+            Err(error) => return Err(refuse(fault, error)),
         };
         line.end = cursor.mark();
     }

@@ -24,6 +24,7 @@ ghost use Rattle.granit_lex.specs.PlainCode.{nothing_taken, TakesSome, TurnsTo, 
 ghost use Rattle.granit_lex.specs.PlainCode.{cuts_at, ended_plain, copied_plain};
 ghost use Rattle.granit_lex.specs.WithoutMemory.{EndsHere, OnlyBlanks, StaysBlank, WithoutMemoryAt};
 ghost use Rattle.granit_lex.specs.WithoutMemory.{plain_takes_none};
+ghost use Rattle.granit_refused.specs.Answered.{answered};
 
 use crate::line::{Line, pass_line};
 use granit_base::{
@@ -35,6 +36,7 @@ use granit_cursor::{
 };
 use granit_error::{ErrorKind, ScanError};
 use granit_input::{BorrowedInput, Input, find_unprintable};
+use granit_refused::{Refused, refuse_at, take_fault};
 use std::alloc::Global;
 use std::marker::Model;
 
@@ -84,9 +86,10 @@ fn lexed_plain<'input, T: BorrowedInput<'input>>(
 {
     let start = cursor.mark();
     let mut read = PlainScalar::room(start);
-    match read_plain(alloc, cursor, at, &mut read) {
+    let mut fault: Option<ScanError> = None;
+    match read_plain(alloc, cursor, at, &mut read, &mut fault) {
         Ok(()) => Ok(read.into_lexed(start)),
-        Err(e) => Err(e),
+        Err(refused) => Err(take_fault(refused, &mut fault)),
     }
 }
 
@@ -310,18 +313,19 @@ fn take_turn<T: Input>(
     at: &Layout,
     start: Marker,
     parts: &mut PlainParts,
-) -> Result<bool, ScanError>
+    fault: &mut Option<ScanError>,
+) -> Result<bool, Refused>
     ensures here { Wherever T.unread cursor.old cursor.new (λ h Lands.
-        TurnsTo (layout_data at.now) start result Lands parts.new
+        TurnsTo (layout_data at.now) start (answered fault.new result) Lands parts.new
         (plain_whole (layout_data at.now) start parts.old h)) }
-    ensures left { TurnTakes result (T.left cursor.old.input) (T.left cursor.new.input) }
-    ensures kinds { IfErr result (λ e. (e.kind ≡ OutOfMemory) ⊎ (e.kind ≡ TabInPlainScalar)) }
+    ensures left { TurnTakes (answered fault.new result) (T.left cursor.old.input) (T.left cursor.new.input) }
+    ensures kinds { IfErr (answered fault.new result) (λ e. (e.kind ≡ OutOfMemory) ⊎ (e.kind ≡ TabInPlainScalar)) }
     ensures tab { (h : Here) → Stands T.unread cursor.old h
         → ahead_of (layout_data at.now) (plain_state parts.old h) ≡ Tab
-        → IfErr result (λ e. e.kind ≡ TabInPlainScalar) }
+        → IfErr (answered fault.new result) (λ e. e.kind ≡ TabInPlainScalar) }
     ensures memory { (h : Here) → Stands T.unread cursor.old h
         → OnlyBlanks (layout_data at.now) start (plain_state parts.old h)
-        → StaysBlank start result cursor.new.place parts.new }
+        → StaysBlank start (answered fault.new result) cursor.new.place parts.new }
     ensures moves { Moves T.unread T.left T.origin cursor.old cursor.new }
 {
     match look_ahead(cursor, at, parts) {
@@ -333,7 +337,7 @@ fn take_turn<T: Input>(
             take_break(cursor, parts)?;
             Ok(true)
         }
-        Ahead::Tab => Err(ScanError::from_kind(start, ErrorKind::TabInPlainScalar)),
+        Ahead::Tab => Err(refuse_at(fault, start, ErrorKind::TabInPlainScalar)),
         Ahead::Content => {
             take_content(cursor, at.in_flow, parts)?;
             Ok(true)
@@ -361,16 +365,18 @@ fn plain_parts<T: Input>(
     at: &Layout,
     start: Marker,
     parts: PlainParts,
-) -> Result<PlainParts, ScanError>
+    fault: &mut Option<ScanError>,
+) -> Result<PlainParts, Refused>
     ensures here { Wherever T.unread cursor.old cursor.new (λ h Lands.
-        PartsTo result Lands (plain_whole (layout_data at.now) start parts h)) }
-    ensures kinds { IfErr result (λ e. (e.kind ≡ OutOfMemory) ⊎ (e.kind ≡ TabInPlainScalar)) }
+        PartsTo (answered fault.new result) Lands (plain_whole (layout_data at.now) start parts h)) }
+    ensures kinds { IfErr (answered fault.new result) (λ e. (e.kind ≡ OutOfMemory) ⊎ (e.kind ≡ TabInPlainScalar)) }
     ensures memory { (h : Here) → Stands T.unread cursor.old h
-        → OnlyBlanks (layout_data at.now) start (plain_state parts h) → IfErr result (λ e. ¬ (e.kind ≡ OutOfMemory)) }
+        → OnlyBlanks (layout_data at.now) start (plain_state parts h)
+        → IfErr (answered fault.new result) (λ e. ¬ (e.kind ≡ OutOfMemory)) }
     ensures moves { Moves T.unread T.left T.origin cursor.old cursor.new }
 {
     let mut parts = parts;
-    'turns: while take_turn(cursor, at, start, &mut parts)? {}
+    'turns: while take_turn(cursor, at, start, &mut parts, fault)? {}
     Ok(parts)
 }
 
@@ -405,20 +411,22 @@ fn finish_plain<'input, T: Input>(
     start: Marker,
     cuts: bool,
     read: &mut PlainScalar<'input>,
-) -> Result<(), ScanError>
+    fault: &mut Option<ScanError>,
+) -> Result<(), Refused>
     ensures here { Wherever T.unread cursor.old cursor.new (λ h Lands.
-        GivesTo (λ _. plain_from start read.new) result Lands (coded plain_lexed
+        GivesTo (λ _. plain_from start read.new) (answered fault.new result) Lands (coded plain_lexed
         (ended_plain (layout_data at.now) start read.old.text read.old.end read.old.on_new_line cuts h))) }
-    ensures kinds { IfErr result (λ e. (c : ℕ) × (e.kind ≡ UnexpectedCharacter c)) }
+    ensures kinds { IfErr (answered fault.new result) (λ e. (c : ℕ) × (e.kind ≡ UnexpectedCharacter c)) }
     ensures moves { Moves T.unread T.left T.origin cursor.old cursor.new }
 {
     if let Some(character) = find_unprintable(read.text.as_str()) {
-        return Err(ScanError::from_kind(start, ErrorKind::UnexpectedCharacter { character }));
+        return Err(refuse_at(fault, start, ErrorKind::UnexpectedCharacter { character }));
     }
     cursor.look(1);
     let character = cursor.input().peek();
     if !cursor.input().next_is_z() && !is_printable(character) {
-        return Err(ScanError::from_kind(
+        return Err(refuse_at(
+            fault,
             cursor.mark(),
             ErrorKind::UnexpectedCharacter { character },
         ));
@@ -466,23 +474,25 @@ fn read_passed<'input, T: Input>(
     start: Marker,
     line: &Line<'input>,
     read: &mut PlainScalar<'input>,
-) -> Result<(), ScanError>
+    fault: &mut Option<ScanError>,
+) -> Result<(), Refused>
     ensures here { Wherever T.unread cursor.old cursor.new (λ h Lands.
-        GivesTo (λ _. plain_from start read.new) result Lands (coded plain_lexed
+        GivesTo (λ _. plain_from start read.new) (answered fault.new result) Lands (coded plain_lexed
         (line_scalar (layout_data at.now) start (chars line.now.front.now) line.now.end line.now.blank h))) }
-    ensures kinds { IfErr result (λ e. IsPlainKind e.kind) }
+    ensures kinds { IfErr (answered fault.new result) (λ e. IsPlainKind e.kind) }
     ensures memory { (h : Here) → Stands T.unread cursor.old h → start.place.line ≡ h.place.line
-        → EndsHere (layout_data at.now) start line.now.end h → IfErr result (λ e. ¬ (e.kind ≡ OutOfMemory)) }
+        → EndsHere (layout_data at.now) start line.now.end h
+        → IfErr (answered fault.new result) (λ e. ¬ (e.kind ≡ OutOfMemory)) }
     ensures moves { Moves T.unread T.left T.origin cursor.old cursor.new }
 {
     if !at_break(cursor) {
         read.text = Text::borrowed(line.front);
         read.end = line.end;
         read.on_new_line = false;
-        return finish_plain(cursor, at, start, line.blank, read);
+        return finish_plain(cursor, at, start, line.blank, read, fault);
     }
     past_break(cursor);
-    read_further(alloc, cursor, at, start, line, read)
+    read_further(alloc, cursor, at, start, line, read, fault)
 }
 
 /// A scalar whose first line and the break behind it were passed.
@@ -493,24 +503,25 @@ fn read_further<'input, T: Input>(
     start: Marker,
     line: &Line<'input>,
     read: &mut PlainScalar<'input>,
-) -> Result<(), ScanError>
+    fault: &mut Option<ScanError>,
+) -> Result<(), Refused>
     ensures here { Wherever T.unread cursor.old cursor.new (λ h Lands.
-        GivesTo (λ _. plain_from start read.new) result Lands (coded plain_lexed
+        GivesTo (λ _. plain_from start read.new) (answered fault.new result) Lands (coded plain_lexed
         (further_scalar (layout_data at.now) start (chars line.now.front.now) line.now.end h))) }
-    ensures kinds { IfErr result (λ e. IsPlainKind e.kind) }
+    ensures kinds { IfErr (answered fault.new result) (λ e. IsPlainKind e.kind) }
     ensures memory { (h : Here) → Stands T.unread cursor.old h
         → OnlyBlanks (layout_data at.now) start (broken_state line.now.end h)
-        → IfErr result (λ e. ¬ (e.kind ≡ OutOfMemory)) }
+        → IfErr (answered fault.new result) (λ e. ¬ (e.kind ≡ OutOfMemory)) }
     ensures moves { Moves T.unread T.left T.origin cursor.old cursor.new }
 {
-    let parts = plain_parts(cursor, at, start, no_parts(alloc, line.end, true))?;
+    let parts = plain_parts(cursor, at, start, no_parts(alloc, line.end, true), fault)?;
     let is_one_line = start.line() == parts.end.line();
     let text = text_of_lines(alloc, is_one_line, line.front, parts.value.as_str())?;
     let ended = end_of(&parts);
     read.text = text;
     read.end = ended.end;
     read.on_new_line = ended.on_new_line;
-    finish_plain(cursor, at, start, ended.cuts, read)
+    finish_plain(cursor, at, start, ended.cuts, read, fault)
 }
 
 /// A scalar whose text is copied.
@@ -520,19 +531,20 @@ fn read_copied<'input, T: Input>(
     at: &Layout,
     start: Marker,
     read: &mut PlainScalar<'input>,
-) -> Result<(), ScanError>
+    fault: &mut Option<ScanError>,
+) -> Result<(), Refused>
     ensures here { Wherever T.unread cursor.old cursor.new (λ h Lands. start ≡ mark_of h
-        → GivesTo (λ _. plain_from start read.new) result Lands (coded plain_lexed
+        → GivesTo (λ _. plain_from start read.new) (answered fault.new result) Lands (coded plain_lexed
         (copied_plain (layout_data at.now) h))) }
-    ensures kinds { IfErr result (λ e. IsPlainKind e.kind) }
+    ensures kinds { IfErr (answered fault.new result) (λ e. IsPlainKind e.kind) }
     ensures moves { Moves T.unread T.left T.origin cursor.old cursor.new }
 {
-    let parts = plain_parts(cursor, at, start, no_parts(alloc, start, false))?;
+    let parts = plain_parts(cursor, at, start, no_parts(alloc, start, false), fault)?;
     let ended = end_of(&parts);
     read.text = Text::owned(parts.value);
     read.end = ended.end;
     read.on_new_line = ended.on_new_line;
-    finish_plain(cursor, at, start, ended.cuts, read)
+    finish_plain(cursor, at, start, ended.cuts, read, fault)
 }
 
 /// Whether a `-` directly before a flow indicator is next, in flow.
@@ -556,23 +568,29 @@ pub fn read_plain<'input, T: BorrowedInput<'input>>(
     cursor: &mut Cursor<T>,
     at: &Layout,
     read: &mut PlainScalar<'input>,
-) -> Result<(), ScanError>
+    fault: &mut Option<ScanError>,
+) -> Result<(), Refused>
     ensures here { Wherever T.unread cursor.old cursor.new (λ h Lands.
-        GivesTo (λ _. plain_from (mark_of h) read.new) result Lands
+        GivesTo (λ _. plain_from (mark_of h) read.new) (answered fault.new result) Lands
         (coded plain_lexed (spec.plain_scalar (layout_data at.now) h))) }
-    ensures kinds { IfErr result (λ e. IsPlainKind e.kind) }
-    ensures memory { WithoutMemoryAt T.unread cursor.old result (plain_takes_none (layout_data at.now)) }
+    ensures kinds { IfErr (answered fault.new result) (λ e. IsPlainKind e.kind) }
+    ensures memory { WithoutMemoryAt T.unread cursor.old (answered fault.new result)
+        (plain_takes_none (layout_data at.now)) }
     ensures moves { Moves T.unread T.left T.origin cursor.old cursor.new }
 {
     let start = cursor.mark();
     if at_flow_dash(cursor, at) {
-        return Err(ScanError::from_kind(start, ErrorKind::PlainScalarStartsWithDashFlowIndicator));
+        return Err(refuse_at(
+            fault,
+            start,
+            ErrorKind::PlainScalarStartsWithDashFlowIndicator,
+        ));
     }
     match lending_offset(cursor) {
-        Some(from) => match pass_line(cursor, at, start, from) {
-            Ok(line) => read_passed(alloc, cursor, at, start, &line, read),
-            Err(e) => Err(e),
+        Some(from) => match pass_line(cursor, at, start, from, fault) {
+            Ok(line) => read_passed(alloc, cursor, at, start, &line, read, fault),
+            Err(refused) => Err(refused),
         },
-        None => read_copied(alloc, cursor, at, start, read),
+        None => read_copied(alloc, cursor, at, start, read, fault),
     }
 }

@@ -22,6 +22,7 @@ ghost use Rattle.granit_lex.specs.QuotedCode.{added, escapes, GoesWords, QuotedT
 ghost use Rattle.granit_lex.specs.QuotedCode.{kept_char, kept_chars, nothing_taken, PassesKept};
 ghost use Rattle.granit_lex.specs.QuotedCode.{copied_scalar, passed_scalar};
 ghost use Rattle.granit_lex.specs.WithoutMemory.{WithoutMemoryAt, quoted_takes_none};
+ghost use Rattle.granit_refused.specs.Answered.{answered};
 
 use crate::escape::escape;
 use granit_base::{
@@ -34,6 +35,7 @@ use granit_cursor::{
 };
 use granit_error::{ErrorKind, ScanError};
 use granit_input::{BorrowedInput, Input};
+use granit_refused::{Refused, keep_fault, refuse, refuse_at, take_fault};
 use std::alloc::Global;
 use std::marker::Model;
 
@@ -88,9 +90,10 @@ fn lexed_quoted<'input, T: BorrowedInput<'input>>(
 {
     let start = cursor.mark();
     let mut read = QuotedScalar::room(start);
-    match read_quoted(alloc, cursor, single, at, &mut read) {
+    let mut fault: Option<ScanError> = None;
+    match read_quoted(alloc, cursor, single, at, &mut read, &mut fault) {
         Ok(()) => Ok(read.into_lexed(single, start)),
-        Err(e) => Err(e),
+        Err(refused) => Err(take_fault(refused, &mut fault)),
     }
 }
 
@@ -256,11 +259,13 @@ fn look_ahead<T: Input>(
     at: &Layout,
     start: Marker,
     parts: &QuotedParts,
-) -> Result<Ahead, ScanError>
+    fault: &mut Option<ScanError>,
+) -> Result<Ahead, Refused>
     ensures here { Wherever T.unread cursor.old cursor.new (λ h Lands. Lands h
-        × SeesTo result (quoted_ahead single (layout_data at.now) start (quoted_state parts.now h))) }
-    ensures some { SeesSome result (0 < T.left cursor.new.input) }
-    ensures kinds { IfErr result (λ e. IsQuotedFault e.kind) }
+        × SeesTo (answered fault.new result) (quoted_ahead single (layout_data at.now) start
+        (quoted_state parts.now h))) }
+    ensures some { SeesSome (answered fault.new result) (0 < T.left cursor.new.input) }
+    ensures kinds { IfErr (answered fault.new result) (λ e. IsQuotedFault e.kind) }
     ensures moves { Moves T.unread T.left T.origin cursor.old cursor.new }
 {
     cursor.look(4);
@@ -269,7 +274,7 @@ fn look_ahead<T: Input>(
     let on = parts.on_new_line;
     if is_blank(character) {
         if on && character == '\t' && is_tab_left(at, mark.col()) {
-            return Err(ScanError::from_kind(mark, ErrorKind::TabInIndentation));
+            return Err(refuse_at(fault, mark, ErrorKind::TabInIndentation));
         }
         return Ok(Ahead::Blank);
     }
@@ -277,20 +282,20 @@ fn look_ahead<T: Input>(
         return Ok(Ahead::Break);
     }
     if on && is_strictly_left(at, parts.escaped, mark.col()) {
-        return Err(ScanError::from_kind(mark, ErrorKind::InvalidIndentation));
+        return Err(refuse_at(fault, mark, ErrorKind::InvalidIndentation));
     }
     let closing = is_closing(cursor, single);
     if on && is_loosely_left(at, parts.escaped, closing, mark.col()) {
-        return Err(ScanError::from_kind(mark, ErrorKind::InvalidQuotedScalarIndent));
+        return Err(refuse_at(fault, mark, ErrorKind::InvalidQuotedScalarIndent));
     }
     if on && mark.col() == 0 && cursor.input().next_is_document_indicator() {
-        return Err(ScanError::from_kind(start, ErrorKind::DocumentIndicatorInQuotedScalar));
+        return Err(refuse_at(fault, start, ErrorKind::DocumentIndicatorInQuotedScalar));
     }
     if cursor.input().next_is_z() {
-        return Err(ScanError::from_kind(start, ErrorKind::UnclosedQuotedScalar));
+        return Err(refuse_at(fault, start, ErrorKind::UnclosedQuotedScalar));
     }
     if !is_printable(character) {
-        return Err(ScanError::from_kind(mark, ErrorKind::UnexpectedCharacter { character }));
+        return Err(refuse_at(fault, mark, ErrorKind::UnexpectedCharacter { character }));
     }
     Ok(if closing { Ahead::End } else { Ahead::Content })
 }
@@ -350,10 +355,11 @@ fn read_content<T: Input>(
     cursor: &mut Cursor<T>,
     single: bool,
     start: Marker,
-) -> Result<Option<char>, ScanError>
-    ensures here { ReadsAs T.unread cursor.old cursor.new result (content_read single start) }
+    fault: &mut Option<ScanError>,
+) -> Result<Option<char>, Refused>
+    ensures here { ReadsAs T.unread cursor.old cursor.new (answered fault.new result) (content_read single start) }
     ensures left { OnOk result (T.left cursor.new.input ≤ T.left cursor.old.input - 1) }
-    ensures kinds { IfErr result (λ e. IsQuotedFault e.kind) }
+    ensures kinds { IfErr (answered fault.new result) (λ e. IsQuotedFault e.kind) }
     ensures moves { Moves T.unread T.left T.origin cursor.old cursor.new }
 {
     cursor.look(2);
@@ -370,7 +376,7 @@ fn read_content<T: Input>(
     if is_break(next) {
         return Ok(None);
     }
-    let escaped = escape(cursor, start)?;
+    let escaped = escape(cursor, start, fault)?;
     Ok(Some(escaped))
 }
 
@@ -401,14 +407,15 @@ fn take_content<T: Input>(
     single: bool,
     start: Marker,
     parts: &mut QuotedParts,
-) -> Result<(), ScanError>
-    ensures here { Wherever T.unread cursor.old cursor.new (λ h Lands. TakesContent result Lands
+    fault: &mut Option<ScanError>,
+) -> Result<(), Refused>
+    ensures here { Wherever T.unread cursor.old cursor.new (λ h Lands. TakesContent (answered fault.new result) Lands
         parts.old.value (quoted_state parts.old h) parts.new (content_read single start h)) }
     ensures left { OnOk result (T.left cursor.new.input ≤ T.left cursor.old.input - 1) }
-    ensures kinds { IfErr result (λ e. IsQuotedKind e.kind) }
+    ensures kinds { IfErr (answered fault.new result) (λ e. IsQuotedKind e.kind) }
     ensures moves { Moves T.unread T.left T.origin cursor.old cursor.new }
 {
-    let content = read_content(cursor, single, start)?;
+    let content = read_content(cursor, single, start, fault)?;
     push_content(parts, content)?;
     Ok(())
 }
@@ -437,14 +444,15 @@ fn take_turn<T: Input>(
     at: &Layout,
     start: Marker,
     parts: &mut QuotedParts,
-) -> Result<bool, ScanError>
+    fault: &mut Option<ScanError>,
+) -> Result<bool, Refused>
     ensures here { Wherever T.unread cursor.old cursor.new (λ h Lands. QuotedTurnsTo single (layout_data at.now) start
-        result Lands parts.new (quoted_whole single (layout_data at.now) start parts.old h)) }
-    ensures left { TurnTakes result (T.left cursor.old.input) (T.left cursor.new.input) }
-    ensures kinds { IfErr result (λ e. IsQuotedKind e.kind) }
+        (answered fault.new result) Lands parts.new (quoted_whole single (layout_data at.now) start parts.old h)) }
+    ensures left { TurnTakes (answered fault.new result) (T.left cursor.old.input) (T.left cursor.new.input) }
+    ensures kinds { IfErr (answered fault.new result) (λ e. IsQuotedKind e.kind) }
     ensures moves { Moves T.unread T.left T.origin cursor.old cursor.new }
 {
-    match look_ahead(cursor, single, at, start, parts)? {
+    match look_ahead(cursor, single, at, start, parts, fault)? {
         Ahead::Blank => {
             take_blank(cursor, parts)?;
             Ok(true)
@@ -454,7 +462,7 @@ fn take_turn<T: Input>(
             Ok(true)
         }
         Ahead::Content => {
-            take_content(cursor, single, start, parts)?;
+            take_content(cursor, single, start, parts, fault)?;
             take_words(cursor, single, parts)?;
             Ok(true)
         }
@@ -505,14 +513,15 @@ fn quoted_parts<T: Input>(
     at: &Layout,
     start: Marker,
     parts: QuotedParts,
-) -> Result<QuotedParts, ScanError>
+    fault: &mut Option<ScanError>,
+) -> Result<QuotedParts, Refused>
     ensures here { Wherever T.unread cursor.old cursor.new (λ h Lands.
-        QuotedPartsTo result Lands (quoted_whole single (layout_data at.now) start parts h)) }
-    ensures kinds { IfErr result (λ e. IsQuotedKind e.kind) }
+        QuotedPartsTo (answered fault.new result) Lands (quoted_whole single (layout_data at.now) start parts h)) }
+    ensures kinds { IfErr (answered fault.new result) (λ e. IsQuotedKind e.kind) }
     ensures moves { Moves T.unread T.left T.origin cursor.old cursor.new }
 {
     let mut parts = parts;
-    'turns: while take_turn(cursor, single, at, start, &mut parts)? {}
+    'turns: while take_turn(cursor, single, at, start, &mut parts, fault)? {}
     Ok(parts)
 }
 
@@ -545,11 +554,12 @@ fn behind_quoted<'input, T: Input>(
     at: &Layout,
     start: Marker,
     read: &mut QuotedScalar<'input>,
-) -> Result<(), ScanError>
+    fault: &mut Option<ScanError>,
+) -> Result<(), Refused>
     ensures here { Wherever T.unread cursor.old cursor.new (λ h Lands.
-        GivesTo (λ _. quoted_from single start read.new) result Lands (coded (quoted_lexed single)
+        GivesTo (λ _. quoted_from single start read.new) (answered fault.new result) Lands (coded (quoted_lexed single)
         (spec.behind_quoted single (layout_data at.now) start read.old.text read.old.end h))) }
-    ensures kinds { IfErr result (λ e. IsQuotedFault e.kind) }
+    ensures kinds { IfErr (answered fault.new result) (λ e. IsQuotedFault e.kind) }
     ensures moves { Moves T.unread T.left T.origin cursor.old cursor.new }
 {
     cursor.look(1);
@@ -557,10 +567,10 @@ fn behind_quoted<'input, T: Input>(
     let mark = cursor.mark();
     if !cursor.input().next_is_z() {
         if !is_printable(character) {
-            return Err(ScanError::from_kind(mark, ErrorKind::UnexpectedCharacter { character }));
+            return Err(refuse_at(fault, mark, ErrorKind::UnexpectedCharacter { character }));
         }
         if !may_trail(at, mark.line() == start.line(), character) {
-            return Err(ScanError::from_kind(mark, trailing_kind(single)));
+            return Err(refuse_at(fault, mark, trailing_kind(single)));
         }
     }
     read.comment = None;
@@ -574,19 +584,21 @@ fn comment_behind<'input, T: BorrowedInput<'input>>(
     cursor: &mut Cursor<T>,
     at: &Layout,
     comment: &mut Option<Remark<'input>>,
-) -> Result<(), ScanError>
+    fault: &mut Option<ScanError>,
+) -> Result<(), Refused>
     ensures here { Wherever T.unread cursor.old cursor.new (λ h Lands.
-        GivesTo (λ _. option_map remark_token comment.new) result Lands (asked (layout_data at.now) h)) }
-    ensures kinds { IfErr result (λ e. IsQuotedKind e.kind) }
-    ensures lent { LendsWithoutMemory T.unread cursor.old result }
+        GivesTo (λ _. option_map remark_token comment.new) (answered fault.new result) Lands
+        (asked (layout_data at.now) h)) }
+    ensures kinds { IfErr (answered fault.new result) (λ e. IsQuotedKind e.kind) }
+    ensures lent { LendsWithoutMemory T.unread cursor.old (answered fault.new result) }
     ensures moves { Moves T.unread T.left T.origin cursor.old cursor.new }
 {
     if at.comments {
-        let token = read_comment(alloc, cursor)?;
+        let token = keep_fault(fault, read_comment(alloc, cursor))?;
         *comment = remark_of(token);
         return Ok(());
     }
-    pass_comment(cursor)?;
+    keep_fault(fault, pass_comment(cursor))?;
     *comment = None;
     Ok(())
 }
@@ -600,26 +612,27 @@ fn quoted_tail<'input, T: BorrowedInput<'input>>(
     at: &Layout,
     start: Marker,
     read: &mut QuotedScalar<'input>,
-) -> Result<(), ScanError>
+    fault: &mut Option<ScanError>,
+) -> Result<(), Refused>
     ensures here { Wherever T.unread cursor.old cursor.new (λ h Lands.
-        GivesTo (λ _. quoted_from single start read.new) result Lands (coded (quoted_lexed single)
+        GivesTo (λ _. quoted_from single start read.new) (answered fault.new result) Lands (coded (quoted_lexed single)
         (spec.quoted_tail single (layout_data at.now) start read.old.text h))) }
-    ensures kinds { IfErr result (λ e. IsQuotedKind e.kind) }
-    ensures lent { LendsWithoutMemory T.unread cursor.old result }
+    ensures kinds { IfErr (answered fault.new result) (λ e. IsQuotedKind e.kind) }
+    ensures lent { LendsWithoutMemory T.unread cursor.old (answered fault.new result) }
     ensures moves { Moves T.unread T.left T.origin cursor.old cursor.new }
 {
     cursor.look(1);
     if cursor.input().peek() == '#' {
-        return Err(ScanError::from_kind(cursor.mark(), ErrorKind::CommentNotSeparated));
+        return Err(refuse_at(fault, cursor.mark(), ErrorKind::CommentNotSeparated));
     }
     read.end = cursor.mark();
     past_blanks(cursor);
     cursor.look(1);
     if cursor.input().peek() == '#' {
-        comment_behind(alloc, cursor, at, &mut read.comment)?;
+        comment_behind(alloc, cursor, at, &mut read.comment, fault)?;
         return Ok(());
     }
-    behind_quoted(cursor, single, at, start, read)
+    behind_quoted(cursor, single, at, start, read, fault)
 }
 
 /// On over blanks and characters that stand for themselves.
@@ -648,9 +661,11 @@ fn is_nothing(content: usize, blanks: usize) -> bool
 fn pass_kept<'input, T: BorrowedInput<'input>>(
     cursor: &mut Cursor<T>,
     single: bool,
-) -> Result<Option<&'input str>, ScanError>
-    ensures here { Wherever T.unread cursor.old cursor.new (λ h Lands. PassesKept single h result Lands) }
-    ensures kinds { IfErr result (λ e. e.kind ≡ InputSlicingUnavailable) }
+    fault: &mut Option<ScanError>,
+) -> Result<Option<&'input str>, Refused>
+    ensures here { Wherever T.unread cursor.old cursor.new
+        (λ h Lands. PassesKept single h (answered fault.new result) Lands) }
+    ensures kinds { IfErr (answered fault.new result) (λ e. e.kind ≡ InputSlicingUnavailable) }
     ensures moves { Moves T.unread T.left T.origin cursor.old cursor.new }
 {
     match lending_offset(cursor) {
@@ -658,7 +673,7 @@ fn pass_kept<'input, T: BorrowedInput<'input>>(
             skip_kept(cursor, single);
             match lent_since(cursor, start) {
                 Ok(text) => Ok(Some(text)),
-                Err(e) => Err(e),
+                Err(error) => Err(refuse(fault, error)),
             }
         }
         None => Ok(None),
@@ -684,19 +699,20 @@ fn read_copied<'input, T: BorrowedInput<'input>>(
     start: Marker,
     front: &str,
     read: &mut QuotedScalar<'input>,
-) -> Result<(), ScanError>
+    fault: &mut Option<ScanError>,
+) -> Result<(), Refused>
     ensures here { Wherever T.unread cursor.old cursor.new (λ h Lands.
-        GivesTo (λ _. quoted_from single start read.new) result Lands (coded (quoted_lexed single)
+        GivesTo (λ _. quoted_from single start read.new) (answered fault.new result) Lands (coded (quoted_lexed single)
         (copied_scalar single (layout_data at.now) start (chars front.now) h))) }
-    ensures kinds { IfErr result (λ e. IsQuotedKind e.kind) }
+    ensures kinds { IfErr (answered fault.new result) (λ e. IsQuotedKind e.kind) }
     ensures moves { Moves T.unread T.left T.origin cursor.old cursor.new }
 {
     let behind = parts_behind(alloc, front)?;
-    let mut parts = quoted_parts(cursor, single, at, start, behind)?;
+    let mut parts = quoted_parts(cursor, single, at, start, behind, fault)?;
     cursor.step();
     push_between(&mut parts)?;
     read.text = Text::owned(parts.value);
-    quoted_tail(alloc, cursor, single, at, start, read)
+    quoted_tail(alloc, cursor, single, at, start, read, fault)
 }
 
 /// A scalar behind its opening quote and the characters that were passed, which are its text where the closing
@@ -709,21 +725,23 @@ fn read_passed<'input, T: BorrowedInput<'input>>(
     start: Marker,
     front: &'input str,
     read: &mut QuotedScalar<'input>,
-) -> Result<(), ScanError>
+    fault: &mut Option<ScanError>,
+) -> Result<(), Refused>
     ensures here { Wherever T.unread cursor.old cursor.new (λ h Lands.
-        GivesTo (λ _. quoted_from single start read.new) result Lands (coded (quoted_lexed single)
+        GivesTo (λ _. quoted_from single start read.new) (answered fault.new result) Lands (coded (quoted_lexed single)
         (passed_scalar single (layout_data at.now) start (chars front.now) h))) }
-    ensures kinds { IfErr result (λ e. IsQuotedKind e.kind) }
+    ensures kinds { IfErr (answered fault.new result) (λ e. IsQuotedKind e.kind) }
     ensures memory { (h : Here) → Stands T.unread cursor.old h → h.unread.lends ≡ true
-        → spec.is_closing single h.unread.text ≡ true → IfErr result (λ e. ¬ (e.kind ≡ OutOfMemory)) }
+        → spec.is_closing single h.unread.text ≡ true
+        → IfErr (answered fault.new result) (λ e. ¬ (e.kind ≡ OutOfMemory)) }
     ensures moves { Moves T.unread T.left T.origin cursor.old cursor.new }
 {
     if at_closing(cursor, single) {
         cursor.step();
         read.text = Text::borrowed(front);
-        return quoted_tail(alloc, cursor, single, at, start, read);
+        return quoted_tail(alloc, cursor, single, at, start, read, fault);
     }
-    read_copied(alloc, cursor, single, at, start, front, read)
+    read_copied(alloc, cursor, single, at, start, front, read, fault)
 }
 
 /// The quoted scalar that begins here, and the comment behind it, are read into a place that has room for them.
@@ -737,19 +755,20 @@ pub fn read_quoted<'input, T: BorrowedInput<'input>>(
     single: bool,
     at: &Layout,
     read: &mut QuotedScalar<'input>,
-) -> Result<(), ScanError>
+    fault: &mut Option<ScanError>,
+) -> Result<(), Refused>
     ensures here { Wherever T.unread cursor.old cursor.new (λ h Lands.
-        GivesTo (λ _. quoted_from single (mark_of h) read.new) result Lands
+        GivesTo (λ _. quoted_from single (mark_of h) read.new) (answered fault.new result) Lands
         (coded (quoted_lexed single) (spec.quoted_scalar single (layout_data at.now) h))) }
-    ensures kinds { IfErr result (λ e. IsQuotedKind e.kind) }
-    ensures memory { WithoutMemoryAt T.unread cursor.old result (quoted_takes_none single) }
+    ensures kinds { IfErr (answered fault.new result) (λ e. IsQuotedKind e.kind) }
+    ensures memory { WithoutMemoryAt T.unread cursor.old (answered fault.new result) (quoted_takes_none single) }
     ensures moves { Moves T.unread T.left T.origin cursor.old cursor.new }
 {
     let start = cursor.mark();
     cursor.step();
-    match pass_kept(cursor, single) {
-        Ok(Some(front)) => read_passed(alloc, cursor, single, at, start, front, read),
-        Ok(None) => read_copied(alloc, cursor, single, at, start, "", read),
-        Err(e) => Err(e),
+    match pass_kept(cursor, single, fault) {
+        Ok(Some(front)) => read_passed(alloc, cursor, single, at, start, front, read, fault),
+        Ok(None) => read_copied(alloc, cursor, single, at, start, "", read, fault),
+        Err(refused) => Err(refused),
     }
 }

@@ -7,6 +7,7 @@ ghost use Rattle.granit_lexemes.specs.Lexeme as lexemes;
 ghost use Rattle.granit_machine.specs.FlowLexemes as spec;
 ghost use Rattle.granit_machine.specs.Laid as laid;
 ghost use Rattle.granit_content.specs.Reads.{NeverWants, ReadsItems, lexeme_in};
+ghost use Rattle.granit_refused.specs.Answered.{answered};
 
 use granit_content::{sign, tailed};
 use granit_cursor::Cursor;
@@ -15,6 +16,7 @@ use granit_input::BorrowedInput;
 use granit_items::{Lexeme, LexemeKind};
 use granit_layout::Layouts;
 use granit_lexemes::{Bracket, LastLexeme, OpenBracket};
+use granit_refused::{Refused, refuse, refuse_at};
 use std::alloc::Global;
 
 /// An opener with its tail, where one more bracket may be open.
@@ -30,16 +32,19 @@ pub fn opener<'input, T: BorrowedInput<'input>>(
     bracket: Bracket,
     ends: bool,
     found: &mut Lexeme<'input>,
-) -> Result<(), ScanError>
+    fault: &mut Option<ScanError>,
+) -> Result<(), Refused>
     requires room { layouts.old.number < 2 ^ 63 }
     ensures here { ReadsItems T.unread (options_of options.now).emit_comments at.old at.new layouts.new
-        (lexeme_in found.new) result (λ h. spec.opener (options_of options.now) bracket ends h layouts.old) }
-    ensures memory { (options_of options.now).flow_nesting_limit ≤ length layouts.old.brackets → NeverWants result }
+        (lexeme_in found.new) (answered fault.new result)
+        (λ h. spec.opener (options_of options.now) bracket ends h layouts.old) }
+    ensures memory { (options_of options.now).flow_nesting_limit ≤ length layouts.old.brackets
+        → NeverWants (answered fault.new result) }
     ensures moves { Moves T.unread T.left T.origin at.old at.new }
 {
     let mark = at.mark();
     if options.flow_nesting_limit <= layouts.depth() {
-        return Err(ScanError::from_kind(mark, ErrorKind::RecursionLimitExceeded));
+        return Err(refuse_at(fault, mark, ErrorKind::RecursionLimitExceeded));
     }
     sign(at, layouts, ends, LexemeKind::Open(bracket), found);
     layouts.open(bracket, mark)?;
@@ -50,6 +55,7 @@ pub fn opener<'input, T: BorrowedInput<'input>>(
         layouts,
         LastLexeme::Opener,
         found,
+        fault,
     )
 }
 
@@ -65,17 +71,26 @@ pub fn comma<'input, T: BorrowedInput<'input>>(
     layouts: &mut Layouts,
     ends: bool,
     found: &mut Lexeme<'input>,
-) -> Result<(), ScanError>
+    fault: &mut Option<ScanError>,
+) -> Result<(), Refused>
     requires room { layouts.old.number < 2 ^ 63 }
     ensures here { ReadsItems T.unread (options_of options.now).emit_comments at.old at.new layouts.new
-        (lexeme_in found.new) result (λ h. spec.comma ends h layouts.old) }
-    ensures memory { (options_of options.now).emit_comments ≡ false → NeverWants result }
+        (lexeme_in found.new) (answered fault.new result) (λ h. spec.comma ends h layouts.old) }
+    ensures memory { (options_of options.now).emit_comments ≡ false → NeverWants (answered fault.new result) }
     ensures moves { Moves T.unread T.left T.origin at.old at.new }
 {
     let last = layouts.last_of_comma();
     sign(at, layouts, ends, LexemeKind::Comma, found);
-    layouts.drop_key()?;
-    tailed(alloc, options.emit_comments, at, layouts, last, found)
+    layouts.drop_key(fault)?;
+    tailed(
+        alloc,
+        options.emit_comments,
+        at,
+        layouts,
+        last,
+        found,
+        fault,
+    )
 }
 
 /// A closer of the innermost open bracket, with its tail.
@@ -92,18 +107,19 @@ pub fn closer<'input, T: BorrowedInput<'input>>(
     bracket: Bracket,
     ends: bool,
     found: &mut Lexeme<'input>,
-) -> Result<(), ScanError>
+    fault: &mut Option<ScanError>,
+) -> Result<(), Refused>
     requires room { layouts.old.number < 2 ^ 63 }
     ensures here { ReadsItems T.unread (options_of options.now).emit_comments at.old at.new layouts.new
-        (lexeme_in found.new) result (λ h. spec.closer bracket ends h layouts.old) }
-    ensures memory { (options_of options.now).emit_comments ≡ false → NeverWants result }
+        (lexeme_in found.new) (answered fault.new result) (λ h. spec.closer bracket ends h layouts.old) }
+    ensures memory { (options_of options.now).emit_comments ≡ false → NeverWants (answered fault.new result) }
     ensures moves { Moves T.unread T.left T.origin at.old at.new }
 {
     match layouts.top_bracket() {
-        None => Err(ScanError::from_kind(at.mark(), ErrorKind::MisplacedFlowCollectionEnd)),
+        None => Err(refuse_at(fault, at.mark(), ErrorKind::MisplacedFlowCollectionEnd)),
         Some(innermost) => {
             if !is_same(innermost.bracket, bracket) {
-                return Err(mismatched(innermost, bracket));
+                return Err(refuse(fault, mismatched(innermost, bracket)));
             }
             sign(at, layouts, ends, LexemeKind::Close(bracket), found);
             layouts.close();
@@ -114,6 +130,7 @@ pub fn closer<'input, T: BorrowedInput<'input>>(
                 layouts,
                 LastLexeme::Adjacent,
                 found,
+                fault,
             )
         }
     }

@@ -8,6 +8,7 @@ ghost use Rattle.granit_machine.specs.Columns.{closed_all, ends_all};
 ghost use Rattle.granit_machine.specs.StreamLexemes as spec;
 ghost use Rattle.granit_marks.specs.StreamReads as view;
 ghost use Rattle.granit_content.specs.Reads.{NeverWants, ReadsItems, lexeme_in};
+ghost use Rattle.granit_refused.specs.Answered.{answered};
 
 use granit_base::is_breakz;
 use granit_content::{
@@ -20,6 +21,7 @@ use granit_input::{BorrowedInput, Input};
 use granit_items::{Lexeme, LexemeKind};
 use granit_layout::Layouts;
 use granit_lexemes::LastLexeme;
+use granit_refused::{Refused, keep_fault, refuse_at};
 use std::alloc::Global;
 
 /// The end of the text, where no bracket is open.
@@ -32,14 +34,15 @@ pub fn text_end<T: Input>(
     at: &mut Cursor<T>,
     layouts: &mut Layouts,
     found: &mut Lexeme<'_>,
-) -> Result<(), ScanError>
+    fault: &mut Option<ScanError>,
+) -> Result<(), Refused>
     requires room { layouts.old.number < 2 ^ 63 }
     ensures here { ReadsItems T.unread asked at.old at.new layouts.new
-        (lexeme_in found.new) result (λ h. spec.text_end h layouts.old) }
-    ensures memory { NeverWants result }
+        (lexeme_in found.new) (answered fault.new result) (λ h. spec.text_end h layouts.old) }
+    ensures memory { NeverWants (answered fault.new result) }
     ensures moves { Moves T.unread T.left T.origin at.old at.new }
 {
-    layouts.refuse_open()?;
+    layouts.refuse_open(fault)?;
     let start = start_of(at);
     let ends = layouts.ends_all();
     write_lexeme(
@@ -50,7 +53,7 @@ pub fn text_end<T: Input>(
         &start,
         start.mark,
     );
-    layouts.drop_key()?;
+    layouts.drop_key(fault)?;
     layouts.behind_end();
     Ok(())
 }
@@ -103,14 +106,15 @@ pub fn document_start<T: Input>(
     at: &mut Cursor<T>,
     layouts: &mut Layouts,
     found: &mut Lexeme<'_>,
-) -> Result<(), ScanError>
+    fault: &mut Option<ScanError>,
+) -> Result<(), Refused>
     requires room { layouts.old.number < 2 ^ 63 }
     ensures here { ReadsItems T.unread asked at.old at.new layouts.new
-        (lexeme_in found.new) result (λ h. view.document_start h layouts.old) }
-    ensures memory { NeverWants result }
+        (lexeme_in found.new) (answered fault.new result) (λ h. view.document_start h layouts.old) }
+    ensures memory { NeverWants (answered fault.new result) }
     ensures moves { Moves T.unread T.left T.origin at.old at.new }
 {
-    layouts.refuse_open()?;
+    layouts.refuse_open(fault)?;
     let ends = layouts.ends_all();
     layouts.close_all();
     start_mark(asked, at, layouts, ends, found);
@@ -128,17 +132,18 @@ pub fn document_end<'input, T: BorrowedInput<'input>>(
     at: &mut Cursor<T>,
     layouts: &mut Layouts,
     found: &mut Lexeme<'input>,
-) -> Result<(), ScanError>
+    fault: &mut Option<ScanError>,
+) -> Result<(), Refused>
     requires room { layouts.old.number < 2 ^ 63 }
     ensures here { ReadsItems T.unread asked at.old at.new layouts.new
-        (lexeme_in found.new) result (λ h. view.document_end h layouts.old) }
-    ensures memory { asked ≡ false → NeverWants result }
+        (lexeme_in found.new) (answered fault.new result) (λ h. view.document_end h layouts.old) }
+    ensures memory { asked ≡ false → NeverWants (answered fault.new result) }
     ensures moves { Moves T.unread T.left T.origin at.old at.new }
 {
-    layouts.refuse_open()?;
+    layouts.refuse_open(fault)?;
     let ends = layouts.ends_all();
     layouts.close_all();
-    end_mark(alloc, asked, at, layouts, ends, found)
+    end_mark(alloc, asked, at, layouts, ends, found, fault)
 }
 
 /// `...` with its tail, behind which the line ends.
@@ -149,18 +154,19 @@ fn end_mark<'input, T: BorrowedInput<'input>>(
     layouts: &mut Layouts,
     ends: bool,
     found: &mut Lexeme<'input>,
-) -> Result<(), ScanError>
+    fault: &mut Option<ScanError>,
+) -> Result<(), Refused>
     requires room { layouts.old.number < 2 ^ 63 }
     ensures here { ReadsItems T.unread asked at.old at.new layouts.new
-        (lexeme_in found.new) result (λ h. spec.end_mark ends h layouts.old) }
-    ensures memory { asked ≡ false → NeverWants result }
+        (lexeme_in found.new) (answered fault.new result) (λ h. spec.end_mark ends h layouts.old) }
+    ensures memory { asked ≡ false → NeverWants (answered fault.new result) }
     ensures moves { Moves T.unread T.left T.origin at.old at.new }
 {
     let start = start_of(at);
     past_mark(at);
     let end = at.mark();
-    let tail = tail_at(alloc, at, asked)?;
-    refuse_more(at)?;
+    let tail = tail_at(alloc, at, asked, fault)?;
+    refuse_more(at, fault)?;
     write_lexeme(found, layouts, ends, LexemeKind::DocumentEnd, &start, end);
     put_tail(found, tail);
     layouts.behind_end_mark();
@@ -168,16 +174,17 @@ fn end_mark<'input, T: BorrowedInput<'input>>(
 }
 
 /// Behind a `...` and its tail, the line ends.
-fn refuse_more<T: Input>(at: &mut Cursor<T>) -> Result<(), ScanError>
-    ensures here { Wherever T.unread at.old at.new (λ h Lands. Lands h × (result ≡ view.refuse_more h)) }
-    ensures memory { NeverWants result }
+fn refuse_more<T: Input>(at: &mut Cursor<T>, fault: &mut Option<ScanError>) -> Result<(), Refused>
+    ensures here { Wherever T.unread at.old at.new
+        (λ h Lands. Lands h × (answered fault.new result ≡ view.refuse_more h)) }
+    ensures memory { NeverWants (answered fault.new result) }
     ensures moves { Moves T.unread T.left T.origin at.old at.new }
 {
     at.look(1);
     if is_breakz(at.input().peek()) {
         return Ok(());
     }
-    Err(ScanError::from_kind(at.mark(), ErrorKind::InvalidDocumentEnd))
+    Err(refuse_at(fault, at.mark(), ErrorKind::InvalidDocumentEnd))
 }
 
 /// A directive with its tail and its break, which ends all columns.
@@ -191,18 +198,19 @@ pub fn directive<'input, T: BorrowedInput<'input>>(
     at: &mut Cursor<T>,
     layouts: &mut Layouts,
     found: &mut Lexeme<'input>,
-) -> Result<(), ScanError>
+    fault: &mut Option<ScanError>,
+) -> Result<(), Refused>
     requires sign { (h : Here) → Stands T.unread at.old h → next_char h ≡ 0x25 }
     requires room { layouts.old.number < 2 ^ 63 }
     ensures here { ReadsItems T.unread (options_of options.now).emit_comments at.old at.new layouts.new
-        (lexeme_in found.new) result
+        (lexeme_in found.new) (answered fault.new result)
         (λ h. spec.directive_lexeme (options_of options.now) (ends_all layouts.old) h (closed_all layouts.old)) }
     ensures moves { Moves T.unread T.left T.origin at.old at.new }
 {
     let ends = layouts.ends_all();
     layouts.close_all();
     let start = start_of(at);
-    let read = scan_directive(alloc, at, options)?;
+    let read = keep_fault(fault, scan_directive(alloc, at, options))?;
     over_break_if(at);
     let tail = kept_note(alloc, read.comment)?;
     scalar_lexeme(alloc, layouts, ends, &start, read.token, tail, found);

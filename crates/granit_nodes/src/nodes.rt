@@ -4,6 +4,7 @@ ghost use Rattle.std.specs.Option.{option_map};
 ghost use Rattle.std.specs.Str.{chars};
 ghost use Rattle.granit_error.specs.OptionsView.{options_of};
 ghost use Rattle.granit_event.specs.Events.{event_kind};
+ghost use Rattle.granit_refused.specs.Answered.{answered};
 ghost use Rattle.granit_sorts.specs.SortViews.{machine_token, of_kind};
 ghost use Rattle.granit_frames.specs.StateViews.{bears};
 ghost use Rattle.granit_nesting.specs.FrameViews.{frame_view, pair_view};
@@ -19,9 +20,10 @@ ghost use Rattle.granit_machine.specs.Leaving.{LeavesIfRoom};
 use granit_base::{Marker, NoMemory, Placement, Span, StructureStyle, Text};
 use granit_error::{ErrorKind, Options, ScanError};
 use granit_event::{Event, Tag};
-use granit_frames::{Frame, PairStage, ParserState, Token, TokenSort, length_of};
+use granit_frames::{Frame, PairStage, ParserState, Token, TokenSort, length_of, misplaced};
 use granit_items::{LexemeKind, Note};
 use granit_lexemes::Bracket;
+use granit_refused::{Refused, refuse};
 use std::alloc::Global;
 use std::mem;
 
@@ -51,33 +53,35 @@ fn leaf<'input>(
 
 fn alias<'input>(
     state: &mut ParserState<'input>,
+    fault: &mut Option<ScanError>,
     options: &Options,
     name: Text<'input>,
     token: &Token<'input>,
-) -> Result<(), ScanError>
-    ensures leaves { LeavesIfRoom result state.new (steps.bare (options_of options.now)
+) -> Result<(), Refused>
+    ensures leaves { LeavesIfRoom (answered fault.new result) state.new (steps.bare (options_of options.now)
         (of_kind (kinds.Alias name.entry) token.now) state.old) }
     ensures kept { state.new.kept ≡ state.old.kept }
 {
     match state.number_of(&name) {
         Some(number) => Ok(leaf(state, options, Event::Alias(number), token, None)?),
-        None => unresolved(state, options, name, token),
+        None => unresolved(state, fault, options, name, token),
     }
 }
 
 /// An alias of a name that no anchor has.
 fn unresolved<'input>(
     state: &mut ParserState<'input>,
+    fault: &mut Option<ScanError>,
     options: &Options,
     name: Text<'input>,
     token: &Token<'input>,
-) -> Result<(), ScanError>
-    ensures leaves { LeavesIfRoom result state.new (steps.alias_by (options_of options.now)
+) -> Result<(), Refused>
+    ensures leaves { LeavesIfRoom (answered fault.new result) state.new (steps.alias_by (options_of options.now)
         (machine_token token.now) name.entry None state.old) }
     ensures kept { state.new.kept ≡ state.old.kept }
 {
     if !options.emit_unresolved_aliases {
-        return Err(token.misplaced(ErrorKind::UnknownAnchor));
+        return Err(misplaced(fault, token, ErrorKind::UnknownAnchor));
     }
     Ok(leaf(state, options, Event::UnresolvedAlias(name), token, None)?)
 }
@@ -87,13 +91,14 @@ fn unresolved<'input>(
 /// A tag of the node that must come, where a directive says what its handle stands for (YAML 1.2.2, 6.8.2).
 fn tag<'input>(
     state: &mut ParserState<'input>,
+    fault: &mut Option<ScanError>,
     alloc: Global,
     options: &Options,
     handle: &Text<'input>,
     suffix: &Text<'input>,
     token: &Token<'input>,
-) -> Result<(), ScanError>
-    ensures leaves { LeavesIfRoom result state.new (steps.bare (options_of options.now)
+) -> Result<(), Refused>
+    ensures leaves { LeavesIfRoom (answered fault.new result) state.new (steps.bare (options_of options.now)
         (of_kind (kinds.Tag handle.now suffix.now) token.now) state.old) }
     ensures kept { state.new.kept ≡ state.old.kept }
 {
@@ -103,7 +108,7 @@ fn tag<'input>(
             Ok(state.tagged(tag, token)?)
         }
         None => {
-            let tag = new_tag(alloc, default_prefix(handle, token)?, handle, suffix)?;
+            let tag = new_tag(alloc, default_prefix(fault, handle, token)?, handle, suffix)?;
             Ok(state.tagged(tag, token)?)
         }
     }
@@ -132,8 +137,12 @@ fn core_prefix<'a>() -> &'a str
 }
 
 /// What a handle stands for, where no directive says so (YAML 1.2.2, 6.8.2).
-fn default_prefix<'a>(handle: &'a Text<'_>, token: &Token<'_>) -> Result<&'a str, ScanError>
-    ensures { GivesValue (λ s. chars s.now) result (steps.tag_prefix
+fn default_prefix<'a>(
+    fault: &mut Option<ScanError>,
+    handle: &'a Text<'_>,
+    token: &Token<'_>,
+) -> Result<&'a str, Refused>
+    ensures { GivesValue (λ s. chars s.now) (answered fault.new result) (steps.tag_prefix
         (machine_token token.now) handle.now.characters None) }
 {
     let written = handle.as_str();
@@ -142,20 +151,26 @@ fn default_prefix<'a>(handle: &'a Text<'_>, token: &Token<'_>) -> Result<&'a str
         return Ok(core_prefix());
     }
     if length > 2 {
-        return Err(token.misplaced(ErrorKind::UndeclaredTagHandle));
+        return Err(misplaced(fault, token, ErrorKind::UndeclaredTagHandle));
     }
     Ok(written)
 }
 
 /// The room for comments behind a `-`, of which its tail takes one.
-fn dash_room(options: &Options, tail: &Option<Box<Note<'_>>>) -> Result<usize, ScanError>
-    ensures { GivesValue (λ n. n) result (steps.dash_room (options_of options.now) (option_map boxed_view tail.now)) }
+fn dash_room(
+    fault: &mut Option<ScanError>,
+    options: &Options,
+    tail: &Option<Box<Note<'_>>>,
+) -> Result<usize, Refused>
+    ensures { GivesValue (λ n. n) (answered fault.new result)
+        (steps.dash_room (options_of options.now) (option_map boxed_view tail.now)) }
 {
     match tail {
         None => Ok(options.max_buffered_comment_events),
         Some(note) => {
             if options.max_buffered_comment_events == 0 {
-                return Err(ScanError::from_kind(note.start, ErrorKind::TooManyComments));
+                let error = ScanError::from_kind(note.start, ErrorKind::TooManyComments);
+                return Err(refuse(fault, error));
             }
             Ok(options.max_buffered_comment_events - 1)
         }
@@ -186,16 +201,17 @@ fn give_tail<'input>(
 #[tactic(auto, unfolding(granit_machine::specs::NodeSteps::take_dash))]
 pub fn next_dash<'input>(
     state: &mut ParserState<'input>,
+    fault: &mut Option<ScanError>,
     alloc: Global,
     options: &Options,
     token: &mut Token<'input>,
     indentless: bool,
-) -> Result<(), ScanError>
-    ensures leaves { LeavesIfRoom result state.new (steps.take_dash (options_of options.now)
+) -> Result<(), Refused>
+    ensures leaves { LeavesIfRoom (answered fault.new result) state.new (steps.take_dash (options_of options.now)
         (machine_token token.old) steps.NextEntry indentless state.old) }
     ensures kept { state.new.kept ≡ state.old.kept }
 {
-    let room = dash_room(options, &token.lexeme.tail)?;
+    let room = dash_room(fault, options, &token.lexeme.tail)?;
     give_tail(state, token.lexeme.tail.take())?;
     state.with_top(Frame::BlockSequence(token.lexeme.start.col(), indentless))?;
     state.waits(alloc, token.lexeme.end, room)?;
@@ -204,38 +220,42 @@ pub fn next_dash<'input>(
 
 fn begin_sequence<'input>(
     state: &mut ParserState<'input>,
+    fault: &mut Option<ScanError>,
     options: &Options,
     mark: Marker,
     frame: Frame,
-) -> Result<(), ScanError>
-    ensures leaves { LeavesIfRoom result state.new (ends.begin_block (options_of options.now) steps.block_sequence mark
+) -> Result<(), Refused>
+    ensures leaves { LeavesIfRoom (answered fault.new result) state.new
+        (ends.begin_block (options_of options.now) steps.block_sequence mark
         (frame_view frame) state.old) }
     ensures kept { state.new.kept ≡ state.old.kept }
 {
     let event = Event::SequenceStart(StructureStyle::Block, 0, None);
-    state.begin_block(options, event, mark, frame)
+    state.begin_block(fault, options, event, mark, frame)
 }
 
 /// A `-` in a column of its own, where a sequence begins.
 #[tactic(auto, unfolding(granit_machine::specs::NodeSteps::take_dash))]
 fn new_dash<'input>(
     state: &mut ParserState<'input>,
+    fault: &mut Option<ScanError>,
     alloc: Global,
     options: &Options,
     token: &mut Token<'input>,
-) -> Result<(), ScanError>
-    ensures leaves { LeavesIfRoom result state.new (steps.take_dash (options_of options.now)
+) -> Result<(), Refused>
+    ensures leaves { LeavesIfRoom (answered fault.new result) state.new (steps.take_dash (options_of options.now)
         (of_kind kinds.Dash token.old) steps.NewSequence false state.old) }
     ensures kept { state.new.kept ≡ state.old.kept }
 {
     let start = token.lexeme.start;
     begin_sequence(
         state,
+        fault,
         options,
         start,
         Frame::BlockSequence(start.col(), false),
     )?;
-    let room = dash_room(options, &token.lexeme.tail)?;
+    let room = dash_room(fault, options, &token.lexeme.tail)?;
     give_tail(state, token.lexeme.tail.take())?;
     state.waits(alloc, token.lexeme.end, room)?;
     Ok(())
@@ -265,19 +285,23 @@ fn begin_indentless<'input>(
 #[tactic(auto, unfolding(granit_machine::specs::NodeSteps::take_dash))]
 fn indentless_dash<'input>(
     state: &mut ParserState<'input>,
+    fault: &mut Option<ScanError>,
     alloc: Global,
     options: &Options,
     token: &mut Token<'input>,
-) -> Result<(), ScanError>
-    ensures leaves { LeavesIfRoom result state.new (steps.take_dash (options_of options.now)
+) -> Result<(), Refused>
+    ensures leaves { LeavesIfRoom (answered fault.new result) state.new (steps.take_dash (options_of options.now)
         (of_kind kinds.Dash token.old) steps.IndentlessSequence false state.old) }
     ensures kept { state.new.kept ≡ state.old.kept }
 {
     let end = token.lexeme.end;
     if options.block_nesting_limit <= state.block_count() {
-        return Err(ScanError::from_kind(end, ErrorKind::RecursionLimitExceeded));
+        return Err(refuse(
+            fault,
+            ScanError::from_kind(end, ErrorKind::RecursionLimitExceeded),
+        ));
     }
-    let room = dash_room(options, &token.lexeme.tail)?;
+    let room = dash_room(fault, options, &token.lexeme.tail)?;
     give_tail(state, token.lexeme.tail.take())?;
     begin_indentless(state, options, end, token.lexeme.start.col())?;
     state.waits(alloc, end, room)?;
@@ -287,33 +311,35 @@ fn indentless_dash<'input>(
 /// A `-` where a node must stand.
 fn first_dash<'input>(
     state: &mut ParserState<'input>,
+    fault: &mut Option<ScanError>,
     alloc: Global,
     options: &Options,
     token: &mut Token<'input>,
-) -> Result<(), ScanError>
-    ensures leaves { LeavesIfRoom result state.new (steps.bare (options_of options.now)
+) -> Result<(), Refused>
+    ensures leaves { LeavesIfRoom (answered fault.new result) state.new (steps.bare (options_of options.now)
         (of_kind kinds.Dash token.old) state.old) }
     ensures kept { state.new.kept ≡ state.old.kept }
 {
     let is_indentless = state.may_be_indentless(token.lexeme.start.col());
-    dash(state, alloc, options, token, is_indentless)
+    dash(state, fault, alloc, options, token, is_indentless)
 }
 
 fn dash<'input>(
     state: &mut ParserState<'input>,
+    fault: &mut Option<ScanError>,
     alloc: Global,
     options: &Options,
     token: &mut Token<'input>,
     is_indentless: bool,
-) -> Result<(), ScanError>
-    ensures leaves { LeavesIfRoom result state.new (steps.take_dash (options_of options.now)
+) -> Result<(), Refused>
+    ensures leaves { LeavesIfRoom (answered fault.new result) state.new (steps.take_dash (options_of options.now)
         (of_kind kinds.Dash token.old) (steps.first_dash is_indentless) false state.old) }
     ensures kept { state.new.kept ≡ state.old.kept }
 {
     if is_indentless {
-        indentless_dash(state, alloc, options, token)
+        indentless_dash(state, fault, alloc, options, token)
     } else {
-        new_dash(state, alloc, options, token)
+        new_dash(state, fault, alloc, options, token)
     }
 }
 
@@ -352,16 +378,18 @@ fn open_flow<'input>(
 /// A mapping in a column begins, at a stage of its first pair.
 fn begin_mapping<'input>(
     state: &mut ParserState<'input>,
+    fault: &mut Option<ScanError>,
     options: &Options,
     token: &Token<'input>,
     stage: PairStage,
-) -> Result<(), ScanError>
-    ensures leaves { LeavesIfRoom result state.new (ends.begin_block
+) -> Result<(), Refused>
+    ensures leaves { LeavesIfRoom (answered fault.new result) state.new (ends.begin_block
         (options_of options.now) ends.block_mapping token.now.lexeme.value.start
         (machine.BlockMapping token.now.lexeme.value.start.place.column (pair_view stage)) state.old) }
     ensures kept { state.new.kept ≡ state.old.kept }
 {
     state.begin_block(
+        fault,
         options,
         Event::MappingStart(StructureStyle::Block, 0, None),
         token.lexeme.start,
@@ -372,16 +400,17 @@ fn begin_mapping<'input>(
 /// A `:` without a key, where a node must stand.
 fn first_colon<'input>(
     state: &mut ParserState<'input>,
+    fault: &mut Option<ScanError>,
     alloc: Global,
     options: &Options,
     token: &Token<'input>,
-) -> Result<(), ScanError>
-    ensures leaves { LeavesIfRoom result state.new (steps.bare (options_of options.now)
+) -> Result<(), Refused>
+    ensures leaves { LeavesIfRoom (answered fault.new result) state.new (steps.bare (options_of options.now)
         (of_kind kinds.Colon token.now) state.old) }
     ensures kept { state.new.kept ≡ state.old.kept }
 {
     let start = token.lexeme.start;
-    begin_mapping(state, options, token, PairStage::AtValue)?;
+    begin_mapping(state, fault, options, token, PairStage::AtValue)?;
     state.give_null(start)?;
     state.waits(alloc, start, options.max_buffered_comment_events)?;
     Ok(())
@@ -390,16 +419,17 @@ fn first_colon<'input>(
 /// A lexeme where a node must stand, which begins no block mapping with its simple key.
 pub fn bare<'input>(
     state: &mut ParserState<'input>,
+    fault: &mut Option<ScanError>,
     alloc: Global,
     options: &Options,
     token: &mut Token<'input>,
-) -> Result<(), ScanError>
-    ensures leaves { LeavesIfRoom result state.new (steps.bare (options_of options.now)
+) -> Result<(), Refused>
+    ensures leaves { LeavesIfRoom (answered fault.new result) state.new (steps.bare (options_of options.now)
         (machine_token token.old) state.old) }
     ensures kept { state.new.kept ≡ state.old.kept }
 {
     match mem::replace(&mut token.lexeme.kind, LexemeKind::Comma) {
-        LexemeKind::Alias(name) => alias(state, options, name, token),
+        LexemeKind::Alias(name) => alias(state, fault, options, name, token),
         LexemeKind::Scalar(style, text) => {
             let indent = token.lexeme.indent;
             Ok(leaf(
@@ -415,45 +445,48 @@ pub fn bare<'input>(
             state.flush()?;
             Ok(state.anchored(alloc, name, token)?)
         }
-        LexemeKind::Tag(handle, suffix) => tag(state, alloc, options, &handle, &suffix, token),
-        LexemeKind::Dash => first_dash(state, alloc, options, token),
-        LexemeKind::Question => begin_mapping(state, options, token, PairStage::AtQuestion),
-        LexemeKind::Version(_, _) => first_colon(state, alloc, options, token),
-        LexemeKind::TagPrefix(_, _) => first_colon(state, alloc, options, token),
-        LexemeKind::Reserved(_, _) => first_colon(state, alloc, options, token),
-        LexemeKind::DocumentStart => first_colon(state, alloc, options, token),
-        LexemeKind::DocumentEnd => first_colon(state, alloc, options, token),
-        LexemeKind::StreamEnd => first_colon(state, alloc, options, token),
-        LexemeKind::Close(_) => first_colon(state, alloc, options, token),
-        LexemeKind::Comma => first_colon(state, alloc, options, token),
-        LexemeKind::Colon => first_colon(state, alloc, options, token),
+        LexemeKind::Tag(handle, suffix) => tag(
+            state, fault, alloc, options, &handle, &suffix, token,
+        ),
+        LexemeKind::Dash => first_dash(state, fault, alloc, options, token),
+        LexemeKind::Question => begin_mapping(state, fault, options, token, PairStage::AtQuestion),
+        LexemeKind::Version(_, _) => first_colon(state, fault, alloc, options, token),
+        LexemeKind::TagPrefix(_, _) => first_colon(state, fault, alloc, options, token),
+        LexemeKind::Reserved(_, _) => first_colon(state, fault, alloc, options, token),
+        LexemeKind::DocumentStart => first_colon(state, fault, alloc, options, token),
+        LexemeKind::DocumentEnd => first_colon(state, fault, alloc, options, token),
+        LexemeKind::StreamEnd => first_colon(state, fault, alloc, options, token),
+        LexemeKind::Close(_) => first_colon(state, fault, alloc, options, token),
+        LexemeKind::Comma => first_colon(state, fault, alloc, options, token),
+        LexemeKind::Colon => first_colon(state, fault, alloc, options, token),
     }
 }
 
 /// A lexeme where a node must stand.
 pub fn node<'input>(
     state: &mut ParserState<'input>,
+    fault: &mut Option<ScanError>,
     alloc: Global,
     options: &Options,
     token: &mut Token<'input>,
-) -> Result<(), ScanError>
-    ensures leaves { LeavesIfRoom result state.new (steps.node (options_of options.now)
+) -> Result<(), Refused>
+    ensures leaves { LeavesIfRoom (answered fault.new result) state.new (steps.node (options_of options.now)
         (machine_token token.old) state.old) }
     ensures kept { state.new.kept ≡ state.old.kept }
 {
     match token.sort {
         TokenSort::BeginsKey => {
-            begin_mapping(state, options, token, PairStage::AtKey)?;
-            bare(state, alloc, options, token)
+            begin_mapping(state, fault, options, token, PairStage::AtKey)?;
+            bare(state, fault, alloc, options, token)
         }
-        TokenSort::BeginsNode => bare(state, alloc, options, token),
-        TokenSort::DashToken => bare(state, alloc, options, token),
-        TokenSort::QuestionToken => bare(state, alloc, options, token),
-        TokenSort::BareColon => bare(state, alloc, options, token),
-        TokenSort::KeyedColon => bare(state, alloc, options, token),
-        TokenSort::CommaToken => bare(state, alloc, options, token),
-        TokenSort::SequenceCloser => bare(state, alloc, options, token),
-        TokenSort::MappingCloser => bare(state, alloc, options, token),
-        TokenSort::OfStream => bare(state, alloc, options, token),
+        TokenSort::BeginsNode => bare(state, fault, alloc, options, token),
+        TokenSort::DashToken => bare(state, fault, alloc, options, token),
+        TokenSort::QuestionToken => bare(state, fault, alloc, options, token),
+        TokenSort::BareColon => bare(state, fault, alloc, options, token),
+        TokenSort::KeyedColon => bare(state, fault, alloc, options, token),
+        TokenSort::CommaToken => bare(state, fault, alloc, options, token),
+        TokenSort::SequenceCloser => bare(state, fault, alloc, options, token),
+        TokenSort::MappingCloser => bare(state, fault, alloc, options, token),
+        TokenSort::OfStream => bare(state, fault, alloc, options, token),
     }
 }

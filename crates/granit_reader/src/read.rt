@@ -18,6 +18,7 @@ ghost use Rattle.granit_reader.specs.declared.met.Met.TheVariants as mets;
 ghost use Rattle.granit_restart.specs.Header.{directive_sort};
 ghost use Rattle.granit_content.specs.Reads.{ReadsItems, found_in, seen, tail_view};
 ghost use Rattle.granit_reader.specs.Reads.{reader_at};
+ghost use Rattle.granit_refused.specs.Answered.{answered};
 ghost use Rattle.granit_reader.specs.SortViews as sorts;
 ghost use Rattle.granit_reader.specs.SortViews.{PlacedFits, SortFits, placed_view, sort_view};
 ghost use Rattle.granit_reader.specs.WithoutMemory.{NeverWantsAt, read_takes_none, behind_takes_none};
@@ -34,6 +35,7 @@ use granit_input::{BorrowedInput, Input};
 use granit_items::{Found, Lexeme};
 use granit_layout::{Layouts, is_adjacent};
 use granit_marks::{closer, comma, directive, document_end, document_start, opener, text_end};
+use granit_refused::{Refused, refuse, refuse_at};
 use granit_signs::{colon, dash, question};
 use std::alloc::Global;
 
@@ -46,22 +48,24 @@ pub(crate) fn read<'input, T: BorrowedInput<'input>>(
     layouts: &mut Layouts,
     found: &mut Found<'input>,
     met: &mut Met,
-) -> Result<(), ScanError>
+    fault: &mut Option<ScanError>,
+) -> Result<(), Refused>
     requires room { layouts.old.number < 2 ^ 63 }
     requires no_lexeme { found.old.filled ≡ false }
     requires no_note { found.old.note ≡ None }
     ensures here { ReadsItems T.unread (options_of options.now).emit_comments at.old at.new layouts.new
-        (found_in found.new) result (λ h. spec.read (options_of options.now) (reader_at h layouts.old)) }
-    ensures met { (h : Here) → Stands T.unread at.old h → UnlessMemory result
+        (found_in found.new) (answered fault.new result)
+        (λ h. spec.read (options_of options.now) (reader_at h layouts.old)) }
+    ensures met { (h : Here) → Stands T.unread at.old h → UnlessMemory (answered fault.new result)
         (MeetsBehind (options_of options.now) met.new (gaps.gap (options_of options.now) h layouts.old)) }
-    ensures memory { NeverWantsAt T.unread (options_of options.now).emit_comments at.old result
+    ensures memory { NeverWantsAt T.unread (options_of options.now).emit_comments at.old (answered fault.new result)
         (λ h. read_takes_none (options_of options.now) (reader_at h layouts.old)) }
     ensures moves { Moves T.unread T.left T.origin at.old at.new }
 {
     *met = Met::Nothing;
-    let note = gap(alloc, options, at, layouts)?;
-    behind_gap(alloc, options, at, layouts, note, found, met)?;
-    layouts.drop_stale(options, at.mark())
+    let note = gap(alloc, options, at, layouts, fault)?;
+    behind_gap(alloc, options, at, layouts, note, found, met, fault)?;
+    layouts.drop_stale(options, at.mark(), fault)
 }
 
 /// Behind a gap: its comment, or a lexeme.
@@ -73,7 +77,8 @@ fn behind_gap<'input, T: BorrowedInput<'input>>(
     note: Tail<'input>,
     found: &mut Found<'input>,
     met: &mut Met,
-) -> Result<(), ScanError>
+    fault: &mut Option<ScanError>,
+) -> Result<(), Refused>
     requires clear { note ≡ Nothing → (h : Here) → Stands T.unread at.old h → is_gap (here.next_char h) ≡ false }
     requires window { note ≡ Nothing → 4 ≤ T.window at.old.input }
     requires room { layouts.old.number < 2 ^ 63 }
@@ -82,19 +87,20 @@ fn behind_gap<'input, T: BorrowedInput<'input>>(
     requires unmet { met.old ≡ mets.Nothing }
     ensures here { (t : Option CommentRead) → tail_view note.entry ≡ seen (options_of options.now).emit_comments t
         → ReadsItems T.unread (options_of options.now).emit_comments at.old at.new layouts.new
-        (found_in found.new) result (λ h. spec.read_behind (options_of options.now) t (reader_at h layouts.old)) }
+        (found_in found.new) (answered fault.new result)
+        (λ h. spec.read_behind (options_of options.now) t (reader_at h layouts.old)) }
     ensures met { (t : Option CommentRead) → tail_view note.entry ≡ seen (options_of options.now).emit_comments t
-        → (h : Here) → Stands T.unread at.old h → UnlessMemory result
+        → (h : Here) → Stands T.unread at.old h → UnlessMemory (answered fault.new result)
         (MeetsBehind (options_of options.now) met.new (Ok (t, reader_at h layouts.old))) }
     ensures memory { (t : Option CommentRead) → tail_view note.entry ≡ seen (options_of options.now).emit_comments t
-        → NeverWantsAt T.unread (options_of options.now).emit_comments at.old result
+        → NeverWantsAt T.unread (options_of options.now).emit_comments at.old (answered fault.new result)
         (λ h. behind_takes_none (options_of options.now) t (reader_at h layouts.old)) }
     ensures moves { Moves T.unread T.left T.origin at.old at.new }
 {
     match note {
         Tail::Nothing => {
-            layouts.drop_stale(options, at.mark())?;
-            lexeme(alloc, options, at, layouts, found, met)
+            layouts.drop_stale(options, at.mark(), fault)?;
+            lexeme(alloc, options, at, layouts, found, met, fault)
         }
         Tail::Passed => Ok(()),
         Tail::Kept(note) => {
@@ -112,23 +118,24 @@ fn lexeme<'input, T: BorrowedInput<'input>>(
     layouts: &mut Layouts,
     found: &mut Found<'input>,
     met: &mut Met,
-) -> Result<(), ScanError>
+    fault: &mut Option<ScanError>,
+) -> Result<(), Refused>
     requires clear { (h : Here) → Stands T.unread at.old h → is_gap (here.next_char h) ≡ false }
     requires window { 4 ≤ T.window at.old.input }
     requires room { layouts.old.number < 2 ^ 63 }
     requires no_note { found.old.note ≡ None }
     ensures here { ReadsItems T.unread (options_of options.now).emit_comments at.old at.new layouts.new
-        (found_in found.new) result (λ h. spec.lexeme (options_of options.now) h layouts.old) }
+        (found_in found.new) (answered fault.new result) (λ h. spec.lexeme (options_of options.now) h layouts.old) }
     ensures met { (h : Here) → Stands T.unread at.old h → (before : Bool)
         → behind_met met.new before ≡ directive_sort before (lexeme_sorts.sort_at (is_in_flow layouts.old) false h) }
-    ensures memory { NeverWantsAt T.unread (options_of options.now).emit_comments at.old result
+    ensures memory { NeverWantsAt T.unread (options_of options.now).emit_comments at.old (answered fault.new result)
         (λ h. lexeme_takes_none (options_of options.now) h layouts.old) }
     ensures moves { Moves T.unread T.left T.origin at.old at.new }
 {
     let sort = sort_at(at, layouts.is_in_flow(), is_adjacent(layouts.last()));
     *met = met_by(sort);
     found.filled = true;
-    lexeme_by(alloc, options, at, layouts, sort, found)
+    lexeme_by(alloc, options, at, layouts, sort, found, fault)
 }
 
 /// The lexeme of a sort.
@@ -140,29 +147,38 @@ fn lexeme_by<'input, T: BorrowedInput<'input>>(
     layouts: &mut Layouts,
     sort: LexemeSort,
     found: &mut Found<'input>,
-) -> Result<(), ScanError>
+    fault: &mut Option<ScanError>,
+) -> Result<(), Refused>
     requires fits { (h : Here) → Stands T.unread at.old h → SortFits (is_in_flow layouts.old) (sort_view sort) h }
     requires room { layouts.old.number < 2 ^ 63 }
     requires filled { found.old.filled ≡ true }
     requires no_note { found.old.note ≡ None }
     ensures here { ReadsItems T.unread (options_of options.now).emit_comments at.old at.new layouts.new
-        (found_in found.new) result (λ h. spec.lexeme_by (options_of options.now) (sort_view sort) h layouts.old) }
-    ensures memory { NeverWantsAt T.unread (options_of options.now).emit_comments at.old result
+        (found_in found.new) (answered fault.new result)
+        (λ h. spec.lexeme_by (options_of options.now) (sort_view sort) h layouts.old) }
+    ensures memory { NeverWantsAt T.unread (options_of options.now).emit_comments at.old (answered fault.new result)
         (λ h. sort_takes_none (options_of options.now) (sort_view sort) h layouts.old) }
     ensures moves { Moves T.unread T.left T.origin at.old at.new }
 {
     let asked = options.emit_comments;
     match sort {
-        LexemeSort::TextEnd => text_end(asked, at, layouts, &mut found.lexeme),
-        LexemeSort::StartMark => document_start(asked, at, layouts, &mut found.lexeme),
-        LexemeSort::EndMark => document_end(alloc, asked, at, layouts, &mut found.lexeme),
-        LexemeSort::Unprintable => Err(unexpected(at)),
-        LexemeSort::DirectiveSign => directive(alloc, options, at, layouts, &mut found.lexeme),
+        LexemeSort::TextEnd => text_end(asked, at, layouts, &mut found.lexeme, fault),
+        LexemeSort::StartMark => document_start(asked, at, layouts, &mut found.lexeme, fault),
+        LexemeSort::EndMark => document_end(alloc, asked, at, layouts, &mut found.lexeme, fault),
+        LexemeSort::Unprintable => Err(refuse(fault, unexpected(at))),
+        LexemeSort::DirectiveSign => directive(
+            alloc,
+            options,
+            at,
+            layouts,
+            &mut found.lexeme,
+            fault,
+        ),
         LexemeSort::Placed(sort) => {
             let column = at.mark().col();
             let ends = layouts.ends_at(column);
             layouts.close_at(column);
-            lexeme_in_column(alloc, options, at, layouts, sort, ends, found)
+            lexeme_in_column(alloc, options, at, layouts, sort, ends, found, fault)
         }
     }
 }
@@ -177,23 +193,24 @@ fn lexeme_in_column<'input, T: BorrowedInput<'input>>(
     sort: PlacedSort,
     ends: bool,
     found: &mut Found<'input>,
-) -> Result<(), ScanError>
+    fault: &mut Option<ScanError>,
+) -> Result<(), Refused>
     requires fits { (h : Here) → Stands T.unread at.old h → PlacedFits (is_in_flow layouts.old) (placed_view sort) h }
     requires room { layouts.old.number < 2 ^ 63 }
     requires filled { found.old.filled ≡ true }
     requires no_note { found.old.note ≡ None }
     ensures here { ReadsItems T.unread (options_of options.now).emit_comments at.old at.new layouts.new
-        (found_in found.new) result
+        (found_in found.new) (answered fault.new result)
         (λ h. spec.lexeme_in_column (options_of options.now) (placed_view sort) ends h layouts.old) }
-    ensures memory { NeverWantsAt T.unread (options_of options.now).emit_comments at.old result
+    ensures memory { NeverWantsAt T.unread (options_of options.now).emit_comments at.old (answered fault.new result)
         (λ h. placed_takes_none (options_of options.now) (placed_view sort) h layouts.old) }
     ensures moves { Moves T.unread T.left T.origin at.old at.new }
 {
     if is_strict_outside(options, layouts, at.mark().col()) {
-        return Err(ScanError::from_kind(at.mark(), ErrorKind::InvalidIndentation));
+        return Err(refuse_at(fault, at.mark(), ErrorKind::InvalidIndentation));
     }
     begin_node(at, layouts, sort);
-    lexeme_of(alloc, options, at, layouts, sort, ends, found)
+    lexeme_of(alloc, options, at, layouts, sort, ends, found, fault)
 }
 
 /// Whether a line that begins in a column is left of its block, where lines in flow are indented too.
@@ -225,39 +242,43 @@ fn lexeme_of<'input, T: BorrowedInput<'input>>(
     sort: PlacedSort,
     ends: bool,
     found: &mut Found<'input>,
-) -> Result<(), ScanError>
+    fault: &mut Option<ScanError>,
+) -> Result<(), Refused>
     requires fits { (h : Here) → Stands T.unread at.old h → PlacedFits (is_in_flow layouts.old) (placed_view sort) h }
     requires room { layouts.old.number < 2 ^ 63 }
     requires filled { found.old.filled ≡ true }
     requires no_note { found.old.note ≡ None }
     ensures here { ReadsItems T.unread (options_of options.now).emit_comments at.old at.new layouts.new
-        (found_in found.new) result (λ h. sorts.begun (options_of options.now) (placed_view sort) ends h layouts.old) }
-    ensures memory { NeverWantsAt T.unread (options_of options.now).emit_comments at.old result
+        (found_in found.new) (answered fault.new result)
+        (λ h. sorts.begun (options_of options.now) (placed_view sort) ends h layouts.old) }
+    ensures memory { NeverWantsAt T.unread (options_of options.now).emit_comments at.old (answered fault.new result)
         (λ h. placed_takes_none (options_of options.now) (placed_view sort) h layouts.old) }
     ensures moves { Moves T.unread T.left T.origin at.old at.new }
 {
     let lexeme: &mut Lexeme<'input> = &mut found.lexeme;
     match sort {
-        PlacedSort::OpenSign(bracket) => opener(alloc, options, at, layouts, bracket, ends, lexeme),
-        PlacedSort::CloseSign(bracket) => closer(
-            alloc, options, at, layouts, bracket, ends, lexeme,
+        PlacedSort::OpenSign(bracket) => opener(
+            alloc, options, at, layouts, bracket, ends, lexeme, fault,
         ),
-        PlacedSort::CommaSign => comma(alloc, options, at, layouts, ends, lexeme),
-        PlacedSort::DashSign => dash(alloc, options, at, layouts, ends, lexeme),
-        PlacedSort::QuestionSign => question(alloc, options, at, layouts, ends, lexeme),
-        PlacedSort::ColonSign => colon(alloc, options, at, layouts, ends, lexeme),
-        PlacedSort::AliasSign => alias_lexeme(alloc, at, layouts, ends, lexeme),
-        PlacedSort::AnchorSign => anchor_lexeme(alloc, options, at, layouts, ends, lexeme),
-        PlacedSort::TagSign => tag_lexeme(alloc, options, at, layouts, ends, lexeme),
+        PlacedSort::CloseSign(bracket) => closer(
+            alloc, options, at, layouts, bracket, ends, lexeme, fault,
+        ),
+        PlacedSort::CommaSign => comma(alloc, options, at, layouts, ends, lexeme, fault),
+        PlacedSort::DashSign => dash(alloc, options, at, layouts, ends, lexeme, fault),
+        PlacedSort::QuestionSign => question(alloc, options, at, layouts, ends, lexeme, fault),
+        PlacedSort::ColonSign => colon(alloc, options, at, layouts, ends, lexeme, fault),
+        PlacedSort::AliasSign => alias_lexeme(alloc, at, layouts, ends, lexeme, fault),
+        PlacedSort::AnchorSign => anchor_lexeme(alloc, options, at, layouts, ends, lexeme, fault),
+        PlacedSort::TagSign => tag_lexeme(alloc, options, at, layouts, ends, lexeme, fault),
         PlacedSort::BlockSign(literal) => block_lexeme(
-            alloc, options, at, layouts, literal, ends, lexeme,
+            alloc, options, at, layouts, literal, ends, lexeme, fault,
         ),
         PlacedSort::QuoteSign(single) => quoted_and_gap(
-            alloc, options, at, layouts, single, ends, found,
+            alloc, options, at, layouts, single, ends, found, fault,
         ),
-        PlacedSort::StrayMark => Err(ScanError::from_kind(at.mark(), ErrorKind::BomInsideDocument)),
-        PlacedSort::NoSign => Err(unexpected(at)),
-        PlacedSort::PlainSign => plain_lexeme(alloc, options, at, layouts, ends, lexeme),
+        PlacedSort::StrayMark => Err(refuse_at(fault, at.mark(), ErrorKind::BomInsideDocument)),
+        PlacedSort::NoSign => Err(refuse(fault, unexpected(at))),
+        PlacedSort::PlainSign => plain_lexeme(alloc, options, at, layouts, ends, lexeme, fault),
     }
 }
 

@@ -5,10 +5,11 @@ use granit_input::StrInput;
 use granit_items::{Found, Rooms};
 use granit_layout::Layouts;
 use granit_reader::{Met, next_found};
+use granit_refused::Refused;
 use std::alloc::Global;
 
 /// Whether a read found a lexeme, and a comment; none where it was refused.
-fn told(read: &Result<(), ScanError>, found: &Found<'_>) -> Option<(bool, bool)> {
+fn told(read: &Result<(), Refused>, found: &Found<'_>) -> Option<(bool, bool)> {
     match read {
         Ok(()) => Some((found.filled, found.note.is_some())),
         Err(_) => None,
@@ -33,8 +34,9 @@ fn read<'a>(
         note: None,
     };
     let mut met = Met::Nothing;
+    let mut fault: Option<ScanError> = None;
     let read = next_found(
-        alloc, &options, cursor, layouts, ended, &mut found, &mut met,
+        alloc, &options, cursor, layouts, ended, &mut found, &mut met, &mut fault,
     );
     told(&read, &found)
 }

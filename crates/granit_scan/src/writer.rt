@@ -13,7 +13,7 @@ use crate::pairs::Pairs;
 use crate::waiting::Waiting;
 use granit_base::{Marker, NoMemory};
 use granit_cursor::{Token, TokenType};
-use granit_error::Options;
+use granit_error::{Options, ScanError};
 use granit_items::{Item, Lexeme, LexemeKind, Note, Rooms};
 use granit_layout::{Layouts, is_opener};
 use granit_lexemes::LastLexeme;
@@ -291,7 +291,8 @@ impl<'input> Writer<'input> {
         if mark.col() > MOST_COLUMNS {
             return Err(NoMemory);
         }
-        match self.layouts.enter(options, mark.col(), mark) {
+        let mut fault: Option<ScanError> = None;
+        match self.layouts.enter(options, mark.col(), mark, &mut fault) {
             Ok(()) => Ok(()),
             Err(_) => Err(NoMemory),
         }

@@ -15,6 +15,7 @@ ghost use Rattle.granit_machine.specs.Lexing.{FlaggedItem, lex_start};
 ghost use Rattle.granit_machine.specs.Machine.{is_settled, settled};
 ghost use Rattle.granit_machine.specs.Reader.{LexState};
 ghost use Rattle.granit_queue.specs.QueueViews.{queued_view};
+ghost use Rattle.granit_refused.specs.Answered.{answered};
 ghost use Rattle.granit_scanner.specs.Scans as spec;
 ghost use Rattle.granit_scanner.specs.Scans.{KeepsBefore, Known, KnownBy, ReadsOn};
 ghost use Rattle.granit_scanner.specs.Scans.{TakesOldest, TakesRead, TellsLast};
@@ -29,6 +30,7 @@ use granit_items::{Found, Item, Rooms};
 use granit_layout::Layouts;
 use granit_queue::{Queue, Queued, asks_next, line_of};
 use granit_reader::{Met, next_found};
+use granit_refused::take_fault;
 use std::alloc::Global;
 use std::marker::Model;
 
@@ -186,6 +188,7 @@ impl<'input, T: BorrowedInput<'input>> Scanner<'input, T> {
             note: None,
         };
         let mut met = Met::Nothing;
+        let mut fault: Option<ScanError> = None;
         let read = next_found(
             alloc,
             &self.options,
@@ -194,8 +197,9 @@ impl<'input, T: BorrowedInput<'input>> Scanner<'input, T> {
             &mut self.ended,
             &mut found,
             &mut met,
+            &mut fault,
         );
-        self.take_read(read, found, rooms, free, number, met)
+        self.take_read(read, &mut fault, found, rooms, free, number, met)
     }
 
     /// The fault of the read that failed, which is then given.
@@ -263,20 +267,22 @@ impl<'input, T: Input> Scanner<'input, T> {
     /// What a read found waits behind the other items; before a fault so many of them stay.
     fn take_read(
         &mut self,
-        read: Result<(), ScanError>,
+        read: Result<(), granit_refused::Refused>,
+        fault: &mut Option<ScanError>,
         found: Found<'input>,
         rooms: &mut Rooms<'input>,
         free: usize,
         number: usize,
         met: Met,
     ) -> Result<(), NoMemory>
-        ensures taken { OnOk result (TakesRead read (found_items found.entry) free number met self.old self.new) }
+        ensures taken { OnOk result (TakesRead (answered fault.old read) (found_items found.entry) free number met
+            self.old self.new) }
         ensures cursor { self.new.cursor ≡ self.old.cursor }
         ensures options { self.new.options ≡ self.old.options }
     {
         match read {
             Ok(()) => self.queue.push_found(found, rooms),
-            Err(error) => self.keep(error, free, number, met),
+            Err(refused) => self.keep(take_fault(refused, fault), free, number, met),
         }
     }
 

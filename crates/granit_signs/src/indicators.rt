@@ -11,6 +11,7 @@ ghost use Rattle.granit_machine.specs.PossibleKeys.{forgets_key, is_allowed};
 ghost use Rattle.granit_machine.specs.ReaderState.{sign_lexeme, given};
 ghost use Rattle.granit_signs.specs.IndicatorReads.{begins_entry, question_from};
 ghost use Rattle.granit_items.specs.ItemViews.{alone, lexeme_view};
+ghost use Rattle.granit_refused.specs.Answered.{answered};
 ghost use Rattle.granit_content.specs.Reads.{IsAt, NeverWants, ReadsItems, lexeme_in, noted, tail_view};
 
 use granit_base::{Marker, is_blank_or_breakz, is_break, is_flow};
@@ -21,6 +22,7 @@ use granit_input::{BorrowedInput, Input};
 use granit_items::{Lexeme, LexemeKind};
 use granit_layout::Layouts;
 use granit_lexemes::LastLexeme;
+use granit_refused::{Refused, refuse_at};
 use std::alloc::Global;
 
 /// A `-` with its tail, where an entry of a block sequence may begin.
@@ -37,26 +39,28 @@ pub fn dash<'input, T: BorrowedInput<'input>>(
     layouts: &mut Layouts,
     ends: bool,
     found: &mut Lexeme<'input>,
-) -> Result<(), ScanError>
+    fault: &mut Option<ScanError>,
+) -> Result<(), Refused>
     requires room { layouts.old.number < 2 ^ 63 }
     ensures here { ReadsItems T.unread (options_of options.now).emit_comments at.old at.new layouts.new
-        (lexeme_in found.new) result (λ h. spec.dash (options_of options.now) ends h layouts.old) }
+        (lexeme_in found.new) (answered fault.new result) (λ h. spec.dash (options_of options.now) ends h layouts.old) }
     ensures memory { begins_entry (is_allowed at.old.begins_line at.old.tab layouts.old) layouts.old ≡ false
-        → NeverWants result }
+        → NeverWants (answered fault.new result) }
     ensures column { (options_of options.now).emit_comments ≡ false
-        → opens_column (options_of options.now) at.old.place.column layouts.old.columns ≡ false → NeverWants result }
+        → opens_column (options_of options.now) at.old.place.column layouts.old.columns ≡ false
+        → NeverWants (answered fault.new result) }
     ensures moves { Moves T.unread T.left T.origin at.old at.new }
 {
     let mark = at.mark();
     if layouts.is_in_flow() {
-        return Err(ScanError::from_kind(mark, ErrorKind::BlockEntryInFlowCollection));
+        return Err(refuse_at(fault, mark, ErrorKind::BlockEntryInFlowCollection));
     }
     if !layouts.is_allowed(at.begins_line(), at.tab()) {
-        return Err(ScanError::from_kind(mark, ErrorKind::BlockSequenceEntryNotAllowed));
+        return Err(refuse_at(fault, mark, ErrorKind::BlockSequenceEntryNotAllowed));
     }
     sign(at, layouts, ends, LexemeKind::Dash, found);
-    layouts.enter(options, mark.col(), mark)?;
-    dash_up_to(alloc, options.emit_comments, at, layouts, found)
+    layouts.enter(options, mark.col(), mark, fault)?;
+    dash_up_to(alloc, options.emit_comments, at, layouts, found, fault)
 }
 
 /// A `-` that began an entry and ends here.
@@ -66,15 +70,16 @@ fn dash_up_to<'input, T: BorrowedInput<'input>>(
     at: &mut Cursor<T>,
     layouts: &mut Layouts,
     found: &mut Lexeme<'input>,
-) -> Result<(), ScanError>
+    fault: &mut Option<ScanError>,
+) -> Result<(), Refused>
     requires room { layouts.old.number < 2 ^ 63 }
     ensures here { ReadsItems T.unread asked at.old at.new layouts.new
-        (lexeme_in found.new) result (λ h. spec.dash_up_to (lexeme_view found.old) h layouts.old) }
-    ensures memory { asked ≡ false → NeverWants result }
+        (lexeme_in found.new) (answered fault.new result) (λ h. spec.dash_up_to (lexeme_view found.old) h layouts.old) }
+    ensures memory { asked ≡ false → NeverWants (answered fault.new result) }
     ensures moves { Moves T.unread T.left T.origin at.old at.new }
 {
-    let tail = tail_at(alloc, at, asked)?;
-    behind_dash(at, layouts, tail, found)
+    let tail = tail_at(alloc, at, asked, fault)?;
+    behind_dash(at, layouts, tail, found, fault)
 }
 
 /// Behind a `-` and its tail, where no `-` may stand behind a tab.
@@ -84,18 +89,19 @@ fn behind_dash<'input, T: Input>(
     layouts: &mut Layouts,
     tail: Tail<'input>,
     found: &mut Lexeme<'input>,
-) -> Result<(), ScanError>
+    fault: &mut Option<ScanError>,
+) -> Result<(), Refused>
     requires room { layouts.old.number < 2 ^ 63 }
-    ensures here { (h : Here) → Stands T.unread at.old h → GivesTo (lexeme_in found.new) result
+    ensures here { (h : Here) → Stands T.unread at.old h → GivesTo (lexeme_in found.new) (answered fault.new result)
         (IsAt T.unread at.new layouts.new)
         (spec.behind_dash (lexeme_view found.old) layouts.old (noted (tail_view tail.entry)) h) }
-    ensures memory { NeverWants result }
+    ensures memory { NeverWants (answered fault.new result) }
     ensures moves { Moves T.unread T.left T.origin at.old at.new }
 {
     at.look(2);
     let mark = at.mark();
     if is_tabbed_dash(at) {
-        return Err(ScanError::from_kind(mark, ErrorKind::InvalidBlockEntryWhitespace));
+        return Err(refuse_at(fault, mark, ErrorKind::InvalidBlockEntryWhitespace));
     }
     let wide = is_before_break(at);
     layouts.widen_if(wide);
@@ -146,14 +152,17 @@ pub fn question<'input, T: BorrowedInput<'input>>(
     layouts: &mut Layouts,
     ends: bool,
     found: &mut Lexeme<'input>,
-) -> Result<(), ScanError>
+    fault: &mut Option<ScanError>,
+) -> Result<(), Refused>
     requires room { layouts.old.number < 2 ^ 63 }
     ensures here { ReadsItems T.unread (options_of options.now).emit_comments at.old at.new layouts.new
-        (lexeme_in found.new) result (λ h. spec.question (options_of options.now) ends h layouts.old) }
+        (lexeme_in found.new) (answered fault.new result)
+        (λ h. spec.question (options_of options.now) ends h layouts.old) }
     ensures memory { begins_entry (is_allowed at.old.begins_line at.old.tab layouts.old) layouts.old ≡ false
-        → NeverWants result }
+        → NeverWants (answered fault.new result) }
     ensures column { (options_of options.now).emit_comments ≡ false
-        → opens_column (options_of options.now) at.old.place.column layouts.old.columns ≡ false → NeverWants result }
+        → opens_column (options_of options.now) at.old.place.column layouts.old.columns ≡ false
+        → NeverWants (answered fault.new result) }
     ensures moves { Moves T.unread T.left T.origin at.old at.new }
 {
     let mark = at.mark();
@@ -162,11 +171,11 @@ pub fn question<'input, T: BorrowedInput<'input>>(
         return Ok(());
     }
     if !layouts.is_allowed(at.begins_line(), at.tab()) {
-        return Err(ScanError::from_kind(mark, ErrorKind::MappingKeyNotAllowed));
+        return Err(refuse_at(fault, mark, ErrorKind::MappingKeyNotAllowed));
     }
     sign(at, layouts, ends, LexemeKind::Question, found);
-    layouts.enter(options, mark.col(), mark)?;
-    behind_question(alloc, options, at, layouts, found)
+    layouts.enter(options, mark.col(), mark, fault)?;
+    behind_question(alloc, options, at, layouts, found, fault)
 }
 
 /// A `?` in flow.
@@ -194,22 +203,23 @@ fn behind_question<'input, T: BorrowedInput<'input>>(
     at: &mut Cursor<T>,
     layouts: &mut Layouts,
     found: &mut Lexeme<'input>,
-) -> Result<(), ScanError>
+    fault: &mut Option<ScanError>,
+) -> Result<(), Refused>
     requires room { layouts.old.number < 2 ^ 63 }
     ensures here { (lexeme_view found.old).tail ≡ None → ReadsItems T.unread (options_of options.now).emit_comments
         at.old at.new layouts.new
-        (lexeme_in found.new) result
+        (lexeme_in found.new) (answered fault.new result)
         (λ h. question_from (options_of options.now) (lexeme_view found.old) h layouts.old) }
-    ensures memory { (options_of options.now).emit_comments ≡ false → NeverWants result }
+    ensures memory { (options_of options.now).emit_comments ≡ false → NeverWants (answered fault.new result) }
     ensures moves { Moves T.unread T.left T.origin at.old at.new }
 {
     at.look(1);
     if is_nul(at) {
-        return Err(ScanError::from_kind(at.mark(), ErrorKind::ExpectedWhitespace));
+        return Err(refuse_at(fault, at.mark(), ErrorKind::ExpectedWhitespace));
     }
     layouts.behind_question();
     past_gap(at, false);
-    question_up_to(alloc, options, at, layouts, found)
+    question_up_to(alloc, options, at, layouts, found, fault)
 }
 
 /// Whether a NUL stands here.
@@ -228,24 +238,25 @@ fn question_up_to<'input, T: BorrowedInput<'input>>(
     at: &mut Cursor<T>,
     layouts: &mut Layouts,
     found: &mut Lexeme<'input>,
-) -> Result<(), ScanError>
+    fault: &mut Option<ScanError>,
+) -> Result<(), Refused>
     requires room { layouts.old.number < 2 ^ 63 }
     requires window { 1 ≤ T.window at.old.input }
     ensures here { (lexeme_view found.old).tail ≡ None → ReadsItems T.unread (options_of options.now).emit_comments
         at.old at.new layouts.new
-        (lexeme_in found.new) result
+        (lexeme_in found.new) (answered fault.new result)
         (λ h. spec.question_up_to (options_of options.now) (lexeme_view found.old) h layouts.old) }
-    ensures memory { (options_of options.now).emit_comments ≡ false → NeverWants result }
+    ensures memory { (options_of options.now).emit_comments ≡ false → NeverWants (answered fault.new result) }
     ensures moves { Moves T.unread T.left T.origin at.old at.new }
 {
     if at.input().peek() == '#' {
-        let note = comment_at(alloc, at, options.emit_comments)?;
+        let note = comment_at(alloc, at, options.emit_comments, fault)?;
         put_tail(found, note);
         layouts.count_lexeme(LastLexeme::BehindQuestion);
         return Ok(());
     }
     let tab = leading_tab(at);
-    layouts.refuse_tab(options, at.mark(), tab)?;
+    layouts.refuse_tab(options, at.mark(), tab, fault)?;
     layouts.count_lexeme(LastLexeme::BehindQuestion);
     Ok(())
 }

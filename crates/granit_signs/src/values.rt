@@ -12,6 +12,7 @@ ghost use Rattle.granit_machine.specs.PossibleKeys as keys;
 ghost use Rattle.granit_signs.specs.IndicatorReads.{bare_by, bare_entry, begins_entry, begins_pair, colon_by};
 ghost use Rattle.granit_signs.specs.IndicatorReads.{keyed_by, keyed_entry, pair_column, with_key};
 ghost use Rattle.granit_items.specs.ItemViews.{alone, lexeme_view};
+ghost use Rattle.granit_refused.specs.Answered.{answered};
 ghost use Rattle.granit_content.specs.Reads.{NeverWants, ReadsItems, lexeme_in, seen, tail_view};
 
 use granit_base::{Marker, is_blank};
@@ -22,6 +23,7 @@ use granit_input::{BorrowedInput, Input};
 use granit_items::{KeyStart, Lexeme, LexemeKind};
 use granit_layout::{Layouts, is_adjacent};
 use granit_lexemes::{LastLexeme, PossibleKey};
+use granit_refused::{Refused, refuse_at};
 use std::alloc::Global;
 
 /// A `:` with its tail, and the simple key before it.
@@ -39,30 +41,33 @@ pub fn colon<'input, T: BorrowedInput<'input>>(
     layouts: &mut Layouts,
     ends: bool,
     found: &mut Lexeme<'input>,
-) -> Result<(), ScanError>
+    fault: &mut Option<ScanError>,
+) -> Result<(), Refused>
     requires room { layouts.old.number < 2 ^ 63 }
     ensures here { ReadsItems T.unread (options_of options.now).emit_comments at.old at.new layouts.new
-        (lexeme_in found.new) result (λ h. spec.colon (options_of options.now) ends h layouts.old) }
+        (lexeme_in found.new) (answered fault.new result)
+        (λ h. spec.colon (options_of options.now) ends h layouts.old) }
     ensures memory { (options_of options.now).emit_comments ≡ false
         → begins_pair (keys.top_key layouts.old) (keys.is_allowed at.old.begins_line at.old.tab layouts.old) layouts.old
-        ≡ false → NeverWants result }
+        ≡ false → NeverWants (answered fault.new result) }
     ensures column { (options_of options.now).emit_comments ≡ false → opens_column (options_of options.now)
-        (pair_column (keys.top_key layouts.old) at.old.place.column) layouts.old.columns ≡ false → NeverWants result }
+        (pair_column (keys.top_key layouts.old) at.old.place.column) layouts.old.columns ≡ false
+        → NeverWants (answered fault.new result) }
     ensures moves { Moves T.unread T.left T.origin at.old at.new }
 {
     let allowed = layouts.is_allowed(at.begins_line(), at.tab());
     at.look(2);
     let mark = at.mark();
     if is_before_flow(at, layouts) {
-        return Err(ScanError::from_kind(mark, ErrorKind::FlowMappingValueAdjacentCollection));
+        return Err(refuse_at(fault, mark, ErrorKind::FlowMappingValueAdjacentCollection));
     }
     let start = start_of(at);
     at.step();
     let end = at.mark();
-    let tail = colon_tail(alloc, at, options.emit_comments)?;
+    let tail = colon_tail(alloc, at, options.emit_comments, fault)?;
     write_lexeme(found, layouts, ends, LexemeKind::Colon, &start, end);
     put_tail(found, tail);
-    colon_by_key(options, layouts, mark, allowed, found)
+    colon_by_key(options, layouts, mark, allowed, found, fault)
 }
 
 /// Whether a flow collection stands directly behind a `:` where no value may stand at once.
@@ -87,15 +92,16 @@ fn colon_tail<'input, T: BorrowedInput<'input>>(
     alloc: Global,
     at: &mut Cursor<T>,
     asked: bool,
-) -> Result<Tail<'input>, ScanError>
+    fault: &mut Option<ScanError>,
+) -> Result<Tail<'input>, Refused>
     ensures here { Wherever T.unread at.old at.new (λ h Lands.
-        GivesTo tail_view result Lands (coded (seen asked) (spec.colon_tail h))) }
-    ensures memory { asked ≡ false → NeverWants result }
+        GivesTo tail_view (answered fault.new result) Lands (coded (seen asked) (spec.colon_tail h))) }
+    ensures memory { asked ≡ false → NeverWants (answered fault.new result) }
     ensures moves { Moves T.unread T.left T.origin at.old at.new }
 {
     at.look(1);
     if is_blank(at.input().peek()) {
-        return tail_at(alloc, at, asked);
+        return tail_at(alloc, at, asked, fault);
     }
     Ok(Tail::Nothing)
 }
@@ -107,18 +113,21 @@ fn colon_by_key(
     mark: Marker,
     allowed: bool,
     found: &mut Lexeme<'_>,
-) -> Result<(), ScanError>
+    fault: &mut Option<ScanError>,
+) -> Result<(), Refused>
     requires room { layouts.old.number < 2 ^ 63 }
-    ensures here { (after : Here) → Gives (lexeme_in found.new) result (record { here = after; laid = layouts.new })
+    ensures here { (after : Here) → Gives (lexeme_in found.new) (answered fault.new result)
+        (record { here = after; laid = layouts.new })
         (colon_by (options_of options.now) (keys.top_key layouts.old) (lexeme_view found.old) mark allowed after
         layouts.old) }
-    ensures memory { begins_pair (keys.top_key layouts.old) allowed layouts.old ≡ false → NeverWants result }
+    ensures memory { begins_pair (keys.top_key layouts.old) allowed layouts.old ≡ false
+        → NeverWants (answered fault.new result) }
     ensures column { opens_column (options_of options.now) (pair_column (keys.top_key layouts.old) mark.place.column)
-        layouts.old.columns ≡ false → NeverWants result }
+        layouts.old.columns ≡ false → NeverWants (answered fault.new result) }
 {
     match layouts.top_key() {
-        Some(key) => keyed_colon(options, layouts, mark, key, found),
-        None => bare_colon(options, layouts, mark, allowed, found),
+        Some(key) => keyed_colon(options, layouts, mark, key, found, fault),
+        None => bare_colon(options, layouts, mark, allowed, found, fault),
     }
 }
 
@@ -130,15 +139,17 @@ fn keyed_colon(
     mark: Marker,
     key: PossibleKey,
     found: &mut Lexeme<'_>,
-) -> Result<(), ScanError>
+    fault: &mut Option<ScanError>,
+) -> Result<(), Refused>
     requires room { layouts.old.number < 2 ^ 63 }
-    ensures here { (after : Here) → Gives (lexeme_in found.new) result (record { here = after; laid = layouts.new })
+    ensures here { (after : Here) → Gives (lexeme_in found.new) (answered fault.new result)
+        (record { here = after; laid = layouts.new })
         (keyed_by (options_of options.now) key (lexeme_view found.old) mark after layouts.old) }
-    ensures memory { is_in_flow layouts.old ≡ true → NeverWants result }
+    ensures memory { is_in_flow layouts.old ≡ true → NeverWants (answered fault.new result) }
     ensures column { opens_column (options_of options.now) key.start.place.column layouts.old.columns ≡ false
-        → NeverWants result }
+        → NeverWants (answered fault.new result) }
 {
-    enter_keyed(options, layouts, mark, &key)?;
+    enter_keyed(options, layouts, mark, &key, fault)?;
     keyed(layouts, &key, found);
     Ok(())
 }
@@ -149,19 +160,21 @@ fn enter_keyed(
     layouts: &mut Layouts,
     mark: Marker,
     key: &PossibleKey,
-) -> Result<(), ScanError>
-    ensures here { LeavesIfRoom result layouts.new (keyed_entry (options_of options.now) key.now mark layouts.old) }
-    ensures memory { is_in_flow layouts.old ≡ true → NeverWants result }
+    fault: &mut Option<ScanError>,
+) -> Result<(), Refused>
+    ensures here { LeavesIfRoom (answered fault.new result) layouts.new
+        (keyed_entry (options_of options.now) key.now mark layouts.old) }
+    ensures memory { is_in_flow layouts.old ≡ true → NeverWants (answered fault.new result) }
     ensures column { opens_column (options_of options.now) key.now.start.place.column layouts.old.columns ≡ false
-        → NeverWants result }
+        → NeverWants (answered fault.new result) }
 {
     if layouts.is_far_below(mark, key) {
-        return Err(ScanError::from_kind(mark, ErrorKind::InvalidColonPlacement));
+        return Err(refuse_at(fault, mark, ErrorKind::InvalidColonPlacement));
     }
     if layouts.is_in_flow() {
         return Ok(());
     }
-    layouts.enter_pair(options, key.start.col(), key.start)
+    layouts.enter_pair(options, key.start.col(), key.start, fault)
 }
 
 /// The lexeme of a `:` with its key.
@@ -194,15 +207,17 @@ fn bare_colon(
     mark: Marker,
     allowed: bool,
     found: &mut Lexeme<'_>,
-) -> Result<(), ScanError>
+    fault: &mut Option<ScanError>,
+) -> Result<(), Refused>
     requires room { layouts.old.number < 2 ^ 63 }
-    ensures here { (after : Here) → Gives (lexeme_in found.new) result (record { here = after; laid = layouts.new })
+    ensures here { (after : Here) → Gives (lexeme_in found.new) (answered fault.new result)
+        (record { here = after; laid = layouts.new })
         (bare_by (options_of options.now) (lexeme_view found.old) mark allowed after layouts.old) }
-    ensures memory { begins_entry allowed layouts.old ≡ false → NeverWants result }
+    ensures memory { begins_entry allowed layouts.old ≡ false → NeverWants (answered fault.new result) }
     ensures column { opens_column (options_of options.now) mark.place.column layouts.old.columns ≡ false
-        → NeverWants result }
+        → NeverWants (answered fault.new result) }
 {
-    let last = enter_bare(options, layouts, mark, allowed)?;
+    let last = enter_bare(options, layouts, mark, allowed, fault)?;
     layouts.count_lexeme(last);
     Ok(())
 }
@@ -213,19 +228,20 @@ fn enter_bare(
     layouts: &mut Layouts,
     mark: Marker,
     allowed: bool,
-) -> Result<LastLexeme, ScanError>
-    ensures here { Gives (λ last. last) result layouts.new
+    fault: &mut Option<ScanError>,
+) -> Result<LastLexeme, Refused>
+    ensures here { Gives (λ last. last) (answered fault.new result) layouts.new
         (bare_entry (options_of options.now) mark allowed layouts.old) }
-    ensures memory { begins_entry allowed layouts.old ≡ false → NeverWants result }
+    ensures memory { begins_entry allowed layouts.old ≡ false → NeverWants (answered fault.new result) }
     ensures column { opens_column (options_of options.now) mark.place.column layouts.old.columns ≡ false
-        → NeverWants result }
+        → NeverWants (answered fault.new result) }
 {
     if layouts.is_in_flow() {
         return Ok(LastLexeme::Another);
     }
     if !allowed {
-        return Err(ScanError::from_kind(mark, ErrorKind::MappingValueNotAllowed));
+        return Err(refuse_at(fault, mark, ErrorKind::MappingValueNotAllowed));
     }
-    layouts.enter_pair(options, mark.col(), mark)?;
+    layouts.enter_pair(options, mark.col(), mark, fault)?;
     Ok(LastLexeme::BehindBareColon)
 }

@@ -3,6 +3,7 @@ ghost use Rattle.std.specs.Prelude.{◌≡◌, ◌++◌, [], true, false, None, 
 ghost use Rattle.granit_cursor.specs.Reading.{Moves};
 ghost use Rattle.granit_error.specs.FaultKind as faults;
 ghost use Rattle.granit_event.specs.Events.{plain_events};
+ghost use Rattle.granit_refused.specs.Answered.{answered};
 ghost use Rattle.granit_stepper.specs.Gathering.{GivesWaiting};
 ghost use Rattle.granit_stepper.specs.Numbers.{RefusesNumber};
 ghost use Rattle.granit_stepper.specs.Stepping.{StandsIn};
@@ -14,6 +15,7 @@ use granit_base::{Marker, NoMemory, Span};
 use granit_error::ScanError;
 use granit_event::Event;
 use granit_input::BorrowedInput;
+use granit_refused::{Refused, error_of};
 use std::alloc::Global;
 use std::collections::VecDeque;
 
@@ -43,9 +45,11 @@ impl<'input, T: BorrowedInput<'input>> Stepper<'input, T> {
         if self.failed {
             return Ok(false);
         }
-        match self.move_next(alloc, events) {
+        let mut fault = None;
+        match self.move_next(alloc, &mut fault, events) {
             Ok(more) => Ok(more),
-            Err(error) => {
+            Err(refused) => {
+                let error = error_of(fault, refused);
                 self.fail(&error);
                 Err(error)
             }
@@ -55,10 +59,12 @@ impl<'input, T: BorrowedInput<'input>> Stepper<'input, T> {
     fn move_next(
         &mut self,
         alloc: Global,
+        fault: &mut Option<ScanError>,
         events: &mut VecDeque<(Event<'input>, Span)>,
-    ) -> Result<bool, ScanError>
+    ) -> Result<bool, Refused>
         ensures known { (m : StepState) → StandsIn T.unread self.old m
-            → GivesWaiting result (StandsIn T.unread self.new) (steps.settle self.old.scanner.options m)
+            → GivesWaiting (answered fault.new result) (StandsIn T.unread self.new)
+            (steps.settle self.old.scanner.options m)
             (RefusesNumber self.old.renumbered self.old.scanner.options m)
             (plain_events events.old.items) (plain_events events.new.items) }
         ensures options { self.new.scanner.options ≡ self.old.scanner.options }
@@ -66,7 +72,7 @@ impl<'input, T: BorrowedInput<'input>> Stepper<'input, T> {
         ensures moves { Moves T.unread T.left T.origin self.old.scanner.cursor self.new.scanner.cursor }
     {
         self.tell_start(alloc)?;
-        self.settle(alloc)?;
+        self.settle(alloc, fault)?;
         let more = self.parser.has_event();
         self.move_waiting(events)?;
         Ok(more)

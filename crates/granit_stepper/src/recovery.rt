@@ -146,7 +146,7 @@ impl<'input, T: BorrowedInput<'input>> Stepper<'input, T> {
             if self.drop_events() {
                 return Ok(true);
             }
-            match self.advance(alloc) {
+            match self.advance_alone(alloc) {
                 Ok(true) => {}
                 Ok(false) => return Ok(true),
                 Err(error) => return self.met(error),
@@ -363,7 +363,7 @@ impl<'input, T: BorrowedInput<'input>> Stepper<'input, T> {
         ensures moves { Moves T.unread T.left T.origin self.old.scanner.cursor self.new.scanner.cursor }
     {
         let waiting = self.parser.take_events(alloc);
-        match self.advance(alloc) {
+        match self.advance_alone(alloc) {
             Ok(made) => {
                 self.parser.put_before(waiting)?;
                 Ok(made)

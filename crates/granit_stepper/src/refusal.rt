@@ -2,6 +2,7 @@
 ghost use Rattle.std.specs.Prelude.{◌≡◌, true, false, None, Some, IfOk};
 ghost use Rattle.std.specs.Option.{option_map};
 ghost use Rattle.granit_error.specs.FaultKind as faults;
+ghost use Rattle.granit_refused.specs.Answered.{why};
 ghost use Rattle.granit_frames.specs.StateViews.{stage_view};
 ghost use Rattle.granit_items.specs.ItemViews.{boxed_lexeme, item_view, lexeme_view};
 ghost use Rattle.granit_restart.specs.Header as header;
@@ -13,6 +14,7 @@ use granit_error::{ErrorKind, ScanError};
 use granit_feed::clone_tail;
 use granit_frames::{DocumentStage, ParserState};
 use granit_items::{Item, Lexeme, LexemeKind};
+use granit_refused::Refused;
 use granit_scanner::is_directive;
 use std::alloc::Global;
 
@@ -55,8 +57,25 @@ impl Before {
         }
     }
 
-    /// By the refusal itself; none where memory ran out.
-    pub(crate) fn by<'input>(self, error: &ScanError) -> Option<Refusal<'input>>
+    /// By why it was refused; none where memory ran out.
+    pub(crate) fn by<'input>(
+        self,
+        fault: &Option<ScanError>,
+        refused: Refused,
+    ) -> Option<Refusal<'input>>
+        ensures { ((why fault.now refused).kind ≡ faults.NoMemory → ⊥) → result ≡ Some
+            (record (spec.whole self) { expects_start = header.is_start_expected (why fault.now refused) }) }
+    {
+        match refused {
+            Refused::Memory => None,
+            Refused::Kept => match fault {
+                None => None,
+                Some(error) => self.by_error(error),
+            },
+        }
+    }
+
+    fn by_error<'input>(self, error: &ScanError) -> Option<Refusal<'input>>
         ensures { (error.now.kind ≡ faults.NoMemory → ⊥) → result
             ≡ Some (record (spec.whole self) { expects_start = header.is_start_expected error.now }) }
     {
@@ -118,8 +137,21 @@ impl<'input> Refusal<'input> {
         }
     }
 
-    /// By the refusal itself; none where memory ran out, since recovery is refused then.
-    pub(crate) fn by(self, error: &ScanError) -> Option<Refusal<'input>>
+    /// By why it was refused; none where memory ran out, since recovery is refused then.
+    pub(crate) fn by(self, fault: &Option<ScanError>, refused: Refused) -> Option<Refusal<'input>>
+        ensures { ((why fault.now refused).kind ≡ faults.NoMemory → ⊥) → result ≡ Some
+            (record self.entry { expects_start = header.is_start_expected (why fault.now refused) }) }
+    {
+        match refused {
+            Refused::Memory => None,
+            Refused::Kept => match fault {
+                None => None,
+                Some(error) => self.by_error(error),
+            },
+        }
+    }
+
+    fn by_error(self, error: &ScanError) -> Option<Refusal<'input>>
         ensures { (error.now.kind ≡ faults.NoMemory → ⊥) → result
             ≡ Some (record self.entry { expects_start = header.is_start_expected error.now }) }
     {

@@ -1,16 +1,18 @@
 //! An input that is read into events, one for each call.
-ghost use Rattle.std.specs.Prelude.{◌≡◌, ◌≤◌, ◌||◌, [], true, false, Option, None, Ok, Err, IfErr, IfSome, is_some};
+ghost use Rattle.std.specs.Prelude.{◌≡◌, ◌≤◌, ◌||◌, [], true, false, Option, None, Some, Ok, Err};
+ghost use Rattle.std.specs.Prelude.{IfErr, IfSome, is_some};
 ghost use Rattle.std.specs.Option.{option_map};
 ghost use Rattle.granit_base.specs.Place.{Unread};
 ghost use Rattle.granit_cursor.specs.Reading.{GoesOnward};
 ghost use Rattle.granit_cursor.specs.Reading.{GivesTo, Moves, Stands};
 ghost use Rattle.granit_error.specs.FaultKind as faults;
 ghost use Rattle.granit_error.specs.FaultKind.{FaultKind};
-ghost use Rattle.granit_error.specs.Refused.{Refused};
 ghost use Rattle.granit_error.specs.OptionsView.{options_of};
 ghost use Rattle.granit_event.specs.Events.{plain_event};
+ghost use Rattle.granit_refused.specs.Answered.{answered, why};
 ghost use Rattle.granit_frames.specs.Outside.{NoneWaitsOutside};
 ghost use Rattle.granit_input.specs.Origin.{error_given, Gave, Goes};
+ghost use Rattle.granit_lexemes.specs.Outcome.{Fault};
 ghost use Rattle.granit_lexemes.specs.Here.{Here, first_place, mark_of};
 ghost use Rattle.granit_items.specs.ItemViews.{item_view, kind_view};
 ghost use Rattle.granit_restart.specs.Turned.{Turned};
@@ -34,6 +36,7 @@ use granit_frames::ParserState;
 use granit_input::{BorrowedInput, Input};
 use granit_items::{Item, LexemeKind, Rooms};
 use granit_queue::Queued;
+use granit_refused::{Refused, error_of, refuse};
 use granit_scanner::{Front, Scanner};
 use std::alloc::Global;
 use std::marker::Model;
@@ -173,7 +176,7 @@ impl<'input, T: BorrowedInput<'input>> Stepper<'input, T> {
         ensures here { (h : Here) → Stands T.unread self.old.scanner.cursor h
             → IfSome result (λ e. e.mark ≡ mark_of h) }
         ensures known { (m : StepState) → StandsIn T.unread self.old m → result ≡ None → StandsIn T.unread self.new m }
-        ensures refused { (m : StepState) (e : Refused) → RefusedIn T.unread self.old m e → result ≡ None
+        ensures refused { (m : StepState) (e : Fault) → RefusedIn T.unread self.old m e → result ≡ None
             → RefusedIn T.unread self.new m e }
         ensures held { (m : StepState) → HoldsRefusal T.unread self.old m → result ≡ None
             → HoldsRefusal T.unread self.new m }
@@ -238,9 +241,11 @@ impl<'input, T: BorrowedInput<'input>> Stepper<'input, T> {
         ensures renumbered { self.new.renumbered ≡ self.old.renumbered }
         ensures moves { Moves T.unread T.left T.origin self.old.scanner.cursor self.new.scanner.cursor }
     {
-        match self.settle(alloc) {
+        let mut fault = None;
+        match self.settle(alloc, &mut fault) {
             Ok(()) => Ok(self.parser.pop_event()),
-            Err(error) => {
+            Err(refused) => {
+                let error = error_of(fault, refused);
                 self.fail(&error);
                 Err(error)
             }
@@ -258,103 +263,136 @@ impl<'input, T: BorrowedInput<'input>> Stepper<'input, T> {
     }
 
     /// Turns until an event waits, or nothing is left.
-    pub(crate) fn settle(&mut self, alloc: Global) -> Result<(), ScanError>
+    pub(crate) fn settle(
+        &mut self,
+        alloc: Global,
+        fault: &mut Option<ScanError>,
+    ) -> Result<(), Refused>
         ensures known { (m : StepState) → StandsIn T.unread self.old m → self.old.first ≡ None
-            → GivesOr spec.no_events result (StandsIn T.unread self.new) (steps.settle self.old.scanner.options m)
+            → GivesOr spec.no_events (answered fault.new result) (StandsIn T.unread self.new)
+            (steps.settle self.old.scanner.options m)
             (RefusesNumber self.new.renumbered self.old.scanner.options m) }
         ensures refused { (m : StepState) → StandsIn T.unread self.old m → self.old.first ≡ None
-            → Turned self.old.scanner.options m → RefusesLater T.unread self.old.scanner.options result self.new m }
-        ensures ahead { SettlesAhead result self.old self.new }
+            → Turned self.old.scanner.options m → RefusesLater T.unread self.old.scanner.options
+            (answered fault.new result) self.new m }
+        ensures ahead { SettlesAhead (answered fault.new result) self.old self.new }
         ensures keeps { Keeps self.old self.new }
         ensures moves { Moves T.unread T.left T.origin self.old.scanner.cursor self.new.scanner.cursor }
     {
-        if self.turn(alloc)? {
-            return self.settle_on(alloc);
+        if self.turn(alloc, fault)? {
+            return self.settle_on(alloc, fault);
         }
         Ok(())
     }
 
     /// The same behind a turn.
-    fn settle_on(&mut self, alloc: Global) -> Result<(), ScanError>
+    fn settle_on(&mut self, alloc: Global, fault: &mut Option<ScanError>) -> Result<(), Refused>
         ensures known { (m : StepState) → StandsIn T.unread self.old m → self.old.first ≡ None
-            → GivesOr spec.no_events result (StandsIn T.unread self.new) (steps.settle self.old.scanner.options m)
+            → GivesOr spec.no_events (answered fault.new result) (StandsIn T.unread self.new)
+            (steps.settle self.old.scanner.options m)
             (RefusesNumber self.new.renumbered self.old.scanner.options m) }
         ensures refused { (m : StepState) → StandsIn T.unread self.old m → self.old.first ≡ None
-            → Turned self.old.scanner.options m → RefusesLater T.unread self.old.scanner.options result self.new m }
+            → Turned self.old.scanner.options m → RefusesLater T.unread self.old.scanner.options
+            (answered fault.new result) self.new m }
         ensures keeps { Keeps self.old self.new }
         ensures moves { Moves T.unread T.left T.origin self.old.scanner.cursor self.new.scanner.cursor }
     {
         // Over an input of which nothing is known no number falls with each turn, so the turns are counted.
         'turns: for _ in 0..u64::MAX {
-            if !self.turn(alloc)? {
+            if !self.turn(alloc, fault)? {
                 return Ok(());
             }
         }
-        Err(ScanError::from(NoMemory))
+        Err(Refused::Memory)
     }
 
     /// One turn: the oldest item is fed where it may go, and else one more read is made; false where an event waits or
     /// nothing is left.
-    fn turn(&mut self, alloc: Global) -> Result<bool, ScanError>
+    fn turn(&mut self, alloc: Global, fault: &mut Option<ScanError>) -> Result<bool, Refused>
         ensures known { (m : StepState) → StandsIn T.unread self.old m → self.old.first ≡ None
-            → GivesOr spec.turn_view result (StandsIn T.unread self.new)
+            → GivesOr spec.turn_view (answered fault.new result) (StandsIn T.unread self.new)
             (steps.step_turn self.old.scanner.options m)
             (RefusesNumber self.new.renumbered self.old.scanner.options m) }
         ensures refused { (m : StepState) → StandsIn T.unread self.old m → self.old.first ≡ None
-            → NoneWaitsOutside m.parser → RefusesIn T.unread result self.new m }
-        ensures ahead { TurnsAhead result self.old self.new }
+            → NoneWaitsOutside m.parser → RefusesIn T.unread (answered fault.new result) self.new m }
+        ensures ahead { TurnsAhead (answered fault.new result) self.old self.new }
         ensures keeps { Keeps self.old self.new }
         ensures moves { Moves T.unread T.left T.origin self.old.scanner.cursor self.new.scanner.cursor }
     {
         if self.parser.has_event() {
             return Ok(false);
         }
-        self.advance(alloc)
+        self.advance(alloc, fault)
     }
 
     /// The same where no event waits. A turn that was made ahead and refused is refused by it.
-    pub(crate) fn advance(&mut self, alloc: Global) -> Result<bool, ScanError>
+    pub(crate) fn advance(
+        &mut self,
+        alloc: Global,
+        fault: &mut Option<ScanError>,
+    ) -> Result<bool, Refused>
         ensures known { (m : StepState) → StandsIn T.unread self.old m → self.old.first ≡ None → m.pending ≡ []
-            → GivesOr spec.turn_view result (StandsIn T.unread self.new)
+            → GivesOr spec.turn_view (answered fault.new result) (StandsIn T.unread self.new)
             (steps.step_turn self.old.scanner.options m)
             (RefusesNumber self.new.renumbered self.old.scanner.options m) }
         ensures refused { (m : StepState) → StandsIn T.unread self.old m → self.old.first ≡ None → m.pending ≡ []
-            → NoneWaitsOutside m.parser → RefusesIn T.unread result self.new m }
-        ensures ahead { IfSome self.old.ahead (λ f. (result ≡ Err f) × (self.new ≡ record self.old { ahead = None })) }
+            → NoneWaitsOutside m.parser → RefusesIn T.unread (answered fault.new result) self.new m }
+        ensures ahead { IfSome self.old.ahead
+            (λ f. (answered fault.new result ≡ Err f) × (self.new ≡ record self.old { ahead = None })) }
         ensures keeps { Keeps self.old self.new }
         ensures moves { Moves T.unread T.left T.origin self.old.scanner.cursor self.new.scanner.cursor }
     {
         match self.ahead {
-            Some(_) => self.refuse_ahead(),
-            None => self.advance_on(alloc),
+            Some(_) => self.refuse_ahead(fault),
+            None => self.advance_on(alloc, fault),
         }
     }
 
-    /// The turn that was made ahead is refused, if there was one.
-    fn refuse_ahead(&mut self) -> Result<bool, ScanError>
-        ensures ahead { IfSome self.old.ahead (λ f. (result ≡ Err f) × (self.new ≡ record self.old { ahead = None })) }
-        ensures keeps { Keeps self.old self.new }
-        ensures moves { Moves T.unread T.left T.origin self.old.scanner.cursor self.new.scanner.cursor }
-    {
-        match self.ahead.take() {
-            Some(error) => Err(error),
-            None => Ok(false),
-        }
-    }
-
-    fn advance_on(&mut self, alloc: Global) -> Result<bool, ScanError>
+    /// The same, where why it is refused is the answer.
+    pub(crate) fn advance_alone(&mut self, alloc: Global) -> Result<bool, ScanError>
         ensures known { (m : StepState) → StandsIn T.unread self.old m → self.old.first ≡ None → m.pending ≡ []
             → GivesOr spec.turn_view result (StandsIn T.unread self.new)
             (steps.step_turn self.old.scanner.options m)
             (RefusesNumber self.new.renumbered self.old.scanner.options m) }
         ensures refused { (m : StepState) → StandsIn T.unread self.old m → self.old.first ≡ None → m.pending ≡ []
             → NoneWaitsOutside m.parser → RefusesIn T.unread result self.new m }
+        ensures ahead { IfSome self.old.ahead (λ f. (result ≡ Err f) × (self.new ≡ record self.old { ahead = None })) }
+        ensures keeps { Keeps self.old self.new }
+        ensures moves { Moves T.unread T.left T.origin self.old.scanner.cursor self.new.scanner.cursor }
+    {
+        let mut fault = None;
+        match self.advance(alloc, &mut fault) {
+            Ok(made) => Ok(made),
+            Err(refused) => Err(error_of(fault, refused)),
+        }
+    }
+
+    /// The turn that was made ahead is refused, if there was one.
+    fn refuse_ahead(&mut self, fault: &mut Option<ScanError>) -> Result<bool, Refused>
+        ensures ahead { IfSome self.old.ahead
+            (λ f. (answered fault.new result ≡ Err f) × (self.new ≡ record self.old { ahead = None })) }
+        ensures keeps { Keeps self.old self.new }
+        ensures moves { Moves T.unread T.left T.origin self.old.scanner.cursor self.new.scanner.cursor }
+    {
+        match self.ahead.take() {
+            Some(error) => Err(refuse(fault, error)),
+            None => Ok(false),
+        }
+    }
+
+    fn advance_on(&mut self, alloc: Global, fault: &mut Option<ScanError>) -> Result<bool, Refused>
+        ensures known { (m : StepState) → StandsIn T.unread self.old m → self.old.first ≡ None → m.pending ≡ []
+            → GivesOr spec.turn_view (answered fault.new result) (StandsIn T.unread self.new)
+            (steps.step_turn self.old.scanner.options m)
+            (RefusesNumber self.new.renumbered self.old.scanner.options m) }
+        ensures refused { (m : StepState) → StandsIn T.unread self.old m → self.old.first ≡ None → m.pending ≡ []
+            → NoneWaitsOutside m.parser → RefusesIn T.unread (answered fault.new result) self.new m }
         ensures keeps { Keeps self.old self.new }
         ensures moves { Moves T.unread T.left T.origin self.old.scanner.cursor self.new.scanner.cursor }
     {
         match self.take_free() {
-            Some(front) => self.take_item(alloc, front),
-            None => self.read_more(alloc),
+            Some(front) => self.take_item(alloc, fault, front),
+            None => self.read_more(alloc, fault),
         }
     }
 
@@ -374,32 +412,44 @@ impl<'input, T: BorrowedInput<'input>> Stepper<'input, T> {
     }
 
     /// The parser takes an item; no anchor may get the greatest number by it. Where it is refused it gives no event.
-    fn take_item(&mut self, alloc: Global, front: Front<'input>) -> Result<bool, ScanError>
+    fn take_item(
+        &mut self,
+        alloc: Global,
+        fault: &mut Option<ScanError>,
+        front: Front<'input>,
+    ) -> Result<bool, Refused>
         ensures known { (m : StepState) → StandsIn T.unread self.old m → self.old.first ≡ None → m.pending ≡ []
-            → GivesOr spec.turn_view result (StandsIn T.unread self.new)
+            → GivesOr spec.turn_view (answered fault.new result) (StandsIn T.unread self.new)
             (spec.feed_item self.old.scanner.options (front_view front.entry) m)
             (λ e. (self.new.renumbered ≡ true)
             × GetsLast self.old.scanner.options (front_view front.entry) m.parser e) }
         ensures refused { (m : StepState) → StandsIn T.unread self.old m → self.old.first ≡ None → m.pending ≡ []
-            → NoneWaitsOutside m.parser → RefusesItem T.unread (front_view front.entry) result self.new m }
+            → NoneWaitsOutside m.parser → RefusesItem T.unread (front_view front.entry)
+            (answered fault.new result) self.new m }
         ensures keeps { Keeps self.old self.new }
         ensures scanner { self.new.scanner ≡ self.old.scanner }
     {
         if is_mark(&front.queued.item) {
-            return self.take_mark(alloc, front);
+            return self.take_mark(alloc, fault, front);
         }
-        self.take_other(alloc, front)
+        self.take_other(alloc, fault, front)
     }
 
     /// The same of any item, of which a mark is kept for what comes of its refusal.
-    fn take_mark(&mut self, alloc: Global, front: Front<'input>) -> Result<bool, ScanError>
+    fn take_mark(
+        &mut self,
+        alloc: Global,
+        fault: &mut Option<ScanError>,
+        front: Front<'input>,
+    ) -> Result<bool, Refused>
         ensures known { (m : StepState) → StandsIn T.unread self.old m → self.old.first ≡ None → m.pending ≡ []
-            → GivesOr spec.turn_view result (StandsIn T.unread self.new)
+            → GivesOr spec.turn_view (answered fault.new result) (StandsIn T.unread self.new)
             (spec.feed_item self.old.scanner.options (front_view front.entry) m)
             (λ e. (self.new.renumbered ≡ true)
             × GetsLast self.old.scanner.options (front_view front.entry) m.parser e) }
         ensures refused { (m : StepState) → StandsIn T.unread self.old m → self.old.first ≡ None → m.pending ≡ []
-            → NoneWaitsOutside m.parser → RefusesItem T.unread (front_view front.entry) result self.new m }
+            → NoneWaitsOutside m.parser → RefusesItem T.unread (front_view front.entry)
+            (answered fault.new result) self.new m }
         ensures keeps { Keeps self.old self.new }
         ensures scanner { self.new.scanner ≡ self.old.scanner }
     {
@@ -413,6 +463,7 @@ impl<'input, T: BorrowedInput<'input>> Stepper<'input, T> {
         let options = self.scanner.options();
         let fed = feed(
             &mut self.parser,
+            fault,
             alloc,
             options,
             item,
@@ -420,29 +471,35 @@ impl<'input, T: BorrowedInput<'input>> Stepper<'input, T> {
             next_line,
             &mut self.rooms,
         );
-        match self.unless_numberless(fed, anchor) {
+        match self.unless_numberless(fault, fed, anchor) {
             Ok(()) => {
                 drop(refusal);
                 Ok(true)
             }
-            Err(error) => {
+            Err(refused) => {
                 self.parser.drop_events();
-                self.refusal = refusal.by(&error);
-                Err(error)
+                self.refusal = refusal.by(fault, refused);
+                Err(refused)
             }
         }
     }
 
     /// The same of an item that is no mark.
-    fn take_other(&mut self, alloc: Global, front: Front<'input>) -> Result<bool, ScanError>
+    fn take_other(
+        &mut self,
+        alloc: Global,
+        fault: &mut Option<ScanError>,
+        front: Front<'input>,
+    ) -> Result<bool, Refused>
         requires { refusals.mark_in (front_view front).0.item ≡ None }
         ensures known { (m : StepState) → StandsIn T.unread self.old m → self.old.first ≡ None → m.pending ≡ []
-            → GivesOr spec.turn_view result (StandsIn T.unread self.new)
+            → GivesOr spec.turn_view (answered fault.new result) (StandsIn T.unread self.new)
             (spec.feed_item self.old.scanner.options (front_view front.entry) m)
             (λ e. (self.new.renumbered ≡ true)
             × GetsLast self.old.scanner.options (front_view front.entry) m.parser e) }
         ensures refused { (m : StepState) → StandsIn T.unread self.old m → self.old.first ≡ None → m.pending ≡ []
-            → NoneWaitsOutside m.parser → RefusesItem T.unread (front_view front.entry) result self.new m }
+            → NoneWaitsOutside m.parser → RefusesItem T.unread (front_view front.entry)
+            (answered fault.new result) self.new m }
         ensures keeps { Keeps self.old self.new }
         ensures scanner { self.new.scanner ≡ self.old.scanner }
     {
@@ -453,6 +510,7 @@ impl<'input, T: BorrowedInput<'input>> Stepper<'input, T> {
         let options = self.scanner.options();
         let fed = feed(
             &mut self.parser,
+            fault,
             alloc,
             options,
             item,
@@ -460,12 +518,12 @@ impl<'input, T: BorrowedInput<'input>> Stepper<'input, T> {
             next_line,
             &mut self.rooms,
         );
-        match self.unless_numberless(fed, anchor) {
+        match self.unless_numberless(fault, fed, anchor) {
             Ok(()) => Ok(true),
-            Err(error) => {
+            Err(refused) => {
                 self.parser.drop_events();
-                self.refusal = before.by(&error);
-                Err(error)
+                self.refusal = before.by(fault, refused);
+                Err(refused)
             }
         }
     }
@@ -473,16 +531,23 @@ impl<'input, T: BorrowedInput<'input>> Stepper<'input, T> {
     /// What was answered, unless an anchor got the greatest number by it.
     fn unless_numberless(
         &self,
-        fed: Result<(), ScanError>,
+        fault: &mut Option<ScanError>,
+        fed: Result<(), Refused>,
         anchor: Option<Marker>,
-    ) -> Result<(), ScanError>
-        ensures { UnlessNumberless self.now fed anchor result }
+    ) -> Result<(), Refused>
+        ensures { UnlessNumberless self.now (answered fault.old fed) anchor (answered fault.new result) }
     {
         fed?;
         if self.parser.is_numbered_out() {
-            return Err(self.numberless(anchor));
+            return Err(self.refuse_numberless(fault, anchor));
         }
         Ok(())
+    }
+
+    fn refuse_numberless(&self, fault: &mut Option<ScanError>, anchor: Option<Marker>) -> Refused
+        ensures { IsNumberless self.now.renumbered anchor (why fault.new result) }
+    {
+        refuse(fault, self.numberless(anchor))
     }
 
     /// Why an anchor may not have the greatest number: none is left behind it, or, where no number was ever set, there
@@ -503,37 +568,37 @@ impl<'input, T: BorrowedInput<'input>> Stepper<'input, T> {
     }
 
     /// One more read, or the fault of the one before; false behind the end.
-    fn read_more(&mut self, alloc: Global) -> Result<bool, ScanError>
+    fn read_more(&mut self, alloc: Global, fault: &mut Option<ScanError>) -> Result<bool, Refused>
         ensures known { (m : StepState) → StandsIn T.unread self.old m → may_front_go m.reading m.queue ≡ false
-            → GivesTo spec.turn_view result (StandsIn T.unread self.new)
+            → GivesTo spec.turn_view (answered fault.new result) (StandsIn T.unread self.new)
             (steps.read_more self.old.scanner.options m.reading.ended m) }
         ensures refused { (m : StepState) → StandsIn T.unread self.old m → self.old.first ≡ None → m.pending ≡ []
-            → may_front_go m.reading m.queue ≡ false → RefusesIn T.unread result self.new m }
+            → may_front_go m.reading m.queue ≡ false → RefusesIn T.unread (answered fault.new result) self.new m }
         ensures keeps { Keeps self.old self.new }
         ensures moves { Moves T.unread T.left T.origin self.old.scanner.cursor self.new.scanner.cursor }
     {
         if self.scanner.is_over() {
-            return self.end();
+            return self.end(fault);
         }
         self.scanner.read_on(alloc, &mut self.rooms)?;
         Ok(true)
     }
 
     /// Reading is over: by a fault, or at the end.
-    fn end(&mut self) -> Result<bool, ScanError>
+    fn end(&mut self, fault: &mut Option<ScanError>) -> Result<bool, Refused>
         ensures known { (m : StepState) → StandsIn T.unread self.old m → steps.is_over m.reading ≡ true
-            → GivesTo spec.turn_view result (StandsIn T.unread self.new)
+            → GivesTo spec.turn_view (answered fault.new result) (StandsIn T.unread self.new)
             (steps.read_more self.old.scanner.options m.reading.ended m) }
         ensures refused { (m : StepState) → StandsIn T.unread self.old m → self.old.first ≡ None → m.pending ≡ []
-            → may_front_go m.reading m.queue ≡ false → RefusesIn T.unread result self.new m }
+            → may_front_go m.reading m.queue ≡ false → RefusesIn T.unread (answered fault.new result) self.new m }
         ensures keeps { Keeps self.old self.new }
         ensures cursor { self.new.scanner.cursor ≡ self.old.scanner.cursor }
     {
         match self.scanner.take_fault() {
             None => Ok(false),
-            Some(fault) => {
+            Some(error) => {
                 self.refusal = Some(Refusal::at_read(&self.parser));
-                Err(fault)
+                Err(refuse(fault, error))
             }
         }
     }

@@ -6,6 +6,7 @@ use Rattle.granit_machine.specs.Gaps as spec
 use Rattle.granit_cursor.specs.Reading.{GivesTo, coded}
 use Rattle.granit_content.specs.Reads.{IsAt, seen, tail_view}
 use Rattle.granit_content.proofs.GapLemmas.{gap_noted, gap_ready}
+use Rattle.granit_refused.specs.Answered.{answered}
 use Rattle.granit_content.proofs.gaps.gap.Goals as goal
 
 pub returns-then-peek-eq35-clause-here : goal.returns-then-peek-eq35-clause-here
@@ -21,7 +22,7 @@ returns-then-peek-eq35-clause-here g c = λ h k.
     let is : spec.gap o h l ≡ spec.noted_gap now l =
     ap (λ (m : Bool). spec.gap_ends o (spec.begins_gap m h) (spec.past_gap m h) l)
     (sym c.takes_prefix-may_prefix.ensures) ∙ gap_noted o (spec.begins_gap may h) now l hash in
-    subst (λ (r : spec.GapRead). GivesTo tail_view c.noted_gap.result
+    subst (λ (r : spec.GapRead). GivesTo tail_view (answered c.noted_gap.new.fault c.noted_gap.result)
     (IsAt g.T.Input.unread c.noted_gap.new.at c.noted_gap.new.layouts) (coded (seen o.emit_comments) r)) (sym is)
     (c.noted_gap.ensures.here now looked)
 
@@ -39,6 +40,6 @@ returns-clause-here g c = λ h k.
     ap (λ (m : Bool). spec.gap_ends o (spec.begins_gap m h) (spec.past_gap m h) l)
     (sym c.takes_prefix-may_prefix.ensures) ∙ ap (λ (b : Bool). spec.gap_ends o b now l) (sym begins.1)
     ∙ gap_ready o c.begins_gap-moved.result now l hash in
-    subst (λ (r : spec.GapRead). GivesTo tail_view c.ready_gap.result
+    subst (λ (r : spec.GapRead). GivesTo tail_view (answered c.ready_gap.new.fault c.ready_gap.result)
     (IsAt g.T.Input.unread c.past_gap.new.at c.ready_gap.new.layouts) (coded (seen o.emit_comments) r)) (sym is)
     (c.ready_gap.ensures.here now looked)

@@ -1,4 +1,4 @@
-use Rattle.std.proofs.Common.{◌≡◌, ◌∙◌, subst, sym, Bool, arith}
+use Rattle.std.proofs.Common.{◌∙◌, subst, sym, Bool, arith}
 use Rattle.granit_base.specs.Classes.{is_blank}
 use Rattle.granit_input.proofs.OriginLemmas.{goes_on}
 use Rattle.granit_lexemes.specs.Here.{Here, past}

@@ -4,7 +4,7 @@ use Rattle.granit_content.proofs.nodes.alias_lexeme.Goals as goal
 
 pub returns-clause-here : goal.returns-clause-here
 returns-clause-here g c = λ asked h k.
-    let token = c.in_ok-token.ensures.here h k in
+    let token = rw c.in_ok-token.ensures at (c.scan_anchor.ensures.here h k) in
     let lexeme = c.token_lexeme.ensures h token.0 (c.start_of-start.ensures h k) token.1 in (
       record { here = token.0; laid = c.count_lexeme.new.self },
       (token.1, refl),

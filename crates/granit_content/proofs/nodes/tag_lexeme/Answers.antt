@@ -5,11 +5,11 @@ use Rattle.granit_content.proofs.nodes.tag_lexeme.Goals as goal
 
 pub returns-clause-here : goal.returns-clause-here
 returns-clause-here g c = λ asked h k.
-    let token = c.in_ok-token.ensures.here h k in
+    let token = rw (c.in_ok-token.ensures, c.is_in_flow.ensures) at (c.scan_tag.ensures.here h k) in
     let lexeme = c.token_lexeme.ensures h token.0 (c.start_of-start.ensures h k) token.1 in (
       record { here = token.0; laid = c.count_lexeme.new.self },
       (token.1, refl),
       rw (lexeme, c.count_lexeme.ensures, c.last_of_property-last.ensures)
           (tag_items asked c.args.ends h c.args.layouts.now c.in_ok-token.token token.0
-          (options_of c.args.options.now) (rw c.is_in_flow.ensures at token.2)),
+          (options_of c.args.options.now) token.2),
     )

@@ -15,7 +15,7 @@ returns-clause-here g c = λ h k.
     let begun = c.start_of-start.ensures h k in
     let told = c.layout-layout.ensures ∙ ap (λ (n : ℕ). asking o.emit_comments (layout_of o n c.args.layouts.now))
     (c.col.ensures ∙ ap (λ (m : Mark). m.place.column) (sym begun.0)) in
-    let read = c.in_ok-read.ensures.here h k in
+    let read = rw c.in_ok-read.ensures at (c.scan_block_scalar.ensures.here h k) in
     let is = ap (λ (at : LayoutData). block_lexed_at at c.args.literal h) (sym told) ∙ read.2 in
     let lexeme = c.shown_lexeme.ensures h begun
     ∙ ap (λ (t : Option CommentRead). shown_as c.args.ends c.in_ok-read.read.token t h c.args.layouts.now)

@@ -7,6 +7,7 @@ use Rattle.granit_machine.specs.PossibleKeys.{layout_of}
 use Rattle.granit_lex.specs.PlainCode.{plain_from}
 use Rattle.granit_content.specs.ScalarReads.{asking}
 use Rattle.granit_content.proofs.ScalarLemmas.{plain_items, plain_fails}
+use Rattle.granit_refused.specs.Answered.{why}
 use Rattle.granit_content.proofs.scalars.plain_lexeme.Goals as goal
 
 pub returns-in_err-read_plain-clause-here : goal.returns-in_err-read_plain-clause-here
@@ -16,7 +17,8 @@ returns-in_err-read_plain-clause-here g c = λ h k.
     let begun = c.start_of-start.ensures h k in
     let told = c.layout-layout.ensures ∙ ap (λ (n : ℕ). asking o.emit_comments (layout_of o n c.args.layouts.now))
     (c.col.ensures ∙ ap (λ (m : Mark). m.place.column) (sym begun.0)) in
-    rw (p.1, p.2) (plain_fails o o.emit_comments c.args.ends h c.args.layouts.now c.in_err-read_plain.field-0.0
+    rw (p.1, p.2) (plain_fails o o.emit_comments c.args.ends h c.args.layouts.now
+    (why c.read_plain.new.fault c.in_err-read_plain.field-0.0)
     (rw told at (c.in_err-read_plain.ensures.here h k)))
 
 pub returns-clause-here : goal.returns-clause-here

@@ -11,6 +11,7 @@ use Rattle.granit_lex.specs.QuotedCode.{quoted_from, remark_token}
 use Rattle.granit_content.specs.KindViews.{note_of_token}
 use Rattle.granit_content.specs.ScalarReads.{asking}
 use Rattle.granit_content.proofs.ScalarLemmas.{quoted_items, quoted_fails}
+use Rattle.granit_refused.specs.Answered.{why}
 use Rattle.granit_content.proofs.scalars.quoted_lexeme.Goals as goal
 
 pub returns-in_err-read_quoted-clause-here : goal.returns-in_err-read_quoted-clause-here
@@ -20,7 +21,8 @@ returns-in_err-read_quoted-clause-here g c = λ h k.
     let begun = c.start_of-start.ensures h k in
     let told = c.layout-layout.ensures ∙ ap (λ (n : ℕ). asking o.emit_comments (layout_of o n c.args.layouts.now))
     (c.col.ensures ∙ ap (λ (m : Mark). m.place.column) (sym begun.0)) in
-    rw (p.1, p.2) (quoted_fails o o.emit_comments c.args.ends h c.args.layouts.now c.in_err-read_quoted.field-0.0
+    rw (p.1, p.2) (quoted_fails o o.emit_comments c.args.ends h c.args.layouts.now
+    (why c.read_quoted.new.fault c.in_err-read_quoted.field-0.0)
     c.args.single (rw told at (c.in_err-read_quoted.ensures.here h k)))
 
 pub returns-clause-here : goal.returns-clause-here

@@ -6,6 +6,7 @@ use Rattle.granit_lexemes.specs.Outcome.{Fault}
 use Rattle.granit_cursor.specs.Reading.{Stands, GivesTo}
 use Rattle.granit_content.specs.Reads.{Seen, tail_view}
 use Rattle.granit_content.proofs.TailLemmas.{run_lands, no_comment, comment_touches, comment_stands}
+use Rattle.granit_refused.specs.Answered.{answered}
 use Rattle.granit_content.proofs.tail.tail_at.Goals as goal
 
 pub returns-then-peek-ne35-clause-here : goal.returns-then-peek-ne35-clause-here
@@ -31,7 +32,8 @@ returns-then-blanks-eq0-clause-here g c = λ h k.
     let found : c.peek.result ≡ next_char now = c.peek.ensures.value now.unread (rw c.input.ensures looked.0) in
     let y : (next_char now == 0x23) ≡ true = grind (arith, nat_tests, found, c.if-peek-ne35.false) in
     let e : (n == 0) ≡ true = grind (arith, nat_tests, c.if-blanks-eq0.true) in
-    λ other. rw (c.from_kind.ensures, c.mark.ensures.here now looked) (comment_touches c.args.asked n h run.0 y e)
+    λ other. rw (c.refuse_at.ensures.refusal, c.refuse_at.ensures.kept, c.mark.ensures.here now looked)
+    (comment_touches c.args.asked n h run.0 y e)
 
 pub returns-clause-here : goal.returns-clause-here
 returns-clause-here g c = λ h k.
@@ -44,6 +46,6 @@ returns-clause-here g c = λ h k.
     let found : c.peek.result ≡ next_char now = c.peek.ensures.value now.unread (rw c.input.ensures looked.0) in
     let y : (next_char now == 0x23) ≡ true = grind (arith, nat_tests, found, c.if-peek-ne35.false) in
     let e : (n == 0) ≡ false = grind (arith, nat_tests, c.if-blanks-eq0.false) in
-    subst (λ (r : Result (Seen × Here) Fault). GivesTo tail_view c.comment_at.result
+    subst (λ (r : Result (Seen × Here) Fault). GivesTo tail_view (answered c.comment_at.new.fault c.comment_at.result)
     (Stands g.T.Input.unread c.comment_at.new.at) r) (sym (comment_stands c.args.asked n h run.0 y e))
     (c.comment_at.ensures.here now looked)

@@ -1,5 +1,6 @@
 use Rattle.std.specs.Option.{option_map}
 use Rattle.granit_error.specs.OptionsView.{options_of}
+use Rattle.granit_refused.specs.Answered.{answered}
 use Rattle.granit_items.specs.ItemViews.{boxed_view}
 use Rattle.granit_sorts.specs.SortViews.{machine_token}
 use Rattle.granit_feed.proofs.HandleLemmas.{tail_keeps}
@@ -11,4 +12,5 @@ returns-clause-refused c = λ free.
     c.close.new.self c.take_token.new.state c.take_tail.new.state c.in_ok-take_token.ensures.leaves
     c.in_ok-close.ensures.kept c.take_tail.ensures.kept c.in_ok-take_token.ensures.kept
     c.in_ok-take_token.ensures.inside (c.in_ok-close.ensures.outside free)
-    (option_map boxed_view c.in_ok-tail.tail) c.take_tail.result c.take_tail.ensures.leaves
+    (option_map boxed_view c.in_ok-tail.tail) (answered c.take_tail.new.fault c.take_tail.result)
+    c.take_tail.ensures.leaves

@@ -15,7 +15,7 @@ returns-then-not-is_hex-clause-here g c = λ h k.
     let seen : c.peek-digit.result ≡ next_char told.0 = c.peek-digit.ensures.value told.0.unread
     (rw c.input.ensures looked.0) in
     let none : is_hex (next_char told.0) ≡ false = ap is_hex (sym seen) ∙ sym c.is_hex.ensures ∙ c.if-not-is_hex.true in
-    λ other. rw (c.from_kind.ensures, c.hex_kind.ensures.kind)
+    λ other. rw (c.refuse_at.ensures.refusal, c.refuse_at.ensures.kept, c.hex_kind.ensures.kind)
     (sym told.2 ∙ digits_stop (hex_refusal c.args.second) c.args.start c.args.count c.digits.i c.digits.number told.0
     (omega (arith, c.digits-test.true)) none)
 

@@ -8,6 +8,7 @@ use Rattle.granit_cursor.specs.Tokens.{layout_data}
 use Rattle.granit_lex.specs.PlainCode.{plain_from, plain_lexed, ended_by}
 use Rattle.granit_lex.specs.Taken.{PlainTaken}
 use Rattle.granit_lex.proofs.FurtherLines.{copied_by, ended_same}
+use Rattle.granit_refused.specs.Answered.{answered}
 use Rattle.granit_lex.proofs.plain.read_copied.Goals as goal
 
 pub returns-clause-here : goal.returns-clause-here
@@ -21,5 +22,6 @@ returns-clause-here g c = λ h k start.
     (c.owned.ensures ∙ ap (λ (p : PlainTaken). owned p.value) c.parts.view_is) c.end_of-ended.ensures.end
     c.end_of-ended.ensures.on_new_line c.end_of-ended.ensures.cuts) in
     subst (λ (r : Result (PlainRead × Here) Fault). GivesTo (λ _. plain_from c.args.start c.finish_plain.new.read)
-    c.finish_plain.result (Stands g.T.Input.unread c.finish_plain.new.cursor) (coded plain_lexed r)) (sym whole)
+    (answered c.finish_plain.new.fault c.finish_plain.result) (Stands g.T.Input.unread c.finish_plain.new.cursor)
+    (coded plain_lexed r)) (sym whole)
     (c.finish_plain.ensures.here read.0 read.1)

@@ -11,6 +11,7 @@ use Rattle.granit_lex.specs.PlainCode.{plain_from, plain_lexed, ended_by}
 use Rattle.granit_lex.specs.Taken.{PlainTaken}
 use Rattle.granit_lex.proofs.FurtherLines.{further_by, ended_same, text_by}
 use Rattle.granit_lex.proofs.MemoryLemmas.{begun_blank, one_line, unexpected_other}
+use Rattle.granit_refused.specs.Answered.{answered}
 use Rattle.granit_lex.proofs.plain.read_further.Goals as goal
 
 pub returns-clause-here : goal.returns-clause-here
@@ -29,7 +30,8 @@ returns-clause-here g c = λ h k.
     (ap chars c.as_str.ensures.value ∙ ap (λ (p : PlainTaken). p.value) c.parts.view_is)) c.end_of-ended.ensures.end
     c.end_of-ended.ensures.on_new_line c.end_of-ended.ensures.cuts) in
     subst (λ (r : Result (PlainRead × Here) Fault). GivesTo (λ _. plain_from c.args.start c.finish_plain.new.read)
-    c.finish_plain.result (Stands g.T.Input.unread c.finish_plain.new.cursor) (coded plain_lexed r)) (sym whole)
+    (answered c.finish_plain.new.fault c.finish_plain.result) (Stands g.T.Input.unread c.finish_plain.new.cursor)
+    (coded plain_lexed r)) (sym whole)
     (c.finish_plain.ensures.here read.0 read.1)
 
 -- ---- memory
@@ -54,4 +56,5 @@ returns-in_err-text-clause-memory g c = λ h k blanks.
     absurd (let done = c.in_err-text.ensures.memory told in cc)
 
 pub returns-clause-memory : goal.returns-clause-memory
-returns-clause-memory g c = λ h k blanks. unexpected_other c.finish_plain.result c.finish_plain.ensures.kinds
+returns-clause-memory g c = λ h k blanks. unexpected_other (answered c.finish_plain.new.fault c.finish_plain.result)
+    c.finish_plain.ensures.kinds

@@ -4,6 +4,7 @@ use Rattle.granit_lexemes.specs.Basics.{past_break}
 use Rattle.granit_lexemes.specs.Here.{next_char}
 use Rattle.granit_cursor.specs.Tokens.{layout_data}
 use Rattle.granit_lex.proofs.MemoryLemmas.{broken_blank, unexpected_other}
+use Rattle.granit_refused.specs.Answered.{answered}
 use Rattle.granit_lex.proofs.plain.read_passed.Goals as goal
 
 pub returns-clause-here : goal.returns-clause-here
@@ -16,7 +17,7 @@ returns-clause-here g c = λ h k.
 
 pub returns-then-not-at_break-clause-memory : goal.returns-then-not-at_break-clause-memory
 returns-then-not-at_break-clause-memory g c = λ h k here ends.
-    unexpected_other c.finish_plain.result c.finish_plain.ensures.kinds
+    unexpected_other (answered c.finish_plain.new.fault c.finish_plain.result) c.finish_plain.ensures.kinds
 
 pub returns-clause-memory : goal.returns-clause-memory
 returns-clause-memory g c = λ h k here ends.

@@ -10,6 +10,7 @@ use Rattle.granit_cursor.proofs.SourceLemmas.{found_lends, not_found_lends}
 use Rattle.granit_lex.specs.PlainCode.{plain_from, plain_lexed}
 use Rattle.granit_lex.proofs.FurtherLines.{passed_is, copied_is}
 use Rattle.granit_lex.proofs.MemoryLemmas.{ends_here, takes_lent}
+use Rattle.granit_refused.specs.Answered.{answered}
 use Rattle.granit_lex.proofs.plain.read_plain.Goals as goal
 
 pub returns-in-Ok-clause-here : goal.returns-in-Ok-clause-here
@@ -21,10 +22,12 @@ returns-in-Ok-clause-here g c = λ h k.
     let passed = c.in-Ok.ensures.here h dash.0 there.0 there.1 start in
     let whole = passed_is at h c.mark-start.result (chars c.in-Ok.line.front.now) c.in-Ok.line.end c.in-Ok.line.blank
     passed.0 start (sym dash.1 ∙ c.if-at_flow_dash.false) there.0 passed.2 in
-    subst (λ (m : Mark). GivesTo (λ _. plain_from m c.read_passed.new.read) c.read_passed.result
+    subst (λ (m : Mark). GivesTo (λ _. plain_from m c.read_passed.new.read)
+    (answered c.read_passed.new.fault c.read_passed.result)
     (Stands g.T.Input.unread c.read_passed.new.cursor) (coded plain_lexed (plain_scalar at h))) start
     (subst (λ (r : Result (PlainRead × Here) Fault). GivesTo (λ _. plain_from c.mark-start.result
-    c.read_passed.new.read) c.read_passed.result (Stands g.T.Input.unread c.read_passed.new.cursor)
+    c.read_passed.new.read) (answered c.read_passed.new.fault c.read_passed.result)
+    (Stands g.T.Input.unread c.read_passed.new.cursor)
     (coded plain_lexed r)) (sym whole) (c.read_passed.ensures.here passed.0 passed.1))
 
 pub returns-in-None-clause-here : goal.returns-in-None-clause-here
@@ -36,10 +39,12 @@ returns-in-None-clause-here g c = λ h k.
     (g.T.Input.origin c.at_flow_dash.new.cursor.input) h.unread
     (g.met.T.Input.agrees c.at_flow_dash.new.cursor.input h.unread dash.0.0)
     (sym c.in-None.is ∙ c.lending_offset.ensures h dash.0) in
-    subst (λ (m : Mark). GivesTo (λ _. plain_from m c.read_copied.new.read) c.read_copied.result
+    subst (λ (m : Mark). GivesTo (λ _. plain_from m c.read_copied.new.read)
+    (answered c.read_copied.new.fault c.read_copied.result)
     (Stands g.T.Input.unread c.read_copied.new.cursor) (coded plain_lexed (plain_scalar at h))) start
     (subst (λ (r : Result (PlainRead × Here) Fault). GivesTo (λ _. plain_from c.mark-start.result
-    c.read_copied.new.read) c.read_copied.result (Stands g.T.Input.unread c.read_copied.new.cursor)
+    c.read_copied.new.read) (answered c.read_copied.new.fault c.read_copied.result)
+    (Stands g.T.Input.unread c.read_copied.new.cursor)
     (coded plain_lexed r)) (sym (copied_is at h (sym dash.1 ∙ c.if-at_flow_dash.false) lends))
     (c.read_copied.ensures.here h dash.0 start))
 

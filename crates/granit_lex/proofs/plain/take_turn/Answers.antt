@@ -55,7 +55,8 @@ pub returns-in-Tab-clause-here : goal.returns-in-Tab-clause-here
 returns-in-Tab-clause-here g c = λ h k.
     let looked = c.look_ahead.ensures.here h k in
     let is : ahead_of (layout_data c.args.at.now) (plain_state c.args.parts.now h) ≡ Tab = sym looked.1 ∙ c.in-Tab.is in
-    λ other. rw c.from_kind.ensures (turn_refused (layout_data c.args.at.now) c.args.start c.args.parts.now h is)
+    λ other. rw (c.refuse_at.ensures.refusal, c.refuse_at.ensures.kept)
+    (turn_refused (layout_data c.args.at.now) c.args.start c.args.parts.now h is)
 
 pub returns-in-End-clause-here : goal.returns-in-End-clause-here
 returns-in-End-clause-here g c = λ h k.

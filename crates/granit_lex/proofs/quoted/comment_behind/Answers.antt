@@ -7,7 +7,7 @@ use Rattle.granit_lex.proofs.quoted.comment_behind.Goals as goal
 
 pub returns-then-at-clause-here : goal.returns-then-at-clause-here
 returns-then-at-clause-here g c = λ h k.
-    let read = c.in_ok-token.ensures.here h k in (
+    let read = rw c.in_ok-token.ensures at (c.read_comment.ensures.here h k) in (
       read.0,
       read.1,
       remark_read (layout_data c.args.at.now) (comment h) c.in_ok-token.token

@@ -10,6 +10,7 @@ use Rattle.granit_cursor.specs.Tokens.{layout_data}
 use Rattle.granit_lex.specs.QuotedCode.{quoted_from, quoted_lexed}
 use Rattle.granit_lex.proofs.KeptLemmas.{passed_is, copied_is}
 use Rattle.granit_lex.proofs.MemoryLemmas.{closing_next, quoted_lent, steps_lends}
+use Rattle.granit_refused.specs.Answered.{answered}
 use Rattle.granit_lex.proofs.quoted.read_quoted.Goals as goal
 
 pub returns-in-Ok-Some-clause-here : goal.returns-in-Ok-Some-clause-here
@@ -18,7 +19,8 @@ returns-in-Ok-Some-clause-here g c = λ h k.
     (c.step.ensures.here h k)) in
     let n = passed.0 in
     let start = c.mark-start.ensures.here h k in
-    subst (λ (m : Mark). GivesTo (λ _. quoted_from c.args.single m c.read_passed.new.read) c.read_passed.result
+    subst (λ (m : Mark). GivesTo (λ _. quoted_from c.args.single m c.read_passed.new.read)
+    (answered c.read_passed.new.fault c.read_passed.result)
     (Stands g.T.Input.unread c.read_passed.new.cursor) (coded (quoted_lexed c.args.single)
     (quoted_scalar c.args.single (layout_data c.args.at.now) h))) start
     (rw (passed_is c.args.single (layout_data c.args.at.now) h c.mark-start.result n start
@@ -30,7 +32,8 @@ returns-in-Ok-None-clause-here g c = λ h k.
     let passed = rw c.in-Ok-None.field-0-is at (c.in-Ok-None.ensures.here (step h)
     (c.step.ensures.here h k)) in
     let start = c.mark-start.ensures.here h k in
-    subst (λ (m : Mark). GivesTo (λ _. quoted_from c.args.single m c.read_copied.new.read) c.read_copied.result
+    subst (λ (m : Mark). GivesTo (λ _. quoted_from c.args.single m c.read_copied.new.read)
+    (answered c.read_copied.new.fault c.read_copied.result)
     (Stands g.T.Input.unread c.read_copied.new.cursor) (coded (quoted_lexed c.args.single)
     (quoted_scalar c.args.single (layout_data c.args.at.now) h))) start
     (rw (copied_is c.args.single (layout_data c.args.at.now) h c.mark-start.result start passed.0)

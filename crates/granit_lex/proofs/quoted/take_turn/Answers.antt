@@ -8,6 +8,7 @@ use Rattle.granit_cursor.specs.Tokens.{layout_data}
 use Rattle.granit_lex.specs.declared.quoted.Ahead.{Ahead}
 use Rattle.granit_lex.specs.declared.quoted.Ahead.TheVariants.{Blank, Break, Content, End}
 use Rattle.granit_lex.proofs.QuotedLemmas.{over_gap, over_content, content_fails, ahead_fails, at_end}
+use Rattle.granit_refused.specs.Answered.{why}
 use Rattle.granit_lex.proofs.quoted.take_turn.Goals as goal
 
 pub returns-in_err-look_ahead-clause-here : goal.returns-in_err-look_ahead-clause-here
@@ -15,7 +16,7 @@ returns-in_err-look_ahead-clause-here g c = λ h k.
     let p = err_from_is_err_and c.from_residual.result c.from_residual.ensures.1 in
     let looked = c.in_err-look_ahead.ensures.here h k in
     rw (p.1, p.2) (ahead_fails c.args.single (layout_data c.args.at.now) c.args.start c.args.parts.now h
-    c.in_err-look_ahead.field-0.0 looked.1)
+    (why c.look_ahead.new.fault c.in_err-look_ahead.field-0.0) looked.1)
 
 pub returns-in_err-take_content-in-Content-clause-here : goal.returns-in_err-take_content-in-Content-clause-here
 returns-in_err-take_content-in-Content-clause-here g c = λ h k.
@@ -25,7 +26,8 @@ returns-in_err-take_content-in-Content-clause-here g c = λ h k.
     let is : quoted_ahead c.args.single (layout_data c.args.at.now) c.args.start (quoted_state c.args.parts.now h)
     ≡ Ok Content = looked.1 ∙ ap (λ (a : Ahead). Ok a) c.in-Content.is in
     rw (p.1, p.2) (content_fails c.args.single (layout_data c.args.at.now) c.args.start c.args.parts.now h
-    c.in_err-take_content-in-Content.field-0.0 is (c.in_err-take_content-in-Content.ensures.here h looked.0))
+    (why c.take_content.new.fault c.in_err-take_content-in-Content.field-0.0) is
+    (c.in_err-take_content-in-Content.ensures.here h looked.0))
 
 pub returns-in_ok-take_blank-in-Blank-clause-here : goal.returns-in_ok-take_blank-in-Blank-clause-here
 returns-in_ok-take_blank-in-Blank-clause-here g c = λ h k.

@@ -2,6 +2,7 @@ use Rattle.std.proofs.Common.{◌∙◌, refl, sym, Err}
 use Rattle.std.proofs.lemmas.Result.{err_from_is_err_and}
 use Rattle.granit_content.proofs.MemoryLemmas.{open_refused, key_refused}
 use Rattle.granit_marks.proofs.StreamLemmas.{end_given}
+use Rattle.granit_refused.specs.Answered.{why}
 use Rattle.granit_marks.proofs.stream.text_end.Goals as goal
 
 pub returns-in_err-refuse_open-clause-memory : goal.returns-in_err-refuse_open-clause-memory
@@ -14,7 +15,8 @@ pub returns-in_err-drop_key-clause-memory : goal.returns-in_err-drop_key-clause-
 returns-in_err-drop_key-clause-memory g c =
     let at = c.from_residual-in_err-drop_key in
     let p = err_from_is_err_and at.result at.ensures.1 in
-    rw (p.1, p.2) (key_refused c.args.layouts.now c.drop_key.new.self (Err c.in_err-drop_key.field-0.0)
+    rw (p.1, p.2) (key_refused c.args.layouts.now c.drop_key.new.self
+    (Err (why c.drop_key.new.fault c.in_err-drop_key.field-0.0))
     c.in_err-drop_key.ensures)
 
 pub returns-clause-here : goal.returns-clause-here

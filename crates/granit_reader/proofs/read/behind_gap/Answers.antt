@@ -9,6 +9,7 @@ use Rattle.granit_reader.specs.Reads.{reader_at}
 use Rattle.granit_reader.proofs.MeetLemmas.{meets_kept, meets_lexeme, meets_passed, meets_stale, unless_memory}
 use Rattle.granit_reader.proofs.MemoryLemmas.{fresh_lexeme, stale_refused}
 use Rattle.granit_reader.proofs.ReadLemmas.{note_passed, note_kept}
+use Rattle.granit_refused.specs.Answered.{answered, why}
 use Rattle.granit_reader.proofs.read.behind_gap.Goals as goal
 
 pub returns-in-Passed-clause-here : goal.returns-in-Passed-clause-here
@@ -41,7 +42,7 @@ pub returns-in_err-drop_stale-in-Nothing-clause-met : goal.returns-in_err-drop_s
 returns-in_err-drop_stale-in-Nothing-clause-met g c = λ t is h k.
     let o = options_of c.args.options.now in
     let laid = c.args.layouts.now in
-    let e = c.in_err-drop_stale-in-Nothing.field-0.0 in
+    let e = why c.drop_stale.new.fault c.in_err-drop_stale-in-Nothing.field-0.0 in
     let p = err_from_is_err_and c.from_residual.result c.from_residual.ensures.1 in
     let stale = ap (λ (m : Mark). without_stale o m laid) (sym (c.mark.ensures.here h k))
     ∙ c.in_err-drop_stale-in-Nothing.ensures in
@@ -54,14 +55,16 @@ returns-in_ok-drop_stale-in-Nothing-clause-met g c = λ t is h k.
     let laid = c.args.layouts.now in
     let fresh = ap (λ (m : Mark). without_stale o m laid) (sym (c.mark.ensures.here h k))
     ∙ c.in_ok-drop_stale-in-Nothing.ensures in
-    unless_memory c.lexeme.result _ (meets_lexeme o o.emit_comments t h laid (sym (ap tail_view c.in-Nothing.is) ∙ is)
+    unless_memory (answered c.lexeme.new.fault c.lexeme.result) _
+    (meets_lexeme o o.emit_comments t h laid (sym (ap tail_view c.in-Nothing.is) ∙ is)
     c.lexeme.new.met c.drop_stale.new.self fresh (c.lexeme.ensures.met h k))
 
 pub returns-in_err-drop_stale-in-Nothing-clause-memory : goal.returns-in_err-drop_stale-in-Nothing-clause-memory
 returns-in_err-drop_stale-in-Nothing-clause-memory g c = λ t is unasked h k none.
     let p = err_from_is_err_and c.from_residual.result c.from_residual.ensures.1 in
     rw (p.1, p.2) (stale_refused (options_of c.args.options.now) c.mark.result c.args.layouts.now
-    c.drop_stale.new.self (Err c.in_err-drop_stale-in-Nothing.field-0.0) c.in_err-drop_stale-in-Nothing.ensures)
+    c.drop_stale.new.self (Err (why c.drop_stale.new.fault c.in_err-drop_stale-in-Nothing.field-0.0))
+    c.in_err-drop_stale-in-Nothing.ensures)
 
 pub returns-in_ok-drop_stale-in-Nothing-clause-memory : goal.returns-in_ok-drop_stale-in-Nothing-clause-memory
 returns-in_ok-drop_stale-in-Nothing-clause-memory g c = λ t is unasked h k none.

@@ -7,34 +7,39 @@ use Rattle.granit_machine.specs.Reader.{lexeme_by}
 use Rattle.granit_reader.specs.SortViews.{placed_view}
 use Rattle.granit_reader.specs.WithoutMemory.{placed_takes_none}
 use Rattle.granit_reader.proofs.ReadLemmas.{found_alone}
+use Rattle.granit_refused.specs.Answered.{answered}
 use Rattle.granit_reader.proofs.read.lexeme_by.Goals as goal
 
 pub returns-in-TextEnd-clause-here : goal.returns-in-TextEnd-clause-here
 unfolding lexeme_by
 returns-in-TextEnd-clause-here g c = λ h k.
     let read = c.text_end.ensures.here h k in
-    rw c.in-TextEnd.is (found_alone _ c.text_end.new.found _ c.text_end.result _ _ c.requires.filled
+    rw c.in-TextEnd.is (found_alone _ c.text_end.new.found _ (answered c.text_end.new.fault c.text_end.result) _ _
+    c.requires.filled
     c.requires.no_note read)
 
 pub returns-in-StartMark-clause-here : goal.returns-in-StartMark-clause-here
 unfolding lexeme_by
 returns-in-StartMark-clause-here g c = λ h k.
     let read = c.document_start.ensures.here h k in
-    rw c.in-StartMark.is (found_alone _ c.document_start.new.found _ c.document_start.result _ _ c.requires.filled
+    rw c.in-StartMark.is (found_alone _ c.document_start.new.found _
+    (answered c.document_start.new.fault c.document_start.result) _ _ c.requires.filled
     c.requires.no_note read)
 
 pub returns-in-EndMark-clause-here : goal.returns-in-EndMark-clause-here
 unfolding lexeme_by
 returns-in-EndMark-clause-here g c = λ h k.
     let read = c.document_end.ensures.here h k in
-    rw c.in-EndMark.is (found_alone _ c.document_end.new.found _ c.document_end.result _ _ c.requires.filled
+    rw c.in-EndMark.is (found_alone _ c.document_end.new.found _
+    (answered c.document_end.new.fault c.document_end.result) _ _ c.requires.filled
     c.requires.no_note read)
 
 pub returns-in-DirectiveSign-clause-here : goal.returns-in-DirectiveSign-clause-here
 unfolding lexeme_by
 returns-in-DirectiveSign-clause-here g c = λ h k.
     let read = c.directive.ensures.here h k in
-    rw c.in-DirectiveSign.is (found_alone _ c.directive.new.found _ c.directive.result _ _ c.requires.filled
+    rw c.in-DirectiveSign.is (found_alone _ c.directive.new.found _ (answered c.directive.new.fault c.directive.result)
+    _ _ c.requires.filled
     c.requires.no_note read)
 
 -- ---- memory

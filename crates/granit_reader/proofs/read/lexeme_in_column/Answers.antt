@@ -11,6 +11,7 @@ use Rattle.granit_reader.specs.SortViews.{placed_view}
 use Rattle.granit_reader.specs.WithoutMemory.{placed_takes_none}
 use Rattle.granit_reader.proofs.MemoryLemmas.{noded_takes_none}
 use Rattle.granit_reader.proofs.ReadLemmas.{placed_read}
+use Rattle.granit_refused.specs.Answered.{answered}
 use Rattle.granit_reader.proofs.read.lexeme_in_column.Goals as goal
 
 pub returns-clause-here : goal.returns-clause-here
@@ -23,7 +24,7 @@ returns-clause-here g c = λ h k.
     ∙ c.if-is_strict_outside.false in
     let is = placed_read o (placed_view c.args.sort) c.args.ends h c.args.layouts.now c.begin_node.new.layouts inside
     (c.begin_node.ensures.here h k) in
-    subst (λ (r : Read). GivesTo (found_in c.lexeme_of.new.found) c.lexeme_of.result
+    subst (λ (r : Read). GivesTo (found_in c.lexeme_of.new.found) (answered c.lexeme_of.new.fault c.lexeme_of.result)
     (IsAt g.T.Input.unread c.lexeme_of.new.at c.lexeme_of.new.layouts) (coded (incoming o.emit_comments) r))
     (sym is) (c.lexeme_of.ensures.here h k)
 

@@ -2,72 +2,84 @@ use Rattle.std.proofs.Common.{◌≡◌, true, false, inl, inr}
 use Rattle.granit_error.specs.OptionsView.{options_of}
 use Rattle.granit_reader.proofs.MemoryLemmas.{at_least, no_entry, no_pair}
 use Rattle.granit_reader.proofs.ReadLemmas.{found_alone}
+use Rattle.granit_refused.specs.Answered.{answered}
 use Rattle.granit_reader.proofs.read.lexeme_of.Goals as goal
 
 pub returns-in-OpenSign-clause-here : goal.returns-in-OpenSign-clause-here
 returns-in-OpenSign-clause-here g c = λ h k.
     let read = c.opener.ensures.here h k in
-    rw c.in-OpenSign.is (found_alone _ c.opener.new.found _ c.opener.result _ _ c.requires.filled
+    rw c.in-OpenSign.is (found_alone _ c.opener.new.found _ (answered c.opener.new.fault c.opener.result) _ _
+    c.requires.filled
     c.requires.no_note read)
 
 pub returns-in-CloseSign-clause-here : goal.returns-in-CloseSign-clause-here
 returns-in-CloseSign-clause-here g c = λ h k.
     let read = c.closer.ensures.here h k in
-    rw c.in-CloseSign.is (found_alone _ c.closer.new.found _ c.closer.result _ _ c.requires.filled
+    rw c.in-CloseSign.is (found_alone _ c.closer.new.found _ (answered c.closer.new.fault c.closer.result) _ _
+    c.requires.filled
     c.requires.no_note read)
 
 pub returns-in-CommaSign-clause-here : goal.returns-in-CommaSign-clause-here
 returns-in-CommaSign-clause-here g c = λ h k.
     let read = c.comma.ensures.here h k in
-    rw c.in-CommaSign.is (found_alone _ c.comma.new.found _ c.comma.result _ _ c.requires.filled
+    rw c.in-CommaSign.is (found_alone _ c.comma.new.found _ (answered c.comma.new.fault c.comma.result) _ _
+    c.requires.filled
     c.requires.no_note read)
 
 pub returns-in-DashSign-clause-here : goal.returns-in-DashSign-clause-here
 returns-in-DashSign-clause-here g c = λ h k.
     let read = c.dash.ensures.here h k in
-    rw c.in-DashSign.is (found_alone _ c.dash.new.found _ c.dash.result _ _ c.requires.filled
+    rw c.in-DashSign.is (found_alone _ c.dash.new.found _ (answered c.dash.new.fault c.dash.result) _ _
+    c.requires.filled
     c.requires.no_note read)
 
 pub returns-in-QuestionSign-clause-here : goal.returns-in-QuestionSign-clause-here
 returns-in-QuestionSign-clause-here g c = λ h k.
     let read = c.question.ensures.here h k in
-    rw c.in-QuestionSign.is (found_alone _ c.question.new.found _ c.question.result _ _ c.requires.filled
+    rw c.in-QuestionSign.is (found_alone _ c.question.new.found _ (answered c.question.new.fault c.question.result) _ _
+    c.requires.filled
     c.requires.no_note read)
 
 pub returns-in-ColonSign-clause-here : goal.returns-in-ColonSign-clause-here
 returns-in-ColonSign-clause-here g c = λ h k.
     let read = c.colon.ensures.here h k in
-    rw c.in-ColonSign.is (found_alone _ c.colon.new.found _ c.colon.result _ _ c.requires.filled
+    rw c.in-ColonSign.is (found_alone _ c.colon.new.found _ (answered c.colon.new.fault c.colon.result) _ _
+    c.requires.filled
     c.requires.no_note read)
 
 pub returns-in-AliasSign-clause-here : goal.returns-in-AliasSign-clause-here
 returns-in-AliasSign-clause-here g c = λ h k.
     let read = c.alias_lexeme.ensures.here (options_of c.args.options.now).emit_comments h k in
-    rw c.in-AliasSign.is (found_alone _ c.alias_lexeme.new.found _ c.alias_lexeme.result _ _ c.requires.filled
+    rw c.in-AliasSign.is (found_alone _ c.alias_lexeme.new.found _
+    (answered c.alias_lexeme.new.fault c.alias_lexeme.result) _ _ c.requires.filled
     c.requires.no_note read)
 
 pub returns-in-AnchorSign-clause-here : goal.returns-in-AnchorSign-clause-here
 returns-in-AnchorSign-clause-here g c = λ h k.
     let read = c.anchor_lexeme.ensures.here (options_of c.args.options.now).emit_comments h k in
-    rw c.in-AnchorSign.is (found_alone _ c.anchor_lexeme.new.found _ c.anchor_lexeme.result _ _ c.requires.filled
+    rw c.in-AnchorSign.is (found_alone _ c.anchor_lexeme.new.found _
+    (answered c.anchor_lexeme.new.fault c.anchor_lexeme.result) _ _ c.requires.filled
     c.requires.no_note read)
 
 pub returns-in-TagSign-clause-here : goal.returns-in-TagSign-clause-here
 returns-in-TagSign-clause-here g c = λ h k.
     let read = c.tag_lexeme.ensures.here (options_of c.args.options.now).emit_comments h k in
-    rw c.in-TagSign.is (found_alone _ c.tag_lexeme.new.found _ c.tag_lexeme.result _ _ c.requires.filled
+    rw c.in-TagSign.is (found_alone _ c.tag_lexeme.new.found _ (answered c.tag_lexeme.new.fault c.tag_lexeme.result) _ _
+    c.requires.filled
     c.requires.no_note read)
 
 pub returns-in-BlockSign-clause-here : goal.returns-in-BlockSign-clause-here
 returns-in-BlockSign-clause-here g c = λ h k.
     let read = c.block_lexeme.ensures.here h k in
-    rw c.in-BlockSign.is (found_alone _ c.block_lexeme.new.found _ c.block_lexeme.result _ _ c.requires.filled
+    rw c.in-BlockSign.is (found_alone _ c.block_lexeme.new.found _
+    (answered c.block_lexeme.new.fault c.block_lexeme.result) _ _ c.requires.filled
     c.requires.no_note read)
 
 pub returns-in-PlainSign-clause-here : goal.returns-in-PlainSign-clause-here
 returns-in-PlainSign-clause-here g c = λ h k.
     let read = c.plain_lexeme.ensures.here h k in
-    rw c.in-PlainSign.is (found_alone _ c.plain_lexeme.new.found _ c.plain_lexeme.result _ _ c.requires.filled
+    rw c.in-PlainSign.is (found_alone _ c.plain_lexeme.new.found _
+    (answered c.plain_lexeme.new.fault c.plain_lexeme.result) _ _ c.requires.filled
     c.requires.no_note read)
 
 -- ---- memory

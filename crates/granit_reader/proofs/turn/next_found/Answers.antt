@@ -7,6 +7,7 @@ use Rattle.granit_items.specs.ItemViews.{found_items}
 use Rattle.granit_reader.specs.Reads.{reader_at}
 use Rattle.granit_content.proofs.CodedLemmas.{coded_back, coded_fails}
 use Rattle.granit_reader.proofs.TurnLemmas.{turn_given, turn_refused, turn_ended}
+use Rattle.granit_refused.specs.Answered.{why}
 use Rattle.granit_reader.proofs.turn.next_found.Goals as goal
 
 pub returns-then-ended-clause-here : goal.returns-then-ended-clause-here
@@ -19,7 +20,7 @@ pub returns-in_err-read-clause-here : goal.returns-in_err-read-clause-here
 returns-in_err-read-clause-here g c = λ h k.
     let o = options_of c.args.options.now in
     let s = reader_at h c.args.layouts.now in
-    let e = c.in_err-read.field-0.0 in
+    let e = (why c.read.new.fault c.in_err-read.field-0.0) in
     let p = err_from_is_err_and c.from_residual.result c.from_residual.ensures.1 in
     rw (p.1, p.2, c.if-ended.false) (λ other. turn_refused o s e
     (coded_fails (incoming o.emit_comments) (read o s) e (c.in_err-read.ensures.here h k) other))

@@ -10,6 +10,7 @@ use Rattle.granit_machine.specs.ReaderState.{Read}
 use Rattle.granit_steps.specs.Steps.{incoming}
 use Rattle.granit_content.specs.Reads.{IsAt, lexeme_in}
 use Rattle.granit_signs.proofs.IndicatorLemmas.{dash_entered}
+use Rattle.granit_refused.specs.Answered.{answered}
 use Rattle.granit_signs.proofs.indicators.dash.Goals as goal
 
 pub returns-clause-here : goal.returns-clause-here
@@ -25,7 +26,8 @@ returns-clause-here g c = λ h k.
     let entered = rw (column, mark) at c.in_ok-enter.ensures.left in
     let is = dash_entered o c.args.ends h l c.enter.new.self flow allowed entered
     ∙ ap (λ (x : Lexeme). dash_up_to x (step h) c.enter.new.self) (sym signed.1) in
-    subst (λ (r : Read). GivesTo (lexeme_in c.dash_up_to.new.found) c.dash_up_to.result
+    subst (λ (r : Read). GivesTo (lexeme_in c.dash_up_to.new.found)
+    (answered c.dash_up_to.new.fault c.dash_up_to.result)
     (IsAt g.T.Input.unread c.dash_up_to.new.at c.dash_up_to.new.layouts) (coded (incoming o.emit_comments) r))
     (sym is)
     (c.dash_up_to.ensures.here (step h) signed.0)

@@ -12,6 +12,7 @@ use Rattle.granit_signs.specs.IndicatorReads.{question_from}
 use Rattle.granit_content.specs.Reads.{IsAt, lexeme_in}
 use Rattle.granit_signs.proofs.IndicatorLemmas.{question_entered, question_in_flow}
 use Rattle.granit_content.proofs.ItemLemmas.{read_untailed}
+use Rattle.granit_refused.specs.Answered.{answered}
 use Rattle.granit_signs.proofs.indicators.question.Goals as goal
 
 pub returns-then-is_in_flow-clause-here : goal.returns-then-is_in_flow-clause-here
@@ -39,7 +40,8 @@ returns-clause-here g c = λ h k.
     let entered = rw (column, mark) at c.in_ok-enter.ensures.left in
     let is = question_entered o c.args.ends h l c.enter.new.self flow allowed entered
     ∙ ap (λ (x : Lexeme). question_from o x (step h) c.enter.new.self) (sym signed.1) in
-    subst (λ (r : Read). GivesTo (lexeme_in c.behind_question.new.found) c.behind_question.result
+    subst (λ (r : Read). GivesTo (lexeme_in c.behind_question.new.found)
+    (answered c.behind_question.new.fault c.behind_question.result)
     (IsAt g.T.Input.unread c.behind_question.new.at c.behind_question.new.layouts)
     (coded (incoming o.emit_comments) r)) (sym is)
     (c.behind_question.ensures.here (ap (λ (x : Lexeme). x.tail) signed.1) (step h) signed.0)

@@ -10,6 +10,7 @@ use Rattle.granit_items.specs.ItemViews.{lexeme_view}
 use Rattle.granit_content.specs.Reads.{IsAt, lexeme_in, noted, tail_view}
 use Rattle.granit_content.proofs.CodedLemmas.{gives_lands}
 use Rattle.granit_signs.proofs.IndicatorLemmas.{colon_tailed, colon_fails, colon_same}
+use Rattle.granit_refused.specs.Answered.{answered, why}
 use Rattle.granit_signs.proofs.values.colon.Goals as goal
 
 pub returns-in_err-tail-clause-here : goal.returns-in_err-tail-clause-here
@@ -19,7 +20,8 @@ returns-in_err-tail-clause-here g c = λ h k.
     let looked = c.look.ensures.here h k in
     let fits = sym (c.is_before_flow.ensures h looked) ∙ c.if-is_before_flow.false in
     let on = c.step.ensures.here h looked in
-    rw (p.1, p.2) (colon_fails o.emit_comments o c.args.ends h c.args.layouts.now fits c.in_err-tail.field-0.0
+    rw (p.1, p.2) (colon_fails o.emit_comments o c.args.ends h c.args.layouts.now fits
+    (why c.colon_tail.new.fault c.in_err-tail.field-0.0)
     (c.in_err-tail.ensures.here (step h) on))
 
 pub returns-clause-here : goal.returns-clause-here
@@ -38,9 +40,10 @@ returns-clause-here g c = λ h k.
     let whole = colon_tailed o.emit_comments o c.args.ends h c.args.layouts.now fits seen tail.0 tail.2
     ∙ sym (colon_same o (top_key c.args.layouts.now) (lexeme_view c.put_tail.new.found) _ c.mark-mark.result _
     c.is_allowed-allowed.result _ tail.0 c.args.layouts.now tailed (c.mark-mark.ensures.here h looked) allowed) in
-    subst (λ (r : Read). GivesTo (lexeme_in c.colon_by_key.new.found) c.colon_by_key.result
+    subst (λ (r : Read). GivesTo (lexeme_in c.colon_by_key.new.found)
+    (answered c.colon_by_key.new.fault c.colon_by_key.result)
     (IsAt g.T.Input.unread c.colon_tail.new.at c.colon_by_key.new.layouts) r) (sym whole)
-    (gives_lands (lexeme_in c.colon_by_key.new.found) c.colon_by_key.result
+    (gives_lands (lexeme_in c.colon_by_key.new.found) (answered c.colon_by_key.new.fault c.colon_by_key.result)
     (IsAt g.T.Input.unread c.colon_tail.new.at c.colon_by_key.new.layouts)
     (record { here = tail.0; laid = c.colon_by_key.new.layouts }) _ (tail.1, refl) (c.colon_by_key.ensures.here tail.0))
 

@@ -4,6 +4,7 @@ use Rattle.granit_error.specs.OptionsView.{options_of}
 use Rattle.granit_items.specs.ItemViews.{found_items}
 use Rattle.granit_machine.specs.Machine.{settled}
 use Rattle.granit_scanner.specs.Scans.{Scanning, Known, ReadsOn, front_goes}
+use Rattle.granit_refused.specs.Answered.{answered}
 use Rattle.granit_scanner.proofs.ReadingLemmas.{stands, read_taken}
 use Rattle.granit_scanner.proofs.scanner.Scanner.read_on.Goals as goal
 
@@ -41,7 +42,8 @@ returns-clause-known g c = λ l q k none waits.
     on_ok_weaker c.take_read.result
     (λ took. subst (λ r. ReadsOn unread r.options c.take_read.new.self l q) c.self.view_is
     (read_taken unread inside l q o known none mid c.take_read.new.self refl refl c.number-number.result
-    c.next_found-read.new.met c.number-number.ensures c.next_found-read.ensures.moves.2 c.next_found-read.result
+    c.next_found-read.new.met c.number-number.ensures c.next_found-read.ensures.moves.2
+    (answered c.next_found-read.new.fault c.next_found-read.result)
     (found_items c.next_found-read.new.found) free took waits frees meets
     (c.next_found-read.ensures.here l.reader.here at.0)))
     c.take_read.ensures.taken

@@ -41,8 +41,9 @@ returns-in_ok-put_before-in-Ok-clause-known g c = λ m at told.
     let n = with_pending [] m in
     let that = set_aside unread inside m c.take_events-waiting.new.self here first c.take_events-waiting.ensures.rest in
     let es = plain_events c.take_events-waiting.result.items in
-    let given = subst (λ (p : OptionsData). GivesOr turn_view (Ok c.in-Ok.made) (StandsIn unread c.advance.new.self)
-    (step_turn p n) (RefusesNumber c.advance.new.self.renumbered p n)) options
+    let given = subst (λ (p : OptionsData). GivesOr turn_view (Ok c.in-Ok.made)
+    (StandsIn unread c.advance_alone.new.self)
+    (step_turn p n) (RefusesNumber c.advance_alone.new.self.renumbered p n)) options
     (c.in-Ok.ensures.known n that first refl) in
     let there = subst (λ (s : Stepping g.row.T.Denot). GivesOr turn_view (Ok c.in-Ok.made) (StandsIn unread s)
     (step_turn o n) (RefusesNumber s.renumbered o n)) (sym c.self-2.view_is) given in

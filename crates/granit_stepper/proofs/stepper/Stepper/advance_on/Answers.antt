@@ -1,6 +1,7 @@
 use Rattle.std.proofs.Common.{◌≡◌, true, sym, subst, ◌∙◌}
 use Rattle.granit_cursor.specs.Reading.{GivesTo}
 use Rattle.granit_error.specs.OptionsData.{OptionsData}
+use Rattle.granit_refused.specs.Answered.{answered}
 use Rattle.granit_scanner.specs.Scans.{front_view}
 use Rattle.granit_stepper.specs.Numbers.{GetsLast, GivesOr, RefusesNumber}
 use Rattle.granit_stepper.specs.Stepping.{StandsIn, feed_item, turn_view}
@@ -16,15 +17,16 @@ returns-in-Some-clause-known g c = λ m at told pending.
     let o = c.args.self.now.scanner.options in
     let x = front_view c.in-Some.front in
     let after = c.take_item.new.self in
+    let r = answered c.take_item.new.fault c.take_item.result in
     let free = c.in-Some.ensures.known m at in
     let behind : StepState = record m { queue = free.0 } in
     let fed = c.take_item.ensures.known behind free.4 (c.in-Some.ensures.keeps.first ∙ told) pending in
     let same = subst
-    (λ (p : OptionsData). GivesOr turn_view c.take_item.result (StandsIn unread after) (feed_item p x behind)
+    (λ (p : OptionsData). GivesOr turn_view r (StandsIn unread after) (feed_item p x behind)
     (λ e. (after.renumbered ≡ true) × GetsLast p x m.parser e)) c.in-Some.ensures.keeps.options fed in
-    subst (λ (r : Turn). GivesOr turn_view c.take_item.result (StandsIn unread after) r
+    subst (λ (t : Turn). GivesOr turn_view r (StandsIn unread after) t
     (RefusesNumber after.renumbered o m)) (sym (turn_feeds o m x free.0 pending free.1 free.2 free.3))
-    (turn_or o m x free.0 pending free.1 free.2 free.3 turn_view c.take_item.result (StandsIn unread after)
+    (turn_or o m x free.0 pending free.1 free.2 free.3 turn_view r (StandsIn unread after)
     after.renumbered (feed_item o x behind) same)
 
 pub returns-in-None-clause-known : goal.returns-in-None-clause-known
@@ -32,23 +34,25 @@ returns-in-None-clause-known g c = λ m at told pending.
     let unread = g.T.Input.unread in
     let o = c.args.self.now.scanner.options in
     let after = c.read_more.new.self in
+    let r = answered c.read_more.new.fault c.read_more.result in
     let free = c.in-None.ensures.known m at in
     let read = c.read_more.ensures.known m free.1 free.0 in
     let same = subst
-    (λ (p : OptionsData). GivesTo turn_view c.read_more.result (StandsIn unread after) (read_more p m.reading.ended m))
+    (λ (p : OptionsData). GivesTo turn_view r (StandsIn unread after) (read_more p m.reading.ended m))
     c.in-None.ensures.keeps.options read in
-    subst (λ (r : Turn). GivesOr turn_view c.read_more.result (StandsIn unread after) r
+    subst (λ (t : Turn). GivesOr turn_view r (StandsIn unread after) t
     (RefusesNumber after.renumbered o m)) (sym (turn_reads o m pending free.0))
-    (gives_or turn_view c.read_more.result (StandsIn unread after) (read_more o m.reading.ended m)
+    (gives_or turn_view r (StandsIn unread after) (read_more o m.reading.ended m)
     (RefusesNumber after.renumbered o m) same)
 
 pub returns-in-Some-clause-refused : goal.returns-in-Some-clause-refused
 returns-in-Some-clause-refused g c = λ m at told pending calm.
     let unread = g.T.Input.unread in
     let x = front_view c.in-Some.front in
+    let r = answered c.take_item.new.fault c.take_item.result in
     let free = c.in-Some.ensures.known m at in
     let behind : StepState = record m { queue = free.0 } in
-    item_refuses_in unread c.take_item.new.self m pending x free.0 free.1 free.2 free.3 c.take_item.result
+    item_refuses_in unread c.take_item.new.self m pending x free.0 free.1 free.2 free.3 r
     (c.take_item.ensures.refused behind free.4 (c.in-Some.ensures.keeps.first ∙ told) pending calm)
 
 pub returns-in-None-clause-refused : goal.returns-in-None-clause-refused

@@ -1,8 +1,10 @@
 use Rattle.std.proofs.Common.{◌⊎◌, Bool, Ok, Err, sym, ap, subst, ◌∙◌}
 use Rattle.granit_cursor.specs.Reading.{GivesTo}
+use Rattle.granit_error.specs.Refused.{Refused}
+use Rattle.granit_refused.specs.Answered.{why}
 use Rattle.granit_lexemes.specs.Outcome.{Fails}
 use Rattle.granit_stepper.specs.Numbers.{RefusesNumber}
-use Rattle.granit_stepper.specs.Refusals.{RefusedIn, SettlesAhead}
+use Rattle.granit_stepper.specs.Refusals.{RefusedIn, RefusesLater, SettlesAhead}
 use Rattle.granit_stepper.specs.Stepping.{Stepping, StandsIn, no_events}
 use Rattle.granit_stepper.proofs.AheadLemmas.{error_other, gives_error, gives_event}
 use Rattle.granit_stepper.proofs.RefusalLemmas.{refused_failed}
@@ -30,19 +32,23 @@ returns-in-Ok-clause-known g c = λ m at told.
     gives_next unread c.in-Ok.field-0 o inside m c.pop_event.new.self c.pop_event.result first settled
     c.pop_event.ensures.first c.pop_event.ensures.rest
 
-pub returns-in-Err-clause-known : goal.returns-in-Err-clause-known
-returns-in-Err-clause-known g c = λ m at told.
+pub returns-clause-known : goal.returns-clause-known
+returns-clause-known g c = λ m at told.
     let o = c.args.self.now.scanner.options in
-    let e = c.in-Err.error in
-    next_fails g.T.Input.unread c.args.self.now.renumbered o m e
-    (subst (λ (b : Bool). Fails e (settle o m) ⊎ RefusesNumber b o m e) c.in-Err.ensures.keeps.renumbered
-    (c.in-Err.ensures.known m at told))
+    let e = why c.settle.new.fault c.in-Err.refused in
+    let failed = subst (λ (b : Bool). Fails e (settle o m) ⊎ RefusesNumber b o m e) c.in-Err.ensures.keeps.renumbered
+    (c.in-Err.ensures.known m at told) in
+    next_fails g.T.Input.unread c.args.self.now.renumbered o m c.error_of-error.result
+    (subst (λ (f : Refused). Fails f (settle o m) ⊎ RefusesNumber c.args.self.now.renumbered o m f)
+    (sym c.error_of-error.ensures) failed)
 
-pub returns-in-Err-clause-refused : goal.returns-in-Err-clause-refused
-returns-in-Err-clause-refused g c = λ m at told turned other.
+pub returns-clause-refused : goal.returns-clause-refused
+returns-clause-refused g c = λ m at told turned other.
     let unread = g.T.Input.unread in
-    let e = c.in-Err.error in
-    let n = c.in-Err.ensures.refused m at told turned other in (
+    let e = c.error_of-error.result in
+    let refused = subst (λ (f : Refused). RefusesLater {X = Unit {0}} unread c.args.self.now.scanner.options (Err f)
+    c.settle.new.self m) (sym c.error_of-error.ensures) (c.in-Err.ensures.refused m at told turned) in
+    let n = refused other in (
       n.0,
       n.1,
       subst (λ (s : Stepping g.row.T.Denot). RefusedIn unread s n.0 e) (sym (c.fail.ensures.kept other))
@@ -65,11 +71,12 @@ returns-in-Ok-clause-ahead g c = λ m h.
     gives_event g.T.Input.unread c.args.self.now m h inside c.in-Ok.field-0 c.pop_event.result
     c.pop_event.new.self given c.pop_event.ensures.first c.pop_event.ensures.rest
 
-pub returns-in-Err-clause-ahead : goal.returns-in-Err-clause-ahead
-returns-in-Err-clause-ahead g c = λ m h.
+pub returns-clause-ahead : goal.returns-clause-ahead
+returns-clause-ahead g c = λ m h.
     let unread = g.T.Input.unread in
-    let e = c.in-Err.error in
-    let given = c.in-Err.ensures.ahead in
+    let e = c.error_of-error.result in
+    let given = subst (λ (f : Refused). SettlesAhead (Err f) c.args.self.now c.settle.new.self)
+    (sym c.error_of-error.ensures) c.in-Err.ensures.ahead in
     let other = error_other unread c.args.self.now m h c.settle.new.self e given in
     let is = gives_error unread c.args.self.now m h c.settle.new.self e given in
     (is.0, subst (λ (s : Stepping g.row.T.Denot). RefusedIn unread s m e) (sym (c.fail.ensures.kept other)) is.1)

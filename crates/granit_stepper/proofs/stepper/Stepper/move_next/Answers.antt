@@ -1,7 +1,8 @@
-use Rattle.std.proofs.Common.{◌≡◌, ◌⊎◌, ◌==◌, Bool, not, length, Ok, ap, subst, ◌∙◌}
+use Rattle.std.proofs.Common.{◌⊎◌, ◌==◌, Bool, not, length, Ok, ap, subst, ◌∙◌}
 use Rattle.std.proofs.lemmas.Result.{err_from_is_err_and}
 use Rattle.granit_error.specs.OptionsData.{OptionsData}
 use Rattle.granit_event.specs.Events.{plain_events}
+use Rattle.granit_refused.specs.Answered.{why}
 use Rattle.granit_lexemes.specs.Outcome.{Fails}
 use Rattle.granit_scanner.specs.Scans.{Scanning}
 use Rattle.granit_stepper.proofs.GatherLemmas.{moves_waiting}
@@ -13,7 +14,7 @@ use Rattle.granit_steps.specs.Steps.{settle}
 pub returns-in_err-settle-clause-known : goal.returns-in_err-settle-clause-known
 returns-in_err-settle-clause-known g c = λ m at.
     let p = err_from_is_err_and c.from_residual-in_err-settle.result c.from_residual-in_err-settle.ensures.1 in
-    let e = c.in_err-settle.field-0.0 in
+    let e = why c.settle.new.fault c.in_err-settle.field-0.0 in
     let started = c.in_ok-tell_start.ensures in
     let options = ap (λ (s : Scanning g.row.T.Denot). s.options) started.scanner in
     let renumbered = c.in_err-settle.ensures.keeps.renumbered ∙ started.renumbered in

@@ -1,5 +1,6 @@
 use Rattle.std.proofs.Common.{◌≡◌, ◌∙◌, Bool, true, false, Ok, subst, arith}
 use Rattle.std.proofs.lemmas.Result.{err_from_is_err_and}
+use Rattle.granit_refused.specs.Answered.{why}
 use Rattle.granit_input.proofs.OriginLemmas.{goes_nowhere, goes_on}
 use Rattle.granit_stepper.proofs.CalmLemmas.{nothing_waits_outside, turns_turned}
 use Rattle.granit_stepper.proofs.SettleLemmas.{Turned, alike_done, alike_fails, alike_first, alike_more, keeps_both}
@@ -17,7 +18,7 @@ pub returns-in_err-turn-clause-known : goal.returns-in_err-turn-clause-known
 returns-in_err-turn-clause-known g c = λ m at told.
     let p = err_from_is_err_and c.from_residual.result c.from_residual.ensures.1 in
     rw (p.1, p.2) (alike_fails g.T.Input.unread c.args.self.now c.turns.self c.turn.new.self c.turns.invariant.keeps
-    c.turns.invariant.alike c.in_err-turn.field-0.0 c.in_err-turn.ensures.known m at told)
+    c.turns.invariant.alike (why c.turn.new.fault c.in_err-turn.field-0.0) c.in_err-turn.ensures.known m at told)
 
 pub returns-in_err-turn-clause-refused : goal.returns-in_err-turn-clause-refused
 returns-in_err-turn-clause-refused g c = λ m at told turned.

@@ -1,5 +1,6 @@
 use Rattle.std.proofs.Common.{sym, ap, subst, ◌∙◌}
 use Rattle.granit_error.specs.OptionsData.{OptionsData}
+use Rattle.granit_refused.specs.Answered.{answered, why}
 use Rattle.granit_frames.specs.Outside.{NoneWaitsOutside}
 use Rattle.granit_machine.specs.Frames.{ParserState}
 use Rattle.granit_machine.specs.Leaving.{LeavesIfRoom}
@@ -24,14 +25,15 @@ returns-in-Ok-clause-known g c = λ m at told none.
       refusal = c.self.inside.refusal;
     } in
     let x = front_view c.args.front in
+    let r = answered c.feed-fed.new.fault c.feed-fed.result in
     let after = c.feed-fed.new.state in
     let options = c.options-options.ensures
     ∙ ap (λ (s : Stepping g.row.T.Denot). s.scanner.options) c.self.view_is in
     let here = subst (λ (s : Stepping g.row.T.Denot). StandsIn unread s m) (sym c.self.view_is) at in
     let first = ap (λ (s : Stepping g.row.T.Denot). s.first) c.self.view_is ∙ told in
-    let fed = subst (λ (o : OptionsData). LeavesIfRoom c.feed-fed.result after
+    let fed = subst (λ (o : OptionsData). LeavesIfRoom r after
     (take_item o x.0.item x.0.begins_key x.1 inside.parser)) options c.feed-fed.ensures.fed in
-    item_fed unread inside m here c.args.self.now.scanner.options x after first none c.feed-fed.result fed
+    item_fed unread inside m here c.args.self.now.scanner.options x after first none r fed
     c.in-Ok.ensures
 
 pub returns-in-Err-clause-known : goal.returns-in-Err-clause-known
@@ -47,15 +49,17 @@ returns-in-Err-clause-known g c = λ m at told none.
       refusal = c.self.inside.refusal;
     } in
     let x = front_view c.args.front in
+    let r = answered c.feed-fed.new.fault c.feed-fed.result in
+    let e = why c.unless_numberless.new.fault c.in-Err.refused in
     let after = c.feed-fed.new.state in
     let options = c.options-options.ensures
     ∙ ap (λ (s : Stepping g.row.T.Denot). s.scanner.options) c.self.view_is in
     let here = subst (λ (s : Stepping g.row.T.Denot). StandsIn unread s m) (sym c.self.view_is) at in
     let first = ap (λ (s : Stepping g.row.T.Denot). s.first) c.self.view_is ∙ told in
-    let fed = subst (λ (o : OptionsData). LeavesIfRoom c.feed-fed.result after
+    let fed = subst (λ (o : OptionsData). LeavesIfRoom r after
     (take_item o x.0.item x.0.begins_key x.1 inside.parser)) options c.feed-fed.ensures.fed in
-    item_not_fed unread inside m here c.args.self.now.scanner.options x after first none c.feed-fed.result fed
-    c.anchor_start-anchor.result c.anchor_start-anchor.ensures c.in-Err.error c.in-Err.ensures
+    item_not_fed unread inside m here c.args.self.now.scanner.options x after first none r fed
+    c.anchor_start-anchor.result c.anchor_start-anchor.ensures e c.in-Err.ensures
 
 pub returns-in-Err-clause-refused : goal.returns-in-Err-clause-refused
 returns-in-Err-clause-refused g c = λ m at told none calm other.
@@ -70,21 +74,23 @@ returns-in-Err-clause-refused g c = λ m at told none calm other.
       refusal = c.self.inside.refusal;
     } in
     let x = front_view c.args.front in
+    let r = answered c.feed-fed.new.fault c.feed-fed.result in
+    let e = why c.unless_numberless.new.fault c.in-Err.refused in
     let after = c.feed-fed.new.state in
     let options = c.options-options.ensures
     ∙ ap (λ (s : Stepping g.row.T.Denot). s.scanner.options) c.self.view_is in
     let here = subst (λ (s : Stepping g.row.T.Denot). StandsIn unread s m) (sym c.self.view_is) at in
     let first = ap (λ (s : Stepping g.row.T.Denot). s.first) c.self.view_is ∙ told in
-    let fed = subst (λ (o : OptionsData). LeavesIfRoom c.feed-fed.result after
+    let fed = subst (λ (o : OptionsData). LeavesIfRoom r after
     (take_item o x.0.item x.0.begins_key x.1 inside.parser)) options c.feed-fed.ensures.fed in
     let outside = subst (λ (p : ParserState). NoneWaitsOutside p) (nothing_waits unread inside m here first none)
     calm in
-    let tags = item_tags (record inside { parser = after }) x.0.item inside.parser after c.feed-fed.result
-    c.anchor_start-anchor.result c.in-Err.error c.anchor_start-anchor.ensures c.in-Err.ensures other
+    let tags = item_tags (record inside { parser = after }) x.0.item inside.parser after r
+    c.anchor_start-anchor.result e c.anchor_start-anchor.ensures c.in-Err.ensures other
     c.feed-fed.ensures.kept (c.feed-fed.ensures.refused outside) in
     subst (λ (p : ParserState). RefusedItem unread x (record inside { parser = p; refusal = c.by.result }) m
-    c.in-Err.error) (sym c.drop_events.ensures)
-    (item_kept unread inside m here c.args.self.now.scanner.options x after first none c.feed-fed.result fed
-    c.anchor_start-anchor.result c.anchor_start-anchor.ensures c.in-Err.error c.in-Err.ensures other
+    e) (sym c.drop_events.ensures)
+    (item_kept unread inside m here c.args.self.now.scanner.options x after first none r fed
+    c.anchor_start-anchor.result c.anchor_start-anchor.ensures e c.in-Err.ensures other
     (whole c.at_item-before.result) c.at_item-before.ensures c.by.result (c.by.ensures other)
     tags (sym (ap (λ (s : Stepping g.row.T.Denot). s.scanner.options) c.self.view_is)))

@@ -1,4 +1,5 @@
 use Rattle.std.proofs.Common.{◌≡◌, [], true, false, ◌==◌, not, List, length, sym, ap, ◌∙◌}
+use Rattle.granit_refused.specs.Answered.{answered}
 use Rattle.granit_lexemes.specs.PlainEvent.{PlainEvent}
 use Rattle.granit_stepper.specs.Stepping.{Stepping}
 use Rattle.granit_stepper.proofs.AheadLemmas.{turns_over, turns_waiting}
@@ -44,5 +45,5 @@ pub returns-clause-ahead : goal.returns-clause-ahead
 returns-clause-ahead g c =
     let parser = ap (λ (s : Stepping g.row.T.Denot). s.parser.given) c.self.view_is in
     let none : not (length c.self.inside.parser.given == 0) ≡ false = sym c.has_event.ensures ∙ c.if-has_event.false in
-    turns_over c.args.self.now c.advance.new.self c.advance.result
+    turns_over c.args.self.now c.advance.new.self (answered c.advance.new.fault c.advance.result)
     (sym parser ∙ none_given c.self.inside.parser.given none) c.advance.ensures.ahead
