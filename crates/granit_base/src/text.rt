@@ -1,6 +1,6 @@
 //! Texts, borrowed or owned, and lists of them.
 ghost use Rattle.std.specs.Prelude.{◌≡◌, ◌==◌, [], ◌∷◌, ◌++◌, true, false, length, slice_get, string_bytes, IfOk, OnOk};
-ghost use Rattle.std.specs.Prelude.{OnErr};
+ghost use Rattle.std.specs.Prelude.{OnErr, IsOk};
 ghost use Rattle.std.specs.Str.{chars};
 ghost use Rattle.std.specs.Option.{option_copied};
 
@@ -91,7 +91,8 @@ impl<'a> Text<'a> {
     ///
     /// `NoMemory` alone.
     pub fn try_clone(&self, alloc: Global) -> Result<Text<'a>, NoMemory>
-        ensures { IfOk result (λ t. t ≡ self.now) }
+        ensures value { IfOk result (λ t. t ≡ self.now) }
+        ensures memory { self.now.is_borrowed ≡ true → IsOk result }
     {
         match &self.parts {
             TextParts::Borrowed(s) => Ok(Text {
@@ -238,7 +239,8 @@ impl TextList {
     ///
     /// `NoMemory` alone.
     pub fn try_clone(&self, alloc: Global) -> Result<TextList, NoMemory>
-        ensures { IfOk result (λ l. l ≡ self.now) }
+        ensures value { IfOk result (λ l. l ≡ self.now) }
+        ensures memory { self.now ≡ [] → IsOk result }
     {
         let mut list = TextList::new(alloc);
         for text in self.as_slice() {

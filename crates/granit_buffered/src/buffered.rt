@@ -1,11 +1,12 @@
 //! Characters of which at most sixteen are read ahead.
 ghost use Rattle.std.specs.Prelude.{◌≡◌, ℕ, ◌+◌, ◌-◌, ◌<◌, ◌≤◌, ◌^◌, List, [], ◌∷◌, ◌++◌, length, Option, None, false};
-ghost use Rattle.std.specs.Prelude.{true, max, min, IfOk, slice_index};
+ghost use Rattle.std.specs.Prelude.{true, max, min, IfOk, MatchOption, slice_index};
 ghost use Rattle.std.specs.Iterator.{size};
 ghost use Rattle.circular_buffer.specs.Buffer.{buffer};
 ghost use Rattle.granit_base.specs.Place.{Unread, first};
 ghost use Rattle.granit_error.specs.FaultKind.{FaultKind};
 ghost use Rattle.granit_input.specs.Origin.{Goes};
+ghost use Rattle.granit_input.specs.Looks.{ReadsNonBreakz};
 ghost use Rattle.granit_input.specs.Unread.{past};
 ghost use Rattle.granit_buffered.specs.Feeds.{GivesOnly, origin_of, Holds};
 
@@ -183,14 +184,35 @@ impl<F: Feed> Input for ReadAhead<F> {
         16
     }
 
-    fn raw_read_ch(&mut self) -> char {
+    fn raw_read_ch(&mut self) -> char
+        ensures read { (u : Unread) → Leaves F.told self.old.feed self.old.held.items u
+            → Leaves F.told self.new.feed self.new.held.items (past 1 u) × (result ≡ first u.text) }
+        ensures moves { (length self.new.held.items + F.bound self.new.feed
+            ≤ length self.old.held.items + F.bound self.old.feed - 1)
+            × (self.old.window ≤ self.new.window + min 1 (length self.old.held.items + F.bound self.old.feed))
+            × Goes (origin_of F.told F.ended F.error F.handed_out self.old.feed)
+            (origin_of F.told F.ended F.error F.handed_out self.new.feed) }
+        ensures few { length self.new.held.items ≤ length self.old.held.items - 1 }
+    {
         self.lookahead(1);
         let c = self.peek();
         self.skip();
         c
     }
 
-    fn raw_read_non_breakz_ch(&mut self) -> Option<char> {
+    fn raw_read_non_breakz_ch(&mut self) -> Option<char>
+        ensures read { (u : Unread) → Leaves F.told self.old.feed self.old.held.items u
+            → ReadsNonBreakz u result (λ v. Leaves F.told self.new.feed self.new.held.items v) }
+        ensures moves { (MatchOption result (length self.new.held.items + F.bound self.new.feed
+            ≤ length self.old.held.items + F.bound self.old.feed)
+            (λ c. length self.new.held.items + F.bound self.new.feed
+            < length self.old.held.items + F.bound self.old.feed))
+            × (MatchOption result (self.old.window ≤ self.new.window) (λ c. self.old.window ≤ self.new.window + 1))
+            × Goes (origin_of F.told F.ended F.error F.handed_out self.old.feed)
+            (origin_of F.told F.ended F.error F.handed_out self.new.feed) }
+        ensures few { MatchOption result (length self.new.held.items ≤ max 1 (length self.old.held.items))
+            (λ c. length self.new.held.items ≤ length self.old.held.items - 1) }
+    {
         self.lookahead(1);
         let c = self.peek();
         if is_breakz(c) {
@@ -200,14 +222,32 @@ impl<F: Feed> Input for ReadAhead<F> {
         Some(c)
     }
 
-    fn skip(&mut self) {
+    fn skip(&mut self)
+        ensures unread { (u : Unread) → Leaves F.told self.old.feed self.old.held.items u
+            → Leaves F.told self.new.feed self.new.held.items (past 1 u) }
+        ensures moves { (length self.new.held.items + F.bound self.new.feed
+            ≤ length self.old.held.items + F.bound self.old.feed - 1)
+            × (self.old.window ≤ self.new.window + min 1 (length self.old.held.items + F.bound self.old.feed))
+            × Goes (origin_of F.told F.ended F.error F.handed_out self.old.feed)
+            (origin_of F.told F.ended F.error F.handed_out self.new.feed) }
+        ensures few { length self.new.held.items ≤ length self.old.held.items - 1 }
+    {
         self.fill(1);
         if self.held.pop_front().is_some() {
             self.window = self.window.saturating_sub(1);
         }
     }
 
-    fn skip_n(&mut self, count: usize) {
+    fn skip_n(&mut self, count: usize)
+        ensures unread { (u : Unread) → Leaves F.told self.old.feed self.old.held.items u
+            → Leaves F.told self.new.feed self.new.held.items (past count u) }
+        ensures moves { (length self.new.held.items + F.bound self.new.feed
+            ≤ length self.old.held.items + F.bound self.old.feed - count)
+            × (self.old.window ≤ self.new.window + min count (length self.old.held.items + F.bound self.old.feed))
+            × Goes (origin_of F.told F.ended F.error F.handed_out self.old.feed)
+            (origin_of F.told F.ended F.error F.handed_out self.new.feed) }
+        ensures few { length self.new.held.items ≤ length self.old.held.items - count }
+    {
         let mut taken = 0;
         'taken: while taken < count {
             self.skip();

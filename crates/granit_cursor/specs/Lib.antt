@@ -1,3 +1,4 @@
+pub mod Copied
 pub mod Reading
 pub mod Tokens
 pub mod Trimmed

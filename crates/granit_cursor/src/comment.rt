@@ -1,5 +1,5 @@
 //! Comments.
-ghost use Rattle.std.specs.Prelude.{◌≡◌, IfOk};
+ghost use Rattle.std.specs.Prelude.{◌≡◌, IfOk, IsOk, true};
 ghost use Rattle.std.specs.Str.{chars, encode_utf8_all};
 ghost use Rattle.granit_base.specs.declared.style.Placement.TheVariants.{Free};
 ghost use Rattle.granit_cursor.specs.Trimmed.{trimmed};
@@ -70,7 +70,8 @@ impl<'input> Comment<'input> {
     ///
     /// `NoMemory` alone.
     pub fn try_clone(&self, alloc: Global) -> Result<Comment<'input>, NoMemory>
-        ensures { IfOk result (λ c. c ≡ self.now) }
+        ensures value { IfOk result (λ c. c ≡ self.now) }
+        ensures memory { self.now.text.is_borrowed ≡ true → IsOk result }
     {
         Ok(Comment {
             text: self.text.try_clone(alloc)?,

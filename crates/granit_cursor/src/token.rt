@@ -1,5 +1,6 @@
 //! Tokens: what a scanner gives.
-ghost use Rattle.std.specs.Prelude.{◌≡◌, IfOk};
+ghost use Rattle.std.specs.Prelude.{◌≡◌, IfOk, IsOk};
+ghost use Rattle.granit_cursor.specs.Copied.{CopyTakesNone};
 
 use crate::comment::Comment;
 use granit_base::{Marker, NoMemory, ScalarStyle, Span, Text, TextList};
@@ -63,7 +64,8 @@ impl<'input> TokenType<'input> {
     ///
     /// `NoMemory` alone.
     pub fn try_clone(&self, alloc: Global) -> Result<TokenType<'input>, NoMemory>
-        ensures { IfOk result (λ t. t ≡ self.now) }
+        ensures value { IfOk result (λ t. t ≡ self.now) }
+        ensures memory { CopyTakesNone self.now → IsOk result }
     {
         Ok(match self {
             TokenType::StreamStart => TokenType::StreamStart,
@@ -143,7 +145,8 @@ impl<'input> Token<'input> {
     ///
     /// `NoMemory` alone.
     pub fn try_clone(&self, alloc: Global) -> Result<Token<'input>, NoMemory>
-        ensures { IfOk result (λ t. t ≡ self.now) }
+        ensures value { IfOk result (λ t. t ≡ self.now) }
+        ensures memory { CopyTakesNone self.now.token_type → IsOk result }
     {
         Ok(Token {
             span: self.span,

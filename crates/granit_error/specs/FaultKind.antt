@@ -1,6 +1,6 @@
 -- Why a text is refused, as plain data, with the number and the printed words of each kind. A text is seen as its
 -- characters.
-use Rattle.std.specs.Prelude.{ℕ, Bool, ◌==◌, List, ◌++◌, codes}
+use Rattle.std.specs.Prelude.{ℕ, Bool, true, false, ◌==◌, List, ◌++◌, codes}
 use Rattle.std.specs.Fmt.{decimal}
 use Rattle.std.specs.Char.{encode_utf8}
 use Rattle.std.specs.Char.Escape.{escape_default}
@@ -102,6 +102,13 @@ pub data FaultKind : Type 0 where
   InvalidFlowScalarIndent : FaultKind
   InvalidMappingValueWhitespace : FaultKind
   UnexpectedEndOfPlainScalar : FaultKind
+
+-- whether it holds a text, which is copied with it
+abbrev pub holds_text : FaultKind → Bool
+holds_text (InputIo error) = true
+holds_text (InputDecoding message) = true
+holds_text (Custom message) = true
+holds_text _ = false
 
 abbrev pub fault_number : FaultKind → ℕ
 fault_number NoMemory = 1

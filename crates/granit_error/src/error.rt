@@ -1,7 +1,7 @@
 //! A fault, its place, and the sources that were being read.
-ghost use Rattle.std.specs.Prelude.{◌≡◌, [], ◌==◌, not, false, IfOk};
+ghost use Rattle.std.specs.Prelude.{◌≡◌, [], ◌==◌, not, false, IfOk, IsOk};
 ghost use Rattle.std.specs.Str.{chars};
-ghost use Rattle.granit_error.specs.FaultKind.{Custom};
+ghost use Rattle.granit_error.specs.FaultKind.{Custom, holds_text};
 ghost use Rattle.granit_error.specs.Kinds.{kind_of};
 ghost use Rattle.granit_error.specs.Refused.{input_io_of, names_sources, info_words};
 
@@ -135,7 +135,8 @@ impl ScanError {
     ///
     /// `NoMemory` alone.
     pub fn try_clone(&self, alloc: Global) -> Result<ScanError, NoMemory>
-        ensures { IfOk result (λ e. e ≡ self.now) }
+        ensures value { IfOk result (λ e. e ≡ self.now) }
+        ensures memory { self.now.sources ≡ [] → holds_text self.now.kind ≡ false → IsOk result }
     {
         let sources = match &self.sources {
             None => None,

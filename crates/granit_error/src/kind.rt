@@ -1,6 +1,6 @@
 //! The kinds of faults.
-ghost use Rattle.std.specs.Prelude.{◌≡◌, IfOk};
-ghost use Rattle.granit_error.specs.FaultKind.{fault_number};
+ghost use Rattle.std.specs.Prelude.{◌≡◌, IfOk, IsOk, false};
+ghost use Rattle.granit_error.specs.FaultKind.{fault_number, holds_text};
 
 use crate::io::InputIoError;
 use granit_base::{NoMemory, OwnedText};
@@ -339,7 +339,8 @@ impl ErrorKind {
     ///
     /// `NoMemory` alone.
     pub fn try_clone(&self, alloc: Global) -> Result<ErrorKind, NoMemory>
-        ensures { IfOk result (λ k. k ≡ self.now) }
+        ensures value { IfOk result (λ k. k ≡ self.now) }
+        ensures memory { holds_text (kind_of self.now) ≡ false → IsOk result }
     {
         match self {
             ErrorKind::NoMemory => Ok(ErrorKind::NoMemory),

@@ -1,11 +1,11 @@
 -- What the helpers of an event answer.
-use Rattle.std.specs.Prelude.{ℕ, Bool, true, false, ◌==◌, if◌then◌else◌, List, Option, Some, None}
+use Rattle.std.specs.Prelude.{◌≡◌, ⊤, ℕ, Bool, true, false, ◌==◌, if◌then◌else◌, List, Option, Some, None}
 use Rattle.std.specs.Borrow.{Bor}
 use Rattle.std.specs.Option.{option_map}
 use Rattle.std.specs.Str.{chars}
 use Rattle.granit_base.specs.declared.style.ScalarStyle.{ScalarStyle}
-use Rattle.granit_lexemes.specs.PlainEvent.{PlainTag, EventKind, Alias, Anchor, UnresolvedAlias, Scalar, SequenceStart}
-use Rattle.granit_lexemes.specs.PlainEvent.{MappingStart}
+use Rattle.granit_lexemes.specs.PlainEvent.{PlainTag, EventKind, Alias, Anchor, UnresolvedAlias, Comment, Scalar}
+use Rattle.granit_lexemes.specs.PlainEvent.{SequenceStart, MappingStart}
 
 -- the number of an anchor, where there is one
 abbrev pub numbered : ℕ → Option ℕ
@@ -49,3 +49,13 @@ is_node_kind (Scalar text style anchor tag) = true
 is_node_kind (SequenceStart style anchor tag) = true
 is_node_kind (MappingStart style anchor tag) = true
 is_node_kind _ = false
+
+-- a copy of it takes no memory: its text is borrowed, and it has no tag
+abbrev pub CopyTakesNone : EventKind → Type 0
+CopyTakesNone (Anchor anchor name) = name.is_borrowed ≡ true
+CopyTakesNone (UnresolvedAlias name) = name.is_borrowed ≡ true
+CopyTakesNone (Comment text placement) = text.is_borrowed ≡ true
+CopyTakesNone (Scalar text style anchor tag) = (text.is_borrowed ≡ true) × (tag ≡ None)
+CopyTakesNone (SequenceStart style anchor tag) = tag ≡ None
+CopyTakesNone (MappingStart style anchor tag) = tag ≡ None
+CopyTakesNone _ = ⊤

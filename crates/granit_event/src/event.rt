@@ -1,9 +1,9 @@
 //! Events.
-ghost use Rattle.std.specs.Prelude.{◌≡◌, IfOk};
+ghost use Rattle.std.specs.Prelude.{◌≡◌, IfOk, IsOk, None};
 ghost use Rattle.std.specs.Option.{option_copied};
 ghost use Rattle.granit_event.specs.Events.{event_kind};
 ghost use Rattle.granit_event.specs.Helpers.{numbered as numbered_of, anchor_of, alias_of, is_alias_kind, tag_of};
-ghost use Rattle.granit_event.specs.Helpers.{scalar_of, scalar_told, is_node_kind};
+ghost use Rattle.granit_event.specs.Helpers.{scalar_of, scalar_told, is_node_kind, CopyTakesNone};
 
 use crate::tag::Tag;
 use granit_base::{NoMemory, Placement, ScalarStyle, Span, StructureStyle, Text};
@@ -145,7 +145,8 @@ impl<'input> Event<'input> {
     ///
     /// `NoMemory` alone.
     pub fn try_clone(&self, alloc: Global) -> Result<Event<'input>, NoMemory>
-        ensures { IfOk result (λ e. e ≡ self.now) }
+        ensures value { IfOk result (λ e. e ≡ self.now) }
+        ensures memory { CopyTakesNone (event_kind self.now) → IsOk result }
     {
         Ok(match self {
             Event::StreamStart => Event::StreamStart,
@@ -175,7 +176,8 @@ impl<'input> Event<'input> {
 }
 
 fn clone_tag(tag: &Option<Tag>, alloc: Global) -> Result<Option<Tag>, NoMemory>
-    ensures { IfOk result (λ t. t ≡ tag.now) }
+    ensures value { IfOk result (λ t. t ≡ tag.now) }
+    ensures memory { tag.now ≡ None → IsOk result }
 {
     match tag {
         None => Ok(None),

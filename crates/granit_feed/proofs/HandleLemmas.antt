@@ -2,7 +2,7 @@
 use Rattle.std.proofs.Common.{◌≡◌, ℕ, Bool, true, false, ◌==◌, List, [], ◌∷◌, Option, Some, None, Result, Ok, Err, refl}
 use Rattle.std.proofs.Common.{sym, ap, ◌∙◌}
 use Rattle.std.specs.Prelude.{if◌then◌else◌}
-use Rattle.granit_error.specs.FaultKind.{FaultKind, UnsupportedYamlMajorVersion}
+use Rattle.granit_error.specs.FaultKind.{UnsupportedYamlMajorVersion}
 use Rattle.granit_error.specs.OptionsData.{OptionsData}
 use Rattle.granit_error.specs.Refused.{Refused}
 use Rattle.granit_lexemes.specs.Comment.{CommentRead}
@@ -14,10 +14,9 @@ use Rattle.granit_machine.specs.Entries.{lookup_text}
 use Rattle.granit_machine.specs.Frames.{Frame, DocumentStage, Fresh, Directives, Inside, BehindRoot, Between, Waiting}
 use Rattle.granit_machine.specs.Frames.{ParserState}
 use Rattle.granit_machine.specs.Leaving.{LeavesIfRoom}
-use Rattle.granit_machine.specs.NodeEnds.{empty_span}
 use Rattle.granit_machine.specs.NodeSteps.{Stepped, misplaced}
 use Rattle.granit_machine.specs.Parser.{hold, take_in, take_token}
-use Rattle.granit_machine.specs.StreamSteps.{behind_directives, behind_root, end_document, outside, when_between}
+use Rattle.granit_machine.specs.StreamSteps.{behind_directives, behind_root, outside, when_between}
 use Rattle.granit_machine.specs.StreamSteps.{when_fresh, with_directive, with_handle, with_version, without_directives}
 use Rattle.granit_machine.specs.TokenSort.{Token}
 use Rattle.granit_frames.specs.Outside.{NoneWaitsOutside}

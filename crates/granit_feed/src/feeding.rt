@@ -25,6 +25,7 @@ use granit_refused::Refused;
 use std::alloc::Global;
 
 /// At the open place that closing left.
+#[inline(always)]
 fn take_token<'input>(
     state: &mut ParserState<'input>,
     fault: &mut Option<ScanError>,
@@ -154,6 +155,7 @@ fn take_tailed<'input>(
 }
 
 // Most lexemes have no tail, and need no room for one.
+#[inline(always)]
 #[tactic(auto, using(crate::proofs::TailLemmas::without_tail))]
 fn take_lexeme<'input>(
     state: &mut ParserState<'input>,

@@ -145,6 +145,7 @@ impl<'input> ParserState<'input> {
     }
 
     /// Ends what a token ends.
+    #[inline(always)]
     #[tactic(auto, using(crate::proofs::CloseLemmas::closing_turns))]
     pub fn close(&mut self, options: &Options, token: &Token<'input>) -> Result<(), NoMemory>
         ensures leaves { OnOk result (closing.close (options_of options.now) (machine_token token.now) self.old

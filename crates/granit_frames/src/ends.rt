@@ -313,6 +313,7 @@ impl<'input> ParserState<'input> {
     }
 
     /// A `-` or `:` waits for its node.
+    #[inline(always)]
     pub fn waits(&mut self, alloc: Global, mark: Marker, room: usize) -> Result<(), NoMemory>
         ensures leaves { OnOk result (self.new ≡ ends.waits mark room self.old) }
         ensures kept { self.new.kept ≡ self.old.kept }

@@ -33,6 +33,7 @@ impl<'input> ParserState<'input> {
     }
 
     /// Gives the held comments.
+    #[inline(always)]
     pub fn flush(&mut self) -> Result<(), NoMemory>
         ensures leaves { OnOk result (self.new ≡ giving.flush self.old) }
         ensures kept { self.new.kept ≡ self.old.kept }
@@ -43,7 +44,8 @@ impl<'input> ParserState<'input> {
         }
     }
 
-    /// The same where something waits, which seldom is so.
+    /// The same where something waits.
+    #[inline(never)]
     fn flush_held(&mut self) -> Result<(), NoMemory>
         ensures leaves { OnOk result (self.new ≡ giving.flush self.old) }
         ensures kept { self.new.kept ≡ self.old.kept }
@@ -119,6 +121,7 @@ impl<'input> ParserState<'input> {
 }
 
 /// The number of its anchor and its tag stand in a node's event.
+#[inline(always)]
 fn bear(event: &mut Event<'_>, number: usize, tag: Option<Tag>)
     ensures { event_kind event.new ≡ bears (event_kind event.old) number tag }
 {
@@ -217,6 +220,7 @@ impl<'input> ParserState<'input> {
     }
 
     /// The column that the first event of a key of a block mapping tells, else its own.
+    #[inline(always)]
     fn key_indent(&self, own: Option<usize>) -> Option<usize>
         ensures { result ≡ giving.key_indent self.now.frames own }
     {
@@ -300,6 +304,7 @@ impl<'input> ParserState<'input> {
     }
 
     /// A node's first event, where no properties stand before it.
+    #[inline(always)]
     fn bare_event(
         &mut self,
         mut event: Event<'input>,

@@ -1,9 +1,9 @@
 //! The unfinished nodes, but for the properties of one.
-ghost use Rattle.std.specs.Prelude.{◌≡◌, ◌<◌, ◌&&◌, ◌==◌, [], ◌∷◌, reverse, length, drop, IfSome, OnOk};
+ghost use Rattle.std.specs.Prelude.{◌≡◌, ◌+◌, ◌<◌, ◌≤◌, ◌&&◌, ◌==◌, [], ◌∷◌, reverse, length, drop, IfSome, IsOk, OnOk};
 ghost use Rattle.granit_machine.specs.Frames as spec;
 ghost use Rattle.granit_machine.specs.Giving as giving;
 ghost use Rattle.granit_machine.specs.NodeEnds as ends;
-ghost use Rattle.granit_nesting.specs.FrameViews.{pair_view, frames_view, split_view};
+ghost use Rattle.granit_nesting.specs.FrameViews.{pair_view, frame_view, frames_view, split_view};
 
 use granit_base::NoMemory;
 use std::alloc::Global;
@@ -133,12 +133,18 @@ impl Frames {
     ///
     /// # Errors
     ///
-    /// `NoMemory` alone.
+    /// `NoMemory` alone, and only where there is none.
+    #[tactic(auto, using(crate::proofs::CountLemmas::blocks_fit))]
     pub fn replace(&mut self, frame: Frame) -> Result<(), NoMemory>
-        ensures { OnOk result (self.new ≡ frame ∷ drop 1 self.old) }
+        ensures value { OnOk result (self.new ≡ frame ∷ drop 1 self.old) }
+        ensures memory { 0 < length self.old → IsOk result }
     {
-        self.pop();
-        self.push(frame)
+        if let Some(top) = self.list.pop() {
+            self.blocks -= count_of(top);
+        }
+        self.list.push(frame)?;
+        self.blocks += count_of(frame);
+        Ok(())
     }
 
     /// Whether a sequence may begin in the column of its mapping (YAML 1.2.2, 8.2.2).
@@ -176,6 +182,21 @@ impl Frames {
             Some(Frame::FlowMapping(_, _)) => own,
             Some(Frame::FlowPair(_)) => own,
         }
+    }
+}
+
+/// How many block collections that is.
+fn count_of(frame: Frame) -> usize
+    ensures counted { (fs : _) → ends.block_count (frame_view frame ∷ fs) ≡ result + ends.block_count fs }
+    ensures one { result ≤ 1 }
+{
+    match frame {
+        Frame::Root(_) => 0,
+        Frame::BlockSequence(_, _) => 1,
+        Frame::BlockMapping(_, _) => 1,
+        Frame::FlowSequence(_) => 0,
+        Frame::FlowMapping(_, _) => 0,
+        Frame::FlowPair(_) => 0,
     }
 }
 

@@ -3,6 +3,7 @@ ghost use Rattle.std.specs.Prelude.{◌≡◌, ◌<◌, ◌≤◌, ◌^◌, Bool
 ghost use Rattle.granit_base.specs.Classes.{is_gap};
 ghost use Rattle.granit_cursor.specs.Reading.{Moves, Stands};
 ghost use Rattle.granit_error.specs.FaultKind as faults;
+ghost use Rattle.granit_error.specs.Kinds.{kind_of};
 ghost use Rattle.granit_error.specs.OptionsView.{options_of};
 ghost use Rattle.granit_lexemes.specs.Comment.{CommentRead};
 ghost use Rattle.granit_lexemes.specs.Here as here;
@@ -18,7 +19,7 @@ ghost use Rattle.granit_reader.specs.declared.met.Met.TheVariants as mets;
 ghost use Rattle.granit_restart.specs.Header.{directive_sort};
 ghost use Rattle.granit_content.specs.Reads.{ReadsItems, found_in, seen, tail_view};
 ghost use Rattle.granit_reader.specs.Reads.{reader_at};
-ghost use Rattle.granit_refused.specs.Answered.{answered};
+ghost use Rattle.granit_refused.specs.Answered.{answered, why};
 ghost use Rattle.granit_reader.specs.SortViews as sorts;
 ghost use Rattle.granit_reader.specs.SortViews.{PlacedFits, SortFits, placed_view, sort_view};
 ghost use Rattle.granit_reader.specs.WithoutMemory.{NeverWantsAt, read_takes_none, behind_takes_none};
@@ -35,7 +36,7 @@ use granit_input::{BorrowedInput, Input};
 use granit_items::{Found, Lexeme};
 use granit_layout::{Layouts, is_adjacent};
 use granit_marks::{closer, comma, directive, document_end, document_start, opener, text_end};
-use granit_refused::{Refused, refuse, refuse_at};
+use granit_refused::{Refused, refuse_at};
 use granit_signs::{colon, dash, question};
 use std::alloc::Global;
 
@@ -165,7 +166,7 @@ fn lexeme_by<'input, T: BorrowedInput<'input>>(
         LexemeSort::TextEnd => text_end(asked, at, layouts, &mut found.lexeme, fault),
         LexemeSort::StartMark => document_start(asked, at, layouts, &mut found.lexeme, fault),
         LexemeSort::EndMark => document_end(alloc, asked, at, layouts, &mut found.lexeme, fault),
-        LexemeSort::Unprintable => Err(refuse(fault, unexpected(at))),
+        LexemeSort::Unprintable => Err(refuse_character(at, fault)),
         LexemeSort::DirectiveSign => directive(
             alloc,
             options,
@@ -207,7 +208,7 @@ fn lexeme_in_column<'input, T: BorrowedInput<'input>>(
     ensures moves { Moves T.unread T.left T.origin at.old at.new }
 {
     if is_strict_outside(options, layouts, at.mark().col()) {
-        return Err(refuse_at(fault, at.mark(), ErrorKind::InvalidIndentation));
+        return Err(refuse_here(at, ErrorKind::InvalidIndentation, fault));
     }
     begin_node(at, layouts, sort);
     lexeme_of(alloc, options, at, layouts, sort, ends, found, fault)
@@ -276,21 +277,30 @@ fn lexeme_of<'input, T: BorrowedInput<'input>>(
         PlacedSort::QuoteSign(single) => quoted_and_gap(
             alloc, options, at, layouts, single, ends, found, fault,
         ),
-        PlacedSort::StrayMark => Err(refuse_at(fault, at.mark(), ErrorKind::BomInsideDocument)),
-        PlacedSort::NoSign => Err(refuse(fault, unexpected(at))),
+        PlacedSort::StrayMark => Err(refuse_here(at, ErrorKind::BomInsideDocument, fault)),
+        PlacedSort::NoSign => Err(refuse_character(at, fault)),
         PlacedSort::PlainSign => plain_lexeme(alloc, options, at, layouts, ends, lexeme, fault),
     }
 }
 
-/// The character that stands here begins no lexeme.
-fn unexpected<T: Input>(at: &mut Cursor<T>) -> ScanError
-    ensures here { (h : Here) → Stands T.unread at.old h
-        → result ≡ fault_at (faults.UnexpectedCharacter (here.next_char h)) (here.mark_of h) }
-    ensures memory { result.kind ≡ faults.NoMemory → ⊥ }
+/// Refuses the character that stands here, which begins no lexeme.
+fn refuse_character<T: Input>(at: &mut Cursor<T>, fault: &mut Option<ScanError>) -> Refused
+    ensures here { (h : Here) → Stands T.unread at.old h → why fault.new result
+        ≡ fault_at (faults.UnexpectedCharacter (here.next_char h)) (here.mark_of h) }
+    ensures memory { (why fault.new result).kind ≡ faults.NoMemory → ⊥ }
     ensures moves { Moves T.unread T.left T.origin at.old at.new }
 {
     let mark = at.mark();
     at.look(1);
     let character = at.input().peek();
-    ScanError::from_kind(mark, ErrorKind::UnexpectedCharacter { character })
+    refuse_at(fault, mark, ErrorKind::UnexpectedCharacter { character })
+}
+
+/// Refuses what stands here, outside any named source.
+fn refuse_here<T: Input>(at: &Cursor<T>, kind: ErrorKind, fault: &mut Option<ScanError>) -> Refused
+    ensures here { (h : Here) → Stands T.unread at.now h
+        → why fault.new result ≡ fault_at (kind_of kind) (here.mark_of h) }
+    ensures kind { (why fault.new result).kind ≡ kind_of kind }
+{
+    refuse_at(fault, at.mark(), kind)
 }

@@ -11,6 +11,7 @@ taken-init g c = record {
   count = omega arith;
   left = omega arith;
   window = omega arith;
+  few = omega arith;
   origin = goes_nowhere _;
 }
 
@@ -21,6 +22,7 @@ taken-preserved g c = record {
   count = omega arith;
   left = omega (arith, c.taken.invariant.left, c.skip.ensures.moves.0);
   window = omega (arith, c.taken.invariant.window, c.taken.invariant.left, c.skip.ensures.moves.1);
+  few = omega (arith, c.taken.invariant.few, c.skip.ensures.few);
   origin = goes_on _ _ _ c.taken.invariant.origin c.skip.ensures.moves.2;
 }
 

@@ -14,6 +14,7 @@ invariant-taken g l = record {
       ≤ length l.fn.self.held.items + g.F.Feed.bound l.fn.self.feed - l.taken;
   window : l.fn.self.window
       ≤ l.self.window + min l.taken (length l.fn.self.held.items + g.F.Feed.bound l.fn.self.feed);
+  few : length l.self.held.items ≤ length l.fn.self.held.items - l.taken;
   origin : Goes (origin_of g.F.Feed.told g.F.Feed.ended g.F.Feed.error g.F.Feed.handed_out l.fn.self.feed)
       (origin_of g.F.Feed.told g.F.Feed.ended g.F.Feed.error g.F.Feed.handed_out l.self.feed);
 }
