@@ -1,11 +1,12 @@
-//! Places, comments and tokens, and what no clause says; what runs take stands in granit_token_cases.
-use granit_base::{Marker, OwnedText, Placement, Span, Text, TextList};
+//! Places, comments and tokens, and what no clause says; what runs take stands in granit_token_cases. What owns
+//! something is made and asked in functions that answer plain values: a test that asserts while it owns is dear to
+//! prove.
+use granit_base::{Marker, NoMemory, OwnedText, Placement, Span, Text, TextList};
 use granit_cursor::{Comment, Cursor, Token, TokenType, past_blanks, scan_comment, skip_comment};
 use granit_error::ScanError;
 use granit_input::{Input, StrInput};
 use std::alloc::Global;
 use std::convert::AsStr;
-use std::test::Fail;
 
 /// A line and a column, whether the line begins there, and the index of the tab before it.
 type Told = (usize, usize, bool, Option<usize>);
@@ -27,190 +28,267 @@ fn told<T: Input>(cursor: &Cursor<T>) -> Told {
     (mark.line(), mark.col(), cursor.begins_line(), tab)
 }
 
-/// The same a character further on.
-fn stepped<T: Input>(cursor: &mut Cursor<T>) -> Told {
-    cursor.step();
-    told(cursor)
+/// How many steps in turn lead to the places in a row.
+fn count_right<T: Input>(cursor: &mut Cursor<T>, places: &[Told]) -> usize {
+    let mut count: usize = 0;
+    for place in places {
+        cursor.step();
+        if told(cursor) != *place {
+            return count;
+        }
+        count = count.saturating_add(1);
+    }
+    count
 }
 
-/// The same behind each of five characters.
-fn walked<T: Input>(cursor: &mut Cursor<T>) -> [Told; 5] {
+/// Whether the source of a cursor has no error.
+fn has_no_error<T: Input>(cursor: &mut Cursor<T>) -> bool {
+    cursor.take_source_error().is_none()
+}
+
+/// Where a cursor stands behind a mark.
+const BEHIND_A_MARK: Told = (1, 0, true, None);
+
+/// Where it stands behind each of ten characters, the last of which aren't there.
+const PLACES: &[Told] = &[
+    (1, 1, false, None),
+    (1, 2, false, Some(2)),
+    (1, 3, false, Some(2)),
+    (2, 0, true, None),
+    (2, 1, true, Some(5)),
+    (3, 0, true, None),
+    (3, 1, false, None),
+    (3, 2, false, None),
+    (4, 0, true, None),
+    (4, 0, true, None),
+];
+
+/// Whether a mark is passed, the place behind it is right, ten places behind that are, and so is the byte offset at
+/// the end, and whether the source has no error.
+fn told_of_places<T: Input>(cursor: &mut Cursor<T>) -> [bool; 5] {
     [
-        stepped(cursor),
-        stepped(cursor),
-        stepped(cursor),
-        stepped(cursor),
-        stepped(cursor),
+        skip_mark(cursor),
+        told(cursor) == BEHIND_A_MARK,
+        count_right(cursor, PLACES) == 10,
+        cursor.mark().byte_offset() == Some(13),
+        has_no_error(cursor),
     ]
 }
 
-/// The byte offset of a cursor, and whether its source has no error.
-fn ended<T: Input>(cursor: &mut Cursor<T>) -> (Option<usize>, bool) {
-    (
-        cursor.mark().byte_offset(),
-        cursor.take_source_error().is_none(),
-    )
-}
-
-/// A mark is passed, and ten characters behind it, the last of which aren't there.
-fn places() -> (bool, Told, [[Told; 5]; 2], (Option<usize>, bool)) {
+/// The same of a text.
+fn places() -> [bool; 5] {
     let mut cursor = Cursor::new(StrInput::new("\u{feff}é\t\r\n\t\rc \n"));
-    (
-        skip_mark(&mut cursor),
-        told(&cursor),
-        [walked(&mut cursor), walked(&mut cursor)],
-        ended(&mut cursor),
-    )
+    told_of_places(&mut cursor)
 }
 
 #[test]
 fn cursors_tell_their_place(rt: HostRuntime) {
-    let first = [
-        (1, 1, false, None),
-        (1, 2, false, Some(2)),
-        (1, 3, false, Some(2)),
-        (2, 0, true, None),
-        (2, 1, true, Some(5)),
-    ];
-    let then = [
-        (3, 0, true, None),
-        (3, 1, false, None),
-        (3, 2, false, None),
-        (4, 0, true, None),
-        (4, 0, true, None),
-    ];
-    assert_eq!(rt;
-        places(),
-        (true, (1, 0, true, None), [first, then], (Some(13), true))
-    );
+    assert_eq!(rt; places(), [true; 5]);
 }
 
-/// The comment that begins here, where one does.
-fn comment_at<'a>(alloc: Global, cursor: &mut Cursor<StrInput<'a>>) -> Option<Token<'a>> {
-    cursor.look(1);
-    if cursor.input().peek() != '#' {
-        return None;
-    }
-    scan_comment(alloc, cursor).ok()
-}
-
-/// Whether the text of a comment is lent.
-fn is_comment_lent(alloc: Global, comment: &Comment<'_>) -> bool {
-    match comment.try_clone(alloc) {
-        Ok(copy) => copy.into_text().is_borrowed(),
+/// Whether a copy that was made is equal to what it is of. What is let go in a generic function is cheap to prove.
+fn is_same<T: PartialEq + Drop>(copy: Result<T, NoMemory>, of: &T) -> bool {
+    match copy {
+        Ok(copy) => copy == *of,
         Err(_) => false,
     }
 }
 
-/// Whether that of a token is, which is a comment.
+/// Whether a value is equal to one that is let go here.
+fn is_equal<T: PartialEq + Drop>(one: &T, other: T) -> bool {
+    *one == other
+}
+
+/// Whether the text of a copy is lent.
+fn is_copy_lent(copy: Result<Comment<'_>, NoMemory>) -> bool {
+    match copy {
+        Ok(comment) => comment.into_text().is_borrowed(),
+        Err(_) => false,
+    }
+}
+
+/// Whether the text of a token is lent, which is a comment.
 fn is_lent(alloc: Global, token: &Token<'_>) -> bool {
     match token.token_type() {
-        TokenType::Comment(comment) => is_comment_lent(alloc, comment),
+        TokenType::Comment(comment) => is_copy_lent(comment.try_clone(alloc)),
         _ => false,
     }
 }
 
 /// The token of a comment, from the third character to the sixth.
 fn comment_token<'a>(text: &'a str, placement: Placement) -> Token<'a> {
-    let comment = Comment::new(Text::borrowed(text)).with_placement(placement);
     let span = Span::new(Marker::new(2, 1, 2), Marker::new(5, 1, 5));
+    let comment = Comment::new(Text::borrowed(text)).with_placement(placement);
     Token::new(span, TokenType::Comment(comment))
 }
 
-/// Over a character and blanks; the comment that begins behind them.
-fn comment_behind<'a>(alloc: Global, cursor: &mut Cursor<StrInput<'a>>) -> Option<Token<'a>> {
-    cursor.step();
-    past_blanks(cursor);
-    comment_at(alloc, cursor)
+/// Whether a token is that one.
+fn is_comment(token: &Token<'_>, text: &str, placement: Placement) -> bool {
+    is_equal(token, comment_token(text, placement))
 }
 
-/// Whether that comment is lent, whether it is as wanted, and where it ends.
-fn comment_of(
+/// What can be told of.
+trait Tells {
+    /// Whether a comment was read that is lent, and whether it is that one.
+    fn is_right(&self, alloc: Global, text: &str, placement: Placement) -> [bool; 2];
+}
+
+impl<'a> Tells for Result<Token<'a>, ScanError> {
+    fn is_right(&self, alloc: Global, text: &str, placement: Placement) -> [bool; 2] {
+        match self {
+            Ok(token) => [is_lent(alloc, token), is_comment(token, text, placement)],
+            Err(_) => [false; 2],
+        }
+    }
+}
+
+/// The same of what is let go here, which is cheap to prove in a generic function.
+fn is_right<T: Tells + Drop>(
     alloc: Global,
-    source: &str,
+    read: T,
     text: &str,
     placement: Placement,
-) -> Option<(bool, bool, Told)> {
-    let mut cursor = Cursor::new(StrInput::new(source));
-    let token = comment_behind(alloc, &mut cursor)?;
-    Some((
-        is_lent(alloc, &token),
-        token == comment_token(text, placement),
-        told(&cursor),
-    ))
-}
-
-/// The number of the kind by which a comment is refused, and the index of its mark.
-fn place(error: &ScanError) -> (u8, usize) {
-    (error.kind().number(), error.marker().index())
+) -> [bool; 2] {
+    read.is_right(alloc, text, placement)
 }
 
 /// The same of the comment that begins here, where one does.
-fn refused(cursor: &mut Cursor<StrInput<'_>>) -> Option<(u8, usize)> {
+fn is_right_at(
+    alloc: Global,
+    cursor: &mut Cursor<StrInput<'_>>,
+    text: &str,
+    placement: Placement,
+) -> [bool; 2] {
     cursor.look(1);
     if cursor.input().peek() != '#' {
-        return None;
+        return [false; 2];
     }
-    match skip_comment(cursor) {
-        Ok(_) => None,
-        Err(error) => Some(place(&error)),
-    }
+    is_right(alloc, scan_comment(alloc, cursor), text, placement)
+}
+
+/// The same of the comment behind a character and blanks, and whether it ends behind the fifth character.
+fn is_right_behind(
+    alloc: Global,
+    cursor: &mut Cursor<StrInput<'_>>,
+    text: &str,
+    placement: Placement,
+) -> [bool; 3] {
+    cursor.step();
+    past_blanks(cursor);
+    let right = is_right_at(alloc, cursor, text, placement);
+    [right[0], right[1], told(cursor) == (1, 5, false, None)]
+}
+
+/// The same in a text.
+fn comment_of(alloc: Global, source: &str, text: &str, placement: Placement) -> [bool; 3] {
+    let mut cursor = Cursor::new(StrInput::new(source));
+    is_right_behind(alloc, &mut cursor, text, placement)
 }
 
 #[test]
 fn comments_tell_whether_they_are_right(rt: HostRuntime) {
     let alloc = rt.alloc();
-    let told = [
-        comment_of(alloc, "\t # b\r\n", " b", Placement::Free),
-        comment_of(alloc, "a #\té\n", "\té", Placement::Right),
-    ];
-    let wanted = Some((true, true, (1, 5, false, None)));
-    assert_eq!(rt; told, [wanted, wanted]);
+    let free = comment_of(alloc, "\t # b\r\n", " b", Placement::Free);
+    let right = comment_of(alloc, "a #\té\n", "\té", Placement::Right);
+    assert_eq!(rt; [free, right], [[true; 3]; 2]);
+}
+
+/// The number of the kind by which a comment is refused, and the index of its mark; both 0 where it isn't.
+fn place(read: &Result<(), ScanError>) -> (u8, usize) {
+    match read {
+        Ok(()) => (0, 0),
+        Err(error) => (error.kind().number(), error.marker().index()),
+    }
+}
+
+/// The same of the comment that begins here, where one does.
+fn refused_at(cursor: &mut Cursor<StrInput<'_>>) -> (u8, usize) {
+    cursor.look(1);
+    if cursor.input().peek() != '#' {
+        return (0, 0);
+    }
+    place(&skip_comment(cursor))
+}
+
+/// The same of the comment that a text begins with.
+fn refused(text: &str) -> (u8, usize) {
+    let mut cursor = Cursor::new(StrInput::new(text));
+    refused_at(&mut cursor)
 }
 
 #[test]
 fn comments_are_refused(rt: HostRuntime) {
-    let mut cursor = Cursor::new(StrInput::new("# a\0b"));
-    assert_eq!(rt; refused(&mut cursor), Some((76, 3)));
+    assert_eq!(rt; refused("# a\0b"), (76, 3));
 }
 
-/// Whether the texts of a comment are these: trimmed, by its two names, and of a copy, which is lent.
-fn has_texts(alloc: Global, comment: &Comment<'_>, trimmed: &str) -> Result<[bool; 4], Fail> {
-    let copy = comment.try_clone(alloc)?;
-    Ok([
+/// Whether the texts of a comment are these: trimmed, and by its two names; and whether a copy of it is the same, and
+/// lent.
+fn told_of_comment(alloc: Global, comment: &Comment<'_>, trimmed: &str) -> [bool; 4] {
+    [
         comment.trimmed_text() == trimmed,
         comment.as_str() == comment.text(),
-        copy == *comment,
-        copy.into_text().is_borrowed(),
-    ])
+        is_same(comment.try_clone(alloc), comment),
+        is_copy_lent(comment.try_clone(alloc)),
+    ]
 }
 
-#[test]
-fn comments_are_cloned(rt: HostRuntime) -> Result<(), Fail> {
+/// The same of a comment that stands on the right.
+fn of_a_comment(alloc: Global) -> [bool; 4] {
     let comment = Comment::new(Text::borrowed(" \u{a0}é c\t")).with_placement(Placement::Right);
-    assert_eq!(rt; has_texts(rt.alloc(), &comment, "é c")?, [true; 4]);
-    Ok(())
-}
-
-/// The token of a reserved directive with one word.
-fn directive(alloc: Global) -> Result<Token<'static>, Fail> {
-    let mut parameters = TextList::new(alloc);
-    parameters.push(OwnedText::from_str(alloc, "b")?)?;
-    let token_type = TokenType::ReservedDirective(Text::borrowed("a"), parameters);
-    Ok(Token::new(Span::empty(Marker::new(3, 1, 3)), token_type))
-}
-
-/// Whether a copy is the same, the index of its span, and whether its parts are the same.
-fn copied(alloc: Global, token: &Token<'_>) -> Result<(bool, usize, bool), Fail> {
-    let copy = token.try_clone(alloc)?;
-    let same = copy == *token;
-    let (span, token_type) = copy.into_parts();
-    Ok((same, span.start.index(), token_type == *token.token_type()))
+    told_of_comment(alloc, &comment, "é c")
 }
 
 #[test]
-fn tokens_are_cloned(rt: HostRuntime) -> Result<(), Fail> {
-    let token = directive(rt.alloc())?;
-    assert_eq!(rt; copied(rt.alloc(), &token)?, (true, 3, true));
-    Ok(())
+fn comments_are_cloned(rt: HostRuntime) {
+    assert_eq!(rt; of_a_comment(rt.alloc()), [true; 4]);
+}
+
+/// One parameter more.
+fn push_one(alloc: Global, parameters: &mut TextList) -> Result<(), NoMemory> {
+    parameters.push(OwnedText::from_str(alloc, "b")?)
+}
+
+/// A list of one parameter, where there is room.
+fn parameters(alloc: Global) -> TextList {
+    let mut parameters = TextList::new(alloc);
+    let _ = push_one(alloc, &mut parameters).is_ok();
+    parameters
+}
+
+/// The token of a reserved directive with these parameters.
+fn directive(parameters: TextList) -> Token<'static> {
+    let span = Span::empty(Marker::new(3, 1, 3));
+    let token_type = TokenType::ReservedDirective(Text::borrowed("a"), parameters);
+    Token::new(span, token_type)
+}
+
+/// Whether a token begins behind three characters, and its type is that one.
+fn has_parts<'a>(token: Token<'a>, wanted: &TokenType<'a>) -> [bool; 2] {
+    let (span, token_type) = token.into_parts();
+    let is_wanted = is_equal(wanted, token_type);
+    [span.start.index() == 3, is_wanted]
+}
+
+/// The same of a copy and the type of what it is of.
+fn copy_has_parts(alloc: Global, token: &Token<'_>) -> [bool; 2] {
+    match token.try_clone(alloc) {
+        Ok(copy) => has_parts(copy, token.token_type()),
+        Err(_) => [false; 2],
+    }
+}
+
+/// The same, and whether a copy is the same.
+fn told_of_token(alloc: Global, token: &Token<'_>) -> [bool; 3] {
+    let [place, token_type] = copy_has_parts(alloc, token);
+    [place, token_type, is_same(token.try_clone(alloc), token)]
+}
+
+/// The same of a directive with one parameter.
+fn told_of_directive(alloc: Global) -> [bool; 3] {
+    told_of_token(alloc, &directive(parameters(alloc)))
+}
+
+#[test]
+fn tokens_are_cloned(rt: HostRuntime) {
+    assert_eq!(rt; told_of_directive(rt.alloc()), [true; 3]);
 }

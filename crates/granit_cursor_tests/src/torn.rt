@@ -2,7 +2,7 @@
 ghost use Rattle.std.specs.Prelude.{◌≡◌, ℕ};
 ghost use Rattle.granit_base.specs.Place.{Unread};
 
-use granit_cursor::{Cursor, TokenType, scan_comment};
+use granit_cursor::{Cursor, Lexed, Token, TokenType, scan_comment};
 use granit_directives::scan_directive;
 use granit_error::{ErrorKind, Options, ScanError};
 use granit_input::{BorrowedInput, Input, StrInput};
@@ -102,62 +102,130 @@ impl<'a, T: Input, L: BorrowedInput<'a>> BorrowedInput<'a> for Torn<T, L> {
 }
 
 /// A text of which only a front is lent.
-fn lending_front<'a>(text: &'a str, front: &'a str) -> Cursor<Torn<StrInput<'a>, StrInput<'a>>> {
+type Front<'a> = Torn<StrInput<'a>, StrInput<'a>>;
+
+fn lending_front<'a>(text: &'a str, front: &'a str) -> Cursor<Front<'a>> {
     Cursor::new(Torn {
         read: StrInput::new(text),
         lends: StrInput::new(front),
     })
 }
 
-/// What refuses the comment, name or directive that a text of which only a front is lent begins with.
-fn refusal(alloc: Global, text: &str, front: &str) -> Option<ScanError> {
-    let mut cursor = lending_front(text, front);
+/// The number of the kind by which something is refused, and the index of its mark, both 0 where it isn't; and `l`
+/// where the name of an anchor that was read is lent, `o` where it is owned, and `.` where none was read.
+type Told = (u8, usize, char);
+
+/// What can be told of.
+trait Tells {
+    fn tell(&self) -> Told;
+}
+
+/// The letter of an anchor's name.
+fn letter(token_type: &TokenType<'_>) -> char {
+    match token_type {
+        TokenType::Anchor(name) if name.is_borrowed() => 'l',
+        TokenType::Anchor(_) => 'o',
+        _ => '.',
+    }
+}
+
+fn refusal(error: &ScanError) -> Told {
+    (error.kind().number(), error.marker().index(), '.')
+}
+
+impl<'a> Tells for Result<Token<'a>, ScanError> {
+    fn tell(&self) -> Told {
+        match self {
+            Ok(token) => (0, 0, letter(token.token_type())),
+            Err(error) => refusal(error),
+        }
+    }
+}
+
+impl<'a> Tells for Result<Lexed<'a>, ScanError> {
+    fn tell(&self) -> Told {
+        match self {
+            Ok(lexed) => (0, 0, letter(lexed.token.token_type())),
+            Err(error) => refusal(error),
+        }
+    }
+}
+
+/// What is told of what is let go here, which is cheap to prove in a generic function.
+fn tell<T: Tells + Drop>(read: T) -> Told {
+    read.tell()
+}
+
+/// What is told of the comment, name or directive that begins here, where one does.
+fn told_at(alloc: Global, cursor: &mut Cursor<Front<'_>>) -> Told {
     cursor.look(1);
     match cursor.input().peek() {
-        '#' => scan_comment(alloc, &mut cursor).err(),
-        '&' => scan_anchor(alloc, &mut cursor, false).err(),
-        '*' => scan_anchor(alloc, &mut cursor, true).err(),
-        '%' => scan_directive(alloc, &mut cursor, &Options::default()).err(),
-        _ => None,
+        '#' => tell(scan_comment(alloc, cursor)),
+        '&' => tell(scan_anchor(alloc, cursor, false)),
+        '*' => tell(scan_anchor(alloc, cursor, true)),
+        '%' => tell(scan_directive(alloc, cursor, &Options::default())),
+        _ => (0, 0, '.'),
     }
 }
 
-/// The number of its kind, and the index of its mark.
-fn refused(alloc: Global, text: &str, front: &str) -> Option<(u8, usize)> {
-    let error = refusal(alloc, text, front)?;
-    Some((error.kind().number(), error.marker().index()))
-}
-
-/// Whether the name of an anchor is lent where only that front is.
-fn is_lent(alloc: Global, text: &str, front: &str) -> Option<bool> {
+/// The same of what a text begins with of which only a front is lent.
+fn told(alloc: Global, text: &str, front: &str) -> Told {
     let mut cursor = lending_front(text, front);
-    cursor.look(1);
-    if cursor.input().peek() != '&' {
-        return None;
+    told_at(alloc, &mut cursor)
+}
+
+/// The number of the kind by which it is refused, and the index of its mark.
+fn refused(alloc: Global, text: &str, front: &str) -> (u8, usize) {
+    let (number, index, _) = told(alloc, text, front);
+    (number, index)
+}
+
+/// The letter of its name.
+fn name_letter(alloc: Global, text: &str, front: &str) -> char {
+    let (_, _, letter) = told(alloc, text, front);
+    letter
+}
+
+/// A text, a front of it, and the index of the mark by which it is refused where only the front is lent.
+const CUT: &[(&str, &str, usize)] = &[
+    ("# ab", "# a", 4),
+    ("&ab c", "&a", 3),
+    ("*é", "*", 2),
+    ("%YAML 1.2 # c", "%YAML 1.2 #", 13),
+];
+
+/// Whether a text is refused at that mark where the front is lent, and isn't where all is, or nothing.
+fn is_refused_by_part(alloc: Global, text: &str, front: &str, mark: usize) -> bool {
+    let told = [
+        refused(alloc, text, front),
+        refused(alloc, text, text),
+        refused(alloc, text, ""),
+    ];
+    told == [(83, mark), (0, 0), (0, 0)]
+}
+
+/// How many rows stand before the first one that is told otherwise.
+fn count_refused(alloc: Global) -> usize {
+    let mut count: usize = 0;
+    for &(text, front, mark) in CUT {
+        if !is_refused_by_part(alloc, text, front, mark) {
+            return count;
+        }
+        count = count.saturating_add(1);
     }
-    match scan_anchor(alloc, &mut cursor, false).ok()?.token_type() {
-        TokenType::Anchor(name) => Some(name.is_borrowed()),
-        _ => None,
-    }
+    count
 }
 
 #[test]
 fn refused_slices_are_told(rt: HostRuntime) {
-    let cut = [
-        ("# ab", "# a", 4),
-        ("&ab c", "&a", 3),
-        ("*é", "*", 2),
-        ("%YAML 1.2 # c", "%YAML 1.2 #", 13),
-    ];
-    for (text, front, mark) in cut {
-        assert_eq!(rt; refused(rt.alloc(), text, front), Some((83, mark)));
-        assert_eq!(rt; refused(rt.alloc(), text, text), None);
-        assert_eq!(rt; refused(rt.alloc(), text, ""), None);
-    }
+    assert_eq!(rt; count_refused(rt.alloc()), 4);
 }
 
 #[test]
 fn nothing_is_lent_from_a_refused_place(rt: HostRuntime) {
-    assert_eq!(rt; is_lent(rt.alloc(), "&ab", "&ab"), Some(true));
-    assert_eq!(rt; is_lent(rt.alloc(), "&ab", ""), Some(false));
+    let told = [
+        name_letter(rt.alloc(), "&ab", "&ab"),
+        name_letter(rt.alloc(), "&ab", ""),
+    ];
+    assert_eq!(rt; told, ['l', 'o']);
 }

@@ -1,9 +1,7 @@
 //! Sources and sinks that move a byte a call and fail at each call in turn.
 use crate::running::{Case, outcome, over};
-use granit_base::NoMemory;
 use granit_events::Status;
 use std::alloc::Global;
-use std::test::*;
 
 const EVENTS: &[&str] = &["events"];
 
@@ -38,68 +36,60 @@ fn bytewise(failing_read: usize, failing_write: usize) -> Case {
 }
 
 /// How many bytes of the lines were written before a sink failed; none where the run ended otherwise.
-fn front(alloc: Global, case: Case) -> Result<Option<usize>, NoMemory> {
-    let (status, written) = outcome(alloc, case)?;
-    if status == Status::WriteFault && BLOCK_LINES.as_bytes().starts_with(written.as_slice()) {
-        return Ok(Some(written.len()));
+fn front(alloc: Global, case: Case) -> Option<usize> {
+    match outcome(alloc, case, BLOCK_LINES) {
+        Some((Status::WriteFault, written)) => written,
+        _ => None,
     }
-    Ok(None)
-}
-
-/// Whether a run printed all lines.
-fn is_whole(alloc: Global, case: Case) -> Result<bool, NoMemory> {
-    let (status, written) = outcome(alloc, case)?;
-    Ok(status == Status::Done && written.as_slice() == BLOCK_LINES.as_bytes())
-}
-
-/// Whether a failed read ended a run that wrote nothing.
-fn is_unread(alloc: Global, case: Case) -> Result<bool, NoMemory> {
-    let (status, written) = outcome(alloc, case)?;
-    Ok(status == Status::ReadFault && written.is_empty())
 }
 
 /// The first number of bytes behind which a failed write isn't told with exactly these written.
-fn writes_that_fail(alloc: Global) -> Result<usize, NoMemory> {
+fn writes_that_fail(alloc: Global) -> usize {
     for done in 0..BLOCK_LINES.len() {
-        if front(alloc, bytewise(0, done + 1))? != Some(done) {
-            return Ok(done);
+        if front(alloc, bytewise(0, done + 1)) != Some(done) {
+            return done;
         }
     }
-    Ok(BLOCK_LINES.len())
+    BLOCK_LINES.len()
 }
 
 /// The first number of reads behind which a failed one isn't told with nothing written.
-fn reads_that_fail(alloc: Global, most: usize) -> Result<usize, NoMemory> {
+fn reads_that_fail(alloc: Global, most: usize) -> usize {
     for done in 0..100 {
         let case = Case {
             most,
             ..bytewise(done + 1, 0)
         };
-        if !is_unread(alloc, case)? {
-            return Ok(done);
+        if outcome(alloc, case, "") != Some((Status::ReadFault, Some(0))) {
+            return done;
         }
     }
-    Ok(100)
+    100
 }
 
 #[test]
-fn a_byte_a_call(rt: HostRuntime) -> Result<(), Fail> {
-    assert!(rt; is_whole(rt.alloc(), bytewise(0, 0))?);
-    assert!(rt; is_whole(rt.alloc(), bytewise(23, BLOCK_LINES.len() + 1))?);
-    Ok(())
+fn a_byte_a_call(rt: HostRuntime) {
+    let later = bytewise(23, BLOCK_LINES.len() + 1);
+    let ends = [
+        outcome(rt.alloc(), bytewise(0, 0), BLOCK_LINES),
+        outcome(rt.alloc(), later, BLOCK_LINES),
+    ];
+    let whole = Some((Status::Done, Some(BLOCK_LINES.len())));
+    assert_eq!(rt; ends, [whole, whole]);
 }
 
 #[test]
-fn each_write_may_fail(rt: HostRuntime) -> Result<(), Fail> {
-    assert_eq!(rt; writes_that_fail(rt.alloc())?, BLOCK_LINES.len());
-    Ok(())
+fn each_write_may_fail(rt: HostRuntime) {
+    assert_eq!(rt; writes_that_fail(rt.alloc()), BLOCK_LINES.len());
 }
 
 #[test]
-fn each_read_may_fail(rt: HostRuntime) -> Result<(), Fail> {
+fn each_read_may_fail(rt: HostRuntime) {
+    let reads = [
+        reads_that_fail(rt.alloc(), 1),
+        reads_that_fail(rt.alloc(), 5),
+        reads_that_fail(rt.alloc(), usize::MAX),
+    ];
     // the last call finds the end
-    assert_eq!(rt; reads_that_fail(rt.alloc(), 1)?, 22);
-    assert_eq!(rt; reads_that_fail(rt.alloc(), 5)?, 6);
-    assert_eq!(rt; reads_that_fail(rt.alloc(), usize::MAX)?, 2);
-    Ok(())
+    assert_eq!(rt; reads, [22, 6, 2]);
 }

@@ -1,21 +1,34 @@
 //! How runs end, what they write, and each source and sink once.
 use granit_base::{NoMemory, OwnedText, TextList};
 use granit_events::{
-    MemorySink, MemorySource, PlainSink, PlainSource, ReadSource, Status, WriteSink, run, run_plain,
+    MemorySink, MemorySource, PlainSink, PlainSource, ReadSource, Source, Status, WriteSink, run,
+    run_plain,
 };
 use std::alloc::Global;
-use std::test::*;
 
-fn words(alloc: Global, list: &[&str]) -> Result<TextList, NoMemory> {
-    let mut words = TextList::new(alloc);
-    for word in list {
-        words.push(OwnedText::from_str(alloc, word)?)?;
-    }
-    Ok(words)
+/// One more word.
+fn push_word(alloc: Global, words: &mut TextList, word: &str) -> Result<(), NoMemory> {
+    words.push(OwnedText::from_str(alloc, word)?)
 }
 
-/// How a run over memory ends, and what it writes; `failing_read` and `failing_write` are the
-/// numbers of the calls that fail, where there are such.
+/// A list of words, where there is room.
+pub(crate) fn words(alloc: Global, list: &[&str]) -> TextList {
+    let mut words = TextList::new(alloc);
+    for word in list {
+        let _ = push_word(alloc, &mut words, word).is_ok();
+    }
+    words
+}
+
+/// A list of one number, where there is room.
+pub(crate) fn one(alloc: Global, number: usize) -> Vec<usize> {
+    let mut numbers = Vec::new(alloc);
+    let _ = numbers.push(number).ok();
+    numbers
+}
+
+/// A run over memory, at most so many bytes a call; `failing_read` and `failing_write` are the numbers
+/// of the calls that fail, where there are such.
 #[derive(Clone, Copy)]
 pub(crate) struct Case {
     pub(crate) words: &'static [&'static str],
@@ -36,19 +49,66 @@ pub(crate) fn over(words: &'static [&'static str], bytes: &'static [u8]) -> Case
     }
 }
 
-/// How the run of a case ends, and what it writes.
-pub(crate) fn outcome(alloc: Global, case: Case) -> Result<(Status, Vec<u8>), NoMemory> {
-    let most = case.most.max(1);
-    let bytes = Vec::from_slice(alloc, case.bytes)?;
-    let mut source = MemorySource::new(bytes, most, vec![in alloc; case.failing_read]?);
-    let mut sink = MemorySink::new(alloc, 4096, most, vec![in alloc; case.failing_write]?)?;
-    let status = run(alloc, &words(alloc, case.words)?, &mut source, &mut sink);
-    Ok((status, Vec::from_slice(alloc, sink.bytes())?))
+/// Its source.
+fn source(alloc: Global, case: Case) -> Option<MemorySource> {
+    let bytes = Vec::from_slice(alloc, case.bytes).ok()?;
+    let failing = one(alloc, case.failing_read);
+    Some(MemorySource::new(bytes, case.most.max(1), failing))
 }
 
-fn ends(rt: &HostRuntime, case: Case, status: Status, output: &str) -> Option<bool> {
-    let (ended, written) = outcome(rt.alloc(), case).ok()?;
-    Some(ended == status && written.as_slice() == output.as_bytes())
+/// Its sink.
+fn sink(alloc: Global, case: Case) -> Option<MemorySink> {
+    let failing = one(alloc, case.failing_write);
+    MemorySink::new(alloc, 4096, case.most.max(1), failing).ok()
+}
+
+/// How many bytes of an output were written; none where others were.
+fn front_of(output: &str, written: &[u8]) -> Option<usize> {
+    if output.as_bytes().starts_with(written) {
+        Some(written.len())
+    } else {
+        None
+    }
+}
+
+/// How the run of a case ends between a source and a sink, and how many bytes of an output it writes; none where it
+/// writes others.
+fn ended<S: Source>(
+    alloc: Global,
+    case: Case,
+    source: &mut S,
+    sink: &mut MemorySink,
+    output: &str,
+) -> (Status, Option<usize>) {
+    let status = run(alloc, &words(alloc, case.words), source, sink);
+    (status, front_of(output, sink.bytes()))
+}
+
+/// The same over a source.
+fn outcome_over<S: Source>(
+    alloc: Global,
+    case: Case,
+    source: &mut S,
+    output: &str,
+) -> Option<(Status, Option<usize>)> {
+    let mut sink = sink(alloc, case)?;
+    Some(ended(alloc, case, source, &mut sink, output))
+}
+
+/// The same over its own source.
+pub(crate) fn outcome(alloc: Global, case: Case, output: &str) -> Option<(Status, Option<usize>)> {
+    let mut source = source(alloc, case)?;
+    outcome_over(alloc, case, &mut source, output)
+}
+
+/// How the run of a case ends, where it writes that output.
+fn end_of(alloc: Global, case: Case, output: &str) -> Option<Status> {
+    let (status, written) = outcome(alloc, case, output)?;
+    if written == Some(output.len()) {
+        Some(status)
+    } else {
+        None
+    }
 }
 
 const EVENTS: &[&str] = &["events"];
@@ -66,182 +126,169 @@ const PAIR_LINES: &str = "StreamStart 0:1:1-0:1:1\n\
      DocumentEnd 17:1:18-17:1:18\n\
      StreamEnd 18:2:1-18:2:1\n";
 
-#[test]
-fn prints_what_came(rt: HostRuntime) {
-    let holds = Some(true);
-    assert_eq!(rt; ends(&rt, over(EVENTS, b""), Status::Done, EMPTY), holds);
-    assert_eq!(rt;
-        ends(&rt, over(EVENTS, PAIR), Status::Done, PAIR_LINES),
-        holds
-    );
-    let unclosed = "fault 2: unclosed bracket '[' at char 4 line 1 column 5\n";
-    assert_eq!(rt;
-        ends(&rt, over(EVENTS, b"--- [\n"), Status::Fault, unclosed),
-        holds
-    );
-    let escaped = "StreamStart 0:1:1-0:1:1\n\
+const UNCLOSED: &str = "fault 2: unclosed bracket '[' at char 4 line 1 column 5\n";
+
+const ESCAPED: &str = "StreamStart 0:1:1-0:1:1\n\
      DocumentStart explicit 0:1:1-3:1:4\n\
      Scalar double \"~\\t\\u{e9}\\u{1f600}\" 4:1:5-10:1:11\n\
      DocumentEnd 10:1:11-10:1:11\n\
      StreamEnd 10:1:11-10:1:11\n";
-    assert_eq!(rt;
-        ends(
-            &rt,
-            over(EVENTS, b"--- \"~\t\xc3\xa9\xf0\x9f\x98\x80\""),
-            Status::Done,
-            escaped
-        ),
-        holds
-    );
+
+/// How runs end that print what came.
+fn whole_runs(alloc: Global) -> [Option<Status>; 4] {
+    let escapes = b"--- \"~\t\xc3\xa9\xf0\x9f\x98\x80\"";
+    [
+        end_of(alloc, over(EVENTS, b""), EMPTY),
+        end_of(alloc, over(EVENTS, PAIR), PAIR_LINES),
+        end_of(alloc, over(EVENTS, b"--- [\n"), UNCLOSED),
+        end_of(alloc, over(EVENTS, escapes), ESCAPED),
+    ]
+}
+
+#[test]
+fn prints_what_came(rt: HostRuntime) {
+    let (done, fault) = (Some(Status::Done), Some(Status::Fault));
+    assert_eq!(rt; whole_runs(rt.alloc()), [done, done, fault, done]);
+}
+
+/// How runs end that say what is wrong.
+fn wrong_runs(alloc: Global) -> [Option<Status>; 4] {
+    let (first, second) = ("usage: word 1\n", "usage: word 2\n");
+    [
+        end_of(alloc, over(EVENTS, b"a\xff"), "not UTF-8 after 1 bytes\n"),
+        end_of(alloc, over(&[], b"a"), first),
+        end_of(alloc, over(&["event"], b"a"), first),
+        end_of(alloc, over(&["events", "x"], b"a"), second),
+    ]
 }
 
 #[test]
 fn prints_what_is_wrong(rt: HostRuntime) {
-    let holds = Some(true);
-    let invalid = "not UTF-8 after 1 bytes\n";
-    assert_eq!(rt;
-        ends(&rt, over(EVENTS, b"a\xff"), Status::NotUtf8, invalid),
-        holds
-    );
-    assert_eq!(rt;
-        ends(&rt, over(&[], b"a"), Status::Usage, "usage: word 1\n"),
-        holds
-    );
-    assert_eq!(rt;
-        ends(
-            &rt,
-            over(&["event"], b"a"),
-            Status::Usage,
-            "usage: word 1\n"
-        ),
-        holds
-    );
-    assert_eq!(rt;
-        ends(
-            &rt,
-            over(&["events", "x"], b"a"),
-            Status::Usage,
-            "usage: word 2\n"
-        ),
-        holds
-    );
+    let (usage, not_utf8) = (Some(Status::Usage), Some(Status::NotUtf8));
+    assert_eq!(rt; wrong_runs(rt.alloc()), [not_utf8, usage, usage, usage]);
 }
 
-#[test]
-fn reads_its_words(rt: HostRuntime) {
-    let holds = Some(true);
-    let unresolved = "StreamStart 0:1:1-0:1:1\n\
+const UNRESOLVED: &str = "StreamStart 0:1:1-0:1:1\n\
      DocumentStart implicit 0:1:1-2:1:3\n\
      UnresolvedAlias \"x\" 0:1:1-2:1:3\n\
      DocumentEnd 2:1:3-2:1:3\n\
      StreamEnd 2:1:3-2:1:3\n";
-    assert_eq!(rt;
-        ends(
-            &rt,
-            over(&["events", "unresolved=on"], b"*x"),
-            Status::Done,
-            unresolved
-        ),
-        holds
-    );
-    let deep = "fault 5: recursion limit exceeded at char 0 line 1 column 1\n";
-    assert_eq!(rt;
-        ends(
-            &rt,
-            over(&["events", "flow-limit=0", "strict=on"], b"[a]"),
-            Status::Fault,
-            deep
-        ),
-        holds
-    );
-    assert_eq!(rt;
-        ends(
-            &rt,
-            over(&["events", "comments=on", "comments=off"], b"a"),
-            Status::Usage,
-            "usage: word 3\n"
-        ),
-        holds
-    );
+
+const DEEP: &str = "fault 5: recursion limit exceeded at char 0 line 1 column 1\n";
+
+/// How runs with options end.
+fn runs_with_options(alloc: Global) -> [Option<Status>; 3] {
+    let unresolved = over(&["events", "unresolved=on"], b"*x");
+    let deep = over(&["events", "flow-limit=0", "strict=on"], b"[a]");
+    let twice = over(&["events", "comments=on", "comments=off"], b"a");
+    [
+        end_of(alloc, unresolved, UNRESOLVED),
+        end_of(alloc, deep, DEEP),
+        end_of(alloc, twice, "usage: word 3\n"),
+    ]
 }
 
 #[test]
-fn fails_where_the_outside_does(rt: HostRuntime) {
-    let holds = Some(true);
+fn reads_its_words(rt: HostRuntime) {
+    let ends = [Some(Status::Done), Some(Status::Fault), Some(Status::Usage)];
+    assert_eq!(rt; runs_with_options(rt.alloc()), ends);
+}
+
+/// How runs end of which the source fails, or is slow.
+fn slow_and_unread(alloc: Global) -> [Option<Status>; 2] {
     let slow = Case {
         most: 1,
         ..over(EVENTS, PAIR)
     };
-    assert_eq!(rt; ends(&rt, slow, Status::Done, PAIR_LINES), holds);
     let read = Case {
         most: 1,
         failing_read: 2,
         ..over(EVENTS, b"aa")
     };
-    assert_eq!(rt; ends(&rt, read, Status::ReadFault, ""), holds);
+    [end_of(alloc, slow, PAIR_LINES), end_of(alloc, read, "")]
+}
+
+/// How runs end of which the sink fails.
+fn unwritten(alloc: Global) -> [Option<Status>; 3] {
     let write = Case {
         failing_write: 1,
         ..over(EVENTS, PAIR)
     };
-    assert_eq!(rt; ends(&rt, write, Status::WriteFault, ""), holds);
     let later = Case {
         most: 5,
         failing_write: 3,
         ..over(EVENTS, PAIR)
     };
-    assert_eq!(rt; ends(&rt, later, Status::WriteFault, "StreamStar"), holds);
     let of_nothing = Case {
         failing_write: 1,
         ..over(EVENTS, b"")
     };
-    assert_eq!(rt; ends(&rt, of_nothing, Status::WriteFault, ""), holds);
-}
-
-fn plain_status(alloc: Global, bytes: Vec<u8>) -> Result<Status, NoMemory> {
-    let list = words(alloc, EVENTS)?;
-    Ok(run_plain(
-        alloc,
-        &list,
-        &mut PlainSource::new(bytes),
-        &mut PlainSink::new(),
-    ))
-}
-
-/// How a run over so many spaces ends, and what it writes.
-fn over_spaces(alloc: Global, count: usize) -> Result<(Status, Vec<u8>), NoMemory> {
-    let list = words(alloc, EVENTS)?;
-    let mut source = PlainSource::new(vec![in alloc; b' '; count]?);
-    let mut sink = MemorySink::new(alloc, 4096, usize::MAX, vec![in alloc; 0]?)?;
-    let status = run(alloc, &list, &mut source, &mut sink);
-    Ok((status, Vec::from_slice(alloc, sink.bytes())?))
+    [
+        end_of(alloc, write, ""),
+        end_of(alloc, later, "StreamStar"),
+        end_of(alloc, of_nothing, ""),
+    ]
 }
 
 #[test]
-fn stops_at_the_limit(rt: HostRuntime) -> Result<(), Fail> {
-    let (ended, written) = over_spaces(rt.alloc(), 67_108_865)?;
-    assert_eq!(rt; ended, Status::TooLong);
-    assert_eq!(rt; written.as_slice(), b"input too long\n".as_slice());
-    let three = vec![in rt.alloc(); b' '; 3]?;
-    assert_eq!(rt; plain_status(rt.alloc(), three), Ok(Status::Done));
-    Ok(())
+fn fails_where_the_outside_does(rt: HostRuntime) {
+    let reads = [Some(Status::Done), Some(Status::ReadFault)];
+    assert_eq!(rt; slow_and_unread(rt.alloc()), reads);
+    assert_eq!(rt; unwritten(rt.alloc()), [Some(Status::WriteFault); 3]);
 }
 
-fn through_std(alloc: Global, bytes: &[u8]) -> Result<(u8, Vec<u8>), NoMemory> {
-    let list = words(alloc, EVENTS)?;
-    let mut written = Vec::new(alloc);
-    let status = run(
-        alloc,
-        &list,
-        &mut ReadSource::new(bytes),
-        &mut WriteSink::new(&mut written),
+/// How a run ends that hands on bytes and takes all lines.
+fn plain_status(alloc: Global, bytes: Vec<u8>) -> Status {
+    let (mut source, mut sink) = (PlainSource::new(bytes), PlainSink::new());
+    run_plain(alloc, &words(alloc, EVENTS), &mut source, &mut sink)
+}
+
+/// So many spaces.
+fn spaces(alloc: Global, count: usize) -> Result<Vec<u8>, NoMemory> {
+    Ok(vec![in alloc; b' '; count]?)
+}
+
+/// How such a run ends over three spaces.
+fn plain_status_of_spaces(alloc: Global) -> Option<Status> {
+    let bytes = spaces(alloc, 3).ok()?;
+    Some(plain_status(alloc, bytes))
+}
+
+/// How a run over so many spaces ends, and how many bytes of an output it writes.
+fn over_spaces(alloc: Global, count: usize, output: &str) -> Option<(Status, Option<usize>)> {
+    let mut source = PlainSource::new(spaces(alloc, count).ok()?);
+    outcome_over(alloc, over(EVENTS, b""), &mut source, output)
+}
+
+#[test]
+fn stops_at_the_limit(rt: HostRuntime) {
+    let alloc = rt.alloc();
+    assert_eq!(rt;
+        over_spaces(alloc, 67_108_865, "input too long\n"),
+        Some((Status::TooLong, Some(15)))
     );
-    Ok((status.code(), written))
+    assert_eq!(rt; plain_status_of_spaces(alloc), Some(Status::Done));
+}
+
+/// The code of a run through std's traits, and how many bytes of an output it writes.
+fn through_std(alloc: Global, bytes: &[u8], output: &str) -> (u8, Option<usize>) {
+    let mut written = Vec::new(alloc);
+    let code = code_through_std(alloc, bytes, &mut written);
+    (code, front_of(output, written.as_slice()))
+}
+
+/// Its code.
+fn code_through_std(alloc: Global, bytes: &[u8], written: &mut Vec<u8>) -> u8 {
+    let list = words(alloc, EVENTS);
+    let mut source = ReadSource::new(bytes);
+    let status = run(alloc, &list, &mut source, &mut WriteSink::new(written));
+    status.code()
 }
 
 #[test]
-fn reads_and_writes_through_std(rt: HostRuntime) -> Result<(), Fail> {
-    let (code, written) = through_std(rt.alloc(), PAIR)?;
-    assert_eq!(rt; code, 0);
-    assert_eq!(rt; written.as_slice(), PAIR_LINES.as_bytes());
-    Ok(())
+fn reads_and_writes_through_std(rt: HostRuntime) {
+    assert_eq!(rt;
+        through_std(rt.alloc(), PAIR, PAIR_LINES),
+        (0, Some(PAIR_LINES.len()))
+    );
 }

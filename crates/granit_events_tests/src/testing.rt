@@ -1,33 +1,35 @@
 //! `selftest`: its line beside what the calls answer whose numbers it prints, wrong words and a failing sink.
-use granit_base::{NoMemory, OwnedText, TextList};
+use crate::running::{one, words};
 use granit_error::Options;
 use granit_events::{MemorySink, MemorySource, Status, run};
 use granit_generator::{node_count, trees_from};
 use granit_load::load_str;
-use granit_model::flow_text;
+use granit_model::{TreeList, fits, flow_text};
 use std::alloc::Global;
-use std::test::*;
 
-/// How a run on words ends over a source whose first call fails, and what it writes, five bytes a call; `failing` is
-/// the number of the call of the sink that fails, where there is one.
-fn outcome(alloc: Global, words: &[&str], failing: usize) -> Option<(Status, String)> {
-    let mut list = TextList::new(alloc);
-    for word in words {
-        list.push(OwnedText::from_str(alloc, word).ok()?).ok()?;
-    }
-    let mut source = MemorySource::new(Vec::new(alloc), 1, vec![in alloc; 1].ok()?);
-    let mut sink = MemorySink::new(alloc, 4096, 5, vec![in alloc; failing].ok()?).ok()?;
-    let status = run(alloc, &list, &mut source, &mut sink);
-    let text = str::from_utf8(sink.bytes()).ok()?;
-    Some((status, String::from_str(alloc, text).ok()?))
+/// A source whose first call fails.
+fn failing_source(alloc: Global) -> MemorySource {
+    MemorySource::new(Vec::new(alloc), 1, one(alloc, 1))
+}
+
+/// How a run on words ends over such a source, and whether it writes that.
+fn outcome(alloc: Global, list: &[&str], sink: &mut MemorySink, output: &str) -> (Status, bool) {
+    let mut source = failing_source(alloc);
+    let status = run(alloc, &words(alloc, list), &mut source, sink);
+    (status, sink.bytes() == output.as_bytes())
+}
+
+/// The same with a sink that takes five bytes a call; `failing` is the number of the call that fails, where there is
+/// one.
+fn ended(alloc: Global, words: &[&str], failing: usize, output: &str) -> Option<(Status, bool)> {
+    let failing = one(alloc, failing);
+    let mut sink = MemorySink::new(alloc, 4096, 5, failing).ok()?;
+    Some(outcome(alloc, words, &mut sink, output))
 }
 
 /// Whether such a run ends so and writes that.
 fn ends(rt: &HostRuntime, words: &[&str], failing: usize, status: Status, output: &str) -> bool {
-    match outcome(rt.alloc(), words, failing) {
-        Some((ended, written)) => ended == status && written.as_str() == output,
-        None => false,
-    }
+    ended(rt.alloc(), words, failing, output) == Some((status, true))
 }
 
 /// Whether a run on words ends as it should where nothing fails.
@@ -51,25 +53,36 @@ fn fails(rt: &HostRuntime, call: usize, output: &str) -> bool {
     )
 }
 
-/// The line of the numbers of generated trees, by the calls that they are of.
-fn counted(alloc: Global, seed: u32, size: u32) -> Result<String, NoMemory> {
-    let trees = trees_from(alloc, seed, size)?;
-    let documents = trees.len();
-    let nodes = node_count(&trees)?;
-    let text = flow_text(alloc, &trees)?;
-    let bytes = text.as_str().len();
-    let Ok(events) = load_str(alloc, text.as_str(), Options::default()) else {
-        return Err(NoMemory);
-    };
-    let events = events.len();
-    let line = format!(in alloc;
-        "documents {documents} nodes {nodes} bytes {bytes} events {events}\n"
-    )?;
-    Ok(line)
+/// How many events a text has.
+fn event_count(alloc: Global, text: &str) -> Option<usize> {
+    let events = load_str(alloc, text, Options::default()).ok()?;
+    Some(events.len())
+}
+
+/// How many documents and nodes trees have.
+fn tree_counts(trees: &TreeList) -> Option<[usize; 2]> {
+    Some([trees.len(), node_count(trees).ok()?])
+}
+
+/// How many bytes and events their text has, where they fit.
+fn text_counts(alloc: Global, trees: &TreeList) -> Option<[usize; 2]> {
+    if !fits(trees) {
+        return None;
+    }
+    let text = flow_text(alloc, trees).ok()?;
+    Some([text.as_str().len(), event_count(alloc, text.as_str())?])
+}
+
+/// All four of generated trees.
+fn counts(alloc: Global, seed: u32, size: u32) -> Option<[usize; 4]> {
+    let trees = trees_from(alloc, seed, size).ok()?;
+    let [documents, nodes] = tree_counts(&trees)?;
+    let [bytes, events] = text_counts(alloc, &trees)?;
+    Some([documents, nodes, bytes, events])
 }
 
 #[test]
-fn prints_the_numbers_of_trees(rt: HostRuntime) -> Result<(), Fail> {
+fn prints_the_numbers_of_trees(rt: HostRuntime) {
     let one = "documents 1 nodes 1 bytes 7 events 6\n";
     let none = "documents 0 nodes 0 bytes 0 events 2\n";
     let many = "documents 1000 nodes 9296 bytes 66693 events 15010\n";
@@ -78,11 +91,12 @@ fn prints_the_numbers_of_trees(rt: HostRuntime) -> Result<(), Fail> {
         prints(&rt, &["selftest", "999999999", "0"], none),
         prints(&rt, &["selftest", "7", "1000"], many),
         prints(&rt, &["selftest", "7", "1000"], many),
-        counted(rt.alloc(), 7, 1000)?.as_str() == many,
-        counted(rt.alloc(), 0, 1)?.as_str() == one,
     ];
-    assert_eq!(rt; given, [true; 6]);
-    Ok(())
+    assert_eq!(rt; given, [true; 4]);
+    // the same numbers by the calls that they are of
+    let counted = [counts(rt.alloc(), 0, 1), counts(rt.alloc(), 7, 1000)];
+    let wanted = [Some([1, 1, 7, 6]), Some([1000, 9296, 66693, 15010])];
+    assert_eq!(rt; counted, wanted);
 }
 
 #[test]

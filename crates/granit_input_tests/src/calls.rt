@@ -1,4 +1,5 @@
-//! The worked rows, each call once, and what the laws alone are enough for.
+//! The worked rows, each call once, and what the laws alone are enough for. What owns something is made and asked in
+//! functions that answer plain values: a test that asserts while it owns is dear to prove.
 ghost use Rattle.std.specs.Prelude.{◌≡◌, IfOk, length, take};
 ghost use Rattle.granit_base.specs.Classes.{is_alpha};
 ghost use Rattle.granit_base.specs.Place.{Unread};
@@ -14,7 +15,6 @@ use granit_input::{
 };
 use std::alloc::Global;
 use std::str::Chars;
-use std::test::Fail;
 
 /// How many characters are left; all are consumed.
 fn count_rest<T: Input>(input: &mut T) -> usize
@@ -62,56 +62,99 @@ fn lent<'a, T: BorrowedInput<'a>>(
     input.slice_borrowed(start?, end?)
 }
 
-/// What a stream gives from behind a word to the next one.
-fn read_on(stream: &mut Stream<Chars<'_>>) -> (Option<char>, usize, bool) {
+/// Whether a stream reads the character behind a word, passes one blank, and then sees the start of a document.
+fn reads_on(stream: &mut Stream<Chars<'_>>) -> [bool; 3] {
     let c = stream.raw_read_non_breakz_ch();
     let blanks = stream.skip_while_blank();
     stream.lookahead(4);
-    (c, blanks, stream.next_is_document_start())
+    [c == Some('é'), blanks == 1, stream.next_is_document_start()]
 }
 
-/// How many characters are left, what is read behind them, and the errors that are handed out before and then.
-fn read_out(stream: &mut Stream<Chars<'_>>) -> (usize, char, [Option<ErrorKind>; 3]) {
-    let early = stream.take_source_error();
-    let count = count_rest(stream);
-    let c = stream.raw_read_ch();
-    let late = stream.take_source_error();
-    (count, c, [early, late, stream.take_source_error()])
+/// Whether the word at the front is that one, and is lent where that is wanted; no for want of memory.
+fn has_word<'a, T: BorrowedInput<'a>>(
+    alloc: Global,
+    input: &mut T,
+    wanted: &str,
+    is_lent: bool,
+) -> bool {
+    match &word(alloc, input) {
+        Ok(first) => first.as_str() == wanted && first.is_borrowed() == is_lent,
+        Err(_) => false,
+    }
 }
+
+/// The number of an error, 0 where there is none.
+fn number(error: &Option<ErrorKind>) -> u8 {
+    match error {
+        Some(kind) => kind.number(),
+        None => 0,
+    }
+}
+
+/// The number of the error that is handed out, 0 where none is.
+fn error_number(stream: &mut Stream<Chars<'_>>) -> u8 {
+    number(&stream.take_source_error())
+}
+
+/// The number of the error that is handed out before the end, whether eight characters are left and NUL is read behind
+/// them, and the numbers of the errors that are handed out then, twice.
+fn read_out(stream: &mut Stream<Chars<'_>>) -> ([bool; 2], [u8; 3]) {
+    let early = error_number(stream);
+    let ends = [count_rest(stream) == 8, stream.raw_read_ch() == '\0'];
+    (ends, [early, error_number(stream), error_number(stream)])
+}
+
+/// What is fetched for want of memory.
+const NOTHING: usize = usize::MAX;
 
 /// How many characters of a word were fetched, and what stands behind them.
-fn fetch_word(text: &str, out: &mut String) -> (Option<usize>, char) {
+fn fetch_word(text: &str, out: &mut String) -> (usize, char) {
     let mut input = StrInput::new(text);
-    let count = input.fetch_while_is_alpha(out).ok();
+    let count = input.fetch_while_is_alpha(out).unwrap_or(NOTHING);
     (count, input.look_ch())
 }
 
 /// The same of what isn't blank.
-fn fetch_solid(text: &str, out: &mut String) -> (Option<usize>, char) {
+fn fetch_solid(text: &str, out: &mut String) -> (usize, char) {
     let mut input = StrInput::new(text);
-    let count = input.fetch_while_is_yaml_non_space(out).ok();
+    let count = input.fetch_while_is_yaml_non_space(out).unwrap_or(NOTHING);
     (count, input.look_ch())
 }
 
 /// The same of a line.
-fn fetch_line(text: &str, out: &mut String) -> (Option<usize>, char) {
+fn fetch_line(text: &str, out: &mut String) -> (usize, char) {
     let mut input = StrInput::new(text);
-    let count = input.fetch_block_scalar_line(out).ok();
+    let count = input.fetch_block_scalar_line(out).unwrap_or(NOTHING);
     (count, input.look_ch())
 }
 
-/// What two fetches of a plain scalar say, in flow.
-fn fetch_twice(text: &str, limit: usize, out: &mut String) -> [Option<(bool, usize)>; 2] {
+/// What a fetch of a plain scalar says, in flow.
+fn fetch_chunk(input: &mut StrInput<'_>, limit: usize, out: &mut String) -> (bool, usize) {
+    let chunk = input.fetch_plain_scalar_chunk(out, limit, true);
+    chunk.unwrap_or((false, NOTHING))
+}
+
+/// What two say.
+fn fetch_twice(text: &str, limit: usize, out: &mut String) -> [(bool, usize); 2] {
     let mut input = StrInput::new(text);
-    let first = input.fetch_plain_scalar_chunk(out, limit, true).ok();
-    [first, input.fetch_plain_scalar_chunk(out, limit, true).ok()]
+    let first = fetch_chunk(&mut input, limit, out);
+    [first, fetch_chunk(&mut input, limit, out)]
+}
+
+/// The number of an error; 0 where spaces alone were found, and 255 where something else was.
+fn numbered(found: &Result<WhitespaceResult, ErrorKind>) -> u8 {
+    match found {
+        Ok(found) if *found == WhitespaceResult::new(false, true) => 0,
+        Ok(_) => 255,
+        Err(kind) => kind.number(),
+    }
 }
 
 /// How many characters were skipped up to a line's end, the number of the error, and what stands next.
-fn skip_to_eol(text: &str) -> (usize, Result<WhitespaceResult, u8>, char) {
+fn skip_to_eol(text: &str) -> (usize, u8, char) {
     let mut input = StrInput::new(text);
     let (count, found) = input.skip_ws_to_eol(SkipTabs::Yes);
-    (count, found.map_err(|kind| kind.number()), input.look_ch())
+    (count, numbered(&found), input.look_ch())
 }
 
 /// What is skipped without tabs, and then with them.
@@ -170,7 +213,8 @@ fn skip_quoted_words(text: &str) -> [(bool, usize); 2] {
 }
 
 /// How far may be looked at, before a look and behind it.
-fn windows(input: &mut StrInput<'_>) -> (bool, usize, usize) {
+fn windows(text: &str) -> (bool, usize, usize) {
+    let mut input = StrInput::new(text);
     let empty = input.buf_is_empty();
     input.lookahead(4);
     (empty, input.bufmaxlen(), input.buflen())
@@ -203,112 +247,163 @@ fn fails_at_mark(text: &str) -> [bool; 4] {
     ]
 }
 
-/// What is true of a blank in front, behind three characters, and what is read then.
-fn holds_at_blank(input: &mut StrInput<'_>) -> ([bool; 3], char) {
+/// What is true of a blank in front, behind three characters, which is read then.
+fn holds_at_blank(input: &mut StrInput<'_>) -> [bool; 4] {
     input.skip_n(3);
     input.lookahead(2);
     let blank = input.next_is_blank();
     let or_break = input.next_is_blank_or_break();
-    (
-        [blank, or_break, input.next_is_blank_or_breakz()],
-        input.raw_read_ch(),
-    )
+    let or_nul = input.next_is_blank_or_breakz();
+    [blank, or_break, or_nul, input.raw_read_ch() == ' ']
 }
 
-/// Whether a break, a break or NUL, or the end is next, and what is read before a break.
-fn looks_at_nul(input: &mut StrInput<'_>) -> ([bool; 3], Option<char>) {
+/// Whether no break, a break or NUL, and not the end is next, and nothing is read before a break.
+fn holds_at_nul(input: &mut StrInput<'_>) -> [bool; 4] {
     input.lookahead(1);
     let breaks = input.next_is_break();
     let or_nul = input.next_is_breakz();
-    (
-        [breaks, or_nul, input.next_is_z()],
-        input.raw_read_non_breakz_ch(),
-    )
+    let ends = input.next_is_z();
+    let c = input.raw_read_non_breakz_ch();
+    [!breaks, or_nul, !ends, c.is_none()]
 }
 
-/// Whether the end is next behind a character, and what is looked at there.
-fn looks_at_end(input: &mut StrInput<'_>) -> (bool, char) {
+/// Whether the end is next behind a character, and NUL is looked at there.
+fn holds_at_end(input: &mut StrInput<'_>) -> [bool; 2] {
     input.skip();
     input.lookahead(1);
-    (input.next_is_z(), input.peek())
+    [input.next_is_z(), input.peek() == '\0']
 }
 
-/// What is cut of a string.
-fn parts<'a>(input: &StrInput<'a>) -> [Option<&'a str>; 3] {
+/// All three in turn.
+fn read_through(text: &str) -> ([bool; 4], [bool; 4], [bool; 2]) {
+    let mut input = StrInput::new(text);
+    let blank = holds_at_blank(&mut input);
+    let nul = holds_at_nul(&mut input);
+    (blank, nul, holds_at_end(&mut input))
+}
+
+/// Whether a string is cut between characters alone.
+fn is_cut_between_characters() -> [bool; 2] {
+    let input = StrInput::new("aé!");
     [
-        input.slice_borrowed(0, 4),
-        input.slice_borrowed(3, 1),
-        input.slice_borrowed(0, 5),
+        input.slice_bytes(1, 3) == Some("é"),
+        input.slice_bytes(2, 3).is_none(),
+    ]
+}
+
+/// Whether all of a string is lent, and nothing between wrong ends.
+fn are_lent_between() -> [bool; 3] {
+    let input = StrInput::new("aé!");
+    [
+        input.slice_borrowed(0, 4) == Some("aé!"),
+        input.slice_borrowed(3, 1).is_none(),
+        input.slice_borrowed(0, 5).is_none(),
+    ]
+}
+
+/// Whether two chunks in quotes are as they should be, with so many characters, and so is the offset behind them.
+fn take_chunks() -> [bool; 3] {
+    let mut input = StrInput::new("aé!");
+    let first = input.take_quoted_scalar_ascii_chunk(true) == ("a", 1);
+    let second = input.take_quoted_scalar_chunk(false) == ("é!", 2);
+    [first, second, input.byte_offset() == Some(4)]
+}
+
+/// Whether a string may contain comments.
+fn may_contain_comments(text: &str) -> bool {
+    StrInput::new(text).may_contain_comments()
+}
+
+/// Whether a string has no error.
+fn has_no_error(text: &str) -> bool {
+    StrInput::new(text).take_source_error().is_none()
+}
+
+/// Whether the word at the front is right, and lent, and so are the count of what is left behind it and the offset
+/// there.
+fn reads_string(alloc: Global, input: &mut StrInput<'_>) -> [bool; 3] {
+    [
+        has_word(alloc, input, "n", true),
+        count_rest(input) == 3,
+        input.byte_offset() == Some(5),
     ]
 }
 
 #[test]
-fn words_are_lent_by_a_string(rt: HostRuntime) -> Result<(), Fail> {
-    let mut input = StrInput::new("né e");
-    let first = word(rt.alloc(), &mut input)?;
-    let rest = count_rest(&mut input);
-    let seen = (
-        first.as_str(),
-        first.is_borrowed(),
-        rest,
-        input.byte_offset(),
-    );
-    assert_eq!(rt; seen, ("n", true, 3, Some(5)));
-    Ok(())
+fn words_are_lent_by_a_string(rt: HostRuntime) {
+    let read = reads_string(rt.alloc(), &mut StrInput::new("né e"));
+    assert_eq!(rt; read, [true; 3]);
+}
+
+/// Whether it is right, and owned, a stream goes on behind it, and tells no offset.
+fn reads_stream(alloc: Global, input: &mut Stream<Chars<'_>>) -> [bool; 3] {
+    [
+        has_word(alloc, input, "n", false),
+        reads_on(input) == [true; 3],
+        input.byte_offset().is_none(),
+    ]
+}
+
+/// The same of a stream; no for want of memory.
+fn word_of_a_stream(alloc: Global) -> [bool; 3] {
+    match Stream::new(alloc, "né --- é#12".chars(), true) {
+        Ok(mut input) => reads_stream(alloc, &mut input),
+        Err(_) => [false; 3],
+    }
 }
 
 #[test]
-fn a_stream_copies_words(rt: HostRuntime) -> Result<(), Fail> {
-    let mut input = Stream::new(rt.alloc(), "né --- é#12".chars(), true)?;
-    let first = word(rt.alloc(), &mut input)?;
-    let on = read_on(&mut input);
-    let seen = (first.as_str(), first.is_borrowed(), on, input.byte_offset());
-    assert_eq!(rt; seen, ("n", false, (Some('é'), 1, true), None));
-    Ok(())
+fn a_stream_copies_words(rt: HostRuntime) {
+    assert_eq!(rt; word_of_a_stream(rt.alloc()), [true; 3]);
+}
+
+/// What is read out of a stream that breaks off.
+fn ends_of_a_stream(alloc: Global) -> ([bool; 2], [u8; 3]) {
+    match Stream::new(alloc, "--- é#12".chars(), true) {
+        Ok(mut input) => read_out(&mut input),
+        Err(_) => ([false; 2], [0; 3]),
+    }
 }
 
 #[test]
-fn a_stream_ends_with_its_error(rt: HostRuntime) -> Result<(), Fail> {
-    let mut input = Stream::new(rt.alloc(), "--- é#12".chars(), true)?;
-    let ends = read_out(&mut input);
-    assert_eq!(rt;
-        ends,
-        (8, '\0', [None, Some(ErrorKind::UnexpectedEof), None])
-    );
-    Ok(())
+fn a_stream_ends_with_its_error(rt: HostRuntime) {
+    assert_eq!(rt; ends_of_a_stream(rt.alloc()), ([true; 2], [0, 87, 0]));
+}
+
+/// Whether the right characters were fetched in three runs, and what each says.
+fn fetch_runs(alloc: Global) -> (bool, [(usize, char); 3]) {
+    let mut out = String::new(alloc);
+    let word = fetch_word("abc_123-é", &mut out);
+    let solid = fetch_solid("a:é b\n", &mut out);
+    let line = fetch_line("a:é b\n", &mut out);
+    (out.as_str() == "abc_123-a:éa:é b", [word, solid, line])
 }
 
 #[test]
 fn fetching_calls_take_their_runs(rt: HostRuntime) {
-    let mut out = String::new(rt.alloc());
-    let word = fetch_word("abc_123-é", &mut out);
-    let solid = fetch_solid("a:é b\n", &mut out);
-    let line = fetch_line("a:é b\n", &mut out);
-    let want = [(Some(8), 'é'), (Some(3), ' '), (Some(5), '\n')];
-    assert_eq!(rt;
-        (out.as_str(), [word, solid, line]),
-        ("abc_123-a:éa:é b", want)
-    );
+    let wanted = (true, [(8, 'é'), (3, ' '), (5, '\n')]);
+    assert_eq!(rt; fetch_runs(rt.alloc()), wanted);
+}
+
+/// Whether the right characters were fetched of two plain scalars, and what two fetches of each say.
+fn fetch_plain(alloc: Global) -> (bool, [[(bool, usize); 2]; 2]) {
+    let mut out = String::new(alloc);
+    let whole = fetch_twice("a:é ", 16, &mut out);
+    let part = fetch_twice("a,b", 1, &mut out);
+    (out.as_str() == "a:éa", [whole, part])
 }
 
 #[test]
 fn plain_scalars_are_fetched_up_to_a_count(rt: HostRuntime) {
-    let mut out = String::new(rt.alloc());
-    let whole = fetch_twice("a:é ", 16, &mut out);
-    let part = fetch_twice("a,b", 1, &mut out);
-    let want_whole = [Some((true, 3)), Some((true, 0))];
-    let want_part = [Some((false, 1)), Some((true, 0))];
-    assert_eq!(rt;
-        (out.as_str(), whole, part),
-        ("a:éa", want_whole, want_part)
-    );
+    let whole = [(true, 3), (true, 0)];
+    let part = [(false, 1), (true, 0)];
+    assert_eq!(rt; fetch_plain(rt.alloc()), (true, [whole, part]));
 }
 
 #[test]
 fn white_space_and_a_comment_are_skipped(rt: HostRuntime) {
-    let seen = [skip_to_eol("  # comment\nnext"), skip_to_eol("# comment")];
-    let found = WhitespaceResult::new(false, true);
-    assert_eq!(rt; seen, [(11, Ok(found), '\n'), (0, Err(73), '#')]);
+    assert_eq!(rt; skip_to_eol("  # comment\nnext"), (11, 0, '\n'));
+    assert_eq!(rt; skip_to_eol("# comment"), (0, 73, '#'));
 }
 
 #[test]
@@ -320,85 +415,60 @@ fn blanks_are_skipped(rt: HostRuntime) {
 
 #[test]
 fn skipping_calls_count_characters(rt: HostRuntime) {
-    let counts = skip_blanks_and_line(" \té\u{7f}");
-    assert_eq!(rt; (counts, third_behind_blanks("    abc")), ([2, 1], 'c'));
+    assert_eq!(rt; skip_blanks_and_line(" \té\u{7f}"), [2, 1]);
+    assert_eq!(rt; third_behind_blanks("    abc"), 'c');
 }
 
 #[test]
 fn runs_are_skipped_up_to_a_count(rt: HostRuntime) {
-    let plain = [(false, 2), (true, 1), (true, 0)];
-    let quoted = [(true, 1), (true, 1), (true, 2)];
-    assert_eq!(rt;
-        [skip_plain("a:b: c"), skip_quoted("é'\\\" ")],
-        [plain, quoted]
-    );
+    assert_eq!(rt; skip_plain("a:b: c"), [(false, 2), (true, 1), (true, 0)]);
+    assert_eq!(rt; skip_quoted("é'\\\" "), [(true, 1), (true, 1), (true, 2)]);
 }
 
 #[test]
-fn words_are_skipped_with_single_spaces(rt: HostRuntime) {
-    let plain = [skip_plain_words("é b:c, d #"), skip_plain_words("a  b")];
-    let quoted = [skip_quoted_words("a é' b"), skip_quoted_words("a \\ ")];
-    let want = [[(true, 8), (true, 5)], [(true, 1), (true, 1)]];
-    assert_eq!(rt;
-        [plain, quoted],
-        [want, [[(true, 3), (true, 6)], [(true, 3), (true, 1)]]]
-    );
+fn plain_words_are_skipped_with_single_spaces(rt: HostRuntime) {
+    assert_eq!(rt; skip_plain_words("é b:c, d #"), [(true, 8), (true, 5)]);
+    assert_eq!(rt; skip_plain_words("a  b"), [(true, 1), (true, 1)]);
+}
+
+#[test]
+fn quoted_words_are_skipped_with_single_spaces(rt: HostRuntime) {
+    assert_eq!(rt; skip_quoted_words("a é' b"), [(true, 3), (true, 6)]);
+    assert_eq!(rt; skip_quoted_words("a \\ "), [(true, 3), (true, 1)]);
 }
 
 #[test]
 fn a_window_is_as_wide_as_asked(rt: HostRuntime) {
-    assert_eq!(rt; windows(&mut StrInput::new("--- \0")), (true, 128, 4));
+    assert_eq!(rt; windows("--- \0"), (true, 128, 4));
 }
 
 #[test]
 fn looking_calls_see_what_is_next(rt: HostRuntime) {
-    assert_eq!(rt;
-        (holds_at_mark("--- \0"), fails_at_mark("--- \0")),
-        ([true; 7], [false; 4])
-    );
+    assert_eq!(rt; holds_at_mark("--- \0"), [true; 7]);
+    assert_eq!(rt; fails_at_mark("--- \0"), [false; 4]);
 }
 
 #[test]
 fn reading_calls_go_on_to_the_end(rt: HostRuntime) {
-    let mut input = StrInput::new("--- \0");
-    let blank = holds_at_blank(&mut input);
-    let nul = looks_at_nul(&mut input);
-    let seen = (blank, nul, looks_at_end(&mut input));
-    assert_eq!(rt;
-        seen,
-        (([true; 3], ' '), ([false, true, false], None), (true, '\0'))
-    );
+    assert_eq!(rt; read_through("--- \0"), ([true; 4], [true; 4], [true; 2]));
 }
 
 #[test]
 fn parts_of_a_string_are_cut_between_characters(rt: HostRuntime) {
-    let input = StrInput::new("aé!");
-    let sliced = [input.slice_bytes(1, 3), input.slice_bytes(2, 3)];
-    assert_eq!(rt;
-        (sliced, parts(&input)),
-        ([Some("é"), None], [Some("aé!"), None, None])
-    );
+    assert_eq!(rt; is_cut_between_characters(), [true; 2]);
+    assert_eq!(rt; are_lent_between(), [true; 3]);
 }
 
 #[test]
 fn quoted_chunks_are_lent(rt: HostRuntime) {
-    let mut input = StrInput::new("aé!");
-    assert_eq!(rt; input.take_quoted_scalar_ascii_chunk(true), ("a", 1));
-    assert_eq!(rt; input.take_quoted_scalar_chunk(false), ("é!", 2));
-    assert_eq!(rt; input.byte_offset(), Some(4));
+    assert_eq!(rt; take_chunks(), [true; 3]);
 }
 
 #[test]
 fn a_string_knows_its_comments(rt: HostRuntime) {
-    let mut input = StrInput::new("aé!");
-    let seen = (
-        input.may_contain_comments(),
-        StrInput::new("a #").may_contain_comments(),
-    );
-    assert_eq!(rt;
-        (seen, input.take_source_error().is_none()),
-        ((false, true), true)
-    );
+    let may = [may_contain_comments("aé!"), may_contain_comments("a #")];
+    assert_eq!(rt; may, [false, true]);
+    assert!(rt; has_no_error("aé!"));
 }
 
 #[test]

@@ -1,39 +1,30 @@
 //! Events that are given once more.
-use crate::letters::letter;
-use granit_base::{Marker, ScalarStyle, Span, StructureStyle, Text};
+use crate::letters::{Row, events_of, given, letter};
+use granit_base::Span;
 use granit_error::ScanError;
 use granit_event::Event;
 use granit_receivers::{SpannedEventReceiver, TryEventReceiver, TryLoadError};
 use granit_replay::ReplayParser;
 use std::alloc::Global;
-use std::test::Fail;
-
-/// The empty place behind so many characters of the first line.
-fn at(index: usize) -> Span {
-    Span::empty(Marker::new(index, 1, index))
-}
-
-/// A scalar with an anchor of that number.
-fn scalar<'a>(text: &'a str, anchor: usize) -> Event<'a> {
-    Event::Scalar(Text::borrowed(text), ScalarStyle::Plain, anchor, None)
-}
 
 /// Two documents, `ok` and `bad`, and a third one, `after`.
-fn three_documents(alloc: Global) -> Result<Vec<(Event<'static>, Span)>, Fail> {
-    let events = vec![in alloc;
-        (Event::StreamStart, at(0)),
-        (Event::DocumentStart(false, None), at(0)),
-        (scalar("ok", 0), at(1)),
-        (Event::DocumentEnd, at(2)),
-        (Event::DocumentStart(true, None), at(3)),
-        (scalar("bad", 0), at(4)),
-        (Event::DocumentEnd, at(5)),
-        (Event::DocumentStart(true, None), at(6)),
-        (scalar("after", 0), at(7)),
-        (Event::DocumentEnd, at(8)),
-        (Event::StreamEnd, at(9)),
-    ]?;
-    Ok(events)
+const DOCUMENTS: [Row; 11] = [
+    ('S', "", 0, 0),
+    ('D', "", 0, 0),
+    ('_', "ok", 0, 1),
+    ('d', "", 0, 2),
+    ('E', "", 0, 3),
+    ('_', "bad", 0, 4),
+    ('d', "", 0, 5),
+    ('E', "", 0, 6),
+    ('_', "after", 0, 7),
+    ('d', "", 0, 8),
+    ('s', "", 0, 9),
+];
+
+/// A parser that gives the events of rows, and whose next anchor gets that number.
+fn parser(alloc: Global, rows: &[Row], number: usize) -> ReplayParser<'static> {
+    ReplayParser::new(events_of(alloc, rows), number)
 }
 
 /// How many events came, and where the last one ends.
@@ -70,16 +61,7 @@ impl<'input> TryEventReceiver<'input> for Strict {
     }
 }
 
-/// The letter of what is given, and its place; `.` is nothing.
-fn given(next: Option<Result<(Event<'_>, Span), ScanError>>) -> (char, usize) {
-    match next {
-        None => ('.', 0),
-        Some(Err(_)) => ('!', 0),
-        Some(Ok((event, span))) => (letter(&event), span.start.index()),
-    }
-}
-
-/// The same of what is looked at.
+/// The letter of what is looked at, and its place; `.` is nothing, `!` a refusal.
 fn looked(next: Option<Result<&(Event<'_>, Span), &ScanError>>) -> (char, usize) {
     match next {
         None => ('.', 0),
@@ -88,11 +70,9 @@ fn looked(next: Option<Result<&(Event<'_>, Span), &ScanError>>) -> (char, usize)
     }
 }
 
-/// What two events are told as, looked at and taken.
-fn in_order(alloc: Global) -> Result<[(char, usize); 7], Fail> {
-    let events = vec![in alloc; (scalar("a", 0), at(1)), (scalar("b", 0), at(2))]?;
-    let mut replay = ReplayParser::new(events, 1);
-    Ok([
+/// What is looked at and taken of two events.
+fn told_in_order(replay: &mut ReplayParser<'_>) -> [(char, usize); 7] {
+    [
         looked(replay.peek()),
         looked(replay.peek()),
         given(replay.next_event()),
@@ -100,11 +80,17 @@ fn in_order(alloc: Global) -> Result<[(char, usize); 7], Fail> {
         looked(replay.peek()),
         given(replay.next_event()),
         given(replay.next()),
-    ])
+    ]
+}
+
+/// The same of a list of its own.
+fn in_order(alloc: Global) -> [(char, usize); 7] {
+    let mut replay = parser(alloc, &[('_', "a", 0, 1), ('_', "b", 0, 2)], 1);
+    told_in_order(&mut replay)
 }
 
 #[test]
-fn the_list_in_order(rt: HostRuntime) -> Result<(), Fail> {
+fn the_list_in_order(rt: HostRuntime) {
     let nothing = ('.', 0);
     let wanted = [
         ('a', 1),
@@ -115,20 +101,24 @@ fn the_list_in_order(rt: HostRuntime) -> Result<(), Fail> {
         nothing,
         nothing,
     ];
-    assert_eq!(rt; in_order(rt.alloc())?, wanted);
-    Ok(())
+    assert_eq!(rt; in_order(rt.alloc()), wanted);
 }
 
-#[test]
-fn as_an_iterator(rt: HostRuntime) -> Result<(), Fail> {
+/// How many documents end among what is given.
+fn ends_of_documents(replay: ReplayParser<'_>) -> usize {
     let mut documents = 0usize;
-    for event in ReplayParser::new(three_documents(rt.alloc())?, 1) {
+    for event in replay {
         if given(Some(event)).0 == 'd' {
             documents = documents.saturating_add(1);
         }
     }
+    documents
+}
+
+#[test]
+fn as_an_iterator(rt: HostRuntime) {
+    let documents = ends_of_documents(parser(rt.alloc(), &DOCUMENTS, 1));
     assert_eq!(rt; documents, 3);
-    Ok(())
 }
 
 /// The number of the next anchor behind one more event.
@@ -137,43 +127,45 @@ fn number_behind(replay: &mut ReplayParser<'_>) -> usize {
     replay.anchor_offset()
 }
 
-/// The numbers behind each event of a list.
-fn numbers(alloc: Global) -> Result<[usize; 6], Fail> {
-    let events = vec![in alloc;
-        (Event::Alias(90), at(0)),
-        (scalar("a", 3), at(1)),
-        (Event::SequenceStart(StructureStyle::Flow, 2, None), at(2)),
-        (Event::Anchor(7, Text::borrowed("x")), at(3)),
-        (
-            Event::MappingStart(StructureStyle::Block, usize::MAX, None),
-            at(4)
-        ),
-    ]?;
-    let mut replay = ReplayParser::new(events, 0);
+/// The numbers behind each of five events, and behind one that is set.
+fn told_numbers(replay: &mut ReplayParser<'_>) -> [usize; 6] {
     let first = [
-        number_behind(&mut replay),
-        number_behind(&mut replay),
-        number_behind(&mut replay),
-        number_behind(&mut replay),
-        number_behind(&mut replay),
+        number_behind(replay),
+        number_behind(replay),
+        number_behind(replay),
+        number_behind(replay),
+        number_behind(replay),
     ];
     replay.set_anchor_offset(5);
     let last = replay.anchor_offset();
-    Ok([first[0], first[1], first[2], first[3], first[4], last])
+    [first[0], first[1], first[2], first[3], first[4], last]
+}
+
+/// Each event with a number.
+const NUMBERED: [Row; 5] = [
+    ('*', "", 90, 0),
+    ('_', "a", 3, 1),
+    ('[', "", 2, 2),
+    ('&', "x", 7, 3),
+    ('{', "", usize::MAX, 4),
+];
+
+/// The same of these.
+fn numbers(alloc: Global) -> [usize; 6] {
+    let mut replay = parser(alloc, &NUMBERED, 0);
+    told_numbers(&mut replay)
 }
 
 /// The number behind an event whose anchor has a lower one.
-fn number_kept(alloc: Global) -> Result<usize, Fail> {
-    let events = vec![in alloc; (scalar("a", 3), at(0))]?;
-    let mut replay = ReplayParser::new(events, 9);
-    Ok(number_behind(&mut replay))
+fn number_kept(alloc: Global) -> usize {
+    let mut replay = parser(alloc, &[('_', "a", 3, 0)], 9);
+    number_behind(&mut replay)
 }
 
 #[test]
-fn numbers_of_anchors(rt: HostRuntime) -> Result<(), Fail> {
-    assert_eq!(rt; numbers(rt.alloc())?, [0, 4, 4, 8, usize::MAX, 5]);
-    assert_eq!(rt; number_kept(rt.alloc())?, 9);
-    Ok(())
+fn numbers_of_anchors(rt: HostRuntime) {
+    assert_eq!(rt; numbers(rt.alloc()), [0, 4, 4, 8, usize::MAX, 5]);
+    assert_eq!(rt; number_kept(rt.alloc()), 9);
 }
 
 /// Whether `load` answers Ok, how many events came by then, and where the last one ends.
@@ -182,56 +174,67 @@ fn loaded(
     counting: &mut Counting,
     multi: bool,
 ) -> (bool, usize, usize) {
-    let is_ok = replay.load(counting, multi).is_ok();
+    let is_ok = replay.load(counting, multi).ok().is_some();
     (is_ok, counting.events, counting.end)
 }
 
 /// One document is sent, then the others, then nothing.
-fn loads(alloc: Global) -> Result<[(bool, usize, usize); 3], Fail> {
-    let mut replay = ReplayParser::new(three_documents(alloc)?, 1);
+fn told_of_loads(replay: &mut ReplayParser<'_>) -> [(bool, usize, usize); 3] {
     let mut counting = Counting { events: 0, end: 0 };
-    Ok([
-        loaded(&mut replay, &mut counting, false),
-        loaded(&mut replay, &mut counting, true),
-        loaded(&mut replay, &mut counting, true),
-    ])
+    [
+        loaded(replay, &mut counting, false),
+        loaded(replay, &mut counting, true),
+        loaded(replay, &mut counting, true),
+    ]
+}
+
+/// The same of three documents.
+fn loads(alloc: Global) -> [(bool, usize, usize); 3] {
+    let mut replay = parser(alloc, &DOCUMENTS, 1);
+    told_of_loads(&mut replay)
 }
 
 #[test]
-fn one_document_or_all(rt: HostRuntime) -> Result<(), Fail> {
-    assert_eq!(rt;
-        loads(rt.alloc())?,
-        [(true, 4, 2), (true, 11, 9), (true, 11, 9)]
-    );
-    Ok(())
+fn one_document_or_all(rt: HostRuntime) {
+    let wanted = [(true, 4, 2), (true, 11, 9), (true, 11, 9)];
+    assert_eq!(rt; loads(rt.alloc()), wanted);
+}
+
+/// The letter of what `try_load` answers: `.` is Ok, `p` the parser's refusal, and else the receiver's.
+fn letter_of(loaded: &Result<(), TryLoadError<char>>) -> char {
+    match loaded {
+        Ok(()) => '.',
+        Err(TryLoadError::Scan(_)) => 'p',
+        Err(TryLoadError::Receiver(letter)) => *letter,
+    }
 }
 
 /// The letter of what `try_load` answers, and how many scalars were taken by then.
 fn tried(replay: &mut ReplayParser<'_>, strict: &mut Strict, multi: bool) -> (char, usize) {
-    let letter = match replay.try_load(strict, multi) {
-        Ok(()) => '.',
-        Err(TryLoadError::Scan(_)) => 'p',
-        Err(TryLoadError::Receiver(letter)) => letter,
-    };
+    let letter = letter_of(&replay.try_load(strict, multi));
     (letter, strict.scalars)
 }
 
 /// A receiver refuses, an event is taken, a document is sent, an event is taken, and nothing is left.
-fn tries(alloc: Global) -> Result<[(char, usize); 5], Fail> {
-    let mut replay = ReplayParser::new(three_documents(alloc)?, 1);
+fn told_of_tries(replay: &mut ReplayParser<'_>) -> [(char, usize); 5] {
     let mut strict = Strict { scalars: 0 };
-    Ok([
-        tried(&mut replay, &mut strict, true),
+    [
+        tried(replay, &mut strict, true),
         given(replay.next_event()),
-        tried(&mut replay, &mut strict, false),
+        tried(replay, &mut strict, false),
         given(replay.next_event()),
-        tried(&mut replay, &mut strict, true),
-    ])
+        tried(replay, &mut strict, true),
+    ]
+}
+
+/// The same of three documents.
+fn tries(alloc: Global) -> [(char, usize); 5] {
+    let mut replay = parser(alloc, &DOCUMENTS, 1);
+    told_of_tries(&mut replay)
 }
 
 #[test]
-fn refused_by_the_receiver(rt: HostRuntime) -> Result<(), Fail> {
+fn refused_by_the_receiver(rt: HostRuntime) {
     let wanted = [('!', 2), ('d', 5), ('.', 3), ('s', 9), ('.', 3)];
-    assert_eq!(rt; tries(rt.alloc())?, wanted);
-    Ok(())
+    assert_eq!(rt; tries(rt.alloc()), wanted);
 }

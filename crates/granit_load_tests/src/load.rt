@@ -3,7 +3,6 @@ use crate::answers::{count, fault};
 use granit_error::{Options, options};
 use granit_load::{load_chars, load_str};
 use std::alloc::Global;
-use std::test::*;
 
 /// How many events a text has; none where it is refused.
 fn text_count(alloc: Global, text: &str) -> Option<usize> {

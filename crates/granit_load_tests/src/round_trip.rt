@@ -3,13 +3,12 @@
 ghost use Rattle.std.specs.Prelude.{◌≡◌, IfErr};
 ghost use Rattle.granit_error.specs.FaultKind.{NoMemory as OutOfMemory};
 
-use granit_base::{NoMemory, ScalarStyle, Span, StructureStyle, Text};
+use granit_base::{ScalarStyle, Span, StructureStyle, Text};
 use granit_error::{Options, ScanError};
 use granit_event::Event;
 use granit_load::load_str;
 use granit_model::{PairList, Props, Tree, TreeList, depth, fits, flow_text};
 use std::alloc::Global;
-use std::test::Fail;
 
 /// The letter of an event, and where it begins and ends in characters.
 type Seen = (char, usize, usize);
@@ -67,38 +66,56 @@ fn scalar(text: &'static str) -> Tree {
     Tree::Scalar(plain(), Text::borrowed(text))
 }
 
-fn list(alloc: Global, first: Tree, second: Tree) -> Result<TreeList, NoMemory> {
-    let mut trees = TreeList::new(alloc);
-    match trees.push(first) {
-        Ok(()) => {}
-        Err(_) => return Err(NoMemory),
-    }
-    match trees.push(second) {
-        Ok(()) => Ok(trees),
-        Err(_) => Err(NoMemory),
-    }
+/// One more tree, where there is room.
+fn more(list: TreeList, tree: Tree) -> TreeList {
+    let mut list = list;
+    let _ = list.push(tree).ok();
+    list
 }
 
-/// `--- !<x> &n {? "é" : *n}` and `--- ["a", []]`, where the first scalar is written as `"\xE9"`.
-fn documents(alloc: Global) -> Result<TreeList, NoMemory> {
+fn two(alloc: Global, first: Tree, second: Tree) -> TreeList {
+    more(more(TreeList::new(alloc), first), second)
+}
+
+/// `? "é" : *n`
+fn pairs(alloc: Global) -> PairList {
     let mut pairs = PairList::new(alloc);
-    match pairs.push((scalar("é"), Tree::Alias(Text::borrowed("n")))) {
-        Ok(()) => {}
-        Err(_) => return Err(NoMemory),
-    }
+    let pair = (scalar("é"), Tree::Alias(Text::borrowed("n")));
+    let _ = pairs.push(pair).ok();
+    pairs
+}
+
+/// `!<x> &n {? "é" : *n}`
+fn mapping(alloc: Global) -> Tree {
     let props = Props {
         tag: Some(Text::borrowed("x")),
         anchor: Some(Text::borrowed("n")),
     };
-    let inner = Tree::Sequence(plain(), TreeList::new(alloc));
-    let second = Tree::Sequence(plain(), list(alloc, scalar("a"), inner)?);
-    list(alloc, Tree::Mapping(props, pairs), second)
+    Tree::Mapping(props, pairs(alloc))
+}
+
+fn empty(alloc: Global) -> Tree {
+    Tree::Sequence(plain(), TreeList::new(alloc))
+}
+
+/// `["a", []]`
+fn sequence(alloc: Global) -> Tree {
+    Tree::Sequence(plain(), two(alloc, scalar("a"), empty(alloc)))
+}
+
+/// `--- !<x> &n {? "é" : *n}` and `--- ["a", []]`, where the first scalar is written as `"\xE9"`.
+fn documents(alloc: Global) -> TreeList {
+    two(alloc, mapping(alloc), sequence(alloc))
+}
+
+/// Whether these documents are read back with these events.
+fn are_read_back(alloc: Global, wanted: &[Seen]) -> Option<bool> {
+    let trees = documents(alloc);
+    read_back(alloc, &trees, wanted).ok()
 }
 
 #[test]
-fn trees_are_read_back(rt: HostRuntime) -> Result<(), Fail> {
-    let alloc = rt.alloc();
-    let trees = documents(alloc)?;
+fn trees_are_read_back(rt: HostRuntime) {
     let wanted = [
         ('S', 0, 0),
         ('D', 0, 3),
@@ -116,6 +133,5 @@ fn trees_are_read_back(rt: HostRuntime) -> Result<(), Fail> {
         ('d', 41, 41),
         ('s', 42, 42),
     ];
-    assert!(rt; read_back(alloc, &trees, &wanted)?);
-    Ok(())
+    assert_eq!(rt; are_read_back(rt.alloc(), &wanted), Some(true));
 }

@@ -1,11 +1,10 @@
 //! Anchors near the greatest number: what the original gives for the same calls.
-use crate::receive::{Case, Counting, loaded, over};
+use crate::receive::{Case, loaded_twice, over};
 use granit_base::Span;
 use granit_error::ScanError;
 use granit_event::Event;
 use granit_input::StrInput;
 use granit_parser::Parser;
-use std::test::*;
 
 /// A node's number and where it begins, or a refusal's kind and its place; all 0 where nothing comes.
 type Row = (usize, u8, usize);
@@ -18,13 +17,28 @@ fn row(given: Option<Result<&(Event<'_>, Span), &ScanError>>) -> Row {
     }
 }
 
-fn taken(given: Option<Result<(Event<'_>, Span), ScanError>>) -> Row {
-    match &given {
-        None => row(None),
-        Some(Ok(event)) => row(Some(Ok(event))),
-        Some(Err(error)) => row(Some(Err(error))),
+/// What is taken.
+trait Rowed {
+    fn row(&self) -> Row;
+}
+
+impl<'a> Rowed for Option<Result<(Event<'a>, Span), ScanError>> {
+    fn row(&self) -> Row {
+        match self {
+            None => row(None),
+            Some(Ok(event)) => row(Some(Ok(event))),
+            Some(Err(error)) => row(Some(Err(error))),
+        }
     }
 }
+
+/// The same of what is let go here, which is cheap to prove in a generic function.
+fn taken<T: Rowed + Drop>(given: T) -> Row {
+    given.row()
+}
+
+/// What is told where what is given isn't what was seen.
+const UNLIKE: Row = (0, 255, 0);
 
 /// What comes from that number on, and, where it is looked at before, what is seen.
 #[derive(Drop)]
@@ -33,27 +47,28 @@ struct Numbered {
     looks: bool,
 }
 
+/// What is given, where it is what was seen.
+fn seen_and_taken<'a>(parser: &mut Parser<'a, StrInput<'a>>) -> Row {
+    let seen = row(parser.peek());
+    let next = taken(parser.next_event());
+    if seen == next { next } else { UNLIKE }
+}
+
 impl Numbered {
     /// What is given, where it is what was seen.
-    fn next<'a>(&self, parser: &mut Parser<'a, StrInput<'a>>) -> Option<Row> {
-        let seen = if self.looks {
-            Some(row(parser.peek()))
+    fn next<'a>(&self, parser: &mut Parser<'a, StrInput<'a>>) -> Row {
+        if self.looks {
+            seen_and_taken(parser)
         } else {
-            None
-        };
-        let next = taken(parser.next_event());
-        if seen.is_none() || seen == Some(next) {
-            Some(next)
-        } else {
-            None
+            taken(parser.next_event())
         }
     }
 }
 
 impl<'a> Case<'a> for Numbered {
-    type Told = [Option<Row>; 6];
+    type Told = [Row; 6];
 
-    fn tell(&self, parser: &mut Parser<'a, StrInput<'a>>) -> [Option<Row>; 6] {
+    fn tell(&self, parser: &mut Parser<'a, StrInput<'a>>) -> [Row; 6] {
         parser.set_anchor_offset(self.offset);
         [
             self.next(parser),
@@ -67,29 +82,32 @@ impl<'a> Case<'a> for Numbered {
 }
 
 /// The rows of a text from a number on, each seen before it is given.
-fn rows(rt: &HostRuntime, text: &str, offset: usize, looks: bool) -> [Option<Row>; 6] {
+fn rows(rt: &HostRuntime, text: &str, offset: usize, looks: bool) -> [Row; 6] {
     over(rt.alloc(), text, &Numbered { offset, looks })
+}
+
+/// The first three.
+fn three(rt: &HostRuntime, text: &str, offset: usize) -> (Row, Row, Row) {
+    let told = rows(rt, text, offset, false);
+    (told[0], told[1], told[2])
 }
 
 /// Two anchors in a sequence, of which the second one gets no number.
 const TWO: &str = "- &a b\n- &c d\n";
 
-const TWO_ROWS: [Option<Row>; 6] = [
-    Some((0, 0, 0)),
-    Some((0, 0, 0)),
-    Some((0, 0, 0)),
-    Some((usize::MAX - 1, 0, 5)),
-    Some((0, 86, 9)),
-    Some((0, 0, 0)),
+const TWO_ROWS: [Row; 6] = [
+    (0, 0, 0),
+    (0, 0, 0),
+    (0, 0, 0),
+    (usize::MAX - 1, 0, 5),
+    (0, 86, 9),
+    (0, 0, 0),
 ];
 
 #[test]
 fn no_number_is_left(rt: HostRuntime) {
-    let told = rows(&rt, "&a b", usize::MAX, false);
-    assert_eq!(rt;
-        (told[0], told[1], told[2]),
-        (Some((0, 0, 0)), Some((0, 86, 0)), Some((0, 0, 0)))
-    );
+    let refused = ((0, 0, 0), (0, 86, 0), (0, 0, 0));
+    assert_eq!(rt; three(&rt, "&a b", usize::MAX), refused);
     assert_eq!(rt; rows(&rt, TWO, usize::MAX - 1, false), TWO_ROWS);
     assert_eq!(rt; rows(&rt, TWO, usize::MAX - 1, true), TWO_ROWS);
 }
@@ -103,10 +121,7 @@ impl<'a> Case<'a> for Loaded {
 
     fn tell(&self, parser: &mut Parser<'a, StrInput<'a>>) -> [(u8, usize); 2] {
         parser.set_anchor_offset(self.0);
-        let mut counting = Counting::new();
-        let (first, sent, _) = loaded(parser, &mut counting, true);
-        let (second, still, _) = loaded(parser, &mut counting, true);
-        [(first, sent), (second, still)]
+        loaded_twice(parser)
     }
 }
 

@@ -8,7 +8,6 @@ use granit_parser::{
     TrySpannedEventReceiver,
 };
 use std::alloc::Global;
-use std::test::Fail;
 
 /// How many events came, how many of them begin or end the stream, and where the last one ends.
 #[derive(Drop)]
@@ -93,7 +92,7 @@ impl<'input> TrySpannedEventReceiver<'input> for UpTo {
 
 /// The number of a refusal's kind, 0 where there is none.
 fn refused(loaded: Result<(), ScanError>) -> u8 {
-    match loaded {
+    match &loaded {
         Ok(()) => 0,
         Err(error) => error.kind().number(),
     }
@@ -101,7 +100,7 @@ fn refused(loaded: Result<(), ScanError>) -> u8 {
 
 /// The letter of what `try_load` answers: `.` is Ok, `p` the parser's refusal, `r` the receiver's.
 fn letter(loaded: Result<(), TryLoadError<char>>) -> char {
-    match loaded {
+    match &loaded {
         Ok(()) => '.',
         Err(TryLoadError::Scan(_)) => 'p',
         Err(TryLoadError::Receiver(_)) => 'r',
@@ -109,7 +108,7 @@ fn letter(loaded: Result<(), TryLoadError<char>>) -> char {
 }
 
 /// The number of what `load` answers, and how many events and ends of the stream came by then.
-pub fn loaded<'a, T: BorrowedInput<'a>>(
+fn loaded<'a, T: BorrowedInput<'a>>(
     parser: &mut Parser<'a, T>,
     counting: &mut Counting,
     multi: bool,
@@ -237,12 +236,10 @@ impl<'a> Case<'a> for Again {
     type Told = ([(u8, usize); 2], char, usize);
 
     fn tell(&self, parser: &mut Parser<'a, StrInput<'a>>) -> ([(u8, usize); 2], char, usize) {
-        let mut counting = Counting::new();
-        let (first, sent, _) = loaded(parser, &mut counting, true);
-        let (second, still, _) = loaded(parser, &mut counting, true);
+        let refused = loaded_twice(parser);
         let mut up_to = UpTo { left: 9 };
         let letter = tried(parser, &mut up_to, true);
-        ([(first, sent), (second, still)], letter, up_to.left)
+        (refused, letter, up_to.left)
     }
 }
 
@@ -252,47 +249,77 @@ fn refused_again(rt: HostRuntime) {
     assert_eq!(rt; told, ([(37, 3), (37, 3)], 'p', 9));
 }
 
-/// The same where the second item is an error.
-fn of_the_source(alloc: Global) -> Result<[(u8, usize); 2], Fail> {
-    let error = ErrorKind::InputByteLimitExceeded { limit: 1 };
-    let items = vec![in alloc; Ok('a'), Err(error)]?.into_iter();
-    let mut parser = Parser::new_from_fallible_iter(alloc, items)?;
-    let mut counting = Counting::new();
-    let (first, sent, _) = loaded(&mut parser, &mut counting, true);
-    let (second, still, _) = loaded(&mut parser, &mut counting, true);
-    Ok([(first, sent), (second, still)])
+/// Characters, or the error in the place of one.
+type Items = Vec<Result<char, ErrorKind>>;
+
+/// One more item, where there is room. What is let go in a generic function is cheap to prove.
+fn push<T: Drop>(items: &mut Vec<T>, item: T) {
+    let _ = items.push(item).ok();
 }
 
-#[test]
-fn refused_by_the_source(rt: HostRuntime) -> Result<(), Fail> {
-    assert_eq!(rt; of_the_source(rt.alloc())?, [(80, 1), (80, 1)]);
-    Ok(())
-}
-
-/// What is printed of a receiver's refusal.
-fn receivers_words(alloc: Global) -> Result<String, Fail> {
-    let refused: TryLoadError<char> = TryLoadError::Receiver('!');
-    Ok(refused.to_string(alloc)?)
-}
-
-/// What is printed of the parser's.
-fn parsers_words(alloc: Global) -> Result<String, Fail> {
-    let message = OwnedText::new(String::from_str(alloc, "no")?);
-    let error = ScanError::new(Marker::new(0, 1, 0), message);
-    let refused: TryLoadError<char> = TryLoadError::from(error);
-    Ok(refused.to_string(alloc)?)
-}
-
-#[test]
-fn words(rt: HostRuntime) -> Result<(), Fail> {
-    let receivers = receivers_words(rt.alloc())?;
-    let parsers = parsers_words(rt.alloc())?;
-    assert_eq!(rt;
-        (receivers.as_str(), parsers.as_str()),
-        (
-            "receiver error: !",
-            "parser error: no at char 0 line 1 column 1"
-        )
+/// A character and an error.
+fn items(alloc: Global) -> Items {
+    let mut items = Vec::new(alloc);
+    push(&mut items, Ok('a'));
+    push(
+        &mut items,
+        Err(ErrorKind::InputByteLimitExceeded { limit: 1 }),
     );
-    Ok(())
+    items
+}
+
+/// Twice the kind of a refusal, and how many events were sent by then.
+pub fn loaded_twice<'a, T: BorrowedInput<'a>>(parser: &mut Parser<'a, T>) -> [(u8, usize); 2] {
+    let mut counting = Counting::new();
+    let (first, sent, _) = loaded(parser, &mut counting, true);
+    let (second, still, _) = loaded(parser, &mut counting, true);
+    [(first, sent), (second, still)]
+}
+
+/// The same where the second item is an error; nothing for want of memory.
+fn of_the_source(alloc: Global) -> [(u8, usize); 2] {
+    match Parser::new_from_fallible_iter(alloc, items(alloc).into_iter()) {
+        Ok(mut parser) => loaded_twice(&mut parser),
+        Err(_) => [(0, 0); 2],
+    }
+}
+
+#[test]
+fn refused_by_the_source(rt: HostRuntime) {
+    assert_eq!(rt; of_the_source(rt.alloc()), [(80, 1), (80, 1)]);
+}
+
+/// Whether a refusal prints these words; no for want of memory.
+fn prints(alloc: Global, refused: &TryLoadError<char>, words: &str) -> bool {
+    match &refused.to_string(alloc) {
+        Ok(printed) => printed.as_str() == words,
+        Err(_) => false,
+    }
+}
+
+/// Whether a receiver's refusal does.
+fn receivers_words(alloc: Global, words: &str) -> bool {
+    prints(alloc, &TryLoadError::Receiver('!'), words)
+}
+
+/// The parser's refusal with a message.
+fn parsers_refusal(message: OwnedText) -> TryLoadError<char> {
+    TryLoadError::from(ScanError::new(Marker::new(0, 1, 0), message))
+}
+
+/// Whether the parser's does.
+fn parsers_words(alloc: Global, words: &str) -> bool {
+    match OwnedText::from_str(alloc, "no") {
+        Ok(message) => prints(alloc, &parsers_refusal(message), words),
+        Err(_) => false,
+    }
+}
+
+#[test]
+fn words(rt: HostRuntime) {
+    let printed = [
+        receivers_words(rt.alloc(), "receiver error: !"),
+        parsers_words(rt.alloc(), "parser error: no at char 0 line 1 column 1"),
+    ];
+    assert_eq!(rt; printed, [true; 2]);
 }
