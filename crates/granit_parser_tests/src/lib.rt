@@ -4,6 +4,8 @@
 #[cfg(test)]
 mod failing;
 #[cfg(test)]
+mod items;
+#[cfg(test)]
 mod letters;
 #[cfg(test)]
 mod parser;

@@ -1,10 +1,9 @@
 //! What the calls give of a text, one by one.
-use crate::letters::letters_of;
+use crate::letters::{NO_MEMORY, letters_of};
 use granit_error::options;
 use granit_input::StrInput;
 use granit_parser::Parser;
 use std::alloc::Global;
-use std::test::*;
 
 /// A refusal comes once, behind the start of the stream.
 fn of_a_bracket(alloc: Global) -> [[char; 4]; 2] {
@@ -67,28 +66,31 @@ fn with_options(rt: HostRuntime) {
 }
 
 /// The characters of a bracket.
-fn of_characters(alloc: Global) -> Result<[[char; 4]; 2], Fail> {
-    let calls = [['p', 'n', 'n', 'n'], ['n'; 4]];
-    Ok(letters_of(Parser::new_from_iter(alloc, "[".chars())?, calls))
+fn of_characters(alloc: Global) -> [[char; 4]; 2] {
+    match Parser::new_from_iter(alloc, "[".chars()) {
+        Ok(parser) => letters_of(parser, [['p', 'n', 'n', 'n'], ['n'; 4]]),
+        Err(_) => NO_MEMORY,
+    }
 }
 
 /// Those of a comment that isn't asked for.
-fn of_characters_with_options(alloc: Global) -> Result<[[char; 4]; 2], Fail> {
+fn of_characters_with_options(alloc: Global) -> [[char; 4]; 2] {
     let options = options!(emit_comments: false);
-    let parser = Parser::new_from_iter_with_options(alloc, "# c\n".chars(), options)?;
-    Ok(letters_of(parser, [['i'; 4], ['i'; 4]]))
+    match Parser::new_from_iter_with_options(alloc, "# c\n".chars(), options) {
+        Ok(parser) => letters_of(parser, [['i'; 4], ['i'; 4]]),
+        Err(_) => NO_MEMORY,
+    }
 }
 
 #[test]
-fn characters_one_by_one(rt: HostRuntime) -> Result<(), Fail> {
+fn characters_one_by_one(rt: HostRuntime) {
     let letters = [
-        of_characters(rt.alloc())?,
-        of_characters_with_options(rt.alloc())?,
+        of_characters(rt.alloc()),
+        of_characters_with_options(rt.alloc()),
     ];
     let wanted = [
         [['S', 'S', '!', '.'], ['.'; 4]],
         [['S', 's', '.', '.'], ['.'; 4]],
     ];
     assert_eq!(rt; letters, wanted);
-    Ok(())
 }

@@ -56,12 +56,38 @@ fn seen(given: Option<Result<&(Event<'_>, Span), &ScanError>>) -> Row {
     }
 }
 
-fn next<'a, T: BorrowedInput<'a>>(parser: &mut Parser<'a, T>) -> Row {
-    match &parser.next_event() {
-        None => NOTHING,
-        Some(Ok(event)) => seen(Some(Ok(event))),
-        Some(Err(error)) => fault(error),
+/// What a call gives, or what recovery answers.
+trait Given {
+    fn row(&self) -> Row;
+}
+
+impl<'a> Given for Option<Result<(Event<'a>, Span), ScanError>> {
+    fn row(&self) -> Row {
+        match self {
+            None => NOTHING,
+            Some(Ok(event)) => seen(Some(Ok(event))),
+            Some(Err(error)) => fault(error),
+        }
     }
+}
+
+impl Given for Result<bool, ScanError> {
+    fn row(&self) -> Row {
+        match self {
+            Ok(true) => ('t', 0, 0),
+            Ok(false) => ('f', 0, 0),
+            Err(error) => fault(error),
+        }
+    }
+}
+
+/// The same of what is let go here, which is cheap to prove in a generic function.
+fn taken<T: Given + Drop>(given: T) -> Row {
+    given.row()
+}
+
+fn next<'a, T: BorrowedInput<'a>>(parser: &mut Parser<'a, T>) -> Row {
+    taken(parser.next_event())
 }
 
 fn up_to_fault<'a, T: BorrowedInput<'a>>(parser: &mut Parser<'a, T>) -> Row {
@@ -75,11 +101,7 @@ fn up_to_fault<'a, T: BorrowedInput<'a>>(parser: &mut Parser<'a, T>) -> Row {
 }
 
 fn recovered<'a, T: BorrowedInput<'a>>(parser: &mut Parser<'a, T>) -> Row {
-    match &parser.proceed_next_document() {
-        Ok(true) => ('t', 0, 0),
-        Ok(false) => ('f', 0, 0),
-        Err(error) => fault(error),
-    }
+    taken(parser.proceed_next_document())
 }
 
 fn row<'a, T: BorrowedInput<'a>>(parser: &mut Parser<'a, T>, call: Call) -> Row {
@@ -91,28 +113,37 @@ fn row<'a, T: BorrowedInput<'a>>(parser: &mut Parser<'a, T>, call: Call) -> Row 
     }
 }
 
-/// What eight calls over a text give.
+/// What may be called.
+pub(crate) trait Called {
+    /// What eight calls give, one after the other.
+    fn eight(&mut self, calls: [Call; 8]) -> [Row; 8];
+}
+
+impl<'a, T: BorrowedInput<'a>> Called for Parser<'a, T> {
+    fn eight(&mut self, calls: [Call; 8]) -> [Row; 8] {
+        [
+            row(self, calls[0]),
+            row(self, calls[1]),
+            row(self, calls[2]),
+            row(self, calls[3]),
+            row(self, calls[4]),
+            row(self, calls[5]),
+            row(self, calls[6]),
+            row(self, calls[7]),
+        ]
+    }
+}
+
+/// What eight calls give of a parser that is let go here, which is cheap to prove in a generic function.
+pub(crate) fn rows_of<P: Called + Drop>(parser: P, calls: [Call; 8]) -> [Row; 8] {
+    let mut parser = parser;
+    parser.eight(calls)
+}
+
+/// The same of a parser of a text.
 pub(crate) fn rows(alloc: Global, text: &str, options: Options, calls: [Call; 8]) -> [Row; 8] {
     rows_of(
         Parser::new_from_str_with_options(alloc, text, options),
         calls,
     )
-}
-
-/// What eight calls of a parser give.
-pub(crate) fn rows_of<'a, T: BorrowedInput<'a>>(
-    parser: Parser<'a, T>,
-    calls: [Call; 8],
-) -> [Row; 8] {
-    let mut parser = parser;
-    [
-        row(&mut parser, calls[0]),
-        row(&mut parser, calls[1]),
-        row(&mut parser, calls[2]),
-        row(&mut parser, calls[3]),
-        row(&mut parser, calls[4]),
-        row(&mut parser, calls[5]),
-        row(&mut parser, calls[6]),
-        row(&mut parser, calls[7]),
-    ]
 }

@@ -1,24 +1,36 @@
 //! Where recovery goes on, what it drops and what it answers.
 use crate::recovery::calls::Call::{self, Next, Peek, Recover, UpToFault};
 use crate::recovery::calls::{NOTHING, Row, rows};
-use granit_error::{Options, options};
-use std::test::*;
+use granit_error::options;
+use std::alloc::Global;
 
 const YES: Row = ('t', 0, 0);
 
 const NO: Row = ('f', 0, 0);
 
-fn told(rt: &HostRuntime, text: &str, calls: [Call; 8]) -> [Row; 8] {
-    rows(rt.alloc(), text, Options::default(), calls)
+/// A text, the calls, and what they give.
+#[derive(Clone, Copy)]
+struct Case {
+    text: &'static str,
+    calls: [Call; 8],
+    rows: [Row; 8],
+}
+
+/// What the calls give, where so many comments may be kept; 96 may by default.
+fn told(alloc: Global, case: &Case, comments: usize) -> [Row; 8] {
+    let options = options!(max_buffered_comment_events: comments);
+    rows(alloc, case.text, options, case.calls)
 }
 
 const BEHIND_A_FAULT: [Call; 8] = [UpToFault, Recover, Next, Next, Next, Next, Next, Next];
 
-#[test]
-fn behind_a_fault(rt: HostRuntime) {
-    assert_eq!(rt;
-        told(&rt, "a: [\n---\nb\n", BEHIND_A_FAULT),
-        [
+const THREE: &str = "a\n---\nb\n---\nc\n";
+
+const CASES: &[Case] = &[
+    Case {
+        text: "a: [\n---\nb\n",
+        calls: BEHIND_A_FAULT,
+        rows: [
             ('!', 2, 3),
             YES,
             ('D', 5, 8),
@@ -27,11 +39,12 @@ fn behind_a_fault(rt: HostRuntime) {
             ('s', 11, 11),
             NOTHING,
             NOTHING,
-        ]
-    );
-    assert_eq!(rt;
-        told(&rt, "- *nope\n- 2\n", BEHIND_A_FAULT),
-        [
+        ],
+    },
+    Case {
+        text: "- *nope\n- 2\n",
+        calls: BEHIND_A_FAULT,
+        rows: [
             ('!', 37, 2),
             NO,
             ('s', 12, 12),
@@ -39,17 +52,14 @@ fn behind_a_fault(rt: HostRuntime) {
             NOTHING,
             NOTHING,
             NOTHING,
-            NOTHING
-        ]
-    );
-}
-
-/// The comment on the line of a `...` goes, the next one stays.
-#[test]
-fn behind_the_end_of_a_document(rt: HostRuntime) {
-    assert_eq!(rt;
-        told(&rt, "a: [\n... # c\n# d\nb\n", BEHIND_A_FAULT),
-        [
+            NOTHING,
+        ],
+    },
+    // the comment on the line of a `...` goes, the next one stays
+    Case {
+        text: "a: [\n... # c\n# d\nb\n",
+        calls: BEHIND_A_FAULT,
+        rows: [
             ('!', 2, 3),
             YES,
             ('#', 13, 16),
@@ -58,16 +68,13 @@ fn behind_the_end_of_a_document(rt: HostRuntime) {
             ('d', 18, 18),
             ('s', 19, 19),
             NOTHING,
-        ]
-    );
-}
-
-/// A document of which the directives are faulty goes whole.
-#[test]
-fn among_directives(rt: HostRuntime) {
-    assert_eq!(rt;
-        told(&rt, "%TAG ! !\n%TAG ! !\n--- a\n--- b\n", BEHIND_A_FAULT),
-        [
+        ],
+    },
+    // a document of which the directives are faulty goes whole
+    Case {
+        text: "%TAG ! !\n%TAG ! !\n--- a\n--- b\n",
+        calls: BEHIND_A_FAULT,
+        rows: [
             ('!', 25, 9),
             YES,
             ('D', 24, 27),
@@ -76,151 +83,13 @@ fn among_directives(rt: HostRuntime) {
             ('s', 30, 30),
             NOTHING,
             NOTHING,
-        ]
-    );
-}
-
-const THREE: &str = "a\n---\nb\n---\nc\n";
-
-/// What waits goes up to the end of its document, and so does an end that was only looked at.
-#[test]
-fn in_a_document(rt: HostRuntime) {
-    let second = [('D', 2, 5), ('=', 6, 7), ('d', 7, 7)];
-    assert_eq!(rt;
-        told(
-            &rt,
-            THREE,
-            [Next, Next, Recover, Next, Next, Next, Next, Next]
-        ),
-        [
-            ('S', 0, 0),
-            ('D', 0, 1),
-            YES,
-            second[0],
-            second[1],
-            second[2],
-            ('D', 8, 11),
-            ('=', 12, 13),
-        ]
-    );
-    assert_eq!(rt;
-        told(
-            &rt,
-            THREE,
-            [Next, Next, Next, Peek, Recover, Next, Next, Next]
-        ),
-        [
-            ('S', 0, 0),
-            ('D', 0, 1),
-            ('=', 0, 1),
-            ('d', 1, 1),
-            YES,
-            second[0],
-            second[1],
-            second[2],
-        ]
-    );
-}
-
-/// Directly behind the end of a document nothing goes; a start that was looked at counts as given.
-#[test]
-fn between_documents(rt: HostRuntime) {
-    let first = [('S', 0, 0), ('D', 0, 1), ('=', 0, 1), ('d', 1, 1)];
-    assert_eq!(rt;
-        told(
-            &rt,
-            THREE,
-            [Next, Next, Next, Next, Recover, Next, Next, Next]
-        ),
-        [
-            first[0],
-            first[1],
-            first[2],
-            first[3],
-            YES,
-            ('D', 2, 5),
-            ('=', 6, 7),
-            ('d', 7, 7)
-        ]
-    );
-    assert_eq!(rt;
-        told(
-            &rt,
-            THREE,
-            [Next, Next, Next, Next, Peek, Recover, Next, Next]
-        ),
-        [
-            first[0],
-            first[1],
-            first[2],
-            first[3],
-            ('D', 2, 5),
-            YES,
-            ('D', 8, 11),
-            ('=', 12, 13)
-        ]
-    );
-}
-
-/// Where nothing was given, or nothing since recovery answered, the next document goes.
-#[test]
-fn before_a_document(rt: HostRuntime) {
-    assert_eq!(rt;
-        told(
-            &rt,
-            THREE,
-            [Recover, Recover, Next, Next, Next, Next, Next, Next]
-        ),
-        [
-            YES,
-            YES,
-            ('D', 8, 11),
-            ('=', 12, 13),
-            ('d', 13, 13),
-            ('s', 14, 14),
-            NOTHING,
-            NOTHING
-        ]
-    );
-}
-
-/// Where no document is left, recovery says so.
-#[test]
-fn behind_the_last_document(rt: HostRuntime) {
-    assert_eq!(rt;
-        told(
-            &rt,
-            "a\n---\nb\n",
-            [Recover, Recover, Recover, Recover, Next, Next, Next, Next]
-        ),
-        [YES, NO, NO, NO, ('s', 8, 8), NOTHING, NOTHING, NOTHING]
-    );
-    assert_eq!(rt;
-        told(
-            &rt,
-            "",
-            [Recover, Next, Recover, Next, Next, Next, Next, Next]
-        ),
-        [
-            NO,
-            ('s', 0, 0),
-            NO,
-            NOTHING,
-            NOTHING,
-            NOTHING,
-            NOTHING,
-            NOTHING
-        ]
-    );
-}
-
-/// Comments that come before another document are kept, as many as may be.
-#[test]
-fn comments(rt: HostRuntime) {
-    let text = "a: [\n...\n# y\n# z\n";
-    assert_eq!(rt;
-        told(&rt, text, BEHIND_A_FAULT),
-        [
+        ],
+    },
+    // comments that come before another document are kept, as many as may be
+    Case {
+        text: "a: [\n...\n# y\n# z\n",
+        calls: BEHIND_A_FAULT,
+        rows: [
             ('!', 2, 3),
             NO,
             ('#', 9, 12),
@@ -229,25 +98,139 @@ fn comments(rt: HostRuntime) {
             NOTHING,
             NOTHING,
             NOTHING,
-        ]
-    );
-    let few = options!(max_buffered_comment_events: 1);
-    assert_eq!(rt;
-        rows(
-            rt.alloc(),
-            text,
-            few,
-            [UpToFault, Recover, Recover, Next, Recover, Next, Next, Next]
-        ),
-        [
-            ('!', 2, 3),
-            ('!', 75, 13),
-            ('!', 75, 13),
+        ],
+    },
+    // what waits goes up to the end of its document
+    Case {
+        text: THREE,
+        calls: [Next, Next, Recover, Next, Next, Next, Next, Next],
+        rows: [
+            ('S', 0, 0),
+            ('D', 0, 1),
+            YES,
+            ('D', 2, 5),
+            ('=', 6, 7),
+            ('d', 7, 7),
+            ('D', 8, 11),
+            ('=', 12, 13),
+        ],
+    },
+    // and so does an end that was only looked at
+    Case {
+        text: THREE,
+        calls: [Next, Next, Next, Peek, Recover, Next, Next, Next],
+        rows: [
+            ('S', 0, 0),
+            ('D', 0, 1),
+            ('=', 0, 1),
+            ('d', 1, 1),
+            YES,
+            ('D', 2, 5),
+            ('=', 6, 7),
+            ('d', 7, 7),
+        ],
+    },
+    // directly behind the end of a document nothing goes
+    Case {
+        text: THREE,
+        calls: [Next, Next, Next, Next, Recover, Next, Next, Next],
+        rows: [
+            ('S', 0, 0),
+            ('D', 0, 1),
+            ('=', 0, 1),
+            ('d', 1, 1),
+            YES,
+            ('D', 2, 5),
+            ('=', 6, 7),
+            ('d', 7, 7),
+        ],
+    },
+    // a start that was looked at counts as given
+    Case {
+        text: THREE,
+        calls: [Next, Next, Next, Next, Peek, Recover, Next, Next],
+        rows: [
+            ('S', 0, 0),
+            ('D', 0, 1),
+            ('=', 0, 1),
+            ('d', 1, 1),
+            ('D', 2, 5),
+            YES,
+            ('D', 8, 11),
+            ('=', 12, 13),
+        ],
+    },
+    // where nothing was given, or nothing since recovery answered, the next document goes
+    Case {
+        text: THREE,
+        calls: [Recover, Recover, Next, Next, Next, Next, Next, Next],
+        rows: [
+            YES,
+            YES,
+            ('D', 8, 11),
+            ('=', 12, 13),
+            ('d', 13, 13),
+            ('s', 14, 14),
             NOTHING,
-            ('!', 75, 13),
+            NOTHING,
+        ],
+    },
+    // where no document is left, recovery says so
+    Case {
+        text: "a\n---\nb\n",
+        calls: [Recover, Recover, Recover, Recover, Next, Next, Next, Next],
+        rows: [YES, NO, NO, NO, ('s', 8, 8), NOTHING, NOTHING, NOTHING],
+    },
+    Case {
+        text: "",
+        calls: [Recover, Next, Recover, Next, Next, Next, Next, Next],
+        rows: [
+            NO,
+            ('s', 0, 0),
+            NO,
             NOTHING,
             NOTHING,
             NOTHING,
-        ]
-    );
+            NOTHING,
+            NOTHING,
+        ],
+    },
+];
+
+/// The text with two comments where one may be kept.
+const FEW_COMMENTS: Case = Case {
+    text: "a: [\n...\n# y\n# z\n",
+    calls: [UpToFault, Recover, Recover, Next, Recover, Next, Next, Next],
+    rows: [
+        ('!', 2, 3),
+        ('!', 75, 13),
+        ('!', 75, 13),
+        NOTHING,
+        ('!', 75, 13),
+        NOTHING,
+        NOTHING,
+        NOTHING,
+    ],
+};
+
+/// How many cases stand before the first one that gives other rows.
+fn count_right(alloc: Global) -> usize {
+    let mut count: usize = 0;
+    for case in CASES {
+        if told(alloc, case, 96) != case.rows {
+            return count;
+        }
+        count = count.saturating_add(1);
+    }
+    count
+}
+
+#[test]
+fn where_recovery_goes_on(rt: HostRuntime) {
+    assert_eq!(rt; count_right(rt.alloc()), 12);
+}
+
+#[test]
+fn no_room_for_comments(rt: HostRuntime) {
+    assert_eq!(rt; told(rt.alloc(), &FEW_COMMENTS, 1), FEW_COMMENTS.rows);
 }

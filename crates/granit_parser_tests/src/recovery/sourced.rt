@@ -1,38 +1,31 @@
 //! Recovery is refused behind an error of the source, also where the text before it is refused by the same call.
+use crate::items::characters_and_error;
 use crate::recovery::calls::Call::{self, Next, Peek, Recover};
 use crate::recovery::calls::{NOTHING, Row, rows_of};
-use granit_error::ErrorKind;
 use granit_parser::Parser;
 use std::alloc::Global;
-use std::test::*;
 
 const START: Row = ('S', 0, 0);
 
 const SOURCE: Row = ('!', 80, 0);
 
-/// A closer that opens nothing, and an error.
-fn of_a_closer(alloc: Global, calls: [Call; 8]) -> Result<[Row; 8], Fail> {
-    let error = ErrorKind::InputByteLimitExceeded { limit: 1 };
-    let items = vec![in alloc; Ok(']'), Err(error)]?;
-    let parser = Parser::new_from_fallible_iter(alloc, items.into_iter())?;
-    Ok(rows_of(parser, calls))
+/// A closer that opens nothing, and an error; nothing for want of memory.
+fn of_a_closer(alloc: Global, calls: [Call; 8]) -> [Row; 8] {
+    let items = characters_and_error(alloc, "]").into_iter();
+    match Parser::new_from_fallible_iter(alloc, items) {
+        Ok(parser) => rows_of(parser, calls),
+        Err(_) => [NOTHING; 8],
+    }
 }
 
+const REFUSED: [Row; 8] = [
+    START, SOURCE, SOURCE, NOTHING, SOURCE, NOTHING, SOURCE, NOTHING,
+];
+
 #[test]
-fn behind_a_fault_and_an_error_of_the_source(rt: HostRuntime) -> Result<(), Fail> {
+fn behind_a_fault_and_an_error_of_the_source(rt: HostRuntime) {
     let taken = [Next, Next, Recover, Next, Recover, Peek, Recover, Next];
-    assert_eq!(rt;
-        of_a_closer(rt.alloc(), taken)?,
-        [
-            START, SOURCE, SOURCE, NOTHING, SOURCE, NOTHING, SOURCE, NOTHING
-        ]
-    );
+    assert_eq!(rt; of_a_closer(rt.alloc(), taken), REFUSED);
     let looked_at = [Next, Peek, Recover, Next, Recover, Peek, Recover, Next];
-    assert_eq!(rt;
-        of_a_closer(rt.alloc(), looked_at)?,
-        [
-            START, SOURCE, SOURCE, NOTHING, SOURCE, NOTHING, SOURCE, NOTHING
-        ]
-    );
-    Ok(())
+    assert_eq!(rt; of_a_closer(rt.alloc(), looked_at), REFUSED);
 }
