@@ -6,7 +6,7 @@ use Rattle.std.specs.Prelude.{nat_le}
 use Rattle.granit_base.specs.Place.{Mark}
 use Rattle.granit_error.specs.OptionsData.{OptionsData}
 use Rattle.granit_agreement.specs.Good.{Good, is_fresh}
-use Rattle.granit_agreement.specs.Running.{Knows, Seen, ComesTo, NextView, FairNext, FairRun}
+use Rattle.granit_agreement.specs.Running.{Knows, ParserSeen, ComesTo, NextView, FairNext, FairRun}
 use Rattle.granit_agreement.specs.Stepping.{taken, at_kind}
 use Rattle.granit_agreement.specs.View.{Beside, item_of, state_of, waiting_of}
 use Rattle.granit_agreement.proofs.StageSteps.{none_open}
@@ -18,15 +18,15 @@ use Rattle.granit_grammar.specs.EventMachine.{EventState, IsFresh, HasDirectives
 use Rattle.granit_grammar.specs.EventMachine.{ending, ended_by, EventStep, GoesTo, StopsWith, after_events, take_frames}
 use Rattle.granit_grammar.specs.Guarded.{state_count, is_loose}
 use Rattle.granit_grammar.specs.PlaceFrames.{state_at}
-use Rattle.granit_grammar.specs.TreeMachine.{Next, take, Answer, ReadAs, RefusedAt, Short, at_end, tree_goes, parse}
-use Rattle.granit_grammar.specs.TreeMachine.{tree_start}
+use Rattle.granit_grammar.specs.TreeMachine.{NextPlace, take, TreeAnswer, ReadAs, RefusedAt, Short, at_end, tree_goes}
+use Rattle.granit_grammar.specs.TreeMachine.{parse, tree_start}
 use Rattle.granit_grammar.proofs.AgreeClose.{ending_state, ending_events, close_agrees}
 use Rattle.granit_grammar.proofs.AgreeStep.{StepsTo, goes_to, stops_at, take_agrees}
 use Rattle.granit_grammar.proofs.Placing.{Tells, one_cut}
 use Rattle.granit_language.specs.FaultKinds.{fault_kind_at}
 use Rattle.granit_language.specs.GrammarFault.{GrammarFault, TooManyBlocks}
 use Rattle.granit_language.specs.OpenEvents.{open_events}
-use Rattle.granit_language.specs.OpenPlace.{OpenPlace, Ended, IsOpen}
+use Rattle.granit_language.specs.OpenPlace.{OpenPlace, Ended, HasOneName}
 use Rattle.granit_language.specs.OpenTold.{ToldBefore}
 use Rattle.granit_language.specs.Scope.{Scope, no_scope}
 use Rattle.granit_language.specs.Scoping.{next_scope, scoped}
@@ -62,7 +62,7 @@ ran (x ∷ xs) st = ran_on (taken (ended_by x st) x) (ran xs)
 
 -- ---- they are those of the open place
 
-abbrev Opens : (List TreeEvent → List TreeEvent) → Ran → Answer → Type 0
+abbrev Opens : (List TreeEvent → List TreeEvent) → Ran → TreeAnswer → Type 0
 Opens f (Some y) (Short q) =
     (y.1 ≡ state_at q) × ((x : Mark) (more : List TreeEvent) → open_events x q more ≡ f (y.0 ++ more))
 Opens f (Some y) (ReadAs s) = (y.1 ≡ IsEnded) × ((more : List TreeEvent) → stream_events s more ≡ f (y.0 ++ more))
@@ -77,7 +77,7 @@ end_opens : (p : OpenPlace) (f : List TreeEvent → List TreeEvent) → Before f
 end_opens (Ended s) f g = (refl, g text_start)
 end_opens p f g = (refl, g)
 
-front_opens : (f : List TreeEvent → List TreeEvent) (es : List TreeEvent) (r : Ran) (a : Answer) →
+front_opens : (f : List TreeEvent → List TreeEvent) (es : List TreeEvent) (r : Ran) (a : TreeAnswer) →
     Opens (λ more. f (es ++ more)) r a → Opens f (ran_front es r) a
 front_opens f es (Some y) (Short q) h = (h.0, λ x more. h.1 x more ∙ ap f (sym (append_assoc es y.0 more)))
 front_opens f es (Some y) (ReadAs s) h = (h.0, λ more. h.1 more ∙ ap f (sym (append_assoc es y.0 more)))
@@ -86,7 +86,7 @@ front_opens f es None (RefusedAt q x) h = h
 front_opens f es None (Short q) h = h
 front_opens f es None (ReadAs s) h = h
 
-other_opens : (f g : List TreeEvent → List TreeEvent) (r : Ran) (a : Answer) →
+other_opens : (f g : List TreeEvent → List TreeEvent) (r : Ran) (a : TreeAnswer) →
     ((more : List TreeEvent) → f more ≡ g more) →
     Opens f r a → Opens g r a
 other_opens f g (Some y) (Short q) e h = (h.0, λ x more. h.1 x more ∙ e (y.0 ++ more))
@@ -106,12 +106,12 @@ after_ran es (GoesTo st more) on = front_front es more (on st)
 after_ran es (StopsWith k) on = refl
 
 abbrev Follows : List Terminal → Type 0
-Follows xs = (p : OpenPlace) (f : List TreeEvent → List TreeEvent) → IsOpen p → Before f p →
+Follows xs = (p : OpenPlace) (f : List TreeEvent → List TreeEvent) → HasOneName p → Before f p →
     Opens f (ran xs (state_at p)) (parse xs p)
 
 step_opens : (xs : List Terminal) → Follows xs →
     (f : List TreeEvent → List TreeEvent) (k : GrammarFault) (q : OpenPlace)
-    (x : Terminal) (s : EventStep) (n : Next) → StepsTo f k s n →
+    (x : Terminal) (s : EventStep) (n : NextPlace) → StepsTo f k s n →
     Opens f (ran_on s (ran xs)) (tree_goes n q x (parse xs))
 step_opens xs h f k q x s n (goes_to {st = st} {es = es} {q = p} i e g) =
     front_opens f es (ran xs st) (parse xs p)
@@ -119,7 +119,7 @@ step_opens xs h f k q x s n (goes_to {st = st} {es = es} {q = p} i e g) =
 step_opens xs h f k q x s n (stops_at e) = tt
 
 closed_opens : (xs : List Terminal) → Follows xs → (f : List TreeEvent → List TreeEvent) (q : OpenPlace) (x : Terminal)
-    (y : Ending) → IsOpen q → ending_state y ≡ state_at q →
+    (y : Ending) → HasOneName q → ending_state y ≡ state_at q →
     ((more : List TreeEvent) → open_events x.at.start q more ≡ f (ending_events y ++ more)) →
     Opens f (ran_on (taken y x) (ran xs)) (tree_goes (take q x.kind x.at) q x (parse xs))
 closed_opens xs h f q x (ending st es) i e g =
@@ -144,7 +144,7 @@ abbrev FeedGiven : Type 0
 FeedGiven = Result (List PlainEvent × ParserState) Fault
 
 abbrev Lands : OptionsData → FeedGiven → Ran → Type 0
-Lands o (Ok y) (Some z) = (y.0 ≡ events_told o z.0) × (d : Beside) × Seen o z.1 y.1 d
+Lands o (Ok y) (Some z) = (y.0 ≡ events_told o z.0) × (d : Beside) × ParserSeen o z.1 y.1 d
 Lands o (Ok y) None = ⊥
 Lands o (Err f) w = Unit {0}
 
@@ -157,7 +157,7 @@ front_lands o gs es (Err f) w e h = tt
 abbrev Land : OptionsData → List Flagged → Type 0
 Land o fs =
     (s : Scope) (st : EventState) (d : Beside) (p : ParserState) → ComesTo st → Knows o st s d →
-    nat_le (state_count st) o.block_nesting_limit ≡ true → d.given ≡ [] → FairRun fs s st → Seen o st p d →
+    nat_le (state_count st) o.block_nesting_limit ≡ true → d.given ≡ [] → FairRun fs s st → ParserSeen o st p d →
     Lands o (feed_all o (map item_of fs) p) (ran (scoped s (map terminal_seen fs)) st)
 
 step_lands :
@@ -222,7 +222,7 @@ abbrev pub waiting_in : OptionsData → EventState → Option Waiting
 waiting_in o (InFrames fs) = waiting_of o.max_buffered_comment_events fs
 waiting_in o st = None
 
-seen_waiting : (o : OptionsData) (st : EventState) (p : ParserState) (d : Beside) → Seen o st p d →
+seen_waiting : (o : OptionsData) (st : EventState) (p : ParserState) (d : Beside) → ParserSeen o st p d →
     p.waiting ≡ waiting_in o st
 seen_waiting o IsFresh p d h = ap (λ p. p.waiting) h
 seen_waiting o (HasDirectives v) p d h = ap (λ p. p.waiting) h
@@ -231,7 +231,7 @@ seen_waiting o (InFrames fs) p d h = ap (λ p. p.waiting) h
 seen_waiting o IsEnded p d h = h.1
 
 -- an answer leaves an open place
-abbrev pub Leaves : Answer → OpenPlace → Type 0
+abbrev pub Leaves : TreeAnswer → OpenPlace → Type 0
 Leaves (Short q) place = q ≡ place
 Leaves (ReadAs s) place = Ended s ≡ place
 Leaves (RefusedAt q x) place = ⊥
@@ -252,7 +252,7 @@ nothing_more o es gs e =
     ap (λ es. events_told o (begun es)) (append-nil es)
     ∙ ap (λ gs. event_on StreamStart text_start ∷ gs) (sym e)
 
-left_by : (o : OptionsData) (xs : List Terminal) (gs : List PlainEvent) (p : ParserState) (r : Ran) (a : Answer) →
+left_by : (o : OptionsData) (xs : List Terminal) (gs : List PlainEvent) (p : ParserState) (r : Ran) (a : TreeAnswer) →
     parse xs tree_start ≡ a → Opens begun r a → Lands o (Ok (gs, p)) r → Left o xs gs p
 left_by o xs gs p (Some y) (Short q) e h l =
     let t = subst (λ a. Tells a xs) e (one_cut xs) in

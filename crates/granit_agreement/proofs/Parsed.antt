@@ -1,5 +1,5 @@
 -- What the parser answers, in words of readings and causes.
-use Rattle.granit_agreement.specs.Running.{FairRun, RunView, ParsedAs, GivesAll}
+use Rattle.granit_agreement.specs.Running.{FairRun, RunView, ParsedAs, GivesTold}
 use Rattle.granit_agreement.specs.View.{item_of}
 use Rattle.granit_language.specs.Seen.{Flagged, terminal_seen}
 use Rattle.granit_grammar.specs.EventMachine.{EventAnswer, Events, Faulty, Unfinished, events_before, IsFresh}
@@ -70,7 +70,7 @@ events_same es more e = cc (e)
 
 told_by :
     (o : OptionsData) (es : List TreeEvent) (r : Result (List PlainEvent × ParserState) Fault) (a : EventAnswer) →
-    Fully a ≡ Events es → RunView o r a → GivesAll o es r
+    Fully a ≡ Events es → RunView o r a → GivesTold o es r
 told_by o es (Ok y) (Events more) e h =
     subst (λ es. events_told o es ≡ event_on StreamStart text_start ∷ y.0)
     (events_same (pointed StreamStarts text_start ∷ more) es e)
@@ -81,7 +81,7 @@ told_by o es r (Faulty k x) e h = cc (e)
 
 pub readings_parsed :
     (o : OptionsData) (m : Mark) (fs : List Flagged) (es : List TreeEvent) → FairRun fs no_scope IsFresh →
-    WholeReading o (map terminal_seen fs) es → GivesAll o es (feed_all o (map item_of fs) (parser_start m))
+    WholeReading o (map terminal_seen fs) es → GivesTold o es (feed_all o (map item_of fs) (parser_start m))
 readings_parsed o m fs es fair r =
     told_by o es (feed_all o (map item_of fs) (parser_start m)) (Guards o (map terminal_seen fs))
     (whole_streams o (map terminal_seen fs) es r) (run_agrees o m fs fair)

@@ -288,7 +288,7 @@ prefix_same b l handle None = prefix_tests l handle (length handle == 2) (nat_lt
 -- what the parser knows of a handle is what is declared
 abbrev known_in : OptionsData → List ℕ → Scope → Option (List ℕ)
 known_in o handle s =
-    steps.or_kept o handle (lookup_text handle (ordered s.handles)) (lookup_text handle (staying o s))
+    steps.or_kept_handle o handle (lookup_text handle (ordered s.handles)) (lookup_text handle (staying o s))
 
 kept_off : (long : Bool) (p q : Option (List ℕ)) → (if long && false then p else None)
     ≡ (if long && false then q else None)
@@ -305,7 +305,7 @@ kept_found false handle all = kept_off (nat_lt 2 (length handle)) None (entry_of
 
 kept_same :
     (o : OptionsData) (handle : List ℕ) (known : Option (List ℕ)) (s : Scope) →
-    steps.or_kept o handle known (lookup_text handle (staying o s)) ≡ or_kept known (kept_of o handle s)
+    steps.or_kept_handle o handle known (lookup_text handle (staying o s)) ≡ or_kept known (kept_of o handle s)
 kept_same o handle (Some prefix) s = refl
 kept_same o handle None s = kept_found o.keep_tags handle s.all_handles
 
@@ -313,7 +313,7 @@ known_same :
     (o : OptionsData) (handle : List ℕ) (s : Scope) →
     known_in o handle s ≡ or_kept (entry_of handle s.handles) (kept_of o handle s)
 known_same o handle s =
-    ap (λ q. steps.or_kept o handle q (lookup_text handle (staying o s))) (found_in_order handle s.handles)
+    ap (λ q. steps.or_kept_handle o handle q (lookup_text handle (staying o s))) (found_in_order handle s.handles)
     ∙ kept_same o handle (entry_of handle s.handles) s
 
 abbrev TagLexeme : lexemes.Lexeme → List ℕ → List ℕ → lexemes.Lexeme

@@ -1,6 +1,6 @@
 -- The parser's run over lexemes and that of the grammar's machine.
 use Rattle.granit_agreement.specs.Good.{Good, is_fresh}
-use Rattle.granit_agreement.specs.Running.{Knows, Seen, ComesTo, NextView, FairNext, FairRun, RunView}
+use Rattle.granit_agreement.specs.Running.{Knows, ParserSeen, ComesTo, NextView, FairNext, FairRun, RunView}
 use Rattle.granit_agreement.specs.Stepping.{taken, at_kind}
 use Rattle.granit_agreement.specs.View.{Beside, item_of, state_of, give_all}
 use Rattle.granit_language.specs.Seen.{Flagged, terminal_of, terminal_seen}
@@ -102,7 +102,8 @@ fed_is o f is p = refl
 
 -- ---- between two lexemes
 
-pub seen_given : (o : OptionsData) (st : EventState) (p : ParserState) (d : Beside) → Seen o st p d → p.given ≡ d.given
+pub seen_given : (o : OptionsData) (st : EventState) (p : ParserState) (d : Beside)
+    → ParserSeen o st p d → p.given ≡ d.given
 seen_given o IsFresh p d h = ap (λ p. p.given) h
 seen_given o (HasDirectives v) p d h = ap (λ p. p.given) h
 seen_given o (IsRooted m) p d h = ap (λ p. p.given) h
@@ -113,8 +114,8 @@ abbrev pub Cleared : Beside → Beside
 Cleared d = record d { given = [] }
 
 pub seen_cleared :
-    (o : OptionsData) (st : EventState) (p : ParserState) (d : Beside) → Seen o st p d →
-    Seen o st (Emptied p) (Cleared d)
+    (o : OptionsData) (st : EventState) (p : ParserState) (d : Beside) → ParserSeen o st p d →
+    ParserSeen o st (Emptied p) (Cleared d)
 seen_cleared o IsFresh p d h = ap Emptied h
 seen_cleared o (HasDirectives v) p d h = ap Emptied h
 seen_cleared o (IsRooted m) p d h = ap Emptied h
@@ -152,7 +153,7 @@ Go o fs s st = guarded (whole_guard o) (scoped s (map terminal_seen fs)) st
 abbrev Runs : OptionsData → List Flagged → Type 0
 Runs o fs =
     (s : Scope) (st : EventState) (d : Beside) (p : ParserState) → ComesTo st → Knows o st s d →
-    nat_le (state_count st) o.block_nesting_limit ≡ true → d.given ≡ [] → FairRun fs s st → Seen o st p d →
+    nat_le (state_count st) o.block_nesting_limit ≡ true → d.given ≡ [] → FairRun fs s st → ParserSeen o st p d →
     RunView o (feed_all o (map item_of fs) p) (Go o fs s st)
 
 step_run :

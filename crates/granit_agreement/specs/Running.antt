@@ -39,9 +39,9 @@ Knows o (HasDirectives v) s d =
 Knows o IsEnded s d = Unit {0}
 
 -- behind the end only the events count, and nothing waits
-abbrev pub Seen : OptionsData → EventState → ParserState → Beside → Type 0
-Seen o IsEnded p d = (p.given ≡ d.given) × (p.waiting ≡ None)
-Seen o st p d = p ≡ state_of o st d
+abbrev pub ParserSeen : OptionsData → EventState → ParserState → Beside → Type 0
+ParserSeen o IsEnded p d = (p.given ≡ d.given) × (p.waiting ≡ None)
+ParserSeen o st p d = p ≡ state_of o st d
 
 -- a state that the grammar's machine comes to, or the end
 abbrev pub ComesTo : EventState → Type 0
@@ -52,7 +52,7 @@ ComesTo st = Good st
 pub record NextIs (o : OptionsData) (x : Terminal) (s : Scope) (events : List PlainEvent) (st : EventState)
     (p : ParserState) : Type 0 where
   pub beside : Beside
-  pub is_seen : Seen o st p beside
+  pub is_seen : ParserSeen o st p beside
   pub gives : beside.given ≡ events
   pub knows : Knows o st (next_scope x.kind s) beside
   pub passes : whole_guard o st x ≡ None
@@ -101,6 +101,6 @@ ParsedAs o xs gs =
     (es : List TreeEvent) × WholeReading o xs es × (events_told o es ≡ event_on StreamStart text_start ∷ gs)
 
 -- they are these, told
-abbrev pub GivesAll : OptionsData → List TreeEvent → Result (List PlainEvent × ParserState) Fault → Type 0
-GivesAll o es (Ok y) = events_told o es ≡ event_on StreamStart text_start ∷ y.0
-GivesAll o es (Err f) = ⊥
+abbrev pub GivesTold : OptionsData → List TreeEvent → Result (List PlainEvent × ParserState) Fault → Type 0
+GivesTold o es (Ok y) = events_told o es ≡ event_on StreamStart text_start ∷ y.0
+GivesTold o es (Err f) = ⊥

@@ -17,7 +17,7 @@ ghost use Rattle.granit_grammar.specs.EventMachine.{IsFresh};
 ghost use Rattle.granit_grammar.specs.Guarded.{guarded, whole_guard};
 ghost use Rattle.granit_machine.specs.Frames.{ParserState, Waiting, parser_start};
 ghost use Rattle.granit_machine.specs.Machine.{feed_all};
-ghost use Rattle.granit_agreement.specs.Running.{FairRun, GivesAll, ParsedAs, RunView};
+ghost use Rattle.granit_agreement.specs.Running.{FairRun, GivesTold, ParsedAs, RunView};
 ghost use Rattle.granit_agreement.specs.View.{item_of};
 ghost use Rattle.granit_language.specs.Seen.{Flagged, terminal_seen};
 
@@ -41,7 +41,7 @@ pub fn what_is_parsed_is_a_reading()
         × WholeFault o (map terminal_seen fs) k x × (f ≡ fault_of k x) }
     ensures readings { (o : OptionsData) (m : Mark) (fs : List Flagged) (es : List TreeEvent) →
         FairRun fs no_scope IsFresh → WholeReading o (map terminal_seen fs) es →
-        GivesAll o es (feed_all o (map item_of fs) (parser_start m)) }
+        GivesTold o es (feed_all o (map item_of fs) (parser_start m)) }
 {}
 
 /// A node waits in the parser exactly where one must come directly behind a `-` or a `:`.

@@ -19,7 +19,7 @@ use Rattle.granit_lexemes.specs.PlainEvent.{EventKind, event_on, PlainEvent}
 use Rattle.granit_machine.specs.Machine.{run}
 use Rattle.granit_reading.proofs.ParserSources.{run_none}
 use Rattle.granit_recovery.proofs.TidyLaws.{begun_ends}
-use Rattle.granit_recovery.specs.Streams.{Gives}
+use Rattle.granit_recovery.specs.Streams.{CallsGive}
 use Rattle.granit_restart.specs.Calls.{Calls, next_call}
 use Rattle.granit_shifted.specs.Alone.{behind_first, TellsAlone, TellsEnd}
 use Rattle.granit_shifted.specs.Shift.{Shift, moved_event, moved_events, moved_fault, moved_fault_of, moved_kind}
@@ -40,12 +40,13 @@ images_front f (x ∷ xs) (y ∷ ys) zs is =
     let p = images_front f xs ys zs tail in
     (x ∷ p.0, p.1, ap (λ l. x ∷ l) p.2, ap₂ (λ b l. b ∷ l) (sym head) p.3, p.4)
 
-no_images : {A B : Type 0} (f : A → B) (xs : List A) → [] ≡ map f xs → xs ≡ []
+pub no_images : {A B : Type 0} (f : A → B) (xs : List A) → [] ≡ map f xs → xs ≡ []
 no_images f [] e = refl
 no_images f (x ∷ xs) e = absurd (cc)
 
 -- the end of a stream is told wherever it stands
-moved_end : (shift : Shift) (e : PlainEvent) → (moved_event shift e).kind ≡ events.StreamEnd → e.kind ≡ events.StreamEnd
+pub moved_end : (shift : Shift) (e : PlainEvent) → (moved_event shift e).kind ≡ events.StreamEnd
+    → e.kind ≡ events.StreamEnd
 moved_end shift e is = on e.kind is
   where
     on : (kind : EventKind) → moved_kind shift e.span.start e.span.end kind ≡ events.StreamEnd
@@ -54,8 +55,8 @@ moved_end shift e is = on e.kind is
     on kind is = absurd (cc)
 
 -- the last of images is the image of the last
-last_image : {A B : Type 0} (f : A → B) (xs : List A) (ys : List B) (y : B) → ys ++ y ∷ [] ≡ map f xs
-    → (front : List A) × (x : A) × (xs ≡ front ++ x ∷ []) × (f x ≡ y)
+pub last_image : {A B : Type 0} (f : A → B) (xs : List A) (ys : List B) (y : B)
+    → ys ++ y ∷ [] ≡ map f xs → (front : List A) × (x : A) × (xs ≡ front ++ x ∷ []) × (f x ≡ y)
 last_image f xs ys y is =
     let p = images_front f xs ys (y ∷ []) (sym is) in
     one p.0 p.1 p.2 p.4
@@ -169,7 +170,7 @@ module _ (o : OptionsData) (x : List ℕ) (shift : Shift) where
       (q.4 ∙ ap (moved_events shift) d.0, d.1)
 
   module _ (c d : Calls) (before es : List PlainEvent) (rest : TellsRestAlone o x shift before c.steps)
-      (goes : IsOpen c) (gives : Gives o c es d) where
+      (goes : IsOpen c) (gives : CallsGive o c es d) where
     told : TellsRest o rest.more es (moved_fault_of shift (told_of o x).1) d.steps
     told = front o c d es rest.more (moved_fault_of shift (told_of o x).1) gives rest.left
 
@@ -210,7 +211,7 @@ module _ (o : OptionsData) (x : List ℕ) (shift : Shift) where
     }
 
   -- nothing was dropped
-  pub gives_alone : (c d : Calls) (es : List PlainEvent) → TellsAlone o x shift c.steps → IsOpen c → Gives o c es d
+  pub gives_alone : (c d : Calls) (es : List PlainEvent) → TellsAlone o x shift c.steps → IsOpen c → CallsGive o c es d
       → GivesAlone o x shift [] es d
   gives_alone c d es tells goes gives =
       rest_alone c d [] es
@@ -219,7 +220,7 @@ module _ (o : OptionsData) (x : List ℕ) (shift : Shift) where
 -- ---- where nothing is left
 
 module _ (o : OptionsData) (h : Here) (c d : Calls) (es : List PlainEvent) (tells : TellsEnd o h c.steps)
-    (goes : IsOpen c) (gives : Gives o c es d) where
+    (goes : IsOpen c) (gives : CallsGive o c es d) where
   told_end : TellsRest o (event_on events.StreamEnd (mark_of h) ∷ []) es None d.steps
   told_end = front o c d es _ _ gives tells
 

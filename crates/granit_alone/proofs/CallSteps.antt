@@ -7,8 +7,8 @@ use Rattle.granit_error.specs.OptionsData.{OptionsData}
 use Rattle.granit_lexemes.specs.Outcome.{Fault}
 use Rattle.granit_lexemes.specs.PlainEvent.{PlainEvent, EventKind, StreamEnd, DocumentStart, DocumentEnd}
 use Rattle.granit_recovery.proofs.RecoveryLaws.{first_same, noted_steps, second_same}
-use Rattle.granit_recovery.specs.Streams.{Gives, gives_next, gives_none}
-use Rattle.granit_restart.specs.Calls.{Calls, Given, given_by, next_call, noted}
+use Rattle.granit_recovery.specs.Streams.{CallsGive, gives_next, gives_none}
+use Rattle.granit_restart.specs.Calls.{Calls, GivenByCall, given_by, next_call, noted}
 use Rattle.granit_steps.specs.Steps.{StepState, next_event}
 use Rattle.granit_steps.specs.Told.{GivesEvents, gives_end, gives_event, gives_fault}
 
@@ -116,7 +116,7 @@ ends_behind e es x = (e ∷ x.0, x.1, ap (λ l. e ∷ l) x.2, x.3)
 
 -- the first event of calls that go on
 step_behind : (o : OptionsData) (c d after : Calls) (e : PlainEvent) (es : List PlainEvent) → Step o c e after
-    → (over : Bool) → after.over ≡ over → Gives o after es d → (IsOpen after → StandsBehind es d)
+    → (over : Bool) → after.over ≡ over → CallsGive o after es d → (IsOpen after → StandsBehind es d)
     → StandsBehind (e ∷ es) d
 step_behind o c d after e es s false is gives more =
     let x = more (record {
@@ -138,7 +138,7 @@ step_behind o c d after e es s true is gives_none more =
 step_behind o c d after e es s true is (gives_next {after = next} {e = x} g rest) more =
     absurd (let other = step o after next x g in let f = other.goes.over in cc)
 
-pub behind : (o : OptionsData) (c d : Calls) (es : List PlainEvent) → IsOpen c → Gives o c es d → StandsBehind es d
+pub behind : (o : OptionsData) (c d : Calls) (es : List PlainEvent) → IsOpen c → CallsGive o c es d → StandsBehind es d
 behind o c d es g gives_none =
     record { fault = g.fault; refusal = g.refusal; last = λ over. absurd (let f = g.over in cc) }
 behind o c d es g (gives_next {after = after} {e = e} {es = rest} is more) =
@@ -174,7 +174,7 @@ front_by o c d after e es all f s more (gives_event {after = t} {e = x} {es = xs
       left = p.left;
     }
 
-pub front : (o : OptionsData) (c d : Calls) (es all : List PlainEvent) (f : Option Fault) → Gives o c es d
+pub front : (o : OptionsData) (c d : Calls) (es all : List PlainEvent) (f : Option Fault) → CallsGive o c es d
     → GivesEvents o c.steps all f → TellsRest o all es f d.steps
 front o c d es all f gives_none g = record { more = all; are = refl; left = g }
 front o c d es all f (gives_next {after = after} {e = e} {es = rest} is more) g =
@@ -191,7 +191,7 @@ none_by o c (Err f) is = absurd (cc)
 pub none_comes : (o : OptionsData) (c : Calls) → IsOpen c → (next_call o c).0 ≡ None
     → (t : StepState) × (next_event o c.steps ≡ Ok (None, t))
 none_comes o c g is =
-    none_by o c (next_event o c.steps) (ap (λ (x : Given × Calls). x.0) (sym (goes_by o c g)) ∙ is)
+    none_by o c (next_event o c.steps) (ap (λ (x : GivenByCall × Calls). x.0) (sym (goes_by o c g)) ∙ is)
 
 fault_of : (o : OptionsData) (c after : Calls) (f : Fault) (r : Stepped) → given_by o c r ≡ (Some (Err f), after)
     → r ≡ Err f

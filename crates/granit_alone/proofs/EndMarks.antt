@@ -35,7 +35,7 @@ use Rattle.granit_reading.proofs.Telling.{SaysOf, telling}
 use Rattle.granit_restart.proofs.MarkLaws.{items, MarksSettled}
 use Rattle.granit_restart.proofs.MarkReads.{is_mark}
 use Rattle.granit_restart.specs.Boundary.{AtStart, AtTextEnd, Boundary, next_boundary, PastEnd}
-use Rattle.granit_restart.specs.NextBoundary.{LineEnds}
+use Rattle.granit_restart.specs.NextBoundary.{IsLineEnd}
 use Rattle.granit_restart.specs.Restart.{at_boundary, at_found, at_lexeme, behind_fault, behind_fault_at, cursor_at}
 use Rattle.granit_restart.specs.Restart.{is_boundary, read_boundary}
 use Rattle.granit_shifted.proofs.FoundLaws.{led_holds}
@@ -232,7 +232,7 @@ pub led_last : (o : OptionsData) (s : StepState) → Led o s → EndLast s.readi
 led_last o s (led_start h) = none_waits refl
 led_last o s (led_on {s = before} led e) =
     subst TurnLast e (turn_last o before (led_last o before led) (led_holds o before led).sound.marked)
-led_last o s (led_with {s = before} p es led) = again (led_last o before led)
+led_last o s (led_with {s = before} p es led kept) = again (led_last o before led)
   where
     again : EndLast before.reading before.queue → EndLast before.reading before.queue
     again x = x
@@ -241,14 +241,14 @@ led_last o s (led_keeping keep led) = led_last (record o { keep_tags = keep }) s
 
 -- ---- a `...` that is found
 
-end_of_line : (text : List ℕ) → (length text == 0 || is_break (first text)) ≡ true → LineEnds text
+end_of_line : (text : List ℕ) → (length text == 0 || is_break (first text)) ≡ true → IsLineEnd text
 end_of_line [] e = tt
 end_of_line (c ∷ cs) e = ap (λ b. b || is_break c) (sym (not_empty c cs)) ∙ e
 
 not_less : (n : ℕ) → nat_lt n n ≡ false
 not_less n = grind (arith, nat_tests)
 
-line_ends : (h : Here) (l : Lexeme) → EndRead h l → is_boundary h l.kind l ≡ true → LineEnds h.unread.text
+line_ends : (h : Here) (l : Lexeme) → EndRead h l → is_boundary h l.kind l ≡ true → IsLineEnd h.unread.text
 line_ends h l r is =
     end_of_line h.unread.text
     (ap (λ b. b || (text_len h == 0 || is_break (next_char h)))
@@ -261,7 +261,7 @@ end_kind k e = ap is_end e
 -- where one is found, its line ends where the cursor stands
 pub found_end : (o : OptionsData) (stop : Here) (s : StepState) (l : Lexeme) → Led o s
     → read_boundary (cursor_at stop s.reading) s.queue ≡ Some l → l.kind ≡ lexemes.DocumentEnd
-    → is_boundary (cursor_at stop s.reading) l.kind l ≡ true → LineEnds (cursor_at stop s.reading).unread.text
+    → is_boundary (cursor_at stop s.reading) l.kind l ≡ true → IsLineEnd (cursor_at stop s.reading).unread.text
 found_end o stop s l led found kind is =
     line_ends (cursor_at stop s.reading) l
     (cursor_waiting is_end EndRead stop s.reading s.queue l (led_last o s led) found (end_kind l.kind kind)) is

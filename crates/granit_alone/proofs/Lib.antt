@@ -1,4 +1,5 @@
 pub mod AloneLaws
+pub mod AnewLaws
 pub mod CallSteps
 pub mod DropGives
 pub mod EndMarks

@@ -1,9 +1,8 @@
 -- Calls and recoveries count lines from 1.
 use Rattle.std.proofs.Common.{◌≡◌, Bool, true, false, List, [], ◌∷◌, Option, Some, None, Result, Ok, Err}
-use Rattle.std.proofs.Common.{refl, sym, subst, inr}
+use Rattle.std.proofs.Common.{refl, sym, subst}
 use Rattle.std.specs.Prelude.{if◌then◌else◌, is_some}
 use Rattle.granit_alone.proofs.LineReads.{read_counted}
-use Rattle.granit_alone.specs.Behind.{StandsApart}
 use Rattle.granit_alone.specs.Lines.{ComesOnward, CountsAt, LinesCount}
 use Rattle.granit_error.specs.OptionsData.{OptionsData}
 use Rattle.granit_lexemes.specs.Here.{Here}
@@ -18,18 +17,18 @@ use Rattle.granit_machine.specs.Lexing.{FlaggedItem}
 use Rattle.granit_machine.specs.Parser.{feed}
 use Rattle.granit_machine.specs.Reader.{behind_read, lex_turn, read}
 use Rattle.granit_machine.specs.ReaderState.{Read}
-use Rattle.granit_recovery.specs.BoundaryPlace.{place_of}
+use Rattle.granit_recovery.specs.BoundaryPlace.{boundary_place}
 use Rattle.granit_recovery.specs.Streams.{EarlyOf, not_early, turn_early}
 use Rattle.granit_restart.proofs.AheadLaws.{one, OneTurn}
 use Rattle.granit_restart.proofs.BoundaryLaws.{finds_next}
 use Rattle.granit_restart.specs.Boundary.{AtStart, AtTextEnd, Boundary, next_boundary, over_dropped, PastEnd}
 use Rattle.granit_restart.specs.Calls.{Calls, next_call}
-use Rattle.granit_restart.specs.NextBoundary.{Next, next_behind, next_here, Stands, stands_end, stands_start}
-use Rattle.granit_restart.specs.NextBoundary.{stands_text_end}
+use Rattle.granit_restart.specs.NextBoundary.{NextBoundary, next_behind, next_here, BoundaryStands, stands_end}
+use Rattle.granit_restart.specs.NextBoundary.{stands_start, stands_text_end}
 use Rattle.granit_restart.specs.Recovery.{recover}
 use Rattle.granit_restart.specs.Restart.{at_boundary, at_found, at_lexeme, behind_fault, behind_fault_at, cursor_at}
 use Rattle.granit_restart.specs.Restart.{read_boundary}
-use Rattle.granit_restart.specs.Skipping.{Ended, Failed, skip, SkipEnd, Stops, with_pending}
+use Rattle.granit_restart.specs.Skipping.{Ended, Failed, skip_by_turns, SkipEnd, Stops, with_pending}
 use Rattle.granit_shifted.proofs.BoundaryTells.{dropped_counted, IsCounted, mark_counted, step_counted, steps_counted}
 use Rattle.granit_shifted.proofs.BoundaryTells as places
 use Rattle.granit_shifted.proofs.KeptLaws.{next_kept, recover_kept, skip_kept, SkipKept}
@@ -104,17 +103,17 @@ module _ (o : OptionsData) where
 
 -- ---- a restart
 
-stands_counts : (h : Here) (b : Boundary) → Stands h b → IsCounted h → IsCounted (place_of b)
+stands_counts : (h : Here) (b : Boundary) → BoundaryStands h b → IsCounted h → IsCounted (boundary_place b)
 stands_counts h b (stands_start behind column text separated) q = q
 stands_counts h b (stands_end line behind column text separated finishes ends) q =
     steps_counted _ (steps 3 h) (steps_counted 3 h q)
 stands_counts h b (stands_text_end text) q = q
 
-next_counts : (h : Here) (b : Boundary) → Next h b → IsCounted h → IsCounted (place_of b)
+next_counts : (h : Here) (b : Boundary) → NextBoundary h b → IsCounted h → IsCounted (boundary_place b)
 next_counts h b (next_here p) q = stands_counts h b p q
 next_counts h b (next_behind none more) q = next_counts (over_dropped h) b more (dropped_counted h q)
 
-boundary_line : (s : StepState) (b : Boundary) → IsCounted (place_of b) → IsLine (at_boundary s b).1
+boundary_line : (s : StepState) (b : Boundary) → IsCounted (boundary_place b) → IsLine (at_boundary s b).1
 boundary_line s (AtStart g) q = steps_counted 3 g q
 boundary_line s (PastEnd g) q = q
 boundary_line s (AtTextEnd g) q = q
@@ -163,13 +162,13 @@ fault_counts o stops s on q =
     let first = on_counts stops.first s on.0 q in
     let t = (behind_fault stops.first s).1 in (
       first,
-      end_counts o stops.second (skip o t) on.1
+      end_counts o stops.second (skip_by_turns o t) on.1
           (skip_kept o IsLine CountsAt (turn_line o) (λ s es l. l) restart_line t
           (restart_line stops.first s first q)),
     )
 
 -- where a document is dropped up to a fault
-pub skip_counts : (o : OptionsData) (s n : StepState) (f : Fault) → skip o s ≡ Failed f n → IsLine s → IsLine n
+pub skip_counts : (o : OptionsData) (s n : StepState) (f : Fault) → skip_by_turns o s ≡ Failed f n → IsLine s → IsLine n
 skip_counts o s n f is q =
     subst (SkipKept o IsLine CountsAt (turn_line o) (λ s es l. l) restart_line) is
     (skip_kept o IsLine CountsAt (turn_line o) (λ s es l. l) restart_line s q)
@@ -183,20 +182,9 @@ stops_count : (o : OptionsData) (stops : Stops) (f : Option Fault) (s : StepStat
     → IsLine s → StopsFit CountsAt o stops f s
 stops_count o stops (Some f) s on q = fault_counts o stops s on q
 stops_count o stops None s on q =
-    drop_counts o stops (skip o s) on
+    drop_counts o stops (skip_by_turns o s) on
     (skip_kept o IsLine CountsAt (turn_line o) (λ s es l. l) restart_line s q)
 
 pub behind_counts : (o : OptionsData) (stops : Stops) (c : Calls) → FitBehind ComesOnward o stops c → LinesCount c
     → FitBehind CountsAt o stops c
 behind_counts o stops c on q = λ going. stops_count o stops c.fault c.steps (on going) q
-
--- where no handle may stay
-end_apart : (o : OptionsData) (stop : Here) (e : SkipEnd) → o.keep_tags ≡ false → EndFits CountsAt stop e
-    → EndFits (StandsApart o) stop e
-end_apart o stop (Ended s) none q = tt
-end_apart o stop (Failed f s) none q = (q, inr none)
-
-pub fault_apart : (o : OptionsData) (stops : Stops) (s : StepState) → o.keep_tags ≡ false
-    → FaultFits CountsAt o stops s → FaultFits (StandsApart o) o stops s
-fault_apart o stops s none q =
-    ((q.0, inr none), end_apart o stops.second (skip o (behind_fault stops.first s).1) none q.1)

@@ -13,10 +13,10 @@ use Rattle.granit_error.specs.OptionsData.{OptionsData}
 use Rattle.granit_lexemes.specs.Outcome.{Fault}
 use Rattle.granit_lexemes.specs.PlainEvent.{PlainEvent}
 use Rattle.granit_recovery.proofs.RecoveryLaws.{first_same}
-use Rattle.granit_recovery.specs.Streams.{Gives}
+use Rattle.granit_recovery.specs.Streams.{CallsGive}
 use Rattle.granit_restart.specs.Calls.{Calls, next_call}
 use Rattle.granit_restart.specs.Recovery.{extra_of, looked_by, recover, recover_with, skipped_by}
-use Rattle.granit_restart.specs.Skipping.{Ended, skip, skipped_to, Stops}
+use Rattle.granit_restart.specs.Skipping.{Ended, skip_by_turns, skipped_to, Stops}
 use Rattle.granit_shifted.specs.Stopping.{looked_at}
 use Rattle.granit_steps.specs.Levels.{IsStream}
 use Rattle.granit_steps.specs.Steps.{StepState}
@@ -24,7 +24,7 @@ use Rattle.granit_steps.specs.Told.{told_of}
 
 module _ (o : OptionsData) (all : List PlainEvent) (f : Option Fault) where
   -- events that were given are of it
-  pub calls_rest : (before es : List PlainEvent) (c d : Calls) → TellsRest o all before f c.steps → Gives o c es d
+  pub calls_rest : (before es : List PlainEvent) (c d : Calls) → TellsRest o all before f c.steps → CallsGive o c es d
       → TellsRest o all (before ++ es) f d.steps
   calls_rest before es c d r gives =
       let t = front o c d es r.more f gives r.left in
@@ -71,7 +71,7 @@ module _ (o : OptionsData) (stops : Stops) (c b d : Calls) (follows : Bool) wher
         subst (TellsRest o all before f) (sym (g.steps ∙ same)) r
 
     -- a document, or what is left of the open one, is dropped
-    pub dropping_rest : (t : StepState) → b.between ≡ false → skip o b.steps ≡ Ended t
+    pub dropping_rest : (t : StepState) → b.between ≡ false → skip_by_turns o b.steps ≡ Ended t
         → (dropped : List PlainEvent) × TellsRest o all (before ++ dropped) f d.steps
     dropping_rest t between ended =
         let g = looked_goes looked is over e in
@@ -79,7 +79,7 @@ module _ (o : OptionsData) (stops : Stops) (c b d : Calls) (follows : Bool) wher
         ap₂ (λ (x : Option Fault) (v : Bool). skipped_by o stops x v b.steps) fault between
         ∙ ap (skipped_to o stops) ended in
         let x = skip_told o b.steps r.more f r.left in
-        let there : end_of (skip o b.steps) ≡ d.steps = ap end_of ended ∙ sym (g.steps ∙ same) in (
+        let there : end_of (skip_by_turns o b.steps) ≡ d.steps = ap end_of ended ∙ sym (g.steps ∙ same) in (
           x.before,
           subst (TellsRest o all (before ++ x.before) f) there
               (record {
@@ -92,7 +92,8 @@ module _ (o : OptionsData) (stops : Stops) (c b d : Calls) (follows : Bool) wher
 -- ---- a text from its start on
 
 module _ (o : OptionsData) (x : List ℕ) (before es : List PlainEvent) (c d : Calls)
-    (r : TellsRest o (told_of o x).0 before (told_of o x).1 c.steps) (goes : IsOpen c) (gives : Gives o c es d) where
+    (r : TellsRest o (told_of o x).0 before (told_of o x).1 c.steps) (goes : IsOpen c)
+    (gives : CallsGive o c es d) where
   rest : TellsRest o (told_of o x).0 (before ++ es) (told_of o x).1 d.steps
   rest = calls_rest o (told_of o x).0 (told_of o x).1 before es c d r gives
 

@@ -10,7 +10,7 @@ use Rattle.granit_lexemes.specs.PlainEvent.{DocumentEnd, EventKind, PlainEvent, 
 use Rattle.granit_restart.proofs.AheadLaws.{turn_next, waits_next}
 use Rattle.granit_restart.specs.Skipping.{Ahead, ahead, ahead_by, AtStreamEnd, BehindDocument, Ended, ends_before}
 use Rattle.granit_restart.specs.Skipping.{Failed}
-use Rattle.granit_restart.specs.Skipping.{NoEnd, skip, skip_ahead, SkipEnd, skip_in, skip_turn, with_pending}
+use Rattle.granit_restart.specs.Skipping.{NoEnd, skip_by_turns, skip_ahead, SkipEnd, skip_in, skip_turn, with_pending}
 use Rattle.granit_shifted.proofs.AloneStates.{gives_from}
 use Rattle.granit_steps.specs.Steps.{step_size, step_turn, StepState, Turn}
 use Rattle.granit_steps.specs.Told.{gives_end, gives_event, gives_fault, GivesEvents}
@@ -135,5 +135,5 @@ module _ (o : OptionsData) where
   in_told (suc n) f all s g = ahead_told n s all f (ahead s.pending) (ahead_are s.pending) (in_told n f) g
 
   pub skip_told : (s : StepState) (all : List PlainEvent) (f : Option Fault) → GivesEvents o s all f
-      → Dropped o all f (end_of (skip o s))
+      → Dropped o all f (end_of (skip_by_turns o s))
   skip_told s all f g = in_told (suc (step_size s)) f all s g

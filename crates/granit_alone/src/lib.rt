@@ -1,4 +1,4 @@
-//! Behind a recovery calls give what the text that is left tells alone.
+//! Behind a recovery calls give what the text that is left tells, alone or behind one that declares handles anew.
 #![tactic(auto)]
 
 mod behind;

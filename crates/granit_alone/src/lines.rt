@@ -1,6 +1,5 @@
 //! Lines count from 1 wherever calls and recoveries lead.
-ghost use Rattle.std.specs.Prelude.{◌≡◌, ◌≤◌, Bool, false};
-ghost use Rattle.granit_alone.specs.Behind.{StandsApart};
+ghost use Rattle.std.specs.Prelude.{◌≤◌, Bool};
 ghost use Rattle.granit_alone.specs.Lines.{ComesOnward, CountsAt, LinesCount};
 ghost use Rattle.granit_error.specs.OptionsData.{OptionsData};
 ghost use Rattle.granit_recovery.specs.Streams.{EarlyOf};
@@ -20,13 +19,10 @@ pub fn lines_count_from_one()
         → FitBehind CountsAt o stops (looked_at o looked c) → LinesCount c → LinesCount (recover o stops looked c).1 }
 {}
 
-/// They count so wherever reading may have come to, and so behind a fault the text that is left may stand for itself
-/// where no handle may stay.
+/// They count so wherever reading may have come to, behind a fault too.
 pub fn refused_reads_stop_where_lines_count()
     ensures stops { (o : OptionsData) (stops : Stops) (c : Calls) → FitBehind ComesOnward o stops c → LinesCount c
         → FitBehind CountsAt o stops c }
     ensures fault { (o : OptionsData) (stops : Stops) (s : StepState) → FaultFits ComesOnward o stops s
         → 1 ≤ s.reading.reader.here.place.line → FaultFits CountsAt o stops s }
-    ensures apart { (o : OptionsData) (stops : Stops) (s : StepState) → o.keep_tags ≡ false
-        → FaultFits CountsAt o stops s → FaultFits (StandsApart o) o stops s }
 {}

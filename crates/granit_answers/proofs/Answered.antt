@@ -2,7 +2,7 @@
 use Rattle.std.proofs.Common.{◌≡◌, ℕ, Bool, true, false, List, [], ◌∷◌, ◌++◌, map, Option, Some, None, Result, Ok, Err}
 use Rattle.std.proofs.Common.{refl, sym, ap, ap₂, ◌∙◌, subst}
 use Rattle.granit_error.specs.OptionsData.{OptionsData}
-use Rattle.granit_agreement.specs.Running.{FairRun, GivesAll}
+use Rattle.granit_agreement.specs.Running.{FairRun, GivesTold}
 use Rattle.granit_agreement.specs.View.{item_of}
 use Rattle.granit_language.specs.Seen.{Flagged, terminal_seen, terminal_of, lexemes_flagged, read_lexemes, terminals_of}
 use Rattle.granit_agreement.proofs.Parsed.{parsed_events, readings_parsed}
@@ -23,7 +23,7 @@ use Rattle.granit_machine.specs.Frames.{ParserState, parser_start}
 use Rattle.granit_machine.specs.Laid.{Laid}
 use Rattle.granit_machine.specs.Lexing.{FlaggedItem, Flagging, is_nearest, flag_lexeme, flag_item, flagging, flagged}
 use Rattle.granit_machine.specs.Lexing.{lex}
-use Rattle.granit_machine.specs.Machine.{asked_items, feed_all, is_settled, front_if, settled, answered, run}
+use Rattle.granit_machine.specs.Machine.{asked_items, feed_all, is_settled, front_if, settled, run_answer, run}
 use Rattle.granit_machine.specs.Reader.{LexState, is_end_kind, is_end}
 use Rattle.granit_machine.specs.ReaderState.{reader_start}
 use Rattle.granit_reading.proofs.ReadingLaw.{lexed, lex_answers}
@@ -146,7 +146,7 @@ module _ (o : OptionsData) (x : List ℕ) where
       Bare ≡ Shown (Fed items)
   bare_is items t e f =
       ap (λ (r : Result Lexed Fault). r >>= answer_to o false (mark_of (start_of x))) e
-      ∙ ap (λ fault. answered o (mark_of (start_of x)) (asked_items false (flagged items)) t.reader.laid fault) f
+      ∙ ap (λ fault. run_answer o (mark_of (start_of x)) (asked_items false (flagged items)) t.reader.laid fault) f
       ∙ ap (λ (is : List FlaggedItem). Shown (feed_all o is (parser_start (mark_of (start_of x)))))
       (asked_are (flagged items))
 
@@ -179,7 +179,8 @@ module _ (o : OptionsData) (x : List ℕ) where
       never_ok (feed_all o (settled t.reader.laid (asked_items false (flagged items)))
       (parser_start (mark_of (start_of x)))) f es
       (sym (ap (λ (r : Result Lexed Fault). r >>= answer_to o false (mark_of (start_of x))) e
-      ∙ ap (λ fault. answered o (mark_of (start_of x)) (asked_items false (flagged items)) t.reader.laid fault) g) ∙ r)
+      ∙ ap (λ fault. run_answer o (mark_of (start_of x)) (asked_items false (flagged items))
+      t.reader.laid fault) g) ∙ r)
 
   -- the answer where comments aren't asked for, and what it is read as
   pub record BareReading (es : List PlainEvent) : Type 0 where
@@ -226,7 +227,7 @@ module _ (o : OptionsData) (x : List ℕ) where
   pub bare_reads : (es : List PlainEvent) → Bare ≡ Ok es → BareReading es
   bare_reads es r = read_or es r (lex o (start_of x)) refl
 
-  given_all : (es : List TreeEvent) (r : Result (List PlainEvent × ParserState) Fault) → GivesAll o es r →
+  given_all : (es : List TreeEvent) (r : Result (List PlainEvent × ParserState) Fault) → GivesTold o es r →
       Shown r ≡ Ok (events_told o es)
   given_all es (Ok y) p = ap (λ gs. Ok gs) (sym p)
   given_all es (Err f) p = absurd p

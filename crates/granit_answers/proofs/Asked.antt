@@ -14,7 +14,7 @@ use Rattle.granit_lexemes.specs.Outcome.{Fault, ◌>>=◌}
 use Rattle.granit_lexemes.specs.PlainEvent.{PlainEvent, StreamStart, event_on}
 use Rattle.granit_machine.specs.Frames.{ParserState}
 use Rattle.granit_machine.specs.Lexing.{FlaggedItem, flagged, lex}
-use Rattle.granit_machine.specs.Machine.{asked_items, feed_all, settled, answered, run}
+use Rattle.granit_machine.specs.Machine.{asked_items, feed_all, settled, run_answer, run}
 use Rattle.granit_machine.specs.Reader.{LexState}
 use Rattle.granit_answers.proofs.Answered.{Bare, bare_run, Shown}
 use Rattle.granit_answers.proofs.RowsTold.{Start, told_of, told_none}
@@ -60,24 +60,24 @@ module _ (o : OptionsData) (x : List ℕ) where
     pub asked_to_end : t.fault ≡ None → Asked ≡ Shown o x (feed_all o (flagged items) (Start o x))
     asked_to_end f =
         ap (λ (r : Result Lexed Fault). r >>= answer_to o true (mark_of (start_of x))) e
-        ∙ ap (λ fault. answered o (mark_of (start_of x)) (flagged items) t.reader.laid fault) f
+        ∙ ap (λ fault. run_answer o (mark_of (start_of x)) (flagged items) t.reader.laid fault) f
 
     pub asked_stopped : (g : Fault) → t.fault ≡ Some g →
         Asked ≡ failed g (feed_all o (settled t.reader.laid (flagged items)) (Start o x))
     asked_stopped g f =
         ap (λ (r : Result Lexed Fault). r >>= answer_to o true (mark_of (start_of x))) e
-        ∙ ap (λ fault. answered o (mark_of (start_of x)) (flagged items) t.reader.laid fault) f
+        ∙ ap (λ fault. run_answer o (mark_of (start_of x)) (flagged items) t.reader.laid fault) f
 
     pub bare_to_end : t.fault ≡ None → Bare o x ≡ Shown o x (feed_all o (asked_items false (flagged items)) (Start o x))
     bare_to_end f =
         ap (λ (r : Result Lexed Fault). r >>= answer_to o false (mark_of (start_of x))) e
-        ∙ ap (λ fault. answered o (mark_of (start_of x)) (asked_items false (flagged items)) t.reader.laid fault) f
+        ∙ ap (λ fault. run_answer o (mark_of (start_of x)) (asked_items false (flagged items)) t.reader.laid fault) f
 
     pub bare_failed : (g : Fault) → t.fault ≡ Some g →
         Bare o x ≡ failed g (feed_all o (asked_items false (settled t.reader.laid (flagged items))) (Start o x))
     bare_failed g f =
         ap (λ (r : Result Lexed Fault). r >>= answer_to o false (mark_of (start_of x))) e
-        ∙ ap (λ fault. answered o (mark_of (start_of x)) (asked_items false (flagged items)) t.reader.laid fault) f
+        ∙ ap (λ fault. run_answer o (mark_of (start_of x)) (asked_items false (flagged items)) t.reader.laid fault) f
         ∙ ap (λ (is : List FlaggedItem). failed g (feed_all o is (Start o x)))
         (settled_asked t.reader.laid (flagged items))
 

@@ -22,7 +22,7 @@ use Rattle.granit_lexemes.specs.PlainEvent.{PlainEvent}
 use Rattle.granit_machine.specs.Frames.{ParserState, parser_start}
 use Rattle.granit_machine.specs.Laid.{Laid}
 use Rattle.granit_machine.specs.Lexing.{FlaggedItem, flagged, lex}
-use Rattle.granit_machine.specs.Machine.{asked_items, feed_all, settled, answered, run}
+use Rattle.granit_machine.specs.Machine.{asked_items, feed_all, settled, run_answer, run}
 use Rattle.granit_machine.specs.PossibleKeys.{is_possible}
 use Rattle.granit_machine.specs.Reader.{read, LexState}
 use Rattle.granit_machine.specs.ReaderState.{ReaderState, reader_start}
@@ -78,7 +78,7 @@ module _ (o : OptionsData) (x : List ℕ) where
       t.fault ≡ Some g → Bare o x ≡ (Given (settled_front t.reader.laid (read_lexemes items)) >>= λ y. Err g)
   bare_stopped items t g e f =
       ap (λ (r : Result Lexed Fault). r >>= answer_to o false (mark_of (start_of x))) e
-      ∙ ap (λ fault. answered o (mark_of (start_of x)) (asked_items false (flagged items)) t.reader.laid fault) f
+      ∙ ap (λ fault. run_answer o (mark_of (start_of x)) (asked_items false (flagged items)) t.reader.laid fault) f
       ∙ ap (λ (is : List FlaggedItem). feed_all o is (parser_start (mark_of (start_of x))) >>= λ y. Err g)
       (ap (settled t.reader.laid) (asked_are (flagged items)) ∙ settled_are t.reader.laid (read_lexemes items))
 

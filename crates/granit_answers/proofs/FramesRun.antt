@@ -6,7 +6,7 @@ use Rattle.std.proofs.lemmas.Bool.Decides.{nat_tests}
 use Rattle.granit_error.specs.OptionsData.{OptionsData}
 use Rattle.granit_agreement.specs.Fair.{frame_ends_at}
 use Rattle.granit_agreement.specs.Good.{Good}
-use Rattle.granit_agreement.specs.Running.{ComesTo, FairNext, Knows, NextView, Seen}
+use Rattle.granit_agreement.specs.Running.{ComesTo, FairNext, Knows, NextView, ParserSeen}
 use Rattle.granit_agreement.specs.Stepping.{at_kind, taken}
 use Rattle.granit_agreement.specs.View.{Beside, frames_of, item_of, state_of}
 use Rattle.granit_agreement.proofs.Closes.{close_agrees}
@@ -183,7 +183,7 @@ abbrev Shows : EventState → ParserState → Type 0
 Shows IsEnded p = block_columns p.frames ≡ []
 Shows st p = Unit {0}
 
-state_counted : (o : OptionsData) (st : EventState) (d : Beside) (p : ParserState) → Seen o st p d → Shows st p
+state_counted : (o : OptionsData) (st : EventState) (d : Beside) (p : ParserState) → ParserSeen o st p d → Shows st p
     → block_columns p.frames ≡ map one_less (state_columns st)
 state_counted o IsFresh d p e h = ap (λ (p : ParserState). block_columns p.frames) e
 state_counted o (HasDirectives v) d p e h = ap (λ (p : ParserState). block_columns p.frames) e
@@ -324,7 +324,7 @@ module _ (o : OptionsData) (z : Aim) where
       (p : ParserState) (gs : List PlainEvent) (q : ParserState) →
       ComesTo st → Knows o st s d → nat_le (state_count st) o.block_nesting_limit ≡ true → d.given ≡ []
       → (Suits bs due may st ⊎ ((st ≡ IsEnded) × (fs ≡ []))) → Stands st due cs →
-      OrderedFrom fs s bs due may → KeysTo z fs s bs due cs → Seen o st p d → Shows st p
+      OrderedFrom fs s bs due may → KeysTo z fs s bs due cs → ParserSeen o st p d → Shows st p
       → feed_all o (map item_of fs) p ≡ Ok (gs, q) → LandsAt z (due_along fs s bs due) q
 
   unfront : (es gs : List PlainEvent) (q : ParserState) (r : Result (List PlainEvent × ParserState) Fault)
@@ -397,7 +397,7 @@ module _ (o : OptionsData) (z : Aim) where
             (end_frames o f.1 s f.0 f.0.key st d p)
 
   none_fed : (s : Scope) (bs : List Bracket) (due : Option ℕ) (cs : List ℕ) (st : EventState) (d : Beside)
-      (p : ParserState) (gs : List PlainEvent) (q : ParserState) → Stands st due cs → z bs due cs → Seen o st p d
+      (p : ParserState) (gs : List PlainEvent) (q : ParserState) → Stands st due cs → z bs due cs → ParserSeen o st p d
       → Shows st p → ◌≡◌ {A = Result (List PlainEvent × ParserState) Fault} (Ok ([], p)) (Ok (gs, q)) → LandsAt z due q
   none_fed s bs due cs st d p gs q stands says seen shows e =
       let f : p ≡ q = ap (state_or p) e in

@@ -3,7 +3,7 @@ use Rattle.std.specs.Prelude.{◌≡◌, List, [], ◌∷◌, ◌++◌, map}
 use Rattle.granit_base.specs.Place.{Mark}
 use Rattle.granit_error.specs.OptionsData.{OptionsData}
 use Rattle.granit_invariants.specs.CommentEvents.{comment_events, only_comments}
-use Rattle.granit_invariants.specs.CommentPlaces.{Begun}
+use Rattle.granit_invariants.specs.CommentPlaces.{SequenceStarted}
 use Rattle.granit_invariants.specs.Quiet.{but_comments}
 use Rattle.granit_language.specs.Awaiting.{WaitsIn}
 use Rattle.granit_language.specs.Node.{NoProperties}
@@ -27,7 +27,7 @@ pub data InFrontOf (o : OptionsData) (xs : List Terminal) (behind_dash : Type 0)
       ToldBefore o xs (Want hole NoProperties) given → WaitsIn hole → EmptyAt hole m →
       told ≡ given ++ (null_at m ∷ []) → InFrontOf o xs behind_dash told
   before_start :
-      {told : List PlainEvent} (place : OpenPlace) (begun : List PlainEvent) → behind_dash → Begun begun →
+      {told : List PlainEvent} (place : OpenPlace) (begun : List PlainEvent) → behind_dash → SequenceStarted begun →
       ToldBefore o xs place (told ++ begun) → InFrontOf o xs behind_dash told
 
 -- A comment's event stands among these behind the events of the items up to it, and in front of the comments of the

@@ -7,16 +7,16 @@ use Rattle.std.specs.declared.ops.Range.{Range}
 use Rattle.granit_base.specs.Place.{Mark}
 use Rattle.granit_base.specs.declared.place.Span.{Span}
 
-abbrev pub with_offset : ℕ → ℕ → ℕ → Option ℕ → Option Mark
-with_offset index line column o = Some (record {
+abbrev pub mark_with_offset : ℕ → ℕ → ℕ → Option ℕ → Option Mark
+mark_with_offset index line column o = Some (record {
   place = record { index = index; line = line; column = column };
   byte_offset = o;
 })
 
 -- the byte offset, where one is told, goes up by as much as the index
 abbrev pub offset_moved : ℕ → ℕ → ℕ → ℕ → Option ℕ → Option Mark
-offset_moved count index line column None = with_offset index line column None
-offset_moved count index line column (Some o) = if nat_lt (o + count) (2 ^ 64) then with_offset index line column
+offset_moved count index line column None = mark_with_offset index line column None
+offset_moved count index line column (Some o) = if nat_lt (o + count) (2 ^ 64) then mark_with_offset index line column
     (Some (o + count)) else None
 
 -- the place so many characters of one byte further right on its line, where each number fits 64 bits

@@ -22,7 +22,8 @@ use Rattle.granit_reading.proofs.ReadingLaw.{lexed}
 use Rattle.granit_reading.proofs.Telling.{telling}
 use Rattle.granit_reading.proofs.WholeLaw.{all_read_whole}
 use Rattle.granit_before.proofs.StillSaid.{still_said}
-use Rattle.granit_before.specs.Certain.{NoneMay, FirstMay, CertainFront, ItemMay, NoItemMay, FirstItemMay, ToldBefore}
+use Rattle.granit_before.specs.Certain.{NoneMay, FirstMay, CertainFront, ItemMay, NoItemMay, FirstItemMay}
+use Rattle.granit_before.specs.Certain.{ToldBeforeFault}
 use Rattle.granit_before.specs.StillBegins.{StillBegins}
 
 -- ---- the end isn't among what stands before a place from which nothing is read
@@ -141,7 +142,7 @@ module _ (l : Laid) (May : ℕ → Type 0) (d : (n : ℕ) → Decides (is_possib
 module _ (ended : Bool) (l : Laid) (May : ℕ → Type 0)
     (d : ended ≡ false → (n : ℕ) → Decides (is_possible n l) (May n)) where
   pub told_before : {items front : List FlaggedItem} → ItemsBefore ended l items front →
-      ToldBefore ended May items front
+      ToldBeforeFault ended May items front
   told_before {front = front} b = record {
     more = b.more;
     is = b.is;
@@ -150,7 +151,7 @@ module _ (ended : Bool) (l : Laid) (May : ℕ → Type 0)
         λ e. (no_item_may l May (d e) front (b.settled e).0, first_item_may l May (d e) b.more (b.settled e).1);
   }
 
-  pub items_before : {items front : List FlaggedItem} → ToldBefore ended May items front →
+  pub items_before : {items front : List FlaggedItem} → ToldBeforeFault ended May items front →
       ItemsBefore ended l items front
   items_before {front = front} b = record {
     more = b.more;

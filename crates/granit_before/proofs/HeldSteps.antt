@@ -25,7 +25,7 @@ use Rattle.granit_reading.proofs.Moving.{left_open}
 use Rattle.granit_reading.proofs.Telling.{SaysOf, Agrees}
 use Rattle.granit_before.proofs.HeldLow.{low_decided, required_decided}
 use Rattle.granit_before.proofs.Numbered.{ends_short}
-use Rattle.granit_before.specs.HeldKeys.{EndsIn, all_of_it, behind_one, Properties, none_yet, one_more, StandsLow}
+use Rattle.granit_before.specs.HeldKeys.{EndsIn, all_of_it, behind_one, PropertiesAlone, none_yet, one_more, StandsLow}
 use Rattle.granit_before.specs.HeldKeys.{IsLow, KeySays, HeldSays, EachSays, keys_in, keys_of}
 use Rattle.granit_before.specs.Tabs.{is_property_kind}
 
@@ -59,12 +59,12 @@ no_end ls x e = let p = ends_short e in omega (arith, p)
 no_self : (ls : List Lexeme) (x : Lexeme) → x ∷ ls ≡ ls → ⊥
 no_self ls x e = let q : suc (length ls) ≡ length ls = ap length e in omega (arith, q)
 
-prop_ends : {xs ys : List Lexeme} → Properties xs ys → EndsIn xs ys
+prop_ends : {xs ys : List Lexeme} → PropertiesAlone xs ys → EndsIn xs ys
 prop_ends none_yet = all_of_it
 prop_ends (one_more e p) = behind_one (prop_ends p)
 
-prop_parts : (ls : List Lexeme) (x : Lexeme) (rest : List Lexeme) → Properties (x ∷ ls) rest →
-    (x ∷ ls ≡ rest) ⊎ ((is_property_kind x.kind ≡ true) × Properties ls rest)
+prop_parts : (ls : List Lexeme) (x : Lexeme) (rest : List Lexeme) → PropertiesAlone (x ∷ ls) rest →
+    (x ∷ ls ≡ rest) ⊎ ((is_property_kind x.kind ≡ true) × PropertiesAlone ls rest)
 prop_parts ls x rest none_yet = inl refl
 prop_parts ls x rest (one_more e p) = inr (e, p)
 
@@ -74,10 +74,10 @@ module _ (ls : List Lexeme) (x : Lexeme) (rest : List Lexeme) where
   ends_parts y before all_of_it = inl (refl, refl)
   ends_parts y before (behind_one e) = inr e
 
-  low_parts : IsLow (x ∷ ls) rest → (Properties ls rest × StandsLow ls x) ⊎ IsLow ls rest
+  low_parts : IsLow (x ∷ ls) rest → (PropertiesAlone ls rest × StandsLow ls x) ⊎ IsLow ls rest
   low_parts p = elim (ends_parts p.lexeme p.before p.ends) [
     | inl q ↦ inl (
-      subst (λ (ls : List Lexeme). Properties ls rest) (sym q.1) p.heads,
+      subst (λ (ls : List Lexeme). PropertiesAlone ls rest) (sym q.1) p.heads,
       subst (λ (ls : List Lexeme). StandsLow ls x) (sym q.1)
           (subst (StandsLow p.before) (sym q.0) p.stands),
     )
@@ -99,7 +99,7 @@ module _ (ls : List Lexeme) (x : Lexeme) (rest : List Lexeme) where
     stands = p.stands;
   }
 
-  low_here : Properties ls rest → StandsLow ls x → IsLow (x ∷ ls) rest
+  low_here : PropertiesAlone ls rest → StandsLow ls x → IsLow (x ∷ ls) rest
   low_here p s = record { lexeme = x; before = ls; ends = all_of_it; heads = p; stands = s }
 
 no_head : (v : Bool) {P : Type 0} → Decides v P → v ≡ false → P → ⊥
@@ -165,7 +165,7 @@ module _ (ls : List Lexeme) (l : Laid) (said : ColumnsSay ls l) (number : l.numb
     );
   }
     where
-      by : (Properties ls ls × StandsLow ls x) ⊎ IsLow ls ls → StandsLow ls x
+      by : (PropertiesAlone ls ls × StandsLow ls x) ⊎ IsLow ls ls → StandsLow ls x
       by (inl q) = q.1
       by (inr q) = absurd (let p = ends_short q.ends in let r = ends_short (prop_ends q.heads) in omega (arith, p, r))
 

@@ -29,7 +29,7 @@ use Rattle.granit_before.proofs.TabsColumns.{Widths, pop_widths}
 use Rattle.granit_before.proofs.TabsInnermost.{columns_in}
 use Rattle.granit_before.proofs.TabsLeft.{gap_tabs, run_tabs, front_flow}
 use Rattle.granit_before.proofs.TabsWhole.{tabs_said}
-use Rattle.granit_before.specs.ScalarLayout.{InnermostStays, NoneStays, BlockIs, at_root, in_block}
+use Rattle.granit_before.specs.ScalarLayout.{InnermostStays, NoColumnStays, BlockIs, at_root, in_block}
 use Rattle.granit_before.specs.ScalarLayout.{NoTabInColumn, TabsRefused, nowhere, left_of, and_in, ScalarLayout}
 
 columns_as : (ls : List Lexeme) {l m : Laid} → m.columns ≡ l.columns → ColumnsSay ls l → ColumnsSay ls m
@@ -69,7 +69,7 @@ module _ (o : OptionsData) (text : List ℕ) (ls : List Lexeme) (l : Laid) (said
         (subst (Has d) (ap columns_in e) (is_kept_here ls l said h x start flow outer d p.0 p.1)));
   }
 
-  none_stays : m.columns ≡ [] → NoneStays ls x
+  none_stays : m.columns ≡ [] → NoColumnStays ls x
   none_stays e c p = subst (Has c) (ap columns_in e) (is_kept_here ls l said h x start flow outer c p.0 p.1)
 
   wide_decided : (c : OpenColumn) (cs : List OpenColumn) → m.columns ≡ c ∷ cs →

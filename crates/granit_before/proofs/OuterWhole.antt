@@ -8,7 +8,7 @@ use Rattle.granit_base.specs.Place.{Mark}
 use Rattle.granit_error.specs.OptionsData.{OptionsData}
 use Rattle.granit_language.specs.Before.{freshened, closed_for}
 use Rattle.granit_language.specs.Fitting.{Opens}
-use Rattle.granit_language.specs.HeldSaid.{Holds, Lead, Pending, Around, Depths, RunsSay, has_ended}
+use Rattle.granit_language.specs.HeldSaid.{HeldKeySays, Lead, Pending, KeysAround, Depths, RunsSay, has_ended}
 use Rattle.granit_language.specs.KeyRuns.{role, whole_none, too_far}
 use Rattle.granit_language.specs.OpenColumns.{latest}
 use Rattle.granit_language.specs.Reached.{ends_column_by, Reads, of_comment, of_lexeme, Reached, stops, goes_on}
@@ -104,7 +104,7 @@ module _ (o : OptionsData) (text : List ℕ) (h : Here) (x : Lexeme) (start : x.
       on false false f e = absurd cc
 
   first_kept : (m : Mark) → m.place.line ≡ h.place.line → (first : Lexeme) (rest : List Lexeme)
-      (key : Option PossibleKey) → IsNear o false (mark_of h) key → Holds o text false m key first rest →
+      (key : Option PossibleKey) → IsNear o false (mark_of h) key → HeldKeySays o text false m key first rest →
       Kept o text m x first rest key
   first_kept m line first rest None n p = λ y. far_or_later first m line (p y)
   first_kept m line first rest (Some k) n p =
@@ -179,7 +179,7 @@ module _ (o : OptionsData) (text : List ℕ) where
 
       only : (cs : List OpenBracket) → map opener_of (map (fresh_bracket o (mark_of reached)) cs) ≡ [] →
           role x ≡ Opens → openers ls ≡ [] →
-          Around o text (mark_of reached) (x ∷ ls) (map (fresh_bracket o (mark_of reached)) cs)
+          KeysAround o text (mark_of reached) (x ∷ ls) (map (fresh_bracket o (mark_of reached)) cs)
           (fresh_key o true (mark_of reached) after.key) →
           OuterKey o text (mark_of reached) (x ∷ ls) (fresh_key o true (mark_of reached) after.key)
       only [] g r none p =

@@ -7,8 +7,8 @@ use Rattle.std.proofs.lemmas.Bool.Decides.{nat_tests}
 use Rattle.granit_base.specs.Place.{Mark}
 use Rattle.granit_error.specs.OptionsData.{OptionsData}
 use Rattle.granit_language.specs.Fitting.{Opens}
-use Rattle.granit_language.specs.HeldSaid.{Holds, Now, no_run_now, run_now, Lead, lead_begins, lead_joins, Pending}
-use Rattle.granit_language.specs.HeldSaid.{Around, Depths, has_ended}
+use Rattle.granit_language.specs.HeldSaid.{HeldKeySays, Now, no_run_now, run_now, Lead, lead_begins, lead_joins}
+use Rattle.granit_language.specs.HeldSaid.{Pending, KeysAround, Depths, has_ended}
 use Rattle.granit_language.specs.KeyRuns.{role, WholeBrackets, joins_run, BeginsRun, Run, MayBeKey, too_far}
 use Rattle.granit_language.specs.OpenColumns.{latest}
 use Rattle.granit_language.specs.Reached.{Reached}
@@ -27,7 +27,7 @@ use Rattle.granit_before.proofs.HeldWhole.{opener_of}
 use Rattle.granit_before.proofs.OuterKey.{Kept, OuterKey, OuterSays, since_is, since_out}
 use Rattle.granit_before.proofs.OuterWhole.{IsNear, EachNear, along}
 use Rattle.granit_before.specs.Openers.{Opener, openers}
-use Rattle.granit_before.specs.StillBegins.{Encloses, WaitsHere, WaitsAround, WaitsOutside, around_innermost}
+use Rattle.granit_before.specs.StillBegins.{IsInnermostBracket, WaitsHere, WaitsAround, WaitsOutside, around_innermost}
 use Rattle.granit_before.specs.StillBegins.{further_out}
 use Rattle.granit_before.specs.StillBegins.{StillBegins}
 
@@ -171,7 +171,7 @@ module _ (o : OptionsData) (text : List ℕ) (m : Mark) where
       absurd (let z = sym (ap (is_of n) e) ∙ y in cc)
   now_still f ls key n flow near (run_now {first = first} {rest = rest} r h) y =
       let s = key_of_number n key y in
-      let held = subst (λ key. Holds o text f m key first rest) s.1 h in
+      let held = subst (λ key. HeldKeySays o text f m key first rest) s.1 h in
       record {
         first = first;
         rest = rest;
@@ -191,7 +191,7 @@ module _ (o : OptionsData) (text : List ℕ) (m : Mark) where
       is_of n key ≡ true → Out n ls
   pending_out f ls key n p flow near line y =
       let s = key_of_number n key y in
-      let held = subst (λ key. Holds o text f m key p.leads.first p.leads.rest) s.1 p.leads.holds in (
+      let held = subst (λ key. HeldKeySays o text f m key p.leads.first p.leads.rest) s.1 p.leads.holds in (
         p.leads.first,
         p.leads.rest,
         around_innermost (record { whole = p.whole; opens = p.opens }) (record {
@@ -205,7 +205,7 @@ module _ (o : OptionsData) (text : List ℕ) (m : Mark) where
 
   around_still : (ls : List Lexeme) (bs : List OpenBracket) (key : Option PossibleKey) (n : ℕ) (b : Opener) →
       AllFlow ls → openers ls ≡ b ∷ map opener_of bs → IsNear o true m key → EachNear o m bs →
-      OuterKey o text m ls key → Around o text m ls bs key → OneOf n key bs ≡ true → Out n ls
+      OuterKey o text m ls key → KeysAround o text m ls bs key → OneOf n key bs ≡ true → Out n ls
   around_still ls [] key n b a e near each j p y =
       pending_out false ls key n p (pending_flow false b [] key p a e) near
       (λ k f g. (subst (Kept o text m p.opener p.leads.first p.leads.rest) f
@@ -250,7 +250,7 @@ module _ (o : OptionsData) (text : List ℕ) (m : Mark) where
   -- ---- what may still begin is held
 
   holds_number : (f : Bool) (first : Lexeme) (rest : List Lexeme) (key : Option PossibleKey) →
-      Holds o text f m key first rest → (key ≡ None → ⊥) → is_of first.number key ≡ true
+      HeldKeySays o text f m key first rest → (key ≡ None → ⊥) → is_of first.number key ≡ true
   holds_number f first rest None h n = absurd (n refl)
   holds_number f first rest (Some k) h n = number_same k.number first.number h.0
 
@@ -262,16 +262,18 @@ module _ (o : OptionsData) (text : List ℕ) (m : Mark) where
   still_now f ls key first rest flow w (no_run_now r e) = absurd (none_ends r w.run)
   still_now f ls key first rest flow w (run_now {first = x} {rest = ys} r h) =
       let same = run_once r w.run in
-      let held = subst (λ (ys : List Lexeme). Holds o text f m key first ys) same.1
-      (subst (λ (x : Lexeme). Holds o text f m key x ys) same.0 h) in
+      let held = subst (λ (ys : List Lexeme). HeldKeySays o text f m key first ys) same.1
+      (subst (λ (x : Lexeme). HeldKeySays o text f m key x ys) same.0 h) in
       holds_number f first rest key held
       (λ e. never (too_far o f first.start m)
-      (none_as (λ key. Holds o text f m key first rest) held e (may_as first.in_flow f first rest (sym flow) w.may))
+      (none_as (λ key. HeldKeySays o text f m key first rest) held e
+      (may_as first.in_flow f first rest (sym flow) w.may))
       (subst (λ f. too_far o f first.start m ≡ false) flow w.near))
 
   -- a bracket's run in the words of what is held
   waits_there : (f : Bool) {ls before rest : List Lexeme} {opener first : Lexeme} (key : Option PossibleKey)
-      (p : Pending o text f m ls key) → Encloses opener before ls → WaitsAround o text m opener before first rest →
+      (p : Pending o text f m ls key) → IsInnermostBracket opener before ls →
+      WaitsAround o text m opener before first rest →
       WaitsAround o text m p.opener p.before p.leads.first p.leads.rest × (first ≡ p.leads.first)
   waits_there f {before = before} {rest = rest} {first = first} key p e w =
       let same = whole_once e.whole e.opens p.whole p.opens in
@@ -286,11 +288,11 @@ module _ (o : OptionsData) (text : List ℕ) (m : Mark) where
   outside_open : {ls rest : List Lexeme} {first : Lexeme} → WaitsOutside o text m first rest ls → openers ls ≡ [] → ⊥
   outside_open (around_innermost {opener = x} {before = ys} e w) n = closed x ys e n
     where
-      closed : (x : Lexeme) (ys : List Lexeme) {ls : List Lexeme} → Encloses x ys ls → openers ls ≡ [] → ⊥
+      closed : (x : Lexeme) (ys : List Lexeme) {ls : List Lexeme} → IsInnermostBracket x ys ls → openers ls ≡ [] → ⊥
       closed x ys e n = let p = opens_one x ys e.opens in let z = sym p.1 ∙ (sym (whole_openers e.whole) ∙ n) in cc
   outside_open (further_out {opener = x} {before = ys} e w) n = closed x ys e n
     where
-      closed : (x : Lexeme) (ys : List Lexeme) {ls : List Lexeme} → Encloses x ys ls → openers ls ≡ [] → ⊥
+      closed : (x : Lexeme) (ys : List Lexeme) {ls : List Lexeme} → IsInnermostBracket x ys ls → openers ls ≡ [] → ⊥
       closed x ys e n = let p = opens_one x ys e.opens in let z = sym p.1 ∙ (sym (whole_openers e.whole) ∙ n) in cc
 
   not_less : (a b : ℕ) → a ≤ b → b < a → ⊥
@@ -299,7 +301,8 @@ module _ (o : OptionsData) (text : List ℕ) (m : Mark) where
   -- outside all brackets
   still_outermost : {ls before rest : List Lexeme} {opener first : Lexeme} (b : Opener) (key : Option PossibleKey) →
       AllFlow ls → openers ls ≡ b ∷ [] → OuterKey o text m ls key → Pending o text false m ls key →
-      Encloses opener before ls → WaitsAround o text m opener before first rest → is_of first.number key ≡ true
+      IsInnermostBracket opener before ls → WaitsAround o text m opener before first rest →
+      is_of first.number key ≡ true
   still_outermost b key a e j p c w =
       let v = waits_there false key p c w in
       let flow = pending_flow false b [] key p a e in
@@ -318,7 +321,8 @@ module _ (o : OptionsData) (text : List ℕ) (m : Mark) where
 
   still_inner : {ls before rest : List Lexeme} {opener first : Lexeme} (b : Opener) (c : OpenBracket)
       (bs : List OpenBracket) (key : Option PossibleKey) → AllFlow ls → openers ls ≡ b ∷ map opener_of (c ∷ bs) →
-      Pending o text true m ls key → Encloses opener before ls → WaitsAround o text m opener before first rest →
+      Pending o text true m ls key → IsInnermostBracket opener before ls →
+      WaitsAround o text m opener before first rest →
       is_of first.number key ≡ true
   still_inner b c bs key a e p d w =
       let v = waits_there true key p d w in
@@ -326,12 +330,12 @@ module _ (o : OptionsData) (text : List ℕ) (m : Mark) where
       subst (λ (x : Lexeme). is_of x.number key ≡ true) (sym v.1)
       (holds_number true p.leads.first p.leads.rest key p.leads.holds
       (λ n. never (too_far o true p.leads.first.start m)
-      (none_as (λ key. Holds o text true m key p.leads.first p.leads.rest) p.leads.holds n
+      (none_as (λ key. HeldKeySays o text true m key p.leads.first p.leads.rest) p.leads.holds n
       (may_as p.leads.first.in_flow true p.leads.first p.leads.rest (sym flow) v.0.may)) v.0.near))
 
   still_around : (ls : List Lexeme) (bs : List OpenBracket) (key : Option PossibleKey) (b : Opener) (first : Lexeme)
       (rest : List Lexeme) → AllFlow ls → openers ls ≡ b ∷ map opener_of bs → OuterKey o text m ls key →
-      Around o text m ls bs key → WaitsOutside o text m first rest ls → OneOf first.number key bs ≡ true
+      KeysAround o text m ls bs key → WaitsOutside o text m first rest ls → OneOf first.number key bs ≡ true
   still_around ls [] key b first rest a e j p (around_innermost c w) =
       or_first (is_of first.number key) false (still_outermost b key a e j p c w)
   still_around ls [] key b first rest a e j p (further_out c w) =

@@ -29,16 +29,16 @@ use Rattle.granit_before.proofs.KeyFlags.{flags_said}
 use Rattle.granit_before.proofs.StillSaid.{still_said}
 use Rattle.granit_before.proofs.TabRows.{block_row, key_row}
 use Rattle.granit_before.specs.KeyBegins.{items_of, FlagSays, FlagsSay}
-use Rattle.granit_before.specs.Worked.{Behind, further, behind_read, reads_from, first_reads, first_lexemes, Indents}
-use Rattle.granit_before.specs.Worked.{BeforeKey}
-use Rattle.granit_before.specs.Worked.{item_begins, BeginsIn, items_in, flagged_of, KeyAt, StillKey, CutAt}
+use Rattle.granit_before.specs.Worked.{BehindRead, further, worked_behind, reads_from, first_reads, first_lexemes}
+use Rattle.granit_before.specs.Worked.{Indents, BeforeKey, item_begins, BeginsIn, items_in, flagged_of, KeyAt, StillKey}
+use Rattle.granit_before.specs.Worked.{CutAt}
 
 -- ---- so many reads reach a place
 
-ReachesFrom : ReaderState → Behind → Type 0
+ReachesFrom : ReaderState → BehindRead → Type 0
 ReachesFrom s b = Reached default_options s b.0 b.1
 
-further_reaches : (s : ReaderState) (items : List Item) (after : ReaderState) (on : Behind) →
+further_reaches : (s : ReaderState) (items : List Item) (after : ReaderState) (on : BehindRead) →
     Reads default_options s items after → Reached default_options after on.0 on.1 → (v : Bool) → is_end items ≡ v →
     Reached default_options s (further v items after on).0 (further v items after on).1
 further_reaches s items after on r p true e = goes_on after items [] r (λ t. refl) stops (nothing items)
@@ -48,10 +48,10 @@ further_reaches s items after on r p true e = goes_on after items [] r (λ t. re
 further_reaches s items after on r p false e =
     goes_on after items on.0 r (λ t. absurd (let z = sym e ∙ t in cc)) p refl
 
-read_reaches : (s : ReaderState) (r : Read) (on : ReaderState → Behind) →
+read_reaches : (s : ReaderState) (r : Read) (on : ReaderState → BehindRead) →
     Answers (ReadsBy default_options s) (ReadRefused default_options s) r →
     ((after : ReaderState) → Reached default_options after (on after).0 (on after).1) →
-    Reached default_options s (behind_read s r on).0 (behind_read s r on).1
+    Reached default_options s (worked_behind s r on).0 (worked_behind s r on).1
 read_reaches s (Ok (items, after)) on p more =
     further_reaches s items after (on after) p (more after) (is_end items) refl
 read_reaches s (Err f) on p more = stops

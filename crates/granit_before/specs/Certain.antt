@@ -36,7 +36,7 @@ FirstItemMay May [] = Unit {0}
 FirstItemMay May (i ∷ is) = ItemMay May i.item
 
 -- of all items of a text those that are told before a fault of reading, or all where the text was read to its end
-pub record ToldBefore (ended : Bool) (May : ℕ → Type 0) (items front : List FlaggedItem) : Type 0 where
+pub record ToldBeforeFault (ended : Bool) (May : ℕ → Type 0) (items front : List FlaggedItem) : Type 0 where
   pub more : List FlaggedItem
   pub is : items ≡ front ++ more
   pub all : ended ≡ true → more ≡ []

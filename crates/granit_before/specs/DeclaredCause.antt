@@ -12,7 +12,7 @@ use Rattle.granit_lexemes.specs.Here.{mark_of, start_of}
 use Rattle.granit_lexemes.specs.Outcome.{Fault}
 use Rattle.granit_machine.specs.Lexing.{FlaggedItem}
 use Rattle.granit_machine.specs.ReaderState.{ReaderState, reader_start}
-use Rattle.granit_before.specs.Certain.{CertainFront, ToldBefore}
+use Rattle.granit_before.specs.Certain.{CertainFront, ToldBeforeFault}
 use Rattle.granit_before.specs.KeyBegins.{items_of, FlagsSay}
 use Rattle.granit_before.specs.StillBegins.{StillBegins}
 
@@ -29,7 +29,7 @@ MayBegin o text items s number = StillBegins o text (mark_of s.here) (latest (it
 -- where comments are asked for, none is one too many among what is told of these items
 abbrev pub NoneAmong : OptionsData → (text : List ℕ) → (ended : Bool) → ReaderState → List FlaggedItem → Type 0
 NoneAmong o text ended s items =
-    o.emit_comments ≡ true → (given : List FlaggedItem) → ToldBefore ended (MayBegin o text items s) items given →
+    o.emit_comments ≡ true → (given : List FlaggedItem) → ToldBeforeFault ended (MayBegin o text items s) items given →
     NoneTooMany o given
 
 -- of what is read so far no reading goes on with one lexeme
@@ -64,7 +64,7 @@ pub record CommentsCause (o : OptionsData) (text : List ℕ) (f : Fault) : Type 
   pub ended : Bool
   pub all : AllItems o text items ended state
   pub given : List FlaggedItem
-  pub before : ToldBefore ended (MayBegin o text items state) items given
+  pub before : ToldBeforeFault ended (MayBegin o text items state) items given
   pub front : List FlaggedItem
   pub many : CommentTooMany o given front f
   pub first : NoneTooMany o front

@@ -16,10 +16,10 @@ pub data EndsIn : (xs ys : List Lexeme) → Type 0 where
   behind_one : {x : Lexeme} {xs ys : List Lexeme} → EndsIn xs ys → EndsIn (x ∷ xs) ys
 
 -- properties alone, behind others
-pub data Properties : (xs rest : List Lexeme) → Type 0 where
-  none_yet : {rest : List Lexeme} → Properties rest rest
-  one_more : {x : Lexeme} {xs rest : List Lexeme} → is_property_kind x.kind ≡ true → Properties xs rest →
-      Properties (x ∷ xs) rest
+pub data PropertiesAlone : (xs rest : List Lexeme) → Type 0 where
+  none_yet : {rest : List Lexeme} → PropertiesAlone rest rest
+  one_more : {x : Lexeme} {xs rest : List Lexeme} → is_property_kind x.kind ≡ true → PropertiesAlone xs rest →
+      PropertiesAlone (x ∷ xs) rest
 
 -- ---- a key
 
@@ -35,7 +35,7 @@ pub record IsLow (xs rest : List Lexeme) : Type 0 where
   pub lexeme : Lexeme
   pub before : List Lexeme
   pub ends : EndsIn xs (lexeme ∷ before)
-  pub heads : Properties before rest
+  pub heads : PropertiesAlone before rest
   pub stands : StandsLow before lexeme
 
 -- a key begins with the lexeme of its number: it must have a `:` where that stands in an open column outside flow
@@ -48,7 +48,7 @@ pub record KeySays (xs : List Lexeme) (k : PossibleKey) : Type 0 where
   pub required :
       Decides k.is_required ((first.in_flow ≡ false) × IsOpenColumn rest first.start.place.column)
   pub low : Decides k.is_low (IsLow xs rest)
-  pub head : Decides k.is_head (Properties xs rest)
+  pub head : Decides k.is_head (PropertiesAlone xs rest)
 
 abbrev pub HeldSays : List Lexeme → Option PossibleKey → Type 0
 HeldSays xs None = Unit {0}

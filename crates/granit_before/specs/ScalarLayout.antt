@@ -14,12 +14,12 @@ pub record InnermostStays (before : List Lexeme) (x : Lexeme) (c : ℕ) : Type 0
   pub stays : StaysOpen before x c
   pub innermost : (d : ℕ) → StaysOpen before x d → d ≤ c
 
-abbrev pub NoneStays : List Lexeme → Lexeme → Type 0
-NoneStays before x = (c : ℕ) → StaysOpen before x c → ⊥
+abbrev pub NoColumnStays : List Lexeme → Lexeme → Type 0
+NoColumnStays before x = (c : ℕ) → StaysOpen before x c → ⊥
 
 -- the column of the block collection that a scalar stands in
 pub data BlockIs (before : List Lexeme) (x : Lexeme) : Option ℕ → Type 0 where
-  at_root : NoneStays before x → BlockIs before x None
+  at_root : NoColumnStays before x → BlockIs before x None
   in_block : {c : ℕ} → InnermostStays before x c → BlockIs before x (Some c)
 
 -- No tab of a line that the scalar goes on over may stand in that column either: its entry asks for a node further
@@ -31,7 +31,7 @@ NoTabInColumn o text before x c =
 
 -- the column left of which a tab is refused
 pub data TabsRefused (o : OptionsData) (text : List ℕ) (before : List Lexeme) (x : Lexeme) : ℕ → Type 0 where
-  nowhere : NoneStays before x → TabsRefused o text before x 0
+  nowhere : NoColumnStays before x → TabsRefused o text before x 0
   left_of : {c : ℕ} → InnermostStays before x c → (NoTabInColumn o text before x c → ⊥) → TabsRefused o text before x c
   and_in : {c : ℕ} → InnermostStays before x c → NoTabInColumn o text before x c → TabsRefused o text before x (c + 1)
 

@@ -8,7 +8,7 @@ use Rattle.granit_language.specs.KeyRuns.{role, WholeBrackets, Run, MayBeKey, to
 use Rattle.granit_lexemes.specs.Lexeme.{Lexeme}
 
 -- a bracket is the innermost one that is open behind some lexemes
-pub record Encloses (opener : Lexeme) (before ls : List Lexeme) : Type 0 where
+pub record IsInnermostBracket (opener : Lexeme) (before ls : List Lexeme) : Type 0 where
   pub whole : WholeBrackets ls (opener ∷ before)
   pub opens : role opener ≡ Opens
 
@@ -32,10 +32,10 @@ pub record WaitsAround (o : OptionsData) (text : List ℕ) (m : Mark) (opener : 
 pub data WaitsOutside (o : OptionsData) (text : List ℕ) (m : Mark) (first : Lexeme) (rest : List Lexeme) :
     (ls : List Lexeme) → Type 0 where
   around_innermost :
-      {opener : Lexeme} {before ls : List Lexeme} → Encloses opener before ls →
+      {opener : Lexeme} {before ls : List Lexeme} → IsInnermostBracket opener before ls →
       WaitsAround o text m opener before first rest → WaitsOutside o text m first rest ls
   further_out :
-      {opener : Lexeme} {before ls : List Lexeme} → Encloses opener before ls →
+      {opener : Lexeme} {before ls : List Lexeme} → IsInnermostBracket opener before ls →
       WaitsOutside o text m first rest before → WaitsOutside o text m first rest ls
 
 -- Behind these lexemes, the latest first, and at a place behind them, a simple key may still begin with the lexeme of a

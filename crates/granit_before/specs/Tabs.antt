@@ -94,14 +94,14 @@ is_property_kind (Tag handle suffix) = true
 is_property_kind kind = false
 
 -- where indentation is strict its properties go on with a `?`; behind the end nothing stands
-abbrev pub GoesOn : OptionsData → Lexeme → Type 0
-GoesOn o x = ((o.strict_indentation ≡ true) × (is_property_kind x.kind ≡ true)) ⊎ (x.kind ≡ StreamEnd)
+abbrev pub PropertiesGoOn : OptionsData → Lexeme → Type 0
+PropertiesGoOn o x = ((o.strict_indentation ≡ true) × (is_property_kind x.kind ≡ true)) ⊎ (x.kind ≡ StreamEnd)
 
 -- the latest lexeme is a `?` outside flow, or goes on with one
 abbrev pub BehindQuestionSign : OptionsData → List Lexeme → Type 0
 BehindQuestionSign o [] = ⊥
 BehindQuestionSign o (x ∷ xs) =
-    ((x.kind ≡ Question) × (x.in_flow ≡ false)) ⊎ (GoesOn o x × BehindQuestionSign o xs)
+    ((x.kind ≡ Question) × (x.in_flow ≡ false)) ⊎ (PropertiesGoOn o x × BehindQuestionSign o xs)
 
 -- ---- a tab that begins a line
 

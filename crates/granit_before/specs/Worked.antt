@@ -15,25 +15,25 @@ use Rattle.granit_before.specs.Tabs.{TabIndents, TabBeforeKey}
 
 -- ---- behind at most so many reads
 
-abbrev pub Behind : Type 0
-Behind = List Item × ReaderState
+abbrev pub BehindRead : Type 0
+BehindRead = List Item × ReaderState
 
-abbrev pub joined_to : List Item → Behind → Behind
+abbrev pub joined_to : List Item → BehindRead → BehindRead
 joined_to items b = (items ++ b.0, b.1)
 
-abbrev pub further : Bool → List Item → ReaderState → Behind → Behind
+abbrev pub further : Bool → List Item → ReaderState → BehindRead → BehindRead
 further true items after on = (items, after)
 further false items after on = joined_to items on
 
-abbrev pub behind_read : ReaderState → Read → (ReaderState → Behind) → Behind
-behind_read s (Ok (items, after)) on = further (is_end items) items after (on after)
-behind_read s (Err f) on = ([], s)
+abbrev pub worked_behind : ReaderState → Read → (ReaderState → BehindRead) → BehindRead
+worked_behind s (Ok (items, after)) on = further (is_end items) items after (on after)
+worked_behind s (Err f) on = ([], s)
 
-abbrev pub reads_from : ℕ → ReaderState → Behind
+abbrev pub reads_from : ℕ → ReaderState → BehindRead
 reads_from zero s = ([], s)
-reads_from (suc n) s = behind_read s (read default_options s) (reads_from n)
+reads_from (suc n) s = worked_behind s (read default_options s) (reads_from n)
 
-abbrev pub first_reads : ℕ → List ℕ → Behind
+abbrev pub first_reads : ℕ → List ℕ → BehindRead
 first_reads n text = reads_from n (reader_start (start_of text))
 
 abbrev pub first_lexemes : ℕ → List ℕ → List Lexeme

@@ -5,7 +5,7 @@ use Rattle.std.specs.Prelude.{if◌then◌else◌, slice_index}
 use Rattle.std.proofs.lemmas.Bool.Decides.{nat_tests}
 use Rattle.granit_base.specs.Classes.{is_blank, is_bom, is_break}
 use Rattle.granit_base.specs.Place.{first}
-use Rattle.granit_boundary.specs.Found.{FinishesTo, Within, line_ends}
+use Rattle.granit_boundary.specs.Found.{FinishesTo, Within, line_ends_here}
 use Rattle.granit_cursor.proofs.MoveLemmas.{run_begins}
 use Rattle.granit_input.specs.Looks.{begins_with_3}
 use Rattle.granit_input.specs.Runs.{is_quoted_char, run_length, starts}
@@ -312,51 +312,51 @@ beginning_here h some column bom dashes dots =
 
 -- ---- the line of a `...`
 
-goes_on : (text : List ℕ) → line_ends text ≡ false → ((length text == 0) ≡ false) × (is_break (first text) ≡ false)
+goes_on : (text : List ℕ) → line_ends_here text ≡ false → ((length text == 0) ≡ false) × (is_break (first text) ≡ false)
 goes_on [] e = absurd (cc)
 goes_on (c ∷ cs) e = (not_empty c cs, e)
 
-pub within_line : (h : Here) → line_ends h.unread.text ≡ false → Within h (step h)
+pub within_line : (h : Here) → line_ends_here h.unread.text ≡ false → Within h (step h)
 within_line h e = let g = goes_on h.unread.text e in within_step h g.0 g.1
 
-note_by : (text : List ℕ) (h : Here) → h.unread.text ≡ text → line_ends text ≡ false
+note_by : (text : List ℕ) (h : Here) → h.unread.text ≡ text → line_ends_here text ≡ false
     → is_comment_char (first text) ≡ true → past_note (step h).unread.text (step h) ≡ past_note text h
 note_by [] h is e note = absurd (cc)
 note_by (c ∷ cs) h is e note =
     ap (λ (t : List ℕ). past_note t (step h)) (step_text h ∙ ap (λ (t : List ℕ). drop 1 t) is)
     ∙ sym (ap₂ (λ a b. if a then Some h else if b then past_note cs (step h) else None) e note)
 
-pub note_goes : (h : Here) → line_ends h.unread.text ≡ false → is_comment_char (next_char h) ≡ true
+pub note_goes : (h : Here) → line_ends_here h.unread.text ≡ false → is_comment_char (next_char h) ≡ true
     → past_note (step h).unread.text (step h) ≡ past_note h.unread.text h
 note_goes h e note = note_by h.unread.text h refl e note
 
-note_none : (text : List ℕ) (h : Here) → line_ends text ≡ false → is_comment_char (first text) ≡ false
+note_none : (text : List ℕ) (h : Here) → line_ends_here text ≡ false → is_comment_char (first text) ≡ false
     → past_note text h ≡ None
 note_none [] h e note = absurd (cc)
 note_none (c ∷ cs) h e note =
     ap₂ (λ a b. if a then Some h else if b then past_note cs (step h) else None) e note
 
-pub note_stops : (h : Here) → line_ends h.unread.text ≡ false → is_comment_char (next_char h) ≡ false
+pub note_stops : (h : Here) → line_ends_here h.unread.text ≡ false → is_comment_char (next_char h) ≡ false
     → past_note h.unread.text h ≡ None
 note_stops h e note = note_none h.unread.text h e note
 
-note_end : (text : List ℕ) (h : Here) → line_ends text ≡ true → past_note text h ≡ Some h
+note_end : (text : List ℕ) (h : Here) → line_ends_here text ≡ true → past_note text h ≡ Some h
 note_end [] h e = refl
 note_end (c ∷ cs) h e = ap (λ a. if a then Some h else if is_comment_char c then past_note cs (step h) else None) e
 
-pub note_ends : (h : Here) → line_ends h.unread.text ≡ true → past_note h.unread.text h ≡ Some h
+pub note_ends : (h : Here) → line_ends_here h.unread.text ≡ true → past_note h.unread.text h ≡ Some h
 note_ends h e = note_end h.unread.text h e
 
-line_end : (text : List ℕ) (h : Here) → line_ends text ≡ true → finished_line text h ≡ Some h
+line_end : (text : List ℕ) (h : Here) → line_ends_here text ≡ true → finished_line text h ≡ Some h
 line_end [] h e = refl
 line_end (c ∷ cs) h e =
     ap (λ a. if a then Some h else if is_blank c then finished_line cs (step h)
     else if c == 0x23 then past_note cs (step h) else None) e
 
-pub line_finished : (h : Here) → line_ends h.unread.text ≡ true → finished_line h.unread.text h ≡ Some h
+pub line_finished : (h : Here) → line_ends_here h.unread.text ≡ true → finished_line h.unread.text h ≡ Some h
 line_finished h e = line_end h.unread.text h e
 
-blank_by : (text : List ℕ) (h : Here) → h.unread.text ≡ text → line_ends text ≡ false
+blank_by : (text : List ℕ) (h : Here) → h.unread.text ≡ text → line_ends_here text ≡ false
     → is_blank (first text) ≡ true → finished_line (step h).unread.text (step h) ≡ finished_line text h
 blank_by [] h is e blank = absurd (cc)
 blank_by (c ∷ cs) h is e blank =
@@ -364,7 +364,7 @@ blank_by (c ∷ cs) h is e blank =
     ∙ sym (ap₂ (λ a b. if a then Some h else if b then finished_line cs (step h)
     else if c == 0x23 then past_note cs (step h) else None) e blank)
 
-pub blank_goes : (h : Here) → line_ends h.unread.text ≡ false → is_blank (next_char h) ≡ true
+pub blank_goes : (h : Here) → line_ends_here h.unread.text ≡ false → is_blank (next_char h) ≡ true
     → finished_line (step h).unread.text (step h) ≡ finished_line h.unread.text h
 blank_goes h e blank = blank_by h.unread.text h refl e blank
 
@@ -372,7 +372,7 @@ hash_no_blank : (c : ℕ) → c ≡ 0x23 → is_blank c ≡ false
 unfolding is_blank
 hash_no_blank c e = ap (λ d. d == 0x20 || d == 0x09) e
 
-hash_by : (text : List ℕ) (h : Here) → h.unread.text ≡ text → line_ends text ≡ false → first text ≡ 0x23
+hash_by : (text : List ℕ) (h : Here) → h.unread.text ≡ text → line_ends_here text ≡ false → first text ≡ 0x23
     → past_note (step h).unread.text (step h) ≡ finished_line text h
 hash_by [] h is e hash = absurd (cc)
 hash_by (c ∷ cs) h is e hash =
@@ -381,14 +381,14 @@ hash_by (c ∷ cs) h is e hash =
     else if c == 0x23 then past_note cs (step h) else None) e (hash_no_blank c hash)
     ∙ ap (λ d. if d == 0x23 then past_note cs (step h) else None) hash)
 
-pub hash_goes : (h : Here) → line_ends h.unread.text ≡ false → next_char h ≡ 0x23
+pub hash_goes : (h : Here) → line_ends_here h.unread.text ≡ false → next_char h ≡ 0x23
     → past_note (step h).unread.text (step h) ≡ finished_line h.unread.text h
 hash_goes h e hash = hash_by h.unread.text h refl e hash
 
 no_hash : (c : ℕ) → (c ≡ 0x23 → ⊥) → (c == 0x23) ≡ false
 no_hash c other = grind (arith, nat_tests, other)
 
-other_by : (text : List ℕ) (h : Here) → line_ends text ≡ false → is_blank (first text) ≡ false
+other_by : (text : List ℕ) (h : Here) → line_ends_here text ≡ false → is_blank (first text) ≡ false
     → (first text ≡ 0x23 → ⊥) → finished_line text h ≡ None
 other_by [] h e blank other = absurd (cc)
 other_by (c ∷ cs) h e blank other =
@@ -396,7 +396,7 @@ other_by (c ∷ cs) h e blank other =
     else if c == 0x23 then past_note cs (step h) else None) e blank
     ∙ ap (λ b. if b then past_note cs (step h) else None) (no_hash c other)
 
-pub other_stops : (h : Here) → line_ends h.unread.text ≡ false → is_blank (next_char h) ≡ false
+pub other_stops : (h : Here) → line_ends_here h.unread.text ≡ false → is_blank (next_char h) ≡ false
     → (next_char h ≡ 0x23 → ⊥) → finished_line h.unread.text h ≡ None
 other_stops h e blank other = other_by h.unread.text h e blank other
 

@@ -28,9 +28,9 @@ Within h k =
     (h.place.column == 0) ≡ false → ((k.place.column == 0) ≡ false) × (next_boundary k ≡ next_boundary h)
 
 -- whether a break or the end stands first
-abbrev pub line_ends : List ℕ → Bool
-line_ends [] = true
-line_ends (c ∷ cs) = is_break c
+abbrev pub line_ends_here : List ℕ → Bool
+line_ends_here [] = true
+line_ends_here (c ∷ cs) = is_break c
 
 -- the rest of a line was passed where it is finished, and else something of it
 abbrev pub FinishesTo : (List ℕ → Here → Option Here) → (Here → Type 0) → Bool → Here → Type 0

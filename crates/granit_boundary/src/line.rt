@@ -1,6 +1,6 @@
 //! What may stand behind a `...` on its line.
 ghost use Rattle.std.specs.Prelude.{◌≡◌, ◌≤◌, false};
-ghost use Rattle.granit_boundary.specs.Found.{FinishesTo, line_ends};
+ghost use Rattle.granit_boundary.specs.Found.{FinishesTo, line_ends_here};
 ghost use Rattle.granit_cursor.specs.Reading.{GoesTo, Moves, Stands, Wherever};
 ghost use Rattle.granit_lexemes.specs.Comment.{is_comment_char};
 ghost use Rattle.granit_lexemes.specs.Here.{Here};
@@ -26,7 +26,7 @@ pub(crate) fn is_separated<T: Input>(cursor: &mut Cursor<T>) -> bool
 
 /// Whether a break or the end stands here; one more character may then be looked at.
 fn line_ends<T: Input>(cursor: &mut Cursor<T>) -> bool
-    ensures value { (h : Here) → Stands T.unread cursor.old h → result ≡ line_ends h.unread.text }
+    ensures value { (h : Here) → Stands T.unread cursor.old h → result ≡ line_ends_here h.unread.text }
     ensures here { GoesTo T.unread cursor.old cursor.new (λ h. h) }
     ensures window { 1 ≤ T.window cursor.new.input }
     ensures some { result ≡ false → 1 ≤ T.left cursor.new.input }

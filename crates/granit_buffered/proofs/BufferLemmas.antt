@@ -1,15 +1,18 @@
 -- What a buffer holds, and what still comes.
 use Rattle.std.proofs.Common.{◌≡◌, ◌<◌, ◌≤◌, ◌==◌, ℕ, Bool, zero, suc, inl, inr, List, [], ◌∷◌, ◌++◌, length}
-use Rattle.std.proofs.Common.{drop, Option, refl, ap, ◌∙◌, append_assoc, arith}
+use Rattle.std.proofs.Common.{drop, true, false, Option, None, Some, refl, ap, sym, ◌∙◌, append_assoc, arith}
 use Rattle.std.proofs.lemmas.Bool.{cases_lt}
 use Rattle.std.proofs.lemmas.Bool.Decides.{nat_tests}
 use Rattle.std.proofs.lemmas.List.{append-nil}
 use Rattle.std.specs.List.{slice_index}
-use Rattle.granit_base.specs.Place.{Unread}
+use Rattle.std.specs.Prelude.{MatchOption}
+use Rattle.granit_base.specs.Place.{Unread, first}
 use Rattle.granit_error.specs.FaultKind.{FaultKind}
 use Rattle.granit_input.specs.Origin.{Goes}
-use Rattle.granit_input.specs.Unread.{past}
-use Rattle.granit_buffered.specs.Feeds.{Holds, Leaves, of_buffer, of_feed}
+use Rattle.granit_input.specs.Runs.{run_test}
+use Rattle.granit_input.specs.Unread.{past_count}
+use Rattle.granit_input.specs.declared.class.Run.{Run}
+use Rattle.granit_buffered.specs.Feeds.{Holds, LeftInFeed, FeedEndsWith, of_buffer, of_feed}
 
 -- behind the end nothing comes
 pub none_comes : {F : Type 0} (told : F → List ℕ → Option FaultKind → Type 0) (bound : F → ℕ)
@@ -39,8 +42,8 @@ holds_less told feed (x ∷ front) text fault ended h = (h.0, rw h.1 refl, h.2)
 
 pub skip_leaves : {F : Type 0} (told : F → List ℕ → Option FaultKind → Type 0) (feed : F) (front : List ℕ) (u : Unread)
     → (length front < 1 → (xs : List ℕ) (fault : Option FaultKind) → told feed xs fault → xs ≡ [])
-    → Leaves told feed front u → Leaves told feed (drop 1 front) (past 1 u)
-unfolding past
+    → LeftInFeed told feed front u → LeftInFeed told feed (drop 1 front) (past_count 1 u)
+unfolding past_count
 skip_leaves told feed front u ended k = (
   rw k.0 refl,
   k.1,
@@ -60,7 +63,7 @@ front_first (x ∷ front) rest (suc n) few = front_first front rest n (omega (ar
 pub held_is_seen : {F : Type 0} (told : F → List ℕ → Option FaultKind → Type 0) (feed : F) (front : List ℕ) (n : ℕ)
     (u : Unread)
     → (length front ≤ n → (xs : List ℕ) (fault : Option FaultKind) → told feed xs fault → xs ≡ [])
-    → Leaves told feed front u → slice_index u.text n ≡ slice_index front n
+    → LeftInFeed told feed front u → slice_index u.text n ≡ slice_index front n
 held_is_seen told feed front n u ended k =
     let h = k.2.1 in
     elim (cases_lt n (length front)) [
@@ -73,7 +76,7 @@ held_is_seen told feed front n u ended k =
 -- where nothing is held, nothing is left
 pub nothing_held : {F : Type 0} (told : F → List ℕ → Option FaultKind → Type 0) (feed : F) (front : List ℕ) (u : Unread)
     → (length front ≤ 0 → (xs : List ℕ) (fault : Option FaultKind) → told feed xs fault → xs ≡ [])
-    → Leaves told feed front u → (length u.text == 0) ≡ (length front == 0)
+    → LeftInFeed told feed front u → (length u.text == 0) ≡ (length front == 0)
 nothing_held told feed [] u ended k =
     let h = k.2.1 in
     ap (λ (text : List ℕ). length text == 0) (h.1 ∙ ended (omega arith) h.0 k.2.0 h.2)
@@ -104,3 +107,76 @@ goes_known old_ended new_ended old_error new_error old_handed_out new_handed_out
   floor = goes.floor;
   ends_with = on;
 }
+
+-- ---- a character straight from the feed
+
+-- what a feed's next character says of what is known to come
+abbrev pub Steps : {F : Type 0} → (F → List ℕ → Option FaultKind → Type 0) → F → F → Option ℕ → Type 0
+Steps told old new result = (xs : List ℕ) (fault : Option FaultKind) → told old xs fault
+    → MatchOption result ((xs ≡ []) × told new [] fault) (λ c. (ys : List ℕ) × (xs ≡ c ∷ ys) × told new ys fault)
+
+holds_passed : {F : Type 0} (told : F → List ℕ → Option FaultKind → Type 0) (old new : F) (result : Option ℕ)
+    (text : List ℕ) (fault : Option FaultKind) → Steps told old new result → Holds told old [] text fault
+    → Holds told new [] (drop 1 text) fault
+holds_passed told old new None text fault steps h =
+    let none = steps h.0 fault h.2 in ([], ap (drop 1) (h.1 ∙ none.0), none.1)
+holds_passed told old new (Some c) text fault steps h =
+    let one = steps h.0 fault h.2 in (one.0, ap (drop 1) (h.1 ∙ one.1), one.2)
+
+-- it is consumed
+pub feed_passed : {F : Type 0} (told : F → List ℕ → Option FaultKind → Type 0) (old new : F) (result : Option ℕ)
+    (front : List ℕ) (u : Unread) → front ≡ [] → Steps told old new result → LeftInFeed told old front u
+    → LeftInFeed told new front (past_count 1 u)
+unfolding past_count
+feed_passed told old new result [] u none steps k =
+    (rw k.0 refl, k.1, (k.2.0, holds_passed told old new result u.text k.2.0 steps k.2.1))
+feed_passed told old new result (x ∷ front) u none steps k = absurd cc
+
+pub ends_passed : {F : Type 0} (told : F → List ℕ → Option FaultKind → Type 0) (old new : F) (result : Option ℕ)
+    (fault : Option FaultKind) → Steps told old new result → FeedEndsWith told old fault → FeedEndsWith told new fault
+ends_passed told old new None fault steps ends = ([], (steps ends.0 fault ends.1).1)
+ends_passed told old new (Some c) fault steps ends = let one = steps ends.0 fault ends.1 in (one.0, one.2)
+
+-- it is the first of what is left
+pub fed_is_first : {F : Type 0} (told : F → List ℕ → Option FaultKind → Type 0) (old new : F) (c : ℕ)
+    (front : List ℕ) (u : Unread) → front ≡ [] → Steps told old new (Some c) → LeftInFeed told old front u
+    → (after : List ℕ) × (u.text ≡ c ∷ after)
+fed_is_first told old new c [] u none steps k =
+    let one = steps k.2.1.0 k.2.0 k.2.1.2 in (one.0, k.2.1.1 ∙ one.1)
+fed_is_first told old new c (x ∷ front) u none steps k = absurd cc
+
+-- ---- the first character that is held
+
+pub first_held : {F : Type 0} (told : F → List ℕ → Option FaultKind → Type 0) (feed : F) (front : List ℕ) (u : Unread)
+    (run : Run) (c : ℕ) → 0 < length front → c ≡ slice_index front 0
+    → ((after : List ℕ) → run_test run (c ∷ after) ≡ true) → LeftInFeed told feed front u
+    → (c ≡ first u.text) × (run_test run u.text ≡ true)
+first_held told feed [] u run c some is takes k = absurd (omega (arith, some))
+first_held told feed (x ∷ front) u run c some is takes k =
+    let h = k.2.1 in
+    let text : u.text ≡ c ∷ (front ++ h.0) = h.1 ∙ ap (λ (y : ℕ). y ∷ (front ++ h.0)) (sym is) in
+    (sym (ap first text), ap (run_test run) text ∙ takes (front ++ h.0))
+
+-- a character that was consumed is held again
+held_again_text : {F : Type 0} (told : F → List ℕ → Option FaultKind → Type 0) (feed : F) (front text : List ℕ) (c : ℕ)
+    (fault : Option FaultKind) → 0 < length text → c ≡ first text → Holds told feed front (drop 1 text) fault
+    → Holds told feed (c ∷ front) text fault
+held_again_text told feed front [] c fault some is h = absurd (omega (arith, some))
+held_again_text told feed front (x ∷ text) c fault some is h =
+    (h.0, ap (λ (y : ℕ). y ∷ text) (sym is) ∙ ap (λ (rest : List ℕ). c ∷ rest) h.1, h.2)
+
+pub held_again : {F : Type 0} (told : F → List ℕ → Option FaultKind → Type 0) (feed now : F) (front held : List ℕ)
+    (u : Unread) (c : ℕ) → now ≡ feed → held ≡ c ∷ front → u.offset ≡ None → u.lends ≡ false → 0 < length u.text
+    → c ≡ first u.text → LeftInFeed told feed front (past_count 1 u) → LeftInFeed told now held u
+unfolding past_count
+held_again told feed now front held u c same again offset lends some is k = rw (same, again)
+    (offset, lends, (k.2.0, held_again_text told feed front u.text c k.2.0 some is k.2.1))
+
+pub none_held : (front : List ℕ) → (length front == 0) ≡ true → front ≡ []
+none_held [] e = refl
+none_held (x ∷ front) e =
+    let none : length (x ∷ front) ≡ 0 = grind (arith, nat_tests, e) in absurd (omega (arith, none))
+
+pub some_held : (front : List ℕ) → (length front == 0) ≡ false → 0 < length front
+some_held [] e = absurd cc
+some_held (x ∷ front) e = omega arith

@@ -6,7 +6,7 @@ use Rattle.granit_error.specs.FaultKind.{FaultKind}
 use Rattle.granit_error.specs.Kinds.{kind_of}
 use Rattle.granit_error.specs.declared.kind.ErrorKind.{ErrorKind}
 use Rattle.granit_buffered.specs.Feeds.{GivesOnly}
-use Rattle.granit_buffered.specs.Fallible.{characters_of, first_error, Comes, StillComes}
+use Rattle.granit_buffered.specs.Fallible.{characters_of, first_error, IteratorGives, StillComes}
 use Rattle.granit_buffered.specs.declared.fallible.Progress.{Progress}
 use Rattle.granit_buffered.specs.declared.fallible.Progress.TheVariants.{Going}
 use Rattle.granit_buffered.proofs.FeedLemmas.{rest_some, rest_none}
@@ -20,8 +20,8 @@ item_known steps remaining s t item items known gave = rest_some steps remaining
 -- a character came
 pub comes_character : {S : Type 0} (steps : S → Option (Result ℕ ErrorKind) → S → Type 0) (remaining : S → Count)
     (ended : Bool) (error : Option FaultKind) (s t : S) (c : ℕ) (xs : List ℕ) (fault : Option FaultKind)
-    → ended ≡ false → Comes steps remaining ended error s xs fault → steps s (Some (Ok c)) t
-    → (ys : List ℕ) × (xs ≡ c ∷ ys) × Comes steps remaining ended error t ys fault
+    → ended ≡ false → IteratorGives steps remaining ended error s xs fault → steps s (Some (Ok c)) t
+    → (ys : List ℕ) × (xs ≡ c ∷ ys) × IteratorGives steps remaining ended error t ys fault
 comes_character steps remaining true error s t c xs fault e k gave = absurd cc
 comes_character steps remaining false error s t c xs fault e k gave =
     let next = item_known steps remaining s t (Ok c) k.0 k.1 gave in (
@@ -33,7 +33,7 @@ comes_character steps remaining false error s t c xs fault e k gave =
 -- an error came
 pub comes_error : {S : Type 0} (steps : S → Option (Result ℕ ErrorKind) → S → Type 0) (remaining : S → Count)
     (ended : Bool) (error : Option FaultKind) (s t : S) (kind : ErrorKind) (xs : List ℕ) (fault : Option FaultKind)
-    → ended ≡ false → Comes steps remaining ended error s xs fault → steps s (Some (Err kind)) t
+    → ended ≡ false → IteratorGives steps remaining ended error s xs fault → steps s (Some (Err kind)) t
     → (xs ≡ []) × (fault ≡ Some (kind_of kind))
 comes_error steps remaining true error s t kind xs fault e k gave = absurd cc
 comes_error steps remaining false error s t kind xs fault e k gave =
@@ -43,7 +43,7 @@ comes_error steps remaining false error s t kind xs fault e k gave =
 -- nothing came
 pub comes_nothing : {S : Type 0} (steps : S → Option (Result ℕ ErrorKind) → S → Type 0) (remaining : S → Count)
     (ended : Bool) (error : Option FaultKind) (s t : S) (xs : List ℕ) (fault : Option FaultKind)
-    → ended ≡ false → Comes steps remaining ended error s xs fault → steps s None t
+    → ended ≡ false → IteratorGives steps remaining ended error s xs fault → steps s None t
     → (xs ≡ []) × (fault ≡ None)
 comes_nothing steps remaining true error s t xs fault e k gave = absurd cc
 comes_nothing steps remaining false error s t xs fault e k gave =
@@ -53,8 +53,8 @@ comes_nothing steps remaining false error s t xs fault e k gave =
 -- nothing comes any more
 pub comes_no_more : {S : Type 0} (steps : S → Option (Result ℕ ErrorKind) → S → Type 0) (remaining : S → Count)
     (ended : Bool) (error : Option FaultKind) (s : S) (xs : List ℕ) (fault : Option FaultKind)
-    → ended ≡ true → Comes steps remaining ended error s xs fault
-    → (xs ≡ []) × Comes steps remaining ended error s [] fault
+    → ended ≡ true → IteratorGives steps remaining ended error s xs fault
+    → (xs ≡ []) × IteratorGives steps remaining ended error s [] fault
 comes_no_more steps remaining true error s xs fault e k = (k.0, (refl, k.1))
 comes_no_more steps remaining false error s xs fault e k = absurd cc
 

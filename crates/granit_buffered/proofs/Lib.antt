@@ -2,3 +2,4 @@ pub mod BufferLemmas
 pub mod FallibleLemmas
 pub mod FeedLemmas
 pub mod KnownLemmas
+pub mod SureLemmas

@@ -20,11 +20,11 @@ first_error [] = None
 first_error (Ok c ∷ items) = first_error items
 first_error (Err kind ∷ items) = Some (kind_of kind)
 
-abbrev pub has_ended : Progress → Bool
-has_ended Going = false
-has_ended Ended = true
-has_ended (Failed kind) = true
-has_ended (HandedOut was) = true
+abbrev pub progress_ended : Progress → Bool
+progress_ended Going = false
+progress_ended Ended = true
+progress_ended (Failed kind) = true
+progress_ended (HandedOut was) = true
 
 abbrev pub was_handed_out : Progress → Bool
 was_handed_out Going = false
@@ -39,13 +39,13 @@ error_of (Failed kind) = Some (kind_of kind)
 error_of (HandedOut was) = Some (kind_of was.value)
 
 -- these are the characters and the error of what an iterator gives, or gave
-abbrev pub Comes : {S : Type 0} → (S → Option (Result ℕ ErrorKind) → S → Type 0) → (S → Count) → (ended : Bool)
+abbrev pub IteratorGives : {S : Type 0} → (S → Option (Result ℕ ErrorKind) → S → Type 0) → (S → Count) → (ended : Bool)
     → (error : Option FaultKind) → S → List ℕ → Option FaultKind → Type 0
-Comes steps remaining true error s xs fault = (xs ≡ []) × (fault ≡ error)
-Comes steps remaining false error s xs fault = (items : List (Result ℕ ErrorKind))
+IteratorGives steps remaining true error s xs fault = (xs ≡ []) × (fault ≡ error)
+IteratorGives steps remaining false error s xs fault = (items : List (Result ℕ ErrorKind))
     × GivesOnly steps remaining s items × (xs ≡ characters_of items) × (fault ≡ first_error items)
 
 abbrev pub StillComes : {S : Type 0} → (S → Option (Result ℕ ErrorKind) → S → Type 0) → (S → Count) → Progress → S
     → List ℕ → Option FaultKind → Type 0
 StillComes steps remaining progress s xs fault =
-    Comes steps remaining (has_ended progress) (error_of progress) s xs fault
+    IteratorGives steps remaining (progress_ended progress) (error_of progress) s xs fault

@@ -31,8 +31,8 @@ abbrev pub Holds : {F : Type 0} → (F → List ℕ → Option FaultKind → Typ
 Holds told feed front text fault = (rest : List ℕ) × (text ≡ front ++ rest) × told feed rest fault
 
 -- the error that what still comes is known to end with
-abbrev pub Ends : {F : Type 0} → (F → List ℕ → Option FaultKind → Type 0) → F → Option FaultKind → Type 0
-Ends told feed fault = (rest : List ℕ) × told feed rest fault
+abbrev pub FeedEndsWith : {F : Type 0} → (F → List ℕ → Option FaultKind → Type 0) → F → Option FaultKind → Type 0
+FeedEndsWith told feed fault = (rest : List ℕ) × told feed rest fault
 
 -- where the characters of a buffer come from: there is nothing to slice, no offset is told, and the end isn't known
 -- until it was asked for
@@ -57,9 +57,9 @@ of_feed ended error handed_out = of_buffer (λ fault. Unit {0}) ended error hand
 abbrev pub origin_of : {F : Type 0} → (F → List ℕ → Option FaultKind → Type 0) → (F → Bool) → (F → Option FaultKind)
     → (F → Bool) → F → Origin
 origin_of told ended error handed_out feed =
-    of_buffer (λ fault. Ends told feed fault) (ended feed) (error feed) (handed_out feed)
+    of_buffer (λ fault. FeedEndsWith told feed fault) (ended feed) (error feed) (handed_out feed)
 
 -- what is known to be left to be read: it can't be lent, and no offset is told
-abbrev pub Leaves : {F : Type 0} → (F → List ℕ → Option FaultKind → Type 0) → F → List ℕ → Unread → Type 0
-Leaves told feed front u = (u.offset ≡ None) × (u.lends ≡ false)
+abbrev pub LeftInFeed : {F : Type 0} → (F → List ℕ → Option FaultKind → Type 0) → F → List ℕ → Unread → Type 0
+LeftInFeed told feed front u = (u.offset ≡ None) × (u.lends ≡ false)
     × ((fault : Option FaultKind) × Holds told feed front u.text fault)

@@ -3,3 +3,4 @@ pub mod Fallible
 pub mod FallibleLaws
 pub mod FeedLaws
 pub mod Feeds
+pub mod Sure

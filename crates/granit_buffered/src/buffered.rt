@@ -1,23 +1,28 @@
 //! Characters of which at most sixteen are read ahead.
 ghost use Rattle.std.specs.Prelude.{◌≡◌, ℕ, ◌+◌, ◌-◌, ◌<◌, ◌≤◌, ◌^◌, List, [], ◌∷◌, ◌++◌, length, Option, None, false};
-ghost use Rattle.std.specs.Prelude.{true, max, min, IfOk, MatchOption, slice_index};
+ghost use Rattle.std.specs.Prelude.{true, max, min, drop, IfOk, OnOk, OnErr, MatchOption, slice_index};
 ghost use Rattle.std.specs.Iterator.{size};
 ghost use Rattle.circular_buffer.specs.Buffer.{buffer};
 ghost use Rattle.granit_base.specs.Place.{Unread, first};
 ghost use Rattle.granit_error.specs.FaultKind.{FaultKind};
 ghost use Rattle.granit_input.specs.Origin.{Goes};
 ghost use Rattle.granit_input.specs.Looks.{ReadsNonBreakz};
-ghost use Rattle.granit_input.specs.Unread.{past};
-ghost use Rattle.granit_buffered.specs.Feeds.{GivesOnly, origin_of, Holds};
+ghost use Rattle.granit_base.specs.Written.{string_chars};
+ghost use Rattle.granit_input.specs.Chunks.{SkipsFront, FetchesFront, Extends, front_count_of};
+ghost use Rattle.granit_input.specs.Runs.{run_test};
+ghost use Rattle.granit_input.specs.Unread.{past_count};
+ghost use Rattle.granit_buffered.specs.Feeds.{GivesOnly, origin_of, Holds, LeftInFeed};
+ghost use Rattle.granit_buffered.specs.Sure.{TakesOne, TakesSure};
 
 use crate::fallible::FallibleFeed;
 use crate::feed::Feed;
 use crate::plain::PlainFeed;
 use crate::source::Source;
+use crate::sure::{surely_takes, takes_before};
 use circular_buffer::HeapCircularBuffer;
-use granit_base::{NoMemory, is_breakz};
+use granit_base::{NoMemory, is_breakz, push_char};
 use granit_error::ErrorKind;
-use granit_input::{BorrowedInput, Input};
+use granit_input::{BorrowedInput, Input, Run};
 use std::alloc::Global;
 
 /// The characters of an iterator.
@@ -40,6 +45,7 @@ pub struct ReadAhead<F: Feed> {
 }
 
 /// Holds one more character.
+#[inline(always)]
 fn hold(held: &mut HeapCircularBuffer<char>, c: char)
     requires { length held.old.items < held.old.capacity }
     ensures { held.new ≡ buffer (held.old.items ++ c ∷ []) held.old.capacity }
@@ -48,6 +54,7 @@ fn hold(held: &mut HeapCircularBuffer<char>, c: char)
 }
 
 /// What is held behind `n` others; NUL where nothing is.
+#[inline(always)]
 fn held_at(held: &HeapCircularBuffer<char>, n: usize) -> char
     ensures value { result ≡ slice_index held.now.items n }
     ensures some { 0 < result → n < length held.now.items }
@@ -67,6 +74,7 @@ impl<T: Source<Item = char>> ReadAhead<PlainFeed<T>> {
             → ⟦<ReadAhead<PlainFeed<T>> as Input>⟧.unread s (record { text = xs; offset = None; lends = false })) }
         ensures ends { IfOk result (λ s. (xs : List ℕ) → GivesOnly T.next_gives T.remaining input xs
             → (⟦<ReadAhead<PlainFeed<T>> as Input>⟧.origin s).ends_with None) }
+        ensures few { IfOk result (λ s. (s.held.items ≡ []) × (s.feed.iterator ≡ input)) }
     {
         let held = HeapCircularBuffer::with_capacity(alloc, 16)?;
         Ok(ReadAhead {
@@ -97,6 +105,7 @@ impl<T: Source<Item = Result<char, ErrorKind>>> ReadAhead<FallibleFeed<T>> {
             → GivesOnly T.next_gives T.remaining input items
             → (⟦<ReadAhead<FallibleFeed<T>> as Input>⟧.origin s).ends_with (first_error items)) }
         ensures fresh { IfOk result (λ s. (⟦<ReadAhead<FallibleFeed<T>> as Input>⟧.origin s).handed_out ≡ false) }
+        ensures few { IfOk result (λ s. (s.held.items ≡ []) × (s.feed.iterator ≡ input)) }
     {
         let held = HeapCircularBuffer::with_capacity(alloc, 16)?;
         Ok(ReadAhead {
@@ -109,6 +118,7 @@ impl<T: Source<Item = Result<char, ErrorKind>>> ReadAhead<FallibleFeed<T>> {
 
 impl<F: Feed> ReadAhead<F> {
     /// Reads ahead until so many characters are held, or the end comes.
+    #[inline(never)]
     fn fill(&mut self, count: usize)
         requires { count ≤ 16 }
         ensures told { (xs : List ℕ) (fault : Option FaultKind)
@@ -130,17 +140,154 @@ impl<F: Feed> ReadAhead<F> {
             }
         }
     }
+
+    /// Consumes the next character where a run takes it.
+    #[inline(always)]
+    fn take_one(&mut self, run: Run) -> Option<char>
+        ensures read { (u : Unread) → LeftInFeed F.told self.old.feed self.old.held.items u
+            → TakesOne run u result (λ v. LeftInFeed F.told self.new.feed self.new.held.items v) }
+        ensures moves { (MatchOption result (length self.new.held.items + F.bound self.new.feed
+            ≤ length self.old.held.items + F.bound self.old.feed)
+            (λ c. length self.new.held.items + F.bound self.new.feed
+            < length self.old.held.items + F.bound self.old.feed))
+            × (MatchOption result (self.old.window ≤ self.new.window) (λ c. self.old.window ≤ self.new.window + 1))
+            × Goes (origin_of F.told F.ended F.error F.handed_out self.old.feed)
+            (origin_of F.told F.ended F.error F.handed_out self.new.feed) }
+        ensures few { MatchOption result (length self.new.held.items ≤ max 2 (length self.old.held.items))
+            (λ c. length self.new.held.items ≤ max 2 (length self.old.held.items) - 1) }
+    {
+        match self.take_sure(run) {
+            Some(c) => Some(c),
+            None => self.take_asked(run),
+        }
+    }
+
+    /// The same, with what follows it looked at.
+    fn take_asked(&mut self, run: Run) -> Option<char>
+        ensures read { (u : Unread) → LeftInFeed F.told self.old.feed self.old.held.items u
+            → TakesOne run u result (λ v. LeftInFeed F.told self.new.feed self.new.held.items v) }
+        ensures moves { (MatchOption result (length self.new.held.items + F.bound self.new.feed
+            ≤ length self.old.held.items + F.bound self.old.feed)
+            (λ c. length self.new.held.items + F.bound self.new.feed
+            < length self.old.held.items + F.bound self.old.feed))
+            × (MatchOption result (self.old.window ≤ self.new.window) (λ c. self.old.window ≤ self.new.window + 1))
+            × Goes (origin_of F.told F.ended F.error F.handed_out self.old.feed)
+            (origin_of F.told F.ended F.error F.handed_out self.new.feed) }
+        ensures few { MatchOption result (length self.new.held.items ≤ max 2 (length self.old.held.items))
+            (λ c. length self.new.held.items ≤ max 2 (length self.old.held.items) - 1) }
+    {
+        if self.next_in(run) {
+            let c = self.peek();
+            self.skip();
+            Some(c)
+        } else {
+            None
+        }
+    }
+
+    /// Consumes the next character where a run takes it whatever follows; else it stays, and is held.
+    #[inline(always)]
+    fn take_sure(&mut self, run: Run) -> Option<char>
+        ensures read { (u : Unread) → LeftInFeed F.told self.old.feed self.old.held.items u
+            → TakesSure run u result (λ v. LeftInFeed F.told self.new.feed self.new.held.items v) }
+        ensures moves { (MatchOption result (length self.new.held.items + F.bound self.new.feed
+            ≤ length self.old.held.items + F.bound self.old.feed)
+            (λ c. length self.new.held.items + F.bound self.new.feed
+            < length self.old.held.items + F.bound self.old.feed))
+            × (MatchOption result (self.old.window ≤ self.new.window) (λ c. self.old.window ≤ self.new.window + 1))
+            × Goes (origin_of F.told F.ended F.error F.handed_out self.old.feed)
+            (origin_of F.told F.ended F.error F.handed_out self.new.feed) }
+        ensures few { MatchOption result (length self.new.held.items ≤ max 1 (length self.old.held.items))
+            (λ c. length self.new.held.items ≤ length self.old.held.items - 1) }
+    {
+        if self.held.is_empty() {
+            self.take_fed(run)
+        } else {
+            self.take_held(run)
+        }
+    }
+
+    /// The same where none is held: straight from the feed.
+    #[inline(always)]
+    fn take_fed(&mut self, run: Run) -> Option<char>
+        requires { self.old.held.items ≡ [] }
+        ensures read { (u : Unread) → LeftInFeed F.told self.old.feed self.old.held.items u
+            → TakesSure run u result (λ v. LeftInFeed F.told self.new.feed self.new.held.items v) }
+        ensures moves { (MatchOption result (length self.new.held.items + F.bound self.new.feed
+            ≤ length self.old.held.items + F.bound self.old.feed)
+            (λ c. length self.new.held.items + F.bound self.new.feed
+            < length self.old.held.items + F.bound self.old.feed))
+            × (MatchOption result (self.old.window ≤ self.new.window) (λ c. self.old.window ≤ self.new.window + 1))
+            × Goes (origin_of F.told F.ended F.error F.handed_out self.old.feed)
+            (origin_of F.told F.ended F.error F.handed_out self.new.feed) }
+        ensures few { MatchOption result (length self.new.held.items ≤ max 1 (length self.old.held.items))
+            (λ c. length self.new.held.items ≤ length self.old.held.items - 1) }
+    {
+        match self.feed.next_char() {
+            Some(c) => {
+                if surely_takes(run, c) {
+                    return Some(c);
+                }
+                hold(&mut self.held, c);
+                None
+            }
+            None => None,
+        }
+    }
+
+    /// The same where one is held.
+    #[inline(always)]
+    fn take_held(&mut self, run: Run) -> Option<char>
+        requires { 0 < length self.old.held.items }
+        ensures read { (u : Unread) → LeftInFeed F.told self.old.feed self.old.held.items u
+            → TakesSure run u result (λ v. LeftInFeed F.told self.new.feed self.new.held.items v) }
+        ensures moves { (MatchOption result (length self.new.held.items + F.bound self.new.feed
+            ≤ length self.old.held.items + F.bound self.old.feed)
+            (λ c. length self.new.held.items + F.bound self.new.feed
+            < length self.old.held.items + F.bound self.old.feed))
+            × (MatchOption result (self.old.window ≤ self.new.window) (λ c. self.old.window ≤ self.new.window + 1))
+            × Goes (origin_of F.told F.ended F.error F.handed_out self.old.feed)
+            (origin_of F.told F.ended F.error F.handed_out self.new.feed) }
+        ensures few { MatchOption result (length self.new.held.items ≤ max 1 (length self.old.held.items))
+            (λ c. length self.new.held.items ≤ length self.old.held.items - 1) }
+    {
+        let c = held_at(&self.held, 0);
+        if surely_takes(run, c) {
+            self.skip();
+            Some(c)
+        } else {
+            None
+        }
+    }
+
+    /// Appends a character that was consumed. Where memory is wanting it is held again, in front of the others.
+    #[inline(always)]
+    fn append(&mut self, out: &mut String, c: char) -> Result<(), NoMemory>
+        requires few { length self.old.held.items < 16 }
+        requires bounded { length self.old.held.items + F.bound self.old.feed + 1 < 2 ^ 63 }
+        ensures appended { OnOk result ((string_chars out.new ≡ string_chars out.old ++ c ∷ [])
+            × (self.new.held.items ≡ self.old.held.items)) }
+        ensures kept { OnErr result ((string_chars out.new ≡ string_chars out.old)
+            × (self.new.held.items ≡ c ∷ self.old.held.items)) }
+        ensures same { (self.new.feed ≡ self.old.feed) × (self.new.window ≡ self.old.window) }
+    {
+        if let Err(error) = push_char(out, c) {
+            self.held.push_front(c);
+            return Err(error);
+        }
+        Ok(())
+    }
 }
 
 impl<F: Feed> Input for ReadAhead<F> {
     ghost use Rattle.std.specs.Prelude.{false};
     ghost use Rattle.granit_input.specs.Origin.{Goes};
     ghost use Rattle.granit_error.specs.FaultKind.{FaultKind};
-    ghost use Rattle.granit_buffered.specs.Feeds.{Leaves, origin_of};
+    ghost use Rattle.granit_buffered.specs.Feeds.{LeftInFeed, origin_of};
     ghost use Rattle.granit_buffered.specs.BufferLaws.{buffer_agrees};
     ghost use Rattle.std.proofs.Common.{zero-le};
 
-    ghost unread = { λ s u. Leaves F.told s.feed s.held.items u };
+    ghost unread = { λ s u. LeftInFeed F.told s.feed s.held.items u };
 
     ghost left = { λ s. length s.held.items + F.bound s.feed };
 
@@ -157,9 +304,10 @@ impl<F: Feed> Input for ReadAhead<F> {
     ghost agrees = { λ s u k. buffer_agrees F.told F.bound F.ended F.error F.handed_out F.bounded F.over s.feed
         s.held.items u k };
 
+    #[inline(always)]
     fn lookahead(&mut self, count: usize)
-        ensures unread { (u : Unread) → Leaves F.told self.old.feed self.old.held.items u
-            → Leaves F.told self.new.feed self.new.held.items u }
+        ensures unread { (u : Unread) → LeftInFeed F.told self.old.feed self.old.held.items u
+            → LeftInFeed F.told self.new.feed self.new.held.items u }
         ensures moves { (length self.new.held.items + F.bound self.new.feed
             ≤ length self.old.held.items + F.bound self.old.feed)
             × (max (min count 8) self.old.window ≤ self.new.window)
@@ -169,8 +317,10 @@ impl<F: Feed> Input for ReadAhead<F> {
         ensures few { length self.new.held.items ≤ max (min count 16) (length self.old.held.items) }
     {
         let count = count.min(16);
-        self.fill(count);
-        self.window = self.window.max(count);
+        if self.window < count {
+            self.fill(count);
+            self.window = count;
+        }
     }
 
     fn buflen(&self) -> usize {
@@ -185,8 +335,8 @@ impl<F: Feed> Input for ReadAhead<F> {
     }
 
     fn raw_read_ch(&mut self) -> char
-        ensures read { (u : Unread) → Leaves F.told self.old.feed self.old.held.items u
-            → Leaves F.told self.new.feed self.new.held.items (past 1 u) × (result ≡ first u.text) }
+        ensures read { (u : Unread) → LeftInFeed F.told self.old.feed self.old.held.items u
+            → LeftInFeed F.told self.new.feed self.new.held.items (past_count 1 u) × (result ≡ first u.text) }
         ensures moves { (length self.new.held.items + F.bound self.new.feed
             ≤ length self.old.held.items + F.bound self.old.feed - 1)
             × (self.old.window ≤ self.new.window + min 1 (length self.old.held.items + F.bound self.old.feed))
@@ -201,8 +351,8 @@ impl<F: Feed> Input for ReadAhead<F> {
     }
 
     fn raw_read_non_breakz_ch(&mut self) -> Option<char>
-        ensures read { (u : Unread) → Leaves F.told self.old.feed self.old.held.items u
-            → ReadsNonBreakz u result (λ v. Leaves F.told self.new.feed self.new.held.items v) }
+        ensures read { (u : Unread) → LeftInFeed F.told self.old.feed self.old.held.items u
+            → ReadsNonBreakz u result (λ v. LeftInFeed F.told self.new.feed self.new.held.items v) }
         ensures moves { (MatchOption result (length self.new.held.items + F.bound self.new.feed
             ≤ length self.old.held.items + F.bound self.old.feed)
             (λ c. length self.new.held.items + F.bound self.new.feed
@@ -222,9 +372,10 @@ impl<F: Feed> Input for ReadAhead<F> {
         Some(c)
     }
 
+    #[inline(always)]
     fn skip(&mut self)
-        ensures unread { (u : Unread) → Leaves F.told self.old.feed self.old.held.items u
-            → Leaves F.told self.new.feed self.new.held.items (past 1 u) }
+        ensures unread { (u : Unread) → LeftInFeed F.told self.old.feed self.old.held.items u
+            → LeftInFeed F.told self.new.feed self.new.held.items (past_count 1 u) }
         ensures moves { (length self.new.held.items + F.bound self.new.feed
             ≤ length self.old.held.items + F.bound self.old.feed - 1)
             × (self.old.window ≤ self.new.window + min 1 (length self.old.held.items + F.bound self.old.feed))
@@ -232,15 +383,17 @@ impl<F: Feed> Input for ReadAhead<F> {
             (origin_of F.told F.ended F.error F.handed_out self.new.feed) }
         ensures few { length self.new.held.items ≤ length self.old.held.items - 1 }
     {
-        self.fill(1);
-        if self.held.pop_front().is_some() {
-            self.window = self.window.saturating_sub(1);
+        if self.held.is_empty() {
+            self.feed.next_char();
+            return;
         }
+        self.held.pop_front();
+        self.window = self.window.saturating_sub(1);
     }
 
     fn skip_n(&mut self, count: usize)
-        ensures unread { (u : Unread) → Leaves F.told self.old.feed self.old.held.items u
-            → Leaves F.told self.new.feed self.new.held.items (past count u) }
+        ensures unread { (u : Unread) → LeftInFeed F.told self.old.feed self.old.held.items u
+            → LeftInFeed F.told self.new.feed self.new.held.items (past_count count u) }
         ensures moves { (length self.new.held.items + F.bound self.new.feed
             ≤ length self.old.held.items + F.bound self.old.feed - count)
             × (self.old.window ≤ self.new.window + min count (length self.old.held.items + F.bound self.old.feed))
@@ -255,14 +408,89 @@ impl<F: Feed> Input for ReadAhead<F> {
         }
     }
 
+    fn next_in(&mut self, run: Run) -> bool
+        ensures look { (u : Unread) → LeftInFeed F.told self.old.feed self.old.held.items u
+            → LeftInFeed F.told self.new.feed self.new.held.items u × (result ≡ run_test run u.text) }
+        ensures some { result ≡ true → 0 < length self.new.held.items + F.bound self.new.feed }
+        ensures moves { (length self.new.held.items + F.bound self.new.feed
+            ≤ length self.old.held.items + F.bound self.old.feed)
+            × (max 1 self.old.window ≤ self.new.window)
+            × Goes (origin_of F.told F.ended F.error F.handed_out self.old.feed)
+            (origin_of F.told F.ended F.error F.handed_out self.new.feed) }
+        ensures few { length self.new.held.items ≤ max 2 (length self.old.held.items) }
+    {
+        self.lookahead(1);
+        let c = self.peek();
+        if c != ' ' && c != ':' {
+            return surely_takes(run, c);
+        }
+        self.lookahead(2);
+        takes_before(run, self.peek(), self.peek_nth(1))
+    }
+
+    fn skip_run(&mut self, run: Run, limit: usize) -> (bool, usize)
+        ensures skips { (u : Unread) → LeftInFeed F.told self.old.feed self.old.held.items u
+            → SkipsFront (run_test run) u limit result (λ v. LeftInFeed F.told self.new.feed self.new.held.items v) }
+        ensures few { result.0 ≡ false → limit ≤ result.1 }
+        ensures limit { result.1 ≤ limit }
+        ensures moves { (length self.new.held.items + F.bound self.new.feed + result.1
+            ≤ length self.old.held.items + F.bound self.old.feed)
+            × (self.old.window ≤ self.new.window + result.1)
+            × Goes (origin_of F.told F.ended F.error F.handed_out self.old.feed)
+            (origin_of F.told F.ended F.error F.handed_out self.new.feed) }
+        ensures ahead { length self.new.held.items ≤ max 2 (length self.old.held.items) }
+    {
+        let mut count = 0;
+        'run: while count < limit {
+            match self.take_one(run) {
+                Some(_) => count += 1,
+                None => return (true, count),
+            }
+        }
+        (false, count)
+    }
+
+    fn fetch_run(
+        &mut self,
+        out: &mut String,
+        run: Run,
+        limit: usize,
+    ) -> Result<(bool, usize), NoMemory>
+        ensures fetches { (u : Unread) → LeftInFeed F.told self.old.feed self.old.held.items u
+            → FetchesFront (run_test run) u limit result (λ v. LeftInFeed F.told self.new.feed self.new.held.items v)
+            (string_chars out.old) (string_chars out.new) }
+        ensures kept { Extends (string_chars out.old) (string_chars out.new) }
+        ensures few { IfOk result (λ r. r.0 ≡ false → limit ≤ r.1) }
+        ensures limit { IfOk result (λ r. r.1 ≤ limit) }
+        ensures moves { (length self.new.held.items + F.bound self.new.feed + front_count_of result
+            ≤ length self.old.held.items + F.bound self.old.feed)
+            × (IfOk result (λ r. self.old.window ≤ self.new.window + r.1))
+            × Goes (origin_of F.told F.ended F.error F.handed_out self.old.feed)
+            (origin_of F.told F.ended F.error F.handed_out self.new.feed) }
+        ensures ahead { length self.new.held.items ≤ max 2 (length self.old.held.items) }
+    {
+        let mut count = 0;
+        'run: while count < limit {
+            match self.take_one(run) {
+                Some(c) => self.append(out, c)?,
+                None => return Ok((true, count)),
+            }
+            count += 1;
+        }
+        Ok((false, count))
+    }
+
+    #[inline(always)]
     fn peek(&self) -> char {
         self.peek_nth(0)
     }
 
+    #[inline(always)]
     fn peek_nth(&self, n: usize) -> char {
         held_at(&self.held, n)
     }
 
+    #[inline(always)]
     fn next_is_z(&self) -> bool {
         self.held.is_empty()
     }

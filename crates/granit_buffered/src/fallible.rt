@@ -23,11 +23,11 @@ pub(crate) enum Progress {
 }
 
 impl Progress {
-    ghost use Rattle.granit_buffered.specs.Fallible.{has_ended, was_handed_out, error_of};
+    ghost use Rattle.granit_buffered.specs.Fallible.{progress_ended, was_handed_out, error_of};
 
     /// Whether it has ended, or failed.
     fn has_ended(&self) -> bool
-        ensures { result ≡ has_ended self.now }
+        ensures { result ≡ progress_ended self.now }
     {
         !matches!(self, Progress::Going)
     }
@@ -35,7 +35,7 @@ impl Progress {
     /// The error, if it wasn't handed out.
     fn take(&mut self) -> Option<ErrorKind>
         ensures given { option_map kind_of result ≡ still_given (was_handed_out self.old) (error_of self.old) }
-        ensures kept { (has_ended self.new ≡ has_ended self.old) × (error_of self.new ≡ error_of self.old) }
+        ensures kept { (progress_ended self.new ≡ progress_ended self.old) × (error_of self.new ≡ error_of self.old) }
         ensures handed_out { was_handed_out self.new ≡ (was_handed_out self.old || is_some (error_of self.old)) }
     {
         match std::mem::replace(self, Progress::Ended) {
@@ -74,15 +74,15 @@ impl<T: Source<Item = Result<char, ErrorKind>>> FallibleFeed<T> {
 
 impl<T: Source<Item = Result<char, ErrorKind>>> Feed for FallibleFeed<T> {
     ghost use Rattle.granit_buffered.specs.Feeds.{still_left};
-    ghost use Rattle.granit_buffered.specs.Fallible.{has_ended, was_handed_out, error_of, StillComes};
+    ghost use Rattle.granit_buffered.specs.Fallible.{progress_ended, was_handed_out, error_of, StillComes};
     ghost use Rattle.granit_buffered.specs.FallibleLaws.{comes_within, comes_to_its_error};
     ghost use Rattle.granit_buffered.specs.FeedLaws.{none_left};
 
     ghost told = { λ s xs fault. StillComes T.next_gives T.remaining s.progress s.iterator xs fault };
 
-    ghost bound = { λ s. still_left (has_ended s.progress) (T.remaining s.iterator) };
+    ghost bound = { λ s. still_left (progress_ended s.progress) (T.remaining s.iterator) };
 
-    ghost ended = { λ s. has_ended s.progress };
+    ghost ended = { λ s. progress_ended s.progress };
 
     ghost error = { λ s. error_of s.progress };
 
@@ -90,7 +90,7 @@ impl<T: Source<Item = Result<char, ErrorKind>>> Feed for FallibleFeed<T> {
 
     ghost bounded = { λ s xs fault k. comes_within T.next_gives T.remaining s.progress s.iterator xs fault k };
 
-    ghost over = { λ s ended. none_left (has_ended s.progress) (T.remaining s.iterator) ended };
+    ghost over = { λ s ended. none_left (progress_ended s.progress) (T.remaining s.iterator) ended };
 
     ghost fails = { λ s xs fault ended k.
         comes_to_its_error T.next_gives T.remaining s.progress s.iterator xs fault ended k };

@@ -7,6 +7,7 @@ mod feed;
 mod laws;
 mod plain;
 mod source;
+mod sure;
 
 pub use buffered::{BufferedInput, FallibleBufferedInput, ReadAhead};
 pub use fallible::FallibleFeed;

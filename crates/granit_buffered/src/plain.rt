@@ -45,6 +45,7 @@ impl<T: Source<Item = char>> Feed for PlainFeed<T> {
     ghost fails = { λ s xs fault ended k. k.0 };
 
     #[tactic(auto, using(crate::proofs::FeedLemmas::rest_some, crate::proofs::FeedLemmas::rest_none))]
+    #[inline(always)]
     fn next_char(&mut self) -> Option<char> {
         if self.done {
             return None;

@@ -7,8 +7,8 @@ use Rattle.granit_model.specs.Tree.{PlainTree, AliasOf, ScalarOf, SequenceOf, Ma
 use Rattle.granit_model.specs.Tree.{AfterTrees, PlainPairs, NoPairs, AfterPairs}
 
 -- what is printed for documents that are read from their own canonical text
-abbrev pub lines_of : OptionsData → PlainTrees → List ℕ
-lines_of o ts = event_lines (canonical_events o ts)
+abbrev pub canonical_lines : OptionsData → PlainTrees → List ℕ
+canonical_lines o ts = event_lines (canonical_events o ts)
 
 abbrev scalar : List ℕ → PlainTree
 scalar text = ScalarOf (record { tag = None; anchor = None }) text

@@ -2,8 +2,7 @@
 //! crate prints for it.
 ghost use Rattle.std.specs.Prelude.{◌++◌, ◌≡◌, codes};
 ghost use Rattle.granit_machine.specs.ExampleOptions.{anchors_told};
-ghost use Rattle.granit_canonical.specs.Examples.{documents_tree, lines_of, names_tree, pairs_tree};
-ghost use Rattle.granit_canonical.specs.Examples.{worked_tree};
+ghost use Rattle.granit_canonical.specs.Examples.{canonical_lines, documents_tree, names_tree, pairs_tree, worked_tree};
 ghost use Rattle.granit_error.specs.OptionsData.{default_options};
 ghost use Rattle.granit_model.specs.Characters.{HasCharacters};
 ghost use Rattle.granit_model.specs.FlowText.{flow_characters};
@@ -11,9 +10,10 @@ ghost use Rattle.granit_model.specs.Tree.{DocumentsFit, NoTrees, trees_depth};
 
 /// Trees whose nodes stand where the original finds them, and which have what the law asks of trees.
 pub fn canonical_examples()
-    ensures nothing { lines_of default_options NoTrees ≡ codes "StreamStart 0:1:1-0:1:1\nStreamEnd 0:1:1-0:1:1\n" }
+    ensures nothing { canonical_lines default_options NoTrees
+        ≡ codes "StreamStart 0:1:1-0:1:1\nStreamEnd 0:1:1-0:1:1\n" }
     ensures pairs_text { flow_characters pairs_tree ≡ codes "--- {? \"a\" : \"b\", ? [] : {}}\n" }
-    ensures pairs { lines_of default_options pairs_tree
+    ensures pairs { canonical_lines default_options pairs_tree
         ≡ (codes "StreamStart 0:1:1-0:1:1\nDocumentStart explicit 0:1:1-3:1:4\nMappingStart flow 4:1:5-5:1:6\n"
         ++ codes "Scalar double \"a\" 7:1:8-10:1:11\nScalar double \"b\" 13:1:14-16:1:17\n"
         ++ codes "SequenceStart flow 20:1:21-21:1:22\nSequenceEnd 21:1:22-22:1:23\n"
@@ -22,7 +22,7 @@ pub fn canonical_examples()
     ensures documents_text { flow_characters documents_tree
         ≡ (codes "--- [\"a\\\"\\\\\\x07\\x7F\\xE9\\u20AC\\U0001F600 z\", [], {? [\"k\", \"\\x0A\"] : {? {} : \"\"}}, {}]\n"
         ++ codes "--- \"\\x85\"\n") }
-    ensures documents { lines_of default_options documents_tree
+    ensures documents { canonical_lines default_options documents_tree
         ≡ (codes "StreamStart 0:1:1-0:1:1\nDocumentStart explicit 0:1:1-3:1:4\n"
         ++ codes "SequenceStart flow 4:1:5-5:1:6\n"
         ++ codes "Scalar double \"a\\\"\\\\\\u{7}\\u{7f}\\u{e9}\\u{20ac}\\u{1f600} z\" 5:1:6-42:1:43\n"
@@ -37,7 +37,7 @@ pub fn canonical_examples()
         ++ codes "Scalar double \"\\u{85}\" 89:2:5-95:2:11\nDocumentEnd 95:2:11-95:2:11\n"
         ++ codes "StreamEnd 96:3:1-96:3:1\n") }
     ensures worked_text { flow_characters worked_tree ≡ codes "--- !<tag:x%20y> &n {? \"\\xE9\" : *n}\n" }
-    ensures worked { lines_of default_options worked_tree
+    ensures worked { canonical_lines default_options worked_tree
         ≡ (codes "StreamStart 0:1:1-0:1:1\nDocumentStart explicit 0:1:1-3:1:4\n"
         ++ codes "MappingStart flow &1 !\"\" \"tag:x y\" 20:1:21-21:1:22\n"
         ++ codes "Scalar double \"\\u{e9}\" 23:1:24-29:1:30\nAlias 1 32:1:33-34:1:35\n"
@@ -45,7 +45,7 @@ pub fn canonical_examples()
     ensures names_text { flow_characters names_tree
         ≡ (codes "--- &a [*a, !<%C3%A9%5F%20%25:,./-%F0%9F%98%80> &a \"x\", *a, &b:é {? *b:é : !<%21> []}]\n"
         ++ codes "--- &a [&b \"\", *b, *a]\n") }
-    ensures names { lines_of default_options names_tree
+    ensures names { canonical_lines default_options names_tree
         ≡ (codes "StreamStart 0:1:1-0:1:1\nDocumentStart explicit 0:1:1-3:1:4\n"
         ++ codes "SequenceStart flow &1 7:1:8-8:1:9\nAlias 1 8:1:9-10:1:11\n"
         ++ codes "Scalar double \"x\" &2 !\"\" \"\\u{e9}_ %:,./-\\u{1f600}\" 51:1:52-54:1:55\n"
@@ -56,7 +56,7 @@ pub fn canonical_examples()
         ++ codes "Scalar double \"\" &5 98:2:12-100:2:14\nAlias 5 102:2:16-104:2:18\n"
         ++ codes "Alias 4 106:2:20-108:2:22\nSequenceEnd 108:2:22-109:2:23\nDocumentEnd 109:2:23-109:2:23\n"
         ++ codes "StreamEnd 110:3:1-110:3:1\n") }
-    ensures anchors { lines_of anchors_told names_tree
+    ensures anchors { canonical_lines anchors_told names_tree
         ≡ (codes "StreamStart 0:1:1-0:1:1\nDocumentStart explicit 0:1:1-3:1:4\n"
         ++ codes "SequenceStart flow &1 7:1:8-8:1:9\nAnchor 1 \"a\" 4:1:5-6:1:7\nAlias 1 8:1:9-10:1:11\n"
         ++ codes "Scalar double \"x\" &2 !\"\" \"\\u{e9}_ %:,./-\\u{1f600}\" 51:1:52-54:1:55\n"

@@ -3,8 +3,8 @@ use Rattle.std.specs.Prelude.{ℕ, List, codes}
 use Rattle.granit_error.specs.OptionsData.{OptionsData, default_options}
 
 -- comments above, behind a `-`, behind a header, alone, behind a scalar and last
-abbrev pub comment_text : List ℕ
-comment_text = codes "# a\n- # b\n  k: | # c\n   x\n# d\n\n- e # f\n# g\n"
+abbrev pub commented_text : List ℕ
+commented_text = codes "# a\n- # b\n  k: | # c\n   x\n# d\n\n- e # f\n# g\n"
 
 abbrev pub last_text : List ℕ
 last_text = codes "a #b\n#c"

@@ -5,7 +5,7 @@ use Rattle.granit_lexemes.specs.Here.{Here}
 use Rattle.granit_lexemes.specs.Outcome.{Fault, Fails, Gives, ◌>>=◌}
 use Rattle.granit_cursor.specs.Reading.{GivesTo, coded}
 use Rattle.granit_cursor.proofs.GivenLemmas.{same_ok}
-use Rattle.granit_properties.specs.PropertyTokens.{Placed, placed_at, source_of}
+use Rattle.granit_properties.specs.PropertyTokens.{PlacedValue, placed_at, source_of}
 
 -- by a value and where that ends
 module _ {X Y S : Type 0} (code : Y → S → X) where
@@ -40,14 +40,14 @@ module _ {X Y S : Type 0} (code : Y → X) where
 
 -- with its place
 module _ {Y : Type 0} (read : Here → Result (Y × Here) Fault) (h : Here) where
-  abbrev placed_to : Y → Here → Placed Y
+  abbrev placed_to : Y → Here → PlacedValue Y
   placed_to y after = record { value = y; source = source_of h after }
 
-  pub placed_back : (p : Placed Y) (after : Here) → placed_at read h ≡ Ok (p, after)
+  pub placed_back : (p : PlacedValue Y) (after : Here) → placed_at read h ≡ Ok (p, after)
       → (read h ≡ Ok (p.value, after)) × (p.source ≡ source_of h after)
   placed_back p after is =
       let y = coded_at_back placed_to (read h) p after is in
-      subst (λ (q : Placed Y). (read h ≡ Ok (q.value, after)) × (q.source ≡ source_of h after)) y.2 (y.1, refl)
+      subst (λ (q : PlacedValue Y). (read h ≡ Ok (q.value, after)) × (q.source ≡ source_of h after)) y.2 (y.1, refl)
 
   pub placed_fails : (e : Refused) → Fails e (placed_at read h) → Fails e (read h)
   placed_fails e fails = coded_at_fails placed_to (read h) e fails

@@ -1,9 +1,9 @@
 -- What stands between lexemes.
-use Rattle.std.proofs.Common.{◌≡◌, ℕ, ◌==◌, Bool, true, false, if◌then◌else◌, List, [], ◌∷◌, drop, Some}
-use Rattle.std.proofs.Common.{Result, Ok, Err, inl, inr, refl, sym, ap, ◌∙◌}
+use Rattle.std.proofs.Common.{◌≡◌, ℕ, ◌==◌, Bool, true, false, if◌then◌else◌, List, [], ◌∷◌, drop}
+use Rattle.std.proofs.Common.{◌&&◌, not, Option, Some, None, is_some, Result, Ok, Err, inl, inr, refl, sym, ap, ◌∙◌}
 use Rattle.std.proofs.lemmas.Bool.{cases_Bool, eqb-true}
-use Rattle.granit_base.specs.Classes.{is_blank, is_break, is_gap, is_bom}
-use Rattle.granit_base.specs.Place.{first}
+use Rattle.granit_base.specs.Classes.{is_blank, is_break, is_breakz, is_gap, is_bom}
+use Rattle.granit_base.specs.Place.{Mark, first}
 use Rattle.granit_error.specs.OptionsData.{OptionsData}
 use Rattle.granit_lexemes.specs.Comment.{CommentRead, comment}
 use Rattle.granit_lexemes.specs.Here.{Here, next_char, mark_of, step, skip, past}
@@ -95,6 +95,18 @@ skip_on may (c ∷ cs) h is =
 pub gap_behind_blanks : (may : Bool) (h : Here) → past_gap may (past is_blank h) ≡ past_gap may h
 unfolding past
 gap_behind_blanks may h = skip_on may h.unread.text h refl
+
+-- ---- tabs that begin a line
+
+-- where none stands before a place, none is refused there
+pub no_leading_tab : (o : OptionsData) (l : Laid) (h : Here) {tab : Option Mark} → h.tab ≡ tab → is_some tab ≡ false
+    → refuse_tab o l (mark_of h) (leading_tab h) ≡ Ok tt
+no_leading_tab o l h {tab = Some t} is none = absurd cc
+no_leading_tab o l h {tab = None} is none =
+    elim (cases_Bool (h.begins_line && not (is_breakz (next_char h)))) [
+      | inl begins ↦ rw (begins, is) refl
+      | inr other ↦ rw other refl
+    ]
 
 -- ---- what ends a gap
 

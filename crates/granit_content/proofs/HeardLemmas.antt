@@ -14,8 +14,8 @@ use Rattle.granit_lexemes.specs.QuotedScalar.{quoted_at, quoted_read, asked_comm
 use Rattle.granit_lexemes.specs.QuotedScalar.{quoted_tail, quoted_rest, between_quoted, quoted_scalar}
 use Rattle.granit_lexemes.specs.QuotedScalar.{quoted_text}
 use Rattle.granit_cursor.specs.Reading.{coded}
-use Rattle.granit_content.specs.Reads.{kept}
-use Rattle.granit_content.specs.ScalarReads.{asking}
+use Rattle.granit_content.specs.Reads.{note_if_asked}
+use Rattle.granit_content.specs.ScalarReads.{layout_asking}
 
 -- what a test decides, as the code has it
 pub same_if : {X Y S : Type 0} (code : Y → X) (test : Bool) (a b : Result (X × S) Fault) (c d : Result (Y × S) Fault)
@@ -31,22 +31,22 @@ same_then code (Err e) f g same = refl
 
 -- with its comment where comments are asked for
 abbrev pub heard : Bool → QuotedRead → QuotedRead
-heard asked r = record r { comment = kept asked r.comment }
+heard asked r = record r { comment = note_if_asked asked r.comment }
 
 comment_heard : (single asked : Bool) (at : LayoutData) (start : Mark) (value : Written) (end : Mark)
     (x : CommentRead × Here) → ◌≡◌ {A = Result (QuotedRead × Here) Fault}
-    (Ok (quoted_read single start value end (asked_comment (asking asked at) x.0), x.1))
-    (coded (heard asked) (Ok (quoted_read single start value end (asked_comment (asking true at) x.0), x.1)))
+    (Ok (quoted_read single start value end (asked_comment (layout_asking asked at) x.0), x.1))
+    (coded (heard asked) (Ok (quoted_read single start value end (asked_comment (layout_asking true at) x.0), x.1)))
 comment_heard single true at start value end x = refl
 comment_heard single false at start value end x = refl
 
-none_heard : (asked : Bool) → None ≡ kept asked None
+none_heard : (asked : Bool) → None ≡ note_if_asked asked None
 none_heard true = refl
 none_heard false = refl
 
 behind_heard : (single asked : Bool) (at : LayoutData) (start : Mark) (value : Written) (end : Mark) (h : Here)
-    → behind_quoted single (asking asked at) start value end h
-    ≡ coded (heard asked) (behind_quoted single (asking true at) start value end h)
+    → behind_quoted single (layout_asking asked at) start value end h
+    ≡ coded (heard asked) (behind_quoted single (layout_asking true at) start value end h)
 unfolding behind_quoted may_trail
 behind_heard single true at start value end h = same_if (heard true) (text_len h == 0) _ _ _ _ refl
     (same_if (heard true) (not (is_printable (next_char h))) _ _ _ _ refl
@@ -56,8 +56,8 @@ behind_heard single false at start value end h = same_if (heard false) (text_len
     (same_if (heard false) (may_trail at (h.place.line == start.place.line) (next_char h)) _ _ _ _ refl refl))
 
 tail_heard : (single asked : Bool) (at : LayoutData) (start : Mark) (value : Written) (h : Here)
-    → quoted_tail single (asking asked at) start value h
-    ≡ coded (heard asked) (quoted_tail single (asking true at) start value h)
+    → quoted_tail single (layout_asking asked at) start value h
+    ≡ coded (heard asked) (quoted_tail single (layout_asking true at) start value h)
 unfolding quoted_tail
 tail_heard single asked at start value h =
     same_if (heard asked) (next_char h == 0x23) _ _ _ _ refl
@@ -66,21 +66,22 @@ tail_heard single asked at start value h =
     (behind_heard single asked at start value (mark_of h) (past is_blank h)))
 
 turn_heard : (single asked : Bool) (at : LayoutData) (start : Mark)
-    → quoted_turn single (asking asked at) start ≡ quoted_turn single (asking true at) start
+    → quoted_turn single (layout_asking asked at) start ≡ quoted_turn single (layout_asking true at) start
 unfolding quoted_turn is_strictly_left is_loosely_left
 turn_heard single asked at start = refl
 
 -- a quoted scalar is read as where comments are asked for, less its comment
 pub quoted_heard : (single asked : Bool) (at : LayoutData) (h : Here)
-    → quoted_scalar single (asking asked at) h ≡ coded (heard asked) (quoted_scalar single (asking true at) h)
+    → quoted_scalar single (layout_asking asked at) h
+    ≡ coded (heard asked) (quoted_scalar single (layout_asking true at) h)
 unfolding quoted_scalar
 quoted_heard single asked at h = rw (turn_heard single asked at (mark_of h))
-    (same_then (heard asked) (quoted_rest single (asking true at) (mark_of h) (quoted_at false (step h))) _ _
+    (same_then (heard asked) (quoted_rest single (layout_asking true at) (mark_of h) (quoted_at false (step h))) _ _
     (λ x. tail_heard single asked at (mark_of h) (quoted_text single (step h) (x.0 ++ between_quoted x.1))
     (step x.1.here)))
 
 -- a plain scalar reads no comment
 pub plain_heard : (asked : Bool) (at : LayoutData) (h : Here)
-    → plain_scalar (asking asked at) h ≡ plain_scalar (asking true at) h
+    → plain_scalar (layout_asking asked at) h ≡ plain_scalar (layout_asking true at) h
 unfolding plain_scalar plain_turn behind_plain on_blank
 plain_heard asked at h = refl

@@ -14,7 +14,7 @@ use Rattle.granit_machine.specs.ReaderState.{with_tail, read_to, given, behind_t
 use Rattle.granit_steps.specs.Steps.{incoming}
 use Rattle.granit_cursor.specs.Reading.{coded}
 use Rattle.granit_cursor.proofs.GivenLemmas.{same_ok}
-use Rattle.granit_content.specs.Reads.{Seen, seen, noted, behind_seen}
+use Rattle.granit_content.specs.Reads.{Seen, seen, comment_kept, behind_seen}
 
 -- a lexeme with no tail
 pub untailed : (asked : Bool) (x : Lexeme) → x.tail ≡ None → incoming asked (OfLexeme x ∷ []) ≡ OfLexeme x ∷ []
@@ -27,7 +27,8 @@ read_untailed asked x h l none = ap (λ i. Ok (i, record { here = h; laid = l })
 
 -- a tail as it is seen
 pub read_seen : (asked : Bool) (x : Lexeme) (tail : Option CommentRead) (h : Here) (l : Laid)
-    → coded (incoming asked) (read_to (with_tail x tail) h l) ≡ read_to (with_tail x (noted (seen asked tail))) h l
+    → coded (incoming asked) (read_to (with_tail x tail) h l)
+    ≡ read_to (with_tail x (comment_kept (seen asked tail))) h l
 read_seen true x (Some c) h l = refl
 read_seen true x None h l = refl
 read_seen false x (Some c) h l = refl
@@ -46,17 +47,17 @@ module _ (asked : Bool) (x : Lexeme) (last : LastLexeme) (l : Laid) where
   tailed_on : (r : Result (Option CommentRead × Here) Fault) (s : Seen) (after : Here)
       → coded (seen asked) r ≡ Ok (s, after)
       → coded (incoming asked) (r >>= λ y. tailed_by x last l y.0 y.1)
-      ≡ given (with_tail x (noted s)) (behind_seen last s) after l
+      ≡ given (with_tail x (comment_kept s)) (behind_seen last s) after l
   tailed_on (Ok y) s after is =
       let same = same_ok (seen asked y.0, y.1) (s, after) is in
       ap (λ (t : LastLexeme). coded (incoming asked) (given (with_tail x y.0) t y.1 l)) (behind_seen_is asked last y.0)
       ∙ read_seen asked x y.0 y.1 _
-      ∙ ap (λ (p : Seen × Here). given (with_tail x (noted p.0)) (behind_seen last p.0) p.1 l) same
+      ∙ ap (λ (p : Seen × Here). given (with_tail x (comment_kept p.0)) (behind_seen last p.0) p.1 l) same
   tailed_on (Err f) s after is = absurd cc
 
   -- with the tail that is seen
   pub tailed_given : (h : Here) (s : Seen) (after : Here) → coded (seen asked) (tail_at h) ≡ Ok (s, after)
-      → coded (incoming asked) (tailed x last h l) ≡ given (with_tail x (noted s)) (behind_seen last s) after l
+      → coded (incoming asked) (tailed x last h l) ≡ given (with_tail x (comment_kept s)) (behind_seen last s) after l
   unfolding tailed
   tailed_given h s after is = tailed_on (tail_at h) s after is
 

@@ -14,7 +14,7 @@ use Rattle.granit_machine.specs.NodeLexemes.{tag_given, tag_lexeme}
 use Rattle.granit_machine.specs.ReaderState.{Read, lexeme_to, given}
 use Rattle.granit_cursor.specs.Reading.{coded}
 use Rattle.granit_cursor.specs.declared.token.Token.{Token}
-use Rattle.granit_properties.specs.PropertyTokens.{Placed, placed_at, name_token, tag_token}
+use Rattle.granit_properties.specs.PropertyTokens.{PlacedValue, placed_at, name_token, tag_token}
 use Rattle.granit_steps.specs.Steps.{incoming}
 use Rattle.granit_content.specs.KindViews.{kind_of_type}
 use Rattle.granit_content.proofs.CodedLemmas.{coded_back, placed_back}
@@ -32,7 +32,7 @@ module _ (asked ends : Bool) (h : Here) (l : Laid) where
 
   module _ (token : Token) (after : Here) where
     name_back : (alias : Bool) → coded (name_token alias) (placed_at name_at h) ≡ Ok (token, after)
-        → (p : Placed Written) × (name_at h ≡ Ok (p.value, after)) × (name_token alias p ≡ token)
+        → (p : PlacedValue Written) × (name_at h ≡ Ok (p.value, after)) × (name_token alias p ≡ token)
     name_back alias is =
         let y = coded_back (name_token alias) (placed_at name_at h) token after is in
         (y.0, (placed_back name_at h y.0 after y.1).0, y.2)

@@ -20,20 +20,21 @@ use Rattle.granit_machine.specs.ReaderState.{ReaderState, Read}
 use Rattle.granit_steps.specs.Steps.{incoming}
 use Rattle.granit_items.specs.ItemViews as view
 use Rattle.granit_items.specs.ItemViews.{boxed_view}
-use Rattle.granit_content.specs.Reads.{Seen, seen, noted, behind_seen}
+use Rattle.granit_content.specs.Reads.{Seen, seen, comment_kept, behind_seen}
 use Rattle.granit_content.specs.ScalarReads.{with_seen}
 use Rattle.granit_items.specs.declared.item.Note.{Note}
 use Rattle.granit_content.proofs.CodedLemmas.{coded_back, coded_fails, fails_then}
 
 -- ---- as it is given
 
-note_items_are : (note : Option (Box Note)) → nodes.note_items (option_map boxed_view note) ≡ view.note_items note
+note_items_are : (note : Option (Box Note)) → nodes.note_items (option_map boxed_view note) ≡ view.boxed_note_items note
 note_items_are None = refl
 note_items_are (Some n) = refl
 
 pub seen_given : (items : List Item) (t : Seen) (note : Option (Box Note)) (s : ReaderState) (before after : Laid)
-    → option_map boxed_view note ≡ noted t → s.laid ≡ before → after ≡ record before { last = behind_seen Adjacent t }
-    → with_seen items t s ≡ Ok (items ++ view.note_items note, record { here = s.here; laid = after })
+    → option_map boxed_view note ≡ comment_kept t → s.laid ≡ before
+    → after ≡ record before { last = behind_seen Adjacent t }
+    → with_seen items t s ≡ Ok (items ++ view.boxed_note_items note, record { here = s.here; laid = after })
 seen_given items t note s before after is same left =
     let there = ap nodes.note_items (sym is) ∙ note_items_are note in
     ap (λ (i : List Item). Ok (
@@ -45,10 +46,10 @@ seen_given items t note s before after is same left =
       },
     )) there
     ∙ ap (λ (l : Laid). Ok (
-      items ++ view.note_items note,
+      items ++ view.boxed_note_items note,
       record { here = s.here; laid = record l { last = behind_seen Adjacent t } },
     )) same
-    ∙ ap (λ (l : Laid). Ok (items ++ view.note_items note, record { here = s.here; laid = l })) (sym left)
+    ∙ ap (λ (l : Laid). Ok (items ++ view.boxed_note_items note, record { here = s.here; laid = l })) (sym left)
 
 -- ---- as it is defined
 
@@ -62,7 +63,7 @@ unasked (OfComment c ∷ items) note = unasked items note
 
 incoming_note : (asked : Bool) (items : List Item) (note : Option CommentRead)
     → incoming asked (items ++ nodes.note_items note)
-    ≡ incoming asked items ++ nodes.note_items (noted (seen asked note))
+    ≡ incoming asked items ++ nodes.note_items (comment_kept (seen asked note))
 incoming_note true items None = refl
 incoming_note true items (Some c) = refl
 incoming_note false items None = unasked items None
@@ -89,7 +90,7 @@ module _ (asked : Bool) (o : OptionsData) where
       )) (incoming_note asked items x.0)
       ∙ ap (λ (t : LastLexeme). Ok (
         incoming asked items
-            ++ nodes.note_items (noted (seen asked x.0)),
+            ++ nodes.note_items (comment_kept (seen asked x.0)),
         record { here = x.1.here; laid = record (x.1.laid) { last = t } },
       ))
       (last_is asked x.0)

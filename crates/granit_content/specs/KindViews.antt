@@ -7,7 +7,7 @@ use Rattle.granit_cursor.specs.declared.token.TokenType.TheVariants as tokens
 use Rattle.granit_lexemes.specs.Comment.{CommentRead}
 use Rattle.granit_lexemes.specs.Lexeme as spec
 use Rattle.granit_lexemes.specs.Source.{Source}
-use Rattle.granit_items.specs.ItemViews.{characters_of}
+use Rattle.granit_items.specs.ItemViews.{written_characters}
 use Rattle.std.specs.Prelude.{true, false}
 
 -- What a token's lexeme is. What a scanner inserts, and a comment, is no lexeme: it is seen as a directive without a
@@ -16,7 +16,7 @@ abbrev pub kind_of_type : TokenType → spec.LexemeKind
 kind_of_type (tokens.VersionDirective major minor) = spec.Directive (spec.Version major minor)
 kind_of_type (tokens.TagDirective handle prefix) = spec.Directive (spec.TagPrefix handle.characters prefix.characters)
 kind_of_type (tokens.ReservedDirective name parameters) = spec.Directive
-    (spec.Reserved name.characters (map characters_of parameters))
+    (spec.Reserved name.characters (map written_characters parameters))
 kind_of_type (tokens.Alias name) = spec.Alias name
 kind_of_type (tokens.Anchor name) = spec.Anchor name
 kind_of_type (tokens.Tag handle suffix) = spec.Tag handle.characters suffix.characters

@@ -63,10 +63,10 @@ tail_view tails.Passed = Passed
 tail_view (tails.Kept n) = Kept (boxed_view n)
 
 -- the comment that is kept
-abbrev pub noted : Seen → Option CommentRead
-noted Nothing = None
-noted Passed = None
-noted (Kept c) = Some c
+abbrev pub comment_kept : Seen → Option CommentRead
+comment_kept Nothing = None
+comment_kept Passed = None
+comment_kept (Kept c) = Some c
 
 -- behind a closer a value may stand at once, unless a comment does
 abbrev pub behind_seen : LastLexeme → Seen → LastLexeme
@@ -75,9 +75,9 @@ behind_seen last Passed = no_more_adjacent last
 behind_seen last (Kept c) = no_more_adjacent last
 
 -- the comment itself, where comments are asked for
-abbrev pub kept : (asked : Bool) → Option CommentRead → Option CommentRead
-kept true noted = noted
-kept false noted = None
+abbrev pub note_if_asked : (asked : Bool) → Option CommentRead → Option CommentRead
+note_if_asked true noted = noted
+note_if_asked false noted = None
 
 -- ---- lexemes
 

@@ -18,11 +18,11 @@ use Rattle.granit_machine.specs.Laid.{Laid}
 use Rattle.granit_machine.specs.NodeLexemes as nodes
 use Rattle.granit_machine.specs.ReaderState.{ReaderState, Read, lexeme_to, with_tail}
 use Rattle.granit_content.specs.KindViews.{kind_of_type, note_of_token}
-use Rattle.granit_content.specs.Reads.{IsAt, Seen, seen, noted, behind_seen}
+use Rattle.granit_content.specs.Reads.{IsAt, Seen, seen, comment_kept, behind_seen}
 
 -- what a scalar is told, where comments are asked for or not
-abbrev pub asking : Bool → LayoutData → LayoutData
-asking asked at = record at { comments = asked }
+abbrev pub layout_asking : Bool → LayoutData → LayoutData
+layout_asking asked at = record at { comments = asked }
 
 -- the lexeme from here to the end of a token, with a tail
 abbrev pub token_as : Bool → Token → Option CommentRead → Here → Laid → Lexeme
@@ -51,7 +51,7 @@ block_as ends read h l = shown_as ends read.token (tail_of read) h l
 abbrev pub with_seen : List Item → Seen → ReaderState → Read
 with_seen items s r =
     Ok (
-      items ++ nodes.note_items (noted s),
+      items ++ nodes.note_items (comment_kept s),
       record {
         here = r.here;
         laid =

@@ -3,7 +3,7 @@ ghost use Rattle.std.specs.Prelude.{◌≡◌, ◌<◌, ◌≤◌, ◌&&◌, ◌
 ghost use Rattle.granit_base.specs.Classes.{is_blank, is_gap};
 ghost use Rattle.granit_cursor.specs.Reading.{Moves, Stands, Wherever, GoesTo};
 ghost use Rattle.granit_error.specs.OptionsView.{options_of};
-ghost use Rattle.granit_lexemes.specs.Here.{Here, next_char, past};
+ghost use Rattle.granit_lexemes.specs.Here.{Here, mark_of, next_char, past};
 ghost use Rattle.granit_machine.specs.Gaps as spec;
 ghost use Rattle.granit_refused.specs.Answered.{answered};
 ghost use Rattle.granit_content.specs.declared.tail.Tail.TheVariants.{Nothing};
@@ -43,8 +43,7 @@ pub fn gap<'input, T: BorrowedInput<'input>>(
     ensures moves { Moves T.unread T.left T.origin at.old at.new }
 {
     let may_prefix = layouts.takes_prefix();
-    let moved = begins_gap(at, may_prefix);
-    past_gap(at, may_prefix);
+    let moved = past_gap_here(at, may_prefix);
     if at.input().peek() == '#' {
         return noted_gap(alloc, options.emit_comments, at, layouts, fault);
     }
@@ -89,8 +88,7 @@ fn ready_gap<'input, T: Input>(
         (answered fault.new result)
         (λ h. spec.ready_gap (options_of options.now) moved h layouts.old) }
 {
-    let tab = leading_tab(at);
-    layouts.refuse_tab(options, at.mark(), tab, fault)?;
+    refuse_leading_tab(options, at, layouts, fault)?;
     refuse_cut(at, layouts, fault)?;
     layouts.behind_gap(moved);
     Ok(Tail::Nothing)
@@ -100,11 +98,29 @@ fn ready_gap<'input, T: Input>(
 #[tactic(auto, unfolding(granit_base::specs::Classes::is_gap))]
 fn begins_gap<T: Input>(at: &mut Cursor<T>, may_prefix: bool) -> bool
     ensures here { Wherever T.unread at.old at.new (λ h Lands. Lands h × (result ≡ spec.begins_gap may_prefix h)) }
+    ensures seen { (h : Here) → Stands T.unread at.new h → result ≡ spec.begins_gap may_prefix h }
+    ensures window { 4 ≤ T.window at.new.input }
     ensures moves { Moves T.unread T.left T.origin at.old at.new }
 {
-    at.look(1);
+    at.look(4);
     let c = at.input().peek();
     is_blank(c) || is_break(c) || may_prefix && is_bom(c) && at.mark().col() == 0
+}
+
+/// Over the gap that begins here, if one does; whether one did.
+#[inline(always)]
+fn past_gap_here<T: Input>(at: &mut Cursor<T>, may_prefix: bool) -> bool
+    ensures here { Wherever T.unread at.old at.new (λ h Lands.
+        Lands (spec.past_gap may_prefix h) × (result ≡ spec.begins_gap may_prefix h)) }
+    ensures clear { (h : Here) → Stands T.unread at.new h → spec.begins_gap may_prefix h ≡ false }
+    ensures window { 4 ≤ T.window at.new.input }
+    ensures moves { Moves T.unread T.left T.origin at.old at.new }
+{
+    if begins_gap(at, may_prefix) {
+        past_gap(at, may_prefix);
+        return true;
+    }
+    false
 }
 
 /// Over blanks, breaks and, where one may stand, byte-order marks in front of a document.
@@ -172,6 +188,25 @@ pub fn leading_tab<T: Input>(at: &Cursor<T>) -> Option<Marker>
         return at.tab();
     }
     None
+}
+
+/// Refuses a tab that begins the line, where none may.
+#[inline(always)]
+fn refuse_leading_tab<T: Input>(
+    options: &Options,
+    at: &Cursor<T>,
+    layouts: &Layouts,
+    fault: &mut Option<ScanError>,
+) -> Result<(), Refused>
+    requires window { 1 ≤ T.window at.now.input }
+    ensures here { (h : Here) → Stands T.unread at.now h → answered fault.new result
+        ≡ spec.refuse_tab (options_of options.now) layouts.now (mark_of h) (spec.leading_tab h) }
+    ensures memory { NeverWants (answered fault.new result) }
+{
+    if at.tab().is_none() {
+        return Ok(());
+    }
+    layouts.refuse_tab(options, at.mark(), leading_tab(at), fault)
 }
 
 /// Refuses what would go on with a plain scalar that a comment cut short.

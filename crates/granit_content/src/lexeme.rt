@@ -5,7 +5,8 @@ ghost use Rattle.granit_lexemes.specs.Here.{Here, step};
 ghost use Rattle.granit_machine.specs.ReaderState as spec;
 ghost use Rattle.granit_items.specs.ItemViews.{kind_view, lexeme_view};
 ghost use Rattle.granit_refused.specs.Answered.{answered};
-ghost use Rattle.granit_content.specs.Reads.{IsStart, NeverWants, ReadsItems, behind_seen, lexeme_in, noted, tail_view};
+ghost use Rattle.granit_content.specs.Reads.{IsStart, NeverWants, ReadsItems, behind_seen, comment_kept, lexeme_in};
+ghost use Rattle.granit_content.specs.Reads.{tail_view};
 
 use crate::tail::{Tail, tail_at};
 use granit_base::Marker;
@@ -83,7 +84,7 @@ pub fn sign<'input, T: Input>(
 
 /// The lexeme gets a tail.
 pub fn put_tail<'input>(found: &mut Lexeme<'input>, tail: Tail<'input>)
-    ensures { lexeme_view found.new ≡ spec.with_tail (lexeme_view found.old) (noted (tail_view tail.entry)) }
+    ensures { lexeme_view found.new ≡ spec.with_tail (lexeme_view found.old) (comment_kept (tail_view tail.entry)) }
 {
     found.tail = tail.into_note();
 }

@@ -7,7 +7,7 @@ ghost use Rattle.granit_lexemes.specs.Tail as spec;
 ghost use Rattle.granit_items.specs.ItemViews.{boxed_view};
 ghost use Rattle.granit_refused.specs.Answered.{answered};
 ghost use Rattle.granit_content.specs.declared.tail.Tail.TheVariants.{Nothing};
-ghost use Rattle.granit_content.specs.Reads.{NeverWants, noted, seen, seen_comment, tail_view};
+ghost use Rattle.granit_content.specs.Reads.{NeverWants, comment_kept, seen, seen_comment, tail_view};
 
 use crate::kinds::note;
 use granit_cursor::{Cursor, pass_comment, read_comment};
@@ -31,7 +31,7 @@ pub enum Tail<'input> {
 impl<'input> Tail<'input> {
     /// The comment, where it is kept.
     pub(crate) fn into_note(self) -> Option<Box<Note<'input>>>
-        ensures { option_map boxed_view result ≡ noted (tail_view self.entry) }
+        ensures { option_map boxed_view result ≡ comment_kept (tail_view self.entry) }
     {
         match self {
             Tail::Nothing => None,

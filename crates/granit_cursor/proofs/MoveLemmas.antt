@@ -13,7 +13,7 @@ use Rattle.granit_base.specs.Classes.{is_printable, is_bom, is_blank, is_break, 
 use Rattle.granit_base.specs.Classes.{is_non_breakz}
 use Rattle.granit_base.specs.Place.{Place, Mark, Unread, first, ends_line}
 use Rattle.granit_base.specs.Written.{string_chars}
-use Rattle.granit_input.specs.Unread.{past}
+use Rattle.granit_input.specs.Unread.{past_count}
 use Rattle.granit_input.specs.Runs.{run_length, starts, is_line_char, is_quoted_char}
 use Rattle.granit_base.specs.PlainContent.{is_content}
 use Rattle.granit_input.specs.White.{is_skipped}
@@ -52,7 +52,7 @@ moved_more n p =
 
 -- so many characters of a line are behind
 pub record Along (n : ℕ) (h now : Here) : Type 0 where
-  pub unread : now.unread ≡ past n h.unread
+  pub unread : now.unread ≡ past_count n h.unread
   pub place : now.place ≡ moved n h.place
 
 not_none : (n : ℕ) → 0 < n → (n == 0) ≡ false
@@ -94,7 +94,8 @@ run_along test (suc n) h line fits =
     let rest = run_along test n (step h) line (run_rest test n h b.more) in
     let k : 1 + n ≡ suc n = omega arith in
     record {
-      unread = rest.unread ∙ ap (past n) one.unread ∙ past_twice 1 n h.unread ∙ ap (λ (m : ℕ). past m h.unread) k;
+      unread = rest.unread ∙ ap (past_count n) one.unread ∙ past_twice 1 n h.unread
+          ∙ ap (λ (m : ℕ). past_count m h.unread) k;
       place = rest.place ∙ ap (moved n) one.place ∙ moved_more n h.place;
     }
 
@@ -380,13 +381,13 @@ StandsAt unread s h = unread s.input h.unread × (h.place ≡ s.place) × (h.beg
 
 module _ {I : Type 0} (unread : I → Unread → Type 0) (test : List ℕ → Bool) (n : ℕ) (old new : Spot I)
     (h : Here) where
-  pub along_stands : Along n h (steps n h) → StandsAt unread old h → unread new.input (past n h.unread)
+  pub along_stands : Along n h (steps n h) → StandsAt unread old h → unread new.input (past_count n h.unread)
       → new.place ≡ moved n old.place → unread new.input (steps n h).unread × ((steps n h).place ≡ new.place)
   along_stands a k known place = (subst (unread new.input) (sym a.unread) known, a.place ∙ ap (moved n) k.1 ∙ sym place)
 
   -- behind characters that show
   pub lands : Shows test → n ≤ run_length test h.unread.text → StandsAt unread old h
-      → unread new.input (past n h.unread) → new.place ≡ moved n old.place
+      → unread new.input (past_count n h.unread) → new.place ≡ moved n old.place
       → new.begins_line ≡ (old.begins_line && n == 0) → new.tab ≡ (if n == 0 then old.tab else None)
       → StandsAt unread new (steps n h)
   lands shows fits k known place begins tab =
@@ -401,7 +402,7 @@ module _ {I : Type 0} (unread : I → Unread → Type 0) (test : List ℕ → Bo
 
   -- behind the characters of a line that is begun with them
   pub lands_inside : KeepsLine test → n ≤ run_length test h.unread.text → StandsAt unread old h
-      → unread new.input (past n h.unread) → new.place ≡ moved n old.place
+      → unread new.input (past_count n h.unread) → new.place ≡ moved n old.place
       → new.begins_line ≡ false → new.tab ≡ None → StandsAt unread new (mid_line (steps n h))
   lands_inside line fits k known place begins tab =
       let a = along_stands (run_along test n h line fits) k known place in
@@ -410,7 +411,7 @@ module _ {I : Type 0} (unread : I → Unread → Type 0) (test : List ℕ → Bo
 pub lands_spaces :
     {I : Type 0} (unread : I → Unread → Type 0) (n : ℕ) (old new : Spot I) (h : Here)
     → n ≤ run_length (starts is_space) h.unread.text → StandsAt unread old h
-    → unread new.input (past n h.unread) → new.place ≡ moved n old.place → new.begins_line ≡ old.begins_line
+    → unread new.input (past_count n h.unread) → new.place ≡ moved n old.place → new.begins_line ≡ old.begins_line
     → new.tab ≡ old.tab → StandsAt unread new (steps n h)
 lands_spaces unread n old new h fits k known place begins tab =
     let a = along_stands unread (starts is_space) n old new h (run_along (starts is_space) n h space_line fits) k known
@@ -421,7 +422,7 @@ lands_spaces unread n old new h fits k known place begins tab =
 pub lands_tabs :
     {I : Type 0} (unread : I → Unread → Type 0) (n : ℕ) (old new : Spot I) (h : Here) → next_char h ≡ 0x09
     → n ≡ run_length (starts is_blank) h.unread.text → StandsAt unread old h
-    → unread new.input (past n h.unread) → new.place ≡ moved n old.place → new.begins_line ≡ old.begins_line
+    → unread new.input (past_count n h.unread) → new.place ≡ moved n old.place → new.begins_line ≡ old.begins_line
     → new.tab ≡ first_tab h.tab (mark_of h) → StandsAt unread new (steps n h)
 lands_tabs unread n old new h is fits k known place begins tab =
     let a = along_stands unread (starts is_blank) n old new h
@@ -436,7 +437,7 @@ mark_some (c ∷ cs) is = omega arith
 
 pub mark_lands :
     {I : Type 0} (unread : I → Unread → Type 0) (old new : Spot I) (h : Here) → next_char h ≡ 0xFEFF
-    → StandsAt unread old h → unread new.input (past 1 h.unread)
+    → StandsAt unread old h → unread new.input (past_count 1 h.unread)
     → new.place ≡ record { index = old.place.index + 1; line = old.place.line; column = old.place.column }
     → new.begins_line ≡ old.begins_line → new.tab ≡ old.tab → StandsAt unread new (past_prefix_mark h)
 unfolding past_prefix_mark

@@ -10,7 +10,7 @@ use Rattle.granit_base.specs.Place.{Unread}
 use Rattle.granit_input.specs.Chunks.{TakesFront}
 use Rattle.granit_input.specs.Origin.{Origin, Goes, Agrees, PartOf, LentBetween, can_lend}
 use Rattle.granit_input.specs.Runs.{run_length}
-use Rattle.granit_input.specs.Unread.{past, utf8_length, SpelledBy}
+use Rattle.granit_input.specs.Unread.{past_count, utf8_length, SpelledBy}
 use Rattle.granit_input.proofs.LendLemmas.{lent_between}
 use Rattle.granit_input.proofs.UnreadLemmas.{past_offset}
 use Rattle.granit_base.specs.Written.{Written}
@@ -67,11 +67,11 @@ some_found at o u found =
 
 -- what the source holds behind a place, up to n characters on, is there, and is those characters
 pub lent_since : (old now : Origin) (left_old left_now : ℕ) (u : Unread) (n at : ℕ) (answer : Option (Bor (List ℕ)))
-    → Goes old now → Agrees left_old old u → Agrees left_now now (past n u)
-    → has_source old ≡ true → Some at ≡ u.offset → LentBetween now.sliced (Some at) (past n u).offset answer
+    → Goes old now → Agrees left_old old u → Agrees left_now now (past_count n u)
+    → has_source old ≡ true → Some at ≡ u.offset → LentBetween now.sliced (Some at) (past_count n u).offset answer
     → (is_some answer ≡ true) × IfSome answer (λ part. chars part.now ≡ take n u.text)
 lent_since old now left_old left_now u n at answer goes before after there from h =
-    let answered = lent_between now.sliced (Some at) (past n u).offset u.text (past n u).text n answer
+    let answered = lent_between now.sliced (Some at) (past_count n u).offset u.text (past_count n u).text n answer
     (λ bytes place is told. before.sliced bytes place (sym goes.sliced ∙ is) (sym from ∙ told))
     (λ bytes place is told. after.sliced bytes place is told)
     (past_offset n u ∙ ap (option_map (λ bytes. bytes + utf8_length (take n u.text))) (sym from))
@@ -135,11 +135,11 @@ not_found_lends left o u agrees found =
 
 -- what was read since a place from which it lends is lent
 pub lent_here : (now : Origin) (left : ℕ) (u : Unread) (n at : ℕ) (answer : Option (Bor (List ℕ)))
-    → SpelledBy now.lent u → can_lend now ≡ true → Some at ≡ u.offset → Agrees left now (past n u)
-    → LentBetween now.lent (Some at) (past n u).offset answer
+    → SpelledBy now.lent u → can_lend now ≡ true → Some at ≡ u.offset → Agrees left now (past_count n u)
+    → LentBetween now.lent (Some at) (past_count n u).offset answer
     → (is_some answer ≡ true) × IfSome answer (λ part. chars part.now ≡ take n u.text)
 lent_here now left u n at answer spelled lends from after h =
-    let answered = lent_between now.lent (Some at) (past n u).offset u.text (past n u).text n answer
+    let answered = lent_between now.lent (Some at) (past_count n u).offset u.text (past_count n u).text n answer
     (λ bytes place is told. spelled bytes place is (sym from ∙ told))
     (λ bytes place is told. after.lent bytes place is told)
     (past_offset n u ∙ ap (option_map (λ bytes. bytes + utf8_length (take n u.text))) (sym from))
@@ -156,7 +156,7 @@ spelled_on old now left u goes before lends = (
 
 -- the place behind a run of a line
 pub run_behind : (test : List ℕ → Bool) (n : ℕ) (h : Here) → KeepsLine test → n ≡ run_length test h.unread.text
-    → (steps n h).unread ≡ past n h.unread
+    → (steps n h).unread ≡ past_count n h.unread
 run_behind test n h line is = (run_along test n h line (omega (arith, is))).unread
 
 -- a text of a run that was lent, and one that was copied

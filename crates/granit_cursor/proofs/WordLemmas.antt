@@ -7,7 +7,7 @@ use Rattle.granit_base.specs.Classes.{is_blank, is_blank_or_breakz, is_break, is
 use Rattle.granit_base.specs.Place.{Mark, Unread, ends_line, first}
 use Rattle.granit_base.specs.PlainContent.{is_content}
 use Rattle.granit_input.specs.Runs.{run_length, begins_word, is_plain_word, is_quoted_char, is_quoted_word}
-use Rattle.granit_input.specs.Unread.{past}
+use Rattle.granit_input.specs.Unread.{past_count}
 use Rattle.granit_lexemes.specs.Here.{Here, is_quiet, next_char, step}
 use Rattle.granit_lexemes.specs.Moves.{steps}
 use Rattle.granit_lexemes.proofs.HereLemmas.{step_text}
@@ -87,7 +87,7 @@ joined test (suc n) h joins nul whole =
 pub lands_joined :
     {I : Type 0} (unread : I → Unread → Type 0) (test : List ℕ → Bool) (n : ℕ) (old new : Spot I) (h : Here)
     → JoinsAll test → test [] ≡ false → n ≡ run_length test h.unread.text → StandsAt unread old h
-    → unread new.input (past n h.unread) → new.place ≡ moved n old.place
+    → unread new.input (past_count n h.unread) → new.place ≡ moved n old.place
     → new.begins_line ≡ (old.begins_line && n == 0) → new.tab ≡ (if n == 0 then old.tab else None)
     → StandsAt unread new (steps n h)
 lands_joined unread test n old new h joins nul whole k known place begins tab =

@@ -95,8 +95,8 @@ FetchesSteps test h result Lands before after =
     IfOk result (λ count. StepsRun test h count Lands × (after ≡ before ++ take count h.unread.text))
 
 -- a cursor is known to stand there with something before it on its line, and no tab directly before it
-abbrev pub Inside : (Here → Type 0) → Here → Type 0
-Inside Lands h = Lands (mid_line h)
+abbrev pub InsideLine : (Here → Type 0) → Here → Type 0
+InsideLine Lands h = Lands (mid_line h)
 
 -- a front of the run was taken, and the cursor stands behind it
 abbrev pub StepsFront : (List ℕ → Bool) → Here → ℕ → Bool × ℕ → (Here → Type 0) → Type 0
@@ -134,10 +134,10 @@ IsLent (Ok part) text = chars part.now ≡ text
 IsLent (Err e) text = ⊥
 
 -- A run was taken whole, and lent where the input lends; the cursor stands behind it. A refusal is for want of memory.
-abbrev pub TakesText : (List ℕ → Bool) → Here → Result Written Refused → (Here → Type 0) → Type 0
-TakesText test h (Ok text) Lands =
+abbrev pub TakesWholeRun : (List ℕ → Bool) → Here → Result Written Refused → (Here → Type 0) → Type 0
+TakesWholeRun test h (Ok text) Lands =
     (n : ℕ) × StepsRun test h n Lands × (text ≡ as_spelled h (take n h.unread.text))
-TakesText test h (Err e) Lands = e.kind ≡ NoMemory
+TakesWholeRun test h (Err e) Lands = e.kind ≡ NoMemory
 
 -- where the input lends what is there, no refusal is for want of memory
 abbrev pub LendsWithoutMemory : {I X : Type 0} → (I → Unread → Type 0) → Reading I → Result X Refused → Type 0

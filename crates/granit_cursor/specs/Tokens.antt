@@ -14,15 +14,15 @@ use Rattle.granit_cursor.specs.declared.token.Token.{Token}
 use Rattle.granit_cursor.specs.declared.token.TokenType.TheVariants as tokens
 
 -- right of something on its line, or free as long as nothing else is known
-abbrev pub placed : Bool → Placement
-placed true = Right
-placed false = Free
+abbrev pub token_placement : Bool → Placement
+token_placement true = Right
+token_placement false = Free
 
 -- a comment, from its `#` to the end of its line
 abbrev pub comment_token : CommentRead → Token
 comment_token c = record {
   span = plain_span c.source.start c.source.end;
-  token_type = tokens.Comment (record { text = c.text; placement = placed c.is_right });
+  token_type = tokens.Comment (record { text = c.text; placement = token_placement c.is_right });
 }
 
 -- a scalar of that style, text and source

@@ -5,9 +5,9 @@ ghost use Rattle.granit_input.specs.Runs.{starts, is_line_char};
 ghost use Rattle.granit_lexemes.specs.Comment as spec;
 ghost use Rattle.granit_lexemes.specs.Here.{Here, next_char};
 ghost use Rattle.granit_cursor.specs.Reading.{Stands, Moves, Wherever, ReadsAs, AnswersAs, RefusedFor, coded};
-ghost use Rattle.granit_cursor.specs.Reading.{Inside, LendsWithoutMemory, TakesText};
+ghost use Rattle.granit_cursor.specs.Reading.{InsideLine, LendsWithoutMemory, TakesWholeRun};
 ghost use Rattle.granit_cursor.specs.Tokens.{IsCommentKind};
-ghost use Rattle.granit_cursor.specs.Tokens.{placed, comment_token};
+ghost use Rattle.granit_cursor.specs.Tokens.{token_placement, comment_token};
 
 use crate::comment::Comment;
 use crate::cursor::Cursor;
@@ -94,7 +94,7 @@ fn comment_text<'input, T: BorrowedInput<'input>>(
     cursor: &mut Cursor<T>,
 ) -> Result<Text<'input>, ScanError>
     ensures here { Wherever T.unread cursor.old cursor.new (λ h Lands.
-        TakesText (starts is_line_char) h result (Inside Lands)) }
+        TakesWholeRun (starts is_line_char) h result (InsideLine Lands)) }
     ensures lent { LendsWithoutMemory T.unread cursor.old result }
     ensures kinds { IfErr result (λ e. (e.kind ≡ NoMemory) ⊎ (e.kind ≡ InputSlicingUnavailable)) }
     ensures moves { Moves T.unread T.left T.origin cursor.old cursor.new }
@@ -117,7 +117,7 @@ fn comment_text<'input, T: BorrowedInput<'input>>(
 
 /// Where a comment stands, as far as its line tells.
 fn placement(is_right: bool) -> Placement
-    ensures { result ≡ placed is_right }
+    ensures { result ≡ token_placement is_right }
 {
     if is_right {
         Placement::Right

@@ -19,7 +19,7 @@ ghost use Rattle.granit_input.specs.declared.whitespace.SkipTabs.TheVariants.{No
 ghost use Rattle.granit_lexemes.specs.Here as spec;
 ghost use Rattle.granit_lexemes.specs.Here.{Here, first_place, mark_of, next_char, step};
 ghost use Rattle.granit_lexemes.specs.Moves.{past_prefix_mark};
-ghost use Rattle.granit_cursor.specs.Reading.{Stands, GoesOnward, Moves, Takes, Wherever, GoesTo, Inside, StepsRun};
+ghost use Rattle.granit_cursor.specs.Reading.{Stands, GoesOnward, Moves, Takes, Wherever, GoesTo, InsideLine, StepsRun};
 ghost use Rattle.granit_cursor.specs.Reading.{StepsFront, FetchesSteps, FetchesFrontSteps, LendsSteps, has_source};
 ghost use Rattle.granit_cursor.specs.contracts.cursor.Cursor.{the_row};
 
@@ -454,7 +454,8 @@ impl<T: Input> Cursor<T> {
     /// Its error is `NoMemory` alone, and what the text held stays in front.
     pub fn fetch_block_scalar_line(&mut self, out: &mut String) -> Result<usize, NoMemory>
         ensures here { Wherever T.unread self.old self.new (λ h Lands.
-            FetchesSteps (starts is_non_breakz) h result (Inside Lands) (string_chars out.old) (string_chars out.new)) }
+            FetchesSteps (starts is_non_breakz) h result (InsideLine Lands) (string_chars out.old)
+            (string_chars out.new)) }
         ensures kept { Extends (string_chars out.old) (string_chars out.new) }
         ensures takes { IfOk result (λ count. Takes T.left T.window self.old self.new count) }
         ensures moves { Moves T.unread T.left T.origin self.old self.new }
@@ -473,7 +474,7 @@ impl<T: Input> Cursor<T> {
     /// Consumes printable characters up to a break, NUL or the end; how many. The line is then begun.
     pub fn skip_while_non_breakz(&mut self) -> usize
         ensures here { Wherever T.unread self.old self.new (λ h Lands.
-            StepsRun (starts is_line_char) h result (Inside Lands)) }
+            StepsRun (starts is_line_char) h result (InsideLine Lands)) }
         ensures takes { Takes T.left T.window self.old self.new result }
         ensures moves { Moves T.unread T.left T.origin self.old self.new }
     {
@@ -489,7 +490,8 @@ impl<T: Input> Cursor<T> {
     /// begun. Its error is `NoMemory` alone, and what the text held stays in front.
     pub fn fetch_while_non_breakz(&mut self, out: &mut String) -> Result<usize, NoMemory>
         ensures here { Wherever T.unread self.old self.new (λ h Lands.
-            FetchesSteps (starts is_line_char) h result (Inside Lands) (string_chars out.old) (string_chars out.new)) }
+            FetchesSteps (starts is_line_char) h result (InsideLine Lands) (string_chars out.old)
+            (string_chars out.new)) }
         ensures kept { Extends (string_chars out.old) (string_chars out.new) }
         ensures takes { IfOk result (λ count. Takes T.left T.window self.old self.new count) }
         ensures moves { Moves T.unread T.left T.origin self.old self.new }

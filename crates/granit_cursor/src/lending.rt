@@ -3,7 +3,7 @@ ghost use Rattle.std.specs.Prelude.{◌≡◌, ℕ, IfErr, None, Some, if◌then
 ghost use Rattle.granit_base.specs.Place.{Unread};
 ghost use Rattle.granit_error.specs.FaultKind.{InputSlicingUnavailable};
 ghost use Rattle.granit_input.specs.Origin.{can_lend, LentBetween};
-ghost use Rattle.granit_input.specs.Unread.{SpelledBy, past};
+ghost use Rattle.granit_input.specs.Unread.{SpelledBy, past_count};
 ghost use Rattle.granit_lexemes.specs.Here.{Here};
 ghost use Rattle.granit_cursor.specs.Reading.{Stands, IsLent};
 
@@ -43,7 +43,8 @@ pub fn lent_since<'input, T: BorrowedInput<'input>>(
     start: usize,
 ) -> Result<&'input str, ScanError>
     ensures here { (u : Unread) (n : ℕ) → SpelledBy (T.origin cursor.now.input).lent u
-        → can_lend (T.origin cursor.now.input) ≡ true → Some start ≡ u.offset → T.unread cursor.now.input (past n u)
+        → can_lend (T.origin cursor.now.input) ≡ true → Some start ≡ u.offset
+        → T.unread cursor.now.input (past_count n u)
         → IsLent result (take n u.text) }
     ensures kinds { IfErr result (λ e. e.kind ≡ InputSlicingUnavailable) }
 {

@@ -16,8 +16,8 @@ use Rattle.granit_directives.specs.declared.tag_directive.HandleText.{HandleText
 use Rattle.granit_directives.specs.declared.tag_directive.PrefixText.{PrefixText}
 use Rattle.granit_directives.specs.declared.tag_directive.SpelledHandle.{SpelledHandle}
 
-abbrev pub prefix_read : PrefixText → DirectiveKind
-prefix_read p = TagPrefix (string_chars p.handle) (string_chars p.prefix)
+abbrev pub prefix_directive : PrefixText → DirectiveKind
+prefix_directive p = TagPrefix (string_chars p.handle) (string_chars p.prefix)
 
 -- a second `!` was taken where it is next
 abbrev pub ClosesTo : {E : Type 0} → Result Bool E → (Here → Type 0) → (old new : List ℕ) → Here → Type 0

@@ -4,7 +4,7 @@ ghost use Rattle.std.specs.Prelude.{◌≡◌, ◌==◌, ◌||◌, IfErr, Some};
 ghost use Rattle.granit_base.specs.Written.{string_chars};
 ghost use Rattle.granit_cursor.specs.Reading.{Stands, Moves, Wherever, GivesTo};
 ghost use Rattle.granit_directives.specs.DirectiveCode.{IsDirectiveKind};
-ghost use Rattle.granit_directives.specs.PrefixCode.{ClosesTo, HandleTo, SpellsTo, prefix_read, prefix_rest};
+ghost use Rattle.granit_directives.specs.PrefixCode.{ClosesTo, HandleTo, SpellsTo, prefix_directive, prefix_rest};
 ghost use Rattle.granit_lexemes.specs.Directive as spec;
 ghost use Rattle.granit_lexemes.specs.Here.{Here, next_char};
 ghost use Rattle.granit_properties.specs.UriCode.{budget_of};
@@ -141,7 +141,7 @@ fn prefix_rest<T: Input>(
     front: String,
 ) -> Result<PrefixText, ScanError>
     ensures here { Wherever T.unread cursor.old cursor.new (λ h Lands.
-        GivesTo prefix_read result Lands
+        GivesTo prefix_directive result Lands
         (prefix_rest start (budget_of (Some limit) handle.left) (string_chars handle.text) (string_chars front) h)) }
     ensures kinds { IfErr result (λ e. IsDirectiveKind e.kind) }
     ensures moves { Moves T.unread T.left T.origin cursor.old cursor.new }
@@ -175,7 +175,7 @@ fn prefix_at<T: Input>(
     handle: HandleText,
 ) -> Result<PrefixText, ScanError>
     ensures here { Wherever T.unread cursor.old cursor.new (λ h Lands.
-        GivesTo prefix_read result Lands
+        GivesTo prefix_directive result Lands
         (spec.prefix_at (budget_of (Some limit) handle.left) start (string_chars handle.text) h)) }
     ensures kinds { IfErr result (λ e. IsDirectiveKind e.kind) }
     ensures moves { Moves T.unread T.left T.origin cursor.old cursor.new }
@@ -208,7 +208,7 @@ pub(crate) fn tag_directive<T: Input>(
     left: usize,
 ) -> Result<PrefixText, ScanError>
     ensures here { Wherever T.unread cursor.old cursor.new (λ h Lands.
-        GivesTo prefix_read result Lands (spec.tag_directive (budget_of (Some limit) left) start h)) }
+        GivesTo prefix_directive result Lands (spec.tag_directive (budget_of (Some limit) left) start h)) }
     ensures kinds { IfErr result (λ e. IsDirectiveKind e.kind) }
     ensures moves { Moves T.unread T.left T.origin cursor.old cursor.new }
 {

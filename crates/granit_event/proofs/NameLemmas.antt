@@ -13,7 +13,7 @@ use Rattle.std.proofs.lemmas.List.{append_cancel_left}
 use Rattle.std.proofs.lemmas.Str.{encodes-append, encodes-chars, chars-append, IsUtf8-append}
 use Rattle.granit_base.specs.Written.{Written, same_text}
 use Rattle.granit_event.specs.Names.{told, behind_front, core_namespace, core_names, name_or, named}
-use Rattle.granit_event.specs.Names.{core_suffix_of, more_than, goes_on, lent_unless}
+use Rattle.granit_event.specs.Names.{core_suffix_of, more_than, has_more, lent_unless}
 
 -- ---- a front, and what follows it
 
@@ -104,7 +104,7 @@ pub behind_both : (f a b l r : List ℕ) → Some l ≡ behind_front a f → Som
 unfolding chars
 behind_both f a b l r e is = behind_rest f a b l (Some r) e is
 
-pub nothing_more : (o : Option (List ℕ)) → None ≡ o → more_than (chars []) ≡ goes_on o
+pub nothing_more : (o : Option (List ℕ)) → None ≡ o → more_than (chars []) ≡ has_more o
 unfolding chars
 nothing_more None e = refl
 nothing_more (Some x) e = absurd cc

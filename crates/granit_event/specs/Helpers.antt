@@ -8,14 +8,14 @@ use Rattle.granit_lexemes.specs.PlainEvent.{PlainTag, EventKind, Alias, Anchor, 
 use Rattle.granit_lexemes.specs.PlainEvent.{SequenceStart, MappingStart}
 
 -- the number of an anchor, where there is one
-abbrev pub numbered : ℕ → Option ℕ
-numbered n = if n == 0 then None else Some n
+abbrev pub anchor_unless_zero : ℕ → Option ℕ
+anchor_unless_zero n = if n == 0 then None else Some n
 
 abbrev pub anchor_of : EventKind → Option ℕ
-anchor_of (Anchor anchor name) = numbered anchor
-anchor_of (Scalar text style anchor tag) = numbered anchor
-anchor_of (SequenceStart style anchor tag) = numbered anchor
-anchor_of (MappingStart style anchor tag) = numbered anchor
+anchor_of (Anchor anchor name) = anchor_unless_zero anchor
+anchor_of (Scalar text style anchor tag) = anchor_unless_zero anchor
+anchor_of (SequenceStart style anchor tag) = anchor_unless_zero anchor
+anchor_of (MappingStart style anchor tag) = anchor_unless_zero anchor
 anchor_of _ = None
 
 abbrev pub alias_of : EventKind → Option ℕ
@@ -27,15 +27,15 @@ is_alias_kind (Alias anchor) = true
 is_alias_kind (UnresolvedAlias name) = true
 is_alias_kind _ = false
 
-abbrev pub tag_of : EventKind → Option PlainTag
-tag_of (Scalar text style anchor tag) = tag
-tag_of (SequenceStart style anchor tag) = tag
-tag_of (MappingStart style anchor tag) = tag
-tag_of _ = None
+abbrev pub event_tag : EventKind → Option PlainTag
+event_tag (Scalar text style anchor tag) = tag
+event_tag (SequenceStart style anchor tag) = tag
+event_tag (MappingStart style anchor tag) = tag
+event_tag _ = None
 
-abbrev pub scalar_of : EventKind → Option (List ℕ × ScalarStyle)
-scalar_of (Scalar text style anchor tag) = Some (text.characters, style)
-scalar_of _ = None
+abbrev pub event_scalar : EventKind → Option (List ℕ × ScalarStyle)
+event_scalar (Scalar text style anchor tag) = Some (text.characters, style)
+event_scalar _ = None
 
 -- a text by its characters
 abbrev pub scalar_told : Option (Bor (List ℕ) × ScalarStyle) → Option (List ℕ × ScalarStyle)
@@ -51,11 +51,11 @@ is_node_kind (MappingStart style anchor tag) = true
 is_node_kind _ = false
 
 -- a copy of it takes no memory: its text is borrowed, and it has no tag
-abbrev pub CopyTakesNone : EventKind → Type 0
-CopyTakesNone (Anchor anchor name) = name.is_borrowed ≡ true
-CopyTakesNone (UnresolvedAlias name) = name.is_borrowed ≡ true
-CopyTakesNone (Comment text placement) = text.is_borrowed ≡ true
-CopyTakesNone (Scalar text style anchor tag) = (text.is_borrowed ≡ true) × (tag ≡ None)
-CopyTakesNone (SequenceStart style anchor tag) = tag ≡ None
-CopyTakesNone (MappingStart style anchor tag) = tag ≡ None
-CopyTakesNone _ = ⊤
+abbrev pub EventCopyTakesNone : EventKind → Type 0
+EventCopyTakesNone (Anchor anchor name) = name.is_borrowed ≡ true
+EventCopyTakesNone (UnresolvedAlias name) = name.is_borrowed ≡ true
+EventCopyTakesNone (Comment text placement) = text.is_borrowed ≡ true
+EventCopyTakesNone (Scalar text style anchor tag) = (text.is_borrowed ≡ true) × (tag ≡ None)
+EventCopyTakesNone (SequenceStart style anchor tag) = tag ≡ None
+EventCopyTakesNone (MappingStart style anchor tag) = tag ≡ None
+EventCopyTakesNone _ = ⊤

@@ -52,9 +52,9 @@ abbrev pub more_than : List ℕ → Bool
 more_than [] = false
 more_than (c ∷ x) = true
 
-abbrev pub goes_on : Option (List ℕ) → Bool
-goes_on None = false
-goes_on (Some x) = more_than x
+abbrev pub has_more : Option (List ℕ) → Bool
+has_more None = false
+has_more (Some x) = more_than x
 
 abbrev pub lent_unless : Bool → List ℕ → Written
 lent_unless true x = record { characters = x; is_borrowed = false }
@@ -62,15 +62,15 @@ lent_unless false x = record { characters = x; is_borrowed = true }
 
 -- what follows a namespace in the name of a tag: lent, unless the handle goes on behind the namespace
 abbrev pub suffix_behind : List ℕ → PlainTag → Option Written
-suffix_behind namespace t = option_map (lent_unless (goes_on (behind_front namespace t.handle)))
+suffix_behind namespace t = option_map (lent_unless (has_more (behind_front namespace t.handle)))
     (behind_front namespace (name_of t))
 
 abbrev pub verbatim : List ℕ → List ℕ
 verbatim suffix = (codes "!<" ++ suffix) ++ codes ">"
 
-abbrev pub is_verbatim : PlainTag → Bool
-is_verbatim t = same_text t.original_handle [] && not (same_text t.suffix (codes "!"))
+abbrev pub is_verbatim_tag : PlainTag → Bool
+is_verbatim_tag t = same_text t.original_handle [] && not (same_text t.suffix (codes "!"))
 
 -- a tag as it is written: a verbatim one has no handle, and neither has the non-specific one, `!` (6.9.1)
 abbrev pub original_of : PlainTag → List ℕ
-original_of t = if is_verbatim t then verbatim t.suffix else t.original_handle ++ t.suffix
+original_of t = if is_verbatim_tag t then verbatim t.suffix else t.original_handle ++ t.suffix

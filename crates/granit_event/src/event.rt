@@ -2,8 +2,8 @@
 ghost use Rattle.std.specs.Prelude.{◌≡◌, IfOk, IsOk, None};
 ghost use Rattle.std.specs.Option.{option_copied};
 ghost use Rattle.granit_event.specs.Events.{event_kind};
-ghost use Rattle.granit_event.specs.Helpers.{numbered as numbered_of, anchor_of, alias_of, is_alias_kind, tag_of};
-ghost use Rattle.granit_event.specs.Helpers.{scalar_of, scalar_told, is_node_kind, CopyTakesNone};
+ghost use Rattle.granit_event.specs.Helpers.{anchor_unless_zero as numbered_of, anchor_of, alias_of, is_alias_kind};
+ghost use Rattle.granit_event.specs.Helpers.{event_tag, event_scalar, scalar_told, is_node_kind, EventCopyTakesNone};
 
 use crate::tag::Tag;
 use granit_base::{NoMemory, Placement, ScalarStyle, Span, StructureStyle, Text};
@@ -105,7 +105,7 @@ impl<'input> Event<'input> {
 
     /// The tag of a node.
     pub fn tag(&self) -> Option<&Tag>
-        ensures { option_copied result ≡ tag_of (event_kind self.now) }
+        ensures { option_copied result ≡ event_tag (event_kind self.now) }
     {
         match self {
             Event::Scalar(_, _, _, tag) => tag.as_ref(),
@@ -117,7 +117,7 @@ impl<'input> Event<'input> {
 
     /// The value of a scalar, and how it is written.
     pub fn scalar(&self) -> Option<(&str, ScalarStyle)>
-        ensures { scalar_told result ≡ scalar_of (event_kind self.now) }
+        ensures { scalar_told result ≡ event_scalar (event_kind self.now) }
     {
         match self {
             Event::Scalar(text, style, _, _) => Some((text.as_str(), *style)),
@@ -146,7 +146,7 @@ impl<'input> Event<'input> {
     /// `NoMemory` alone.
     pub fn try_clone(&self, alloc: Global) -> Result<Event<'input>, NoMemory>
         ensures value { IfOk result (λ e. e ≡ self.now) }
-        ensures memory { CopyTakesNone (event_kind self.now) → IsOk result }
+        ensures memory { EventCopyTakesNone (event_kind self.now) → IsOk result }
     {
         Ok(match self {
             Event::StreamStart => Event::StreamStart,

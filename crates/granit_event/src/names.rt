@@ -26,7 +26,7 @@ fn behind_front<'a>(front: &str, text: &'a str) -> Option<&'a str>
 pub(crate) fn behind<'a>(front: &str, first: &'a str, second: &'a str) -> Option<(&'a str, &'a str)>
     ensures joined { spec.told_pair result ≡ spec.behind_front (chars front.now) (chars first.now ++ chars second.now) }
     ensures first { IfSome result (λ p. spec.more_than (chars p.0.now)
-        ≡ spec.goes_on (spec.behind_front (chars front.now) (chars first.now))) }
+        ≡ spec.has_more (spec.behind_front (chars front.now) (chars first.now))) }
 {
     match behind_front(front, first) {
         Some(left) => Some((left, second)),

@@ -12,7 +12,7 @@ use Rattle.granit_events.specs.Ended.{AreRight, AreWrongAt, Answers, Ended, Ende
 use Rattle.granit_events.specs.Ended.{SayOptions, machine_answer}
 use Rattle.granit_words.specs.Words.{spelled}
 use Rattle.granit_words.proofs.WordLemmas as words_of
-use Rattle.granit_events.specs.Inputs.{Took, Responds}
+use Rattle.granit_events.specs.Inputs.{TookInput, Responds}
 use Rattle.granit_events.specs.Output.{WholeOutput, CutOutput}
 use Rattle.granit_events.specs.Wrote.{WroteFront}
 use Rattle.granit_events.specs.declared.input.Input.{Input}
@@ -31,7 +31,7 @@ cut_input input same a b s output e r w = record {
 }
 
 ended_of : (words : List Written) (before now : Option (List ℕ)) (input : Input) (s : Status) (output : List ℕ)
-    → Took words before now input → Responds input s output → Ended words before now s output
+    → TookInput words before now input → Responds input s output → Ended words before now s output
 ended_of words before now (came.WrongWord k) status.Usage output t r = (t.0, (k, t.1, r))
 ended_of words before now (came.WrongWord k) _ output t r = absurd r
 ended_of words before now came.TooLong status.TooLong output t r = (t.0, (t.1.0, t.1.1, r))
@@ -42,7 +42,7 @@ ended_of words before now (came.Whole v p) status.Done output t r = (options_of 
 ended_of words before now (came.Whole v p) _ output t r = absurd r
 
 pub whole_ended : (words : List Written) (before now a b : Option (List ℕ)) (input : Input) (s : Status)
-    → Took words before now input → WholeOutput (Responds input) a b s → WholeOutput (Ended words before now) a b s
+    → TookInput words before now input → WholeOutput (Responds input) a b s → WholeOutput (Ended words before now) a b s
 whole_ended words before now a b input s t w =
     record { output = w.output; called = ended_of words before now input s w.output t w.called; wrote = w.wrote }
 
@@ -50,7 +50,7 @@ right_or_wrong : (words : List Written) (k : ℕ) → AreRight words → AreWron
 right_or_wrong words k r w = words_of.right_or_wrong (spelled words) k r w
 
 usage_on : (words : List Written) (before now : Option (List ℕ)) (k : ℕ) (input : Input) (s : Status) (output : List ℕ)
-    → AreWrongAt words k → Took words before now input → Responds input s output → IsOrYields status.Usage s
+    → AreWrongAt words k → TookInput words before now input → Responds input s output → IsOrYields status.Usage s
 usage_on words before now k (came.WrongWord j) status.Usage output wrong t r = refl
 usage_on words before now k (came.WrongWord j) _ output wrong t r = absurd r
 usage_on words before now k came.TooLong s output wrong t r = absurd (right_or_wrong words k t.0 wrong)
@@ -59,7 +59,7 @@ usage_on words before now k (came.Whole v p) s output wrong t r =
 
 -- wrong words end as such
 pub usage_yields : (words : List Written) (before now a b : Option (List ℕ)) (k : ℕ) (input : Input) (s : Status)
-    → AreWrongAt words k → Took words before now input → WholeOutput (Responds input) a b s
+    → AreWrongAt words k → TookInput words before now input → WholeOutput (Responds input) a b s
     → IsOrYields status.Usage s
 usage_yields words before now a b k input s wrong t w =
     usage_on words before now k input s w.output wrong t w.called

@@ -3,5 +3,5 @@ use Rattle.std.specs.Prelude.{ℕ, min}
 use Rattle.granit_base.specs.Counts.{last_count}
 
 -- a count as it is told
-abbrev pub held : ℕ → ℕ
-held n = min n last_count
+abbrev pub held_count : ℕ → ℕ
+held_count n = min n last_count

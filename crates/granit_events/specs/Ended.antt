@@ -23,11 +23,11 @@ SayOptions words o = Say (spelled words) o
 
 -- the words are in the grammar
 abbrev pub AreRight : List Written → Type 0
-AreRight words = grammar.AreRight (spelled words)
+AreRight words = grammar.AreInGrammar (spelled words)
 
 -- the k-th word is the first wrong or missing one
 abbrev pub AreWrongAt : List Written → ℕ → Type 0
-AreWrongAt words k = grammar.AreWrongAt (spelled words) k
+AreWrongAt words k = grammar.GoWrongAt (spelled words) k
 
 abbrev pub too_long_line : List ℕ
 too_long_line = codes "input too long\n"

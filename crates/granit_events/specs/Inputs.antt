@@ -11,10 +11,10 @@ use Rattle.granit_events.specs.declared.status.Status.{Status}
 use Rattle.granit_events.specs.declared.status.Status.TheVariants as status
 
 -- what a call took from words and a source
-abbrev pub Took : List Written → Option (List ℕ) → Option (List ℕ) → Input → Type 0
-Took words before now (came.WrongWord k) = (now ≡ before) × AreWrongAt words k
-Took words before now came.TooLong = AreRight words × ((bytes : List ℕ) × CameTooMany before now bytes)
-Took words before now (came.Whole v p) = SayOptions words (options_of p) × CameWhole before now v.items
+abbrev pub TookInput : List Written → Option (List ℕ) → Option (List ℕ) → Input → Type 0
+TookInput words before now (came.WrongWord k) = (now ≡ before) × AreWrongAt words k
+TookInput words before now came.TooLong = AreRight words × ((bytes : List ℕ) × CameTooMany before now bytes)
+TookInput words before now (came.Whole v p) = SayOptions words (options_of p) × CameWhole before now v.items
 
 -- the status and the output that it calls for
 abbrev pub Responds : Input → Status → List ℕ → Type 0

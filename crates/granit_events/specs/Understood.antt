@@ -11,7 +11,7 @@ use Rattle.granit_canonical.specs.Canonical.{canonical_events}
 use Rattle.granit_comments.specs.TextComments.{TellsComments, ToldUnasked}
 use Rattle.granit_error.specs.OptionsData.{OptionsData}
 use Rattle.granit_generator.specs.BlockText.{block_characters}
-use Rattle.granit_json.specs.Json.{Json, depth}
+use Rattle.granit_json.specs.Json.{Json, json_depth}
 use Rattle.granit_json.specs.JsonEvents.{json_events}
 use Rattle.granit_json.specs.JsonText.{JsonText, NamesFit}
 use Rattle.granit_lexemes.specs.Gap.{Each}
@@ -76,7 +76,7 @@ pub record HasCause (words : List Written) (left : Option (List ℕ)) (f : Fault
 pub data HasKnownEvents (o : OptionsData) (x : List ℕ) (es : List PlainEvent) : Type 0 where
   of_trees : (ts : PlainTrees) → DocumentsFit ts → HasCharacters ts → trees_depth ts ≤ o.flow_nesting_limit
       → x ≡ flow_characters ts → es ≡ canonical_events o ts → HasKnownEvents o x es
-  of_json : (t : Json) (d : JsonText x t) → Each is_printable x → depth t ≤ o.flow_nesting_limit
+  of_json : (t : Json) (d : JsonText x t) → Each is_printable x → json_depth t ≤ o.flow_nesting_limit
       → NamesFit o.simple_key_max_lookahead d → es ≡ json_events x d → HasKnownEvents o x es
 
 -- the words are right, and a source has the UTF-8 of such a text left, within the limit of an input

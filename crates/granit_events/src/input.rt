@@ -2,7 +2,7 @@
 ghost use Rattle.std.specs.Prelude.{◌≡◌, ℕ, Err, IfOk, OnOk, OnErr};
 ghost use Rattle.granit_base.specs.Counts.{Rose};
 ghost use Rattle.granit_events.specs.Ended.{AreRight, AreWrongAt};
-ghost use Rattle.granit_events.specs.Inputs.{Took};
+ghost use Rattle.granit_events.specs.Inputs.{TookInput};
 ghost use Rattle.granit_events.specs.declared.input.InputEnd.TheVariants as ends;
 
 use crate::ends::Source;
@@ -36,7 +36,7 @@ pub fn take_input<S: Source>(
     words: &TextList,
     source: &mut S,
 ) -> Result<Input, InputEnd>
-    ensures took { IfOk result (λ input. Took words.now (S.left source.old) (S.left source.new) input) }
+    ensures took { IfOk result (λ input. TookInput words.now (S.left source.old) (S.left source.new) input) }
     ensures same { OnOk result (S.faults source.new ≡ S.faults source.old) }
     ensures failed { result ≡ Err ends.Failed → Rose (S.faults source.old) (S.faults source.new) }
     ensures no_memory { result ≡ Err ends.NoMemory → S.faults source.new ≡ S.faults source.old }

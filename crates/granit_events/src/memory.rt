@@ -4,7 +4,7 @@ ghost use Rattle.std.specs.Prelude.{OnOk, OnErr, MatchResult};
 ghost use Rattle.std.specs.Io.{ReadsAtMost, WritesAtMost};
 ghost use Rattle.std.specs.Io.KnownBytes.{ReadConsumes, WriteAppends};
 ghost use Rattle.granit_base.specs.Counts.{next_count, Rose};
-ghost use Rattle.granit_events.specs.Counts.{held};
+ghost use Rattle.granit_events.specs.Counts.{held_count};
 ghost use Rattle.granit_events.specs.Memory.{is_among};
 
 use crate::ends::{Failed, Sink, Source};
@@ -64,20 +64,20 @@ impl MemorySource {
 impl Source for MemorySource {
     ghost use Rattle.std.specs.Prelude.{Some};
     ghost use Rattle.std.proofs.Common.{arith};
-    ghost use Rattle.granit_events.specs.Counts.{held};
+    ghost use Rattle.granit_events.specs.Counts.{held_count};
 
     ghost left = { λ s. Some s.left };
 
-    ghost faults = { λ s. held s.faults };
+    ghost faults = { λ s. held_count s.faults };
 
     ghost fits = { λ s. Prim.omega arith };
 
     fn read(&mut self, buf: &mut [u8]) -> Result<usize, Failed>
         ensures bound { ReadsAtMost result buf.new }
         ensures bytes { ReadConsumes (Some self.old.left) (Some self.new.left) result buf.new }
-        ensures same { OnOk result (held self.new.faults ≡ held self.old.faults) }
-        ensures failed { OnErr result (Rose (held self.old.faults) (held self.new.faults)) }
-        ensures never_falls { held self.old.faults ≤ held self.new.faults }
+        ensures same { OnOk result (held_count self.new.faults ≡ held_count self.old.faults) }
+        ensures failed { OnErr result (Rose (held_count self.old.faults) (held_count self.new.faults)) }
+        ensures never_falls { held_count self.old.faults ≤ held_count self.new.faults }
         ensures counted { MatchResult result (λ _. self.new.faults ≡ self.old.faults)
             (λ _. self.new.faults ≡ next_count self.old.faults) }
         ensures calls { self.new.calls ≡ next_count self.old.calls }
@@ -171,11 +171,11 @@ impl MemorySink {
 impl Sink for MemorySink {
     ghost use Rattle.std.specs.Prelude.{Some};
     ghost use Rattle.std.proofs.Common.{arith};
-    ghost use Rattle.granit_events.specs.Counts.{held};
+    ghost use Rattle.granit_events.specs.Counts.{held_count};
 
     ghost written = { λ s. Some s.written };
 
-    ghost faults = { λ s. held s.faults };
+    ghost faults = { λ s. held_count s.faults };
 
     ghost fits = { λ s. Prim.omega arith };
 
@@ -183,9 +183,9 @@ impl Sink for MemorySink {
         ensures bound { WritesAtMost result piece.now }
         ensures some { 0 < length piece.now → IfOk result (λ n. 0 < n) }
         ensures bytes { WriteAppends (Some self.old.written) (Some self.new.written) result piece.now }
-        ensures same { OnOk result (held self.new.faults ≡ held self.old.faults) }
-        ensures failed { OnErr result (Rose (held self.old.faults) (held self.new.faults)) }
-        ensures never_falls { held self.old.faults ≤ held self.new.faults }
+        ensures same { OnOk result (held_count self.new.faults ≡ held_count self.old.faults) }
+        ensures failed { OnErr result (Rose (held_count self.old.faults) (held_count self.new.faults)) }
+        ensures never_falls { held_count self.old.faults ≤ held_count self.new.faults }
         ensures counted { MatchResult result (λ _. self.new.faults ≡ self.old.faults)
             (λ _. self.new.faults ≡ next_count self.old.faults) }
         ensures calls { self.new.calls ≡ next_count self.old.calls }

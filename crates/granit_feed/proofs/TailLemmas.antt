@@ -10,10 +10,10 @@ use Rattle.granit_lexemes.specs.Outcome.{Fault, ◌>>=◌}
 use Rattle.granit_machine.specs.Closing.{close}
 use Rattle.granit_machine.specs.Parser.{take_lexeme, take_tail, take_token}
 use Rattle.granit_machine.specs.TokenSort.{Token}
-use Rattle.granit_feed.specs.Tails.{is_dash, tail_taken, takes_tail}
+use Rattle.granit_feed.specs.Tails.{is_dash_lexeme, tail_taken, takes_tail}
 
 pub tail_of : (kind : LexemeKind) (tail : Option CommentRead) (next : Option ℕ) (p : ParserState)
-    → take_tail kind tail next p ≡ (if is_dash kind then Ok p else tail_taken tail next p)
+    → take_tail kind tail next p ≡ (if is_dash_lexeme kind then Ok p else tail_taken tail next p)
 tail_of lexemes.Dash tail next p = refl
 tail_of (lexemes.Directive d) None next p = refl
 tail_of (lexemes.Directive d) (Some c) next p = refl
@@ -54,8 +54,8 @@ then_ok (Err e) f same = refl
 
 -- where no comment is taken behind it, a lexeme is taken by its token alone
 pub without_tail : (o : OptionsData) (t : Token) (next : Option ℕ) (p : ParserState)
-    → takes_tail (is_dash t.lexeme.kind) t.lexeme.tail ≡ false
+    → takes_tail (is_dash_lexeme t.lexeme.kind) t.lexeme.tail ≡ false
     → take_lexeme o t next p ≡ (close o t p >>= take_token o t)
 without_tail o t next p none =
     then_ok (close o t p >>= take_token o t) (take_tail t.lexeme.kind t.lexeme.tail next)
-    (λ q. tail_of t.lexeme.kind t.lexeme.tail next q ∙ untaken (is_dash t.lexeme.kind) t.lexeme.tail next q none)
+    (λ q. tail_of t.lexeme.kind t.lexeme.tail next q ∙ untaken (is_dash_lexeme t.lexeme.kind) t.lexeme.tail next q none)

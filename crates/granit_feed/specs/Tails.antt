@@ -7,9 +7,9 @@ use Rattle.granit_machine.specs.Frames.{ParserState}
 use Rattle.granit_machine.specs.NodeSteps.{Stepped}
 use Rattle.granit_machine.specs.Parser.{take_comment}
 
-abbrev pub is_dash : LexemeKind → Bool
-is_dash lexemes.Dash = true
-is_dash kind = false
+abbrev pub is_dash_lexeme : LexemeKind → Bool
+is_dash_lexeme lexemes.Dash = true
+is_dash_lexeme kind = false
 
 abbrev pub tail_taken : Option CommentRead → Option ℕ → ParserState → Stepped
 tail_taken None next p = Ok p

@@ -91,7 +91,7 @@ pub fn clone_tail<'input>(
 }
 
 fn is_dash(kind: &LexemeKind<'_>) -> bool
-    ensures { result ≡ tails.is_dash (kind_view kind.now) }
+    ensures { result ≡ tails.is_dash_lexeme (kind_view kind.now) }
 {
     matches!(kind, LexemeKind::Dash)
 }
@@ -129,7 +129,7 @@ fn take_tail<'input>(
 
 /// Whether a comment is taken behind a lexeme.
 fn takes_tail(lexeme: &Lexeme<'_>) -> bool
-    ensures { result ≡ tails.takes_tail (tails.is_dash (kind_view lexeme.now.kind))
+    ensures { result ≡ tails.takes_tail (tails.is_dash_lexeme (kind_view lexeme.now.kind))
         (option_map boxed_view lexeme.now.tail) }
 {
     lexeme.tail.is_some() && !is_dash(&lexeme.kind)

@@ -15,11 +15,11 @@ use Rattle.granit_model.specs.Tree.{Properties, PlainTree, PlainTrees, PlainPair
 use Rattle.granit_model.specs.Tree.{behind_tree, behind_trees, behind_pairs, IsAnchorName, PropertiesFit, TreeFits}
 use Rattle.granit_model.specs.Tree.{TreesFit, PairsFit, DocumentsFit, tree_depth, trees_depth, pairs_depth}
 use Rattle.granit_generator.specs.Generator.{Draws, Made, made, draw, anchor_name, Beginning, AliasTo, NodeWith}
-use Rattle.granit_generator.specs.Generator.{tagged, no_properties, alias_begun, anchored_begun, beginning, begin}
-use Rattle.granit_generator.specs.Generator.{letters, scalar_made, entries_made, pairs_made, sequence_made}
-use Rattle.granit_generator.specs.Generator.{mapping_made}
-use Rattle.granit_generator.specs.Generator.{Shape, IsScalar, IsSequence, IsMapping, shape, shape_made, node_by}
-use Rattle.granit_generator.specs.Generator.{begun_node, content_made, no_anchors, documents_made}
+use Rattle.granit_generator.specs.Generator.{only_tagged, without_properties, alias_begun, anchored_begun, beginning}
+use Rattle.granit_generator.specs.Generator.{draw_beginning, letters, scalar_made, entries_made, pairs_made}
+use Rattle.granit_generator.specs.Generator.{sequence_made, mapping_made, Shape, IsScalar, IsSequence, IsMapping, shape}
+use Rattle.granit_generator.specs.Generator.{shape_made, drawn_node, begun_node, content_made, no_anchors}
+use Rattle.granit_generator.specs.Generator.{documents_made}
 
 -- a digit may stand in an anchor's name
 digit_passes : (d : ℕ) → d < 10 → is_anchor_char (digit_glyph false d) ≡ true
@@ -116,7 +116,7 @@ begins_alias s h =
 begins_anchored : (s : Draws) → BeginsAs s.anchors (anchored_begun s)
 begins_anchored s = ((tt, name_fits (s.anchors + 1)), names_more s.anchors)
 
-begins_tagged : (s : Draws) → BeginsAs s.anchors (made (NodeWith tagged) s)
+begins_tagged : (s : Draws) → BeginsAs s.anchors (made (NodeWith only_tagged) s)
 begins_tagged s = (((λ e. cc), tt), refl)
 
 some_anchors : (n a : ℕ) → (n == 0 && nat_lt 0 a) ≡ true → 0 < a
@@ -128,12 +128,12 @@ beginning_fits n s =
     both (BeginsAs s.anchors) (n == 0 && nat_lt 0 s.anchors) (alias_begun s) _
     (λ e. begins_alias s (some_anchors n s.anchors e))
     (λ e. both (BeginsAs s.anchors) (n == 1) (anchored_begun s) _ (λ f. begins_anchored s)
-    (λ f. both (BeginsAs s.anchors) (n == 2) (made (NodeWith tagged) s) (made (NodeWith no_properties) s)
+    (λ f. both (BeginsAs s.anchors) (n == 2) (made (NodeWith only_tagged) s) (made (NodeWith without_properties) s)
     (λ g. begins_tagged s) (λ g. ((tt, tt), refl))))
 
-begin_fits : (s : Draws) → BeginsAs s.anchors (begin s)
+begin_fits : (s : Draws) → BeginsAs s.anchors (draw_beginning s)
 begin_fits s = let m = draw 16 s in
-    subst (λ a. BeginsAs a (begin s)) (draw_keeps 16 s) (beginning_fits m.value m.draws)
+    subst (λ a. BeginsAs a (draw_beginning s)) (draw_keeps 16 s) (beginning_fits m.value m.draws)
 
 -- a tree fits behind so many anchors, and those behind it are counted
 abbrev Fits : (before : ℕ) → Made PlainTree → Type 0
@@ -210,14 +210,14 @@ shape_fits IsMapping node h p s a fit w = mapping_fits node h p s a fit w
 
 begun_fits :
     (content : ℕ → Properties → Draws → Made PlainTree) → ((n : ℕ) → ContentFits (content n))
-    → (b : Beginning) (s : Draws) (a : ℕ) → Begins a b s → Fits a (node_by content b s)
+    → (b : Beginning) (s : Draws) (a : ℕ) → Begins a b s → Fits a (drawn_node content b s)
 begun_fits content h (AliasTo name) s a begins = (begins.0, ap names (sym begins.1))
 begun_fits content h (NodeWith p) s a begins =
     let m = draw 8 s in h m.value p m.draws a begins.0 (begins.1 ∙ ap names (sym (draw_keeps 8 s)))
 
 node_fits : (content : ℕ → Properties → Draws → Made PlainTree) → ((n : ℕ) → ContentFits (content n))
     → NodeFits (begun_node content)
-node_fits content h s = begun_fits content h (begin s).value (begin s).draws s.anchors (begin_fits s)
+node_fits content h s = begun_fits content h (draw_beginning s).value (draw_beginning s).draws s.anchors (begin_fits s)
 
 content_fits : (l n : ℕ) (p : Properties) (s : Draws) (a : ℕ) → PropertiesFit p
     → with_anchor p.anchor (names a) ≡ names s.anchors → Fits a (content_made l n p s)
@@ -259,7 +259,7 @@ shape_depth IsMapping node l h p s =
 begun_depth :
     (content : ℕ → Properties → Draws → Made PlainTree) (l : ℕ)
     → ((n : ℕ) (p : Properties) (s : Draws) → tree_depth (content n p s).value ≤ l)
-    → (b : Beginning) (s : Draws) → tree_depth (node_by content b s).value ≤ l
+    → (b : Beginning) (s : Draws) → tree_depth (drawn_node content b s).value ≤ l
 begun_depth content l h (AliasTo name) s = omega arith
 begun_depth content l h (NodeWith p) s = let m = draw 8 s in h m.value p m.draws
 
@@ -268,7 +268,7 @@ unfolding content_made
 content_depth zero n p s = omega arith
 content_depth (suc l) n p s =
     shape_depth (shape n) (begun_node (content_made l)) l
-    (λ s'. begun_depth (content_made l) l (content_depth l) (begin s').value (begin s').draws) p s
+    (λ s'. begun_depth (content_made l) l (content_depth l) (draw_beginning s').value (draw_beginning s').draws) p s
 
 pub documents_depth : (n : ℕ) (s : Draws) → trees_depth (documents_made n s).value ≤ 6
 documents_depth zero s = omega arith
@@ -277,5 +277,5 @@ documents_depth (suc n) s =
     omega (
       arith,
       documents_depth n s,
-      begun_depth (content_made 6) 6 (content_depth 6) (begin start).value (begin start).draws,
+      begun_depth (content_made 6) 6 (content_depth 6) (draw_beginning start).value (draw_beginning start).draws,
     )

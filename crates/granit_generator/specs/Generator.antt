@@ -33,11 +33,11 @@ pub data Beginning : Type 0 where
   AliasTo : (name : List ℕ) → Beginning
   NodeWith : Properties → Beginning
 
-abbrev pub no_properties : Properties
-no_properties = record { tag = None; anchor = None }
+abbrev pub without_properties : Properties
+without_properties = record { tag = None; anchor = None }
 
-abbrev pub tagged : Properties
-tagged = record { tag = Some (codes "t"); anchor = None }
+abbrev pub only_tagged : Properties
+only_tagged = record { tag = Some (codes "t"); anchor = None }
 
 -- an alias of one of the document's anchors
 abbrev pub alias_begun : Draws → Made Beginning
@@ -53,11 +53,11 @@ unfoldable pub beginning : (drawn : ℕ) → Draws → Made Beginning
 beginning n s =
     if n == 0 && nat_lt 0 s.anchors then alias_begun s
     else if n == 1 then anchored_begun s
-    else if n == 2 then made (NodeWith tagged) s
-    else made (NodeWith no_properties) s
+    else if n == 2 then made (NodeWith only_tagged) s
+    else made (NodeWith without_properties) s
 
-abbrev pub begin : Draws → Made Beginning
-begin s = let m = draw 16 s in beginning m.value m.draws
+abbrev pub draw_beginning : Draws → Made Beginning
+draw_beginning s = let m = draw 16 s in beginning m.value m.draws
 
 -- a letter from `a` to `z`
 abbrev pub letter : Draws → Made ℕ
@@ -70,11 +70,11 @@ letters (suc n) s =
     let last = letter before.draws in
     made (before.value ++ last.value ∷ []) last.draws
 
-abbrev pub text : Draws → Made (List ℕ)
-text s = let count = draw 8 s in letters count.value count.draws
+abbrev pub draw_text : Draws → Made (List ℕ)
+draw_text s = let count = draw 8 s in letters count.value count.draws
 
 abbrev pub scalar_made : Properties → Draws → Made PlainTree
-scalar_made p s = let m = text s in made (ScalarOf p m.value) m.draws
+scalar_made p s = let m = draw_text s in made (ScalarOf p m.value) m.draws
 
 -- entries, or pairs, each of whose nodes is made by a function
 abbrev pub entries_made : (node : Draws → Made PlainTree) → (count : ℕ) → Draws → Made PlainTrees
@@ -117,12 +117,12 @@ shape_made IsSequence node p s = sequence_made node p s
 shape_made IsMapping node p s = mapping_made node p s
 
 -- what follows a node's beginning: nothing, or the content that a number below 8 asks for
-abbrev pub node_by : (content : ℕ → Properties → Draws → Made PlainTree) → Beginning → Draws → Made PlainTree
-node_by content (AliasTo name) s = made (AliasOf name) s
-node_by content (NodeWith p) s = let m = draw 8 s in content m.value p m.draws
+abbrev pub drawn_node : (content : ℕ → Properties → Draws → Made PlainTree) → Beginning → Draws → Made PlainTree
+drawn_node content (AliasTo name) s = made (AliasOf name) s
+drawn_node content (NodeWith p) s = let m = draw 8 s in content m.value p m.draws
 
 abbrev pub begun_node : (content : ℕ → Properties → Draws → Made PlainTree) → Draws → Made PlainTree
-begun_node content s = let begun = begin s in node_by content begun.value begun.draws
+begun_node content s = let begun = draw_beginning s in drawn_node content begun.value begun.draws
 
 -- content, and a node, at most so many collections deep
 unfoldable pub content_made : (levels : ℕ) → (drawn : ℕ) → Properties → Draws → Made PlainTree

@@ -52,7 +52,7 @@ fn anchored(alloc: Global, drawing: &mut Drawing) -> Result<Beginning, NoMemory>
 
 #[tactic(auto, using(crate::proofs::NameLemmas::tag_chars))]
 fn tagged() -> Beginning
-    ensures { plain_beginning result ≡ NodeWith plain.tagged }
+    ensures { plain_beginning result ≡ NodeWith plain.only_tagged }
 {
     Beginning::Node(Props {
         tag: Some(Text::borrowed("t")),
@@ -61,7 +61,7 @@ fn tagged() -> Beginning
 }
 
 fn bare() -> Beginning
-    ensures { plain_beginning result ≡ NodeWith plain.no_properties }
+    ensures { plain_beginning result ≡ NodeWith plain.without_properties }
 {
     Beginning::Node(Props {
         tag: None,
@@ -71,8 +71,8 @@ fn bare() -> Beginning
 
 #[tactic(auto, unfolding(crate::specs::Generator::beginning))]
 fn begin(alloc: Global, drawing: &mut Drawing) -> Result<Beginning, NoMemory>
-    ensures begun { IfOk result (λ b. plain_beginning b ≡ (plain.begin drawing.old).value) }
-    ensures draws { OnOk result (drawing.new ≡ (plain.begin drawing.old).draws) }
+    ensures begun { IfOk result (λ b. plain_beginning b ≡ (plain.draw_beginning drawing.old).value) }
+    ensures draws { OnOk result (drawing.new ≡ (plain.draw_beginning drawing.old).draws) }
 {
     let drawn = drawing.draw(16);
     if drawn == 0 && drawing.anchors() > 0 {
@@ -95,8 +95,8 @@ fn letter(drawing: &mut Drawing) -> char
 
 #[tactic(auto, using(crate::proofs::MakingLemmas::letters_next))]
 fn letters(alloc: Global, drawing: &mut Drawing) -> Result<Text<'static>, NoMemory>
-    ensures text { IfOk result (λ t. t.characters ≡ (plain.text drawing.old).value) }
-    ensures draws { OnOk result (drawing.new ≡ (plain.text drawing.old).draws) }
+    ensures text { IfOk result (λ t. t.characters ≡ (plain.draw_text drawing.old).value) }
+    ensures draws { OnOk result (drawing.new ≡ (plain.draw_text drawing.old).draws) }
 {
     let mut text = String::new(alloc);
     for _ in 0..drawing.draw(8) {

@@ -5,13 +5,13 @@ use Rattle.granit_grammar.specs.EventMachine.{EventState, IsFresh, Ending, endin
 use Rattle.granit_grammar.specs.EventMachine.{EventAnswer, Events, Faulty, Unfinished, events_before, outcome_at_end}
 use Rattle.granit_grammar.specs.EventMachine.{go_on, go_closed, run_events_from, run_events}
 use Rattle.granit_grammar.specs.PlaceFrames.{state_at}
-use Rattle.granit_grammar.specs.TreeMachine.{Next, take, Answer, ReadAs, RefusedAt, Short, at_end, tree_goes, parse}
-use Rattle.granit_grammar.specs.TreeMachine.{tree_start}
+use Rattle.granit_grammar.specs.TreeMachine.{NextPlace, take, TreeAnswer, ReadAs, RefusedAt, Short, at_end, tree_goes}
+use Rattle.granit_grammar.specs.TreeMachine.{parse, tree_start}
 use Rattle.granit_language.specs.FaultKinds.{fault_kind_at}
 use Rattle.granit_language.specs.Node.{NoProperties, One, Two}
 use Rattle.granit_language.specs.OpenEvents.{open_events}
 use Rattle.granit_language.specs.OpenPlace.{OpenPlace, Fresh, InDirectives, BehindRoot, Ended, Want, PastEntry, PastKey}
-use Rattle.granit_language.specs.OpenPlace.{PastAsk, PastPair, PastItem, IsOpen}
+use Rattle.granit_language.specs.OpenPlace.{PastAsk, PastPair, PastItem, HasOneName}
 use Rattle.granit_language.specs.Settling.{settle_place}
 use Rattle.granit_language.specs.Terminal.{Terminal, text_start}
 use Rattle.granit_language.specs.TreeEvents.{StreamStarts, TreeEvent, pointed, stream_events}
@@ -19,14 +19,14 @@ use Rattle.granit_grammar.proofs.AgreeClose.{Agree, close_agrees}
 use Rattle.granit_grammar.proofs.AgreeStep.{StepsTo, goes_to, stops_at, take_agrees}
 
 -- two answers agree, where these events were given before
-abbrev pub Answers : (List TreeEvent → List TreeEvent) → EventAnswer → Answer → Type 0
+abbrev pub Answers : (List TreeEvent → List TreeEvent) → EventAnswer → TreeAnswer → Type 0
 Answers f (Events es) (ReadAs s) = stream_events s [] ≡ f es
 Answers f (Faulty k x) (RefusedAt q y) = (k ≡ fault_kind_at q y.kind) × (x ≡ y)
 Answers f Unfinished (Short q) = Unit {0}
 Answers f outcome answer = ⊥
 
 with_before :
-    (f : List TreeEvent → List TreeEvent) (es : List TreeEvent) (o : EventAnswer) (a : Answer) →
+    (f : List TreeEvent → List TreeEvent) (es : List TreeEvent) (o : EventAnswer) (a : TreeAnswer) →
     Answers (λ more. f (es ++ more)) o a → Answers f (events_before es o) a
 with_before f es (Events more) (ReadAs s) h = h
 with_before f es (Events more) (RefusedAt q y) h = h
@@ -56,14 +56,14 @@ not_ended (PastAsk r a q v) f g = tt
 not_ended (PastPair r a pair) f g = tt
 not_ended (PastItem r p bracket o lead item) f g = tt
 
-abbrev Onward : (EventState → EventAnswer) → (OpenPlace → Answer) → Type 0
+abbrev Onward : (EventState → EventAnswer) → (OpenPlace → TreeAnswer) → Type 0
 Onward on to =
-    (p : OpenPlace) (f : List TreeEvent → List TreeEvent) → IsOpen p →
+    (p : OpenPlace) (f : List TreeEvent → List TreeEvent) → HasOneName p →
     ((y : Mark) (more : List TreeEvent) → open_events y p more ≡ f more) → Answers f (on (state_at p)) (to p)
 
 step_answers :
-    (on : EventState → EventAnswer) (to : OpenPlace → Answer) → Onward on to →
-    (f g : List TreeEvent → List TreeEvent) (q : OpenPlace) (x : Terminal) (s : EventStep) (n : Next) →
+    (on : EventState → EventAnswer) (to : OpenPlace → TreeAnswer) → Onward on to →
+    (f g : List TreeEvent → List TreeEvent) (q : OpenPlace) (x : Terminal) (s : EventStep) (n : NextPlace) →
     StepsTo f (fault_kind_at q x.kind) s n → ((more : List TreeEvent) → f more ≡ g more) →
     Answers g (go_on s x on) (tree_goes n q x to)
 step_answers on to h f g q x s n (goes_to {st = st} {es = es} {q = p} i e k) r =
@@ -73,7 +73,7 @@ step_answers on to h f g q x s n (goes_to {st = st} {es = es} {q = p} i e k) r =
 step_answers on to h f g q x s n (stops_at e) r = (e, refl)
 
 closed_answers :
-    (on : EventState → EventAnswer) (to : OpenPlace → Answer) → Onward on to →
+    (on : EventState → EventAnswer) (to : OpenPlace → TreeAnswer) → Onward on to →
     (f : List TreeEvent → List TreeEvent) (q : OpenPlace) (x : Terminal) (y : Ending) → Agree f x.at.start y q →
     Answers f (go_closed y x on) (tree_goes (take q x.kind x.at) q x to)
 closed_answers on to h f q x (ending st es) a =
@@ -88,7 +88,7 @@ closed_answers on to h f q x (ending st es) a =
 
 -- equal histories
 other :
-    (f g : List TreeEvent → List TreeEvent) (o : EventAnswer) (a : Answer) →
+    (f g : List TreeEvent → List TreeEvent) (o : EventAnswer) (a : TreeAnswer) →
     ((more : List TreeEvent) → f more ≡ g more) → Answers f o a → Answers g o a
 other f g (Events es) (ReadAs s) e h = h ∙ e es
 other f g (Events es) (RefusedAt q y) e h = h

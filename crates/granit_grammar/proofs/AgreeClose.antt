@@ -15,7 +15,7 @@ use Rattle.granit_language.specs.OpenEvents.{hole_indent, around_first, around_e
 use Rattle.granit_language.specs.OpenPlace.{Bare, Explicit, Around, BlockPairs, FlowPairs, Hole, AtRoot, AtEntry}
 use Rattle.granit_language.specs.OpenPlace.{AtItem, AtKey, AtAsk, AtColon, OpenPlace, Fresh, InDirectives, BehindRoot}
 use Rattle.granit_language.specs.OpenPlace.{Ended, Want, PastEntry, PastKey, PastAsk, PastPair, PastItem, holder}
-use Rattle.granit_language.specs.OpenPlace.{room_of, IsHole, IsOpen}
+use Rattle.granit_language.specs.OpenPlace.{room_of, IsHole, HasOneName}
 use Rattle.granit_language.specs.Placed.{pair_front}
 use Rattle.granit_language.specs.Room.{BlockIn, FlowIn, Room, RightOf, ValueIn, KeyIn, BehindKey, ItemIn, Inside}
 use Rattle.granit_language.specs.Room.{behind_property, continues_node, entry_empty, sequence_over, value_empty}
@@ -36,7 +36,7 @@ ending_events (ending st es) = es
 
 -- an ending agrees with an open place in front of what stands at a place, where these events were given before
 pub record Agree (f : List TreeEvent → List TreeEvent) (x : Mark) (y : Ending) (p : OpenPlace) : Type 0 where
-  pub is_open : IsOpen p
+  pub is_open : HasOneName p
   pub state_is : ending_state y ≡ state_at p
   pub gives : (more : List TreeEvent) → open_events x p more ≡ f (ending_events y ++ more)
 
@@ -52,7 +52,7 @@ one :
 one f x e (ending st es) p a = record { is_open = a.is_open; state_is = a.state_is; gives = a.gives }
 
 same :
-    (f : List TreeEvent → List TreeEvent) (x : Mark) (p : OpenPlace) → IsOpen p →
+    (f : List TreeEvent → List TreeEvent) (x : Mark) (p : OpenPlace) → HasOneName p →
     ((more : List TreeEvent) → open_events x p more ≡ f more) → Agree f x (ending (state_at p) []) p
 same f x p i h = record { is_open = i; state_is = refl; gives = h }
 
@@ -346,7 +346,7 @@ properties_end_agree x r p e =
     (sym (indent_same r)) (one _ _ (alone_event p (hole_indent r)) _ _ (finish_agrees x r (Alone p)))
 
 pub close_agrees :
-    (x : Terminal) (p : OpenPlace) → IsOpen p →
+    (x : Terminal) (p : OpenPlace) → HasOneName p →
     Agree (open_events x.at.start p) x.at.start (ended_by x (state_at p)) (settle_place x p)
 close_agrees x (Fresh b) i = same _ _ (Fresh b) tt (λ more. refl)
 close_agrees x (InDirectives ds) i = same _ _ (InDirectives ds) tt (λ more. refl)

@@ -6,8 +6,8 @@ use Rattle.granit_grammar.specs.EventMachine.{EventStep, GoesTo, StopsWith, afte
 use Rattle.granit_grammar.specs.EventMachine.{flow_frame, part_frames, BlockSite, entry_frames, plain_pair}
 use Rattle.granit_grammar.specs.EventMachine.{begin_pair_frames, stop_kind, want_frames, take_top, take_frames}
 use Rattle.granit_grammar.specs.PlaceFrames.{site_in, hole_frames, state_at}
-use Rattle.granit_grammar.specs.TreeMachine.{Next, Go, NotTaken, if_go, part_take, entry_take, entry_at, plain_site}
-use Rattle.granit_grammar.specs.TreeMachine.{pair_site, want_take, take}
+use Rattle.granit_grammar.specs.TreeMachine.{NextPlace, Go, NotTaken, if_go, part_take, entry_take, entry_at}
+use Rattle.granit_grammar.specs.TreeMachine.{plain_site, pair_site, want_take, take}
 use Rattle.granit_language.specs.Choice.{choose}
 use Rattle.granit_language.specs.FaultKinds.{fault_kind_at}
 use Rattle.granit_language.specs.GrammarFault.{GrammarFault, ExpectedBlockMappingKey}
@@ -18,7 +18,7 @@ use Rattle.granit_language.specs.OpenEvents.{hole_indent, around_first, around_b
 use Rattle.granit_language.specs.OpenPlace.{Bare, Explicit, Around, BlockPairs, FlowPairs, Hole, AtRoot, AtEntry}
 use Rattle.granit_language.specs.OpenPlace.{AtItem, AtKey, AtAsk, AtColon, OpenPlace, Fresh, InDirectives, BehindRoot}
 use Rattle.granit_language.specs.OpenPlace.{Want, PastEntry, PastKey, PastAsk, PastPair, PastItem, room_of, IsHole}
-use Rattle.granit_language.specs.OpenPlace.{IsOpen}
+use Rattle.granit_language.specs.OpenPlace.{HasOneName}
 use Rattle.granit_language.specs.Room.{BlockIn, FlowIn, Room, RightOf, ValueIn, KeyIn, BehindKey, ItemIn, Inside}
 use Rattle.granit_language.specs.Room.{behind_property, room_behind, right_fits, loose_fits, indicates, opens}
 use Rattle.granit_language.specs.Room.{part_fits, differ}
@@ -34,25 +34,26 @@ use Rattle.granit_lexemes.specs.declared.layout.Bracket.TheVariants.{Square, Cur
 use Rattle.granit_grammar.proofs.AgreeClose.{indent_same, forget, room_same, behind_same}
 
 -- A step agrees with a step, where these events were given before and the fault would be of this kind.
-pub data StepsTo (f : List TreeEvent → List TreeEvent) (k : GrammarFault) : EventStep → Next → Type 0 where
+pub data StepsTo (f : List TreeEvent → List TreeEvent) (k : GrammarFault) : EventStep → NextPlace → Type 0 where
   goes_to :
-      {st : EventState} {es : List TreeEvent} {q : OpenPlace} → IsOpen q → st ≡ state_at q →
+      {st : EventState} {es : List TreeEvent} {q : OpenPlace} → HasOneName q → st ≡ state_at q →
       ((y : Mark) (more : List TreeEvent) → open_events y q more ≡ f (es ++ more)) → StepsTo f k (GoesTo st es) (Go q)
   stops_at : {j : GrammarFault} → j ≡ k → StepsTo f k (StopsWith j) NotTaken
 
 after_none :
-    (f : List TreeEvent → List TreeEvent) (k : GrammarFault) (s : EventStep) (n : Next) → StepsTo f k s n →
+    (f : List TreeEvent → List TreeEvent) (k : GrammarFault) (s : EventStep) (n : NextPlace) → StepsTo f k s n →
     StepsTo f k (after_events [] s) n
 after_none f k s n (goes_to i e g) = goes_to i e g
 after_none f k s n (stops_at e) = stops_at e
 
 after_one :
-    (f : List TreeEvent → List TreeEvent) (k : GrammarFault) (e : TreeEvent) (s : EventStep) (n : Next) →
+    (f : List TreeEvent → List TreeEvent) (k : GrammarFault) (e : TreeEvent) (s : EventStep) (n : NextPlace) →
     StepsTo (λ more. f (e ∷ more)) k s n → StepsTo f k (after_events (e ∷ []) s) n
 after_one f k e s n (goes_to i h g) = goes_to i h g
 after_one f k e s n (stops_at h) = stops_at h
 
-if_steps : (f : List TreeEvent → List TreeEvent) (k : GrammarFault) (a b : Bool) → a ≡ b → (s : EventStep) (n : Next) →
+if_steps : (f : List TreeEvent → List TreeEvent) (k : GrammarFault) (a b : Bool) → a ≡ b →
+    (s : EventStep) (n : NextPlace) →
     StepsTo f k s n → StepsTo f k (if_gives a k s) (if_go b n)
 if_steps f k true true e s n h = h
 if_steps f k false false e s n h = stops_at refl
@@ -60,7 +61,8 @@ if_steps f k true false e s n h = cc (e)
 if_steps f k false true e s n h = cc (e)
 
 choose_steps :
-    (f : List TreeEvent → List TreeEvent) (k : GrammarFault) (a b : Bool) → a ≡ b → (s t : EventStep) (n m : Next) →
+    (f : List TreeEvent → List TreeEvent) (k : GrammarFault) (a b : Bool) → a ≡ b →
+    (s t : EventStep) (n m : NextPlace) →
     StepsTo f k s n → StepsTo f k t m → StepsTo f k (choose a s t) (choose b n m)
 choose_steps f k true true e s t n m h g = h
 choose_steps f k false false e s t n m h g = g
@@ -86,7 +88,7 @@ put_state (AtColon r (FlowPairs p Square o lead) (SimpleKey f k n) m) t = refl
 put_state (AtColon r (FlowPairs p Square o lead) (Asked q v) m) t = refl
 put_state (AtColon r (FlowPairs p Square o lead) NoKey m) t = refl
 
-put_open : (r : Hole) (t : Node) → IsOpen (put_in r (Just t))
+put_open : (r : Hole) (t : Node) → HasOneName (put_in r (Just t))
 put_open (AtRoot (Bare b)) t = tt
 put_open (AtRoot (Explicit s i)) t = tt
 put_open (AtEntry r p loose c lead i) t = tt
@@ -432,7 +434,7 @@ next_steps r p c lead (AskOnly q v e) kind i =
     (entry_steps ExpectedBlockMappingKey r (BlockPairs p c (AfterPair (Through lead (AskOnly q v e)))) kind i)
 
 pub take_agrees :
-    (p : OpenPlace) (kind : TerminalKind) (i : At) → IsOpen p →
+    (p : OpenPlace) (kind : TerminalKind) (i : At) → HasOneName p →
     StepsTo (open_events i.start p) (fault_kind_at p kind) (take_frames (state_at p) kind i) (take p kind i)
 take_agrees (Fresh b) (Directive d) i g = goes_to tt refl (λ y more. refl)
 take_agrees (Fresh b) DocumentStart i g = goes_to tt refl (λ y more. refl)

@@ -7,8 +7,8 @@ use Rattle.granit_grammar.specs.Guarded.{Guard, Passes, limit_guard, limit_fault
 use Rattle.granit_grammar.specs.OpenWithin.{hole_blocks, open_blocks}
 use Rattle.granit_grammar.specs.Passing.{RunsTo, runs_none, runs_on, GuardFault}
 use Rattle.granit_grammar.specs.PlaceFrames.{state_at}
-use Rattle.granit_grammar.specs.TreeMachine.{Next, Go, NotTaken, if_go, entry_take, entry_at, plain_site, pair_site}
-use Rattle.granit_grammar.specs.TreeMachine.{want_take, take, tree_step, Short, parse, tree_start}
+use Rattle.granit_grammar.specs.TreeMachine.{NextPlace, Go, NotTaken, if_go, entry_take, entry_at, plain_site}
+use Rattle.granit_grammar.specs.TreeMachine.{pair_site, want_take, take, tree_step, Short, parse, tree_start}
 use Rattle.granit_language.specs.Choice.{choose}
 use Rattle.granit_language.specs.GrammarFault.{GrammarFault, TooManyBlocks}
 use Rattle.granit_language.specs.Node.{TreeProperties, NoProperties, One, Two, Flow, EntryLead, NoEntry, Through}
@@ -16,7 +16,7 @@ use Rattle.granit_language.specs.Node.{NoPair, AfterPair, NoLast, LastItem, Pair
 use Rattle.granit_language.specs.OpenPlace.{Bare, BlockPairs, FlowPairs, Hole, AtRoot, AtEntry, AtItem, AtKey, AtAsk}
 use Rattle.granit_language.specs.OpenPlace.{AtColon, OpenPlace, Fresh, InDirectives, BehindRoot, Want, PastEntry}
 use Rattle.granit_language.specs.OpenPlace.{PastKey, PastAsk, PastPair, PastItem, spell_open, holder, room_of}
-use Rattle.granit_language.specs.OpenPlace.{OpenPlaced, IsOpen}
+use Rattle.granit_language.specs.OpenPlace.{OpenPlaced, HasOneName}
 use Rattle.granit_language.specs.Room.{room_behind, right_fits, loose_fits, indicates, opens, part_fits, place_fits}
 use Rattle.granit_language.specs.Settling.{settle_place}
 use Rattle.granit_language.specs.Terminal.{Alias, Property, Scalar, Open, TerminalKind, Directive, DocumentStart}
@@ -40,20 +40,20 @@ use Rattle.granit_grammar.proofs.Withins.{NextStays, put_blocks, part_stays, ent
 record StepTo (x : Terminal) (p : OpenPlace) (st : EventState) : Type 0 where
   place : OpenPlace
   goes : tree_step p x ≡ Go place
-  is_open : IsOpen place
+  is_open : HasOneName place
   placed : (y : Terminal) → OpenPlaced y place
   state : st ≡ state_at place
   spells : (more : List Terminal) → spell_open place more ≡ spell_open p (x ∷ more)
 
 step_to :
-    {f : List TreeEvent → List TreeEvent} {k : GrammarFault} {s : EventStep} {n : Next} →
+    {f : List TreeEvent → List TreeEvent} {k : GrammarFault} {s : EventStep} {n : NextPlace} →
     (st : EventState) (es : List TreeEvent) → StepsTo f k s n → s ≡ GoesTo st es →
     (q : OpenPlace) × (n ≡ Go q) × (st ≡ state_at q)
 step_to st es (goes_to {st = st1} {es = es1} {q = q} i e g) h = let same : st1 ≡ st = cc (h) in (q, refl, sym same ∙ e)
 step_to st es (stops_at e) h = absurd cc
 
 step_from :
-    (x : Terminal) (p : OpenPlace) (st1 st2 : EventState) (es1 es2 : List TreeEvent) → IsOpen p →
+    (x : Terminal) (p : OpenPlace) (st1 st2 : EventState) (es1 es2 : List TreeEvent) → HasOneName p →
     ((y : Terminal) → OpenPlaced y p) → ended_by x (state_at p) ≡ ending st1 es1 →
     take_frames st1 x.kind x.at ≡ GoesTo st2 es2 → StepTo x p st2
 step_from x p st1 st2 es1 es2 i f e1 e2 =
@@ -73,13 +73,13 @@ step_from x p st1 st2 es1 es2 i f e1 e2 =
 
 record RanTo (xs : List Terminal) (p : OpenPlace) (st : EventState) : Type 0 where
   place : OpenPlace
-  is_open : IsOpen place
+  is_open : HasOneName place
   placed : (y : Terminal) → OpenPlaced y place
   state : st ≡ state_at place
   spells : (more : List Terminal) → spell_open place more ≡ spell_open p (xs ++ more)
 
 ran_to :
-    {st to : EventState} {xs : List Terminal} → RunsTo st xs to → (p : OpenPlace) → st ≡ state_at p → IsOpen p →
+    {st to : EventState} {xs : List Terminal} → RunsTo st xs to → (p : OpenPlace) → st ≡ state_at p → HasOneName p →
     ((y : Terminal) → OpenPlaced y p) → RanTo xs p to
 ran_to runs_none p e i f = record { place = p; is_open = i; placed = f; state = e; spells = λ more. refl }
 ran_to (runs_on {st1 = st1} {st2 = st2} {es1 = es1} {es2 = es2} {x = x} {xs = xs} e1 e2 r) p e i f =
@@ -125,21 +125,22 @@ abbrev Shape : TerminalKind → At → OpenPlace → Type 0
 Shape Dash i q = SequenceBegun i q
 Shape kind i q = is_loose (state_at q) ≡ false
 
-abbrev Begun : ℕ → TerminalKind → At → Next → Type 0
+abbrev Begun : ℕ → TerminalKind → At → NextPlace → Type 0
 Begun d kind i (Go q) = (open_blocks q ≡ d) ⊎ Shape kind i q
 Begun d kind i NotTaken = Unit {0}
 
-if_begun : (d : ℕ) (kind : TerminalKind) (i : At) (b : Bool) (n : Next) → Begun d kind i n → Begun d kind i (if_go b n)
+if_begun : (d : ℕ) (kind : TerminalKind) (i : At) (b : Bool) (n : NextPlace) → Begun d kind i n
+    → Begun d kind i (if_go b n)
 if_begun d kind i true n h = h
 if_begun d kind i false n h = tt
 
 choose_begun :
-    (d : ℕ) (kind : TerminalKind) (i : At) (b : Bool) (m n : Next) → Begun d kind i m → Begun d kind i n →
+    (d : ℕ) (kind : TerminalKind) (i : At) (b : Bool) (m n : NextPlace) → Begun d kind i m → Begun d kind i n →
     Begun d kind i (choose b m n)
 choose_begun d kind i true m n h g = h
 choose_begun d kind i false m n h g = g
 
-stays_begun : (b : Bool) (d : ℕ) (kind : TerminalKind) (i : At) (n : Next) → NextStays 0 b d n → Begun d kind i n
+stays_begun : (b : Bool) (d : ℕ) (kind : TerminalKind) (i : At) (n : NextPlace) → NextStays 0 b d n → Begun d kind i n
 stays_begun b d kind i (Go q) h = inl h.1
 stays_begun b d kind i NotTaken h = tt
 

@@ -1,12 +1,12 @@
 -- The stream that an open place goes on to keeps the limit where what stands before the place does.
 use Rattle.std.proofs.Common.{◌≡◌, ℕ, Bool, true, List, [], ◌∷◌, sym, ap, ◌∙◌}
 use Rattle.granit_grammar.specs.OpenWithin.{open_within, open_blocks}
-use Rattle.granit_grammar.specs.TreeMachine.{Next, Go, NotTaken, take, ReadAs, at_end, tree_goes, parse}
+use Rattle.granit_grammar.specs.TreeMachine.{NextPlace, Go, NotTaken, take, ReadAs, at_end, tree_goes, parse}
 use Rattle.granit_language.specs.Node.{NoProperties, One, Two, Stream}
 use Rattle.granit_language.specs.OpenPlace.{Bare, Explicit, Around, BlockPairs, FlowPairs, Hole, AtRoot, AtEntry}
 use Rattle.granit_language.specs.OpenPlace.{AtItem, AtKey, AtAsk, AtColon, OpenPlace, Fresh, InDirectives, BehindRoot}
 use Rattle.granit_language.specs.OpenPlace.{Ended, Want, PastEntry, PastKey, PastAsk, PastPair, PastItem, OpenPlaced}
-use Rattle.granit_language.specs.OpenPlace.{IsOpen}
+use Rattle.granit_language.specs.OpenPlace.{HasOneName}
 use Rattle.granit_language.specs.Settling.{settle_place}
 use Rattle.granit_language.specs.Terminal.{Terminal, no_terminal}
 use Rattle.granit_language.specs.Within.{stream_within}
@@ -59,7 +59,7 @@ end_read n (Ended t) s e = let same : t ≡ s = cc (e) in ap (stream_within n) (
 end_read n p s e = absurd cc
 
 closing_goes :
-    (n d : ℕ) (b : Bool) (m : Next) (p : OpenPlace) (x : Terminal) (xs : List Terminal) (s : Stream) →
+    (n d : ℕ) (b : Bool) (m : NextPlace) (p : OpenPlace) (x : Terminal) (xs : List Terminal) (s : Stream) →
     ((q : OpenPlace) → parse xs q ≡ ReadAs s → stream_within n s ≡ open_within n q) → NextStays n b d m →
     tree_goes m p x (parse xs) ≡ ReadAs s → stream_within n s ≡ b
 closing_goes n d b (Go q) p x xs s h stays e = h q e ∙ stays.0
@@ -76,7 +76,7 @@ closing_within n (x ∷ xs) p s c e =
     ∙ close_keeps n x p
 
 pub completed_within :
-    (n : ℕ) (p : OpenPlace) (i : IsOpen p) (f : OpenPlaced no_terminal p) → open_within n p ≡ true →
+    (n : ℕ) (p : OpenPlace) (i : HasOneName p) (f : OpenPlaced no_terminal p) → open_within n p ≡ true →
     stream_within n (completed p i f).0 ≡ true
 completed_within n p i f w =
     let c = completed p i f in closing_within n (after_place p) p c.0 (place_closing p) c.1 ∙ w

@@ -1,6 +1,6 @@
 -- A lexeme that fits is taken where it fits.
 use Rattle.std.proofs.Common.{◌≡◌, ℕ, Bool, true, false, List, ◌∷◌, refl, sym, ap, ◌∙◌, subst, ◌==◌, nat_lt, None}
-use Rattle.granit_grammar.specs.TreeMachine.{Next, Go, if_go, part_take, entry_take, entry_at, site, plain_site}
+use Rattle.granit_grammar.specs.TreeMachine.{NextPlace, Go, if_go, part_take, entry_take, entry_at, site, plain_site}
 use Rattle.granit_grammar.specs.TreeMachine.{pair_site, want_take, take, tree_goes, parse}
 use Rattle.granit_language.specs.Choice.{choose}
 use Rattle.granit_language.specs.Node.{TreeProperties, NoProperties, One, Two, Alone, Mapping, Content, Nothing, Just}
@@ -24,12 +24,12 @@ use Rattle.granit_grammar.proofs.Tests.{right_left, right_same, same_left, no_ke
 use Rattle.granit_grammar.proofs.Placing.{EntryFits}
 
 -- a lexeme that ends nothing, and the step on it
-pub record Enters (p : OpenPlace) (kind : TerminalKind) (i : At) (n : Next) : Type 0 where
+pub record Enters (p : OpenPlace) (kind : TerminalKind) (i : At) (n : NextPlace) : Type 0 where
   pub stays : settle_place (terminal kind i) p ≡ p
   pub goes_to : take p kind i ≡ n
 
 pub to_same :
-    (p : OpenPlace) (kind : TerminalKind) (i : At) (n m : Next) → n ≡ m → Enters p kind i n → Enters p kind i m
+    (p : OpenPlace) (kind : TerminalKind) (i : At) (n m : NextPlace) → n ≡ m → Enters p kind i n → Enters p kind i m
 to_same p kind i n m e h = record { stays = h.stays; goes_to = h.goes_to ∙ e }
 
 pub steps :

@@ -1,13 +1,13 @@
 -- The lexemes before an open place lead the machine there, so it is one, and what it refuses has no reading.
 use Rattle.std.proofs.Common.{◌≡◌, ℕ, Bool, true, List, [], ◌∷◌, sym, ap, ◌∙◌}
-use Rattle.granit_grammar.specs.TreeMachine.{Next, Go, NotTaken, tree_step, RefusedAt, at_end, tree_goes, parse}
+use Rattle.granit_grammar.specs.TreeMachine.{NextPlace, Go, NotTaken, tree_step, RefusedAt, at_end, tree_goes, parse}
 use Rattle.granit_grammar.specs.TreeMachine.{tree_start}
 use Rattle.granit_language.specs.Node.{TreeProperties, NoProperties, One, Two, Stream}
 use Rattle.granit_language.specs.OpenPlace.{Bare, Explicit, Around, BlockPairs, FlowPairs, Hole, AtRoot, AtEntry}
 use Rattle.granit_language.specs.OpenPlace.{AtItem, AtKey, AtAsk, AtColon, OpenPlace, Fresh, InDirectives, BehindRoot}
 use Rattle.granit_language.specs.OpenPlace.{Ended, Want, PastEntry, PastKey, PastAsk, PastPair, PastItem, spell_around}
 use Rattle.granit_language.specs.OpenPlace.{spell_hole, spell_open, holder, room_of, AroundPlaced, HolePlaced}
-use Rattle.granit_language.specs.OpenPlace.{OpenPlaced, IsHole, IsOpen}
+use Rattle.granit_language.specs.OpenPlace.{OpenPlaced, IsHole, HasOneName}
 use Rattle.granit_language.specs.Placed.{PropertiesPlaced, SomeProperties, left_front, pair_front, StreamPlaced}
 use Rattle.granit_language.specs.Room.{room_behind, right_fits, sequence_fits, PartFits}
 use Rattle.granit_language.specs.Settling.{settle_place}
@@ -119,7 +119,7 @@ leads_properties r p ls f g s =
 
 -- the lexemes before an open place lead to it, in front of any lexeme that it is placed before
 pub leads_to :
-    (p : OpenPlace) (x : Terminal) (rest : List Terminal) → IsOpen p → OpenPlaced x p →
+    (p : OpenPlace) (x : Terminal) (rest : List Terminal) → HasOneName p → OpenPlaced x p →
     parse (spell_open p (x ∷ rest)) tree_start ≡ parse (x ∷ rest) p
 leads_to (Fresh b) x rest i f = takes_before b (x ∷ rest) f
 leads_to (InDirectives ds) x rest i f = takes_directives ds (x ∷ rest) f
@@ -148,7 +148,7 @@ leads_to (PastItem r p bracket o lead item) x rest i f =
 
 -- a lexeme that isn't admitted at an open place: no list that begins so has a reading
 pub no_stream :
-    (p : OpenPlace) (x : Terminal) (rest : List Terminal) (s : Stream) → IsOpen p → OpenPlaced x p →
+    (p : OpenPlace) (x : Terminal) (rest : List Terminal) (s : Stream) → HasOneName p → OpenPlaced x p →
     tree_step p x ≡ NotTaken → StreamPlaced s → spell_stream s [] ≡ spell_open p (x ∷ rest) → ⊥
 no_stream p x rest s i f e q h =
     let a = leads_to p x rest i f in
@@ -160,13 +160,13 @@ not_fault : (p q : OpenPlace) (x : Terminal) → at_end p ≡ RefusedAt q x → 
 not_fault (Ended s) q x e = cc
 not_fault p q x e = cc
 
-same_open : (n : Next) (p q : OpenPlace) (x : Terminal) → tree_goes n q x (parse []) ≡ RefusedAt p x → p ≡ q
+same_open : (n : NextPlace) (p q : OpenPlace) (x : Terminal) → tree_goes n q x (parse []) ≡ RefusedAt p x → p ≡ q
 same_open (Go r) p q x e = absurd (not_fault r p x e)
 same_open NotTaken p q x e = cc
 
 -- the open place is one
 pub one_open :
-    (p q : OpenPlace) (x : Terminal) → IsOpen p → IsOpen q → OpenPlaced x p → OpenPlaced x q →
+    (p q : OpenPlace) (x : Terminal) → HasOneName p → HasOneName q → OpenPlaced x p → OpenPlaced x q →
     spell_open p (x ∷ []) ≡ spell_open q (x ∷ []) → tree_step p x ≡ NotTaken → settle_place x p ≡ settle_place x q
 one_open p q x i j f g h e =
     let a = leads_to p x [] i f in

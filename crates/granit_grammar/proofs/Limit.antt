@@ -6,13 +6,13 @@ use Rattle.granit_grammar.specs.Guarded.{PassesStep, PassesClosed, Passes, limit
 use Rattle.granit_grammar.specs.Guarded.{is_loose, state_count}
 use Rattle.granit_grammar.specs.OpenWithin.{open_within, open_blocks}
 use Rattle.granit_grammar.specs.PlaceFrames.{state_at}
-use Rattle.granit_grammar.specs.TreeMachine.{Next, Go, NotTaken, take, Answer, ReadAs, RefusedAt, Short, at_end}
-use Rattle.granit_grammar.specs.TreeMachine.{tree_goes, parse}
+use Rattle.granit_grammar.specs.TreeMachine.{NextPlace, Go, NotTaken, take, TreeAnswer, ReadAs, RefusedAt, Short}
+use Rattle.granit_grammar.specs.TreeMachine.{at_end, tree_goes, parse}
 use Rattle.granit_language.specs.FaultKinds.{fault_kind_at}
 use Rattle.granit_language.specs.GrammarFault.{GrammarFault, TooManyBlocks}
 use Rattle.granit_language.specs.Node.{Stream}
 use Rattle.granit_language.specs.OpenEvents.{open_events}
-use Rattle.granit_language.specs.OpenPlace.{OpenPlace, Ended, IsOpen}
+use Rattle.granit_language.specs.OpenPlace.{OpenPlace, Ended, HasOneName}
 use Rattle.granit_language.specs.Settling.{settle_place}
 use Rattle.granit_language.specs.Terminal.{Terminal}
 use Rattle.granit_language.specs.TreeEvents.{TreeEvent}
@@ -49,7 +49,7 @@ kept_within :
 kept_within n d q (begins e c) h = e ∙ (ap (λ k. nat_le k n) (sym c) ∙ h)
 kept_within n d q (stays e c) h = e
 
-kept_next : (n d : ℕ) (b : Bool) (m : Next) → b ≡ true → NextKeeps n b d m → NextKeeps n true d m
+kept_next : (n d : ℕ) (b : Bool) (m : NextPlace) → b ≡ true → NextKeeps n b d m → NextKeeps n true d m
 kept_next n d b m e h = subst (λ b. NextKeeps n b d m) e h
 
 closed_state :
@@ -67,7 +67,7 @@ state_closed n (ending st1 es) x st P e h =
 -- ---- what passes keeps the limit
 
 -- what was read keeps the limit, up to an end
-abbrev pub answer_within : ℕ → Answer → Bool
+abbrev pub answer_within : ℕ → TreeAnswer → Bool
 answer_within n (ReadAs s) = stream_within n s
 answer_within n (Short q) = open_within n q
 answer_within n (RefusedAt q y) = true
@@ -76,13 +76,14 @@ end_within : (n : ℕ) (p : OpenPlace) → answer_within n (at_end p) ≡ open_w
 end_within n (Ended s) = refl
 end_within n p = refl
 
-abbrev Onto : ℕ → Answer → (EventState → Type 0) → (OpenPlace → Answer) → Type 0
+abbrev Onto : ℕ → TreeAnswer → (EventState → Type 0) → (OpenPlace → TreeAnswer) → Type 0
 Onto n a P on =
-    (q : OpenPlace) → IsOpen q → open_within n q ≡ true → on q ≡ a → P (state_at q) → answer_within n a ≡ true
+    (q : OpenPlace) → HasOneName q → open_within n q ≡ true → on q ≡ a → P (state_at q) → answer_within n a ≡ true
 
 passes_step :
-    (n d : ℕ) (s : Answer) (P : EventState → Type 0) (on : OpenPlace → Answer) → Onto n s P on →
-    (f : List TreeEvent → List TreeEvent) (k : GrammarFault) (p : OpenPlace) (x : Terminal) (t : EventStep) (m : Next) →
+    (n d : ℕ) (s : TreeAnswer) (P : EventState → Type 0) (on : OpenPlace → TreeAnswer) → Onto n s P on →
+    (f : List TreeEvent → List TreeEvent) (k : GrammarFault) (p : OpenPlace) (x : Terminal)
+    (t : EventStep) (m : NextPlace) →
     StepsTo f k t m → NextKeeps n true d m → tree_goes m p x on ≡ s → PassesStep (limit_guard n) t x P →
     answer_within n s ≡ true
 passes_step n d s P on h f k p x t m (goes_to {st = st} {es = es} {q = q} i e g) keeps r passes =
@@ -90,7 +91,7 @@ passes_step n d s P on h f k p x t m (goes_to {st = st} {es = es} {q = q} i e g)
     (subst P e passes.1)
 passes_step n d s P on h f k p x t m (stops_at j) keeps r passes = subst (λ a. answer_within n a ≡ true) r refl
 
-pub passes_within : (n : ℕ) (s : Answer) (xs : List Terminal) → Onto n s (Passes (limit_guard n) xs) (parse xs)
+pub passes_within : (n : ℕ) (s : TreeAnswer) (xs : List Terminal) → Onto n s (Passes (limit_guard n) xs) (parse xs)
 passes_within n s [] p i w r h = subst (λ a. answer_within n a ≡ true) r (end_within n p ∙ w)
 passes_within n s (x ∷ xs) p i w r h =
     let a = close_agrees x p i in
@@ -108,8 +109,8 @@ passes_within n s (x ∷ xs) p i w r h =
 
 -- a limit that is passed stays so
 broken_step :
-    (n d : ℕ) (s : Stream) (on : OpenPlace → Answer) (p : OpenPlace) (x : Terminal) →
-    ((q : OpenPlace) → open_within n q ≡ false → on q ≡ ReadAs s → stream_within n s ≡ false) → (m : Next) →
+    (n d : ℕ) (s : Stream) (on : OpenPlace → TreeAnswer) (p : OpenPlace) (x : Terminal) →
+    ((q : OpenPlace) → open_within n q ≡ false → on q ≡ ReadAs s → stream_within n s ≡ false) → (m : NextPlace) →
     NextKeeps n false d m → tree_goes m p x on ≡ ReadAs s → stream_within n s ≡ false
 broken_step n d s on p x h (Go q) (begins e c) r = h q e r
 broken_step n d s on p x h (Go q) (stays e c) r = h q e r
@@ -127,9 +128,9 @@ broken n s (x ∷ xs) p w r =
     (take_keeps n (settle_place x p) x.kind x.at))
     r
 
-abbrev Back : ℕ → Stream → (EventState → Type 0) → (OpenPlace → Answer) → Type 0
+abbrev Back : ℕ → Stream → (EventState → Type 0) → (OpenPlace → TreeAnswer) → Type 0
 Back n s P on =
-    (q : OpenPlace) → IsOpen q → open_within n q ≡ true → nat_le (open_blocks q) n ≡ true → on q ≡ ReadAs s →
+    (q : OpenPlace) → HasOneName q → open_within n q ≡ true → nat_le (open_blocks q) n ≡ true → on q ≡ ReadAs s →
     P (state_at q)
 
 -- a place behind a step keeps the limit, or the stream doesn't
@@ -143,7 +144,8 @@ kept_count n d q (stays e c) h b t g = ap (λ k. nat_le k n) c ∙ h
 within_step :
     (n d : ℕ) (s : Stream) (xs : List Terminal) (P : EventState → Type 0) → stream_within n s ≡ true →
     Back n s P (parse xs) →
-    (f : List TreeEvent → List TreeEvent) (k : GrammarFault) (p : OpenPlace) (x : Terminal) (t : EventStep) (m : Next) →
+    (f : List TreeEvent → List TreeEvent) (k : GrammarFault) (p : OpenPlace) (x : Terminal)
+    (t : EventStep) (m : NextPlace) →
     nat_le d n ≡ true → StepsTo f k t m → NextKeeps n true d m → tree_goes m p x (parse xs) ≡ ReadAs s →
     PassesStep (limit_guard n) t x P
 within_step n d s xs P w h f k p x t m le (goes_to {st = st} {es = es} {q = q} i e g) keeps r =

@@ -1,7 +1,7 @@
 -- A list has one fault at most.
 use Rattle.std.proofs.Common.{◌≡◌, List, [], ◌∷◌, ◌++◌, refl, sym, ap, ap₂, ◌∙◌, subst}
 use Rattle.granit_grammar.specs.EventMachine.{EventAnswer, Events, Faulty, Unfinished, run_events}
-use Rattle.granit_grammar.specs.TreeMachine.{Next, Go, NotTaken, tree_step, tree_goes, parse, tree_start}
+use Rattle.granit_grammar.specs.TreeMachine.{NextPlace, Go, NotTaken, tree_step, tree_goes, parse, tree_start}
 use Rattle.granit_language.specs.FaultKinds.{fault_kind_at}
 use Rattle.granit_language.specs.Faults.{IsSpelled, FaultAt}
 use Rattle.granit_language.specs.GrammarFault.{GrammarFault}
@@ -41,7 +41,8 @@ no_longer f g x z e h v = h (z ++ v.0) (subst IsSpelled (ap (λ g. g ++ v.0) e �
 
 -- the lexeme isn't admitted
 refused_by :
-    (xs : List Terminal) (k : GrammarFault) (x : Terminal) (f : FaultAt xs k x) (n : Next) → tree_step f.place x ≡ n →
+    (xs : List Terminal) (k : GrammarFault) (x : Terminal) (f : FaultAt xs k x) (n : NextPlace) →
+    tree_step f.place x ≡ n →
     n ≡ NotTaken
 refused_by xs k x f NotTaken e = refl
 refused_by xs k x f (Go q) e =

@@ -10,7 +10,8 @@ use Rattle.granit_language.specs.GrammarFault.{GrammarFault, TooManyBlocks}
 use Rattle.granit_language.specs.Scope.{Scope, no_scope}
 use Rattle.granit_language.specs.Scoping.{next_scope, scope_behind, in_scope, scoped, scope_fault, Means}
 use Rattle.granit_language.specs.Terminal.{TerminalKind, Terminal}
-use Rattle.granit_language.specs.Whole.{IsWithin, Viable, LexemeCause, not_taken, too_many, means_nothing, WholeFault}
+use Rattle.granit_language.specs.Whole.{BeginsWithin, Viable, LexemeCause, not_taken, too_many, means_nothing}
+use Rattle.granit_language.specs.Whole.{WholeFault}
 use Rattle.granit_grammar.proofs.Beginning.{begins_one}
 use Rattle.granit_grammar.proofs.Guards.{NotFaulty}
 use Rattle.granit_grammar.proofs.OneFault.{Splits, alike_split, longer, shorter, compare, one_fault}
@@ -19,7 +20,7 @@ use Rattle.granit_grammar.proofs.Wholes.{whole_viable, whole_faults}
 
 -- ---- a cause and what goes on
 
-spelled_within : (n : _) (xs : List Terminal) → IsWithin n xs → IsSpelled xs
+spelled_within : (n : _) (xs : List Terminal) → BeginsWithin n xs → IsSpelled xs
 spelled_within n xs w = (w.0, w.1, w.2)
 
 -- no stream goes on with lexemes that the grammar refuses
@@ -71,7 +72,7 @@ module _ (o : OptionsData) (front : List Terminal) (here : Terminal) where
       (here ∷ rest)) ++ v.more) v.within))
   blocks rest k (too_many more s none b) v =
       none (scoped (next_scope here.kind (scope_behind front no_scope)) rest ++ v.more)
-      (subst (IsWithin o.block_nesting_limit) (joined rest v.more) v.within)
+      (subst (BeginsWithin o.block_nesting_limit) (joined rest v.more) v.within)
   blocks rest k (means_nothing more w c) v =
       let a = cause_means_nothing o front here.kind k c in
       let b = means_there o no_scope front here rest v.means in

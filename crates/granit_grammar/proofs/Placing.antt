@@ -1,8 +1,8 @@
 -- What is read is placed.
 use Rattle.std.proofs.Common.{◌≡◌, ℕ, Bool, true, false, List, [], ◌∷◌, refl, subst, ◌==◌, ◌&&◌, Some, None}
-use Rattle.granit_grammar.specs.TreeMachine.{Next, Go, NotTaken, if_go, part_take, entry_take, entry_at, plain_site}
-use Rattle.granit_grammar.specs.TreeMachine.{pair_site, want_take, take, tree_step, Answer, ReadAs, RefusedAt, Short}
-use Rattle.granit_grammar.specs.TreeMachine.{at_end, tree_goes, parse, tree_start}
+use Rattle.granit_grammar.specs.TreeMachine.{NextPlace, Go, NotTaken, if_go, part_take, entry_take, entry_at}
+use Rattle.granit_grammar.specs.TreeMachine.{plain_site, pair_site, want_take, take, tree_step, TreeAnswer, ReadAs}
+use Rattle.granit_grammar.specs.TreeMachine.{RefusedAt, Short, at_end, tree_goes, parse, tree_start}
 use Rattle.granit_language.specs.Choice.{choose}
 use Rattle.granit_language.specs.Node.{TreeProperties, NoProperties, One, Two, AliasNode, ScalarNode, Alone, Flow}
 use Rattle.granit_language.specs.Node.{Sequence, Mapping, Content, Nothing, Just, Entries, Entry, Through, NoPair}
@@ -116,15 +116,15 @@ close_placed x (PastKey r a k t) f = f
 close_placed x (PastItem r p bracket o lead item) f = f
 
 -- in front of whatever follows
-abbrev pub NextPlaced : Next → Type 0
+abbrev pub NextPlaced : NextPlace → Type 0
 NextPlaced (Go p) = (x : Terminal) → OpenPlaced x p
 NextPlaced NotTaken = Unit {0}
 
-if_placed : (b : Bool) (n : Next) → (b ≡ true → NextPlaced n) → NextPlaced (if_go b n)
+if_placed : (b : Bool) (n : NextPlace) → (b ≡ true → NextPlaced n) → NextPlaced (if_go b n)
 if_placed true n h = h refl
 if_placed false n h = tt
 
-choose_placed : (b : Bool) (n m : Next) → (b ≡ true → NextPlaced n) → NextPlaced m → NextPlaced (choose b n m)
+choose_placed : (b : Bool) (n m : NextPlace) → (b ≡ true → NextPlaced n) → NextPlaced m → NextPlaced (choose b n m)
 choose_placed true n m x y = x refl
 choose_placed false n m x y = y
 
@@ -272,7 +272,7 @@ take_placed (PastItem r p Curly o lead item) (Close Curly) i f =
 take_placed p kind i f = tt
 
 -- the whole
-abbrev pub Tells : Answer → List Terminal → Type 0
+abbrev pub Tells : TreeAnswer → List Terminal → Type 0
 Tells (ReadAs s) all = (spell_stream s [] ≡ all) × StreamPlaced s
 Tells (RefusedAt p l) all =
     (rest : List Terminal) × (spell_open p (l ∷ rest) ≡ all) × OpenPlaced l p × (take p l.kind l.at ≡ NotTaken)
@@ -283,7 +283,7 @@ end_tells (Ended s) f x = (refl, f x)
 end_tells p f x = (refl, f)
 
 goes_tells :
-    (n : Next) (p q : OpenPlace) (l : Terminal) (ls : List Terminal) → take q l.kind l.at ≡ n →
+    (n : NextPlace) (p q : OpenPlace) (l : Terminal) (ls : List Terminal) → take q l.kind l.at ≡ n →
     Leads n (Then p l.kind l.at) → NextPlaced n → ((rest : List Terminal) → spell_open q rest ≡ spell_open p rest) →
     OpenPlaced l q → ((p : OpenPlace) → ((x : Terminal) → OpenPlaced x p) → Tells (parse ls p) (spell_open p ls)) →
     Tells (tree_goes n q l (parse ls)) (spell_open p (l ∷ ls))

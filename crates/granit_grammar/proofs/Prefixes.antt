@@ -1,15 +1,15 @@
 -- A fault: the lexemes before it begin a stream, and no stream goes on with its lexeme.
 use Rattle.std.proofs.Common.{◌≡◌, List, [], ◌∷◌, ◌++◌, refl, sym, ap, ◌∙◌, subst}
 use Rattle.granit_grammar.specs.EventMachine.{EventStep, EventAnswer, Events, Faulty, Unfinished, run_events}
-use Rattle.granit_grammar.specs.TreeMachine.{Next, Go, NotTaken, take, tree_step, Answer, ReadAs, RefusedAt, Short}
-use Rattle.granit_grammar.specs.TreeMachine.{at_end, tree_goes, parse, tree_start}
+use Rattle.granit_grammar.specs.TreeMachine.{NextPlace, Go, NotTaken, take, tree_step, TreeAnswer, ReadAs, RefusedAt}
+use Rattle.granit_grammar.specs.TreeMachine.{Short, at_end, tree_goes, parse, tree_start}
 use Rattle.granit_language.specs.FaultKinds.{fault_kind_at}
 use Rattle.granit_language.specs.Faults.{IsSpelled, FaultAt}
 use Rattle.granit_language.specs.GrammarFault.{GrammarFault}
 use Rattle.granit_language.specs.Node.{Stream}
 use Rattle.granit_language.specs.OpenPlace.{BlockPairs, FlowPairs, OpenPlace, Fresh, InDirectives, BehindRoot, Ended}
 use Rattle.granit_language.specs.OpenPlace.{Want, PastEntry, PastKey, PastAsk, PastPair, PastItem, spell_open}
-use Rattle.granit_language.specs.OpenPlace.{OpenPlaced, IsOpen}
+use Rattle.granit_language.specs.OpenPlace.{OpenPlaced, HasOneName}
 use Rattle.granit_language.specs.Placed.{StreamPlaced}
 use Rattle.granit_language.specs.Settling.{settle_place}
 use Rattle.granit_language.specs.Terminal.{TheEnd, At, Terminal, terminal, no_terminal}
@@ -26,16 +26,17 @@ use Rattle.granit_grammar.proofs.Settled.{close_settled}
 use Rattle.granit_grammar.proofs.Viable.{completes}
 
 -- a step leads to an open place
-abbrev pub NextOpen : Next → Type 0
-NextOpen (Go q) = IsOpen q
+abbrev pub NextOpen : NextPlace → Type 0
+NextOpen (Go q) = HasOneName q
 NextOpen NotTaken = Unit {0}
 
 steps_open :
-    (f : List TreeEvent → List TreeEvent) (k : GrammarFault) (s : EventStep) (n : Next) → StepsTo f k s n → NextOpen n
+    (f : List TreeEvent → List TreeEvent) (k : GrammarFault) (s : EventStep) (n : NextPlace)
+    → StepsTo f k s n → NextOpen n
 steps_open f k s n (goes_to i e g) = i
 steps_open f k s n (stops_at e) = tt
 
-pub step_open : (p : OpenPlace) (x : Terminal) → IsOpen p → NextOpen (tree_step p x)
+pub step_open : (p : OpenPlace) (x : Terminal) → HasOneName p → NextOpen (tree_step p x)
 step_open p x i = steps_open _ _ _ _ (take_agrees (settle_place x p) x.kind x.at (close_agrees x p i).is_open)
 
 -- A list whose parse stops at a lexeme: what stands before it, the place before it, and the place where it isn't
@@ -45,13 +46,13 @@ record StopsAt (xs : List Terminal) (p q : OpenPlace) (x : Terminal) : Type 0 wh
   rest : List Terminal
   last : OpenPlace
   is : xs ≡ front ++ (x ∷ rest)
-  last_open : IsOpen last
+  last_open : HasOneName last
   last_placed : (y : Terminal) → OpenPlaced y last
   leads : (more : List Terminal) → parse (front ++ more) p ≡ parse more last
   stops_here : (more : List Terminal) → parse (x ∷ more) last ≡ RefusedAt q x
   cut : (more : List Terminal) → spell_open q more ≡ spell_open p (front ++ more)
   placed : OpenPlaced x q
-  place_open : IsOpen q
+  place_open : HasOneName q
   settled : settle_place x q ≡ q
 
 no_fault : (p q : OpenPlace) (x : Terminal) → at_end p ≡ RefusedAt q x → ⊥
@@ -59,10 +60,11 @@ no_fault (Ended s) q x e = cc
 no_fault p q x e = cc
 
 goes_stops :
-    (n : Next) (l : Terminal) (xs : List Terminal) (p q : OpenPlace) (x : Terminal) → IsOpen p →
+    (n : NextPlace) (l : Terminal) (xs : List Terminal) (p q : OpenPlace) (x : Terminal) → HasOneName p →
     ((y : Terminal) → OpenPlaced y p) → take (settle_place l p) l.kind l.at ≡ n → NextOpen n → NextPlaced n →
     Leads n (Then p l.kind l.at) →
-    ((r : OpenPlace) → IsOpen r → ((y : Terminal) → OpenPlaced y r) → parse xs r ≡ RefusedAt q x → StopsAt xs r q x) →
+    ((r : OpenPlace) → HasOneName r → ((y : Terminal) → OpenPlaced y r) →
+    parse xs r ≡ RefusedAt q x → StopsAt xs r q x) →
     tree_goes n (settle_place l p) l (parse xs) ≡ RefusedAt q x → StopsAt (l ∷ xs) p q x
 goes_stops (Go r) l xs p q x i f e j g t ih h =
     let s = ih r j g h in
@@ -97,12 +99,12 @@ goes_stops NotTaken l xs p q x i f e j g t ih h =
           (ap (λ n. tree_goes n (settle_place l p) l (parse more)) e ∙ h);
       cut = λ more. subst (λ q. spell_open q more ≡ spell_open p more) place (close_spells l p more);
       placed = subst (λ y. OpenPlaced y q) same (subst (OpenPlaced l) place (close_placed l p (f l)));
-      place_open = subst IsOpen place (close_agrees l p i).is_open;
+      place_open = subst HasOneName place (close_agrees l p i).is_open;
       settled = subst (λ y. settle_place y q ≡ q) same (subst (λ q. settle_place l q ≡ q) place (close_settled l p));
     }
 
 stops :
-    (xs : List Terminal) (p q : OpenPlace) (x : Terminal) → IsOpen p → ((y : Terminal) → OpenPlaced y p) →
+    (xs : List Terminal) (p q : OpenPlace) (x : Terminal) → HasOneName p → ((y : Terminal) → OpenPlaced y p) →
     parse xs p ≡ RefusedAt q x → StopsAt xs p q x
 stops [] p q x i f h = absurd (no_fault p q x h)
 stops (l ∷ xs) p q x i f h =
@@ -141,7 +143,7 @@ fault_at xs q x h =
 
 -- what the event machine says of a list
 events_told :
-    (xs : List Terminal) (es : List TreeEvent) (a : Answer) → Answers (λ more. more) (Events es) a → Tells a xs →
+    (xs : List Terminal) (es : List TreeEvent) (a : TreeAnswer) → Answers (λ more. more) (Events es) a → Tells a xs →
     (s : Stream) × (spell_stream s [] ≡ xs) × StreamPlaced s × (es ≡ stream_events s [])
 events_told xs es (ReadAs s) h t = (s, t.0, t.1, sym h)
 events_told xs es (RefusedAt q y) h t = absurd h
@@ -155,7 +157,7 @@ events_are xs es e =
     (subst (λ o. Answers (λ more. more) o (parse xs tree_start)) e (machines_agree xs)) (one_cut xs)
 
 fault_told :
-    (xs : List Terminal) (k : GrammarFault) (x : Terminal) (a : Answer) → parse xs tree_start ≡ a →
+    (xs : List Terminal) (k : GrammarFault) (x : Terminal) (a : TreeAnswer) → parse xs tree_start ≡ a →
     Answers (λ more. more) (Faulty k x) a → FaultAt xs k x
 fault_told xs k x (ReadAs s) e h = absurd h
 fault_told xs k x (Short q) e h = absurd h
@@ -179,7 +181,7 @@ streams_are_read s f =
     (subst (Answers (λ more. more) (run_events (spell_stream s []))) (reads s f) (machines_agree (spell_stream s [])))
 
 -- behind the end nothing is wanted
-abbrev EndsOnly : Next → Type 0
+abbrev EndsOnly : NextPlace → Type 0
 EndsOnly (Go (Ended s)) = Unit {0}
 EndsOnly NotTaken = Unit {0}
 EndsOnly (Go q) = ⊥
@@ -199,17 +201,17 @@ end_taken (PastPair r (FlowPairs p Curly o lead) pair) i = tt
 end_taken (PastItem r p Square o lead item) i = tt
 end_taken (PastItem r p Curly o lead item) i = tt
 
-abbrev NotShort : Answer → Type 0
+abbrev NotShort : TreeAnswer → Type 0
 NotShort (Short q) = ⊥
 NotShort a = Unit {0}
 
-end_goes : (n : Next) (p : OpenPlace) (x : Terminal) → EndsOnly n → NotShort (tree_goes n p x (parse []))
+end_goes : (n : NextPlace) (p : OpenPlace) (x : Terminal) → EndsOnly n → NotShort (tree_goes n p x (parse []))
 end_goes (Go (Ended s)) p x e = tt
 end_goes NotTaken p x e = tt
 end_goes (Go q) p x e = absurd e
 
 goes_further :
-    (n : Next) (p : OpenPlace) (x : Terminal) (ls : List Terminal) → ((q : OpenPlace) → NotShort (parse ls q)) →
+    (n : NextPlace) (p : OpenPlace) (x : Terminal) (ls : List Terminal) → ((q : OpenPlace) → NotShort (parse ls q)) →
     NotShort (tree_goes n p x (parse ls))
 goes_further (Go q) p x ls h = h q
 goes_further NotTaken p x ls h = tt
@@ -223,7 +225,7 @@ not_short (x ∷ xs) i p =
     goes_further (take (settle_place x p) x.kind x.at) (settle_place x p) x (xs ++ (terminal TheEnd i ∷ []))
     (not_short xs i)
 
-unfinished_short : (a : Answer) → Answers (λ more. more) Unfinished a → NotShort a → ⊥
+unfinished_short : (a : TreeAnswer) → Answers (λ more. more) Unfinished a → NotShort a → ⊥
 unfinished_short (ReadAs s) h g = h
 unfinished_short (RefusedAt q y) h g = h
 unfinished_short (Short q) h g = g

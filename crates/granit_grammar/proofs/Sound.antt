@@ -1,7 +1,7 @@
 -- What stands before an open place is what was taken.
 use Rattle.std.proofs.Common.{◌≡◌, ℕ, Bool, true, false, List, ◌∷◌, refl, ◌∙◌, ◌==◌, Some, None}
-use Rattle.granit_grammar.specs.TreeMachine.{Next, Go, NotTaken, if_go, part_take, entry_take, entry_at, plain_site}
-use Rattle.granit_grammar.specs.TreeMachine.{pair_site, want_take, take, tree_step}
+use Rattle.granit_grammar.specs.TreeMachine.{NextPlace, Go, NotTaken, if_go, part_take, entry_take, entry_at}
+use Rattle.granit_grammar.specs.TreeMachine.{plain_site, pair_site, want_take, take, tree_step}
 use Rattle.granit_language.specs.Choice.{choose}
 use Rattle.granit_language.specs.Node.{TreeProperties, NoProperties, One, Two, AliasNode, ScalarNode, Alone, Flow}
 use Rattle.granit_language.specs.Node.{Sequence, Mapping, Content, Nothing, Just, Entries, Entry, Through, NoPair}
@@ -94,16 +94,16 @@ close_spells x (PastPair r a pair) = pair_spells x (finish_at x r) r a pair (fin
 close_spells x p = λ rest. refl
 
 -- what a step leads to spells this
-abbrev pub Leads : Next → (List Terminal → List Terminal) → Type 0
+abbrev pub Leads : NextPlace → (List Terminal → List Terminal) → Type 0
 Leads (Go p) f = (rest : List Terminal) → spell_open p rest ≡ f rest
 Leads NotTaken f = Unit {0}
 
-if_leads : (b : Bool) (n : Next) (f : List Terminal → List Terminal) → Leads n f → Leads (if_go b n) f
+if_leads : (b : Bool) (n : NextPlace) (f : List Terminal → List Terminal) → Leads n f → Leads (if_go b n) f
 if_leads true n f h = h
 if_leads false n f h = tt
 
 choose_leads :
-    (b : Bool) (n m : Next) (f : List Terminal → List Terminal) → Leads n f → Leads m f → Leads (choose b n m) f
+    (b : Bool) (n m : NextPlace) (f : List Terminal → List Terminal) → Leads n f → Leads m f → Leads (choose b n m) f
 choose_leads true n m f x y = x
 choose_leads false n m f x y = y
 
@@ -184,7 +184,7 @@ take_leads (PastItem r p Curly o lead item) (Close Curly) i =
 take_leads p kind i = tt
 
 via_close :
-    (n : Next) (l : Terminal) (p : OpenPlace) → Leads n (Then (settle_place l p) l.kind l.at)
+    (n : NextPlace) (l : Terminal) (p : OpenPlace) → Leads n (Then (settle_place l p) l.kind l.at)
     → Leads n (Then p l.kind l.at)
 via_close (Go q) l p h = λ rest. h rest ∙ close_spells l p (l ∷ rest)
 via_close NotTaken l p h = tt

@@ -2,10 +2,10 @@
 use Rattle.std.proofs.Common.{◌≡◌, List, [], ◌∷◌, ◌++◌, refl, sym, ap, ◌∙◌, subst}
 use Rattle.std.proofs.lemmas.List.{append-nil}
 use Rattle.granit_grammar.specs.EventMachine.{EventAnswer, Events, Faulty, Unfinished, run_events}
-use Rattle.granit_grammar.specs.TreeMachine.{Next, Go, NotTaken, take, tree_step, tree_start, Answer, ReadAs, RefusedAt}
-use Rattle.granit_grammar.specs.TreeMachine.{Short, at_end, tree_goes, parse}
+use Rattle.granit_grammar.specs.TreeMachine.{NextPlace, Go, NotTaken, take, tree_step, tree_start, TreeAnswer, ReadAs}
+use Rattle.granit_grammar.specs.TreeMachine.{RefusedAt, Short, at_end, tree_goes, parse}
 use Rattle.granit_language.specs.Faults.{IsSpelled}
-use Rattle.granit_language.specs.OpenPlace.{OpenPlace, Ended, OpenPlaced, IsOpen}
+use Rattle.granit_language.specs.OpenPlace.{OpenPlace, Ended, OpenPlaced, HasOneName}
 use Rattle.granit_language.specs.Settling.{settle_place}
 use Rattle.granit_language.specs.Terminal.{Terminal, no_terminal}
 use Rattle.granit_grammar.proofs.Agree.{Answers, machines_agree}
@@ -16,7 +16,7 @@ use Rattle.granit_grammar.proofs.Guards.{NotFaulty}
 
 -- A list that is parsed up to an open place.
 pub record ComesTo (xs : List Terminal) (p q : OpenPlace) : Type 0 where
-  pub is_open : IsOpen q
+  pub is_open : HasOneName q
   pub placed : (y : Terminal) → OpenPlaced y q
   pub leads : (more : List Terminal) → parse (xs ++ more) p ≡ parse more q
 
@@ -25,10 +25,10 @@ short_same (Ended s) q e = absurd cc
 short_same p q e = cc (e)
 
 goes_short :
-    (n : Next) (l : Terminal) (xs : List Terminal) (p q : OpenPlace) → take (settle_place l p) l.kind l.at ≡ n
+    (n : NextPlace) (l : Terminal) (xs : List Terminal) (p q : OpenPlace) → take (settle_place l p) l.kind l.at ≡ n
     → NextOpen n →
     NextPlaced n →
-    ((r : OpenPlace) → IsOpen r → ((y : Terminal) → OpenPlaced y r) → parse xs r ≡ Short q → ComesTo xs r q) →
+    ((r : OpenPlace) → HasOneName r → ((y : Terminal) → OpenPlaced y r) → parse xs r ≡ Short q → ComesTo xs r q) →
     tree_goes n (settle_place l p) l (parse xs) ≡ Short q → ComesTo (l ∷ xs) p q
 goes_short (Go r) l xs p q e i f ih h =
     let s = ih r i f h in
@@ -40,12 +40,12 @@ goes_short (Go r) l xs p q e i f ih h =
 goes_short NotTaken l xs p q e i f ih h = absurd cc
 
 pub comes_to :
-    (xs : List Terminal) (p q : OpenPlace) → IsOpen p → ((y : Terminal) → OpenPlaced y p) → parse xs p ≡ Short q →
+    (xs : List Terminal) (p q : OpenPlace) → HasOneName p → ((y : Terminal) → OpenPlaced y p) → parse xs p ≡ Short q →
     ComesTo xs p q
 comes_to [] p q i f h =
     let same = short_same p q h in
     record {
-      is_open = subst IsOpen same i;
+      is_open = subst HasOneName same i;
       placed = λ y. subst (OpenPlaced y) same (f y);
       leads = λ more. ap (parse more) same;
     }
@@ -54,7 +54,7 @@ comes_to (l ∷ xs) p q i f h =
     (take_placed (settle_place l p) l.kind l.at (close_placed l p (f l))) (λ r j g e. comes_to xs r q j g e) h
 
 viable_by :
-    (xs : List Terminal) (o : EventAnswer) (a : Answer) → parse xs tree_start ≡ a → NotFaulty o →
+    (xs : List Terminal) (o : EventAnswer) (a : TreeAnswer) → parse xs tree_start ≡ a → NotFaulty o →
     Answers (λ more. more) o a → (more : List Terminal) × IsSpelled (xs ++ more)
 viable_by xs o (ReadAs s) e n h = ([], subst IsSpelled (sym (append-nil xs)) (whole xs s e))
 viable_by xs o (Short q) e n h =

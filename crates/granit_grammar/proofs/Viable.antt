@@ -9,7 +9,7 @@ use Rattle.granit_language.specs.Node.{AfterDirectives, Rooted, BareRoot, Explic
 use Rattle.granit_language.specs.OpenPlace.{Bare, Explicit, Around, BlockPairs, FlowPairs, Hole, AtRoot, AtEntry}
 use Rattle.granit_language.specs.OpenPlace.{AtItem, AtKey, AtAsk, AtColon, OpenPlace, Fresh, InDirectives, BehindRoot}
 use Rattle.granit_language.specs.OpenPlace.{Ended, Want, PastEntry, PastKey, PastAsk, PastPair, PastItem, room_of}
-use Rattle.granit_language.specs.OpenPlace.{AroundPlaced, HolePlaced, OpenPlaced, IsHole, IsOpen}
+use Rattle.granit_language.specs.OpenPlace.{AroundPlaced, HolePlaced, OpenPlaced, IsHole, HasOneName}
 use Rattle.granit_language.specs.Placed.{SomeProperties, left_front, pair_front, EntriesPlaced}
 use Rattle.granit_language.specs.Room.{BlockIn, FlowIn, Room, RightOf, ValueIn, KeyIn, BehindKey, ItemIn, Inside}
 use Rattle.granit_language.specs.Room.{behind_property, room_behind, right_fits, loose_fits, sequence_fits}
@@ -374,7 +374,7 @@ want_reads (AtColon r a left m) i f =
 entries_column : (es : Entries) (loose : Bool) (c : ℕ) (x : Terminal) → EntriesPlaced es loose c x → nat_lt 0 c ≡ true
 entries_column (Entry lead i v) loose c x f = positive_edge i c f.1
 
-pub completed : (p : OpenPlace) → IsOpen p → OpenPlaced no_terminal p → Reads (after_place p) p
+pub completed : (p : OpenPlace) → HasOneName p → OpenPlaced no_terminal p → Reads (after_place p) p
 completed (Fresh b) i f = (EndFresh b nowhere, refl)
 completed (InDirectives ds) i f = (EndRooted (ExplicitRoot (AfterDirectives ds) nowhere Nothing) nowhere, refl)
 completed (BehindRoot ro) i f = (EndRooted ro nowhere, refl)
@@ -393,5 +393,5 @@ completed (PastItem r p bracket o lead item) i f =
     let g = put_reads r f.0 (Flow p bracket o lead (LastItem item) nowhere) in
     (g.0, closes_item r p bracket o lead item nowhere (after_put r) ∙ g.1)
 
-pub completes : (p : OpenPlace) → IsOpen p → OpenPlaced no_terminal p → (ls : List Terminal) × Reads ls p
+pub completes : (p : OpenPlace) → HasOneName p → OpenPlaced no_terminal p → (ls : List Terminal) × Reads ls p
 completes p i f = (after_place p, completed p i f)

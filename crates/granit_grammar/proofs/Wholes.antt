@@ -10,7 +10,7 @@ use Rattle.granit_grammar.specs.EventMachine.{events_before, run_events_from, ru
 use Rattle.granit_grammar.specs.Guarded.{guarded, Passes, first_fault, fault_unless, limit_fault, limit_guard}
 use Rattle.granit_grammar.specs.Guarded.{scope_guard, whole_guard, whole_run, state_count, is_loose, Guard}
 use Rattle.granit_grammar.specs.Passing.{GuardFault}
-use Rattle.granit_grammar.specs.TreeMachine.{Answer, ReadAs, RefusedAt, Short, parse, tree_start}
+use Rattle.granit_grammar.specs.TreeMachine.{ReadAs, RefusedAt, Short, TreeAnswer, parse, tree_start}
 use Rattle.granit_language.specs.GrammarFault.{GrammarFault, TooManyBlocks, UnknownAnchor, UndeclaredTagHandle}
 use Rattle.granit_language.specs.GrammarFault.{UnsupportedYamlMajorVersion, DuplicateVersionDirective}
 use Rattle.granit_language.specs.Node.{Stream}
@@ -24,8 +24,8 @@ use Rattle.granit_language.specs.Terminal.{Anchor, Tag, Alias, Property, Scalar,
 use Rattle.granit_language.specs.Terminal.{Terminal, text_start, At, TheEnd, terminal, no_terminal}
 use Rattle.granit_language.specs.TreeEvents.{StreamStarts, TreeEvent, pointed}
 use Rattle.granit_language.specs.Whole.{WholeReading, ScopeCause, no_anchor, no_handle, second_version, other_version}
-use Rattle.granit_language.specs.Whole.{second_handle, IsWithin, Viable, BeginsBlock, LexemeCause, not_taken, too_many}
-use Rattle.granit_language.specs.Whole.{means_nothing, WholeFault}
+use Rattle.granit_language.specs.Whole.{second_handle, BeginsWithin, Viable, BeginsBlock, LexemeCause, not_taken}
+use Rattle.granit_language.specs.Whole.{too_many, means_nothing, WholeFault}
 use Rattle.granit_language.specs.Within.{stream_within}
 use Rattle.granit_language.specs.Yield.{spell_stream}
 use Rattle.granit_lexemes.specs.Lexeme.{Version, TagPrefix, Reserved}
@@ -198,8 +198,8 @@ scope_cause o front kind k e = absurd cc
 -- ---- lexemes that are taken and that all guards let pass begin a reading
 
 within_by :
-    (n : ℕ) (ls : List Terminal) (a : Answer) → parse ls tree_start ≡ a → Passes (limit_guard n) ls IsFresh →
-    (o : EventAnswer) → NotFaulty o → Answers (λ more. more) o a → (more : List Terminal) × IsWithin n (ls ++ more)
+    (n : ℕ) (ls : List Terminal) (a : TreeAnswer) → parse ls tree_start ≡ a → Passes (limit_guard n) ls IsFresh →
+    (o : EventAnswer) → NotFaulty o → Answers (λ more. more) o a → (more : List Terminal) × BeginsWithin n (ls ++ more)
 within_by n ls (ReadAs s) e p o f h =
     let t = subst (λ a. Tells a ls) e (one_cut ls) in
     ([], (s, t.0 ∙ sym (append-nil ls), t.1, passes_within n (ReadAs s) ls tree_start tt refl e p))
@@ -222,7 +222,7 @@ within_by n ls (RefusedAt q y) e p Unfinished f h = absurd h
 
 within_from :
     (n : ℕ) (ls : List Terminal) → Passes (limit_guard n) ls IsFresh → NotFaulty (run_events ls) →
-    (more : List Terminal) × IsWithin n (ls ++ more)
+    (more : List Terminal) × BeginsWithin n (ls ++ more)
 within_from n ls p f = within_by n ls (parse ls tree_start) refl p (run_events ls) f (machines_agree ls)
 
 viable_from :
@@ -300,7 +300,7 @@ over_limit :
     (o : OptionsData) (xs : List Terminal) (k : GrammarFault) (x : Terminal)
     (h : GuardFault (whole_guard o) xs IsFresh k x) →
     limit_fault (limit_of o) h.behind ≡ Some k → (more : List Terminal) →
-    IsWithin (limit_of o) (h.front ++ (x ∷ more)) → ⊥
+    BeginsWithin (limit_of o) (h.front ++ (x ∷ more)) → ⊥
 over_limit o xs k x h f more s =
     let p = within_passes (limit_of o) s.0 s.3 (h.front ++ (x ∷ more)) tree_start tt refl (from_zero (limit_of o))
     (ap (λ ls. parse ls tree_start) (sym s.1) ∙ reads s.0 s.2) in
@@ -350,7 +350,7 @@ guard_cause o xs k x h t (inl f) =
     subst (LexemeCause o t.plain t.here.kind x) (sym (limit_kind (limit_of o) h.behind k f))
     (too_many v.0 (subst (λ front. IsSpelled (front ++ (x ∷ v.0))) t.front_is v.1)
     (λ more.
-    subst (λ front. IsWithin (limit_of o) (front ++ (x ∷ more)) → ⊥) t.front_is
+    subst (λ front. BeginsWithin (limit_of o) (front ++ (x ∷ more)) → ⊥) t.front_is
     (over_limit o (scoped no_scope xs) k x h f more))
     (subst (λ kind. BeginsBlock (scoped no_scope t.plain ++ (x ∷ [])) kind (is_loose h.behind))
     (ap (λ x. x.kind) t.x_is)
@@ -363,8 +363,8 @@ guard_cause o xs k x h t (inr f) =
     let w = within_from (limit_of o) (h.front ++ (x ∷ [])) (h.joined (limit_guard (limit_of o)) limits f.0)
     (guard_taken o (scoped no_scope xs) k x h) in
     means_nothing w.0
-    (subst (λ front. IsWithin (limit_of o) (front ++ (x ∷ w.0))) t.front_is
-    (subst (IsWithin (limit_of o)) (append_assoc h.front (x ∷ []) w.0) w.1))
+    (subst (λ front. BeginsWithin (limit_of o) (front ++ (x ∷ w.0))) t.front_is
+    (subst (BeginsWithin (limit_of o)) (append_assoc h.front (x ∷ []) w.0) w.1))
     (scope_cause o t.plain t.here.kind k
     (subst (λ x. scope_fault o x.kind x.at.scope ≡ Some k) t.x_is f.1))
 

@@ -6,8 +6,8 @@ use Rattle.granit_grammar.specs.Guarded.{blocks_open, state_count}
 use Rattle.granit_grammar.specs.OpenWithin.{around_blocks, hole_blocks, around_within, hole_within, open_within}
 use Rattle.granit_grammar.specs.OpenWithin.{open_blocks}
 use Rattle.granit_grammar.specs.PlaceFrames.{site_in, hole_frames, pair_made, state_at}
-use Rattle.granit_grammar.specs.TreeMachine.{Next, Go, NotTaken, if_go, part_take, entry_take, entry_at, plain_site}
-use Rattle.granit_grammar.specs.TreeMachine.{pair_site, want_take, take}
+use Rattle.granit_grammar.specs.TreeMachine.{NextPlace, Go, NotTaken, if_go, part_take, entry_take, entry_at}
+use Rattle.granit_grammar.specs.TreeMachine.{plain_site, pair_site, want_take, take}
 use Rattle.granit_language.specs.Choice.{choose}
 use Rattle.granit_language.specs.Node.{TreeProperties, NoProperties, One, Two, Node, AliasNode, ScalarNode, Alone, Flow}
 use Rattle.granit_language.specs.Node.{Sequence, Mapping, Content, Nothing, Just, Entries, Entry, Through, NoPair}
@@ -104,34 +104,35 @@ pub data StepKeeps (n : ℕ) (b : Bool) (d : ℕ) : OpenPlace → Type 0 where
   begins : {q : OpenPlace} → open_within n q ≡ (b && nat_le (suc d) n) → open_blocks q ≡ suc d → StepKeeps n b d q
   stays : {q : OpenPlace} → open_within n q ≡ b → open_blocks q ≡ d → StepKeeps n b d q
 
-abbrev pub NextKeeps : ℕ → Bool → ℕ → Next → Type 0
+abbrev pub NextKeeps : ℕ → Bool → ℕ → NextPlace → Type 0
 NextKeeps n b d (Go q) = StepKeeps n b d q
 NextKeeps n b d NotTaken = Unit {0}
 
-if_keeps : (n : ℕ) (b : Bool) (d : ℕ) (t : Bool) (m : Next) → NextKeeps n b d m → NextKeeps n b d (if_go t m)
+if_keeps : (n : ℕ) (b : Bool) (d : ℕ) (t : Bool) (m : NextPlace) → NextKeeps n b d m → NextKeeps n b d (if_go t m)
 if_keeps n b d true m h = h
 if_keeps n b d false m h = tt
 
 choose_keep :
-    (n : ℕ) (b : Bool) (d : ℕ) (t : Bool) (m k : Next) → NextKeeps n b d m → NextKeeps n b d k →
+    (n : ℕ) (b : Bool) (d : ℕ) (t : Bool) (m k : NextPlace) → NextKeeps n b d m → NextKeeps n b d k →
     NextKeeps n b d (choose t m k)
 choose_keep n b d true m k h g = h
 choose_keep n b d false m k h g = g
 
 -- it begins none
-abbrev pub NextStays : ℕ → Bool → ℕ → Next → Type 0
+abbrev pub NextStays : ℕ → Bool → ℕ → NextPlace → Type 0
 NextStays n b d (Go q) = (open_within n q ≡ b) × (open_blocks q ≡ d)
 NextStays n b d NotTaken = Unit {0}
 
-if_stays : (n : ℕ) (b : Bool) (d : ℕ) (t : Bool) (m : Next) → NextStays n b d m → NextStays n b d (if_go t m)
+if_stays : (n : ℕ) (b : Bool) (d : ℕ) (t : Bool) (m : NextPlace) → NextStays n b d m → NextStays n b d (if_go t m)
 if_stays n b d true m h = h
 if_stays n b d false m h = tt
 
-as_kept : (n : ℕ) (b : Bool) (d : ℕ) (m : Next) → NextStays n b d m → NextKeeps n b d m
+as_kept : (n : ℕ) (b : Bool) (d : ℕ) (m : NextPlace) → NextStays n b d m → NextKeeps n b d m
 as_kept n b d (Go q) h = stays h.0 h.1
 as_kept n b d NotTaken h = tt
 
-as_begun : (n : ℕ) (b : Bool) (d : ℕ) (m : Next) → NextStays n (b && nat_le (suc d) n) (suc d) m → NextKeeps n b d m
+as_begun : (n : ℕ) (b : Bool) (d : ℕ) (m : NextPlace)
+    → NextStays n (b && nat_le (suc d) n) (suc d) m → NextKeeps n b d m
 as_begun n b d (Go q) h = begins h.0 h.1
 as_begun n b d NotTaken h = tt
 

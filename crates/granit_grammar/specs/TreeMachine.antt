@@ -17,16 +17,16 @@ use Rattle.granit_language.specs.Terminal.{DocumentStart, DocumentEnd, TheEnd, D
 use Rattle.granit_language.specs.Terminal.{Part, At, Terminal, terminal, edge, entry_in}
 use Rattle.granit_lexemes.specs.declared.layout.Bracket.TheVariants.{Square, Curly}
 
-pub data Next : Type 0 where
-  Go : OpenPlace → Next
-  NotTaken : Next
+pub data NextPlace : Type 0 where
+  Go : OpenPlace → NextPlace
+  NotTaken : NextPlace
 
-abbrev pub if_go : Bool → Next → Next
+abbrev pub if_go : Bool → NextPlace → NextPlace
 if_go true n = n
 if_go false n = NotTaken
 
 -- a lexeme of a node, behind properties
-abbrev pub part_take : Hole → TreeProperties → PartKind → At → Next
+abbrev pub part_take : Hole → TreeProperties → PartKind → At → NextPlace
 part_take r NoProperties (Alias name) i = Go (put_in r (Just (AliasNode name i)))
 part_take r NoProperties (Property k) i = Go (Want r (One k i))
 part_take r (One m j) (Property k) i = if_go (differ m k) (Go (Want r (Two m j k i)))
@@ -35,7 +35,7 @@ part_take r p (Open bracket) i = Go (Want (AtItem r p bracket i NoItem) NoProper
 part_take r p k i = NotTaken
 
 -- the first lexeme of a pair
-abbrev pub entry_take : Hole → Around → TerminalKind → At → Next
+abbrev pub entry_take : Hole → Around → TerminalKind → At → NextPlace
 entry_take r a (Part k) i = part_take (AtKey r a (terminal (Part k) i)) NoProperties k i
 entry_take r a Question i = Go (Want (AtAsk r a i) NoProperties)
 entry_take r a (Colon None) i = Go (Want (AtColon r a NoKey i) NoProperties)
@@ -44,7 +44,7 @@ entry_take r a kind i = NotTaken
 pub data Site : Type 0 where
   site : Hole → Around → Site
 
-abbrev pub entry_at : Site → TerminalKind → At → Next
+abbrev pub entry_at : Site → TerminalKind → At → NextPlace
 entry_at (site r a) kind i = entry_take r a kind i
 
 -- the collection of a pair that begins at a hole
@@ -58,7 +58,7 @@ pair_site r NoProperties i = plain_site r i
 pair_site r p i = site r (BlockPairs p (edge i) NoPair)
 
 -- a lexeme at a hole, behind properties
-abbrev pub want_take : Hole → TreeProperties → TerminalKind → At → Next
+abbrev pub want_take : Hole → TreeProperties → TerminalKind → At → NextPlace
 want_take r p (Part k) i =
     choose (opens (room_behind p (room_of r)) i) (entry_at (pair_site r p i) (Part k) i)
     (if_go (part_fits (room_behind p (room_of r)) i) (part_take r p k i))
@@ -76,7 +76,7 @@ want_take (AtItem r q Curly o lead) NoProperties (Close Curly) i = Go (put_in r 
 want_take r p kind i = NotTaken
 
 -- a lexeme where nothing ends before it
-abbrev pub take : OpenPlace → TerminalKind → At → Next
+abbrev pub take : OpenPlace → TerminalKind → At → NextPlace
 take (Fresh b) (Directive d) i = Go (InDirectives (FirstDirective b d i))
 take (Fresh b) DocumentStart i = Go (Want (AtRoot (Explicit (AtFresh b) i)) NoProperties)
 take (Fresh b) DocumentEnd i = Go (Fresh (ExtraEnd b i))
@@ -104,24 +104,24 @@ take (PastItem r p Square o lead item) (Close Square) i = Go (put_in r (Just (Fl
 take (PastItem r p Curly o lead item) (Close Curly) i = Go (put_in r (Just (Flow p Curly o lead (LastItem item) i)))
 take p kind i = NotTaken
 
-abbrev pub tree_step : OpenPlace → Terminal → Next
+abbrev pub tree_step : OpenPlace → Terminal → NextPlace
 tree_step p l = take (settle_place l p) l.kind l.at
 
-pub data Answer : Type 0 where
-  ReadAs : Stream → Answer
+pub data TreeAnswer : Type 0 where
+  ReadAs : Stream → TreeAnswer
   -- the open place, once what the lexeme ends is finished
-  RefusedAt : OpenPlace → Terminal → Answer
-  Short : OpenPlace → Answer
+  RefusedAt : OpenPlace → Terminal → TreeAnswer
+  Short : OpenPlace → TreeAnswer
 
-abbrev pub at_end : OpenPlace → Answer
+abbrev pub at_end : OpenPlace → TreeAnswer
 at_end (Ended s) = ReadAs s
 at_end p = Short p
 
-abbrev pub tree_goes : Next → OpenPlace → Terminal → (OpenPlace → Answer) → Answer
+abbrev pub tree_goes : NextPlace → OpenPlace → Terminal → (OpenPlace → TreeAnswer) → TreeAnswer
 tree_goes (Go p') p l on = on p'
 tree_goes NotTaken p l on = RefusedAt p l
 
-abbrev pub parse : List Terminal → OpenPlace → Answer
+abbrev pub parse : List Terminal → OpenPlace → TreeAnswer
 parse [] p = at_end p
 parse (l ∷ ls) p = tree_goes (take (settle_place l p) l.kind l.at) (settle_place l p) l (parse ls)
 

@@ -2,7 +2,7 @@
 ghost use Rattle.std.specs.Prelude.{◌≡◌, List, [], ◌∷◌};
 ghost use Rattle.granit_grammar.specs.TreeMachine.{parse, tree_start, tree_step, ReadAs, NotTaken};
 ghost use Rattle.granit_language.specs.Node.{Stream};
-ghost use Rattle.granit_language.specs.OpenPlace.{OpenPlace, OpenPlaced, IsOpen, spell_open};
+ghost use Rattle.granit_language.specs.OpenPlace.{OpenPlace, OpenPlaced, HasOneName, spell_open};
 ghost use Rattle.granit_language.specs.Placed.{StreamPlaced};
 ghost use Rattle.granit_language.specs.Settling.{settle_place};
 ghost use Rattle.granit_language.specs.Terminal.{Terminal};
@@ -20,10 +20,11 @@ pub fn parsing_gives_the_one_stream()
 /// The lexemes before an open place lead to it. Where the next one isn't admitted, the open place is one, and no list
 /// of lexemes that begins so is spelled by a placed stream.
 pub fn no_stream_goes_on()
-    ensures leads { (p : OpenPlace) (x : Terminal) (rest : List Terminal) → IsOpen p → OpenPlaced x p →
+    ensures leads { (p : OpenPlace) (x : Terminal) (rest : List Terminal) → HasOneName p → OpenPlaced x p →
         parse (spell_open p (x ∷ rest)) tree_start ≡ parse (x ∷ rest) p }
-    ensures one_place { (p q : OpenPlace) (x : Terminal) → IsOpen p → IsOpen q → OpenPlaced x p → OpenPlaced x q →
+    ensures one_place { (p q : OpenPlace) (x : Terminal) → HasOneName p → HasOneName q →
+        OpenPlaced x p → OpenPlaced x q →
         spell_open p (x ∷ []) ≡ spell_open q (x ∷ []) → tree_step p x ≡ NotTaken → settle_place x p ≡ settle_place x q }
-    ensures none { (p : OpenPlace) (x : Terminal) (rest : List Terminal) (s : Stream) → IsOpen p → OpenPlaced x p →
+    ensures none { (p : OpenPlace) (x : Terminal) (rest : List Terminal) (s : Stream) → HasOneName p → OpenPlaced x p →
         tree_step p x ≡ NotTaken → StreamPlaced s → spell_stream s [] ≡ spell_open p (x ∷ rest) → ⊥ }
 {}

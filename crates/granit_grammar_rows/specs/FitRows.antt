@@ -33,8 +33,8 @@ outlined kind key = record {
   begins_key = false;
 }
 
-abbrev pub first : Outline → Outline
-first x = record x { begins_line = true }
+abbrev pub at_line_start : Outline → Outline
+at_line_start x = record x { begins_line = true }
 
 abbrev pub behind_sign : Outline → Outline
 behind_sign x = record x { follows_indicator = true }
@@ -45,34 +45,34 @@ inside x = record x { in_flow = true }
 abbrev pub as_key : Outline → Outline
 as_key x = record x { begins_key = true }
 
-abbrev pub dash : Outline
-dash = outlined Dash None
+abbrev pub a_dash : Outline
+a_dash = outlined Dash None
 
-abbrev pub question : Outline
-question = outlined Question None
+abbrev pub a_question : Outline
+a_question = outlined Question None
 
-abbrev pub colon : Outline
-colon = outlined Colon None
+abbrev pub a_colon : Outline
+a_colon = outlined Colon None
 
-abbrev pub text : Outline
-text = outlined (Scalar Plain (owned (0x61 ∷ []))) None
+abbrev pub a_text : Outline
+a_text = outlined (Scalar Plain (owned (0x61 ∷ []))) None
 
-abbrev pub opener : Outline
-opener = outlined (Open Square) None
+abbrev pub an_opener : Outline
+an_opener = outlined (Open Square) None
 
-abbrev pub closer : Outline
-closer = outlined (Close Square) None
+abbrev pub a_closer : Outline
+a_closer = outlined (Close Square) None
 
 -- a `:` with the number of its key
 abbrev pub keyed : ℕ → Outline
 keyed n = outlined Colon (Some n)
 
-abbrev pub key_start : Option ℕ → Option KeyStart
-key_start None = None
-key_start (Some n) = Some (record { number = n; start = text_start })
+abbrev pub outlined_key_start : Option ℕ → Option KeyStart
+outlined_key_start None = None
+outlined_key_start (Some n) = Some (record { number = n; start = text_start })
 
-abbrev pub lexeme_of : ℕ → Outline → Lexeme
-lexeme_of n x = record {
+abbrev pub outlined_lexeme : ℕ → Outline → Lexeme
+outlined_lexeme n x = record {
   number = n;
   kind = x.kind;
   start = text_start;
@@ -83,14 +83,17 @@ lexeme_of n x = record {
   begins_line = x.begins_line;
   follows_indicator = x.follows_indicator;
   ends_column = false;
-  key = key_start x.key;
+  key = outlined_key_start x.key;
   tail = None;
 }
 
 -- numbered from the first one's number on
 abbrev pub items_from : ℕ → List Outline → List FlaggedItem
 items_from n [] = []
-items_from n (x ∷ xs) = record { item = OfLexeme (lexeme_of n x); begins_key = x.begins_key } ∷ items_from (suc n) xs
+items_from n (x ∷ xs) = record {
+  item = OfLexeme (outlined_lexeme n x);
+  begins_key = x.begins_key;
+} ∷ items_from (suc n) xs
 
 -- ---- what they fit
 
@@ -131,8 +134,8 @@ item_fit is = fit (items_fit_lines is) (items_fit_keys (None ∷ []) is)
 abbrev pub terminal_fit : List Terminal → Fit
 terminal_fit xs = fit (terminals_fit_lines xs) (terminals_fit_keys (None ∷ []) xs)
 
-abbrev pub seen : List Outline → List Terminal
-seen xs = map terminal_seen (lexemes_flagged (items_from 0 xs))
+abbrev pub terminals_seen : List Outline → List Terminal
+terminals_seen xs = map terminal_seen (lexemes_flagged (items_from 0 xs))
 
 -- what is found of the lists as items and as terminals, and what is told of them
 abbrev pub fits_of_items : List FitRow → List Fit
@@ -141,7 +144,7 @@ fits_of_items (r ∷ rs) = item_fit (items_from 0 r.lexemes) ∷ fits_of_items r
 
 abbrev pub fits_of_terminals : List FitRow → List Fit
 fits_of_terminals [] = []
-fits_of_terminals (r ∷ rs) = terminal_fit (seen r.lexemes) ∷ fits_of_terminals rs
+fits_of_terminals (r ∷ rs) = terminal_fit (terminals_seen r.lexemes) ∷ fits_of_terminals rs
 
 abbrev pub told_fits : List FitRow → List Fit
 told_fits [] = []
@@ -152,48 +155,52 @@ told_fits (r ∷ rs) = r.tells ∷ told_fits rs
 abbrev pub lines_of_entries : List FitRow
 lines_of_entries =
     -- "- - a"
-    row (first dash ∷ behind_sign dash ∷ behind_sign text ∷ []) (fit true true)
+    row (at_line_start a_dash ∷ behind_sign a_dash ∷ behind_sign a_text ∷ []) (fit true true)
     -- "? ? a"
-    ∷ row (first question ∷ behind_sign question ∷ behind_sign text ∷ []) (fit true true)
+    ∷ row (at_line_start a_question ∷ behind_sign a_question ∷ behind_sign a_text ∷ []) (fit true true)
     -- ": : a"
-    ∷ row (first colon ∷ behind_sign colon ∷ behind_sign text ∷ []) (fit true true)
+    ∷ row (at_line_start a_colon ∷ behind_sign a_colon ∷ behind_sign a_text ∷ []) (fit true true)
     -- "- a: a"
-    ∷ row (first dash ∷ as_key (behind_sign text) ∷ keyed 1 ∷ text ∷ []) (fit true true)
+    ∷ row (at_line_start a_dash ∷ as_key (behind_sign a_text) ∷ keyed 1 ∷ a_text ∷ []) (fit true true)
     -- "a - ", no text
-    ∷ row (first text ∷ dash ∷ []) (fit false true)
+    ∷ row (at_line_start a_text ∷ a_dash ∷ []) (fit false true)
     -- "a ? ", no text
-    ∷ row (first text ∷ question ∷ []) (fit false true)
+    ∷ row (at_line_start a_text ∷ a_question ∷ []) (fit false true)
     -- "a : " where the `:` has no key, no text
-    ∷ row (first text ∷ colon ∷ []) (fit false true)
+    ∷ row (at_line_start a_text ∷ a_colon ∷ []) (fit false true)
     -- "a: a: " where the second one has its key, no text
-    ∷ row (as_key (first text) ∷ keyed 0 ∷ as_key text ∷ keyed 2 ∷ []) (fit false true)
+    ∷ row (as_key (at_line_start a_text) ∷ keyed 0 ∷ as_key a_text ∷ keyed 2 ∷ []) (fit false true)
     -- "a: [] : " where it has, no text
-    ∷ row (as_key (first text) ∷ keyed 0 ∷ as_key opener ∷ inside closer ∷ keyed 2 ∷ []) (fit false true)
+    ∷ row (as_key (at_line_start a_text) ∷ keyed 0 ∷ as_key an_opener ∷ inside a_closer ∷ keyed 2 ∷ []) (fit false true)
     -- "[- ? : a: a]"
-    ∷ row (first opener ∷ inside dash ∷ inside question ∷ inside colon ∷ as_key (inside text) ∷ inside (keyed 4)
-    ∷ inside text ∷ inside closer ∷ []) (fit true true)
+    ∷ row (at_line_start an_opener ∷ inside a_dash ∷ inside a_question ∷ inside a_colon
+    ∷ as_key (inside a_text) ∷ inside (keyed 4)
+    ∷ inside a_text ∷ inside a_closer ∷ []) (fit true true)
     ∷ []
 
 abbrev pub keys_of_colons : List FitRow
 keys_of_colons =
     -- "a: "
-    row (as_key (first text) ∷ keyed 0 ∷ []) (fit true true)
+    row (as_key (at_line_start a_text) ∷ keyed 0 ∷ []) (fit true true)
     -- "a : " where the `:` names a lexeme that begins no key
-    ∷ row (first text ∷ keyed 0 ∷ []) (fit true false)
+    ∷ row (at_line_start a_text ∷ keyed 0 ∷ []) (fit true false)
     -- "a: " where it names itself
-    ∷ row (as_key (first text) ∷ keyed 1 ∷ []) (fit true false)
+    ∷ row (as_key (at_line_start a_text) ∷ keyed 1 ∷ []) (fit true false)
     -- "a: a\n: " where both name the first lexeme
-    ∷ row (as_key (first text) ∷ keyed 0 ∷ text ∷ first (keyed 0) ∷ []) (fit true false)
+    ∷ row (as_key (at_line_start a_text) ∷ keyed 0 ∷ a_text ∷ at_line_start (keyed 0) ∷ []) (fit true false)
     -- "a\n[]: " where both begin keys, and the `:` names the later one, and the earlier one
-    ∷ row (as_key (first text) ∷ as_key (first opener) ∷ inside closer ∷ keyed 1 ∷ []) (fit true true)
-    ∷ row (as_key (first text) ∷ as_key (first opener) ∷ inside closer ∷ keyed 0 ∷ []) (fit true false)
+    ∷ row (as_key (at_line_start a_text) ∷ as_key (at_line_start an_opener) ∷ inside a_closer
+    ∷ keyed 1 ∷ []) (fit true true)
+    ∷ row (as_key (at_line_start a_text) ∷ as_key (at_line_start an_opener) ∷ inside a_closer
+    ∷ keyed 0 ∷ []) (fit true false)
     -- "[a: a]: "
-    ∷ row (as_key (first opener) ∷ as_key (inside text) ∷ inside (keyed 1) ∷ inside text ∷ inside closer ∷ keyed 0
+    ∷ row (as_key (at_line_start an_opener) ∷ as_key (inside a_text) ∷ inside (keyed 1) ∷ inside a_text
+    ∷ inside a_closer ∷ keyed 0
     ∷ []) (fit true true)
     -- "[a: ]" where the `:` names the bracket
-    ∷ row (as_key (first opener) ∷ inside text ∷ inside (keyed 0) ∷ inside closer ∷ []) (fit true false)
+    ∷ row (as_key (at_line_start an_opener) ∷ inside a_text ∷ inside (keyed 0) ∷ inside a_closer ∷ []) (fit true false)
     -- "[a]: " where it names what stands inside
-    ∷ row (as_key (first opener) ∷ as_key (inside text) ∷ inside closer ∷ keyed 1 ∷ []) (fit true false)
+    ∷ row (as_key (at_line_start an_opener) ∷ as_key (inside a_text) ∷ inside a_closer ∷ keyed 1 ∷ []) (fit true false)
     -- "a]: " where no bracket was open
-    ∷ row (as_key (first text) ∷ closer ∷ keyed 0 ∷ []) (fit true false)
+    ∷ row (as_key (at_line_start a_text) ∷ a_closer ∷ keyed 0 ∷ []) (fit true false)
     ∷ []

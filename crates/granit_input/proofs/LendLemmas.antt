@@ -11,7 +11,7 @@ use Rattle.std.specs.Option.{option_map}
 use Rattle.granit_base.specs.Spans.{CutsOut}
 use Rattle.granit_base.specs.Place.{Unread}
 use Rattle.granit_input.specs.Origin.{Origin, Goes, Agrees, LentBetween}
-use Rattle.granit_input.specs.Unread.{Spells, utf8_length, past}
+use Rattle.granit_input.specs.Unread.{Spells, utf8_length, past_count}
 use Rattle.granit_input.proofs.UnreadLemmas.{past_offset}
 
 pub spells_utf8 : (bytes : List ℕ) (at : ℕ) (text : List ℕ) → Spells bytes at text → IsUtf8 (drop at bytes)
@@ -88,11 +88,11 @@ lent_between (Some bytes) (Some start) end text rest n answer first last far h =
 -- the same for an input that read on
 pub lent_past : (old now : Origin) (left_old left_now : ℕ) (u : Unread) (n : ℕ) (start end : Option ℕ)
     (answer : Option (Bor (List ℕ))) → Goes old now
-    → Agrees left_old old u → Agrees left_now now (past n u) → start ≡ u.offset → end ≡ (past n u).offset
+    → Agrees left_old old u → Agrees left_now now (past_count n u) → start ≡ u.offset → end ≡ (past_count n u).offset
     → LentBetween now.lent start end answer
     → (is_some answer ≡ u.lends) × IfSome answer (λ part. chars part.now ≡ take n u.text)
 lent_past old now left_old left_now u n start end answer goes before after from to h =
-    let answered = lent_between now.lent start end u.text (past n u).text n answer
+    let answered = lent_between now.lent start end u.text (past_count n u).text n answer
     (λ bytes at is told. before.lent bytes at (sym goes.lent ∙ is) (sym from ∙ told))
     (λ bytes at is told. after.lent bytes at is (sym to ∙ told))
     (to ∙ past_offset n u ∙ ap (option_map (λ bytes. bytes + utf8_length (take n u.text))) (sym from))

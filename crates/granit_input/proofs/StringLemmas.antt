@@ -15,13 +15,13 @@ use Rattle.granit_input.proofs.WhiteLemmas.{take_more}
 use Rattle.granit_input.specs.Chunks.{TakesFront, SkipsFront, TakesText}
 use Rattle.granit_input.specs.Cuts.{SpellsFront, last_bytes}
 use Rattle.granit_input.specs.Runs.{run_length}
-use Rattle.granit_input.specs.Unread.{past, left_of, utf8_length}
+use Rattle.granit_input.specs.Unread.{past_count, left_of, utf8_length}
 
 -- so many characters on, what is left of a string is what is left behind their bytes
 pub past_bytes : (source rest after : List ℕ) (n : ℕ) → length rest ≤ length source → chars after ≡ drop n (chars rest)
     → rest ≡ encode_utf8_all (take n (chars rest)) ++ after
-    → past n (left_of source rest) ≡ left_of source after
-unfolding past
+    → past_count n (left_of source rest) ≡ left_of source after
+unfolding past_count
 past_bytes source rest after n fits text bytes =
     let len : length rest ≡ utf8_length (take n (chars rest)) + length after = ap length bytes
     ∙ length-append (encode_utf8_all (take n (chars rest))) after in
@@ -88,16 +88,17 @@ behind_more s rest after taken c text more bytes so_far =
 
 pub read_left : (source rest after : List ℕ) (c : ℕ) (u : Unread) → length rest ≤ length source
     → chars rest ≡ c ∷ chars after → rest ≡ encode_utf8 c ++ after
-    → u ≡ left_of source rest → past 1 u ≡ left_of source after
+    → u ≡ left_of source rest → past_count 1 u ≡ left_of source after
 read_left source rest after c u fits text bytes is =
-    ap (past 1) is ∙ past_bytes source rest after 1 fits (sym (ap (drop 1) text)) (one_bytes rest after c text bytes)
+    ap (past_count 1) is ∙ past_bytes source rest after 1 fits (sym (ap (drop 1) text))
+    (one_bytes rest after c text bytes)
 
 pub end_left : (source rest : List ℕ) (n : ℕ) (u : Unread) → length rest ≤ length source → chars rest ≡ []
-    → u ≡ left_of source rest → past n u ≡ left_of source rest
+    → u ≡ left_of source rest → past_count n u ≡ left_of source rest
 end_left source rest n u fits none is =
     let same : drop n (chars rest) ≡ chars rest = ap (drop n) none ∙ drop_all n [] (omega arith) ∙ sym none in
     let front : take n (chars rest) ≡ [] = ap (take n) none ∙ take_all n [] (omega arith) in
-    ap (past n) is ∙ past_bytes source rest rest n fits (sym same)
+    ap (past_count n) is ∙ past_bytes source rest rest n fits (sym same)
     (sym (ap (λ (cs : List ℕ). encode_utf8_all cs ++ rest) front))
 
 pub first_left : (source rest : List ℕ) (c : ℕ) (cs : List ℕ) (u : Unread) → chars rest ≡ c ∷ cs
@@ -147,7 +148,7 @@ pub run_behind : (test : List ℕ → Bool) (source rest after : List ℕ) (aske
 run_behind test source rest after asked count ended u fits front text bytes is =
     let here : chars rest ≡ u.text = sym (ap (λ (v : Unread). v.text) is) in (
       subst (λ (cs : List ℕ). TakesFront test cs asked ended count) here front,
-      ap (past count) is
+      ap (past_count count) is
           ∙ past_bytes source rest after count fits text bytes,
     )
 
@@ -174,8 +175,8 @@ text_behind test source now rest after text count u same fits whole behind bytes
     record {
       fits = omega (arith, long, whole ∙ ap (run_length test) here);
       text = taken ∙ ap (take count) here ∙ ap (λ (n : ℕ). take n u.text) (sym long);
-      lands = subst (λ (n : ℕ). past n u ≡ left_of now after) (sym long)
-          (ap (past count) is ∙ past_bytes source rest after count fits behind bytes
+      lands = subst (λ (n : ℕ). past_count n u ≡ left_of now after) (sym long)
+          (ap (past_count count) is ∙ past_bytes source rest after count fits behind bytes
           ∙ ap (λ (s : List ℕ). left_of s after) (sym same));
     }
 

@@ -8,23 +8,23 @@ use Rattle.std.proofs.lemmas.Bool.Decides.{nat_tests}
 use Rattle.std.proofs.lemmas.Str.{encodes-append}
 use Rattle.std.proofs.Math.Seq.{take-add}
 use Rattle.granit_base.specs.Place.{Unread, past_first}
-use Rattle.granit_input.specs.Unread.{past, utf8_length}
+use Rattle.granit_input.specs.Unread.{past_count, utf8_length}
 
-pub past_text : (n : ℕ) (u : Unread) → (past n u).text ≡ drop n u.text
-unfolding past
+pub past_text : (n : ℕ) (u : Unread) → (past_count n u).text ≡ drop n u.text
+unfolding past_count
 past_text n u = refl
 
-pub past_offset : (n : ℕ) (u : Unread) → (past n u).offset
+pub past_offset : (n : ℕ) (u : Unread) → (past_count n u).offset
     ≡ option_map (λ bytes. bytes + utf8_length (take n u.text)) u.offset
-unfolding past
+unfolding past_count
 past_offset n u = refl
 
 plus_none : (o : Option ℕ) → option_map (λ bytes. bytes + 0) o ≡ o
 plus_none None = refl
 plus_none (Some n) = ap (λ (k : ℕ). Some k) (add-zero n)
 
-pub past_none : (u : Unread) → past 0 u ≡ u
-unfolding past
+pub past_none : (u : Unread) → past_count 0 u ≡ u
+unfolding past_count
 past_none u = ap (λ (o : Option ℕ). record u { offset = o }) (plus_none u.offset)
 
 plus_twice : (a b : ℕ) (o : Option ℕ) → option_map (λ bytes. bytes + b) (option_map (λ bytes. bytes + a) o)
@@ -37,16 +37,16 @@ utf8_length_take : (m n : ℕ) (xs : List ℕ) → utf8_length (take (m + n) xs)
 utf8_length_take m n xs = ap utf8_length (take-add m n xs) ∙ ap length (encodes-append (take m xs) (take n (drop m xs)))
     ∙ length-append _ _
 
-pub past_twice : (m n : ℕ) (u : Unread) → past n (past m u) ≡ past (m + n) u
-unfolding past
+pub past_twice : (m n : ℕ) (u : Unread) → past_count n (past_count m u) ≡ past_count (m + n) u
+unfolding past_count
 past_twice m n u =
     let more = plus_twice (utf8_length (take m u.text)) (utf8_length (take n (drop m u.text))) u.offset in
     rw (drop-drop n m u.text, utf8_length_take m n u.text)
     (ap (λ (o : Option ℕ). record { text = drop (m + n) u.text; offset = o; lends = u.lends }) more)
 
 -- past a character that is there
-pub past_one : (u : Unread) → 0 < length u.text → past 1 u ≡ past_first u
-unfolding past
+pub past_one : (u : Unread) → 0 < length u.text → past_count 1 u ≡ past_first u
+unfolding past_count
 past_one u some = one_of u.text u.offset u.lends some
   where
     one_of : (text : List ℕ) (offset : Option ℕ) (lends : Bool) → 0 < length text

@@ -5,7 +5,7 @@ use Rattle.std.proofs.lemmas.Bool.Decides.{nat_tests}
 use Rattle.std.proofs.Math.Seq.{take-add}
 use Rattle.granit_error.specs.declared.kind.ErrorKind.TheVariants.{CommentNotSeparated}
 use Rattle.granit_base.specs.Place.{first}
-use Rattle.granit_input.specs.White.{holds, is_skipped, found_in, found_more, white_skipped, comment_length}
+use Rattle.granit_input.specs.White.{holds, is_skipped, whitespace_found, found_more, white_skipped, comment_length}
 use Rattle.granit_input.specs.declared.whitespace.SkipTabs.{SkipTabs}
 use Rattle.granit_input.specs.declared.whitespace.SkipTabs.TheVariants.{Yes, No}
 
@@ -44,7 +44,7 @@ holds_next c n text some = ap (holds c) (take_more n text some) ∙ holds_more c
 
 -- what is found among the blanks with one more
 pub found_next : (n : ℕ) (text : List ℕ) (c : ℕ) → 0 < length (drop n text) → c ≡ first (drop n text)
-    → found_more (found_in (take n text)) c ≡ found_in (take (n + 1) text)
+    → found_more (whitespace_found (take n text)) c ≡ whitespace_found (take (n + 1) text)
 found_next n text c some is = rw (is, holds_next 0x09 n text some, holds_next 0x20 n text some) refl
 
 -- a text that a test which refuses the end passes isn't at its end
@@ -59,7 +59,7 @@ test_false : (m n : ℕ) → (m ≡ n → ⊥) → (m == n) ≡ false
 test_false m n e = grind (arith, nat_tests, e)
 
 pub white_without : (blanks : ℕ) (text : List ℕ) → (first (drop blanks text) ≡ 0x23 → ⊥)
-    → white_skipped blanks text ≡ (blanks, Ok (found_in (take blanks text)))
+    → white_skipped blanks text ≡ (blanks, Ok (whitespace_found (take blanks text)))
 white_without blanks text none = rw (test_false (first (drop blanks text)) 0x23 none) refl
 
 pub white_refused : (blanks : ℕ) (text : List ℕ) → first (drop blanks text) ≡ 0x23 → blanks ≡ 0
@@ -67,5 +67,5 @@ pub white_refused : (blanks : ℕ) (text : List ℕ) → first (drop blanks text
 white_refused blanks text here none = rw (test_true (first (drop blanks text)) 0x23 here, test_true blanks 0 none) refl
 
 pub white_comment : (blanks : ℕ) (text : List ℕ) → first (drop blanks text) ≡ 0x23 → (blanks ≡ 0 → ⊥)
-    → white_skipped blanks text ≡ (blanks + comment_length blanks text, Ok (found_in (take blanks text)))
+    → white_skipped blanks text ≡ (blanks + comment_length blanks text, Ok (whitespace_found (take blanks text)))
 white_comment blanks text here some = rw (test_true (first (drop blanks text)) 0x23 here, test_false blanks 0 some) refl

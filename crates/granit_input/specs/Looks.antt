@@ -2,7 +2,7 @@
 use Rattle.std.specs.Prelude.{◌≡◌, ℕ, ◌==◌, ◌&&◌, ◌||◌, Bool, true, false, List, slice_index, Option, MatchOption}
 use Rattle.granit_base.specs.Classes.{is_blank_or_breakz, is_breakz}
 use Rattle.granit_base.specs.Place.{Unread, first}
-use Rattle.granit_input.specs.Unread.{past}
+use Rattle.granit_input.specs.Unread.{past_count}
 
 -- the text begins with these characters, none of which is NUL
 abbrev pub begins_with_2 : ℕ → ℕ → List ℕ → Bool
@@ -26,4 +26,4 @@ is_document_indicator text = is_document_start text || is_document_end text
 abbrev pub ReadsNonBreakz : Unread → Option ℕ → (Unread → Type 0) → Type 0
 ReadsNonBreakz u result Lands =
     MatchOption result ((is_breakz (first u.text) ≡ true) × Lands u)
-    (λ c. (is_breakz (first u.text) ≡ false) × (c ≡ first u.text) × Lands (past 1 u))
+    (λ c. (is_breakz (first u.text) ≡ false) × (c ≡ first u.text) × Lands (past_count 1 u))

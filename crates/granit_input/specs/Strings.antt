@@ -10,40 +10,40 @@ use Rattle.granit_input.specs.Runs.{run_length}
 use Rattle.granit_input.specs.Unread.{left_of}
 
 -- what is left of it
-abbrev pub Leaves : StrInput → Unread → Type 0
-Leaves s u = u ≡ left_of s.source.now s.rest.now
+abbrev pub LeftInString : StrInput → Unread → Type 0
+LeftInString s u = u ≡ left_of s.source.now s.rest.now
 
 abbrev pub count_left : StrInput → ℕ
 count_left s = length (chars s.rest.now)
 
-abbrev pub origin_of : StrInput → Origin
-origin_of s = of_string s.source.now s.window
+abbrev pub string_origin : StrInput → Origin
+string_origin s = of_string s.source.now s.window
 
 -- n characters were consumed, or all where fewer were left
 abbrev pub MovesBy : ℕ → StrInput → StrInput → Type 0
 MovesBy n old new =
     (count_left new ≤ count_left old - n) × (old.window ≤ new.window + min n (count_left old))
-    × Goes (origin_of old) (origin_of new)
+    × Goes (string_origin old) (string_origin new)
 
 -- nothing was consumed, and n characters at least may be looked at
-abbrev pub Looks : ℕ → StrInput → StrInput → Type 0
-Looks n old new = (count_left new ≤ count_left old) × (max n old.window ≤ new.window)
-    × Goes (origin_of old) (origin_of new)
+abbrev pub MayLook : ℕ → StrInput → StrInput → Type 0
+MayLook n old new = (count_left new ≤ count_left old) × (max n old.window ≤ new.window)
+    × Goes (string_origin old) (string_origin new)
 
 -- a character was consumed where one is answered
 abbrev pub MovesIfSome : Option ℕ → StrInput → StrInput → Type 0
 MovesIfSome answer old new =
     (MatchOption answer (count_left new ≤ count_left old) (λ c. count_left new < count_left old))
     × (MatchOption answer (old.window ≤ new.window) (λ c. old.window ≤ new.window + 1))
-    × Goes (origin_of old) (origin_of new)
+    × Goes (string_origin old) (string_origin new)
 
 -- the text of a run was taken
 abbrev pub TakesRun : (List ℕ → Bool) → Bor (List ℕ) → StrInput → StrInput → Type 0
 TakesRun test text old new =
-    ((u : Unread) → Leaves old u → TakesText test u (chars text.now) (Leaves new))
+    ((u : Unread) → LeftInString old u → TakesText test u (chars text.now) (LeftInString new))
     × (count_left new + length (chars text.now) ≤ count_left old)
     × (old.window ≤ new.window + length (chars text.now))
-    × Goes (origin_of old) (origin_of new)
+    × Goes (string_origin old) (string_origin new)
 
 -- all of the run
 abbrev pub IsWhole : (List ℕ → Bool) → Bor (List ℕ) → StrInput → Type 0

@@ -9,8 +9,8 @@ abbrev pub utf8_length : List ℕ → ℕ
 utf8_length text = length (encode_utf8_all text)
 
 -- behind n characters, or at the end where fewer are left
-unfoldable pub past : ℕ → Unread → Unread
-past n u = record {
+unfoldable pub past_count : ℕ → Unread → Unread
+past_count n u = record {
   text = drop n u.text;
   offset = option_map (λ bytes. bytes + utf8_length (take n u.text)) u.offset;
   lends = u.lends;

@@ -6,7 +6,7 @@ use Rattle.granit_base.specs.Place.{Unread, first}
 use Rattle.granit_error.specs.declared.kind.ErrorKind.{ErrorKind}
 use Rattle.granit_error.specs.declared.kind.ErrorKind.TheVariants.{CommentNotSeparated}
 use Rattle.granit_input.specs.Runs.{run_length, starts}
-use Rattle.granit_input.specs.Unread.{past}
+use Rattle.granit_input.specs.Unread.{past_count}
 use Rattle.granit_input.specs.declared.whitespace.SkipTabs.{SkipTabs}
 use Rattle.granit_input.specs.declared.whitespace.SkipTabs.TheVariants.{Yes, No}
 use Rattle.granit_input.specs.declared.whitespace.WhitespaceResult.{WhitespaceResult}
@@ -26,8 +26,8 @@ holds c [] = false
 holds c (x ∷ xs) = x == c || holds c xs
 
 -- what was found in the blanks: a tab, and a space
-abbrev pub found_in : List ℕ → WhitespaceResult
-found_in blanks = record { found_tabs = holds 0x09 blanks; has_valid_yaml_ws = holds 0x20 blanks }
+abbrev pub whitespace_found : List ℕ → WhitespaceResult
+whitespace_found blanks = record { found_tabs = holds 0x09 blanks; has_valid_yaml_ws = holds 0x20 blanks }
 
 -- the same with one character more
 abbrev pub found_more : WhitespaceResult → ℕ → WhitespaceResult
@@ -38,7 +38,8 @@ found_more found c = record {
 
 abbrev pub SkipsBlanks : SkipTabs → Unread → ℕ × WhitespaceResult → (Unread → Type 0) → Type 0
 SkipsBlanks tabs u result Lands =
-    (result.0 ≡ blanks_length tabs u.text) × (result.1 ≡ found_in (take result.0 u.text)) × Lands (past result.0 u)
+    (result.0 ≡ blanks_length tabs u.text) × (result.1 ≡ whitespace_found (take result.0 u.text))
+    × Lands (past_count result.0 u)
 
 -- whether a comment begins behind so many characters (6.6)
 abbrev pub comment_behind : ℕ → List ℕ → Bool
@@ -54,12 +55,12 @@ abbrev pub white_skipped : ℕ → List ℕ → ℕ × Result WhitespaceResult E
 white_skipped blanks text =
     if comment_behind blanks text
     then (if blanks == 0 then (0, Err CommentNotSeparated)
-    else (blanks + comment_length blanks text, Ok (found_in (take blanks text))))
-    else (blanks, Ok (found_in (take blanks text)))
+    else (blanks + comment_length blanks text, Ok (whitespace_found (take blanks text))))
+    else (blanks, Ok (whitespace_found (take blanks text)))
 
 abbrev pub white_answer : SkipTabs → List ℕ → ℕ × Result WhitespaceResult ErrorKind
 white_answer tabs text = white_skipped (blanks_length tabs text) text
 
 -- what is answered, and that as much was consumed as is answered
 abbrev pub SkipsWhite : SkipTabs → Unread → ℕ × Result WhitespaceResult ErrorKind → (Unread → Type 0) → Type 0
-SkipsWhite tabs u result Lands = (result ≡ white_answer tabs u.text) × Lands (past result.0 u)
+SkipsWhite tabs u result Lands = (result ≡ white_answer tabs u.text) × Lands (past_count result.0 u)

@@ -11,7 +11,7 @@ ghost use Rattle.granit_base.specs.Place.{Unread, first};
 ghost use Rattle.granit_base.specs.Written.{string_chars};
 ghost use Rattle.granit_error.specs.FaultKind.{FaultKind};
 ghost use Rattle.granit_error.specs.Kinds.{kind_of};
-ghost use Rattle.granit_input.specs.Unread.{past};
+ghost use Rattle.granit_input.specs.Unread.{past_count};
 ghost use Rattle.granit_input.specs.Origin.{Origin, Goes, PartOf, error_given, Gave, Agrees};
 ghost use Rattle.granit_input.specs.Runs.{starts, run_test, is_line_char, is_quoted_ascii};
 ghost use Rattle.granit_input.specs.Runs.{is_quoted_char, can_be_plain};
@@ -62,7 +62,7 @@ pub trait Input: Drop {
 
     /// Consumes and gives the next character; NUL at the end.
     fn raw_read_ch(&mut self) -> char
-        ensures read { (u : Unread) → unread self.old u → unread self.new (past 1 u) × (result ≡ first u.text) }
+        ensures read { (u : Unread) → unread self.old u → unread self.new (past_count 1 u) × (result ≡ first u.text) }
         ensures moves { (left self.new ≤ left self.old - 1)
             × (window self.old ≤ window self.new + min 1 (left self.old))
             × Goes (origin self.old) (origin self.new) };
@@ -76,14 +76,14 @@ pub trait Input: Drop {
 
     /// Consumes a character, if there is one.
     fn skip(&mut self)
-        ensures unread { (u : Unread) → unread self.old u → unread self.new (past 1 u) }
+        ensures unread { (u : Unread) → unread self.old u → unread self.new (past_count 1 u) }
         ensures moves { (left self.new ≤ left self.old - 1)
             × (window self.old ≤ window self.new + min 1 (left self.old))
             × Goes (origin self.old) (origin self.new) };
 
     /// Consumes `count` characters, or all where fewer are left.
     fn skip_n(&mut self, count: usize)
-        ensures unread { (u : Unread) → unread self.old u → unread self.new (past count u) }
+        ensures unread { (u : Unread) → unread self.old u → unread self.new (past_count count u) }
         ensures moves { (left self.new ≤ left self.old - count)
             × (window self.old ≤ window self.new + min count (left self.old))
             × Goes (origin self.old) (origin self.new) };

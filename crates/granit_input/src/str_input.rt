@@ -5,7 +5,7 @@ ghost use Rattle.granit_base.specs.Place.{Unread, first};
 ghost use Rattle.granit_input.specs.Cuts.{SpellsFront, last_bytes};
 ghost use Rattle.granit_input.specs.Looks.{ReadsNonBreakz};
 ghost use Rattle.granit_input.specs.Runs.{run_length, run_test};
-ghost use Rattle.granit_input.specs.Unread.{past};
+ghost use Rattle.granit_input.specs.Unread.{past_count};
 
 use crate::borrowed::BorrowedInput;
 use crate::class::Run;
@@ -27,11 +27,11 @@ pub struct StrInput<'a> {
 }
 
 impl<'a> StrInput<'a> {
-    ghost use Rattle.granit_input.specs.Strings.{Leaves};
+    ghost use Rattle.granit_input.specs.Strings.{LeftInString};
 
     /// All characters of a string.
     pub fn new(input: &'a str) -> StrInput<'a>
-        ensures unread { Leaves result (record { text = chars input.now; offset = Some 0; lends = true }) }
+        ensures unread { LeftInString result (record { text = chars input.now; offset = Some 0; lends = true }) }
         ensures source { result.source.now ≡ input.now }
         ensures window { result.window ≡ 0 }
     {
@@ -75,18 +75,18 @@ impl<'a> Input for StrInput<'a> {
     ghost use mir.Syntax.{named};
     ghost use Rattle.granit_input.specs.Laws.{string_short, string_agrees, string_floor};
     ghost use Rattle.granit_input.specs.Runs.{starts, is_quoted_ascii, is_quoted_char};
-    ghost use Rattle.granit_input.specs.Strings.{Leaves, Looks, MovesBy, MovesIfSome, TakesRun, IsWhole, count_left};
-    ghost use Rattle.granit_input.specs.Strings.{origin_of};
+    ghost use Rattle.granit_input.specs.Strings.{LeftInString, MayLook, MovesBy, MovesIfSome, TakesRun, IsWhole};
+    ghost use Rattle.granit_input.specs.Strings.{count_left, string_origin};
     ghost use Rattle.granit_input.specs.White.{holds};
     ghost use Rattle.granit_input.specs.contracts.str_input.StrInput.{the_row};
 
-    ghost unread = { λ s u. Leaves s u };
+    ghost unread = { λ s u. LeftInString s u };
 
     ghost left = { λ s. count_left s };
 
     ghost window = { λ s. s.window };
 
-    ghost origin = { λ s. origin_of s };
+    ghost origin = { λ s. string_origin s };
 
     ghost short = { λ s. string_short s.source.now s.rest.now s.within s.short };
 
@@ -97,8 +97,8 @@ impl<'a> Input for StrInput<'a> {
     ghost agrees = { λ s u is. string_agrees s.source.now s.rest.now s.window u s.suffix s.utf8 is };
 
     fn lookahead(&mut self, count: usize)
-        ensures unread { (u : Unread) → Leaves self.old u → Leaves self.new u }
-        ensures moves { Looks (min count 8) self.old self.new }
+        ensures unread { (u : Unread) → LeftInString self.old u → LeftInString self.new u }
+        ensures moves { MayLook (min count 8) self.old self.new }
         ensures window { self.new.window ≡ max self.old.window count }
     {
         self.window = self.window.max(count);
@@ -116,7 +116,8 @@ impl<'a> Input for StrInput<'a> {
     }
 
     fn raw_read_ch(&mut self) -> char
-        ensures read { (u : Unread) → Leaves self.old u → Leaves self.new (past 1 u) × (result ≡ first u.text) }
+        ensures read { (u : Unread) → LeftInString self.old u
+            → LeftInString self.new (past_count 1 u) × (result ≡ first u.text) }
         ensures moves { MovesBy 1 self.old self.new }
         ensures window { self.new.window ≡ self.old.window }
     {
@@ -130,7 +131,7 @@ impl<'a> Input for StrInput<'a> {
     }
 
     fn raw_read_non_breakz_ch(&mut self) -> Option<char>
-        ensures read { (u : Unread) → Leaves self.old u → ReadsNonBreakz u result (Leaves self.new) }
+        ensures read { (u : Unread) → LeftInString self.old u → ReadsNonBreakz u result (LeftInString self.new) }
         ensures moves { MovesIfSome result self.old self.new }
         ensures window { self.new.window ≡ self.old.window }
     {
@@ -147,7 +148,7 @@ impl<'a> Input for StrInput<'a> {
     }
 
     fn skip(&mut self)
-        ensures unread { (u : Unread) → Leaves self.old u → Leaves self.new (past 1 u) }
+        ensures unread { (u : Unread) → LeftInString self.old u → LeftInString self.new (past_count 1 u) }
         ensures moves { MovesBy 1 self.old self.new }
         ensures window { self.new.window ≡ self.old.window }
     {
@@ -157,7 +158,7 @@ impl<'a> Input for StrInput<'a> {
     }
 
     fn skip_n(&mut self, count: usize)
-        ensures unread { (u : Unread) → Leaves self.old u → Leaves self.new (past count u) }
+        ensures unread { (u : Unread) → LeftInString self.old u → LeftInString self.new (past_count count u) }
         ensures moves { MovesBy count self.old self.new }
         ensures window { self.new.window ≡ self.old.window }
     {
@@ -229,7 +230,7 @@ impl<'a> Input for StrInput<'a> {
     }
 
     fn may_contain_comments(&self) -> bool
-        ensures rest { result ≡ false → (u : Unread) → Leaves self.now u → holds 0x23 u.text ≡ false }
+        ensures rest { result ≡ false → (u : Unread) → LeftInString self.now u → holds 0x23 u.text ≡ false }
         ensures source { result ≡ false → holds 0x23 self.now.source.now ≡ false }
         ensures exact { result ≡ holds 0x23 self.now.source.now }
     {

@@ -4,8 +4,8 @@ use Rattle.std.proofs.Common.{refl, append_assoc, arith}
 use Rattle.std.specs.Iterator.{Count}
 use Rattle.granit_base.specs.Place.{Unread}
 use Rattle.granit_input.specs.Origin.{Goes}
-use Rattle.granit_input_tests.specs.Stream.{Holds, of_stream}
-use Rattle.granit_input.specs.Unread.{past}
+use Rattle.granit_input_tests.specs.Stream.{StreamHolds, of_stream}
+use Rattle.granit_input.specs.Unread.{past_count}
 use Rattle.granit_buffered.specs.Feeds.{StillGives}
 
 pub rest_some : {S : Type 0} (steps : S → Option ℕ → S → Type 0) (remaining : S → Count) (done : Bool) (s t : S) (c : ℕ)
@@ -44,15 +44,15 @@ rest_over steps remaining false s xs e none = absurd cc
 pub holds_more : {S : Type 0} (steps : S → Option ℕ → S → Type 0) (remaining : S → Count) (done : Bool) (t : S)
     (front more rest ys text : List ℕ) (c : ℕ)
     → text ≡ front ++ rest → rest ≡ c ∷ ys → more ≡ front ++ c ∷ [] → StillGives steps remaining done t ys
-    → Holds steps remaining done t more text
+    → StreamHolds steps remaining done t more text
 holds_more steps remaining done t front more rest ys text c is one grown known =
     (ys, rw (grown, append_assoc, ← one) is, known)
 
 -- the first is no longer held
 pub holds_less : {S : Type 0} (steps : S → Option ℕ → S → Type 0) (remaining : S → Count) (done : Bool) (t : S)
     (front text : List ℕ)
-    → (length front < 1 → done ≡ true) → Holds steps remaining done t front text
-    → Holds steps remaining done t (drop 1 front) (drop 1 text)
+    → (length front < 1 → done ≡ true) → StreamHolds steps remaining done t front text
+    → StreamHolds steps remaining done t (drop 1 front) (drop 1 text)
 holds_less steps remaining done t [] text ended h =
     let none = rest_ended steps remaining done t h.0 (ended (omega arith)) h.2 in
     (h.0, rw (h.1, none) refl, h.2)
@@ -60,10 +60,11 @@ holds_less steps remaining done t (x ∷ front) text ended h = (h.0, rw h.1 refl
 
 pub skip_holds : {S : Type 0} (steps : S → Option ℕ → S → Type 0) (remaining : S → Count) (done : Bool) (s : S)
     (front : List ℕ) (u : Unread)
-    → (length front < 1 → done ≡ true) → u.offset ≡ None → u.lends ≡ false → Holds steps remaining done s front u.text
-    → ((past 1 u).offset ≡ None) × ((past 1 u).lends ≡ false)
-    × Holds steps remaining done s (drop 1 front) (past 1 u).text
-unfolding past
+    → (length front < 1 → done ≡ true) → u.offset ≡ None → u.lends ≡ false
+    → StreamHolds steps remaining done s front u.text
+    → ((past_count 1 u).offset ≡ None) × ((past_count 1 u).lends ≡ false)
+    × StreamHolds steps remaining done s (drop 1 front) (past_count 1 u).text
+unfolding past_count
 skip_holds steps remaining done s front u ended none lends h =
     (rw none refl, lends, holds_less steps remaining done s front u.text ended h)
 

@@ -7,9 +7,9 @@ use Rattle.granit_buffered.specs.Feeds.{StillGives}
 use Rattle.granit_input.specs.Origin.{Origin}
 
 -- the text is what is held, and what the iterator still gives
-abbrev pub Holds :
+abbrev pub StreamHolds :
     {S : Type 0} → (S → Option ℕ → S → Type 0) → (S → Count) → Bool → S → List ℕ → List ℕ → Type 0
-Holds steps remaining done s front text = (rest : List ℕ) × (text ≡ front ++ rest)
+StreamHolds steps remaining done s front text = (rest : List ℕ) × (text ≡ front ++ rest)
     × StillGives steps remaining done s rest
 
 -- where its characters come from: there is nothing to slice, and a source that breaks off has an error, which is met

@@ -8,7 +8,7 @@ use Rattle.std.proofs.lemmas.List.{length-append}
 use Rattle.std.specs.Iterator.{Count}
 use Rattle.granit_base.specs.Place.{Unread}
 use Rattle.granit_input.specs.Origin.{Agrees}
-use Rattle.granit_input_tests.specs.Stream.{Holds, of_stream}
+use Rattle.granit_input_tests.specs.Stream.{StreamHolds, of_stream}
 use Rattle.granit_buffered.specs.Feeds.{StillGives, still_left}
 
 rest_bounded : {S : Type 0} (steps : S → Option ℕ → S → Type 0) (remaining : S → Count) (done : Bool) (s : S)
@@ -25,7 +25,7 @@ rest_exact false c front rest text e is none = absurd cc
 
 pub stream_agrees : {S : Type 0} (steps : S → Option ℕ → S → Type 0) (remaining : S → Count) (done : Bool) (s : S)
     (front : List ℕ) (breaks_off handed_out : Bool) (u : Unread)
-    → (u.offset ≡ None) × (u.lends ≡ false) × Holds steps remaining done s front u.text
+    → (u.offset ≡ None) × (u.lends ≡ false) × StreamHolds steps remaining done s front u.text
     → Agrees (length front + still_left done (remaining s)) (of_stream done breaks_off handed_out) u
 stream_agrees steps remaining done s front breaks_off handed_out u k = record {
   bounded = omega (arith, ap length k.2.1 ∙ length-append front k.2.0, rest_bounded steps remaining done s k.2.0 k.2.2);

@@ -5,7 +5,7 @@ ghost use Rattle.granit_base.specs.Classes.{is_alpha};
 ghost use Rattle.granit_base.specs.Place.{Unread};
 ghost use Rattle.granit_input.specs.Origin.{LentBetween};
 ghost use Rattle.granit_input.specs.Runs.{run_length, starts};
-ghost use Rattle.granit_input.specs.Unread.{past};
+ghost use Rattle.granit_input.specs.Unread.{past_count};
 
 use crate::stream::Stream;
 use granit_base::{NoMemory, Text};
@@ -19,7 +19,7 @@ use std::str::Chars;
 /// How many characters are left; all are consumed.
 fn count_rest<T: Input>(input: &mut T) -> usize
     ensures counted { (u : Unread) → T.unread input.old u → (result ≡ length u.text)
-        × T.unread input.new (past result u) }
+        × T.unread input.new (past_count result u) }
     ensures end { T.left input.new ≡ 0 }
 {
     let mut count = 0;
@@ -39,7 +39,7 @@ fn word<'a, T: BorrowedInput<'a>>(alloc: Global, input: &mut T) -> Result<Text<'
         → IfOk result (λ w. w.characters ≡ take (run_length (starts is_alpha) u.text) u.text) }
     ensures lent { (u : Unread) → T.unread input.old u → IfOk result (λ w. w.is_borrowed ≡ u.lends) }
     ensures rest { (u : Unread) → T.unread input.old u
-        → IfOk result (λ w. T.unread input.new (past (run_length (starts is_alpha) u.text) u)) }
+        → IfOk result (λ w. T.unread input.new (past_count (run_length (starts is_alpha) u.text) u)) }
 {
     let start = input.byte_offset();
     let mut copied = String::new(alloc);

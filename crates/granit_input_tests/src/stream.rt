@@ -6,8 +6,8 @@ ghost use Rattle.std.specs.Char.{IsScalar};
 ghost use Rattle.std.specs.Iterator.{IsFinite, size};
 ghost use Rattle.circular_buffer.specs.Buffer.{buffer};
 ghost use Rattle.granit_base.specs.Place.{Unread, first};
-ghost use Rattle.granit_input_tests.specs.Stream.{Holds};
-ghost use Rattle.granit_input.specs.Unread.{past};
+ghost use Rattle.granit_input_tests.specs.Stream.{StreamHolds};
+ghost use Rattle.granit_input.specs.Unread.{past_count};
 ghost use Rattle.granit_buffered.specs.Feeds.{GivesOnly, StillGives, still_left};
 
 use circular_buffer::HeapCircularBuffer;
@@ -110,8 +110,8 @@ impl<T: Source> Stream<T> {
     fn fill(&mut self, count: usize)
         requires { count ≤ 8 }
         ensures told { (xs : List ℕ)
-            → Holds T.next_gives T.remaining self.old.tail.done self.old.tail.iterator self.old.held.items xs
-            → Holds T.next_gives T.remaining self.new.tail.done self.new.tail.iterator self.new.held.items xs }
+            → StreamHolds T.next_gives T.remaining self.old.tail.done self.old.tail.iterator self.old.held.items xs
+            → StreamHolds T.next_gives T.remaining self.new.tail.done self.new.tail.iterator self.new.held.items xs }
         ensures left { length self.new.held.items + still_left self.new.tail.done (T.remaining self.new.tail.iterator)
             ≤ length self.old.held.items + still_left self.old.tail.done (T.remaining self.old.tail.iterator) }
         ensures window { self.new.window ≡ self.old.window }
@@ -136,7 +136,7 @@ impl<T: Source> Input for Stream<T> {
     ghost use Rattle.std.proofs.Common.{zero-le};
 
     ghost unread = { λ s u. (u.offset ≡ None) × (u.lends ≡ false)
-        × Holds T.next_gives T.remaining s.tail.done s.tail.iterator s.held.items u.text };
+        × StreamHolds T.next_gives T.remaining s.tail.done s.tail.iterator s.held.items u.text };
 
     ghost left = { λ s. length s.held.items + still_left s.tail.done (T.remaining s.tail.iterator) };
 

@@ -18,7 +18,7 @@ use Rattle.granit_machine.specs.Laid.{Laid}
 use Rattle.granit_machine.specs.Lexing.{FlaggedItem, Flagging, is_nearest, others, and_key, flag_lexeme, flag_item}
 use Rattle.granit_machine.specs.Lexing.{flagging, flagged, lex_start, lex}
 use Rattle.granit_machine.specs.Machine.{is_lexeme, untailed, asked_items, feed_all, is_settled, front_if, settled}
-use Rattle.granit_machine.specs.Machine.{answered, run_from}
+use Rattle.granit_machine.specs.Machine.{run_answer, run_from}
 use Rattle.granit_machine.specs.PossibleKeys.{is_of, is_possible}
 use Rattle.granit_machine.specs.Reader.{LexState, is_end, behind_read, lex_turn, lex_len, read, is_end_kind}
 use Rattle.granit_machine.specs.ReaderState.{ReaderState, Read}
@@ -204,8 +204,8 @@ module _ (keep : Kept) where
   refused_bare f (Err g) = refl
 
   answered_bare : (o : OptionsData) (m : Mark) (items : List FlaggedItem) (l : Laid) (f : Option Fault)
-      → answered o (bare_mark keep m) (map (bare_flagged keep) items) (bare_laid keep l) (bare_fault_of f)
-      ≡ bare_answer keep (answered o m items l f)
+      → run_answer o (bare_mark keep m) (map (bare_flagged keep) items) (bare_laid keep l) (bare_fault_of f)
+      ≡ bare_answer keep (run_answer o m items l f)
   unfolding bare_fault_of
   answered_bare o m items l None = ap (told_from (bare_mark keep m)) (feed_all_bare keep o items (parser_start m))
       ∙ told_bare m (feed_all o items (parser_start m))
@@ -217,20 +217,21 @@ module _ (keep : Kept) where
       ∙ refused_bare f (feed_all o (settled l items) (parser_start m))
 
   run_by : (o : OptionsData) (h : Here) (r : Result (List Item × LexState) Fault)
-      → (mapped keep on_lex r >>= λ x. answered o (bare_mark keep (mark_of h))
+      → (mapped keep on_lex r >>= λ x. run_answer o (bare_mark keep (mark_of h))
       (asked_items o.emit_comments (flagged x.0))
       x.1.reader.laid x.1.fault)
-      ≡ bare_answer keep (r >>= λ x. answered o (mark_of h) (asked_items o.emit_comments (flagged x.0)) x.1.reader.laid
+      ≡ bare_answer keep (r >>= λ x. run_answer o (mark_of h)
+      (asked_items o.emit_comments (flagged x.0)) x.1.reader.laid
       x.1.fault)
   run_by o h (Ok (items, t)) =
-      ap (λ (is : List FlaggedItem). answered o (bare_mark keep (mark_of h)) is (bare_laid keep t.reader.laid)
+      ap (λ (is : List FlaggedItem). run_answer o (bare_mark keep (mark_of h)) is (bare_laid keep t.reader.laid)
       (bare_fault_of t.fault)) (ap (asked_items o.emit_comments) (flagged_bare items)
       ∙ asked_bare o.emit_comments (flagged items))
       ∙ answered_bare o (mark_of h) (asked_items o.emit_comments (flagged items)) t.reader.laid t.fault
   run_by o h (Err f) = refl
 
   pub run_bare : (o : OptionsData) (h : Here) → run_from o (bare_here keep h) ≡ bare_answer keep (run_from o h)
-  run_bare o h = ap (λ (r : Result (List Item × LexState) Fault). r >>= λ x. answered o (bare_mark keep (mark_of h))
+  run_bare o h = ap (λ (r : Result (List Item × LexState) Fault). r >>= λ x. run_answer o (bare_mark keep (mark_of h))
       (asked_items o.emit_comments (flagged x.0)) x.1.reader.laid x.1.fault) (lex_same o h).is ∙ run_by o h (lex o h)
 
   pub runs_alike : (o : OptionsData) (g h : Here) → bare_here keep g ≡ bare_here keep h

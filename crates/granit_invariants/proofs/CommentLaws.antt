@@ -15,7 +15,7 @@ use Rattle.granit_lexemes.specs.PlainEvent.{PlainEvent, event_on, StreamStart}
 use Rattle.granit_machine.specs.Frames.{ParserState, parser_start}
 use Rattle.granit_machine.specs.Laid.{Laid}
 use Rattle.granit_machine.specs.Lexing.{FlaggedItem, flagged, lex}
-use Rattle.granit_machine.specs.Machine.{untailed, asked_items, feed_all, front_if, settled, answered, run_from}
+use Rattle.granit_machine.specs.Machine.{untailed, asked_items, feed_all, front_if, settled, run_answer, run_from}
 use Rattle.granit_machine.specs.NodeSteps.{Stepped}
 use Rattle.granit_machine.specs.Parser.{next_line, take_comment, take_item, feed}
 use Rattle.granit_machine.specs.PossibleKeys.{is_possible}
@@ -202,7 +202,7 @@ failed_by o g (Err f) s (inl e) = inl e
 failed_by o g (Err f) s (inr e) = inr (ap (failed g) e)
 
 answered_by : (o : OptionsData) (m : Mark) (is : List FlaggedItem) (l : Laid) (f : Option Fault) →
-    AnsweredBy (answered o m is l f) (answered o m (asked_items false is) l f)
+    AnsweredBy (run_answer o m is l f) (run_answer o m (asked_items false is) l f)
 answered_by o m is l None =
     begun_by o m (feed_all o is (parser_start m)) (feed_all o (asked_items false is) (parser_start m))
     (all_fed o is (parser_start m) refl)
@@ -213,7 +213,7 @@ answered_by o m is l (Some f) =
     (sym (settled_asked l is)) (all_fed o (settled l is) (parser_start m) refl))
 
 answered_same : (b : Bool) (o : OptionsData) (m : Mark) (is : List FlaggedItem) (l : Laid) (f : Option Fault) →
-    answered (asking b o) m is l f ≡ answered o m is l f
+    run_answer (asking b o) m is l f ≡ run_answer o m is l f
 answered_same b o m is l None = ap (begun m) (feed_all_same b o is (parser_start m))
 answered_same b o m is l (Some f) = ap (failed f) (feed_all_same b o (settled l is) (parser_start m))
 
@@ -222,7 +222,7 @@ Lexed = List Item × LexState
 
 -- the answer to what was read
 abbrev pub answer_to : OptionsData → Bool → Mark → Lexed → Answered
-answer_to o b m x = answered o m (asked_items b (flagged x.0)) x.1.reader.laid x.1.fault
+answer_to o b m x = run_answer o m (asked_items b (flagged x.0)) x.1.reader.laid x.1.fault
 
 pub run_same : (b : Bool) (o : OptionsData) (h : Here) →
     run_from (asking b o) h ≡ (lex o h >>= answer_to o b (mark_of h))
@@ -264,9 +264,9 @@ asked_twice [] = refl
 asked_twice (i ∷ is) = asked_by i.item i.begins_key is (asked_twice is)
 
 unasked_answered : (o : OptionsData) (m : Mark) (is : List FlaggedItem) (l : Laid) (f : Option Fault) →
-    AnsweredBy (answered o m (asked_items false is) l f) (answered o m (asked_items false is) l f)
+    AnsweredBy (run_answer o m (asked_items false is) l f) (run_answer o m (asked_items false is) l f)
 unasked_answered o m is l f =
-    subst (λ js. AnsweredBy (answered o m (asked_items false is) l f) (answered o m js l f)) (asked_twice is)
+    subst (λ js. AnsweredBy (run_answer o m (asked_items false is) l f) (run_answer o m js l f)) (asked_twice is)
     (answered_by o m (asked_items false is) l f)
 
 unasked_lexed : (o : OptionsData) (m : Mark) (r : Result Lexed Fault) →

@@ -30,7 +30,7 @@ use Rattle.granit_machine.specs.Laid.{Laid}
 use Rattle.granit_machine.specs.LexemeSort.{QuoteSign, LexemeSort, Placed}
 use Rattle.granit_machine.specs.Lexing.{FlaggedItem, Flagging, is_nearest, flag_lexeme, flag_item, flagging, flagged}
 use Rattle.granit_machine.specs.Lexing.{lex}
-use Rattle.granit_machine.specs.Machine.{answered, feed_all, run_from, settled}
+use Rattle.granit_machine.specs.Machine.{feed_all, run_answer, run_from, settled}
 use Rattle.granit_machine.specs.NodeEnds.{empty_span}
 use Rattle.granit_machine.specs.NodeSteps.{Stepped}
 use Rattle.granit_machine.specs.Parser.{next_line, take_in, take_token, hold, take_tail, take_lexeme, feed}
@@ -342,7 +342,7 @@ never_told (Err g) f es e = cc
 
 fault_told :
     (o : OptionsData) (h : Here) (items : List Item) (t : LexState) (es : List PlainEvent) → lex o h ≡ Ok (items, t) →
-    (fault : Option Fault) → t.fault ≡ fault → answered o (mark_of h) (flagged items) t.reader.laid fault ≡ Ok es →
+    (fault : Option Fault) → t.fault ≡ fault → run_answer o (mark_of h) (flagged items) t.reader.laid fault ≡ Ok es →
     ToldWhole o h es
 fault_told o h items t es e None f r =
     let whole = subst (λ fault. ReadWhole o (reader_start h) items (is_none fault) t.reader) f

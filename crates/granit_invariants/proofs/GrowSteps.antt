@@ -41,7 +41,7 @@ use Rattle.granit_machine.specs.TokenSort.{TokenSort, BeginsKey, BeginsNode, Das
 use Rattle.granit_machine.specs.TokenSort.{KeyedColon, CommaToken, SequenceCloser, MappingCloser, Token, is_dash_token}
 use Rattle.granit_machine.specs.TokenSort.{token_column, is_in_column, is_right_of, begins_node, begins_pair}
 use Rattle.granit_invariants.specs.CommentEvents.{held_of, comment_event}
-use Rattle.granit_invariants.specs.CommentPlaces.{AreAnchors, Begun}
+use Rattle.granit_invariants.specs.CommentPlaces.{AreAnchors, SequenceStarted}
 use Rattle.granit_invariants.proofs.RoomSteps.{flush_none}
 
 -- ---- what a step adds
@@ -53,7 +53,7 @@ full p = p.given ++ held_of p.waiting
 -- nothing, or the start of a sequence
 abbrev pub MayBegin : List PlainEvent → Type 0
 MayBegin [] = Unit {0}
-MayBegin (e ∷ es) = Begun (e ∷ es)
+MayBegin (e ∷ es) = SequenceStarted (e ∷ es)
 
 -- these events end with the comment behind a `-`, where one stands there, or with the start of a sequence behind it
 abbrev pub EndsWith : Option CommentRead → List PlainEvent → Type 0

@@ -15,7 +15,7 @@ use Rattle.granit_lexemes.specs.PlainEvent.{PlainEvent, event_on, StreamStart}
 use Rattle.granit_machine.specs.Frames.{ParserState, parser_start}
 use Rattle.granit_machine.specs.Laid.{Laid}
 use Rattle.granit_machine.specs.Lexing.{FlaggedItem, Flagging, is_nearest, flag_lexeme, flagging, flagged, lex}
-use Rattle.granit_machine.specs.Machine.{is_lexeme, untailed, asked_items, feed_all, answered, run}
+use Rattle.granit_machine.specs.Machine.{is_lexeme, untailed, asked_items, feed_all, run_answer, run}
 use Rattle.granit_machine.specs.Reader.{LexState}
 use Rattle.granit_machine.specs.ReaderState.{ReaderState, reader_start}
 use Rattle.granit_reading.proofs.Counting.{start_at}
@@ -88,7 +88,7 @@ asked_in x ms false items p = without items p
     without (i ∷ is) p = kept i.item i.begins_key (filter (λ i. is_lexeme i.item) is) p.0 (without is p.1)
 
 answered_in : (x ms : List ℕ) (o : OptionsData) (m : Mark) (items : List FlaggedItem) (l : Laid) (f : Option Fault)
-    (es : List PlainEvent) → InText x ms m → ItemsIn x ms items → answered o m items l f ≡ Ok es → SpansInText x ms es
+    (es : List PlainEvent) → InText x ms m → ItemsIn x ms items → run_answer o m items l f ≡ Ok es → SpansInText x ms es
 answered_in x ms o m items l None es i p e = on (feed_all o items (parser_start m))
     (feed_all_in x ms o items (parser_start m) p (record { frames = tt; last_end = i; waiting = tt; given = tt })) e
   where
@@ -105,7 +105,7 @@ answered_in x ms o m items l (Some f) es i p e = on (feed_all o _ (parser_start 
 
 reached_events : (o : OptionsData) (x : List ℕ) (items : List Item) (t : ReaderState) (l : Laid) (f : Option Fault)
     (es : List PlainEvent) → Reached o (reader_start (start_of x)) items t
-    → answered o (mark_of (start_of x)) (asked_items o.emit_comments (flagged items)) l f ≡ Ok es → EventsInText x es
+    → run_answer o (mark_of (start_of x)) (asked_items o.emit_comments (flagged items)) l f ≡ Ok es → EventsInText x es
 reached_events o x items t l f es r e =
     let p = pass_then x (pass_here x (start_of x)) (reached_passes x o r) (start_at x) in
     let ms = p.further.place.marks in
@@ -127,7 +127,7 @@ pub events_in_text : (o : OptionsData) (x : List ℕ) (es : List PlainEvent) →
 events_in_text o x es e = on (lex o (start_of x)) refl e
   where
     on : (r : Result (List Item × LexState) Fault) → lex o (start_of x) ≡ r
-        → (r >>= λ y. answered o (mark_of (start_of x)) (asked_items o.emit_comments (flagged y.0)) y.1.reader.laid
+        → (r >>= λ y. run_answer o (mark_of (start_of x)) (asked_items o.emit_comments (flagged y.0)) y.1.reader.laid
         y.1.fault) ≡ Ok es → EventsInText x es
     on (Ok (items, t)) q e = reached_events o x items t.reader t.reader.laid t.fault es
         (lexed o (start_of x) items t q).reached e

@@ -33,9 +33,9 @@ abbrev pub StartsSequence : EventKind → Type 0
 StartsSequence (SequenceStart Block number tag) = Unit {0}
 StartsSequence kind = ⊥
 
-abbrev pub Begun : List PlainEvent → Type 0
-Begun [] = ⊥
-Begun (e ∷ es) = StartsSequence e.kind × AreAnchors es
+abbrev pub SequenceStarted : List PlainEvent → Type 0
+SequenceStarted [] = ⊥
+SequenceStarted (e ∷ es) = StartsSequence e.kind × AreAnchors es
 
 -- ---- behind which events a comment stands
 
@@ -49,7 +49,7 @@ pub data StandsBehind (behind_dash : Type 0) (given : List PlainEvent) (left : P
       {told : List PlainEvent} (w : Waiting) → left.waiting ≡ Some w → told ≡ given ++ (null_at w.at ∷ []) →
       StandsBehind behind_dash given left told
   before_start :
-      {told : List PlainEvent} (begun : List PlainEvent) → behind_dash → Begun begun → told ++ begun ≡ given →
+      {told : List PlainEvent} (begun : List PlainEvent) → behind_dash → SequenceStarted begun → told ++ begun ≡ given →
       StandsBehind behind_dash given left told
 
 -- A comment's event stands among these behind the events that the items up to it give without their comments, and in

@@ -14,14 +14,14 @@ use Rattle.granit_items.specs.declared.item.LexemeKind.{LexemeKind}
 use Rattle.granit_items.specs.declared.item.LexemeKind.TheVariants as kinds
 use Rattle.granit_items.specs.declared.item.Note.{Note}
 
-abbrev pub characters_of : Written → List ℕ
-characters_of t = t.characters
+abbrev pub written_characters : Written → List ℕ
+written_characters t = t.characters
 
 abbrev pub kind_view : LexemeKind → spec.LexemeKind
 kind_view (kinds.Version major minor) = spec.Directive (spec.Version major minor)
 kind_view (kinds.TagPrefix handle prefix) = spec.Directive (spec.TagPrefix handle.characters prefix.characters)
 kind_view (kinds.Reserved name parameters) = spec.Directive
-    (spec.Reserved name.characters (map characters_of parameters))
+    (spec.Reserved name.characters (map written_characters parameters))
 kind_view kinds.DocumentStart = spec.DocumentStart
 kind_view kinds.DocumentEnd = spec.DocumentEnd
 kind_view kinds.StreamEnd = spec.StreamEnd
@@ -68,9 +68,9 @@ boxed_lexeme b = lexeme_view b.value
 abbrev pub alone : Lexeme → List spec.Item
 alone l = spec.OfLexeme (lexeme_view l) ∷ []
 
-abbrev pub note_items : Option (Box Note) → List spec.Item
-note_items None = []
-note_items (Some n) = spec.OfComment (boxed_view n) ∷ []
+abbrev pub boxed_note_items : Option (Box Note) → List spec.Item
+boxed_note_items None = []
+boxed_note_items (Some n) = spec.OfComment (boxed_view n) ∷ []
 
 -- the lexeme that was read, where one was
 abbrev pub filled_items : (filled : Bool) → Lexeme → List spec.Item
@@ -79,7 +79,7 @@ filled_items false l = []
 
 -- what a read gives, as items
 abbrev pub found_items : Found → List spec.Item
-found_items f = filled_items f.filled f.lexeme.value ++ note_items f.note
+found_items f = filled_items f.filled f.lexeme.value ++ boxed_note_items f.note
 
 abbrev pub item_view : Item → spec.Item
 item_view (items.Lexeme l) = spec.OfLexeme (boxed_lexeme l)

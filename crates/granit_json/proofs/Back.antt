@@ -9,9 +9,9 @@ use Rattle.granit_error.specs.OptionsData.{OptionsData, default_options}
 use Rattle.granit_json.proofs.Laws.{json_answered}
 use Rattle.granit_json.proofs.Telling.{text_told}
 use Rattle.granit_json.specs.Json.{AfterElements, AfterMembers, Array, Bare, Elements, Json, Members, NoElement}
-use Rattle.granit_json.specs.Json.{NoMember, Object, Text, depth}
+use Rattle.granit_json.specs.Json.{NoMember, Object, Text, json_depth}
 use Rattle.granit_json.specs.JsonEvents.{json_events}
-use Rattle.granit_json.specs.JsonKinds.{element_kinds, json_kinds, kinds_of, member_kinds, value_kinds}
+use Rattle.granit_json.specs.JsonKinds.{element_kinds, json_kinds, member_kinds, unlent_kinds, value_kinds}
 use Rattle.granit_json.specs.JsonText.{ElementNamesFit, ElementsText, JsonText, MemberNamesFit, MemberText, MembersText}
 use Rattle.granit_json.specs.JsonText.{NameFits, NamesFit, PartText, ValueNamesFit, ValueText, bare, elements, member}
 use Rattle.granit_json.specs.JsonText.{members, next_element, next_member, no_elements, no_members, one_element}
@@ -175,12 +175,14 @@ one_telling x t u d e prints =
     let a = part_fits d in
     let b = part_fits e in
     let n = max a.0 b.0 in
-    let m = max (depth t) (depth u) in
+    let m = max (json_depth t) (json_depth u) in
     let o : OptionsData = record default_options { flow_nesting_limit = m; simple_key_max_lookahead = n } in
     one_answer (run o x) (json_events x d) (json_events x e)
-    (json_answered o x t d prints (le-max_left (depth t) (depth u)) (part_more a.0 n (le-max_left a.0 b.0) d a.1))
-    (json_answered o x u e prints (le-max_right (depth t) (depth u)) (part_more b.0 n (le-max_right a.0 b.0) e b.1))
+    (json_answered o x t d prints (le-max_left (json_depth t) (json_depth u))
+    (part_more a.0 n (le-max_left a.0 b.0) d a.1))
+    (json_answered o x u e prints (le-max_right (json_depth t) (json_depth u))
+    (part_more b.0 n (le-max_right a.0 b.0) e b.1))
 
 pub one_value : (x : List ℕ) (t u : Json) → JsonText x t → JsonText x u → Each is_printable x → t ≡ u
 one_value x t u d e prints =
-    kinds_same t u (sym (text_told x t d) ∙ ap kinds_of (one_telling x t u d e prints) ∙ text_told x u e)
+    kinds_same t u (sym (text_told x t d) ∙ ap unlent_kinds (one_telling x t u d e prints) ∙ text_told x u e)

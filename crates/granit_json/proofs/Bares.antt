@@ -2,8 +2,8 @@
 use Rattle.std.proofs.Common.{Bool, List, [], ap, arith, false, inl, inr, refl, subst, sym, true, ℕ, ◌++◌, ◌==◌}
 use Rattle.std.proofs.Common.{◌||◌, ◌∙◌, ◌∷◌, ◌≡◌, ◌⊎◌}
 use Rattle.granit_base.specs.Classes.{is_digit, is_within}
-use Rattle.granit_json.specs.JsonScalars.{Digits, Exponent, Fraction, IsName, IsNumber, Minus, Sign, Whole, exponent}
-use Rattle.granit_json.specs.JsonScalars.{fraction, minus, negative, no_exponent, no_fraction, plus, positive}
+use Rattle.granit_json.specs.JsonScalars.{Digits, Exponent, Fraction, IsJsonNumber, IsName, Minus, NumberSign, Whole}
+use Rattle.granit_json.specs.JsonScalars.{exponent, fraction, minus, negative, no_exponent, no_fraction, plus, positive}
 use Rattle.granit_json.specs.JsonScalars.{unsigned}
 use Rattle.granit_lexemes.specs.Gap.{Each}
 
@@ -61,7 +61,7 @@ unfolding is_bare is_digit
 e_bare e (inl p) = ap is_bare p
 e_bare e (inr p) = ap is_bare p
 
-sign_bare : (s : List ℕ) → Sign s → Each is_bare s
+sign_bare : (s : List ℕ) → NumberSign s → Each is_bare s
 sign_bare _ unsigned = tt
 sign_bare _ plus = (plus_bare, tt)
 sign_bare _ minus = (minus_bare, tt)
@@ -139,7 +139,7 @@ null_sound = record {
   dash = λ p. absurd (no_dash 0x6E refl p);
 }
 
-pub sound : (cs : List ℕ) → IsNumber cs ⊎ IsName cs → Sound cs
+pub sound : (cs : List ℕ) → IsJsonNumber cs ⊎ IsName cs → Sound cs
 sound cs (inl n) =
     subst Sound (sym n.is)
     (number_sound n.sign n.whole (n.rest ++ n.power) n.minus n.digits

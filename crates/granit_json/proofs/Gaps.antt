@@ -7,7 +7,7 @@ use Rattle.granit_base.specs.Classes.{is_blank, is_break, is_gap, is_printable}
 use Rattle.granit_base.specs.Place.{first}
 use Rattle.granit_canonical.proofs.Places.{Held, Starts, Tail, past_all, starts_end}
 use Rattle.granit_canonical.proofs.Taking.{is_mark}
-use Rattle.granit_json.specs.JsonScalars.{White, is_white}
+use Rattle.granit_json.specs.JsonScalars.{White, is_json_white}
 use Rattle.granit_lexemes.specs.Gap.{Each, IsGap}
 use Rattle.granit_lexemes.specs.HeaderExtent.{uncommented}
 use Rattle.granit_lexemes.specs.Here.{Here}
@@ -15,8 +15,8 @@ use Rattle.granit_lexemes.specs.PlainExtent.{over, starts_comment}
 use Rattle.granit_lexemes.specs.QuotedExtent.{BlanksBehind}
 use Rattle.granit_lexemes.specs.declared.layout.Bracket.{Bracket}
 
-white_gap : (c : ℕ) → is_white c ≡ true → is_gap c ≡ true
-unfolding is_white is_gap is_blank is_break
+white_gap : (c : ℕ) → is_json_white c ≡ true → is_gap c ≡ true
+unfolding is_json_white is_gap is_blank is_break
 white_gap c e = grind (arith, nat_tests)
 
 pub whites_gap : (w : List ℕ) → White w → IsGap w

@@ -11,7 +11,7 @@ use Rattle.granit_invariants.specs.CommentEvents.{comment_events, item_events, o
 use Rattle.granit_invariants.specs.Quiet.{but_comments}
 use Rattle.granit_json.proofs.Passing.{Flags, flagged_is, flagged_of, flags_name, items_of, no_flag, unflagged}
 use Rattle.granit_json.proofs.Whole.{TextRead, text_read}
-use Rattle.granit_json.specs.Json.{Json, depth}
+use Rattle.granit_json.specs.Json.{Json, json_depth}
 use Rattle.granit_json.specs.JsonEvents.{json_events}
 use Rattle.granit_json.specs.JsonText.{JsonText, NamesFit}
 use Rattle.granit_language.specs.CommentRows.{AreComments, RowTooLong, tail_comments}
@@ -131,5 +131,5 @@ answered o x es r =
 
 -- JSON text is answered with the events of its value
 pub json_answered : (o : OptionsData) (x : List ℕ) (t : Json) (d : JsonText x t) → Each is_printable x
-    → depth t ≤ o.flow_nesting_limit → NamesFit o.simple_key_max_lookahead d → run o x ≡ Ok (json_events x d)
+    → json_depth t ≤ o.flow_nesting_limit → NamesFit o.simple_key_max_lookahead d → run o x ≡ Ok (json_events x d)
 json_answered o x t d prints deep fit = answered o x (json_events x d) (text_read o x t d prints deep fit)

@@ -10,7 +10,7 @@ use Rattle.std.proofs.lemmas.List.{append-nil}
 use Rattle.std.specs.List.{list_all}
 use Rattle.std.specs.Prelude.{Some}
 use Rattle.granit_base.specs.Classes.{is_blank, is_break, is_gap, is_printable}
-use Rattle.granit_json.specs.JsonScalars.{IsString, ShortEscape, Spells, backslash, backspace, carriage_return}
+use Rattle.granit_json.specs.JsonScalars.{IsString, ShortEscape, SpellsCharacter, backslash, backspace, carriage_return}
 use Rattle.granit_json.specs.JsonScalars.{form_feed, halves, is_unescaped, itself, line_feed, no_more, numbered}
 use Rattle.granit_json.specs.JsonScalars.{one_more, quote, short, slash, tab}
 use Rattle.granit_lexemes.specs.Decoding.{Escape, digit_count, letter_value}
@@ -99,7 +99,7 @@ as_escape written c e rest = quoted.escape e
 
 -- one more character, behind blanks or directly
 spelled : (at : LayoutData) (bl source text behind written more : List ℕ) (c : ℕ) → Each is_blank bl
-    → source ≡ written ++ more → Each is_printable written → Spells written c
+    → source ≡ written ++ more → Each is_printable written → SpellsCharacter written c
     → Between at (bl ++ 0x20 ∷ []) more text behind → Between at [] more text behind
     → Between at bl source (c ∷ text) behind
 spelled at bl source text behind _ more c b e i (itself u) spaced direct = by (c == 0x20) refl
@@ -164,7 +164,7 @@ itself_kept c more u p e =
     ap (λ b. b && list_all (is_kept false) more) (unescaped_kept c u p) ∙ e
     ∙ sym (ap (λ b. b && list_all is_unescaped more) u)
 
-piece_kept : (written more : List ℕ) (c : ℕ) → Spells written c → Each is_printable written
+piece_kept : (written more : List ℕ) (c : ℕ) → SpellsCharacter written c → Each is_printable written
     → list_all (is_kept false) more ≡ list_all is_unescaped more
     → list_all (is_kept false) (written ++ more) ≡ list_all is_unescaped (written ++ more)
 piece_kept _ more c (itself u) i e = itself_kept c more u i.0 e

@@ -6,7 +6,7 @@ use Rattle.granit_canonical.specs.Canonical.{spot, stretch}
 use Rattle.granit_json.specs.Json.{Elements, Json, Members}
 use Rattle.granit_json.specs.JsonEvents.{array_start, element_events, json_events, member_events, members_events}
 use Rattle.granit_json.specs.JsonEvents.{object_start, part_events, scalar_of, value_events}
-use Rattle.granit_json.specs.JsonKinds.{element_kinds, json_kinds, kinds_of, member_kinds, value_kinds}
+use Rattle.granit_json.specs.JsonKinds.{element_kinds, json_kinds, member_kinds, unlent_kinds, value_kinds}
 use Rattle.granit_json.specs.JsonText.{ElementsText, JsonText, MemberText, MembersText, PartText, ValueText, bare}
 use Rattle.granit_json.specs.JsonText.{elements, member, members, next_element, next_member, no_elements, no_members}
 use Rattle.granit_json.specs.JsonText.{one_element, one_member, part, text}
@@ -17,7 +17,7 @@ use Rattle.granit_lexemes.specs.PlainEvent.{StreamEnd, StreamStart, event_at, ev
 module _ (x : List ℕ) where
   mutual
     value_told : {t : Json} {from to : List ℕ} (d : ValueText t from to) (more : List PlainEvent)
-        → kinds_of (value_events x d more) ≡ value_kinds t (kinds_of more)
+        → unlent_kinds (value_events x d more) ≡ value_kinds t (unlent_kinds more)
     value_told (text source s e) more = refl
     value_told (bare b e) more = refl
     value_told (no_elements white w e) more = refl
@@ -30,28 +30,29 @@ module _ (x : List ℕ) where
         (members_told d (event_at MappingEnd (stretch x (0x7D ∷ to) to) ∷ more))
 
     part_told : {t : Json} {from to : List ℕ} (d : PartText t from to) (more : List PlainEvent)
-        → kinds_of (part_events x d more) ≡ value_kinds t (kinds_of more)
+        → unlent_kinds (part_events x d more) ≡ value_kinds t (unlent_kinds more)
     part_told (part before value after w e v d) more = value_told d more
 
     elements_told : {es : Elements} {from to : List ℕ} (d : ElementsText es from to) (more : List PlainEvent)
-        → kinds_of (element_events x d more) ≡ element_kinds es (kinds_of more)
+        → unlent_kinds (element_events x d more) ≡ element_kinds es (unlent_kinds more)
     elements_told (one_element p) more = part_told p more
     elements_told (next_element {es = es} middle d p) more =
         elements_told d (part_events x p more) ∙ ap (element_kinds es) (part_told p more)
 
     member_told : {name : List ℕ} {t : Json} {from to : List ℕ} (d : MemberText name t from to)
         (more : List PlainEvent)
-        → kinds_of (member_events x d more) ≡ scalar_of DoubleQuoted (owned name) ∷ value_kinds t (kinds_of more)
+        → unlent_kinds (member_events x d more)
+        ≡ scalar_of DoubleQuoted (owned name) ∷ value_kinds t (unlent_kinds more)
     member_told (member {name = name} before source between value w s b e p) more =
         ap (λ (ks : List EventKind). scalar_of DoubleQuoted (owned name) ∷ ks) (part_told p more)
 
     members_told : {ms : Members} {from to : List ℕ} (d : MembersText ms from to) (more : List PlainEvent)
-        → kinds_of (members_events x d more) ≡ member_kinds ms (kinds_of more)
+        → unlent_kinds (members_events x d more) ≡ member_kinds ms (unlent_kinds more)
     members_told (one_member m) more = member_told m more
     members_told (next_member {ms = ms} middle d m) more =
         members_told d (member_events x m more) ∙ ap (member_kinds ms) (member_told m more)
 
-  pub text_told : (t : Json) (d : JsonText x t) → kinds_of (json_events x d) ≡ json_kinds t
+  pub text_told : (t : Json) (d : JsonText x t) → unlent_kinds (json_events x d) ≡ json_kinds t
   text_told t (part before value after w e v d) =
       ap (λ (ks : List EventKind). StreamStart ∷ DocumentStart false None ∷ ks)
       (value_told d (event_on DocumentEnd (spot x (after ++ [])) ∷ event_on StreamEnd (spot x []) ∷ []))

@@ -26,8 +26,7 @@ use Rattle.granit_json.proofs.Passing.{Passage, passage_name, passage_one, passa
 use Rattle.granit_json.proofs.Plains.{takes_bare}
 use Rattle.granit_json.proofs.Quoted.{takes_string}
 use Rattle.granit_json.proofs.Strings.{each_behind, each_front}
-use Rattle.granit_json.specs.Json.{Elements, Json, Members}
-use Rattle.granit_json.specs.Json.{depth, elements_depth, members_depth}
+use Rattle.granit_json.specs.Json.{Elements, Json, Members, elements_depth, json_depth, members_depth}
 use Rattle.granit_json.specs.JsonEvents.{element_events, first_source, member_events, members_events, part_events}
 use Rattle.granit_json.specs.JsonEvents.{scalar_of, string_text, value_events}
 use Rattle.granit_json.specs.JsonText.{ElementNamesFit, ElementsText, MemberNamesFit, MemberText, MembersText}
@@ -138,7 +137,7 @@ lone_front b white to i =
 module _ (o : OptionsData) (x : List ℕ) (prints : Each is_printable x) where
   mutual
     pub value_read : {t : Json} {from to : List ℕ} (d : ValueText t from to) (bs : List Bracket) (g rest : List ℕ)
-        (s : ReaderState) → IsGap g → to ≡ g ++ rest → Ends bs rest → depth t + length bs ≤ o.flow_nesting_limit
+        (s : ReaderState) → IsGap g → to ≡ g ++ rest → Ends bs rest → json_depth t + length bs ≤ o.flow_nesting_limit
         → ValueNamesFit o.simple_key_max_lookahead d → Before x from s.here → Calm bs s.laid → Fine bs s.laid.last
         → NodeRead o x bs rest s (value_events x d) (first_source x d) (spot x to)
     value_read (text {characters = chars} {from = from} {to = to} source is e) bs g rest s i w ends deep fit before calm
@@ -206,7 +205,7 @@ module _ (o : OptionsData) (x : List ℕ) (prints : Each is_printable x) where
         })
 
     pub part_read : {t : Json} {from to : List ℕ} (d : PartText t from to) (bs : List Bracket) (s : ReaderState)
-        → Ends bs to → depth t + length bs ≤ o.flow_nesting_limit → NamesFit o.simple_key_max_lookahead d
+        → Ends bs to → json_depth t + length bs ≤ o.flow_nesting_limit → NamesFit o.simple_key_max_lookahead d
         → Before x (part_front d).start s.here → Calm bs s.laid → Fine bs s.laid.last
         → NodeRead o x bs to s (part_events x d) (part_source x d) (part_end x d)
     part_read (part {to = to} before value after w e v d) bs s ends deep fit b calm fine =
@@ -217,7 +216,8 @@ module _ (o : OptionsData) (x : List ℕ) (prints : Each is_printable x) where
         → ElementNamesFit o.simple_key_max_lookahead d → Before x (element_front d).start s.here
         → Calm (Square ∷ bs) s.laid → SomeElements o x bs to s (element_events x d)
     elements_read (one_element {t = t} p) bs s ends deep fit before calm =
-        let n = part_read p (Square ∷ bs) s ends (most_both 0 (depth t) (suc (length bs)) o.flow_nesting_limit deep).1
+        let n = part_read p (Square ∷ bs) s ends
+        (most_both 0 (json_depth t) (suc (length bs)) o.flow_nesting_limit deep).1
         fit before calm tt in
         record {
           after = n.after;
@@ -232,7 +232,7 @@ module _ (o : OptionsData) (x : List ℕ) (prints : Each is_printable x) where
           told = n.told;
         }
     elements_read (next_element {es = es} {t = t} middle d p) bs s ends deep fit before calm =
-        let both = most_both (elements_depth es) (depth t) (suc (length bs)) o.flow_nesting_limit deep in
+        let both = most_both (elements_depth es) (json_depth t) (suc (length bs)) o.flow_nesting_limit deep in
         let r = elements_read d bs s (comma_ends Square bs middle) both.0 fit.0 before calm in
         let f = part_front p in
         let here = subst (λ (l : List ℕ). Before x (0x2C ∷ l) r.after.here) f.is r.before in
@@ -261,7 +261,7 @@ module _ (o : OptionsData) (x : List ℕ) (prints : Each is_printable x) where
         }
 
     pub member_read : {name : List ℕ} {t : Json} {from to : List ℕ} (d : MemberText name t from to) (bs : List Bracket)
-        (s : ReaderState) → Ends (Curly ∷ bs) to → depth t + suc (length bs) ≤ o.flow_nesting_limit
+        (s : ReaderState) → Ends (Curly ∷ bs) to → json_depth t + suc (length bs) ≤ o.flow_nesting_limit
         → NameFits o.simple_key_max_lookahead d → Before x (member_front d).start s.here → Calm (Curly ∷ bs) s.laid
         → is_opener s.laid.last ≡ true → MemberRead o x bs to s (member_events x d)
     member_read (member {name = name} before source between value w is b e p) bs s ends deep fit here calm opener =
@@ -300,7 +300,8 @@ module _ (o : OptionsData) (x : List ℕ) (prints : Each is_printable x) where
         → MemberNamesFit o.simple_key_max_lookahead d → Before x (members_front d).start s.here
         → Calm (Curly ∷ bs) s.laid → is_opener s.laid.last ≡ true → SomeMembers o x bs to s (members_events x d)
     members_read (one_member {t = t} m) bs s ends deep fit before calm opener =
-        let n = member_read m bs s ends (most_both 0 (depth t) (suc (length bs)) o.flow_nesting_limit deep).1 fit before
+        let n = member_read m bs s ends (most_both 0 (json_depth t) (suc (length bs))
+        o.flow_nesting_limit deep).1 fit before
         calm opener in
         record {
           after = n.after;
@@ -315,7 +316,7 @@ module _ (o : OptionsData) (x : List ℕ) (prints : Each is_printable x) where
           told = n.told;
         }
     members_read (next_member {ms = ms} {t = t} middle d m) bs s ends deep fit before calm opener =
-        let both = most_both (members_depth ms) (depth t) (suc (length bs)) o.flow_nesting_limit deep in
+        let both = most_both (members_depth ms) (json_depth t) (suc (length bs)) o.flow_nesting_limit deep in
         let r = members_read d bs s (comma_ends Curly bs middle) both.0 fit.0 before calm opener in
         let f = member_front m in
         let here = subst (λ (l : List ℕ). Before x (0x2C ∷ l) r.after.here) f.is r.before in

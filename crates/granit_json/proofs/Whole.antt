@@ -17,7 +17,7 @@ use Rattle.granit_json.proofs.Gaps.{at_end, whites_gap}
 use Rattle.granit_json.proofs.Nodes.{NodeRead}
 use Rattle.granit_json.proofs.Passing.{Flags, items_of, lexed_flags, lexed_whole, seen, seen_append, terminals_are}
 use Rattle.granit_json.proofs.Values.{value_read}
-use Rattle.granit_json.specs.Json.{Json, depth}
+use Rattle.granit_json.specs.Json.{Json, json_depth}
 use Rattle.granit_json.specs.JsonEvents.{first_source, json_events, value_events}
 use Rattle.granit_json.specs.JsonText.{JsonText, NamesFit, part}
 use Rattle.granit_language.specs.Node.{BareRoot, Beginning, EndRooted}
@@ -110,7 +110,7 @@ at_start : (x before value : List ℕ) → x ≡ before ++ value → IsGap befor
 at_start x before value e i = record { gap = before; held = starts_held x; text = e; is_gap = i }
 
 pub text_read : (o : OptionsData) (x : List ℕ) (t : Json) (d : JsonText x t) → Each is_printable x
-    → depth t ≤ o.flow_nesting_limit → NamesFit o.simple_key_max_lookahead d → TextRead o x (json_events x d)
+    → json_depth t ≤ o.flow_nesting_limit → NamesFit o.simple_key_max_lookahead d → TextRead o x (json_events x d)
 text_read o x t (part before value after w e v d) prints deep fit =
     rooted_read o x (value_events x d) (first_source x d) (spot x (after ++ []))
     (value_read o x prints d [] after [] (reader_start (start_of x)) (whites_gap after v) refl at_end

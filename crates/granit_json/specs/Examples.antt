@@ -4,31 +4,31 @@ use Rattle.std.specs.Prelude.{◌≡◌, ℕ, true, List, [], codes}
 use Rattle.granit_base.specs.Classes.{is_digit}
 use Rattle.granit_json.specs.Json.{Json, Bare, Array, Object, NoElement, AfterElements, NoMember, AfterMembers}
 use Rattle.granit_json.specs.JsonEvents.{json_events}
-use Rattle.granit_json.specs.JsonScalars.{is_white, is_unescaped, itself, short, slash, IsString, no_more}
+use Rattle.granit_json.specs.JsonScalars.{is_json_white, is_unescaped, itself, short, slash, IsString, no_more}
 use Rattle.granit_json.specs.JsonScalars.{one_more, positive, negative, fraction, no_fraction, unsigned, exponent}
-use Rattle.granit_json.specs.JsonScalars.{no_exponent, IsNumber}
+use Rattle.granit_json.specs.JsonScalars.{no_exponent, IsJsonNumber}
 use Rattle.granit_json.specs.JsonText.{JsonText, bare, no_elements, elements, no_members, members, part}
 use Rattle.granit_json.specs.JsonText.{one_element, next_element, member, one_member, next_member}
 use Rattle.granit_lexemes.specs.Line.{event_lines}
 
 -- what is printed for a text
-abbrev pub lines_of : (x : List ℕ) {t : Json} → JsonText x t → List ℕ
-lines_of x d = event_lines (json_events x d)
+abbrev pub json_lines : (x : List ℕ) {t : Json} → JsonText x t → List ℕ
+json_lines x d = event_lines (json_events x d)
 
 -- an array with nothing but white space in it
 abbrev pub empty_text : List ℕ
 empty_text = codes "[ ]"
 
-pub space_is : is_white 0x20 ≡ true
-unfolding is_white
+pub space_is : is_json_white 0x20 ≡ true
+unfolding is_json_white
 space_is = refl
 
-pub feed_is : is_white 0x0A ≡ true
-unfolding is_white
+pub feed_is : is_json_white 0x0A ≡ true
+unfolding is_json_white
 feed_is = refl
 
-pub tab_is : is_white 0x09 ≡ true
-unfolding is_white
+pub tab_is : is_json_white 0x09 ≡ true
+unfolding is_json_white
 tab_is = refl
 
 pub k_is : is_unescaped 0x6B ≡ true
@@ -66,7 +66,7 @@ object_value =
     (Bare (codes "true")))))
     [] (Object NoMember))
 
-abbrev one_number : IsNumber (codes "1")
+abbrev one_number : IsJsonNumber (codes "1")
 one_number = record {
   sign = [];
   whole = codes "1";
@@ -79,7 +79,7 @@ one_number = record {
   exponent = no_exponent;
 }
 
-abbrev other_number : IsNumber (codes "-2.5e3")
+abbrev other_number : IsJsonNumber (codes "-2.5e3")
 other_number = record {
   sign = codes "-";
   whole = codes "2";

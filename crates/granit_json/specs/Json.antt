@@ -20,16 +20,16 @@ mutual
 
 -- how many arrays and objects stand in one another at most
 abbrev mutual
-  pub depth : Json → ℕ
-  depth (Text characters) = 0
-  depth (Bare characters) = 0
-  depth (Array es) = suc (elements_depth es)
-  depth (Object ms) = suc (members_depth ms)
+  pub json_depth : Json → ℕ
+  json_depth (Text characters) = 0
+  json_depth (Bare characters) = 0
+  json_depth (Array es) = suc (elements_depth es)
+  json_depth (Object ms) = suc (members_depth ms)
 
   pub elements_depth : Elements → ℕ
   elements_depth NoElement = 0
-  elements_depth (AfterElements es t) = max (elements_depth es) (depth t)
+  elements_depth (AfterElements es t) = max (elements_depth es) (json_depth t)
 
   pub members_depth : Members → ℕ
   members_depth NoMember = 0
-  members_depth (AfterMembers ms name t) = max (members_depth ms) (depth t)
+  members_depth (AfterMembers ms name t) = max (members_depth ms) (json_depth t)

@@ -13,8 +13,8 @@ abbrev pub unlent : EventKind → EventKind
 unlent (Scalar written style anchor tag) = Scalar (owned written.characters) style anchor tag
 unlent kind = kind
 
-abbrev pub kinds_of : List PlainEvent → List EventKind
-kinds_of es = map (λ (e : PlainEvent). unlent e.kind) es
+abbrev pub unlent_kinds : List PlainEvent → List EventKind
+unlent_kinds es = map (λ (e : PlainEvent). unlent e.kind) es
 
 -- in front of more
 abbrev mutual

@@ -6,11 +6,11 @@ use Rattle.granit_lexemes.specs.Decoding.{AreDigits, is_high, is_low, joined, nu
 use Rattle.granit_lexemes.specs.Gap.{Each}
 
 -- white space
-unfoldable pub is_white : ℕ → Bool
-is_white c = (c == 0x20 || c == 0x09) || (c == 0x0A || c == 0x0D)
+unfoldable pub is_json_white : ℕ → Bool
+is_json_white c = (c == 0x20 || c == 0x09) || (c == 0x0A || c == 0x0D)
 
 abbrev pub White : List ℕ → Type 0
-White w = Each is_white w
+White w = Each is_json_white w
 
 -- ---- strings
 
@@ -30,19 +30,19 @@ pub data ShortEscape : (letter character : ℕ) → Type 0 where
   tab : ShortEscape 0x74 0x09
 
 -- A character of a string as it is written. One past U+FFFF may be written as two halves; a half alone is none.
-pub data Spells : (written : List ℕ) → ℕ → Type 0 where
-  itself : {c : ℕ} → is_unescaped c ≡ true → Spells (c ∷ []) c
-  short : {l c : ℕ} → ShortEscape l c → Spells (0x5C ∷ l ∷ []) c
+pub data SpellsCharacter : (written : List ℕ) → ℕ → Type 0 where
+  itself : {c : ℕ} → is_unescaped c ≡ true → SpellsCharacter (c ∷ []) c
+  short : {l c : ℕ} → ShortEscape l c → SpellsCharacter (0x5C ∷ l ∷ []) c
   numbered : {digits : List ℕ} → AreDigits 4 digits → scalar (number_of digits) ≡ true
-      → Spells (0x5C ∷ 0x75 ∷ digits) (number_of digits)
+      → SpellsCharacter (0x5C ∷ 0x75 ∷ digits) (number_of digits)
   halves : {high low : List ℕ} → AreDigits 4 high → is_high (number_of high) ≡ true → AreDigits 4 low
       → is_low (number_of low) ≡ true
-      → Spells (0x5C ∷ 0x75 ∷ (high ++ 0x5C ∷ 0x75 ∷ low)) (joined (number_of high) (number_of low))
+      → SpellsCharacter (0x5C ∷ 0x75 ∷ (high ++ 0x5C ∷ 0x75 ∷ low)) (joined (number_of high) (number_of low))
 
 -- what stands between the quotes of a string of these characters
 pub data IsString : (source characters : List ℕ) → Type 0 where
   no_more : IsString [] []
-  one_more : {source characters more : List ℕ} {c : ℕ} (written : List ℕ) → Spells written c
+  one_more : {source characters more : List ℕ} {c : ℕ} (written : List ℕ) → SpellsCharacter written c
       → source ≡ written ++ more → IsString more characters → IsString source (c ∷ characters)
 
 -- ---- numbers and names
@@ -65,17 +65,17 @@ pub data Fraction : List ℕ → Type 0 where
   no_fraction : Fraction []
   fraction : {ds : List ℕ} → Digits ds → Fraction (0x2E ∷ ds)
 
-pub data Sign : List ℕ → Type 0 where
-  unsigned : Sign []
-  plus : Sign (0x2B ∷ [])
-  minus : Sign (0x2D ∷ [])
+pub data NumberSign : List ℕ → Type 0 where
+  unsigned : NumberSign []
+  plus : NumberSign (0x2B ∷ [])
+  minus : NumberSign (0x2D ∷ [])
 
 pub data Exponent : List ℕ → Type 0 where
   no_exponent : Exponent []
-  exponent : (e : ℕ) (sign ds : List ℕ) → (e ≡ 0x65) ⊎ (e ≡ 0x45) → Sign sign → Digits ds
+  exponent : (e : ℕ) (sign ds : List ℕ) → (e ≡ 0x65) ⊎ (e ≡ 0x45) → NumberSign sign → Digits ds
       → Exponent (e ∷ (sign ++ ds))
 
-pub record IsNumber (characters : List ℕ) : Type 0 where
+pub record IsJsonNumber (characters : List ℕ) : Type 0 where
   pub sign : List ℕ
   pub whole : List ℕ
   pub rest : List ℕ

@@ -2,13 +2,13 @@
 use Rattle.std.specs.Prelude.{◌≡◌, ℕ, ◌≤◌, List, [], ◌∷◌, ◌++◌, length, ◌⊎◌}
 use Rattle.granit_json.specs.Json.{Json, Text, Bare, Array, Object, Elements, NoElement, AfterElements, Members}
 use Rattle.granit_json.specs.Json.{NoMember, AfterMembers}
-use Rattle.granit_json.specs.JsonScalars.{White, IsString, IsNumber, IsName}
+use Rattle.granit_json.specs.JsonScalars.{White, IsString, IsJsonNumber, IsName}
 
 mutual
   pub data ValueText : Json → (from to : List ℕ) → Type 0 where
     text : {characters from to : List ℕ} (source : List ℕ) → IsString source characters
         → from ≡ 0x22 ∷ (source ++ 0x22 ∷ to) → ValueText (Text characters) from to
-    bare : {characters from to : List ℕ} → IsNumber characters ⊎ IsName characters → from ≡ characters ++ to
+    bare : {characters from to : List ℕ} → IsJsonNumber characters ⊎ IsName characters → from ≡ characters ++ to
         → ValueText (Bare characters) from to
     no_elements : {from to : List ℕ} (white : List ℕ) → White white → from ≡ 0x5B ∷ (white ++ 0x5D ∷ to)
         → ValueText (Array NoElement) from to

@@ -2,9 +2,9 @@
 ghost use Rattle.std.specs.Prelude.{◌≡◌, ◌≤◌, ℕ, List, Ok};
 ghost use Rattle.granit_base.specs.Classes.{is_printable};
 ghost use Rattle.granit_error.specs.OptionsData.{OptionsData};
-ghost use Rattle.granit_json.specs.Json.{Json, depth};
+ghost use Rattle.granit_json.specs.Json.{Json, json_depth};
 ghost use Rattle.granit_json.specs.JsonEvents.{json_events};
-ghost use Rattle.granit_json.specs.JsonKinds.{json_kinds, kinds_of};
+ghost use Rattle.granit_json.specs.JsonKinds.{json_kinds, unlent_kinds};
 ghost use Rattle.granit_json.specs.JsonText.{JsonText, NamesFit};
 ghost use Rattle.granit_lexemes.specs.Gap.{Each};
 ghost use Rattle.granit_machine.specs.Machine.{run};
@@ -16,7 +16,7 @@ ghost use Rattle.granit_machine.specs.Machine.{run};
 /// in front of its colon.
 pub fn json_is_read()
     ensures { (o : OptionsData) (x : List ℕ) (t : Json) (d : JsonText x t) → Each is_printable x
-        → depth t ≤ o.flow_nesting_limit → NamesFit o.simple_key_max_lookahead d
+        → json_depth t ≤ o.flow_nesting_limit → NamesFit o.simple_key_max_lookahead d
         → run o x ≡ Ok (json_events x d) }
 {}
 
@@ -24,7 +24,7 @@ pub fn json_is_read()
 /// between its start and its end, and of a member the name and then the value. White space and the way in which a
 /// string is escaped change only where they stand.
 pub fn json_tells_its_value()
-    ensures { (x : List ℕ) (t : Json) (d : JsonText x t) → kinds_of (json_events x d) ≡ json_kinds t }
+    ensures { (x : List ℕ) (t : Json) (d : JsonText x t) → unlent_kinds (json_events x d) ≡ json_kinds t }
 {}
 
 /// A text of printable characters is one JSON value at most, and each part of it stands in one place.

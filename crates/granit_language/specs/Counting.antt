@@ -66,7 +66,7 @@ PlacesCounted x ms (m ∷ rest) = ((i : ℕ) × CountedMark x ms i m) × PlacesC
 
 -- All places that the lexemes and comments of a text tell are counted on it, and the byte-order marks in front of its
 -- documents, one list for all of them, count no column.
-pub record Counted (x : List ℕ) (items : List Item) : Type 0 where
+pub record ItemsCounted (x : List ℕ) (items : List Item) : Type 0 where
   pub marks : List ℕ
   pub stand : MarksStand x marks marks
   pub places : PlacesCounted x marks (places_of items)

@@ -3,7 +3,7 @@ use Rattle.std.specs.Prelude.{◌≡◌, List, [], ◌∷◌, ◌++◌}
 use Rattle.granit_language.specs.FaultKinds.{fault_kind_at}
 use Rattle.granit_language.specs.GrammarFault.{GrammarFault}
 use Rattle.granit_language.specs.Node.{Stream}
-use Rattle.granit_language.specs.OpenPlace.{OpenPlace, OpenPlaced, IsOpen, spell_open}
+use Rattle.granit_language.specs.OpenPlace.{OpenPlace, OpenPlaced, HasOneName, spell_open}
 use Rattle.granit_language.specs.Placed.{StreamPlaced}
 use Rattle.granit_language.specs.Settling.{settle_place}
 use Rattle.granit_language.specs.Terminal.{Terminal}
@@ -22,7 +22,7 @@ pub record FaultAt (xs : List Terminal) (k : GrammarFault) (x : Terminal) : Type
   pub place : OpenPlace
   pub cut : (more : List Terminal) → spell_open place more ≡ front ++ more
   pub placed : OpenPlaced x place
-  pub is_open : IsOpen place
+  pub is_open : HasOneName place
   -- what the lexeme ends is finished there
   pub settled : settle_place x place ≡ place
   pub kind_is : k ≡ fault_kind_at place x.kind

@@ -72,17 +72,17 @@ ItemKeysFit ks (i ∷ is) = (item_fits i.item ks ≡ true) × ItemKeysFit (behin
 -- ---- lines
 
 -- whether a lexeme begins an entry of a block collection
-abbrev pub begins_entry : Role → LexemeKind → Bool → Bool
-begins_entry OfNode kind flag = flag
-begins_entry Opens kind flag = flag
-begins_entry Other Dash flag = true
-begins_entry Other Question flag = true
-begins_entry Other Colon flag = true
-begins_entry role kind flag = false
+abbrev pub begins_block_entry : Role → LexemeKind → Bool → Bool
+begins_block_entry OfNode kind flag = flag
+begins_block_entry Opens kind flag = flag
+begins_block_entry Other Dash flag = true
+begins_block_entry Other Question flag = true
+begins_block_entry Other Colon flag = true
+begins_block_entry role kind flag = false
 
 abbrev pub stands_as_entry : Lexeme → Bool → Bool
 stands_as_entry x flag =
-    x.in_flow || (not (begins_entry (role_of x.kind x.key) x.kind flag) || (x.begins_line || x.follows_indicator))
+    x.in_flow || (not (begins_block_entry (role_of x.kind x.key) x.kind flag) || (x.begins_line || x.follows_indicator))
 
 abbrev pub item_stands : Item → Bool → Bool
 item_stands (OfLexeme x) flag = stands_as_entry x flag

@@ -14,16 +14,17 @@ use Rattle.granit_machine.specs.Reader.{is_end_kind}
 -- ---- keys
 
 -- what a key that is held says of the run that may be it, and what it says that none is held
-abbrev pub Holds : OptionsData → List ℕ → Bool → Mark → Option PossibleKey → Lexeme → List Lexeme → Type 0
-Holds o text f m (Some k) first rest = (k.number ≡ first.number) × (k.start ≡ first.start) × MayBeKey text f first rest
-Holds o text f m None first rest = MayBeKey text f first rest → too_far o f first.start m ≡ true
+abbrev pub HeldKeySays : OptionsData → List ℕ → Bool → Mark → Option PossibleKey → Lexeme → List Lexeme → Type 0
+HeldKeySays o text f m (Some k) first rest = (k.number ≡ first.number) × (k.start ≡ first.start)
+    × MayBeKey text f first rest
+HeldKeySays o text f m None first rest = MayBeKey text f first rest → too_far o f first.start m ≡ true
 
 -- where no run ends with the lexemes there is no key, and else it is held of that run
 pub data Now (o : OptionsData) (text : List ℕ) (f : Bool) (m : Mark) (ls : List Lexeme) (key : Option PossibleKey) :
     Type 0 where
   no_run_now : NoRun ls → key ≡ None → Now o text f m ls key
   run_now :
-      {first : Lexeme} {rest : List Lexeme} → Run ls first rest → Holds o text f m key first rest →
+      {first : Lexeme} {rest : List Lexeme} → Run ls first rest → HeldKeySays o text f m key first rest →
       Now o text f m ls key
 
 -- the run that a lexeme begins or joins
@@ -38,7 +39,7 @@ pub record Leads (o : OptionsData) (text : List ℕ) (f : Bool) (m : Mark) (x : 
   pub first : Lexeme
   pub rest : List Lexeme
   pub lead : Lead x ys first rest
-  pub holds : Holds o text f m key first rest
+  pub holds : HeldKeySays o text f m key first rest
 
 -- a bracket that is open, in front of what stands in it
 pub record Pending (o : OptionsData) (text : List ℕ) (f : Bool) (m : Mark) (ls : List Lexeme)
@@ -50,14 +51,14 @@ pub record Pending (o : OptionsData) (text : List ℕ) (f : Bool) (m : Mark) (ls
   pub leads : Leads o text f m opener before key
 
 -- the keys around the innermost bracket, one for each that is open, and one outside all
-abbrev pub Around :
+abbrev pub KeysAround :
     OptionsData → List ℕ → Mark → List Lexeme → List OpenBracket → Option PossibleKey → Type 0
-Around o text m ls [] key = Pending o text false m ls key
-Around o text m ls (b ∷ bs) key = (p : Pending o text true m ls b.key) × Around o text m p.before bs key
+KeysAround o text m ls [] key = Pending o text false m ls key
+KeysAround o text m ls (b ∷ bs) key = (p : Pending o text true m ls b.key) × KeysAround o text m p.before bs key
 
 abbrev pub Depths : OptionsData → List ℕ → Mark → List Lexeme → List OpenBracket → Option PossibleKey → Type 0
 Depths o text m ls [] key = Now o text false m ls key
-Depths o text m ls (b ∷ bs) key = Now o text true m ls b.key × Around o text m ls bs key
+Depths o text m ls (b ∷ bs) key = Now o text true m ls b.key × KeysAround o text m ls bs key
 
 -- ---- the last lexeme
 

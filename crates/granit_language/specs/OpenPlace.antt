@@ -161,6 +161,6 @@ IsHole (AtKey r a f) = ⊥
 IsHole r = Unit {0}
 
 -- an open place under its one name
-abbrev pub IsOpen : OpenPlace → Type 0
-IsOpen (Want r NoProperties) = IsHole r
-IsOpen p = Unit {0}
+abbrev pub HasOneName : OpenPlace → Type 0
+HasOneName (Want r NoProperties) = IsHole r
+HasOneName p = Unit {0}

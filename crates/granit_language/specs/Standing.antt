@@ -190,20 +190,20 @@ abbrev pub ClosesInnermost : Bracket → List OpenBracket → Type 0
 ClosesInnermost bracket [] = ⊥
 ClosesInnermost bracket (b ∷ bs) = b.bracket ≡ bracket
 
-abbrev pub Stands : OptionsData → (ends : Bool) → PlacedSort → Here → Laid → Lexeme → (after : Here) → Type 0
-Stands o ends (OpenSign bracket) h l x after =
+abbrev pub SortStands : OptionsData → (ends : Bool) → PlacedSort → Here → Laid → Lexeme → (after : Here) → Type 0
+SortStands o ends (OpenSign bracket) h l x after =
     Tailed ends h l (Open bracket) (step h) x after × (length l.brackets < o.flow_nesting_limit)
-Stands o ends (CloseSign bracket) h l x after =
+SortStands o ends (CloseSign bracket) h l x after =
     Tailed ends h l (Close bracket) (step h) x after × ClosesInnermost bracket l.brackets
-Stands o ends CommaSign h l x after = Tailed ends h l Comma (step h) x after × NoneRequired l
-Stands o ends DashSign h l x after = DashLexeme o ends h l x after
-Stands o ends QuestionSign h l x after = QuestionStands o ends h l x after (is_in_flow l)
-Stands o ends ColonSign h l x after = ColonLexeme o ends h l x after
-Stands o ends AliasSign h l x after = NameLexeme ends h l (λ name. Alias name) x after
-Stands o ends AnchorSign h l x after = NameLexeme ends h l (λ name. Anchor name) x after
-Stands o ends TagSign h l x after = TagLexeme ends h l x after
-Stands o ends (BlockSign literal) h l x after = BlockLexeme literal ends h l x after
-Stands o ends sort h l x after = ⊥
+SortStands o ends CommaSign h l x after = Tailed ends h l Comma (step h) x after × NoneRequired l
+SortStands o ends DashSign h l x after = DashLexeme o ends h l x after
+SortStands o ends QuestionSign h l x after = QuestionStands o ends h l x after (is_in_flow l)
+SortStands o ends ColonSign h l x after = ColonLexeme o ends h l x after
+SortStands o ends AliasSign h l x after = NameLexeme ends h l (λ name. Alias name) x after
+SortStands o ends AnchorSign h l x after = NameLexeme ends h l (λ name. Anchor name) x after
+SortStands o ends TagSign h l x after = TagLexeme ends h l x after
+SortStands o ends (BlockSign literal) h l x after = BlockLexeme literal ends h l x after
+SortStands o ends sort h l x after = ⊥
 
 abbrev pub StreamStands : OptionsData → (ends : Bool) → LexemeSort → Here → Laid → Lexeme → (after : Here) → Type 0
 StreamStands o ends TextEnd h l x after = Untailed ends h l StreamEnd h x after × (l.brackets ≡ []) × NoneRequired l
@@ -219,7 +219,7 @@ GivenAlone o ends (Placed PlainSign) h l x after =
     (cut : Option Mark) × PlainLexeme o ends h l x cut after.here
     × (after.laid ≡ behind o (Placed PlainSign) x cut after.here h l)
 GivenAlone o ends (Placed sort) h l x after =
-    Stands o ends sort h l x after.here × (after.laid ≡ behind o (Placed sort) x None after.here h l)
+    SortStands o ends sort h l x after.here × (after.laid ≡ behind o (Placed sort) x None after.here h l)
 GivenAlone o ends sort h l x after =
     StreamStands o ends sort h l x after.here × (after.laid ≡ behind o sort x None after.here h l)
 

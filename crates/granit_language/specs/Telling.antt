@@ -118,22 +118,23 @@ abbrev pub alias_told : Written → Option ℕ → plain.EventKind
 alias_told name (Some n) = plain.Alias n
 alias_told name None = plain.UnresolvedAlias name
 
-abbrev pub told_by : OptionsData → TreeEventKind → Mark → Mark → Option ℕ → List PlainEvent
-told_by o StreamStarts from to indent = plain_told plain.StreamStart from to indent
-told_by o StreamEnds from to indent = plain_told plain.StreamEnd from to indent
-told_by o DocumentEnds from to indent = plain_told plain.DocumentEnd from to indent
-told_by o SequenceEnds from to indent = plain_told plain.SequenceEnd from to indent
-told_by o MappingEnds from to indent = plain_told plain.MappingEnd from to indent
-told_by o (DocumentStarts explicit version) from to indent =
+abbrev pub kind_told : OptionsData → TreeEventKind → Mark → Mark → Option ℕ → List PlainEvent
+kind_told o StreamStarts from to indent = plain_told plain.StreamStart from to indent
+kind_told o StreamEnds from to indent = plain_told plain.StreamEnd from to indent
+kind_told o DocumentEnds from to indent = plain_told plain.DocumentEnd from to indent
+kind_told o SequenceEnds from to indent = plain_told plain.SequenceEnd from to indent
+kind_told o MappingEnds from to indent = plain_told plain.MappingEnd from to indent
+kind_told o (DocumentStarts explicit version) from to indent =
     plain_told (plain.DocumentStart explicit (version_told version)) from to indent
-told_by o (AliasIs name s) from to indent =
+kind_told o (AliasIs name s) from to indent =
     plain_told (alias_told name (number_of_anchor name.characters s)) from to indent
-told_by o (ScalarIs p style text) from to indent = node_told o p (plain.Scalar text style) from to indent
-told_by o (SequenceStarts flow p) from to indent = node_told o p (plain.SequenceStart (style_told flow)) from to indent
-told_by o (MappingStarts flow p) from to indent = node_told o p (plain.MappingStart (style_told flow)) from to indent
+kind_told o (ScalarIs p style text) from to indent = node_told o p (plain.Scalar text style) from to indent
+kind_told o (SequenceStarts flow p) from to indent = node_told o p
+    (plain.SequenceStart (style_told flow)) from to indent
+kind_told o (MappingStarts flow p) from to indent = node_told o p (plain.MappingStart (style_told flow)) from to indent
 
 abbrev pub event_told : OptionsData → TreeEvent → List PlainEvent
-event_told o e = told_by o e.kind e.from e.to e.indent
+event_told o e = kind_told o e.kind e.from e.to e.indent
 
 -- all of them
 abbrev pub events_told : OptionsData → List TreeEvent → List PlainEvent

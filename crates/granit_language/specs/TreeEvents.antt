@@ -169,15 +169,16 @@ abbrev mutual
 
   pub flow_events : FlowLead → Bracket → List TreeEvent → List TreeEvent
   flow_events NoItem bracket more = more
-  flow_events (AfterItem lead item m) bracket more = flow_events lead bracket (item_events item bracket m.start more)
+  flow_events (AfterItem lead item m) bracket more = flow_events lead bracket
+      (flow_item_events item bracket m.start more)
 
   pub last_events : FlowLast → Bracket → At → List TreeEvent → List TreeEvent
   last_events NoLast bracket e more = more
-  last_events (LastItem item) bracket e more = item_events item bracket e.start more
+  last_events (LastItem item) bracket e more = flow_item_events item bracket e.start more
 
-  pub item_events : FlowItem → Bracket → Mark → List TreeEvent → List TreeEvent
-  item_events (Single t) bracket x more = node_events t None (solo bracket x more)
-  item_events (Paired pair) bracket x more =
+  pub flow_item_events : FlowItem → Bracket → Mark → List TreeEvent → List TreeEvent
+  flow_item_events (Single t) bracket x more = node_events t None (solo bracket x more)
+  flow_item_events (Paired pair) bracket x more =
       pair_opens bracket (pair_front pair) (pair_events pair (FlowIn bracket) x (pair_closes bracket x more))
 
 -- the first lexeme

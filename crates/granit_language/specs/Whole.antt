@@ -50,13 +50,13 @@ pub data ScopeCause (o : OptionsData) (front : List Terminal) : TerminalKind →
       ScopeCause o front (Directive (TagPrefix handle prefix)) DuplicateTagDirective
 
 -- a stream that keeps the limit begins so
-abbrev pub IsWithin : ℕ → List Terminal → Type 0
-IsWithin n xs = (s : Stream) × (spell_stream s [] ≡ xs) × StreamPlaced s × (stream_within n s ≡ true)
+abbrev pub BeginsWithin : ℕ → List Terminal → Type 0
+BeginsWithin n xs = (s : Stream) × (spell_stream s [] ≡ xs) × StreamPlaced s × (stream_within n s ≡ true)
 
 -- With these lexemes a reading begins: some stream that keeps the limit goes on with them, and each means something.
 pub record Viable (o : OptionsData) (xs : List Terminal) : Type 0 where
   pub more : List Terminal
-  pub within : IsWithin o.block_nesting_limit (scoped no_scope xs ++ more)
+  pub within : BeginsWithin o.block_nesting_limit (scoped no_scope xs ++ more)
   pub means : Means o (scoped no_scope xs)
 
 -- The last lexeme begins a block collection: a `-` a sequence, indentless or not, another one a mapping.
@@ -75,13 +75,13 @@ pub data LexemeCause (o : OptionsData) (front : List Terminal) (kind : TerminalK
   -- one does, but none that keeps the limit
   too_many :
       {indentless : Bool} (more : List Terminal) → IsSpelled (scoped no_scope front ++ (x ∷ more)) →
-      ((more : List Terminal) → IsWithin o.block_nesting_limit (scoped no_scope front ++ (x ∷ more)) → ⊥) →
+      ((more : List Terminal) → BeginsWithin o.block_nesting_limit (scoped no_scope front ++ (x ∷ more)) → ⊥) →
       BeginsBlock (scoped no_scope front ++ (x ∷ [])) kind indentless →
       LexemeCause o front kind x (TooManyBlocks indentless)
   -- one does that keeps it, but the lexeme means nothing
   means_nothing :
       {k : GrammarFault} (more : List Terminal) →
-      IsWithin o.block_nesting_limit (scoped no_scope front ++ (x ∷ more)) →
+      BeginsWithin o.block_nesting_limit (scoped no_scope front ++ (x ∷ more)) →
       ScopeCause o front kind k → LexemeCause o front kind x k
 
 -- Lexemes with which a reading begins, and the next one, with which none goes on, for a cause.

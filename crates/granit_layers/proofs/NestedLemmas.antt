@@ -5,7 +5,8 @@ use Rattle.std.specs.Option.{option_map}
 use Rattle.granit_base.specs.declared.place.Span.{Span}
 use Rattle.granit_event.specs.declared.event.Event.{Event}
 use Rattle.granit_event.specs.Events.{event_kind}
-use Rattle.granit_layers.specs.Nested.{IsOneDocument, PartFits, comes_through, given_above, given_from, those_through}
+use Rattle.granit_layers.specs.Nested.{IsOneDocument, PartMayStand, comes_through, given_above, given_from}
+use Rattle.granit_layers.specs.Nested.{those_through}
 use Rattle.granit_layers.specs.Turning.{part_of, turn_on}
 use Rattle.granit_layers.specs.declared.turn.Part.{Part}
 use Rattle.granit_layers.specs.declared.turn.Part.TheVariants as parts
@@ -14,7 +15,7 @@ use Rattle.granit_layers.specs.declared.turn.Part.TheVariants as parts
 one_event : (emits : Bool) (ended : Option Span) (e : Event × Span) (p : Part) (Fits : Bool → Type 0) (IsLast : Type 0)
     (more : Option Span → Option (List (Event × Span))) (rest : List (Event × Span))
     → ((end : Option Span) → Fits (is_some end) → more end ≡ Some rest) → (IsLast → rest ≡ [])
-    → PartFits (is_some ended) p Fits IsLast
+    → PartMayStand (is_some ended) p Fits IsLast
     → given_from ended (turn_on false emits ended e p) more ≡ Some (if comes_through emits p then e ∷ rest else rest)
 one_event emits ended e parts.StreamEnd Fits IsLast more rest on last fits = ap Some (sym (last fits))
 one_event true ended e parts.Comment Fits IsLast more rest on last fits =

@@ -9,9 +9,9 @@ use Rattle.granit_event.specs.declared.event.Event.{Event}
 use Rattle.granit_layers.proofs.NestedLemmas.{one_document}
 use Rattle.granit_layers.specs.Kinds.{StepsAny}
 use Rattle.granit_layers.specs.Nested.{IsOneDocument, given_above, given_from, those_through}
-use Rattle.granit_layers.specs.Passing.{StackRun, GivesBelow, GivesFirstOf, LooksAreTurns, Passes, ReplayComesThrough}
+use Rattle.granit_layers.specs.Passing.{StackRun, GivesBelow, GivesFirstOf, LooksAreTurns, PassesOn, ReplayComesThrough}
 use Rattle.granit_layers.specs.Passing.{Replays, Turns, giving_turn, held, no_call, no_turn, one_call, quiet_turn}
-use Rattle.granit_layers.specs.Stacking.{Answer, ComesNext, ComesOf, Stack, TurnsOnce, TurnsTo, Uncovers, Withheld}
+use Rattle.granit_layers.specs.Stacking.{Answer, ComesNext, ComesOf, Stack, TurnsOnce, TurnsToFirst, Uncovers, Withheld}
 use Rattle.granit_layers.specs.Stacking.{layer_of, none_yet, one_more}
 use Rattle.granit_layers.specs.Turning.{Next, ended_behind, turn_of}
 use Rattle.granit_layers.specs.declared.kinds.AnyKind.{AnyKind}
@@ -55,9 +55,9 @@ module _ {S : Type 0} (steps : S → Next → S → Type 0) (offset : S → ℕ)
   -- where nothing was looked at an event comes from turns
   comes_turns : (peeked : Option Answer) (end : Option (Result (Unit {0}) Refused)) (old new : List (Layer S))
       (e : Event × Span) → peeked ≡ None → ComesNext steps offset sets emits peeked end old (Some (Ok e)) new
-      → TurnsTo steps offset sets emits old (Ok e) new
+      → TurnsToFirst steps offset sets emits old (Ok e) new
   comes_turns None None old new e none (x, is, inl turns) =
-      let same : x ≡ Ok e = cc in subst (λ (a : Answer). TurnsTo steps offset sets emits old a new) same turns
+      let same : x ≡ Ok e = cc in subst (λ (a : Answer). TurnsToFirst steps offset sets emits old a new) same turns
   comes_turns None None old new e none (x, is, inr out) =
       let h = out.refused in
       let same : ◌≡◌ {A = Option Answer} (Some (Ok e)) (Some (Err out.error)) = is ∙ ap Some h in
@@ -69,7 +69,7 @@ module _ {S : Type 0} (steps : S → Next → S → Type 0) (offset : S → ℕ)
 
   module _ (again : Replay → S) (replays : Replays steps again) (k : Layer S) (ks : List (Layer S)) where
     abbrev Passed : Events → Events → List (Layer S) → Type 0
-    Passed = Passes steps offset sets emits (k ∷ ks)
+    Passed = PassesOn steps offset sets emits (k ∷ ks)
 
     -- it lies on these
     record Lies (ls : List (Layer S)) (p : Replay) (ended : Option Span) : Type 0 where
@@ -231,7 +231,7 @@ module _ {S : Type 0} (steps : S → Next → S → Type 0) (offset : S → ℕ)
     unseen : (p q : Stack S) (name : Written) (r : Replay) (k : Layer S) (ks : List (Layer S)) (emits : Bool)
         (xs : Events) → p.layers ≡ layer_of (again r) name ∷ k ∷ ks → IsOneDocument false r.events → p.peeked ≡ None
         → p.emits_comments ≡ emits → StackRun steps offset sets p xs q
-        → Passes steps offset sets emits (k ∷ ks) (those_through emits r.events) xs q.layers
+        → PassesOn steps offset sets emits (k ∷ ks) (those_through emits r.events) xs q.layers
     unseen p q name r k ks emits xs layers one none same calls =
         through steps offset sets emits again replays k ks p.layers q.layers xs r None (those_through emits r.events)
         (record { layer = layer_of (again r) name; is = layers; parser = refl; ends = refl })
@@ -249,7 +249,8 @@ module _ {S : Type 0} (steps : S → Next → S → Type 0) (offset : S → ℕ)
     seen : (p q : Stack S) (name : Written) (r : Replay) (k : Layer S) (ks : List (Layer S)) (peeked : Option Answer)
         (xs : Events) → p.layers ≡ layer_of (again r) name ∷ k ∷ ks → IsOneDocument false r.events → p.peeked ≡ peeked
         → StackRun steps offset sets p xs q
-        → Passes steps offset sets p.emits_comments (k ∷ ks) (held peeked ++ those_through p.emits_comments r.events) xs
+        → PassesOn steps offset sets p.emits_comments (k ∷ ks)
+        (held peeked ++ those_through p.emits_comments r.events) xs
         q.layers
     seen p q name r k ks None xs layers one is calls =
         unseen p q name r k ks p.emits_comments xs layers one is refl calls

@@ -6,7 +6,8 @@ use Rattle.granit_base.specs.Counts.{last_count}
 use Rattle.granit_base.specs.declared.place.Span.{Span}
 use Rattle.granit_error.specs.Refused.{Refused}
 use Rattle.granit_event.specs.declared.event.Event.{Event}
-use Rattle.granit_layers.specs.Sending.{GivesOn, RunsOut, SendsAll, SendsBefore, SendsUpTo, none_given, one_given}
+use Rattle.granit_layers.specs.Sending.{RunsOut, SendsAll, SendsBefore, StackSendsOn, StackSendsUpTo, none_given}
+use Rattle.granit_layers.specs.Sending.{one_given}
 use Rattle.granit_layers.specs.Stacking.{Stack, StepsTo}
 use Rattle.granit_layers.specs.Turning.{Next}
 use Rattle.granit_receivers.proofs.TakingLemmas.{took_more, took_none}
@@ -18,7 +19,7 @@ module _ {S : Type 0} (steps : S → Next → S → Type 0) (offset : S → ℕ)
   pub record SentFirst (n : ℕ) (initial now : Stack S) (old new : Told) : Type 0 where
     pub first : List (Event × Span)
     pub counted : length first ≡ n
-    pub gives : GivesOn steps offset sets multi initial first now
+    pub gives : StackSendsOn steps offset sets multi initial first now
     pub took : Took old new first
 
   pub sent_none : (p : Stack S) (t : Told) → SentFirst 0 p p t t
@@ -68,6 +69,6 @@ module _ {S : Type 0} (steps : S → Next → S → Type 0) (offset : S → ℕ)
 
     -- the receiver refuses one
     pub sent_up_to : (new : Told) (e : Event × Span) → StepsTo steps offset sets now (Some (Ok e)) after
-        → Took mid new (e ∷ []) → SendsUpTo steps offset sets multi (Took old new) initial after
+        → Took mid new (e ∷ []) → StackSendsUpTo steps offset sets multi (Took old new) initial after
     sent_up_to new e step takes =
         (s.first, now, e, s.gives, step, took_more old mid new s.first (e ∷ []) s.took takes)

@@ -13,7 +13,7 @@ use Rattle.granit_error.specs.Refused.{Refused}
 use Rattle.granit_event.specs.declared.event.Event.{Event}
 use Rattle.granit_event.specs.Events.{event_kind}
 use Rattle.granit_layers.specs.Stacking.{Answer, ComesNext, ComesOf, IsNamed, IsPlaced, LiesBelow, PeeksAs, Pushes}
-use Rattle.granit_layers.specs.Stacking.{Reads, Stack, TurnsLayer, TurnsOnce, Withheld, first_given, gives_first}
+use Rattle.granit_layers.specs.Stacking.{Stack, StackReads, TurnsLayer, TurnsOnce, Withheld, first_given, gives_first}
 use Rattle.granit_layers.specs.Stacking.{is_ending, is_none_left, layer_of, layers_of, names_of, one_more, turns_in}
 use Rattle.granit_layers.specs.Turning.{Next, part_of}
 use Rattle.granit_layers.specs.declared.layer.Layer.{Layer}
@@ -91,7 +91,7 @@ withheld_more steps offset sets emits now n old mid new same before turns = reco
 -- too many do
 pub withheld_long : {S : Type 0} (steps : S → Next → S → Type 0) (offset : S → ℕ) (sets : ℕ → S → S → Type 0)
     (emits : Bool) (n : ℕ) (old new : List (Layer S)) (e : Refused) → WithheldTimes steps offset sets emits n old new
-    → n ≡ last_count → e.kind ≡ NoMemory → Reads steps offset sets emits old (Err e) new
+    → n ≡ last_count → e.kind ≡ NoMemory → StackReads steps offset sets emits old (Err e) new
 withheld_long steps offset sets emits n old new e before all kind = inr (record {
   error = e;
   refused = refl;
@@ -104,7 +104,7 @@ withheld_long steps offset sets emits n old new e before all kind = inr (record 
 pub reads_first : {S : Type 0} (steps : S → Next → S → Type 0) (offset : S → ℕ) (sets : ℕ → S → S → Type 0)
     (emits now : Bool) (n : ℕ) (old mid new : List (Layer S)) (r : Answer) → now ≡ emits
     → WithheldTimes steps offset sets emits n old mid → TurnsOnce steps offset sets now mid (Some r) new
-    → Reads steps offset sets emits old r new
+    → StackReads steps offset sets emits old r new
 reads_first steps offset sets emits now n old mid new r same before turns =
     inl (mid, before.turns, subst (λ b. TurnsOnce steps offset sets b mid (Some r) new) same turns)
 
@@ -139,7 +139,7 @@ module _ {S : Type 0} (steps : S → Next → S → Type 0) (offset : S → ℕ)
 
   -- else what is read
   pub comes_read : (peeked : Option Answer) (end : Option (Result (Unit {0}) Refused)) (old new : List (Layer S))
-      (x : Answer) → peeked ≡ None → is_some end ≡ false → Reads steps offset sets emits old x new
+      (x : Answer) → peeked ≡ None → is_some end ≡ false → StackReads steps offset sets emits old x new
       → ComesNext steps offset sets emits peeked end old (Some x) new
   comes_read None None old new x unseen on reads = (x, refl, reads)
   comes_read None (Some e) old new x unseen on reads = absurd cc
@@ -147,7 +147,7 @@ module _ {S : Type 0} (steps : S → Next → S → Type 0) (offset : S → ℕ)
 
   -- a look shows what is read
   pub peeks_read : (old mid new : Stack S) (x : Answer) → old.emits_comments ≡ emits → old.peeked ≡ None
-      → is_some old.end ≡ false → Reads steps offset sets emits old.layers x mid.layers
+      → is_some old.end ≡ false → StackReads steps offset sets emits old.layers x mid.layers
       → mid ≡ record old { layers = mid.layers } → new ≡ record mid { peeked = Some x }
       → PeeksAs steps offset sets old new.peeked new
   peeks_read old mid new x same unseen on reads read put =

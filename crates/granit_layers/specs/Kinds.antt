@@ -20,11 +20,11 @@ SetsAny a b c d offset (Third p) (Third q) = c offset p q
 SetsAny a b c d offset (Fourth p) (Fourth q) = d offset p q
 SetsAny a b c d offset p q = ⊥
 
-abbrev pub number_of : {A B C D : Type 0} → (A → ℕ) → (B → ℕ) → (C → ℕ) → (D → ℕ) → AnyKind A B C D → ℕ
-number_of a b c d (First p) = a p
-number_of a b c d (Second p) = b p
-number_of a b c d (Third p) = c p
-number_of a b c d (Fourth p) = d p
+abbrev pub number_by_kind : {A B C D : Type 0} → (A → ℕ) → (B → ℕ) → (C → ℕ) → (D → ℕ) → AnyKind A B C D → ℕ
+number_by_kind a b c d (First p) = a p
+number_by_kind a b c d (Second p) = b p
+number_by_kind a b c d (Third p) = c p
+number_by_kind a b c d (Fourth p) = d p
 
 abbrev pub number_over : {A B C D : Type 0} → (A → ℕ → ℕ) → (B → ℕ → ℕ) → (C → ℕ → ℕ) → (D → ℕ → ℕ)
     → AnyKind A B C D → ℕ → ℕ

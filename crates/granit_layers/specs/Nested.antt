@@ -29,18 +29,18 @@ given_above emits_comments ended (e ∷ es) =
 
 -- where a part may stand in a source of at most one document: behind the document's end only comments do, and behind
 -- the stream's end nothing
-abbrev pub PartFits : (ended : Bool) → Part → (More : Bool → Type 0) → (IsLast : Type 0) → Type 0
-PartFits ended parts.StreamEnd More IsLast = IsLast
-PartFits ended parts.Comment More IsLast = More ended
-PartFits true part More IsLast = ⊥
-PartFits false parts.DocumentEnd More IsLast = More true
-PartFits false part More IsLast = More false
+abbrev pub PartMayStand : (ended : Bool) → Part → (More : Bool → Type 0) → (IsLast : Type 0) → Type 0
+PartMayStand ended parts.StreamEnd More IsLast = IsLast
+PartMayStand ended parts.Comment More IsLast = More ended
+PartMayStand true part More IsLast = ⊥
+PartMayStand false parts.DocumentEnd More IsLast = More true
+PartMayStand false part More IsLast = More false
 
 -- a source of at most one document, which has ended or not
 abbrev pub IsOneDocument : (ended : Bool) → List (Event × Span) → Type 0
 IsOneDocument ended [] = Unit {0}
 IsOneDocument ended (e ∷ es) =
-    PartFits ended (part_of (event_kind e.0)) (λ behind. IsOneDocument behind es) (es ≡ [])
+    PartMayStand ended (part_of (event_kind e.0)) (λ behind. IsOneDocument behind es) (es ≡ [])
 
 -- whether an event comes through: no stream and no document begins or ends, and comments are asked for
 abbrev pub comes_through : (emits_comments : Bool) → Part → Bool

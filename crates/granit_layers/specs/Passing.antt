@@ -67,10 +67,10 @@ GivesBelow steps offset sets emits_comments below all given new =
     × ((top : Layer _) × (left : List (Layer _)) × Uncovers offset sets (top ∷ below) left
     × Turns steps offset sets emits_comments left more new)
 
-abbrev pub Passes : {S : Type 0} → (steps : S → Next → S → Type 0) → (offset : S → ℕ)
+abbrev pub PassesOn : {S : Type 0} → (steps : S → Next → S → Type 0) → (offset : S → ℕ)
     → (sets : ℕ → S → S → Type 0) → (emits_comments : Bool) → (below : List (Layer S)) → List (Event × Span)
     → List (Event × Span) → List (Layer S) → Type 0
-Passes steps offset sets emits_comments below all given new =
+PassesOn steps offset sets emits_comments below all given new =
     GivesFirstOf all given ⊎ GivesBelow steps offset sets emits_comments below all given new
 
 -- Events of at most one document that are given once more above another parser: steps of the stack give first what was
@@ -81,5 +81,5 @@ abbrev pub ReplayComesThrough : {S : Type 0} → (steps : S → Next → S → T
 ReplayComesThrough steps offset sets again =
     (p q : Stack _) (name : Written) (r : Replay) (k : Layer _) (ks : List (Layer _)) (given : List (Event × Span))
     → p.layers ≡ layer_of (again r) name ∷ k ∷ ks → IsOneDocument false r.events → StackRun steps offset sets p given q
-    → Passes steps offset sets p.emits_comments (k ∷ ks)
+    → PassesOn steps offset sets p.emits_comments (k ∷ ks)
     (held p.peeked ++ those_through p.emits_comments r.events) given q.layers

@@ -19,12 +19,12 @@ failure_of (Some (Ok x)) = None
 failure_of (Some (Err e)) = Some e
 
 -- one by one these events are given, and none of them is the last that is sent
-pub data GivesOn {S : Type 0} (steps : S → Next → S → Type 0) (offset : S → ℕ) (sets : ℕ → S → S → Type 0)
+pub data StackSendsOn {S : Type 0} (steps : S → Next → S → Type 0) (offset : S → ℕ) (sets : ℕ → S → S → Type 0)
     (multi : Bool) : Stack S → List (Event × Span) → Stack S → Type 0 where
-  none_given : {p : Stack S} → GivesOn steps offset sets multi p [] p
+  none_given : {p : Stack S} → StackSendsOn steps offset sets multi p [] p
   one_given : {p mid q : Stack S} {es : List (Event × Span)} {e : Event × Span}
-      → GivesOn steps offset sets multi p es mid → StepsTo steps offset sets mid (Some (Ok e)) q
-      → ends_with multi e ≡ false → GivesOn steps offset sets multi p (es ++ e ∷ []) q
+      → StackSendsOn steps offset sets multi p es mid → StepsTo steps offset sets mid (Some (Ok e)) q
+      → ends_with multi e ≡ false → StackSendsOn steps offset sets multi p (es ++ e ∷ []) q
 
 -- an event is sent behind these, and it is the last
 pub record SendsLast {S : Type 0} (steps : S → Next → S → Type 0) (offset : S → ℕ) (sets : ℕ → S → S → Type 0)
@@ -51,7 +51,7 @@ pub record RunsOut {S : Type 0} (old : Stack S) (e : Refused) (new : Stack S) : 
 abbrev pub SendsAll : {S : Type 0} → (steps : S → Next → S → Type 0) → (offset : S → ℕ)
     → (sets : ℕ → S → S → Type 0) → (multi : Bool) → (List (Event × Span) → Type 0) → Stack S → Stack S → Type 0
 SendsAll steps offset sets multi Takes old new =
-    (es : List (Event × Span)) × (mid : Stack _) × GivesOn steps offset sets multi old es mid
+    (es : List (Event × Span)) × (mid : Stack _) × StackSendsOn steps offset sets multi old es mid
     × (SendsNoMore steps offset sets Takes es mid new ⊎ SendsLast steps offset sets multi Takes es mid new)
 
 -- all is sent that comes before a refusal, or 2^64 - 1 events are
@@ -59,27 +59,28 @@ abbrev pub SendsBefore : {S : Type 0} → (steps : S → Next → S → Type 0) 
     → (sets : ℕ → S → S → Type 0) → (multi : Bool) → (List (Event × Span) → Type 0) → Stack S → Refused → Stack S
     → Type 0
 SendsBefore steps offset sets multi Takes old e new =
-    (es : List (Event × Span)) × (mid : Stack _) × GivesOn steps offset sets multi old es mid × Takes es
+    (es : List (Event × Span)) × (mid : Stack _) × StackSendsOn steps offset sets multi old es mid × Takes es
     × (StepsTo steps offset sets mid (Some (Err e)) new ⊎ (RunsOut mid e new × (length es ≡ last_count)))
 
 -- all is sent that comes up to an event that the receiver refuses, which it took
-abbrev pub SendsUpTo : {S : Type 0} → (steps : S → Next → S → Type 0) → (offset : S → ℕ)
+abbrev pub StackSendsUpTo : {S : Type 0} → (steps : S → Next → S → Type 0) → (offset : S → ℕ)
     → (sets : ℕ → S → S → Type 0) → (multi : Bool) → (List (Event × Span) → Type 0) → Stack S → Stack S → Type 0
-SendsUpTo steps offset sets multi Takes old new =
-    (es : List (Event × Span)) × (mid : Stack _) × (e : Event × Span) × GivesOn steps offset sets multi old es mid
+StackSendsUpTo steps offset sets multi Takes old new =
+    (es : List (Event × Span)) × (mid : Stack _) × (e : Event × Span) × StackSendsOn steps offset sets multi old es mid
     × StepsTo steps offset sets mid (Some (Ok e)) new × Takes (es ++ e ∷ [])
 
 -- what `load` sends and answers
-abbrev pub Loads : {S X : Type 0} → (steps : S → Next → S → Type 0) → (offset : S → ℕ)
+abbrev pub StackLoads : {S X : Type 0} → (steps : S → Next → S → Type 0) → (offset : S → ℕ)
     → (sets : ℕ → S → S → Type 0) → (multi : Bool) → (List (Event × Span) → Type 0) → Stack S → Result X Refused
     → Stack S → Type 0
-Loads steps offset sets multi Takes old (Ok x) new = SendsAll steps offset sets multi Takes old new
-Loads steps offset sets multi Takes old (Err e) new = SendsBefore steps offset sets multi Takes old e new
+StackLoads steps offset sets multi Takes old (Ok x) new = SendsAll steps offset sets multi Takes old new
+StackLoads steps offset sets multi Takes old (Err e) new = SendsBefore steps offset sets multi Takes old e new
 
 -- what `try_load` sends and answers
-abbrev pub Tries : {S X E : Type 0} → (steps : S → Next → S → Type 0) → (offset : S → ℕ)
+abbrev pub StackTries : {S X E : Type 0} → (steps : S → Next → S → Type 0) → (offset : S → ℕ)
     → (sets : ℕ → S → S → Type 0) → (multi : Bool) → (List (Event × Span) → Type 0) → Stack S
     → Result X (TryLoadError E) → Stack S → Type 0
-Tries steps offset sets multi Takes old (Ok x) new = SendsAll steps offset sets multi Takes old new
-Tries steps offset sets multi Takes old (Err (Scan e)) new = SendsBefore steps offset sets multi Takes old e new
-Tries steps offset sets multi Takes old (Err (Receiver e)) new = SendsUpTo steps offset sets multi Takes old new
+StackTries steps offset sets multi Takes old (Ok x) new = SendsAll steps offset sets multi Takes old new
+StackTries steps offset sets multi Takes old (Err (Scan e)) new = SendsBefore steps offset sets multi Takes old e new
+StackTries steps offset sets multi Takes old (Err (Receiver e)) new = StackSendsUpTo steps offset
+    sets multi Takes old new

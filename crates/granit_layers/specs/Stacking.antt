@@ -38,9 +38,9 @@ LiesBelow None below = below ≡ []
 LiesBelow (Some top) below = Unit {0}
 
 -- nothing is looked at behind the end
-abbrev pub EndsBehind : Option Answer → Option (Result (Unit {0}) Refused) → Type 0
-EndsBehind None end = Unit {0}
-EndsBehind (Some r) end = end ≡ None
+abbrev pub NoLookBehindEnd : Option Answer → Option (Result (Unit {0}) Refused) → Type 0
+NoLookBehindEnd None end = Unit {0}
+NoLookBehindEnd (Some r) end = end ≡ None
 
 abbrev pub is_stream_end : Part → Bool
 is_stream_end parts.StreamEnd = true
@@ -132,9 +132,9 @@ turns_in none_yet = 0
 turns_in (one_more before turn) = turns_in before + 1
 
 -- turns up to the first that gives something
-abbrev pub TurnsTo : {S : Type 0} → (steps : S → Next → S → Type 0) → (offset : S → ℕ)
+abbrev pub TurnsToFirst : {S : Type 0} → (steps : S → Next → S → Type 0) → (offset : S → ℕ)
     → (sets : ℕ → S → S → Type 0) → (emits_comments : Bool) → List (Layer S) → Answer → List (Layer S) → Type 0
-TurnsTo steps offset sets emits_comments old r new =
+TurnsToFirst steps offset sets emits_comments old r new =
     (mid : List (Layer _)) × Withheld steps offset sets emits_comments old mid
     × TurnsOnce steps offset sets emits_comments mid (Some r) new
 
@@ -148,10 +148,10 @@ pub record TurnsTooLong {S : Type 0} (steps : S → Next → S → Type 0) (offs
   pub counted : turns_in turns ≡ last_count
 
 -- the same, or there are too many
-abbrev pub Reads : {S : Type 0} → (steps : S → Next → S → Type 0) → (offset : S → ℕ)
+abbrev pub StackReads : {S : Type 0} → (steps : S → Next → S → Type 0) → (offset : S → ℕ)
     → (sets : ℕ → S → S → Type 0) → (emits_comments : Bool) → List (Layer S) → Answer → List (Layer S) → Type 0
-Reads steps offset sets emits_comments old r new =
-    TurnsTo steps offset sets emits_comments old r new
+StackReads steps offset sets emits_comments old r new =
+    TurnsToFirst steps offset sets emits_comments old r new
     ⊎ TurnsTooLong steps offset sets emits_comments old r new
 
 abbrev pub EndsOn : Event × Span → Part → Option (Result (Unit {0}) Refused) → Option (Result (Unit {0}) Refused)
@@ -160,10 +160,10 @@ EndsOn e parts.StreamEnd old new = new ≡ Some (Ok tt)
 EndsOn e part old new = new ≡ old
 
 -- the end of the stream and a refusal end a stack, and nothing else does
-abbrev pub EndsWith : Option Answer → Option (Result (Unit {0}) Refused) → Option (Result (Unit {0}) Refused) → Type 0
-EndsWith None old new = new ≡ old
-EndsWith (Some (Ok e)) old new = EndsOn e (part_of (event_kind e.0)) old new
-EndsWith (Some (Err e)) old new = (kept : Refused) × (new ≡ Some (Err kept)) × IsKept e kept
+abbrev pub EndsStack : Option Answer → Option (Result (Unit {0}) Refused) → Option (Result (Unit {0}) Refused) → Type 0
+EndsStack None old new = new ≡ old
+EndsStack (Some (Ok e)) old new = EndsOn e (part_of (event_kind e.0)) old new
+EndsStack (Some (Err e)) old new = (kept : Refused) × (new ≡ Some (Err kept)) × IsKept e kept
 
 -- What comes next: what was looked at; nothing behind the end; else what the turns of the stack give.
 abbrev pub ComesNext : {S : Type 0} → (steps : S → Next → S → Type 0) → (offset : S → ℕ)
@@ -172,14 +172,14 @@ abbrev pub ComesNext : {S : Type 0} → (steps : S → Next → S → Type 0) �
 ComesNext steps offset sets emits_comments (Some x) end old r new = (r ≡ Some x) × (new ≡ old)
 ComesNext steps offset sets emits_comments None (Some x) old r new = (r ≡ None) × (new ≡ old)
 ComesNext steps offset sets emits_comments None None old r new =
-    (x : Answer) × (r ≡ Some x) × Reads steps offset sets emits_comments old x new
+    (x : Answer) × (r ≡ Some x) × StackReads steps offset sets emits_comments old x new
 
 -- a step of a stack
 pub record StepsTo {S : Type 0} (steps : S → Next → S → Type 0) (offset : S → ℕ) (sets : ℕ → S → S → Type 0)
     (old : Stack S) (r : Option Answer) (new : Stack S) : Type 0 where
   pub gives : ComesNext steps offset sets old.emits_comments old.peeked old.end old.layers r new.layers
   pub peeked : new.peeked ≡ None
-  pub end : EndsWith r old.end new.end
+  pub end : EndsStack r old.end new.end
   pub emits_comments : new.emits_comments ≡ old.emits_comments
 
 -- a look shows what the next step gives, and keeps it for that

@@ -25,11 +25,11 @@ where
     C: StackedParser<'input>,
     D: StackedParser<'input>,
 {
-    ghost use Rattle.granit_layers.specs.Kinds.{SetsAny, StepsAny, number_of, number_over};
+    ghost use Rattle.granit_layers.specs.Kinds.{SetsAny, StepsAny, number_by_kind, number_over};
 
     ghost steps = { StepsAny A.steps B.steps C.steps D.steps };
 
-    ghost offset_of = { number_of A.offset_of B.offset_of C.offset_of D.offset_of };
+    ghost offset_of = { number_by_kind A.offset_of B.offset_of C.offset_of D.offset_of };
 
     ghost sets_offset = { SetsAny A.sets_offset B.sets_offset C.sets_offset D.sets_offset };
 

@@ -4,7 +4,7 @@ ghost use Rattle.std.specs.Prelude.{◌≡◌, [], ◌∷◌, ◌++◌, false, N
 ghost use Rattle.std.specs.Str.{chars};
 ghost use Rattle.std.specs.Borrow.{sem};
 ghost use Rattle.std.specs.Io.BufRead.{Rests};
-ghost use Rattle.granit_layers.specs.Stacking.{ComesNext, EndsWith, IsNamed, PeeksAs, Pushes, Reads, StepsTo};
+ghost use Rattle.granit_layers.specs.Stacking.{ComesNext, EndsStack, IsNamed, PeeksAs, Pushes, StackReads, StepsTo};
 ghost use Rattle.granit_layers.specs.Stacking.{IsWithin, TurnsOnce, Uncovers, gives_first, is_ending, is_none_left};
 ghost use Rattle.granit_layers.specs.Stacking.{names_of, top_offset};
 ghost use Rattle.granit_layers.specs.contracts.layers.Layers.{the_row};
@@ -37,7 +37,7 @@ pub struct Layers<'input, S> {
 }
 
 impl<'input, S> Model for Layers<'input, S> {
-    ghost use Rattle.granit_layers.specs.Stacking.{EndsBehind, LiesBelow, Stack, layers_of};
+    ghost use Rattle.granit_layers.specs.Stacking.{LiesBelow, NoLookBehindEnd, Stack, layers_of};
 
     ghost Value = { Stack S };
 
@@ -48,7 +48,7 @@ impl<'input, S> Model for Layers<'input, S> {
       end = p.end;
     } };
 
-    ghost invariant = { λ p. LiesBelow p.top p.below.items × EndsBehind p.peeked p.end };
+    ghost invariant = { λ p. LiesBelow p.top p.below.items × NoLookBehindEnd p.peeked p.end };
 }
 
 impl<'input, S: StackedParser<'input>> Layers<'input, S> {
@@ -243,7 +243,7 @@ impl<'input, S: StackedParser<'input>> Layers<'input, S> {
     /// The end of the stream, and a refusal, end the stack.
     fn end_with(&mut self, next: &Result<(Event<'input>, Span), ScanError>)
         requires { self.old.peeked ≡ None }
-        ensures end { EndsWith (Some next.now) self.old.end self.new.end }
+        ensures end { EndsStack (Some next.now) self.old.end self.new.end }
         ensures same { self.new ≡ record self.old { end = self.new.end } }
     {
         match next {
@@ -300,7 +300,7 @@ impl<'input, S: StackedParser<'input>> Layers<'input, S> {
 
     /// The first event that comes through, or why there is none.
     fn read_event(&mut self) -> Result<(Event<'input>, Span), ScanError>
-        ensures reads { Reads S.steps S.offset_of S.sets_offset self.old.emits_comments self.old.layers result
+        ensures reads { StackReads S.steps S.offset_of S.sets_offset self.old.emits_comments self.old.layers result
             self.new.layers }
         ensures same { self.new ≡ record self.old { layers = self.new.layers } }
     {

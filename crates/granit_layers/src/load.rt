@@ -1,6 +1,6 @@
 //! The events of a stack, sent to a receiver.
 ghost use Rattle.std.specs.Prelude.{◌≡◌, None, Some, Ok, Err, IfSome};
-ghost use Rattle.granit_layers.specs.Sending.{Loads, RunsOut, Tries, failure_of};
+ghost use Rattle.granit_layers.specs.Sending.{RunsOut, StackLoads, StackTries, failure_of};
 ghost use Rattle.granit_receivers.specs.Kept.{CountsErrors, GivesAgain, KeptAgain, ScansAgain};
 ghost use Rattle.granit_receivers.specs.Taking.{Took};
 
@@ -24,7 +24,7 @@ impl<'input, S: StackedParser<'input>> Layers<'input, S> {
         recv: &mut R,
         multi: bool,
     ) -> Result<(), ScanError>
-        ensures sent { failure_of self.old.end ≡ None → Loads S.steps S.offset_of S.sets_offset multi
+        ensures sent { failure_of self.old.end ≡ None → StackLoads S.steps S.offset_of S.sets_offset multi
             (Took (record { events = R.taken recv.old; places = R.spans recv.old })
             (record { events = R.taken recv.new; places = R.spans recv.new })) self.old result self.new }
         ensures again { IfSome (failure_of self.old.end) (λ e. GivesAgain e result × (recv.new ≡ recv.old)
@@ -59,7 +59,7 @@ impl<'input, S: StackedParser<'input>> Layers<'input, S> {
         recv: &mut R,
         multi: bool,
     ) -> Result<(), TryLoadError<R::Error>>
-        ensures sent { failure_of self.old.end ≡ None → Tries S.steps S.offset_of S.sets_offset multi
+        ensures sent { failure_of self.old.end ≡ None → StackTries S.steps S.offset_of S.sets_offset multi
             (Took (record { events = R.taken recv.old; places = R.spans recv.old })
             (record { events = R.taken recv.new; places = R.spans recv.new })) self.old result self.new }
         ensures again { IfSome (failure_of self.old.end) (λ e. ScansAgain e result × (recv.new ≡ recv.old)

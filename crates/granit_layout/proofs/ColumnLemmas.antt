@@ -6,7 +6,7 @@ use Rattle.std.proofs.lemmas.Bool.Decides.{nat_tests}
 use Rattle.std.proofs.lemmas.List.{length-reverse, reverse-append}
 use Rattle.granit_lexemes.specs.declared.layout.OpenColumn.{OpenColumn}
 use Rattle.granit_machine.specs.Columns.{widened, up_to_column}
-use Rattle.granit_layout.specs.Views.{marked_columns, columns_view, renewed}
+use Rattle.granit_layout.specs.Views.{marked_columns, columns_view, columns_renewed}
 
 marked_length : (wide : ℕ) (cs : List ℕ) → length (marked_columns wide cs) ≡ length cs
 marked_length wide [] = refl
@@ -42,7 +42,7 @@ fewer_wide wide cs =
     (λ n within. let inside : n < length cs = rw (← length-reverse cs) within in grind (arith, nat_tests, inside))
 
 innermost_narrow : (wide least : ℕ) (cs : List ℕ) → wide ≤ length cs → least ≡ min wide (length cs - 1)
-    → marked_columns least cs ≡ renewed (marked_columns wide cs)
+    → marked_columns least cs ≡ columns_renewed (marked_columns wide cs)
 innermost_narrow wide least [] fit is = refl
 innermost_narrow wide least (c ∷ cs) fit is =
     let narrow : nat_lt (length cs) least ≡ false = grind (arith, nat_tests, fit, is) in
@@ -51,7 +51,7 @@ innermost_narrow wide least (c ∷ cs) fit is =
 
 -- all but the innermost stay wide
 pub renewed_columns : (wide : ℕ) (cs : List ℕ) → wide ≤ length cs
-    → columns_view (min wide (length cs - 1)) cs ≡ renewed (columns_view wide cs)
+    → columns_view (min wide (length cs - 1)) cs ≡ columns_renewed (columns_view wide cs)
 renewed_columns wide cs fit =
     innermost_narrow wide _ (reverse cs) (rw length-reverse fit) (rw length-reverse refl)
 

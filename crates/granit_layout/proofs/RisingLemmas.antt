@@ -16,32 +16,33 @@ use Rattle.granit_error.specs.OptionsData.{OptionsData}
 use Rattle.granit_lexemes.specs.declared.layout.OpenBracket.{OpenBracket}
 use Rattle.granit_lexemes.specs.declared.layout.PossibleKey.{PossibleKey}
 use Rattle.granit_machine.specs.PossibleKeys.{fresh_bracket, fresh_key, is_of, is_stale}
-use Rattle.granit_layout.specs.Rising.{InOrder, UpTo, Rising, is_behind, is_from, goes_on, with_new, with_key}
+use Rattle.granit_layout.specs.Rising.{KeysInOrder, KeyUpTo, Rising, is_behind, is_from, key_not_before, with_new}
+use Rattle.granit_layout.specs.Rising.{with_key}
 use Rattle.granit_layout.specs.declared.rising.KeyOrder.{KeyOrder}
 
 -- ---- keys
 
-then_none : (k : Option PossibleKey) → InOrder k None
+then_none : (k : Option PossibleKey) → KeysInOrder k None
 then_none None = tt
 then_none (Some k) = tt
 
-through : (a : Option PossibleKey) (b c : PossibleKey) → InOrder a (Some b)
-    → is_behind b.number b.start.place.index c ≡ true → InOrder a (Some c)
+through : (a : Option PossibleKey) (b c : PossibleKey) → KeysInOrder a (Some b)
+    → is_behind b.number b.start.place.index c ≡ true → KeysInOrder a (Some c)
 through None b c p q = tt
 through (Some a) b c p q = (grind (arith, nat_tests, p.0, q), grind (arith, nat_tests, p.1, q))
 
-from_bounds : (number index : ℕ) (a : Option PossibleKey) (b : PossibleKey) → UpTo number index a
-    → is_behind number index b ≡ true → InOrder a (Some b)
+from_bounds : (number index : ℕ) (a : Option PossibleKey) (b : PossibleKey) → KeyUpTo number index a
+    → is_behind number index b ≡ true → KeysInOrder a (Some b)
 from_bounds number index None b p q = tt
 from_bounds number index (Some a) b p q = (grind (arith, nat_tests, p.0, q), grind (arith, nat_tests, p.1, q))
 
 further : (number index more last : ℕ) (a : Option PossibleKey) → number ≤ more → index ≤ last
-    → UpTo number index a → UpTo more last a
+    → KeyUpTo number index a → KeyUpTo more last a
 further number index more last None p q u = tt
 further number index more last (Some a) p q u = (omega arith, omega arith)
 
-going_on : (a old : Option PossibleKey) (new : PossibleKey) → InOrder a old → goes_on old new ≡ true
-    → InOrder a (Some new)
+going_on : (a old : Option PossibleKey) (new : PossibleKey) → KeysInOrder a old → key_not_before old new ≡ true
+    → KeysInOrder a (Some new)
 going_on a None new p q = absurd (true≢false (sym q))
 going_on a (Some b) new p q = through a b new p q
 
@@ -67,10 +68,10 @@ pushed o bs b none r =
           (λ last. let at : get_or (bs ++ b ∷ []) i d ≡ b = grind (arith, common_steps) in rw at none)
           (cases_lt i (length bs));
       order = λ told.
-          all_pairs_push (λ a c. InOrder a.key c.key) bs b (r.order told)
-          (λ k d low. subst (λ key. InOrder (get_or bs k d).key key) (sym none) (then_none _));
-      behind = All-push (λ c. UpTo o.number o.index c.key) bs b r.behind
-          (subst (λ key. UpTo o.number o.index key) (sym none) tt);
+          all_pairs_push (λ a c. KeysInOrder a.key c.key) bs b (r.order told)
+          (λ k d low. subst (λ key. KeysInOrder (get_or bs k d).key key) (sym none) (then_none _));
+      behind = All-push (λ c. KeyUpTo o.number o.index c.key) bs b r.behind
+          (subst (λ key. KeyUpTo o.number o.index key) (sym none) tt);
     }
 
 -- a bracket less
@@ -96,13 +97,13 @@ cleared o bs j b within none r =
       outer = λ i d first low.
           at_set (λ c. c.key ≡ None) bs i j b d within (λ e. none) (λ n. r.outer i d first (omega arith));
       order = λ told i k d lt low.
-          at_set (λ a. InOrder a.key (get_or (set bs j b) k d).key) bs i j b d within
-          (λ e. subst (λ key. InOrder key (get_or (set bs j b) k d).key) (sym none) tt)
-          (λ n. at_set (λ c. InOrder (get_or bs i d).key c.key) bs k j b d within
-          (λ e. subst (λ key. InOrder (get_or bs i d).key key) (sym none) (then_none _))
+          at_set (λ a. KeysInOrder a.key (get_or (set bs j b) k d).key) bs i j b d within
+          (λ e. subst (λ key. KeysInOrder key (get_or (set bs j b) k d).key) (sym none) tt)
+          (λ n. at_set (λ c. KeysInOrder (get_or bs i d).key c.key) bs k j b d within
+          (λ e. subst (λ key. KeysInOrder (get_or bs i d).key key) (sym none) (then_none _))
           (λ m. r.order told i k d lt (omega arith)));
-      behind = All-set (λ c. UpTo o.number o.index c.key) bs j b
-          (subst (λ key. UpTo o.number o.index key) (sym none) tt) r.behind;
+      behind = All-set (λ c. KeyUpTo o.number o.index c.key) bs j b
+          (subst (λ key. KeyUpTo o.number o.index key) (sym none) tt) r.behind;
     }
 
 -- another key in the last bracket
@@ -113,13 +114,13 @@ renewed o bs j b new last is r =
     let p = with_new j b.key new o in
     let long : length (set bs j c) ≡ length bs = length-set bs j c in
     let within : j < length bs = omega arith in
-    let above : (i : ℕ) (d : OpenBracket) → p.rises ≡ true → i < j → InOrder (get_or bs i d).key (Some new) =
+    let above : (i : ℕ) (d : OpenBracket) → p.rises ≡ true → i < j → KeysInOrder (get_or bs i d).key (Some new) =
     λ i d told lt.
     let parts = and_parts o.rises _ told in
     ⊎_elim
     (λ behind. from_bounds o.number o.index (get_or bs i d).key new (r.behind i d (omega arith)) behind)
     (λ on. going_on (get_or bs i d).key b.key new
-    (subst (λ a. InOrder (get_or bs i d).key a.key) (get_or_default bs j d b within ∙ sym is)
+    (subst (λ a. KeysInOrder (get_or bs i d).key a.key) (get_or_default bs j d b within ∙ sym is)
     (r.order parts.0 i j d lt within)) on)
     (or_cases _ _ parts.1) in
     record {
@@ -127,10 +128,10 @@ renewed o bs j b new last is r =
           rw (get_or-set_other bs j i c d (λ e. omega arith)) (r.outer i d (omega arith) (omega arith));
       order = λ told i k d lt low.
           rw (get_or-set_other bs j i c d (λ e. omega arith))
-          (at_set (λ a. InOrder (get_or bs i d).key a.key) bs k j c d within
+          (at_set (λ a. KeysInOrder (get_or bs i d).key a.key) bs k j c d within
           (λ e. above i d told (omega arith))
           (λ m. r.order (and_parts o.rises _ told).0 i k d lt (omega arith)));
-      behind = All-set (λ a. UpTo p.number p.index a.key) bs j c (omega arith, omega arith)
+      behind = All-set (λ a. KeyUpTo p.number p.index a.key) bs j c (omega arith, omega arith)
           (λ k d low. further o.number o.index p.number p.index (get_or bs k d).key (omega arith) (omega arith)
           (r.behind k d low));
     }
@@ -161,7 +162,7 @@ fresh_later : (o : OptionsData) (m : Mark) (k l : PossibleKey) → k.start.place
 unfolding is_stale
 fresh_later o m k l later fresh = grind (arith, nat_tests, later, fresh)
 
-stays_fresh : (o : OptionsData) (m : Mark) (a : PossibleKey) (b : Option PossibleKey) → InOrder (Some a) b
+stays_fresh : (o : OptionsData) (m : Mark) (a : PossibleKey) (b : Option PossibleKey) → KeysInOrder (Some a) b
     → is_stale o true m a ≡ false → fresh_key o true m b ≡ b
 stays_fresh o m a None p e = refl
 stays_fresh o m a (Some l) p e = rw (fresh_later o m a l p.1 e) refl
@@ -204,10 +205,10 @@ rest_fresh o m k bs b key r rises within is holds fresh =
     (λ before. none_stays o m (get_or bs i d).key (r.outer i d before low))
     (λ behind. ⊎_elim
     (λ at. stays_fresh o m key (get_or bs i d).key
-    (subst (λ n. InOrder (Some key) (get_or bs n d).key) (sym at)
-    (subst (λ a. InOrder (Some key) a) (sym first) (omega arith, omega arith))) fresh)
+    (subst (λ n. KeysInOrder (Some key) (get_or bs n d).key) (sym at)
+    (subst (λ a. KeysInOrder (Some key) a) (sym first) (omega arith, omega arith))) fresh)
     (λ after. stays_fresh o m key (get_or bs i d).key
-    (subst (λ a. InOrder a (get_or bs i d).key) first (r.order rises k.first i d (omega arith) low)) fresh)
+    (subst (λ a. KeysInOrder a (get_or bs i d).key) first (r.order rises k.first i d (omega arith) low)) fresh)
     (cases_eq i k.first))
     (cases_lt i k.first))
 
@@ -240,23 +241,23 @@ outermost_goes o m bs i b d within is none =
     ∙ ap (λ (k : Option PossibleKey). record b { key = k }) (none_of (fresh_key o true m b.key) none))
 
 -- what all are freshened to is in order too
-fresh_order : (o : OptionsData) (m : Mark) (a b : Option PossibleKey) → InOrder a b
-    → InOrder (fresh_key o true m a) (fresh_key o true m b)
+fresh_order : (o : OptionsData) (m : Mark) (a b : Option PossibleKey) → KeysInOrder a b
+    → KeysInOrder (fresh_key o true m a) (fresh_key o true m b)
 fresh_order o m None b p = tt
 fresh_order o m (Some k) None p = then_none (fresh_key o true m (Some k))
 fresh_order o m (Some k) (Some l) p = on (is_stale o true m k) (is_stale o true m l)
   where
-    on : (v w : Bool) → InOrder (if v then None else Some k) (if w then None else Some l)
+    on : (v w : Bool) → KeysInOrder (if v then None else Some k) (if w then None else Some l)
     on true w = tt
     on false true = tt
     on false false = p
 
-fresh_up_to : (o : OptionsData) (m : Mark) (number index : ℕ) (a : Option PossibleKey) → UpTo number index a
-    → UpTo number index (fresh_key o true m a)
+fresh_up_to : (o : OptionsData) (m : Mark) (number index : ℕ) (a : Option PossibleKey) → KeyUpTo number index a
+    → KeyUpTo number index (fresh_key o true m a)
 fresh_up_to o m number index None p = tt
 fresh_up_to o m number index (Some k) p = on (is_stale o true m k)
   where
-    on : (v : Bool) → UpTo number index (if v then None else Some k)
+    on : (v : Bool) → KeyUpTo number index (if v then None else Some k)
     on true = tt
     on false = p
 
@@ -291,7 +292,7 @@ none_behind number k bs i b r rises within is from before = on (is_of number b.k
     same : (d : OpenBracket) → (get_or bs i d).key ≡ b.key
     same d = ap (λ (c : OpenBracket). c.key) (get_or_default bs i d b within ∙ sym is)
 
-    later : (a c : Option PossibleKey) → InOrder a c → is_from number a ≡ true → is_of number a ≡ false
+    later : (a c : Option PossibleKey) → KeysInOrder a c → is_from number a ≡ true → is_of number a ≡ false
         → is_of number c ≡ false
     later a None p f n = refl
     later None (Some l) p f n = absurd (true≢false (sym f))
@@ -309,7 +310,7 @@ none_behind number k bs i b r rises within is from before = on (is_of number b.k
         (λ more. ⊎_elim
         (λ at. subst (λ n. is_of number (get_or bs n d).key ≡ false) (sym at) (ap (is_of number) (same d) ∙ e))
         (λ apart. later b.key (get_or bs j d).key
-        (subst (λ a. InOrder a (get_or bs j d).key) (same d) (r.order rises i j d (omega arith) low)) from e)
+        (subst (λ a. KeysInOrder a (get_or bs j d).key) (same d) (r.order rises i j d (omega arith) low)) from e)
         (cases_eq j i))
         (cases_lt j i))
 

@@ -7,21 +7,21 @@ use Rattle.granit_lexemes.specs.declared.layout.PossibleKey.{PossibleKey}
 use Rattle.granit_layout.specs.declared.rising.KeyOrder.{KeyOrder}
 
 -- a key begins with no earlier lexeme than another one, and at no earlier place
-abbrev pub InOrder : Option PossibleKey → Option PossibleKey → Type 0
-InOrder None later = Unit {0}
-InOrder (Some k) None = Unit {0}
-InOrder (Some k) (Some l) = (k.number ≤ l.number) × (k.start.place.index ≤ l.start.place.index)
+abbrev pub KeysInOrder : Option PossibleKey → Option PossibleKey → Type 0
+KeysInOrder None later = Unit {0}
+KeysInOrder (Some k) None = Unit {0}
+KeysInOrder (Some k) (Some l) = (k.number ≤ l.number) × (k.start.place.index ≤ l.start.place.index)
 
 -- a key begins with no later lexeme than that of a number, and not behind an index
-abbrev pub UpTo : (number index : ℕ) → Option PossibleKey → Type 0
-UpTo number index None = Unit {0}
-UpTo number index (Some k) = (k.number ≤ number) × (k.start.place.index ≤ index)
+abbrev pub KeyUpTo : (number index : ℕ) → Option PossibleKey → Type 0
+KeyUpTo number index None = Unit {0}
+KeyUpTo number index (Some k) = (k.number ≤ number) × (k.start.place.index ≤ index)
 
 -- the first brackets hold no key; the keys rise, where that is told; and none is behind those that were set
 pub record Rising (o : KeyOrder) (bs : List OpenBracket) : Type 0 where
   pub outer : (i : ℕ) (d : OpenBracket) → i < o.first → i < length bs → (get_or bs i d).key ≡ None
-  pub order : o.rises ≡ true → AllPairs (λ a b. InOrder a.key b.key) bs
-  pub behind : All (λ b. UpTo o.number o.index b.key) bs
+  pub order : o.rises ≡ true → AllPairs (λ a b. KeysInOrder a.key b.key) bs
+  pub behind : All (λ b. KeyUpTo o.number o.index b.key) bs
 
 -- a key begins with the lexeme of a number or with a later one
 abbrev pub is_from : ℕ → Option PossibleKey → Bool
@@ -35,14 +35,14 @@ abbrev pub is_behind : (number index : ℕ) → PossibleKey → Bool
 is_behind number index k = nat_le number k.number && nat_le index k.start.place.index
 
 -- a key in the place of one that it is not before
-abbrev pub goes_on : Option PossibleKey → PossibleKey → Bool
-goes_on None new = false
-goes_on (Some old) new = is_behind old.number old.start.place.index new
+abbrev pub key_not_before : Option PossibleKey → PossibleKey → Bool
+key_not_before None new = false
+key_not_before (Some old) new = is_behind old.number old.start.place.index new
 
 abbrev pub with_new : ℕ → Option PossibleKey → PossibleKey → KeyOrder → KeyOrder
 with_new innermost old new o = record {
   first = min o.first innermost;
-  rises = o.rises && (is_behind o.number o.index new || goes_on old new);
+  rises = o.rises && (is_behind o.number o.index new || key_not_before old new);
   number = max o.number new.number;
   index = max o.index new.start.place.index;
 }

@@ -13,9 +13,9 @@ abbrev pub columns_view : ℕ → List ℕ → List OpenColumn
 columns_view wide columns = marked_columns wide (reverse columns)
 
 -- the innermost column's next entry begins
-abbrev pub renewed : List OpenColumn → List OpenColumn
-renewed [] = []
-renewed (c ∷ cs) = record c { is_wide = false } ∷ cs
+abbrev pub columns_renewed : List OpenColumn → List OpenColumn
+columns_renewed [] = []
+columns_renewed (c ∷ cs) = record c { is_wide = false } ∷ cs
 
 -- whether an open column, where there is one, is wide there
 abbrev pub is_wide_in : Bool → ℕ → Option OpenColumn → Bool

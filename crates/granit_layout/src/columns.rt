@@ -3,7 +3,7 @@ ghost use Rattle.std.specs.Prelude.{◌≡◌, ◌<◌, ◌≤◌, ◌^◌, [], 
 ghost use Rattle.std.specs.List.{All};
 ghost use Rattle.granit_machine.specs.Columns.{up_to_column, widened};
 ghost use Rattle.granit_machine.specs.Laid.{innermost_column};
-ghost use Rattle.granit_layout.specs.Views.{columns_view, renewed};
+ghost use Rattle.granit_layout.specs.Views.{columns_renewed, columns_view};
 
 use granit_base::NoMemory;
 use granit_lexemes::OpenColumn;
@@ -83,7 +83,7 @@ impl Columns {
     /// The next entry of the innermost one begins.
     #[tactic(auto, using(crate::proofs::ColumnLemmas::renewed_columns))]
     pub(crate) fn renew(&mut self)
-        ensures { self.new ≡ renewed self.old }
+        ensures { self.new ≡ columns_renewed self.old }
     {
         self.wide = self.wide.min(self.columns.len().saturating_sub(1));
     }

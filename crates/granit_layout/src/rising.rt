@@ -65,7 +65,7 @@ fn is_behind(number: usize, index: usize, key: &PossibleKey) -> bool
 
 /// Whether a key stands in the place of one that it is not before.
 fn goes_on(old: &Option<PossibleKey>, new: &PossibleKey) -> bool
-    ensures { result ≡ rising.goes_on old.now new.now }
+    ensures { result ≡ rising.key_not_before old.now new.now }
 {
     match old {
         None => false,

@@ -23,7 +23,7 @@ use Rattle.granit_scalars.proofs.PlainTurns.{Turned, past_a_blank, past_a_break,
 use Rattle.granit_scalars.proofs.PlainTurns.{past_content, at_no_content, turned}
 use Rattle.granit_scalars.proofs.Stepping.{seen, second_of, is_break_nul}
 use Rattle.granit_lex.specs.LineCode.{LinePassed, line_state, broken_state, text_of_lines, further_scalar, line_scalar}
-use Rattle.granit_lex.specs.PlainCode.{plain_rest, plain_whole, nothing_taken, cuts_at, ended_plain, ended_by}
+use Rattle.granit_lex.specs.PlainCode.{plain_rest, plain_whole, nothing_taken, cuts_at, ended_plain, plain_ended_by}
 use Rattle.granit_lex.specs.PlainCode.{copied_plain}
 use Rattle.granit_lex.specs.Taken.{PlainTaken}
 use Rattle.granit_lex.proofs.PlainLemmas.{plain_begins}
@@ -228,7 +228,7 @@ copied_is at h n lends =
     own false s value l = refl
 
     by : (r : Result (List ℕ × PlainState) Fault) → BehindTo 0 (plain_start h) r
-        → (r >>= finished at (mark_of h)) ≡ (r >>= ended_by at (mark_of h) (λ value end. owned value))
+        → (r >>= finished at (mark_of h)) ≡ (r >>= plain_ended_by at (mark_of h) (λ value end. owned value))
     by (Ok (value, s)) b = ended_is at (mark_of h) value s (owned value)
         (own (is_one_line (mark_of h) s.end) s value (b.lends ∙ lends))
     by (Err f) b = refl
@@ -270,7 +270,7 @@ passed_is at h start front end blank now is n lends p =
         → is_break (next_char now) ≡ true
         → BehindTo start.place.line (broken_state end (past_break now)) r
         → (with_front front r >>= finished at start)
-        ≡ (r >>= ended_by at start (λ further last. text_of_lines start last front further))
+        ≡ (r >>= plain_ended_by at start (λ further last. text_of_lines start last front further))
     behind (Ok (further, last)) y b =
         let on = break_line now y in
         let below : start.place.line < (past_break now).place.line = omega (arith, on, p.line, here) in
@@ -296,20 +296,20 @@ passed_is at h start front end blank now is n lends p =
 
 pub copied_by : (at : LayoutData) (h : Here) (start : Mark) (p : PlainTaken) → start ≡ mark_of h
     → p ≡ nothing_taken start false
-    → copied_plain at h ≡ (plain_whole at start p h >>= ended_by at start (λ value end. owned value))
+    → copied_plain at h ≡ (plain_whole at start p h >>= plain_ended_by at start (λ value end. owned value))
 copied_by at h start p is none =
-    ap (λ (m : Mark). plain_rest at m (line_state m [] h) >>= ended_by at m (λ value end. owned value)) (sym is)
-    ∙ ap (λ (r : Result (List ℕ × PlainState) Fault). r >>= ended_by at start (λ value end. owned value))
+    ap (λ (m : Mark). plain_rest at m (line_state m [] h) >>= plain_ended_by at m (λ value end. owned value)) (sym is)
+    ∙ ap (λ (r : Result (List ℕ × PlainState) Fault). r >>= plain_ended_by at start (λ value end. owned value))
     (sym (plain_begins at start (nothing_taken start false) h refl)
     ∙ ap (λ (q : PlainTaken). plain_whole at start q h) (sym none))
 
 pub further_by : (at : LayoutData) (start : Mark) (front : List ℕ) (end : Mark) (h : Here) (p : PlainTaken)
     → p ≡ nothing_taken end true
     → further_scalar at start front end h ≡ (plain_whole at start p h
-    >>= ended_by at start (λ further last. text_of_lines start last front further))
+    >>= plain_ended_by at start (λ further last. text_of_lines start last front further))
 further_by at start front end h p none =
     ap (λ (r : Result (List ℕ × PlainState) Fault). r
-    >>= ended_by at start (λ further last. text_of_lines start last front further))
+    >>= plain_ended_by at start (λ further last. text_of_lines start last front further))
     (sym (plain_begins at start (nothing_taken end true) h refl)
     ∙ ap (λ (q : PlainTaken). plain_whole at start q h) (sym none))
 

@@ -23,7 +23,7 @@ use Rattle.granit_cursor.specs.Reading.{Reading, Stands}
 use Rattle.granit_cursor.proofs.MoveLemmas.{run_begins, steps_twice, KeepsLine, keeps_line}
 use Rattle.granit_cursor.proofs.WordLemmas.{whole_rest}
 use Rattle.granit_lex.specs.QuotedCode.{quoted_state, quoted_whole, quoted_ahead, content_read}
-use Rattle.granit_lex.specs.QuotedCode.{nothing_taken as begun, kept_char, kept_chars, copied_scalar, passed_scalar}
+use Rattle.granit_lex.specs.QuotedCode.{nothing_quoted as begun, kept_char, kept_chars, copied_scalar, passed_scalar}
 use Rattle.granit_lex.specs.Taken.{QuotedTaken}
 use Rattle.granit_lex.specs.declared.quoted.Ahead.TheVariants.{Blank, End}
 use Rattle.granit_lex.proofs.PlainLemmas.{none_taken}
@@ -128,30 +128,37 @@ run_goes single h m a b so_far content blanks =
     ∙ ap (λ (t : List ℕ). b + run_length kept t) (sym (steps_text b i)) in
     omega (arith, so_far, one, two)
 
+-- no more of a run stands behind it
+run_ended : (test : List ℕ → Bool) (text : List ℕ) → run_length test (drop (run_length test text) text) ≡ 0
+unfolding run_length
+run_ended test [] = refl
+run_ended test (c ∷ cs) =
+    elim (cases_Bool (test (c ∷ cs))) [
+      | inl goes ↦ rw goes (run_ended test cs)
+      | inr stops ↦ rw stops (let e : run_length test (c ∷ cs) ≡ 0 = rw stops refl in e)
+    ]
+
+-- where no blank follows the words, none is kept behind them
 pub run_whole : (single : Bool) (h : Here) (m a b : ℕ)
     → run_length (starts (is_kept single)) h.unread.text
     ≡ m + run_length (starts (is_kept single)) (steps m h).unread.text
     → a ≡ run_length (is_quoted_word single) (steps m h).unread.text
-    → b ≡ run_length (starts is_blank) (steps a (steps m h)).unread.text → a ≡ 0 → b ≡ 0
+    → b ≡ run_length (starts is_blank) (steps a (steps m h)).unread.text → b ≡ 0
     → m + a + b ≡ run_length (starts (is_kept single)) h.unread.text
-run_whole single h m a b so_far content blanks no_content no_blanks =
+run_whole single h m a b so_far content blanks no_blanks =
+    let words = is_quoted_word single in
     let g = steps m h in
-    let here : (steps a g).unread.text ≡ g.unread.text = steps_text a g
-    ∙ ap (λ (n : ℕ). drop n g.unread.text) no_content ∙ none_dropped g.unread.text in
-    let none = none_run single g.unread.text (sym content ∙ no_content)
-    (ap (run_length (starts is_blank)) (sym here) ∙ sym blanks ∙ no_blanks) in
-    omega (arith, so_far, none, no_content, no_blanks)
+    let i = steps a g in
+    let over : run_length words i.unread.text ≡ 0 = ap (run_length words) (steps_text a g
+    ∙ ap (λ (n : ℕ). drop n g.unread.text) content) ∙ run_ended words g.unread.text in
+    let none = none_run single i.unread.text over (sym blanks ∙ no_blanks) in
+    let here : (steps b i).unread.text ≡ i.unread.text = steps_text b i
+    ∙ ap (λ (n : ℕ). drop n i.unread.text) no_blanks ∙ none_dropped i.unread.text in
+    let rest = ap (run_length (starts (is_kept single))) here ∙ none in
+    omega (arith, run_goes single h m a b so_far content blanks, rest)
 
 pub steps_thrice : (m a b : ℕ) (h : Here) → steps b (steps a (steps m h)) ≡ steps (m + a + b) h
 steps_thrice m a b h = ap (steps b) (steps_twice m a h) ∙ steps_twice (m + a) b h
-
-pub nothing_taken : (a b : ℕ) → (a == 0 && b == 0) ≡ true → (a ≡ 0) × (b ≡ 0)
-nothing_taken a b y =
-    let p = and_parts (a == 0) (b == 0) y in
-    (eqb-true a 0 p.0, eqb-true b 0 p.1)
-
-pub something_taken : (a b : ℕ) → (a == 0 && b == 0) ≡ false → 0 < a + b
-something_taken a b n = grind (arith, nat_tests, n)
 
 -- no character that is kept ends a line
 pub kept_keeps : (single : Bool) → KeepsLine (starts (is_kept single))

@@ -13,7 +13,7 @@ use Rattle.granit_base.specs.PlainContent.{is_content}
 use Rattle.granit_input.proofs.RunLemmas.{run_within}
 use Rattle.granit_input.proofs.UnreadLemmas.{past_none, past_text, past_twice}
 use Rattle.granit_input.specs.Runs.{begins_word, is_plain_word, run_length, starts}
-use Rattle.granit_input.specs.Unread.{past}
+use Rattle.granit_input.specs.Unread.{past_count}
 use Rattle.granit_lexemes.specs.Basics.{past_break}
 use Rattle.granit_lexemes.specs.Here.{Here, next_char, mark_of, step}
 use Rattle.granit_lexemes.specs.LayoutData.{LayoutData}
@@ -47,7 +47,7 @@ along_none h = record { unread = sym (past_none h.unread); place = moved_none h.
 
 pub along_more : (m n : ℕ) (h g i : Here) → Along m h g → Along n g i → Along (m + n) h i
 along_more m n h g i a b = record {
-  unread = b.unread ∙ ap (past n) a.unread ∙ past_twice m n h.unread;
+  unread = b.unread ∙ ap (past_count n) a.unread ∙ past_twice m n h.unread;
   place = b.place ∙ ap (moved n) a.place ∙ moved_twice h.place;
 }
   where
@@ -61,7 +61,7 @@ pub along_text : (n : ℕ) (h now : Here) → Along n h now → now.unread.text 
 along_text n h now a = ap (λ (u : Unread). u.text) a.unread ∙ past_text n h.unread
 
 along_lends : (n : ℕ) (h now : Here) → Along n h now → now.unread.lends ≡ h.unread.lends
-unfolding past
+unfolding past_count
 along_lends n h now a = ap (λ (u : Unread). u.lends) a.unread
 
 along_line : (n : ℕ) (h now : Here) → Along n h now → now.place.line ≡ h.place.line
@@ -69,7 +69,7 @@ along_line n h now a = ap (λ (p : Place). p.line) a.place
 
 -- what is known to be left there
 pub left_along : {I : Type 0} (unread : I → Unread → Type 0) (input : I) (n : ℕ) (h now : Here) → Along n h now
-    → unread input now.unread → unread input (past n h.unread)
+    → unread input now.unread → unread input (past_count n h.unread)
 left_along unread input n h now a known = subst (unread input) a.unread known
 
 -- on over blanks and content

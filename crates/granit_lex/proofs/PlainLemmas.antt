@@ -18,7 +18,7 @@ use Rattle.granit_base.specs.PlainContent.{is_content}
 use Rattle.granit_lexemes.proofs.PieceLemmas.{with_front-nil, pieces_more, pieces_done}
 use Rattle.granit_lexemes.proofs.PieceLemmas.{pieces_fails}
 use Rattle.granit_scalars.proofs.PlainTurns.{chain, plain_shortens}
-use Rattle.granit_lex.specs.PlainCode.{plain_state, plain_rest, plain_whole, ahead_of, turn_of, nothing_taken}
+use Rattle.granit_lex.specs.PlainCode.{plain_state, plain_rest, plain_whole, ahead_of, plain_turn_by, nothing_taken}
 use Rattle.granit_lex.specs.Taken.{PlainTaken}
 use Rattle.granit_lex.specs.declared.plain.Ahead.{Ahead}
 use Rattle.granit_lex.specs.declared.plain.Ahead.TheVariants.{Blank, Break, Tab, Content, End}
@@ -30,7 +30,7 @@ next_by a b c d e f = if a then Blank else if b then Break else if c then End el
     if f then Content else End
 
 turn_by : (at : LayoutData) (start : Mark) (s : PlainState) (a b c d e f : Bool)
-    → chain at start s a b c d e f ≡ turn_of at start s (next_by a b c d e f)
+    → chain at start s a b c d e f ≡ plain_turn_by at start s (next_by a b c d e f)
 turn_by at start s true b c d e f = refl
 turn_by at start s false true c d e f = refl
 turn_by at start s false false true d e f = refl
@@ -40,13 +40,13 @@ turn_by at start s false false false false false true = refl
 turn_by at start s false false false false false false = refl
 
 pub turn_is : (at : LayoutData) (start : Mark) (s : PlainState) (k : Ahead) → ahead_of at s ≡ k
-    → plain_turn at start s ≡ turn_of at start s k
+    → plain_turn at start s ≡ plain_turn_by at start s k
 unfolding plain_turn
 turn_is at start s k is =
     turn_by at start s (is_blank (next_char s.here)) (is_break (next_char s.here)) (meets_comment s)
     (s.left_tab && not (is_z (next_char s.here))) (s.on_new_line && ends_before_line at s.here)
     (is_content at.in_flow s.here.unread.text)
-    ∙ ap (turn_of at start s) is
+    ∙ ap (plain_turn_by at start s) is
 
 -- ---- on over a stretch of content
 
@@ -69,7 +69,7 @@ take_suc n (c ∷ cs) some = refl
 -- ---- what a turn of the code leaves of the whole
 
 pub gap_goes : (at : LayoutData) (start : Mark) (p q : PlainTaken) (h now : Here) (k : Ahead)
-    → ahead_of at (plain_state p h) ≡ k → turn_of at start (plain_state p h) k ≡ Ok (Some [], plain_state q now)
+    → ahead_of at (plain_state p h) ≡ k → plain_turn_by at start (plain_state p h) k ≡ Ok (Some [], plain_state q now)
     → q.value ≡ p.value → plain_whole at start q now ≡ plain_whole at start p h
 gap_goes at start p q h now k is given value =
     let more = pieces_more plain_len (plain_turn at start) (plain_shortens at start) (plain_state p h)

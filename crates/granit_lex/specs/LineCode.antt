@@ -15,7 +15,7 @@ use Rattle.granit_lexemes.specs.Moves.{steps}
 use Rattle.granit_lexemes.specs.Outcome.{Fault, ◌>>=◌}
 use Rattle.granit_lexemes.specs.Pieces.{with_front}
 use Rattle.granit_lexemes.specs.PlainScalar.{PlainState, PlainRead, plain_start, is_one_line}
-use Rattle.granit_lex.specs.PlainCode.{plain_rest, ended_plain, ended_by}
+use Rattle.granit_lex.specs.PlainCode.{plain_rest, ended_plain, plain_ended_by}
 use Rattle.granit_lex.specs.declared.line.Line.{Line}
 
 -- on the first line, behind its content and what was read since
@@ -74,7 +74,7 @@ abbrev pub further_scalar : LayoutData → (start : Mark) → (front : List ℕ)
     → Result (PlainRead × Here) Fault
 further_scalar at start front end h =
     plain_rest at start (broken_state end h)
-    >>= ended_by at start (λ further behind. text_of_lines start behind front further)
+    >>= plain_ended_by at start (λ further behind. text_of_lines start behind front further)
 
 -- a scalar whose first line was passed
 abbrev pub line_scalar : LayoutData → (start : Mark) → (front : List ℕ) → (end : Mark) → (blank : Bool) → Here

@@ -71,12 +71,12 @@ ahead_of at s =
     else End
 
 -- what a turn gives where that is next
-abbrev pub turn_of : LayoutData → Mark → PlainState → Ahead → Result (Option (List ℕ) × PlainState) Fault
-turn_of at start s Blank = Ok (Some [], on_blank at s)
-turn_of at start s Break = Ok (Some [], on_break s)
-turn_of at start s Tab = fails_at TabInPlainScalar start
-turn_of at start s Content = Ok (Some (between s ++ next_char s.here ∷ []), on_content s)
-turn_of at start s End = Ok (None, s)
+abbrev pub plain_turn_by : LayoutData → Mark → PlainState → Ahead → Result (Option (List ℕ) × PlainState) Fault
+plain_turn_by at start s Blank = Ok (Some [], on_blank at s)
+plain_turn_by at start s Break = Ok (Some [], on_break s)
+plain_turn_by at start s Tab = fails_at TabInPlainScalar start
+plain_turn_by at start s Content = Ok (Some (between s ++ next_char s.here ∷ []), on_content s)
+plain_turn_by at start s End = Ok (None, s)
 
 -- what a turn takes is there
 abbrev pub TakesSome : Ahead → Type 0 → Type 0
@@ -85,12 +85,12 @@ TakesSome End some = Unit {0}
 TakesSome _ some = some
 
 -- a turn goes on with the same whole, or that is all of it
-abbrev pub TurnsTo : LayoutData → Mark → Result Bool Refused → (Here → Type 0) → PlainTaken
+abbrev pub TurnKeepsWhole : LayoutData → Mark → Result Bool Refused → (Here → Type 0) → PlainTaken
     → Result (List ℕ × PlainState) Fault → Type 0
-TurnsTo at start (Ok true) Lands p before = (now : Here) × Lands now × (plain_whole at start p now ≡ before)
-TurnsTo at start (Ok false) Lands p before =
+TurnKeepsWhole at start (Ok true) Lands p before = (now : Here) × Lands now × (plain_whole at start p now ≡ before)
+TurnKeepsWhole at start (Ok false) Lands p before =
     (now : Here) × Lands now × (before ≡ Ok (p.value, plain_state p now))
-TurnsTo at start (Err e) Lands p before = Fails e before
+TurnKeepsWhole at start (Err e) Lands p before = Fails e before
 
 -- what was read is all of it
 abbrev pub PartsTo : Result PlainTaken Refused → (Here → Type 0) → Result (List ℕ × PlainState) Fault → Type 0
@@ -124,15 +124,16 @@ ended_plain at start text end on_new_line cuts h =
     ))
 
 -- the same of a text by what was read, where that ends
-abbrev pub ended_by : LayoutData → (start : Mark) → (List ℕ → Mark → Written) → List ℕ × PlainState
+abbrev pub plain_ended_by : LayoutData → (start : Mark) → (List ℕ → Mark → Written) → List ℕ × PlainState
     → Result (PlainRead × Here) Fault
-ended_by at start text x =
+plain_ended_by at start text x =
     ended_plain at start (text x.0 x.1.end) x.1.end x.1.on_new_line
     (cuts_at x.1.left_tab x.1.on_new_line x.1.pending) x.1.here
 
 -- a scalar whose text is copied
 abbrev pub copied_plain : LayoutData → Here → Result (PlainRead × Here) Fault
-copied_plain at h = plain_rest at (mark_of h) (plain_start h) >>= ended_by at (mark_of h) (λ value end. owned value)
+copied_plain at h = plain_rest at (mark_of h) (plain_start h) >>= plain_ended_by at (mark_of h)
+    (λ value end. owned value)
 
 -- the kinds that a plain scalar is refused by
 abbrev pub IsPlainKind : FaultKind → Type 0

@@ -81,8 +81,8 @@ abbrev pub quoted_whole : Bool → LayoutData → Mark → QuotedTaken → Here 
 quoted_whole single at start p h = with_front p.value (quoted_rest single at start (quoted_state p h))
 
 -- nothing was taken yet
-abbrev pub nothing_taken : QuotedTaken
-nothing_taken = record { value = []; pending = []; on_new_line = false; escaped = false }
+abbrev pub nothing_quoted : QuotedTaken
+nothing_quoted = record { value = []; pending = []; on_new_line = false; escaped = false }
 
 -- what is held behind a character that stands for itself, and behind several
 abbrev pub kept_char : QuotedTaken → ℕ → QuotedTaken
@@ -106,7 +106,7 @@ PassesKept single h (Err e) Lands = ⊥
 -- a scalar some of whose text was passed already, and whose text is copied
 abbrev pub copied_scalar : Bool → LayoutData → Mark → (front : List ℕ) → Here → Result (QuotedRead × Here) Fault
 copied_scalar single at start front h =
-    quoted_whole single at start (kept_chars nothing_taken front) h >>= λ x.
+    quoted_whole single at start (kept_chars nothing_quoted front) h >>= λ x.
     quoted_tail single at start (owned (x.0 ++ between_quoted x.1)) (step x.1.here)
 
 -- where the closing quote is next, what was passed is the text

@@ -20,7 +20,7 @@ ghost use Rattle.granit_cursor.specs.Tokens.{layout_data};
 ghost use Rattle.granit_lex.specs.declared.plain.Ahead.TheVariants.{Tab};
 ghost use Rattle.granit_lex.specs.LineCode.{broken_state, further_scalar, line_scalar};
 ghost use Rattle.granit_lex.specs.PlainCode.{plain_from, plain_lexed, plain_state, plain_whole, ahead_of};
-ghost use Rattle.granit_lex.specs.PlainCode.{nothing_taken, TakesSome, TurnsTo, PartsTo, IsPlainKind};
+ghost use Rattle.granit_lex.specs.PlainCode.{nothing_taken, TakesSome, TurnKeepsWhole, PartsTo, IsPlainKind};
 ghost use Rattle.granit_lex.specs.PlainCode.{cuts_at, ended_plain, copied_plain};
 ghost use Rattle.granit_lex.specs.WithoutMemory.{EndsHere, OnlyBlanks, StaysBlank, WithoutMemoryAt};
 ghost use Rattle.granit_lex.specs.WithoutMemory.{plain_takes_none};
@@ -316,7 +316,7 @@ fn take_turn<T: Input>(
     fault: &mut Option<ScanError>,
 ) -> Result<bool, Refused>
     ensures here { Wherever T.unread cursor.old cursor.new (λ h Lands.
-        TurnsTo (layout_data at.now) start (answered fault.new result) Lands parts.new
+        TurnKeepsWhole (layout_data at.now) start (answered fault.new result) Lands parts.new
         (plain_whole (layout_data at.now) start parts.old h)) }
     ensures left { TurnTakes (answered fault.new result) (T.left cursor.old.input) (T.left cursor.new.input) }
     ensures kinds { IfErr (answered fault.new result) (λ e. (e.kind ≡ OutOfMemory) ⊎ (e.kind ≡ TabInPlainScalar)) }

@@ -19,7 +19,7 @@ ghost use Rattle.granit_lex.specs.QuotedCode.{quoted_from, quoted_lexed, asked, 
 ghost use Rattle.granit_lex.specs.QuotedCode.{remark_token};
 ghost use Rattle.granit_lex.specs.QuotedCode.{quoted_whole, quoted_ahead, content_read, SeesTo, SeesSome, TakesContent};
 ghost use Rattle.granit_lex.specs.QuotedCode.{added, escapes, GoesWords, QuotedTurnsTo, QuotedPartsTo, IsQuotedKind};
-ghost use Rattle.granit_lex.specs.QuotedCode.{kept_char, kept_chars, nothing_taken, PassesKept};
+ghost use Rattle.granit_lex.specs.QuotedCode.{kept_char, kept_chars, nothing_quoted, PassesKept};
 ghost use Rattle.granit_lex.specs.QuotedCode.{copied_scalar, passed_scalar};
 ghost use Rattle.granit_lex.specs.WithoutMemory.{WithoutMemoryAt, quoted_takes_none};
 ghost use Rattle.granit_refused.specs.Answered.{answered};
@@ -494,7 +494,7 @@ fn push_all_kept(parts: &mut QuotedParts, text: &str) -> Result<(), NoMemory>
 
 /// What is held behind the characters that were passed.
 fn parts_behind(alloc: Global, front: &str) -> Result<QuotedParts, NoMemory>
-    ensures { IfOk result (λ p. p ≡ kept_chars nothing_taken (chars front.now)) }
+    ensures { IfOk result (λ p. p ≡ kept_chars nothing_quoted (chars front.now)) }
 {
     let mut parts = QuotedParts {
         value: String::new(alloc),
@@ -642,19 +642,12 @@ fn skip_kept<T: Input>(cursor: &mut Cursor<T>, single: bool)
     ensures moves { Moves T.unread T.left T.origin cursor.old cursor.new }
 {
     'kept: loop {
-        let content = cursor.skip_quoted_words(single);
+        cursor.skip_quoted_words(single);
         let blanks = cursor.skip_while_blank();
-        if is_nothing(content, blanks) {
+        if blanks == 0 {
             return;
         }
     }
-}
-
-/// Whether no character of either kind was taken.
-fn is_nothing(content: usize, blanks: usize) -> bool
-    ensures { result ≡ (content == 0 && blanks == 0) }
-{
-    content == 0 && blanks == 0
 }
 
 /// The characters in front that stand for themselves, where the input lends them.

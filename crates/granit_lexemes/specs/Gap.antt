@@ -8,7 +8,7 @@ Each test [] = Unit {0}
 Each test (c ∷ cs) = (test c ≡ true) × Each test cs
 
 -- these characters stand in a text from an index on, and there is this behind them
-pub record StandsAt (x : List ℕ) (i : ℕ) (cs : List ℕ) (behind : List ℕ) : Type 0 where
+pub record CharactersStand (x : List ℕ) (i : ℕ) (cs : List ℕ) (behind : List ℕ) : Type 0 where
   pub inside : drop i x ≡ cs ++ behind
 
 -- blanks and breaks

@@ -27,11 +27,11 @@ quoted_char c =
     else if c == 0x09 then codes "\\t"
     else (codes "\\u{" ++ radix_digits 16 false c) ++ codes "}"
 
-abbrev pub quoted_text : List ℕ → List ℕ
-quoted_text text = flat_map quoted_char text
+abbrev pub quoted_line_text : List ℕ → List ℕ
+quoted_line_text text = flat_map quoted_char text
 
 abbrev pub in_quotes : List ℕ → List ℕ
-in_quotes text = (codes "\"" ++ quoted_text text) ++ codes "\""
+in_quotes text = (codes "\"" ++ quoted_line_text text) ++ codes "\""
 
 abbrev pub style_word : ScalarStyle → List ℕ
 style_word Plain = codes "plain"

@@ -11,7 +11,7 @@ use Rattle.std.proofs.lemmas.List.{take_more}
 use Rattle.std.proofs.lemmas.List.Elements.{All-push}
 use Rattle.std.proofs.lemmas.Str.{chars-append, chars-IsAscii, IsCharBoundary-from_take, IsUtf8-from_ascii}
 use Rattle.std.proofs.lemmas.Str.Ascii.{IsAscii-from_all}
-use Rattle.granit_lexemes.specs.Line.{quoted_char, quoted_text}
+use Rattle.granit_lexemes.specs.Line.{quoted_char, quoted_line_text}
 use Rattle.granit_lines.specs.Pieces.{is_plain}
 
 -- one more plain byte
@@ -34,7 +34,7 @@ itself b p =
     let shown : (nat_le 0x20 b && nat_le b 0x7E) ≡ true = grind (arith, nat_tests, p) in
     rw (quote, shown) refl
 
-themselves : (bs : List ℕ) → All (λ b. is_plain b ≡ true) bs → quoted_text bs ≡ bs
+themselves : (bs : List ℕ) → All (λ b. is_plain b ≡ true) bs → quoted_line_text bs ≡ bs
 themselves [] plain = refl
 themselves (b ∷ bs) plain =
     ap₂ (λ (front rest : List ℕ). front ++ rest) (itself b (plain 0 b (omega arith)))
@@ -56,12 +56,12 @@ chars_cut bs n plain =
 
 pub quoted_front : (bs : List ℕ) (n : ℕ) (front behind : List ℕ) → All (λ b. is_plain b ≡ true) (take n bs)
     → front ≡ take (n - 0) (drop 0 bs) → behind ≡ drop n bs
-    → quoted_text (chars bs) ≡ front ++ quoted_text (chars behind)
+    → quoted_line_text (chars bs) ≡ front ++ quoted_line_text (chars behind)
 quoted_front bs n front behind plain is rest =
     let first : front ≡ take n bs = is ∙ ap (λ (k : ℕ). take k bs) (omega arith) in
-    ap quoted_text (chars_cut bs n plain) ∙ flat_map-append quoted_char (take n bs) (chars (drop n bs))
+    ap quoted_line_text (chars_cut bs n plain) ∙ flat_map-append quoted_char (take n bs) (chars (drop n bs))
     ∙ ap₂ (λ (a b : List ℕ). a ++ b) (themselves (take n bs) plain ∙ sym first)
-    (ap (λ (r : List ℕ). quoted_text (chars r)) (sym rest))
+    (ap (λ (r : List ℕ). quoted_line_text (chars r)) (sym rest))
 
 pub fewer_behind : (bs : List ℕ) (n : ℕ) (behind : List ℕ) → All (λ b. is_plain b ≡ true) (take n bs)
     → behind ≡ drop n bs → length (chars behind) ≤ length (chars bs)

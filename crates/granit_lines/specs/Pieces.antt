@@ -8,5 +8,5 @@ abbrev pub is_plain : ℕ → Bool
 is_plain b = (nat_le 0x20 b && nat_le b 0x7E) && not (b == 0x22 || b == 0x5C)
 
 -- a space, the places of a span, and a line feed
-abbrev pub span_words : (start end : Place) → List ℕ
-span_words start end = (((codes " " ++ place_line start) ++ codes "-") ++ place_line end) ++ codes "\n"
+abbrev pub line_span_words : (start end : Place) → List ℕ
+line_span_words start end = (((codes " " ++ place_line start) ++ codes "-") ++ place_line end) ++ codes "\n"

@@ -2,7 +2,7 @@
 ghost use Rattle.std.specs.Prelude.{◌≡◌, ◌+◌, ◌<◌, ◌≤◌, ◌∷◌, ◌++◌, length, drop, true, OnOk};
 ghost use Rattle.std.specs.Fmt.{decimal};
 ghost use Rattle.granit_lexemes.specs.Line.{place_line};
-ghost use Rattle.granit_lines.specs.Pieces.{span_words};
+ghost use Rattle.granit_lines.specs.Pieces.{line_span_words};
 
 use granit_base::{Marker, NoMemory, Span};
 use itoa::write_digits;
@@ -16,7 +16,7 @@ const PLACE: usize = 62;
 /// A space, the places of a span, and a line feed.
 pub fn push_span(out: &mut Vec<u8>, span: &Span) -> Result<(), NoMemory>
     ensures { OnOk result (out.new.items
-        ≡ out.old.items ++ span_words span.now.start.place span.now.end.place) }
+        ≡ out.old.items ++ line_span_words span.now.start.place span.now.end.place) }
 {
     if is_empty(span) {
         return push_place_twice(out, &span.start);
@@ -36,7 +36,7 @@ fn is_empty(span: &Span) -> bool
 
 /// The same of a span that ends where it begins.
 fn push_place_twice(out: &mut Vec<u8>, mark: &Marker) -> Result<(), NoMemory>
-    ensures { OnOk result (out.new.items ≡ out.old.items ++ span_words mark.now.place mark.now.place) }
+    ensures { OnOk result (out.new.items ≡ out.old.items ++ line_span_words mark.now.place mark.now.place) }
 {
     let mut bytes = [0; PLACE];
     let start = put_place(&mut bytes, PLACE, mark);
@@ -61,7 +61,7 @@ pub fn push_behind(out: &mut Vec<u8>, bytes: &[u8], count: usize) -> Result<(), 
 fn put_span(bytes: &mut [u8], span: &Span) -> usize
     requires room { length bytes.old ≡ 128 }
     ensures within { result ≤ 128 }
-    ensures put { drop result bytes.new ≡ span_words span.now.start.place span.now.end.place }
+    ensures put { drop result bytes.new ≡ line_span_words span.now.start.place span.now.end.place }
 {
     let line_end = put_byte(bytes, ROOM, b'\n');
     let end = put_place(bytes, line_end, &span.end);

@@ -21,7 +21,7 @@ pub fn push_in_quotes(out: &mut Vec<u8>, text: &str) -> Result<(), NoMemory>
 
 /// A text between quotes, without them.
 fn push_quoted(out: &mut Vec<u8>, text: &str) -> Result<(), NoMemory>
-    ensures { OnOk result (out.new.items ≡ out.old.items ++ line.quoted_text (chars text.now)) }
+    ensures { OnOk result (out.new.items ≡ out.old.items ++ line.quoted_line_text (chars text.now)) }
 {
     let mut rest = text;
     'pieces: while !is_at_end(rest) {
@@ -40,7 +40,7 @@ fn push_quoted(out: &mut Vec<u8>, text: &str) -> Result<(), NoMemory>
 
 /// What stands for itself in front of a text, and what follows it.
 fn split_plain(text: &str) -> (&str, &str)
-    ensures told { line.quoted_text (chars text.now) ≡ result.0.now ++ line.quoted_text (chars result.1.now) }
+    ensures told { line.quoted_line_text (chars text.now) ≡ result.0.now ++ line.quoted_line_text (chars result.1.now) }
     ensures shorter { length (chars result.1.now) ≤ length (chars text.now) }
 {
     let count = plain_len(text.as_bytes());

@@ -5,10 +5,10 @@ use Rattle.granit_error.specs.OptionsData.{OptionsData}
 use Rattle.granit_error.specs.Refused.{Refused}
 use Rattle.granit_input.specs.Origin.{Origin}
 use Rattle.granit_lexemes.specs.PlainEvent.{PlainEvent}
-use Rattle.granit_load.specs.Answering.{GivesAllOr}
+use Rattle.granit_load.specs.Answering.{GivesAllOr, LeavesNumbers}
 use Rattle.granit_parser.specs.Gathering.{LeadsOut, RefusesLate}
 use Rattle.granit_parser.specs.Parsing.{LeadsTo, Parsing}
-use Rattle.granit_parser.specs.Receiving.{RefusesIn}
+use Rattle.granit_parser.specs.Receiving.{RefusalIn}
 use Rattle.granit_parser.specs.Sources.{IsSourceError}
 use Rattle.granit_parser.proofs.TextLemmas.{given_behind}
 use Rattle.granit_steps.specs.Steps.{StepState}
@@ -17,11 +17,14 @@ use Rattle.granit_steps.specs.Told.{GivesEvents, gives_end, gives_fault}
 module _ (o : OptionsData) (m : StepState) where
   -- nothing comes behind them
   pub given_out : (es : List PlainEvent) → LeadsOut o m es → GivesEvents o m es None
-  given_out es (n, leads, over) = given_behind o m n es None leads (gives_end over.1)
+  given_out es (n, leads, few, over) = given_behind o m n es None leads (gives_end over.1)
+
+  pub numbers_left : (es : List PlainEvent) → LeadsOut o m es → LeavesNumbers o m es
+  numbers_left es (n, leads, few, over) = (n, leads, few)
 
   -- or a refusal does
   module _ {I V : Type 0} (origin : I → Origin) (view : V → List PlainEvent) (p : Parsing I) (e : Refused) where
-    refused_behind : (es : List PlainEvent) (n : StepState) → LeadsTo o m es n → RefusesIn origin o n p e
+    refused_behind : (es : List PlainEvent) (n : StepState) → LeadsTo o m es n → RefusalIn origin o n p e
         → GivesAllOr {V = V} origin view o m (Err e) p.stepper
     refused_behind es n leads (inl (inl fails)) =
         inl (inl (λ other. (es, given_behind o m n es (Some e) leads (gives_fault (fails other)))))

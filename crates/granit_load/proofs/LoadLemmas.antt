@@ -24,7 +24,7 @@ use Rattle.granit_input.specs.Origin.{Origin}
 use Rattle.granit_invariants.specs.EventPlaces.{EventsInText}
 use Rattle.granit_invariants.specs.Quiet.{but_comments}
 use Rattle.granit_invariants.proofs.SpanLaw.{events_in_text}
-use Rattle.granit_json.specs.Json.{Json, depth}
+use Rattle.granit_json.specs.Json.{Json, json_depth}
 use Rattle.granit_json.specs.JsonEvents.{json_events}
 use Rattle.granit_json.specs.JsonText.{JsonText, NamesFit}
 use Rattle.granit_json.proofs.Laws.{json_answered}
@@ -156,7 +156,7 @@ module _ {V : Type 0} (view : V → List PlainEvent) (o : OptionsData) (x : List
 
   -- JSON text has those of its value
   pub json_of : (r : Result V Refused) → GivesValue view r (run o x) → (t : Json) → (d : JsonText x t)
-      → Each is_printable x → depth t ≤ o.flow_nesting_limit → NamesFit o.simple_key_max_lookahead d
+      → Each is_printable x → json_depth t ≤ o.flow_nesting_limit → NamesFit o.simple_key_max_lookahead d
       → IfErr r (λ e. e.kind ≡ NoMemory) × IfOk r (λ v. view v ≡ json_events x d)
   json_of r g t d printable deep near = has_events r g (json_events x d) (json_answered o x t d printable deep near)
 

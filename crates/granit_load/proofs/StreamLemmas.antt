@@ -21,23 +21,23 @@ use Rattle.granit_load.specs.Answering.{AnswersItems, GivesAll, GivesAllOr, Give
 use Rattle.granit_load.specs.Answering.{IsPlacedOr, bare_run}
 use Rattle.granit_load.proofs.GatherLemmas.{never_failed, never_numbered}
 use Rattle.granit_parser.specs.Sources.{GoesGiving, IsSourceError}
-use Rattle.granit_parser.specs.Streams.{bare_start}
+use Rattle.granit_parser.specs.Streams.{bare_text_start}
 use Rattle.granit_parser.proofs.StartLaws.{calls_give}
 
 -- with options that are the same
 told : (o p : OptionsData) (x : List ℕ) (es : List PlainEvent) (f : Option Fault) → p ≡ o
-    → GivesEvents p (start_from (bare_start x)) es f → bare_run o x ≡ answer (es, f) f
+    → GivesEvents p (start_from (bare_text_start x)) es f → bare_run o x ≡ answer (es, f) f
 told o p x es f same given =
     sym (run_bare (record { offsets = false; lending = false }) o (start_of x))
-    ∙ calls_give o (bare_start x) es f
-    (subst (λ (q : OptionsData). GivesEvents q (start_from (bare_start x)) es f) same given)
+    ∙ calls_give o (bare_text_start x) es f
+    (subst (λ (q : OptionsData). GivesEvents q (start_from (bare_text_start x)) es f) same given)
 
 pub bare_answer_of : (o p : OptionsData) (x : List ℕ) (es : List PlainEvent) → p ≡ o
-    → GivesEvents p (start_from (bare_start x)) es None → bare_run o x ≡ Ok es
+    → GivesEvents p (start_from (bare_text_start x)) es None → bare_run o x ≡ Ok es
 bare_answer_of o p x es same given = told o p x es None same given
 
 pub bare_fault_of : (o p : OptionsData) (x : List ℕ) (e : Refused) → p ≡ o
-    → ((e.kind ≡ NoMemory → ⊥) → (es : List PlainEvent) × GivesEvents p (start_from (bare_start x)) es (Some e))
+    → ((e.kind ≡ NoMemory → ⊥) → (es : List PlainEvent) × GivesEvents p (start_from (bare_text_start x)) es (Some e))
     → Fails e (bare_run o x)
 bare_fault_of o p x e same gives = λ other.
     let given = gives other in told o p x given.0 (Some e) same given.1
@@ -45,7 +45,7 @@ bare_fault_of o p x e same gives = λ other.
 -- where no source fails
 pub bare_given_of : {I V : Type 0} (origin : I → Origin) (view : V → List PlainEvent) (o p : OptionsData) (x : List ℕ)
     → p ≡ o → (r : Result V Refused) (s : Stepping I) → s.renumbered ≡ false
-    → GivesAllOr origin view p (start_from (bare_start x)) r s
+    → GivesAllOr origin view p (start_from (bare_text_start x)) r s
     → ((i : I) → (origin i).error ≡ None) → GivesValue view r (bare_run o x)
 bare_given_of origin view o p x same (Ok v) s never g none = bare_answer_of o p x (view v) same g
 bare_given_of origin view o p x same (Err e) s never g none =
@@ -91,8 +91,8 @@ module _ {I V : Type 0} (unread : I → Unread → Type 0) (origin : I → Origi
 -- an error that a source gave is the first of the items
 pub items_of : {I V : Type 0} (unread : I → Unread → Type 0) (origin : I → Origin) (view : V → List PlainEvent)
     (o p : OptionsData) (items : List (Result ℕ ErrorKind)) → p ≡ o → (r : Result V Refused) (old new : Reading I)
-    → GivesWhole unread origin view p (start_from (bare_start (characters_of items))) (first_error items) r old new
-    → CameOn unread (bare_start (characters_of items)) old
+    → GivesWhole unread origin view p (start_from (bare_text_start (characters_of items))) (first_error items) r old new
+    → CameOn unread (bare_text_start (characters_of items)) old
     → ((k : FaultKind) → GoesGiving (origin old.input) (origin new.input) → (origin new.input).error ≡ Some k
     → first_error items ≡ Some k)
     → AnswersItems view o items r
@@ -106,6 +106,6 @@ items_of unread origin view o p items same (Err e) old new g came source = elim 
       | inr failed ↦ source e.kind failed.1 failed.0
     ],
     given.1,
-    given.2 (bare_start (characters_of items)) came,
+    given.2 (bare_text_start (characters_of items)) came,
   )
 ]

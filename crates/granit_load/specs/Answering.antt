@@ -1,7 +1,8 @@
 -- What a call answers that gives all events, and how it is refused.
-use Rattle.std.specs.Prelude.{◌≡◌, ◌⊎◌, ℕ, Bool, true, false, List, Option, None, Some}
+use Rattle.std.specs.Prelude.{◌≡◌, ◌⊎◌, ◌<◌, ℕ, Bool, true, false, List, Option, None, Some}
 use Rattle.std.specs.Prelude.{Result, Ok, Err, [], IfOk, IfErr}
 use Rattle.granit_buffered.specs.Fallible.{characters_of, first_error}
+use Rattle.granit_base.specs.Counts.{last_count}
 use Rattle.granit_base.specs.Place.{Unread}
 use Rattle.granit_cursor.specs.Reading.{Reading, CameOn}
 use Rattle.granit_error.specs.FaultKind.{FaultKind, NoMemory}
@@ -17,7 +18,7 @@ use Rattle.granit_lexemes.specs.PlainEvent.{PlainEvent}
 use Rattle.granit_machine.specs.Machine.{run}
 use Rattle.granit_parser.specs.Parsing.{LeadsTo}
 use Rattle.granit_parser.specs.Sources.{GoesGiving, IsSourceError}
-use Rattle.granit_parser.specs.Streams.{bare_start}
+use Rattle.granit_parser.specs.Streams.{bare_text_start}
 use Rattle.granit_stepper.specs.Numbers.{NoNumberLeft}
 use Rattle.granit_stepper.specs.Stepping.{Stepping}
 use Rattle.granit_steps.specs.Steps.{StepState}
@@ -27,6 +28,10 @@ use Rattle.granit_steps.specs.Told.{GivesEvents}
 abbrev pub GivesAll : {V : Type 0} → (V → List PlainEvent) → OptionsData → StepState → Result V Refused → Type 0
 GivesAll view o m (Ok v) = GivesEvents o m (view v) None
 GivesAll view o m (Err e) = (e.kind ≡ NoMemory → ⊥) → (es : List PlainEvent) × GivesEvents o m es (Some e)
+
+-- behind these events fewer anchors are counted than the greatest number of 64 bits
+abbrev pub LeavesNumbers : OptionsData → StepState → List PlainEvent → Type 0
+LeavesNumbers o m es = (n : StepState) × LeadsTo o m es n × (n.parser.count < last_count)
 
 -- behind some events no number is left for an anchor
 abbrev pub LacksNumber : OptionsData → StepState → Refused → Type 0
@@ -78,5 +83,5 @@ abbrev pub AnswersItems : {V : Type 0} → (V → List PlainEvent) → OptionsDa
     → Result V Refused → Type 0
 AnswersItems view o items (Ok v) = (first_error items ≡ None) × (bare_run o (characters_of items) ≡ Ok (view v))
 AnswersItems view o items (Err e) =
-    ((first_error items ≡ Some e.kind) × (e.sources ≡ []) × IsPlacedFrom (bare_start (characters_of items)) e)
+    ((first_error items ≡ Some e.kind) × (e.sources ≡ []) × IsPlacedFrom (bare_text_start (characters_of items)) e)
     ⊎ Fails e (bare_run o (characters_of items))

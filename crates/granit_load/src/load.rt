@@ -16,7 +16,7 @@ ghost use Rattle.granit_input.specs.Origin.{Goes};
 ghost use Rattle.granit_generator.specs.BlockText.{block_characters};
 ghost use Rattle.granit_invariants.specs.EventPlaces.{EventsInText};
 ghost use Rattle.granit_invariants.specs.Quiet.{but_comments};
-ghost use Rattle.granit_json.specs.Json.{Json, depth};
+ghost use Rattle.granit_json.specs.Json.{Json, json_depth};
 ghost use Rattle.granit_json.specs.JsonEvents.{json_events};
 ghost use Rattle.granit_json.specs.JsonText.{JsonText, NamesFit};
 ghost use Rattle.granit_lexemes.specs.Gap.{Each};
@@ -26,7 +26,7 @@ ghost use Rattle.granit_machine.specs.Machine.{run};
 ghost use Rattle.granit_model.specs.Characters.{HasCharacters};
 ghost use Rattle.granit_model.specs.FlowText.{flow_characters};
 ghost use Rattle.granit_model.specs.Tree.{DocumentsFit, PlainTrees, trees_depth};
-ghost use Rattle.granit_load.specs.Answering.{GivesAllOr, IsRefusedAs};
+ghost use Rattle.granit_load.specs.Answering.{GivesAllOr, IsRefusedAs, LeavesNumbers};
 ghost use Rattle.granit_parser.specs.Parsing.{StandsAt};
 ghost use Rattle.granit_parser.specs.Sources.{GoesGiving};
 ghost use Rattle.granit_readings.specs.ReadAsTrees.{TellsTrees};
@@ -101,6 +101,8 @@ pub fn gather<'a, T: BorrowedInput<'a>>(
 ) -> Result<Events<'a>, ScanError>
     ensures known { (m : StepState) → StandsAt T.unread parser.old m
         → GivesAllOr T.origin plain_events parser.old.stepper.scanner.options m result parser.new.stepper }
+    ensures numbers { (m : StepState) → StandsAt T.unread parser.old m
+        → IfOk result (λ v. LeavesNumbers parser.old.stepper.scanner.options m (plain_events v)) }
     ensures renumbered { parser.new.stepper.renumbered ≡ parser.old.stepper.renumbered }
     ensures goes { IfOk result (λ v. Goes (T.origin parser.old.stepper.scanner.cursor.input)
         (T.origin parser.new.stepper.scanner.cursor.input)) }
@@ -165,7 +167,7 @@ pub fn load_str<'a>(alloc: Global, text: &'a str, options: Options) -> Result<Ev
         → IfErr result (λ e. e.kind ≡ OutOfMemory)
         × IfOk result (λ v. kinds_of (plain_events v) ≡ kinds_of (canonical_events (options_of options) ts)) }
     ensures json { (t : Json) (d : JsonText (chars text.now) t) → Each is_printable (chars text.now)
-        → depth t ≤ (options_of options).flow_nesting_limit
+        → json_depth t ≤ (options_of options).flow_nesting_limit
         → NamesFit (options_of options).simple_key_max_lookahead d → IfErr result (λ e. e.kind ≡ OutOfMemory)
         × IfOk result (λ v. plain_events v ≡ json_events (chars text.now) d) }
 {

@@ -54,13 +54,13 @@ settled l (i ∷ is) = front_if (is_settled l i.item) i (settled l is)
 -- ---- the answer
 
 -- reading went up to the end, or to a fault that the parser's come before, where it finds one in what it may have
-abbrev pub answered : OptionsData → Mark → List FlaggedItem → Laid → Option Fault → Result (List PlainEvent) Fault
-answered o m items l None = feed_all o items (parser_start m) >>= λ x. Ok (event_on StreamStart m ∷ x.0)
-answered o m items l (Some f) = feed_all o (settled l items) (parser_start m) >>= λ x. Err f
+abbrev pub run_answer : OptionsData → Mark → List FlaggedItem → Laid → Option Fault → Result (List PlainEvent) Fault
+run_answer o m items l None = feed_all o items (parser_start m) >>= λ x. Ok (event_on StreamStart m ∷ x.0)
+run_answer o m items l (Some f) = feed_all o (settled l items) (parser_start m) >>= λ x. Err f
 
 abbrev pub run_from : OptionsData → Here → Result (List PlainEvent) Fault
 run_from o h =
-    lex o h >>= λ x. answered o (mark_of h) (asked_items o.emit_comments (flagged x.0)) x.1.reader.laid x.1.fault
+    lex o h >>= λ x. run_answer o (mark_of h) (asked_items o.emit_comments (flagged x.0)) x.1.reader.laid x.1.fault
 
 -- the events of a string, or its first fault
 abbrev pub run : OptionsData → List ℕ → Result (List PlainEvent) Fault

@@ -40,12 +40,12 @@ alias_by o t name None p =
     Ok (finish (node_event o (λ number tag. UnresolvedAlias name) t.lexeme.shown None p)) else misplaced UnknownAnchor t
 
 -- what a handle stands for by the document's directives, or by earlier ones where handles stay; `!` and `!!` never do
-abbrev pub or_kept : OptionsData → List ℕ → (known kept : Option (List ℕ)) → Option (List ℕ)
-or_kept o handle (Some prefix) kept = Some prefix
-or_kept o handle None kept = if nat_lt 2 (length handle) && o.keep_tags then kept else None
+abbrev pub or_kept_handle : OptionsData → List ℕ → (known kept : Option (List ℕ)) → Option (List ℕ)
+or_kept_handle o handle (Some prefix) kept = Some prefix
+or_kept_handle o handle None kept = if nat_lt 2 (length handle) && o.keep_tags then kept else None
 
 abbrev pub known_prefix : OptionsData → List ℕ → ParserState → Option (List ℕ)
-known_prefix o handle p = or_kept o handle (lookup_text handle p.handles) (lookup_text handle p.kept)
+known_prefix o handle p = or_kept_handle o handle (lookup_text handle p.handles) (lookup_text handle p.kept)
 
 abbrev pub tag_prefix : Token → List ℕ → Option (List ℕ) → Result (List ℕ) Fault
 tag_prefix t handle (Some prefix) = Ok prefix

@@ -18,15 +18,15 @@ use Rattle.granit_machine.specs.Laid.{Laid}
 use Rattle.granit_machine.specs.ReaderState.{Read, lexeme_to, with_tail, read_to}
 use Rattle.granit_machine.specs.StreamLexemes.{behind_directive, directive_given, directive_lexeme}
 use Rattle.granit_steps.specs.Steps.{incoming}
-use Rattle.granit_items.specs.ItemViews.{characters_of}
+use Rattle.granit_items.specs.ItemViews.{written_characters}
 use Rattle.granit_content.specs.KindViews.{kind_of_type, note_of_token}
-use Rattle.granit_content.specs.Reads.{seen, noted}
+use Rattle.granit_content.specs.Reads.{seen, comment_kept}
 use Rattle.granit_content.specs.ScalarReads.{lexed_as}
 use Rattle.granit_content.proofs.CodedLemmas.{coded_back, coded_fails, fails_then}
 use Rattle.granit_content.proofs.ItemLemmas.{read_seen}
 use Rattle.granit_content.proofs.ScalarLemmas.{note_is}
 
-texts_back : (texts : List (List ℕ)) → map characters_of (map owned texts) ≡ texts
+texts_back : (texts : List (List ℕ)) → map written_characters (map owned texts) ≡ texts
 texts_back [] = refl
 texts_back (t ∷ ts) = ap (λ (us : List (List ℕ)). t ∷ us) (texts_back ts)
 
@@ -38,7 +38,7 @@ kind_back (Reserved name parameters) = ap (λ (ps : List (List ℕ)). Directive 
 
 -- the comment that is kept, by its token
 kept_token : (asked : Bool) (c : Option CommentRead)
-    → noted (seen asked c) ≡ option_map note_of_token (noted_if asked c)
+    → comment_kept (seen asked c) ≡ option_map note_of_token (noted_if asked c)
 kept_token true (Some c) = ap (λ (d : CommentRead). Some d) (sym (note_is c))
 kept_token true None = refl
 kept_token false (Some c) = refl

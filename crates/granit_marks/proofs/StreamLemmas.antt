@@ -16,7 +16,7 @@ use Rattle.granit_machine.specs.StreamLexemes.{behind_end, text_end, behind_end_
 use Rattle.granit_steps.specs.Steps.{incoming}
 use Rattle.granit_cursor.specs.Reading.{coded}
 use Rattle.granit_cursor.proofs.GivenLemmas.{same_ok}
-use Rattle.granit_content.specs.Reads.{Seen, seen, noted}
+use Rattle.granit_content.specs.Reads.{Seen, seen, comment_kept}
 use Rattle.granit_marks.specs.StreamReads.{refuse_more}
 use Rattle.granit_content.proofs.ItemLemmas.{read_untailed, read_seen}
 
@@ -42,16 +42,17 @@ module _ (asked : Bool) (x : Lexeme) (l : Laid) where
   seen_mark : (r : Result (Option CommentRead × Here) Fault) (s : Seen) (after : Here)
       → coded (seen asked) r ≡ Ok (s, after)
       → coded (incoming asked) (r >>= λ y. end_mark_up_to x l y.0 y.1)
-      ≡ (refuse_more after >>= λ u. read_to (with_tail x (noted s)) after (behind_end_mark l))
+      ≡ (refuse_more after >>= λ u. read_to (with_tail x (comment_kept s)) after (behind_end_mark l))
   seen_mark (Ok y) s after is =
       let same = same_ok (seen asked y.0, y.1) (s, after) is in
       ap (coded (incoming asked)) (line_ends x l y.0 y.1) ∙ kept_mark y.0 y.1 (refuse_more y.1)
-      ∙ ap (λ (p : Seen × Here). refuse_more p.1 >>= λ u. read_to (with_tail x (noted p.0)) p.1 (behind_end_mark l))
+      ∙ ap (λ (p : Seen × Here). refuse_more p.1 >>= λ u. read_to (with_tail x (comment_kept p.0))
+      p.1 (behind_end_mark l))
       same
     where
       kept_mark : (tail : Option CommentRead) (h : Here) (more : Result (Unit {0}) Fault)
           → coded (incoming asked) (more >>= λ u. read_to (with_tail x tail) h (behind_end_mark l))
-          ≡ (more >>= λ u. read_to (with_tail x (noted (seen asked tail))) h (behind_end_mark l))
+          ≡ (more >>= λ u. read_to (with_tail x (comment_kept (seen asked tail))) h (behind_end_mark l))
       kept_mark tail h (Ok u) = read_seen asked x tail h (behind_end_mark l)
       kept_mark tail h (Err f) = refl
   seen_mark (Err f) s after is = absurd cc
@@ -59,7 +60,8 @@ module _ (asked : Bool) (x : Lexeme) (l : Laid) where
 pub mark_seen : (asked ends : Bool) (h : Here) (l : Laid) (s : Seen) (after : Here)
     → coded (seen asked) (tail_at (steps 3 h)) ≡ Ok (s, after)
     → coded (incoming asked) (end_mark ends h l)
-    ≡ (refuse_more after >>= λ u. read_to (with_tail (lexeme_to ends DocumentEnd (mark_of (steps 3 h)) h l) (noted s))
+    ≡ (refuse_more after >>= λ u. read_to (with_tail
+    (lexeme_to ends DocumentEnd (mark_of (steps 3 h)) h l) (comment_kept s))
     after (behind_end_mark l))
 mark_seen asked ends h l s after is = seen_mark asked (lexeme_to ends DocumentEnd (mark_of (steps 3 h)) h l) l
     (tail_at (steps 3 h)) s after is

@@ -139,12 +139,15 @@ impl Frames {
         ensures value { OnOk result (self.new ≡ frame ∷ drop 1 self.old) }
         ensures memory { 0 < length self.old → IsOk result }
     {
-        if let Some(top) = self.list.pop() {
-            self.blocks -= count_of(top);
+        match self.list.pop() {
+            None => self.push(frame),
+            Some(top) => {
+                self.blocks -= count_of(top);
+                self.list.push_reserved(frame);
+                self.blocks += count_of(frame);
+                Ok(())
+            }
         }
-        self.list.push(frame)?;
-        self.blocks += count_of(frame);
-        Ok(())
     }
 
     /// Whether a sequence may begin in the column of its mapping (YAML 1.2.2, 8.2.2).

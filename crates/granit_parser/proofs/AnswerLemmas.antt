@@ -16,8 +16,8 @@ use Rattle.granit_parser.proofs.GoesLemmas.{note_keeps, noted_steps}
 use Rattle.granit_parser.proofs.RecoverLemmas.{answered_steps}
 use Rattle.granit_parser.specs.Parsing.{Next, Parsing}
 use Rattle.granit_parser.specs.Recovering as spec
-use Rattle.granit_parser.specs.Recovering.{AnswersIn, AsksAt, AsksBefore, AsksBy, AsksNow, ComesBy, Follows, Goes}
-use Rattle.granit_parser.specs.Recovering.{MeetsNumber, SeenBy, SeenTells, asking, comes_ahead}
+use Rattle.granit_parser.specs.Recovering.{AnswersIn, AsksAt, AsksBefore, AsksBy, AsksNow, ComesBy, Follows}
+use Rattle.granit_parser.specs.Recovering.{GoesWithCalls, MeetsNumber, SeenBy, SeenTells, asking_document, comes_ahead}
 use Rattle.granit_parser.specs.Recovering.{comes_bare, comes_seen, seen_comment, seen_in, seen_kind, seen_other}
 use Rattle.granit_reader.specs.Meets.{UnlessMemory}
 use Rattle.granit_recovery.specs.Asking.{LookTells}
@@ -27,7 +27,7 @@ use Rattle.granit_restart.specs.Ahead.{AheadOf, NoneComes, is_note}
 use Rattle.granit_restart.specs.Calls.{Calls, noted}
 use Rattle.granit_restart.specs.Following.{document_follows}
 use Rattle.granit_restart.specs.Looking.{look_ahead}
-use Rattle.granit_restart.specs.Recovery.{answered, comment_of, recover, recovered, resumed}
+use Rattle.granit_restart.specs.Recovery.{comment_count, recover, recovered, recovery_answer, resumed}
 use Rattle.granit_restart.specs.Skipping.{Stops, with_pending}
 use Rattle.granit_restart.specs.Turned.{Turned}
 use Rattle.granit_stepper.specs.Numbers.{RefusesNumber}
@@ -38,22 +38,22 @@ use Rattle.granit_steps.specs.Steps.{StepState, next_event}
 
 -- ---- kinds
 
-note_room : (kind : EventKind) → is_note kind ≡ true → comment_of kind ≡ 1
+note_room : (kind : EventKind) → is_note kind ≡ true → comment_count kind ≡ 1
 note_room (Comment text placement) e = refl
 note_room kind e = absurd (cc)
 
-other_room : (kind : EventKind) → is_note kind ≡ false → comment_of kind ≡ 0
+other_room : (kind : EventKind) → is_note kind ≡ false → comment_count kind ≡ 0
 other_room (Comment text placement) e = absurd (cc)
 other_room kind e = refl
 
-untold : (kind : EventKind) → spec.tells (seen_kind kind) ≡ false → is_note kind ≡ true
+untold : (kind : EventKind) → spec.seen_tells_document (seen_kind kind) ≡ false → is_note kind ≡ true
 untold (Comment text placement) e = refl
 untold (DocumentStart explicit version) e = absurd (cc)
 untold DocumentEnd e = absurd (cc)
 untold StreamEnd e = absurd (cc)
 untold kind e = absurd (cc)
 
-note_untold : (kind : EventKind) → is_note kind ≡ true → spec.tells (seen_kind kind) ≡ false
+note_untold : (kind : EventKind) → is_note kind ≡ true → spec.seen_tells_document (seen_kind kind) ≡ false
 note_untold (Comment text placement) e = refl
 note_untold kind e = absurd (cc)
 
@@ -97,7 +97,7 @@ module _ {I : Type 0} (unread : I → Unread → Type 0) (new : Stepping I) (o :
 
   -- behind an answer the stepper goes on from where it was asked
   goes_behind : (m : StepState) (room : ℕ) (r : Result Bool Refused) (c : Calls) → Looked m room r
-      → LookTells o m → new.first ≡ None → c.steps ≡ m → (c.between ≡ true → r ≡ Ok false) → Goes unread new c
+      → LookTells o m → new.first ≡ None → c.steps ≡ m → (c.between ≡ true → r ≡ Ok false) → GoesWithCalls unread new c
   goes_behind m room r c l tells first is none = record {
     steps = l.steps;
     ahead = subst (λ o. AheadOf o c.steps l.steps) (sym same) (subst (λ m. AheadOf o m l.steps) (sym is) l.ahead);
@@ -107,7 +107,8 @@ module _ {I : Type 0} (unread : I → Unread → Type 0) (new : Stepping I) (o :
     told = λ b. first;
   }
 
-  answered_between : (r : Result Bool Fault) (m : StepState) → (answered r (resumed m)).1.between ≡ true → r ≡ Ok false
+  answered_between : (r : Result Bool Fault) (m : StepState)
+      → (recovery_answer r (resumed m)).1.between ≡ true → r ≡ Ok false
   answered_between (Ok true) m b = absurd (let f : false ≡ true = b in cc)
   answered_between (Ok false) m b = refl
   answered_between (Err f) m b = absurd (let f : false ≡ true = b in cc)
@@ -142,13 +143,14 @@ module _ {I : Type 0} (unread : I → Unread → Type 0) (new : Stepping I) (o :
         elim (look_from m a.goes.steps room r ahead exact tells looks) [
           | inl l ↦ inl (record {
             steps = m;
-            recovers = subst (λ s. recover s.scanner.options stops looked c ≡ answered r (resumed m)) (sym at)
-                (subst (λ o'. recover o' stops looked c ≡ answered r (resumed m)) (sym same)
-                (recovers ∙ ap (λ (n : ℕ). answered (document_follows o n m) (resumed m)) (omega arith)
-                ∙ ap (λ r. answered r (resumed m)) l.answer));
-            seen = if_ok r (subst (λ s. SeenBy unread p.peeked s (answered r (resumed m)).1) (sym at)
-                (subst (λ (w : Next). SeenBy unread w new (answered r (resumed m)).1) (sym unseen)
-                (goes_behind m room r (answered r (resumed m)).1 l tells (first ∙ a.goes.told refl) (answered_steps r m)
+            recovers = subst (λ s. recover s.scanner.options stops looked c ≡ recovery_answer r (resumed m)) (sym at)
+                (subst (λ o'. recover o' stops looked c ≡ recovery_answer r (resumed m)) (sym same)
+                (recovers ∙ ap (λ (n : ℕ). recovery_answer (document_follows o n m) (resumed m)) (omega arith)
+                ∙ ap (λ r. recovery_answer r (resumed m)) l.answer));
+            seen = if_ok r (subst (λ s. SeenBy unread p.peeked s (recovery_answer r (resumed m)).1) (sym at)
+                (subst (λ (w : Next). SeenBy unread w new (recovery_answer r (resumed m)).1) (sym unseen)
+                (goes_behind m room r (recovery_answer r (resumed m)).1 l tells
+                (first ∙ a.goes.told refl) (answered_steps r m)
                 (answered_between r m))));
           })
           | inr n ↦ inr (number_met m n.0 n.1 comes n.2 n.3)
@@ -168,39 +170,43 @@ module _ {I : Type 0} (unread : I → Unread → Type 0) (new : Stepping I) (o :
         let m = a.steps in
         let after = a.seen.steps in
         let room = o.max_buffered_comment_events in
-        let kept : noted e.kind (record (asking m) { steps = after }) ≡ record (asking m) { steps = after } =
-        note_keeps e.kind (record (asking m) { steps = after }) note in
+        let kept : noted e.kind (record (asking_document m) { steps = after })
+        ≡ record (asking_document m) { steps = after } =
+        note_keeps e.kind (record (asking_document m) { steps = after }) note in
         let steps = ap (λ (d : Calls). d.steps) kept in
         let between = ap (λ (d : Calls). d.between) kept in
         let g = a.seen.goes in
         let t = g.steps in
         let ahead : AheadOf o after t = subst (λ m. AheadOf o m t) steps
-        (subst (λ o. AheadOf o (noted e.kind (record (asking m) { steps = after })).steps t) before g.ahead) in
+        (subst (λ o. AheadOf o (noted e.kind (record (asking_document m) { steps = after })).steps t) before g.ahead) in
         let exact : (t ≡ after) ⊎ NoneComes o after = subst (λ m. (t ≡ m) ⊎ NoneComes o m) steps
-        (subst (λ o. (t ≡ (noted e.kind (record (asking m) { steps = after })).steps)
-        ⊎ NoneComes o (noted e.kind (record (asking m) { steps = after })).steps) before (g.between between)) in
+        (subst (λ o. (t ≡ (noted e.kind (record (asking_document m) { steps = after })).steps)
+        ⊎ NoneComes o (noted e.kind (record (asking_document m) { steps = after })).steps)
+        before (g.between between)) in
         let next : next_event o m ≡ Ok (Some e, after) =
         subst (λ o. next_event o m ≡ Ok (Some e, after)) before a.seen.next in
-        let recovers = subst (λ o. recover o stops looked c ≡ recovered o (comment_of e.kind) (resumed m)) before
+        let recovers = subst (λ o. recover o stops looked c ≡ recovered o (comment_count e.kind) (resumed m)) before
         a.asks.recovers in
         let comes = subst (λ o. ComesBy o c.steps m) before a.asks.comes in
         elim (look_from after t room r ahead exact tells looks) [
           | inl l ↦ inl (record {
             steps = m;
-            recovers = subst (λ s. recover s.scanner.options stops looked c ≡ answered r (resumed m)) (sym at)
-                (subst (λ o'. recover o' stops looked c ≡ answered r (resumed m)) (sym same)
-                (recovers ∙ ap (λ (n : ℕ). answered (document_follows o (room + n) m) (resumed m)) (note_room e.kind
+            recovers = subst (λ s. recover s.scanner.options stops looked c ≡ recovery_answer r (resumed m)) (sym at)
+                (subst (λ o'. recover o' stops looked c ≡ recovery_answer r (resumed m)) (sym same)
+                (recovers ∙ ap (λ (n : ℕ). recovery_answer (document_follows o (room + n) m)
+                (resumed m)) (note_room e.kind
                 note)
-                ∙ ap (λ (n : ℕ). answered (document_follows o n m) (resumed m)) (omega arith)
-                ∙ ap (λ r. answered r (resumed m)) (takes room ∙ l.answer)));
-            seen = if_ok r (subst (λ s. SeenBy unread p.peeked s (answered r (resumed m)).1) (sym at)
-                (subst (λ (w : Next). SeenBy unread w new (answered r (resumed m)).1) (sym seen) (record {
+                ∙ ap (λ (n : ℕ). recovery_answer (document_follows o n m) (resumed m)) (omega arith)
+                ∙ ap (λ r. recovery_answer r (resumed m)) (takes room ∙ l.answer)));
+            seen = if_ok r (subst (λ s. SeenBy unread p.peeked s (recovery_answer r (resumed m)).1) (sym at)
+                (subst (λ (w : Next). SeenBy unread w new (recovery_answer r (resumed m)).1) (sym seen) (record {
                   steps = after;
-                  next = subst (λ o. next_event o (answered r (resumed m)).1.steps ≡ Ok (Some e, after)) (sym same)
+                  next = subst (λ o. next_event o (recovery_answer r (resumed m)).1.steps
+                      ≡ Ok (Some e, after)) (sym same)
                       (subst (λ m. next_event o m ≡ Ok (Some e, after)) (sym (answered_steps r m)) next);
-                  goes = subst (Goes unread new)
-                      (sym (note_keeps e.kind (record ((answered r (resumed m)).1) { steps = after }) note))
-                      (goes_behind after room r (record ((answered r (resumed m)).1) { steps = after }) l tells
+                  goes = subst (GoesWithCalls unread new)
+                      (sym (note_keeps e.kind (record ((recovery_answer r (resumed m)).1) { steps = after }) note))
+                      (goes_behind after room r (record ((recovery_answer r (resumed m)).1) { steps = after }) l tells
                       (first ∙ g.told between) refl (answered_between r m));
                 })));
           })
@@ -210,7 +216,8 @@ module _ {I : Type 0} (unread : I → Unread → Type 0) (new : Stepping I) (o :
     -- what was looked at and isn't a comment tells
     event_answers : (s : Stepping I) → s.scanner.options ≡ o → (p : Parsing I) → p.stepper ≡ s → (x : Event × Span)
         → p.peeked ≡ Some (Ok x) → (a : AsksBefore unread stops looked s (plain_event x) c)
-        → spec.tells (seen_kind (plain_event x).kind) ≡ true → SeenTells o a.steps a.seen.steps (plain_event x).kind
+        → spec.seen_tells_document (seen_kind (plain_event x).kind) ≡ true
+        → SeenTells o a.steps a.seen.steps (plain_event x).kind
         → AnswersIn unread stops looked (Ok true) p c
     event_answers s before p at x seen a told (seen_comment note takes tells) =
         absurd (let f = sym told ∙ note_untold (plain_event x).kind note in cc)
@@ -218,24 +225,24 @@ module _ {I : Type 0} (unread : I → Unread → Type 0) (new : Stepping I) (o :
         let e = plain_event x in
         let m = a.steps in
         let room = o.max_buffered_comment_events in
-        let recovers = subst (λ o. recover o stops looked c ≡ recovered o (comment_of e.kind) (resumed m)) before
+        let recovers = subst (λ o. recover o stops looked c ≡ recovered o (comment_count e.kind) (resumed m)) before
         a.asks.recovers in
         record {
           steps = m;
-          recovers = subst (λ s. recover s.scanner.options stops looked c ≡ answered (Ok true) (resumed m))
+          recovers = subst (λ s. recover s.scanner.options stops looked c ≡ recovery_answer (Ok true) (resumed m))
               (sym at)
-              (subst (λ o'. recover o' stops looked c ≡ answered (Ok true) (resumed m)) (sym before)
-              (recovers ∙ ap (λ r. answered r (resumed m)) (follows (room + comment_of e.kind))));
+              (subst (λ o'. recover o' stops looked c ≡ recovery_answer (Ok true) (resumed m)) (sym before)
+              (recovers ∙ ap (λ r. recovery_answer r (resumed m)) (follows (room + comment_count e.kind))));
           seen = subst (λ s. SeenBy unread p.peeked s (resumed m)) (sym at)
               (subst (λ (w : Next). SeenBy unread w s (resumed m)) (sym seen) (record {
                 steps = a.seen.steps;
                 next = a.seen.next;
-                goes = goes_same unread s (noted e.kind (record (asking m) { steps = a.seen.steps }))
+                goes = goes_same unread s (noted e.kind (record (asking_document m) { steps = a.seen.steps }))
                     (noted e.kind (record (resumed m) { steps = a.seen.steps }))
-                    (noted_steps e.kind (record (asking m) { steps = a.seen.steps })
+                    (noted_steps e.kind (record (asking_document m) { steps = a.seen.steps })
                     ∙ sym (noted_steps e.kind (record (resumed m) { steps = a.seen.steps })))
                     (noted_less e.kind (record (resumed m) { steps = a.seen.steps })
-                    (record (asking m) { steps = a.seen.steps }) refl)
+                    (record (asking_document m) { steps = a.seen.steps }) refl)
                     a.seen.goes;
               }));
         }
@@ -247,10 +254,11 @@ unless_map (Err e) a f = λ other. f (a other)
 module _ {I : Type 0} (unread : I → Unread → Type 0) (stops : Stops) (looked : Bool) (c : Calls) where
   -- an event that was looked at tells
   pub follows_told : (p : Parsing I) → AsksBy unread stops looked p.peeked p.stepper c
-      → spec.tells (seen_in p.peeked) ≡ true → Follows unread stops looked (Ok true) p c
+      → spec.seen_tells_document (seen_in p.peeked) ≡ true → Follows unread stops looked (Ok true) p c
   follows_told p asks = by p.peeked refl asks
     where
-      by : (w : Next) → p.peeked ≡ w → AsksBy unread stops looked w p.stepper c → spec.tells (seen_in w) ≡ true
+      by : (w : Next) → p.peeked ≡ w → AsksBy unread stops looked w p.stepper c
+          → spec.seen_tells_document (seen_in w) ≡ true
           → Follows unread stops looked (Ok true) p c
       by None is a told = absurd (cc)
       by (Some (Ok x)) is a told =
@@ -262,7 +270,7 @@ module _ {I : Type 0} (unread : I → Unread → Type 0) (stops : Stops) (looked
   pub follows_looked : (p q : Parsing I) (r : Result Bool Refused)
       → q.stepper.scanner.options ≡ p.stepper.scanner.options
       → q.stepper.first ≡ p.stepper.first → q.peeked ≡ p.peeked → AsksBy unread stops looked p.peeked p.stepper c
-      → spec.tells (seen_in p.peeked) ≡ false
+      → spec.seen_tells_document (seen_in p.peeked) ≡ false
       → ((m : StepState) → StandsAhead unread p.stepper m → p.stepper.first ≡ None
       → Turned p.stepper.scanner.options m → UnlessMemory r (Looks unread p.stepper.scanner.options
       p.stepper.scanner.options.max_buffered_comment_events r
@@ -270,7 +278,8 @@ module _ {I : Type 0} (unread : I → Unread → Type 0) (stops : Stops) (looked
       → UnlessMemory r (Follows unread stops looked r q c)
   follows_looked p q r options first peeked asks untold_by looks = by p.peeked peeked asks untold_by
     where
-      by : (w : Next) → q.peeked ≡ w → AsksBy unread stops looked w p.stepper c → spec.tells (seen_in w) ≡ false
+      by : (w : Next) → q.peeked ≡ w → AsksBy unread stops looked w p.stepper c
+          → spec.seen_tells_document (seen_in w) ≡ false
           → UnlessMemory r (Follows unread stops looked r q c)
       by None is a told =
           unless_map r (looks a.goes.steps a.goes.stands (a.goes.told refl) a.turned)
@@ -280,7 +289,7 @@ module _ {I : Type 0} (unread : I → Unread → Type 0) (stops : Stops) (looked
           let e = plain_event x in
           let note = untold e.kind told in
           let between = ap (λ (d : Calls). d.between)
-          (note_keeps e.kind (record (asking a.steps) { steps = a.seen.steps }) note) in
+          (note_keeps e.kind (record (asking_document a.steps) { steps = a.seen.steps }) note) in
           unless_map r (looks a.seen.goes.steps a.seen.goes.stands (a.seen.goes.told between) a.turned)
           (note_answers unread q.stepper p.stepper.scanner.options options stops looked c p.stepper refl first q refl
           x is r a note a.tells)

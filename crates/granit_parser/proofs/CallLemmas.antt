@@ -11,10 +11,10 @@ use Rattle.granit_restart.proofs.AheadLaws.{first_of, notes_told, one, OneTurn, 
 use Rattle.granit_restart.proofs.MarkLaws.{turned_sound}
 use Rattle.granit_restart.proofs.TurnwiseLaws as turnwise
 use Rattle.granit_restart.specs.Ahead.{AheadOf, not_ahead, turn_made, OnlyNotes, is_note}
-use Rattle.granit_restart.specs.Calls.{Calls, Given, failing, given_by, next_call, noted}
+use Rattle.granit_restart.specs.Calls.{Calls, GivenByCall, failing, given_by, next_call, noted}
 use Rattle.granit_restart.specs.Looking.{turn_ahead}
-use Rattle.granit_restart.specs.Skipping.{NoEnd, BehindDocument, Ended, SkipEnd, ahead, ahead_by, skip, skip_ahead}
-use Rattle.granit_restart.specs.Skipping.{skip_in, skip_turn, with_pending}
+use Rattle.granit_restart.specs.Skipping.{NoEnd, BehindDocument, Ended, SkipEnd, ahead, ahead_by, skip_by_turns}
+use Rattle.granit_restart.specs.Skipping.{skip_ahead, skip_in, skip_turn, with_pending}
 use Rattle.granit_restart.specs.Turned.{Turned, turned_on, turned_with}
 use Rattle.granit_steps.proofs.Futures.{TurnKeeps, turn_keeps}
 use Rattle.granit_steps.proofs.StepLaws.{step_turn-Shortens}
@@ -107,7 +107,7 @@ module _ (o : OptionsData) where
   then_in n t = skip_turn (skip_in o n) t (step_turn o t)
 
   waiting_dropped : (s : StepState) (es : List PlainEvent) → ahead s.pending ≡ ahead es
-      → skip o s ≡ skip o (with_pending es s)
+      → skip_by_turns o s ≡ skip_by_turns o (with_pending es s)
   waiting_dropped s es e = ap (skip_ahead (then_in (step_size s)) s) e
 
   other_ahead : (kind : EventKind) (e : PlainEvent) (es : List PlainEvent) → ends kind ≡ false
@@ -118,24 +118,25 @@ module _ (o : OptionsData) where
 
   -- where no event waits, a turn is one of skipping too
   skip_turned : (s u : StepState) (given : List PlainEvent) → s.pending ≡ [] → step_turn o s ≡ Ok (Some given, u)
-      → skip o s ≡ skip o u
+      → skip_by_turns o s ≡ skip_by_turns o u
   skip_turned s u given none is =
       let same : with_pending [] s ≡ s = ap (λ es. with_pending es s) (sym none) in
       turnwise.skip_on o s u given (ap ahead none) (ap (step_turn o) same ∙ is)
 
-  skip_comes : (e : PlainEvent) (t s : StepState) → ends e.kind ≡ false → Comes e t s → skip o s ≡ skip o t
+  skip_comes : (e : PlainEvent) (t s : StepState) → ends e.kind ≡ false → Comes e t s
+      → skip_by_turns o s ≡ skip_by_turns o t
   skip_comes e t s other (waits es is after) =
       waiting_dropped s es (ap (λ (u : StepState). ahead u.pending) is ∙ other_ahead e.kind e es other)
-      ∙ ap (skip o) (sym after)
+      ∙ ap (skip_by_turns o) (sym after)
   skip_comes e t s other (comes_on {u = u} given none is more) =
       skip_turned s u given none is ∙ skip_comes e t u other more
 
   -- an event that is no end is dropped first
   pub skip_over : (s t : StepState) (e : PlainEvent) → Turned o s → next_event o s ≡ Ok (Some e, t)
-      → ends e.kind ≡ false → skip o s ≡ skip o t
+      → ends e.kind ≡ false → skip_by_turns o s ≡ skip_by_turns o t
   skip_over s t e turned next other = skip_comes e t s other (comes s t e turned next)
 
-  end_comes : (e : PlainEvent) (t s : StepState) → e.kind ≡ DocumentEnd → Comes e t s → skip o s ≡ Ended t
+  end_comes : (e : PlainEvent) (t s : StepState) → e.kind ≡ DocumentEnd → Comes e t s → skip_by_turns o s ≡ Ended t
   end_comes e t s end (waits es is after) =
       turnwise.skip_document o s es (ap (λ (u : StepState). ahead u.pending) is
       ∙ ap (λ kind. ahead_by kind e es (ahead es)) end) ∙ ap Ended (sym after)
@@ -144,7 +145,7 @@ module _ (o : OptionsData) where
 
   -- the end of a document that comes next is where skipping ends
   pub skip_to_end : (s t : StepState) (e : PlainEvent) → Turned o s → next_event o s ≡ Ok (Some e, t)
-      → e.kind ≡ DocumentEnd → skip o s ≡ Ended t
+      → e.kind ≡ DocumentEnd → skip_by_turns o s ≡ Ended t
   skip_to_end s t e turned next end = end_comes e t s end (comes s t e turned next)
 
   -- ---- ahead

@@ -9,8 +9,7 @@ use Rattle.granit_parser.proofs.CallLemmas.{Comes, comes, comes_on, waits}
 use Rattle.granit_parser.proofs.GoesLemmas.{noted_steps}
 use Rattle.granit_parser.proofs.InLemmas.{goes_in, open_seen}
 use Rattle.granit_parser.specs.Parsing.{Next, Parsing, StandsBefore}
-use Rattle.granit_parser.specs.Recovering.{ChangesIn, Goes, IsOpen, ParserIn, SeenBy}
-use Rattle.granit_parser.specs.Recovering.{SeenNext}
+use Rattle.granit_parser.specs.Recovering.{ChangesIn, GoesWithCalls, IsOpen, ParserIn, SeenBy, SeenNext}
 use Rattle.granit_recovery.specs.Streams.{EarlyOf, not_early, turn_early}
 use Rattle.granit_restart.proofs.AheadLaws.{one, OneTurn, waits_next}
 use Rattle.granit_restart.specs.Ahead.{AheadOf, not_ahead, turn_made}
@@ -79,7 +78,7 @@ module _ {I : Type 0} (unread : I → Unread → Type 0) (change : StepState →
       → ParserIn unread p c → ParserIn unread q (record c { steps = change c.steps })
   changed_there c opened unseen at is =
       let d : Calls = record c { steps = change c.steps } in
-      let g : Goes unread p.stepper c =
+      let g : GoesWithCalls unread p.stepper c =
       subst (λ (w : Next). SeenBy unread w p.stepper c) unseen (open_seen unread p c opened is) in
       goes_in unread q d opened.refusal opened.fault (over_same ∙ is.over) (between_same ∙ is.between opened)
       (subst (λ (w : Next). SeenBy unread w q.stepper d) (sym (peeked ∙ unseen)) (record {
@@ -95,8 +94,8 @@ module _ {I : Type 0} (unread : I → Unread → Type 0) (change : StepState →
     stands_exactly m (inl at) = at
     stands_exactly m (inr held) = absurd (let f = sym none ∙ held.ahead in cc)
 
-    goes_changed : (c d : Calls) (g : Goes unread p.stepper c) → d.steps ≡ change g.steps
-        → (d.between ≡ true → c.between ≡ true) → Goes unread q.stepper d
+    goes_changed : (c d : Calls) (g : GoesWithCalls unread p.stepper c) → d.steps ≡ change g.steps
+        → (d.between ≡ true → c.between ≡ true) → GoesWithCalls unread q.stepper d
     goes_changed c d g is between = record {
       steps = change g.steps;
       ahead = subst (λ m. AheadOf q.stepper.scanner.options m (change g.steps)) (sym is) not_ahead;

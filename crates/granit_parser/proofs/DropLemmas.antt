@@ -18,23 +18,22 @@ use Rattle.granit_parser.proofs.RecoverLemmas.{look_other, seen_call, skipped_he
 use Rattle.granit_parser.proofs.RecoverLemmas.{starts_between, starts_fault, starts_over, starts_steps}
 use Rattle.granit_parser.specs.Parsing.{EndsBehind, Next, Parsing}
 use Rattle.granit_parser.specs.Recovering as spec
-use Rattle.granit_parser.specs.Recovering.{AnswersBy, AsksAt, AsksBefore, AsksBy, AsksNow, ComesBy, Failed, Goes}
-use Rattle.granit_parser.specs.Recovering.{MeetsNumber, ParserIn, SeenBy, SeenNext, SeenTells, Skips, StaysBy, asking}
-use Rattle.granit_parser.specs.Recovering.{comes_ahead, comes_anew, comes_dropping, comes_here, comes_seen}
-use Rattle.granit_parser.specs.Recovering.{StopsBy, StopsDropping, StopsIn, comes_behind, comes_ended}
-use Rattle.granit_parser.specs.Recovering.{seen_comment, seen_in, seen_kind, seen_other}
+use Rattle.granit_parser.specs.Recovering.{AnswersBy, AsksAt, AsksBefore, AsksBy, AsksNow, ComesBy, Failed}
+use Rattle.granit_parser.specs.Recovering.{GoesWithCalls, MeetsNumber, ParserIn, SeenBy, SeenNext, SeenTells}
+use Rattle.granit_parser.specs.Recovering.{SkipsToAsk, StaysBy, asking_document, comes_ahead, comes_anew}
+use Rattle.granit_parser.specs.Recovering.{comes_dropping, comes_here, comes_seen, StopsBy, StopsDropping, StopsIn}
+use Rattle.granit_parser.specs.Recovering.{comes_behind, comes_ended, seen_comment, seen_in, seen_kind, seen_other}
 use Rattle.granit_parser.specs.declared.recovery.Seen.TheVariants as seens
 use Rattle.granit_recovery.specs.Asking.{LookTells}
-use Rattle.granit_recovery.specs.Streams.{Reached, reached_call, reached_recovery}
+use Rattle.granit_recovery.specs.Streams.{ReachedByCalls, reached_call, reached_recovery}
 use Rattle.granit_restart.proofs.AheadLaws.{skip_alike}
 use Rattle.granit_restart.specs.Ahead.{AheadOf, NoneComes, is_note, not_ahead}
 use Rattle.granit_restart.specs.Calls.{Calls, next_call, noted}
 use Rattle.granit_restart.specs.Following.{document_follows}
-use Rattle.granit_restart.specs.Recovery.{comment_of, looked_by, recover, recovered, resumed}
-use Rattle.granit_restart.specs.Recovery.{skipped, starts_by}
+use Rattle.granit_restart.specs.Recovery.{comment_count, looked_by, recover, recovered, resumed, skipped, starts_by}
 use Rattle.granit_restart.specs.Restart.{behind_fault}
-use Rattle.granit_restart.specs.Skipping.{Ended, Failed as failed_there, SkipEnd, Stops, skip, skipped_document}
-use Rattle.granit_restart.specs.Skipping.{skipped_fault, skipped_to}
+use Rattle.granit_restart.specs.Skipping.{Ended, Failed as failed_there, SkipEnd, Stops, skip_by_turns}
+use Rattle.granit_restart.specs.Skipping.{skipped_document, skipped_fault, skipped_to}
 use Rattle.granit_restart.specs.Turned.{Turned}
 use Rattle.granit_stepper.specs.Numbers.{RefusesNumber}
 use Rattle.granit_stepper.specs.Recovering.{DropsOn, SkipsDocument, SkipsFault}
@@ -56,24 +55,24 @@ on_ok (Err e) a b C f = tt
 -- ---- the laws on where recovery asks
 
 abbrev pub TellsHere : OptionsData → Type 0
-TellsHere o = (stops : Stops) (c : Calls) → Reached o c → c.over ≡ false → LookTells o (skipped o stops c).steps
+TellsHere o = (stops : Stops) (c : Calls) → ReachedByCalls o c → c.over ≡ false → LookTells o (skipped o stops c).steps
 
 abbrev pub TellsLooked : OptionsData → Type 0
-TellsLooked o = (stops : Stops) (c : Calls) → Reached o c → (looked_by c (next_call o c)).over ≡ false
+TellsLooked o = (stops : Stops) (c : Calls) → ReachedByCalls o c → (looked_by c (next_call o c)).over ≡ false
     → LookTells o (skipped o stops (looked_by c (next_call o c))).steps
 
 abbrev pub TakesRoom : OptionsData → Type 0
-TakesRoom o = (stops : Stops) (c : Calls) (e : PlainEvent) (after : StepState) (room : ℕ) → Reached o c
+TakesRoom o = (stops : Stops) (c : Calls) (e : PlainEvent) (after : StepState) (room : ℕ) → ReachedByCalls o c
     → c.over ≡ false → next_event o (skipped o stops c).steps ≡ Ok (Some e, after) → is_note e.kind ≡ true
     → document_follows o (suc room) (skipped o stops c).steps ≡ document_follows o room after
 
 abbrev pub GoByTurns : OptionsData → Type 0
-GoByTurns o = (c : Calls) → Reached o c → Turned o c.steps
+GoByTurns o = (c : Calls) → ReachedByCalls o c → Turned o c.steps
 
 module _ {I : Type 0} (unread : I → Unread → Type 0) where
   -- only the steps matter, and whether the end of a document was the last
   pub goes_same : (s : Stepping I) (c d : Calls) → c.steps ≡ d.steps → (d.between ≡ true → c.between ≡ true)
-      → Goes unread s c → Goes unread s d
+      → GoesWithCalls unread s c → GoesWithCalls unread s d
   goes_same s c d same between g = record {
     steps = g.steps;
     ahead = subst (λ m. AheadOf s.scanner.options m g.steps) same g.ahead;
@@ -82,7 +81,8 @@ module _ {I : Type 0} (unread : I → Unread → Type 0) where
     told = λ b. g.told (between b);
   }
 
-  exactly : (s : Stepping I) (m : StepState) → StandsAhead unread s m → s.first ≡ None → Goes unread s (asking m)
+  exactly : (s : Stepping I) (m : StepState) → StandsAhead unread s m → s.first ≡ None
+      → GoesWithCalls unread s (asking_document m)
   exactly s m stands first = record {
     steps = m;
     ahead = not_ahead;
@@ -92,7 +92,7 @@ module _ {I : Type 0} (unread : I → Unread → Type 0) where
   }
 
   -- the state in which recovery asks is one that turns and restarts lead to
-  asks_turned : (o : OptionsData) (stops : Stops) (looked : Bool) (c : Calls) (m : StepState) → Reached o c
+  asks_turned : (o : OptionsData) (stops : Stops) (looked : Bool) (c : Calls) (m : StepState) → ReachedByCalls o c
       → GoByTurns o → recover o stops looked c ≡ recovered o 0 (resumed m) → Turned o m
   asks_turned o stops looked c m reached by_turns recovers =
       subst (Turned o) (ap (λ (x : Result Bool Fault × Calls). x.1.steps) recovers
@@ -137,7 +137,8 @@ module _ {I : Type 0} (unread : I → Unread → Type 0) where
 
       -- ---- behind a fault
 
-      module _ (o : OptionsData) (looked : Bool) (reached : Reached o c) (tells : TellsHere o) (by_turns : GoByTurns o)
+      module _ (o : OptionsData) (looked : Bool) (reached : ReachedByCalls o c) (tells : TellsHere o)
+          (by_turns : GoByTurns o)
           (new : Stepping I) (same : new.scanner.options ≡ o) where
         pub fault_asks : (cursor : Reading I) (f : Fault) → c.fault ≡ Some f → SkipsFault unread o cursor f new c.steps
             → new.first ≡ None → AsksFrom unread cursor looked new c
@@ -173,12 +174,12 @@ module _ {I : Type 0} (unread : I → Unread → Type 0) where
 
       module _ (cursor : Reading I) (fault : c.fault ≡ None) (o : OptionsData) (looked : Bool) (new : Stepping I)
           (same : new.scanner.options ≡ o) (t : StepState)
-          (skips : skip o c.steps ≡ skip o t) (path : ComesBy o c.steps t)
+          (skips : skip_by_turns o c.steps ≡ skip_by_turns o t) (path : ComesBy o c.steps t)
           (recovers : (stops : Stops) → recover o stops looked c
           ≡ recovered o 0 (resumed (skipped_document o stops c.steps)))
           (tells : (stops : Stops) → LookTells o (skipped_document o stops c.steps))
-          (reached : Reached o c) (by_turns : GoByTurns o) where
-        stops_fit : (stops : Stops) (r : SkipEnd) → skip o t ≡ r → StopsDropping o stops r
+          (reached : ReachedByCalls o c) (by_turns : GoByTurns o) where
+        stops_fit : (stops : Stops) (r : SkipEnd) → skip_by_turns o t ≡ r → StopsDropping o stops r
             → StopsIn unread cursor new.scanner.options stops c
         stops_fit stops r is fit =
             let by : StopsBy unread cursor o stops c.fault c.steps =
@@ -209,7 +210,7 @@ module _ {I : Type 0} (unread : I → Unread → Type 0) where
             subst (λ o'. MeetsNumber new.renumbered o' c.steps) (sym same) (n, e, comes, number)
 
         fault_met : (n : StepState) (e : Refused) → ComesBy o c.steps n
-            → (skip o t ≡ failed_there e n) ⊎ RefusesNumber new.renumbered o n e
+            → (skip_by_turns o t ≡ failed_there e n) ⊎ RefusesNumber new.renumbered o n e
             → (later : Reading I) → SkipsFault unread o later e new n → new.first ≡ None
             → AsksFrom unread cursor looked new c
             ⊎ MeetsNumber new.renumbered new.scanner.options c.steps
@@ -237,25 +238,26 @@ module _ {I : Type 0} (unread : I → Unread → Type 0) where
 
 -- ---- what was looked at
 
-begins_not : (kind : EventKind) → spec.starts (seen_kind kind) ≡ false → begins kind ≡ false
+begins_not : (kind : EventKind) → spec.seen_starts_document (seen_kind kind) ≡ false → begins kind ≡ false
 begins_not (DocumentStart explicit version) e = absurd (cc)
 begins_not kind e = refl
 
-begins_is : (kind : EventKind) → spec.starts (seen_kind kind) ≡ true → begins kind ≡ true
+begins_is : (kind : EventKind) → spec.seen_starts_document (seen_kind kind) ≡ true → begins kind ≡ true
 begins_is (DocumentStart explicit version) e = refl
 begins_is DocumentEnd e = absurd (cc)
 begins_is StreamEnd e = absurd (cc)
 begins_is (Comment text placement) e = absurd (cc)
 begins_is kind e = absurd (cc)
 
-ends_is : (kind : EventKind) → spec.ends (seen_kind kind) ≡ true → kind ≡ DocumentEnd
+ends_is : (kind : EventKind) → spec.seen_ends_document (seen_kind kind) ≡ true → kind ≡ DocumentEnd
 ends_is DocumentEnd e = refl
 ends_is (DocumentStart explicit version) e = absurd (cc)
 ends_is StreamEnd e = absurd (cc)
 ends_is (Comment text placement) e = absurd (cc)
 ends_is kind e = absurd (cc)
 
-ends_not : (kind : EventKind) → spec.ends (seen_kind kind) ≡ false → (seen_kind kind ≡ seens.StreamEnd → ⊥)
+ends_not : (kind : EventKind) → spec.seen_ends_document (seen_kind kind) ≡ false
+    → (seen_kind kind ≡ seens.StreamEnd → ⊥)
     → ends kind ≡ false
 ends_not DocumentEnd e other = absurd (cc)
 ends_not StreamEnd e other = absurd (other refl)
@@ -264,10 +266,10 @@ ends_not kind e other = refl
 noted_end : (kind : EventKind) (c : Calls) → kind ≡ DocumentEnd → (noted kind c).between ≡ true
 noted_end kind c e = ap (λ k. (noted k c).between) e
 
-dropped_by : (b : Bool) (kind : EventKind) → (b && not (spec.starts (seen_kind kind))) ≡ false
+dropped_by : (b : Bool) (kind : EventKind) → (b && not (spec.seen_starts_document (seen_kind kind))) ≡ false
     → (b ≡ false) ⊎ (begins kind ≡ true)
 dropped_by false kind e = inl refl
-dropped_by true kind e = inr (begins_is kind (started (spec.starts (seen_kind kind)) e))
+dropped_by true kind e = inr (begins_is kind (started (spec.seen_starts_document (seen_kind kind)) e))
   where
     started : (b : Bool) → not b ≡ false → b ≡ true
     started true e = refl
@@ -279,7 +281,7 @@ within_by false e = refl
 
 module _ {I : Type 0} (unread : I → Unread → Type 0) (p : Parsing I) (c : Calls) (at : ParserIn unread p c)
     (over : c.over ≡ false) (refusal : c.refusal ≡ None) (fault : c.fault ≡ None) (o : OptionsData)
-    (same : p.stepper.scanner.options ≡ o) (reached : Reached o c) (tells : TellsHere o) where
+    (same : p.stepper.scanner.options ≡ o) (reached : ReachedByCalls o c) (tells : TellsHere o) where
   between_is : (b : Bool) → p.between ≡ b → c.between ≡ b
   between_is b e = sym (at.between (record { over = over; fault = fault; refusal = refusal })) ∙ e
 
@@ -300,7 +302,7 @@ module _ {I : Type 0} (unread : I → Unread → Type 0) (p : Parsing I) (c : Ca
 
   module _ (between : p.between ≡ true) where
     abbrev stops : Stops
-    stops = fitting o (skip o c.steps)
+    stops = fitting o (skip_by_turns o c.steps)
 
     here : (skipped o stops c).steps ≡ c.steps
     here = ap (λ (d : Calls). d.steps) (skipped_here o stops c fault (between_is true between))
@@ -308,7 +310,7 @@ module _ {I : Type 0} (unread : I → Unread → Type 0) (p : Parsing I) (c : Ca
     tells_here : LookTells o c.steps
     tells_here = subst (LookTells o) here (tells stops c reached over)
 
-    none_stays : Goes unread p.stepper c → GoByTurns o → AsksNow unread stops false p.stepper c
+    none_stays : GoesWithCalls unread p.stepper c → GoByTurns o → AsksNow unread stops false p.stepper c
     unfolding goes_same
     none_stays g by_turns = record {
       steps = c.steps;
@@ -318,7 +320,7 @@ module _ {I : Type 0} (unread : I → Unread → Type 0) (p : Parsing I) (c : Ca
         tells = subst (λ o'. LookTells o' c.steps) (sym same) tells_here;
         comes = comes_here;
       };
-      goes = goes_same unread p.stepper c (asking c.steps) refl (λ b. between_is true between) g;
+      goes = goes_same unread p.stepper c (asking_document c.steps) refl (λ b. between_is true between) g;
       turned = subst (λ o. Turned o g.steps) (sym same) (ahead_turned o c.steps g.steps
           (subst (λ o. AheadOf o c.steps g.steps) same g.ahead) (by_turns c reached));
     }
@@ -355,7 +357,7 @@ module _ {I : Type 0} (unread : I → Unread → Type 0) (p : Parsing I) (c : Ca
       event_stays = record {
         steps = c.steps;
         asks = record {
-          recovers = subst (λ o'. recover o' stops true c ≡ recovered o' (comment_of e.kind) (resumed c.steps)) (sym
+          recovers = subst (λ o'. recover o' stops true c ≡ recovered o' (comment_count e.kind) (resumed c.steps)) (sym
               same)
               (asks_seen o stops c refusal over fault e n.steps (next_in e n) (between_is true between) other);
           tells = subst (λ o'. LookTells o' c.steps) (sym same) tells_here;
@@ -365,10 +367,11 @@ module _ {I : Type 0} (unread : I → Unread → Type 0) (p : Parsing I) (c : Ca
           steps = n.steps;
           next = n.next;
           goes = goes_same unread p.stepper (noted e.kind (record c { steps = n.steps }))
-              (noted e.kind (record (asking c.steps) { steps = n.steps }))
+              (noted e.kind (record (asking_document c.steps) { steps = n.steps }))
               (noted_steps e.kind (record c { steps = n.steps })
-              ∙ sym (noted_steps e.kind (record (asking c.steps) { steps = n.steps })))
-              (λ b. noted_same e.kind (record c { steps = n.steps }) (record (asking c.steps) { steps = n.steps })
+              ∙ sym (noted_steps e.kind (record (asking_document c.steps) { steps = n.steps })))
+              (λ b. noted_same e.kind (record c { steps = n.steps })
+              (record (asking_document c.steps) { steps = n.steps })
               (between_is true between) ∙ b) n.goes;
         };
         turned = subst (λ o'. Turned o' n.goes.steps) (sym same) (seen_turned e n by_turns);
@@ -382,24 +385,26 @@ module _ {I : Type 0} (unread : I → Unread → Type 0) (p : Parsing I) (c : Ca
           noted_same StreamEnd a d e = e
           noted_same kind a d e = e
 
-  fitting_in : (cursor : Reading I) → StopsIn unread cursor p.stepper.scanner.options (fitting o (skip o c.steps)) c
+  fitting_in : (cursor : Reading I) → StopsIn unread cursor p.stepper.scanner.options
+      (fitting o (skip_by_turns o c.steps)) c
   fitting_in cursor =
-      let stops = fitting o (skip o c.steps) in
+      let stops = fitting o (skip_by_turns o c.steps) in
       let by : StopsBy unread cursor o stops c.fault c.steps =
-      subst (λ (f : Option Fault). StopsBy unread cursor o stops f c.steps) (sym fault) (fits o (skip o c.steps)) in
+      subst (λ (f : Option Fault). StopsBy unread cursor o stops f c.steps) (sym fault)
+      (fits o (skip_by_turns o c.steps)) in
       subst (λ o'. StopsIn unread cursor o' stops c) (sym same) (λ over refusal. by)
 
   -- what was looked at stays
   pub all_stays : (cursor : Reading I) → SeenBy unread p.peeked p.stepper c → p.between ≡ true → GoByTurns o
-      → TakesRoom o → spec.starts (seen_in p.peeked) ≡ false → (seen_in p.peeked ≡ seens.StreamEnd → ⊥)
+      → TakesRoom o → spec.seen_starts_document (seen_in p.peeked) ≡ false → (seen_in p.peeked ≡ seens.StreamEnd → ⊥)
       → (stops : Stops) × StopsIn unread cursor p.stepper.scanner.options stops c
       × AsksBy unread stops (is_some p.peeked) p.peeked p.stepper c
   all_stays cursor seen between by_turns room other going =
-      (fitting o (skip o c.steps), fitting_in cursor, by p.peeked seen other going)
+      (fitting o (skip_by_turns o c.steps), fitting_in cursor, by p.peeked seen other going)
     where
-      by : (r : Next) → SeenBy unread r p.stepper c → spec.starts (seen_in r) ≡ false
+      by : (r : Next) → SeenBy unread r p.stepper c → spec.seen_starts_document (seen_in r) ≡ false
           → (seen_in r ≡ seens.StreamEnd → ⊥)
-          → AsksBy unread (fitting o (skip o c.steps)) (is_some r) r p.stepper c
+          → AsksBy unread (fitting o (skip_by_turns o c.steps)) (is_some r) r p.stepper c
       by None g other going = none_stays between g by_turns
       by (Some (Ok x)) n other going =
           event_stays between (plain_event x) n by_turns room (begins_not (plain_event x).kind other) going
@@ -408,17 +413,18 @@ module _ {I : Type 0} (unread : I → Unread → Type 0) (p : Parsing I) (c : Ca
   -- ---- the end of a document that was looked at goes
 
   pub end_goes : (cursor : Reading I) → SeenBy unread p.peeked p.stepper c → GoByTurns o
-      → (p.between && not (spec.starts (seen_in p.peeked))) ≡ false → spec.ends (seen_in p.peeked) ≡ true
+      → (p.between && not (spec.seen_starts_document (seen_in p.peeked))) ≡ false
+      → spec.seen_ends_document (seen_in p.peeked) ≡ true
       → AsksFrom unread cursor (is_some p.peeked) p.stepper c
   unfolding goes_same
   end_goes cursor seen by_turns not_here ended =
-      (fitting o (skip o c.steps), fitting_in cursor, by p.peeked seen not_here ended)
+      (fitting o (skip_by_turns o c.steps), fitting_in cursor, by p.peeked seen not_here ended)
     where
       event : (e : PlainEvent) → SeenNext unread p.stepper e c → e.kind ≡ DocumentEnd → c.between ≡ false
-          → AsksNow unread (fitting o (skip o c.steps)) true p.stepper c
+          → AsksNow unread (fitting o (skip_by_turns o c.steps)) true p.stepper c
       event e n end within =
-          let stops = fitting o (skip o c.steps) in
-          let skips : skip o c.steps ≡ Ended n.steps =
+          let stops = fitting o (skip_by_turns o c.steps) in
+          let skips : skip_by_turns o c.steps ≡ Ended n.steps =
           skip_to_end o c.steps n.steps e (by_turns c reached) (next_in e n) end in
           let is : skipped_document o stops c.steps ≡ n.steps = ap (skipped_to o stops) skips in
           record {
@@ -431,7 +437,7 @@ module _ {I : Type 0} (unread : I → Unread → Type 0) (p : Parsing I) (c : Ca
                   (ap (λ (d : Calls). d.steps) (skipped_on o stops c fault within) ∙ is) (tells stops c reached over));
               comes = subst (λ o'. ComesBy o' c.steps n.steps) (sym same) (comes_seen comes_here (next_in e n));
             };
-            goes = goes_same unread p.stepper (noted e.kind (record c { steps = n.steps })) (asking n.steps)
+            goes = goes_same unread p.stepper (noted e.kind (record c { steps = n.steps })) (asking_document n.steps)
                 (noted_steps e.kind (record c { steps = n.steps })) (λ b. noted_end e.kind (record c {
                   steps = n.steps;
                 }) end)
@@ -439,12 +445,14 @@ module _ {I : Type 0} (unread : I → Unread → Type 0) (p : Parsing I) (c : Ca
             turned = subst (λ o'. Turned o' n.goes.steps) (sym same) (seen_turned e n by_turns);
           }
 
-      other_end : (b : Bool) (kind : EventKind) → kind ≡ DocumentEnd → (b && not (spec.starts (seen_kind kind))) ≡ false
+      other_end : (b : Bool) (kind : EventKind) → kind ≡ DocumentEnd
+          → (b && not (spec.seen_starts_document (seen_kind kind))) ≡ false
           → b ≡ false
-      other_end b kind end e = within_by b (ap (λ k. b && not (spec.starts (seen_kind k))) (sym end) ∙ e)
+      other_end b kind end e = within_by b (ap (λ k. b && not (spec.seen_starts_document (seen_kind k))) (sym end) ∙ e)
 
-      by : (r : Next) → SeenBy unread r p.stepper c → (p.between && not (spec.starts (seen_in r))) ≡ false
-          → spec.ends (seen_in r) ≡ true → AsksNow unread (fitting o (skip o c.steps)) (is_some r) p.stepper c
+      by : (r : Next) → SeenBy unread r p.stepper c → (p.between && not (spec.seen_starts_document (seen_in r))) ≡ false
+          → spec.seen_ends_document (seen_in r) ≡ true
+          → AsksNow unread (fitting o (skip_by_turns o c.steps)) (is_some r) p.stepper c
       by None g not_here ended = absurd (cc)
       by (Some (Ok x)) n not_here ended =
           let end = ends_is (plain_event x).kind ended in
@@ -455,7 +463,7 @@ module _ {I : Type 0} (unread : I → Unread → Type 0) (p : Parsing I) (c : Ca
 
   module _ (cursor : Reading I) (new : Stepping I) (kept : new.scanner.options ≡ o) (first : new.first ≡ None)
       (by_turns : GoByTurns o) (looks : TellsLooked o) where
-    none_goes : (g : Goes unread p.stepper c) → p.between ≡ false → SkipsDocument unread o new g.steps
+    none_goes : (g : GoesWithCalls unread p.stepper c) → p.between ≡ false → SkipsDocument unread o new g.steps
         → AsksFrom unread cursor false new c ⊎ MeetsNumber new.renumbered new.scanner.options c.steps
     none_goes g within skips =
         let b = between_is false within in
@@ -495,15 +503,17 @@ module _ {I : Type 0} (unread : I → Unread → Type 0) (p : Parsing I) (c : Ca
         skips first
 
     pub document_goes : SeenBy unread p.peeked p.stepper c
-        → (p.between && not (spec.starts (seen_in p.peeked))) ≡ false → spec.ends (seen_in p.peeked) ≡ false
+        → (p.between && not (spec.seen_starts_document (seen_in p.peeked))) ≡ false
+        → spec.seen_ends_document (seen_in p.peeked) ≡ false
         → (seen_in p.peeked ≡ seens.StreamEnd → ⊥)
         → ((m : StepState) → StandsAhead unread p.stepper m → Turned o m → SkipsDocument unread o new m)
         → AsksFrom unread cursor (is_some p.peeked) new c
         ⊎ MeetsNumber new.renumbered new.scanner.options c.steps
     document_goes seen not_here other going skips = by p.peeked seen not_here other going
       where
-        by : (r : Next) → SeenBy unread r p.stepper c → (p.between && not (spec.starts (seen_in r))) ≡ false
-            → spec.ends (seen_in r) ≡ false → (seen_in r ≡ seens.StreamEnd → ⊥)
+        by : (r : Next) → SeenBy unread r p.stepper c
+            → (p.between && not (spec.seen_starts_document (seen_in r))) ≡ false
+            → spec.seen_ends_document (seen_in r) ≡ false → (seen_in r ≡ seens.StreamEnd → ⊥)
             → AsksFrom unread cursor (is_some r) new c
             ⊎ MeetsNumber new.renumbered new.scanner.options c.steps
         by None g not_here other going =

@@ -14,7 +14,7 @@ use Rattle.granit_parser.specs.Parsing.{IsOver, Next, Parsing, StandsAt, StandsB
 use Rattle.granit_parser.specs.Receiving.{none_sent, sent_on, sends_last, sends_on, SendsSome, end_again}
 use Rattle.granit_parser.specs.Receiving.{sends_some, SendsUpTo, up_to_end_again, up_to_this, IsPlaceOf}
 use Rattle.granit_receivers.specs.Sending.{is_last}
-use Rattle.granit_parser.specs.Receiving.{Loads, LoadsRest, RefusesBehind, RefusesIn, Tries, TriesRest}
+use Rattle.granit_parser.specs.Receiving.{Loads, LoadsRest, RefusalIn, RefusesBehind, Tries, TriesRest}
 use Rattle.granit_receivers.proofs.TakingLemmas.{took_more, took_none}
 use Rattle.granit_receivers.specs.Taking.{Told, Took}
 use Rattle.granit_receivers.specs.declared.error.TryLoadError.{TryLoadError}
@@ -114,7 +114,7 @@ module _ {I : Type 0} (unread : I → Unread → Type 0) (origin : I → Origin)
 
 -- a refusal comes first
 module _ {I : Type 0} (unread : I → Unread → Type 0) (origin : I → Origin) (o : OptionsData) (multi : Bool)
-    (m : StepState) (told : Told) (p : Parsing I) (e : Refused) (fails : RefusesIn origin o m p e) where
+    (m : StepState) (told : Told) (p : Parsing I) (e : Refused) (fails : RefusalIn origin o m p e) where
   nothing_sent : (f : Refused) → f ≡ e → RefusesBehind origin o multi m (Took told told) p f
   nothing_sent f is =
       subst (λ (g : Refused). RefusesBehind origin o multi m (Took told told) p g) (sym is)

@@ -1,6 +1,6 @@
 -- All events that a parser still gives, as one list.
-use Rattle.std.proofs.Common.{◌≡◌, ℕ, Bool, true, false, ◌==◌, ◌||◌, not, List, [], ◌∷◌, ◌++◌, length, Some, None}
-use Rattle.std.proofs.Common.{Result, Ok, Err, refl, sym, ap, subst, ◌⊎◌, inl, inr}
+use Rattle.std.proofs.Common.{◌≡◌, ◌<◌, ◌-◌, ◌^◌, ℕ, Bool, true, false, ◌==◌, ◌||◌, not, List, [], ◌∷◌, ◌++◌, length}
+use Rattle.std.proofs.Common.{Some, None, Result, Ok, Err, refl, sym, ap, subst, ◌⊎◌, inl, inr}
 use Rattle.std.specs.Prelude.{IfErr, IfOk, IfSome}
 use Rattle.std.proofs.lemmas.List.{append-nil}
 use Rattle.granit_base.specs.Place.{Unread}
@@ -12,9 +12,10 @@ use Rattle.granit_input.proofs.OriginLemmas.{goes_on}
 use Rattle.granit_input.specs.Origin.{Goes, Origin}
 use Rattle.granit_lexemes.specs.Outcome.{Fails}
 use Rattle.granit_lexemes.specs.PlainEvent.{PlainEvent}
+use Rattle.granit_machine.specs.Frames.{ParserState}
 use Rattle.granit_parser.specs.Gathering.{Gathered, LeadsOut, RefusesLate}
 use Rattle.granit_parser.specs.Parsing.{LeadsTo, Next, Parsing, StandsAt, StandsBefore, none_given, first_given}
-use Rattle.granit_parser.specs.Receiving.{RefusesIn}
+use Rattle.granit_parser.specs.Receiving.{RefusalIn}
 use Rattle.granit_parser.proofs.SourceLemmas.{giving_on, moves_seen}
 use Rattle.granit_parser.specs.Sources.{GoesGiving, GoesUnless, IfUnseen, MovesUnless, TellsSource}
 use Rattle.granit_restart.specs.Skipping.{with_pending}
@@ -50,6 +51,18 @@ settled_all o m after e es settled is =
 
 -- ---- in the code
 
+-- fewer anchors are counted than the greatest number of 64 bits
+few_numbered : {I : Type 0} (unread : I → Unread → Type 0) (s : Stepping I) (m : StepState) → StandsIn unread s m
+    → m.parser.count < 2 ^ 64 - 1
+few_numbered unread s m at = subst (λ (p : ParserState). p.count < 2 ^ 64 - 1) (sym at.parser) at.numbers
+
+-- the same where nothing is given
+pub none_numbered : {I : Type 0} (unread : I → Unread → Type 0) (m : StepState) (peeked : Next) (old new : Stepping I)
+    → IfSome peeked (λ x. ◌≡◌ {A = Next} None (Some x) × (new ≡ old)) → StandsBefore unread peeked old m
+    → m.parser.count < 2 ^ 64 - 1
+none_numbered unread m None old new seen at = few_numbered unread old m at
+none_numbered unread m (Some x) old new seen at = absurd (let clash : None ≡ Some x = seen.0 in cc)
+
 module _ {I : Type 0} (unread : I → Unread → Type 0) (o : OptionsData) (m : StepState) where
   -- one event was given
   pub gathered_first : (p : Parsing I) (e : PlainEvent) → p.peeked ≡ None → (n : StepState) → StandsAt unread p n
@@ -75,12 +88,13 @@ module _ {I : Type 0} (unread : I → Unread → Type 0) (o : OptionsData) (m : 
       subst (λ (es : List PlainEvent). Gathered unread o m es after) (sym g.3)
       (more_by before.0 g.0 after old g.0.pending before.1 g.1 g.2 refl g.4)
 
-  none_by : (n after : StepState) (old waiting : List PlainEvent) → LeadsTo o m old n → settle o n ≡ Ok ([], after)
-      → after.pending ≡ waiting → false ≡ not (length waiting == 0) → LeadsOut o m (old ++ waiting)
-  none_by n after old [] leads settled is none =
+  none_by : (n after : StepState) (old waiting : List PlainEvent) → LeadsTo o m old n
+      → n.parser.count < 2 ^ 64 - 1 → settle o n ≡ Ok ([], after) → after.pending ≡ waiting
+      → false ≡ not (length waiting == 0) → LeadsOut o m (old ++ waiting)
+  none_by n after old [] leads few settled is none =
       subst (λ (es : List PlainEvent). LeadsOut o m es) (sym (append-nil old))
-      (n, leads, (with_pending [] after, settled_ends o n after settled is))
-  none_by n after old (e ∷ es) leads settled is none =
+      (n, leads, few, (with_pending [] after, settled_ends o n after settled is))
+  none_by n after old (e ∷ es) leads few settled is none =
       absurd (let clash : e ∷ es ≡ [] = none_waits (e ∷ es) (sym none) in cc)
 
   -- nothing is left
@@ -91,11 +105,11 @@ module _ {I : Type 0} (unread : I → Unread → Type 0) (o : OptionsData) (m : 
   gathers_all now after Refuses old new gives before =
       let g = gives before.0 before.2 in
       subst (λ (es : List PlainEvent). LeadsOut o m es) (sym g.3)
-      (none_by before.0 g.0 old g.0.pending before.1 g.1 refl g.4)
+      (none_by before.0 g.0 old g.0.pending before.1 (few_numbered unread now before.0 before.2) g.1 refl g.4)
 
   refused_by : (origin : I → Origin) (n : StepState) (p : Parsing I) (e : Refused)
       → (Fails e (settle o n) ⊎ RefusesNumber p.stepper.renumbered o n e)
-      ⊎ TellsSource {X = Bool} origin (Some (Err e)) p.stepper.scanner.cursor → RefusesIn origin o n p e
+      ⊎ TellsSource {X = Bool} origin (Some (Err e)) p.stepper.scanner.cursor → RefusalIn origin o n p e
   refused_by origin n p e (inl fails) = inl (next_fails unread p.stepper.renumbered o n e fails)
   refused_by origin n p e (inr told) = inr told
 

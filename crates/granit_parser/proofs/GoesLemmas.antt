@@ -14,7 +14,7 @@ use Rattle.granit_lexemes.specs.Outcome.{Fails, Fault}
 use Rattle.granit_lexemes.specs.PlainEvent.{PlainEvent, EventKind, DocumentStart, DocumentEnd, StreamEnd, Comment}
 use Rattle.granit_parser.proofs.CallLemmas.{ahead_turned, next_exact}
 use Rattle.granit_parser.specs.Parsing.{EndsWith, GivesNext, next_view}
-use Rattle.granit_parser.specs.Recovering.{Failed, FailsAt, Goes, ReadsNext, SeenNext}
+use Rattle.granit_parser.specs.Recovering.{Failed, FailsAt, GoesWithCalls, ReadsNext, SeenNext}
 use Rattle.granit_parser.specs.Sources.{NeverRevives}
 use Rattle.granit_lexemes.proofs.PieceLemmas.{pieces_fails}
 use Rattle.granit_restart.proofs.AheadLaws.{failing_alike, first_of, next_alike, turn_next, waits_next}
@@ -199,7 +199,7 @@ module _ {I : Type 0} (unread : I → Unread → Type 0) where
   stands_going s m (inr held) = held.going
 
   module _ (old new : Stepping I) (o : OptionsData) (before : old.scanner.options ≡ o) (after : new.scanner.options ≡ o)
-      (c : Calls) (g : Goes unread old c) where
+      (c : Calls) (g : GoesWithCalls unread old c) where
     going_ahead : AheadOf o c.steps g.steps
     going_ahead = subst (λ o. AheadOf o c.steps g.steps) before g.ahead
 

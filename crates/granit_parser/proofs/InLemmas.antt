@@ -16,14 +16,13 @@ use Rattle.granit_lexemes.specs.Here.{Here}
 use Rattle.granit_lexemes.specs.Outcome.{Fault}
 use Rattle.granit_lexemes.specs.PlainEvent.{PlainEvent, EventKind, DocumentStart, DocumentEnd, StreamEnd}
 use Rattle.granit_parser.proofs.CallLemmas.{call_going}
-use Rattle.granit_parser.specs.Parsing.{EndsWith, GivesNext, IsOver, Keeps, Next, Parsing, PeeksAs, Starves}
+use Rattle.granit_parser.specs.Parsing.{EndsWith, GivesNext, IsOver, KeepsGiven, Next, Parsing, ParserPeeksAs, Starves}
 use Rattle.granit_parser.specs.Parsing.{ShowsNext, StandsBefore}
-use Rattle.granit_parser.specs.Recovering.{AnswersBy, Failed, FailsAt, GaveUp, GivesCall, Goes, IsClosed, IsOpen}
-use Rattle.granit_parser.specs.Recovering.{ParserIn, ReadsNext, SeenBy, SeenNext, SeenNone, ShowsCall, StaysBy}
-use Rattle.granit_parser.specs.Recovering.{between_behind, failed_in, notes_between, notes_over}
-use Rattle.granit_parser.specs.Recovering.{PeeksIn, over_behind}
+use Rattle.granit_parser.specs.Recovering.{AnswersBy, Failed, FailsAt, GaveUp, GivesCall, GoesWithCalls, IsClosed}
+use Rattle.granit_parser.specs.Recovering.{IsOpen, ParserIn, ReadsNext, SeenBy, SeenNext, SeenNone, ShowsCall, StaysBy}
+use Rattle.granit_parser.specs.Recovering.{between_behind, failed_in, notes_between, notes_over, PeeksIn, over_behind}
 use Rattle.granit_parser.specs.Sources.{IfUnseen, MovesUnless, NeverRecovers, TellsError, TellsSource}
-use Rattle.granit_recovery.specs.Streams.{Reached, calls_from}
+use Rattle.granit_recovery.specs.Streams.{ReachedByCalls, calls_from}
 use Rattle.granit_restart.specs.Ahead.{not_ahead}
 use Rattle.granit_restart.specs.Calls.{Calls, given_by, next_call, noted}
 use Rattle.granit_stepper.specs.Stepping.{StandsIn, Stepping}
@@ -78,12 +77,12 @@ closed_open c closed is =
 -- where nothing is given nothing is noted
 pub noted_none : {I : Type 0} (p t q : Parsing I) (r : Next) → r ≡ None → t ≡ p
     → q ≡ record t { given = q.given; starved = q.starved; between = q.between; over = q.over }
-    → q.between ≡ notes_between r t.between → q.over ≡ notes_over r t.over → Keeps r t.given q.given
+    → q.between ≡ notes_between r t.between → q.over ≡ notes_over r t.over → KeepsGiven r t.given q.given
     → Starves r t.starved q.starved → q ≡ p
 noted_none p t q r none same rest between over given starved =
     let b : q.between ≡ t.between = between ∙ ap (λ (r : Next). notes_between r t.between) none in
     let v : q.over ≡ t.over = over ∙ ap (λ (r : Next). notes_over r t.over) none in
-    let g : q.given ≡ t.given = subst (λ (r : Next). Keeps r t.given q.given) none given in
+    let g : q.given ≡ t.given = subst (λ (r : Next). KeepsGiven r t.given q.given) none given in
     let s : q.starved ≡ t.starved = subst (λ (r : Next). Starves r t.starved q.starved) none starved in
     rest
     ∙ ap (λ g. record t { given = g; starved = q.starved; between = q.between; over = q.over }) g
@@ -103,9 +102,9 @@ NeverNone o c = (next_call o c).0 ≡ None → ⊥
 
 -- so does each open call that calls lead to
 abbrev pub OpenGives : OptionsData → Type 0
-OpenGives o = (c : Calls) → Reached o c → c.over ≡ false → c.fault ≡ None → c.refusal ≡ None → NeverNone o c
+OpenGives o = (c : Calls) → ReachedByCalls o c → c.over ≡ false → c.fault ≡ None → c.refusal ≡ None → NeverNone o c
 
-pub never_none : (o p : OptionsData) (c : Calls) → o ≡ p → OpenGives p → Reached p c → IsOpen c → NeverNone o c
+pub never_none : (o p : OptionsData) (c : Calls) → o ≡ p → OpenGives p → ReachedByCalls p c → IsOpen c → NeverNone o c
 never_none o p c same gives reached is none =
     gives c reached is.over is.fault is.refusal (subst (λ q. (next_call q c).0 ≡ None) same none)
 
@@ -132,7 +131,7 @@ module _ {I : Type 0} (unread : I → Unread → Type 0) where
     stays = λ e. answers_by p c refusal fault seen;
   }
 
-  unseen_by : (p : Parsing I) (c : Calls) → p.peeked ≡ None → Goes unread p.stepper c
+  unseen_by : (p : Parsing I) (c : Calls) → p.peeked ≡ None → GoesWithCalls unread p.stepper c
       → SeenBy unread p.peeked p.stepper c
   unseen_by p c none g = subst (λ (r : Next). SeenBy unread r p.stepper c) (sym none) g
 
@@ -316,7 +315,7 @@ module _ {I : Type 0} (unread : I → Unread → Type 0) where
         (sym (ends (failed_by c.fault c.refusal c refl refl is closed (at.stays is)))) at
 
     -- else it shows what is read
-    pub peeks_read : ((c : Calls) → Reached p.stepper.scanner.options c → Goes unread p.stepper c
+    pub peeks_read : ((c : Calls) → ReachedByCalls p.stepper.scanner.options c → GoesWithCalls unread p.stepper c
         → ReadsNext unread r q.stepper c ⊎ TellsSource origin r q.stepper.scanner.cursor)
         → NeverRecovers origin p.stepper r q.stepper → q.stepper.scanner.options ≡ p.stepper.scanner.options
         → OpenGives p.stepper.scanner.options → PeeksIn unread origin p q.peeked q
@@ -364,7 +363,7 @@ module _ {I : Type 0} (unread : I → Unread → Type 0) (left : I → ℕ) (ori
       → t.stepper.renumbered ≡ p.stepper.renumbered
       → MovesUnless left origin r p.stepper.scanner.cursor t.stepper.scanner.cursor
       → GoesOnward unread p.stepper.scanner.cursor t.stepper.scanner.cursor
-      → PeeksAs unread left origin p r (record t { peeked = r })
+      → ParserPeeksAs unread left origin p r (record t { peeked = r })
   peeks_unseen source given refused over renumbered moves onward = record {
     shown = refl;
     known = λ m at free. shows_next r m (sure m (subst (λ (w : Next). StandsBefore unread w p.stepper m) none at) free);

@@ -9,7 +9,7 @@ use Rattle.granit_machine.specs.Laid.{Laid}
 use Rattle.granit_machine.specs.Lexing.{FlaggedItem}
 use Rattle.granit_machine.specs.PossibleKeys.{is_stale}
 use Rattle.granit_machine.specs.Reader.{LexState}
-use Rattle.granit_restart.specs.Header.{directive_read}
+use Rattle.granit_restart.specs.Header.{gap_in_directive}
 use Rattle.granit_scanner.specs.Scans.{BehindFault, KnownBy, Scanning}
 use Rattle.granit_scanner.specs.Scans as scans
 use Rattle.granit_stepper.specs.Stepping.{StandsIn, Stepping, keeping}
@@ -17,14 +17,14 @@ use Rattle.granit_steps.specs.Steps.{StepState}
 
 -- neither a gap nor what is met behind it goes by that
 read_alike : (keep : Bool) (o : OptionsData) (before : Bool) (h : Here) (l : Laid)
-    → directive_read o before (gap o h l)
-    ≡ directive_read (record o { keep_tags = keep }) before (gap (record o { keep_tags = keep }) h l)
+    → gap_in_directive o before (gap o h l)
+    ≡ gap_in_directive (record o { keep_tags = keep }) before (gap (record o { keep_tags = keep }) h l)
 unfolding gap_ends ready_gap refuse_tab_at is_stale
 read_alike keep o before h l = refl
 
 module _ {I : Type 0} (unread : I → Unread → Type 0) (keep : Bool) where
   behind_alike : (s : Scanning I) (l : LexState) (q : List FlaggedItem) → BehindFault unread s l q
-      → BehindFault unread (scans.keeping keep s) l q
+      → BehindFault unread (scans.scanner_keeping keep s) l q
   behind_alike s l q behind = record {
     number = behind.number;
     onward = behind.onward;
@@ -33,7 +33,7 @@ module _ {I : Type 0} (unread : I → Unread → Type 0) (keep : Bool) where
   }
 
   known_alike : (f : Option Refused) (s : Scanning I) (l : LexState) (q : List FlaggedItem) → KnownBy unread f s l q
-      → KnownBy unread f (scans.keeping keep s) l q
+      → KnownBy unread f (scans.scanner_keeping keep s) l q
   known_alike None s l q known = known
   known_alike (Some f) s l q known = (known.0, known.1, known.2, behind_alike s l q known.3)
 

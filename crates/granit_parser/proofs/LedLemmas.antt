@@ -26,15 +26,15 @@ use Rattle.granit_receivers.specs.Sending.{is_last}
 use Rattle.granit_receivers.specs.Taking.{Told, Took}
 use Rattle.granit_receivers.specs.declared.error.TryLoadError.{TryLoadError}
 use Rattle.granit_receivers.specs.declared.error.TryLoadError.TheVariants.{Scan, Receiver}
-use Rattle.granit_recovery.specs.Streams.{Gives, Reached, gives_next, gives_none, reached_call}
-use Rattle.granit_restart.specs.Calls.{Calls, Given, given_by, next_call, noted}
+use Rattle.granit_recovery.specs.Streams.{CallsGive, ReachedByCalls, gives_next, gives_none, reached_call}
+use Rattle.granit_restart.specs.Calls.{Calls, GivenByCall, given_by, next_call, noted}
 use Rattle.granit_steps.specs.Steps.{StepState, next_event}
 
 -- ---- in the machine
 
 -- one more is given
-pub gives_on : {o : OptionsData} {c d after : Calls} {e : PlainEvent} {es : List PlainEvent} → Gives o c es d
-    → next_call o d ≡ (Some (Ok e), after) → Gives o c (es ++ (e ∷ [])) after
+pub gives_on : {o : OptionsData} {c d after : Calls} {e : PlainEvent} {es : List PlainEvent} → CallsGive o c es d
+    → next_call o d ≡ (Some (Ok e), after) → CallsGive o c (es ++ (e ∷ [])) after
 gives_on gives_none call = gives_next call gives_none
 gives_on (gives_next first rest) call = gives_next first (gives_on rest call)
 
@@ -44,7 +44,7 @@ not_over multi (DocumentStart explicit version) c e = refl
 not_over multi DocumentEnd c e = refl
 not_over multi kind c e = refl
 
-same_event : (x y : PlainEvent) → ◌≡◌ {A = Given} (Some (Ok x)) (Some (Ok y)) → x ≡ y
+same_event : (x y : PlainEvent) → ◌≡◌ {A = GivenByCall} (Some (Ok x)) (Some (Ok y)) → x ≡ y
 same_event x y e = cc
 
 -- one more isn't the last that is sent
@@ -62,16 +62,16 @@ module _ (o : OptionsData) (multi : Bool) (c d : Calls) (e : PlainEvent) (is : I
     (more : is_last multi e.kind ≡ false) where
   open_by : (r : Result (Option PlainEvent × StepState) Fault) → given_by o c r ≡ (Some (Ok e), d) → IsOpen d
   open_by (Ok (Some f, t)) same =
-      let this : f ≡ e = same_event f e (ap (λ (x : Given × Calls). x.0) same) in
+      let this : f ≡ e = same_event f e (ap (λ (x : GivenByCall × Calls). x.0) same) in
       let goes = sym (ap (λ (x : PlainEvent). is_last multi x.kind) (sym this)) ∙ more in
       let behind : Calls = record c { steps = t } in
-      subst IsOpen (ap (λ (x : Given × Calls). x.1) same) (record {
+      subst IsOpen (ap (λ (x : GivenByCall × Calls). x.1) same) (record {
         over = not_over multi f.kind behind goes ∙ is.over;
         fault = noted_fault f.kind behind ∙ is.fault;
         refusal = noted_refusal f.kind behind ∙ is.refusal;
       })
-  open_by (Ok (None, t)) same = absurd (let f = ap (λ (x : Given × Calls). x.0) same in cc)
-  open_by (Err f) same = absurd (let g = ap (λ (x : Given × Calls). x.0) same in cc)
+  open_by (Ok (None, t)) same = absurd (let f = ap (λ (x : GivenByCall × Calls). x.0) same in cc)
+  open_by (Err f) same = absurd (let g = ap (λ (x : GivenByCall × Calls). x.0) same in cc)
 
   pub open_behind : next_call o c ≡ (Some (Ok e), d) → IsOpen d
   open_behind call =
@@ -83,7 +83,7 @@ module _ (o : OptionsData) (multi : Bool) (c d : Calls) (e : PlainEvent) (is : I
 abbrev pub CalledOr : {I : Type 0} → (I → Unread → Type 0) → (I → Origin) → (now : Parsing I) → Next
     → (after : Parsing I) → Type 0
 CalledOr unread origin now r after =
-    (c : Calls) → Reached now.stepper.scanner.options c → IsOpen c → ParserIn unread now c
+    (c : Calls) → ReachedByCalls now.stepper.scanner.options c → IsOpen c → ParserIn unread now c
     → GivesCall unread r after c ⊎ TellsSource origin r after.stepper.scanner.cursor
 
 -- so far calls gave what was sent, and the parser is where they led
@@ -93,13 +93,13 @@ pub record LedFirst {I : Type 0} (unread : I → Unread → Type 0) (o : Options
   pub took : Took old new sent
   pub before : NoneLast multi (plain_events sent)
   pub calls : Calls
-  pub gives : Gives o c (plain_events sent) calls
-  pub reached : Reached o calls
+  pub gives : CallsGive o c (plain_events sent) calls
+  pub reached : ReachedByCalls o calls
   pub opened : IsOpen calls
   pub stands : ParserIn unread now calls
 
 pub led_nowhere : {I : Type 0} (unread : I → Unread → Type 0) (o : OptionsData) (multi : Bool) (c : Calls)
-    (p : Parsing I) (t : Told) → Reached o c → IsOpen c → ParserIn unread p c → LedFirst unread o multi c p t t
+    (p : Parsing I) (t : Told) → ReachedByCalls o c → IsOpen c → ParserIn unread p c → LedFirst unread o multi c p t t
 led_nowhere unread o multi c p t reached is at = record {
   sent = [];
   took = took_none t;
@@ -116,7 +116,7 @@ module _ {I : Type 0} (unread : I → Unread → Type 0) (origin : I → Origin)
     (kept : after.stepper.scanner.options ≡ o) (s : LedFirst unread o multi c now old mid) where
   gave : (r : Next) → CalledOr unread origin now r after
       → GivesCall unread r after s.calls ⊎ TellsSource origin r after.stepper.scanner.cursor
-  gave r called = called s.calls (subst (λ q. Reached q s.calls) (sym same) s.reached) s.opened s.stands
+  gave r called = called s.calls (subst (λ q. ReachedByCalls q s.calls) (sym same) s.reached) s.opened s.stands
 
   record GaveEvent (x : Event × Span) : Type 0 where
     calls : Calls
@@ -135,8 +135,8 @@ module _ {I : Type 0} (unread : I → Unread → Type 0) (origin : I → Origin)
       }
       by (inr none) = absurd none
 
-  gives_all : (x : Event × Span) (g : GaveEvent x) → Gives o c (plain_events (s.sent ++ (x ∷ []))) g.calls
-  gives_all x g = subst (λ es. Gives o c es g.calls) (sym (both s.sent (x ∷ []))) (gives_on s.gives g.call)
+  gives_all : (x : Event × Span) (g : GaveEvent x) → CallsGive o c (plain_events (s.sent ++ (x ∷ []))) g.calls
+  gives_all x g = subst (λ es. CallsGive o c es g.calls) (sym (both s.sent (x ∷ []))) (gives_on s.gives g.call)
 
   -- one more is sent
   pub led_event : (x : Event × Span) → CalledOr unread origin now (Some (Ok x)) after
@@ -150,7 +150,7 @@ module _ {I : Type 0} (unread : I → Unread → Type 0) (origin : I → Origin)
             (none_more multi (plain_events s.sent) (plain_event x) s.before more);
         calls = g.calls;
         gives = gives_all x g;
-        reached = subst (λ (y : Given × Calls). Reached o y.1) g.call (reached_call s.reached);
+        reached = subst (λ (y : GivenByCall × Calls). ReachedByCalls o y.1) g.call (reached_call s.reached);
         opened = open_behind o multi s.calls g.calls (plain_event x) s.opened more g.call;
         stands = g.stands;
       }
@@ -218,7 +218,7 @@ over_closed unread p c over is at =
     true≢false (sym over.failed ∙ seen_going unread p.peeked p.stepper c (open_seen unread p c is at))
 
 module _ {I : Type 0} (unread : I → Unread → Type 0) (origin : I → Origin) (now p : Parsing I) (c : Calls)
-    (reached : Reached now.stepper.scanner.options c) (is : IsOpen c) (at : ParserIn unread now c) where
+    (reached : ReachedByCalls now.stepper.scanner.options c) (is : IsOpen c) (at : ParserIn unread now c) where
   -- it is the next call's
   pub first_given : (r : Result (Event × Span) Refused) → CalledOr unread origin now (Some r) p
       → FirstCall unread origin r p c
@@ -304,13 +304,13 @@ module _ {I : Type 0} (unread : I → Unread → Type 0) (origin : I → Origin)
         ))
     behind d call (Some (Err e)) (inr source) = inr source
 
-    pub leaves_behind : FirstCall unread origin (Ok x) p c → Reached o c → IsOpen c
-        → ((d : Calls) → Reached p.stepper.scanner.options d → IsOpen d → ParserIn unread p d
+    pub leaves_behind : FirstCall unread origin (Ok x) p c → ReachedByCalls o c → IsOpen c
+        → ((d : Calls) → ReachedByCalls p.stepper.scanner.options d → IsOpen d → ParserIn unread p d
         → CallsLeave unread origin p.stepper.scanner.options multi (Took mid new) r q d)
         → CallsLeave unread origin o multi (Took old new) r q c
     leaves_behind g reached is rest =
         let call = subst (λ q. next_call q c ≡ (Some (Ok (plain_event x)), g.0)) kept g.1 in
-        let there = subst (λ (y : Given × Calls). Reached o y.1) call (reached_call reached) in
-        let left = rest g.0 (subst (λ q. Reached q g.0) (sym kept) there)
+        let there = subst (λ (y : GivenByCall × Calls). ReachedByCalls o y.1) call (reached_call reached) in
+        let left = rest g.0 (subst (λ q. ReachedByCalls q g.0) (sym kept) there)
         (open_behind o multi c g.0 (plain_event x) is more call) g.2 in
         behind g.0 call r (subst (λ w. CallsLeave unread origin w multi (Took mid new) r q g.0) kept left)

@@ -13,15 +13,16 @@ use Rattle.granit_parser.proofs.InLemmas.{goes_in}
 use Rattle.granit_parser.proofs.RecoverLemmas.{any_stops}
 use Rattle.granit_parser.specs.Parsing.{Parsing}
 use Rattle.granit_parser.specs.Recovering as spec
-use Rattle.granit_parser.specs.Recovering.{AnswersBy, AnswersIn, AsksBy, Ends, EndsIn, Follows, GaveUp, IsOpen}
-use Rattle.granit_parser.specs.Recovering.{MeetsNumber, ParserIn, Proceeds, SeenBy, Skips, StaysBy, StopsIn, seen_in}
+use Rattle.granit_parser.specs.Recovering.{AnswersBy, AnswersIn, AsksBy, Ends, Follows, GaveUp, IsOpen, MeetsNumber}
+use Rattle.granit_parser.specs.Recovering.{ParserIn, Proceeds, RecoveryLeaves, SeenBy, SkipsToAsk, StaysBy, StopsIn}
+use Rattle.granit_parser.specs.Recovering.{seen_in}
 use Rattle.granit_parser.specs.Sources.{TellsSource}
 use Rattle.granit_parser.specs.declared.recovery.Seen.{Seen}
 use Rattle.granit_parser.specs.declared.recovery.Seen.TheVariants as seens
 use Rattle.granit_reader.specs.Meets.{UnlessMemory}
 use Rattle.granit_receivers.specs.Kept.{GivesAgain, IsKept}
 use Rattle.granit_restart.specs.Calls.{Calls}
-use Rattle.granit_restart.specs.Recovery.{answered, recover, recover_with, resumed}
+use Rattle.granit_restart.specs.Recovery.{recover, recover_with, recovery_answer, resumed}
 use Rattle.granit_restart.specs.Skipping.{Stops}
 
 pub is_end : (s : Seen) → spec.ends_stream s ≡ true → s ≡ seens.StreamEnd
@@ -115,7 +116,7 @@ module _ {I : Type 0} (unread : I → Unread → Type 0) where
   -- ---- behind what was dropped
 
   module _ (p mid : Parsing I) (c : Calls)
-      (skips : Skips unread p.stepper.scanner.cursor (is_some p.peeked) mid c) where
+      (skips : SkipsToAsk unread p.stepper.scanner.cursor (is_some p.peeked) mid c) where
     abbrev StopsHere : OptionsData → Stops → Type 0
     StopsHere o stops = StopsIn unread p.stepper.scanner.cursor o stops c
 
@@ -135,18 +136,18 @@ module _ {I : Type 0} (unread : I → Unread → Type 0) where
         answer : (stops : Stops) → StopsHere q.stepper.scanner.options stops
             → Follows unread stops (is_some p.peeked) (Err e) q c → Ends unread (Err e) p q c
         answer stops fit (inl a) =
-            inl (inl (stops, fit, (answered (Err e) (resumed a.steps)).1, a.recovers, (refl, refl)))
+            inl (inl (stops, fit, (recovery_answer (Err e) (resumed a.steps)).1, a.recovers, (refl, refl)))
         answer stops fit (inr n) = inr n
 
-        by : Skips unread p.stepper.scanner.cursor (is_some p.peeked) mid c → Ends unread (Err e) p q c
+        by : SkipsToAsk unread p.stepper.scanner.cursor (is_some p.peeked) mid c → Ends unread (Err e) p q c
         by (inl asks) =
             answer asks.0 (subst (λ o. StopsHere o asks.0) (sym options) asks.1)
             (known asks.0 (is_some p.peeked) c asks.2 other)
         by (inr n) = inr (met n)
 
     answered_in : (follows : Bool) (q : Parsing I) (m : _) → q.over ≡ false → q.between ≡ not follows
-        → SeenBy unread q.peeked q.stepper (answered (Ok follows) (resumed m)).1
-        → ParserIn unread q (answered (Ok follows) (resumed m)).1
+        → SeenBy unread q.peeked q.stepper (recovery_answer (Ok follows) (resumed m)).1
+        → ParserIn unread q (recovery_answer (Ok follows) (resumed m)).1
     answered_in true q m over between seen = goes_in unread q (resumed m) refl refl over between seen
     answered_in false q m over between seen =
         goes_in unread q (record (resumed m) { between = true }) refl refl over between seen
@@ -182,7 +183,7 @@ module _ {I : Type 0} (unread : I → Unread → Type 0) where
             → ((d : Calls) → SeenBy unread was.peeked was.stepper d → SeenBy unread q.peeked q.stepper d)
             → q.between ≡ not follows → Ends unread (Ok x) p q c
         ends_with x is stops fit a on between =
-            let d = (answered (Ok follows) (resumed a.steps)).1 in
+            let d = (recovery_answer (Ok follows) (resumed a.steps)).1 in
             subst (λ (x : Bool). Ends unread (Ok x) p q c) (sym is) (inl (inl (
               stops,
               subst (λ o. StopsHere o stops) (sym o2) fit,
@@ -193,11 +194,11 @@ module _ {I : Type 0} (unread : I → Unread → Type 0) where
             )))
           where
             answer_is : (follows : Bool) (m : _)
-                → answered (Ok follows) (resumed m) ≡ (Ok follows, (answered (Ok follows) (resumed m)).1)
+                → recovery_answer (Ok follows) (resumed m) ≡ (Ok follows, (recovery_answer (Ok follows) (resumed m)).1)
             answer_is true m = refl
             answer_is false m = refl
 
-        by : Skips unread p.stepper.scanner.cursor (is_some p.peeked) mid c → Ends unread (Ok x) p q c
+        by : SkipsToAsk unread p.stepper.scanner.cursor (is_some p.peeked) mid c → Ends unread (Ok x) p q c
         by (inl asks) = elim (known asks.0 (is_some p.peeked) c asks.2) [
           | inl a ↦ ends_with x answer.0 asks.0 (subst (λ o. StopsHere o asks.0) (sym o1) asks.1) a kept answer.1
           | inr n ↦ inr (met n)

@@ -11,14 +11,14 @@ use Rattle.granit_parser.proofs.CallLemmas.{waits}
 use Rattle.granit_parser.specs.Recovering.{StopsDropping}
 use Rattle.granit_restart.proofs.LookTurns as look_turns
 use Rattle.granit_restart.specs.Ahead.{is_note}
-use Rattle.granit_restart.specs.Calls.{Calls, Given, given_by, next_call, noted}
+use Rattle.granit_restart.specs.Calls.{Calls, GivenByCall, given_by, next_call, noted}
 use Rattle.granit_restart.specs.Header.{is_directives}
 use Rattle.granit_restart.specs.Looking.{Look, behind_waiting, look_ahead, look_behind}
 use Rattle.granit_restart.specs.Looking.{told_by, told_event, turn_ahead}
-use Rattle.granit_restart.specs.Recovery.{answered, comment_of, extra_of, looked_by, recover}
-use Rattle.granit_restart.specs.Recovery.{recover_with, recovered, resumed, skipped, skipped_by, starts_by}
+use Rattle.granit_restart.specs.Recovery.{comment_count, extra_of, looked_by, recover, recover_with, recovered}
+use Rattle.granit_restart.specs.Recovery.{recovery_answer, resumed, skipped, skipped_by, starts_by}
 use Rattle.granit_restart.specs.Restart.{behind_fault}
-use Rattle.granit_restart.specs.Skipping.{Ended, Failed, SkipEnd, Stops, skip, skipped_document, skipped_fault}
+use Rattle.granit_restart.specs.Skipping.{Ended, Failed, SkipEnd, Stops, skip_by_turns, skipped_document, skipped_fault}
 use Rattle.granit_restart.specs.Skipping.{with_pending}
 use Rattle.granit_stepper.proofs.FaultLemmas.{no_stop, stops_nowhere}
 use Rattle.granit_steps.specs.Steps.{StepState, next_event, step_turn}
@@ -61,15 +61,15 @@ pub fitting : OptionsData → SkipEnd → Stops
 fitting o (Ended n) = record { first = n.reading.reader.here; second = n.reading.reader.here }
 fitting o (Failed e n) = record {
   first = n.reading.reader.here;
-  second = no_stop (skip o (behind_fault n.reading.reader.here n).1);
+  second = no_stop (skip_by_turns o (behind_fault n.reading.reader.here n).1);
 }
 
 pub fits : (o : OptionsData) (r : SkipEnd) → StopsDropping o (fitting o r) r
 unfolding fitting
 fits o (Ended n) = tt
-fits o (Failed e n) = (onward.there, stops_nowhere (skip o (behind_fault n.reading.reader.here n).1))
+fits o (Failed e n) = (onward.there, stops_nowhere (skip_by_turns o (behind_fault n.reading.reader.here n).1))
 
-pub answered_steps : (r : Result Bool Fault) (m : StepState) → (answered r (resumed m)).1.steps ≡ m
+pub answered_steps : (r : Result Bool Fault) (m : StepState) → (recovery_answer r (resumed m)).1.steps ≡ m
 answered_steps (Ok true) m = refl
 answered_steps (Ok false) m = refl
 answered_steps (Err f) m = refl
@@ -88,7 +88,7 @@ module _ (o : OptionsData) (stops : Stops) where
   unlooked c refusal over =
       with_none false c refusal ∙ ap (λ (b : Bool). if b then (Ok false, c) else recovered o 0 (skipped o stops c)) over
 
-  looked_with : (c : Calls) (x : Given × Calls) → (looked_by c x).over ≡ false
+  looked_with : (c : Calls) (x : GivenByCall × Calls) → (looked_by c x).over ≡ false
       → (let d = looked_by c x in if d.over then (Ok false, d) else recovered o (extra_of d x.0) (skipped o stops d))
       ≡ recovered o (extra_of (looked_by c x) x.0) (skipped o stops (looked_by c x))
   looked_with c x over =
@@ -96,7 +96,8 @@ module _ (o : OptionsData) (stops : Stops) where
       else recovered o (extra_of (looked_by c x) x.0) (skipped o stops (looked_by c x))) over
 
   -- an event was looked at, or a fault, which counts as given
-  pub looked : (c : Calls) (x : Given × Calls) → c.refusal ≡ None → next_call o c ≡ x → (looked_by c x).over ≡ false
+  pub looked : (c : Calls) (x : GivenByCall × Calls) → c.refusal ≡ None → next_call o c ≡ x
+      → (looked_by c x).over ≡ false
       → recover o stops true c ≡ recovered o (extra_of (looked_by c x) x.0) (skipped o stops (looked_by c x))
   looked c x refusal call over =
       with_none true c refusal
@@ -160,12 +161,12 @@ module _ (o : OptionsData) (stops : Stops) where
 
       -- the event that was looked at stays
       pub asks_seen : c.between ≡ true → begins e.kind ≡ false
-          → recover o stops true c ≡ recovered o (comment_of e.kind) (resumed c.steps)
+          → recover o stops true c ≡ recovered o (comment_count e.kind) (resumed c.steps)
       asks_seen b other =
           seen_looked
           ∙ ap (λ d. recovered o (extra_of d (Some (Ok e))) (skipped o stops d)) (starts_other e.kind c other)
-          ∙ ap (λ (b : Bool). recovered o (if b then comment_of e.kind else 0) (skipped o stops c)) b
-          ∙ ap (recovered o (comment_of e.kind)) (skipped_here c fault b)
+          ∙ ap (λ (b : Bool). recovered o (if b then comment_count e.kind else 0) (skipped o stops c)) b
+          ∙ ap (recovered o (comment_count e.kind)) (skipped_here c fault b)
 
       -- or it is dropped with its document
       pub asks_dropped : (c.between ≡ false) ⊎ (begins e.kind ≡ true)
@@ -174,7 +175,7 @@ module _ (o : OptionsData) (stops : Stops) where
           let d : Calls = starts_by e.kind c in
           let none : d.between ≡ false = starts_between e.kind c within in
           seen_looked
-          ∙ ap (λ (b : Bool). recovered o (if b then comment_of e.kind else 0) (skipped o stops d)) none
+          ∙ ap (λ (b : Bool). recovered o (if b then comment_count e.kind else 0) (skipped o stops d)) none
           ∙ ap (recovered o 0) (skipped_on d (starts_fault e.kind c ∙ fault) none)
           ∙ ap (λ s. recovered o 0 (resumed (skipped_document o stops s))) (starts_steps e.kind c)
 

@@ -11,23 +11,26 @@ use Rattle.granit_lexemes.specs.PlainEvent.{PlainEvent}
 use Rattle.granit_parser.specs.Parsing.{Next, Parsing}
 use Rattle.granit_parser.specs.Recovering.{FailsAt, GivesCall}
 use Rattle.granit_parser.specs.Resuming.{Resumed, ResumesCall}
-use Rattle.granit_recovery.specs.Streams.{Gives, gives_next, gives_none, Reached, reached_call, reached_recovery}
-use Rattle.granit_restart.specs.Calls.{Calls, Given, given_by, next_call}
+use Rattle.granit_recovery.specs.Streams.{CallsGive, gives_next, gives_none, ReachedByCalls, reached_call}
+use Rattle.granit_recovery.specs.Streams.{reached_recovery}
+use Rattle.granit_restart.specs.Calls.{Calls, GivenByCall, given_by, next_call}
 use Rattle.granit_restart.specs.Recovery.{recover}
 use Rattle.granit_restart.specs.Skipping.{Stops}
 
-call_reached : (o : OptionsData) (c after : Calls) (e : PlainEvent) → next_call o c ≡ (Some (Ok e), after) → Reached o c
-    → Reached o after
+call_reached : (o : OptionsData) (c after : Calls) (e : PlainEvent)
+    → next_call o c ≡ (Some (Ok e), after) → ReachedByCalls o c
+    → ReachedByCalls o after
 call_reached o c after e is r =
-    subst (Reached o) (ap (λ (x : Given × Calls). x.1) is) (reached_call r)
+    subst (ReachedByCalls o) (ap (λ (x : GivenByCall × Calls). x.1) is) (reached_call r)
 
-gives_reached : (o : OptionsData) (c d : Calls) (es : List PlainEvent) → Gives o c es d → Reached o c → Reached o d
+gives_reached : (o : OptionsData) (c d : Calls) (es : List PlainEvent) → CallsGive o c es d
+    → ReachedByCalls o c → ReachedByCalls o d
 gives_reached o c d es gives_none r = r
 gives_reached o c d es (gives_next {after = after} {e = e} {es = rest} is more) r =
     gives_reached o after d rest more (call_reached o c after e is r)
 
-gives_more : (o : OptionsData) (c d after : Calls) (es : List PlainEvent) (e : PlainEvent) → Gives o c es d
-    → next_call o d ≡ (Some (Ok e), after) → Gives o c (es ++ e ∷ []) after
+gives_more : (o : OptionsData) (c d after : Calls) (es : List PlainEvent) (e : PlainEvent) → CallsGive o c es d
+    → next_call o d ≡ (Some (Ok e), after) → CallsGive o c (es ++ e ∷ []) after
 gives_more o c d after es e gives_none is = gives_next is gives_none
 gives_more o c d after es e (gives_next {after = next} {es = rest} was more) is =
     gives_next was (gives_more o next d after rest e more is)
@@ -35,14 +38,15 @@ gives_more o c d after es e (gives_next {after = next} {es = rest} was more) is 
 resumed_gives : (o : OptionsData) (stops : Stops) (c e : Calls) (es : List PlainEvent) → Resumed o stops c es e
     → GivesOn o stops c.steps es e
 resumed_gives o stops c e es r =
-    recovery_gives o stops r.looked r.follows c r.start e r.fault es r.reached r.over r.failed r.apart r.recovers
+    recovery_gives o stops r.looked r.follows c r.start e r.fault es r.reached r.over r.failed r.counts r.recovers
     r.gives
 
 pub resumed_reached : (o : OptionsData) (stops : Stops) (c e : Calls) (es : List PlainEvent) → Resumed o stops c es e
-    → Reached o e
+    → ReachedByCalls o e
 resumed_reached o stops c e es r =
     gives_reached o r.start e es r.gives
-    (subst (Reached o) (ap (λ (x : Result Bool _ × Calls). x.1) r.recovers) (reached_recovery stops r.looked r.reached))
+    (subst (ReachedByCalls o) (ap (λ (x : Result Bool _ × Calls). x.1) r.recovers)
+    (reached_recovery stops r.looked r.reached))
 
 module _ {I : Type 0} (unread : I → Unread → Type 0) (o : OptionsData) (stops : Stops) (c e : Calls)
     (es : List PlainEvent) (r : Resumed o stops c es e) (goes : IsOpen e) (p : Parsing I)
@@ -54,7 +58,7 @@ module _ {I : Type 0} (unread : I → Unread → Type 0) (o : OptionsData) (stop
     over = r.over;
     fault = r.fault;
     failed = r.failed;
-    apart = r.apart;
+    counts = r.counts;
     looked = r.looked;
     follows = r.follows;
     start = r.start;

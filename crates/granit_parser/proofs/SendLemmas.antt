@@ -13,10 +13,10 @@ use Rattle.granit_input.specs.Origin.{Origin}
 use Rattle.granit_lexemes.specs.PlainEvent.{PlainEvent}
 use Rattle.granit_parser.proofs.SourceLemmas.{never_told}
 use Rattle.granit_parser.specs.Parsing.{GivesNext, Next, Parsing, StandsAt}
-use Rattle.granit_parser.specs.Receiving.{GoesOn, none_sent, sent_on, Sends, none_left, sends_last, sends_on}
+use Rattle.granit_parser.specs.Receiving.{SendsOn, none_sent, sent_on, Sends, none_left, sends_last, sends_on}
 use Rattle.granit_receivers.specs.Sending.{is_last}
 use Rattle.granit_parser.specs.Sources.{TellsSource}
-use Rattle.granit_parser.specs.Receiving.{SendsUpTo, up_to_this, StandsBehind, RefusesBehind, RefusesIn}
+use Rattle.granit_parser.specs.Receiving.{SendsUpTo, up_to_this, StandsBehindSent, RefusesBehind, RefusalIn}
 use Rattle.granit_receivers.proofs.TakingLemmas.{took_none, took_more}
 use Rattle.granit_receivers.specs.Taking.{Told, Took}
 use Rattle.granit_steps.specs.Steps.{StepState, next_event}
@@ -25,13 +25,13 @@ use Rattle.granit_steps.specs.Steps.{StepState, next_event}
 
 -- one more is sent
 pub goes_further : {o : OptionsData} {multi : Bool} {m n after : StepState} {e : PlainEvent} {es : List PlainEvent}
-    → GoesOn o multi m es n → next_event o n ≡ Ok (Some e, after) → is_last multi e.kind ≡ false
-    → GoesOn o multi m (es ++ (e ∷ [])) after
+    → SendsOn o multi m es n → next_event o n ≡ Ok (Some e, after) → is_last multi e.kind ≡ false
+    → SendsOn o multi m (es ++ (e ∷ [])) after
 goes_further none_sent is more = sent_on is more none_sent
 goes_further (sent_on first not_last rest) is more = sent_on first not_last (goes_further rest is more)
 
 pub sends_behind : {o : OptionsData} {multi : Bool} {m n after : StepState} {es fs : List PlainEvent}
-    → GoesOn o multi m es n → Sends o multi n fs after → Sends o multi m (es ++ fs) after
+    → SendsOn o multi m es n → Sends o multi n fs after → Sends o multi m (es ++ fs) after
 sends_behind none_sent sends = sends
 sends_behind (sent_on first not_last rest) sends = sends_on first not_last (sends_behind rest sends)
 
@@ -55,7 +55,7 @@ pub record SentFirst {I : Type 0} (unread : I → Unread → Type 0) (initial no
   pub took : Took old new sent
   pub stands : (m : StepState) → StandsAt unread initial m
       → (n : StepState) × StandsAt unread now n
-      × GoesOn initial.stepper.scanner.options multi m (plain_events sent) n
+      × SendsOn initial.stepper.scanner.options multi m (plain_events sent) n
 
 pub sent_none : {I : Type 0} (unread : I → Unread → Type 0) (p : Parsing I) (multi : Bool) (t : Told)
     → SentFirst unread p p multi t t
@@ -90,7 +90,7 @@ module _ {I : Type 0} (unread : I → Unread → Type 0) (origin : I → Origin)
         let t = next_is e took m at in (
           t.0,
           t.1,
-          subst (λ es. GoesOn initial.stepper.scanner.options multi m es t.0) (sym (both s.sent (e ∷ [])))
+          subst (λ es. SendsOn initial.stepper.scanner.options multi m es t.0) (sym (both s.sent (e ∷ [])))
               (goes_further n.2 t.2 more),
         );
   }
@@ -99,7 +99,7 @@ module _ {I : Type 0} (unread : I → Unread → Type 0) (origin : I → Origin)
   pub sent_last : (e : Event × Span) → TookOr unread origin now (Some (Ok e)) after
       → is_last multi (plain_event e).kind ≡ true → Took mid new (e ∷ []) → (m : StepState)
       → StandsAt unread initial m
-      → StandsBehind unread (Took old new) after (Sends initial.stepper.scanner.options multi m)
+      → StandsBehindSent unread (Took old new) after (Sends initial.stepper.scanner.options multi m)
   sent_last e took last takes m at =
       let n = s.stands m at in
       let t = next_is e took m at in (
@@ -116,7 +116,7 @@ module _ {I : Type 0} (unread : I → Unread → Type 0) (origin : I → Origin)
   -- one is that the receiver refuses
   pub sent_refused : (IsPlace : Mark → Type 0) (e : Event × Span) → TookOr unread origin now (Some (Ok e)) after
       → Took mid new (e ∷ []) → (m : StepState) → StandsAt unread initial m
-      → StandsBehind unread (Took old new) after (SendsUpTo initial.stepper.scanner.options multi IsPlace m)
+      → StandsBehindSent unread (Took old new) after (SendsUpTo initial.stepper.scanner.options multi IsPlace m)
   sent_refused IsPlace e took takes m at =
       let n = s.stands m at in
       let t = next_is e took m at in (
@@ -132,7 +132,7 @@ module _ {I : Type 0} (unread : I → Unread → Type 0) (origin : I → Origin)
 
   -- none is left
   pub sent_all : TookOr unread origin now None after → (m : StepState) → StandsAt unread initial m
-      → StandsBehind unread (Took old mid) after (Sends initial.stepper.scanner.options multi m)
+      → StandsBehindSent unread (Took old mid) after (Sends initial.stepper.scanner.options multi m)
   sent_all took m at =
       let n = s.stands m at in
       let t = never_told (took n.0 n.1) in (
@@ -152,7 +152,7 @@ module _ {I : Type 0} (unread : I → Unread → Type 0) (origin : I → Origin)
       → RefusesBehind origin initial.stepper.scanner.options multi m (Took old mid) after e
   sent_fault e took m at =
       let n = s.stands m at in
-      let refuses = subst (λ (o : OptionsData). RefusesIn origin o n.0 after e) same (took n.0 n.1) in
+      let refuses = subst (λ (o : OptionsData). RefusalIn origin o n.0 after e) same (took n.0 n.1) in
       (s.sent, s.took, (n.0, n.2, refuses))
 
   -- memory runs out

@@ -286,7 +286,7 @@ module _ {I : Type 0} (unread : I → Unread → Type 0) (mid new : Stepping I)
     (known : (m : StepState) → StandsIn unread mid m → StandsIn unread new m)
     (held : (m : StepState) → HoldsRefusal unread mid m → HoldsRefusal unread new m)
     (refused : (m : StepState) (e : Refused) → RefusedIn unread mid m e → RefusedIn unread new m e) where
-  pub goes_kept : (c : Calls) → calls.Goes unread mid c → calls.Goes unread new c
+  pub goes_kept : (c : Calls) → calls.GoesWithCalls unread mid c → calls.GoesWithCalls unread new c
   goes_kept c g = record {
     steps = g.steps;
     ahead = subst (λ o. AheadOf o c.steps g.steps) (sym options) g.ahead;

@@ -12,13 +12,13 @@ use Rattle.granit_lexemes.specs.PlainEvent.{PlainEvent, event_on, StreamStart}
 use Rattle.granit_machine.specs.Frames.{ParserState, parser_start}
 use Rattle.granit_machine.specs.Laid.{Laid}
 use Rattle.granit_machine.specs.Lexing.{FlaggedItem, flagged, lex_start, lex}
-use Rattle.granit_machine.specs.Machine.{asked_items, feed_all, settled, answered, run_from}
+use Rattle.granit_machine.specs.Machine.{asked_items, feed_all, settled, run_answer, run_from}
 use Rattle.granit_machine.specs.Parser.{next_line, feed}
 use Rattle.granit_machine.specs.Reader.{LexState}
 use Rattle.granit_steps.specs.Steps.{StepState, Turn, first_pending, next_event, settle, start_from}
 use Rattle.granit_steps.specs.Steps.{step_size, step_turn}
-use Rattle.granit_steps.specs.Told.{GivesEvents, Told, answer, before_told, fed, gives_end, gives_event, gives_fault}
-use Rattle.granit_steps.specs.Told.{parsers_items, told_behind, told_from, told_read}
+use Rattle.granit_steps.specs.Told.{EventsTold, GivesEvents, answer, before_told, fed, gives_end, gives_event}
+use Rattle.granit_steps.specs.Told.{gives_fault, parsers_items, told_behind, told_from, told_read}
 use Rattle.granit_event.specs.Events.{plain_event}
 use Rattle.granit_parser.specs.Parsing.{EndsTold, GivesNext, LeadsTo, Next, first_given, none_given}
 use Rattle.granit_steps.proofs.Chains.{LexChain, pieces_chain}
@@ -103,11 +103,12 @@ module _ (o : OptionsData) where
 
   -- ---- the run's answer
 
-  abbrev TellsLike : Told → Option Fault → Result (List PlainEvent × ParserState) Fault → Type 0
+  abbrev TellsLike : EventsTold → Option Fault → Result (List PlainEvent × ParserState) Fault → Type 0
   TellsLike t end (Ok x) = t ≡ (x.0, end)
   TellsLike t end (Err f) = t.1 ≡ Some f
 
-  like_front : (t : Told) (end : Option Fault) (es : List PlainEvent) (r : Result (List PlainEvent × ParserState) Fault)
+  like_front : (t : EventsTold) (end : Option Fault) (es : List PlainEvent)
+      (r : Result (List PlainEvent × ParserState) Fault)
       → TellsLike t end r → TellsLike (before_told es t) end (with_front es r)
   like_front t end es (Ok x) e = ap (before_told es) e
   like_front t end es (Err f) e = e
@@ -123,18 +124,18 @@ module _ (o : OptionsData) where
   fed_like end [] p = refl
   fed_like end (i ∷ is) p = like_behind end is (feed o i (next_line is) p) (fed_like end is)
 
-  at_end : (e : PlainEvent) (t : Told) (r : Result (List PlainEvent × ParserState) Fault) → TellsLike t None r
+  at_end : (e : PlainEvent) (t : EventsTold) (r : Result (List PlainEvent × ParserState) Fault) → TellsLike t None r
       → (r >>= λ x. Ok (e ∷ x.0)) ≡ answer (before_told (e ∷ []) t) t.1
-  at_end e t (Ok x) like = ap (λ (t : Told). answer (before_told (e ∷ []) t) t.1) (sym like)
+  at_end e t (Ok x) like = ap (λ (t : EventsTold). answer (before_told (e ∷ []) t) t.1) (sym like)
   at_end e t (Err f) like = ap (answer (before_told (e ∷ []) t)) (sym like)
 
-  at_fault : (e : PlainEvent) (g : Fault) (t : Told) (r : Result (List PlainEvent × ParserState) Fault)
+  at_fault : (e : PlainEvent) (g : Fault) (t : EventsTold) (r : Result (List PlainEvent × ParserState) Fault)
       → TellsLike t (Some g) r → (r >>= λ x. Err g) ≡ answer (before_told (e ∷ []) t) t.1
-  at_fault e g t (Ok x) like = ap (λ (t : Told). answer (before_told (e ∷ []) t) t.1) (sym like)
+  at_fault e g t (Ok x) like = ap (λ (t : EventsTold). answer (before_told (e ∷ []) t) t.1) (sym like)
   at_fault e g t (Err f) like = ap (answer (before_told (e ∷ []) t)) (sym like)
 
   answered_is : (m : Mark) (items : List FlaggedItem) (s : Laid) (end : Option Fault)
-      → answered o m items s end ≡ answer (before_told (event_on StreamStart m ∷ [])
+      → run_answer o m items s end ≡ answer (before_told (event_on StreamStart m ∷ [])
       (fed o end (parsers_items s end items) (parser_start m)))
       (fed o end (parsers_items s end items) (parser_start m)).1
   answered_is m items s None = at_end (event_on StreamStart m) (fed o None items (parser_start m))
@@ -144,7 +145,7 @@ module _ (o : OptionsData) where
       (fed_like (Some f) (settled s items) (parser_start m))
 
   run_by : (m : Mark) (r : Result (List Item × LexState) Fault)
-      → (r >>= λ x. answered o m (asked_items o.emit_comments (flagged x.0)) x.1.reader.laid x.1.fault)
+      → (r >>= λ x. run_answer o m (asked_items o.emit_comments (flagged x.0)) x.1.reader.laid x.1.fault)
       ≡ answer (before_told (event_on StreamStart m ∷ []) (told_read o (parser_start m) r))
       (told_read o (parser_start m) r).1
   run_by m (Ok x) = answered_is m (asked_items o.emit_comments (flagged x.0)) x.1.reader.laid x.1.fault
@@ -156,7 +157,7 @@ module _ (o : OptionsData) where
   calls_give h es f given =
       let told = sym (start_told h)
       ∙ gives_future (start_from h) es f given (record { below = tt; old = tt; one_end = λ e. refl }) in
-      run_by (mark_of h) (lex o h) ∙ ap (λ (t : Told). answer t t.1) told
+      run_by (mark_of h) (lex o h) ∙ ap (λ (t : EventsTold). answer t t.1) told
 
   -- ---- what is told of the events so far
 
@@ -174,7 +175,7 @@ module _ (o : OptionsData) where
 
   module _ (h : Here) (es : List PlainEvent) (m : StepState) (leads : LeadsTo o (start_from h) es m) where
     -- what a state still tells comes behind these events
-    told_behind_them : (rest : Told) → future o m ≡ rest → told_from o h ≡ before_told es rest
+    told_behind_them : (rest : EventsTold) → future o m ≡ rest → told_from o h ≡ before_told es rest
     told_behind_them rest is =
         sym (start_told h) ∙ ((leads_on (start_from h) m es leads (start_ready h)).1 ∙ ap (before_told es) is)
 
@@ -189,7 +190,7 @@ module _ (o : OptionsData) where
     ends_told None Lands renumbered g = told_all None (next_is (Ok (None, g.0)) g.2).1
     ends_told (Some (Ok e)) Lands renumbered g = (
       (future o g.0).0,
-      ap (λ (x : Told). x.0)
+      ap (λ (x : EventsTold). x.0)
           (told_behind_them (before_told (plain_event e ∷ []) (future o g.0))
           (next_is (Ok (Some (plain_event e), g.0)) g.2).1),
     )

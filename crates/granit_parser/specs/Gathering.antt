@@ -1,12 +1,12 @@
 -- All events that a parser still gives, as one list.
-use Rattle.std.specs.Prelude.{◌≡◌, ◌⊎◌, List, None, Some, Result, Ok, Err}
+use Rattle.std.specs.Prelude.{◌≡◌, ◌⊎◌, ◌<◌, ◌-◌, ◌^◌, List, None, Some, Result, Ok, Err}
 use Rattle.granit_base.specs.Place.{Unread}
 use Rattle.granit_error.specs.OptionsData.{OptionsData}
 use Rattle.granit_error.specs.Refused.{Refused}
 use Rattle.granit_input.specs.Origin.{Origin}
 use Rattle.granit_lexemes.specs.PlainEvent.{PlainEvent}
 use Rattle.granit_parser.specs.Parsing.{LeadsTo, Parsing}
-use Rattle.granit_parser.specs.Receiving.{RefusesIn}
+use Rattle.granit_parser.specs.Receiving.{RefusalIn}
 use Rattle.granit_stepper.specs.Stepping.{Stepping, StandsIn}
 use Rattle.granit_steps.specs.Steps.{StepState, next_event}
 
@@ -15,13 +15,16 @@ abbrev pub Gathered : {I : Type 0} → (I → Unread → Type 0) → OptionsData
     → Type 0
 Gathered unread o m es s = (n : StepState) × LeadsTo o m es n × StandsIn unread s n
 
--- one by one these events are given from a state on, and nothing more
+-- One by one these events are given from a state on, and nothing more. Behind them fewer anchors are counted than the
+-- greatest number of 64 bits, since one that would get it is refused.
 abbrev pub LeadsOut : OptionsData → StepState → List PlainEvent → Type 0
-LeadsOut o m es = (n : StepState) × LeadsTo o m es n × ((after : StepState) × (next_event o n ≡ Ok (None, after)))
+LeadsOut o m es =
+    (n : StepState) × LeadsTo o m es n × (n.parser.count < 2 ^ 64 - 1)
+    × ((after : StepState) × (next_event o n ≡ Ok (None, after)))
 
 -- or a refusal comes behind some events
 abbrev pub RefusesLate : {I : Type 0} → (I → Origin) → OptionsData → StepState → Parsing I → Refused → Type 0
-RefusesLate origin o m p e = (es : List PlainEvent) × (n : StepState) × LeadsTo o m es n × RefusesIn origin o n p e
+RefusesLate origin o m p e = (es : List PlainEvent) × (n : StepState) × LeadsTo o m es n × RefusalIn origin o n p e
 
 -- all events from a state on are these, or there is a refusal
 abbrev pub GathersAll : {I V : Type 0} → (I → Origin) → OptionsData → StepState → Result V Refused

@@ -20,7 +20,7 @@ use Rattle.granit_stepper.specs.Stepping as stepping
 use Rattle.granit_stepper.specs.Stepping.{Stepping, StandsIn}
 use Rattle.granit_steps.specs.Levels.{IsStream, BeginsStream}
 use Rattle.granit_steps.specs.Steps.{StepState, next_event}
-use Rattle.granit_steps.specs.Told.{Told}
+use Rattle.granit_steps.specs.Told.{EventsTold}
 
 -- an event, why there is none, or nothing more, as the stepper says it
 abbrev pub next_view : {X : Type 0} → Result (Option X) Refused → Option (Result X Refused)
@@ -48,10 +48,10 @@ pub record EndsBehind {I : Type 0} (r : Next) (given : Option Refused) (s : Step
   pub over : IfSome given (λ e. (r ≡ None) × (s.failed ≡ true))
 
 -- a refusal that is given is kept, and nothing else changes what is kept
-abbrev pub Keeps : Next → (old new : Option Refused) → Type 0
-Keeps None old new = new ≡ old
-Keeps (Some (Ok e)) old new = new ≡ old
-Keeps (Some (Err e)) old new = (kept : Refused) × (new ≡ Some kept) × IsKept e kept
+abbrev pub KeepsGiven : Next → (old new : Option Refused) → Type 0
+KeepsGiven None old new = new ≡ old
+KeepsGiven (Some (Ok e)) old new = new ≡ old
+KeepsGiven (Some (Err e)) old new = (kept : Refused) × (new ≡ Some kept) × IsKept e kept
 
 -- where nothing was refused, no call gave want of memory
 abbrev pub StarvedBy : (starved : Bool) → (given : Option Refused) → Type 0
@@ -65,8 +65,8 @@ Starves (Some (Ok e)) old new = new ≡ old
 Starves (Some (Err e)) old new = new ≡ wants_memory e.kind
 
 -- the same parser, with handles that stay over documents or not
-abbrev pub keeping : {I : Type 0} → Bool → Parsing I → Parsing I
-keeping keep p = record p { stepper = stepping.keeping keep p.stepper }
+abbrev pub parser_keeping : {I : Type 0} → Bool → Parsing I → Parsing I
+parser_keeping keep p = record p { stepper = stepping.keeping keep p.stepper }
 
 -- a call gives what the machine's step gives, and a state is then known in which that ends; a refusal is its fault,
 -- unless memory ran out, or says that no number is left for an anchor
@@ -100,7 +100,8 @@ pub record IsOver {I : Type 0} (p : Parsing I) : Type 0 where
   pub failed : p.stepper.failed ≡ true
 
 -- what a look at the next event shows and leaves
-pub record PeeksAs {I : Type 0} (unread : I → Unread → Type 0) (left : I → ℕ) (origin : I → Origin) (old : Parsing I)
+pub record ParserPeeksAs {I : Type 0} (unread : I → Unread → Type 0) (left : I → ℕ)
+    (origin : I → Origin) (old : Parsing I)
     (r : Next) (new : Parsing I) : Type 0 where
   pub shown : r ≡ new.peeked
   pub known : (m : StepState) → StandsAt unread old m
@@ -117,7 +118,8 @@ pub record PeeksAs {I : Type 0} (unread : I → Unread → Type 0) (left : I →
   pub onward : GoesOnward unread old.stepper.scanner.cursor new.stepper.scanner.cursor
 
 -- a step gives what the machine's step gives, what was looked at, and behind a refusal nothing
-pub record StepsTo {I : Type 0} (unread : I → Unread → Type 0) (left : I → ℕ) (origin : I → Origin) (p : Parsing I)
+pub record ParserStepsTo {I : Type 0} (unread : I → Unread → Type 0) (left : I → ℕ)
+    (origin : I → Origin) (p : Parsing I)
     (r : Next) (q : Parsing I) : Type 0 where
   pub known : (m : StepState) → StandsAt unread p m
       → GivesNext r (StandsAt unread q) q.stepper.renumbered p.stepper.scanner.options m
@@ -125,7 +127,7 @@ pub record StepsTo {I : Type 0} (unread : I → Unread → Type 0) (left : I →
   pub source : IfUnseen p.peeked (TellsError origin p.stepper r q.stepper.scanner.cursor)
   pub seen : IfSome p.peeked (λ x. (r ≡ Some x) × (q.stepper ≡ p.stepper))
   pub none : q.peeked ≡ None
-  pub given : Keeps r p.given q.given
+  pub given : KeepsGiven r p.given q.given
   pub refused : EndsWith r q.stepper
   pub over : IsOver p → (r ≡ None) × (q ≡ p)
   pub options : q.stepper.scanner.options ≡ p.stepper.scanner.options
@@ -152,7 +154,7 @@ EndsText o x es renumbered m (Some (Err e)) =
 -- Behind these events of all that is told from a beginning, in that state: where there is nothing more, they are all;
 -- an event is the next one, so that with each one fewer is left; and a refusal is what ends them, unless memory ran
 -- out, or says that no number is left for an anchor.
-abbrev pub EndsTold : Told → OptionsData → List PlainEvent → (renumbered : Bool) → StepState → Next → Type 0
+abbrev pub EndsTold : EventsTold → OptionsData → List PlainEvent → (renumbered : Bool) → StepState → Next → Type 0
 EndsTold all o es renumbered m None = all ≡ (es, None)
 EndsTold all o es renumbered m (Some (Ok e)) = (more : List PlainEvent) × (all.0 ≡ es ++ plain_event e ∷ more)
 EndsTold all o es renumbered m (Some (Err e)) =

@@ -21,16 +21,16 @@ use Rattle.granit_receivers.specs.Kept.{IsKept}
 use Rattle.granit_receivers.specs.Sending.{is_last}
 use Rattle.granit_receivers.specs.declared.error.TryLoadError.{TryLoadError}
 use Rattle.granit_receivers.specs.declared.error.TryLoadError.TheVariants.{Scan, Receiver}
-use Rattle.granit_recovery.specs.Streams.{Gives}
+use Rattle.granit_recovery.specs.Streams.{CallsGive}
 use Rattle.granit_restart.specs.Calls.{Calls}
 use Rattle.granit_stepper.specs.Numbers.{RefusesNumber}
 use Rattle.granit_steps.specs.Steps.{StepState, next_event}
 
 -- one by one these events are given from a state up to another one, and none of them is the last that is sent
-pub data GoesOn (o : OptionsData) (multi : Bool) : StepState → List PlainEvent → StepState → Type 0 where
-  none_sent : {m : StepState} → GoesOn o multi m [] m
+pub data SendsOn (o : OptionsData) (multi : Bool) : StepState → List PlainEvent → StepState → Type 0 where
+  none_sent : {m : StepState} → SendsOn o multi m [] m
   sent_on : {m next after : StepState} {e : PlainEvent} {es : List PlainEvent} → next_event o m ≡ Ok (Some e, next)
-      → is_last multi e.kind ≡ false → GoesOn o multi next es after → GoesOn o multi m (e ∷ es) after
+      → is_last multi e.kind ≡ false → SendsOn o multi next es after → SendsOn o multi m (e ∷ es) after
 
 -- all that is sent from a state on, and the state behind it: up to the last, or until nothing is left
 pub data Sends (o : OptionsData) (multi : Bool) : StepState → List PlainEvent → StepState → Type 0 where
@@ -53,7 +53,7 @@ pub data SendsUpTo (o : OptionsData) (multi : Bool) (IsPlace : Mark → Type 0)
     : StepState → List PlainEvent → StepState → Type 0 where
   up_to_end_again : {m after : StepState} {mark : Mark} → next_event o m ≡ Ok (None, after) → IsPlace mark
       → SendsUpTo o multi IsPlace m (event_on StreamEnd mark ∷ []) after
-  up_to_this : {m next after : StepState} {e : PlainEvent} {es : List PlainEvent} → GoesOn o multi m es next
+  up_to_this : {m next after : StepState} {e : PlainEvent} {es : List PlainEvent} → SendsOn o multi m es next
       → next_event o next ≡ Ok (Some e, after) → SendsUpTo o multi IsPlace m (es ++ (e ∷ [])) after
 
 -- the place up to which a cursor is known to have read
@@ -64,8 +64,8 @@ IsPlaceOf unread r mark = (h : Here) → Stands unread r h → mark ≡ mark_of 
 
 -- a refusal in a state: the machine's, unless memory ran out, or that no number is left for an anchor, or the error of
 -- the source
-abbrev pub RefusesIn : {I : Type 0} → (I → Origin) → OptionsData → StepState → Parsing I → Refused → Type 0
-RefusesIn origin o m p e =
+abbrev pub RefusalIn : {I : Type 0} → (I → Origin) → OptionsData → StepState → Parsing I → Refused → Type 0
+RefusalIn origin o m p e =
     (Fails e (next_event o m) ⊎ RefusesNumber p.stepper.renumbered o m e)
     ⊎ IsSourceError (origin p.stepper.scanner.cursor.input) p.stepper.scanner.cursor.place e
 
@@ -74,43 +74,43 @@ abbrev pub RefusesBehind : {I : Type 0} → (I → Origin) → OptionsData → B
     → (List (Event × Span) → Type 0) → Parsing I → Refused → Type 0
 RefusesBehind origin o multi m Takes p e =
     (xs : List (Event × Span)) × Takes xs
-    × ((n : StepState) × GoesOn o multi m (plain_events xs) n × RefusesIn origin o n p e)
+    × ((n : StepState) × SendsOn o multi m (plain_events xs) n × RefusalIn origin o n p e)
 
 -- these events were sent, and the parser stands behind them
-abbrev pub StandsBehind : {I : Type 0} → (I → Unread → Type 0) → (List (Event × Span) → Type 0) → Parsing I
+abbrev pub StandsBehindSent : {I : Type 0} → (I → Unread → Type 0) → (List (Event × Span) → Type 0) → Parsing I
     → (List PlainEvent → StepState → Type 0) → Type 0
-StandsBehind unread Takes p Sent =
+StandsBehindSent unread Takes p Sent =
     (xs : List (Event × Span)) × Takes xs
     × ((after : StepState) × StandsAt unread p after × Sent (plain_events xs) after)
 
 -- what is sent behind the first event
 abbrev pub LoadsRest : {I X : Type 0} → (I → Unread → Type 0) → (I → Origin) → OptionsData → Bool → StepState
     → (List (Event × Span) → Type 0) → Parsing I → Result X Refused → Type 0
-LoadsRest unread origin o multi m Takes p (Ok x) = StandsBehind unread Takes p (Sends o multi m)
+LoadsRest unread origin o multi m Takes p (Ok x) = StandsBehindSent unread Takes p (Sends o multi m)
 LoadsRest unread origin o multi m Takes p (Err e) = RefusesBehind origin o multi m Takes p e
 
 -- what is sent in all
 abbrev pub Loads : {I X : Type 0} → (I → Unread → Type 0) → (I → Origin) → OptionsData → Bool → StepState
     → (List (Event × Span) → Type 0) → Parsing I → Result X Refused → Type 0
 Loads unread origin o multi m Takes p (Ok x) =
-    StandsBehind unread Takes p (SendsSome o multi (IsPlaceOf unread p.stepper.scanner.cursor) m)
+    StandsBehindSent unread Takes p (SendsSome o multi (IsPlaceOf unread p.stepper.scanner.cursor) m)
 Loads unread origin o multi m Takes p (Err e) = RefusesBehind origin o multi m Takes p e
 
 -- the same where the receiver may refuse an event, the last one that it took
 abbrev pub TriesRest : {I X E : Type 0} → (I → Unread → Type 0) → (I → Origin) → OptionsData → Bool → StepState
     → (List (Event × Span) → Type 0) → Parsing I → Result X (TryLoadError E) → Type 0
-TriesRest unread origin o multi m Takes p (Ok x) = StandsBehind unread Takes p (Sends o multi m)
+TriesRest unread origin o multi m Takes p (Ok x) = StandsBehindSent unread Takes p (Sends o multi m)
 TriesRest unread origin o multi m Takes p (Err (Scan e)) = RefusesBehind origin o multi m Takes p e
 TriesRest unread origin o multi m Takes p (Err (Receiver e)) =
-    StandsBehind unread Takes p (SendsUpTo o multi (λ mark. ⊥) m)
+    StandsBehindSent unread Takes p (SendsUpTo o multi (λ mark. ⊥) m)
 
 abbrev pub Tries : {I X E : Type 0} → (I → Unread → Type 0) → (I → Origin) → OptionsData → Bool → StepState
     → (List (Event × Span) → Type 0) → Parsing I → Result X (TryLoadError E) → Type 0
 Tries unread origin o multi m Takes p (Ok x) =
-    StandsBehind unread Takes p (SendsSome o multi (IsPlaceOf unread p.stepper.scanner.cursor) m)
+    StandsBehindSent unread Takes p (SendsSome o multi (IsPlaceOf unread p.stepper.scanner.cursor) m)
 Tries unread origin o multi m Takes p (Err (Scan e)) = RefusesBehind origin o multi m Takes p e
 Tries unread origin o multi m Takes p (Err (Receiver e)) =
-    StandsBehind unread Takes p (SendsUpTo o multi (IsPlaceOf unread p.stepper.scanner.cursor) m)
+    StandsBehindSent unread Takes p (SendsUpTo o multi (IsPlaceOf unread p.stepper.scanner.cursor) m)
 
 -- what the parser itself answered, where it didn't end by the receiver's refusal
 abbrev pub scanned : {X E : Type 0} → Result X (TryLoadError E) → Option (Result X Refused)
@@ -147,7 +147,7 @@ GivesFirst unread origin p o m (Ok x) =
     (after : StepState) × StandsAt unread p after
     × ((next_event o m ≡ Ok (Some (plain_event x), after))
     ⊎ ((next_event o m ≡ Ok (None, after)) × IsEndAt unread p.stepper.scanner.cursor x))
-GivesFirst unread origin p o m (Err e) = RefusesIn origin o m p e
+GivesFirst unread origin p o m (Err e) = RefusalIn origin o m p e
 
 -- the same of a sending that the receiver may end: what it refuses is not kept
 abbrev pub KeepsScan : {X E : Type 0} → Result X (TryLoadError E) → Option Refused → Type 0
@@ -176,14 +176,14 @@ abbrev pub CallsLed : {I : Type 0} → (I → Unread → Type 0) → OptionsData
     → (List (Event × Span) → Type 0) → Parsing I → Calls → Type 0
 CallsLed unread o multi all Takes p c =
     (xs : List (Event × Span)) × Takes xs × EndsSending multi all (plain_events xs)
-    × ((d : Calls) × Gives o c (plain_events xs) d × ParserIn unread p d)
+    × ((d : Calls) × CallsGive o c (plain_events xs) d × ParserIn unread p d)
 
 -- the call behind what was sent failed, unless memory ran out or the source failed
 abbrev pub CallsFailed : {I : Type 0} → (I → Unread → Type 0) → (I → Origin) → OptionsData → (multi : Bool)
     → (List (Event × Span) → Type 0) → Parsing I → Calls → Refused → Type 0
 CallsFailed unread origin o multi Takes p c e =
     ((e.kind ≡ NoMemory → ⊥) → (xs : List (Event × Span)) × Takes xs × NoneLast multi (plain_events xs)
-    × ((d : Calls) × Gives o c (plain_events xs) d
+    × ((d : Calls) × CallsGive o c (plain_events xs) d
     × ((m : StepState) × FailsAt p.stepper.renumbered o m d e × ParserIn unread p (failed_in m e d))))
     ⊎ IsSourceError (origin p.stepper.scanner.cursor.input) p.stepper.scanner.cursor.place e
 

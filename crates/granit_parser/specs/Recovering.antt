@@ -19,14 +19,14 @@ use Rattle.granit_parser.specs.declared.recovery.Seen.{Seen}
 use Rattle.granit_parser.specs.declared.recovery.Seen.TheVariants as seens
 use Rattle.granit_receivers.specs.Kept.{IsKept}
 use Rattle.granit_recovery.specs.Asking.{LookTells}
-use Rattle.granit_recovery.specs.Streams.{EarlyOf, Reached}
+use Rattle.granit_recovery.specs.Streams.{EarlyOf, ReachedByCalls}
 use Rattle.granit_restart.specs.Ahead.{AheadOf, NoneComes, is_note}
 use Rattle.granit_restart.specs.Calls.{Calls, failing, next_call, noted}
 use Rattle.granit_restart.specs.Following.{document_follows}
-use Rattle.granit_restart.specs.Recovery.{answered, comment_of, recover, recovered, resumed}
+use Rattle.granit_restart.specs.Recovery.{comment_count, recover, recovered, recovery_answer, resumed}
 use Rattle.granit_restart.specs.Restart.{behind_fault}
 use Rattle.granit_restart.specs.Skipping as skipping
-use Rattle.granit_restart.specs.Skipping.{Ended, SkipEnd, Stops, skip, skipped_fault, with_pending}
+use Rattle.granit_restart.specs.Skipping.{Ended, SkipEnd, Stops, skip_by_turns, skipped_fault, with_pending}
 use Rattle.granit_restart.specs.Turned.{Turned}
 use Rattle.granit_stepper.specs.Numbers.{RefusesNumber}
 use Rattle.granit_stepper.specs.Recovering.{DropsOn, StopsAt, StopsBehind}
@@ -38,7 +38,7 @@ use Rattle.granit_steps.specs.Steps.{StepState, next_event}
 
 -- No call failed: a stepper is where calls led, or some turns ahead of it. Directly behind a document it is ahead only
 -- where no other comes.
-pub record Goes {I : Type 0} (unread : I → Unread → Type 0) (s : Stepping I) (c : Calls) : Type 0 where
+pub record GoesWithCalls {I : Type 0} (unread : I → Unread → Type 0) (s : Stepping I) (c : Calls) : Type 0 where
   pub steps : StepState
   pub ahead : AheadOf s.scanner.options c.steps steps
   pub stands : StandsAhead unread s steps
@@ -58,7 +58,7 @@ pub record SeenNext {I : Type 0} (unread : I → Unread → Type 0) (s : Steppin
   where
     pub steps : StepState
     pub next : next_event s.scanner.options c.steps ≡ Ok (Some e, steps)
-    pub goes : Goes unread s (noted e.kind (record c { steps = steps }))
+    pub goes : GoesWithCalls unread s (noted e.kind (record c { steps = steps }))
 
 -- no event was looked at
 abbrev pub SeenNone : Next → Type 0
@@ -68,7 +68,7 @@ SeenNone (Some (Err e)) = Unit {0}
 
 -- nothing, or an event, was looked at; a fault that was looked at counts as given
 abbrev pub SeenBy : {I : Type 0} → (I → Unread → Type 0) → Next → Stepping I → Calls → Type 0
-SeenBy unread None s c = Goes unread s c
+SeenBy unread None s c = GoesWithCalls unread s c
 SeenBy unread (Some (Ok x)) s c = SeenNext unread s (plain_event x) c
 SeenBy unread (Some (Err e)) s c = ⊥
 
@@ -137,7 +137,7 @@ GivesCall unread (Some (Err e)) p c = (e.kind ≡ NoMemory → ⊥) → (m : Ste
 -- what a step of the iterator gives and leaves where the machine's calls led
 pub record CallsTo {I : Type 0} (unread : I → Unread → Type 0) (origin : I → Origin) (old : Parsing I) (r : Next)
     (new : Parsing I) : Type 0 where
-  pub calls : (c : Calls) → Reached old.stepper.scanner.options c → IsOpen c → ParserIn unread old c
+  pub calls : (c : Calls) → ReachedByCalls old.stepper.scanner.options c → IsOpen c → ParserIn unread old c
       → GivesCall unread r new c ⊎ TellsSource origin r new.stepper.scanner.cursor
   pub closed : (c : Calls) → IsClosed c → ParserIn unread old c → ParserIn unread new c
   pub lost : IfUnseen old.peeked (NeverRecovers origin old.stepper r new.stepper)
@@ -152,7 +152,7 @@ ShowsCall unread (Some (Err e)) p c = (e.kind ≡ NoMemory → ⊥) → (m : Ste
 -- what a look leaves where the machine's calls led
 pub record PeeksIn {I : Type 0} (unread : I → Unread → Type 0) (origin : I → Origin) (old : Parsing I) (r : Next)
     (new : Parsing I) : Type 0 where
-  pub calls : (c : Calls) → Reached old.stepper.scanner.options c → IsOpen c → ParserIn unread old c
+  pub calls : (c : Calls) → ReachedByCalls old.stepper.scanner.options c → IsOpen c → ParserIn unread old c
       → (origin new.stepper.scanner.cursor.input).error ≡ None → ShowsCall unread r new c
   pub closed : (c : Calls) → IsClosed c → ParserIn unread old c → ParserIn unread new c
   pub lost : IfUnseen old.peeked (NeverRecovers origin old.stepper r new.stepper)
@@ -178,7 +178,7 @@ pub data ComesBy (o : OptionsData) (m : StepState) : StepState → Type 0 where
   comes_here : ComesBy o m m
   comes_seen : {n k : StepState} {e : PlainEvent} → ComesBy o m n → next_event o n ≡ Ok (Some e, k) → ComesBy o m k
   comes_dropping : {n k : StepState} → ComesBy o m n → DropsOn o n k → ComesBy o m k
-  comes_ended : {n k : StepState} → ComesBy o m n → skip o n ≡ Ended k → ComesBy o m k
+  comes_ended : {n k : StepState} → ComesBy o m n → skip_by_turns o n ≡ Ended k → ComesBy o m k
   comes_behind : {n : StepState} (stops : Stops) (e : Fault) → ComesBy o m n → ComesBy o m (skipped_fault o stops e n)
   comes_anew : {n : StepState} (stop : Here) → ComesBy o m n → ComesBy o m (behind_fault stop n).1
   comes_ahead : {n k : StepState} → ComesBy o m n → AheadOf o n k → ComesBy o m k
@@ -201,23 +201,23 @@ seen_in None = seens.Nothing
 seen_in (Some (Ok x)) = seen_kind (plain_event x).kind
 seen_in (Some (Err e)) = seens.Nothing
 
-abbrev pub starts : Seen → Bool
-starts seens.DocumentStart = true
-starts seen = false
+abbrev pub seen_starts_document : Seen → Bool
+seen_starts_document seens.DocumentStart = true
+seen_starts_document seen = false
 
-abbrev pub ends : Seen → Bool
-ends seens.DocumentEnd = true
-ends seen = false
+abbrev pub seen_ends_document : Seen → Bool
+seen_ends_document seens.DocumentEnd = true
+seen_ends_document seen = false
 
 abbrev pub ends_stream : Seen → Bool
 ends_stream seens.StreamEnd = true
 ends_stream seen = false
 
 -- whether what was looked at tells that another document is there: any event but a comment
-abbrev pub tells : Seen → Bool
-tells seens.Nothing = false
-tells seens.Comment = false
-tells seen = true
+abbrev pub seen_tells_document : Seen → Bool
+seen_tells_document seens.Nothing = false
+seen_tells_document seens.Comment = false
+seen_tells_document seen = true
 
 -- what is noted where an event is given: whether the end of a document is the last, comments aside, and whether that of
 -- the stream was given
@@ -244,14 +244,14 @@ notes_over (Some (Err e)) over = over
 abbrev pub StopsDropping : OptionsData → Stops → SkipEnd → Type 0
 StopsDropping o stops (Ended n) = Unit {0}
 StopsDropping o stops (skipping.Failed e n) =
-    Onward n.reading.reader.here stops.first × StopsBehind (skip o (behind_fault stops.first n).1) stops.second
+    Onward n.reading.reader.here stops.first × StopsBehind (skip_by_turns o (behind_fault stops.first n).1) stops.second
 
 -- behind a fault that was given the first is where the cursor stands
 abbrev pub StopsBy : {I : Type 0} → (I → Unread → Type 0) → (cursor : Reading I) → OptionsData → Stops → Option Fault
     → StepState → Type 0
-StopsBy unread cursor o stops None m = StopsDropping o stops (skip o m)
+StopsBy unread cursor o stops None m = StopsDropping o stops (skip_by_turns o m)
 StopsBy unread cursor o stops (Some f) m =
-    StopsAt unread cursor m stops.first × StopsBehind (skip o (behind_fault stops.first m).1) stops.second
+    StopsAt unread cursor m stops.first × StopsBehind (skip_by_turns o (behind_fault stops.first m).1) stops.second
 
 -- where refused reads stopped, as far as recovery goes by it
 abbrev pub StopsIn : {I : Type 0} → (I → Unread → Type 0) → (cursor : Reading I) → OptionsData → Stops → Calls → Type 0
@@ -278,8 +278,8 @@ Proceeds unread r old new c =
 -- ---- on the way
 
 -- nothing was looked at, and another document is asked for where calls led to directly behind one
-abbrev pub asking : StepState → Calls
-asking m = record (resumed m) { between = true }
+abbrev pub asking_document : StepState → Calls
+asking_document m = record (resumed m) { between = true }
 
 -- recovery asks there, where so many comments more may be kept
 pub record AsksAt (o : OptionsData) (stops : Stops) (looked : Bool) (c : Calls) (extra : ℕ) (m : StepState) : Type 0
@@ -301,14 +301,14 @@ pub record AsksNow {I : Type 0} (unread : I → Unread → Type 0) (stops : Stop
     (c : Calls) : Type 0 where
   pub steps : StepState
   pub asks : AsksAt s.scanner.options stops looked c 0 steps
-  pub goes : Goes unread s (asking steps)
+  pub goes : GoesWithCalls unread s (asking_document steps)
   pub turned : Turned s.scanner.options goes.steps
 
 pub record AsksBefore {I : Type 0} (unread : I → Unread → Type 0) (stops : Stops) (looked : Bool) (s : Stepping I)
     (e : PlainEvent) (c : Calls) : Type 0 where
   pub steps : StepState
-  pub asks : AsksAt s.scanner.options stops looked c (comment_of e.kind) steps
-  pub seen : SeenNext unread s e (asking steps)
+  pub asks : AsksAt s.scanner.options stops looked c (comment_count e.kind) steps
+  pub seen : SeenNext unread s e (asking_document steps)
   pub turned : Turned s.scanner.options seen.goes.steps
   pub tells : SeenTells s.scanner.options steps seen.steps e.kind
 
@@ -317,9 +317,10 @@ AsksBy unread stops looked None s c = AsksNow unread stops looked s c
 AsksBy unread stops looked (Some (Ok x)) s c = AsksBefore unread stops looked s (plain_event x) c
 AsksBy unread stops looked (Some (Err e)) s c = ⊥
 
-abbrev pub Skips : {I : Type 0} → (I → Unread → Type 0) → (cursor : Reading I) → (looked : Bool) → Parsing I → Calls
+abbrev pub SkipsToAsk : {I : Type 0} → (I → Unread → Type 0) → (cursor : Reading I)
+    → (looked : Bool) → Parsing I → Calls
     → Type 0
-Skips unread cursor looked p c =
+SkipsToAsk unread cursor looked p c =
     ((stops : Stops) × StopsIn unread cursor p.stepper.scanner.options stops c
     × AsksBy unread stops looked p.peeked p.stepper c)
     ⊎ MeetsNumber p.stepper.renumbered p.stepper.scanner.options c.steps
@@ -328,8 +329,8 @@ Skips unread cursor looked p c =
 pub record AnswersIn {I : Type 0} (unread : I → Unread → Type 0) (stops : Stops) (looked : Bool)
     (r : Result Bool Refused) (p : Parsing I) (c : Calls) : Type 0 where
   pub steps : StepState
-  pub recovers : recover p.stepper.scanner.options stops looked c ≡ answered r (resumed steps)
-  pub seen : IfOk r (λ follows. SeenBy unread p.peeked p.stepper (answered r (resumed steps)).1)
+  pub recovers : recover p.stepper.scanner.options stops looked c ≡ recovery_answer r (resumed steps)
+  pub seen : IfOk r (λ follows. SeenBy unread p.peeked p.stepper (recovery_answer r (resumed steps)).1)
 
 abbrev pub Follows : {I : Type 0} → (I → Unread → Type 0) → Stops → (looked : Bool) → Result Bool Refused → Parsing I
     → Calls → Type 0
@@ -337,13 +338,13 @@ Follows unread stops looked r p c =
     AnswersIn unread stops looked r p c ⊎ MeetsNumber p.stepper.renumbered p.stepper.scanner.options c.steps
 
 -- the same of the calls that aren't given up: a refusal leaves what it leaves
-abbrev pub EndsIn : {I : Type 0} → (I → Unread → Type 0) → Result Bool Refused → Parsing I → Calls → Type 0
-EndsIn unread (Ok follows) p d = ParserIn unread p d
-EndsIn unread (Err e) p d = (d.over ≡ false) × (d.refusal ≡ Some e)
+abbrev pub RecoveryLeaves : {I : Type 0} → (I → Unread → Type 0) → Result Bool Refused → Parsing I → Calls → Type 0
+RecoveryLeaves unread (Ok follows) p d = ParserIn unread p d
+RecoveryLeaves unread (Err e) p d = (d.over ≡ false) × (d.refusal ≡ Some e)
 
 abbrev pub Ends : {I : Type 0} → (I → Unread → Type 0) → Result Bool Refused → (old new : Parsing I) → Calls → Type 0
 Ends unread r old new c =
     (((stops : Stops) × StopsIn unread old.stepper.scanner.cursor new.stepper.scanner.options stops c × (d : Calls)
-    × (recover new.stepper.scanner.options stops (is_some old.peeked) c ≡ (r, d)) × EndsIn unread r new d)
+    × (recover new.stepper.scanner.options stops (is_some old.peeked) c ≡ (r, d)) × RecoveryLeaves unread r new d)
     ⊎ SeesEnd r old new)
     ⊎ MeetsNumber new.stepper.renumbered new.stepper.scanner.options c.steps

@@ -1,6 +1,7 @@
 -- What calls give behind a recovery from a fault.
 use Rattle.std.specs.Prelude.{◌≡◌, ◌⊎◌, Bool, false, List, [], ◌∷◌, ◌++◌, Some, None, Ok, Err}
-use Rattle.granit_alone.specs.Behind.{GivesOn, StandsApart}
+use Rattle.granit_alone.specs.Behind.{GivesOn}
+use Rattle.granit_alone.specs.Lines.{CountsAt}
 use Rattle.granit_base.specs.Place.{Unread}
 use Rattle.granit_error.specs.FaultKind.{NoMemory}
 use Rattle.granit_error.specs.OptionsData.{OptionsData}
@@ -9,7 +10,7 @@ use Rattle.granit_lexemes.specs.Outcome.{Fault}
 use Rattle.granit_lexemes.specs.PlainEvent.{PlainEvent}
 use Rattle.granit_parser.specs.Parsing.{Next, Parsing}
 use Rattle.granit_parser.specs.Recovering.{ParserIn}
-use Rattle.granit_recovery.specs.Streams.{Gives, Reached}
+use Rattle.granit_recovery.specs.Streams.{CallsGive, ReachedByCalls}
 use Rattle.granit_restart.specs.Ahead.{AheadOf}
 use Rattle.granit_restart.specs.Calls.{Calls, next_call}
 use Rattle.granit_restart.specs.Recovery.{recover}
@@ -18,22 +19,23 @@ use Rattle.granit_shifted.specs.Stopping.{FaultFits}
 use Rattle.granit_stepper.specs.Numbers.{RefusesNumber}
 use Rattle.granit_steps.specs.Steps.{StepState}
 
--- Calls failed with a fault, recovery went on behind it where what is left may stand for a text, by where refused reads
--- stopped, and calls then gave these events.
+-- Calls failed with a fault, recovery went on behind it where lines count from 1, by where refused reads stopped, and
+-- calls then gave these events.
 pub record Resumed (o : OptionsData) (stops : Stops) (c : Calls) (es : List PlainEvent) (e : Calls) : Type 0 where
-  pub reached : Reached o c
+  pub reached : ReachedByCalls o c
   pub over : c.over ≡ false
   pub fault : Fault
   pub failed : c.fault ≡ Some fault
-  pub apart : FaultFits (StandsApart o) o stops c.steps
+  pub counts : FaultFits CountsAt o stops c.steps
   pub looked : Bool
   pub follows : Bool
   pub start : Calls
   pub recovers : recover o stops looked c ≡ (Ok follows, start)
-  pub gives : Gives o start es e
+  pub gives : CallsGive o start es e
 
 -- The next call behind them gives an event or is refused: what was given then is what the text tells that is left from
--- the boundary on; so is a refusal, unless memory ran out or no number is left for an anchor.
+-- the boundary on, as a text of its own, or where handles stay from before, behind one that declares them anew; so is a
+-- refusal, unless memory ran out or no number is left for an anchor.
 abbrev pub ResumesCall : {I : Type 0} → (I → Unread → Type 0) → OptionsData → Stops → Calls → List PlainEvent → Next
     → Parsing I → Calls → Type 0
 ResumesCall unread o stops c es None p e = ⊥

@@ -4,5 +4,5 @@ use Rattle.granit_invariants.specs.Offsets.{bare_here}
 use Rattle.granit_lexemes.specs.Here.{Here, start_of}
 
 -- no byte offset is told, and nothing can be lent
-abbrev pub bare_start : List ℕ → Here
-bare_start text = bare_here (record { offsets = false; lending = false }) (start_of text)
+abbrev pub bare_text_start : List ℕ → Here
+bare_text_start text = bare_here (record { offsets = false; lending = false }) (start_of text)

@@ -4,7 +4,7 @@ ghost use Rattle.granit_base.specs.Place.{Unread};
 ghost use Rattle.granit_parser.specs.Numbers.{next_number, with_number};
 ghost use Rattle.granit_parser.specs.Parsing.{StandsAt};
 ghost use Rattle.granit_parser.specs.Recovering.{ChangesIn, IsClosed, IsOpen, ParserIn};
-ghost use Rattle.granit_recovery.specs.Streams.{Reached};
+ghost use Rattle.granit_recovery.specs.Streams.{ReachedByCalls};
 ghost use Rattle.granit_restart.specs.Calls.{Calls};
 ghost use Rattle.granit_stepper.specs.Offset.{with_offset};
 ghost use Rattle.granit_stepper.specs.Stepping.{StandsIn};
@@ -30,7 +30,7 @@ impl<'input, T: BorrowedInput<'input>> Parser<'input, T> {
     pub fn set_anchor_offset(&mut self, offset: usize)
         ensures known { (m : StepState) → StandsIn T.unread self.old.stepper m
             → StandsIn T.unread self.new.stepper (with_offset offset m) }
-        ensures calls { (c : Calls) → Reached self.old.stepper.scanner.options c → IsOpen c
+        ensures calls { (c : Calls) → ReachedByCalls self.old.stepper.scanner.options c → IsOpen c
             → self.old.stepper.ahead ≡ None → ParserIn T.unread self.old c
             → ChangesIn T.unread self.old.stepper.scanner.options (with_offset offset) self.new c }
         ensures there { (c : Calls) → IsOpen c → self.old.peeked ≡ None → StandsAt T.unread self.old c.steps

@@ -8,7 +8,7 @@ ghost use Rattle.granit_error.specs.OptionsView.{options_of};
 ghost use Rattle.granit_error.specs.declared.kind.ErrorKind.{ErrorKind};
 ghost use Rattle.granit_parser.specs.Parsing.{StandsAt};
 ghost use Rattle.granit_parser.specs.Recovering.{ParserIn};
-ghost use Rattle.granit_parser.specs.Streams.{bare_start};
+ghost use Rattle.granit_parser.specs.Streams.{bare_text_start};
 ghost use Rattle.granit_recovery.specs.Streams.{calls_from};
 ghost use Rattle.granit_steps.specs.Steps as steps;
 
@@ -33,11 +33,11 @@ impl<'input, T: Source<Item = Result<char, ErrorKind>>> Parser<'input, FallibleB
         ensures start { IfOk result (λ p. (items : List (Result ℕ ErrorKind))
             → GivesOnly T.next_gives T.remaining iter items
             → StandsAt ⟦<FallibleBufferedInput<T> as Input>⟧.unread p
-            (steps.start_from (bare_start (characters_of items)))) }
+            (steps.start_from (bare_text_start (characters_of items)))) }
         ensures calls { IfOk result (λ p. (items : List (Result ℕ ErrorKind))
             → GivesOnly T.next_gives T.remaining iter items
             → ParserIn ⟦<FallibleBufferedInput<T> as Input>⟧.unread p
-            (calls_from (bare_start (characters_of items)))) }
+            (calls_from (bare_text_start (characters_of items)))) }
         ensures ends { IfOk result (λ p. (items : List (Result ℕ ErrorKind))
             → GivesOnly T.next_gives T.remaining iter items
             → (⟦<FallibleBufferedInput<T> as Input>⟧.origin p.stepper.scanner.cursor.input).ends_with
@@ -65,11 +65,11 @@ impl<'input, T: Source<Item = Result<char, ErrorKind>>> Parser<'input, FallibleB
         ensures start { IfOk result (λ p. (items : List (Result ℕ ErrorKind))
             → GivesOnly T.next_gives T.remaining iter items
             → StandsAt ⟦<FallibleBufferedInput<T> as Input>⟧.unread p
-            (steps.start_from (bare_start (characters_of items)))) }
+            (steps.start_from (bare_text_start (characters_of items)))) }
         ensures calls { IfOk result (λ p. (items : List (Result ℕ ErrorKind))
             → GivesOnly T.next_gives T.remaining iter items
             → ParserIn ⟦<FallibleBufferedInput<T> as Input>⟧.unread p
-            (calls_from (bare_start (characters_of items)))) }
+            (calls_from (bare_text_start (characters_of items)))) }
         ensures ends { IfOk result (λ p. (items : List (Result ℕ ErrorKind))
             → GivesOnly T.next_gives T.remaining iter items
             → (⟦<FallibleBufferedInput<T> as Input>⟧.origin p.stepper.scanner.cursor.input).ends_with

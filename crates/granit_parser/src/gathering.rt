@@ -5,7 +5,7 @@ ghost use Rattle.granit_error.specs.Refused.{Refused};
 ghost use Rattle.granit_event.specs.Events.{plain_event, plain_events};
 ghost use Rattle.granit_input.specs.Origin.{Goes};
 ghost use Rattle.granit_parser.specs.Gathering.{Gathered, GathersAll};
-ghost use Rattle.granit_parser.specs.Parsing.{StandsAt};
+ghost use Rattle.granit_parser.specs.Parsing.{IsOver, StandsAt};
 ghost use Rattle.granit_parser.specs.Sources.{GoesGiving, GoesUnless, TellsSource};
 ghost use Rattle.granit_stepper.specs.Gathering.{GivesWaiting};
 ghost use Rattle.granit_stepper.specs.Numbers.{RefusesNumber};
@@ -22,8 +22,8 @@ use std::alloc::Global;
 use std::collections::VecDeque;
 
 impl<'input, T: BorrowedInput<'input>> Parser<'input, T> {
-    /// All events that `next_event` would still give, in order. It costs less than a call for each: an event is moved
-    /// but once, from where it was made to the list.
+    /// All events that `next_event` would still give, in order; none behind a refusal that was given. It costs less
+    /// than a call for each: an event is moved but once, from where it was made to the list.
     ///
     /// # Errors
     ///
@@ -31,6 +31,7 @@ impl<'input, T: BorrowedInput<'input>> Parser<'input, T> {
     pub fn gather(&mut self, alloc: Global) -> Result<Vec<(Event<'input>, Span)>, ScanError>
         ensures known { (m : StepState) → StandsAt T.unread self.old m
             → GathersAll T.origin self.old.stepper.scanner.options m result (λ v. plain_events v.items) self.new }
+        ensures over { IsOver self.old → IfOk result (λ v. v.items ≡ []) × IfErr result (λ e. ⊥) }
         ensures given { IfErr result (λ e. (kept : Refused) × (self.new.given ≡ Some kept)) }
         ensures renumbered { self.new.stepper.renumbered ≡ self.old.stepper.renumbered }
         ensures goes { IfOk result (λ v. Goes (T.origin self.old.stepper.scanner.cursor.input)

@@ -14,22 +14,22 @@ ghost use Rattle.granit_error.specs.Refused.{Refused};
 ghost use Rattle.granit_error.specs.OptionsData.{default_options};
 ghost use Rattle.granit_error.specs.OptionsView.{options_of};
 ghost use Rattle.granit_input.specs.Origin.{Gave, error_given};
-ghost use Rattle.granit_input.specs.Strings.{Leaves};
+ghost use Rattle.granit_input.specs.Strings.{LeftInString};
 ghost use Rattle.granit_lexemes.specs.Here.{Here, first_place};
 ghost use Rattle.granit_lexemes.specs.PlainEvent.{PlainEvent};
 ghost use Rattle.granit_parser.specs.Parsing as spec;
 ghost use Rattle.granit_parser.specs.Alone.{EndsAlone};
-ghost use Rattle.granit_parser.specs.Parsing.{EndsBehind, EndsText, EndsTold, EndsWith, GivesNext, IsOver};
-ghost use Rattle.granit_parser.specs.Parsing.{Keeps, LeadsTo, PeeksAs, StandsAt, Starves, StepsBy, next_view};
-ghost use Rattle.granit_parser.specs.Recovering.{GivesCall, Goes, IsClosed, IsOpen, ParserIn, PeeksIn, ReadsNext};
-ghost use Rattle.granit_parser.specs.Recovering.{SeenBy, notes_between, notes_over};
+ghost use Rattle.granit_parser.specs.Parsing.{EndsBehind, EndsText, EndsTold, EndsWith, GivesNext, IsOver, KeepsGiven};
+ghost use Rattle.granit_parser.specs.Parsing.{LeadsTo, ParserPeeksAs, StandsAt, Starves, StepsBy, next_view};
+ghost use Rattle.granit_parser.specs.Recovering.{GivesCall, GoesWithCalls, IsClosed, IsOpen, ParserIn, PeeksIn};
+ghost use Rattle.granit_parser.specs.Recovering.{ReadsNext, SeenBy, notes_between, notes_over};
 ghost use Rattle.granit_parser.specs.Resuming.{Resumed, ResumesCall};
 ghost use Rattle.granit_parser.specs.contracts.parser.Parser.{the_row};
 ghost use Rattle.granit_parser.specs.Sources.{IfUnseen, MovesUnless, NeverRecovers, NeverRevives, TellsError};
 ghost use Rattle.granit_parser.specs.Sources.{TellsSource, unless_failed};
 ghost use Rattle.granit_receivers.specs.Kept.{IsKept};
 ghost use Rattle.granit_receivers.specs.Sending.{shown};
-ghost use Rattle.granit_recovery.specs.Streams.{Reached, calls_from};
+ghost use Rattle.granit_recovery.specs.Streams.{ReachedByCalls, calls_from};
 ghost use Rattle.granit_restart.specs.Calls.{Calls, calls_start};
 ghost use Rattle.granit_restart.specs.Skipping.{Stops};
 ghost use Rattle.granit_stepper.specs.Refusals.{HoldsRefusal, RefusedIn};
@@ -89,8 +89,8 @@ impl<'input, T: Input> Model for Parser<'input, T> {
 impl<'input> Parser<'input, StrInput<'input>> {
     /// Before a string, read with the default options.
     pub fn new_from_str(alloc: Global, value: &'input str) -> Parser<'input, StrInput<'input>>
-        ensures start { StandsAt Leaves result (steps.steps_start (chars value.now)) }
-        ensures calls { ParserIn Leaves result (calls_start (chars value.now)) }
+        ensures start { StandsAt LeftInString result (steps.steps_start (chars value.now)) }
+        ensures calls { ParserIn LeftInString result (calls_start (chars value.now)) }
         ensures options { result.stepper.scanner.options ≡ default_options }
         ensures unseen { result.peeked ≡ None }
         ensures renumbered { result.stepper.renumbered ≡ false }
@@ -104,8 +104,8 @@ impl<'input> Parser<'input, StrInput<'input>> {
         value: &'input str,
         options: Options,
     ) -> Parser<'input, StrInput<'input>>
-        ensures start { StandsAt Leaves result (steps.steps_start (chars value.now)) }
-        ensures calls { ParserIn Leaves result (calls_start (chars value.now)) }
+        ensures start { StandsAt LeftInString result (steps.steps_start (chars value.now)) }
+        ensures calls { ParserIn LeftInString result (calls_start (chars value.now)) }
         ensures options { result.stepper.scanner.options ≡ options_of options }
         ensures unseen { result.peeked ≡ None }
         ensures renumbered { result.stepper.renumbered ≡ false }
@@ -157,12 +157,12 @@ impl<'input, T: BorrowedInput<'input>> Parser<'input, T> {
     /// text, an event goes on with what begins a stream, a refusal is a cause of the text, and where nothing more
     /// comes, they are the events of its reading, a whole stream (`text`). Behind a boundary the same is said of the
     /// text that is left there, by its places there (`alone`), and of the calls behind a recovery from a fault, of
-    /// which each gives something (`resumed`). Each event takes one of the finite list that is told of the input, so
-    /// there are no more of them (`told`). Where the number of a next anchor was ever set, an anchor that would get the
-    /// greatest one is refused instead; a parser that is known to stand in a state has given none that number. The
-    /// first error of the input's source stands in the place of all that was read up to it (`source`), and behind it
-    /// recovery is refused (`lost`). A refusal that is given is kept (`given`), and marked where it is want of memory
-    /// (`starved`).
+    /// which each gives something (`resumed`; where `keep_tags` left handles, of the text behind one that declares
+    /// them anew). Each event takes one of the finite list that is told of the input, so there are no more of them
+    /// (`told`). Where the number of a next anchor was ever set, an anchor that would get the greatest one is refused
+    /// instead; a parser that is known to stand in a state has given none that number. The first error of the input's
+    /// source stands in the place of all that was read up to it (`source`), and behind it recovery is refused (`lost`).
+    /// A refusal that is given is kept (`given`), and marked where it is want of memory (`starved`).
     ///
     /// # Errors
     ///
@@ -190,7 +190,7 @@ impl<'input, T: BorrowedInput<'input>> Parser<'input, T> {
             → EndsTold (told_from self.old.stepper.scanner.options h) self.old.stepper.scanner.options es
             self.new.stepper.renumbered m result
             ⊎ TellsSource T.origin result self.new.stepper.scanner.cursor }
-        ensures calls { (c : Calls) → Reached self.old.stepper.scanner.options c → IsOpen c
+        ensures calls { (c : Calls) → ReachedByCalls self.old.stepper.scanner.options c → IsOpen c
             → ParserIn T.unread self.old c
             → GivesCall T.unread result self.new c ⊎ TellsSource T.origin result self.new.stepper.scanner.cursor }
         ensures resumed { (stops : Stops) (c e : Calls) (es : List PlainEvent)
@@ -199,7 +199,7 @@ impl<'input, T: BorrowedInput<'input>> Parser<'input, T> {
             ⊎ TellsSource T.origin result self.new.stepper.scanner.cursor }
         ensures closed { (c : Calls) → IsClosed c → ParserIn T.unread self.old c → ParserIn T.unread self.new c }
         ensures peeked { self.new.peeked ≡ None }
-        ensures given { Keeps result self.old.given self.new.given }
+        ensures given { KeepsGiven result self.old.given self.new.given }
         ensures starved { Starves result self.old.starved self.new.starved }
         ensures seen { IfSome self.old.peeked (λ r. (result ≡ Some r) × (self.new.stepper ≡ self.old.stepper)) }
         ensures refused { EndsWith result self.new.stepper }
@@ -222,7 +222,7 @@ impl<'input, T: BorrowedInput<'input>> Parser<'input, T> {
         requires ends { EndsWith next.now self.old.stepper }
         ensures between { self.new.between ≡ notes_between next.now self.old.between }
         ensures over { self.new.over ≡ notes_over next.now self.old.over }
-        ensures given { Keeps next.now self.old.given self.new.given }
+        ensures given { KeepsGiven next.now self.old.given self.new.given }
         ensures starved { Starves next.now self.old.starved self.new.starved }
         ensures rest { self.new ≡ record self.old {
           given = self.new.given;
@@ -263,7 +263,7 @@ impl<'input, T: BorrowedInput<'input>> Parser<'input, T> {
         ensures known { (m : StepState) → StandsAt T.unread self.old m
             → StepsBy T.unread result self.old.stepper self.new.stepper m
             ⊎ TellsSource T.origin result self.new.stepper.scanner.cursor }
-        ensures calls { (c : Calls) → Reached self.old.stepper.scanner.options c
+        ensures calls { (c : Calls) → ReachedByCalls self.old.stepper.scanner.options c
             → SeenBy T.unread self.old.peeked self.old.stepper c → ReadsNext T.unread result self.new.stepper c
             ⊎ TellsSource T.origin result self.new.stepper.scanner.cursor }
         ensures source { IfUnseen self.old.peeked (TellsError T.origin self.old.stepper result
@@ -299,7 +299,7 @@ impl<'input, T: BorrowedInput<'input>> Parser<'input, T> {
     /// As `next_event`, lent as often as asked.
     pub fn peek(&mut self) -> Option<Result<&(Event<'input>, Span), &ScanError>>
         ensures* { sem 𝓛 (Rests (the_row (record { mir = named 1; lft = [] }) T.row T.Input) self.entry (λ new.
-            PeeksAs T.unread T.left T.origin self.old (shown result) new
+            ParserPeeksAs T.unread T.left T.origin self.old (shown result) new
             × PeeksIn T.unread T.origin self.old (shown result) new)) }
     {
         self.look_on();
@@ -308,7 +308,7 @@ impl<'input, T: BorrowedInput<'input>> Parser<'input, T> {
 
     /// Reads the next event, where none was looked at.
     fn look_on(&mut self)
-        ensures peeks { PeeksAs T.unread T.left T.origin self.old self.new.peeked self.new }
+        ensures peeks { ParserPeeksAs T.unread T.left T.origin self.old self.new.peeked self.new }
         ensures calls { PeeksIn T.unread T.origin self.old self.new.peeked self.new }
     {
         an_open_call_gives_something();
@@ -367,7 +367,8 @@ impl<'input, T: BorrowedInput<'input>> Parser<'input, T> {
         ensures sure { (m : StepState) → StandsIn T.unread self.old.stepper m
             → (T.origin self.new.stepper.scanner.cursor.input).error ≡ None
             → StepsBy T.unread result self.old.stepper self.new.stepper m }
-        ensures calls { (c : Calls) → Reached self.old.stepper.scanner.options c → Goes T.unread self.old.stepper c
+        ensures calls { (c : Calls) → ReachedByCalls self.old.stepper.scanner.options c
+            → GoesWithCalls T.unread self.old.stepper c
             → ReadsNext T.unread result self.new.stepper c
             ⊎ TellsSource T.origin result self.new.stepper.scanner.cursor }
         ensures source { TellsError T.origin self.old.stepper result self.new.stepper.scanner.cursor }
@@ -436,7 +437,8 @@ impl<'input, T: BorrowedInput<'input>> Parser<'input, T> {
         ensures known { (m : StepState) → StandsIn T.unread self.old.stepper m
             → GivesNext result (StandsIn T.unread self.new.stepper)
             self.old.stepper.renumbered self.old.stepper.scanner.options m }
-        ensures calls { (c : Calls) → Reached self.old.stepper.scanner.options c → Goes T.unread self.old.stepper c
+        ensures calls { (c : Calls) → ReachedByCalls self.old.stepper.scanner.options c
+            → GoesWithCalls T.unread self.old.stepper c
             → ReadsNext T.unread result self.new.stepper c }
         ensures peeked { self.new.peeked ≡ self.old.peeked }
         ensures given { self.new.given ≡ self.old.given }
@@ -516,10 +518,10 @@ fn unless_failed<'a>(
 impl<'input, T: BorrowedInput<'input>> Iterator for Parser<'input, T> {
     type Item = Result<(Event<'input>, Span), ScanError>;
 
-    ghost use Rattle.granit_parser.specs.Parsing.{StepsTo};
+    ghost use Rattle.granit_parser.specs.Parsing.{ParserStepsTo};
     ghost use Rattle.granit_parser.specs.Recovering.{CallsTo};
 
-    ghost next_gives = { λ p r q. StepsTo T.unread T.left T.origin p r q × CallsTo T.unread T.origin p r q };
+    ghost next_gives = { λ p r q. ParserStepsTo T.unread T.left T.origin p r q × CallsTo T.unread T.origin p r q };
 
     fn next(&mut self) -> Option<Result<(Event<'input>, Span), ScanError>> {
         self.next_event()

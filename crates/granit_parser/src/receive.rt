@@ -13,7 +13,7 @@ ghost use Rattle.granit_parser.specs.Recovering.{IsOpen, ParserIn};
 ghost use Rattle.granit_parser.specs.Sources.{IfUnseen, MovesUnless, TellsError, TellsMet};
 ghost use Rattle.granit_receivers.specs.Kept.{CountsErrors, GivesAgain, KeptAgain, ScansAgain};
 ghost use Rattle.granit_receivers.specs.Taking.{Took};
-ghost use Rattle.granit_recovery.specs.Streams.{Reached};
+ghost use Rattle.granit_recovery.specs.Streams.{ReachedByCalls};
 ghost use Rattle.granit_restart.specs.Calls.{Calls};
 ghost use Rattle.granit_steps.specs.Steps.{StepState};
 
@@ -43,7 +43,7 @@ impl<'input, T: BorrowedInput<'input>> Parser<'input, T> {
             → Loads T.unread T.origin self.old.stepper.scanner.options multi m
             (Took (record { events = R.taken recv.old; places = R.spans recv.old })
             (record { events = R.taken recv.new; places = R.spans recv.new })) self.new result }
-        ensures calls { (c : Calls) → Reached self.old.stepper.scanner.options c → IsOpen c
+        ensures calls { (c : Calls) → ReachedByCalls self.old.stepper.scanner.options c → IsOpen c
             → ParserIn T.unread self.old c
             → CallsLeave T.unread T.origin self.old.stepper.scanner.options multi
             (Took (record { events = R.taken recv.old; places = R.spans recv.old })
@@ -87,7 +87,7 @@ impl<'input, T: BorrowedInput<'input>> Parser<'input, T> {
             → LoadsRest T.unread T.origin self.old.stepper.scanner.options multi m
             (Took (record { events = R.taken recv.old; places = R.spans recv.old })
             (record { events = R.taken recv.new; places = R.spans recv.new })) self.new result }
-        ensures calls { (c : Calls) → Reached self.old.stepper.scanner.options c → IsOpen c
+        ensures calls { (c : Calls) → ReachedByCalls self.old.stepper.scanner.options c → IsOpen c
             → ParserIn T.unread self.old c
             → CallsLeave T.unread T.origin self.old.stepper.scanner.options multi
             (Took (record { events = R.taken recv.old; places = R.spans recv.old })
@@ -137,7 +137,7 @@ impl<'input, T: BorrowedInput<'input>> Parser<'input, T> {
             → Tries T.unread T.origin self.old.stepper.scanner.options multi m
             (Took (record { events = R.taken recv.old; places = R.spans recv.old })
             (record { events = R.taken recv.new; places = R.spans recv.new })) self.new result }
-        ensures calls { (c : Calls) → Reached self.old.stepper.scanner.options c → IsOpen c
+        ensures calls { (c : Calls) → ReachedByCalls self.old.stepper.scanner.options c → IsOpen c
             → ParserIn T.unread self.old c
             → CallsLeave T.unread T.origin self.old.stepper.scanner.options multi
             (Took (record { events = R.taken recv.old; places = R.spans recv.old })
@@ -184,7 +184,7 @@ impl<'input, T: BorrowedInput<'input>> Parser<'input, T> {
             → TriesRest T.unread T.origin self.old.stepper.scanner.options multi m
             (Took (record { events = R.taken recv.old; places = R.spans recv.old })
             (record { events = R.taken recv.new; places = R.spans recv.new })) self.new result }
-        ensures calls { (c : Calls) → Reached self.old.stepper.scanner.options c → IsOpen c
+        ensures calls { (c : Calls) → ReachedByCalls self.old.stepper.scanner.options c → IsOpen c
             → ParserIn T.unread self.old c
             → CallsLeave T.unread T.origin self.old.stepper.scanner.options multi
             (Took (record { events = R.taken recv.old; places = R.spans recv.old })
@@ -239,7 +239,7 @@ impl<'input, T: BorrowedInput<'input>> Parser<'input, T> {
     fn first_event(&mut self) -> Result<(Event<'input>, Span), ScanError>
         ensures known { (m : StepState) → StandsAt T.unread self.old m → GivesFirst T.unread T.origin self.new
             self.old.stepper.scanner.options m result }
-        ensures calls { (c : Calls) → Reached self.old.stepper.scanner.options c → IsOpen c
+        ensures calls { (c : Calls) → ReachedByCalls self.old.stepper.scanner.options c → IsOpen c
             → ParserIn T.unread self.old c → FirstCall T.unread T.origin result self.new c }
         ensures source { IfUnseen self.old.peeked (TellsError T.origin self.old.stepper (Some result)
             self.new.stepper.scanner.cursor) }

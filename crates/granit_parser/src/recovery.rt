@@ -5,14 +5,13 @@ ghost use Rattle.granit_cursor.specs.Reading.{GoesOnward, Moves};
 ghost use Rattle.granit_error.specs.FaultKind.{NoMemory as OutOfMemory};
 ghost use Rattle.granit_event.specs.Events.{event_kind};
 ghost use Rattle.granit_parser.specs.Recovering as spec;
-ghost use Rattle.granit_parser.specs.Recovering.{AsksBy, Ends, Follows, GaveUp, GivesSeen, ParserIn, Proceeds};
-ghost use Rattle.granit_parser.specs.Recovering.{SeenBy, Skips};
-ghost use Rattle.granit_parser.specs.Recovering.{between_behind, over_behind, seen_in, seen_kind};
+ghost use Rattle.granit_parser.specs.Recovering.{AsksBy, Ends, Follows, GaveUp, GivesSeen, ParserIn, Proceeds, SeenBy};
+ghost use Rattle.granit_parser.specs.Recovering.{SkipsToAsk, between_behind, over_behind, seen_in, seen_kind};
 ghost use Rattle.granit_parser.specs.Sources.{IsSourceError, TellsSource};
 ghost use Rattle.granit_parser.specs.declared.recovery.Seen.TheVariants as seens;
 ghost use Rattle.granit_reader.specs.Meets.{UnlessMemory};
 ghost use Rattle.granit_receivers.specs.Kept.{GivesAgain, IsKept};
-ghost use Rattle.granit_recovery.specs.Streams.{Reached};
+ghost use Rattle.granit_recovery.specs.Streams.{ReachedByCalls};
 ghost use Rattle.granit_restart.specs.Calls.{Calls};
 
 use crate::parser::Parser;
@@ -42,16 +41,17 @@ impl<'input, T: BorrowedInput<'input>> Parser<'input, T> {
     /// Drops a document, or what is left of the open one, and tells whether another is there: behind a refusal that was
     /// given or looked at the open document, directly behind the end of a document none, else the open or the next one.
     ///
-    /// The contract: where the machine's calls led, it is their recovery (`known`). Want of memory, an error of the
-    /// source and a refusal of recovery itself are given again by each further call (`again`, and `seen` where it was
-    /// looked at and not taken).
+    /// The contract: where the machine's calls led, it is their recovery (`known`); what is given behind it, also where
+    /// handles of `%TAG` stay, is said by `next_event` (`resumed`). Want of memory, an error of the source and a
+    /// refusal of recovery itself are given again by each further call (`again`, and `seen` where it was looked at and
+    /// not taken).
     ///
     /// # Errors
     ///
     /// The error of the source, `TooManyComments` where more comments come before the next document than may be kept,
     /// and `NoMemory`. Each further call answers that again, and nothing more is given.
     pub fn proceed_next_document(&mut self) -> Result<bool, ScanError>
-        ensures known { (c : Calls) → Reached self.old.stepper.scanner.options c → ParserIn T.unread self.old c
+        ensures known { (c : Calls) → ReachedByCalls self.old.stepper.scanner.options c → ParserIn T.unread self.old c
             → UnlessMemory result (Proceeds T.unread result self.old self.new c
             ⊎ TellsSource T.origin (Some result) self.new.stepper.scanner.cursor) }
         ensures again { self.old.over ≡ false → self.old.stepper.failed ≡ true → self.old.stepper.refusal ≡ None
@@ -86,7 +86,7 @@ impl<'input, T: BorrowedInput<'input>> Parser<'input, T> {
     }
 
     fn proceed(&mut self) -> Result<bool, ScanError>
-        ensures known { (c : Calls) → Reached self.old.stepper.scanner.options c → ParserIn T.unread self.old c
+        ensures known { (c : Calls) → ReachedByCalls self.old.stepper.scanner.options c → ParserIn T.unread self.old c
             → UnlessMemory result (Ends T.unread result self.old self.new c
             ⊎ TellsSource T.origin (Some result) self.new.stepper.scanner.cursor) }
         ensures again { self.old.over ≡ false → self.old.stepper.failed ≡ true → self.old.stepper.refusal ≡ None
@@ -166,9 +166,9 @@ impl<'input, T: BorrowedInput<'input>> Parser<'input, T> {
 
     /// Drops what is to be dropped. Directly behind a document what was looked at stays, but for the start of another.
     fn skip(&mut self) -> Result<(), ScanError>
-        ensures known { (c : Calls) → Reached self.old.stepper.scanner.options c → ParserIn T.unread self.old c
+        ensures known { (c : Calls) → ReachedByCalls self.old.stepper.scanner.options c → ParserIn T.unread self.old c
             → c.over ≡ false → c.refusal ≡ None → (seen_in self.old.peeked ≡ seens.StreamEnd → ⊥)
-            → OnOk result (Skips T.unread self.old.stepper.scanner.cursor (is_some self.old.peeked) self.new c) }
+            → OnOk result (SkipsToAsk T.unread self.old.stepper.scanner.cursor (is_some self.old.peeked) self.new c) }
         ensures memory { IfErr result (λ e. e.kind ≡ OutOfMemory) }
         ensures going { self.new.over ≡ self.old.over }
         ensures options { self.new.stepper.scanner.options ≡ self.old.stepper.scanner.options }
@@ -195,7 +195,7 @@ impl<'input, T: BorrowedInput<'input>> Parser<'input, T> {
 
     /// Whether nothing is to be dropped.
     fn stays(&self, seen: Seen) -> bool
-        ensures { result ≡ (self.now.between && not (spec.starts seen)) }
+        ensures { result ≡ (self.now.between && not (spec.seen_starts_document seen)) }
     {
         self.between && !starts(seen)
     }
@@ -255,13 +255,13 @@ fn seen_of(event: &Event<'_>) -> Seen
 }
 
 fn starts(seen: Seen) -> bool
-    ensures { result ≡ spec.starts seen }
+    ensures { result ≡ spec.seen_starts_document seen }
 {
     matches!(seen, Seen::DocumentStart)
 }
 
 fn ends(seen: Seen) -> bool
-    ensures { result ≡ spec.ends seen }
+    ensures { result ≡ spec.seen_ends_document seen }
 {
     matches!(seen, Seen::DocumentEnd)
 }
@@ -274,7 +274,7 @@ fn ends_stream(seen: Seen) -> bool
 
 /// Whether what was looked at tells that another document is there.
 fn tells(seen: Seen) -> bool
-    ensures { result ≡ spec.tells seen }
+    ensures { result ≡ spec.seen_tells_document seen }
 {
     matches!(
         seen,

@@ -10,9 +10,9 @@ use granit_layers::StackedParser;
 impl<'input, T: BorrowedInput<'input>> StackedParser<'input> for Parser<'input, T> {
     ghost use Rattle.std.specs.Prelude.{◌≡◌};
     ghost use Rattle.granit_parser.specs.Numbers.{next_number, with_number};
-    ghost use Rattle.granit_parser.specs.Parsing.{StepsTo};
+    ghost use Rattle.granit_parser.specs.Parsing.{ParserStepsTo};
 
-    ghost steps = { λ p r q. StepsTo T.unread T.left T.origin p r q };
+    ghost steps = { λ p r q. ParserStepsTo T.unread T.left T.origin p r q };
 
     ghost offset_of = { next_number };
 

@@ -6,7 +6,7 @@ ghost use Rattle.granit_error.specs.OptionsData.{default_options};
 ghost use Rattle.granit_error.specs.OptionsView.{options_of};
 ghost use Rattle.granit_parser.specs.Parsing.{StandsAt};
 ghost use Rattle.granit_parser.specs.Recovering.{ParserIn};
-ghost use Rattle.granit_parser.specs.Streams.{bare_start};
+ghost use Rattle.granit_parser.specs.Streams.{bare_text_start};
 ghost use Rattle.granit_recovery.specs.Streams.{calls_from};
 ghost use Rattle.granit_steps.specs.Steps as steps;
 
@@ -29,9 +29,9 @@ impl<'input, T: Source<Item = char>> Parser<'input, BufferedInput<T>> {
     ) -> Result<Parser<'input, BufferedInput<T>>, NoMemory>
         requires { size (T.remaining iter) < 2 ^ 63 }
         ensures start { IfOk result (λ p. (x : List ℕ) → GivesOnly T.next_gives T.remaining iter x
-            → StandsAt ⟦<BufferedInput<T> as Input>⟧.unread p (steps.start_from (bare_start x))) }
+            → StandsAt ⟦<BufferedInput<T> as Input>⟧.unread p (steps.start_from (bare_text_start x))) }
         ensures calls { IfOk result (λ p. (x : List ℕ) → GivesOnly T.next_gives T.remaining iter x
-            → ParserIn ⟦<BufferedInput<T> as Input>⟧.unread p (calls_from (bare_start x))) }
+            → ParserIn ⟦<BufferedInput<T> as Input>⟧.unread p (calls_from (bare_text_start x))) }
         ensures options { IfOk result (λ p. p.stepper.scanner.options ≡ default_options) }
         ensures unseen { IfOk result (λ p. p.peeked ≡ None) }
         ensures renumbered { IfOk result (λ p. p.stepper.renumbered ≡ false) }
@@ -51,9 +51,9 @@ impl<'input, T: Source<Item = char>> Parser<'input, BufferedInput<T>> {
     ) -> Result<Parser<'input, BufferedInput<T>>, NoMemory>
         requires { size (T.remaining iter) < 2 ^ 63 }
         ensures start { IfOk result (λ p. (x : List ℕ) → GivesOnly T.next_gives T.remaining iter x
-            → StandsAt ⟦<BufferedInput<T> as Input>⟧.unread p (steps.start_from (bare_start x))) }
+            → StandsAt ⟦<BufferedInput<T> as Input>⟧.unread p (steps.start_from (bare_text_start x))) }
         ensures calls { IfOk result (λ p. (x : List ℕ) → GivesOnly T.next_gives T.remaining iter x
-            → ParserIn ⟦<BufferedInput<T> as Input>⟧.unread p (calls_from (bare_start x))) }
+            → ParserIn ⟦<BufferedInput<T> as Input>⟧.unread p (calls_from (bare_text_start x))) }
         ensures options { IfOk result (λ p. p.stepper.scanner.options ≡ options_of options) }
         ensures unseen { IfOk result (λ p. p.peeked ≡ None) }
         ensures renumbered { IfOk result (λ p. p.stepper.renumbered ≡ false) }

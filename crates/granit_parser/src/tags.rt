@@ -1,8 +1,8 @@
 //! Whether a parser keeps what handles stand for over documents.
 ghost use Rattle.std.specs.Prelude.{◌≡◌, None};
-ghost use Rattle.granit_parser.specs.Parsing.{StandsAt, keeping};
+ghost use Rattle.granit_parser.specs.Parsing.{StandsAt, parser_keeping};
 ghost use Rattle.granit_parser.specs.Recovering.{ChangesIn, IsClosed, IsOpen, ParserIn, unchanged};
-ghost use Rattle.granit_recovery.specs.Streams.{Reached};
+ghost use Rattle.granit_recovery.specs.Streams.{ReachedByCalls};
 ghost use Rattle.granit_restart.specs.Calls.{Calls};
 ghost use Rattle.granit_steps.specs.Steps.{StepState};
 
@@ -16,10 +16,10 @@ impl<'input, T: BorrowedInput<'input>> Parser<'input, T> {
     /// The contract: where the machine's calls led, they go on from there under that option (`there`), also where turns
     /// were made early, unless such a turn was refused (`calls`).
     pub fn keep_tags(self, value: bool) -> Parser<'input, T>
-        ensures set { result ≡ keeping value self.entry }
+        ensures set { result ≡ parser_keeping value self.entry }
         ensures known { (m : StepState) → self.entry.peeked ≡ None → StandsAt T.unread self.entry m
             → StandsAt T.unread result m }
-        ensures calls { (c : Calls) → Reached self.entry.stepper.scanner.options c → IsOpen c
+        ensures calls { (c : Calls) → ReachedByCalls self.entry.stepper.scanner.options c → IsOpen c
             → self.entry.stepper.ahead ≡ None → ParserIn T.unread self.entry c
             → ChangesIn T.unread self.entry.stepper.scanner.options unchanged result c }
         ensures there { (c : Calls) → IsOpen c → self.entry.peeked ≡ None → StandsAt T.unread self.entry c.steps

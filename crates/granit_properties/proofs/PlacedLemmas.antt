@@ -7,25 +7,26 @@ use Rattle.granit_error.specs.FaultKind.{FaultKind, NoMemory}
 use Rattle.granit_error.specs.Refused.{Refused}
 use Rattle.granit_lexemes.specs.Here.{Here}
 use Rattle.granit_lexemes.specs.Outcome.{Fault, ◌>>=◌}
-use Rattle.granit_properties.specs.PropertyTokens.{Placed, StandsPlaced, placed_at, source_of}
+use Rattle.granit_properties.specs.PropertyTokens.{PlacedValue, StandsPlaced, placed_at, source_of}
 
-module _ {X Y : Type 0} (code : Placed Y → X) (read : Here → Result (Y × Here) Fault) (h : Here) (Lands : Here → Type 0)
+module _ {X Y : Type 0} (code : PlacedValue Y → X) (read : Here → Result (Y × Here) Fault)
+    (h : Here) (Lands : Here → Type 0)
     (result : Result X Refused) where
-  abbrev with_place : Result (Y × Here) Fault → Result (Placed Y × Here) Fault
+  abbrev with_place : Result (Y × Here) Fault → Result (PlacedValue Y × Here) Fault
   with_place r = r >>= λ x. Ok (record { value = x.0; source = source_of h x.1 }, x.1)
 
   stands_on : (Holds : Here → Y → Here → Type 0) (r : Result (Y × Here) Fault)
-      → ((y : Y) (a : Here) → r ≡ Ok (y, a) → Holds h y a) → (p : Placed Y) (a : Here) → with_place r ≡ Ok (p, a)
+      → ((y : Y) (a : Here) → r ≡ Ok (y, a) → Holds h y a) → (p : PlacedValue Y) (a : Here) → with_place r ≡ Ok (p, a)
       → StandsPlaced Holds h p a
   stands_on Holds (Ok x) holds p a e =
       let same = same_ok (record { value = x.0; source = source_of h x.1 }, x.1) (p, a) e in
-      subst (λ (q : Placed Y × Here). StandsPlaced Holds h q.0 q.1) same (holds x.0 x.1 refl, refl)
+      subst (λ (q : PlacedValue Y × Here). StandsPlaced Holds h q.0 q.1) same (holds x.0 x.1 refl, refl)
   stands_on Holds (Err f) holds p a e = absurd cc
 
   -- what was answered stands there
   pub placed_answers : (Holds : Here → Y → Here → Type 0) → ((y : Y) (a : Here) → read h ≡ Ok (y, a) → Holds h y a)
       → GivesTo (λ x. x) result Lands (coded code (placed_at read h))
-      → IfOk result (λ x. (p : Placed Y) × (a : Here) × StandsPlaced Holds h p a × (x ≡ code p) × Lands a)
+      → IfOk result (λ x. (p : PlacedValue Y) × (a : Here) × StandsPlaced Holds h p a × (x ≡ code p) × Lands a)
   placed_answers Holds holds given = given_stands code Lands (StandsPlaced Holds h) (placed_at read h) result
       (stands_on Holds (read h) holds) given
 

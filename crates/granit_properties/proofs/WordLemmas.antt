@@ -7,7 +7,7 @@ use Rattle.granit_base.specs.Classes.{is_break, is_word_char, is_digit}
 use Rattle.granit_base.specs.Place.{Unread, first}
 use Rattle.granit_base.specs.Written.{Written}
 use Rattle.granit_input.specs.Runs.{run_length, starts}
-use Rattle.granit_input.specs.Unread.{past as past_count}
+use Rattle.granit_input.specs.Unread.{past_count}
 use Rattle.granit_input.proofs.RunLemmas.{run_within}
 use Rattle.granit_input.proofs.UnreadLemmas.{past_text}
 use Rattle.granit_lexemes.specs.Basics.{as_spelled, count_up_to, text_up_to}

@@ -20,15 +20,15 @@ abbrev pub source_of : Here → Here → Source
 source_of h after = record { start = mark_of h; end = mark_of after }
 
 -- what was read, and where it stands
-pub record Placed (X : Type 0) : Type 0 where
+pub record PlacedValue (X : Type 0) : Type 0 where
   pub value : X
   pub source : Source
 
-abbrev pub placed_at : {X : Type 0} → (Here → Result (X × Here) Fault) → Here → Result (Placed X × Here) Fault
+abbrev pub placed_at : {X : Type 0} → (Here → Result (X × Here) Fault) → Here → Result (PlacedValue X × Here) Fault
 placed_at read h = read h >>= λ x. Ok (record { value = x.0; source = source_of h x.1 }, x.1)
 
 -- something stands here, and up to there
-abbrev pub StandsPlaced : {X : Type 0} → (Here → X → Here → Type 0) → Here → Placed X → Here → Type 0
+abbrev pub StandsPlaced : {X : Type 0} → (Here → X → Here → Type 0) → Here → PlacedValue X → Here → Type 0
 StandsPlaced Holds h p after = Holds h p.value after × (p.source ≡ source_of h after)
 
 abbrev pub name_sign : (alias : Bool) → ℕ
@@ -39,10 +39,10 @@ abbrev pub name_type : (alias : Bool) → Written → TokenType
 name_type true name = tokens.Alias name
 name_type false name = tokens.Anchor name
 
-abbrev pub name_token : (alias : Bool) → Placed Written → Token
+abbrev pub name_token : (alias : Bool) → PlacedValue Written → Token
 name_token alias p = record { span = plain_span p.source.start p.source.end; token_type = name_type alias p.value }
 
-abbrev pub tag_token : Placed TagRead → Token
+abbrev pub tag_token : PlacedValue TagRead → Token
 tag_token p = record {
   span = plain_span p.source.start p.source.end;
   token_type = tokens.Tag (owned p.value.handle) (owned p.value.suffix);

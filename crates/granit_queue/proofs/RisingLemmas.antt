@@ -15,82 +15,90 @@ use Rattle.granit_items.specs.ItemViews.{item_view}
 use Rattle.granit_lexemes.specs.Lexeme.{Item, OfLexeme, OfComment}
 use Rattle.granit_machine.specs.Lexing.{FlaggedItem}
 use Rattle.granit_queue.specs.QueueViews.{flags_of, is_numbered, queue_view, queued_view}
-use Rattle.granit_queue.specs.Rising.{number_of, UpTo, Rises, Rising, with_number, is_before}
+use Rattle.granit_queue.specs.Rising.{lexeme_number, NumberUpTo, Rises, NumbersRise, with_one_waiting, is_before}
 use Rattle.granit_queue.specs.declared.queue.Queued.{Queued}
 use Rattle.granit_queue.specs.declared.rising.Numbers.{Numbers}
 use Rattle.granit_steps.specs.Steps.{marked_by}
 
 -- ---- one more, and less
 
-to_none : (m : Option ℕ) → UpTo m None
+to_none : (m : Option ℕ) → NumberUpTo m None
 to_none None = tt
 to_none (Some m) = tt
 
-further : (m : Option ℕ) (last n : ℕ) → UpTo m (Some last) → last ≤ n → UpTo m (Some n)
+further : (m : Option ℕ) (last n : ℕ) → NumberUpTo m (Some last) → last ≤ n → NumberUpTo m (Some n)
 further None last n p q = tt
 further (Some m) last n p q = omega arith
 
-added : (o : Numbers) (n : Option ℕ) (fs : List FlaggedItem) (f : FlaggedItem) → number_of f.item ≡ n → Rising o fs
-    → Rising (with_number n o) (fs ++ f ∷ [])
+added : (o : Numbers) (n : Option ℕ) (fs : List FlaggedItem) (f : FlaggedItem)
+    → lexeme_number f.item ≡ n → NumbersRise o fs
+    → NumbersRise (with_one_waiting n o) (fs ++ f ∷ [])
 added o None fs f is r = record {
   order = λ told.
-      all_pairs_push (λ g h. UpTo (number_of g.item) (number_of h.item)) fs f (r.order told)
-      (λ k d low. subst (UpTo (number_of (get_or fs k d).item)) (sym is) (to_none (number_of (get_or fs k d).item)));
-  last = All-push (λ g. UpTo (number_of g.item) (Some o.last)) fs f r.last
-      (subst (λ n. UpTo n (Some o.last)) (sym is) tt);
+      all_pairs_push (λ g h. NumberUpTo (lexeme_number g.item) (lexeme_number h.item)) fs f (r.order told)
+      (λ k d low. subst (NumberUpTo (lexeme_number (get_or fs k d).item)) (sym is)
+      (to_none (lexeme_number (get_or fs k d).item)));
+  last = All-push (λ g. NumberUpTo (lexeme_number g.item) (Some o.last)) fs f r.last
+      (subst (λ n. NumberUpTo n (Some o.last)) (sym is) tt);
 }
 added o (Some n) fs f is r = record {
   order = λ told.
-      all_pairs_push (λ g h. UpTo (number_of g.item) (number_of h.item)) fs f (r.order (and_parts o.rises _ told).0)
-      (λ k d low. subst (UpTo (number_of (get_or fs k d).item)) (sym is)
-      (further (number_of (get_or fs k d).item) o.last n (r.last k d low)
+      all_pairs_push (λ g h. NumberUpTo (lexeme_number g.item) (lexeme_number h.item)) fs f
+      (r.order (and_parts o.rises _ told).0)
+      (λ k d low. subst (NumberUpTo (lexeme_number (get_or fs k d).item)) (sym is)
+      (further (lexeme_number (get_or fs k d).item) o.last n (r.last k d low)
       (let e = (and_parts o.rises (nat_le o.last n) told).1 in grind (arith, nat_tests, e))));
-  last = All-push (λ g. UpTo (number_of g.item) (Some (max o.last n))) fs f
-      (λ k d low. further (number_of (get_or fs k d).item) o.last (max o.last n) (r.last k d low) (omega arith))
-      (subst (λ m. UpTo m (Some (max o.last n))) (sym is) (omega arith));
+  last = All-push (λ g. NumberUpTo (lexeme_number g.item) (Some (max o.last n))) fs f
+      (λ k d low. further (lexeme_number (get_or fs k d).item) o.last (max o.last n) (r.last k d low) (omega arith))
+      (subst (λ m. NumberUpTo m (Some (max o.last n))) (sym is) (omega arith));
 }
 
 -- an item comes behind the others
-pub pushed : (o : Numbers) (qs : List Queued) (q : Queued) → Rising o (queue_view qs)
-    → Rising (with_number (number_of (item_view q.item)) o) (queue_view (qs ++ q ∷ []))
+pub pushed : (o : Numbers) (qs : List Queued) (q : Queued) → NumbersRise o (queue_view qs)
+    → NumbersRise (with_one_waiting (lexeme_number (item_view q.item)) o) (queue_view (qs ++ q ∷ []))
 pushed o qs q r =
-    subst (Rising (with_number (number_of (item_view q.item)) o)) (sym (map-append queued_view qs (q ∷ [])))
-    (added o (number_of (item_view q.item)) (queue_view qs) (queued_view q) refl r)
+    subst (NumbersRise (with_one_waiting (lexeme_number (item_view q.item)) o))
+    (sym (map-append queued_view qs (q ∷ [])))
+    (added o (lexeme_number (item_view q.item)) (queue_view qs) (queued_view q) refl r)
 
 -- what is known of one more holds without it
-pub noted : (o : Numbers) (n : Option ℕ) (fs : List FlaggedItem) → Rising o fs → Rising (with_number n o) fs
+pub noted : (o : Numbers) (n : Option ℕ) (fs : List FlaggedItem) → NumbersRise o fs
+    → NumbersRise (with_one_waiting n o) fs
 noted o None fs r = r
 noted o (Some n) fs r = record {
   order = λ told. r.order (and_parts o.rises _ told).0;
-  last = λ k d low. further (number_of (get_or fs k d).item) o.last (max o.last n) (r.last k d low) (omega arith);
+  last = λ k d low. further (lexeme_number (get_or fs k d).item) o.last (max o.last n) (r.last k d low) (omega arith);
 }
 
 -- the oldest one goes
-popped : (o : Numbers) (q : Queued) (qs : List Queued) → Rising o (queue_view (q ∷ qs)) → Rising o (queue_view qs)
+popped : (o : Numbers) (q : Queued) (qs : List Queued) → NumbersRise o (queue_view (q ∷ qs))
+    → NumbersRise o (queue_view qs)
 popped o q qs r = record {
   order = λ told i j d lt low. r.order told (suc i) (suc j) d (omega arith) (omega arith);
   last = λ k d low. r.last (suc k) d (omega arith);
 }
 
-pub without_first : (o : Numbers) (qs : List Queued) → Rising o (queue_view qs) → Rising o (queue_view (drop 1 qs))
+pub without_first : (o : Numbers) (qs : List Queued) → NumbersRise o (queue_view qs)
+    → NumbersRise o (queue_view (drop 1 qs))
 without_first o [] r = r
 without_first o (q ∷ qs) r = popped o q qs r
 
 -- the oldest ones stay
-pub cut : (o : Numbers) (n : ℕ) (qs : List Queued) → Rising o (queue_view qs) → Rising o (queue_view (take n qs))
+pub cut : (o : Numbers) (n : ℕ) (qs : List Queued) → NumbersRise o (queue_view qs)
+    → NumbersRise o (queue_view (take n qs))
 cut o n qs r =
-    subst (Rising o) (take-map queued_view n qs)
+    subst (NumbersRise o) (take-map queued_view n qs)
     record {
       order = λ told i j d lt low.
           let fs = queue_view qs in
           let at_i : get_or (take n fs) i d ≡ get_or fs i d = grind (arith, common_steps, low, lt) in
           let at_j : get_or (take n fs) j d ≡ get_or fs j d = grind (arith, common_steps, low) in
           rw (at_i, at_j) (r.order told i j d lt (grind (arith, common_steps, low)));
-      last = All-take (λ f. UpTo (number_of f.item) (Some o.last)) n (queue_view qs) r.last;
+      last = All-take (λ f. NumberUpTo (lexeme_number f.item) (Some o.last)) n (queue_view qs) r.last;
     }
 
 -- flags change no number
-pub flagged : (o : Numbers) (i : Item) (fs : List FlaggedItem) → Rising o fs → Rising o (map (marked_by i) fs)
+pub flagged : (o : Numbers) (i : Item) (fs : List FlaggedItem) → NumbersRise o fs → NumbersRise o (map (marked_by i) fs)
 flagged o i fs r =
     let long : length (map (marked_by i) fs) ≡ length fs = length-map fs (marked_by i) in
     record {
@@ -120,12 +128,13 @@ same_flags number f e = ap (λ (b : Bool). record { item = f.item; begins_key = 
     none false = refl
 
 -- a lexeme no later than one before that of a number is another one
-other_number : (number n : ℕ) (i : Item) → UpTo (number_of i) (Some n) → nat_lt n number ≡ true
+other_number : (number n : ℕ) (i : Item) → NumberUpTo (lexeme_number i) (Some n) → nat_lt n number ≡ true
     → is_numbered number i ≡ false
 other_number number n (OfLexeme l) p q = grind (arith, nat_tests, p, q)
 other_number number n (OfComment c) p q = refl
 
-before_another : (number : ℕ) (i j : Item) → UpTo (number_of i) (number_of j) → is_before number (number_of j) ≡ true
+before_another : (number : ℕ) (i j : Item) → NumberUpTo (lexeme_number i) (lexeme_number j)
+    → is_before number (lexeme_number j) ≡ true
     → is_numbered number i ≡ false
 before_another number i (OfLexeme l) p q = other_number number l.number i p q
 before_another number i (OfComment c) p q = absurd (true≢false (sym q))
@@ -164,7 +173,7 @@ passes_one number i old fs f within is p =
     let g = flags_of number f in
     let long : length (set fs i g) ≡ length fs = length-set fs i g in
     let at : (d : FlaggedItem) → get_or fs i d ≡ f = λ d. get_or_default fs i d f within ∙ sym is in
-    let R : FlaggedItem → FlaggedItem → Type 0 = λ a b. UpTo (number_of a.item) (number_of b.item) in
+    let R : FlaggedItem → FlaggedItem → Type 0 = λ a b. NumberUpTo (lexeme_number a.item) (lexeme_number b.item) in
     record {
       told = map-set_same (flags_of number) fs i g f
           (twice number f ∙ ap (flags_of number) is) ∙ p.told;
@@ -200,7 +209,7 @@ passed_all number old fs p = sym (all_stay number fs (λ j d low. p.newer j d (o
 
 -- none before a lexeme of a lower number is meant
 pub passed_enough : (number i : ℕ) (old : List FlaggedItem) (qs : List Queued) (q : Queued) → i < length qs
-    → q ≡ get_or qs i q → is_before number (number_of (item_view q.item)) ≡ true
+    → q ≡ get_or qs i q → is_before number (lexeme_number (item_view q.item)) ≡ true
     → Passed number (suc i) old (queue_view qs) → queue_view qs ≡ map (flags_of number) old
 passed_enough number i old qs q within is before p =
     let fs = queue_view qs in
@@ -212,17 +221,17 @@ passed_enough number i old qs q within is before p =
     ⊎_elim
     (λ less. same_flags number (get_or fs j d)
     (before_another number (get_or fs j d).item (item_view q.item)
-    (subst (λ g. UpTo (number_of (get_or fs j d).item) (number_of g.item)) (at d)
+    (subst (λ g. NumberUpTo (lexeme_number (get_or fs j d).item) (lexeme_number g.item)) (at d)
     (p.order j i d less (omega arith))) before))
     (λ more. ⊎_elim
     (λ e. same_flags number (get_or fs j d)
     (before_another number (get_or fs j d).item (item_view q.item)
-    (subst (λ g. UpTo (number_of g.item) (number_of (item_view q.item)))
-    (sym (ap (λ (m : ℕ). get_or fs m d) e ∙ at d)) (itself (number_of (item_view q.item)))) before))
+    (subst (λ g. NumberUpTo (lexeme_number g.item) (lexeme_number (item_view q.item)))
+    (sym (ap (λ (m : ℕ). get_or fs m d) e ∙ at d)) (itself (lexeme_number (item_view q.item)))) before))
     (λ apart. p.newer j d (omega arith) low)
     (cases_eq j i))
     (cases_lt j i))) ∙ p.told
   where
-    itself : (n : Option ℕ) → UpTo n n
+    itself : (n : Option ℕ) → NumberUpTo n n
     itself None = tt
     itself (Some n) = omega arith

@@ -4,7 +4,7 @@ ghost use Rattle.std.specs.Prelude.{slice_get, drop, take};
 ghost use Rattle.std.specs.Option.{option_copied, option_map};
 ghost use Rattle.granit_items.specs.ItemViews.{found_items, item_view, key_view};
 ghost use Rattle.granit_queue.specs.QueueViews.{flags_of, is_numbered, queue_view, queued_view};
-ghost use Rattle.granit_queue.specs.Rising.{Rises, Rising};
+ghost use Rattle.granit_queue.specs.Rising.{NumbersRise, Rises};
 ghost use Rattle.granit_steps.specs.Steps as spec;
 
 use crate::rising::{Numbers, is_before};
@@ -34,13 +34,13 @@ impl<'input> Model for Queue<'input> {
     ghost use Rattle.std.specs.Prelude.{List};
     ghost use Rattle.granit_machine.specs.Lexing.{FlaggedItem};
     ghost use Rattle.granit_queue.specs.QueueViews.{queue_view};
-    ghost use Rattle.granit_queue.specs.Rising.{Rising};
+    ghost use Rattle.granit_queue.specs.Rising.{NumbersRise};
 
     ghost Value = { List FlaggedItem };
 
     ghost view = { λ q. queue_view q.items.items };
 
-    ghost invariant = { λ q. Rising q.numbers (queue_view q.items.items) };
+    ghost invariant = { λ q. NumbersRise q.numbers (queue_view q.items.items) };
 }
 
 impl<'input> Queue<'input> {
@@ -115,10 +115,10 @@ fn push_all<'input>(
     found: Found<'input>,
     rooms: &mut Rooms<'input>,
 ) -> Result<(), NoMemory>
-    requires rising { Rising numbers.old (queue_view items.old.items) }
+    requires rising { NumbersRise numbers.old (queue_view items.old.items) }
     ensures pushed { OnOk result (queue_view items.new.items
         ≡ spec.pushed (queue_view items.old.items) (found_items found.entry)) }
-    ensures rising { Rising numbers.new (queue_view items.new.items) }
+    ensures rising { NumbersRise numbers.new (queue_view items.new.items) }
 {
     // No `:` was read behind what was found.
     let begins_key = false;
@@ -147,10 +147,10 @@ fn push<'input>(
     queued: Queued<'input>,
 ) -> Result<(), NoMemory>
     requires unflagged { queued.begins_key ≡ false }
-    requires rising { Rising numbers.old (queue_view items.old.items) }
+    requires rising { NumbersRise numbers.old (queue_view items.old.items) }
     ensures pushed { OnOk result (queue_view items.new.items
         ≡ spec.pushed (queue_view items.old.items) (item_view queued.entry.item ∷ [])) }
-    ensures rising { Rising numbers.new (queue_view items.new.items) }
+    ensures rising { NumbersRise numbers.new (queue_view items.new.items) }
 {
     mark_by(items, numbers.rises, &queued.item);
     numbers.push(&queued.item);

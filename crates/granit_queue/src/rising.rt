@@ -17,7 +17,7 @@ pub(crate) struct Numbers {
 impl Numbers {
     /// Of no lexemes.
     pub(crate) fn new() -> Numbers
-        ensures { rising.Rising result [] }
+        ensures { rising.NumbersRise result [] }
     {
         Numbers {
             rises: true,
@@ -27,7 +27,7 @@ impl Numbers {
 
     /// One more item comes behind the others.
     pub(crate) fn push(&mut self, item: &Item<'_>)
-        ensures { self.new ≡ rising.with_number (rising.number_of (item_view item.now)) self.old }
+        ensures { self.new ≡ rising.with_one_waiting (rising.lexeme_number (item_view item.now)) self.old }
     {
         match item {
             Item::Lexeme(lexeme) => self.push_number(lexeme.number),
@@ -36,7 +36,7 @@ impl Numbers {
     }
 
     fn push_number(&mut self, number: usize)
-        ensures { self.new ≡ rising.with_number (Some number) self.old }
+        ensures { self.new ≡ rising.with_one_waiting (Some number) self.old }
     {
         self.rises = self.rises && self.last <= number;
         self.last = self.last.max(number);
@@ -45,7 +45,7 @@ impl Numbers {
 
 /// Whether an item is a lexeme before that of a number.
 pub(crate) fn is_before(item: &Item<'_>, number: usize) -> bool
-    ensures { result ≡ rising.is_before number (rising.number_of (item_view item.now)) }
+    ensures { result ≡ rising.is_before number (rising.lexeme_number (item_view item.now)) }
 {
     match item {
         Item::Lexeme(lexeme) => lexeme.number < number,

@@ -19,7 +19,7 @@ use Rattle.granit_reader.specs.Meets.{MeetsBehind, UnlessMemory, behind_met}
 use Rattle.granit_reader.specs.Reads.{reader_at}
 use Rattle.granit_reader.specs.declared.met.Met.{Met}
 use Rattle.granit_reader.specs.declared.met.Met.TheVariants as mets
-use Rattle.granit_restart.specs.Header.{directive_read, directive_sort, directive_there}
+use Rattle.granit_restart.specs.Header.{directive_sort, directive_there, gap_in_directive}
 
 -- ---- what is adjacent is no matter
 
@@ -49,7 +49,7 @@ adjacent_or_not before in_flow adjacent h =
 
 module _ (o : OptionsData) where
   pub meets_refused : (given : GapRead) (e : Refused) → given ≡ Err e → MeetsBehind o mets.Nothing given
-  meets_refused given e is = λ before. ap (directive_read o before) (sym is)
+  meets_refused given e is = λ before. ap (gap_in_directive o before) (sym is)
 
   pub meets_passed : (asked : Bool) (t : Option CommentRead) (s : ReaderState) → Passed ≡ seen asked t
       → MeetsBehind o mets.Nothing (Ok (t, s))
@@ -65,7 +65,7 @@ module _ (o : OptionsData) where
   pub meets_there : (met : Met) (given : GapRead) (t : Option CommentRead) (one two : ReaderState)
       → given ≡ Ok (t, one) → one ≡ two → MeetsBehind o met (Ok (t, two)) → MeetsBehind o met given
   meets_there met given t one two is same meets = λ before.
-      meets before ∙ ap (directive_read o before) (ap (λ (s : ReaderState). Ok (t, s)) (sym same) ∙ sym is)
+      meets before ∙ ap (gap_in_directive o before) (ap (λ (s : ReaderState). Ok (t, s)) (sym same) ∙ sym is)
 
   nothing_seen : (asked : Bool) (t : Option CommentRead) → Nothing ≡ seen asked t → t ≡ None
   nothing_seen asked None is = refl
@@ -74,9 +74,9 @@ module _ (o : OptionsData) where
 
   module _ (asked : Bool) (t : Option CommentRead) (h : Here) (l : Laid) (nothing : Nothing ≡ seen asked t) where
     there_is : (before : Bool) → directive_there before h (without_stale o (mark_of h) l)
-        ≡ directive_read o before (Ok (t, reader_at h l))
+        ≡ gap_in_directive o before (Ok (t, reader_at h l))
     there_is before =
-        ap (λ (x : Option CommentRead). directive_read o before (Ok (x, reader_at h l)))
+        ap (λ (x : Option CommentRead). gap_in_directive o before (Ok (x, reader_at h l)))
         (sym (nothing_seen asked t nothing))
 
     pub meets_stale : (e : Refused) → without_stale o (mark_of h) l ≡ Err e

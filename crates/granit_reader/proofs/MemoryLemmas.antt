@@ -25,9 +25,9 @@ use Rattle.granit_machine.specs.ReaderState.{ReaderState}
 use Rattle.granit_content.specs.Reads.{Nothing, NeverWants, seen}
 use Rattle.granit_reader.specs.Reads.{reader_at}
 use Rattle.granit_reader.specs.SortViews.{noded_by}
-use Rattle.granit_reader.specs.WithoutMemory.{entry_opens, pair_opens, placed_takes_none, lexeme_takes_none}
+use Rattle.granit_reader.specs.WithoutMemory.{entry_opens, colon_opens_column, placed_takes_none, lexeme_takes_none}
 use Rattle.granit_reader.specs.WithoutMemory.{fresh_takes_none, behind_takes_none, gap_takes_none, read_takes_none}
-use Rattle.granit_signs.specs.IndicatorReads.{begins_entry, begins_pair, pair_column}
+use Rattle.granit_signs.specs.IndicatorReads.{begins_entry, colon_begins_entry, pair_column}
 
 not_so : (b : Bool) → not b ≡ true → b ≡ false
 not_so true is = absurd cc
@@ -46,10 +46,11 @@ module _ (o : OptionsData) (h : Here) (place : Place) (begins_line : Bool) (tab 
       rw (first, second, third) at (neither (begins_entry (is_allowed h.begins_line h.tab l) l)
       (opens_column o h.place.column l.columns) none)
 
-  pub no_pair : not (pair_opens o h l) ≡ true → (begins_pair (top_key l) (is_allowed begins_line tab l) l ≡ false)
+  pub no_pair : not (colon_opens_column o h l) ≡ true
+      → (colon_begins_entry (top_key l) (is_allowed begins_line tab l) l ≡ false)
       ⊎ (opens_column o (pair_column (top_key l) place.column) l.columns ≡ false)
   no_pair none =
-      rw (first, second, third) at (neither (begins_pair (top_key l) (is_allowed h.begins_line h.tab l) l)
+      rw (first, second, third) at (neither (colon_begins_entry (top_key l) (is_allowed h.begins_line h.tab l) l)
       (opens_column o (pair_column (top_key l) h.place.column) l.columns) none)
 
 -- a test of a limit, as it is

@@ -18,7 +18,7 @@ use Rattle.granit_machine.specs.Reader.{lexeme_of, is_strict_outside, lexeme_in_
 use Rattle.granit_machine.specs.ReaderState.{ReaderState, Read}
 use Rattle.granit_steps.specs.Steps.{incoming}
 use Rattle.granit_cursor.specs.Reading.{GivesTo, coded}
-use Rattle.granit_items.specs.ItemViews.{alone, filled_items, note_items}
+use Rattle.granit_items.specs.ItemViews.{alone, boxed_note_items, filled_items}
 use Rattle.granit_items.specs.declared.item.Lexeme.{Lexeme}
 use Rattle.granit_items.specs.declared.item.Note.{Note}
 use Rattle.granit_content.specs.Reads.{Passed, Kept, lexeme_in, seen}
@@ -28,13 +28,13 @@ use Rattle.granit_reader.specs.SortViews.{noded_by, begun}
 -- ---- a lexeme with no comment behind it
 
 only_lexeme : (filled : Bool) (x : Lexeme) (n : Option (Box Note)) → filled ≡ true → n ≡ None
-    → alone x ≡ filled_items filled x ++ note_items n
+    → alone x ≡ filled_items filled x ++ boxed_note_items n
 only_lexeme filled x n some none = rw (some, none) refl
 
 -- where no comment was found, a lexeme is all that was
 pub found_alone : (filled : Bool) (x : Lexeme) (n : Option (Box Note)) (r : Result (Unit {0}) Refused)
     (Lands : ReaderState → Type 0) (given : Read) → filled ≡ true → n ≡ None → GivesTo (lexeme_in x) r Lands given
-    → GivesTo (λ _. filled_items filled x ++ note_items n) r Lands given
+    → GivesTo (λ _. filled_items filled x ++ boxed_note_items n) r Lands given
 found_alone filled x n r Lands given some none found =
     subst (λ (view : Unit {0} → List Item). GivesTo view r Lands given)
     (ap {B = Unit {0} → List Item} (λ (xs : List Item) (u : Unit {0}). xs) (only_lexeme filled x n some none)) found

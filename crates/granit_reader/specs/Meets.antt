@@ -4,7 +4,7 @@ use Rattle.granit_error.specs.FaultKind.{NoMemory}
 use Rattle.granit_error.specs.OptionsData.{OptionsData}
 use Rattle.granit_error.specs.Refused.{Refused}
 use Rattle.granit_machine.specs.Gaps.{GapRead}
-use Rattle.granit_restart.specs.Header.{directive_read}
+use Rattle.granit_restart.specs.Header.{gap_in_directive}
 use Rattle.granit_reader.specs.declared.met.Met.{Met}
 use Rattle.granit_reader.specs.declared.met.Met.TheVariants as mets
 
@@ -16,7 +16,7 @@ behind_met mets.Another before = false
 
 -- what was met behind this gap is what the definition finds there
 abbrev pub MeetsBehind : OptionsData → Met → GapRead → Type 0
-MeetsBehind o met given = (before : Bool) → behind_met met before ≡ directive_read o before given
+MeetsBehind o met given = (before : Bool) → behind_met met before ≡ gap_in_directive o before given
 
 -- unless memory ran out
 abbrev pub UnlessMemory : {X : Type 0} → Result X Refused → Type 0 → Type 0

@@ -36,13 +36,13 @@ placed_view placed.StrayMark = spec.StrayMark
 placed_view placed.NoSign = spec.NoSign
 placed_view placed.PlainSign = spec.PlainSign
 
-abbrev pub sort_view : LexemeSort → spec.LexemeSort
-sort_view sorts.TextEnd = spec.TextEnd
-sort_view sorts.StartMark = spec.StartMark
-sort_view sorts.EndMark = spec.EndMark
-sort_view sorts.Unprintable = spec.Unprintable
-sort_view sorts.DirectiveSign = spec.DirectiveSign
-sort_view (sorts.Placed sort) = spec.Placed (placed_view sort)
+abbrev pub lexeme_sort_view : LexemeSort → spec.LexemeSort
+lexeme_sort_view sorts.TextEnd = spec.TextEnd
+lexeme_sort_view sorts.StartMark = spec.StartMark
+lexeme_sort_view sorts.EndMark = spec.EndMark
+lexeme_sort_view sorts.Unprintable = spec.Unprintable
+lexeme_sort_view sorts.DirectiveSign = spec.DirectiveSign
+lexeme_sort_view (sorts.Placed sort) = spec.Placed (placed_view sort)
 
 -- ---- what a sort says of the text
 

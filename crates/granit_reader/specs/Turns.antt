@@ -5,7 +5,7 @@ use Rattle.granit_error.specs.Refused.{Refused}
 use Rattle.granit_lexemes.specs.Lexeme.{Item}
 use Rattle.granit_machine.specs.Reader.{LexState, LexTurn}
 use Rattle.granit_machine.specs.ReaderState.{ReaderState}
-use Rattle.granit_steps.specs.Steps.{incoming, items_of}
+use Rattle.granit_steps.specs.Steps.{incoming, items_or_none}
 use Rattle.granit_cursor.specs.Reading.{coded}
 
 abbrev pub before_turn : Bool → ReaderState → LexState
@@ -13,7 +13,7 @@ before_turn ended s = record { reader = s; ended = ended; fault = None }
 
 -- what a turn brings, without the comments that aren't asked for; behind the end nothing
 abbrev pub turn_items : (asked : Bool) → Option (List Item) → List Item
-turn_items asked x = incoming asked (items_of x)
+turn_items asked x = incoming asked (items_or_none x)
 
 -- the items that a read found are those that a turn brings; where the code refuses, the machine stops before this
 -- read, with that fault, unless memory ran out

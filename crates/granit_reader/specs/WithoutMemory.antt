@@ -20,7 +20,7 @@ use Rattle.granit_machine.specs.Reader.{LexState}
 use Rattle.granit_machine.specs.ReaderState.{ReaderState}
 use Rattle.granit_content.specs.Reads.{NeverWants}
 use Rattle.granit_layout.specs.Opening.{opens_column}
-use Rattle.granit_signs.specs.IndicatorReads.{begins_entry, begins_pair, pair_column}
+use Rattle.granit_signs.specs.IndicatorReads.{begins_entry, colon_begins_entry, pair_column}
 
 -- ---- a lexeme
 
@@ -29,9 +29,9 @@ abbrev pub entry_opens : OptionsData → Here → Laid → Bool
 entry_opens o h l =
     begins_entry (is_allowed h.begins_line h.tab l) l && opens_column o h.place.column l.columns
 
-abbrev pub pair_opens : OptionsData → Here → Laid → Bool
-pair_opens o h l =
-    begins_pair (top_key l) (is_allowed h.begins_line h.tab l) l
+abbrev pub colon_opens_column : OptionsData → Here → Laid → Bool
+colon_opens_column o h l =
+    colon_begins_entry (top_key l) (is_allowed h.begins_line h.tab l) l
     && opens_column o (pair_column (top_key l) h.place.column) l.columns
 
 abbrev pub placed_takes_none : OptionsData → PlacedSort → Here → Laid → Bool
@@ -40,7 +40,7 @@ placed_takes_none o (CloseSign bracket) h l = true
 placed_takes_none o CommaSign h l = true
 placed_takes_none o DashSign h l = not (entry_opens o h l)
 placed_takes_none o QuestionSign h l = not (entry_opens o h l)
-placed_takes_none o ColonSign h l = not (pair_opens o h l)
+placed_takes_none o ColonSign h l = not (colon_opens_column o h l)
 placed_takes_none o AliasSign h l = h.unread.lends
 placed_takes_none o AnchorSign h l = h.unread.lends
 placed_takes_none o StrayMark h l = true

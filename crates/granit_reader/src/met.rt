@@ -2,7 +2,7 @@
 ghost use Rattle.std.specs.Prelude.{◌≡◌, Bool};
 ghost use Rattle.granit_restart.specs.Header.{directive_sort};
 ghost use Rattle.granit_reader.specs.Meets.{behind_met};
-ghost use Rattle.granit_reader.specs.SortViews.{sort_view};
+ghost use Rattle.granit_reader.specs.SortViews.{lexeme_sort_view};
 
 use crate::sort::LexemeSort;
 
@@ -19,7 +19,7 @@ pub enum Met {
 
 /// What a lexeme of a sort is met as; the end, and what isn't printable, are none.
 pub(crate) fn met_by(sort: LexemeSort) -> Met
-    ensures { (before : Bool) → behind_met result before ≡ directive_sort before (sort_view sort) }
+    ensures { (before : Bool) → behind_met result before ≡ directive_sort before (lexeme_sort_view sort) }
 {
     match sort {
         LexemeSort::TextEnd | LexemeSort::Unprintable => Met::Nothing,

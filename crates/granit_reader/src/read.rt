@@ -21,7 +21,7 @@ ghost use Rattle.granit_content.specs.Reads.{ReadsItems, found_in, seen, tail_vi
 ghost use Rattle.granit_reader.specs.Reads.{reader_at};
 ghost use Rattle.granit_refused.specs.Answered.{answered, why};
 ghost use Rattle.granit_reader.specs.SortViews as sorts;
-ghost use Rattle.granit_reader.specs.SortViews.{PlacedFits, SortFits, placed_view, sort_view};
+ghost use Rattle.granit_reader.specs.SortViews.{PlacedFits, SortFits, lexeme_sort_view, placed_view};
 ghost use Rattle.granit_reader.specs.WithoutMemory.{NeverWantsAt, read_takes_none, behind_takes_none};
 ghost use Rattle.granit_reader.specs.WithoutMemory.{lexeme_takes_none, sort_takes_none, placed_takes_none};
 
@@ -150,15 +150,16 @@ fn lexeme_by<'input, T: BorrowedInput<'input>>(
     found: &mut Found<'input>,
     fault: &mut Option<ScanError>,
 ) -> Result<(), Refused>
-    requires fits { (h : Here) → Stands T.unread at.old h → SortFits (is_in_flow layouts.old) (sort_view sort) h }
+    requires fits { (h : Here) → Stands T.unread at.old h
+        → SortFits (is_in_flow layouts.old) (lexeme_sort_view sort) h }
     requires room { layouts.old.number < 2 ^ 63 }
     requires filled { found.old.filled ≡ true }
     requires no_note { found.old.note ≡ None }
     ensures here { ReadsItems T.unread (options_of options.now).emit_comments at.old at.new layouts.new
         (found_in found.new) (answered fault.new result)
-        (λ h. spec.lexeme_by (options_of options.now) (sort_view sort) h layouts.old) }
+        (λ h. spec.lexeme_by (options_of options.now) (lexeme_sort_view sort) h layouts.old) }
     ensures memory { NeverWantsAt T.unread (options_of options.now).emit_comments at.old (answered fault.new result)
-        (λ h. sort_takes_none (options_of options.now) (sort_view sort) h layouts.old) }
+        (λ h. sort_takes_none (options_of options.now) (lexeme_sort_view sort) h layouts.old) }
     ensures moves { Moves T.unread T.left T.origin at.old at.new }
 {
     let asked = options.emit_comments;

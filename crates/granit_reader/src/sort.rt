@@ -3,7 +3,7 @@ ghost use Rattle.std.specs.Prelude.{◌≡◌, ◌≤◌};
 ghost use Rattle.granit_cursor.specs.Reading.{Stands};
 ghost use Rattle.granit_lexemes.specs.Here.{Here};
 ghost use Rattle.granit_machine.specs.LexemeSort as spec;
-ghost use Rattle.granit_reader.specs.SortViews.{is_node, is_property, placed_view, sort_view};
+ghost use Rattle.granit_reader.specs.SortViews.{is_node, is_property, lexeme_sort_view, placed_view};
 
 use granit_base::{is_blank_or_breakz, is_bom, is_flow, is_printable};
 use granit_cursor::Cursor;
@@ -76,7 +76,7 @@ pub(crate) enum LexemeSort {
 #[tactic(auto, unfolding(granit_machine::specs::LexemeSort::sort_at))]
 pub(crate) fn sort_at<T: Input>(at: &Cursor<T>, in_flow: bool, adjacent: bool) -> LexemeSort
     requires window { 4 ≤ T.window at.now.input }
-    ensures { (h : Here) → Stands T.unread at.now h → sort_view result ≡ spec.sort_at in_flow adjacent h }
+    ensures { (h : Here) → Stands T.unread at.now h → lexeme_sort_view result ≡ spec.sort_at in_flow adjacent h }
 {
     if at.input().next_is_z() {
         return LexemeSort::TextEnd;

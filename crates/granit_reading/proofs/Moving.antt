@@ -20,7 +20,7 @@ use Rattle.granit_machine.specs.PossibleKeys.{top_key, is_allowed}
 use Rattle.granit_machine.specs.Reader.{noded}
 use Rattle.granit_machine.proofs.LexLengths.{noded-flow}
 use Rattle.granit_language.specs.Before.{behind_colon, behind_question_sign, closed_for, run_for, behind}
-use Rattle.granit_language.specs.Fitting.{OfNode, Opens, Closes, Keyed, Other, role_of, outer_keys, begins_entry}
+use Rattle.granit_language.specs.Fitting.{OfNode, Opens, Closes, Keyed, Other, role_of, outer_keys, begins_block_entry}
 use Rattle.granit_language.specs.Fitting.{stands_as_entry}
 use Rattle.granit_language.specs.Standing.{key_start, ClosesInnermost}
 use Rattle.granit_reading.proofs.Choosing.{Held, top_of, Within, within_self, Moves, role_key}
@@ -93,7 +93,8 @@ role_unkeyed u = ap₂ role_of u.is u.key
 module _ (h : Here) (l : Laid) (x : Lexeme) (after : Laid) (next : after.number ≡ suc l.number) (kind : LexemeKind)
     (u : Unkeyed kind x) where
   -- one that begins and names no key, and may begin an entry anywhere
-  other_moved : x.number ≡ l.number → role_of kind None ≡ Other → ((flag : Bool) → begins_entry Other kind flag ≡ false)
+  other_moved : x.number ≡ l.number → role_of kind None ≡ Other
+      → ((flag : Bool) → begins_block_entry Other kind flag ≡ false)
       → Within (held after) (held l) → Moved l x after
   other_moved number r none w =
       let role = role_unkeyed u ∙ r in
@@ -104,7 +105,7 @@ module _ (h : Here) (l : Laid) (x : Lexeme) (after : Laid) (next : after.number 
         new = false;
         moves = subst (λ r. Moves r false l.number (held l) (held after)) (sym role) w;
         lines = λ flag q. ap (λ (b : Bool). x.in_flow || (not b || (x.begins_line || x.follows_indicator)))
-            (ap₂ (λ r k. begins_entry r k flag) role u.is ∙ none flag)
+            (ap₂ (λ r k. begins_block_entry r k flag) role u.is ∙ none flag)
             ∙ never x.in_flow (x.begins_line || x.follows_indicator);
       }
 
@@ -119,7 +120,7 @@ module _ (h : Here) (l : Laid) (x : Lexeme) (after : Laid) (next : after.number 
         key = ap start_number u.key ∙ ap role_key (sym role);
         new = false;
         moves = subst (λ r. Moves r false l.number (held l) (held after)) (sym role) w;
-        lines = λ flag q. weaker x.in_flow (begins_entry (role_of x.kind x.key) x.kind flag)
+        lines = λ flag q. weaker x.in_flow (begins_block_entry (role_of x.kind x.key) x.kind flag)
             (x.begins_line || x.follows_indicator) (line_told t false ∙ e);
       }
 
@@ -134,7 +135,7 @@ module _ (h : Here) (l : Laid) (x : Lexeme) (after : Laid) (next : after.number 
         moves = subst (λ r. Moves r false l.number (held l) (held after)) (sym role)
             (subst (λ gs. Within gs (outer_keys (held l))) (sym e) (within_self (outer_keys (held l))));
         lines = λ flag q. ap (λ (b : Bool). x.in_flow || (not b || (x.begins_line || x.follows_indicator)))
-            (ap (λ r. begins_entry r x.kind flag) role) ∙ never x.in_flow (x.begins_line || x.follows_indicator);
+            (ap (λ r. begins_block_entry r x.kind flag) role) ∙ never x.in_flow (x.begins_line || x.follows_indicator);
       }
 
   -- a lexeme of a node
@@ -156,15 +157,15 @@ module _ (h : Here) (l : Laid) (x : Lexeme) (after : Laid) (next : after.number 
         (within_self (None ∷ Some l.number ∷ outer_keys hs))
     opens_moves false hs gs e = subst (λ gs. Within (None ∷ gs) (None ∷ hs)) (sym e) (within_self (None ∷ hs))
 
-    entry_line : ((flag : Bool) → begins_entry (role_of kind None) kind flag ≡ flag) → (flag : Bool)
+    entry_line : ((flag : Bool) → begins_block_entry (role_of kind None) kind flag ≡ flag) → (flag : Bool)
         → (flag ≡ true → allowed ≡ true) → stands_as_entry x flag ≡ true
     entry_line is flag q =
         ap (λ (b : Bool). x.in_flow || (not b || (x.begins_line || x.follows_indicator)))
-        (ap₂ (λ k key. begins_entry (role_of k key) k flag) u.is u.key ∙ is flag)
+        (ap₂ (λ k key. begins_block_entry (role_of k key) k flag) u.is u.key ∙ is flag)
         ∙ line_told t (not flag) ∙ node_line (is_in_flow (noded property h l)) flag allowed
         (h.begins_line || (is_dash l.last || is_indicator l.last)) new_line q
 
-    node_moved : role_of kind None ≡ OfNode → ((flag : Bool) → begins_entry (role_of kind None) kind flag ≡ flag)
+    node_moved : role_of kind None ≡ OfNode → ((flag : Bool) → begins_block_entry (role_of kind None) kind flag ≡ flag)
         → held after ≡ held (noded property h l) → Moved l x after
     node_moved r is e =
         let role = role_unkeyed u ∙ r in
@@ -179,7 +180,7 @@ module _ (h : Here) (l : Laid) (x : Lexeme) (after : Laid) (next : after.number 
           lines = entry_line is;
         }
 
-    opens_moved : role_of kind None ≡ Opens → ((flag : Bool) → begins_entry (role_of kind None) kind flag ≡ flag)
+    opens_moved : role_of kind None ≡ Opens → ((flag : Bool) → begins_block_entry (role_of kind None) kind flag ≡ flag)
         → held after ≡ None ∷ held (noded property h l) → Moved l x after
     opens_moved r is e =
         let role = role_unkeyed u ∙ r in
@@ -207,7 +208,7 @@ keyed_moved l x after k n next role key t e = record {
   moves = subst (λ r. Moves r false l.number (held l) (held after)) (sym role)
       (t, subst (λ gs. Within gs (None ∷ outer_keys (held l))) (sym e) (within_self (None ∷ outer_keys (held l))));
   lines = λ flag q. ap (λ (b : Bool). x.in_flow || (not b || (x.begins_line || x.follows_indicator)))
-      (ap (λ r. begins_entry r x.kind flag) role) ∙ never x.in_flow (x.begins_line || x.follows_indicator);
+      (ap (λ r. begins_block_entry r x.kind flag) role) ∙ never x.in_flow (x.begins_line || x.follows_indicator);
 }
 
 colon_moved : (h : Here) (l : Laid) (x : Lexeme) (after : Laid) (v : Bool) (key : Option PossibleKey) → Told h l x

@@ -25,7 +25,7 @@ use Rattle.granit_machine.specs.Frames.{FlowMapping, FlowPair, DocumentStage, Fr
 use Rattle.granit_machine.specs.Frames.{Between, Waiting, ParserState, parser_start}
 use Rattle.granit_machine.specs.Lexing.{FlaggedItem, flagged, lex}
 use Rattle.granit_machine.specs.Laid.{Laid}
-use Rattle.granit_machine.specs.Machine.{asked_items, feed_all, settled, answered, run}
+use Rattle.granit_machine.specs.Machine.{asked_items, feed_all, settled, run_answer, run}
 use Rattle.granit_machine.specs.NodeEnds.{empty_span, begin_block, block_count, may_be_indentless}
 use Rattle.granit_machine.specs.NodeSteps.{alias_by, tag_prefix, DashRole, NextEntry, NewSequence, IndentlessSequence}
 use Rattle.granit_machine.specs.NodeSteps.{known_prefix}
@@ -294,7 +294,7 @@ all_none o (i ∷ is) p = then_none (feed_none o i (next_line is) p)
     (λ x. front_none x.0 (feed_all o is x.1) (all_none o is x.1))
 
 answered_none : (o : OptionsData) (m : Mark) (items : List FlaggedItem) (l : Laid) (f : Option Fault) → Nameless f
-    → IsNameless (answered o m items l f)
+    → IsNameless (run_answer o m items l f)
 answered_none o m items l None n = then_none (all_none o items (parser_start m)) (λ x. ok_none)
 answered_none o m items l (Some f) n =
     then_none (all_none o (settled l items) (parser_start m)) (λ x. record { none = λ g e. by g (same_error f g e) })
@@ -306,7 +306,7 @@ pub run_none : (o : OptionsData) (text : List ℕ) (f : Fault) → run o text �
 run_none o text f e = on (lex o (start_of text)) refl e
   where
     on : (r : Result (List Item × _) Fault) → lex o (start_of text) ≡ r
-        → (r >>= λ x. answered o (mark_of (start_of text)) (asked_items o.emit_comments (flagged x.0)) x.1.reader.laid
+        → (r >>= λ x. run_answer o (mark_of (start_of text)) (asked_items o.emit_comments (flagged x.0)) x.1.reader.laid
         x.1.fault) ≡ Err f → f.sources ≡ []
     on (Ok x) is given = (answered_none o (mark_of (start_of text)) (asked_items o.emit_comments (flagged x.0))
         x.1.reader.laid x.1.fault (lex_none o (start_of text) x.0 x.1 is)).none f given

@@ -36,7 +36,7 @@ use Rattle.granit_machine.specs.LexemeSort.{DirectiveSign, Placed}
 use Rattle.granit_machine.specs.NodeLexemes.{block_shown, note_items}
 use Rattle.granit_machine.specs.ReaderState.{ReaderState, reader_start}
 use Rattle.granit_language.specs.Counting.{CountedMark, comment_places, tail_places, lexeme_places, places_of}
-use Rattle.granit_language.specs.Counting.{PlacesCounted, Counted}
+use Rattle.granit_language.specs.Counting.{PlacesCounted, ItemsCounted}
 use Rattle.granit_language.specs.Reached.{Reads, of_comment, of_lexeme, Reached, stops, goes_on}
 use Rattle.granit_language.specs.Standing.{GapStands, in_front_of_comment, in_front_of_lexeme, QuestionTail, a_comment}
 use Rattle.granit_language.specs.Standing.{no_comment, QuestionStands, quoted_lexeme_of, QuotedLexeme, Given}
@@ -384,7 +384,7 @@ module _ (x : List ℕ) where
 
 -- the places of the lexemes and comments of a text are counted
 pub places_counted : (o : OptionsData) (x : List ℕ) (items : List Item) (t : ReaderState)
-    → Reached o (reader_start (start_of x)) items t → Counted x items
+    → Reached o (reader_start (start_of x)) items t → ItemsCounted x items
 places_counted o x items t r =
     let p = reached_passes x o r (start_at x) in
     record {

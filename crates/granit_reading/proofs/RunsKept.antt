@@ -36,7 +36,7 @@ use Rattle.granit_language.specs.KeyRuns.{part_joins, whole_begins, whole_joins,
 use Rattle.granit_language.specs.KeyRuns.{is_key_sign, MayBeKey, too_far, no_run, no_key}
 use Rattle.granit_language.specs.KeyRuns.{ColonSays, ColonsSay}
 use Rattle.granit_language.specs.HeldSaid.{Now, no_run_now, run_now, Lead, lead_begins, lead_joins, Leads, Pending}
-use Rattle.granit_language.specs.HeldSaid.{Around, Depths, LastSays, RunsSay}
+use Rattle.granit_language.specs.HeldSaid.{KeysAround, Depths, LastSays, RunsSay}
 use Rattle.granit_language.specs.OpenColumns.{latest}
 use Rattle.granit_language.specs.Standing.{key_start}
 use Rattle.granit_reading.proofs.Moving.{left_open}
@@ -55,8 +55,8 @@ module _ (o : OptionsData) (text : List ℕ) (m : Mark) (ls : List Lexeme) (x : 
   abbrev Plain : Type 0
   Plain = (role x ≡ OfNode → ⊥) × (role x ≡ Opens → ⊥) × (role x ≡ Closes → ⊥)
 
-  plain_around : Plain → (bs : List OpenBracket) (key : Option PossibleKey) → Around o text m ls bs key
-      → Around o text m (x ∷ ls) bs key
+  plain_around : Plain → (bs : List OpenBracket) (key : Option PossibleKey) → KeysAround o text m ls bs key
+      → KeysAround o text m (x ∷ ls) bs key
   plain_around n [] key p = record {
     opener = p.opener;
     before = p.before;
@@ -94,8 +94,8 @@ module _ (o : OptionsData) (text : List ℕ) (m : Mark) (ls : List Lexeme) (x : 
       → Now o text f m (x ∷ ls) key
   part_now f key r p = run_now (part_run r p.lead) p.holds
 
-  part_around : role x ≡ OfNode → (bs : List OpenBracket) (key : Option PossibleKey) → Around o text m ls bs key
-      → Around o text m (x ∷ ls) bs key
+  part_around : role x ≡ OfNode → (bs : List OpenBracket) (key : Option PossibleKey) → KeysAround o text m ls bs key
+      → KeysAround o text m (x ∷ ls) bs key
   part_around r [] key p = record {
     opener = p.opener;
     before = p.before;
@@ -145,8 +145,8 @@ module _ (o : OptionsData) (text : List ℕ) (m : Mark) (ls : List Lexeme) (x : 
   closes_now f key r p = run_now (whole_run r p.whole p.opens p.leads.lead) p.leads.holds
 
   closes_around : role x ≡ Closes → {opener : Lexeme} {ys : List Lexeme} → WholeBrackets ls (opener ∷ ys)
-      → role opener ≡ Opens → (bs : List OpenBracket) (key : Option PossibleKey) → Around o text m ys bs key
-      → Around o text m (x ∷ ls) bs key
+      → role opener ≡ Opens → (bs : List OpenBracket) (key : Option PossibleKey) → KeysAround o text m ys bs key
+      → KeysAround o text m (x ∷ ls) bs key
   closes_around r w q [] key p = record {
     opener = p.opener;
     before = p.before;

@@ -18,8 +18,8 @@ use Rattle.granit_language.specs.Fitting.{OfNode, Closes, role_of}
 use Rattle.granit_language.specs.KeyRuns.{NoRun, joins_run, BeginsRun, Run, part_begins}
 use Rattle.granit_language.specs.KeyRuns.{part_joins, whole_begins, whole_joins, opens_entry, follows_opener}
 use Rattle.granit_language.specs.KeyRuns.{follows_dash, NoTabBehind, MayBeKey, too_far}
-use Rattle.granit_language.specs.HeldSaid.{Holds, Now, no_run_now, run_now, lead_begins, lead_joins, Leads}
-use Rattle.granit_language.specs.HeldSaid.{Pending, Around, Depths, LastSays}
+use Rattle.granit_language.specs.HeldSaid.{HeldKeySays, Now, no_run_now, run_now, lead_begins, lead_joins, Leads}
+use Rattle.granit_language.specs.HeldSaid.{Pending, KeysAround, Depths, LastSays}
 use Rattle.granit_reading.proofs.Counting.{At, Further}
 
 -- ---- places further on
@@ -68,7 +68,7 @@ far_on o f s m n w e = on (nat_lt (s.place.index + o.simple_key_max_lookahead) m
         (nat_lt s.place.line n.place.line) (λ t. later s.place.line m.place.line n.place.line w.1 (q ∙ t)) e
 
 holds_on : (o : OptionsData) (text : List ℕ) (f : Bool) (m n : Mark) (key : Option PossibleKey) (first : Lexeme)
-    (rest : List Lexeme) → Onward m n → Holds o text f m key first rest → Holds o text f n key first rest
+    (rest : List Lexeme) → Onward m n → HeldKeySays o text f m key first rest → HeldKeySays o text f n key first rest
 holds_on o text f m n (Some k) first rest w h = h
 holds_on o text f m n None first rest w h = λ e. far_on o f first.start m n w (h e)
 
@@ -89,11 +89,11 @@ stale_far o f g m s k less e y = subst (λ s. too_far o f s m ≡ true) e
 
 module _ (o : OptionsData) (text : List ℕ) (m n : Mark) (w : Onward m n) where
   holds_fresh : (f g : Bool) (key : Option PossibleKey) (first : Lexeme) (rest : List Lexeme) → (f ≡ true → g ≡ true)
-      → Holds o text f m key first rest → Holds o text f n (fresh_key o g n key) first rest
+      → HeldKeySays o text f m key first rest → HeldKeySays o text f n (fresh_key o g n key) first rest
   holds_fresh f g None first rest less h = holds_on o text f m n None first rest w h
   holds_fresh f g (Some k) first rest less h = on (is_stale o g n k) refl
     where
-      on : (v : Bool) → is_stale o g n k ≡ v → Holds o text f n (if v then None else Some k) first rest
+      on : (v : Bool) → is_stale o g n k ≡ v → HeldKeySays o text f n (if v then None else Some k) first rest
       on true e = λ _. stale_far o f g n first.start k less h.1 e
       on false e = h
 
@@ -120,7 +120,7 @@ module _ (o : OptionsData) (text : List ℕ) (m n : Mark) (w : Onward m n) where
   }
 
   around_fresh : (g : Bool) (ls : List Lexeme) (bs : List OpenBracket) (key : Option PossibleKey)
-      → Around o text m ls bs key → Around o text n ls (map (fresh_bracket o n) bs) (fresh_key o g n key)
+      → KeysAround o text m ls bs key → KeysAround o text n ls (map (fresh_bracket o n) bs) (fresh_key o g n key)
   unfolding pending_fresh
   around_fresh g ls [] key p = pending_fresh false g ls key (λ e. absurd cc) p
   around_fresh g ls (b ∷ bs) key p = (
@@ -259,12 +259,12 @@ module _ (o : OptionsData) (text : List ℕ) (h : Here) (l : Laid) (ls : List Le
   }
 
   goes_holds : (property low : Bool) (key : Option PossibleKey) (first : Lexeme) (rest : List Lexeme)
-      → Holds o text (is_in_flow l) (mark_of h) key first rest
-      → Holds o text (is_in_flow l) (mark_of h) (key_goes_on property low key) first rest
+      → HeldKeySays o text (is_in_flow l) (mark_of h) key first rest
+      → HeldKeySays o text (is_in_flow l) (mark_of h) (key_goes_on property low key) first rest
   goes_holds property low None first rest p = p
   goes_holds property low (Some k) first rest p = on k.is_head
     where
-      on : (v : Bool) → Holds o text (is_in_flow l) (mark_of h)
+      on : (v : Bool) → HeldKeySays o text (is_in_flow l) (mark_of h)
           (if v then Some (record k { is_low = k.is_low || low; is_head = property }) else Some k) first rest
       on true = p
       on false = p

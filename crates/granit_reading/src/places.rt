@@ -1,6 +1,6 @@
 //! The places of what is read.
 ghost use Rattle.granit_error.specs.OptionsData.{OptionsData};
-ghost use Rattle.granit_language.specs.Counting.{Counted};
+ghost use Rattle.granit_language.specs.Counting.{ItemsCounted};
 ghost use Rattle.granit_language.specs.Reached.{Reached};
 ghost use Rattle.granit_lexemes.specs.Here.{start_of};
 ghost use Rattle.granit_lexemes.specs.Lexeme.{Item};
@@ -12,5 +12,5 @@ ghost use Rattle.std.specs.Prelude.{List, ℕ};
 /// documents, which count no column.
 pub fn every_place_of_a_lexeme_is_counted()
     ensures { (o : OptionsData) (x : List ℕ) (items : List Item) (t : ReaderState) →
-        Reached o (reader_start (start_of x)) items t → Counted x items }
+        Reached o (reader_start (start_of x)) items t → ItemsCounted x items }
 {}

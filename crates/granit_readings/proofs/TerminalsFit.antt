@@ -4,7 +4,7 @@ use Rattle.std.proofs.Common.{subst, ◌||◌, not}
 use Rattle.granit_error.specs.OptionsData.{OptionsData}
 use Rattle.granit_language.specs.Fitting.{role_of, role_fits, keys_behind}
 use Rattle.granit_language.specs.Fitting.{item_fits, behind_item, ItemKeysFit}
-use Rattle.granit_language.specs.Fitting.{begins_entry, item_stands, ItemLinesFit}
+use Rattle.granit_language.specs.Fitting.{begins_block_entry, item_stands, ItemLinesFit}
 use Rattle.granit_language.specs.Reached.{Reached}
 use Rattle.granit_language.specs.Reading.{begins_kind, LinesFit, keys_next}
 use Rattle.granit_language.specs.Reading.{key_fits, KeysFit}
@@ -40,7 +40,7 @@ seen_first i is = first i.item i.begins_key
 -- ---- lines
 
 same_entry : (kind : lexemes.LexemeKind) (key : Option KeyStart) (flag : Bool) →
-    begins_entry (role_of kind key) kind flag ≡ begins_kind (terminal_kind kind key) flag
+    begins_block_entry (role_of kind key) kind flag ≡ begins_kind (terminal_kind kind key) flag
 same_entry (lexemes.Directive directive) key flag = refl
 same_entry lexemes.DocumentStart key flag = refl
 same_entry lexemes.DocumentEnd key flag = refl

@@ -22,7 +22,7 @@ use Rattle.granit_recovery.proofs.SkipLaws.{Resumes}
 use Rattle.granit_recovery.proofs.SkipLaws.{resumes}
 use Rattle.granit_recovery.proofs.TurnLaws.{Along, along_end, along_stream}
 use Rattle.granit_recovery.specs.Asking.{LookTells}
-use Rattle.granit_recovery.specs.Streams.{Reached}
+use Rattle.granit_recovery.specs.Streams.{ReachedByCalls}
 use Rattle.granit_restart.proofs.AheadLaws.{notes_told}
 use Rattle.granit_restart.proofs.EndLaws.{given_follows, given_look}
 use Rattle.granit_restart.proofs.LookLaws.{Asked, follows_told, kept, look_tells, told_look}
@@ -257,10 +257,11 @@ module _ (o : OptionsData) where
       good_tells (skipped o stops c).steps (skipped_by_turned o stops c.fault c.between c.steps turned) g.known
       g.resumed
 
-  pub asks_here : (stops : Stops) (c : Calls) → Reached o c → c.over ≡ false → LookTells o (skipped o stops c).steps
+  pub asks_here : (stops : Stops) (c : Calls) → ReachedByCalls o c → c.over ≡ false
+      → LookTells o (skipped o stops c).steps
   asks_here stops c r over = asks stops c (reached_known o c r) (reached_turned o c r) over
 
-  pub asks_looked : (stops : Stops) (c : Calls) → Reached o c → (looked_by c (next_call o c)).over ≡ false
+  pub asks_looked : (stops : Stops) (c : Calls) → ReachedByCalls o c → (looked_by c (next_call o c)).over ≡ false
       → LookTells o (skipped o stops (looked_by c (next_call o c))).steps
   asks_looked stops c r over =
       let known = reached_known o c r in

@@ -8,9 +8,9 @@ use Rattle.granit_lexemes.specs.Lexeme as lexemes
 use Rattle.granit_lexemes.specs.Lexeme.{LexemeKind, Lexeme}
 use Rattle.granit_lexemes.specs.Outcome.{Fault}
 use Rattle.granit_restart.specs.Boundary.{Boundary, AtStart, PastEnd, AtTextEnd, next_boundary}
-use Rattle.granit_restart.specs.Calls.{Calls, Given, given_by, next_call}
-use Rattle.granit_restart.specs.Recovery.{skipped_by, skipped, looked_by, answered, recovered, extra_of, recover_with}
-use Rattle.granit_restart.specs.Recovery.{recover}
+use Rattle.granit_restart.specs.Calls.{Calls, GivenByCall, given_by, next_call}
+use Rattle.granit_restart.specs.Recovery.{skipped_by, skipped, looked_by, recovery_answer, recovered, extra_of}
+use Rattle.granit_restart.specs.Recovery.{recover_with, recover}
 use Rattle.granit_restart.specs.Restart.{dropped, at_boundary, at_lexeme, at_found, behind_fault, behind_fault_at}
 use Rattle.granit_restart.specs.Restart.{cursor_at, read_boundary}
 use Rattle.granit_restart.specs.Skipping.{Stops}
@@ -43,7 +43,7 @@ fault_drops stop s =
 
 -- ---- behind a document, and behind the end
 
-answered_steps : (r : Result Bool Fault) (c : Calls) → (answered r c).1.steps ≡ c.steps
+answered_steps : (r : Result Bool Fault) (c : Calls) → (recovery_answer r c).1.steps ≡ c.steps
 answered_steps (Ok true) c = refl
 answered_steps (Ok false) c = refl
 answered_steps (Err f) c = refl
@@ -67,7 +67,7 @@ over_none o c e =
 over_with : (o : OptionsData) (stops : Stops) (looked : Bool) (c : Calls) → c.over ≡ true
     → recover_with o stops looked None c ≡ (Ok false, c)
 over_with o stops true c e =
-    ap (λ (x : Given × Calls). if (looked_by c x).over then (Ok false, looked_by c x)
+    ap (λ (x : GivenByCall × Calls). if (looked_by c x).over then (Ok false, looked_by c x)
     else recovered o (extra_of (looked_by c x) x.0) (skipped o stops (looked_by c x))) (over_none o c e)
     ∙ ap (λ b. if b then (Ok false, c) else recovered o (extra_of c None) (skipped o stops c)) e
 over_with o stops false c e = ap (λ b. if b then (Ok false, c) else recovered o 0 (skipped o stops c)) e

@@ -18,12 +18,12 @@ use Rattle.granit_reading.proofs.Answering.{Answers}
 use Rattle.granit_reading.proofs.ReadAnswers.{read_answers}
 use Rattle.granit_reading.proofs.ReadingLaw.{ReadsBy, read-is}
 use Rattle.granit_restart.specs.Calls.{Calls, next_call}
-use Rattle.granit_recovery.specs.Ending.{first_by, first_event, lexeme_by, first_lexeme, OnlyGap, ends_here, ends_later}
-use Rattle.granit_recovery.specs.Ending.{EndsBy, EndsWith, EndsReading, NoneFollows}
+use Rattle.granit_recovery.specs.Ending.{first_by, first_event, lexeme_or_later, first_lexeme, OnlyGap, ends_here}
+use Rattle.granit_recovery.specs.Ending.{ends_later, FirstEventEnds, FirstLexemeEnds, EndsReading, NoneFollows}
 use Rattle.granit_restart.specs.Following.{one_kept, past_event, past_events, past_tail, past_lexeme, past_items}
-use Rattle.granit_restart.specs.Following.{past_read, past_reads, past_reading, item_of, document_follows}
+use Rattle.granit_restart.specs.Following.{past_read, past_reads, past_reading, item_without_flag, document_follows}
 use Rattle.granit_restart.specs.Header.{is_directives}
-use Rattle.granit_restart.specs.Recovery.{resumed, skipped_by, skipped, looked_by, answered, recovered, extra_of}
+use Rattle.granit_restart.specs.Recovery.{resumed, skipped_by, skipped, looked_by, recovery_answer, recovered, extra_of}
 use Rattle.granit_restart.specs.Recovery.{recover_with, recover}
 use Rattle.granit_restart.specs.Skipping.{Stops}
 use Rattle.granit_steps.specs.Steps.{StepState, incoming}
@@ -60,12 +60,13 @@ events_say room [] more b e = record { room = room; is = e }
 events_say room (x ∷ es) more b e =
     event_says x.kind room x.span.start es more b (λ left f. events_say left es more b f) e
 
-event_ends : (r : Option EventKind) (Seen Else : Type 0) → EventSays false r Seen → (Seen → Else) → EndsBy r Else
+event_ends : (r : Option EventKind) (Seen Else : Type 0) → EventSays false r Seen
+    → (Seen → Else) → FirstEventEnds r Else
 event_ends None Seen Else e more = more e
 event_ends (Some StreamEnd) Seen Else e more = tt
 event_ends (Some kind) Seen Else e more = absurd (cc)
 
-event_false : (b : Bool) (r : Option EventKind) (Seen Else : Type 0) → EventSays b r Seen → EndsBy r Else
+event_false : (b : Bool) (r : Option EventKind) (Seen Else : Type 0) → EventSays b r Seen → FirstEventEnds r Else
     → (Seen → Else → b ≡ false) → b ≡ false
 event_false b None Seen Else e f more = more e f
 event_false b (Some StreamEnd) Seen Else e f more = e
@@ -87,7 +88,7 @@ lexeme_says : (kind : LexemeKind) (tail : Option CommentRead) (room : ℕ) (is :
     (more : ℕ → Result Bool Fault) (b : Bool)
     → ((left : ℕ) → past_items left is more ≡ Ok b → LexemeSays b (first_lexeme is) (Left more b))
     → past_lexeme room kind tail (λ left. past_items left is more) ≡ Ok b
-    → LexemeSays b (lexeme_by kind (first_lexeme is)) (Left more b)
+    → LexemeSays b (lexeme_or_later kind (first_lexeme is)) (Left more b)
 lexeme_says lexemes.DocumentEnd tail room is more b later e =
     let l = tail_left room tail (λ left. past_items left is more) b e in later l.room l.is
 lexeme_says lexemes.StreamEnd tail room is more b later e = cc
@@ -102,12 +103,12 @@ items_say room (OfLexeme l ∷ is) more b e =
     lexeme_says l.kind l.tail room is more b (λ left f. items_say left is more b f) e
 
 lexeme_ends : (r : Option LexemeKind) (Seen Else : Type 0) → LexemeSays false r Seen → (Seen → Else)
-    → EndsWith r Else
+    → FirstLexemeEnds r Else
 lexeme_ends None Seen Else e more = more e
 lexeme_ends (Some lexemes.StreamEnd) Seen Else e more = tt
 lexeme_ends (Some kind) Seen Else e more = absurd (cc)
 
-lexeme_false : (b : Bool) (r : Option LexemeKind) (Seen Else : Type 0) → LexemeSays b r Seen → EndsWith r Else
+lexeme_false : (b : Bool) (r : Option LexemeKind) (Seen Else : Type 0) → LexemeSays b r Seen → FirstLexemeEnds r Else
     → (Seen → Else → b ≡ false) → b ≡ false
 lexeme_false b None Seen Else e f more = more e f
 lexeme_false b (Some lexemes.StreamEnd) Seen Else e f more = e
@@ -118,10 +119,10 @@ asked_first : (b : Bool) (is : List Item) → first_lexeme (incoming b is) ≡ f
 asked_first true is = refl
 asked_first false [] = refl
 asked_first false (OfComment c ∷ is) = asked_first false is
-asked_first false (OfLexeme l ∷ is) = ap (lexeme_by l.kind) (asked_first false is)
+asked_first false (OfLexeme l ∷ is) = ap (lexeme_or_later l.kind) (asked_first false is)
 
 end_kind_first : (kind : LexemeKind) (later : Option LexemeKind) → is_end_kind kind ≡ true
-    → lexeme_by kind later ≡ None → ⊥
+    → lexeme_or_later kind later ≡ None → ⊥
 end_kind_first lexemes.StreamEnd later e f = absurd (cc)
 end_kind_first kind later e f = absurd (cc)
 
@@ -247,23 +248,24 @@ reading_none o s room b (none, inr g) e =
 abbrev AskedBehind : OptionsData → StepState → ℕ → Result Bool Fault
 AskedBehind o s left =
     if is_directives s.parser.stage then Ok true
-    else past_items left (map item_of s.queue) (λ rest. past_reading o s.reading s.reading.fault rest)
+    else past_items left (map item_without_flag s.queue) (λ rest. past_reading o s.reading s.reading.fault rest)
 
 abbrev ItemsEnd : OptionsData → StepState → Type 0
-ItemsEnd o s = EndsWith (first_lexeme (map item_of s.queue)) (EndsReading o s.reading)
+ItemsEnd o s = FirstLexemeEnds (first_lexeme (map item_without_flag s.queue)) (EndsReading o s.reading)
 
 items_false : (o : OptionsData) (s : StepState) (room : ℕ)
-    → past_items room (map item_of s.queue) (λ rest. past_reading o s.reading s.reading.fault rest) ≡ Ok false
+    → past_items room (map item_without_flag s.queue) (λ rest. past_reading o s.reading s.reading.fault rest) ≡ Ok false
     → ItemsEnd o s
 items_false o s room e =
-    lexeme_ends (first_lexeme (map item_of s.queue)) (Left (past_reading o s.reading s.reading.fault) false)
+    lexeme_ends (first_lexeme (map item_without_flag s.queue)) (Left (past_reading o s.reading s.reading.fault) false)
     (EndsReading o s.reading)
-    (items_say room (map item_of s.queue) (past_reading o s.reading s.reading.fault) false e)
+    (items_say room (map item_without_flag s.queue) (past_reading o s.reading s.reading.fault) false e)
     (λ l. reading_false o s.reading s.reading.fault l.room refl l.is)
 
 asked_false : (b : Bool) (o : OptionsData) (s : StepState) (room : ℕ)
     → (if b then Ok true
-    else past_items room (map item_of s.queue) (λ rest. past_reading o s.reading s.reading.fault rest)) ≡ Ok false
+    else past_items room (map item_without_flag s.queue)
+    (λ rest. past_reading o s.reading s.reading.fault rest)) ≡ Ok false
     → (b ≡ false) × ItemsEnd o s
 asked_false true o s room e = absurd (cc)
 asked_false false o s room e = (refl, items_false o s room e)
@@ -280,10 +282,11 @@ only_none o room s e =
 asked_none : (o : OptionsData) (s : StepState) (room : ℕ) (b : Bool)
     → (is_directives s.parser.stage ≡ false) × ItemsEnd o s → AskedBehind o s room ≡ Ok b → b ≡ false
 asked_none o s room b (outside, ends) e =
-    let f = ap (λ c. if c then Ok true else past_items room (map item_of s.queue)
+    let f = ap (λ c. if c then Ok true else past_items room (map item_without_flag s.queue)
     (λ rest. past_reading o s.reading s.reading.fault rest)) (sym outside) ∙ e in
-    lexeme_false b (first_lexeme (map item_of s.queue)) (Left (past_reading o s.reading s.reading.fault) b)
-    (EndsReading o s.reading) (items_say room (map item_of s.queue) (past_reading o s.reading s.reading.fault) b f)
+    lexeme_false b (first_lexeme (map item_without_flag s.queue)) (Left (past_reading o s.reading s.reading.fault) b)
+    (EndsReading o s.reading) (items_say room (map item_without_flag s.queue)
+    (past_reading o s.reading s.reading.fault) b f)
     ends (λ l g. reading_none o s.reading l.room b g l.is)
 
 -- and where none is there, nothing else is
@@ -304,7 +307,7 @@ Exact o (Ok false, d) = (d.over ≡ true) ⊎ NoneFollows o d.steps
 Exact o (Err f, d) = Unit {0}
 
 answered_exact : (o : OptionsData) (room : ℕ) (r : Result Bool Fault) (s : StepState) → document_follows o room s ≡ r
-    → Exact o (answered r (resumed s))
+    → Exact o (recovery_answer r (resumed s))
 answered_exact o room (Ok true) s e =
     (refl, λ none. absurd (let f = all_none o room s true none e in cc))
 answered_exact o room (Ok false) s e = inr (only_none o room s e)

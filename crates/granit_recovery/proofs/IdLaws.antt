@@ -18,20 +18,20 @@ use Rattle.granit_recovery.proofs.IdLemmas.{Bounds, Above, FrameIds, HeldIds, id
 use Rattle.granit_recovery.proofs.IdSteps.{FedNum, feed_num}
 use Rattle.granit_recovery.proofs.RecoveryLaws.{called, noted_steps, first_same, second_same}
 use Rattle.granit_restart.specs.Boundary.{Boundary, AtStart, PastEnd, AtTextEnd, next_boundary}
-use Rattle.granit_restart.specs.Calls.{Calls, failing_by, failing_in, Given, given_by}
+use Rattle.granit_restart.specs.Calls.{Calls, failing_by, failing_in, GivenByCall, given_by}
 use Rattle.granit_restart.specs.Calls.{next_call}
 use Rattle.granit_restart.specs.Header.{is_in_header}
 use Rattle.granit_recovery.specs.Ids.{id_of, IdsFrom, NeverSetBack}
-use Rattle.granit_restart.specs.Recovery.{skipped_by, skipped, starts_by, looked_by, answered, recovered}
+use Rattle.granit_restart.specs.Recovery.{skipped_by, skipped, starts_by, looked_by, recovery_answer, recovered}
 use Rattle.granit_restart.specs.Recovery.{extra_of, recover_with, recover, anchor_offset}
 use Rattle.granit_restart.specs.Restart.{at_boundary, at_lexeme, at_found, behind_fault, behind_fault_at, cursor_at}
 use Rattle.granit_restart.specs.Restart.{read_boundary}
 use Rattle.granit_restart.specs.Skipping.{Ahead, NoEnd, BehindDocument, AtStreamEnd, SkipEnd, Ended, Failed, Stops}
 use Rattle.granit_restart.specs.Skipping.{ahead_by, ahead, ends_before, skip_turn, with_pending, skip_ahead, skip_in}
-use Rattle.granit_restart.specs.Skipping.{skip, restarted, skipped_fault, skipped_to}
-use Rattle.granit_recovery.specs.Streams.{Gives, gives_none, gives_next, Reached, reached_start, reached_call}
-use Rattle.granit_recovery.specs.Streams.{EarlyOf, not_early, reached_counting, reached_early, reached_keeping}
-use Rattle.granit_recovery.specs.Streams.{reached_recovery, turn_early}
+use Rattle.granit_restart.specs.Skipping.{skip_by_turns, restarted, skipped_fault, skipped_to}
+use Rattle.granit_recovery.specs.Streams.{CallsGive, gives_none, gives_next, ReachedByCalls, reached_start}
+use Rattle.granit_recovery.specs.Streams.{reached_call, EarlyOf, not_early, reached_counting, reached_early}
+use Rattle.granit_recovery.specs.Streams.{reached_keeping, reached_recovery, turn_early}
 use Rattle.granit_restart.proofs.AheadLaws.{one, OneTurn}
 use Rattle.granit_restart.specs.Turned.{with_count}
 use Rattle.granit_steps.specs.Steps.{StepState, Turn, with_read, read_unless, read_more, with_fed, front_turn, turn_by}
@@ -222,7 +222,7 @@ skip_in_ids b o (suc n) s x =
     (λ t z. skip_in_ids b o n t z) y (turn_ids b o (with_pending [] s) y)) x.0
     (ahead_ids b s.parser.count s.pending x.1)
 
-skip_ids : (b : Bounds) (o : OptionsData) (s : StepState) → Ids b s → EndIds b (skip o s)
+skip_ids : (b : Bounds) (o : OptionsData) (s : StepState) → Ids b s → EndIds b (skip_by_turns o s)
 skip_ids b o s x = skip_in_ids b o (suc (step_size s)) s x
 
 restarted_ids : (b : Bounds) (stop : Here) (x : SkipEnd) → EndIds b x → Ids b (restarted stop x)
@@ -230,8 +230,8 @@ restarted_ids b stop (Ended s) i = i
 restarted_ids b stop (Failed f s) i = restart_ids b stop s i
 
 header_ids : (b : Bounds) (o : OptionsData) (stop : Here) (c : Bool) (x : Bool × StepState) → Ids b x.1
-    → Ids b (if c then restarted stop (skip o x.1) else x.1)
-header_ids b o stop true x i = restarted_ids b stop (skip o x.1) (skip_ids b o x.1 i)
+    → Ids b (if c then restarted stop (skip_by_turns o x.1) else x.1)
+header_ids b o stop true x i = restarted_ids b stop (skip_by_turns o x.1) (skip_ids b o x.1 i)
 header_ids b o stop false x i = i
 
 fault_skipped : (b : Bounds) (o : OptionsData) (stops : Stops) (f : Fault) (s : StepState) → From s.parser.count b
@@ -248,7 +248,7 @@ by_skipped : (b : Bounds) (o : OptionsData) (stops : Stops) (fault : Option Faul
     → Ids b s → Ids b (skipped_by o stops fault between s)
 by_skipped b o stops (Some f) between s x = fault_skipped b o stops f s (from_ids b s x)
 by_skipped b o stops None true s x = x
-by_skipped b o stops None false s x = to_ids b o stops (skip o s) (skip_ids b o s x)
+by_skipped b o stops None false s x = to_ids b o stops (skip_by_turns o s) (skip_ids b o s x)
 
 -- ---- calls
 
@@ -271,13 +271,13 @@ starts_ids : (b : Bounds) (kind : EventKind) (c : Calls) → Ids b c.steps → I
 starts_ids b (DocumentStart explicit version) c x = x
 starts_ids b kind c x = x
 
-looked_ids : (b : Bounds) (c : Calls) (x : Given × Calls) → Ids b c.steps → Ids b x.1.steps
+looked_ids : (b : Bounds) (c : Calls) (x : GivenByCall × Calls) → Ids b c.steps → Ids b x.1.steps
     → Ids b (looked_by c x).steps
 looked_ids b c (Some (Ok e), after) i n = starts_ids b e.kind c i
 looked_ids b c (Some (Err f), after) i n = n
 looked_ids b c (None, after) i n = i
 
-answered_ids : (b : Bounds) (r : Result Bool Fault) (c : Calls) → Ids b c.steps → Ids b (answered r c).1.steps
+answered_ids : (b : Bounds) (r : Result Bool Fault) (c : Calls) → Ids b c.steps → Ids b (recovery_answer r c).1.steps
 answered_ids b (Ok true) c x = x
 answered_ids b (Ok false) c x = x
 answered_ids b (Err f) c x = x
@@ -386,7 +386,7 @@ early_ids o s t (turn_early {t = u} {given = given} p e) ids =
 
 -- ---- whatever was called
 
-reached_ids : (o : OptionsData) (c : Calls) (r : Reached o c) → NeverSetBack r → Ids NoBounds c.steps
+reached_ids : (o : OptionsData) (c : Calls) (r : ReachedByCalls o c) → NeverSetBack r → Ids NoBounds c.steps
 reached_ids o c (reached_start h) never =
     (record { least = omega arith; low = omega arith; given = tt; frames = tt; held = tt; follow = tt }, (inl refl, tt))
 reached_ids o c (reached_call {c = d} r) never = call_ids NoBounds o d (reached_ids o d r never)
@@ -401,13 +401,13 @@ more_offset : (n : ℕ) (s : StepState) → Ids (AtLeast n) s → suc n ≤ suc 
 more_offset n s x = let p = x.0 in let l = p.least in omega (arith, l)
 
 -- the offset never falls
-pub calls_raise : (o : OptionsData) (c : Calls) (r : Reached o c) → NeverSetBack r
+pub calls_raise : (o : OptionsData) (c : Calls) (r : ReachedByCalls o c) → NeverSetBack r
     → anchor_offset c ≤ anchor_offset (next_call o c).1
 calls_raise o c r never =
     more_offset c.steps.parser.count (next_call o c).1.steps
     (call_ids (AtLeast c.steps.parser.count) o c (ids_now c.steps (reached_ids o c r never)))
 
-pub recoveries_raise : (o : OptionsData) (stops : Stops) (looked : Bool) (c : Calls) (r : Reached o c)
+pub recoveries_raise : (o : OptionsData) (stops : Stops) (looked : Bool) (c : Calls) (r : ReachedByCalls o c)
     → NeverSetBack r → anchor_offset c ≤ anchor_offset (recover o stops looked c).1
 recoveries_raise o stops looked c r never =
     more_offset c.steps.parser.count (recover o stops looked c).1.steps
@@ -418,7 +418,7 @@ below b n id (inl e) = omega (arith, e)
 below b n id (inr p) = let h = p.1 in omega (arith, h)
 
 -- an id that is given is below it
-pub given_below : (o : OptionsData) (c d : Calls) (e : PlainEvent) (r : Reached o c) → NeverSetBack r
+pub given_below : (o : OptionsData) (c d : Calls) (e : PlainEvent) (r : ReachedByCalls o c) → NeverSetBack r
     → next_call o c ≡ (Some (Ok e), d) → id_of e.kind < anchor_offset d
 given_below o c d e r never g =
     let x = called o c d e g in
@@ -431,7 +431,8 @@ given_below o c d e r never g =
 abbrev pub Anew : ℕ → Bounds
 Anew n = record { low = n; least = n }
 
-answered_anew : (b : Bounds) (r : Result Bool Fault) (c d : Calls) (follows : Bool) → answered r c ≡ (Ok follows, d)
+answered_anew : (b : Bounds) (r : Result Bool Fault) (c d : Calls) (follows : Bool)
+    → recovery_answer r c ≡ (Ok follows, d)
     → Ids b c.steps → Ids b d.steps
 answered_anew b r c d follows e x =
     subst (λ (z : Calls). Ids b z.steps) (second_same _ _ e) (answered_ids b r c x)
@@ -466,7 +467,7 @@ anew_with : (o : OptionsData) (stops : Stops) (looked : Bool) (refusal : Option 
     → OrOver c.steps.parser.count d
 anew_with o stops looked (Some g) c d f follows fault e = absurd (let h = first_same _ _ e in cc)
 anew_with o stops true None c d f follows fault e =
-    let same = ap (λ (x : Given × Calls). if (looked_by c x).over then (Ok false, looked_by c x)
+    let same = ap (λ (x : GivenByCall × Calls). if (looked_by c x).over then (Ok false, looked_by c x)
     else recovered o (extra_of (looked_by c x) x.0) (skipped o stops (looked_by c x)))
     (sym (next_none o c f fault)) in
     anew_if c.over o stops (extra_of c None) c d f follows fault refl (same ∙ e)
@@ -481,7 +482,7 @@ pub from_above : (m n id : ℕ) → Above (Anew m) n id → (id ≡ 0) ⊎ (suc 
 from_above m n id (inl e) = inl e
 from_above m n id (inr p) = inr p.0
 
-gives_from : (o : OptionsData) (n : ℕ) (c d : Calls) (es : List PlainEvent) → Ids (Anew n) c.steps → Gives o c es d
+gives_from : (o : OptionsData) (n : ℕ) (c d : Calls) (es : List PlainEvent) → Ids (Anew n) c.steps → CallsGive o c es d
     → IdsFrom (suc n) es
 gives_from o n c d es x gives_none = tt
 gives_from o n c d es x (gives_next {after = after} {e = e} {es = rest} g more) =
@@ -492,7 +493,7 @@ gives_from o n c d es x (gives_next {after = after} {e = e} {es = rest} g more) 
       gives_from o n after d rest (subst (Ids (Anew n)) (sym y.leaves) m.1) more,
     )
 
-gives_or : (o : OptionsData) (n : ℕ) (c d : Calls) (es : List PlainEvent) → OrOver n c → Gives o c es d
+gives_or : (o : OptionsData) (n : ℕ) (c d : Calls) (es : List PlainEvent) → OrOver n c → CallsGive o c es d
     → IdsFrom (suc n) es
 gives_or o n c d es (inr x) g = gives_from o n c d es x g
 gives_or o n c d es (inl over) gives_none = tt
@@ -500,7 +501,7 @@ gives_or o n c d es (inl over) (gives_next {after = after} {e = e} g more) =
     let x = called o c after e g in absurd (let h = x.not_over in cc)
 
 pub behind_fault_from : (o : OptionsData) (stops : Stops) (looked follows : Bool) (c d after : Calls) (f : Fault)
-    (es : List PlainEvent) → c.fault ≡ Some f → recover o stops looked c ≡ (Ok follows, d) → Gives o d es after
+    (es : List PlainEvent) → c.fault ≡ Some f → recover o stops looked c ≡ (Ok follows, d) → CallsGive o d es after
     → IdsFrom (anchor_offset c) es
 behind_fault_from o stops looked follows c d after f es fault e g =
     gives_or o c.steps.parser.count d after es (anew_ids o stops looked c d f follows fault e) g

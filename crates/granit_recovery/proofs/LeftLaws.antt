@@ -17,20 +17,20 @@ use Rattle.granit_recovery.proofs.RecoveryLaws.{reached_known}
 use Rattle.granit_recovery.proofs.RestLaws.{early_known}
 use Rattle.granit_recovery.proofs.SkipLaws.{Known, known_along, known_start, restart_along, start_ahead}
 use Rattle.granit_recovery.proofs.TurnLaws.{Along, along_end, along_stream, has_end, step_along, TurnAlong}
-use Rattle.granit_recovery.specs.Streams.{EarlyOf, not_early, Reached, reached_call, reached_counting, reached_early}
-use Rattle.granit_recovery.specs.Streams.{reached_keeping, reached_recovery, reached_start, turn_early}
+use Rattle.granit_recovery.specs.Streams.{EarlyOf, not_early, ReachedByCalls, reached_call, reached_counting}
+use Rattle.granit_recovery.specs.Streams.{reached_early, reached_keeping, reached_recovery, reached_start, turn_early}
 use Rattle.granit_restart.proofs.AheadLaws.{one, OneTurn}
 use Rattle.granit_restart.proofs.MarkLaws.{items}
 use Rattle.granit_restart.specs.Boundary.{AtStart, AtTextEnd, Boundary, next_boundary, PastEnd}
-use Rattle.granit_restart.specs.Calls.{Calls, failing, Given, given_by, next_call, noted}
+use Rattle.granit_restart.specs.Calls.{Calls, failing, GivenByCall, given_by, next_call, noted}
 use Rattle.granit_restart.specs.Following.{document_follows}
 use Rattle.granit_restart.specs.Header.{is_in_header}
-use Rattle.granit_restart.specs.Recovery.{answered, extra_of, looked_by, recover, recovered, recover_with, resumed}
-use Rattle.granit_restart.specs.Recovery.{skipped, skipped_by, starts_by}
+use Rattle.granit_restart.specs.Recovery.{recovery_answer, extra_of, looked_by, recover, recovered, recover_with}
+use Rattle.granit_restart.specs.Recovery.{resumed, skipped, skipped_by, starts_by}
 use Rattle.granit_restart.specs.Restart.{at_boundary, at_found, at_lexeme, behind_fault, behind_fault_at}
 use Rattle.granit_restart.specs.Restart.{cursor_at, read_boundary}
 use Rattle.granit_restart.specs.Skipping.{Ahead, ahead, AtStreamEnd, BehindDocument, Ended, ends_before, Failed, NoEnd}
-use Rattle.granit_restart.specs.Skipping.{ahead_by, restarted, skip, skip_ahead, SkipEnd, skip_in}
+use Rattle.granit_restart.specs.Skipping.{ahead_by, restarted, skip_by_turns, skip_ahead, SkipEnd, skip_in}
 use Rattle.granit_restart.specs.Skipping.{skipped_fault, skipped_to, skip_turn, Stops, with_pending}
 use Rattle.granit_steps.proofs.Nesting.{levels_of}
 use Rattle.granit_steps.proofs.StepLaws.{step_turn-Shortens}
@@ -133,7 +133,7 @@ skips_left : (o : OptionsData) (n : ℕ) → SkipsLeft o n
 skips_left o zero s h k left = absurd (omega (arith, h))
 skips_left o (suc n) s h k left = known_skips o n s (skips_left o n) h k left
 
-skip_left : (o : OptionsData) (s : StepState) → Known s → Left s → EndLeft (skip o s)
+skip_left : (o : OptionsData) (s : StepState) → Known s → Left s → EndLeft (skip_by_turns o s)
 skip_left o s k left = skips_left o (suc (step_size s)) s (omega arith) k left
 
 -- ---- behind a fault
@@ -161,9 +161,9 @@ restarted_left stop (Ended s) left = left
 restarted_left stop (Failed f s) left = restart_left stop s
 
 header_left : (o : OptionsData) (stop : Here) (b : Bool) (x : Bool × StepState) → Along (InStream ∷ []) x.1 → Left x.1
-    → Left (if b then restarted stop (skip o x.1) else x.1)
+    → Left (if b then restarted stop (skip_by_turns o x.1) else x.1)
 header_left o stop true x a left =
-    restarted_left stop (skip o x.1) (skip_left o x.1 (known_along in_stream a) left)
+    restarted_left stop (skip_by_turns o x.1) (skip_left o x.1 (known_along in_stream a) left)
 header_left o stop false x a left = left
 
 fault_left : (o : OptionsData) (stops : Stops) (f : Fault) (s : StepState) → Left (skipped_fault o stops f s)
@@ -179,7 +179,7 @@ skipped_left : (o : OptionsData) (stops : Stops) (fault : Option Fault) (between
     → Left s → Left (skipped_by o stops fault between s)
 skipped_left o stops (Some f) between s k left = fault_left o stops f s
 skipped_left o stops None true s k left = left
-skipped_left o stops None false s k left = document_left o stops (skip o s) (skip_left o s k left)
+skipped_left o stops None false s k left = document_left o stops (skip_by_turns o s) (skip_left o s k left)
 
 -- ---- between calls
 
@@ -219,12 +219,12 @@ starts_left : (kind : EventKind) (c : Calls) → CallsLeft c → CallsLeft (star
 starts_left (DocumentStart explicit version) c left = left
 starts_left kind c left = left
 
-looked_left : (c : Calls) (x : Given × Calls) → CallsLeft c → CallsLeft x.1 → CallsLeft (looked_by c x)
+looked_left : (c : Calls) (x : GivenByCall × Calls) → CallsLeft c → CallsLeft x.1 → CallsLeft (looked_by c x)
 looked_left c (Some (Ok e), after) left next = starts_left e.kind c left
 looked_left c (Some (Err f), after) left next = next
 looked_left c (None, after) left next = left
 
-answered_left : (r : Result Bool Fault) (s : StepState) → Left s → CallsLeft (answered r (resumed s)).1
+answered_left : (r : Result Bool Fault) (s : StepState) → Left s → CallsLeft (recovery_answer r (resumed s)).1
 answered_left (Ok true) s left = λ over. left
 answered_left (Ok false) s left = λ over. left
 answered_left (Err f) s left = λ over. left
@@ -321,7 +321,7 @@ early_left o s t (turn_early {t = u} {given = given} p e) k left =
 
 -- ---- whatever was called
 
-reached_left : (o : OptionsData) (c : Calls) → Reached o c → CallsLeft c
+reached_left : (o : OptionsData) (c : Calls) → ReachedByCalls o c → CallsLeft c
 reached_left o c (reached_start h) = λ over ended. absurd (cc)
 reached_left o c (reached_call {c = d} r) = call_left o d (reached_known o d r).known (reached_left o d r)
 reached_left o c (reached_recovery {c = d} stops looked r) =
@@ -343,7 +343,7 @@ open_by : (b : Bool) (o : OptionsData) (c : Calls) → b ≡ false
 open_by true o c is never e = cc
 open_by false o c is never e = given_some o c (next_event o c.steps) never e
 
-pub open_gives : (o : OptionsData) (c : Calls) → Reached o c → c.over ≡ false → c.fault ≡ None → c.refusal ≡ None
+pub open_gives : (o : OptionsData) (c : Calls) → ReachedByCalls o c → c.over ≡ false → c.fault ≡ None → c.refusal ≡ None
     → (next_call o c).0 ≡ None → ⊥
 unfolding next_call
 open_gives o c r over fault refusal is =

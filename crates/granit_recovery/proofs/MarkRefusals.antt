@@ -36,7 +36,7 @@ use Rattle.granit_machine.specs.TokenSort.{OfStream}
 use Rattle.granit_machine.specs.TokenSort.{Token, token_sort, TokenSort}
 use Rattle.granit_recovery.proofs.SeatLaws.{end_top_fine, end_top_sits, IsOuter, Sits, SitsBy}
 use Rattle.granit_restart.specs.Header.{is_start_expected}
-use Rattle.granit_restart.specs.Skipping.{is_within}
+use Rattle.granit_restart.specs.Skipping.{is_within_document}
 use Rattle.granit_scalars.proofs.Turning.{Carries, pieces_hold}
 use Rattle.granit_steps.proofs.Nesting.{Fine}
 
@@ -119,7 +119,7 @@ behind_root_not lexemes.StreamEnd t p e = tt
 behind_root_not kind t p e = absurd (cc)
 
 outside_not : (o : OptionsData) (stage : DocumentStage) (l : Lexeme) (p : ParserState) → ends_document l.kind ≡ true
-    → IsOuter stage → is_within stage ≡ true → NotStart (outside o stage (mark_token l) p)
+    → IsOuter stage → is_within_document stage ≡ true → NotStart (outside o stage (mark_token l) p)
 outside_not o BehindRoot l p e outer within = behind_root_not l.kind (mark_token l) p e
 outside_not o Inside l p e outer within = absurd outer
 outside_not o Fresh l p e outer within = absurd (cc)
@@ -127,7 +127,7 @@ outside_not o (Directives version) l p e outer within = absurd (cc)
 outside_not o Between l p e outer within = absurd (cc)
 
 take_not : (o : OptionsData) (fs : List Frame) (l : Lexeme) (p : ParserState) → ends_document l.kind ≡ true
-    → SitsBy fs p.stage → is_within p.stage ≡ true → NotStart (take_in o fs (mark_token l) p)
+    → SitsBy fs p.stage → is_within_document p.stage ≡ true → NotStart (take_in o fs (mark_token l) p)
 take_not o [] l p e sits within = outside_not o p.stage l p e sits within
 take_not o (Root explicit ∷ fs) l p e sits within = refl
 take_not o (WithProperties q ∷ fs) l p e sits within = bare_not o l.kind (mark_token l) p e
@@ -180,8 +180,8 @@ anchor_stage o (Some a) p = on o.emit_anchor_events
     on true = refl
     on false = refl
 
-finish_within : (fs : List Frame) (p : ParserState) → is_within p.stage ≡ true
-    → is_within (finish_in fs p).stage ≡ true
+finish_within : (fs : List Frame) (p : ParserState) → is_within_document p.stage ≡ true
+    → is_within_document (finish_in fs p).stage ≡ true
 finish_within [] p e = e
 finish_within (Root explicit ∷ fs) p e = refl
 finish_within (WithProperties q ∷ fs) p e = e
@@ -191,27 +191,27 @@ finish_within (FlowSequence behind ∷ fs) p e = e
 finish_within (FlowMapping single stage ∷ fs) p e = e
 finish_within (FlowPair stage ∷ fs) p e = e
 
-end_node_within : (m : Mark) (source : Source) (p : ParserState) → is_within p.stage ≡ true
-    → is_within (end_node m source p).stage ≡ true
+end_node_within : (m : Mark) (source : Source) (p : ParserState) → is_within_document p.stage ≡ true
+    → is_within_document (end_node m source p).stage ≡ true
 unfolding end_node
 end_node_within m source p e =
     let q : ParserState = record (owed m p) { frames = below (owed m p).frames } in
     let x = give (event_at (end_kind (owed m p).frames) source) q in
-    finish_within x.frames x (ap is_within (flush_stage q ∙ owed_stage_by p.frames m p) ∙ e)
+    finish_within x.frames x (ap is_within_document (flush_stage q ∙ owed_stage_by p.frames m p) ∙ e)
 
-end_properties_within : (o : OptionsData) (q : NodeProperties) (p : ParserState) → is_within p.stage ≡ true
-    → is_within (end_properties o q p).stage ≡ true
+end_properties_within : (o : OptionsData) (q : NodeProperties) (p : ParserState) → is_within_document p.stage ≡ true
+    → is_within_document (end_properties o q p).stage ≡ true
 unfolding end_properties node_event
 end_properties_within o q p e =
     let x = node_event o (null_node q) (empty_span q.end) None p in
     finish_within x.frames x
-    (ap is_within (anchor_stage o (properties_on p.frames q.end).anchor _
+    (ap is_within_document (anchor_stage o (properties_on p.frames q.end).anchor _
     ∙ flush_stage (record p { frames = below_properties p.frames })) ∙ e)
 
-end_top_within : (o : OptionsData) (t : Token) (p : ParserState) (fs : List Frame) → is_within p.stage ≡ true
-    → is_within (end_top o t p fs).stage ≡ true
+end_top_within : (o : OptionsData) (t : Token) (p : ParserState) (fs : List Frame) → is_within_document p.stage ≡ true
+    → is_within_document (end_top o t p fs).stage ≡ true
 end_top_within o t p (Root explicit ∷ fs) e =
-    let x = give (null_at p.last_end) p in finish_within x.frames x (ap is_within (flush_stage p) ∙ e)
+    let x = give (null_at p.last_end) p in finish_within x.frames x (ap is_within_document (flush_stage p) ∙ e)
 end_top_within o t p (WithProperties q ∷ fs) e = end_properties_within o q p e
 end_top_within o t p fs e = end_node_within t.lexeme.start (token_start t) p e
 
@@ -221,8 +221,8 @@ FeedGiven = Result (List PlainEvent × ParserState) Fault
 -- closing fails nowhere, and stays in the document or behind its root
 abbrev StaysWithin : ParserState → FeedGiven → Type 0
 StaysWithin p (Ok x) =
-    Fine p.frames → Sits p → is_within p.stage ≡ true
-    → Fine x.1.frames × Sits x.1 × (is_within x.1.stage ≡ true)
+    Fine p.frames → Sits p → is_within_document p.stage ≡ true
+    → Fine x.1.frames × Sits x.1 × (is_within_document x.1.stage ≡ true)
 StaysWithin p (Err f) = ⊥
 
 within_on : (o : OptionsData) (t : Token) (p : ParserState) (given : FeedGiven) → ends_top t p p.frames ≡ true
@@ -244,7 +244,7 @@ close_turn_within o t p = turn_within o t p (ends_top t p p.frames) refl
 -- ---- an item
 
 closed_not : (o : OptionsData) (l : Lexeme) (p : ParserState) (r : FeedGiven) → StaysWithin p r
-    → ends_document l.kind ≡ true → Fine p.frames → Sits p → is_within p.stage ≡ true
+    → ends_document l.kind ≡ true → Fine p.frames → Sits p → is_within_document p.stage ≡ true
     → NotStart ((r >>= λ x. Ok x.1) >>= take_token o (mark_token l))
 closed_not o l p (Ok x) h e fine sits within =
     let y = h fine sits within in take_not o x.1.frames l x.1 e y.1 y.2
@@ -278,7 +278,7 @@ EndsDocument (OfLexeme l) = ends_document l.kind ≡ true
 EndsDocument (OfComment c) = Unit {0}
 
 item_not : (o : OptionsData) (i : Item) (b : Bool) (next : Option ℕ) (p : ParserState) → EndsDocument i
-    → Fine p.frames → Sits p → is_within p.stage ≡ true → NotStart (take_item o i b next p)
+    → Fine p.frames → Sits p → is_within_document p.stage ≡ true → NotStart (take_item o i b next p)
 item_not o (OfComment c) b next p e fine sits within =
     hold_not c (event_at (Comment c.text (placed c next)) c.source) p.waiting p
 item_not o (OfLexeme l) b next p e fine sits within =
@@ -303,7 +303,7 @@ fed_not (Err f) x = x
 
 -- a comment, the end of a document and that of the stream
 pub feed_not : (o : OptionsData) (i : FlaggedItem) (next : Option ℕ) (p : ParserState) → EndsDocument i.item
-    → Fine p.frames → Sits p → is_within p.stage ≡ true → FedNotStart (feed o i next p)
+    → Fine p.frames → Sits p → is_within_document p.stage ≡ true → FedNotStart (feed o i next p)
 unfolding feed
 feed_not o i next p e fine sits within =
     fed_not (take_item o i.item i.begins_key next p) (item_not o i.item i.begins_key next p e fine sits within)

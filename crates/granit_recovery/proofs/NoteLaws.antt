@@ -14,7 +14,7 @@ use Rattle.granit_recovery.proofs.RecoveryLaws.{call_known, first_same, looked_k
 use Rattle.granit_recovery.proofs.RecoveryLaws.{skipped_good}
 use Rattle.granit_recovery.proofs.SkipLaws.{comes_fault, comes_none, failed_silent, none_silent, Resumes, resumes}
 use Rattle.granit_recovery.proofs.TurnedLaws.{call_turned, looked_turned, reached_turned, skipped_by_turned}
-use Rattle.granit_recovery.specs.Streams.{Reached}
+use Rattle.granit_recovery.specs.Streams.{ReachedByCalls}
 use Rattle.granit_restart.proofs.AheadLaws.{turn_next, waits_next}
 use Rattle.granit_restart.proofs.LookLaws.{Asked, follows_says, Looks, looks_directives, looks_on, looks_over}
 use Rattle.granit_restart.proofs.LookLaws.{looks_start, outside_stage, turn_looks, TurnLooks}
@@ -221,7 +221,7 @@ module _ (o : OptionsData) where
   pending_note s e after room [] are turned (comes_fault f none turn before) is note =
       absurd (failed_silent o s f turn e after is)
 
-  pub note_here : (stops : Stops) (c : Calls) (e : PlainEvent) (after : StepState) (room : ℕ) → Reached o c
+  pub note_here : (stops : Stops) (c : Calls) (e : PlainEvent) (after : StepState) (room : ℕ) → ReachedByCalls o c
       → c.over ≡ false → Next (skipped o stops c).steps e after → is_note e.kind ≡ true
       → document_follows o (suc room) (skipped o stops c).steps ≡ document_follows o room after
   note_here stops c e after room r over is note =
@@ -230,7 +230,7 @@ module _ (o : OptionsData) where
       pending_note s e after room s.pending refl
       (skipped_by_turned o stops c.fault c.between c.steps (reached_turned o c r)) g.resumed is note
 
-  pub note_looked : (stops : Stops) (c : Calls) (e : PlainEvent) (after : StepState) (room : ℕ) → Reached o c
+  pub note_looked : (stops : Stops) (c : Calls) (e : PlainEvent) (after : StepState) (room : ℕ) → ReachedByCalls o c
       → (looked_by c (next_call o c)).over ≡ false
       → Next (skipped o stops (looked_by c (next_call o c))).steps e after → is_note e.kind ≡ true
       → document_follows o (suc room) (skipped o stops (looked_by c (next_call o c))).steps

@@ -12,9 +12,9 @@ use Rattle.granit_reading.proofs.Counting.{stepped_on, marked_on}
 use Rattle.granit_steps.proofs.Futures.{and_right}
 use Rattle.granit_restart.proofs.BoundaryLaws.{finds_next}
 use Rattle.granit_restart.specs.Boundary.{Boundary, over_dropped, next_boundary}
-use Rattle.granit_recovery.specs.BoundaryPlace.{place_of, IsCounted}
-use Rattle.granit_restart.specs.NextBoundary.{Stands, stands_start, stands_end, stands_text_end, Next, next_here}
-use Rattle.granit_restart.specs.NextBoundary.{next_behind}
+use Rattle.granit_recovery.specs.BoundaryPlace.{boundary_place, IsCounted}
+use Rattle.granit_restart.specs.NextBoundary.{BoundaryStands, stands_start, stands_end, stands_text_end, NextBoundary}
+use Rattle.granit_restart.specs.NextBoundary.{next_here, next_behind}
 
 if_true : (b : Bool) (g h : Here) → b ≡ true → (if b then g else h) ≡ g
 if_true true g h e = refl
@@ -61,19 +61,21 @@ dropped_by true x h e c =
     marked_by x h.unread.text h refl (bom_is (next_char h) (and_right (h.place.column == 0) (is_bom (next_char h)) e)) c
 dropped_by false x h e c = counted_step x h c
 
-stands_counted : (x : List ℕ) (h : Here) (b : Boundary) → Stands h b → IsCounted x h → IsCounted x (place_of b)
+stands_counted : (x : List ℕ) (h : Here) (b : Boundary) → BoundaryStands h b → IsCounted x h
+    → IsCounted x (boundary_place b)
 stands_counted x h b (stands_start behind column text separated) c = c
 stands_counted x h b (stands_end line behind column text separated finishes ends) c =
     counted_steps x (length line) (steps 3 h) (counted_steps x 3 h c)
 stands_counted x h b (stands_text_end text) c = c
 
-next_counted : (x : List ℕ) (h : Here) (b : Boundary) → Next h b → IsCounted x h → IsCounted x (place_of b)
+next_counted : (x : List ℕ) (h : Here) (b : Boundary) → NextBoundary h b → IsCounted x h
+    → IsCounted x (boundary_place b)
 next_counted x h b (next_here p) c = stands_counted x h b p c
 next_counted x h b (next_behind none more) c =
     next_counted x (over_dropped h) b more (dropped_by (h.place.column == 0 && is_bom (next_char h)) x h refl c)
 
 -- the boundary stands at a counted place
-pub boundary_counted : (x : List ℕ) (h : Here) → IsCounted x h → IsCounted x (place_of (next_boundary h))
+pub boundary_counted : (x : List ℕ) (h : Here) → IsCounted x h → IsCounted x (boundary_place (next_boundary h))
 boundary_counted x h c = next_counted x h (next_boundary h) (finds_next h) c
 
 -- ---- where reading came to
@@ -95,5 +97,5 @@ onward_counted x start at (begun {at = before} p) c = mid_counted x before (onwa
 
 -- and so is the boundary behind it
 pub boundary_onward : (x : List ℕ) (start at : Here) → Onward start at → IsCounted x start
-    → IsCounted x (place_of (next_boundary at))
+    → IsCounted x (boundary_place (next_boundary at))
 boundary_onward x start at p c = boundary_counted x at (onward_counted x start at p c)

@@ -17,15 +17,16 @@ use Rattle.granit_recovery.proofs.SkipLaws.{Known, known_start, known_along, Res
 use Rattle.granit_recovery.proofs.SkipLaws.{start_known}
 use Rattle.granit_recovery.proofs.SkipLaws.{fault_skipped, document_skipped}
 use Rattle.granit_recovery.proofs.TurnLaws.{Along, Told, NextAlong, next_along, failing_along}
-use Rattle.granit_restart.specs.Calls.{Calls, noted, failing_by, failing_in, failing, Given, given_by, next_call}
-use Rattle.granit_restart.specs.Recovery.{resumed, skipped_by, skipped, starts_by, looked_by, answered, recovered}
-use Rattle.granit_restart.specs.Recovery.{extra_of, recover_with, recover}
+use Rattle.granit_restart.specs.Calls.{Calls, noted, failing_by, failing_in, failing, GivenByCall, given_by, next_call}
+use Rattle.granit_restart.specs.Recovery.{resumed, skipped_by, skipped, starts_by, looked_by, recovery_answer}
+use Rattle.granit_restart.specs.Recovery.{recovered, extra_of, recover_with, recover}
 use Rattle.granit_restart.proofs.AheadLaws.{waits_next}
 use Rattle.granit_restart.specs.Following.{document_follows}
 use Rattle.granit_restart.specs.Turned.{with_count}
 use Rattle.granit_restart.specs.Skipping.{Stops, with_pending}
-use Rattle.granit_recovery.specs.Streams.{GoesOn, Gives, gives_none, gives_next, Reached, reached_start, reached_call}
-use Rattle.granit_recovery.specs.Streams.{EarlyOf, reached_counting, reached_early, reached_keeping, reached_recovery}
+use Rattle.granit_recovery.specs.Streams.{GoesOnBalanced, CallsGive, gives_none, gives_next, ReachedByCalls}
+use Rattle.granit_recovery.specs.Streams.{reached_start, reached_call, EarlyOf, reached_counting, reached_early}
+use Rattle.granit_recovery.specs.Streams.{reached_keeping, reached_recovery}
 use Rattle.granit_steps.specs.Levels.{Level, InStream, and_then, behind_event, behind_events}
 use Rattle.granit_steps.specs.Steps.{StepState, step_turn, step_size, next_event, turn_by}
 
@@ -166,7 +167,7 @@ starts_known : (o : OptionsData) (kind : EventKind) (c : Calls) → CallsKnown c
 starts_known o (DocumentStart explicit version) c k = record { known = k.known; between = λ f b. absurd (cc) }
 starts_known o kind c k = k
 
-pub looked_known : (o : OptionsData) (c : Calls) (x : Given × Calls) → CallsKnown c → CallsKnown x.1
+pub looked_known : (o : OptionsData) (c : Calls) (x : GivenByCall × Calls) → CallsKnown c → CallsKnown x.1
     → CallsKnown (looked_by c x)
 looked_known o c (Some (Ok e), after) k n = starts_known o e.kind c k
 looked_known o c (Some (Err f), after) k n = n
@@ -193,7 +194,7 @@ record Answers (o : OptionsData) (x : Result Bool Fault × Calls) : Type 0 where
   goes : (follows : Bool) → x.0 ≡ Ok follows → Outside o x.1 x.1.steps
 
 answered_by : (o : OptionsData) (room : ℕ) (s : StepState) (r : Result Bool Fault) → document_follows o room s ≡ r
-    → Good o s → Answers o (answered r (resumed s))
+    → Good o s → Answers o (recovery_answer r (resumed s))
 answered_by o room s (Ok true) is g = record {
   calls = record { known = g.known; between = λ f b. absurd (cc) };
   goes = λ follows e. inr g.resumed;
@@ -249,7 +250,7 @@ counting_calls count c k = record {
 
 -- ---- whatever was called
 
-pub reached_known : (o : OptionsData) (c : Calls) → Reached o c → CallsKnown c
+pub reached_known : (o : OptionsData) (c : Calls) → ReachedByCalls o c → CallsKnown c
 reached_known o c (reached_start h) = record { known = start_known h; between = λ f b. absurd (cc) }
 reached_known o c (reached_call {c = d} r) = call_known o d (reached_known o d r)
 reached_known o c (reached_recovery {c = d} stops looked r) =
@@ -305,7 +306,7 @@ record Comes (es : List PlainEvent) (ls : List Level) : Type 0 where
   all : behind_events es ls ≡ Some behind
 
 gives_along : (o : OptionsData) (c d : Calls) (es : List PlainEvent) (ls : List Level) → Along ls c.steps
-    → Gives o c es d → Comes es ls
+    → CallsGive o c es d → Comes es ls
 gives_along o c d es ls a gives_none = record { behind = ls; all = refl }
 gives_along o c d es ls a (gives_next {after = after} {e = e} {es = rest} g more) =
     let x = called o c after e g in
@@ -313,10 +314,11 @@ gives_along o c d es ls a (gives_next {after = after} {e = e} {es = rest} g more
     let r = gives_along o after d rest n.behind (subst (Along n.behind) (sym x.leaves) n.along) more in
     record { behind = r.behind; all = ap (λ y. and_then y (behind_events rest)) n.first ∙ r.all }
 
-ends_at_once : GoesOn []
+ends_at_once : GoesOnBalanced []
 ends_at_once = record { more = event_on StreamEnd (mark_of (start_of [])) ∷ []; balanced = refl }
 
-goes_on : (o : OptionsData) (c d : Calls) (es : List PlainEvent) → Outside o c c.steps → Gives o c es d → GoesOn es
+goes_on : (o : OptionsData) (c d : Calls) (es : List PlainEvent) → Outside o c c.steps
+    → CallsGive o c es d → GoesOnBalanced es
 goes_on o c d es (inr (resumes a)) g =
     let r = gives_along o c d es (InStream ∷ []) a g in
     let x = can_close (mark_of (start_of [])) es (InStream ∷ []) r.behind in_stream r.all in
@@ -333,7 +335,8 @@ goes_on o c d es (inl over) (gives_next {after = after} {e = e} g more) =
 
 -- behind an answer of recovery a stream goes on
 pub recovered_goes_on : (o : OptionsData) (stops : Stops) (looked follows : Bool) (c d e : Calls)
-    (es : List PlainEvent) → Reached o c → recover o stops looked c ≡ (Ok follows, d) → Gives o d es e → GoesOn es
+    (es : List PlainEvent) → ReachedByCalls o c → recover o stops looked c ≡ (Ok follows, d)
+    → CallsGive o d es e → GoesOnBalanced es
 recovered_goes_on o stops looked follows c d e es r is g =
     let a = recover_answers o stops looked c (reached_known o c r) in
     let x = a.goes follows (first_same _ _ is) in
@@ -346,7 +349,7 @@ refused_with : (o : OptionsData) (stops : Stops) (looked : Bool) (f : Fault) (c 
 unfolding recover
 refused_with o stops looked f c e = ap (λ r. recover_with o stops looked r c) e
 
-refusal_of : (r : Result Bool Fault) (c d : Calls) (f : Fault) → answered r c ≡ (Err f, d) → d.refusal ≡ Some f
+refusal_of : (r : Result Bool Fault) (c d : Calls) (f : Fault) → recovery_answer r c ≡ (Err f, d) → d.refusal ≡ Some f
 refusal_of (Ok true) c d f e = absurd (let g = first_same _ _ e in cc)
 refusal_of (Ok false) c d f e = absurd (let g = first_same _ _ e in cc)
 refusal_of (Err x) c d f e =

@@ -23,8 +23,8 @@ use Rattle.granit_restart.proofs.AheadLaws.{given_in, one, OneTurn}
 use Rattle.granit_restart.proofs.LookLaws.{Asked, follows_says}
 use Rattle.granit_restart.proofs.MarkLaws.{items}
 use Rattle.granit_restart.specs.Following.{document_follows, past_events, past_items, past_lexeme, past_reading}
-use Rattle.granit_restart.specs.Header.{front_goes, is_directives, is_start_expected, takes_front}
-use Rattle.granit_restart.specs.Skipping.{ends_before, is_within, with_pending}
+use Rattle.granit_restart.specs.Header.{is_directives, is_start_expected, parser_takes, takes_front}
+use Rattle.granit_restart.specs.Skipping.{ends_before, is_within_document, with_pending}
 use Rattle.granit_restart.specs.Turned.{with_count}
 use Rattle.granit_steps.proofs.Nesting.{behind_append, levels_of}
 use Rattle.granit_steps.specs.Levels.{and_then, behind_events, InStream, Level}
@@ -114,7 +114,7 @@ module _ (o : OptionsData) where
   -- the item in front is no comment, and no end of a document
   front_other : (ls : List Level) (s : StepState) (i : FlaggedItem) (is : List FlaggedItem) (f : Fault) → Along ls s
       → s.queue ≡ i ∷ is → feed_front o i is s ≡ Err f → is_start_expected f ≡ true
-      → is_within s.parser.stage ≡ true → EndsDocument i.item → ⊥
+      → is_within_document s.parser.stage ≡ true → EndsDocument i.item → ⊥
   front_other ls s i is f (along_stream p rests seats waits) queue e start within ends =
       refused s is (feed o i (line_behind s.reading is) s.parser) f
       (feed_not o i (line_behind s.reading is) s.parser ends rests.fine seats.sits within) e start
@@ -125,15 +125,15 @@ module _ (o : OptionsData) where
       s.parser)) (sym x.1) (comment_not o x.0 i.begins_key (line_behind s.reading is) s.parser)) e start
 
   queue_follows : (q : List FlaggedItem) (ls : List Level) (s : StepState) (room : ℕ) (f : Fault) → Along ls s
-      → s.queue ≡ q → turn_by o [] q s ≡ Err f → front_goes s q ≡ true → is_start_expected f ≡ true
-      → is_within s.parser.stage ≡ true
+      → s.queue ≡ q → turn_by o [] q s ≡ Err f → parser_takes s q ≡ true → is_start_expected f ≡ true
+      → is_within_document s.parser.stage ≡ true
       → past_items room (items q) (past_reading o s.reading s.reading.fault) ≡ Ok true
   queue_follows [] ls s room f a queue e goes start within = absurd (cc)
   queue_follows (i ∷ is) ls s room f a queue e goes start within =
       item_follows i.item (items is) room (past_reading o s.reading s.reading.fault)
       (front_other ls s i is f a queue (ap (λ b. front_turn b o i is s) (sym goes) ∙ e) start within)
 
-  within_other : (stage : DocumentStage) → is_within stage ≡ true → is_directives stage ≡ false
+  within_other : (stage : DocumentStage) → is_within_document stage ≡ true → is_directives stage ≡ false
   within_other Inside e = refl
   within_other BehindRoot e = refl
   within_other Fresh e = absurd (cc)
@@ -143,7 +143,7 @@ module _ (o : OptionsData) where
   fault_follows : (ls : List Level) (s : StepState) (room : ℕ) (f : Fault) → Along ls s → s.pending ≡ []
       → step_turn o s ≡ Err f → ends_before s f ≡ true → document_follows o room s ≡ Ok true
   fault_follows ls s room f a pending e before =
-      let all = and_parts (takes_front s && is_start_expected f) (is_within s.parser.stage) before in
+      let all = and_parts (takes_front s && is_start_expected f) (is_within_document s.parser.stage) before in
       let two = and_parts (takes_front s) (is_start_expected f) all.0 in
       follows_says o room s (within_other s.parser.stage all.1) ∙ ap (λ es. past_events room es (Asked o s)) pending
       ∙ queue_follows s.queue ls s room f a refl (sym (turn_is s pending) ∙ e) two.0 two.1 all.1

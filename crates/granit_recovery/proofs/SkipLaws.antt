@@ -24,7 +24,7 @@ use Rattle.granit_restart.specs.Restart.{anew, at_boundary, at_lexeme, at_found,
 use Rattle.granit_restart.specs.Restart.{cursor_at, read_boundary}
 use Rattle.granit_restart.specs.Skipping.{Ahead, NoEnd, BehindDocument, AtStreamEnd, SkipEnd, Ended, Failed, Stops}
 use Rattle.granit_restart.specs.Skipping.{ahead_by, ahead, ends_before, skip_turn, with_pending, skip_ahead, skip_in}
-use Rattle.granit_restart.specs.Skipping.{skip, restarted, skipped_fault, skipped_to, skipped_document}
+use Rattle.granit_restart.specs.Skipping.{skip_by_turns, restarted, skipped_fault, skipped_to, skipped_document}
 use Rattle.granit_steps.proofs.Nesting.{levels_of}
 use Rattle.granit_steps.proofs.StepLaws.{step_turn-Shortens}
 use Rattle.granit_steps.specs.Levels.{Level, InStream, behind_event, behind_events}
@@ -244,7 +244,7 @@ skips_good : (o : OptionsData) (n : ℕ) → SkipsGood o n
 skips_good o zero s h k = absurd (omega arith)
 skips_good o (suc n) s h k = known_good o n s (skips_good o n) h k
 
-skip_good : (o : OptionsData) (s : StepState) → Known s → EndGood o (skip o s)
+skip_good : (o : OptionsData) (s : StepState) → Known s → EndGood o (skip_by_turns o s)
 skip_good o s k = skips_good o (suc (step_size s)) s (omega arith) k
 
 restarted_good : (o : OptionsData) (stop : Here) (x : SkipEnd) → EndGood o x → Good o (restarted stop x)
@@ -252,8 +252,8 @@ restarted_good o stop (Ended s) g = g
 restarted_good o stop (Failed f s) g = good_stream o (behind_fault stop s).1 (restart_along stop s)
 
 header_good : (o : OptionsData) (stop : Here) (b : Bool) (x : Bool × StepState) → Along (InStream ∷ []) x.1
-    → Good o (if b then restarted stop (skip o x.1) else x.1)
-header_good o stop true x a = restarted_good o stop (skip o x.1) (skip_good o x.1 (known_along in_stream a))
+    → Good o (if b then restarted stop (skip_by_turns o x.1) else x.1)
+header_good o stop true x a = restarted_good o stop (skip_by_turns o x.1) (skip_good o x.1 (known_along in_stream a))
 header_good o stop false x a = good_stream o x.1 a
 
 -- behind a fault
@@ -269,4 +269,4 @@ skipped_good o stops (Failed f s) g = fault_skipped o stops f s
 -- behind a document
 pub document_skipped : (o : OptionsData) (stops : Stops) (s : StepState) → Known s
     → Good o (skipped_document o stops s)
-document_skipped o stops s k = skipped_good o stops (skip o s) (skip_good o s k)
+document_skipped o stops s k = skipped_good o stops (skip_by_turns o s) (skip_good o s k)

@@ -9,16 +9,16 @@ use Rattle.granit_lexemes.specs.Outcome.{Fault, ◌>>=◌}
 use Rattle.granit_lexemes.specs.Pieces.{with_front}
 use Rattle.granit_lexemes.specs.PlainEvent.{PlainEvent, EventKind, DocumentStart}
 use Rattle.granit_recovery.proofs.RecoveryLaws.{noted_steps}
-use Rattle.granit_recovery.specs.Streams.{EarlyOf, not_early, Reached, reached_call, reached_counting, reached_early}
-use Rattle.granit_recovery.specs.Streams.{reached_keeping, reached_recovery, reached_start, turn_early}
+use Rattle.granit_recovery.specs.Streams.{EarlyOf, not_early, ReachedByCalls, reached_call, reached_counting}
+use Rattle.granit_recovery.specs.Streams.{reached_early, reached_keeping, reached_recovery, reached_start, turn_early}
 use Rattle.granit_restart.proofs.AheadLaws.{one, OneTurn}
-use Rattle.granit_restart.specs.Calls.{Calls, failing_by, failing_in, Given, given_by, next_call}
+use Rattle.granit_restart.specs.Calls.{Calls, failing_by, failing_in, GivenByCall, given_by, next_call}
 use Rattle.granit_restart.specs.Header.{is_in_header}
-use Rattle.granit_restart.specs.Recovery.{answered, extra_of, looked_by, recover, recover_with, recovered, skipped}
-use Rattle.granit_restart.specs.Recovery.{skipped_by, starts_by}
+use Rattle.granit_restart.specs.Recovery.{extra_of, looked_by, recover, recover_with, recovered, recovery_answer}
+use Rattle.granit_restart.specs.Recovery.{skipped, skipped_by, starts_by}
 use Rattle.granit_restart.specs.Restart.{behind_fault, cursor_at}
 use Rattle.granit_restart.specs.Skipping.{ahead, Ahead, AtStreamEnd, BehindDocument, Ended, ends_before, Failed}
-use Rattle.granit_restart.specs.Skipping.{NoEnd, restarted, skip, skip_ahead, skip_in, skip_turn, SkipEnd}
+use Rattle.granit_restart.specs.Skipping.{NoEnd, restarted, skip_by_turns, skip_ahead, skip_in, skip_turn, SkipEnd}
 use Rattle.granit_restart.specs.Skipping.{skipped_fault, skipped_to, Stops, with_pending}
 use Rattle.granit_restart.specs.Turned.{Turned, turned_anew, turned_counting, turned_keeping, turned_on, turned_start}
 use Rattle.granit_restart.specs.Turned.{turned_with}
@@ -114,9 +114,9 @@ module _ (o : OptionsData) where
   restarted_turned stop (Failed f s) turned = fault_turned stop s turned
 
   header_turned : (stop : Here) (b : Bool) (x : Bool × StepState) → Turned o x.1
-      → Turned o (if b then restarted stop (skip o x.1) else x.1)
+      → Turned o (if b then restarted stop (skip_by_turns o x.1) else x.1)
   header_turned stop true x turned =
-      restarted_turned stop (skip o x.1) (skip_turned (suc (step_size x.1)) x.1 turned)
+      restarted_turned stop (skip_by_turns o x.1) (skip_turned (suc (step_size x.1)) x.1 turned)
   header_turned stop false x turned = turned
 
   skipped_fault_turned : (stops : Stops) (f : Fault) (s : StepState) → Turned o s
@@ -134,7 +134,7 @@ module _ (o : OptionsData) where
   skipped_by_turned stops (Some f) between s turned = skipped_fault_turned stops f s turned
   skipped_by_turned stops None true s turned = turned
   skipped_by_turned stops None false s turned =
-      skipped_to_turned stops (skip o s) (skip_turned (suc (step_size s)) s turned)
+      skipped_to_turned stops (skip_by_turns o s) (skip_turned (suc (step_size s)) s turned)
 
   given_turned : (c : Calls) (r : Result (Option PlainEvent × StepState) Fault) → NextTurned r → Turned o c.steps
       → Turned o (given_by o c r).1.steps
@@ -155,13 +155,13 @@ module _ (o : OptionsData) where
   starts_steps (DocumentStart explicit version) c = refl
   starts_steps kind c = refl
 
-  pub looked_turned : (c : Calls) (x : Given × Calls) → Turned o c.steps → Turned o x.1.steps
+  pub looked_turned : (c : Calls) (x : GivenByCall × Calls) → Turned o c.steps → Turned o x.1.steps
       → Turned o (looked_by c x).steps
   looked_turned c (Some (Ok e), after) turned behind = subst (Turned o) (sym (starts_steps e.kind c)) turned
   looked_turned c (Some (Err f), after) turned behind = behind
   looked_turned c (None, after) turned behind = turned
 
-  answered_turned : (r : Result Bool Fault) (c : Calls) → Turned o c.steps → Turned o (answered r c).1.steps
+  answered_turned : (r : Result Bool Fault) (c : Calls) → Turned o c.steps → Turned o (recovery_answer r c).1.steps
   answered_turned (Ok true) c turned = turned
   answered_turned (Ok false) c turned = turned
   answered_turned (Err f) c turned = turned
@@ -196,7 +196,7 @@ module _ (o : OptionsData) where
   early_turned s t (turn_early {t = u} {given = given} p e) turned =
       one_turned u t (one o u t given e) (early_turned s u p turned)
 
-pub reached_turned : (o : OptionsData) (c : Calls) → Reached o c → Turned o c.steps
+pub reached_turned : (o : OptionsData) (c : Calls) → ReachedByCalls o c → Turned o c.steps
 reached_turned o c (reached_start h) = turned_start h
 reached_turned o c (reached_call {c = d} r) = call_turned o d (reached_turned o d r)
 reached_turned o c (reached_recovery {c = d} stops looked r) =

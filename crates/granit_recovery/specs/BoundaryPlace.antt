@@ -4,10 +4,10 @@ use Rattle.granit_language.specs.Counting.{CountedHere}
 use Rattle.granit_lexemes.specs.Here.{Here}
 use Rattle.granit_restart.specs.Boundary.{Boundary, AtStart, PastEnd, AtTextEnd}
 
-abbrev pub place_of : Boundary → Here
-place_of (AtStart h) = h
-place_of (PastEnd h) = h
-place_of (AtTextEnd h) = h
+abbrev pub boundary_place : Boundary → Here
+boundary_place (AtStart h) = h
+boundary_place (PastEnd h) = h
+boundary_place (AtTextEnd h) = h
 
 -- a reader stands at some index of a text, where the byte-order marks at some indices count no column
 pub record IsCounted (x : List ℕ) (h : Here) : Type 0 where

@@ -7,7 +7,7 @@ use Rattle.granit_lexemes.specs.Lexeme.{LexemeKind, Item, OfLexeme, OfComment}
 use Rattle.granit_lexemes.specs.PlainEvent.{PlainEvent, EventKind, StreamEnd, Comment}
 use Rattle.granit_machine.specs.Reader.{LexState}
 use Rattle.granit_machine.specs.ReaderState.{ReaderState}
-use Rattle.granit_restart.specs.Following.{item_of}
+use Rattle.granit_restart.specs.Following.{item_without_flag}
 use Rattle.granit_restart.specs.Header.{is_directives}
 use Rattle.granit_steps.specs.Steps.{StepState}
 
@@ -21,14 +21,14 @@ first_event [] = None
 first_event (e ∷ es) = first_by e.kind (first_event es)
 
 -- the first lexeme that is no `...`
-abbrev pub lexeme_by : LexemeKind → Option LexemeKind → Option LexemeKind
-lexeme_by lexemes.DocumentEnd later = later
-lexeme_by kind later = Some kind
+abbrev pub lexeme_or_later : LexemeKind → Option LexemeKind → Option LexemeKind
+lexeme_or_later lexemes.DocumentEnd later = later
+lexeme_or_later kind later = Some kind
 
 abbrev pub first_lexeme : List Item → Option LexemeKind
 first_lexeme [] = None
 first_lexeme (OfComment c ∷ is) = first_lexeme is
-first_lexeme (OfLexeme l ∷ is) = lexeme_by l.kind (first_lexeme is)
+first_lexeme (OfLexeme l ∷ is) = lexeme_or_later l.kind (first_lexeme is)
 
 -- From here on only gaps, comments and `...` stand up to the end of the text.
 pub data OnlyGap (o : OptionsData) : ReaderState → Type 0 where
@@ -38,15 +38,15 @@ pub data OnlyGap (o : OptionsData) : ReaderState → Type 0 where
       → first_lexeme items ≡ None → OnlyGap o next → OnlyGap o s
 
 -- by the first event, or where there is none, by what else holds
-abbrev pub EndsBy : Option EventKind → Type 0 → Type 0
-EndsBy None Else = Else
-EndsBy (Some StreamEnd) Else = Unit {0}
-EndsBy (Some kind) Else = ⊥
+abbrev pub FirstEventEnds : Option EventKind → Type 0 → Type 0
+FirstEventEnds None Else = Else
+FirstEventEnds (Some StreamEnd) Else = Unit {0}
+FirstEventEnds (Some kind) Else = ⊥
 
-abbrev pub EndsWith : Option LexemeKind → Type 0 → Type 0
-EndsWith None Else = Else
-EndsWith (Some lexemes.StreamEnd) Else = Unit {0}
-EndsWith (Some kind) Else = ⊥
+abbrev pub FirstLexemeEnds : Option LexemeKind → Type 0 → Type 0
+FirstLexemeEnds None Else = Else
+FirstLexemeEnds (Some lexemes.StreamEnd) Else = Unit {0}
+FirstLexemeEnds (Some kind) Else = ⊥
 
 -- the text was read to its end, or will be
 abbrev pub EndsReading : OptionsData → LexState → Type 0
@@ -55,6 +55,6 @@ EndsReading o l = (l.fault ≡ None) × ((l.ended ≡ true) ⊎ OnlyGap o l.read
 -- no document is there: of what was read and not given, and of what is left, nothing begins one
 abbrev pub NoneFollows : OptionsData → StepState → Type 0
 NoneFollows o s =
-    EndsBy (first_event s.pending)
+    FirstEventEnds (first_event s.pending)
     ((is_directives s.parser.stage ≡ false)
-    × EndsWith (first_lexeme (map item_of s.queue)) (EndsReading o s.reading))
+    × FirstLexemeEnds (first_lexeme (map item_without_flag s.queue)) (EndsReading o s.reading))

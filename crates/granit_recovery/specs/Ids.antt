@@ -4,8 +4,8 @@ use Rattle.granit_error.specs.OptionsData.{OptionsData}
 use Rattle.granit_lexemes.specs.Here.{Here, mark_of}
 use Rattle.granit_lexemes.specs.PlainEvent.{PlainEvent, EventKind, Anchor, Scalar, SequenceStart, MappingStart}
 use Rattle.granit_machine.specs.Frames.{parser_start}
-use Rattle.granit_recovery.specs.Streams.{Reached, reached_call, reached_counting, reached_early, reached_keeping}
-use Rattle.granit_recovery.specs.Streams.{reached_recovery, reached_start}
+use Rattle.granit_recovery.specs.Streams.{ReachedByCalls, reached_call, reached_counting, reached_early}
+use Rattle.granit_recovery.specs.Streams.{reached_keeping, reached_recovery, reached_start}
 use Rattle.granit_restart.specs.Turned.{with_count}
 use Rattle.granit_restart.specs.Calls.{Calls}
 use Rattle.granit_steps.specs.Steps.{StepState, next_event, start_from}
@@ -40,7 +40,7 @@ id_told None = 0
 id_told (Some e) = id_of e.kind
 
 -- on the way there the number of a next anchor was never set back
-abbrev pub NeverSetBack : {o : OptionsData} {c : Calls} → Reached o c → Type 0
+abbrev pub NeverSetBack : {o : OptionsData} {c : Calls} → ReachedByCalls o c → Type 0
 NeverSetBack (reached_start h) = Unit {0}
 NeverSetBack (reached_call r) = NeverSetBack r
 NeverSetBack (reached_recovery stops looked r) = NeverSetBack r

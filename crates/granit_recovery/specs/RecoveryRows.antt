@@ -6,7 +6,7 @@ use Rattle.granit_lexemes.specs.Here.{Here, start_of}
 use Rattle.granit_lexemes.specs.Line.{event_line, fault_line}
 use Rattle.granit_lexemes.specs.Moves.{steps}
 use Rattle.granit_lexemes.specs.Outcome.{Fault}
-use Rattle.granit_restart.specs.Calls.{Calls, Given, calls_start, next_call}
+use Rattle.granit_restart.specs.Calls.{Calls, GivenByCall, calls_start, next_call}
 use Rattle.granit_restart.specs.Recovery.{recover}
 use Rattle.granit_restart.specs.Skipping.{Stops}
 
@@ -23,17 +23,19 @@ abbrev pub recovery_lines : OptionsData → (Calls → Stops) → (Calls → Lis
 recovery_lines o stops later c = lines_on later (recover o (stops c) false c)
 
 -- recovery behind each so many events, of which some were given, and behind each fault
-abbrev pub lines_by : OptionsData → (Calls → Stops) → (every given : ℕ) → (ℕ → Calls → List ℕ) → Given × Calls
+abbrev pub call_lines_by : OptionsData → (Calls → Stops) → (every given : ℕ)
+    → (ℕ → Calls → List ℕ) → GivenByCall × Calls
     → List ℕ
-lines_by o stops every given later (None, c) = []
-lines_by o stops every given later (Some (Ok e), c) =
+call_lines_by o stops every given later (None, c) = []
+call_lines_by o stops every given later (Some (Ok e), c) =
     event_line e
     ++ (if suc given == every then recovery_lines o stops (later 0) c else later (suc given) c)
-lines_by o stops every given later (Some (Err f), c) = fault_line f ++ recovery_lines o stops (later given) c
+call_lines_by o stops every given later (Some (Err f), c) = fault_line f ++ recovery_lines o stops (later given) c
 
-abbrev pub lines_of : OptionsData → (Calls → Stops) → (every : ℕ) → ℕ → ℕ → Calls → List ℕ
-lines_of o stops every zero given c = []
-lines_of o stops every (suc n) given c = lines_by o stops every given (lines_of o stops every n) (next_call o c)
+abbrev pub call_lines : OptionsData → (Calls → Stops) → (every : ℕ) → ℕ → ℕ → Calls → List ℕ
+call_lines o stops every zero given c = []
+call_lines o stops every (suc n) given c = call_lines_by o stops every given
+    (call_lines o stops every n) (next_call o c)
 
 abbrev pub both_at : Here → Stops
 both_at h = record { first = h; second = h }
@@ -44,7 +46,7 @@ at_once c = both_at c.steps.reading.reader.here
 
 -- the lines of thirty calls at most, with recovery behind faults
 abbrev pub recovers_under : OptionsData → List ℕ → List ℕ
-recovers_under o text = lines_of o at_once 0 30 0 (calls_start text)
+recovers_under o text = call_lines o at_once 0 30 0 (calls_start text)
 
 abbrev pub recovers : List ℕ → List ℕ
 recovers text = recovers_under default_options text
@@ -52,8 +54,8 @@ recovers text = recovers_under default_options text
 -- the same where the reads that are refused stop behind so many characters of the text
 abbrev pub recovers_from : (stop : ℕ) → List ℕ → List ℕ
 recovers_from stop text =
-    lines_of default_options (λ c. both_at (steps stop (start_of text))) 0 30 0 (calls_start text)
+    call_lines default_options (λ c. both_at (steps stop (start_of text))) 0 30 0 (calls_start text)
 
 -- and with recovery behind each so many events
 abbrev pub skips : (every : ℕ) → List ℕ → List ℕ
-skips every text = lines_of default_options at_once every 30 0 (calls_start text)
+skips every text = call_lines default_options at_once every 30 0 (calls_start text)

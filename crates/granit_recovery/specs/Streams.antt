@@ -12,15 +12,15 @@ use Rattle.granit_steps.specs.Levels.{InStream, behind_events}
 use Rattle.granit_steps.specs.Steps.{StepState, start_from}
 
 -- events that may come in a stream behind its start, and behind which the rest of a balanced one may
-pub record GoesOn (es : List PlainEvent) : Type 0 where
+pub record GoesOnBalanced (es : List PlainEvent) : Type 0 where
   pub more : List PlainEvent
   pub balanced : behind_events (es ++ more) (InStream ∷ []) ≡ Some []
 
 -- calls give these events one by one, and then the parser stands there
-pub data Gives (o : OptionsData) : Calls → List PlainEvent → Calls → Type 0 where
-  gives_none : {c : Calls} → Gives o c [] c
+pub data CallsGive (o : OptionsData) : Calls → List PlainEvent → Calls → Type 0 where
+  gives_none : {c : Calls} → CallsGive o c [] c
   gives_next : {c d after : Calls} {e : PlainEvent} {es : List PlainEvent} → next_call o c ≡ (Some (Ok e), after)
-      → Gives o after es d → Gives o c (e ∷ es) d
+      → CallsGive o after es d → CallsGive o c (e ∷ es) d
 
 -- before all calls, where a text begins
 abbrev pub calls_from : Here → Calls
@@ -34,15 +34,15 @@ pub data EarlyOf (o : OptionsData) (s : StepState) : StepState → Type 0 where
 
 -- Calls and recoveries lead there from the start of a text, wherever reads that were refused stopped. Between them
 -- turns may be made early, and the number of the last anchor be set.
-pub data Reached : OptionsData → Calls → Type 0 where
-  reached_start : {o : OptionsData} → (h : Here) → Reached o (calls_from h)
-  reached_call : {o : OptionsData} {c : Calls} → Reached o c → Reached o (next_call o c).1
-  reached_recovery : {o : OptionsData} {c : Calls} → (stops : Stops) (looked : Bool) → Reached o c
-      → Reached o (recover o stops looked c).1
-  reached_early : {o : OptionsData} {c : Calls} {t : StepState} → Reached o c → EarlyOf o c.steps t
-      → Reached o (record c { steps = t })
-  reached_counting : {o : OptionsData} {c : Calls} → (count : ℕ) → Reached o c
-      → Reached o (record c { steps = with_count count c.steps })
+pub data ReachedByCalls : OptionsData → Calls → Type 0 where
+  reached_start : {o : OptionsData} → (h : Here) → ReachedByCalls o (calls_from h)
+  reached_call : {o : OptionsData} {c : Calls} → ReachedByCalls o c → ReachedByCalls o (next_call o c).1
+  reached_recovery : {o : OptionsData} {c : Calls} → (stops : Stops) (looked : Bool) → ReachedByCalls o c
+      → ReachedByCalls o (recover o stops looked c).1
+  reached_early : {o : OptionsData} {c : Calls} {t : StepState} → ReachedByCalls o c → EarlyOf o c.steps t
+      → ReachedByCalls o (record c { steps = t })
+  reached_counting : {o : OptionsData} {c : Calls} → (count : ℕ) → ReachedByCalls o c
+      → ReachedByCalls o (record c { steps = with_count count c.steps })
   -- up to there with handles that stay over documents, or without
-  reached_keeping : {o : OptionsData} {c : Calls} → (keep : Bool) → Reached (record o { keep_tags = keep }) c
-      → Reached o c
+  reached_keeping : {o : OptionsData} {c : Calls} → (keep : Bool) → ReachedByCalls (record o { keep_tags = keep }) c
+      → ReachedByCalls o c

@@ -2,12 +2,12 @@
 ghost use Rattle.std.specs.Prelude.{◌≡◌, ℕ, List};
 ghost use Rattle.granit_lexemes.specs.Here.{Here};
 ghost use Rattle.granit_lexemes.specs.Onward.{Onward};
-ghost use Rattle.granit_recovery.specs.BoundaryPlace.{place_of, IsCounted};
+ghost use Rattle.granit_recovery.specs.BoundaryPlace.{boundary_place, IsCounted};
 ghost use Rattle.granit_restart.specs.Boundary.{next_boundary};
 
 /// It stands at a counted place, with its byte offset, where reading stood at one.
 pub fn the_boundary_is_at_a_counted_place()
-    ensures { (text : List ℕ) (h : Here) → IsCounted text h → IsCounted text (place_of (next_boundary h)) }
+    ensures { (text : List ℕ) (h : Here) → IsCounted text h → IsCounted text (boundary_place (next_boundary h)) }
 {}
 
 /// Wherever reading came to from a counted place, also where a read was refused, is a counted place, and so is the
@@ -15,5 +15,5 @@ pub fn the_boundary_is_at_a_counted_place()
 pub fn the_boundary_behind_a_read_is_at_a_counted_place()
     ensures read { (text : List ℕ) (start at : Here) → Onward start at → IsCounted text start → IsCounted text at }
     ensures boundary { (text : List ℕ) (start at : Here) → Onward start at → IsCounted text start
-        → IsCounted text (place_of (next_boundary at)) }
+        → IsCounted text (boundary_place (next_boundary at)) }
 {}

@@ -8,28 +8,28 @@ ghost use Rattle.granit_restart.specs.Calls.{Calls, next_call};
 ghost use Rattle.granit_recovery.specs.Ids.{Counted, id_of, id_told, IdsFrom, NeverSetBack, counting_from};
 ghost use Rattle.granit_restart.specs.Recovery.{recover, anchor_offset};
 ghost use Rattle.granit_restart.specs.Skipping.{Stops};
-ghost use Rattle.granit_recovery.specs.Streams.{Gives, Reached};
+ghost use Rattle.granit_recovery.specs.Streams.{CallsGive, ReachedByCalls};
 ghost use Rattle.granit_steps.specs.Steps.{StepState, next_event};
 ghost use Rattle.granit_steps.specs.Told.{GivesEvents};
 
 /// The offset, which is the next id, never falls, where it was never set back.
 pub fn the_offset_never_falls()
-    ensures calls { (o : OptionsData) (c : Calls) (r : Reached o c) → NeverSetBack r
+    ensures calls { (o : OptionsData) (c : Calls) (r : ReachedByCalls o c) → NeverSetBack r
         → anchor_offset c ≤ anchor_offset (next_call o c).1 }
-    ensures recoveries { (o : OptionsData) (stops : Stops) (looked : Bool) (c : Calls) (r : Reached o c)
+    ensures recoveries { (o : OptionsData) (stops : Stops) (looked : Bool) (c : Calls) (r : ReachedByCalls o c)
         → NeverSetBack r → anchor_offset c ≤ anchor_offset (recover o stops looked c).1 }
 {}
 
 /// Each id that is given is below the offset behind it, where that was never set back.
 pub fn ids_are_below_the_offset()
-    ensures { (o : OptionsData) (c d : Calls) (e : PlainEvent) (r : Reached o c) → NeverSetBack r
+    ensures { (o : OptionsData) (c d : Calls) (e : PlainEvent) (r : ReachedByCalls o c) → NeverSetBack r
         → next_call o c ≡ (Some (Ok e), d) → id_of e.kind < anchor_offset d }
 {}
 
 /// Behind recovery from a fault ids are greater than all before: no less than the offset was.
 pub fn ids_go_on_behind_a_fault()
     ensures { (o : OptionsData) (stops : Stops) (looked follows : Bool) (c d after : Calls) (f : Fault)
-        (es : List PlainEvent) → c.fault ≡ Some f → recover o stops looked c ≡ (Ok follows, d) → Gives o d es after
+        (es : List PlainEvent) → c.fault ≡ Some f → recover o stops looked c ≡ (Ok follows, d) → CallsGive o d es after
         → IdsFrom (anchor_offset c) es }
 {}
 

@@ -6,8 +6,8 @@ use Rattle.granit_base.specs.declared.place.Span.{Span}
 use Rattle.granit_event.specs.declared.event.Event.{Event}
 use Rattle.granit_receivers.proofs.TakingLemmas.{took_none, took_more}
 use Rattle.granit_receivers.specs.Taking.{Told, Took}
-use Rattle.granit_replay.specs.Replaying.{Replay, behind_first, behind_next, first_of, raised_by, raised_by_all}
-use Rattle.granit_replay.specs.Sending.{GoesOn, StopsAt, behind_sent, ends_with, sent, unsent}
+use Rattle.granit_replay.specs.Replaying.{Replay, behind_next, first_of, raised_by, raised_by_all, replay_behind_first}
+use Rattle.granit_replay.specs.Sending.{SendingGoesOn, StopsSendingAt, behind_sent, ends_with, sent, unsent}
 
 -- ---- lists
 
@@ -17,21 +17,21 @@ all_raised offset [] ys = refl
 all_raised offset (x ∷ xs) ys = all_raised (raised_by offset x) xs ys
 
 -- where the sending goes on behind some events, what is sent of them and more is them, and what is sent of the rest
-sent_more : (multi : Bool) (xs ys : List (Event × Span)) → GoesOn multi xs
+sent_more : (multi : Bool) (xs ys : List (Event × Span)) → SendingGoesOn multi xs
     → sent multi (xs ++ ys) ≡ xs ++ sent multi ys
 sent_more multi [] ys on = refl
 sent_more multi (x ∷ xs) ys on =
     ap (λ es. x ∷ es)
     (ap (λ b. if b then [] else sent multi (xs ++ ys)) on.0 ∙ sent_more multi xs ys on.1)
 
-unsent_more : (multi : Bool) (xs ys : List (Event × Span)) → GoesOn multi xs
+unsent_more : (multi : Bool) (xs ys : List (Event × Span)) → SendingGoesOn multi xs
     → unsent multi (xs ++ ys) ≡ unsent multi ys
 unsent_more multi [] ys on = refl
 unsent_more multi (x ∷ xs) ys on =
     ap (λ b. if b then xs ++ ys else unsent multi (xs ++ ys)) on.0 ∙ unsent_more multi xs ys on.1
 
-goes_further : (multi : Bool) (xs : List (Event × Span)) (e : Event × Span) → GoesOn multi xs
-    → ends_with multi e ≡ false → GoesOn multi (xs ++ e ∷ [])
+goes_further : (multi : Bool) (xs : List (Event × Span)) (e : Event × Span) → SendingGoesOn multi xs
+    → ends_with multi e ≡ false → SendingGoesOn multi (xs ++ e ∷ [])
 goes_further multi [] e on more = (more, tt)
 goes_further multi (x ∷ xs) e on more = (on.0, goes_further multi xs e on.1 more)
 
@@ -39,7 +39,7 @@ goes_further multi (x ∷ xs) e on more = (on.0, goes_further multi xs e on.1 mo
 
 -- where an event is given, it is the first that is left
 taken_first : (offset : ℕ) (es : List (Event × Span)) (after : Replay) (e : Event × Span) → first_of es ≡ Some e
-    → after ≡ behind_first offset es → (es ≡ e ∷ after.events) × (after.anchor_offset ≡ raised_by offset e)
+    → after ≡ replay_behind_first offset es → (es ≡ e ∷ after.events) × (after.anchor_offset ≡ raised_by offset e)
 taken_first offset [] after e first behind = absurd cc
 taken_first offset (x ∷ es) after e first behind =
     let same : x ≡ e = cc in
@@ -48,7 +48,7 @@ taken_first offset (x ∷ es) after e first behind =
 
 -- where none is, none is left, and nothing changes
 none_taken : (offset : ℕ) (es : List (Event × Span)) (after : Replay) → first_of es ≡ None
-    → after ≡ behind_first offset es → (es ≡ []) × (after.events ≡ []) × (after.anchor_offset ≡ offset)
+    → after ≡ replay_behind_first offset es → (es ≡ []) × (after.events ≡ []) × (after.anchor_offset ≡ offset)
 none_taken offset [] after none behind = (refl, ap (λ p. p.events) behind, ap (λ p. p.anchor_offset) behind)
 none_taken offset (x ∷ es) after none behind = absurd cc
 
@@ -57,7 +57,7 @@ none_taken offset (x ∷ es) after none behind = absurd cc
 -- so far these events were sent
 pub record SentFirst (multi : Bool) (initial now : Replay) (old new : Told) : Type 0 where
   pub first : List (Event × Span)
-  pub goes_on : GoesOn multi first
+  pub goes_on : SendingGoesOn multi first
   pub took : Took old new first
   pub events : initial.events ≡ first ++ now.events
   pub offset : now.anchor_offset ≡ raised_by_all initial.anchor_offset first
@@ -138,7 +138,7 @@ module _ (multi : Bool) (initial now : Replay) (old mid : Told) (s : SentFirst m
         λ i. record { events = sym rest i; anchor_offset = offset i }
 
     -- one is that the receiver refuses
-    pub stops : (new : Told) → Took mid new (e ∷ []) → StopsAt multi (Took old new) initial after
+    pub stops : (new : Told) → Took mid new (e ∷ []) → StopsSendingAt multi (Took old new) initial after
     stops new takes = record {
       before = s.first;
       refused = e;

@@ -31,24 +31,24 @@ first_of [] = None
 first_of (e ∷ es) = Some e
 
 -- what is left behind the first event, which raises the number
-abbrev pub behind_first : ℕ → List (Event × Span) → Replay
-behind_first offset [] = record { events = []; anchor_offset = offset }
-behind_first offset (e ∷ es) = record { events = es; anchor_offset = raised_by offset e }
+abbrev pub replay_behind_first : ℕ → List (Event × Span) → Replay
+replay_behind_first offset [] = record { events = []; anchor_offset = offset }
+replay_behind_first offset (e ∷ es) = record { events = es; anchor_offset = raised_by offset e }
 
 -- an event as a parser gives it
-abbrev pub given : Option (Event × Span) → Option (Result (Event × Span) Refused)
-given None = None
-given (Some e) = Some (Ok e)
+abbrev pub given_event : Option (Event × Span) → Option (Result (Event × Span) Refused)
+given_event None = None
+given_event (Some e) = Some (Ok e)
 
 -- what a step gives: the first event that is left, and none where none is
 abbrev pub next_of : Replay → Option (Result (Event × Span) Refused)
-next_of p = given (first_of p.events)
+next_of p = given_event (first_of p.events)
 
 -- what a step leaves
 abbrev pub behind_next : Replay → Replay
-behind_next p = behind_first p.anchor_offset p.events
+behind_next p = replay_behind_first p.anchor_offset p.events
 
 -- a look shows what the next step gives, and changes nothing
-pub record PeeksAs (old : Replay) (r : Option (Result (Event × Span) Refused)) (new : Replay) : Type 0 where
+pub record ReplayPeeksAs (old : Replay) (r : Option (Result (Event × Span) Refused)) (new : Replay) : Type 0 where
   pub shows : r ≡ next_of old
   pub same : new ≡ old

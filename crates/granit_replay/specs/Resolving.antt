@@ -9,8 +9,8 @@ use Rattle.granit_error.specs.Refused.{Refused}
 use Rattle.granit_lexemes.specs.Here.{first_place}
 
 -- a call of a closure with a name of these characters gives this answer, and leaves this
-abbrev pub AnswersName : {F R : Type 0} → Mut F (Global × (Bor (List ℕ) × Unit {0})) R → F → List ℕ → R → F → Type 0
-AnswersName closure f name answer after =
+abbrev pub ClosureAnswers : {F R : Type 0} → Mut F (Global × (Bor (List ℕ) × Unit {0})) R → F → List ℕ → R → F → Type 0
+ClosureAnswers closure f name answer after =
     (alloc : Global) × (given : Bor (List ℕ)) × (chars given.now ≡ name)
     × Called closure f (alloc, (given, tt)) answer after
 

@@ -30,15 +30,15 @@ behind_sent multi p = record {
 }
 
 -- behind each of these events the sending goes on
-abbrev pub GoesOn : (multi : Bool) → List (Event × Span) → Type 0
-GoesOn multi [] = Unit {0}
-GoesOn multi (e ∷ es) = (ends_with multi e ≡ false) × GoesOn multi es
+abbrev pub SendingGoesOn : (multi : Bool) → List (Event × Span) → Type 0
+SendingGoesOn multi [] = Unit {0}
+SendingGoesOn multi (e ∷ es) = (ends_with multi e ≡ false) × SendingGoesOn multi es
 
 -- the receiver took these events, refused this one, and no more were sent
-pub record StopsAt (multi : Bool) (Takes : List (Event × Span) → Type 0) (old new : Replay) : Type 0 where
+pub record StopsSendingAt (multi : Bool) (Takes : List (Event × Span) → Type 0) (old new : Replay) : Type 0 where
   pub before : List (Event × Span)
   pub refused : Event × Span
-  pub goes_on : GoesOn multi before
+  pub goes_on : SendingGoesOn multi before
   pub took : Takes (before ++ refused ∷ [])
   pub events : old.events ≡ (before ++ refused ∷ []) ++ new.events
   pub offset : new.anchor_offset ≡ raised_by_all old.anchor_offset (before ++ refused ∷ [])

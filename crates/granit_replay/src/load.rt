@@ -2,7 +2,7 @@
 ghost use Rattle.std.specs.Prelude.{◌≡◌, Ok, IfOk, IfErr, OnOk, OnErr};
 ghost use Rattle.granit_base.specs.Counts.{Rose};
 ghost use Rattle.granit_receivers.specs.Taking.{Took};
-ghost use Rattle.granit_replay.specs.Sending.{IsReceivers, StopsAt, behind_sent, sent};
+ghost use Rattle.granit_replay.specs.Sending.{IsReceivers, StopsSendingAt, behind_sent, sent};
 
 use crate::replay::ReplayParser;
 use granit_error::ScanError;
@@ -48,7 +48,7 @@ impl<'input> ReplayParser<'input> {
         ensures sent { IfOk result (λ x. Took (record { events = R.taken recv.old; places = R.spans recv.old })
             (record { events = R.taken recv.new; places = R.spans recv.new }) (sent multi self.old.events)) }
         ensures left { IfOk result (λ x. self.new ≡ behind_sent multi self.old) }
-        ensures stopped { OnErr result (StopsAt multi
+        ensures stopped { OnErr result (StopsSendingAt multi
             (Took (record { events = R.taken recv.old; places = R.spans recv.old })
             (record { events = R.taken recv.new; places = R.spans recv.new })) self.old self.new) }
         ensures receiver { IfErr result IsReceivers }

@@ -6,7 +6,7 @@ ghost use Rattle.std.specs.Io.BufRead.{Rests};
 ghost use Rattle.granit_event.specs.Events.{event_kind};
 ghost use Rattle.granit_event.specs.Helpers.{anchor_of};
 ghost use Rattle.granit_receivers.specs.Sending.{shown};
-ghost use Rattle.granit_replay.specs.Replaying.{PeeksAs, behind_next, first_of, next_of, raised_over};
+ghost use Rattle.granit_replay.specs.Replaying.{ReplayPeeksAs, behind_next, first_of, next_of, raised_over};
 ghost use Rattle.granit_replay.specs.contracts.replay.ReplayParser.{the_row};
 
 use granit_base::Span;
@@ -96,7 +96,7 @@ impl<'input> ReplayParser<'input> {
     /// What the next call of `next_event` gives, which gives it all the same.
     pub fn peek(&mut self) -> Option<Result<&(Event<'input>, Span), &ScanError>>
         ensures* { sem 𝓛 (Rests (the_row (record { mir = named 1; lft = [] })) self.entry (λ new.
-            PeeksAs self.old (shown result) new)) }
+            ReplayPeeksAs self.old (shown result) new)) }
     {
         self.look()
     }

@@ -80,11 +80,11 @@ impl<'input, F: FnMut(Global, &str) -> Result<Included<'input>, ScanError>> FnRe
 
 impl<'input, F: FnMut(Global, &str) -> Result<Included<'input>, ScanError>> Resolver<'input>
     for FnResolver<F> {
-    ghost use Rattle.granit_replay.specs.Resolving.{AnswersName};
+    ghost use Rattle.granit_replay.specs.Resolving.{ClosureAnswers};
 
     ghost ready = { λ s. F.IsAlwaysCallable s.closure };
 
-    ghost answers = { λ s name answer t. AnswersName F.FnMut s.closure name answer t.closure };
+    ghost answers = { λ s name answer t. ClosureAnswers F.FnMut s.closure name answer t.closure };
 
     ghost errors = { λ s. s.errors };
 

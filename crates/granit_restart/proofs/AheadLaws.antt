@@ -15,7 +15,7 @@ use Rattle.granit_restart.specs.Header.{is_directives}
 use Rattle.granit_restart.specs.Looking.{behind_waiting, look_ahead, look_behind, look_by, look_in, told_by}
 use Rattle.granit_restart.specs.Looking.{told_event, turn_ahead}
 use Rattle.granit_restart.specs.Skipping.{Ahead, NoEnd, BehindDocument, AtStreamEnd, ahead}
-use Rattle.granit_restart.specs.Skipping.{ahead_by, skip, skip_ahead, skip_in, skip_turn, with_pending}
+use Rattle.granit_restart.specs.Skipping.{ahead_by, skip_by_turns, skip_ahead, skip_in, skip_turn, with_pending}
 use Rattle.granit_steps.proofs.StepLaws.{step_turn-Shortens}
 use Rattle.granit_steps.specs.Steps.{StepState, Turn, first_pending, next_event, settle, step_size, step_turn}
 use Rattle.granit_steps.specs.Told.{GivesEvents, gives_end, gives_fault, gives_event}
@@ -263,7 +263,7 @@ module _ (o : OptionsData) where
 
   -- what waits in front is dropped
   skip_waiting : (s : StepState) (es : List PlainEvent) → ahead es ≡ ahead s.pending
-      → skip o (with_pending es s) ≡ skip o s
+      → skip_by_turns o (with_pending es s) ≡ skip_by_turns o s
   skip_waiting s es e =
       ap (skip_ahead (λ t. skip_turn (skip_in o (step_size s)) t (step_turn o t)) s) e
 
@@ -276,16 +276,16 @@ module _ (o : OptionsData) where
   notes_no_end [] notes = refl
   notes_no_end (e ∷ es) notes = note_no_end e.kind e es (ahead es) notes.0 ∙ notes_no_end es notes.1
 
-  one_skip : (s t : StepState) → OnlyNotes s.pending → OneTurn s t → skip o s ≡ skip o t
+  one_skip : (s t : StepState) → OnlyNotes s.pending → OneTurn s t → skip_by_turns o s ≡ skip_by_turns o t
   one_skip s t notes x =
       let none = notes_no_end s.pending notes in
       let same : ahead (s.pending ++ x.behind.pending) ≡ ahead x.behind.pending =
       ahead_append s.pending x.behind.pending ∙ ap (ahead_with x.behind.pending (ahead x.behind.pending)) none in
       skip_on o s x.behind x.given none x.turn
-      ∙ sym (ap (skip o) x.is ∙ skip_waiting x.behind (s.pending ++ x.behind.pending) same)
+      ∙ sym (ap (skip_by_turns o) x.is ∙ skip_waiting x.behind (s.pending ++ x.behind.pending) same)
 
   -- skipping ends in the same state
-  pub skip_alike : (s t : StepState) → AheadOf o s t → skip o s ≡ skip o t
+  pub skip_alike : (s t : StepState) → AheadOf o s t → skip_by_turns o s ≡ skip_by_turns o t
   skip_alike s t not_ahead = refl
   skip_alike s t (turn_made {t = u} {given = given} p notes e) = skip_alike s u p ∙ one_skip u t notes (one u t given e)
 

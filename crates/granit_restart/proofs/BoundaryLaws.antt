@@ -13,9 +13,9 @@ use Rattle.granit_steps.proofs.Futures.{and_left, and_right}
 use Rattle.granit_restart.specs.Boundary.{Boundary, AtStart, PastEnd, AtTextEnd, is_separated, is_mark_of, past_note}
 use Rattle.granit_restart.specs.Boundary.{finished_line, past_end, mark_here, boundary_here, over_dropped, boundary_or}
 use Rattle.granit_restart.specs.Boundary.{boundary_in, next_boundary}
-use Rattle.granit_restart.specs.NextBoundary.{LineEnds, Finishes, only_blanks, with_comment, Stands, stands_start}
-use Rattle.granit_restart.specs.NextBoundary.{stands_end, stands_text_end, Next, next_here, next_behind}
-use Rattle.granit_restart.specs.NextBoundary.{Between, nothing_between, one_between}
+use Rattle.granit_restart.specs.NextBoundary.{IsLineEnd, Finishes, only_blanks, with_comment, BoundaryStands}
+use Rattle.granit_restart.specs.NextBoundary.{stands_start, stands_end, stands_text_end, NextBoundary, next_here}
+use Rattle.granit_restart.specs.NextBoundary.{next_behind, NoBoundaryBetween, nothing_between, one_between}
 
 -- ---- the line of a `...`
 
@@ -25,7 +25,7 @@ record NoteTo (text : List ℕ) (h k : Here) : Type 0 where
   behind : List ℕ
   spelled : text ≡ note ++ behind
   each : Each is_comment_char note
-  ends : LineEnds behind
+  ends : IsLineEnd behind
   lands : k ≡ steps (length note) h
 
 note_more : (c : ℕ) (cs : List ℕ) (h k : Here) → is_comment_char c ≡ true → NoteTo cs (step h) k → NoteTo (c ∷ cs) h k
@@ -39,7 +39,7 @@ note_more c cs h k e p = record {
   lands = p.lands;
 }
 
-note_ends : (text : List ℕ) (h k : Here) → LineEnds text → Some h ≡ Some k → NoteTo text h k
+note_ends : (text : List ℕ) (h k : Here) → IsLineEnd text → Some h ≡ Some k → NoteTo text h k
 unfolding steps
 note_ends text h k ends e = record {
   note = [];
@@ -67,7 +67,7 @@ record LineTo (text : List ℕ) (h k : Here) : Type 0 where
   behind : List ℕ
   spelled : text ≡ line ++ behind
   finishes : Finishes line
-  ends : LineEnds behind
+  ends : IsLineEnd behind
   lands : k ≡ steps (length line) h
 
 finishes_more : (c : ℕ) {line : List ℕ} → is_blank c ≡ true → Finishes line → Finishes (c ∷ line)
@@ -98,7 +98,7 @@ line_note c cs h k e p =
       lands = p.lands;
     }
 
-line_ends : (text : List ℕ) (h k : Here) → LineEnds text → Some h ≡ Some k → LineTo text h k
+line_ends : (text : List ℕ) (h k : Here) → IsLineEnd text → Some h ≡ Some k → LineTo text h k
 unfolding steps
 line_ends text h k ends e = record {
   line = [];
@@ -137,7 +137,7 @@ no_break_blank : (c : ℕ) → is_blank c ≡ true → is_break c ≡ false
 unfolding is_blank is_break
 no_break_blank c e = grind (arith, nat_tests)
 
-note_read : (note behind : List ℕ) (h : Here) → Each is_comment_char note → LineEnds behind
+note_read : (note behind : List ℕ) (h : Here) → Each is_comment_char note → IsLineEnd behind
     → past_note (note ++ behind) h ≡ Some (steps (length note) h)
 unfolding steps
 note_read [] [] h each ends = refl
@@ -148,7 +148,7 @@ note_read (c ∷ cs) behind h each ends =
     (no_break_noted c each.0) each.0
     ∙ note_read cs behind (step h) each.1 ends
 
-hash_read : (note behind : List ℕ) (h : Here) → Each is_comment_char note → LineEnds behind
+hash_read : (note behind : List ℕ) (h : Here) → Each is_comment_char note → IsLineEnd behind
     → finished_line (0x23 ∷ (note ++ behind)) h ≡ Some (steps (suc (length note)) h)
 unfolding steps is_break is_blank
 hash_read note behind h each ends = note_read note behind (step h) each ends
@@ -162,7 +162,7 @@ blanks_then (c ∷ cs) rest h k each e =
     else if c == 0x23 then past_note (cs ++ rest) (step h) else None) (no_break_blank c each.0) each.0
     ∙ blanks_then cs rest (step h) k each.1 e
 
-ends_read : (behind : List ℕ) (h : Here) → LineEnds behind → finished_line behind h ≡ Some h
+ends_read : (behind : List ℕ) (h : Here) → IsLineEnd behind → finished_line behind h ≡ Some h
 ends_read [] h ends = refl
 ends_read (c ∷ cs) h ends =
     ap (λ a. if a then Some h else if is_blank c then finished_line cs (step h)
@@ -173,7 +173,7 @@ unfolding steps
 steps_more [] ys h = refl
 steps_more (x ∷ xs) ys h = steps_more xs ys (step h)
 
-line_read : {line : List ℕ} → Finishes line → (behind : List ℕ) (h : Here) → LineEnds behind
+line_read : {line : List ℕ} → Finishes line → (behind : List ℕ) (h : Here) → IsLineEnd behind
     → finished_line (line ++ behind) h ≡ Some (steps (length line) h)
 line_read (only_blanks {blanks = bs} p) behind h ends =
     blanks_then bs behind h (steps (length bs) h) p (ends_read behind (steps (length bs) h) ends)
@@ -216,12 +216,12 @@ is_marked sign behind e = ap₂ (λ a b. (a && (a && a)) && b) (same sign) e
 
 end_found : (behind : List ℕ) (h : Here) (b : Boundary) (r : Option Here) → h.place.column ≡ 0
     → h.unread.text ≡ 0x2E ∷ 0x2E ∷ 0x2E ∷ behind → is_separated behind ≡ true
-    → ((k : Here) → r ≡ Some k → LineTo behind (steps 3 h) k) → past_end r ≡ Some b → Stands h b
+    → ((k : Here) → r ≡ Some k → LineTo behind (steps 3 h) k) → past_end r ≡ Some b → BoundaryStands h b
 end_found behind h b None column text separated line e = absurd (cc)
 end_found behind h b (Some k) column text separated line e =
     let l = line k refl in
     let is : PastEnd k ≡ b = cc in
-    subst (Stands h) (ap (λ k. PastEnd k) (sym l.lands) ∙ is)
+    subst (BoundaryStands h) (ap (λ k. PastEnd k) (sym l.lands) ∙ is)
     (stands_end l.line l.behind column
     (text ∙ ap (λ (t : List ℕ). 0x2E ∷ 0x2E ∷ 0x2E ∷ t) l.spelled)
     (ap is_separated (sym l.spelled) ∙ separated) l.finishes l.ends)
@@ -229,11 +229,11 @@ end_found behind h b (Some k) column text separated line e =
 mark_found : (a d : Bool) (text : List ℕ) (h : Here) (b : Boundary) → h.unread.text ≡ text → h.place.column ≡ 0
     → is_mark_of 0x2D text ≡ a → is_mark_of 0x2E text ≡ d
     → (if a then Some (AtStart h) else if d then past_end (finished_line (drop 3 text) (steps 3 h)) else None) ≡ Some b
-    → Stands h b
+    → BoundaryStands h b
 mark_found true d text h b is column a-is d-is e =
     let m = marked 0x2D text a-is in
     let same : AtStart h ≡ b = cc in
-    subst (Stands h) same (stands_start m.behind column (is ∙ m.spelled) m.separated)
+    subst (BoundaryStands h) same (stands_start m.behind column (is ∙ m.spelled) m.separated)
 mark_found false true text h b is column a-is d-is e =
     let m = marked 0x2E text d-is in
     let f : drop 3 text ≡ m.behind = ap (λ (t : List ℕ). drop 3 t) m.spelled in
@@ -242,19 +242,19 @@ mark_found false true text h b is column a-is d-is e =
 mark_found false false text h b is column a-is d-is e = absurd (cc)
 
 here_by : (a : Bool) (text : List ℕ) (h : Here) (b : Boundary) → h.unread.text ≡ text → (h.place.column == 0) ≡ a
-    → (if a then mark_here text h else None) ≡ Some b → Stands h b
+    → (if a then mark_here text h else None) ≡ Some b → BoundaryStands h b
 here_by true text h b is column e =
     mark_found (is_mark_of 0x2D text) (is_mark_of 0x2E text) text h b is (equal h.place.column 0 column) refl refl e
 here_by false text h b is column e = absurd (cc)
 
 -- what is found here stands here
 found_stands : (text : List ℕ) (h : Here) (b : Boundary) → h.unread.text ≡ text → boundary_here text h ≡ Some b
-    → Stands h b
-found_stands [] h b is e = let same : AtTextEnd h ≡ b = cc in subst (Stands h) same (stands_text_end is)
+    → BoundaryStands h b
+found_stands [] h b is e = let same : AtTextEnd h ≡ b = cc in subst (BoundaryStands h) same (stands_text_end is)
 found_stands (c ∷ cs) h b is e = here_by (h.place.column == 0) (c ∷ cs) h b is refl e
 
 -- what stands here is found here
-stands_found : (h : Here) (b : Boundary) → Stands h b → boundary_here h.unread.text h ≡ Some b
+stands_found : (h : Here) (b : Boundary) → BoundaryStands h b → boundary_here h.unread.text h ≡ Some b
 stands_found h b (stands_start behind column text separated) =
     ap (λ (t : List ℕ). boundary_here t h) text
     ∙ ap (λ a. if a then mark_here (0x2D ∷ 0x2D ∷ 0x2D ∷ behind) h else None) (ap (λ n. n == 0) column)
@@ -281,19 +281,19 @@ dropped_text c cs h e = dropped_if (h.place.column == 0 && is_bom (next_char h))
     (ap (λ (t : List ℕ). drop 1 t) e ∙ refl) (step_text h ∙ ap (λ (t : List ℕ). drop 1 t) e ∙ refl)
 
 next_by : (text : List ℕ) (h : Here) (r : Option Boundary) (later : Boundary) → boundary_here text h ≡ r
-    → h.unread.text ≡ text → Next (over_dropped h) later → Next h (boundary_or r later)
+    → h.unread.text ≡ text → NextBoundary (over_dropped h) later → NextBoundary h (boundary_or r later)
 next_by text h (Some b) later found is more = next_here (found_stands text h b is found)
 next_by text h None later found is more = next_behind (λ other p. absurd
     (let e : boundary_here text h ≡ Some other = ap (λ (t : List ℕ). boundary_here t h) (sym is)
     ∙ stands_found h other p in cc)) more
 
-next_in : (text : List ℕ) (h : Here) → h.unread.text ≡ text → Next h (boundary_in text h)
+next_in : (text : List ℕ) (h : Here) → h.unread.text ≡ text → NextBoundary h (boundary_in text h)
 next_in [] h is = next_here (stands_text_end is)
 next_in (c ∷ cs) h is = next_by (c ∷ cs) h (boundary_here (c ∷ cs) h) (boundary_in cs (over_dropped h)) refl is
     (next_in cs (over_dropped h) (dropped_text c cs h is))
 
 -- the boundary that is found is the next one
-pub finds_next : (h : Here) → Next h (next_boundary h)
+pub finds_next : (h : Here) → NextBoundary h (next_boundary h)
 unfolding next_boundary
 finds_next h = next_in h.unread.text h refl
 
@@ -302,7 +302,7 @@ in_here [] h b e = cc
 in_here (c ∷ cs) h b e = ap (λ r. boundary_or r (boundary_in cs (over_dropped h))) e
 
 in_behind : (text : List ℕ) (h : Here) (r : Option Boundary) (b : Boundary) → h.unread.text ≡ text
-    → boundary_here text h ≡ r → ((other : Boundary) → Stands h other → ⊥)
+    → boundary_here text h ≡ r → ((other : Boundary) → BoundaryStands h other → ⊥)
     → boundary_in (over_dropped h).unread.text (over_dropped h) ≡ b → boundary_in text h ≡ b
 in_behind text h (Some x) b is found none more = absurd (none x (found_stands text h x is found))
 in_behind [] h None b is found none more = absurd (cc)
@@ -310,24 +310,24 @@ in_behind (c ∷ cs) h None b is found none more =
     ap (λ r. boundary_or r (boundary_in cs (over_dropped h))) found
     ∙ ap (λ (t : List ℕ). boundary_in t (over_dropped h)) (sym (dropped_text c cs h is)) ∙ more
 
-next_found : (h : Here) (b : Boundary) → Next h b → boundary_in h.unread.text h ≡ b
+next_found : (h : Here) (b : Boundary) → NextBoundary h b → boundary_in h.unread.text h ≡ b
 next_found h b (next_here p) = in_here h.unread.text h b (stands_found h b p)
 next_found h b (next_behind none more) = in_behind h.unread.text h (boundary_here h.unread.text h) b refl refl none
     (next_found (over_dropped h) b more)
 
 -- no other one is next
-pub only_next : (h : Here) (b : Boundary) → Next h b → next_boundary h ≡ b
+pub only_next : (h : Here) (b : Boundary) → NextBoundary h b → next_boundary h ≡ b
 unfolding next_boundary
 only_next h b p = next_found h b p
 
 -- ---- from further on
 
-between_next : (h k : Here) (b : Boundary) → Between h k → Next k b → Next h b
+between_next : (h k : Here) (b : Boundary) → NoBoundaryBetween h k → NextBoundary k b → NextBoundary h b
 between_next h k b nothing_between p = p
 between_next h k b (one_between none plain more) p =
-    next_behind none (subst (λ g. Next g b) (sym (ap (λ c. if c then past_prefix_mark h else step h) plain))
+    next_behind none (subst (λ g. NextBoundary g b) (sym (ap (λ c. if c then past_prefix_mark h else step h) plain))
     (between_next (step h) k b more p))
 
 -- where nothing stands between, the same boundary is next
-pub same_behind : (h k : Here) → Between h k → next_boundary h ≡ next_boundary k
+pub same_behind : (h k : Here) → NoBoundaryBetween h k → next_boundary h ≡ next_boundary k
 same_behind h k p = only_next h (next_boundary k) (between_next h k (next_boundary k) p (finds_next k))

@@ -21,7 +21,7 @@ use Rattle.granit_machine.specs.Reader.{behind_read, lex_turn, read}
 use Rattle.granit_machine.specs.ReaderState.{Read, ReaderState}
 use Rattle.granit_restart.proofs.MarkReads.{any_marks, Clears, is_mark, IsClear, marks, none_possible, read_clears}
 use Rattle.granit_restart.specs.Boundary.{Boundary, AtStart, PastEnd, AtTextEnd, next_boundary}
-use Rattle.granit_restart.specs.Following.{item_of, past_lexeme}
+use Rattle.granit_restart.specs.Following.{item_without_flag, past_lexeme}
 use Rattle.granit_restart.specs.Restart.{anew, at_boundary, at_found, at_lexeme, behind_fault_at, boundary_of}
 use Rattle.granit_restart.specs.Restart.{is_boundary, laid_anew, lexeme_or, read_boundary}
 use Rattle.granit_restart.specs.Turned.{Turned, turned_start, turned_on, turned_with, turned_anew}
@@ -35,7 +35,7 @@ use Rattle.granit_steps.specs.Steps.{read_unless, step_turn, Turn, turn_by, unfl
 -- ---- items of a queue
 
 abbrev pub items : List FlaggedItem → List Item
-items q = map item_of q
+items q = map item_without_flag q
 
 marked_items : (i : Item) (q : List FlaggedItem)
     → items (map (marked_by i) q ++ unflagged i ∷ []) ≡ items q ++ i ∷ []

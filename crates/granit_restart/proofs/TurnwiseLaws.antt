@@ -5,8 +5,8 @@ use Rattle.granit_error.specs.OptionsData.{OptionsData}
 use Rattle.granit_lexemes.specs.Outcome.{Fault}
 use Rattle.granit_lexemes.specs.PlainEvent.{PlainEvent}
 use Rattle.granit_restart.specs.Calls.{failing, failing_by, failing_in}
-use Rattle.granit_restart.specs.Skipping.{Ahead, NoEnd, BehindDocument, AtStreamEnd, SkipEnd, Ended, ahead, skip}
-use Rattle.granit_restart.specs.Skipping.{skip_ahead, skip_fault, skip_in, skip_turn, with_pending}
+use Rattle.granit_restart.specs.Skipping.{Ahead, NoEnd, BehindDocument, AtStreamEnd, SkipEnd, Ended, ahead}
+use Rattle.granit_restart.specs.Skipping.{skip_by_turns, skip_ahead, skip_fault, skip_in, skip_turn, with_pending}
 use Rattle.granit_steps.proofs.StepLaws.{step_turn-Shortens}
 use Rattle.granit_steps.specs.Steps.{StepState, Turn, step_size, step_turn}
 
@@ -41,34 +41,35 @@ module _ (o : OptionsData) where
 
   -- ---- one turn of skipping
 
-  skip_by : (s : StepState) (r : Ahead) → ahead s.pending ≡ r → skip o s ≡ skip_ahead (then_in (step_size s)) s r
+  skip_by : (s : StepState) (r : Ahead) → ahead s.pending ≡ r
+      → skip_by_turns o s ≡ skip_ahead (then_in (step_size s)) s r
   skip_by s r e = ap (skip_ahead (then_in (step_size s)) s) e
 
   turn_by : (s : StepState) (r : Turn) → ahead s.pending ≡ NoEnd → step_turn o (with_pending [] s) ≡ r
-      → skip o s ≡ skip_turn (skip_in o (step_size s)) (with_pending [] s) r
+      → skip_by_turns o s ≡ skip_turn (skip_in o (step_size s)) (with_pending [] s) r
   turn_by s r none e = skip_by s NoEnd none ∙ ap (skip_turn (skip_in o (step_size s)) (with_pending [] s)) e
 
   pub skip_on : (s after : StepState) (es : List PlainEvent) → ahead s.pending ≡ NoEnd
-      → step_turn o (with_pending [] s) ≡ Ok (Some es, after) → skip o s ≡ skip o after
+      → step_turn o (with_pending [] s) ≡ Ok (Some es, after) → skip_by_turns o s ≡ skip_by_turns o after
   skip_on s after es none e =
       let less : step_size after < step_size s = step_turn-Shortens o (with_pending [] s) after es e in
       turn_by s (Ok (Some es, after)) none e
       ∙ enough (step_size s) (suc (step_size after)) after less (omega arith)
 
   pub skip_done : (s after : StepState) → ahead s.pending ≡ NoEnd
-      → step_turn o (with_pending [] s) ≡ Ok (None, after) → skip o s ≡ Ended (with_pending [] s)
+      → step_turn o (with_pending [] s) ≡ Ok (None, after) → skip_by_turns o s ≡ Ended (with_pending [] s)
   skip_done s after none e = turn_by s (Ok (None, after)) none e
 
   pub skip_fails : (s : StepState) (f : Fault) → ahead s.pending ≡ NoEnd → step_turn o (with_pending [] s) ≡ Err f
-      → skip o s ≡ skip_fault (with_pending [] s) f
+      → skip_by_turns o s ≡ skip_fault (with_pending [] s) f
   skip_fails s f none e = turn_by s (Err f) none e
 
   pub skip_document : (s : StepState) (es : List PlainEvent) → ahead s.pending ≡ BehindDocument es
-      → skip o s ≡ Ended (with_pending es s)
+      → skip_by_turns o s ≡ Ended (with_pending es s)
   skip_document s es e = skip_by s (BehindDocument es) e
 
   pub skip_stream : (s : StepState) (es : List PlainEvent) → ahead s.pending ≡ AtStreamEnd es
-      → skip o s ≡ Ended (with_pending es s)
+      → skip_by_turns o s ≡ Ended (with_pending es s)
   skip_stream s es e = skip_by s (AtStreamEnd es) e
 
   -- ---- the turn that fails

@@ -44,15 +44,15 @@ failing o s = failing_in o (suc (step_size s)) s
 
 -- ---- one call
 
-abbrev pub Given : Type 0
-Given = Option (Result PlainEvent Fault)
+abbrev pub GivenByCall : Type 0
+GivenByCall = Option (Result PlainEvent Fault)
 
-abbrev pub given_by : OptionsData → Calls → Result (Option PlainEvent × StepState) Fault → Given × Calls
+abbrev pub given_by : OptionsData → Calls → Result (Option PlainEvent × StepState) Fault → GivenByCall × Calls
 given_by o c (Ok (Some e, after)) = (Some (Ok e), noted e.kind (record c { steps = after }))
 given_by o c (Ok (None, after)) = (None, c)
 given_by o c (Err f) = (Some (Err f), record c { steps = failing o c.steps; fault = Some f })
 
 -- the next event, and nothing behind the end of the stream, a fault or a refusal of recovery
-unfoldable pub next_call : OptionsData → Calls → Given × Calls
+unfoldable pub next_call : OptionsData → Calls → GivenByCall × Calls
 next_call o c =
     if (c.over || is_some c.fault) || is_some c.refusal then (None, c) else given_by o c (next_event o c.steps)

@@ -58,12 +58,12 @@ abbrev pub past_reading : OptionsData → LexState → Option Fault → ℕ → 
 past_reading o s None room = past_reads o (suc (suc (text_len s.reader.here))) s room
 past_reading o s (Some f) room = Ok true
 
-abbrev pub item_of : FlaggedItem → Item
-item_of i = i.item
+abbrev pub item_without_flag : FlaggedItem → Item
+item_without_flag i = i.item
 
 -- whether anything but comments, `...` and the end comes next, where so many comments may be kept
 unfoldable pub document_follows : OptionsData → ℕ → StepState → Result Bool Fault
 document_follows o room s =
     past_events room s.pending (λ left.
     if is_directives s.parser.stage then Ok true
-    else past_items left (map item_of s.queue) (λ rest. past_reading o s.reading s.reading.fault rest))
+    else past_items left (map item_without_flag s.queue) (λ rest. past_reading o s.reading s.reading.fault rest))

@@ -24,14 +24,14 @@ abbrev pub is_fresh : DocumentStage → Bool
 is_fresh Fresh = true
 is_fresh stage = false
 
-abbrev pub directive_behind : Bool → Item → Bool
-directive_behind before (OfLexeme l) = is_directive l.kind
-directive_behind before (OfComment c) = before
+abbrev pub last_is_directive : Bool → Item → Bool
+last_is_directive before (OfLexeme l) = is_directive l.kind
+last_is_directive before (OfComment c) = before
 
 -- whether the last lexeme is a directive
 abbrev pub ends_in_directive : Bool → List FlaggedItem → Bool
 ends_in_directive before [] = before
-ends_in_directive before (i ∷ is) = ends_in_directive (directive_behind before i.item) is
+ends_in_directive before (i ∷ is) = ends_in_directive (last_is_directive before i.item) is
 
 abbrev pub directive_sort : Bool → LexemeSort → Bool
 directive_sort before TextEnd = before
@@ -47,22 +47,22 @@ directive_there before h (Err f) = before
 directive_there before h (Ok l) = directive_sort before (sort_at (is_in_flow l) false h)
 
 -- the same with a read that failed: a directive, or what stands in a gap behind one
-abbrev pub directive_read : OptionsData → Bool → GapRead → Bool
-directive_read o before (Err f) = before
-directive_read o before (Ok (Some c, s)) = before
-directive_read o before (Ok (None, s)) = directive_there before s.here (without_stale o (mark_of s.here) s.laid)
+abbrev pub gap_in_directive : OptionsData → Bool → GapRead → Bool
+gap_in_directive o before (Err f) = before
+gap_in_directive o before (Ok (Some c, s)) = before
+gap_in_directive o before (Ok (None, s)) = directive_there before s.here (without_stale o (mark_of s.here) s.laid)
 
 -- whether the parser takes the oldest item, so that a fault is its own
-abbrev pub front_goes : StepState → List FlaggedItem → Bool
-front_goes s [] = false
-front_goes s (i ∷ is) = may_go s.reading i is
+abbrev pub parser_takes : StepState → List FlaggedItem → Bool
+parser_takes s [] = false
+parser_takes s (i ∷ is) = may_go s.reading i is
 
 abbrev pub takes_front : StepState → Bool
-takes_front s = front_goes s s.queue
+takes_front s = parser_takes s s.queue
 
 abbrev pub front_is_directive : List FlaggedItem → Bool
 front_is_directive [] = false
-front_is_directive (i ∷ is) = directive_behind false i.item
+front_is_directive (i ∷ is) = last_is_directive false i.item
 
 abbrev pub is_start_expected : Fault → Bool
 is_start_expected f = fault_number f.kind == fault_number ExpectedDocumentStart
@@ -71,7 +71,7 @@ is_start_expected f = fault_number f.kind == fault_number ExpectedDocumentStart
 abbrev pub reads_directives : OptionsData → StepState → Bool
 reads_directives o s =
     let before = ends_in_directive (is_directives s.parser.stage) s.queue in
-    if takes_front s then before else directive_read o before (gap o s.reading.reader.here s.reading.reader.laid)
+    if takes_front s then before else gap_in_directive o before (gap o s.reading.reader.here s.reading.reader.laid)
 
 -- whether no document is open where the parser or the reader failed
 abbrev pub fails_outside : StepState → Fault → Bool

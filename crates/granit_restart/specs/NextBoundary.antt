@@ -8,9 +8,9 @@ use Rattle.granit_lexemes.specs.Moves.{steps}
 use Rattle.granit_restart.specs.Boundary.{Boundary, AtStart, PastEnd, AtTextEnd, is_separated, over_dropped}
 
 -- a line ends here: a break or the end of the text follows
-abbrev pub LineEnds : List ℕ → Type 0
-LineEnds [] = Unit {0}
-LineEnds (c ∷ cs) = is_break c ≡ true
+abbrev pub IsLineEnd : List ℕ → Type 0
+IsLineEnd [] = Unit {0}
+IsLineEnd (c ∷ cs) = is_break c ≡ true
 
 -- what may finish the line of a `...`: blanks, and a comment behind them
 pub data Finishes : List ℕ → Type 0 where
@@ -19,23 +19,24 @@ pub data Finishes : List ℕ → Type 0 where
       → Finishes (blanks ++ 0x23 ∷ note)
 
 -- a boundary stands here
-pub data Stands : Here → Boundary → Type 0 where
+pub data BoundaryStands : Here → Boundary → Type 0 where
   stands_start : {h : Here} → (behind : List ℕ) → h.place.column ≡ 0 → h.unread.text ≡ 0x2D ∷ 0x2D ∷ 0x2D ∷ behind
-      → is_separated behind ≡ true → Stands h (AtStart h)
+      → is_separated behind ≡ true → BoundaryStands h (AtStart h)
   stands_end : {h : Here} → (line behind : List ℕ) → h.place.column ≡ 0
       → h.unread.text ≡ 0x2E ∷ 0x2E ∷ 0x2E ∷ (line ++ behind) → is_separated (line ++ behind) ≡ true → Finishes line
-      → LineEnds behind → Stands h (PastEnd (steps (length line) (steps 3 h)))
-  stands_text_end : {h : Here} → h.unread.text ≡ [] → Stands h (AtTextEnd h)
+      → IsLineEnd behind → BoundaryStands h (PastEnd (steps (length line) (steps 3 h)))
+  stands_text_end : {h : Here} → h.unread.text ≡ [] → BoundaryStands h (AtTextEnd h)
 
 -- the next boundary from a place on is the first that stands there or behind what is dropped
-pub data Next : Here → Boundary → Type 0 where
-  next_here : {h : Here} {b : Boundary} → Stands h b → Next h b
-  next_behind : {h : Here} {b : Boundary} → ((other : Boundary) → Stands h other → ⊥) → Next (over_dropped h) b
-      → Next h b
+pub data NextBoundary : Here → Boundary → Type 0 where
+  next_here : {h : Here} {b : Boundary} → BoundaryStands h b → NextBoundary h b
+  next_behind : {h : Here} {b : Boundary} → ((other : Boundary) → BoundaryStands h other → ⊥)
+      → NextBoundary (over_dropped h) b
+      → NextBoundary h b
 
 -- from a place to one further on, character by character: no boundary stands on the way, and no byte-order mark that
 -- counts a column stands in column 0
-pub data Between : Here → Here → Type 0 where
-  nothing_between : {h : Here} → Between h h
-  one_between : {h k : Here} → ((other : Boundary) → Stands h other → ⊥)
-      → (h.place.column == 0 && is_bom (next_char h)) ≡ false → Between (step h) k → Between h k
+pub data NoBoundaryBetween : Here → Here → Type 0 where
+  nothing_between : {h : Here} → NoBoundaryBetween h h
+  one_between : {h k : Here} → ((other : Boundary) → BoundaryStands h other → ⊥)
+      → (h.place.column == 0 && is_bom (next_char h)) ≡ false → NoBoundaryBetween (step h) k → NoBoundaryBetween h k

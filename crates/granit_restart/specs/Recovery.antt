@@ -4,7 +4,7 @@ use Rattle.std.specs.Prelude.{ℕ, suc, ◌+◌, Bool, true, false, if◌then◌
 use Rattle.granit_error.specs.OptionsData.{OptionsData}
 use Rattle.granit_lexemes.specs.Outcome.{Fault}
 use Rattle.granit_lexemes.specs.PlainEvent.{EventKind, DocumentStart, Comment}
-use Rattle.granit_restart.specs.Calls.{Calls, Given, next_call}
+use Rattle.granit_restart.specs.Calls.{Calls, GivenByCall, next_call}
 use Rattle.granit_restart.specs.Following.{document_follows}
 use Rattle.granit_restart.specs.Skipping.{Stops, skipped_document, skipped_fault}
 use Rattle.granit_steps.specs.Steps.{StepState}
@@ -27,30 +27,30 @@ abbrev pub starts_by : EventKind → Calls → Calls
 starts_by (DocumentStart explicit version) c = record c { between = false }
 starts_by kind c = c
 
-abbrev pub comment_of : EventKind → ℕ
-comment_of (Comment text placement) = 1
-comment_of kind = 0
+abbrev pub comment_count : EventKind → ℕ
+comment_count (Comment text placement) = 1
+comment_count kind = 0
 
-abbrev pub looked_by : Calls → Given × Calls → Calls
+abbrev pub looked_by : Calls → GivenByCall × Calls → Calls
 looked_by c (Some (Ok e), after) = starts_by e.kind c
 looked_by c (Some (Err f), after) = after
 looked_by c (None, after) = c
 
 -- a comment that was looked at is not counted
-abbrev pub comment_looked_at : Given → ℕ
-comment_looked_at (Some (Ok e)) = comment_of e.kind
+abbrev pub comment_looked_at : GivenByCall → ℕ
+comment_looked_at (Some (Ok e)) = comment_count e.kind
 comment_looked_at given = 0
 
-abbrev pub answered : Result Bool Fault → Calls → Result Bool Fault × Calls
-answered (Ok true) c = (Ok true, c)
-answered (Ok false) c = (Ok false, record c { between = true })
-answered (Err f) c = (Err f, record c { refusal = Some f })
+abbrev pub recovery_answer : Result Bool Fault → Calls → Result Bool Fault × Calls
+recovery_answer (Ok true) c = (Ok true, c)
+recovery_answer (Ok false) c = (Ok false, record c { between = true })
+recovery_answer (Err f) c = (Err f, record c { refusal = Some f })
 
 abbrev pub recovered : OptionsData → ℕ → Calls → Result Bool Fault × Calls
-recovered o extra c = answered (document_follows o (o.max_buffered_comment_events + extra) c.steps) c
+recovered o extra c = recovery_answer (document_follows o (o.max_buffered_comment_events + extra) c.steps) c
 
 -- how many comments that were looked at are kept: none behind a fault, or where something was dropped
-abbrev pub extra_of : Calls → Given → ℕ
+abbrev pub extra_of : Calls → GivenByCall → ℕ
 extra_of c given = if c.between then comment_looked_at given else 0
 
 abbrev pub recover_with : OptionsData → Stops → (looked : Bool) → Option Fault → Calls → Result Bool Fault × Calls

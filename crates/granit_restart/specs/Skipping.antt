@@ -23,14 +23,14 @@ abbrev pub ahead : List PlainEvent → Ahead
 ahead [] = NoEnd
 ahead (e ∷ es) = ahead_by e.kind e es (ahead es)
 
-abbrev pub is_within : DocumentStage → Bool
-is_within Inside = true
-is_within BehindRoot = true
-is_within stage = false
+abbrev pub is_within_document : DocumentStage → Bool
+is_within_document Inside = true
+is_within_document BehindRoot = true
+is_within_document stage = false
 
 -- whether the open document came to its end before the fault, which is the next document's
 abbrev pub ends_before : StepState → Fault → Bool
-ends_before s f = (takes_front s && is_start_expected f) && is_within s.parser.stage
+ends_before s f = (takes_front s && is_start_expected f) && is_within_document s.parser.stage
 
 -- where what is dropped ends, or the fault by which the rest is lost, with the state before the turn that failed
 pub data SkipEnd : Type 0 where
@@ -61,8 +61,8 @@ skip_in o zero s = Ended s
 skip_in o (suc n) s = skip_ahead (λ t. skip_turn (skip_in o n) t (step_turn o t)) s (ahead s.pending)
 
 -- each turn leaves less, so these are enough
-abbrev pub skip : OptionsData → StepState → SkipEnd
-skip o s = skip_in o (suc (step_size s)) s
+abbrev pub skip_by_turns : OptionsData → StepState → SkipEnd
+skip_by_turns o s = skip_in o (suc (step_size s)) s
 
 -- where the reads stopped that were refused: the one behind which a document is dropped, and one among what is dropped
 -- behind its directives
@@ -76,7 +76,7 @@ restarted stop (Failed f s) = (behind_fault stop s).1
 
 -- behind a fault among directives whose `---` is the next boundary, their document is dropped too
 abbrev pub skip_header : OptionsData → (stop : Here) → (in_header : Bool) → Bool × StepState → StepState
-skip_header o stop in_header x = if in_header && x.0 then restarted stop (skip o x.1) else x.1
+skip_header o stop in_header x = if in_header && x.0 then restarted stop (skip_by_turns o x.1) else x.1
 
 abbrev pub skipped_fault : OptionsData → Stops → Fault → StepState → StepState
 skipped_fault o stops f s = skip_header o stops.second (is_in_header o s f) (behind_fault stops.first s)
@@ -87,4 +87,4 @@ skipped_to o stops (Failed f s) = skipped_fault o stops f s
 
 -- a document, or what is left of the open one
 abbrev pub skipped_document : OptionsData → Stops → StepState → StepState
-skipped_document o stops s = skipped_to o stops (skip o s)
+skipped_document o stops s = skipped_to o stops (skip_by_turns o s)

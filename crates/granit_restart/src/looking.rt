@@ -8,7 +8,7 @@ ghost use Rattle.granit_restart.specs.Calls.{failing};
 ghost use Rattle.granit_restart.specs.Following.{document_follows};
 ghost use Rattle.granit_restart.specs.Header.{is_directives};
 ghost use Rattle.granit_restart.specs.Looking.{Look, Outside, look_ahead, look_by, told_by, turn_ahead};
-ghost use Rattle.granit_restart.specs.Skipping.{skip, with_pending};
+ghost use Rattle.granit_restart.specs.Skipping.{skip_by_turns, with_pending};
 ghost use Rattle.granit_restart.specs.Turned.{Turned};
 ghost use Rattle.granit_steps.specs.Steps.{next_event, StepState};
 ghost use Rattle.granit_steps.specs.Told.{GivesEvents};
@@ -33,7 +33,7 @@ pub fn a_look_changes_no_event()
 
 /// From a state that is some turns ahead a document is skipped to the same state, and the same turn fails.
 pub fn skipping_ends_alike_ahead()
-    ensures skip { (o : OptionsData) (s t : StepState) → AheadOf o s t → skip o s ≡ skip o t }
+    ensures skip { (o : OptionsData) (s t : StepState) → AheadOf o s t → skip_by_turns o s ≡ skip_by_turns o t }
     ensures fault { (o : OptionsData) (s t : StepState) (f : Fault) → AheadOf o s t → next_event o s ≡ Err f
         → failing o s ≡ failing o t }
 {}

@@ -5,26 +5,28 @@ ghost use Rattle.granit_lexemes.specs.Outcome.{Fault};
 ghost use Rattle.granit_lexemes.specs.PlainEvent.{PlainEvent};
 ghost use Rattle.granit_restart.specs.Calls.{failing};
 ghost use Rattle.granit_restart.specs.Skipping as spec;
-ghost use Rattle.granit_restart.specs.Skipping.{skip};
+ghost use Rattle.granit_restart.specs.Skipping.{skip_by_turns};
 ghost use Rattle.granit_steps.specs.Steps.{StepState, step_turn};
 
 /// Where no end of a document waits, skipping drops what waits, makes a turn, and goes on behind it; it ends where no
 /// turn is left to make, and where one fails.
 pub fn skipping_goes_turn_by_turn()
     ensures on { (o : OptionsData) (s after : StepState) (es : List PlainEvent) → spec.ahead s.pending ≡ spec.NoEnd
-        → step_turn o (spec.with_pending [] s) ≡ Ok (Some es, after) → skip o s ≡ skip o after }
+        → step_turn o (spec.with_pending [] s) ≡ Ok (Some es, after) → skip_by_turns o s ≡ skip_by_turns o after }
     ensures done { (o : OptionsData) (s after : StepState) → spec.ahead s.pending ≡ spec.NoEnd
-        → step_turn o (spec.with_pending [] s) ≡ Ok (None, after) → skip o s ≡ spec.Ended (spec.with_pending [] s) }
+        → step_turn o (spec.with_pending [] s) ≡ Ok (None, after)
+        → skip_by_turns o s ≡ spec.Ended (spec.with_pending [] s) }
     ensures fault { (o : OptionsData) (s : StepState) (f : Fault) → spec.ahead s.pending ≡ spec.NoEnd
-        → step_turn o (spec.with_pending [] s) ≡ Err f → skip o s ≡ spec.skip_fault (spec.with_pending [] s) f }
+        → step_turn o (spec.with_pending [] s) ≡ Err f
+        → skip_by_turns o s ≡ spec.skip_fault (spec.with_pending [] s) f }
 {}
 
 /// Skipping ends behind the end of a document that waits, and at the end of the stream, which stays.
 pub fn skipping_ends_where_an_end_waits()
     ensures document { (o : OptionsData) (s : StepState) (es : List PlainEvent)
-        → spec.ahead s.pending ≡ spec.BehindDocument es → skip o s ≡ spec.Ended (spec.with_pending es s) }
+        → spec.ahead s.pending ≡ spec.BehindDocument es → skip_by_turns o s ≡ spec.Ended (spec.with_pending es s) }
     ensures stream { (o : OptionsData) (s : StepState) (es : List PlainEvent)
-        → spec.ahead s.pending ≡ spec.AtStreamEnd es → skip o s ≡ spec.Ended (spec.with_pending es s) }
+        → spec.ahead s.pending ≡ spec.AtStreamEnd es → skip_by_turns o s ≡ spec.Ended (spec.with_pending es s) }
 {}
 
 /// The state before the turn that fails is found turn by turn.

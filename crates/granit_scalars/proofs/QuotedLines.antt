@@ -31,40 +31,40 @@ use Rattle.granit_scalars.proofs.Folding.{blank_apart_from_break}
 use Rattle.granit_scalars.proofs.PlainReads.{neither_gap}
 use Rattle.granit_scalars.proofs.QuotedFolding.{swap, literal_gap}
 use Rattle.granit_scalars.proofs.QuotedRuns.{no_break_behind, quote_no_gap, backslash_no_gap}
-use Rattle.granit_scalars.specs.QuotedLines.{Item, Blank, Shown, Joins, Break, escape_by, escape_of, number_by}
+use Rattle.granit_scalars.specs.QuotedLines.{QuotedItem, Blank, Shown, Joins, Break, escape_by, escape_of, number_by}
 use Rattle.granit_scalars.specs.QuotedLines.{front_by, front, items}
 use Rattle.granit_scalars.specs.QuotedLines.{in_first_line, item_lines, before_kept, drop_end}
-use Rattle.granit_scalars.specs.QuotedLines.{trimmed_behind, trimmed, decoded_lines}
+use Rattle.granit_scalars.specs.QuotedLines.{trimmed_behind, lines_trimmed, decoded_lines}
 use Rattle.granit_scalars.specs.QuotedLines.{line_text, joins_next, fold_lines_behind, fold_lines}
 
 -- ---- lines of items
 
 -- content, what it shows, and whether it escapes the break behind it
-abbrev IsContent : Item → Type 0
+abbrev IsContent : QuotedItem → Type 0
 IsContent (Shown c) = Unit {0}
 IsContent Joins = Unit {0}
 IsContent (Blank b) = ⊥
 IsContent Break = ⊥
 
-abbrev shows : Item → List ℕ
+abbrev shows : QuotedItem → List ℕ
 shows (Shown c) = c ∷ []
 shows (Blank b) = []
 shows Joins = []
 shows Break = []
 
-abbrev joined_by : Item → Bool
+abbrev joined_by : QuotedItem → Bool
 joined_by Joins = true
 joined_by (Shown c) = false
 joined_by (Blank b) = false
 joined_by Break = false
 
 -- no items are without lines
-record SomeLines (is : List Item) : Type 0 where
-  line : List Item
-  more : List (List Item)
+record SomeLines (is : List QuotedItem) : Type 0 where
+  line : List QuotedItem
+  more : List (List QuotedItem)
   are : item_lines is ≡ line ∷ more
 
-some_lines : (is : List Item) → SomeLines is
+some_lines : (is : List QuotedItem) → SomeLines is
 some_lines [] = record { line = []; more = []; are = refl }
 some_lines (Break ∷ is) = record { line = []; more = item_lines is; are = refl }
 some_lines (Blank b ∷ is) = let l = some_lines is in record {
@@ -84,30 +84,31 @@ some_lines (Joins ∷ is) = let l = some_lines is in record {
 }
 
 -- what items give behind content, or behind a backslash that escapes the break that they begin with
-abbrev begins : Bool → List Item → List Item
+abbrev begins : Bool → List QuotedItem → List QuotedItem
 begins true is = Joins ∷ is
 begins false is = is
 
-abbrev fold_of : List (List Item) → List ℕ
-fold_of ls = fold_lines (trimmed ls)
+abbrev fold_of : List (List QuotedItem) → List ℕ
+fold_of ls = fold_lines (lines_trimmed ls)
 
-abbrev begun : Bool → List Item → List ℕ
+abbrev begun : Bool → List QuotedItem → List ℕ
 begun escaped is = fold_of (item_lines (begins escaped is))
 
 -- what they give behind a break and so many empty lines
-abbrev behind_of : Bool → ℕ → List (List Item) → List ℕ
+abbrev behind_of : Bool → ℕ → List (List QuotedItem) → List ℕ
 behind_of escaped k ls = fold_lines_behind escaped k (trimmed_behind ls)
 
-abbrev after : Bool → ℕ → List Item → List ℕ
+abbrev after : Bool → ℕ → List QuotedItem → List ℕ
 after escaped k is = behind_of escaped k (item_lines is)
 
 -- ---- content
 
-shown_first : (c : ℕ) (l : List Item) (ls : List (List Item)) → fold_of ((Shown c ∷ l) ∷ ls) ≡ c ∷ fold_of (l ∷ ls)
+shown_first : (c : ℕ) (l : List QuotedItem) (ls : List (List QuotedItem))
+    → fold_of ((Shown c ∷ l) ∷ ls) ≡ c ∷ fold_of (l ∷ ls)
 shown_first c l [] = refl
 shown_first c l (next ∷ more) = refl
 
-content_first : (i : Item) (rest : List Item) → IsContent i
+content_first : (i : QuotedItem) (rest : List QuotedItem) → IsContent i
     → begun false (i ∷ rest) ≡ shows i ++ begun (joined_by i) rest
 content_first (Shown c) rest y =
     let l = some_lines rest in
@@ -117,19 +118,19 @@ content_first Joins rest y = refl
 content_first (Blank b) rest y = elim y [ ]
 content_first Break rest y = elim y [ ]
 
-shown_behind : (escaped : Bool) (k c : ℕ) (l : List Item) (ls : List (List Item))
+shown_behind : (escaped : Bool) (k c : ℕ) (l : List QuotedItem) (ls : List (List QuotedItem))
     → behind_of escaped k ((Shown c ∷ l) ∷ ls) ≡ lines_text escaped k ++ (c ∷ fold_of (l ∷ ls))
 shown_behind escaped k c l [] = ap (λ (t : List ℕ). lines_text escaped k ++ (c ∷ t)) (sym (append-nil (line_text l)))
 shown_behind escaped k c l (next ∷ []) = refl
 shown_behind escaped k c l (next ∷ other ∷ more) = refl
 
-joins_behind : (escaped : Bool) (k : ℕ) (l : List Item) (ls : List (List Item))
+joins_behind : (escaped : Bool) (k : ℕ) (l : List QuotedItem) (ls : List (List QuotedItem))
     → behind_of escaped k ((Joins ∷ l) ∷ ls) ≡ lines_text escaped k ++ fold_of ((Joins ∷ l) ∷ ls)
 joins_behind escaped k l [] = ap (λ (t : List ℕ). lines_text escaped k ++ t) (sym (append-nil (line_text l)))
 joins_behind escaped k l (next ∷ []) = refl
 joins_behind escaped k l (next ∷ other ∷ more) = refl
 
-content_behind : (escaped : Bool) (k : ℕ) (i : Item) (rest : List Item) → IsContent i
+content_behind : (escaped : Bool) (k : ℕ) (i : QuotedItem) (rest : List QuotedItem) → IsContent i
     → after escaped k (i ∷ rest) ≡ lines_text escaped k ++ (shows i ++ begun (joined_by i) rest)
 content_behind escaped k (Shown c) rest y =
     let l = some_lines rest in
@@ -144,35 +145,36 @@ content_behind escaped k Break rest y = elim y [ ]
 
 -- ---- blanks and breaks
 
-abbrev blank_items : List ℕ → List Item
+abbrev blank_items : List ℕ → List QuotedItem
 blank_items bs = map Blank bs
 
-blank_line_behind : (escaped : Bool) (k b : ℕ) (l : List Item) (ls : List (List Item))
+blank_line_behind : (escaped : Bool) (k b : ℕ) (l : List QuotedItem) (ls : List (List QuotedItem))
     → behind_of escaped k ((Blank b ∷ l) ∷ ls) ≡ behind_of escaped k (l ∷ ls)
 blank_line_behind escaped k b l [] = refl
 blank_line_behind escaped k b l (next ∷ more) = refl
 
 -- a blank that begins a line goes
-blank_behind : (escaped : Bool) (k b : ℕ) (is : List Item) → after escaped k (Blank b ∷ is) ≡ after escaped k is
+blank_behind : (escaped : Bool) (k b : ℕ) (is : List QuotedItem) → after escaped k (Blank b ∷ is) ≡ after escaped k is
 blank_behind escaped k b is =
     let l = some_lines is in
     ap (λ ls. behind_of escaped k (in_first_line (Blank b) ls)) l.are ∙ blank_line_behind escaped k b l.line l.more
     ∙ ap (behind_of escaped k) (sym l.are)
 
-empty_line_behind : (escaped : Bool) (k : ℕ) (l : List Item) (ls : List (List Item))
+empty_line_behind : (escaped : Bool) (k : ℕ) (l : List QuotedItem) (ls : List (List QuotedItem))
     → behind_of escaped k ([] ∷ l ∷ ls) ≡ behind_of escaped (suc k) (l ∷ ls)
 empty_line_behind escaped k l [] = refl
 empty_line_behind escaped k l (next ∷ more) = refl
 
 -- a further break gives an empty line
-break_behind : (escaped : Bool) (k : ℕ) (is : List Item) → after escaped k (Break ∷ is) ≡ after escaped (suc k) is
+break_behind : (escaped : Bool) (k : ℕ) (is : List QuotedItem) → after escaped k (Break ∷ is) ≡ after escaped (suc k) is
 break_behind escaped k is =
     let l = some_lines is in
     ap (λ ls. behind_of escaped k ([] ∷ ls)) l.are ∙ empty_line_behind escaped k l.line l.more
     ∙ ap (behind_of escaped (suc k)) (sym l.are)
 
 -- blanks in the first line
-blanks_first : (bs : List ℕ) (is : List Item) (l : List Item) (ls : List (List Item)) → item_lines is ≡ l ∷ ls
+blanks_first : (bs : List ℕ) (is : List QuotedItem) (l : List QuotedItem) (ls : List (List QuotedItem))
+    → item_lines is ≡ l ∷ ls
     → item_lines (blank_items bs ++ is) ≡ (blank_items bs ++ l) ∷ ls
 blanks_first [] is l ls e = e
 blanks_first (b ∷ bs) is l ls e = ap (in_first_line (Blank b)) (blanks_first bs is l ls e)
@@ -181,37 +183,37 @@ blanks_end : (bs : List ℕ) → drop_end (blank_items bs) ≡ []
 blanks_end [] = refl
 blanks_end (b ∷ bs) = ap (before_kept b) (blanks_end bs)
 
-nothing_more : (bs : List Item) → bs ++ [] ≡ bs
+nothing_more : (bs : List QuotedItem) → bs ++ [] ≡ bs
 nothing_more bs = append-nil bs
 
 -- the blanks before the first break go
-first_break : (bs : List ℕ) (is : List Item) → begun false (blank_items bs ++ Break ∷ is) ≡ after false 0 is
+first_break : (bs : List ℕ) (is : List QuotedItem) → begun false (blank_items bs ++ Break ∷ is) ≡ after false 0 is
 first_break bs is =
     let l = some_lines is in
     ap fold_of (blanks_first bs (Break ∷ is) [] (item_lines is) refl
-    ∙ ap₂ (λ (t : List Item) ls. t ∷ ls) (nothing_more (blank_items bs)) l.are)
-    ∙ ap (λ (t : List Item). line_text t ++ fold_lines_behind (joins_next t) 0 (trimmed_behind (l.line ∷ l.more)))
+    ∙ ap₂ (λ (t : List QuotedItem) ls. t ∷ ls) (nothing_more (blank_items bs)) l.are)
+    ∙ ap (λ (t : List QuotedItem). line_text t ++ fold_lines_behind (joins_next t) 0 (trimmed_behind (l.line ∷ l.more)))
     (blanks_end bs)
     ∙ ap (behind_of false 0) (sym l.are)
 
-escaped_break : (is : List Item) → begun true (Break ∷ is) ≡ after true 0 is
+escaped_break : (is : List QuotedItem) → begun true (Break ∷ is) ≡ after true 0 is
 escaped_break is =
     let l = some_lines is in
     ap (λ ls. fold_of ((Joins ∷ []) ∷ ls)) l.are ∙ ap (behind_of true 0) (sym l.are)
 
 -- blanks before content stay
-record Kept (line : List Item) : Type 0 where
-  head : Item
-  tail : List Item
+record Kept (line : List QuotedItem) : Type 0 where
+  head : QuotedItem
+  tail : List QuotedItem
   are : drop_end line ≡ head ∷ tail
 
-content_kept : (i : Item) (l : List Item) → IsContent i → Kept (i ∷ l)
+content_kept : (i : QuotedItem) (l : List QuotedItem) → IsContent i → Kept (i ∷ l)
 content_kept (Shown c) l y = record { head = Shown c; tail = drop_end l; are = refl }
 content_kept Joins l y = record { head = Joins; tail = drop_end l; are = refl }
 content_kept (Blank b) l y = elim y [ ]
 content_kept Break l y = elim y [ ]
 
-blanks_kept : (bs : List ℕ) (i : Item) (l : List Item) → IsContent i → Kept (blank_items bs ++ i ∷ l)
+blanks_kept : (bs : List ℕ) (i : QuotedItem) (l : List QuotedItem) → IsContent i → Kept (blank_items bs ++ i ∷ l)
 blanks_kept [] i l y = content_kept i l y
 blanks_kept (b ∷ bs) i l y = let k = blanks_kept bs i l y in record {
   head = Blank b;
@@ -219,28 +221,30 @@ blanks_kept (b ∷ bs) i l y = let k = blanks_kept bs i l y in record {
   are = ap (before_kept b) k.are;
 }
 
-blank_first : (b : ℕ) (l : List Item) (ls : List (List Item)) → Kept l
+blank_first : (b : ℕ) (l : List QuotedItem) (ls : List (List QuotedItem)) → Kept l
     → fold_of ((Blank b ∷ l) ∷ ls) ≡ b ∷ fold_of (l ∷ ls)
 blank_first b l [] k = refl
 blank_first b l (next ∷ more) k =
-    let fold_with : List Item → List ℕ = λ t. line_text t ++ fold_lines_behind (joins_next t) 0
+    let fold_with : List QuotedItem → List ℕ = λ t. line_text t ++ fold_lines_behind (joins_next t) 0
     (trimmed_behind (next ∷ more)) in
-    ap (λ (t : List Item). fold_with (before_kept b t)) k.are ∙ ap (λ (t : List Item). b ∷ fold_with t) (sym k.are)
+    ap (λ (t : List QuotedItem). fold_with (before_kept b t)) k.are
+    ∙ ap (λ (t : List QuotedItem). b ∷ fold_with t) (sym k.are)
 
-blanks_before : (bs : List ℕ) (i : Item) (l : List Item) (ls : List (List Item)) → IsContent i
+blanks_before : (bs : List ℕ) (i : QuotedItem) (l : List QuotedItem) (ls : List (List QuotedItem)) → IsContent i
     → fold_of ((blank_items bs ++ i ∷ l) ∷ ls) ≡ bs ++ fold_of ((i ∷ l) ∷ ls)
 blanks_before [] i l ls y = refl
 blanks_before (b ∷ bs) i l ls y = blank_first b (blank_items bs ++ i ∷ l) ls (blanks_kept bs i l y)
     ∙ ap (λ (t : List ℕ). b ∷ t) (blanks_before bs i l ls y)
 
-content_line : (i : Item) (rest : List Item) (l : List Item) (ls : List (List Item)) → IsContent i
+content_line : (i : QuotedItem) (rest : List QuotedItem) (l : List QuotedItem)
+    (ls : List (List QuotedItem)) → IsContent i
     → item_lines rest ≡ l ∷ ls → item_lines (i ∷ rest) ≡ (i ∷ l) ∷ ls
 content_line (Shown c) rest l ls y e = ap (in_first_line (Shown c)) e
 content_line Joins rest l ls y e = ap (in_first_line Joins) e
 content_line (Blank b) rest l ls y e = elim y [ ]
 content_line Break rest l ls y e = elim y [ ]
 
-blanks_content : (bs : List ℕ) (i : Item) (rest : List Item) → IsContent i
+blanks_content : (bs : List ℕ) (i : QuotedItem) (rest : List QuotedItem) → IsContent i
     → begun false (blank_items bs ++ i ∷ rest) ≡ bs ++ (shows i ++ begun (joined_by i) rest)
 blanks_content bs i rest y =
     let l = some_lines rest in
@@ -254,15 +258,15 @@ blanks_alone (b ∷ bs) = ap (λ (t : List ℕ). b ∷ t) (blanks_alone bs)
 
 only_blanks : (bs : List ℕ) → begun false (blank_items bs) ≡ bs
 only_blanks bs =
-    ap (λ (is : List Item). begun false is) (sym (nothing_more (blank_items bs)))
-    ∙ ap fold_of (blanks_first bs [] [] [] refl ∙ ap (λ (t : List Item). t ∷ []) (nothing_more (blank_items bs)))
+    ap (λ (is : List QuotedItem). begun false is) (sym (nothing_more (blank_items bs)))
+    ∙ ap fold_of (blanks_first bs [] [] [] refl ∙ ap (λ (t : List QuotedItem). t ∷ []) (nothing_more (blank_items bs)))
     ∙ append-nil (line_text (blank_items bs)) ∙ blanks_alone bs
 
 -- ---- items of a source
 
-by_front : (single : Bool) (c : ℕ) (cs : List ℕ) (f : List Item × ℕ) → front single c cs ≡ f
+by_front : (single : Bool) (c : ℕ) (cs : List ℕ) (f : List QuotedItem × ℕ) → front single c cs ≡ f
     → items single 0 (c ∷ cs) ≡ f.0 ++ items single f.1 cs
-by_front single c cs f e = ap (λ (g : List Item × ℕ). g.0 ++ items single g.1 cs) e
+by_front single c cs f e = ap (λ (g : List QuotedItem × ℕ). g.0 ++ items single g.1 cs) e
 
 skips : (single : Bool) (ds t : List ℕ) → items single (length ds) (ds ++ t) ≡ items single 0 t
 skips single [] t = refl
@@ -279,7 +283,7 @@ blanks_are : (single : Bool) (bs t : List ℕ) → Each is_blank bs
     → items single 0 (bs ++ t) ≡ blank_items bs ++ items single 0 t
 blanks_are single [] t y = refl
 blanks_are single (b ∷ bs) t y = one_blank single b (bs ++ t) y.0
-    ∙ ap (λ (is : List Item). Blank b ∷ is) (blanks_are single bs t y.1)
+    ∙ ap (λ (is : List QuotedItem). Blank b ∷ is) (blanks_are single bs t y.1)
 
 one_break : (single : Bool) {brk behind : List ℕ} → OneBreak brk behind
     → items single 0 (brk ++ behind) ≡ Break ∷ items single 0 behind
@@ -391,7 +395,8 @@ escape_items (letter {l = l} {c = c} y) t =
 escape_items (number {l = l} {count = count} {digits = digits} y a s) t =
     one_escape (l ∷ (digits ++ t)) (number_of digits) (suc count) (no_break_behind (number y a s) t).0
     (numbered l count digits t y a s)
-    ∙ ap (λ (is : List Item). Shown (number_of digits) ∷ is) (ap (λ n. items false n (digits ++ t)) (sym a.counted)
+    ∙ ap (λ (is : List QuotedItem). Shown (number_of digits) ∷ is)
+    (ap (λ n. items false n (digits ++ t)) (sym a.counted)
     ∙ skips false digits t)
 escape_items (halves {high = high} {low = low} a p b q) t =
     let both = high ++ 0x5C ∷ 0x75 ∷ low in
@@ -400,11 +405,11 @@ escape_items (halves {high = high} {low = low} a p b q) t =
     let c = joined (number_of high) (number_of low) in
     one_escape (0x75 ∷ (both ++ t)) c 11 (no_break_behind (halves a p b q) t).0 (ap
     (λ (s : List ℕ). escape_of (0x75 ∷ s)) there ∙ paired high low t a p b)
-    ∙ ap (λ (is : List Item). Shown c ∷ is) (ap (λ n. items false n (both ++ t)) ten ∙ skips false both t)
+    ∙ ap (λ (is : List QuotedItem). Shown c ∷ is) (ap (λ n. items false n (both ++ t)) ten ∙ skips false both t)
 
 -- a piece is one item
 record PieceItem (single : Bool) (piece t taken : List ℕ) (escapes : Bool) : Type 0 where
-  item : Item
+  item : QuotedItem
   is_content : IsContent item
   read : items single 0 (piece ++ t) ≡ item ∷ items single 0 t
   value : taken ≡ shows item
@@ -461,7 +466,7 @@ no_blanks : (blanks r : List ℕ) → Each is_blank blanks → is_break (first r
 no_blanks [] r y n b = true≢false (sym b ∙ n)
 no_blanks (c ∷ cs) r y n b = true≢false (sym b ∙ blank_apart_from_break c y.0)
 
-begins_break : (escaped : Bool) (blanks r : List ℕ) (is : List Item) → Each is_blank blanks → (escaped ≡ true
+begins_break : (escaped : Bool) (blanks r : List ℕ) (is : List QuotedItem) → Each is_blank blanks → (escaped ≡ true
     → is_break (first (blanks ++ r)) ≡ true) → begun escaped (blank_items blanks ++ Break ∷ is) ≡ after escaped 0 is
 begins_break false blanks r is y f = first_break blanks is
 begins_break true [] r is y f = escaped_break is
@@ -478,7 +483,7 @@ lines_before {behind = behind} (folded {text = text} {empty = empty} blanks brk 
     let e : 0 + empty ≡ empty = omega arith in
     ap (λ (t : List ℕ). begun escaped (items single 0 t)) there
     ∙ ap (begun escaped) (blanks_are single blanks r each
-    ∙ ap (λ (is : List Item). blank_items blanks ++ is) (one_break single one))
+    ∙ ap (λ (is : List QuotedItem). blank_items blanks ++ is) (one_break single one))
     ∙ begins_break escaped blanks r (items single 0 (text ++ behind)) each (λ y. subst
     (λ (t : List ℕ). is_break (first t) ≡ true) there (f y))
     ∙ further_line more single escaped 0 ∙ ap (λ n. after escaped n (items single 0 behind)) e
@@ -488,7 +493,7 @@ blanks_of : {at : LayoutData} {gap behind blanks : List ℕ} → Separates at ga
 blanks_of (on_line each) = (refl, each)
 
 gap_then : {at : LayoutData} {gap behind : List ℕ} (x : Between) → Separates at gap behind x
-    → (single escaped : Bool) (i : Item) (rest : List Item) → items single 0 behind ≡ i ∷ rest → IsContent i
+    → (single escaped : Bool) (i : QuotedItem) (rest : List QuotedItem) → items single 0 behind ≡ i ∷ rest → IsContent i
     → is_break (first behind) ≡ false → (escaped ≡ true → is_break (first (gap ++ behind)) ≡ true)
     → begun escaped (items single 0 (gap ++ behind))
     ≡ between_text escaped x ++ (shows i ++ begun (joined_by i) rest)
@@ -498,7 +503,7 @@ gap_then {behind = behind} (Blanks blanks) p single true i rest e y n f =
 gap_then {behind = behind} (Blanks blanks) p single false i rest e y n f =
     let b = blanks_of p in
     ap (λ (t : List ℕ). begun false (items single 0 (t ++ behind))) b.0
-    ∙ ap (begun false) (blanks_are single blanks behind b.1 ∙ ap (λ (is : List Item). blank_items blanks ++ is) e)
+    ∙ ap (begun false) (blanks_are single blanks behind b.1 ∙ ap (λ (is : List QuotedItem). blank_items blanks ++ is) e)
     ∙ blanks_content blanks i rest y
 gap_then (Lines empty column) p single escaped i rest e y n f =
     lines_before p single escaped f ∙ ap (after escaped empty) e ∙ content_behind escaped empty i rest y
@@ -577,7 +582,8 @@ lines_fold single at h source value gap left x rest p =
 
 -- ---- without a break
 
-front_alone : (is_one ends twice slash joins : Bool) (c : ℕ) (cs : List ℕ) (is : List Item) → item_lines is ≡ is ∷ []
+front_alone : (is_one ends twice slash joins : Bool) (c : ℕ) (cs : List ℕ) (is : List QuotedItem)
+    → item_lines is ≡ is ∷ []
     → item_lines ((front_by is_one false ends twice slash joins c cs).0 ++ is)
     ≡ ((front_by is_one false ends twice slash joins c cs).0 ++ is) ∷ []
 front_alone true ends twice slash joins c cs is e = ap (in_first_line (Blank c)) e
@@ -596,10 +602,10 @@ one_line single zero (c ∷ cs) y =
     ap (λ b. front_by (is_blank c) b (ends_line (c ∷ cs)) (single && c == 0x27) (not single && c == 0x5C) (is_break
     (first cs)) c cs) (not-true (is_break c) y.0) in
     let rest = one_line single (front single c cs).1 cs y.1 in
-    ap (λ (f : List Item × ℕ). item_lines (f.0 ++ items single (front single c cs).1 cs)) unbroken
+    ap (λ (f : List QuotedItem × ℕ). item_lines (f.0 ++ items single (front single c cs).1 cs)) unbroken
     ∙ front_alone (is_blank c) (ends_line (c ∷ cs)) (single && c == 0x27) (not single && c == 0x5C) (is_break
     (first cs)) c cs (items single (front single c cs).1 cs) rest
-    ∙ ap (λ (f : List Item × ℕ). (f.0 ++ items single (front single c cs).1 cs) ∷ []) (sym unbroken)
+    ∙ ap (λ (f : List QuotedItem × ℕ). (f.0 ++ items single (front single c cs).1 cs) ∷ []) (sym unbroken)
 
 -- a quoted scalar on one line is what stands between its quotes, decoded
 pub line_alone : (single : Bool) (at : LayoutData) (h : Here) (source value gap : List ℕ) (left : Bool)

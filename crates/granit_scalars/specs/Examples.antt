@@ -25,14 +25,14 @@ layout block_column in_flow strict = record {
 }
 
 -- at the root, and in a block in column 0, and both in flow
-abbrev pub root : LayoutData
-root = layout None false false
+abbrev pub plain_at_root : LayoutData
+plain_at_root = layout None false false
 
-abbrev pub root_flow : LayoutData
-root_flow = layout None true false
+abbrev pub plain_at_root_flow : LayoutData
+plain_at_root_flow = layout None true false
 
-abbrev pub in_block : LayoutData
-in_block = layout (Some 0) false false
+abbrev pub plain_in_block : LayoutData
+plain_in_block = layout (Some 0) false false
 
 abbrev pub block_flow : LayoutData
 block_flow = layout (Some 0) true false
@@ -62,7 +62,7 @@ abbrev pub FailsPlain : LayoutData → ℕ → (text message place : String) →
 FailsPlain at index text message place = plain_line at (codes text) index ≡ codes message ++ codes place
 
 -- where reading stands, the index of the `#` that cut the scalar short, and whether a break was read
-pub record Behind : Type 0 where
+pub record PlainBehind : Type 0 where
   pub place : Place
   pub cut : Option ℕ
   pub on_new_line : Bool
@@ -71,17 +71,17 @@ abbrev pub index_of : Option Mark → Option ℕ
 index_of None = None
 index_of (Some m) = Some m.place.index
 
-abbrev pub rest_behind : ℕ → ℕ → ℕ → Option ℕ → Bool → Option Behind
+abbrev pub rest_behind : ℕ → ℕ → ℕ → Option ℕ → Bool → Option PlainBehind
 rest_behind index line column cut on_new_line = Some (record {
   place = record { index = index; line = line; column = column };
   cut = cut;
   on_new_line = on_new_line;
 })
 
-abbrev pub rest_of : Result (PlainRead × Here) Fault → Option Behind
+abbrev pub rest_of : Result (PlainRead × Here) Fault → Option PlainBehind
 rest_of (Ok (read, after)) =
     Some (record { place = after.place; cut = index_of read.cut_by_comment; on_new_line = read.on_new_line })
 rest_of (Err f) = None
 
-abbrev pub behind_line : LayoutData → List ℕ → ℕ → Option Behind
+abbrev pub behind_line : LayoutData → List ℕ → ℕ → Option PlainBehind
 behind_line at text index = rest_of (plain_in at text index)

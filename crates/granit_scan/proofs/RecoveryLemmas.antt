@@ -21,8 +21,8 @@ use Rattle.granit_machine.specs.Reader.{LexState}
 use Rattle.granit_restart.specs.Restart.{behind_fault_at, cursor_at, read_boundary}
 use Rattle.granit_scan.specs.Following.{Writing, writing_start}
 use Rattle.granit_scan.specs.Marks.{handed, mark_in, mark_items, proceeded, unwritten}
-use Rattle.granit_scan.specs.Recovering.{CameBy, Proceeds, RefusedIn, RefusesIn, Rests, RestsIn}
-use Rattle.granit_scan.specs.Scanning.{Scanning, StandsIn, first_tokens, revived}
+use Rattle.granit_scan.specs.Recovering.{CameBy, Rests, RestsIn, ScannerProceeds, ScannerRefusedIn, ScannerRefusesIn}
+use Rattle.granit_scan.specs.Scanning.{ScannerIn, TokenScanning, first_tokens, revived}
 use Rattle.granit_scan.specs.TokenSteps.{TokenState}
 use Rattle.granit_scan.specs.TokenViews.{PlainToken, plain_token}
 use Rattle.granit_scan.proofs.SourceLemmas.{failed}
@@ -53,7 +53,7 @@ front_is (Some x) l is = ap mark_items is
 
 -- ---- where the cursor stands
 
-module _ {I : Type 0} (unread : I → Unread → Type 0) (s : Scanning I) (m : TokenState) where
+module _ {I : Type 0} (unread : I → Unread → Type 0) (s : TokenScanning I) (m : TokenState) where
   stops_by : (f : Option Refused) → CameBy unread f m.reading.reader.here s.items.cursor → s.items.cursor.lost ≡ false
       → (stop : Here) × Onward m.reading.reader.here stop × Stands unread s.items.cursor stop
       × ((if is_some f then stop else m.reading.reader.here) ≡ stop)
@@ -84,13 +84,13 @@ module _ {I : Type 0} (unread : I → Unread → Type 0) (s : Scanning I) (m : T
         (front_is front (mark_in tokens) same_mark))
 
     -- behind the items' recovery
-    pub proceeds : (starts : Bool) (after : Scanning I)
+    pub proceeds : (starts : Bool) (after : TokenScanning I)
         → ((n : StepState) (h : Here) → Stands unread s.items.cursor h
         → s.items.laid.number ≡ n.reading.reader.laid.number
         → read_boundary h n.queue ≡ read_boundary h (front_items front ++ s.items.queue)
         → Restarts unread (behind_fault_at h n) after.items starts)
         → after.writer ≡ writing_start
-        → Proceeds unread s.items.cursor (option_map plain_token t) m (revived after)
+        → ScannerProceeds unread s.items.cursor (option_map plain_token t) m (revived after)
     unfolding proceeded tokens
     proceeds starts after restarts anew =
         let at = stops_by m.reading.fault rests.came found in
@@ -111,9 +111,10 @@ module _ {I : Type 0} (unread : I → Unread → Type 0) (s : Scanning I) (m : T
 -- what doesn't move the scanner leaves it there
 module _ {I : Type 0} (unread : I → Unread → Type 0) (cursor : Reading I) (t : Option PlainToken) (m : TokenState)
   where
-    stands_still : (mid new : Scanning I)
+    stands_still : (mid new : TokenScanning I)
         → ((l : LexState) (q : List FlaggedItem) → Known unread mid.items l q → Known unread new.items l q)
-        → new.writer ≡ mid.writer → Proceeds unread cursor t m (revived mid) → Proceeds unread cursor t m (revived new)
+        → new.writer ≡ mid.writer → ScannerProceeds unread cursor t m (revived mid)
+        → ScannerProceeds unread cursor t m (revived new)
     stands_still mid new known same at = (
       at.0,
       at.1,
@@ -126,15 +127,16 @@ module _ {I : Type 0} (unread : I → Unread → Type 0) (cursor : Reading I) (t
       },
     )
 
-    pub proceeds_still : {U : Type 0} (r : Result U Refused) (mid new : Scanning I)
+    pub proceeds_still : {U : Type 0} (r : Result U Refused) (mid new : TokenScanning I)
         → ((l : LexState) (q : List FlaggedItem) → Known unread mid.items l q → Known unread new.items l q)
-        → new.writer ≡ mid.writer → IfOk r (λ x. Proceeds unread cursor t m (revived mid))
-        → IfOk r (λ x. Proceeds unread cursor t m (revived new))
+        → new.writer ≡ mid.writer → IfOk r (λ x. ScannerProceeds unread cursor t m (revived mid))
+        → IfOk r (λ x. ScannerProceeds unread cursor t m (revived new))
     proceeds_still (Ok u) mid new known same at = stands_still mid new known same at
     proceeds_still (Err e) mid new known same at = at
 
 -- of a scanner that goes on all is known that recovery asks for
-module _ {I : Type 0} (unread : I → Unread → Type 0) (s : Scanning I) (m : TokenState) (at : StandsIn unread s m) where
+module _ {I : Type 0} (unread : I → Unread → Type 0) (s : TokenScanning I) (m : TokenState)
+    (at : ScannerIn unread s m) where
   rests_by : (f : Option Refused) → KnownBy unread f s.items m.reading m.queue → Rests unread s m
   rests_by None k = record {
     came = subst (λ (x : Option Refused). CameBy unread x m.reading.reader.here s.items.cursor) (sym k.2) k.0.0;
@@ -159,7 +161,7 @@ came_on : {I : Type 0} (unread : I → Unread → Type 0) (old new : Reading I) 
 came_on unread old new None h goes onward came = goes h came
 came_on unread old new (Some f) h goes onward came = onward h came
 
-module _ {I : Type 0} (unread : I → Unread → Type 0) (s t : Scanning I) (m : TokenState) where
+module _ {I : Type 0} (unread : I → Unread → Type 0) (s t : TokenScanning I) (m : TokenState) where
   -- what is asked about is left alone, and the cursor stands where it stood
   pub rests_on : GoesTo unread s.items.cursor t.items.cursor (λ x. x)
       → GoesOnward unread s.items.cursor t.items.cursor → t.items.laid ≡ s.items.laid → t.items.queue ≡ s.items.queue
@@ -180,21 +182,22 @@ module _ {I : Type 0} (unread : I → Unread → Type 0) (s t : Scanning I) (m :
       (λ h came. subst (λ (r : Reading I). CameOn unread h r) (sym cursor) came) laid queue first writer
 
 -- want of memory
-pub memory_rests : {I X : Type 0} (unread : I → Unread → Type 0) (r : Result X Refused) (s : Scanning I)
+pub memory_rests : {I X : Type 0} (unread : I → Unread → Type 0) (r : Result X Refused) (s : TokenScanning I)
     (m : TokenState) → IfErr r (λ e. e.kind ≡ NoMemory) → RestsIn unread r s m
 memory_rests unread (Ok x) s m memory = tt
 memory_rests unread (Err e) s m memory = λ no. absurd (no memory)
 
 -- a refusal stays where it was
-module _ {I : Type 0} (unread : I → Unread → Type 0) (o : OptionsData) (s t : Scanning I) (m : TokenState)
+module _ {I : Type 0} (unread : I → Unread → Type 0) (o : OptionsData) (s t : TokenScanning I) (m : TokenState)
     (on : (n : TokenState) → Rests unread s n → Rests unread t n) where
-  stays : (e : Refused) → RefusedIn unread o s m e → RefusedIn unread o t m e
+  stays : (e : Refused) → ScannerRefusedIn unread o s m e → ScannerRefusedIn unread o t m e
   stays e r = record { at = r.at; turns = r.turns; fails = r.fails; rests = on r.at r.rests }
 
-  pub refused_stays : (X Y : Type 0) (e : Refused) → RefusesIn unread o (failed X e) s m
-      → RefusesIn unread o (failed Y e) t m
+  pub refused_stays : (X Y : Type 0) (e : Refused) → ScannerRefusesIn unread o (failed X e) s m
+      → ScannerRefusesIn unread o (failed Y e) t m
   refused_stays X Y e refused = λ no. stays e (refused no)
 
-  pub refusal_stays : {X : Type 0} (r : Result X Refused) → RefusesIn unread o r s m → RefusesIn unread o r t m
+  pub refusal_stays : {X : Type 0} (r : Result X Refused) → ScannerRefusesIn unread o r s m
+      → ScannerRefusesIn unread o r t m
   refusal_stays (Ok x) refused = refused
   refusal_stays (Err e) refused = λ no. stays e (refused no)

@@ -10,8 +10,8 @@ use Rattle.granit_machine.specs.ReaderState.{Read, ReaderState}
 use Rattle.granit_machine.proofs.LexLengths.{ReadFits, read-fits}
 use Rattle.granit_machine.proofs.ReadLengths.{reader_len}
 use Rattle.granit_scan.specs.Following.{Following}
-use Rattle.granit_scan.specs.TokenSteps.{TokenState, TokenTurn, front_turn, read_more, token_size, token_turn, turn_by}
-use Rattle.granit_scan.specs.TokenSteps.{with_read}
+use Rattle.granit_scan.specs.TokenSteps.{TokenState, TokenTurn, front_token_turn, read_more_tokens, token_size}
+use Rattle.granit_scan.specs.TokenSteps.{token_turn, token_turn_by, with_tokens_read}
 use Rattle.granit_scan.specs.TokenViews.{PlainToken}
 use Rattle.granit_steps.specs.Steps.{incoming, may_go}
 use Rattle.granit_steps.proofs.Futures.{items_length, length_asked, length_pushed, pushed_nil, size_behind}
@@ -30,7 +30,7 @@ module _ (o : OptionsData) (w : Following) where
       → ReadFits (reader_len s) r
       → Shorter (record { reading = before s; queue = q; following = w; pending = [] }) (behind_read r s >>= λ x. Ok (
         Some [],
-        with_read o (record { reading = before s; queue = q; following = w; pending = [] }) x,
+        with_tokens_read o (record { reading = before s; queue = q; following = w; pending = [] }) x,
       ))
   read_shorter s q (Err f) ch fits = let n = ap length (pushed_nil o.emit_comments q) in omega (arith, n)
   read_shorter s q (Ok x) ch fits =
@@ -46,7 +46,7 @@ module _ (o : OptionsData) (w : Following) where
         queue = q;
         following = w;
         pending = [];
-      }) (read_more o ended (record {
+      }) (read_more_tokens o ended (record {
         reading = record { reader = s; ended = ended; fault = end };
         queue = q;
         following = w;
@@ -59,13 +59,13 @@ module _ (o : OptionsData) (w : Following) where
 
   front_shorter : (b : Bool) (l : LexState) (i : FlaggedItem) (is : List FlaggedItem)
       → Shorter (record { reading = l; queue = i ∷ is; following = w; pending = [] })
-      (front_turn b o i is (record { reading = l; queue = i ∷ is; following = w; pending = [] }))
+      (front_token_turn b o i is (record { reading = l; queue = i ∷ is; following = w; pending = [] }))
   front_shorter true l i is = omega arith
   front_shorter false l i is = more_shorter l.reader l.ended l.fault (i ∷ is)
 
   turn_shorter : (ts : List PlainToken) (q : List FlaggedItem) (l : LexState)
       → Shorter (record { reading = l; queue = q; following = w; pending = ts })
-      (turn_by o ts q (record { reading = l; queue = q; following = w; pending = ts }))
+      (token_turn_by o ts q (record { reading = l; queue = q; following = w; pending = ts }))
   turn_shorter (t ∷ ts) q l = tt
   turn_shorter [] [] l = more_shorter l.reader l.ended l.fault []
   turn_shorter [] (i ∷ is) l = front_shorter (may_go l i is) l i is

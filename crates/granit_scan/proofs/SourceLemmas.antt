@@ -11,16 +11,16 @@ use Rattle.granit_error.specs.FaultKind.{FaultKind}
 use Rattle.granit_error.specs.Refused.{Refused}
 use Rattle.granit_input.specs.Origin.{Origin, Goes, Gave, error_given}
 use Rattle.granit_lexemes.specs.Outcome.{Fault}
-use Rattle.granit_scan.specs.Scanning.{Asks, GivesNext, GivesStart, KeepsCopy, KeepsFirst, MovesAsked, Scanning}
-use Rattle.granit_scan.specs.Scanning.{StandsIn, StepsTo, StopsBy, TellsOf, Unless, UnlessFailed, error_since}
-use Rattle.granit_scan.specs.Scanning.{first_error, is_end, no_tokens}
+use Rattle.granit_scan.specs.Scanning.{Asks, CallFails, GivesNextToken, GivesStart, KeepsCopy, KeepsFirst, MovesAsked}
+use Rattle.granit_scan.specs.Scanning.{ScannerIn, ScannerStepsTo, TellsOf, TokenScanning, Unless, UnlessFailed}
+use Rattle.granit_scan.specs.Scanning.{error_since, first_kept_error, is_last_token, no_tokens}
 use Rattle.granit_scan.specs.TokenSteps.{TokenState, next_token}
 use Rattle.granit_scan.specs.TokenViews.{PlainToken, plain_token}
 use Rattle.granit_scanner.specs.Scans as scans
 
 -- ---- what is left
 
-pub moves_on : {I : Type 0} (left : I → ℕ) (origin : I → Origin) (old mid new : Scanning I) → new.items ≡ mid.items
+pub moves_on : {I : Type 0} (left : I → ℕ) (origin : I → Origin) (old mid new : TokenScanning I) → new.items ≡ mid.items
     → MovesAsked left origin old mid → MovesAsked left origin old new
 moves_on left origin old mid new same moved = subst
     (λ (s : scans.Scanning _). (left s.cursor.input ≤ left old.items.cursor.input)
@@ -80,7 +80,8 @@ unless_on None (Some kind) at fails gives told = (told.0, told.1, fails _ told.2
 unless_on (Some e) given at fails gives told = fails e told
 
 -- what was ready is taken
-pub failed_on : {I : Type 0} (origin : I → Origin) {F G : Refused → Type 0} {A B : Type 0} (old mid new : Scanning I)
+pub failed_on : {I : Type 0} (origin : I → Origin) {F G : Refused → Type 0} {A B : Type 0}
+    (old mid new : TokenScanning I)
     → new.items ≡ mid.items → ((e : Refused) → F e → G e) → (A → B) → UnlessFailed origin old mid F A
     → UnlessFailed origin old new G B
 failed_on origin {G = G} {B = B} old mid new same fails gives told = subst
@@ -89,7 +90,7 @@ failed_on origin {G = G} {B = B} old mid new same fails gives told = subst
     (unless_on old.source_error _ mid.items.cursor.place fails gives told)
 
 -- turns were made, the source was asked, and its error is given
-module _ {I : Type 0} (origin : I → Origin) (old mid asked new : Scanning I)
+module _ {I : Type 0} (origin : I → Origin) (old mid asked new : TokenScanning I)
     (kept : mid.source_error ≡ old.source_error)
     (goes : Goes (origin old.items.cursor.input) (origin mid.items.cursor.input))
     (gave : Gave (origin mid.items.cursor.input) (origin asked.items.cursor.input))
@@ -104,11 +105,11 @@ module _ {I : Type 0} (origin : I → Origin) (old mid asked new : Scanning I)
     first.0,
     first.1 ∙ sym place ∙ sym (ap (λ (s : scans.Scanning I). s.cursor.place) same),
     is ∙ first.2
-        ∙ ap (λ (k : Option Refused). first_error k (error_given (origin mid.items.cursor.input)) first.0) kept
-        ∙ ap (λ (k : Option FaultKind). first_error old.source_error k first.0)
+        ∙ ap (λ (k : Option Refused). first_kept_error k (error_given (origin mid.items.cursor.input)) first.0) kept
+        ∙ ap (λ (k : Option FaultKind). first_kept_error old.source_error k first.0)
         (given_since (origin old.items.cursor.input) (origin mid.items.cursor.input) (origin asked.items.cursor.input)
         goes gave)
-        ∙ ap (λ (s : scans.Scanning I). first_error old.source_error
+        ∙ ap (λ (s : scans.Scanning I). first_kept_error old.source_error
         (error_since (origin old.items.cursor.input) (origin s.cursor.input)) first.0) (sym same),
   )
 
@@ -156,16 +157,16 @@ no_start (Some m) e none = absurd cc
 -- a step of the iterator gives what the call for a token gives
 step_gives : (q : Result (Option Token) Refused) (Lands : TokenState → Type 0)
     (given : Result (Option PlainToken × TokenState) Fault) → GivesTo (option_map plain_token) q Lands given
-    → GivesNext (result_transpose q) Lands given
+    → GivesNextToken (result_transpose q) Lands given
 step_gives (Ok None) Lands given gives = gives
 step_gives (Ok (Some t)) Lands given gives = gives
 step_gives (Err e) Lands given gives = gives
 
 -- and tells of the stream what that tells
-pub step_tells : {I : Type 0} (s t : Scanning I) (q : Result (Option Token) Refused)
+pub step_tells : {I : Type 0} (s t : TokenScanning I) (q : Result (Option Token) Refused)
     → IfOk q (λ x. s.failed ≡ false → t.first ≡ None)
-    → IfOk q (λ x. t.ended ≡ (s.ended || is_end (option_map plain_token x)))
-    → IfOk q (λ x. t.failed_in_directive ≡ s.failed_in_directive) → IfErr q (λ e. StopsBy s t e.kind)
+    → IfOk q (λ x. t.ended ≡ (s.ended || is_last_token (option_map plain_token x)))
+    → IfOk q (λ x. t.failed_in_directive ≡ s.failed_in_directive) → IfErr q (λ e. CallFails s t e.kind)
     → TellsOf s t (result_transpose q)
 step_tells s t (Ok None) started ended going stops =
     record { started = started; ended = ended; in_directive = going }
@@ -173,18 +174,18 @@ step_tells s t (Ok (Some x)) started ended going stops =
     record { started = started; ended = ended; in_directive = going }
 step_tells s t (Err e) started ended going stops = stops
 
-pub steps_to : {I : Type 0} (unread : I → Unread → Type 0) (left : I → ℕ) (origin : I → Origin) (s t : Scanning I)
+pub steps_to : {I : Type 0} (unread : I → Unread → Type 0) (left : I → ℕ) (origin : I → Origin) (s t : TokenScanning I)
     (q : Result (Option Token) Refused)
-    → ((m : TokenState) → StandsIn unread s m → UnlessFailed origin s t (λ e. q ≡ Err e)
-    (GivesTo (option_map plain_token) q (StandsIn unread t) (next_token s.items.options m)))
+    → ((m : TokenState) → ScannerIn unread s m → UnlessFailed origin s t (λ e. q ≡ Err e)
+    (GivesTo (option_map plain_token) q (ScannerIn unread t) (next_token s.items.options m)))
     → (s.failed ≡ false → UnlessFailed origin s t (λ e. (q ≡ Err e) × KeepsCopy (Some e) t.source_error)
     (GivesStart s.first q × (t.source_error ≡ None)))
     → TellsOf s t (result_transpose q) → t.comments ≡ s.comments
     → (s.failed ≡ true → (q ≡ Ok None) × (t ≡ s)) → t.items.options ≡ s.items.options → MovesAsked left origin s t
-    → StepsTo unread left origin s (result_transpose q) t
+    → ScannerStepsTo unread left origin s (result_transpose q) t
 steps_to unread left origin s t q known source told comments over options moves = record {
   known = λ m at. failed_on origin s t t refl (λ e is. ap result_transpose is)
-      (step_gives q (StandsIn unread t) (next_token s.items.options m)) (known m at);
+      (step_gives q (ScannerIn unread t) (next_token s.items.options m)) (known m at);
   source = λ going. failed_on origin s t t refl (λ e is. (ap result_transpose is.0, is.1)) (λ given. given.1)
       (source going);
   told = told;

@@ -14,9 +14,9 @@ use Rattle.granit_machine.specs.ReaderState.{Read, ReaderState}
 use Rattle.granit_machine.proofs.LexLengths.{ReadFits, lex_turn-Shortens, read-fits}
 use Rattle.granit_machine.proofs.ReadLengths.{reader_len}
 use Rattle.granit_scan.specs.Following.{Following}
-use Rattle.granit_scan.specs.TokenSteps.{TokenState, TokenTurn, front_turn, read_more, read_unless, token_size}
-use Rattle.granit_scan.specs.TokenSteps.{token_turn, turn_by, with_read}
-use Rattle.granit_scan.specs.TokensTold.{TokensTold, before_told, written}
+use Rattle.granit_scan.specs.TokenSteps.{TokenState, TokenTurn, front_token_turn, read_more_tokens, read_tokens_unless}
+use Rattle.granit_scan.specs.TokenSteps.{token_size, token_turn, token_turn_by, with_tokens_read}
+use Rattle.granit_scan.specs.TokensTold.{TokensTold, before_tokens_told, written}
 use Rattle.granit_scan.specs.TokenViews.{PlainToken}
 use Rattle.granit_scan.proofs.Shortening.{read_shorter}
 use Rattle.granit_steps.specs.Steps.{asks_next, incoming, is_next_settled, marked_by, may_go, pushed, unflagged}
@@ -42,7 +42,7 @@ abbrev pub told_of : Ahead → Following → TokensTold
 told_of a f = (written a.0 f, a.1)
 
 abbrev pub future : OptionsData → TokenState → TokensTold
-future o s = before_told s.pending (told_of (ahead o s.queue (rest_of o s.reading)) s.following)
+future o s = before_tokens_told s.pending (told_of (ahead o s.queue (rest_of o s.reading)) s.following)
 
 abbrev pub IsReady : TokenState → Type 0
 IsReady s = Ready s.reading s.queue
@@ -166,7 +166,7 @@ TurnKeeps o s (Err f) = future o s ≡ ([], Some f)
 module _ (o : OptionsData) (w : Following) where
   write_keeps : (l : LexState) (i : FlaggedItem) (is : List FlaggedItem) → Ready l (i ∷ is) → may_go l i is ≡ true
       → TurnKeeps o (record { reading = l; queue = i ∷ is; following = w; pending = [] })
-      (front_turn true o i is (record { reading = l; queue = i ∷ is; following = w; pending = [] }))
+      (front_token_turn true o i is (record { reading = l; queue = i ∷ is; following = w; pending = [] }))
   write_keeps l i is ready e = (
     record { below = ready.below; old = ready.old.1; one_end = ready.one_end },
     ap (λ (q : List FlaggedItem). (written q w, (rest_of o l).1.fault))
@@ -179,7 +179,7 @@ module _ (o : OptionsData) (w : Following) where
       → TurnKeeps o (record { reading = at_read s; queue = q; following = w; pending = [] })
       (behind_read r s >>= λ x. Ok (
         Some [],
-        with_read o (record { reading = at_read s; queue = q; following = w; pending = [] }) x,
+        with_tokens_read o (record { reading = at_read s; queue = q; following = w; pending = [] }) x,
       ))
   unfolding lex_turn
   read_keeps s q (Err f) is ch fits ready =
@@ -219,7 +219,7 @@ module _ (o : OptionsData) (w : Following) where
 
   more_keeps : (s : ReaderState) (q : List FlaggedItem) → Ready (at_read s) q
       → TurnKeeps o (record { reading = at_read s; queue = q; following = w; pending = [] })
-      (read_unless o None (record { reading = at_read s; queue = q; following = w; pending = [] }))
+      (read_tokens_unless o None (record { reading = at_read s; queue = q; following = w; pending = [] }))
   unfolding lex_turn
   more_keeps s q ready = read_keeps s q (read o s) refl (read_keys o s) (read-fits o s) ready
 
@@ -238,7 +238,7 @@ module _ (o : OptionsData) (w : Following) where
         queue = q;
         following = w;
         pending = [];
-      }) (read_more o ended (record {
+      }) (read_more_tokens o ended (record {
         reading = record { reader = s; ended = ended; fault = end };
         queue = q;
         following = w;
@@ -272,14 +272,14 @@ module _ (o : OptionsData) (w : Following) where
 
   front_keeps : (b : Bool) (l : LexState) (i : FlaggedItem) (is : List FlaggedItem) → may_go l i is ≡ b
       → Ready l (i ∷ is) → TurnKeeps o (record { reading = l; queue = i ∷ is; following = w; pending = [] })
-      (front_turn b o i is (record { reading = l; queue = i ∷ is; following = w; pending = [] }))
+      (front_token_turn b o i is (record { reading = l; queue = i ∷ is; following = w; pending = [] }))
   front_keeps true l i is e ready = write_keeps l i is ready e
   front_keeps false l i is e ready = wait_keeps l.reader l.ended l.fault (i ∷ is) ready
       (not_ended l.reader l.ended l.fault i is e) (held_by l.reader l.ended l.fault i is e)
 
   turn_keeps_by : (ts : List PlainToken) (q : List FlaggedItem) (l : LexState) → Ready l q
       → TurnKeeps o (record { reading = l; queue = q; following = w; pending = ts })
-      (turn_by o ts q (record { reading = l; queue = q; following = w; pending = ts }))
+      (token_turn_by o ts q (record { reading = l; queue = q; following = w; pending = ts }))
   turn_keeps_by (t ∷ ts) q l ready = (refl, tt)
   turn_keeps_by [] [] l ready = wait_keeps l.reader l.ended l.fault [] ready (λ e. refl) (λ f e. refl)
   turn_keeps_by [] (i ∷ is) l ready = front_keeps (may_go l i is) l i is refl ready

@@ -10,10 +10,10 @@ use Rattle.granit_machine.specs.Lexing.{FlaggedItem, lex, lex_start}
 use Rattle.granit_machine.specs.Machine.{asked_items}
 use Rattle.granit_machine.specs.Reader.{LexState}
 use Rattle.granit_scan.specs.Following.{Following, following_start}
-use Rattle.granit_scan.specs.TokenSteps.{TokenState, TokenTurn, first_pending, next_token, settle, start_from}
-use Rattle.granit_scan.specs.TokenSteps.{token_size, token_turn, tokens_start}
-use Rattle.granit_scan.specs.TokensTold.{GivesTokens, TokensTold, before_told, gives_end, gives_fault, gives_token}
-use Rattle.granit_scan.specs.TokensTold.{told_read, tokens_told, written}
+use Rattle.granit_scan.specs.TokenSteps.{TokenState, TokenTurn, first_pending_token, next_token, settle_tokens}
+use Rattle.granit_scan.specs.TokenSteps.{token_size, token_turn, tokens_start, tokens_start_from}
+use Rattle.granit_scan.specs.TokensTold.{GivesTokens, TokensTold, before_tokens_told, gives_end, gives_fault}
+use Rattle.granit_scan.specs.TokensTold.{gives_token, tokens_told_read, tokens_told, written}
 use Rattle.granit_scan.specs.TokenViews.{PlainToken, StartOfStream, marked}
 use Rattle.granit_scan.proofs.TokenFutures.{IsReady, IsStill, TurnKeeps, ahead, future, told_of, turn_keeps}
 use Rattle.granit_steps.specs.Told.{parsers_items}
@@ -52,32 +52,32 @@ settles_turns o zero s ready h = absurd (omega arith)
 settles_turns o (suc n) s ready h = settles_turn o n s (token_turn o s) (settles_turns o n) ready h
     (turn_keeps o s ready)
 
-settle_keeps : (o : OptionsData) (s : TokenState) → IsReady s → Settles o s (settle o s)
+settle_keeps : (o : OptionsData) (s : TokenState) → IsReady s → Settles o s (settle_tokens o s)
 unfolding pieces
 settle_keeps o s ready = settles_turns o (suc (token_size s)) s ready (omega arith)
 
 -- ---- one token
 
 abbrev NextKeeps : OptionsData → TokenState → Result (Option PlainToken × TokenState) Fault → Type 0
-NextKeeps o s (Ok (Some e, t)) = IsReady t × (future o s ≡ before_told (e ∷ []) (future o t))
+NextKeeps o s (Ok (Some e, t)) = IsReady t × (future o s ≡ before_tokens_told (e ∷ []) (future o t))
 NextKeeps o s (Ok (None, t)) = IsReady t × (future o s ≡ ([], None))
 NextKeeps o s (Err f) = future o s ≡ ([], Some f)
 
 first_keeps : (o : OptionsData) (s : TokenState) (es : List PlainToken) (l : LexState) (q : List FlaggedItem)
     (p : Following) → Ready l q → future o s ≡ future o (record { reading = l; queue = q; following = p; pending = es })
     → IsStill es (future o (record { reading = l; queue = q; following = p; pending = es }))
-    → NextKeeps o s (Ok (first_pending es (record { reading = l; queue = q; following = p; pending = es })))
+    → NextKeeps o s (Ok (first_pending_token es (record { reading = l; queue = q; following = p; pending = es })))
 first_keeps o s [] l q p ready e still = (ready, e ∙ still)
 first_keeps o s (x ∷ es) l q p ready e still = (ready, e)
 
 next_by : (o : OptionsData) (s : TokenState) (r : Result (List PlainToken × TokenState) Fault) → Settles o s r
-    → NextKeeps o s (r >>= λ x. Ok (first_pending x.1.pending x.1))
+    → NextKeeps o s (r >>= λ x. Ok (first_pending_token x.1.pending x.1))
 next_by o s (Ok x) p = first_keeps o s x.1.pending x.1.reading x.1.queue x.1.following p.0 p.1 p.2
 next_by o s (Err f) p = p
 
 next_keeps : (o : OptionsData) (s : TokenState) → IsReady s → NextKeeps o s (next_token o s)
 unfolding next_token
-next_keeps o s ready = next_by o s (settle o s) (settle_keeps o s ready)
+next_keeps o s ready = next_by o s (settle_tokens o s) (settle_keeps o s ready)
 
 -- ---- all tokens
 
@@ -87,7 +87,7 @@ gives_future o s [] None (gives_end e) ready = (subst (NextKeeps o s) e (next_ke
 gives_future o s [] (Some f) (gives_fault e) ready = subst (NextKeeps o s) e (next_keeps o s ready)
 gives_future o s (x ∷ es) f (gives_token {after = t} e more) ready =
     let p = subst (NextKeeps o s) e (next_keeps o s ready) in
-    p.1 ∙ ap (before_told (x ∷ [])) (gives_future o t es f more p.0)
+    p.1 ∙ ap (before_tokens_told (x ∷ [])) (gives_future o t es f more p.0)
 
 gives_nothing : (o : OptionsData) (s : TokenState) (f : Option Fault)
     (r : Result (Option PlainToken × TokenState) Fault)
@@ -129,19 +129,19 @@ gives_all o (x ∷ es) f s ready eq = gives_some o s x es f (next_token o s) (gi
 
 -- ---- from the start
 
-start_ready : (h : Here) → IsReady (start_from h)
+start_ready : (h : Here) → IsReady (tokens_start_from h)
 start_ready h = record { below = tt; old = tt; one_end = λ e. refl }
 
 start_by : (o : OptionsData) (h : Here) (r : Result (List Item × LexState) Fault)
     → LexChain (lex_start h).reader.laid r
-    → told_of (ahead o [] (read_out r (lex_start h))) following_start ≡ told_read o r
+    → told_of (ahead o [] (read_out r (lex_start h))) following_start ≡ tokens_told_read o r
 start_by o h (Err f) ch = absurd ch
 start_by o h (Ok x) ch =
     ap (λ items. (written (parsers_items x.1.reader.laid x.1.fault items) following_start, x.1.fault))
     (pushed_asked o.emit_comments x.0 ∙ ap (asked_items o.emit_comments) (sym ch.same_flags))
 
-start_told : (o : OptionsData) (h : Here) → future o (start_from h) ≡ tokens_told o h
-start_told o h = ap (before_told (marked StartOfStream (mark_of h) ∷ []))
+start_told : (o : OptionsData) (h : Here) → future o (tokens_start_from h) ≡ tokens_told o h
+start_told o h = ap (before_tokens_told (marked StartOfStream (mark_of h) ∷ []))
     (start_by o h (lex o h) (pieces_chain o (lex_start h) tt))
 
 -- the calls give all tokens

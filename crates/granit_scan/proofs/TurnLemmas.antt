@@ -4,7 +4,8 @@ use Rattle.std.proofs.Common.{Ok, refl, sym, ap, ◌∙◌, arith}
 use Rattle.std.proofs.lemmas.Bool.Decides.{nat_tests}
 use Rattle.granit_error.specs.OptionsData.{OptionsData}
 use Rattle.granit_machine.specs.Lexing.{FlaggedItem}
-use Rattle.granit_scan.specs.TokenSteps.{TokenState, front_turn, read_more, token_turn, turn_by, with_written}
+use Rattle.granit_scan.specs.TokenSteps.{TokenState, front_token_turn, read_more_tokens, token_turn, token_turn_by}
+use Rattle.granit_scan.specs.TokenSteps.{with_written}
 use Rattle.granit_scan.specs.TokenViews.{PlainToken}
 use Rattle.granit_scanner.specs.Scans.{may_front_go}
 use Rattle.granit_steps.specs.Steps.{may_go}
@@ -18,7 +19,7 @@ none_waits [] none = refl
 none_waits (t ∷ ts) none = let e : true ≡ false = sym none ∙ suc_zero (length ts) in absurd (cc)
 
 waits_by : (o : OptionsData) (m : TokenState) (q : List FlaggedItem) (ts : List PlainToken) → (length ts == 0) ≡ false
-    → turn_by o ts q m ≡ Ok (None, m)
+    → token_turn_by o ts q m ≡ Ok (None, m)
 waits_by o m q [] e = absurd (cc)
 waits_by o m q (t ∷ ts) e = refl
 
@@ -31,25 +32,25 @@ turn_waits o m waits = waits_by o m m.queue m.pending waits
 pub turn_waits_on : (o : OptionsData) (m : TokenState) (t : PlainToken) (ts : List PlainToken) → m.pending ≡ t ∷ ts
     → token_turn o m ≡ Ok (None, m)
 unfolding token_turn
-turn_waits_on o m t ts is = ap (λ (us : List PlainToken). turn_by o us m.queue m) is
+turn_waits_on o m t ts is = ap (λ (us : List PlainToken). token_turn_by o us m.queue m) is
 
 -- the oldest item may go
 pub turn_writes : (o : OptionsData) (m : TokenState) (i : FlaggedItem) (is : List FlaggedItem) → m.pending ≡ []
     → m.queue ≡ i ∷ is → may_go m.reading i is ≡ true → token_turn o m ≡ Ok (Some [], with_written i is m)
 unfolding token_turn
 turn_writes o m i is none front goes =
-    ap (λ (ts : List PlainToken). turn_by o ts m.queue m) none
-    ∙ ap (λ (q : List FlaggedItem). turn_by o [] q m) front
-    ∙ ap (λ (b : Bool). front_turn b o i is m) goes
+    ap (λ (ts : List PlainToken). token_turn_by o ts m.queue m) none
+    ∙ ap (λ (q : List FlaggedItem). token_turn_by o [] q m) front
+    ∙ ap (λ (b : Bool). front_token_turn b o i is m) goes
 
 reads_by : (o : OptionsData) (m : TokenState) (q : List FlaggedItem) → may_front_go m.reading q ≡ false
-    → turn_by o [] q m ≡ read_more o m.reading.ended m
+    → token_turn_by o [] q m ≡ read_more_tokens o m.reading.ended m
 reads_by o m [] waits = refl
-reads_by o m (i ∷ is) waits = ap (λ (b : Bool). front_turn b o i is m) waits
+reads_by o m (i ∷ is) waits = ap (λ (b : Bool). front_token_turn b o i is m) waits
 
 -- no item may go
 pub turn_reads : (o : OptionsData) (m : TokenState) → m.pending ≡ [] → may_front_go m.reading m.queue ≡ false
-    → token_turn o m ≡ read_more o m.reading.ended m
+    → token_turn o m ≡ read_more_tokens o m.reading.ended m
 unfolding token_turn
 turn_reads o m none waits =
-    ap (λ (ts : List PlainToken). turn_by o ts m.queue m) none ∙ reads_by o m m.queue waits
+    ap (λ (ts : List PlainToken). token_turn_by o ts m.queue m) none ∙ reads_by o m m.queue waits

@@ -27,29 +27,29 @@ following_start = record { laid = laid_start; pairs = []; in_header = false }
 
 -- ---- what a lexeme leaves open, where the columns that it ends are closed
 
-abbrev pub entry_of : Option KeyStart → Mark → Mark
-entry_of None m = m
-entry_of (Some k) m = k.start
+abbrev pub entry_start : Option KeyStart → Mark → Mark
+entry_start None m = m
+entry_start (Some k) m = k.start
 
 abbrev pub with_last : LastLexeme → Laid → Laid
 with_last last s = record s { last = last }
 
 -- outside flow an entry begins in a column
-abbrev pub entry_at : ℕ → Laid → Laid
-entry_at column s = if is_in_flow s then with_last Another s else entered column (with_last Another s)
+abbrev pub entry_in_column : ℕ → Laid → Laid
+entry_in_column column s = if is_in_flow s then with_last Another s else entered column (with_last Another s)
 
-abbrev pub opens : LexemeKind → Lexeme → Laid → Laid
-opens (Open bracket) l s = with_last Opener (opened bracket l.start s)
-opens (Close bracket) l s = with_last Another (closed_bracket (drop 1 s.brackets) s)
-opens Comma l s = with_last (last_of_comma s) s
-opens Dash l s = entry_at l.start.place.column s
-opens Question l s = entry_at l.start.place.column s
-opens Colon l s = entry_at (entry_of l.key l.start).place.column s
-opens kind l s = with_last Another s
+abbrev pub laid_by_lexeme : LexemeKind → Lexeme → Laid → Laid
+laid_by_lexeme (Open bracket) l s = with_last Opener (opened bracket l.start s)
+laid_by_lexeme (Close bracket) l s = with_last Another (closed_bracket (drop 1 s.brackets) s)
+laid_by_lexeme Comma l s = with_last (last_of_comma s) s
+laid_by_lexeme Dash l s = entry_in_column l.start.place.column s
+laid_by_lexeme Question l s = entry_in_column l.start.place.column s
+laid_by_lexeme Colon l s = entry_in_column (entry_start l.key l.start).place.column s
+laid_by_lexeme kind l s = with_last Another s
 
 -- a lexeme leaves open, and an item does
 abbrev pub laid_behind : Lexeme → Laid → Laid
-laid_behind l s = opens l.kind l (behind_ends l s)
+laid_behind l s = laid_by_lexeme l.kind l (behind_ends l s)
 
 abbrev pub laid_of : Item → Laid → Laid
 laid_of (OfLexeme l) s = laid_behind l s
@@ -149,14 +149,14 @@ inserted_before begins_key l w = record {
 abbrev pub left_behind : Lexeme → Writing → Writing
 left_behind l w = record w {
   following = record {
-    laid = opens l.kind l w.following.laid;
+    laid = laid_by_lexeme l.kind l w.following.laid;
     pairs = pairs_behind l.kind w.following.pairs;
     in_header = header_behind l.kind w.following.in_header;
   };
 }
 
-abbrev pub with_tail : Option CommentRead → Writing → Writing
-with_tail c w = adds (shown_tokens (tail_token c)) w
+abbrev pub with_tail_written : Option CommentRead → Writing → Writing
+with_tail_written c w = adds (shown_tokens (tail_token c)) w
 
 abbrev pub with_own : Lexeme → Writing → Writing
 with_own l w = adds (record { kind = kind_shown l.kind; span = shown_span l.kind l } ∷ shown_tokens (tail_token l.tail))

@@ -16,11 +16,11 @@ use Rattle.granit_steps.specs.Told.{parsers_items}
 
 -- ---- marks
 
-abbrev pub marked_by : TokenKind → Option LexemeKind
-marked_by DocumentStart = Some lexemes.DocumentStart
-marked_by DocumentEnd = Some lexemes.DocumentEnd
-marked_by EndOfStream = Some lexemes.StreamEnd
-marked_by kind = None
+abbrev pub mark_kind : TokenKind → Option LexemeKind
+mark_kind DocumentStart = Some lexemes.DocumentStart
+mark_kind DocumentEnd = Some lexemes.DocumentEnd
+mark_kind EndOfStream = Some lexemes.StreamEnd
+mark_kind kind = None
 
 abbrev comment_by : TokenKind → Span → Option CommentRead
 comment_by (Comment text placement) s =
@@ -32,17 +32,17 @@ comment_by (Comment text placement) s =
 comment_by kind s = None
 
 -- the comment that a token is
-abbrev pub comment_of : PlainToken → Option CommentRead
-comment_of t = comment_by t.kind t.span
+abbrev pub token_comment : PlainToken → Option CommentRead
+token_comment t = comment_by t.kind t.span
 
 -- the comment behind a mark is the token behind it
 abbrev pub tail_in : List PlainToken → Option CommentRead
 tail_in [] = None
-tail_in (t ∷ ts) = comment_of t
+tail_in (t ∷ ts) = token_comment t
 
 -- a mark as a lexeme; no lexeme that is read later has its number
-abbrev pub mark_at : LexemeKind → Span → Option CommentRead → Lexeme
-mark_at kind s tail = record {
+abbrev pub mark_lexeme : LexemeKind → Span → Option CommentRead → Lexeme
+mark_lexeme kind s tail = record {
   number = 0;
   kind = kind;
   start = s.start;
@@ -59,12 +59,12 @@ mark_at kind s tail = record {
 
 abbrev pub mark_or : Option LexemeKind → Span → List PlainToken → Option Lexeme → Option Lexeme
 mark_or None s ts later = later
-mark_or (Some kind) s ts later = Some (mark_at kind s (tail_in ts))
+mark_or (Some kind) s ts later = Some (mark_lexeme kind s (tail_in ts))
 
 -- the first mark among tokens
 abbrev pub mark_in : List PlainToken → Option Lexeme
 mark_in [] = None
-mark_in (t ∷ ts) = mark_or (marked_by t.kind) t.span ts (mark_in ts)
+mark_in (t ∷ ts) = mark_or (mark_kind t.kind) t.span ts (mark_in ts)
 
 -- a token that was handed back stands before those that wait
 abbrev pub handed : Option PlainToken → List PlainToken
@@ -86,10 +86,10 @@ unwritten ts m = record (start_from m.reading.reader.here) {
 }
 
 -- nothing is open, and no token waits
-abbrev pub resumed : StepState → TokenState
-resumed s = record { reading = s.reading; queue = s.queue; following = following_start; pending = [] }
+abbrev pub tokens_resumed : StepState → TokenState
+tokens_resumed s = record { reading = s.reading; queue = s.queue; following = following_start; pending = [] }
 
 -- The next boundary: first among a token that was handed back, the tokens and the items that wait, or else in the text
 -- behind where reading stands, or where a read that was refused stopped.
 unfoldable pub proceeded : (stop : Here) → Option PlainToken → TokenState → TokenState
-proceeded stop t m = resumed (behind_fault stop (unwritten (handed t ++ m.pending) m)).1
+proceeded stop t m = tokens_resumed (behind_fault stop (unwritten (handed t ++ m.pending) m)).1

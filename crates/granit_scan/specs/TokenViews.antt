@@ -5,11 +5,11 @@ use Rattle.granit_base.specs.Written.{Written}
 use Rattle.granit_base.specs.declared.place.Span.{Span}
 use Rattle.granit_base.specs.declared.style.Placement.{Placement}
 use Rattle.granit_base.specs.declared.style.ScalarStyle.{ScalarStyle}
-use Rattle.granit_cursor.specs.Tokens.{placed}
+use Rattle.granit_cursor.specs.Tokens.{token_placement}
 use Rattle.granit_cursor.specs.declared.token.Token.{Token}
 use Rattle.granit_cursor.specs.declared.token.TokenType.{TokenType}
 use Rattle.granit_cursor.specs.declared.token.TokenType.TheVariants as types
-use Rattle.granit_items.specs.ItemViews.{characters_of}
+use Rattle.granit_items.specs.ItemViews.{written_characters}
 use Rattle.granit_lexemes.specs.Comment.{CommentRead}
 use Rattle.granit_lexemes.specs.Lexeme as lexemes
 use Rattle.granit_lexemes.specs.Lexeme.{LexemeKind, Lexeme}
@@ -61,7 +61,7 @@ token_kind (types.Anchor name) = Anchor name
 token_kind (types.Tag handle suffix) = Tag handle.characters suffix.characters
 token_kind (types.Scalar style text) = Scalar style text
 token_kind (types.Comment comment) = Comment comment.text comment.placement
-token_kind (types.ReservedDirective name parameters) = Reserved name.characters (map characters_of parameters)
+token_kind (types.ReservedDirective name parameters) = Reserved name.characters (map written_characters parameters)
 
 abbrev pub plain_token : Token → PlainToken
 plain_token t = record { kind = token_kind t.token_type; span = t.span }
@@ -95,7 +95,10 @@ shown_span lexemes.Colon l = plain_span l.start l.start
 shown_span kind l = record (plain_span l.shown.start l.shown.end) { indent = l.indent }
 
 abbrev pub comment_shown : CommentRead → PlainToken
-comment_shown c = record { kind = Comment c.text (placed c.is_right); span = plain_span c.source.start c.source.end }
+comment_shown c = record {
+  kind = Comment c.text (token_placement c.is_right);
+  span = plain_span c.source.start c.source.end;
+}
 
 -- ---- what is inserted
 

@@ -22,20 +22,20 @@ written (i ∷ is) f =
 abbrev pub TokensTold : Type 0
 TokensTold = List PlainToken × Option Fault
 
-abbrev pub before_told : List PlainToken → TokensTold → TokensTold
-before_told ts x = (ts ++ x.0, x.1)
+abbrev pub before_tokens_told : List PlainToken → TokensTold → TokensTold
+before_tokens_told ts x = (ts ++ x.0, x.1)
 
 -- of all items, or of those before the oldest key that is possible where reading failed
-abbrev pub told_read : OptionsData → Result (List Item × LexState) Fault → TokensTold
-told_read o (Ok x) = (
+abbrev pub tokens_told_read : OptionsData → Result (List Item × LexState) Fault → TokensTold
+tokens_told_read o (Ok x) = (
   written (parsers_items x.1.reader.laid x.1.fault (asked_items o.emit_comments (flagged x.0))) following_start,
   x.1.fault,
 )
-told_read o (Err f) = ([], Some f)
+tokens_told_read o (Err f) = ([], Some f)
 
 -- all tokens of a text, and the fault behind them
 abbrev pub tokens_told : OptionsData → Here → TokensTold
-tokens_told o h = before_told (marked StartOfStream (mark_of h) ∷ []) (told_read o (lex o h))
+tokens_told o h = before_tokens_told (marked StartOfStream (mark_of h) ∷ []) (tokens_told_read o (lex o h))
 
 -- what calls give one by one from a state on: some tokens, and then nothing more or a fault
 pub data GivesTokens (o : OptionsData) : TokenState → List PlainToken → Option Fault → Type 0 where

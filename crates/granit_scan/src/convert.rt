@@ -1,7 +1,7 @@
 //! The tokens of lexemes and comments.
 ghost use Rattle.std.specs.Prelude.{◌≡◌};
 ghost use Rattle.std.specs.Option.{option_map};
-ghost use Rattle.granit_cursor.specs.Tokens.{is_right_placed, placed};
+ghost use Rattle.granit_cursor.specs.Tokens.{is_right_placed, token_placement};
 ghost use Rattle.granit_items.specs.ItemViews.{kind_view, lexeme_view, note_view};
 ghost use Rattle.granit_scan.specs.Marks as marks;
 ghost use Rattle.granit_scan.specs.TokenViews.{comment_shown, kind_shown, plain_token, shown_span, token_kind};
@@ -64,7 +64,7 @@ pub(crate) fn note_token<'input>(note: Note<'input>) -> Token<'input>
 
 /// Where a comment stands, as long as what is behind it isn't known.
 fn placement(is_right: bool) -> Placement
-    ensures { result ≡ placed is_right }
+    ensures { result ≡ token_placement is_right }
 {
     if is_right {
         Placement::Right
@@ -75,7 +75,7 @@ fn placement(is_right: bool) -> Placement
 
 /// What a token marks: the start or the end of a document, or the end of the stream.
 pub(crate) fn mark_of<'input>(token: &Token<'_>) -> Option<LexemeKind<'input>>
-    ensures { option_map kind_view result ≡ marks.marked_by (token_kind token.now.token_type) }
+    ensures { option_map kind_view result ≡ marks.mark_kind (token_kind token.now.token_type) }
 {
     match token.token_type() {
         TokenType::DocumentStart => Some(LexemeKind::DocumentStart),
@@ -87,7 +87,7 @@ pub(crate) fn mark_of<'input>(token: &Token<'_>) -> Option<LexemeKind<'input>>
 
 /// The comment of a token.
 pub(crate) fn note_of<'input>(token: Token<'input>) -> Option<Note<'input>>
-    ensures { option_map note_view result ≡ marks.comment_of (plain_token token.entry) }
+    ensures { option_map note_view result ≡ marks.token_comment (plain_token token.entry) }
 {
     let (span, what) = token.into_parts();
     match what {

@@ -3,9 +3,9 @@ ghost use Rattle.std.specs.Prelude.{◌≡◌, true, false, IfErr, IfOk, IfSome}
 ghost use Rattle.std.specs.Option.{option_map};
 ghost use Rattle.granit_cursor.specs.Reading.{Moves};
 ghost use Rattle.granit_error.specs.FaultKind as faults;
-ghost use Rattle.granit_scan.specs.Recovering.{Proceeds, ProceedsUnless, Rests};
+ghost use Rattle.granit_scan.specs.Recovering.{ProceedsUnless, Rests, ScannerProceeds};
 ghost use Rattle.granit_scan.specs.Scanning as spec;
-ghost use Rattle.granit_scan.specs.Scanning.{Keeps, KeepsCopy, MovesAsked, StandsIn, StopsBy, UnlessFailed};
+ghost use Rattle.granit_scan.specs.Scanning.{CallFails, KeepsCopy, MovesAsked, ScannerIn, ScannerKeeps, UnlessFailed};
 ghost use Rattle.granit_scan.specs.TokenSteps.{TokenState};
 ghost use Rattle.granit_scan.specs.TokenViews.{plain_token};
 
@@ -29,14 +29,14 @@ impl<'input, T: BorrowedInput<'input>> Scanner<'input, T> {
         ensures known { (m : TokenState) → Rests T.unread self.old m
             → IfSome token.entry (λ t. self.old.first ≡ None)
             → ProceedsUnless T.unread T.origin result (option_map plain_token token.entry) m self.old self.new }
-        ensures standing { (m : TokenState) → StandsIn T.unread self.old m
+        ensures standing { (m : TokenState) → ScannerIn T.unread self.old m
             → IfSome token.entry (λ t. self.old.first ≡ None)
             → ProceedsUnless T.unread T.origin result (option_map plain_token token.entry) m self.old self.new }
         ensures source { UnlessFailed T.origin self.old self.new
             (λ e. (result ≡ Err e) × KeepsCopy (Some e) self.new.source_error)
             (IfErr result (λ e. e.kind ≡ faults.NoMemory) × (self.new.source_error ≡ None)) }
         ensures going { IfOk result (λ x. self.new ≡ spec.revived self.new) }
-        ensures failed { IfErr result (λ e. StopsBy self.old self.new e.kind) }
+        ensures failed { IfErr result (λ e. CallFails self.old self.new e.kind) }
         ensures over { self.old.wants_memory ≡ true → IfOk result (λ x. ⊥) }
         ensures comments { self.new.comments ≡ self.old.comments }
         ensures options { self.new.items.options ≡ self.old.items.options }
@@ -69,13 +69,13 @@ impl<'input, T: BorrowedInput<'input>> Scanner<'input, T> {
         ensures known { (m : TokenState) → Rests T.unread self.old m
             → IfSome token.entry (λ t. self.old.first ≡ None)
             → UnlessFailed T.origin self.old self.new (λ e. result ≡ Err e)
-            (IfOk result (λ x. Proceeds T.unread self.old.items.cursor (option_map plain_token token.entry) m
+            (IfOk result (λ x. ScannerProceeds T.unread self.old.items.cursor (option_map plain_token token.entry) m
             (spec.revived self.new))) }
         ensures source { UnlessFailed T.origin self.old self.new
             (λ e. (result ≡ Err e) × KeepsCopy (Some e) self.new.source_error)
             (IfErr result (λ e. e.kind ≡ faults.NoMemory) × (self.new.source_error ≡ None)) }
         ensures over { self.old.wants_memory ≡ true → IfOk result (λ x. ⊥) }
-        ensures keeps { Keeps (record self.old { source_error = self.new.source_error }) self.new }
+        ensures keeps { ScannerKeeps (record self.old { source_error = self.new.source_error }) self.new }
         ensures moves { MovesAsked T.left T.origin (record self.old { failed = false }) self.new }
     {
         let restarted = self.restart(token);
@@ -90,11 +90,11 @@ impl<'input, T: BorrowedInput<'input>> Scanner<'input, T> {
     fn restart(&mut self, token: Option<Token<'input>>) -> Result<(), ScanError>
         ensures known { (m : TokenState) → Rests T.unread self.old m
             → IfSome token.entry (λ t. self.old.first ≡ None)
-            → IfOk result (λ x. Proceeds T.unread self.old.items.cursor (option_map plain_token token.entry) m
+            → IfOk result (λ x. ScannerProceeds T.unread self.old.items.cursor (option_map plain_token token.entry) m
             (spec.revived self.new)) }
         ensures refused { IfErr result (λ e. e.kind ≡ faults.NoMemory) }
         ensures over { self.old.wants_memory ≡ true → IfOk result (λ x. ⊥) }
-        ensures keeps { Keeps self.old self.new }
+        ensures keeps { ScannerKeeps self.old self.new }
         ensures moves { Moves T.unread T.left T.origin self.old.items.cursor self.new.items.cursor }
     {
         if self.wants_memory {

@@ -14,10 +14,10 @@ ghost use Rattle.granit_input.specs.White.{holds};
 ghost use Rattle.granit_lexemes.specs.Here.{Here, first_place, mark_of};
 ghost use Rattle.granit_machine.specs.Reader.{LexState};
 ghost use Rattle.granit_queue.specs.QueueViews.{queued_view};
-ghost use Rattle.granit_scan.specs.Recovering.{RefusesIn, RestsIn};
+ghost use Rattle.granit_scan.specs.Recovering.{RestsIn, ScannerRefusesIn};
 ghost use Rattle.granit_scan.specs.Scanning as spec;
-ghost use Rattle.granit_scan.specs.Scanning.{GivesStart, Keeps, KeepsCopy, KeepsFirst, MovesAsked, StandsIn, StopsBy};
-ghost use Rattle.granit_scan.specs.Scanning.{TakesFree, TakesToken, TellsError, UnlessFailed};
+ghost use Rattle.granit_scan.specs.Scanning.{CallFails, GivesStart, KeepsCopy, KeepsFirst, MovesAsked, ScannerIn};
+ghost use Rattle.granit_scan.specs.Scanning.{ScannerKeeps, ScannerTakesFree, TakesToken, TellsKeptError, UnlessFailed};
 ghost use Rattle.granit_scan.specs.TokenSteps as steps;
 ghost use Rattle.granit_scan.specs.TokenSteps.{TokenState};
 ghost use Rattle.granit_scan.specs.TokenViews.{plain_token};
@@ -61,9 +61,9 @@ pub struct Scanner<'input, T: Input> {
 }
 
 impl<'input, T: Input> Model for Scanner<'input, T> {
-    ghost use Rattle.granit_scan.specs.Scanning.{Scanning};
+    ghost use Rattle.granit_scan.specs.Scanning.{TokenScanning};
 
-    ghost Value = { Scanning T };
+    ghost Value = { TokenScanning T };
 
     ghost view = { λ s. record {
       items = s.items;
@@ -82,7 +82,7 @@ impl<'input, T: BorrowedInput<'input>> Scanner<'input, T> {
     /// Before an input of which nothing was read, read with the default options.
     pub fn new(alloc: Global, input: T) -> Scanner<'input, T>
         ensures start { (h : Here) → T.unread input h.unread → h.place ≡ first_place → h.begins_line ≡ true
-            → h.tab ≡ None → StandsIn T.unread result (steps.start_from h) }
+            → h.tab ≡ None → ScannerIn T.unread result (steps.tokens_start_from h) }
         ensures options { result.items.options ≡ default_options }
         ensures ended { result.ended ≡ false }
         ensures comments { result.comments ≡ false → (u : Unread) → T.unread input u → holds 0x23 u.text ≡ false }
@@ -95,7 +95,7 @@ impl<'input, T: BorrowedInput<'input>> Scanner<'input, T> {
     /// Before an input of which nothing was read.
     pub fn with_options(alloc: Global, input: T, options: Options) -> Scanner<'input, T>
         ensures start { (h : Here) → T.unread input h.unread → h.place ≡ first_place → h.begins_line ≡ true
-            → h.tab ≡ None → StandsIn T.unread result (steps.start_from h) }
+            → h.tab ≡ None → ScannerIn T.unread result (steps.tokens_start_from h) }
         ensures options { result.items.options ≡ options_of options }
         ensures ended { result.ended ≡ false }
         ensures comments { result.comments ≡ false → options.emit_comments ≡ true
@@ -164,12 +164,13 @@ impl<'input, T: BorrowedInput<'input>> Scanner<'input, T> {
     ///
     /// That error, at the place up to which was read when a call first met it, and `NoMemory`.
     pub fn check_source_error(&mut self) -> Result<(), ScanError>
-        ensures told { TellsError self.new.source_error result }
+        ensures told { TellsKeptError self.new.source_error result }
         ensures kind { option_map refused_kind self.new.source_error
             ≡ spec.first_kind self.old.source_error (error_given (T.origin self.old.items.cursor.input)) }
         ensures kept { (h : Here) → Stands T.unread self.old.items.cursor h → self.new.source_error
-            ≡ spec.first_error self.old.source_error (error_given (T.origin self.old.items.cursor.input)) (mark_of h) }
-        ensures known { (m : TokenState) → StandsIn T.unread self.old m → StandsIn T.unread self.new m }
+            ≡ spec.first_kept_error self.old.source_error
+            (error_given (T.origin self.old.items.cursor.input)) (mark_of h) }
+        ensures known { (m : TokenState) → ScannerIn T.unread self.old m → ScannerIn T.unread self.new m }
         ensures rest { self.new
             ≡ record self.old { items = self.new.items; source_error = self.new.source_error } }
         ensures items { self.new.items ≡ record (self.old.items) { cursor = self.new.items.cursor } }
@@ -188,8 +189,9 @@ impl<'input, T: BorrowedInput<'input>> Scanner<'input, T> {
         ensures kind { option_map refused_kind self.new.source_error
             ≡ spec.first_kind self.old.source_error (error_given (T.origin self.old.items.cursor.input)) }
         ensures kept { (h : Here) → Stands T.unread self.old.items.cursor h → self.new.source_error
-            ≡ spec.first_error self.old.source_error (error_given (T.origin self.old.items.cursor.input)) (mark_of h) }
-        ensures known { (m : TokenState) → StandsIn T.unread self.old m → StandsIn T.unread self.new m }
+            ≡ spec.first_kept_error self.old.source_error
+            (error_given (T.origin self.old.items.cursor.input)) (mark_of h) }
+        ensures known { (m : TokenState) → ScannerIn T.unread self.old m → ScannerIn T.unread self.new m }
         ensures reading { (l : LexState) (q : _) → Known T.unread self.old.items l q
             → Known T.unread self.new.items l q }
         ensures rest { self.new
@@ -209,7 +211,7 @@ impl<'input, T: BorrowedInput<'input>> Scanner<'input, T> {
 
     /// The source's error, where one is kept.
     fn tell_source_error(&self) -> Result<(), ScanError>
-        ensures { TellsError self.now.source_error result }
+        ensures { TellsKeptError self.now.source_error result }
     {
         match &self.source_error {
             None => Ok(()),
@@ -221,7 +223,7 @@ impl<'input, T: BorrowedInput<'input>> Scanner<'input, T> {
     pub(crate) fn give_source_error(&mut self) -> Option<ScanError>
         ensures given { result ≡ self.old.source_error }
         ensures kept { KeepsCopy result self.new.source_error }
-        ensures known { (m : TokenState) → StandsIn T.unread self.old m → StandsIn T.unread self.new m }
+        ensures known { (m : TokenState) → ScannerIn T.unread self.old m → ScannerIn T.unread self.new m }
         ensures rest { self.new ≡ record self.old { source_error = self.new.source_error } }
     {
         match self.source_error.take() {
@@ -240,20 +242,20 @@ impl<'input, T: BorrowedInput<'input>> Scanner<'input, T> {
     ///
     /// What is wrong with the input there, by the kinds of `docs/FAULTS.md`, and `NoMemory`.
     pub fn next_queued(&mut self) -> Result<Option<Token<'input>>, ScanError>
-        ensures known { (m : TokenState) → StandsIn T.unread self.old m
+        ensures known { (m : TokenState) → ScannerIn T.unread self.old m
             → UnlessFailed T.origin self.old self.new (λ e. result ≡ Err e)
-            (GivesTo (option_map plain_token) result (StandsIn T.unread self.new)
+            (GivesTo (option_map plain_token) result (ScannerIn T.unread self.new)
             (steps.next_token self.old.items.options m)) }
-        ensures refused { (m : TokenState) → StandsIn T.unread self.old m
+        ensures refused { (m : TokenState) → ScannerIn T.unread self.old m
             → UnlessFailed T.origin self.old self.new (λ e. Unit {0})
-            (RefusesIn T.unread self.old.items.options result self.new m) }
+            (ScannerRefusesIn T.unread self.old.items.options result self.new m) }
         ensures source { self.old.failed ≡ false → UnlessFailed T.origin self.old self.new
             (λ e. (result ≡ Err e) × KeepsCopy (Some e) self.new.source_error)
             (GivesStart self.old.first result × (self.new.source_error ≡ None)) }
         ensures ended { IfOk result (λ t. self.new.ended
-            ≡ (self.old.ended || spec.is_end (option_map plain_token t))) }
+            ≡ (self.old.ended || spec.is_last_token (option_map plain_token t))) }
         ensures started { IfOk result (λ t. self.old.failed ≡ false → self.new.first ≡ None) }
-        ensures failed { IfErr result (λ e. StopsBy self.old self.new e.kind) }
+        ensures failed { IfErr result (λ e. CallFails self.old self.new e.kind) }
         ensures going { IfOk result (λ t. self.new.failed_in_directive ≡ self.old.failed_in_directive) }
         ensures comments { self.new.comments ≡ self.old.comments }
         ensures over { self.old.failed ≡ true → (result ≡ Ok None) × (self.new ≡ self.old) }
@@ -287,10 +289,10 @@ impl<'input, T: BorrowedInput<'input>> Scanner<'input, T> {
 
     /// The start of the stream, or else the oldest token that waits, goes.
     fn take_token(&mut self) -> Option<Token<'input>>
-        ensures known { (m : TokenState) → StandsIn T.unread self.old m
+        ensures known { (m : TokenState) → ScannerIn T.unread self.old m
             → TakesToken T.unread (option_map plain_token result) self.new m }
         ensures start { GivesStart self.old.first (Ok result) }
-        ensures ended { self.new.ended ≡ (self.old.ended || spec.is_end (option_map plain_token result)) }
+        ensures ended { self.new.ended ≡ (self.old.ended || spec.is_last_token (option_map plain_token result)) }
         ensures rest { self.new
             ≡ record self.old { first = None; writer = self.new.writer; ended = self.new.ended } }
     {
@@ -308,7 +310,7 @@ impl<'input, T: BorrowedInput<'input>> Scanner<'input, T> {
         ensures first { option_map plain_token result ≡ slice_get self.old.writer.waiting 0 }
         ensures rest { self.new ≡ record self.old {
           writer = record (self.old.writer) { waiting = drop 1 self.old.writer.waiting };
-          ended = self.old.ended || spec.is_end (option_map plain_token result);
+          ended = self.old.ended || spec.is_last_token (option_map plain_token result);
         } }
     {
         let token = self.writer.pop();
@@ -318,16 +320,17 @@ impl<'input, T: BorrowedInput<'input>> Scanner<'input, T> {
 
     /// Turns until a token waits, or nothing is left, or the error of the source in the place of all that.
     fn ready(&mut self) -> Result<(), ScanError>
-        ensures known { (m : TokenState) → StandsIn T.unread self.old m
+        ensures known { (m : TokenState) → ScannerIn T.unread self.old m
             → UnlessFailed T.origin self.old self.new (λ e. result ≡ Err e)
-            (GivesTo spec.no_tokens result (StandsIn T.unread self.new) (steps.settle self.old.items.options m)) }
-        ensures refused { (m : TokenState) → StandsIn T.unread self.old m
+            (GivesTo spec.no_tokens result (ScannerIn T.unread self.new)
+            (steps.settle_tokens self.old.items.options m)) }
+        ensures refused { (m : TokenState) → ScannerIn T.unread self.old m
             → UnlessFailed T.origin self.old self.new (λ e. Unit {0})
-            (RefusesIn T.unread self.old.items.options result self.new m) }
+            (ScannerRefusesIn T.unread self.old.items.options result self.new m) }
         ensures source { UnlessFailed T.origin self.old self.new
             (λ e. (result ≡ Err e) × KeepsCopy (Some e) self.new.source_error)
             (IfErr result (λ e. self.old.first ≡ None) × (self.new.source_error ≡ None)) }
-        ensures keeps { Keeps (record self.old { source_error = self.new.source_error }) self.new }
+        ensures keeps { ScannerKeeps (record self.old { source_error = self.new.source_error }) self.new }
         ensures moves { MovesAsked T.left T.origin self.old self.new }
     {
         let settled = self.settle_behind_start();
@@ -340,12 +343,13 @@ impl<'input, T: BorrowedInput<'input>> Scanner<'input, T> {
 
     /// As `settle`, once the start of the stream was given; before, that waits.
     fn settle_behind_start(&mut self) -> Result<(), ScanError>
-        ensures known { (m : TokenState) → StandsIn T.unread self.old m
-            → GivesTo spec.no_tokens result (StandsIn T.unread self.new) (steps.settle self.old.items.options m) }
-        ensures refused { (m : TokenState) → StandsIn T.unread self.old m
-            → RefusesIn T.unread self.old.items.options result self.new m }
+        ensures known { (m : TokenState) → ScannerIn T.unread self.old m
+            → GivesTo spec.no_tokens result (ScannerIn T.unread self.new)
+            (steps.settle_tokens self.old.items.options m) }
+        ensures refused { (m : TokenState) → ScannerIn T.unread self.old m
+            → ScannerRefusesIn T.unread self.old.items.options result self.new m }
         ensures start { IfErr result (λ e. self.old.first ≡ None) }
-        ensures keeps { Keeps self.old self.new }
+        ensures keeps { ScannerKeeps self.old self.new }
         ensures moves { Moves T.unread T.left T.origin self.old.items.cursor self.new.items.cursor }
     {
         match self.first {
@@ -357,11 +361,12 @@ impl<'input, T: BorrowedInput<'input>> Scanner<'input, T> {
     /// Turns until a token waits, or nothing is left.
     #[tactic(auto, using(crate::proofs::SettleLemmas::leads_first, crate::proofs::SettleLemmas::no_turn_made))]
     fn settle(&mut self) -> Result<(), ScanError>
-        ensures known { (m : TokenState) → StandsIn T.unread self.old m → self.old.first ≡ None
-            → GivesTo spec.no_tokens result (StandsIn T.unread self.new) (steps.settle self.old.items.options m) }
-        ensures refused { (m : TokenState) → StandsIn T.unread self.old m → self.old.first ≡ None
-            → RefusesIn T.unread self.old.items.options result self.new m }
-        ensures keeps { Keeps self.old self.new }
+        ensures known { (m : TokenState) → ScannerIn T.unread self.old m → self.old.first ≡ None
+            → GivesTo spec.no_tokens result (ScannerIn T.unread self.new)
+            (steps.settle_tokens self.old.items.options m) }
+        ensures refused { (m : TokenState) → ScannerIn T.unread self.old m → self.old.first ≡ None
+            → ScannerRefusesIn T.unread self.old.items.options result self.new m }
+        ensures keeps { ScannerKeeps self.old self.new }
         ensures moves { Moves T.unread T.left T.origin self.old.items.cursor self.new.items.cursor }
     {
         // Over an input of which nothing is known no number falls with each turn, so the turns are counted.
@@ -376,10 +381,11 @@ impl<'input, T: BorrowedInput<'input>> Scanner<'input, T> {
     /// One turn: the oldest item is written where it may go, and else one more read is made; false where a token waits
     /// or nothing is left.
     fn turn(&mut self) -> Result<bool, ScanError>
-        ensures known { (m : TokenState) → StandsIn T.unread self.old m → self.old.first ≡ None
-            → GivesTo spec.turn_view result (StandsIn T.unread self.new) (steps.token_turn self.old.items.options m) }
-        ensures refused { (m : TokenState) → StandsIn T.unread self.old m → RestsIn T.unread result self.new m }
-        ensures keeps { Keeps self.old self.new }
+        ensures known { (m : TokenState) → ScannerIn T.unread self.old m → self.old.first ≡ None
+            → GivesTo spec.token_turn_view result (ScannerIn T.unread self.new)
+            (steps.token_turn self.old.items.options m) }
+        ensures refused { (m : TokenState) → ScannerIn T.unread self.old m → RestsIn T.unread result self.new m }
+        ensures keeps { ScannerKeeps self.old self.new }
         ensures moves { Moves T.unread T.left T.origin self.old.items.cursor self.new.items.cursor }
     {
         if !self.writer.is_empty() {
@@ -393,9 +399,9 @@ impl<'input, T: BorrowedInput<'input>> Scanner<'input, T> {
 
     /// The oldest item, where it may go.
     fn take_free(&mut self) -> Option<Queued<'input>>
-        ensures known { (m : TokenState) → StandsIn T.unread self.old m
-            → TakesFree T.unread (option_map queued_view result) self.new m }
-        ensures keeps { Keeps self.old self.new }
+        ensures known { (m : TokenState) → ScannerIn T.unread self.old m
+            → ScannerTakesFree T.unread (option_map queued_view result) self.new m }
+        ensures keeps { ScannerKeeps self.old self.new }
         ensures writer { self.new.writer ≡ self.old.writer }
         ensures cursor { self.new.items.cursor ≡ self.old.items.cursor }
     {
@@ -410,11 +416,11 @@ impl<'input, T: BorrowedInput<'input>> Scanner<'input, T> {
 
     /// An item is written as tokens.
     fn write_item(&mut self, queued: Queued<'input>) -> Result<bool, ScanError>
-        ensures known { (m : TokenState) → StandsIn T.unread self.old m → self.old.first ≡ None → m.pending ≡ []
-            → GivesTo spec.turn_view result (StandsIn T.unread self.new)
-            (Ok (spec.turn_view true, steps.with_written (queued_view queued.entry) m.queue m)) }
+        ensures known { (m : TokenState) → ScannerIn T.unread self.old m → self.old.first ≡ None → m.pending ≡ []
+            → GivesTo spec.token_turn_view result (ScannerIn T.unread self.new)
+            (Ok (spec.token_turn_view true, steps.with_written (queued_view queued.entry) m.queue m)) }
         ensures refused { IfErr result (λ e. e.kind ≡ faults.NoMemory) }
-        ensures keeps { Keeps self.old self.new }
+        ensures keeps { ScannerKeeps self.old self.new }
         ensures items { self.new.items ≡ self.old.items }
     {
         let Queued { item, begins_key } = queued;
@@ -426,11 +432,11 @@ impl<'input, T: BorrowedInput<'input>> Scanner<'input, T> {
 
     /// One more read, or the fault of the one before; false behind the end.
     fn read_more(&mut self) -> Result<bool, ScanError>
-        ensures known { (m : TokenState) → StandsIn T.unread self.old m → may_front_go m.reading m.queue ≡ false
-            → GivesTo spec.turn_view result (StandsIn T.unread self.new)
-            (steps.read_more self.old.items.options m.reading.ended m) }
-        ensures refused { (m : TokenState) → StandsIn T.unread self.old m → RestsIn T.unread result self.new m }
-        ensures keeps { Keeps self.old self.new }
+        ensures known { (m : TokenState) → ScannerIn T.unread self.old m → may_front_go m.reading m.queue ≡ false
+            → GivesTo spec.token_turn_view result (ScannerIn T.unread self.new)
+            (steps.read_more_tokens self.old.items.options m.reading.ended m) }
+        ensures refused { (m : TokenState) → ScannerIn T.unread self.old m → RestsIn T.unread result self.new m }
+        ensures keeps { ScannerKeeps self.old self.new }
         ensures moves { Moves T.unread T.left T.origin self.old.items.cursor self.new.items.cursor }
     {
         if self.items.is_over() {
@@ -442,11 +448,11 @@ impl<'input, T: BorrowedInput<'input>> Scanner<'input, T> {
 
     /// Reading is over: by a fault, or at the end.
     fn end(&mut self) -> Result<bool, ScanError>
-        ensures known { (m : TokenState) → StandsIn T.unread self.old m → is_over m.reading ≡ true
-            → GivesTo spec.turn_view result (StandsIn T.unread self.new)
-            (steps.read_more self.old.items.options m.reading.ended m) }
-        ensures refused { (m : TokenState) → StandsIn T.unread self.old m → RestsIn T.unread result self.new m }
-        ensures keeps { Keeps self.old self.new }
+        ensures known { (m : TokenState) → ScannerIn T.unread self.old m → is_over m.reading ≡ true
+            → GivesTo spec.token_turn_view result (ScannerIn T.unread self.new)
+            (steps.read_more_tokens self.old.items.options m.reading.ended m) }
+        ensures refused { (m : TokenState) → ScannerIn T.unread self.old m → RestsIn T.unread result self.new m }
+        ensures keeps { ScannerKeeps self.old self.new }
         ensures cursor { self.new.items.cursor ≡ self.old.items.cursor }
     {
         match self.items.take_fault() {
@@ -458,7 +464,7 @@ impl<'input, T: BorrowedInput<'input>> Scanner<'input, T> {
 
 /// Whether the end of the stream was given, now or before.
 fn ends_stream(before: bool, token: &Option<Token<'_>>) -> bool
-    ensures { result ≡ (before || spec.is_end (option_map plain_token token.now)) }
+    ensures { result ≡ (before || spec.is_last_token (option_map plain_token token.now)) }
 {
     match token {
         None => before,
@@ -490,7 +496,7 @@ fn copy_of(alloc: Global, error: &ScanError) -> ScanError
 
 /// The error that is kept, or the one that was given at a place.
 fn first_error(kept: Option<ScanError>, given: Option<ErrorKind>, mark: Marker) -> Option<ScanError>
-    ensures { result ≡ spec.first_error kept (option_map kind_of given) mark }
+    ensures { result ≡ spec.first_kept_error kept (option_map kind_of given) mark }
 {
     match (kept, given) {
         (Some(error), _) => Some(error),
@@ -503,9 +509,9 @@ fn first_error(kept: Option<ScanError>, given: Option<ErrorKind>, mark: Marker) 
 impl<'input, T: BorrowedInput<'input>> Iterator for Scanner<'input, T> {
     type Item = Result<Token<'input>, ScanError>;
 
-    ghost use Rattle.granit_scan.specs.Scanning.{StepsTo};
+    ghost use Rattle.granit_scan.specs.Scanning.{ScannerStepsTo};
 
-    ghost next_gives = { λ p r q. StepsTo T.unread T.left T.origin p r q };
+    ghost next_gives = { λ p r q. ScannerStepsTo T.unread T.left T.origin p r q };
 
     fn next(&mut self) -> Option<Result<Token<'input>, ScanError>> {
         self.next_queued().transpose()

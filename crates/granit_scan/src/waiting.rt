@@ -141,7 +141,7 @@ impl<'input> Waiting<'input> {
         span: Span,
     ) -> Result<Option<Box<Lexeme<'input>>>, NoMemory>
         ensures { IfOk result (λ m. option_map boxed_lexeme m
-            ≡ Some (marks.mark_at (kind_view kind.entry) span (marks.tail_in self.old))) }
+            ≡ Some (marks.mark_lexeme (kind_view kind.entry) span (marks.tail_in self.old))) }
     {
         let tail = self.pop_note(alloc)?;
         let mark = Lexeme {

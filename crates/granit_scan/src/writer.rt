@@ -281,7 +281,8 @@ impl<'input> Writer<'input> {
     /// column.
     #[tactic(auto, using(crate::proofs::WriteLemmas::entry_made))]
     fn enter(&mut self, options: &Options, mark: Marker) -> Result<(), NoMemory>
-        ensures { OnOk result (self.new ≡ spec.with_laid (spec.entry_at mark.place.column self.old.following.laid)
+        ensures { OnOk result (self.new ≡ spec.with_laid
+            (spec.entry_in_column mark.place.column self.old.following.laid)
             self.old) }
     {
         self.layouts.set_last(LastLexeme::Another);
@@ -310,7 +311,7 @@ impl<'input> Writer<'input> {
     }
 
     fn write_tail(&mut self, tail: Option<Box<Note<'input>>>) -> Result<(), NoMemory>
-        ensures { OnOk result (self.new ≡ spec.with_tail (option_map boxed_view tail.entry) self.old) }
+        ensures { OnOk result (self.new ≡ spec.with_tail_written (option_map boxed_view tail.entry) self.old) }
     {
         match tail {
             None => Ok(()),
@@ -362,7 +363,7 @@ fn is_bare_colon(lexeme: &Lexeme<'_>) -> bool
 
 /// Where the entry of a `:` begins: with its key, or with it.
 fn entry_of(lexeme: &Lexeme<'_>) -> Marker
-    ensures { result ≡ spec.entry_of (lexeme_view lexeme.now).key lexeme.now.start }
+    ensures { result ≡ spec.entry_start (lexeme_view lexeme.now).key lexeme.now.start }
 {
     match lexeme.key {
         None => lexeme.start,

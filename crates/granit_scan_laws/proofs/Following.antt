@@ -22,7 +22,7 @@ use Rattle.granit_machine.specs.Laid.{Laid, in_square, innermost_column, is_colu
 use Rattle.granit_machine.specs.Laid.{same_bracket}
 use Rattle.granit_reading.proofs.ColumnsKept.{Change, all_end, all_widened, keyed, nothing, own, passes, pop, popped}
 use Rattle.granit_reading.proofs.ColumnsKept.{push, pushed}
-use Rattle.granit_scan.specs.Following.{entry_at, entry_of, laid_behind, opens, with_last}
+use Rattle.granit_scan.specs.Following.{entry_in_column, entry_start, laid_behind, laid_by_lexeme, with_last}
 use Rattle.granit_steps.specs.Tokens.{behind_ends, begins_single, ended_blocks, inserted, is_bare_colon_of}
 use Rattle.granit_steps.specs.Tokens.{is_new_column}
 use Rattle.granit_steps.specs.Tokens.{left_open, pairs_of, tokens_of, block_start, ends_single, insert_if, pairs_behind}
@@ -62,7 +62,7 @@ module _ (x : Lexeme) (f : Laid) (out : is_in_flow f ≡ false) where
       ∙ popped stands f.columns
 
   enters : (c : ℕ) (s : Laid) → is_in_flow s ≡ is_in_flow f → columns_of s ≡ pop stands (columns_of f)
-      → columns_of (entry_at c s) ≡ push c (pop stands (columns_of f))
+      → columns_of (entry_in_column c s) ≡ push c (pop stands (columns_of f))
   enters c s flow e =
       ap (λ (v : Bool). columns_of (if v then with_last Another s
       else entered c (with_last Another s))) (flow ∙ out)
@@ -73,7 +73,7 @@ module _ (x : Lexeme) (f : Laid) (out : is_in_flow f ≡ false) where
   left kind = left_open kind stands f
 
   outside_by : (kind : LexemeKind) (key : Option KeyStart) → x.key ≡ key
-      → columns_of (opens kind x (left kind)) ≡ followed_by kind key stands (columns_of f)
+      → columns_of (laid_by_lexeme kind x (left kind)) ≡ followed_by kind key stands (columns_of f)
   outside_by (Directive d) key e = ends_all
   outside_by DocumentStart key e = ends_all
   outside_by DocumentEnd key e = ends_all
@@ -81,10 +81,10 @@ module _ (x : Lexeme) (f : Laid) (out : is_in_flow f ≡ false) where
   outside_by Dash key e = enters stands (left Dash) refl ends_right
   outside_by Question key e = enters stands (left Question) refl ends_right
   outside_by Colon None e =
-      ap (λ (key : Option KeyStart). columns_of (entry_at (entry_of key x.start).place.column (left Colon))) e
+      ap (λ (key : Option KeyStart). columns_of (entry_in_column (entry_start key x.start).place.column (left Colon))) e
       ∙ enters stands (left Colon) refl ends_right
   outside_by Colon (Some k) e =
-      ap (λ (key : Option KeyStart). columns_of (entry_at (entry_of key x.start).place.column (left Colon))) e
+      ap (λ (key : Option KeyStart). columns_of (entry_in_column (entry_start key x.start).place.column (left Colon))) e
       ∙ enters k.start.place.column (left Colon) refl ends_right
   outside_by (Open bracket) key e = all_widened (left (Open bracket)).columns ∙ ends_right
   outside_by kind key e = ends_right
@@ -100,13 +100,14 @@ module _ (x : Lexeme) (f : Laid) (inside : is_in_flow f ≡ true) where
   stays = ap (λ v. cols (if v then f.columns else up_to_column x.start.place.column f.columns)) inside
 
   enters_none : (c : ℕ) (s : Laid) → is_in_flow s ≡ is_in_flow f → columns_of s ≡ columns_of f
-      → columns_of (entry_at c s) ≡ columns_of f
+      → columns_of (entry_in_column c s) ≡ columns_of f
   enters_none c s flow e =
       ap (λ (v : Bool). columns_of (if v then with_last Another s
       else entered c (with_last Another s))) (flow ∙ inside)
       ∙ e
 
-  inside_by : (kind : LexemeKind) → columns_of (opens kind x (left_open kind x.start.place.column f)) ≡ columns_of f
+  inside_by : (kind : LexemeKind) → columns_of
+      (laid_by_lexeme kind x (left_open kind x.start.place.column f)) ≡ columns_of f
   inside_by (Directive d) = stays_all
   inside_by DocumentStart = stays_all
   inside_by DocumentEnd = stays_all
@@ -114,7 +115,7 @@ module _ (x : Lexeme) (f : Laid) (inside : is_in_flow f ≡ true) where
   inside_by Dash = enters_none x.start.place.column (left_open Dash x.start.place.column f) refl stays
   inside_by Question = enters_none x.start.place.column (left_open Question x.start.place.column f) refl stays
   inside_by Colon =
-      enters_none (entry_of x.key x.start).place.column (left_open Colon x.start.place.column f) refl stays
+      enters_none (entry_start x.key x.start).place.column (left_open Colon x.start.place.column f) refl stays
   inside_by (Open bracket) = all_widened (left_open (Open bracket) x.start.place.column f).columns ∙ stays
   inside_by kind = stays
 
@@ -195,14 +196,14 @@ module _ (s : Laid) (x : Lexeme) (after : Laid) (flow : x.in_flow ≡ is_in_flow
 
 -- ---- brackets
 
-entry_brackets : (c : ℕ) (s : Laid) → (entry_at c s).brackets ≡ s.brackets
+entry_brackets : (c : ℕ) (s : Laid) → (entry_in_column c s).brackets ≡ s.brackets
 entry_brackets c s = on (is_in_flow s)
   where
     on : (v : Bool) → (if v then with_last Another s else entered c (with_last Another s)).brackets ≡ s.brackets
     on true = refl
     on false = refl
 
-entry_last : (c : ℕ) (s : Laid) → is_opener (entry_at c s).last ≡ false
+entry_last : (c : ℕ) (s : Laid) → is_opener (entry_in_column c s).last ≡ false
 entry_last c s = on (is_in_flow s)
   where
     on : (v : Bool) → is_opener (if v then with_last Another s else entered c (with_last Another s)).last ≡ false
@@ -215,7 +216,7 @@ closed_kinds bracket [] = refl
 closed_kinds bracket (b ∷ bs) = refl
 
 kinds_by : (kind : LexemeKind) (x : Lexeme) (f : Laid)
-    → kinds_in (opens kind x (left_open kind x.start.place.column f)).brackets
+    → kinds_in (laid_by_lexeme kind x (left_open kind x.start.place.column f)).brackets
     ≡ open_behind (terminal_kind kind x.key) (kinds_in f.brackets)
 kinds_by (Directive d) x f = refl
 kinds_by DocumentStart x f = refl
@@ -225,19 +226,20 @@ kinds_by (Close bracket) x f = closed_kinds bracket f.brackets
 kinds_by Dash x f = ap kinds_in (entry_brackets x.start.place.column (left_open Dash x.start.place.column f))
 kinds_by Question x f = ap kinds_in (entry_brackets x.start.place.column (left_open Question x.start.place.column f))
 kinds_by Colon x f = ap kinds_in
-    (entry_brackets (entry_of x.key x.start).place.column (left_open Colon x.start.place.column f))
+    (entry_brackets (entry_start x.key x.start).place.column (left_open Colon x.start.place.column f))
 kinds_by kind x f = refl
 
 last_by : (kind : LexemeKind) (x : Lexeme) (f : Laid)
     → is_nonempty (open_behind (terminal_kind kind x.key) (kinds_in f.brackets)) ≡ true
-    → is_opener (opens kind x (left_open kind x.start.place.column f)).last ≡ may_follow (terminal_kind kind x.key)
+    → is_opener (laid_by_lexeme kind x (left_open kind x.start.place.column f)).last
+    ≡ may_follow (terminal_kind kind x.key)
 last_by (Directive d) x f e = refl
 last_by DocumentStart x f e = refl
 last_by DocumentEnd x f e = refl
 last_by StreamEnd x f e = refl
 last_by Dash x f e = entry_last x.start.place.column (left_open Dash x.start.place.column f)
 last_by Question x f e = entry_last x.start.place.column (left_open Question x.start.place.column f)
-last_by Colon x f e = entry_last (entry_of x.key x.start).place.column (left_open Colon x.start.place.column f)
+last_by Colon x f e = entry_last (entry_start x.key x.start).place.column (left_open Colon x.start.place.column f)
 last_by Comma x f e =
     ap (λ (v : Bool). is_opener (if v then Opener else Another)) (sym (kinds_flow f.brackets) ∙ e)
 last_by kind x f e = refl

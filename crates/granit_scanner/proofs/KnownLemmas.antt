@@ -14,7 +14,7 @@ use Rattle.granit_machine.specs.Machine.{front_if, is_settled, settled}
 use Rattle.granit_machine.specs.Reader.{LexState}
 use Rattle.granit_scanner.specs.Scans.{Scanning, Known, KnownBy, TakesOldest, front_goes, is_done, line_next}
 use Rattle.granit_reader.specs.Meets.{behind_met}
-use Rattle.granit_restart.specs.Header.{directive_behind, ends_in_directive}
+use Rattle.granit_restart.specs.Header.{ends_in_directive, last_is_directive}
 use Rattle.granit_scanner.specs.Scans.{may_front_go, unsettled}
 use Rattle.granit_steps.specs.Steps.{asks_next, is_next_settled, is_over, line_behind, may_go}
 
@@ -75,7 +75,7 @@ ends_front : (b : Bool) (before : Bool) (l : Laid) (i : FlaggedItem) (is : List 
     → ends_in_directive before (i ∷ is)
     ≡ ends_in_directive (ends_in_directive before (front_if b i (settled l is)))
     (drop (length (front_if b i (settled l is))) (i ∷ is))
-ends_front true before l i is more = more (directive_behind before i.item)
+ends_front true before l i is more = more (last_is_directive before i.item)
 ends_front false before l i is more = refl
 
 pub ends_both : (before : Bool) (l : Laid) (q : List FlaggedItem)

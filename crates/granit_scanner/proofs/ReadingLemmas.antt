@@ -25,7 +25,7 @@ use Rattle.granit_restart.specs.Header.{ends_in_directive}
 use Rattle.granit_scanner.specs.Scans.{KeepsBefore, Known, KnownBy, ReadsOn, Scanning, TakesRead, TellsLast, front_goes}
 use Rattle.granit_scanner.specs.Scans.{is_done, may_front_go, unsettled, wants_memory}
 use Rattle.granit_scanner.proofs.KnownLemmas.{known_goes, no_fault}
-use Rattle.granit_steps.specs.Steps.{incoming, items_of, pushed}
+use Rattle.granit_steps.specs.Steps.{incoming, items_or_none, pushed}
 use Rattle.granit_steps.proofs.Futures.{pushed_nil}
 
 wants_none : (k : FaultKind) → wants_memory k ≡ false → k ≡ NoMemory → ⊥
@@ -86,7 +86,7 @@ module _ {I : Type 0} (unread : I → Unread → Type 0) (s : Scanning I) (l : L
         let asked = o.emit_comments in
         let back = coded_back (turn_items asked) (lex_turn o before) items (before_turn mid.ended given.0) given.2 in
         let later : LexState = before_turn mid.ended given.0 in
-        let left : List FlaggedItem = pushed q (incoming asked (items_of back.0)) in
+        let left : List FlaggedItem = pushed q (incoming asked (items_or_none back.0)) in
         let fault : after.fault ≡ None = ap (λ (r : Scanning I). r.fault) is ∙ same_fault
         ∙ no_fault unread s l q k none in
         let known : KnownBy unread None after later left =
@@ -98,7 +98,7 @@ module _ {I : Type 0} (unread : I → Unread → Type 0) (s : Scanning I) (l : L
         )
       where
         queue_again : (y : Option (List Item)) → turn_items o.emit_comments y ≡ items
-            → pushed q (incoming o.emit_comments (items_of y)) ≡ pushed mid.queue items
+            → pushed q (incoming o.emit_comments (items_or_none y)) ≡ pushed mid.queue items
         queue_again y e = ap (pushed q) e ∙ ap (λ (w : List FlaggedItem). pushed w items) waiting
 
     -- a read that fails: where the lexemes before it are as many, and what it met is told

@@ -13,7 +13,7 @@ use Rattle.granit_machine.specs.Laid.{Laid, laid_start}
 use Rattle.granit_machine.specs.Lexing.{FlaggedItem}
 use Rattle.granit_machine.specs.ReaderState.{lexeme_to}
 use Rattle.granit_restart.specs.Boundary.{AtStart, AtTextEnd, Boundary, PastEnd}
-use Rattle.granit_restart.specs.Header.{directive_behind, ends_in_directive}
+use Rattle.granit_restart.specs.Header.{ends_in_directive, last_is_directive}
 use Rattle.granit_restart.specs.Restart.{anew, at_boundary, at_found, behind_fault_at, boundary_of, is_boundary}
 use Rattle.granit_restart.specs.Restart.{laid_anew, lexeme_or, read_boundary, start_found}
 use Rattle.granit_scanner.specs.Restarts.{Restarts}
@@ -82,11 +82,11 @@ last_none b (i ∷ is) (suc n) e = last_none b is n e
 
 -- one item on
 pub last_on : (b : Bool) (q : List FlaggedItem) (n : ℕ) (i : FlaggedItem) → Some i ≡ slice_get q n
-    → ends_in_directive (directive_behind b i.item) (drop (suc n) q) ≡ ends_in_directive b (drop n q)
+    → ends_in_directive (last_is_directive b i.item) (drop (suc n) q) ≡ ends_in_directive b (drop n q)
 last_on b [] zero i e = absurd (cc)
 last_on b [] (suc n) i e = absurd (cc)
 last_on b (j ∷ js) zero i e =
-    ap (λ (f : FlaggedItem). ends_in_directive (directive_behind b f.item) js) (same_front i j e)
+    ap (λ (f : FlaggedItem). ends_in_directive (last_is_directive b f.item) js) (same_front i j e)
 last_on b (j ∷ js) (suc n) i e = last_on b js n i e
 
 pub last_all : (b : Bool) (q : List FlaggedItem) (n : ℕ) → length q ≤ n → b ≡ ends_in_directive b (drop n q)

@@ -19,8 +19,8 @@ use Rattle.granit_reader.specs.Meets.{MeetsBehind, behind_met}
 use Rattle.granit_reader.specs.declared.met.Met.{Met}
 use Rattle.granit_restart.specs.Header.{ends_in_directive}
 use Rattle.granit_scanner.specs.declared.scanner.Front.{Front}
-use Rattle.granit_steps.specs.Steps.{asks_next, free_items, incoming, is_next_settled, items_of, line_behind, may_go}
-use Rattle.granit_steps.specs.Steps.{pushed}
+use Rattle.granit_steps.specs.Steps.{asks_next, free_items, incoming, is_next_settled, items_or_none, line_behind}
+use Rattle.granit_steps.specs.Steps.{may_go, pushed}
 
 -- a cursor, what the lexemes so far left, the options, the items that wait, how reading ended, and of a read that
 -- failed what it had met, and the last lexeme among the items that may not go before it
@@ -35,8 +35,8 @@ pub record Scanning (I : Type 0) : Type 0 where
   pub held : Met
 
 -- the same, with handles that stay over documents or not
-abbrev pub keeping : {I : Type 0} → Bool → Scanning I → Scanning I
-keeping keep s = record s { options = record (s.options) { keep_tags = keep } }
+abbrev pub scanner_keeping : {I : Type 0} → Bool → Scanning I → Scanning I
+scanner_keeping keep s = record s { options = record (s.options) { keep_tags = keep } }
 
 -- ---- in which state of the machine
 
@@ -110,7 +110,7 @@ abbrev pub ReadsOn : {I : Type 0} → (I → Unread → Type 0) → OptionsData 
     → Type 0
 ReadsOn unread o s l q =
     (x : Option (List Item) × LexState) × (lex_turn o l ≡ Ok x)
-    × Known unread s x.1 (pushed q (incoming o.emit_comments (items_of x.0)))
+    × Known unread s x.1 (pushed q (incoming o.emit_comments (items_or_none x.0)))
 
 -- a read failed: so many items stay, nothing is open, and so many lexemes were read before it
 abbrev pub KeepsBefore : {I : Type 0} → Refused → (free number : ℕ) → Met → (old new : Scanning I) → Type 0

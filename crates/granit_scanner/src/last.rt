@@ -36,7 +36,7 @@ fn met_at(queue: &Queue<'_>, older: usize, met: Met) -> Met
 
 fn met_on(met: Met, item: &Item<'_>) -> Met
     ensures { (before : Bool) → behind_met result before
-        ≡ header.directive_behind (behind_met met before) (item_view item.now) }
+        ≡ header.last_is_directive (behind_met met before) (item_view item.now) }
 {
     match item {
         Item::Lexeme(lexeme) => met_as(&lexeme.kind),

@@ -124,7 +124,7 @@ impl<'input, T: BorrowedInput<'input>> Scanner<'input, T> {
 
     /// Says whether the handles of `%TAG` but `!` and `!!` stay over documents.
     pub fn set_keep_tags(&mut self, keep_tags: bool)
-        ensures { self.new ≡ spec.keeping keep_tags self.old }
+        ensures { self.new ≡ spec.scanner_keeping keep_tags self.old }
     {
         self.options.set_keep_tags(keep_tags);
     }

@@ -10,8 +10,8 @@ use Rattle.granit_model.specs.FlowText.{flow_characters}
 use Rattle.granit_model.specs.Tree.{PlainTrees}
 
 -- how many bytes the canonical flow text of trees has in UTF-8
-abbrev pub text_bytes : PlainTrees → ℕ
-text_bytes ts = length (encode_utf8_all (flow_characters ts))
+abbrev pub flow_byte_count : PlainTrees → ℕ
+flow_byte_count ts = length (encode_utf8_all (flow_characters ts))
 
 -- how many events it is read as under the default options
 abbrev pub text_events : PlainTrees → ℕ
@@ -20,7 +20,7 @@ text_events ts = length (canonical_events default_options ts)
 -- the line of the numbers of trees
 abbrev pub trees_line : (documents : ℕ) → PlainTrees → List ℕ
 trees_line documents ts = codes "documents " ++ decimal documents ++ codes " nodes " ++ decimal (trees_nodes ts)
-    ++ codes " bytes " ++ decimal (text_bytes ts) ++ codes " events " ++ decimal (text_events ts) ++ codes "\n"
+    ++ codes " bytes " ++ decimal (flow_byte_count ts) ++ codes " events " ++ decimal (text_events ts) ++ codes "\n"
 
 -- the line of so many trees that are made from a number
 unfoldable pub selftest_line : (seed size : ℕ) → List ℕ

@@ -1,7 +1,7 @@
 //! The numbers of generated trees, of their text and of what it is read as.
 ghost use Rattle.std.specs.Prelude.{◌≡◌, ◌≤◌, IfOk, string_bytes};
 ghost use Rattle.granit_model.specs.Tree.{DocumentsFit, trees_depth};
-ghost use Rattle.granit_selftest.specs.SelfTest.{selftest_line, text_bytes, text_events};
+ghost use Rattle.granit_selftest.specs.SelfTest.{flow_byte_count, selftest_line, text_events};
 
 use granit_base::NoMemory;
 use granit_error::{ErrorKind, Options};
@@ -16,7 +16,7 @@ use std::alloc::Global;
 fn read_back(alloc: Global, trees: &TreeList) -> Result<(usize, usize), NoMemory>
     requires fit { DocumentsFit trees.now }
     requires depth { trees_depth trees.now ≤ 255 }
-    ensures bytes { IfOk result (λ counts. counts.0 ≡ text_bytes trees.now) }
+    ensures bytes { IfOk result (λ counts. counts.0 ≡ flow_byte_count trees.now) }
     ensures events { IfOk result (λ counts. counts.1 ≡ text_events trees.now) }
 {
     let text = flow_text(alloc, trees)?;

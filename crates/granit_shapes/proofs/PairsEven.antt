@@ -3,8 +3,8 @@ use Rattle.std.proofs.Common.{◌≡◌, ℕ, suc, Bool, true, false, List, [], 
 use Rattle.std.specs.Prelude.{not}
 use Rattle.granit_lexemes.specs.PlainEvent.{PlainEvent, EventKind, Alias, UnresolvedAlias, Scalar}
 use Rattle.granit_lexemes.specs.PlainEvent.{SequenceStart, SequenceEnd, MappingStart, MappingEnd}
-use Rattle.granit_shapes.specs.EvenNodes.{is_even, is_leaf, is_beside, starts_sequence, starts_mapping, Nodes, no_node}
-use Rattle.granit_shapes.specs.EvenNodes.{beside_nodes, leaf_node, sequence_node, mapping_node, AreNodes}
+use Rattle.granit_shapes.specs.EvenNodes.{is_even, is_leaf, is_beside_nodes, starts_sequence, starts_mapping, Nodes}
+use Rattle.granit_shapes.specs.EvenNodes.{no_node, beside_nodes, leaf_node, sequence_node, mapping_node, AreNodes}
 use Rattle.granit_shapes.specs.Turns.{NextNode, AnyNode, KeyNode, ValueNode, node_passed, event_passed, passed_then}
 use Rattle.granit_shapes.specs.Turns.{events_passed, InPairs}
 
@@ -84,7 +84,8 @@ one_more (ValueNode ∷ ns) es fs f c = record {
 }
 
 -- an event of no node in front
-beside : (ns : List NextNode) (e : PlainEvent) (es : List PlainEvent) → is_beside e.kind ≡ true → Closes false ns es
+beside : (ns : List NextNode) (e : PlainEvent) (es : List PlainEvent)
+    → is_beside_nodes e.kind ≡ true → Closes false ns es
     → Closes false ns (e ∷ es)
 beside [] e es p (n, d) = (n, beside_nodes p d)
 beside (next ∷ ns) e es p c = record {
@@ -143,7 +144,7 @@ module _ (e : PlainEvent) (es : List PlainEvent)
   by_kind MappingEnd q [] p = absurd cc
   by_kind MappingEnd q (AnyNode ∷ ns) p = absurd cc
   by_kind MappingEnd q (ValueNode ∷ ns) p = absurd cc
-  by_kind kind q ns p = beside ns e es (ap is_beside q) (later ns p)
+  by_kind kind q ns p = beside ns e es (ap is_beside_nodes q) (later ns p)
 
 all_closed : (es : List PlainEvent) (ns : List NextNode) → events_passed es ns ≡ Some [] → Closes false ns es
 all_closed [] [] p = (0, no_node)

@@ -24,7 +24,7 @@ use Rattle.granit_language.specs.TreeEvents.{shown_event, null, pair_start}
 use Rattle.granit_language.specs.TreeEvents.{sequence_start, value_place, indent_of_key, node_events}
 use Rattle.granit_language.specs.TreeEvents.{content_events, entries_events, entry_lead_events, pairs_events}
 use Rattle.granit_language.specs.TreeEvents.{pair_lead_events, pair_events, left_events, flow_events, last_events}
-use Rattle.granit_language.specs.TreeEvents.{item_events, pair_closes, flow_end, first_terminal, root_end}
+use Rattle.granit_language.specs.TreeEvents.{flow_item_events, pair_closes, flow_end, first_terminal, root_end}
 use Rattle.granit_language.specs.TreeEvents.{start_version, bare_document_start, before_events, directives_events}
 use Rattle.granit_language.specs.TreeEvents.{start_events, rooted_events, stream_events, StreamEnds, DocumentStarts}
 use Rattle.granit_lexemes.specs.PlainEvent as plain
@@ -163,7 +163,7 @@ mutual
       → told_passed o (flow_events lead b more) (in_bracket b ∷ ns) ≡ told_passed o more (in_bracket b ∷ ns)
   flow_pairs o NoItem b more ns = refl
   flow_pairs o (AfterItem lead item m) b more ns =
-      flow_pairs o lead b (item_events item b m.start more) ns ∙ item_pairs o item b m.start more ns
+      flow_pairs o lead b (flow_item_events item b m.start more) ns ∙ item_pairs o item b m.start more ns
 
   last_pairs : (o : OptionsData) (last : FlowLast) (b : Bracket) (e : At) (more : List TreeEvent) (ns : List NextNode)
       → told_passed o (last_events last b e more) (in_bracket b ∷ ns) ≡ told_passed o more (in_bracket b ∷ ns)
@@ -172,7 +172,7 @@ mutual
 
   item_pairs : (o : OptionsData) (item : FlowItem) (b : Bracket) (x : Mark) (more : List TreeEvent)
       (ns : List NextNode)
-      → told_passed o (item_events item b x more) (in_bracket b ∷ ns) ≡ told_passed o more (in_bracket b ∷ ns)
+      → told_passed o (flow_item_events item b x more) (in_bracket b ∷ ns) ≡ told_passed o more (in_bracket b ∷ ns)
   item_pairs o (Single t) Square x more ns = node_pairs o t None more (AnyNode ∷ ns)
   item_pairs o (Single t) Curly x more ns = node_pairs o t None (null x None ∷ more) (KeyNode ∷ ns)
   item_pairs o (Paired pair) Square x more ns =

@@ -23,21 +23,21 @@ starts_mapping (MappingStart style anchor tag) = true
 starts_mapping kind = false
 
 -- no node's: comments, anchors, and what begins and ends documents and the stream
-abbrev pub is_beside : EventKind → Bool
-is_beside (Alias n) = false
-is_beside (UnresolvedAlias name) = false
-is_beside (Scalar text style anchor tag) = false
-is_beside (SequenceStart style anchor tag) = false
-is_beside SequenceEnd = false
-is_beside (MappingStart style anchor tag) = false
-is_beside MappingEnd = false
-is_beside kind = true
+abbrev pub is_beside_nodes : EventKind → Bool
+is_beside_nodes (Alias n) = false
+is_beside_nodes (UnresolvedAlias name) = false
+is_beside_nodes (Scalar text style anchor tag) = false
+is_beside_nodes (SequenceStart style anchor tag) = false
+is_beside_nodes SequenceEnd = false
+is_beside_nodes (MappingStart style anchor tag) = false
+is_beside_nodes MappingEnd = false
+is_beside_nodes kind = true
 
 -- events that begin with so many whole nodes, and what stands behind them
 pub data Nodes : ℕ → List PlainEvent → List PlainEvent → Type 0 where
   no_node : {rest : List PlainEvent} → Nodes 0 rest rest
   beside_nodes :
-      {n : ℕ} {e : PlainEvent} {es rest : List PlainEvent} → is_beside e.kind ≡ true → Nodes n es rest →
+      {n : ℕ} {e : PlainEvent} {es rest : List PlainEvent} → is_beside_nodes e.kind ≡ true → Nodes n es rest →
       Nodes n (e ∷ es) rest
   leaf_node :
       {n : ℕ} {e : PlainEvent} {es rest : List PlainEvent} → is_leaf e.kind ≡ true → Nodes n es rest →

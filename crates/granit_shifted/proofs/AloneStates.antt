@@ -18,11 +18,12 @@ use Rattle.granit_shifted.proofs.LineGaps.{Seen, here_at, laid_at}
 use Rattle.granit_shifted.proofs.MovedEvents.{gives_moved}
 use Rattle.granit_shifted.proofs.Outer.{fresh_at}
 use Rattle.granit_shifted.proofs.OuterSteps.{reading_at}
-use Rattle.granit_shifted.specs.Alone.{TellsAlone, handles_before, offset_or_none, shift_to}
+use Rattle.granit_shifted.specs.Alone.{TellsAlone, handles_before, offset_or_none, shift_from, shift_to}
+use Rattle.granit_shifted.specs.Declaring.{kept_start}
 use Rattle.granit_shifted.specs.Moved.{moved_steps}
 use Rattle.granit_shifted.specs.Shift.{KeptFits, moved_here, moved_kept}
 
-sum_none : (n : ℕ) → (n + 0) ≡ n
+pub sum_none : (n : ℕ) → (n + 0) ≡ n
 sum_none n = omega arith
 
 line_back : (n : ℕ) → 1 ≤ n → ((n - 1) + 1) ≡ n
@@ -60,20 +61,27 @@ own_state lexemes h p = record {
   pending = [];
 }
 
-own_moved : (lexemes : ℕ) (h : Here) (p : ParserState) → 1 ≤ h.place.line
-    → moved_steps (shift_to lexemes h p) (with_pending [] (steps_start h.unread.text)) ≡ own_state lexemes h p
-own_moved lexemes h p some =
-    let made = λ (g : Here) (n count : ℕ) (kept : List (List ℕ × List ℕ)). let s : StepState = record {
+-- a text's start, moved there
+pub start_at : (lexemes : ℕ) (h : Here) (p : ParserState) (kept : List (List ℕ × List ℕ)) → 1 ≤ h.place.line
+    → moved_steps (shift_from lexemes h p) (kept_start h.unread.text kept)
+    ≡ record (own_state lexemes h p) { parser = record (fresh_at (mark_of (afresh h)) (dropped p)) { kept = kept } }
+start_at lexemes h p kept some =
+    let made = λ (g : Here) (n count : ℕ). let s : StepState = record {
       reading = reading_at g (laid_at n true) None;
       queue = [];
       parser = record (fresh_at (mark_of g) (dropped p)) { count = count; kept = kept };
       pending = [];
     } in s in
-    ap (λ (g : Here). made g (lexemes + 0) (p.count + 0) (moved_kept (handles_before p.kept) []))
-    (start_moved lexemes h p some)
-    ∙ ap₂ (λ (n count : ℕ). made (afresh h) n count (moved_kept (handles_before p.kept) [])) (sum_none lexemes)
-    (sum_none p.count)
-    ∙ ap (made (afresh h) lexemes p.count) (kept_back p.kept)
+    ap (λ (g : Here). made g (lexemes + 0) (p.count + 0)) (start_moved lexemes h p some)
+    ∙ ap₂ (λ (n count : ℕ). made (afresh h) n count) (sum_none lexemes) (sum_none p.count)
+
+own_moved : (lexemes : ℕ) (h : Here) (p : ParserState) → 1 ≤ h.place.line
+    → moved_steps (shift_to lexemes h p) (with_pending [] (steps_start h.unread.text)) ≡ own_state lexemes h p
+own_moved lexemes h p some =
+    start_at lexemes h p (moved_kept (handles_before p.kept) []) some
+    ∙ ap (λ (kept : List (List ℕ × List ℕ)). let s : StepState = record (own_state lexemes h p) {
+      parser = record (fresh_at (mark_of (afresh h)) (dropped p)) { kept = kept };
+    } in s) (kept_back p.kept)
 
 -- ---- what is told there
 

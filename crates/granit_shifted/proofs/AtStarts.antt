@@ -1,5 +1,5 @@
--- From a `---` on the text that is left is read as it is alone.
-use Rattle.std.proofs.Common.{◌≡◌, ℕ, suc, ◌≤◌, Bool, true, false, List, [], ◌∷◌, Option, Some, None, Result, Ok, refl}
+-- From a `---` on the text that is left is read as from its own start.
+use Rattle.std.proofs.Common.{◌≡◌, ℕ, suc, Bool, true, false, List, [], ◌∷◌, Option, Some, None, Result, Ok, refl}
 use Rattle.std.proofs.Common.{sym, ap, ap₂, ◌∙◌, subst}
 use Rattle.granit_base.specs.Place.{Mark}
 use Rattle.granit_error.specs.OptionsData.{OptionsData}
@@ -17,18 +17,16 @@ use Rattle.granit_machine.specs.Parser.{feed}
 use Rattle.granit_machine.specs.Reader.{lex_turn, behind_read}
 use Rattle.granit_machine.specs.ReaderState.{Read}
 use Rattle.granit_restart.proofs.AheadLaws.{turn_next}
-use Rattle.granit_restart.specs.Boundary.{AtStart, is_separated}
-use Rattle.granit_restart.specs.Restart.{at_boundary, dropped, start_found}
+use Rattle.granit_restart.specs.Boundary.{is_separated}
+use Rattle.granit_restart.specs.Restart.{dropped}
 use Rattle.granit_steps.specs.Steps.{StepState, Turn, first_pending, incoming, next_event, step_size, step_turn}
 use Rattle.granit_steps.specs.Steps.{pushed, unflagged, with_read}
-use Rattle.granit_steps.specs.Told.{GivesEvents, told_of}
-use Rattle.granit_shifted.proofs.AloneStates.{seen_first, afresh, gives_from, own_gives}
+use Rattle.granit_steps.specs.Told.{GivesEvents}
+use Rattle.granit_shifted.proofs.AloneStates.{seen_first, afresh, gives_from, own_state}
 use Rattle.granit_shifted.proofs.LineGaps.{Seen, here_at, laid_at}
 use Rattle.granit_shifted.proofs.Outer.{both_fresh, fresh_at}
 use Rattle.granit_shifted.proofs.OuterSteps.{alike, same_reading, gives_alike, reading_at}
 use Rattle.granit_shifted.proofs.StartReads.{marked, start_lexeme, start_read, three_alike}
-use Rattle.granit_shifted.specs.Alone.{TellsAlone, behind_first, shift_to}
-use Rattle.granit_shifted.specs.Shift.{KeptFits, moved_events, moved_fault_of}
 
 -- a `---` was read that ends there
 abbrev pub start_state : ℕ → Here → Lexeme → ParserState → StepState
@@ -150,37 +148,26 @@ module _ (o : OptionsData) where
 
   -- ---- a `---` that waits
 
-  pub waits_tells : (s : StepState) (h k : Here) (y : Lexeme) (behind : List ℕ) → 1 ≤ h.place.line → h.place.column ≡ 0
-      → h.unread.text ≡ marked behind → is_separated behind ≡ true
-      → KeptFits o (shift_to s.reading.reader.laid.number h s.parser) → k ≡ steps 3 h → y.kind ≡ DocumentStart
-      → y.key ≡ None → y.tail ≡ None → y.shown ≡ record { start = mark_of h; end = mark_of k }
-      → TellsAlone o h.unread.text (shift_to s.reading.reader.laid.number h s.parser)
-      (start_state s.reading.reader.laid.number k y (dropped s.parser))
-  waits_tells s h k y behind some column text separated fits is kind key tail shown =
+  -- it gives what the text does that is left, where nothing of that was read
+  pub waits_gives : (s : StepState) (h k : Here) (y : Lexeme) (behind : List ℕ) (es : List PlainEvent)
+      (f : Option Fault) → h.place.column ≡ 0 → h.unread.text ≡ marked behind → is_separated behind ≡ true
+      → k ≡ steps 3 h → y.kind ≡ DocumentStart → y.key ≡ None → y.tail ≡ None
+      → y.shown ≡ record { start = mark_of h; end = mark_of k }
+      → GivesEvents o (own_state s.reading.reader.laid.number h s.parser) es f
+      → GivesEvents o (start_state s.reading.reader.laid.number k y (dropped s.parser)) es f
+  waits_gives s h k y behind es f column text separated is kind key tail shown gives =
       let number = s.reading.reader.laid.number in
-      let shift = shift_to number h s.parser in
       let at = λ (text : List ℕ) (column : ℕ). here_at text h.unread.offset h.unread.lends h.place.index h.place.line
       (record { column = column; begins_line = h.begins_line; tab = h.tab }) in
-      let es = moved_events shift (behind_first (told_of o h.unread.text).0) in
-      let f = moved_fault_of shift (told_of o h.unread.text).1 in
       let told = subst (λ (text : List ℕ). GivesEvents o (record {
         reading = reading_at (here_at text h.unread.offset h.unread.lends h.place.index h.place.line seen_first)
             (laid_at number true) None;
         queue = [];
         parser = fresh_at (mark_of (afresh h)) (dropped s.parser);
         pending = [];
-      }) es f) text (own_gives o number h s.parser some fits) in
+      }) es f) text gives in
       let there : h ≡ at (marked behind) 0 = ap₂ at text column in
       start_gives number behind h.unread.offset h.unread.lends h.place.index h.place.line h.begins_line h.tab
       (dropped s.parser) (mark_of (afresh h)) es f separated told k (is ∙ ap (steps 3) there) s.parser.last_end y kind
       key tail (shown ∙ ap (λ (h : Here). let span : Source = record { start = mark_of h; end = mark_of k } in span)
       there)
-
-  -- ---- the boundary
-
-  pub start_tells : (s : StepState) (h : Here) (behind : List ℕ) → 1 ≤ h.place.line → h.place.column ≡ 0
-      → h.unread.text ≡ marked behind → is_separated behind ≡ true
-      → KeptFits o (shift_to s.reading.reader.laid.number h s.parser)
-      → TellsAlone o h.unread.text (shift_to s.reading.reader.laid.number h s.parser) (at_boundary s (AtStart h)).1
-  start_tells s h behind some column text separated fits =
-      waits_tells s h (steps 3 h) (start_found h s) behind some column text separated fits refl refl refl refl refl

@@ -1,27 +1,25 @@
--- Behind the next boundary the text that is left is read as it is alone.
+-- Behind the next boundary all is told that the text tells that is left.
 use Rattle.std.proofs.Common.{◌≡◌, ℕ, zero, suc, ◌+◌, ◌≤◌, ◌==◌, ◌&&◌, Bool, true, false, List, [], ◌∷◌, ◌++◌, length}
 use Rattle.std.proofs.Common.{drop}
-use Rattle.std.proofs.Common.{refl, sym, ap, ◌∙◌, inl, inr, arith, subst}
+use Rattle.std.proofs.Common.{refl, sym, ap, ◌∙◌, arith, subst}
 use Rattle.std.specs.Prelude.{if◌then◌else◌}
 use Rattle.granit_base.specs.Classes.{is_bom, is_break}
 use Rattle.granit_base.specs.Place.{Place, ends_line, first}
 use Rattle.granit_error.specs.OptionsData.{OptionsData}
 use Rattle.granit_lexemes.specs.Here.{Here, next_char, step}
 use Rattle.granit_lexemes.specs.Moves.{past_prefix_mark, steps}
-use Rattle.granit_machine.specs.Frames.{ParserState}
 use Rattle.granit_restart.proofs.BoundaryLaws.{finds_next}
-use Rattle.granit_restart.specs.Boundary.{Boundary, PastEnd, over_dropped, next_boundary}
-use Rattle.granit_restart.specs.NextBoundary.{LineEnds, Stands, stands_start, stands_end, stands_text_end, Next}
-use Rattle.granit_restart.specs.NextBoundary.{next_here}
-use Rattle.granit_restart.specs.NextBoundary.{next_behind}
-use Rattle.granit_restart.specs.Restart.{at_boundary}
+use Rattle.granit_restart.specs.Boundary.{AtStart, Boundary, PastEnd, over_dropped, next_boundary}
+use Rattle.granit_restart.specs.NextBoundary.{IsLineEnd, BoundaryStands, stands_start, stands_end, stands_text_end}
+use Rattle.granit_restart.specs.NextBoundary.{NextBoundary, next_here, next_behind}
+use Rattle.granit_restart.specs.Restart.{at_boundary, start_found}
 use Rattle.granit_scalars.proofs.Comments.{steps_text}
 use Rattle.granit_steps.specs.Steps.{StepState}
-use Rattle.granit_shifted.proofs.AtStarts.{start_tells}
-use Rattle.granit_shifted.proofs.PastEnds.{past_end_tells}
+use Rattle.granit_shifted.proofs.AtStarts.{waits_gives}
+use Rattle.granit_shifted.proofs.PastEnds.{past_end_gives}
 use Rattle.granit_shifted.proofs.TextEnds.{end_tells}
-use Rattle.granit_shifted.specs.Alone.{NoneStays, TellsAlone, TellsBehind, TellsLeft, handles_before, shift_to}
-use Rattle.granit_shifted.specs.Shift.{KeptFits}
+use Rattle.granit_shifted.proofs.TextTells.{text_tells}
+use Rattle.granit_shifted.specs.Alone.{StaysDeclared, TellsBehind, TellsLeft}
 
 -- ---- lines are counted from 1
 
@@ -60,37 +58,32 @@ dropped_counted h some = stepped (h.place.column == 0 && is_bom (next_char h)) (
 
 -- ---- a boundary
 
-pub before_none : (o : OptionsData) (p : ParserState) (n : ℕ) (h : Here) → NoneStays o p → KeptFits o (shift_to n h p)
-before_none o p n h (inl e) = inl (ap handles_before e)
-before_none o p n h (inr e) = inr e
-
 left_behind : (line behind : List ℕ) → drop (length line) (line ++ behind) ≡ behind
 left_behind [] behind = refl
 left_behind (c ∷ cs) behind = left_behind cs behind
 
-module _ (o : OptionsData) (s : StepState) (none : NoneStays o s.parser) where
+module _ (o : OptionsData) (s : StepState) (stays : StaysDeclared o s.parser) where
   abbrev number : ℕ
   number = s.reading.reader.laid.number
 
   abbrev Tells : Boundary → Type 0
   Tells b = TellsBehind o number s.parser b (at_boundary s b).1
 
-  pub left_tells : (h : Here) (behind : List ℕ) → IsCounted h → h.unread.text ≡ behind → LineEnds behind
+  pub left_tells : (h : Here) (behind : List ℕ) → IsCounted h → h.unread.text ≡ behind → IsLineEnd behind
       → Tells (PastEnd h)
   left_tells h [] some text ends =
-      subst (λ (text : List ℕ). TellsLeft o text (shift_to (suc number) h s.parser) h (at_boundary s (PastEnd h)).1)
-      (sym text) (end_tells o s.parser (suc number) true h text)
+      subst (λ (text : List ℕ). TellsLeft o text (suc number) h s.parser (at_boundary s (PastEnd h)).1) (sym text)
+      (end_tells o s.parser (suc number) true h text)
   left_tells h (c ∷ cs) some text ends =
-      subst (λ (text : List ℕ). TellsLeft o text (shift_to (suc number) h s.parser) h (at_boundary s (PastEnd h)).1)
-      (sym text)
-      (subst (λ (text : List ℕ). TellsAlone o text (shift_to (suc number) h s.parser) (at_boundary s (PastEnd h)).1)
-      text
-      (past_end_tells o s h some (ap (λ (text : List ℕ). is_break (first text)) text ∙ ends)
-      (before_none o s.parser (suc number) h none)))
+      subst (λ (text : List ℕ). TellsLeft o text (suc number) h s.parser (at_boundary s (PastEnd h)).1) (sym text)
+      (text_tells o (suc number) h s.parser (at_boundary s (PastEnd h)).1 some
+      (past_end_gives o s h (ap (λ (text : List ℕ). is_break (first text)) text ∙ ends)) stays)
 
-  stands_tells : (h : Here) (b : Boundary) → IsCounted h → Stands h b → Tells b
+  stands_tells : (h : Here) (b : Boundary) → IsCounted h → BoundaryStands h b → Tells b
   stands_tells h b some (stands_start behind column text separated) =
-      start_tells o s h behind some column text separated (before_none o s.parser number h none)
+      text_tells o number h s.parser (at_boundary s (AtStart h)).1 some
+      (λ es f gives. waits_gives o s h (steps 3 h) (start_found h s) behind es f column text separated refl refl refl
+      refl refl gives) stays
   stands_tells h b some (stands_end line behind column text separated finishes ends) =
       let at = steps (length line) (steps 3 h) in
       left_tells at behind (steps_counted (length line) (steps 3 h) (steps_counted 3 h some))
@@ -98,7 +91,7 @@ module _ (o : OptionsData) (s : StepState) (none : NoneStays o s.parser) where
       ∙ left_behind line behind) ends
   stands_tells h b some (stands_text_end text) = end_tells o s.parser (suc number) false h text
 
-  next_tells : (h : Here) (b : Boundary) → IsCounted h → Next h b → Tells b
+  next_tells : (h : Here) (b : Boundary) → IsCounted h → NextBoundary h b → Tells b
   next_tells h b some (next_here stands) = stands_tells h b some stands
   next_tells h b some (next_behind other more) = next_tells (over_dropped h) b (dropped_counted h some) more
 

@@ -10,8 +10,8 @@ use Rattle.granit_machine.specs.Lexing.{FlaggedItem}
 use Rattle.granit_restart.proofs.BoundaryLaws.{finds_next}
 use Rattle.granit_restart.proofs.MarkLaws.{Sound, TurnSound, items, restart_sound, turn_sound}
 use Rattle.granit_restart.specs.Boundary.{Boundary, AtStart, PastEnd, AtTextEnd, is_separated, next_boundary}
-use Rattle.granit_restart.specs.NextBoundary.{Stands, stands_start, stands_end, stands_text_end, Next, next_here}
-use Rattle.granit_restart.specs.NextBoundary.{next_behind}
+use Rattle.granit_restart.specs.NextBoundary.{BoundaryStands, stands_start, stands_end, stands_text_end, NextBoundary}
+use Rattle.granit_restart.specs.NextBoundary.{next_here, next_behind}
 use Rattle.granit_restart.specs.Restart.{at_boundary, at_found, at_lexeme, behind_fault, behind_fault_at, boundary_of}
 use Rattle.granit_restart.specs.Restart.{cursor_at}
 use Rattle.granit_restart.specs.Restart.{is_boundary, lexeme_or, read_boundary, start_found, without_columns}
@@ -41,12 +41,12 @@ StartsThere (AtStart g) =
     × (is_separated behind ≡ true)
 StartsThere b = Unit {0}
 
-stands_there : (h : Here) (b : Boundary) → Stands h b → StartsThere b
+stands_there : (h : Here) (b : Boundary) → BoundaryStands h b → StartsThere b
 stands_there h b (stands_start behind column text separated) = (behind, column, text, separated)
 stands_there h b (stands_end line behind column text separated finishes ends) = tt
 stands_there h b (stands_text_end text) = tt
 
-next_there : (h : Here) (b : Boundary) → Next h b → StartsThere b
+next_there : (h : Here) (b : Boundary) → NextBoundary h b → StartsThere b
 next_there h b (next_here stands) = stands_there h b stands
 next_there h b (next_behind other more) = next_there _ b more
 
@@ -189,7 +189,7 @@ led_holds o s (led_start h) = record {
 }
 led_holds o s (led_on {s = before} {t = t} {given = given} led e) =
     step_holds o before (Ok (given, t)) e (led_holds o before led)
-led_holds o s (led_with {s = before} p es led) =
+led_holds o s (led_with {s = before} p es led kept) =
     let holds = led_holds o before led in
     record {
       sound = record { ready = holds.sound.ready; marked = holds.sound.marked };

@@ -1,6 +1,6 @@
--- Behind what is found the text that is left is read as it is alone.
+-- Behind what is found all is told that the text tells that is left.
 use Rattle.std.proofs.Common.{◌≡◌, ℕ, suc, ◌≤◌, ◌==◌, ◌||◌, ◌&&◌, not, Bool, true, false, List, [], ◌∷◌, Option, Some}
-use Rattle.std.proofs.Common.{None}
+use Rattle.std.proofs.Common.{None, inr}
 use Rattle.std.proofs.Common.{refl, sym, ap, subst, ◌∙◌, drop, length, arith}
 use Rattle.std.proofs.lemmas.Bool.Decides.{nat_tests}
 use Rattle.granit_base.specs.Classes.{is_blank_or_breakz, is_break, is_breakz, is_z}
@@ -19,13 +19,15 @@ use Rattle.granit_restart.specs.Restart.{is_boundary}
 use Rattle.granit_restart.specs.Restart.{lexeme_or, read_boundary, without_columns}
 use Rattle.granit_scalars.proofs.Comments.{steps_text}
 use Rattle.granit_steps.specs.Steps.{StepState}
-use Rattle.granit_shifted.proofs.AtStarts.{waits_tells}
-use Rattle.granit_shifted.proofs.BoundaryTells.{before_none, boundary_tells, left_tells}
+use Rattle.granit_shifted.proofs.AtStarts.{waits_gives}
+use Rattle.granit_shifted.proofs.BoundaryTells.{boundary_tells, left_tells}
 use Rattle.granit_shifted.proofs.FoundLaws.{Holds, cursor_end, cursor_start, led_holds}
+use Rattle.granit_shifted.proofs.KeptDeclared.{led_declared}
 use Rattle.granit_shifted.proofs.StartReads.{three_line}
 use Rattle.granit_shifted.proofs.StartsRead.{is_start}
 use Rattle.granit_shifted.proofs.TextEnds.{end_tells}
-use Rattle.granit_shifted.specs.Alone.{NoneStays}
+use Rattle.granit_shifted.proofs.TextTells.{text_tells}
+use Rattle.granit_shifted.specs.Alone.{StaysDeclared}
 use Rattle.granit_shifted.specs.Found.{StartRead}
 use Rattle.granit_shifted.specs.Led.{Led, TellsFound, TellsMark}
 
@@ -85,7 +87,7 @@ behind_start h l r is =
 
 -- ---- what is told
 
-module _ (o : OptionsData) (s : StepState) (none : NoneStays o s.parser) where
+module _ (o : OptionsData) (s : StepState) (stays : StaysDeclared o s.parser) where
   abbrev number : ℕ
   number = s.reading.reader.laid.number
 
@@ -98,29 +100,38 @@ module _ (o : OptionsData) (s : StepState) (none : NoneStays o s.parser) where
       let line : h.place.line ≡ r.place.place.line =
       ap (λ (g : Here). g.place.line) r.reaches ∙ three_line r.place r.behind r.text in (
         r,
-        waits_tells o s r.place h (without_columns l) r.behind (subst (λ n. 1 ≤ n) line some) r.column r.text
-            (behind_start h l r is) (before_none o s.parser number r.place none) r.reaches r.kind r.keyless r.untailed
+        text_tells o number r.place s.parser (at_lexeme h s lexemes.DocumentStart l).1
+            (subst (λ n. 1 ≤ n) line some)
+            (λ es f gives. waits_gives o s r.place h (without_columns l) r.behind es f r.column r.text
+            (behind_start h l r is) r.reaches r.kind r.keyless r.untailed
             (r.shown ∙ ap (λ (g : Here). let span : Source =
             record { start = mark_of r.place; end = mark_of g } in span)
-            (sym r.reaches)),
+            (sym r.reaches)) gives) stays,
       )
   mark_tells h l lexemes.DocumentEnd some e is stands left =
-      λ ends. left_tells o s none h h.unread.text some refl ends
+      λ ends. left_tells o s stays h h.unread.text some refl ends
   mark_tells h l lexemes.StreamEnd some e is stands left = end_tells o s.parser (suc number) false h (left refl)
   mark_tells h l kind some e is stands left = absurd (cc)
 
   by_found : (stop : Here) (r : Option Lexeme) → Holds s → 1 ≤ (cursor_at stop s.reading).place.line
       → read_boundary (cursor_at stop s.reading) s.queue ≡ r
       → TellsFound o number s.parser (cursor_at stop s.reading) r (at_found (cursor_at stop s.reading) s r).1
-  by_found stop None holds some e = boundary_tells o s none (cursor_at stop s.reading) some
+  by_found stop None holds some e = boundary_tells o s stays (cursor_at stop s.reading) some
   by_found stop (Some l) holds some e =
       let h = cursor_at stop s.reading in
       mark_tells h l l.kind some refl (found_boundary h s.queue l e) (cursor_start stop s l holds e)
       (cursor_end stop s l holds e)
 
-  pub found_tells : (stop : Here) → Led o s → 1 ≤ (cursor_at stop s.reading).place.line
+  found_so : (stop : Here) → Led o s → 1 ≤ (cursor_at stop s.reading).place.line
       → TellsFound o number s.parser (cursor_at stop s.reading) (read_boundary (cursor_at stop s.reading) s.queue)
       (behind_fault stop s).1
   unfolding behind_fault_at
-  found_tells stop led some =
+  found_so stop led some =
       by_found stop (read_boundary (cursor_at stop s.reading) s.queue) (led_holds o s led) some refl
+
+-- handles that stay were declared, wherever turns and restarts lead
+pub found_tells : (o : OptionsData) (s : StepState) (stop : Here) → Led o s
+    → 1 ≤ (cursor_at stop s.reading).place.line
+    → TellsFound o s.reading.reader.laid.number s.parser (cursor_at stop s.reading)
+    (read_boundary (cursor_at stop s.reading) s.queue) (behind_fault stop s).1
+found_tells o s stop led some = found_so o s (inr (led_declared o s led)) stop led some

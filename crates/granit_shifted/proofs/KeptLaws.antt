@@ -8,14 +8,14 @@ use Rattle.granit_lexemes.specs.Here.{Here}
 use Rattle.granit_lexemes.specs.Outcome.{Fault, ◌>>=◌}
 use Rattle.granit_lexemes.specs.Pieces.{with_front, then_more, turns, pieces}
 use Rattle.granit_lexemes.specs.PlainEvent.{PlainEvent, EventKind, StreamEnd, DocumentStart, DocumentEnd}
-use Rattle.granit_restart.specs.Calls.{Calls, Given, failing_by, failing_in, given_by, next_call, noted}
-use Rattle.granit_restart.specs.Recovery.{answered, extra_of, looked_by, recover, recover_with, recovered, skipped}
-use Rattle.granit_restart.specs.Recovery.{skipped_by, starts_by}
+use Rattle.granit_restart.specs.Calls.{Calls, GivenByCall, failing_by, failing_in, given_by, next_call, noted}
+use Rattle.granit_restart.specs.Recovery.{extra_of, looked_by, recover, recover_with, recovered, recovery_answer}
+use Rattle.granit_restart.specs.Recovery.{skipped, skipped_by, starts_by}
 use Rattle.granit_restart.specs.Header.{is_in_header}
 use Rattle.granit_restart.specs.Restart.{behind_fault}
 use Rattle.granit_restart.specs.Skipping.{Ahead, NoEnd, BehindDocument, AtStreamEnd, SkipEnd, Ended, Failed, Stops}
 use Rattle.granit_restart.specs.Skipping.{ahead}
-use Rattle.granit_restart.specs.Skipping.{ends_before, restarted, skip, skip_ahead, skip_in, skip_turn}
+use Rattle.granit_restart.specs.Skipping.{ends_before, restarted, skip_by_turns, skip_ahead, skip_in, skip_turn}
 use Rattle.granit_restart.specs.Skipping.{skipped_fault, skipped_to, with_pending}
 use Rattle.granit_steps.specs.Steps.{StepState, Turn, first_pending, next_event, settle, step_size, step_turn}
 use Rattle.granit_shifted.specs.Stopping.{DropFits, EndFits, FaultFits, FitBehind, looked_at, StopsFit}
@@ -136,16 +136,16 @@ module _ (o : OptionsData) (P : StepState → Type 0) (Fits : Here → StepState
       on (BehindDocument es) more = others s es kept
       on (AtStreamEnd es) more = others s es kept
 
-  pub skip_kept : (s : StepState) → P s → SkipKept (skip o s)
+  pub skip_kept : (s : StepState) → P s → SkipKept (skip_by_turns o s)
   skip_kept s kept = skip_in_kept (suc (step_size s)) s kept
 
   restarted_kept : (stop : Here) (e : SkipEnd) → EndFits Fits stop e → SkipKept e → P (restarted stop e)
   restarted_kept stop (Ended s) fits kept = kept
   restarted_kept stop (Failed f s) fits kept = anew stop s fits kept
 
-  header_kept : (b : Bool) (stop : Here) (s : StepState) → EndFits Fits stop (skip o s) → P s
-      → P (if b then restarted stop (skip o s) else s)
-  header_kept true stop s fits kept = restarted_kept stop (skip o s) fits (skip_kept s kept)
+  header_kept : (b : Bool) (stop : Here) (s : StepState) → EndFits Fits stop (skip_by_turns o s) → P s
+      → P (if b then restarted stop (skip_by_turns o s) else s)
+  header_kept true stop s fits kept = restarted_kept stop (skip_by_turns o s) fits (skip_kept s kept)
   header_kept false stop s fits kept = kept
 
   fault_skipped : (stops : Stops) (f : Fault) (s : StepState) → FaultFits Fits o stops s → P s
@@ -162,11 +162,11 @@ module _ (o : OptionsData) (P : StepState → Type 0) (Fits : Here → StepState
       → P (skipped_by o stops f between s)
   by_kept stops (Some f) between s fits kept = fault_skipped stops f s fits kept
   by_kept stops None true s fits kept = kept
-  by_kept stops None false s fits kept = to_kept stops (skip o s) fits (skip_kept s kept)
+  by_kept stops None false s fits kept = to_kept stops (skip_by_turns o s) fits (skip_kept s kept)
 
   -- ---- recovery
 
-  answered_kept : (r : Result Bool Fault) (c : Calls) → Stands c → Stands (answered r c).1
+  answered_kept : (r : Result Bool Fault) (c : Calls) → Stands c → Stands (recovery_answer r c).1
   answered_kept (Ok true) c kept = kept
   answered_kept (Ok false) c kept = kept
   answered_kept (Err f) c kept = kept
@@ -180,7 +180,7 @@ module _ (o : OptionsData) (P : StepState → Type 0) (Fits : Here → StepState
   starts_kept (DocumentStart explicit version) c kept = kept
   starts_kept kind c kept = kept
 
-  looked_kept : (c : Calls) (x : Given × Calls) → Stands c → Stands x.1 → Stands (looked_by c x)
+  looked_kept : (c : Calls) (x : GivenByCall × Calls) → Stands c → Stands x.1 → Stands (looked_by c x)
   looked_kept c (Some (Ok e), after) kept is = starts_kept e.kind c kept
   looked_kept c (Some (Err f), after) kept is = is
   looked_kept c (None, after) kept is = kept

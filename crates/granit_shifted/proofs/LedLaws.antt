@@ -8,13 +8,12 @@ use Rattle.granit_lexemes.specs.Here.{Here}
 use Rattle.granit_lexemes.specs.Outcome.{Fault}
 use Rattle.granit_lexemes.specs.PlainEvent.{PlainEvent}
 use Rattle.granit_restart.specs.Calls.{Calls, next_call}
-use Rattle.granit_restart.specs.Recovery.{answered, recover, recover_with, recovered, skipped}
-use Rattle.granit_restart.specs.Recovery.{skipped_by}
+use Rattle.granit_restart.specs.Recovery.{recover, recover_with, recovered, recovery_answer, skipped, skipped_by}
 use Rattle.granit_restart.specs.Following.{document_follows}
 use Rattle.granit_restart.specs.Header.{is_in_header}
 use Rattle.granit_restart.specs.Restart.{behind_fault}
 use Rattle.granit_restart.specs.Skipping.{SkipEnd, Ended, Failed, Stops}
-use Rattle.granit_restart.specs.Skipping.{skip, skip_header}
+use Rattle.granit_restart.specs.Skipping.{skip_by_turns, skip_header, with_pending}
 use Rattle.granit_restart.specs.Skipping.{skipped_fault}
 use Rattle.granit_steps.specs.Steps.{StepState, step_turn}
 use Rattle.granit_shifted.proofs.KeptLaws.{next_kept, recover_kept, skip_kept, SkipKept}
@@ -32,30 +31,33 @@ module _ (o : OptionsData) where
 
   any_drop : (stops : Stops) (e : SkipEnd) → DropFits Anywhere o stops e
   any_drop stops (Ended s) = tt
-  any_drop stops (Failed f s) = (tt, any_end stops.second (skip o (behind_fault stops.first s).1))
+  any_drop stops (Failed f s) = (tt, any_end stops.second (skip_by_turns o (behind_fault stops.first s).1))
 
   any_stops : (stops : Stops) (f : Option Fault) (s : StepState) → StopsFit Anywhere o stops f s
-  any_stops stops (Some f) s = (tt, any_end stops.second (skip o (behind_fault stops.first s).1))
-  any_stops stops None s = any_drop stops (skip o s)
+  any_stops stops (Some f) s = (tt, any_end stops.second (skip_by_turns o (behind_fault stops.first s).1))
+  any_stops stops None s = any_drop stops (skip_by_turns o s)
 
   turn : (s t : StepState) (given : Option (List PlainEvent)) → step_turn o s ≡ Ok (given, t) → Led o s → Led o t
   turn s t given e led = led_on led e
 
+  others_led : (s : StepState) (es : List PlainEvent) → Led o s → Led o (with_pending es s)
+  others_led s es led = led_with s.parser es led refl
+
   pub next_led : (c : Calls) → Led o c.steps → Led o (next_call o c).1.steps
   next_led c led =
-      next_kept o (Led o) Anywhere turn (λ s es l. led_with s.parser es l) (λ stop s fits l. led_anew stop l) c led
+      next_kept o (Led o) Anywhere turn others_led (λ stop s fits l. led_anew stop l) c led
 
   abbrev pub SkipLed : SkipEnd → Type 0
   SkipLed (Ended s) = Led o s
   SkipLed (Failed f s) = Led o s
 
-  pub skip_led : (s : StepState) → Led o s → SkipLed (skip o s)
+  pub skip_led : (s : StepState) → Led o s → SkipLed (skip_by_turns o s)
   skip_led s led =
-      same (skip o s)
-      (skip_kept o (Led o) Anywhere turn (λ s es l. led_with s.parser es l) (λ stop s fits l. led_anew stop l) s led)
+      same (skip_by_turns o s)
+      (skip_kept o (Led o) Anywhere turn others_led (λ stop s fits l. led_anew stop l) s led)
     where
       same : (e : SkipEnd)
-          → SkipKept o (Led o) Anywhere turn (λ s es l. led_with s.parser es l) (λ stop s fits l. led_anew stop l) e
+          → SkipKept o (Led o) Anywhere turn others_led (λ stop s fits l. led_anew stop l) e
           → SkipLed e
       same (Ended s) x = x
       same (Failed f s) x = x
@@ -64,12 +66,12 @@ module _ (o : OptionsData) where
       → Led o (recover o stops looked c).1.steps
   recover_led stops looked c led =
       let d = looked_at o looked c in
-      recover_kept o (Led o) Anywhere turn (λ s es l. led_with s.parser es l) (λ stop s fits l. led_anew stop l) stops
+      recover_kept o (Led o) Anywhere turn others_led (λ stop s fits l. led_anew stop l) stops
       looked c (λ going. any_stops stops d.fault d.steps) led
 
   -- ---- where recovery goes on
 
-  answered_steps : (r : Result Bool Fault) (c : Calls) → (answered r c).1.steps ≡ c.steps
+  answered_steps : (r : Result Bool Fault) (c : Calls) → (recovery_answer r c).1.steps ≡ c.steps
   answered_steps (Ok true) c = refl
   answered_steps (Ok false) c = refl
   answered_steps (Err f) c = refl

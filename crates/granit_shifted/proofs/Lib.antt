@@ -1,11 +1,16 @@
 pub mod AloneStates
 pub mod AtStarts
 pub mod BoundaryTells
+pub mod DirectiveLines
+pub mod EmptyDocumentSteps
 pub mod EndWaits
 pub mod FoundLaws
 pub mod FoundMarks
 pub mod FoundTells
+pub mod KeptDeclared
 pub mod KeptLaws
+pub mod KeptSteps
+pub mod KeptStream
 pub mod LedLaws
 pub mod LineGaps
 pub mod MarkWaits
@@ -26,5 +31,7 @@ pub mod OuterSteps
 pub mod PastEnds
 pub mod StartReads
 pub mod Sums
+pub mod TellsAnewLaws
 pub mod TextEnds
+pub mod TextTells
 pub mod ToldOnce

@@ -33,8 +33,8 @@ abbrev pub more : ℕ → Option ℕ → Option ℕ
 more d offset = option_map (λ n. n + length (encode_utf8 d)) offset
 
 -- behind a character that ends a line nothing is known of it
-step_line : (d : ℕ) (ds : List ℕ) (offset : Option ℕ) (lends : Bool) (i n : ℕ) (s : Seen) → ends_line (d ∷ ds) ≡ true
-    → step (here_at (d ∷ ds) offset lends i n s)
+pub step_line : (d : ℕ) (ds : List ℕ) (offset : Option ℕ) (lends : Bool) (i n : ℕ) (s : Seen)
+    → ends_line (d ∷ ds) ≡ true → step (here_at (d ∷ ds) offset lends i n s)
     ≡ here_at ds (more d offset) lends (i + 1) (n + 1) (record { column = 0; begins_line = true; tab = None })
 unfolding step begins_behind tab_behind
 step_line d ds offset lends i n s e = rw (not_empty d ds, e) refl
@@ -68,7 +68,7 @@ unfolding is_break is_bom
 no_bom d e = grind (arith, nat_tests, e)
 
 -- a break is skipped
-skip_over : (d : ℕ) (ds : List ℕ) (h : Here) → h.unread.text ≡ d ∷ ds → is_break d ≡ true
+pub skip_over : (d : ℕ) (ds : List ℕ) (h : Here) → h.unread.text ≡ d ∷ ds → is_break d ≡ true
     → skip_gap true (d ∷ ds) h ≡ skip_gap true ds (step h)
 skip_over d ds h t e =
     let f : first h.unread.text ≡ d = ap first t in

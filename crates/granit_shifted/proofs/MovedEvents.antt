@@ -18,7 +18,7 @@ use Rattle.granit_machine.specs.Reader.{LexState}
 use Rattle.granit_steps.specs.Steps.{StepState, incoming, is_key_at, key_of_item, marked_by, unflagged, pushed}
 use Rattle.granit_steps.specs.Steps.{is_open_comment, asks_next, is_next_settled, is_over, may_go, free_items}
 use Rattle.granit_steps.specs.Steps.{line_behind}
-use Rattle.granit_steps.specs.Steps.{items_of, with_read, read_unless, read_more, with_fed, feed_front, front_turn}
+use Rattle.granit_steps.specs.Steps.{items_or_none, with_read, read_unless, read_more, with_fed, feed_front, front_turn}
 use Rattle.granit_steps.specs.Steps.{turn_by, step_turn, reading_size_by, step_size, first_pending}
 use Rattle.granit_steps.specs.Steps.{next_event}
 use Rattle.granit_steps.specs.Told.{GivesEvents, gives_end, gives_fault, gives_event}
@@ -125,7 +125,7 @@ module _ (shift : Shift) where
   abbrev pub on_steps : Option (List PlainEvent) × StepState → Option (List PlainEvent) × StepState
   on_steps x = on_piece shift (moved_event shift) (moved_steps shift) x
 
-  read_items : (x : Option (List Item)) → items_of (on_some shift (moved_item shift) x) ≡ items (items_of x)
+  read_items : (x : Option (List Item)) → items_or_none (on_some shift (moved_item shift) x) ≡ items (items_or_none x)
   read_items None = refl
   read_items (Some is) = refl
 
@@ -134,8 +134,8 @@ module _ (shift : Shift) where
   with_moved o s x =
       ap (λ (q : List FlaggedItem). record (moved_steps shift s) { reading = moved_reading shift x.1; queue = q })
       (ap (λ (is : List Item). pushed (flags s.queue) (incoming o.emit_comments is)) (read_items x.0)
-      ∙ ap (pushed (flags s.queue)) (incoming_moved o.emit_comments (items_of x.0))
-      ∙ pushed_moved s.queue (incoming o.emit_comments (items_of x.0)))
+      ∙ ap (pushed (flags s.queue)) (incoming_moved o.emit_comments (items_or_none x.0))
+      ∙ pushed_moved s.queue (incoming o.emit_comments (items_or_none x.0)))
 
   unless_same : (o : OptionsData) (f : Option Fault) (s : StepState)
       → Same shift on_steps (read_unless o (moved_fault_of shift f) (moved_steps shift s)) (read_unless o f s)

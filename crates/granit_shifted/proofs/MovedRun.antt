@@ -17,7 +17,7 @@ use Rattle.granit_machine.specs.Laid.{Laid, laid_start}
 use Rattle.granit_machine.specs.Lexing.{FlaggedItem, Flagging, is_nearest, others, and_key, flag_lexeme, flag_item}
 use Rattle.granit_machine.specs.Lexing.{flagging, flagged, lex_start, lex}
 use Rattle.granit_machine.specs.Machine.{is_lexeme, untailed, asked_items, feed_all, is_settled, front_if, settled}
-use Rattle.granit_machine.specs.Machine.{answered, run_from}
+use Rattle.granit_machine.specs.Machine.{run_answer, run_from}
 use Rattle.granit_machine.specs.PossibleKeys.{is_of, is_possible}
 use Rattle.granit_machine.specs.Reader.{LexState, is_end, behind_read, lex_turn, lex_len, read, is_end_kind}
 use Rattle.granit_machine.specs.ReaderState.{ReaderState, Read}
@@ -213,8 +213,9 @@ module _ (shift : Shift) where
 
   answered_moved : (o : OptionsData) (m : Mark) (items : List FlaggedItem) (l : Laid) (f : Option Fault)
       → IsFirst shift
-      → answered o (moved_mark shift m) (map (moved_flagged shift) items) (moved_laid shift l) (moved_fault_of shift f)
-      ≡ moved_answer shift (answered o m items l f)
+      → run_answer o (moved_mark shift m) (map (moved_flagged shift) items) (moved_laid shift l)
+      (moved_fault_of shift f)
+      ≡ moved_answer shift (run_answer o m items l f)
   answered_moved o m items l None first = ap (told_from (moved_mark shift m)) (start_fed o m items first)
       ∙ told_moved m (feed_all o items (parser_start m))
   answered_moved o m items l (Some f) first =
@@ -225,14 +226,14 @@ module _ (shift : Shift) where
       ∙ refused_moved f (feed_all o (settled l items) (parser_start m))
 
   run_by : (o : OptionsData) (h : Here) (r : Result (List Item × LexState) Fault) → IsFirst shift
-      → (mapped shift on_lex r >>= λ x. answered o (moved_mark shift (mark_of h))
+      → (mapped shift on_lex r >>= λ x. run_answer o (moved_mark shift (mark_of h))
       (asked_items o.emit_comments (flagged x.0))
       x.1.reader.laid x.1.fault)
-      ≡ moved_answer shift (r >>= λ x. answered o (mark_of h) (asked_items o.emit_comments (flagged x.0))
+      ≡ moved_answer shift (r >>= λ x. run_answer o (mark_of h) (asked_items o.emit_comments (flagged x.0))
       x.1.reader.laid
       x.1.fault)
   run_by o h (Ok (items, t)) first =
-      ap (λ (is : List FlaggedItem). answered o (moved_mark shift (mark_of h)) is (moved_laid shift t.reader.laid)
+      ap (λ (is : List FlaggedItem). run_answer o (moved_mark shift (mark_of h)) is (moved_laid shift t.reader.laid)
       (moved_fault_of shift t.fault)) (ap (asked_items o.emit_comments) (flagged_moved items)
       ∙ asked_moved o.emit_comments (flagged items))
       ∙ answered_moved o (mark_of h) (asked_items o.emit_comments (flagged items)) t.reader.laid t.fault first
@@ -240,7 +241,7 @@ module _ (shift : Shift) where
 
   pub run_moved : (o : OptionsData) (h : Here) → IsFirst shift
       → run_from o (moved_here shift h) ≡ moved_answer shift (run_from o h)
-  run_moved o h first = ap (λ (r : Result (List Item × LexState) Fault). r >>= λ x. answered o
+  run_moved o h first = ap (λ (r : Result (List Item × LexState) Fault). r >>= λ x. run_answer o
       (moved_mark shift (mark_of h))
       (asked_items o.emit_comments (flagged x.0)) x.1.reader.laid x.1.fault) (lex_same o h first).is
       ∙ run_by o h (lex o h) first

@@ -36,7 +36,7 @@ use Rattle.granit_machine.specs.NodeEnds.{finish_in, finish, owed_in, owed, end_
 use Rattle.granit_machine.specs.NodeEnds.{null_text, null_node, empty_span, end_properties, block_count, begin}
 use Rattle.granit_machine.specs.NodeEnds.{begin_block, block_mapping, waits, with_top, may_be_indentless}
 use Rattle.granit_machine.specs.NodeSteps.{Stepped, alias_by, tag_prefix, with_properties, tagged, anchored}
-use Rattle.granit_machine.specs.NodeSteps.{known_prefix, or_kept}
+use Rattle.granit_machine.specs.NodeSteps.{known_prefix, or_kept_handle}
 use Rattle.granit_machine.specs.NodeSteps.{block_sequence, DashRole, NextEntry, NewSequence, IndentlessSequence}
 use Rattle.granit_machine.specs.NodeSteps.{dash_room, give_tail, token_number, take_dash, first_dash, open_flow}
 use Rattle.granit_machine.specs.NodeSteps.{bare_by, bare, node_by, node}
@@ -475,11 +475,11 @@ module _ (shift : Shift) where
       on false = refl
 
   or_kept_moved : (o : OptionsData) (handle : List ℕ) (found : Option (List ℕ)) (kept : Handles) → KeptFits o shift
-      → or_kept o handle found (lookup_text handle (moved_kept shift.kept kept))
-      ≡ or_kept o handle found (lookup_text handle kept)
+      → or_kept_handle o handle found (lookup_text handle (moved_kept shift.kept kept))
+      ≡ or_kept_handle o handle found (lookup_text handle kept)
   or_kept_moved o handle (Some prefix) kept fits = refl
   or_kept_moved o handle None kept (inl e) =
-      ap (λ (before : Option Handles). or_kept o handle None (lookup_text handle (moved_kept before kept))) e
+      ap (λ (before : Option Handles). or_kept_handle o handle None (lookup_text handle (moved_kept before kept))) e
   or_kept_moved o handle None kept (inr e) =
       lost (nat_lt 2 (length handle)) o.keep_tags (lookup_text handle (moved_kept shift.kept kept))
       (lookup_text handle kept) e

@@ -54,7 +54,7 @@ start_read o number behind offset lends i n e =
     (sort_answers false false h (dashes (refl, behind, refl, parted behind e)))
 
 -- behind it nothing is known of its line
-three_on : (behind : List ℕ) (offset : Option ℕ) (lends : Bool) (i n : ℕ) (s : Seen)
+pub three_on : (behind : List ℕ) (offset : Option ℕ) (lends : Bool) (i n : ℕ) (s : Seen)
     → steps 3 (here_at (marked behind) offset lends i n s)
     ≡ here_at behind (more 0x2D (more 0x2D (more 0x2D offset))) lends (i + 1 + 1 + 1) n
     (record { column = s.column + 1 + 1 + 1; begins_line = false; tab = None })

@@ -1,5 +1,6 @@
--- What is told behind a boundary: what the text that is left there tells alone, moved.
-use Rattle.std.specs.Prelude.{◌≡◌, ◌⊎◌, ℕ, suc, ◌-◌, false, List, [], ◌∷◌, Option, Some, None, is_some}
+-- What is told behind a boundary: what the text that is left there tells alone, moved, or where handles stay from
+-- before, what it tells behind a text that declares them anew.
+use Rattle.std.specs.Prelude.{◌≡◌, ◌≢◌, ◌⊎◌, ℕ, suc, ◌-◌, true, false, List, [], ◌∷◌, Option, Some, None, is_some}
 use Rattle.granit_error.specs.OptionsData.{OptionsData}
 use Rattle.granit_lexemes.specs.Here.{Here, mark_of, start_of}
 use Rattle.granit_lexemes.specs.PlainEvent.{PlainEvent, event_on, StreamStart, StreamEnd}
@@ -7,6 +8,7 @@ use Rattle.granit_lexemes.specs.Outcome.{Fault}
 use Rattle.granit_machine.specs.Frames.{ParserState}
 use Rattle.granit_machine.specs.Machine.{run}
 use Rattle.granit_restart.specs.Boundary.{Boundary, AtStart, PastEnd, AtTextEnd}
+use Rattle.granit_shifted.specs.Declaring.{DeclaresAnew, TellsAnew}
 use Rattle.granit_shifted.specs.Shift.{Shift, moved_events, moved_fault_of}
 use Rattle.granit_steps.specs.Steps.{StepState, steps_start}
 use Rattle.granit_steps.specs.Told.{GivesEvents, answer, told_of}
@@ -47,21 +49,44 @@ TellsAlone o text shift s =
 abbrev pub TellsEnd : OptionsData → Here → StepState → Type 0
 TellsEnd o h s = GivesEvents o s (event_on StreamEnd (mark_of h) ∷ []) None
 
--- the end of the stream where nothing is left, or else what the text tells that is left
-abbrev pub TellsLeft : OptionsData → List ℕ → Shift → Here → StepState → Type 0
-TellsLeft o [] shift h s = TellsEnd o h s
-TellsLeft o (c ∷ cs) shift h s = TellsAlone o (c ∷ cs) shift s
-
--- From a state on all is told that the text behind a boundary tells alone, where so many lexemes and a parser's anchors
--- are before it: from a `---` on, behind the line of a `...`, or at the end.
-abbrev pub TellsBehind : OptionsData → (lexemes : ℕ) → ParserState → Boundary → StepState → Type 0
-TellsBehind o lexemes p (AtStart h) s = TellsAlone o h.unread.text (shift_to lexemes h p) s
-TellsBehind o lexemes p (PastEnd h) s = TellsLeft o h.unread.text (shift_to (suc lexemes) h p) h s
-TellsBehind o lexemes p (AtTextEnd h) s = TellsEnd o h s
+-- ---- handles that stay
 
 -- no handle stays from before, or none may
 abbrev pub NoneStays : OptionsData → ParserState → Type 0
 NoneStays o p = (p.kept ≡ []) ⊎ (o.keep_tags ≡ false)
+
+abbrev pub HandlesStay : OptionsData → ParserState → Type 0
+HandlesStay o p = (p.kept ≢ []) × (o.keep_tags ≡ true)
+
+-- those that stay were declared, as they are wherever turns and restarts lead
+abbrev pub StaysDeclared : OptionsData → ParserState → Type 0
+StaysDeclared o p = NoneStays o p ⊎ ((before : List ℕ) × DeclaresAnew o before p.kept)
+
+-- where the text stands whose handles were declared anew before it: it has those of its own
+abbrev pub shift_from : (lexemes : ℕ) → Here → ParserState → Shift
+shift_from lexemes h p = record (shift_to lexemes h p) { kept = None }
+
+-- From a state on all is told that the text at a place tells, where so many lexemes and a parser's anchors are before
+-- it, moved there: what it tells alone, or where handles stay, what it tells behind a text that declares them anew.
+pub data TellsItsText (o : OptionsData) (lexemes : ℕ) (h : Here) (p : ParserState) (s : StepState) : Type 0 where
+  alone_told : NoneStays o p → TellsAlone o h.unread.text (shift_to lexemes h p) s → TellsItsText o lexemes h p s
+  anew_told : {es : List PlainEvent} {f : Option Fault} → HandlesStay o p → TellsAnew o p.kept h.unread.text es f
+      → GivesEvents o s (moved_events (shift_from lexemes h p) es) (moved_fault_of (shift_from lexemes h p) f)
+      → TellsItsText o lexemes h p s
+
+-- ---- boundaries
+
+-- the end of the stream where nothing is left, or else what the text tells that is left
+abbrev pub TellsLeft : OptionsData → List ℕ → (lexemes : ℕ) → Here → ParserState → StepState → Type 0
+TellsLeft o [] lexemes h p s = TellsEnd o h s
+TellsLeft o (c ∷ cs) lexemes h p s = TellsItsText o lexemes h p s
+
+-- From a state on all is told that the text behind a boundary tells, where so many lexemes and a parser's anchors are
+-- before it: from a `---` on, behind the line of a `...`, or at the end.
+abbrev pub TellsBehind : OptionsData → (lexemes : ℕ) → ParserState → Boundary → StepState → Type 0
+TellsBehind o lexemes p (AtStart h) s = TellsItsText o lexemes h p s
+TellsBehind o lexemes p (PastEnd h) s = TellsLeft o h.unread.text (suc lexemes) h p s
+TellsBehind o lexemes p (AtTextEnd h) s = TellsEnd o h s
 
 -- what calls give is what the text gives alone behind the start of the stream, moved; and so a run tells of it
 pub record ToldAlone (o : OptionsData) (text : List ℕ) (shift : Shift) (es : List PlainEvent)

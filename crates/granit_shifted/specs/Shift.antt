@@ -1,5 +1,5 @@
 -- A reading and its answer where the text stands behind another one.
-use Rattle.std.specs.Prelude.{◌≡◌, ◌⊎◌, ℕ, zero, suc, ◌+◌, ◌==◌, Bool, false, ◌&&◌, if◌then◌else◌, List, map, Option}
+use Rattle.std.specs.Prelude.{◌≡◌, ◌⊎◌, ℕ, zero, suc, ◌+◌, Bool, false, ◌&&◌, if◌then◌else◌, List, map, Option}
 use Rattle.std.specs.Prelude.{Some, None, Result, Ok, Err}
 use Rattle.std.specs.Option.{option_map}
 use Rattle.granit_error.specs.OptionsData.{OptionsData}
@@ -7,7 +7,7 @@ use Rattle.granit_base.specs.Place.{Place, Mark}
 use Rattle.granit_base.specs.Written.{Written}
 use Rattle.granit_base.specs.declared.place.Span.{Span}
 use Rattle.granit_base.specs.declared.style.ScalarStyle.{ScalarStyle}
-use Rattle.granit_base.specs.declared.style.ScalarStyle.TheVariants.{Plain}
+use Rattle.granit_invariants.specs.Offsets.{is_empty_node}
 use Rattle.granit_lexemes.specs.Comment.{CommentRead}
 use Rattle.granit_lexemes.specs.Here.{Here}
 use Rattle.granit_lexemes.specs.Lexeme.{KeyStart, LexemeKind, Lexeme, Item, OfLexeme, OfComment}
@@ -96,11 +96,6 @@ moved_span shift s = record {
   tag_start = moved_mark_of shift s.tag_start;
   tag_length = s.tag_length;
 }
-
--- whether a scalar is an empty node: plain, and without extent
-abbrev pub is_empty_node : ScalarStyle → (start end : Mark) → Bool
-is_empty_node Plain start end = start.place.index == end.place.index
-is_empty_node style start end = false
 
 -- the text of an empty node is lent from the program, whatever the input lends
 abbrev pub moved_scalar : Shift → ScalarStyle → (start end : Mark) → Written → Written

@@ -6,7 +6,7 @@ use Rattle.granit_lexemes.specs.Outcome.{Fault}
 use Rattle.granit_restart.specs.Calls.{Calls, next_call}
 use Rattle.granit_restart.specs.Recovery.{looked_by}
 use Rattle.granit_restart.specs.Restart.{behind_fault}
-use Rattle.granit_restart.specs.Skipping.{Ended, Failed, skip, SkipEnd, Stops}
+use Rattle.granit_restart.specs.Skipping.{Ended, Failed, skip_by_turns, SkipEnd, Stops}
 use Rattle.granit_steps.specs.Steps.{StepState}
 
 -- what is asked of a place in the state before the turn that failed
@@ -19,7 +19,8 @@ EndFits Fits stop (Failed f s) = Fits stop s
 
 -- behind a fault, and where the document behind its directives is dropped too
 abbrev pub FaultFits : Asked → OptionsData → Stops → StepState → Type 0
-FaultFits Fits o stops s = Fits stops.first s × EndFits Fits stops.second (skip o (behind_fault stops.first s).1)
+FaultFits Fits o stops s = Fits stops.first s
+    × EndFits Fits stops.second (skip_by_turns o (behind_fault stops.first s).1)
 
 abbrev pub DropFits : Asked → OptionsData → Stops → SkipEnd → Type 0
 DropFits Fits o stops (Ended s) = Unit {0}
@@ -28,7 +29,7 @@ DropFits Fits o stops (Failed f s) = FaultFits Fits o stops s
 -- behind a fault that was given, or where a document is dropped
 abbrev pub StopsFit : Asked → OptionsData → Stops → Option Fault → StepState → Type 0
 StopsFit Fits o stops (Some f) s = FaultFits Fits o stops s
-StopsFit Fits o stops None s = DropFits Fits o stops (skip o s)
+StopsFit Fits o stops None s = DropFits Fits o stops (skip_by_turns o s)
 
 -- where recovery goes on, by whether the next event was looked at
 abbrev pub looked_at : OptionsData → (looked : Bool) → Calls → Calls

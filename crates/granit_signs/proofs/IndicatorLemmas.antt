@@ -27,9 +27,9 @@ use Rattle.granit_machine.specs.Laid.{Laid, is_in_flow, is_adjacent}
 use Rattle.granit_machine.specs.PossibleKeys.{top_key, forgets_key, is_allowed, is_far_below}
 use Rattle.granit_machine.specs.ReaderState.{sign_lexeme, with_tail, given}
 use Rattle.granit_steps.specs.Steps.{incoming}
-use Rattle.granit_signs.specs.IndicatorReads.{question_from, with_key, keyed_by, bare_by, colon_by}
+use Rattle.granit_signs.specs.IndicatorReads.{question_from, lexeme_with_key, keyed_by, bare_entry_read, colon_by}
 use Rattle.granit_signs.specs.IndicatorReads.{keyed_entry, bare_entry}
-use Rattle.granit_content.specs.Reads.{Seen, seen, seen_comment, noted}
+use Rattle.granit_content.specs.Reads.{Seen, seen, seen_comment, comment_kept}
 use Rattle.granit_content.proofs.CodedLemmas.{coded_back, coded_fails, fails_then}
 use Rattle.granit_content.proofs.HeardLemmas.{same_if, same_then}
 use Rattle.granit_content.proofs.ItemLemmas.{read_untailed, read_seen}
@@ -71,21 +71,21 @@ pair_number o column mark l m is = entered_number _ l _ m is refl
 
 module _ (asked : Bool) (x : Lexeme) (l : Laid) where
   dash_kept : (tail : Option CommentRead) (h : Here)
-      → behind_dash x l (noted (seen asked tail)) h ≡ coded (incoming asked) (behind_dash x l tail h)
+      → behind_dash x l (comment_kept (seen asked tail)) h ≡ coded (incoming asked) (behind_dash x l tail h)
   unfolding behind_dash
   dash_kept tail h = same_if (incoming asked) (is_tabbed_dash h) _ _ _ _ refl
       (sym (read_seen asked (record x { end = mark_of h }) tail h _))
 
   -- with the tail that is seen
   pub dash_tailed : (h : Here) (s : Seen) (after : Here) → coded (seen asked) (tail_at h) ≡ Ok (s, after)
-      → coded (incoming asked) (dash_up_to x h l) ≡ behind_dash x l (noted s) after
+      → coded (incoming asked) (dash_up_to x h l) ≡ behind_dash x l (comment_kept s) after
   unfolding dash_up_to
   dash_tailed h s after is =
       let y = coded_back (seen asked) (tail_at h) s after is in
       ap (λ (r : Result (Option CommentRead × Here) Fault). coded (incoming asked) (r >>= λ z. behind_dash x l z.0 z.1))
       y.1
       ∙ sym (dash_kept y.0 after)
-      ∙ ap (λ (t : Seen). behind_dash x l (noted t) after) y.2
+      ∙ ap (λ (t : Seen). behind_dash x l (comment_kept t) after) y.2
 
   pub dash_fails : (h : Here) (e : Refused) → Fails e (coded (seen asked) (tail_at h))
       → Fails e (coded (incoming asked) (dash_up_to x h l))
@@ -156,16 +156,16 @@ module _ (asked : Bool) (o : OptionsData) (x : Lexeme) (h : Here) (l : Laid) whe
   noted_on : (r : Result (CommentRead × Here) Fault) (s : Seen) (after : Here)
       → coded (seen_comment asked) r ≡ Ok (s, after)
       → coded (incoming asked) (r >>= λ y. question_noted x l y.0 y.1)
-      ≡ given (with_tail x (noted s)) BehindQuestion after l
+      ≡ given (with_tail x (comment_kept s)) BehindQuestion after l
   noted_on r s after is =
       let y = coded_back (seen_comment asked) r s after is in
       ap (λ (q : Result (CommentRead × Here) Fault). coded (incoming asked) (q >>= λ z. question_noted x l z.0 z.1)) y.1
       ∙ read_seen asked x (Some y.0) after _
-      ∙ ap (λ (t : Seen). given (with_tail x (noted t)) BehindQuestion after l) y.2
+      ∙ ap (λ (t : Seen). given (with_tail x (comment_kept t)) BehindQuestion after l) y.2
 
   pub question_with_note : (s : Seen) (after : Here) → (next_char h == 0x23) ≡ true
       → coded (seen_comment asked) (comment h) ≡ Ok (s, after)
-      → coded (incoming asked) (question_up_to o x h l) ≡ given (with_tail x (noted s)) BehindQuestion after l
+      → coded (incoming asked) (question_up_to o x h l) ≡ given (with_tail x (comment_kept s)) BehindQuestion after l
   unfolding question_up_to
   question_with_note s after hash is = rw hash (noted_on (comment h) s after is)
 
@@ -187,18 +187,19 @@ module _ (asked : Bool) (o : OptionsData) (ends : Bool) (tail : Option CommentRe
   abbrev tailed_sign : Option CommentRead → Lexeme
   tailed_sign t = with_tail (sign_lexeme ends Colon h l) t
 
-  keyed_kept : (k : PossibleKey) → keyed_by o k (tailed_sign (noted (seen asked tail))) (mark_of h) after l
+  keyed_kept : (k : PossibleKey) → keyed_by o k (tailed_sign (comment_kept (seen asked tail))) (mark_of h) after l
       ≡ coded (incoming asked) (keyed_colon o ends k tail after h l)
   unfolding keyed_colon
   keyed_kept k =
       then_third (is_far_below h.place l k) (is_in_flow l) _ _ _ _
       ∙ same_if (incoming asked) (is_far_below h.place l k) _ _ _ _ refl
       (same_if (incoming asked) (is_in_flow l) _ _ _ _
-      (sym (read_seen asked (with_key k (sign_lexeme ends Colon h l)) tail after _))
+      (sym (read_seen asked (lexeme_with_key k (sign_lexeme ends Colon h l)) tail after _))
       (same_then (incoming asked) (with_pair o k.start.place.column k.start l) _ _
-      (λ m. sym (read_seen asked (with_key k (sign_lexeme ends Colon h l)) tail after _))))
+      (λ m. sym (read_seen asked (lexeme_with_key k (sign_lexeme ends Colon h l)) tail after _))))
 
-  bare_kept : bare_by o (tailed_sign (noted (seen asked tail))) (mark_of h) (is_allowed h.begins_line h.tab l) after l
+  bare_kept : bare_entry_read o (tailed_sign (comment_kept (seen asked tail))) (mark_of h)
+      (is_allowed h.begins_line h.tab l) after l
       ≡ coded (incoming asked) (bare_colon o ends tail after h l)
   unfolding bare_colon
   bare_kept =
@@ -210,7 +211,7 @@ module _ (asked : Bool) (o : OptionsData) (ends : Bool) (tail : Option CommentRe
       ∙ same_then (incoming asked) (with_pair o h.place.column (mark_of h) l) _ _
       (λ m. sym (read_seen asked (sign_lexeme ends Colon h l) tail after _))))
 
-  colon_kept : (key : Option PossibleKey) → colon_by o key (tailed_sign (noted (seen asked tail))) (mark_of h)
+  colon_kept : (key : Option PossibleKey) → colon_by o key (tailed_sign (comment_kept (seen asked tail))) (mark_of h)
       (is_allowed h.begins_line h.tab l) after l ≡ coded (incoming asked) (colon_by_key o ends key tail after h l)
   colon_kept (Some k) = keyed_kept k
   colon_kept None = bare_kept
@@ -220,7 +221,7 @@ module _ (asked : Bool) (o : OptionsData) (ends : Bool) (h : Here) (l : Laid)
   -- with the tail that is seen
   pub colon_tailed : (s : Seen) (after : Here) → coded (seen asked) (colon_tail (step h)) ≡ Ok (s, after)
       → coded (incoming asked) (colon o ends h l)
-      ≡ colon_by o (top_key l) (with_tail (sign_lexeme ends Colon h l) (noted s)) (mark_of h)
+      ≡ colon_by o (top_key l) (with_tail (sign_lexeme ends Colon h l) (comment_kept s)) (mark_of h)
       (is_allowed h.begins_line h.tab l) after l
   unfolding colon
   colon_tailed s after is =
@@ -228,7 +229,7 @@ module _ (asked : Bool) (o : OptionsData) (ends : Bool) (h : Here) (l : Laid)
       rw fits (ap (λ (r : Result (Option CommentRead × Here) Fault). coded (incoming asked)
       (r >>= λ z. colon_by_key o ends (top_key l) z.0 z.1 h l)) y.1
       ∙ sym (colon_kept asked o ends y.0 after h l (top_key l))
-      ∙ ap (λ (t : Seen). colon_by o (top_key l) (with_tail (sign_lexeme ends Colon h l) (noted t)) (mark_of h)
+      ∙ ap (λ (t : Seen). colon_by o (top_key l) (with_tail (sign_lexeme ends Colon h l) (comment_kept t)) (mark_of h)
       (is_allowed h.begins_line h.tab l) after l) y.2)
 
   pub colon_fails : (e : Refused) → Fails e (coded (seen asked) (colon_tail (step h)))

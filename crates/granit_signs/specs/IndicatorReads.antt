@@ -23,8 +23,8 @@ question_from o x h l =
     if next_char h == 0x00 && not (text_len h == 0) then fails_at ExpectedWhitespace (mark_of h)
     else question_up_to o x (past is_gap h) (behind_question l)
 
-abbrev pub with_key : PossibleKey → Lexeme → Lexeme
-with_key k x = record x { key = Some (start_of_key k) }
+abbrev pub lexeme_with_key : PossibleKey → Lexeme → Lexeme
+lexeme_with_key k x = record x { key = Some (start_of_key k) }
 
 -- where a `:` at a mark may stand behind its key: in flow, or where the pair of a block mapping may
 abbrev pub keyed_entry : OptionsData → PossibleKey → Mark → Laid → Result Laid Fault
@@ -34,7 +34,7 @@ keyed_entry o k m l =
     else with_pair o k.start.place.column k.start l
 
 abbrev pub keyed_by : OptionsData → PossibleKey → Lexeme → Mark → (after : Here) → Laid → Read
-keyed_by o k x m after l = keyed_entry o k m l >>= keyed_given (with_key k x) after
+keyed_by o k x m after l = keyed_entry o k m l >>= keyed_given (lexeme_with_key k x) after
 
 -- where one may stand without a key, and what it lets the next lexeme be
 abbrev pub bare_entry : OptionsData → Mark → (allowed : Bool) → Laid → Result (LastLexeme × Laid) Fault
@@ -43,12 +43,12 @@ bare_entry o m allowed l =
     else if not allowed then fails_at MappingValueNotAllowed m
     else with_pair o m.place.column m l >>= λ n. Ok (BehindBareColon, n)
 
-abbrev pub bare_by : OptionsData → Lexeme → Mark → (allowed : Bool) → (after : Here) → Laid → Read
-bare_by o x m allowed after l = bare_entry o m allowed l >>= λ e. given x e.0 after e.1
+abbrev pub bare_entry_read : OptionsData → Lexeme → Mark → (allowed : Bool) → (after : Here) → Laid → Read
+bare_entry_read o x m allowed after l = bare_entry o m allowed l >>= λ e. given x e.0 after e.1
 
 abbrev pub colon_by : OptionsData → Option PossibleKey → Lexeme → Mark → (allowed : Bool) → (after : Here) → Laid → Read
 colon_by o (Some k) x m allowed after l = keyed_by o k x m after l
-colon_by o None x m allowed after l = bare_by o x m allowed after l
+colon_by o None x m allowed after l = bare_entry_read o x m allowed after l
 
 -- ---- where memory may be wanted
 
@@ -57,9 +57,9 @@ abbrev pub begins_entry : (allowed : Bool) → Laid → Bool
 begins_entry allowed l = not (is_in_flow l) && allowed
 
 -- the same of a `:`, which is always allowed behind its key
-abbrev pub begins_pair : Option PossibleKey → (allowed : Bool) → Laid → Bool
-begins_pair (Some k) allowed l = begins_entry true l
-begins_pair None allowed l = begins_entry allowed l
+abbrev pub colon_begins_entry : Option PossibleKey → (allowed : Bool) → Laid → Bool
+colon_begins_entry (Some k) allowed l = begins_entry true l
+colon_begins_entry None allowed l = begins_entry allowed l
 
 -- the column of the pair that a `:` in a column divides
 abbrev pub pair_column : Option PossibleKey → ℕ → ℕ

@@ -12,7 +12,7 @@ ghost use Rattle.granit_machine.specs.ReaderState.{sign_lexeme, given};
 ghost use Rattle.granit_signs.specs.IndicatorReads.{begins_entry, question_from};
 ghost use Rattle.granit_items.specs.ItemViews.{alone, lexeme_view};
 ghost use Rattle.granit_refused.specs.Answered.{answered};
-ghost use Rattle.granit_content.specs.Reads.{IsAt, NeverWants, ReadsItems, lexeme_in, noted, tail_view};
+ghost use Rattle.granit_content.specs.Reads.{IsAt, NeverWants, ReadsItems, comment_kept, lexeme_in, tail_view};
 
 use granit_base::{Marker, is_blank_or_breakz, is_break, is_flow};
 use granit_content::{Tail, comment_at, leading_tab, past_gap, put_tail, sign, tail_at};
@@ -94,7 +94,7 @@ fn behind_dash<'input, T: Input>(
     requires room { layouts.old.number < 2 ^ 63 }
     ensures here { (h : Here) → Stands T.unread at.old h → GivesTo (lexeme_in found.new) (answered fault.new result)
         (IsAt T.unread at.new layouts.new)
-        (spec.behind_dash (lexeme_view found.old) layouts.old (noted (tail_view tail.entry)) h) }
+        (spec.behind_dash (lexeme_view found.old) layouts.old (comment_kept (tail_view tail.entry)) h) }
     ensures memory { NeverWants (answered fault.new result) }
     ensures moves { Moves T.unread T.left T.origin at.old at.new }
 {
@@ -132,7 +132,7 @@ fn is_before_break<T: Input>(at: &Cursor<T>) -> bool
 /// The lexeme gets its tail and ends there.
 fn end_at<'input>(found: &mut Lexeme<'input>, tail: Tail<'input>, end: Marker)
     ensures { lexeme_view found.new
-        ≡ record (lexeme_view found.old) { tail = noted (tail_view tail.entry); end = end } }
+        ≡ record (lexeme_view found.old) { tail = comment_kept (tail_view tail.entry); end = end } }
 {
     put_tail(found, tail);
     found.end = end;

@@ -9,8 +9,8 @@ ghost use Rattle.granit_machine.specs.IndicatorLexemes as spec;
 ghost use Rattle.granit_machine.specs.Laid.{is_adjacent, is_in_flow};
 ghost use Rattle.granit_machine.specs.Leaving.{LeavesIfRoom};
 ghost use Rattle.granit_machine.specs.PossibleKeys as keys;
-ghost use Rattle.granit_signs.specs.IndicatorReads.{bare_by, bare_entry, begins_entry, begins_pair, colon_by};
-ghost use Rattle.granit_signs.specs.IndicatorReads.{keyed_by, keyed_entry, pair_column, with_key};
+ghost use Rattle.granit_signs.specs.IndicatorReads.{bare_entry, bare_entry_read, begins_entry, colon_begins_entry};
+ghost use Rattle.granit_signs.specs.IndicatorReads.{colon_by, keyed_by, keyed_entry, lexeme_with_key, pair_column};
 ghost use Rattle.granit_items.specs.ItemViews.{alone, lexeme_view};
 ghost use Rattle.granit_refused.specs.Answered.{answered};
 ghost use Rattle.granit_content.specs.Reads.{NeverWants, ReadsItems, lexeme_in, seen, tail_view};
@@ -48,7 +48,8 @@ pub fn colon<'input, T: BorrowedInput<'input>>(
         (lexeme_in found.new) (answered fault.new result)
         (λ h. spec.colon (options_of options.now) ends h layouts.old) }
     ensures memory { (options_of options.now).emit_comments ≡ false
-        → begins_pair (keys.top_key layouts.old) (keys.is_allowed at.old.begins_line at.old.tab layouts.old) layouts.old
+        → colon_begins_entry (keys.top_key layouts.old)
+        (keys.is_allowed at.old.begins_line at.old.tab layouts.old) layouts.old
         ≡ false → NeverWants (answered fault.new result) }
     ensures column { (options_of options.now).emit_comments ≡ false → opens_column (options_of options.now)
         (pair_column (keys.top_key layouts.old) at.old.place.column) layouts.old.columns ≡ false
@@ -120,7 +121,7 @@ fn colon_by_key(
         (record { here = after; laid = layouts.new })
         (colon_by (options_of options.now) (keys.top_key layouts.old) (lexeme_view found.old) mark allowed after
         layouts.old) }
-    ensures memory { begins_pair (keys.top_key layouts.old) allowed layouts.old ≡ false
+    ensures memory { colon_begins_entry (keys.top_key layouts.old) allowed layouts.old ≡ false
         → NeverWants (answered fault.new result) }
     ensures column { opens_column (options_of options.now) (pair_column (keys.top_key layouts.old) mark.place.column)
         layouts.old.columns ≡ false → NeverWants (answered fault.new result) }
@@ -180,7 +181,7 @@ fn enter_keyed(
 /// The lexeme of a `:` with its key.
 fn keyed(layouts: &mut Layouts, key: &PossibleKey, found: &mut Lexeme<'_>)
     requires room { layouts.old.number < 2 ^ 63 }
-    ensures { (after : Here) → spec.keyed_given (with_key key.now (lexeme_view found.old)) after layouts.old
+    ensures { (after : Here) → spec.keyed_given (lexeme_with_key key.now (lexeme_view found.old)) after layouts.old
         ≡ Ok (alone found.new, record { here = after; laid = layouts.new }) }
 {
     layouts.forget_key();
@@ -190,7 +191,7 @@ fn keyed(layouts: &mut Layouts, key: &PossibleKey, found: &mut Lexeme<'_>)
 
 /// The lexeme gets its key.
 fn put_key(found: &mut Lexeme<'_>, key: &PossibleKey)
-    ensures { lexeme_view found.new ≡ with_key key.now (lexeme_view found.old) }
+    ensures { lexeme_view found.new ≡ lexeme_with_key key.now (lexeme_view found.old) }
 {
     let start = KeyStart {
         number: key.number,
@@ -212,7 +213,7 @@ fn bare_colon(
     requires room { layouts.old.number < 2 ^ 63 }
     ensures here { (after : Here) → Gives (lexeme_in found.new) (answered fault.new result)
         (record { here = after; laid = layouts.new })
-        (bare_by (options_of options.now) (lexeme_view found.old) mark allowed after layouts.old) }
+        (bare_entry_read (options_of options.now) (lexeme_view found.old) mark allowed after layouts.old) }
     ensures memory { begins_entry allowed layouts.old ≡ false → NeverWants (answered fault.new result) }
     ensures column { opens_column (options_of options.now) mark.place.column layouts.old.columns ≡ false
         → NeverWants (answered fault.new result) }

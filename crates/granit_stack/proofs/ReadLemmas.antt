@@ -16,13 +16,13 @@ use Rattle.granit_input.specs.Origin.{Origin}
 use Rattle.granit_layers.specs.Stacking.{is_none_left, top_offset}
 use Rattle.granit_layers.specs.declared.layer.Layer.{Layer}
 use Rattle.granit_load.proofs.GatherLemmas.{never_failed}
-use Rattle.granit_load.specs.Answering.{GivesAllOr, LacksNumber}
-use Rattle.granit_parser.specs.Streams.{bare_start}
+use Rattle.granit_load.specs.Answering.{GivesAllOr, LacksNumber, LeavesNumbers}
+use Rattle.granit_parser.specs.Streams.{bare_text_start}
 use Rattle.granit_replay.specs.Replaying.{Replay, raised_by_all}
 use Rattle.granit_replay.specs.declared.resolver.Included.{Included}
 use Rattle.granit_replay.specs.declared.resolver.Included.TheVariants.{Owned, Borrowed}
 use Rattle.granit_stack.specs.Including.{FailsAbove, GivesAllAbove, ReadsText, first_number, number_above, numbered}
-use Rattle.granit_stack.specs.Including.{numbered_out, start_of_text, with_fault}
+use Rattle.granit_stack.specs.Including.{numbered_out, replayed, start_of_text, with_fault}
 use Rattle.granit_stepper.specs.Stepping.{Stepping}
 use Rattle.granit_steps.specs.Steps.{StepState, start_from, steps_start}
 use Rattle.granit_steps.specs.Told.{GivesEvents}
@@ -75,26 +75,40 @@ fails_alike o p above below text e options number fails =
     subst (λ (q : OptionsData). FailsAbove q below (numbered below (start_of_text text)) e) options
     (subst (λ (n : Option ℕ). FailsAbove p n (numbered n (start_of_text text)) e) number fails)
 
+-- what anchors are counted is the same by whatever names the options and the events are known
+pub leaves_alike : (o p : OptionsData) (m : StepState) (es gs : List (Event × Span)) → p ≡ o → es ≡ gs
+    → LeavesNumbers p m (plain_events es) → LeavesNumbers o m (plain_events gs)
+leaves_alike o p m es gs options events left =
+    subst (λ (q : OptionsData). LeavesNumbers q m (plain_events gs)) options
+    (subst (λ (xs : List (Event × Span)). LeavesNumbers p m (plain_events xs)) events left)
+
 -- ---- the events of a text
 
 module _ (o : OptionsData) (above : Option ℕ) (text : Included) (r : Result Replay Refused)
     (number : IfOk r (λ (p : Replay). p.anchor_offset ≡ raised_by_all (first_number above) p.events)) where
+  -- fewer anchors are counted than the greatest number of 64 bits
+  abbrev Leaves : OptionsData → StepState → Type 0
+  Leaves p m = IfOk r (λ (x : Replay). LeavesNumbers p (numbered above m) (replayed x))
+
+  -- and all events are given from a state on
+  abbrev Gives : OptionsData → StepState → Type 0
+  Gives p m = GivesAllAbove p above (numbered above m) r × Leaves p m
+
+  reads : (t : Included) → Gives o (start_of_text t) → text ≡ t → ReadsText o above text r
+  reads t gives is = subst (λ (x : Included). ReadsText o above x r) (sym is) (gives.0, number, gives.1)
+
   pub reads_lent : (p : OptionsData) (lent : Bor (List ℕ)) → text ≡ Borrowed lent → p ≡ o
-      → GivesAllAbove p above (numbered above (steps_start (chars lent.now))) r → ReadsText o above text r
-  reads_lent p lent is options gives =
-      subst (λ (t : Included). ReadsText o above t r) (sym is) (
-        subst (λ (q : OptionsData). GivesAllAbove q above (numbered above (steps_start (chars lent.now))) r) options
-            gives,
-        number,
-      )
+      → GivesAllAbove p above (numbered above (steps_start (chars lent.now))) r
+      → Leaves p (steps_start (chars lent.now)) → ReadsText o above text r
+  reads_lent p lent is options gives left =
+      reads (Borrowed lent)
+      (subst (λ (q : OptionsData). Gives q (steps_start (chars lent.now))) options (gives, left)) is
 
   pub reads_own : (p : OptionsData) (own : String Global) (bytes : List ℕ) → text ≡ Owned own → p ≡ o
       → chars bytes ≡ string_chars own
-      → GivesAllAbove p above (numbered above (start_from (bare_start (chars bytes)))) r → ReadsText o above text r
-  reads_own p own bytes is options same gives =
-      subst (λ (t : Included). ReadsText o above t r) (sym is) (
-        subst (λ (x : List ℕ). GivesAllAbove o above (numbered above (start_from (bare_start x))) r) same
-            (subst (λ (q : OptionsData).
-            GivesAllAbove q above (numbered above (start_from (bare_start (chars bytes)))) r) options gives),
-        number,
-      )
+      → GivesAllAbove p above (numbered above (start_from (bare_text_start (chars bytes)))) r
+      → Leaves p (start_from (bare_text_start (chars bytes))) → ReadsText o above text r
+  reads_own p own bytes is options same gives left =
+      reads (Owned own)
+      (subst (λ (x : List ℕ). Gives o (start_from (bare_text_start x))) same
+      (subst (λ (q : OptionsData). Gives q (start_from (bare_text_start (chars bytes)))) options (gives, left))) is

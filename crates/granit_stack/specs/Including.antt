@@ -11,8 +11,8 @@ use Rattle.granit_event.specs.Events.{plain_events}
 use Rattle.granit_layers.specs.Stacking.{IsWithin, Pushes}
 use Rattle.granit_layers.specs.declared.layer.Layer.{Layer}
 use Rattle.granit_lexemes.specs.PlainEvent.{PlainEvent}
-use Rattle.granit_load.specs.Answering.{GivesAll, LacksNumber}
-use Rattle.granit_parser.specs.Streams.{bare_start}
+use Rattle.granit_load.specs.Answering.{GivesAll, LacksNumber, LeavesNumbers}
+use Rattle.granit_parser.specs.Streams.{bare_text_start}
 use Rattle.granit_replay.specs.Replaying.{Replay, raised_by_all}
 use Rattle.granit_replay.specs.Resolving.{missing_resolver}
 use Rattle.granit_replay.specs.declared.resolver.Included.{Included}
@@ -33,7 +33,7 @@ Resolves answers errors (Some r) name answer new =
 -- the machine before a text that is included: a text of its own is read by its characters, without byte offsets
 abbrev pub start_of_text : Included → StepState
 start_of_text (Borrowed text) = steps_start (chars text.now)
-start_of_text (Owned text) = start_from (bare_start (string_chars text))
+start_of_text (Owned text) = start_from (bare_text_start (string_chars text))
 
 -- above another parser its anchors are numbered from there on
 abbrev pub numbered : Option ℕ → StepState → StepState
@@ -59,12 +59,14 @@ abbrev pub GivesAllAbove : OptionsData → (above : Option ℕ) → StepState �
 GivesAllAbove o above m (Ok p) = GivesAll replayed o m (Ok p)
 GivesAllAbove o above m (Err e) = (e.kind ≡ NoMemory → ⊥) → FailsAbove o above m e
 
--- All events of the text, with a number for a next anchor that is past all of theirs; or its fault, or that no number
--- is left for one of its anchors, unless memory ran out.
+-- All events of the text, with a number for a next anchor that is past all of theirs, and fewer anchors counted behind
+-- them than the greatest number of 64 bits; or its fault, or that no number is left for one of its anchors, unless
+-- memory ran out.
 abbrev pub ReadsText : OptionsData → (above : Option ℕ) → Included → Result Replay Refused → Type 0
 ReadsText o above text r =
     GivesAllAbove o above (numbered above (start_of_text text)) r
     × IfOk r (λ p. p.anchor_offset ≡ raised_by_all (first_number above) p.events)
+    × IfOk r (λ p. LeavesNumbers o (numbered above (start_of_text text)) (replayed p))
 
 -- the number of the top parser
 abbrev pub number_above : {S : Type 0} → (S → ℕ) → List (Layer S) → Option ℕ

@@ -5,10 +5,11 @@ ghost use Rattle.granit_error.specs.OptionsView.{options_of};
 ghost use Rattle.granit_event.specs.Events.{event_kind};
 ghost use Rattle.granit_event.specs.Helpers.{anchor_of};
 ghost use Rattle.granit_layers.specs.Stacking.{IsWithin};
+ghost use Rattle.granit_load.specs.Answering.{LeavesNumbers};
 ghost use Rattle.granit_parser.specs.Parsing.{StandsAt};
 ghost use Rattle.granit_replay.specs.Replaying.{raised_by_all, raised_over};
 ghost use Rattle.granit_stack.specs.Including.{GivesAllAbove, Includes, IncludesNamed, ReadsText, Resolves};
-ghost use Rattle.granit_stack.specs.Including.{first_number, numbered};
+ghost use Rattle.granit_stack.specs.Including.{first_number, numbered, replayed};
 ghost use Rattle.granit_stack.specs.Including as spec;
 ghost use Rattle.granit_steps.specs.Steps.{StepState};
 
@@ -181,6 +182,8 @@ fn replay_of<'input, T: BorrowedInput<'input>>(
         → parser.entry.stepper.renumbered ≡ false
         → GivesAllAbove parser.entry.stepper.scanner.options above (numbered above m) result }
     ensures number { IfOk result (λ p. p.anchor_offset ≡ raised_by_all (first_number above) p.events) }
+    ensures numbers { (m : StepState) → StandsAt T.unread parser.entry m
+        → IfOk result (λ p. LeavesNumbers parser.entry.stepper.scanner.options (numbered above m) (replayed p)) }
 {
     let mut parser = parser;
     number_from(&mut parser, above);

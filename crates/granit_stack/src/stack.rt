@@ -5,7 +5,7 @@ ghost use Rattle.std.specs.Borrow.{sem};
 ghost use Rattle.std.specs.Io.BufRead.{Rests};
 ghost use Rattle.granit_error.specs.OptionsData.{default_options};
 ghost use Rattle.granit_error.specs.OptionsView.{options_of};
-ghost use Rattle.granit_layers.specs.Sending.{Loads, Tries, failure_of};
+ghost use Rattle.granit_layers.specs.Sending.{StackLoads, StackTries, failure_of};
 ghost use Rattle.granit_layers.specs.Stacking.{PeeksAs, StepsTo, names_of, top_offset};
 ghost use Rattle.granit_receivers.specs.Kept.{CountsErrors, GivesAgain, ScansAgain};
 ghost use Rattle.granit_receivers.specs.Sending.{shown};
@@ -180,7 +180,7 @@ where
         multi: bool,
     ) -> Result<(), ScanError>
         ensures sent { failure_of self.old.stack.end ≡ None
-            → Loads S.steps
+            → StackLoads S.steps
             S.offset_of
             S.sets_offset multi
             (Took (record { events = V.taken recv.old; places = V.spans recv.old })
@@ -204,7 +204,7 @@ where
         multi: bool,
     ) -> Result<(), TryLoadError<V::Error>>
         ensures sent { failure_of self.old.stack.end ≡ None
-            → Tries S.steps
+            → StackTries S.steps
             S.offset_of
             S.sets_offset multi
             (Took (record { events = V.taken recv.old; places = V.spans recv.old })

@@ -9,8 +9,8 @@ use Rattle.granit_error.specs.Refused.{Refused}
 use Rattle.granit_event.specs.declared.event.Event.{Event}
 use Rattle.granit_event.specs.Events.{event_kind, plain_events}
 use Rattle.granit_layers.specs.Passing.{held}
-use Rattle.granit_layers.specs.Stacking.{Answer, EndsOn, EndsWith, PeeksAs, Pushes, Stack, StepsTo}
-use Rattle.granit_layers.specs.Stacking.{is_ending, is_stream_end, top_offset}
+use Rattle.granit_layers.specs.Stacking.{Answer, EndsOn, EndsStack, PeeksAs, Pushes, Stack, StepsTo, is_ending}
+use Rattle.granit_layers.specs.Stacking.{is_stream_end, top_offset}
 use Rattle.granit_layers.specs.Turning.{Next, part_of}
 use Rattle.granit_layers.specs.declared.layer.Layer.{Layer}
 use Rattle.granit_layers.specs.declared.turn.Part.{Part}
@@ -21,7 +21,7 @@ use Rattle.granit_replay.specs.declared.resolver.Included.{Included}
 use Rattle.granit_stack.specs.Including.{Handling, IncludesNamed, ReadsText, first_number, number_above, replayed}
 use Rattle.granit_stack.specs.Stacked.{Stacked}
 use Rattle.granit_stack_laws.proofs.FreshLemmas.{AllGood, SeenBelow, all_below_more, came, pushed}
-use Rattle.granit_stack_laws.proofs.LifeLemmas.{raised_by_all_most}
+use Rattle.granit_stack_laws.proofs.LifeLemmas.{IdsUnder, raised_by_all_most}
 use Rattle.granit_stack_laws.specs.Coming.{IncludesAreNew}
 use Rattle.granit_stack_laws.specs.Fresh.{AreNew, Happens, IdsBelow, LaysOnly, Numbering, is_included}
 use Rattle.granit_stack_laws.specs.Fresh.{is_kept, is_next, is_pushed, is_seen, nothing}
@@ -32,11 +32,11 @@ both_below : (n : ℕ) (es gs : List (Event × Span)) → IdsBelow n es → IdsB
 both_below n [] gs first more = more
 both_below n (e ∷ es) gs first more = (first.0, both_below n es gs first.1 more)
 
--- ids from a number on are above those below it
+-- ids from a number on, below the greatest, are above those below it
 pub from_new : (n : ℕ) (es xs : List (Event × Span)) → (n < last_count → IdsBelow n es) → IdsFrom n (plain_events xs)
-    → AreNew es xs
-from_new n es [] below ids = tt
-from_new n es (x ∷ xs) below ids = (one ids.0, from_new n es xs below ids.1)
+    → IdsUnder last_count (plain_events xs) → AreNew es xs
+from_new n es [] below ids few = tt
+from_new n es (x ∷ xs) below ids few = (one ids.0 few.0, from_new n es xs below ids.1 few.1)
   where
     one : (id_of (event_kind x.0) ≡ 0) ⊎ (n ≤ id_of (event_kind x.0)) → id_of (event_kind x.0) < last_count
         → (id_of (event_kind x.0) ≡ 0) ⊎ IdsBelow (id_of (event_kind x.0)) es
@@ -62,7 +62,7 @@ ending_on : (r : Option Answer) (end : Option (Result (Unit {0}) Refused)) → e
     → is_ending r end ≡ false
 ending_on r end none on = subst (λ (x : Option (Result (Unit {0}) Refused)). is_ending r x ≡ false) (sym none) on
 
-ends_with : (r : Option Answer) (old new : Option (Result (Unit {0}) Refused)) → EndsWith r old new → new ≡ None
+ends_with : (r : Option Answer) (old new : Option (Result (Unit {0}) Refused)) → EndsStack r old new → new ≡ None
     → is_ending r old ≡ false
 ends_with None old new ends none = ending_on None old (sym ends ∙ none) refl
 ends_with (Some (Ok e)) old new ends none =
@@ -255,12 +255,14 @@ module _ {S R : Type 0} (steps : S → Next → S → Type 0) (h : Handling S R)
 
   -- ids from the number of the top parser on are new
   pub new_includes : ((o : OptionsData) (n : ℕ) (text : Included) (p : Replay) → ReadsText o (Some n) text (Ok p)
-      → IdsFrom n (replayed p)) → IncludesAreNew steps h Unread
-  new_includes ids first old es k ks text events empty unseen calls on above reads =
+      → IdsFrom n (replayed p))
+      → ((o : OptionsData) (n : ℕ) (text : Included) (p : Replay) → ReadsText o (Some n) text (Ok p)
+      → IdsUnder last_count (replayed p)) → IncludesAreNew steps h Unread
+  new_includes ids few first old es k ks text events empty unseen calls on above reads =
       let n = h.offset_of k.parser in
       let gone = es ++ held old.stack.peeked in
       let below : n < last_count → IdsBelow n gone = λ small.
       subst (λ (ls : List (Layer S)). IdsBelow (top_offset h.offset_of ls) gone) above
       (given_below first old es empty unseen calls on
       (subst (λ (ls : List (Layer S)). top_offset h.offset_of ls < last_count) (sym above) small)) in
-      from_new n gone events.events below (ids old.options n text events reads)
+      from_new n gone events.events below (ids old.options n text events reads) (few old.options n text events reads)

@@ -14,16 +14,18 @@ use Rattle.granit_layers.specs.declared.kinds.AnyKind.TheVariants.{First, Second
 use Rattle.granit_lexemes.specs.Here.{Here, start_of}
 use Rattle.granit_lexemes.specs.Outcome.{Fault}
 use Rattle.granit_lexemes.specs.PlainEvent.{PlainEvent}
-use Rattle.granit_parser.specs.Streams.{bare_start}
-use Rattle.granit_recovery.specs.Ids.{IdsFrom, counting_from, id_of}
+use Rattle.granit_parser.specs.Streams.{bare_text_start}
+use Rattle.granit_parser.specs.Parsing.{LeadsTo, first_given, none_given}
+use Rattle.granit_recovery.specs.Ids.{Counted, IdsFrom, counted_start, counted_step, counting_from, id_of}
 use Rattle.granit_replay.specs.Replaying.{Replay}
 use Rattle.granit_replay.specs.declared.resolver.Included.{Included}
 use Rattle.granit_replay.specs.declared.resolver.Included.TheVariants.{Owned, Borrowed}
 use Rattle.granit_stack_laws.proofs.SingleLemmas.{OneStart, single}
-use Rattle.granit_stack_laws.proofs.LifeLemmas.{all_below}
+use Rattle.granit_stack_laws.proofs.LifeLemmas.{IdsUnder, StepsCount, all_below}
 use Rattle.granit_stack_laws.specs.Coming.{IncludeComesThrough}
 use Rattle.granit_stack_laws.specs.Fresh.{IdsBelow}
 use Rattle.granit_stack.specs.Including.{Handling, ReadsText, number_above, replayed}
+use Rattle.granit_steps.specs.Steps.{StepState}
 use Rattle.granit_steps.specs.Told.{GivesEvents}
 
 -- ---- ids
@@ -48,7 +50,31 @@ text_ids law o n (Borrowed text) p reads =
     (law o (start_of (chars text.now)) (n - 1) (replayed p) None reads.0)
 text_ids law o n (Owned text) p reads =
     from_less n (suc (n - 1)) (replayed p) (omega arith)
-    (law o (bare_start (string_chars text)) (n - 1) (replayed p) None reads.0)
+    (law o (bare_text_start (string_chars text)) (n - 1) (replayed p) None reads.0)
+
+-- ids of events are no greater than the count behind them
+counted_ids : StepsCount → (o : OptionsData) (top : ℕ) (m n : StepState) (es : List PlainEvent) → Counted o m
+    → LeadsTo o m es n → n.parser.count < top → (m.parser.count < top) × IdsUnder top es
+counted_ids law o top m n [] counted none_given few = (few, tt)
+counted_ids law o top m n (e ∷ es) counted (first_given {next = next} is leads) few =
+    let counts = law o m next (Some e) counted is in
+    let rest = counted_ids law o top next n es (counted_step counted is) leads few in
+    let more : m.parser.count ≤ next.parser.count = counts.0 in
+    let id : id_of e.kind ≤ next.parser.count = counts.1 in
+    let below : next.parser.count < top = rest.0 in
+    (omega arith, (omega arith, rest.1))
+
+-- so those of a text are below the greatest number
+pub text_under : StepsCount → (o : OptionsData) (n : ℕ) (text : Included) (p : Replay)
+    → ReadsText o (Some n) text (Ok p) → IdsUnder last_count (replayed p)
+text_under law o n (Borrowed text) p (gives, number, (last, leads, few)) =
+    let start = start_of (chars text.now) in
+    (counted_ids law o last_count (counting_from (n - 1) start) last (replayed p) (counted_start (n - 1) start) leads
+    few).1
+text_under law o n (Owned text) p (gives, number, (last, leads, few)) =
+    let start = bare_text_start (string_chars text) in
+    (counted_ids law o last_count (counting_from (n - 1) start) last (replayed p) (counted_start (n - 1) start) leads
+    few).1
 
 -- ---- parsers of several kinds
 
@@ -66,9 +92,9 @@ fourth_resets a b c n p (Fourth q) set = ap Fourth set
 -- ---- an include
 
 module _ {S R : Type 0} (steps : S → Next → S → Type 0) (h : Handling S R) where
-  pub include_comes : BeginIds → OneStart → ReplayComesThrough steps h.offset_of h.sets_offset h.again
+  pub include_comes : StepsCount → BeginIds → OneStart → ReplayComesThrough steps h.offset_of h.sets_offset h.again
       → Resets h.sets_offset h.again → IncludeComesThrough steps h
-  include_comes ids start comes resets old new k ks name above include =
+  include_comes counts ids start comes resets old new k ks name above include =
       let r = include.2.0 in
       let title : Written = record { characters = name; is_borrowed = false } in
       let read : ReadsText old.options (Some (h.offset_of k.parser)) include.0 (Ok r) = subst
@@ -85,9 +111,10 @@ module _ {S R : Type 0} (steps : S → Next → S → Type 0) (h : Handling S R)
         events = r;
         read = read;
         ids = text_ids ids old.options (h.offset_of k.parser) include.0 r read;
-        below = λ small.
+        below =
             subst (λ (m : ℕ). IdsBelow m r.events) (sym read.1)
-            (all_below r.events (h.offset_of k.parser) (subst (λ (m : ℕ). m < last_count) read.1 small));
+            (all_below r.events (h.offset_of k.parser)
+            (text_under counts old.options (h.offset_of k.parser) include.0 r read));
         comes = λ one p q given at calls.
             comes p q title (record r { anchor_offset = n }) k ks given (at ∙ lies)
             (single start old.options (Some (h.offset_of k.parser)) include.0 r read one) calls;

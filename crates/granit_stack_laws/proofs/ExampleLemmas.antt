@@ -1,18 +1,19 @@
 -- A small text is read, and a stack includes it.
-use Rattle.std.proofs.Common.{◌≡◌, ℕ, zero, suc, false, List, [], ◌∷◌, ◌++◌, Option, Some, None, Result, Ok, Err}
+use Rattle.std.proofs.Common.{◌≡◌, ◌<◌, ℕ, zero, suc, false, List, [], ◌∷◌, ◌++◌, Option, Some, None, Result, Ok, Err}
 use Rattle.std.proofs.Common.{arith, inl, max, refl, sym, subst}
 use Rattle.std.specs.Borrow.{Bor}
 use Rattle.std.specs.Option.{option_map}
 use Rattle.std.specs.Prelude.{codes, take}
+use Rattle.granit_base.specs.Counts.{last_count}
 use Rattle.granit_base.specs.Written.{Written}
 use Rattle.granit_base.specs.declared.place.Span.{Span}
 use Rattle.granit_error.specs.OptionsData.{OptionsData, default_options}
 use Rattle.granit_error.specs.Refused.{Refused}
 use Rattle.granit_event.specs.declared.event.Event.{Event}
 use Rattle.granit_event.specs.Events.{plain_events}
-use Rattle.granit_layers.specs.Kinds.{SetsAny, StepsAny, number_of, number_over}
+use Rattle.granit_layers.specs.Kinds.{SetsAny, StepsAny, number_by_kind, number_over}
 use Rattle.granit_layers.specs.Passing.{StackRun, no_call, one_call}
-use Rattle.granit_layers.specs.Stacking.{EndsWith, Stack, StepsTo, TurnsOnce, Withheld, is_none_left, layer_of}
+use Rattle.granit_layers.specs.Stacking.{EndsStack, Stack, StepsTo, TurnsOnce, Withheld, is_none_left, layer_of}
 use Rattle.granit_layers.specs.Stacking.{none_yet, one_more}
 use Rattle.granit_layers.specs.Turning.{Next, turn_of}
 use Rattle.granit_layers.specs.declared.kinds.AnyKind.{AnyKind}
@@ -21,11 +22,13 @@ use Rattle.granit_layers.specs.declared.layer.Layer.{Layer}
 use Rattle.granit_layers.specs.declared.turn.Turn.TheVariants.{Gives, Withholds, Leaves}
 use Rattle.granit_lexemes.specs.Outcome.{Fault}
 use Rattle.granit_lexemes.specs.PlainEvent.{PlainEvent, plain_span}
+use Rattle.granit_load.specs.Answering.{LeavesNumbers}
+use Rattle.granit_parser.specs.Parsing.{LeadsTo, first_given, none_given}
 use Rattle.granit_replay.specs.Replaying.{Replay, behind_next, next_of, raised_by}
 use Rattle.granit_replay.specs.declared.resolver.Included.{Included}
 use Rattle.granit_replay.specs.declared.resolver.Included.TheVariants.{Borrowed}
-use Rattle.granit_stack_laws.specs.Examples.{lone, mark_at, named, running, small_end, small_events, small_layer}
-use Rattle.granit_stack_laws.specs.Examples.{small_life, small_replay, small_text}
+use Rattle.granit_stack_laws.specs.Examples.{example_mark, lone, owned_name, running, small_end, small_events}
+use Rattle.granit_stack_laws.specs.Examples.{small_layer, small_life, small_replay, small_text}
 use Rattle.granit_stack_laws.specs.Fresh.{Happens, is_included, is_next, is_pushed, nothing}
 use Rattle.granit_stack.specs.Including.{Handling, Includes, ReadsText}
 use Rattle.granit_stack.specs.Stacked.{Stacked}
@@ -80,41 +83,54 @@ use Rattle.granit_machine.specs.ReaderState.{tailed}
 use Rattle.granit_machine.specs.StreamLexemes.{end_mark_up_to}
 use Rattle.granit_steps.specs.Steps.{step_turn, next_event}
 
--- ---- all that is given, by so many steps
+-- ---- all that is given, by so many steps, and the count of anchors behind it
 
-abbrev collected : Result (Option PlainEvent × StepState) Fault → (StepState → Option (List PlainEvent))
-    → Option (List PlainEvent)
-collected (Ok (None, t)) more = Some []
-collected (Ok (Some e, t)) more = option_map (λ es. e ∷ es) (more t)
-collected (Err f) more = None
+abbrev collected : (count : ℕ) → Result (Option PlainEvent × StepState) Fault
+    → (StepState → Option (List PlainEvent × ℕ)) → Option (List PlainEvent × ℕ)
+collected count (Ok (None, t)) more = Some ([], count)
+collected count (Ok (Some e, t)) more = option_map (λ (x : List PlainEvent × ℕ). (e ∷ x.0, x.1)) (more t)
+collected count (Err f) more = None
 
-abbrev all_given : OptionsData → ℕ → StepState → Option (List PlainEvent)
+abbrev all_given : OptionsData → ℕ → StepState → Option (List PlainEvent × ℕ)
 all_given o zero s = None
-all_given o (suc n) s = collected (next_event o s) (all_given o n)
+all_given o (suc n) s = collected s.parser.count (next_event o s) (all_given o n)
+
+record AllGiven (o : OptionsData) (s : StepState) (x : List PlainEvent × ℕ) : Type 0 where
+  all : GivesEvents o s x.0 None
+  last : StepState
+  leads : LeadsTo o s x.0 last
+  count : last.parser.count ≡ x.1
 
 by_step : (o : OptionsData) (n : ℕ) (s : StepState) (r : Result (Option PlainEvent × StepState) Fault)
-    (es : List PlainEvent)
-    → ((t : StepState) (xs : List PlainEvent) → all_given o n t ≡ Some xs → GivesEvents o t xs None)
-    → next_event o s ≡ r → collected r (all_given o n) ≡ Some es → GivesEvents o s es None
-by_step o n s (Ok (None, t)) es more is all =
-    let none : es ≡ [] = cc in subst (λ (xs : List PlainEvent). GivesEvents o s xs None) (sym none) (gives_end is)
-by_step o n s (Ok (Some e, t)) es more is all = behind (all_given o n t) refl all
+    (x : List PlainEvent × ℕ)
+    → ((t : StepState) (y : List PlainEvent × ℕ) → all_given o n t ≡ Some y → AllGiven o t y)
+    → next_event o s ≡ r → collected s.parser.count r (all_given o n) ≡ Some x → AllGiven o s x
+by_step o n s (Ok (None, t)) x more is all =
+    let none : x ≡ ([], s.parser.count) = cc in
+    subst (AllGiven o s) (sym none) (record { all = gives_end is; last = s; leads = none_given; count = refl })
+by_step o n s (Ok (Some e, t)) x more is all = behind (all_given o n t) refl all
   where
-    behind : (x : Option (List PlainEvent)) → all_given o n t ≡ x → option_map (λ xs. e ∷ xs) x ≡ Some es
-        → GivesEvents o s es None
+    behind : (y : Option (List PlainEvent × ℕ)) → all_given o n t ≡ y
+        → option_map (λ (z : List PlainEvent × ℕ). (e ∷ z.0, z.1)) y ≡ Some x → AllGiven o s x
     behind None same told = absurd cc
-    behind (Some xs) same told =
-        let whole : es ≡ e ∷ xs = cc in
-        subst (λ (ys : List PlainEvent). GivesEvents o s ys None) (sym whole) (gives_event is (more t xs same))
-by_step o n s (Err f) es more is all = absurd cc
+    behind (Some z) same told =
+        let whole : x ≡ (e ∷ z.0, z.1) = cc in
+        let rest = more t z same in
+        subst (AllGiven o s) (sym whole) (record {
+          all = gives_event is rest.all;
+          last = rest.last;
+          leads = first_given is rest.leads;
+          count = rest.count;
+        })
+by_step o n s (Err f) x more is all = absurd cc
 
-gives_all : (o : OptionsData) (n : ℕ) (s : StepState) (es : List PlainEvent) → all_given o n s ≡ Some es
-    → GivesEvents o s es None
-gives_all o zero s es all = absurd cc
-gives_all o (suc n) s es all = by_step o n s (next_event o s) es (gives_all o n) refl all
+gives_all : (o : OptionsData) (n : ℕ) (s : StepState) (x : List PlainEvent × ℕ) → all_given o n s ≡ Some x
+    → AllGiven o s x
+gives_all o zero s x all = absurd cc
+gives_all o (suc n) s x all = by_step o n s (next_event o s) x (gives_all o n) refl all
 
 small_told : all_given default_options 12 (with_offset 2 (steps_start small_text))
-    ≡ Some (plain_events (small_events 2))
+    ≡ Some (plain_events (small_events 2), 2)
 unfolding is_z is_break is_breakz is_blank is_blank_or_breakz is_digit is_hex hex_value is_word_char is_alpha is_flow
     is_bom is_printable is_yaml_non_break is_yaml_non_space is_anchor_char is_uri_sign is_uri_char is_tag_char is_gap
     begins_behind tab_behind step past steps past_prefix_mark past_break turns pieces letter_value digit_count is_high
@@ -134,13 +150,18 @@ small_told = refl
 
 pub small_read : (text : Bor (List ℕ)) → chars text.now ≡ small_text
     → ReadsText default_options (Some 2) (Borrowed text) (Ok (small_replay 2))
-small_read text is = (
-  subst (λ (x : List ℕ).
-      GivesEvents default_options (with_offset 2 (steps_start x)) (plain_events (small_events 2)) None) (sym is)
-      (gives_all default_options 12 (with_offset 2 (steps_start small_text)) (plain_events (small_events 2))
-      small_told),
-  refl,
-)
+small_read text is =
+    let given = gives_all default_options 12 (with_offset 2 (steps_start small_text))
+    (plain_events (small_events 2), 2) small_told in
+    let few = subst (λ (n : ℕ). n < last_count) (sym given.count) (omega arith) in (
+      subst (λ (x : List ℕ).
+          GivesEvents default_options (with_offset 2 (steps_start x)) (plain_events (small_events 2)) None) (sym is)
+          given.all,
+      refl,
+      subst (λ (x : List ℕ).
+          LeavesNumbers default_options (with_offset 2 (steps_start x)) (plain_events (small_events 2))) (sym is)
+          (given.last, given.leads, few),
+    )
 
 -- ---- a stack
 
@@ -156,7 +177,7 @@ module _ {A B C : Type 0} (steps_a : A → Next → A → Type 0) (steps_b : B �
   Steps = StepsAny steps_a steps_b steps_c (λ (p : Replay) r q. (r ≡ next_of p) × (q ≡ behind_next p))
 
   abbrev number : Kind → ℕ
-  number = number_of offset_a offset_b offset_c (λ (p : Replay). p.anchor_offset)
+  number = number_by_kind offset_a offset_b offset_c (λ (p : Replay). p.anchor_offset)
 
   abbrev Sets : ℕ → Kind → Kind → Type 0
   Sets = SetsAny sets_a sets_b sets_c (λ n (p : Replay) q. q ≡ record p { anchor_offset = n })
@@ -209,7 +230,7 @@ module _ {A B C : Type 0} (steps_a : A → Next → A → Type 0) (steps_b : B �
 
   -- turns that give an event in the end are a call
   calls : {old mid new : List (Layer Kind)} {e : Event × Span} → Withheld Steps number Sets false old mid
-      → TurnsOnce Steps number Sets false mid (Some (Ok e)) new → EndsWith (Some (Ok e)) None None
+      → TurnsOnce Steps number Sets false mid (Some (Ok e)) new → EndsStack (Some (Ok e)) None None
       → StepsTo Steps number Sets (running old) (Some (Ok e)) (running new)
   calls {mid = mid} {e = e} quiet turn ends = record {
     gives = (Ok e, refl, inl (mid, quiet, turn));
@@ -219,10 +240,10 @@ module _ {A B C : Type 0} (steps_a : A → Next → A → Type 0) (steps_b : B �
   }
 
   pub small_comes : (name : List ℕ) → StackRun Steps number Sets
-      (running (layer_of (Fourth (small_replay 2)) (named name) ∷ small_layer 4 2 ∷ [])) small_end
+      (running (layer_of (Fourth (small_replay 2)) (owned_name name) ∷ small_layer 4 2 ∷ [])) small_end
       (running (small_layer 6 3 ∷ []))
   small_comes name =
-      let end : Span = plain_span (mark_at 7 2 0) (mark_at 7 2 0) in
+      let end : Span = plain_span (example_mark 7 2 0) (example_mark 7 2 0) in
       one_call (calls (one_more (one_more none_yet (withholds _ _ _ _ _ None _ refl)) (withholds _ _ _ _ _ None _ refl))
       (gives _ _ _ _ _ _ refl) refl)
       (one_call (calls none_yet (gives _ _ _ _ _ _ refl) refl)
@@ -264,7 +285,8 @@ module _ {A B C : Type 0} (steps_a : A → Next → A → Type 0) (steps_b : B �
     small_begun : (r : R) (q : Stacked Kind R) (xs : List (Event × Span)) → Lives (lone (small_layer 4 2 ∷ []) r) xs q
         → Lives (lone [] r) (take 4 (small_events 1) ++ xs) q
     small_begun r q xs more =
-        is_pushed (Fourth (record { events = small_events 1; anchor_offset = 1 })) (named (codes "root")) (omega arith)
+        is_pushed (Fourth (record { events = small_events 1; anchor_offset = 1 }))
+        (owned_name (codes "root")) (omega arith)
         (_, refl, refl) refl (runs_on _ _ _ _ q (take 4 (small_events 1)) xs small_begins more)
 
     pub small_before : (r : R) → Lives (lone [] r) (take 4 (small_events 1)) (lone (small_layer 4 2 ∷ []) r)
@@ -273,7 +295,7 @@ module _ {A B C : Type 0} (steps_a : A → Next → A → Type 0) (steps_b : B �
     module _ (name : List ℕ) (text : Bor (List ℕ)) (r q : R) (is : chars text.now ≡ small_text)
         (found : answers r name (Ok (Borrowed text)) q) (same : errors q ≡ errors r) where
       pub small_included : Includes handling (lone (small_layer 4 2 ∷ []) r) name (Ok tt)
-          (lone (layer_of (Fourth (small_replay 2)) (named name) ∷ small_layer 4 2 ∷ []) q)
+          (lone (layer_of (Fourth (small_replay 2)) (owned_name name) ∷ small_layer 4 2 ∷ []) q)
       small_included =
           (Borrowed text, (q, refl, found, same, tt), (small_replay 2, small_read text is, (_, refl, refl)))
 

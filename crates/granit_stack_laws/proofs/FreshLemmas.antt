@@ -8,8 +8,9 @@ use Rattle.granit_error.specs.Refused.{Refused}
 use Rattle.granit_event.specs.declared.event.Event.{Event}
 use Rattle.granit_event.specs.Events.{event_kind}
 use Rattle.granit_layers.specs.Passing.{held}
-use Rattle.granit_layers.specs.Stacking.{Answer, ComesNext, ComesOf, Pushes, TurnsOnce, TurnsTo, Uncovers, Withheld}
-use Rattle.granit_layers.specs.Stacking.{is_ending, is_none_left, is_stream_end, none_yet, one_more, top_offset}
+use Rattle.granit_layers.specs.Stacking.{Answer, ComesNext, ComesOf, Pushes, TurnsOnce, TurnsToFirst, Uncovers}
+use Rattle.granit_layers.specs.Stacking.{Withheld, is_ending, is_none_left, is_stream_end, none_yet, one_more}
+use Rattle.granit_layers.specs.Stacking.{top_offset}
 use Rattle.granit_layers.specs.Turning.{Next, bare_end, part_of, turn_of, turn_on}
 use Rattle.granit_layers.specs.declared.layer.Layer.{Layer}
 use Rattle.granit_layers.specs.declared.turn.Part.{Part}
@@ -197,7 +198,7 @@ module _ {S : Type 0} (steps : S → Next → S → Type 0) (offset : S → ℕ)
       (turned emits mid new None refl kept.all once)
 
   turned_to : (emits : Bool) (old new : List (Layer S)) (x : Answer) → is_ending (Some x) None ≡ false → AllGood old
-      → TurnsTo steps offset sets emits old x new → Kept (top_offset offset old) (Some x) new
+      → TurnsToFirst steps offset sets emits old x new → Kept (top_offset offset old) (Some x) new
   turned_to emits old new x on all turns =
       let kept = withheld emits old turns.0 all turns.1 in
       from_less (top_offset offset old) (top_offset offset turns.0) (Some x) new kept.number

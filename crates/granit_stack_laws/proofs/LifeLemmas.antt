@@ -9,10 +9,10 @@ use Rattle.granit_base.specs.Place.{Unread}
 use Rattle.granit_base.specs.declared.place.Span.{Span}
 use Rattle.granit_error.specs.OptionsData.{OptionsData}
 use Rattle.granit_event.specs.declared.event.Event.{Event}
-use Rattle.granit_event.specs.Events.{event_kind, plain_event}
+use Rattle.granit_event.specs.Events.{event_kind, plain_event, plain_events}
 use Rattle.granit_event.specs.Helpers.{anchor_of}
 use Rattle.granit_input.specs.Origin.{Origin}
-use Rattle.granit_layers.specs.Kinds.{SetsAny, StepsAny, number_of, number_over}
+use Rattle.granit_layers.specs.Kinds.{SetsAny, StepsAny, number_by_kind, number_over}
 use Rattle.granit_layers.specs.Turning.{Next}
 use Rattle.granit_layers.specs.declared.kinds.AnyKind.{AnyKind}
 use Rattle.granit_layers.specs.declared.kinds.AnyKind.TheVariants.{First, Second, Third, Fourth}
@@ -20,7 +20,7 @@ use Rattle.granit_lexemes.specs.PlainEvent.{EventKind, PlainEvent, Anchor, Mappi
 use Rattle.granit_machine.specs.Frames.{ParserState}
 use Rattle.granit_parser.proofs.SourceLemmas.{never_told}
 use Rattle.granit_parser.specs.Numbers.{next_number, with_number}
-use Rattle.granit_parser.specs.Parsing.{Parsing, StandsAt, StandsBefore, StepsTo}
+use Rattle.granit_parser.specs.Parsing.{ParserStepsTo, Parsing, StandsAt, StandsBefore}
 use Rattle.granit_recovery.specs.Ids.{Counted, counted_more, counted_start, counted_step, counting_from, id_of, id_told}
 use Rattle.granit_restart.specs.Turned.{with_count}
 use Rattle.granit_replay.specs.Replaying.{Replay, behind_next, next_of, raised_by, raised_by_all}
@@ -36,7 +36,7 @@ use Rattle.granit_steps.specs.Steps.{StepState, next_event}
 -- ---- parsers
 
 -- the law on counts of the machine
-abbrev StepsCount : Type 0
+abbrev pub StepsCount : Type 0
 StepsCount = (o : OptionsData) (m after : StepState) (r : Option PlainEvent) → Counted o m
     → next_event o m ≡ Ok (r, after) → (m.parser.count ≤ after.parser.count) × (id_told r ≤ after.parser.count)
 
@@ -102,13 +102,13 @@ module _ {I : Type 0} (unread : I → Unread → Type 0) (left : I → ℕ) (ori
         id = omega arith;
       }
 
-  steps_on : (p q : Parsing I) (e : Event × Span) → IsCounted p → StepsTo unread left origin p (Some (Ok e)) q
+  steps_on : (p q : Parsing I) (e : Event × Span) → IsCounted p → ParserStepsTo unread left origin p (Some (Ok e)) q
       → Went p q (Some (plain_event e))
   steps_on p q e g step =
       let gives = never_told (step.known g.state (stands_at p g.state g.unseen g.stands)) in
       went p q (Some (plain_event e)) gives.0 g gives.1 gives.2 step.none step.options
 
-  steps_out : (p q : Parsing I) → IsCounted p → StepsTo unread left origin p None q → Went p q None
+  steps_out : (p q : Parsing I) → IsCounted p → ParserStepsTo unread left origin p None q → Went p q None
   steps_out p q g step =
       let gives = never_told (step.known g.state (stands_at p g.state g.unseen g.stands)) in
       went p q None gives.0 g gives.1 gives.2 step.none step.options
@@ -155,7 +155,7 @@ module _ {I : Type 0} (unread : I → Unread → Type 0) (left : I → ℕ) (ori
     reaches n (next_number q) last_count (numbered_as n p q set) most,
   )
 
-  pub parser_numbers : Numbering (StepsTo unread left origin) next_number (λ n p q. q ≡ with_number n p)
+  pub parser_numbers : Numbering (ParserStepsTo unread left origin) next_number (λ n p q. q ≡ with_number n p)
       (λ p below. below) IsCounted (IsUnread unread)
   parser_numbers = record {
     bound = λ p g. at_most p.stepper.parser.count last_count;
@@ -189,15 +189,23 @@ module _ {I : Type 0} (unread : I → Unread → Type 0) (left : I → ℕ) (ori
 
 -- ---- events that are given once more
 
-below_raised : (id n top : ℕ) → max n (min (id + 1) top) < top → id < max n (min (id + 1) top)
-below_raised id n top small = omega arith
+-- each id is below a number
+abbrev pub IdsUnder : ℕ → List PlainEvent → Type 0
+IdsUnder n [] = Unit {0}
+IdsUnder n (e ∷ es) = (id_of e.kind < n) × IdsUnder n es
 
-by_zero : (b : Bool) (id n : ℕ) → (id == 0) ≡ b → raised_over (if b then None else Some id) n < last_count
+-- a number that is raised over an id is above it, where either is below the greatest
+below_raised : (id n top : ℕ) → (id < top) ⊎ (max n (min (id + 1) top) < top) → id < max n (min (id + 1) top)
+below_raised id n top (inl small) = omega arith
+below_raised id n top (inr small) = omega arith
+
+by_zero : (b : Bool) (id n : ℕ) → (id == 0) ≡ b
+    → (id < last_count) ⊎ (raised_over (if b then None else Some id) n < last_count)
     → (id ≡ 0) ⊎ (id < raised_over (if b then None else Some id) n)
 by_zero true id n is small = inl ((Decides-eqb id 0).0 is)
 by_zero false id n is small = inr (below_raised id n last_count small)
 
-kind_below : (kind : EventKind) (n : ℕ) → raised_over (anchor_of kind) n < last_count
+kind_below : (kind : EventKind) (n : ℕ) → (id_of kind < last_count) ⊎ (raised_over (anchor_of kind) n < last_count)
     → (id_of kind ≡ 0) ⊎ (id_of kind < raised_over (anchor_of kind) n)
 kind_below (Anchor id name) n small = by_zero (id == 0) id n refl small
 kind_below (Scalar text style id tag) n small = by_zero (id == 0) id n refl small
@@ -215,15 +223,16 @@ raised_by_least (e ∷ es) n =
     let first : n ≤ raised_by n e = raised_least (anchor_of (event_kind e.0)) n in
     let rest : raised_by n e ≤ raised_by_all (raised_by n e) es = raised_by_least es (raised_by n e) in omega arith
 
--- a number past all anchors of events is above their ids
-pub all_below : (es : List (Event × Span)) (n : ℕ) → raised_by_all n es < last_count
+-- a number past all anchors of events is above their ids, where these are below the greatest
+pub all_below : (es : List (Event × Span)) (n : ℕ) → IdsUnder last_count (plain_events es)
     → IdsBelow (raised_by_all n es) es
 all_below [] n small = tt
 all_below (e ∷ es) n small =
     let m = raised_by n e in
-    let least : m ≤ raised_by_all m es = raised_by_least es m in
-    let low : m < last_count = omega arith in
-    (below_more m (raised_by_all m es) e least (kind_below (event_kind e.0) n low), all_below es m small)
+    let least : m ≤ raised_by_all m es = raised_by_least es m in (
+      below_more m (raised_by_all m es) e least (kind_below (event_kind e.0) n (inl small.0)),
+      all_below es m small.1,
+    )
 
 raised_most : (anchor : Option ℕ) (n : ℕ) → n ≤ last_count → raised_over anchor n ≤ last_count
 raised_most None n most = most
@@ -261,7 +270,7 @@ replay_numbers = record {
   ids = λ p q e g step small.
       let is = replay_gives p.events p.anchor_offset q e step.0 step.1 in
       subst (λ (m : ℕ). IdBelow m e) (sym is)
-      (kind_below (event_kind e.0) p.anchor_offset (subst (λ (m : ℕ). m < last_count) is small));
+      (kind_below (event_kind e.0) p.anchor_offset (inr (subst (λ (m : ℕ). m < last_count) is small)));
   ends = λ p q g step.
       let is = replay_ends p.events p.anchor_offset q step.0 step.1 in
       (subst (λ (m : ℕ). m ≤ last_count) (sym is) g, subst (λ (m : ℕ). p.anchor_offset ≤ m) (sym is) (omega arith));
@@ -297,7 +306,7 @@ module _ {A B C D : Type 0} (steps_a : A → Next → A → Type 0) (steps_b : B
   Sets = SetsAny sets_a sets_b sets_c sets_d
 
   abbrev number : Kind → ℕ
-  number = number_of offset_a offset_b offset_c offset_d
+  number = number_by_kind offset_a offset_b offset_c offset_d
 
   abbrev above : Kind → ℕ → ℕ
   above = number_over above_a above_b above_c above_d

@@ -6,12 +6,12 @@ use Rattle.granit_base.specs.declared.place.Span.{Span}
 use Rattle.granit_error.specs.OptionsData.{OptionsData}
 use Rattle.granit_event.specs.Events.{event_kind, plain_events}
 use Rattle.granit_event.specs.declared.event.Event.{Event}
-use Rattle.granit_layers.specs.Nested.{IsOneDocument, PartFits}
+use Rattle.granit_layers.specs.Nested.{IsOneDocument, PartMayStand}
 use Rattle.granit_layers.specs.Turning.{part_of}
 use Rattle.granit_lexemes.specs.Here.{Here, start_of}
 use Rattle.granit_lexemes.specs.Outcome.{Fault}
 use Rattle.granit_lexemes.specs.PlainEvent.{PlainEvent, EventKind, StreamEnd, DocumentEnd, Comment}
-use Rattle.granit_parser.specs.Streams.{bare_start}
+use Rattle.granit_parser.specs.Streams.{bare_text_start}
 use Rattle.granit_recovery.specs.Ids.{counting_from}
 use Rattle.granit_recovery.specs.OneDocument.{document_starts, EventFits, OneDocument}
 use Rattle.granit_replay.specs.Replaying.{Replay}
@@ -29,7 +29,7 @@ OneStart = (o : OptionsData) (h : Here) (count : ℕ) (es : List PlainEvent) (f 
 
 part_fits : (ended : Bool) (kind : EventKind) (More Then : Bool → Type 0) (IsLast EndsThere : Type 0)
     → ((b : Bool) → More b → Then b) → (IsLast → EndsThere) → EventFits ended kind More IsLast
-    → PartFits ended (part_of kind) Then EndsThere
+    → PartMayStand ended (part_of kind) Then EndsThere
 part_fits ended StreamEnd More Then IsLast EndsThere more last f = last f
 part_fits ended (Comment text placement) More Then IsLast EndsThere more last f = more ended f
 part_fits true kind More Then IsLast EndsThere more last f = absurd f
@@ -54,8 +54,8 @@ pub single : OneStart → (o : OptionsData) (above : Option ℕ) (text : Include
 single law o None (Borrowed text) p reads one =
     code_document false p.events (law o (start_of (chars text.now)) 0 (replayed p) None reads.0 one)
 single law o None (Owned text) p reads one =
-    code_document false p.events (law o (bare_start (string_chars text)) 0 (replayed p) None reads.0 one)
+    code_document false p.events (law o (bare_text_start (string_chars text)) 0 (replayed p) None reads.0 one)
 single law o (Some n) (Borrowed text) p reads one =
     code_document false p.events (law o (start_of (chars text.now)) (n - 1) (replayed p) None reads.0 one)
 single law o (Some n) (Owned text) p reads one =
-    code_document false p.events (law o (bare_start (string_chars text)) (n - 1) (replayed p) None reads.0 one)
+    code_document false p.events (law o (bare_text_start (string_chars text)) (n - 1) (replayed p) None reads.0 one)

@@ -1,10 +1,9 @@
 -- What comes of an include.
-use Rattle.std.specs.Prelude.{◌≡◌, ◌≤◌, ◌<◌, ℕ, false, List, [], ◌∷◌, ◌++◌, None, Some, Ok}
-use Rattle.granit_base.specs.Counts.{last_count}
+use Rattle.std.specs.Prelude.{◌≡◌, ◌≤◌, ℕ, false, List, [], ◌∷◌, ◌++◌, None, Some, Ok}
 use Rattle.granit_base.specs.declared.place.Span.{Span}
 use Rattle.granit_event.specs.declared.event.Event.{Event}
 use Rattle.granit_layers.specs.Nested.{those_through}
-use Rattle.granit_layers.specs.Passing.{StackRun, Passes, held}
+use Rattle.granit_layers.specs.Passing.{StackRun, PassesOn, held}
 use Rattle.granit_layers.specs.Stacking.{Stack, is_ending}
 use Rattle.granit_layers.specs.Turning.{Next}
 use Rattle.granit_layers.specs.declared.layer.Layer.{Layer}
@@ -25,13 +24,13 @@ pub record IncludedText {S R : Type 0} (steps : S → Next → S → Type 0) (h 
   pub read : ReadsText old.options (Some (h.offset_of k.parser)) text (Ok events)
   -- its anchors have ids that the parser below it hasn't given
   pub ids : IdsFrom (h.offset_of k.parser) (replayed events)
-  -- the number that a next anchor gets then is above them all, as long as it isn't the greatest
-  pub below : events.anchor_offset < last_count → IdsBelow events.anchor_offset events.events
+  -- the number that a next anchor gets then is above them all
+  pub below : IdsBelow events.anchor_offset events.events
   -- where at most one of its events starts a document, steps of the stack give what was looked at, then exactly what
   -- comes through of it, and then what the parsers below give
   pub comes : document_starts (replayed events) ≤ 1 → (p q : Stack S) (given : List (Event × Span))
       → p.layers ≡ new.stack.layers → StackRun steps h.offset_of h.sets_offset p given q
-      → Passes steps h.offset_of h.sets_offset p.emits_comments (k ∷ ks)
+      → PassesOn steps h.offset_of h.sets_offset p.emits_comments (k ∷ ks)
       (held p.peeked ++ those_through p.emits_comments events.events) given q.layers
 
 -- an include that is answered above a parser comes through

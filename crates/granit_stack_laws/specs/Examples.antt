@@ -23,38 +23,40 @@ abbrev pub small_text : List ℕ
 small_text = codes "- &a b\n"
 
 -- a place of a text of small characters
-abbrev pub mark_at : (index line column : ℕ) → Mark
-mark_at index line column = record {
+abbrev pub example_mark : (index line column : ℕ) → Mark
+example_mark index line column = record {
   place = record { index = index; line = line; column = column };
   byte_offset = Some index;
 }
 
-abbrev pub on : Event → Mark → Event × Span
-on event mark = (event, plain_span mark mark)
+abbrev pub event_on_mark : Event → Mark → Event × Span
+event_on_mark event mark = (event, plain_span mark mark)
 
 -- its events, where its anchor gets that number
 abbrev pub small_events : ℕ → List (Event × Span)
 small_events n =
-    on StreamStart (mark_at 0 1 0)
-    ∷ on (DocumentStart false None) (mark_at 0 1 0)
-    ∷ on (SequenceStart Block 0 None) (mark_at 0 1 0)
+    event_on_mark StreamStart (example_mark 0 1 0)
+    ∷ event_on_mark (DocumentStart false None) (example_mark 0 1 0)
+    ∷ event_on_mark (SequenceStart Block 0 None) (example_mark 0 1 0)
     ∷ (
       Scalar (record { characters = codes "b"; is_borrowed = true }) Plain n None,
-      plain_span (mark_at 5 1 5) (mark_at 6 1 6),
+      plain_span (example_mark 5 1 5) (example_mark 6 1 6),
     )
-    ∷ on SequenceEnd (mark_at 7 2 0) ∷ on DocumentEnd (mark_at 7 2 0) ∷ on StreamEnd (mark_at 7 2 0) ∷ []
+    ∷ event_on_mark SequenceEnd (example_mark 7 2 0) ∷ event_on_mark DocumentEnd (example_mark 7 2 0)
+    ∷ event_on_mark StreamEnd (example_mark 7 2 0) ∷ []
 
 -- the same, to be given once more
 abbrev pub small_replay : ℕ → Replay
 small_replay n = record { events = small_events n; anchor_offset = n + 1 }
 
-abbrev pub named : List ℕ → Written
-named name = record { characters = name; is_borrowed = false }
+abbrev pub owned_name : List ℕ → Written
+owned_name name = record { characters = name; is_borrowed = false }
 
 -- a parser that gave them up to the scalar, or with so many others
 abbrev pub small_layer : {A B C : Type 0} → (given number : ℕ) → Layer (AnyKind A B C Replay)
 small_layer given number =
-    layer_of (Fourth (record { events = drop given (small_events 1); anchor_offset = number })) (named (codes "root"))
+    layer_of (Fourth (record { events = drop given (small_events 1); anchor_offset = number }))
+    (owned_name (codes "root"))
 
 -- a stack of these parsers, of which nothing was looked at
 abbrev pub running : {S : Type 0} → List (Layer S) → Stack S

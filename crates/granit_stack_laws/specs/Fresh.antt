@@ -60,10 +60,8 @@ pub data Happens {S R : Type 0} (steps : S → Next → S → Type 0) (h : Handl
   is_kept : {p mid q : Stacked S R} {es : List (Event × Span)} → mid.stack ≡ p.stack
       → Happens steps h Unread mid es q → Happens steps h Unread p es q
 
--- each of these events gives no anchor, or one with an id above all ids of the others, unless it is the greatest number
--- of 64 bits or more
+-- each of these events gives no anchor, or one with an id above all ids of the others
 abbrev pub AreNew : (others : List (Event × Span)) → List (Event × Span) → Type 0
 AreNew others [] = Unit {0}
 AreNew others (e ∷ es) =
-    (id_of (event_kind e.0) < last_count → (id_of (event_kind e.0) ≡ 0) ⊎ IdsBelow (id_of (event_kind e.0)) others)
-    × AreNew others es
+    ((id_of (event_kind e.0) ≡ 0) ⊎ IdsBelow (id_of (event_kind e.0)) others) × AreNew others es

@@ -11,7 +11,7 @@ ghost use Rattle.granit_lexemes.specs.Here.{Here};
 ghost use Rattle.granit_parser.specs.Parsing.{Parsing, StandsAt};
 ghost use Rattle.granit_recovery.specs.OneDocument.{document_starts};
 ghost use Rattle.granit_replay.specs.declared.resolver.Included.TheVariants.{Borrowed};
-ghost use Rattle.granit_stack_laws.specs.Examples.{lone, named, running, small_end, small_events, small_layer};
+ghost use Rattle.granit_stack_laws.specs.Examples.{lone, owned_name, running, small_end, small_events, small_layer};
 ghost use Rattle.granit_stack_laws.specs.Examples.{small_life, small_replay, small_text};
 ghost use Rattle.granit_stack_laws.specs.Fresh.{Happens};
 ghost use Rattle.granit_stack.specs.Including.{Includes, ReadsText, replayed};
@@ -55,7 +55,7 @@ where
           answers = R.answers;
           errors = R.errors;
         }) (lone (small_layer 4 2 ∷ []) r) name (Ok tt)
-        (lone (layer_of (Fourth (small_replay 2)) (named name) ∷ small_layer 4 2 ∷ []) q) }
+        (lone (layer_of (Fourth (small_replay 2)) (owned_name name) ∷ small_layer 4 2 ∷ []) q) }
 {}
 
 /// Behind its inclusion calls of `next_event` may give what comes through of the text, and then what the parser below
@@ -69,7 +69,7 @@ where
         ⟦<AnyKind<A, B, C, ReplayParser<'input>> as StackedParser<'input>>⟧.steps
         ⟦<AnyKind<A, B, C, ReplayParser<'input>> as StackedParser<'input>>⟧.offset_of
         ⟦<AnyKind<A, B, C, ReplayParser<'input>> as StackedParser<'input>>⟧.sets_offset
-        (running (layer_of (Fourth (small_replay 2)) (named name) ∷ small_layer 4 2 ∷ [])) small_end
+        (running (layer_of (Fourth (small_replay 2)) (owned_name name) ∷ small_layer 4 2 ∷ [])) small_end
         (running (small_layer 6 3 ∷ [])) }
 {}
 

@@ -27,9 +27,10 @@ pub fn a_text_with_one_start_has_one_document()
     a_text_with_one_start_is_one_document();
 }
 
-/// An include that is answered comes through: its anchors have ids from the number of the parser below it on, and where
-/// at most one of its events starts a document, steps of the stack give exactly its events but for the beginnings and
-/// ends of its stream and its document, and comments only where they are asked for, behind what was looked at.
+/// An include that is answered comes through: its anchors have ids from the number of the parser below it on, the
+/// number for a next anchor is above them all, and where at most one of its events starts a document, steps of the
+/// stack give exactly its events but for the beginnings and ends of its stream and its document, and comments only
+/// where they are asked for, behind what was looked at.
 pub fn an_include_comes_through<'input, A, B, C, R>()
 where
     A: StackedParser<'input>,
@@ -47,6 +48,7 @@ where
           errors = R.errors;
         }) }
 {
+    ids_are_counted();
     ids_begin_at_the_offset();
     a_text_with_one_start_is_one_document();
     a_replay_comes_through::<A, B, C>();
@@ -62,9 +64,8 @@ pub(crate) type AnyParser<'input, X, Y, Z> = AnyKind<
 
 /// Whatever was called of a stack since it held no parser, as long as it hasn't ended and isn't seen to end: each id of
 /// a text that is then read to be included above a parser is greater than all ids of events that the stack gave before
-/// or shows, unless it is the greatest number of 64 bits. The calls are `next_event`, `peek`, `push_include`, pushes of
-/// parsers of which nothing was read and of events that are given once more, and such as leave the parsers as they
-/// were; whatever they answer.
+/// or shows. The calls are `next_event`, `peek`, `push_include`, pushes of parsers of which nothing was read and of
+/// events that are given once more, and such as leave the parsers as they were; whatever they answer.
 pub fn includes_are_new<'input, X, Y, Z, R>()
 where
     X: BorrowedInput<'input>,

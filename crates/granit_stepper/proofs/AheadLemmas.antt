@@ -73,6 +73,11 @@ module _ {I : Type 0} where
   pub settles_ok : (s new : Stepping I) → TurnsAhead (Ok false) s new → SettlesAhead (Ok tt) s new
   settles_ok s new given = ok_by s new s.ahead s.parser.given given
 
+  -- one was made, or none was left
+  pub settles_turned : (s new : Stepping I) (made : Bool) → TurnsAhead (Ok made) s new → SettlesAhead (Ok tt) s new
+  settles_turned s new true given = settles_none s new (Ok tt) (no_ahead s new given)
+  settles_turned s new false given = settles_ok s new given
+
 -- ---- what waits is given before it
 
 module _ {I : Type 0} (unread : I → Unread → Type 0) (s : Stepping I) (m : StepState) (h : HoldsRefusal unread s m)

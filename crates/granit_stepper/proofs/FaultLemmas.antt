@@ -10,7 +10,7 @@ use Rattle.granit_lexemes.specs.Here.{Here}
 use Rattle.granit_lexemes.specs.Onward.{there}
 use Rattle.granit_restart.specs.Header.{is_in_header}
 use Rattle.granit_restart.specs.Restart.{behind_fault, cursor_at}
-use Rattle.granit_restart.specs.Skipping.{Ended, Failed, SkipEnd, restarted, skip}
+use Rattle.granit_restart.specs.Skipping.{Ended, Failed, SkipEnd, restarted, skip_by_turns}
 use Rattle.granit_restart.specs.Turned.{Turned, turned_anew}
 use Rattle.granit_stepper.specs.Numbers.{RefusesNumber}
 use Rattle.granit_stepper.specs.Recovering.{RestartsIn, Skips, SkipsDocument, SkipsFault, SkipsHeader, StopsBehind}
@@ -36,9 +36,9 @@ stops_nowhere (Failed f n) = there
 module _ {I : Type 0} (unread : I → Unread → Type 0) (o : OptionsData) (s : Stepping I) (m : StepState) where
   pub header_passed : Skips unread o true s m → SkipsHeader unread o s m
   header_passed given = inl (
-    no_stop (skip o m),
-    stops_nowhere (skip o m),
-    subst (StandsAhead unread s) (sym (ap (restarted (no_stop (skip o m))) given.1)) given.2,
+    no_stop (skip_by_turns o m),
+    stops_nowhere (skip_by_turns o m),
+    subst (StandsAhead unread s) (sym (ap (restarted (no_stop (skip_by_turns o m))) given.1)) given.2,
   )
 
   pub header_failed : (mid : Stepping I) → s.renumbered ≡ mid.renumbered → (given : Skips unread o false mid m)
@@ -85,12 +85,12 @@ module _ {I : Type 0} (unread : I → Unread → Type 0) (o : OptionsData) (s : 
       → SkipsFault unread o cursor e s m
   fault_alone goes other =
       let x = behind_fault goes.0 m in
-      let second = no_stop (skip o x.1) in
+      let second = no_stop (skip_by_turns o x.1) in
       inl (
         record { first = goes.0; second = second },
         goes.1,
-        stops_nowhere (skip o x.1),
-        subst (StandsAhead unread s) (sym (ap (λ (b : Bool). if b then restarted second (skip o x.1) else x.1)
+        stops_nowhere (skip_by_turns o x.1),
+        subst (StandsAhead unread s) (sym (ap (λ (b : Bool). if b then restarted second (skip_by_turns o x.1) else x.1)
             (no_header goes.0 goes.2 other))) (inl goes.3),
       )
 
@@ -107,6 +107,6 @@ module _ {I : Type 0} (unread : I → Unread → Type 0) (o : OptionsData) (s : 
         goes.1,
         given.1,
         subst (StandsAhead unread s)
-            (sym (ap (λ (b : Bool). if b then restarted given.0 (skip o x.1) else x.1) here)) given.2,
+            (sym (ap (λ (b : Bool). if b then restarted given.0 (skip_by_turns o x.1) else x.1) here)) given.2,
       )
   fault_in_header mid goes is (inr left) = inr (goes.0, goes.1, left.0, left.1, left.2, left.3, left.4)

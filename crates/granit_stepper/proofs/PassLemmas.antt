@@ -13,8 +13,8 @@ use Rattle.granit_machine.specs.Frames.{ParserState}
 use Rattle.granit_restart.proofs.TurnwiseLaws as turnwise
 use Rattle.granit_restart.specs.Header.{is_start_expected, takes_front}
 use Rattle.granit_restart.specs.Skipping as skipping
-use Rattle.granit_restart.specs.Skipping.{Ahead, AtStreamEnd, BehindDocument, Ended, Failed, NoEnd, ahead, skip}
-use Rattle.granit_restart.specs.Skipping.{with_pending}
+use Rattle.granit_restart.specs.Skipping.{Ahead, AtStreamEnd, BehindDocument, Ended, Failed, NoEnd, ahead}
+use Rattle.granit_restart.specs.Skipping.{skip_by_turns, with_pending}
 use Rattle.granit_restart.specs.Turned.{Turned, turned_on, turned_with}
 use Rattle.granit_stepper.proofs.RefusalLemmas.{refused_with}
 use Rattle.granit_stepper.proofs.SkipLemmas.{drops_alike, drops_document, drops_one, keeps_stream, none_left}
@@ -82,7 +82,7 @@ pub record SkipsAlong {I : Type 0} (unread : I → Unread → Type 0) (o : Optio
     : Type 0 where
   pub at : StepState
   pub drops : (k : StepState) → DropsOn o at k → DropsOn o m k
-  pub alike : skip o at ≡ skip o m
+  pub alike : skip_by_turns o at ≡ skip_by_turns o m
   pub turned : Turned o at
   pub stands : StandsAhead unread s at
 
@@ -245,8 +245,8 @@ no_start false w is = absurd (cc)
 not_last : (renumbered : Bool) (o : OptionsData) (m n : StepState) (e : Refused) → RefusesNumber renumbered o m e
     → skipping.ends_before n e ≡ true → true ≡ false
 not_last renumbered o m n e left ends =
-    no_start (takes_front n) (skipping.is_within n.parser.stage)
-    (sym (ap (λ (f : Refused). (takes_front n && is_start_expected f) && skipping.is_within n.parser.stage)
+    no_start (takes_front n) (skipping.is_within_document n.parser.stage)
+    (sym (ap (λ (f : Refused). (takes_front n && is_start_expected f) && skipping.is_within_document n.parser.stage)
     left.1.refusal) ∙ ends)
 
 module _ {I : Type 0} (unread : I → Unread → Type 0) (o : OptionsData) (s : Stepping I) (m : StepState)
@@ -254,7 +254,7 @@ module _ {I : Type 0} (unread : I → Unread → Type 0) (o : OptionsData) (s : 
     (options : new.scanner.options ≡ o) where
   fails_as : (ends : Bool) → skipping.ends_before (with_pending [] k.at) e ≡ ends
       → step_turn o (with_pending [] k.at) ≡ Err e
-      → skip o m ≡ (if ends then Ended (with_pending [] k.at) else Failed e (with_pending [] k.at))
+      → skip_by_turns o m ≡ (if ends then Ended (with_pending [] k.at) else Failed e (with_pending [] k.at))
   fails_as ends is fails =
       sym k.alike ∙ turnwise.skip_fails o k.at e none fails
       ∙ ap (λ (b : Bool). if b then Ended (with_pending [] k.at) else Failed e (with_pending [] k.at)) is

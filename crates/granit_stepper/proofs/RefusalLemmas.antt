@@ -33,7 +33,7 @@ use Rattle.granit_scanner.proofs.KnownLemmas.{goes_kept}
 use Rattle.granit_stepper.specs.Recovering.{RestartsIn}
 use Rattle.granit_stepper.specs.Numbers.{GetsLast}
 use Rattle.granit_stepper.specs.Refusals.{FailedToRead, FailsIn, HoldsRefusal, IsBeforeItem, IsBeforeRead, RefusedIn}
-use Rattle.granit_stepper.specs.Refusals.{RefusedItem, RefusesIn, RefusesItem, TookFront, mark_if, mark_in}
+use Rattle.granit_stepper.specs.Refusals.{RefusedItem, RefusesIn, RefusesItem, TookFront, mark_if, mark_of_item}
 use Rattle.granit_stepper.specs.Stepping.{StandsIn, Stepping, feed_item, first_events}
 use Rattle.granit_stepper.specs.declared.refusal.Refusal.{Refusal}
 use Rattle.granit_stepper.proofs.NumberLemmas.{last_turn}
@@ -129,7 +129,7 @@ module _ (h : Here) (q : List FlaggedItem) where
   front_by front l kind named is = none_front front is
 
   -- a mark that was taken stands before what waits
-  pub front_reads : (front : Option (Box code.Lexeme)) (i : Item) → option_map boxed_lexeme front ≡ mark_in i
+  pub front_reads : (front : Option (Box code.Lexeme)) (i : Item) → option_map boxed_lexeme front ≡ mark_of_item i
       → read_boundary h (front_items front ++ q) ≡ boundary_of h i (read_boundary h q)
   front_reads front (OfLexeme l) is = front_by front l l.kind refl is
   front_reads front (OfComment c) is = none_front front is

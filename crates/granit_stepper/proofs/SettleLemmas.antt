@@ -7,8 +7,7 @@ use Rattle.granit_error.specs.Refused.{Refused}
 use Rattle.granit_lexemes.specs.Outcome.{Fails}
 use Rattle.granit_lexemes.proofs.PieceLemmas.{pieces_done, pieces_fails, pieces_more, with_front-nil}
 use Rattle.granit_stepper.proofs.NumberLemmas.{left_behind, turns_more}
-use Rattle.granit_stepper.specs.Numbers.{GivesOr, RefusesNumber, TurnsTo, no_turn, one_turn}
-use Rattle.granit_stepper.specs.Refusals.{RefusesLater}
+use Rattle.granit_stepper.specs.Numbers.{GivesOr, RefusesNumber, TurnsTo, no_turn}
 use Rattle.granit_stepper.specs.Stepping.{Stepping, StandsIn, Keeps, turn_view, no_events}
 use Rattle.granit_steps.specs.Steps.{StepState, settle, step_size, step_turn}
 use Rattle.granit_steps.proofs.StepLaws.{step_turn-Shortens}
@@ -84,29 +83,3 @@ module _ {I : Type 0} (unread : I → Unread → Type 0) (initial now after : St
         | inl fails ↦ inl (λ other. sym n.2 ∙ pieces_fails step_size (step_turn o) n.0 e (fails other))
         | inr left ↦ inr (left.0, left_behind n.3 left.1)
       ]
-
--- ---- the first turn
-
-module _ (o : OptionsData) (m t : StepState) where
-  pub settles_more : {U : Type 0} (r : Result U Refused) (Lands : StepState → Type 0) (renumbered : Bool)
-      → step_turn o m ≡ Ok (Some [], t) → GivesOr no_events r Lands (settle o t) (RefusesNumber renumbered o t)
-      → GivesOr no_events r Lands (settle o m) (RefusesNumber renumbered o m)
-  settles_more (Ok u) Lands renumbered is given = (given.0, given.1, sym (settle_on o m t is) ∙ given.2)
-  settles_more (Err e) Lands renumbered is (inl fails) = inl (λ other. sym (settle_on o m t is) ∙ fails other)
-  settles_more (Err e) Lands renumbered is (inr left) =
-      inr (left.0, left_behind (turns_more no_turn is) left.1)
-
-  pub settles_done : step_turn o m ≡ Ok (None, t) → settle o m ≡ Ok ([], t)
-  settles_done is = pieces_done step_size (step_turn o) m t is
-
-pub settles_failed : (o : OptionsData) (m : StepState) (renumbered : Bool) (e : Refused)
-    → Fails e (step_turn o m) ⊎ RefusesNumber renumbered o m e → Fails e (settle o m) ⊎ RefusesNumber renumbered o m e
-settles_failed o m renumbered e (inl fails) = inl (λ other. pieces_fails step_size (step_turn o) m e (fails other))
-settles_failed o m renumbered e (inr left) = inr left
-
-pub later_more : {I U : Type 0} (unread : I → Unread → Type 0) (o : OptionsData) (s : Stepping I) (m t : StepState)
-    (r : Result U Refused) → step_turn o m ≡ Ok (Some [], t) → RefusesLater unread o r s t
-    → RefusesLater unread o r s m
-later_more unread o s m t (Ok u) is later = tt
-later_more unread o s m t (Err e) is later = λ other.
-    let n = later other in (n.0, one_turn is n.1, n.2)

@@ -13,7 +13,7 @@ use Rattle.granit_restart.proofs.TurnwiseLaws as turnwise
 use Rattle.granit_restart.specs.Looking.{behind_waiting, turn_ahead}
 use Rattle.granit_restart.specs.Skipping as skipping
 use Rattle.granit_restart.specs.Skipping.{Ahead, AtStreamEnd, BehindDocument, Ended, Failed, NoEnd, SkipEnd, ahead}
-use Rattle.granit_restart.specs.Skipping.{ahead_by, skip, skip_fault, with_pending}
+use Rattle.granit_restart.specs.Skipping.{ahead_by, skip_by_turns, skip_fault, with_pending}
 use Rattle.granit_restart.specs.Turned.{Turned, turned_on, turned_with}
 use Rattle.granit_stepper.specs.Recovering.{DropsOn, drops_here, drops_turn}
 use Rattle.granit_stepper.specs.Recovering.{front_kind}
@@ -123,7 +123,7 @@ module _ (o : OptionsData) where
 
   -- what waits is of no matter but for an end in it
   alike_by : (m : StepState) (es fs : List PlainEvent) (r : Ahead) → ahead es ≡ r → ahead fs ≡ r
-      → skip o (with_pending es m) ≡ skip o (with_pending fs m)
+      → skip_by_turns o (with_pending es m) ≡ skip_by_turns o (with_pending fs m)
   alike_by m es fs (BehindDocument left) e f =
       turnwise.skip_document o (with_pending es m) left e ∙ sym (turnwise.skip_document o (with_pending fs m) left f)
   alike_by m es fs (AtStreamEnd left) e f =
@@ -134,5 +134,5 @@ module _ (o : OptionsData) where
       (skipping.skip_in o (step_size m)) t (step_turn o t)) (with_pending fs m)) f)
 
   pub skips_alike : (m : StepState) (es fs : List PlainEvent) → ahead es ≡ ahead fs
-      → skip o (with_pending es m) ≡ skip o (with_pending fs m)
+      → skip_by_turns o (with_pending es m) ≡ skip_by_turns o (with_pending fs m)
   skips_alike m es fs same = alike_by m es fs (ahead fs) same refl

@@ -13,8 +13,7 @@ use Rattle.granit_restart.specs.Header.{is_directives}
 use Rattle.granit_restart.specs.Looking.{Look, look_ahead, look_by, turn_ahead}
 use Rattle.granit_restart.specs.Restart.{behind_fault}
 use Rattle.granit_restart.specs.Skipping.{Ahead, AtStreamEnd, BehindDocument, Ended, Failed, NoEnd, SkipEnd, Stops}
-use Rattle.granit_restart.specs.Skipping.{ahead}
-use Rattle.granit_restart.specs.Skipping.{ends_before, restarted, skip, skipped_fault, with_pending}
+use Rattle.granit_restart.specs.Skipping.{ahead, ends_before, restarted, skip_by_turns, skipped_fault, with_pending}
 use Rattle.granit_stepper.specs.Numbers.{RefusesNumber}
 use Rattle.granit_stepper.specs.Refusals.{HoldsRefusal, RefusedIn, StandsAhead}
 use Rattle.granit_stepper.specs.Stepping.{StandsIn, Stepping}
@@ -66,9 +65,10 @@ pub data DropsOn (o : OptionsData) : StepState → StepState → Type 0 where
 -- where what is dropped ends: the machine's end, or an anchor on the way got the greatest number
 abbrev pub Skips : {I : Type 0} → (I → Unread → Type 0) → OptionsData → (passed : Bool) → Stepping I → StepState
     → Type 0
-Skips unread o true s m = (n : StepState) × (skip o m ≡ Ended n) × StandsAhead unread s n
+Skips unread o true s m = (n : StepState) × (skip_by_turns o m ≡ Ended n) × StandsAhead unread s n
 Skips unread o false s m =
-    (n : StepState) × (e : Refused) × DropsOn o m n × ((skip o m ≡ Failed e n) ⊎ RefusesNumber s.renumbered o n e)
+    (n : StepState) × (e : Refused) × DropsOn o m n
+    × ((skip_by_turns o m ≡ Failed e n) ⊎ RefusesNumber s.renumbered o n e)
     × RefusedIn unread s n e
 
 -- a refusal on the way: it is the next document's, and kept, or the open document's
@@ -86,7 +86,7 @@ StopsBehind (Failed e n) stop = Onward n.reading.reader.here stop
 -- unless an anchor of it got the greatest number, wherever the cursor then stood
 abbrev pub SkipsHeader : {I : Type 0} → (I → Unread → Type 0) → OptionsData → Stepping I → StepState → Type 0
 SkipsHeader {I = I} unread o s m =
-    ((stop : Here) × StopsBehind (skip o m) stop × StandsAhead unread s (restarted stop (skip o m)))
+    ((stop : Here) × StopsBehind (skip_by_turns o m) stop × StandsAhead unread s (restarted stop (skip_by_turns o m)))
     ⊎ ((n : StepState) × (e : Refused) × DropsOn o m n × RefusesNumber s.renumbered o n e
     × ((cursor : Reading I) × (starts : Bool) × RestartsIn unread cursor starts s n))
 
@@ -96,7 +96,7 @@ abbrev pub SkipsFault : {I : Type 0} → (I → Unread → Type 0) → OptionsDa
     → Stepping I → StepState → Type 0
 SkipsFault {I = I} unread o cursor e s m =
     ((stops : Stops) × StopsAt unread cursor m stops.first
-    × StopsBehind (skip o (behind_fault stops.first m).1) stops.second
+    × StopsBehind (skip_by_turns o (behind_fault stops.first m).1) stops.second
     × StandsAhead unread s (skipped_fault o stops e m))
     ⊎ ((stop : Here) × StopsAt unread cursor m stop × (n : StepState) × (f : Refused)
     × DropsOn o (behind_fault stop m).1 n × RefusesNumber s.renumbered o n f
@@ -105,16 +105,16 @@ SkipsFault {I = I} unread o cursor e s m =
 -- the same of a document, or of what is left of the open one, wherever the cursor stood when that was refused
 abbrev pub SkipsDocument : {I : Type 0} → (I → Unread → Type 0) → OptionsData → Stepping I → StepState → Type 0
 SkipsDocument {I = I} unread o s m =
-    ((n : StepState) × (skip o m ≡ Ended n) × StandsAhead unread s n)
+    ((n : StepState) × (skip_by_turns o m ≡ Ended n) × StandsAhead unread s n)
     ⊎ ((n : StepState) × (e : Refused) × DropsOn o m n
-    × ((skip o m ≡ Failed e n) ⊎ RefusesNumber s.renumbered o n e)
+    × ((skip_by_turns o m ≡ Failed e n) ⊎ RefusesNumber s.renumbered o n e)
     × ((cursor : Reading I) × SkipsFault unread o cursor e s n))
 
 -- ---- what is looked at
 
 -- a turn made ahead took an anchor and gave it the greatest number, where what waits is all comments
-abbrev pub LacksNumber : {I : Type 0} → (I → Unread → Type 0) → OptionsData → Stepping I → StepState → Type 0
-LacksNumber unread o s m =
+abbrev pub AheadLacksNumber : {I : Type 0} → (I → Unread → Type 0) → OptionsData → Stepping I → StepState → Type 0
+AheadLacksNumber unread o s m =
     (e : Refused) × RefusesNumber s.renumbered o (with_pending [] m) e × HoldsRefusal unread s m
 
 -- Behind what waits, all of it comments: the look goes on behind a turn, or it ends.
@@ -124,11 +124,11 @@ LooksOn unread o None s m = (n : StepState) × (given : List PlainEvent) × Stan
     × (is_directives n.parser.stage ≡ false)
 LooksOn unread o (Some follows) s m =
     ((n : StepState) × StandsAhead unread s n × ((later : StepState → Look) → look_by o later m None ≡ (Ok follows, n)))
-    ⊎ ((follows ≡ true) × LacksNumber unread o s m)
+    ⊎ ((follows ≡ true) × AheadLacksNumber unread o s m)
 
 -- the machine's answer and the state behind its turns; a refusal is its refusal, unless memory ran out
 abbrev pub Looks : {I : Type 0} → (I → Unread → Type 0) → OptionsData → (room : ℕ) → Result Bool Refused → Stepping I
     → StepState → Type 0
 Looks unread o room result s m =
     (((look_ahead o room m).0 ≡ result) × StandsAhead unread s (look_ahead o room m).1)
-    ⊎ ((result ≡ Ok true) × ((n : StepState) × AheadOf o m n × LacksNumber unread o s n))
+    ⊎ ((result ≡ Ok true) × ((n : StepState) × AheadOf o m n × AheadLacksNumber unread o s n))

@@ -32,9 +32,9 @@ mark_if lexemes.StreamEnd l = Some l
 mark_if kind l = None
 
 -- a lexeme that may be a boundary
-abbrev pub mark_in : Item → Option Lexeme
-mark_in (OfLexeme l) = mark_if l.kind l
-mark_in (OfComment c) = None
+abbrev pub mark_of_item : Item → Option Lexeme
+mark_of_item (OfLexeme l) = mark_if l.kind l
+mark_of_item (OfComment c) = None
 
 abbrev pub directive_in : Item → Option Bool
 directive_in (OfLexeme l) = Some (is_directive l.kind)
@@ -59,7 +59,7 @@ whole b = record {
 
 abbrev pub IsBeforeItem : ParserState → Item → Refusal → Type 0
 IsBeforeItem p i r =
-    IsBefore p r × (r.takes_front ≡ true) × (option_map boxed_lexeme r.front ≡ mark_in i)
+    IsBefore p r × (r.takes_front ≡ true) × (option_map boxed_lexeme r.front ≡ mark_of_item i)
     × (r.directive ≡ directive_in i)
 
 abbrev pub IsBeforeRead : ParserState → Refusal → Type 0
@@ -71,11 +71,11 @@ recounted offset r = record r { count = offset - 1 }
 
 -- ---- what is asked of it
 
-abbrev pub is_within : DocumentStage → Bool
-is_within stage = skipping.is_within stage
+abbrev pub stage_is_within : DocumentStage → Bool
+stage_is_within stage = skipping.is_within_document stage
 
-abbrev pub ends_before : Refusal → Bool
-ends_before r = (r.takes_front && r.expects_start) && is_within (stage_view r.stage)
+abbrev pub refusal_ends_before : Refusal → Bool
+refusal_ends_before r = (r.takes_front && r.expects_start) && stage_is_within (stage_view r.stage)
 
 abbrev pub is_true : Option Bool → Bool
 is_true None = false
@@ -85,16 +85,16 @@ abbrev pub refuses_outside : Refusal → Bool
 refuses_outside r =
     (r.expects_start || is_directives (stage_view r.stage)) || (is_fresh (stage_view r.stage) && is_true r.directive)
 
-abbrev pub fails_outside : Refusal → Bool
-fails_outside r =
+abbrev pub refusal_outside : Refusal → Bool
+refusal_outside r =
     if r.takes_front then refuses_outside r else is_directives (stage_view r.stage) || is_fresh (stage_view r.stage)
 
 abbrev pub or_before : Option Bool → Bool → Bool
 or_before None before = before
 or_before (Some b) before = b
 
-abbrev pub ends_in_directive : Refusal → Bool
-ends_in_directive r = or_before r.directive (is_directives (stage_view r.stage))
+abbrev pub refusal_in_directive : Refusal → Bool
+refusal_in_directive r = or_before r.directive (is_directives (stage_view r.stage))
 
 -- ---- in which state of the machine
 
@@ -106,7 +106,7 @@ pub record TookFront {I : Type 0} (unread : I → Unread → Type 0) (s : Steppi
   pub queue : m.queue ≡ item ∷ behind
   pub goes : may_go m.reading item behind ≡ true
   pub takes : r.takes_front ≡ true
-  pub front : option_map boxed_lexeme r.front ≡ mark_in item.item
+  pub front : option_map boxed_lexeme r.front ≡ mark_of_item item.item
   pub directive : r.directive ≡ directive_in item.item
   pub expects : r.expects_start ≡ is_start_expected e
   pub known : Known unread s.scanner m.reading behind

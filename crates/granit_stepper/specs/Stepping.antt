@@ -27,7 +27,7 @@ pub record Stepping (I : Type 0) : Type 0 where
 
 -- the same, with handles that stay over documents or not
 abbrev pub keeping : {I : Type 0} → Bool → Stepping I → Stepping I
-keeping keep s = record s { scanner = scans.keeping keep s.scanner }
+keeping keep s = record s { scanner = scans.scanner_keeping keep s.scanner }
 
 -- ---- in which state of the machine
 

@@ -46,7 +46,7 @@ pub(crate) struct Before {
 
 impl Before {
     pub(crate) fn at_item(parser: &ParserState<'_>, item: &Item<'_>) -> Before
-        requires { spec.mark_in (item_view item.now) ≡ None }
+        requires { spec.mark_of_item (item_view item.now) ≡ None }
         ensures { spec.IsBeforeItem parser.now (item_view item.now) (spec.whole result) }
     {
         Before {
@@ -166,14 +166,14 @@ impl<'input> Refusal<'input> {
 
     /// Whether the open document came to its end before the refusal, which is the next document's.
     pub(crate) fn ends_before(&self) -> bool
-        ensures { result ≡ spec.ends_before self.now }
+        ensures { result ≡ spec.refusal_ends_before self.now }
     {
         self.takes_front && self.expects_start && is_within(self.stage)
     }
 
     /// Whether no document is open where the turn was refused.
     pub(crate) fn fails_outside(&self) -> bool
-        ensures { result ≡ spec.fails_outside self.now }
+        ensures { result ≡ spec.refusal_outside self.now }
     {
         if self.takes_front {
             self.refuses_outside()
@@ -202,7 +202,7 @@ impl<'input> Refusal<'input> {
 
     /// Whether the last lexeme up to the item that was refused is a directive.
     pub(crate) fn ends_in_directive(&self) -> bool
-        ensures { result ≡ spec.ends_in_directive self.now }
+        ensures { result ≡ spec.refusal_in_directive self.now }
     {
         match self.directive {
             None => is_directives(self.stage),
@@ -212,7 +212,7 @@ impl<'input> Refusal<'input> {
 }
 
 fn is_within(stage: DocumentStage) -> bool
-    ensures { result ≡ spec.is_within (stage_view stage) }
+    ensures { result ≡ spec.stage_is_within (stage_view stage) }
 {
     matches!(stage, DocumentStage::Inside | DocumentStage::BehindRoot)
 }
@@ -243,7 +243,7 @@ fn is_start_expected(error: &ScanError) -> bool
 
 /// Whether an item is a mark.
 pub(crate) fn is_mark(item: &Item<'_>) -> bool
-    ensures { result ≡ false → spec.mark_in (item_view item.now) ≡ None }
+    ensures { result ≡ false → spec.mark_of_item (item_view item.now) ≡ None }
 {
     match item {
         Item::Note(_) => false,
@@ -259,7 +259,7 @@ fn mark_in<'input>(
     alloc: Global,
     item: &Item<'input>,
 ) -> Result<Option<Box<Lexeme<'input>>>, NoMemory>
-    ensures { IfOk result (λ m. option_map boxed_lexeme m ≡ spec.mark_in (item_view item.now)) }
+    ensures { IfOk result (λ m. option_map boxed_lexeme m ≡ spec.mark_of_item (item_view item.now)) }
 {
     match item {
         Item::Note(_) => Ok(None),

@@ -279,13 +279,28 @@ impl<'input, T: BorrowedInput<'input>> Stepper<'input, T> {
         ensures keeps { Keeps self.old self.new }
         ensures moves { Moves T.unread T.left T.origin self.old.scanner.cursor self.new.scanner.cursor }
     {
-        if self.turn(alloc, fault)? {
-            return self.settle_on(alloc, fault);
+        match self.ahead {
+            Some(_) => self.settle_ahead(fault),
+            None => self.settle_on(alloc, fault),
         }
-        Ok(())
     }
 
-    /// The same behind a turn.
+    /// The same where a turn was made ahead: what waits is given, and then it is refused.
+    fn settle_ahead(&mut self, fault: &mut Option<ScanError>) -> Result<(), Refused>
+        ensures ahead { SettlesAhead (answered fault.new result) self.old self.new }
+        ensures keeps { Keeps self.old self.new }
+        ensures moves { Moves T.unread T.left T.origin self.old.scanner.cursor self.new.scanner.cursor }
+    {
+        if self.parser.has_event() {
+            return Ok(());
+        }
+        match self.refuse_ahead(fault) {
+            Ok(_) => Ok(()),
+            Err(refused) => Err(refused),
+        }
+    }
+
+    /// The same where none was.
     fn settle_on(&mut self, alloc: Global, fault: &mut Option<ScanError>) -> Result<(), Refused>
         ensures known { (m : StepState) → StandsIn T.unread self.old m → self.old.first ≡ None
             → GivesOr spec.no_events (answered fault.new result) (StandsIn T.unread self.new)
@@ -491,7 +506,7 @@ impl<'input, T: BorrowedInput<'input>> Stepper<'input, T> {
         fault: &mut Option<ScanError>,
         front: Front<'input>,
     ) -> Result<bool, Refused>
-        requires { refusals.mark_in (front_view front).0.item ≡ None }
+        requires { refusals.mark_of_item (front_view front).0.item ≡ None }
         ensures known { (m : StepState) → StandsIn T.unread self.old m → self.old.first ≡ None → m.pending ≡ []
             → GivesOr spec.turn_view (answered fault.new result) (StandsIn T.unread self.new)
             (spec.feed_item self.old.scanner.options (front_view front.entry) m)

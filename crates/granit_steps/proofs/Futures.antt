@@ -17,7 +17,7 @@ use Rattle.granit_machine.specs.ReaderState.{Read, ReaderState}
 use Rattle.granit_steps.specs.Steps.{StepState, incoming, marked_by, unflagged, pushed, asks_next, is_next_settled}
 use Rattle.granit_steps.specs.Steps.{is_over, may_go, free_items, line_behind, Turn, with_read, read_unless, read_more}
 use Rattle.granit_steps.specs.Steps.{with_fed, feed_front, front_turn, turn_by, step_turn, reading_size, step_size}
-use Rattle.granit_steps.specs.Told.{Told, before_told, told_behind, fed, parsers_items}
+use Rattle.granit_steps.specs.Told.{EventsTold, before_told, told_behind, fed, parsers_items}
 use Rattle.granit_lexemes.proofs.PieceLemmas.{pieces_done, pieces_more}
 use Rattle.granit_machine.proofs.LexLengths.{ReadFits, read-fits, lex_turn-Shortens}
 use Rattle.granit_machine.proofs.ReadLengths.{reader_len}
@@ -44,10 +44,10 @@ rest_of o l = rest_by (is_over l) o l
 abbrev pub coming : OptionsData → List FlaggedItem → List Item × LexState → List FlaggedItem
 coming o q x = parsers_items x.1.reader.laid x.1.fault (pushed q (incoming o.emit_comments x.0))
 
-abbrev pub future_of : OptionsData → List FlaggedItem → ParserState → List Item × LexState → Told
+abbrev pub future_of : OptionsData → List FlaggedItem → ParserState → List Item × LexState → EventsTold
 future_of o q p x = fed o x.1.fault (coming o q x) p
 
-abbrev pub future : OptionsData → StepState → Told
+abbrev pub future : OptionsData → StepState → EventsTold
 future o s = before_told s.pending (future_of o s.queue s.parser (rest_of o s.reading))
 
 -- ---- what holds of every state
@@ -163,7 +163,7 @@ front_goes o s false None i is ready e =
 -- ---- what a turn keeps
 
 -- with no event pending, nothing is left to give where the loop ends
-abbrev pub IsStill : List PlainEvent → Told → Type 0
+abbrev pub IsStill : List PlainEvent → EventsTold → Type 0
 IsStill [] x = x ≡ ([], None)
 IsStill (e ∷ es) x = Unit {0}
 

@@ -12,7 +12,7 @@ use Rattle.granit_lexemes.specs.PlainEvent.{PlainEvent, event_on, StreamStart}
 use Rattle.granit_machine.specs.Frames.{ParserState, parser_start}
 use Rattle.granit_machine.specs.Laid.{Laid}
 use Rattle.granit_machine.specs.Lexing.{FlaggedItem, flagged, lex_start, lex}
-use Rattle.granit_machine.specs.Machine.{asked_items, feed_all, settled, answered, run}
+use Rattle.granit_machine.specs.Machine.{asked_items, feed_all, settled, run_answer, run}
 use Rattle.granit_machine.specs.Parser.{next_line, feed}
 use Rattle.granit_machine.specs.PossibleKeys.{is_possible}
 use Rattle.granit_machine.specs.Reader.{read, behind_read, is_end, lex_turn, LexState}
@@ -20,8 +20,8 @@ use Rattle.granit_machine.specs.ReaderState.{Read, ReaderState}
 use Rattle.granit_steps.specs.Steps.{StepState, incoming, may_go, line_behind, with_read, read_more, with_fed}
 use Rattle.granit_steps.specs.Steps.{front_turn, turn_by, Turn, step_turn, step_size, first_pending, settle, next_event}
 use Rattle.granit_steps.specs.Steps.{start_from, steps_start}
-use Rattle.granit_steps.specs.Told.{Told, before_told, told_behind, fed, parsers_items, told_read, told_from, told_of}
-use Rattle.granit_steps.specs.Told.{answer, GivesEvents, gives_end, gives_fault, gives_event, FlagsOf}
+use Rattle.granit_steps.specs.Told.{EventsTold, before_told, told_behind, fed, parsers_items, told_read, told_from}
+use Rattle.granit_steps.specs.Told.{told_of, answer, GivesEvents, gives_end, gives_fault, gives_event, FlagsOf}
 use Rattle.granit_machine.proofs.LexLengths.{ReadFits, read-fits}
 use Rattle.granit_machine.proofs.ReadLengths.{reader_len}
 use Rattle.granit_steps.proofs.Chains.{LexChain, pieces_chain, not_behind}
@@ -101,10 +101,11 @@ gives_future o s (x ∷ es) f (gives_event {after = t} e more) ready =
 gives_nothing : (o : OptionsData) (s : StepState) (f : Option Fault) (r : Result (Option PlainEvent × StepState) Fault)
     → next_event o s ≡ r → NextKeeps o s r → future o s ≡ ([], f) → GivesEvents o s [] f
 gives_nothing o s f (Ok (Some e, t)) is p eq = absurd
-    (let h : e ∷ (future o t).0 ≡ [] = ap (λ (x : Told). x.0) (sym p.1 ∙ eq) in cc)
-gives_nothing o s f (Ok (None, t)) is p eq = subst (λ f. GivesEvents o s [] f) (ap (λ (x : Told). x.1) (sym p.1 ∙ eq))
+    (let h : e ∷ (future o t).0 ≡ [] = ap (λ (x : EventsTold). x.0) (sym p.1 ∙ eq) in cc)
+gives_nothing o s f (Ok (None, t)) is p eq = subst (λ f. GivesEvents o s [] f)
+    (ap (λ (x : EventsTold). x.1) (sym p.1 ∙ eq))
     (gives_end is)
-gives_nothing o s f (Err g) is p eq = subst (λ f. GivesEvents o s [] f) (ap (λ (x : Told). x.1) (sym p ∙ eq))
+gives_nothing o s f (Err g) is p eq = subst (λ f. GivesEvents o s [] f) (ap (λ (x : EventsTold). x.1) (sym p ∙ eq))
     (gives_fault is)
 
 abbrev GivesAll : OptionsData → List PlainEvent → Option Fault → Type 0
@@ -120,18 +121,23 @@ gives_some : (o : OptionsData) (s : StepState) (x : PlainEvent) (es : List Plain
     (r : Result (Option PlainEvent × StepState) Fault) → GivesAll o es f → next_event o s ≡ r → NextKeeps o s r
     → future o s ≡ (x ∷ es, f) → GivesEvents o s (x ∷ es) f
 gives_some o s x es f (Ok (Some e, t)) more is p eq =
-    let both : e ∷ (future o t).0 ≡ x ∷ es = ap (λ (y : Told). y.0) (sym p.1 ∙ eq) in
-    let end : (future o t).1 ≡ f = ap (λ (y : Told). y.1) (sym p.1 ∙ eq) in
+    let both : e ∷ (future o t).0 ≡ x ∷ es = ap (λ (y : EventsTold). y.0) (sym p.1 ∙ eq) in
+    let end : (future o t).1 ≡ f = ap (λ (y : EventsTold). y.1) (sym p.1 ∙ eq) in
     let rest : future o t ≡ (es, f) = ap₂ (λ xs g. (xs, g)) (same_events e x (future o t).0 es both) end in
     subst (λ e. GivesEvents o s (e ∷ es) f) (same_event e x (future o t).0 es both) (gives_event is (more t p.0 rest))
 gives_some o s x es f (Ok (None, t)) more is p eq = absurd
-    (let h : [] ≡ x ∷ es = ap (λ (y : Told). y.0) (sym p.1 ∙ eq) in cc)
-gives_some o s x es f (Err g) more is p eq = absurd (let h : [] ≡ x ∷ es = ap (λ (y : Told). y.0) (sym p ∙ eq) in cc)
+    (let h : [] ≡ x ∷ es = ap (λ (y : EventsTold). y.0) (sym p.1 ∙ eq) in cc)
+gives_some o s x es f (Err g) more is p eq = absurd
+    (let h : [] ≡ x ∷ es = ap (λ (y : EventsTold). y.0) (sym p ∙ eq) in cc)
 
 gives_all : (o : OptionsData) (es : List PlainEvent) (f : Option Fault) → GivesAll o es f
 gives_all o [] f s ready eq = gives_nothing o s f (next_event o s) refl (next_keeps o s ready) eq
 gives_all o (x ∷ es) f s ready eq = gives_some o s x es f (next_event o s) (gives_all o es f) refl
     (next_keeps o s ready) eq
+
+-- from any state that is ready the calls give all that is told from there on
+pub ready_tells : (o : OptionsData) (s : StepState) → IsReady s → GivesEvents o s (future o s).0 (future o s).1
+ready_tells o s ready = gives_all o (future o s).0 (future o s).1 s ready refl
 
 -- ---- from the start
 
@@ -163,11 +169,12 @@ only_told o text es f given = sym (start_told o (start_of text))
 
 -- ---- what is told is the run's answer
 
-abbrev TellsLike : Told → Option Fault → Result (List PlainEvent × ParserState) Fault → Type 0
+abbrev TellsLike : EventsTold → Option Fault → Result (List PlainEvent × ParserState) Fault → Type 0
 TellsLike t end (Ok x) = t ≡ (x.0, end)
 TellsLike t end (Err f) = t.1 ≡ Some f
 
-like_front : (t : Told) (end : Option Fault) (es : List PlainEvent) (r : Result (List PlainEvent × ParserState) Fault)
+like_front : (t : EventsTold) (end : Option Fault) (es : List PlainEvent)
+    (r : Result (List PlainEvent × ParserState) Fault)
     → TellsLike t end r → TellsLike (before_told es t) end (with_front es r)
 like_front t end es (Ok x) e = ap (before_told es) e
 like_front t end es (Err f) e = e
@@ -185,18 +192,19 @@ fed_like : (o : OptionsData) (end : Option Fault) (is : List FlaggedItem) → Fe
 fed_like o end [] p = refl
 fed_like o end (i ∷ is) p = like_behind o end is (feed o i (next_line is) p) (fed_like o end is)
 
-answer_at_end : (e : PlainEvent) (t : Told) (r : Result (List PlainEvent × ParserState) Fault) → TellsLike t None r
+answer_at_end : (e : PlainEvent) (t : EventsTold)
+    (r : Result (List PlainEvent × ParserState) Fault) → TellsLike t None r
     → (r >>= λ x. Ok (e ∷ x.0)) ≡ answer (before_told (e ∷ []) t) t.1
-answer_at_end e t (Ok x) like = ap (λ (t : Told). answer (before_told (e ∷ []) t) t.1) (sym like)
+answer_at_end e t (Ok x) like = ap (λ (t : EventsTold). answer (before_told (e ∷ []) t) t.1) (sym like)
 answer_at_end e t (Err f) like = ap (answer (before_told (e ∷ []) t)) (sym like)
 
-answer_at_fault : (e : PlainEvent) (g : Fault) (t : Told) (r : Result (List PlainEvent × ParserState) Fault)
+answer_at_fault : (e : PlainEvent) (g : Fault) (t : EventsTold) (r : Result (List PlainEvent × ParserState) Fault)
     → TellsLike t (Some g) r → (r >>= λ x. Err g) ≡ answer (before_told (e ∷ []) t) t.1
-answer_at_fault e g t (Ok x) like = ap (λ (t : Told). answer (before_told (e ∷ []) t) t.1) (sym like)
+answer_at_fault e g t (Ok x) like = ap (λ (t : EventsTold). answer (before_told (e ∷ []) t) t.1) (sym like)
 answer_at_fault e g t (Err f) like = ap (answer (before_told (e ∷ []) t)) (sym like)
 
 answered_is : (o : OptionsData) (m : Mark) (items : List FlaggedItem) (s : Laid) (end : Option Fault)
-    → answered o m items s end ≡ answer (before_told (event_on StreamStart m ∷ [])
+    → run_answer o m items s end ≡ answer (before_told (event_on StreamStart m ∷ [])
     (fed o end (parsers_items s end items) (parser_start m))) (fed o end (parsers_items s end items) (parser_start m)).1
 answered_is o m items s None = answer_at_end (event_on StreamStart m) (fed o None items (parser_start m))
     (feed_all o items (parser_start m)) (fed_like o None items (parser_start m))
@@ -205,7 +213,7 @@ answered_is o m items s (Some f) = answer_at_fault (event_on StreamStart m) f
     (fed_like o (Some f) (settled s items) (parser_start m))
 
 run_by : (o : OptionsData) (m : Mark) (r : Result (List Item × LexState) Fault)
-    → (r >>= λ x. answered o m (asked_items o.emit_comments (flagged x.0)) x.1.reader.laid x.1.fault)
+    → (r >>= λ x. run_answer o m (asked_items o.emit_comments (flagged x.0)) x.1.reader.laid x.1.fault)
     ≡ answer (before_told (event_on StreamStart m ∷ []) (told_read o (parser_start m) r))
     (told_read o (parser_start m) r).1
 run_by o m (Ok x) = answered_is o m (asked_items o.emit_comments (flagged x.0)) x.1.reader.laid x.1.fault
@@ -218,7 +226,7 @@ run_told o text = run_by o (mark_of (start_of text)) (lex o (start_of text))
 -- the calls give the run's answer
 pub steps_give : (o : OptionsData) (text : List ℕ) (es : List PlainEvent) (f : Option Fault)
     → GivesEvents o (steps_start text) es f → run o text ≡ answer (es, f) f
-steps_give o text es f given = run_told o text ∙ ap (λ (t : Told). answer t t.1) (only_told o text es f given)
+steps_give o text es f given = run_told o text ∙ ap (λ (t : EventsTold). answer t t.1) (only_told o text es f given)
 
 -- ---- keys
 

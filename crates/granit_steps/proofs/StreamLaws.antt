@@ -23,7 +23,8 @@ use Rattle.granit_machine.specs.ReaderState.{Read}
 use Rattle.granit_steps.specs.Flags.{flags}
 use Rattle.granit_steps.specs.Levels.{Level, InStream, and_then, behind_events, IsStream, BeginsStream}
 use Rattle.granit_steps.specs.Steps.{incoming}
-use Rattle.granit_steps.specs.Told.{Told, before_told, told_behind, fed, parsers_items, told_read, told_of, answer}
+use Rattle.granit_steps.specs.Told.{EventsTold, before_told, told_behind, fed, parsers_items, told_read, told_of}
+use Rattle.granit_steps.specs.Told.{answer}
 use Rattle.granit_machine.proofs.LexLengths.{lex_turn-Shortens}
 use Rattle.granit_steps.proofs.Chains.{LexChain, pieces_chain}
 use Rattle.granit_steps.proofs.KeyReads.{possibles, Items, IsComment, Lexed, read_keys}
@@ -247,7 +248,7 @@ fit_parsers s (Some f) fs p = fit_settled s fs p
 
 -- ---- what is told of them
 
-record Ends (a : List Level) (t : Told) (b : Bool) : Type 0 where
+record Ends (a : List Level) (t : EventsTold) (b : Bool) : Type 0 where
   levels : List Level
   left : behind_events t.0 a ≡ Some levels
   closed : t.1 ≡ None → b ≡ true → levels ≡ []
@@ -320,11 +321,11 @@ parser_rests : (m : Mark) → Rests (parser_start m)
 parser_rests m = record { given = refl; fine = tt; held = tt }
 
 -- of all that is read
-record Told_well (t : Told) : Type 0 where
+record Told_well (t : EventsTold) : Type 0 where
   whole : t.1 ≡ None → IsStream t.0
   begins : BeginsStream t.0
 
-told_well : (m : Mark) (t : Told) (b : Bool) → (t.1 ≡ None → b ≡ true) → Ends (InStream ∷ []) t b
+told_well : (m : Mark) (t : EventsTold) (b : Bool) → (t.1 ≡ None → b ≡ true) → Ends (InStream ∷ []) t b
     → Told_well (before_told (event_on StreamStart m ∷ []) t)
 told_well m t b all x = record {
   whole = λ e. x.left ∙ ap (λ ls. Some ls) (x.closed e (all e));
@@ -369,7 +370,7 @@ text_well o text = well_by o (mark_of (start_of text)) (start_of text) (lex o (s
 pub told_begins : (o : OptionsData) (text : List ℕ) → BeginsStream (told_of o text).0
 told_begins o text = (text_well o text).begins
 
-answer_ok : (t : Told) (end : Option Fault) (es : List PlainEvent) → t.1 ≡ end → answer t end ≡ Ok es
+answer_ok : (t : EventsTold) (end : Option Fault) (es : List PlainEvent) → t.1 ≡ end → answer t end ≡ Ok es
     → (t.1 ≡ None) × (t.0 ≡ es)
 answer_ok t None es e h = (e, cc)
 answer_ok t (Some f) es e h = absurd (cc)

@@ -17,7 +17,7 @@ use Rattle.granit_steps.specs.Tokens.{Insertion, BlockEnd, PairStart, PairEnd, K
 use Rattle.granit_steps.specs.Tokens.{BlockSequenceStart, ScanToken, Inserted, Own, insert_if, ended_blocks}
 use Rattle.granit_steps.specs.Tokens.{is_new_column, block_start, begins_single, ends_single, tail_token, inserted}
 use Rattle.granit_steps.specs.Tokens.{tokens_of, pairs_of, StateItem, item_in, tokens, own_of, owns, written_of}
-use Rattle.granit_steps.specs.Tokens.{written, pair_up, paired_turn, items_of_states, lex_states}
+use Rattle.granit_steps.specs.Tokens.{items_written, pair_up, paired_turn, items_of_states, lex_states}
 
 owns_append : (xs ys : List ScanToken) → owns (xs ++ ys) ≡ owns xs ++ owns ys
 owns_append [] ys = refl
@@ -66,7 +66,7 @@ owns_item s b pairs (OfLexeme l) =
     ∙ ap₂ (λ x y. x ++ (Own l ∷ y)) (owns_inserted s b pairs l) (owns_tail l.tail)
 owns_item s b pairs (OfComment c) = refl
 
-pub owns_tokens : (pairs : List Bool) (xs : List StateItem) → owns (tokens pairs xs) ≡ written xs
+pub owns_tokens : (pairs : List Bool) (xs : List StateItem) → owns (tokens pairs xs) ≡ items_written xs
 owns_tokens pairs [] = refl
 owns_tokens pairs (x ∷ xs) =
     let b = is_begun x.1 (map item_in xs) in

@@ -67,13 +67,13 @@ behind_events [] ls = Some ls
 behind_events (e ∷ es) ls = and_then (behind_event e.kind ls) (behind_events es)
 
 -- what the events of a stream leave open, where they may stand: the first one begins the stream
-abbrev pub behind_first : EventKind → List PlainEvent → Option (List Level)
-behind_first StreamStart es = behind_events es (InStream ∷ [])
-behind_first kind es = None
+abbrev pub levels_behind_first : EventKind → List PlainEvent → Option (List Level)
+levels_behind_first StreamStart es = behind_events es (InStream ∷ [])
+levels_behind_first kind es = None
 
 abbrev pub stream_levels : List PlainEvent → Option (List Level)
 stream_levels [] = None
-stream_levels (e ∷ es) = behind_first e.kind es
+stream_levels (e ∷ es) = levels_behind_first e.kind es
 
 -- a whole stream: it begins first and ends last, each document has one node, and all is closed in order
 abbrev pub IsStream : List PlainEvent → Type 0

@@ -92,12 +92,12 @@ line_behind l is = next_line (free_items l.ended l.reader.laid is)
 abbrev pub Turn : Type 0
 Turn = Result (Option (List PlainEvent) × StepState) Fault
 
-abbrev pub items_of : Option (List Item) → List Item
-items_of None = []
-items_of (Some items) = items
+abbrev pub items_or_none : Option (List Item) → List Item
+items_or_none None = []
+items_or_none (Some items) = items
 
 abbrev pub with_read : OptionsData → StepState → Option (List Item) × LexState → StepState
-with_read o s x = record s { reading = x.1; queue = pushed s.queue (incoming o.emit_comments (items_of x.0)) }
+with_read o s x = record s { reading = x.1; queue = pushed s.queue (incoming o.emit_comments (items_or_none x.0)) }
 
 abbrev pub read_unless : OptionsData → Option Fault → StepState → Turn
 read_unless o (Some f) s = Err f

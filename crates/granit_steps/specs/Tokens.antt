@@ -148,9 +148,9 @@ written_of (OfLexeme l) = Own l ∷ tail_token l.tail
 written_of (OfComment c) = Noted c ∷ []
 
 -- what is written: the lexemes and comments in order
-abbrev pub written : List StateItem → List ScanToken
-written [] = []
-written (x ∷ xs) = written_of x.1 ++ written xs
+abbrev pub items_written : List StateItem → List ScanToken
+items_written [] = []
+items_written (x ∷ xs) = written_of x.1 ++ items_written xs
 
 -- ---- the tokens of a text, as far as reading goes
 

@@ -15,18 +15,18 @@ use Rattle.granit_steps.specs.Flags.{flags}
 use Rattle.granit_steps.specs.Steps.{StepState, next_event}
 
 -- events, and a fault where one ends them
-abbrev pub Told : Type 0
-Told = List PlainEvent × Option Fault
+abbrev pub EventsTold : Type 0
+EventsTold = List PlainEvent × Option Fault
 
-abbrev pub before_told : List PlainEvent → Told → Told
+abbrev pub before_told : List PlainEvent → EventsTold → EventsTold
 before_told es x = (es ++ x.0, x.1)
 
-abbrev pub told_behind : Result (List PlainEvent × ParserState) Fault → (ParserState → Told) → Told
+abbrev pub told_behind : Result (List PlainEvent × ParserState) Fault → (ParserState → EventsTold) → EventsTold
 told_behind (Ok x) more = before_told x.0 (more x.1)
 told_behind (Err f) more = ([], Some f)
 
 -- what the parser tells of items, and the reader's end behind them
-abbrev pub fed : OptionsData → Option Fault → List FlaggedItem → ParserState → Told
+abbrev pub fed : OptionsData → Option Fault → List FlaggedItem → ParserState → EventsTold
 fed o end [] p = ([], end)
 fed o end (i ∷ is) p = told_behind (feed o i (next_line is) p) (λ q. fed o end is q)
 
@@ -35,20 +35,20 @@ abbrev pub parsers_items : Laid → Option Fault → List FlaggedItem → List F
 parsers_items l None items = items
 parsers_items l (Some f) items = settled l items
 
-abbrev pub told_read : OptionsData → ParserState → Result (List Item × LexState) Fault → Told
+abbrev pub told_read : OptionsData → ParserState → Result (List Item × LexState) Fault → EventsTold
 told_read o p (Ok x) =
     fed o x.1.fault (parsers_items x.1.reader.laid x.1.fault (asked_items o.emit_comments (flagged x.0))) p
 told_read o p (Err f) = ([], Some f)
 
 -- all that is told of a text
-abbrev pub told_from : OptionsData → Here → Told
+abbrev pub told_from : OptionsData → Here → EventsTold
 told_from o h = before_told (event_on StreamStart (mark_of h) ∷ []) (told_read o (parser_start (mark_of h)) (lex o h))
 
-abbrev pub told_of : OptionsData → List ℕ → Told
+abbrev pub told_of : OptionsData → List ℕ → EventsTold
 told_of o text = told_from o (start_of text)
 
 -- the answer of a whole run
-abbrev pub answer : Told → Option Fault → Result (List PlainEvent) Fault
+abbrev pub answer : EventsTold → Option Fault → Result (List PlainEvent) Fault
 answer x None = Ok x.0
 answer x (Some f) = Err f
 

@@ -20,7 +20,7 @@ use Rattle.granit_steps.specs.Tokens.{block_start, begins_single, ends_single, t
 use Rattle.granit_steps.specs.Tokens.{StateItem, item_in, tokens, lex_states, text_tokens}
 use Rattle.granit_tokens.proofs.ReadTokens.{HasOwnKeys, SameFlags, begun_there, flags_on, flags_noted}
 use Rattle.granit_tokens.proofs.TextTokens.{Holds, states_hold, text_flags, given}
-use Rattle.granit_tokens.specs.Keys.{is_key_sign, is_keyed_kind, is_keyed_value, key_signs, keyed_values}
+use Rattle.granit_tokens.specs.Keys.{is_inserted_key, is_keyed_kind, is_keyed_value, key_signs, keyed_values}
 
 -- ---- counts of lists one behind the other
 
@@ -31,7 +31,8 @@ one_more_sum false m n = refl
 signs_append : (xs ys : List ScanToken) → key_signs (xs ++ ys) ≡ key_signs xs + key_signs ys
 signs_append [] ys = omega arith
 signs_append (x ∷ xs) ys =
-    ap (one_more_if (is_key_sign x)) (signs_append xs ys) ∙ one_more_sum (is_key_sign x) (key_signs xs) (key_signs ys)
+    ap (one_more_if (is_inserted_key x)) (signs_append xs ys)
+    ∙ one_more_sum (is_inserted_key x) (key_signs xs) (key_signs ys)
 
 values_append : (xs ys : List ScanToken) → keyed_values (xs ++ ys) ≡ keyed_values xs + keyed_values ys
 values_append [] ys = omega arith
@@ -45,7 +46,7 @@ values_append (x ∷ xs) ys =
 abbrev IsQuiet : List ScanToken → Type 0
 IsQuiet ts = (key_signs ts ≡ 0) × (keyed_values ts ≡ 0)
 
-quiet_if : (b : Bool) (what : Insertion) (m : Mark) → is_key_sign (Inserted what m) ≡ false
+quiet_if : (b : Bool) (what : Insertion) (m : Mark) → is_inserted_key (Inserted what m) ≡ false
     → IsQuiet (insert_if b what m)
 quiet_if true what m e = (ap (λ v. one_more_if v 0) e, refl)
 quiet_if false what m e = (refl, refl)
@@ -122,7 +123,7 @@ have_front [] ts p h = h
 have_front (u ∷ us) ts p h =
     let s = signs_append (u ∷ us) ts in
     let v = values_append (u ∷ us) ts in
-    let more = more_of (is_key_sign u) (key_signs us) in
+    let more = more_of (is_inserted_key u) (key_signs us) in
     (omega (arith, s, v, p), have_front us ts (omega (arith, p, more)) h)
 
 have_behind : (front back : List ScanToken) → HaveValues (front ++ back) → HaveValues back

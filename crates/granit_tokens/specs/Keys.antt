@@ -5,9 +5,9 @@ use Rattle.granit_lexemes.specs.Place.{one_more_if}
 use Rattle.granit_machine.specs.Items.{has_key}
 use Rattle.granit_steps.specs.Tokens.{KeySign, ScanToken, Inserted, Own}
 
-abbrev pub is_key_sign : ScanToken → Bool
-is_key_sign (Inserted KeySign m) = true
-is_key_sign t = false
+abbrev pub is_inserted_key : ScanToken → Bool
+is_inserted_key (Inserted KeySign m) = true
+is_inserted_key t = false
 
 -- a `:` with its key
 abbrev pub is_keyed_kind : LexemeKind → Option KeyStart → Bool
@@ -20,7 +20,7 @@ is_keyed_value t = false
 
 abbrev pub key_signs : List ScanToken → ℕ
 key_signs [] = 0
-key_signs (t ∷ ts) = one_more_if (is_key_sign t) (key_signs ts)
+key_signs (t ∷ ts) = one_more_if (is_inserted_key t) (key_signs ts)
 
 abbrev pub keyed_values : List ScanToken → ℕ
 keyed_values [] = 0

@@ -10,14 +10,14 @@ use Rattle.std.specs.Str.Parse.{digits_value}
 use Rattle.granit_base.specs.Written.{Written}
 use Rattle.granit_words.specs.Words.{IsNumber, spelled}
 use Rattle.granit_words.proofs.NumberLemmas.{decimal_value}
-use Rattle.granit_words.specs.Asking.{Ask, AskWrongAt, MayStand, most_documents}
+use Rattle.granit_words.specs.Asking.{Ask, AskWrongAt, WordMayStand, most_documents}
 
 module _ (ws : List (List ℕ)) where
   abbrev At : ℕ → List ℕ → Type 0
   At i word = slice_get ws i ≡ Some word
 
   abbrev Fits : ℕ → Type 0
-  Fits i = (word : List ℕ) × At i word × MayStand i word
+  Fits i = (word : List ℕ) × At i word × WordMayStand i word
 
   fits_one : At 0 (codes "selftest") → (i : ℕ) → i < 1 → Fits i
   fits_one a zero h = (codes "selftest", a, refl)

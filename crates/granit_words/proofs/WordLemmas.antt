@@ -15,7 +15,7 @@ use Rattle.std.proofs.Math.Seq.{take-suc, split_at}
 use Rattle.granit_base.specs.Written.{Written}
 use Rattle.granit_error.specs.OptionsData.{OptionsData, default_options}
 use Rattle.granit_words.specs.Words.{switch_text, word_of, IsNumber, Fits, IsSaidBy, set_in, option_of, sets}
-use Rattle.granit_words.specs.Words.{AreSaidBy, SetOnce, set_all, Say, AreRight, AreWrongAt, spelled}
+use Rattle.granit_words.specs.Words.{AreSaidBy, SetOnce, set_all, Say, AreInGrammar, GoWrongAt, spelled}
 use Rattle.granit_words.specs.declared.words.Setting.{Setting}
 use Rattle.granit_words.specs.declared.words.Setting.TheVariants as setting
 use Rattle.granit_words.proofs.NumberLemmas.{decimal_value}
@@ -388,7 +388,7 @@ rest_of ws o p w a b = tails (a.options ++ w ∷ []) b.options (codes "events")
 pub wrong_here : (words : List Written) (i : ℕ) (v : Written) (flags : List Bool) (o : OptionsData)
     → Reaches (take i (spelled words)) flags o → i < length words → v ≡ get_or words i v
     → ((p : OptionsData) → Say (take i (spelled words) ++ encode_utf8_all v.characters ∷ []) p → ⊥)
-    → AreWrongAt (spelled words) (i + 1)
+    → GoWrongAt (spelled words) (i + 1)
 wrong_here words i v flags o r l is never =
     inr record {
       front = take i (spelled words);
@@ -404,7 +404,7 @@ wrong_here words i v flags o r l is never =
 pub wrong_word : (words : List Written) (i : ℕ) (v : Written) (flags : List Bool) (o : OptionsData)
     → Reaches (take i (spelled words)) flags o → i < length words → v ≡ get_or words i v → (answer : Option Setting)
     → IfNone answer ((s : Setting) → IsSaidBy s (encode_utf8_all v.characters) → ⊥)
-    → ((s : Setting) → answer ≡ Some s → ⊥) → AreWrongAt (spelled words) (i + 1)
+    → ((s : Setting) → answer ≡ Some s → ⊥) → GoWrongAt (spelled words) (i + 1)
 wrong_word words i v flags o r l is answer none never = wrong_here words i v flags o r l is
     (λ p b. let w = encode_utf8_all v.characters in
     let those = rest_of (take i (spelled words)) o p w r.say b in
@@ -415,7 +415,7 @@ wrong_word words i v flags o r l is answer none never = wrong_here words i v fla
 pub wrong_again : (words : List Written) (i : ℕ) (v : Written) (flags : List Bool) (option : ℕ) (o : OptionsData)
     (s : Setting) → Reaches (take i (spelled words)) flags o → i < length words → v ≡ get_or words i v
     → IsSaidBy s (encode_utf8_all v.characters) → option ≡ option_of s → get_or flags option false ≡ true
-    → AreWrongAt (spelled words) (i + 1)
+    → GoWrongAt (spelled words) (i + 1)
 wrong_again words i v flags option o s r l is h which again = wrong_here words i v flags o r l is
     (λ p b. let w = encode_utf8_all v.characters in
     let those = rest_of (take i (spelled words)) o p w r.say b in
@@ -426,12 +426,12 @@ wrong_again words i v flags option o s r l is h which again = wrong_here words i
     let seen = sym (r.flags_are (option_of s)) ∙ subst (λ (k : ℕ). get_or flags k false ≡ true) which again in
     let never : true ≡ false = sym seen ∙ new in cc)
 
-pub no_words : (words : List Written) → length words ≡ 0 → AreWrongAt (spelled words) 1
+pub no_words : (words : List Written) → length words ≡ 0 → GoWrongAt (spelled words) 1
 no_words [] none = inl ((λ options e. absurd cc), refl)
 no_words (w ∷ ws) none = absurd (omega (arith, none))
 
 pub wrong_first : (words : List Written) (w : Written) → 0 < length words → w ≡ get_or words 0 w
-    → (encode_utf8_all w.characters ≡ codes "events" → ⊥) → AreWrongAt (spelled words) 1
+    → (encode_utf8_all w.characters ≡ codes "events" → ⊥) → GoWrongAt (spelled words) 1
 wrong_first [] w some is other = absurd (omega (arith, some))
 wrong_first (v ∷ ws) w some is other = inl ((λ options e. other (heads_are options e)), refl)
   where
@@ -467,7 +467,7 @@ front_said (s ∷ ss) (v ∷ ws) rest w p q =
           (h.3 k (or_right (option_of s == k) (sets ss k) e)),
     )
 
-pub right_or_wrong : (words : List (List ℕ)) (k : ℕ) → AreRight words → AreWrongAt words k → ⊥
+pub right_or_wrong : (words : List (List ℕ)) (k : ℕ) → AreInGrammar words → GoWrongAt words k → ⊥
 right_or_wrong words k (o, say) (inl h) = h.0 say.options say.begin
 right_or_wrong words k (o, say) (inr h) =
     let front = h.right.1 in

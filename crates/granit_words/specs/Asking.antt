@@ -19,16 +19,16 @@ pub record Ask (words : List (List ℕ)) (seed size : ℕ) : Type 0 where
   pub size_fits : size ≤ most_documents
 
 -- what right words have behind so many others
-abbrev pub MayStand : (before : ℕ) → List ℕ → Type 0
-MayStand zero word = word ≡ codes "selftest"
-MayStand (suc zero) word = (n : ℕ) × IsNumber n × (word ≡ decimal n)
-MayStand (suc (suc zero)) word = (n : ℕ) × (n ≤ most_documents) × (word ≡ decimal n)
-MayStand (suc (suc (suc i))) word = ⊥
+abbrev pub WordMayStand : (before : ℕ) → List ℕ → Type 0
+WordMayStand zero word = word ≡ codes "selftest"
+WordMayStand (suc zero) word = (n : ℕ) × IsNumber n × (word ≡ decimal n)
+WordMayStand (suc (suc zero)) word = (n : ℕ) × (n ≤ most_documents) × (word ≡ decimal n)
+WordMayStand (suc (suc (suc i))) word = ⊥
 
 -- The words in front of the k-th are as right words have them, and the k-th isn't, or is missing from right words.
 pub record AskWrongAt (words : List (List ℕ)) (k : ℕ) : Type 0 where
   pub before : ℕ
   pub number : k ≡ suc before
-  pub fit : (i : ℕ) → i < before → (word : List ℕ) × (slice_get words i ≡ Some word) × MayStand i word
-  pub wrong : (word : List ℕ) → slice_get words before ≡ Some word → MayStand before word → ⊥
+  pub fit : (i : ℕ) → i < before → (word : List ℕ) × (slice_get words i ≡ Some word) × WordMayStand i word
+  pub wrong : (word : List ℕ) → slice_get words before ≡ Some word → WordMayStand before word → ⊥
   pub not_right : (seed size : ℕ) → Ask words seed size → ⊥

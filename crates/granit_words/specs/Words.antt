@@ -116,8 +116,8 @@ pub record Say (words : List (List ℕ)) (o : OptionsData) : Type 0 where
   pub are : o ≡ set_all settings default_options
 
 -- the words are in the grammar
-abbrev pub AreRight : List (List ℕ) → Type 0
-AreRight words = (o : OptionsData) × Say words o
+abbrev pub AreInGrammar : List (List ℕ) → Type 0
+AreInGrammar words = (o : OptionsData) × Say words o
 
 -- the first word is wrong, or missing
 abbrev pub LackEvents : List (List ℕ) → Type 0
@@ -130,12 +130,12 @@ pub record AreWrongWith (words : List (List ℕ)) (k : ℕ) : Type 0 where
   pub rest : List (List ℕ)
   pub are : words ≡ front ++ word ∷ rest
   pub number : k ≡ suc (length front)
-  pub right : AreRight front
-  pub wrong : AreRight (front ++ word ∷ []) → ⊥
+  pub right : AreInGrammar front
+  pub wrong : AreInGrammar (front ++ word ∷ []) → ⊥
 
 -- the number of the first wrong word, from 1, or one past the last where a word is missing
-abbrev pub AreWrongAt : List (List ℕ) → ℕ → Type 0
-AreWrongAt words k = (LackEvents words × (k ≡ 1)) ⊎ AreWrongWith words k
+abbrev pub GoWrongAt : List (List ℕ) → ℕ → Type 0
+GoWrongAt words k = (LackEvents words × (k ≡ 1)) ⊎ AreWrongWith words k
 
 abbrev pub usage_line : ℕ → List ℕ
 usage_line k = (codes "usage: word " ++ decimal k) ++ codes "\n"

@@ -5,7 +5,7 @@ ghost use Rattle.std.specs.Fmt.{decimal};
 ghost use Rattle.std.specs.Str.{encode_utf8_all};
 ghost use Rattle.granit_error.specs.OptionsView.{options_of};
 ghost use Rattle.granit_words.specs.Words.{IsNumber, option_of, option_count, set_in, switch_text, word_of};
-ghost use Rattle.granit_words.specs.Words.{AreWrongAt, IsSaidBy, Say, spelled};
+ghost use Rattle.granit_words.specs.Words.{GoWrongAt, IsSaidBy, Say, spelled};
 ghost use Rattle.granit_words.specs.declared.words.Setting.{Setting};
 
 use granit_base::{OwnedText, TextList};
@@ -208,7 +208,7 @@ fn is_events(word: &OwnedText) -> bool
 /// The number of the first wrong word, from 1, or one past the last where a word is missing.
 pub fn read_words(words: &TextList) -> Result<Options, usize>
     ensures right { IfOk result (λ o. Say (spelled words.now) (options_of o)) }
-    ensures wrong { IfErr result (λ k. AreWrongAt (spelled words.now) k) }
+    ensures wrong { IfErr result (λ k. GoWrongAt (spelled words.now) k) }
 {
     let list = words.as_slice();
     if list.is_empty() || !is_events(&list[0]) {

@@ -1,4 +1,4 @@
-use Rattle.granit_alone.proofs.LineLaws.{behind_counts, fault_apart, fault_counts}
+use Rattle.granit_alone.proofs.LineLaws.{behind_counts, fault_counts}
 use Rattle.granit_alone.proofs.lines.refused_reads_stop_where_lines_count.Goals as goal
 
 pub returns-clause-stops : goal.returns-clause-stops
@@ -6,6 +6,3 @@ returns-clause-stops c = behind_counts
 
 pub returns-clause-fault : goal.returns-clause-fault
 returns-clause-fault c = fault_counts
-
-pub returns-clause-apart : goal.returns-clause-apart
-returns-clause-apart c = fault_apart

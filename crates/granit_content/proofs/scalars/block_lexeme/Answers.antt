@@ -5,7 +5,7 @@ use Rattle.granit_error.specs.OptionsView.{options_of}
 use Rattle.granit_lexemes.specs.LayoutData.{LayoutData}
 use Rattle.granit_lexemes.specs.Comment.{CommentRead}
 use Rattle.granit_machine.specs.PossibleKeys.{layout_of}
-use Rattle.granit_content.specs.ScalarReads.{asking, shown_as}
+use Rattle.granit_content.specs.ScalarReads.{layout_asking, shown_as}
 use Rattle.granit_content.proofs.ScalarLemmas.{block_items}
 use Rattle.granit_content.proofs.scalars.block_lexeme.Goals as goal
 
@@ -13,7 +13,8 @@ pub returns-clause-here : goal.returns-clause-here
 returns-clause-here g c = λ h k.
     let o = options_of c.args.options.now in
     let begun = c.start_of-start.ensures h k in
-    let told = c.layout-layout.ensures ∙ ap (λ (n : ℕ). asking o.emit_comments (layout_of o n c.args.layouts.now))
+    let told = c.layout-layout.ensures ∙ ap (λ (n : ℕ). layout_asking o.emit_comments
+    (layout_of o n c.args.layouts.now))
     (c.col.ensures ∙ ap (λ (m : Mark). m.place.column) (sym begun.0)) in
     let read = rw c.in_ok-read.ensures at (c.scan_block_scalar.ensures.here h k) in
     let is = ap (λ (at : LayoutData). block_lexed_at at c.args.literal h) (sym told) ∙ read.2 in

@@ -9,7 +9,7 @@ use Rattle.granit_machine.specs.PossibleKeys.{layout_of}
 use Rattle.granit_machine.specs.ReaderState.{with_tail}
 use Rattle.granit_lex.specs.QuotedCode.{quoted_from, remark_token}
 use Rattle.granit_content.specs.KindViews.{note_of_token}
-use Rattle.granit_content.specs.ScalarReads.{asking}
+use Rattle.granit_content.specs.ScalarReads.{layout_asking}
 use Rattle.granit_content.proofs.ScalarLemmas.{quoted_items, quoted_fails}
 use Rattle.granit_refused.specs.Answered.{why}
 use Rattle.granit_content.proofs.scalars.quoted_lexeme.Goals as goal
@@ -19,7 +19,8 @@ returns-in_err-read_quoted-clause-here g c = λ h k.
     let p = err_from_is_err_and c.from_residual.result c.from_residual.ensures.1 in
     let o = options_of c.args.options.now in
     let begun = c.start_of-start.ensures h k in
-    let told = c.layout-layout.ensures ∙ ap (λ (n : ℕ). asking o.emit_comments (layout_of o n c.args.layouts.now))
+    let told = c.layout-layout.ensures ∙ ap (λ (n : ℕ). layout_asking o.emit_comments
+    (layout_of o n c.args.layouts.now))
     (c.col.ensures ∙ ap (λ (m : Mark). m.place.column) (sym begun.0)) in
     rw (p.1, p.2) (quoted_fails o o.emit_comments c.args.ends h c.args.layouts.now
     (why c.read_quoted.new.fault c.in_err-read_quoted.field-0.0)
@@ -29,7 +30,8 @@ pub returns-clause-here : goal.returns-clause-here
 returns-clause-here g c = λ h k.
     let o = options_of c.args.options.now in
     let begun = c.start_of-start.ensures h k in
-    let told = c.layout-layout.ensures ∙ ap (λ (n : ℕ). asking o.emit_comments (layout_of o n c.args.layouts.now))
+    let told = c.layout-layout.ensures ∙ ap (λ (n : ℕ). layout_asking o.emit_comments
+    (layout_of o n c.args.layouts.now))
     (c.col.ensures ∙ ap (λ (m : Mark). m.place.column) (sym begun.0)) in
     let read = rw told at (c.in_ok-read_quoted.ensures.here h k) in
     let scalar = c.read_quoted.new.read in

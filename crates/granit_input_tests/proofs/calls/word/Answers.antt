@@ -2,7 +2,7 @@ use Rattle.std.proofs.Common.{ℕ, List, ◌++◌, take, Some, None, ap, subst, 
 use Rattle.std.specs.Str.{chars}
 use Rattle.std.proofs.lemmas.Str.{chars-nil}
 use Rattle.granit_base.specs.Written.{Written}
-use Rattle.granit_input.specs.Unread.{past}
+use Rattle.granit_input.specs.Unread.{past_count}
 use Rattle.granit_input.proofs.LendLemmas.{lent_past}
 use Rattle.granit_input_tests.proofs.calls.word.Goals as goal
 
@@ -16,8 +16,8 @@ returns-in-Some g c = record {
       (g.T.Input.left c.fetch_while_is_alpha.new.self) u fetch.field-0 c.byte_offset-start.result
       c.byte_offset-end.result (Some c.in-Some.text)
       fetch.ensures.moves.2 (g.met.T.Input.agrees c.args.input.now u k)
-      (g.met.T.Input.agrees c.fetch_while_is_alpha.new.self (past fetch.field-0 u) fetched.1)
-      (c.byte_offset-start.ensures.value u k) (c.byte_offset-end.ensures.value (past fetch.field-0 u) fetched.1)
+      (g.met.T.Input.agrees c.fetch_while_is_alpha.new.self (past_count fetch.field-0 u) fetched.1)
+      (c.byte_offset-start.ensures.value u k) (c.byte_offset-end.ensures.value (past_count fetch.field-0 u) fetched.1)
       c.in-Some.ensures in
       ap (λ (w : Written). w.characters) c.borrowed.ensures ∙ part.1 ∙ ap (λ (m : ℕ). take m u.text) fetched.0;
   lent = λ u k.
@@ -28,14 +28,14 @@ returns-in-Some g c = record {
       (g.T.Input.left c.fetch_while_is_alpha.new.self) u fetch.field-0 c.byte_offset-start.result
       c.byte_offset-end.result (Some c.in-Some.text)
       fetch.ensures.moves.2 (g.met.T.Input.agrees c.args.input.now u k)
-      (g.met.T.Input.agrees c.fetch_while_is_alpha.new.self (past fetch.field-0 u) fetched.1)
-      (c.byte_offset-start.ensures.value u k) (c.byte_offset-end.ensures.value (past fetch.field-0 u) fetched.1)
+      (g.met.T.Input.agrees c.fetch_while_is_alpha.new.self (past_count fetch.field-0 u) fetched.1)
+      (c.byte_offset-start.ensures.value u k) (c.byte_offset-end.ensures.value (past_count fetch.field-0 u) fetched.1)
       c.in-Some.ensures in
       ap (λ (w : Written). w.is_borrowed) c.borrowed.ensures ∙ part.0;
   rest = λ u k.
       let fetch = c.in_ok-fetch_while_is_alpha in
       let fetched = fetch.ensures.fetches u k in
-      subst (λ (m : ℕ). g.T.Input.unread c.fetch_while_is_alpha.new.self (past m u)) fetched.0 fetched.1;
+      subst (λ (m : ℕ). g.T.Input.unread c.fetch_while_is_alpha.new.self (past_count m u)) fetched.0 fetched.1;
 }
 
 pub returns : goal.returns
@@ -54,12 +54,12 @@ returns g c = record {
       (g.T.Input.left c.fetch_while_is_alpha.new.self) u fetch.field-0 c.byte_offset-start.result
       c.byte_offset-end.result (None)
       fetch.ensures.moves.2 (g.met.T.Input.agrees c.args.input.now u k)
-      (g.met.T.Input.agrees c.fetch_while_is_alpha.new.self (past fetch.field-0 u) fetched.1)
-      (c.byte_offset-start.ensures.value u k) (c.byte_offset-end.ensures.value (past fetch.field-0 u) fetched.1)
+      (g.met.T.Input.agrees c.fetch_while_is_alpha.new.self (past_count fetch.field-0 u) fetched.1)
+      (c.byte_offset-start.ensures.value u k) (c.byte_offset-end.ensures.value (past_count fetch.field-0 u) fetched.1)
       c.in-None.ensures in
       ap (λ (w : Written). w.is_borrowed) c.owned.ensures ∙ part.0;
   rest = λ u k.
       let fetch = c.in_ok-fetch_while_is_alpha in
       let fetched = fetch.ensures.fetches u k in
-      subst (λ (m : ℕ). g.T.Input.unread c.fetch_while_is_alpha.new.self (past m u)) fetched.0 fetched.1;
+      subst (λ (m : ℕ). g.T.Input.unread c.fetch_while_is_alpha.new.self (past_count m u)) fetched.0 fetched.1;
 }

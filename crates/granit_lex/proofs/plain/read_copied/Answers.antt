@@ -5,7 +5,7 @@ use Rattle.granit_lexemes.specs.Basics.{owned}
 use Rattle.granit_lexemes.specs.PlainScalar.{PlainState, PlainRead}
 use Rattle.granit_cursor.specs.Reading.{Stands, GivesTo, coded}
 use Rattle.granit_cursor.specs.Tokens.{layout_data}
-use Rattle.granit_lex.specs.PlainCode.{plain_from, plain_lexed, ended_by}
+use Rattle.granit_lex.specs.PlainCode.{plain_from, plain_lexed, plain_ended_by}
 use Rattle.granit_lex.specs.Taken.{PlainTaken}
 use Rattle.granit_lex.proofs.FurtherLines.{copied_by, ended_same}
 use Rattle.granit_refused.specs.Answered.{answered}
@@ -16,7 +16,8 @@ returns-clause-here g c = λ h k start.
     let at = layout_data c.args.at.now in
     let read = c.in_ok-parts.ensures.here h k in
     let whole = copied_by at h c.args.start c.no_parts.result start c.no_parts.ensures
-    ∙ ap (λ (r : Result (List ℕ × PlainState) Fault). r >>= ended_by at c.args.start (λ value end. owned value)) read.2
+    ∙ ap (λ (r : Result (List ℕ × PlainState) Fault). r >>= plain_ended_by at c.args.start
+    (λ value end. owned value)) read.2
     ∙ sym (ended_same at c.args.start read.0 c.owned.result _ c.end_of-ended.result.end _
     c.end_of-ended.result.on_new_line _ c.end_of-ended.result.cuts _
     (c.owned.ensures ∙ ap (λ (p : PlainTaken). owned p.value) c.parts.view_is) c.end_of-ended.ensures.end

@@ -7,7 +7,7 @@ use Rattle.granit_lexemes.specs.PlainScalar.{PlainState, PlainRead}
 use Rattle.granit_cursor.specs.Reading.{Stands, GivesTo, coded}
 use Rattle.granit_cursor.specs.Tokens.{layout_data}
 use Rattle.granit_lex.specs.LineCode.{text_of_lines}
-use Rattle.granit_lex.specs.PlainCode.{plain_from, plain_lexed, ended_by}
+use Rattle.granit_lex.specs.PlainCode.{plain_from, plain_lexed, plain_ended_by}
 use Rattle.granit_lex.specs.Taken.{PlainTaken}
 use Rattle.granit_lex.proofs.FurtherLines.{further_by, ended_same, text_by}
 use Rattle.granit_lex.proofs.MemoryLemmas.{begun_blank, one_line, unexpected_other}
@@ -21,7 +21,7 @@ returns-clause-here g c = λ h k.
     let read = c.in_ok-parts.ensures.here h k in
     let whole = further_by at c.args.start front c.args.line.now.end h c.no_parts.result c.no_parts.ensures
     ∙ ap (λ (r : Result (List ℕ × PlainState) Fault). r
-    >>= ended_by at c.args.start (λ further last. text_of_lines c.args.start last front further)) read.2
+    >>= plain_ended_by at c.args.start (λ further last. text_of_lines c.args.start last front further)) read.2
     ∙ sym (ended_same at c.args.start read.0 c.in_ok-text.text _ c.end_of-ended.result.end _
     c.end_of-ended.result.on_new_line _ c.end_of-ended.result.cuts _
     (c.in_ok-text.ensures.text ∙ text_by c.args.start c.in_ok-parts.parts.end c.line.result c.line-2.result front

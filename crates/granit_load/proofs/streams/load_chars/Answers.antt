@@ -3,7 +3,7 @@ use Rattle.granit_error.specs.OptionsView.{options_of}
 use Rattle.granit_event.specs.Events.{plain_events}
 use Rattle.granit_load.proofs.StreamLemmas.{bare_given_of}
 use Rattle.granit_load.proofs.streams.load_chars.Goals as goal
-use Rattle.granit_parser.specs.Streams.{bare_start}
+use Rattle.granit_parser.specs.Streams.{bare_text_start}
 use Rattle.granit_steps.specs.Steps.{start_from}
 
 pub returns : goal.returns
@@ -12,4 +12,4 @@ returns g c = λ x known.
     bare_given_of _ plain_events (options_of c.args.options) parser.stepper.scanner.options x
     c.in_ok-parser.ensures.options c.gather.result c.gather.new.parser.stepper
     (c.gather.ensures.renumbered ∙ c.in_ok-parser.ensures.renumbered)
-    (c.gather.ensures.known (start_from (bare_start x)) (c.in_ok-parser.ensures.start x known)) (λ i. refl)
+    (c.gather.ensures.known (start_from (bare_text_start x)) (c.in_ok-parser.ensures.start x known)) (λ i. refl)

@@ -3,7 +3,7 @@ use Rattle.std.proofs.lemmas.Result.{err_from_is_err_and}
 use Rattle.granit_lexemes.specs.Lexeme.{Lexeme}
 use Rattle.granit_lexemes.specs.Moves.{steps}
 use Rattle.granit_machine.specs.ReaderState.{with_tail}
-use Rattle.granit_content.specs.Reads.{noted, tail_view}
+use Rattle.granit_content.specs.Reads.{comment_kept, tail_view}
 use Rattle.granit_marks.proofs.StreamLemmas.{mark_seen}
 use Rattle.granit_marks.proofs.stream.end_mark.Goals as goal
 
@@ -24,7 +24,8 @@ returns-clause-here g c = λ h k.
     let more = c.in_ok-refuse_more.ensures.here tail.0 tail.1 in
     let lexeme = rw (c.mark-end.ensures.here (steps 3 h) on) at
     (c.write_lexeme.ensures h (c.start_of-start.ensures h k)) in
-    let told = c.put_tail.ensures ∙ ap (λ (x : Lexeme). with_tail x (noted (tail_view c.in_ok-tail.tail))) lexeme in (
+    let told = c.put_tail.ensures ∙ ap (λ (x : Lexeme). with_tail x
+    (comment_kept (tail_view c.in_ok-tail.tail))) lexeme in (
       record { here = tail.0; laid = c.behind_end_mark.new.self },
       (more.0, refl),
       mark_seen c.args.asked c.args.ends h c.args.layouts.now (tail_view c.in_ok-tail.tail) tail.0 tail.2

@@ -1,7 +1,7 @@
 use Rattle.std.proofs.Common.{Bool, false, refl, sym, ap, subst, ◌∙◌, ◌≡◌, true}
 use Rattle.granit_error.specs.OptionsView.{options_of}
 use Rattle.granit_machine.specs.LexemeSort.{LexemeSort, sort_at}
-use Rattle.granit_reader.specs.SortViews.{SortFits, sort_view}
+use Rattle.granit_reader.specs.SortViews.{SortFits, lexeme_sort_view}
 use Rattle.granit_reader.proofs.MeetLemmas.{adjacent_or_not}
 use Rattle.granit_reader.specs.WithoutMemory.{sort_takes_none}
 use Rattle.granit_reader.proofs.SortLemmas.{sort_fits}
@@ -13,7 +13,7 @@ lexeme_by-requires g c = λ _. (
   (refl, tt),
   (
     λ h k.
-        subst (λ (b : Bool). SortFits b (sort_view c.sort_at-sort.result) h) c.is_in_flow.ensures
+        subst (λ (b : Bool). SortFits b (lexeme_sort_view c.sort_at-sort.result) h) c.is_in_flow.ensures
         (subst (λ (s : LexemeSort). SortFits c.is_in_flow.result s h) (sym (c.sort_at-sort.ensures h k))
         (sort_fits c.is_in_flow.result c.is_adjacent.result h (c.requires.clear h k))),
     (c.requires.room, (refl, c.requires.no_note)),

@@ -2,4 +2,4 @@ use Rattle.granit_shifted.proofs.FoundTells.{found_tells}
 use Rattle.granit_shifted.proofs.behind.the_text_behind_a_fault_is_read_as_its_own.Goals as goal
 
 pub returns : goal.returns
-returns c = λ o s stop led some none. found_tells o s none stop led some
+returns c = found_tells

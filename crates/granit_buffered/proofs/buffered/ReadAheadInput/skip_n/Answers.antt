@@ -1,13 +1,13 @@
 use Rattle.std.proofs.Common.{◌≡◌, subst, sym, arith}
-use Rattle.granit_input.specs.Unread.{past}
+use Rattle.granit_input.specs.Unread.{past_count}
 use Rattle.granit_input.proofs.OriginLemmas.{goes_nowhere, goes_on}
 use Rattle.granit_input.proofs.UnreadLemmas.{past_none, past_twice}
-use Rattle.granit_buffered.specs.Feeds.{Leaves}
+use Rattle.granit_buffered.specs.Feeds.{LeftInFeed}
 use Rattle.granit_buffered.proofs.buffered.ReadAheadInput.skip_n.Goals as goal
 
 pub taken-init : goal.taken-init
 taken-init g c = record {
-  told = λ u k. subst (Leaves g.F.Feed.told c.args.self.now.feed c.args.self.now.held.items) (sym (past_none u)) k;
+  told = λ u k. subst (LeftInFeed g.F.Feed.told c.args.self.now.feed c.args.self.now.held.items) (sym (past_none u)) k;
   count = omega arith;
   left = omega arith;
   window = omega arith;
@@ -17,8 +17,8 @@ taken-init g c = record {
 
 pub taken-preserved : goal.taken-preserved
 taken-preserved g c = record {
-  told = λ u k. subst (Leaves g.F.Feed.told c.skip.new.self.feed c.skip.new.self.held.items)
-      (past_twice c.taken.taken 1 u) (c.skip.ensures.unread (past c.taken.taken u) (c.taken.invariant.told u k));
+  told = λ u k. subst (LeftInFeed g.F.Feed.told c.skip.new.self.feed c.skip.new.self.held.items)
+      (past_twice c.taken.taken 1 u) (c.skip.ensures.unread (past_count c.taken.taken u) (c.taken.invariant.told u k));
   count = omega arith;
   left = omega (arith, c.taken.invariant.left, c.skip.ensures.moves.0);
   window = omega (arith, c.taken.invariant.window, c.taken.invariant.left, c.skip.ensures.moves.1);

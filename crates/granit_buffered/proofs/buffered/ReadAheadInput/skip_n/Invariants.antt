@@ -1,14 +1,14 @@
 use Rattle.std.proofs.Common.{◌-◌, ◌+◌, ◌≤◌, length, min}
 use Rattle.granit_base.specs.Place.{Unread}
 use Rattle.granit_input.specs.Origin.{Goes}
-use Rattle.granit_input.specs.Unread.{past}
-use Rattle.granit_buffered.specs.Feeds.{Leaves, origin_of}
+use Rattle.granit_input.specs.Unread.{past_count}
+use Rattle.granit_buffered.specs.Feeds.{LeftInFeed, origin_of}
 use Rattle.granit_buffered.proofs.buffered.ReadAheadInput.skip_n.Given as goal
 
 abbrev pub invariant-taken : goal.invariant-taken
 invariant-taken g l = record {
-  told : (u : Unread) → Leaves g.F.Feed.told l.fn.self.feed l.fn.self.held.items u
-      → Leaves g.F.Feed.told l.self.feed l.self.held.items (past l.taken u);
+  told : (u : Unread) → LeftInFeed g.F.Feed.told l.fn.self.feed l.fn.self.held.items u
+      → LeftInFeed g.F.Feed.told l.self.feed l.self.held.items (past_count l.taken u);
   count : l.taken ≤ l.count;
   left : length l.self.held.items + g.F.Feed.bound l.self.feed
       ≤ length l.fn.self.held.items + g.F.Feed.bound l.fn.self.feed - l.taken;

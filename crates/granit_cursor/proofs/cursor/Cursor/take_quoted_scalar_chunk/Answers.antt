@@ -3,7 +3,7 @@ use Rattle.std.specs.Str.{chars}
 use Rattle.std.proofs.lemmas.Str.{chars-nil}
 use Rattle.granit_input.specs.Origin.{Goes}
 use Rattle.granit_input.specs.Runs.{starts, is_quoted_char}
-use Rattle.granit_input.specs.Unread.{past}
+use Rattle.granit_input.specs.Unread.{past_count}
 use Rattle.granit_input.proofs.OriginLemmas.{goes_nowhere}
 use Rattle.granit_lexemes.specs.Moves.{steps}
 use Rattle.granit_cursor.proofs.MoveLemmas.{stands_at, lands, quoted_shows}
@@ -27,12 +27,12 @@ returns-in-Some-source_since g c =
               (sym c.in-Some.is ∙ c.source_offset.ensures h.unread k.0) in
               let stood = stands_at g.T.Input.unread _ _ h c.self.view_is k in
               let taken = c.skip_run-taken.ensures.skips h.unread stood.0 in
-              let after = g.met.T.Input.agrees c.skip_run-taken.new.self (past n h.unread) taken.1 in
+              let after = g.met.T.Input.agrees c.skip_run-taken.new.self (past_count n h.unread) taken.1 in
               let lent = lent_since (g.T.Input.origin c.args.self.now.input)
               (g.T.Input.origin c.skip_run-taken.new.self) (g.T.Input.left c.args.self.now.input)
               (g.T.Input.left c.skip_run-taken.new.self) h.unread n
               c.in-Some.start c.source_since.result goes before after there.0 there.1
-              (c.source_since.ensures (past n h.unread) taken.1) in
+              (c.source_since.ensures (past_count n h.unread) taken.1) in
               record {
                 counted = rw there.0 (whole_run (starts (is_quoted_char c.args.single)) h.unread.text
                     (g.T.Input.left c.self.inside.input) n (2 ^ 64 - 1) c.skip_run-taken.result.0
@@ -80,12 +80,12 @@ returns-in-None-source_since g c =
               (sym c.in-Some.is ∙ c.source_offset.ensures h.unread k.0) in
               let stood = stands_at g.T.Input.unread _ _ h c.self.view_is k in
               let taken = c.skip_run-taken.ensures.skips h.unread stood.0 in
-              let after = g.met.T.Input.agrees c.skip_run-taken.new.self (past n h.unread) taken.1 in
+              let after = g.met.T.Input.agrees c.skip_run-taken.new.self (past_count n h.unread) taken.1 in
               let lent = lent_since (g.T.Input.origin c.args.self.now.input)
               (g.T.Input.origin c.skip_run-taken.new.self) (g.T.Input.left c.args.self.now.input)
               (g.T.Input.left c.skip_run-taken.new.self) h.unread n
               c.in-Some.start c.source_since.result goes before after there.0 there.1
-              (c.source_since.ensures (past n h.unread) taken.1) in
+              (c.source_since.ensures (past_count n h.unread) taken.1) in
               let none : is_some c.source_since.result ≡ false = ap is_some c.in-None-source_since.is in cc),
           (
             rw same (omega (arith, c.skip_run-taken.ensures.moves.0)),

@@ -4,7 +4,7 @@ use Rattle.std.proofs.lemmas.Result.{err_from_is_err_and}
 use Rattle.std.proofs.lemmas.List.{append-nil}
 use Rattle.granit_base.specs.Place.{first}
 use Rattle.granit_base.specs.Written.{string_chars}
-use Rattle.granit_input.specs.Unread.{past}
+use Rattle.granit_input.specs.Unread.{past_count}
 use Rattle.granit_input.specs.Runs.{run_test}
 use Rattle.granit_input.proofs.AppendLemmas.{extends_none, extends_more, appended_more}
 use Rattle.granit_input.proofs.OriginLemmas.{goes_nowhere, goes_on}
@@ -30,7 +30,7 @@ run-init g c = record {
 pub returns-then-not-next_in-clause-fetches : goal.returns-then-not-next_in-clause-fetches
 returns-then-not-next_in-clause-fetches g c = λ u k.
     let so_far = c.run.invariant.told u k in
-    let look = c.next_in.ensures.look (past c.run.count u) so_far.0 in
+    let look = c.next_in.ensures.look (past_count c.run.count u) so_far.0 in
     let text = past_text c.run.count u in
     let stop : run_test c.args.run (drop c.run.count u.text) ≡ false = cc in
     (front_ended (run_test c.args.run) u.text c.args.limit c.run.count so_far.1 stop, look.0, so_far.2)
@@ -38,7 +38,7 @@ returns-then-not-next_in-clause-fetches g c = λ u k.
 pub returns-in_err-push_char-clause-fetches : goal.returns-in_err-push_char-clause-fetches
 returns-in_err-push_char-clause-fetches g c = λ u k.
     let so_far = c.run.invariant.told u k in
-    let look = c.next_in.ensures.look (past c.run.count u) so_far.0 in
+    let look = c.next_in.ensures.look (past_count c.run.count u) so_far.0 in
     let err = err_from_is_err_and c.from_residual.result c.from_residual.ensures.1 in
     rw err.1 (record {
       count = c.run.count;
@@ -51,12 +51,13 @@ pub run-preserved : goal.run-preserved
 run-preserved g c = record {
   told = λ u k.
       let so_far = c.run.invariant.told u k in
-      let look = c.next_in.ensures.look (past c.run.count u) so_far.0 in
+      let look = c.next_in.ensures.look (past_count c.run.count u) so_far.0 in
       let text = past_text c.run.count u in
       let go : run_test c.args.run (drop c.run.count u.text) ≡ true = cc in
       let some = passes_some (run_test c.args.run) (drop c.run.count u.text) (run_nul c.args.run) go in
-      let next = c.skip.ensures.unread (past c.run.count u) look.0 in
-      let seen : c.peek.result ≡ first (drop c.run.count u.text) = c.peek.ensures.value (past c.run.count u) look.0
+      let next = c.skip.ensures.unread (past_count c.run.count u) look.0 in
+      let seen : c.peek.result ≡ first (drop c.run.count u.text) = c.peek.ensures.value
+      (past_count c.run.count u) look.0
       ∙ ap first text in (
         subst (g.Self.Input.unread c.skip.new.self) (past_twice c.run.count 1 u) next,
         front_more (run_test c.args.run) u.text c.run.count (run_nul c.args.run) so_far.1 go,

@@ -1,7 +1,7 @@
 use Rattle.std.proofs.Common.{◌≡◌, ◌≤◌, ◌+◌, ◌++◌, take}
 use Rattle.granit_base.specs.Place.{Unread}
 use Rattle.granit_base.specs.Written.{string_chars}
-use Rattle.granit_input.specs.Unread.{past}
+use Rattle.granit_input.specs.Unread.{past_count}
 use Rattle.granit_input.specs.Origin.{Goes}
 use Rattle.granit_input.specs.Runs.{run_test}
 use Rattle.granit_input.specs.Chunks.{Extends}
@@ -11,7 +11,7 @@ use Rattle.granit_input.proofs.input.Input.fetch_run.Given as goal
 abbrev pub invariant-run : goal.invariant-run
 invariant-run g l = record {
   told : (u : Unread) → g.Self.Input.unread l.fn.self u
-      → g.Self.Input.unread l.self (past l.count u) × IsFront (run_test l.run) u.text l.count
+      → g.Self.Input.unread l.self (past_count l.count u) × IsFront (run_test l.run) u.text l.count
       × (string_chars l.out ≡ string_chars l.fn.out ++ take l.count u.text);
   kept : Extends (string_chars l.fn.out) (string_chars l.out);
   limit : l.count ≤ l.limit;

@@ -1,5 +1,5 @@
 use Rattle.std.proofs.Common.{◌≡◌, true, false, drop, subst, sym, arith}
-use Rattle.granit_input.specs.Unread.{past}
+use Rattle.granit_input.specs.Unread.{past_count}
 use Rattle.granit_input.specs.Runs.{run_test}
 use Rattle.granit_input.proofs.OriginLemmas.{goes_nowhere, goes_on}
 use Rattle.granit_input.proofs.RunLemmas.{run_nul, front_none, front_more, front_ended}
@@ -22,7 +22,7 @@ run-init g c = record {
 pub returns-then-not-next_in-clause-skips : goal.returns-then-not-next_in-clause-skips
 returns-then-not-next_in-clause-skips g c = λ u k.
     let so_far = c.run.invariant.told u k in
-    let look = c.next_in.ensures.look (past c.run.count u) so_far.0 in
+    let look = c.next_in.ensures.look (past_count c.run.count u) so_far.0 in
     let text = past_text c.run.count u in
     let stop : run_test c.args.run (drop c.run.count u.text) ≡ false = cc in
     (front_ended (run_test c.args.run) u.text c.args.limit c.run.count so_far.1 stop, look.0)
@@ -31,10 +31,10 @@ pub run-preserved : goal.run-preserved
 run-preserved g c = record {
   told = λ u k.
       let so_far = c.run.invariant.told u k in
-      let look = c.next_in.ensures.look (past c.run.count u) so_far.0 in
+      let look = c.next_in.ensures.look (past_count c.run.count u) so_far.0 in
       let text = past_text c.run.count u in
       let go : run_test c.args.run (drop c.run.count u.text) ≡ true = cc in
-      let next = c.skip.ensures.unread (past c.run.count u) look.0 in (
+      let next = c.skip.ensures.unread (past_count c.run.count u) look.0 in (
         subst (g.Self.Input.unread c.skip.new.self) (past_twice c.run.count 1 u) next,
         front_more (run_test c.args.run)
             u.text c.run.count (run_nul c.args.run) so_far.1 go,

@@ -1,6 +1,6 @@
 use Rattle.std.proofs.Common.{◌≡◌, true, false, drop, subst, sym, ap, ◌∙◌, arith}
 use Rattle.granit_base.specs.Place.{first}
-use Rattle.granit_input.specs.Unread.{past}
+use Rattle.granit_input.specs.Unread.{past_count}
 use Rattle.granit_input.specs.Runs.{starts}
 use Rattle.granit_input.specs.White.{is_skipped, found_more}
 use Rattle.granit_input.specs.declared.whitespace.WhitespaceResult.{WhitespaceResult}
@@ -26,7 +26,7 @@ blanks-init g c = record {
 pub returns-then-not-skips-clause-skips : goal.returns-then-not-skips-clause-skips
 returns-then-not-skips-clause-skips g c = λ u k.
     let so_far = c.blanks.invariant.told u k in
-    let look = c.look_ch-c.ensures.look (past c.blanks.count u) so_far.0 in
+    let look = c.look_ch-c.ensures.look (past_count c.blanks.count u) so_far.0 in
     let text = past_text c.blanks.count u in
     let stop : is_skipped c.args.skip_tabs (first (drop c.blanks.count u.text)) ≡ false = cc in
     (front_whole (starts (is_skipped c.args.skip_tabs)) u.text c.blanks.count so_far.1 stop, so_far.2, look.0)
@@ -35,13 +35,13 @@ pub blanks-preserved : goal.blanks-preserved
 blanks-preserved g c = record {
   told = λ u k.
       let so_far = c.blanks.invariant.told u k in
-      let look = c.look_ch-c.ensures.look (past c.blanks.count u) so_far.0 in
+      let look = c.look_ch-c.ensures.look (past_count c.blanks.count u) so_far.0 in
       let text = past_text c.blanks.count u in
       let seen : c.look_ch-c.result ≡ first (drop c.blanks.count u.text) = look.1 ∙ ap first text in
       let go : is_skipped c.args.skip_tabs (first (drop c.blanks.count u.text)) ≡ true = cc in
       let some = passes_some (starts (is_skipped c.args.skip_tabs)) (drop c.blanks.count u.text)
       (skipped_nul c.args.skip_tabs) go in
-      let next = c.skip.ensures.unread (past c.blanks.count u) look.0 in (
+      let next = c.skip.ensures.unread (past_count c.blanks.count u) look.0 in (
         subst (g.Self.Input.unread c.skip.new.self) (past_twice c.blanks.count 1 u) next,
         front_more (starts (is_skipped c.args.skip_tabs)) u.text c.blanks.count (skipped_nul c.args.skip_tabs) so_far.1
             go,

@@ -1,13 +1,14 @@
 use Rattle.std.proofs.Common.{◌≡◌, ◌-◌, ◌+◌, ◌≤◌, ℕ, List, length, true}
-use Rattle.granit_input_tests.specs.Stream.{Holds}
+use Rattle.granit_input_tests.specs.Stream.{StreamHolds}
 use Rattle.granit_input_tests.proofs.stream.Stream.fill.Given as goal
 use Rattle.granit_buffered.specs.Feeds.{still_left}
 
 abbrev pub invariant-fill : goal.invariant-fill
 invariant-fill g l = record {
-  told : (xs : List ℕ) → Holds g.T.Iterator.next_gives g.T.Iterator.remaining l.fn.self.tail.done
+  told : (xs : List ℕ) → StreamHolds g.T.Iterator.next_gives g.T.Iterator.remaining l.fn.self.tail.done
       l.fn.self.tail.iterator l.fn.self.held.items xs
-      → Holds g.T.Iterator.next_gives g.T.Iterator.remaining l.self.tail.done l.self.tail.iterator l.self.held.items xs;
+      → StreamHolds g.T.Iterator.next_gives g.T.Iterator.remaining l.self.tail.done
+      l.self.tail.iterator l.self.held.items xs;
   left : length l.self.held.items + still_left l.self.tail.done (g.T.Iterator.remaining l.self.tail.iterator)
       ≤ length l.fn.self.held.items + still_left l.fn.self.tail.done (g.T.Iterator.remaining l.fn.self.tail.iterator);
   window : l.self.window ≡ l.fn.self.window;

@@ -11,7 +11,7 @@ use Rattle.granit_stepper.specs.Recovering.{Looks}
 pub returns-then-tells-clause-known : goal.returns-then-tells-clause-known
 returns-then-tells-clause-known g c = λ stops looked calls asks.
     follows_told g.T.Input.unread stops looked calls c.args.self.now asks
-    (ap spec.tells (sym c.seen.ensures) ∙ sym c.tells.ensures ∙ c.if-tells.true)
+    (ap spec.seen_tells_document (sym c.seen.ensures) ∙ sym c.tells.ensures ∙ c.if-tells.true)
 
 pub invariant_of-self : goal.invariant_of-self
 invariant_of-self g c = (
@@ -34,8 +34,8 @@ returns-clause-known g c = λ stops looked calls asks.
     (record inside { stepper = c.document_follows.new.self })
     c.document_follows.result c.document_follows.ensures.options c.document_follows.ensures.first refl
     (subst (λ (p : Parsing _). AsksBy g.T.Input.unread stops looked p.peeked p.stepper calls) (sym c.self.view_is) asks)
-    (ap (λ (p : Parsing _). spec.tells (seen_in p.peeked)) c.self.view_is
-    ∙ ap spec.tells (sym c.seen.ensures) ∙ sym c.tells.ensures ∙ c.if-tells.false)
+    (ap (λ (p : Parsing _). spec.seen_tells_document (seen_in p.peeked)) c.self.view_is
+    ∙ ap spec.seen_tells_document (sym c.seen.ensures) ∙ sym c.tells.ensures ∙ c.if-tells.false)
     (λ m stands first turned. subst (λ (n : ℕ). UnlessMemory c.document_follows.result
     (Looks g.T.Input.unread c.self.inside.stepper.scanner.options n c.document_follows.result
     c.document_follows.new.self

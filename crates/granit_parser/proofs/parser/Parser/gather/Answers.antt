@@ -4,17 +4,22 @@ use Rattle.granit_error.specs.OptionsData.{OptionsData}
 use Rattle.granit_error.specs.Refused.{Refused}
 use Rattle.granit_event.specs.declared.event.Event.{Event}
 use Rattle.granit_event.specs.Events.{plain_event, plain_events}
-use Rattle.granit_parser.proofs.GatherLemmas.{gathered_first, went, went_err, went_ok}
+use Rattle.granit_parser.proofs.GatherLemmas.{gathered_first, none_numbered, went, went_err, went_ok}
 use Rattle.granit_parser.proofs.SendLemmas.{TookOr}
 use Rattle.granit_parser.proofs.SourceLemmas.{moves_seen, never_told}
 use Rattle.granit_parser.proofs.parser.Parser.gather.Goals as goal
 use Rattle.granit_parser.specs.Gathering.{Gathered, GathersAll}
-use Rattle.granit_parser.specs.Parsing.{Keeps, none_given}
+use Rattle.granit_parser.specs.Parsing.{KeepsGiven, none_given}
 
 pub returns-in-None-clause-known : goal.returns-in-None-clause-known
 returns-in-None-clause-known g c = λ m at.
     let t = never_told (c.in-None.ensures.known m at) in
-    rw c.new.ensures.items (m, none_given, (t.0, t.2))
+    let few = none_numbered g.T.Input.unread m c.args.self.now.peeked c.args.self.now.stepper
+    c.next_event.new.self.stepper c.in-None.ensures.seen at in
+    rw c.new.ensures.items (m, none_given, few, (t.0, t.2))
+
+pub returns-in-None-clause-over : goal.returns-in-None-clause-over
+returns-in-None-clause-over g c = λ over. (c.new.ensures.items, tt)
 
 pub returns-in-None-clause-goes : goal.returns-in-None-clause-goes
 returns-in-None-clause-goes g c = moves_seen g.T.Input.left g.T.Input.origin None c.args.self.now.peeked
@@ -28,6 +33,10 @@ returns-in-Some-Err-clause-known g c = λ m at. (
   subst (λ (r : Result (Event × Span) Refused). TookOr g.T.Input.unread g.T.Input.origin c.args.self.now (Some r)
       c.next_event.new.self) c.in-Some-Err.field-0-is c.in-Some-Err.ensures.known m at,
 )
+
+pub returns-in-Some-Err-clause-over : goal.returns-in-Some-Err-clause-over
+returns-in-Some-Err-clause-over g c = λ over.
+    absurd (let clash : Some c.in-Some-Err.field-0 ≡ None = (c.in-Some-Err.ensures.over over).0 in cc)
 
 pub returns-in-Some-Err-clause-failed : goal.returns-in-Some-Err-clause-failed
 returns-in-Some-Err-clause-failed g c = went g.T.Input.left g.T.Input.origin c.in-Some-Err.field-0
@@ -48,6 +57,10 @@ returns-in-Some-Ok-clause-known g c = λ m at.
     → GathersAll g.T.Input.origin p m c.gather_behind.result (λ v. plain_events v.items) c.gather_behind.new.self)
     c.in-Some-Ok.ensures.options (c.gather_behind.ensures.known m)
     (gathered_first unread o m mid (plain_event e) c.in-Some-Ok.ensures.peeked t.0 t.1 t.2)
+
+pub returns-in-Some-Ok-clause-over : goal.returns-in-Some-Ok-clause-over
+returns-in-Some-Ok-clause-over g c = λ over.
+    absurd (let clash : Some c.in-Some-Ok.field-0 ≡ None = (c.in-Some-Ok.ensures.over over).0 in cc)
 
 pub returns-in-Some-Ok-clause-goes : goal.returns-in-Some-Ok-clause-goes
 returns-in-Some-Ok-clause-goes g c = went_ok c.gather_behind.result
@@ -70,7 +83,7 @@ returns-in-Some-Ok-clause-failed g c = went_err c.gather_behind.result
 pub returns-in-Some-Err-clause-given : goal.returns-in-Some-Err-clause-given
 returns-in-Some-Err-clause-given g c =
     let kept = subst
-    (λ (r : Result (Event × Span) Refused). Keeps (Some r) c.args.self.now.given c.next_event.new.self.given)
+    (λ (r : Result (Event × Span) Refused). KeepsGiven (Some r) c.args.self.now.given c.next_event.new.self.given)
     c.in-Some-Err.field-0-is c.in-Some-Err.ensures.given in
     (kept.0, kept.1)
 

@@ -11,7 +11,7 @@ use Rattle.granit_parser.proofs.SendLemmas.{sent_no_more}
 use Rattle.granit_parser.proofs.SourceLemmas.{goes_giving, moves_behind}
 use Rattle.granit_parser.proofs.WantLemmas.{counts_all, counts_more, counts_none, starves_by}
 use Rattle.granit_parser.proofs.parser.Parser.load_rest.Goals as goal
-use Rattle.granit_parser.specs.Parsing.{Keeps}
+use Rattle.granit_parser.specs.Parsing.{KeepsGiven}
 use Rattle.granit_receivers.specs.Sending.{is_last}
 use Rattle.granit_receivers.proofs.TakingLemmas.{took_one}
 use Rattle.granit_receivers.specs.Taking.{Told, Took}
@@ -85,7 +85,8 @@ events-preserved g c =
       same = c.in-Some-Ok.ensures.options ∙ c.events.invariant.same;
       renumbered = c.in-Some-Ok.ensures.renumbered ∙ c.events.invariant.renumbered;
       given =
-          subst (λ (y : Result (Event × Span) Refused). Keeps (Some y) c.events.self.given c.next_event.new.self.given)
+          subst (λ (y : Result (Event × Span) Refused). KeepsGiven (Some y) c.events.self.given
+          c.next_event.new.self.given)
           c.in-Some-Ok.field-0-is c.in-Some-Ok.ensures.given ∙ c.events.invariant.given;
       moves =
           let more = moves_behind g.T.Input.unread g.T.Input.left g.T.Input.origin

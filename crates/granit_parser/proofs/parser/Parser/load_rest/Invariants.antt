@@ -5,7 +5,7 @@ use Rattle.granit_parser.proofs.MetLemmas.{Quiet}
 use Rattle.granit_parser.proofs.SendLemmas.{SentFirst}
 use Rattle.granit_parser.proofs.WantLemmas.{CountsTo}
 use Rattle.granit_parser.specs.Recovering.{IsOpen, ParserIn}
-use Rattle.granit_recovery.specs.Streams.{Reached}
+use Rattle.granit_recovery.specs.Streams.{ReachedByCalls}
 use Rattle.granit_restart.specs.Calls.{Calls}
 use Rattle.granit_parser.proofs.parser.Parser.load_rest.Given as goal
 
@@ -14,7 +14,8 @@ invariant-events g l = record {
   sent : SentFirst g.T.Input.unread l.fn.self l.self l.multi
       (record { events = g.R.SpannedEventReceiver.taken l.fn.recv; places = g.R.SpannedEventReceiver.spans l.fn.recv })
       (record { events = g.R.SpannedEventReceiver.taken l.recv; places = g.R.SpannedEventReceiver.spans l.recv });
-  led : (c : Calls) → Reached l.fn.self.stepper.scanner.options c → IsOpen c → ParserIn g.T.Input.unread l.fn.self c
+  led : (c : Calls) → ReachedByCalls l.fn.self.stepper.scanner.options c → IsOpen c
+      → ParserIn g.T.Input.unread l.fn.self c
       → LedFirst g.T.Input.unread l.fn.self.stepper.scanner.options l.multi c l.self
       (record {
         events = g.R.SpannedEventReceiver.taken l.fn.recv;

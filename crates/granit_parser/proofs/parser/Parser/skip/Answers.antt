@@ -28,7 +28,8 @@ returns-then-stays-clause-known g c = λ calls reached at over refusal end.
     none_dropped g.T.Input.unread p calls reached at over refusal (c.a_look_tells_where_recovery_asks.ensures.here o)
     (c.calls_go_by_turns.ensures o) (c.a_comment_takes_room_where_recovery_asks.ensures.here o)
     (sym c.has_failed.ensures ∙ c.if-has_failed.false)
-    (ap (λ s. p.between && not (spec.starts s)) (sym c.seen-seen.ensures) ∙ sym c.stays.ensures ∙ c.if-stays.true) end
+    (ap (λ s. p.between && not (spec.seen_starts_document s)) (sym c.seen-seen.ensures)
+    ∙ sym c.stays.ensures ∙ c.if-stays.true) end
 
 pub returns-then-ends-clause-known : goal.returns-then-ends-clause-known
 returns-then-ends-clause-known g c = λ calls reached at over refusal end.
@@ -37,8 +38,9 @@ returns-then-ends-clause-known g c = λ calls reached at over refusal end.
     end_dropped g.T.Input.unread p calls reached at over refusal (c.a_look_tells_where_recovery_asks.ensures.here o)
     (c.calls_go_by_turns.ensures o) c.forget.new.self c.forget.ensures
     (sym c.has_failed.ensures ∙ c.if-has_failed.false)
-    (ap (λ s. p.between && not (spec.starts s)) (sym c.seen-seen.ensures) ∙ sym c.stays.ensures ∙ c.if-stays.false)
-    (ap spec.ends (sym c.seen-seen.ensures) ∙ sym c.ends.ensures ∙ c.if-ends.true)
+    (ap (λ s. p.between && not (spec.seen_starts_document s)) (sym c.seen-seen.ensures)
+    ∙ sym c.stays.ensures ∙ c.if-stays.false)
+    (ap spec.seen_ends_document (sym c.seen-seen.ensures) ∙ sym c.ends.ensures ∙ c.if-ends.true)
 
 pub returns-clause-known : goal.returns-clause-known
 returns-clause-known g c = λ calls reached at over refusal end.
@@ -57,5 +59,7 @@ returns-clause-known g c = λ calls reached at over refusal end.
     }) c.skip_document.ensures.options (ap (λ (x : Parsing _). x.peeked) same)
     c.skip_document.result c.skip_document.ensures.first (c.a_look_tells_where_recovery_asks.ensures.looked o)
     (sym c.has_failed.ensures ∙ c.if-has_failed.false)
-    (ap (λ s. p.between && not (spec.starts s)) (sym c.seen-seen.ensures) ∙ sym c.stays.ensures ∙ c.if-stays.false)
-    (ap spec.ends (sym c.seen-seen.ensures) ∙ sym c.ends.ensures ∙ c.if-ends.false) end c.skip_document.ensures.known
+    (ap (λ s. p.between && not (spec.seen_starts_document s)) (sym c.seen-seen.ensures)
+    ∙ sym c.stays.ensures ∙ c.if-stays.false)
+    (ap spec.seen_ends_document (sym c.seen-seen.ensures) ∙ sym c.ends.ensures ∙ c.if-ends.false) end
+    c.skip_document.ensures.known

@@ -2,8 +2,8 @@ use Rattle.std.proofs.Common.{refl, ap, subst, sym, ◌∙◌}
 use Rattle.granit_parser.proofs.GoesLemmas.{ends_view, gives_view, goes_reads, lost_view}
 use Rattle.granit_parser.proofs.parser.Parser.step_event.Goals as goal
 use Rattle.granit_parser.specs.Parsing.{Parsing, next_view}
-use Rattle.granit_parser.specs.Recovering.{Goes}
-use Rattle.granit_recovery.specs.Streams.{Reached}
+use Rattle.granit_parser.specs.Recovering.{GoesWithCalls}
+use Rattle.granit_recovery.specs.Streams.{ReachedByCalls}
 use Rattle.granit_stepper.specs.Stepping.{StandsIn}
 
 pub returns-clause-known : goal.returns-clause-known
@@ -16,11 +16,12 @@ pub returns-clause-calls : goal.returns-clause-calls
 returns-clause-calls g c = λ calls reached goes. rw c.next_of.ensures
     (goes_reads g.T.Input.unread c.self.inside.stepper c.next_event.new.self
     c.self.inside.stepper.scanner.options refl c.next_event.ensures.options calls
-    (subst (λ (p : Parsing _). Goes g.T.Input.unread p.stepper calls) (sym c.self.view_is) goes) c.next_event.result
+    (subst (λ (p : Parsing _). GoesWithCalls g.T.Input.unread p.stepper calls) (sym c.self.view_is)
+    goes) c.next_event.result
     c.next_event.ensures.failed c.next_event.ensures.renumbered c.next_event.ensures.known
     c.next_event.ensures.refused c.next_event.ensures.ahead c.next_event.ensures.first
     (c.calls_go_by_turns.ensures c.self.inside.stepper.scanner.options calls
-    (subst (λ (p : Parsing _). Reached p.stepper.scanner.options calls) (sym c.self.view_is) reached)))
+    (subst (λ (p : Parsing _). ReachedByCalls p.stepper.scanner.options calls) (sym c.self.view_is) reached)))
 
 pub returns-clause-refused : goal.returns-clause-refused
 returns-clause-refused g c = rw c.next_of.ensures

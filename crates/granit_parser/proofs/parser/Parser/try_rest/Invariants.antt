@@ -5,7 +5,7 @@ use Rattle.granit_parser.proofs.MetLemmas.{Quiet}
 use Rattle.granit_parser.proofs.SendLemmas.{SentFirst}
 use Rattle.granit_parser.proofs.WantLemmas.{CountsTo}
 use Rattle.granit_parser.specs.Recovering.{IsOpen, ParserIn}
-use Rattle.granit_recovery.specs.Streams.{Reached}
+use Rattle.granit_recovery.specs.Streams.{ReachedByCalls}
 use Rattle.granit_restart.specs.Calls.{Calls}
 use Rattle.granit_parser.proofs.parser.Parser.try_rest.Given as goal
 
@@ -17,7 +17,8 @@ invariant-events g l = record {
         places = g.R.TrySpannedEventReceiver.spans l.fn.recv;
       })
       (record { events = g.R.TrySpannedEventReceiver.taken l.recv; places = g.R.TrySpannedEventReceiver.spans l.recv });
-  led : (c : Calls) → Reached l.fn.self.stepper.scanner.options c → IsOpen c → ParserIn g.T.Input.unread l.fn.self c
+  led : (c : Calls) → ReachedByCalls l.fn.self.stepper.scanner.options c → IsOpen c
+      → ParserIn g.T.Input.unread l.fn.self c
       → LedFirst g.T.Input.unread l.fn.self.stepper.scanner.options l.multi c l.self
       (record {
         events = g.R.TrySpannedEventReceiver.taken l.fn.recv;

@@ -1,11 +1,11 @@
 use Rattle.std.proofs.Common.{List, sym, subst}
 use Rattle.granit_queue.specs.QueueViews.{queue_view}
-use Rattle.granit_queue.specs.Rising.{Rising}
+use Rattle.granit_queue.specs.Rising.{NumbersRise}
 use Rattle.granit_queue.specs.declared.queue.Queued.{Queued}
 use Rattle.granit_queue.proofs.RisingLemmas.{without_first}
 use Rattle.granit_queue.proofs.queue.Queue.pop.Goals as goal
 
 pub invariant_of-self : goal.invariant_of-self
 invariant_of-self c =
-    subst (λ (qs : List Queued). Rising c.self.inside.numbers (queue_view qs)) (sym c.pop_front.ensures.rest)
+    subst (λ (qs : List Queued). NumbersRise c.self.inside.numbers (queue_view qs)) (sym c.pop_front.ensures.rest)
     (without_first c.self.inside.numbers c.self.inside.items.items c.self.invariant)

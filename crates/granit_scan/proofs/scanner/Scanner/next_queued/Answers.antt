@@ -3,7 +3,7 @@ use Rattle.std.specs.Prelude.{Option}
 use Rattle.granit_base.specs.Place.{Mark}
 use Rattle.granit_cursor.specs.declared.token.Token.{Token}
 use Rattle.granit_error.specs.Refused.{Refused}
-use Rattle.granit_scan.specs.Scanning.{GivesStart, KeepsCopy, Scanning}
+use Rattle.granit_scan.specs.Scanning.{GivesStart, KeepsCopy, TokenScanning}
 use Rattle.granit_scan.proofs.RecoveryLemmas.{refused_stays, rests_alike}
 use Rattle.granit_scan.proofs.SourceLemmas.{failed_on, fails_as, moves_on, no_start}
 use Rattle.granit_scan.proofs.StateLemmas.{gives_token, next_fails}
@@ -11,15 +11,15 @@ use Rattle.granit_scan.proofs.scanner.Scanner.next_queued.Goals as goal
 
 pub returns-in-Ok-clause-known : goal.returns-in-Ok-clause-known
 returns-in-Ok-clause-known g c = λ m at.
-    let same = ap (λ (s : Scanning g.row.T.Denot). s.items) c.take_token.ensures.rest in
+    let same = ap (λ (s : TokenScanning g.row.T.Denot). s.items) c.take_token.ensures.rest in
     failed_on g.T.Input.origin c.args.self.now c.ready.new.self c.take_token.new.self same (λ e no. absurd cc)
     (gives_token g.T.Input.unread c.in-Ok.field-0 c.args.self.now.items.options m c.ready.new.self
     c.take_token.new.self c.take_token.result c.take_token.ensures.known) (c.in-Ok.ensures.known m at)
 
 pub returns-in-Ok-clause-source : goal.returns-in-Ok-clause-source
 returns-in-Ok-clause-source g c = λ going.
-    let same = ap (λ (s : Scanning g.row.T.Denot). s.items) c.take_token.ensures.rest in
-    let kept = ap (λ (s : Scanning g.row.T.Denot). s.source_error) c.take_token.ensures.rest in
+    let same = ap (λ (s : TokenScanning g.row.T.Denot). s.items) c.take_token.ensures.rest in
+    let kept = ap (λ (s : TokenScanning g.row.T.Denot). s.source_error) c.take_token.ensures.rest in
     let start = subst (λ (first : Option Mark). GivesStart first (Ok c.take_token.result)) c.in-Ok.ensures.keeps.first
     c.take_token.ensures.start in
     failed_on g.T.Input.origin c.args.self.now c.ready.new.self c.take_token.new.self same
@@ -28,19 +28,19 @@ returns-in-Ok-clause-source g c = λ going.
 pub returns-in-Ok-clause-moves : goal.returns-in-Ok-clause-moves
 returns-in-Ok-clause-moves g c =
     moves_on g.T.Input.left g.T.Input.origin c.args.self.now c.ready.new.self c.take_token.new.self
-    (ap (λ (s : Scanning g.row.T.Denot). s.items) c.take_token.ensures.rest) c.in-Ok.ensures.moves
+    (ap (λ (s : TokenScanning g.row.T.Denot). s.items) c.take_token.ensures.rest) c.in-Ok.ensures.moves
 
 pub returns-in-Err-clause-known : goal.returns-in-Err-clause-known
 returns-in-Err-clause-known g c = λ m at.
-    let same = ap (λ (s : Scanning g.row.T.Denot). s.items) c.stop.ensures in
+    let same = ap (λ (s : TokenScanning g.row.T.Denot). s.items) c.stop.ensures in
     failed_on g.T.Input.origin c.args.self.now c.ready.new.self c.stop.new.self same
     (λ e is. fails_as (Unit {0}) (Option Token) c.in-Err.error e is)
     (next_fails g.T.Input.unread c.args.self.now.items.options m c.in-Err.error) (c.in-Err.ensures.known m at)
 
 pub returns-in-Err-clause-source : goal.returns-in-Err-clause-source
 returns-in-Err-clause-source g c = λ going.
-    let same = ap (λ (s : Scanning g.row.T.Denot). s.items) c.stop.ensures in
-    let kept = ap (λ (s : Scanning g.row.T.Denot). s.source_error) c.stop.ensures in
+    let same = ap (λ (s : TokenScanning g.row.T.Denot). s.items) c.stop.ensures in
+    let kept = ap (λ (s : TokenScanning g.row.T.Denot). s.source_error) c.stop.ensures in
     failed_on g.T.Input.origin c.args.self.now c.ready.new.self c.stop.new.self same
     (λ e is. (
       fails_as (Unit {0}) (Option Token) c.in-Err.error e is.0,
@@ -51,23 +51,24 @@ returns-in-Err-clause-source g c = λ going.
 pub returns-in-Err-clause-moves : goal.returns-in-Err-clause-moves
 returns-in-Err-clause-moves g c =
     moves_on g.T.Input.left g.T.Input.origin c.args.self.now c.ready.new.self c.stop.new.self
-    (ap (λ (s : Scanning g.row.T.Denot). s.items) c.stop.ensures) c.in-Err.ensures.moves
+    (ap (λ (s : TokenScanning g.row.T.Denot). s.items) c.stop.ensures) c.in-Err.ensures.moves
 
 pub returns-in-Ok-clause-refused : goal.returns-in-Ok-clause-refused
 returns-in-Ok-clause-refused g c = λ m at.
-    let same = ap (λ (s : Scanning g.row.T.Denot). s.items) c.take_token.ensures.rest in
+    let same = ap (λ (s : TokenScanning g.row.T.Denot). s.items) c.take_token.ensures.rest in
     failed_on g.T.Input.origin c.args.self.now c.ready.new.self c.take_token.new.self same (λ e u. u) (λ u. u)
     (c.in-Ok.ensures.refused m at)
 
 pub returns-in-Err-clause-refused : goal.returns-in-Err-clause-refused
 returns-in-Err-clause-refused g c = λ m at.
     let is = c.stop.ensures in
-    let same = ap (λ (s : Scanning g.row.T.Denot). s.items) is in
+    let same = ap (λ (s : TokenScanning g.row.T.Denot). s.items) is in
     failed_on g.T.Input.origin c.args.self.now c.ready.new.self c.stop.new.self same (λ e u. u)
     (refused_stays g.T.Input.unread c.args.self.now.items.options c.ready.new.self c.stop.new.self m
     (λ n r. rests_alike g.T.Input.unread c.ready.new.self c.stop.new.self n
-    (ap (λ (s : Scanning g.row.T.Denot). s.items.cursor) is) (ap (λ (s : Scanning g.row.T.Denot). s.items.laid) is)
-    (ap (λ (s : Scanning g.row.T.Denot). s.items.queue) is) (ap (λ (s : Scanning g.row.T.Denot). s.first) is)
-    (ap (λ (s : Scanning g.row.T.Denot). s.writer) is) r)
+    (ap (λ (s : TokenScanning g.row.T.Denot). s.items.cursor) is)
+    (ap (λ (s : TokenScanning g.row.T.Denot). s.items.laid) is)
+    (ap (λ (s : TokenScanning g.row.T.Denot). s.items.queue) is) (ap (λ (s : TokenScanning g.row.T.Denot). s.first) is)
+    (ap (λ (s : TokenScanning g.row.T.Denot). s.writer) is) r)
     (Unit {0}) (Option Token) c.in-Err.error)
     (c.in-Err.ensures.refused m at)

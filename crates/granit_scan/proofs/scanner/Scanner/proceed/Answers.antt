@@ -1,6 +1,6 @@
 use Rattle.std.proofs.Common.{false, refl, sym, ap, subst, ◌∙◌}
 use Rattle.std.specs.Option.{option_map}
-use Rattle.granit_scan.specs.Scanning.{Scanning}
+use Rattle.granit_scan.specs.Scanning.{TokenScanning}
 use Rattle.granit_scan.specs.TokenViews.{plain_token}
 use Rattle.granit_scan.proofs.RecoveryLemmas.{proceeds_still}
 use Rattle.granit_scan.proofs.SourceLemmas.{ready_fails, ready_gives, ready_moves}
@@ -11,13 +11,13 @@ use Rattle.granit_scan.proofs.scanner.Scanner.proceed.Goals as goal
 pub returns-in-None-clause-known : goal.returns-in-None-clause-known
 returns-in-None-clause-known g c = λ m rests told.
     let unread = g.T.Input.unread in
-    let asked = ap (λ (s : Scanning g.row.T.Denot). s.writer) c.ask_source.ensures.rest in
-    let given = ap (λ (s : Scanning g.row.T.Denot). s.writer) c.in-None.ensures.rest in
-    let items = ap (λ (s : Scanning g.row.T.Denot). s.items) c.in-None.ensures.rest in
+    let asked = ap (λ (s : TokenScanning g.row.T.Denot). s.writer) c.ask_source.ensures.rest in
+    let given = ap (λ (s : TokenScanning g.row.T.Denot). s.writer) c.in-None.ensures.rest in
+    let items = ap (λ (s : TokenScanning g.row.T.Denot). s.items) c.in-None.ensures.rest in
     ready_gives g.T.Input.origin c.args.self.now c.restart-restarted.new.self c.ask_source.new.self
     c.give_source_error.new.self c.restart-restarted.ensures.keeps.source_error
     c.restart-restarted.ensures.moves.1 c.ask_source.ensures.origin c.ask_source.ensures.place
-    c.ask_source.ensures.first (ap (λ (s : Scanning g.row.T.Denot). s.items) c.in-None.ensures.rest)
+    c.ask_source.ensures.first (ap (λ (s : TokenScanning g.row.T.Denot). s.items) c.in-None.ensures.rest)
     _ _ c.in-None.ensures.given
     (proceeds_still unread c.args.self.now.items.cursor (option_map plain_token c.args.token) m
     c.restart-restarted.result
@@ -31,7 +31,7 @@ returns-in-None-clause-source g c =
     ready_gives g.T.Input.origin c.args.self.now c.restart-restarted.new.self c.ask_source.new.self
     c.give_source_error.new.self c.restart-restarted.ensures.keeps.source_error
     c.restart-restarted.ensures.moves.1 c.ask_source.ensures.origin c.ask_source.ensures.place
-    c.ask_source.ensures.first (ap (λ (s : Scanning g.row.T.Denot). s.items) c.in-None.ensures.rest)
+    c.ask_source.ensures.first (ap (λ (s : TokenScanning g.row.T.Denot). s.items) c.in-None.ensures.rest)
     _ _ c.in-None.ensures.given (c.restart-restarted.ensures.refused, c.in-None.ensures.kept)
 
 pub returns-in-None-clause-moves : goal.returns-in-None-clause-moves
@@ -39,7 +39,7 @@ returns-in-None-clause-moves g c =
     ready_moves g.T.Input.origin (record c.args.self.now { failed = false }) c.restart-restarted.new.self
     c.ask_source.new.self c.give_source_error.new.self c.restart-restarted.ensures.keeps.source_error
     c.restart-restarted.ensures.moves.1 c.ask_source.ensures.origin c.ask_source.ensures.place
-    c.ask_source.ensures.first (ap (λ (s : Scanning g.row.T.Denot). s.items) c.in-None.ensures.rest)
+    c.ask_source.ensures.first (ap (λ (s : TokenScanning g.row.T.Denot). s.items) c.in-None.ensures.rest)
     g.T.Input.left c.restart-restarted.ensures.moves.0 c.ask_source.ensures.left
 
 pub returns-in-Some-clause-known : goal.returns-in-Some-clause-known
@@ -47,7 +47,8 @@ returns-in-Some-clause-known g c = λ m rests told.
     ready_fails g.T.Input.origin c.args.self.now c.restart-restarted.new.self c.ask_source.new.self
     c.give_source_error.new.self c.restart-restarted.ensures.keeps.source_error
     c.restart-restarted.ensures.moves.1 c.ask_source.ensures.origin c.ask_source.ensures.place
-    c.ask_source.ensures.first (ap (λ (s : Scanning g.row.T.Denot). s.items) c.in-Some.ensures.rest) _ _ c.in-Some.error
+    c.ask_source.ensures.first (ap (λ (s : TokenScanning g.row.T.Denot). s.items)
+    c.in-Some.ensures.rest) _ _ c.in-Some.error
     c.in-Some.ensures.given refl
 
 pub returns-in-Some-clause-source : goal.returns-in-Some-clause-source
@@ -55,7 +56,8 @@ returns-in-Some-clause-source g c =
     ready_fails g.T.Input.origin c.args.self.now c.restart-restarted.new.self c.ask_source.new.self
     c.give_source_error.new.self c.restart-restarted.ensures.keeps.source_error
     c.restart-restarted.ensures.moves.1 c.ask_source.ensures.origin c.ask_source.ensures.place
-    c.ask_source.ensures.first (ap (λ (s : Scanning g.row.T.Denot). s.items) c.in-Some.ensures.rest) _ _ c.in-Some.error
+    c.ask_source.ensures.first (ap (λ (s : TokenScanning g.row.T.Denot). s.items)
+    c.in-Some.ensures.rest) _ _ c.in-Some.error
     c.in-Some.ensures.given (refl, c.in-Some.ensures.kept)
 
 pub returns-in-Some-clause-moves : goal.returns-in-Some-clause-moves
@@ -63,5 +65,5 @@ returns-in-Some-clause-moves g c =
     ready_moves g.T.Input.origin (record c.args.self.now { failed = false }) c.restart-restarted.new.self
     c.ask_source.new.self c.give_source_error.new.self c.restart-restarted.ensures.keeps.source_error
     c.restart-restarted.ensures.moves.1 c.ask_source.ensures.origin c.ask_source.ensures.place
-    c.ask_source.ensures.first (ap (λ (s : Scanning g.row.T.Denot). s.items) c.in-Some.ensures.rest)
+    c.ask_source.ensures.first (ap (λ (s : TokenScanning g.row.T.Denot). s.items) c.in-Some.ensures.rest)
     g.T.Input.left c.restart-restarted.ensures.moves.0 c.ask_source.ensures.left

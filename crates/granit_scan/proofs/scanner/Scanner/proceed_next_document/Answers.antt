@@ -1,8 +1,8 @@
 use Rattle.std.proofs.Common.{false, Option, Some, sym, ap, subst, ◌∙◌}
 use Rattle.std.specs.Option.{option_map}
 use Rattle.granit_error.specs.Refused.{Refused}
-use Rattle.granit_scan.specs.Recovering.{Proceeds}
-use Rattle.granit_scan.specs.Scanning.{KeepsCopy, Scanning}
+use Rattle.granit_scan.specs.Recovering.{ScannerProceeds}
+use Rattle.granit_scan.specs.Scanning.{KeepsCopy, TokenScanning}
 use Rattle.granit_scan.specs.TokenViews.{plain_token}
 use Rattle.granit_scan.proofs.RecoveryLemmas.{rests}
 use Rattle.granit_scan.proofs.SourceLemmas.{failed_on, moves_on}
@@ -10,50 +10,50 @@ use Rattle.granit_scan.proofs.scanner.Scanner.proceed_next_document.Goals as goa
 
 pub returns-in-Ok-clause-known : goal.returns-in-Ok-clause-known
 returns-in-Ok-clause-known g c = λ m here told.
-    let same = ap (λ (s : Scanning g.row.T.Denot). s.items) c.revive.ensures in
+    let same = ap (λ (s : TokenScanning g.row.T.Denot). s.items) c.revive.ensures in
     failed_on g.T.Input.origin c.args.self.now c.proceed.new.self c.revive.new.self same (λ e no. absurd cc)
-    (λ there. subst (λ (s : Scanning g.row.T.Denot).
-    Proceeds g.T.Input.unread c.args.self.now.items.cursor (option_map plain_token c.args.token) m s)
+    (λ there. subst (λ (s : TokenScanning g.row.T.Denot).
+    ScannerProceeds g.T.Input.unread c.args.self.now.items.cursor (option_map plain_token c.args.token) m s)
     (sym c.revive.ensures) there)
     (c.in-Ok.ensures.known m here told)
 
 pub returns-in-Ok-clause-standing : goal.returns-in-Ok-clause-standing
 returns-in-Ok-clause-standing g c = λ m at told.
-    let same = ap (λ (s : Scanning g.row.T.Denot). s.items) c.revive.ensures in
+    let same = ap (λ (s : TokenScanning g.row.T.Denot). s.items) c.revive.ensures in
     failed_on g.T.Input.origin c.args.self.now c.proceed.new.self c.revive.new.self same (λ e no. absurd cc)
-    (λ there. subst (λ (s : Scanning g.row.T.Denot).
-    Proceeds g.T.Input.unread c.args.self.now.items.cursor (option_map plain_token c.args.token) m s)
+    (λ there. subst (λ (s : TokenScanning g.row.T.Denot).
+    ScannerProceeds g.T.Input.unread c.args.self.now.items.cursor (option_map plain_token c.args.token) m s)
     (sym c.revive.ensures) there)
     (c.in-Ok.ensures.known m (rests g.T.Input.unread c.args.self.now m at) told)
 
 pub returns-in-Ok-clause-source : goal.returns-in-Ok-clause-source
 returns-in-Ok-clause-source g c =
-    let same = ap (λ (s : Scanning g.row.T.Denot). s.items) c.revive.ensures in
-    let kept = ap (λ (s : Scanning g.row.T.Denot). s.source_error) c.revive.ensures in
+    let same = ap (λ (s : TokenScanning g.row.T.Denot). s.items) c.revive.ensures in
+    let kept = ap (λ (s : TokenScanning g.row.T.Denot). s.source_error) c.revive.ensures in
     failed_on g.T.Input.origin c.args.self.now c.proceed.new.self c.revive.new.self same
     (λ e no. absurd (let is = no.0 in cc)) (λ none. (none.0, kept ∙ none.1)) c.in-Ok.ensures.source
 
 pub returns-in-Ok-clause-moves : goal.returns-in-Ok-clause-moves
 returns-in-Ok-clause-moves g c =
     moves_on g.T.Input.left g.T.Input.origin (record c.args.self.now { failed = false }) c.proceed.new.self
-    c.revive.new.self (ap (λ (s : Scanning g.row.T.Denot). s.items) c.revive.ensures) c.in-Ok.ensures.moves
+    c.revive.new.self (ap (λ (s : TokenScanning g.row.T.Denot). s.items) c.revive.ensures) c.in-Ok.ensures.moves
 
 pub returns-in-Err-clause-known : goal.returns-in-Err-clause-known
 returns-in-Err-clause-known g c = λ m here told.
-    let same = ap (λ (s : Scanning g.row.T.Denot). s.items) c.stop.ensures in
+    let same = ap (λ (s : TokenScanning g.row.T.Denot). s.items) c.stop.ensures in
     failed_on g.T.Input.origin c.args.self.now c.proceed.new.self c.stop.new.self same (λ e is. is) (λ u. u)
     (c.in-Err.ensures.known m here told)
 
 pub returns-in-Err-clause-standing : goal.returns-in-Err-clause-standing
 returns-in-Err-clause-standing g c = λ m at told.
-    let same = ap (λ (s : Scanning g.row.T.Denot). s.items) c.stop.ensures in
+    let same = ap (λ (s : TokenScanning g.row.T.Denot). s.items) c.stop.ensures in
     failed_on g.T.Input.origin c.args.self.now c.proceed.new.self c.stop.new.self same (λ e is. is) (λ u. u)
     (c.in-Err.ensures.known m (rests g.T.Input.unread c.args.self.now m at) told)
 
 pub returns-in-Err-clause-source : goal.returns-in-Err-clause-source
 returns-in-Err-clause-source g c =
-    let same = ap (λ (s : Scanning g.row.T.Denot). s.items) c.stop.ensures in
-    let kept = ap (λ (s : Scanning g.row.T.Denot). s.source_error) c.stop.ensures in
+    let same = ap (λ (s : TokenScanning g.row.T.Denot). s.items) c.stop.ensures in
+    let kept = ap (λ (s : TokenScanning g.row.T.Denot). s.source_error) c.stop.ensures in
     failed_on g.T.Input.origin c.args.self.now c.proceed.new.self c.stop.new.self same
     (λ e is. (is.0, subst (λ (r : Option Refused). KeepsCopy (Some e) r) (sym kept) is.1))
     (λ none. (none.0, kept ∙ none.1)) c.in-Err.ensures.source
@@ -61,4 +61,4 @@ returns-in-Err-clause-source g c =
 pub returns-in-Err-clause-moves : goal.returns-in-Err-clause-moves
 returns-in-Err-clause-moves g c =
     moves_on g.T.Input.left g.T.Input.origin (record c.args.self.now { failed = false }) c.proceed.new.self
-    c.stop.new.self (ap (λ (s : Scanning g.row.T.Denot). s.items) c.stop.ensures) c.in-Err.ensures.moves
+    c.stop.new.self (ap (λ (s : TokenScanning g.row.T.Denot). s.items) c.stop.ensures) c.in-Err.ensures.moves

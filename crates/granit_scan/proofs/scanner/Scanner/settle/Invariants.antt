@@ -1,5 +1,5 @@
 use Rattle.granit_cursor.specs.Reading.{Moves}
-use Rattle.granit_scan.specs.Scanning.{Keeps}
+use Rattle.granit_scan.specs.Scanning.{ScannerKeeps}
 use Rattle.granit_scan.proofs.SettleLemmas.{Leads, SettlesAlike}
 use Rattle.granit_scan.proofs.scanner.Scanner.settle.Given as goal
 
@@ -7,6 +7,6 @@ abbrev pub invariant-turns : goal.invariant-turns
 invariant-turns g l = record {
   alike : SettlesAlike g.T.Input.unread l.fn.self l.self;
   leads : Leads g.T.Input.unread l.fn.self l.self;
-  keeps : Keeps l.fn.self l.self;
+  keeps : ScannerKeeps l.fn.self l.self;
   moves : Moves g.T.Input.unread g.T.Input.left g.T.Input.origin l.fn.self.items.cursor l.self.items.cursor;
 }

@@ -1,9 +1,9 @@
 use Rattle.std.proofs.Common.{sym, ap, ◌∙◌}
-use Rattle.granit_scan.specs.Scanning.{Scanning}
+use Rattle.granit_scan.specs.Scanning.{TokenScanning}
 use Rattle.granit_scan.proofs.StateLemmas.{start_waits}
 use Rattle.granit_scan.proofs.scanner.Scanner.settle_behind_start.Goals as goal
 
 pub returns-in-Some-clause-known : goal.returns-in-Some-clause-known
 returns-in-Some-clause-known g c = λ m at.
-    let told = sym (ap (λ (s : Scanning g.row.T.Denot). s.first) c.self.view_is) ∙ c.in-Some.is in
+    let told = sym (ap (λ (s : TokenScanning g.row.T.Denot). s.first) c.self.view_is) ∙ c.in-Some.is in
     start_waits g.T.Input.unread c.args.self.now m at (tt {0}) c.args.self.now.items.options c.in-Some.field-0 told

@@ -2,8 +2,8 @@ use Rattle.std.proofs.Common.{◌≡◌, [], true, false, ◌==◌, List, length
 use Rattle.granit_cursor.specs.Reading.{GivesTo}
 use Rattle.granit_error.specs.OptionsData.{OptionsData}
 use Rattle.granit_queue.specs.QueueViews.{queued_view}
-use Rattle.granit_scan.specs.Scanning.{Scanning, StandsIn, turn_view}
-use Rattle.granit_scan.specs.TokenSteps.{TokenState, TokenTurn, read_more}
+use Rattle.granit_scan.specs.Scanning.{ScannerIn, TokenScanning, token_turn_view}
+use Rattle.granit_scan.specs.TokenSteps.{TokenState, TokenTurn, read_more_tokens}
 use Rattle.granit_scan.specs.TokenViews.{PlainToken}
 use Rattle.granit_scan.proofs.RecoveryLemmas.{memory_rests}
 use Rattle.granit_scan.proofs.StateLemmas.{waiting}
@@ -12,7 +12,7 @@ use Rattle.granit_scan.proofs.scanner.Scanner.turn.Goals as goal
 
 pub returns-then-not-is_empty-clause-known : goal.returns-then-not-is_empty-clause-known
 returns-then-not-is_empty-clause-known g c = λ m at told.
-    let writer = ap (λ (s : Scanning g.row.T.Denot). s.writer.waiting) c.self.view_is in
+    let writer = ap (λ (s : TokenScanning g.row.T.Denot). s.writer.waiting) c.self.view_is in
     let some : (length c.self.inside.writer.waiting == 0) ≡ false =
     sym c.is_empty.ensures ∙ c.if-not-is_empty.true in
     let pending = waiting g.T.Input.unread c.args.self.now m at told ∙ sym writer in (
@@ -27,7 +27,7 @@ returns-in-Some-clause-known g c = λ m at told.
     let o = c.args.self.now.items.options in
     let i = queued_view c.in-Some.queued in
     let after = c.write_item.new.self in
-    let writer = ap (λ (s : Scanning g.row.T.Denot). s.writer.waiting) c.self.view_is in
+    let writer = ap (λ (s : TokenScanning g.row.T.Denot). s.writer.waiting) c.self.view_is in
     let none : (length c.self.inside.writer.waiting == 0) ≡ true =
     sym c.is_empty.ensures ∙ c.if-not-is_empty.false in
     let pending : m.pending ≡ [] =
@@ -35,7 +35,7 @@ returns-in-Some-clause-known g c = λ m at told.
     let free = c.in-Some.ensures.known m at in
     let behind : TokenState = record m { queue = free.0 } in
     let wrote = c.write_item.ensures.known behind free.3 (c.in-Some.ensures.keeps.first ∙ told) pending in
-    subst (λ (r : TokenTurn). GivesTo turn_view c.write_item.result (StandsIn unread after) r)
+    subst (λ (r : TokenTurn). GivesTo token_turn_view c.write_item.result (ScannerIn unread after) r)
     (sym (turn_writes o m i free.0 pending free.1 free.2)) wrote
 
 pub returns-in-None-clause-known : goal.returns-in-None-clause-known
@@ -43,7 +43,7 @@ returns-in-None-clause-known g c = λ m at told.
     let unread = g.T.Input.unread in
     let o = c.args.self.now.items.options in
     let after = c.read_more.new.self in
-    let writer = ap (λ (s : Scanning g.row.T.Denot). s.writer.waiting) c.self.view_is in
+    let writer = ap (λ (s : TokenScanning g.row.T.Denot). s.writer.waiting) c.self.view_is in
     let none : (length c.self.inside.writer.waiting == 0) ≡ true =
     sym c.is_empty.ensures ∙ c.if-not-is_empty.false in
     let pending : m.pending ≡ [] =
@@ -51,9 +51,10 @@ returns-in-None-clause-known g c = λ m at told.
     let free = c.in-None.ensures.known m at in
     let read = c.read_more.ensures.known m free.1 free.0 in
     let same = subst
-    (λ (p : OptionsData). GivesTo turn_view c.read_more.result (StandsIn unread after) (read_more p m.reading.ended m))
+    (λ (p : OptionsData). GivesTo token_turn_view c.read_more.result (ScannerIn unread after)
+    (read_more_tokens p m.reading.ended m))
     c.in-None.ensures.keeps.options read in
-    subst (λ (r : TokenTurn). GivesTo turn_view c.read_more.result (StandsIn unread after) r)
+    subst (λ (r : TokenTurn). GivesTo token_turn_view c.read_more.result (ScannerIn unread after) r)
     (sym (turn_reads o m pending free.0)) same
 
 pub returns-in-Some-clause-refused : goal.returns-in-Some-clause-refused

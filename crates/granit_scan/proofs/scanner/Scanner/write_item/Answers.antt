@@ -1,13 +1,13 @@
 use Rattle.std.proofs.Common.{ap, sym, subst, ◌∙◌}
 use Rattle.granit_items.specs.ItemViews.{item_view}
-use Rattle.granit_scan.specs.Scanning.{Scanning, StandsIn}
+use Rattle.granit_scan.specs.Scanning.{ScannerIn, TokenScanning}
 use Rattle.granit_scan.proofs.StateLemmas.{writes}
 use Rattle.granit_scan.proofs.scanner.Scanner.write_item.Goals as goal
 
 pub returns-clause-known : goal.returns-clause-known
 returns-clause-known g c = λ m at told none.
     let unread = g.T.Input.unread in
-    let inside : Scanning g.row.T.Denot = record {
+    let inside : TokenScanning g.row.T.Denot = record {
       items = c.self.inside.items;
       writer = c.self.inside.writer;
       first = c.self.inside.first;
@@ -18,7 +18,7 @@ returns-clause-known g c = λ m at told none.
       comments = c.self.inside.comments;
       source_error = c.self.inside.source_error;
     } in
-    let here = subst (λ (s : Scanning g.row.T.Denot). StandsIn unread s m) (sym c.self.view_is) at in
-    let first = ap (λ (s : Scanning g.row.T.Denot). s.first) c.self.view_is ∙ told in
+    let here = subst (λ (s : TokenScanning g.row.T.Denot). ScannerIn unread s m) (sym c.self.view_is) at in
+    let first = ap (λ (s : TokenScanning g.row.T.Denot). s.first) c.self.view_is ∙ told in
     writes unread inside m here c.args.queued.begins_key (item_view c.args.queued.item) c.write.new.self first none
     c.in_ok-write.ensures

@@ -1,5 +1,5 @@
 use Rattle.std.proofs.Common.{sym, subst}
-use Rattle.granit_scan.specs.Scanning.{StepsTo, NextToken}
+use Rattle.granit_scan.specs.Scanning.{ScannerStepsTo, NextToken}
 use Rattle.granit_scan.proofs.SourceLemmas.{step_tells, steps_to}
 use Rattle.granit_scan.proofs.scanner.ScannerIterator.next.Goals as goal
 
@@ -7,7 +7,7 @@ pub returns-clause-steps : goal.returns-clause-steps
 returns-clause-steps g c =
     let of = c.next_queued.ensures in
     let new = c.next_queued.new.self in
-    subst (λ (r : NextToken). StepsTo g.T.Input.unread g.T.Input.left g.T.Input.origin c.args.self.now r new)
+    subst (λ (r : NextToken). ScannerStepsTo g.T.Input.unread g.T.Input.left g.T.Input.origin c.args.self.now r new)
     (sym c.transpose.ensures)
     (steps_to g.T.Input.unread g.T.Input.left g.T.Input.origin c.args.self.now new c.next_queued.result
     of.known of.source

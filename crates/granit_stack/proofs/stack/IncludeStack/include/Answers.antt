@@ -11,4 +11,4 @@ returns-in-Err-read_events-clause-included g c =
     let fails = fails_alike _ _ _ _ c.in-Ok.text c.in-Err-read_events.error options
     (number_kept _ _ _ _ c.number_above.ensures layers) in
     let failed = c.in-Err-read_events.ensures.0 in
-    (layers, inr (c.in-Ok.text, c.in-Ok.ensures.resolves, ((λ never. fails (failed never)), tt)))
+    (layers, inr (c.in-Ok.text, c.in-Ok.ensures.resolves, ((λ never. fails (failed never)), tt, tt)))

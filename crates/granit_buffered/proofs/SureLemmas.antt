@@ -1,0 +1,64 @@
+-- Characters that a run takes, in front of a text.
+use Rattle.std.proofs.Common.{◌≡◌, ◌<◌, ◌==◌, ℕ, zero, suc, Bool, true, false, List, [], ◌∷◌, drop, refl, ap, sym, ◌∙◌}
+use Rattle.std.proofs.Common.{arith}
+use Rattle.std.specs.List.{slice_index}
+use Rattle.granit_base.specs.Classes.{is_blank, is_blank_or_breakz, is_break, is_breakz, is_z}
+use Rattle.granit_base.specs.Place.{first}
+use Rattle.granit_input.proofs.RunLemmas.{class_nul}
+use Rattle.granit_input.specs.Runs.{run_test}
+use Rattle.granit_input.specs.declared.class.Run.{Run}
+use Rattle.granit_input.specs.declared.class.Run.TheVariants.{Of, Plain, Quoted, QuotedAscii}
+use Rattle.granit_input.specs.declared.class.Run.TheVariants.{PlainWords, QuotedWords}
+
+nul_ends : (run : Run) (after : List ℕ) → run_test run (0 ∷ after) ≡ false
+unfolding is_blank_or_breakz is_blank is_breakz is_break is_z
+nul_ends (Of class) after = class_nul class
+nul_ends (Plain true) after = refl
+nul_ends (Plain false) after = refl
+nul_ends (Quoted true) after = refl
+nul_ends (Quoted false) after = refl
+nul_ends (QuotedAscii true) after = refl
+nul_ends (QuotedAscii false) after = refl
+nul_ends (PlainWords true) after = refl
+nul_ends (PlainWords false) after = refl
+nul_ends (QuotedWords true) after = refl
+nul_ends (QuotedWords false) after = refl
+
+-- no run takes NUL
+pub taken_some : (run : Run) (c : ℕ) (after : List ℕ) → run_test run (c ∷ after) ≡ true → 0 < c
+taken_some run zero after y = absurd (let n = nul_ends run after in cc)
+taken_some run (suc c) after y = omega arith
+
+-- past the end NUL is seen
+pub test_of_first : (run : Run) (text : List ℕ) → run_test run text ≡ run_test run (first text ∷ drop 1 text)
+test_of_first run (c ∷ cs) = refl
+test_of_first (Of class) [] = refl
+test_of_first (Plain in_flow) [] = refl
+test_of_first (Quoted single) [] = refl
+test_of_first (QuotedAscii single) [] = refl
+test_of_first (PlainWords in_flow) [] = refl
+test_of_first (QuotedWords single) [] = refl
+
+pub second_is_next : (text : List ℕ) → slice_index text 1 ≡ first (drop 1 text)
+second_is_next [] = refl
+second_is_next (c ∷ []) = refl
+second_is_next (c ∷ d ∷ cs) = refl
+
+-- a character that is no ` ` or `:` says by itself whether a run takes it
+pub sure_of_first : (run : Run) (c : ℕ) (answer : Bool) (text : List ℕ)
+    → (answer ≡ true → (after : List ℕ) → run_test run (c ∷ after) ≡ true)
+    → (answer ≡ false → (c == 0x20) ≡ false → (c == 0x3A) ≡ false → (after : List ℕ)
+    → run_test run (c ∷ after) ≡ false)
+    → (c == 0x20) ≡ false → (c == 0x3A) ≡ false → c ≡ first text → answer ≡ run_test run text
+sure_of_first run c true text takes ends blank colon is =
+    sym (test_of_first run text ∙ ap (λ (x : ℕ). run_test run (x ∷ drop 1 text)) (sym is) ∙ takes refl (drop 1 text))
+sure_of_first run c false text takes ends blank colon is =
+    sym (test_of_first run text ∙ ap (λ (x : ℕ). run_test run (x ∷ drop 1 text)) (sym is)
+    ∙ ends refl blank colon (drop 1 text))
+
+pub by_next : (run : Run) (c next : ℕ) (answer : Bool) (text : List ℕ)
+    → ((after : List ℕ) → next ≡ first after → answer ≡ run_test run (c ∷ after))
+    → c ≡ first text → next ≡ slice_index text 1 → answer ≡ run_test run text
+by_next run c next answer text before is behind =
+    before (drop 1 text) (behind ∙ second_is_next text)
+    ∙ ap (λ (x : ℕ). run_test run (x ∷ drop 1 text)) is ∙ sym (test_of_first run text)

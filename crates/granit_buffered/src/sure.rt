@@ -1,0 +1,80 @@
+//! Characters that a run takes whatever follows them, or with the next one behind them.
+ghost use Rattle.std.specs.Prelude.{◌≡◌, ◌==◌, ◌&&◌, ◌||◌, not, ◌∷◌, ℕ, List, true, false};
+ghost use Rattle.granit_base.specs.Classes.{is_blank_or_breakz, is_flow};
+ghost use Rattle.granit_base.specs.Place.{first};
+ghost use Rattle.granit_input.specs.Runs.{is_quoted_ascii, is_quoted_char, run_test};
+ghost use Rattle.granit_buffered.specs.Sure.{is_plain_alone};
+ghost use Rattle.granit_input.specs.declared.class.Run.TheVariants.{Plain};
+
+use granit_base::{is_blank_or_breakz, is_flow, is_printable};
+use granit_input::Run;
+
+/// Whether a run takes a character whatever follows it. That it doesn't is said of what isn't ` ` or `:`.
+#[inline(always)]
+pub(crate) fn surely_takes(run: Run, c: char) -> bool
+    ensures takes { result ≡ true → (after : List ℕ) → run_test run (c ∷ after) ≡ true }
+    ensures ends { result ≡ false → (c == 0x20) ≡ false → (c == 0x3A) ≡ false → (after : List ℕ)
+        → run_test run (c ∷ after) ≡ false }
+{
+    match run {
+        Run::Of(class) => class.contains(c),
+        Run::Plain(in_flow) => is_plain_alone(c, in_flow),
+        Run::PlainWords(in_flow) => is_plain_alone(c, in_flow),
+        Run::Quoted(single) => is_quoted(c, single),
+        Run::QuotedAscii(single) => is_quoted_ascii(c, single),
+        Run::QuotedWords(single) => is_quoted(c, single),
+    }
+}
+
+/// Whether a run takes a character with `next` behind it.
+pub(crate) fn takes_before(run: Run, c: char, next: char) -> bool
+    ensures { (after : List ℕ) → next ≡ first after → result ≡ run_test run (c ∷ after) }
+{
+    match run {
+        Run::Of(class) => class.contains(c),
+        Run::Plain(in_flow) => goes_on(c, next, in_flow),
+        Run::PlainWords(in_flow) => {
+            goes_on(c, next, in_flow) || c == ' ' && next != '#' && is_plain_alone(next, in_flow)
+        }
+        Run::Quoted(single) => is_quoted(c, single),
+        Run::QuotedAscii(single) => is_quoted_ascii(c, single),
+        Run::QuotedWords(single) => { is_quoted(c, single) || c == ' ' && is_quoted(next, single) }
+    }
+}
+
+/// Whether a character is content of a plain scalar with `next` behind it (YAML 1.2.2, 7.3.3).
+fn goes_on(c: char, next: char, in_flow: bool) -> bool
+    ensures { (after : List ℕ) → next ≡ first after → result ≡ run_test (Plain in_flow) (c ∷ after) }
+{
+    let ends = c == ':' && (is_blank_or_breakz(next) || in_flow && is_flow(next));
+    !is_blank_or_breakz(c) && !ends && !(in_flow && is_flow(c))
+}
+
+/// Whether it is so whatever follows it.
+#[inline(always)]
+fn is_plain_alone(c: char, in_flow: bool) -> bool
+    ensures { result ≡ is_plain_alone in_flow c }
+{
+    !is_blank_or_breakz(c) && c != ':' && !(in_flow && is_flow(c))
+}
+
+/// Whether a character from `!` to `~` stands for itself in quotes (YAML 1.2.2, 7.3.1 and 7.3.2).
+#[inline(always)]
+fn is_quoted_ascii(c: char, single: bool) -> bool
+    ensures { result ≡ is_quoted_ascii single c }
+{
+    let stops = if single {
+        c == '\''
+    } else {
+        c == '"' || c == '\\'
+    };
+    c.is_ascii_graphic() && !stops
+}
+
+/// Whether a character stands for itself in quotes, and is no blank.
+#[inline(always)]
+fn is_quoted(c: char, single: bool) -> bool
+    ensures { result ≡ is_quoted_char single c }
+{
+    is_quoted_ascii(c, single) || (c >= '\u{80}' && is_printable(c))
+}
