@@ -32,6 +32,7 @@ trap 'rm -rf "$room"' EXIT
 cp -r "$top/crates" "$top/crates.txt" "$top/HANDLES" "$room"
 [ $# -gt 0 ] || set -- $(cd "$top/bench/edits" && ls)
 for crate in "$@"; do
+    mkdir -p "$room/crates/$crate/must-fail"
     cp "$top/bench/edits/$crate"/*.edit "$room/crates/$crate/must-fail/"
 done
 cd "$room"

@@ -9,9 +9,7 @@ use Rattle.std.specs.Prelude.{MatchOption}
 use Rattle.granit_base.specs.Place.{Unread, first}
 use Rattle.granit_error.specs.FaultKind.{FaultKind}
 use Rattle.granit_input.specs.Origin.{Goes}
-use Rattle.granit_input.specs.Runs.{run_test}
 use Rattle.granit_input.specs.Unread.{past_count}
-use Rattle.granit_input.specs.declared.class.Run.{Run}
 use Rattle.granit_buffered.specs.Feeds.{Holds, LeftInFeed, FeedEndsWith, of_buffer, of_feed}
 
 -- behind the end nothing comes
@@ -147,15 +145,13 @@ fed_is_first told old new c (x ∷ front) u none steps k = absurd cc
 
 -- ---- the first character that is held
 
-pub first_held : {F : Type 0} (told : F → List ℕ → Option FaultKind → Type 0) (feed : F) (front : List ℕ) (u : Unread)
-    (run : Run) (c : ℕ) → 0 < length front → c ≡ slice_index front 0
-    → ((after : List ℕ) → run_test run (c ∷ after) ≡ true) → LeftInFeed told feed front u
-    → (c ≡ first u.text) × (run_test run u.text ≡ true)
-first_held told feed [] u run c some is takes k = absurd (omega (arith, some))
-first_held told feed (x ∷ front) u run c some is takes k =
+pub held_is_first : {F : Type 0} (told : F → List ℕ → Option FaultKind → Type 0) (feed : F) (front : List ℕ) (c : ℕ)
+    (u : Unread) → 0 < length front → c ≡ slice_index front 0 → LeftInFeed told feed front u
+    → (after : List ℕ) × (u.text ≡ c ∷ after)
+held_is_first told feed [] c u some is k = absurd (omega (arith, some))
+held_is_first told feed (x ∷ front) c u some is k =
     let h = k.2.1 in
-    let text : u.text ≡ c ∷ (front ++ h.0) = h.1 ∙ ap (λ (y : ℕ). y ∷ (front ++ h.0)) (sym is) in
-    (sym (ap first text), ap (run_test run) text ∙ takes (front ++ h.0))
+    (front ++ h.0, h.1 ∙ ap (λ (y : ℕ). y ∷ (front ++ h.0)) (sym is))
 
 -- a character that was consumed is held again
 held_again_text : {F : Type 0} (told : F → List ℕ → Option FaultKind → Type 0) (feed : F) (front text : List ℕ) (c : ℕ)

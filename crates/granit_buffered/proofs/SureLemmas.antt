@@ -1,14 +1,22 @@
--- Characters that a run takes, in front of a text.
+-- Characters that are taken, in front of a text.
 use Rattle.std.proofs.Common.{◌≡◌, ◌<◌, ◌==◌, ℕ, zero, suc, Bool, true, false, List, [], ◌∷◌, drop, refl, ap, sym, ◌∙◌}
-use Rattle.std.proofs.Common.{arith}
+use Rattle.std.proofs.Common.{◌&&◌, ◌||◌, arith, subst}
+use Rattle.std.proofs.lemmas.Bool.Decides.{nat_tests}
+use Rattle.std.specs.Char.{is_ascii_lowercase}
 use Rattle.std.specs.List.{slice_index}
-use Rattle.granit_base.specs.Classes.{is_blank, is_blank_or_breakz, is_break, is_breakz, is_z}
+use Rattle.granit_base.specs.Classes.{is_blank, is_blank_or_breakz, is_break, is_breakz, is_flow, is_printable}
+use Rattle.granit_base.specs.Classes.{is_within, is_z}
 use Rattle.granit_base.specs.Place.{first}
-use Rattle.granit_input.proofs.RunLemmas.{class_nul}
-use Rattle.granit_input.specs.Runs.{run_test}
+use Rattle.granit_input.proofs.AsciiLemmas.{plain_ascii, word_ascii}
+use Rattle.granit_input.proofs.RunLemmas.{class_nul, run_nul}
+use Rattle.granit_input.proofs.WhiteLemmas.{skipped_nul}
+use Rattle.granit_input.specs.Runs.{is_plain_ascii, is_quoted_ascii, is_quoted_char, run_test}
 use Rattle.granit_input.specs.declared.class.Run.{Run}
 use Rattle.granit_input.specs.declared.class.Run.TheVariants.{Of, Plain, Quoted, QuotedAscii}
 use Rattle.granit_input.specs.declared.class.Run.TheVariants.{PlainWords, QuotedWords}
+use Rattle.granit_buffered.specs.Sure.{TellsAlone, taker_test, takes_letters}
+use Rattle.granit_buffered.specs.declared.sure.Taker.{Taker}
+use Rattle.granit_buffered.specs.declared.sure.Taker.TheVariants.{Sure, Blanks}
 
 nul_ends : (run : Run) (after : List ℕ) → run_test run (0 ∷ after) ≡ false
 unfolding is_blank_or_breakz is_blank is_breakz is_break is_z
@@ -62,3 +70,40 @@ pub by_next : (run : Run) (c next : ℕ) (answer : Bool) (text : List ℕ)
 by_next run c next answer text before is behind =
     before (drop 1 text) (behind ∙ second_is_next text)
     ∙ ap (λ (x : ℕ). run_test run (x ∷ drop 1 text)) is ∙ sym (test_of_first run text)
+
+-- at the end nothing is taken
+pub taker_nul : (taker : Taker) → taker_test taker [] ≡ false
+taker_nul (Sure run) = run_nul run
+taker_nul (Blanks tabs) = skipped_nul tabs
+
+-- what a character that stands in front of a text says of it
+pub tells_of_text : (taker : Taker) (c : ℕ) (after text : List ℕ) → text ≡ c ∷ after
+    → (TellsAlone taker c → (cs : List ℕ) → taker_test taker (c ∷ cs) ≡ false)
+    → TellsAlone taker (first text) → taker_test taker text ≡ false
+tells_of_text taker c after text is ends alone =
+    ap (taker_test taker) is ∙ ends (subst (TellsAlone taker) (ap first is) alone) after
+
+-- ---- letters
+
+letter_plain : (in_flow : Bool) (c : ℕ) → is_ascii_lowercase c ≡ true → is_plain_ascii in_flow c ≡ true
+unfolding is_flow
+letter_plain true c y = grind (arith, nat_tests)
+letter_plain false c y = grind (arith, nat_tests)
+
+letter_quoted : (single : Bool) (c : ℕ) → is_ascii_lowercase c ≡ true → is_quoted_ascii single c ≡ true
+letter_quoted true c y = grind (arith, nat_tests)
+letter_quoted false c y = grind (arith, nat_tests)
+
+letter_past : (single : Bool) (c : ℕ) → is_ascii_lowercase c ≡ true → is_quoted_char single c ≡ true
+letter_past single c y =
+    ap (λ (b : Bool). b || (is_within 0x80 0x10FFFF c && is_printable c)) (letter_quoted single c y)
+
+pub letter_taken : (run : Run) (c : ℕ) (after : List ℕ) → takes_letters run ≡ true → is_ascii_lowercase c ≡ true
+    → run_test run (c ∷ after) ≡ true
+letter_taken (Of class) c after all low = absurd cc
+letter_taken (Plain in_flow) c after all low = plain_ascii in_flow c after (letter_plain in_flow c low)
+letter_taken (PlainWords in_flow) c after all low = word_ascii in_flow c after (letter_plain in_flow c low)
+letter_taken (Quoted single) c after all low = letter_past single c low
+letter_taken (QuotedAscii single) c after all low = letter_quoted single c low
+letter_taken (QuotedWords single) c after all low =
+    ap (λ (b : Bool). b || (c == 0x20 && is_quoted_char single (first after))) (letter_past single c low)

@@ -1,21 +1,45 @@
--- Characters that a run takes whatever follows them.
-use Rattle.std.specs.Prelude.{◌≡◌, ℕ, ◌==◌, ◌&&◌, not, Bool, true, false, Option, Some, None}
+-- Characters that are taken whatever follows them.
+use Rattle.std.specs.Prelude.{◌≡◌, ℕ, ◌==◌, ◌&&◌, not, Bool, true, false, List, Option, Some, None}
 use Rattle.granit_base.specs.Classes.{is_blank_or_breakz, is_flow}
 use Rattle.granit_base.specs.Place.{Unread, first}
-use Rattle.granit_input.specs.Runs.{run_test}
+use Rattle.granit_input.specs.Runs.{run_test, starts}
 use Rattle.granit_input.specs.Unread.{past_count}
+use Rattle.granit_input.specs.White.{is_skipped}
 use Rattle.granit_input.specs.declared.class.Run.{Run}
+use Rattle.granit_input.specs.declared.class.Run.TheVariants.{Of, Plain, Quoted, QuotedAscii}
+use Rattle.granit_input.specs.declared.class.Run.TheVariants.{PlainWords, QuotedWords}
+use Rattle.granit_buffered.specs.declared.sure.Taker.{Taker}
+use Rattle.granit_buffered.specs.declared.sure.Taker.TheVariants.{Sure, Blanks}
 
 -- content of a plain scalar whatever follows it
 abbrev pub is_plain_alone : Bool → ℕ → Bool
 is_plain_alone in_flow c = not (is_blank_or_breakz c) && (not (c == 0x3A) && not (in_flow && is_flow c))
 
--- the next character, which a run takes, was consumed; or nothing was
-abbrev pub TakesSure : Run → Unread → Option ℕ → (Unread → Type 0) → Type 0
-TakesSure run u None Lands = Lands u
-TakesSure run u (Some c) Lands = (c ≡ first u.text) × (run_test run u.text ≡ true) × Lands (past_count 1 u)
+-- what surely takes each letter from `a` to `z`
+abbrev pub takes_letters : Run → Bool
+takes_letters (Of class) = false
+takes_letters (Plain in_flow) = true
+takes_letters (Quoted single) = true
+takes_letters (QuotedAscii single) = true
+takes_letters (PlainWords in_flow) = true
+takes_letters (QuotedWords single) = true
 
--- the same, and nothing was consumed where the run doesn't take it
+-- whether the first character is taken
+abbrev pub taker_test : Taker → List ℕ → Bool
+taker_test (Sure run) text = run_test run text
+taker_test (Blanks tabs) text = starts (is_skipped tabs) text
+
+-- a character that says by itself whether it is taken: of a run one that is no ` ` or `:`
+abbrev pub TellsAlone : Taker → ℕ → Type 0
+TellsAlone (Sure run) c = ((c == 0x20) ≡ false) × ((c == 0x3A) ≡ false)
+TellsAlone (Blanks tabs) c = Unit {0}
+
+-- the next character, which is taken, was consumed; or nothing was, and it isn't taken if it says so by itself
+abbrev pub TakesSure : Taker → Unread → Option ℕ → (Unread → Type 0) → Type 0
+TakesSure taker u None Lands = (TellsAlone taker (first u.text) → taker_test taker u.text ≡ false) × Lands u
+TakesSure taker u (Some c) Lands = (c ≡ first u.text) × (taker_test taker u.text ≡ true) × Lands (past_count 1 u)
+
+-- the next character, which a run takes, was consumed; or nothing was, and the run doesn't take it
 abbrev pub TakesOne : Run → Unread → Option ℕ → (Unread → Type 0) → Type 0
 TakesOne run u None Lands = (run_test run u.text ≡ false) × Lands u
 TakesOne run u (Some c) Lands = (c ≡ first u.text) × (run_test run u.text ≡ true) × Lands (past_count 1 u)

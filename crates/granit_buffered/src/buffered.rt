@@ -11,18 +11,20 @@ ghost use Rattle.granit_base.specs.Written.{string_chars};
 ghost use Rattle.granit_input.specs.Chunks.{SkipsFront, FetchesFront, Extends, front_count_of};
 ghost use Rattle.granit_input.specs.Runs.{run_test};
 ghost use Rattle.granit_input.specs.Unread.{past_count};
+ghost use Rattle.granit_input.specs.White.{SkipsBlanks};
 ghost use Rattle.granit_buffered.specs.Feeds.{GivesOnly, origin_of, Holds, LeftInFeed};
-ghost use Rattle.granit_buffered.specs.Sure.{TakesOne, TakesSure};
+ghost use Rattle.granit_buffered.specs.Sure.{TakesOne, TakesSure, TellsAlone};
+ghost use Rattle.granit_buffered.specs.declared.sure.Taker.TheVariants.{Sure};
 
 use crate::fallible::FallibleFeed;
 use crate::feed::Feed;
 use crate::plain::PlainFeed;
 use crate::source::Source;
-use crate::sure::{surely_takes, takes_before};
+use crate::sure::{Taker, found_with, surely_takes, takes, takes_before};
 use circular_buffer::HeapCircularBuffer;
 use granit_base::{NoMemory, is_breakz, push_char};
 use granit_error::ErrorKind;
-use granit_input::{BorrowedInput, Input, Run};
+use granit_input::{BorrowedInput, Input, Run, SkipTabs, WhitespaceResult};
 use std::alloc::Global;
 
 /// The characters of an iterator.
@@ -50,7 +52,8 @@ fn hold(held: &mut HeapCircularBuffer<char>, c: char)
     requires { length held.old.items < held.old.capacity }
     ensures { held.new ≡ buffer (held.old.items ++ c ∷ []) held.old.capacity }
 {
-    held.push_back(c);
+    // there is room, so it isn't handed back
+    let _ = held.try_push_back(c);
 }
 
 /// What is held behind `n` others; NUL where nothing is.
@@ -156,15 +159,17 @@ impl<F: Feed> ReadAhead<F> {
         ensures few { MatchOption result (length self.new.held.items ≤ max 2 (length self.old.held.items))
             (λ c. length self.new.held.items ≤ max 2 (length self.old.held.items) - 1) }
     {
-        match self.take_sure(run) {
+        match self.take_sure(Taker::Sure(run)) {
             Some(c) => Some(c),
             None => self.take_asked(run),
         }
     }
 
-    /// The same, with what follows it looked at.
+    /// The same, with what follows it looked at where it doesn't say by itself that the run ends.
+    #[inline(always)]
     fn take_asked(&mut self, run: Run) -> Option<char>
         ensures read { (u : Unread) → LeftInFeed F.told self.old.feed self.old.held.items u
+            → (TellsAlone (Sure run) (first u.text) → run_test run u.text ≡ false)
             → TakesOne run u result (λ v. LeftInFeed F.told self.new.feed self.new.held.items v) }
         ensures moves { (MatchOption result (length self.new.held.items + F.bound self.new.feed
             ≤ length self.old.held.items + F.bound self.old.feed)
@@ -176,8 +181,11 @@ impl<F: Feed> ReadAhead<F> {
         ensures few { MatchOption result (length self.new.held.items ≤ max 2 (length self.old.held.items))
             (λ c. length self.new.held.items ≤ max 2 (length self.old.held.items) - 1) }
     {
-        if self.next_in(run) {
-            let c = self.peek();
+        self.lookahead(1);
+        let c = self.peek();
+        if c != ' ' && c != ':' {
+            None
+        } else if self.next_in(run) {
             self.skip();
             Some(c)
         } else {
@@ -185,11 +193,11 @@ impl<F: Feed> ReadAhead<F> {
         }
     }
 
-    /// Consumes the next character where a run takes it whatever follows; else it stays, and is held.
+    /// Consumes the next character where it is taken whatever follows; else it stays, and is held.
     #[inline(always)]
-    fn take_sure(&mut self, run: Run) -> Option<char>
+    fn take_sure(&mut self, taker: Taker) -> Option<char>
         ensures read { (u : Unread) → LeftInFeed F.told self.old.feed self.old.held.items u
-            → TakesSure run u result (λ v. LeftInFeed F.told self.new.feed self.new.held.items v) }
+            → TakesSure taker u result (λ v. LeftInFeed F.told self.new.feed self.new.held.items v) }
         ensures moves { (MatchOption result (length self.new.held.items + F.bound self.new.feed
             ≤ length self.old.held.items + F.bound self.old.feed)
             (λ c. length self.new.held.items + F.bound self.new.feed
@@ -201,18 +209,18 @@ impl<F: Feed> ReadAhead<F> {
             (λ c. length self.new.held.items ≤ length self.old.held.items - 1) }
     {
         if self.held.is_empty() {
-            self.take_fed(run)
+            self.take_fed(taker)
         } else {
-            self.take_held(run)
+            self.take_held(taker)
         }
     }
 
     /// The same where none is held: straight from the feed.
     #[inline(always)]
-    fn take_fed(&mut self, run: Run) -> Option<char>
+    fn take_fed(&mut self, taker: Taker) -> Option<char>
         requires { self.old.held.items ≡ [] }
         ensures read { (u : Unread) → LeftInFeed F.told self.old.feed self.old.held.items u
-            → TakesSure run u result (λ v. LeftInFeed F.told self.new.feed self.new.held.items v) }
+            → TakesSure taker u result (λ v. LeftInFeed F.told self.new.feed self.new.held.items v) }
         ensures moves { (MatchOption result (length self.new.held.items + F.bound self.new.feed
             ≤ length self.old.held.items + F.bound self.old.feed)
             (λ c. length self.new.held.items + F.bound self.new.feed
@@ -225,10 +233,11 @@ impl<F: Feed> ReadAhead<F> {
     {
         match self.feed.next_char() {
             Some(c) => {
-                if surely_takes(run, c) {
+                if takes(taker, c) {
                     return Some(c);
                 }
                 hold(&mut self.held, c);
+                self.window = self.window.max(1);
                 None
             }
             None => None,
@@ -237,10 +246,10 @@ impl<F: Feed> ReadAhead<F> {
 
     /// The same where one is held.
     #[inline(always)]
-    fn take_held(&mut self, run: Run) -> Option<char>
+    fn take_held(&mut self, taker: Taker) -> Option<char>
         requires { 0 < length self.old.held.items }
         ensures read { (u : Unread) → LeftInFeed F.told self.old.feed self.old.held.items u
-            → TakesSure run u result (λ v. LeftInFeed F.told self.new.feed self.new.held.items v) }
+            → TakesSure taker u result (λ v. LeftInFeed F.told self.new.feed self.new.held.items v) }
         ensures moves { (MatchOption result (length self.new.held.items + F.bound self.new.feed
             ≤ length self.old.held.items + F.bound self.old.feed)
             (λ c. length self.new.held.items + F.bound self.new.feed
@@ -252,7 +261,7 @@ impl<F: Feed> ReadAhead<F> {
             (λ c. length self.new.held.items ≤ length self.old.held.items - 1) }
     {
         let c = held_at(&self.held, 0);
-        if surely_takes(run, c) {
+        if takes(taker, c) {
             self.skip();
             Some(c)
         } else {
@@ -408,6 +417,7 @@ impl<F: Feed> Input for ReadAhead<F> {
         }
     }
 
+    #[inline(always)]
     fn next_in(&mut self, run: Run) -> bool
         ensures look { (u : Unread) → LeftInFeed F.told self.old.feed self.old.held.items u
             → LeftInFeed F.told self.new.feed self.new.held.items u × (result ≡ run_test run u.text) }
@@ -478,6 +488,27 @@ impl<F: Feed> Input for ReadAhead<F> {
             count += 1;
         }
         Ok((false, count))
+    }
+
+    fn skip_ws_to_eol_blanks(&mut self, skip_tabs: SkipTabs) -> (usize, WhitespaceResult)
+        ensures skips { (u : Unread) → LeftInFeed F.told self.old.feed self.old.held.items u
+            → SkipsBlanks skip_tabs u result (λ v. LeftInFeed F.told self.new.feed self.new.held.items v) }
+        ensures moves { (length self.new.held.items + F.bound self.new.feed + result.0
+            ≤ length self.old.held.items + F.bound self.old.feed)
+            × (self.old.window ≤ self.new.window + result.0)
+            × Goes (origin_of F.told F.ended F.error F.handed_out self.old.feed)
+            (origin_of F.told F.ended F.error F.handed_out self.new.feed) }
+        ensures ahead { length self.new.held.items ≤ max 1 (length self.old.held.items) }
+    {
+        let mut found = WhitespaceResult::new(false, false);
+        let mut count = 0;
+        'blanks: loop {
+            match self.take_sure(Taker::Blanks(skip_tabs)) {
+                Some(c) => found = found_with(found, c),
+                None => return (count, found),
+            }
+            count += 1;
+        }
     }
 
     #[inline(always)]

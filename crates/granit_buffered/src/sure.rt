@@ -1,21 +1,69 @@
-//! Characters that a run takes whatever follows them, or with the next one behind them.
+//! Characters that are taken whatever follows them, or with the next one behind them.
 ghost use Rattle.std.specs.Prelude.{◌≡◌, ◌==◌, ◌&&◌, ◌||◌, not, ◌∷◌, ℕ, List, true, false};
 ghost use Rattle.granit_base.specs.Classes.{is_blank_or_breakz, is_flow};
 ghost use Rattle.granit_base.specs.Place.{first};
 ghost use Rattle.granit_input.specs.Runs.{is_quoted_ascii, is_quoted_char, run_test};
-ghost use Rattle.granit_buffered.specs.Sure.{is_plain_alone};
+ghost use Rattle.granit_input.specs.White.{is_skipped, found_more};
+ghost use Rattle.granit_buffered.specs.Sure.{TellsAlone, is_plain_alone, taker_test, takes_letters};
 ghost use Rattle.granit_input.specs.declared.class.Run.TheVariants.{Plain};
 
 use granit_base::{is_blank_or_breakz, is_flow, is_printable};
-use granit_input::Run;
+use granit_input::{Run, SkipTabs, WhitespaceResult};
+
+/// What takes characters, one after another.
+#[derive(Clone, Copy)]
+pub(crate) enum Taker {
+    /// A run, of what it takes whatever follows.
+    Sure(Run),
+    /// Blanks in front of the end of a line.
+    Blanks(SkipTabs),
+}
+
+/// Whether a character is taken whatever follows it. That it isn't is said of one that tells so by itself.
+#[inline(always)]
+pub(crate) fn takes(taker: Taker, c: char) -> bool
+    ensures takes { result ≡ true → (after : List ℕ) → taker_test taker (c ∷ after) ≡ true }
+    ensures ends { result ≡ false → TellsAlone taker c → (after : List ℕ) → taker_test taker (c ∷ after) ≡ false }
+{
+    match taker {
+        Taker::Sure(run) => surely_takes(run, c),
+        Taker::Blanks(skip_tabs) => is_skipped(skip_tabs, c),
+    }
+}
+
+/// Whether a blank is skipped in front of the end of a line.
+#[inline(always)]
+fn is_skipped(skip_tabs: SkipTabs, c: char) -> bool
+    ensures { result ≡ is_skipped skip_tabs c }
+{
+    match skip_tabs {
+        SkipTabs::Yes => c == ' ' || c == '\t',
+        SkipTabs::No => c == ' ',
+    }
+}
+
+/// What was found among blanks with one more.
+#[inline(always)]
+pub(crate) fn found_with(found: WhitespaceResult, c: char) -> WhitespaceResult
+    ensures { result ≡ found_more found c }
+{
+    WhitespaceResult::new(
+        found.found_tabs() || c == '\t',
+        found.has_valid_yaml_ws() || c == ' ',
+    )
+}
 
 /// Whether a run takes a character whatever follows it. That it doesn't is said of what isn't ` ` or `:`.
 #[inline(always)]
+#[tactic(auto, using(crate::proofs::SureLemmas::letter_taken))]
 pub(crate) fn surely_takes(run: Run, c: char) -> bool
     ensures takes { result ≡ true → (after : List ℕ) → run_test run (c ∷ after) ≡ true }
     ensures ends { result ≡ false → (c == 0x20) ≡ false → (c == 0x3A) ≡ false → (after : List ℕ)
         → run_test run (c ∷ after) ≡ false }
 {
+    if c.is_ascii_lowercase() && takes_letters(run) {
+        return true;
+    }
     match run {
         Run::Of(class) => class.contains(c),
         Run::Plain(in_flow) => is_plain_alone(c, in_flow),
@@ -23,6 +71,21 @@ pub(crate) fn surely_takes(run: Run, c: char) -> bool
         Run::Quoted(single) => is_quoted(c, single),
         Run::QuotedAscii(single) => is_quoted_ascii(c, single),
         Run::QuotedWords(single) => is_quoted(c, single),
+    }
+}
+
+/// Whether a run surely takes each letter from `a` to `z`: most characters are one.
+#[inline(always)]
+fn takes_letters(run: Run) -> bool
+    ensures { result ≡ takes_letters run }
+{
+    match run {
+        Run::Of(_) => false,
+        Run::Plain(_) => true,
+        Run::PlainWords(_) => true,
+        Run::Quoted(_) => true,
+        Run::QuotedAscii(_) => true,
+        Run::QuotedWords(_) => true,
     }
 }
 

@@ -24,6 +24,7 @@ use std::alloc::Global;
 ///
 /// Those of `comment_at`. `TabNotAllowed` at a tab that may not begin a line, `TabInBlockIndentation` at what stands
 /// behind one, and `CommentInterceptedScalar` at the end of a plain scalar that a comment cut short and this goes on.
+#[inline(always)]
 #[tactic(auto, unfolding(granit_machine::specs::Gaps::gap_ends))]
 pub fn gap<'input, T: BorrowedInput<'input>>(
     alloc: Global,
@@ -73,6 +74,7 @@ fn noted_gap<'input, T: BorrowedInput<'input>>(
 }
 
 /// What a lexeme may begin at.
+#[inline(always)]
 #[tactic(auto, unfolding(granit_machine::specs::Gaps::ready_gap))]
 fn ready_gap<'input, T: Input>(
     options: &Options,
@@ -95,6 +97,7 @@ fn ready_gap<'input, T: Input>(
 }
 
 /// Whether a gap begins here.
+#[inline(always)]
 #[tactic(auto, unfolding(granit_base::specs::Classes::is_gap))]
 fn begins_gap<T: Input>(at: &mut Cursor<T>, may_prefix: bool) -> bool
     ensures here { Wherever T.unread at.old at.new (λ h Lands. Lands h × (result ≡ spec.begins_gap may_prefix h)) }
@@ -210,6 +213,7 @@ fn refuse_leading_tab<T: Input>(
 }
 
 /// Refuses what would go on with a plain scalar that a comment cut short.
+#[inline(always)]
 fn refuse_cut<T: Input>(
     at: &Cursor<T>,
     layouts: &Layouts,

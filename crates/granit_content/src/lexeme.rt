@@ -39,6 +39,7 @@ pub fn start_of<T: Input>(at: &Cursor<T>) -> Start
 }
 
 /// The lexeme from there to a mark is written where one has room; whether it ends a column is told.
+#[inline(always)]
 pub fn write_lexeme<'input>(
     found: &mut Lexeme<'input>,
     layouts: &Layouts,
@@ -104,6 +105,7 @@ pub(crate) fn behind_tail(last: LastLexeme, tail: &Tail<'_>) -> LastLexeme
 /// # Errors
 ///
 /// Those of `tail_at`.
+#[inline(always)]
 pub fn tailed<'input, T: BorrowedInput<'input>>(
     alloc: Global,
     asked: bool,

@@ -46,6 +46,7 @@ impl<'input> Tail<'input> {
 /// # Errors
 ///
 /// `CommentNotSeparated` at a `#` with no blank before it, and those of `comment_at`.
+#[inline(always)]
 pub fn tail_at<'input, T: BorrowedInput<'input>>(
     alloc: Global,
     at: &mut Cursor<T>,

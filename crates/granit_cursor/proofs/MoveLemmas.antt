@@ -297,6 +297,12 @@ blank_none : (c : ℕ) (cs : List ℕ) → (c == 0x20) ≡ false → (c == 0x09)
 unfolding run_length is_blank
 blank_none c cs space tab = rw (space, tab) refl
 
+-- where another character stands, no blanks do
+pub no_blanks : (text : List ℕ) → is_blank (first text) ≡ false → 0 ≡ run_length (starts is_blank) text
+unfolding run_length
+no_blanks [] none = refl
+no_blanks (c ∷ cs) none = rw none refl
+
 -- the blanks are the spaces, and the blanks behind these
 blanks_split : (text : List ℕ) (n : ℕ) → n ≡ run_length (starts is_space) text
     → run_length (starts is_blank) text ≡ n + run_length (starts is_blank) (drop n text)
@@ -429,6 +435,32 @@ lands_tabs unread n old new h is fits k known place begins tab =
     (run_along (starts is_blank) n h blank_line (omega (arith, fits))) k known place in
     let s = tabs_noted n h is fits in
     (a.0, a.1, s.0 ∙ k.2 ∙ sym begins, s.1 ∙ sym tab)
+
+-- behind a character above the space
+above_some : (text : List ℕ) → 0x20 < first text → 0 < length text
+above_some [] above = absurd (omega (arith, above))
+above_some (c ∷ cs) above = omega arith
+
+above_other : (c k : ℕ) → 0x20 < c → k ≤ 0x20 → (c == k) ≡ false
+above_other c k above low = grind (arith, nat_tests, above, low)
+
+pub lands_shown :
+    {I : Type 0} (unread : I → Unread → Type 0) (old new : Spot I) (h : Here) → 0x20 < next_char h
+    → StandsAt unread old h → unread new.input (past_count 1 h.unread) → new.place ≡ moved 1 old.place
+    → new.begins_line ≡ false → new.tab ≡ None → StandsAt unread new (step h)
+lands_shown unread old new h above k known place begins tab =
+    let some = above_some h.unread.text above in
+    let other = λ (c : ℕ) (low : c ≤ 0x20). above_other (next_char h) c above low in
+    let line : ends_line h.unread.text ≡ false = rw (other 0x0A (omega arith), other 0x0D (omega arith)) refl in
+    let quiet : is_quiet (next_char h) ≡ false =
+    rw (other 0x20 (omega arith), other 0x09 (omega arith), other 0x0D (omega arith)) refl in
+    let a = step_along h some line in
+    let s = step_shows h some line quiet in (
+      subst (unread new.input) (sym a.unread) known,
+      a.place ∙ ap (moved 1) k.1 ∙ sym place,
+      s.0 ∙ sym begins,
+      s.1 ∙ sym tab,
+    )
 
 -- a byte-order mark is there
 pub mark_some : (text : List ℕ) → first text ≡ 0xFEFF → 0 < length text

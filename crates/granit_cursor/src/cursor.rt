@@ -23,7 +23,7 @@ ghost use Rattle.granit_cursor.specs.Reading.{Stands, GoesOnward, Moves, Takes, 
 ghost use Rattle.granit_cursor.specs.Reading.{StepsFront, FetchesSteps, FetchesFrontSteps, LendsSteps, has_source};
 ghost use Rattle.granit_cursor.specs.contracts.cursor.Cursor.{the_row};
 
-use granit_base::{Marker, NoMemory};
+use granit_base::{Marker, NoMemory, is_blank};
 use granit_error::ErrorKind;
 use granit_input::{Class, Input, Run, SkipTabs};
 use std::marker::Model;
@@ -129,6 +129,7 @@ impl<T: Input> Cursor<T> {
 
     /// Consumes the next character, if there is one, and moves the place: a line ends with LF, and with
     /// CR that no LF follows (YAML 1.2.2, 5.4).
+    #[inline(always)]
     pub fn step(&mut self)
         ensures here { GoesTo T.unread self.old self.new step }
         ensures left { T.left self.new.input ≤ T.left self.old.input - 1 }
@@ -140,8 +141,30 @@ impl<T: Input> Cursor<T> {
     }
 
     /// The same, by what is known of it.
-    #[tactic(auto, unfolding(granit_lexemes::specs::Here::step), using(granit_input::proofs::UnreadLemmas::past_one))]
+    #[inline(always)]
     fn take_one(&mut self)
+        ensures here { GoesTo T.unread self.old self.new step }
+        ensures left { T.left self.new.input ≤ T.left self.old.input - 1 }
+        ensures window { T.window self.old.input ≤ T.window self.new.input + 1 }
+        ensures origin { Goes (T.origin self.old.input) (T.origin self.new.input) }
+        ensures lost { self.new.lost ≡ self.old.lost }
+    {
+        self.input.lookahead(2);
+        if self.input.peek() <= ' ' {
+            self.take_quiet();
+            return;
+        }
+        self.input.skip();
+        self.index += 1;
+        self.col += 1;
+        self.begins_line = false;
+        self.tab = None;
+    }
+
+    /// The same where mostly a blank or a break stands here.
+    #[inline(never)]
+    #[tactic(auto, unfolding(granit_lexemes::specs::Here::step), using(granit_input::proofs::UnreadLemmas::past_one))]
+    fn take_quiet(&mut self)
         ensures here { GoesTo T.unread self.old self.new step }
         ensures left { T.left self.new.input ≤ T.left self.old.input - 1 }
         ensures window { T.window self.old.input ≤ T.window self.new.input + 1 }
@@ -510,7 +533,21 @@ impl<T: Input> Cursor<T> {
     }
 
     /// Consumes blanks; how many characters.
+    #[inline(always)]
     pub fn skip_while_blank(&mut self) -> usize
+        ensures here { Wherever T.unread self.old self.new (λ h Lands. StepsRun (starts is_blank) h result Lands) }
+        ensures takes { Takes T.left T.window self.old self.new result }
+        ensures moves { Moves T.unread T.left T.origin self.old self.new }
+    {
+        self.look(1);
+        if !is_blank(self.input.peek()) {
+            return 0;
+        }
+        self.skip_blanks()
+    }
+
+    /// The same where mostly one stands here.
+    fn skip_blanks(&mut self) -> usize
         ensures here { Wherever T.unread self.old self.new (λ h Lands. StepsRun (starts is_blank) h result Lands) }
         ensures takes { Takes T.left T.window self.old self.new result }
         ensures moves { Moves T.unread T.left T.origin self.old self.new }

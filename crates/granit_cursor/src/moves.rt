@@ -34,6 +34,7 @@ pub fn past_break<T: Input>(cursor: &mut Cursor<T>)
 }
 
 /// Behind the blanks that stand here.
+#[inline(always)]
 pub fn past_blanks<T: Input>(cursor: &mut Cursor<T>)
     ensures here { GoesTo T.unread cursor.old cursor.new (past is_blank) }
     ensures moves { Moves T.unread T.left T.origin cursor.old cursor.new }

@@ -53,6 +53,7 @@ impl<'input> ParserState<'input> {
     }
 
     /// Another frame in the place of the innermost.
+    #[inline(always)]
     pub fn with_top(&mut self, frame: Frame) -> Result<(), NoMemory>
         ensures leaves { OnOk result (self.new ≡ ends.with_top (frame_view frame) self.old) }
         ensures kept { self.new.kept ≡ self.old.kept }

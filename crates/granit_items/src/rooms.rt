@@ -25,6 +25,7 @@ impl<'input> Rooms<'input> {
     /// # Errors
     ///
     /// `NoMemory` alone.
+    #[inline(always)]
     pub fn take(&mut self) -> Result<Box<Lexeme<'input>>, NoMemory> {
         match self.spare.pop() {
             Some(room) => Ok(room),
@@ -33,6 +34,7 @@ impl<'input> Rooms<'input> {
     }
 
     /// A lexeme that isn't needed any more leaves its room; where there is no memory to keep it, that goes too.
+    #[inline(always)]
     pub fn keep(&mut self, room: Box<Lexeme<'input>>) {
         let _ = self.spare.push(room);
     }

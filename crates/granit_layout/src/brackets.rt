@@ -118,6 +118,7 @@ impl Brackets {
     }
 
     /// Without the keys that reading has left behind.
+    #[inline(always)]
     #[tactic(auto, using(crate::proofs::ListLemmas::map_reversed))]
     pub(crate) fn refresh(&mut self, options: &Options, mark: &Marker)
         ensures { self.new ≡ map (keys.fresh_bracket (options_of options.now) mark.now) self.old }
@@ -204,6 +205,7 @@ fn refresh_one(key: &mut Option<PossibleKey>, options: &Options, mark: &Marker)
 }
 
 /// The same where keys rise: behind the first one that stays, all do.
+#[inline(always)]
 fn refresh_outermost(
     brackets: &mut Vec<OpenBracket>,
     order: &mut KeyOrder,

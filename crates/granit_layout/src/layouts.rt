@@ -260,6 +260,7 @@ impl Layouts {
     /// # Errors
     ///
     /// `SimpleKeyExpected` at the start of one that has to get a `:`.
+    #[inline(always)]
     pub fn drop_stale(
         &mut self,
         options: &Options,
@@ -275,6 +276,7 @@ impl Layouts {
     }
 
     /// Without the possible key outside brackets, where reading has left it behind.
+    #[inline(always)]
     fn refresh_key(
         &mut self,
         options: &Options,

@@ -71,6 +71,7 @@ fn put_span(bytes: &mut [u8], span: &Span) -> usize
 }
 
 /// A place, as `index:line:column`, the column from 1, so that it ends there; where it begins.
+#[inline(always)]
 fn put_place(bytes: &mut [u8], end: usize, mark: &Marker) -> usize
     requires room { (62 ≤ end) × (end ≤ length bytes.old) }
     ensures start { (end ≤ result + 62) × (result ≤ end) }

@@ -77,6 +77,7 @@ fn placement_word(placement: Placement) -> &'static str
 }
 
 /// The version that a directive names, where there is one.
+#[inline(never)]
 fn push_version(out: &mut Vec<u8>, version: &Option<YamlVersion>) -> Result<(), NoMemory>
     ensures { OnOk result (out.new.items
         ≡ out.old.items ++ line.version_words (option_map plain_version version.now)) }
@@ -91,6 +92,7 @@ fn push_version(out: &mut Vec<u8>, version: &Option<YamlVersion>) -> Result<(), 
 }
 
 /// The number of a node's anchor, where it has one.
+#[inline(always)]
 fn push_anchor(out: &mut Vec<u8>, anchor: usize) -> Result<(), NoMemory>
     ensures { OnOk result (out.new.items ≡ out.old.items ++ line.anchor_words anchor) }
 {
@@ -102,6 +104,7 @@ fn push_anchor(out: &mut Vec<u8>, anchor: usize) -> Result<(), NoMemory>
 }
 
 /// A node's tag, where it has one.
+#[inline(never)]
 fn push_tag(out: &mut Vec<u8>, tag: &Option<Tag>) -> Result<(), NoMemory>
     ensures { OnOk result (out.new.items ≡ out.old.items ++ line.tag_words tag.now) }
 {
@@ -115,6 +118,7 @@ fn push_tag(out: &mut Vec<u8>, tag: &Option<Tag>) -> Result<(), NoMemory>
 }
 
 /// The anchor and the tag of a node, where it has them.
+#[inline(always)]
 fn push_properties(out: &mut Vec<u8>, anchor: usize, tag: &Option<Tag>) -> Result<(), NoMemory>
     ensures { OnOk result (out.new.items ≡ out.old.items ++ line.property_words anchor tag.now) }
 {
@@ -138,6 +142,7 @@ fn push_scalar(
 }
 
 /// The start of a collection.
+#[inline(always)]
 fn push_start(
     out: &mut Vec<u8>,
     words: &str,
@@ -164,6 +169,7 @@ fn push_document_start(
     push_version(out, version)
 }
 
+#[inline(never)]
 fn push_alias(out: &mut Vec<u8>, anchor: usize) -> Result<(), NoMemory>
     ensures { OnOk result (out.new.items ≡ out.old.items ++ line.event_words (plain.Alias anchor)) }
 {
@@ -172,6 +178,7 @@ fn push_alias(out: &mut Vec<u8>, anchor: usize) -> Result<(), NoMemory>
 }
 
 /// An anchor that is told beside its node.
+#[inline(never)]
 fn push_named(out: &mut Vec<u8>, anchor: usize, name: &Text) -> Result<(), NoMemory>
     ensures { OnOk result (out.new.items
         ≡ out.old.items ++ line.event_words (plain.Anchor anchor name.now)) }
@@ -182,6 +189,7 @@ fn push_named(out: &mut Vec<u8>, anchor: usize, name: &Text) -> Result<(), NoMem
     push_in_quotes(out, name.as_str())
 }
 
+#[inline(never)]
 fn push_unresolved(out: &mut Vec<u8>, name: &Text) -> Result<(), NoMemory>
     ensures { OnOk result (out.new.items
         ≡ out.old.items ++ line.event_words (plain.UnresolvedAlias name.now)) }
@@ -190,6 +198,7 @@ fn push_unresolved(out: &mut Vec<u8>, name: &Text) -> Result<(), NoMemory>
     push_in_quotes(out, name.as_str())
 }
 
+#[inline(never)]
 fn push_comment(out: &mut Vec<u8>, text: &Text, placement: Placement) -> Result<(), NoMemory>
     ensures { OnOk result (out.new.items
         ≡ out.old.items ++ line.event_words (plain.Comment text.now placement)) }

@@ -10,6 +10,7 @@ use crate::places::push_behind;
 use granit_base::{NoMemory, is_at_end, split_first_char};
 
 /// A text in its quotes.
+#[inline(always)]
 pub fn push_in_quotes(out: &mut Vec<u8>, text: &str) -> Result<(), NoMemory>
     ensures { OnOk result (out.new.items ≡ out.old.items ++ line.in_quotes (chars text.now)) }
 {
@@ -20,6 +21,7 @@ pub fn push_in_quotes(out: &mut Vec<u8>, text: &str) -> Result<(), NoMemory>
 }
 
 /// A text between quotes, without them.
+#[inline(always)]
 fn push_quoted(out: &mut Vec<u8>, text: &str) -> Result<(), NoMemory>
     ensures { OnOk result (out.new.items ≡ out.old.items ++ line.quoted_line_text (chars text.now)) }
 {
@@ -66,6 +68,7 @@ fn is_plain_byte(byte: u8) -> bool
 }
 
 /// A character between quotes.
+#[inline(never)]
 #[tactic(auto, unfolding(granit_lexemes::specs::Line::quoted_char))]
 fn push_quoted_char(out: &mut Vec<u8>, c: char) -> Result<(), NoMemory>
     ensures { OnOk result (out.new.items ≡ out.old.items ++ line.quoted_char c) }

@@ -134,6 +134,7 @@ impl Frames {
     /// # Errors
     ///
     /// `NoMemory` alone, and only where there is none.
+    #[inline(always)]
     #[tactic(auto, using(crate::proofs::CountLemmas::blocks_fit))]
     pub fn replace(&mut self, frame: Frame) -> Result<(), NoMemory>
         ensures value { OnOk result (self.new ≡ frame ∷ drop 1 self.old) }

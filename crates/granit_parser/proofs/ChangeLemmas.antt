@@ -1,23 +1,25 @@
 -- Between calls another number is set, or another option: a parser is then where turns made early lead to, with that.
-use Rattle.std.proofs.Common.{◌≡◌, inl, inr, true, List, [], ◌∷◌, Some}
+use Rattle.std.proofs.Common.{◌≡◌, inl, inr, ℕ, true, false, List, [], ◌∷◌, Option, Some}
 use Rattle.std.proofs.Common.{None, Ok, Err, refl, sym, ap, subst, ◌∙◌}
 use Rattle.granit_base.specs.Place.{Unread}
 use Rattle.granit_error.specs.OptionsData.{OptionsData}
 use Rattle.granit_event.specs.Events.{plain_event}
+use Rattle.granit_lexemes.specs.Outcome.{Fault}
 use Rattle.granit_lexemes.specs.PlainEvent.{PlainEvent, EventKind, DocumentStart, DocumentEnd, StreamEnd}
 use Rattle.granit_parser.proofs.CallLemmas.{Comes, comes, comes_on, waits}
 use Rattle.granit_parser.proofs.GoesLemmas.{noted_steps}
-use Rattle.granit_parser.proofs.InLemmas.{goes_in, open_seen}
+use Rattle.granit_parser.proofs.InLemmas.{closed_open, goes_in, open_seen}
 use Rattle.granit_parser.specs.Parsing.{Next, Parsing, StandsBefore}
-use Rattle.granit_parser.specs.Recovering.{ChangesIn, GoesWithCalls, IsOpen, ParserIn, SeenBy, SeenNext}
+use Rattle.granit_parser.specs.Recovering.{AnswersBy, ChangesIn, Failed, GaveUp, GoesWithCalls, IsClosed, IsOpen}
+use Rattle.granit_parser.specs.Recovering.{ParserIn, SeenBy, SeenNext, SeenNone, StaysBy}
 use Rattle.granit_recovery.specs.Streams.{EarlyOf, not_early, turn_early}
 use Rattle.granit_restart.proofs.AheadLaws.{one, OneTurn, waits_next}
 use Rattle.granit_restart.specs.Ahead.{AheadOf, not_ahead, turn_made}
 use Rattle.granit_restart.specs.Calls.{Calls, noted}
 use Rattle.granit_restart.specs.Looking.{behind_waiting, turn_ahead}
 use Rattle.granit_restart.specs.Skipping.{with_pending}
-use Rattle.granit_restart.specs.Turned.{Turned}
-use Rattle.granit_stepper.specs.Refusals.{StandsAhead}
+use Rattle.granit_restart.specs.Turned.{Turned, with_count}
+use Rattle.granit_stepper.specs.Refusals.{FailsIn, StandsAhead, StandsRefused}
 use Rattle.granit_stepper.specs.Stepping.{StandsIn}
 use Rattle.granit_steps.specs.Steps.{StepState, next_event, step_turn}
 
@@ -154,3 +156,60 @@ module _ {I : Type 0} (unread : I → Unread → Type 0) (change : StepState →
     changed_in c turned opened at =
         changed_by c p.peeked opened (between_same ∙ at.between opened) (over_same ∙ at.over) turned refl
         (open_seen unread p c opened at)
+
+-- ---- behind a fault that was given
+
+module _ {I : Type 0} (unread : I → Unread → Type 0) (change : StepState → StepState) (p q : Parsing I)
+    (stands : (m : StepState) (e : Fault) → StandsRefused unread p.stepper m e
+    → StandsRefused unread q.stepper (change m) e)
+    (counts : (count : ℕ) (m : StepState) → with_count count (change m) ≡ with_count count m)
+    (peeked : q.peeked ≡ p.peeked) (failed : q.stepper.failed ≡ p.stepper.failed)
+    (renumbered : p.stepper.renumbered ≡ true → q.stepper.renumbered ≡ true)
+    (refusal : p.stepper.refusal ≡ None → q.stepper.refusal ≡ None) (given : q.given ≡ p.given)
+    (over : q.over ≡ p.over) where
+  -- the turn failed as it did
+  fails_changed : (o : OptionsData) (m : StepState) (e : Fault) → FailsIn p.stepper.renumbered o m e
+      → FailsIn q.stepper.renumbered o m e
+  fails_changed o m e (inl fails) = inl fails
+  fails_changed o m e (inr left) = inr (renumbered left.0, left.1)
+
+  failed_changed : (m : StepState) (f : Fault) → Failed unread p.stepper m f → Failed unread q.stepper (change m) f
+  failed_changed m f at = record {
+    stands = stands m f at.stands;
+    options = at.options;
+    count = at.count;
+    fails = fails_changed at.options (with_pending [] (with_count at.count (change m))) f
+        (subst (λ n. FailsIn p.stepper.renumbered at.options (with_pending [] n) f) (sym (counts at.count m)) at.fails);
+    failed = failed ∙ at.failed;
+  }
+
+  gone_changed : (f : Fault) → GaveUp p f → GaveUp q f
+  gone_changed f gone = record {
+    seen = peeked ∙ gone.seen;
+    failed = failed ∙ gone.failed;
+    refusal = refusal gone.refusal;
+    kept = gone.kept;
+    given = given ∙ gone.given;
+    is_kept = gone.is_kept;
+  }
+
+  answers_changed : (c : Calls) (f g : Option Fault) → c.over ≡ false → c.fault ≡ f → c.refusal ≡ g → IsClosed c
+      → AnswersBy unread g p c → AnswersBy unread g q (record c { steps = change c.steps })
+  answers_changed c f (Some g) going fault is closed gone = gone_changed g gone
+  answers_changed c (Some f) None going fault is closed at =
+      let d : Calls = record c { steps = change c.steps } in
+      let before = subst (λ (f : Option Fault). StaysBy unread f p.peeked p.stepper c) fault at in
+      subst (λ (f : Option Fault). StaysBy unread f q.peeked q.stepper d) (sym fault)
+      (subst (λ (w : Next). SeenNone w) (sym peeked) before.0, failed_changed c.steps f before.1)
+  answers_changed c None None going fault is closed at =
+      absurd (closed_open c closed (record { over = going; fault = fault; refusal = is }))
+
+  -- no call gives an event, and recovery goes on from the state as it was changed
+  pub closed_changed : (c : Calls) → IsClosed c → ParserIn unread p c
+      → ParserIn unread q (record c { steps = change c.steps })
+  closed_changed c closed at = record {
+    over = over ∙ at.over;
+    between = λ is. absurd (closed_open c closed (record { over = is.over; fault = is.fault; refusal = is.refusal }));
+    ended = at.ended;
+    stays = λ going. answers_changed c c.fault c.refusal going refl refl closed (at.stays going);
+  }

@@ -16,7 +16,7 @@ use Rattle.granit_recovery.specs.Streams.{ReachedByCalls}
 use Rattle.granit_restart.specs.Calls.{Calls}
 use Rattle.granit_restart.specs.Turned.{Turned}
 use Rattle.granit_stepper.specs.Recovering.{SkipsDocument, SkipsFault}
-use Rattle.granit_stepper.specs.Refusals.{RefusedIn, StandsAhead}
+use Rattle.granit_stepper.specs.Refusals.{StandsAhead, StandsRefused}
 use Rattle.granit_stepper.specs.Stepping.{Stepping}
 use Rattle.granit_steps.specs.Steps.{StepState}
 
@@ -47,15 +47,15 @@ module _ {I : Type 0} (unread : I → Unread → Type 0) (p : Parsing I) (c : Ca
     kept = same ∙ ap (λ (s : Stepping I). s.scanner.options) is
 
     pub fault_dropped : p.stepper.failed ≡ true
-        → ((m : StepState) (e : Refused) → RefusedIn unread mid m e → Turned mid.scanner.options m
+        → ((m : StepState) (e : Refused) → StandsRefused unread mid m e → Turned mid.scanner.options m
         → OnOk r (SkipsFault unread mid.scanner.options mid.scanner.cursor e q.stepper m))
         → OnOk r (SkipsToAsk unread p.stepper.scanner.cursor (is_some p.peeked) q c)
     fault_dropped failed known =
         let f = at_fault unread p c at over refusal failed in
-        let here = subst (λ (s : Stepping I). (m : StepState) (e : Refused) → RefusedIn unread s m e
+        let here = subst (λ (s : Stepping I). (m : StepState) (e : Refused) → StandsRefused unread s m e
         → Turned s.scanner.options m
         → OnOk r (SkipsFault unread s.scanner.options s.scanner.cursor e q.stepper m)) is known in
-        on_ok r (here c.steps f.fault f.failed.refused (by_turns c reached)) first
+        on_ok r (here c.steps f.fault f.failed.stands (by_turns c reached)) first
         (SkipsToAsk unread p.stepper.scanner.cursor (is_some p.peeked) q c)
         (λ x e. unseen q none (fault_asks unread p c at over refusal p.stepper.scanner.options (is_some p.peeked)
         reached tells by_turns q.stepper kept p.stepper.scanner.cursor f.fault f.is x e))

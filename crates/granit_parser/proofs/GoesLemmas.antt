@@ -25,7 +25,7 @@ use Rattle.granit_restart.specs.Calls.{Calls, failing, noted}
 use Rattle.granit_restart.specs.Skipping.{with_pending}
 use Rattle.granit_restart.specs.Turned.{Turned}
 use Rattle.granit_stepper.specs.Numbers.{GivesOr, RefusesNumber, TurnsTo, no_turn, one_turn}
-use Rattle.granit_stepper.specs.Refusals.{GivesAhead, HoldsRefusal, RefusedIn, RefusesLater, StandsAhead}
+use Rattle.granit_stepper.specs.Refusals.{FailsIn, GivesAhead, HoldsRefusal, RefusedIn, RefusesLater, StandsAhead}
 use Rattle.granit_stepper.specs.Stepping.{StandsIn, Stepping}
 use Rattle.granit_steps.specs.Steps.{StepState, next_event, step_size, step_turn}
 
@@ -286,40 +286,51 @@ module _ {I : Type 0} (unread : I → Unread → Type 0) where
         → FailsAt new.renumbered new.scanner.options m c e
     fails_where e m at = subst (λ o. FailsAt new.renumbered o m c e) (sym after) at
 
+    -- under the options that stand
+    fails_under : (e : Refused) (m : StepState) → RefusedIn unread new m e
+        → FailsIn new.renumbered o (with_pending [] m) e
+    fails_under e m refused = subst (λ o. FailsIn new.renumbered o (with_pending [] m) e) after refused.fails
+
     fails_by : (e : Refused) (m : StepState) → TurnsTo o g.steps m → next_event o g.steps ≡ Err e
         → RefusedIn unread new m e → FailsAt new.renumbered o m c e
     fails_by e m turns next refused =
-        elim refused.fails [
-          | inl fails ↦ inl (fails_there o c g.steps m e going_ahead turns next
-              (subst (λ o. step_turn o (with_pending [] m) ≡ Err e) after fails))
-          | inr left ↦ inr (g.steps, going_ahead, number left)
-        ]
+        let under = fails_under e m refused in (
+          under,
+          elim under [
+            | inl fails ↦ inl (fails_there o c g.steps m e going_ahead turns next fails)
+            | inr left ↦ inr (g.steps, going_ahead, number left)
+          ],
+        )
       where
-        number : RefusesNumber new.renumbered new.scanner.options (with_pending [] m) e
-            → RefusesNumber new.renumbered o g.steps e
+        number : RefusesNumber new.renumbered o (with_pending [] m) e → RefusesNumber new.renumbered o g.steps e
         number left =
             let none = none_waits o m e m.pending refl (sym (turns_next o g.steps m turns) ∙ next) in
             let same : with_pending [] m ≡ m = ap (λ es. with_pending es m) (sym none) in
             number_before o new.renumbered g.steps m e turns
-            (subst (λ n. RefusesNumber new.renumbered o n e) same
-            (subst (λ o. RefusesNumber new.renumbered o (with_pending [] m) e) after left))
+            (subst (λ n. RefusesNumber new.renumbered o n e) same left)
 
     held_fails : (e : Refused) → g.steps.pending ≡ [] → RefusedIn unread new g.steps e
         → FailsAt new.renumbered o g.steps c e
     held_fails e none refused =
         let same : with_pending [] g.steps ≡ g.steps = ap (λ es. with_pending es g.steps) (sym none) in
-        elim refused.fails [
-          | inl fails ↦ let is = ap (step_turn o) (sym same)
-              ∙ subst (λ o. step_turn o (with_pending [] g.steps) ≡ Err e) after fails in
-              inl (fails_there o c g.steps g.steps e going_ahead no_turn (turn_fails o g.steps e is)
-              (ap (step_turn o) same ∙ is))
-          | inr left ↦ inr (
-            g.steps,
-            going_ahead,
-            subst (λ n. RefusesNumber new.renumbered o n e) same
-                (subst (λ o. RefusesNumber new.renumbered o (with_pending [] g.steps) e) after left),
-          )
-        ]
+        let under = fails_under e g.steps refused in (
+          under,
+          elim under [
+            | inl fails ↦ inl (fails_there o c g.steps g.steps e going_ahead no_turn
+                (turn_fails o g.steps e (ap (step_turn o) (sym same) ∙ fails)) fails)
+            | inr left ↦ inr (g.steps, going_ahead, subst (λ n. RefusesNumber new.renumbered o n e) same left)
+          ],
+        )
+
+    failed_there : (e : Refused) (m : StepState) → RefusedIn unread new m e → new.failed ≡ true
+        → Failed unread new m e
+    failed_there e m refused failed = record {
+      stands = refused.stands;
+      options = new.scanner.options;
+      count = m.parser.count;
+      fails = refused.fails;
+      failed = failed;
+    }
 
     pub goes_fault : (e : Refused) → new.failed ≡ true → new.renumbered ≡ old.renumbered
         → ((m : StepState) → StandsIn unread old m
@@ -339,18 +350,21 @@ module _ {I : Type 0} (unread : I → Unread → Type 0) where
         later l (inl fails) =
             let x = l other in (
               x.0,
-              record { refused = x.2; failed = failed },
+              failed_there e x.0 x.2 failed,
               fails_where e x.0 (fails_by e x.0 x.1 (fails other) x.2),
             )
         later l (inr left) =
             let x = l other in (
               x.0,
-              record { refused = x.2; failed = failed },
-              fails_where e x.0 (inr (
-                g.steps,
-                going_ahead,
-                subst (λ b. RefusesNumber b o g.steps e) (sym renumbered) left,
-              )),
+              failed_there e x.0 x.2 failed,
+              fails_where e x.0 (
+                fails_under e x.0 x.2,
+                inr (
+                  g.steps,
+                  going_ahead,
+                  subst (λ b. RefusesNumber b o g.steps e) (sym renumbered) left,
+                ),
+              ),
             )
 
         by : StandsAhead unread old g.steps
@@ -359,7 +373,7 @@ module _ {I : Type 0} (unread : I → Unread → Type 0) where
         by (inr held) =
             let a = ahead g.steps held in (
               g.steps,
-              record { refused = a.1; failed = failed },
+              failed_there e g.steps a.1 failed,
               fails_where e g.steps (held_fails e a.0 a.1),
             )
 

@@ -66,7 +66,7 @@ notes_ended (Some (Err e)) = refl
 
 -- ---- closed
 
-closed_open : (c : Calls) → IsClosed c → IsOpen c → ⊥
+pub closed_open : (c : Calls) → IsClosed c → IsOpen c → ⊥
 closed_open c closed is =
     let none : ((c.over || is_some c.fault) || is_some c.refusal) ≡ false =
     ap (λ b. (b || is_some c.fault) || is_some c.refusal) is.over

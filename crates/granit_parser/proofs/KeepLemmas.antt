@@ -12,6 +12,8 @@ use Rattle.granit_machine.specs.Reader.{LexState}
 use Rattle.granit_restart.specs.Header.{gap_in_directive}
 use Rattle.granit_scanner.specs.Scans.{BehindFault, KnownBy, Scanning}
 use Rattle.granit_scanner.specs.Scans as scans
+use Rattle.granit_stepper.proofs.RefusalLemmas.{stands_moved}
+use Rattle.granit_stepper.specs.Refusals.{StandsRefused}
 use Rattle.granit_stepper.specs.Stepping.{StandsIn, Stepping, keeping}
 use Rattle.granit_steps.specs.Steps.{StepState}
 
@@ -46,3 +48,9 @@ module _ {I : Type 0} (unread : I → Unread → Type 0) (keep : Bool) where
     numbers = at.numbers;
     none_ahead = at.none_ahead;
   }
+
+  -- and where a turn was refused
+  pub refused_alike : (s : Stepping I) (m : StepState) (e : Refused) → StandsRefused unread s m e
+      → StandsRefused unread (keeping keep s) m e
+  refused_alike s m e at =
+      stands_moved unread s (scans.scanner_keeping keep s.scanner) (λ f. known_alike f s.scanner) refl m e at

@@ -76,7 +76,7 @@ module _ {I : Type 0} (unread : I → Unread → Type 0) where
       open_by None seen =
           absurd (let no : true ≡ false = sym parts.0 ∙ seen_going unread p.peeked p.stepper c seen in cc)
       open_by (Some f) stays =
-          absurd (let no : true ≡ false = sym (ap is_some stays.1.refused.is_kept) ∙ parts.1 in cc)
+          absurd (let no : true ≡ false = sym (ap is_some stays.1.stands.is_kept) ∙ parts.1 in cc)
 
       by : (r : Option Fault) → c.refusal ≡ r → AnswersBy unread r p c → Ends unread (Err e) p q c
       by None is stays = open_by c.fault stays

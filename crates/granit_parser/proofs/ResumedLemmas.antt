@@ -77,7 +77,7 @@ module _ {I : Type 0} (unread : I → Unread → Type 0) (o : OptionsData) (stop
       let y = g other in
       let fails : FailsAt p.stepper.renumbered o y.0 e x =
       subst (λ (o : OptionsData). FailsAt p.stepper.renumbered o y.0 e x) same y.1 in
-      elim fails [
+      elim fails.1 [
         | inl failed ↦ inl
             (_, goes_by o e goes ∙ ap (given_by o e) failed.0, resumed_gives o stops c e es r)
         | inr number ↦ inr number

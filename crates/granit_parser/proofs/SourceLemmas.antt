@@ -20,7 +20,9 @@ use Rattle.granit_parser.specs.Sources.{GoesGiving, GoesUnless, IfUnseen, IsSour
 use Rattle.granit_parser.specs.Sources.{NeverRecovers, NeverRevives, TellsSource, unless_failed}
 use Rattle.granit_restart.specs.Ahead.{AheadOf, NoneComes}
 use Rattle.granit_restart.specs.Calls.{Calls, noted}
-use Rattle.granit_stepper.specs.Refusals.{HoldsRefusal, RefusedIn}
+use Rattle.granit_restart.specs.Skipping.{with_pending}
+use Rattle.granit_restart.specs.Turned.{with_count}
+use Rattle.granit_stepper.specs.Refusals.{FailsIn, HoldsRefusal, StandsRefused}
 use Rattle.granit_stepper.specs.Stepping.{StandsIn, Stepping, refused_kind}
 use Rattle.granit_steps.specs.Steps.{StepState, next_event}
 
@@ -285,7 +287,7 @@ module _ {I : Type 0} (unread : I → Unread → Type 0) (mid new : Stepping I)
     (first : new.first ≡ mid.first) (failed : new.failed ≡ (mid.failed || false))
     (known : (m : StepState) → StandsIn unread mid m → StandsIn unread new m)
     (held : (m : StepState) → HoldsRefusal unread mid m → HoldsRefusal unread new m)
-    (refused : (m : StepState) (e : Refused) → RefusedIn unread mid m e → RefusedIn unread new m e) where
+    (refused : (m : StepState) (e : Refused) → StandsRefused unread mid m e → StandsRefused unread new m e) where
   pub goes_kept : (c : Calls) → calls.GoesWithCalls unread mid c → calls.GoesWithCalls unread new c
   goes_kept c g = record {
     steps = g.steps;
@@ -316,7 +318,14 @@ module _ {I : Type 0} (unread : I → Unread → Type 0) (mid new : Stepping I)
   reads_kept (Some (Err e)) c s = λ other.
       let x = s other in (
         x.0,
-        record { refused = refused x.0 e x.1.refused; failed = failed ∙ ap (λ b. b || false) x.1.failed },
+        record {
+          stands = refused x.0 e x.1.stands;
+          options = x.1.options;
+          count = x.1.count;
+          fails = subst (λ b. FailsIn b x.1.options (with_pending [] (with_count x.1.count x.0)) e) (sym renumbered)
+              x.1.fails;
+          failed = failed ∙ ap (λ b. b || false) x.1.failed;
+        },
         subst (λ o. FailsAt new.renumbered o x.0 c e) (sym options)
             (subst (λ b. FailsAt b mid.scanner.options x.0 c e) (sym renumbered) x.2),
       )

@@ -27,10 +27,10 @@ use Rattle.granit_restart.specs.Recovery.{comment_count, recover, recovered, rec
 use Rattle.granit_restart.specs.Restart.{behind_fault}
 use Rattle.granit_restart.specs.Skipping as skipping
 use Rattle.granit_restart.specs.Skipping.{Ended, SkipEnd, Stops, skip_by_turns, skipped_fault, with_pending}
-use Rattle.granit_restart.specs.Turned.{Turned}
+use Rattle.granit_restart.specs.Turned.{Turned, with_count}
 use Rattle.granit_stepper.specs.Numbers.{RefusesNumber}
 use Rattle.granit_stepper.specs.Recovering.{DropsOn, StopsAt, StopsBehind}
-use Rattle.granit_stepper.specs.Refusals.{RefusedIn, StandsAhead}
+use Rattle.granit_stepper.specs.Refusals.{FailsIn, StandsAhead, StandsRefused}
 use Rattle.granit_stepper.specs.Stepping.{Stepping}
 use Rattle.granit_steps.specs.Steps.{StepState, next_event}
 
@@ -45,10 +45,14 @@ pub record GoesWithCalls {I : Type 0} (unread : I → Unread → Type 0) (s : St
   pub between : c.between ≡ true → (steps ≡ c.steps) ⊎ NoneComes s.scanner.options c.steps
   pub told : c.between ≡ true → s.first ≡ None
 
--- a call failed: the turn that failed is known
+-- A call failed: the turn that failed is known, and under which options, behind how many anchors, it did. Others may
+-- have been set since; recovery goes on by those.
 pub record Failed {I : Type 0} (unread : I → Unread → Type 0) (s : Stepping I) (m : StepState) (f : Fault) : Type 0
   where
-    pub refused : RefusedIn unread s m f
+    pub stands : StandsRefused unread s m f
+    pub options : OptionsData
+    pub count : ℕ
+    pub fails : FailsIn s.renumbered options (with_pending [] (with_count count m)) f
     pub failed : s.failed ≡ true
 
 -- ---- where a parser is
@@ -115,8 +119,9 @@ failed_in m f c = record c { steps = m; fault = Some f }
 -- Which turn failed: the machine's, behind the turns that lead there, or the next anchor would get the greatest number.
 abbrev pub FailsAt : (renumbered : Bool) → OptionsData → StepState → Calls → Refused → Type 0
 FailsAt renumbered o m c e =
-    ((next_event o c.steps ≡ Err e) × (m ≡ failing o c.steps))
-    ⊎ ((t : StepState) × AheadOf o c.steps t × RefusesNumber renumbered o t e)
+    FailsIn renumbered o (with_pending [] m) e
+    × (((next_event o c.steps ≡ Err e) × (m ≡ failing o c.steps))
+    ⊎ ((t : StepState) × AheadOf o c.steps t × RefusesNumber renumbered o t e))
 
 -- what a read gives: the event of the next call, with the stepper where that leads, or its fault, unless memory ran out
 -- or an anchor would get the greatest number

@@ -26,7 +26,8 @@ impl<'input, T: BorrowedInput<'input>> Parser<'input, T> {
     /// was looked at stays as it is.
     ///
     /// The contract: where the machine's calls led, they go on from there with that number (`there`), also where turns
-    /// were made early, unless such a turn was refused (`calls`).
+    /// were made early, unless such a turn was refused (`calls`). Behind a fault that was given recovery does
+    /// (`failed`).
     pub fn set_anchor_offset(&mut self, offset: usize)
         ensures known { (m : StepState) → StandsIn T.unread self.old.stepper m
             → StandsIn T.unread self.new.stepper (with_offset offset m) }
@@ -38,6 +39,8 @@ impl<'input, T: BorrowedInput<'input>> Parser<'input, T> {
             → ParserIn T.unread self.new (record c { steps = with_offset offset c.steps }) }
         ensures closed { (c : Calls) → IsClosed c → c.fault ≡ None → ParserIn T.unread self.old c
             → ParserIn T.unread self.new c }
+        ensures failed { (c : Calls) → IsClosed c → ParserIn T.unread self.old c
+            → ParserIn T.unread self.new (record c { steps = with_offset offset c.steps }) }
         ensures value { self.new ≡ with_number offset self.old }
     {
         calls_go_by_turns();

@@ -32,7 +32,7 @@ ghost use Rattle.granit_receivers.specs.Sending.{shown};
 ghost use Rattle.granit_recovery.specs.Streams.{ReachedByCalls, calls_from};
 ghost use Rattle.granit_restart.specs.Calls.{Calls, calls_start};
 ghost use Rattle.granit_restart.specs.Skipping.{Stops};
-ghost use Rattle.granit_stepper.specs.Refusals.{HoldsRefusal, RefusedIn};
+ghost use Rattle.granit_stepper.specs.Refusals.{HoldsRefusal, StandsRefused};
 ghost use Rattle.granit_stepper.specs.Stepping.{StandsIn, refused_kind};
 ghost use Rattle.granit_shifted.specs.Alone.{TellsAlone};
 ghost use Rattle.granit_shifted.specs.Shift.{Shift};
@@ -411,8 +411,8 @@ impl<'input, T: BorrowedInput<'input>> Parser<'input, T> {
             → StandsIn T.unread self.new.stepper m }
         ensures held { (m : StepState) → HoldsRefusal T.unread self.old.stepper m → result ≡ None
             → HoldsRefusal T.unread self.new.stepper m }
-        ensures refused { (m : StepState) (e : Refused) → RefusedIn T.unread self.old.stepper m e → result ≡ None
-            → RefusedIn T.unread self.new.stepper m e }
+        ensures refused { (m : StepState) (e : Refused) → StandsRefused T.unread self.old.stepper m e → result ≡ None
+            → StandsRefused T.unread self.new.stepper m e }
         ensures lost { IfSome result (λ e. self.new.stepper.refusal ≡ None) }
         ensures ended { result ≡ None → self.new.stepper.refusal ≡ self.old.stepper.refusal }
         ensures first { self.new.stepper.first ≡ self.old.stepper.first }

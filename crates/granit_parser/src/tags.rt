@@ -13,8 +13,9 @@ use granit_recovery::calls_go_by_turns;
 impl<'input, T: BorrowedInput<'input>> Parser<'input, T> {
     /// Whether the handles of `%TAG` but `!` and `!!` stay over documents: sets the option `keep_tags` of this parser.
     ///
-    /// The contract: where the machine's calls led, they go on from there under that option (`there`), also where turns
-    /// were made early, unless such a turn was refused (`calls`).
+    /// The contract: where the machine's calls led, they go on from there under that option (`there`), also where
+    /// turns were made early, unless such a turn was refused (`calls`). Behind a fault that was given recovery does
+    /// (`closed`).
     pub fn keep_tags(self, value: bool) -> Parser<'input, T>
         ensures set { result ≡ parser_keeping value self.entry }
         ensures known { (m : StepState) → self.entry.peeked ≡ None → StandsAt T.unread self.entry m
@@ -24,8 +25,7 @@ impl<'input, T: BorrowedInput<'input>> Parser<'input, T> {
             → ChangesIn T.unread self.entry.stepper.scanner.options unchanged result c }
         ensures there { (c : Calls) → IsOpen c → self.entry.peeked ≡ None → StandsAt T.unread self.entry c.steps
             → ParserIn T.unread self.entry c → ParserIn T.unread result c }
-        ensures closed { (c : Calls) → IsClosed c → c.fault ≡ None → ParserIn T.unread self.entry c
-            → ParserIn T.unread result c }
+        ensures closed { (c : Calls) → IsClosed c → ParserIn T.unread self.entry c → ParserIn T.unread result c }
     {
         calls_go_by_turns();
         let mut parser = self;

@@ -41,6 +41,9 @@ fn behind<'t, T: Given + Drop>(given: T, text: &'t str) -> Option<&'t str> {
 trait TellsHandles {
     /// Whether these are those of all events, of twelve at most, one behind the other.
     fn tells(&mut self, want: &str) -> bool;
+
+    /// Whether recovery finds another document.
+    fn recovers(&mut self) -> bool;
 }
 
 impl<'a, T: BorrowedInput<'a>> TellsHandles for Parser<'a, T> {
@@ -55,12 +58,29 @@ impl<'a, T: BorrowedInput<'a>> TellsHandles for Parser<'a, T> {
         }
         left.is_empty()
     }
+
+    fn recovers(&mut self) -> bool {
+        finds_document(self.proceed_next_document())
+    }
+}
+
+/// Whether recovery answers true. What it answers is let go here.
+fn finds_document<E: Drop>(answer: Result<bool, E>) -> bool {
+    matches!(answer, Ok(true))
 }
 
 /// The same of a parser that is let go here.
 fn tells_of<P: TellsHandles + Drop>(parser: P, want: &str) -> bool {
     let mut parser = parser;
     parser.tells(want)
+}
+
+/// The same behind the fault of a first document, in front of which handles stayed, by whether they stay from then on.
+fn tells_behind<'a, T: BorrowedInput<'a>>(parser: Parser<'a, T>, keep: bool, want: &str) -> bool {
+    let mut parser = parser.keep_tags(true);
+    let before = parser.tells("t:?");
+    let mut parser = parser.keep_tags(keep);
+    before && parser.recovers() && parser.tells(want)
 }
 
 /// The same of a text.
@@ -76,4 +96,16 @@ fn handles_over_documents(rt: HostRuntime) {
         tells(rt.alloc(), CORE, true, "t:tag:yaml.org,2002:"),
     ];
     assert_eq!(rt; told, [true; 3]);
+}
+
+/// A document that isn't closed in place of the first one.
+const UNCLOSED: &str = "%TAG !e! t:\n--- !e!a [\n--- !e!b c\n";
+
+#[test]
+fn handles_behind_a_fault(rt: HostRuntime) {
+    let told = [
+        tells_behind(Parser::new_from_str(rt.alloc(), UNCLOSED), true, "t:"),
+        tells_behind(Parser::new_from_str(rt.alloc(), UNCLOSED), false, "?"),
+    ];
+    assert_eq!(rt; told, [true; 2]);
 }

@@ -141,6 +141,7 @@ fn push_all<'input>(
     Ok(())
 }
 
+#[inline(always)]
 fn push<'input>(
     items: &mut VecDeque<Queued<'input>>,
     numbers: &mut Numbers,

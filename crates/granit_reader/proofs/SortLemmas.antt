@@ -1,7 +1,8 @@
 -- What the sort of a lexeme says of the text that it begins.
-use Rattle.std.proofs.Common.{◌≡◌, ℕ, ◌==◌, ◌&&◌, ◌||◌, not, Bool, true, false, inl, inr, refl}
+use Rattle.std.proofs.Common.{◌≡◌, ℕ, ◌==◌, ◌&&◌, ◌||◌, not, Bool, true, false, inl, inr, refl, arith}
 use Rattle.std.specs.Prelude.{slice_index}
 use Rattle.std.proofs.lemmas.Bool.{cases_Bool, and_parts, or_parts, eqb-true}
+use Rattle.std.proofs.lemmas.Bool.Decides.{nat_tests}
 use Rattle.granit_base.specs.Classes.{is_z, is_break, is_breakz, is_blank, is_blank_or_breakz, is_flow, is_bom, is_gap}
 use Rattle.granit_base.specs.Classes.{is_printable}
 use Rattle.granit_base.specs.PlainContent.{is_content}
@@ -11,6 +12,16 @@ use Rattle.granit_lexemes.specs.Here.{Here, text_len, next_char}
 use Rattle.granit_lexemes.specs.QuotedScalar.{quote_char}
 use Rattle.granit_machine.specs.LexemeSort.{sort_of, sort_at}
 use Rattle.granit_reader.specs.SortViews.{PlacedFits, SortFits}
+
+-- the character behind it tells only whether an indicator stands there
+other_char : (c k : ℕ) → (c ≡ k → ⊥) → (c == k) ≡ false
+other_char c k other = grind (arith, nat_tests, other)
+
+pub any_next : (c next other : ℕ) → (c ≡ 0x2D → ⊥) → (c ≡ 0x3F → ⊥) → (c ≡ 0x3A → ⊥) → (in_flow adjacent : Bool)
+    → sort_of in_flow adjacent c next ≡ sort_of in_flow adjacent c other
+unfolding sort_of
+any_next c next other dash question colon in_flow adjacent =
+    rw (other_char c 0x2D dash, other_char c 0x3F question, other_char c 0x3A colon) refl
 
 -- ---- content of a plain scalar
 

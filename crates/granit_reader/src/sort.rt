@@ -1,5 +1,5 @@
 //! Which lexeme a text begins with, told by its first characters.
-ghost use Rattle.std.specs.Prelude.{◌≡◌, ◌≤◌};
+ghost use Rattle.std.specs.Prelude.{◌≡◌, ◌≤◌, Bool, slice_index};
 ghost use Rattle.granit_cursor.specs.Reading.{Stands};
 ghost use Rattle.granit_lexemes.specs.Here.{Here};
 ghost use Rattle.granit_machine.specs.LexemeSort as spec;
@@ -95,7 +95,29 @@ pub(crate) fn sort_at<T: Input>(at: &Cursor<T>, in_flow: bool, adjacent: bool) -
     if column == 0 && c == '%' {
         return LexemeSort::DirectiveSign;
     }
-    LexemeSort::Placed(sort_of(in_flow, adjacent, c, at.input().peek_nth(1)))
+    LexemeSort::Placed(placed_at(at, in_flow, adjacent, c))
+}
+
+/// By its first character; the next one is asked for where it tells more.
+fn placed_at<T: Input>(at: &Cursor<T>, in_flow: bool, adjacent: bool, c: char) -> PlacedSort
+    requires window { 2 ≤ T.window at.now.input }
+    ensures { (h : Here) → Stands T.unread at.now h
+        → placed_view result ≡ spec.sort_of in_flow adjacent c (slice_index h.unread.text 1) }
+{
+    let next = behind_indicator(at, c);
+    sort_of(in_flow, adjacent, c, next)
+}
+
+/// The next character but one, where it tells which lexeme begins, and else a blank.
+fn behind_indicator<T: Input>(at: &Cursor<T>, c: char) -> char
+    requires window { 2 ≤ T.window at.now.input }
+    ensures { (h : Here) → Stands T.unread at.now h → (in_flow adjacent : Bool)
+        → spec.sort_of in_flow adjacent c result ≡ spec.sort_of in_flow adjacent c (slice_index h.unread.text 1) }
+{
+    if c == '-' || c == '?' || c == ':' {
+        return at.input().peek_nth(1);
+    }
+    ' '
 }
 
 /// By the first character and the next one; a `:` needs no blank in flow before a flow indicator, or behind a quoted

@@ -6,7 +6,8 @@ use granit_event::Event;
 use granit_input::StrInput;
 use granit_parser::Parser;
 
-/// A node's number and where it begins, or a refusal's kind and its place; all 0 where nothing comes.
+/// A node's number and where it begins, or a refusal's kind and its place; all 0 where nothing comes. Where recovery
+/// answers true the number is 1.
 type Row = (usize, u8, usize);
 
 fn row(given: Option<Result<&(Event<'_>, Span), &ScanError>>) -> Row {
@@ -28,6 +29,16 @@ impl<'a> Rowed for Option<Result<(Event<'a>, Span), ScanError>> {
             None => row(None),
             Some(Ok(event)) => row(Some(Ok(event))),
             Some(Err(error)) => row(Some(Err(error))),
+        }
+    }
+}
+
+impl Rowed for Result<bool, ScanError> {
+    fn row(&self) -> Row {
+        match self {
+            Ok(true) => (1, 0, 0),
+            Ok(false) => (0, 0, 0),
+            Err(error) => row(Some(Err(error))),
         }
     }
 }
@@ -134,5 +145,55 @@ fn no_number_is_left_to_load(rt: HostRuntime) {
     assert_eq!(rt;
         over(rt.alloc(), TWO, &Loaded(usize::MAX - 2)),
         [(0, 8), (0, 9)]
+    );
+}
+
+/// A sequence that isn't closed and a document behind it, each with an anchor.
+const UNCLOSED: &str = "&x a: [\n---\n&y b\n";
+
+/// The first refusal.
+fn first_refusal<'a>(parser: &mut Parser<'a, StrInput<'a>>) -> Row {
+    'events: for _ in 0..16 {
+        let row = taken(parser.next_event());
+        if row.1 != 0 {
+            return row;
+        }
+    }
+    UNLIKE
+}
+
+/// A number that is set between a refusal and recovery.
+#[derive(Drop)]
+struct Recovered(usize);
+
+impl<'a> Case<'a> for Recovered {
+    type Told = [Row; 6];
+
+    fn tell(&self, parser: &mut Parser<'a, StrInput<'a>>) -> [Row; 6] {
+        let refusal = first_refusal(parser);
+        parser.set_anchor_offset(self.0);
+        [
+            refusal,
+            taken(parser.next_event()),
+            taken(parser.proceed_next_document()),
+            taken(parser.next_event()),
+            taken(parser.next_event()),
+            taken(parser.next_event()),
+        ]
+    }
+}
+
+#[test]
+fn recovery_goes_on_with_the_number(rt: HostRuntime) {
+    assert_eq!(rt;
+        over(rt.alloc(), UNCLOSED, &Recovered(5)),
+        [
+            (0, 2, 6),
+            (0, 0, 0),
+            (1, 0, 0),
+            (0, 0, 8),
+            (5, 0, 15),
+            (0, 0, 16),
+        ]
     );
 }

@@ -205,8 +205,7 @@ impl<'input, T: BorrowedInput<'input>> Scanner<'input, T> {
     {
         let mark = self.items.mark();
         let given = self.items.take_source_error();
-        let kept = self.source_error.take();
-        self.source_error = first_error(kept, given, mark);
+        keep_first(&mut self.source_error, given, mark);
     }
 
     /// The source's error, where one is kept.
@@ -226,6 +225,9 @@ impl<'input, T: BorrowedInput<'input>> Scanner<'input, T> {
         ensures known { (m : TokenState) → ScannerIn T.unread self.old m → ScannerIn T.unread self.new m }
         ensures rest { self.new ≡ record self.old { source_error = self.new.source_error } }
     {
+        if self.source_error.is_none() {
+            return None;
+        }
         match self.source_error.take() {
             None => None,
             Some(error) => {
@@ -494,14 +496,16 @@ fn copy_of(alloc: Global, error: &ScanError) -> ScanError
     }
 }
 
-/// The error that is kept, or the one that was given at a place.
-fn first_error(kept: Option<ScanError>, given: Option<ErrorKind>, mark: Marker) -> Option<ScanError>
-    ensures { result ≡ spec.first_kept_error kept (option_map kind_of given) mark }
+/// The error that was given at a place is kept, where none is.
+#[inline(always)]
+#[tactic(auto, using(crate::proofs::SourceLemmas::kept_still, crate::proofs::SourceLemmas::first_stays, crate::proofs::SourceLemmas::first_comes))]
+fn keep_first(kept: &mut Option<ScanError>, given: Option<ErrorKind>, mark: Marker)
+    ensures { kept.new ≡ spec.first_kept_error kept.old (option_map kind_of given) mark }
 {
-    match (kept, given) {
-        (Some(error), _) => Some(error),
-        (None, Some(kind)) => Some(ScanError::from_kind(mark, kind)),
-        (None, None) => None,
+    if let Some(kind) = given {
+        if kept.is_none() {
+            *kept = Some(ScanError::from_kind(mark, kind));
+        }
     }
 }
 

@@ -62,14 +62,17 @@ impl<'input> Waiting<'input> {
     }
 
     /// One more waits.
+    #[inline(always)]
     pub(crate) fn push(&mut self, token: Token<'input>) -> Result<(), NoMemory>
         ensures { OnOk result (self.new ≡ self.old ++ plain_token token.entry ∷ []) }
     {
-        self.tokens.push_back(token)?;
+        self.tokens.reserve(1)?;
+        self.tokens.push_back_reserved(token);
         Ok(())
     }
 
     /// What is inserted at a place waits, where it is wanted.
+    #[inline(always)]
     pub(crate) fn insert_if(
         &mut self,
         wanted: bool,

@@ -38,7 +38,8 @@ pub fn what_is_told_behind_a_boundary_is_what_its_text_tells()
         (f : Option Fault) → TellsAlone o text shift s → GivesEvents o s es f → ToldAlone o text shift es f }
 {}
 
-/// Where handles stay, what calls give of a text is what it tells behind one that declares them anew, with places moved.
+/// Where handles stay, what calls give of a text is what it tells behind one that declares them anew, with its places
+/// moved.
 pub fn a_text_is_told_alike_behind_handles_declared_anew()
     ensures { (o : OptionsData) (before text : List ℕ) (kept : List (List ℕ × List ℕ)) (es : List PlainEvent)
         (f : Option Fault) → o.keep_tags ≡ true → DeclaresAnew o before kept → GivesEvents o (kept_start text kept) es f

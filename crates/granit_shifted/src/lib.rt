@@ -1,5 +1,5 @@
-//! A text that stands behind another one is read as it is alone, with its places moved and its anchors numbered on; where
-//! handles stay from before, as it is behind a text that declares them anew.
+//! A text that stands behind another one is read as it is alone, with its places moved and its anchors numbered on;
+//! where handles stay from before, as it is behind a text that declares them anew.
 #![tactic(auto)]
 
 mod behind;

@@ -105,7 +105,7 @@ module _ {I : Type 0} (unread : I → Unread → Type 0) (s : Stepping I) (m : S
         e,
         es,
         first ∙ ap (λ (xs : List PlainEvent). slice_get xs 0) waits,
-        h.refused.pending ∙ is,
+        h.refused.stands.pending ∙ is,
         subst (λ (t : Stepping I). HoldsRefusal unread (record t { parser = p }) (with_pending es m)) (sym given.1)
             held,
       )
@@ -122,8 +122,8 @@ module _ {I : Type 0} (unread : I → Unread → Type 0) (s : Stepping I) (m : S
       let both = given.0 in
       let same : e ≡ h.error = cc in
       let here = refused_with unread s m h.error m.pending s.parser None true
-      (ap (λ (xs : List PlainEvent). record (s.parser) { given = xs }) (sym h.refused.pending)) h.refused in (
-        h.refused.pending ∙ is,
+      (ap (λ (xs : List PlainEvent). record (s.parser) { given = xs }) (sym h.refused.stands.pending)) h.refused in (
+        h.refused.stands.pending ∙ is,
         subst (λ (t : Stepping I). RefusedIn unread (record t { failed = true }) m e) (sym given.1)
             (subst (λ (f : Refused). RefusedIn unread (record s { ahead = None; failed = true }) m f) (sym same) here),
       )

@@ -19,7 +19,7 @@ use Rattle.granit_restart.specs.Skipping as skipping
 use Rattle.granit_scanner.specs.Scans.{Known, may_front_go, unsettled}
 use Rattle.granit_scanner.proofs.KnownLemmas.{ends_both}
 use Rattle.granit_stepper.specs.Refusals as spec
-use Rattle.granit_stepper.specs.Refusals.{FailedToRead, RefusedIn, TookFront, directive_in, is_true, or_before}
+use Rattle.granit_stepper.specs.Refusals.{FailedToRead, StandsRefused, TookFront, directive_in, is_true, or_before}
 use Rattle.granit_stepper.specs.Stepping.{Stepping}
 use Rattle.granit_stepper.specs.declared.refusal.Refusal.{Refusal}
 use Rattle.granit_steps.specs.Steps.{StepState}
@@ -97,7 +97,7 @@ same_refusal : (x y : Refusal) → Some x ≡ Some y → x ≡ y
 same_refusal x y e = cc
 
 module _ {I : Type 0} (unread : I → Unread → Type 0) (s : Stepping I) (m : StepState) (e : Refused)
-    (refused : RefusedIn unread s m e) (r : Refusal) (is : s.refusal ≡ Some r) where
+    (refused : StandsRefused unread s m e) (r : Refusal) (is : s.refusal ≡ Some r) where
   same : refused.refusal ≡ r
   same = same_refusal refused.refusal r (sym refused.is_kept ∙ is)
 

@@ -90,7 +90,7 @@ module _ {I : Type 0} (unread : I → Unread → Type 0) where
   pub ahead_waits : (s : Stepping I) (m : StepState) → StandsAhead unread s m → s.first ≡ None
       → m.pending ≡ s.parser.given
   ahead_waits s m (inl at) told = waiting unread s m at told
-  ahead_waits s m (inr h) told = h.refused.pending
+  ahead_waits s m (inr h) told = h.refused.stands.pending
 
   pub ahead_going : (s : Stepping I) (m : StepState) → StandsAhead unread s m → s.failed ≡ false
   ahead_going s m (inl at) = at.going
@@ -141,7 +141,7 @@ module _ {I : Type 0} (unread : I → Unread → Type 0) where
     drops = λ k d. d;
     alike = refl;
     turned = turned;
-    stands = subst (λ (x : Option Mark). StandsAhead unread (record s { first = x }) m) h.refused.told (inr h);
+    stands = subst (λ (x : Option Mark). StandsAhead unread (record s { first = x }) m) h.refused.stands.told (inr h);
   }
 
   module _ (o : OptionsData) (s : Stepping I) (m : StepState) (k : SkipsAlong unread o s m)
@@ -230,7 +230,7 @@ module _ {I : Type 0} (unread : I → Unread → Type 0) (s new : Stepping I) (m
         let both = given.0 in
         let same : e ≡ h.error = cc in
         let here = refused_with unread s m h.error m.pending s.parser None s.failed
-        (ap (λ (x : List PlainEvent). record (s.parser) { given = x }) (sym h.refused.pending)) h.refused in
+        (ap (λ (x : List PlainEvent). record (s.parser) { given = x }) (sym h.refused.stands.pending)) h.refused in
         subst (λ (t : Stepping I). RefusedIn unread t m e) (sym given.1)
         (subst (λ (f : Refused). RefusedIn unread (record s { ahead = None }) m f) (sym same) here)
   ]

@@ -32,8 +32,10 @@ use Rattle.granit_scanner.specs.Scans.{KnownBy, Scanning, may_front_go, wants_me
 use Rattle.granit_scanner.proofs.KnownLemmas.{goes_kept}
 use Rattle.granit_stepper.specs.Recovering.{RestartsIn}
 use Rattle.granit_stepper.specs.Numbers.{GetsLast}
+use Rattle.granit_stepper.specs.Offset.{with_offset}
 use Rattle.granit_stepper.specs.Refusals.{FailedToRead, FailsIn, HoldsRefusal, IsBeforeItem, IsBeforeRead, RefusedIn}
-use Rattle.granit_stepper.specs.Refusals.{RefusedItem, RefusesIn, RefusesItem, TookFront, mark_if, mark_of_item}
+use Rattle.granit_stepper.specs.Refusals.{RefusedItem, RefusesIn, RefusesItem, StandsRefused, TookFront, mark_if}
+use Rattle.granit_stepper.specs.Refusals.{mark_of_item, recounted}
 use Rattle.granit_stepper.specs.Stepping.{StandsIn, Stepping, feed_item, first_events}
 use Rattle.granit_stepper.specs.declared.refusal.Refusal.{Refusal}
 use Rattle.granit_stepper.proofs.NumberLemmas.{last_turn}
@@ -163,7 +165,7 @@ same_dropped : (p : ParserState) (end : Mark) (count : ℕ) (kept : List (List �
 same_dropped p end count kept ends counts keeps = rw (ends, counts, keeps) refl
 
 module _ {I : Type 0} (unread : I → Unread → Type 0) (s : Stepping I) (m : StepState) (e : Refused)
-    (refused : RefusedIn unread s m e) where
+    (refused : StandsRefused unread s m e) where
   -- where the cursor stands
   pub stops : s.scanner.cursor.lost ≡ false → StopsAt unread s.scanner.cursor m.reading
   stops found = elim refused.how [
@@ -235,7 +237,7 @@ same_refusal x y e = cc
 
 -- by what the scanner does
 pub restarts_behind : {I : Type 0} (unread : I → Unread → Type 0) (s : Stepping I) (m : StepState) (e : Refused)
-    (refused : RefusedIn unread s m e) (r : Refusal) → s.refusal ≡ Some r → (o : OptionsData) → Turned o m
+    (refused : StandsRefused unread s m e) (r : Refusal) → s.refusal ≡ Some r → (o : OptionsData) → Turned o m
     → s.scanner.cursor.lost ≡ false → (new : Stepping I) (starts : Bool)
     → ((n : StepState) (h : Here) → Stands unread s.scanner.cursor h
     → s.scanner.laid.number ≡ n.reading.reader.laid.number
@@ -290,25 +292,27 @@ module _ {I : Type 0} (unread : I → Unread → Type 0) (s : Stepping I) (m : S
       → may_go m.reading x.0 is ≡ true → x.1 ≡ line_behind m.reading is
       → RefusedItem unread x s (record m { queue = is }) e → RefusedIn unread s m e
   item_refuses x is front goes line r = record {
-    refusal = r.refusal;
-    is_kept = r.is_kept;
-    told = r.told;
-    how = inl (record {
-      item = x.0;
-      behind = is;
-      queue = front;
-      goes = goes;
-      takes = r.is_before.1;
-      front = r.is_before.2;
-      directive = r.is_before.3;
-      expects = r.expects;
-      known = r.known;
-    });
+    stands = record {
+      refusal = r.refusal;
+      is_kept = r.is_kept;
+      told = r.told;
+      how = inl (record {
+        item = x.0;
+        behind = is;
+        queue = front;
+        goes = goes;
+        takes = r.is_before.1;
+        front = r.is_before.2;
+        directive = r.is_before.3;
+        expects = r.expects;
+        known = r.known;
+      });
+      pending = none ∙ sym r.none_given;
+      tags = r.tags;
+      before = r.is_before.0;
+      numbers = r.numbers;
+    };
     fails = item_fails x is front goes line r.fails;
-    pending = none ∙ sym r.none_given;
-    tags = r.tags;
-    before = r.is_before.0;
-    numbers = r.numbers;
   }
 
   -- a read is refused
@@ -341,59 +345,74 @@ module _ {I : Type 0} (unread : I → Unread → Type 0) (s : Stepping I) (m : S
   read_refuses r at told is waits b =
       let k = known_fault s.scanner.fault is at.reading in
       record {
-        refusal = r;
-        is_kept = refl;
-        told = told;
-        how = inr (record { waits = waits; takes = b.1; front = b.2; known = fault_taken k });
+        stands = record {
+          refusal = r;
+          is_kept = refl;
+          told = told;
+          how = inr (record { waits = waits; takes = b.1; front = b.2; known = fault_taken k });
+          pending = at.pending ∙ ap (λ (x : Option Mark). first_events x ++ s.parser.given) told;
+          tags = sym (ap (λ (p : ParserState). p.kept) at.parser);
+          before = (
+            b.0.0 ∙ sym (ap (λ (p : ParserState). p.stage) at.parser),
+            b.0.1 ∙ sym (ap (λ (p : ParserState). p.last_end) at.parser),
+            b.0.2 ∙ sym (ap (λ (p : ParserState). p.count) at.parser),
+          );
+          numbers = subst (λ (n : ℕ). n < 2 ^ 64 - 1) (sym (ap (λ (p : ParserState). p.count) at.parser)) at.numbers;
+        };
         fails = inl (read_fails k waits);
-        pending = at.pending ∙ ap (λ (x : Option Mark). first_events x ++ s.parser.given) told;
-        tags = sym (ap (λ (p : ParserState). p.kept) at.parser);
-        before = (
-          b.0.0 ∙ sym (ap (λ (p : ParserState). p.stage) at.parser),
-          b.0.1 ∙ sym (ap (λ (p : ParserState). p.last_end) at.parser),
-          b.0.2 ∙ sym (ap (λ (p : ParserState). p.count) at.parser),
-        );
-        numbers = subst (λ (n : ℕ). n < 2 ^ 64 - 1) (sym (ap (λ (p : ParserState). p.count) at.parser)) at.numbers;
       }
 
 -- what waits is another matter
-pub refused_with : {I : Type 0} (unread : I → Unread → Type 0) (s : Stepping I) (m : StepState) (e : Refused)
+module _ {I : Type 0} (unread : I → Unread → Type 0) (s : Stepping I) (m : StepState) (e : Refused)
     (es : List PlainEvent) (p : ParserState) (ahead : Option Refused) (failed : Bool)
-    → p ≡ record (s.parser) { given = es } → RefusedIn unread s m e
-    → RefusedIn unread (record s { parser = p; ahead = ahead; failed = failed }) (with_pending es m) e
-refused_with unread s m e es p ahead failed is r = record {
-  refusal = r.refusal;
-  is_kept = r.is_kept;
-  told = r.told;
-  how = elim r.how [
-    | inl t ↦ inl (record {
-      item = t.item;
-      behind = t.behind;
-      queue = t.queue;
-      goes = t.goes;
-      takes = t.takes;
-      front = t.front;
-      directive = t.directive;
-      expects = t.expects;
-      known = t.known;
-    })
-    | inr f ↦ inr (record { waits = f.waits; takes = f.takes; front = f.front; known = f.known })
-  ];
-  fails = r.fails;
-  pending = sym (ap (λ (q : ParserState). q.given) is);
-  tags = ap (λ (q : ParserState). q.kept) is ∙ r.tags;
-  before = r.before;
-  numbers = r.numbers;
-}
+    (is : p ≡ record (s.parser) { given = es }) where
+  pub stands_with : StandsRefused unread s m e
+      → StandsRefused unread (record s { parser = p; ahead = ahead; failed = failed }) (with_pending es m) e
+  stands_with r = record {
+    refusal = r.refusal;
+    is_kept = r.is_kept;
+    told = r.told;
+    how = elim r.how [
+      | inl t ↦ inl (record {
+        item = t.item;
+        behind = t.behind;
+        queue = t.queue;
+        goes = t.goes;
+        takes = t.takes;
+        front = t.front;
+        directive = t.directive;
+        expects = t.expects;
+        known = t.known;
+      })
+      | inr f ↦ inr (record { waits = f.waits; takes = f.takes; front = f.front; known = f.known })
+    ];
+    pending = sym (ap (λ (q : ParserState). q.given) is);
+    tags = ap (λ (q : ParserState). q.kept) is ∙ r.tags;
+    before = r.before;
+    numbers = r.numbers;
+  }
+
+  pub refused_with : RefusedIn unread s m e
+      → RefusedIn unread (record s { parser = p; ahead = ahead; failed = failed }) (with_pending es m) e
+  refused_with r = record { stands = stands_with r.stands; fails = r.fails }
 
 -- and so is whether a call failed
 pub refused_failed : {I : Type 0} (unread : I → Unread → Type 0) (s : Stepping I) (m : StepState) (e : Refused)
     → RefusedIn unread s m e → RefusedIn unread (record s { failed = true }) m e
-refused_failed unread s m e r = record {
-  refusal = r.refusal;
-  is_kept = r.is_kept;
-  told = r.told;
-  how = elim r.how [
+refused_failed unread s m e r =
+    refused_with unread s m e m.pending s.parser s.ahead true
+    (ap (λ (es : List PlainEvent). record (s.parser) { given = es }) (sym r.stands.pending)) r
+
+-- and the number that a next anchor gets, with which recovery goes on
+pub stands_recounted : {I : Type 0} (unread : I → Unread → Type 0) (s : Stepping I) (m : StepState) (e : Refused)
+    (offset : ℕ) → offset - 1 < 2 ^ 64 - 1 → (p : ParserState) → p ≡ record (s.parser) { count = offset - 1 }
+    → (r : Option Refusal) → option_map (recounted offset) s.refusal ≡ r → StandsRefused unread s m e
+    → StandsRefused unread (record s { parser = p; renumbered = true; refusal = r }) (with_offset offset m) e
+stands_recounted unread s m e offset less p is r kept stands = record {
+  refusal = recounted offset stands.refusal;
+  is_kept = sym kept ∙ ap (option_map (recounted offset)) stands.is_kept;
+  told = stands.told;
+  how = elim stands.how [
     | inl t ↦ inl (record {
       item = t.item;
       behind = t.behind;
@@ -407,11 +426,10 @@ refused_failed unread s m e r = record {
     })
     | inr f ↦ inr (record { waits = f.waits; takes = f.takes; front = f.front; known = f.known })
   ];
-  fails = r.fails;
-  pending = r.pending;
-  tags = r.tags;
-  before = r.before;
-  numbers = r.numbers;
+  pending = stands.pending ∙ sym (ap (λ (q : ParserState). q.given) is);
+  tags = ap (λ (q : ParserState). q.kept) is ∙ stands.tags;
+  before = (stands.before.0, stands.before.1, refl);
+  numbers = less;
 }
 
 -- a turn that takes an item, whatever it gives
@@ -426,10 +444,10 @@ item_refuses_in unread s m none x is front goes line (Err e) given = λ other.
 -- and so is where the cursor is known to stand
 module _ {I : Type 0} (unread : I → Unread → Type 0) (s : Stepping I) (sc : Scanning I)
     (known : (f : Option Refused) (l : LexState) (q : List FlaggedItem) → KnownBy unread f s.scanner l q
-    → KnownBy unread f sc l q) (fault : sc.fault ≡ s.scanner.fault) (options : sc.options ≡ s.scanner.options) where
-  pub refused_moved : (m : StepState) (e : Refused) → RefusedIn unread s m e
-      → RefusedIn unread (record s { scanner = sc }) m e
-  refused_moved m e r = record {
+    → KnownBy unread f sc l q) (fault : sc.fault ≡ s.scanner.fault) where
+  pub stands_moved : (m : StepState) (e : Refused) → StandsRefused unread s m e
+      → StandsRefused unread (record s { scanner = sc }) m e
+  stands_moved m e r = record {
     refusal = r.refusal;
     is_kept = r.is_kept;
     told = r.told;
@@ -453,20 +471,27 @@ module _ {I : Type 0} (unread : I → Unread → Type 0) (s : Stepping I) (sc : 
         known = known (Some e) m.reading m.queue f.known;
       })
     ];
-    fails = subst (λ (o : OptionsData). FailsIn s.renumbered o (with_pending [] m) e) (sym options) r.fails;
     pending = r.pending;
     tags = r.tags;
     before = r.before;
     numbers = r.numbers;
   }
 
-  pub held_moved : (m : StepState) → HoldsRefusal unread s m → HoldsRefusal unread (record s { scanner = sc }) m
-  held_moved m h = record {
+  pub refused_moved : sc.options ≡ s.scanner.options → (m : StepState) (e : Refused) → RefusedIn unread s m e
+      → RefusedIn unread (record s { scanner = sc }) m e
+  refused_moved options m e r = record {
+    stands = stands_moved m e r.stands;
+    fails = subst (λ (o : OptionsData). FailsIn s.renumbered o (with_pending [] m) e) (sym options) r.fails;
+  }
+
+  pub held_moved : sc.options ≡ s.scanner.options → (m : StepState) → HoldsRefusal unread s m
+      → HoldsRefusal unread (record s { scanner = sc }) m
+  held_moved options m h = record {
     error = h.error;
     ahead = h.ahead;
     going = h.going;
     other = h.other;
-    refused = refused_moved m h.error h.refused;
+    refused = refused_moved options m h.error h.refused;
   }
 
 -- and so is what was made ahead
@@ -474,7 +499,7 @@ pub refused_ahead : {I : Type 0} (unread : I → Unread → Type 0) (s : Steppin
     (ahead : Option Refused) → RefusedIn unread s m e → RefusedIn unread (record s { ahead = ahead }) m e
 refused_ahead unread s m e ahead r =
     refused_with unread s m e m.pending s.parser ahead s.failed
-    (ap (λ (es : List PlainEvent). record (s.parser) { given = es }) (sym r.pending)) r
+    (ap (λ (es : List PlainEvent). record (s.parser) { given = es }) (sym r.stands.pending)) r
 
 -- what doesn't want memory is another refusal
 pub not_memory : (kind : FaultKind) → wants_memory kind ≡ false → kind ≡ NoMemory → ⊥

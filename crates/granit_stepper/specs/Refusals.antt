@@ -123,19 +123,25 @@ pub record FailedToRead {I : Type 0} (unread : I → Unread → Type 0) (s : Ste
 abbrev pub FailsIn : (renumbered : Bool) → OptionsData → StepState → Refused → Type 0
 FailsIn renumbered o m e = (step_turn o m ≡ Err e) ⊎ RefusesNumber renumbered o m e
 
--- A turn was refused in a state of the machine: what waits there waits in the parser still, and the handles that stay
--- over documents are those before the turn.
+-- What stands where a turn was refused in a state of the machine, whatever options and number were set since: what
+-- waits there waits in the parser still, and the handles that stay over documents are those before the turn. Recovery
+-- goes by this alone.
+pub record StandsRefused {I : Type 0} (unread : I → Unread → Type 0) (s : Stepping I) (m : StepState) (e : Refused)
+    : Type 0 where
+  pub refusal : Refusal
+  pub is_kept : s.refusal ≡ Some refusal
+  pub told : s.first ≡ None
+  pub how : TookFront unread s m refusal e ⊎ FailedToRead unread s m refusal e
+  pub pending : m.pending ≡ s.parser.given
+  pub tags : s.parser.kept ≡ m.parser.kept
+  pub before : IsBefore m.parser refusal
+  pub numbers : m.parser.count < 2 ^ 64 - 1
+
+-- a turn was refused there, under the options and the number that stand
 pub record RefusedIn {I : Type 0} (unread : I → Unread → Type 0) (s : Stepping I) (m : StepState) (e : Refused) : Type 0
   where
-    pub refusal : Refusal
-    pub is_kept : s.refusal ≡ Some refusal
-    pub told : s.first ≡ None
-    pub how : TookFront unread s m refusal e ⊎ FailedToRead unread s m refusal e
+    pub stands : StandsRefused unread s m e
     pub fails : FailsIn s.renumbered s.scanner.options (with_pending [] m) e
-    pub pending : m.pending ≡ s.parser.given
-    pub tags : s.parser.kept ≡ m.parser.kept
-    pub before : IsBefore m.parser refusal
-    pub numbers : m.parser.count < 2 ^ 64 - 1
 
 -- unless memory ran out
 abbrev pub RefusesIn : {I X : Type 0} → (I → Unread → Type 0) → Result X Refused → Stepping I → StepState → Type 0

@@ -2,8 +2,9 @@
 ghost use Rattle.std.specs.Prelude.{◌≡◌, ◌-◌, ◌^◌, min, suc, true};
 ghost use Rattle.std.specs.Option.{option_map};
 ghost use Rattle.granit_base.specs.Place.{Unread};
+ghost use Rattle.granit_error.specs.Refused.{Refused};
 ghost use Rattle.granit_stepper.specs.Offset.{with_offset};
-ghost use Rattle.granit_stepper.specs.Refusals.{recounted};
+ghost use Rattle.granit_stepper.specs.Refusals.{StandsRefused, recounted};
 ghost use Rattle.granit_stepper.specs.Stepping.{StandsIn};
 ghost use Rattle.granit_steps.specs.Steps.{StepState};
 
@@ -23,6 +24,8 @@ impl<'input, T: BorrowedInput<'input>> Stepper<'input, T> {
     pub fn set_anchor_offset(&mut self, offset: usize)
         ensures known { (m : StepState) → StandsIn T.unread self.old m
             → StandsIn T.unread self.new (with_offset offset m) }
+        ensures refused { (m : StepState) (e : Refused) → StandsRefused T.unread self.old m e
+            → StandsRefused T.unread self.new (with_offset offset m) e }
         ensures rest { self.new ≡ record self.old {
           parser = record (self.old.parser) { count = offset - 1 };
           renumbered = true;

@@ -15,7 +15,7 @@ ghost use Rattle.granit_restart.specs.Turned.{Turned};
 ghost use Rattle.granit_stepper.specs.Numbers.{GivesOr, RefusesNumber};
 ghost use Rattle.granit_stepper.specs.Recovering.{DropsTo, Looks, LooksOn, MetIn, RestartsIn, Skips, SkipsDocument};
 ghost use Rattle.granit_stepper.specs.Recovering.{SkipsFault, SkipsHeader, front_in, front_kind};
-ghost use Rattle.granit_stepper.specs.Refusals.{HoldsRefusal, RefusedIn, RefusesIn, StandsAhead};
+ghost use Rattle.granit_stepper.specs.Refusals.{HoldsRefusal, RefusedIn, RefusesIn, StandsAhead, StandsRefused};
 ghost use Rattle.granit_stepper.specs.Stepping as spec;
 ghost use Rattle.granit_stepper.specs.Stepping.{Keeps, StandsIn};
 ghost use Rattle.granit_steps.specs.Steps.{StepState};
@@ -74,7 +74,7 @@ impl<'input, T: BorrowedInput<'input>> Stepper<'input, T> {
     ///
     /// `NoMemory` alone.
     pub fn skip_fault(&mut self, alloc: Global) -> Result<(), ScanError>
-        ensures known { (m : StepState) (e : Refused) → RefusedIn T.unread self.old m e
+        ensures known { (m : StepState) (e : Refused) → StandsRefused T.unread self.old m e
             → Turned self.old.scanner.options m
             → OnOk result
             (SkipsFault T.unread self.old.scanner.options self.old.scanner.cursor e self.new m) }
@@ -182,7 +182,7 @@ impl<'input, T: BorrowedInput<'input>> Stepper<'input, T> {
 
     /// Whether the open document came to its end before the last refusal.
     fn ends_before(&self) -> Result<bool, ScanError>
-        ensures known { (m : StepState) (e : Refused) → RefusedIn T.unread self.now m e
+        ensures known { (m : StepState) (e : Refused) → StandsRefused T.unread self.now m e
             → IfOk result (λ ends. ends ≡ skipping.ends_before m e) }
         ensures memory { IfErr result (λ e. e.kind ≡ faults.NoMemory) }
     {
@@ -229,7 +229,7 @@ impl<'input, T: BorrowedInput<'input>> Stepper<'input, T> {
 
     /// Whether a refusal stands among the directives of a document of which nothing else was read.
     fn is_in_header(&self) -> bool
-        ensures { (m : StepState) (e : Refused) → RefusedIn T.unread self.now m e
+        ensures { (m : StepState) (e : Refused) → StandsRefused T.unread self.now m e
             → result ≡ header.is_in_header self.now.scanner.options m e }
     {
         match &self.refusal {
@@ -239,7 +239,7 @@ impl<'input, T: BorrowedInput<'input>> Stepper<'input, T> {
     }
 
     fn reads_directives(&self, refusal: &Refusal<'input>) -> bool
-        ensures { (m : StepState) (e : Refused) → RefusedIn T.unread self.now m e
+        ensures { (m : StepState) (e : Refused) → StandsRefused T.unread self.now m e
             → self.now.refusal ≡ Some refusal.now → result ≡ header.reads_directives self.now.scanner.options m }
     {
         if refusal.takes_front {
@@ -251,7 +251,7 @@ impl<'input, T: BorrowedInput<'input>> Stepper<'input, T> {
 
     /// Goes on at the next boundary; whether a `---` comes next.
     fn restart(&mut self, alloc: Global) -> Result<bool, ScanError>
-        ensures known { (m : StepState) (e : Refused) → RefusedIn T.unread self.old m e
+        ensures known { (m : StepState) (e : Refused) → StandsRefused T.unread self.old m e
             → Turned self.old.scanner.options m
             → IfOk result (λ starts. RestartsIn T.unread self.old.scanner.cursor starts self.new m) }
         ensures memory { IfErr result (λ e. e.kind ≡ faults.NoMemory) }
@@ -268,7 +268,7 @@ impl<'input, T: BorrowedInput<'input>> Stepper<'input, T> {
 
     fn restart_behind(&mut self, alloc: Global, refusal: Refusal<'input>) -> Result<bool, ScanError>
         ensures known { (m : StepState) (e : Refused)
-            → RefusedIn T.unread (record self.old { refusal = Some refusal.entry }) m e
+            → StandsRefused T.unread (record self.old { refusal = Some refusal.entry }) m e
             → Turned self.old.scanner.options m
             → IfOk result (λ starts. RestartsIn T.unread self.old.scanner.cursor starts self.new m) }
         ensures memory { IfErr result (λ e. e.kind ≡ faults.NoMemory) }

@@ -19,8 +19,8 @@ ghost use Rattle.granit_restart.specs.Turned.{Turned};
 ghost use Rattle.granit_scanner.specs.Scans.{front_view, may_front_go};
 ghost use Rattle.granit_stepper.specs.Numbers as numbers;
 ghost use Rattle.granit_stepper.specs.Numbers.{GetsLast, GivesOr, IsNumberless, RefusesNumber, UnlessNumberless};
-ghost use Rattle.granit_stepper.specs.Refusals.{GivesAhead, HoldsRefusal, RefusedIn, RefusesIn, RefusesItem};
-ghost use Rattle.granit_stepper.specs.Refusals.{RefusesLater, SettlesAhead, TurnsAhead};
+ghost use Rattle.granit_stepper.specs.Refusals.{GivesAhead, HoldsRefusal, RefusesIn, RefusesItem, RefusesLater};
+ghost use Rattle.granit_stepper.specs.Refusals.{SettlesAhead, StandsRefused, TurnsAhead};
 ghost use Rattle.granit_stepper.specs.Refusals as refusals;
 ghost use Rattle.granit_stepper.specs.Stepping as spec;
 ghost use Rattle.granit_stepper.specs.Stepping.{Keeps, StandsIn, TakesFree};
@@ -176,8 +176,8 @@ impl<'input, T: BorrowedInput<'input>> Stepper<'input, T> {
         ensures here { (h : Here) → Stands T.unread self.old.scanner.cursor h
             → IfSome result (λ e. e.mark ≡ mark_of h) }
         ensures known { (m : StepState) → StandsIn T.unread self.old m → result ≡ None → StandsIn T.unread self.new m }
-        ensures refused { (m : StepState) (e : Fault) → RefusedIn T.unread self.old m e → result ≡ None
-            → RefusedIn T.unread self.new m e }
+        ensures refused { (m : StepState) (e : Fault) → StandsRefused T.unread self.old m e → result ≡ None
+            → StandsRefused T.unread self.new m e }
         ensures held { (m : StepState) → HoldsRefusal T.unread self.old m → result ≡ None
             → HoldsRefusal T.unread self.new m }
         ensures first { self.new.first ≡ self.old.first }

@@ -1,12 +1,13 @@
-use Rattle.std.proofs.Common.{arith}
-use Rattle.granit_input.proofs.UnreadLemmas.{past_one}
-use Rattle.granit_lexemes.specs.Here.{begins_behind, step}
+use Rattle.std.proofs.Common.{◌<◌, refl, arith}
+use Rattle.granit_lexemes.specs.Here.{next_char}
+use Rattle.granit_cursor.proofs.MoveLemmas.{stands_at, lands_shown}
 use Rattle.granit_cursor.proofs.cursor.Cursor.take_one.Goals as goal
 
-pub returns-then-breaks-2-clause-here : goal.returns-then-breaks-2-clause-here
-unfolding step begins_behind
-returns-then-breaks-2-clause-here g c = grind (arith, past_one)
-
-pub returns-else-breaks-2-clause-here : goal.returns-else-breaks-2-clause-here
-unfolding step begins_behind
-returns-else-breaks-2-clause-here g c = grind (arith, past_one)
+pub returns-clause-here : goal.returns-clause-here
+returns-clause-here g c = λ h k.
+    let stood = stands_at g.T.Input.unread _ _ h c.self.view_is k in
+    let looked = c.lookahead.ensures.unread h.unread stood.0 in
+    let seen = c.peek.ensures.value h.unread looked in
+    let above : 0x20 < next_char h = omega (arith, seen) in
+    lands_shown g.T.Input.unread _ _ h above stood
+    (c.skip.ensures.unread h.unread looked) refl refl refl

@@ -1,8 +1,9 @@
 use Rattle.std.proofs.Common.{◌∙◌, refl, sym, ap, subst}
-use Rattle.granit_parser.proofs.ChangeLemmas.{changed_in, changed_there}
-use Rattle.granit_parser.proofs.KeepLemmas.{stands_alike}
+use Rattle.granit_parser.proofs.ChangeLemmas.{changed_in, changed_there, closed_changed}
+use Rattle.granit_parser.proofs.KeepLemmas.{refused_alike, stands_alike}
 use Rattle.granit_parser.specs.Parsing.{Next, Parsing, StandsBefore}
 use Rattle.granit_parser.specs.Recovering.{unchanged}
+use Rattle.granit_stepper.specs.Refusals.{StandsRefused}
 use Rattle.granit_stepper.specs.Stepping.{StandsIn, Stepping, keeping}
 use Rattle.granit_parser.proofs.parser.Parser.keep_tags.Goals as goal
 
@@ -53,3 +54,22 @@ returns-clause-there g c = λ calls opened unseen stands at.
     (stands_alike unread c.args.value p.stepper m at))
     (λ es m. refl) (ap (λ (p : Parsing _). p.peeked) view) (ap (λ (s : Stepping _). s.first) left)
     (ap (λ (p : Parsing _). p.between) view) (ap (λ (p : Parsing _). p.over) view) calls opened unseen stands at
+
+pub returns-clause-closed : goal.returns-clause-closed
+returns-clause-closed g c = λ calls closed at.
+    let unread = g.T.Input.unread in
+    let p = c.args.self in
+    let view = c.parser.view_is in
+    let left = c.set_keep_tags.ensures ∙ ap (λ (p : Parsing _). keeping c.args.value p.stepper) view in
+    closed_changed unread unchanged p (record {
+      stepper = c.set_keep_tags.new.self;
+      peeked = c.parser.inside.peeked;
+      given = c.parser.inside.given;
+      starved = c.parser.inside.starved;
+      between = c.parser.inside.between;
+      over = c.parser.inside.over;
+    }) (λ m e refused. subst (λ (s : Stepping _). StandsRefused unread s m e) (sym left)
+    (refused_alike unread c.args.value p.stepper m e refused))
+    (λ count m. refl) (ap (λ (p : Parsing _). p.peeked) view) (ap (λ (s : Stepping _). s.failed) left)
+    (λ is. ap (λ (s : Stepping _). s.renumbered) left ∙ is) (λ none. ap (λ (s : Stepping _). s.refusal) left ∙ none)
+    (ap (λ (p : Parsing _). p.given) view) (ap (λ (p : Parsing _). p.over) view) calls closed at

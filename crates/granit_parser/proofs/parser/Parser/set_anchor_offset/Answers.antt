@@ -1,7 +1,10 @@
 use Rattle.std.proofs.Common.{refl, ap, subst, ◌∙◌}
-use Rattle.granit_parser.proofs.ChangeLemmas.{changed_in, changed_there}
+use Rattle.std.specs.Option.{option_map}
+use Rattle.granit_error.specs.Refused.{Refused}
+use Rattle.granit_parser.proofs.ChangeLemmas.{changed_in, changed_there, closed_changed}
 use Rattle.granit_parser.specs.Parsing.{Parsing}
 use Rattle.granit_stepper.specs.Offset.{with_offset}
+use Rattle.granit_stepper.specs.Refusals.{StandsRefused, recounted}
 use Rattle.granit_stepper.specs.Stepping.{StandsIn, Stepping}
 use Rattle.granit_steps.specs.Steps.{StepState}
 use Rattle.granit_parser.proofs.parser.Parser.set_anchor_offset.Goals as goal
@@ -43,3 +46,25 @@ returns-clause-there g c = λ calls opened unseen stands at.
     (λ es m. refl) (ap (λ (p : Parsing _). p.peeked) view)
     (ap (λ (s : Stepping _). s.first) c.set_anchor_offset.ensures.rest ∙ ap (λ (p : Parsing _). p.stepper.first) view)
     (ap (λ (p : Parsing _). p.between) view) (ap (λ (p : Parsing _). p.over) view) calls opened unseen stands at
+
+pub returns-clause-failed : goal.returns-clause-failed
+returns-clause-failed g c = λ calls closed at.
+    let unread = g.T.Input.unread in
+    let view = c.self.view_is in
+    let rest = c.set_anchor_offset.ensures.rest in
+    let change = with_offset c.args.offset in
+    closed_changed unread change c.args.self.now (record {
+      stepper = c.set_anchor_offset.new.self;
+      peeked = c.self.inside.peeked;
+      given = c.self.inside.given;
+      starved = c.self.inside.starved;
+      between = c.self.inside.between;
+      over = c.self.inside.over;
+    }) (subst (λ (p : Parsing _). (m : StepState) (e : Refused) → StandsRefused unread p.stepper m e
+    → StandsRefused unread c.set_anchor_offset.new.self (change m) e) view c.set_anchor_offset.ensures.refused)
+    (λ count m. refl) (ap (λ (p : Parsing _). p.peeked) view)
+    (ap (λ (s : Stepping _). s.failed) rest ∙ ap (λ (p : Parsing _). p.stepper.failed) view)
+    (λ is. ap (λ (s : Stepping _). s.renumbered) rest)
+    (λ none. ap (λ (s : Stepping _). s.refusal) rest
+    ∙ ap (option_map (recounted c.args.offset)) (ap (λ (p : Parsing _). p.stepper.refusal) view ∙ none))
+    (ap (λ (p : Parsing _). p.given) view) (ap (λ (p : Parsing _). p.over) view) calls closed at

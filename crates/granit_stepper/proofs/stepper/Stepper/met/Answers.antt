@@ -10,7 +10,7 @@ returns-then-branch-clause-known g c = λ m going fails.
     let other = not_memory e.kind (sym c.wants_memory.ensures ∙ c.if-wants_memory.false) in
     let refused = fails other in
     rw c.hold.ensures (
-      sym (c.in_ok-ends_before.ensures.known m e refused) ∙ c.if-branch.true,
+      sym (c.in_ok-ends_before.ensures.known m e refused.stands) ∙ c.if-branch.true,
       refl,
       going,
       other,
@@ -21,4 +21,4 @@ pub returns-clause-known : goal.returns-clause-known
 returns-clause-known g c = λ m going fails.
     let e = c.args.error in
     let refused = fails (not_memory e.kind (sym c.wants_memory.ensures ∙ c.if-wants_memory.false)) in
-    (sym (c.in_ok-ends_before.ensures.known m e refused) ∙ c.if-branch.false, refused)
+    (sym (c.in_ok-ends_before.ensures.known m e refused.stands) ∙ c.if-branch.false, refused)

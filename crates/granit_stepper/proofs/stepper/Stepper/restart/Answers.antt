@@ -2,7 +2,7 @@ use Rattle.std.proofs.Common.{Option, sym, subst, ◌∙◌}
 use Rattle.std.specs.Prelude.{IfOk}
 use Rattle.granit_restart.specs.Turned.{Turned}
 use Rattle.granit_stepper.specs.Recovering.{RestartsIn}
-use Rattle.granit_stepper.specs.Refusals.{RefusedIn}
+use Rattle.granit_stepper.specs.Refusals.{StandsRefused}
 use Rattle.granit_stepper.specs.Stepping.{Stepping}
 use Rattle.granit_stepper.specs.declared.refusal.Refusal.{Refusal}
 use Rattle.granit_stepper.proofs.stepper.Stepper.restart.Goals as goal
@@ -19,9 +19,9 @@ returns-in-Some-clause-known g c = λ m e refused turned.
       ahead = c.self.inside.ahead;
       refusal = c.self.inside.refusal;
     } in
-    let here = subst (λ (s : Stepping g.row.T.Denot). RefusedIn unread s m e) (sym c.self.view_is) refused in
+    let here = subst (λ (s : Stepping g.row.T.Denot). StandsRefused unread s m e) (sym c.self.view_is) refused in
     let given = c.restart_behind.ensures.known m e
-    (subst (λ (r : Option Refusal). RefusedIn unread (record inside { refusal = r }) m e)
+    (subst (λ (r : Option Refusal). StandsRefused unread (record inside { refusal = r }) m e)
     (sym c.take.ensures.value ∙ c.in-Some.is) here)
     (subst (λ (s : Stepping g.row.T.Denot). Turned s.scanner.options m) (sym c.self.view_is) turned) in
     subst (λ (s : Stepping g.row.T.Denot). IfOk c.restart_behind.result

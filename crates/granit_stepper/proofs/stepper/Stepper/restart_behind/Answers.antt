@@ -1,7 +1,7 @@
 use Rattle.std.proofs.Common.{None, Some, false, refl, sym, subst, ◌∙◌}
 use Rattle.granit_stepper.proofs.RefusalLemmas.{restarts_behind}
 use Rattle.granit_stepper.specs.Recovering.{RestartsIn}
-use Rattle.granit_stepper.specs.Refusals.{RefusedIn}
+use Rattle.granit_stepper.specs.Refusals.{StandsRefused}
 use Rattle.granit_stepper.specs.Stepping.{Stepping}
 use Rattle.granit_stepper.proofs.stepper.Stepper.restart_behind.Goals as goal
 
@@ -17,8 +17,8 @@ returns-clause-known g c = λ m e refused turned.
       ahead = c.self.inside.ahead;
       refusal = Some c.args.refusal;
     } in
-    let here = subst (λ (s : Stepping g.row.T.Denot). RefusedIn unread (record s { refusal = Some c.args.refusal }) m e)
-    (sym c.self.view_is) refused in
+    let here = subst (λ (s : Stepping g.row.T.Denot). StandsRefused unread
+    (record s { refusal = Some c.args.refusal }) m e) (sym c.self.view_is) refused in
     let new : Stepping g.row.T.Denot = record {
       scanner = c.restart.new.self;
       parser = c.drop_document.new.self;

@@ -29,4 +29,4 @@ returns-else-branch-clause-known g c = λ m stands turned.
     (λ fault. document_failed g.T.Input.unread o new m mid c.skip_fault.ensures.renumbered given mid.scanner.cursor
     (subst (λ (p : OptionsData). SkipsFault g.T.Input.unread p mid.scanner.cursor given.1 new given.0)
     c.in_ok-pass_document.ensures.options fault))
-    (c.skip_fault.ensures.known given.0 given.1 given.4 behind)
+    (c.skip_fault.ensures.known given.0 given.1 given.4.stands behind)

@@ -27,4 +27,4 @@ returns-clause-known g c = λ m at turned.
     (drops_turned o turned given.2) in
     header_failed g.T.Input.unread o new m mid c.in_ok-restart.ensures.renumbered given mid.scanner.cursor
     c.in_ok-restart.field-0
-    (c.in_ok-restart.ensures.known given.0 given.1 given.4 behind)
+    (c.in_ok-restart.ensures.known given.0 given.1 given.4.stands behind)
