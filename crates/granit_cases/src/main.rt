@@ -19,8 +19,8 @@ use anyhow::{Context, Result};
 use std::alloc::Global;
 use std::io::{BufRead, BufReader};
 
-/// What is printed of a case.
-fn answer(alloc: Global, kind: &str, case: &str) -> Result<String> {
+/// What is printed of a case of that kind.
+fn answer_of(alloc: Global, kind: &str, case: &str) -> Result<String> {
     match kind {
         "hostile" => hostile::answer(alloc, case),
         "loads" => loads::answer(alloc, case),
@@ -31,15 +31,18 @@ fn answer(alloc: Global, kind: &str, case: &str) -> Result<String> {
     }
 }
 
+/// What is printed of a line.
+fn answer(alloc: Global, line: &str) -> Result<String> {
+    let (kind, case) = line
+        .split_once('\t')
+        .context("a case is its kind and what to do")?;
+    answer_of(alloc, kind, case)
+}
+
 fn main(rt: HostRuntime) -> Result<()> {
     let alloc = rt.alloc();
     for line in BufReader::new(alloc, rt.reader())?.lines(alloc) {
-        let line = line?;
-        let (kind, case) = line
-            .as_str()
-            .split_once('\t')
-            .context("a case is its kind and what to do")?;
-        let said = answer(alloc, kind, case)?;
+        let said = answer(alloc, line?.as_str())?;
         println!(rt; "{said}")?;
     }
     Ok(())

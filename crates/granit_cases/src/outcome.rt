@@ -19,6 +19,14 @@ pub struct Outcome {
     written: Vec<u8>,
 }
 
+/// The digits of the digest of what was written.
+fn push_digest(said: &mut String, written: &[u8]) -> Result<()> {
+    for byte in Md5::digest(written) {
+        write!(said, "{byte:02x}")?;
+    }
+    Ok(())
+}
+
 impl Outcome {
     /// Whether another ends the same.
     pub fn is(&self, other: &Outcome) -> bool {
@@ -30,20 +38,23 @@ impl Outcome {
         text_of(alloc, self.written.as_slice())
     }
 
-    /// The status, and the output where it is one line, else how many lines it has and their digest.
-    pub fn said(&self, alloc: Global) -> Result<String> {
-        let code = self.code;
-        let text = self.text(alloc)?;
+    /// Writes the output where it is one line, else how many lines it has and their digest.
+    fn push_written(&self, said: &mut String, text: &str) -> Result<()> {
         let count = text.lines().count();
         if count == 1 {
-            let line = text.trim_end();
-            return Ok(format!(in alloc; "status {code}: {line}")?);
+            said.push_str(text.trim_end())?;
+            return Ok(());
         }
-        let mut digest = String::new(alloc);
-        for byte in Md5::digest(self.written.as_slice()) {
-            write!(digest, "{byte:02x}")?;
-        }
-        Ok(format!(in alloc; "status {code}: {count} lines, {digest}")?)
+        write!(said, "{count} lines, ")?;
+        push_digest(said, self.written.as_slice())
+    }
+
+    /// The same behind the status.
+    pub fn said(&self, alloc: Global) -> Result<String> {
+        let text = self.text(alloc)?;
+        let mut said = format!(in alloc; "status {}: ", self.code)?;
+        self.push_written(&mut said, text.as_str())?;
+        Ok(said)
     }
 }
 
@@ -80,27 +91,59 @@ fn bytewise(alloc: Global, words: &TextList, text: &str, room: usize) -> Result<
     })
 }
 
-/// What the program says of an answer.
-pub fn answered(alloc: Global, loaded: Result<Events<'_>, ScanError>) -> Result<Outcome> {
-    let mut written = Vec::new(alloc);
-    // one place where the answer is let go
-    let code = match &loaded {
-        Err(error) => push_fault(alloc, &mut written, error).map(|()| 1),
-        Ok(events) => push_events(&mut written, events.as_slice()).map(|()| 0),
-    };
-    match code {
-        Err(error) => Err(error),
-        Ok(code) => Ok(Outcome { code, written }),
+/// What a load answers.
+pub trait Answer {
+    /// Writes what the program says of it; its status.
+    fn push(&self, alloc: Global, written: &mut Vec<u8>) -> Result<u8>;
+}
+
+impl<'a> Answer for Result<Events<'a>, ScanError> {
+    fn push(&self, alloc: Global, written: &mut Vec<u8>) -> Result<u8> {
+        match self {
+            Err(error) => {
+                push_fault(alloc, written, error)?;
+                Ok(1)
+            }
+            Ok(events) => {
+                push_events(written, events.as_slice())?;
+                Ok(0)
+            }
+        }
     }
+}
+
+/// What the program says of an answer that is let go here, which is cheap to prove in a generic function.
+pub fn answered<T: Answer + Drop>(alloc: Global, loaded: T) -> Result<Outcome> {
+    let mut written = Vec::new(alloc);
+    let code = loaded.push(alloc, &mut written)?;
+    Ok(Outcome { code, written })
+}
+
+/// Whether an answer ends so.
+fn ends_so<T: Answer + Drop>(alloc: Global, loaded: T, outcome: &Outcome) -> Result<bool> {
+    let other = answered(alloc, loaded)?;
+    Ok(other.is(outcome))
+}
+
+/// One more item.
+fn push<T: Drop>(items: &mut Vec<T>, item: T) -> Result<()> {
+    items.push(item)?;
+    Ok(())
 }
 
 /// A text's characters as items of an iterator that may fail.
 fn items(alloc: Global, text: &str) -> Result<Vec<Result<char, ErrorKind>>> {
     let mut items = Vec::new(alloc);
     for c in text.chars() {
-        items.push(Ok(c))?;
+        push(&mut items, Ok(c))?;
     }
     Ok(items)
+}
+
+/// Whether an iterator of the characters that may fail ends so.
+fn items_say(alloc: Global, options: Options, text: &str, outcome: &Outcome) -> Result<bool> {
+    let items = items(alloc, text)?.into_iter();
+    ends_so(alloc, load_fallible(alloc, items, options), outcome)
 }
 
 /// Whether iterators of the characters end so.
@@ -110,23 +153,34 @@ pub fn characters_say(
     text: &str,
     outcome: &Outcome,
 ) -> Result<bool> {
-    let of_characters = answered(alloc, load_chars(alloc, text.chars(), options))?;
-    let items = items(alloc, text)?;
-    let of_items = answered(alloc, load_fallible(alloc, items.into_iter(), options))?;
-    Ok(of_characters.is(outcome) && of_items.is(outcome))
+    let of_characters = ends_so(alloc, load_chars(alloc, text.chars(), options), outcome)?;
+    let of_items = items_say(alloc, options, text, outcome)?;
+    Ok(of_characters && of_items)
+}
+
+/// Whether all other ways of reading a text end so.
+fn others_say(
+    alloc: Global,
+    words: &str,
+    list: &TextList,
+    text: &str,
+    outcome: &Outcome,
+) -> Result<bool> {
+    let same = bytewise(alloc, list, text, outcome.written.len())?.is(outcome);
+    let agree = match options_of(words) {
+        Some(options) if outcome.code < 2 => characters_say(alloc, options, text, outcome)?,
+        _ => true,
+    };
+    Ok(same && agree)
 }
 
 /// How a text's run ends, where all ways of reading it end so.
 pub fn agreed(alloc: Global, words: &str, text: &str) -> Result<Option<Outcome>> {
     let list = word_list(alloc, words)?;
     let outcome = whole(alloc, &list, text)?;
-    if text.len() > LONGEST {
-        return Ok(Some(outcome));
+    if text.len() > LONGEST || others_say(alloc, words, &list, text, &outcome)? {
+        Ok(Some(outcome))
+    } else {
+        Ok(None)
     }
-    let same = bytewise(alloc, &list, text, outcome.written.len())?.is(&outcome);
-    let agree = match options_of(words) {
-        Some(options) if outcome.code < 2 => characters_say(alloc, options, text, &outcome)?,
-        _ => true,
-    };
-    Ok(if same && agree { Some(outcome) } else { None })
 }

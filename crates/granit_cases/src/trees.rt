@@ -2,10 +2,10 @@
 use crate::lines::{push_events, text_of};
 use anyhow::{Context, Result};
 use granit_base::{NoMemory, Span, Text};
-use granit_error::Options;
+use granit_error::{Options, ScanError};
 use granit_event::Event;
 use granit_generator::{block_text, trees_from};
-use granit_load::load_str;
+use granit_load::{Events, load_str};
 use granit_model::flow_text;
 use std::alloc::Global;
 
@@ -61,15 +61,52 @@ fn both_lines(
     text_of(alloc, &out)
 }
 
+/// What a text in blocks is read as, or its fault.
+trait Blocks {
+    /// The lines of the events of a text in flow and of these, and whether they are alike.
+    fn behind(&self, alloc: Global, flow: &[(Event<'_>, Span)]) -> Result<String>;
+}
+
+impl<'a> Blocks for Result<Events<'a>, ScanError> {
+    fn behind(&self, alloc: Global, flow: &[(Event<'_>, Span)]) -> Result<String> {
+        match self {
+            Ok(block) => both_lines(alloc, flow, block.as_slice()),
+            Err(_) => None.context("the texts of trees are read"),
+        }
+    }
+}
+
+/// The same of what is let go here, which is cheap to prove in a generic function.
+fn behind<B: Blocks + Drop>(alloc: Global, flow: &[(Event<'_>, Span)], block: B) -> Result<String> {
+    block.behind(alloc, flow)
+}
+
+/// What a text in flow is read as, or its fault.
+trait Flow {
+    /// The lines of these events and of those of a text in blocks, and whether they are alike.
+    fn before(&self, alloc: Global, block: &str) -> Result<String>;
+}
+
+impl<'a> Flow for Result<Events<'a>, ScanError> {
+    fn before(&self, alloc: Global, block: &str) -> Result<String> {
+        match self {
+            Ok(flow) => {
+                let flow = flow.as_slice();
+                behind(alloc, flow, load_str(alloc, block, Options::default()))
+            }
+            Err(_) => None.context("the texts of trees are read"),
+        }
+    }
+}
+
+/// The same of what is let go here.
+fn before<F: Flow + Drop>(alloc: Global, flow: F, block: &str) -> Result<String> {
+    flow.before(alloc, block)
+}
+
 /// What is printed of two texts.
 fn compared(alloc: Global, flow: &str, block: &str) -> Result<String> {
-    let flow = load_str(alloc, flow, Options::default());
-    let block = load_str(alloc, block, Options::default());
-    // one place where both answers are let go
-    match (&flow, &block) {
-        (Ok(flow), Ok(block)) => both_lines(alloc, flow.as_slice(), block.as_slice()),
-        _ => None.context("the texts of trees are read"),
-    }
+    before(alloc, load_str(alloc, flow, Options::default()), block)
 }
 
 /// The events of the canonical flow text and of the canonical block text, and whether these are alike but for the

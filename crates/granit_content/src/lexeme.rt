@@ -67,6 +67,7 @@ pub fn write_lexeme<'input>(
 }
 
 /// A lexeme of one character, which is read.
+#[inline(always)]
 pub fn sign<'input, T: Input>(
     at: &mut Cursor<T>,
     layouts: &Layouts,

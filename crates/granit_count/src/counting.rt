@@ -1,51 +1,46 @@
-//! Counts of what is given one by one, and of what is given at once.
+//! Counts of what is given one by one.
 use granit_error::ScanError;
-use granit_input::{BorrowedInput, StrInput};
-use granit_load::Events;
+use granit_input::BorrowedInput;
 use granit_parser::Parser;
 use granit_scan::Scanner;
 
-/// Whether a parser gives one more event, or the fault that it gives in place of one.
-fn takes_event<'a, T: BorrowedInput<'a>>(parser: &mut Parser<'a, T>) -> Result<bool, ScanError> {
-    match parser.next_event() {
+/// Whether something was read, or the fault in place of it. What is let go in a generic function is cheap to prove.
+fn is_given<T: Drop, E: Drop>(given: Option<Result<T, E>>) -> Result<bool, E> {
+    match given {
         None => Ok(false),
-        Some(Ok(_)) => Ok(true),
+        Some(Ok(item)) => {
+            drop(item);
+            Ok(true)
+        }
         Some(Err(error)) => Err(error),
     }
 }
 
-/// How many events a parser gives, or the fault that it gives in place of one.
-pub fn count_events<'a, T: BorrowedInput<'a>>(
-    parser: &mut Parser<'a, T>,
-) -> Result<u64, ScanError> {
+/// What gives one thing after another.
+pub trait Gives {
+    /// Whether it gives one more, or the fault that it gives in place of one.
+    fn takes_one(&mut self) -> Result<bool, ScanError>;
+}
+
+impl<'a, T: BorrowedInput<'a>> Gives for Parser<'a, T> {
+    fn takes_one(&mut self) -> Result<bool, ScanError> {
+        is_given(self.next_event())
+    }
+}
+
+impl<'a, T: BorrowedInput<'a>> Gives for Scanner<'a, T> {
+    fn takes_one(&mut self) -> Result<bool, ScanError> {
+        is_given(self.next())
+    }
+}
+
+/// How many events or tokens a source gives, which is let go here, or the fault that it gives in place of one.
+pub fn count<G: Gives + Drop>(source: G) -> Result<u64, ScanError> {
+    let mut source = source;
     for count in 0..u64::MAX {
-        if !takes_event(parser)? {
+        if !source.takes_one()? {
             return Ok(count);
         }
     }
     Ok(u64::MAX)
-}
-
-/// Whether a scanner gives one more token, or its fault.
-fn takes_token<'a>(scanner: &mut Scanner<'a, StrInput<'a>>) -> Result<bool, ScanError> {
-    match scanner.next() {
-        None => Ok(false),
-        Some(Ok(_)) => Ok(true),
-        Some(Err(error)) => Err(error),
-    }
-}
-
-/// How many tokens a scanner gives, or its fault.
-pub fn count_tokens<'a>(scanner: &mut Scanner<'a, StrInput<'a>>) -> Result<u64, ScanError> {
-    for count in 0..u64::MAX {
-        if !takes_token(scanner)? {
-            return Ok(count);
-        }
-    }
-    Ok(u64::MAX)
-}
-
-/// How many events an answer has, or its fault.
-pub fn count_all(loaded: Result<Events<'_>, ScanError>) -> Result<u64, ScanError> {
-    Ok(loaded?.as_slice().len() as u64)
 }

@@ -17,6 +17,17 @@ fn outermost() -> Layout {
     }
 }
 
+/// Past what was read, or its fault. What is let go in a generic function is cheap to prove.
+fn passed<T: Drop, E: Drop>(read: Result<T, E>) -> Result<(), E> {
+    match read {
+        Ok(lexeme) => {
+            drop(lexeme);
+            Ok(())
+        }
+        Err(error) => Err(error),
+    }
+}
+
 /// Past the plain scalar that begins here, where one does.
 fn pass_plain<'a>(alloc: Global, cursor: &mut Cursor<StrInput<'a>>) -> Result<(), ScanError> {
     let at = outermost();
@@ -24,32 +35,28 @@ fn pass_plain<'a>(alloc: Global, cursor: &mut Cursor<StrInput<'a>>) -> Result<()
     let is_plain = !is_blank_or_breakz(cursor.input().peek())
         && cursor.input().next_can_be_plain_scalar(at.in_flow);
     if is_plain {
-        scan_plain_scalar(alloc, cursor, &at)?;
+        passed(scan_plain_scalar(alloc, cursor, &at))
+    } else {
+        Ok(())
     }
-    Ok(())
 }
 
 /// Past the comment, the quoted or the plain scalar that begins here, where one does.
 fn pass_lexeme<'a>(alloc: Global, cursor: &mut Cursor<StrInput<'a>>) -> Result<(), ScanError> {
     cursor.look(2);
     match cursor.input().peek() {
-        '#' => {
-            scan_comment(alloc, cursor)?;
-        }
-        '\'' => {
-            scan_quoted_scalar(alloc, cursor, true, &outermost())?;
-        }
-        '"' => {
-            scan_quoted_scalar(alloc, cursor, false, &outermost())?;
-        }
-        _ => pass_plain(alloc, cursor)?,
+        '#' => passed(scan_comment(alloc, cursor)),
+        '\'' => passed(scan_quoted_scalar(alloc, cursor, true, &outermost())),
+        '"' => passed(scan_quoted_scalar(alloc, cursor, false, &outermost())),
+        _ => pass_plain(alloc, cursor),
     }
-    Ok(())
 }
 
 /// How many characters the lexeme that a text begins with has, or its fault.
 pub fn lexeme_length(alloc: Global, text: &str) -> Result<u64, ScanError> {
     let mut cursor = Cursor::new(StrInput::new(text));
-    pass_lexeme(alloc, &mut cursor)?;
-    Ok(cursor.mark().index() as u64)
+    match pass_lexeme(alloc, &mut cursor) {
+        Ok(()) => Ok(cursor.mark().index() as u64),
+        Err(error) => Err(error),
+    }
 }

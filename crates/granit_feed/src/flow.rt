@@ -59,6 +59,7 @@ fn close_flow<'input>(
     state.end_node(start, start, token.lexeme.shown_end)
 }
 
+#[inline(always)]
 fn flow_at<'input>(
     state: &mut ParserState<'input>,
     single: bool,
@@ -72,6 +73,7 @@ fn flow_at<'input>(
 }
 
 /// Behind the `:` of a mapping.
+#[inline(always)]
 fn flow_colon<'input>(
     state: &mut ParserState<'input>,
     alloc: Global,
@@ -220,6 +222,7 @@ pub(crate) fn in_flow_sequence<'input>(
 // Mappings (YAML 1.2.2, 7.4.2).
 
 /// A `,` behind a pair.
+#[inline(always)]
 fn behind_comma<'input>(
     state: &mut ParserState<'input>,
     token: &Token<'input>,

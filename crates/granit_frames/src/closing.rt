@@ -95,6 +95,7 @@ fn is_behind_question(stage: PairStage) -> bool
 
 impl<'input> ParserState<'input> {
     /// Whether a token ends the innermost unfinished node.
+    #[inline(always)]
     fn ends_top(&self, token: &Token<'input>) -> bool
         ensures { result ≡ closing.ends_top (machine_token token.now) self.now self.now.frames }
     {

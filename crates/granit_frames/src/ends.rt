@@ -68,6 +68,7 @@ impl<'input> ParserState<'input> {
     }
 
     /// The node at the open place is finished.
+    #[inline(always)]
     pub fn finish(&mut self) -> Result<(), NoMemory>
         ensures leaves { OnOk result (self.new ≡ ends.finish self.old) }
         ensures kept { self.new.kept ≡ self.old.kept }
@@ -269,6 +270,7 @@ impl<'input> ParserState<'input> {
     }
 
     /// A collection begins.
+    #[inline(always)]
     pub fn begin(
         &mut self,
         options: &Options,

@@ -252,6 +252,7 @@ impl<'input> ParserState<'input> {
         }
     }
 
+    #[inline(never)]
     fn node_event_by(
         &mut self,
         options: &Options,
@@ -280,6 +281,7 @@ impl<'input> ParserState<'input> {
     }
 
     /// A node's first event with its properties, and its anchor's event.
+    #[inline(always)]
     #[tactic(auto, unfolding(granit_machine::specs::Giving::node_event), using(crate::proofs::FrameLemmas::at_node))]
     pub fn node_event(
         &mut self,

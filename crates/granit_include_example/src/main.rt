@@ -1,9 +1,10 @@
 //! Reads a configuration on standard input whose `!include` tags name other texts of a map, and prints its scalars.
+//! What a stack gives is let go in functions that are generic in it, as `print`, where that is cheap to prove.
 #![tactic(auto)]
 
 ghost use Rattle.std.specs.Prelude.{IfSome};
 
-use anyhow::{Context, Result, anyhow};
+use anyhow::{Context, Result};
 use granit_base::{Marker, OwnedText, Span};
 use granit_error::{ErrorKind, ScanError};
 use granit_event::Event;
@@ -11,6 +12,7 @@ use granit_layers::{AnyKind, FromReplay, StackedParser};
 use granit_parser::Parser;
 use granit_stack::{FnResolver, IncludeStack, Included, ReplayParser, Resolver};
 use std::alloc::Global;
+use std::fmt::Display;
 use std::io;
 
 /// How many texts may lie on one another.
@@ -37,58 +39,87 @@ fn is_include(event: &Event<'_>) -> bool {
     }
 }
 
-/// What is printed of an event, and of a text that is included in its place.
-fn answer<'input, S: FromReplay<'input>, R: Resolver<'input> + Drop>(
-    alloc: Global,
-    stack: &mut IncludeStack<'input, S, R>,
-    event: &Event<'input>,
-) -> Result<String>
-    requires { IfSome stack.old.resolver R.ready }
-    ensures { IfSome stack.new.resolver R.ready }
-{
+/// Prints the text of a scalar, or tells it where it is the name of a text to be included.
+fn print_event(alloc: Global, words: &mut String, event: &Event<'_>) -> Result<Option<String>> {
     let Event::Scalar(text, _, _, _) = event else {
-        return Ok(String::new(alloc));
+        return Ok(None);
     };
-    if !is_include(event) {
-        return Ok(format!(in alloc; "{}\n", text.as_str())?);
+    if is_include(event) {
+        return Ok(Some(String::from_str(alloc, text.as_str())?));
     }
+    writeln!(words, "{}", text.as_str())?;
+    Ok(None)
+}
+
+/// What a stack gives.
+trait Given {
+    /// Prints it, or tells the name of the text that is included in its place.
+    fn print(&self, alloc: Global, words: &mut String) -> Result<Option<String>>;
+}
+
+impl<'input> Given for Result<(Event<'input>, Span), ScanError> {
+    fn print(&self, alloc: Global, words: &mut String) -> Result<Option<String>> {
+        match self {
+            Ok((event, _)) => print_event(alloc, words, event),
+            Err(error) => {
+                writeln!(words, "{error}")?;
+                Ok(None)
+            }
+        }
+    }
+}
+
+/// The same of what is let go here.
+fn print<G: Given + Drop>(alloc: Global, words: &mut String, given: G) -> Result<Option<String>> {
+    given.print(alloc, words)
+}
+
+/// Prints whether the text of that name begins, or why it was refused.
+fn print_included<E: Display + Drop>(
+    words: &mut String,
+    name: &str,
+    included: Result<(), E>,
+) -> Result<()> {
+    match included {
+        Ok(()) => writeln!(words, "{name} begins")?,
+        Err(error) => writeln!(words, "{error}")?,
+    }
+    Ok(())
+}
+
+/// Includes the text of that name, where not too many lie on one another.
+fn include<'input, S: FromReplay<'input>, R: Resolver<'input> + Drop>(
+    words: &mut String,
+    stack: &mut IncludeStack<'input, S, R>,
+    name: &str,
+) -> Result<()>
+    requires { IfSome stack.old.resolver R.ready }
+    ensures { IfSome stack.new.resolver R.ready }
+{
     let depth = stack.stack().ok().context("no memory for the names")?.len();
-    if depth >= DEPTH {
-        return Ok(format!(in alloc; "{} lies too deep\n", text.as_str())?);
+    if depth < DEPTH {
+        return print_included(words, name, stack.push_include(name));
     }
-    match stack.push_include(text.as_str()) {
-        Ok(()) => Ok(format!(in alloc; "{} begins\n", text.as_str())?),
-        Err(error) => Ok(format!(in alloc; "{error}\n")?),
-    }
+    writeln!(words, "{name} lies too deep")?;
+    Ok(())
 }
 
-/// What is printed of an event or a refusal.
-fn line<'input, S: FromReplay<'input>, R: Resolver<'input> + Drop>(
+/// Prints what a stack gives next, and includes what it names; whether there was anything.
+fn print_next<'input, S: FromReplay<'input>, R: Resolver<'input> + Drop>(
     alloc: Global,
+    words: &mut String,
     stack: &mut IncludeStack<'input, S, R>,
-    next: &Result<(Event<'input>, Span), ScanError>,
-) -> Result<String>
+) -> Result<bool>
     requires { IfSome stack.old.resolver R.ready }
     ensures { IfSome stack.new.resolver R.ready }
 {
-    match next {
-        Ok((event, _)) => answer(alloc, stack, event),
-        Err(error) => Ok(format!(in alloc; "{error}\n")?),
+    let Some(given) = stack.next_event() else {
+        return Ok(false);
+    };
+    if let Some(name) = print(alloc, words, given)? {
+        include(words, stack, name.as_str())?;
     }
-}
-
-/// What is printed of the next event of a stack, if one is left.
-fn next_line<'input, S: FromReplay<'input>, R: Resolver<'input> + Drop>(
-    alloc: Global,
-    stack: &mut IncludeStack<'input, S, R>,
-) -> Option<Result<String>>
-    requires { IfSome stack.old.resolver R.ready }
-    ensures { IfSome stack.new.resolver R.ready }
-{
-    match stack.next_event() {
-        None => None,
-        Some(next) => Some(line(alloc, stack, &next)),
-    }
+    Ok(true)
 }
 
 /// What is printed of all events of a stack, whatever its parsers are.
@@ -100,52 +131,11 @@ fn read<'input, S: FromReplay<'input>, R: Resolver<'input> + Drop>(
 {
     let mut words = String::new(alloc);
     'events: for _ in 0..1000 {
-        match next_line(alloc, stack) {
-            None => return Ok(words),
-            Some(line) => words.push_str(line?.as_str())?,
+        if !print_next(alloc, &mut words, stack)? {
+            break;
         }
     }
     Ok(words)
-}
-
-/// The same, where there was memory for a stack.
-fn read_if_any<'input, S: FromReplay<'input>, R: Resolver<'input> + Drop>(
-    alloc: Global,
-    stack: Option<IncludeStack<'input, S, R>>,
-) -> Result<String>
-    requires { IfSome stack (λ stack. IfSome stack.resolver R.ready) }
-{
-    match stack {
-        None => Err(anyhow!("no memory for a parser")),
-        Some(stack) => {
-            let mut stack = stack;
-            read(alloc, &mut stack)
-        }
-    }
-}
-
-/// A stack with that parser, and who finds the texts that it includes; none for want of memory.
-fn stack_over<'input, A, B, C, D, R>(
-    alloc: Global,
-    resolver: R,
-    parser: A,
-    name: OwnedText,
-) -> Option<IncludeStack<'input, AnyKind<A, B, C, D>, R>>
-where
-    A: StackedParser<'input>,
-    B: StackedParser<'input>,
-    C: StackedParser<'input>,
-    D: StackedParser<'input>,
-    R: Resolver<'input> + Drop,
-    requires { R.ready resolver }
-    ensures { IfSome result (λ stack. IfSome stack.resolver R.ready) }
-{
-    let mut stack = IncludeStack::new(alloc);
-    stack.set_resolver(resolver);
-    match stack.push_str_parser(parser, name) {
-        Ok(()) => Some(stack),
-        Err(_) => None,
-    }
 }
 
 /// What is printed of the events of that parser and of what it includes.
@@ -163,10 +153,14 @@ where
     R: Resolver<'input> + Drop,
     requires { R.ready resolver }
 {
-    let stack: Option<IncludeStack<'input, AnyKind<A, B, C, D>, R>> = stack_over(
-        alloc, resolver, parser, name,
-    );
-    read_if_any(alloc, stack)
+    let mut stack: IncludeStack<'input, AnyKind<A, B, C, D>, R> = IncludeStack::new(alloc);
+    stack.set_resolver(resolver);
+    let printed = match stack.push_str_parser(parser, name).ok() {
+        Some(()) => read(alloc, &mut stack),
+        None => None.context("no memory for a parser"),
+    };
+    drop(stack);
+    printed
 }
 
 /// Events that are given once more.

@@ -1,18 +1,25 @@
 -- Characters of ASCII in front of a text, taken as bytes.
-use Rattle.std.proofs.Common.{◌≡◌, ℕ, suc, ◌+◌, ◌<◌, ◌==◌, ◌&&◌, ◌||◌, not, Bool, true, false, List, []}
+use Rattle.std.proofs.Common.{inl, inr}
+use Rattle.std.proofs.Common.{◌≡◌, ℕ, suc, ◌+◌, ◌<◌, ◌≤◌, ◌==◌, ◌&&◌, ◌||◌, not, Bool, true, false, List, []}
 use Rattle.std.proofs.Common.{◌∷◌, ◌++◌, length, take, drop, slice_index, refl, sym, ap, ◌∙◌, arith, drop-cons}
 use Rattle.std.proofs.Common.{take-add, append_assoc}
 use Rattle.std.specs.Char.{encode_utf8}
 use Rattle.std.specs.Str.{chars, encode_utf8_all, is_utf8}
 use Rattle.std.proofs.lemmas.Str.{chars_past_char, encode_ascii, encodes-append, IsUtf8-past_char, IsUtf8-from_is_utf8}
-use Rattle.std.proofs.lemmas.Str.{is_utf8-from_IsUtf8}
+use Rattle.std.proofs.lemmas.Str.{is_utf8-from_IsUtf8, encodes-chars, chars-nil}
+use Rattle.std.proofs.lemmas.Bool.{cases_Bool}
+use Rattle.std.proofs.lemmas.List.{drop_all}
 use Rattle.std.proofs.lemmas.Bool.Decides.{nat_tests}
 use Rattle.granit_base.specs.Classes.{is_blank, is_blank_or_breakz, is_break, is_breakz, is_printable, is_within, is_z}
 use Rattle.granit_base.specs.Place.{first}
 use Rattle.granit_base.specs.PlainContent.{is_content}
 use Rattle.granit_input.specs.Cuts.{SpellsFront, IsAsciiFront}
-use Rattle.granit_input.specs.Runs.{begins_word, is_line_char, is_plain_ascii, is_plain_word}
-use Rattle.granit_input.proofs.RunLemmas.{front_none, front_more}
+use Rattle.granit_input.specs.Runs.{begins_word, is_line_char, is_plain_ascii, is_plain_word, starts}
+use Rattle.granit_input.specs.White.{blanks_length, is_skipped}
+use Rattle.granit_input.specs.declared.whitespace.SkipTabs.{SkipTabs}
+use Rattle.granit_input.specs.declared.whitespace.SkipTabs.TheVariants.{Yes, No}
+use Rattle.granit_input.proofs.RunLemmas.{front_none, front_more, front_whole}
+use Rattle.granit_input.proofs.WhiteLemmas.{skipped_nul, skipped_some}
 use Rattle.granit_input.proofs.StringLemmas.{behind_more}
 
 -- the first character of a text whose first byte is of ASCII
@@ -116,3 +123,48 @@ space_ascii in_flow c next after is y seen =
     let there : first after ≡ next = seen is below.0 below.1 in
     either (is_content in_flow (c ∷ after)) (c == 0x20 && begins_word in_flow (first after))
     (rw (is, there) (begins_ascii in_flow next y))
+
+-- ---- blanks
+
+skipped_low : (tabs : SkipTabs) (c : ℕ) → is_skipped tabs c ≡ true → c < 0x80
+skipped_low Yes c y = grind (arith, nat_tests, y)
+skipped_low No c y = grind (arith, nat_tests, y)
+
+-- a first character of ASCII is the first byte
+low_first : (cs bytes : List ℕ) → encode_utf8_all cs ≡ bytes → 0 < first cs → first cs < 0x80 → first cs ≡ first bytes
+low_first [] bytes is some low = absurd (omega (arith, some))
+low_first (c ∷ cs) bytes is some low =
+    sym (ap (λ (bs : List ℕ). first (bs ++ encode_utf8_all cs)) (encode_ascii c low)) ∙ ap first is
+
+-- behind a byte that is no blank stands no blank
+pub unskipped_byte : (tabs : SkipTabs) (s : List ℕ) (i : ℕ) → i < length s → is_utf8 (drop i s) ≡ true
+    → is_skipped tabs (slice_index s i) ≡ false → is_skipped tabs (first (chars (drop i s))) ≡ false
+unskipped_byte tabs s i within utf8 none =
+    elim (cases_Bool (is_skipped tabs (first (chars (drop i s))))) [
+      | inl some ↦ absurd (
+          let same : first (chars (drop i s)) ≡ slice_index s i =
+          low_first (chars (drop i s)) (drop i s) (encodes-chars (drop i s) (IsUtf8-from_is_utf8 (drop i s) utf8))
+          (skipped_some tabs (first (chars (drop i s))) some) (skipped_low tabs (first (chars (drop i s))) some)
+          ∙ ap first (drop-cons s i 0 within) in
+          let also : is_skipped tabs (first (chars (drop i s))) ≡ false = ap (is_skipped tabs) same ∙ none in cc)
+      | inr other ↦ other
+    ]
+
+-- such a byte is a blank
+pub skipped_byte : (tabs : SkipTabs) (s : List ℕ) (i : ℕ) → IsAsciiFront (starts (is_skipped tabs)) s i → i < length s
+    → is_skipped tabs (slice_index s i) ≡ true
+    → IsAsciiFront (starts (is_skipped tabs)) s (i + 1) × (slice_index s i ≡ first (drop i (chars s)))
+skipped_byte tabs s i so_far within is =
+    let low = skipped_low tabs (slice_index s i) is in (
+      ascii_more (starts (is_skipped tabs)) s i (skipped_nul tabs) so_far within low is,
+      sym (first_byte s i within low so_far.utf8) ∙ ap first so_far.rest,
+    )
+
+-- behind all bytes stands nothing
+pub nothing_behind : (s : List ℕ) (i : ℕ) → length s ≤ i → chars (drop i s) ≡ []
+nothing_behind s i all = ap chars (drop_all i s all) ∙ chars-nil
+
+pub whole_white : (tabs : SkipTabs) (s : List ℕ) (i : ℕ) → IsAsciiFront (starts (is_skipped tabs)) s i
+    → is_skipped tabs (first (chars (drop i s))) ≡ false → i ≡ blanks_length tabs (chars s)
+whole_white tabs s i front stop = front_whole (starts (is_skipped tabs)) (chars s) i (record { rest = front.front })
+    (ap (λ (cs : List ℕ). is_skipped tabs (first cs)) (sym front.rest) ∙ stop)

@@ -7,11 +7,12 @@ ghost use Rattle.granit_base.specs.Classes.{is_printable};
 ghost use Rattle.granit_input.specs.Chunks.{FrontOf, TakesFront};
 ghost use Rattle.granit_input.specs.Cuts.{SpellsFront, IsAsciiFront};
 ghost use Rattle.granit_input.specs.Origin.{PartOf};
-ghost use Rattle.granit_input.specs.Runs.{run_test};
-ghost use Rattle.granit_input.specs.White.{holds};
+ghost use Rattle.granit_input.specs.Runs.{run_test, starts};
+ghost use Rattle.granit_input.specs.White.{blanks_length, holds, is_skipped, whitespace_found};
 
 use crate::class::{Class, Run};
 use crate::lanes::{LANES, taken_at};
+use crate::whitespace::{SkipTabs, WhitespaceResult};
 use granit_base::{is_printable, split_first_char};
 
 /// What follows so many characters, or nothing where there are fewer.
@@ -146,6 +147,40 @@ fn behind_space(bytes: &[u8], at: usize, byte: u8) -> u8
         return bytes[at + 1];
     }
     0
+}
+
+/// What follows spaces, and tabs where these are skipped, behind how many these are and what is among them.
+#[inline(always)]
+pub fn past_white(s: &str, skip_tabs: SkipTabs) -> (usize, WhitespaceResult, &str)
+    ensures whole { result.0 ≡ blanks_length skip_tabs (chars s.now) }
+    ensures found { result.1 ≡ whitespace_found (take result.0 (chars s.now)) }
+    ensures text { chars result.2.now ≡ drop result.0 (chars s.now) }
+    ensures bytes { SpellsFront s.now result.0 result.2.now }
+    ensures utf8 { is_utf8 result.2.now ≡ true }
+{
+    let (count, found) = white_front(s, skip_tabs);
+    (count, found, &s[count..])
+}
+
+/// How many of them stand in front, and what is among them.
+#[inline(always)]
+fn white_front(s: &str, skip_tabs: SkipTabs) -> (usize, WhitespaceResult)
+    ensures front { IsAsciiFront (starts (is_skipped skip_tabs)) s.now result.0 }
+    ensures whole { result.0 ≡ blanks_length skip_tabs (chars s.now) }
+    ensures found { result.1 ≡ whitespace_found (take result.0 (chars s.now)) }
+{
+    let bytes = s.as_bytes();
+    let mut found = WhitespaceResult::new(false, false);
+    let mut count = 0;
+    'white: while count < bytes.len() {
+        let c = bytes[count] as char;
+        if !skip_tabs.skips(c) {
+            return (count, found);
+        }
+        found = found.with(c);
+        count += 1;
+    }
+    (count, found)
 }
 
 /// The first character that isn't printable.

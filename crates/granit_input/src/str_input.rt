@@ -9,8 +9,9 @@ ghost use Rattle.granit_input.specs.Unread.{past_count};
 
 use crate::borrowed::BorrowedInput;
 use crate::class::Run;
-use crate::cuts::{before, behind, has_byte, part, past_run};
+use crate::cuts::{before, behind, has_byte, part, past_run, past_white};
 use crate::input::Input;
+use crate::whitespace::{SkipTabs, WhitespaceResult};
 use granit_base::{NoMemory, is_at_end, is_breakz, nth_char, push_text, split_first_char};
 use granit_error::ErrorKind;
 
@@ -181,6 +182,12 @@ impl<'a> Input for StrInput<'a> {
         push_text(out, before(self.rest, rest))?;
         self.rest = rest;
         Ok((ended, count))
+    }
+
+    fn skip_ws_to_eol_blanks(&mut self, skip_tabs: SkipTabs) -> (usize, WhitespaceResult) {
+        let (count, found, rest) = past_white(self.rest, skip_tabs);
+        self.rest = rest;
+        (count, found)
     }
 
     fn take_quoted_scalar_ascii_chunk(&mut self, single: bool) -> (&str, usize)

@@ -29,6 +29,7 @@ use std::alloc::Global;
 /// # Errors
 ///
 /// Those of `Layouts::refuse_open` and `Layouts::drop_key`.
+#[inline(never)]
 pub fn text_end<T: Input>(
     asked: bool,
     at: &mut Cursor<T>,
@@ -101,6 +102,7 @@ fn start_mark<T: Input>(
 /// # Errors
 ///
 /// Those of `Layouts::refuse_open`.
+#[inline(never)]
 pub fn document_start<T: Input>(
     asked: bool,
     at: &mut Cursor<T>,
@@ -126,6 +128,7 @@ pub fn document_start<T: Input>(
 /// # Errors
 ///
 /// `InvalidDocumentEnd` where the line goes on, and those of `Layouts::refuse_open` and `tail_at`.
+#[inline(never)]
 pub fn document_end<'input, T: BorrowedInput<'input>>(
     alloc: Global,
     asked: bool,
@@ -192,6 +195,7 @@ fn refuse_more<T: Input>(at: &mut Cursor<T>, fault: &mut Option<ScanError>) -> R
 /// # Errors
 ///
 /// Those of `scan_directive`, and `NoMemory`.
+#[inline(never)]
 pub fn directive<'input, T: BorrowedInput<'input>>(
     alloc: Global,
     options: &Options,

@@ -30,6 +30,7 @@ use std::mem;
 // Aliases and scalars (YAML 1.2.2, 7.1 and 7.3).
 
 /// A node of one event.
+#[inline(always)]
 fn leaf<'input>(
     state: &mut ParserState<'input>,
     options: &Options,
@@ -51,6 +52,7 @@ fn leaf<'input>(
     state.finish()
 }
 
+#[inline(never)]
 fn alias<'input>(
     state: &mut ParserState<'input>,
     fault: &mut Option<ScanError>,
@@ -89,6 +91,7 @@ fn unresolved<'input>(
 // Properties (YAML 1.2.2, 6.9).
 
 /// A tag of the node that must come, where a directive says what its handle stands for (YAML 1.2.2, 6.8.2).
+#[inline(never)]
 fn tag<'input>(
     state: &mut ParserState<'input>,
     fault: &mut Option<ScanError>,
@@ -309,6 +312,7 @@ fn indentless_dash<'input>(
 }
 
 /// A `-` where a node must stand.
+#[inline(never)]
 fn first_dash<'input>(
     state: &mut ParserState<'input>,
     fault: &mut Option<ScanError>,
@@ -398,6 +402,7 @@ fn begin_mapping<'input>(
 }
 
 /// A `:` without a key, where a node must stand.
+#[inline(never)]
 fn first_colon<'input>(
     state: &mut ParserState<'input>,
     fault: &mut Option<ScanError>,

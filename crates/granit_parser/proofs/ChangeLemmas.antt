@@ -20,7 +20,7 @@ use Rattle.granit_restart.specs.Looking.{behind_waiting, turn_ahead}
 use Rattle.granit_restart.specs.Skipping.{with_pending}
 use Rattle.granit_restart.specs.Turned.{Turned, with_count}
 use Rattle.granit_stepper.specs.Refusals.{FailsIn, StandsAhead, StandsRefused}
-use Rattle.granit_stepper.specs.Stepping.{StandsIn}
+use Rattle.granit_stepper.specs.Stepping.{StandsIn, Stepping}
 use Rattle.granit_steps.specs.Steps.{StepState, next_event, step_turn}
 
 -- ---- turns that were made early
@@ -30,7 +30,7 @@ module _ (o : OptionsData) where
   early_then s t u p not_early = p
   early_then s t u p (turn_early {t = v} q e) = turn_early (early_then s t v p q) e
 
-  ahead_early : (s t : StepState) → AheadOf o s t → EarlyOf o s t
+  pub ahead_early : (s t : StepState) → AheadOf o s t → EarlyOf o s t
   ahead_early s t not_ahead = not_early
   ahead_early s t (turn_made {t = u} p notes e) = turn_early (ahead_early s u p) e
 
@@ -58,6 +58,18 @@ module _ (o : OptionsData) where
       (turn_early not_early (ap (λ es. behind_waiting es (step_turn o (with_pending [] s))) none
       ∙ ap (λ u. behind_waiting [] (step_turn o u)) same ∙ ap (behind_waiting []) turn))
       (waits_early e t u more)
+
+-- what was looked at waits in a state to which turns made early lead
+pub seen_early : {I : Type 0} (unread : I → Unread → Type 0) (s : Stepping I) (e : PlainEvent) (c : Calls)
+    → Turned s.scanner.options c.steps → (n : SeenNext unread s e c)
+    → EarlyOf s.scanner.options c.steps (with_pending (e ∷ n.goes.steps.pending) n.goes.steps)
+seen_early unread s e c turned n =
+    let o = s.scanner.options in
+    let u = n.goes.steps in
+    early_then o c.steps (with_pending (e ∷ n.steps.pending) n.steps) (with_pending (e ∷ u.pending) u)
+    (waits_early o e n.steps c.steps (comes o c.steps n.steps e turned n.next))
+    (before_early o e n.steps u (subst (λ m. AheadOf o m u)
+    (noted_steps e.kind (record c { steps = n.steps })) n.goes.ahead))
 
 -- ---- what calls note
 
@@ -137,13 +149,9 @@ module _ {I : Type 0} (unread : I → Unread → Type 0) (change : StepState →
     }
     changed_by c (Some (Ok x)) opened between over turned is n =
         let e = plain_event x in
-        let o = p.stepper.scanner.options in
         let u = n.goes.steps in record {
           steps = with_pending (e ∷ u.pending) u;
-          early = early_then o c.steps (with_pending (e ∷ n.steps.pending) n.steps) (with_pending (e ∷ u.pending) u)
-              (waits_early o e n.steps c.steps (comes o c.steps n.steps e turned n.next))
-              (before_early o e n.steps u (subst (λ m. AheadOf o m u)
-              (noted_steps e.kind (record c { steps = n.steps })) n.goes.ahead));
+          early = seen_early unread p.stepper e c turned n;
           stands =
               let d : Calls = record c { steps = change (with_pending (e ∷ u.pending) u) } in
               goes_in unread q d opened.refusal opened.fault over between

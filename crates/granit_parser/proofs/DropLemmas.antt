@@ -99,6 +99,41 @@ module _ {I : Type 0} (unread : I → Unread → Type 0) where
       ∙ answered_steps (document_follows o (o.max_buffered_comment_events + 0) m) m)
       (by_turns (recover o stops looked c).1 (reached_recovery stops looked reached))
 
+  -- ---- behind a fault
+
+  module _ (c : Calls) (over : c.over ≡ false) (refusal : c.refusal ≡ None) (o : OptionsData) (looked : Bool)
+      (reached : ReachedByCalls o c) (tells : TellsHere o) (by_turns : GoByTurns o) (new : Stepping I)
+      (same : new.scanner.options ≡ o) where
+    pub fault_asks : (cursor : Reading I) (f : Fault) → c.fault ≡ Some f → SkipsFault unread o cursor f new c.steps
+        → new.first ≡ None → AsksFrom unread cursor looked new c
+        ⊎ MeetsNumber new.renumbered new.scanner.options c.steps
+    unfolding exactly
+    fault_asks cursor f is (inl x) first =
+        let m = skipped_fault o x.0 f c.steps in
+        let stops : StopsBy unread cursor o x.0 c.fault c.steps =
+        subst (λ (g : Option Fault). StopsBy unread cursor o x.0 g c.steps) (sym is) (x.1, x.2) in
+        inl (
+          x.0,
+          subst (λ o'. StopsIn unread cursor o' x.0 c) (sym same) (λ over refusal. stops),
+          record {
+            steps = m;
+            asks = record {
+              recovers = subst (λ o'. recover o' x.0 looked c ≡ recovered o' 0 (resumed m)) (sym same)
+                  (asks_fault o x.0 looked c f refusal over is);
+              tells = subst (λ o'. LookTells o' m) (sym same) (subst (LookTells o)
+                  (ap (λ (d : Calls). d.steps) (skipped_to_fault o x.0 c f is)) (tells x.0 c reached over));
+              comes = subst (λ o'. ComesBy o' c.steps m) (sym same) (comes_behind x.0 f comes_here);
+            };
+            goes = exactly new m x.3 first;
+            turned = subst (λ o'. Turned o' m) (sym same) (asks_turned o x.0 looked c m reached by_turns
+                (asks_fault o x.0 looked c f refusal over is));
+          },
+        )
+    fault_asks cursor f is (inr x) first =
+        let drops = subst (λ o'. DropsOn o' (behind_fault x.0 c.steps).1 x.2) (sym same) x.4 in
+        let number = subst (λ o'. RefusesNumber new.renumbered o' x.2 x.3) (sym same) x.5 in
+        inr (x.2, x.3, comes_dropping (comes_anew x.0 comes_here) drops, number)
+
   -- ---- by whether a call failed
 
   pub seen_going : (r : Next) (s : Stepping I) (c : Calls) → SeenBy unread r s c → s.failed ≡ false
@@ -134,41 +169,6 @@ module _ {I : Type 0} (unread : I → Unread → Type 0) where
           by : (f : Option Fault) → c.fault ≡ f → StaysBy unread f p.peeked p.stepper c → Going
           by None is seen = record { fault = is; seen = seen }
           by (Some f) is stays = absurd (let no : true ≡ false = sym stays.1.failed ∙ failed in cc)
-
-      -- ---- behind a fault
-
-      module _ (o : OptionsData) (looked : Bool) (reached : ReachedByCalls o c) (tells : TellsHere o)
-          (by_turns : GoByTurns o)
-          (new : Stepping I) (same : new.scanner.options ≡ o) where
-        pub fault_asks : (cursor : Reading I) (f : Fault) → c.fault ≡ Some f → SkipsFault unread o cursor f new c.steps
-            → new.first ≡ None → AsksFrom unread cursor looked new c
-            ⊎ MeetsNumber new.renumbered new.scanner.options c.steps
-        unfolding exactly
-        fault_asks cursor f is (inl x) first =
-            let m = skipped_fault o x.0 f c.steps in
-            let stops : StopsBy unread cursor o x.0 c.fault c.steps =
-            subst (λ (g : Option Fault). StopsBy unread cursor o x.0 g c.steps) (sym is) (x.1, x.2) in
-            inl (
-              x.0,
-              subst (λ o'. StopsIn unread cursor o' x.0 c) (sym same) (λ over refusal. stops),
-              record {
-                steps = m;
-                asks = record {
-                  recovers = subst (λ o'. recover o' x.0 looked c ≡ recovered o' 0 (resumed m)) (sym same)
-                      (asks_fault o x.0 looked c f refusal over is);
-                  tells = subst (λ o'. LookTells o' m) (sym same) (subst (LookTells o)
-                      (ap (λ (d : Calls). d.steps) (skipped_to_fault o x.0 c f is)) (tells x.0 c reached over));
-                  comes = subst (λ o'. ComesBy o' c.steps m) (sym same) (comes_behind x.0 f comes_here);
-                };
-                goes = exactly new m x.3 first;
-                turned = subst (λ o'. Turned o' m) (sym same) (asks_turned o x.0 looked c m reached by_turns
-                    (asks_fault o x.0 looked c f refusal over is));
-              },
-            )
-        fault_asks cursor f is (inr x) first =
-            let drops = subst (λ o'. DropsOn o' (behind_fault x.0 c.steps).1 x.2) (sym same) x.4 in
-            let number = subst (λ o'. RefusesNumber new.renumbered o' x.2 x.3) (sym same) x.5 in
-            inr (x.2, x.3, comes_dropping (comes_anew x.0 comes_here) drops, number)
 
       -- ---- a document
 
@@ -249,14 +249,14 @@ begins_is StreamEnd e = absurd (cc)
 begins_is (Comment text placement) e = absurd (cc)
 begins_is kind e = absurd (cc)
 
-ends_is : (kind : EventKind) → spec.seen_ends_document (seen_kind kind) ≡ true → kind ≡ DocumentEnd
+pub ends_is : (kind : EventKind) → spec.seen_ends_document (seen_kind kind) ≡ true → kind ≡ DocumentEnd
 ends_is DocumentEnd e = refl
 ends_is (DocumentStart explicit version) e = absurd (cc)
 ends_is StreamEnd e = absurd (cc)
 ends_is (Comment text placement) e = absurd (cc)
 ends_is kind e = absurd (cc)
 
-ends_not : (kind : EventKind) → spec.seen_ends_document (seen_kind kind) ≡ false
+pub ends_not : (kind : EventKind) → spec.seen_ends_document (seen_kind kind) ≡ false
     → (seen_kind kind ≡ seens.StreamEnd → ⊥)
     → ends kind ≡ false
 ends_not DocumentEnd e other = absurd (cc)

@@ -57,7 +57,7 @@ module _ {I : Type 0} (unread : I → Unread → Type 0) (p : Parsing I) (c : Ca
         → OnOk r (SkipsFault unread s.scanner.options s.scanner.cursor e q.stepper m)) is known in
         on_ok r (here c.steps f.fault f.failed.stands (by_turns c reached)) first
         (SkipsToAsk unread p.stepper.scanner.cursor (is_some p.peeked) q c)
-        (λ x e. unseen q none (fault_asks unread p c at over refusal p.stepper.scanner.options (is_some p.peeked)
+        (λ x e. unseen q none (fault_asks unread c over refusal p.stepper.scanner.options (is_some p.peeked)
         reached tells by_turns q.stepper kept p.stepper.scanner.cursor f.fault f.is x e))
 
     pub document_dropped : TellsLooked p.stepper.scanner.options → p.stepper.failed ≡ false

@@ -162,7 +162,7 @@ module _ (o : OptionsData) where
             ∙ failing_here o m e (ap (step_turn o) (sym same) ∙ fails)),
       )
 
-  turn_fails : (m : StepState) (e : Fault) → step_turn o m ≡ Err e → next_event o m ≡ Err e
+  pub turn_fails : (m : StepState) (e : Fault) → step_turn o m ≡ Err e → next_event o m ≡ Err e
   unfolding next_event
   turn_fails m e is = ap (first_of o) (pieces_fails step_size (step_turn o) m e is)
 

@@ -16,11 +16,13 @@ use Rattle.granit_lexemes.specs.Here.{Here}
 use Rattle.granit_lexemes.specs.Outcome.{Fault}
 use Rattle.granit_lexemes.specs.PlainEvent.{PlainEvent, EventKind, DocumentStart, DocumentEnd, StreamEnd}
 use Rattle.granit_parser.proofs.CallLemmas.{call_going}
+use Rattle.granit_parser.specs.Holding.{ParserHolds, WaitsBehind}
 use Rattle.granit_parser.specs.Parsing.{EndsWith, GivesNext, IsOver, KeepsGiven, Next, Parsing, ParserPeeksAs, Starves}
-use Rattle.granit_parser.specs.Parsing.{ShowsNext, StandsBefore}
+use Rattle.granit_parser.specs.Parsing.{ShowsNext, StandsBefore, notes_answered}
 use Rattle.granit_parser.specs.Recovering.{AnswersBy, Failed, FailsAt, GaveUp, GivesCall, GoesWithCalls, IsClosed}
 use Rattle.granit_parser.specs.Recovering.{IsOpen, ParserIn, ReadsNext, SeenBy, SeenNext, SeenNone, ShowsCall, StaysBy}
-use Rattle.granit_parser.specs.Recovering.{between_behind, failed_in, notes_between, notes_over, PeeksIn, over_behind}
+use Rattle.granit_parser.specs.Recovering.{LookShowsHeld, between_behind, failed_in, notes_between, notes_over, PeeksIn}
+use Rattle.granit_parser.specs.Recovering.{over_behind}
 use Rattle.granit_parser.specs.Sources.{IfUnseen, MovesUnless, NeverRecovers, TellsError, TellsSource}
 use Rattle.granit_recovery.specs.Streams.{ReachedByCalls, calls_from}
 use Rattle.granit_restart.specs.Ahead.{not_ahead}
@@ -30,14 +32,14 @@ use Rattle.granit_steps.specs.Steps.{StepState, next_event, start_from}
 
 -- ---- what calls note
 
-noted_between : (kind : EventKind) (c : Calls) (b : Bool) → b ≡ c.between
+pub noted_between : (kind : EventKind) (c : Calls) (b : Bool) → b ≡ c.between
     → between_behind kind b ≡ (noted kind c).between
 noted_between (DocumentStart explicit version) c b e = refl
 noted_between DocumentEnd c b e = refl
 noted_between StreamEnd c b e = e
 noted_between kind c b e = e
 
-noted_over : (kind : EventKind) (c : Calls) (v : Bool) → v ≡ c.over → over_behind kind v ≡ (noted kind c).over
+pub noted_over : (kind : EventKind) (c : Calls) (v : Bool) → v ≡ c.over → over_behind kind v ≡ (noted kind c).over
 noted_over (DocumentStart explicit version) c v e = e
 noted_over DocumentEnd c v e = e
 noted_over StreamEnd c v e = refl
@@ -76,19 +78,27 @@ closed_open c closed is =
 
 -- where nothing is given nothing is noted
 pub noted_none : {I : Type 0} (p t q : Parsing I) (r : Next) → r ≡ None → t ≡ p
-    → q ≡ record t { given = q.given; starved = q.starved; between = q.between; over = q.over }
-    → q.between ≡ notes_between r t.between → q.over ≡ notes_over r t.over → KeepsGiven r t.given q.given
-    → Starves r t.starved q.starved → q ≡ p
-noted_none p t q r none same rest between over given starved =
+    → q ≡ record t { given = q.given; starved = q.starved; between = q.between; over = q.over; answered = q.answered }
+    → q.between ≡ notes_between r t.between → q.over ≡ notes_over r t.over → q.answered ≡ notes_answered r t.answered
+    → KeepsGiven r t.given q.given → Starves r t.starved q.starved → q ≡ p
+noted_none p t q r none same rest between over answered given starved =
     let b : q.between ≡ t.between = between ∙ ap (λ (r : Next). notes_between r t.between) none in
     let v : q.over ≡ t.over = over ∙ ap (λ (r : Next). notes_over r t.over) none in
+    let a : q.answered ≡ t.answered = answered ∙ ap (λ (r : Next). notes_answered r t.answered) none in
     let g : q.given ≡ t.given = subst (λ (r : Next). KeepsGiven r t.given q.given) none given in
     let s : q.starved ≡ t.starved = subst (λ (r : Next). Starves r t.starved q.starved) none starved in
     rest
-    ∙ ap (λ g. record t { given = g; starved = q.starved; between = q.between; over = q.over }) g
-    ∙ ap (λ s. record t { starved = s; between = q.between; over = q.over }) s
-    ∙ ap (λ b. record t { between = b; over = q.over }) b
-    ∙ ap (λ v. record t { over = v }) v
+    ∙ ap (λ g. record t {
+      given = g;
+      starved = q.starved;
+      between = q.between;
+      over = q.over;
+      answered = q.answered;
+    }) g
+    ∙ ap (λ s. record t { starved = s; between = q.between; over = q.over; answered = q.answered }) s
+    ∙ ap (λ b. record t { between = b; over = q.over; answered = q.answered }) b
+    ∙ ap (λ v. record t { over = v; answered = q.answered }) v
+    ∙ ap (λ a. record t { answered = a }) a
     ∙ same
 
 -- nothing is looked at
@@ -135,7 +145,7 @@ module _ {I : Type 0} (unread : I → Unread → Type 0) where
       → SeenBy unread p.peeked p.stepper c
   unseen_by p c none g = subst (λ (r : Next). SeenBy unread r p.stepper c) (sym none) g
 
-  failed_at : (p : Parsing I) (m : StepState) (e : Fault) (c : Calls) → c.refusal ≡ None → p.over ≡ c.over
+  pub failed_at : (p : Parsing I) (m : StepState) (e : Fault) (c : Calls) → c.refusal ≡ None → p.over ≡ c.over
       → SeenNone p.peeked → Failed unread p.stepper m e → ParserIn unread p (failed_in m e c)
   failed_at p m e c refusal over seen failed = record {
     over = over;
@@ -256,12 +266,42 @@ module _ {I : Type 0} (unread : I → Unread → Type 0) where
     pub closed_stays : ParserIn unread q c
     closed_stays = by_over c.over refl
 
+  failed_by : (f g : Option Fault) (p : Parsing I) (c : Calls) → c.fault ≡ f → c.refusal ≡ g → c.over ≡ false
+      → IsClosed c → AnswersBy unread c.refusal p c → p.stepper.failed ≡ true
+  failed_by f (Some e) p c fault refusal going closed stays =
+      let gone : GaveUp p e = subst (λ r. AnswersBy unread r p c) refusal stays in gone.failed
+  failed_by (Some f) None p c fault refusal going closed stays =
+      let failed : StaysBy unread (Some f) p.peeked p.stepper c =
+      subst (λ f. StaysBy unread f p.peeked p.stepper c) fault (subst (λ r. AnswersBy unread r p c) refusal stays) in
+      failed.1.failed
+  failed_by None None p c fault refusal going closed stays =
+      absurd (closed_open c closed (record { over = going; fault = fault; refusal = refusal }))
+
+  -- where a stream that goes on gives nothing any more, a call failed
+  pub closed_failed : (p : Parsing I) (c : Calls) → IsClosed c → c.over ≡ false → ParserIn unread p c
+      → p.stepper.failed ≡ true
+  closed_failed p c closed over at = failed_by c.fault c.refusal p c refl refl over closed (at.stays over)
+
   -- ---- a look
 
   shows_seen : (p : Parsing I) (x : Result (Event × Span) Refused) (c : Calls) → ParserIn unread p c
       → SeenBy unread (Some x) p.stepper c → ShowsCall unread (Some x) p c
   shows_seen p (Ok x) c at seen = at
   shows_seen p (Err e) c at seen = absurd seen
+
+  waits_seen : (p : Parsing I) (x : Result (Event × Span) Refused) (c : Calls) (f : Fault) → ParserHolds unread p c f
+      → WaitsBehind unread (Some x) p.stepper c.steps f → LookShowsHeld unread (Some x) p c f
+  waits_seen p (Ok x) c f holds waits = holds
+  waits_seen p (Err e) c f holds waits = absurd waits
+
+  pub holds_shown : (p : Parsing I) (c : Calls) (f : Fault) → ParserHolds unread p c f → is_some p.peeked ≡ true
+      → LookShowsHeld unread p.peeked p c f
+  holds_shown p c f holds seen = by p.peeked refl seen
+    where
+      by : (w : Next) → p.peeked ≡ w → is_some w ≡ true → LookShowsHeld unread w p c f
+      by None is some = absurd (cc)
+      by (Some x) is some = waits_seen p x c f holds
+          (subst (λ (r : Next). WaitsBehind unread r p.stepper c.steps f) is holds.waits)
 
   -- where something was looked at a look shows it
   peeks_some : (origin : I → Origin) (p : Parsing I) (x : Result (Event × Span) Refused) → p.peeked ≡ Some x
@@ -270,6 +310,8 @@ module _ {I : Type 0} (unread : I → Unread → Type 0) where
     calls = λ c reached opened at none. subst (λ (r : Next). ShowsCall unread r p c) (sym is)
         (shows_seen p x c at (subst (λ (r : Next). SeenBy unread r p.stepper c) is (open_seen p c opened at)));
     closed = λ c closed at. at;
+    held = λ c f holds free. subst (λ (r : Next). LookShowsHeld unread r p c f) (sym is)
+        (waits_seen p x c f holds (subst (λ (r : Next). WaitsBehind unread r p.stepper c.steps f) is holds.waits));
     lost = subst (λ (w : Next). IfUnseen w (NeverRecovers origin p.stepper p.peeked p.stepper)) (sym is) tt;
   }
 
@@ -297,29 +339,21 @@ module _ {I : Type 0} (unread : I → Unread → Type 0) where
       stays = λ going. absurd (let f = sym ended ∙ going in cc);
     }
 
-    failed_by : (f g : Option Fault) (c : Calls) → c.fault ≡ f → c.refusal ≡ g → c.over ≡ false → IsClosed c
-        → AnswersBy unread c.refusal p c → p.stepper.failed ≡ true
-    failed_by f (Some e) c fault refusal going closed stays =
-        let gone : GaveUp p e = subst (λ r. AnswersBy unread r p c) refusal stays in gone.failed
-    failed_by (Some f) None c fault refusal going closed stays =
-        let failed : StaysBy unread (Some f) p.peeked p.stepper c =
-        subst (λ f. StaysBy unread f p.peeked p.stepper c) fault (subst (λ r. AnswersBy unread r p c) refusal stays) in
-        failed.1.failed
-    failed_by None None c fault refusal going closed stays =
-        absurd (closed_open c closed (record { over = going; fault = fault; refusal = refusal }))
-
     closed_by : (b : Bool) (c : Calls) → c.over ≡ b → IsClosed c → ParserIn unread p c → ParserIn unread q c
     closed_by true c is closed at = ended_stays c closed at is
     closed_by false c is closed at =
         subst (λ (z : Parsing I). ParserIn unread z c)
-        (sym (ends (failed_by c.fault c.refusal c refl refl is closed (at.stays is)))) at
+        (sym (ends (closed_failed p c closed is at))) at
 
     -- else it shows what is read
     pub peeks_read : ((c : Calls) → ReachedByCalls p.stepper.scanner.options c → GoesWithCalls unread p.stepper c
         → ReadsNext unread r q.stepper c ⊎ TellsSource origin r q.stepper.scanner.cursor)
         → NeverRecovers origin p.stepper r q.stepper → q.stepper.scanner.options ≡ p.stepper.scanner.options
-        → OpenGives p.stepper.scanner.options → PeeksIn unread origin p q.peeked q
-    peeks_read reads lost same gives = record {
+        → OpenGives p.stepper.scanner.options
+        → ((c : Calls) (f : Fault) → ParserHolds unread p c f
+        → LookShowsHeld unread r q c f ⊎ TellsSource origin r q.stepper.scanner.cursor)
+        → PeeksIn unread origin p q.peeked q
+    peeks_read reads lost same gives waits = record {
       calls = λ c reached opened at free. subst (λ (w : Next). ShowsCall unread w q c) (sym seen)
           (elim (reads c reached (subst (λ (w : Next). SeenBy unread w p.stepper c) none (open_seen p c opened at))) [
             | inl read ↦ call_shows r q c opened read seen (between ∙ at.between opened) (over ∙ at.over)
@@ -327,6 +361,10 @@ module _ {I : Type 0} (unread : I → Unread → Type 0) where
             | inr source ↦ absurd (told_free origin r q.stepper.scanner.cursor source free)
           ]);
       closed = λ c closed at. closed_by c.over c refl closed at;
+      held = λ c f holds free. subst (λ (w : Next). LookShowsHeld unread w q c f) (sym seen) (elim (waits c f holds) [
+        | inl shown ↦ shown
+        | inr source ↦ absurd (told_free origin r q.stepper.scanner.cursor source free)
+      ]);
       lost = subst (λ (w : Next). IfUnseen w (NeverRecovers origin p.stepper q.peeked q.stepper)) (sym none)
           (subst (λ (w : Next). NeverRecovers origin p.stepper w q.stepper) (sym seen) lost);
     }
@@ -359,18 +397,19 @@ module _ {I : Type 0} (unread : I → Unread → Type 0) (left : I → ℕ) (ori
       subst (λ o. GivesNext (Some x) (StandsIn unread t.stepper) t.stepper.renumbered o m) (sym options) g
 
   pub peeks_unseen : TellsError origin p.stepper r t.stepper.scanner.cursor → t.given ≡ p.given
-      → EndsWith r t.stepper → (p.stepper.failed ≡ true → (r ≡ None) × (t ≡ p))
+      → t.answered ≡ p.answered → EndsWith r t.stepper → (p.stepper.failed ≡ true → (r ≡ None) × (t ≡ p))
       → t.stepper.renumbered ≡ p.stepper.renumbered
       → MovesUnless left origin r p.stepper.scanner.cursor t.stepper.scanner.cursor
       → GoesOnward unread p.stepper.scanner.cursor t.stepper.scanner.cursor
       → ParserPeeksAs unread left origin p r (record t { peeked = r })
-  peeks_unseen source given refused over renumbered moves onward = record {
+  peeks_unseen source given answered refused over renumbered moves onward = record {
     shown = refl;
     known = λ m at free. shows_next r m (sure m (subst (λ (w : Next). StandsBefore unread w p.stepper m) none at) free);
     source = subst (λ (w : Next). IfUnseen w (TellsError origin p.stepper r t.stepper.scanner.cursor)) (sym none)
         source;
     seen = subst (λ (w : Next). IfSome w (λ x. record t { peeked = r } ≡ p)) (sym none) tt;
     given = given;
+    answered = answered;
     refused = refused;
     over = λ is. let x = over is.failed in
         ap (λ (q : Parsing I). record q { peeked = r }) x.1 ∙ ap (λ (w : Next). record p { peeked = w }) (x.0

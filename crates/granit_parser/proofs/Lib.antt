@@ -7,10 +7,14 @@ pub mod DroppedLemmas
 pub mod FirstLemmas
 pub mod GatherLemmas
 pub mod GoesLemmas
+pub mod HeldLemmas
+pub mod HeldProceedLemmas
+pub mod HeldRecoverLemmas
 pub mod InLemmas
 mod KeepLemmas
 pub mod LedLemmas
 pub mod MetLemmas
+pub mod NextLemmas
 pub mod PlaceLemmas
 pub mod ProceedLemmas
 pub mod RecoverLemmas

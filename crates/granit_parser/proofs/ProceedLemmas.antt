@@ -36,7 +36,7 @@ is_end seens.Another e = absurd (cc)
 pub not_end : (s : Seen) → spec.ends_stream s ≡ false → s ≡ seens.StreamEnd → ⊥
 not_end s e is = let f = sym (ap spec.ends_stream is) ∙ e in cc
 
-failed_part : (a b : Bool) → (a && not b) ≡ true → (a ≡ true) × (b ≡ false)
+pub failed_part : (a b : Bool) → (a && not b) ≡ true → (a ≡ true) × (b ≡ false)
 failed_part true true e = absurd (cc)
 failed_part true false e = (refl, refl)
 failed_part false b e = absurd (cc)

@@ -1,4 +1,4 @@
--- Wants of memory of calls that send events one behind the other.
+-- Wants of memory of calls that send events one behind the other, and what such calls leave of recovery's answer.
 use Rattle.std.proofs.Common.{◌≡◌, ◌∙◌, ◌≤◌, ◌⊎◌, inl, inr, ℕ, ◌+◌, Bool, true, false, List, [], ◌∷◌, ◌++◌}
 use Rattle.std.proofs.Common.{length, Option, Some, None, Result, Ok, Err, refl, ap, subst, sym, arith}
 use Rattle.std.proofs.lemmas.List.{length_push}
@@ -9,8 +9,8 @@ use Rattle.granit_error.specs.FaultKind.{NoMemory, wants_memory}
 use Rattle.granit_error.specs.Refused.{Refused}
 use Rattle.granit_event.specs.declared.event.Event.{Event}
 use Rattle.granit_parser.proofs.FirstLemmas.{is_scan, scan_or}
-use Rattle.granit_parser.specs.Parsing.{StarvedBy, Starves}
-use Rattle.granit_parser.specs.Receiving.{TakesMost, WantsOnly, scanned}
+use Rattle.granit_parser.specs.Parsing.{StarvedBy, Starves, notes_answered}
+use Rattle.granit_parser.specs.Receiving.{TakesMost, UnlessRefused, WantsOnly, scanned}
 use Rattle.granit_receivers.proofs.TakingLemmas.{took_more, took_none}
 use Rattle.granit_receivers.specs.Kept.{KeptAgain}
 use Rattle.granit_receivers.specs.Taking.{Told, Took}
@@ -34,6 +34,28 @@ counts_more n old mid new x s more = (
 
 pub counts_all : (n : ℕ) (old new : Told) → CountsTo n old new → last_count ≤ n → TakesMost (Took old new)
 counts_all n old new s all = (s.0, s.1, subst (λ m. last_count ≤ m) (sym s.2) all)
+
+-- behind an event recovery's answer counts no more
+pub answered_none : (r : Result (Event × Span) Refused) (x : Event × Span) (old new : Bool) → r ≡ Ok x
+    → new ≡ notes_answered (Some r) old → new ≡ false
+answered_none r x old new is noted = noted ∙ ap (λ r. notes_answered (Some r) old) is
+
+pub unless_refused : {X : Type 0} (A B : Type 0) (r : Option (Result X Refused)) → UnlessRefused r (A → B) → A
+    → UnlessRefused r B
+unless_refused A B None on a = on a
+unless_refused A B (Some (Ok x)) on a = on a
+unless_refused A B (Some (Err e)) on a = tt
+
+pub load_refuses : {X : Type 0} (A : Type 0) (e : Refused) (r : Result X Refused) → IsErrAnd r (λ f. f ≡ e)
+    → UnlessRefused (Some r) A
+load_refuses A e (Ok x) so = absurd so
+load_refuses A e (Err f) so = tt
+
+pub try_refuses : {X E : Type 0} (A : Type 0) (e : Refused) (r : Result X (TryLoadError E))
+    → IsErrAnd r (λ f. f ≡ Scan e) → UnlessRefused (scanned r) A
+try_refuses A e (Ok x) so = absurd so
+try_refuses A e (Err (Scan f)) so = tt
+try_refuses A e (Err (Receiver f)) so = absurd (cc)
 
 -- the refusal of a call
 pub starves_by : (r : Result (Event × Span) Refused) (e : Refused) → r ≡ Err e → (old new : Bool)

@@ -1,5 +1,6 @@
 pub mod Alone
 pub mod Gathering
+pub mod Holding
 pub mod Numbers
 pub mod Parsing
 pub mod Receiving

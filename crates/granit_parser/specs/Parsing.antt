@@ -29,7 +29,8 @@ next_view (Ok (Some x)) = Some (Ok x)
 next_view (Err e) = Some (Err e)
 
 -- a stepper, what was looked at and not taken, the refusal that was given, whether a call gave it for want of memory,
--- whether the end of a document was the last that was given, comments aside, and whether that of the stream was
+-- whether the end of a document was the last that was given, comments aside, whether that of the stream was, and
+-- whether recovery told that a document is there and nothing was given since
 pub record Parsing (I : Type 0) : Type 0 where
   pub stepper : Stepping I
   pub peeked : Next
@@ -37,6 +38,7 @@ pub record Parsing (I : Type 0) : Type 0 where
   pub starved : Bool
   pub between : Bool
   pub over : Bool
+  pub answered : Bool
 
 -- where this is a refusal, it is the last that is given: a parser that has nothing looked at is then over
 abbrev pub EndsWith : {I : Type 0} → Next → Stepping I → Type 0
@@ -63,6 +65,12 @@ abbrev pub Starves : Next → (old new : Bool) → Type 0
 Starves None old new = new ≡ old
 Starves (Some (Ok e)) old new = new ≡ old
 Starves (Some (Err e)) old new = new ≡ wants_memory e.kind
+
+-- behind an event that is given recovery's last answer counts no more
+abbrev pub notes_answered : Next → Bool → Bool
+notes_answered None answered = answered
+notes_answered (Some (Ok x)) answered = false
+notes_answered (Some (Err e)) answered = answered
 
 -- the same parser, with handles that stay over documents or not
 abbrev pub parser_keeping : {I : Type 0} → Bool → Parsing I → Parsing I
@@ -110,6 +118,7 @@ pub record ParserPeeksAs {I : Type 0} (unread : I → Unread → Type 0) (left :
   pub source : IfUnseen old.peeked (TellsError origin old.stepper r new.stepper.scanner.cursor)
   pub seen : IfSome old.peeked (λ x. new ≡ old)
   pub given : new.given ≡ old.given
+  pub answered : new.answered ≡ old.answered
   pub refused : EndsWith r new.stepper
   pub over : IsOver old → new ≡ old
   pub options : new.stepper.scanner.options ≡ old.stepper.scanner.options
@@ -128,6 +137,7 @@ pub record ParserStepsTo {I : Type 0} (unread : I → Unread → Type 0) (left :
   pub seen : IfSome p.peeked (λ x. (r ≡ Some x) × (q.stepper ≡ p.stepper))
   pub none : q.peeked ≡ None
   pub given : KeepsGiven r p.given q.given
+  pub answered : q.answered ≡ notes_answered r p.answered
   pub refused : EndsWith r q.stepper
   pub over : IsOver p → (r ≡ None) × (q ≡ p)
   pub options : q.stepper.scanner.options ≡ p.stepper.scanner.options

@@ -120,6 +120,12 @@ scanned (Err (Receiver e)) = None
 
 -- ---- refusals
 
+-- this holds unless the parser itself refused
+abbrev pub UnlessRefused : {X : Type 0} → Option (Result X Refused) → Type 0 → Type 0
+UnlessRefused None Holds = Holds
+UnlessRefused (Some (Ok x)) Holds = Holds
+UnlessRefused (Some (Err e)) Holds = Unit {0}
+
 -- a refusal is kept, and behind anything else none is
 abbrev pub KeepsRefusal : {X : Type 0} → Result X Refused → Option Refused → Type 0
 KeepsRefusal (Ok x) given = given ≡ None

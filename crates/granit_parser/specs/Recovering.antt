@@ -1,9 +1,9 @@
 -- A parser between its calls, where the machine's calls lead: what contracts on recovery say.
-use Rattle.std.specs.Prelude.{◌≡◌, ◌⊎◌, ◌||◌, ℕ, suc, is_some, Bool, true, false, [], Option, Some, None}
-use Rattle.std.specs.Prelude.{Result, Ok, Err, IfOk}
+use Rattle.std.specs.Prelude.{◌≡◌, ◌⊎◌, ◌||◌, ◌&&◌, not, ℕ, suc, is_some, Bool, true, false, List, [], ◌∷◌, Option}
+use Rattle.std.specs.Prelude.{Some, None, Result, Ok, Err, IfOk}
 pub use Rattle.granit_alone.specs.Behind.{IsOpen}
 use Rattle.granit_base.specs.Place.{Unread}
-use Rattle.granit_cursor.specs.Reading.{Reading}
+use Rattle.granit_cursor.specs.Reading.{GoesOnward, Reading}
 use Rattle.granit_error.specs.FaultKind.{NoMemory}
 use Rattle.granit_error.specs.OptionsData.{OptionsData}
 use Rattle.granit_error.specs.Refused.{Refused}
@@ -13,6 +13,8 @@ use Rattle.granit_lexemes.specs.Here.{Here}
 use Rattle.granit_lexemes.specs.Onward.{Onward}
 use Rattle.granit_lexemes.specs.Outcome.{Fault}
 use Rattle.granit_lexemes.specs.PlainEvent.{Comment, DocumentEnd, DocumentStart, EventKind, PlainEvent, StreamEnd}
+use Rattle.granit_parser.specs.Holding.{FaultLacksNumber, LeadsToFault, MetFault, ParserHolds, WaitsBehind, held_behind}
+use Rattle.granit_parser.specs.Holding.{held_room}
 use Rattle.granit_parser.specs.Parsing.{Next, Parsing}
 use Rattle.granit_parser.specs.Sources.{IfUnseen, NeverRecovers, TellsSource}
 use Rattle.granit_parser.specs.declared.recovery.Seen.{Seen}
@@ -28,6 +30,7 @@ use Rattle.granit_restart.specs.Restart.{behind_fault}
 use Rattle.granit_restart.specs.Skipping as skipping
 use Rattle.granit_restart.specs.Skipping.{Ended, SkipEnd, Stops, skip_by_turns, skipped_fault, with_pending}
 use Rattle.granit_restart.specs.Turned.{Turned, with_count}
+use Rattle.granit_stepper.specs.Holding.{held_follows}
 use Rattle.granit_stepper.specs.Numbers.{RefusesNumber}
 use Rattle.granit_stepper.specs.Recovering.{DropsOn, StopsAt, StopsBehind}
 use Rattle.granit_stepper.specs.Refusals.{FailsIn, StandsAhead, StandsRefused}
@@ -139,12 +142,23 @@ GivesCall unread (Some (Ok x)) p c = (d : Calls)
 GivesCall unread (Some (Err e)) p c = (e.kind ≡ NoMemory → ⊥) → (m : StepState)
     × FailsAt p.stepper.renumbered p.stepper.scanner.options m c e × ParserIn unread p (failed_in m e c)
 
+-- where a refusal waits: what waits before it comes one by one, and then it, which counts as given
+abbrev pub CallGivesHeld : {I : Type 0} → (I → Unread → Type 0) → Next → Parsing I → Calls → Fault → Type 0
+CallGivesHeld unread None p c f = ⊥
+CallGivesHeld unread (Some (Ok x)) p c f = (es : List PlainEvent) × (c.steps.pending ≡ plain_event x ∷ es)
+    × ParserHolds unread p (noted (plain_event x).kind (record c { steps = with_pending es c.steps })) f
+CallGivesHeld unread (Some (Err e)) p c f = (c.steps.pending ≡ []) × (e ≡ f)
+    × ParserIn unread p (failed_in c.steps f c)
+    × LeadsToFault p.stepper.renumbered p.stepper.scanner.options c (failed_in c.steps f c) f
+
 -- what a step of the iterator gives and leaves where the machine's calls led
 pub record CallsTo {I : Type 0} (unread : I → Unread → Type 0) (origin : I → Origin) (old : Parsing I) (r : Next)
     (new : Parsing I) : Type 0 where
   pub calls : (c : Calls) → ReachedByCalls old.stepper.scanner.options c → IsOpen c → ParserIn unread old c
       → GivesCall unread r new c ⊎ TellsSource origin r new.stepper.scanner.cursor
   pub closed : (c : Calls) → IsClosed c → ParserIn unread old c → ParserIn unread new c
+  pub held : (c : Calls) (f : Fault) → ParserHolds unread old c f
+      → CallGivesHeld unread r new c f ⊎ TellsSource origin r new.stepper.scanner.cursor
   pub lost : IfUnseen old.peeked (NeverRecovers origin old.stepper r new.stepper)
 
 -- a look leads nowhere but where it shows a fault, which then counts as given
@@ -154,12 +168,22 @@ ShowsCall unread (Some (Ok x)) p c = ParserIn unread p c
 ShowsCall unread (Some (Err e)) p c = (e.kind ≡ NoMemory → ⊥) → (m : StepState)
     × FailsAt p.stepper.renumbered p.stepper.scanner.options m c e × ParserIn unread p (failed_in m e c)
 
+-- where a refusal waits a look shows the first of what waits, or it, which then counts as given
+abbrev pub LookShowsHeld : {I : Type 0} → (I → Unread → Type 0) → Next → Parsing I → Calls → Fault → Type 0
+LookShowsHeld unread None p c f = ⊥
+LookShowsHeld unread (Some (Ok x)) p c f = ParserHolds unread p c f
+LookShowsHeld unread (Some (Err e)) p c f = (c.steps.pending ≡ []) × (e ≡ f)
+    × ParserIn unread p (failed_in c.steps f c)
+    × LeadsToFault p.stepper.renumbered p.stepper.scanner.options c (failed_in c.steps f c) f
+
 -- what a look leaves where the machine's calls led
 pub record PeeksIn {I : Type 0} (unread : I → Unread → Type 0) (origin : I → Origin) (old : Parsing I) (r : Next)
     (new : Parsing I) : Type 0 where
   pub calls : (c : Calls) → ReachedByCalls old.stepper.scanner.options c → IsOpen c → ParserIn unread old c
       → (origin new.stepper.scanner.cursor.input).error ≡ None → ShowsCall unread r new c
   pub closed : (c : Calls) → IsClosed c → ParserIn unread old c → ParserIn unread new c
+  pub held : (c : Calls) (f : Fault) → ParserHolds unread old c f
+      → (origin new.stepper.scanner.cursor.input).error ≡ None → LookShowsHeld unread r new c f
   pub lost : IfUnseen old.peeked (NeverRecovers origin old.stepper r new.stepper)
 
 -- ---- another option, or another number
@@ -280,6 +304,90 @@ Proceeds unread r old new c =
     (Recovers unread old.stepper.scanner.cursor (is_some old.peeked) r new c ⊎ SeesEnd r old new)
     ⊎ MeetsNumber new.stepper.renumbered new.stepper.scanner.options c.steps
 
+-- ---- where recovery told of a document and nothing was given since
+
+-- no look comes first
+abbrev pub LooksNoMore : {I : Type 0} → Parsing I → Calls → Type 0
+LooksNoMore p c = (p.answered ≡ false) ⊎ IsClosed c
+
+-- memory ran out in that look
+pub record StarvedLook {I : Type 0} (p : Parsing I) (e : Refused) : Type 0 where
+  pub starved : (e.kind ≡ NoMemory → ⊥) → ⊥
+  pub failed : p.stepper.failed ≡ true
+  pub refusal : p.stepper.refusal ≡ None
+  pub given : p.given ≡ None
+
+-- the next event was looked at, or a refusal, which counts as given
+abbrev pub ShowsFirst : {I : Type 0} → (I → Unread → Type 0) → Next → Parsing I → Calls → Type 0
+ShowsFirst unread None p c = ⊥
+ShowsFirst unread (Some (Ok x)) p c = ParserIn unread p c
+    × ((after : StepState) × (next_event p.stepper.scanner.options c.steps ≡ Ok (Some (plain_event x), after)))
+ShowsFirst unread (Some (Err e)) p c = StarvedLook p e ⊎ ((m : StepState)
+    × FailsAt p.stepper.renumbered p.stepper.scanner.options m c e × ParserIn unread p (failed_in m e c))
+
+abbrev pub ProceedsShown : {I : Type 0} → (I → Unread → Type 0) → Next → Result Bool Refused → (looked new : Parsing I)
+    → Calls → Type 0
+ProceedsShown unread None r p new c = ⊥
+ProceedsShown unread (Some (Ok x)) r p new c =
+    ((after : StepState) × (next_event p.stepper.scanner.options c.steps ≡ Ok (Some (plain_event x), after)))
+    × Proceeds unread r p new c
+ProceedsShown unread (Some (Err e)) r p new c = (m : StepState)
+    × FailsAt p.stepper.renumbered p.stepper.scanner.options m c e × Proceeds unread r p new (failed_in m e c)
+
+-- recovery goes on from where a look at the next event led: that stays looked at, and a refusal counts as given, unless
+-- an anchor on the way would get the greatest number
+abbrev pub ProceedsNext : {I : Type 0} → (I → Unread → Type 0) → Result Bool Refused → (old new : Parsing I) → Calls
+    → Type 0
+ProceedsNext {I = I} unread r old new c =
+    ((p : Parsing I) × GoesOnward unread old.stepper.scanner.cursor p.stepper.scanner.cursor
+    × ProceedsShown unread p.peeked r p new c)
+    ⊎ MeetsNumber new.stepper.renumbered new.stepper.scanner.options c.steps
+
+-- an answer is noted; where no document is there, the end of the stream may have been given or looked at
+abbrev pub IsNoted : {I : Type 0} → (follows : Bool) → Parsing I → Type 0
+IsNoted true p = p.answered ≡ true
+IsNoted false p = (p.answered ≡ false) ⊎ ((p.over ≡ true) ⊎ (seen_in p.peeked ≡ seens.StreamEnd))
+
+-- ---- where a refusal waits
+
+-- Where a refusal waits: what waits before it is dropped up to an end, and tells whether another document is there; the
+-- refusal waits on, with what is left. Or it is the open document's: recovery is that from where it counts as given.
+abbrev pub ProceedsHeldBy : {I : Type 0} → (I → Unread → Type 0) → (room : ℕ) → SkipEnd → Result Bool Refused
+    → (old new : Parsing I) → Fault → Type 0
+ProceedsHeldBy unread room (Ended n) r old new f =
+    (r ≡ held_follows room n) × IfOk r (λ follows. ParserHolds unread new (recovery_answer r (resumed n)).1 f)
+ProceedsHeldBy unread room (skipping.Failed e n) r old new f =
+    (m : MetFault new.stepper.scanner.options n e) × Proceeds unread r old new m.calls
+
+-- whether what was looked at, or nothing, stays where recovery asks
+abbrev pub stays_by : (between : Bool) → Next → Bool
+stays_by between r = between && not (seen_starts_document (seen_in r))
+
+-- unless it says that no number was left
+abbrev pub ProceedsHeld : {I : Type 0} → (I → Unread → Type 0) → Result Bool Refused → (old new : Parsing I) → Calls
+    → Fault → Type 0
+ProceedsHeld unread r old new c f =
+    (SeesEnd r old new
+    ⊎ ProceedsHeldBy unread (held_room old.stepper.scanner.options (stays_by old.between old.peeked) old.peeked)
+    (held_behind (stays_by old.between old.peeked) f c.steps) r old new f)
+    ⊎ FaultLacksNumber new.stepper.renumbered new.stepper.scanner.options c f
+
+-- Recovery told of a document and nothing was given since: what waits first was looked at, and stays looked at, or the
+-- refusal was, which counts as given.
+abbrev pub ProceedsHeldShown : {I : Type 0} → (I → Unread → Type 0) → Next → Result Bool Refused
+    → (looked new : Parsing I) → Calls → Fault → Type 0
+ProceedsHeldShown unread None r p new c f = ⊥
+ProceedsHeldShown unread (Some (Ok x)) r p new c f = ParserHolds unread p c f × ProceedsHeld unread r p new c f
+ProceedsHeldShown unread (Some (Err e)) r p new c f =
+    (c.steps.pending ≡ []) × (e ≡ f) × Proceeds unread r p new (failed_in c.steps f c)
+
+abbrev pub ProceedsHeldNext : {I : Type 0} → (I → Unread → Type 0) → Result Bool Refused → (old new : Parsing I)
+    → Calls → Fault → Type 0
+ProceedsHeldNext {I = I} unread r old new c f =
+    ((p : Parsing I) × GoesOnward unread old.stepper.scanner.cursor p.stepper.scanner.cursor
+    × (p.stepper.scanner.options ≡ old.stepper.scanner.options) × ProceedsHeldShown unread p.peeked r p new c f)
+    ⊎ FaultLacksNumber new.stepper.renumbered new.stepper.scanner.options c f
+
 -- ---- on the way
 
 -- nothing was looked at, and another document is asked for where calls led to directly behind one
@@ -353,3 +461,28 @@ Ends unread r old new c =
     × (recover new.stepper.scanner.options stops (is_some old.peeked) c ≡ (r, d)) × RecoveryLeaves unread r new d)
     ⊎ SeesEnd r old new)
     ⊎ MeetsNumber new.stepper.renumbered new.stepper.scanner.options c.steps
+
+-- ---- where a refusal waits
+
+-- what is dropped, and what waits then; or where the fault counts as given
+abbrev pub SkipsWaiting : {I : Type 0} → (I → Unread → Type 0) → (cursor : Reading I) → (looked : Bool) → Fault
+    → SkipEnd → Parsing I → Type 0
+SkipsWaiting unread cursor looked f (Ended n) p = WaitsBehind unread p.peeked p.stepper n f
+SkipsWaiting unread cursor looked f (skipping.Failed e n) p =
+    (m : MetFault p.stepper.scanner.options n e) × SkipsToAsk unread cursor looked p m.calls
+
+-- the same of the calls that aren't given up
+abbrev pub EndsHeldBy : {I : Type 0} → (I → Unread → Type 0) → (room : ℕ) → SkipEnd → Result Bool Refused
+    → (old new : Parsing I) → Fault → Type 0
+EndsHeldBy unread room (Ended n) r old new f =
+    (r ≡ held_follows room n) × IfOk r (λ follows. ParserHolds unread new (recovery_answer r (resumed n)).1 f)
+EndsHeldBy unread room (skipping.Failed e n) r old new f =
+    (m : MetFault new.stepper.scanner.options n e) × Ends unread r old new m.calls
+
+abbrev pub EndsHeld : {I : Type 0} → (I → Unread → Type 0) → Result Bool Refused → (old new : Parsing I) → Calls
+    → Fault → Type 0
+EndsHeld unread r old new c f =
+    (SeesEnd r old new
+    ⊎ EndsHeldBy unread (held_room old.stepper.scanner.options (stays_by old.between old.peeked) old.peeked)
+    (held_behind (stays_by old.between old.peeked) f c.steps) r old new f)
+    ⊎ FaultLacksNumber new.stepper.renumbered new.stepper.scanner.options c f

@@ -1,6 +1,8 @@
 //! The number that a parser's next anchor gets.
-ghost use Rattle.std.specs.Prelude.{◌≡◌, None};
+ghost use Rattle.std.specs.Prelude.{◌≡◌, None, Some};
 ghost use Rattle.granit_base.specs.Place.{Unread};
+ghost use Rattle.granit_lexemes.specs.Outcome.{Fault};
+ghost use Rattle.granit_parser.specs.Holding.{HoldsChanged, ParserHolds};
 ghost use Rattle.granit_parser.specs.Numbers.{next_number, with_number};
 ghost use Rattle.granit_parser.specs.Parsing.{StandsAt};
 ghost use Rattle.granit_parser.specs.Recovering.{ChangesIn, IsClosed, IsOpen, ParserIn};
@@ -26,14 +28,19 @@ impl<'input, T: BorrowedInput<'input>> Parser<'input, T> {
     /// was looked at stays as it is.
     ///
     /// The contract: where the machine's calls led, they go on from there with that number (`there`), also where turns
-    /// were made early, unless such a turn was refused (`calls`). Behind a fault that was given recovery does
-    /// (`failed`).
+    /// were made early (`calls`). Where such a turn was refused, that waits still (`held`, `holds`): `next_event` tells
+    /// what comes then. Behind a fault that was given recovery goes on with that number (`failed`).
     pub fn set_anchor_offset(&mut self, offset: usize)
         ensures known { (m : StepState) → StandsIn T.unread self.old.stepper m
             → StandsIn T.unread self.new.stepper (with_offset offset m) }
         ensures calls { (c : Calls) → ReachedByCalls self.old.stepper.scanner.options c → IsOpen c
             → self.old.stepper.ahead ≡ None → ParserIn T.unread self.old c
             → ChangesIn T.unread self.old.stepper.scanner.options (with_offset offset) self.new c }
+        ensures held { (c : Calls) (f : Fault) → ReachedByCalls self.old.stepper.scanner.options c → IsOpen c
+            → self.old.stepper.ahead ≡ Some f → ParserIn T.unread self.old c
+            → HoldsChanged T.unread self.old.stepper.scanner.options (with_offset offset) self.new c f }
+        ensures holds { (c : Calls) (f : Fault) → ParserHolds T.unread self.old c f
+            → ParserHolds T.unread self.new (record c { steps = with_offset offset c.steps }) f }
         ensures there { (c : Calls) → IsOpen c → self.old.peeked ≡ None → StandsAt T.unread self.old c.steps
             → ParserIn T.unread self.old c
             → ParserIn T.unread self.new (record c { steps = with_offset offset c.steps }) }

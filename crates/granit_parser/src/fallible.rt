@@ -46,6 +46,7 @@ impl<'input, T: Source<Item = Result<char, ErrorKind>>> Parser<'input, FallibleB
             (⟦<FallibleBufferedInput<T> as Input>⟧.origin p.stepper.scanner.cursor.input).handed_out ≡ false) }
         ensures options { IfOk result (λ p. p.stepper.scanner.options ≡ default_options) }
         ensures unseen { IfOk result (λ p. p.peeked ≡ None) }
+        ensures unasked { IfOk result (λ p. p.answered ≡ false) }
         ensures renumbered { IfOk result (λ p. p.stepper.renumbered ≡ false) }
     {
         Parser::new_from_fallible_iter_with_options(alloc, iter, Options::default())
@@ -78,6 +79,7 @@ impl<'input, T: Source<Item = Result<char, ErrorKind>>> Parser<'input, FallibleB
             (⟦<FallibleBufferedInput<T> as Input>⟧.origin p.stepper.scanner.cursor.input).handed_out ≡ false) }
         ensures options { IfOk result (λ p. p.stepper.scanner.options ≡ options_of options) }
         ensures unseen { IfOk result (λ p. p.peeked ≡ None) }
+        ensures unasked { IfOk result (λ p. p.answered ≡ false) }
         ensures renumbered { IfOk result (λ p. p.stepper.renumbered ≡ false) }
     {
         let input = FallibleBufferedInput::new(alloc, iter)?;

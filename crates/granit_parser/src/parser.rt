@@ -17,12 +17,14 @@ ghost use Rattle.granit_input.specs.Origin.{Gave, error_given};
 ghost use Rattle.granit_input.specs.Strings.{LeftInString};
 ghost use Rattle.granit_lexemes.specs.Here.{Here, first_place};
 ghost use Rattle.granit_lexemes.specs.PlainEvent.{PlainEvent};
+ghost use Rattle.granit_parser.specs.Holding.{ParserHolds, ReadsHeld, WaitsBehind};
 ghost use Rattle.granit_parser.specs.Parsing as spec;
 ghost use Rattle.granit_parser.specs.Alone.{EndsAlone};
 ghost use Rattle.granit_parser.specs.Parsing.{EndsBehind, EndsText, EndsTold, EndsWith, GivesNext, IsOver, KeepsGiven};
 ghost use Rattle.granit_parser.specs.Parsing.{LeadsTo, ParserPeeksAs, StandsAt, Starves, StepsBy, next_view};
-ghost use Rattle.granit_parser.specs.Recovering.{GivesCall, GoesWithCalls, IsClosed, IsOpen, ParserIn, PeeksIn};
-ghost use Rattle.granit_parser.specs.Recovering.{ReadsNext, SeenBy, notes_between, notes_over};
+ghost use Rattle.granit_parser.specs.Parsing.{notes_answered};
+ghost use Rattle.granit_parser.specs.Recovering.{GivesCall, CallGivesHeld, GoesWithCalls, IsClosed, IsOpen, ParserIn};
+ghost use Rattle.granit_parser.specs.Recovering.{PeeksIn, ReadsNext, SeenBy, notes_between, notes_over};
 ghost use Rattle.granit_parser.specs.Resuming.{Resumed, ResumesCall};
 ghost use Rattle.granit_parser.specs.contracts.parser.Parser.{the_row};
 ghost use Rattle.granit_parser.specs.Sources.{IfUnseen, MovesUnless, NeverRecovers, NeverRevives, TellsError};
@@ -32,6 +34,7 @@ ghost use Rattle.granit_receivers.specs.Sending.{shown};
 ghost use Rattle.granit_recovery.specs.Streams.{ReachedByCalls, calls_from};
 ghost use Rattle.granit_restart.specs.Calls.{Calls, calls_start};
 ghost use Rattle.granit_restart.specs.Skipping.{Stops};
+ghost use Rattle.granit_stepper.specs.Holding.{HoldsFault};
 ghost use Rattle.granit_stepper.specs.Refusals.{HoldsRefusal, StandsRefused};
 ghost use Rattle.granit_stepper.specs.Stepping.{StandsIn, refused_kind};
 ghost use Rattle.granit_shifted.specs.Alone.{TellsAlone};
@@ -66,6 +69,8 @@ pub struct Parser<'input, T: Input> {
     pub(crate) between: bool,
     // The end of the stream was given.
     pub(crate) over: bool,
+    // Recovery told that a document is there, and nothing was given since.
+    pub(crate) answered: bool,
 }
 
 impl<'input, T: Input> Model for Parser<'input, T> {
@@ -80,6 +85,7 @@ impl<'input, T: Input> Model for Parser<'input, T> {
       starved = p.starved;
       between = p.between;
       over = p.over;
+      answered = p.answered;
     } };
 
     // nothing is read behind a refusal, and without one no memory was wanted
@@ -93,6 +99,7 @@ impl<'input> Parser<'input, StrInput<'input>> {
         ensures calls { ParserIn LeftInString result (calls_start (chars value.now)) }
         ensures options { result.stepper.scanner.options ≡ default_options }
         ensures unseen { result.peeked ≡ None }
+        ensures unasked { result.answered ≡ false }
         ensures renumbered { result.stepper.renumbered ≡ false }
     {
         Parser::new_from_str_with_options(alloc, value, Options::default())
@@ -108,6 +115,7 @@ impl<'input> Parser<'input, StrInput<'input>> {
         ensures calls { ParserIn LeftInString result (calls_start (chars value.now)) }
         ensures options { result.stepper.scanner.options ≡ options_of options }
         ensures unseen { result.peeked ≡ None }
+        ensures unasked { result.answered ≡ false }
         ensures renumbered { result.stepper.renumbered ≡ false }
     {
         Parser::with_options(alloc, StrInput::new(value), options)
@@ -123,6 +131,7 @@ impl<'input, T: BorrowedInput<'input>> Parser<'input, T> {
             → h.tab ≡ None → ParserIn T.unread result (calls_from h) }
         ensures options { result.stepper.scanner.options ≡ default_options }
         ensures unseen { result.peeked ≡ None }
+        ensures unasked { result.answered ≡ false }
         ensures renumbered { result.stepper.renumbered ≡ false }
         ensures input { result.stepper.scanner.cursor.input ≡ src }
     {
@@ -137,6 +146,7 @@ impl<'input, T: BorrowedInput<'input>> Parser<'input, T> {
             → h.tab ≡ None → ParserIn T.unread result (calls_from h) }
         ensures options { result.stepper.scanner.options ≡ options_of options }
         ensures unseen { result.peeked ≡ None }
+        ensures unasked { result.answered ≡ false }
         ensures renumbered { result.stepper.renumbered ≡ false }
         ensures input { result.stepper.scanner.cursor.input ≡ src }
     {
@@ -148,6 +158,7 @@ impl<'input, T: BorrowedInput<'input>> Parser<'input, T> {
             starved: false,
             between: false,
             over: false,
+            answered: false,
         }
     }
 
@@ -162,6 +173,8 @@ impl<'input, T: BorrowedInput<'input>> Parser<'input, T> {
     /// (`told`). Where the number of a next anchor was ever set, an anchor that would get the greatest one is refused
     /// instead; a parser that is known to stand in a state has given none that number. The first error of the input's
     /// source stands in the place of all that was read up to it (`source`), and behind it recovery is refused (`lost`).
+    /// Where recovery met a refusal and `keep_tags` or `set_anchor_offset` was called before it is given, what waits
+    /// comes before it, and it counts as given then (`held`).
     /// A refusal that is given is kept (`given`), and marked where it is want of memory (`starved`).
     ///
     /// # Errors
@@ -198,9 +211,12 @@ impl<'input, T: BorrowedInput<'input>> Parser<'input, T> {
             → ResumesCall T.unread self.old.stepper.scanner.options stops c es result self.new e
             ⊎ TellsSource T.origin result self.new.stepper.scanner.cursor }
         ensures closed { (c : Calls) → IsClosed c → ParserIn T.unread self.old c → ParserIn T.unread self.new c }
+        ensures held { (c : Calls) (f : Refused) → ParserHolds T.unread self.old c f
+            → CallGivesHeld T.unread result self.new c f ⊎ TellsSource T.origin result self.new.stepper.scanner.cursor }
         ensures peeked { self.new.peeked ≡ None }
         ensures given { KeepsGiven result self.old.given self.new.given }
         ensures starved { Starves result self.old.starved self.new.starved }
+        ensures answered { self.new.answered ≡ notes_answered result self.old.answered }
         ensures seen { IfSome self.old.peeked (λ r. (result ≡ Some r) × (self.new.stepper ≡ self.old.stepper)) }
         ensures refused { EndsWith result self.new.stepper }
         ensures over { IsOver self.old → (result ≡ None) × (self.new ≡ self.old) }
@@ -222,6 +238,7 @@ impl<'input, T: BorrowedInput<'input>> Parser<'input, T> {
         requires ends { EndsWith next.now self.old.stepper }
         ensures between { self.new.between ≡ notes_between next.now self.old.between }
         ensures over { self.new.over ≡ notes_over next.now self.old.over }
+        ensures answered { self.new.answered ≡ notes_answered next.now self.old.answered }
         ensures given { KeepsGiven next.now self.old.given self.new.given }
         ensures starved { Starves next.now self.old.starved self.new.starved }
         ensures rest { self.new ≡ record self.old {
@@ -229,6 +246,7 @@ impl<'input, T: BorrowedInput<'input>> Parser<'input, T> {
           starved = self.new.starved;
           between = self.new.between;
           over = self.new.over;
+          answered = self.new.answered;
         } }
     {
         match next {
@@ -266,6 +284,9 @@ impl<'input, T: BorrowedInput<'input>> Parser<'input, T> {
         ensures calls { (c : Calls) → ReachedByCalls self.old.stepper.scanner.options c
             → SeenBy T.unread self.old.peeked self.old.stepper c → ReadsNext T.unread result self.new.stepper c
             ⊎ TellsSource T.origin result self.new.stepper.scanner.cursor }
+        ensures waits { (m : StepState) (f : Refused) → WaitsBehind T.unread self.old.peeked self.old.stepper m f
+            → ReadsHeld T.unread result self.new.stepper m f
+            ⊎ TellsSource T.origin result self.new.stepper.scanner.cursor }
         ensures source { IfUnseen self.old.peeked (TellsError T.origin self.old.stepper result
             self.new.stepper.scanner.cursor) }
         ensures lost { IfUnseen self.old.peeked (NeverRecovers T.origin self.old.stepper result
@@ -274,6 +295,7 @@ impl<'input, T: BorrowedInput<'input>> Parser<'input, T> {
         ensures given { self.new.given ≡ self.old.given }
         ensures starved { self.new.starved ≡ self.old.starved }
         ensures between { self.new.between ≡ self.old.between }
+        ensures answered { self.new.answered ≡ self.old.answered }
         ensures going { self.new.over ≡ self.old.over }
         ensures seen { IfSome self.old.peeked (λ r. (result ≡ Some r) × (self.new.stepper ≡ self.old.stepper)) }
         ensures refused { EndsWith result self.new.stepper }
@@ -319,7 +341,7 @@ impl<'input, T: BorrowedInput<'input>> Parser<'input, T> {
     }
 
     /// Keeps what was read ahead.
-    fn put_ahead(&mut self, next: Option<Result<(Event<'input>, Span), ScanError>>)
+    pub(crate) fn put_ahead(&mut self, next: Option<Result<(Event<'input>, Span), ScanError>>)
         requires { EndsBehind next self.old.given self.old.stepper }
         ensures { self.new ≡ record self.old { peeked = next.entry } }
     {
@@ -371,12 +393,16 @@ impl<'input, T: BorrowedInput<'input>> Parser<'input, T> {
             → GoesWithCalls T.unread self.old.stepper c
             → ReadsNext T.unread result self.new.stepper c
             ⊎ TellsSource T.origin result self.new.stepper.scanner.cursor }
+        ensures waits { (m : StepState) (f : Refused) → HoldsFault T.unread self.old.stepper m f
+            → ReadsHeld T.unread result self.new.stepper m f
+            ⊎ TellsSource T.origin result self.new.stepper.scanner.cursor }
         ensures source { TellsError T.origin self.old.stepper result self.new.stepper.scanner.cursor }
         ensures lost { NeverRecovers T.origin self.old.stepper result self.new.stepper }
         ensures peeked { self.new.peeked ≡ self.old.peeked }
         ensures given { self.new.given ≡ self.old.given }
         ensures starved { self.new.starved ≡ self.old.starved }
         ensures between { self.new.between ≡ self.old.between }
+        ensures answered { self.new.answered ≡ self.old.answered }
         ensures going { self.new.over ≡ self.old.over }
         ensures refused { EndsWith result self.new.stepper }
         ensures over { self.old.stepper.failed ≡ true → (result ≡ None) × (self.new ≡ self.old) }
@@ -416,10 +442,12 @@ impl<'input, T: BorrowedInput<'input>> Parser<'input, T> {
         ensures lost { IfSome result (λ e. self.new.stepper.refusal ≡ None) }
         ensures ended { result ≡ None → self.new.stepper.refusal ≡ self.old.stepper.refusal }
         ensures first { self.new.stepper.first ≡ self.old.stepper.first }
+        ensures ahead { self.new.stepper.ahead ≡ self.old.stepper.ahead }
         ensures peeked { self.new.peeked ≡ self.old.peeked }
         ensures kept { self.new.given ≡ self.old.given }
         ensures starved { self.new.starved ≡ self.old.starved }
         ensures between { self.new.between ≡ self.old.between }
+        ensures answered { self.new.answered ≡ self.old.answered }
         ensures going { self.new.over ≡ self.old.over }
         ensures failed { self.new.stepper.failed ≡ (self.old.stepper.failed || is_some result) }
         ensures options { self.new.stepper.scanner.options ≡ self.old.stepper.scanner.options }
@@ -433,17 +461,20 @@ impl<'input, T: BorrowedInput<'input>> Parser<'input, T> {
     }
 
     /// The next event of what was read, whether the source failed or not.
-    fn step_event(&mut self) -> Option<Result<(Event<'input>, Span), ScanError>>
+    pub(crate) fn step_event(&mut self) -> Option<Result<(Event<'input>, Span), ScanError>>
         ensures known { (m : StepState) → StandsIn T.unread self.old.stepper m
             → GivesNext result (StandsIn T.unread self.new.stepper)
             self.old.stepper.renumbered self.old.stepper.scanner.options m }
         ensures calls { (c : Calls) → ReachedByCalls self.old.stepper.scanner.options c
             → GoesWithCalls T.unread self.old.stepper c
             → ReadsNext T.unread result self.new.stepper c }
+        ensures waits { (m : StepState) (f : Refused) → HoldsFault T.unread self.old.stepper m f
+            → ReadsHeld T.unread result self.new.stepper m f }
         ensures peeked { self.new.peeked ≡ self.old.peeked }
         ensures given { self.new.given ≡ self.old.given }
         ensures starved { self.new.starved ≡ self.old.starved }
         ensures between { self.new.between ≡ self.old.between }
+        ensures answered { self.new.answered ≡ self.old.answered }
         ensures going { self.new.over ≡ self.old.over }
         ensures lost { NeverRevives result self.new.stepper }
         ensures refused { EndsWith result self.new.stepper }

@@ -8,7 +8,7 @@ ghost use Rattle.granit_event.specs.Events.{event_kind};
 ghost use Rattle.granit_parser.specs.Parsing.{IsOver, StandsAt, StarvedBy};
 ghost use Rattle.granit_parser.specs.Receiving as spec;
 ghost use Rattle.granit_parser.specs.Receiving.{CallsLeave, FirstCall, GivesFirst, KeepsRefusal, KeepsScan, Loads};
-ghost use Rattle.granit_parser.specs.Receiving.{LoadsRest, Tries, TriesRest, WantsOnly, scanned};
+ghost use Rattle.granit_parser.specs.Receiving.{LoadsRest, Tries, TriesRest, UnlessRefused, WantsOnly, scanned};
 ghost use Rattle.granit_parser.specs.Recovering.{IsOpen, ParserIn};
 ghost use Rattle.granit_parser.specs.Sources.{IfUnseen, MovesUnless, TellsError, TellsMet};
 ghost use Rattle.granit_receivers.specs.Kept.{CountsErrors, GivesAgain, KeptAgain, ScansAgain};
@@ -54,6 +54,8 @@ impl<'input, T: BorrowedInput<'input>> Parser<'input, T> {
         ensures source { IfUnseen self.old.peeked (TellsError T.origin self.old.stepper (Some result)
             self.new.stepper.scanner.cursor) }
         ensures peeked { self.new.peeked ≡ None }
+        ensures answered { (c : Calls) → ReachedByCalls self.old.stepper.scanner.options c → IsOpen c
+            → ParserIn T.unread self.old c → UnlessRefused (Some result) (self.new.answered ≡ false) }
         ensures given { self.old.given ≡ None → KeepsRefusal result self.new.given }
         ensures memory { self.old.given ≡ None → (self.old.starved ≡ false) × WantsOnly self.new.starved
             (Took (record { events = R.taken recv.old; places = R.spans recv.old })
@@ -96,6 +98,8 @@ impl<'input, T: BorrowedInput<'input>> Parser<'input, T> {
         ensures source { self.old.peeked ≡ None → TellsMet T.origin self.old.stepper.scanner.cursor (Some result)
             self.new.stepper.scanner.cursor }
         ensures peeked { self.new.peeked ≡ None }
+        ensures answered { UnlessRefused (Some result)
+            (self.old.answered ≡ false → self.new.answered ≡ false) }
         ensures given { self.old.given ≡ None → KeepsRefusal result self.new.given }
         ensures memory { WantsOnly self.new.starved
             (Took (record { events = R.taken recv.old; places = R.spans recv.old })
@@ -148,6 +152,8 @@ impl<'input, T: BorrowedInput<'input>> Parser<'input, T> {
         ensures source { IfUnseen self.old.peeked (TellsError T.origin self.old.stepper (scanned result)
             self.new.stepper.scanner.cursor) }
         ensures peeked { self.new.peeked ≡ None }
+        ensures answered { (c : Calls) → ReachedByCalls self.old.stepper.scanner.options c → IsOpen c
+            → ParserIn T.unread self.old c → UnlessRefused (scanned result) (self.new.answered ≡ false) }
         ensures given { self.old.given ≡ None → KeepsScan result self.new.given }
         ensures errors { CountsErrors (R.errors recv.old) (R.errors recv.new) result }
         ensures memory { self.old.given ≡ None → (self.old.starved ≡ false) × WantsOnly self.new.starved
@@ -193,6 +199,8 @@ impl<'input, T: BorrowedInput<'input>> Parser<'input, T> {
         ensures source { self.old.peeked ≡ None → TellsMet T.origin self.old.stepper.scanner.cursor (scanned result)
             self.new.stepper.scanner.cursor }
         ensures peeked { self.new.peeked ≡ None }
+        ensures answered { UnlessRefused (scanned result)
+            (self.old.answered ≡ false → self.new.answered ≡ false) }
         ensures given { self.old.given ≡ None → KeepsScan result self.new.given }
         ensures errors { CountsErrors (R.errors recv.old) (R.errors recv.new) result }
         ensures memory { WantsOnly self.new.starved
@@ -244,6 +252,8 @@ impl<'input, T: BorrowedInput<'input>> Parser<'input, T> {
         ensures source { IfUnseen self.old.peeked (TellsError T.origin self.old.stepper (Some result)
             self.new.stepper.scanner.cursor) }
         ensures peeked { self.new.peeked ≡ None }
+        ensures answered { (c : Calls) → ReachedByCalls self.old.stepper.scanner.options c → IsOpen c
+            → ParserIn T.unread self.old c → UnlessRefused (Some result) (self.new.answered ≡ false) }
         ensures given { self.old.given ≡ None → KeepsRefusal result self.new.given }
         ensures memory { IfErr result (λ e. e.kind ≡ OutOfMemory → self.new.starved ≡ true) }
         ensures options { self.new.stepper.scanner.options ≡ self.old.stepper.scanner.options }

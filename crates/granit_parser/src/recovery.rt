@@ -4,15 +4,23 @@ ghost use Rattle.std.specs.Prelude.{is_some, OnOk};
 ghost use Rattle.granit_cursor.specs.Reading.{GoesOnward, Moves};
 ghost use Rattle.granit_error.specs.FaultKind.{NoMemory as OutOfMemory};
 ghost use Rattle.granit_event.specs.Events.{event_kind};
+ghost use Rattle.granit_lexemes.specs.Outcome.{Fault};
+ghost use Rattle.granit_parser.specs.Holding.{FaultLacksNumber, ParserHolds, WaitsBehind, held_behind, held_room};
+ghost use Rattle.granit_parser.specs.Holding.{stays_seen};
 ghost use Rattle.granit_parser.specs.Recovering as spec;
-ghost use Rattle.granit_parser.specs.Recovering.{AsksBy, Ends, Follows, GaveUp, GivesSeen, ParserIn, Proceeds, SeenBy};
-ghost use Rattle.granit_parser.specs.Recovering.{SkipsToAsk, between_behind, over_behind, seen_in, seen_kind};
+ghost use Rattle.granit_parser.specs.Parsing.{EndsBehind};
+ghost use Rattle.granit_parser.specs.Recovering.{AsksBy, Ends, EndsHeld, Follows, GaveUp, GivesSeen, IsClosed, IsNoted};
+ghost use Rattle.granit_parser.specs.Recovering.{IsOpen, LookShowsHeld, LooksNoMore, ParserIn, Proceeds, ProceedsHeld};
+ghost use Rattle.granit_parser.specs.Recovering.{ProceedsHeldNext, ProceedsNext, SeenBy, ShowsFirst, SkipsToAsk};
+ghost use Rattle.granit_parser.specs.Recovering.{SkipsWaiting, between_behind, over_behind, seen_in, seen_kind};
 ghost use Rattle.granit_parser.specs.Sources.{IsSourceError, TellsSource};
 ghost use Rattle.granit_parser.specs.declared.recovery.Seen.TheVariants as seens;
 ghost use Rattle.granit_reader.specs.Meets.{UnlessMemory};
 ghost use Rattle.granit_receivers.specs.Kept.{GivesAgain, IsKept};
 ghost use Rattle.granit_recovery.specs.Streams.{ReachedByCalls};
 ghost use Rattle.granit_restart.specs.Calls.{Calls};
+ghost use Rattle.granit_stepper.specs.Holding.{held_follows};
+ghost use Rattle.granit_steps.specs.Steps.{StepState};
 
 use crate::parser::Parser;
 use granit_base::NoMemory;
@@ -21,8 +29,8 @@ use granit_event::Event;
 use granit_input::BorrowedInput;
 use granit_receivers::kept;
 use granit_recovery::{
-    a_comment_takes_room_where_recovery_asks, a_look_tells_where_recovery_asks, calls_go_by_turns,
-    nothing_changes_behind_the_end,
+    a_comment_takes_room_where_recovery_asks, a_look_tells_where_recovery_asks,
+    an_open_call_gives_something, calls_go_by_turns, nothing_changes_behind_the_end,
 };
 
 /// What was looked at, as far as recovery asks.
@@ -41,10 +49,15 @@ impl<'input, T: BorrowedInput<'input>> Parser<'input, T> {
     /// Drops a document, or what is left of the open one, and tells whether another is there: behind a refusal that was
     /// given or looked at the open document, directly behind the end of a document none, else the open or the next one.
     ///
-    /// The contract: where the machine's calls led, it is their recovery (`known`); what is given behind it, also where
-    /// handles of `%TAG` stay, is said by `next_event` (`resumed`). Want of memory, an error of the source and a
-    /// refusal of recovery itself are given again by each further call (`again`, and `seen` where it was looked at and
-    /// not taken).
+    /// Where it told of a document and nothing was given since, that document is the next one, whatever is wrong with
+    /// its beginning: the next event is looked at first, and a refusal counts as given.
+    ///
+    /// The contract: where the machine's calls led, it is their recovery (`known`, and `next` from where that look
+    /// leads); what is given behind it, also where handles of `%TAG` stay, is said by `next_event` (`resumed`). Where a
+    /// refusal waits and the option or the number was set since, what waits before it is dropped up to an end, if one
+    /// is there, and it waits on, or else it counts as given (`held`, and `held_next` from where that look leads). Want
+    /// of memory, an error of the source and a refusal of recovery itself are given again by each further call
+    /// (`again`, and `seen` where it was looked at and not taken).
     ///
     /// # Errors
     ///
@@ -52,8 +65,19 @@ impl<'input, T: BorrowedInput<'input>> Parser<'input, T> {
     /// and `NoMemory`. Each further call answers that again, and nothing more is given.
     pub fn proceed_next_document(&mut self) -> Result<bool, ScanError>
         ensures known { (c : Calls) → ReachedByCalls self.old.stepper.scanner.options c → ParserIn T.unread self.old c
-            → UnlessMemory result (Proceeds T.unread result self.old self.new c
+            → LooksNoMore self.old c → UnlessMemory result (Proceeds T.unread result self.old self.new c
             ⊎ TellsSource T.origin (Some result) self.new.stepper.scanner.cursor) }
+        ensures next { (c : Calls) → ReachedByCalls self.old.stepper.scanner.options c → ParserIn T.unread self.old c
+            → self.old.answered ≡ true → IsOpen c → UnlessMemory result
+            (ProceedsNext T.unread result self.old self.new c
+            ⊎ TellsSource T.origin (Some result) self.new.stepper.scanner.cursor) }
+        ensures held { (c : Calls) (f : Fault) → ParserHolds T.unread self.old c f → self.old.answered ≡ false
+            → c.over ≡ false → UnlessMemory result (ProceedsHeld T.unread result self.old self.new c f
+            ⊎ TellsSource T.origin (Some result) self.new.stepper.scanner.cursor) }
+        ensures held_next { (c : Calls) (f : Fault) → ParserHolds T.unread self.old c f → self.old.answered ≡ true
+            → c.over ≡ false → UnlessMemory result (ProceedsHeldNext T.unread result self.old self.new c f
+            ⊎ TellsSource T.origin (Some result) self.new.stepper.scanner.cursor) }
+        ensures answered { IfOk result (λ follows. IsNoted follows self.new) }
         ensures again { self.old.over ≡ false → self.old.stepper.failed ≡ true → self.old.stepper.refusal ≡ None
             → IfSome self.old.given (λ e. GivesAgain e result) }
         ensures seen { self.old.over ≡ false → self.old.stepper.failed ≡ true → self.old.stepper.refusal ≡ None
@@ -64,6 +88,7 @@ impl<'input, T: BorrowedInput<'input>> Parser<'input, T> {
         ensures renumbered { self.new.stepper.renumbered ≡ self.old.stepper.renumbered }
         ensures onward { GoesOnward T.unread self.old.stepper.scanner.cursor self.new.stepper.scanner.cursor }
     {
+        self.look_first();
         match self.proceed() {
             Ok(follows) => Ok(follows),
             Err(error) => {
@@ -71,6 +96,39 @@ impl<'input, T: BorrowedInput<'input>> Parser<'input, T> {
                 Err(error)
             }
         }
+    }
+
+    /// Looks at the next event where recovery told of a document and nothing was given since.
+    fn look_first(&mut self)
+        ensures calm { self.old.answered ≡ false → self.new ≡ self.old }
+        ensures closed { (c : Calls) → IsClosed c → ParserIn T.unread self.old c → self.new ≡ self.old }
+        ensures next { (c : Calls) → ReachedByCalls self.old.stepper.scanner.options c → ParserIn T.unread self.old c
+            → self.old.answered ≡ true → IsOpen c → ShowsFirst T.unread self.new.peeked self.new c }
+        ensures holds { (c : Calls) (f : Fault) → ParserHolds T.unread self.old c f → self.old.answered ≡ true
+            → c.over ≡ false → LookShowsHeld T.unread self.new.peeked self.new c f }
+        ensures failed { self.old.stepper.failed ≡ true → self.new ≡ self.old }
+        ensures over { self.old.over ≡ true → self.new ≡ self.old }
+        ensures going { self.new.over ≡ self.old.over }
+        ensures options { self.new.stepper.scanner.options ≡ self.old.stepper.scanner.options }
+        ensures renumbered { self.new.stepper.renumbered ≡ self.old.stepper.renumbered }
+        ensures onward { GoesOnward T.unread self.old.stepper.scanner.cursor self.new.stepper.scanner.cursor }
+    {
+        an_open_call_gives_something();
+        if self.looks_first() {
+            let next = self.step_event();
+            self.put_ahead(next);
+        }
+    }
+
+    /// Whether recovery told of a document, nothing was given since, and nothing was looked at.
+    fn looks_first(&self) -> bool
+        ensures answered { result ≡ true → (self.now.answered ≡ true) × (self.now.over ≡ false) }
+        ensures seen { result ≡ true → self.now.peeked ≡ None }
+        ensures behind { EndsBehind self.now.peeked self.now.given self.now.stepper }
+        ensures stays { result ≡ false → self.now.answered ≡ true → self.now.over ≡ false
+            → is_some self.now.peeked ≡ true }
+    {
+        self.answered && !self.over && self.looked_at().is_none()
     }
 
     /// Nothing more is given, and each further call of recovery answers this again.
@@ -89,6 +147,10 @@ impl<'input, T: BorrowedInput<'input>> Parser<'input, T> {
         ensures known { (c : Calls) → ReachedByCalls self.old.stepper.scanner.options c → ParserIn T.unread self.old c
             → UnlessMemory result (Ends T.unread result self.old self.new c
             ⊎ TellsSource T.origin (Some result) self.new.stepper.scanner.cursor) }
+        ensures held { (c : Calls) (f : Fault) → ParserHolds T.unread self.old c f
+            → c.over ≡ false → UnlessMemory result (EndsHeld T.unread result self.old self.new c f
+            ⊎ TellsSource T.origin (Some result) self.new.stepper.scanner.cursor) }
+        ensures answered { IfOk result (λ follows. IsNoted follows self.new) }
         ensures again { self.old.over ≡ false → self.old.stepper.failed ≡ true → self.old.stepper.refusal ≡ None
             → IfSome self.old.given (λ e. GivesAgain e result) }
         ensures seen { self.old.over ≡ false → self.old.stepper.failed ≡ true → self.old.stepper.refusal ≡ None
@@ -100,6 +162,7 @@ impl<'input, T: BorrowedInput<'input>> Parser<'input, T> {
         ensures onward { GoesOnward T.unread self.old.stepper.scanner.cursor self.new.stepper.scanner.cursor }
     {
         nothing_changes_behind_the_end();
+        a_look_tells_where_recovery_asks();
         if self.over {
             return Ok(false);
         }
@@ -125,7 +188,10 @@ impl<'input, T: BorrowedInput<'input>> Parser<'input, T> {
     fn answer(&mut self, follows: bool) -> Result<bool, ScanError>
         ensures known { (d : Calls) → SeenBy T.unread self.old.peeked self.old.stepper d
             → IfOk result (λ r. SeenBy T.unread self.new.peeked self.new.stepper d) }
+        ensures waits { (m : StepState) (f : Fault) → WaitsBehind T.unread self.old.peeked self.old.stepper m f
+            → IfOk result (λ r. WaitsBehind T.unread self.new.peeked self.new.stepper m f) }
         ensures answer { IfOk result (λ r. (r ≡ follows) × (self.new.between ≡ not follows)) }
+        ensures answered { IfOk result (λ r. self.new.answered ≡ follows) }
         ensures source { IfErr result (λ e. IsSourceError (T.origin self.new.stepper.scanner.cursor.input)
             self.new.stepper.scanner.cursor.place e) }
         ensures going { self.new.over ≡ self.old.over }
@@ -142,11 +208,13 @@ impl<'input, T: BorrowedInput<'input>> Parser<'input, T> {
         }
     }
 
-    /// Where no other document is there, that counts as directly behind one.
+    /// Where no other document is there, that counts as directly behind one; where one is, that is the next to be
+    /// dropped.
     fn note_answer(&mut self, follows: bool)
-        ensures { self.new ≡ record self.old { between = not follows } }
+        ensures { self.new ≡ record self.old { between = not follows; answered = follows } }
     {
         self.between = !follows;
+        self.answered = follows;
     }
 
     /// The refusal that was given, or that was looked at.
@@ -169,6 +237,14 @@ impl<'input, T: BorrowedInput<'input>> Parser<'input, T> {
         ensures known { (c : Calls) → ReachedByCalls self.old.stepper.scanner.options c → ParserIn T.unread self.old c
             → c.over ≡ false → c.refusal ≡ None → (seen_in self.old.peeked ≡ seens.StreamEnd → ⊥)
             → OnOk result (SkipsToAsk T.unread self.old.stepper.scanner.cursor (is_some self.old.peeked) self.new c) }
+        ensures held { (c : Calls) (f : Fault) → ParserHolds T.unread self.old c f → c.over ≡ false
+            → (seen_in self.old.peeked ≡ seens.StreamEnd → ⊥) → OnOk result
+            (SkipsWaiting T.unread self.old.stepper.scanner.cursor (is_some self.old.peeked) f
+            (held_behind (spec.stays_by self.old.between self.old.peeked) f c.steps) self.new
+            ⊎ FaultLacksNumber self.old.stepper.renumbered self.old.stepper.scanner.options c f) }
+        ensures looked { self.old.stepper.failed ≡ false
+            → OnOk result (self.new.peeked
+            ≡ stays_seen (spec.stays_by self.old.between self.old.peeked) self.old.peeked) }
         ensures memory { IfErr result (λ e. e.kind ≡ OutOfMemory) }
         ensures going { self.new.over ≡ self.old.over }
         ensures options { self.new.stepper.scanner.options ≡ self.old.stepper.scanner.options }
@@ -205,6 +281,10 @@ impl<'input, T: BorrowedInput<'input>> Parser<'input, T> {
         ensures known { (stops : _) (looked : _) (c : Calls)
             → AsksBy T.unread stops looked self.old.peeked self.old.stepper c
             → UnlessMemory result (Follows T.unread stops looked result self.new c) }
+        ensures waits { (m : StepState) (f : Fault) → WaitsBehind T.unread self.old.peeked self.old.stepper m f
+            → (seen_in self.old.peeked ≡ seens.StreamEnd → ⊥) → UnlessMemory result
+            ((result ≡ held_follows (held_room self.old.stepper.scanner.options true self.old.peeked) m)
+            × WaitsBehind T.unread self.new.peeked self.new.stepper m f) }
         ensures going { self.new.over ≡ self.old.over }
         ensures options { self.new.stepper.scanner.options ≡ self.old.stepper.scanner.options }
         ensures renumbered { self.new.stepper.renumbered ≡ self.old.stepper.renumbered }
@@ -231,8 +311,13 @@ impl<'input, T: BorrowedInput<'input>> Parser<'input, T> {
     pub(crate) fn note_event(&mut self, event: &Event<'input>)
         ensures between { self.new.between ≡ between_behind (event_kind event.now) self.old.between }
         ensures over { self.new.over ≡ over_behind (event_kind event.now) self.old.over }
-        ensures rest { self.new ≡ record self.old { between = self.new.between; over = self.new.over } }
+        ensures rest { self.new ≡ record self.old {
+          between = self.new.between;
+          over = self.new.over;
+          answered = false;
+        } }
     {
+        self.answered = false;
         match event {
             Event::DocumentStart(_, _) => self.between = false,
             Event::DocumentEnd => self.between = true,

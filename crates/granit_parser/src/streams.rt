@@ -34,6 +34,7 @@ impl<'input, T: Source<Item = char>> Parser<'input, BufferedInput<T>> {
             → ParserIn ⟦<BufferedInput<T> as Input>⟧.unread p (calls_from (bare_text_start x))) }
         ensures options { IfOk result (λ p. p.stepper.scanner.options ≡ default_options) }
         ensures unseen { IfOk result (λ p. p.peeked ≡ None) }
+        ensures unasked { IfOk result (λ p. p.answered ≡ false) }
         ensures renumbered { IfOk result (λ p. p.stepper.renumbered ≡ false) }
     {
         Parser::new_from_iter_with_options(alloc, iter, Options::default())
@@ -56,6 +57,7 @@ impl<'input, T: Source<Item = char>> Parser<'input, BufferedInput<T>> {
             → ParserIn ⟦<BufferedInput<T> as Input>⟧.unread p (calls_from (bare_text_start x))) }
         ensures options { IfOk result (λ p. p.stepper.scanner.options ≡ options_of options) }
         ensures unseen { IfOk result (λ p. p.peeked ≡ None) }
+        ensures unasked { IfOk result (λ p. p.answered ≡ false) }
         ensures renumbered { IfOk result (λ p. p.stepper.renumbered ≡ false) }
     {
         let input = BufferedInput::new(alloc, iter)?;

@@ -140,6 +140,7 @@ fn lexeme<'input, T: BorrowedInput<'input>>(
 }
 
 /// The lexeme of a sort.
+#[inline(always)]
 #[tactic(auto, unfolding(granit_machine::specs::Reader::lexeme_by))]
 fn lexeme_by<'input, T: BorrowedInput<'input>>(
     alloc: Global,
@@ -186,6 +187,7 @@ fn lexeme_by<'input, T: BorrowedInput<'input>>(
 }
 
 /// A lexeme that stands in a column; where indentation is strict, lines in flow are indented too.
+#[inline(never)]
 #[tactic(auto, unfolding(granit_machine::specs::Reader::lexeme_in_column))]
 fn lexeme_in_column<'input, T: BorrowedInput<'input>>(
     alloc: Global,
@@ -236,6 +238,7 @@ fn begin_node<T: Input>(at: &Cursor<T>, layouts: &mut Layouts, sort: PlacedSort)
 }
 
 /// The lexeme of a sort, where columns right of it have ended and its node has begun.
+#[inline(always)]
 fn lexeme_of<'input, T: BorrowedInput<'input>>(
     alloc: Global,
     options: &Options,

@@ -3,7 +3,7 @@ use crate::receive::{Case, loaded_twice, over};
 use granit_base::Span;
 use granit_error::ScanError;
 use granit_event::Event;
-use granit_input::StrInput;
+use granit_input::BorrowedInput;
 use granit_parser::Parser;
 
 /// A node's number and where it begins, or a refusal's kind and its place; all 0 where nothing comes. Where recovery
@@ -59,7 +59,7 @@ struct Numbered {
 }
 
 /// What is given, where it is what was seen.
-fn seen_and_taken<'a>(parser: &mut Parser<'a, StrInput<'a>>) -> Row {
+fn seen_and_taken<'a, T: BorrowedInput<'a>>(parser: &mut Parser<'a, T>) -> Row {
     let seen = row(parser.peek());
     let next = taken(parser.next_event());
     if seen == next { next } else { UNLIKE }
@@ -67,7 +67,7 @@ fn seen_and_taken<'a>(parser: &mut Parser<'a, StrInput<'a>>) -> Row {
 
 impl Numbered {
     /// What is given, where it is what was seen.
-    fn next<'a>(&self, parser: &mut Parser<'a, StrInput<'a>>) -> Row {
+    fn next<'a, T: BorrowedInput<'a>>(&self, parser: &mut Parser<'a, T>) -> Row {
         if self.looks {
             seen_and_taken(parser)
         } else {
@@ -76,10 +76,10 @@ impl Numbered {
     }
 }
 
-impl<'a> Case<'a> for Numbered {
+impl<'a, T: BorrowedInput<'a>> Case<Parser<'a, T>> for Numbered {
     type Told = [Row; 6];
 
-    fn tell(&self, parser: &mut Parser<'a, StrInput<'a>>) -> [Row; 6] {
+    fn tell(&self, parser: &mut Parser<'a, T>) -> [Row; 6] {
         parser.set_anchor_offset(self.offset);
         [
             self.next(parser),
@@ -127,10 +127,10 @@ fn no_number_is_left(rt: HostRuntime) {
 #[derive(Drop)]
 struct Loaded(usize);
 
-impl<'a> Case<'a> for Loaded {
+impl<'a, T: BorrowedInput<'a>> Case<Parser<'a, T>> for Loaded {
     type Told = [(u8, usize); 2];
 
-    fn tell(&self, parser: &mut Parser<'a, StrInput<'a>>) -> [(u8, usize); 2] {
+    fn tell(&self, parser: &mut Parser<'a, T>) -> [(u8, usize); 2] {
         parser.set_anchor_offset(self.0);
         loaded_twice(parser)
     }
@@ -152,7 +152,7 @@ fn no_number_is_left_to_load(rt: HostRuntime) {
 const UNCLOSED: &str = "&x a: [\n---\n&y b\n";
 
 /// The first refusal.
-fn first_refusal<'a>(parser: &mut Parser<'a, StrInput<'a>>) -> Row {
+fn first_refusal<'a, T: BorrowedInput<'a>>(parser: &mut Parser<'a, T>) -> Row {
     'events: for _ in 0..16 {
         let row = taken(parser.next_event());
         if row.1 != 0 {
@@ -166,10 +166,10 @@ fn first_refusal<'a>(parser: &mut Parser<'a, StrInput<'a>>) -> Row {
 #[derive(Drop)]
 struct Recovered(usize);
 
-impl<'a> Case<'a> for Recovered {
+impl<'a, T: BorrowedInput<'a>> Case<Parser<'a, T>> for Recovered {
     type Told = [Row; 6];
 
-    fn tell(&self, parser: &mut Parser<'a, StrInput<'a>>) -> [Row; 6] {
+    fn tell(&self, parser: &mut Parser<'a, T>) -> [Row; 6] {
         let refusal = first_refusal(parser);
         parser.set_anchor_offset(self.0);
         [
@@ -194,6 +194,45 @@ fn recovery_goes_on_with_the_number(rt: HostRuntime) {
             (0, 0, 8),
             (5, 0, 15),
             (0, 0, 16),
+        ]
+    );
+}
+
+/// A document whose first lexeme is refused, which recovery meets ahead, and one with an anchor.
+const REFUSED_AHEAD: &str = "[x]\ny\n...\n&z q\n";
+
+/// A number that is set while a refusal waits that recovery met.
+#[derive(Drop)]
+struct Waiting(usize);
+
+impl<'a, T: BorrowedInput<'a>> Case<Parser<'a, T>> for Waiting {
+    type Told = [Row; 6];
+
+    fn tell(&self, parser: &mut Parser<'a, T>) -> [Row; 6] {
+        let met = taken(parser.proceed_next_document());
+        parser.set_anchor_offset(self.0);
+        [
+            met,
+            taken(parser.next_event()),
+            taken(parser.next_event()),
+            taken(parser.proceed_next_document()),
+            taken(parser.next_event()),
+            taken(parser.next_event()),
+        ]
+    }
+}
+
+#[test]
+fn a_refusal_waits_while_the_number_is_set(rt: HostRuntime) {
+    assert_eq!(rt;
+        over(rt.alloc(), REFUSED_AHEAD, &Waiting(5)),
+        [
+            (1, 0, 0),
+            (0, 11, 4),
+            (0, 0, 0),
+            (1, 0, 0),
+            (0, 0, 10),
+            (5, 0, 13),
         ]
     );
 }

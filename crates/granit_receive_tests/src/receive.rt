@@ -8,6 +8,7 @@ use granit_parser::{
     TrySpannedEventReceiver,
 };
 use std::alloc::Global;
+use std::fmt::Display;
 
 /// How many events came, how many of them begin or end the stream, and where the last one ends.
 #[derive(Drop)]
@@ -27,28 +28,38 @@ impl Counting {
     }
 }
 
+/// The letter of an event: `S` and `s` are where the stream starts and ends, and `d` where a document ends.
+fn event_letter(event: &Event<'_>) -> char {
+    match event {
+        Event::StreamStart => 'S',
+        Event::StreamEnd => 's',
+        Event::DocumentEnd => 'd',
+        _ => '.',
+    }
+}
+
+// A receiver lets an event go before it does anything else, which is cheap to prove.
 impl<'input> SpannedEventReceiver<'input> for Counting {
     fn on_event(&mut self, ev: Event<'input>, span: Span) {
+        let letter = event_letter(&ev);
+        drop(ev);
         self.events = self.events.saturating_add(1);
-        if matches!(ev, Event::StreamStart | Event::StreamEnd) {
+        if matches!(letter, 'S' | 's') {
             self.edges = self.edges.saturating_add(1);
         }
         self.end = span.end.index();
     }
 }
 
-/// The letter of the last event: `S` and `s` are where the stream starts and ends, `d` where a document ends.
+/// The letter of the last event.
 #[derive(Drop)]
 struct LastLetter(char);
 
 impl<'input> EventReceiver<'input> for LastLetter {
     fn on_event(&mut self, ev: Event<'input>) {
-        self.0 = match ev {
-            Event::StreamStart => 'S',
-            Event::StreamEnd => 's',
-            Event::DocumentEnd => 'd',
-            _ => '.',
-        };
+        let letter = event_letter(&ev);
+        drop(ev);
+        self.0 = letter;
     }
 }
 
@@ -58,17 +69,22 @@ struct Strict {
     scalars: usize,
 }
 
+/// Whether an event is a scalar, and whether its text is `bad`.
+fn is_scalar_and_bad(event: &Event<'_>) -> (bool, bool) {
+    match event.scalar() {
+        None => (false, false),
+        Some((text, _)) => (true, text == "bad"),
+    }
+}
+
 impl<'input> TryEventReceiver<'input> for Strict {
     type Error = char;
 
     fn on_event(&mut self, ev: Event<'input>) -> Result<(), char> {
-        match ev.scalar() {
-            None => Ok(()),
-            Some((text, _)) => {
-                self.scalars = self.scalars.saturating_add(1);
-                if text == "bad" { Err('!') } else { Ok(()) }
-            }
-        }
+        let (is_scalar, is_bad) = is_scalar_and_bad(&ev);
+        drop(ev);
+        self.scalars = self.scalars.saturating_add(usize::from(is_scalar));
+        if is_bad { Err('!') } else { Ok(()) }
     }
 }
 
@@ -81,7 +97,8 @@ struct UpTo {
 impl<'input> TrySpannedEventReceiver<'input> for UpTo {
     type Error = char;
 
-    fn on_event(&mut self, _ev: Event<'input>, _span: Span) -> Result<(), char> {
+    fn on_event(&mut self, ev: Event<'input>, _span: Span) -> Result<(), char> {
+        drop(ev);
         if self.left == 0 {
             return Err('!');
         }
@@ -90,21 +107,35 @@ impl<'input> TrySpannedEventReceiver<'input> for UpTo {
     }
 }
 
-/// The number of a refusal's kind, 0 where there is none.
-fn refused(loaded: Result<(), ScanError>) -> u8 {
-    match &loaded {
-        Ok(()) => 0,
-        Err(error) => error.kind().number(),
+/// What is answered.
+trait Answer {
+    /// The letter of it: `.` is Ok, `p` the parser's refusal, `r` the receiver's; and the number of a refusal's kind, 0
+    /// where there is none.
+    fn told(&self) -> (char, u8);
+}
+
+impl Answer for Result<(), ScanError> {
+    fn told(&self) -> (char, u8) {
+        match self {
+            Ok(()) => ('.', 0),
+            Err(error) => ('p', error.kind().number()),
+        }
     }
 }
 
-/// The letter of what `try_load` answers: `.` is Ok, `p` the parser's refusal, `r` the receiver's.
-fn letter(loaded: Result<(), TryLoadError<char>>) -> char {
-    match &loaded {
-        Ok(()) => '.',
-        Err(TryLoadError::Scan(_)) => 'p',
-        Err(TryLoadError::Receiver(_)) => 'r',
+impl Answer for Result<(), TryLoadError<char>> {
+    fn told(&self) -> (char, u8) {
+        match self {
+            Ok(()) => ('.', 0),
+            Err(TryLoadError::Scan(error)) => ('p', error.kind().number()),
+            Err(TryLoadError::Receiver(_)) => ('r', 0),
+        }
     }
+}
+
+/// The same of what is let go here, which is cheap to prove in a generic function.
+fn told<A: Answer + Drop>(answer: A) -> (char, u8) {
+    answer.told()
 }
 
 /// The number of what `load` answers, and how many events and ends of the stream came by then.
@@ -113,39 +144,49 @@ fn loaded<'a, T: BorrowedInput<'a>>(
     counting: &mut Counting,
     multi: bool,
 ) -> (u8, usize, usize) {
-    let number = refused(parser.load(counting, multi));
+    let (_, number) = told(parser.load(counting, multi));
     (number, counting.events, counting.edges)
 }
 
 /// The letter of what `try_load` answers.
-fn tried<'a, R: TrySpannedEventReceiver<'a, Error = char>>(
-    parser: &mut Parser<'a, StrInput<'a>>,
+fn tried<'a, T: BorrowedInput<'a>, R: TrySpannedEventReceiver<'a, Error = char>>(
+    parser: &mut Parser<'a, T>,
     recv: &mut R,
     multi: bool,
 ) -> char {
-    letter(parser.try_load(recv, multi))
+    let (letter, _) = told(parser.try_load(recv, multi));
+    letter
 }
 
-/// What is told of the calls of a parser. A parser is let go in one place alone, which is dear to prove.
-pub trait Case<'a> {
+/// What is told of the calls of a parser.
+pub trait Case<P> {
     type Told;
 
-    fn tell(&self, parser: &mut Parser<'a, StrInput<'a>>) -> Self::Told;
+    fn tell(&self, parser: &mut P) -> Self::Told;
+}
+
+/// What is told of a parser that is let go here.
+fn over_parser<P: Drop, C: Case<P>>(parser: P, case: &C) -> C::Told {
+    let mut parser = parser;
+    case.tell(&mut parser)
 }
 
 /// A case over a text.
-pub fn over<'a, C: Case<'a>>(alloc: Global, text: &'a str, case: &C) -> C::Told {
-    let mut parser = Parser::new_from_str(alloc, text);
-    case.tell(&mut parser)
+pub fn over<'a, C: Case<Parser<'a, StrInput<'a>>>>(
+    alloc: Global,
+    text: &'a str,
+    case: &C,
+) -> C::Told {
+    over_parser(Parser::new_from_str(alloc, text), case)
 }
 
 /// What is answered twice, and how many scalars were taken by then.
 struct ByTheReceiver;
 
-impl<'a> Case<'a> for ByTheReceiver {
+impl<'a, T: BorrowedInput<'a>> Case<Parser<'a, T>> for ByTheReceiver {
     type Told = [(char, usize); 2];
 
-    fn tell(&self, parser: &mut Parser<'a, StrInput<'a>>) -> [(char, usize); 2] {
+    fn tell(&self, parser: &mut Parser<'a, T>) -> [(char, usize); 2] {
         let mut strict = Strict { scalars: 0 };
         let first = (tried(parser, &mut strict, true), strict.scalars);
         let second = (tried(parser, &mut strict, true), strict.scalars);
@@ -162,10 +203,10 @@ fn refused_by_the_receiver(rt: HostRuntime) {
 /// How many events and ends of the stream come, and then once more.
 struct Twice;
 
-impl<'a> Case<'a> for Twice {
+impl<'a, T: BorrowedInput<'a>> Case<Parser<'a, T>> for Twice {
     type Told = [(u8, usize, usize); 2];
 
-    fn tell(&self, parser: &mut Parser<'a, StrInput<'a>>) -> [(u8, usize, usize); 2] {
+    fn tell(&self, parser: &mut Parser<'a, T>) -> [(u8, usize, usize); 2] {
         let mut counting = Counting::new();
         let first = loaded(parser, &mut counting, true);
         [first, loaded(parser, &mut counting, true)]
@@ -175,10 +216,10 @@ impl<'a> Case<'a> for Twice {
 /// What a receiver of three events answers to three calls.
 struct UpToThree;
 
-impl<'a> Case<'a> for UpToThree {
+impl<'a, T: BorrowedInput<'a>> Case<Parser<'a, T>> for UpToThree {
     type Told = [char; 3];
 
-    fn tell(&self, parser: &mut Parser<'a, StrInput<'a>>) -> [char; 3] {
+    fn tell(&self, parser: &mut Parser<'a, T>) -> [char; 3] {
         let mut up_to = UpTo { left: 3 };
         [
             tried(parser, &mut up_to, true),
@@ -198,19 +239,19 @@ fn behind_the_end(rt: HostRuntime) {
 }
 
 /// What `load` answers of one document, and the letter of its last event.
-fn document<'a>(parser: &mut Parser<'a, StrInput<'a>>) -> (u8, char) {
+fn document<'a, T: BorrowedInput<'a>>(parser: &mut Parser<'a, T>) -> (u8, char) {
     let mut last = LastLetter('.');
-    let number = refused(parser.load(&mut last, false));
+    let (_, number) = told(parser.load(&mut last, false));
     (number, last.0)
 }
 
 /// The letter of the last event of one document, and what is sent of the rest.
 struct OneAndTheRest;
 
-impl<'a> Case<'a> for OneAndTheRest {
+impl<'a, T: BorrowedInput<'a>> Case<Parser<'a, T>> for OneAndTheRest {
     type Told = (char, usize, usize, usize);
 
-    fn tell(&self, parser: &mut Parser<'a, StrInput<'a>>) -> (char, usize, usize, usize) {
+    fn tell(&self, parser: &mut Parser<'a, T>) -> (char, usize, usize, usize) {
         let (first, letter) = document(parser);
         let mut counting = Counting::new();
         let (rest, events, edges) = loaded(parser, &mut counting, true);
@@ -232,10 +273,10 @@ fn one_document_or_all(rt: HostRuntime) {
 /// Twice the kind of a refusal, how many events were sent by then, and what `try_load` then answers and sends.
 struct Again;
 
-impl<'a> Case<'a> for Again {
+impl<'a, T: BorrowedInput<'a>> Case<Parser<'a, T>> for Again {
     type Told = ([(u8, usize); 2], char, usize);
 
-    fn tell(&self, parser: &mut Parser<'a, StrInput<'a>>) -> ([(u8, usize); 2], char, usize) {
+    fn tell(&self, parser: &mut Parser<'a, T>) -> ([(u8, usize); 2], char, usize) {
         let refused = loaded_twice(parser);
         let mut up_to = UpTo { left: 9 };
         let letter = tried(parser, &mut up_to, true);
@@ -252,7 +293,7 @@ fn refused_again(rt: HostRuntime) {
 /// Characters, or the error in the place of one.
 type Items = Vec<Result<char, ErrorKind>>;
 
-/// One more item, where there is room. What is let go in a generic function is cheap to prove.
+/// One more item, where there is room.
 fn push<T: Drop>(items: &mut Vec<T>, item: T) {
     let _ = items.push(item).ok();
 }
@@ -276,10 +317,21 @@ pub fn loaded_twice<'a, T: BorrowedInput<'a>>(parser: &mut Parser<'a, T>) -> [(u
     [(first, sent), (second, still)]
 }
 
+/// The same alone.
+struct LoadedTwice;
+
+impl<'a, T: BorrowedInput<'a>> Case<Parser<'a, T>> for LoadedTwice {
+    type Told = [(u8, usize); 2];
+
+    fn tell(&self, parser: &mut Parser<'a, T>) -> [(u8, usize); 2] {
+        loaded_twice(parser)
+    }
+}
+
 /// The same where the second item is an error; nothing for want of memory.
 fn of_the_source(alloc: Global) -> [(u8, usize); 2] {
     match Parser::new_from_fallible_iter(alloc, items(alloc).into_iter()) {
-        Ok(mut parser) => loaded_twice(&mut parser),
+        Ok(parser) => over_parser(parser, &LoadedTwice),
         Err(_) => [(0, 0); 2],
     }
 }
@@ -289,9 +341,9 @@ fn refused_by_the_source(rt: HostRuntime) {
     assert_eq!(rt; of_the_source(rt.alloc()), [(80, 1), (80, 1)]);
 }
 
-/// Whether a refusal prints these words; no for want of memory.
-fn prints(alloc: Global, refused: &TryLoadError<char>, words: &str) -> bool {
-    match &refused.to_string(alloc) {
+/// Whether a refusal that is let go here prints these words; no for want of memory.
+fn prints<E: Display + Drop>(alloc: Global, refused: E, words: &str) -> bool {
+    match refused.to_string(alloc) {
         Ok(printed) => printed.as_str() == words,
         Err(_) => false,
     }
@@ -299,7 +351,8 @@ fn prints(alloc: Global, refused: &TryLoadError<char>, words: &str) -> bool {
 
 /// Whether a receiver's refusal does.
 fn receivers_words(alloc: Global, words: &str) -> bool {
-    prints(alloc, &TryLoadError::Receiver('!'), words)
+    let refused: TryLoadError<char> = TryLoadError::Receiver('!');
+    prints(alloc, refused, words)
 }
 
 /// The parser's refusal with a message.
@@ -310,7 +363,7 @@ fn parsers_refusal(message: OwnedText) -> TryLoadError<char> {
 /// Whether the parser's does.
 fn parsers_words(alloc: Global, words: &str) -> bool {
     match OwnedText::from_str(alloc, "no") {
-        Ok(message) => prints(alloc, &parsers_refusal(message), words),
+        Ok(message) => prints(alloc, parsers_refusal(message), words),
         Err(_) => false,
     }
 }

@@ -23,5 +23,6 @@ mod SeatLaws
 mod SeatSteps
 mod SkipLaws
 pub mod TidyLaws
+mod ToldLaws
 pub mod TurnLaws
 mod TurnedLaws

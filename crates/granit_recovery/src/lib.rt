@@ -24,7 +24,7 @@ pub use documents::{
 };
 pub use dropping::{
     a_fault_drops_its_document, nothing_changes_behind_the_end,
-    nothing_is_dropped_between_documents,
+    nothing_is_dropped_between_documents, what_was_told_of_is_dropped,
 };
 pub use ids::{
     ids_are_below_the_offset, ids_are_counted, ids_begin_at_the_offset, ids_go_on_behind_a_fault,

@@ -50,22 +50,6 @@ module _ (a b c : Origin) (goes : Goes a b) (gave : Gave b c) where
       ap (λ (h : Bool). if h then None else b.error) goes.handed_out
       ∙ ap (λ (e : Option FaultKind). if a.handed_out then None else e) (sym gave.error)
 
--- ---- what is kept
-
-pub kept_still : (kept : Option Refused) (m : Mark) → kept ≡ first_kept_error kept None m
-kept_still None m = refl
-kept_still (Some e) m = refl
-
-pub first_stays : (kept : Option Refused) (given : Option FaultKind) (m : Mark) → false ≡ is_none kept
-    → kept ≡ first_kept_error kept given m
-first_stays None given m e = absurd (cc)
-first_stays (Some f) given m e = refl
-
-pub first_comes : (kept : Option Refused) (kind : FaultKind) (m : Mark) → true ≡ is_none kept
-    → Some (record { kind = kind; mark = m; sources = [] }) ≡ first_kept_error kept (Some kind) m
-first_comes None kind m e = refl
-first_comes (Some f) kind m e = absurd (cc)
-
 -- ---- what is given
 
 abbrev value_of : Option Refused → Refused → Refused

@@ -498,7 +498,6 @@ fn copy_of(alloc: Global, error: &ScanError) -> ScanError
 
 /// The error that was given at a place is kept, where none is.
 #[inline(always)]
-#[tactic(auto, using(crate::proofs::SourceLemmas::kept_still, crate::proofs::SourceLemmas::first_stays, crate::proofs::SourceLemmas::first_comes))]
 fn keep_first(kept: &mut Option<ScanError>, given: Option<ErrorKind>, mark: Marker)
     ensures { kept.new ≡ spec.first_kept_error kept.old (option_map kind_of given) mark }
 {

@@ -1,151 +1,88 @@
-//! Texts that are included in others. What names the types of parsers only hands them on, and two of them at most: a
-//! proof spells them out.
-use crate::includes::{Case, empty_stack, included_alone, included_over, sent_of};
-use crate::pushes::Stack;
+//! Texts that are included in others.
+use crate::includes::{Asked, Case};
+use crate::pushes::Pushes;
+use crate::stack::of_texts;
 use crate::told::Told;
-use granit_buffered::BufferedInput;
-use granit_error::ScanError;
-use granit_input::StrInput;
-use granit_layers::StackedParser;
-use granit_parser::Parser;
-use granit_replay::{NoChars, ReplayParser};
 use std::alloc::Global;
-use std::test::Fail;
 
-/// Events that are given once more.
-type Events<'input> = ReplayParser<'input>;
-
-/// What a `StrStack` gives where texts are included in that parser, whose first anchor gets that number.
-fn of_a_str_stack<'input, A, C>(
-    alloc: Global,
-    comments: bool,
-    number: usize,
-    parser: A,
-    case: Case,
-) -> (Option<ScanError>, Told)
-where
-    A: StackedParser<'input>,
-    C: StackedParser<'input>,
-{
-    included_over::<A, Parser<'input, BufferedInput<NoChars>>, C, Events<'input>>(
-        alloc, comments, number, parser, case,
-    )
+/// Whether what is refused in a case has these words, and what is told behind that, above a text.
+fn of_a_text(alloc: Global, asked: Asked, text: &str, words: &str) -> (bool, Told) {
+    let (_, is_refused, told) = of_texts(alloc, asked, words, text, "", "");
+    (is_refused, told)
 }
 
-/// The same of its text.
-fn of_includes<'input>(
-    alloc: Global,
-    comments: bool,
-    number: usize,
-    text: &'input str,
-    case: Case,
-) -> (Option<ScanError>, Told) {
-    of_a_str_stack::<_, Parser<'input, StrInput<'input>>>(
-        alloc,
-        comments,
-        number,
-        Parser::new_from_str(alloc, text),
+/// The same of a stack without parsers.
+fn of_nothing(alloc: Global, finds: bool, words: &str) -> (bool, Told) {
+    let asked = Asked {
+        finds,
+        comments: true,
+        pushes: Pushes::Nothing,
+        case: Case::Alone,
+    };
+    of_a_text(alloc, asked, "", words)
+}
+
+/// Whether a case is refused with these words above a text whose first anchor gets that number.
+fn refuses(alloc: Global, number: usize, text: &str, case: Case, words: &str) -> bool {
+    let asked = Asked {
+        finds: true,
+        comments: true,
+        pushes: Pushes::Numbered(number),
         case,
-    )
-}
-
-/// A stack of events.
-type Replaying<'input> = Stack<
-    'input,
-    Events<'input>,
-    Events<'input>,
-    Events<'input>,
-    Events<'input>,
->;
-
-/// What it gives where a text is included in no other.
-fn at_the_bottom<'input>(
-    alloc: Global,
-    finds: bool,
-    name: &'input str,
-) -> (Option<ScanError>, Told) {
-    let stack: Replaying<'input> = empty_stack(alloc, finds, true);
-    included_alone(stack, name)
-}
-
-/// What receivers get of a text.
-fn of_receivers<'input>(alloc: Global, text: &'input str) -> (char, usize, char) {
-    sent_of::<_, Events<'input>, Events<'input>, Events<'input>>(
-        alloc,
-        Parser::new_from_str(alloc, text),
-    )
-}
-
-/// The words of a refusal.
-fn words_of(alloc: Global, refused: Option<ScanError>) -> Result<String, Fail> {
-    match refused {
-        None => Ok(String::new(alloc)),
-        Some(error) => Ok(error.to_string(alloc)?),
-    }
-}
-
-/// The words of what is refused where texts are included.
-fn refused_in(alloc: Global, number: usize, text: &str, case: Case) -> Result<String, Fail> {
-    words_of(alloc, of_includes(alloc, true, number, text, case).0)
+    };
+    let (is_refused, _) = of_a_text(alloc, asked, text, words);
+    is_refused
 }
 
 #[test]
-fn a_second_document(rt: HostRuntime) -> Result<(), Fail> {
-    assert_eq!(rt;
-        refused_in(rt.alloc(), 1, "- x\n", Case::Second)?.as_str(),
-        "multiple documents not supported here\nwhile parsing root -> two at char 1 line 1 column 2"
-    );
-    Ok(())
+fn a_second_document(rt: HostRuntime) {
+    let words = "multiple documents not supported here\
+        \nwhile parsing root -> two at char 1 line 1 column 2";
+    assert!(rt; refuses(rt.alloc(), 1, "- x\n", Case::Second, words));
 }
 
 #[test]
-fn nobody_finds_includes(rt: HostRuntime) -> Result<(), Fail> {
-    assert_eq!(rt;
-        words_of(rt.alloc(), at_the_bottom(rt.alloc(), false, "two").0)?.as_str(),
-        "No include resolver set for parser stack. at char 0 line 1 column 1"
-    );
-    Ok(())
+fn nobody_finds_includes(rt: HostRuntime) {
+    let words = "No include resolver set for parser stack. at char 0 line 1 column 1";
+    assert!(rt; of_nothing(rt.alloc(), false, words).0);
 }
 
 #[test]
-fn a_bad_text(rt: HostRuntime) -> Result<(), Fail> {
-    assert_eq!(rt;
-        refused_in(rt.alloc(), 1, "x", Case::Bad)?.as_str(),
-        "unclosed bracket '['\nwhile parsing root -> bad at char 0 line 1 column 1"
-    );
-    Ok(())
+fn texts_that_are_refused(rt: HostRuntime) {
+    let bad = "unclosed bracket '['\nwhile parsing root -> bad at char 0 line 1 column 1";
+    let missing = "no such text\nwhile parsing root -> none at char 3 line 2 column 2";
+    let refused = [
+        refuses(rt.alloc(), 1, "x", Case::Bad, bad),
+        refuses(rt.alloc(), 1, "x", Case::Missing, missing),
+    ];
+    assert_eq!(rt; refused, [true; 2]);
 }
 
 #[test]
-fn a_missing_text(rt: HostRuntime) -> Result<(), Fail> {
-    assert_eq!(rt;
-        refused_in(rt.alloc(), 1, "x", Case::Missing)?.as_str(),
-        "no such text\nwhile parsing root -> none at char 3 line 2 column 2"
-    );
-    Ok(())
+fn no_number_is_left_for_an_include(rt: HostRuntime) {
+    let words = "while parsing anchor, anchor count exceeded supported limit\
+        \nwhile parsing root -> own at char 0 line 1 column 1";
+    assert!(rt; refuses(rt.alloc(), usize::MAX, "x", Case::Anchored, words));
 }
 
-#[test]
-fn no_number_is_left_for_an_include(rt: HostRuntime) -> Result<(), Fail> {
-    assert_eq!(rt;
-        refused_in(rt.alloc(), usize::MAX, "x", Case::Anchored)?.as_str(),
-        "while parsing anchor, anchor count exceeded supported limit\
-        \nwhile parsing root -> own at char 0 line 1 column 1"
-    );
-    Ok(())
-}
-
-/// The events where texts are included.
-fn told_in(alloc: Global, comments: bool, text: &str, case: Case) -> Told {
-    of_includes(alloc, comments, 1, text, case).1
+/// What is told behind a case.
+fn behind(alloc: Global, comments: bool, text: &str, case: Case) -> Told {
+    let asked = Asked {
+        finds: true,
+        comments,
+        pushes: Pushes::Numbered(1),
+        case,
+    };
+    let (_, told) = of_a_text(alloc, asked, text, "");
+    told
 }
 
 #[test]
 fn included_texts(rt: HostRuntime) {
-    let (told, ids) = told_in(rt.alloc(), true, "- &r x\n- z\n", Case::Two);
-    let (quiet, quiet_ids) = told_in(rt.alloc(), false, "- &r x\n- z\n", Case::Two);
-    let (bottom, _) = at_the_bottom(rt.alloc(), true, "two").1;
-    let (refused, _) = told_in(rt.alloc(), true, "x", Case::Bad);
+    let (told, ids) = behind(rt.alloc(), true, "- &r x\n- z\n", Case::Two);
+    let (quiet, quiet_ids) = behind(rt.alloc(), false, "- &r x\n- z\n", Case::Two);
+    let (_, (bottom, _)) = of_nothing(rt.alloc(), true, "");
+    let (refused, _) = behind(rt.alloc(), true, "x", Case::Bad);
     let wanted = [
         ['y', 'x', ']', 'z', ']', 'd', 's', '.', '.', '.'],
         ['y', ']', 'z', ']', 'd', 's', '.', '.', '.', '.'],
@@ -158,5 +95,6 @@ fn included_texts(rt: HostRuntime) {
 
 #[test]
 fn sent_to_receivers(rt: HostRuntime) {
-    assert_eq!(rt; of_receivers(rt.alloc(), "- x\n"), ('!', 3, 's'));
+    let (letters, numbers) = behind(rt.alloc(), true, "- x\n", Case::Sent);
+    assert_eq!(rt; (letters[0], numbers[0], letters[1]), ('!', 3, 's'));
 }

@@ -1,15 +1,15 @@
 //! Texts that are included, whatever the kinds of the parsers are.
-use crate::pushes::{Stack, put_string};
+use crate::pushes::{Pushes, Stack, put};
 use crate::receivers::{Counting, Strict};
 use crate::texts::Texts;
-use crate::told::{Told, given, pass, refusal, tell};
-use granit_error::{Options, ScanError, options};
+use crate::told::{Tells, Told, given, pass, refuses};
+use granit_error::options;
 use granit_layers::{FromReplay, StackedParser};
 use granit_receivers::TryLoadError;
 use granit_stack::IncludeStack;
 use std::alloc::Global;
 
-/// What is included above what was put on a stack.
+/// What is done with a stack.
 #[derive(Clone, Copy)]
 pub(crate) enum Case {
     /// A text is included that goes on behind its document.
@@ -22,10 +22,16 @@ pub(crate) enum Case {
     Anchored,
     /// Two texts are.
     Two,
+    /// A text of two documents is, as the first one.
+    Alone,
+    /// None is.
+    Nothing,
+    /// None is, and the events are sent to receivers.
+    Sent,
 }
 
 /// A stack that finds includes or doesn't, with or without comments.
-pub(crate) fn empty_stack<'input, A, B, C, D>(
+fn empty_stack<'input, A, B, C, D>(
     alloc: Global,
     finds: bool,
     comments: bool,
@@ -36,149 +42,150 @@ where
     C: StackedParser<'input>,
     D: StackedParser<'input>,
 {
-    let options = options!(emit_comments: comments);
-    let mut stack = IncludeStack::with_options(alloc, options);
+    let mut stack = IncludeStack::with_options(alloc, options!(emit_comments: comments));
     if finds {
         stack.set_resolver(Texts);
     }
     stack
 }
 
-/// The same, with a parser over a string whose next anchor gets that number.
-fn stack_over<'input, A, B, C, D>(
+/// Whether what is refused behind the first event of an include, which is the scalar `b`, has these words.
+fn refuses_second<'input, S: FromReplay<'input>>(
     alloc: Global,
-    finds: bool,
-    comments: bool,
-    number: usize,
-    parser: A,
-) -> Stack<'input, A, B, C, D>
-where
-    A: StackedParser<'input>,
-    B: StackedParser<'input>,
-    C: StackedParser<'input>,
-    D: StackedParser<'input>,
-{
-    let mut stack = empty_stack(alloc, finds, comments);
-    let mut parser = parser;
-    parser.set_anchor_offset(number);
-    let _ = put_string(alloc, &mut stack, parser);
-    stack
-}
-
-/// What is refused behind the first event of an include, which is the scalar `b`.
-fn of_second<'input, S: FromReplay<'input>>(
     stack: &mut IncludeStack<'input, S, Texts>,
-) -> Option<ScanError> {
-    let _ = stack.push_include("two").is_ok();
+    words: &str,
+) -> bool {
+    let _ = given(stack.push_include("two"));
     let (first, _) = given(stack.next_event());
-    if first == 'b' {
-        refusal(stack.next_event())
-    } else {
-        None
-    }
+    first == 'b' && refuses(alloc, stack.next_event(), words)
 }
 
 /// Two texts are included.
 fn include_two<'input, S: FromReplay<'input>>(stack: &mut IncludeStack<'input, S, Texts>) {
     pass(stack, 4);
-    let _ = stack.push_include("lent").is_ok();
+    let _ = given(stack.push_include("lent"));
     pass(stack, 2);
-    let _ = stack.push_include("own").is_ok();
+    let _ = given(stack.push_include("own"));
 }
 
-/// What a receiver answered; `.` is nothing, `?` a refusal of the parser.
-fn answer_of(answer: Result<(), TryLoadError<char>>) -> char {
-    match answer {
-        Ok(()) => '.',
-        Err(TryLoadError::Scan(_)) => '?',
-        Err(TryLoadError::Receiver(letter)) => letter,
+/// What a receiver answered.
+trait Received {
+    /// Its letter; `.` is nothing, `?` a refusal of the parser.
+    fn letter(&self) -> char;
+}
+
+impl Received for Result<(), TryLoadError<char>> {
+    fn letter(&self) -> char {
+        match self {
+            Ok(()) => '.',
+            Err(TryLoadError::Scan(_)) => '?',
+            Err(TryLoadError::Receiver(letter)) => *letter,
+        }
     }
 }
 
-/// What a receiver answers that wants no nodes, how many events come up to the end of the document, and the next one.
-fn of_receivers<'input, S: StackedParser<'input>>(
-    stack: &mut IncludeStack<'input, S, Texts>,
-) -> (char, usize, char) {
-    let refused = answer_of(stack.try_load(&mut Strict, true));
+/// The same of what is let go here.
+fn letter_of<T: Received + Drop>(answer: T) -> char {
+    answer.letter()
+}
+
+/// What a receiver answers that wants no nodes, and the letter of what comes behind the end of the document; and how
+/// many events come up to that end.
+fn sent<'input, S: StackedParser<'input>>(stack: &mut IncludeStack<'input, S, Texts>) -> Told {
+    let refused = letter_of(stack.try_load(&mut Strict, true));
     let mut counting = Counting { events: 0 };
-    let _ = stack.load(&mut counting, false).is_ok();
-    (refused, counting.events, given(stack.next()).0)
+    let _ = given(stack.load(&mut counting, false));
+    let (next, _) = given(stack.next());
+    let mut letters = ['.'; 10];
+    letters[0] = refused;
+    letters[1] = next;
+    let mut numbers = [0; 10];
+    numbers[0] = counting.events;
+    (letters, numbers)
 }
 
-/// The same of a stack.
-fn sent<'input, S: StackedParser<'input>>(
-    stack: IncludeStack<'input, S, Texts>,
-) -> (char, usize, char) {
-    let mut stack = stack;
-    of_receivers(&mut stack)
-}
-
-/// What is refused in a case.
-fn refused_in<'input, S: FromReplay<'input>>(
+/// Whether what is refused in a case has these words.
+fn refuses_in<'input, S: FromReplay<'input>>(
+    alloc: Global,
     stack: &mut IncludeStack<'input, S, Texts>,
     case: Case,
-) -> Option<ScanError> {
+    words: &str,
+) -> bool {
     match case {
-        Case::Second => of_second(stack),
-        Case::Bad => stack.push_include("bad").err(),
+        Case::Second => refuses_second(alloc, stack, words),
+        Case::Bad => refuses(alloc, stack.push_include("bad"), words),
         Case::Missing => {
             pass(stack, 1);
-            stack.push_include("none").err()
+            refuses(alloc, stack.push_include("none"), words)
         }
-        Case::Anchored => stack.push_include("own").err(),
+        Case::Anchored => refuses(alloc, stack.push_include("own"), words),
         Case::Two => {
             include_two(stack);
-            None
+            false
         }
+        Case::Alone => refuses(alloc, stack.push_include("two"), words),
+        Case::Nothing | Case::Sent => false,
     }
 }
 
-/// The same, and the events behind that.
-fn included<'input, S: FromReplay<'input>>(
-    stack: IncludeStack<'input, S, Texts>,
-    case: Case,
-) -> (Option<ScanError>, Told) {
-    let mut stack = stack;
-    let refused = refused_in(&mut stack, case);
-    (refused, tell(&mut stack))
+/// What texts are included in.
+trait Includes {
+    /// Whether what is refused in a case has these words, and what is told behind that.
+    fn include(&mut self, alloc: Global, case: Case, words: &str) -> (bool, Told);
 }
 
-/// What is refused of an include in no other, and the events behind that.
-pub(crate) fn included_alone<'input, S: FromReplay<'input>>(
-    stack: IncludeStack<'input, S, Texts>,
-    name: &'input str,
-) -> (Option<ScanError>, Told) {
-    let mut stack = stack;
-    let refused = stack.push_include(name).err();
-    (refused, tell(&mut stack))
+impl<'input, S: FromReplay<'input>> Includes for IncludeStack<'input, S, Texts> {
+    fn include(&mut self, alloc: Global, case: Case, words: &str) -> (bool, Told) {
+        let is_refused = refuses_in(alloc, self, case, words);
+        let told = match case {
+            Case::Sent => sent(self),
+            _ => self.tell(),
+        };
+        (is_refused, told)
+    }
 }
 
-/// What is refused in a case above that parser, and the events behind that.
-pub(crate) fn included_over<'input, A, B, C, D>(
+/// The same of a stack that is let go here, which is cheap to prove in a generic function.
+fn included<P: Includes + Drop>(alloc: Global, stack: P, case: Case, words: &str) -> (bool, Told) {
+    let mut stack = stack;
+    stack.include(alloc, case, words)
+}
+
+/// What is asked of a stack.
+#[derive(Clone, Copy)]
+pub(crate) struct Asked {
+    /// Whether it finds includes.
+    pub(crate) finds: bool,
+    /// Whether it gives comments.
+    pub(crate) comments: bool,
+    /// What is put on it.
+    pub(crate) pushes: Pushes,
+    /// What is done with it then.
+    pub(crate) case: Case,
+}
+
+/// The number that a next anchor gets behind what is put on a stack, whether what is refused then has these words, and
+/// what is told behind that.
+pub(crate) type Seen = (usize, bool, Told);
+
+/// The same of three parsers.
+pub(crate) fn seen_of<'input, A, B, C, D>(
     alloc: Global,
-    comments: bool,
-    number: usize,
-    parser: A,
-    case: Case,
-) -> (Option<ScanError>, Told)
+    asked: Asked,
+    words: &str,
+    string: A,
+    characters: B,
+    input: C,
+) -> Seen
 where
     A: StackedParser<'input>,
     B: StackedParser<'input>,
     C: StackedParser<'input>,
     D: FromReplay<'input>,
 {
-    let stack: Stack<'input, A, B, C, D> = stack_over(alloc, true, comments, number, parser);
-    included(stack, case)
-}
-
-/// What receivers get of that parser.
-pub(crate) fn sent_of<'input, A, B, C, D>(alloc: Global, parser: A) -> (char, usize, char)
-where
-    A: StackedParser<'input>,
-    B: StackedParser<'input>,
-    C: StackedParser<'input>,
-    D: StackedParser<'input>,
-{
-    let stack: Stack<'input, A, B, C, D> = stack_over(alloc, false, true, 1, parser);
-    sent(stack)
+    let mut stack: Stack<'input, A, B, C, D> = empty_stack(alloc, asked.finds, asked.comments);
+    let _ = put(alloc, &mut stack, asked.pushes, string, characters, input);
+    let number = stack.current_anchor_offset();
+    let (is_refused, told) = included(alloc, stack, asked.case, words);
+    (number, is_refused, told)
 }

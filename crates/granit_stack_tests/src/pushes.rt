@@ -1,7 +1,7 @@
 //! Parsers that are put on a stack, of whatever kinds they are.
-use crate::texts::Texts;
-use crate::told::{Told, pass, tell};
-use granit_base::{OwnedText, Span};
+use crate::texts::{Texts, own};
+use crate::told::{Told, pass, told_of};
+use granit_base::{Marker, ScalarStyle, Span, Text};
 use granit_event::Event;
 use granit_layers::{AnyKind, StackedParser};
 use granit_replay::ReplayParser;
@@ -11,8 +11,28 @@ use std::alloc::Global;
 /// A stack of parsers of four kinds.
 pub(crate) type Stack<'input, A, B, C, D> = IncludeStack<'input, AnyKind<A, B, C, D>, Texts>;
 
+/// What is put on a stack.
+#[derive(Clone, Copy)]
+pub(crate) enum Pushes {
+    /// Nothing.
+    Nothing,
+    /// A parser over a string whose next anchor gets that number.
+    Numbered(usize),
+    /// A parser over characters.
+    Characters,
+    /// A parser over an input.
+    Input,
+    /// The same with a scalar that comes first.
+    First,
+    /// The same above a parser over a string whose first event was looked at.
+    FirstAbove,
+    /// A parser over an input on one over characters, of which one event was taken, on one over a string, of which two
+    /// were.
+    Three,
+}
+
 /// Whether a parser over a string was put on a stack.
-pub(crate) fn put_string<'input, A, B, C, D>(
+fn put_string<'input, A, B, C, D>(
     alloc: Global,
     stack: &mut Stack<'input, A, B, C, D>,
     parser: A,
@@ -23,10 +43,8 @@ where
     C: StackedParser<'input>,
     D: StackedParser<'input>,
 {
-    match OwnedText::from_str(alloc, "root") {
-        Ok(name) => stack.push_str_parser(parser, name).is_ok(),
-        Err(_) => false,
-    }
+    let pushed = stack.push_str_parser(parser, own(alloc, "root"));
+    pushed.ok().is_some()
 }
 
 /// Whether a parser over characters was put on a stack.
@@ -41,10 +59,8 @@ where
     C: StackedParser<'input>,
     D: StackedParser<'input>,
 {
-    match OwnedText::from_str(alloc, "characters") {
-        Ok(name) => stack.push_iter_parser(parser, name).is_ok(),
-        Err(_) => false,
-    }
+    let pushed = stack.push_iter_parser(parser, own(alloc, "characters"));
+    pushed.ok().is_some()
 }
 
 /// Whether a parser over an input was put on a stack.
@@ -59,18 +75,22 @@ where
     C: StackedParser<'input>,
     D: StackedParser<'input>,
 {
-    match OwnedText::from_str(alloc, "input") {
-        Ok(name) => stack.push_custom_parser(parser, name).is_ok(),
-        Err(_) => false,
-    }
+    let pushed = stack.push_custom_parser(parser, own(alloc, "input"));
+    pushed.ok().is_some()
 }
 
-/// Whether it was put on a stack with an event that comes first.
+/// A scalar with an anchor.
+fn scalar<'input>() -> (Event<'input>, Span) {
+    let place = Span::empty(Marker::new(0, 1, 0));
+    let event = Event::Scalar(Text::borrowed("f"), ScalarStyle::Plain, 4, None);
+    (event, place)
+}
+
+/// Whether a parser over an input was put on a stack with a scalar that comes first.
 fn put_first<'input, A, B, C, D>(
     alloc: Global,
     stack: &mut Stack<'input, A, B, C, D>,
     parser: C,
-    first: (Event<'input>, Span),
 ) -> bool
 where
     A: StackedParser<'input>,
@@ -78,111 +98,92 @@ where
     C: StackedParser<'input>,
     D: StackedParser<'input>,
 {
-    match OwnedText::from_str(alloc, "input") {
-        Ok(name) => stack
-            .push_custom_parser_with_current(parser, name, first)
-            .is_ok(),
-        Err(_) => false,
-    }
+    let name = own(alloc, "input");
+    let pushed = stack.push_custom_parser_with_current(parser, name, scalar());
+    pushed.ok().is_some()
 }
 
-/// What a stack gives of a parser over a string.
-pub(crate) fn of_string<'input, A, B, C, D>(alloc: Global, parser: A) -> Told
-where
-    A: StackedParser<'input>,
-    B: StackedParser<'input>,
-    C: StackedParser<'input>,
-    D: StackedParser<'input>,
-{
-    let mut stack: Stack<'input, A, B, C, D> = IncludeStack::new(alloc);
-    let _ = put_string(alloc, &mut stack, parser);
-    tell(&mut stack)
-}
-
-/// Of a parser over characters.
-pub(crate) fn of_characters<'input, A, B, C, D>(alloc: Global, parser: B) -> Told
-where
-    A: StackedParser<'input>,
-    B: StackedParser<'input>,
-    C: StackedParser<'input>,
-    D: StackedParser<'input>,
-{
-    let mut stack: Stack<'input, A, B, C, D> = IncludeStack::new(alloc);
-    let _ = put_characters(alloc, &mut stack, parser);
-    tell(&mut stack)
-}
-
-/// Of a parser over an input on one over characters, of which one event was taken, on one over a string, of which two
-/// were.
-pub(crate) fn of_three<'input, A, B, C, D>(
+/// A parser over a string whose next anchor gets that number is put on a stack.
+fn put_numbered<'input, A, B, C, D>(
     alloc: Global,
+    stack: &mut Stack<'input, A, B, C, D>,
+    parser: A,
+    number: usize,
+) -> bool
+where
+    A: StackedParser<'input>,
+    B: StackedParser<'input>,
+    C: StackedParser<'input>,
+    D: StackedParser<'input>,
+{
+    let mut parser = parser;
+    parser.set_anchor_offset(number);
+    put_string(alloc, stack, parser)
+}
+
+/// Three parsers are put on a stack.
+fn put_three<'input, A, B, C, D>(
+    alloc: Global,
+    stack: &mut Stack<'input, A, B, C, D>,
     string: A,
     characters: B,
     input: C,
-) -> (usize, Told)
+) -> bool
 where
     A: StackedParser<'input>,
     B: StackedParser<'input>,
     C: StackedParser<'input>,
     D: StackedParser<'input>,
 {
-    let mut stack: Stack<'input, A, B, C, D> = IncludeStack::new(alloc);
-    let _ = put_string(alloc, &mut stack, string);
-    pass(&mut stack, 2);
-    let _ = put_characters(alloc, &mut stack, characters);
-    pass(&mut stack, 1);
-    let _ = put_input(alloc, &mut stack, input);
-    (stack.current_anchor_offset(), tell(&mut stack))
+    let _ = put_string(alloc, stack, string);
+    pass(stack, 2);
+    let _ = put_characters(alloc, stack, characters);
+    pass(stack, 1);
+    put_input(alloc, stack, input)
 }
 
-/// Of a parser over an input.
-pub(crate) fn of_input<'input, A, B, C, D>(alloc: Global, parser: C) -> Told
-where
-    A: StackedParser<'input>,
-    B: StackedParser<'input>,
-    C: StackedParser<'input>,
-    D: StackedParser<'input>,
-{
-    let mut stack: Stack<'input, A, B, C, D> = IncludeStack::new(alloc);
-    let _ = put_input(alloc, &mut stack, parser);
-    tell(&mut stack)
-}
-
-/// Of a parser over an input with an event that comes first.
-pub(crate) fn of_first<'input, A, B, C, D>(
+/// Two parsers are, the upper one with a scalar that comes first.
+fn put_first_above<'input, A, B, C, D>(
     alloc: Global,
-    parser: C,
-    first: (Event<'input>, Span),
-) -> Told
-where
-    A: StackedParser<'input>,
-    B: StackedParser<'input>,
-    C: StackedParser<'input>,
-    D: StackedParser<'input>,
-{
-    let mut stack: Stack<'input, A, B, C, D> = IncludeStack::new(alloc);
-    let _ = put_first(alloc, &mut stack, parser, first);
-    tell(&mut stack)
-}
-
-/// The same above a parser over a string whose first event was looked at.
-pub(crate) fn of_first_above<'input, A, B, C, D>(
-    alloc: Global,
+    stack: &mut Stack<'input, A, B, C, D>,
     below: A,
     above: C,
-    first: (Event<'input>, Span),
-) -> Told
+) -> bool
 where
     A: StackedParser<'input>,
     B: StackedParser<'input>,
     C: StackedParser<'input>,
     D: StackedParser<'input>,
 {
-    let mut stack: Stack<'input, A, B, C, D> = IncludeStack::new(alloc);
-    let _ = put_string(alloc, &mut stack, below);
+    let _ = put_string(alloc, stack, below);
     let _ = stack.peek().is_some();
-    let _ = put_first(alloc, &mut stack, above, first);
-    tell(&mut stack)
+    put_first(alloc, stack, above)
+}
+
+/// Whether a stack took what is put on it of three parsers; the others are let go.
+pub(crate) fn put<'input, A, B, C, D>(
+    alloc: Global,
+    stack: &mut Stack<'input, A, B, C, D>,
+    pushes: Pushes,
+    string: A,
+    characters: B,
+    input: C,
+) -> bool
+where
+    A: StackedParser<'input>,
+    B: StackedParser<'input>,
+    C: StackedParser<'input>,
+    D: StackedParser<'input>,
+{
+    match pushes {
+        Pushes::Nothing => true,
+        Pushes::Numbered(number) => put_numbered(alloc, stack, string, number),
+        Pushes::Characters => put_characters(alloc, stack, characters),
+        Pushes::Input => put_input(alloc, stack, input),
+        Pushes::First => put_first(alloc, stack, input),
+        Pushes::FirstAbove => put_first_above(alloc, stack, string, input),
+        Pushes::Three => put_three(alloc, stack, string, characters, input),
+    }
 }
 
 /// A stack without parsers.
@@ -204,22 +205,32 @@ where
     C: StackedParser<'input>,
     D: StackedParser<'input>,
 {
-    let mut stack = stack;
-    tell(&mut stack)
+    told_of(stack)
+}
+
+/// Whether events that are given once more were put on a stack.
+fn put_events<'input, A, B, C>(
+    alloc: Global,
+    stack: &mut Stack<'input, A, B, C, ReplayParser<'input>>,
+    events: ReplayParser<'input>,
+) -> bool
+where
+    A: StackedParser<'input>,
+    B: StackedParser<'input>,
+    C: StackedParser<'input>,
+{
+    let pushed = stack.push_replay_parser(events, own(alloc, "events"));
+    pushed.ok().is_some()
 }
 
 /// Of events that are given once more.
-pub(crate) fn of_events<'input, A, B, C>(
-    alloc: Global,
-    events: ReplayParser<'input>,
-    name: OwnedText,
-) -> Told
+pub(crate) fn of_events<'input, A, B, C>(alloc: Global, events: ReplayParser<'input>) -> Told
 where
     A: StackedParser<'input>,
     B: StackedParser<'input>,
     C: StackedParser<'input>,
 {
     let mut stack = empty::<A, B, C, ReplayParser<'input>>(alloc);
-    let _ = stack.push_replay_parser(events, name).is_ok();
+    let _ = put_events(alloc, &mut stack, events);
     all_of(stack)
 }

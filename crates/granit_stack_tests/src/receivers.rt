@@ -10,7 +10,8 @@ pub(crate) struct Counting {
 }
 
 impl<'input> EventReceiver<'input> for Counting {
-    fn on_event(&mut self, _ev: Event<'input>) {
+    fn on_event(&mut self, ev: Event<'input>) {
+        drop(ev);
         self.events = self.events.saturating_add(1);
     }
 }
@@ -23,6 +24,8 @@ impl<'input> TryEventReceiver<'input> for Strict {
     type Error = char;
 
     fn on_event(&mut self, ev: Event<'input>) -> Result<(), char> {
-        if ev.is_node() { Err('!') } else { Ok(()) }
+        let is_node = ev.is_node();
+        drop(ev);
+        if is_node { Err('!') } else { Ok(()) }
     }
 }

@@ -1,8 +1,20 @@
 //! The texts that are included.
-use granit_base::{Marker, OwnedText};
-use granit_error::{ErrorKind, ScanError};
+use granit_base::{Marker, OwnedText, push_text};
+use granit_error::ScanError;
 use granit_replay::{Included, Resolver};
 use std::alloc::Global;
+
+/// A copy of a text, where there is room.
+fn copy_of(alloc: Global, text: &str) -> String {
+    let mut copy = String::new(alloc);
+    let _ = push_text(&mut copy, text).is_ok();
+    copy
+}
+
+/// The same as a text of its own.
+pub(crate) fn own(alloc: Global, text: &str) -> OwnedText {
+    OwnedText::new(copy_of(alloc, text))
+}
 
 /// Finds some texts by their names.
 #[derive(Clone, Copy)]
@@ -17,15 +29,9 @@ impl<'input> Resolver<'input> for Texts {
         match name {
             "two" => Ok(Included::Borrowed("b\n---\nc\n")),
             "lent" => Ok(Included::Borrowed("# c\n- &a x\n")),
-            "own" => match String::from_str(alloc, "&b y") {
-                Ok(text) => Ok(Included::Owned(text)),
-                Err(_) => Err(ScanError::from_kind(Marker::new(0, 1, 0), ErrorKind::NoMemory)),
-            },
+            "own" => Ok(Included::Owned(copy_of(alloc, "&b y"))),
             "bad" => Ok(Included::Borrowed("[a")),
-            _ => match OwnedText::from_str(alloc, "no such text") {
-                Ok(words) => Err(ScanError::new(Marker::new(3, 2, 1), words)),
-                Err(_) => Err(ScanError::from_kind(Marker::new(0, 1, 0), ErrorKind::NoMemory)),
-            },
+            _ => Err(ScanError::new(Marker::new(3, 2, 1), own(alloc, "no such text"))),
         }
     }
 }

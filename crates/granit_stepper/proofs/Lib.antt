@@ -3,6 +3,7 @@ pub mod CalmLemmas
 pub mod FaultLemmas
 pub mod GatherLemmas
 pub mod HeaderLemmas
+pub mod HoldingLemmas
 pub mod ItemLemmas
 pub mod LookLemmas
 pub mod NumberLemmas

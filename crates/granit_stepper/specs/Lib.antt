@@ -1,4 +1,5 @@
 pub mod Gathering
+pub mod Holding
 pub mod Numbers
 pub mod Offset
 pub mod Recovering

@@ -12,6 +12,7 @@ ghost use Rattle.granit_restart.specs.Header as header;
 ghost use Rattle.granit_restart.specs.Looking.{turn_ahead};
 ghost use Rattle.granit_restart.specs.Skipping as skipping;
 ghost use Rattle.granit_restart.specs.Turned.{Turned};
+ghost use Rattle.granit_stepper.specs.Holding.{HoldsFault, MeetsHeld, PassesHeld, SkipsHeld, held_follows, held_skip};
 ghost use Rattle.granit_stepper.specs.Numbers.{GivesOr, RefusesNumber};
 ghost use Rattle.granit_stepper.specs.Recovering.{DropsTo, Looks, LooksOn, MetIn, RestartsIn, Skips, SkipsDocument};
 ghost use Rattle.granit_stepper.specs.Recovering.{SkipsFault, SkipsHeader, front_in, front_kind};
@@ -117,6 +118,9 @@ impl<'input, T: BorrowedInput<'input>> Stepper<'input, T> {
     pub fn skip_document(&mut self, alloc: Global) -> Result<(), ScanError>
         ensures known { (m : StepState) → StandsAhead T.unread self.old m → Turned self.old.scanner.options m
             → OnOk result (SkipsDocument T.unread self.old.scanner.options self.new m) }
+        ensures held { (m : StepState) (e : Refused) → HoldsFault T.unread self.old m e
+            → Turned self.old.scanner.options m → OnOk result
+            (SkipsHeld T.unread self.old.scanner.options self.old.scanner.cursor e (held_skip e m) self.new) }
         ensures memory { IfErr result (λ e. e.kind ≡ faults.NoMemory) }
         ensures first { IfOk result (λ x. self.new.first ≡ None) }
         ensures options { self.new.scanner.options ≡ self.old.scanner.options }
@@ -135,6 +139,8 @@ impl<'input, T: BorrowedInput<'input>> Stepper<'input, T> {
     fn pass_document(&mut self, alloc: Global) -> Result<bool, ScanError>
         ensures known { (m : StepState) → StandsAhead T.unread self.old m → Turned self.old.scanner.options m
             → IfOk result (λ passed. Skips T.unread self.old.scanner.options passed self.new m) }
+        ensures held { (m : StepState) (e : Refused) → HoldsFault T.unread self.old m e
+            → IfOk result (λ passed. PassesHeld T.unread e (held_skip e m) passed self.old self.new) }
         ensures memory { IfErr result (λ e. e.kind ≡ faults.NoMemory) }
         ensures first { IfOk result (λ x. self.new.first ≡ None) }
         ensures options { self.new.scanner.options ≡ self.old.scanner.options }
@@ -160,6 +166,8 @@ impl<'input, T: BorrowedInput<'input>> Stepper<'input, T> {
         ensures known { (m : StepState) → self.old.failed ≡ false
             → ((error.kind ≡ faults.NoMemory → ⊥) → RefusedIn T.unread self.old m error)
             → IfOk result (λ ends. MetIn T.unread error self.new m ends) }
+        ensures held { (m : StepState) → StandsRefused T.unread self.old m error
+            → IfOk result (λ ends. MeetsHeld error self.new m ends) }
         ensures memory { IfErr result (λ e. e.kind ≡ faults.NoMemory) }
         ensures rest { self.new ≡ record self.old { ahead = self.new.ahead } }
     {
@@ -300,6 +308,8 @@ impl<'input, T: BorrowedInput<'input>> Stepper<'input, T> {
         ensures known { (m : StepState) → StandsAhead T.unread self.old m → self.old.first ≡ None
             → Turned self.old.scanner.options m → UnlessMemory result
             (Looks T.unread self.old.scanner.options room result self.new m) }
+        ensures held { (m : StepState) (e : Refused) → HoldsFault T.unread self.old m e → UnlessMemory result
+            ((result ≡ held_follows room m) × HoldsFault T.unread self.new m e) }
         ensures first { self.new.first ≡ self.old.first }
         ensures failed { self.new.failed ≡ self.old.failed }
         ensures options { self.new.scanner.options ≡ self.old.scanner.options }
@@ -331,6 +341,8 @@ impl<'input, T: BorrowedInput<'input>> Stepper<'input, T> {
     fn look_on(&mut self, alloc: Global) -> Result<Option<bool>, ScanError>
         ensures known { (m : StepState) → StandsAhead T.unread self.old m → self.old.first ≡ None
             → NoneWaitsOutside m.parser → IfOk result (λ r. LooksOn T.unread self.old.scanner.options r self.new m) }
+        ensures held { (m : StepState) (e : Refused) → HoldsFault T.unread self.old m e
+            → IfOk result (λ r. (r ≡ Some true) × HoldsFault T.unread self.new m e) }
         ensures memory { IfErr result (λ e. e.kind ≡ faults.NoMemory) }
         ensures keeps { Keeps self.old self.new }
         ensures moves { Moves T.unread T.left T.origin self.old.scanner.cursor self.new.scanner.cursor }
@@ -380,6 +392,7 @@ impl<'input, T: BorrowedInput<'input>> Stepper<'input, T> {
         ensures known { (m : StepState) → self.old.failed ≡ false
             → ((error.kind ≡ faults.NoMemory → ⊥) → RefusedIn T.unread self.old m error)
             → IfOk result (λ r. (r ≡ Some true) × HoldsRefusal T.unread self.new m) }
+        ensures held { IfOk result (λ r. (r ≡ Some true) × (self.new.ahead ≡ Some error)) }
         ensures memory { IfErr result (λ e. e.kind ≡ faults.NoMemory) }
         ensures rest { self.new ≡ record self.old { ahead = self.new.ahead } }
     {

@@ -17,6 +17,7 @@ ghost use Rattle.granit_lexemes.specs.Here.{Here, first_place, mark_of};
 ghost use Rattle.granit_items.specs.ItemViews.{item_view, kind_view};
 ghost use Rattle.granit_restart.specs.Turned.{Turned};
 ghost use Rattle.granit_scanner.specs.Scans.{front_view, may_front_go};
+ghost use Rattle.granit_stepper.specs.Holding.{GivesHeld, HoldsFault};
 ghost use Rattle.granit_stepper.specs.Numbers as numbers;
 ghost use Rattle.granit_stepper.specs.Numbers.{GetsLast, GivesOr, IsNumberless, RefusesNumber, UnlessNumberless};
 ghost use Rattle.granit_stepper.specs.Refusals.{GivesAhead, HoldsRefusal, RefusesIn, RefusesItem, RefusesLater};
@@ -141,6 +142,8 @@ impl<'input, T: BorrowedInput<'input>> Stepper<'input, T> {
             → RefusesLater T.unread self.old.scanner.options result self.new m }
         ensures ahead { (m : StepState) → HoldsRefusal T.unread self.old m
             → GivesAhead T.unread (option_map plain_event) result self.new m }
+        ensures held { (m : StepState) (e : Fault) → HoldsFault T.unread self.old m e
+            → GivesHeld T.unread (option_map plain_event) result self.new m e }
         ensures first { self.old.failed ≡ false → self.new.first ≡ None }
         ensures failed { IfErr result (λ e. self.new.failed ≡ true) }
         ensures lost { IfErr result (λ e. e.kind ≡ faults.NoMemory → self.new.refusal ≡ None) }
@@ -181,6 +184,7 @@ impl<'input, T: BorrowedInput<'input>> Stepper<'input, T> {
         ensures held { (m : StepState) → HoldsRefusal T.unread self.old m → result ≡ None
             → HoldsRefusal T.unread self.new m }
         ensures first { self.new.first ≡ self.old.first }
+        ensures ahead { self.new.ahead ≡ self.old.ahead }
         ensures ended { result ≡ None → self.new.refusal ≡ self.old.refusal }
         ensures lost { IfSome result (λ e. self.new.refusal ≡ None) }
         ensures failed { self.new.failed ≡ (self.old.failed || is_some result) }
@@ -234,6 +238,8 @@ impl<'input, T: BorrowedInput<'input>> Stepper<'input, T> {
             → Turned self.old.scanner.options m → RefusesLater T.unread self.old.scanner.options result self.new m }
         ensures ahead { (m : StepState) → HoldsRefusal T.unread self.old m
             → GivesAhead T.unread (option_map plain_event) result self.new m }
+        ensures held { (m : StepState) (e : Fault) → HoldsFault T.unread self.old m e
+            → GivesHeld T.unread (option_map plain_event) result self.new m e }
         ensures first { self.new.first ≡ self.old.first }
         ensures failed { IfErr result (λ e. self.new.failed ≡ true) }
         ensures lost { IfErr result (λ e. e.kind ≡ faults.NoMemory → self.new.refusal ≡ None) }

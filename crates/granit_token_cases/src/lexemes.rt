@@ -1,9 +1,10 @@
 //! A comment, a plain or a quoted scalar inside a text. A case is a JSON list: how many characters stand before the
 //! lexeme, the column of the block around it or `-`, `block`, `flow`, `strict`, `strict block` or `comment`, and the
 //! text; for a quoted scalar then `single` or `double` and the tab column.
-use crate::words::{cursor_at, fault_line, place, token_line};
+use crate::words::{cursor_at, push_fault, push_place, push_token};
 use anyhow::{Context, Result};
 use granit_base::{Marker, is_blank_or_breakz};
+use granit_cursor::Token;
 use granit_error::ScanError;
 use granit_input::{Input, StrInput};
 use granit_lex::{Cursor, Layout, Lexed, scan_comment, scan_plain_scalar, scan_quoted_scalar};
@@ -21,96 +22,145 @@ fn layout(column: &str, tab_column: usize, around: &str) -> Layout {
     }
 }
 
-/// The comment that begins where the cursor stands, where one does.
-fn comment_at<'a>(
-    alloc: Global,
-    cursor: &mut Cursor<StrInput<'a>>,
-) -> Option<Result<Lexed<'a>, ScanError>> {
-    cursor.look(1);
-    if cursor.input().peek() != '#' {
-        return None;
-    }
-    match scan_comment(alloc, cursor) {
-        Ok(token) => {
-            Some(Ok(Lexed {
-                token,
-                comment: None,
-                cut_by_comment: None,
-                on_new_line: false,
-            }))
+/// What is read where a lexeme begins.
+trait Lexeme {
+    /// Writes it, what was read behind it, and where the cursor then stands; or its fault.
+    fn push(&self, line: &mut String, stands: Marker) -> Result<()>;
+}
+
+impl<'a> Lexeme for Result<Token<'a>, ScanError> {
+    fn push(&self, line: &mut String, stands: Marker) -> Result<()> {
+        match self {
+            Ok(token) => {
+                push_token(line, token)?;
+                push_stands(line, stands)
+            }
+            Err(error) => push_fault(line, error),
         }
-        Err(error) => Some(Err(error)),
     }
 }
 
-/// The plain scalar that begins where the cursor stands, where one does.
-fn plain_at<'a>(
-    alloc: Global,
-    cursor: &mut Cursor<StrInput<'a>>,
-    at: &Layout,
-) -> Option<Result<Lexed<'a>, ScanError>> {
-    cursor.look(2);
-    if is_blank_or_breakz(cursor.input().peek())
-        || !cursor.input().next_can_be_plain_scalar(at.in_flow)
-    {
-        return None;
-    }
-    Some(scan_plain_scalar(alloc, cursor, at))
-}
-
-/// The quoted scalar that begins where the cursor stands, where one does.
-fn quoted_at<'a>(
-    alloc: Global,
-    cursor: &mut Cursor<StrInput<'a>>,
-    at: &Layout,
-) -> Option<Result<Lexed<'a>, ScanError>> {
-    cursor.look(1);
-    match cursor.input().peek() {
-        '\'' => Some(scan_quoted_scalar(alloc, cursor, true, at)),
-        '"' => Some(scan_quoted_scalar(alloc, cursor, false, at)),
-        _ => None,
+impl<'a> Lexeme for Result<Lexed<'a>, ScanError> {
+    fn push(&self, line: &mut String, stands: Marker) -> Result<()> {
+        match self {
+            Ok(lexed) => {
+                push_lexed(line, lexed)?;
+                push_stands(line, stands)
+            }
+            Err(error) => push_fault(line, error),
+        }
     }
 }
 
-/// A lexeme, what was read behind it, and where the cursor then stands.
-fn lexeme_line(alloc: Global, lexed: &Lexed<'_>, stands: Marker) -> Result<String> {
-    let mut line = token_line(alloc, &lexed.token)?;
+/// The same of what is let go here, which is cheap to prove in a generic function.
+fn push<T: Lexeme + Drop>(
+    line: &mut String,
+    lexeme: T,
+    cursor: &Cursor<StrInput<'_>>,
+) -> Result<()> {
+    lexeme.push(line, cursor.mark())
+}
+
+/// Where the cursor then stands.
+fn push_stands(line: &mut String, stands: Marker) -> Result<()> {
+    line.push_str(" then ")?;
+    push_place(line, stands)
+}
+
+/// A lexeme, and what was read behind it.
+fn push_lexed(line: &mut String, lexed: &Lexed<'_>) -> Result<()> {
+    push_token(line, &lexed.token)?;
     if lexed.on_new_line {
         line.push_str(" on a new line")?;
     }
     if let Some(mark) = lexed.cut_by_comment {
         line.push_str(" cut at ")?;
-        line.push_str(place(alloc, mark)?.as_str())?;
+        push_place(line, mark)?;
     }
     if let Some(comment) = &lexed.comment {
         line.push_str(" ")?;
-        line.push_str(token_line(alloc, comment)?.as_str())?;
+        push_token(line, comment)?;
     }
-    line.push_str(" then ")?;
-    line.push_str(place(alloc, stands)?.as_str())?;
-    Ok(line)
+    Ok(())
 }
 
-/// What is printed for a case.
-pub fn answer(alloc: Global, case: &str) -> Result<String> {
-    let case = Value::from_str(alloc, case).context("reading a case")?;
+fn push_no_lexeme(line: &mut String) -> Result<()> {
+    line.push_str("no lexeme")?;
+    Ok(())
+}
+
+/// The comment that begins where the cursor stands, where one does.
+fn push_comment<'a>(
+    alloc: Global,
+    line: &mut String,
+    cursor: &mut Cursor<StrInput<'a>>,
+) -> Result<()> {
+    cursor.look(1);
+    if cursor.input().peek() != '#' {
+        return push_no_lexeme(line);
+    }
+    let comment = scan_comment(alloc, cursor);
+    push(line, comment, cursor)
+}
+
+/// The plain scalar that begins where the cursor stands, where one does.
+fn push_plain<'a>(
+    alloc: Global,
+    line: &mut String,
+    cursor: &mut Cursor<StrInput<'a>>,
+    at: &Layout,
+) -> Result<()> {
+    cursor.look(2);
+    if is_blank_or_breakz(cursor.input().peek())
+        || !cursor.input().next_can_be_plain_scalar(at.in_flow)
+    {
+        return push_no_lexeme(line);
+    }
+    let scalar = scan_plain_scalar(alloc, cursor, at);
+    push(line, scalar, cursor)
+}
+
+/// The quoted scalar that begins where the cursor stands, where one does.
+fn push_quoted<'a>(
+    alloc: Global,
+    line: &mut String,
+    cursor: &mut Cursor<StrInput<'a>>,
+    at: &Layout,
+) -> Result<()> {
+    cursor.look(1);
+    match cursor.input().peek() {
+        '\'' => {
+            let scalar = scan_quoted_scalar(alloc, cursor, true, at);
+            push(line, scalar, cursor)
+        }
+        '"' => {
+            let scalar = scan_quoted_scalar(alloc, cursor, false, at);
+            push(line, scalar, cursor)
+        }
+        _ => push_no_lexeme(line),
+    }
+}
+
+/// Writes what is printed for a list.
+fn push_list(alloc: Global, line: &mut String, case: &Value) -> Result<()> {
     let index = case.get(0).and_then(Value::as_u64).context("an index")?;
     let column = case.get(1).and_then(Value::as_str).context("a column")?;
     let around = case.get(2).and_then(Value::as_str).context("a layout")?;
     let text = case.get(3).and_then(Value::as_str).context("a text")?;
-    let mut cursor = cursor_at(text, index as usize);
     let tab_column = case.get(5).and_then(Value::as_u64).unwrap_or(0);
     let at = layout(column, tab_column as usize, around);
-    let lexeme = if case.get(4).is_some() {
-        quoted_at(alloc, &mut cursor, &at)
+    let mut cursor = cursor_at(text, index as usize);
+    if case.get(4).is_some() {
+        push_quoted(alloc, line, &mut cursor, &at)
     } else if around == "comment" {
-        comment_at(alloc, &mut cursor)
+        push_comment(alloc, line, &mut cursor)
     } else {
-        plain_at(alloc, &mut cursor, &at)
-    };
-    match lexeme {
-        None => Ok(String::from_str(alloc, "no lexeme")?),
-        Some(Ok(lexed)) => lexeme_line(alloc, &lexed, cursor.mark()),
-        Some(Err(error)) => fault_line(alloc, &error),
+        push_plain(alloc, line, &mut cursor, &at)
     }
+}
+
+/// Writes what is printed for a case.
+pub fn push_answer(alloc: Global, line: &mut String, case: &str) -> Result<()> {
+    let case = Value::from_str(alloc, case).context("reading a case")?;
+    push_list(alloc, line, &case)
 }

@@ -15,25 +15,30 @@ use anyhow::{Context, Result};
 use std::alloc::Global;
 use std::io::{BufRead, BufReader};
 
-/// What is printed for a case.
-fn answer(alloc: Global, kind: &str, case: &str) -> Result<String> {
+/// Writes what is printed for a case.
+fn push_answer(alloc: Global, said: &mut String, kind: &str, case: &str) -> Result<()> {
     match kind {
-        "lexeme" => lexemes::answer(alloc, case),
-        "node" => nodes::answer(alloc, case),
-        "tokens" => tokens::answer(alloc, case),
+        "lexeme" => lexemes::push_answer(alloc, said, case),
+        "node" => nodes::push_answer(alloc, said, case),
+        "tokens" => tokens::push_answer(alloc, said, case),
         _ => None.context("a case begins with its kind"),
     }
+}
+
+/// What is printed for a line.
+fn answer(alloc: Global, line: &str) -> Result<String> {
+    let (kind, case) = line
+        .split_once('\t')
+        .context("a case is its kind and what to read")?;
+    let mut said = String::new(alloc);
+    push_answer(alloc, &mut said, kind, case)?;
+    Ok(said)
 }
 
 fn main(rt: HostRuntime) -> Result<()> {
     let alloc = rt.alloc();
     for line in BufReader::new(alloc, rt.reader())?.lines(alloc) {
-        let line = line?;
-        let (kind, case) = line
-            .as_str()
-            .split_once('\t')
-            .context("a case is its kind and what to read")?;
-        let said = answer(alloc, kind, case)?;
+        let said = answer(alloc, line?.as_str())?;
         println!(rt; "{said}")?;
     }
     Ok(())

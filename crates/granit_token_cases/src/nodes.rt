@@ -2,7 +2,7 @@
 //! the lexeme, the column of the block around it or `-`, `literal`, `folded`, `tag`, `flow tag`, `anchor`, `alias`,
 //! `directive`, `directive without comments` or `forbidden directive`, and the text. A directive has its two limits in
 //! the place of the column, or `-` for the usual ones.
-use crate::words::{cursor_at, fault_line, token_line};
+use crate::words::{cursor_at, push_fault, push_token};
 use anyhow::{Context, Result};
 use granit_block::scan_block_scalar;
 use granit_cursor::{Cursor, Layout, Lexed, Token};
@@ -36,60 +36,84 @@ fn options(limits: &str, kind: &str) -> Options {
     options
 }
 
-/// A token with nothing behind it.
-fn alone<'a>(token: Result<Token<'a>, ScanError>) -> Result<Lexed<'a>, ScanError> {
-    match token {
-        Ok(token) => Ok(Lexed {
-            token,
-            comment: None,
-            cut_by_comment: None,
-            on_new_line: false,
-        }),
-        Err(error) => Err(error),
+/// What is read where a lexeme begins.
+trait Lexeme {
+    /// Writes it with the comment behind it, or its fault.
+    fn push(&self, line: &mut String) -> Result<()>;
+}
+
+impl<'a> Lexeme for Result<Token<'a>, ScanError> {
+    fn push(&self, line: &mut String) -> Result<()> {
+        match self {
+            Ok(token) => push_token(line, token),
+            Err(error) => push_fault(line, error),
+        }
     }
 }
 
-/// The lexeme of that kind where the cursor stands.
-fn lexeme_at<'a>(
-    alloc: Global,
-    cursor: &mut Cursor<StrInput<'a>>,
-    kind: &str,
-    column: &str,
-) -> Option<Result<Lexed<'a>, ScanError>> {
-    cursor.look(1);
-    match (kind, cursor.input().peek()) {
-        ("literal", '|') => Some(scan_block_scalar(alloc, cursor, true, &layout(column))),
-        ("folded", '>') => Some(scan_block_scalar(alloc, cursor, false, &layout(column))),
-        ("tag", '!') => Some(alone(scan_tag(alloc, cursor, false))),
-        ("flow tag", '!') => Some(alone(scan_tag(alloc, cursor, true))),
-        ("anchor", '&') => Some(alone(scan_anchor(alloc, cursor, false))),
-        ("alias", '*') => Some(alone(scan_anchor(alloc, cursor, true))),
-        (_, '%') => Some(scan_directive(alloc, cursor, &options(column, kind))),
-        _ => None,
+impl<'a> Lexeme for Result<Lexed<'a>, ScanError> {
+    fn push(&self, line: &mut String) -> Result<()> {
+        match self {
+            Ok(lexed) => push_lexed(line, lexed),
+            Err(error) => push_fault(line, error),
+        }
     }
+}
+
+/// The same of what is let go here, which is cheap to prove in a generic function.
+fn push<T: Lexeme + Drop>(line: &mut String, lexeme: T) -> Result<()> {
+    lexeme.push(line)
 }
 
 /// A lexeme with the comment behind it.
-fn lexeme_line(alloc: Global, lexed: &Lexed<'_>) -> Result<String> {
-    let mut line = token_line(alloc, &lexed.token)?;
+fn push_lexed(line: &mut String, lexed: &Lexed<'_>) -> Result<()> {
+    push_token(line, &lexed.token)?;
     if let Some(comment) = &lexed.comment {
         line.push_str(" ")?;
-        line.push_str(token_line(alloc, comment)?.as_str())?;
+        push_token(line, comment)?;
     }
-    Ok(line)
+    Ok(())
 }
 
-/// What is printed for a case.
-pub fn answer(alloc: Global, case: &str) -> Result<String> {
-    let case = Value::from_str(alloc, case).context("reading a case")?;
+/// The lexeme of that kind where the cursor stands.
+fn push_lexeme<'a>(
+    alloc: Global,
+    line: &mut String,
+    cursor: &mut Cursor<StrInput<'a>>,
+    kind: &str,
+    column: &str,
+) -> Result<()> {
+    cursor.look(1);
+    match (kind, cursor.input().peek()) {
+        ("literal", '|') => push(
+            line,
+            scan_block_scalar(alloc, cursor, true, &layout(column)),
+        ),
+        ("folded", '>') => push(
+            line,
+            scan_block_scalar(alloc, cursor, false, &layout(column)),
+        ),
+        ("tag", '!') => push(line, scan_tag(alloc, cursor, false)),
+        ("flow tag", '!') => push(line, scan_tag(alloc, cursor, true)),
+        ("anchor", '&') => push(line, scan_anchor(alloc, cursor, false)),
+        ("alias", '*') => push(line, scan_anchor(alloc, cursor, true)),
+        (_, '%') => push(line, scan_directive(alloc, cursor, &options(column, kind))),
+        _ => Ok(line.push_str("no lexeme")?),
+    }
+}
+
+/// Writes what is printed for a list.
+fn push_list(alloc: Global, line: &mut String, case: &Value) -> Result<()> {
     let index = case.get(0).and_then(Value::as_u64).context("an index")?;
     let column = case.get(1).and_then(Value::as_str).context("a column")?;
     let kind = case.get(2).and_then(Value::as_str).context("a kind")?;
     let text = case.get(3).and_then(Value::as_str).context("a text")?;
     let mut cursor = cursor_at(text, index as usize);
-    match lexeme_at(alloc, &mut cursor, kind, column) {
-        None => Ok(String::from_str(alloc, "no lexeme")?),
-        Some(Ok(lexed)) => lexeme_line(alloc, &lexed),
-        Some(Err(error)) => fault_line(alloc, &error),
-    }
+    push_lexeme(alloc, line, &mut cursor, kind, column)
+}
+
+/// Writes what is printed for a case.
+pub fn push_answer(alloc: Global, line: &mut String, case: &str) -> Result<()> {
+    let case = Value::from_str(alloc, case).context("reading a case")?;
+    push_list(alloc, line, &case)
 }

@@ -1,10 +1,9 @@
-//! The lines of tokens and of faults.
+//! The words of tokens and of faults, which are written behind others.
 use anyhow::Result;
 use granit_base::{Marker, Placement, ScalarStyle, Span, Text, TextList};
 use granit_cursor::{Comment, Cursor, Token, TokenType};
 use granit_error::ScanError;
 use granit_input::StrInput;
-use std::alloc::Global;
 
 /// A cursor that many characters into a text.
 pub fn cursor_at<'a>(text: &'a str, index: usize) -> Cursor<StrInput<'a>> {
@@ -16,9 +15,10 @@ pub fn cursor_at<'a>(text: &'a str, index: usize) -> Cursor<StrInput<'a>> {
 }
 
 /// A place, as `index:line:column`, the column from 1.
-pub fn place(alloc: Global, mark: Marker) -> Result<String> {
+pub fn push_place(line: &mut String, mark: Marker) -> Result<()> {
     let column = mark.col().saturating_add(1);
-    Ok(format!(in alloc; "{}:{}:{}", mark.index(), mark.line(), column)?)
+    write!(line, "{}:{}:{}", mark.index(), mark.line(), column)?;
+    Ok(())
 }
 
 fn style_word(style: &ScalarStyle) -> &'static str {
@@ -31,19 +31,22 @@ fn style_word(style: &ScalarStyle) -> &'static str {
     }
 }
 
-fn quoted(alloc: Global, text: &str) -> Result<String> {
-    Ok(format!(in alloc; "\"{}\"", text.escape_default())?)
+/// A text in quotes behind a space.
+fn push_text(line: &mut String, text: &str) -> Result<()> {
+    write!(line, " \"{}\"", text.escape_default())?;
+    Ok(())
 }
 
-fn with_text(alloc: Global, name: &str, text: &str) -> Result<String> {
-    let text = quoted(alloc, text)?;
-    Ok(format!(in alloc; "{name} {text}")?)
+/// A name and a text.
+fn push_one(line: &mut String, name: &str, text: &str) -> Result<()> {
+    line.push_str(name)?;
+    push_text(line, text)
 }
 
-/// Two texts in quotes behind a name.
-fn with_texts(alloc: Global, name: &str, first: &Text<'_>, second: &Text<'_>) -> Result<String> {
-    let front = with_text(alloc, name, first.as_str())?;
-    with_text(alloc, front.as_str(), second.as_str())
+/// A name and two texts.
+fn push_two(line: &mut String, name: &str, first: &Text<'_>, second: &Text<'_>) -> Result<()> {
+    push_one(line, name, first.as_str())?;
+    push_text(line, second.as_str())
 }
 
 /// What a token without a text says.
@@ -76,59 +79,58 @@ fn placement_word(comment: &Comment<'_>) -> &'static str {
     }
 }
 
-fn scalar_words(alloc: Global, style: &ScalarStyle, text: &str) -> Result<String> {
-    let front = format!(in alloc; "Scalar {}", style_word(style))?;
-    with_text(alloc, front.as_str(), text)
+fn push_scalar(line: &mut String, style: &ScalarStyle, text: &str) -> Result<()> {
+    line.push_str("Scalar ")?;
+    push_one(line, style_word(style), text)
 }
 
-fn with_parameters(alloc: Global, name: &Text<'_>, parameters: &TextList) -> Result<String> {
-    let mut line = with_text(alloc, "ReservedDirective", name.as_str())?;
+fn push_version(line: &mut String, major: u32, minor: u32) -> Result<()> {
+    write!(line, "VersionDirective {major}.{minor}")?;
+    Ok(())
+}
+
+fn push_reserved(line: &mut String, name: &Text<'_>, parameters: &TextList) -> Result<()> {
+    push_one(line, "ReservedDirective", name.as_str())?;
     for parameter in parameters.as_slice() {
-        line = with_text(alloc, line.as_str(), parameter.as_str())?;
+        push_text(line, parameter.as_str())?;
     }
-    Ok(line)
+    Ok(())
 }
 
 /// What a token says.
-fn words(alloc: Global, token: &TokenType<'_>) -> Result<String> {
+fn push_words(line: &mut String, token: &TokenType<'_>) -> Result<()> {
     match token {
-        TokenType::VersionDirective(major, minor) => {
-            Ok(format!(in alloc; "VersionDirective {major}.{minor}")?)
-        }
-        TokenType::TagDirective(handle, prefix) => with_texts(
-            alloc,
-            "TagDirective",
-            handle,
-            prefix,
-        ),
-        TokenType::Alias(name) => with_text(alloc, "Alias", name.as_str()),
-        TokenType::Anchor(name) => with_text(alloc, "Anchor", name.as_str()),
-        TokenType::Tag(handle, suffix) => with_texts(alloc, "Tag", handle, suffix),
-        TokenType::Scalar(style, text) => scalar_words(alloc, style, text.as_str()),
-        TokenType::Comment(comment) => with_text(alloc, placement_word(comment), comment.text()),
-        TokenType::ReservedDirective(name, parameters) => with_parameters(alloc, name, parameters),
-        _ => Ok(String::from_str(alloc, word(token))?),
+        TokenType::VersionDirective(major, minor) => push_version(line, *major, *minor),
+        TokenType::TagDirective(handle, prefix) => push_two(line, "TagDirective", handle, prefix),
+        TokenType::Alias(name) => push_one(line, "Alias", name.as_str()),
+        TokenType::Anchor(name) => push_one(line, "Anchor", name.as_str()),
+        TokenType::Tag(handle, suffix) => push_two(line, "Tag", handle, suffix),
+        TokenType::Scalar(style, text) => push_scalar(line, style, text.as_str()),
+        TokenType::Comment(comment) => push_one(line, placement_word(comment), comment.text()),
+        TokenType::ReservedDirective(name, parameters) => push_reserved(line, name, parameters),
+        _ => Ok(line.push_str(word(token))?),
     }
 }
 
-fn span_words(alloc: Global, span: Span) -> Result<String> {
-    let start = place(alloc, span.start)?;
-    let end = place(alloc, span.end)?;
-    match span.indent {
-        None => Ok(format!(in alloc; "{start}-{end}")?),
-        Some(indent) => Ok(format!(in alloc; "{start}-{end} indent={indent}")?),
+fn push_span(line: &mut String, span: Span) -> Result<()> {
+    push_place(line, span.start)?;
+    line.push_str("-")?;
+    push_place(line, span.end)?;
+    if let Some(indent) = span.indent {
+        write!(line, " indent={indent}")?;
     }
+    Ok(())
 }
 
 /// A token with its span, and the column that the span tells.
-pub fn token_line(alloc: Global, token: &Token<'_>) -> Result<String> {
-    let words = words(alloc, token.token_type())?;
-    let span = span_words(alloc, token.span())?;
-    Ok(format!(in alloc; "{words} {span}")?)
+pub fn push_token(line: &mut String, token: &Token<'_>) -> Result<()> {
+    push_words(line, token.token_type())?;
+    line.push_str(" ")?;
+    push_span(line, token.span())
 }
 
 /// A fault with its number.
-pub fn fault_line(alloc: Global, error: &ScanError) -> Result<String> {
-    let number = error.kind().number();
-    Ok(format!(in alloc; "fault {number}: {error}")?)
+pub fn push_fault(line: &mut String, error: &ScanError) -> Result<()> {
+    write!(line, "fault {}: {error}", error.kind().number())?;
+    Ok(())
 }

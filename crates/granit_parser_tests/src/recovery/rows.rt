@@ -175,6 +175,40 @@ const CASES: &[Case] = &[
             NOTHING,
         ],
     },
+    // a document that is faulty from its start on goes as well, whether its fault was looked at or not
+    Case {
+        text: "[x]\ny\n...\n&z q\n",
+        calls: [Recover, Recover, Next, Next, Next, Next, Recover, Next],
+        rows: [
+            YES,
+            YES,
+            ('D', 10, 12),
+            ('=', 13, 14),
+            ('d', 14, 14),
+            ('s', 15, 15),
+            NO,
+            NOTHING,
+        ],
+    },
+    Case {
+        text: "[x]\ny\n...\n&z q\n",
+        calls: [Recover, Peek, Recover, Recover, Next, Next, Next, Next],
+        rows: [
+            YES,
+            ('!', 11, 4),
+            YES,
+            NO,
+            ('s', 15, 15),
+            NOTHING,
+            NOTHING,
+            NOTHING,
+        ],
+    },
+    Case {
+        text: "[x] y",
+        calls: [Recover, Recover, Recover, Next, Next, Next, Next, Next],
+        rows: [YES, NO, NO, ('s', 5, 5), NOTHING, NOTHING, NOTHING, NOTHING],
+    },
     // where no document is left, recovery says so
     Case {
         text: "a\n---\nb\n",
@@ -227,7 +261,7 @@ fn count_right(alloc: Global) -> usize {
 
 #[test]
 fn where_recovery_goes_on(rt: HostRuntime) {
-    assert_eq!(rt; count_right(rt.alloc()), 12);
+    assert_eq!(rt; count_right(rt.alloc()), 15);
 }
 
 #[test]

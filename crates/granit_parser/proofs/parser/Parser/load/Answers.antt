@@ -7,7 +7,8 @@ use Rattle.granit_event.specs.Events.{plain_event}
 use Rattle.granit_parser.proofs.FirstLemmas.{first_is_last, goes_behind, load_refused, loads_behind, over_nowhere}
 use Rattle.granit_parser.proofs.LedLemmas.{first_led, leaves_behind, load_failed, over_closed}
 use Rattle.granit_parser.proofs.MetLemmas.{load_tells, over_tells, rest_tells}
-use Rattle.granit_parser.proofs.WantLemmas.{given_nothing, load_wants, wants_behind, was_fed}
+use Rattle.granit_parser.proofs.WantLemmas.{given_nothing, load_refuses, load_wants, unless_refused, wants_behind}
+use Rattle.granit_parser.proofs.WantLemmas.{was_fed}
 use Rattle.granit_parser.proofs.parser.Parser.load.Goals as goal
 use Rattle.granit_parser.specs.Receiving.{IsPlaceOf, LoadsRest}
 use Rattle.granit_receivers.specs.Sending.{is_last}
@@ -151,3 +152,13 @@ returns-then-last-clause-memory g c = λ none. (
   was_fed c.args.self.now.given c.args.self.now.starved c.given_again.ensures.starved none,
   tt,
 )
+
+pub returns-in_err-event-clause-answered : goal.returns-in_err-event-clause-answered
+returns-in_err-event-clause-answered g c = λ calls reached is at.
+    load_refuses (c.first_event.new.self.answered ≡ false) c.in_err-event.field-0.0 c.from_residual.result
+    c.from_residual.ensures.1
+
+pub returns-clause-answered : goal.returns-clause-answered
+returns-clause-answered g c = λ calls reached is at.
+    unless_refused (c.first_event.new.self.answered ≡ false) (c.load_rest.new.self.answered ≡ false)
+    (Some c.load_rest.result) c.load_rest.ensures.answered (c.in_ok-event.ensures.answered calls reached is at)

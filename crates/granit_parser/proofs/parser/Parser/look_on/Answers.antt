@@ -1,6 +1,8 @@
-use Rattle.std.proofs.Common.{None, ap, sym, refl, ◌∙◌}
+use Rattle.std.proofs.Common.{None, inl, inr, ap, subst, sym, refl, ◌∙◌}
+use Rattle.granit_parser.proofs.HeldLemmas.{waiting_shows}
 use Rattle.granit_parser.proofs.InLemmas.{none_seen, peeks_read, peeks_unseen}
 use Rattle.granit_parser.proofs.parser.Parser.look_on.Goals as goal
+use Rattle.granit_parser.specs.Holding.{WaitsBehind}
 use Rattle.granit_parser.specs.Parsing.{Next, Parsing}
 
 pub returns-then-is_none-clause-peeks : goal.returns-then-is_none-clause-peeks
@@ -11,8 +13,8 @@ returns-then-is_none-clause-peeks g c =
     c.self.view_is)
     c.is_none.ensures c.if-is_none.true in
     rw c.put_ahead.ensures (peeks_unseen g.T.Input.unread g.T.Input.left g.T.Input.origin p t.new.self t.result none
-    t.ensures.sure t.ensures.options t.ensures.source t.ensures.given t.ensures.refused t.ensures.over
-    t.ensures.renumbered t.ensures.moves t.ensures.onward)
+    t.ensures.sure t.ensures.options t.ensures.source t.ensures.given t.ensures.answered t.ensures.refused
+    t.ensures.over t.ensures.renumbered t.ensures.moves t.ensures.onward)
 
 pub returns-then-is_none-clause-calls : goal.returns-then-is_none-clause-calls
 returns-then-is_none-clause-calls g c =
@@ -26,4 +28,10 @@ returns-then-is_none-clause-calls g c =
     (λ failed. let x = t.ensures.over failed in
     ap (λ (q : Parsing _). record q { peeked = t.result }) x.1
     ∙ ap (λ (w : Next). record p { peeked = w }) (x.0 ∙ sym none)) t.ensures.calls t.ensures.lost
-    t.ensures.options (c.an_open_call_gives_something.ensures p.stepper.scanner.options))
+    t.ensures.options (c.an_open_call_gives_something.ensures p.stepper.scanner.options)
+    (λ calls f holds. elim (t.ensures.waits calls.steps f
+    (subst (λ (w : Next). WaitsBehind g.T.Input.unread w p.stepper calls.steps f) none holds.waits)) [
+      | inl reads ↦ inl (waiting_shows g.T.Input.unread p (record (t.new.self) { peeked = t.result }) calls f holds
+          t.ensures.options t.ensures.renumbered t.result reads refl t.ensures.between t.ensures.going)
+      | inr told ↦ inr told
+    ]))

@@ -1,10 +1,12 @@
 use Rattle.std.proofs.Common.{◌≡◌, inl, inr, ap, subst, sym, ◌∙◌}
 use Rattle.granit_parser.proofs.AloneLemmas.{ends_alone}
+use Rattle.granit_parser.proofs.HeldLemmas.{waiting_gives}
 use Rattle.granit_parser.proofs.InLemmas.{call_gives, closed_stays, never_none, noted_none, open_seen}
 use Rattle.granit_parser.proofs.ResumedLemmas.{resumed_reached, resumes}
 use Rattle.granit_parser.proofs.StartLaws.{ends_told}
 use Rattle.granit_parser.proofs.TextLemmas.{ends_text}
 use Rattle.granit_parser.proofs.parser.Parser.next_event.Goals as goal
+use Rattle.granit_parser.specs.Holding.{ReadsHeld}
 use Rattle.granit_parser.specs.Parsing.{Parsing}
 use Rattle.granit_parser.specs.Recovering.{ReadsNext, notes_between, notes_over}
 use Rattle.granit_parser.specs.Sources.{TellsSource}
@@ -71,7 +73,26 @@ returns-clause-closed g c = λ calls closed at.
     closed_stays g.T.Input.unread c.args.self.now q calls closed at t.result
     (λ over. let x = t.ensures.over over in
     noted_none c.args.self.now t.new.self q t.result x.0 x.1 c.note.ensures.rest c.note.ensures.between
-    c.note.ensures.over c.note.ensures.given c.note.ensures.starved)
+    c.note.ensures.over c.note.ensures.answered c.note.ensures.given c.note.ensures.starved)
     (rw c.note.ensures.rest t.ensures.seen)
     (ap (λ (x : Parsing _). x.peeked) c.note.ensures.rest ∙ t.ensures.peeked)
     (c.note.ensures.over ∙ ap (notes_over t.result) t.ensures.going)
+
+pub returns-clause-held : goal.returns-clause-held
+returns-clause-held g c = λ calls f holds.
+    let unread = g.T.Input.unread in
+    let p = c.args.self.now in
+    let t = c.take_event-next in
+    let q = c.note.new.self in
+    let same = ap (λ (x : Parsing _). x.stepper) c.note.ensures.rest in
+    elim (t.ensures.waits calls.steps f holds.waits) [
+      | inl reads ↦ inl (waiting_gives unread p q calls f holds
+          (ap (λ (s : Stepping _). s.scanner.options) same ∙ t.ensures.options)
+          (ap (λ (s : Stepping _). s.renumbered) same ∙ t.ensures.renumbered) t.result
+          (subst (λ (s : Stepping _). ReadsHeld unread t.result s calls.steps f) (sym same) reads)
+          (ap (λ (x : Parsing _). x.peeked) c.note.ensures.rest ∙ t.ensures.peeked)
+          (c.note.ensures.between ∙ ap (notes_between t.result) t.ensures.between)
+          (c.note.ensures.over ∙ ap (notes_over t.result) t.ensures.going))
+      | inr told ↦ inr (subst (λ (s : Stepping _). TellsSource g.T.Input.origin t.result s.scanner.cursor) (sym same)
+          told)
+    ]

@@ -1,7 +1,10 @@
-use Rattle.std.proofs.Common.{◌≡◌, inl, Bool, true, false, not, ◌&&◌, is_some, ap, sym, ◌∙◌}
+use Rattle.std.proofs.Common.{◌≡◌, inl, inr, Bool, true, false, not, ◌&&◌, is_some, refl, ap, sym, ◌∙◌}
 use Rattle.std.proofs.lemmas.Result.{err_from_is_err_and}
-use Rattle.granit_parser.proofs.ProceedLemmas.{again_ends, answer_ends, gives_again, not_end, not_given_up}
-use Rattle.granit_parser.proofs.ProceedLemmas.{over_ends, refused_ends}
+use Rattle.granit_parser.proofs.HeldProceedLemmas.{answer_held, refused_held}
+use Rattle.granit_parser.proofs.HeldRecoverLemmas.{waits_going}
+use Rattle.granit_parser.proofs.NextLemmas.{noted_by}
+use Rattle.granit_parser.proofs.ProceedLemmas.{again_ends, answer_ends, failed_part, gives_again, is_end, not_end}
+use Rattle.granit_parser.proofs.ProceedLemmas.{not_given_up, over_ends, refused_ends}
 use Rattle.granit_parser.proofs.RecoverLemmas.{any_stops}
 use Rattle.granit_parser.proofs.parser.Parser.proceed.Goals as goal
 use Rattle.granit_parser.specs.Parsing.{Parsing}
@@ -61,3 +64,71 @@ returns-clause-known g c = λ calls reached at.
     c.answer.ensures.renumbered
     (c.answer.ensures.going ∙ c.in_ok-follows.ensures.going ∙ c.in_ok-skip.ensures.going ∙ open_there)
     c.in_ok-follows.ensures.known c.answer.ensures.known c.answer.ensures.answer c.answer.ensures.source
+
+pub returns-then-self-clause-answered : goal.returns-then-self-clause-answered
+returns-then-self-clause-answered g c =
+    inr (inl (sym (ap (λ (x : Parsing _). x.over) c.self.view_is) ∙ c.if-self.true))
+
+pub returns-then-ends_stream-clause-answered : goal.returns-then-ends_stream-clause-answered
+returns-then-ends_stream-clause-answered g c = inr (inr (is_end (spec.seen_in c.args.self.now.peeked)
+    (ap spec.ends_stream (sym c.seen.ensures) ∙ sym c.ends_stream.ensures ∙ c.if-ends_stream.true)))
+
+pub returns-clause-answered : goal.returns-clause-answered
+returns-clause-answered g c =
+    noted_by c.answer.new.self c.in_ok-follows.follows c.answer.result c.answer.ensures.answer c.answer.ensures.answered
+
+-- ---- where a refusal waits
+
+pub returns-then-self-clause-held : goal.returns-then-self-clause-held
+returns-then-self-clause-held g c = λ calls f holds going.
+    absurd (let no : true ≡ false = sym c.if-self.true ∙ ap (λ (x : Parsing _). x.over) c.self.view_is
+    ∙ holds.over ∙ going in cc)
+
+pub returns-then-cannot_recover-clause-held : goal.returns-then-cannot_recover-clause-held
+returns-then-cannot_recover-clause-held g c = λ calls f holds going.
+    let p = c.args.self.now in
+    let failed = failed_part p.stepper.failed (is_some p.stepper.refusal)
+    (sym c.cannot_recover.ensures ∙ c.if-cannot_recover.true) in
+    absurd (let no : true ≡ false = sym failed.0
+    ∙ waits_going g.T.Input.unread p.peeked p.stepper calls.steps f holds.waits in cc)
+
+pub returns-then-ends_stream-clause-held : goal.returns-then-ends_stream-clause-held
+returns-then-ends_stream-clause-held g c = λ calls f holds going.
+    inl (inl (inl (
+      is_end (spec.seen_in c.args.self.now.peeked)
+          (ap spec.ends_stream (sym c.seen.ensures) ∙ sym c.ends_stream.ensures ∙ c.if-ends_stream.true),
+      refl,
+      refl,
+    )))
+
+pub returns-in_err-follows-clause-held : goal.returns-in_err-follows-clause-held
+returns-in_err-follows-clause-held g c = λ calls f holds going.
+    let unread = g.T.Input.unread in
+    let p = c.args.self.now in
+    let e = c.in_err-follows.field-0.0 in
+    let end = not_end (spec.seen_in p.peeked) (ap spec.ends_stream (sym c.seen.ensures) ∙ sym c.ends_stream.ensures
+    ∙ c.if-ends_stream.false) in
+    let skipped = c.in_ok-skip.ensures in
+    let same = err_from_is_err_and c.from_residual-in_err-follows.result c.from_residual-in_err-follows.ensures.1 in
+    rw (same.1, same.2) (λ other. inl (refused_held unread p c.skip.new.self calls f holds going skipped.options
+    skipped.renumbered (skipped.looked (waits_going unread p.peeked p.stepper calls.steps f holds.waits))
+    (skipped.held calls f holds going end) c.follows.new.self e c.in_err-follows.ensures.options
+    c.in_err-follows.ensures.renumbered end c.in_err-follows.ensures.known c.in_err-follows.ensures.waits other))
+
+pub returns-clause-held : goal.returns-clause-held
+returns-clause-held g c = λ calls f holds going.
+    let unread = g.T.Input.unread in
+    let p = c.args.self.now in
+    let open_there : p.over ≡ false = sym (ap (λ (x : Parsing _). x.over) c.self.view_is) ∙ c.if-self.false in
+    let end = not_end (spec.seen_in p.peeked) (ap spec.ends_stream (sym c.seen.ensures) ∙ sym c.ends_stream.ensures
+    ∙ c.if-ends_stream.false) in
+    let skipped = c.in_ok-skip.ensures in
+    answer_held unread p c.skip.new.self calls f holds going skipped.options skipped.renumbered
+    (skipped.looked (waits_going unread p.peeked p.stepper calls.steps f holds.waits))
+    (skipped.held calls f holds going end) g.T.Input.origin c.follows.new.self c.answer.new.self
+    c.in_ok-follows.follows c.in_ok-follows.ensures.options c.in_ok-follows.ensures.renumbered
+    c.answer.ensures.options c.answer.ensures.renumbered
+    (c.answer.ensures.going ∙ c.in_ok-follows.ensures.going ∙ c.in_ok-skip.ensures.going ∙ open_there) end
+    (λ o. c.a_look_tells_where_recovery_asks.ensures.here o) (λ o. c.a_look_tells_where_recovery_asks.ensures.looked o)
+    c.in_ok-follows.ensures.known c.in_ok-follows.ensures.waits c.answer.result c.answer.ensures.known
+    c.answer.ensures.waits c.answer.ensures.answer c.answer.ensures.source

@@ -1,6 +1,7 @@
 use Rattle.std.proofs.Common.{◌≡◌, true, false, sym, ap, ◌∙◌, ◌||◌, arith, Option, is_some}
 use Rattle.granit_error.specs.Refused.{Refused}
 use Rattle.granit_parser.proofs.GoesLemmas.{stands_going}
+use Rattle.granit_parser.proofs.HeldLemmas.{waits_by, waits_kept}
 use Rattle.granit_parser.proofs.SourceLemmas.{ends_by, goes_by, known_by, lost_by, reads_by, reads_kept, source_by}
 use Rattle.granit_parser.proofs.SourceLemmas.{sure_by}
 use Rattle.granit_parser.proofs.parser.Parser.read_event.Goals as goal
@@ -90,3 +91,18 @@ returns-clause-moves g c =
           c.step_event-event.ensures.moves.1 c.take_source_error-error.ensures.origin c.take_source_error-error.result
           c.step_event-event.result c.take_source_error-error.ensures.given,
     )
+
+pub returns-then-has_failed-clause-waits : goal.returns-then-has_failed-clause-waits
+returns-then-has_failed-clause-waits g c = λ m f held.
+    absurd (let no : true ≡ false = sym c.if-has_failed.true ∙ c.has_failed.ensures ∙ held.going in cc)
+
+pub returns-clause-waits : goal.returns-clause-waits
+returns-clause-waits g c = λ m f held.
+    let error = c.take_source_error-error in
+    let event = c.step_event-event in
+    rw c.unless_failed.ensures (waits_by g.T.Input.unread g.T.Input.origin
+    c.args.self.now.stepper event.new.self.stepper error.new.self.stepper event.ensures.moves.1 error.ensures.origin
+    error.result event.result m f error.ensures.given error.ensures.place
+    (λ none. waits_kept g.T.Input.unread event.new.self.stepper error.new.self.stepper error.ensures.ahead
+    (error.ensures.failed ∙ ap (λ (e : Option Refused). event.new.self.stepper.failed || is_some e) none)
+    (λ m e at. error.ensures.refused m e at none) event.result m f) (event.ensures.waits m f held))

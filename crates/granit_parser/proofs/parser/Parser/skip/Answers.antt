@@ -1,8 +1,19 @@
-use Rattle.std.proofs.Common.{◌≡◌, true, false, not, ◌&&◌, ap, refl, sym, ◌∙◌}
+use Rattle.std.proofs.Common.{◌≡◌, ◌⊎◌, inl, Bool, true, false, not, ◌&&◌, is_some, None, ap, refl, sym, subst}
+use Rattle.std.proofs.Common.{◌∙◌}
+use Rattle.std.specs.Prelude.{OnOk}
+use Rattle.granit_parser.proofs.DropLemmas.{on_ok}
 use Rattle.granit_parser.proofs.DroppedLemmas.{document_dropped, end_dropped, fault_dropped, none_dropped}
+use Rattle.granit_parser.proofs.HeldRecoverLemmas as held
+use Rattle.granit_parser.proofs.HeldRecoverLemmas.{end_dropped as end_goes, looked_ok, waits_going, waits_there}
 use Rattle.granit_parser.proofs.parser.Parser.skip.Goals as goal
+use Rattle.granit_parser.specs.Holding.{FaultLacksNumber, held_behind, stays_seen}
 use Rattle.granit_parser.specs.Parsing.{Parsing}
 use Rattle.granit_parser.specs.Recovering as spec
+use Rattle.granit_parser.specs.Recovering.{IsOpen, SkipsWaiting, stays_by}
+use Rattle.granit_restart.specs.Skipping.{with_pending}
+use Rattle.granit_restart.specs.Turned.{Turned, turned_with}
+use Rattle.granit_stepper.specs.Holding.{HoldsFault, SkipsHeld, held_skip}
+use Rattle.granit_stepper.specs.Stepping.{Stepping}
 
 pub returns-then-has_failed-clause-known : goal.returns-then-has_failed-clause-known
 returns-then-has_failed-clause-known g c = λ calls reached at over refusal end.
@@ -17,6 +28,7 @@ returns-then-has_failed-clause-known g c = λ calls reached at over refusal end.
       starved = c.self.inside.starved;
       between = c.self.inside.between;
       over = c.self.inside.over;
+      answered = c.self.inside.answered;
     })
     c.skip_fault.ensures.options (ap (λ (x : Parsing _). x.peeked) same) c.skip_fault.result c.skip_fault.ensures.first
     (sym c.has_failed.ensures ∙ c.if-has_failed.true) c.skip_fault.ensures.known
@@ -56,6 +68,7 @@ returns-clause-known g c = λ calls reached at over refusal end.
       starved = c.self-2.inside.starved;
       between = c.self-2.inside.between;
       over = c.self-2.inside.over;
+      answered = c.self-2.inside.answered;
     }) c.skip_document.ensures.options (ap (λ (x : Parsing _). x.peeked) same)
     c.skip_document.result c.skip_document.ensures.first (c.a_look_tells_where_recovery_asks.ensures.looked o)
     (sym c.has_failed.ensures ∙ c.if-has_failed.false)
@@ -63,3 +76,106 @@ returns-clause-known g c = λ calls reached at over refusal end.
     ∙ sym c.stays.ensures ∙ c.if-stays.false)
     (ap spec.seen_ends_document (sym c.seen-seen.ensures) ∙ sym c.ends.ensures ∙ c.if-ends.false) end
     c.skip_document.ensures.known
+
+pub returns-then-has_failed-clause-held : goal.returns-then-has_failed-clause-held
+returns-then-has_failed-clause-held g c = λ calls f holds going end.
+    let p = c.args.self.now in
+    absurd (let no : true ≡ false = sym c.if-has_failed.true ∙ c.has_failed.ensures
+    ∙ waits_going g.T.Input.unread p.peeked p.stepper calls.steps f holds.waits in cc)
+
+pub returns-then-has_failed-clause-looked : goal.returns-then-has_failed-clause-looked
+returns-then-has_failed-clause-looked g c = λ going.
+    absurd (let no : true ≡ false = sym c.if-has_failed.true ∙ c.has_failed.ensures ∙ going in cc)
+
+pub returns-then-stays-clause-held : goal.returns-then-stays-clause-held
+returns-then-stays-clause-held g c = λ calls f holds going end.
+    let unread = g.T.Input.unread in
+    let p = c.args.self.now in
+    let stays : stays_by p.between p.peeked ≡ true =
+    ap (λ s. p.between && not (spec.seen_starts_document s)) (sym c.seen-seen.ensures)
+    ∙ sym c.stays.ensures ∙ c.if-stays.true in
+    inl (subst (λ (b : Bool). SkipsWaiting unread p.stepper.scanner.cursor (is_some p.peeked) f
+    (held_behind b f calls.steps) p) (sym stays) holds.waits)
+
+pub returns-then-stays-clause-looked : goal.returns-then-stays-clause-looked
+returns-then-stays-clause-looked g c = λ going.
+    let p = c.args.self.now in
+    let stays : stays_by p.between p.peeked ≡ true =
+    ap (λ s. p.between && not (spec.seen_starts_document s)) (sym c.seen-seen.ensures)
+    ∙ sym c.stays.ensures ∙ c.if-stays.true in
+    ap (λ (b : Bool). stays_seen b p.peeked) (sym stays)
+
+pub returns-then-ends-clause-held : goal.returns-then-ends-clause-held
+returns-then-ends-clause-held g c = λ calls f holds going end.
+    let unread = g.T.Input.unread in
+    let p = c.args.self.now in
+    let q = c.forget.new.self in
+    let stays : stays_by p.between p.peeked ≡ false =
+    ap (λ s. p.between && not (spec.seen_starts_document s)) (sym c.seen-seen.ensures)
+    ∙ sym c.stays.ensures ∙ c.if-stays.false in
+    inl (subst (λ (b : Bool). SkipsWaiting unread p.stepper.scanner.cursor (is_some p.peeked) f
+    (held_behind b f calls.steps) q) (sym stays)
+    (end_goes unread p.stepper.scanner.cursor (is_some p.peeked) p.peeked p.stepper q calls.steps f
+    (ap (λ (x : Parsing _). x.stepper) c.forget.ensures) (ap (λ (x : Parsing _). x.peeked) c.forget.ensures)
+    (ap spec.seen_ends_document (sym c.seen-seen.ensures) ∙ sym c.ends.ensures ∙ c.if-ends.true) holds.waits))
+
+pub returns-then-ends-clause-looked : goal.returns-then-ends-clause-looked
+returns-then-ends-clause-looked g c = λ going.
+    let p = c.args.self.now in
+    let stays : stays_by p.between p.peeked ≡ false =
+    ap (λ s. p.between && not (spec.seen_starts_document s)) (sym c.seen-seen.ensures)
+    ∙ sym c.stays.ensures ∙ c.if-stays.false in
+    ap (λ (x : Parsing _). x.peeked) c.forget.ensures ∙ ap (λ (b : Bool). stays_seen b p.peeked) (sym stays)
+
+pub returns-clause-held : goal.returns-clause-held
+returns-clause-held g c = λ calls f holds going end.
+    let unread = g.T.Input.unread in
+    let p = c.args.self.now in
+    let o = p.stepper.scanner.options in
+    let same = c.self-2.view_is ∙ c.forget.ensures in
+    let stepper : c.self-2.inside.stepper ≡ p.stepper = ap (λ (x : Parsing _). x.stepper) same in
+    let none : c.self-2.inside.peeked ≡ None = ap (λ (x : Parsing _). x.peeked) same in
+    let q : Parsing _ = record {
+      stepper = c.skip_document.new.self;
+      peeked = c.self-2.inside.peeked;
+      given = c.self-2.inside.given;
+      starved = c.self-2.inside.starved;
+      between = c.self-2.inside.between;
+      over = c.self-2.inside.over;
+      answered = c.self-2.inside.answered;
+    } in
+    let stays : stays_by p.between p.peeked ≡ false =
+    ap (λ s. p.between && not (spec.seen_starts_document s)) (sym c.seen-seen.ensures)
+    ∙ sym c.stays.ensures ∙ c.if-stays.false in
+    let open_calls : IsOpen calls = record { over = going; fault = holds.fault; refusal = holds.refusal } in
+    let there = waits_there unread p.peeked p.stepper calls.steps f
+    (ap spec.seen_ends_document (sym c.seen-seen.ensures) ∙ sym c.ends.ensures ∙ c.if-ends.false) end holds.waits in
+    let turned = held.held_turned p.stepper.renumbered o calls f open_calls holds.fails c.calls_go_by_turns.ensures in
+    let options : q.stepper.scanner.options ≡ o =
+    c.skip_document.ensures.options ∙ ap (λ (s : Stepping _). s.scanner.options) stepper in
+    let skips = subst (λ (s : Stepping _). Turned s.scanner.options (with_pending there.waiting calls.steps)
+    → OnOk c.skip_document.result (SkipsHeld unread s.scanner.options s.scanner.cursor f
+    (held_skip f (with_pending there.waiting calls.steps)) q.stepper)) stepper
+    (c.skip_document.ensures.held (with_pending there.waiting calls.steps) f
+    (subst (λ (s : Stepping _). HoldsFault unread s (with_pending there.waiting calls.steps) f) (sym stepper)
+    there.holds)) (turned_with there.waiting turned) in
+    on_ok c.skip_document.result skips c.skip_document.ensures.first
+    (SkipsWaiting unread p.stepper.scanner.cursor (is_some p.peeked) f
+    (held_behind (stays_by p.between p.peeked) f calls.steps) q
+    ⊎ FaultLacksNumber p.stepper.renumbered o calls f)
+    (λ goes first. subst (λ (b : Bool). SkipsWaiting unread p.stepper.scanner.cursor (is_some p.peeked) f
+    (held_behind b f calls.steps) q ⊎ FaultLacksNumber p.stepper.renumbered o calls f) (sym stays)
+    (held.document_dropped p.stepper.renumbered o calls f open_calls holds.fails unread p.stepper.scanner.cursor
+    (is_some p.peeked) q options none (c.a_look_tells_where_recovery_asks.ensures.here o)
+    (c.calls_go_by_turns.ensures o)
+    (subst (λ x. SkipsHeld unread o p.stepper.scanner.cursor f x q.stepper) there.alike goes) first))
+
+pub returns-clause-looked : goal.returns-clause-looked
+returns-clause-looked g c = λ going.
+    let p = c.args.self.now in
+    let same = c.self-2.view_is ∙ c.forget.ensures in
+    let stays : stays_by p.between p.peeked ≡ false =
+    ap (λ s. p.between && not (spec.seen_starts_document s)) (sym c.seen-seen.ensures)
+    ∙ sym c.stays.ensures ∙ c.if-stays.false in
+    looked_ok c.skip_document.result (ap (λ (x : Parsing _). x.peeked) same
+    ∙ ap (λ (b : Bool). stays_seen b p.peeked) (sym stays))

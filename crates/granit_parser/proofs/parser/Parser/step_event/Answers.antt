@@ -1,9 +1,11 @@
 use Rattle.std.proofs.Common.{refl, ap, subst, sym, ◌∙◌}
 use Rattle.granit_parser.proofs.GoesLemmas.{ends_view, gives_view, goes_reads, lost_view}
+use Rattle.granit_parser.proofs.HeldLemmas.{held_view}
 use Rattle.granit_parser.proofs.parser.Parser.step_event.Goals as goal
 use Rattle.granit_parser.specs.Parsing.{Parsing, next_view}
 use Rattle.granit_parser.specs.Recovering.{GoesWithCalls}
 use Rattle.granit_recovery.specs.Streams.{ReachedByCalls}
+use Rattle.granit_stepper.specs.Holding.{HoldsFault}
 use Rattle.granit_stepper.specs.Stepping.{StandsIn}
 
 pub returns-clause-known : goal.returns-clause-known
@@ -35,3 +37,9 @@ pub returns-clause-over : goal.returns-clause-over
 returns-clause-over g c = λ failed.
     let over = c.next_event.ensures.over (ap (λ (p : Parsing _). p.stepper.failed) c.self.view_is ∙ failed) in
     (c.next_of.ensures ∙ ap next_view over.0, rw (← c.self.view_is, over.1) refl)
+
+pub returns-clause-waits : goal.returns-clause-waits
+returns-clause-waits g c = λ m f held. rw c.next_of.ensures
+    (held_view g.T.Input.unread c.next_event.result c.next_event.new.self m f c.next_event.ensures.failed
+    (c.next_event.ensures.held m f
+    (subst (λ (p : Parsing _). HoldsFault g.T.Input.unread p.stepper m f) (sym c.self.view_is) held)))

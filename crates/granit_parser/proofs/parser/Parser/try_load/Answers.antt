@@ -8,7 +8,8 @@ use Rattle.granit_parser.proofs.FirstLemmas.{first_is_last, first_is_refused, go
 use Rattle.granit_parser.proofs.FirstLemmas.{try_refused}
 use Rattle.granit_parser.proofs.LedLemmas.{first_led, leaves_behind, try_failed, over_closed, unasked}
 use Rattle.granit_parser.proofs.MetLemmas.{try_tells, over_tells, rest_tells}
-use Rattle.granit_parser.proofs.WantLemmas.{given_nothing, try_wants, wants_behind, was_fed}
+use Rattle.granit_parser.proofs.WantLemmas.{given_nothing, try_refuses, try_wants, unless_refused, wants_behind}
+use Rattle.granit_parser.proofs.WantLemmas.{was_fed}
 use Rattle.granit_parser.proofs.parser.Parser.try_load.Goals as goal
 use Rattle.granit_parser.specs.Receiving.{IsPlaceOf, TriesRest, scanned}
 use Rattle.granit_receivers.specs.Sending.{is_last}
@@ -184,3 +185,13 @@ returns-in-Err-clause-memory g c = λ none. (
   was_fed c.args.self.now.given c.args.self.now.starved c.given_again.ensures.starved none,
   tt,
 )
+
+pub returns-in_err-event-clause-answered : goal.returns-in_err-event-clause-answered
+returns-in_err-event-clause-answered g c = λ calls reached is at.
+    try_refuses (c.first_event.new.self.answered ≡ false) c.in_err-event.field-0.0 c.from_residual.result
+    c.from_residual.ensures.1
+
+pub returns-clause-answered : goal.returns-clause-answered
+returns-clause-answered g c = λ calls reached is at.
+    unless_refused (c.first_event.new.self.answered ≡ false) (c.try_rest.new.self.answered ≡ false)
+    (scanned c.try_rest.result) c.try_rest.ensures.answered (c.in_ok-event.ensures.answered calls reached is at)

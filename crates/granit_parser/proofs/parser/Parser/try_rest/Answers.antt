@@ -11,7 +11,7 @@ use Rattle.granit_parser.proofs.SendLemmas.{TookOr, sent_none, sent_event, sent_
 use Rattle.granit_parser.proofs.SendLemmas.{sent_no_more}
 use Rattle.granit_parser.proofs.SendLemmas.{sent_refused}
 use Rattle.granit_parser.proofs.SourceLemmas.{goes_giving, moves_behind}
-use Rattle.granit_parser.proofs.WantLemmas.{counts_all, counts_more, counts_none, starves_by}
+use Rattle.granit_parser.proofs.WantLemmas.{answered_none, counts_all, counts_more, counts_none, starves_by}
 use Rattle.granit_parser.proofs.parser.Parser.try_rest.Goals as goal
 use Rattle.granit_parser.specs.Parsing.{KeepsGiven}
 use Rattle.granit_receivers.specs.Sending.{is_last}
@@ -30,6 +30,7 @@ events-init g c = let r = g.R.TrySpannedEventReceiver in record {
   given = refl;
   errors = refl;
   moves = search rules;
+  answered = λ unasked. unasked;
   quiet = λ none. quiet_first g.T.Input.origin c.args.self.now none;
 }
 
@@ -113,6 +114,9 @@ events-preserved g c =
           c.args.self.now.stepper.scanner.cursor c.events.self c.next_event.new.self (ap Some c.in-Some-Ok.field-0-is)
           c.in-Some-Ok.ensures.seen c.in-Some-Ok.ensures.moves c.events.invariant.moves in
           (more.0, more.1, λ start before. c.in-Some-Ok.ensures.onward start (c.events.invariant.moves.2 start before));
+      answered = λ unasked.
+          answered_none c.in-Some-Ok.field-0 x c.events.self.answered c.next_event.new.self.answered
+          c.in-Some-Ok.field-0-is c.in-Some-Ok.ensures.answered;
       quiet = quiet_on g.T.Input.unread g.T.Input.left g.T.Input.origin
           c.args.self.now c.events.self c.next_event.new.self
           c.events.invariant.quiet c.events.invariant.moves (Some c.in-Some-Ok.field-0) x
@@ -265,3 +269,16 @@ returns-clause-memory g c =
     let mid : Told = record { events = r.taken c.events.recv; places = r.spans c.events.recv } in
     let all = c.events-test.false in
     λ wants. inr (counts_all c.events._tried old mid c.events.invariant.counted (omega arith))
+
+pub returns-in-None-clause-answered : goal.returns-in-None-clause-answered
+returns-in-None-clause-answered g c = λ unasked. c.in-None.ensures.answered ∙ c.events.invariant.answered unasked
+
+pub returns-then-last-clause-answered : goal.returns-then-last-clause-answered
+returns-then-last-clause-answered g c = λ unasked.
+    answered_none c.in-Some-Ok.field-0 (c.in-Some-Ok.event, c.in-Some-Ok.span) c.events.self.answered
+    c.next_event.new.self.answered c.in-Some-Ok.field-0-is c.in-Some-Ok.ensures.answered
+
+pub returns-in-Err-clause-answered : goal.returns-in-Err-clause-answered
+returns-in-Err-clause-answered g c = λ unasked.
+    answered_none c.in-Some-Ok.field-0 (c.in-Some-Ok.event, c.in-Some-Ok.span) c.events.self.answered
+    c.next_event.new.self.answered c.in-Some-Ok.field-0-is c.in-Some-Ok.ensures.answered

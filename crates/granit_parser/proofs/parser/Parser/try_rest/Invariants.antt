@@ -1,4 +1,4 @@
-use Rattle.std.proofs.Common.{◌≡◌, None}
+use Rattle.std.proofs.Common.{◌≡◌, None, false}
 use Rattle.granit_cursor.specs.Reading.{Moves}
 use Rattle.granit_parser.proofs.LedLemmas.{LedFirst}
 use Rattle.granit_parser.proofs.MetLemmas.{Quiet}
@@ -37,5 +37,6 @@ invariant-events g l = record {
   errors : g.R.TrySpannedEventReceiver.errors l.recv ≡ g.R.TrySpannedEventReceiver.errors l.fn.recv;
   moves : Moves g.T.Input.unread g.T.Input.left g.T.Input.origin l.fn.self.stepper.scanner.cursor
       l.self.stepper.scanner.cursor;
+  answered : l.fn.self.answered ≡ false → l.self.answered ≡ false;
   quiet : l.fn.self.peeked ≡ None → Quiet g.T.Input.origin l.fn.self l.self;
 }

@@ -4,9 +4,10 @@ use Rattle.granit_error.specs.Refused.{Refused}
 use Rattle.granit_refused.specs.Answered.{why}
 use Rattle.granit_lexemes.specs.Outcome.{Fails}
 use Rattle.granit_stepper.specs.Numbers.{RefusesNumber}
-use Rattle.granit_stepper.specs.Refusals.{RefusedIn, RefusesLater, SettlesAhead}
+use Rattle.granit_stepper.specs.Refusals.{RefusedIn, RefusesLater, SettlesAhead, StandsRefused}
 use Rattle.granit_stepper.specs.Stepping.{Stepping, StandsIn, no_events}
 use Rattle.granit_stepper.proofs.AheadLemmas.{error_other, gives_error, gives_event}
+use Rattle.granit_stepper.proofs.HoldingLemmas.{held_error, held_event, held_same}
 use Rattle.granit_stepper.proofs.RefusalLemmas.{refused_failed}
 use Rattle.granit_stepper.proofs.StateLemmas.{gives_next, next_fails}
 use Rattle.granit_stepper.proofs.stepper.Stepper.later_event.Goals as goal
@@ -80,3 +81,33 @@ returns-clause-ahead g c = λ m h.
     let other = error_other unread c.args.self.now m h c.settle.new.self e given in
     let is = gives_error unread c.args.self.now m h c.settle.new.self e given in
     (is.0, subst (λ (s : Stepping g.row.T.Denot). RefusedIn unread s m e) (sym (c.fail.ensures.kept other)) is.1)
+
+pub returns-in-Ok-clause-held : goal.returns-in-Ok-clause-held
+returns-in-Ok-clause-held g c = λ m e h.
+    let inside : Stepping g.row.T.Denot = record {
+      scanner = c.self.inside.scanner;
+      parser = c.self.inside.parser;
+      first = c.self.inside.first;
+      failed = c.self.inside.failed;
+      renumbered = c.self.inside.renumbered;
+      ahead = c.self.inside.ahead;
+      refusal = c.self.inside.refusal;
+    } in
+    let given = subst (λ (s : Stepping g.row.T.Denot). SettlesAhead (Ok c.in-Ok.field-0) c.args.self.now s)
+    (sym c.self.view_is) c.in-Ok.ensures.ahead in
+    held_event g.T.Input.unread c.args.self.now m e h inside c.in-Ok.field-0 c.pop_event.result
+    c.pop_event.new.self given c.pop_event.ensures.first c.pop_event.ensures.rest
+
+pub returns-clause-held : goal.returns-clause-held
+returns-clause-held g c = λ m e h.
+    let unread = g.T.Input.unread in
+    let f = c.error_of-error.result in
+    let given = subst (λ (f : Refused). SettlesAhead (Err f) c.args.self.now c.settle.new.self)
+    (sym c.error_of-error.ensures) c.in-Err.ensures.ahead in
+    let same = held_same unread c.args.self.now m e h c.settle.new.self f given in
+    let is = held_error unread c.args.self.now m e h c.settle.new.self f given in (
+      is.0,
+      same,
+      subst (λ (s : Stepping g.row.T.Denot). StandsRefused unread s m e)
+          (sym (c.fail.ensures.kept (λ memory. h.other (sym (ap (λ (f : Refused). f.kind) same) ∙ memory)))) is.1,
+    )

@@ -22,3 +22,12 @@ returns-clause-known g c = λ m going fails.
     let e = c.args.error in
     let refused = fails (not_memory e.kind (sym c.wants_memory.ensures ∙ c.if-wants_memory.false)) in
     (sym (c.in_ok-ends_before.ensures.known m e refused.stands) ∙ c.if-branch.false, refused)
+
+pub returns-then-branch-clause-held : goal.returns-then-branch-clause-held
+returns-then-branch-clause-held g c = λ m stands. rw c.hold.ensures (
+  sym (c.in_ok-ends_before.ensures.known m c.args.error stands) ∙ c.if-branch.true,
+  refl,
+)
+
+pub returns-clause-held : goal.returns-clause-held
+returns-clause-held g c = λ m stands. sym (c.in_ok-ends_before.ensures.known m c.args.error stands) ∙ c.if-branch.false

@@ -1,5 +1,6 @@
-use Rattle.std.proofs.Common.{◌≡◌, None}
+use Rattle.std.proofs.Common.{◌≡◌, None, Some}
 use Rattle.granit_cursor.specs.Reading.{Moves}
+use Rattle.granit_error.specs.Refused.{Refused}
 use Rattle.granit_restart.specs.Turned.{Turned}
 use Rattle.granit_stepper.proofs.PassLemmas.{SkipsAlong}
 use Rattle.granit_stepper.specs.Refusals.{StandsAhead}
@@ -10,6 +11,7 @@ abbrev pub invariant-turns : goal.invariant-turns
 invariant-turns g l = record {
   along : (m : StepState) → StandsAhead g.T.Input.unread l.fn.self m → Turned l.fn.self.scanner.options m
       → SkipsAlong g.T.Input.unread l.fn.self.scanner.options l.self m;
+  held : (f : Refused) → l.fn.self.ahead ≡ Some f → l.self ≡ record (l.fn.self) { first = None };
   told : l.self.first ≡ None;
   options : l.self.scanner.options ≡ l.fn.self.scanner.options;
   renumbered : l.self.renumbered ≡ l.fn.self.renumbered;

@@ -1,9 +1,11 @@
-use Rattle.std.proofs.Common.{◌≡◌, Bool, true, false, inl, sym, subst}
+use Rattle.std.proofs.Common.{◌≡◌, Bool, true, false, inl, refl, sym, subst}
 use Rattle.std.proofs.lemmas.Result.{on_ok_weaker}
 use Rattle.granit_error.specs.OptionsData.{OptionsData}
 use Rattle.granit_restart.specs.Turned.{Turned}
 use Rattle.granit_stepper.proofs.FaultLemmas.{document_failed}
+use Rattle.granit_stepper.proofs.HoldingLemmas.{skips_behind, skips_passed}
 use Rattle.granit_stepper.proofs.SkipLemmas.{drops_turned}
+use Rattle.granit_stepper.specs.Holding.{held_skip}
 use Rattle.granit_stepper.specs.Recovering.{Skips, SkipsFault}
 use Rattle.granit_stepper.proofs.stepper.Stepper.skip_document.Goals as goal
 
@@ -30,3 +32,16 @@ returns-else-branch-clause-known g c = λ m stands turned.
     (subst (λ (p : OptionsData). SkipsFault g.T.Input.unread p mid.scanner.cursor given.1 new given.0)
     c.in_ok-pass_document.ensures.options fault))
     (c.skip_fault.ensures.known given.0 given.1 given.4.stands behind)
+
+pub returns-then-branch-clause-held : goal.returns-then-branch-clause-held
+returns-then-branch-clause-held g c = λ m e h turned.
+    let old = c.args.self.now in
+    skips_passed g.T.Input.unread old.scanner.options old c.pass_document.new.self c.pass_document.new.self m e
+    (held_skip e m) c.in_ok-pass_document.field-0 c.if-branch.true (c.in_ok-pass_document.ensures.held m e h)
+
+pub returns-else-branch-clause-held : goal.returns-else-branch-clause-held
+returns-else-branch-clause-held g c = λ m e h turned.
+    let old = c.args.self.now in
+    skips_behind g.T.Input.unread old.scanner.options old c.pass_document.new.self c.skip_fault.new.self m e
+    c.skip_fault.result (held_skip e m) c.in_ok-pass_document.field-0 refl c.if-branch.false
+    (c.in_ok-pass_document.ensures.held m e h) c.in_ok-pass_document.ensures.options turned c.skip_fault.ensures.known
