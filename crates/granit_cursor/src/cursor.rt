@@ -547,6 +547,7 @@ impl<T: Input> Cursor<T> {
     }
 
     /// The same where mostly one stands here.
+    #[inline(always)]
     fn skip_blanks(&mut self) -> usize
         ensures here { Wherever T.unread self.old self.new (λ h Lands. StepsRun (starts is_blank) h result Lands) }
         ensures takes { Takes T.left T.window self.old self.new result }

@@ -57,6 +57,7 @@ pub fn past_run(s: &str, run: Run, limit: usize) -> (bool, usize, &str)
 }
 
 /// What follows characters of ASCII that a run takes, at most `limit`, behind how many these are.
+#[inline(always)]
 fn past_ascii(s: &str, run: Run, limit: usize) -> (usize, &str)
     ensures front { FrontOf (run_test run) (chars s.now) result.0 }
     ensures limit { result.0 ≤ limit }

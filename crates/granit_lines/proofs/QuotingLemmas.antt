@@ -1,18 +1,42 @@
 -- What stands for itself between quotes.
-use Rattle.std.proofs.Common.{◌≡◌, ℕ, suc, ◌+◌, ◌-◌, ◌<◌, ◌≤◌, true, false, List, [], ◌∷◌, ◌++◌, length, take, drop}
-use Rattle.std.proofs.Common.{get_or, refl, sym, ap, ap₂, subst, ◌∙◌, arith, length-append}
+use Rattle.std.proofs.Common.{◌≡◌, ℕ, suc, ◌+◌, ◌-◌, ◌<◌, ◌≤◌, Bool, true, false, List, [], ◌∷◌, ◌++◌, length, take}
+use Rattle.std.proofs.Common.{drop, map, get_or, refl, sym, ap, ap₂, subst, ◌∙◌, arith, length-append}
 use Rattle.std.proofs.Common.{take-append-drop}
 use Rattle.std.specs.Prelude.{nat_le, ◌==◌, ◌&&◌, ◌||◌}
-use Rattle.std.specs.List.{All}
+use Rattle.std.specs.List.{All, range_with_len}
 use Rattle.std.specs.Str.{chars, IsAscii, IsUtf8, IsCharBoundary}
 use Rattle.std.proofs.lemmas.Bool.Decides.{nat_tests}
 use Rattle.std.proofs.lemmas.Grind.{flat_map-append}
 use Rattle.std.proofs.lemmas.List.{take_more}
 use Rattle.std.proofs.lemmas.List.Elements.{All-push}
+use Rattle.std.proofs.lemmas.List.FromFn.{get_or-map-range_with_len}
 use Rattle.std.proofs.lemmas.Str.{chars-append, chars-IsAscii, IsCharBoundary-from_take, IsUtf8-from_ascii}
 use Rattle.std.proofs.lemmas.Str.Ascii.{IsAscii-from_all}
 use Rattle.granit_lexemes.specs.Line.{quoted_char, quoted_line_text}
 use Rattle.granit_lines.specs.Pieces.{is_plain}
+use Rattle.granit_lines.specs.declared.quoting.TheConstants.{PLAIN}
+
+-- ---- the table
+
+abbrev mark_if : Bool → ℕ
+mark_if true = 0x31
+mark_if false = 0x30
+
+all_plain : PLAIN ≡ map (λ (b : ℕ). mark_if (is_plain b)) (range_with_len 0 256)
+all_plain = refl
+
+is_marked : (plain : Bool) → (mark_if plain == 0x31) ≡ plain
+is_marked true = refl
+is_marked false = refl
+
+pub plain_at : (b : ℕ) → b < 256 → (get_or PLAIN b 0 == 0x31) ≡ is_plain b
+plain_at b small =
+    ap (λ (bs : List ℕ). get_or bs b 0 == 0x31) all_plain
+    ∙ ap (λ (n : ℕ). n == 0x31)
+    (get_or-map-range_with_len (λ (c : ℕ). mark_if (is_plain c)) 0 256 b b 0 small (omega arith))
+    ∙ is_marked (is_plain b)
+
+-- ---- what stands in front of a text
 
 -- one more plain byte
 pub plain_more : (bs : List ℕ) (n : ℕ) → n < length bs → All (λ b. is_plain b ≡ true) (take n bs)

@@ -1,5 +1,5 @@
 //! Printed parts of lines, at the end of a buffer.
-ghost use Rattle.std.specs.Prelude.{◌≡◌, ◌++◌, codes, OnOk};
+ghost use Rattle.std.specs.Prelude.{◌≡◌, ◌++◌, codes, Some, OnOk};
 ghost use Rattle.std.specs.Fmt.{decimal};
 ghost use Rattle.std.specs.Option.{option_map};
 ghost use Rattle.std.specs.Str.{chars};
@@ -28,16 +28,17 @@ fn push_number(out: &mut Vec<u8>, n: usize) -> Result<(), NoMemory>
     push_word(out, digits.format(n))
 }
 
-/// What stands in front of a scalar's text.
-fn scalar_words(style: ScalarStyle) -> &'static str
-    ensures { result.now ≡ (codes "Scalar " ++ line.style_word style) ++ codes " " }
+/// What stands in front of a scalar's text; words whose length is known are stored at once.
+fn push_scalar_words(out: &mut Vec<u8>, style: ScalarStyle) -> Result<(), NoMemory>
+    ensures { OnOk result (out.new.items
+        ≡ out.old.items ++ ((codes "Scalar " ++ line.style_word style) ++ codes " ")) }
 {
     match style {
-        ScalarStyle::Plain => "Scalar plain ",
-        ScalarStyle::SingleQuoted => "Scalar single ",
-        ScalarStyle::DoubleQuoted => "Scalar double ",
-        ScalarStyle::Literal => "Scalar literal ",
-        ScalarStyle::Folded => "Scalar folded ",
+        ScalarStyle::Plain => push_word(out, "Scalar plain "),
+        ScalarStyle::SingleQuoted => push_word(out, "Scalar single "),
+        ScalarStyle::DoubleQuoted => push_word(out, "Scalar double "),
+        ScalarStyle::Literal => push_word(out, "Scalar literal "),
+        ScalarStyle::Folded => push_word(out, "Scalar folded "),
     }
 }
 
@@ -104,17 +105,24 @@ fn push_anchor(out: &mut Vec<u8>, anchor: usize) -> Result<(), NoMemory>
 }
 
 /// A node's tag, where it has one.
-#[inline(never)]
+#[inline(always)]
 fn push_tag(out: &mut Vec<u8>, tag: &Option<Tag>) -> Result<(), NoMemory>
     ensures { OnOk result (out.new.items ≡ out.old.items ++ line.tag_words tag.now) }
 {
-    if let Some(tag) = tag {
-        push_word(out, " !")?;
-        push_in_quotes(out, tag.handle())?;
-        push_word(out, " ")?;
-        push_in_quotes(out, tag.suffix())?;
+    match tag {
+        None => Ok(()),
+        Some(tag) => push_tag_words(out, tag),
     }
-    Ok(())
+}
+
+#[inline(never)]
+fn push_tag_words(out: &mut Vec<u8>, tag: &Tag) -> Result<(), NoMemory>
+    ensures { OnOk result (out.new.items ≡ out.old.items ++ line.tag_words (Some tag.now)) }
+{
+    push_word(out, " !")?;
+    push_in_quotes(out, tag.handle())?;
+    push_word(out, " ")?;
+    push_in_quotes(out, tag.suffix())
 }
 
 /// The anchor and the tag of a node, where it has them.
@@ -136,7 +144,7 @@ fn push_scalar(
     ensures { OnOk result (out.new.items
         ≡ out.old.items ++ line.event_words (plain.Scalar text.now style anchor tag.now)) }
 {
-    push_word(out, scalar_words(style))?;
+    push_scalar_words(out, style)?;
     push_in_quotes(out, text.as_str())?;
     push_properties(out, anchor, tag)
 }

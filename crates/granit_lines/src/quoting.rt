@@ -61,10 +61,16 @@ fn plain_len(bytes: &[u8]) -> usize
     count
 }
 
+/// Of each byte `1` where it stands for itself: one look is less than the tests of a byte.
+static PLAIN: [u8; 256] = *b"0000000000000000000000000000000011011111111111111111111111111111\
+    1111111111111111111111111111011111111111111111111111111111111110\
+    0000000000000000000000000000000000000000000000000000000000000000\
+    0000000000000000000000000000000000000000000000000000000000000000";
+
 fn is_plain_byte(byte: u8) -> bool
     ensures { result ≡ is_plain byte }
 {
-    matches!(byte, b' '..=b'~') && byte != b'"' && byte != b'\\'
+    PLAIN[byte as usize] == b'1'
 }
 
 /// A character between quotes.

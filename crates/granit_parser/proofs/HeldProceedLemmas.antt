@@ -332,6 +332,7 @@ module _ {I : Type 0} (unread : I → Unread → Type 0) where
   module _ (origin : I → Origin) (old p q : Parsing I) (r : Result Bool Refused) (c : Calls) (f : Fault)
       (going : c.over ≡ false) (onward : GoesOnward unread old.stepper.scanner.cursor p.stepper.scanner.cursor)
       (same : p.stepper.scanner.options ≡ old.stepper.scanner.options)
+      (number : p.stepper.renumbered ≡ old.stepper.renumbered)
       (options : q.stepper.scanner.options ≡ p.stepper.scanner.options)
       (renumbered : q.stepper.renumbered ≡ p.stepper.renumbered)
       (known : (d : Calls) → ReachedByCalls p.stepper.scanner.options d → ParserIn unread p d
@@ -347,6 +348,7 @@ module _ {I : Type 0} (unread : I → Unread → Type 0) where
       p,
       onward,
       same,
+      number,
       subst (λ (w : Next). ProceedsHeldShown unread w r p q c f) (sym is) shown,
     )
 

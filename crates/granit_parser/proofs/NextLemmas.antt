@@ -139,6 +139,8 @@ module _ {I : Type 0} (unread : I → Unread → Type 0) where
 
   module _ (origin : I → Origin) (old p new : Parsing I) (r : Result Bool Refused)
       (onward : GoesOnward unread old.stepper.scanner.cursor p.stepper.scanner.cursor)
+      (same : p.stepper.scanner.options ≡ old.stepper.scanner.options)
+      (number : p.stepper.renumbered ≡ old.stepper.renumbered)
       (options : new.stepper.scanner.options ≡ p.stepper.scanner.options)
       (renumbered : new.stepper.renumbered ≡ p.stepper.renumbered) where
     abbrev GoesOr : Type 0 → Type 0
@@ -187,6 +189,8 @@ module _ {I : Type 0} (unread : I → Unread → Type 0) where
         then (λ g. inl (
           p,
           onward,
+          same,
+          number,
           subst (λ (w : Next). ProceedsShown unread w r p new c) (sym is) (m, (fails, inl (next, at)), g),
         ))
         (goes d (failed_reached p.stepper.scanner.options m e c opened reached next at) stands)
@@ -199,7 +203,13 @@ module _ {I : Type 0} (unread : I → Unread → Type 0) where
         → GoesOr (ProceedsNext unread r old new c)
     by_shown None is goes seen c reached opened shows = absurd shows
     by_shown (Some (Ok x)) is goes seen c reached opened shows =
-        then (λ g. inl (p, onward, subst (λ (w : Next). ProceedsShown unread w r p new c) (sym is) (shows.1, g)))
+        then (λ g. inl (
+          p,
+          onward,
+          same,
+          number,
+          subst (λ (w : Next). ProceedsShown unread w r p new c) (sym is) (shows.1, g),
+        ))
         (goes c reached shows.0)
     by_shown (Some (Err e)) is goes seen c reached opened (inl look) =
         starved _ r e look (seen look.failed look.refusal look.given)

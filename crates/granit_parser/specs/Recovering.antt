@@ -334,12 +334,13 @@ ProceedsShown unread (Some (Ok x)) r p new c =
 ProceedsShown unread (Some (Err e)) r p new c = (m : StepState)
     × FailsAt p.stepper.renumbered p.stepper.scanner.options m c e × Proceeds unread r p new (failed_in m e c)
 
--- recovery goes on from where a look at the next event led: that stays looked at, and a refusal counts as given, unless
--- an anchor on the way would get the greatest number
+-- Recovery goes on from where a look at the next event led, under the same options: that stays looked at, and a refusal
+-- counts as given, unless an anchor on the way would get the greatest number.
 abbrev pub ProceedsNext : {I : Type 0} → (I → Unread → Type 0) → Result Bool Refused → (old new : Parsing I) → Calls
     → Type 0
 ProceedsNext {I = I} unread r old new c =
     ((p : Parsing I) × GoesOnward unread old.stepper.scanner.cursor p.stepper.scanner.cursor
+    × (p.stepper.scanner.options ≡ old.stepper.scanner.options) × (p.stepper.renumbered ≡ old.stepper.renumbered)
     × ProceedsShown unread p.peeked r p new c)
     ⊎ MeetsNumber new.stepper.renumbered new.stepper.scanner.options c.steps
 
@@ -385,7 +386,8 @@ abbrev pub ProceedsHeldNext : {I : Type 0} → (I → Unread → Type 0) → Res
     → Calls → Fault → Type 0
 ProceedsHeldNext {I = I} unread r old new c f =
     ((p : Parsing I) × GoesOnward unread old.stepper.scanner.cursor p.stepper.scanner.cursor
-    × (p.stepper.scanner.options ≡ old.stepper.scanner.options) × ProceedsHeldShown unread p.peeked r p new c f)
+    × (p.stepper.scanner.options ≡ old.stepper.scanner.options) × (p.stepper.renumbered ≡ old.stepper.renumbered)
+    × ProceedsHeldShown unread p.peeked r p new c f)
     ⊎ FaultLacksNumber new.stepper.renumbered new.stepper.scanner.options c f
 
 -- ---- on the way

@@ -44,7 +44,8 @@ pub returns-in-Ok-clause-next : goal.returns-in-Ok-clause-next
 returns-in-Ok-clause-next g c = λ calls reached at answered opened.
     let look = c.look_first.ensures in
     proceeds_next g.T.Input.unread g.T.Input.origin c.args.self.now c.look_first.new.self c.proceed.new.self
-    (Ok c.in-Ok.follows) look.onward c.in-Ok.ensures.options c.in-Ok.ensures.renumbered c.in-Ok.ensures.known
+    (Ok c.in-Ok.follows) look.onward look.options look.renumbered c.in-Ok.ensures.options c.in-Ok.ensures.renumbered
+    c.in-Ok.ensures.known
     (c.in-Ok.ensures.seen (look.going ∙ at.over ∙ opened.over)) calls
     (subst (λ o. ReachedByCalls o calls) (sym look.options) reached) opened (look.next calls reached at answered opened)
 
@@ -54,7 +55,7 @@ returns-in-Err-clause-next g c = λ calls reached at answered opened.
     let look = c.look_first.ensures in
     let up = c.give_up.ensures in
     proceeds_next unread g.T.Input.origin c.args.self.now c.look_first.new.self c.give_up.new.self
-    (Err c.in-Err.error) look.onward
+    (Err c.in-Err.error) look.onward look.options look.renumbered
     (ap (λ (s : _). s.options) up.scanner ∙ c.in-Err.ensures.options) (up.renumbered ∙ c.in-Err.ensures.renumbered)
     (λ calls reached at other. elim (c.in-Err.ensures.known calls reached at other) [
       | inl ends ↦ inl (given_up unread c.look_first.new.self c.proceed.new.self c.give_up.new.self calls
@@ -146,7 +147,7 @@ returns-in-Ok-clause-held_next g c = λ calls f holds answered going.
     let look = c.look_first.ensures in
     let new = c.proceed.new.self in
     held_next unread g.T.Input.origin c.args.self.now c.look_first.new.self new (Ok c.in-Ok.follows) calls f going
-    look.onward look.options c.in-Ok.ensures.options c.in-Ok.ensures.renumbered c.in-Ok.ensures.known
+    look.onward look.options look.renumbered c.in-Ok.ensures.options c.in-Ok.ensures.renumbered c.in-Ok.ensures.known
     (λ holds. elim (c.in-Ok.ensures.held calls f holds going) [
       | inl ends ↦ inl (proceeds_ok unread c.in-Ok.follows c.look_first.new.self new calls f ends)
       | inr source ↦ inr source
@@ -159,8 +160,8 @@ returns-in-Err-clause-held_next g c = λ calls f holds answered going.
     let look = c.look_first.ensures in
     let up = c.give_up.ensures in
     held_next unread g.T.Input.origin c.args.self.now c.look_first.new.self c.give_up.new.self (Err c.in-Err.error)
-    calls f going look.onward look.options (ap (λ (s : _). s.options) up.scanner ∙ c.in-Err.ensures.options)
-    (up.renumbered ∙ c.in-Err.ensures.renumbered)
+    calls f going look.onward look.options look.renumbered
+    (ap (λ (s : _). s.options) up.scanner ∙ c.in-Err.ensures.options) (up.renumbered ∙ c.in-Err.ensures.renumbered)
     (λ calls reached at other. elim (c.in-Err.ensures.known calls reached at other) [
       | inl ends ↦ inl (given_up unread c.look_first.new.self c.proceed.new.self c.give_up.new.self calls
           c.in-Err.error up.gone c.in-Err.ensures.refused up.over up.scanner up.renumbered ends)
