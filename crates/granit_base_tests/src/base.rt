@@ -1,4 +1,5 @@
 //! Characters, places and texts.
+use crate::agree::agree;
 use granit_base::{
     Marker, NoMemory, OwnedText, Placement, Span, Text, TextList, as_hex, find_non_printable,
     is_alpha, is_anchor_char, is_at_end, is_blank, is_blank_or_breakz, is_bom, is_break, is_breakz,
@@ -110,7 +111,7 @@ fn count_classes() -> usize {
 
 #[test]
 fn classes_are_those_of_the_table(rt: HostRuntime) {
-    assert_eq!(rt; count_classes(), 45);
+    agree(&rt, count_classes(), 45);
 }
 
 /// Eighty times `x`, and what follows, where there is room.
@@ -138,7 +139,7 @@ fn the_first_unprintable_character_is_found(rt: HostRuntime) {
         found(alloc, "é€\u{80}\u{7f}"),
     ];
     let wanted = [(83, Some('\u{80}')), (85, None), (88, Some('\u{80}'))];
-    assert_eq!(rt; told, wanted);
+    agree(&rt, told, wanted);
 }
 
 /// Each hexadecimal digit at an edge, with its value.
@@ -165,7 +166,7 @@ fn count_digits() -> usize {
 
 #[test]
 fn digits_have_values(rt: HostRuntime) {
-    assert_eq!(rt; count_digits(), 6);
+    agree(&rt, count_digits(), 6);
 }
 
 /// Whether texts are split and end where they should.
@@ -180,8 +181,8 @@ fn splits_and_ends() -> [bool; 4] {
 
 #[test]
 fn texts_have_characters(rt: HostRuntime) {
-    assert_eq!(rt; [nth_char("aé", 1), nth_char("aé", 2)], ['é', '\0']);
-    assert_eq!(rt; splits_and_ends(), [true; 4]);
+    agree(&rt, [nth_char("aé", 1), nth_char("aé", 2)], ['é', '\0']);
+    agree(&rt, splits_and_ends(), [true; 4]);
 }
 
 /// A place in the first line.
@@ -211,8 +212,8 @@ fn places_are_equal() -> [bool; 4] {
 
 #[test]
 fn markers(rt: HostRuntime) {
-    assert_eq!(rt; numbers(&end()), [4, 2, 0]);
-    assert_eq!(rt; places_are_equal(), [true; 4]);
+    agree(&rt, numbers(&end()), [4, 2, 0]);
+    agree(&rt, places_are_equal(), [true; 4]);
 }
 
 /// A span with an indent.
@@ -254,10 +255,10 @@ fn slices(span: &Span) -> [bool; 3] {
 
 #[test]
 fn spans(rt: HostRuntime) {
-    assert_eq!(rt; told_of_span(&indented()), [true; 3]);
-    assert_eq!(rt; lengths(), (3, [false, true]));
-    assert_eq!(rt; has_no_bytes(), true);
-    assert_eq!(rt; slices(&indented()), [true; 3]);
+    agree(&rt, told_of_span(&indented()), [true; 3]);
+    agree(&rt, lengths(), (3, [false, true]));
+    agree(&rt, has_no_bytes(), true);
+    agree(&rt, slices(&indented()), [true; 3]);
 }
 
 /// Whether the tag's place, its span and the span's bytes are told, and are told of no other span.
@@ -278,7 +279,7 @@ fn told_of_tags() -> [bool; 6] {
 
 #[test]
 fn tags_have_spans(rt: HostRuntime) {
-    assert_eq!(rt; told_of_tags(), [true; 6]);
+    agree(&rt, told_of_tags(), [true; 6]);
 }
 
 fn hash_of<T: Hash>(text: &T) -> u64 {
@@ -353,7 +354,7 @@ fn told_of_own(alloc: Global) -> ([bool; 2], [bool; 2]) {
 
 #[test]
 fn texts_go_by_their_characters(rt: HostRuntime) {
-    assert_eq!(rt; told_of_own(rt.alloc()), ([true; 2], [true; 2]));
+    agree(&rt, told_of_own(rt.alloc()), ([true; 2], [true; 2]));
 }
 
 /// Whether a copy is equal to what it is of, and has these characters.
@@ -408,7 +409,7 @@ fn told_of_made(alloc: Global) -> [bool; 5] {
 
 #[test]
 fn owned_texts_are_texts(rt: HostRuntime) {
-    assert_eq!(rt; told_of_made(rt.alloc()), [true; 5]);
+    agree(&rt, told_of_made(rt.alloc()), [true; 5]);
 }
 
 /// One more text.
@@ -465,6 +466,6 @@ fn are_empty(alloc: Global) -> [bool; 2] {
 
 #[test]
 fn lists_hold_texts_in_order(rt: HostRuntime) {
-    assert_eq!(rt; are_empty(rt.alloc()), [true, false]);
-    assert_eq!(rt; told_of_lists(rt.alloc()), [[true; 3]; 2]);
+    agree(&rt, are_empty(rt.alloc()), [true, false]);
+    agree(&rt, told_of_lists(rt.alloc()), [[true; 3]; 2]);
 }

@@ -1,4 +1,5 @@
 //! Kinds, errors and options: what is printed at concrete values.
+use crate::agree::agree;
 use granit_base::{Marker, NoMemory, OwnedText, TextList};
 use granit_error::{ErrorKind, InputIoError, Options, ScanError};
 use std::alloc::{AllocError, AllocFailed, Global};
@@ -102,9 +103,9 @@ fn kinds_with_texts(alloc: Global) -> [u8; 2] {
 
 #[test]
 fn kinds_print_their_words(rt: HostRuntime) {
-    assert_eq!(rt; bare_kinds(rt.alloc()), [1, 8, 84]);
-    assert_eq!(rt; kinds_with_parts(rt.alloc()), [2, 17, 76, 76]);
-    assert_eq!(rt; kinds_with_texts(rt.alloc()), [79, 81]);
+    agree(&rt, bare_kinds(rt.alloc()), [1, 8, 84]);
+    agree(&rt, kinds_with_parts(rt.alloc()), [2, 17, 76, 76]);
+    agree(&rt, kinds_with_texts(rt.alloc()), [79, 81]);
 }
 
 fn hash_of(kind: &ErrorKind) -> u64 {
@@ -151,7 +152,7 @@ fn comparisons(alloc: Global) -> [char; 5] {
 
 #[test]
 fn kinds_are_equal_by_their_parts(rt: HostRuntime) {
-    assert_eq!(rt; comparisons(rt.alloc()), ['=', '=', '/', '/', '/']);
+    agree(&rt, comparisons(rt.alloc()), ['=', '=', '/', '/', '/']);
 }
 
 fn mismatched() -> ScanError {
@@ -231,7 +232,7 @@ fn all_print(alloc: Global) -> [bool; 3] {
 
 #[test]
 fn errors_print_words_sources_and_place(rt: HostRuntime) {
-    assert_eq!(rt; all_print(rt.alloc()), [true; 3]);
+    agree(&rt, all_print(rt.alloc()), [true; 3]);
 }
 
 /// Whether an error without words has its number, its place, and what it prints.
@@ -259,7 +260,7 @@ fn silent(alloc: Global) -> [bool; 3] {
 
 #[test]
 fn an_error_without_words_names_no_sources(rt: HostRuntime) {
-    assert_eq!(rt; silent(rt.alloc()), [true; 3]);
+    agree(&rt, silent(rt.alloc()), [true; 3]);
 }
 
 fn is_failed_input(error: ScanError, message: &str) -> bool {
@@ -324,9 +325,9 @@ fn comes_back(alloc: Global, words: &str) -> bool {
 #[test]
 fn failed_inputs_keep_their_message(rt: HostRuntime) {
     let words = "No such file or directory (os error 2)";
-    assert_eq!(rt; told_of_missing(rt.alloc(), words), [true; 3]);
-    assert_eq!(rt; comes_back(rt.alloc(), words), true);
-    assert_eq!(rt; is_failed_input(mismatched(), words), false);
+    agree(&rt, told_of_missing(rt.alloc(), words), [true; 3]);
+    agree(&rt, comes_back(rt.alloc(), words), true);
+    agree(&rt, is_failed_input(mismatched(), words), false);
 }
 
 /// The number of an error's kind.
@@ -341,7 +342,7 @@ fn want_of_memory_is_an_error(rt: HostRuntime) {
         kind_of(ScanError::from(AllocError)),
         kind_of(ScanError::from(AllocFailed { value: 7u8 })),
     ];
-    assert_eq!(rt; numbers, [1; 3]);
+    agree(&rt, numbers, [1; 3]);
 }
 
 /// The limits of options.
@@ -382,7 +383,7 @@ fn told_of_default(default: &Options) -> [bool; 3] {
 
 #[test]
 fn options_begin_with_the_defaults(rt: HostRuntime) {
-    assert_eq!(rt; limits(&set()), [7, 255, 96, 1024, 1024, 16]);
-    assert_eq!(rt; told_of_set(&mut set()), [true; 2]);
-    assert_eq!(rt; told_of_default(&Options::default()), [true; 3]);
+    agree(&rt, limits(&set()), [7, 255, 96, 1024, 1024, 16]);
+    agree(&rt, told_of_set(&mut set()), [true; 2]);
+    agree(&rt, told_of_default(&Options::default()), [true; 3]);
 }

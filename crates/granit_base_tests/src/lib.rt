@@ -1,8 +1,18 @@
-//! Tests of granit_base and granit_error by their public calls: values from the language's tables and worked rows,
-//! printed texts, and each call once. They stand here since a crate with tests is proved twice.
+//! Tests of granit_base, granit_error, granit_lexemes, granit_event and granit_model by their public calls: characters,
+//! places and texts, kinds and errors, parts of escapes, printed events and rows of the tags' table, trees, their depth
+//! and their canonical flow text. They stand here since a crate with tests is proved twice; generated trees stand in
+//! granit_cases.
 #![tactic(auto)]
 
+#[cfg(test)]
+mod agree;
 #[cfg(test)]
 mod base;
 #[cfg(test)]
 mod error;
+#[cfg(test)]
+mod escapes;
+#[cfg(test)]
+mod event;
+#[cfg(test)]
+mod trees;

@@ -58,11 +58,44 @@ pub gap_stops : (may : Bool) (h : Here) → begins_gap may h ≡ false → past_
 unfolding past_gap
 gap_stops may h failed = gap_stays may h.unread.text h failed
 
+-- ---- characters of a gap
+
+-- each character that passes a test is of a gap, and no byte-order mark
+abbrev pub InGap : (ℕ → Bool) → Type 0
+InGap test = (c : ℕ) → test c ≡ true → (is_gap c ≡ true) × (is_bom c ≡ false)
+
+unmarked : (may : Bool) (h : Here) → is_bom (next_char h) ≡ false → over_gap_char may h ≡ step h
+unmarked true h none = rw none refl
+unmarked false h none = refl
+
+gap_on : (test : ℕ → Bool) → InGap test → (may : Bool) (h : Here) → test (next_char h) ≡ true
+    → past_gap may (step h) ≡ past_gap may h
+gap_on test in_gap may h held =
+    let is = in_gap (next_char h) held in
+    let begins : begins_gap may h ≡ true = rw is.0 refl in
+    sym (ap (past_gap may) (unmarked may h is.1)) ∙ gap_goes may h begins
+
+skip_on : (test : ℕ → Bool) → InGap test → (may : Bool) (text : List ℕ) (h : Here) → text ≡ h.unread.text
+    → past_gap may (skip test text h) ≡ past_gap may h
+skip_on test in_gap may [] h is = refl
+skip_on test in_gap may (c ∷ cs) h is =
+    elim (cases_Bool (test (next_char h))) [
+      | inl held ↦ let rest : cs ≡ (step h).unread.text = sym
+          (step_text h ∙ ap (λ (text : List ℕ). drop 1 text) (sym is)) in
+          rw held (skip_on test in_gap may cs (step h) rest ∙ gap_on test in_gap may h held)
+      | inr failed ↦ rw failed refl
+    ]
+
+-- over such characters
+pub gap_behind : (test : ℕ → Bool) → InGap test → (may : Bool) (h : Here) → past_gap may (past test h) ≡ past_gap may h
+unfolding past
+gap_behind test in_gap may h = skip_on test in_gap may h.unread.text h refl
+
 -- ---- blanks of a gap
 
-blank_gap : (may : Bool) (h : Here) → is_blank (next_char h) ≡ true → begins_gap may h ≡ true
+blank_gap : (c : ℕ) → is_blank c ≡ true → is_gap c ≡ true
 unfolding is_gap
-blank_gap may h held = rw held refl
+blank_gap c held = rw held refl
 
 blank_unmarked : (c : ℕ) → is_blank c ≡ true → is_bom c ≡ false
 unfolding is_blank is_bom
@@ -72,29 +105,9 @@ blank_unmarked c held =
       | inr other ↦ let tab : (c == 0x09) ≡ true = rw other at held in rw (eqb-true c 0x09 tab) refl
     ]
 
-unmarked : (may : Bool) (h : Here) → is_bom (next_char h) ≡ false → over_gap_char may h ≡ step h
-unmarked true h none = rw none refl
-unmarked false h none = refl
-
-blank_on : (may : Bool) (h : Here) → is_blank (next_char h) ≡ true → past_gap may (step h) ≡ past_gap may h
-blank_on may h held =
-    sym (ap (past_gap may) (unmarked may h (blank_unmarked (next_char h) held))) ∙ gap_goes may h (blank_gap may h held)
-
-skip_on : (may : Bool) (text : List ℕ) (h : Here) → text ≡ h.unread.text
-    → past_gap may (skip is_blank text h) ≡ past_gap may h
-skip_on may [] h is = refl
-skip_on may (c ∷ cs) h is =
-    elim (cases_Bool (is_blank (next_char h))) [
-      | inl held ↦ let rest : cs ≡ (step h).unread.text = sym
-          (step_text h ∙ ap (λ (text : List ℕ). drop 1 text) (sym is)) in
-          rw held (skip_on may cs (step h) rest ∙ blank_on may h held)
-      | inr failed ↦ rw failed refl
-    ]
-
 -- over its blanks
 pub gap_behind_blanks : (may : Bool) (h : Here) → past_gap may (past is_blank h) ≡ past_gap may h
-unfolding past
-gap_behind_blanks may h = skip_on may h.unread.text h refl
+gap_behind_blanks may h = gap_behind is_blank (λ c held. (blank_gap c held, blank_unmarked c held)) may h
 
 -- ---- tabs that begin a line
 

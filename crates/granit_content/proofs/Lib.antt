@@ -3,8 +3,10 @@ pub mod GapLemmas
 pub mod HeardLemmas
 pub mod ItemLemmas
 pub mod KindLemmas
+pub mod LineGapLemmas
 pub mod MemoryLemmas
 pub mod NodeLemmas
 pub mod QuotedGapLemmas
 pub mod ScalarLemmas
 pub mod TailLemmas
+pub mod WordLemmas

@@ -127,7 +127,21 @@ fn past_gap_here<T: Input>(at: &mut Cursor<T>, may_prefix: bool) -> bool
 }
 
 /// Over blanks, breaks and, where one may stand, byte-order marks in front of a document.
+#[inline(always)]
 pub fn past_gap<T: Input>(at: &mut Cursor<T>, may_prefix: bool)
+    ensures here { GoesTo T.unread at.old at.new (spec.past_gap may_prefix) }
+    ensures clear { (h : Here) → Stands T.unread at.new h → spec.begins_gap may_prefix h ≡ false }
+    ensures window { 4 ≤ T.window at.new.input }
+    ensures moves { Moves T.unread T.left T.origin at.old at.new }
+{
+    if at.take_lines() {
+        return;
+    }
+    pass_by_turns(at, may_prefix);
+}
+
+/// The same, blanks and one more of these a turn.
+fn pass_by_turns<T: Input>(at: &mut Cursor<T>, may_prefix: bool)
     ensures here { GoesTo T.unread at.old at.new (spec.past_gap may_prefix) }
     ensures clear { (h : Here) → Stands T.unread at.new h → spec.begins_gap may_prefix h ≡ false }
     ensures window { 4 ≤ T.window at.new.input }
@@ -206,7 +220,7 @@ fn refuse_leading_tab<T: Input>(
         ≡ spec.refuse_tab (options_of options.now) layouts.now (mark_of h) (spec.leading_tab h) }
     ensures memory { NeverWants (answered fault.new result) }
 {
-    if at.tab().is_none() {
+    if !at.has_tab() {
         return Ok(());
     }
     layouts.refuse_tab(options, at.mark(), leading_tab(at), fault)

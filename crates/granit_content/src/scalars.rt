@@ -2,7 +2,7 @@
 ghost use Rattle.std.specs.Prelude.{◌≡◌, ◌<◌, ◌^◌, true, None, IfOk, IsOk, OnOk};
 ghost use Rattle.std.specs.Option.{option_map};
 ghost use Rattle.granit_base.specs.PlainContent.{is_content};
-ghost use Rattle.granit_cursor.specs.Reading.{Moves, Stands};
+ghost use Rattle.granit_cursor.specs.Reading.{GivesTo, Moves, Stands, coded};
 ghost use Rattle.granit_error.specs.OptionsView.{options_of};
 ghost use Rattle.granit_lexemes.specs.BlockScalar.{block_indicator};
 ghost use Rattle.granit_lexemes.specs.Here.{Here, next_char};
@@ -14,15 +14,16 @@ ghost use Rattle.granit_lex.specs.QuotedCode.{remark_token};
 ghost use Rattle.granit_items.specs.ItemViews.{boxed_view, filled_items, lexeme_view};
 ghost use Rattle.granit_content.specs.KindViews.{note_of_token};
 ghost use Rattle.granit_refused.specs.Answered.{answered};
-ghost use Rattle.granit_content.specs.Reads.{IsStart, ReadsItems, found_in, lexeme_in};
+ghost use Rattle.granit_content.specs.Reads.{IsAt, IsStart, ReadsItems, found_in, lexeme_in};
+ghost use Rattle.granit_steps.specs.Steps.{incoming};
 ghost use Rattle.granit_content.specs.ScalarReads.{shown_as, token_as, GapBehind};
 
 use crate::gaps::gap;
 use crate::kinds::{lexeme_kind, note};
 use crate::lexeme::{Start, behind_tail, start_of, write_lexeme};
-use granit_base::{NoMemory, ScalarStyle};
+use granit_base::{NoMemory, ScalarStyle, Text};
 use granit_block::scan_block_scalar;
-use granit_cursor::{Cursor, Token};
+use granit_cursor::{Cursor, Token, take_plain, take_quoted};
 use granit_error::{Options, ScanError};
 use granit_input::BorrowedInput;
 use granit_items::{Found, Lexeme, LexemeKind, Note};
@@ -55,11 +56,42 @@ pub fn plain_lexeme<'input, T: BorrowedInput<'input>>(
     ensures moves { Moves T.unread T.left T.origin at.old at.new }
 {
     let start = start_of(at);
+    match take_plain(at, layouts.is_in_flow(), layouts.block_column()) {
+        None => plain_by_turns(alloc, options, at, layouts, ends, &start, found, fault),
+        Some(read) => {
+            let kind = LexemeKind::Scalar(ScalarStyle::Plain, Text::borrowed(read.0));
+            write_lexeme(found, layouts, ends, kind, &start, read.1);
+            layouts.behind_plain_scalar(None);
+            layouts.count_lexeme(LastLexeme::Another);
+            Ok(())
+        }
+    }
+}
+
+/// The same where its end isn't seen at once.
+#[inline(never)]
+fn plain_by_turns<'input, T: BorrowedInput<'input>>(
+    alloc: Global,
+    options: &Options,
+    at: &mut Cursor<T>,
+    layouts: &mut Layouts,
+    ends: bool,
+    start: &Start,
+    found: &mut Lexeme<'input>,
+    fault: &mut Option<ScanError>,
+) -> Result<(), Refused>
+    requires room { layouts.old.number < 2 ^ 63 }
+    ensures here { (h : Here) → Stands T.unread at.old h → IsStart start.now h
+        → GivesTo (lexeme_in found.new) (answered fault.new result) (IsAt T.unread at.new layouts.new)
+        (coded (incoming (options_of options.now).emit_comments)
+        (spec.plain_lexeme (options_of options.now) ends h layouts.old)) }
+    ensures moves { Moves T.unread T.left T.origin at.old at.new }
+{
     let layout = layouts.layout(options, start.mark.col(), options.emit_comments);
     let mut read: PlainScalar<'input> = PlainScalar::room(start.mark);
     read_plain(alloc, at, &layout, &mut read, fault)?;
     let kind = LexemeKind::Scalar(ScalarStyle::Plain, read.text);
-    write_lexeme(found, layouts, ends, kind, &start, read.end);
+    write_lexeme(found, layouts, ends, kind, start, read.end);
     layouts.behind_plain_scalar(read.cut_by_comment);
     layouts.count_lexeme(LastLexeme::Another);
     Ok(())
@@ -108,6 +140,36 @@ fn quoted_lexeme<'input, T: BorrowedInput<'input>>(
     fault: &mut Option<ScanError>,
 ) -> Result<(), Refused>
     requires sign { (h : Here) → Stands T.unread at.old h → next_char h ≡ quote_char single }
+    requires room { layouts.old.number < 2 ^ 63 }
+    ensures here { ReadsItems T.unread (options_of options.now).emit_comments at.old at.new layouts.new
+        (lexeme_in found.new) (answered fault.new result)
+        (λ h. spec.quoted_lexeme (options_of options.now) single ends h layouts.old) }
+    ensures moves { Moves T.unread T.left T.origin at.old at.new }
+{
+    let start = start_of(at);
+    match take_quoted(at, single, layouts.is_in_flow()) {
+        None => quoted_by_turns(alloc, options, at, layouts, single, ends, found, fault),
+        Some(text) => {
+            let kind = LexemeKind::Scalar(quoted_style(single), Text::borrowed(text));
+            write_lexeme(found, layouts, ends, kind, &start, at.mark());
+            layouts.count_lexeme(LastLexeme::Adjacent);
+            Ok(())
+        }
+    }
+}
+
+/// The same where its end isn't seen at once.
+#[inline(never)]
+fn quoted_by_turns<'input, T: BorrowedInput<'input>>(
+    alloc: Global,
+    options: &Options,
+    at: &mut Cursor<T>,
+    layouts: &mut Layouts,
+    single: bool,
+    ends: bool,
+    found: &mut Lexeme<'input>,
+    fault: &mut Option<ScanError>,
+) -> Result<(), Refused>
     requires room { layouts.old.number < 2 ^ 63 }
     ensures here { ReadsItems T.unread (options_of options.now).emit_comments at.old at.new layouts.new
         (lexeme_in found.new) (answered fault.new result)

@@ -1,15 +1,16 @@
 -- What a call that reads a comment gives.
-use Rattle.std.proofs.Common.{◌≡◌, ℕ, suc, ◌+◌, Bool, cond, List, [], ◌∷◌, take, ◌⊎◌, Result, Ok, Err, IfOk}
-use Rattle.std.proofs.Common.{IfErr, refl, sym, ap, ap₂, ◌∙◌, subst, arith}
+use Rattle.std.proofs.Common.{◌≡◌, ℕ, suc, ◌+◌, ◌==◌, ◌||◌, if◌then◌else◌, Bool, cond, List, [], ◌∷◌, take, ◌⊎◌}
+use Rattle.std.proofs.Common.{Result, Ok, Err, IfOk, IfErr, false, true, refl, sym, ap, ap₂, ◌∙◌, subst, arith}
 use Rattle.std.specs.List.{prefix_len}
+use Rattle.granit_base.specs.Classes.{is_printable}
 use Rattle.granit_base.specs.Written.{Written}
 use Rattle.granit_error.specs.FaultKind.{NoMemory, UnexpectedCharacter}
 use Rattle.granit_error.specs.Refused.{Refused}
 use Rattle.granit_input.specs.Runs.{run_length, starts, is_line_char}
 use Rattle.granit_lexemes.specs.Comment.{is_comment_char, behind_comment, skipped_comment, comment, comment_read}
 use Rattle.granit_lexemes.specs.Comment.{CommentRead, StandsComment, Spoils, ReadsComment}
-use Rattle.granit_lexemes.specs.Basics.{as_spelled}
-use Rattle.granit_lexemes.specs.Here.{Here, next_char, step, chunk, mid_line}
+use Rattle.granit_lexemes.specs.Basics.{as_spelled, fails_at}
+use Rattle.granit_lexemes.specs.Here.{Here, text_len, next_char, mark_of, step, chunk, mid_line}
 use Rattle.granit_lexemes.specs.Moves.{steps}
 use Rattle.granit_lexemes.specs.Outcome.{Fault, Fails}
 use Rattle.granit_lexemes.proofs.HereLemmas.{step_lends}
@@ -60,6 +61,16 @@ pub text_of : (n : ℕ) (h : Here) (text : Written) → n ≡ run_length (starts
 text_of n h text is taken =
     taken ∙ ap₂ (λ (m : ℕ) (b : Bool). record { characters = take m (step h).unread.text; is_borrowed = b })
     (is ∙ run_prefix is_comment_char (step h).unread.text) (step_lends h)
+
+-- where reading goes on behind the text of a comment, there it ends
+pub behind_same : (h after : Here) (u : Unit {0}) → behind_comment h ≡ Ok (u, after) → after ≡ h
+unfolding behind_comment
+behind_same h after u behind = by_test (text_len h == 0 || is_printable (next_char h)) behind
+  where
+    by_test : (b : Bool) → if◌then◌else◌ {A = Result (Unit {0} × Here) Fault} b (Ok (tt, h))
+        (fails_at (UnexpectedCharacter (next_char h)) (mark_of h)) ≡ Ok (u, after) → after ≡ h
+    by_test true e = let same = same_ok (tt, h) (u, after) e in sym (ap (λ (p : Unit {0} × Here). p.1) same)
+    by_test false e = absurd cc
 
 -- ---- from what a call gives to what is true of it
 

@@ -1,7 +1,10 @@
 pub mod CommentLemmas
 pub mod GivenLemmas
+pub mod LineLemmas
 pub mod MoveLemmas
 pub mod OnwardLemmas
+pub mod QuotedMoves
+pub mod PlainLemmas
 pub mod SourceLemmas
 pub mod TrimLemmas
 pub mod WordLemmas

@@ -55,10 +55,10 @@ pub record Along (n : ℕ) (h now : Here) : Type 0 where
   pub unread : now.unread ≡ past_count n h.unread
   pub place : now.place ≡ moved n h.place
 
-not_none : (n : ℕ) → 0 < n → (n == 0) ≡ false
+pub not_none : (n : ℕ) → 0 < n → (n == 0) ≡ false
 not_none n some = grind (arith, nat_tests, some)
 
-step_along : (h : Here) → 0 < length h.unread.text → ends_line h.unread.text ≡ false → Along 1 h (step h)
+pub step_along : (h : Here) → 0 < length h.unread.text → ends_line h.unread.text ≡ false → Along 1 h (step h)
 unfolding step
 step_along h some line =
     rw (not_none (length h.unread.text) some, line) (record { unread = sym (past_one h.unread some); place = refl })
@@ -140,13 +140,13 @@ shown test (suc n) h shows fits =
     rw some (is.0 ∙ and_false h.begins_line, is.1)
 
 -- all characters that pass a test are spaces, or blanks
-step_blank : (h : Here) → 0 < length h.unread.text → ends_line h.unread.text ≡ false → is_quiet (next_char h) ≡ true
+pub step_blank : (h : Here) → 0 < length h.unread.text → ends_line h.unread.text ≡ false → is_quiet (next_char h) ≡ true
     → ((step h).begins_line ≡ h.begins_line) × ((step h).tab
     ≡ (if next_char h == 0x09 then first_tab h.tab (mark_of h) else h.tab))
 unfolding step begins_behind tab_behind
 step_blank h some line quiet = rw (not_none (length h.unread.text) some, line, quiet) (refl, refl)
 
-quiet_of : (a b c : Bool) → (a || b) ≡ true → ((a || b) || c) ≡ true
+pub quiet_of : (a b c : Bool) → (a || b) ≡ true → ((a || b) || c) ≡ true
 quiet_of true b c e = refl
 quiet_of false true c e = refl
 quiet_of false false c e = absurd cc

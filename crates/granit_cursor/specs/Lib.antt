@@ -1,4 +1,6 @@
 pub mod Copied
+pub mod QuotedReads
+pub mod Plain
 pub mod Reading
 pub mod Tokens
 pub mod Trimmed

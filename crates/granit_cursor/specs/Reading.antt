@@ -1,17 +1,17 @@
 -- What contracts see of a cursor, and what a reader gives for whatever is known to be left.
 use Rattle.std.specs.Prelude.{◌≡◌, ◌⊎◌, ℕ, ◌+◌, ◌<◌, ◌≤◌, Bool, true, false, ◌&&◌, if◌then◌else◌, List, [], ◌++◌}
-use Rattle.std.specs.Prelude.{take, Option, is_some, Result, Ok, Err, IfOk, IfErr}
+use Rattle.std.specs.Prelude.{take, Option, None, Some, is_some, Result, Ok, Err, IfOk, IfErr}
 use Rattle.std.specs.Borrow.{Bor}
 use Rattle.std.specs.Str.{chars}
 use Rattle.granit_base.specs.Place.{Place, Mark, Unread}
 use Rattle.granit_base.specs.Written.{Written}
-use Rattle.granit_error.specs.FaultKind.{FaultKind, NoMemory}
+use Rattle.granit_error.specs.FaultKind.{FaultKind, InputSlicingUnavailable, NoMemory}
 use Rattle.granit_error.specs.Refused.{Refused}
 use Rattle.granit_input.specs.Chunks.{TakesFront}
-use Rattle.granit_input.specs.Origin.{Origin, Goes}
+use Rattle.granit_input.specs.Origin.{Origin, Goes, LentBetween}
 use Rattle.granit_input.specs.Runs.{run_length}
 use Rattle.granit_lexemes.specs.Basics.{as_spelled}
-use Rattle.granit_lexemes.specs.Here.{Here, mid_line}
+use Rattle.granit_lexemes.specs.Here.{Here, mark_of, mid_line}
 use Rattle.granit_lexemes.specs.Moves.{steps}
 use Rattle.granit_lexemes.specs.Onward.{Onward}
 use Rattle.granit_lexemes.specs.Outcome.{Fault, Fails, ◌>>=◌}
@@ -133,10 +133,44 @@ abbrev pub IsLent : {E : Type 0} → Result (Bor (List ℕ)) E → List ℕ → 
 IsLent (Ok part) text = chars part.now ≡ text
 IsLent (Err e) text = ⊥
 
+-- from which byte of its source an input lends what follows
+abbrev pub lends_from : Here → Option ℕ
+lends_from h = if h.unread.lends then h.unread.offset else None
+
+-- this mark is where the cursor stands, with a byte offset exactly where the input tells offsets
+abbrev pub MarksPlace : {I : Type 0} → (I → Unread → Type 0) → (I → Origin) → Reading I → Mark → Type 0
+MarksPlace unread origin r m =
+    (m.place ≡ r.place) × (is_some m.byte_offset ≡ (origin r.input).tells_offset)
+    × ((h : Here) → Stands unread r h → m ≡ mark_of h)
+
+-- where the cursor stands, the input refuses to lend what it could; no source is named
+abbrev pub RefusesSlice : {I : Type 0} → (I → Unread → Type 0) → (I → Origin) → Reading I → Refused → Type 0
+RefusesSlice unread origin r e =
+    (e.kind ≡ InputSlicingUnavailable) × MarksPlace unread origin r e.mark × (e.sources ≡ [])
+
+-- what the source lends from a byte of it up to a mark, or at that mark that it refuses this
+abbrev pub LendsUpTo : Option (List ℕ) → ℕ → Mark → Result (Bor (List ℕ)) Refused → Type 0
+LendsUpTo source start end (Ok part) = LentBetween source (Some start) end.byte_offset (Some part)
+LendsUpTo source start end (Err e) =
+    LentBetween source (Some start) end.byte_offset None
+    × (e ≡ record { kind = InputSlicingUnavailable; mark = end; sources = [] })
+
+-- A text with the mark behind it is lent from a byte of the source on, where one is given, or at that mark it is told
+-- that this is refused; with none given it is copied, or memory ran out.
+abbrev pub LendsFrom : Option (List ℕ) → Option ℕ → Result (Written × Mark) Refused → Type 0
+LendsFrom source None (Ok r) = r.0.is_borrowed ≡ false
+LendsFrom source None (Err e) = e.kind ≡ NoMemory
+LendsFrom source (Some start) (Ok r) =
+    (r.0.is_borrowed ≡ true)
+    × ((part : Bor (List ℕ)) × LentBetween source (Some start) r.1.byte_offset (Some part)
+    × (r.0.characters ≡ chars part.now))
+LendsFrom source (Some start) (Err e) =
+    LentBetween source (Some start) e.mark.byte_offset None × (e.kind ≡ InputSlicingUnavailable)
+
 -- A run was taken whole, and lent where the input lends; the cursor stands behind it. A refusal is for want of memory.
-abbrev pub TakesWholeRun : (List ℕ → Bool) → Here → Result Written Refused → (Here → Type 0) → Type 0
-TakesWholeRun test h (Ok text) Lands =
-    (n : ℕ) × StepsRun test h n Lands × (text ≡ as_spelled h (take n h.unread.text))
+abbrev pub TakesWholeRun : (List ℕ → Bool) → Here → Result (Written × Mark) Refused → (Here → Type 0) → Type 0
+TakesWholeRun test h (Ok r) Lands =
+    (n : ℕ) × StepsRun test h n Lands × (r.0 ≡ as_spelled h (take n h.unread.text))
 TakesWholeRun test h (Err e) Lands = e.kind ≡ NoMemory
 
 -- where the input lends what is there, no refusal is for want of memory

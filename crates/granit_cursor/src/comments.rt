@@ -5,15 +5,16 @@ ghost use Rattle.granit_input.specs.Runs.{starts, is_line_char};
 ghost use Rattle.granit_lexemes.specs.Comment as spec;
 ghost use Rattle.granit_lexemes.specs.Here.{Here, next_char};
 ghost use Rattle.granit_cursor.specs.Reading.{Stands, Moves, Wherever, ReadsAs, AnswersAs, RefusedFor, coded};
-ghost use Rattle.granit_cursor.specs.Reading.{InsideLine, LendsWithoutMemory, TakesWholeRun};
+ghost use Rattle.granit_cursor.specs.Reading.{InsideLine, LendsFrom, LendsWithoutMemory, MarksPlace, RefusesSlice};
+ghost use Rattle.granit_cursor.specs.Reading.{TakesWholeRun, lends_from};
 ghost use Rattle.granit_cursor.specs.Tokens.{IsCommentKind};
 ghost use Rattle.granit_cursor.specs.Tokens.{token_placement, comment_token};
 
 use crate::comment::Comment;
 use crate::cursor::Cursor;
-use crate::lending::{lending_offset, lent_since};
+use crate::lending::{lending_offset, lent_up_to};
 use crate::token::{Token, TokenType};
-use granit_base::{Placement, Span, Text, is_printable};
+use granit_base::{Marker, Placement, Span, Text, is_printable};
 use granit_error::{ErrorKind, ScanError};
 use granit_input::{BorrowedInput, Input};
 use std::alloc::Global;
@@ -26,8 +27,8 @@ use std::alloc::Global;
 /// # Errors
 ///
 /// `UnexpectedCharacter` at the first character on the line that isn't printable. A NUL in the text is one.
-/// `NoMemory`, only where the text isn't lent. `InputSlicingUnavailable`, where the input refuses to lend what it
-/// could.
+/// `NoMemory`, only where the text isn't lent. `InputSlicingUnavailable` behind the text, where the input refuses to
+/// lend what it could.
 pub fn scan_comment<'input, T: BorrowedInput<'input>>(
     alloc: Global,
     cursor: &mut Cursor<T>,
@@ -38,6 +39,8 @@ pub fn scan_comment<'input, T: BorrowedInput<'input>>(
     ensures cause { RefusedFor T.unread cursor.old result spec.Spoils }
     ensures lent { LendsWithoutMemory T.unread cursor.old result }
     ensures kinds { IfErr result (λ e. IsCommentKind e.kind) }
+    ensures refused { IfErr result (λ e. e.kind ≡ InputSlicingUnavailable
+        → RefusesSlice T.unread T.origin cursor.new e) }
     ensures moves { Moves T.unread T.left T.origin cursor.old cursor.new }
 {
     read_comment(alloc, cursor)
@@ -76,41 +79,48 @@ pub fn read_comment<'input, T: BorrowedInput<'input>>(
     ensures here { ReadsAs T.unread cursor.old cursor.new result (λ h. coded comment_token (spec.comment h)) }
     ensures lent { LendsWithoutMemory T.unread cursor.old result }
     ensures kinds { IfErr result (λ e. IsCommentKind e.kind) }
+    ensures refused { IfErr result (λ e. e.kind ≡ InputSlicingUnavailable
+        → RefusesSlice T.unread T.origin cursor.new e) }
     ensures moves { Moves T.unread T.left T.origin cursor.old cursor.new }
 {
     let start = cursor.mark();
     let placement = placement(!cursor.begins_line());
     cursor.step();
-    let text = comment_text(alloc, cursor)?;
+    let lends_from = lending_offset(cursor);
+    let (text, end) = comment_text(alloc, cursor, lends_from)?;
     behind_comment(cursor)?;
     let comment = Comment::new(text).with_placement(placement);
-    let span = Span::new(start, cursor.mark());
-    Ok(Token::new(span, TokenType::Comment(comment)))
+    Ok(Token::new(Span::new(start, end), TokenType::Comment(comment)))
 }
 
-/// The characters of a comment's text, lent where the input lends.
+/// The characters of a comment's text and the place behind them, lent from that byte of the source on, where the input
+/// lends.
 fn comment_text<'input, T: BorrowedInput<'input>>(
     alloc: Global,
     cursor: &mut Cursor<T>,
-) -> Result<Text<'input>, ScanError>
-    ensures here { Wherever T.unread cursor.old cursor.new (λ h Lands.
-        TakesWholeRun (starts is_line_char) h result (InsideLine Lands)) }
-    ensures lent { LendsWithoutMemory T.unread cursor.old result }
-    ensures kinds { IfErr result (λ e. (e.kind ≡ NoMemory) ⊎ (e.kind ≡ InputSlicingUnavailable)) }
+    start: Option<usize>,
+) -> Result<(Text<'input>, Marker), ScanError>
+    ensures here { Wherever T.unread cursor.old cursor.new (λ h Lands. start ≡ lends_from h
+        → TakesWholeRun (starts is_line_char) h result (InsideLine Lands)) }
+    ensures lends { LendsFrom (T.origin cursor.new.input).lent start result }
+    ensures end { IfOk result (λ r. MarksPlace T.unread T.origin cursor.new r.1) }
+    ensures refused { IfErr result (λ e. e.kind ≡ InputSlicingUnavailable
+        → RefusesSlice T.unread T.origin cursor.new e) }
     ensures moves { Moves T.unread T.left T.origin cursor.old cursor.new }
 {
-    match lending_offset(cursor) {
+    match start {
         Some(start) => {
             cursor.skip_while_non_breakz();
-            match lent_since(cursor, start) {
-                Ok(text) => Ok(Text::borrowed(text)),
+            let end = cursor.mark();
+            match lent_up_to(cursor, start, end) {
+                Ok(text) => Ok((Text::borrowed(text), end)),
                 Err(e) => Err(e),
             }
         }
         None => {
             let mut text = String::new(alloc);
             cursor.fetch_while_non_breakz(&mut text)?;
-            Ok(Text::owned(text))
+            Ok((Text::owned(text), cursor.mark()))
         }
     }
 }

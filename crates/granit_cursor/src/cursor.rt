@@ -14,32 +14,36 @@ ghost use Rattle.granit_input.specs.Origin.{error_given, Gave, Goes, LentBetween
 ghost use Rattle.granit_input.specs.Runs.{starts, is_line_char, is_plain_word, is_quoted_char};
 ghost use Rattle.granit_input.specs.Runs.{is_quoted_word};
 ghost use Rattle.granit_base.specs.PlainContent.{is_content};
+ghost use Rattle.granit_input.specs.Lines.{is_line_gap, is_visible};
 ghost use Rattle.granit_input.specs.White.{is_skipped};
 ghost use Rattle.granit_input.specs.declared.whitespace.SkipTabs.TheVariants.{No};
 ghost use Rattle.granit_lexemes.specs.Here as spec;
-ghost use Rattle.granit_lexemes.specs.Here.{Here, first_place, mark_of, next_char, step};
+ghost use Rattle.granit_lexemes.specs.Here.{Here, first_place, mark_of, next_char, past, step};
 ghost use Rattle.granit_lexemes.specs.Moves.{past_prefix_mark};
 ghost use Rattle.granit_cursor.specs.Reading.{Stands, GoesOnward, Moves, Takes, Wherever, GoesTo, InsideLine, StepsRun};
 ghost use Rattle.granit_cursor.specs.Reading.{StepsFront, FetchesSteps, FetchesFrontSteps, LendsSteps, has_source};
 ghost use Rattle.granit_cursor.specs.contracts.cursor.Cursor.{the_row};
 
+mod quoted;
+
 use granit_base::{Marker, NoMemory, is_blank};
 use granit_error::ErrorKind;
 use granit_input::{Class, Input, Run, SkipTabs};
+pub use quoted::take_quoted;
 use std::marker::Model;
 
 /// An input, and the place up to which it was read, with what stands before that on its line. Clauses on
 /// what is read speak of whatever is known to be left; `Here` is that with its place.
 #[derive(Drop)]
 pub struct Cursor<T: Input> {
-    input: T,
-    index: usize,
-    line: usize,
-    col: usize,
+    pub(crate) input: T,
+    pub(crate) index: usize,
+    pub(crate) line: usize,
+    pub(crate) col: usize,
     /// Whether only blanks and prefix marks stand before it on its line.
-    begins_line: bool,
+    pub(crate) begins_line: bool,
     /// The first tab of the blanks directly before it on its line.
-    tab: Option<Marker>,
+    pub(crate) tab: Option<Marker>,
     /// Whether memory ran out in the midst of a run, so that it isn't known how much of it was taken.
     lost: bool,
 }
@@ -100,6 +104,14 @@ impl<T: Input> Cursor<T> {
         ensures { result ≡ self.now.tab }
     {
         self.tab
+    }
+
+    /// Whether a tab is among the blanks directly before the place on its line.
+    #[inline(always)]
+    pub fn has_tab(&self) -> bool
+        ensures { result ≡ is_some self.now.tab }
+    {
+        self.tab.is_some()
     }
 
     /// Whether it isn't known where it stands, since memory ran out in the midst of a run.
@@ -234,6 +246,32 @@ impl<T: Input> Cursor<T> {
         }
         self.input.skip();
         self.index += 1;
+    }
+
+    /// Over line feeds and the spaces behind each, where the input sees that a visible character of ASCII stands behind
+    /// them; whether that was so. Nothing is consumed elsewhere (YAML 1.2.2, 6.1).
+    #[inline(always)]
+    pub fn take_lines(&mut self) -> bool
+        ensures here { GoesTo T.unread self.old self.new (λ h. if result then past is_line_gap h else h) }
+        ensures clear { result ≡ true → (h : Here) → Stands T.unread self.new h → is_visible (next_char h) ≡ true }
+        ensures looks { result ≡ true → 8 ≤ T.window self.new.input }
+        ensures left { T.left self.new.input + self.new.place.index ≤ T.left self.old.input + self.old.place.index }
+        ensures window { T.window self.old.input + self.old.place.index
+            ≤ T.window self.new.input + self.new.place.index }
+        ensures lost { self.new.lost ≡ self.old.lost }
+        ensures moves { Moves T.unread T.left T.origin self.old self.new }
+    {
+        match self.input.take_lines() {
+            None => false,
+            Some((count, lines, spaces)) => {
+                self.index += count;
+                self.line += lines;
+                self.col = spaces;
+                self.begins_line = true;
+                self.tab = None;
+                true
+            }
+        }
     }
 
     /// The first error that the input's source gave, once.

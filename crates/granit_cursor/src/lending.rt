@@ -5,9 +5,10 @@ ghost use Rattle.granit_error.specs.FaultKind.{InputSlicingUnavailable};
 ghost use Rattle.granit_input.specs.Origin.{can_lend, LentBetween};
 ghost use Rattle.granit_input.specs.Unread.{SpelledBy, past_count};
 ghost use Rattle.granit_lexemes.specs.Here.{Here};
-ghost use Rattle.granit_cursor.specs.Reading.{Stands, IsLent};
+ghost use Rattle.granit_cursor.specs.Reading.{Stands, IsLent, LendsUpTo, RefusesSlice};
 
 use crate::cursor::Cursor;
+use granit_base::Marker;
 use granit_error::{ErrorKind, ScanError};
 use granit_input::{BorrowedInput, Input};
 
@@ -37,7 +38,7 @@ fn slice_since<'input, T: BorrowedInput<'input>>(
 ///
 /// # Errors
 ///
-/// `InputSlicingUnavailable`, where the input refuses it.
+/// `InputSlicingUnavailable` where the cursor stands, where the input refuses it.
 pub fn lent_since<'input, T: BorrowedInput<'input>>(
     cursor: &Cursor<T>,
     start: usize,
@@ -47,9 +48,32 @@ pub fn lent_since<'input, T: BorrowedInput<'input>>(
         → T.unread cursor.now.input (past_count n u)
         → IsLent result (take n u.text) }
     ensures kinds { IfErr result (λ e. e.kind ≡ InputSlicingUnavailable) }
+    ensures refused { IfErr result (RefusesSlice T.unread T.origin cursor.now) }
 {
     match slice_since(cursor, start) {
         Some(part) => Ok(part),
         None => Err(ScanError::from_kind(cursor.mark(), ErrorKind::InputSlicingUnavailable)),
+    }
+}
+
+/// What the source lends from a byte of it up to a mark.
+///
+/// # Errors
+///
+/// `InputSlicingUnavailable` at that mark, where the input refuses it.
+pub(crate) fn lent_up_to<'input, T: BorrowedInput<'input>>(
+    cursor: &Cursor<T>,
+    start: usize,
+    end: Marker,
+) -> Result<&'input str, ScanError>
+    ensures { LendsUpTo (T.origin cursor.now.input).lent start end result }
+{
+    let text = match end.byte_offset() {
+        None => None,
+        Some(behind) => cursor.input().slice_borrowed(start, behind),
+    };
+    match text {
+        Some(text) => Ok(text),
+        None => Err(ScanError::from_kind(end, ErrorKind::InputSlicingUnavailable)),
     }
 }

@@ -86,6 +86,20 @@ fn cursors_tell_their_place(rt: HostRuntime) {
     assert_eq!(rt; places(), [true; 5]);
 }
 
+/// Whether lines are taken behind two characters, and where the cursor then stands.
+fn behind_lines(text: &str) -> (bool, Told) {
+    let mut cursor = Cursor::new(StrInput::new(text));
+    cursor.step();
+    cursor.step();
+    (cursor.take_lines(), told(&cursor))
+}
+
+#[test]
+fn lines_are_taken_with_their_indentation(rt: HostRuntime) {
+    assert_eq!(rt; behind_lines("a\t\n \n  b"), (true, (3, 2, true, None)));
+    assert_eq!(rt; behind_lines("a\t\n\tb"), (false, (1, 2, false, Some(1))));
+}
+
 /// Whether a copy that was made is equal to what it is of. What is let go in a generic function is cheap to prove.
 fn is_same<T: PartialEq + Drop>(copy: Result<T, NoMemory>, of: &T) -> bool {
     match copy {

@@ -1,3 +1,4 @@
+pub mod AtOnceLemmas
 pub mod GivingLemmas
 pub mod HandleLemmas
 pub mod TailLemmas

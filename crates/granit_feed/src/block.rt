@@ -1,10 +1,11 @@
 //! A lexeme in a block collection (YAML 1.2.2, 8.2).
-ghost use Rattle.std.specs.Prelude.{◌≡◌, OnOk};
+ghost use Rattle.std.specs.Prelude.{◌≡◌, true, None, OnOk};
 ghost use Rattle.granit_error.specs.OptionsView.{options_of};
 ghost use Rattle.granit_error.specs.FaultKind as faults;
 ghost use Rattle.granit_refused.specs.Answered.{answered, why};
 ghost use Rattle.granit_lexemes.specs.Outcome.{fault_at};
 ghost use Rattle.granit_sorts.specs.SortViews.{machine_token, sort_view};
+ghost use Rattle.granit_frames.specs.Refusing.{RefusesByFault};
 ghost use Rattle.granit_nesting.specs.FrameViews.{pair_view};
 ghost use Rattle.granit_machine.specs.BlockSteps as steps;
 ghost use Rattle.granit_machine.specs.Frames as machine;
@@ -45,6 +46,10 @@ pub(crate) fn in_sequence<'input>(
     indentless: bool,
 ) -> Result<(), Refused>
     ensures leaves { LeavesIfRoom (answered fault.new result) state.new (steps.in_sequence (options_of options.now)
+        (machine_token token.old) column indentless state.old) }
+    ensures by_fault { (sort_view token.old.sort ≡ sorts.BeginsKey → ⊥)
+        → (sorts.is_dash_token (sort_view token.old.sort) ≡ true → state.old.waiting ≡ None)
+        → RefusesByFault (answered fault.new result) (steps.in_sequence (options_of options.now)
         (machine_token token.old) column indentless state.old) }
     ensures kept { state.new.kept ≡ state.old.kept }
 {
@@ -171,6 +176,9 @@ fn next_pair<'input>(
 ) -> Result<(), Refused>
     ensures leaves { LeavesIfRoom (answered fault.new result) state.new (steps.next_pair (options_of options.now)
         (machine_token token.old) column (pair_view stage) (sort_view token.old.sort) state.old) }
+    ensures by_fault { (sort_view token.old.sort ≡ sorts.BeginsKey → ⊥)
+        → RefusesByFault (answered fault.new result) (steps.next_pair (options_of options.now)
+        (machine_token token.old) column (pair_view stage) (sort_view token.old.sort) state.old) }
     ensures kept { state.new.kept ≡ state.old.kept }
 {
     match token.sort {
@@ -207,6 +215,9 @@ fn behind_indicator<'input>(
 ) -> Result<(), Refused>
     ensures leaves { LeavesIfRoom (answered fault.new result) state.new (steps.behind_indicator (options_of options.now)
         (machine_token token.old) column (pair_view stage) state.old) }
+    ensures by_fault { (sort_view token.old.sort ≡ sorts.BeginsKey → ⊥)
+        → RefusesByFault (answered fault.new result) (steps.behind_indicator (options_of options.now)
+        (machine_token token.old) column (pair_view stage) state.old) }
     ensures kept { state.new.kept ≡ state.old.kept }
 {
     if token.sort.begins_pair() && token.is_in_column(column) {
@@ -231,6 +242,8 @@ fn at_block_key<'input>(
     token: &mut Token<'input>,
 ) -> Result<(), Refused>
     ensures leaves { LeavesIfRoom (answered fault.new result) state.new (steps.at_block_key (options_of options.now)
+        (machine_token token.old) (sort_view token.old.sort) state.old) }
+    ensures by_fault { RefusesByFault (answered fault.new result) (steps.at_block_key (options_of options.now)
         (machine_token token.old) (sort_view token.old.sort) state.old) }
     ensures kept { state.new.kept ≡ state.old.kept }
 {
@@ -258,6 +271,8 @@ fn behind_block_key<'input>(
 ) -> Result<(), Refused>
     ensures leaves { LeavesIfRoom (answered fault.new result) state.new (steps.behind_block_key (options_of options.now)
         (machine_token token.now) column (sort_view token.now.sort) state.old) }
+    ensures by_fault { RefusesByFault (answered fault.new result) (steps.behind_block_key (options_of options.now)
+        (machine_token token.now) column (sort_view token.now.sort) state.old) }
     ensures kept { state.new.kept ≡ state.old.kept }
 {
     match token.sort {
@@ -284,6 +299,9 @@ pub(crate) fn in_mapping<'input>(
     stage: PairStage,
 ) -> Result<(), Refused>
     ensures leaves { LeavesIfRoom (answered fault.new result) state.new (steps.in_mapping (options_of options.now)
+        (machine_token token.old) column (pair_view stage) state.old) }
+    ensures by_fault { (sort_view token.old.sort ≡ sorts.BeginsKey → ⊥)
+        → RefusesByFault (answered fault.new result) (steps.in_mapping (options_of options.now)
         (machine_token token.old) column (pair_view stage) state.old) }
     ensures kept { state.new.kept ≡ state.old.kept }
 {

@@ -1,16 +1,19 @@
 //! One item: the events that it gives, and what it leaves.
-ghost use Rattle.std.specs.Prelude.{◌≡◌, [], false, IfOk};
+ghost use Rattle.std.specs.Prelude.{◌≡◌, [], true, false, None, IfOk, IsOk};
 ghost use Rattle.std.specs.Option.{option_map};
 ghost use Rattle.granit_error.specs.OptionsView.{options_of};
 ghost use Rattle.granit_lexemes.specs.Lexeme.{is_directive};
 ghost use Rattle.granit_refused.specs.Answered.{answered};
-ghost use Rattle.granit_sorts.specs.SortViews.{machine_token};
+ghost use Rattle.granit_sorts.specs.SortViews.{machine_token, sort_view};
+ghost use Rattle.granit_feed.specs.AtOnce.{outside_at_once, ItemAtOnce, TokenAtOnce};
 ghost use Rattle.granit_feed.specs.Handles.{holds_directive, KeepsIfRefused};
 ghost use Rattle.granit_feed.specs.Tails as tails;
 ghost use Rattle.granit_frames.specs.Outside.{NoneWaitsOutside};
+ghost use Rattle.granit_frames.specs.Refusing.{RefusesByFault};
 ghost use Rattle.granit_items.specs.ItemViews.{boxed_view, item_view, kind_view};
 ghost use Rattle.granit_machine.specs.Leaving.{LeavesIfRoom};
 ghost use Rattle.granit_machine.specs.Parser as spec;
+ghost use Rattle.granit_machine.specs.TokenSort as sorts;
 
 use crate::block::{in_mapping, in_sequence};
 use crate::flow::{in_flow_mapping, in_flow_pair, in_flow_sequence};
@@ -34,6 +37,11 @@ fn take_token<'input>(
     token: &mut Token<'input>,
 ) -> Result<(), Refused>
     ensures leaves { LeavesIfRoom (answered fault.new result) state.new (spec.take_token (options_of options.now)
+        (machine_token token.old) state.old) }
+    ensures by_fault { (sort_view token.old.sort ≡ sorts.BeginsKey → ⊥)
+        → (sorts.is_dash_token (sort_view token.old.sort) ≡ true → state.old.waiting ≡ None)
+        → (state.old.frames ≡ [] → outside_at_once state.old.stage (sort_view token.old.sort) ≡ true)
+        → RefusesByFault (answered fault.new result) (spec.take_token (options_of options.now)
         (machine_token token.old) state.old) }
     ensures kept { is_directive (kind_view token.old.lexeme.value.kind) ≡ false → state.new.kept ≡ state.old.kept }
     ensures refused { KeepsIfRefused (answered fault.new result) state.old state.new }
@@ -82,7 +90,8 @@ pub fn clone_tail<'input>(
     alloc: Global,
     tail: &Option<Box<Note<'input>>>,
 ) -> Result<Option<Box<Note<'input>>>, NoMemory>
-    ensures { IfOk result (λ t. option_map boxed_view t ≡ option_map boxed_view tail.now) }
+    ensures value { IfOk result (λ t. option_map boxed_view t ≡ option_map boxed_view tail.now) }
+    ensures none { tail.now ≡ None → IsOk result }
 {
     match tail {
         None => Ok(None),
@@ -102,8 +111,10 @@ fn tail_behind<'input>(
     alloc: Global,
     lexeme: &Lexeme<'input>,
 ) -> Result<Option<Box<Note<'input>>>, NoMemory>
-    ensures { IfOk result (λ tail. (next : _) (p : _) → spec.take_tail (kind_view lexeme.now.kind)
+    ensures value { IfOk result (λ tail. (next : _) (p : _) → spec.take_tail (kind_view lexeme.now.kind)
         (option_map boxed_view lexeme.now.tail) next p ≡ tails.tail_taken (option_map boxed_view tail) next p) }
+    ensures none { lexeme.now.tail ≡ None → IsOk result }
+    ensures dash { tails.is_dash_lexeme (kind_view lexeme.now.kind) ≡ true → IsOk result }
 {
     if is_dash(&lexeme.kind) {
         return Ok(None);
@@ -118,6 +129,8 @@ fn take_tail<'input>(
     next_line: Option<usize>,
 ) -> Result<(), Refused>
     ensures leaves { LeavesIfRoom (answered fault.new result) state.new (tails.tail_taken
+        (option_map boxed_view tail.entry) next_line state.old) }
+    ensures by_fault { RefusesByFault (answered fault.new result) (tails.tail_taken
         (option_map boxed_view tail.entry) next_line state.old) }
     ensures kept { state.new.kept ≡ state.old.kept }
 {
@@ -167,6 +180,9 @@ fn take_lexeme<'input>(
 ) -> Result<(), Refused>
     ensures leaves { LeavesIfRoom (answered fault.new result) state.new (spec.take_lexeme (options_of options.now)
         (machine_token token.old) next_line state.old) }
+    ensures by_fault { TokenAtOnce (machine_token token.old) state.old
+        → RefusesByFault (answered fault.new result) (spec.take_lexeme (options_of options.now)
+        (machine_token token.old) next_line state.old) }
     ensures kept { is_directive (kind_view token.old.lexeme.value.kind) ≡ false → state.new.kept ≡ state.old.kept }
     ensures refused { NoneWaitsOutside state.old → KeepsIfRefused (answered fault.new result) state.old state.new }
 {
@@ -195,6 +211,9 @@ pub fn feed<'input>(
     rooms: &mut Rooms<'input>,
 ) -> Result<(), Refused>
     ensures fed { LeavesIfRoom (answered fault.new result) state.new (spec.take_item (options_of options.now)
+        (item_view item.entry) begins_key next_line state.old) }
+    ensures by_fault { ItemAtOnce (item_view item.entry) begins_key state.old
+        → RefusesByFault (answered fault.new result) (spec.take_item (options_of options.now)
         (item_view item.entry) begins_key next_line state.old) }
     ensures kept { holds_directive (item_view item.entry) ≡ false → state.new.kept ≡ state.old.kept }
     ensures refused { NoneWaitsOutside state.old → KeepsIfRefused (answered fault.new result) state.old state.new }

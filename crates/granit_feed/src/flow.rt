@@ -5,6 +5,7 @@ ghost use Rattle.granit_error.specs.FaultKind as faults;
 ghost use Rattle.granit_refused.specs.Answered.{answered, why};
 ghost use Rattle.granit_lexemes.specs.Outcome.{fault_at};
 ghost use Rattle.granit_sorts.specs.SortViews.{machine_token, sort_view};
+ghost use Rattle.granit_frames.specs.Refusing.{RefusesByFault};
 ghost use Rattle.granit_frames.specs.StateViews.{has_properties};
 ghost use Rattle.granit_nesting.specs.FrameViews.{frame_view, pair_view};
 ghost use Rattle.granit_machine.specs.FlowSteps as steps;
@@ -12,6 +13,7 @@ ghost use Rattle.granit_machine.specs.Frames as machine;
 ghost use Rattle.granit_machine.specs.Giving as giving;
 ghost use Rattle.granit_machine.specs.Leaving.{LeavesIfRoom};
 ghost use Rattle.granit_machine.specs.NodeEnds as ends;
+ghost use Rattle.granit_machine.specs.TokenSort as sorts;
 
 use granit_base::{Marker, NoMemory, Span, StructureStyle};
 use granit_error::{ErrorKind, Options, ScanError};
@@ -140,6 +142,10 @@ fn at_entry<'input>(
     ensures leaves { LeavesIfRoom (answered fault.new result) state.new
         (steps.at_entry (options_of options.now) (machine_token token.old)
         (sort_view token.old.sort) state.old) }
+    ensures by_fault { (sort_view token.old.sort ≡ sorts.BeginsKey → ⊥)
+        → RefusesByFault (answered fault.new result)
+        (steps.at_entry (options_of options.now) (machine_token token.old)
+        (sort_view token.old.sort) state.old) }
     ensures kept { state.new.kept ≡ state.old.kept }
 {
     let start = token.lexeme.start;
@@ -183,6 +189,8 @@ fn behind_flow_entry<'input>(
 ) -> Result<(), Refused>
     ensures leaves { LeavesIfRoom (answered fault.new result) state.new (steps.behind_entry_of (machine_token token.now)
         (sort_view token.now.sort) state.old) }
+    ensures by_fault { RefusesByFault (answered fault.new result) (steps.behind_entry_of (machine_token token.now)
+        (sort_view token.now.sort) state.old) }
     ensures kept { state.new.kept ≡ state.old.kept }
 {
     match token.sort {
@@ -209,6 +217,9 @@ pub(crate) fn in_flow_sequence<'input>(
 ) -> Result<(), Refused>
     requires bare { has_properties state.old.frames ≡ false }
     ensures leaves { LeavesIfRoom (answered fault.new result) state.new (steps.in_flow_sequence (options_of options.now)
+        (machine_token token.old) behind_entry state.old) }
+    ensures by_fault { (sort_view token.old.sort ≡ sorts.BeginsKey → ⊥)
+        → RefusesByFault (answered fault.new result) (steps.in_flow_sequence (options_of options.now)
         (machine_token token.old) behind_entry state.old) }
     ensures kept { state.new.kept ≡ state.old.kept }
 {
@@ -248,6 +259,10 @@ fn before_pair<'input>(
     ensures leaves { LeavesIfRoom (answered fault.new result) state.new
         (steps.in_flow_mapping_by (options_of options.now)
         (machine_token token.old) single machine.BeforePair (sort_view token.old.sort) state.old) }
+    ensures by_fault { (sort_view token.old.sort ≡ sorts.BeginsKey → ⊥)
+        → RefusesByFault (answered fault.new result)
+        (steps.in_flow_mapping_by (options_of options.now)
+        (machine_token token.old) single machine.BeforePair (sort_view token.old.sort) state.old) }
     ensures kept { state.new.kept ≡ state.old.kept }
 {
     match token.sort {
@@ -279,6 +294,9 @@ fn at_flow_key<'input>(
     ensures leaves { LeavesIfRoom (answered fault.new result) state.new
         (steps.in_flow_mapping_by (options_of options.now)
         (machine_token token.old) single machine.AtKey (sort_view token.old.sort) state.old) }
+    ensures by_fault { RefusesByFault (answered fault.new result)
+        (steps.in_flow_mapping_by (options_of options.now)
+        (machine_token token.old) single machine.AtKey (sort_view token.old.sort) state.old) }
     ensures kept { state.new.kept ≡ state.old.kept }
 {
     match token.sort {
@@ -305,6 +323,9 @@ fn behind_flow_key<'input>(
     single: bool,
 ) -> Result<(), Refused>
     ensures leaves { LeavesIfRoom (answered fault.new result) state.new
+        (steps.in_flow_mapping_by (options_of options.now)
+        (machine_token token.now) single machine.BehindKey (sort_view token.now.sort) state.old) }
+    ensures by_fault { RefusesByFault (answered fault.new result)
         (steps.in_flow_mapping_by (options_of options.now)
         (machine_token token.now) single machine.BehindKey (sort_view token.now.sort) state.old) }
     ensures kept { state.new.kept ≡ state.old.kept }
@@ -335,6 +356,9 @@ fn at_flow_question<'input>(
     ensures leaves { LeavesIfRoom (answered fault.new result) state.new
         (steps.in_flow_mapping_by (options_of options.now)
         (machine_token token.old) single machine.AtQuestion (sort_view token.old.sort) state.old) }
+    ensures by_fault { RefusesByFault (answered fault.new result)
+        (steps.in_flow_mapping_by (options_of options.now)
+        (machine_token token.old) single machine.AtQuestion (sort_view token.old.sort) state.old) }
     ensures kept { state.new.kept ≡ state.old.kept }
 {
     match token.sort {
@@ -361,6 +385,9 @@ fn behind_flow_question<'input>(
     single: bool,
 ) -> Result<(), Refused>
     ensures leaves { LeavesIfRoom (answered fault.new result) state.new
+        (steps.in_flow_mapping_by (options_of options.now)
+        (machine_token token.now) single machine.BehindQuestion (sort_view token.now.sort) state.old) }
+    ensures by_fault { RefusesByFault (answered fault.new result)
         (steps.in_flow_mapping_by (options_of options.now)
         (machine_token token.now) single machine.BehindQuestion (sort_view token.now.sort) state.old) }
     ensures kept { state.new.kept ≡ state.old.kept }
@@ -391,6 +418,9 @@ fn at_flow_value<'input>(
     ensures leaves { LeavesIfRoom (answered fault.new result) state.new
         (steps.in_flow_mapping_by (options_of options.now)
         (machine_token token.old) single machine.AtValue (sort_view token.old.sort) state.old) }
+    ensures by_fault { RefusesByFault (answered fault.new result)
+        (steps.in_flow_mapping_by (options_of options.now)
+        (machine_token token.old) single machine.AtValue (sort_view token.old.sort) state.old) }
     ensures kept { state.new.kept ≡ state.old.kept }
 {
     match token.sort {
@@ -418,6 +448,9 @@ fn behind_alone<'input>(
     ensures leaves { LeavesIfRoom (answered fault.new result) state.new
         (steps.in_flow_mapping_by (options_of options.now)
         (machine_token token.now) single machine.BehindAlone (sort_view token.now.sort) state.old) }
+    ensures by_fault { RefusesByFault (answered fault.new result)
+        (steps.in_flow_mapping_by (options_of options.now)
+        (machine_token token.now) single machine.BehindAlone (sort_view token.now.sort) state.old) }
     ensures kept { state.new.kept ≡ state.old.kept }
 {
     match token.sort {
@@ -443,6 +476,9 @@ fn behind_flow_pair<'input>(
     single: bool,
 ) -> Result<(), Refused>
     ensures leaves { LeavesIfRoom (answered fault.new result) state.new
+        (steps.in_flow_mapping_by (options_of options.now)
+        (machine_token token.now) single machine.BehindPair (sort_view token.now.sort) state.old) }
+    ensures by_fault { RefusesByFault (answered fault.new result)
         (steps.in_flow_mapping_by (options_of options.now)
         (machine_token token.now) single machine.BehindPair (sort_view token.now.sort) state.old) }
     ensures kept { state.new.kept ≡ state.old.kept }
@@ -473,6 +509,10 @@ pub(crate) fn in_flow_mapping<'input>(
     ensures leaves { LeavesIfRoom (answered fault.new result) state.new
         (steps.in_flow_mapping_by (options_of options.now)
         (machine_token token.old) single (pair_view stage) (sort_view token.old.sort) state.old) }
+    ensures by_fault { (sort_view token.old.sort ≡ sorts.BeginsKey → ⊥)
+        → RefusesByFault (answered fault.new result)
+        (steps.in_flow_mapping_by (options_of options.now)
+        (machine_token token.old) single (pair_view stage) (sort_view token.old.sort) state.old) }
     ensures kept { state.new.kept ≡ state.old.kept }
 {
     match stage {
@@ -500,6 +540,8 @@ pub(crate) fn in_flow_pair<'input>(
 ) -> Result<(), Refused>
     ensures leaves { LeavesIfRoom (answered fault.new result) state.new (steps.in_flow_pair (options_of options.now)
         (machine_token token.old) (pair_view stage) (sort_view token.old.sort) state.old) }
+    ensures by_fault { RefusesByFault (answered fault.new result) (steps.in_flow_pair (options_of options.now)
+        (machine_token token.old) (pair_view stage) (sort_view token.old.sort) state.old) }
     ensures kept { state.new.kept ≡ state.old.kept }
 {
     match stage {
@@ -522,6 +564,8 @@ fn node_of_pair<'input>(
     token: &mut Token<'input>,
 ) -> Result<(), Refused>
     ensures leaves { LeavesIfRoom (answered fault.new result) state.new (steps.in_flow_pair (options_of options.now)
+        (machine_token token.old) machine.AtValue (sort_view token.old.sort) state.old) }
+    ensures by_fault { RefusesByFault (answered fault.new result) (steps.in_flow_pair (options_of options.now)
         (machine_token token.old) machine.AtValue (sort_view token.old.sort) state.old) }
     ensures kept { state.new.kept ≡ state.old.kept }
 {

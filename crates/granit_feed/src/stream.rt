@@ -1,5 +1,5 @@
 //! A lexeme around documents (YAML 1.2.2, chapter 9).
-ghost use Rattle.std.specs.Prelude.{◌≡◌, [], false, None, OnOk};
+ghost use Rattle.std.specs.Prelude.{◌≡◌, [], true, false, None, IsOk, OnOk};
 ghost use Rattle.std.specs.Option.{option_map};
 ghost use Rattle.granit_error.specs.OptionsView.{options_of};
 ghost use Rattle.granit_event.specs.Events.{plain_version};
@@ -7,7 +7,9 @@ ghost use Rattle.granit_error.specs.FaultKind as faults;
 ghost use Rattle.granit_refused.specs.Answered.{answered, why};
 ghost use Rattle.granit_lexemes.specs.Outcome.{fault_at};
 ghost use Rattle.granit_sorts.specs.SortViews.{machine_token, of_kind, sort_view};
+ghost use Rattle.granit_frames.specs.Refusing.{RefusesByFault};
 ghost use Rattle.granit_frames.specs.StateViews.{stage_view};
+ghost use Rattle.granit_feed.specs.AtOnce.{outside_at_once};
 ghost use Rattle.granit_feed.specs.Handles.{KeepsIfRefused};
 ghost use Rattle.granit_items.specs.ItemViews.{kind_view};
 ghost use Rattle.granit_items.specs.declared.item.LexemeKind.TheVariants as kinds;
@@ -19,6 +21,7 @@ ghost use Rattle.granit_machine.specs.Giving as giving;
 ghost use Rattle.granit_machine.specs.Leaving.{LeavesIfRoom};
 ghost use Rattle.granit_machine.specs.NodeEnds.{empty_span};
 ghost use Rattle.granit_machine.specs.StreamSteps as steps;
+ghost use Rattle.granit_machine.specs.TokenSort as sorts;
 
 use granit_base::{NoMemory, Span, Text};
 use granit_error::{ErrorKind, Options, ScanError};
@@ -60,6 +63,9 @@ fn with_version<'input>(
 ) -> Result<(), Refused>
     ensures leaves { LeavesIfRoom (answered fault.new result) state.new (steps.with_version (machine_token token.now)
         (option_map plain_version version) major minor state.old) }
+    ensures by_fault { RefusesByFault (answered fault.new result) (steps.with_version (machine_token token.now)
+        (option_map plain_version version) major minor state.old) }
+    ensures memory { version ≡ None → major ≡ 1 → IsOk result }
     ensures kept { state.new.kept ≡ state.old.kept }
 {
     match version {
@@ -86,6 +92,10 @@ fn with_handle<'input>(
     version: Option<YamlVersion>,
 ) -> Result<(), Refused>
     ensures leaves { LeavesIfRoom (answered fault.new result) state.new (steps.with_directive (options_of options.now)
+        (of_kind (kinds.TagPrefix handle.entry prefix.entry) token.now)
+        (lexemes.TagPrefix handle.entry.characters prefix.entry.characters)
+        (option_map plain_version version) state.old) }
+    ensures by_fault { RefusesByFault (answered fault.new result) (steps.with_directive (options_of options.now)
         (of_kind (kinds.TagPrefix handle.entry prefix.entry) token.now)
         (lexemes.TagPrefix handle.entry.characters prefix.entry.characters)
         (option_map plain_version version) state.old) }
@@ -132,6 +142,9 @@ fn behind_directives<'input>(
 ) -> Result<(), Refused>
     requires outer { state.old.frames ≡ [] }
     ensures leaves { LeavesIfRoom (answered fault.new result) state.new
+        (steps.behind_directives (options_of options.now)
+        (machine_token token.old).lexeme.kind (machine_token token.old) (option_map plain_version version) state.old) }
+    ensures by_fault { RefusesByFault (answered fault.new result)
         (steps.behind_directives (options_of options.now)
         (machine_token token.old).lexeme.kind (machine_token token.old) (option_map plain_version version) state.old) }
     ensures kept { is_directive (kind_view token.old.lexeme.value.kind) ≡ false → state.new.kept ≡ state.old.kept }
@@ -195,6 +208,9 @@ pub(crate) fn at_root<'input>(
 ) -> Result<(), Refused>
     ensures leaves { LeavesIfRoom (answered fault.new result) state.new (steps.at_root (options_of options.now)
         (machine_token token.old) state.old) }
+    ensures by_fault { (sort_view token.old.sort ≡ sorts.BeginsKey → ⊥)
+        → RefusesByFault (answered fault.new result) (steps.at_root (options_of options.now)
+        (machine_token token.old) state.old) }
     ensures kept { state.new.kept ≡ state.old.kept }
 {
     if !token.sort.begins_node() {
@@ -214,6 +230,9 @@ fn begin_document<'input>(
 ) -> Result<(), Refused>
     requires outer { state.old.frames ≡ [] }
     ensures leaves { LeavesIfRoom (answered fault.new result) state.new (steps.begin_document (options_of options.now)
+        (machine_token token.old) state.old) }
+    ensures by_fault { sorts.begins_node (sort_view token.old.sort) ≡ false
+        → RefusesByFault (answered fault.new result) (steps.begin_document (options_of options.now)
         (machine_token token.old) state.old) }
     ensures kept { state.new.kept ≡ state.old.kept }
 {
@@ -251,6 +270,9 @@ fn first_directive<'input>(
     ensures leaves { LeavesIfRoom (answered fault.new result) state.new
         (steps.behind_directives (options_of options.now)
         (machine_token token.old).lexeme.kind (machine_token token.old) None (steps.without_directives state.old)) }
+    ensures by_fault { RefusesByFault (answered fault.new result)
+        (steps.behind_directives (options_of options.now)
+        (machine_token token.old).lexeme.kind (machine_token token.old) None (steps.without_directives state.old)) }
     ensures refused { KeepsIfRefused (answered fault.new result) state.old state.new }
 {
     state.forget_handles();
@@ -285,6 +307,9 @@ fn when_fresh<'input>(
     requires outer { state.old.frames ≡ [] }
     ensures leaves { LeavesIfRoom (answered fault.new result) state.new (steps.when_fresh (options_of options.now)
         (machine_token token.old).lexeme.kind (machine_token token.old) state.old) }
+    ensures by_fault { sorts.begins_node (sort_view token.old.sort) ≡ false
+        → RefusesByFault (answered fault.new result) (steps.when_fresh (options_of options.now)
+        (machine_token token.old).lexeme.kind (machine_token token.old) state.old) }
     ensures kept { is_directive (kind_view token.old.lexeme.value.kind) ≡ false → state.new.kept ≡ state.old.kept }
     ensures refused { KeepsIfRefused (answered fault.new result) state.old state.new }
 {
@@ -316,6 +341,9 @@ fn when_between<'input>(
 ) -> Result<(), Refused>
     requires outer { state.old.frames ≡ [] }
     ensures leaves { LeavesIfRoom (answered fault.new result) state.new
+        (steps.when_between (machine_token token.now).lexeme.kind
+        (machine_token token.now) state.old) }
+    ensures by_fault { RefusesByFault (answered fault.new result)
         (steps.when_between (machine_token token.now).lexeme.kind
         (machine_token token.now) state.old) }
     ensures kept { state.new.kept ≡ state.old.kept }
@@ -415,6 +443,10 @@ pub(crate) fn outside<'input>(
 ) -> Result<(), Refused>
     requires outer { state.old.frames ≡ [] }
     ensures leaves { LeavesIfRoom (answered fault.new result) state.new
+        (steps.outside (options_of options.now) state.old.stage
+        (machine_token token.old) state.old) }
+    ensures by_fault { outside_at_once state.old.stage (sort_view token.old.sort) ≡ true
+        → RefusesByFault (answered fault.new result)
         (steps.outside (options_of options.now) state.old.stage
         (machine_token token.old) state.old) }
     ensures kept { is_directive (kind_view token.old.lexeme.value.kind) ≡ false → state.new.kept ≡ state.old.kept }

@@ -36,5 +36,12 @@ pub closed_all : (o : OptionsData) (t : Token) (p : ParserState) → ends_top t 
 closed_all o t p stays =
     ap (λ r. r >>= λ x. Ok x.1) (pieces_done depth (close_turn o t) p p (last_turn o t p stays))
 
+-- where the first frame stays, none was ended
+pub ends_none : (t : Token) (first p : ParserState) → (ends_top t first first.frames ≡ false → p ≡ first)
+    → ends_top t p p.frames ≡ true → ends_top t first first.frames ≡ false → ⊥
+ends_none t first p same ends stays =
+    let both : true ≡ false = sym ends ∙ ap (λ (q : ParserState). ends_top t q q.frames) (same stays) ∙ stays in
+    cc both
+
 -- a turn of closing, and its end
 pub ruleset closing_turns = (closes_on, closing_shortens, closed_all)

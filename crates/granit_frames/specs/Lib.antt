@@ -1,3 +1,4 @@
 pub mod Outside
+pub mod Refusing
 pub mod StateViews
 pub mod TopViews

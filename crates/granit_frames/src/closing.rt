@@ -1,5 +1,5 @@
 //! What a lexeme ends before it is taken.
-ghost use Rattle.std.specs.Prelude.{◌≡◌, Ok, OnOk};
+ghost use Rattle.std.specs.Prelude.{◌≡◌, false, Ok, IsOk, OnOk};
 ghost use Rattle.granit_error.specs.OptionsView.{options_of};
 ghost use Rattle.granit_sorts.specs.SortViews.{sort_view, machine_token};
 ghost use Rattle.granit_frames.specs.Outside.{NoneWaitsOutside};
@@ -153,6 +153,7 @@ impl<'input> ParserState<'input> {
             ≡ Ok self.new) }
         ensures outside { OnOk result (NoneWaitsOutside self.old → NoneWaitsOutside self.new) }
         ensures kept { self.new.kept ≡ self.old.kept }
+        ensures memory { closing.ends_top (machine_token token.now) self.old self.old.frames ≡ false → IsOk result }
     {
         'tops: while self.ends_top(token) {
             self.end_top(options, token)?;

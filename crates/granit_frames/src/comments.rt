@@ -3,6 +3,7 @@ ghost use Rattle.std.specs.Prelude.{◌≡◌, ◌<◌, ◌-◌, [], ◌∷◌, 
 ghost use Rattle.granit_event.specs.Events.{plain_event, plain_events};
 ghost use Rattle.granit_items.specs.ItemViews.{note_view};
 ghost use Rattle.granit_refused.specs.Answered.{answered};
+ghost use Rattle.granit_frames.specs.Refusing.{RefusesByFault};
 ghost use Rattle.granit_frames.specs.StateViews.{waiting_view};
 ghost use Rattle.granit_machine.specs.Leaving.{LeavesIfRoom};
 ghost use Rattle.granit_machine.specs.Parser as spec;
@@ -67,6 +68,8 @@ impl<'input> ParserState<'input> {
         next_line: Option<usize>,
     ) -> Result<(), Refused>
         ensures leaves { LeavesIfRoom (answered fault.new result) self.new
+            (spec.take_comment (note_view note.entry) next_line self.old) }
+        ensures by_fault { RefusesByFault (answered fault.new result)
             (spec.take_comment (note_view note.entry) next_line self.old) }
         ensures kept { self.new.kept ≡ self.old.kept }
     {

@@ -1,5 +1,5 @@
 //! A document is dropped, and what waits is looked at.
-ghost use Rattle.std.specs.Prelude.{◌≡◌, ◌++◌, [], slice_get, OnOk};
+ghost use Rattle.std.specs.Prelude.{◌≡◌, ◌++◌, [], length, slice_get, OnOk};
 ghost use Rattle.std.specs.Option.{option_copied, option_map};
 ghost use Rattle.granit_event.specs.Events.{plain_event, plain_events};
 ghost use Rattle.granit_machine.specs.Frames.{parser_start};
@@ -28,6 +28,13 @@ impl<'input> ParserState<'input> {
         ensures { result ≡ self.now.count }
     {
         self.count
+    }
+
+    /// How many events weren't taken yet.
+    pub fn event_count(&self) -> usize
+        ensures { result ≡ length self.now.given }
+    {
+        self.given.len()
     }
 
     /// The event behind so many others that weren't taken yet.
@@ -64,23 +71,6 @@ impl<'input> ParserState<'input> {
         let mut events = events;
         events.append(&mut self.given)?;
         self.given = events;
-        Ok(())
-    }
-
-    /// The events that weren't taken yet move behind those of a list.
-    ///
-    /// # Errors
-    ///
-    /// `NoMemory` alone.
-    pub fn move_events(
-        &mut self,
-        events: &mut VecDeque<(Event<'input>, Span)>,
-    ) -> Result<(), NoMemory>
-        ensures moved { OnOk result (plain_events events.new.items
-            ≡ plain_events events.old.items ++ self.old.given) }
-        ensures rest { OnOk result (self.new ≡ record self.old { given = [] }) }
-    {
-        events.append(&mut self.given)?;
         Ok(())
     }
 

@@ -1,11 +1,12 @@
 //! How nodes end and collections begin.
-ghost use Rattle.std.specs.Prelude.{◌≡◌, ◌∷◌, false, None, OnOk};
+ghost use Rattle.std.specs.Prelude.{◌≡◌, ◌<◌, ◌∷◌, false, length, None, IsOk, OnOk};
 ghost use Rattle.std.specs.Option.{option_map};
 ghost use Rattle.granit_base.specs.Written.{lent};
 ghost use Rattle.granit_base.specs.declared.style.ScalarStyle.TheVariants.{Plain};
 ghost use Rattle.granit_error.specs.OptionsView.{options_of};
 ghost use Rattle.granit_event.specs.Events.{event_kind};
 ghost use Rattle.granit_refused.specs.Answered.{answered};
+ghost use Rattle.granit_frames.specs.Refusing.{RefusesByFault};
 ghost use Rattle.granit_frames.specs.StateViews.{tag_view, bears, has_properties};
 ghost use Rattle.granit_lexemes.specs.PlainEvent as plain;
 ghost use Rattle.granit_machine.specs.Frames as spec;
@@ -57,6 +58,7 @@ impl<'input> ParserState<'input> {
     pub fn with_top(&mut self, frame: Frame) -> Result<(), NoMemory>
         ensures leaves { OnOk result (self.new ≡ ends.with_top (frame_view frame) self.old) }
         ensures kept { self.new.kept ≡ self.old.kept }
+        ensures memory { has_properties self.old.frames ≡ false → 0 < length self.old.frames → IsOk result }
     {
         match &self.properties {
             None => self.frames.replace(frame),
@@ -72,6 +74,7 @@ impl<'input> ParserState<'input> {
     pub fn finish(&mut self) -> Result<(), NoMemory>
         ensures leaves { OnOk result (self.new ≡ ends.finish self.old) }
         ensures kept { self.new.kept ≡ self.old.kept }
+        ensures memory { IsOk result }
     {
         match self.top() {
             Top::Outside => Ok(()),
@@ -96,6 +99,7 @@ impl<'input> ParserState<'input> {
     }
 
     /// The empty nodes of the pair that ends before a place, or goes on there with no `:`.
+    #[inline(always)]
     pub fn owed(&mut self, mark: Marker) -> Result<(), NoMemory>
         ensures leaves { OnOk result (self.new ≡ ends.owed mark self.old) }
         ensures kept { self.new.kept ≡ self.old.kept }
@@ -196,6 +200,7 @@ impl<'input> ParserState<'input> {
     }
 
     /// The innermost collection ends before a place, with an event of a span.
+    #[inline(always)]
     #[tactic(auto, unfolding(granit_machine::specs::NodeEnds::end_node))]
     pub fn end_node(&mut self, mark: Marker, start: Marker, end: Marker) -> Result<(), NoMemory>
         ensures leaves { OnOk result (self.new ≡ ends.end_node mark (record { start = start; end = end }) self.old) }
@@ -303,6 +308,8 @@ impl<'input> ParserState<'input> {
     ) -> Result<(), Refused>
         ensures leaves { LeavesIfRoom (answered fault.new result) self.new (ends.begin_block (options_of options.now)
             (bears (event_kind event.entry)) mark (frame_view frame) self.old) }
+        ensures by_fault { RefusesByFault (answered fault.new result) (ends.begin_block (options_of options.now)
+            (bears (event_kind event.entry)) mark (frame_view frame) self.old) }
         ensures kept { self.new.kept ≡ self.old.kept }
     {
         if options.block_nesting_limit <= self.block_count() {
@@ -320,6 +327,7 @@ impl<'input> ParserState<'input> {
     pub fn waits(&mut self, alloc: Global, mark: Marker, room: usize) -> Result<(), NoMemory>
         ensures leaves { OnOk result (self.new ≡ ends.waits mark room self.old) }
         ensures kept { self.new.kept ≡ self.old.kept }
+        ensures memory { self.old.waiting ≡ None → IsOk result }
     {
         self.flush()?;
         self.waiting = Some(Waiting {

@@ -1,5 +1,6 @@
 //! How events are given: behind held comments, and with the properties of their node.
-ghost use Rattle.std.specs.Prelude.{◌≡◌, ◌-◌, ◌==◌, ◌++◌, ◌∷◌, [], false, not, None, length, drop, slice_get, OnOk};
+ghost use Rattle.std.specs.Prelude.{◌≡◌, ◌-◌, ◌==◌, ◌++◌, ◌∷◌, [], false, not, None, length, drop};
+ghost use Rattle.std.specs.Prelude.{slice_get, IsOk, OnOk};
 ghost use Rattle.std.specs.Option.{option_map};
 ghost use Rattle.granit_error.specs.OptionsView.{options_of};
 ghost use Rattle.granit_event.specs.Events.{event_kind, plain_event};
@@ -37,6 +38,7 @@ impl<'input> ParserState<'input> {
     pub fn flush(&mut self) -> Result<(), NoMemory>
         ensures leaves { OnOk result (self.new ≡ giving.flush self.old) }
         ensures kept { self.new.kept ≡ self.old.kept }
+        ensures memory { self.old.waiting ≡ None → IsOk result }
     {
         match &self.waiting {
             None => Ok(()),
@@ -45,7 +47,7 @@ impl<'input> ParserState<'input> {
     }
 
     /// The same where something waits.
-    #[inline(never)]
+    #[inline(always)]
     fn flush_held(&mut self) -> Result<(), NoMemory>
         ensures leaves { OnOk result (self.new ≡ giving.flush self.old) }
         ensures kept { self.new.kept ≡ self.old.kept }
@@ -69,6 +71,7 @@ impl<'input> ParserState<'input> {
     }
 
     /// Gives an event behind the held comments.
+    #[inline(always)]
     pub fn give(&mut self, event: Event<'input>, span: Span) -> Result<(), NoMemory>
         ensures leaves { OnOk result (self.new ≡ giving.give (plain_event (event.entry, span)) self.old) }
         ensures kept { self.new.kept ≡ self.old.kept }
@@ -108,6 +111,7 @@ impl<'input> ParserState<'input> {
     pub fn give_empty(&mut self) -> Result<(), NoMemory>
         ensures leaves { OnOk result (self.new ≡ giving.give_empty self.old) }
         ensures kept { self.new.kept ≡ self.old.kept }
+        ensures memory { self.old.waiting ≡ None → IsOk result }
     {
         match &self.waiting {
             None => Ok(()),
@@ -239,6 +243,8 @@ impl<'input> ParserState<'input> {
         ensures leaves { OnOk result (self.new
             ≡ giving.tell_anchor (options_of options.now) (option_map anchor_view anchor.entry) self.old) }
         ensures kept { self.new.kept ≡ self.old.kept }
+        ensures none { anchor.entry ≡ None → IsOk result }
+        ensures unasked { (options_of options.now).emit_anchor_events ≡ false → IsOk result }
     {
         match anchor {
             None => Ok(()),

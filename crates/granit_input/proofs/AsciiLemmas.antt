@@ -23,7 +23,7 @@ use Rattle.granit_input.proofs.WhiteLemmas.{skipped_nul, skipped_some}
 use Rattle.granit_input.proofs.StringLemmas.{behind_more}
 
 -- the first character of a text whose first byte is of ASCII
-spelt : (s : List ℕ) (i : ℕ) → i < length s → slice_index s i < 0x80
+pub spelt : (s : List ℕ) (i : ℕ) → i < length s → slice_index s i < 0x80
     → drop i s ≡ encode_utf8 (slice_index s i) ++ drop (i + 1) s
 spelt s i within low =
     let one : i + 1 ≡ suc i = omega arith in
@@ -131,7 +131,8 @@ skipped_low Yes c y = grind (arith, nat_tests, y)
 skipped_low No c y = grind (arith, nat_tests, y)
 
 -- a first character of ASCII is the first byte
-low_first : (cs bytes : List ℕ) → encode_utf8_all cs ≡ bytes → 0 < first cs → first cs < 0x80 → first cs ≡ first bytes
+pub low_first : (cs bytes : List ℕ) → encode_utf8_all cs ≡ bytes → 0 < first cs → first cs < 0x80
+    → first cs ≡ first bytes
 low_first [] bytes is some low = absurd (omega (arith, some))
 low_first (c ∷ cs) bytes is some low =
     sym (ap (λ (bs : List ℕ). first (bs ++ encode_utf8_all cs)) (encode_ascii c low)) ∙ ap first is

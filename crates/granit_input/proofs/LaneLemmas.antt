@@ -189,7 +189,7 @@ module _ (test : List ℕ → Bool) (pair : ℕ → ℕ → Bool) (sure : IsSure
   pub taken_few : r ≤ 16
   taken_few = omega (arith, counted, long, prefix_len-le-length (λ (a : ℕ). not (a == 0)) lanes)
 
-  pair_at : (k : ℕ) → k < r → pair (slice_index bytes (at + k)) (slice_index bytes (at + k + 1)) ≡ true
+  pub pair_at : (k : ℕ) → k < r → pair (slice_index bytes (at + k)) (slice_index bytes (at + k + 1)) ≡ true
   pair_at k few =
       let set : not (get_or lanes k 0 == 0) ≡ true = prefix_len_passes (λ (a : ℕ). not (a == 0)) lanes k 0
       (omega (arith, counted, few)) in

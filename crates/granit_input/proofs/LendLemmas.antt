@@ -1,17 +1,31 @@
 -- Parts of a source between two places of reading.
-use Rattle.std.proofs.Common.{◌≡◌, ℕ, ◌+◌, ◌-◌, ◌≤◌, Bool, List, ◌++◌, length, take, drop, slice_range, ◌&&◌, Option}
-use Rattle.std.proofs.Common.{Some, None, is_some, IsNone, IfSome, refl, sym, ap, subst, ◌∙◌, arith}
+use Rattle.std.proofs.Common.{◌≡◌, ℕ, zero, suc, ◌+◌, ◌-◌, ◌≤◌, Bool, List, [], ◌∷◌, ◌++◌, length, take, drop}
+use Rattle.std.proofs.Common.{slice_range, ◌&&◌, Option, Some, None, is_some, IsNone, IfSome, refl, sym, ap, subst, ◌∙◌}
+use Rattle.std.proofs.Common.{arith}
+use Rattle.std.specs.Char.{encode_utf8}
 use Rattle.std.specs.Str.{chars, encode_utf8_all, IsUtf8, IsCharBoundary}
-use Rattle.std.proofs.lemmas.List.{take-append-drop, drop-drop, length-drop}
+use Rattle.std.proofs.lemmas.List.{take-append-drop, drop-drop, length-append, length-drop}
+use Rattle.std.proofs.Math.Seq.{take-append_seam, drop-append_seam, take-nil, drop-nil}
+use Rattle.std.proofs.lemmas.Str.{encodes-append, encodes-chars, encodes_same, IsUtf8-from_is_utf8}
+use Rattle.std.proofs.lemmas.Str.{IsCharBoundary-from_drop, IsUtf8-take, chars_past_char, IsUtf8-past_char}
+use Rattle.std.proofs.Common.{◌≡◌, ℕ, ◌+◌, ◌-◌, ◌≤◌, Bool, List, ◌++◌, length, take, drop, slice_range, ◌&&◌, Option}
+use Rattle.std.proofs.Common.{Some, None, is_some, IsNone, IfSome, refl, sym, ap, subst, ◌∙◌, arith, zero, suc, [], ◌∷◌}
+use Rattle.std.proofs.Common.{◌<◌, true, add-zero}
+use Rattle.std.specs.Char.{encode_utf8}
+use Rattle.std.specs.Str.{chars, encode_utf8_all, IsUtf8, IsCharBoundary}
+use Rattle.std.proofs.lemmas.Bool.{and_parts}
+use Rattle.std.proofs.lemmas.List.{take-append-drop, drop-drop, drop_at, length-append, length-drop}
 use Rattle.std.proofs.Math.Seq.{take-append_seam}
 use Rattle.std.proofs.lemmas.Str.{encodes-append, encodes-chars, encodes_same, IsUtf8-from_is_utf8}
-use Rattle.std.proofs.lemmas.Str.{IsCharBoundary-from_drop, IsUtf8-take}
+use Rattle.std.proofs.lemmas.Str.{IsCharBoundary-from_drop, IsUtf8-past_char, IsUtf8-take, chars_past_char}
+use Rattle.std.proofs.lemmas.Str.{is_utf8-from_IsUtf8}
 use Rattle.std.specs.Borrow.{Bor}
 use Rattle.std.specs.Option.{option_map}
 use Rattle.granit_base.specs.Spans.{CutsOut}
 use Rattle.granit_base.specs.Place.{Unread}
-use Rattle.granit_input.specs.Origin.{Origin, Goes, Agrees, LentBetween}
+use Rattle.granit_input.specs.Origin.{Origin, Goes, Agrees, LentBetween, PartOf}
 use Rattle.granit_input.specs.Unread.{Spells, utf8_length, past_count}
+use Rattle.granit_input.specs.Words.{LendsWords}
 use Rattle.granit_input.proofs.UnreadLemmas.{past_offset}
 
 pub spells_utf8 : (bytes : List ℕ) (at : ℕ) (text : List ℕ) → Spells bytes at text → IsUtf8 (drop at bytes)
@@ -19,6 +33,42 @@ spells_utf8 bytes at text s = IsUtf8-from_is_utf8 (drop at bytes) s.utf8
 
 pub spells_cut : (bytes : List ℕ) (at : ℕ) (text : List ℕ) → Spells bytes at text → IsCharBoundary bytes at
 spells_cut bytes at text s = IsCharBoundary-from_drop bytes at s.within (spells_utf8 bytes at text s)
+
+-- a source spells on behind each character
+spells_step : (bytes : List ℕ) (at c : ℕ) (cs : List ℕ) → Spells bytes at (c ∷ cs)
+    → Spells bytes (at + length (encode_utf8 c)) cs
+spells_step bytes at c cs s =
+    let here = drop at bytes in
+    let rest = encode_utf8_all cs in
+    let utf8 = spells_utf8 bytes at (c ∷ cs) s in
+    let spelt : here ≡ encode_utf8 c ++ rest = sym (encodes-chars here utf8) ∙ ap encode_utf8_all s.spelled in
+    let behind : drop (at + length (encode_utf8 c)) bytes ≡ rest = sym (drop-drop (length (encode_utf8 c)) at bytes)
+    ∙ ap (drop (length (encode_utf8 c))) spelt ∙ drop-append_seam (encode_utf8 c) rest in
+    let text : chars rest ≡ cs = ap (drop 1) (sym (chars_past_char here rest c utf8 spelt) ∙ s.spelled) in
+    record {
+      within = omega (
+        arith,
+        s.within,
+        length-drop at bytes,
+        ap length spelt ∙ length-append (encode_utf8 c) rest,
+      );
+      utf8 = rw behind (is_utf8-from_IsUtf8 rest (IsUtf8-past_char here rest c utf8 spelt));
+      spelled = ap chars behind ∙ text;
+    }
+
+pub spells_past : (bytes : List ℕ) (at : ℕ) (text : List ℕ) (n : ℕ) → Spells bytes at text
+    → Spells bytes (at + utf8_length (take n text)) (drop n text)
+spells_past bytes at [] n s =
+    let none : at ≡ at + utf8_length (take n []) = rw (take-nil n) (omega arith) in
+    subst (λ (k : ℕ). Spells bytes k (drop n [])) none (rw (drop-nil n) s)
+spells_past bytes at (c ∷ cs) zero s =
+    let none : at ≡ at + 0 = omega arith in
+    subst (λ (k : ℕ). Spells bytes k (c ∷ cs)) none s
+spells_past bytes at (c ∷ cs) (suc n) s =
+    let next = spells_past bytes (at + length (encode_utf8 c)) cs n (spells_step bytes at c cs s) in
+    let far : at + length (encode_utf8 c) + utf8_length (take n cs) ≡ at + utf8_length (c ∷ take n cs) =
+    omega (arith, length-append (encode_utf8 c) (encode_utf8_all (take n cs))) in
+    subst (λ (k : ℕ). Spells bytes k (drop n cs)) far next
 
 -- between two places of reading the source can be cut
 pub part_cut : (bytes : List ℕ) (start end : ℕ) (text rest : List ℕ) → Spells bytes start text → Spells bytes end rest
@@ -101,3 +151,64 @@ lent_past old now left_old left_now u n start end answer goes before after from 
     let lends : u.lends ≡ (now.tells_offset && is_some now.lent) = before.lends
     ∙ rw (← goes.tells_offset, ← goes.lent) refl in
     (answered.0 ∙ ap (λ (t : Bool). t && is_some now.lent) told ∙ sym lends, answered.1)
+
+-- ---- behind characters that stand there
+
+spells_more : (bytes : List ℕ) (at c : ℕ) (cs : List ℕ) → Spells bytes at (c ∷ cs)
+    → Spells bytes (at + length (encode_utf8 c)) cs
+spells_more bytes at c cs s =
+    let here = drop at bytes in
+    let size = length (encode_utf8 c) in
+    let whole : here ≡ encode_utf8 c ++ encode_utf8_all cs =
+    sym (encodes-chars here (spells_utf8 bytes at (c ∷ cs) s)) ∙ ap encode_utf8_all s.spelled in
+    let behind : drop size here ≡ encode_utf8_all cs = ap (drop size) whole
+    ∙ drop_at (encode_utf8 c) (encode_utf8_all cs) size refl in
+    let after : drop (at + size) bytes ≡ encode_utf8_all cs = sym (drop-drop size at bytes) ∙ behind in
+    let utf8 : IsUtf8 (encode_utf8_all cs) =
+    IsUtf8-past_char here (encode_utf8_all cs) c (spells_utf8 bytes at (c ∷ cs) s) whole in
+    let text : c ∷ cs ≡ c ∷ chars (encode_utf8_all cs) =
+    sym s.spelled ∙ chars_past_char here (encode_utf8_all cs) c (spells_utf8 bytes at (c ∷ cs) s) whole in
+    let long : length here ≡ size + length (encode_utf8_all cs) = ap length whole
+    ∙ length-append (encode_utf8 c) (encode_utf8_all cs) in
+    let left : length here ≡ length bytes - at = length-drop at bytes in
+    record {
+      within = omega (arith, long, left, s.within);
+      utf8 = is_utf8-from_IsUtf8 (drop (at + size) bytes) (rw after utf8);
+      spelled = ap chars after ∙ sym (ap (drop 1) text);
+    }
+
+-- so many characters on, what is left is spelled too
+pub spells_behind : (n : ℕ) (bytes : List ℕ) (at : ℕ) (text : List ℕ) → Spells bytes at text
+    → Spells bytes (at + utf8_length (take n text)) (drop n text)
+spells_behind zero bytes at [] s = subst (λ (k : ℕ). Spells bytes k []) (sym (add-zero at)) s
+spells_behind zero bytes at (c ∷ cs) s = subst (λ (k : ℕ). Spells bytes k (c ∷ cs)) (sym (add-zero at)) s
+spells_behind (suc n) bytes at [] s = subst (λ (k : ℕ). Spells bytes k []) (sym (add-zero at)) s
+spells_behind (suc n) bytes at (c ∷ cs) s =
+    let more = spells_behind n bytes (at + length (encode_utf8 c)) cs (spells_more bytes at c cs s) in
+    let apart : at + length (encode_utf8 c) + utf8_length (take n cs)
+    ≡ at + (length (encode_utf8 c) + utf8_length (take n cs)) = omega arith in
+    let far : at + length (encode_utf8 c) + utf8_length (take n cs) ≡ at + utf8_length (c ∷ take n cs) = apart
+    ∙ ap (λ (k : ℕ). at + k) (sym (length-append (encode_utf8 c) (encode_utf8_all (take n cs)))) in
+    subst (λ (k : ℕ). Spells bytes k (drop n cs)) far more
+
+-- words are lent where they lie
+pub lent_words : (in_flow : Bool) (old now : Origin) (left : ℕ) (u : Unread) (start end : ℕ)
+    (answer : Option (Bor (List ℕ))) → Goes old now → Agrees left old u → LendsWords in_flow u start end
+    → PartOf now.lent start end answer
+    → (is_some answer ≡ true) × IfSome answer (λ part. chars part.now ≡ take (end - start) u.text)
+lent_words in_flow old now left u start end answer goes before w h =
+    let n = end - start in
+    let far : start + utf8_length (take n u.text) ≡ end = omega (arith, w.words.single, w.words.some) in
+    let here = λ (bytes : List ℕ) (source : now.lent ≡ Some bytes). before.lent bytes start (sym goes.lent ∙ source)
+    w.offset in
+    let answered = lent_between now.lent (Some start) (Some end) u.text (drop n u.text) n answer
+    (λ bytes at is told. subst (λ (k : ℕ). Spells bytes k u.text) (some_of start at told) (here bytes is))
+    (λ bytes at is told. subst (λ (k : ℕ). Spells bytes k (drop n u.text)) (far ∙ some_of end at told)
+    (spells_behind n bytes start u.text (here bytes is)))
+    (ap Some (sym far)) h in
+    let there : is_some now.lent ≡ true = ap is_some goes.lent
+    ∙ (and_parts old.tells_offset (is_some old.lent) (sym before.lends ∙ w.lends)).1 in
+    (answered.0 ∙ there, answered.1)
+  where
+    some_of : (a b : ℕ) → ◌≡◌ {A = Option ℕ} (Some a) (Some b) → a ≡ b
+    some_of a b is = cc

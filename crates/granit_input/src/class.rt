@@ -3,6 +3,7 @@ ghost use Rattle.std.specs.Prelude.{◌≡◌, ◌<◌, ◌==◌, ◌&&◌, ◌|
 ghost use Rattle.std.specs.Str.{chars};
 ghost use Rattle.granit_input.specs.Runs.{begins_word, class_test, is_plain_ascii, is_quoted_ascii, is_quoted_char};
 ghost use Rattle.granit_input.specs.Runs.{run_test};
+ghost use Rattle.granit_input.specs.Words.{ShowsByte};
 ghost use Rattle.granit_base.specs.Classes.{is_within};
 ghost use Rattle.granit_base.specs.Place.{first};
 ghost use Rattle.granit_base.specs.PlainContent.{plain_goes_on};
@@ -103,9 +104,11 @@ impl Run {
 
     /// Whether a run surely takes a character of ASCII; behind a space that is seen by `next`, if not NUL.
     #[inline(always)]
+    #[tactic(auto, using(crate::proofs::WordLemmas::word_shows))]
     pub(crate) fn takes_ascii(self, c: char, next: char) -> bool
-        ensures { (after : List ℕ) → result ≡ true
+        ensures takes { (after : List ℕ) → result ≡ true
             → (c ≡ 0x20 → 0 < next → next < 0x80 → first after ≡ next) → run_test self (c ∷ after) ≡ true }
+        ensures shown { result ≡ true → ShowsByte self c }
     {
         match self {
             Run::Of(class) => class.contains_ascii(c),

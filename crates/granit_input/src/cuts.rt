@@ -9,6 +9,7 @@ ghost use Rattle.granit_input.specs.Cuts.{SpellsFront, IsAsciiFront};
 ghost use Rattle.granit_input.specs.Origin.{PartOf};
 ghost use Rattle.granit_input.specs.Runs.{run_test, starts};
 ghost use Rattle.granit_input.specs.White.{blanks_length, holds, is_skipped, whitespace_found};
+ghost use Rattle.granit_input.specs.Words.{ShowsByte, ShowsFront};
 
 use crate::class::{Class, Run};
 use crate::lanes::{LANES, taken_at};
@@ -71,9 +72,10 @@ fn past_ascii(s: &str, run: Run, limit: usize) -> (usize, &str)
 
 /// How many characters of ASCII a run takes in front, at most `limit`. A run that is often long has a loop of its
 /// own, since what counts is carried out here.
-fn ascii_count(s: &str, run: Run, limit: usize) -> usize
+pub(crate) fn ascii_count(s: &str, run: Run, limit: usize) -> usize
     ensures front { IsAsciiFront (run_test run) s.now result }
     ensures limit { result ≤ limit }
+    ensures shown { ShowsFront run s.now result }
 {
     match run {
         Run::Of(Class::Printable) => ascii_lanes(s, Run::Of(Class::Printable), limit),
@@ -90,6 +92,7 @@ fn ascii_count(s: &str, run: Run, limit: usize) -> usize
 fn ascii_lanes(s: &str, run: Run, limit: usize) -> usize
     ensures front { IsAsciiFront (run_test run) s.now result }
     ensures limit { result ≤ limit }
+    ensures shown { ShowsFront run s.now result }
 {
     let bytes = s.as_bytes();
     let end = limit.min(bytes.len());
@@ -109,8 +112,10 @@ fn ascii_lanes(s: &str, run: Run, limit: usize) -> usize
 fn ascii_front(s: &str, run: Run, limit: usize, counted: usize) -> usize
     requires counted { IsAsciiFront (run_test run) s.now counted }
     requires within { counted ≤ limit }
+    requires shown { ShowsFront run s.now counted }
     ensures front { IsAsciiFront (run_test run) s.now result }
     ensures limit { result ≤ limit }
+    ensures shown { ShowsFront run s.now result }
 {
     let bytes = s.as_bytes();
     let end = limit.min(bytes.len());
@@ -131,6 +136,7 @@ fn takes_byte(bytes: &[u8], at: usize, run: Run) -> bool
     ensures low { result ≡ true → slice_index bytes.now at < 0x80 }
     ensures takes { (after : List ℕ) → result ≡ true → chars (drop (at + 1) bytes.now) ≡ after
         → is_utf8 (drop (at + 1) bytes.now) ≡ true → run_test run (slice_index bytes.now at ∷ after) ≡ true }
+    ensures shown { result ≡ true → ShowsByte run (slice_index bytes.now at) }
 {
     let byte = bytes[at];
     let next = behind_space(bytes, at, byte);

@@ -1,6 +1,6 @@
 //! What a scanner asks of its input.
 ghost use Rattle.std.specs.Prelude.{◌≡◌, ℕ, ◌+◌, ◌-◌, ◌<◌, ◌≤◌, ◌^◌, ◌==◌, ◌&&◌, ◌||◌, Option, false, true, length};
-ghost use Rattle.std.specs.Prelude.{slice_index, is_some, min, max, IfOk, MatchOption, IfSome};
+ghost use Rattle.std.specs.Prelude.{slice_index, is_some, min, max, IfOk, MatchOption, IfSome, IsSome};
 ghost use Rattle.std.specs.Borrow.{sem};
 ghost use Rattle.std.specs.Io.BufRead.{Rests};
 ghost use Rattle.std.specs.Option.{option_map};
@@ -11,6 +11,7 @@ ghost use Rattle.granit_base.specs.Place.{Unread, first};
 ghost use Rattle.granit_base.specs.Written.{string_chars};
 ghost use Rattle.granit_error.specs.FaultKind.{FaultKind};
 ghost use Rattle.granit_error.specs.Kinds.{kind_of};
+ghost use Rattle.granit_input.specs.Quotes.{TakesQuoted, quote_of};
 ghost use Rattle.granit_input.specs.Unread.{past_count};
 ghost use Rattle.granit_input.specs.Origin.{Origin, Goes, PartOf, error_given, Gave, Agrees};
 ghost use Rattle.granit_input.specs.Runs.{starts, run_test, is_line_char, is_quoted_ascii};
@@ -18,9 +19,11 @@ ghost use Rattle.granit_input.specs.Runs.{is_quoted_char, can_be_plain};
 ghost use Rattle.granit_base.specs.PlainContent.{is_content};
 ghost use Rattle.granit_input.specs.Chunks.{SkipsRun, FetchesRun, SkipsFront, FetchesFront, Extends, TakesText};
 ghost use Rattle.granit_input.specs.Chunks.{count_of, front_count_of};
+ghost use Rattle.granit_input.specs.Lines.{TakesLines, lines_taken, is_visible};
 ghost use Rattle.granit_input.specs.Looks.{begins_with_2, begins_with_3, is_document_start, is_document_end};
 ghost use Rattle.granit_input.specs.Looks.{is_document_indicator, ReadsNonBreakz};
 ghost use Rattle.granit_input.specs.White.{holds, SkipsBlanks, SkipsWhite};
+ghost use Rattle.granit_input.specs.Words.{TakesPlain, plain_taken};
 
 use crate::class::{Class, Run, begins_word, goes_on, is_quoted, is_quoted_ascii};
 use crate::whitespace::{SkipTabs, WhitespaceResult};
@@ -123,6 +126,55 @@ pub trait Input: Drop {
         ensures unread { (u : Unread) → unread self.old u → unread self.new u }
         ensures moves { (left self.new ≤ left self.old) × (window self.old ≤ window self.new)
             × Gave (origin self.old) (origin self.new) };
+
+    /// Consumes line feeds and the spaces behind each, where a visible character of ASCII stands behind them: how many
+    /// characters, how many of them are line feeds, and how many spaces stand behind the last one (YAML 1.2.2, 6.1).
+    /// 8 characters at least may then be looked at. None where something else stands there, or where it isn't looked
+    /// for, and then nothing is consumed.
+    fn take_lines(&mut self) -> Option<(usize, usize, usize)>
+        ensures takes { (u : Unread) → unread self.old u → TakesLines u result (unread self.new) }
+        ensures clear { IsSome result → (u : Unread) → unread self.new u → is_visible (first u.text) ≡ true }
+        ensures few { IfSome result (λ r. (r.1 ≤ r.0) × (r.2 ≤ r.0)) }
+        ensures looks { IsSome result → 8 ≤ window self.new }
+        ensures moves { (left self.new + lines_taken result ≤ left self.old)
+            × (window self.old ≤ window self.new + lines_taken result) × Goes (origin self.old) (origin self.new) }
+    {
+        None
+    }
+
+    /// From which byte to which its source lends what stands between the quotes of the scalar that begins here, where
+    /// it is seen at once that this is lent as it stands and that the scalar ends there: words of ASCII that stand
+    /// for themselves, with `:`, a line feed, or in flow `,`, `]` or `}` directly behind the closing quote (YAML
+    /// 1.2.2, 7.3.1 and 7.3.2). The scalar is consumed with its quotes. None says nothing of what stands here, and
+    /// then nothing is consumed; an input may always answer that.
+    fn take_quoted(&mut self, single: bool, in_flow: bool) -> Option<(usize, usize)>
+        requires { (u : Unread) → unread self.old u → first u.text ≡ quote_of single }
+        ensures takes { (u : Unread) → unread self.old u → TakesQuoted single in_flow u result (unread self.new) }
+        ensures moves { MatchOption result (self.new ≡ self.old) (λ r. (r.0 ≤ r.1)
+            × (left self.new + (r.1 - r.0 + 2) ≤ left self.old)
+            × (window self.old ≤ window self.new + (r.1 - r.0 + 2)) × Goes (origin self.old) (origin self.new)) }
+    {
+        None
+    }
+
+    /// Where in the source that lends lie the words of a plain scalar that begin here, from which byte to which, where
+    /// it is seen at once that the scalar ends behind them: all words that stand here, of printable ASCII, behind which
+    /// stands a `:` or a flow indicator that ends it, or outside flow a line feed whose next line begins with a visible
+    /// character of ASCII no further right than `column` (YAML 1.2.2, 6.1 and 7.3.3). They are consumed, and so are
+    /// that line feed and the spaces behind it, which are counted then. None says nothing of what stands here, and then
+    /// nothing is consumed; an input may always answer that.
+    fn take_plain(
+        &mut self,
+        in_flow: bool,
+        column: Option<usize>,
+    ) -> Option<(usize, usize, Option<usize>)>
+        ensures takes { (u : Unread) → unread self.old u → TakesPlain in_flow column u result (unread self.new) }
+        ensures some { IfSome result (λ r. r.0 < r.1) }
+        ensures moves { (left self.new + plain_taken result ≤ left self.old)
+            × (window self.old ≤ window self.new + plain_taken result) × Goes (origin self.old) (origin self.new) }
+    {
+        None
+    }
 
     /// False only where what is left, where that is known, has no `#`, and neither has the source, where it
     /// can be sliced.

@@ -1,10 +1,11 @@
 //! Sixteen bytes at a time. A lane of a mask is 255 or 0.
-ghost use Rattle.std.specs.Prelude.{◌≡◌, ◌<◌, ◌≤◌, ◌+◌, ◌==◌, ◌||◌, ℕ, not, length};
+ghost use Rattle.std.specs.Prelude.{◌≡◌, ◌<◌, ◌≤◌, ◌+◌, ◌==◌, ◌||◌, ℕ, not, true, length, slice_index};
 ghost use Rattle.std.specs.List.{prefix_len};
 ghost use Rattle.granit_base.specs.Classes.{is_flow, is_within};
 ghost use Rattle.granit_input.specs.Lanes.{TakesByte, lanes_where};
 ghost use Rattle.granit_input.specs.Runs.{is_line_char, is_plain_ascii, is_plain_word, is_quoted_ascii};
 ghost use Rattle.granit_input.specs.Runs.{is_quoted_word, run_test, starts};
+ghost use Rattle.granit_input.specs.Words.{ShowsByte};
 
 use crate::class::{Class, Run};
 use std::simd::prelude::*;
@@ -131,6 +132,7 @@ fn plain_words_at(bytes: &[u8], at: usize, in_flow: bool) -> usize
     requires { at + LANES < length bytes.now }
     ensures few { result ≤ LANES }
     ensures each { (k : ℕ) → k < result → TakesByte (is_plain_word in_flow) bytes.now (at + k) }
+    ensures shown { (k : ℕ) → k < result → is_within 0x20 0x7E (slice_index bytes.now (at + k)) ≡ true }
 {
     let here = u8x16::from_slice(&bytes[at..]);
     let next = u8x16::from_slice(&bytes[at + 1..]);
@@ -162,6 +164,7 @@ pub(crate) fn taken_at(bytes: &[u8], at: usize, run: Run) -> usize
     requires { at + LANES < length bytes.now }
     ensures few { result ≤ LANES }
     ensures each { (k : ℕ) → k < result → TakesByte (run_test run) bytes.now (at + k) }
+    ensures shown { (k : ℕ) → k < result → ShowsByte run (slice_index bytes.now (at + k)) }
 {
     match run {
         Run::Of(Class::Printable) => line_at(bytes, at),

@@ -6,8 +6,11 @@ mod class;
 mod cuts;
 mod input;
 mod lanes;
+mod lines;
+mod quotes;
 mod str_input;
 mod whitespace;
+mod words;
 
 pub use borrowed::BorrowedInput;
 pub use class::{Class, Run};

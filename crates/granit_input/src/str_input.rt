@@ -1,5 +1,5 @@
 //! The characters of a string.
-ghost use Rattle.std.specs.Prelude.{◌≡◌, ℕ, ◌-◌, ◌<◌, ◌≤◌, ◌^◌, true, false, Some, [], length, take, drop, max, min};
+ghost use Rattle.std.specs.Prelude.{◌≡◌, ℕ, ◌-◌, ◌<◌, ◌≤◌, ◌^◌, true, false, Some, [], length, take, drop, min};
 ghost use Rattle.std.specs.Str.{chars, is_utf8};
 ghost use Rattle.granit_base.specs.Place.{Unread, first};
 ghost use Rattle.granit_input.specs.Cuts.{SpellsFront, last_bytes};
@@ -11,16 +11,18 @@ use crate::borrowed::BorrowedInput;
 use crate::class::Run;
 use crate::cuts::{before, behind, has_byte, part, past_run, past_white};
 use crate::input::Input;
+use crate::lines::{behind_lines, lines_front};
+use crate::quotes::quoted_front;
 use crate::whitespace::{SkipTabs, WhitespaceResult};
+use crate::words::{past_line, split_words, stops_words};
 use granit_base::{NoMemory, is_at_end, is_breakz, nth_char, push_text, split_first_char};
 use granit_error::ErrorKind;
 
-/// The characters of a string. Its window is the greatest count that was asked for.
+/// The characters of a string. All of them may be looked at, so its window is the greatest from the start on.
 #[derive(Drop)]
 pub struct StrInput<'a> {
     source: &'a str,
     rest: &'a str,
-    window: usize,
     ghost suffix: { drop (length source.now - length rest.now) source.now ≡ rest.now },
     ghost short: { length source.now < 2 ^ 63 },
     ghost within: { length rest.now ≤ length source.now },
@@ -34,12 +36,10 @@ impl<'a> StrInput<'a> {
     pub fn new(input: &'a str) -> StrInput<'a>
         ensures unread { LeftInString result (record { text = chars input.now; offset = Some 0; lends = true }) }
         ensures source { result.source.now ≡ input.now }
-        ensures window { result.window ≡ 0 }
     {
         StrInput {
             source: input,
             rest: input,
-            window: 0,
         }
     }
 }
@@ -50,7 +50,7 @@ impl<'a> StrInput<'a> {
         ensures whole { result ≡ run_length (run_test run) (chars self.old.rest.now) }
         ensures text { chars self.new.rest.now ≡ drop result (chars self.old.rest.now) }
         ensures bytes { SpellsFront self.old.rest.now result self.new.rest.now }
-        ensures kept { (self.new.source.now ≡ self.old.source.now) × (self.new.window ≡ self.old.window) }
+        ensures kept { self.new.source.now ≡ self.old.source.now }
     {
         let (_, count, rest) = past_run(self.rest, run, usize::MAX);
         self.rest = rest;
@@ -77,7 +77,7 @@ impl<'a> Input for StrInput<'a> {
     ghost use Rattle.granit_input.specs.Laws.{string_short, string_agrees, string_floor};
     ghost use Rattle.granit_input.specs.Runs.{starts, is_quoted_ascii, is_quoted_char};
     ghost use Rattle.granit_input.specs.Strings.{LeftInString, MayLook, MovesBy, MovesIfSome, TakesRun, IsWhole};
-    ghost use Rattle.granit_input.specs.Strings.{count_left, string_origin};
+    ghost use Rattle.granit_input.specs.Strings.{count_left, string_origin, window_of};
     ghost use Rattle.granit_input.specs.White.{holds};
     ghost use Rattle.granit_input.specs.contracts.str_input.StrInput.{the_row};
 
@@ -85,28 +85,27 @@ impl<'a> Input for StrInput<'a> {
 
     ghost left = { λ s. count_left s };
 
-    ghost window = { λ s. s.window };
+    ghost window = { λ s. window_of s };
 
     ghost origin = { λ s. string_origin s };
 
     ghost short = { λ s. string_short s.source.now s.rest.now s.within s.short };
 
-    ghost floored = { λ s. string_floor s.window };
+    ghost floored = { λ s. string_floor (window_of s) };
 
     ghost fails = { λ s f known none. none };
 
-    ghost agrees = { λ s u is. string_agrees s.source.now s.rest.now s.window u s.suffix s.utf8 is };
+    ghost agrees = { λ s u is. string_agrees s.source.now s.rest.now (window_of s) u s.suffix s.utf8 is };
 
     fn lookahead(&mut self, count: usize)
         ensures unread { (u : Unread) → LeftInString self.old u → LeftInString self.new u }
         ensures moves { MayLook (min count 8) self.old self.new }
-        ensures window { self.new.window ≡ max self.old.window count }
-    {
-        self.window = self.window.max(count);
-    }
+        ensures reach { count ≤ window_of self.new }
+        ensures same { self.new ≡ self.old }
+    {}
 
     fn buflen(&self) -> usize {
-        self.window
+        usize::MAX
     }
 
     fn bufmaxlen(&self) -> usize
@@ -120,7 +119,6 @@ impl<'a> Input for StrInput<'a> {
         ensures read { (u : Unread) → LeftInString self.old u
             → LeftInString self.new (past_count 1 u) × (result ≡ first u.text) }
         ensures moves { MovesBy 1 self.old self.new }
-        ensures window { self.new.window ≡ self.old.window }
     {
         match split_first_char(self.rest) {
             Some((c, rest)) => {
@@ -134,7 +132,6 @@ impl<'a> Input for StrInput<'a> {
     fn raw_read_non_breakz_ch(&mut self) -> Option<char>
         ensures read { (u : Unread) → LeftInString self.old u → ReadsNonBreakz u result (LeftInString self.new) }
         ensures moves { MovesIfSome result self.old self.new }
-        ensures window { self.new.window ≡ self.old.window }
     {
         match split_first_char(self.rest) {
             Some((c, rest)) => {
@@ -151,7 +148,6 @@ impl<'a> Input for StrInput<'a> {
     fn skip(&mut self)
         ensures unread { (u : Unread) → LeftInString self.old u → LeftInString self.new (past_count 1 u) }
         ensures moves { MovesBy 1 self.old self.new }
-        ensures window { self.new.window ≡ self.old.window }
     {
         if let Some((_, rest)) = split_first_char(self.rest) {
             self.rest = rest;
@@ -161,7 +157,6 @@ impl<'a> Input for StrInput<'a> {
     fn skip_n(&mut self, count: usize)
         ensures unread { (u : Unread) → LeftInString self.old u → LeftInString self.new (past_count count u) }
         ensures moves { MovesBy count self.old self.new }
-        ensures window { self.new.window ≡ self.old.window }
     {
         self.rest = behind(self.rest, count);
     }
@@ -188,6 +183,23 @@ impl<'a> Input for StrInput<'a> {
         let (count, found, rest) = past_white(self.rest, skip_tabs);
         self.rest = rest;
         (count, found)
+    }
+
+    fn take_lines(&mut self) -> Option<(usize, usize, usize)> {
+        match lines_front(self.rest) {
+            None => None,
+            Some((count, lines, spaces)) => {
+                self.rest = behind_lines(self.rest, count);
+                Some((count, lines, spaces))
+            }
+        }
+    }
+
+    fn take_quoted(&mut self, single: bool, in_flow: bool) -> Option<(usize, usize)> {
+        let (count, rest) = quoted_front(self.rest, single, in_flow)?;
+        let start = self.source.len() - self.rest.len() + 1;
+        self.rest = rest;
+        Some((start, start + count))
     }
 
     fn take_quoted_scalar_ascii_chunk(&mut self, single: bool) -> (&str, usize)
@@ -234,6 +246,26 @@ impl<'a> Input for StrInput<'a> {
 
     fn take_source_error(&mut self) -> Option<ErrorKind> {
         None
+    }
+
+    fn take_plain(
+        &mut self,
+        in_flow: bool,
+        column: Option<usize>,
+    ) -> Option<(usize, usize, Option<usize>)> {
+        let (_, behind) = split_words(self.rest, in_flow)?;
+        let start = self.source.len() - self.rest.len();
+        let end = self.source.len() - behind.len();
+        if stops_words(behind, in_flow) {
+            self.rest = behind;
+            return Some((start, end, None));
+        }
+        if in_flow {
+            return None;
+        }
+        let (spaces, after) = past_line(behind, column?)?;
+        self.rest = after;
+        Some((start, end, Some(spaces)))
     }
 
     fn may_contain_comments(&self) -> bool

@@ -1,5 +1,6 @@
 //! The worked rows, and each error once. An input is made and asked in functions that answer plain values: a test that
 //! asserts while it owns one is dear to prove.
+use crate::agree::agree;
 use granit_buffered::{BufferedInput, FallibleBufferedInput};
 use granit_error::ErrorKind;
 use granit_input::{BorrowedInput, Input};
@@ -54,7 +55,7 @@ fn of_three(alloc: Global) -> ([bool; 4], [bool; 3]) {
 
 #[test]
 fn at_most_sixteen_characters_may_be_looked_at(rt: HostRuntime) {
-    assert_eq!(rt; of_three(rt.alloc()), ([true; 4], [true; 3]));
+    agree(&rt, of_three(rt.alloc()), ([true; 4], [true; 3]));
 }
 
 /// Whether a line of so many characters is fetched.
@@ -93,7 +94,7 @@ fn of_a_line(alloc: Global) -> [bool; 2] {
 
 #[test]
 fn a_line_passes_the_ring(rt: HostRuntime) {
-    assert_eq!(rt; of_a_line(rt.alloc()), [true; 2]);
+    agree(&rt, of_a_line(rt.alloc()), [true; 2]);
 }
 
 /// The number of the error that is handed out in front of a character, that character, whether the end is next, the
@@ -135,5 +136,5 @@ fn of_an_error(alloc: Global) -> ([u8; 3], [char; 2], bool) {
 #[test]
 fn the_first_error_ends_the_characters(rt: HostRuntime) {
     let wanted = ([0, 80, 0], ['a', '\0'], true);
-    assert_eq!(rt; of_an_error(rt.alloc()), wanted);
+    agree(&rt, of_an_error(rt.alloc()), wanted);
 }

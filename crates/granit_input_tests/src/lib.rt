@@ -3,8 +3,12 @@
 #![tactic(auto)]
 
 #[cfg(test)]
+mod agree;
+#[cfg(test)]
 mod calls;
 #[cfg(test)]
 mod iterators;
 #[cfg(test)]
 mod stream;
+#[cfg(test)]
+mod taken;

@@ -2,6 +2,7 @@
 use Rattle.std.proofs.Common.{◌≡◌, ℕ, suc, ◌+◌, ◌≤◌, ◌<◌, Bool, true, false, List, [], ◌∷◌, ◌++◌, length}
 use Rattle.std.proofs.Common.{map, set, get_or, if◌then◌else◌, Option, Some, None, is_some, true≢false}
 use Rattle.std.proofs.Common.{refl, sym, ap, subst, ⊎_elim, arith, ◌∙◌}
+use Rattle.std.specs.Prelude.{nat_le}
 use Rattle.std.specs.List.{list_any}
 use Rattle.std.proofs.lemmas.Bool.{and_parts, or_cases, cases_eq, cases_lt}
 use Rattle.std.proofs.lemmas.Bool.Decides.{nat_tests}
@@ -16,8 +17,8 @@ use Rattle.granit_error.specs.OptionsData.{OptionsData}
 use Rattle.granit_lexemes.specs.declared.layout.OpenBracket.{OpenBracket}
 use Rattle.granit_lexemes.specs.declared.layout.PossibleKey.{PossibleKey}
 use Rattle.granit_machine.specs.PossibleKeys.{fresh_bracket, fresh_key, is_of, is_stale}
-use Rattle.granit_layout.specs.Rising.{KeysInOrder, KeyUpTo, Rising, is_behind, is_from, key_not_before, with_new}
-use Rattle.granit_layout.specs.Rising.{with_key}
+use Rattle.granit_layout.specs.Rising.{KeysInOrder, KeyUpTo, KeyFrom, Rising, is_behind, is_from, key_not_before}
+use Rattle.granit_layout.specs.Rising.{with_new, with_key, without_keys, ended_at, begun_at, is_near}
 use Rattle.granit_layout.specs.declared.rising.KeyOrder.{KeyOrder}
 
 -- ---- keys
@@ -40,6 +41,11 @@ further : (number index more last : ℕ) (a : Option PossibleKey) → number ≤
     → KeyUpTo number index a → KeyUpTo more last a
 further number index more last None p q u = tt
 further number index more last (Some a) p q u = (omega arith, omega arith)
+
+earlier : (number index less first : ℕ) (a : Option PossibleKey) → less ≤ number → first ≤ index
+    → KeyFrom number index a → KeyFrom less first a
+earlier number index less first None p q u = tt
+earlier number index less first (Some a) p q u = (omega arith, omega arith)
 
 going_on : (a old : Option PossibleKey) (new : PossibleKey) → KeysInOrder a old → key_not_before old new ≡ true
     → KeysInOrder a (Some new)
@@ -72,6 +78,8 @@ pushed o bs b none r =
           (λ k d low. subst (λ key. KeysInOrder (get_or bs k d).key key) (sym none) (then_none _));
       behind = All-push (λ c. KeyUpTo o.number o.index c.key) bs b r.behind
           (subst (λ key. KeyUpTo o.number o.index key) (sym none) tt);
+      before = All-push (λ c. KeyFrom o.least o.start c.key) bs b r.before
+          (subst (λ key. KeyFrom o.least o.start key) (sym none) tt);
     }
 
 -- a bracket less
@@ -86,6 +94,8 @@ popped o bs b r =
           rw (← at_i, ← at_j) (r.order told i j d lt (grind (arith, common_steps)));
       behind = λ k d low.
           rw (← get_or_append_left bs (b ∷ []) d k low) (r.behind k d (grind (arith, common_steps)));
+      before = λ k d low.
+          rw (← get_or_append_left bs (b ∷ []) d k low) (r.before k d (grind (arith, common_steps)));
     }
 
 -- a bracket has no key any more
@@ -104,6 +114,8 @@ cleared o bs j b within none r =
           (λ m. r.order told i k d lt (omega arith)));
       behind = All-set (λ c. KeyUpTo o.number o.index c.key) bs j b
           (subst (λ key. KeyUpTo o.number o.index key) (sym none) tt) r.behind;
+      before = All-set (λ c. KeyFrom o.least o.start c.key) bs j b
+          (subst (λ key. KeyFrom o.least o.start key) (sym none) tt) r.before;
     }
 
 -- another key in the last bracket
@@ -134,6 +146,9 @@ renewed o bs j b new last is r =
       behind = All-set (λ a. KeyUpTo p.number p.index a.key) bs j c (omega arith, omega arith)
           (λ k d low. further o.number o.index p.number p.index (get_or bs k d).key (omega arith) (omega arith)
           (r.behind k d low));
+      before = All-set (λ a. KeyFrom p.least p.start a.key) bs j c (omega arith, omega arith)
+          (λ k d low. earlier o.least o.start p.least p.start (get_or bs k d).key (omega arith) (omega arith)
+          (r.before k d low));
     }
 
 pub keyed : (o : KeyOrder) (bs : List OpenBracket) (j : ℕ) (b : OpenBracket) (new : Option PossibleKey)
@@ -155,6 +170,7 @@ passed o bs b is within r =
           (λ n. r.outer i d (omega arith) (rw (← length-set bs o.first (record b { key = None })) low));
       order = rest.order;
       behind = rest.behind;
+      before = rest.before;
     }
 
 fresh_later : (o : OptionsData) (m : Mark) (k l : PossibleKey) → k.start.place.index ≤ l.start.place.index
@@ -261,6 +277,15 @@ fresh_up_to o m number index (Some k) p = on (is_stale o true m k)
     on true = tt
     on false = p
 
+fresh_from : (o : OptionsData) (m : Mark) (number index : ℕ) (a : Option PossibleKey) → KeyFrom number index a
+    → KeyFrom number index (fresh_key o true m a)
+fresh_from o m number index None p = tt
+fresh_from o m number index (Some k) p = on (is_stale o true m k)
+  where
+    on : (v : Bool) → KeyFrom number index (if v then None else Some k)
+    on true = tt
+    on false = p
+
 pub freshened : (o : OptionsData) (m : Mark) (k : KeyOrder) (bs : List OpenBracket) → Rising k bs
     → Rising k (map (fresh_bracket o m) bs)
 freshened o m k bs r =
@@ -278,9 +303,112 @@ freshened o m k bs r =
       behind = λ i d low.
           rw (get_or-map (fresh_bracket o m) bs i d d (omega arith))
           (fresh_up_to o m k.number k.index (get_or bs i d).key (r.behind i d (omega arith)));
+      before = λ i d low.
+          rw (get_or-map (fresh_bracket o m) bs i d d (omega arith))
+          (fresh_from o m k.least k.start (get_or bs i d).key (r.before i d (omega arith)));
     }
 
+-- ---- fewer keys are told
+
+no_key_from : (number index : ℕ) (a : Option PossibleKey) → a ≡ None → KeyFrom number index a
+no_key_from number index a e = subst (λ k. KeyFrom number index k) (sym e) tt
+
+-- no bracket holds a key
+all_empty : (o : KeyOrder) (bs : List OpenBracket)
+    → ((i : ℕ) (d : OpenBracket) → i < length bs → (get_or bs i d).key ≡ None) → Rising o bs
+    → Rising (without_keys o) bs
+all_empty o bs none r =
+    record {
+      outer = λ i d first low. none i d low;
+      order = r.order;
+      behind = r.behind;
+      before = λ i d low. no_key_from _ _ (get_or bs i d).key (none i d low);
+    }
+
+-- none but so many of the outermost brackets holds a key
+pub ended : (o : KeyOrder) (bs : List OpenBracket) (depth : ℕ)
+    → ((i : ℕ) (d : OpenBracket) → depth ≤ i → i < length bs → (get_or bs i d).key ≡ None) → Rising o bs
+    → Rising (ended_at depth o) bs
+ended o bs depth none r = by (nat_le depth o.first) refl
+  where
+    by : (b : Bool) → nat_le depth o.first ≡ b → Rising (if b then without_keys o else o) bs
+    by false e = r
+    by true e =
+        all_empty o bs
+        (λ i d low.
+        ⊎_elim
+        (λ first. r.outer i d first low)
+        (λ behind. none i d (grind (arith, nat_tests, e, behind)) low)
+        (cases_lt i o.first)) r
+
+-- the last bracket holds none any more
+pub forgotten : (o : KeyOrder) (bs : List OpenBracket) (j : ℕ) (b : OpenBracket) → suc j ≡ length bs → b.key ≡ None
+    → Rising o bs → Rising (ended_at j o) (set bs j b)
+forgotten o bs j b last none r =
+    let long : length (set bs j b) ≡ length bs = length-set bs j b in
+    ended o (set bs j b) j
+    (λ i d from low. at_set (λ c. c.key ≡ None) bs i j b d (omega arith) (λ e. none)
+    (λ apart. let at : i ≡ j = omega arith in absurd (apart at)))
+    (cleared o bs j b (omega arith) none r)
+
+-- the first bracket that may hold a key holds this one, so none begins before it
+pub begun : (o : KeyOrder) (bs : List OpenBracket) (b : OpenBracket) → b ≡ get_or bs o.first b
+    → o.first < length bs → o.rises ≡ true → Rising o bs → Rising (begun_at b.key o) bs
+begun o bs b is within rises r = on b.key refl
+  where
+    from : (k : PossibleKey) (a : Option PossibleKey) → KeysInOrder (Some k) a
+        → KeyFrom k.number k.start.place.index a
+    from k None p = tt
+    from k (Some l) p = p
+
+    on : (a : Option PossibleKey) → b.key ≡ a → Rising (begun_at a o) bs
+    on None e = r
+    on (Some k) e =
+        let first : (d : OpenBracket) → (get_or bs o.first d).key ≡ Some k =
+        λ d. ap (λ (c : OpenBracket). c.key) (get_or_default bs o.first d b within ∙ sym is) ∙ e in
+        record {
+          outer = r.outer;
+          order = r.order;
+          behind = r.behind;
+          before = λ i d low.
+              ⊎_elim
+              (λ outside. no_key_from _ _ (get_or bs i d).key (r.outer i d outside low))
+              (λ behind. ⊎_elim
+              (λ at. subst (λ n. KeyFrom k.number k.start.place.index (get_or bs n d).key) (sym at)
+              (subst (λ c. KeyFrom k.number k.start.place.index c) (sym (first d)) (omega arith, omega arith)))
+              (λ after. from k (get_or bs i d).key
+              (subst (λ c. KeysInOrder c (get_or bs i d).key) (first d)
+              (r.order rises o.first i d (omega arith) low)))
+              (cases_eq i o.first))
+              (cases_lt i o.first);
+        }
+
+near_fresh : (o : OptionsData) (m : Mark) (k : KeyOrder) (a : PossibleKey) → k.start ≤ a.start.place.index
+    → is_near o m k ≡ true → is_stale o true m a ≡ false
+unfolding is_stale
+near_fresh o m k a from near = grind (arith, nat_tests, from, near)
+
+near_stays : (o : OptionsData) (m : Mark) (k : KeyOrder) (a : Option PossibleKey) → KeyFrom k.least k.start a
+    → is_near o m k ≡ true → fresh_key o true m a ≡ a
+near_stays o m k None p near = refl
+near_stays o m k (Some a) p near = rw (near_fresh o m k a p.1 near) refl
+
+-- no key begins so far before a place that it was left behind
+pub all_near : (o : OptionsData) (m : Mark) (k : KeyOrder) (bs : List OpenBracket) → Rising k bs
+    → is_near o m k ≡ true → map (fresh_bracket o m) bs ≡ bs
+all_near o m k bs r near = all_stay o m bs (λ i d low. near_stays o m k (get_or bs i d).key (r.before i d low) near)
+
 -- ---- the lexeme of a number
+
+-- each key begins behind it
+pub all_later : (number : ℕ) (k : KeyOrder) (bs : List OpenBracket) → Rising k bs → nat_le k.least number ≡ false
+    → list_any (λ c. is_of number c.key) bs ≡ false
+all_later number k bs r later =
+    list_any_none (λ (c : OpenBracket). is_of number c.key) bs (λ i d low. other (get_or bs i d).key (r.before i d low))
+  where
+    other : (a : Option PossibleKey) → KeyFrom k.least k.start a → is_of number a ≡ false
+    other None p = refl
+    other (Some a) p = grind (arith, nat_tests, later, p.0)
 
 -- a key that begins with it, or with a later one, settles it
 pub none_behind : (number : ℕ) (k : KeyOrder) (bs : List OpenBracket) (i : ℕ) (b : OpenBracket)

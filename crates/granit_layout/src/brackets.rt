@@ -5,7 +5,6 @@ ghost use Rattle.granit_error.specs.OptionsView.{options_of};
 ghost use Rattle.granit_machine.specs.Laid as laid;
 ghost use Rattle.granit_machine.specs.PossibleKeys as keys;
 ghost use Rattle.granit_layout.specs.Rising.{Rising};
-ghost use Rattle.granit_layout.specs.declared.rising.KeyOrder.{KeyOrder};
 
 use crate::keys::{is_fresh, is_of, reaches};
 use crate::rising::KeyOrder;
@@ -83,6 +82,7 @@ impl Brackets {
         ensures { self.new ≡ drop 1 self.old }
     {
         self.list.pop();
+        self.order.end_at(self.list.len());
     }
 
     /// No one any more.
@@ -114,7 +114,7 @@ impl Brackets {
     pub(crate) fn forget_key(&mut self)
         ensures { self.new ≡ keys.keyed_brackets None self.old }
     {
-        forget_innermost(&mut self.list);
+        forget_innermost(&mut self.list, &mut self.order);
     }
 
     /// Without the keys that reading has left behind.
@@ -123,6 +123,9 @@ impl Brackets {
     pub(crate) fn refresh(&mut self, options: &Options, mark: &Marker)
         ensures { self.new ≡ map (keys.fresh_bracket (options_of options.now) mark.now) self.old }
     {
+        if self.order.is_near(options, mark) {
+            return;
+        }
         if self.order.rises {
             refresh_outermost(&mut self.list, &mut self.order, options, mark);
         } else {
@@ -130,9 +133,17 @@ impl Brackets {
         }
     }
 
-    /// Whether a possible key in one of them begins with the lexeme of a number.
-    #[tactic(auto, using(crate::proofs::ListLemmas::any_reversed))]
+    /// Whether a possible key in one of them begins with the lexeme of a number; mostly all begin behind it.
+    #[inline(always)]
     pub(crate) fn is_possible(&self, number: usize) -> bool
+        ensures { result ≡ list_any (λ b. keys.is_of number b.key) self.now }
+    {
+        number >= self.order.least && self.holds(number)
+    }
+
+    /// The same where the brackets are asked.
+    #[tactic(auto, using(crate::proofs::ListLemmas::any_reversed))]
+    fn holds(&self, number: usize) -> bool
         ensures { result ≡ list_any (λ b. keys.is_of number b.key) self.now }
     {
         if self.order.rises {
@@ -157,15 +168,16 @@ fn set_innermost(brackets: &mut Vec<OpenBracket>, order: &mut KeyOrder, key: &Op
     brackets[innermost].key = *key;
 }
 
-fn forget_innermost(brackets: &mut Vec<OpenBracket>)
+fn forget_innermost(brackets: &mut Vec<OpenBracket>, order: &mut KeyOrder)
     ensures key { reverse brackets.new.items ≡ keys.keyed_brackets None (reverse brackets.old.items) }
-    ensures rising { (o : KeyOrder) → Rising o brackets.old.items → Rising o brackets.new.items }
+    ensures rising { Rising order.old brackets.old.items → Rising order.new brackets.new.items }
 {
     let depth = brackets.len();
     if depth == 0 {
         return;
     }
     brackets[depth - 1].key = None;
+    order.end_at(depth - 1);
 }
 
 fn any_of(number: usize, brackets: &[OpenBracket]) -> bool
@@ -205,7 +217,7 @@ fn refresh_one(key: &mut Option<PossibleKey>, options: &Options, mark: &Marker)
 }
 
 /// The same where keys rise: behind the first one that stays, all do.
-#[inline(always)]
+#[inline(never)]
 fn refresh_outermost(
     brackets: &mut Vec<OpenBracket>,
     order: &mut KeyOrder,
@@ -219,9 +231,11 @@ fn refresh_outermost(
 {
     'brackets: while order.first < brackets.len() {
         if is_fresh(options, true, mark, &brackets[order.first].key) {
+            order.begin_at(&brackets[order.first].key);
             return;
         }
         brackets[order.first].key = None;
         order.first += 1;
     }
+    order.end_at(brackets.len());
 }

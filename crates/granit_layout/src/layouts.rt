@@ -356,6 +356,7 @@ impl Layouts {
     }
 
     /// Whether a possible key begins with the lexeme of a number, in any bracket.
+    #[inline(always)]
     pub fn is_possible(&self, number: usize) -> bool
         ensures { result ≡ keys.is_possible number self.now }
     {

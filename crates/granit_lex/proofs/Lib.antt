@@ -6,3 +6,5 @@ pub mod MemoryLemmas
 pub mod PlainLemmas
 pub mod QuotedLemmas
 pub mod RemarkLemmas
+pub mod SeenQuoted
+pub mod WordScalars

@@ -1,20 +1,21 @@
 //! A lexeme where a node must stand (YAML 1.2.2, 6.9, 7.1 and 8.2).
-ghost use Rattle.std.specs.Prelude.{◌≡◌, true, false, codes, None, Some, IfOk, OnOk};
+ghost use Rattle.std.specs.Prelude.{◌≡◌, true, false, nat_le, codes, None, Some, IfOk, IsOk, OnOk};
 ghost use Rattle.std.specs.Option.{option_map};
 ghost use Rattle.std.specs.Str.{chars};
 ghost use Rattle.granit_error.specs.OptionsView.{options_of};
 ghost use Rattle.granit_event.specs.Events.{event_kind};
 ghost use Rattle.granit_refused.specs.Answered.{answered};
-ghost use Rattle.granit_sorts.specs.SortViews.{machine_token, of_kind};
+ghost use Rattle.granit_sorts.specs.SortViews.{machine_token, of_kind, sort_view};
+ghost use Rattle.granit_frames.specs.Refusing.{AnswersValue, RefusesByFault};
 ghost use Rattle.granit_frames.specs.StateViews.{bears};
-ghost use Rattle.granit_nesting.specs.FrameViews.{frame_view, pair_view};
+ghost use Rattle.granit_nesting.specs.FrameViews.{pair_view};
 ghost use Rattle.granit_items.specs.ItemViews.{boxed_view};
 ghost use Rattle.granit_items.specs.declared.item.LexemeKind.TheVariants as kinds;
-ghost use Rattle.granit_lexemes.specs.Outcome.{GivesValue};
 ghost use Rattle.granit_machine.specs.Frames as machine;
 ghost use Rattle.granit_machine.specs.Giving as giving;
 ghost use Rattle.granit_machine.specs.NodeEnds as ends;
 ghost use Rattle.granit_machine.specs.NodeSteps as steps;
+ghost use Rattle.granit_machine.specs.TokenSort as sorts;
 ghost use Rattle.granit_machine.specs.Leaving.{LeavesIfRoom};
 
 use granit_base::{Marker, NoMemory, Placement, Span, StructureStyle, Text};
@@ -62,6 +63,8 @@ fn alias<'input>(
 ) -> Result<(), Refused>
     ensures leaves { LeavesIfRoom (answered fault.new result) state.new (steps.bare (options_of options.now)
         (of_kind (kinds.Alias name.entry) token.now) state.old) }
+    ensures by_fault { RefusesByFault (answered fault.new result) (steps.bare (options_of options.now)
+        (of_kind (kinds.Alias name.entry) token.now) state.old) }
     ensures kept { state.new.kept ≡ state.old.kept }
 {
     match state.number_of(&name) {
@@ -79,6 +82,8 @@ fn unresolved<'input>(
     token: &Token<'input>,
 ) -> Result<(), Refused>
     ensures leaves { LeavesIfRoom (answered fault.new result) state.new (steps.alias_by (options_of options.now)
+        (machine_token token.now) name.entry None state.old) }
+    ensures by_fault { RefusesByFault (answered fault.new result) (steps.alias_by (options_of options.now)
         (machine_token token.now) name.entry None state.old) }
     ensures kept { state.new.kept ≡ state.old.kept }
 {
@@ -102,6 +107,8 @@ fn tag<'input>(
     token: &Token<'input>,
 ) -> Result<(), Refused>
     ensures leaves { LeavesIfRoom (answered fault.new result) state.new (steps.bare (options_of options.now)
+        (of_kind (kinds.Tag handle.now suffix.now) token.now) state.old) }
+    ensures by_fault { RefusesByFault (answered fault.new result) (steps.bare (options_of options.now)
         (of_kind (kinds.Tag handle.now suffix.now) token.now) state.old) }
     ensures kept { state.new.kept ≡ state.old.kept }
 {
@@ -145,7 +152,7 @@ fn default_prefix<'a>(
     handle: &'a Text<'_>,
     token: &Token<'_>,
 ) -> Result<&'a str, Refused>
-    ensures { GivesValue (λ s. chars s.now) (answered fault.new result) (steps.tag_prefix
+    ensures { AnswersValue (λ s. chars s.now) (answered fault.new result) (steps.tag_prefix
         (machine_token token.now) handle.now.characters None) }
 {
     let written = handle.as_str();
@@ -165,7 +172,7 @@ fn dash_room(
     options: &Options,
     tail: &Option<Box<Note<'_>>>,
 ) -> Result<usize, Refused>
-    ensures { GivesValue (λ n. n) (answered fault.new result)
+    ensures { AnswersValue (λ n. n) (answered fault.new result)
         (steps.dash_room (options_of options.now) (option_map boxed_view tail.now)) }
 {
     match tail {
@@ -188,6 +195,7 @@ fn give_tail<'input>(
 ) -> Result<(), NoMemory>
     ensures leaves { OnOk result (state.new ≡ steps.give_tail (option_map boxed_view tail.entry) state.old) }
     ensures kept { state.new.kept ≡ state.old.kept }
+    ensures none { tail.entry ≡ None → IsOk result }
 {
     match tail {
         None => Ok(()),
@@ -212,6 +220,8 @@ pub fn next_dash<'input>(
 ) -> Result<(), Refused>
     ensures leaves { LeavesIfRoom (answered fault.new result) state.new (steps.take_dash (options_of options.now)
         (machine_token token.old) steps.NextEntry indentless state.old) }
+    ensures by_fault { RefusesByFault (answered fault.new result) (steps.take_dash (options_of options.now)
+        (machine_token token.old) steps.NextEntry indentless state.old) }
     ensures kept { state.new.kept ≡ state.old.kept }
 {
     let room = dash_room(fault, options, &token.lexeme.tail)?;
@@ -221,24 +231,36 @@ pub fn next_dash<'input>(
     Ok(())
 }
 
+/// Whether one more block collection would be one too many.
+fn is_full(state: &ParserState<'_>, options: &Options) -> bool
+    ensures { result ≡ nat_le (options_of options.now).block_nesting_limit (ends.block_count state.now.frames) }
+{
+    options.block_nesting_limit <= state.block_count()
+}
+
 fn begin_sequence<'input>(
     state: &mut ParserState<'input>,
-    fault: &mut Option<ScanError>,
     options: &Options,
     mark: Marker,
-    frame: Frame,
-) -> Result<(), Refused>
-    ensures leaves { LeavesIfRoom (answered fault.new result) state.new
-        (ends.begin_block (options_of options.now) steps.block_sequence mark
-        (frame_view frame) state.old) }
+    column: usize,
+    indentless: bool,
+) -> Result<(), NoMemory>
+    ensures leaves { OnOk result (state.new ≡ ends.begin (options_of options.now) steps.block_sequence
+        (ends.empty_span mark) (machine.BlockSequence column indentless) state.old) }
     ensures kept { state.new.kept ≡ state.old.kept }
 {
     let event = Event::SequenceStart(StructureStyle::Block, 0, None);
-    state.begin_block(fault, options, event, mark, frame)
+    state.begin(
+        options,
+        event,
+        mark,
+        mark,
+        Frame::BlockSequence(column, indentless),
+    )
 }
 
 /// A `-` in a column of its own, where a sequence begins.
-#[tactic(auto, unfolding(granit_machine::specs::NodeSteps::take_dash))]
+#[tactic(auto, unfolding(granit_machine::specs::NodeSteps::take_dash, granit_machine::specs::NodeEnds::begin_block))]
 fn new_dash<'input>(
     state: &mut ParserState<'input>,
     fault: &mut Option<ScanError>,
@@ -248,40 +270,22 @@ fn new_dash<'input>(
 ) -> Result<(), Refused>
     ensures leaves { LeavesIfRoom (answered fault.new result) state.new (steps.take_dash (options_of options.now)
         (of_kind kinds.Dash token.old) steps.NewSequence false state.old) }
+    ensures by_fault { RefusesByFault (answered fault.new result) (steps.take_dash (options_of options.now)
+        (of_kind kinds.Dash token.old) steps.NewSequence false state.old) }
     ensures kept { state.new.kept ≡ state.old.kept }
 {
     let start = token.lexeme.start;
-    begin_sequence(
-        state,
-        fault,
-        options,
-        start,
-        Frame::BlockSequence(start.col(), false),
-    )?;
+    if is_full(state, options) {
+        return Err(refuse(
+            fault,
+            ScanError::from_kind(start, ErrorKind::RecursionLimitExceeded),
+        ));
+    }
     let room = dash_room(fault, options, &token.lexeme.tail)?;
+    begin_sequence(state, options, start, start.col(), false)?;
     give_tail(state, token.lexeme.tail.take())?;
     state.waits(alloc, token.lexeme.end, room)?;
     Ok(())
-}
-
-fn begin_indentless<'input>(
-    state: &mut ParserState<'input>,
-    options: &Options,
-    mark: Marker,
-    column: usize,
-) -> Result<(), NoMemory>
-    ensures leaves { OnOk result (state.new ≡ ends.begin (options_of options.now) steps.block_sequence
-        (ends.empty_span mark) (machine.BlockSequence column true) state.old) }
-    ensures kept { state.new.kept ≡ state.old.kept }
-{
-    let event = Event::SequenceStart(StructureStyle::Block, 0, None);
-    state.begin(
-        options,
-        event,
-        mark,
-        mark,
-        Frame::BlockSequence(column, true),
-    )
 }
 
 /// A `-` in the column of its mapping, where a sequence begins.
@@ -295,10 +299,12 @@ fn indentless_dash<'input>(
 ) -> Result<(), Refused>
     ensures leaves { LeavesIfRoom (answered fault.new result) state.new (steps.take_dash (options_of options.now)
         (of_kind kinds.Dash token.old) steps.IndentlessSequence false state.old) }
+    ensures by_fault { RefusesByFault (answered fault.new result) (steps.take_dash (options_of options.now)
+        (of_kind kinds.Dash token.old) steps.IndentlessSequence false state.old) }
     ensures kept { state.new.kept ≡ state.old.kept }
 {
     let end = token.lexeme.end;
-    if options.block_nesting_limit <= state.block_count() {
+    if is_full(state, options) {
         return Err(refuse(
             fault,
             ScanError::from_kind(end, ErrorKind::RecursionLimitExceeded),
@@ -306,7 +312,7 @@ fn indentless_dash<'input>(
     }
     let room = dash_room(fault, options, &token.lexeme.tail)?;
     give_tail(state, token.lexeme.tail.take())?;
-    begin_indentless(state, options, end, token.lexeme.start.col())?;
+    begin_sequence(state, options, end, token.lexeme.start.col(), true)?;
     state.waits(alloc, end, room)?;
     Ok(())
 }
@@ -321,6 +327,8 @@ fn first_dash<'input>(
     token: &mut Token<'input>,
 ) -> Result<(), Refused>
     ensures leaves { LeavesIfRoom (answered fault.new result) state.new (steps.bare (options_of options.now)
+        (of_kind kinds.Dash token.old) state.old) }
+    ensures by_fault { RefusesByFault (answered fault.new result) (steps.bare (options_of options.now)
         (of_kind kinds.Dash token.old) state.old) }
     ensures kept { state.new.kept ≡ state.old.kept }
 {
@@ -337,6 +345,8 @@ fn dash<'input>(
     is_indentless: bool,
 ) -> Result<(), Refused>
     ensures leaves { LeavesIfRoom (answered fault.new result) state.new (steps.take_dash (options_of options.now)
+        (of_kind kinds.Dash token.old) (steps.first_dash is_indentless) false state.old) }
+    ensures by_fault { RefusesByFault (answered fault.new result) (steps.take_dash (options_of options.now)
         (of_kind kinds.Dash token.old) (steps.first_dash is_indentless) false state.old) }
     ensures kept { state.new.kept ≡ state.old.kept }
 {
@@ -390,6 +400,9 @@ fn begin_mapping<'input>(
     ensures leaves { LeavesIfRoom (answered fault.new result) state.new (ends.begin_block
         (options_of options.now) ends.block_mapping token.now.lexeme.value.start
         (machine.BlockMapping token.now.lexeme.value.start.place.column (pair_view stage)) state.old) }
+    ensures by_fault { RefusesByFault (answered fault.new result) (ends.begin_block
+        (options_of options.now) ends.block_mapping token.now.lexeme.value.start
+        (machine.BlockMapping token.now.lexeme.value.start.place.column (pair_view stage)) state.old) }
     ensures kept { state.new.kept ≡ state.old.kept }
 {
     state.begin_block(
@@ -412,6 +425,8 @@ fn first_colon<'input>(
 ) -> Result<(), Refused>
     ensures leaves { LeavesIfRoom (answered fault.new result) state.new (steps.bare (options_of options.now)
         (of_kind kinds.Colon token.now) state.old) }
+    ensures by_fault { RefusesByFault (answered fault.new result) (steps.bare (options_of options.now)
+        (of_kind kinds.Colon token.now) state.old) }
     ensures kept { state.new.kept ≡ state.old.kept }
 {
     let start = token.lexeme.start;
@@ -422,6 +437,7 @@ fn first_colon<'input>(
 }
 
 /// A lexeme where a node must stand, which begins no block mapping with its simple key.
+#[inline(always)]
 pub fn bare<'input>(
     state: &mut ParserState<'input>,
     fault: &mut Option<ScanError>,
@@ -430,6 +446,8 @@ pub fn bare<'input>(
     token: &mut Token<'input>,
 ) -> Result<(), Refused>
     ensures leaves { LeavesIfRoom (answered fault.new result) state.new (steps.bare (options_of options.now)
+        (machine_token token.old) state.old) }
+    ensures by_fault { RefusesByFault (answered fault.new result) (steps.bare (options_of options.now)
         (machine_token token.old) state.old) }
     ensures kept { state.new.kept ≡ state.old.kept }
 {
@@ -477,6 +495,11 @@ pub fn node<'input>(
 ) -> Result<(), Refused>
     ensures leaves { LeavesIfRoom (answered fault.new result) state.new (steps.node (options_of options.now)
         (machine_token token.old) state.old) }
+    ensures by_fault { (sort_view token.old.sort ≡ sorts.BeginsKey → ⊥) → RefusesByFault (answered fault.new result)
+        (steps.node (options_of options.now) (machine_token token.old) state.old) }
+    ensures key { sort_view token.old.sort ≡ sorts.BeginsKey → RefusesByFault (answered fault.new result)
+        (ends.begin_block (options_of options.now) ends.block_mapping token.old.lexeme.value.start
+        (machine.BlockMapping token.old.lexeme.value.start.place.column machine.AtKey) state.old) }
     ensures kept { state.new.kept ≡ state.old.kept }
 {
     match token.sort {

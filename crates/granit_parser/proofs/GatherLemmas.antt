@@ -1,6 +1,6 @@
 -- All events that a parser still gives, as one list.
 use Rattle.std.proofs.Common.{◌≡◌, ◌<◌, ◌-◌, ◌^◌, ℕ, Bool, true, false, ◌==◌, ◌||◌, not, List, [], ◌∷◌, ◌++◌, length}
-use Rattle.std.proofs.Common.{Some, None, Result, Ok, Err, refl, sym, ap, subst, ◌⊎◌, inl, inr}
+use Rattle.std.proofs.Common.{Option, Some, None, Result, Ok, Err, refl, sym, ap, subst, ◌∙◌, ◌⊎◌, inl, inr}
 use Rattle.std.specs.Prelude.{IfErr, IfOk, IfSome}
 use Rattle.std.proofs.lemmas.List.{append-nil}
 use Rattle.granit_base.specs.Place.{Unread}
@@ -13,16 +13,17 @@ use Rattle.granit_input.specs.Origin.{Goes, Origin}
 use Rattle.granit_lexemes.specs.Outcome.{Fails}
 use Rattle.granit_lexemes.specs.PlainEvent.{PlainEvent}
 use Rattle.granit_machine.specs.Frames.{ParserState}
-use Rattle.granit_parser.specs.Gathering.{Gathered, LeadsOut, RefusesLate}
-use Rattle.granit_parser.specs.Parsing.{LeadsTo, Next, Parsing, StandsAt, StandsBefore, none_given, first_given}
+use Rattle.granit_parser.specs.Gathering.{Gathered, LeadsOut, RefusesLate, WaitsGathered}
+use Rattle.granit_parser.specs.Parsing.{EndsBehind, EndsWith, LeadsTo, Next, Parsing, StandsAt, StandsBefore}
+use Rattle.granit_parser.specs.Parsing.{none_given, first_given}
 use Rattle.granit_parser.specs.Receiving.{RefusalIn}
 use Rattle.granit_parser.proofs.SourceLemmas.{giving_on, moves_seen}
 use Rattle.granit_parser.specs.Sources.{GoesGiving, GoesUnless, IfUnseen, MovesUnless, TellsSource}
 use Rattle.granit_restart.specs.Skipping.{with_pending}
 use Rattle.granit_stepper.proofs.GatherLemmas.{settled_ends, settled_gives, waits_settled}
-use Rattle.granit_stepper.proofs.StateLemmas.{next_fails}
+use Rattle.granit_stepper.proofs.StateLemmas.{next_fails, waiting}
 use Rattle.granit_stepper.proofs.TurnLemmas.{none_given as none_waits, some_given as some_waits}
-use Rattle.granit_stepper.specs.Gathering.{GivesWaiting}
+use Rattle.granit_stepper.specs.Gathering.{GivesBehind}
 use Rattle.granit_stepper.specs.Numbers.{RefusesNumber}
 use Rattle.granit_stepper.specs.Stepping.{Stepping, StandsIn}
 use Rattle.granit_steps.specs.Steps.{StepState, next_event, settle}
@@ -70,42 +71,73 @@ module _ {I : Type 0} (unread : I → Unread → Type 0) (o : OptionsData) (m : 
   gathered_first p e none n at is =
       (n, first_given is none_given, subst (λ (r : Next). StandsBefore unread r p.stepper n) none at)
 
-  more_by : (n after : StepState) (s : Stepping I) (old waiting : List PlainEvent) → LeadsTo o m old n
-      → settle o n ≡ Ok ([], after) → StandsIn unread s (with_pending [] after) → after.pending ≡ waiting
-      → true ≡ not (length waiting == 0) → Gathered unread o m (old ++ waiting) s
-  more_by n after s old [] leads settled at is some =
+  -- it waits before all others
+  pub waits_first : (s t : Stepping I) (e : PlainEvent) → t.first ≡ None
+      → ((n : StepState) → StandsIn unread s n → StandsIn unread t (with_pending (e ∷ n.pending) n))
+      → Gathered unread o m (e ∷ []) s → WaitsGathered unread o m t
+  waits_first s t e told puts given =
+      let n = given.0 in
+      let there = puts n given.2 in
+      let is : e ∷ n.pending ≡ t.parser.given = waiting unread t (with_pending (e ∷ n.pending) n) there told in
+      record {
+        told = told;
+        at = n;
+        leads = subst (λ (es : List PlainEvent). LeadsTo o m es (with_pending [] n)) is
+            (leads_behind o given.1 (waits_all o n n.pending refl));
+        stands = subst (λ (es : List PlainEvent). StandsIn unread t (with_pending es n)) is there;
+      }
+
+  more_by : (now t : Stepping I) (w : WaitsGathered unread o m now) (after : StepState) (more : List PlainEvent)
+      → settle o (with_pending [] w.at) ≡ Ok ([], after) → t.first ≡ None
+      → StandsIn unread t (with_pending (now.parser.given ++ after.pending) after) → after.pending ≡ more
+      → true ≡ not (length more == 0) → WaitsGathered unread o m t
+  more_by now t w after [] settled told there is some =
       absurd (let clash : true ≡ false = some_waits [] (sym some) in cc)
-  more_by n after s old (e ∷ es) leads settled at is some =
-      (with_pending [] after, leads_behind o leads (settled_all o n after e es settled is), at)
+  more_by now t w after (e ∷ es) settled told there is some =
+      let all = waiting unread t (with_pending (now.parser.given ++ after.pending) after) there told in
+      record {
+        told = told;
+        at = after;
+        leads = subst (λ (gs : List PlainEvent). LeadsTo o m gs (with_pending [] after))
+            (ap (λ (gs : List PlainEvent). now.parser.given ++ gs) (sym is) ∙ all)
+            (leads_behind o w.leads (settled_all o (with_pending [] w.at) after e es settled is));
+        stands = subst (λ (gs : List PlainEvent). StandsIn unread t (with_pending gs after)) all there;
+      }
 
   -- more was gathered
-  pub gathers_more : (now after : Stepping I) (Refuses : StepState → Refused → Type 0) (old new : List PlainEvent)
-      → ((n : StepState) → StandsIn unread now n
-      → GivesWaiting (Ok true) (StandsIn unread after) (settle o n) (Refuses n) old new)
-      → Gathered unread o m old now → Gathered unread o m new after
-  gathers_more now after Refuses old new gives before =
-      let g = gives before.0 before.2 in
-      subst (λ (es : List PlainEvent). Gathered unread o m es after) (sym g.3)
-      (more_by before.0 g.0 after old g.0.pending before.1 g.1 g.2 refl g.4)
+  pub gathers_more : (now after : Stepping I) (Refuses : StepState → Refused → Type 0) → after.first ≡ now.first
+      → ((n : StepState) → StandsIn unread now n → now.first ≡ None
+      → GivesBehind (Ok true) (StandsIn unread after) o n (Refuses n))
+      → WaitsGathered unread o m now → WaitsGathered unread o m after
+  gathers_more now after Refuses first gives w =
+      let g = gives (with_pending now.parser.given w.at) w.stands w.told in
+      more_by now after w g.0 g.0.pending g.1 (first ∙ w.told) g.2 refl g.3
 
-  none_by : (n after : StepState) (old waiting : List PlainEvent) → LeadsTo o m old n
-      → n.parser.count < 2 ^ 64 - 1 → settle o n ≡ Ok ([], after) → after.pending ≡ waiting
-      → false ≡ not (length waiting == 0) → LeadsOut o m (old ++ waiting)
-  none_by n after old [] leads few settled is none =
-      subst (λ (es : List PlainEvent). LeadsOut o m es) (sym (append-nil old))
-      (n, leads, few, (with_pending [] after, settled_ends o n after settled is))
-  none_by n after old (e ∷ es) leads few settled is none =
+  none_by : (now t : Stepping I) (w : WaitsGathered unread o m now) (after : StepState) (more : List PlainEvent)
+      → settle o (with_pending [] w.at) ≡ Ok ([], after) → t.first ≡ None
+      → StandsIn unread t (with_pending (now.parser.given ++ after.pending) after) → after.pending ≡ more
+      → false ≡ not (length more == 0) → LeadsOut o m t.parser.given
+  none_by now t w after [] settled told there is none =
+      let all = waiting unread t (with_pending (now.parser.given ++ after.pending) after) there told in
+      let last = with_pending [] w.at in
+      subst (λ (es : List PlainEvent). LeadsOut o m es)
+      (sym (append-nil now.parser.given) ∙ ap (λ (es : List PlainEvent). now.parser.given ++ es) (sym is) ∙ all) (
+        last,
+        w.leads,
+        few_numbered unread now (with_pending now.parser.given w.at) w.stands,
+        (with_pending [] after, settled_ends o last after settled is),
+      )
+  none_by now t w after (e ∷ es) settled told there is none =
       absurd (let clash : e ∷ es ≡ [] = none_waits (e ∷ es) (sym none) in cc)
 
   -- nothing is left
-  pub gathers_all : (now after : Stepping I) (Refuses : StepState → Refused → Type 0) (old new : List PlainEvent)
-      → ((n : StepState) → StandsIn unread now n
-      → GivesWaiting (Ok false) (StandsIn unread after) (settle o n) (Refuses n) old new)
-      → Gathered unread o m old now → LeadsOut o m new
-  gathers_all now after Refuses old new gives before =
-      let g = gives before.0 before.2 in
-      subst (λ (es : List PlainEvent). LeadsOut o m es) (sym g.3)
-      (none_by before.0 g.0 old g.0.pending before.1 (few_numbered unread now before.0 before.2) g.1 refl g.4)
+  pub gathers_all : (now after : Stepping I) (Refuses : StepState → Refused → Type 0) → after.first ≡ now.first
+      → ((n : StepState) → StandsIn unread now n → now.first ≡ None
+      → GivesBehind (Ok false) (StandsIn unread after) o n (Refuses n))
+      → WaitsGathered unread o m now → LeadsOut o m after.parser.given
+  gathers_all now after Refuses first gives w =
+      let g = gives (with_pending now.parser.given w.at) w.stands w.told in
+      none_by now after w g.0 g.0.pending g.1 (first ∙ w.told) g.2 refl g.3
 
   refused_by : (origin : I → Origin) (n : StepState) (p : Parsing I) (e : Refused)
       → (Fails e (settle o n) ⊎ RefusesNumber p.stepper.renumbered o n e)
@@ -114,31 +146,50 @@ module _ {I : Type 0} (unread : I → Unread → Type 0) (o : OptionsData) (m : 
   refused_by origin n p e (inr told) = inr told
 
   -- a refusal follows
-  pub gathers_refusal : (origin : I → Origin) (now : Stepping I) (p : Parsing I) (e : Refused) (old : List PlainEvent)
-      → ((n : StepState) → StandsIn unread now n
-      → (Fails e (settle o n) ⊎ RefusesNumber p.stepper.renumbered o n e)
+  pub gathers_refusal : (origin : I → Origin) (now : Stepping I) (p : Parsing I) (e : Refused)
+      → ((n : StepState) → StandsIn unread now n → now.first ≡ None
+      → (Fails e (settle o (with_pending [] n)) ⊎ RefusesNumber p.stepper.renumbered o (with_pending [] n) e)
       ⊎ TellsSource {X = Bool} origin (Some (Err e)) p.stepper.scanner.cursor)
-      → Gathered unread o m old now → RefusesLate origin o m p e
-  gathers_refusal origin now p e old fails before =
-      (old, before.0, before.1, refused_by origin before.0 p e (fails before.0 before.2))
+      → WaitsGathered unread o m now → RefusesLate origin o m p e
+  gathers_refusal origin now p e fails w = (
+    now.parser.given,
+    with_pending [] w.at,
+    w.leads,
+    refused_by origin (with_pending [] w.at) p e (fails (with_pending now.parser.given w.at) w.stands w.told),
+  )
 
 -- ---- a source that was asked behind a call
 
 pub waiting_on : {I : Type 0} (unread : I → Unread → Type 0) (r : Result Bool Refused) (mid new : Stepping I) (b : Bool)
-    (o : OptionsData) (m : StepState) (old more : List PlainEvent) → new.renumbered ≡ b
+    (o : OptionsData) (m : StepState) → new.renumbered ≡ b
     → ((n : StepState) → StandsIn unread mid n → StandsIn unread new n)
-    → GivesWaiting r (StandsIn unread mid) (settle o m) (RefusesNumber b o m) old more
-    → GivesWaiting r (StandsIn unread new) (settle o m) (RefusesNumber new.renumbered o m) old more
-waiting_on unread (Ok some) mid new b o m old more same on gives =
-    (gives.0, gives.1, on (with_pending [] gives.0) gives.2, gives.3, gives.4)
-waiting_on unread (Err e) mid new b o m old more same on (inl fails) = inl fails
-waiting_on unread (Err e) mid new b o m old more same on (inr left) =
-    inr (subst (λ (c : Bool). RefusesNumber c o m e) (sym same) left)
+    → GivesBehind r (StandsIn unread mid) o m (RefusesNumber b o (with_pending [] m))
+    → GivesBehind r (StandsIn unread new) o m (RefusesNumber new.renumbered o (with_pending [] m))
+waiting_on unread (Ok some) mid new b o m same on gives =
+    (gives.0, gives.1, on (with_pending (m.pending ++ gives.0.pending) gives.0) gives.2, gives.3)
+waiting_on unread (Err e) mid new b o m same on (inl fails) = inl fails
+waiting_on unread (Err e) mid new b o m same on (inr left) =
+    inr (subst (λ (c : Bool). RefusesNumber c o (with_pending [] m) e) (sym same) left)
 
-pub fails_on : {I : Type 0} (r : Result Bool Refused) (mid new : Stepping I) → new.failed ≡ (mid.failed || false)
+pub fails_on : {I E : Type 0} (r : Result Bool E) (mid new : Stepping I) → new.failed ≡ (mid.failed || false)
     → IfErr r (λ e. mid.failed ≡ true) → IfErr r (λ e. new.failed ≡ true)
 fails_on (Ok some) mid new same failed = tt
 fails_on (Err e) mid new same failed = rw (same, failed) refl
+
+-- ---- what is kept where a stepper failed as before
+
+ends_alike : {I : Type 0} (r : Next) (s t : Stepping I) → t.failed ≡ s.failed → EndsWith r s → EndsWith r t
+ends_alike None s t same ends = tt
+ends_alike (Some (Ok x)) s t same ends = tt
+ends_alike (Some (Err e)) s t same ends = same ∙ ends
+
+pub behind_alike : {I : Type 0} (r : Next) (given : Option Refused) (s t : Stepping I) → t.failed ≡ s.failed
+    → EndsBehind r given s → EndsBehind r given t
+behind_alike r None s t same behind = record { seen = ends_alike r s t same behind.seen; over = tt }
+behind_alike r (Some e) s t same behind = record {
+  seen = ends_alike r s t same behind.seen;
+  over = (behind.over.0, same ∙ behind.over.1);
+}
 
 -- ---- where calls leave the source
 

@@ -24,6 +24,7 @@ use Rattle.granit_parser.specs.Recovering.{IsOpen, ParserIn, ReadsNext, SeenBy, 
 use Rattle.granit_parser.specs.Recovering.{LookShowsHeld, between_behind, failed_in, notes_between, notes_over, PeeksIn}
 use Rattle.granit_parser.specs.Recovering.{over_behind}
 use Rattle.granit_parser.specs.Sources.{IfUnseen, MovesUnless, NeverRecovers, TellsError, TellsSource}
+use Rattle.granit_parser.specs.Waiting.{GivesAtOnce}
 use Rattle.granit_recovery.specs.Streams.{ReachedByCalls, calls_from}
 use Rattle.granit_restart.specs.Ahead.{not_ahead}
 use Rattle.granit_restart.specs.Calls.{Calls, given_by, next_call, noted}
@@ -396,17 +397,19 @@ module _ {I : Type 0} (unread : I → Unread → Type 0) (left : I → ℕ) (ori
   shows_next (Some x) m g =
       subst (λ o. GivesNext (Some x) (StandsIn unread t.stepper) t.stepper.renumbered o m) (sym options) g
 
-  pub peeks_unseen : TellsError origin p.stepper r t.stepper.scanner.cursor → t.given ≡ p.given
-      → t.answered ≡ p.answered → EndsWith r t.stepper → (p.stepper.failed ≡ true → (r ≡ None) × (t ≡ p))
+  pub peeks_unseen : TellsError origin p.stepper r t.stepper.scanner.cursor
+      → GivesAtOnce origin p.stepper r t.stepper → t.given ≡ p.given → t.answered ≡ p.answered → EndsWith r t.stepper
+      → (p.stepper.failed ≡ true → (r ≡ None) × (t ≡ p))
       → t.stepper.renumbered ≡ p.stepper.renumbered
       → MovesUnless left origin r p.stepper.scanner.cursor t.stepper.scanner.cursor
       → GoesOnward unread p.stepper.scanner.cursor t.stepper.scanner.cursor
       → ParserPeeksAs unread left origin p r (record t { peeked = r })
-  peeks_unseen source given answered refused over renumbered moves onward = record {
+  peeks_unseen source at_once given answered refused over renumbered moves onward = record {
     shown = refl;
     known = λ m at free. shows_next r m (sure m (subst (λ (w : Next). StandsBefore unread w p.stepper m) none at) free);
     source = subst (λ (w : Next). IfUnseen w (TellsError origin p.stepper r t.stepper.scanner.cursor)) (sym none)
         source;
+    at_once = subst (λ (w : Next). IfUnseen w (GivesAtOnce origin p.stepper r t.stepper)) (sym none) at_once;
     seen = subst (λ (w : Next). IfSome w (λ x. record t { peeked = r } ≡ p)) (sym none) tt;
     given = given;
     answered = answered;

@@ -1,5 +1,6 @@
 pub mod AloneLemmas
 pub mod AnswerLemmas
+pub mod AtOnceLemmas
 pub mod CallLemmas
 mod ChangeLemmas
 pub mod DropLemmas

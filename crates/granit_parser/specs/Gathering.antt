@@ -1,5 +1,5 @@
 -- All events that a parser still gives, as one list.
-use Rattle.std.specs.Prelude.{◌≡◌, ◌⊎◌, ◌<◌, ◌-◌, ◌^◌, List, None, Some, Result, Ok, Err}
+use Rattle.std.specs.Prelude.{◌≡◌, ◌⊎◌, ◌<◌, ◌-◌, ◌^◌, List, [], None, Some, Result, Ok, Err}
 use Rattle.granit_base.specs.Place.{Unread}
 use Rattle.granit_error.specs.OptionsData.{OptionsData}
 use Rattle.granit_error.specs.Refused.{Refused}
@@ -7,6 +7,7 @@ use Rattle.granit_input.specs.Origin.{Origin}
 use Rattle.granit_lexemes.specs.PlainEvent.{PlainEvent}
 use Rattle.granit_parser.specs.Parsing.{LeadsTo, Parsing}
 use Rattle.granit_parser.specs.Receiving.{RefusalIn}
+use Rattle.granit_restart.specs.Skipping.{with_pending}
 use Rattle.granit_stepper.specs.Stepping.{Stepping, StandsIn}
 use Rattle.granit_steps.specs.Steps.{StepState, next_event}
 
@@ -14,6 +15,14 @@ use Rattle.granit_steps.specs.Steps.{StepState, next_event}
 abbrev pub Gathered : {I : Type 0} → (I → Unread → Type 0) → OptionsData → StepState → List PlainEvent → Stepping I
     → Type 0
 Gathered unread o m es s = (n : StepState) × LeadsTo o m es n × StandsIn unread s n
+
+-- all that was given from a state on waits in a stepper, and it is known in which state that stands behind it
+pub record WaitsGathered {I : Type 0} (unread : I → Unread → Type 0) (o : OptionsData) (m : StepState) (s : Stepping I)
+    : Type 0 where
+  pub told : s.first ≡ None
+  pub at : StepState
+  pub leads : LeadsTo o m s.parser.given (with_pending [] at)
+  pub stands : StandsIn unread s (with_pending s.parser.given at)
 
 -- One by one these events are given from a state on, and nothing more. Behind them fewer anchors are counted than the
 -- greatest number of 64 bits, since one that would get it is refused.

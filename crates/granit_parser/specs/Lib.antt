@@ -8,3 +8,4 @@ pub mod Recovering
 pub mod Resuming
 pub mod Sources
 pub mod Streams
+pub mod Waiting

@@ -14,6 +14,7 @@ pub use Rattle.granit_layers.specs.Turning.{Next}
 use Rattle.granit_lexemes.specs.Outcome.{Fails}
 use Rattle.granit_lexemes.specs.PlainEvent.{PlainEvent}
 use Rattle.granit_parser.specs.Sources.{IfUnseen, MovesUnless, TellsError, TellsSource}
+use Rattle.granit_parser.specs.Waiting.{GivesAtOnce}
 use Rattle.granit_receivers.specs.Kept.{IsKept}
 use Rattle.granit_stepper.specs.Numbers.{RefusesNumber}
 use Rattle.granit_stepper.specs.Stepping as stepping
@@ -116,6 +117,7 @@ pub record ParserPeeksAs {I : Type 0} (unread : I → Unread → Type 0) (left :
       → (origin new.stepper.scanner.cursor.input).error ≡ None
       → ShowsNext unread r new old.stepper.scanner.options m
   pub source : IfUnseen old.peeked (TellsError origin old.stepper r new.stepper.scanner.cursor)
+  pub at_once : IfUnseen old.peeked (GivesAtOnce origin old.stepper r new.stepper)
   pub seen : IfSome old.peeked (λ x. new ≡ old)
   pub given : new.given ≡ old.given
   pub answered : new.answered ≡ old.answered
@@ -134,6 +136,7 @@ pub record ParserStepsTo {I : Type 0} (unread : I → Unread → Type 0) (left :
       → GivesNext r (StandsAt unread q) q.stepper.renumbered p.stepper.scanner.options m
       ⊎ TellsSource origin r q.stepper.scanner.cursor
   pub source : IfUnseen p.peeked (TellsError origin p.stepper r q.stepper.scanner.cursor)
+  pub at_once : IfUnseen p.peeked (GivesAtOnce origin p.stepper r q.stepper)
   pub seen : IfSome p.peeked (λ x. (r ≡ Some x) × (q.stepper ≡ p.stepper))
   pub none : q.peeked ≡ None
   pub given : KeepsGiven r p.given q.given

@@ -29,6 +29,7 @@ ghost use Rattle.granit_parser.specs.Resuming.{Resumed, ResumesCall};
 ghost use Rattle.granit_parser.specs.contracts.parser.Parser.{the_row};
 ghost use Rattle.granit_parser.specs.Sources.{IfUnseen, MovesUnless, NeverRecovers, NeverRevives, TellsError};
 ghost use Rattle.granit_parser.specs.Sources.{TellsSource, unless_failed};
+ghost use Rattle.granit_parser.specs.Waiting.{GivesAtOnce, TakesFirst};
 ghost use Rattle.granit_receivers.specs.Kept.{IsKept};
 ghost use Rattle.granit_receivers.specs.Sending.{shown};
 ghost use Rattle.granit_recovery.specs.Streams.{ReachedByCalls, calls_from};
@@ -37,6 +38,7 @@ ghost use Rattle.granit_restart.specs.Skipping.{Stops};
 ghost use Rattle.granit_stepper.specs.Holding.{HoldsFault};
 ghost use Rattle.granit_stepper.specs.Refusals.{HoldsRefusal, StandsRefused};
 ghost use Rattle.granit_stepper.specs.Stepping.{StandsIn, refused_kind};
+ghost use Rattle.granit_stepper.specs.Waiting.{IsAtEnd, SameButCursor};
 ghost use Rattle.granit_shifted.specs.Alone.{TellsAlone};
 ghost use Rattle.granit_shifted.specs.Shift.{Shift};
 ghost use Rattle.granit_steps.specs.Steps as steps;
@@ -187,6 +189,7 @@ impl<'input, T: BorrowedInput<'input>> Parser<'input, T> {
             ⊎ TellsSource T.origin result self.new.stepper.scanner.cursor }
         ensures source { IfUnseen self.old.peeked (TellsError T.origin self.old.stepper result
             self.new.stepper.scanner.cursor) }
+        ensures at_once { IfUnseen self.old.peeked (GivesAtOnce T.origin self.old.stepper result self.new.stepper) }
         ensures lost { IfUnseen self.old.peeked (NeverRecovers T.origin self.old.stepper result
             self.new.stepper) }
         ensures text { (x : List ℕ) (es : List PlainEvent) (m : StepState) → StandsAt T.unread self.old m
@@ -289,6 +292,7 @@ impl<'input, T: BorrowedInput<'input>> Parser<'input, T> {
             ⊎ TellsSource T.origin result self.new.stepper.scanner.cursor }
         ensures source { IfUnseen self.old.peeked (TellsError T.origin self.old.stepper result
             self.new.stepper.scanner.cursor) }
+        ensures at_once { IfUnseen self.old.peeked (GivesAtOnce T.origin self.old.stepper result self.new.stepper) }
         ensures lost { IfUnseen self.old.peeked (NeverRecovers T.origin self.old.stepper result
             self.new.stepper) }
         ensures peeked { self.new.peeked ≡ None }
@@ -397,6 +401,7 @@ impl<'input, T: BorrowedInput<'input>> Parser<'input, T> {
             → ReadsHeld T.unread result self.new.stepper m f
             ⊎ TellsSource T.origin result self.new.stepper.scanner.cursor }
         ensures source { TellsError T.origin self.old.stepper result self.new.stepper.scanner.cursor }
+        ensures at_once { GivesAtOnce T.origin self.old.stepper result self.new.stepper }
         ensures lost { NeverRecovers T.origin self.old.stepper result self.new.stepper }
         ensures peeked { self.new.peeked ≡ self.old.peeked }
         ensures given { self.new.given ≡ self.old.given }
@@ -441,6 +446,7 @@ impl<'input, T: BorrowedInput<'input>> Parser<'input, T> {
             → StandsRefused T.unread self.new.stepper m e }
         ensures lost { IfSome result (λ e. self.new.stepper.refusal ≡ None) }
         ensures ended { result ≡ None → self.new.stepper.refusal ≡ self.old.stepper.refusal }
+        ensures rest { result ≡ None → SameButCursor self.old.stepper self.new.stepper }
         ensures first { self.new.stepper.first ≡ self.old.stepper.first }
         ensures ahead { self.new.stepper.ahead ≡ self.old.stepper.ahead }
         ensures peeked { self.new.peeked ≡ self.old.peeked }
@@ -470,6 +476,9 @@ impl<'input, T: BorrowedInput<'input>> Parser<'input, T> {
             → ReadsNext T.unread result self.new.stepper c }
         ensures waits { (m : StepState) (f : Refused) → HoldsFault T.unread self.old.stepper m f
             → ReadsHeld T.unread result self.new.stepper m f }
+        ensures waiting { self.old.stepper.failed ≡ false
+            → TakesFirst result self.old.stepper self.new.stepper }
+        ensures ended { IsAtEnd self.old.stepper → (result ≡ None) × (self.new.stepper ≡ self.old.stepper) }
         ensures peeked { self.new.peeked ≡ self.old.peeked }
         ensures given { self.new.given ≡ self.old.given }
         ensures starved { self.new.starved ≡ self.old.starved }

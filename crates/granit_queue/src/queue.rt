@@ -155,7 +155,9 @@ fn push<'input>(
 {
     mark_by(items, numbers.rises, &queued.item);
     numbers.push(&queued.item);
-    items.reserve(1)?;
+    if items.len() >= items.capacity() {
+        items.reserve(1)?;
+    }
     items.push_back_reserved(queued);
     Ok(())
 }

@@ -1,5 +1,6 @@
 //! Which lexeme a text begins with, told by its first characters.
 ghost use Rattle.std.specs.Prelude.{◌≡◌, ◌≤◌, Bool, slice_index};
+ghost use Rattle.granit_base.specs.Classes as class;
 ghost use Rattle.granit_cursor.specs.Reading.{Stands};
 ghost use Rattle.granit_lexemes.specs.Here.{Here};
 ghost use Rattle.granit_machine.specs.LexemeSort as spec;
@@ -89,13 +90,22 @@ pub(crate) fn sort_at<T: Input>(at: &Cursor<T>, in_flow: bool, adjacent: bool) -
         }
         return LexemeSort::EndMark;
     }
-    if !is_printable(c) {
+    if !prints(c) {
         return LexemeSort::Unprintable;
     }
     if column == 0 && c == '%' {
         return LexemeSort::DirectiveSign;
     }
     LexemeSort::Placed(placed_at(at, in_flow, adjacent, c))
+}
+
+/// Whether a character is printable: most are from `!` to `~`.
+#[inline(always)]
+#[tactic(auto, unfolding(granit_base::specs::Classes::is_printable))]
+fn prints(c: char) -> bool
+    ensures { result ≡ class.is_printable c }
+{
+    c.is_ascii_graphic() || is_printable(c)
 }
 
 /// By its first character; the next one is asked for where it tells more.

@@ -6,7 +6,7 @@ use Rattle.granit_machine.specs.Laid.{Laid}
 use Rattle.granit_machine.specs.Lexing.{FlaggedItem}
 use Rattle.granit_machine.specs.Machine.{front_if, is_settled, settled}
 use Rattle.granit_machine.specs.Parser.{line_of_item, next_line}
-use Rattle.granit_scanner.specs.Scans.{front_goes, is_final, line_known, line_next}
+use Rattle.granit_scanner.specs.Scans.{front_goes, is_final, line_front, line_known}
 use Rattle.granit_steps.specs.Steps.{asks_next, is_next_settled}
 
 same_item : (f i : FlaggedItem) → Some f ≡ Some i → f ≡ i
@@ -22,30 +22,24 @@ module _ (over : Bool) (l : Laid) where
   first_goes [] f e = absurd cc
   first_goes (i ∷ is) f e = ap (λ (g : FlaggedItem). over || is_final l g.item is) (same_item f i e)
 
-  pub no_line : (q : List FlaggedItem) → None ≡ slice_get q 1 → None ≡ line_next over l q
+  pub no_line : (q : List FlaggedItem) → None ≡ slice_get q 0 → None ≡ line_front over l q
   no_line [] e = by_over over
     where
-      by_over : (b : Bool) → None ≡ line_next b l []
+      by_over : (b : Bool) → None ≡ line_front b l []
       by_over true = refl
       by_over false = refl
-  no_line (i ∷ []) e = by_over over
-    where
-      by_over : (b : Bool) → None ≡ line_next b l (i ∷ [])
-      by_over true = refl
-      by_over false = refl
-  no_line (i ∷ j ∷ js) e = absurd cc
+  no_line (i ∷ is) e = absurd cc
 
 line_by : (b : Bool) (l : Laid) (i : FlaggedItem) (is : List FlaggedItem)
     → (if b then line_of_item i.item i.begins_key else None) ≡ next_line (front_if b i is)
 line_by true l i is = refl
 line_by false l i is = refl
 
-pub line_behind_first : (over : Bool) (l : Laid) (q : List FlaggedItem) (f : FlaggedItem) → Some f ≡ slice_get q 1
-    → line_known over l f ≡ line_next over l q
-line_behind_first over l [] f e = absurd cc
-line_behind_first over l (i ∷ []) f e = absurd cc
-line_behind_first true l (i ∷ j ∷ js) f e = ap (λ (g : FlaggedItem). line_of_item g.item g.begins_key) (same_item f j e)
-line_behind_first false l (i ∷ j ∷ js) f e =
+pub line_of_first : (over : Bool) (l : Laid) (q : List FlaggedItem) (f : FlaggedItem) → Some f ≡ slice_get q 0
+    → line_known over l f ≡ line_front over l q
+line_of_first over l [] f e = absurd cc
+line_of_first true l (j ∷ js) f e = ap (λ (g : FlaggedItem). line_of_item g.item g.begins_key) (same_item f j e)
+line_of_first false l (j ∷ js) f e =
     ap (λ (g : FlaggedItem). line_known false l g) (same_item f j e) ∙ line_by (is_settled l j.item) l j (settled l js)
 
 module _ (l : Laid) where
@@ -88,3 +82,18 @@ module _ (l : Laid) where
   first_free (i ∷ is) f e waits =
       ap (λ (g : FlaggedItem). take (if is_settled l g.item then 1 else 0) (i ∷ is)) (same_item f i e)
       ∙ free_by (is_settled l i.item) i is waits
+
+  -- where it waits for nothing, it isn't settled
+  pub unasked_held : (q : List FlaggedItem) (f : FlaggedItem) → Some f ≡ slice_get q 0 → asks_next f.item ≡ false
+      → front_goes false l q ≡ false → take 0 q ≡ settled l q
+  unasked_held [] f e unasked waits = absurd cc
+  unasked_held (i ∷ is) f e unasked waits =
+      let same : asks_next i.item ≡ false =
+      ap (λ (g : FlaggedItem). asks_next g.item) (sym (same_item f i e)) ∙ unasked in
+      held_by (is_settled l i.item) i is (asks_next i.item) same waits
+    where
+      held_by : (b : Bool) (i : FlaggedItem) (is : List FlaggedItem) (asks : Bool) → asks ≡ false
+          → (b && (not asks || is_next_settled l is)) ≡ false → [] ≡ front_if b i (settled l is)
+      held_by true i is true asks e = absurd cc
+      held_by true i is false asks e = absurd cc
+      held_by false i is asks none e = refl

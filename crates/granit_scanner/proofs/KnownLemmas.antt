@@ -12,10 +12,10 @@ use Rattle.granit_machine.specs.Laid.{Laid}
 use Rattle.granit_machine.specs.Lexing.{FlaggedItem}
 use Rattle.granit_machine.specs.Machine.{front_if, is_settled, settled}
 use Rattle.granit_machine.specs.Reader.{LexState}
-use Rattle.granit_scanner.specs.Scans.{Scanning, Known, KnownBy, TakesOldest, front_goes, is_done, line_next}
+use Rattle.granit_scanner.specs.Scans.{Scanning, Known, KnownBy, TakesAsked, TakesOldest, front_goes, is_done}
 use Rattle.granit_reader.specs.Meets.{behind_met}
 use Rattle.granit_restart.specs.Header.{ends_in_directive, last_is_directive}
-use Rattle.granit_scanner.specs.Scans.{may_front_go, unsettled}
+use Rattle.granit_scanner.specs.Scans.{line_asked, line_next, may_front_go, unsettled}
 use Rattle.granit_steps.specs.Steps.{asks_next, is_next_settled, is_over, line_behind, may_go}
 
 or_true : (b : Bool) → (b || true) ≡ true
@@ -170,6 +170,16 @@ module _ {I : Type 0} (unread : I → Unread → Type 0) (s : Scanning I) (l : L
       (slice_get s.queue 0)) without_first l q
   taken [] k goes = cc
   taken (i ∷ is) k goes =
+      (rw (first_kept s.fault i is k goes, line_kept s.fault i is k goes) refl, rest_kept s.fault i is k goes)
+
+  -- the same, with the line where the item asks for it
+  pub taken_asked : (q : List FlaggedItem) → Known unread s l q → may_front_go l q ≡ true
+      → TakesAsked unread (option_map (λ (i : FlaggedItem). (
+        i,
+        line_asked i.item (line_next (is_done s) s.laid s.queue),
+      )) (slice_get s.queue 0)) without_first l q
+  taken_asked [] k goes = cc
+  taken_asked (i ∷ is) k goes =
       (rw (first_kept s.fault i is k goes, line_kept s.fault i is k goes) refl, rest_kept s.fault i is k goes)
 
   -- ---- whether the last lexeme is a directive

@@ -88,9 +88,16 @@ may_front_go l (i ∷ is) = may_go l i is
 abbrev pub line_known : (over : Bool) → Laid → FlaggedItem → Option ℕ
 line_known over l i = if over || is_settled l i.item then line_of_item i.item i.begins_key else None
 
--- the line of what stands behind the oldest item, where it is known
+-- the line of the oldest item, and of what stands behind it, where it is known
+abbrev pub line_front : (over : Bool) → Laid → List FlaggedItem → Option ℕ
+line_front over l q = next_line (free_items over l q)
+
 abbrev pub line_next : (over : Bool) → Laid → List FlaggedItem → Option ℕ
-line_next over l q = next_line (free_items over l (drop 1 q))
+line_next over l q = line_front over l (drop 1 q)
+
+-- the same, where an item asks for it
+abbrev pub line_asked : Item → Option ℕ → Option ℕ
+line_asked i line = if asks_next i then line else None
 
 -- ---- what is taken
 
@@ -102,6 +109,12 @@ abbrev pub TakesOldest : {I : Type 0} → (I → Unread → Type 0) → Option (
     → List FlaggedItem → Type 0
 TakesOldest unread given s l [] = ⊥
 TakesOldest unread given s l (i ∷ is) = (given ≡ Some (i, line_behind l is)) × Known unread s l is
+
+-- the same, with the line where the item asks for it
+abbrev pub TakesAsked : {I : Type 0} → (I → Unread → Type 0) → Option (FlaggedItem × Option ℕ) → Scanning I → LexState
+    → List FlaggedItem → Type 0
+TakesAsked unread given s l [] = ⊥
+TakesAsked unread given s l (i ∷ is) = (given ≡ Some (i, line_asked i.item (line_behind l is))) × Known unread s l is
 
 -- ---- what is read
 

@@ -1,5 +1,6 @@
 //! Items in order, each as soon as nothing behind it can change what it is.
 ghost use Rattle.std.specs.Prelude.{◌≡◌, ◌≤◌, true, false, [], drop, take, Option, None, Some, slice_get, OnOk};
+ghost use Rattle.std.specs.Prelude.{is_some};
 ghost use Rattle.std.specs.Option.{option_map};
 ghost use Rattle.granit_base.specs.Place.{Unread};
 ghost use Rattle.granit_cursor.specs.Reading.{GoesOnward};
@@ -18,7 +19,7 @@ ghost use Rattle.granit_queue.specs.QueueViews.{queued_view};
 ghost use Rattle.granit_refused.specs.Answered.{answered};
 ghost use Rattle.granit_scanner.specs.Scans as spec;
 ghost use Rattle.granit_scanner.specs.Scans.{KeepsBefore, Known, KnownBy, ReadsOn};
-ghost use Rattle.granit_scanner.specs.Scans.{TakesOldest, TakesRead, TellsLast};
+ghost use Rattle.granit_scanner.specs.Scans.{TakesAsked, TakesOldest, TakesRead, TellsLast};
 ghost use Rattle.granit_steps.specs.Steps as steps;
 
 use crate::last::last_behind;
@@ -42,7 +43,7 @@ pub(crate) const MOST_LEXEMES: usize = 0x7FFF_FFFF_FFFF_FFFF;
 pub struct Front<'input> {
     /// The item, and whether a simple key begins with it.
     pub queued: Queued<'input>,
-    /// The line of what stands behind it, where that is known.
+    /// The line of what stands behind it, where that is told.
     pub next_line: Option<usize>,
 }
 
@@ -104,6 +105,7 @@ impl<'input, T: BorrowedInput<'input>> Scanner<'input, T> {
     pub fn mark(&self) -> Marker
         ensures here { (h : Here) → Stands T.unread self.now.cursor h → result ≡ mark_of h }
         ensures place { result.place ≡ self.now.cursor.place }
+        ensures told { is_some result.byte_offset ≡ (T.origin self.now.cursor.input).tells_offset }
     {
         self.cursor.mark()
     }
@@ -160,6 +162,19 @@ impl<'input, T: BorrowedInput<'input>> Scanner<'input, T> {
         ensures rest { self.new ≡ record self.old { queue = drop 1 self.old.queue } }
     {
         self.take_oldest()
+    }
+
+    /// Takes the oldest item, where it may go, with the line of what stands behind it where the item asks for that.
+    pub fn take_asked(&mut self) -> Option<Front<'input>>
+        ensures known { (l : LexState) (q : _) → Known T.unread self.old l q → spec.may_front_go l q ≡ true
+            → TakesAsked T.unread (option_map spec.front_view result) self.new l q }
+        ensures item { option_map spec.front_view result ≡ option_map (λ i. (
+          i,
+          spec.line_asked i.item (spec.line_next (spec.is_done self.old) self.old.laid self.old.queue),
+        )) (slice_get self.old.queue 0) }
+        ensures rest { self.new ≡ record self.old { queue = drop 1 self.old.queue } }
+    {
+        self.take_front_asked()
     }
 
     /// Makes one more read, where the oldest item may not go; its items wait behind the others. A fault is kept, and
@@ -260,8 +275,40 @@ impl<'input, T: Input> Scanner<'input, T> {
         )) (slice_get self.old.queue 0) }
         ensures rest { self.new ≡ record self.old { queue = drop 1 self.old.queue } }
     {
-        let next_line = self.line_behind();
-        front_of(self.queue.pop(), next_line)
+        match self.queue.pop() {
+            None => None,
+            Some(queued) => {
+                let next_line = self.line_of_front();
+                Some(Front { queued, next_line })
+            }
+        }
+    }
+
+    fn take_front_asked(&mut self) -> Option<Front<'input>>
+        ensures item { option_map spec.front_view result ≡ option_map (λ i. (
+          i,
+          spec.line_asked i.item (spec.line_next (spec.is_done self.old) self.old.laid self.old.queue),
+        )) (slice_get self.old.queue 0) }
+        ensures rest { self.new ≡ record self.old { queue = drop 1 self.old.queue } }
+    {
+        match self.queue.pop() {
+            None => None,
+            Some(queued) => {
+                let next_line = self.line_if_asked(&queued.item);
+                Some(Front { queued, next_line })
+            }
+        }
+    }
+
+    /// The line of the oldest item, where the item before it asks for that.
+    fn line_if_asked(&self, before: &Item<'input>) -> Option<usize>
+        ensures { result ≡ spec.line_asked (item_view before.now)
+            (spec.line_front (spec.is_done self.now) self.now.laid self.now.queue) }
+    {
+        if asks_next(before) {
+            return self.line_of_front();
+        }
+        None
     }
 
     /// What a read found waits behind the other items; before a fault so many of them stay.
@@ -318,7 +365,13 @@ impl<'input, T: Input> Scanner<'input, T> {
     {
         match self.queue.get(0) {
             None => 0,
-            Some(front) => usize::from(self.is_settled(&front.item)),
+            Some(front) => {
+                // One that doesn't wait for the next, and yet may not go, isn't settled.
+                if !asks_next(&front.item) {
+                    return 0;
+                }
+                usize::from(self.is_settled(&front.item))
+            }
         }
     }
 
@@ -348,12 +401,12 @@ impl<'input, T: Input> Scanner<'input, T> {
         }
     }
 
-    /// The line of what stands behind the oldest item, where it is known.
+    /// The line of the oldest item, where it is known.
     #[tactic(auto, using(crate::proofs::FrontLemmas::no_line))]
-    fn line_behind(&self) -> Option<usize>
-        ensures { result ≡ spec.line_next (spec.is_done self.now) self.now.laid self.now.queue }
+    fn line_of_front(&self) -> Option<usize>
+        ensures { result ≡ spec.line_front (spec.is_done self.now) self.now.laid self.now.queue }
     {
-        match self.queue.get(1) {
+        match self.queue.get(0) {
             None => None,
             Some(next) => self.line_if_known(next),
         }
@@ -373,17 +426,5 @@ impl<'input, T: Input> Scanner<'input, T> {
         ensures { result ≡ spec.is_done self.now }
     {
         self.ended || self.fault.is_some()
-    }
-}
-
-fn front_of<'input>(
-    queued: Option<Queued<'input>>,
-    next_line: Option<usize>,
-) -> Option<Front<'input>>
-    ensures { option_map spec.front_view result ≡ option_map (λ q. (queued_view q, next_line)) queued.entry }
-{
-    match queued {
-        None => None,
-        Some(queued) => Some(Front { queued, next_line }),
     }
 }

@@ -1,4 +1,5 @@
-//! Tests of granit_stack by its public calls. They stand here since a crate with tests is proved twice.
+//! Tests of granit_stack by its public calls, and the laws of granit_stack_laws at concrete types. They stand here since
+//! a crate with tests is proved twice.
 #![tactic(auto)]
 
 #[cfg(test)]
@@ -6,9 +7,13 @@ mod included;
 #[cfg(test)]
 mod includes;
 #[cfg(test)]
+mod laws;
+#[cfg(test)]
 mod pushes;
 #[cfg(test)]
 mod receivers;
+#[cfg(test)]
+mod resolver;
 #[cfg(test)]
 mod stack;
 #[cfg(test)]

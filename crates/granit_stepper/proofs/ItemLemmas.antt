@@ -15,8 +15,8 @@ use Rattle.granit_machine.specs.Leaving.{LeavesIfRoom}
 use Rattle.granit_machine.specs.Lexing.{FlaggedItem}
 use Rattle.granit_machine.specs.Parser.{take_item}
 use Rattle.granit_restart.specs.Header.{is_start_expected}
-use Rattle.granit_stepper.specs.Numbers.{GetsLast, IsNumberless, UnlessNumberless, anchor_start, is_anchor}
-use Rattle.granit_stepper.specs.Numbers.{start_if}
+use Rattle.granit_stepper.specs.Numbers.{GetsLast, IsAnchorStart, IsNumberless, UnlessNumberless, anchor_start}
+use Rattle.granit_stepper.specs.Numbers.{is_anchor, start_if}
 use Rattle.granit_stepper.specs.Refusals.{IsBeforeItem, RefusedItem}
 use Rattle.granit_stepper.specs.Stepping.{StandsIn, Stepping, feed_item, turn_view}
 use Rattle.granit_stepper.specs.declared.refusal.Refusal.{Refusal}
@@ -41,12 +41,12 @@ module _ {I : Type 0} (unread : I → Unread → Type 0) (s : Stepping I) (m : S
   abbrev fed_to : Stepping I
   fed_to = record s { parser = after }
 
-  pub item_fed : UnlessNumberless fed_to r (anchor_start x.0.item) (Ok tt)
+  pub item_fed : (start : Option Mark) → UnlessNumberless fed_to r start (Ok tt)
       → GivesTo turn_view (Ok true) (StandsIn unread fed_to) (feed_item o x m)
-  item_fed given = feeds unread s m at o x after told none
+  item_fed start given = feeds unread s m at o x after told none
       (left_ok r after (take_item o x.0.item x.0.begins_key x.1 s.parser) fed given.0) given.1
 
-  module _ (start : Option Mark) (is : start ≡ anchor_start x.0.item) (e : Refused)
+  module _ (start : Option Mark) (is : IsAnchorStart start x.0.item) (e : Refused)
       (given : UnlessNumberless fed_to r start (Err e)) where
     pub item_not_fed : Fails e (feed_item o x m) ⊎ ((s.renumbered ≡ true) × GetsLast o x m.parser e)
     item_not_fed = elim given [
@@ -95,14 +95,14 @@ anchor_alone (OfLexeme l) start is =
 anchor_alone (OfComment c) start is = refl
 
 -- where the greatest number was given the item is an anchor, unless memory ran out
-numberless_anchor : (renumbered : Bool) (i : Item) (start : Option Mark) (e : Refused) → start ≡ anchor_start i
+numberless_anchor : (renumbered : Bool) (i : Item) (start : Option Mark) (e : Refused) → IsAnchorStart start i
     → IsNumberless renumbered start e → (e.kind ≡ NoMemory → ⊥) → holds_directive i ≡ false
-numberless_anchor true i (Some start) e is why other = anchor_alone i start is
+numberless_anchor true i (Some start) e is why other = anchor_alone i start (sym is)
 numberless_anchor true i None e is why other = absurd (other why)
 numberless_anchor false i start e is why other = absurd (other why)
 
 pub item_tags : {I : Type 0} (s : Stepping I) (i : Item) (p q : ParserState) (r : Result (Unit {0}) Refused)
-    (start : Option Mark) (e : Refused) → start ≡ anchor_start i → UnlessNumberless s r start (Err e)
+    (start : Option Mark) (e : Refused) → IsAnchorStart start i → UnlessNumberless s r start (Err e)
     → (e.kind ≡ NoMemory → ⊥) → (holds_directive i ≡ false → q.kept ≡ p.kept) → KeepsIfRefused r p q
     → q.kept ≡ p.kept
 item_tags s i p q r start e is (inl err) other kept refused = refused e err other

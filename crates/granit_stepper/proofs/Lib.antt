@@ -1,5 +1,9 @@
 pub mod AheadLemmas
+pub mod BehindFeeds
+pub mod BehindSteps
 pub mod CalmLemmas
+pub mod EarlyLemmas
+pub mod EndLemmas
 pub mod FaultLemmas
 pub mod GatherLemmas
 pub mod HeaderLemmas
@@ -12,5 +16,6 @@ pub mod RefusalLemmas
 pub mod SettleLemmas
 pub mod SkipLemmas
 pub mod StateLemmas
+pub mod StayLemmas
 pub mod TurnLemmas
 pub mod WaitingLemmas

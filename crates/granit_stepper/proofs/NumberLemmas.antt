@@ -2,6 +2,7 @@
 use Rattle.std.proofs.Common.{◌≡◌, ◌⊎◌, inl, inr, ℕ, ◌<◌, ◌≤◌, ◌==◌, ◌-◌, ◌^◌, Bool, true, false, List, [], ◌∷◌}
 use Rattle.std.proofs.Common.{Option, Some, None, Result, Ok, Err, refl, sym, ap, ◌∙◌, arith}
 use Rattle.std.proofs.lemmas.Bool.Decides.{nat_tests}
+use Rattle.std.specs.Prelude.{nat_le, if◌then◌else◌}
 use Rattle.granit_base.specs.Place.{Mark}
 use Rattle.granit_base.specs.Written.{Written}
 use Rattle.granit_cursor.specs.Reading.{GivesTo}
@@ -14,8 +15,11 @@ use Rattle.granit_lexemes.specs.PlainEvent.{PlainEvent}
 use Rattle.granit_machine.specs.Frames.{ParserState}
 use Rattle.granit_machine.specs.Lexing.{FlaggedItem}
 use Rattle.granit_machine.specs.Parser.{feed}
+use Rattle.granit_scanner.specs.Scans.{line_asked}
 use Rattle.granit_stepper.specs.Numbers.{GetsLast, GivesOr, IsNumberless, NoNumberLeft, RefusesNumber, TurnsTo}
 use Rattle.granit_stepper.specs.Numbers.{anchor_start, is_anchor, no_turn, one_turn, start_if}
+use Rattle.granit_stepper.specs.Numbers.{GetsLast, GivesOr, IsAnchorStart, IsNumberless, NoNumberLeft, RefusesNumber}
+use Rattle.granit_stepper.specs.Numbers.{TurnsTo, anchor_start, is_anchor, last_anchor, no_turn, one_turn, start_if}
 use Rattle.granit_stepper.proofs.TurnLemmas.{turn_feeds}
 use Rattle.granit_steps.specs.Steps.{StepState, Turn, line_behind, may_go, step_turn, with_fed}
 
@@ -83,6 +87,15 @@ anchor_at (OfLexeme l) start is =
     record { anchor = l; name = name.0; named = name.1; item = refl; begins = begun.1 }
 anchor_at (OfComment c) start is = absurd (cc)
 
+-- the last anchor that is told is one
+pub tells_last : (count : ℕ) (i : Item) (start : Option Mark) → start ≡ last_anchor count i → IsAnchorStart start i
+tells_last count i None is = tt
+tells_last count i (Some start) is = on (nat_le (2 ^ 64 - 2) count) is
+  where
+    on : (b : Bool) → Some start ≡ (if b then anchor_start i else None) → anchor_start i ≡ Some start
+    on true is = sym is
+    on false is = absurd (cc)
+
 -- ---- the greatest number was given
 
 module _ (o : OptionsData) (x : FlaggedItem × Option ℕ) (p : ParserState) (given : List PlainEvent × ParserState)
@@ -104,9 +117,9 @@ module _ (o : OptionsData) (x : FlaggedItem × Option ℕ) (p : ParserState) (gi
 
   -- memory ran out, or it is an anchor's
   pub numberless : {Y : Type 0} (fails : Result Y Fault) (renumbered : Bool) (start : Option Mark) (e : Refused)
-      → start ≡ anchor_start x.0.item → IsNumberless renumbered start e
+      → IsAnchorStart start x.0.item → IsNumberless renumbered start e
       → Fails e fails ⊎ ((renumbered ≡ true) × GetsLast o x p e)
-  numberless fails true (Some start) e is why = inr (refl, gets_last start e (sym is) why)
+  numberless fails true (Some start) e is why = inr (refl, gets_last start e is why)
   numberless fails true None e is why = inl (λ other. absurd (other why))
   numberless fails false start e is why = inl (λ other. absurd (other why))
 
@@ -121,7 +134,7 @@ gives_or view (Err e) Lands given Refuses g = inl g
 
 module _ (o : OptionsData) (m : StepState) (x : FlaggedItem × Option ℕ) (is : List FlaggedItem)
     (none : m.pending ≡ []) (front : m.queue ≡ x.0 ∷ is) (goes : may_go m.reading x.0 is ≡ true)
-    (line : x.1 ≡ line_behind m.reading is) where
+    (line : x.1 ≡ line_asked x.0.item (line_behind m.reading is)) where
   -- the turn that takes the anchor
   pub last_turn : (e : Refused) → GetsLast o x m.parser e → NoNumberLeft o m e
   last_turn e g = record {

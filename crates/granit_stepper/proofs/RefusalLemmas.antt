@@ -28,7 +28,7 @@ use Rattle.granit_restart.specs.Restart.{cursor_at, dropped, is_boundary, lexeme
 use Rattle.granit_scanner.specs.Restarts.{Restarts, front_items}
 use Rattle.granit_restart.specs.Skipping.{with_pending}
 use Rattle.granit_restart.specs.Turned.{Turned}
-use Rattle.granit_scanner.specs.Scans.{KnownBy, Scanning, may_front_go, wants_memory}
+use Rattle.granit_scanner.specs.Scans.{KnownBy, Scanning, line_asked, may_front_go, wants_memory}
 use Rattle.granit_scanner.proofs.KnownLemmas.{goes_kept}
 use Rattle.granit_stepper.specs.Recovering.{RestartsIn}
 use Rattle.granit_stepper.specs.Numbers.{GetsLast}
@@ -279,7 +279,7 @@ module _ {I : Type 0} (unread : I → Unread → Type 0) (s : Stepping I) (m : S
 
   -- an item is refused
   item_fails : (x : FlaggedItem × Option ℕ) (is : List FlaggedItem) → m.queue ≡ x.0 ∷ is
-      → may_go m.reading x.0 is ≡ true → x.1 ≡ line_behind m.reading is
+      → may_go m.reading x.0 is ≡ true → x.1 ≡ line_asked x.0.item (line_behind m.reading is)
       → (feed_item s.scanner.options x (record m { queue = is }) ≡ Err e)
       ⊎ ((s.renumbered ≡ true) × GetsLast s.scanner.options x m.parser e)
       → FailsIn s.renumbered s.scanner.options here e
@@ -289,7 +289,7 @@ module _ {I : Type 0} (unread : I → Unread → Type 0) (s : Stepping I) (m : S
       inr (last.0, last_turn s.scanner.options here x is refl front goes line e last.1)
 
   pub item_refuses : (x : FlaggedItem × Option ℕ) (is : List FlaggedItem) → m.queue ≡ x.0 ∷ is
-      → may_go m.reading x.0 is ≡ true → x.1 ≡ line_behind m.reading is
+      → may_go m.reading x.0 is ≡ true → x.1 ≡ line_asked x.0.item (line_behind m.reading is)
       → RefusedItem unread x s (record m { queue = is }) e → RefusedIn unread s m e
   item_refuses x is front goes line r = record {
     stands = record {
@@ -435,7 +435,7 @@ stands_recounted unread s m e offset less p is r kept stands = record {
 -- a turn that takes an item, whatever it gives
 pub item_refuses_in : {I X : Type 0} (unread : I → Unread → Type 0) (s : Stepping I) (m : StepState)
     → m.pending ≡ [] → (x : FlaggedItem × Option ℕ) (is : List FlaggedItem) → m.queue ≡ x.0 ∷ is
-    → may_go m.reading x.0 is ≡ true → x.1 ≡ line_behind m.reading is → (r : Result X Refused)
+    → may_go m.reading x.0 is ≡ true → x.1 ≡ line_asked x.0.item (line_behind m.reading is) → (r : Result X Refused)
     → RefusesItem unread x r s (record m { queue = is }) → RefusesIn unread r s m
 item_refuses_in unread s m none x is front goes line (Ok y) given = tt
 item_refuses_in unread s m none x is front goes line (Err e) given = λ other.

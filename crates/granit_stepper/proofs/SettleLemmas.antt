@@ -12,7 +12,8 @@ use Rattle.granit_stepper.specs.Stepping.{Stepping, StandsIn, Keeps, turn_view, 
 use Rattle.granit_steps.specs.Steps.{StepState, settle, step_size, step_turn}
 use Rattle.granit_steps.proofs.StepLaws.{step_turn-Shortens}
 
-settle_on : (o : OptionsData) (m after : StepState) → step_turn o m ≡ Ok (Some [], after) → settle o after ≡ settle o m
+pub settle_on : (o : OptionsData) (m after : StepState) → step_turn o m ≡ Ok (Some [], after)
+    → settle o after ≡ settle o m
 settle_on o m after is =
     sym (pieces_more step_size (step_turn o) (step_turn-Shortens o) m after [] is ∙ with_front-nil (settle o after))
 

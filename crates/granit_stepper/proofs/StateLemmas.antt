@@ -17,9 +17,9 @@ use Rattle.granit_lexemes.proofs.PieceLemmas.{pieces_done}
 use Rattle.granit_machine.specs.Frames.{ParserState, parser_start}
 use Rattle.granit_machine.specs.Lexing.{FlaggedItem, lex_start}
 use Rattle.granit_machine.specs.Parser.{feed, take_item}
-use Rattle.granit_scanner.specs.Scans.{Scanning, Known, KnownBy, ReadsOn, TakesOldest, may_front_go}
+use Rattle.granit_scanner.specs.Scans.{Scanning, Known, KnownBy, ReadsOn, TakesAsked, may_front_go}
 use Rattle.granit_stepper.proofs.NumberLemmas.{numberless, some_number}
-use Rattle.granit_stepper.specs.Numbers.{GetsLast, IsNumberless, RefusesNumber, anchor_start}
+use Rattle.granit_stepper.specs.Numbers.{GetsLast, IsAnchorStart, IsNumberless, RefusesNumber}
 use Rattle.granit_stepper.specs.Stepping.{Stepping, StandsIn, TakesFree, feed_item, first_events, no_events, turn_view}
 use Rattle.granit_stepper.proofs.TurnLemmas.{turn_waits_on}
 use Rattle.granit_steps.specs.Steps.{StepState, first_pending, is_over, next_event, read_more, read_unless, settle}
@@ -76,7 +76,7 @@ module _ {I : Type 0} (unread : I → Unread → Type 0) where
     -- ---- an item
 
     free_by : (sc : Scanning I) (q : List FlaggedItem) (r : Option (FlaggedItem × Option ℕ)) → m.queue ≡ q
-        → may_front_go m.reading q ≡ true → TakesOldest unread r sc m.reading q
+        → may_front_go m.reading q ≡ true → TakesAsked unread r sc m.reading q
         → TakesFree unread r (record s { scanner = sc }) m
     free_by sc [] r front goes given = absurd given
     free_by sc (i ∷ is) r front goes given =
@@ -97,7 +97,7 @@ module _ {I : Type 0} (unread : I → Unread → Type 0) where
         )
 
     pub takes_free : (sc : Scanning I) (r : Option (FlaggedItem × Option ℕ)) → may_front_go m.reading m.queue ≡ true
-        → TakesOldest unread r sc m.reading m.queue → TakesFree unread r (record s { scanner = sc }) m
+        → TakesAsked unread r sc m.reading m.queue → TakesFree unread r (record s { scanner = sc }) m
     takes_free sc r goes given = free_by sc m.queue r refl goes given
 
     pub nothing_waits : s.first ≡ None → m.pending ≡ [] → m.parser ≡ s.parser
@@ -137,7 +137,7 @@ module _ {I : Type 0} (unread : I → Unread → Type 0) where
     -- or gives the greatest number by it
     pub feeds_last : (o : OptionsData) (x : FlaggedItem × Option ℕ) (p : ParserState) (start : Option Mark)
         (e : Refused) → s.first ≡ None → m.pending ≡ [] → take_item o x.0.item x.0.begins_key x.1 s.parser ≡ Ok p
-        → p.count ≡ 2 ^ 64 - 1 → start ≡ anchor_start x.0.item → IsNumberless s.renumbered start e
+        → p.count ≡ 2 ^ 64 - 1 → IsAnchorStart start x.0.item → IsNumberless s.renumbered start e
         → Fails e (feed_item o x m) ⊎ ((s.renumbered ≡ true) × GetsLast o x m.parser e)
     feeds_last o x p start e told none is last at_start why =
         numberless o x m.parser (p.given, record p { given = [] }) (rw (fed_as o x told none, is) refl) last

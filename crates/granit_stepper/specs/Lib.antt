@@ -5,3 +5,4 @@ pub mod Offset
 pub mod Recovering
 pub mod Refusals
 pub mod Stepping
+pub mod Waiting

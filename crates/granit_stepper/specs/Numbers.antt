@@ -1,7 +1,6 @@
 -- Anchors for which no number is left.
 use Rattle.std.specs.Prelude.{◌≡◌, ◌<◌, ◌⊎◌, ℕ, ◌-◌, ◌^◌, Bool, true, false, List, [], ◌∷◌, Option, Some, None, Result}
-use Rattle.std.specs.Prelude.{Ok}
-use Rattle.std.specs.Prelude.{Err}
+use Rattle.std.specs.Prelude.{Ok, Err, nat_le, if◌then◌else◌}
 use Rattle.granit_base.specs.Place.{Mark}
 use Rattle.granit_base.specs.Written.{Written}
 use Rattle.granit_error.specs.FaultKind.{AnchorCountOverflow, NoMemory}
@@ -77,6 +76,15 @@ start_if false mark = None
 abbrev pub anchor_start : Item → Option Mark
 anchor_start (OfLexeme l) = start_if (is_anchor l.kind) l.shown.start
 anchor_start (OfComment c) = None
+
+-- the same where so many anchors were read that it may get the greatest number
+abbrev pub last_anchor : ℕ → Item → Option Mark
+last_anchor count i = if nat_le (2 ^ 64 - 2) count then anchor_start i else None
+
+-- what is told as an anchor's start is one
+abbrev pub IsAnchorStart : Option Mark → Item → Type 0
+IsAnchorStart None i = Unit {0}
+IsAnchorStart (Some start) i = anchor_start i ≡ Some start
 
 -- what is answered where the greatest number was given, by whether a number was ever set and by the anchor that got it
 abbrev pub IsNumberless : (renumbered : Bool) → Option Mark → Refused → Type 0

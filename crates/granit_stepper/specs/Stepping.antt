@@ -10,7 +10,7 @@ use Rattle.granit_machine.specs.Frames.{ParserState}
 use Rattle.granit_machine.specs.Lexing.{FlaggedItem}
 use Rattle.granit_machine.specs.Parser.{feed}
 use Rattle.granit_scanner.specs.Scans as scans
-use Rattle.granit_scanner.specs.Scans.{Scanning, Known, may_front_go}
+use Rattle.granit_scanner.specs.Scans.{Scanning, Known, line_asked, may_front_go}
 use Rattle.granit_stepper.specs.declared.refusal.Refusal.{Refusal}
 use Rattle.granit_steps.specs.Steps.{StepState, Turn, line_behind, may_go, with_fed}
 
@@ -63,14 +63,14 @@ turn_view false = None
 abbrev pub no_events : {X : Type 0} → X → List PlainEvent
 no_events x = []
 
--- The oldest item, where it may go, with the line of what stands behind it: a stepper is then in the state with the
--- items behind it.
+-- The oldest item, where it may go, with the line of what stands behind it, where it asks for that: a stepper is then
+-- in the state with the items behind it.
 abbrev pub TakesFree : {I : Type 0} → (I → Unread → Type 0) → Option (FlaggedItem × Option ℕ) → Stepping I → StepState
     → Type 0
 TakesFree unread None s m = (may_front_go m.reading m.queue ≡ false) × StandsIn unread s m
 TakesFree unread (Some x) s m =
     (is : List FlaggedItem) × (m.queue ≡ x.0 ∷ is) × (may_go m.reading x.0 is ≡ true)
-    × (x.1 ≡ line_behind m.reading is) × StandsIn unread s (record m { queue = is })
+    × (x.1 ≡ line_asked x.0.item (line_behind m.reading is)) × StandsIn unread s (record m { queue = is })
 
 -- what the machine does with an item that was taken
 abbrev pub feed_item : OptionsData → FlaggedItem × Option ℕ → StepState → Turn

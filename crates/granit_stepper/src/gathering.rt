@@ -1,13 +1,14 @@
-//! The events that come next, moved to a list.
-ghost use Rattle.std.specs.Prelude.{◌≡◌, ◌++◌, [], true, false, None, Some, Ok, IfErr, OnOk};
+//! The events that come next, behind those that wait.
+ghost use Rattle.std.specs.Prelude.{◌≡◌, ◌∷◌, [], true, false, None, Some, Ok, length, IfErr, OnOk};
 ghost use Rattle.granit_cursor.specs.Reading.{Moves};
 ghost use Rattle.granit_error.specs.FaultKind as faults;
-ghost use Rattle.granit_event.specs.Events.{plain_events};
-ghost use Rattle.granit_refused.specs.Answered.{answered};
-ghost use Rattle.granit_stepper.specs.Gathering.{GivesWaiting};
+ghost use Rattle.granit_event.specs.Events.{plain_event, plain_events};
+ghost use Rattle.granit_refused.specs.Answered.{answered, why};
+ghost use Rattle.granit_restart.specs.Skipping.{with_pending};
+ghost use Rattle.granit_stepper.specs.Gathering.{GivesBehind};
 ghost use Rattle.granit_stepper.specs.Numbers.{RefusesNumber};
-ghost use Rattle.granit_stepper.specs.Stepping.{StandsIn};
-ghost use Rattle.granit_steps.specs.Steps as steps;
+ghost use Rattle.granit_stepper.specs.Stepping.{Keeps, StandsIn};
+ghost use Rattle.granit_stepper.specs.Waiting.{StaysTaken};
 ghost use Rattle.granit_steps.specs.Steps.{StepState};
 
 use crate::stepper::Stepper;
@@ -15,28 +16,29 @@ use granit_base::{Marker, NoMemory, Span};
 use granit_error::ScanError;
 use granit_event::Event;
 use granit_input::BorrowedInput;
-use granit_refused::{Refused, error_of};
+use granit_refused::{Refused, refuse, take_fault};
 use std::alloc::Global;
 use std::collections::VecDeque;
 
 impl<'input, T: BorrowedInput<'input>> Stepper<'input, T> {
-    /// The events that come next, all that wait once one does, move behind those of a list; false where none comes,
-    /// as behind the end of the stream, and behind an error.
+    /// The events that come next wait behind those that wait already; false where none comes, as behind the end of the
+    /// stream, and behind an error.
     ///
     /// # Errors
     ///
-    /// As `next_event`.
+    /// As `next_event`, before the events that wait are given.
     pub fn next_events(
         &mut self,
         alloc: Global,
-        events: &mut VecDeque<(Event<'input>, Span)>,
-    ) -> Result<bool, ScanError>
-        ensures known { (m : StepState) → StandsIn T.unread self.old m
-            → GivesWaiting result (StandsIn T.unread self.new) (steps.settle self.old.scanner.options m)
-            (RefusesNumber self.old.renumbered self.old.scanner.options m)
-            (plain_events events.old.items) (plain_events events.new.items) }
-        ensures failed { IfErr result (λ e. self.new.failed ≡ true) }
-        ensures lost { IfErr result (λ e. e.kind ≡ faults.NoMemory → self.new.refusal ≡ None) }
+        fault: &mut Option<ScanError>,
+    ) -> Result<bool, Refused>
+        ensures known { (m : StepState) → StandsIn T.unread self.old m → self.old.first ≡ None
+            → GivesBehind (answered fault.new result) (StandsIn T.unread self.new) self.old.scanner.options m
+            (RefusesNumber self.old.renumbered self.old.scanner.options (with_pending [] m)) }
+        ensures first { self.new.first ≡ self.old.first }
+        ensures failed { IfErr result (λ r. self.new.failed ≡ true) }
+        ensures lost { IfErr (answered fault.new result) (λ e. e.kind ≡ faults.NoMemory → self.new.refusal ≡ None) }
+        ensures ended { StaysTaken false (answered fault.new result) self.old self.new }
         ensures over { self.old.failed ≡ true → (result ≡ Ok false) × (self.new ≡ self.old) }
         ensures options { self.new.scanner.options ≡ self.old.scanner.options }
         ensures renumbered { self.new.renumbered ≡ self.old.renumbered }
@@ -45,56 +47,80 @@ impl<'input, T: BorrowedInput<'input>> Stepper<'input, T> {
         if self.failed {
             return Ok(false);
         }
-        let mut fault = None;
-        match self.move_next(alloc, &mut fault, events) {
+        match self.settle_behind(alloc, fault) {
             Ok(more) => Ok(more),
-            Err(refused) => {
-                let error = error_of(fault, refused);
-                self.fail(&error);
-                Err(error)
-            }
+            Err(refused) => Err(self.fail_by(fault, refused)),
         }
     }
 
-    fn move_next(
+    /// The same as `fail`, by the fault that is kept.
+    fn fail_by(&mut self, fault: &mut Option<ScanError>, refused: Refused) -> Refused
+        ensures told { why fault.new result ≡ why fault.old refused }
+        ensures lost { (why fault.new result).kind ≡ faults.NoMemory → self.new.refusal ≡ None }
+        ensures rest { self.new ≡ record self.old { failed = true; refusal = self.new.refusal } }
+    {
+        let error = take_fault(refused, fault);
+        self.fail(&error);
+        refuse(fault, error)
+    }
+
+    /// Turns until an event waits behind those that wait already, or nothing is left; whether one does.
+    fn settle_behind(
         &mut self,
         alloc: Global,
         fault: &mut Option<ScanError>,
-        events: &mut VecDeque<(Event<'input>, Span)>,
     ) -> Result<bool, Refused>
-        ensures known { (m : StepState) → StandsIn T.unread self.old m
-            → GivesWaiting (answered fault.new result) (StandsIn T.unread self.new)
-            (steps.settle self.old.scanner.options m)
-            (RefusesNumber self.old.renumbered self.old.scanner.options m)
-            (plain_events events.old.items) (plain_events events.new.items) }
-        ensures options { self.new.scanner.options ≡ self.old.scanner.options }
-        ensures renumbered { self.new.renumbered ≡ self.old.renumbered }
+        ensures known { (m : StepState) → StandsIn T.unread self.old m → self.old.first ≡ None
+            → GivesBehind (answered fault.new result) (StandsIn T.unread self.new) self.old.scanner.options m
+            (RefusesNumber self.new.renumbered self.old.scanner.options (with_pending [] m)) }
+        ensures ended { StaysTaken false (answered fault.new result) self.old self.new }
+        ensures keeps { Keeps self.old self.new }
         ensures moves { Moves T.unread T.left T.origin self.old.scanner.cursor self.new.scanner.cursor }
     {
-        self.tell_start(alloc)?;
-        self.settle(alloc, fault)?;
-        let more = self.parser.has_event();
-        self.move_waiting(events)?;
-        Ok(more)
+        let waiting = self.event_count();
+        // Over an input of which nothing is known no number falls with each turn, so the turns are counted.
+        'turns: for _turn in 0..u64::MAX {
+            if !self.advance(alloc, fault)? {
+                return Ok(false);
+            }
+            let all = self.event_count();
+            if all > waiting {
+                return Ok(true);
+            }
+        }
+        Err(Refused::Memory)
     }
 
-    /// All that waits moves behind the events of a list.
-    fn move_waiting(&mut self, events: &mut VecDeque<(Event<'input>, Span)>) -> Result<(), NoMemory>
-        ensures moved { OnOk result (plain_events events.new.items
-            ≡ plain_events events.old.items ++ self.old.parser.given) }
-        ensures rest { OnOk result (self.new ≡ record self.old {
-          parser = record (self.old.parser) { given = [] };
-        }) }
+    /// How many events wait.
+    fn event_count(&self) -> usize
+        ensures { result ≡ length self.now.parser.given }
+    {
+        self.parser.event_count()
+    }
+
+    /// An event waits before all others.
+    ///
+    /// # Errors
+    ///
+    /// `NoMemory` alone.
+    pub fn put_first(&mut self, alloc: Global, event: (Event<'input>, Span)) -> Result<(), NoMemory>
+        ensures known { (m : StepState) → StandsIn T.unread self.old m
+            → OnOk result (StandsIn T.unread self.new (with_pending (plain_event event.entry ∷ m.pending) m)) }
+        ensures first { OnOk result (self.new.first ≡ None) }
+        ensures failed { self.new.failed ≡ self.old.failed }
         ensures scanner { self.new.scanner ≡ self.old.scanner }
         ensures renumbered { self.new.renumbered ≡ self.old.renumbered }
     {
-        self.parser.move_events(events)
+        self.tell_start(alloc)?;
+        self.put_event(alloc, event)?;
+        Ok(())
     }
 
     /// The start of the stream waits as any other event, if it wasn't told.
     fn tell_start(&mut self, alloc: Global) -> Result<(), NoMemory>
         ensures known { (m : StepState) → StandsIn T.unread self.old m → OnOk result (StandsIn T.unread self.new m) }
         ensures first { OnOk result (self.new.first ≡ None) }
+        ensures failed { self.new.failed ≡ self.old.failed }
         ensures scanner { self.new.scanner ≡ self.old.scanner }
         ensures renumbered { self.new.renumbered ≡ self.old.renumbered }
     {
@@ -108,13 +134,36 @@ impl<'input, T: BorrowedInput<'input>> Stepper<'input, T> {
         ensures known { (m : StepState) → StandsIn T.unread self.old m → self.old.first ≡ Some start
             → OnOk result (StandsIn T.unread self.new m) }
         ensures first { OnOk result (self.new.first ≡ None) }
+        ensures failed { self.new.failed ≡ self.old.failed }
+        ensures scanner { self.new.scanner ≡ self.old.scanner }
+        ensures renumbered { self.new.renumbered ≡ self.old.renumbered }
+    {
+        self.put_event(alloc, (Event::StreamStart, Span::empty(start)))?;
+        self.first = None;
+        Ok(())
+    }
+
+    /// An event waits before those that were given and not taken.
+    fn put_event(&mut self, alloc: Global, event: (Event<'input>, Span)) -> Result<(), NoMemory>
+        ensures put { OnOk result (self.new ≡ record self.old {
+          parser = record (self.old.parser) { given = plain_event event.entry ∷ self.old.parser.given };
+        }) }
+        ensures first { self.new.first ≡ self.old.first }
+        ensures failed { self.new.failed ≡ self.old.failed }
         ensures scanner { self.new.scanner ≡ self.old.scanner }
         ensures renumbered { self.new.renumbered ≡ self.old.renumbered }
     {
         let mut events = VecDeque::new(alloc);
-        events.push_back((Event::StreamStart, Span::empty(start)))?;
+        events.push_back(event)?;
         self.parser.put_before(events)?;
-        self.first = None;
         Ok(())
+    }
+
+    /// All events that wait; none does any more.
+    pub fn take_waiting(&mut self, alloc: Global) -> VecDeque<(Event<'input>, Span)>
+        ensures taken { plain_events result.items ≡ self.old.parser.given }
+        ensures rest { self.new ≡ record self.old { parser = record (self.old.parser) { given = [] } } }
+    {
+        self.parser.take_events(alloc)
     }
 }

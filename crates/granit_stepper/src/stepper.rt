@@ -15,6 +15,8 @@ ghost use Rattle.granit_input.specs.Origin.{error_given, Gave, Goes};
 ghost use Rattle.granit_lexemes.specs.Outcome.{Fault};
 ghost use Rattle.granit_lexemes.specs.Here.{Here, first_place, mark_of};
 ghost use Rattle.granit_items.specs.ItemViews.{item_view, kind_view};
+ghost use Rattle.granit_restart.specs.Looking.{behind_waiting, turn_ahead};
+ghost use Rattle.granit_restart.specs.Skipping.{with_pending};
 ghost use Rattle.granit_restart.specs.Turned.{Turned};
 ghost use Rattle.granit_scanner.specs.Scans.{front_view, may_front_go};
 ghost use Rattle.granit_stepper.specs.Holding.{GivesHeld, HoldsFault};
@@ -25,6 +27,8 @@ ghost use Rattle.granit_stepper.specs.Refusals.{SettlesAhead, StandsRefused, Tur
 ghost use Rattle.granit_stepper.specs.Refusals as refusals;
 ghost use Rattle.granit_stepper.specs.Stepping as spec;
 ghost use Rattle.granit_stepper.specs.Stepping.{Keeps, StandsIn, TakesFree};
+ghost use Rattle.granit_stepper.specs.Waiting.{AllTaken, GivesFirstWaiting, SameButCursor, StaysAtEnd, StaysTaken};
+ghost use Rattle.granit_stepper.specs.Waiting.{StaysWaiting};
 ghost use Rattle.granit_steps.specs.Steps as steps;
 ghost use Rattle.granit_steps.specs.Steps.{StepState};
 
@@ -148,6 +152,9 @@ impl<'input, T: BorrowedInput<'input>> Stepper<'input, T> {
         ensures failed { IfErr result (λ e. self.new.failed ≡ true) }
         ensures lost { IfErr result (λ e. e.kind ≡ faults.NoMemory → self.new.refusal ≡ None) }
         ensures over { self.old.failed ≡ true → (result ≡ Ok None) × (self.new ≡ self.old) }
+        ensures waiting { self.old.failed ≡ false
+            → GivesFirstWaiting (option_map plain_event) result self.old self.new }
+        ensures ended { StaysAtEnd None result self.old self.new }
         ensures options { self.new.scanner.options ≡ self.old.scanner.options }
         ensures renumbered { self.new.renumbered ≡ self.old.renumbered }
         ensures moves { Moves T.unread T.left T.origin self.old.scanner.cursor self.new.scanner.cursor }
@@ -176,6 +183,8 @@ impl<'input, T: BorrowedInput<'input>> Stepper<'input, T> {
     pub fn take_source_error(&mut self) -> Option<ScanError>
         ensures given { option_map spec.refused_kind result ≡ error_given (T.origin self.old.scanner.cursor.input) }
         ensures place { IfSome result (λ e. (e.mark.place ≡ self.new.scanner.cursor.place) × (e.sources ≡ [])) }
+        ensures offset { IfSome result (λ e.
+            is_some e.mark.byte_offset ≡ (T.origin self.new.scanner.cursor.input).tells_offset) }
         ensures here { (h : Here) → Stands T.unread self.old.scanner.cursor h
             → IfSome result (λ e. e.mark ≡ mark_of h) }
         ensures known { (m : StepState) → StandsIn T.unread self.old m → result ≡ None → StandsIn T.unread self.new m }
@@ -183,6 +192,7 @@ impl<'input, T: BorrowedInput<'input>> Stepper<'input, T> {
             → StandsRefused T.unread self.new m e }
         ensures held { (m : StepState) → HoldsRefusal T.unread self.old m → result ≡ None
             → HoldsRefusal T.unread self.new m }
+        ensures rest { result ≡ None → SameButCursor self.old self.new }
         ensures first { self.new.first ≡ self.old.first }
         ensures ahead { self.new.ahead ≡ self.old.ahead }
         ensures ended { result ≡ None → self.new.refusal ≡ self.old.refusal }
@@ -207,6 +217,8 @@ impl<'input, T: BorrowedInput<'input>> Stepper<'input, T> {
             → (T.origin self.old.scanner.cursor.input).handed_out ≡ false
             → option_map spec.refused_kind result ≡ f }
         ensures place { IfSome result (λ e. (e.mark.place ≡ self.new.scanner.cursor.place) × (e.sources ≡ [])) }
+        ensures offset { IfSome result (λ e.
+            is_some e.mark.byte_offset ≡ (T.origin self.old.scanner.cursor.input).tells_offset) }
         ensures failed { self.new.failed ≡ (self.old.failed || is_some result) }
         ensures options { self.new.scanner.options ≡ self.old.scanner.options }
         ensures renumbered { self.new.renumbered ≡ self.old.renumbered }
@@ -243,6 +255,8 @@ impl<'input, T: BorrowedInput<'input>> Stepper<'input, T> {
         ensures first { self.new.first ≡ self.old.first }
         ensures failed { IfErr result (λ e. self.new.failed ≡ true) }
         ensures lost { IfErr result (λ e. e.kind ≡ faults.NoMemory → self.new.refusal ≡ None) }
+        ensures waiting { self.old.first ≡ None → GivesFirstWaiting (option_map plain_event) result self.old self.new }
+        ensures ended { StaysAtEnd None result self.old self.new }
         ensures options { self.new.scanner.options ≡ self.old.scanner.options }
         ensures renumbered { self.new.renumbered ≡ self.old.renumbered }
         ensures moves { Moves T.unread T.left T.origin self.old.scanner.cursor self.new.scanner.cursor }
@@ -282,6 +296,8 @@ impl<'input, T: BorrowedInput<'input>> Stepper<'input, T> {
             → Turned self.old.scanner.options m → RefusesLater T.unread self.old.scanner.options
             (answered fault.new result) self.new m }
         ensures ahead { SettlesAhead (answered fault.new result) self.old self.new }
+        ensures waiting { StaysWaiting tt (answered fault.new result) self.old self.new }
+        ensures ended { StaysTaken tt (answered fault.new result) self.old self.new }
         ensures keeps { Keeps self.old self.new }
         ensures moves { Moves T.unread T.left T.origin self.old.scanner.cursor self.new.scanner.cursor }
     {
@@ -294,6 +310,7 @@ impl<'input, T: BorrowedInput<'input>> Stepper<'input, T> {
     /// The same where a turn was made ahead: what waits is given, and then it is refused.
     fn settle_ahead(&mut self, fault: &mut Option<ScanError>) -> Result<(), Refused>
         ensures ahead { SettlesAhead (answered fault.new result) self.old self.new }
+        ensures waiting { StaysWaiting tt (answered fault.new result) self.old self.new }
         ensures keeps { Keeps self.old self.new }
         ensures moves { Moves T.unread T.left T.origin self.old.scanner.cursor self.new.scanner.cursor }
     {
@@ -315,11 +332,13 @@ impl<'input, T: BorrowedInput<'input>> Stepper<'input, T> {
         ensures refused { (m : StepState) → StandsIn T.unread self.old m → self.old.first ≡ None
             → Turned self.old.scanner.options m → RefusesLater T.unread self.old.scanner.options
             (answered fault.new result) self.new m }
+        ensures waiting { StaysWaiting tt (answered fault.new result) self.old self.new }
+        ensures ended { StaysTaken tt (answered fault.new result) self.old self.new }
         ensures keeps { Keeps self.old self.new }
         ensures moves { Moves T.unread T.left T.origin self.old.scanner.cursor self.new.scanner.cursor }
     {
         // Over an input of which nothing is known no number falls with each turn, so the turns are counted.
-        'turns: for _ in 0..u64::MAX {
+        'turns: for _turn in 0..u64::MAX {
             if !self.turn(alloc, fault)? {
                 return Ok(());
             }
@@ -337,6 +356,8 @@ impl<'input, T: BorrowedInput<'input>> Stepper<'input, T> {
         ensures refused { (m : StepState) → StandsIn T.unread self.old m → self.old.first ≡ None
             → NoneWaitsOutside m.parser → RefusesIn T.unread (answered fault.new result) self.new m }
         ensures ahead { TurnsAhead (answered fault.new result) self.old self.new }
+        ensures waiting { StaysWaiting false (answered fault.new result) self.old self.new }
+        ensures ended { StaysTaken false (answered fault.new result) self.old self.new }
         ensures keeps { Keeps self.old self.new }
         ensures moves { Moves T.unread T.left T.origin self.old.scanner.cursor self.new.scanner.cursor }
     {
@@ -358,8 +379,13 @@ impl<'input, T: BorrowedInput<'input>> Stepper<'input, T> {
             (RefusesNumber self.new.renumbered self.old.scanner.options m) }
         ensures refused { (m : StepState) → StandsIn T.unread self.old m → self.old.first ≡ None → m.pending ≡ []
             → NoneWaitsOutside m.parser → RefusesIn T.unread (answered fault.new result) self.new m }
+        ensures early { (m : StepState) → StandsIn T.unread self.old m → self.old.first ≡ None
+            → GivesOr spec.turn_view (answered fault.new result) (StandsIn T.unread self.new)
+            (turn_ahead self.old.scanner.options m)
+            (RefusesNumber self.new.renumbered self.old.scanner.options (with_pending [] m)) }
         ensures ahead { IfSome self.old.ahead
             (λ f. (answered fault.new result ≡ Err f) × (self.new ≡ record self.old { ahead = None })) }
+        ensures ended { StaysTaken false (answered fault.new result) self.old self.new }
         ensures keeps { Keeps self.old self.new }
         ensures moves { Moves T.unread T.left T.origin self.old.scanner.cursor self.new.scanner.cursor }
     {
@@ -408,6 +434,11 @@ impl<'input, T: BorrowedInput<'input>> Stepper<'input, T> {
             (RefusesNumber self.new.renumbered self.old.scanner.options m) }
         ensures refused { (m : StepState) → StandsIn T.unread self.old m → self.old.first ≡ None → m.pending ≡ []
             → NoneWaitsOutside m.parser → RefusesIn T.unread (answered fault.new result) self.new m }
+        ensures early { (m : StepState) → StandsIn T.unread self.old m → self.old.first ≡ None
+            → GivesOr spec.turn_view (answered fault.new result) (StandsIn T.unread self.new)
+            (turn_ahead self.old.scanner.options m)
+            (RefusesNumber self.new.renumbered self.old.scanner.options (with_pending [] m)) }
+        ensures ended { StaysTaken false (answered fault.new result) self.old self.new }
         ensures keeps { Keeps self.old self.new }
         ensures moves { Moves T.unread T.left T.origin self.old.scanner.cursor self.new.scanner.cursor }
     {
@@ -417,16 +448,17 @@ impl<'input, T: BorrowedInput<'input>> Stepper<'input, T> {
         }
     }
 
-    /// The oldest item, where it may go.
+    /// The oldest item, where it may go, with the line of what stands behind it where the item asks for that.
     fn take_free(&mut self) -> Option<Front<'input>>
         ensures known { (m : StepState) → StandsIn T.unread self.old m
             → TakesFree T.unread (option_map front_view result) self.new m }
+        ensures ended { AllTaken self.old → (result ≡ None) × (self.new ≡ self.old) }
         ensures keeps { Keeps self.old self.new }
         ensures parser { self.new.parser ≡ self.old.parser }
         ensures cursor { self.new.scanner.cursor ≡ self.old.scanner.cursor }
     {
         if self.scanner.front_may_go() {
-            self.scanner.take_front()
+            self.scanner.take_asked()
         } else {
             None
         }
@@ -447,6 +479,12 @@ impl<'input, T: BorrowedInput<'input>> Stepper<'input, T> {
         ensures refused { (m : StepState) → StandsIn T.unread self.old m → self.old.first ≡ None → m.pending ≡ []
             → NoneWaitsOutside m.parser → RefusesItem T.unread (front_view front.entry)
             (answered fault.new result) self.new m }
+        ensures early { (m : StepState) → StandsIn T.unread self.old m → self.old.first ≡ None
+            → GivesOr spec.turn_view (answered fault.new result) (StandsIn T.unread self.new)
+            (behind_waiting m.pending
+            (spec.feed_item self.old.scanner.options (front_view front.entry) (with_pending [] m)))
+            (λ e. (self.new.renumbered ≡ true)
+            × GetsLast self.old.scanner.options (front_view front.entry) m.parser e) }
         ensures keeps { Keeps self.old self.new }
         ensures scanner { self.new.scanner ≡ self.old.scanner }
     {
@@ -471,6 +509,12 @@ impl<'input, T: BorrowedInput<'input>> Stepper<'input, T> {
         ensures refused { (m : StepState) → StandsIn T.unread self.old m → self.old.first ≡ None → m.pending ≡ []
             → NoneWaitsOutside m.parser → RefusesItem T.unread (front_view front.entry)
             (answered fault.new result) self.new m }
+        ensures early { (m : StepState) → StandsIn T.unread self.old m → self.old.first ≡ None
+            → GivesOr spec.turn_view (answered fault.new result) (StandsIn T.unread self.new)
+            (behind_waiting m.pending
+            (spec.feed_item self.old.scanner.options (front_view front.entry) (with_pending [] m)))
+            (λ e. (self.new.renumbered ≡ true)
+            × GetsLast self.old.scanner.options (front_view front.entry) m.parser e) }
         ensures keeps { Keeps self.old self.new }
         ensures scanner { self.new.scanner ≡ self.old.scanner }
     {
@@ -479,7 +523,7 @@ impl<'input, T: BorrowedInput<'input>> Stepper<'input, T> {
             item,
             begins_key: begins,
         } = queued;
-        let anchor = anchor_start(&item);
+        let anchor = last_anchor(self.parser.anchor_count(), &item);
         let refusal = Refusal::at_item(alloc, &self.parser, &item)?;
         let options = self.scanner.options();
         let fed = feed(
@@ -521,12 +565,18 @@ impl<'input, T: BorrowedInput<'input>> Stepper<'input, T> {
         ensures refused { (m : StepState) → StandsIn T.unread self.old m → self.old.first ≡ None → m.pending ≡ []
             → NoneWaitsOutside m.parser → RefusesItem T.unread (front_view front.entry)
             (answered fault.new result) self.new m }
+        ensures early { (m : StepState) → StandsIn T.unread self.old m → self.old.first ≡ None
+            → GivesOr spec.turn_view (answered fault.new result) (StandsIn T.unread self.new)
+            (behind_waiting m.pending
+            (spec.feed_item self.old.scanner.options (front_view front.entry) (with_pending [] m)))
+            (λ e. (self.new.renumbered ≡ true)
+            × GetsLast self.old.scanner.options (front_view front.entry) m.parser e) }
         ensures keeps { Keeps self.old self.new }
         ensures scanner { self.new.scanner ≡ self.old.scanner }
     {
         let Front { queued, next_line } = front;
         let Queued { item, begins_key } = queued;
-        let anchor = anchor_start(&item);
+        let anchor = last_anchor(self.parser.anchor_count(), &item);
         let before = Before::at_item(&self.parser, &item);
         let options = self.scanner.options();
         let fed = feed(
@@ -595,6 +645,7 @@ impl<'input, T: BorrowedInput<'input>> Stepper<'input, T> {
             (steps.read_more self.old.scanner.options m.reading.ended m) }
         ensures refused { (m : StepState) → StandsIn T.unread self.old m → self.old.first ≡ None → m.pending ≡ []
             → may_front_go m.reading m.queue ≡ false → RefusesIn T.unread (answered fault.new result) self.new m }
+        ensures ended { StaysTaken false (answered fault.new result) self.old self.new }
         ensures keeps { Keeps self.old self.new }
         ensures moves { Moves T.unread T.left T.origin self.old.scanner.cursor self.new.scanner.cursor }
     {
@@ -612,6 +663,7 @@ impl<'input, T: BorrowedInput<'input>> Stepper<'input, T> {
             (steps.read_more self.old.scanner.options m.reading.ended m) }
         ensures refused { (m : StepState) → StandsIn T.unread self.old m → self.old.first ≡ None → m.pending ≡ []
             → may_front_go m.reading m.queue ≡ false → RefusesIn T.unread (answered fault.new result) self.new m }
+        ensures ended { StaysTaken false (answered fault.new result) self.old self.new }
         ensures keeps { Keeps self.old self.new }
         ensures cursor { self.new.scanner.cursor ≡ self.old.scanner.cursor }
     {
@@ -634,6 +686,17 @@ fn unless_memory<'input>(
     ensures lost { error.now.kind ≡ faults.NoMemory → result ≡ None }
 {
     if wants_memory(error) { None } else { refusal }
+}
+
+/// Where an anchor begins that may get the greatest number, where so many were read: no other is asked for.
+fn last_anchor(count: usize, item: &Item<'_>) -> Option<Marker>
+    ensures { result ≡ numbers.last_anchor count (item_view item.now) }
+{
+    if count >= usize::MAX - 1 {
+        anchor_start(item)
+    } else {
+        None
+    }
 }
 
 /// Where an anchor begins; none of another item.

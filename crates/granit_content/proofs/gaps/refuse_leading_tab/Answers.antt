@@ -1,4 +1,4 @@
-use Rattle.std.proofs.Common.{◌∙◌, sym, ap, not}
+use Rattle.std.proofs.Common.{◌∙◌, sym, ap}
 use Rattle.granit_base.specs.Place.{Mark}
 use Rattle.granit_error.specs.OptionsView.{options_of}
 use Rattle.granit_lexemes.specs.Here.{mark_of}
@@ -7,10 +7,10 @@ use Rattle.granit_content.proofs.GapLemmas.{no_leading_tab}
 use Rattle.granit_content.proofs.MemoryLemmas.{tab_refused}
 use Rattle.granit_content.proofs.gaps.refuse_leading_tab.Goals as goal
 
-pub returns-then-is_none-clause-here : goal.returns-then-is_none-clause-here
-returns-then-is_none-clause-here g c = λ h k.
-    sym (no_leading_tab (options_of c.args.options.now) c.args.layouts.now h
-    (k.3 ∙ sym c.tab.ensures) (c.is_none.ensures ∙ ap not c.if-is_none.true))
+pub returns-then-not-has_tab-clause-here : goal.returns-then-not-has_tab-clause-here
+returns-then-not-has_tab-clause-here g c = λ h k.
+    sym (no_leading_tab (options_of c.args.options.now) c.args.layouts.now h k.3
+    (sym c.has_tab.ensures ∙ c.if-not-has_tab.true))
 
 pub returns-clause-here : goal.returns-clause-here
 returns-clause-here g c = λ h k.

@@ -1,38 +1,37 @@
-use Rattle.std.proofs.Common.{ℕ, refl, sym, ap, ◌∙◌}
-use Rattle.std.proofs.lemmas.Result.{err_from_is_err_and}
-use Rattle.granit_base.specs.Place.{Mark}
+use Rattle.std.proofs.Common.{refl, ap, subst}
+use Rattle.std.specs.Str.{chars}
 use Rattle.granit_error.specs.OptionsView.{options_of}
-use Rattle.granit_lexemes.specs.Here.{mark_of}
 use Rattle.granit_machine.specs.PossibleKeys.{layout_of}
-use Rattle.granit_lex.specs.PlainCode.{plain_from}
+use Rattle.granit_cursor.specs.Plain.{PassesPlain}
+use Rattle.granit_cursor.specs.Reading.{Stands, coded}
+use Rattle.granit_lex.specs.PlainCode.{plain_lexed}
 use Rattle.granit_content.specs.ScalarReads.{layout_asking}
-use Rattle.granit_content.proofs.ScalarLemmas.{plain_items, plain_fails}
-use Rattle.granit_refused.specs.Answered.{why}
+use Rattle.granit_content.proofs.ScalarLemmas.{plain_items}
+use Rattle.granit_content.proofs.WordLemmas.{passed_at_once, passed_read}
 use Rattle.granit_content.proofs.scalars.plain_lexeme.Goals as goal
 
-pub returns-in_err-read_plain-clause-here : goal.returns-in_err-read_plain-clause-here
-returns-in_err-read_plain-clause-here g c = λ h k.
-    let p = err_from_is_err_and c.from_residual.result c.from_residual.ensures.1 in
-    let o = options_of c.args.options.now in
+pub returns-in-None-clause-here : goal.returns-in-None-clause-here
+returns-in-None-clause-here g c = λ h k.
     let begun = c.start_of-start.ensures h k in
-    let told = c.layout-layout.ensures ∙ ap (λ (n : ℕ). layout_asking o.emit_comments
-    (layout_of o n c.args.layouts.now))
-    (c.col.ensures ∙ ap (λ (m : Mark). m.place.column) (sym begun.0)) in
-    rw (p.1, p.2) (plain_fails o o.emit_comments c.args.ends h c.args.layouts.now
-    (why c.read_plain.new.fault c.in_err-read_plain.field-0.0)
-    (rw told at (c.in_err-read_plain.ensures.here h k)))
+    let stays = subst (λ r. PassesPlain c.is_in_flow.result c.block_column.result h r
+    (Stands g.T.Input.unread c.take_plain.new.cursor)) c.in-None.is (c.take_plain.ensures.here h k) in
+    c.plain_by_turns.ensures.here h stays begun
 
-pub returns-clause-here : goal.returns-clause-here
-returns-clause-here g c = λ h k.
+pub returns-in-Some-clause-here : goal.returns-in-Some-clause-here
+returns-in-Some-clause-here g c = λ h k.
     let o = options_of c.args.options.now in
+    let l = c.args.layouts.now in
+    let at = layout_asking o.emit_comments (layout_of o h.place.column l) in
+    let Lands = Stands g.T.Input.unread c.take_plain.new.cursor in
     let begun = c.start_of-start.ensures h k in
-    let told = c.layout-layout.ensures ∙ ap (λ (n : ℕ). layout_asking o.emit_comments
-    (layout_of o n c.args.layouts.now))
-    (c.col.ensures ∙ ap (λ (m : Mark). m.place.column) (sym begun.0)) in
-    let read = rw told at (c.in_ok-read_plain.ensures.here h k) in (
-      record { here = read.0; laid = c.count_lexeme.new.self },
-      (read.1, refl),
-      rw (c.write_lexeme.ensures h begun, c.count_lexeme.ensures, c.behind_plain_scalar.ensures)
-          (plain_items o o.emit_comments c.args.ends h c.args.layouts.now
-          (plain_from (mark_of h) c.read_plain.new.read) read.0 read.2),
+    let passed = rw (c.is_in_flow.ensures, c.block_column.ensures) at
+    (subst (λ r. PassesPlain c.is_in_flow.result c.block_column.result h r Lands) c.in-Some.is
+    (c.take_plain.ensures.here h k)) in
+    let read = passed_at_once at h (chars c.in-Some.read.0.now) c.in-Some.read.1 Lands passed in (
+      record { here = read.after; laid = c.count_lexeme.new.self },
+      (read.lands, refl),
+      rw (c.write_lexeme.ensures h begun, c.count_lexeme.ensures, c.behind_plain_scalar.ensures, c.borrowed.ensures)
+          (plain_items o o.emit_comments c.args.ends h l
+          (plain_lexed (passed_read h (chars c.in-Some.read.0.now) c.in-Some.read.1 read.on_new_line)) read.after
+          (ap (coded plain_lexed) read.is)),
     )

@@ -1,46 +1,38 @@
-use Rattle.std.proofs.Common.{ℕ, refl, sym, ap, ◌∙◌}
-use Rattle.std.specs.Option.{option_map}
-use Rattle.std.proofs.lemmas.Result.{err_from_is_err_and}
-use Rattle.granit_base.specs.Place.{Mark}
+use Rattle.std.proofs.Common.{◌+◌, true, None, length, refl, ap}
+use Rattle.std.specs.Str.{chars}
+use Rattle.granit_base.specs.Written.{Written}
 use Rattle.granit_error.specs.OptionsView.{options_of}
 use Rattle.granit_lexemes.specs.Here.{mark_of}
-use Rattle.granit_lexemes.specs.Lexeme.{Lexeme}
+use Rattle.granit_lexemes.specs.Moves.{steps}
+use Rattle.granit_lexemes.specs.QuotedScalar.{quoted_read}
 use Rattle.granit_machine.specs.PossibleKeys.{layout_of}
-use Rattle.granit_machine.specs.ReaderState.{with_tail}
-use Rattle.granit_lex.specs.QuotedCode.{quoted_from, remark_token}
-use Rattle.granit_content.specs.KindViews.{note_of_token}
+use Rattle.granit_cursor.specs.Reading.{coded}
+use Rattle.granit_lex.specs.QuotedCode.{quoted_lexed}
+use Rattle.granit_lex.proofs.SeenQuoted.{seen_quoted}
 use Rattle.granit_content.specs.ScalarReads.{layout_asking}
-use Rattle.granit_content.proofs.ScalarLemmas.{quoted_items, quoted_fails}
-use Rattle.granit_refused.specs.Answered.{why}
+use Rattle.granit_content.proofs.ScalarLemmas.{quoted_items}
 use Rattle.granit_content.proofs.scalars.quoted_lexeme.Goals as goal
 
-pub returns-in_err-read_quoted-clause-here : goal.returns-in_err-read_quoted-clause-here
-returns-in_err-read_quoted-clause-here g c = λ h k.
-    let p = err_from_is_err_and c.from_residual.result c.from_residual.ensures.1 in
-    let o = options_of c.args.options.now in
-    let begun = c.start_of-start.ensures h k in
-    let told = c.layout-layout.ensures ∙ ap (λ (n : ℕ). layout_asking o.emit_comments
-    (layout_of o n c.args.layouts.now))
-    (c.col.ensures ∙ ap (λ (m : Mark). m.place.column) (sym begun.0)) in
-    rw (p.1, p.2) (quoted_fails o o.emit_comments c.args.ends h c.args.layouts.now
-    (why c.read_quoted.new.fault c.in_err-read_quoted.field-0.0)
-    c.args.single (rw told at (c.in_err-read_quoted.ensures.here h k)))
+pub returns-in-None-clause-here : goal.returns-in-None-clause-here
+returns-in-None-clause-here g c = λ h k. c.quoted_by_turns.ensures.here h (c.in-None.ensures.here h k)
 
-pub returns-clause-here : goal.returns-clause-here
-returns-clause-here g c = λ h k.
+pub returns-in-Some-clause-here : goal.returns-in-Some-clause-here
+returns-in-Some-clause-here g c = λ h k.
     let o = options_of c.args.options.now in
-    let begun = c.start_of-start.ensures h k in
-    let told = c.layout-layout.ensures ∙ ap (λ (n : ℕ). layout_asking o.emit_comments
-    (layout_of o n c.args.layouts.now))
-    (c.col.ensures ∙ ap (λ (m : Mark). m.place.column) (sym begun.0)) in
-    let read = rw told at (c.in_ok-read_quoted.ensures.here h k) in
-    let scalar = c.read_quoted.new.read in
-    let lexeme = c.in_ok-put_comment.ensures
-    ∙ ap (λ (x : Lexeme). with_tail x (option_map note_of_token (option_map remark_token scalar.comment)))
-    (rw c.quoted_style.ensures at (c.write_lexeme.ensures h begun)) in (
-      record { here = read.0; laid = c.count_lexeme.new.self },
-      (read.1, refl),
+    let l = c.args.layouts.now in
+    let single = c.args.single in
+    let inside = chars c.in-Some.text.now in
+    let after = steps (length inside + 2) h in
+    let text : Written = record { characters = inside; is_borrowed = true } in
+    let lent = rw c.is_in_flow.ensures at (c.in-Some.ensures.here h k) in
+    let end = c.mark.ensures.here after lent.2 in
+    let read = quoted_read single (mark_of h) text (mark_of after) None in
+    let is = seen_quoted single (layout_asking o.emit_comments (layout_of o h.place.column l)) h inside lent.0 lent.1 in
+    let lexeme = rw (c.quoted_style.ensures, c.borrowed.ensures, end) at
+    (c.write_lexeme.ensures h (c.start_of-start.ensures h k)) in (
+      record { here = after; laid = c.count_lexeme.new.self },
+      (lent.2, refl),
       rw (lexeme, c.count_lexeme.ensures)
-          (quoted_items o o.emit_comments c.args.ends h c.args.layouts.now
-          (quoted_from c.args.single (mark_of h) scalar) read.0 c.args.single read.2),
+          (quoted_items o o.emit_comments c.args.ends h l (quoted_lexed single read) after single
+          (ap (coded (quoted_lexed single)) is)),
     )

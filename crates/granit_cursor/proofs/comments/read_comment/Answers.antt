@@ -1,18 +1,13 @@
-use Rattle.std.proofs.Common.{refl, sym, ◌∙◌}
+use Rattle.std.proofs.Common.{refl, sym, ap, ◌∙◌}
 use Rattle.std.proofs.lemmas.Result.{err_from_is_err_and}
-use Rattle.granit_lexemes.specs.Here.{step}
-use Rattle.granit_lexemes.proofs.HereLemmas.{step_lends}
-use Rattle.granit_cursor.proofs.CommentLemmas.{behind_text, comment_fails, comment_given, text_of}
+use Rattle.granit_lexemes.specs.Here.{mark_of, step}
+use Rattle.granit_cursor.proofs.CommentLemmas.{behind_same, behind_text, comment_fails, comment_given, text_of}
 use Rattle.granit_cursor.proofs.comments.read_comment.Goals as goal
-
-pub returns-in_err-text-clause-here : goal.returns-in_err-text-clause-here
-returns-in_err-text-clause-here g c = λ h k.
-    let p = err_from_is_err_and c.from_residual.result c.from_residual.ensures.1 in
-    rw (p.1, p.2) (λ other. absurd (other (c.in_err-text.ensures.here (step h) (c.step.ensures.here h k))))
 
 pub returns-in_err-behind_comment-clause-here : goal.returns-in_err-behind_comment-clause-here
 returns-in_err-behind_comment-clause-here g c = λ h k.
-    let taken = c.in_ok-text.ensures.here (step h) (c.step.ensures.here h k) in
+    let stepped = c.step.ensures.here h k in
+    let taken = c.in_ok-text.ensures.here (step h) stepped (c.lending_offset-lends_from.ensures (step h) stepped) in
     let n = taken.0 in
     let p = err_from_is_err_and c.from_residual-in_err-behind_comment.result
     c.from_residual-in_err-behind_comment.ensures.1 in
@@ -21,20 +16,22 @@ returns-in_err-behind_comment-clause-here g c = λ h k.
 
 pub returns-clause-here : goal.returns-clause-here
 returns-clause-here g c = λ h k.
-    let taken = c.in_ok-text.ensures.here (step h) (c.step.ensures.here h k) in
+    let stepped = c.step.ensures.here h k in
+    let taken = c.in_ok-text.ensures.here (step h) stepped (c.lending_offset-lends_from.ensures (step h) stepped) in
     let n = taken.0 in
     let behind = c.in_ok-behind_comment.ensures.here (behind_text n h) taken.1.1 in
     let text = text_of n h c.in_ok-text.text taken.1.0 taken.2 in
     let start = c.mark-start.ensures.here h k in
-    let end = c.mark.ensures.here behind.0 behind.1 in (
+    let end = c.in_ok-text.ensures.end.2 (behind_text n h) taken.1.1
+    ∙ ap mark_of (sym (behind_same (behind_text n h) behind.0 _ behind.2)) in (
       behind.0,
       behind.1,
-      comment_given n h behind.0 _ c.new-2.result taken.1.0 behind.2
+      comment_given n h behind.0 _ c.new-3.result taken.1.0 behind.2
           (rw (
-            c.new-2.ensures,
+            c.new-3.ensures,
             c.with_placement-comment.ensures,
             c.new.ensures,
-            c.new-span.ensures,
+            c.new-2.ensures,
             start,
             end,
             text,
@@ -43,14 +40,3 @@ returns-clause-here g c = λ h k.
             sym k.2,
           ) refl),
     )
-
-pub returns-in_err-text-clause-lent : goal.returns-in_err-text-clause-lent
-returns-in_err-text-clause-lent g c = λ h k lends.
-    let p = err_from_is_err_and c.from_residual.result c.from_residual.ensures.1 in
-    rw (p.1, p.2) (c.in_err-text.ensures.lent (step h) (c.step.ensures.here h k) (step_lends h ∙ lends))
-
-pub returns-in_err-behind_comment-clause-lent : goal.returns-in_err-behind_comment-clause-lent
-returns-in_err-behind_comment-clause-lent g c = λ h k lends.
-    let p = err_from_is_err_and c.from_residual-in_err-behind_comment.result
-    c.from_residual-in_err-behind_comment.ensures.1 in
-    rw (p.1, p.2) (λ wanted. let is = c.in_err-behind_comment.ensures.kinds.1 in cc)

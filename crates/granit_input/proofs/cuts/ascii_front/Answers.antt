@@ -3,12 +3,15 @@ use Rattle.std.specs.Str.{chars, is_utf8}
 use Rattle.granit_input.specs.Runs.{run_test}
 use Rattle.granit_input.proofs.AsciiLemmas.{ascii_more, utf8_after}
 use Rattle.granit_input.proofs.RunLemmas.{run_nul}
+use Rattle.granit_input.proofs.WordLemmas.{shows_more}
+use Rattle.granit_input.specs.Words.{ShowsByte}
 use Rattle.granit_input.proofs.cuts.ascii_front.Goals as goal
 
 pub front-init : goal.front-init
 front-init c = record {
   front = c.requires.counted;
   limit = omega (arith, c.requires.within, c.requires.counted.within, c.min-end.ensures, c.as_bytes-bytes.ensures.len);
+  shown = c.requires.shown;
 }
 
 pub front-preserved : goal.front-preserved
@@ -28,4 +31,6 @@ front-preserved c =
       front = ascii_more test c.args.s.now i (run_nul c.args.run) so_far within low
           (takes refl (utf8_after test c.args.s.now i so_far within low));
       limit = omega arith;
+      shown = shows_more c.args.run c.args.s.now i c.front.invariant.shown
+          (subst (λ (s : List ℕ). ShowsByte c.args.run (slice_index s i)) same (c.takes_byte.ensures.shown held));
     }

@@ -1,16 +1,19 @@
-use Rattle.std.proofs.Common.{◌+◌, List, ℕ, subst, arith}
+use Rattle.std.proofs.Common.{◌+◌, List, ℕ, slice_index, subst, arith}
 use Rattle.std.proofs.lemmas.Str.{is_utf8-from_IsUtf8}
 use Rattle.granit_input.specs.Lanes.{TakesByte}
 use Rattle.granit_input.specs.Runs.{run_test}
 use Rattle.granit_input.proofs.AsciiLemmas.{ascii_none}
 use Rattle.granit_input.proofs.LaneLemmas.{ascii_on}
 use Rattle.granit_input.proofs.RunLemmas.{run_nul}
+use Rattle.granit_input.proofs.WordLemmas.{shows_none, shows_on}
+use Rattle.granit_input.specs.Words.{ShowsByte}
 use Rattle.granit_input.proofs.cuts.ascii_lanes.Goals as goal
 
 pub lanes-init : goal.lanes-init
 lanes-init c = record {
   front = ascii_none (run_test c.args.run) c.args.s.now (is_utf8-from_IsUtf8 c.args.s.now c.utf8.s);
   limit = omega arith;
+  shown = shows_none c.args.run c.args.s.now;
 }
 
 pub returns-then-taken-lt-LANES-clause-front : goal.returns-then-taken-lt-LANES-clause-front
@@ -21,6 +24,12 @@ returns-then-taken-lt-LANES-clause-front c =
     (λ k few. subst (λ (s : List ℕ). TakesByte (run_test c.args.run) s (c.lanes.count + k))
     c.as_bytes-bytes.ensures.value (c.taken_at-taken.ensures.each k few))
 
+pub returns-then-taken-lt-LANES-clause-shown : goal.returns-then-taken-lt-LANES-clause-shown
+returns-then-taken-lt-LANES-clause-shown c =
+    shows_on c.args.run c.args.s.now c.lanes.count c.taken_at-taken.result c.lanes.invariant.shown
+    (λ k few. subst (λ (s : List ℕ). ShowsByte c.args.run (slice_index s (c.lanes.count + k)))
+    c.as_bytes-bytes.ensures.value (c.taken_at-taken.ensures.shown k few))
+
 pub lanes-preserved : goal.lanes-preserved
 lanes-preserved c = record {
   front = ascii_on (run_test c.args.run) c.args.s.now c.lanes.count c.taken_at-taken.result (run_nul c.args.run)
@@ -29,4 +38,7 @@ lanes-preserved c = record {
       (λ k few. subst (λ (s : List ℕ). TakesByte (run_test c.args.run) s (c.lanes.count + k))
       c.as_bytes-bytes.ensures.value (c.taken_at-taken.ensures.each k few));
   limit = omega (arith, c.lanes-test.true, c.taken_at-taken.ensures.few);
+  shown = shows_on c.args.run c.args.s.now c.lanes.count c.taken_at-taken.result c.lanes.invariant.shown
+      (λ k few. subst (λ (s : List ℕ). ShowsByte c.args.run (slice_index s (c.lanes.count + k)))
+      c.as_bytes-bytes.ensures.value (c.taken_at-taken.ensures.shown k few));
 }

@@ -1,12 +1,14 @@
 use Rattle.std.proofs.Common.{◌≤◌, ◌-◌}
 use Rattle.granit_input.specs.Cuts.{IsAsciiFront}
 use Rattle.granit_input.specs.Runs.{run_test}
+use Rattle.granit_input.specs.Words.{ShowsFront}
 use Rattle.granit_input.proofs.cuts.ascii_lanes.Given as goal
 
 abbrev pub invariant-lanes : goal.invariant-lanes
 invariant-lanes l = record {
   front : IsAsciiFront (run_test l.run) l.s l.count;
   limit : l.count ≤ l.end;
+  shown : ShowsFront l.run l.s l.count;
 }
 
 abbrev pub decreases-lanes : goal.decreases-lanes

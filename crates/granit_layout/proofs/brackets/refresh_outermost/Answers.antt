@@ -4,7 +4,9 @@ use Rattle.std.proofs.Math.Seq.{map-set_same}
 use Rattle.granit_error.specs.OptionsView.{options_of}
 use Rattle.granit_lexemes.specs.declared.layout.OpenBracket.{OpenBracket}
 use Rattle.granit_machine.specs.PossibleKeys.{fresh_bracket, fresh_key}
-use Rattle.granit_layout.proofs.RisingLemmas.{none_left, passed, outermost_stays, outermost_goes}
+use Rattle.granit_layout.specs.Rising.{Rising}
+use Rattle.granit_layout.specs.declared.rising.KeyOrder.{KeyOrder}
+use Rattle.granit_layout.proofs.RisingLemmas.{begun, none_left, passed, outermost_stays, outermost_goes}
 use Rattle.granit_layout.proofs.brackets.refresh_outermost.Goals as goal
 
 pub returns-then-is_fresh-clause-fresh : goal.returns-then-is_fresh-clause-fresh
@@ -38,3 +40,9 @@ pub returns-clause-fresh : goal.returns-clause-fresh
 returns-clause-fresh c =
     sym (none_left (options_of c.args.options.now) c.args.mark.now c.brackets.order c.brackets.brackets.items
     c.brackets.invariant.rising (search rules)) ∙ c.brackets.invariant.told
+
+pub returns-then-is_fresh-clause-rising : goal.returns-then-is_fresh-clause-rising
+returns-then-is_fresh-clause-rising c =
+    subst (λ (o : KeyOrder). Rising o c.brackets.brackets.items) (sym c.begin_at.ensures)
+    (begun c.brackets.order c.brackets.brackets.items c.index-then-is_fresh.result.now c.index-then-is_fresh.ensures
+    (search rules) c.brackets.invariant.rises c.brackets.invariant.rising)

@@ -14,14 +14,14 @@ returns c =
     let after = run.new.self.rest.now in
     let text = c.since.result.now in
     let test = starts (is_quoted_char c.args.single) in
-    let taken = since_text source run.new.self.source.now rest after text run.result run.ensures.kept.0
+    let taken = since_text source run.new.self.source.now rest after text run.result run.ensures.kept
     c.args.self.now.suffix run.ensures.bytes c.since.ensures in
     let long : length (chars text) ≡ run.result = taken_length test rest text run.result run.ensures.whole taken in (
       (
         refl,
         λ _. tt,
         (
-          λ u is. text_behind test source run.new.self.source.now rest after text run.result u run.ensures.kept.0
+          λ u is. text_behind test source run.new.self.source.now rest after text run.result u run.ensures.kept
               c.args.self.now.within run.ensures.whole run.ensures.text run.ensures.bytes taken is,
           omega (
             arith,
@@ -31,7 +31,7 @@ returns c =
             run.ensures.whole,
             run_within test (chars rest),
           ),
-          omega (arith, run.ensures.kept.1),
+          omega arith,
           search rules,
         ),
       ),

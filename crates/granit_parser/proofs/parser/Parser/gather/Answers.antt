@@ -1,15 +1,17 @@
-use Rattle.std.proofs.Common.{◌≡◌, [], ◌∷◌, None, Some, Result, Ok, Err, subst, ◌∙◌}
+use Rattle.std.proofs.Common.{◌≡◌, [], ◌∷◌, None, Some, Result, Ok, Err, ap, subst, ◌∙◌}
 use Rattle.granit_base.specs.declared.place.Span.{Span}
 use Rattle.granit_error.specs.OptionsData.{OptionsData}
 use Rattle.granit_error.specs.Refused.{Refused}
 use Rattle.granit_event.specs.declared.event.Event.{Event}
 use Rattle.granit_event.specs.Events.{plain_event, plain_events}
+use Rattle.granit_parser.proofs.AtOnceLemmas.{ended_given, if_unseen}
 use Rattle.granit_parser.proofs.GatherLemmas.{gathered_first, none_numbered, went, went_err, went_ok}
 use Rattle.granit_parser.proofs.SendLemmas.{TookOr}
 use Rattle.granit_parser.proofs.SourceLemmas.{moves_seen, never_told}
 use Rattle.granit_parser.proofs.parser.Parser.gather.Goals as goal
 use Rattle.granit_parser.specs.Gathering.{Gathered, GathersAll}
 use Rattle.granit_parser.specs.Parsing.{KeepsGiven, none_given}
+use Rattle.granit_parser.specs.Sources.{TellsSource}
 
 pub returns-in-None-clause-known : goal.returns-in-None-clause-known
 returns-in-None-clause-known g c = λ m at.
@@ -90,3 +92,20 @@ returns-in-Some-Err-clause-given g c =
 pub returns-in-Some-Ok-clause-onward : goal.returns-in-Some-Ok-clause-onward
 returns-in-Some-Ok-clause-onward g c = λ start before.
     c.gather_behind.ensures.onward start (c.in-Some-Ok.ensures.onward start before)
+
+pub returns-in-None-clause-ended : goal.returns-in-None-clause-ended
+returns-in-None-clause-ended g c = λ none going at. ap plain_events c.new.ensures.items
+
+pub returns-in-Some-Err-clause-ended : goal.returns-in-Some-Err-clause-ended
+returns-in-Some-Err-clause-ended g c = λ none going at.
+    let given = ended_given g.T.Input.origin c.args.self.now.stepper c.next_event.new.self.stepper
+    c.in-Some-Err.field-0 (if_unseen none c.in-Some-Err.ensures.at_once) going at in
+    subst (λ (r : Result (Event × Span) Refused). TellsSource g.T.Input.origin (Some r)
+    c.next_event.new.self.stepper.scanner.cursor) c.in-Some-Err.field-0-is given
+
+pub returns-in-Some-Ok-clause-ended : goal.returns-in-Some-Ok-clause-ended
+returns-in-Some-Ok-clause-ended g c = λ none going at.
+    let given = ended_given g.T.Input.origin c.args.self.now.stepper c.next_event.new.self.stepper
+    c.in-Some-Ok.field-0 (if_unseen none c.in-Some-Ok.ensures.at_once) going at in
+    absurd (subst (λ (r : Result (Event × Span) Refused). TellsSource g.T.Input.origin (Some r)
+    c.next_event.new.self.stepper.scanner.cursor) c.in-Some-Ok.field-0-is given)

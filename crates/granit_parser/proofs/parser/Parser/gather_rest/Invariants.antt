@@ -1,16 +1,15 @@
 use Rattle.std.proofs.Common.{◌≡◌, None}
 use Rattle.granit_cursor.specs.Reading.{GoesOnward}
-use Rattle.granit_event.specs.Events.{plain_events}
 use Rattle.granit_input.specs.Origin.{Goes}
-use Rattle.granit_parser.specs.Gathering.{Gathered}
+use Rattle.granit_parser.specs.Gathering.{WaitsGathered}
 use Rattle.granit_parser.proofs.parser.Parser.gather_rest.Given as goal
 use Rattle.granit_steps.specs.Steps.{StepState}
 
 abbrev pub invariant-events : goal.invariant-events
 invariant-events g l = record {
   gathered : (m : StepState)
-      → Gathered g.T.Input.unread l.fn.self.stepper.scanner.options m (plain_events l.fn.events.items) l.fn.self.stepper
-      → Gathered g.T.Input.unread l.fn.self.stepper.scanner.options m (plain_events l.gathered.items) l.self.stepper;
+      → WaitsGathered g.T.Input.unread l.fn.self.stepper.scanner.options m l.fn.self.stepper
+      → WaitsGathered g.T.Input.unread l.fn.self.stepper.scanner.options m l.self.stepper;
   seen : l.self.peeked ≡ None;
   same : l.self.stepper.scanner.options ≡ l.fn.self.stepper.scanner.options;
   renumbered : l.self.stepper.renumbered ≡ l.fn.self.stepper.renumbered;

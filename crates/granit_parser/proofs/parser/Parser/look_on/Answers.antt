@@ -13,8 +13,8 @@ returns-then-is_none-clause-peeks g c =
     c.self.view_is)
     c.is_none.ensures c.if-is_none.true in
     rw c.put_ahead.ensures (peeks_unseen g.T.Input.unread g.T.Input.left g.T.Input.origin p t.new.self t.result none
-    t.ensures.sure t.ensures.options t.ensures.source t.ensures.given t.ensures.answered t.ensures.refused
-    t.ensures.over t.ensures.renumbered t.ensures.moves t.ensures.onward)
+    t.ensures.sure t.ensures.options t.ensures.source t.ensures.at_once t.ensures.given t.ensures.answered
+    t.ensures.refused t.ensures.over t.ensures.renumbered t.ensures.moves t.ensures.onward)
 
 pub returns-then-is_none-clause-calls : goal.returns-then-is_none-clause-calls
 returns-then-is_none-clause-calls g c =

@@ -1,5 +1,6 @@
 use Rattle.std.proofs.Common.{◌≡◌, true, false, sym, ap, ◌∙◌, ◌||◌, arith, Option, is_some}
 use Rattle.granit_error.specs.Refused.{Refused}
+use Rattle.granit_parser.proofs.AtOnceLemmas.{at_once_by}
 use Rattle.granit_parser.proofs.GoesLemmas.{stands_going}
 use Rattle.granit_parser.proofs.HeldLemmas.{waits_by, waits_kept}
 use Rattle.granit_parser.proofs.SourceLemmas.{ends_by, goes_by, known_by, lost_by, reads_by, reads_kept, source_by}
@@ -106,3 +107,19 @@ returns-clause-waits g c = λ m f held.
     (λ none. waits_kept g.T.Input.unread event.new.self.stepper error.new.self.stepper error.ensures.ahead
     (error.ensures.failed ∙ ap (λ (e : Option Refused). event.new.self.stepper.failed || is_some e) none)
     (λ m e at. error.ensures.refused m e at none) event.result m f) (event.ensures.waits m f held))
+
+pub returns-then-has_failed-clause-at_once : goal.returns-then-has_failed-clause-at_once
+returns-then-has_failed-clause-at_once g c = record {
+  waiting = λ going.
+      absurd (let no : true ≡ false = sym c.if-has_failed.true ∙ c.has_failed.ensures ∙ going in cc);
+  ended = λ going at.
+      absurd (let no : true ≡ false = sym c.if-has_failed.true ∙ c.has_failed.ensures ∙ going in cc);
+}
+
+pub returns-clause-at_once : goal.returns-clause-at_once
+returns-clause-at_once g c =
+    let error = c.take_source_error-error in
+    let event = c.step_event-event in
+    rw c.unless_failed.ensures (at_once_by g.T.Input.origin c.args.self.now.stepper event.new.self.stepper
+    error.new.self.stepper event.ensures.moves.1 error.ensures.origin event.result event.ensures.waiting
+    event.ensures.ended error.result error.ensures.given error.ensures.place error.ensures.rest)

@@ -1,4 +1,5 @@
 use Rattle.std.proofs.Common.{refl, ap, subst, sym, ◌∙◌}
+use Rattle.granit_parser.proofs.AtOnceLemmas.{takes_view}
 use Rattle.granit_parser.proofs.GoesLemmas.{ends_view, gives_view, goes_reads, lost_view}
 use Rattle.granit_parser.proofs.HeldLemmas.{held_view}
 use Rattle.granit_parser.proofs.parser.Parser.step_event.Goals as goal
@@ -7,6 +8,7 @@ use Rattle.granit_parser.specs.Recovering.{GoesWithCalls}
 use Rattle.granit_recovery.specs.Streams.{ReachedByCalls}
 use Rattle.granit_stepper.specs.Holding.{HoldsFault}
 use Rattle.granit_stepper.specs.Stepping.{StandsIn}
+use Rattle.granit_stepper.specs.Waiting.{IsAtEnd}
 
 pub returns-clause-known : goal.returns-clause-known
 returns-clause-known g c = λ m at. rw (← c.self.view_is, c.next_of.ensures)
@@ -43,3 +45,14 @@ returns-clause-waits g c = λ m f held. rw c.next_of.ensures
     (held_view g.T.Input.unread c.next_event.result c.next_event.new.self m f c.next_event.ensures.failed
     (c.next_event.ensures.held m f
     (subst (λ (p : Parsing _). HoldsFault g.T.Input.unread p.stepper m f) (sym c.self.view_is) held)))
+
+pub returns-clause-waiting : goal.returns-clause-waiting
+returns-clause-waiting g c = λ going. rw (← c.self.view_is, c.next_of.ensures)
+    (takes_view c.next_event.result c.self.inside.stepper c.next_event.new.self
+    (c.next_event.ensures.waiting (ap (λ (p : Parsing _). p.stepper.failed) c.self.view_is ∙ going)))
+
+pub returns-clause-ended : goal.returns-clause-ended
+returns-clause-ended g c = λ at.
+    let none = c.next_event.ensures.ended
+    (subst (λ (p : Parsing _). IsAtEnd p.stepper) (sym c.self.view_is) at) in
+    (c.next_of.ensures ∙ ap next_view none.0, none.1 ∙ ap (λ (p : Parsing _). p.stepper) c.self.view_is)

@@ -1,8 +1,11 @@
-use Rattle.std.proofs.Common.{◌≡◌, true, sym, subst, ◌∙◌}
+use Rattle.std.proofs.Common.{◌≡◌, true, [], refl, sym, ap, subst, ◌∙◌}
 use Rattle.granit_cursor.specs.Reading.{GivesTo}
 use Rattle.granit_error.specs.OptionsData.{OptionsData}
 use Rattle.granit_refused.specs.Answered.{answered}
+use Rattle.granit_restart.specs.Looking.{behind_waiting}
+use Rattle.granit_restart.specs.Skipping.{with_pending}
 use Rattle.granit_scanner.specs.Scans.{front_view}
+use Rattle.granit_stepper.proofs.EarlyLemmas.{read_behind}
 use Rattle.granit_stepper.specs.Numbers.{GetsLast, GivesOr, RefusesNumber}
 use Rattle.granit_stepper.specs.Stepping.{StandsIn, feed_item, turn_view}
 use Rattle.granit_stepper.proofs.NumberLemmas.{gives_or, turn_or}
@@ -59,3 +62,40 @@ pub returns-in-None-clause-refused : goal.returns-in-None-clause-refused
 returns-in-None-clause-refused g c = λ m at told pending calm.
     let free = c.in-None.ensures.known m at in
     c.read_more.ensures.refused m free.1 (c.in-None.ensures.keeps.first ∙ told) pending free.0
+
+pub returns-in-Some-clause-early : goal.returns-in-Some-clause-early
+returns-in-Some-clause-early g c = λ m at told.
+    let unread = g.T.Input.unread in
+    let o = c.args.self.now.scanner.options in
+    let x = front_view c.in-Some.front in
+    let after = c.take_item.new.self in
+    let r = answered c.take_item.new.fault c.take_item.result in
+    let free = c.in-Some.ensures.known m at in
+    let behind : StepState = record m { queue = free.0 } in
+    let fed = c.take_item.ensures.early behind free.4 (c.in-Some.ensures.keeps.first ∙ told) in
+    let same = subst
+    (λ (p : OptionsData). GivesOr turn_view r (StandsIn unread after)
+    (behind_waiting m.pending (feed_item p x (with_pending [] behind)))
+    (λ e. (after.renumbered ≡ true) × GetsLast p x m.parser e)) c.in-Some.ensures.keeps.options fed in
+    let n = with_pending [] m in
+    subst (λ (t : Turn). GivesOr turn_view r (StandsIn unread after) (behind_waiting m.pending t)
+    (RefusesNumber after.renumbered o n)) (sym (turn_feeds o n x free.0 refl free.1 free.2 free.3))
+    (turn_or o n x free.0 refl free.1 free.2 free.3 turn_view r (StandsIn unread after)
+    after.renumbered (behind_waiting m.pending (feed_item o x (with_pending [] behind))) same)
+
+pub returns-in-None-clause-early : goal.returns-in-None-clause-early
+returns-in-None-clause-early g c = λ m at told.
+    let unread = g.T.Input.unread in
+    let o = c.args.self.now.scanner.options in
+    let after = c.read_more.new.self in
+    let r = answered c.read_more.new.fault c.read_more.result in
+    let free = c.in-None.ensures.known m at in
+    let read = c.read_more.ensures.known m free.1 free.0 in
+    let same = subst
+    (λ (p : OptionsData). GivesTo turn_view r (StandsIn unread after) (read_more p m.reading.ended m))
+    c.in-None.ensures.keeps.options read in
+    let n = with_pending [] m in
+    subst (λ (t : Turn). GivesOr turn_view r (StandsIn unread after) t (RefusesNumber after.renumbered o n))
+    (read_behind o m m.reading.ended ∙ ap (behind_waiting m.pending) (sym (turn_reads o n refl free.0)))
+    (gives_or turn_view r (StandsIn unread after) (read_more o m.reading.ended m)
+    (RefusesNumber after.renumbered o n) same)

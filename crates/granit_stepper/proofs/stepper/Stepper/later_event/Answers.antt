@@ -1,15 +1,19 @@
 use Rattle.std.proofs.Common.{◌⊎◌, Bool, Ok, Err, sym, ap, subst, ◌∙◌}
+use Rattle.std.specs.Option.{option_map}
 use Rattle.granit_cursor.specs.Reading.{GivesTo}
 use Rattle.granit_error.specs.Refused.{Refused}
+use Rattle.granit_event.specs.Events.{plain_event}
 use Rattle.granit_refused.specs.Answered.{why}
 use Rattle.granit_lexemes.specs.Outcome.{Fails}
 use Rattle.granit_stepper.specs.Numbers.{RefusesNumber}
 use Rattle.granit_stepper.specs.Refusals.{RefusedIn, RefusesLater, SettlesAhead, StandsRefused}
 use Rattle.granit_stepper.specs.Stepping.{Stepping, StandsIn, no_events}
+use Rattle.granit_stepper.specs.Waiting.{StaysTaken, StaysWaiting}
 use Rattle.granit_stepper.proofs.AheadLemmas.{error_other, gives_error, gives_event}
 use Rattle.granit_stepper.proofs.HoldingLemmas.{held_error, held_event, held_same}
 use Rattle.granit_stepper.proofs.RefusalLemmas.{refused_failed}
 use Rattle.granit_stepper.proofs.StateLemmas.{gives_next, next_fails}
+use Rattle.granit_stepper.proofs.StayLemmas.{pops_none, pops_waiting, refuses_none}
 use Rattle.granit_stepper.proofs.stepper.Stepper.later_event.Goals as goal
 use Rattle.granit_steps.specs.Steps.{settle}
 
@@ -111,3 +115,43 @@ returns-clause-held g c = λ m e h.
       subst (λ (s : Stepping g.row.T.Denot). StandsRefused unread s m e)
           (sym (c.fail.ensures.kept (λ memory. h.other (sym (ap (λ (f : Refused). f.kind) same) ∙ memory)))) is.1,
     )
+
+pub returns-in-Ok-clause-waiting : goal.returns-in-Ok-clause-waiting
+returns-in-Ok-clause-waiting g c = λ told.
+    let inside : Stepping g.row.T.Denot = record {
+      scanner = c.self.inside.scanner;
+      parser = c.self.inside.parser;
+      first = c.self.inside.first;
+      failed = c.self.inside.failed;
+      renumbered = c.self.inside.renumbered;
+      ahead = c.self.inside.ahead;
+      refusal = c.self.inside.refusal;
+    } in
+    let stays = subst (λ (s : Stepping g.row.T.Denot). StaysWaiting tt (Ok c.in-Ok.field-0) c.args.self.now s)
+    (sym c.self.view_is) c.in-Ok.ensures.waiting in
+    pops_waiting c.args.self.now inside c.pop_event.result c.pop_event.new.self c.pop_event.ensures.first
+    c.pop_event.ensures.rest c.in-Ok.field-0 stays told
+
+pub returns-clause-waiting : goal.returns-clause-waiting
+returns-clause-waiting g c = λ told. refuses_none c.args.self.now c.settle.new.self
+    (why c.settle.new.fault c.in-Err.refused) (option_map plain_event) (Err c.error_of-error.result) c.fail.new.self
+    c.in-Err.ensures.waiting told
+
+pub returns-in-Ok-clause-ended : goal.returns-in-Ok-clause-ended
+returns-in-Ok-clause-ended g c =
+    let inside : Stepping g.row.T.Denot = record {
+      scanner = c.self.inside.scanner;
+      parser = c.self.inside.parser;
+      first = c.self.inside.first;
+      failed = c.self.inside.failed;
+      renumbered = c.self.inside.renumbered;
+      ahead = c.self.inside.ahead;
+      refusal = c.self.inside.refusal;
+    } in
+    let ended = subst (λ (s : Stepping g.row.T.Denot). StaysTaken tt (Ok c.in-Ok.field-0) c.args.self.now s)
+    (sym c.self.view_is) c.in-Ok.ensures.ended in
+    pops_none c.args.self.now inside c.pop_event.result c.pop_event.new.self c.pop_event.ensures.first
+    c.pop_event.ensures.rest c.in-Ok.field-0 ended
+
+pub returns-clause-ended : goal.returns-clause-ended
+returns-clause-ended g c = λ at. absurd (let clash = (c.in-Err.ensures.ended at.over).0 in cc)

@@ -1,15 +1,17 @@
-use Rattle.std.proofs.Common.{◌≡◌, ◌∙◌, Bool, true, false, Ok, subst, arith}
+use Rattle.std.proofs.Common.{◌≡◌, ◌∙◌, Bool, true, false, Ok, Err, refl, ap, subst, arith}
 use Rattle.std.proofs.lemmas.Result.{err_from_is_err_and}
-use Rattle.granit_refused.specs.Answered.{why}
+use Rattle.granit_refused.specs.Answered.{want_of_memory, why}
 use Rattle.granit_input.proofs.OriginLemmas.{goes_nowhere, goes_on}
 use Rattle.granit_stepper.proofs.CalmLemmas.{nothing_waits_outside, turns_turned}
 use Rattle.granit_stepper.proofs.SettleLemmas.{Turned, alike_done, alike_fails, alike_first, alike_more, keeps_both}
 use Rattle.granit_stepper.proofs.SettleLemmas.{keeps_itself}
+use Rattle.granit_stepper.proofs.StayLemmas.{Rests, rests_taken, stays_waiting, turned_none, turned_on, turns_none}
 use Rattle.granit_stepper.proofs.stepper.Stepper.settle_on.Goals as goal
 
 pub turns-init : goal.turns-init
 turns-init g c = record {
   alike = alike_first g.T.Input.unread c.args.self.now;
+  stays = turns_none (Rests c.args.self.now) c.args.self.now;
   keeps = keeps_itself c.args.self.now;
   moves = (omega arith, goes_nowhere _, λ start before. before);
 }
@@ -49,6 +51,8 @@ turns-preserved g c =
     record {
       alike = alike_more g.T.Input.unread c.args.self.now c.turns.self c.turn.new.self c.turns.invariant.keeps
           c.turns.invariant.alike turned;
+      stays = turned_on c.turns._turn c.args.self.now c.turns.self c.turn.new.self c.turns.invariant.stays
+          (Ok c.in_ok-turn.field-0) c.in_ok-turn.ensures.waiting c.in_ok-turn.ensures.ended (ap Ok goes);
       keeps = keeps_both c.args.self.now c.turns.self c.turn.new.self c.turns.invariant.keeps
           c.in_ok-turn.ensures.keeps;
       moves = (
@@ -57,3 +61,45 @@ turns-preserved g c =
         λ start before. more.2 start (moved.2 start before),
       );
     }
+
+pub returns-in_err-turn-clause-waiting : goal.returns-in_err-turn-clause-waiting
+returns-in_err-turn-clause-waiting g c =
+    let p = err_from_is_err_and c.from_residual.result c.from_residual.ensures.1 in
+    let e = why c.turn.new.fault c.in_err-turn.field-0.0 in
+    rw (p.1, p.2) (stays_waiting tt (Err e) c.args.self.now c.turn.new.self (λ rests.
+    absurd (let clash = (turned_none c.turns._turn c.args.self.now c.turns.self c.turn.new.self
+    c.turns.invariant.stays (Err e) c.in_err-turn.ensures.waiting c.in_err-turn.ensures.ended rests).0 in cc)))
+
+pub returns-in_err-turn-clause-ended : goal.returns-in_err-turn-clause-ended
+returns-in_err-turn-clause-ended g c = λ at.
+    absurd (let clash = (turned_none c.turns._turn c.args.self.now c.turns.self c.turn.new.self
+    c.turns.invariant.stays (Err (why c.turn.new.fault c.in_err-turn.field-0.0)) c.in_err-turn.ensures.waiting
+    c.in_err-turn.ensures.ended (rests_taken at)).0 in cc)
+
+pub returns-then-not-branch-clause-waiting : goal.returns-then-not-branch-clause-waiting
+returns-then-not-branch-clause-waiting g c = stays_waiting tt (Ok tt) c.args.self.now c.turn.new.self (λ rests. (
+  refl,
+  (turned_none c.turns._turn c.args.self.now c.turns.self c.turn.new.self c.turns.invariant.stays
+      (Ok c.in_ok-turn.field-0) c.in_ok-turn.ensures.waiting c.in_ok-turn.ensures.ended rests).1,
+))
+
+pub returns-then-not-branch-clause-ended : goal.returns-then-not-branch-clause-ended
+returns-then-not-branch-clause-ended g c = λ at. (
+  refl,
+  (turned_none c.turns._turn c.args.self.now c.turns.self c.turn.new.self c.turns.invariant.stays
+      (Ok c.in_ok-turn.field-0) c.in_ok-turn.ensures.waiting c.in_ok-turn.ensures.ended (rests_taken at)).1,
+)
+
+pub returns-clause-waiting : goal.returns-clause-waiting
+returns-clause-waiting g c = stays_waiting tt (Err want_of_memory) c.args.self.now c.turns.self (λ rests.
+    let least = c.turns-test.false in
+    let most = c.turns.auto._turn-end in
+    let none = c.turns.invariant.stays.none rests in
+    absurd (omega (arith, least, most, none)))
+
+pub returns-clause-ended : goal.returns-clause-ended
+returns-clause-ended g c = λ at.
+    let least = c.turns-test.false in
+    let most = c.turns.auto._turn-end in
+    let none = c.turns.invariant.stays.none (rests_taken at) in
+    absurd (omega (arith, least, most, none))

@@ -1,9 +1,10 @@
-use Rattle.std.proofs.Common.{◌≡◌, [], true, false, ◌==◌, not, List, length, sym, ap, ◌∙◌}
+use Rattle.std.proofs.Common.{◌≡◌, [], true, false, ◌==◌, not, List, length, Ok, refl, sym, ap, ◌∙◌}
 use Rattle.granit_refused.specs.Answered.{answered}
 use Rattle.granit_lexemes.specs.PlainEvent.{PlainEvent}
 use Rattle.granit_stepper.specs.Stepping.{Stepping}
 use Rattle.granit_stepper.proofs.AheadLemmas.{turns_over, turns_waiting}
 use Rattle.granit_stepper.proofs.StateLemmas.{waiting}
+use Rattle.granit_stepper.proofs.StayLemmas.{none_stays, stays_waiting}
 use Rattle.granit_stepper.proofs.TurnLemmas.{none_given, some_given, turn_waits}
 use Rattle.granit_stepper.proofs.stepper.Stepper.turn.Goals as goal
 
@@ -47,3 +48,14 @@ returns-clause-ahead g c =
     let none : not (length c.self.inside.parser.given == 0) ≡ false = sym c.has_event.ensures ∙ c.if-has_event.false in
     turns_over c.args.self.now c.advance.new.self (answered c.advance.new.fault c.advance.result)
     (sym parser ∙ none_given c.self.inside.parser.given none) c.advance.ensures.ahead
+
+pub returns-then-has_event-clause-waiting : goal.returns-then-has_event-clause-waiting
+returns-then-has_event-clause-waiting g c =
+    stays_waiting false (Ok false) c.args.self.now c.args.self.now (λ rests. (refl, refl))
+
+pub returns-clause-waiting : goal.returns-clause-waiting
+returns-clause-waiting g c =
+    let parser = ap (λ (s : Stepping g.row.T.Denot). s.parser.given) c.self.view_is in
+    let none : not (length c.self.inside.parser.given == 0) ≡ false = sym c.has_event.ensures ∙ c.if-has_event.false in
+    none_stays false (answered c.advance.new.fault c.advance.result) c.args.self.now c.advance.new.self
+    (sym parser ∙ none_given c.self.inside.parser.given none)

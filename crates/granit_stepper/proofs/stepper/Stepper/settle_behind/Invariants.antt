@@ -1,0 +1,14 @@
+use Rattle.granit_cursor.specs.Reading.{Moves}
+use Rattle.granit_stepper.specs.Stepping.{Keeps}
+use Rattle.granit_stepper.specs.Waiting.{AllTaken}
+use Rattle.granit_stepper.proofs.GatherLemmas.{SettlesBehind}
+use Rattle.granit_stepper.proofs.StayLemmas.{TurnsNone}
+use Rattle.granit_stepper.proofs.stepper.Stepper.settle_behind.Given as goal
+
+abbrev pub invariant-turns : goal.invariant-turns
+invariant-turns g l = record {
+  behind : SettlesBehind g.T.Input.unread l.fn.self l.self;
+  stays : TurnsNone (AllTaken l.fn.self) l._turn l.fn.self l.self;
+  keeps : Keeps l.fn.self l.self;
+  moves : Moves g.T.Input.unread g.T.Input.left g.T.Input.origin l.fn.self.scanner.cursor l.self.scanner.cursor;
+}
