@@ -1,5 +1,5 @@
-//! Tests of granit_stack by its public calls, and the laws of granit_stack_laws at concrete types. They stand here since
-//! a crate with tests is proved twice.
+//! Tests of granit_stack by its public calls, and the laws of granit_stack_laws at concrete types. They stand here
+//! since a crate with tests is proved twice.
 #![tactic(auto)]
 
 #[cfg(test)]
